@@ -1,0 +1,5 @@
+pub mod Accepted
+pub mod Lists
+pub mod Timely
+pub mod Striking
+pub mod Stability

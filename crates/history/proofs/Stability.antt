@@ -1,0 +1,222 @@
+-- `Stability` holds: an accepted call changes no read for a stamp that is not after the last commit's, of a row that is given. What an active transaction
+-- does is not seen at any such stamp, and a commit's stamp is later than all of them.
+use mathlib.Core.Path.{_≡_, refl, sym, _∙_, ap, fun-ext}
+use mathlib.Core.Bool.{Bool, true, false, not, cond, _&&_, _||_, and-false}
+use mathlib.Core.List.{List, [], _∷_, _++_}
+use mathlib.Core.Logic.{_⊎_, inl, inr}
+use Prim.Native.Nat.{ℕ, zero, suc, _≤_, _<_}
+use native.Mathlib.Omega.{arith}
+use native.Mathlib.Decide.{decLe}
+use native.Mathlib.Nat.{le-refl}
+use lib.Dec.{T, leb, leb→le, nleb→lt, nltb→le}
+use lib.ListN.{length, getD, take, drop, length-append, List·getD-append, take-append-drop}
+use lib.Seq.{take-take}
+use lib.IntN.{ℤ}
+use Rattle.terms.specs.Measures.{Shape}
+use Rattle.terms.specs.declared.Answer.{Answer}
+use Rattle.history.specs.History.{Call, begin, insert, update, delete, commit, abort, latest, readAt, ownRead, openScan, scanRead, sum, close, merge, release, pageCell, lineage, History, Row, Record, State, unknown, active, aborted, committed, Scan, Merge, Version, setting, start, answers, answer, next, run, tests, reply, effect, verdict, Verdict, accept, refuse, answerIf, nth, change, read, visible, versionOf, inserted, insertedValue, rowAt, seenAt, committedBy, isActive, stateOf, ended, lastSetting, scanAt, updateRecords, originalRecords, newColumns, deleteRecords, withRows, withTail, withTransactions, withScans, withMerges, notActive, notGiven, notLater, later}
+use Rattle.history.specs.Claims.{Reads, latest-reads, at-reads, scan-reads, isRefused, historyBefore, callAt, answerAt, ReadAt, Stability}
+use Rattle.history.proofs.Accepted.{Passed, passed, run-keeps}
+use Rattle.history.proofs.Timely.{Timely, timely}
+
+-- ---- a transaction that begins, or ends without being seen, changes nothing of what was committed by t
+begun-unseen : (t : ℕ) (l : List State) (j : ℕ) → committedBy t (nth (l ++ active ∷ []) j unknown) ≡ committedBy t (nth l j unknown)
+unfolding committedBy
+begun-unseen t l zero = refl
+begun-unseen t [] (suc zero) = refl
+begun-unseen t [] (suc (suc j)) = refl
+begun-unseen t (x ∷ l) (suc zero) = refl
+begun-unseen t (x ∷ l) (suc (suc j)) = begun-unseen t l (suc j)
+
+changed-unseen : (t : ℕ) (l : List State) (k j : ℕ) (x : State) → committedBy t (nth l k unknown) ≡ false → committedBy t x ≡ false
+    → committedBy t (nth (change l k x) j unknown) ≡ committedBy t (nth l j unknown)
+unfolding committedBy
+changed-unseen t l zero j x p q = refl
+changed-unseen t l (suc k) zero x p q = refl
+changed-unseen t [] (suc k) (suc j) x p q = refl
+changed-unseen t (y ∷ l) (suc zero) (suc zero) x p q = q ∙ sym p
+changed-unseen t (y ∷ l) (suc zero) (suc (suc j)) x p q = refl
+changed-unseen t (y ∷ l) (suc (suc k)) (suc zero) x p q = refl
+changed-unseen t (y ∷ l) (suc (suc k)) (suc (suc j)) x p q = changed-unseen t l (suc k) (suc j) x p q
+
+active-unseen : (t : ℕ) (x : State) → T (not (not (isActive x))) → committedBy t x ≡ false
+unfolding committedBy isActive
+active-unseen t active o = refl
+
+later-unseen : (t s l : ℕ) → t ≤ l → T (not (leb s l)) → committedBy t (committed s) ≡ false
+unfolding committedBy
+later-unseen t s l b p = go (leb s t) (leb→le s t)
+  where
+    go : (b : Bool) → (T b → s ≤ t) → b ≡ false
+    go true q = absurd (omega (arith, q tt, nleb→lt s l p))
+    go false q = refl
+
+-- ---- records that are not seen change no read
+abbrev Unseen : (ℕ → Bool) → List Record → Type 0
+Unseen sees [] = Unit {0}
+Unseen sees (x ∷ l) = (sees (x .transaction) ≡ false) × Unseen sees l
+
+ended-append : (sees : ℕ → Bool) (r : ℕ) (l m : List Record) → Unseen sees m → ended sees r (l ++ m) ≡ ended sees r l
+unfolding ended
+ended-append sees r [] [] p = refl
+ended-append sees r [] (x ∷ m) p = simp (p .0, and-false) (ended-append sees r [] m (p .1))
+ended-append sees r (x ∷ l) m p = rw (ended-append sees r l m p)
+
+last-append : (sees : ℕ → Bool) (r c : ℕ) (v : Version) (l m : List Record) → Unseen sees m → lastSetting sees r c v (l ++ m) ≡ lastSetting sees r c v l
+unfolding lastSetting
+last-append sees r c v [] [] p = refl
+last-append sees r c v [] (x ∷ m) p = ap (λ w. lastSetting sees r c w m) (simp (p .0, and-false)) ∙ last-append sees r c v [] m (p .1)
+last-append sees r c v (x ∷ l) m p = last-append sees r c _ l m p
+
+update-unseen : (t : ℕ) (h : History) (k r m : ℕ) (vs : List ℤ) → seenAt h t k ≡ false → Unseen (seenAt h t) (updateRecords h k r m vs)
+unfolding updateRecords originalRecords
+update-unseen t h k r m vs p = go (newColumns h r m)
+  where
+    go : (cs : List ℕ) → Unseen (seenAt h t) (originalRecords k r cs ((rowAt h r) .values) ++ record { transaction = k; row = r; content = setting m vs } ∷ [])
+    go [] = (p, tt)
+    go (c ∷ cs) = (p, (p, tt))
+
+-- ---- what stays: the reads of row r for stamp t, which is not after the last commit's
+record Stays (t r : ℕ) (reading : ℕ → Answer) (h : History) : Type 0 where
+  same : (c : ℕ) → read (seenAt h t) h r c ≡ reading c
+  past : t ≤ h .last
+  given : r < length (h .rows)
+
+-- each of the five ways in which a call alters a history
+module _ (t r : ℕ) (reading : ℕ → Answer) (h : History) (s : Stays t r reading h) where
+  tail-stays : (m : List Record) → Unseen (seenAt h t) m → Stays t r reading (withTail h (h .tail ++ m))
+  unfolding read visible versionOf inserted seenAt stateOf rowAt insertedValue withTail
+  tail-stays m u =
+      record {
+        same = λ c.
+            simp (ended-append (seenAt h t) r (h .tail) m u, last-append (seenAt h t) r c (inserted h r c) (h .tail) m u) (s .same c);
+        past = s .past;
+        given = s .given;
+      }
+
+  rows-stay : (x : Row) → Stays t r reading (withRows h (h .rows ++ x ∷ []))
+  unfolding read visible versionOf inserted seenAt stateOf rowAt insertedValue withRows
+  rows-stay x =
+      let g = s .given in
+      record { same = λ c. rw List·getD-append (s .same c); past = s .past; given = simp length-append (omega arith) }
+
+  states-stay : (l : List State) (last : ℕ) → h .last ≤ last
+      → ((j : ℕ) → committedBy t (nth l j unknown) ≡ committedBy t (nth (h .transactions) j unknown)) → Stays t r reading (withTransactions h l last)
+  unfolding read visible versionOf inserted seenAt stateOf rowAt insertedValue withTransactions
+  states-stay l last o f =
+      record { same = λ c. ap (λ (sees : ℕ → Bool). read sees h r c) (fun-ext f) ∙ s .same c; past = omega (arith, s .past); given = s .given }
+
+  scans-stay : (l : List Scan) → Stays t r reading (withScans h l)
+  unfolding read visible versionOf inserted seenAt stateOf rowAt insertedValue withScans
+  scans-stay l = record { same = s .same; past = s .past; given = s .given }
+
+  merges-stay : (l : List Merge) → Stays t r reading (withMerges h l)
+  unfolding read visible versionOf inserted seenAt stateOf rowAt insertedValue withMerges
+  merges-stay l = record { same = s .same; past = s .past; given = s .given }
+
+effect-stays : (S : Shape) (t r : ℕ) (reading : ℕ → Answer) (h : History) (c : Call) → Stays t r reading h → Passed (tests S h c)
+    → Stays t r reading (effect S h c)
+unfolding tests effect seenAt stateOf committedBy notActive notLater deleteRecords
+effect-stays S t r f h begin s p = states-stay t r f h s _ _ (le-refl _) (begun-unseen t (h .transactions))
+effect-stays S t r f h (insert k vs) s p = rows-stay t r f h s _
+effect-stays S t r f h (update k r′ m vs) s p =
+    tail-stays t r f h s _ (update-unseen t h k r′ m vs (active-unseen t (stateOf h k) (p .0)))
+effect-stays S t r f h (delete k r′) s p = tail-stays t r f h s _ (active-unseen t (stateOf h k) (p .0), tt)
+effect-stays S t r f h (commit k e) s p =
+    states-stay t r f h s _ _ (omega (arith, nleb→lt e (h .last) (p .1 .0)))
+    (λ j.
+    changed-unseen t (h .transactions) k j (committed e) (active-unseen t (stateOf h k) (p .0)) (later-unseen t e (h .last) (s .past) (p .1 .0)))
+effect-stays S t r f h (abort k) s p =
+    states-stay t r f h s _ _ (le-refl _) (λ j. changed-unseen t (h .transactions) k j aborted (active-unseen t (stateOf h k) (p .0)) refl)
+effect-stays S t r f h (latest r′ c) s p = s
+effect-stays S t r f h (readAt e r′ c) s p = s
+effect-stays S t r f h (ownRead k r′ c) s p = s
+effect-stays S t r f h (openScan e) s p = scans-stay t r f h s _
+effect-stays S t r f h (scanRead k r′ c) s p = s
+effect-stays S t r f h (sum k c) s p = s
+effect-stays S t r f h (close k) s p = scans-stay t r f h s _
+effect-stays S t r f h (merge g c n) s p = merges-stay t r f h s _
+effect-stays S t r f h release s p = merges-stay t r f h s _
+effect-stays S t r f h (pageCell c r′) s p = s
+effect-stays S t r f h (lineage g c) s p = s
+
+-- ---- what an accepted read answers
+reads-reply : (S : Shape) (h : History) {x : Call} {t r c : ℕ} → Reads h x t r c → reply S h x ≡ read (seenAt h t) h r c
+unfolding reply
+reads-reply S h latest-reads = refl
+reads-reply S h at-reads = refl
+reads-reply S h scan-reads = refl
+
+reads-bounds : (S : Shape) (h : History) {x : Call} {t r c : ℕ} → Reads h x t r c → Timely h → Passed (tests S h x)
+    → (t ≤ h .last) × (r < length (h .rows))
+unfolding tests Timely later notGiven
+reads-bounds S h (latest-reads {r}) i p = (le-refl _, nleb→lt (length (h .rows)) r (p .0))
+reads-bounds S h (at-reads {s} {r}) i p = (nltb→le (h .last) s (p .0), nleb→lt (length (h .rows)) r (p .1 .0))
+reads-bounds S h (scan-reads {k} {r}) i p = (i k, nleb→lt (length (h .rows)) r (p .1 .0))
+
+-- ---- the answer at a place of the list
+answers-at : (S : Shape) (h : History) (calls : List Call) (i : ℕ) → i < length calls
+    → getD (answers S h calls) i Answer.Done ≡ answer S (run S h (take i calls)) (getD calls i release)
+unfolding answers run
+answers-at S h [] i b = absurd (omega arith)
+answers-at S h (c ∷ calls) zero b = refl
+answers-at S h (c ∷ calls) (suc i) b = answers-at S (next S h c) calls i (omega arith)
+
+run-append : (S : Shape) (h : History) (xs ys : List Call) → run S h (xs ++ ys) ≡ run S (run S h xs) ys
+unfolding run
+run-append S h [] ys = refl
+run-append S h (x ∷ xs) ys = run-append S (next S h x) xs ys
+
+run-on : (S : Shape) (calls : List Call) (i j : ℕ) → i ≤ j → historyBefore S calls j ≡ run S (historyBefore S calls i) (drop i (take j calls))
+unfolding historyBefore
+run-on S calls i j b =
+    ap (run S start) (sym (take-append-drop i (take j calls)) ∙ ap (λ (l : List Call). l ++ drop i (take j calls)) (take-take i j calls b))
+    ∙ run-append S start (take i calls) (drop i (take j calls))
+
+accepted : (S : Shape) (h : History) (x : Call) → T (not (isRefused (answer S h x))) → verdict (tests S h x) ≡ accept
+unfolding answer answerIf
+accepted S h x = go (verdict (tests S h x))
+  where
+    go : (v : Verdict) → T (not (isRefused (answerIf v (reply S h x)))) → v ≡ accept
+    go accept n = refl
+
+replies : (S : Shape) (h : History) (x : Call) → verdict (tests S h x) ≡ accept → answer S h x ≡ reply S h x
+unfolding answer answerIf
+replies S h x v = rw v
+
+-- an accepted read, in the terms of the history before it
+record Read (S : Shape) (calls : List Call) (i t r c : ℕ) (h : History) : Type 0 where
+  says : answerAt S calls i ≡ read (seenAt h t) h r c
+  past : t ≤ h .last
+  given : r < length (h .rows)
+
+read-at : (S : Shape) (calls : List Call) (i t r c : ℕ) → ReadAt S calls i t r c → Read S calls i t r c (historyBefore S calls i)
+unfolding answerAt callAt historyBefore
+read-at S calls i t r c a =
+    let h : History = run S start (take i calls) in
+    let x : Call = getD calls i release in
+    let e : answerAt S calls i ≡ answer S h x = answers-at S start calls i (a .inside) in
+    let v : verdict (tests S h x) ≡ accept = accepted S h x (rw e at (a .accepted)) in
+    let b : (t ≤ h .last) × (r < length (h .rows)) = reads-bounds S h (a .reads) (timely S (take i calls)) (passed (tests S h x) v) in
+    record { says = e ∙ replies S h x v ∙ reads-reply S h (a .reads); past = b .0; given = b .1 }
+
+in-order : (S : Shape) (calls : List Call) (i j t r c : ℕ) → i ≤ j → ReadAt S calls i t r c → ReadAt S calls j t r c → answerAt S calls i ≡ answerAt S calls j
+in-order S calls i j t r c b first second =
+    let h : History = historyBefore S calls i in
+    let k : History = historyBefore S calls j in
+    let p : Read S calls i t r c h = read-at S calls i t r c first in
+    let q : Read S calls j t r c k = read-at S calls j t r c second in
+    let reading : ℕ → Answer = λ c. read (seenAt h t) h r c in
+    let s : Stays t r reading (run S h (drop i (take j calls))) =
+    run-keeps S (Stays t r reading) (λ h c. effect-stays S t r reading h c) h (drop i (take j calls))
+    record { same = λ c. refl; past = p .past; given = p .given } in
+    let e : Stays t r reading k = rw (run-on S calls i j b) s in
+    p .says ∙ sym (e .same c) ∙ sym (q .says)
+
+pub stability : Stability
+unfolding Stability
+stability S calls i j t r c first second = go (decLe i j)
+  where
+    go : Dec (i ≤ j) → answerAt S calls i ≡ answerAt S calls j
+    go (yes b) = in-order S calls i j t r c b first second
+    go (no n) = let b : j ≤ i = omega arith in sym (in-order S calls j i t r c b second first)

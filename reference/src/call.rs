@@ -1,0 +1,81 @@
+//! A store's shape, the seventeen calls on a store, and their answers.
+
+/// Rows in one range: "Ranges 1 to 16, each of 64 rows."
+pub const RANGE_ROWS: u32 = 64;
+
+/// The four measures of a store.
+#[derive(Clone, Copy, Debug, PartialEq, Eq)]
+pub struct Shape {
+    pub columns: u32,
+    pub ranges: u32,
+    pub tail: u32,
+    pub spares: u32,
+}
+
+impl Shape {
+    /// "Columns 1 to 16. Ranges 1 to 16, each of 64 rows. Tail capacity 1 to 512 records for each
+    /// range. Spare pages 0 to 256."
+    pub fn within_limits(&self) -> bool {
+        (1..=16).contains(&self.columns)
+            && (1..=16).contains(&self.ranges)
+            && (1..=512).contains(&self.tail)
+            && self.spares <= 256
+    }
+
+    /// The rows that can be given.
+    pub fn rows(&self) -> u32 {
+        self.ranges * RANGE_ROWS
+    }
+}
+
+/// A call with its numbers. Any number may be passed; a list of values that is shorter than the
+/// columns reads as 0 beyond its end, and what is beyond the columns is ignored.
+#[derive(Clone, Debug, PartialEq, Eq)]
+pub enum Call {
+    Begin,
+    Insert { transaction: u32, values: Vec<i32> },
+    Update { transaction: u32, row: u32, mask: u16, values: Vec<i32> },
+    Delete { transaction: u32, row: u32 },
+    Commit { transaction: u32, stamp: u32 },
+    Abort { transaction: u32 },
+    Latest { row: u32, column: u32 },
+    ReadAt { stamp: u32, row: u32, column: u32 },
+    OwnRead { transaction: u32, row: u32, column: u32 },
+    OpenScan { stamp: u32 },
+    ScanRead { scan: u32, row: u32, column: u32 },
+    Sum { scan: u32, column: u32 },
+    Close { scan: u32 },
+    Merge { range: u32, column: u32, through: u32 },
+    Release,
+    PageCell { column: u32, row: u32 },
+    Lineage { range: u32, column: u32 },
+}
+
+/// What a call answers.
+#[derive(Clone, Copy, Debug, PartialEq, Eq)]
+pub enum Answer {
+    /// Refused, with the number of document 01.
+    Refused(u8),
+    /// Accepted, no field: commit, abort, close, merge.
+    Done,
+    /// A transaction, row, tail record or scan number, or the count of pages that a release freed.
+    Number(u32),
+    /// The value read.
+    Value(i32),
+    /// The row is not there for this reader.
+    None,
+    Sum {
+        count: u32,
+        sum: i64,
+    },
+    Lineage {
+        through: u32,
+        used: u32,
+    },
+}
+
+impl Answer {
+    pub fn is_refused(&self) -> bool {
+        matches!(self, Answer::Refused(_))
+    }
+}

@@ -1,0 +1,181 @@
+//! The commands of gatebook as bytes: which operands follow a command byte, and calls to bytes
+//! and back.
+
+use crate::call::Call;
+
+/// One operand of a command.
+#[derive(Clone, Copy, Debug, PartialEq, Eq)]
+pub enum Field {
+    Transaction,
+    Row,
+    Mask,
+    Value,
+    Stamp,
+    Column,
+    Scan,
+    Range,
+    Through,
+}
+
+impl Field {
+    /// The operand's width in bytes.
+    pub fn width(self) -> usize {
+        match self {
+            Field::Column | Field::Range => 1,
+            Field::Transaction | Field::Row | Field::Mask | Field::Scan | Field::Through => 2,
+            Field::Value | Field::Stamp => 4,
+        }
+    }
+
+    pub fn name(self) -> &'static str {
+        match self {
+            Field::Transaction => "transaction",
+            Field::Row => "row",
+            Field::Mask => "mask",
+            Field::Value => "value",
+            Field::Stamp => "stamp",
+            Field::Column => "column",
+            Field::Scan => "scan",
+            Field::Range => "range",
+            Field::Through => "through",
+        }
+    }
+
+    /// Whether a number can be written in the operand's bytes. Values alone are signed.
+    pub fn fits(self, number: i64) -> bool {
+        match self {
+            Field::Value => i32::try_from(number).is_ok(),
+            _ => (0..1 << (8 * self.width())).contains(&number),
+        }
+    }
+}
+
+/// The operands of a command byte, or nothing for an unknown one; "every column's value" stands
+/// as one field for each column.
+pub fn operands(byte: u8, columns: usize) -> Option<Vec<Field>> {
+    use Field::*;
+    let (fixed, values): (&[Field], bool) = match byte {
+        0x01 | 0x0F => (&[], false),
+        0x02 => (&[Transaction], true),
+        0x03 => (&[Transaction, Row, Mask], true),
+        0x04 => (&[Transaction, Row], false),
+        0x05 => (&[Transaction, Stamp], false),
+        0x06 => (&[Transaction], false),
+        0x07 => (&[Row, Column], false),
+        0x08 => (&[Stamp, Row, Column], false),
+        0x09 => (&[Transaction, Row, Column], false),
+        0x0A => (&[Stamp], false),
+        0x0B => (&[Scan, Row, Column], false),
+        0x0C => (&[Scan, Column], false),
+        0x0D => (&[Scan], false),
+        0x0E => (&[Range, Column, Through], false),
+        0x10 => (&[Column, Row], false),
+        0x11 => (&[Range, Column], false),
+        _ => return None,
+    };
+    let mut fields = fixed.to_vec();
+    if values {
+        fields.resize(fields.len() + columns, Value);
+    }
+    Some(fields)
+}
+
+/// The bytes that a list of operands takes.
+pub fn width(fields: &[Field]) -> usize {
+    fields.iter().map(|field| field.width()).sum()
+}
+
+/// The numbers written in operand bytes, little-endian.
+pub fn numbers(fields: &[Field], mut bytes: &[u8]) -> Vec<i64> {
+    let mut numbers = Vec::with_capacity(fields.len());
+    for field in fields {
+        let (operand, rest) = bytes.split_at(field.width());
+        let number = operand.iter().rev().fold(0u32, |number, byte| number << 8 | u32::from(*byte));
+        numbers.push(match field {
+            Field::Value => i64::from(number as i32),
+            _ => i64::from(number),
+        });
+        bytes = rest;
+    }
+    numbers
+}
+
+/// The call of a known command byte with the numbers of its operands.
+pub fn call(byte: u8, numbers: &[i64]) -> Call {
+    let number = |place: usize| numbers[place] as u32;
+    let values = |first: usize| numbers[first..].iter().map(|value| *value as i32).collect();
+    match byte {
+        0x01 => Call::Begin,
+        0x02 => Call::Insert { transaction: number(0), values: values(1) },
+        0x03 => Call::Update {
+            transaction: number(0),
+            row: number(1),
+            mask: number(2) as u16,
+            values: values(3),
+        },
+        0x04 => Call::Delete { transaction: number(0), row: number(1) },
+        0x05 => Call::Commit { transaction: number(0), stamp: number(1) },
+        0x06 => Call::Abort { transaction: number(0) },
+        0x07 => Call::Latest { row: number(0), column: number(1) },
+        0x08 => Call::ReadAt { stamp: number(0), row: number(1), column: number(2) },
+        0x09 => Call::OwnRead { transaction: number(0), row: number(1), column: number(2) },
+        0x0A => Call::OpenScan { stamp: number(0) },
+        0x0B => Call::ScanRead { scan: number(0), row: number(1), column: number(2) },
+        0x0C => Call::Sum { scan: number(0), column: number(1) },
+        0x0D => Call::Close { scan: number(0) },
+        0x0E => Call::Merge { range: number(0), column: number(1), through: number(2) },
+        0x0F => Call::Release,
+        0x10 => Call::PageCell { column: number(0), row: number(1) },
+        0x11 => Call::Lineage { range: number(0), column: number(1) },
+        _ => unreachable!("command {byte:02X} has no call"),
+    }
+}
+
+/// A call's command byte and the numbers of its operands.
+pub fn parts(call: &Call) -> (u8, Vec<i64>) {
+    let (byte, fixed, values): (u8, &[u32], &[i32]) = match call {
+        Call::Begin => (0x01, &[], &[]),
+        Call::Insert { transaction, values } => (0x02, &[*transaction], values),
+        Call::Update { transaction, row, mask, values } => {
+            (0x03, &[*transaction, *row, u32::from(*mask)], values)
+        }
+        Call::Delete { transaction, row } => (0x04, &[*transaction, *row], &[]),
+        Call::Commit { transaction, stamp } => (0x05, &[*transaction, *stamp], &[]),
+        Call::Abort { transaction } => (0x06, &[*transaction], &[]),
+        Call::Latest { row, column } => (0x07, &[*row, *column], &[]),
+        Call::ReadAt { stamp, row, column } => (0x08, &[*stamp, *row, *column], &[]),
+        Call::OwnRead { transaction, row, column } => (0x09, &[*transaction, *row, *column], &[]),
+        Call::OpenScan { stamp } => (0x0A, &[*stamp], &[]),
+        Call::ScanRead { scan, row, column } => (0x0B, &[*scan, *row, *column], &[]),
+        Call::Sum { scan, column } => (0x0C, &[*scan, *column], &[]),
+        Call::Close { scan } => (0x0D, &[*scan], &[]),
+        Call::Merge { range, column, through } => (0x0E, &[*range, *column, *through], &[]),
+        Call::Release => (0x0F, &[], &[]),
+        Call::PageCell { column, row } => (0x10, &[*column, *row], &[]),
+        Call::Lineage { range, column } => (0x11, &[*range, *column], &[]),
+    };
+    let fixed = fixed.iter().map(|number| i64::from(*number));
+    let values = values.iter().map(|value| i64::from(*value));
+    (byte, fixed.chain(values).collect())
+}
+
+/// Writes one number in an operand's bytes; it must fit.
+pub fn put(output: &mut Vec<u8>, width: usize, number: i64) {
+    output.extend_from_slice(&number.to_le_bytes()[..width]);
+}
+
+/// Writes a call as command bytes. False, with nothing written, if a number does not fit or the
+/// list of values is not as long as the columns.
+pub fn write(output: &mut Vec<u8>, call: &Call, columns: usize) -> bool {
+    let (byte, numbers) = parts(call);
+    let fields = operands(byte, columns).expect("the byte of a call is known");
+    let mut both = fields.iter().zip(&numbers);
+    if fields.len() != numbers.len() || !both.all(|(field, number)| field.fits(*number)) {
+        return false;
+    }
+    output.push(byte);
+    for (field, number) in fields.iter().zip(&numbers) {
+        put(output, field.width(), *number);
+    }
+    true
+}

@@ -1,0 +1,99 @@
+//! The workloads of a generator: which calls are frequent, and in which bounds a stream's shape lies.
+
+/// How a generator behaves.
+pub struct Workload {
+    /// How often each of the calls 01 to 11 (hexadecimal) is tried, in order.
+    pub weights: [u32; 17],
+    /// The least and greatest measure of a stream's shape.
+    pub columns: (u32, u32),
+    pub ranges: (u32, u32),
+    pub tail: (u32, u32),
+    pub spares: (u32, u32),
+    /// The share of the rows inserted before other calls become frequent, in percent.
+    pub early_rows: u32,
+    /// The greatest step from the last commit's stamp to the next.
+    pub step: u32,
+}
+
+const EVEN: Workload = Workload {
+    weights: [8, 8, 16, 2, 8, 3, 5, 6, 5, 4, 6, 4, 3, 6, 3, 5, 3],
+    columns: (1, 4),
+    ranges: (1, 2),
+    tail: (8, 64),
+    spares: (0, 8),
+    early_rows: 0,
+    step: 3,
+};
+
+const SMALL_TAIL: Workload = Workload {
+    weights: [8, 8, 20, 5, 8, 4, 5, 6, 5, 2, 3, 2, 2, 6, 4, 5, 4],
+    columns: (1, 3),
+    ranges: (1, 1),
+    tail: (1, 8),
+    ..EVEN
+};
+
+const MANY_SCANS: Workload = Workload {
+    weights: [6, 6, 12, 2, 7, 2, 2, 4, 2, 24, 10, 6, 4, 8, 5, 3, 2],
+    spares: (1, 6),
+    ..EVEN
+};
+
+const MANY_ABORTS: Workload = Workload {
+    weights: [12, 8, 18, 4, 4, 10, 5, 6, 5, 3, 4, 3, 3, 7, 3, 6, 3],
+    tail: (24, 64),
+    ..EVEN
+};
+
+const MANY_MERGES: Workload = Workload {
+    weights: [9, 4, 22, 1, 11, 2, 4, 6, 2, 4, 6, 3, 4, 20, 6, 8, 5],
+    columns: (1, 3),
+    ranges: (1, 1),
+    tail: (32, 64),
+    spares: (0, 4),
+    ..EVEN
+};
+
+const MANY_TRANSACTIONS: Workload =
+    Workload { weights: [24, 10, 20, 4, 5, 2, 5, 4, 10, 2, 3, 2, 2, 5, 2, 4, 3], ..EVEN };
+
+const MANY_DELETES: Workload =
+    Workload { weights: [9, 12, 12, 12, 9, 4, 6, 8, 6, 3, 5, 4, 3, 5, 3, 5, 2], ..EVEN };
+
+const FULL_ROWS: Workload = Workload {
+    weights: [8, 12, 16, 3, 8, 3, 5, 6, 5, 4, 6, 5, 3, 6, 3, 5, 3],
+    ranges: (1, 1),
+    early_rows: 100,
+    ..EVEN
+};
+
+const SEVERAL_RANGES: Workload = Workload {
+    weights: [8, 3, 24, 2, 9, 3, 5, 6, 5, 4, 6, 4, 3, 14, 4, 8, 5],
+    columns: (1, 2),
+    ranges: (2, 4),
+    tail: (1, 24),
+    early_rows: 80,
+    ..EVEN
+};
+
+const LATE_STAMPS: Workload = Workload { step: 1 << 29, ..EVEN };
+
+const WORKLOADS: [&Workload; 12] = [
+    &EVEN,
+    &SMALL_TAIL,
+    &MANY_SCANS,
+    &MANY_ABORTS,
+    &MANY_MERGES,
+    &MANY_TRANSACTIONS,
+    &MANY_DELETES,
+    &FULL_ROWS,
+    &SEVERAL_RANGES,
+    &LATE_STAMPS,
+    &EVEN,
+    &MANY_MERGES,
+];
+
+/// The workload of a seed.
+pub fn of(seed: u64) -> &'static Workload {
+    WORKLOADS[(seed % WORKLOADS.len() as u64) as usize]
+}

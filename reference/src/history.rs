@@ -1,0 +1,379 @@
+//! The plain version history of document 01 ("The plain history, call by call"): its lists, what an
+//! accepted call does to them, and the reads. The tests of each call are in `refusals`.
+
+mod refusals;
+
+use crate::call::{Answer, Call, Shape, RANGE_ROWS};
+
+/// "At most 8 transactions and 16 scans are open."
+pub const OPEN_TRANSACTIONS: usize = 8;
+pub const OPEN_SCANS: usize = 16;
+/// "Transaction numbers run 1 to 65,535, scan numbers likewise in a series of their own."
+pub const NUMBERS: usize = 65_535;
+
+/// "rows with inserter and values"
+#[derive(Clone, Debug, PartialEq)]
+struct Row {
+    inserter: u32,
+    values: Vec<i32>,
+}
+
+/// "each range's tail records in order, with transaction, row and what they hold"
+#[derive(Clone, Debug, PartialEq)]
+struct Record {
+    transaction: u32,
+    row: u32,
+    holds: Holds,
+}
+
+/// What a tail record holds; of each column a value, or none where the record leaves it out.
+#[derive(Clone, Debug, PartialEq)]
+enum Holds {
+    /// "holding the original values [..] and is no setting"
+    Original(Vec<Option<i32>>),
+    Setting(Vec<Option<i32>>),
+    Delete,
+}
+
+/// "transactions, open, aborted or committed with a stamp"
+#[derive(Clone, Copy, Debug, PartialEq)]
+enum State {
+    Open,
+    Aborted,
+    Committed(u32),
+}
+
+/// "scans, open or closed, with stamp and merges made before"; a scan is open while its number is
+/// among the open ones.
+#[derive(Clone, Copy, Debug, PartialEq)]
+struct Scan {
+    stamp: u32,
+    merges_before: usize,
+}
+
+/// "merges with range, column and n, waiting or freed"
+#[derive(Clone, Copy, Debug, PartialEq)]
+struct Merge {
+    range: u32,
+    column: u32,
+    through: u32,
+    waiting: bool,
+}
+
+/// The lists. Numbers count from 1, so number n is element n - 1; rows count from 0.
+#[derive(Clone, Debug, PartialEq)]
+pub struct History {
+    shape: Shape,
+    rows: Vec<Row>,
+    tails: Vec<Vec<Record>>,
+    transactions: Vec<State>,
+    scans: Vec<Scan>,
+    merges: Vec<Merge>,
+    last_stamp: u32,
+    /// The numbers of the open transactions and scans, so that they are found without going
+    /// through the whole lists.
+    open_transactions: Vec<u32>,
+    open_scans: Vec<u32>,
+}
+
+impl Record {
+    /// The value to which this record sets a column, if it does.
+    fn setting(&self, column: u32) -> Option<i32> {
+        match &self.holds {
+            Holds::Setting(values) => values[column as usize],
+            Holds::Original(_) | Holds::Delete => None,
+        }
+    }
+}
+
+impl History {
+    /// "All start empty, the last commit's stamp at 0." The shape must be within the limits.
+    pub fn new(shape: Shape) -> History {
+        assert!(shape.within_limits(), "shape outside the limits: {shape:?}");
+        History {
+            shape,
+            rows: Vec::new(),
+            tails: vec![Vec::new(); shape.ranges as usize],
+            transactions: Vec::new(),
+            scans: Vec::new(),
+            merges: Vec::new(),
+            last_stamp: 0,
+            open_transactions: Vec::new(),
+            open_scans: Vec::new(),
+        }
+    }
+
+    /// "A call runs its tests below, all but 2, on the shape and these lists; refused, it answers
+    /// the number and alters none."
+    pub fn call(&mut self, call: &Call) -> Answer {
+        match self.tests(call) {
+            Err(number) => Answer::Refused(number),
+            Ok(()) => self.perform(call),
+        }
+    }
+
+    /// The number with which the call would be refused now.
+    pub fn refusal(&self, call: &Call) -> Option<u8> {
+        self.tests(call).err()
+    }
+
+    // What the generator and the tests may look at.
+
+    pub fn shape(&self) -> Shape {
+        self.shape
+    }
+
+    pub fn rows_given(&self) -> u32 {
+        self.rows.len() as u32
+    }
+
+    pub fn last_stamp(&self) -> u32 {
+        self.last_stamp
+    }
+
+    pub fn open_transactions(&self) -> &[u32] {
+        &self.open_transactions
+    }
+
+    pub fn open_scans(&self) -> &[u32] {
+        &self.open_scans
+    }
+
+    /// "The latest is the read at the last commit's stamp, 0 in a new store."
+    pub fn latest(&self, row: u32, column: u32) -> Option<i32> {
+        self.value_at(self.last_stamp, row, column)
+    }
+
+    /// The tail records used in a range.
+    pub fn used(&self, range: u32) -> u32 {
+        self.tails[range as usize].len() as u32
+    }
+
+    /// "Lineage is the n of the last merge there, else 0"
+    pub fn merged_through(&self, range: u32, column: u32) -> u32 {
+        let there = |merge: &&Merge| merge.range == range && merge.column == column;
+        self.merges.iter().rev().find(there).map_or(0, |merge| merge.through)
+    }
+
+    // The accepted calls.
+
+    /// What an accepted call does to the lists, and its answer.
+    fn perform(&mut self, call: &Call) -> Answer {
+        match *call {
+            // "begin, insert and open scan add one and answer its number"
+            Call::Begin => {
+                self.transactions.push(State::Open);
+                let number = self.transactions.len() as u32;
+                self.open_transactions.push(number);
+                Answer::Number(number)
+            }
+            Call::Insert { transaction, ref values } => {
+                // "An insert gives the next row number."
+                let number = self.rows_given();
+                let all = 0..self.shape.columns;
+                self.rows.push(Row {
+                    inserter: transaction,
+                    values: all.map(|column| value_of(values, column)).collect(),
+                });
+                Answer::Number(number)
+            }
+            Call::OpenScan { stamp } => {
+                self.scans.push(Scan { stamp, merges_before: self.merges.len() });
+                let number = self.scans.len() as u32;
+                self.open_scans.push(number);
+                Answer::Number(number)
+            }
+            // "Update and delete add their records and answer the last one's number."
+            Call::Update { transaction, row, mask, ref values } => {
+                // "It takes one more before it, holding the original values [..]. That record
+                // holds the inserted values of those columns, belongs to the update's transaction
+                // and is no setting."
+                let unset = self.unset_columns(row, mask);
+                if !unset.is_empty() {
+                    let inserted = &self.rows[row as usize].values;
+                    let original = self.columns(|column| {
+                        let first = unset.contains(&column);
+                        first.then(|| inserted[column as usize])
+                    });
+                    self.append(transaction, row, Holds::Original(original));
+                }
+                // "An update names its columns by a 16-bit mask, bit k for column k. It takes one
+                // tail record."
+                let setting =
+                    self.columns(|column| names(mask, column).then(|| value_of(values, column)));
+                self.append(transaction, row, Holds::Setting(setting))
+            }
+            // "A delete takes one."
+            Call::Delete { transaction, row } => self.append(transaction, row, Holds::Delete),
+            // "Commit, abort and close mark theirs and answer no field."
+            Call::Commit { transaction, stamp } => {
+                self.last_stamp = stamp;
+                self.end_transaction(transaction, State::Committed(stamp))
+            }
+            Call::Abort { transaction } => self.end_transaction(transaction, State::Aborted),
+            Call::Close { scan } => {
+                self.open_scans.retain(|open| *open != scan);
+                Answer::Done
+            }
+            // "A merge is added, waiting, and answers no field."
+            Call::Merge { range, column, through } => {
+                self.merges.push(Merge { range, column, through, waiting: true });
+                Answer::Done
+            }
+            Call::Release => Answer::Number(self.release()),
+            // "Reads follow the rules above and alter nothing"
+            Call::Latest { row, column } => read(self.latest(row, column)),
+            Call::ReadAt { stamp, row, column } => read(self.value_at(stamp, row, column)),
+            Call::OwnRead { transaction, row, column } => {
+                read(self.own_value(transaction, row, column))
+            }
+            Call::ScanRead { scan, row, column } => read(self.scan_value(scan, row, column)),
+            Call::Sum { scan, column } => self.sum(scan, column),
+            Call::PageCell { column, row } => Answer::Value(self.page_cell(column, row)),
+            // "Lineage is the n of the last merge there, else 0, and the records used."
+            Call::Lineage { range, column } => Answer::Lineage {
+                through: self.merged_through(range, column),
+                used: self.used(range),
+            },
+        }
+    }
+
+    fn end_transaction(&mut self, transaction: u32, state: State) -> Answer {
+        self.transactions[transaction as usize - 1] = state;
+        self.open_transactions.retain(|open| *open != transaction);
+        Answer::Done
+    }
+
+    /// Adds a tail record. "Tail records count from 1 in each range."
+    fn append(&mut self, transaction: u32, row: u32, holds: Holds) -> Answer {
+        let tail = &mut self.tails[(row / RANGE_ROWS) as usize];
+        tail.push(Record { transaction, row, holds });
+        Answer::Number(tail.len() as u32)
+    }
+
+    /// "Release frees each waiting merge, unless an open scan was opened before it, and answers
+    /// how many it freed."
+    fn release(&mut self) -> u32 {
+        let mut freed = 0;
+        for (earlier, merge) in self.merges.iter_mut().enumerate() {
+            // This merge was made after `earlier` others; a scan with no more than these before
+            // it was opened before this merge.
+            let opened_before =
+                |scan: &u32| self.scans[*scan as usize - 1].merges_before <= earlier;
+            if merge.waiting && !self.open_scans.iter().any(opened_before) {
+                merge.waiting = false;
+                freed += 1;
+            }
+        }
+        freed
+    }
+
+    // Reading the lists.
+
+    fn state(&self, transaction: u32) -> State {
+        self.transactions[transaction as usize - 1]
+    }
+
+    /// The tail records of a row, in order.
+    fn records_of(&self, row: u32) -> impl Iterator<Item = &Record> {
+        self.tails[(row / RANGE_ROWS) as usize].iter().filter(move |record| record.row == row)
+    }
+
+    /// One entry for each column of the shape.
+    fn columns(&self, entry: impl Fn(u32) -> Option<i32>) -> Vec<Option<i32>> {
+        (0..self.shape.columns).map(entry).collect()
+    }
+
+    /// The columns of a mask "that no earlier accepted update of that row has set, aborted ones
+    /// included".
+    fn unset_columns(&self, row: u32, mask: u16) -> Vec<u32> {
+        let set = |column: u32| self.records_of(row).any(|record| record.setting(column).is_some());
+        (0..self.shape.columns).filter(|column| names(mask, *column) && !set(*column)).collect()
+    }
+
+    /// The value of a row and column for a reader to whom the changes of some transactions count.
+    /// An open transaction holds the rows it changed, so the records of one row stand in the order
+    /// of their commits, with those of an open transaction after them: the last record that
+    /// counts holds the last value, and an end comes after every value.
+    fn value(&self, row: u32, column: u32, counts: impl Fn(u32) -> bool) -> Option<i32> {
+        let inserted = &self.rows[row as usize];
+        if !counts(inserted.inserter) {
+            return None;
+        }
+        let mut value = inserted.values[column as usize];
+        for record in self.records_of(row) {
+            if counts(record.transaction) {
+                if record.holds == Holds::Delete {
+                    return None;
+                }
+                value = record.setting(column).unwrap_or(value);
+            }
+        }
+        Some(value)
+    }
+
+    /// "A read at stamp t gives the last such value at or before t, or "none" if the row was not
+    /// inserted by t or ended by t."
+    fn value_at(&self, stamp: u32, row: u32, column: u32) -> Option<i32> {
+        self.value(
+            row,
+            column,
+            |transaction| matches!(self.state(transaction), State::Committed(at) if at <= stamp),
+        )
+    }
+
+    /// "A transaction's own read sees its pending changes above the latest."
+    fn own_value(&self, own: u32, row: u32, column: u32) -> Option<i32> {
+        self.value(row, column, |transaction| transaction == own || self.committed(transaction))
+    }
+
+    /// "A scan keeps the stamp it was opened with."
+    fn scan_value(&self, scan: u32, row: u32, column: u32) -> Option<i32> {
+        self.value_at(self.scans[scan as usize - 1].stamp, row, column)
+    }
+
+    /// "Its sum gives the count of rows seen and the 64-bit signed sum of one column": "a sum
+    /// takes the rows whose scan read gives a value".
+    fn sum(&self, scan: u32, column: u32) -> Answer {
+        let mut count = 0;
+        let mut sum = 0;
+        for row in 0..self.rows_given() {
+            if let Some(value) = self.scan_value(scan, row, column) {
+                count += 1;
+                sum += i64::from(value);
+            }
+        }
+        Answer::Sum { count, sum }
+    }
+
+    /// "A page cell is the last committed setting of its row and column among the records up to
+    /// that n, else the inserted value."
+    fn page_cell(&self, column: u32, row: u32) -> i32 {
+        let range = row / RANGE_ROWS;
+        let through = self.merged_through(range, column) as usize;
+        self.tails[range as usize][..through]
+            .iter()
+            .rev()
+            .filter(|record| record.row == row && self.committed(record.transaction))
+            .find_map(|record| record.setting(column))
+            .unwrap_or(self.rows[row as usize].values[column as usize])
+    }
+
+    fn committed(&self, transaction: u32) -> bool {
+        matches!(self.state(transaction), State::Committed(_))
+    }
+}
+
+/// "bit k for column k"
+fn names(mask: u16, column: u32) -> bool {
+    mask & (1 << column) != 0
+}
+
+/// A caller's value for a column, 0 where the list is too short.
+fn value_of(values: &[i32], column: u32) -> i32 {
+    values.get(column as usize).copied().unwrap_or(0)
+}
+
+fn read(value: Option<i32>) -> Answer {
+    value.map_or(Answer::None, Answer::Value)
+}

@@ -1,0 +1,17 @@
+//! The second program: the plain version history of document 01, written from that document
+//! alone, with gatebook's input and output on top of it. The store is compared with it.
+
+#![forbid(unsafe_code)]
+
+pub mod call;
+pub mod command;
+pub mod generate;
+pub mod history;
+pub mod program;
+pub mod random;
+pub mod survey;
+pub mod text;
+pub mod trace;
+
+pub use call::{Answer, Call, Shape};
+pub use history::History;

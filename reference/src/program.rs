@@ -1,0 +1,92 @@
+//! The input and output of gatebook on top of the plain history ("Commands" in document 01).
+
+use std::io::{self, ErrorKind, Read, Write};
+
+use crate::call::{Answer, Shape};
+use crate::command;
+use crate::history::History;
+
+/// "`gatebook` lends memory for 4 columns, 4 ranges, 64 tail records, 16 spares and answers 1
+/// above that."
+pub const LENT: Shape = Shape { columns: 4, ranges: 4, tail: 64, spares: 16 };
+
+/// The bytes of a shape: columns (1), ranges (1), tail (2), spares (2).
+pub const SHAPE_BYTES: usize = 6;
+
+/// Reads a shape and commands, and writes a line for each.
+pub fn run(input: &mut impl Read, output: &mut impl Write) -> io::Result<()> {
+    let mut bytes = [0; SHAPE_BYTES];
+    if fill(input, &mut bytes)? < SHAPE_BYTES {
+        return writeln!(output, "shape no 20");
+    }
+    let shape = shape(&bytes);
+    if !shape.within_limits() || !within_lent(&shape) {
+        return writeln!(output, "shape no 1");
+    }
+    writeln!(output, "shape ok")?;
+    let mut history = History::new(shape);
+    let mut byte = [0];
+    let mut bytes = Vec::new();
+    // "Input that ends between commands adds no line."
+    while fill(input, &mut byte)? == 1 {
+        let [byte] = byte;
+        // "It goes on after 2 to 18 and ends after the others."
+        let Some(fields) = command::operands(byte, shape.columns as usize) else {
+            return writeln!(output, "{byte:02X} no 19");
+        };
+        bytes.resize(command::width(&fields), 0);
+        if fill(input, &mut bytes)? < bytes.len() {
+            // "A cut command still prints its byte"
+            return writeln!(output, "{byte:02X} no 20");
+        }
+        let call = command::call(byte, &command::numbers(&fields, &bytes));
+        writeln!(output, "{byte:02X} {}", fields_of(&history.call(&call)))?;
+    }
+    Ok(())
+}
+
+/// The shape written in its six bytes.
+pub fn shape(bytes: &[u8; SHAPE_BYTES]) -> Shape {
+    let two = |place: usize| u32::from(u16::from_le_bytes([bytes[place], bytes[place + 1]]));
+    Shape {
+        columns: u32::from(bytes[0]),
+        ranges: u32::from(bytes[1]),
+        tail: two(2),
+        spares: two(4),
+    }
+}
+
+/// Whether no measure is above what gatebook lends memory for.
+fn within_lent(shape: &Shape) -> bool {
+    shape.columns <= LENT.columns
+        && shape.ranges <= LENT.ranges
+        && shape.tail <= LENT.tail
+        && shape.spares <= LENT.spares
+}
+
+/// "ok" and the answer's fields in decimal ("none" for none), or "no" and the number.
+pub fn fields_of(answer: &Answer) -> String {
+    match answer {
+        Answer::Refused(number) => format!("no {number}"),
+        Answer::Done => "ok".to_string(),
+        Answer::Number(number) => format!("ok {number}"),
+        Answer::Value(value) => format!("ok {value}"),
+        Answer::None => "ok none".to_string(),
+        Answer::Sum { count, sum } => format!("ok {count} {sum}"),
+        Answer::Lineage { through, used } => format!("ok {through} {used}"),
+    }
+}
+
+/// Reads until the buffer is full or the input ends; answers the bytes read.
+fn fill(input: &mut impl Read, buffer: &mut [u8]) -> io::Result<usize> {
+    let mut filled = 0;
+    while filled < buffer.len() {
+        match input.read(&mut buffer[filled..]) {
+            Ok(0) => break,
+            Ok(read) => filled += read,
+            Err(error) if error.kind() == ErrorKind::Interrupted => {}
+            Err(error) => return Err(error),
+        }
+    }
+    Ok(filled)
+}

@@ -1,0 +1,57 @@
+//! Random runs in a fixed form for other programs to read. The grammar, with LF at each line's end
+//! and single spaces between words:
+//!
+//! ```text
+//! run    = "shape" columns ranges tail spares LF { call "=>" answer LF }
+//! call   = "begin" | "insert" T value* | "update" T row mask value* | "delete" T row
+//!        | "commit" T stamp | "abort" T | "latest" row column | "read-at" stamp row column
+//!        | "own-read" T row column | "open-scan" stamp | "scan-read" scan row column
+//!        | "sum" scan column | "close" scan | "merge" range column through | "release"
+//!        | "page-cell" column row | "lineage" range column
+//! answer = "refused" number | "done" | "number" number | "value" value | "none"
+//!        | "sum" count sum | "lineage" through used
+//! ```
+//!
+//! All numbers are decimal; values and sums may have a minus sign. `value*` is one value for each
+//! column. Every number fits the width that the command bytes give it.
+
+use std::io::{self, Write};
+
+use crate::call::{Answer, Call};
+use crate::command;
+use crate::generate;
+use crate::history::History;
+use crate::text::NAMES;
+
+/// Writes the run of a seed with so many calls.
+pub fn write(seed: u64, calls: usize, output: &mut impl Write) -> io::Result<()> {
+    let shape = generate::shape(seed);
+    let mut history = History::new(shape);
+    writeln!(output, "shape {} {} {} {}", shape.columns, shape.ranges, shape.tail, shape.spares)?;
+    for call in generate::calls(seed, shape, calls) {
+        let answer = history.call(&call);
+        writeln!(output, "{} => {}", call_words(&call), answer_words(&answer))?;
+    }
+    Ok(())
+}
+
+pub fn call_words(call: &Call) -> String {
+    let (byte, numbers) = command::parts(call);
+    let mut words = NAMES[usize::from(byte) - 1].to_string();
+    for number in numbers {
+        words += &format!(" {number}");
+    }
+    words
+}
+
+pub fn answer_words(answer: &Answer) -> String {
+    match answer {
+        Answer::Refused(number) => format!("refused {number}"),
+        Answer::Done => "done".to_string(),
+        Answer::Number(number) => format!("number {number}"),
+        Answer::Value(value) => format!("value {value}"),
+        Answer::None => "none".to_string(),
+        Answer::Sum { count, sum } => format!("sum {count} {sum}"),
+        Answer::Lineage { through, used } => format!("lineage {through} {used}"),
+    }
+}

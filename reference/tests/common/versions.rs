@@ -1,0 +1,132 @@
+//! The plain history a second way, from its first paragraph in document 01: every transaction
+//! keeps its pending changes, and a commit gives rows their values with its stamp. Reads alone;
+//! calls are fed to it after the history has accepted them.
+
+use std::collections::BTreeMap;
+
+use reference::{Answer, Call};
+
+/// What an open transaction has done.
+#[derive(Default)]
+struct Pending {
+    inserted: BTreeMap<u32, Vec<i32>>,
+    set: BTreeMap<(u32, u32), i32>,
+    deleted: Vec<u32>,
+}
+
+#[derive(Default)]
+pub struct Versions {
+    open: BTreeMap<u32, Pending>,
+    /// The values of a row and column with their stamps, and the stamps at which rows ended.
+    values: BTreeMap<(u32, u32), Vec<(u32, i32)>>,
+    ends: BTreeMap<u32, u32>,
+    scans: BTreeMap<u32, u32>,
+    rows: u32,
+    last: u32,
+}
+
+impl Versions {
+    /// Takes in an accepted call and gives its answer if it is a read.
+    pub fn call(&mut self, call: &Call, answer: &Answer) -> Option<Answer> {
+        match call {
+            Call::Begin => {
+                self.open.insert(number(answer), Pending::default());
+            }
+            Call::Insert { transaction, values } => {
+                self.rows += 1;
+                self.pending(*transaction).inserted.insert(number(answer), values.clone());
+            }
+            Call::Update { transaction, row, mask, values } => {
+                for (column, value) in
+                    (0..).zip(values).filter(|(column, _)| mask >> column & 1 == 1)
+                {
+                    self.pending(*transaction).set.insert((*row, column), *value);
+                }
+            }
+            Call::Delete { transaction, row } => self.pending(*transaction).deleted.push(*row),
+            Call::Commit { transaction, stamp } => self.commit(*transaction, *stamp),
+            Call::Abort { transaction } => {
+                self.open.remove(transaction);
+            }
+            Call::OpenScan { stamp } => {
+                self.scans.insert(number(answer), *stamp);
+            }
+            Call::Latest { row, column } => return Some(self.read(self.last, *row, *column)),
+            Call::ReadAt { stamp, row, column } => return Some(self.read(*stamp, *row, *column)),
+            Call::OwnRead { transaction, row, column } => {
+                return Some(self.own_read(*transaction, *row, *column))
+            }
+            Call::ScanRead { scan, row, column } => {
+                return Some(self.read(self.scans[scan], *row, *column))
+            }
+            Call::Sum { scan, column } => {
+                let reads = (0..self.rows).map(|row| self.read(self.scans[scan], row, *column));
+                let seen: Vec<i64> = reads
+                    .filter_map(|answer| match answer {
+                        Answer::Value(value) => Some(value.into()),
+                        _ => None,
+                    })
+                    .collect();
+                return Some(Answer::Sum { count: seen.len() as u32, sum: seen.iter().sum() });
+            }
+            _ => {}
+        }
+        None
+    }
+
+    fn pending(&mut self, transaction: u32) -> &mut Pending {
+        self.open.get_mut(&transaction).unwrap()
+    }
+
+    fn commit(&mut self, transaction: u32, stamp: u32) {
+        let mut pending = self.open.remove(&transaction).unwrap();
+        self.last = stamp;
+        // "A row inserted and deleted in one transaction is never seen and gets no value."
+        for row in &pending.deleted {
+            if pending.inserted.remove(row).is_some() {
+                pending.set.retain(|(of, _), _| of != row);
+            } else {
+                self.ends.insert(*row, stamp);
+            }
+        }
+        // "each row it inserted gets a value in all columns at s, and each column it set gets its
+        // last value at s. [..] A column that its row's inserter also set gets one value, the last."
+        let mut given = BTreeMap::new();
+        for (row, values) in pending.inserted {
+            given.extend((0..).zip(values).map(|(column, value)| ((row, column), value)));
+        }
+        given.extend(pending.set);
+        for (place, value) in given {
+            self.values.entry(place).or_default().push((stamp, value));
+        }
+    }
+
+    pub fn read(&self, stamp: u32, row: u32, column: u32) -> Answer {
+        if self.ends.get(&row).is_some_and(|end| *end <= stamp) {
+            return Answer::None;
+        }
+        let values = self.values.get(&(row, column)).into_iter().flatten();
+        let by_then = values.filter(|(at, _)| *at <= stamp).max_by_key(|(at, _)| *at);
+        by_then.map_or(Answer::None, |(_, value)| Answer::Value(*value))
+    }
+
+    fn own_read(&self, transaction: u32, row: u32, column: u32) -> Answer {
+        let pending = &self.open[&transaction];
+        if pending.deleted.contains(&row) {
+            Answer::None
+        } else if let Some(value) = pending.set.get(&(row, column)) {
+            Answer::Value(*value)
+        } else if let Some(values) = pending.inserted.get(&row) {
+            Answer::Value(values[column as usize])
+        } else {
+            self.read(self.last, row, column)
+        }
+    }
+}
+
+fn number(answer: &Answer) -> u32 {
+    match answer {
+        Answer::Number(number) => *number,
+        _ => panic!("a number: {answer:?}"),
+    }
+}

@@ -1,0 +1,132 @@
+//! The input and output of the program: shapes, cut commands, unknown bytes, number series.
+//! Letters are those of the readings of document 01.
+
+mod common;
+use common::output;
+use reference::{command, generate, text};
+
+fn lines(script: &str) -> Vec<String> {
+    output(&text::encode(script).unwrap())
+}
+
+#[test]
+fn a_cut_shape_is_20_whatever_its_measures() {
+    // A1; "empty input prints "shape no 20"".
+    assert_eq!(output(&[]), ["shape no 20"]);
+    for cut in 0..6 {
+        assert_eq!(output(&[9, 1, 1, 0, 0, 0][..cut]), ["shape no 20"]);
+    }
+}
+
+#[test]
+fn any_measure_above_what_is_lent_or_outside_the_limits_is_1() {
+    // A2, A3: nothing follows, though bytes do.
+    for shape in [
+        "0 1 1 0",
+        "5 1 1 0",
+        "17 1 1 0",
+        "1 0 1 0",
+        "1 5 1 0",
+        "1 17 1 0",
+        "1 1 0 0",
+        "1 1 65 0",
+        "1 1 513 0",
+        "1 1 1 17",
+        "1 1 1 257",
+        "255 255 65535 65535",
+    ] {
+        assert_eq!(lines(&format!("shape {shape}\nbegin")), ["shape no 1"], "{shape}");
+    }
+    for shape in ["1 1 1 0", "4 4 64 16"] {
+        assert_eq!(lines(&format!("shape {shape}\nbegin")), ["shape ok", "01 ok 1"]);
+    }
+}
+
+#[test]
+fn an_unknown_byte_is_printed_in_capitals_and_ends_the_run() {
+    // A3, A5.
+    for byte in (0..=255u8).filter(|byte| !(0x01..=0x11).contains(byte)) {
+        let input = [1, 1, 1, 0, 0, 0, byte, 1, 1];
+        assert_eq!(output(&input), ["shape ok".to_string(), format!("{byte:02X} no 19")]);
+    }
+}
+
+#[test]
+fn every_command_cut_at_every_place_is_20_and_does_nothing() {
+    // A4, A7: the widths follow this shape's columns, and cut comes before every other refusal.
+    for columns in 1..=4u8 {
+        for byte in 0x01..=0x11 {
+            let width = command::width(&command::operands(byte, columns.into()).unwrap());
+            let mut input = vec![columns, 1, 4, 0, 1, 0, byte];
+            for cut in 0..width {
+                assert_eq!(output(&input)[1], format!("{byte:02X} no 20"), "cut after {cut}");
+                input.push(0xFF);
+            }
+            let whole = output(&input);
+            assert_eq!(whole.len(), 2);
+            assert!(!whole[1].ends_with(" 20"), "{whole:?}");
+            // A whole command, and then the next one.
+            input.push(0x0F);
+            assert_eq!(output(&input).last().unwrap(), "0F ok 0");
+        }
+    }
+}
+
+#[test]
+fn operand_widths_are_those_of_document_01() {
+    let widths: Vec<usize> =
+        (0x01..=0x11).map(|byte| command::width(&command::operands(byte, 2).unwrap())).collect();
+    assert_eq!(widths, [0, 10, 14, 4, 6, 2, 3, 7, 5, 4, 5, 3, 2, 4, 0, 3, 2]);
+}
+
+#[test]
+fn input_that_ends_between_commands_adds_no_line() {
+    assert_eq!(lines("shape 1 1 1 0"), ["shape ok"]);
+    assert_eq!(lines("shape 1 1 1 0\nbyte 06 63 00"), ["shape ok", "06 no 3"]);
+    assert_eq!(lines("shape 1 1 1 0\nbyte 06 63"), ["shape ok", "06 no 20"]);
+}
+
+#[test]
+fn the_transaction_numbers_run_out() {
+    // B1: 15 before 14; a refused begin uses no number.
+    let lines = output(&generate::stream(15));
+    let end = &lines[lines.len() - 6..];
+    assert_eq!(end, ["01 ok 65535", "01 no 15", "05 ok", "01 no 15", "06 no 3", "0A ok 1"]);
+}
+
+#[test]
+fn the_scan_numbers_run_out() {
+    // B1: 13, 15, 14; B2: a series of its own.
+    let lines = output(&generate::stream(79));
+    let end = &lines[lines.len() - 7..];
+    let expected =
+        ["0A ok 65535", "0A no 13", "0A no 15", "0D ok", "0A no 15", "0C no 4", "01 ok 1"];
+    assert_eq!(end, expected);
+}
+
+/// Gives one byte at a time and now and then an interruption.
+struct Slow<'a>(&'a [u8], bool);
+
+impl std::io::Read for Slow<'_> {
+    fn read(&mut self, buffer: &mut [u8]) -> std::io::Result<usize> {
+        self.1 = !self.1;
+        if self.1 {
+            return Err(std::io::ErrorKind::Interrupted.into());
+        }
+        let count = buffer.len().min(self.0.len()).min(1);
+        buffer[..count].copy_from_slice(&self.0[..count]);
+        self.0 = &self.0[count..];
+        Ok(count)
+    }
+}
+
+#[test]
+fn input_in_small_pieces_is_read_the_same() {
+    for seed in 0..12 {
+        let bytes = generate::stream(seed);
+        let mut lines = Vec::new();
+        reference::program::run(&mut Slow(&bytes, false), &mut lines).unwrap();
+        let lines = String::from_utf8(lines).unwrap();
+        assert!(lines.lines().eq(output(&bytes)));
+    }
+}

@@ -1,0 +1,791 @@
+//! One test for each reading of document 01 that an input can tell apart, with the reading's
+//! letter. Those of section A are in `input`, and B1 and B2 also there for exhausted series.
+
+mod common;
+use common::script;
+
+/// Two columns; row 0 inserted with 5 and 50 and committed at 10.
+fn one_row(tail: u32, spares: u32, rest: &str) {
+    script(&format!("shape 2 1 {tail} {spares}\nbegin\ninsert 1 5 50\ncommit 1 10\n{rest}"));
+}
+
+#[test]
+fn page_cell_takes_and_tests_the_column_first() {
+    // A8
+    one_row(
+        4,
+        1,
+        "page-cell 1 0 => ok 50
+         page-cell 2 9 => no 6
+         page-cell 1 9 => no 5
+         latest 9 2 => no 5
+         latest 0 2 => no 6",
+    );
+}
+
+#[test]
+fn open_scan_tests_the_stamp_before_the_places() {
+    // B1; a refused open or begin uses no number.
+    script(&format!(
+        "shape 1 1 1 0\n{}open-scan 1 => no 13\nopen-scan 0 => no 14\nclose 3\nopen-scan 0 => ok 17\n\
+         {}begin => no 14\nabort 8\nbegin => ok 9",
+        "open-scan 0\n".repeat(16),
+        "begin\n".repeat(8)
+    ));
+}
+
+#[test]
+fn numbers_are_not_used_again_and_the_two_series_are_apart() {
+    // B2
+    script(
+        "shape 1 1 1 0
+         open-scan 0 => ok 1
+         close 1
+         begin => ok 1
+         open-scan 0 => ok 2
+         abort 1
+         begin => ok 2
+         close 1 => no 4
+         abort 1 => no 3",
+    );
+}
+
+#[test]
+fn update_tests_row_then_mask_then_held() {
+    // B3
+    one_row(
+        8,
+        1,
+        "begin
+         begin
+         update 2 0 mask 1 6 60
+         update 3 9 mask 0 7 70 => no 5
+         update 3 0 mask 0 7 70 => no 8
+         update 3 0 mask 4 7 70 => no 8
+         update 3 0 mask 1 7 70 => no 9
+         update 9 9 mask 0 7 70 => no 3",
+    );
+}
+
+#[test]
+fn held_comes_before_gone_before_tail() {
+    // B4
+    one_row(
+        1,
+        1,
+        "begin
+         begin
+         delete 2 0 => ok 1
+         update 3 0 mask 1 7 70 => no 9
+         delete 3 0 => no 9
+         update 2 0 mask 1 7 70 => no 10
+         delete 2 0 => no 10
+         insert 2 8 80 => ok 1
+         delete 2 1 => no 12",
+    );
+}
+
+#[test]
+fn the_tail_is_full_by_the_one_or_two_records_wanted() {
+    // B5; a refused update takes not even one record.
+    one_row(
+        3,
+        1,
+        "begin
+         update 2 0 mask 1 6 0 => ok 2
+         update 2 0 mask 2 0 60 => no 12
+         update 2 0 mask 3 7 60 => no 12
+         lineage 0 0 => ok 0 2
+         update 2 0 mask 1 7 0 => ok 3
+         update 2 0 mask 1 8 0 => no 12",
+    );
+}
+
+#[test]
+fn merge_tests_reach_then_open_then_pages() {
+    // B6
+    one_row(
+        4,
+        0,
+        "begin
+         update 2 0 mask 1 6 0
+         merge 0 0 0 => no 16
+         merge 0 0 3 => no 16
+         merge 0 0 2 => no 17
+         commit 2 20
+         merge 0 0 2 => no 18
+         merge 0 2 9 => no 6
+         merge 1 2 9 => no 7",
+    );
+}
+
+#[test]
+fn a_commit_refused_for_its_time_remains_open() {
+    // B7
+    one_row(
+        4,
+        0,
+        "begin
+         begin
+         update 2 0 mask 1 6 0
+         commit 2 10 => no 13
+         own-read 2 0 0 => ok 6
+         update 3 0 mask 1 7 0 => no 9
+         commit 2 11
+         latest 0 0 => ok 6
+         update 3 0 mask 1 7 0
+         commit 3 0 => no 13
+         abort 3
+         latest 0 0 => ok 6",
+    );
+}
+
+#[test]
+fn number_0_is_never_open() {
+    // B8
+    one_row(
+        4,
+        0,
+        "close 0 => no 4
+         scan-read 0 0 0 => no 4
+         sum 0 0 => no 4
+         abort 0 => no 3
+         commit 0 11 => no 3
+         own-read 0 0 0 => no 3",
+    );
+}
+
+#[test]
+fn read_at_tests_the_stamp_then_row_then_column() {
+    // B9
+    one_row(
+        4,
+        0,
+        "read-at 11 9 9 => no 13
+         read-at 10 9 9 => no 5
+         read-at 10 0 9 => no 6
+         read-at 10 0 1 => ok 50",
+    );
+}
+
+#[test]
+fn a_new_store_has_last_stamp_0_and_an_empty_commit_moves_it() {
+    // B10
+    script(
+        "shape 1 1 1 0
+         open-scan 0
+         open-scan 1 => no 13
+         begin
+         commit 1 0 => no 13
+         insert 1 5
+         read-at 0 0 0 => ok none
+         read-at 1 0 0 => no 13
+         begin
+         commit 2 7
+         read-at 7 0 0 => ok none
+         open-scan 7
+         commit 1 7 => no 13",
+    );
+}
+
+#[test]
+fn full_counts_aborted_and_deleted_rows() {
+    // B11
+    let fill = "begin\ninsert 1 5\nabort 1\nbegin\ninsert 2 5\ndelete 2 1\ncommit 2 1\nbegin\n";
+    let inserts = "insert 3 5\n".repeat(62);
+    script(&format!("shape 1 1 1 0\n{fill}{inserts}insert 3 5 => no 11\ninsert 2 5 => no 3"));
+}
+
+#[test]
+fn a_given_row_that_is_not_there_reads_none() {
+    // B12
+    script(
+        "shape 1 1 4 0
+         latest 0 0 => no 5
+         begin
+         insert 1 5
+         latest 0 0 => ok none
+         begin
+         insert 2 6
+         abort 2
+         latest 1 0 => ok none
+         latest 2 0 => no 5",
+    );
+}
+
+#[test]
+fn after_the_greatest_stamp_nothing_can_be_committed() {
+    // B13
+    script(
+        "shape 1 1 4 1
+         begin
+         insert 1 5
+         commit 1 4294967295
+         begin
+         update 2 0 mask 1 6
+         commit 2 4294967295 => no 13
+         read-at 4294967295 0 0 => ok 5
+         read-at 4294967294 0 0 => ok none
+         open-scan 4294967295
+         sum 1 0 => ok 1 5",
+    );
+}
+
+#[test]
+fn a_refused_update_holds_nothing() {
+    // C1
+    one_row(
+        2,
+        0,
+        "begin
+         begin
+         insert 2 1 1
+         delete 2 1
+         update 2 0 mask 1 6 0 => no 12
+         delete 3 0 => ok 2",
+    );
+}
+
+#[test]
+fn a_row_inserted_by_another_open_transaction() {
+    // C2
+    one_row(
+        4,
+        0,
+        "begin
+         begin
+         insert 2 7 70
+         own-read 3 1 0 => ok none
+         own-read 2 1 0 => ok 7
+         update 3 1 mask 1 8 0 => no 9
+         delete 3 1 => no 9
+         latest 1 0 => ok none
+         page-cell 0 1 => ok 7",
+    );
+}
+
+#[test]
+fn an_own_delete_is_gone_for_its_transaction_alone() {
+    // C3
+    one_row(
+        4,
+        0,
+        "begin
+         delete 2 0
+         update 2 0 mask 1 6 0 => no 10
+         delete 2 0 => no 10
+         own-read 2 0 0 => ok none
+         latest 0 0 => ok 5
+         abort 2
+         begin
+         update 3 0 mask 1 6 0 => ok 3
+         own-read 3 0 0 => ok 6",
+    );
+}
+
+#[test]
+fn an_aborted_insert_is_gone_and_its_cell_keeps_the_inserted_value() {
+    // C4
+    one_row(
+        4,
+        1,
+        "begin
+         insert 2 7 70
+         update 2 1 mask 1 8 0
+         abort 2
+         begin
+         update 3 1 mask 1 9 0 => no 10
+         delete 3 1 => no 10
+         own-read 3 1 0 => ok none
+         latest 1 0 => ok none
+         merge 0 0 2
+         page-cell 0 1 => ok 7
+         insert 3 1 1 => ok 2",
+    );
+}
+
+#[test]
+fn the_callers_view_moves_with_the_latest() {
+    // C5: it is no snapshot at begin.
+    one_row(
+        9,
+        1,
+        "begin
+         begin
+         update 3 0 mask 1 6 0
+         commit 3 20
+         own-read 2 0 0 => ok 6
+         update 2 0 mask 1 7 0 => ok 3
+         abort 2
+         begin
+         begin
+         delete 5 0
+         commit 5 30
+         own-read 4 0 0 => ok none
+         update 4 0 mask 1 8 0 => no 10",
+    );
+}
+
+#[test]
+fn ones_own_hold_is_not_held() {
+    // C6
+    one_row(
+        9,
+        1,
+        "begin
+         update 2 0 mask 1 6 0 => ok 2
+         update 2 0 mask 1 7 0 => ok 3
+         delete 2 0 => ok 4",
+    );
+}
+
+#[test]
+fn a_row_inserted_and_deleted_in_one_transaction_is_never_seen() {
+    // C7, D3: no value, not counted; but a merge applies its committed setting to the page.
+    script(
+        "shape 1 1 9 1
+         begin
+         insert 1 5
+         update 1 0 mask 1 6 => ok 2
+         delete 1 0 => ok 3
+         commit 1 10
+         begin
+         update 2 0 mask 1 7 => no 10
+         delete 2 0 => no 10
+         latest 0 0 => ok none
+         read-at 9 0 0 => ok none
+         open-scan 10
+         sum 1 0 => ok 0 0
+         page-cell 0 0 => ok 5
+         merge 0 0 3
+         page-cell 0 0 => ok 6",
+    );
+}
+
+#[test]
+fn the_order_of_commits_is_not_that_of_begins() {
+    // C8
+    script(
+        "shape 1 1 9 1
+         begin
+         begin
+         insert 1 5
+         insert 2 6
+         update 1 0 mask 1 7
+         update 2 1 mask 1 8
+         commit 2 10
+         read-at 10 0 0 => ok none
+         read-at 10 1 0 => ok 8
+         commit 1 20
+         read-at 10 0 0 => ok none
+         read-at 20 0 0 => ok 7
+         begin
+         begin
+         update 4 0 mask 1 9
+         commit 4 30
+         update 3 0 mask 1 10
+         commit 3 40
+         read-at 30 0 0 => ok 9
+         latest 0 0 => ok 10",
+    );
+}
+
+#[test]
+fn an_update_before_a_delete_in_one_transaction_is_applied_by_a_merge() {
+    // D1
+    one_row(
+        9,
+        1,
+        "begin
+         update 2 0 mask 1 6 0
+         delete 2 0
+         commit 2 20
+         read-at 19 0 0 => ok 5
+         latest 0 0 => ok none
+         merge 0 0 3
+         page-cell 0 0 => ok 6",
+    );
+}
+
+#[test]
+fn insert_then_update_in_one_transaction_gives_the_last_value() {
+    // D2: columns that it did not set keep the inserted value.
+    script(
+        "shape 2 1 9 1
+         begin
+         insert 1 5 50
+         update 1 0 mask 1 6 60
+         commit 1 10
+         read-at 10 0 0 => ok 6
+         read-at 10 0 1 => ok 50
+         read-at 9 0 0 => ok none
+         page-cell 0 0 => ok 5",
+    );
+}
+
+#[test]
+fn a_merge_between_two_settings_of_one_transaction_takes_the_first() {
+    // D4
+    one_row(
+        9,
+        1,
+        "begin
+         update 2 0 mask 1 7 0 => ok 2
+         update 2 0 mask 1 8 0 => ok 3
+         commit 2 20
+         merge 0 0 2
+         page-cell 0 0 => ok 7
+         latest 0 0 => ok 8",
+    );
+}
+
+#[test]
+fn a_merged_and_released_page_leaves_earlier_stamps_as_they_were() {
+    // D5
+    one_row(
+        9,
+        1,
+        "begin
+         update 2 0 mask 1 7 0
+         commit 2 20
+         merge 0 0 2
+         release => ok 1
+         read-at 19 0 0 => ok 5
+         read-at 9 0 0 => ok none
+         open-scan 10
+         scan-read 1 0 0 => ok 5
+         sum 1 0 => ok 1 5",
+    );
+}
+
+#[test]
+fn setting_the_same_value_again_is_a_setting() {
+    // D6: it takes its records and holds the row.
+    one_row(
+        9,
+        1,
+        "begin
+         begin
+         update 2 0 mask 1 5 0 => ok 2
+         update 3 0 mask 1 5 0 => no 9
+         update 2 0 mask 1 5 0 => ok 3",
+    );
+}
+
+#[test]
+fn the_latest_skips_aborted_open_original_and_other_column_records() {
+    // D7
+    one_row(
+        16,
+        1,
+        "begin
+         update 2 0 mask 1 6 0 => ok 2
+         commit 2 20
+         begin
+         update 3 0 mask 1 7 0 => ok 3
+         abort 3
+         begin
+         update 4 0 mask 2 0 60 => ok 5
+         commit 4 30
+         begin
+         update 5 0 mask 3 8 80
+         latest 0 0 => ok 6
+         latest 0 1 => ok 60
+         own-read 5 0 0 => ok 8",
+    );
+}
+
+#[test]
+fn a_sum_is_of_64_bits_over_all_ranges_and_counts_seen_rows() {
+    // D8
+    let inserts = "insert 1 2147483647\n".repeat(65);
+    script(&format!(
+        "shape 1 2 4 0\nbegin\n{inserts}commit 1 10\nbegin\ndelete 2 3\ninsert 2 1\ncommit 2 20\n\
+         open-scan 10\nopen-scan 20\nopen-scan 9\nsum 1 0 => ok 65 139586437055\n\
+         sum 2 0 => ok 65 137438953409\nsum 3 0 => ok 0 0\nsum 1 1 => no 6"
+    ));
+}
+
+#[test]
+fn aborted_updates_count_as_having_set_a_column() {
+    // E1; the original holds only the columns not set before.
+    one_row(
+        9,
+        1,
+        "begin
+         update 2 0 mask 1 6 0 => ok 2
+         abort 2
+         begin
+         update 3 0 mask 1 7 0 => ok 3
+         update 3 0 mask 3 8 80 => ok 5
+         commit 3 20
+         read-at 10 0 0 => ok 5
+         read-at 10 0 1 => ok 50
+         merge 0 0 5
+         read-at 10 0 0 => ok 5
+         begin
+         update 4 0 mask 3 9 90 => ok 6",
+    );
+}
+
+#[test]
+fn the_inserters_own_first_update_takes_two_records() {
+    // E2
+    script("shape 1 1 4 0\nbegin\ninsert 1 5\nupdate 1 0 mask 1 6 => ok 2");
+}
+
+#[test]
+fn a_delete_sets_no_column() {
+    // E3
+    one_row(
+        4,
+        0,
+        "begin
+         delete 2 0 => ok 1
+         abort 2
+         begin
+         update 3 0 mask 3 6 60 => ok 3",
+    );
+}
+
+#[test]
+fn an_update_answers_its_last_record() {
+    // E4: the original stands before the setting.
+    one_row(
+        9,
+        3,
+        "begin
+         update 2 0 mask 1 6 0 => ok 2
+         commit 2 20
+         merge 0 0 1
+         page-cell 0 0 => ok 5
+         merge 0 0 2
+         page-cell 0 0 => ok 6",
+    );
+}
+
+#[test]
+fn an_original_belongs_to_the_updates_transaction_and_is_no_setting() {
+    // E5: with a second column set later, the original of column 1 stands after a setting of 0.
+    one_row(
+        9,
+        3,
+        "begin
+         update 2 0 mask 1 6 0 => ok 2
+         commit 2 20
+         begin
+         update 3 0 mask 2 0 60 => ok 4
+         merge 0 1 3 => no 17
+         abort 3
+         merge 0 1 3
+         lineage 0 1 => ok 3 4
+         page-cell 1 0 => ok 50
+         merge 0 0 4
+         page-cell 0 0 => ok 6",
+    );
+}
+
+#[test]
+fn tail_numbers_and_capacity_are_per_range_and_aborted_records_stay_used() {
+    // E6
+    let inserts = "insert 1 5\n".repeat(65);
+    script(&format!(
+        "shape 1 2 2 1\nbegin\n{inserts}commit 1 10\nbegin\nupdate 2 0 mask 1 6 => ok 2\nabort 2\n\
+         begin\nupdate 3 0 mask 1 7 => no 12\ndelete 3 63 => no 12\nupdate 3 64 mask 1 8 => ok 2\n\
+         lineage 0 0 => ok 0 2\nlineage 1 0 => ok 0 2\nlineage 2 0 => no 7"
+    ));
+}
+
+#[test]
+fn a_mask_bit_at_or_above_the_column_count_is_refused_with_good_bits_too() {
+    // E7; with 16 columns every bit is good.
+    one_row(9, 1, "begin\nupdate 2 0 mask 7 6 60 => no 8\nupdate 2 0 mask 0x8001 6 60 => no 8");
+    let values = "7 ".repeat(16);
+    script(&format!(
+        "shape 16 1 9 1\nbegin\ninsert 1 {values}\nupdate 1 0 mask 0xFFFF {values} => ok 2\n\
+         update 1 0 mask 0x8000 {values} => ok 3\nupdate 1 0 mask 0 {values} => no 8"
+    ));
+}
+
+#[test]
+fn any_record_of_an_open_transaction_stops_a_merge() {
+    // F1: another row, another column, a delete.
+    one_row(
+        9,
+        1,
+        "begin
+         update 2 0 mask 1 6 0
+         insert 2 7 70
+         commit 2 20
+         begin
+         update 3 1 mask 2 0 71 => ok 4
+         merge 0 0 4 => no 17
+         merge 0 0 3 => no 17
+         merge 0 0 2 => ok
+         abort 3
+         begin
+         delete 4 1 => ok 5
+         merge 0 1 5 => no 17
+         merge 0 1 4 => no 18",
+    );
+}
+
+#[test]
+fn an_open_insert_does_not_stop_a_merge() {
+    // F2, F7: rows inserted before and after the merge have their inserted value in the page.
+    one_row(
+        9,
+        1,
+        "begin
+         update 2 0 mask 1 6 0
+         commit 2 20
+         begin
+         insert 3 7 70
+         merge 0 0 2 => ok
+         page-cell 0 1 => ok 7
+         insert 3 8 80
+         page-cell 0 2 => ok 8
+         abort 3
+         page-cell 0 1 => ok 7
+         page-cell 0 2 => ok 8",
+    );
+}
+
+#[test]
+fn the_reach_is_that_of_this_range_and_column() {
+    // F3
+    let inserts = "insert 1 5 50\n".repeat(65);
+    script(&format!(
+        "shape 2 2 9 4\nbegin\n{inserts}update 1 0 mask 1 6 0\nupdate 1 64 mask 1 7 0\n\
+         commit 1 10\nmerge 0 0 2\nmerge 0 0 2 => no 16\nmerge 0 1 2 => ok\nmerge 1 0 2 => ok\n\
+         lineage 1 1 => ok 0 2\nmerge 1 1 1 => ok\nmerge 1 1 1 => no 16\nmerge 1 1 2 => no 18"
+    ));
+}
+
+#[test]
+fn a_merge_that_changes_no_cell_takes_a_page_and_raises_the_lineage() {
+    // F4
+    one_row(
+        9,
+        1,
+        "begin
+         update 2 0 mask 1 6 0
+         commit 2 20
+         merge 0 1 2 => ok
+         page-cell 1 0 => ok 50
+         lineage 0 1 => ok 2 2
+         merge 0 0 2 => no 18",
+    );
+}
+
+#[test]
+fn release_looks_at_each_waiting_page_and_at_the_order_of_calls() {
+    // F5: a scan opened between two merges keeps the second page, whatever its stamp.
+    one_row(
+        9,
+        4,
+        "begin
+         update 2 0 mask 1 6 0
+         commit 2 20
+         merge 0 0 1
+         open-scan 0
+         merge 0 1 1
+         merge 0 0 2
+         open-scan 20
+         release => ok 1
+         release => ok 0
+         close 2
+         release => ok 0
+         close 1
+         release => ok 2
+         release => ok 0",
+    );
+}
+
+#[test]
+fn waiting_pages_of_all_columns_count_and_a_freed_one_serves_at_once() {
+    // F6
+    one_row(
+        9,
+        2,
+        "begin
+         update 2 0 mask 1 6 0
+         commit 2 20
+         merge 0 0 1
+         merge 0 1 1
+         merge 0 0 2 => no 18
+         release => ok 2
+         merge 0 0 2 => ok
+         merge 0 1 2 => ok",
+    );
+}
+
+#[test]
+fn an_aborted_record_is_skipped_wherever_it_stands() {
+    // F8: in the middle, and at the end.
+    one_row(
+        9,
+        2,
+        "begin
+         update 2 0 mask 1 6 0 => ok 2
+         commit 2 20
+         begin
+         update 3 0 mask 1 7 0 => ok 3
+         abort 3
+         merge 0 0 3
+         page-cell 0 0 => ok 6
+         begin
+         update 4 0 mask 1 8 0 => ok 4
+         commit 4 30
+         merge 0 0 4
+         page-cell 0 0 => ok 8",
+    );
+}
+
+#[test]
+fn a_delete_alters_no_cell() {
+    // F9
+    one_row(
+        9,
+        1,
+        "begin
+         delete 2 0
+         commit 2 20
+         merge 0 0 1
+         page-cell 0 0 => ok 5
+         latest 0 0 => ok none",
+    );
+}
+
+#[test]
+fn a_page_cell_of_a_row_not_given_is_refused() {
+    // F10
+    script("shape 1 1 1 0\npage-cell 0 0 => no 5\nlineage 0 0 => ok 0 0");
+}
+
+#[test]
+fn page_cell_and_lineage_show_the_current_page_whatever_scans_are_open() {
+    // F11, F13: release changes neither, and the scan reads as before.
+    one_row(
+        9,
+        1,
+        "open-scan 10
+         begin
+         update 2 0 mask 1 6 0
+         commit 2 20
+         begin
+         delete 3 0
+         abort 3
+         scan-read 1 0 0 => ok 5
+         merge 0 0 3
+         page-cell 0 0 => ok 6
+         lineage 0 0 => ok 3 3
+         scan-read 1 0 0 => ok 5
+         sum 1 0 => ok 1 5
+         release => ok 0
+         close 1
+         release => ok 1
+         page-cell 0 0 => ok 6
+         lineage 0 0 => ok 3 3",
+    );
+}

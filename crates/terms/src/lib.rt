@@ -1,5 +1,6 @@
-// The terms of document 01 as types: what a call may answer, and the refusals with their numbers.
-// The definitions of the plain history and the store's code use these same types, so that their answers can be compared as they stand.
+// The terms of document 01 as types: what a call may answer, the refusals with their numbers, the numbers that must not be taken for one another, and
+// a place of the scan list. The definitions of the plain history and the store's code use these same types, so that their answers can be compared as they
+// stand.
 ghost use mathlib.Core.Path.{_≡_};
 ghost use Rattle.terms.specs.Refusals.{refusalNumber};
 
@@ -62,6 +63,26 @@ pub enum Answer {
     Sum(u32, i64),
     // the number merged through, and the records used
     Lineage(u32, u32),
+}
+
+// "A tail number is never taken where a row number or a stamp is meant": each kind of number has a type of its own.
+// A row, counted from 0.
+pub struct Row(pub u32);
+
+// A tail record, counted from 1 in its range.
+pub struct Tail(pub u32);
+
+// A transaction, from 1.
+pub struct Transaction(pub u32);
+
+// A count of minutes since 1 January 2000 UTC.
+pub struct Stamp(pub u32);
+
+// A place of the lent list of open scans: the scan's number (0 marks a free place), its stamp, and the merges made before it was opened.
+pub struct Place {
+    pub number: u32,
+    pub stamp: u32,
+    pub merges: u32,
 }
 
 // The number that document 01 gives a refusal.

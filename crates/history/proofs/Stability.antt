@@ -1,22 +1,23 @@
 -- `Stability` holds: an accepted call changes no read for a stamp that is not after the last commit's, of a row that is given. What an active transaction
 -- does is not seen at any such stamp, and a commit's stamp is later than all of them.
 use mathlib.Core.Path.{_≡_, refl, sym, _∙_, ap, fun-ext}
-use mathlib.Core.Bool.{Bool, true, false, not, cond, _&&_, _||_, and-false}
+use mathlib.Core.Bool.{Bool, true, false, not, and-false}
 use mathlib.Core.List.{List, [], _∷_, _++_}
-use mathlib.Core.Logic.{_⊎_, inl, inr}
 use Prim.Native.Nat.{ℕ, zero, suc, _≤_, _<_}
 use native.Mathlib.Omega.{arith}
 use native.Mathlib.Decide.{decLe}
 use native.Mathlib.Nat.{le-refl}
-use lib.Dec.{T, leb, leb→le, nleb→lt, nltb→le}
+use borrow.Author.Tests.{lt-leb}
+use lib.Dec.{T, nleb→lt, nltb→le}
 use lib.ListN.{length, getD, take, drop, length-append, List·getD-append, take-append-drop}
 use lib.Seq.{take-take}
-use lib.IntN.{ℤ}
 use Rattle.terms.specs.Measures.{Shape}
 use Rattle.terms.specs.declared.Answer.{Answer}
-use Rattle.history.specs.History.{Call, begin, insert, update, delete, commit, abort, latest, readAt, ownRead, openScan, scanRead, sum, close, merge, release, pageCell, lineage, History, Row, Record, State, unknown, active, aborted, committed, Scan, Merge, Version, setting, start, answers, answer, next, run, tests, reply, effect, verdict, Verdict, accept, refuse, answerIf, nth, change, read, visible, versionOf, inserted, insertedValue, rowAt, seenAt, committedBy, isActive, stateOf, ended, lastSetting, scanAt, updateRecords, originalRecords, newColumns, deleteRecords, withRows, withTail, withTransactions, withScans, withMerges, notActive, notGiven, notLater, later}
+use Rattle.history.specs.History.{Call, release, History, Row, Record, State, unknown, active, aborted, committed, Scan, Merge, Version, start, answers, answer, next, run, tests, reply, verdict, Verdict, accept, refuse, answerIf, nth, change, read, visible, versionOf, inserted, insertedValue, rowAt, seenAt, committedBy, stateOf, ended, lastSetting, withRows, withTail, withTransactions, withScans, withMerges, notGiven, later}
 use Rattle.history.specs.Claims.{Reads, latest-reads, at-reads, scan-reads, isRefused, historyBefore, callAt, answerAt, ReadAt, Stability}
 use Rattle.history.proofs.Accepted.{Passed, passed, run-keeps}
+use Rattle.history.proofs.Lists.{All, nil, cons}
+use Rattle.history.proofs.Steps.{Step, nothing, began, rowGiven, recordsMade, closed, by-commit, by-abort, scanOpened, scanClosed, merged, released, New, made-new, step}
 use Rattle.history.proofs.Timely.{Timely, timely}
 
 -- ---- a transaction that begins, or ends without being seen, changes nothing of what was committed by t
@@ -39,17 +40,13 @@ changed-unseen t (y ∷ l) (suc zero) (suc (suc j)) x p q = refl
 changed-unseen t (y ∷ l) (suc (suc k)) (suc zero) x p q = refl
 changed-unseen t (y ∷ l) (suc (suc k)) (suc (suc j)) x p q = changed-unseen t l (suc k) (suc j) x p q
 
-active-unseen : (t : ℕ) (x : State) → T (not (not (isActive x))) → committedBy t x ≡ false
-unfolding committedBy isActive
-active-unseen t active o = refl
-
-later-unseen : (t s l : ℕ) → t ≤ l → T (not (leb s l)) → committedBy t (committed s) ≡ false
+active-unseen : (t : ℕ) (x : State) → x ≡ active → committedBy t x ≡ false
 unfolding committedBy
-later-unseen t s l b p = go (leb s t) (leb→le s t)
-  where
-    go : (b : Bool) → (T b → s ≤ t) → b ≡ false
-    go true q = absurd (omega (arith, q tt, nleb→lt s l p))
-    go false q = refl
+active-unseen t x e = rw e
+
+later-unseen : (t s l : ℕ) → t ≤ l → l < s → committedBy t (committed s) ≡ false
+unfolding committedBy
+later-unseen t s l b p = lt-leb s t (omega arith)
 
 -- ---- records that are not seen change no read
 abbrev Unseen : (ℕ → Bool) → List Record → Type 0
@@ -68,13 +65,10 @@ last-append sees r c v [] [] p = refl
 last-append sees r c v [] (x ∷ m) p = ap (λ w. lastSetting sees r c w m) (simp (p .0, and-false)) ∙ last-append sees r c v [] m (p .1)
 last-append sees r c v (x ∷ l) m p = last-append sees r c _ l m p
 
-update-unseen : (t : ℕ) (h : History) (k r m : ℕ) (vs : List ℤ) → seenAt h t k ≡ false → Unseen (seenAt h t) (updateRecords h k r m vs)
-unfolding updateRecords originalRecords
-update-unseen t h k r m vs p = go (newColumns h r m)
-  where
-    go : (cs : List ℕ) → Unseen (seenAt h t) (originalRecords k r cs ((rowAt h r) .values) ++ record { transaction = k; row = r; content = setting m vs } ∷ [])
-    go [] = (p, tt)
-    go (c ∷ cs) = (p, (p, tt))
+-- the records that an active transaction makes
+made-unseen : (t : ℕ) (h : History) (k r : ℕ) {m : List Record} → seenAt h t k ≡ false → All (New h k r) m → Unseen (seenAt h t) m
+made-unseen t h k r p nil = tt
+made-unseen t h k r p (cons n a) = (ap (seenAt h t) (n .transaction) ∙ p, made-unseen t h k r p a)
 
 -- ---- what stays: the reads of row r for stamp t, which is not after the last commit's
 record Stays (t r : ℕ) (reading : ℕ → Answer) (h : History) : Type 0 where
@@ -114,31 +108,23 @@ module _ (t r : ℕ) (reading : ℕ → Answer) (h : History) (s : Stays t r rea
   unfolding read visible versionOf inserted seenAt stateOf rowAt insertedValue withMerges
   merges-stay l = record { same = s .same; past = s .past; given = s .given }
 
-effect-stays : (S : Shape) (t r : ℕ) (reading : ℕ → Answer) (h : History) (c : Call) → Stays t r reading h → Passed (tests S h c)
-    → Stays t r reading (effect S h c)
-unfolding tests effect seenAt stateOf committedBy notActive notLater deleteRecords
-effect-stays S t r f h begin s p = states-stay t r f h s _ _ (le-refl _) (begun-unseen t (h .transactions))
-effect-stays S t r f h (insert k vs) s p = rows-stay t r f h s _
-effect-stays S t r f h (update k r′ m vs) s p =
-    tail-stays t r f h s _ (update-unseen t h k r′ m vs (active-unseen t (stateOf h k) (p .0)))
-effect-stays S t r f h (delete k r′) s p = tail-stays t r f h s _ (active-unseen t (stateOf h k) (p .0), tt)
-effect-stays S t r f h (commit k e) s p =
-    states-stay t r f h s _ _ (omega (arith, nleb→lt e (h .last) (p .1 .0)))
-    (λ j.
-    changed-unseen t (h .transactions) k j (committed e) (active-unseen t (stateOf h k) (p .0)) (later-unseen t e (h .last) (s .past) (p .1 .0)))
-effect-stays S t r f h (abort k) s p =
-    states-stay t r f h s _ _ (le-refl _) (λ j. changed-unseen t (h .transactions) k j aborted (active-unseen t (stateOf h k) (p .0)) refl)
-effect-stays S t r f h (latest r′ c) s p = s
-effect-stays S t r f h (readAt e r′ c) s p = s
-effect-stays S t r f h (ownRead k r′ c) s p = s
-effect-stays S t r f h (openScan e) s p = scans-stay t r f h s _
-effect-stays S t r f h (scanRead k r′ c) s p = s
-effect-stays S t r f h (sum k c) s p = s
-effect-stays S t r f h (close k) s p = scans-stay t r f h s _
-effect-stays S t r f h (merge g c n) s p = merges-stay t r f h s _
-effect-stays S t r f h release s p = merges-stay t r f h s _
-effect-stays S t r f h (pageCell c r′) s p = s
-effect-stays S t r f h (lineage g c) s p = s
+step-stays : (S : Shape) (t r : ℕ) (reading : ℕ → Answer) (h : History) {c : Call} {h′ : History} → Stays t r reading h → Step S h c h′
+    → Stays t r reading h′
+unfolding seenAt stateOf committedBy
+step-stays S t r f h s nothing = s
+step-stays S t r f h s (began _ _) = states-stay t r f h s _ _ (le-refl _) (begun-unseen t (h .transactions))
+step-stays S t r f h s (rowGiven k vs _ _) = rows-stay t r f h s _
+step-stays S t r f h s (recordsMade k r′ w m _) =
+    tail-stays t r f h s _ (made-unseen t h k r′ (active-unseen t (stateOf h k) (w .active-own)) (made-new m))
+step-stays S t r f h s (closed k a (by-commit {s = e} l)) =
+    states-stay t r f h s _ _ (omega arith)
+    (λ j. changed-unseen t (h .transactions) k j (committed e) (active-unseen t (stateOf h k) a) (later-unseen t e (h .last) (s .past) l))
+step-stays S t r f h s (closed k a by-abort) =
+    states-stay t r f h s _ _ (le-refl _) (λ j. changed-unseen t (h .transactions) k j aborted (active-unseen t (stateOf h k) a) refl)
+step-stays S t r f h s (scanOpened _ _ _) = scans-stay t r f h s _
+step-stays S t r f h s (scanClosed k _) = scans-stay t r f h s _
+step-stays S t r f h s (merged g c n _ _ _ _ _ _) = merges-stay t r f h s _
+step-stays S t r f h s released = merges-stay t r f h s _
 
 -- ---- what an accepted read answers
 reads-reply : (S : Shape) (h : History) {x : Call} {t r c : ℕ} → Reads h x t r c → reply S h x ≡ read (seenAt h t) h r c
@@ -208,7 +194,7 @@ in-order S calls i j t r c b first second =
     let q : Read S calls j t r c k = read-at S calls j t r c second in
     let reading : ℕ → Answer = λ c. read (seenAt h t) h r c in
     let s : Stays t r reading (run S h (drop i (take j calls))) =
-    run-keeps S (Stays t r reading) (λ h c. effect-stays S t r reading h c) h (drop i (take j calls))
+    run-keeps S (Stays t r reading) (λ h c q a. step-stays S t r reading h q (step S h c a)) h (drop i (take j calls))
     record { same = λ c. refl; past = p .past; given = p .given } in
     let e : Stays t r reading k = rw (run-on S calls i j b) s in
     p .says ∙ sym (e .same c) ∙ sym (q .says)

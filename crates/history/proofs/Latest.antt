@@ -1,0 +1,64 @@
+-- The last setting in the order of the records is the one with the latest stamp: what `lastSetting` takes for document 01's "the last such value at or
+-- before t". No later proof wants it; it is here for whoever compares the definitions with document 01.
+use mathlib.Core.Path.{_≡_, refl, sym, _∙_}
+use mathlib.Core.Bool.{Bool, true, false, cond, _&&_}
+use mathlib.Core.List.{List, [], _∷_}
+use Prim.Native.Nat.{ℕ, _≤_}
+use lib.Dec.{T, leb, eqb, eqb→eq, le→leb}
+use Rattle.history.specs.History.{History, Record, Version, State, committed, committedBy, stateOf, rowAt, sets, seenAt, inserted, versionIn, lastSetting, versionOf}
+use Rattle.history.proofs.Lists.{parts, All, nil, cons, all-map, Pairs, empty, ahead}
+use Rattle.history.proofs.States.{stampOf, Before}
+use Rattle.history.proofs.Order.{RowFollows, InOrder}
+
+unfoldable pub setterStamp : History → Version → ℕ
+setterStamp h v = stampOf (stateOf h (v .setter))
+
+-- document 01's "last such value at or before t" by the stamps themselves: another setting is taken only if its stamp is not before the one found. Of one
+-- transaction's settings the last is taken, "its last value".
+unfoldable pub latestSetting : History → ℕ → ℕ → ℕ → Version → List Record → Version
+latestSetting h t r c v [] = v
+latestSetting h t r c v (x ∷ xs) =
+    latestSetting h t r c
+    (cond (eqb (x .row) r && (sets c (x .content) && seenAt h t (x .transaction)) && leb (setterStamp h v) (setterStamp h (versionIn c x))) (versionIn c x) v) xs
+
+-- no record of the row that is seen at t has a stamp before v's
+abbrev NotBefore : History → ℕ → ℕ → Version → Record → Type 0
+NotBefore h t r v y = y .row ≡ r → T (seenAt h t (y .transaction)) → setterStamp h v ≤ stampOf (stateOf h (y .transaction))
+
+seen-stamps : (h : History) (t j k : ℕ) → Before (stateOf h) j k → T (seenAt h t j) → T (seenAt h t k) → stampOf (stateOf h j) ≤ stampOf (stateOf h k)
+unfolding seenAt committedBy
+seen-stamps h t j k b = go (stateOf h j) (stateOf h k) (b .rises)
+  where
+    go : (x y : State) → ((a b : ℕ) → x ≡ committed a → y ≡ committed b → a ≤ b) → T (committedBy t x) → T (committedBy t y) → stampOf x ≤ stampOf y
+    go (committed a) (committed b) f u v = f a b refl refl
+
+last-latest : (h : History) (t r c : ℕ) (v : Version) {l : List Record} → Pairs (RowFollows (stateOf h)) l → All (NotBefore h t r v) l
+    → latestSetting h t r c v l ≡ lastSetting (seenAt h t) r c v l
+unfolding latestSetting lastSetting setterStamp versionIn
+last-latest h t r c v empty nil = refl
+last-latest h t r c v (ahead {x = x} {l = l} p ps) (cons a as′) =
+    go (eqb (x .row) r && (sets c (x .content) && seenAt h t (x .transaction))) (leb (setterStamp h v) (setterStamp h (versionIn c x)))
+    (λ b. le→leb (setterStamp h v) _ (a (row-is b) (seen b)))
+    (λ b. last-latest h t r c (versionIn c x) ps (all-map (λ y f e s. seen-stamps h t (x .transaction) (y .transaction) (f (row-is b ∙ sym e) .after) (seen b) s) p))
+    (last-latest h t r c v ps as′)
+  where
+    row-is : T (eqb (x .row) r && (sets c (x .content) && seenAt h t (x .transaction))) → x .row ≡ r
+    row-is b = eqb→eq (x .row) r (parts (eqb (x .row) r) _ b .0)
+
+    seen : T (eqb (x .row) r && (sets c (x .content) && seenAt h t (x .transaction))) → T (seenAt h t (x .transaction))
+    seen b = parts (sets c (x .content)) _ (parts (eqb (x .row) r) _ b .1) .1
+
+    go : (b z : Bool) → (T b → T z) → (T b → latestSetting h t r c (versionIn c x) l ≡ lastSetting (seenAt h t) r c (versionIn c x) l)
+        → latestSetting h t r c v l ≡ lastSetting (seenAt h t) r c v l
+        → latestSetting h t r c (cond (b && z) (versionIn c x) v) l ≡ lastSetting (seenAt h t) r c (cond b (versionIn c x) v) l
+    go true true f e k = e tt
+    go true false f e k = absurd (f tt)
+    go false z f e k = k
+
+-- every read at a stamp takes the setting with the latest stamp at or before it
+pub latest-stamp : (h : History) (t r c : ℕ) → InOrder h → T (seenAt h t ((rowAt h r) .inserter))
+    → latestSetting h t r c (inserted h r c) (h .tail) ≡ versionOf (seenAt h t) h r c
+unfolding versionOf inserted setterStamp
+latest-stamp h t r c i s =
+    last-latest h t r c (inserted h r c) (i .follow)
+    (all-map (λ x p e u. seen-stamps h t _ (x .transaction) (rw e at (p .after)) s u) (i .records))

@@ -1,0 +1,158 @@
+-- How the states of transactions move on: a number is given as active, an active one commits or aborts, and a closed one stays as it is. `Moved` has
+-- what every later proof wants of the states after a begin, a commit or an abort; `Before` is what a row's earlier change knows of a later one.
+use mathlib.Core.Path.{_≡_, refl, sym, _∙_, ap}
+use mathlib.Core.Logic.{_≢_}
+use mathlib.Core.Bool.{cond, Bool, true, false}
+use mathlib.Core.List.{[], _∷_, _++_}
+use Prim.Native.Nat.{ℕ, _≤_}
+use native.Mathlib.Omega.{arith}
+use native.Mathlib.Nat.{le-refl}
+use native.Mathlib.Decide.{ℕ-discrete}
+use lib.Dec.{eqb, eqb-refl, T, leb, le→leb}
+use Rattle.history.specs.History.{History, State, unknown, active, aborted, committed, nth, change, isCommitted, committedBy, stateOf, seenAt, withTransactions}
+use Rattle.history.proofs.Lists.{clash, eqb-other, is-true, nth-append, nth-added, nth-changed, nth-other}
+use Rattle.history.proofs.Steps.{Closing, by-commit, by-abort}
+
+abbrev pub isGiven : State → Bool
+isGiven unknown = false
+isGiven active = true
+isGiven aborted = true
+isGiven (committed s) = true
+
+abbrev pub isClosed : State → Bool
+isClosed unknown = false
+isClosed active = false
+isClosed aborted = true
+isClosed (committed s) = true
+
+abbrev pub isAborted : State → Bool
+isAborted unknown = false
+isAborted active = false
+isAborted aborted = true
+isAborted (committed s) = false
+
+abbrev pub stampOf : State → ℕ
+stampOf unknown = 0
+stampOf active = 0
+stampOf aborted = 0
+stampOf (committed s) = s
+
+-- no stamp exceeds the last commit's
+unfoldable pub Stamped : History → Type 0
+Stamped h = (k s : ℕ) → stateOf h k ≡ committed s → s ≤ h .last
+
+-- ---- an earlier change of a row, by transaction j, and a later one, by k
+pub record Before (st : ℕ → State) (j k : ℕ) : Type 0 where
+  pub holder : st j ≡ active → k ≡ j
+  pub rises : (a b : ℕ) → st j ≡ committed a → st k ≡ committed b → a ≤ b
+
+-- ---- how the states move on
+pub record Moved (st st′ : ℕ → State) (last : ℕ) : Type 0 where
+  pub given : (k : ℕ) → T (isGiven (st k)) → T (isGiven (st′ k))
+  pub final : (k : ℕ) → T (isClosed (st k)) → st′ k ≡ st k
+  pub stamps : (k s : ℕ) → st′ k ≡ committed s → s ≤ last
+  pub before : (j k : ℕ) → T (isGiven (st j)) → T (isGiven (st k)) → Before st j k → Before st′ j k
+
+pub given-known : (x : State) → T (isGiven x) → x ≢ unknown
+given-known x t e = rw e at t
+
+pub closed-given : (x : State) → T (isClosed x) → T (isGiven x)
+closed-given aborted t = tt
+closed-given (committed s) t = tt
+
+pub inactive-closed : (x : State) → T (isGiven x) → x ≢ active → T (isClosed x)
+inactive-closed active t f = f refl
+inactive-closed aborted t f = tt
+inactive-closed (committed s) t f = tt
+
+pub state-began : (h : History) (k : ℕ) → T (isGiven (stateOf h k)) → stateOf (withTransactions h (h .transactions ++ active ∷ []) (h .last)) k ≡ stateOf h k
+unfolding stateOf withTransactions
+state-began h k t = nth-added unknown (h .transactions) active k (given-known (stateOf h k) t)
+
+pub began-moved : (h : History) → Stamped h → Moved (stateOf h) (stateOf (withTransactions h (h .transactions ++ active ∷ []) (h .last))) (h .last)
+unfolding Stamped stateOf withTransactions
+began-moved h i =
+    record {
+      given = λ k t. rw (state-began h k t) t;
+      final = λ k t. state-began h k (closed-given (stateOf h k) t);
+      stamps = nth-append (λ (x : State). (s : ℕ) → x ≡ committed s → s ≤ h .last) unknown (h .transactions) active (λ s e. clash (cc)) i;
+      before = λ j k a b p.
+          record { holder = λ e. p .holder (sym (state-began h j a) ∙ e); rises = λ s t e f. p .rises s t (sym (state-began h j a) ∙ e) (sym (state-began h k b) ∙ f) };
+    }
+
+pub closing-closed : {h : History} {x : State} {s : ℕ} → Closing h x s → T (isClosed x)
+closing-closed (by-commit b) = tt
+closing-closed by-abort = tt
+
+pub closing-last : {h : History} {x : State} {s : ℕ} → Closing h x s → h .last ≤ s
+closing-last (by-commit b) = omega arith
+closing-last by-abort = le-refl _
+
+pub closing-stamp : {h : History} {x : State} {s : ℕ} → Closing h x s → (a : ℕ) → x ≡ committed a → s ≡ a
+closing-stamp (by-commit b) a e = cc
+closing-stamp by-abort a e = clash (cc)
+
+pub state-closed : (h : History) (t : ℕ) (x : State) (s k : ℕ) → stateOf h t ≡ active
+    → stateOf (withTransactions h (change (h .transactions) t x) s) k ≡ cond (eqb k t) x (stateOf h k)
+unfolding stateOf withTransactions
+state-closed h t x s k o = go (ℕ-discrete k t)
+  where
+    go : Dec (k ≡ t) → nth (change (h .transactions) t x) k unknown ≡ cond (eqb k t) x (stateOf h k)
+    go (yes e) = rw (e, is-true (eqb t t) (eqb-refl t)) (nth-changed unknown (h .transactions) t x (λ e. clash (cc)))
+    go (no f) = rw (eqb-other k t f) (nth-other unknown (h .transactions) t x k f)
+
+pub closed-moved : {h : History} {x : State} {s : ℕ} (t : ℕ) → Stamped h → stateOf h t ≡ active → Closing h x s
+    → Moved (stateOf h) (stateOf (withTransactions h (change (h .transactions) t x) s)) s
+unfolding Stamped stateOf withTransactions
+closed-moved {h} {x} {s} t i o c =
+    record {
+      given = λ k u. cases k (λ e. rw (own k e) (closed-given x (closing-closed c))) (λ f. rw (other k f) u);
+      final = λ k u. cases k (λ e. absurd (rw (ap (stateOf h) e ∙ o) at u)) (other k);
+      stamps = λ k a e. cases k (λ p. omega (arith, closing-stamp c a (sym (own k p) ∙ e))) (λ f. omega (arith, i k a (sym (other k f) ∙ e), closing-last c));
+      before = λ j k _ _ p. cases j (own-before j k p) (λ f. cases k (into-before j k p f) (other-before j k p f));
+    }
+  where
+    st′ : ℕ → State
+    st′ k = nth (change (h .transactions) t x) k unknown
+
+    own : (k : ℕ) → k ≡ t → st′ k ≡ x
+    own k e = ap st′ e ∙ nth-changed unknown (h .transactions) t x (λ e. clash (cc))
+
+    other : (k : ℕ) → k ≢ t → st′ k ≡ stateOf h k
+    other k f = nth-other unknown (h .transactions) t x k f
+
+    cases : {A : Type 0} (k : ℕ) → (k ≡ t → A) → (k ≢ t → A) → A
+    cases k f g = elim (ℕ-discrete k t) [ yes e ↦ f e | no n ↦ g n ]
+
+    shut : (k : ℕ) → k ≡ t → st′ k ≡ active → ⊥
+    shut k e u = rw (sym (own k e) ∙ u) at (closing-closed c)
+
+    own-before : (j k : ℕ) → Before (stateOf h) j k → j ≡ t → Before st′ j k
+    own-before j k p e =
+        let q : k ≡ t = p .holder (ap (stateOf h) e ∙ o) ∙ e in
+        record { holder = λ u. absurd (shut j e u); rises = λ a b u v. omega (arith, closing-stamp c a (sym (own j e) ∙ u), closing-stamp c b (sym (own k q) ∙ v)) }
+
+    into-before : (j k : ℕ) → Before (stateOf h) j k → j ≢ t → k ≡ t → Before st′ j k
+    into-before j k p f e =
+        record {
+          holder = λ u. p .holder (sym (other j f) ∙ u);
+          rises = λ a b u v. omega (arith, i j a (sym (other j f) ∙ u), closing-last c, closing-stamp c b (sym (own k e) ∙ v));
+        }
+
+    other-before : (j k : ℕ) → Before (stateOf h) j k → j ≢ t → k ≢ t → Before st′ j k
+    other-before j k p f g = record { holder = λ u. p .holder (sym (other j f) ∙ u); rises = λ a b u v. p .rises a b (sym (other j f) ∙ u) (sym (other k g) ∙ v) }
+
+-- ---- what is committed at or before t is seen at t; at the last stamp that is all that is committed, so pages and the latest reads see the same
+pub committed-seen : (h : History) (t k : ℕ) → ((s : ℕ) → stateOf h k ≡ committed s → s ≤ t) → seenAt h t k ≡ isCommitted (stateOf h k)
+unfolding seenAt committedBy isCommitted
+committed-seen h t k f = go (stateOf h k) refl
+  where
+    go : (x : State) → stateOf h k ≡ x → committedBy t x ≡ isCommitted x
+    go unknown e = refl
+    go active e = refl
+    go aborted e = refl
+    go (committed s) e = is-true (leb s t) (le→leb s t (f s e))
+
+pub committed-latest : (h : History) → Stamped h → (k : ℕ) → seenAt h (h .last) k ≡ isCommitted (stateOf h k)
+unfolding Stamped
+committed-latest h i k = committed-seen h (h .last) k (i k)

@@ -1,0 +1,24 @@
+-- `layout::sizes_of` meets its contract: the limits keep each product small.
+use native.Mathlib.Omega.{arith}
+use borrow.Author.Needs.{needs}
+use Rattle.layout.specs.Sizes.{shapeOf}
+use Rattle.layout.proofs.Limits.{Limited, limited}
+use Rattle.layout.proofs.sizes_of.Statement.{statement}
+use Rattle.layout.proofs.sizes_of.Tie as tie
+
+within : (c : tie.Start) → Limited (shapeOf (c .args .columns) (c .args .ranges) (c .args .capacity) (c .args .spares))
+within c = limited (shapeOf (c .args .columns) (c .args .ranges) (c .args .capacity) (c .args .spares)) (c .pre)
+
+returns : tie.Need-returns
+returns c = rw (c .times3 .ensures .0, c .before .times2 .ensures .0, c .before .before .times .ensures .0)
+
+pub sizes-of-spec : {M : Type 1} → statement M
+sizes-of-spec =
+    tie.close
+    (tie.spec
+    (λ c κs. omega (arith, within c))
+    (λ c κs. omega (arith, within (c .before)))
+    (λ c. search needs)
+    (λ c κs. omega (arith, within (c .before .before)))
+    (λ c. search needs)
+    returns)

@@ -1,0 +1,107 @@
+-- The table of regions: the number, the length and the order of each, and what follows of it: where each starts, and the words needed.
+-- A new region is a line in each of `index`, `lens` and `all`, at the end.
+use Prim.Native.Nat.{ℕ, _*_}
+use mathlib.Core.List.{List, [], _∷_}
+use lib.ListN.{getD}
+use Rattle.terms.specs.Measures.{rangeRows, mostTransactions}
+use Rattle.layout.specs.declared.Sizes.{Sizes}
+use Rattle.layout.specs.declared.Region.{Region}
+use Rattle.layout.specs.Cut.{startFrom, endFrom}
+
+abbrev pub index : Region → ℕ
+index Region.Header = 0
+index Region.Opens = 1
+index Region.RowTransaction = 2
+index Region.RowState = 3
+index Region.RowStamp = 4
+index Region.RowLink = 5
+index Region.RowMask = 6
+index Region.TailTransaction = 7
+index Region.TailRow = 8
+index Region.TailKind = 9
+index Region.TailMask = 10
+index Region.TailLink = 11
+index Region.TailState = 12
+index Region.TailStamp = 13
+index Region.TailValues = 14
+index Region.Used = 15
+index Region.Current = 16
+index Region.PageState = 17
+index Region.PagePlace = 18
+index Region.PageMade = 19
+index Region.PageReplaced = 20
+index Region.PageLineage = 21
+index Region.PageNewest = 22
+index Region.Cells = 23
+index Region.Changes = 24
+
+abbrev pub headerWords : ℕ
+headerWords = 16
+
+abbrev pub lens : Sizes → List ℕ
+lens s =
+    headerWords
+    ∷ mostTransactions
+    ∷ s .rows ∷ s .rows ∷ s .rows ∷ s .rows ∷ s .rows
+    ∷ s .slots ∷ s .slots ∷ s .slots ∷ s .slots ∷ s .slots ∷ s .slots ∷ s .slots
+    ∷ s .values
+    ∷ s .ranges
+    ∷ s .places
+    ∷ s .pages ∷ s .pages ∷ s .pages ∷ s .pages ∷ s .pages ∷ s .pages
+    ∷ s .pages * rangeRows
+    ∷ mostTransactions
+    ∷ []
+
+abbrev pub all : List Region
+all =
+    Region.Header
+    ∷ Region.Opens
+    ∷ Region.RowTransaction ∷ Region.RowState ∷ Region.RowStamp ∷ Region.RowLink ∷ Region.RowMask
+    ∷ Region.TailTransaction ∷ Region.TailRow ∷ Region.TailKind ∷ Region.TailMask ∷ Region.TailLink ∷ Region.TailState ∷ Region.TailStamp
+    ∷ Region.TailValues
+    ∷ Region.Used
+    ∷ Region.Current
+    ∷ Region.PageState ∷ Region.PagePlace ∷ Region.PageMade ∷ Region.PageReplaced ∷ Region.PageLineage ∷ Region.PageNewest
+    ∷ Region.Cells
+    ∷ Region.Changes
+    ∷ []
+
+abbrev pub len : Sizes → Region → ℕ
+len s k = getD (lens s) (index k) 0
+
+unfoldable pub base : Sizes → Region → ℕ
+base s k = startFrom 0 (lens s) (index k)
+
+-- the words that all the regions take
+unfoldable pub need : Sizes → ℕ
+need s = endFrom 0 (lens s)
+
+-- ---- the words of the header
+
+abbrev pub columnsAt : ℕ
+columnsAt = 0
+
+abbrev pub rangesAt : ℕ
+rangesAt = 1
+
+abbrev pub capacityAt : ℕ
+capacityAt = 2
+
+abbrev pub sparesAt : ℕ
+sparesAt = 3
+
+-- the rows, transaction numbers and scan numbers given, the last commit's stamp, the merges made
+abbrev pub rowsAt : ℕ
+rowsAt = 4
+
+abbrev pub transactionsAt : ℕ
+transactionsAt = 5
+
+abbrev pub scansAt : ℕ
+scansAt = 6
+
+abbrev pub stampAt : ℕ
+stampAt = 7
+
+abbrev pub mergesAt : ℕ
+mergesAt = 8

@@ -1,0 +1,217 @@
+// The store's memory: where each field of a shape lies among the words, and how many bytes a shape needs.
+// Each field is a region of words, one after the other; what a call writes is said of the view, one list of words for each region.
+use loops::and_between;
+use terms::Answer;
+use terms::Refusal;
+ghost use mathlib.Core.Path.{_≡_};
+ghost use mathlib.Core.Bool.{true};
+ghost use Prim.Native.Nat.{_+_, _*_, _^_, _≤_, _<_};
+ghost use Rattle.terms.specs.Measures.{withinLimits};
+ghost use Rattle.layout.specs.Cut.{startFrom, endFrom};
+ghost use Rattle.layout.specs.Regions.{index, lens, base, need};
+ghost use Rattle.layout.specs.Sizes.{shapeOf, sizesOf, bytesAnswer};
+
+// The regions in the order in which they lie. A new one comes last, so that the others stay where they are.
+pub enum Region {
+    // the measures, and the counts that the calls keep; HEADER_.. name the words
+    Header,
+    // the numbers of the open transactions, 0 at a free place
+    Opens,
+    // a word for each row: its inserter, that transaction's state and stamp, its last tail record, the columns that have been set
+    RowTransaction,
+    RowState,
+    RowStamp,
+    RowLink,
+    RowMask,
+    // a word for each tail record that a range can have, range by range
+    TailTransaction,
+    TailRow,
+    TailKind,
+    TailMask,
+    TailLink,
+    TailState,
+    TailStamp,
+    // a word for each tail record and column
+    TailValues,
+    // the tail records used of each range
+    Used,
+    // the current page of each range and column, at range * columns + column
+    Current,
+    // 0 a free page, 1 a current one, else one that waits
+    PageState,
+    // range * columns + column of a page
+    PagePlace,
+    // the merge that made a page, 0 for one made with the store, and the merge that replaced it
+    PageMade,
+    PageReplaced,
+    PageLineage,
+    PageNewest,
+    // 64 words for each page
+    Cells,
+    // how many changes each open transaction has made, place by place as in Opens
+    Changes,
+}
+
+// The header's length, and its words; those from 9 on are not used.
+pub const HEADER_WORDS: usize = 16;
+
+pub const HEADER_COLUMNS: usize = 0;
+
+pub const HEADER_RANGES: usize = 1;
+
+pub const HEADER_CAPACITY: usize = 2;
+
+pub const HEADER_SPARES: usize = 3;
+
+pub const HEADER_ROWS: usize = 4;
+
+pub const HEADER_TRANSACTIONS: usize = 5;
+
+pub const HEADER_SCANS: usize = 6;
+
+pub const HEADER_STAMP: usize = 7;
+
+pub const HEADER_MERGES: usize = 8;
+
+// The limits of a shape.
+pub const MOST_COLUMNS: u32 = 16;
+
+pub const MOST_RANGES: u32 = 16;
+
+pub const MOST_RECORDS: u32 = 512;
+
+pub const MOST_SPARES: u32 = 256;
+
+pub const RANGE_ROWS: usize = 64;
+
+pub const MOST_TRANSACTIONS: usize = 8;
+
+// Where the rows' regions begin, in every shape.
+const ROWS_FROM: usize = HEADER_WORDS + MOST_TRANSACTIONS;
+
+// A shape, and the lengths that its regions are made of. The products are fields, so that each region starts at a linear sum of them.
+pub struct Sizes {
+    pub columns: usize,
+    pub ranges: usize,
+    pub capacity: usize,
+    pub spares: usize,
+    pub rows: usize,
+    pub slots: usize,
+    pub values: usize,
+    pub places: usize,
+    pub pages: usize,
+}
+
+// A product, with a bound that is linear in one factor.
+fn times(a: usize, b: usize) -> usize
+    requires { ⌜ (a < 4294967296) × (b < 65536) ⌝ }
+    ensures { λ r. ⌜ (r ≡ a * b) × (r ≤ 65535 * a) ⌝ }
+{
+    a * b
+}
+
+// Whether each measure lies within its limits.
+pub fn within_limits(columns: u32, ranges: u32, capacity: u32, spares: u32) -> bool
+    ensures { λ r. ⌜ r ≡ withinLimits (shapeOf columns ranges capacity spares) ⌝ }
+{
+    let c = and_between(true, 1, MOST_COLUMNS, columns);
+    let r = and_between(c, 1, MOST_RANGES, ranges);
+    let t = and_between(r, 1, MOST_RECORDS, capacity);
+    and_between(t, 0, MOST_SPARES, spares)
+}
+
+// The sizes that a shape makes.
+pub fn sizes_of(columns: u32, ranges: u32, capacity: u32, spares: u32) -> Sizes
+    requires { ⌜ withinLimits (shapeOf columns ranges capacity spares) ≡ true ⌝ }
+    ensures { λ r. ⌜ r ≡ sizesOf (shapeOf columns ranges capacity spares) ⌝ }
+{
+    let c = columns as usize;
+    let r = ranges as usize;
+    let t = capacity as usize;
+    let x = spares as usize;
+    let slots = times(r, t);
+    let places = times(c, r);
+    Sizes {
+        columns: c,
+        ranges: r,
+        capacity: t,
+        spares: x,
+        rows: r * RANGE_ROWS,
+        slots: slots,
+        values: times(slots, c),
+        places: places,
+        pages: places + x,
+    }
+}
+
+// The word at which a region starts. Its contract has the sums in the open, since each arm is one; `base` says it for callers.
+fn start(s: Sizes, k: Region) -> usize
+    requires { ⌜ endFrom 0 (lens s) < 2 ^ 62 ⌝ }
+    ensures { λ r. ⌜ r ≡ startFrom 0 (lens s) (index k) ⌝ }
+{
+    let rows = s.rows;
+    let slots = s.slots;
+    let pages = s.pages;
+    let row = ROWS_FROM;
+    let tail = row + rows * 5;
+    let values = tail + slots * 7;
+    let used = values + s.values;
+    let current = used + s.ranges;
+    let page = current + s.places;
+    match k {
+        Region::Header => 0,
+        Region::Opens => HEADER_WORDS,
+        Region::RowTransaction => row,
+        Region::RowState => row + rows,
+        Region::RowStamp => row + rows * 2,
+        Region::RowLink => row + rows * 3,
+        Region::RowMask => row + rows * 4,
+        Region::TailTransaction => tail,
+        Region::TailRow => tail + slots,
+        Region::TailKind => tail + slots * 2,
+        Region::TailMask => tail + slots * 3,
+        Region::TailLink => tail + slots * 4,
+        Region::TailState => tail + slots * 5,
+        Region::TailStamp => tail + slots * 6,
+        Region::TailValues => values,
+        Region::Used => used,
+        Region::Current => current,
+        Region::PageState => page,
+        Region::PagePlace => page + pages,
+        Region::PageMade => page + pages * 2,
+        Region::PageReplaced => page + pages * 3,
+        Region::PageLineage => page + pages * 4,
+        Region::PageNewest => page + pages * 5,
+        Region::Cells => page + pages * 6,
+        Region::Changes => page + pages * 70,
+    }
+}
+
+// The word at which a region starts.
+pub fn base(s: Sizes, k: Region) -> usize
+    requires { ⌜ need s < 2 ^ 62 ⌝ }
+    ensures { λ r. ⌜ r ≡ base s k ⌝ }
+{
+    start(s, k)
+}
+
+// The words that the regions take.
+pub fn words_needed(s: Sizes) -> usize
+    requires { ⌜ need s < 2 ^ 62 ⌝ }
+    ensures { λ r. ⌜ r ≡ need s ⌝ }
+{
+    start(s, Region::Changes) + MOST_TRANSACTIONS
+}
+
+// The bytes that a shape needs.
+pub fn bytes_needed(columns: u32, ranges: u32, capacity: u32, spares: u32) -> Answer
+    ensures { λ r. ⌜ r ≡ bytesAnswer (shapeOf columns ranges capacity spares) ⌝ }
+{
+    if within_limits(columns, ranges, capacity, spares) {
+        let s = sizes_of(columns, ranges, capacity, spares);
+        let n = words_needed(s);
+        Answer::Number((n * 4) as u32)
+    } else {
+        Answer::Refused(Refusal::Shape)
+    }
+}

@@ -33,7 +33,7 @@ lay-part s m p v b h e =
 -- ---- seeing what was laid
 
 -- `index` and `all` name the same places
-named : (m : View) (k : Region) → getD (map m all) (index k) [] ≡ m k
+pub named : (m : View) (k : Region) → getD (map m all) (index k) [] ≡ m k
 named m Region.Header = refl
 named m Region.Opens = refl
 named m Region.RowTransaction = refl

@@ -1,0 +1,17 @@
+-- `conditions::open_place` meets its contract.
+use Rattle.conditions.proofs.Opens.{open-none, open-found}
+use borrow.Author.Needs.{needs}
+use Rattle.conditions.proofs.open_place.Statement.{statement}
+use Rattle.conditions.proofs.open_place.Tie as tie
+
+returns : tie.Need-returns
+returns c = (open-none _ _ _ (c .if1 .taken), tt)
+
+returns-2 : tie.Need-returns-2
+returns-2 c =
+    let start = c .before .before .before in
+    let found = open-found _ (c .before .if1 .left) _ _ _ (start .pre) (c .find-in .ensures) in
+    (found .0, found .1)
+
+pub open-place-spec : {M : Type 1} → statement M
+open-place-spec = tie.close (tie.spec returns (λ c κs. search needs) returns-2)

@@ -1,0 +1,2 @@
+-- What the finder of an open transaction answers.
+pub mod Opens

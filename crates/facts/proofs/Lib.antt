@@ -1,0 +1,7 @@
+-- Laws of the stored facts, for the proofs of this crate and of those above it.
+pub mod Within
+pub mod Each
+pub mod Parts
+pub mod Ready
+pub mod Answers
+pub mod Usable

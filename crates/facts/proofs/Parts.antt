@@ -1,0 +1,79 @@
+-- The parts of a fact as the code has them, and as the fact says them: a whole region, the entries of the table of open scans, the open transactions.
+use Prim.Native.Nat.{ℕ, zero, suc, _+_, _*_, _≤_, _<_}
+use mathlib.Core.Path.{_≡_, refl, ap, sym, _∙_}
+use mathlib.Core.Bool.{Bool, true, false, not, _&&_}
+use mathlib.Core.List.{List, [], _∷_, _++_, map}
+use native.Mathlib.Omega.{arith}
+use native.Mathlib.Nat.{zero-add}
+use lib.Dec.{leb, ltb}
+use lib.ListN.{length, getD, replicate}
+use lib.Seq.{take-all}
+use borrow.Author.Tests.{lt-ltb, le-ltb, le-leb, lt-leb, leb-true, leb-false}
+use Rattle.terms.specs.Measures.{mostScans}
+use Rattle.terms.specs.declared.Place.{Place}
+use Rattle.words.specs.Words.{words}
+use Rattle.words.proofs.Words.{length-words}
+use Rattle.loops.specs.Search.{region, allBetween}
+use Rattle.layout.specs.declared.Sizes.{Sizes}
+use Rattle.layout.specs.declared.Region.{Region}
+use Rattle.layout.specs.declared.Region.the-variants.{Opens}
+use Rattle.layout.specs.Regions.{len, need}
+use Rattle.layout.specs.View.{View, view}
+use Rattle.layout.proofs.View.{view-long}
+use Rattle.scans.specs.declared.Scans.{Scans}
+use Rattle.scans.specs.Places.{openCount, everyOpen, differ}
+use Rattle.scans.specs.Table.{tableOf}
+use Rattle.scans.proofs.Answers.{table-at-most, table-differ, differ-zeros}
+
+-- a region from its first word to its last is the region
+pub whole : (s : Sizes) (m : List ℕ) (k : Region) (n : ℕ) → need s * 4 ≤ length m → len s k ≡ n → region (view s (words m) k) 0 n ≡ view s (words m) k
+whole s m k n h e =
+    let l : length (view s (words m) k) ≡ len s k = view-long s (words m) (omega (arith, length-words m)) k in
+    rw (zero-add n) (take-all n (view s (words m) k) (omega arith))
+
+-- the eight open places, read one by one, and zeros
+pub eight : (l zs : List ℕ) (a b c d e f g h : ℕ) → length l ≡ 8
+    → a ≡ getD l 0 0 → b ≡ getD l 1 0 → c ≡ getD l 2 0 → d ≡ getD l 3 0 → e ≡ getD l 4 0 → f ≡ getD l 5 0 → g ≡ getD l 6 0 → h ≡ getD l 7 0
+    → a ∷ b ∷ c ∷ d ∷ e ∷ f ∷ g ∷ h ∷ zs ≡ l ++ zs
+eight [] zs a b c d e f g h n p q r t u v w y = absurd (omega arith)
+eight (x1 ∷ []) zs a b c d e f g h n p q r t u v w y = absurd (omega arith)
+eight (x1 ∷ x2 ∷ []) zs a b c d e f g h n p q r t u v w y = absurd (omega arith)
+eight (x1 ∷ x2 ∷ x3 ∷ []) zs a b c d e f g h n p q r t u v w y = absurd (omega arith)
+eight (x1 ∷ x2 ∷ x3 ∷ x4 ∷ []) zs a b c d e f g h n p q r t u v w y = absurd (omega arith)
+eight (x1 ∷ x2 ∷ x3 ∷ x4 ∷ x5 ∷ []) zs a b c d e f g h n p q r t u v w y = absurd (omega arith)
+eight (x1 ∷ x2 ∷ x3 ∷ x4 ∷ x5 ∷ x6 ∷ []) zs a b c d e f g h n p q r t u v w y = absurd (omega arith)
+eight (x1 ∷ x2 ∷ x3 ∷ x4 ∷ x5 ∷ x6 ∷ x7 ∷ []) zs a b c d e f g h n p q r t u v w y = absurd (omega arith)
+eight (x1 ∷ x2 ∷ x3 ∷ x4 ∷ x5 ∷ x6 ∷ x7 ∷ x8 ∷ []) zs a b c d e f g h n p q r t u v w y = rw (p, q, r, t, u, v, w, y)
+eight (x1 ∷ x2 ∷ x3 ∷ x4 ∷ x5 ∷ x6 ∷ x7 ∷ x8 ∷ x9 ∷ l) zs a b c d e f g h n p q r t u v w y = absurd (omega arith)
+
+pub opens-length : (s : Sizes) (m : List ℕ) → need s * 4 ≤ length m → length (view s (words m) Opens) ≡ 8
+opens-length s m h = view-long s (words m) (omega (arith, length-words m)) Opens
+
+-- ---- what the table's entries say of the list
+
+pub few-told : (ps : List Place) → not (ltb mostScans (openCount ps)) ≡ leb (openCount ps) mostScans
+few-told ps = go (leb (openCount ps) mostScans) refl
+  where
+    go : (b : Bool) → leb (openCount ps) mostScans ≡ b → not (ltb mostScans (openCount ps)) ≡ b
+    go true e = rw (le-ltb mostScans (openCount ps) (leb-true (openCount ps) mostScans e))
+    go false e = rw (lt-ltb mostScans (openCount ps) (leb-false (openCount ps) mostScans e))
+
+module _ (t : Scans) (ps : List Place) (same : t ≡ tableOf ps) where
+  pub more-told : not (t .more) ≡ leb (openCount ps) mostScans
+  unfolding tableOf
+  more-told = rw same (few-told ps)
+
+  pub numbers-told : (b : ℕ) → openCount ps ≤ mostScans → allBetween 0 b (t .numbers) ≡ everyOpen (λ p. leb (p .number) b) ps
+  unfolding tableOf
+  numbers-told b few = rw same (table-at-most ps few (λ p. p .number) b)
+
+  pub stamps-told : (b : ℕ) → openCount ps ≤ mostScans → allBetween 0 b (t .stamps) ≡ everyOpen (λ p. leb (p .stamp) b) ps
+  unfolding tableOf
+  stamps-told b few = rw same (table-at-most ps few (λ p. p .stamp) b)
+
+  pub merges-told : (b : ℕ) → openCount ps ≤ mostScans → allBetween 0 b (t .merges) ≡ everyOpen (λ p. leb (p .merges) b) ps
+  unfolding tableOf
+  merges-told b few = rw same (table-at-most ps few (λ p. p .merges) b)
+
+  pub differ-told : openCount ps ≤ mostScans → differ (t .numbers) ≡ differ (map (λ p. p .number) ps)
+  differ-told few = rw same (table-differ ps few)

@@ -1,0 +1,227 @@
+-- What a usable memory tells, clause by clause, for the proofs of the calls: every later access and walk rests on one of these.
+use Prim.Native.Nat.{ℕ, zero, suc, _+_, _*_, _-_, _/_, _≤_, _<_}
+use mathlib.Core.Path.{_≡_, refl, ap, sym, _∙_}
+use mathlib.Core.Bool.{Bool, true, false, not, _&&_, _||_}
+use mathlib.Core.Logic.{_≢_}
+use mathlib.Core.List.{List, [], _∷_, map}
+use native.Mathlib.Omega.{arith}
+use native.Mathlib.Nat.{zero-add}
+use lib.Dec.{leb, ltb, eqb}
+use lib.ListN.{length, getD, List·getD-map}
+use borrow.Author.Tests.{leb-true, ltb-true, ltb-false, eqb-true, eqb-false, eq-eqb, ne-eqb, le-ltb}
+use Rattle.terms.specs.Measures.{withinLimits, mostScans, mostNumbers, rangeRows}
+use Rattle.terms.specs.declared.Place.{Place}
+use Rattle.words.specs.Words.{words}
+use Rattle.words.proofs.Words.{length-words}
+use Rattle.loops.specs.Search.{region, allBetween}
+use Rattle.loops.proofs.Search.{and-true, all-tells}
+use Rattle.loops.proofs.Region.{region-at, region-length}
+use Rattle.layout.specs.declared.Sizes.{Sizes}
+use Rattle.layout.specs.declared.Region.{Region}
+use Rattle.layout.specs.declared.Region.the-variants.{Opens, RowTransaction, RowStamp, RowLink, TailTransaction, TailRow, TailLink, TailStamp, Current, PageState, PagePlace, PageReplaced, PageLineage, PageNewest}
+use Rattle.layout.specs.Regions.{len, need}
+use Rattle.layout.specs.View.{View, view}
+use Rattle.layout.proofs.View.{Long, view-long}
+use Rattle.scans.specs.Places.{freePlace, openCount, everyOpen, among, differ}
+use Rattle.facts.specs.Facts.{rowsGiven, transactionsGiven, scansGiven, lastStamp, mergesMade, used, firstSlot, each, rowsBetween, rangeBetween, pageAtMost, inUse, waiting, countsWithin, rowNamed, rangeNamesRows, recordsNameRows, numbersGiven, linkHolds, rowLinked, recordLinked, rangeLinked, linksHold, stampsWithin, mergesWithin, openDiffer, pagePlaced, pagesPlaced, pageRange, lineageWithin, lineagesWithin, factsHold}
+use Rattle.facts.specs.Usable.{shapeIn, sizesIn, measuresBytes, usable}
+use Rattle.facts.specs.Tests.{Sized}
+use Rattle.facts.proofs.Each.{each-tells}
+use Rattle.facts.proofs.Ready.{Stored, stored, at-most, sized}
+use Rattle.facts.proofs.Within.{range-in}
+
+-- a link, in range g, of row r: at most `most`, and if it is not 0 its record is of that row
+pub record Linked (s : Sizes) (v : View) (g most r link : ℕ) : Type 0 where
+  pub low : link ≤ most
+  pub same : link ≢ 0 → getD (v TailRow) (firstSlot s g + (link - 1)) 0 ≡ r
+
+pub record Usable (s : Sizes) (v : View) (ps : List Place) : Type 0 where
+  pub counts : Stored s v
+  pub open-few : openCount ps ≤ mostScans
+  pub named : (g i : ℕ) → g < s .ranges → i < used v g
+      → (getD (v TailRow) (firstSlot s g + i) 0 < rowsGiven v) × (getD (v TailRow) (firstSlot s g + i) 0 / rangeRows ≡ g)
+  pub row-numbers : (r : ℕ) → r < rowsGiven v → (1 ≤ getD (v RowTransaction) r 0) × (getD (v RowTransaction) r 0 ≤ transactionsGiven v)
+  pub record-numbers : (g i : ℕ) → g < s .ranges → i < used v g
+      → (1 ≤ getD (v TailTransaction) (firstSlot s g + i) 0) × (getD (v TailTransaction) (firstSlot s g + i) 0 ≤ transactionsGiven v)
+  pub open-numbers : (j : ℕ) → getD (v Opens) j 0 ≤ transactionsGiven v
+  pub scan-numbers : (j : ℕ) → getD ps j freePlace .number ≤ scansGiven v
+  pub row-links : (r : ℕ) → r < rowsGiven v → Linked s v (r / rangeRows) (used v (r / rangeRows)) r (getD (v RowLink) r 0)
+  pub record-links : (g i : ℕ) → g < s .ranges → i < used v g
+      → Linked s v g i (getD (v TailRow) (firstSlot s g + i) 0) (getD (v TailLink) (firstSlot s g + i) 0)
+  pub row-stamps : (r : ℕ) → r < rowsGiven v → getD (v RowStamp) r 0 ≤ lastStamp v
+  pub record-stamps : (g i : ℕ) → g < s .ranges → i < used v g → getD (v TailStamp) (firstSlot s g + i) 0 ≤ lastStamp v
+  pub page-stamps : (p : ℕ) → p < s .pages → inUse ≤ getD (v PageState) p 0 → getD (v PageNewest) p 0 ≤ lastStamp v
+  pub scan-stamps : (j : ℕ) → getD ps j freePlace .number ≢ 0 → getD ps j freePlace .stamp ≤ lastStamp v
+  pub scan-merges : (j : ℕ) → getD ps j freePlace .number ≢ 0 → getD ps j freePlace .merges ≤ mergesMade v
+  pub page-merges : (p : ℕ) → p < s .pages → waiting ≤ getD (v PageState) p 0 → getD (v PageReplaced) p 0 ≤ mergesMade v
+  pub open-differ : (i j : ℕ) → i < j → getD (v Opens) i 0 ≡ getD (v Opens) j 0 → getD (v Opens) i 0 ≡ 0
+  pub scans-differ : (i j : ℕ) → i < j → getD ps i freePlace .number ≡ getD ps j freePlace .number → getD ps i freePlace .number ≡ 0
+  pub current-in : (i : ℕ) → i < s .places → getD (v Current) i 0 < s .pages
+  pub current-state : (i : ℕ) → i < s .places → getD (v PageState) (getD (v Current) i 0) 0 ≡ 1
+  pub current-place : (i : ℕ) → i < s .places → getD (v PagePlace) (getD (v Current) i 0) 0 ≡ i
+  pub lineages : (p : ℕ) → p < s .pages → inUse ≤ getD (v PageState) p 0 → getD (v PageLineage) p 0 ≤ used v (pageRange s v p)
+
+-- ---- the tests of one index, taken apart
+
+or-right : (a b : Bool) → a ≡ false → (a || b) ≡ true → b ≡ true
+or-right a b e f = rw e at f
+
+link-tells : (s : Sizes) (v : View) (g most r link : ℕ) → linkHolds s v g most r link ≡ true → Linked s v g most r link
+unfolding linkHolds
+link-tells s v g most r link e = go (eqb link 0) refl
+  where
+    go : (b : Bool) → eqb link 0 ≡ b → Linked s v g most r link
+    go true q = let z : link ≡ 0 = eqb-true link 0 q in record { low = omega arith; same = λ n. absurd (n z) }
+    go false q =
+        let a = and-true _ _ (or-right (eqb link 0) _ q e) in
+        record { low = leb-true link most (a .0); same = λ n. eqb-true _ r (a .1) }
+
+page-tells : (v : View) (least : ℕ) (k : Region) (most p : ℕ) → pageAtMost v least k most p ≡ true → least ≤ getD (v PageState) p 0 → getD (v k) p 0 ≤ most
+unfolding pageAtMost
+page-tells v least k most p e h = leb-true (getD (v k) p 0) most (or-right (ltb (getD (v PageState) p 0) least) _ (le-ltb _ least h) e)
+
+placed-tells : (s : Sizes) (v : View) (i : ℕ) → pagePlaced s v i ≡ true
+    → (getD (v Current) i 0 < s .pages) × (getD (v PageState) (getD (v Current) i 0) 0 ≡ 1) × (getD (v PagePlace) (getD (v Current) i 0) 0 ≡ i)
+unfolding pagePlaced
+placed-tells s v i e =
+    let a = and-true _ _ e in
+    let b = and-true _ _ (a .1) in (ltb-true _ (s .pages) (a .0), eqb-true _ 1 (b .0), eqb-true _ i (b .1))
+
+every-tells : (f : Place → Bool) (ps : List Place) → everyOpen f ps ≡ true → (j : ℕ) → getD ps j freePlace .number ≢ 0 → f (getD ps j freePlace) ≡ true
+every-tells f [] e j n = absurd (n refl)
+every-tells f (p ∷ ps) e zero n =
+    let a = and-true (not (not (eqb (p .number) 0)) || f p) (everyOpen f ps) e in
+    or-right (not (not (eqb (p .number) 0))) (f p) (rw (ne-eqb (p .number) 0 n)) (a .0)
+every-tells f (p ∷ ps) e (suc j) n =
+    every-tells f ps (and-true (not (not (eqb (p .number) 0)) || f p) (everyOpen f ps) e .1) j n
+
+-- a free place has the number 0, so of the numbers all places may speak
+numbers-tell : (ps : List Place) (b : ℕ) → everyOpen (λ p. leb (p .number) b) ps ≡ true → (j : ℕ) → getD ps j freePlace .number ≤ b
+numbers-tell ps b e j = go (eqb (getD ps j freePlace .number) 0) refl
+  where
+    go : (t : Bool) → eqb (getD ps j freePlace .number) 0 ≡ t → getD ps j freePlace .number ≤ b
+    go true q = let z = eqb-true (getD ps j freePlace .number) 0 q in omega arith
+    go false q =
+        leb-true (getD ps j freePlace .number) b (every-tells (λ p. leb (p .number) b) ps e j (eqb-false (getD ps j freePlace .number) 0 q))
+
+-- a number that is not 0 stands once
+among-tells : (x : ℕ) (l : List ℕ) (j : ℕ) → not (among x l) ≡ true → x ≡ getD l j 0 → x ≢ 0 → ⊥
+among-tells x [] j e q n = n q
+among-tells x (y ∷ l) j e q n = go (eqb y x) refl (λ i f r. among-tells x l i f r n) j e q
+  where
+    clash : false ≡ true → ⊥
+    clash f = let z : _≡_ {A = ℕ} 0 1 = cc in omega arith
+
+    go : (b : Bool) → eqb y x ≡ b → ((i : ℕ) → not (among x l) ≡ true → x ≡ getD l i 0 → ⊥)
+        → (j : ℕ) → not (eqb y x || among x l) ≡ true → x ≡ getD (y ∷ l) j 0 → ⊥
+    go true p later i e q = clash (rw p at e)
+    go false p later zero e q = eqb-false y x p (sym q)
+    go false p later (suc i) e q = later i (rw p at e) q
+
+differ-tells : (l : List ℕ) → differ l ≡ true → (i j : ℕ) → i < j → getD l i 0 ≡ getD l j 0 → getD l i 0 ≡ 0
+differ-tells [] e i j h q = refl
+differ-tells (x ∷ l) e i zero h q = absurd (omega arith)
+differ-tells (x ∷ l) e (suc i) (suc j) h q = differ-tells l (and-true (eqb x 0 || not (among x l)) (differ l) e .1) i j (omega arith) q
+differ-tells (x ∷ l) e zero (suc j) h q = go (eqb x 0) refl
+  where
+    go : (b : Bool) → eqb x 0 ≡ b → x ≡ 0
+    go true p = eqb-true x 0 p
+    go false p =
+        absurd
+        (among-tells x l j (or-right (eqb x 0) (not (among x l)) p (and-true (eqb x 0 || not (among x l)) (differ l) e .0)) q (eqb-false x 0 p))
+
+numbers-at : (ps : List Place) (j : ℕ) → getD (map (λ p. p .number) ps) j 0 ≡ getD ps j freePlace .number
+numbers-at ps j = List·getD-map (λ p. p .number) ps j freePlace
+
+-- a bounded stretch of a region, word by word
+module _ (s : Sizes) (v : View) (long : Long s v) (k : Region) (at n low high : ℕ) (inside : at + n ≤ len s k) where
+  stretch-tells : allBetween low high (region (v k) at n) ≡ true → (i : ℕ) → i < n → (low ≤ getD (v k) (at + i) 0) × (getD (v k) (at + i) 0 ≤ high)
+  stretch-tells e i h =
+      let l : at + n ≤ length (v k) = omega (arith, long k) in
+      let t = all-tells low high (region (v k) at n) e i (omega (arith, region-length (v k) at n l)) in
+      rw region-at at t
+
+-- ---- all clauses
+
+module _ (s : Sizes) (v : View) (ps : List Place) (z : Sized s) (long : Long s v) where
+  -- words of the given rows, and of the used records
+  rows-tell : (k : Region) (low high : ℕ) → Stored s v → len s k ≡ s .rows → rowsBetween v k low high ≡ true
+      → (r : ℕ) → r < rowsGiven v → (low ≤ getD (v k) r 0) × (getD (v k) r 0 ≤ high)
+  unfolding rowsBetween
+  rows-tell k low high c l e r h = rw (zero-add r) at (stretch-tells s v long k 0 (rowsGiven v) low high (omega (arith, c .rows-to)) e r h)
+
+  records-tell : (k : Region) (low high : ℕ) → Stored s v → len s k ≡ s .slots → each (s .ranges) (rangeBetween s v k low high) ≡ true
+      → (g i : ℕ) → g < s .ranges → i < used v g → (low ≤ getD (v k) (firstSlot s g + i) 0) × (getD (v k) (firstSlot s g + i) 0 ≤ high)
+  unfolding rangeBetween
+  records-tell k low high c l e g i h j =
+      stretch-tells s v long k (firstSlot s g) (used v g) low high (omega (arith, range-in s g z h, c .records-to g)) (each-tells (rangeBetween s v k low high) (s .ranges) e g h) i j
+
+  pub facts-tell : factsHold s v ps ≡ true → Usable s v ps
+  unfolding factsHold countsWithin recordsNameRows rangeNamesRows rowNamed numbersGiven linksHold rowLinked rangeLinked recordLinked stampsWithin mergesWithin openDiffer pagesPlaced lineagesWithin lineageWithin
+  facts-tell e =
+      let a1 = and-true _ _ e in
+      let a2 = and-true _ _ (a1 .1) in
+      let a3 = and-true _ _ (a2 .1) in
+      let a4 = and-true _ _ (a3 .1) in
+      let a5 = and-true _ _ (a4 .1) in
+      let a6 = and-true _ _ (a5 .1) in
+      let a7 = and-true _ _ (a6 .1) in
+      let a8 = and-true _ _ (a7 .1) in
+      let c1 = and-true _ _ (a1 .0) in
+      let c = stored s v (c1 .0) in
+      let n1 = and-true _ _ (a3 .0) in
+      let n2 = and-true _ _ (n1 .1) in
+      let n3 = and-true _ _ (n2 .1) in
+      let l = and-true _ _ (a4 .0) in
+      let t1 = and-true _ _ (a5 .0) in
+      let t2 = and-true _ _ (t1 .1) in
+      let t3 = and-true _ _ (t2 .1) in
+      let m = and-true _ _ (a6 .0) in
+      let d = and-true _ _ (a7 .0) in
+      record {
+        counts = c;
+        open-few = leb-true (openCount ps) mostScans (c1 .1);
+        named = λ g i h j. let t = and-true _ _ (each-tells (rowNamed s v g) (used v g) (each-tells (rangeNamesRows s v) (s .ranges) (a2 .0) g h) i j) in (ltb-true _ _ (t .0), eqb-true _ g (t .1));
+        row-numbers = rows-tell RowTransaction 1 (transactionsGiven v) c refl (n1 .0);
+        record-numbers = records-tell TailTransaction 1 (transactionsGiven v) c refl (n2 .0);
+        open-numbers = at-most (v Opens) (transactionsGiven v) (n3 .0);
+        scan-numbers = numbers-tell ps (scansGiven v) (n3 .1);
+        row-links = λ r h. link-tells s v _ _ r _ (each-tells (rowLinked s v) (rowsGiven v) (l .0) r h);
+        record-links = λ g i h j. link-tells s v g i _ _ (each-tells (recordLinked s v g) (used v g) (each-tells (rangeLinked s v) (s .ranges) (l .1) g h) i j);
+        row-stamps = λ r h. (rows-tell RowStamp 0 (lastStamp v) c refl (t1 .0) r h) .1;
+        record-stamps = λ g i h j. (records-tell TailStamp 0 (lastStamp v) c refl (t2 .0) g i h j) .1;
+        page-stamps = λ p h. page-tells v inUse PageNewest (lastStamp v) p (each-tells (pageAtMost v inUse PageNewest (lastStamp v)) (s .pages) (t3 .0) p h);
+        scan-stamps = λ j n. leb-true _ (lastStamp v) (every-tells (λ p. leb (p .stamp) (lastStamp v)) ps (t3 .1) j n);
+        scan-merges = λ j n. leb-true _ (mergesMade v) (every-tells (λ p. leb (p .merges) (mergesMade v)) ps (m .0) j n);
+        page-merges = λ p h. page-tells v waiting PageReplaced (mergesMade v) p (each-tells (pageAtMost v waiting PageReplaced (mergesMade v)) (s .pages) (m .1) p h);
+        open-differ = differ-tells (v Opens) (d .0);
+        scans-differ = λ i j h q. sym (numbers-at ps i) ∙ differ-tells (map (λ p. p .number) ps) (d .1) i j h (numbers-at ps i ∙ q ∙ sym (numbers-at ps j));
+        current-in = λ i h. (placed-tells s v i (each-tells (pagePlaced s v) (s .places) (a8 .0) i h)) .0;
+        current-state = λ i h. (placed-tells s v i (each-tells (pagePlaced s v) (s .places) (a8 .0) i h)) .1;
+        current-place = λ i h. (placed-tells s v i (each-tells (pagePlaced s v) (s .places) (a8 .0) i h)) .2;
+        lineages = λ p h q. leb-true _ _ (or-right (ltb (getD (v PageState) p 0) inUse) _ (le-ltb _ inUse q) (each-tells (lineageWithin s v) (s .pages) (a8 .1) p h));
+      }
+
+-- ---- and of a memory
+
+pub record UsableMemory (m : List ℕ) (ps : List Place) : Type 0 where
+  pub within : withinLimits (shapeIn (words m)) ≡ true
+  pub room : need (sizesIn (words m)) * 4 ≤ length m
+  pub places : mostScans ≤ length ps
+  pub facts : Usable (sizesIn (words m)) (view (sizesIn (words m)) (words m)) ps
+
+pub usable-tells : (m : List ℕ) (ps : List Place) → usable m ps ≡ true → UsableMemory m ps
+unfolding usable sizesIn
+usable-tells m ps e =
+    let s = sizesIn (words m) in
+    let a = and-true (leb measuresBytes (length m)) _ e in
+    let b = and-true _ _ (a .1) in
+    let c = and-true _ _ (b .1) in
+    let d = and-true _ _ (c .1) in
+    let r : need s * 4 ≤ length m = leb-true (need s * 4) (length m) (c .0) in
+    record {
+      within = b .0;
+      room = r;
+      places = leb-true mostScans (length ps) (d .0);
+      facts = facts-tell s (view s (words m)) ps (sized (shapeIn (words m)) (b .0)) (view-long s (words m) (omega (arith, length-words m))) (d .1);
+    }

@@ -1,0 +1,27 @@
+-- `facts::row_linked` meets its contract.
+use Prim.Native.Nat.{_/_}
+use native.Mathlib.Omega.{arith}
+use borrow.Author.Needs.{needs}
+use Rattle.facts.specs.Facts.{rowLinked}
+use Rattle.facts.proofs.row_linked.Statement.{statement}
+use Rattle.facts.proofs.row_linked.Tie as tie
+
+link-holds-requires : tie.Need-link-holds-requires
+link-holds-requires c κs =
+    let s = c .before .before .before in
+    let g = s .args .r / 64 in
+    (s .pre .0, (omega (arith, s .pre .0 .sized .rows-are), rw (c .before .read .ensures) (s .pre .0 .counted .records-in g)))
+
+returns : tie.Need-returns
+unfolding rowLinked
+returns c = rw (c .link-holds .ensures, c .before .read2 .ensures, c .before .before .read .ensures)
+
+pub row-linked-spec : {M : Type 1} → statement M
+row-linked-spec =
+    tie.close
+    (tie.spec
+    (λ c κs. search needs)
+    (λ c κs. search needs)
+    (λ c. search needs)
+    link-holds-requires
+    returns)

@@ -1,0 +1,158 @@
+-- The stored facts: document 01, "The stored facts are these: ..". One definition for each clause of that sentence, in its order and under its words, over
+-- the view of a memory and the list of open scans. A call answers 2 where one of them fails, and on nothing else: they speak of given rows, used tail
+-- records, current and waiting pages and open places alone, and what stands elsewhere may be anything.
+-- What a word counts as that no fact governs: a page's state 0 is free, 1 is current, any other waits; its place is taken modulo columns × ranges.
+use Prim.Native.Nat.{ℕ, zero, suc, _+_, _*_, _-_, _/_, _%_}
+use mathlib.Core.Bool.{Bool, true, cond, _&&_, _||_}
+use mathlib.Core.List.{List, map}
+use lib.Dec.{eqb, leb, ltb}
+use lib.ListN.{getD}
+use Rattle.terms.specs.Measures.{rangeRows, mostNumbers, mostScans}
+use Rattle.terms.specs.declared.Place.{Place}
+use Rattle.loops.specs.Search.{region, allBetween}
+use Rattle.layout.specs.declared.Sizes.{Sizes}
+use Rattle.layout.specs.declared.Region.{Region}
+use Rattle.layout.specs.declared.Region.the-variants.{Header, Opens, RowTransaction, RowStamp, RowLink, TailTransaction, TailRow, TailLink, TailStamp, Used, Current, PageState, PagePlace, PageReplaced, PageLineage, PageNewest}
+use Rattle.layout.specs.Regions.{rowsAt, transactionsAt, scansAt, stampAt, mergesAt}
+use Rattle.layout.specs.View.{View}
+use Rattle.scans.specs.Places.{openCount, everyOpen, differ}
+
+-- ---- the counts that a store keeps
+
+abbrev pub rowsGiven : View → ℕ
+rowsGiven v = getD (v Header) rowsAt 0
+
+abbrev pub transactionsGiven : View → ℕ
+transactionsGiven v = getD (v Header) transactionsAt 0
+
+abbrev pub scansGiven : View → ℕ
+scansGiven v = getD (v Header) scansAt 0
+
+abbrev pub lastStamp : View → ℕ
+lastStamp v = getD (v Header) stampAt 0
+
+abbrev pub mergesMade : View → ℕ
+mergesMade v = getD (v Header) mergesAt 0
+
+-- the records used of range g, and where its first one lies; record k, counted from 1, lies k - 1 after it
+abbrev pub used : View → ℕ → ℕ
+used v g = getD (v Used) g 0
+
+abbrev pub firstSlot : Sizes → ℕ → ℕ
+firstSlot s g = g * s .capacity
+
+-- ---- for all
+
+-- every number below n passes
+unfoldable pub each : ℕ → (ℕ → Bool) → Bool
+each zero f = true
+each (suc n) f = each n f && f n
+
+-- the words of region k of the given rows, and of the used tail records, are from low to high
+unfoldable pub rowsBetween : View → Region → ℕ → ℕ → Bool
+rowsBetween v k low high = allBetween low high (region (v k) 0 (rowsGiven v))
+
+unfoldable pub rangeBetween : Sizes → View → Region → ℕ → ℕ → ℕ → Bool
+rangeBetween s v k low high g = allBetween low high (region (v k) (firstSlot s g) (used v g))
+
+-- word k of page p is at most a number, unless the page's state is below one that counts
+unfoldable pub pageAtMost : View → ℕ → Region → ℕ → ℕ → Bool
+pageAtMost v least k most p = ltb (getD (v PageState) p 0) least || leb (getD (v k) p 0) most
+
+-- the states from which on a page is in use, and from which on it waits
+abbrev pub inUse : ℕ
+inUse = 1
+
+abbrev pub waiting : ℕ
+waiting = 2
+
+-- ---- "the stored measures lie within their limits and counts within the measures"
+-- (the measures are tested before there is a view: Usable)
+unfoldable pub storedWithin : Sizes → View → Bool
+storedWithin s v =
+    leb (rowsGiven v) (s .rows)
+    && (allBetween 0 (s .capacity) (v Used) && (leb (transactionsGiven v) mostNumbers && leb (scansGiven v) mostNumbers))
+
+unfoldable pub countsWithin : Sizes → View → List Place → Bool
+countsWithin s v ps = storedWithin s v && leb (openCount ps) mostScans
+
+-- ---- "a used tail record names a given row of its range"
+unfoldable pub rowNamed : Sizes → View → ℕ → ℕ → Bool
+rowNamed s v g i = let r = getD (v TailRow) (firstSlot s g + i) 0 in ltb r (rowsGiven v) && eqb (r / rangeRows) g
+
+unfoldable pub rangeNamesRows : Sizes → View → ℕ → Bool
+rangeNamesRows s v g = each (used v g) (rowNamed s v g)
+
+unfoldable pub recordsNameRows : Sizes → View → Bool
+recordsNameRows s v = each (s .ranges) (rangeNamesRows s v)
+
+-- ---- "open and recorded numbers are among those given"
+unfoldable pub numbersGiven : Sizes → View → List Place → Bool
+numbersGiven s v ps =
+    rowsBetween v RowTransaction 1 (transactionsGiven v)
+    && (each (s .ranges) (rangeBetween s v TailTransaction 1 (transactionsGiven v))
+    && (allBetween 0 (transactionsGiven v) (v Opens) && everyOpen (λ p. leb (p .number) (scansGiven v)) ps))
+
+-- ---- "a link of a row or tail record is 0 or a used record of the same row, and of a tail record a lower one"
+-- link of row r, in range g: at most the number `most`
+unfoldable pub linkHolds : Sizes → View → ℕ → ℕ → ℕ → ℕ → Bool
+linkHolds s v g most r link = eqb link 0 || (leb link most && eqb (getD (v TailRow) (firstSlot s g + (link - 1)) 0) r)
+
+unfoldable pub rowLinked : Sizes → View → ℕ → Bool
+rowLinked s v r = linkHolds s v (r / rangeRows) (used v (r / rangeRows)) r (getD (v RowLink) r 0)
+
+-- the record after i others: lower numbers are those up to i
+unfoldable pub recordLinked : Sizes → View → ℕ → ℕ → Bool
+recordLinked s v g i =
+    linkHolds s v g i (getD (v TailRow) (firstSlot s g + i) 0) (getD (v TailLink) (firstSlot s g + i) 0)
+
+unfoldable pub rangeLinked : Sizes → View → ℕ → Bool
+rangeLinked s v g = each (used v g) (recordLinked s v g)
+
+unfoldable pub linksHold : Sizes → View → Bool
+linksHold s v = each (rowsGiven v) (rowLinked s v) && each (s .ranges) (rangeLinked s v)
+
+-- ---- "no recorded stamp, an open scan's included, exceeds the last commit's"
+unfoldable pub stampsWithin : Sizes → View → List Place → Bool
+stampsWithin s v ps =
+    rowsBetween v RowStamp 0 (lastStamp v)
+    && (each (s .ranges) (rangeBetween s v TailStamp 0 (lastStamp v))
+    && (each (s .pages) (pageAtMost v inUse PageNewest (lastStamp v)) && everyOpen (λ p. leb (p .stamp) (lastStamp v)) ps))
+
+-- ---- "no scan's or waiting page's merge count exceeds the merges made"
+unfoldable pub mergesWithin : Sizes → View → List Place → Bool
+mergesWithin s v ps =
+    everyOpen (λ p. leb (p .merges) (mergesMade v)) ps && each (s .pages) (pageAtMost v waiting PageReplaced (mergesMade v))
+
+-- ---- "open numbers differ, each within its own series"
+unfoldable pub openDiffer : View → List Place → Bool
+openDiffer v ps = differ (v Opens) && differ (map (λ p. p .number) ps)
+
+-- ---- "current, waiting and free pages are distinct and in the pool"
+-- A page's state says which of the three it is, so they are distinct. A current page has the place whose current page it is, so that no two places
+-- have one page; and it is in the pool.
+unfoldable pub pagePlaced : Sizes → View → ℕ → Bool
+pagePlaced s v i =
+    let p = getD (v Current) i 0 in ltb p (s .pages) && (eqb (getD (v PageState) p 0) 1 && eqb (getD (v PagePlace) p 0) i)
+
+unfoldable pub pagesPlaced : Sizes → View → Bool
+pagesPlaced s v = each (s .places) (pagePlaced s v)
+
+-- ---- "a page's lineage is not above the records used"
+abbrev pub pageRange : Sizes → View → ℕ → ℕ
+pageRange s v p = getD (v PagePlace) p 0 % s .places / s .columns
+
+unfoldable pub lineageWithin : Sizes → View → ℕ → Bool
+lineageWithin s v p = ltb (getD (v PageState) p 0) inUse || leb (getD (v PageLineage) p 0) (used v (pageRange s v p))
+
+unfoldable pub lineagesWithin : Sizes → View → Bool
+lineagesWithin s v = each (s .pages) (lineageWithin s v)
+
+-- ---- all of them, in that order
+unfoldable pub factsHold : Sizes → View → List Place → Bool
+factsHold s v ps =
+    countsWithin s v ps
+    && (recordsNameRows s v
+    && (numbersGiven s v ps
+    && (linksHold s v
+    && (stampsWithin s v ps && (mergesWithin s v ps && (openDiffer v ps && (pagesPlaced s v && lineagesWithin s v)))))))

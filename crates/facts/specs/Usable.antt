@@ -1,0 +1,38 @@
+-- When a lent memory with a list of open scans is usable, for any bytes and any list: document 01, "2 Memory: shorter than the shape needs, a scan list
+-- under 16 places, or a stored fact fails". The shape is read from the memory, so its measures are tested before anything is computed from them, and a
+-- memory that is too short to hold them is too short.
+use Prim.Native.Nat.{ℕ, _*_}
+use mathlib.Core.Bool.{Bool, cond, _&&_}
+use mathlib.Core.List.{List}
+use lib.Dec.{leb}
+use lib.ListN.{length, getD}
+use Rattle.terms.specs.Measures.{Shape, withinLimits, mostScans}
+use Rattle.terms.specs.declared.Place.{Place}
+use Rattle.words.specs.Words.{words}
+use Rattle.layout.specs.declared.Sizes.{Sizes}
+use Rattle.layout.specs.Regions.{need, columnsAt, rangesAt, capacityAt, sparesAt}
+use Rattle.layout.specs.Sizes.{shapeOf, sizesOf}
+use Rattle.layout.specs.View.{View, view}
+use Rattle.facts.specs.Facts.{factsHold}
+use Rattle.facts.specs.declared.Checked.{Checked}
+use Rattle.facts.specs.declared.Checked.the-variants.{Fit, Unfit}
+
+-- the bytes of the four measures
+abbrev pub measuresBytes : ℕ
+measuresBytes = 16
+
+unfoldable pub shapeIn : List ℕ → Shape
+shapeIn ws = shapeOf (getD ws columnsAt 0) (getD ws rangesAt 0) (getD ws capacityAt 0) (getD ws sparesAt 0)
+
+unfoldable pub sizesIn : List ℕ → Sizes
+sizesIn ws = sizesOf (shapeIn ws)
+
+unfoldable pub usable : List ℕ → List Place → Bool
+usable m ps =
+    leb measuresBytes (length m)
+    && (withinLimits (shapeIn (words m))
+    && (leb (need (sizesIn (words m)) * 4) (length m)
+    && (leb mostScans (length ps) && factsHold (sizesIn (words m)) (view (sizesIn (words m)) (words m)) ps)))
+
+unfoldable pub checked : List ℕ → List Place → Checked
+checked m ps = cond (usable m ps) (Fit (sizesIn (words m))) Unfit

@@ -1,0 +1,4 @@
+-- Laws of a store just made.
+pub mod Blank
+pub mod Answers
+pub mod Usable

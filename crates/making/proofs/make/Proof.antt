@@ -1,0 +1,99 @@
+-- `making::make` meets its contract. Each answer follows from the tests that led to it; `lent` carries the part that was lent to the whole memory.
+use native.Mathlib.Omega.{arith}
+use borrow.Author.Needs.{needs}
+use Prim.Native.Nat.{_*_, _^_, _≤_, _<_}
+use mathlib.Core.Path.{_≡_, sym, ap, _∙_}
+use mathlib.Core.Bool.{true}
+use lib.ListN.{length, take}
+use lib.Seq.{length-take-le}
+use borrow.Author.Tests.{not-true, not-false}
+use Rattle.terms.specs.Measures.{Shape, withinLimits}
+use Rattle.layout.specs.Regions.{need}
+use Rattle.layout.specs.Sizes.{shapeOf, sizesOf}
+use Rattle.layout.specs.View.{View}
+use Rattle.layout.proofs.Lay.{lent}
+use Rattle.layout.proofs.Limits.{need-small}
+use Rattle.facts.specs.Tests.{Sized}
+use Rattle.facts.proofs.Ready.{sized}
+use Rattle.making.specs.Made.{madeView, made}
+use Rattle.making.proofs.Answers.{out-of-limits, no-room, few-places, laid}
+use Rattle.making.proofs.make.Statement.{statement}
+use Rattle.making.proofs.make.Tie as tie
+
+abbrev shape : tie.Start → Shape
+shape c = shapeOf (c .args .columns) (c .args .ranges) (c .args .capacity) (c .args .spares)
+
+within : (c : tie.Else1) → withinLimits (shape (c .before .before .before)) ≡ true
+within c = sym (c .before .within-limits .ensures) ∙ not-false (c .before .within-limits .result) (c .if1 .left)
+
+small : (c : tie.After-sizes-of) → need (c .sizes-of .result) < 2 ^ 24
+small c = rw (c .sizes-of .ensures) (need-small (shape (c .before .before .before .before)) (within (c .before)))
+
+-- the bytes needed, as the test of the length has them
+bytes : (c : tie.After-words-needed) → c .words-needed .result * 4 ≡ need (sizesOf (shape (c .before .before .before .before .before))) * 4
+bytes c = rw (c .words-needed .ensures, c .before .sizes-of .ensures)
+
+returns : tie.Need-returns
+returns c = out-of-limits (shape (c .before .before .before)) _ _ (sym (c .before .within-limits .ensures) ∙ not-true (c .before .within-limits .result) (c .if1 .taken))
+
+sizes-of-requires : tie.Need-sizes-of-requires
+sizes-of-requires c κs = within c
+
+words-needed-requires : tie.Need-words-needed-requires
+words-needed-requires c κs = omega (arith, small c)
+
+mul-n : tie.Need-mul-n
+mul-n c = omega (arith, small (c .before), c .words-needed .ensures)
+
+returns-2 : tie.Need-returns-2
+returns-2 c = no-room (shape (c .before .before .before .before .before .before)) _ _ (within (c .before .before .before)) (rw (bytes (c .before)) at (c .if2 .taken))
+
+returns-3 : tie.Need-returns-3
+returns-3 c = few-places (shape (c .before .before .before .before .before .before .before)) _ _ (within (c .before .before .before .before)) (rw (bytes (c .before .before)) at (c .before .if2 .left)) (c .if3 .taken)
+
+-- the part is as long as it is to be
+part : (c : tie.Else2) → length (take (c .before .words-needed .result * 4) (c .before .before .before .before .before .before .args .mem .now)) ≡ c .before .words-needed .result * 4
+part c = length-take-le (c .before .words-needed .result * 4) (c .before .before .before .before .before .before .args .mem .now) (c .if2 .left)
+
+slice-aggregate-lay-out : tie.Need-slice-aggregate-lay-out
+slice-aggregate-lay-out c = sym (part (c .before .before))
+
+lay-out-requires : tie.Need-lay-out-requires
+lay-out-requires c κs =
+    let n = c .before .before .before in
+    let z = n .before in
+    let w = within (z .before) in
+    let k : Sized (z .sizes-of .result) = rw (z .sizes-of .ensures) (sized (shape (z .before .before .before .before)) w) in
+    ((omega (arith, part (c .before .before), n .words-needed .ensures), small z), (z .sizes-of .ensures, k .places-in, omega (arith, k .pages-to)))
+
+returns-4 : tie.Need-returns-4
+returns-4 c =
+    let call = c .before .before in
+    let n = call .before .before .before .before in
+    let z = n .before in
+    let start = z .before .before .before .before in
+    let m = start .args .mem .now in
+    let v = madeView (shape start) in
+    let room : need (z .sizes-of .result) * 4 ≤ length m = rw (n .words-needed .ensures) at (call .before .before .before .if2 .left) in
+    laid (shape start) _ m (within (z .before)) (rw (z .sizes-of .ensures) at room) (call .before .before .if3 .left) _
+    (rw (z .sizes-of .ensures)
+    at
+    (lent (z .sizes-of .result) (n .words-needed .result * 4) m (call .lay-out .last .0) (λ u. v) (call .lay-out .ensures) (call .lay-out .kept .0)
+    (λ k. omega (arith, c .slice-known2 .given k)) (omega (arith, n .words-needed .ensures)) room))
+
+pub make-spec : {M : Type 1} → statement M
+make-spec =
+    tie.close
+    (tie.spec
+    (λ c κs. search needs)
+    returns
+    sizes-of-requires
+    words-needed-requires
+    mul-n
+    returns-2
+    returns-3
+    (λ c. search needs)
+    slice-aggregate-lay-out
+    lay-out-requires
+    (λ c. search needs)
+    returns-4)

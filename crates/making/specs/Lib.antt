@@ -1,0 +1,2 @@
+-- What making a store does.
+pub mod Made

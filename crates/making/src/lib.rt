@@ -1,0 +1,97 @@
+// Making a store in a lent memory: the lengths are tested, and then every word that the shape needs is written, so that nothing of what the memory held before
+// is left in it.
+use layout::HEADER_CAPACITY;
+use layout::HEADER_COLUMNS;
+use layout::HEADER_RANGES;
+use layout::HEADER_SPARES;
+use layout::Region;
+use layout::Sizes;
+use layout::sizes_of;
+use layout::within_limits;
+use layout::words_needed;
+use loops::fill;
+use regions::count_in;
+use regions::fill_in;
+use regions::write;
+use scans::MOST_SCANS;
+use terms::Answer;
+use terms::Refusal;
+ghost use mathlib.Core.Path.{_≡_};
+ghost use Prim.Native.Nat.{_*_, _≤_, _<_, _^_};
+ghost use lib.ListN.{length};
+ghost use Rattle.words.specs.Words.{words};
+ghost use Rattle.layout.specs.Regions.{need, columnsAt, rangesAt, capacityAt, sparesAt};
+ghost use Rattle.layout.specs.declared.Region.the-variants.{Header};
+ghost use Rattle.layout.specs.Sizes.{shapeOf, sizesOf};
+ghost use Rattle.layout.specs.View.{view, put};
+ghost use Rattle.making.specs.Made.{blankView, placedView, madeView, made};
+
+const PAGE_CURRENT: u32 = 1;
+
+// Every word that the sizes need becomes 0.
+fn clear(mem: &mut [u8], s: Sizes)
+    requires { ⌜ (need s * 4 ≤ length (now mem)) × (need s < 2 ^ 24) ⌝ }
+    ensures { λ _. ⌜ view s (words (now (mem .exit))) ≡ blankView s ⌝ }
+{
+    let n = words_needed(s);
+    fill(mem, 0, n, 0);
+}
+
+// The first pages become current, one for each place.
+fn place_pages(mem: &mut [u8], s: Sizes)
+    requires { ⌜ (need s * 4 ≤ length (now mem)) × (s .places ≤ s .pages) × (s .pages < 2 ^ 24) ⌝ }
+    requires { ⌜ view s (words (now mem)) ≡ blankView s ⌝ }
+    ensures { λ _. ⌜ view s (words (now (mem .exit))) ≡ placedView s ⌝ }
+{
+    let n = s.places;
+    fill_in(mem, s, Region::PageState, 0, n, PAGE_CURRENT);
+    count_in(mem, s, Region::PagePlace, 0, n);
+    count_in(mem, s, Region::Current, 0, n);
+}
+
+fn put_measures(mem: &mut [u8], s: Sizes, columns: u32, ranges: u32, capacity: u32, spares: u32)
+    requires { ⌜ need s * 4 ≤ length (now mem) ⌝ }
+    ensures { λ _. ⌜ view s (words (now (mem .exit))) ≡ put Header columnsAt columns (put Header rangesAt ranges (put Header capacityAt capacity (put Header sparesAt spares (view s (words (now (mem .entry))))))) ⌝ }
+{
+    write(mem, s, Region::Header, HEADER_SPARES, spares);
+    write(mem, s, Region::Header, HEADER_CAPACITY, capacity);
+    write(mem, s, Region::Header, HEADER_RANGES, ranges);
+    write(mem, s, Region::Header, HEADER_COLUMNS, columns);
+}
+
+// The needed part of a memory, made.
+fn lay_out(mem: &mut [u8], s: Sizes, columns: u32, ranges: u32, capacity: u32, spares: u32)
+    requires { ⌜ (need s * 4 ≤ length (now mem)) × (need s < 2 ^ 24) ⌝ }
+    requires { ⌜ (s ≡ sizesOf (shapeOf columns ranges capacity spares)) × (s .places ≤ s .pages) × (s .pages < 2 ^ 24) ⌝ }
+    ensures { λ _. ⌜ view s (words (now (mem .exit))) ≡ madeView (shapeOf columns ranges capacity spares) ⌝ }
+{
+    clear(mem, s);
+    place_pages(mem, s);
+    put_measures(mem, s, columns, ranges, capacity, spares);
+}
+
+// A store of a shape, in a memory and with a scan list of so many places.
+pub fn make(
+    mem: &mut [u8],
+    length: usize,
+    columns: u32,
+    ranges: u32,
+    capacity: u32,
+    spares: u32,
+) -> Answer
+    ensures { λ r. ⌜ (r, now (mem .exit)) ≡ made (shapeOf columns ranges capacity spares) length (now (mem .entry)) ⌝ }
+{
+    if !within_limits(columns, ranges, capacity, spares) {
+        return Answer::Refused(Refusal::Shape);
+    }
+    let s = sizes_of(columns, ranges, capacity, spares);
+    let n = words_needed(s) * 4;
+    if mem.len() < n {
+        return Answer::Refused(Refusal::Memory);
+    }
+    if length < MOST_SCANS {
+        return Answer::Refused(Refusal::Memory);
+    }
+    lay_out(&mut mem[..n], s, columns, ranges, capacity, spares);
+    Answer::Done
+}

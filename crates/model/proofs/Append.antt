@@ -1,0 +1,189 @@
+-- One tail record more: the records of its range grow by it, and those of the other ranges stay.
+use mathlib.Core.Path.{_≡_, refl, sym, _∙_, ap, subst}
+use mathlib.Core.Logic.{_≢_, _⊎_, inl, inr}
+use mathlib.Core.Bool.{Bool, true, false, not, cond, _&&_, _||_}
+use mathlib.Core.List.{List, [], _∷_, _++_}
+use Prim.Native.Nat.{ℕ, zero, suc, _+_, _*_, _^_, _≤_, _<_}
+use native.Mathlib.Omega.{arith}
+use native.Mathlib.Nat.{le-refl, le-trans, mul-le-mul-right, suc-mul}
+use native.Mathlib.Decide.{ℕ-discrete, decLt}
+use lib.Dec.{T, eqb, eqb→eq}
+use lib.ListN.{length, getD, set, take, length-append, List·getD-append}
+use lib.Seq.{getD-set-same, getD-set-other, getD-append-seam}
+use lib.IntN.{ℤ, pos}
+use Rattle.terms.specs.Measures.{Shape, rangeRows}
+use Rattle.history.specs.History.{Record, State, Content, original, setting, ending, rangeOf}
+use Rattle.history.proofs.Lists.{eqb-other}
+use Rattle.history.proofs.Links.{noRecord, lastOf, last-of-append}
+use Rattle.loops.specs.Change.{changed}
+use Rattle.words.proofs.Words.{Fit}
+use Rattle.loops.proofs.Change.{changed-length, changed-outside, changed-at, changed-fit}
+use Rattle.layout.specs.View.{View, renew, put}
+use Rattle.layout.specs.declared.Region.the-variants.{RowLink, TailTransaction, TailRow, TailKind, TailMask, TailLink, TailState, TailStamp, TailValues, Used}
+use Rattle.model.specs.Stored.{RecordWords, rowIn, recordIn, valueIn, usedIn, slot, asOpen}
+use Rattle.model.specs.Writing.{nextSlot, appended, filledIn}
+use Rattle.model.proofs.Lists.{part-in, parts-apart, same-part, is-equal, eqb-same}
+use Rattle.model.proofs.Represents.{ContentIs, RecordIs, TailIs, TailsFor, Whole}
+use Rattle.model.proofs.Views.{renew-whole, put-whole}
+use Rattle.model.proofs.Heads.{slot-is}
+
+-- ---- one list of records
+pub content-values : (C : ℕ) (y : Content) (kind mask : ℕ) (value value′ : ℕ → ℕ) → ((c : ℕ) → c < C → value′ c ≡ value c) → ContentIs C y kind mask value → ContentIs C y kind mask value′
+content-values C (original cs vs) kind mask value value′ e o = (o .0, o .1, λ c b t. rw (e c b) (o .2 c b t))
+content-values C (setting m vs) kind mask value value′ e o = (o .0, o .1, λ c b t. rw (e c b) (o .2 c b t))
+content-values C ending kind mask value value′ e o = o
+
+record-same : {C : ℕ} {st : ℕ → State} {y : Record} {x x′ : RecordWords} {value value′ : ℕ → ℕ} → x′ ≡ x → ((c : ℕ) → c < C → value′ c ≡ value c) → RecordIs C st y x value
+    → RecordIs C st y x′ value′
+record-same {C} {y = y} {value = value} {value′ = value′} e f o =
+    rw e record { transaction = o .transaction; row = o .row; state = o .state; stamp = o .stamp; content = content-values C (y .content) _ _ value value′ f (o .content) }
+
+tail-same : {C : ℕ} {st : ℕ → State} {recs : List Record} {used used′ : ℕ} {rec rec′ : ℕ → RecordWords} {value value′ : ℕ → ℕ → ℕ} → used′ ≡ used
+    → ((k : ℕ) → k < length recs → rec′ k ≡ rec k) → ((k c : ℕ) → k < length recs → c < C → value′ k c ≡ value k c) → TailIs C st recs used rec value → TailIs C st recs used′ rec′ value′
+tail-same e f g o =
+    record {
+      used-all = e ∙ o .used-all;
+      each = λ k u. record-same (f k u) (λ c b. g k c u b) (o .each k u);
+      links = λ k u. rw (f k u) (o .links k u);
+    }
+
+tail-more : {C : ℕ} {st : ℕ → State} {recs : List Record} {used used′ : ℕ} {rec rec′ : ℕ → RecordWords} {value value′ : ℕ → ℕ → ℕ} (y : Record) → used′ ≡ suc used
+    → ((k : ℕ) → k < length recs → rec′ k ≡ rec k) → ((k c : ℕ) → k < length recs → c < C → value′ k c ≡ value k c)
+    → RecordIs C st y (rec′ (length recs)) (value′ (length recs)) → (rec′ (length recs)) .link ≡ lastOf recs (y .row) (length recs) → TailIs C st recs used rec value
+    → TailIs C st (recs ++ y ∷ []) used′ rec′ value′
+tail-more {C} {st} {recs} {used} {used′} {rec} {rec′} {value} {value′} y e f g new link o =
+    record {
+      used-all = e ∙ ap suc (o .used-all) ∙ sym (simp length-append (omega arith));
+      each = λ k u. each k (ℕ-discrete k (length recs)) (simp length-append at u);
+      links = λ k u. links k (ℕ-discrete k (length recs)) (simp length-append at u);
+    }
+  where
+    each : (k : ℕ) → Dec (k ≡ length recs) → k < length recs + 1 → RecordIs C st (getD (recs ++ y ∷ []) k noRecord) (rec′ k) (value′ k)
+    each k (yes q) u = rw (q, getD-append-seam) new
+    each k (no n) u =
+        let b : k < length recs = omega (arith, n) in
+        rw (List·getD-append recs (y ∷ []) noRecord k b) (record-same (f k b) (λ c d. g k c b d) (o .each k b))
+
+    links : (k : ℕ) → Dec (k ≡ length recs) → k < length recs + 1 → (rec′ k) .link ≡ lastOf (recs ++ y ∷ []) ((getD (recs ++ y ∷ []) k noRecord) .row) k
+    links k (yes q) u = rw (q, getD-append-seam, last-of-append recs (y ∷ []) (y .row) (length recs) (le-refl _)) link
+    links k (no n) u =
+        let b : k < length recs = omega (arith, n) in
+        rw (List·getD-append recs (y ∷ []) noRecord k b, last-of-append recs (y ∷ []) ((getD recs k noRecord) .row) k (omega arith), f k b) (o .links k b)
+
+-- ---- every range
+module _ (S : Shape) (v w : View) (st : ℕ → State) (list list′ : ℕ → List Record) (g : ℕ) (y : Record) (inside : g < S .ranges)
+    (few : (a : ℕ) → length (list a) ≤ S .capacity) (room : length (list g) < S .capacity)
+    (grows : (a : ℕ) → list′ a ≡ cond (eqb g a) (list a ++ y ∷ []) (list a))
+    (used-here : usedIn w g ≡ suc (usedIn v g)) (used-there : (a : ℕ) → a ≢ g → usedIn w a ≡ usedIn v a)
+    (there : (j : ℕ) → j ≢ g * S .capacity + length (list g) → recordIn w j ≡ recordIn v j)
+    (value-there : (j c : ℕ) → j ≢ g * S .capacity + length (list g) → c < S .columns → valueIn S w j c ≡ valueIn S v j c)
+    (new : RecordIs (S .columns) st y (recordIn w (g * S .capacity + length (list g))) (valueIn S w (g * S .capacity + length (list g))))
+    (link : (recordIn w (g * S .capacity + length (list g))) .link ≡ lastOf (list g) (y .row) (length (list g))) where
+  pub tails-more : TailsFor S st list v → TailsFor S st list′ w
+  tails-more o a b = go (ℕ-discrete g a)
+    where
+      go : Dec (g ≡ a) → TailIs (S .columns) st (list′ a) (usedIn w a) (λ k. recordIn w (a * S .capacity + k)) (λ k. valueIn S w (a * S .capacity + k))
+      go (yes e) =
+          rw (← e, grows g, eqb-same g)
+          (tail-more y used-here (λ k u. there _ (λ z. omega arith)) (λ k c u d. value-there _ c (λ z. omega arith) d) new link (o g inside))
+      go (no n) =
+          rw (grows a, eqb-other g a n)
+          (tail-same (used-there a (λ z. n (sym z))) (λ k u. there _ (λ z. n (sym (apart k u z)))) (λ k c u d. value-there _ c (λ z. n (sym (apart k u z))) d) (o a b))
+        where
+          apart : (k : ℕ) → k < length (list a) → a * S .capacity + k ≡ g * S .capacity + length (list g) → a ≡ g
+          apart k u z = same-part (S .capacity) a g k (length (list g)) (le-trans u (few a)) room z .0
+
+-- ---- the words of an appended record
+module _ (S : Shape) (t r kind mask : ℕ) (v : View) (o : Whole S v) (inside : rangeOf r < S .ranges) (room : usedIn v (rangeOf r) < S .capacity) where
+  abbrev slot′ : ℕ
+  slot′ = rangeOf r * S .capacity + usedIn v (rangeOf r)
+
+  pub slot-next : nextSlot S v (rangeOf r) ≡ slot′
+  unfolding nextSlot
+  slot-next = ap (slot S (rangeOf r)) (omega arith) ∙ slot-is S (rangeOf r) (usedIn v (rangeOf r))
+
+  pub slot-in : slot′ < S .ranges * S .capacity
+  slot-in = part-in (S .ranges) (S .capacity) (rangeOf r) (usedIn v (rangeOf r)) inside room
+
+  here-word : (l : List ℕ) (x : ℕ) → length l ≡ S .ranges * S .capacity → getD (set l (nextSlot S v (rangeOf r)) x) slot′ 0 ≡ x
+  here-word l x e = rw slot-next (getD-set-same l slot′ x 0 (omega (arith, slot-in)))
+
+  there-word : (l : List ℕ) (x j : ℕ) → j ≢ slot′ → getD (set l (nextSlot S v (rangeOf r)) x) j 0 ≡ getD l j 0
+  there-word l x j n = rw slot-next (getD-set-other l slot′ j x 0 n)
+
+  pub appended-here : recordIn (appended S t r kind mask v) slot′
+      ≡ record { transaction = t; row = r; kind = kind; mask = mask; link = (rowIn v r) .link; state = asOpen; stamp = 0 }
+  unfolding appended put renew recordIn
+  appended-here =
+      λ i. record {
+        transaction = here-word (v TailTransaction) t (o .long TailTransaction) i;
+        row = here-word (v TailRow) r (o .long TailRow) i;
+        kind = here-word (v TailKind) kind (o .long TailKind) i;
+        mask = here-word (v TailMask) mask (o .long TailMask) i;
+        link = here-word (v TailLink) ((rowIn v r) .link) (o .long TailLink) i;
+        state = here-word (v TailState) asOpen (o .long TailState) i;
+        stamp = here-word (v TailStamp) 0 (o .long TailStamp) i;
+      }
+
+  pub appended-there : (j : ℕ) → j ≢ slot′ → recordIn (appended S t r kind mask v) j ≡ recordIn v j
+  unfolding appended put renew recordIn
+  appended-there j n =
+      λ i. record {
+        transaction = there-word (v TailTransaction) t j n i;
+        row = there-word (v TailRow) r j n i;
+        kind = there-word (v TailKind) kind j n i;
+        mask = there-word (v TailMask) mask j n i;
+        link = there-word (v TailLink) ((rowIn v r) .link) j n i;
+        state = there-word (v TailState) asOpen j n i;
+        stamp = there-word (v TailStamp) 0 j n i;
+      }
+
+  pub used-here : usedIn (appended S t r kind mask v) (rangeOf r) ≡ suc (usedIn v (rangeOf r))
+  unfolding appended put renew
+  used-here = getD-set-same (v Used) (rangeOf r) _ 0 (omega (arith, o .long Used)) ∙ omega arith
+
+  pub used-there : (a : ℕ) → a ≢ rangeOf r → usedIn (appended S t r kind mask v) a ≡ usedIn v a
+  unfolding appended put renew
+  used-there a n = getD-set-other (v Used) (rangeOf r) a _ 0 n
+
+  pub link-here : r < S .ranges * rangeRows → getD (appended S t r kind mask v RowLink) r 0 ≡ suc (usedIn v (rangeOf r))
+  unfolding appended put renew
+  link-here b = getD-set-same (v RowLink) r _ 0 (omega (arith, o .long RowLink)) ∙ omega arith
+
+  pub link-there : (i : ℕ) → i ≢ r → getD (appended S t r kind mask v RowLink) i 0 ≡ getD (v RowLink) i 0
+  unfolding appended put renew
+  link-there i n = getD-set-other (v RowLink) r i _ 0 n
+
+  link-fits : (rowIn v r) .link < 2 ^ 32
+  unfolding rowIn
+  link-fits = o .fits RowLink r
+
+  pub appended-whole : t < 2 ^ 32 → r < 2 ^ 32 → kind < 2 ^ 32 → mask < 2 ^ 32 → S .capacity < 2 ^ 31 → Whole S (appended S t r kind mask v)
+  unfolding appended
+  appended-whole a b c d e =
+      put-whole RowLink r _ (omega arith)
+      (put-whole Used _ _ (omega arith)
+      (put-whole TailStamp _ 0 (omega arith)
+      (put-whole TailState _ 0 (omega arith)
+      (put-whole TailLink _ _ link-fits (put-whole TailMask _ mask d (put-whole TailKind _ kind c (put-whole TailRow _ r b (put-whole TailTransaction _ t a o))))))))
+
+-- ---- the words of its columns
+module _ (S : Shape) (s : ℕ) (f : ℕ → ℕ) (v : View) (o : Whole S v) (inside : s < S .ranges * S .capacity) where
+  pub filled-here : (c : ℕ) → c < S .columns → valueIn S (filledIn S s f v) s c ≡ f c
+  unfolding filledIn renew valueIn
+  filled-here c b =
+      changed-at (λ c w. f c) (s * S .columns) (v TailValues) (S .columns) c (omega (arith, o .long TailValues, mul-le-mul-right (S .columns) inside, suc-mul s (S .columns))) b
+
+  pub filled-there : (j c : ℕ) → j ≢ s → c < S .columns → valueIn S (filledIn S s f v) j c ≡ valueIn S v j c
+  unfolding filledIn renew valueIn
+  filled-there j c n b = changed-outside (λ c w. f c) (s * S .columns) (v TailValues) (S .columns) (j * S .columns + c) (side (decLt j s))
+    where
+      side : Dec (j < s) → (j * S .columns + c < s * S .columns) ⊎ (s * S .columns + S .columns ≤ j * S .columns + c)
+      side (yes u) = inl (omega (arith, mul-le-mul-right (S .columns) u, suc-mul j (S .columns)))
+      side (no u) = let d : suc s ≤ j = omega (arith, u, n) in inr (omega (arith, mul-le-mul-right (S .columns) d, suc-mul s (S .columns)))
+
+  pub filled-whole : ((c : ℕ) → f c < 2 ^ 32) → Whole S (filledIn S s f v)
+  unfolding filledIn
+  filled-whole fit =
+      renew-whole TailValues _ (changed-length (λ c w. f c) (s * S .columns) (v TailValues) (S .columns) ∙ o .long TailValues)
+      (changed-fit (λ c w. f c) (s * S .columns) (S .columns) (v TailValues) (λ i x b d. fit i) (o .fits TailValues)) o

@@ -1,0 +1,421 @@
+-- One call of every kind: the store's tests have the history's outcome, an accepted call has the history's answer, and the relation is kept.
+use mathlib.Core.Path.{_≡_, refl, sym, _∙_, ap, ap₂, subst}
+use mathlib.Core.Logic.{_≢_}
+use mathlib.Core.Bool.{Bool, true, false, not, cond, _&&_, _||_}
+use mathlib.Core.List.{List, [], _∷_, _++_}
+use Prim.Native.Nat.{ℕ, zero, suc, _+_, _*_, _-_, _^_, _≤_, _<_}
+use native.Mathlib.Omega.{arith}
+use native.Mathlib.Nat.{le-refl, le-trans, mul-le-mul}
+use lib.Dec.{T, leb, ltb, eqb, eqb→eq, nleb→lt, nltb→le}
+use lib.ListN.{length, getD, take, length-append}
+use lib.IntN.{ℤ, pos, _+ℤ_, +ℤ-assoc, +ℤ-idl, +ℤ-idr}
+use mir.Syntax.{w32}
+use mir.Val.{toZ}
+use Rattle.terms.specs.Measures.{Shape, rangeRows, mostNumbers, mostTransactions, mostScans}
+use Rattle.terms.specs.declared.Refusal.{Refusal}
+use Rattle.terms.specs.declared.Answer.{Answer}
+use Rattle.history.specs.History as H
+use Rattle.history.specs.History.{Call, begin, insert, update, delete, commit, abort, latest, readAt, ownRead, openScan, scanRead, sum, close, merge, release, pageCell, lineage, History, Row, Record, State, active, Test, Verdict, accept, refuse, verdict, tests, reply, effect, answer, next, answerIf, nextIf, any, keep, count, upTo, total, isActive, stateOf, rowAt, rangeOf, recordsOf, mergedThrough, seenAt, seenBy, ended, visible, versionOf, read, scanAt, inserted, lastSetting, cellValue, updateRecords, deleteRecords, notActive, notRunning, notGiven, noColumn, noRange, held, gone, lacksRecords, notLater, later, outOfReach, anyActive, noPage}
+use Rattle.history.proofs.Lists.{All, all-map, all-at, all-append, keep-append, any-agree, is-true, is-false, not-not, neither, parts, eqb-other}
+use Rattle.history.proofs.Accepted.{Passed, passed}
+use Rattle.history.proofs.Steps.{Step, step, active-is, New, Made, by-update, by-delete, made-new}
+use Rattle.history.proofs.Ranges.{last-agree}
+use Rattle.history.proofs.Merges.{merges-most}
+use Rattle.history.proofs.Pages.{cellThrough, cell-is}
+use Rattle.history.proofs.Past.{Past, past-next}
+use Rattle.layout.specs.View.{View}
+use Rattle.layout.specs.declared.Region.the-variants.{Opens, Changes}
+use Rattle.terms.specs.declared.Place.{Place}
+use Rattle.model.specs.Stored.{pageIn, cellIn, currentIn, usedIn, headerIn, within, rowsGiven, transactionsGiven, scansGiven, lastStamp, mergesMade, bears, place, openPlace, scanPlace, pagesOf}
+use Rattle.model.specs.Reading.{readIn, readCurrent, ownChanges, wordIn, visibleIn, scanPage, Tally, tally, sumIn}
+use Rattle.model.specs.Writing.{recordsWanted}
+use Rattle.model.specs.Calls.{testsIn, replyIn, actIn, placesAfter, viewIf, placesIf, say, viewNext, placesNext, notOpenIn, noScanIn, notGivenIn, lacksIn, notLaterIn, laterIn, outOfReachIn, Typed}
+use Rattle.model.proofs.Lists.{clash}
+use Rattle.model.proofs.Represents.{everyRow, CurrentIs, ScanPageIs, Unchanged, NotedIs, scanAs, Represents, Small, Known}
+use Rattle.model.proofs.Transactions.{opens-is, opens-full, open-there, begin-kept, commit-kept, abort-kept}
+use Rattle.model.proofs.Insert.{insert-kept}
+use Rattle.model.proofs.Heads.{in-range, SeesAs, sees-at, sees-own, held-is, gone-is, visible-is}
+use Rattle.model.proofs.Read.{word-is, read-is}
+use Rattle.model.proofs.Records.{delete-kept}
+use Rattle.model.proofs.Update.{wanted-is, update-kept}
+use Rattle.model.proofs.Scans.{scan-is, scan-count, scan-found, open-kept, close-kept}
+use Rattle.model.proofs.Merged.{free-is, open-among-is, merge-kept}
+use Rattle.model.proofs.Release.{release-count, release-kept}
+
+-- ---- tests that agree as far as they are run: each has the other's outcome, if those before it passed
+abbrev pub Agree : List Test → List Test → Type 0
+Agree [] [] = Unit {0}
+Agree [] (u ∷ us) = ⊥
+Agree (t ∷ ts) [] = ⊥
+Agree (t ∷ ts) (u ∷ us) = (t .refusal ≡ u .refusal) × (t .fails ≡ u .fails) × (T (not (u .fails)) → Agree ts us)
+
+pub agree-verdict : (ts us : List Test) → Agree ts us → verdict ts ≡ verdict us
+unfolding verdict
+agree-verdict [] [] a = refl
+agree-verdict [] (u ∷ us) a = absurd a
+agree-verdict (t ∷ ts) [] a = absurd a
+agree-verdict (t ∷ ts) (u ∷ us) a = rw (a .0, a .1) (go (u .fails) (λ n. agree-verdict ts us (a .2 n)))
+  where
+    go : (b : Bool) → (T (not b) → verdict ts ≡ verdict us) → cond b (refuse (u .refusal)) (verdict ts) ≡ cond b (refuse (u .refusal)) (verdict us)
+    go true f = refl
+    go false f = f tt
+
+-- the merges' counter is far from going round
+pub merges-few : {S : Shape} {h : History} → Known S h → suc (length (h .merges)) < 2 ^ 32
+merges-few {S} {h} k =
+    let a : S .columns * S .capacity ≤ 16 * 512 = mul-le-mul (k .small .columns) (k .small .capacity) in
+    let b : S .ranges * (S .columns * S .capacity) ≤ 16 * (16 * 512) = mul-le-mul (k .small .ranges) a in
+    omega (arith, merges-most S h (k .past .merges) (k .past .pages) (k .past .limits))
+
+-- ---- a transaction that changed nothing reads the latest
+own-latest : (h : History) (t r c : ℕ) → r < length (h .rows) → Unchanged (h .rows) (h .tail) t → read (seenAt h (h .last)) h r c ≡ read (seenBy h t) h r c
+unfolding read visible versionOf ended
+own-latest h t r c b u =
+    ap₂ (λ (x y : Bool). cond (x && not y) (Answer.Value (lastSetting (seenAt h (h .last)) r c (inserted h r c) (h .tail) .value)) Answer.None) first second
+    ∙ ap (λ (y : H.Version). cond (visible (seenBy h t) h r) (Answer.Value (y .value)) Answer.None)
+    (last-agree (seenAt h (h .last)) r c (seenBy h t) (inserted h r c) (all-map (λ (y : Record) n _. same (y .transaction) n) (u .no-record)))
+  where
+    same : (k : ℕ) → k ≢ t → seenAt h (h .last) k ≡ seenBy h t k
+    same k n = unfold seenBy in (rw (eqb-other k t n))
+
+    first : seenAt h (h .last) ((rowAt h r) .inserter) ≡ seenBy h t ((rowAt h r) .inserter)
+    first = same _ (unfold rowAt in (all-at (u .no-row) r record { inserter = 0; values = [] } b))
+
+    second : any (λ y. eqb (y .row) r && (H.ends (y .content) && seenAt h (h .last) (y .transaction))) (h .tail) ≡ any (λ y. eqb (y .row) r && (H.ends (y .content) && seenBy h t (y .transaction))) (h .tail)
+    second = any-agree (all-map (λ (y : Record) n. ap (λ (z : Bool). eqb (y .row) r && (H.ends (y .content) && z)) (same (y .transaction) n)) (u .no-record))
+
+-- ---- sums
+total-append : (f : ℕ → ℤ) (l m : List ℕ) → total f (l ++ m) ≡ total f l +ℤ total f m
+unfolding total
+total-append f [] m = sym (+ℤ-idl _)
+total-append f (x ∷ l) m = ap (λ (z : ℤ). f x +ℤ z) (total-append f l m) ∙ sym (+ℤ-assoc (f x) (total f l) (total f m))
+
+module _ (S : Shape) (v : View) (ps : List Place) (h : History) (o : Represents S v ps h) (k : Known S h) where
+  -- ---- the conditions, one for one
+  open-is : (t : ℕ) → notOpenIn v t ≡ notActive h t
+  unfolding notOpenIn notActive stateOf
+  open-is t = ap not (opens-is (h .transactions) (v Opens) (o .opens) t)
+
+  given-is : (r : ℕ) → notGivenIn v r ≡ notGiven h r
+  unfolding notGivenIn notGiven
+  given-is r = ap (λ (n : ℕ). leb n r) (o .header .rows-given)
+
+  given-lt : (r : ℕ) → T (not (notGiven h r)) → r < length (h .rows)
+  unfolding notGiven
+  given-lt r t = nleb→lt (length (h .rows)) r t
+
+  pub active-of : (t : ℕ) → T (not (notActive h t)) → stateOf h t ≡ active
+  unfolding notActive
+  active-of t p = active-is (stateOf h t) (not-not (isActive (stateOf h t)) p)
+
+  later-is : (s : ℕ) → laterIn v s ≡ later h s
+  unfolding laterIn later
+  later-is s = ap (λ (n : ℕ). ltb n s) (o .header .last-stamp)
+
+  not-later-is : (s : ℕ) → notLaterIn v s ≡ notLater h s
+  unfolding notLaterIn notLater
+  not-later-is s = ap (leb s) (o .header .last-stamp)
+
+  scan-running : (i : ℕ) → noScanIn ps i ≡ notRunning h i
+  unfolding noScanIn notRunning scanAt
+  scan-running i = ap not (scan-is (h .scans) ps (o .scans) i)
+
+  running-of : (i : ℕ) → T (not (notRunning h i)) → T (scanAt h i .running)
+  unfolding notRunning
+  running-of i p = not-not (scanAt h i .running) p
+
+  pub column-lt : (c : ℕ) → T (not (noColumn S c)) → c < S .columns
+  unfolding noColumn
+  column-lt c t = nleb→lt (S .columns) c t
+
+  pub range-lt : (g : ℕ) → T (not (noRange S g)) → g < S .ranges
+  unfolding noRange
+  range-lt g t = nleb→lt (S .ranges) g t
+
+  used-is : (r : ℕ) → r < length (h .rows) → usedIn v (rangeOf r) ≡ length (recordsOf h (rangeOf r))
+  used-is r b = o .tails (rangeOf r) (in-range k r b) .used-all
+
+  lacks-is : (r n m : ℕ) → r < length (h .rows) → n ≡ m → lacksIn S v r n ≡ lacksRecords S h r m
+  unfolding lacksIn lacksRecords
+  lacks-is r n m b e = ap₂ (λ (x y : ℕ). ltb (S .capacity) (x + y)) (used-is r b) e
+
+  reach-is : (g c n : ℕ) → g < S .ranges → c < S .columns → outOfReachIn S v g c n ≡ outOfReach h g c n
+  unfolding outOfReachIn outOfReach
+  reach-is g c n a b = ap₂ (λ (x y : ℕ). leb n x || ltb y n) (o .currents g c a b .lineage) (o .tails g a .used-all)
+
+  pub above-of : (g c n : ℕ) → T (not (outOfReach h g c n)) → (mergedThrough h g c < n) × (n ≤ length (recordsOf h g))
+  unfolding outOfReach
+  above-of g c n t =
+      let q : T (not (leb n (mergedThrough h g c))) × T (not (ltb (length (recordsOf h g)) n)) = neither (leb n (mergedThrough h g c)) _ t in
+      (nleb→lt n (mergedThrough h g c) (q .0), nltb→le (length (recordsOf h g)) n (q .1))
+
+  no-page-is : leb (pagesOf S) (Rattle.model.specs.Writing.freeIn S v) ≡ noPage S h
+  unfolding noPage
+  no-page-is = free-is S v (h .merges) (o .pool)
+
+  pub tests-agree : (c : Call) → Agree (testsIn S v ps c) (tests S h c)
+  unfolding testsIn tests H.allActive H.allGiven H.allRunning
+  tests-agree begin = (refl, ap (leb mostNumbers) (o .header .transactions-given), λ p. (refl, opens-full (h .transactions) (v Opens) (o .whole .long Opens) (o .opens), λ q. tt))
+  tests-agree (insert t vs) = (refl, open-is t, λ p. (refl, ap (leb (S .ranges * rangeRows)) (o .header .rows-given), λ q. tt))
+  tests-agree (update t r m vs) = (
+    refl,
+    open-is t,
+    λ p. (
+      refl,
+      given-is r,
+      λ u. (
+        refl,
+        refl,
+        λ n. (
+          refl,
+          held-is S v ps h o k r (given-lt r u) t,
+          λ f. (
+            refl,
+            gone-is S v ps h o k r (given-lt r u) t (active-of t p) f,
+            λ q. (refl, lacks-is r _ _ (given-lt r u) (wanted-is S v ps h o k r m (given-lt r u) n t vs), λ z. tt),
+          ),
+        ),
+      ),
+    ),
+  )
+  tests-agree (delete t r) = (
+    refl,
+    open-is t,
+    λ p. (
+      refl,
+      given-is r,
+      λ u. (
+        refl,
+        held-is S v ps h o k r (given-lt r u) t,
+        λ f. (
+          refl,
+          gone-is S v ps h o k r (given-lt r u) t (active-of t p) f,
+          λ q. (refl, lacks-is r 1 1 (given-lt r u) refl, λ z. tt),
+        ),
+      ),
+    ),
+  )
+  tests-agree (commit t s) = (refl, open-is t, λ p. (refl, not-later-is s, λ q. tt))
+  tests-agree (abort t) = (refl, open-is t, λ p. tt)
+  tests-agree (latest r c) = (refl, given-is r, λ p. (refl, refl, λ q. tt))
+  tests-agree (readAt s r c) = (refl, later-is s, λ z. (refl, given-is r, λ p. (refl, refl, λ q. tt)))
+  tests-agree (ownRead t r c) = (refl, open-is t, λ z. (refl, given-is r, λ p. (refl, refl, λ q. tt)))
+  tests-agree (openScan s) = (
+    refl,
+    later-is s,
+    λ z. (refl, ap (leb mostNumbers) (o .header .scans-given), λ p. (refl, ap (leb mostScans) (scan-count (h .scans) ps (o .scans)), λ q. tt)),
+  )
+  tests-agree (scanRead i r c) = (refl, scan-running i, λ z. (refl, given-is r, λ p. (refl, refl, λ q. tt)))
+  tests-agree (sum i c) = (refl, scan-running i, λ z. (refl, refl, λ q. tt))
+  tests-agree (close i) = (refl, scan-running i, λ z. tt)
+  tests-agree (merge g c n) = (
+    refl,
+    refl,
+    λ p. (
+      refl,
+      refl,
+      λ q. (
+        refl,
+        reach-is g c n (range-lt g p) (column-lt c q),
+        λ z. (
+          refl,
+          open-among-is S v ps h o g c n (range-lt g p) (column-lt c q) (above-of g c n z .0) (above-of g c n z .1),
+          λ w. (refl, no-page-is, λ y. tt),
+        ),
+      ),
+    ),
+  )
+  tests-agree release = tt
+  tests-agree (pageCell c r) = (refl, refl, λ p. (refl, given-is r, λ q. tt))
+  tests-agree (lineage g c) = (refl, refl, λ p. (refl, refl, λ q. tt))
+
+  -- ---- the answers
+  pub current-read : (t me r c : ℕ) (f : ℕ → Bool) → SeesAs h t me f → r < length (h .rows) → c < S .columns → readCurrent S v t me r c ≡ read f h r c
+  unfolding readCurrent
+  current-read t me r c f w b d =
+      read-is S v ps h o k t me f w r b c d (currentIn S v (rangeOf r) c) everyRow (o .currents (rangeOf r) c (in-range k r b) d .holds) (λ z. tt)
+
+  own-read : (t r c : ℕ) → stateOf h t ≡ active → r < length (h .rows) → c < S .columns → readCurrent S v (headerIn v lastStamp) (ownChanges v t) r c ≡ read (seenBy h t) h r c
+  unfolding ownChanges openPlace
+  own-read t r c a b d = ap (λ (s : ℕ). readCurrent S v s (cond (eqb noted 0) 0 t) r c) (o .header .last-stamp) ∙ go (eqb noted 0) (eqb→eq noted 0)
+    where
+      j : ℕ
+      j = place (bears t) (v Opens)
+
+      noted : ℕ
+      noted = getD (v Changes) j 0
+
+      here : (j < length (v Opens)) × (getD (v Opens) j 0 ≡ t)
+      here = open-there (h .transactions) (v Opens) (o .opens) t (unfold stateOf isActive in (rw a tt))
+
+      not-zero : getD (v Opens) j 0 ≢ 0
+      not-zero e = own-zero (sym (here .1) ∙ e)
+        where
+          own-zero : t ≡ 0 → ⊥
+          own-zero z = unfold stateOf in (zero-idle t z a)
+            where
+              zero-idle : (t : ℕ) → t ≡ 0 → H.nth (h .transactions) t H.unknown ≡ active → ⊥
+              zero-idle zero z a = clash (cc)
+              zero-idle (suc t) z a = omega arith
+
+      unchanged : noted ≡ 0 → Unchanged (h .rows) (h .tail) t
+      unchanged e = subst (λ (i : ℕ). Unchanged (h .rows) (h .tail) i) (here .1) (o .notes j (omega (arith, here .0, o .whole .long Opens)) not-zero .none e)
+
+      go : (z : Bool) → (T z → noted ≡ 0) → readCurrent S v (h .last) (cond z 0 t) r c ≡ read (seenBy h t) h r c
+      go true f = current-read (h .last) 0 r c (seenAt h (h .last)) (sees-at h (h .last)) b d ∙ own-latest h t r c b (unchanged (f tt))
+      go false f = current-read (h .last) t r c (seenBy h t) (sees-own h t a) b d
+
+  found : (i : ℕ) → T (scanAt h i .running) → scanPlace ps i ≡ scanAs i (scanAt h i)
+  unfolding scanAt
+  found i t = scan-found (h .scans) ps (o .scans) i t
+
+  seen-row : (s r : ℕ) → T (visible (seenAt h s) h r) → T (seenAt h s ((rowAt h r) .inserter))
+  unfolding visible
+  seen-row s r z = parts (seenAt h s ((rowAt h r) .inserter)) _ z .0
+
+  pub scan-read : (i r c : ℕ) → T (scanAt h i .running) → r < length (h .rows) → c < S .columns
+      → readIn S v (scanAt h i .stamp) 0 (scanPage S v (scanAt h i .before) (rangeOf r) c) r c ≡ read (seenAt h (scanAt h i .stamp)) h r c
+  scan-read i r c t b d =
+      read-is S v ps h o k (scanAt h i .stamp) 0 _ (sees-at h (scanAt h i .stamp)) r b c d _ _ (o .scanPages i t (rangeOf r) c (in-range k r b) d .holds) (seen-row (scanAt h i .stamp) r)
+
+  -- the rows below n that are seen, and their sum
+  tally-is : (i c : ℕ) → T (scanAt h i .running) → c < S .columns → (n : ℕ) → n ≤ length (h .rows)
+      → tally S v (scanAs i (scanAt h i)) c n
+      ≡ record { count = length (keep (visible (seenAt h (scanAt h i .stamp)) h) (upTo n)); total = total (λ r. versionOf (seenAt h (scanAt h i .stamp)) h r c .value) (keep (visible (seenAt h (scanAt h i .stamp)) h) (upTo n)) }
+  unfolding tally total
+  tally-is i c t d zero b = refl
+  tally-is i c t d (suc n) b =
+      rw (
+        keep-append (visible f h) (upTo n) (n ∷ []),
+        length-append (keep (visible f h) (upTo n)) (keep (visible f h) (n ∷ [])),
+        total-append value (keep (visible f h) (upTo n)) (keep (visible f h) (n ∷ [])),
+        visible-is S v ps h o k n b (scanAt h i .stamp) 0 f (sees-at h (scanAt h i .stamp)),
+        tally-is i c t d n (omega arith),
+      )
+      (go (visible f h n)
+      (λ z. word-is S v ps h o k (scanAt h i .stamp) 0 f (sees-at h (scanAt h i .stamp)) n b c d _ _ (o .scanPages i t (rangeOf n) c (in-range k n b) d .holds) (seen-row (scanAt h i .stamp) n z)))
+    where
+      f : ℕ → Bool
+      f = seenAt h (scanAt h i .stamp)
+
+      value : ℕ → ℤ
+      value r = versionOf f h r c .value
+
+      rows : List ℕ
+      rows = keep (visible f h) (upTo n)
+
+      go : (z : Bool) → (T z → toZ w32 (wordIn S v (scanAt h i .stamp) 0 (scanPage S v (scanAt h i .before) (rangeOf n) c) n c) ≡ value n)
+          → _≡_ {A = Tally} (cond z record { count = suc (length rows); total = total value rows +ℤ toZ w32 (wordIn S v (scanAt h i .stamp) 0 (scanPage S v (scanAt h i .before) (rangeOf n) c) n c) } record { count = length rows; total = total value rows })
+          record { count = length rows + length (cond z (n ∷ []) []); total = total value rows +ℤ total value (cond z (n ∷ []) []) }
+      go true e = λ j. record { count = plus-one (length rows) j; total = (ap (λ (x : ℤ). total value rows +ℤ x) (e tt ∙ sym (+ℤ-idr (value n)))) j }
+        where
+          plus-one : (x : ℕ) → suc x ≡ x + 1
+          plus-one x = omega arith
+      go false e = λ j. record { count = plus-none (length rows) j; total = sym (+ℤ-idr (total value rows)) j }
+        where
+          plus-none : (x : ℕ) → x ≡ x + 0
+          plus-none x = omega arith
+
+  sum-same : (i c : ℕ) → T (scanAt h i .running) → c < S .columns → sumIn S v (scanPlace ps i) c ≡ H.sumOf (seenAt h (scanAt h i .stamp)) h c
+  unfolding sumIn H.sumOf H.rowsSeen
+  sum-same i c t d =
+      ap (λ (s : Place). Answer.Sum (tally S v s c (headerIn v rowsGiven) .count) (tally S v s c (headerIn v rowsGiven) .total)) (found i t)
+      ∙ ap (λ (n : ℕ). Answer.Sum (tally S v (scanAs i (scanAt h i)) c n .count) (tally S v (scanAs i (scanAt h i)) c n .total)) (o .header .rows-given)
+      ∙ ap (λ (x : Tally). Answer.Sum (x .count) (x .total)) (tally-is i c t d (length (h .rows)) (le-refl _))
+
+  cell-same : (c r : ℕ) → c < S .columns → r < length (h .rows) → toZ w32 (cellIn v (currentIn S v (rangeOf r) c) (within r)) ≡ cellValue h c r
+  cell-same c r d b =
+      let x : CurrentIs S h (rangeOf r) c (currentIn S v (rangeOf r) c) (pageIn v (currentIn S v (rangeOf r) c)) (cellIn v (currentIn S v (rangeOf r) c)) = o .currents (rangeOf r) c (in-range k r b) d in
+      x .holds .cells r refl tt ∙ ap (cellThrough h c r) (x .lineage) ∙ sym (cell-is h c r)
+
+  plus-one : (n m : ℕ) → n ≡ m → n + 1 ≡ suc m
+  plus-one n m e = omega arith
+
+  pub reply-same : (c : Call) → Passed (tests S h c) → replyIn S v ps c ≡ reply S h c
+  unfolding replyIn reply tests
+  reply-same begin p = ap Answer.Number (plus-one _ _ (o .header .transactions-given))
+  reply-same (insert t vs) p = ap Answer.Number (o .header .rows-given)
+  reply-same (update t r m vs) p =
+      ap₂ (λ (x y : ℕ). Answer.Number (x + y)) (used-is r (given-lt r (p .1 .0))) (wanted-is S v ps h o k r m (given-lt r (p .1 .0)) (p .1 .1 .0) t vs)
+  reply-same (delete t r) p = ap (λ (x : ℕ). Answer.Number (x + 1)) (used-is r (given-lt r (p .1 .0)))
+  reply-same (commit t s) p = refl
+  reply-same (abort t) p = refl
+  reply-same (latest r c) p =
+      ap (λ (s : ℕ). readCurrent S v s 0 r c) (o .header .last-stamp) ∙ current-read (h .last) 0 r c (seenAt h (h .last)) (sees-at h (h .last)) (given-lt r (p .0)) (column-lt c (p .1 .0))
+  reply-same (readAt s r c) p = current-read s 0 r c (seenAt h s) (sees-at h s) (given-lt r (p .1 .0)) (column-lt c (p .1 .1 .0))
+  reply-same (ownRead t r c) p = own-read t r c (active-of t (p .0)) (given-lt r (p .1 .0)) (column-lt c (p .1 .1 .0))
+  reply-same (openScan s) p = ap Answer.Number (plus-one _ _ (o .header .scans-given))
+  reply-same (scanRead i r c) p =
+      ap (λ (s : Place). readIn S v (s .stamp) 0 (scanPage S v (s .merges) (rangeOf r) c) r c) (found i (running-of i (p .0)))
+      ∙ scan-read i r c (running-of i (p .0)) (given-lt r (p .1 .0)) (column-lt c (p .1 .1 .0))
+  reply-same (sum i c) p = sum-same i c (running-of i (p .0)) (column-lt c (p .1 .0))
+  reply-same (close i) p = refl
+  reply-same (merge g c n) p = refl
+  reply-same release p = ap Answer.Number (release-count S v ps h o)
+  reply-same (pageCell c r) p = ap Answer.Value (cell-same c r (column-lt c (p .0)) (given-lt r (p .1 .0)))
+  reply-same (lineage g c) p = ap₂ Answer.Lineage (o .currents g c (range-lt g (p .0)) (column-lt c (p .1 .0)) .lineage) (o .tails g (range-lt g (p .0)) .used-all)
+
+  -- ---- what a call leaves
+  free-place : T (not (H.allActive h)) → T (any (λ i. eqb i 0) (v Opens))
+  unfolding H.allActive
+  free-place q = not-not (any (λ i. eqb i 0) (v Opens)) (subst (λ (b : Bool). T (not b)) (sym (opens-full (h .transactions) (v Opens) (o .whole .long Opens) (o .opens))) q)
+
+  capacity-of : (r n : ℕ) → T (not (lacksRecords S h r n)) → length (recordsOf h (rangeOf r)) + n ≤ S .capacity
+  unfolding lacksRecords
+  capacity-of r n q = nltb→le (S .capacity) (length (recordsOf h (rangeOf r)) + n) q
+
+  pub none-active : (g n : ℕ) → T (not (anyActive h g n)) → All (λ (x : Record). stateOf h (x .transaction) ≢ active) (take n (recordsOf h g))
+  unfolding anyActive isActive
+  none-active g n q = all-map (λ (x : Record) u e. rw e at u) (Rattle.history.proofs.Lists.not-any (λ (x : Record). isActive (stateOf h (x .transaction))) (take n (recordsOf h g)) q)
+
+  pub page-room : T (not (noPage S h)) → Rattle.model.specs.Writing.freeIn S v < pagesOf S
+  page-room q = nleb→lt (pagesOf S) (Rattle.model.specs.Writing.freeIn S v) (subst (λ (b : Bool). T (not b)) (sym no-page-is) q)
+
+  pub act-kept : (c : Call) → Typed c → Passed (tests S h c) → Represents S (actIn S v ps c) (placesAfter v ps c) (effect S h c)
+  unfolding actIn placesAfter effect tests H.allGiven notLater H.allRunning later
+  act-kept begin y p = begin-kept S v ps h o k (free-place (p .1 .0)) (step S h begin p) (nleb→lt mostNumbers (length (h .transactions)) (p .0))
+  act-kept (insert t vs) y p = insert-kept S v ps h o k t vs (active-of t (p .0)) (nleb→lt (S .ranges * rangeRows) (length (h .rows)) (p .1 .0)) (y .1) (step S h (insert t vs) p)
+  act-kept (update t r m vs) y p =
+      update-kept S v ps h o k t r m vs (active-of t (p .0)) (given-lt r (p .1 .0)) (p .1 .1 .0) (y .2) (y .3) (capacity-of r _ (p .1 .1 .1 .1 .1 .0)) (step S h (update t r m vs) p)
+      (made-new {S = S} (by-update m vs (p .1 .1 .0)))
+  act-kept (delete t r) y p =
+      delete-kept S v ps h o k t r (active-of t (p .0)) (given-lt r (p .1 .0)) (capacity-of r 1 (p .1 .1 .1 .1 .0)) (step S h (delete t r) p) (made-new {S = S} by-delete)
+  act-kept (commit t s) y p = commit-kept S v ps h o k t s (active-of t (p .0)) (nleb→lt s (h .last) (p .1 .0)) (y .1) (step S h (commit t s) p)
+  act-kept (abort t) y p = abort-kept S v ps h o k t (active-of t (p .0)) (step S h (abort t) p)
+  act-kept (latest r c) y p = o
+  act-kept (readAt s r c) y p = o
+  act-kept (ownRead t r c) y p = o
+  act-kept (openScan s) y p =
+      open-kept S v ps h o k s (nleb→lt mostScans (count (λ s. s .running) (h .scans)) (p .1 .1 .0)) (nleb→lt mostNumbers (length (h .scans)) (p .1 .0)) (step S h (openScan s) p)
+  act-kept (scanRead i r c) y p = o
+  act-kept (sum i c) y p = o
+  act-kept (close i) y p = close-kept S v ps h o k i (running-of i (p .0)) (step S h (close i) p)
+  act-kept (merge g c n) y p =
+      merge-kept S v ps h o k g c n (range-lt g (p .0)) (column-lt c (p .1 .0)) (above-of g c n (p .1 .1 .0) .0) (above-of g c n (p .1 .1 .0) .1) (none-active g n (p .1 .1 .1 .0))
+      (page-room (p .1 .1 .1 .1 .0)) (merges-few k) (step S h (merge g c n) p)
+  act-kept release y p = release-kept S v ps h o k (step S h release p)
+  act-kept (pageCell c r) y p = o
+  act-kept (lineage g c) y p = o
+
+-- ---- one call
+pub known-next : {S : Shape} {h : History} (c : Call) → Known S h → Known S (next S h c)
+known-next c k = record { small = k .small; past = past-next c (k .past) }
+
+pub one-call : (S : Shape) (v : View) (ps : List Place) (h : History) (c : Call) → Typed c → Represents S v ps h → Known S h
+    → (say S v ps c ≡ answer S h c) × Represents S (viewNext S v ps c) (placesNext S v ps c) (next S h c)
+unfolding say viewNext placesNext answer next
+one-call S v ps h c y o k = (
+  ap (λ (w : Verdict). answerIf w (replyIn S v ps c)) same ∙ answers (verdict (tests S h c)) refl,
+  subst (λ (w : Verdict). Represents S (viewIf w v (actIn S v ps c)) (placesIf w ps (placesAfter v ps c)) (nextIf (verdict (tests S h c)) h (effect S h c))) (sym same) (kept (verdict (tests S h c)) refl),
+)
+  where
+    same : verdict (testsIn S v ps c) ≡ verdict (tests S h c)
+    same = agree-verdict (testsIn S v ps c) (tests S h c) (tests-agree S v ps h o k c)
+
+    answers : (w : Verdict) → verdict (tests S h c) ≡ w → answerIf w (replyIn S v ps c) ≡ answerIf w (reply S h c)
+    answers accept e = ap (answerIf accept) (reply-same S v ps h o k c (passed (tests S h c) e))
+    answers (refuse n) e = unfold answerIf in refl
+
+    kept : (w : Verdict) → verdict (tests S h c) ≡ w → Represents S (viewIf w v (actIn S v ps c)) (placesIf w ps (placesAfter v ps c)) (nextIf w h (effect S h c))
+    kept accept e = unfold viewIf placesIf nextIf in (act-kept S v ps h o k c y (passed (tests S h c) e))
+    kept (refuse n) e = unfold viewIf placesIf nextIf in o

@@ -1,0 +1,160 @@
+-- Demand 2 holds: what is read and what the pages hold follows from the relation, which every list of calls keeps.
+use mathlib.Core.Path.{_≡_, refl, sym, _∙_, ap, subst}
+use mathlib.Core.Bool.{Bool, true, false, not, cond, _&&_}
+use mathlib.Core.List.{List, [], _∷_}
+use Prim.Native.Nat.{ℕ, suc, _+_, _*_, _/_, _%_, _^_, _≤_, _<_}
+use native.Mathlib.Omega.{arith}
+use native.Mathlib.Nat.{le-refl}
+use lib.Dec.{T}
+use lib.ListN.{length, getD, replicate, length-append}
+use lib.IntN.{ℤ, pos}
+use mir.Syntax.{w32}
+use mir.Val.{toZ, ofZ}
+use mir.ValLaws.{ofZ-toZ}
+use Rattle.terms.specs.Measures.{Shape, rangeRows, mostScans, withinLimits}
+use Rattle.terms.specs.declared.Answer.{Answer}
+use Rattle.history.specs.History.{Call, openScan, effect, nextIf, tests, verdict, Verdict, accept, refuse, Scan, withScans, History, Version, start, next, run, seenAt, rowAt, inserted, visible, versionOf, read, rangeOf, mergedThrough, scanAt}
+use Rattle.history.proofs.Lists.{All, nil, cons, parts}
+use Rattle.history.proofs.Latest.{latestSetting, latest-stamp}
+use Rattle.history.proofs.Pages.{cellThrough}
+use Rattle.history.proofs.Past.{past-start}
+use Rattle.layout.specs.View.{View, put, renew}
+use Rattle.layout.specs.declared.Region.the-variants.{Cells}
+use Rattle.terms.specs.declared.Place.{Place}
+use Rattle.model.specs.Stored.{pageIn, cellIn, currentIn, freePlace, within}
+use Rattle.model.specs.Writing.{made}
+use Rattle.model.specs.Reading.{scanPage, wasCurrent}
+use Rattle.model.specs.Calls.{testsIn, actIn, viewIf, Typed, viewNext, placesNext, viewAfter, listAfter}
+use Rattle.model.specs.Claims.{storeAfter, historyAfter, lastCommitted, Reads, ScanReads, PageHolds, PagesHold, PageKept, ScansKeep}
+use Rattle.model.proofs.Represents.{CurrentIs, Represents, Known}
+use Rattle.model.proofs.Holding.{cell-absent}
+use Rattle.model.proofs.Heads.{sees-at}
+use Rattle.model.proofs.Calls.{current-read, scan-read, known-next, one-call}
+use Rattle.model.proofs.Scans.{scan-current, nth-last}
+use Rattle.model.proofs.Openings.{SamePage, next-same, same-after, scan-later}
+use Rattle.model.proofs.Made.{small-shape, made-represents}
+
+-- ---- the relation after a list of calls
+pub represents-after : (S : Shape) (v : View) (ps : List Place) (h : History) → Represents S v ps h → Known S h → {cs : List Call} → All Typed cs
+    → Represents S (viewAfter S v ps cs) (listAfter S v ps cs) (run S h cs) × Known S (run S h cs)
+unfolding viewAfter listAfter run
+represents-after S v ps h o k nil = (o, k)
+represents-after S v ps h o k (cons {x = c} {l = cs} y ys) =
+    represents-after S (viewNext S v ps c) (placesNext S v ps c) (next S h c) (one-call S v ps h c y o k .1) (known-next c k) ys
+
+pub represented : (S : Shape) → T (withinLimits S) → (n : ℕ) → mostScans ≤ n → {cs : List Call} → All Typed cs
+    → Represents S (storeAfter S n cs) (listAfter S (made S) (replicate n freePlace) cs) (historyAfter S cs) × Known S (historyAfter S cs)
+unfolding storeAfter historyAfter
+represented S t n enough ys =
+    represents-after S (made S) (replicate n freePlace) start (made-represents S (small-shape S t) n enough) record { small = small-shape S t; past = past-start S } ys
+
+-- ---- reads
+read-committed : {S : Shape} {h : History} → Known S h → (t r c : ℕ) → read (seenAt h t) h r c ≡ lastCommitted h t r c
+unfolding read lastCommitted
+read-committed {h = h} k t r c = go (visible (seenAt h t) h r) (λ z. seen z)
+  where
+    seen : T (visible (seenAt h t) h r) → T (seenAt h t ((rowAt h r) .inserter))
+    seen z = unfold visible in (parts (seenAt h t ((rowAt h r) .inserter)) _ z .0)
+
+    go : (b : Bool) → (T b → T (seenAt h t ((rowAt h r) .inserter)))
+        → cond b (Answer.Value (versionOf (seenAt h t) h r c .value)) Answer.None
+        ≡ cond b (Answer.Value (latestSetting h t r c (inserted h r c) (h .tail) .value)) Answer.None
+    go true f = ap (λ (y : Version). Answer.Value (y .value)) (sym (latest-stamp h t r c (k .past .order) (f tt)))
+    go false f = refl
+
+pub reads : Reads
+unfolding Reads
+reads S l n enough cs ys t r c b d =
+    let q : Represents S (storeAfter S n cs) (listAfter S (made S) (replicate n freePlace) cs) (historyAfter S cs) × Known S (historyAfter S cs) = represented S l n enough ys in
+    current-read S (storeAfter S n cs) _ (historyAfter S cs) (q .0) (q .1) t 0 r c (seenAt (historyAfter S cs) t) (sees-at (historyAfter S cs) t) b d
+    ∙ read-committed (q .1) t r c
+
+pub scan-reads : ScanReads
+unfolding ScanReads
+scan-reads S l n enough cs ys k r c run b d =
+    let q : Represents S (storeAfter S n cs) (listAfter S (made S) (replicate n freePlace) cs) (historyAfter S cs) × Known S (historyAfter S cs) = represented S l n enough ys in
+    scan-read S (storeAfter S n cs) _ (historyAfter S cs) (q .0) (q .1) k r c run b d ∙ read-committed (q .1) (scanAt (historyAfter S cs) k .stamp) r c
+
+-- ---- pages
+zero-word : (w : ℕ) → w < 2 ^ 32 → toZ w32 w ≡ pos 0 → w ≡ 0
+zero-word w b e = sym (ofZ-toZ w32 w record { fits = b }) ∙ ap (ofZ w32) e
+
+row-of : (g i : ℕ) → i < rangeRows → (rangeOf (g * rangeRows + i) ≡ g) × (within (g * rangeRows + i) ≡ i)
+unfolding rangeOf
+row-of g i b = (omega arith, omega arith)
+
+page-holds : (S : Shape) (v : View) (ps : List Place) (h : History) → Represents S v ps h → Known S h → (g c : ℕ) → g < S .ranges → c < S .columns → PageHolds S v h g c
+page-holds S v ps h o k g c a b = record { taken = x .lineage; every-row = every; never-inserted = λ i u n. zero-word (cellIn v (currentIn S v g c) i) (fits i) (every i u ∙ cell-absent h c (g * rangeRows + i) (mergedThrough h g c) (k .past .order) n) }
+  where
+    x : CurrentIs S h g c (currentIn S v g c) (pageIn v (currentIn S v g c)) (cellIn v (currentIn S v g c))
+    x = o .currents g c a b
+
+    fits : (i : ℕ) → cellIn v (currentIn S v g c) i < 2 ^ 32
+    fits i = unfold cellIn in (o .whole .fits Cells (currentIn S v g c * rangeRows + i))
+
+    every : (i : ℕ) → i < rangeRows → toZ w32 (cellIn v (currentIn S v g c) i) ≡ cellThrough h c (g * rangeRows + i) (mergedThrough h g c)
+    every i u =
+        ap (λ (j : ℕ). toZ w32 (cellIn v (currentIn S v g c) j)) (sym (row-of g i u .1)) ∙ x .holds .cells (g * rangeRows + i) (row-of g i u .0) tt
+        ∙ ap (cellThrough h c (g * rangeRows + i)) (x .lineage)
+
+pub pages-hold : PagesHold
+unfolding PagesHold
+pages-hold S l n enough cs ys g c a b =
+    let q : Represents S (storeAfter S n cs) (listAfter S (made S) (replicate n freePlace) cs) (historyAfter S cs) × Known S (historyAfter S cs) = represented S l n enough ys in
+    page-holds S (storeAfter S n cs) _ (historyAfter S cs) (q .0) (q .1) g c a b
+
+-- ---- the pages of open scans
+scan-opened : (S : Shape) (h : History) (s : ℕ) → verdict (tests S h (openScan s)) ≡ accept
+    → (scanAt (next S h (openScan s)) (suc (length (h .scans))) .before ≡ length (h .merges)) × (suc (length (h .scans)) ≤ length ((next S h (openScan s)) .scans)) × (length ((next S h (openScan s)) .rows) ≡ length (h .rows))
+unfolding next nextIf effect withScans scanAt
+scan-opened S h s e = rw e (ap (λ (x : Scan). x .before) (nth-last (h .scans) _ _), simp length-append (omega arith), refl)
+
+-- opening a scan changes no page
+opened-same : (S : Shape) (v : View) (ps : List Place) (s m g c : ℕ) → (scanPage S (viewNext S v ps (openScan s)) m g c ≡ scanPage S v m g c) × ((q i : ℕ) → cellIn (viewNext S v ps (openScan s)) q i ≡ cellIn v q i)
+unfolding viewNext
+opened-same S v ps s m g c = go (verdict (testsIn S v ps (openScan s)))
+  where
+    go : (w : Verdict) → (scanPage S (viewIf w v (actIn S v ps (openScan s))) m g c ≡ scanPage S v m g c) × ((q i : ℕ) → cellIn (viewIf w v (actIn S v ps (openScan s))) q i ≡ cellIn v q i)
+    go accept = unfold viewIf actIn put renew scanPage wasCurrent currentIn pageIn cellIn in (refl, λ q i. refl)
+    go (refuse n) = unfold viewIf in (refl, λ q i. refl)
+
+pages-kept : (S : Shape) (v : View) (ps : List Place) (h : History) → Represents S v ps h → Known S h → (s : ℕ) (cs : List Call) → Typed (openScan s) → All Typed cs → verdict (tests S h (openScan s)) ≡ accept
+    → T (scanAt (run S (next S h (openScan s)) cs) (suc (length (h .scans))) .running) → (g c : ℕ) → g < S .ranges → c < S .columns
+    → PageKept S v (viewAfter S (viewNext S v ps (openScan s)) (placesNext S v ps (openScan s)) cs) (run S (next S h (openScan s)) cs) (suc (length (h .scans))) g c (length (h .rows))
+pages-kept S v ps h o k s cs y ys e t g c bg bc =
+    record {
+      page = ap (λ (j : ℕ). scanPage S v₂ j g c) before-is ∙ (subst (λ (j : ℕ). scanPage S v₂ j g c ≡ scanPage S v₁ j g c) (new .0) (same .page)) ∙ first;
+      cells = λ r u f.
+          subst (λ (q : ℕ). cellIn v₂ q (within r) ≡ cellIn v₁ q (within r)) (ap (λ (j : ℕ). scanPage S v₁ j g c) (new .0) ∙ first) (same .cells r (omega (arith, new .2)) f)
+          ∙ opened-same S v ps s (length (h .merges)) g c .1 (currentIn S v g c) (within r);
+    }
+  where
+    i : ℕ
+    i = suc (length (h .scans))
+
+    h₁ : History
+    h₁ = next S h (openScan s)
+
+    v₁ : View
+    v₁ = viewNext S v ps (openScan s)
+
+    v₂ : View
+    v₂ = viewAfter S (viewNext S v ps (openScan s)) (placesNext S v ps (openScan s)) cs
+
+    new : (scanAt (next S h (openScan s)) (suc (length (h .scans))) .before ≡ length (h .merges)) × (suc (length (h .scans)) ≤ length ((next S h (openScan s)) .scans)) × (length ((next S h (openScan s)) .rows) ≡ length (h .rows))
+    new = scan-opened S h s e
+
+    same : SamePage S v₁ v₂ (scanAt h₁ i .before) (length (h₁ .rows)) g c
+    same = same-after S v₁ (placesNext S v ps (openScan s)) h₁ (one-call S v ps h (openScan s) y o k .1) (known-next (openScan s) k) i (new .1) ys t g c bg bc
+
+    before-is : scanAt (run S h₁ cs) i .before ≡ length (h .merges)
+    before-is = ap (λ (x : Scan). x .before) (scan-later S h₁ cs i (new .1) t) ∙ new .0
+
+    first : scanPage S v₁ (length (h .merges)) g c ≡ currentIn S v g c
+    first = opened-same S v ps s (length (h .merges)) g c .0 ∙ scan-current S v (length (h .merges)) g c (o .currents g c bg bc .made)
+
+pub scans-keep : ScansKeep
+unfolding ScansKeep run viewAfter
+scans-keep S l n enough before after s ys (cons y zs) e t g c bg bc =
+    let q : Represents S (storeAfter S n before) (listAfter S (made S) (replicate n freePlace) before) (historyAfter S before) × Known S (historyAfter S before) = represented S l n enough ys in
+    pages-kept S (storeAfter S n before) _ (historyAfter S before) (q .0) (q .1) s after y zs e t g c bg bc

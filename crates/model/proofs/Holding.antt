@@ -1,0 +1,155 @@
+-- What a page holds stays right under every step of the history that gives no row of the page, and under an insert into it.
+use mathlib.Core.Path.{_≡_, refl, sym, _∙_, ap}
+use mathlib.Core.Logic.{_≢_, _⊎_, inl, inr}
+use mathlib.Core.Bool.{Bool, true, false, not, cond, _&&_, _||_}
+use mathlib.Core.List.{List, [], _∷_, _++_}
+use Prim.Native.Nat.{ℕ, zero, suc, _+_, _*_, _/_, _%_, _≤_, _<_}
+use native.Mathlib.Omega.{arith}
+use native.Mathlib.Nat.{le-refl, le-trans}
+use native.Mathlib.Decide.{ℕ-discrete, decLt}
+use lib.Dec.{T, eqb, eqb→eq}
+use lib.ListN.{length, getD, take, length-append, List·getD-append, List·getD-eq-default}
+use lib.Seq.{getD-append-seam}
+use lib.IntN.{ℤ, pos}
+use mir.Syntax.{w32}
+use mir.Val.{toZ}
+use Rattle.terms.specs.Measures.{Shape, rangeRows}
+use Rattle.history.specs.History.{Call, History, Row, Record, Version, State, active, committed, isCommitted, stateOf, rowAt, insertedValue, inserted, sets, versionIn, lastSetting, rangeOf, recordsOf, withRows}
+use Rattle.history.proofs.Lists.{All, nil, cons, all-map, all-map₂, all-keep, all-take, eqb-other}
+use Rattle.history.proofs.Steps.{Step, nothing, began, rowGiven, recordsMade, closed, scanOpened, scanClosed, merged, released}
+use Rattle.history.proofs.States.{closing-last}
+use Rattle.history.proofs.Order.{InOrder, order-step}
+use Rattle.history.proofs.Pages.{Through, through-step, Settled, settled-step, cellThrough, cell-stays}
+use Rattle.model.specs.Stored.{PageWords, within}
+use Rattle.model.proofs.Represents.{Holds, NotAfter, everyRow}
+
+-- ---- a row that was not given has no records, and 0 in every cell
+pub last-other : (sees : ℕ → Bool) (r c : ℕ) (v : Version) {l : List Record} → All (λ (x : Record). x .row ≢ r) l → lastSetting sees r c v l ≡ v
+unfolding lastSetting
+last-other sees r c v nil = refl
+last-other sees r c v (cons {x = x} {l = l} p ps) =
+    ap (λ (b : Bool). lastSetting sees r c (cond (b && (sets c (x .content) && sees (x .transaction))) (versionIn c x) v) l) (eqb-other (x .row) r p)
+    ∙ last-other sees r c v ps
+
+pub not-given : (h : History) (g n r : ℕ) → InOrder h → length (h .rows) ≤ r → All (λ (x : Record). x .row ≢ r) (take n (recordsOf h g))
+unfolding recordsOf
+not-given h g n r i b = all-take n (all-keep _ (all-map (λ x p e. omega (arith, p .inside)) (i .records)))
+
+pub absent-inserted : (h : History) (r c : ℕ) → length (h .rows) ≤ r → insertedValue h r c ≡ pos 0
+unfolding insertedValue rowAt
+absent-inserted h r c b = rw (List·getD-eq-default (h .rows) record { inserter = 0; values = [] } b)
+
+pub cell-absent : (h : History) (c r n : ℕ) → InOrder h → length (h .rows) ≤ r → cellThrough h c r n ≡ pos 0
+unfolding cellThrough inserted
+cell-absent h c r n i b =
+    ap (λ (v : Version). v .value) (last-other (λ k. isCommitted (stateOf h k)) r c (inserted h r c) (not-given h (rangeOf r) n r i b)) ∙ absent-inserted h r c b
+
+-- ---- the last stamp never falls
+pub last-step : {S : Shape} {x : Call} {h h′ : History} → Step S h x h′ → h .last ≤ h′ .last
+unfolding Rattle.history.specs.History.withTransactions withRows Rattle.history.specs.History.withTail Rattle.history.specs.History.withScans Rattle.history.specs.History.withMerges
+last-step nothing = le-refl _
+last-step (began a b) = le-refl _
+last-step (rowGiven t vs a b) = le-refl _
+last-step (recordsMade t r a b d) = le-refl _
+last-step (closed t a b) = closing-last b
+last-step (scanOpened a b d) = le-refl _
+last-step (scanClosed k a) = le-refl _
+last-step (merged g c n a b d e f j) = le-refl _
+last-step released = le-refl _
+
+-- ---- a step that gives none of the rows in question
+module _ {S : Shape} {y : Call} {h h′ : History} (i : InOrder h) (step : Step S h y h′) (g c : ℕ) (x : PageWords) where
+  newest-step : Through h g (x .lineage) → All (NotAfter (stateOf h) c (x .newest)) (take (x .lineage) (recordsOf h g))
+      → All (NotAfter (stateOf h′) c (x .newest)) (take (x .lineage) (recordsOf h′ g))
+  newest-step t a =
+      let q : Settled h h′ g (x .lineage) = settled-step i t step in
+      rw (q .records) (all-map₂ (λ y e f s n u. f s n (sym e ∙ u)) (q .states) a)
+
+  cell-step : (r : ℕ) → rangeOf r ≡ g → Through h g (x .lineage) → (r < length (h .rows)) ⊎ (length (h′ .rows) ≤ r) → length (h .rows) ≤ length (h′ .rows)
+      → cellThrough h′ c r (x .lineage) ≡ cellThrough h c r (x .lineage)
+  cell-step r e t (inl b) m = cell-stays c r (x .lineage) i (rw e t) b step
+  cell-step r e t (inr b) m = cell-absent h′ c r (x .lineage) (order-step i step) b ∙ sym (cell-absent h c r (x .lineage) i (le-trans m b))
+
+  pub holds-step : {Q Q′ : ℕ → Type 0} {cell : ℕ → ℕ} → length (h .rows) ≤ length (h′ .rows)
+      → ((r : ℕ) → rangeOf r ≡ g → Q′ r → Q r × ((r < length (h .rows)) ⊎ (length (h′ .rows) ≤ r)))
+      → Holds h g c Q x cell → Holds h′ g c Q′ x cell
+  holds-step m f o =
+      record {
+        through = through-step i (o .through) step;
+        newest = newest-step (o .through) (o .newest);
+        stamped = le-trans (o .stamped) (last-step step);
+        cells = λ r e q.
+            let p = f r e q in
+            o .cells r e (p .0) ∙ sym (cell-step r e (o .through) (p .1) m);
+      }
+
+-- a row is given or not, where a step gives none
+pub same-rows : (n m r : ℕ) → n ≡ m → (r < n) ⊎ (m ≤ r)
+same-rows n m r e = go (decLt r n)
+  where
+    go : Dec (r < n) → (r < n) ⊎ (m ≤ r)
+    go (yes b) = inl b
+    go (no f) = inr (omega (arith, f))
+
+-- only the cells that are looked at matter
+pub holds-cells : {h : History} {g c : ℕ} {Q : ℕ → Type 0} {x : PageWords} {cell cell′ : ℕ → ℕ} → ((r : ℕ) → rangeOf r ≡ g → Q r → cell′ (within r) ≡ cell (within r))
+    → Holds h g c Q x cell → Holds h g c Q x cell′
+holds-cells f o =
+    record { through = o .through; newest = o .newest; stamped = o .stamped; cells = λ r e q. ap (toZ w32) (f r e q) ∙ o .cells r e q }
+
+-- ---- an insert into the page
+abbrev pub withRow : History → Row → History
+withRow h w = withRows h (h .rows ++ w ∷ [])
+
+pub row-new : (h : History) (w : Row) → rowAt (withRow h w) (length (h .rows)) ≡ w
+unfolding rowAt withRows
+row-new h w = getD-append-seam (h .rows) w [] record { inserter = 0; values = [] }
+
+pub row-old : (h : History) (w : Row) (r : ℕ) → r < length (h .rows) → rowAt (withRow h w) r ≡ rowAt h r
+unfolding rowAt withRows
+row-old h w r b = List·getD-append (h .rows) (w ∷ []) record { inserter = 0; values = [] } r b
+
+pub rows-more : (h : History) (w : Row) → length ((withRow h w) .rows) ≡ suc (length (h .rows))
+unfolding withRows
+rows-more h w = simp length-append (omega arith)
+
+fresh-row : (h : History) (w : Row) (g n : ℕ) → InOrder h → All (λ (x : Record). x .row ≢ length (h .rows)) (take n (recordsOf (withRow h w) g))
+unfolding recordsOf withRows
+fresh-row h w g n i = not-given h g n (length (h .rows)) i (le-refl _)
+
+pub cell-new : (h : History) (w : Row) (c n : ℕ) → InOrder h → cellThrough (withRow h w) c (length (h .rows)) n ≡ getD (w .values) c (pos 0)
+unfolding cellThrough inserted insertedValue
+cell-new h w c n i =
+    ap (λ (v : Version). v .value)
+    (last-other (λ k. isCommitted (stateOf (withRow h w) k)) (length (h .rows)) c (inserted (withRow h w) (length (h .rows)) c) (fresh-row h w (rangeOf (length (h .rows))) n i))
+    ∙ ap (λ (x : Row). getD (x .values) c (pos 0)) (row-new h w)
+
+-- The new row's cell gets its value, and the other cells stay.
+pub holds-insert : {S : Shape} {y : Call} {h : History} (w : Row) (g c : ℕ) (x : PageWords) {cell cell′ : ℕ → ℕ} → InOrder h → Step S h y (withRow h w)
+    → rangeOf (length (h .rows)) ≡ g → toZ w32 (cell′ (within (length (h .rows)))) ≡ getD (w .values) c (pos 0)
+    → ((i : ℕ) → i < rangeRows → i ≢ within (length (h .rows)) → cell′ i ≡ cell i) → Holds h g c everyRow x cell → Holds (withRow h w) g c everyRow x cell′
+unfolding rangeOf
+holds-insert {h = h} w g c x {cell} {cell′} i step e new old o =
+    record {
+      through = through-step i (o .through) step;
+      newest = newest-step i step g c x (o .through) (o .newest);
+      stamped = le-trans (o .stamped) (last-step step);
+      cells = λ r q u. go r q (ℕ-discrete r (length (h .rows)));
+    }
+  where
+    n : ℕ
+    n = length (h .rows)
+
+    side : (r : ℕ) → r ≢ n → (r < n) ⊎ (length ((withRow h w) .rows) ≤ r)
+    side r f = pick (decLt r n)
+      where
+        pick : Dec (r < n) → (r < n) ⊎ (length ((withRow h w) .rows) ≤ r)
+        pick (yes b) = inl b
+        pick (no b) = inr (omega (arith, rows-more h w, b, f))
+
+    go : (r : ℕ) → rangeOf r ≡ g → Dec (r ≡ n) → toZ w32 (cell′ (within r)) ≡ cellThrough (withRow h w) c r (x .lineage)
+    go r q (yes z) = rw z (new ∙ sym (cell-new h w c (x .lineage) i))
+    go r q (no f) =
+        ap (toZ w32) (old (within r) (omega arith) (λ z. f (omega arith)))
+        ∙ o .cells r q tt
+        ∙ sym (cell-step i step g c x r q (o .through) (side r f) (omega (arith, rows-more h w)))

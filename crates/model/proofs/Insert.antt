@@ -1,0 +1,287 @@
+-- Insert keeps the relation: a row more, and its values in the current pages of its range.
+use mathlib.Core.Path.{_≡_, refl, sym, _∙_, ap, subst}
+use mathlib.Core.Logic.{_≢_, _⊎_, inl, inr}
+use mathlib.Core.Bool.{Bool, true, false, not, cond, _&&_, _||_}
+use mathlib.Core.List.{List, [], _∷_, _++_}
+use Prim.Native.Nat.{ℕ, zero, suc, _+_, _*_, _/_, _%_, _^_, _≤_, _<_, zero-le}
+use native.Mathlib.Omega.{arith}
+use native.Mathlib.Nat.{le-refl, le-trans, not-suc-le-zero}
+use native.Mathlib.Decide.{ℕ-discrete, decLt}
+use lib.Dec.{T, eqb, eqb→eq}
+use lib.ListN.{length, getD, set, take, length-append, length-set}
+use lib.Seq.{getD-set-same, getD-set-other, take-length}
+use lib.IntN.{ℤ, pos}
+use lib.Pow.{shr-le}
+use mir.Syntax.{w32}
+use mir.Val.{toZ, ofZ, SFits}
+use mir.ValLaws.{toZ-ofZ, ofZ-fits}
+use Rattle.terms.specs.Measures.{Shape, rangeRows, mostTransactions}
+use Rattle.history.specs.History.{Call, insert, History, Row, Record, State, unknown, active, nth, isActive, stateOf, rowAt, bit, sets, rangeOf, recordsOf, mergedThrough, scanAt, seenAt, withRows}
+use Rattle.history.proofs.Lists.{All, nil, cons, all-append, all-map, all-at, any-none, eqb-other}
+use Rattle.history.proofs.Steps.{Step, wasSet}
+use Rattle.history.proofs.States.{stampOf}
+use Rattle.history.proofs.Order.{InOrder}
+use Rattle.history.proofs.Timely.{Timely}
+use Rattle.history.proofs.Links.{noRecord, lastOf}
+use Rattle.words.proofs.Words.{Fit}
+use Rattle.loops.proofs.Change.{set-fit}
+use Rattle.layout.specs.View.{View, renew, put}
+use Rattle.layout.specs.declared.Region.the-variants.{Header, Opens, RowTransaction, RowState, RowStamp, RowLink, RowMask, Current, Cells, Changes}
+use Rattle.terms.specs.declared.Place.{Place}
+use Rattle.model.specs.Stored.{RowWords, rowIn, recordIn, valueIn, pageIn, cellIn, currentIn, placeOf, pagesOf, headerIn, within, rowsGiven, openPlace, nextWord, bears, place, asOpen}
+use Rattle.model.specs.Reading.{scanPage, wasCurrent}
+use Rattle.model.specs.Writing.{noted, putCells, insertedAt, insertedIn}
+use Rattle.model.proofs.Lists.{same-part, clash}
+use Rattle.model.proofs.Represents.{stateWord, RowIs, RowsAre, TailsAre, Holds, everyRow, CurrentIs, CurrentsAre, WaitingAre, ScanPageIs, ScanPagesAre, Unchanged, NotesAre, Represents, Known, Whole}
+use Rattle.model.proofs.Holding.{withRow, row-new, row-old, rows-more, not-given, holds-step, holds-cells, holds-insert}
+use Rattle.model.proofs.Steady.{waiting-step, scan-page-step, seen-given, active-unseen}
+use Rattle.model.proofs.Views.{renew-whole, put-whole, kept-word}
+use Rattle.model.proofs.Notes.{notes-more, few-changes, active-given}
+
+-- ---- a new row has no record and no bit
+pub bit-none : (c : ℕ) → bit 0 c ≡ false
+unfolding bit
+bit-none c = eqb-other (0 / 2 ^ c % 2) 1 (λ e. omega (arith, shr-le 0 c))
+
+pub no-link : (l : List Record) (r n : ℕ) → n ≤ length l → All (λ (x : Record). x .row ≢ r) l → lastOf l r n ≡ 0
+unfolding lastOf
+no-link l r zero b a = refl
+no-link l r (suc n) b a = rw (eqb-other ((getD l n noRecord) .row) r (all-at a n noRecord b)) (no-link l r n (omega arith) a)
+
+pub never-set : (l : List Record) (r c : ℕ) → All (λ (x : Record). x .row ≢ r) l → wasSet l r c ≡ false
+unfolding wasSet
+never-set l r c a = any-none (λ (x : Record). eqb (x .row) r && sets c (x .content)) (all-map (λ (x : Record) f. rw (eqb-other (x .row) r f) tt) a)
+
+-- ---- the cells that are written
+module _ (S : Shape) (current : List ℕ) (g i : ℕ) (vs : List ℤ) (cells : List ℕ) where
+  abbrev page : ℕ → ℕ
+  page c = getD current (placeOf S g c) 0
+
+  cells-length : (n : ℕ) → length (putCells S current g i vs n cells) ≡ length cells
+  cells-length zero = refl
+  cells-length (suc n) = length-set (putCells S current g i vs n cells) _ _ ∙ cells-length n
+
+  pub cells-other : (n j : ℕ) → ((c : ℕ) → c < n → j ≢ page c * rangeRows + i) → getD (putCells S current g i vs n cells) j 0 ≡ getD cells j 0
+  cells-other zero j f = refl
+  cells-other (suc n) j f =
+      getD-set-other (putCells S current g i vs n cells) _ j _ 0 (f n (le-refl _)) ∙ cells-other n j (λ c b. f c (omega arith))
+
+  pub cells-same : (n c : ℕ) → c < n → ((a b : ℕ) → a < n → b < n → page a ≡ page b → a ≡ b) → page c * rangeRows + i < length cells
+      → getD (putCells S current g i vs n cells) (page c * rangeRows + i) 0 ≡ ofZ w32 (getD vs c (pos 0))
+  cells-same zero c b d e = absurd (not-suc-le-zero b)
+  cells-same (suc n) c b d e = go (ℕ-discrete c n) (λ u. cells-same n c u (λ x y p q. d x y (omega arith) (omega arith)) e)
+    where
+      go : Dec (c ≡ n) → (c < n → getD (putCells S current g i vs n cells) (page c * rangeRows + i) 0 ≡ ofZ w32 (getD vs c (pos 0)))
+          → getD (putCells S current g i vs (suc n) cells) (page c * rangeRows + i) 0 ≡ ofZ w32 (getD vs c (pos 0))
+      go (yes q) r = rw q (getD-set-same (putCells S current g i vs n cells) (page n * rangeRows + i) _ 0 (omega (arith, cells-length n, ap page q)))
+      go (no q) r =
+          getD-set-other (putCells S current g i vs n cells) (page n * rangeRows + i) (page c * rangeRows + i) _ 0
+          (λ z. q (d c n b (le-refl _) (omega arith)))
+          ∙ r (omega (arith, q))
+
+  cells-fit : ((c : ℕ) → ofZ w32 (getD vs c (pos 0)) < 2 ^ 32) → Fit cells → (n : ℕ) → Fit (putCells S current g i vs n cells)
+  cells-fit f k zero = k
+  cells-fit f k (suc n) = set-fit (putCells S current g i vs n cells) _ _ (cells-fit f k n) (f n)
+
+-- ---- values that fit
+pub value-fits : (vs : List ℤ) → All (SFits w32) vs → (c : ℕ) → SFits w32 (getD vs c (pos 0))
+value-fits [] nil c = record { sfits = omega arith }
+value-fits (x ∷ vs) (cons p ps) zero = p
+value-fits (x ∷ vs) (cons p ps) (suc c) = value-fits vs ps c
+
+-- ---- current pages are pages of one range and column each
+pub current-apart : (S : Shape) (v : View) (h : History) → CurrentsAre S h v → (g c g′ c′ : ℕ) → g < S .ranges → c < S .columns → g′ < S .ranges → c′ < S .columns
+    → currentIn S v g c ≡ currentIn S v g′ c′ → (g ≡ g′) × (c ≡ c′)
+current-apart S v h o g c g′ c′ a b a′ b′ e =
+    same-part (S .columns) g g′ c c′ b b′ (sym (o g c a b .place) ∙ ap (λ (p : ℕ). (pageIn v p) .place) e ∙ o g′ c′ a′ b′ .place)
+
+module _ (S : Shape) (v : View) (ps : List Place) (h : History) (o : Represents S v ps h) (k : Known S h) (t : ℕ) (vs : List ℤ) (a : stateOf h t ≡ active)
+    (room : length (h .rows) < S .ranges * rangeRows) (typed : All (SFits w32) vs) where
+  abbrev row : Row
+  row = record { inserter = t; values = vs }
+
+  abbrev r : ℕ
+  r = length (h .rows)
+
+  abbrev h′ : History
+  h′ = withRow h row
+
+  abbrev v′ : View
+  v′ = insertedAt S t vs (length (h .rows)) v
+
+  abbrev cells′ : List ℕ
+  cells′ = putCells S (v Current) (rangeOf (length (h .rows))) (within (length (h .rows))) vs (S .columns) (v Cells)
+
+  pub inside : rangeOf (length (h .rows)) < S .ranges
+  unfolding rangeOf
+  inside = omega arith
+
+  insert-rows : RowsAre h′ v′
+  unfolding insertedAt noted openPlace put renew rowIn stateOf recordsOf withRows
+  insert-rows i b = go (ℕ-discrete i r)
+    where
+      old : i ≢ r → i < length (h .rows)
+      old f = omega (arith, f, rows-more h row)
+
+      go : Dec (i ≡ r) → RowIs (stateOf h) (rowAt h′ i) (recordsOf h (rangeOf i)) i (rowIn v′ i)
+      go (yes e) =
+          rw (e, row-new h row)
+          record {
+            transaction = getD-set-same (v RowTransaction) r t 0 (omega (arith, o .whole .long RowTransaction));
+            state = getD-set-same (v RowState) r asOpen 0 (omega (arith, o .whole .long RowState)) ∙ sym (ap stateWord a);
+            stamp = getD-set-same (v RowStamp) r 0 0 (omega (arith, o .whole .long RowStamp)) ∙ sym (ap stampOf a);
+            link = getD-set-same (v RowLink) r 0 0 (omega (arith, o .whole .long RowLink)) ∙ sym (no-link (recordsOf h (rangeOf r)) r _ (le-refl _) fresh);
+            mask = λ c. ap (λ (m : ℕ). bit m c) (getD-set-same (v RowMask) r 0 0 (omega (arith, o .whole .long RowMask))) ∙ bit-none c ∙ sym (never-set (recordsOf h (rangeOf r)) r c fresh);
+          }
+        where
+          fresh : All (λ (x : Record). x .row ≢ r) (recordsOf h (rangeOf r))
+          fresh = rw take-length at (not-given h (rangeOf r) (length (recordsOf h (rangeOf r))) r (k .past .order) (le-refl _))
+      go (no f) =
+          let y : RowIs (stateOf h) (rowAt h i) (recordsOf h (rangeOf i)) i (rowIn v i) = o .rows i (old f) in
+          rw (row-old h row i (old f))
+          record {
+            transaction = getD-set-other (v RowTransaction) r i t 0 f ∙ y .transaction;
+            state = getD-set-other (v RowState) r i asOpen 0 f ∙ y .state;
+            stamp = getD-set-other (v RowStamp) r i 0 0 f ∙ y .stamp;
+            link = getD-set-other (v RowLink) r i 0 0 f ∙ y .link;
+            mask = λ c. ap (λ (m : ℕ). bit m c) (getD-set-other (v RowMask) r i 0 0 f) ∙ y .mask c;
+          }
+
+  -- what the cells of a page are now: for a page that is of no column of the row's range, and for places other than the row's
+  pub cell-kept : (p i : ℕ) → i < rangeRows → ((c : ℕ) → c < S .columns → p ≡ currentIn S v (rangeOf r) c → i ≢ within r) → getD cells′ (p * rangeRows + i) 0 ≡ cellIn v p i
+  unfolding currentIn cellIn
+  cell-kept p i b f =
+      cells-other S (v Current) (rangeOf r) (within r) vs (v Cells) (S .columns) (p * rangeRows + i)
+      (λ c d e. f c d (omega arith) (omega arith))
+
+  -- the new cell
+  cell-written : (c : ℕ) → c < S .columns → toZ w32 (getD cells′ (currentIn S v (rangeOf r) c * rangeRows + within r) 0) ≡ getD vs c (pos 0)
+  unfolding currentIn
+  cell-written c b =
+      ap (toZ w32)
+      (cells-same S (v Current) (rangeOf r) (within r) vs (v Cells) (S .columns) c b
+      (λ x y p q e. current-apart S v h (o .currents) (rangeOf r) x (rangeOf r) y inside p inside q e .1)
+      (omega (arith, o .currents (rangeOf r) c inside b .inside, o .whole .long Cells)))
+      ∙ toZ-ofZ w32 (getD vs c (pos 0)) (value-fits vs typed c)
+
+  insert-currents : Step S h (insert t vs) h′ → CurrentsAre S h′ v′
+  unfolding insertedAt noted openPlace put renew pageIn cellIn currentIn mergedThrough
+  insert-currents step g c b d = go (ℕ-discrete (rangeOf r) g)
+    where
+      p : ℕ
+      p = currentIn S v g c
+
+      x : CurrentIs S h g c p (pageIn v p) (cellIn v p)
+      x = o .currents g c b d
+
+      cell : ℕ → ℕ
+      cell i = getD cells′ (p * rangeRows + i) 0
+
+      packed : Holds h′ g c everyRow (pageIn v p) cell → CurrentIs S h′ g c p (pageIn v p) cell
+      packed q =
+          record { inside = x .inside; state = x .state; place = x .place; made = unfold withRows in x .made; lineage = unfold withRows in x .lineage; holds = q }
+
+      go : Dec (rangeOf r ≡ g) → CurrentIs S h′ g c p (pageIn v p) cell
+      go (yes e) =
+          packed
+          (holds-insert row g c (pageIn v p) (k .past .order) step e (subst (λ (z : ℕ). toZ w32 (getD cells′ (currentIn S v z c * rangeRows + within r) 0) ≡ getD vs c (pos 0)) e (cell-written c d))
+          (λ i u f. cell-kept p i u (λ c′ w z. f)) (x .holds))
+      go (no f) =
+          packed
+          (holds-cells (λ i e q. cell-kept p (within i) (within-small i) (λ c′ w z. absurd (f (sym (current-apart S v h (o .currents) g c (rangeOf r) c′ b d inside w z .0)))))
+          (holds-step (k .past .order) step g c (pageIn v p) (omega (arith, rows-more h row)) (λ i e q. (tt, side i (λ z. f (ap rangeOf (sym z) ∙ e)))) (x .holds)))
+        where
+          within-small : (i : ℕ) → within i < rangeRows
+          within-small i = omega arith
+
+          side : (i : ℕ) → i ≢ r → (i < length (h .rows)) ⊎ (length (h′ .rows) ≤ i)
+          side i n = pick (decLt i r)
+            where
+              pick : Dec (i < r) → (i < length (h .rows)) ⊎ (length (h′ .rows) ≤ i)
+              pick (yes u) = inl u
+              pick (no u) = inr (omega (arith, rows-more h row, u, n))
+
+  insert-scans : Step S h (insert t vs) h′ → ScanPagesAre S h′ v′
+  unfolding insertedAt noted openPlace put renew pageIn cellIn currentIn scanPage wasCurrent scanAt Timely withRows
+  insert-scans step i run g c b d =
+      let p : ℕ = scanPage S v (scanAt h i .before) g c in
+      let x : ScanPageIs S h (scanAt h i) g c p (pageIn v p) (cellIn v p) = o .scanPages i (unfold withRows in run) g c b d in
+      let y : ScanPageIs S h′ (scanAt h i) g c p (pageIn v p) (cellIn v p) = scan-page-step (k .past .order) step (k .past .timely i) (unfold withRows in le-refl _) x in
+      record {
+        inside = y .inside;
+        early = y .early;
+        place = y .place;
+        made = y .made;
+        holds = holds-cells
+            (λ j e q. cell-kept p (within j) (small j)
+            (λ c′ w z u. apart j c′ e (seen j q) w (x .place) z u))
+            (y .holds);
+      }
+    where
+      small : (j : ℕ) → within j < rangeRows
+      small j = omega arith
+
+      -- a row that the scan sees is not the new one, which is open
+      seen : (j : ℕ) → T (seenAt h′ (scanAt h i .stamp) ((rowAt h′ j) .inserter)) → j ≢ r
+      seen j q e = active-unseen h′ (scanAt h i .stamp) t (unfold stateOf withRows in a) (subst (λ (w : Row). T (seenAt h′ (scanAt h i .stamp) (w .inserter))) (row-new h row) (subst (λ (n : ℕ). T (seenAt h′ (scanAt h i .stamp) ((rowAt h′ n) .inserter))) e q))
+
+      apart : (j c′ : ℕ) → rangeOf j ≡ g → j ≢ r → c′ < S .columns → (pageIn v (scanPage S v (scanAt h i .before) g c)) .place ≡ placeOf S g c
+          → scanPage S v (scanAt h i .before) g c ≡ currentIn S v (rangeOf r) c′ → within j ≡ within r → ⊥
+      apart j c′ e f w pl z u =
+          let q : g ≡ rangeOf r = same-part (S .columns) g (rangeOf r) c c′ d w (sym pl ∙ ap (λ (p : ℕ). (pageIn v p) .place) z ∙ o .currents (rangeOf r) c′ inside w .place) .0 in
+          f (same-row j r (e ∙ q) u)
+        where
+          same-row : (m n : ℕ) → rangeOf m ≡ rangeOf n → within m ≡ within n → m ≡ n
+          same-row m n a b = unfold rangeOf in (omega arith)
+
+  is-active : T (isActive (stateOf h t))
+  unfolding isActive
+  is-active = rw a tt
+
+  insert-notes : NotesAre (h .rows ++ row ∷ []) (h .tail) (v Opens) (set (v Changes) (place (bears t) (v Opens)) (nextWord (getD (v Changes) (place (bears t) (v Opens)) 0)))
+  unfolding stateOf
+  insert-notes =
+      notes-more (h .rows) (h .rows ++ row ∷ []) (h .tail) (h .tail) (h .transactions) (v Opens) (v Changes) t (o .whole .long Opens) (o .whole .long Changes) (few-changes k)
+      (simp length-append (omega arith)) (λ u f n. record { no-row = all-append (n .no-row) (cons (λ e. f (sym e)) nil); no-record = n .no-record }) (o .opens) is-active (o .notes)
+
+  insert-whole : Whole S v′
+  unfolding insertedAt noted stateOf
+  insert-whole =
+      let number : t < 2 ^ 32 = omega (arith, active-given (h .transactions) t a, k .past .limits .transactions) in
+      put-whole Changes _ _ (omega arith)
+      (put-whole Header rowsGiven (r + 1) (omega (arith, k .small .ranges))
+      (renew-whole Cells cells′ (cells-length S (v Current) (rangeOf r) (within r) vs (v Cells) (S .columns) ∙ o .whole .long Cells)
+      (cells-fit S (v Current) (rangeOf r) (within r) vs (v Cells) (λ c. ofZ-fits w32 (getD vs c (pos 0)) (value-fits vs typed c) .fits) (o .whole .fits Cells) (S .columns))
+      (put-whole RowMask r 0 (omega arith) (put-whole RowLink r 0 (omega arith) (put-whole RowStamp r 0 (omega arith) (put-whole RowState r 0 (omega arith) (put-whole RowTransaction r t number (o .whole))))))))
+
+  insert-at : Step S h (insert t vs) h′ → Represents S v′ ps h′
+  unfolding insertedAt noted openPlace put renew withRows recordIn valueIn pageIn stateOf recordsOf currentIn
+  insert-at step =
+      record {
+        header =
+            record {
+              columns = kept-word (v Header) 4 0 (r + 1) tt ∙ o .header .columns;
+              ranges = kept-word (v Header) 4 1 (r + 1) tt ∙ o .header .ranges;
+              capacity = kept-word (v Header) 4 2 (r + 1) tt ∙ o .header .capacity;
+              spares = kept-word (v Header) 4 3 (r + 1) tt ∙ o .header .spares;
+              rows-given = getD-set-same (v Header) 4 (r + 1) 0 (omega (arith, o .whole .long Header)) ∙ sym (simp length-append (omega arith));
+              transactions-given = kept-word (v Header) 4 5 (r + 1) tt ∙ o .header .transactions-given;
+              scans-given = kept-word (v Header) 4 6 (r + 1) tt ∙ o .header .scans-given;
+              last-stamp = kept-word (v Header) 4 7 (r + 1) tt ∙ o .header .last-stamp;
+              merges-made = kept-word (v Header) 4 8 (r + 1) tt ∙ o .header .merges-made;
+            };
+        opens = o .opens;
+        notes = insert-notes;
+        rows = insert-rows;
+        tails = o .tails;
+        currents = insert-currents step;
+        waits = λ p b w. waiting-step step (le-refl _) (o .waits p b w);
+        pool = o .pool;
+        scans = o .scans;
+        scanPages = insert-scans step;
+        whole = insert-whole;
+      }
+
+  pub insert-kept : Step S h (insert t vs) h′ → Represents S (insertedIn S t vs v) ps h′
+  unfolding insertedIn
+  insert-kept step = subst (λ (n : ℕ). Represents S (insertedAt S t vs n v) ps h′) (sym (o .header .rows-given)) (insert-at step)

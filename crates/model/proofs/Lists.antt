@@ -1,0 +1,255 @@
+-- Lists and numbers in general, beyond what the history's proofs have: counts of a list by place, counts and searches over the numbers below a bound, and
+-- the index of a part in a region of equal parts. Nothing here speaks of the store.
+use mathlib.Core.Path.{_≡_, refl, sym, _∙_, ap, fun-ext}
+use mathlib.Core.Logic.{_≢_}
+use mathlib.Core.Bool.{Bool, true, false, not, cond, _&&_, _||_, and-false, and-true}
+use mathlib.Core.List.{List, [], _∷_, _++_, map}
+use Prim.Native.Nat.{ℕ, zero, suc, _+_, _*_, _≤_, _<_, zero-le}
+use native.Mathlib.Omega.{arith}
+use native.Mathlib.Nat.{le-refl, not-suc-le-zero, add-zero, add-suc, suc-add, mul-le-mul-right, suc-mul}
+use native.Mathlib.Decide.{ℕ-discrete, decLt}
+use lib.Dec.{T, leb, ltb, eqb, leb→le, nleb→lt, nltb→le, le→leb, eqb→eq, eqb-refl, ltb→lt, lt→ltb}
+use lib.ListN.{length, getD, set, take, length-set}
+use lib.Seq.{take-suc}
+use Rattle.history.specs.History.{any, keep, count}
+use Rattle.history.proofs.Lists.{any-append, is-true, refuted, eqb-equal, eqb-other}
+use Rattle.model.specs.Stored.{place, firstFrom, countBelow}
+
+pub true-false : true ≡ false → ⊥
+true-false e = let z : _≡_ {A = ℕ} 0 1 = cc in omega arith
+
+pub clash : {A : Type 0} → _≡_ {A = ℕ} 0 1 → A
+clash e = absurd (omega arith)
+
+pub eqb-same : (n : ℕ) → eqb n n ≡ true
+eqb-same n = is-true (eqb n n) (eqb-refl n)
+
+pub is-equal : (a b : ℕ) → a ≡ b → eqb a b ≡ true
+is-equal a b e = is-true (eqb a b) (eqb-equal a b e)
+
+pub same-truth : (a b : Bool) → (T a → T b) → (T b → T a) → a ≡ b
+same-truth true true f g = refl
+same-truth true false f g = absurd (f tt)
+same-truth false true f g = absurd (g tt)
+same-truth false false f g = refl
+
+-- ---- counts
+abbrev pub one : Bool → ℕ
+one b = cond b 1 0
+
+pub cond-suc : (b : Bool) (n : ℕ) → cond b (suc n) n ≡ n + one b
+cond-suc true n = omega arith
+cond-suc false n = omega arith
+
+module _ {A : Type 0} where
+  -- of a list whose first place has the number i
+  abbrev pub countFrom : (ℕ → A → Bool) → ℕ → List A → ℕ
+  countFrom p i [] = 0
+  countFrom p i (x ∷ l) = cond (p i x) (suc (countFrom p (suc i) l)) (countFrom p (suc i) l)
+
+  pub count-set : (f : A → Bool) (l : List A) (i : ℕ) (x d : A) → i < length l
+      → count f (set l i x) + one (f (getD l i d)) ≡ count f l + one (f x)
+  count-set f [] i x d b = absurd (not-suc-le-zero b)
+  count-set f (y ∷ l) zero x d b = omega (arith, cond-suc (f x) (count f l), cond-suc (f y) (count f l))
+  count-set f (y ∷ l) (suc i) x d b =
+      omega (arith, cond-suc (f y) (count f (set l i x)), cond-suc (f y) (count f l), count-set f l i x d (omega arith))
+
+  pub any-count : (f : A → Bool) (l : List A) → any f l ≡ ltb 0 (count f l)
+  any-count f [] = refl
+  any-count f (x ∷ l) = go (f x) (any-count f l)
+    where
+      go : (b : Bool) → any f l ≡ ltb 0 (count f l) → (b || any f l) ≡ ltb 0 (cond b (suc (count f l)) (count f l))
+      go true e = sym (is-true (ltb 0 (suc (count f l))) (lt→ltb 0 (suc (count f l)) (omega arith)))
+      go false e = e
+
+  pub count-rest : (f : A → Bool) (l : List A) → count f l + count (λ x. not (f x) && true) l ≡ length l
+  count-rest f [] = refl
+  count-rest f (x ∷ l) = go (f x) (count-rest f l)
+    where
+      go : (b : Bool) → count f l + count (λ x. not (f x) && true) l ≡ length l
+          → cond b (suc (count f l)) (count f l)
+          + cond (not b && true) (suc (count (λ x. not (f x) && true) l)) (count (λ x. not (f x) && true) l)
+          ≡ suc (length l)
+      go true e = omega arith
+      go false e = omega arith
+
+  pub count-from : (f : A → Bool) (i : ℕ) (l : List A) → count f l ≡ countFrom (λ k x. f x && true) i l
+  count-from f i [] = refl
+  count-from f i (x ∷ l) = rw (and-true (f x), count-from f (suc i) l)
+
+  pub from-count : (f : A → Bool) (i : ℕ) (l : List A) → countFrom (λ k x. f x) i l ≡ count f l
+  from-count f i [] = refl
+  from-count f i (x ∷ l) = rw (from-count f (suc i) l)
+
+  pub from-snoc : (p : ℕ → A → Bool) (i : ℕ) (l : List A) (x : A)
+      → countFrom p i (l ++ x ∷ []) ≡ countFrom p i l + one (p (i + length l) x)
+  from-snoc p i [] x = cond-suc (p i x) 0 ∙ ap (λ (k : ℕ). 0 + one (p k x)) (sym (add-zero i))
+  from-snoc p i (y ∷ l) x =
+      let e : countFrom p (suc i) (l ++ x ∷ []) ≡ countFrom p (suc i) l + one (p (i + suc (length l)) x) =
+      from-snoc p (suc i) l x ∙ ap (λ (k : ℕ). countFrom p (suc i) l + one (p k x)) (omega arith) in
+      omega (arith, cond-suc (p i y) (countFrom p (suc i) (l ++ x ∷ [])), cond-suc (p i y) (countFrom p (suc i) l))
+
+  pub from-set : (p : ℕ → A → Bool) (i : ℕ) (l : List A) (k : ℕ) (x d : A) → k < length l
+      → countFrom p i (set l k x) + one (p (i + k) (getD l k d)) ≡ countFrom p i l + one (p (i + k) x)
+  from-set p i [] k x d b = absurd (not-suc-le-zero b)
+  from-set p i (y ∷ l) zero x d b =
+      rw add-zero (omega (arith, cond-suc (p i x) (countFrom p (suc i) l), cond-suc (p i y) (countFrom p (suc i) l)))
+  from-set p i (y ∷ l) (suc k) x d b =
+      let e : countFrom p (suc i) (set l k x) + one (p (i + suc k) (getD l k d)) ≡ countFrom p (suc i) l + one (p (i + suc k) x) =
+      rw (add-suc, ← suc-add) (from-set p (suc i) l k x d (omega arith)) in
+      omega (arith, cond-suc (p i y) (countFrom p (suc i) (set l k x)), cond-suc (p i y) (countFrom p (suc i) l))
+
+  pub from-none : (p : ℕ → A → Bool) (i : ℕ) (l : List A) → ((n : ℕ) (x : A) → i ≤ n → n < i + length l → p n x ≡ false)
+      → countFrom p i l ≡ 0
+  from-none p i [] f = refl
+  from-none p i (x ∷ l) f = rw (f i x (le-refl i) (omega arith)) (from-none p (suc i) l (λ n y a b. f n y (omega arith) (omega arith)))
+
+  pub from-at : (g : ℕ → A → Bool) (i : ℕ) (l : List A) (k : ℕ) (d : A) → ((n : ℕ) → g n d ≡ false)
+      → countFrom (λ n x. g n x && eqb n (i + k)) i l ≡ one (g (i + k) (getD l k d))
+  from-at g i [] k d z = rw (z (i + k))
+  from-at g i (x ∷ l) zero d z =
+      rw (
+        add-zero,
+        eqb-same i,
+        and-true (g i x),
+        from-none (λ n x. g n x && eqb n i) (suc i) l (λ n y a b. rw (eqb-other n i (λ e. omega arith), and-false (g n y))),
+      )
+  from-at g i (x ∷ l) (suc k) d z =
+      rw (add-suc, eqb-other i (suc (i + k)) (λ e. omega arith), and-false (g i x), ← suc-add) (from-at g (suc i) l k d z)
+
+  pub count-pos : (f : A → Bool) (l : List A) (i : ℕ) (d : A) → i < length l → T (f (getD l i d)) → 0 < count f l
+  count-pos f [] i d b t = absurd (not-suc-le-zero b)
+  count-pos f (x ∷ l) zero d b t = rw (is-true (f x) t) (omega arith)
+  count-pos f (x ∷ l) (suc i) d b t = omega (arith, cond-suc (f x) (count f l), count-pos f l i d (omega arith) t)
+
+  pub take-next : (l : List A) (n : ℕ) (d : A) → n < length l → (f : A → Bool) → any f (take (suc n) l) ≡ (any f (take n l) || (f (getD l n d) || false))
+  take-next l n d b f = rw (take-suc l n d b, any-append)
+
+  pub count-ext : (f g : A → Bool) (l : List A) → ((x : A) → f x ≡ g x) → count f l ≡ count g l
+  count-ext f g l e = ap (λ (k : A → Bool). count k l) (fun-ext e)
+
+  -- ---- the place that is found
+  pub place-lt : (f : A → Bool) (l : List A) → T (any f l) → place f l < length l
+  place-lt f [] t = absurd t
+  place-lt f (x ∷ l) t = go (f x) (λ u. place-lt f l u) t
+    where
+      go : (b : Bool) → (T (any f l) → place f l < length l) → T (b || any f l) → cond b 0 (suc (place f l)) < suc (length l)
+      go true r u = omega arith
+      go false r u = omega (arith, r u)
+
+  pub place-is : (f : A → Bool) (l : List A) (d : A) → T (any f l) → T (f (getD l (place f l) d))
+  place-is f [] d t = absurd t
+  place-is f (x ∷ l) d t = go (f x) refl (λ u. place-is f l d u) t
+    where
+      go : (b : Bool) → f x ≡ b → (T (any f l) → T (f (getD l (place f l) d))) → T (b || any f l)
+          → T (f (getD (x ∷ l) (cond b 0 (suc (place f l))) d))
+      go true e r u = rw e tt
+      go false e r u = r u
+
+-- ---- the first number that passes
+module _ (f : ℕ → Bool) where
+  pub first-found : (n i j : ℕ) → i ≤ j → j < i + n → T (f j) → firstFrom f n i < i + n
+  first-found zero i j a b t = absurd (omega arith)
+  first-found (suc n) i j a b t = go (f i) refl (ℕ-discrete i j) (λ u. first-found n (suc i) j u (omega arith) t)
+    where
+      go : (c : Bool) → f i ≡ c → Dec (i ≡ j) → (suc i ≤ j → firstFrom f n (suc i) < suc i + n) → cond c i (firstFrom f n (suc i)) < i + suc n
+      go true e d r = omega arith
+      go false e (yes q) r = absurd (rw (ap f (sym q) ∙ e) at t)
+      go false e (no q) r = omega (arith, r (omega (arith, q)))
+
+  pub first-is : (n i : ℕ) → firstFrom f n i < i + n → T (f (firstFrom f n i))
+  first-is zero i b = absurd (omega arith)
+  first-is (suc n) i b = go (f i) refl b (λ u. first-is n (suc i) u)
+    where
+      go : (c : Bool) → f i ≡ c → cond c i (firstFrom f n (suc i)) < i + suc n
+          → (firstFrom f n (suc i) < suc i + n → T (f (firstFrom f n (suc i)))) → T (f (cond c i (firstFrom f n (suc i))))
+      go true e d r = rw e tt
+      go false e d r = r (omega arith)
+
+  pub first-only : (n j : ℕ) → j < n → T (f j) → ((k : ℕ) → k < n → T (f k) → k ≡ j) → firstFrom f n 0 ≡ j
+  first-only n j b t u =
+      let c : firstFrom f n 0 < 0 + n = first-found n 0 j zero-le (omega arith) t in
+      u _ (omega arith) (first-is n 0 c)
+
+pub first-ext : (f g : ℕ → Bool) (n i : ℕ) → ((k : ℕ) → i ≤ k → k < i + n → f k ≡ g k) → firstFrom f n i ≡ firstFrom g n i
+first-ext f g zero i e = refl
+first-ext f g (suc n) i e =
+    rw (e i (le-refl i) (omega arith), first-ext f g n (suc i) (λ k a b. e k (omega arith) (omega arith)))
+
+-- ---- counts over the numbers below n
+pub below-ext : (f g : ℕ → Bool) (n : ℕ) → ((k : ℕ) → k < n → f k ≡ g k) → countBelow f n ≡ countBelow g n
+below-ext f g zero e = refl
+below-ext f g (suc n) e = rw (e n (le-refl _), below-ext f g n (λ k b. e k (omega arith)))
+
+pub below-none : (f : ℕ → Bool) (n : ℕ) → ((k : ℕ) → k < n → f k ≡ false) → countBelow f n ≡ 0
+below-none f zero e = refl
+below-none f (suc n) e = rw (e n (le-refl _)) (below-none f n (λ k b. e k (omega arith)))
+
+pub below-all : (f : ℕ → Bool) (n : ℕ) → ((k : ℕ) → k < n → f k ≡ true) → countBelow f n ≡ n
+below-all f zero e = refl
+below-all f (suc n) e = rw (e n (le-refl _)) (ap suc (below-all f n (λ k b. e k (omega arith))))
+
+pub below-pos : (f : ℕ → Bool) (n p : ℕ) → p < n → T (f p) → 0 < countBelow f n
+below-pos f zero p b t = absurd (not-suc-le-zero b)
+below-pos f (suc n) p b t = go (ℕ-discrete p n) (λ u. below-pos f n p u t)
+  where
+    go : Dec (p ≡ n) → (p < n → 0 < countBelow f n) → 0 < cond (f n) (suc (countBelow f n)) (countBelow f n)
+    go (yes e) r = rw (is-true (f n) (rw e at t)) (omega arith)
+    go (no q) r = omega (arith, cond-suc (f n) (countBelow f n), r (omega (arith, q)))
+
+-- the test differs at p alone
+pub below-change : (f g : ℕ → Bool) (n p : ℕ) → p < n → ((k : ℕ) → k < n → k ≢ p → f k ≡ g k)
+    → countBelow g n + one (f p) ≡ countBelow f n + one (g p)
+below-change f g zero p b e = absurd (not-suc-le-zero b)
+below-change f g (suc n) p b e = go (ℕ-discrete p n) (λ u. below-change f g n p u (λ k b. e k (omega arith)))
+  where
+    go : Dec (p ≡ n) → (p < n → countBelow g n + one (f p) ≡ countBelow f n + one (g p)) → countBelow g (suc n) + one (f p) ≡ countBelow f (suc n) + one (g p)
+    go (yes q) r =
+        rw q
+        (omega (
+          arith,
+          cond-suc (f n) (countBelow f n),
+          cond-suc (g n) (countBelow g n),
+          below-ext f g n (λ k b. e k (omega arith) (λ z. omega arith)),
+        ))
+    go (no q) r =
+        omega
+        (arith, cond-suc (f n) (countBelow f n), cond-suc (g n) (countBelow g n), ap one (e n (le-refl _) (λ z. q (sym z))), r (omega (arith, q)))
+
+-- of three tests exactly one passes
+pub below-three : (f g h : ℕ → Bool) (n : ℕ) → ((k : ℕ) → one (f k) + one (g k) + one (h k) ≡ 1)
+    → countBelow f n + countBelow g n + countBelow h n ≡ n
+below-three f g h zero e = refl
+below-three f g h (suc n) e =
+    omega
+    (arith, cond-suc (f n) (countBelow f n), cond-suc (g n) (countBelow g n), cond-suc (h n) (countBelow h n), e n, below-three f g h n e)
+
+-- none passes exactly if none is found
+pub first-none : (f : ℕ → Bool) (n : ℕ) → leb n (firstFrom f n 0) ≡ eqb (countBelow f n) 0
+first-none f n = go (leb n (firstFrom f n 0)) refl
+  where
+    go : (b : Bool) → leb n (firstFrom f n 0) ≡ b → b ≡ eqb (countBelow f n) 0
+    go true e =
+        let a : n ≤ firstFrom f n 0 = leb→le n _ (rw e tt) in
+        sym (is-equal (countBelow f n) 0 (below-none f n (λ k b. refuted (f k) (λ t. omega (arith, first-found f n 0 k zero-le (omega arith) t)))))
+    go false e =
+        let a : firstFrom f n 0 < n = nleb→lt n (firstFrom f n 0) (rw e tt) in
+        let t : T (f (firstFrom f n 0)) = first-is f n 0 (omega arith) in
+        sym (eqb-other (countBelow f n) 0 (λ z. omega (arith, below-pos f n _ a t)))
+
+-- ---- equal parts of length n, one after the other: part a starts at a * n
+pub part-in : (m n a i : ℕ) → a < m → i < n → a * n + i < m * n
+part-in m n a i b c = omega (arith, mul-le-mul-right n b, suc-mul a n)
+
+pub parts-apart : (n a b i j : ℕ) → i < n → j < n → a < b → a * n + i < b * n + j
+parts-apart n a b i j u w c = omega (arith, mul-le-mul-right n c, suc-mul a n)
+
+pub same-part : (n a b i j : ℕ) → i < n → j < n → a * n + i ≡ b * n + j → (a ≡ b) × (i ≡ j)
+same-part n a b i j u w e = go (decLt a b) (decLt b a)
+  where
+    go : Dec (a < b) → Dec (b < a) → (a ≡ b) × (i ≡ j)
+    go (yes p) q = absurd (omega (arith, parts-apart n a b i j u w p))
+    go (no p) (yes q) = absurd (omega (arith, parts-apart n b a j i w u q))
+    go (no p) (no q) =
+        let z : a ≡ b = omega (arith, p, q) in
+        (z, omega (arith, ap (λ (k : ℕ). k * n) z))

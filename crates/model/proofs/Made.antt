@@ -1,0 +1,210 @@
+-- A store just made represents the empty history, and every list of calls on it is answered as the history answers it.
+use mathlib.Core.Path.{_≡_, refl, sym, _∙_, ap, subst}
+use mathlib.Core.Logic.{_≢_, _⊎_, inl, inr}
+use mathlib.Core.Bool.{Bool, true, false, not, cond, _&&_, _||_}
+use mathlib.Core.List.{List, [], _∷_, _++_}
+use Prim.Native.Nat.{ℕ, zero, suc, _+_, _*_, _^_, _≤_, _<_, zero-le}
+use native.Mathlib.Omega.{arith}
+use native.Mathlib.Nat.{le-refl, le-trans, not-suc-le-zero, zero-add, mul-le-mul}
+use native.Mathlib.Decide.{decLt}
+use lib.Dec.{T, leb, ltb, eqb, leb→le}
+use lib.ListN.{length, getD, set, replicate, length-replicate}
+use mir.Syntax.{w32}
+use mir.Val.{toZ}
+use Rattle.terms.specs.Measures.{Shape, rangeRows, mostScans, mostColumns, mostRanges, mostRecords, mostSpares, between, withinLimits}
+use Rattle.history.specs.History.{Call, History, start, answers, answer, next, run, count, stateOf, rowAt, insertedValue, inserted, lastSetting, rangeOf, recordsOf, lastThrough, mergedThrough, scanAt}
+use Rattle.history.proofs.Lists.{All, nil, cons, parts, is-true}
+use Rattle.history.proofs.Pages.{Through, cellThrough}
+use Rattle.history.proofs.Past.{past-start}
+use Rattle.loops.specs.Change.{changed, filled, numbered}
+use Rattle.words.proofs.Words.{Fit}
+use Rattle.loops.proofs.Change.{changed-length, changed-outside, changed-at, changed-fit}
+use Rattle.layout.specs.Regions.{len}
+use Rattle.layout.specs.View.{View, renew, put}
+use Rattle.layout.specs.declared.Region.{Region}
+use Rattle.layout.specs.declared.Region.the-variants.{Header, Opens, Changes, Used, Current, PageState, PagePlace, PageMade, PageReplaced, PageLineage, PageNewest, Cells}
+use Rattle.terms.specs.declared.Place.{Place}
+use Rattle.model.specs.Stored.{PageWords, pageIn, cellIn, currentIn, placeOf, placesOf, pagesOf, sizesOf, within, freePlace, waitingPage, currentPage, asCurrent, countBelow}
+use Rattle.model.specs.Writing.{blank, made}
+use Rattle.model.specs.Calls.{Typed, say, viewNext, placesNext, sayAll}
+use Rattle.model.proofs.Lists.{below-all, below-none}
+use Rattle.model.proofs.Represents.{Holds, everyRow, CurrentIs, CurrentsAre, WaitingAre, PoolIs, NotesAre, ScansAre, Represents, Small, Known, Whole}
+use Rattle.model.proofs.Views.{renew-whole, put-whole}
+use Rattle.model.proofs.Merged.{place-in}
+use Rattle.model.proofs.Calls.{known-next, one-call}
+
+-- ---- zeros, and a stretch from the start
+zeros : (n i : ℕ) → _≡_ {A = ℕ} (getD (replicate n 0) i 0) 0
+zeros zero i = refl
+zeros (suc n) zero = refl
+zeros (suc n) (suc i) = zeros n i
+
+changed-start : (f : ℕ → ℕ → ℕ) (n : ℕ) (l : List ℕ) (i : ℕ) → n ≤ length l → i < n → getD (changed f 0 n l) i 0 ≡ f i (getD l i 0)
+changed-start f n l i a b =
+    ap (λ (j : ℕ). getD (changed f 0 n l) j 0) (sym (zero-add i)) ∙ changed-at f 0 l n i (omega arith) b ∙ ap (λ (j : ℕ). f i (getD l j 0)) (zero-add i)
+
+none-counted : {A : Type 0} (f : A → Bool) (n : ℕ) (x : A) → f x ≡ false → count f (replicate n x) ≡ 0
+none-counted f zero x e = refl
+none-counted f (suc n) x e = rw e (none-counted f n x e)
+
+below-start : (f : ℕ → Bool) (a n : ℕ) → a ≤ n → ((k : ℕ) → a ≤ k → k < n → f k ≡ false) → countBelow f n ≡ countBelow f a
+below-start f a zero b e = let q : 0 ≡ a = omega arith in ap (countBelow f) q
+below-start f a (suc n) b e = go (decLt n a) (λ u. below-start f a n u (λ k c d. e k c (omega arith)))
+  where
+    go : Dec (n < a) → (a ≤ n → countBelow f n ≡ countBelow f a) → countBelow f (suc n) ≡ countBelow f a
+    go (yes u) r = let q : suc n ≡ a = omega arith in ap (countBelow f) q
+    go (no u) r = rw (e n (omega (arith, u)) (le-refl _)) (r (omega (arith, u)))
+
+-- ---- the shape's limits as numbers
+pub small-shape : (S : Shape) → T (withinLimits S) → Small S
+unfolding withinLimits
+small-shape S t =
+    let a : T (between 1 mostColumns (S .columns)) × T (between 1 mostRanges (S .ranges) && (between 1 mostRecords (S .capacity) && between 0 mostSpares (S .spares))) = parts (between 1 mostColumns (S .columns)) _ t in
+    let b : T (between 1 mostRanges (S .ranges)) × T (between 1 mostRecords (S .capacity) && between 0 mostSpares (S .spares)) = parts (between 1 mostRanges (S .ranges)) _ (a .1) in
+    let c : T (between 1 mostRecords (S .capacity)) × T (between 0 mostSpares (S .spares)) = parts (between 1 mostRecords (S .capacity)) _ (b .1) in
+    let columns : T (leb 1 (S .columns)) × T (leb (S .columns) mostColumns) = parts (leb 1 (S .columns)) _ (a .0) in
+    let ranges : T (leb 1 (S .ranges)) × T (leb (S .ranges) mostRanges) = parts (leb 1 (S .ranges)) _ (b .0) in
+    let capacity : T (leb 1 (S .capacity)) × T (leb (S .capacity) mostRecords) = parts (leb 1 (S .capacity)) _ (c .0) in
+    let spares : T (leb 0 (S .spares)) × T (leb (S .spares) mostSpares) = parts (leb 0 (S .spares)) _ (c .1) in
+    record {
+      columns = leb→le (S .columns) mostColumns (columns .1);
+      ranges = leb→le (S .ranges) mostRanges (ranges .1);
+      capacity = leb→le (S .capacity) mostRecords (capacity .1);
+      spares = leb→le (S .spares) mostSpares (spares .1);
+      some-column = leb→le 1 (S .columns) (columns .0);
+      some-range = leb→le 1 (S .ranges) (ranges .0);
+    }
+
+module _ (S : Shape) (small : Small S) where
+  few-places : placesOf S ≤ 16 * 16
+  few-places = mul-le-mul (small .columns) (small .ranges)
+
+  -- ---- the words of the pages
+  state-first : (p : ℕ) → p < placesOf S → (pageIn (made S) p) .state ≡ asCurrent
+  unfolding made blank put renew pageIn
+  state-first p b = changed-start (λ i x. asCurrent) (placesOf S) (replicate (pagesOf S) 0) p (rw length-replicate (omega arith)) b
+
+  state-rest : (p : ℕ) → placesOf S ≤ p → (pageIn (made S) p) .state ≡ 0
+  unfolding made blank put renew pageIn
+  state-rest p b = changed-outside (λ i x. asCurrent) 0 (replicate (pagesOf S) 0) (placesOf S) p (inr (omega arith)) ∙ zeros (pagesOf S) p
+
+  page-made : (p : ℕ) → p < placesOf S → pageIn (made S) p ≡ record { state = asCurrent; place = p; made = 0; replaced = 0; lineage = 0; newest = 0 }
+  unfolding made blank put renew pageIn
+  page-made p b =
+      λ i. record {
+        state = state-first p b i;
+        place = changed-start (λ i x. i) (placesOf S) (replicate (pagesOf S) 0) p (rw length-replicate (omega arith)) b i;
+        made = zeros (pagesOf S) p i;
+        replaced = zeros (pagesOf S) p i;
+        lineage = zeros (pagesOf S) p i;
+        newest = zeros (pagesOf S) p i;
+      }
+
+  current-made : (g c : ℕ) → g < S .ranges → c < S .columns → currentIn S (made S) g c ≡ placeOf S g c
+  unfolding made blank put renew currentIn
+  current-made g c a b = changed-start (λ i x. i) (placesOf S) (replicate (placesOf S) 0) (placeOf S g c) (rw length-replicate (le-refl _)) (place-in S g c a b)
+
+  holds-made : (g c : ℕ) (cell : ℕ → ℕ) → ((i : ℕ) → cell i ≡ 0) → (p : ℕ) → Holds start g c everyRow record { state = asCurrent; place = p; made = 0; replaced = 0; lineage = 0; newest = 0 } cell
+  unfolding start cellThrough recordsOf lastSetting inserted insertedValue rowAt
+  holds-made g c cell z p =
+      record {
+        through = record { within = zero-le; closed-all = nil };
+        newest = nil;
+        stamped = zero-le;
+        cells = λ r e q. ap (toZ w32) (z (within r));
+      }
+
+  cells-made : (p i : ℕ) → cellIn (made S) p i ≡ 0
+  unfolding made blank put renew cellIn
+  cells-made p i = zeros (pagesOf S * 64) (p * rangeRows + i)
+
+  currents-made : CurrentsAre S start (made S)
+  currents-made g c a b =
+      subst (λ (p : ℕ). CurrentIs S start g c p (pageIn (made S) p) (cellIn (made S) p)) (sym (current-made g c a b))
+      (subst (λ (x : PageWords). CurrentIs S start g c (placeOf S g c) x (cellIn (made S) (placeOf S g c))) (sym (page-made (placeOf S g c) (place-in S g c a b)))
+      record {
+        inside = omega (arith, place-in S g c a b);
+        state = refl;
+        place = refl;
+        made = zero-le;
+        lineage = unfold mergedThrough lastThrough start in refl;
+        holds = holds-made g c (cellIn (made S) (placeOf S g c)) (cells-made (placeOf S g c)) (placeOf S g c);
+      })
+
+  state-not-waiting : (p : ℕ) → waitingPage ((pageIn (made S) p) .state) ≡ false
+  state-not-waiting p = go (decLt p (placesOf S))
+    where
+      go : Dec (p < placesOf S) → waitingPage ((pageIn (made S) p) .state) ≡ false
+      go (yes b) = ap waitingPage (state-first p b)
+      go (no b) = ap waitingPage (state-rest p (omega (arith, b)))
+
+  pool-made : PoolIs S [] (pageIn (made S))
+  pool-made =
+      record {
+        current =
+            below-start (λ p. currentPage ((pageIn (made S) p) .state)) (placesOf S) (pagesOf S) (omega arith) (λ p a b. ap currentPage (state-rest p a))
+            ∙ below-all (λ p. currentPage ((pageIn (made S) p) .state)) (placesOf S) (λ p b. ap currentPage (state-first p b));
+        waiting = λ q. below-none (λ p. waitingPage ((pageIn (made S) p) .state) && q ((pageIn (made S) p) .replaced)) (pagesOf S) (λ p b. ap (λ (w : Bool). w && q ((pageIn (made S) p) .replaced)) (state-not-waiting p));
+      }
+
+  blank-whole : Whole S (blank S)
+  unfolding blank
+  blank-whole = record { long = λ k. length-replicate (len (sizesOf S) k) 0; fits = λ k i. rw (zeros (len (sizesOf S) k) i) (omega arith) }
+
+  blank-long : (k : Region) → length (blank S k) ≡ len (sizesOf S) k
+  blank-long k = blank-whole .long k
+
+  number-fit : (l : List ℕ) → Fit l → Fit (numbered 0 (placesOf S) l)
+  number-fit l f = changed-fit (λ i x. i) 0 (placesOf S) l (λ i x a b. omega (arith, few-places)) f
+
+  made-whole : Whole S (made S)
+  unfolding made
+  made-whole =
+      put-whole Header 0 (S .columns) (omega (arith, small .columns))
+      (put-whole Header 1 (S .ranges) (omega (arith, small .ranges))
+      (put-whole Header 2 (S .capacity) (omega (arith, small .capacity))
+      (put-whole Header 3 (S .spares) (omega (arith, small .spares))
+      (renew-whole Current _ (changed-length (λ i x. i) 0 (blank S Current) (placesOf S) ∙ blank-long Current) (number-fit (blank S Current) (blank-whole .fits Current))
+      (renew-whole PagePlace _ (changed-length (λ i x. i) 0 (blank S PagePlace) (placesOf S) ∙ blank-long PagePlace) (number-fit (blank S PagePlace) (blank-whole .fits PagePlace))
+      (renew-whole PageState _ (changed-length (λ i x. asCurrent) 0 (blank S PageState) (placesOf S) ∙ blank-long PageState)
+      (changed-fit (λ i x. asCurrent) 0 (placesOf S) (blank S PageState) (λ i x a b. omega arith) (blank-whole .fits PageState)) blank-whole))))))
+
+  pub made-represents : (n : ℕ) → mostScans ≤ n → Represents S (made S) (replicate n freePlace) start
+  made-represents n enough =
+      record {
+        header = unfold made blank put renew start in record { columns = refl; ranges = refl; capacity = refl; spares = refl; rows-given = refl; transactions-given = refl; scans-given = refl; last-stamp = refl; merges-made = refl };
+        opens = unfold made blank put renew start in (λ q. refl);
+        notes = λ j b f. absurd (f (no-open j));
+        rows = λ r b. absurd (no-rows r b);
+        tails = λ g b. unfold made blank put renew start recordsOf in record { used-all = zeros (S .ranges) g; each = λ k u. absurd (not-suc-le-zero u); links = λ k u. absurd (not-suc-le-zero u) };
+        currents = currents-made;
+        waits = λ p b t. absurd (subst (λ (w : Bool). T w) (state-not-waiting p) t);
+        pool = unfold start in pool-made;
+        scans = unfold start in record { room = rw length-replicate enough; same = λ q. none-counted (λ p. not (eqb (p .number) 0) && q p) n freePlace refl };
+        scanPages = λ k t. absurd (no-scan k t);
+        whole = made-whole;
+      }
+    where
+      no-open : (j : ℕ) → getD (made S Opens) j 0 ≡ 0
+      no-open j = unfold made blank put renew in (zeros 8 j)
+
+      no-rows : (r : ℕ) → r < length (start .rows) → ⊥
+      no-rows r b = unfold start in (not-suc-le-zero b)
+
+      no-scan : (k : ℕ) → T (scanAt start k .running) → ⊥
+      no-scan zero t = unfold scanAt start in t
+      no-scan (suc k) t = unfold scanAt start in t
+
+-- ---- every list of calls
+simulated-from : (S : Shape) (v : View) (ps : List Place) (h : History) → Represents S v ps h → Known S h → {cs : List Call} → All Typed cs → sayAll S v ps cs ≡ answers S h cs
+unfolding sayAll answers
+simulated-from S v ps h o k nil = refl
+simulated-from S v ps h o k (cons {x = c} {l = cs} y ys) =
+    let one : (say S v ps c ≡ answer S h c) × Represents S (viewNext S v ps c) (placesNext S v ps c) (next S h c) = one-call S v ps h c y o k in
+    rw (one .0, simulated-from S (viewNext S v ps c) (placesNext S v ps c) (next S h c) (one .1) (known-next c k) ys)
+
+-- The store, from a making with any scan list of at least 16 places, answers every list of calls as the plain history does.
+pub simulated : (S : Shape) → T (withinLimits S) → (n : ℕ) → mostScans ≤ n → (cs : List Call) → All Typed cs
+    → sayAll S (made S) (replicate n freePlace) cs ≡ answers S start cs
+simulated S t n enough cs ys =
+    simulated-from S (made S) (replicate n freePlace) start (made-represents S (small-shape S t) n enough) record { small = small-shape S t; past = past-start S } ys

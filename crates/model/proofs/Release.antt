@@ -1,0 +1,279 @@
+-- Release keeps the relation: a waiting page is freed unless an open scan was opened before the merge that replaced it, so no open scan's page is freed.
+use mathlib.Core.Path.{_≡_, refl, sym, _∙_, ap, subst}
+use mathlib.Core.Logic.{_≢_, _⊎_, inl, inr}
+use mathlib.Core.Bool.{Bool, true, false, not, cond, _&&_, _||_, and-false, and-true}
+use mathlib.Core.List.{List, [], _∷_, _++_}
+use Prim.Native.Nat.{ℕ, zero, suc, _+_, _*_, _^_, _≤_, _<_}
+use native.Mathlib.Omega.{arith}
+use native.Mathlib.Nat.{le-refl, zero-add}
+use lib.Dec.{T, leb, ltb, eqb, eqb→eq, leb→le, le→leb, ltb→lt, lt→ltb, not-T}
+use lib.ListN.{length, getD, set}
+use Rattle.terms.specs.Measures.{Shape}
+use Rattle.history.specs.History.{Call, release, merge, History, Scan, Merge, any, count, nth, stateOf, rowAt, recordsOf, mergedThrough, scanAt, seenAt, neededBy, afterRelease, releasedCount, withMerges}
+use Rattle.history.proofs.Lists.{is-true, is-false, refuted, parts, both}
+use Rattle.history.proofs.Steps.{Step}
+use Rattle.history.proofs.Timely.{Timely}
+use Rattle.history.proofs.Pages.{lineage-step, lineage-stays}
+use Rattle.loops.specs.Change.{changed}
+use Rattle.loops.proofs.Change.{changed-length, changed-at, changed-fit}
+use Rattle.layout.specs.View.{View, renew, put}
+use Rattle.layout.specs.declared.Region.the-variants.{PageState, PagePlace, PageMade, PageReplaced, PageLineage, PageNewest}
+use Rattle.terms.specs.declared.Place.{Place}
+use Rattle.model.specs.Stored.{PageWords, rowIn, recordIn, valueIn, pageIn, cellIn, currentIn, placeOf, pagesOf, asFree, currentPage, waitingPage, countBelow}
+use Rattle.model.specs.Reading.{wasCurrent, scanPage}
+use Rattle.model.specs.Writing.{neededIn, releasable, releasedIn}
+use Rattle.model.proofs.Lists.{clash, true-false, countFrom, any-count, from-count, count-ext, first-ext, below-ext, same-truth}
+use Rattle.model.proofs.Represents.{CurrentIs, CurrentsAre, WaitingIs, WaitingAre, PoolIs, ScanPageIs, ScanPagesAre, ScansAre, scanAs, madeIn, Represents, Known, Whole}
+use Rattle.model.proofs.Steady.{current-step, waiting-step, scan-page-step}
+use Rattle.model.proofs.Views.{renew-whole}
+use Rattle.model.proofs.Scans.{scan-current}
+use Rattle.model.proofs.ScanPages.{WasCurrent, was-current, search-same, search, scan-cases, found-page, scan-page-same}
+
+-- ---- the scans that need a page
+pub needed-is : (ss : List Scan) (ps : List Place) → ScansAre ss ps → (i : ℕ) → neededIn ps (suc i) ≡ neededBy ss i
+unfolding neededBy
+needed-is ss ps o i =
+    any-count (λ p. not (eqb (p .number) 0) && ltb (p .merges) (suc i)) ps
+    ∙ ap (ltb 0)
+    (o .same (λ p. ltb (p .merges) (suc i)) ∙ from-count (λ s. s .running && ltb (s .before) (suc i)) 1 ss
+    ∙ count-ext _ (λ s. s .running && leb (s .before) i) ss
+    (λ s. ap (λ (b : Bool). s .running && b)
+    (same-truth (ltb (s .before) (suc i)) (leb (s .before) i) (λ t. le→leb (s .before) i (omega (arith, ltb→lt (s .before) (suc i) t))) (λ t. lt→ltb (s .before) (suc i) (omega (arith, leb→le (s .before) i t))))))
+    ∙ sym (any-count (λ s. s .running && leb (s .before) i) ss)
+
+-- the merges that still wait, and those whose pages are freed
+still-waiting : (ss : List Scan) (ps : List Place) → ScansAre ss ps → (q : ℕ → Bool) (i : ℕ) (ms : List Merge)
+    → countFrom (λ j m. m .waiting && (q j && neededIn ps j)) (suc i) ms ≡ countFrom (λ j m. m .waiting && q j) (suc i) (afterRelease ss i ms)
+unfolding afterRelease
+still-waiting ss ps o q i [] = refl
+still-waiting ss ps o q i (m ∷ ms) =
+    rw (needed-is ss ps o i, still-waiting ss ps o q (suc i) ms)
+    (ap
+    (λ (b : Bool). cond b (suc (countFrom (λ j m. m .waiting && q j) (suc (suc i)) (afterRelease ss (suc i) ms))) (countFrom (λ j m. m .waiting && q j) (suc (suc i)) (afterRelease ss (suc i) ms)))
+    (swap (m .waiting) (q (suc i)) (neededBy ss i)))
+  where
+    swap : (a b c : Bool) → (a && (b && c)) ≡ (a && c && b)
+    swap true true true = refl
+    swap true true false = refl
+    swap true false true = refl
+    swap true false false = refl
+    swap false b c = refl
+
+freed-count : (ss : List Scan) (ps : List Place) → ScansAre ss ps → (i : ℕ) (ms : List Merge)
+    → countFrom (λ j m. m .waiting && not (neededIn ps j)) (suc i) ms ≡ releasedCount ss i ms
+unfolding releasedCount
+freed-count ss ps o i [] = refl
+freed-count ss ps o i (m ∷ ms) = rw (needed-is ss ps o i, freed-count ss ps o (suc i) ms)
+
+after-length : (ss : List Scan) (i : ℕ) (ms : List Merge) → length (afterRelease ss i ms) ≡ length ms
+unfolding afterRelease
+after-length ss i [] = refl
+after-length ss i (m ∷ ms) = ap suc (after-length ss (suc i) ms)
+
+any-nth : {A : Type 0} (f : A → Bool) (l : List A) (k : ℕ) (d : A) → f d ≡ false → T (f (nth l k d)) → T (any f l)
+any-nth f l zero d e t = absurd (rw e at t)
+any-nth f [] (suc k) d e t = absurd (rw e at t)
+any-nth f (x ∷ l) (suc zero) d e t = rw (is-true (f x) t) tt
+any-nth f (x ∷ l) (suc (suc k)) d e t = go (f x) (any-nth f l (suc k) d e t)
+  where
+    go : (b : Bool) → T (any f l) → T (b || any f l)
+    go true u = tt
+    go false u = u
+
+-- ---- the answer
+pub release-count : (S : Shape) (v : View) (ps : List Place) (h : History) → Represents S v ps h → countBelow (releasable ps v) (pagesOf S) ≡ releasedCount (h .scans) 0 (h .merges)
+unfolding releasable
+release-count S v ps h o = o .pool .waiting (λ i. not (neededIn ps i)) ∙ freed-count (h .scans) ps (o .scans) 0 (h .merges)
+
+module _ (S : Shape) (v : View) (ps : List Place) (h : History) (o : Represents S v ps h) (k : Known S h) where
+  abbrev h′ : History
+  h′ = withMerges h (afterRelease (h .scans) 0 (h .merges))
+
+  abbrev v′ : View
+  v′ = releasedIn S ps v
+
+  -- ---- the pages' words
+  state-after : (q : ℕ) → q < pagesOf S → (pageIn v′ q) .state ≡ cond (releasable ps v q) asFree ((pageIn v q) .state)
+  unfolding releasedIn renew pageIn
+  state-after q b =
+      let f : ℕ → ℕ → ℕ = λ i w. cond (releasable ps v i) asFree w in
+      ap (λ (j : ℕ). getD (changed f 0 (pagesOf S) (v PageState)) j 0) (sym (zero-add q)) ∙ changed-at f 0 (v PageState) (pagesOf S) q (omega (arith, o .whole .long PageState)) b
+      ∙ ap (λ (j : ℕ). cond (releasable ps v q) asFree (getD (v PageState) j 0)) (zero-add q)
+
+  page-kept : (q : ℕ) → q < pagesOf S → releasable ps v q ≡ false → pageIn v′ q ≡ pageIn v q
+  unfolding pageIn releasedIn renew
+  page-kept q b e =
+      λ i. record {
+        state = (state-after q b ∙ ap (λ (z : Bool). cond z asFree ((pageIn v q) .state)) e) i;
+        place = (pageIn v q) .place;
+        made = (pageIn v q) .made;
+        replaced = (pageIn v q) .replaced;
+        lineage = (pageIn v q) .lineage;
+        newest = (pageIn v q) .newest;
+      }
+
+  -- a current page, and one that a running scan needs, is not released
+  current-kept : (a b : ℕ) → a < S .ranges → b < S .columns → releasable ps v (currentIn S v a b) ≡ false
+  unfolding releasable
+  current-kept a b u w =
+      refuted (releasable ps v (currentIn S v a b))
+      (λ t. omega (arith, ltb→lt 1 ((pageIn v (currentIn S v a b)) .state) (parts (waitingPage ((pageIn v (currentIn S v a b)) .state)) _ t .0), o .currents a b u w .state))
+
+  needed : (i n : ℕ) → T (scanAt h i .running) → scanAt h i .before < n → T (neededIn ps n)
+  unfolding scanAt neededBy
+  needed i zero t b = absurd (omega arith)
+  needed i (suc n) t b =
+      rw (needed-is (h .scans) ps (o .scans) n)
+      (any-nth (λ s. s .running && leb (s .before) n) (h .scans) i record { running = false; stamp = 0; before = 0 } refl
+      (both (scanAt h i .running) _ t (le→leb (scanAt h i .before) n (omega arith))))
+
+  found-kept : (i pl q : ℕ) → T (scanAt h i .running) → WasCurrent S (scanAt h i .before) pl (pageIn v q) → releasable ps v q ≡ false
+  unfolding releasable
+  found-kept i pl q t x =
+      refuted (releasable ps v q)
+      (λ r. lib.Dec.T-not (neededIn ps ((pageIn v q) .replaced)) (parts (waitingPage ((pageIn v q) .state)) _ r .1) (needed i ((pageIn v q) .replaced) t (x .after)))
+
+  -- a page that is freed passes no search
+  freed-unfound : (m pl q : ℕ) → q < pagesOf S → releasable ps v q ≡ true → wasCurrent S v′ m pl q ≡ false
+  freed-unfound m pl q b e =
+      refuted (wasCurrent S v′ m pl q)
+      (λ t. omega (arith, ltb→lt 1 ((pageIn v′ q) .state) (was-current S v′ m pl q t .waits), state-after q b, ap (λ (z : Bool). cond z asFree ((pageIn v q) .state)) e))
+
+  search-kept : (i a d : ℕ) → T (scanAt h i .running) → search S v′ (scanAt h i .before) a d ≡ search S v (scanAt h i .before) a d
+  search-kept i a d t = first-ext _ _ (pagesOf S) 0 (λ q _ b. at-page q (omega arith) (releasable ps v q) refl)
+    where
+      at-page : (q : ℕ) → q < pagesOf S → (z : Bool) → releasable ps v q ≡ z → wasCurrent S v′ (scanAt h i .before) (placeOf S a d) q ≡ wasCurrent S v (scanAt h i .before) (placeOf S a d) q
+      at-page q b true e =
+          freed-unfound (scanAt h i .before) (placeOf S a d) q b e
+          ∙ sym (refuted (wasCurrent S v (scanAt h i .before) (placeOf S a d) q)
+          (λ u. true-false (sym e ∙ found-kept i (placeOf S a d) q t (was-current S v (scanAt h i .before) (placeOf S a d) q u))))
+      at-page q b false e = search-same S v v′ (scanAt h i .before) (placeOf S a d) q (page-kept q b e)
+
+  pub scan-page-kept : (i a d : ℕ) → T (scanAt h i .running) → scanPage S v′ (scanAt h i .before) a d ≡ scanPage S v (scanAt h i .before) a d
+  scan-page-kept i a d t = scan-page-same S v v′ (scanAt h i .before) a d same-current same-made (search-kept i a d t)
+    where
+      same-current : currentIn S v′ a d ≡ currentIn S v a d
+      same-current = unfold currentIn releasedIn renew in refl
+
+      same-made : madeIn S v′ a d ≡ madeIn S v a d
+      same-made = unfold currentIn pageIn releasedIn renew in refl
+
+  -- the page that a running scan reads is kept
+  scan-releasable : (i a d : ℕ) → a < S .ranges → d < S .columns → T (scanAt h i .running) → (pageIn v (scanPage S v (scanAt h i .before) a d)) .made ≤ scanAt h i .before
+      → releasable ps v (scanPage S v (scanAt h i .before) a d) ≡ false
+  scan-releasable i a d u w t before = go (scan-cases S v (scanAt h i .before) a d before)
+    where
+      go : (madeIn S v a d ≤ scanAt h i .before) ⊎ ((scanAt h i .before < madeIn S v a d) × (search S v (scanAt h i .before) a d < pagesOf S))
+          → releasable ps v (scanPage S v (scanAt h i .before) a d) ≡ false
+      go (inl x) = ap (releasable ps v) (scan-current S v (scanAt h i .before) a d x) ∙ current-kept a d u w
+      go (inr x) =
+          ap (releasable ps v) (found-page S v (scanAt h i .before) a d (x .0) (x .1))
+          ∙ found-kept i (placeOf S a d) (search S v (scanAt h i .before) a d) t
+          (was-current S v (scanAt h i .before) (placeOf S a d) _ (Rattle.model.proofs.Lists.first-is (wasCurrent S v (scanAt h i .before) (placeOf S a d)) (pagesOf S) 0 (omega (arith, x .1))))
+
+  -- ---- the parts
+  merges-same : length ((h′) .merges) ≡ length (h .merges)
+  unfolding withMerges
+  merges-same = after-length (h .scans) 0 (h .merges)
+
+  through-same : Step S h release h′ → (a b : ℕ) → mergedThrough h′ a b ≡ mergedThrough h a b
+  through-same step a b = lineage-stays (lineage-step a b step) (λ n e. clash (cc))
+
+  release-currents : Step S h release h′ → CurrentsAre S h′ v′
+  unfolding currentIn cellIn releasedIn renew
+  release-currents step a b u w =
+      let x : CurrentIs S h a b (currentIn S v a b) (pageIn v (currentIn S v a b)) (cellIn v (currentIn S v a b)) = o .currents a b u w in
+      subst (λ (y : PageWords). CurrentIs S h′ a b (currentIn S v a b) y (cellIn v (currentIn S v a b))) (sym (page-kept (currentIn S v a b) (x .inside) (current-kept a b u w)))
+      (current-step (k .past .order) step (unfold withMerges in refl) (through-same step a b) (omega (arith, merges-same)) x)
+
+  release-waits : Step S h release h′ → WaitingAre S h′ v′
+  release-waits step q b t = go (releasable ps v q) refl
+    where
+      same-made : (a d : ℕ) → madeIn S v′ a d ≡ madeIn S v a d
+      same-made a d = unfold currentIn pageIn releasedIn renew in refl
+
+      go : (z : Bool) → releasable ps v q ≡ z → WaitingIs S h′ (madeIn S v′) (pageIn v′ q)
+      go true e = absurd (omega (arith, ltb→lt 1 ((pageIn v′ q) .state) t, state-after q b, ap (λ (z : Bool). cond z asFree ((pageIn v q) .state)) e))
+      go false e =
+          let x : WaitingIs S h (madeIn S v) (pageIn v q) = o .waits q b (subst (λ (y : PageWords). T (waitingPage (y .state))) (page-kept q b e) t) in
+          let y : WaitingIs S h′ (madeIn S v) (pageIn v q) = waiting-step step (omega (arith, merges-same)) x in
+          subst (λ (z : PageWords). WaitingIs S h′ (madeIn S v′) z) (sym (page-kept q b e))
+          record { place = y .place; rises = y .rises; replaced-by = y .replaced-by; early = λ a d u w z. omega (arith, y .early a d u w z, same-made a d); reach = y .reach; stamped = y .stamped }
+
+  released-waits : (q : ℕ) → releasable ps v q ≡ true → T (waitingPage ((pageIn v q) .state))
+  unfolding releasable
+  released-waits q e = parts (waitingPage ((pageIn v q) .state)) (not (neededIn ps ((pageIn v q) .replaced))) (subst (λ (b : Bool). T b) (sym e) tt) .0
+
+  release-pool : PoolIs S (afterRelease (h .scans) 0 (h .merges)) (pageIn v′)
+  release-pool =
+      record {
+        current = below-ext _ (λ q. currentPage ((pageIn v q) .state)) (pagesOf S) (λ q b. ap currentPage (state-after q b) ∙ current-same q (releasable ps v q) refl) ∙ o .pool .current;
+        waiting = λ f.
+            below-ext _ (λ q. waitingPage ((pageIn v q) .state) && (f ((pageIn v q) .replaced) && neededIn ps ((pageIn v q) .replaced))) (pagesOf S)
+            (λ q b. ap (λ (w : ℕ). waitingPage w && f ((pageIn v′ q) .replaced)) (state-after q b) ∙ waiting-same f q)
+            ∙ o .pool .waiting (λ i. f i && neededIn ps i)
+            ∙ still-waiting (h .scans) ps (o .scans) f 0 (h .merges);
+      }
+    where
+      current-same : (q : ℕ) (z : Bool) → releasable ps v q ≡ z → currentPage (cond z asFree ((pageIn v q) .state)) ≡ currentPage ((pageIn v q) .state)
+      current-same q true e = sym (refuted (currentPage ((pageIn v q) .state)) (λ t. omega (arith, eqb→eq ((pageIn v q) .state) 1 t, ltb→lt 1 ((pageIn v q) .state) (released-waits q e))))
+      current-same q false e = refl
+
+      waiting-same : (f : ℕ → Bool) (q : ℕ) → (waitingPage (cond (releasable ps v q) asFree ((pageIn v q) .state)) && f ((pageIn v′ q) .replaced))
+          ≡ (waitingPage ((pageIn v q) .state) && (f ((pageIn v q) .replaced) && neededIn ps ((pageIn v q) .replaced)))
+      waiting-same f q = unfold releasable pageIn releasedIn renew in (go (waitingPage ((pageIn v q) .state)) refl (neededIn ps ((pageIn v q) .replaced)) (f ((pageIn v q) .replaced)))
+        where
+          go : (a : Bool) → waitingPage ((pageIn v q) .state) ≡ a → (n c : Bool) → (waitingPage (cond (a && not n) asFree ((pageIn v q) .state)) && c) ≡ (a && (c && n))
+          go true e true c = rw (e, and-true c)
+          go true e false c = sym (and-false c)
+          go false e n c = rw e
+
+  release-scans : Step S h release h′ → ScanPagesAre S h′ v′
+  unfolding scanAt withMerges Timely
+  release-scans step i t a d u w =
+      let q : ℕ = scanPage S v (scanAt h i .before) a d in
+      let x : ScanPageIs S h (scanAt h i) a d q (pageIn v q) (cellIn v q) = o .scanPages i t a d u w in
+      let y : ScanPageIs S h′ (scanAt h i) a d q (pageIn v q) (cellIn v q) = scan-page-step (k .past .order) step (k .past .timely i) (omega (arith, merges-same)) x in
+      subst (λ (j : ℕ). ScanPageIs S h′ (scanAt h i) a d j (pageIn v′ j) (cellIn v′ j)) (sym (scan-page-kept i a d t))
+      (subst (λ (z : PageWords). ScanPageIs S h′ (scanAt h i) a d q z (cellIn v′ q)) (sym (page-kept q (x .inside) (scan-releasable i a d u w t (x .made)))) (same-cells (scanAt h i) a d q y))
+    where
+      same-cells : (s : Scan) (a d q : ℕ) → ScanPageIs S h′ s a d q (pageIn v q) (cellIn v q) → ScanPageIs S h′ s a d q (pageIn v q) (cellIn v′ q)
+      same-cells s a d q y = unfold cellIn releasedIn renew in y
+
+  release-whole : Whole S v′
+  unfolding releasedIn
+  release-whole =
+      renew-whole PageState _ (changed-length _ 0 (v PageState) (pagesOf S) ∙ o .whole .long PageState)
+      (changed-fit _ 0 (pagesOf S) (v PageState) (λ i x _ b. pick (releasable ps v i) x b) (o .whole .fits PageState)) (o .whole)
+    where
+      pick : (z : Bool) (x : ℕ) → x < 2 ^ 32 → cond z asFree x < 2 ^ 32
+      pick true x b = omega arith
+      pick false x b = b
+
+  pub release-kept : Step S h release h′ → Represents S (releasedIn S ps v) ps h′
+  unfolding withMerges stateOf rowAt recordsOf releasedIn renew rowIn recordIn valueIn
+  release-kept step =
+      record {
+        header =
+            record {
+              columns = o .header .columns;
+              ranges = o .header .ranges;
+              capacity = o .header .capacity;
+              spares = o .header .spares;
+              rows-given = o .header .rows-given;
+              transactions-given = o .header .transactions-given;
+              scans-given = o .header .scans-given;
+              last-stamp = o .header .last-stamp;
+              merges-made = o .header .merges-made ∙ sym merges-same;
+            };
+        opens = o .opens;
+        notes = o .notes;
+        rows = o .rows;
+        tails = o .tails;
+        currents = release-currents step;
+        waits = release-waits step;
+        pool = release-pool;
+        scans = o .scans;
+        scanPages = release-scans step;
+        whole = release-whole;
+      }

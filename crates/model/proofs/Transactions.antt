@@ -1,0 +1,441 @@
+-- Open transactions: begin, commit and abort keep the relation. Commit and abort mark every row and record that bears the number.
+use mathlib.Core.Path.{_≡_, refl, sym, _∙_, ap, subst}
+use mathlib.Core.Logic.{_≢_, _⊎_, inl, inr}
+use mathlib.Core.Bool.{Bool, true, false, not, cond, _&&_, _||_}
+use mathlib.Core.List.{List, [], _∷_, _++_}
+use Prim.Native.Nat.{ℕ, zero, suc, _+_, _*_, _^_, _≤_, _<_, zero-le}
+use native.Mathlib.Omega.{arith}
+use native.Mathlib.Nat.{le-refl, le-trans, not-suc-le-zero, zero-add, mul-le-mul-right, suc-mul}
+use native.Mathlib.Decide.{ℕ-discrete, decLt}
+use lib.Dec.{T, leb, ltb, eqb, eqb→eq, leb→le, le→leb, nltb→le, ltb→lt, not-T, T-not}
+use lib.ListN.{length, getD, set, take, length-append, length-set}
+use lib.Seq.{getD-set-same, getD-set-other}
+use Rattle.terms.specs.Measures.{Shape, rangeRows, mostTransactions, mostNumbers}
+use Rattle.history.specs.History as H
+use Rattle.history.specs.History.{Call, begin, commit, abort, History, Row, Record, State, unknown, active, aborted, committed, Content, original, setting, ending, Scan, any, count, nth, change, isActive, stateOf, rowAt, rangeOf, recordsOf, mergedThrough, scanAt, seenAt, withTransactions}
+use Rattle.history.proofs.Lists.{All, nil, cons, all-map, all-at, is-true, is-false, eqb-other, eqb-equal, nth-added, nth-changed, nth-other, length-change, parts, both}
+use Rattle.history.proofs.Steps.{Step, began, closed, Closing, by-commit, by-abort}
+use Rattle.history.proofs.States.{isGiven, stampOf, given-known}
+use Rattle.history.proofs.Order.{InOrder, placed-at}
+use Rattle.history.proofs.Timely.{Timely}
+use Rattle.history.proofs.Links.{noRecord}
+use Rattle.history.proofs.Past.{Past}
+use Rattle.loops.specs.Change.{changed, marked}
+use Rattle.words.proofs.Words.{Fit}
+use Rattle.loops.proofs.Change.{changed-length, changed-outside, changed-at, changed-fit, set-fit}
+use Rattle.layout.specs.View.{View, renew, put}
+use Rattle.layout.specs.declared.Region.the-variants.{Header, Opens, RowTransaction, RowState, RowStamp, TailTransaction, TailState, TailStamp, Used, Changes}
+use Rattle.terms.specs.declared.Place.{Place}
+use Rattle.model.specs.Stored.{RowWords, RecordWords, rowIn, recordIn, valueIn, pageIn, cellIn, currentIn, usedIn, headerIn, sizesOf, rowsGiven, transactionsGiven, scansGiven, lastStamp, mergesMade, bears, place, openPlace, asAborted, asCommitted}
+use Rattle.model.specs.Reading.{scanPage, wasCurrent}
+use Rattle.model.specs.Writing.{begun, markTails, settled, freed, committedIn, abortedIn}
+use Rattle.model.proofs.Lists.{clash, same-truth, any-count, place-lt, place-is, part-in, parts-apart, is-equal}
+use Rattle.model.proofs.Book.{book-is, book-room, book-add, book-drop, book-only}
+use Rattle.model.proofs.Represents.{stateWord, RowIs, RecordIs, TailIs, RowsAre, TailsAre, OpensAre, Unchanged, NotedIs, NotesAre, HeaderIs, CurrentsAre, WaitingAre, ScanPagesAre, Represents, Known, Whole}
+use Rattle.model.proofs.Views.{renew-whole, put-whole, kept-word}
+use Rattle.model.proofs.Steady.{current-step, waiting-step, scan-page-step}
+
+-- ---- the open places are a book
+abbrev self : ℕ → ℕ
+self k = k
+
+abbrev numbered : ℕ → State → ℕ
+numbered i s = i
+
+unknown-idle : isActive unknown ≡ false
+unfolding isActive
+unknown-idle = refl
+
+pub opens-is : (ts : List State) (l : List ℕ) → OpensAre ts l → (t : ℕ) → any (bears t) l ≡ isActive (nth ts t unknown)
+opens-is ts l o = book-is self isActive numbered (λ i s. refl) 0 refl unknown unknown-idle (λ p q f. f self) ts l o
+
+-- what stands in the place of an active transaction
+pub open-there : (ts : List State) (l : List ℕ) → OpensAre ts l → (t : ℕ) → T (isActive (nth ts t unknown)) → (place (bears t) l < length l) × (getD l (place (bears t) l) 0 ≡ t)
+open-there ts l o t a =
+    let b : T (any (bears t) l) = rw (opens-is ts l o t) a in
+    (place-lt (bears t) l b, eqb→eq _ t (parts (not (eqb (getD l (place (bears t) l) 0) 0)) _ (place-is (bears t) l 0 b) .1))
+
+-- no other place bears its number
+pub other-place : (ts : List State) (l : List ℕ) → OpensAre ts l → (t : ℕ) → T (isActive (nth ts t unknown)) → (j : ℕ) → j < length l → getD l j 0 ≢ 0 → j ≢ place (bears t) l
+    → getD l j 0 ≢ t
+other-place ts l o t a j b n f e = go (decLt j own) (decLt own j)
+  where
+    own : ℕ
+    own = place (bears t) l
+
+    here : (own < length l) × (getD l own 0 ≡ t)
+    here = open-there ts l o t a
+
+    bearing : T (bears t (getD l j 0))
+    bearing = both (not (eqb (getD l j 0) 0)) _ (not-T (eqb (getD l j 0) 0) (λ z. n (eqb→eq _ 0 z))) (eqb-equal _ t e)
+
+    found : T (bears t (getD l own 0))
+    found = subst (λ (i : ℕ). T (bears t i)) (e ∙ sym (here .1)) bearing
+
+    twice : (i k : ℕ) → i < k → k < length l → T (bears t (getD l i 0)) → T (bears t (getD l k 0)) → ⊥
+    twice i k = book-only self isActive numbered (λ i s. refl) 0 refl unknown unknown-idle (λ p q f. f self) ts l o t i k
+
+    go : Dec (j < own) → Dec (own < j) → ⊥
+    go (yes p) q = twice j own p (here .0) bearing found
+    go (no p) (yes q) = twice own j q b found bearing
+    go (no p) (no q) = f (omega (arith, p, q))
+
+-- all places are taken
+pub opens-full : (ts : List State) (l : List ℕ) → length l ≡ mostTransactions → OpensAre ts l → not (any (λ k. eqb k 0) l) ≡ leb mostTransactions (count isActive ts)
+opens-full ts l n o =
+    let e : count (λ k. eqb k 0) l + count isActive ts ≡ length l = book-room self isActive numbered (λ i s. refl) 0 refl unknown unknown-idle (λ p q f. f self) ts l o in
+    ap not (any-count (λ k. eqb k 0) l)
+    ∙ same-truth _ _ (λ t. le→leb mostTransactions (count isActive ts) (omega (arith, nltb→le 0 (count (λ k. eqb k 0) l) t)))
+    (λ t. not-T (ltb 0 (count (λ k. eqb k 0) l)) (λ u. omega (arith, ltb→lt 0 (count (λ k. eqb k 0) l) u, leb→le mostTransactions (count isActive ts) t)))
+
+opens-begin : (ts : List State) (l : List ℕ) → OpensAre ts l → T (any (λ k. eqb k 0) l) → OpensAre (ts ++ active ∷ []) (set l (place (λ k. eqb k 0) l) (suc (length ts)))
+unfolding isActive
+opens-begin ts l o a = book-add self isActive numbered (λ i s. refl) 0 refl unknown unknown-idle (λ p q f. f self) ts l o active tt a
+
+opens-close : (ts : List State) (l : List ℕ) (t : ℕ) (x : State) → OpensAre ts l → T (isActive (nth ts t unknown)) → isActive x ≡ false
+    → OpensAre (change ts t x) (set l (place (bears t) l) 0)
+opens-close ts l t x o p n = book-drop self isActive numbered (λ i s. refl) 0 refl unknown unknown-idle (λ p q f. f self) ts l o t p x n
+
+-- ---- rows and records under new states
+row-states : {st st′ : ℕ → State} {w : Row} {recs : List Record} {r : ℕ} {x : RowWords} → st′ (w .inserter) ≡ st (w .inserter) → RowIs st w recs r x → RowIs st′ w recs r x
+row-states e o = record { transaction = o .transaction; state = o .state ∙ ap stateWord (sym e); stamp = o .stamp ∙ ap stampOf (sym e); link = o .link; mask = o .mask }
+
+record-states : {C : ℕ} {st st′ : ℕ → State} {y : Record} {x : RecordWords} {value : ℕ → ℕ} → st′ (y .transaction) ≡ st (y .transaction) → RecordIs C st y x value → RecordIs C st′ y x value
+record-states e o =
+    record { transaction = o .transaction; row = o .row; state = o .state ∙ ap stateWord (sym e); stamp = o .stamp ∙ ap stampOf (sym e); content = o .content }
+
+-- ---- begin
+beyond : {A : Type 0} (l : List A) (d : A) → nth l (suc (length l)) d ≡ d
+beyond [] d = refl
+beyond (x ∷ l) d = beyond l d
+
+all-from : {A : Type 0} {P : A → Type 0} (l : List A) (d : A) → ((k : ℕ) → k < length l → P (getD l k d)) → All P l
+all-from [] d f = nil
+all-from (x ∷ l) d f = cons (f 0 (omega arith)) (all-from l d (λ k b. f (suc k) (omega arith)))
+
+-- a number not yet given has made nothing
+not-begun : (h : History) → InOrder h → Unchanged (h .rows) (h .tail) (suc (length (h .transactions)))
+unfolding stateOf rowAt
+not-begun h i =
+    record {
+      no-row = all-from (h .rows) record { inserter = 0; values = [] } (λ r b e. given-known _ (i .inserters r b) (ap (stateOf h) e ∙ beyond (h .transactions) unknown));
+      no-record = all-map (λ y p e. given-known _ (p .giver) (ap (stateOf h) e ∙ beyond (h .transactions) unknown)) (i .records);
+    }
+
+notes-begin : (rows : List Row) (tail : List Record) (l notes : List ℕ) (j t : ℕ) → j < length l → j < length notes → Unchanged rows tail t → NotesAre rows tail l notes
+    → NotesAre rows tail (set l j t) (set notes j 0)
+notes-begin rows tail l notes j t b c u o k d n = go (ℕ-discrete k j) n
+  where
+    go : Dec (k ≡ j) → getD (set l j t) k 0 ≢ 0 → NotedIs rows tail (getD (set l j t) k 0) (getD (set notes j 0) k 0)
+    go (yes e) n = rw (e, getD-set-same l j t 0 b, getD-set-same notes j 0 0 c) record { bound = zero-le; none = λ _. u }
+    go (no f) n = rw (getD-set-other l j k t 0 f, getD-set-other notes j k 0 0 f) (o k d (λ e. n (getD-set-other l j k t 0 f ∙ e)))
+
+module _ (S : Shape) (v : View) (ps : List Place) (h : History) (o : Represents S v ps h) (k : Known S h) where
+  abbrev begunHistory : History
+  begunHistory = withTransactions h (h .transactions ++ active ∷ []) (h .last)
+
+  begun-state : (t : ℕ) → T (isGiven (stateOf h t)) → stateOf begunHistory t ≡ stateOf h t
+  unfolding stateOf withTransactions
+  begun-state t g = nth-added unknown (h .transactions) active t (given-known (stateOf h t) g)
+
+  begun-rows : RowsAre begunHistory v
+  unfolding rowAt recordsOf withTransactions
+  begun-rows r b = row-states {st = stateOf h} {st′ = stateOf begunHistory} (begun-state _ (k .past .order .inserters r b)) (o .rows r b)
+
+  begun-tails : TailsAre S begunHistory v
+  unfolding recordsOf withTransactions
+  begun-tails g b =
+      let t : TailIs (S .columns) (stateOf h) (recordsOf h g) (usedIn v g) (λ k. recordIn v (g * S .capacity + k)) (λ k. valueIn S v (g * S .capacity + k)) = o .tails g b in
+      record {
+        used-all = t .used-all;
+        each = λ i u. record-states {st = stateOf h} {st′ = stateOf begunHistory} (begun-state _ (placed-at h g (k .past .order) i noRecord u .giver)) (t .each i u);
+        links = t .links;
+      }
+
+  begun-currents : Step S h begin begunHistory → CurrentsAre S begunHistory v
+  unfolding mergedThrough withTransactions
+  begun-currents step g c a b = current-step (k .past .order) step refl refl (le-refl _) (o .currents g c a b)
+
+  begun-waits : Step S h begin begunHistory → WaitingAre S begunHistory v
+  unfolding withTransactions
+  begun-waits step p a b = waiting-step step (le-refl _) (o .waits p a b)
+
+  begun-scans : Step S h begin begunHistory → ScanPagesAre S begunHistory v
+  unfolding withTransactions scanAt Timely
+  begun-scans step i t g c a b = scan-page-step (k .past .order) step (k .past .timely i) (le-refl _) (o .scanPages i t g c a b)
+
+  begun-whole : length (h .transactions) < mostNumbers → Whole S (begun v)
+  unfolding begun
+  begun-whole few =
+      let b : headerIn v transactionsGiven + 1 < 2 ^ 32 = omega (arith, o .header .transactions-given) in
+      put-whole Header transactionsGiven _ b (put-whole Changes _ 0 (omega arith) (put-whole Opens _ _ b (o .whole)))
+
+  pub begin-kept : T (any (λ i. eqb i 0) (v Opens)) → Step S h begin begunHistory → length (h .transactions) < mostNumbers → Represents S (begun v) ps begunHistory
+  unfolding begun put renew withTransactions rowIn recordIn valueIn pageIn cellIn currentIn scanPage wasCurrent
+  begin-kept free step few =
+      record {
+        header =
+            record {
+              columns = kept-word (v Header) 5 0 n tt ∙ o .header .columns;
+              ranges = kept-word (v Header) 5 1 n tt ∙ o .header .ranges;
+              capacity = kept-word (v Header) 5 2 n tt ∙ o .header .capacity;
+              spares = kept-word (v Header) 5 3 n tt ∙ o .header .spares;
+              rows-given = kept-word (v Header) 5 4 n tt ∙ o .header .rows-given;
+              transactions-given = getD-set-same (v Header) 5 n 0 (omega (arith, o .whole .long Header)) ∙ e ∙ sym (simp length-append (omega arith));
+              scans-given = kept-word (v Header) 5 6 n tt ∙ o .header .scans-given;
+              last-stamp = kept-word (v Header) 5 7 n tt ∙ o .header .last-stamp;
+              merges-made = kept-word (v Header) 5 8 n tt ∙ o .header .merges-made;
+            };
+        opens = rw e (opens-begin (h .transactions) (v Opens) (o .opens) free);
+        notes =
+            notes-begin (h .rows) (h .tail) (v Opens) (v Changes) j n inside (omega (arith, inside, o .whole .long Opens, o .whole .long Changes))
+            (subst (λ (t : ℕ). Unchanged (h .rows) (h .tail) t) (sym e) (not-begun h (k .past .order))) (o .notes);
+        rows = begun-rows;
+        tails = begun-tails;
+        currents = begun-currents step;
+        waits = begun-waits step;
+        pool = o .pool;
+        scans = o .scans;
+        scanPages = begun-scans step;
+        whole = begun-whole few;
+      }
+    where
+      n : ℕ
+      n = headerIn v transactionsGiven + 1
+
+      j : ℕ
+      j = place (λ i. eqb i 0) (v Opens)
+
+      e : n ≡ suc (length (h .transactions))
+      e = omega (arith, o .header .transactions-given)
+
+      inside : j < length (v Opens)
+      inside = place-lt (λ i. eqb i 0) (v Opens) free
+
+-- ---- the marks
+pub marked-at : (ks : List ℕ) (n t w : ℕ) (l : List ℕ) (r : ℕ) → n ≤ length l → r < n → getD (marked ks 0 n t 0 w l) r 0 ≡ cond (eqb (getD ks r 0) t) w (getD l r 0)
+marked-at ks n t w l r a b =
+    ap (λ (j : ℕ). getD (marked ks 0 n t 0 w l) j 0) (sym (zero-add r))
+    ∙ changed-at (λ i x. cond (eqb (getD ks (0 + i) 0) t) w x) 0 l n r (omega arith) b
+    ∙ ap (λ (j : ℕ). cond (eqb (getD ks j 0) t) w (getD l j 0)) (zero-add r)
+
+module _ (S : Shape) (used ks : List ℕ) (t w : ℕ) (l : List ℕ) (few : (g : ℕ) → g < S .ranges → getD used g 0 ≤ S .capacity) (room : S .ranges * S .capacity ≤ length l) where
+  marks-length : (n : ℕ) → length (markTails S used ks t w n l) ≡ length l
+  marks-length zero = refl
+  marks-length (suc n) = changed-length _ (n * S .capacity) (markTails S used ks t w n l) (getD used n 0) ∙ marks-length n
+
+  -- the ranges from n on are as they were
+  marks-above : (n j : ℕ) → n ≤ S .ranges → n * S .capacity ≤ j → getD (markTails S used ks t w n l) j 0 ≡ getD l j 0
+  marks-above zero j a b = refl
+  marks-above (suc n) j a b =
+      changed-outside _ (n * S .capacity) (markTails S used ks t w n l) (getD used n 0) j (inr (omega (arith, few n a, suc-mul n (S .capacity))))
+      ∙ marks-above n j (omega arith) (omega (arith, suc-mul n (S .capacity)))
+
+  pub marks-at : (n g i : ℕ) → n ≤ S .ranges → g < n → i < getD used g 0
+      → getD (markTails S used ks t w n l) (g * S .capacity + i) 0 ≡ cond (eqb (getD ks (g * S .capacity + i) 0) t) w (getD l (g * S .capacity + i) 0)
+  marks-at zero g i a b c = absurd (not-suc-le-zero b)
+  marks-at (suc n) g i a b c = go (ℕ-discrete g n) (λ u. marks-at n g i (omega arith) u c)
+    where
+      go : Dec (g ≡ n) → (g < n → getD (markTails S used ks t w n l) (g * S .capacity + i) 0 ≡ cond (eqb (getD ks (g * S .capacity + i) 0) t) w (getD l (g * S .capacity + i) 0))
+          → getD (markTails S used ks t w (suc n) l) (g * S .capacity + i) 0 ≡ cond (eqb (getD ks (g * S .capacity + i) 0) t) w (getD l (g * S .capacity + i) 0)
+      go (yes e) r =
+          rw e
+          (changed-at (λ i x. cond (eqb (getD ks (n * S .capacity + i) 0) t) w x) (n * S .capacity) (markTails S used ks t w n l) (getD used n 0) i
+          (omega (arith, marks-length n, few n a, suc-mul n (S .capacity), mul-le-mul-right (S .capacity) a)) (rw e at c)
+          ∙ ap (λ (x : ℕ). cond (eqb (getD ks (n * S .capacity + i) 0) t) w x) (marks-above n (n * S .capacity + i) (omega arith) (omega arith)))
+      go (no f) r =
+          let u : g < n = omega (arith, f) in
+          changed-outside _ (n * S .capacity) (markTails S used ks t w n l) (getD used n 0) (g * S .capacity + i)
+          (inl (omega (arith, part-in n (S .capacity) g i u (le-trans c (few g (omega arith))))))
+          ∙ r u
+
+marked-fit : (ks : List ℕ) (at n t w : ℕ) (l : List ℕ) → w < 2 ^ 32 → Fit l → Fit (marked ks at n t at w l)
+marked-fit ks at n t w l b f = changed-fit _ at n l (λ i x c d. pick (eqb (getD ks (at + i) 0) t) x d) f
+  where
+    pick : (c : Bool) (x : ℕ) → x < 2 ^ 32 → cond c w x < 2 ^ 32
+    pick true x d = b
+    pick false x d = d
+
+marks-fit : (S : Shape) (used ks : List ℕ) (t w n : ℕ) (l : List ℕ) → w < 2 ^ 32 → Fit l → Fit (markTails S used ks t w n l)
+marks-fit S used ks t w zero l b f = f
+marks-fit S used ks t w (suc n) l b f = marked-fit ks (n * S .capacity) (getD used n 0) t w (markTails S used ks t w n l) b (marks-fit S used ks t w n l b f)
+
+marks-long : (S : Shape) (used ks : List ℕ) (t w n : ℕ) (l : List ℕ) → length (markTails S used ks t w n l) ≡ length l
+marks-long S used ks t w zero l = refl
+marks-long S used ks t w (suc n) l = changed-length _ (n * S .capacity) (markTails S used ks t w n l) (getD used n 0) ∙ marks-long S used ks t w n l
+
+pub settled-whole : {S : Shape} {v : View} (t state stamp : ℕ) → state < 2 ^ 32 → stamp < 2 ^ 32 → Whole S v → Whole S (settled S t state stamp v)
+unfolding settled
+settled-whole {S} {v} t state stamp a b o =
+    renew-whole TailStamp _ (marks-long S (v Used) (v TailTransaction) t stamp (S .ranges) (v TailStamp) ∙ o .long TailStamp) (marks-fit S (v Used) (v TailTransaction) t stamp (S .ranges) (v TailStamp) b (o .fits TailStamp))
+    (renew-whole TailState _ (marks-long S (v Used) (v TailTransaction) t state (S .ranges) (v TailState) ∙ o .long TailState) (marks-fit S (v Used) (v TailTransaction) t state (S .ranges) (v TailState) a (o .fits TailState))
+    (renew-whole RowStamp _ (changed-length _ 0 (v RowStamp) (headerIn v rowsGiven) ∙ o .long RowStamp) (marked-fit (v RowTransaction) 0 (headerIn v rowsGiven) t stamp (v RowStamp) b (o .fits RowStamp))
+    (renew-whole RowState _ (changed-length _ 0 (v RowState) (headerIn v rowsGiven) ∙ o .long RowState) (marked-fit (v RowTransaction) 0 (headerIn v rowsGiven) t state (v RowState) a (o .fits RowState)) o)))
+
+-- a function of a transaction's state, after t is closed with x
+closed-is : {A : Type 0} (f : State → A) (ts : List State) (t : ℕ) (x : State) (k : ℕ) → nth ts t unknown ≡ active
+    → f (nth (change ts t x) k unknown) ≡ cond (eqb k t) (f x) (f (nth ts k unknown))
+closed-is f ts t x k a = go (ℕ-discrete k t)
+  where
+    go : Dec (k ≡ t) → f (nth (change ts t x) k unknown) ≡ cond (eqb k t) (f x) (f (nth ts k unknown))
+    go (yes e) = rw (is-equal k t e) (ap f (ap (λ (j : ℕ). nth (change ts t x) j unknown) e ∙ nth-changed unknown ts t x (λ u. clash (cc))))
+    go (no n) = rw (eqb-other k t n) (ap f (nth-other unknown ts t x k n))
+
+notes-close : (rows : List Row) (tail : List Record) (l notes : List ℕ) (j : ℕ) → j < length l → NotesAre rows tail l notes → NotesAre rows tail (set l j 0) (set notes j 0)
+notes-close rows tail l notes j b o k d n = go (ℕ-discrete k j) n
+  where
+    go : Dec (k ≡ j) → getD (set l j 0) k 0 ≢ 0 → NotedIs rows tail (getD (set l j 0) k 0) (getD (set notes j 0) k 0)
+    go (yes e) n = absurd (n (rw e (getD-set-same l j 0 0 b)))
+    go (no f) n = rw (getD-set-other l j k 0 0 f, getD-set-other notes j k 0 0 f) (o k d (λ e. n (getD-set-other l j k 0 0 f ∙ e)))
+
+closing-idle : {h : History} {x : State} {s : ℕ} → Closing h x s → isActive x ≡ false
+unfolding isActive
+closing-idle (by-commit b) = refl
+closing-idle by-abort = refl
+
+module _ (S : Shape) (v : View) (ps : List Place) (h : History) (o : Represents S v ps h) (k : Known S h) (t : ℕ) (x : State) (s : ℕ) (a : stateOf h t ≡ active) (c : Closing h x s) where
+  abbrev closedHistory : History
+  closedHistory = withTransactions h (change (h .transactions) t x) s
+
+  abbrev marks : View
+  marks = settled S t (stateWord x) (stampOf x) v
+
+  given-room : length (h .rows) ≤ S .ranges * rangeRows
+  given-room = k .past .limits .rows
+
+  closed-rows : RowsAre closedHistory marks
+  unfolding stateOf rowAt recordsOf withTransactions settled renew rowIn
+  closed-rows r b =
+      let y : RowIs (stateOf h) (rowAt h r) (recordsOf h (rangeOf r)) r (rowIn v r) = o .rows r b in
+      let g : r < headerIn v rowsGiven = omega (arith, o .header .rows-given) in
+      let m : headerIn v rowsGiven ≤ length (v RowState) = omega (arith, o .header .rows-given, o .whole .long RowState, given-room) in
+      let n : headerIn v rowsGiven ≤ length (v RowStamp) = omega (arith, o .header .rows-given, o .whole .long RowStamp, given-room) in
+      record {
+        transaction = y .transaction;
+        state =
+            marked-at (v RowTransaction) (headerIn v rowsGiven) t (stateWord x) (v RowState) r m g
+            ∙ rw (y .transaction, y .state) (sym (closed-is stateWord (h .transactions) t x ((rowAt h r) .inserter) a));
+        stamp =
+            marked-at (v RowTransaction) (headerIn v rowsGiven) t (stampOf x) (v RowStamp) r n g
+            ∙ rw (y .transaction, y .stamp) (sym (closed-is stampOf (h .transactions) t x ((rowAt h r) .inserter) a));
+        link = y .link;
+        mask = y .mask;
+      }
+
+  used-few : (g : ℕ) → g < S .ranges → usedIn v g ≤ S .capacity
+  used-few g b = omega (arith, o .tails g b .used-all, k .past .limits .records g)
+
+  closed-tails : TailsAre S closedHistory marks
+  unfolding stateOf recordsOf withTransactions settled renew recordIn valueIn
+  closed-tails g b =
+      let y : TailIs (S .columns) (stateOf h) (recordsOf h g) (usedIn v g) (λ i. recordIn v (g * S .capacity + i)) (λ i. valueIn S v (g * S .capacity + i)) = o .tails g b in
+      record {
+        used-all = y .used-all;
+        each = λ i u.
+            let z : RecordIs (S .columns) (stateOf h) (getD (recordsOf h g) i noRecord) (recordIn v (g * S .capacity + i)) (valueIn S v (g * S .capacity + i)) = y .each i u in
+            let d : i < usedIn v g = omega (arith, y .used-all) in
+            record {
+              transaction = z .transaction;
+              row = z .row;
+              state =
+                  marks-at S (v Used) (v TailTransaction) t (stateWord x) (v TailState) used-few (omega (arith, o .whole .long TailState)) (S .ranges) g i (le-refl _) b d
+                  ∙ rw (z .transaction, z .state) (sym (closed-is stateWord (h .transactions) t x ((getD (recordsOf h g) i noRecord) .transaction) a));
+              stamp =
+                  marks-at S (v Used) (v TailTransaction) t (stampOf x) (v TailStamp) used-few (omega (arith, o .whole .long TailStamp)) (S .ranges) g i (le-refl _) b d
+                  ∙ rw (z .transaction, z .stamp) (sym (closed-is stampOf (h .transactions) t x ((getD (recordsOf h g) i noRecord) .transaction) a));
+              content = z .content;
+            };
+        links = y .links;
+      }
+
+  closed-currents : {y : Call} → Step S h y closedHistory → CurrentsAre S closedHistory v
+  unfolding mergedThrough withTransactions
+  closed-currents step g c a b = current-step (k .past .order) step refl refl (le-refl _) (o .currents g c a b)
+
+  closed-waits : {y : Call} → Step S h y closedHistory → WaitingAre S closedHistory v
+  unfolding withTransactions
+  closed-waits step p a b = waiting-step step (le-refl _) (o .waits p a b)
+
+  closed-scans : {y : Call} → Step S h y closedHistory → ScanPagesAre S closedHistory v
+  unfolding withTransactions scanAt Timely
+  closed-scans step i t g c a b = scan-page-step (k .past .order) step (k .past .timely i) (le-refl _) (o .scanPages i t g c a b)
+
+  is-active : T (isActive (stateOf h t))
+  unfolding isActive
+  is-active = rw a tt
+
+  -- the places after a transaction was closed
+  closed-opens : OpensAre (change (h .transactions) t x) (set (v Opens) (place (bears t) (v Opens)) 0)
+  unfolding stateOf
+  closed-opens = opens-close (h .transactions) (v Opens) t x (o .opens) is-active (closing-idle c)
+
+  closed-notes : NotesAre (h .rows) (h .tail) (set (v Opens) (place (bears t) (v Opens)) 0) (set (v Changes) (place (bears t) (v Opens)) 0)
+  unfolding stateOf
+  closed-notes = notes-close (h .rows) (h .tail) (v Opens) (v Changes) (place (bears t) (v Opens)) (open-there (h .transactions) (v Opens) (o .opens) t is-active .0) (o .notes)
+
+pub abort-kept : (S : Shape) (v : View) (ps : List Place) (h : History) → Represents S v ps h → Known S h → (t : ℕ) → stateOf h t ≡ active
+    → Step S h (abort t) (withTransactions h (change (h .transactions) t aborted) (h .last))
+    → Represents S (abortedIn S t v) ps (withTransactions h (change (h .transactions) t aborted) (h .last))
+unfolding abortedIn freed openPlace settled put renew withTransactions rowIn recordIn valueIn pageIn cellIn currentIn scanPage wasCurrent
+abort-kept S v ps h o k t a step =
+    record {
+      header =
+          record {
+            columns = o .header .columns;
+            ranges = o .header .ranges;
+            capacity = o .header .capacity;
+            spares = o .header .spares;
+            rows-given = o .header .rows-given;
+            transactions-given = o .header .transactions-given ∙ sym (length-change (h .transactions) t aborted);
+            scans-given = o .header .scans-given;
+            last-stamp = o .header .last-stamp;
+            merges-made = o .header .merges-made;
+          };
+      opens = closed-opens S v ps h o k t aborted (h .last) a by-abort;
+      notes = closed-notes S v ps h o k t aborted (h .last) a by-abort;
+      rows = closed-rows S v ps h o k t aborted (h .last) a by-abort;
+      tails = closed-tails S v ps h o k t aborted (h .last) a by-abort;
+      currents = closed-currents S v ps h o k t aborted (h .last) a by-abort step;
+      waits = closed-waits S v ps h o k t aborted (h .last) a by-abort step;
+      pool = o .pool;
+      scans = o .scans;
+      scanPages = closed-scans S v ps h o k t aborted (h .last) a by-abort step;
+      whole = abort-whole S v t (o .whole);
+    }
+  where
+    abort-whole : (S : Shape) (v : View) (t : ℕ) → Whole S v → Whole S (abortedIn S t v)
+    abort-whole S v t w = put-whole Changes _ 0 (omega arith) (put-whole Opens _ 0 (omega arith) (settled-whole t asAborted 0 (omega arith) (omega arith) w))
+
+pub commit-kept : (S : Shape) (v : View) (ps : List Place) (h : History) → Represents S v ps h → Known S h → (t s : ℕ) → stateOf h t ≡ active → h .last < s → s < 2 ^ 32
+    → Step S h (commit t s) (withTransactions h (change (h .transactions) t (committed s)) s)
+    → Represents S (committedIn S t s v) ps (withTransactions h (change (h .transactions) t (committed s)) s)
+unfolding committedIn freed openPlace settled put renew withTransactions rowIn recordIn valueIn pageIn cellIn currentIn scanPage wasCurrent
+commit-kept S v ps h o k t s a later fit step =
+    record {
+      header =
+          record {
+            columns = kept-word (v Header) 7 0 s tt ∙ o .header .columns;
+            ranges = kept-word (v Header) 7 1 s tt ∙ o .header .ranges;
+            capacity = kept-word (v Header) 7 2 s tt ∙ o .header .capacity;
+            spares = kept-word (v Header) 7 3 s tt ∙ o .header .spares;
+            rows-given = kept-word (v Header) 7 4 s tt ∙ o .header .rows-given;
+            transactions-given = kept-word (v Header) 7 5 s tt ∙ o .header .transactions-given ∙ sym (length-change (h .transactions) t (committed s));
+            scans-given = kept-word (v Header) 7 6 s tt ∙ o .header .scans-given;
+            last-stamp = getD-set-same (v Header) 7 s 0 (omega (arith, o .whole .long Header));
+            merges-made = kept-word (v Header) 7 8 s tt ∙ o .header .merges-made;
+          };
+      opens = closed-opens S v ps h o k t (committed s) s a (by-commit later);
+      notes = closed-notes S v ps h o k t (committed s) s a (by-commit later);
+      rows = closed-rows S v ps h o k t (committed s) s a (by-commit later);
+      tails = closed-tails S v ps h o k t (committed s) s a (by-commit later);
+      currents = closed-currents S v ps h o k t (committed s) s a (by-commit later) step;
+      waits = closed-waits S v ps h o k t (committed s) s a (by-commit later) step;
+      pool = o .pool;
+      scans = o .scans;
+      scanPages = closed-scans S v ps h o k t (committed s) s a (by-commit later) step;
+      whole = commit-whole S v t s fit (o .whole);
+    }
+  where
+    commit-whole : (S : Shape) (v : View) (t s : ℕ) → s < 2 ^ 32 → Whole S v → Whole S (committedIn S t s v)
+    commit-whole S v t s b w =
+        put-whole Header lastStamp s b (put-whole Changes _ 0 (omega arith) (put-whole Opens _ 0 (omega arith) (settled-whole t asCommitted s (omega arith) b w)))

@@ -1,0 +1,247 @@
+-- The calls on a store, as the plain history has them: `testsIn` are a call's refusals in the stated order, `replyIn` what it answers if none applies, `actIn` and
+-- `placesAfter` the memory and the scan list that it leaves then. All four are total and look at the memory alone. The test of the stored facts,
+-- which every call makes first, is not here: it is the same for all.
+use mathlib.Core.Bool.{Bool, true, false, not, cond, _&&_, _||_}
+use mathlib.Core.List.{List, [], _∷_}
+use Prim.Native.Nat.{ℕ, zero, suc, _+_, _*_, _-_, _/_, _%_, _^_, _<_}
+use lib.Dec.{leb, ltb, eqb}
+use lib.ListN.{length, getD, set, replicate}
+use lib.IntN.{ℤ, pos}
+use mir.Syntax.{w32}
+use mir.Val.{toZ, SFits}
+use Rattle.terms.specs.Measures.{Shape, rangeRows, mostTransactions, mostScans, mostNumbers, mostColumns}
+use Rattle.terms.specs.declared.Refusal.{Refusal}
+use Rattle.terms.specs.declared.Answer.{Answer}
+use Rattle.history.specs.History.{Call, begin, insert, update, delete, commit, abort, latest, readAt, ownRead, openScan, scanRead, sum, close, merge, release, pageCell, lineage, Test, _when_, verdict, Verdict, accept, refuse, answerIf, any, count, noColumn, noRange, badMask, rangeOf}
+use Rattle.history.proofs.Lists.{All}
+use Rattle.loops.specs.Change.{changed}
+use Rattle.layout.specs.View.{View, put, renew}
+use Rattle.layout.specs.declared.Region.the-variants.{Header, Opens}
+use Rattle.terms.specs.declared.Place.{Place}
+use Rattle.model.specs.Stored.{rowIn, recordIn, slot, valueIn, openPlace, pageIn, currentIn, cellIn, within, usedIn, headerIn, rowsGiven, transactionsGiven, scansGiven, lastStamp, mergesMade, openState, abortedState, deleteKind, freePlace, place, bears, scanPlace, pagesOf, countBelow, wordLimit}
+use Rattle.model.specs.Reading.{headIn, hasRecord, readIn, readCurrent, ownChanges, scanPage, sumIn, sees, visibleIn, answersFor, walk, belowLineage, wordIn, wasCurrent, tally}
+use Rattle.model.specs.Writing.{made, blank, noted, settled, freed, nextSlot, appended, filledIn, newBitsIn, originalAppended, settingAppended, applies, applied, newestOf, begun, committedIn, abortedIn, insertedAt, insertedIn, updatedIn, deletedIn, mergedIn, releasedIn, releasable, recordsWanted, anyOpen, freeIn}
+
+-- ---- the conditions of "What a refused call returns", read in the memory
+-- 3
+unfoldable pub notOpenIn : View → ℕ → Bool
+notOpenIn v t = not (any (bears t) (v Opens))
+
+-- 4
+unfoldable pub noScanIn : List Place → ℕ → Bool
+noScanIn ps k = not (any (λ p. bears k (p .number)) ps)
+
+-- 5
+unfoldable pub notGivenIn : View → ℕ → Bool
+notGivenIn v r = leb (headerIn v rowsGiven) r
+
+-- 9: the inserter and the newest record tell it, as only the transaction that holds a row adds records to it
+unfoldable pub heldIn : Shape → View → ℕ → ℕ → Bool
+heldIn S v t r =
+    let x = rowIn v r in
+    let y = headIn S v r in
+    (openState (x .state) && not (eqb (x .transaction) t)) || (hasRecord v r && (openState (y .state) && not (eqb (y .transaction) t)))
+
+-- 10, for a row that is not held: an aborted delete ends nothing
+unfoldable pub goneIn : Shape → View → ℕ → Bool
+goneIn S v r =
+    let x = rowIn v r in
+    let y = headIn S v r in
+    abortedState (x .state) || (hasRecord v r && (deleteKind (y .kind) && not (abortedState (y .state))))
+
+-- 12
+unfoldable pub lacksIn : Shape → View → ℕ → ℕ → Bool
+lacksIn S v r n = ltb (S .capacity) (usedIn v (rangeOf r) + n)
+
+-- 13
+unfoldable pub notLaterIn : View → ℕ → Bool
+notLaterIn v s = leb s (headerIn v lastStamp)
+
+unfoldable pub laterIn : View → ℕ → Bool
+laterIn v s = ltb (headerIn v lastStamp) s
+
+-- 16
+unfoldable pub outOfReachIn : Shape → View → ℕ → ℕ → ℕ → Bool
+outOfReachIn S v g c n = leb n ((pageIn v (currentIn S v g c)) .lineage) || ltb (usedIn v g) n
+
+-- 17: records up to the lineage were settled when they were merged
+unfoldable pub openAmongIn : Shape → View → ℕ → ℕ → ℕ → Bool
+openAmongIn S v g c n =
+    let low = (pageIn v (currentIn S v g c)) .lineage in
+    anyOpen S v g low (n - low)
+
+-- ---- the tests: "Tests run in this order."
+unfoldable pub testsIn : Shape → View → List Place → Call → List Test
+testsIn S v ps begin =
+    Refusal.Number when leb mostNumbers (headerIn v transactionsGiven) ∷ Refusal.Busy when not (any (λ k. eqb k 0) (v Opens)) ∷ []
+testsIn S v ps (insert t vs) =
+    Refusal.Transaction when notOpenIn v t ∷ Refusal.Full when leb (S .ranges * rangeRows) (headerIn v rowsGiven) ∷ []
+testsIn S v ps (update t r m vs) =
+    Refusal.Transaction when notOpenIn v t
+    ∷ Refusal.Row when notGivenIn v r
+    ∷ Refusal.Mask when badMask S m
+    ∷ Refusal.Held when heldIn S v t r
+    ∷ Refusal.Gone when goneIn S v r
+    ∷ Refusal.Tail when lacksIn S v r (recordsWanted v r m)
+    ∷ []
+testsIn S v ps (delete t r) =
+    Refusal.Transaction when notOpenIn v t
+    ∷ Refusal.Row when notGivenIn v r
+    ∷ Refusal.Held when heldIn S v t r
+    ∷ Refusal.Gone when goneIn S v r
+    ∷ Refusal.Tail when lacksIn S v r 1
+    ∷ []
+testsIn S v ps (commit t s) = Refusal.Transaction when notOpenIn v t ∷ Refusal.Time when notLaterIn v s ∷ []
+testsIn S v ps (abort t) = Refusal.Transaction when notOpenIn v t ∷ []
+testsIn S v ps (latest r c) = Refusal.Row when notGivenIn v r ∷ Refusal.Column when noColumn S c ∷ []
+testsIn S v ps (readAt s r c) =
+    Refusal.Time when laterIn v s ∷ Refusal.Row when notGivenIn v r ∷ Refusal.Column when noColumn S c ∷ []
+testsIn S v ps (ownRead t r c) =
+    Refusal.Transaction when notOpenIn v t ∷ Refusal.Row when notGivenIn v r ∷ Refusal.Column when noColumn S c ∷ []
+testsIn S v ps (openScan s) =
+    Refusal.Time when laterIn v s
+    ∷ Refusal.Number when leb mostNumbers (headerIn v scansGiven)
+    ∷ Refusal.Busy when leb mostScans (count (λ p. not (eqb (p .number) 0)) ps)
+    ∷ []
+testsIn S v ps (scanRead k r c) =
+    Refusal.Scan when noScanIn ps k ∷ Refusal.Row when notGivenIn v r ∷ Refusal.Column when noColumn S c ∷ []
+testsIn S v ps (sum k c) = Refusal.Scan when noScanIn ps k ∷ Refusal.Column when noColumn S c ∷ []
+testsIn S v ps (close k) = Refusal.Scan when noScanIn ps k ∷ []
+testsIn S v ps (merge g c n) =
+    Refusal.Range when noRange S g
+    ∷ Refusal.Column when noColumn S c
+    ∷ Refusal.Reach when outOfReachIn S v g c n
+    ∷ Refusal.Open when openAmongIn S v g c n
+    ∷ Refusal.NoPage when leb (pagesOf S) (freeIn S v)
+    ∷ []
+testsIn S v ps release = []
+testsIn S v ps (pageCell c r) = Refusal.Column when noColumn S c ∷ Refusal.Row when notGivenIn v r ∷ []
+testsIn S v ps (lineage g c) = Refusal.Range when noRange S g ∷ Refusal.Column when noColumn S c ∷ []
+
+-- ---- what an accepted call answers
+unfoldable pub replyIn : Shape → View → List Place → Call → Answer
+replyIn S v ps begin = Answer.Number (headerIn v transactionsGiven + 1)
+replyIn S v ps (insert t vs) = Answer.Number (headerIn v rowsGiven)
+replyIn S v ps (update t r m vs) = Answer.Number (usedIn v (rangeOf r) + recordsWanted v r m)
+replyIn S v ps (delete t r) = Answer.Number (usedIn v (rangeOf r) + 1)
+replyIn S v ps (commit t s) = Answer.Done
+replyIn S v ps (abort t) = Answer.Done
+replyIn S v ps (latest r c) = readCurrent S v (headerIn v lastStamp) 0 r c
+replyIn S v ps (readAt s r c) = readCurrent S v s 0 r c
+replyIn S v ps (ownRead t r c) = readCurrent S v (headerIn v lastStamp) (ownChanges v t) r c
+replyIn S v ps (openScan s) = Answer.Number (headerIn v scansGiven + 1)
+replyIn S v ps (scanRead k r c) =
+    let s = scanPlace ps k in
+    readIn S v (s .stamp) 0 (scanPage S v (s .merges) (rangeOf r) c) r c
+replyIn S v ps (sum k c) = sumIn S v (scanPlace ps k) c
+replyIn S v ps (close k) = Answer.Done
+replyIn S v ps (merge g c n) = Answer.Done
+replyIn S v ps release = Answer.Number (countBelow (releasable ps v) (pagesOf S))
+replyIn S v ps (pageCell c r) = Answer.Value (toZ w32 (cellIn v (currentIn S v (rangeOf r) c) (within r)))
+replyIn S v ps (lineage g c) = Answer.Lineage ((pageIn v (currentIn S v g c)) .lineage) (usedIn v g)
+
+-- ---- the memory that an accepted call leaves
+unfoldable pub actIn : Shape → View → List Place → Call → View
+actIn S v ps begin = begun v
+actIn S v ps (insert t vs) = insertedIn S t vs v
+actIn S v ps (update t r m vs) = updatedIn S t r m vs v
+actIn S v ps (delete t r) = deletedIn S t r v
+actIn S v ps (commit t s) = committedIn S t s v
+actIn S v ps (abort t) = abortedIn S t v
+actIn S v ps (latest r c) = v
+actIn S v ps (readAt s r c) = v
+actIn S v ps (ownRead t r c) = v
+actIn S v ps (openScan s) = put Header scansGiven (headerIn v scansGiven + 1) v
+actIn S v ps (scanRead k r c) = v
+actIn S v ps (sum k c) = v
+actIn S v ps (close k) = v
+actIn S v ps (merge g c n) = mergedIn S g c n v
+actIn S v ps release = releasedIn S ps v
+actIn S v ps (pageCell c r) = v
+actIn S v ps (lineage g c) = v
+
+-- ---- and the scan list: an opened scan takes the first free place, a closed one leaves a free place
+unfoldable pub placesAfter : View → List Place → Call → List Place
+placesAfter v ps begin = ps
+placesAfter v ps (insert t vs) = ps
+placesAfter v ps (update t r m vs) = ps
+placesAfter v ps (delete t r) = ps
+placesAfter v ps (commit t s) = ps
+placesAfter v ps (abort t) = ps
+placesAfter v ps (latest r c) = ps
+placesAfter v ps (readAt s r c) = ps
+placesAfter v ps (ownRead t r c) = ps
+placesAfter v ps (openScan s) =
+    set ps (place (λ p. eqb (p .number) 0) ps) record { number = headerIn v scansGiven + 1; stamp = s; merges = headerIn v mergesMade }
+placesAfter v ps (scanRead k r c) = ps
+placesAfter v ps (sum k c) = ps
+placesAfter v ps (close k) = set ps (place (λ p. bears k (p .number)) ps) freePlace
+placesAfter v ps (merge g c n) = ps
+placesAfter v ps release = ps
+placesAfter v ps (pageCell c r) = ps
+placesAfter v ps (lineage g c) = ps
+
+-- ---- a call, and a list of calls
+unfoldable pub viewIf : Verdict → View → View → View
+viewIf accept v v′ = v′
+viewIf (refuse n) v v′ = v
+
+unfoldable pub placesIf : Verdict → List Place → List Place → List Place
+placesIf accept ps ps′ = ps′
+placesIf (refuse n) ps ps′ = ps
+
+unfoldable pub say : Shape → View → List Place → Call → Answer
+say S v ps c = answerIf (verdict (testsIn S v ps c)) (replyIn S v ps c)
+
+unfoldable pub viewNext : Shape → View → List Place → Call → View
+viewNext S v ps c = viewIf (verdict (testsIn S v ps c)) v (actIn S v ps c)
+
+unfoldable pub placesNext : Shape → View → List Place → Call → List Place
+placesNext S v ps c = placesIf (verdict (testsIn S v ps c)) ps (placesAfter v ps c)
+
+unfoldable pub sayAll : Shape → View → List Place → List Call → List Answer
+sayAll S v ps [] = []
+sayAll S v ps (c ∷ cs) = say S v ps c ∷ sayAll S (viewNext S v ps c) (placesNext S v ps c) cs
+
+-- the memory and the scan list after a list of calls
+unfoldable pub viewAfter : Shape → View → List Place → List Call → View
+viewAfter S v ps [] = v
+viewAfter S v ps (c ∷ cs) = viewAfter S (viewNext S v ps c) (placesNext S v ps c) cs
+
+unfoldable pub listAfter : Shape → View → List Place → List Call → List Place
+listAfter S v ps [] = ps
+listAfter S v ps (c ∷ cs) = listAfter S (viewNext S v ps c) (placesNext S v ps c) cs
+
+-- ---- the numbers fit the call's types
+abbrev pub Word : ℕ → Type 0
+Word n = n < wordLimit
+
+abbrev pub Mask : ℕ → Type 0
+Mask m = m < 2 ^ mostColumns
+
+abbrev pub Values : List ℤ → Type 0
+Values vs = All (SFits w32) vs
+
+abbrev pub Typed : Call → Type 0
+Typed begin = Unit {0}
+Typed (insert t vs) = Word t × Values vs
+Typed (update t r m vs) = Word t × Word r × Mask m × Values vs
+Typed (delete t r) = Word t × Word r
+Typed (commit t s) = Word t × Word s
+Typed (abort t) = Word t
+Typed (latest r c) = Word r × Word c
+Typed (readAt s r c) = Word s × Word r × Word c
+Typed (ownRead t r c) = Word t × Word r × Word c
+Typed (openScan s) = Word s
+Typed (scanRead k r c) = Word k × Word r × Word c
+Typed (sum k c) = Word k × Word c
+Typed (close k) = Word k
+Typed (merge g c n) = Word g × Word c × Word n
+Typed release = Unit {0}
+Typed (pageCell c r) = Word c × Word r
+Typed (lineage g c) = Word g × Word c
+
+-- One name for what a list of calls unfolds to, for a proof's `unfolding` line.
+unfoldable pub execution : Unit {0}
+unfolding put renew changed rowIn recordIn pageIn slot valueIn currentIn cellIn openPlace scanPlace sees headIn visibleIn answersFor walk belowLineage wordIn readIn readCurrent ownChanges wasCurrent scanPage tally sumIn begun noted settled freed committedIn abortedIn insertedAt insertedIn nextSlot appended filledIn newBitsIn recordsWanted originalAppended settingAppended updatedIn deletedIn applies applied newestOf anyOpen freeIn mergedIn releasable releasedIn blank made notOpenIn noScanIn notGivenIn heldIn goneIn lacksIn notLaterIn laterIn outOfReachIn openAmongIn testsIn replyIn actIn placesAfter viewIf placesIf say viewNext placesNext sayAll verdict answerIf
+execution = tt

@@ -1,0 +1,76 @@
+-- Demand 2, stated of a store just made on which calls alone have worked: `Reads` and `ScanReads` are its first sentence, `PagesHold` its second; `ScansKeep` is
+-- document 01's sentence on the pages of open scans. The history after the same
+-- calls says what was committed; the store's words say what is read and what the pages hold. proofs/Claims.antt proves them.
+use mathlib.Core.Path.{_≡_}
+use mathlib.Core.Bool.{cond}
+use mathlib.Core.List.{List, _∷_}
+use Prim.Native.Nat.{ℕ, suc, _+_, _*_, _≤_, _<_}
+use lib.Dec.{T}
+use lib.ListN.{length, replicate}
+use mir.Syntax.{w32}
+use mir.Val.{toZ}
+use Rattle.terms.specs.Measures.{Shape, rangeRows, mostScans, withinLimits}
+use Rattle.terms.specs.declared.Answer.{Answer}
+use Rattle.history.specs.History.{Call, openScan, History, Version, start, run, tests, verdict, accept, seenAt, inserted, visible, mergedThrough, scanAt, rangeOf}
+use Rattle.history.proofs.Lists.{All}
+use Rattle.history.proofs.Latest.{latestSetting}
+use Rattle.history.proofs.Pages.{cellThrough}
+use Rattle.layout.specs.View.{View}
+use Rattle.terms.specs.declared.Place.{Place}
+use Rattle.model.specs.Stored.{pageIn, cellIn, currentIn, within, freePlace}
+use Rattle.model.specs.Reading.{readCurrent, readIn, scanPage}
+use Rattle.model.specs.Writing.{made}
+use Rattle.model.specs.Calls.{Typed, viewAfter, listAfter}
+
+-- a store made with n places for scans, after a list of calls; and the history after them
+unfoldable pub storeAfter : Shape → ℕ → List Call → View
+storeAfter S n cs = viewAfter S (made S) (replicate n freePlace) cs
+
+unfoldable pub historyAfter : Shape → List Call → History
+historyAfter S cs = run S start cs
+
+-- "the value last committed for that row and column at or before the stamp read": of the settings committed at or before t the one with the latest stamp,
+-- else the inserted value; none for a row that was not inserted by t or ended by t
+unfoldable pub lastCommitted : History → ℕ → ℕ → ℕ → Answer
+lastCommitted h t r c = cond (visible (seenAt h t) h r) (Answer.Value (latestSetting h t r c (inserted h r c) (h .tail) .value)) Answer.None
+
+-- "each read gives the value last committed for that row and column at or before the stamp read": on the current page and on a scan's
+unfoldable pub Reads : Type 0
+Reads =
+    (S : Shape) → T (withinLimits S) → (n : ℕ) → mostScans ≤ n → (cs : List Call) → All Typed cs → (t r c : ℕ)
+    → r < length ((historyAfter S cs) .rows) → c < S .columns → readCurrent S (storeAfter S n cs) t 0 r c ≡ lastCommitted (historyAfter S cs) t r c
+
+unfoldable pub ScanReads : Type 0
+ScanReads =
+    (S : Shape) → T (withinLimits S) → (n : ℕ) → mostScans ≤ n → (cs : List Call) → All Typed cs → (k r c : ℕ)
+    → T (scanAt (historyAfter S cs) k .running) → r < length ((historyAfter S cs) .rows) → c < S .columns
+    → readIn S (storeAfter S n cs) (scanAt (historyAfter S cs) k .stamp) 0
+    (scanPage S (storeAfter S n cs) (scanAt (historyAfter S cs) k .before) (rangeOf r) c) r c
+    ≡ lastCommitted (historyAfter S cs) (scanAt (historyAfter S cs) k .stamp) r c
+
+-- "each merged page, while current, holds, for every row, the last committed setting among the tail records it has taken in, and for a row with none the
+-- value it was inserted with, or 0 if that row was never inserted". The records taken in are those up to the page's lineage.
+pub record PageHolds (S : Shape) (v : View) (h : History) (g c : ℕ) : Type 0 where
+  pub taken : (pageIn v (currentIn S v g c)) .lineage ≡ mergedThrough h g c
+  pub every-row : (i : ℕ) → i < rangeRows → toZ w32 (cellIn v (currentIn S v g c) i) ≡ cellThrough h c (g * rangeRows + i) (mergedThrough h g c)
+  pub never-inserted : (i : ℕ) → i < rangeRows → length (h .rows) ≤ g * rangeRows + i → cellIn v (currentIn S v g c) i ≡ 0
+
+unfoldable pub PagesHold : Type 0
+PagesHold =
+    (S : Shape) → T (withinLimits S) → (n : ℕ) → mostScans ≤ n → (cs : List Call) → All Typed cs → (g c : ℕ) → g < S .ranges → c < S .columns
+    → PageHolds S (storeAfter S n cs) (historyAfter S cs) g c
+
+-- "An open scan reads the pages that were current at its opening": after any further calls that leave the scan running, the page that it reads is the one
+-- that was current when it was opened, and the page's cells of the rows given then are as they were. (A row given later may have been inserted into the page
+-- while it was current.)
+pub record PageKept (S : Shape) (v w : View) (h : History) (k g c : ℕ) (rows : ℕ) : Type 0 where
+  pub page : scanPage S w (scanAt h k .before) g c ≡ currentIn S v g c
+  pub cells : (r : ℕ) → r < rows → rangeOf r ≡ g → cellIn w (currentIn S v g c) (within r) ≡ cellIn v (currentIn S v g c) (within r)
+
+unfoldable pub ScansKeep : Type 0
+ScansKeep =
+    (S : Shape) → T (withinLimits S) → (n : ℕ) → mostScans ≤ n → (before after : List Call) (s : ℕ) → All Typed before → All Typed (openScan s ∷ after)
+    → verdict (tests S (historyAfter S before) (openScan s)) ≡ accept
+    → T (scanAt (run S (historyAfter S before) (openScan s ∷ after)) (suc (length ((historyAfter S before) .scans))) .running) → (g c : ℕ) → g < S .ranges → c < S .columns
+    → PageKept S (storeAfter S n before) (viewAfter S (storeAfter S n before) (listAfter S (made S) (replicate n freePlace) before) (openScan s ∷ after))
+    (run S (historyAfter S before) (openScan s ∷ after)) (suc (length ((historyAfter S before) .scans))) g c (length ((historyAfter S before) .rows))

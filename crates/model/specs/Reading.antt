@@ -1,0 +1,122 @@
+-- What a reader finds in the store. Latest read, read at, own read, scan read and sum are one definition: who sees a row or record is told by a stamp
+-- and by the transaction whose own changes count, and the value is found in a page, in the tail records above the page's lineage, and further down only
+-- where the page is newer than the stamp.
+use mathlib.Core.Bool.{Bool, true, false, not, cond, _&&_, _||_}
+use mathlib.Core.List.{List, [], _∷_}
+use Prim.Native.Nat.{ℕ, zero, suc, _+_, _*_, _-_, _/_, _%_, _^_}
+use lib.Dec.{leb, ltb, eqb}
+use lib.ListN.{getD}
+use lib.IntN.{ℤ, pos, _+ℤ_}
+use mir.Syntax.{w32}
+use mir.Val.{toZ}
+use Rattle.terms.specs.Measures.{Shape, rangeRows}
+use Rattle.terms.specs.declared.Answer.{Answer}
+use Rattle.history.specs.History.{bit, rangeOf}
+use Rattle.layout.specs.View.{View}
+use Rattle.layout.specs.declared.Region.the-variants.{Opens, Changes}
+use Rattle.terms.specs.declared.Place.{Place}
+use Rattle.model.specs.declared.Walk.{Walk}
+use Rattle.model.specs.Stored.{RowWords, RecordWords, PageWords, rowIn, recordIn, pageIn, slot, valueIn, currentIn, placeOf, placesOf, pagesOf, cellIn, within, headerIn, rowsGiven, openState, committedState, originalKind, settingKind, deleteKind, waitingPage, firstFrom, openPlace}
+
+-- Who sees a row or record in state `state`: t is the reader's stamp, me the transaction whose own changes count (0: none).
+unfoldable pub sees : ℕ → ℕ → ℕ → ℕ → ℕ → Bool
+sees t me state stamp transaction = (committedState state && leb stamp t) || (openState state && (not (eqb me 0) && eqb transaction me))
+
+abbrev pub seesRow : ℕ → ℕ → RowWords → Bool
+seesRow t me x = sees t me (x .state) (x .stamp) (x .transaction)
+
+abbrev pub seesRecord : ℕ → ℕ → RecordWords → Bool
+seesRecord t me x = sees t me (x .state) (x .stamp) (x .transaction)
+
+-- ---- the newest record of a row tells whether the row is ended: a delete that is not aborted is the last record of its row
+unfoldable pub headIn : Shape → View → ℕ → RecordWords
+headIn S v r = recordIn v (slot S (rangeOf r) ((rowIn v r) .link))
+
+abbrev pub hasRecord : View → ℕ → Bool
+hasRecord v r = not (eqb ((rowIn v r) .link) 0)
+
+unfoldable pub visibleIn : Shape → View → ℕ → ℕ → ℕ → Bool
+visibleIn S v t me r =
+    let x = rowIn v r in
+    let y = headIn S v r in
+    seesRow t me x && not (hasRecord v r && (deleteKind (y .kind) && seesRecord t me y))
+
+-- ---- the value
+-- A record answers for column c if it is a seen setting of c, or holds the original value of c: no setting of c lies below its original.
+unfoldable pub answersFor : ℕ → ℕ → ℕ → RecordWords → Bool
+answersFor t me c x = bit (x .mask) c && (originalKind (x .kind) || (settingKind (x .kind) && seesRecord t me x))
+
+-- From record k of range g back along the links, while the record's number is above `low`. The links are lower numbers, so k steps are enough.
+unfoldable pub walk : Shape → View → ℕ → ℕ → ℕ → ℕ → ℕ → ℕ → ℕ → Walk
+walk S v g c t me low zero k = Walk.Stopped k
+walk S v g c t me low (suc n) k =
+    let x = recordIn v (slot S g k) in
+    let further = walk S v g c t me low n (x .link) in
+    cond (leb k low) (Walk.Stopped k) (cond (answersFor t me c x) (Walk.Found (valueIn S v (slot S g k) c)) further)
+
+abbrev pub orElse : Walk → (ℕ → ℕ) → ℕ
+orElse (Walk.Found w) f = w
+orElse (Walk.Stopped k) f = f k
+
+-- At the page's lineage: the cell, unless the page holds a setting later than the stamp; then further down, and the cell if no record answers (its
+-- column's original lies above the lineage, so that no setting of this row is in the page).
+unfoldable pub belowLineage : Shape → View → ℕ → ℕ → ℕ → ℕ → PageWords → ℕ → ℕ → ℕ
+belowLineage S v g c t me page cell k =
+    let deeper = orElse (walk S v g c t me 0 k k) (λ j. cell) in
+    cond (leb (page .newest) t) cell deeper
+
+-- the word of row r and column c, on page p. A column that no update has set is in the page alone.
+unfoldable pub wordIn : Shape → View → ℕ → ℕ → ℕ → ℕ → ℕ → ℕ
+wordIn S v t me p r c =
+    let x = rowIn v r in
+    let g = rangeOf r in
+    let page = pageIn v p in
+    let cell = cellIn v p (within r) in
+    let found = orElse (walk S v g c t me (page .lineage) (x .link) (x .link)) (belowLineage S v g c t me page cell) in
+    cond (bit (x .mask) c) found cell
+
+unfoldable pub readIn : Shape → View → ℕ → ℕ → ℕ → ℕ → ℕ → Answer
+readIn S v t me p r c =
+    let w = wordIn S v t me p r c in
+    cond (visibleIn S v t me r) (Answer.Value (toZ w32 w)) Answer.None
+
+-- the read of the current page
+unfoldable pub readCurrent : Shape → View → ℕ → ℕ → ℕ → ℕ → Answer
+readCurrent S v t me r c = readIn S v t me (currentIn S v (rangeOf r) c) r c
+
+-- Whose own changes an own read of transaction t adds: with nothing noted there are none, and it is the latest read.
+unfoldable pub ownChanges : View → ℕ → ℕ
+ownChanges v t = cond (eqb (getD (v Changes) (openPlace v t) 0) 0) 0 t
+
+-- ---- a scan's page
+-- Page p waits, is of this place, and was current after the first m merges.
+unfoldable pub wasCurrent : Shape → View → ℕ → ℕ → ℕ → Bool
+wasCurrent S v m place p =
+    let x = pageIn v p in
+    waitingPage (x .state) && (eqb (x .place % placesOf S) place && (leb (x .made) m && ltb m (x .replaced)))
+
+-- "An open scan reads the pages that were current at its opening": the current page if it was made before, else the waiting page that was current then.
+-- At most one passes.
+unfoldable pub scanPage : Shape → View → ℕ → ℕ → ℕ → ℕ
+scanPage S v m g c =
+    let current = currentIn S v g c in
+    let old = firstFrom (wasCurrent S v m (placeOf S g c)) (pagesOf S) 0 in
+    cond (leb ((pageIn v current) .made) m) current (cond (ltb old (pagesOf S)) old current)
+
+-- ---- a scan's sum: over the first n rows
+pub record Tally : Type 0 where
+  pub count : ℕ
+  pub total : ℤ
+
+unfoldable pub tally : Shape → View → Place → ℕ → ℕ → Tally
+tally S v s c zero = record { count = 0; total = pos 0 }
+tally S v s c (suc r) =
+    let before = tally S v s c r in
+    let w = wordIn S v (s .stamp) 0 (scanPage S v (s .merges) (rangeOf r) c) r c in
+    let more : Tally = record { count = suc (before .count); total = before .total +ℤ toZ w32 w } in
+    cond (visibleIn S v (s .stamp) 0 r) more before
+
+unfoldable pub sumIn : Shape → View → Place → ℕ → Answer
+sumIn S v s c =
+    let t = tally S v s c (headerIn v rowsGiven) in
+    Answer.Sum (t .count) (t .total)

@@ -1,0 +1,230 @@
+-- How a view of the memory is read: the header's words, one row, one tail record, one page, and what the words for states and kinds mean.
+-- Where a word can hold more than the store writes, the tests here say what every other value counts as; so each call answers for every memory.
+use mathlib.Core.Bool.{Bool, true, false, not, cond, _&&_, _||_}
+use mathlib.Core.List.{List, [], _∷_}
+use Prim.Native.Nat.{ℕ, zero, suc, _+_, _*_, _-_, _/_, _%_, _^_}
+use lib.Dec.{leb, ltb, eqb}
+use lib.ListN.{getD}
+use Rattle.terms.specs.Measures.{Shape, rangeRows}
+use Rattle.layout.specs.View.{View}
+use Rattle.layout.specs.declared.Sizes.{Sizes}
+use Rattle.layout.specs.declared.Region.the-variants.{Header, Opens, RowTransaction, RowState, RowStamp, RowLink, RowMask, TailTransaction, TailRow, TailKind, TailMask, TailLink, TailState, TailStamp, TailValues, Used, Current, PageState, PagePlace, PageMade, PageReplaced, PageLineage, PageNewest, Cells, Changes}
+use Rattle.terms.specs.declared.Place.{Place}
+
+-- ---- sizes that a shape makes
+abbrev pub placesOf : Shape → ℕ
+placesOf S = S .columns * S .ranges
+
+abbrev pub pagesOf : Shape → ℕ
+pagesOf S = placesOf S + S .spares
+
+abbrev pub sizesOf : Shape → Sizes
+sizesOf S =
+    record {
+      columns = S .columns;
+      ranges = S .ranges;
+      capacity = S .capacity;
+      spares = S .spares;
+      rows = S .ranges * rangeRows;
+      slots = S .ranges * S .capacity;
+      values = S .ranges * S .capacity * S .columns;
+      places = placesOf S;
+      pages = pagesOf S;
+    }
+
+-- ---- the header's words after the four measures
+abbrev pub rowsGiven : ℕ
+rowsGiven = 4
+
+abbrev pub transactionsGiven : ℕ
+transactionsGiven = 5
+
+abbrev pub scansGiven : ℕ
+scansGiven = 6
+
+abbrev pub lastStamp : ℕ
+lastStamp = 7
+
+abbrev pub mergesMade : ℕ
+mergesMade = 8
+
+abbrev pub headerIn : View → ℕ → ℕ
+headerIn v i = getD (v Header) i 0
+
+-- A count that no measure bounds goes round: in a memory that no call made it may stand at its highest.
+abbrev pub wordLimit : ℕ
+wordLimit = 2 ^ 32
+
+abbrev pub nextWord : ℕ → ℕ
+nextWord n = (n + 1) % wordLimit
+
+-- ---- what a word means. States and kinds: 2 is written for the third case, and any other number is read as it.
+abbrev pub asOpen : ℕ
+asOpen = 0
+
+abbrev pub asCommitted : ℕ
+asCommitted = 1
+
+abbrev pub asAborted : ℕ
+asAborted = 2
+
+abbrev pub openState : ℕ → Bool
+openState w = eqb w 0
+
+abbrev pub committedState : ℕ → Bool
+committedState w = eqb w 1
+
+abbrev pub abortedState : ℕ → Bool
+abortedState w = ltb 1 w
+
+abbrev pub asOriginal : ℕ
+asOriginal = 0
+
+abbrev pub asSetting : ℕ
+asSetting = 1
+
+abbrev pub asDelete : ℕ
+asDelete = 2
+
+abbrev pub originalKind : ℕ → Bool
+originalKind w = eqb w 0
+
+abbrev pub settingKind : ℕ → Bool
+settingKind w = eqb w 1
+
+abbrev pub deleteKind : ℕ → Bool
+deleteKind w = ltb 1 w
+
+abbrev pub asFree : ℕ
+asFree = 0
+
+abbrev pub asCurrent : ℕ
+asCurrent = 1
+
+abbrev pub asWaiting : ℕ
+asWaiting = 2
+
+abbrev pub freePage : ℕ → Bool
+freePage w = eqb w 0
+
+abbrev pub currentPage : ℕ → Bool
+currentPage w = eqb w 1
+
+abbrev pub waitingPage : ℕ → Bool
+waitingPage w = ltb 1 w
+
+-- ---- one row, one record, one page: all words of one index
+pub record RowWords : Type 0 where
+  pub transaction : ℕ
+  pub state : ℕ
+  pub stamp : ℕ
+  pub link : ℕ
+  pub mask : ℕ
+
+pub record RecordWords : Type 0 where
+  pub transaction : ℕ
+  pub row : ℕ
+  pub kind : ℕ
+  pub mask : ℕ
+  pub link : ℕ
+  pub state : ℕ
+  pub stamp : ℕ
+
+-- `place` is that of the range and column; `made` and `replaced` are numbers of merges.
+pub record PageWords : Type 0 where
+  pub state : ℕ
+  pub place : ℕ
+  pub made : ℕ
+  pub replaced : ℕ
+  pub lineage : ℕ
+  pub newest : ℕ
+
+unfoldable pub rowIn : View → ℕ → RowWords
+rowIn v r =
+    record {
+      transaction = getD (v RowTransaction) r 0;
+      state = getD (v RowState) r 0;
+      stamp = getD (v RowStamp) r 0;
+      link = getD (v RowLink) r 0;
+      mask = getD (v RowMask) r 0;
+    }
+
+unfoldable pub recordIn : View → ℕ → RecordWords
+recordIn v s =
+    record {
+      transaction = getD (v TailTransaction) s 0;
+      row = getD (v TailRow) s 0;
+      kind = getD (v TailKind) s 0;
+      mask = getD (v TailMask) s 0;
+      link = getD (v TailLink) s 0;
+      state = getD (v TailState) s 0;
+      stamp = getD (v TailStamp) s 0;
+    }
+
+unfoldable pub pageIn : View → ℕ → PageWords
+pageIn v p =
+    record {
+      state = getD (v PageState) p 0;
+      place = getD (v PagePlace) p 0;
+      made = getD (v PageMade) p 0;
+      replaced = getD (v PageReplaced) p 0;
+      lineage = getD (v PageLineage) p 0;
+      newest = getD (v PageNewest) p 0;
+    }
+
+-- ---- indices. A tail record is reached through `slot` alone: k counts from 1 in its range.
+unfoldable pub slot : Shape → ℕ → ℕ → ℕ
+slot S g k = g * S .capacity + (k - 1)
+
+abbrev pub usedIn : View → ℕ → ℕ
+usedIn v g = getD (v Used) g 0
+
+-- the word of column c in the record at slot s
+unfoldable pub valueIn : Shape → View → ℕ → ℕ → ℕ
+valueIn S v s c = getD (v TailValues) (s * S .columns + c) 0
+
+abbrev pub placeOf : Shape → ℕ → ℕ → ℕ
+placeOf S g c = g * S .columns + c
+
+-- the current page of range g and column c
+unfoldable pub currentIn : Shape → View → ℕ → ℕ → ℕ
+currentIn S v g c = getD (v Current) (placeOf S g c) 0
+
+-- where row r stands in its page
+abbrev pub within : ℕ → ℕ
+within r = r % rangeRows
+
+unfoldable pub cellIn : View → ℕ → ℕ → ℕ
+cellIn v p i = getD (v Cells) (p * rangeRows + i) 0
+
+-- ---- searches
+module _ {A : Type 0} where
+  -- the first place of a list that passes, else its length
+  abbrev pub place : (A → Bool) → List A → ℕ
+  place p [] = 0
+  place p (x ∷ l) = cond (p x) 0 (suc (place p l))
+
+-- the first of the n numbers from i that passes, else i + n
+abbrev pub firstFrom : (ℕ → Bool) → ℕ → ℕ → ℕ
+firstFrom f zero i = i
+firstFrom f (suc n) i = cond (f i) i (firstFrom f n (suc i))
+
+-- how many of the numbers below n pass
+abbrev pub countBelow : (ℕ → Bool) → ℕ → ℕ
+countBelow f zero = 0
+countBelow f (suc n) = cond (f n) (suc (countBelow f n)) (countBelow f n)
+
+-- An open place bears the number t. Number 0 marks a free place, so no call's number 0 is ever found.
+abbrev pub bears : ℕ → ℕ → Bool
+bears t k = not (eqb k 0) && eqb k t
+
+-- the place of open transaction t
+unfoldable pub openPlace : View → ℕ → ℕ
+openPlace v t = place (bears t) (v Opens)
+
+abbrev pub freePlace : Place
+freePlace = record { number = 0; stamp = 0; merges = 0 }
+
+-- the place of open scan k
+unfoldable pub scanPlace : List Place → ℕ → Place
+scanPlace ps k = getD ps (place (λ p. bears k (p .number)) ps) freePlace

@@ -1,0 +1,18 @@
+-- Document 01's proved table, P1 to P12, on a store just made: the store's definitions give the same answers as the table asks of the plain history.
+use mathlib.Core.Path.{_≡_, refl}
+use mathlib.Core.List.{List, map}
+use lib.ListN.{replicate}
+use Rattle.terms.specs.Measures.{mostScans}
+use Rattle.terms.specs.declared.Answer.{Answer}
+use Rattle.history.specs.History.{definitions}
+use Rattle.history.specs.Table.{Case, table, wanted}
+use Rattle.model.specs.Stored.{freePlace}
+use Rattle.model.specs.Writing.{made}
+use Rattle.model.specs.Calls.{sayAll, execution}
+
+abbrev pub givenByStore : List Case → List (List Answer)
+givenByStore = map (λ p. sayAll (p .shape) (made (p .shape)) (replicate mostScans freePlace) (map (λ l. l .call) (p .lines)))
+
+pub proved-table : givenByStore table ≡ wanted table
+unfolding table execution definitions
+proved-table = refl

@@ -1,0 +1,205 @@
+-- What the accepted calls write. Each is a few puts, or one pass that writes one region.
+use mathlib.Core.Bool.{Bool, true, false, not, cond, _&&_, _||_}
+use mathlib.Core.List.{List, [], _∷_}
+use Prim.Native.Nat.{ℕ, zero, suc, _+_, _*_, _-_, _/_, _%_, _^_}
+use lib.Dec.{leb, ltb, eqb}
+use lib.ListN.{length, getD, set, replicate}
+use lib.IntN.{ℤ, pos}
+use lib.Bits.{bitOr, bitXor}
+use mir.Syntax.{w32}
+use mir.Val.{ofZ}
+use Rattle.terms.specs.Measures.{Shape, rangeRows, mostTransactions}
+use Rattle.history.specs.History.{any, bit, rangeOf}
+use Rattle.loops.specs.Change.{changed, filled, numbered, copied, marked}
+use Rattle.layout.specs.Regions.{len}
+use Rattle.layout.specs.View.{View, renew, put}
+use Rattle.layout.specs.declared.Region.{Region}
+use Rattle.layout.specs.declared.Region.the-variants.{Header, Opens, RowTransaction, RowState, RowStamp, RowLink, RowMask, TailTransaction, TailRow, TailKind, TailMask, TailLink, TailState, TailStamp, TailValues, Used, Current, PageState, PagePlace, PageMade, PageReplaced, PageLineage, PageNewest, Cells, Changes}
+use Rattle.terms.specs.declared.Place.{Place}
+use Rattle.model.specs.Stored.{RowWords, RecordWords, PageWords, rowIn, recordIn, pageIn, slot, valueIn, currentIn, placeOf, placesOf, pagesOf, sizesOf, cellIn, within, usedIn, headerIn, rowsGiven, transactionsGiven, scansGiven, lastStamp, mergesMade, nextWord, asOpen, asCommitted, asAborted, asOriginal, asSetting, asDelete, asFree, asCurrent, asWaiting, committedState, settingKind, freePage, waitingPage, place, firstFrom, countBelow, openPlace}
+
+-- ---- open transactions
+-- begin: the first free place takes the next number, with nothing noted
+unfoldable pub begun : View → View
+begun v =
+    let n = headerIn v transactionsGiven + 1 in
+    let j = place (λ k. eqb k 0) (v Opens) in
+    put Header transactionsGiven n (put Changes j 0 (put Opens j n v))
+
+-- A row or record made by open transaction t is noted. One note for a call is enough: what is asked of the count is whether it is 0.
+unfoldable pub noted : ℕ → View → View
+noted t v =
+    let j = openPlace v t in
+    put Changes j (nextWord (getD (v Changes) j 0)) v
+
+-- The records of every range that bear transaction t get w: in each range those used.
+abbrev pub markTails : Shape → List ℕ → List ℕ → ℕ → ℕ → ℕ → List ℕ → List ℕ
+markTails S used ks t w zero l = l
+markTails S used ks t w (suc g) l =
+    marked ks (g * S .capacity) (getD used g 0) t (g * S .capacity) w (markTails S used ks t w g l)
+
+-- commit and abort: every given row and used record that bears t gets the state and the stamp
+unfoldable pub settled : Shape → ℕ → ℕ → ℕ → View → View
+settled S t state stamp v =
+    let given = headerIn v rowsGiven in
+    renew TailStamp (markTails S (v Used) (v TailTransaction) t stamp (S .ranges) (v TailStamp))
+    (renew TailState (markTails S (v Used) (v TailTransaction) t state (S .ranges) (v TailState))
+    (renew RowStamp (marked (v RowTransaction) 0 given t 0 stamp (v RowStamp))
+    (renew RowState (marked (v RowTransaction) 0 given t 0 state (v RowState)) v)))
+
+-- the place of t is free again
+unfoldable pub freed : ℕ → View → View
+freed t v =
+    let j = openPlace v t in
+    put Changes j 0 (put Opens j 0 v)
+
+unfoldable pub committedIn : Shape → ℕ → ℕ → View → View
+committedIn S t stamp v = put Header lastStamp stamp (freed t (settled S t asCommitted stamp v))
+
+unfoldable pub abortedIn : Shape → ℕ → View → View
+abortedIn S t v = freed t (settled S t asAborted 0 v)
+
+-- ---- insert
+-- the values of the first n columns go into place i of the current pages of range g
+abbrev pub putCells : Shape → List ℕ → ℕ → ℕ → List ℤ → ℕ → List ℕ → List ℕ
+putCells S current g i vs zero cells = cells
+putCells S current g i vs (suc c) cells =
+    set (putCells S current g i vs c cells) (getD current (placeOf S g c) 0 * rangeRows + i) (ofZ w32 (getD vs c (pos 0)))
+
+-- row r of open transaction t
+unfoldable pub insertedAt : Shape → ℕ → List ℤ → ℕ → View → View
+insertedAt S t vs r v =
+    noted t
+    (put Header rowsGiven (r + 1)
+    (renew Cells (putCells S (v Current) (rangeOf r) (within r) vs (S .columns) (v Cells))
+    (put RowMask r 0 (put RowLink r 0 (put RowStamp r 0 (put RowState r asOpen (put RowTransaction r t v)))))))
+
+unfoldable pub insertedIn : Shape → ℕ → List ℤ → View → View
+insertedIn S t vs v = insertedAt S t vs (headerIn v rowsGiven) v
+
+-- ---- update and delete
+-- the slot of the next record of range g
+unfoldable pub nextSlot : Shape → View → ℕ → ℕ
+nextSlot S v g = slot S g (usedIn v g + 1)
+
+-- One tail record more for row r, of open transaction t: it links to the row's newest one and is the row's newest now.
+unfoldable pub appended : Shape → ℕ → ℕ → ℕ → ℕ → View → View
+appended S t r kind mask v =
+    let g = rangeOf r in
+    let k = usedIn v g + 1 in
+    let s = nextSlot S v g in
+    put RowLink r k
+    (put Used g k
+    (put TailStamp s 0
+    (put TailState s asOpen
+    (put TailLink s ((rowIn v r) .link) (put TailMask s mask (put TailKind s kind (put TailRow s r (put TailTransaction s t v))))))))
+
+-- the words of all columns of the record at slot s
+unfoldable pub filledIn : Shape → ℕ → (ℕ → ℕ) → View → View
+filledIn S s f v = renew TailValues (changed (λ c w. f c) (s * S .columns) (S .columns) (v TailValues)) v
+
+-- the columns of a mask that no update has set
+abbrev pub newBits : ℕ → ℕ → ℕ
+newBits mask old = bitXor (bitOr mask old) old
+
+unfoldable pub newBitsIn : View → ℕ → ℕ → ℕ
+newBitsIn v r mask = newBits mask ((rowIn v r) .mask)
+
+-- how many records an update takes
+unfoldable pub recordsWanted : View → ℕ → ℕ → ℕ
+recordsWanted v r mask = cond (eqb (newBitsIn v r mask) 0) 1 2
+
+-- The original values of the columns that were never set are the row's cells in the current pages.
+unfoldable pub originalAppended : Shape → ℕ → ℕ → ℕ → View → View
+originalAppended S t r mask v =
+    let g = rangeOf r in
+    filledIn S (nextSlot S v g) (λ c. cellIn v (currentIn S v g c) (within r)) (appended S t r asOriginal (newBitsIn v r mask) v)
+
+unfoldable pub settingAppended : Shape → ℕ → ℕ → ℕ → List ℤ → View → View
+settingAppended S t r mask vs v =
+    filledIn S (nextSlot S v (rangeOf r)) (λ c. ofZ w32 (getD vs c (pos 0))) (appended S t r asSetting mask v)
+
+unfoldable pub updatedIn : Shape → ℕ → ℕ → ℕ → List ℤ → View → View
+updatedIn S t r mask vs v =
+    let two = settingAppended S t r mask vs (originalAppended S t r mask v) in
+    let one = settingAppended S t r mask vs v in
+    noted t (put RowMask r (bitOr mask ((rowIn v r) .mask)) (cond (eqb (newBitsIn v r mask) 0) one two))
+
+unfoldable pub deletedIn : Shape → ℕ → ℕ → View → View
+deletedIn S t r v = noted t (appended S t r asDelete 0 v)
+
+-- ---- merge
+-- whether record x is a committed setting of column c
+unfoldable pub applies : ℕ → RecordWords → Bool
+applies c x = bit (x .mask) c && (settingKind (x .kind) && committedState (x .state))
+
+-- One forward pass over the n records after `low` of range g: each committed setting overwrites the cell of its row in page p.
+unfoldable pub applied : Shape → View → ℕ → ℕ → ℕ → ℕ → ℕ → List ℕ → List ℕ
+applied S v g c p low zero cells = cells
+applied S v g c p low (suc n) cells =
+    let s = slot S g (suc (low + n)) in
+    let x = recordIn v s in
+    let done = applied S v g c p low n cells in
+    cond (applies c x) (set done (p * rangeRows + within (x .row)) (valueIn S v s c)) done
+
+-- and the latest of their stamps
+unfoldable pub newestOf : Shape → View → ℕ → ℕ → ℕ → ℕ → ℕ → ℕ
+newestOf S v g c low zero stamp = stamp
+newestOf S v g c low (suc n) stamp =
+    let x = recordIn v (slot S g (suc (low + n))) in
+    let done = newestOf S v g c low n stamp in
+    cond (applies c x && ltb done (x .stamp)) (x .stamp) done
+
+-- whether one of the n records after `low` belongs to an open transaction
+unfoldable pub anyOpen : Shape → View → ℕ → ℕ → ℕ → Bool
+anyOpen S v g low zero = false
+anyOpen S v g low (suc n) = anyOpen S v g low n || eqb ((recordIn v (slot S g (suc (low + n)))) .state) asOpen
+
+-- the first free page, else the number of pages
+unfoldable pub freeIn : Shape → View → ℕ
+freeIn S v = firstFrom (λ p. freePage ((pageIn v p) .state)) (pagesOf S) 0
+
+unfoldable pub mergedIn : Shape → ℕ → ℕ → ℕ → View → View
+mergedIn S g c n v =
+    let old = currentIn S v g c in
+    let x = pageIn v old in
+    let p = freeIn S v in
+    let m = nextWord (headerIn v mergesMade) in
+    let low = x .lineage in
+    put Header mergesMade m
+    (put Current (placeOf S g c) p
+    (put PageReplaced old m
+    (put PageState old asWaiting
+    (put PageNewest p (newestOf S v g c low (n - low) (x .newest))
+    (put PageLineage p n
+    (put PageMade p m
+    (put PagePlace p (placeOf S g c)
+    (put PageState p asCurrent
+    (renew Cells (applied S v g c p low (n - low) (copied (v Cells) (old * rangeRows) rangeRows (p * rangeRows) (v Cells))) v)))))))))
+
+-- ---- release
+-- A scan that was opened before merge m needs the page that m replaced.
+abbrev pub neededIn : List Place → ℕ → Bool
+neededIn ps m = any (λ s. not (eqb (s .number) 0) && ltb (s .merges) m) ps
+
+unfoldable pub releasable : List Place → View → ℕ → Bool
+releasable ps v p =
+    let x = pageIn v p in
+    waitingPage (x .state) && not (neededIn ps (x .replaced))
+
+unfoldable pub releasedIn : Shape → List Place → View → View
+releasedIn S ps v = renew PageState (changed (λ p w. cond (releasable ps v p) asFree w) 0 (pagesOf S) (v PageState)) v
+
+-- ---- making: every word is 0 but the measures, the current pages and their places
+unfoldable pub blank : Shape → View
+blank S k = replicate (len (sizesOf S) k) 0
+
+unfoldable pub made : Shape → View
+made S =
+    put Header 0 (S .columns)
+    (put Header 1 (S .ranges)
+    (put Header 2 (S .capacity)
+    (put Header 3 (S .spares)
+    (renew Current (numbered 0 (placesOf S) (blank S Current))
+    (renew PagePlace (numbered 0 (placesOf S) (blank S PagePlace))
+    (renew PageState (filled 0 (placesOf S) asCurrent (blank S PageState)) (blank S)))))))

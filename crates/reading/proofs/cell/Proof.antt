@@ -1,0 +1,21 @@
+-- `reading::cell` meets its contract.
+use native.Mathlib.Omega.{arith}
+use Rattle.model.specs.Stored.{cellIn}
+use Rattle.rows.proofs.Indices.{places-few}
+use borrow.Author.Needs.{needs}
+use Rattle.reading.proofs.cell.Statement.{statement}
+use Rattle.reading.proofs.cell.Tie as tie
+
+returns : tie.Need-returns
+unfolding cellIn
+returns c = c .read .ensures
+
+pub cell-spec : {M : Type 1} → statement M
+cell-spec =
+    tie.close
+    (tie.spec
+    (λ c. omega (arith, places-few _ (c .before .pre .1 .0)))
+    (λ c. search needs)
+    (λ c. omega (arith, places-few _ (c .before .before .pre .1 .0)))
+    (λ c κs. search needs)
+    returns)

@@ -1,0 +1,31 @@
+-- `reading::read_row` meets its contract.
+use mathlib.Core.Path.{ap, _∙_}
+use mir.Syntax.{w32}
+use mir.Val.{toZ}
+use mir.ValLaws.{toZ-ofZ}
+use Rattle.terms.specs.declared.Answer.{Answer}
+use Rattle.model.specs.Reading.{readIn}
+use borrow.Author.Needs.{needs}
+use Rattle.reading.proofs.read_row.Statement.{statement}
+use Rattle.reading.proofs.read_row.Tie as tie
+
+returns : tie.Need-returns
+unfolding readIn
+returns c =
+    let test = c .before .before in
+    rw (← test .before .visible .ensures, test .if1 .taken)
+    (ap Answer.Value (toZ-ofZ w32 (c .of-word .result) record { sfits = c .of-word .ok } ∙ c .of-word .ensures ∙ ap (toZ w32) (c .before .word-of .ensures)))
+
+returns-2 : tie.Need-returns-2
+unfolding readIn
+returns-2 c = rw (← c .before .visible .ensures, c .if1 .left)
+
+pub read-row-spec : {M : Type 1} → statement M
+read-row-spec =
+    tie.close
+    (tie.spec
+    (λ c κs. search needs)
+    (λ c κs. search needs)
+    (λ c κs. search needs)
+    returns
+    returns-2)

@@ -1,0 +1,26 @@
+-- `reading::value` meets its contract.
+use Prim.Native.Nat.{_+_, _*_, _≤_, _<_}
+use native.Mathlib.Omega.{arith}
+use Rattle.model.specs.Stored.{valueIn}
+use Rattle.rows.proofs.Indices.{values-few, value-in}
+use borrow.Author.Needs.{needs}
+use Rattle.reading.proofs.value.Statement.{statement}
+use Rattle.reading.proofs.value.Tie as tie
+
+inside : (c : tie.Start) → let a = c .args in (a .at * a .s .columns + a .c < a .s .values) × (a .s .values ≤ 131072)
+inside c =
+    let proper = c .pre .1 .0 in
+    (value-in _ proper _ _ (c .pre .1 .1 .0) (c .pre .1 .1 .1), values-few _ proper)
+
+returns : tie.Need-returns
+unfolding valueIn
+returns c = c .read .ensures
+
+pub value-spec : {M : Type 1} → statement M
+value-spec =
+    tie.close
+    (tie.spec
+    (λ c. omega (arith, inside (c .before .before)))
+    (λ c. omega (arith, inside (c .before .before)))
+    (λ c κs. (search needs, omega (arith, inside (c .before .before))))
+    returns)

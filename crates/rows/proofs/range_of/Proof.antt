@@ -1,0 +1,13 @@
+-- `rows::range_of` meets its contract.
+use native.Mathlib.Omega.{arith}
+use Rattle.history.specs.History.{rangeOf}
+use borrow.Author.Needs.{needs}
+use Rattle.rows.proofs.range_of.Statement.{statement}
+use Rattle.rows.proofs.range_of.Tie as tie
+
+returns : tie.Need-returns
+unfolding rangeOf
+returns c = omega arith
+
+pub range-of-spec : {M : Type 1} → statement M
+range-of-spec = tie.close (tie.spec (λ c. search needs) returns)

@@ -1,0 +1,22 @@
+-- `rows::sees_record` meets its contract.
+use Rattle.model.specs.Stored.{recordIn}
+use borrow.Author.Needs.{needs}
+use Rattle.rows.proofs.sees_record.Statement.{statement}
+use Rattle.rows.proofs.sees_record.Tie as tie
+
+returns : tie.Need-returns
+unfolding recordIn
+returns c =
+    let third = c .before in
+    let second = third .before in
+    rw (← third .read3 .ensures, ← second .read2 .ensures, ← second .before .read .ensures) (c .sees .ensures)
+
+pub sees-record-spec : {M : Type 1} → statement M
+sees-record-spec =
+    tie.close
+    (tie.spec
+    (λ c κs. search needs)
+    (λ c κs. search needs)
+    (λ c κs. search needs)
+    (λ c κs. search needs)
+    returns)

@@ -1,0 +1,23 @@
+-- `rows::sees_row` meets its contract.
+use Rattle.model.specs.Stored.{rowIn}
+use borrow.Author.Needs.{needs}
+use Rattle.rows.proofs.sees_row.Statement.{statement}
+use Rattle.rows.proofs.sees_row.Tie as tie
+
+returns : tie.Need-returns
+unfolding rowIn
+returns c =
+    let third = c .before in
+    let second = third .before in
+    rw (← third .read3 .ensures, ← second .read2 .ensures, ← second .before .read .ensures) (c .sees .ensures)
+
+pub sees-row-spec : {M : Type 1} → statement M
+sees-row-spec =
+    tie.close
+    (tie.spec
+    (λ c. search needs)
+    (λ c κs. search needs)
+    (λ c κs. search needs)
+    (λ c κs. search needs)
+    (λ c κs. search needs)
+    returns)

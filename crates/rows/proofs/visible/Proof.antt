@@ -1,0 +1,62 @@
+-- `rows::visible` meets its contract.
+use mathlib.Core.Path.{_≡_, sym, _∙_}
+use Prim.Native.Nat.{_<_}
+use native.Mathlib.Omega.{arith}
+use borrow.Author.Tests.{not-true, not-false}
+use Rattle.model.specs.Reading.{seesRow}
+use Rattle.rows.proofs.Cases.{unseen-row, row-alone, row-kept, row-deleted}
+use borrow.Author.Needs.{needs}
+use Rattle.rows.proofs.visible.Statement.{statement}
+use Rattle.rows.proofs.visible.Tie as tie
+
+returns : tie.Need-returns
+returns c = unseen-row _ _ _ _ _ (sym (c .before .sees-row .ensures) ∙ not-true _ (c .if1 .taken))
+
+returns-2 : tie.Need-returns-2
+returns-2 c =
+    let call = c .before .before in
+    let test = call .before in
+    row-alone _ _ _ _ _ (sym (test .before .sees-row .ensures) ∙ not-false _ (test .if1 .left))
+    (sym (call .head .ensures .0) ∙ c .enum-told .given .1)
+
+-- the record that was found lies among the slots
+found : (c : tie.After-at) → c .at .given .0 .0 < c .before .before .before .before .before .before .args .s .slots
+found c = rw (c .at .given .1) at (c .before .before .head .ensures .1)
+
+read-requires : tie.Need-read-requires
+read-requires c κs = (omega arith, found (c .before))
+
+returns-3 : tie.Need-returns-3
+returns-3 c =
+    let at = c .before .before .before in
+    let call = at .before .before in
+    let test = call .before in
+    row-kept _ _ _ _ _ _ _ (sym (test .before .sees-row .ensures) ∙ not-false _ (test .if1 .left))
+    (sym (call .head .ensures .0) ∙ at .at .given .1) (c .before .read .ensures) (c .if2 .taken)
+
+sees-record-requires : tie.Need-sees-record-requires
+sees-record-requires c κs = (omega arith, found (c .before .before .before))
+
+returns-4 : tie.Need-returns-4
+returns-4 c =
+    let kind = c .before .before in
+    let at = kind .before .before in
+    let call = at .before .before in
+    let test = call .before in
+    row-deleted _ _ _ _ _ _ _ _ (sym (test .before .sees-row .ensures) ∙ not-false _ (test .if1 .left))
+    (sym (call .head .ensures .0) ∙ at .at .given .1) (kind .read .ensures) (c .before .if2 .left) (c .sees-record .ensures)
+
+pub visible-spec : {M : Type 1} → statement M
+visible-spec =
+    tie.close
+    (tie.spec
+    (λ c κs. search needs)
+    returns
+    (λ c κs. search needs)
+    (λ c. search needs)
+    (λ c. search needs)
+    returns-2
+    read-requires
+    returns-3
+    sees-record-requires
+    returns-4)

@@ -1,0 +1,131 @@
+// A row and its newest tail record in the lent memory: who sees them, where they lie, and whether the row is there for a reader.
+// Each function answers by the model's definition of the same meaning.
+use layout::Region;
+use layout::Sizes;
+use loops::Found;
+use regions::read;
+use terms::Row;
+use terms::Stamp;
+use terms::Tail;
+use terms::Transaction;
+ghost use mathlib.Core.Path.{_≡_};
+ghost use Prim.Native.Nat.{_*_, _≤_, _<_};
+ghost use lib.ListN.{length};
+ghost use Rattle.words.specs.Words.{words};
+ghost use Rattle.layout.specs.Regions.{need};
+ghost use Rattle.layout.specs.View.{view};
+ghost use Rattle.history.specs.History.{bit, rangeOf};
+ghost use Rattle.model.specs.Stored.{rowIn, recordIn, slot, headerIn, rowsGiven};
+ghost use Rattle.model.specs.Reading.{sees, seesRow, seesRecord, visibleIn};
+ghost use Rattle.model.specs.Asked.{shapeIn, Proper};
+ghost use Rattle.model.specs.Asked.{Linked};
+ghost use Rattle.rows.specs.Finders.{headAt, Inside};
+
+// A reader: it sees what was committed at or before its stamp, and what transaction `me` has changed so far (number 0: no such changes).
+pub struct Reader {
+    pub stamp: Stamp,
+    pub me: Transaction,
+}
+
+// Whether a mask has column c.
+pub fn has_bit(mask: u32, c: u32) -> bool
+    requires { ⌜ c < 32 ⌝ }
+    ensures { λ r. ⌜ r ≡ bit mask c ⌝ }
+{
+    (mask >> c) & 1 == 1
+}
+
+// Whether the reader sees a row or record of this state, stamp and transaction.
+pub fn sees(who: Reader, state: u32, stamp: u32, transaction: u32) -> bool
+    ensures { λ r. ⌜ r ≡ sees (who .stamp .0) (who .me .0) state stamp transaction ⌝ }
+{
+    let last = who.stamp.0;
+    let me = who.me.0;
+    if state == 1 {
+        return stamp <= last;
+    }
+    if state != 0 {
+        return false;
+    }
+    if me == 0 {
+        return false;
+    }
+    transaction == me
+}
+
+// Whether the reader sees the insert of a row.
+pub fn sees_row(mem: &[u8], s: Sizes, who: Reader, row: Row) -> bool
+    requires { ⌜ need s * 4 ≤ length (now mem) ⌝ }
+    requires { ⌜ row .0 < s .rows ⌝ }
+    ensures { λ r. ⌜ r ≡ seesRow (who .stamp .0) (who .me .0) (rowIn (view s (words (now (mem .entry)))) (row .0)) ⌝ }
+{
+    let i = row.0 as usize;
+    let state = read(mem, s, Region::RowState, i);
+    let stamp = read(mem, s, Region::RowStamp, i);
+    let transaction = read(mem, s, Region::RowTransaction, i);
+    sees(who, state, stamp, transaction)
+}
+
+// Whether the reader sees the tail record at a slot.
+pub fn sees_record(mem: &[u8], s: Sizes, who: Reader, slot: usize) -> bool
+    requires { ⌜ need s * 4 ≤ length (now mem) ⌝ }
+    requires { ⌜ slot < s .slots ⌝ }
+    ensures { λ r. ⌜ r ≡ seesRecord (who .stamp .0) (who .me .0) (recordIn (view s (words (now (mem .entry)))) slot) ⌝ }
+{
+    let state = read(mem, s, Region::TailState, slot);
+    let stamp = read(mem, s, Region::TailStamp, slot);
+    let transaction = read(mem, s, Region::TailTransaction, slot);
+    sees(who, state, stamp, transaction)
+}
+
+// The range of a row.
+pub fn range_of(row: Row) -> usize
+    ensures { λ r. ⌜ r ≡ rangeOf (row .0) ⌝ }
+{
+    (row.0 / 64) as usize
+}
+
+// Where tail record k of range g lies.
+pub fn slot_of(s: Sizes, g: usize, k: Tail) -> usize
+    requires { ⌜ Proper s ⌝ }
+    requires { ⌜ (g < s .ranges) × (1 ≤ k .0) × (k .0 ≤ s .capacity) ⌝ }
+    ensures { λ r. ⌜ (r ≡ slot (shapeIn s) g (k .0)) × (r < s .slots) ⌝ }
+{
+    g * s.capacity + (k.0 as usize - 1)
+}
+
+// Where the newest tail record of a row lies.
+pub fn head(mem: &[u8], s: Sizes, row: Row) -> Found
+    requires { ⌜ need s * 4 ≤ length (now mem) ⌝ }
+    requires { ⌜ Proper s ⌝ }
+    requires { ⌜ Linked s (view s (words (now mem))) ⌝ }
+    requires { ⌜ row .0 < headerIn (view s (words (now mem))) rowsGiven ⌝ }
+    ensures { λ r. ⌜ r ≡ headAt (shapeIn s) (view s (words (now (mem .entry)))) (row .0) ⌝ }
+    ensures { λ r. ⌜ Inside r (s .slots) ⌝ }
+{
+    let link = read(mem, s, Region::RowLink, row.0 as usize);
+    if link == 0 {
+        return Found::Nothing;
+    }
+    Found::At(slot_of(s, range_of(row), Tail(link)))
+}
+
+// Whether the row is there for the reader: its insert is seen, and no delete of it. The newest record tells of a delete, which is the last of its row.
+pub fn visible(mem: &[u8], s: Sizes, who: Reader, row: Row) -> bool
+    requires { ⌜ need s * 4 ≤ length (now mem) ⌝ }
+    requires { ⌜ Proper s ⌝ }
+    requires { ⌜ Linked s (view s (words (now mem))) ⌝ }
+    requires { ⌜ row .0 < headerIn (view s (words (now mem))) rowsGiven ⌝ }
+    ensures { λ r. ⌜ r ≡ visibleIn (shapeIn s) (view s (words (now (mem .entry)))) (who .stamp .0) (who .me .0) (row .0) ⌝ }
+{
+    if !sees_row(mem, s, who, row) {
+        return false;
+    }
+    let Found::At(at) = head(mem, s, row) else {
+        return true;
+    };
+    if read(mem, s, Region::TailKind, at) < 2 {
+        return true;
+    }
+    !sees_record(mem, s, who, at)
+}

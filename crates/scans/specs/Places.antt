@@ -1,0 +1,67 @@
+-- The lent list of open scans: document 01, "a lent list of small records: number, stamp, merges made before it; number 0 marks a free place".
+-- It may be of any length.
+use Prim.Native.Nat.{ℕ, zero, suc}
+use mathlib.Core.Bool.{Bool, true, false, not, cond, _&&_, _||_}
+use mathlib.Core.List.{List, [], _∷_}
+use lib.Dec.{eqb}
+use lib.ListN.{length, getD, replicate}
+use Rattle.terms.specs.declared.Place.{Place}
+
+abbrev pub freePlace : Place
+freePlace = record { number = 0; stamp = 0; merges = 0 }
+
+-- the places that a list of words holds, three words to a place; up to two words at its end belong to none
+unfoldable pub placesOf : List ℕ → List Place
+placesOf [] = []
+placesOf (a ∷ []) = []
+placesOf (a ∷ b ∷ []) = []
+placesOf (a ∷ b ∷ c ∷ ws) = record { number = a; stamp = b; merges = c } ∷ placesOf ws
+
+-- A place bears the number k. Number 0 marks a free place, so no call's number 0 is ever found.
+abbrev pub bears : ℕ → Place → Bool
+bears k p = not (eqb (p .number) 0) && eqb (p .number) k
+
+abbrev pub isOpen : Place → Bool
+isOpen p = not (eqb (p .number) 0)
+
+-- the first place of a list that passes a test, else the list's length
+abbrev pub place : (Place → Bool) → List Place → ℕ
+place f [] = 0
+place f (p ∷ ps) = cond (f p) 0 (suc (place f ps))
+
+abbrev pub firstFree : List Place → ℕ
+firstFree ps = place (λ p. eqb (p .number) 0) ps
+
+-- the open scans, in the order of the list, and their places, the first of the list being number k
+abbrev pub opened : List Place → List Place
+opened [] = []
+opened (p ∷ ps) = cond (isOpen p) (p ∷ opened ps) (opened ps)
+
+abbrev pub openedAt : ℕ → List Place → List ℕ
+openedAt k [] = []
+openedAt k (p ∷ ps) = cond (isOpen p) (k ∷ openedAt (suc k) ps) (openedAt (suc k) ps)
+
+abbrev pub openCount : List Place → ℕ
+openCount ps = length (opened ps)
+
+-- whether each, or some, open scan passes a test
+abbrev pub everyOpen : (Place → Bool) → List Place → Bool
+everyOpen f [] = true
+everyOpen f (p ∷ ps) = (not (isOpen p) || f p) && everyOpen f ps
+
+abbrev pub someOpen : (Place → Bool) → List Place → Bool
+someOpen f [] = false
+someOpen f (p ∷ ps) = (isOpen p && f p) || someOpen f ps
+
+-- whether a number stands in a list, and whether the numbers of a list that are not 0 differ from each other
+abbrev pub among : ℕ → List ℕ → Bool
+among x [] = false
+among x (y ∷ l) = eqb y x || among x l
+
+abbrev pub differ : List ℕ → Bool
+differ [] = true
+differ (x ∷ l) = (eqb x 0 || not (among x l)) && differ l
+
+-- as many places, each free
+abbrev pub allFreed : List Place → List Place
+allFreed ps = replicate (length ps) freePlace

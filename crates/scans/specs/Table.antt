@@ -1,0 +1,77 @@
+-- The table that stands for a list of places, and what is asked of it.
+use Prim.Native.Nat.{ℕ, suc, _+_, min}
+use mathlib.Core.Bool.{Bool, true, false, cond, _||_}
+use mathlib.Core.List.{List, [], _∷_, _++_, map}
+use lib.Dec.{eqb, ltb}
+use lib.ListN.{length, getD, set, take, replicate}
+use Rattle.terms.specs.Measures.{mostScans}
+use Rattle.terms.specs.declared.Place.{Place}
+use Rattle.loops.specs.declared.Found.{Found}
+use Rattle.loops.specs.declared.Found.the-variants.{At, Nothing}
+use Rattle.loops.specs.Search.{firstAt}
+use Rattle.scans.specs.declared.Scans.{Scans}
+use Rattle.scans.specs.Places.{opened, openedAt, openCount, firstFree}
+
+-- as many entries as a table has: those of l, then zeros
+abbrev pub entries : List ℕ → List ℕ
+entries l = take mostScans (l ++ replicate mostScans 0)
+
+unfoldable pub tableOf : List Place → Scans
+tableOf ps =
+    record {
+      length = length ps;
+      count = min mostScans (openCount ps);
+      numbers = entries (map (λ p. p .number) (opened ps));
+      stamps = entries (map (λ p. p .stamp) (opened ps));
+      merges = entries (map (λ p. p .merges) (opened ps));
+      places = entries (openedAt 0 ps);
+      free = firstFree ps;
+      more = ltb mostScans (openCount ps);
+    }
+
+-- the table with the next place of the list: a free one, an open one that has room, and one past the last entry
+unfoldable pub noted : Scans → Place → Scans
+noted t p =
+    let free = cond (eqb (t .free) (t .length)) (t .length + 1) (t .free) in
+    let n = t .count in
+    cond (eqb (p .number) 0)
+    (record {
+      length = t .length + 1;
+      count = n;
+      numbers = t .numbers;
+      stamps = t .stamps;
+      merges = t .merges;
+      places = t .places;
+      free = t .free;
+      more = t .more;
+    })
+    (cond (ltb n mostScans)
+    (record {
+      length = t .length + 1;
+      count = n + 1;
+      numbers = set (t .numbers) n (p .number);
+      stamps = set (t .stamps) n (p .stamp);
+      merges = set (t .merges) n (p .merges);
+      places = set (t .places) n (t .length);
+      free = free;
+      more = t .more;
+    })
+    (record {
+      length = t .length + 1;
+      count = n;
+      numbers = t .numbers;
+      stamps = t .stamps;
+      merges = t .merges;
+      places = t .places;
+      free = free;
+      more = true;
+    }))
+
+-- the entry of an open scan. No scan has the number 0, which marks free places and unused entries.
+unfoldable pub findIn : Scans → ℕ → Found
+findIn t number = cond (eqb number 0) Nothing (firstAt number 0 (t .numbers))
+
+-- whether a number of the list is below m
+abbrev pub anyBelow : ℕ → List ℕ → Bool
+anyBelow m [] = false
+anyBelow m (x ∷ l) = ltb x m || anyBelow m l

@@ -1,0 +1,216 @@
+// The lent list of open scans, taken by value: how long it is, its open scans with their places, and its first free place. At most 16 scans are
+// open in a usable store, so a table of 16 holds all that a call asks of a list of any length. Definitions and laws speak of the list of places;
+// the functions over bytes, three words to a place, serve callers that lend the list as bytes.
+
+use loops::Found;
+use loops::fill;
+use terms::Place;
+use words::get;
+use words::put;
+ghost use mathlib.Core.Path.{_≡_};
+ghost use mathlib.Core.Bool.{_||_, not, cond};
+ghost use mathlib.Core.List.{[]};
+ghost use Prim.Native.Nat.{_+_, _*_, _<_, _≤_};
+ghost use lib.Dec.{eqb, ltb};
+ghost use lib.ListN.{length, getD, set, take, drop};
+ghost use Rattle.words.specs.Words.{words};
+ghost use Rattle.loops.specs.Search.{allBetween};
+ghost use Rattle.scans.specs.Places.{freePlace, placesOf, allFreed, among, differ};
+ghost use Rattle.scans.specs.Table.{tableOf, noted, findIn, anyBelow};
+
+pub const MOST_SCANS: usize = 16;
+
+// The bytes of a place.
+const PLACE_BYTES: usize = 12;
+
+// What a call wants to know of the list. Entries at and past `count` are 0.
+pub struct Scans {
+    // how many places were lent
+    pub length: usize,
+    // the open scans among them, at most 16: how many, and of each its number, stamp and merges and its place in the list
+    pub count: usize,
+    pub numbers: [u32; 16],
+    pub stamps: [u32; 16],
+    pub merges: [u32; 16],
+    pub places: [usize; 16],
+    // the first free place, or the length where there is none
+    pub free: usize,
+    // whether more than 16 scans are open
+    pub more: bool,
+}
+
+fn empty() -> Scans
+    ensures { λ r. ⌜ r ≡ tableOf [] ⌝ }
+{
+    Scans {
+        length: 0,
+        count: 0,
+        numbers: [0; 16],
+        stamps: [0; 16],
+        merges: [0; 16],
+        places: [0; 16],
+        free: 0,
+        more: false,
+    }
+}
+
+// The first free place of a list that has grown by an open one.
+fn free_after(free: usize, length: usize) -> usize
+    requires { ⌜ length < 4611686018427387904 ⌝ }
+    ensures { λ r. ⌜ r ≡ cond (eqb free length) (length + 1) free ⌝ }
+{
+    if free == length { length + 1 } else { free }
+}
+
+// The table with one place more, the next of the list.
+fn note(t: Scans, p: Place) -> Scans
+    requires { ⌜ t .length < 4611686018427387904 ⌝ }
+    ensures { λ r. ⌜ r ≡ noted t p ⌝ }
+{
+    let mut u = t;
+    u.length = t.length + 1;
+    if p.number == 0 {
+        return u;
+    }
+    u.free = free_after(t.free, t.length);
+    let n = t.count;
+    if n < MOST_SCANS {
+        u.numbers[n] = p.number;
+        u.stamps[n] = p.stamp;
+        u.merges[n] = p.merges;
+        u.places[n] = t.length;
+        u.count = n + 1;
+    } else {
+        u.more = true;
+    }
+    u
+}
+
+// Place i of a list of bytes.
+fn place_get(list: &[u8], i: usize) -> Place
+    requires { ⌜ i * 12 + 12 ≤ length (now list) ⌝ }
+    ensures { λ r. ⌜ r ≡ getD (placesOf (words (now (list .entry)))) i freePlace ⌝ }
+{
+    let w = i * 3;
+    Place {
+        number: get(list, w),
+        stamp: get(list, w + 1),
+        merges: get(list, w + 2),
+    }
+}
+
+// The table of a list of bytes. A rest of fewer bytes than a place has belongs to no place.
+pub fn summarise(list: &[u8]) -> Scans
+    ensures { λ r. ⌜ r ≡ tableOf (placesOf (words (now (list .entry)))) ⌝ }
+{
+    let n = list.len() / PLACE_BYTES;
+    let mut t = empty();
+    let mut i = 0;
+    while i < n {
+        t = note(t, place_get(list, i));
+        i += 1;
+    }
+    t
+}
+
+// Place i becomes p; a place past the end is not there, and nothing is written.
+pub fn place_put(list: &mut [u8], i: usize, p: Place)
+    ensures { λ _. ⌜ placesOf (words (now (list .exit))) ≡ set (placesOf (words (now (list .entry)))) i p ⌝ }
+{
+    if i < list.len() / PLACE_BYTES {
+        let w = i * 3;
+        put(list, w, p.number);
+        put(list, w + 1, p.stamp);
+        put(list, w + 2, p.merges);
+    }
+}
+
+// Every place becomes free, however many there are.
+pub fn free_all(list: &mut [u8])
+    ensures { λ _. ⌜ placesOf (words (now (list .exit))) ≡ allFreed (placesOf (words (now (list .entry)))) ⌝ }
+{
+    let n = list.len() / PLACE_BYTES * 3;
+    fill(list, 0, n, 0);
+}
+
+// The entry of the scan that bears a number.
+pub fn find_scan(t: Scans, number: u32) -> Found
+    ensures { λ r. ⌜ r ≡ findIn t number ⌝ }
+{
+    if number == 0 {
+        return Found::Nothing;
+    }
+    let numbers = t.numbers;
+    let mut i = 0;
+    while i < MOST_SCANS {
+        if numbers[i] == number {
+            return Found::At(i);
+        }
+        i += 1;
+    }
+    Found::Nothing
+}
+
+// Whether one of the open scans was opened before merge m.
+pub fn opened_before(t: Scans, m: u32) -> bool
+    requires { ⌜ t .count ≤ 16 ⌝ }
+    ensures { λ r. ⌜ r ≡ anyBelow m (take (t .count) (t .merges)) ⌝ }
+{
+    let merges = t.merges;
+    let n = t.count;
+    let mut i = 0;
+    while i < n {
+        if merges[i] < m {
+            return true;
+        }
+        i += 1;
+    }
+    false
+}
+
+// Whether each entry is at most a bound. Unused entries are 0, so all are looked at.
+pub fn at_most(entries: [u32; 16], bound: u32) -> bool
+    ensures { λ r. ⌜ r ≡ allBetween 0 bound entries ⌝ }
+{
+    let mut i = 0;
+    while i < MOST_SCANS {
+        if entries[i] > bound {
+            return false;
+        }
+        i += 1;
+    }
+    true
+}
+
+// Whether entry i is 0 or stands in no later entry.
+fn differs(entries: [u32; 16], i: usize) -> bool
+    requires { ⌜ i < 16 ⌝ }
+    ensures { λ r. ⌜ r ≡ (eqb (getD entries i 0) 0 || not (among (getD entries i 0) (drop (i + 1) entries))) ⌝ }
+{
+    let x = entries[i];
+    if x == 0 {
+        return true;
+    }
+    let mut j = i + 1;
+    while j < MOST_SCANS {
+        if entries[j] == x {
+            return false;
+        }
+        j += 1;
+    }
+    true
+}
+
+// Whether the entries that are not 0 differ from each other.
+pub fn all_differ(entries: [u32; 16]) -> bool
+    ensures { λ r. ⌜ r ≡ differ entries ⌝ }
+{
+    let mut i = 0;
+    while i < MOST_SCANS {
+        if !differs(entries, i) {
+            return false;
+        }
+        i += 1;
+    }
+    true
+}

@@ -1,0 +1,96 @@
+-- The ways through the tests of a page, the search for the first page that passes, and how it gives a scan's page.
+use Prim.Native.Nat.{ℕ, zero, suc, _+_, _*_, _-_, _%_, _≤_, _<_}
+use mathlib.Core.Path.{_≡_, refl, sym, _∙_, ap}
+use mathlib.Core.Bool.{Bool, true, false, cond, _&&_}
+use native.Mathlib.Omega.{arith}
+use native.Mathlib.Nat.{mul-le-mul}
+use lib.Dec.{eqb, leb, ltb}
+use lib.ListN.{getD}
+use borrow.Author.Tests.{eq-eqb, ne-eqb, lt-ltb, le-ltb, le-leb, lt-leb}
+use Rattle.terms.specs.Measures.{Shape}
+use Rattle.loops.specs.declared.Found.{Found}
+use Rattle.layout.specs.declared.Sizes.{Sizes}
+use Rattle.layout.specs.declared.Region.the-variants.{PageState, PagePlace, PageMade, PageReplaced}
+use Rattle.layout.specs.View.{View}
+use Rattle.model.specs.Stored.{pageIn, firstFrom, placesOf, pagesOf, placeOf, currentIn}
+use Rattle.model.specs.Reading.{wasCurrent, scanPage}
+use Rattle.model.specs.Asked.{shapeIn, Proper}
+use Rattle.summing.specs.Sums.{oldPage}
+
+-- ---- one page
+module _ (s : Sizes) (proper : Proper s) where
+  pub places-some : 1 ≤ s .places
+  places-some = omega (arith, proper .places-are, mul-le-mul (proper .columns-from) (proper .ranges-from))
+
+  pub pages-are : pagesOf (shapeIn s) ≡ s .pages
+  pages-are = omega (arith, proper .places-are, proper .pages-are)
+
+  module _ (v : View) (m place p state : ℕ) (e : state ≡ getD (v PageState) p 0) where
+    pub not-waiting : state < 2 → false ≡ wasCurrent (shapeIn s) v m place p
+    unfolding wasCurrent pageIn
+    not-waiting h = rw (← e, le-ltb 1 state (omega arith))
+
+    module _ (at : ℕ) (h : 2 ≤ state) (q : at ≡ getD (v PagePlace) p 0) where
+      pub elsewhere : (at % s .places ≡ place → ⊥) → false ≡ wasCurrent (shapeIn s) v m place p
+      unfolding wasCurrent pageIn
+      elsewhere n = rw (← e, lt-ltb 1 state h, ← q, ← proper .places-are, ne-eqb (at % s .places) place n)
+
+      module _ (made : ℕ) (i : at % s .places ≡ place) (b : made ≡ getD (v PageMade) p 0) where
+        pub made-later : m < made → false ≡ wasCurrent (shapeIn s) v m place p
+        unfolding wasCurrent pageIn
+        made-later l = rw (← e, lt-ltb 1 state h, ← q, ← proper .places-are, eq-eqb (at % s .places) place i, ← b, lt-leb made m l)
+
+        pub made-before : (replaced : ℕ) → made ≤ m → replaced ≡ getD (v PageReplaced) p 0 → ltb m replaced ≡ wasCurrent (shapeIn s) v m place p
+        unfolding wasCurrent pageIn
+        made-before replaced l r =
+            rw (← e, lt-ltb 1 state h, ← q, ← proper .places-are, eq-eqb (at % s .places) place i, ← b, le-leb made m l, ← r)
+
+-- ---- the search: what is left of it at turn i has the answer of all
+module _ (f : ℕ → Bool) (n i : ℕ) (l : i < n) where
+  pub first-here : true ≡ f i → firstFrom f (n - i) i ≡ i
+  first-here h = let e : n - i ≡ suc (n - suc i) = omega arith in rw (e, ← h)
+
+  pub first-on : false ≡ f i → firstFrom f (n - i) i ≡ firstFrom f (n - (i + 1)) (i + 1)
+  first-on h =
+      let e : n - i ≡ suc (n - (i + 1)) = omega arith in
+      let one : suc i ≡ i + 1 = omega arith in
+      rw (e, ← h, one)
+
+pub first-end : (f : ℕ → Bool) (n i : ℕ) → i ≤ n → n ≤ i → firstFrom f (n - i) i ≡ n
+first-end f n i h k = let e : n - i ≡ 0 = omega arith in let q : i ≡ n = omega arith in rw (e, q)
+
+-- ---- the answer of the search, and the scan's page
+module _ (s : Sizes) (proper : Proper s) (v : View) (m place : ℕ) where
+  pub old-found : (i : ℕ) → firstFrom (wasCurrent (shapeIn s) v m place) (s .pages) 0 ≡ i → i < s .pages
+      → Found.At i ≡ oldPage (shapeIn s) v m place
+  unfolding oldPage
+  old-found i e l = rw (pages-are s proper, e, lt-ltb i (s .pages) l)
+
+  pub old-none : firstFrom (wasCurrent (shapeIn s) v m place) (s .pages) 0 ≡ s .pages → Found.Nothing ≡ oldPage (shapeIn s) v m place
+  unfolding oldPage
+  old-none e = rw (pages-are s proper, e, le-ltb (s .pages) (s .pages) (omega arith))
+
+-- what the search for the page of a range and column gives
+abbrev old : Shape → View → ℕ → ℕ → ℕ → ℕ
+old S v m g c = firstFrom (wasCurrent S v m (placeOf S g c)) (pagesOf S) 0
+
+module _ (S : Shape) (v : View) (m g c current made : ℕ) (e : current ≡ currentIn S v g c) (b : made ≡ getD (v PageMade) current 0) where
+  pub scan-current : made ≤ m → current ≡ scanPage S v m g c
+  unfolding scanPage pageIn
+  scan-current l = rw (← e, ← b, le-leb made m l)
+
+  pub scan-old : (p : ℕ) → m < made → oldPage S v m (placeOf S g c) ≡ Found.At p → p ≡ scanPage S v m g c
+  unfolding scanPage pageIn oldPage
+  scan-old p l q = rw (← e, ← b, lt-leb made m l) (go (ltb (old S v m g c) (pagesOf S)) q)
+    where
+      go : (x : Bool) → cond x (Found.At (old S v m g c)) Found.Nothing ≡ Found.At p → p ≡ cond x (old S v m g c) current
+      go true f = cc
+      go false f = let z : _≡_ {A = ℕ} 0 1 = cc in absurd (omega arith)
+
+  pub scan-none : m < made → oldPage S v m (placeOf S g c) ≡ Found.Nothing → current ≡ scanPage S v m g c
+  unfolding scanPage pageIn oldPage
+  scan-none l q = rw (← e, ← b, lt-leb made m l) (go (ltb (old S v m g c) (pagesOf S)) q)
+    where
+      go : (x : Bool) → cond x (Found.At (old S v m g c)) Found.Nothing ≡ Found.Nothing → current ≡ cond x (old S v m g c) current
+      go true f = let z : _≡_ {A = ℕ} 0 1 = cc in absurd (omega arith)
+      go false f = refl

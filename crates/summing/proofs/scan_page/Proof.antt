@@ -1,0 +1,53 @@
+-- `summing::scan_page` meets its contract.
+use Prim.Native.Nat.{_+_, _*_, _≤_, _<_}
+use mathlib.Core.Path.{sym, _∙_}
+use native.Mathlib.Omega.{arith}
+use Rattle.rows.proofs.Indices.{places-few, place-in}
+use Rattle.summing.proofs.Pages.{scan-current, scan-old, scan-none}
+use borrow.Author.Needs.{needs}
+use Rattle.summing.proofs.scan_page.Statement.{statement}
+use Rattle.summing.proofs.scan_page.Tie as tie
+
+inside : (c : tie.Start) → let a = c .args in (a .g * a .s .columns + a .c < a .s .places) × (a .s .places ≤ 256)
+inside c =
+    let proper = c .pre .1 .0 in
+    (place-in _ proper _ _ (c .pre .1 .1 .1 .0) (c .pre .1 .1 .1 .1), places-few _ proper .0)
+
+returns : tie.Need-returns
+returns c =
+    let current = c .before .before .current-page .ensures in
+    (scan-current _ _ _ _ _ _ _ (current .0) (c .before .read .ensures) (c .if1 .taken), current .1)
+
+returns-2 : tie.Need-returns-2
+returns-2 c =
+    let call = c .before .before in
+    let test = call .before .before in
+    let current = test .before .before .current-page .ensures in (
+      scan-none _ _ _ _ _ _ _ (current .0) (test .before .read .ensures) (test .if1 .left) (sym (call .old-page .ensures .0) ∙ c .enum-told .given .1),
+      current .1,
+    )
+
+returns-3 : tie.Need-returns-3
+returns-3 c =
+    let found = c .before in
+    let call = found .before .before in
+    let test = call .before .before in
+    let current = test .before .before .current-page .ensures in (
+      scan-old _ _ _ _ _ _ _ (current .0) (test .before .read .ensures) _ (test .if1 .left) (sym (call .old-page .ensures .0) ∙ found .p .given .1),
+      rw (found .p .given .1) at (call .old-page .ensures .1),
+    )
+
+pub scan-page-spec : {M : Type 1} → statement M
+scan-page-spec =
+    tie.close
+    (tie.spec
+    (λ c κs. search needs)
+    (λ c κs. search needs)
+    returns
+    (λ c. omega (arith, inside (c .before .before .before .before .before)))
+    (λ c. omega (arith, inside (c .before .before .before .before .before)))
+    (λ c κs. search needs)
+    (λ c. search needs)
+    (λ c. search needs)
+    returns-2
+    returns-3)

@@ -1,0 +1,2 @@
+-- What the summing code's finder and its running tally are.
+pub mod Sums

@@ -1,0 +1,184 @@
+// A scan's pages and its sum. The sum finds the page of each range once and goes over the range's rows on it; the definition goes row by row.
+use layout::HEADER_ROWS;
+use layout::Region;
+use layout::Sizes;
+use loops::Found;
+use reading::current_page;
+use reading::word_of;
+use regions::read;
+use rows::Reader;
+use rows::range_of;
+use rows::visible;
+use terms::Answer;
+use terms::Place;
+use terms::Row;
+use terms::Stamp;
+use terms::Transaction;
+use words::of_word;
+ghost use mathlib.Core.Path.{_≡_};
+ghost use Prim.Native.Nat.{ℕ, _+_, _*_, _/_, _^_, _≤_, _<_};
+ghost use lib.IntN.{natAbs, _+ℤ_};
+ghost use lib.ListN.{length};
+ghost use Rattle.words.specs.Words.{words};
+ghost use Rattle.layout.specs.Regions.{need};
+ghost use Rattle.layout.specs.View.{view};
+ghost use Rattle.history.specs.History.{rangeOf};
+ghost use Rattle.model.specs.Stored.{headerIn, rowsGiven};
+ghost use Rattle.model.specs.Reading.{wasCurrent, scanPage, sumIn};
+ghost use Rattle.model.specs.Asked.{shapeIn, Proper};
+ghost use Rattle.model.specs.Asked.{Linked, Pooled};
+ghost use Rattle.rows.specs.Finders.{Inside};
+ghost use Rattle.summing.specs.Sums.{oldPage, Tallied};
+
+// Whether page p waits, is of this place, and was current after the first `merges` merges.
+fn was_current(mem: &[u8], s: Sizes, merges: u32, place: usize, p: usize) -> bool
+    requires { ⌜ need s * 4 ≤ length (now mem) ⌝ }
+    requires { ⌜ Proper s ⌝ }
+    requires { ⌜ p < s .pages ⌝ }
+    ensures { λ r. ⌜ r ≡ wasCurrent (shapeIn s) (view s (words (now (mem .entry)))) merges place p ⌝ }
+{
+    if read(mem, s, Region::PageState, p) < 2 {
+        return false;
+    }
+    if read(mem, s, Region::PagePlace, p) as usize % s.places != place {
+        return false;
+    }
+    if read(mem, s, Region::PageMade, p) > merges {
+        return false;
+    }
+    merges < read(mem, s, Region::PageReplaced, p)
+}
+
+// The first waiting page of a place that was current after the first `merges` merges.
+fn old_page(mem: &[u8], s: Sizes, merges: u32, place: usize) -> Found
+    requires { ⌜ need s * 4 ≤ length (now mem) ⌝ }
+    requires { ⌜ Proper s ⌝ }
+    ensures { λ r. ⌜ r ≡ oldPage (shapeIn s) (view s (words (now (mem .entry)))) merges place ⌝ }
+    ensures { λ r. ⌜ Inside r (s .pages) ⌝ }
+{
+    let n = s.pages;
+    let mut p = 0;
+    while p < n {
+        if was_current(mem, s, merges, place, p) {
+            return Found::At(p);
+        }
+        p += 1;
+    }
+    Found::Nothing
+}
+
+// The page of range g and column c that was current after the first `merges` merges.
+pub fn scan_page(mem: &[u8], s: Sizes, merges: u32, g: usize, c: u32) -> usize
+    requires { ⌜ need s * 4 ≤ length (now mem) ⌝ }
+    requires { ⌜ Proper s ⌝ }
+    requires { ⌜ Pooled s (view s (words (now mem))) ⌝ }
+    requires { ⌜ (g < s .ranges) × (c < s .columns) ⌝ }
+    ensures { λ r. ⌜ (r ≡ scanPage (shapeIn s) (view s (words (now (mem .entry)))) merges g c) × (r < s .pages) ⌝ }
+{
+    let current = current_page(mem, s, g, c);
+    if read(mem, s, Region::PageMade, current) <= merges {
+        return current;
+    }
+    let place = g * s.columns + c as usize;
+    let Found::At(p) = old_page(mem, s, merges, place) else {
+        return current;
+    };
+    p
+}
+
+// The rows seen so far, and the sum of their values.
+pub struct Tally {
+    pub count: u32,
+    pub total: i64,
+}
+
+// A sum of so few values that it fits.
+fn plus(total: i64, w: i32) -> i64
+    requires { ⌜ natAbs total ≤ 2 ^ 62 ⌝ }
+    ensures { λ r. ⌜ r ≡ total +ℤ w ⌝ }
+{
+    total + w as i64
+}
+
+// The tally with one row more, on the page of its range.
+fn add_row(mem: &[u8], s: Sizes, scan: Place, page: usize, row: Row, c: u32, t: Tally) -> Tally
+    requires { ⌜ need s * 4 ≤ length (now mem) ⌝ }
+    requires { ⌜ Proper s ⌝ }
+    requires { ⌜ Linked s (view s (words (now mem))) ⌝ }
+    requires { ⌜ (page < s .pages) × (c < s .columns) × (row .0 < headerIn (view s (words (now mem))) rowsGiven) ⌝ }
+    requires { ⌜ page ≡ scanPage (shapeIn s) (view s (words (now mem))) (scan .merges) (rangeOf (row .0)) c ⌝ }
+    requires { ⌜ Tallied (shapeIn s) (view s (words (now mem))) scan c (row .0) t ⌝ }
+    ensures { λ r. ⌜ Tallied (shapeIn s) (view s (words (now (mem .entry)))) scan c (row .0 + 1) r ⌝ }
+{
+    let who = Reader {
+        stamp: Stamp(scan.stamp),
+        me: Transaction(0),
+    };
+    if visible(mem, s, who, row) {
+        let w = of_word(word_of(mem, s, who, page, row, c));
+        return Tally {
+            count: t.count + 1,
+            total: plus(t.total, w),
+        };
+    }
+    t
+}
+
+// The tally with the rows from `from` up to `to`, which are all of one range, on that range's page.
+fn add_rows(
+    mem: &[u8],
+    s: Sizes,
+    scan: Place,
+    page: usize,
+    c: u32,
+    from: u32,
+    to: u32,
+    t: Tally,
+) -> Tally
+    requires { ⌜ need s * 4 ≤ length (now mem) ⌝ }
+    requires { ⌜ Proper s ⌝ }
+    requires { ⌜ Linked s (view s (words (now mem))) ⌝ }
+    requires { ⌜ (page < s .pages) × (c < s .columns) × (to ≤ headerIn (view s (words (now mem))) rowsGiven) ⌝ }
+    requires { ⌜ (from ≤ to) × (to ≤ (from / 64 + 1) * 64) ⌝ }
+    requires { ⌜ page ≡ scanPage (shapeIn s) (view s (words (now mem))) (scan .merges) (rangeOf from) c ⌝ }
+    requires { ⌜ Tallied (shapeIn s) (view s (words (now mem))) scan c from t ⌝ }
+    ensures { λ r. ⌜ Tallied (shapeIn s) (view s (words (now (mem .entry)))) scan c to r ⌝ }
+{
+    let mut sum = t;
+    let mut row = from;
+    while row < to {
+        sum = add_row(mem, s, scan, page, Row(row), c, sum);
+        row += 1;
+    }
+    sum
+}
+
+// The first row after `from` of another range, or the number of rows given where that is less.
+fn range_end(from: u32, given: u32) -> u32
+    requires { ⌜ (from < given) × (given ≤ 1024) ⌝ }
+    ensures { λ r. ⌜ (from < r) × (r ≤ given) × (r ≤ (from / 64 + 1) * 64) ⌝ }
+{
+    let end = (from / 64 + 1) * 64;
+    if end < given { end } else { given }
+}
+
+// A scan's sum of column c: the count of the rows seen and the sum of their values.
+pub fn sum_rows(mem: &[u8], s: Sizes, scan: Place, c: u32) -> Answer
+    requires { ⌜ need s * 4 ≤ length (now mem) ⌝ }
+    requires { ⌜ Proper s ⌝ }
+    requires { ⌜ Linked s (view s (words (now mem))) × Pooled s (view s (words (now mem))) ⌝ }
+    requires { ⌜ c < s .columns ⌝ }
+    ensures { λ r. ⌜ r ≡ sumIn (shapeIn s) (view s (words (now (mem .entry)))) scan c ⌝ }
+{
+    let given = read(mem, s, Region::Header, HEADER_ROWS);
+    let merges = scan.merges;
+    let mut sum = Tally { count: 0, total: 0 };
+    let mut from = 0;
+    while from < given {
+        let page = scan_page(mem, s, merges, range_of(Row(from)), c);
+        let to = range_end(from, given);
+        sum = add_rows(mem, s, scan, page, c, from, to, sum);
+        from = to;
+    }
+    Answer::Sum(sum.count, sum.total)
+}

@@ -1,0 +1,117 @@
+//! Stores of a shape, filled to a share of their rows and tail records.
+
+use checks::memory::{Layout, PLACE, ROWS, SCANS};
+use checks::plain::Plain;
+use checks::Store;
+use reference::{Answer, Call, Shape};
+
+/// A store's memory and scan list. All stores have one layout, so one filling serves them all.
+#[derive(Clone)]
+pub struct Filled {
+    pub memory: Vec<u8>,
+    pub scans: Vec<u8>,
+    pub shape: Shape,
+    /// Rows given, and the records used in range 0 before the open transaction's one.
+    pub rows: u32,
+    pub settled: u32,
+    /// The transaction and the scan that are open, and the last commit's stamp.
+    pub open: u32,
+    pub scan: u32,
+    pub last: u32,
+}
+
+/// Updates in one transaction of the filling.
+const UPDATES: usize = 16;
+/// One of so many of these transactions is aborted.
+const ABORTED: usize = 8;
+
+impl Filled {
+    /// So many percent of the rows and of all records, the records in the ranges that have rows;
+    /// but always a row with a setting, and always room for one row and one record more. One transaction is open, with one setting
+    /// of row 0, and one scan.
+    pub fn new(shape: Shape, percent: u32) -> Filled {
+        let layout = Layout::of(&shape);
+        let (memory, scans) = (vec![0; layout.need()], vec![0; SCANS * PLACE]);
+        let rows = (shape.rows() * percent / 100).clamp(1, shape.rows() - 1);
+        let mut filled =
+            Filled { memory, scans, shape, rows, settled: 0, open: 0, scan: 0, last: 0 };
+        let made = Plain::<0>.make(&mut filled.memory, &mut filled.scans, &shape);
+        assert_eq!(made, Answer::Done);
+        filled.insert_rows();
+        // Two places less: one for the open transaction, one for the call that is timed.
+        let ranges = rows.div_ceil(ROWS as u32);
+        let records = (layout.slots as u32 * percent / 100 / ranges).clamp(2, shape.tail - 2);
+        for range in 0..ranges {
+            filled.update_rows(range, records);
+        }
+        filled.settled = filled.used(0);
+        filled.open = filled.number(&Call::Begin);
+        let values = vec![7; shape.columns as usize];
+        filled.number(&Call::Update { transaction: filled.open, row: 0, mask: 1, values });
+        filled.scan = filled.number(&Call::OpenScan { stamp: filled.last });
+        filled
+    }
+
+    pub fn call(&mut self, call: &Call) -> Answer {
+        let answer = Plain::<0>.call(&mut self.memory, &mut self.scans, call);
+        assert!(!answer.is_refused(), "{call:?} is refused in the filling: {answer:?}");
+        answer
+    }
+
+    fn number(&mut self, call: &Call) -> u32 {
+        match self.call(call) {
+            Answer::Number(number) => number,
+            answer => panic!("{call:?} answers {answer:?}"),
+        }
+    }
+
+    pub fn used(&mut self, range: u32) -> u32 {
+        match self.call(&Call::Lineage { range, column: 0 }) {
+            Answer::Lineage { used, .. } => used,
+            answer => panic!("lineage answers {answer:?}"),
+        }
+    }
+
+    fn commit(&mut self, transaction: u32) {
+        self.last += 10;
+        self.call(&Call::Commit { transaction, stamp: self.last });
+    }
+
+    fn insert_rows(&mut self) {
+        let transaction = self.number(&Call::Begin);
+        for row in 0..self.rows {
+            let value = |column: u32| (row * 31 + column * 7) as i32 - 500;
+            let values = (0..self.shape.columns).map(value).collect();
+            self.number(&Call::Insert { transaction, values });
+        }
+        self.commit(transaction);
+    }
+
+    /// Settings of column 0 over the range's rows in turn, until so many records are used.
+    fn update_rows(&mut self, range: u32, records: u32) {
+        let first = range * ROWS as u32;
+        let given = (self.rows - first).min(ROWS as u32);
+        let mut rows = (0..given).cycle();
+        let mut made = 0;
+        while self.used(range) < records {
+            let transaction = self.number(&Call::Begin);
+            for row in rows.by_ref().take(UPDATES) {
+                // The first setting of a row takes two records: with one place left row 0, which
+                // has been set.
+                let row = match records - self.used(range) {
+                    0 => break,
+                    1 => 0,
+                    _ => row,
+                };
+                let values = vec![row as i32; self.shape.columns as usize];
+                self.number(&Call::Update { transaction, row: first + row, mask: 1, values });
+            }
+            made += 1;
+            if made % ABORTED == 0 {
+                self.call(&Call::Abort { transaction });
+            } else {
+                self.commit(transaction);
+            }
+        }
+    }
+}

@@ -1,0 +1,260 @@
+//! Random lists of calls on a store, each answer compared with the plain history's, and the lent
+//! bytes looked at after every call.
+
+use reference::random::Random;
+use reference::{generate, trace, Answer, Call, History, Shape};
+
+use crate::facts;
+use crate::lent::Lent;
+use crate::memory::{Layout, PLACE, SCANS};
+use crate::store::{writes, writes_list, Store};
+
+/// What the lists of a run came to.
+#[derive(Clone, Copy, Debug, Default, PartialEq, Eq)]
+pub struct Tally {
+    pub lists: u64,
+    pub calls: u64,
+    pub accepted: u64,
+    pub largest: u64,
+}
+
+pub const LARGEST: Shape = Shape { columns: 16, ranges: 16, tail: 512, spares: 256 };
+
+/// The shape and calls of a seed. Every 512th list is a long one on the largest shape, every 64th
+/// one has 700 calls; the greater numbers of calls fill rows and tails, and a few lists are long
+/// enough to fill those of the largest shape.
+pub fn list(seed: u64) -> (Shape, Vec<Call>) {
+    let mut random = Random::new(seed ^ 0x6167_7265_6500_0000);
+    let shape = if seed % 512 == 511 { LARGEST } else { generate::shape(seed) };
+    let count = match seed % 32_768 {
+        32_767 => 16_000,
+        place if place % 512 == 511 => 1500,
+        place if place % 64 == 0 => 700,
+        _ => 40 + random.below(160) as usize,
+    };
+    let calls = if random.percent(50) {
+        generate::wide_calls(seed, shape, count)
+    } else {
+        generate::calls(seed, shape, count)
+    };
+    (shape, calls)
+}
+
+/// Runs the lists of so many seeds; an error is the first difference.
+pub fn run(store: &dyn Store, first: u64, count: u64) -> Result<Tally, String> {
+    let mut tally = Tally::default();
+    for seed in first..first.saturating_add(count) {
+        let (shape, calls) = list(seed);
+        let accepted = compare(store, seed, &shape, &calls)
+            .map_err(|difference| format!("seed {seed}, {shape:?}: {difference}"))?;
+        tally.lists += 1;
+        tally.calls += calls.len() as u64;
+        tally.accepted += accepted;
+        tally.largest += u64::from(shape == LARGEST);
+    }
+    Ok(tally)
+}
+
+/// A store's lent bytes with those before the call, to see what a call changed.
+pub struct Watched {
+    pub memory: Lent,
+    pub scans: Lent,
+    memory_before: Vec<u8>,
+    scans_before: Vec<u8>,
+}
+
+impl Watched {
+    pub fn new(memory: Lent, scans: Lent) -> Watched {
+        let memory_before = memory.bytes().to_vec();
+        let scans_before = scans.bytes().to_vec();
+        Watched { memory, scans, memory_before, scans_before }
+    }
+
+    /// The bytes before the last call, to which `restore` goes back.
+    pub fn restore(&mut self) {
+        self.memory.bytes_mut().copy_from_slice(&self.memory_before);
+        self.scans.bytes_mut().copy_from_slice(&self.scans_before);
+    }
+
+    /// From now on changes are looked for against these bytes.
+    pub fn keep(&mut self) {
+        self.memory_before.copy_from_slice(self.memory.bytes());
+        self.scans_before.copy_from_slice(self.scans.bytes());
+    }
+
+    fn memory_changed(&self) -> bool {
+        self.memory.bytes() != self.memory_before
+    }
+
+    fn list_changed(&self) -> bool {
+        self.scans.bytes() != self.scans_before
+    }
+
+    /// No byte may have changed.
+    pub fn unchanged(&self) -> Result<(), String> {
+        self.guards()?;
+        if self.memory_changed() || self.list_changed() {
+            return Err("it changed a byte".to_string());
+        }
+        Ok(())
+    }
+
+    fn guards(&self) -> Result<(), String> {
+        if self.memory.guarded_well() && self.scans.guarded_well() {
+            return Ok(());
+        }
+        Err("a byte beside the lent bytes changed".to_string())
+    }
+
+    /// What an accepted call may have changed: bytes below the need if it writes, one place of
+    /// the list if it opens or closes a scan.
+    pub fn changed_by(&self, call: &Call, need: usize) -> Result<(), String> {
+        self.guards()?;
+        if !writes(call) && self.memory_changed() {
+            return Err("a call that writes nothing changed the memory".to_string());
+        }
+        if self.memory.bytes()[need..] != self.memory_before[need..] {
+            return Err("a byte past the need changed".to_string());
+        }
+        if !self.list_changed() {
+            return Ok(());
+        }
+        if !writes_list(call) {
+            return Err("a call that opens or closes no scan changed the list".to_string());
+        }
+        let whole = self.scans_before.len() / PLACE * PLACE;
+        let (before, after) = (&self.scans_before, self.scans.bytes());
+        let both = before[..whole].chunks(PLACE).zip(after[..whole].chunks(PLACE));
+        if both.filter(|(before, after)| before != after).count() > 1 {
+            return Err("more than one place of the list changed".to_string());
+        }
+        if before[whole..] != after[whole..] {
+            return Err("the rest of the list changed".to_string());
+        }
+        Ok(())
+    }
+}
+
+/// One list; answers how many calls were accepted, or the difference.
+pub fn compare(store: &dyn Store, seed: u64, shape: &Shape, calls: &[Call]) -> Result<u64, String> {
+    let mut random = Random::new(seed ^ 0x6C65_6E74_0000_0000);
+    let (mut watched, need) = made(store, shape, &mut random)?;
+    let mut history = History::new(*shape);
+    let mut accepted = 0;
+    for (place, call) in calls.iter().enumerate() {
+        let expected = history.call(call);
+        let found = store.call(watched.memory.bytes_mut(), watched.scans.bytes_mut(), call);
+        let checked = after_call(&mut watched, call, need, &expected, &found);
+        checked.map_err(|error| format!("call {place}, {}: {error}", trace::call_words(call)))?;
+        accepted += u64::from(!found.is_refused());
+    }
+    Ok(accepted)
+}
+
+fn after_call(
+    watched: &mut Watched,
+    call: &Call,
+    need: usize,
+    expected: &Answer,
+    found: &Answer,
+) -> Result<(), String> {
+    if found != expected {
+        let (found, expected) = (trace::answer_words(found), trace::answer_words(expected));
+        return Err(format!("answer {found}, the history says {expected}"));
+    }
+    if found.is_refused() {
+        return watched.unchanged();
+    }
+    watched.changed_by(call, need)?;
+    if writes(call) || writes_list(call) {
+        if let Some(fact) = facts::failing(watched.memory.bytes(), watched.scans.bytes()) {
+            return Err(format!("the fact '{fact}' fails"));
+        }
+        watched.keep();
+    }
+    Ok(())
+}
+
+/// A store made in dirty memory, with the refusals of making tried on the same bytes before.
+pub fn made(
+    store: &dyn Store,
+    shape: &Shape,
+    random: &mut Random,
+) -> Result<(Watched, usize), String> {
+    let need = store.need(shape).map_err(|number| format!("the need is refused with {number}"))?;
+    within_bound(shape, need)?;
+    let memory = Lent::dirty(need + random.below(64) as usize, random);
+    let scans = Lent::dirty(SCANS * PLACE + random.below(64) as usize, random);
+    let mut watched = Watched::new(memory, scans);
+    refused_makings(store, shape, need, &mut watched)?;
+
+    let answer = store.make(watched.memory.bytes_mut(), watched.scans.bytes_mut(), shape);
+    if answer != Answer::Done {
+        return Err(format!("making answers {}", trace::answer_words(&answer)));
+    }
+    watched.guards()?;
+    if watched.memory.bytes()[need..] != watched.memory_before[need..] {
+        return Err("making changed a byte past the need".to_string());
+    }
+    let whole = watched.scans.bytes().len() / PLACE * PLACE;
+    if watched.scans.bytes()[whole..] != watched.scans_before[whole..] {
+        return Err("making changed the rest of the list".to_string());
+    }
+    if let Some(fact) = facts::failing(watched.memory.bytes(), watched.scans.bytes()) {
+        return Err(format!("after making the fact '{fact}' fails"));
+    }
+    watched.keep();
+    Ok((watched, need))
+}
+
+/// "they are at most 4,096, and 320 for each page, 64 for each row, 64 + 4 x columns for each tail
+/// record", and the layout says how many they are.
+fn within_bound(shape: &Shape, need: usize) -> Result<(), String> {
+    let layout = Layout::of(shape);
+    let records = (64 + 4 * layout.columns) * layout.slots;
+    let bound = 4096 + 320 * layout.pages + 64 * layout.rows + records;
+    if need > bound || need != layout.need() {
+        return Err(format!(
+            "the need is {need}, the bound {bound}, the layout's {}",
+            layout.need()
+        ));
+    }
+    Ok(())
+}
+
+/// Making tests 1, then both lengths; refused, it changes nothing.
+fn refused_makings(
+    store: &dyn Store,
+    shape: &Shape,
+    need: usize,
+    watched: &mut Watched,
+) -> Result<(), String> {
+    let mut outside = [*shape; 7];
+    outside[0].columns = 0;
+    outside[1].columns = 17;
+    outside[2].ranges = 0;
+    outside[3].ranges = 17;
+    outside[4].tail = 0;
+    outside[5].tail = 513;
+    outside[6].spares = 257;
+    for shape in &outside {
+        if store.need(shape) != Err(1) {
+            return Err(format!("the need of {shape:?} is not refused with 1"));
+        }
+        // Too short as well: 1 comes first.
+        let memory = &mut watched.memory.bytes_mut()[..need - 1];
+        if store.make(memory, &mut [], shape) != Answer::Refused(1) {
+            return Err(format!("making {shape:?} is not refused with 1"));
+        }
+    }
+    let short =
+        [(need - 1, SCANS * PLACE), (need, SCANS * PLACE - 1), (0, SCANS * PLACE), (need, 0)];
+    for (bytes, list) in short {
+        let memory = &mut watched.memory.bytes_mut()[..bytes];
+        let list = &mut watched.scans.bytes_mut()[..list];
+        if store.make(memory, list, shape) != Answer::Refused(2) {
+            return Err("making in too few bytes is not refused with 2".to_string());
+        }
+    }
+    watched.unchanged().map_err(|error| format!("a refused making: {error}"))
+}

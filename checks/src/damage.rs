@@ -1,0 +1,142 @@
+//! What must hold of every call on bytes that no call made: 2 exactly where a stored fact fails, no
+//! byte changed by a refused call, and an answer always.
+
+use reference::random::Random;
+use reference::{generate, trace, Answer, Call, Shape};
+
+use crate::agree::{made, Watched};
+use crate::facts;
+use crate::memory::{header, word, Layout};
+use crate::operands::{call_for, COMMANDS};
+use crate::store::Store;
+use crate::unmade::any_lent;
+
+/// The shape whose every byte is damaged in turn.
+pub const SMALL: Shape = Shape { columns: 2, ranges: 2, tail: 4, spares: 2 };
+
+/// What a run came to.
+#[derive(Clone, Copy, Debug, Default, PartialEq, Eq)]
+pub struct Tally {
+    pub memories: u64,
+    pub failing: u64,
+    pub calls: u64,
+    pub accepted: u64,
+}
+
+impl Tally {
+    fn add(&mut self, other: Tally) {
+        self.memories += other.memories;
+        self.failing += other.failing;
+        self.calls += other.calls;
+        self.accepted += other.accepted;
+    }
+}
+
+/// Every byte of the good stores of so many seeds, and as many times a thousand random memories.
+pub fn run(store: &dyn Store, first: u64, count: u64) -> Result<Tally, String> {
+    let mut tally = Tally::default();
+    for seed in first..first.saturating_add(count) {
+        let named = |difference| format!("seed {seed}: {difference}");
+        tally.add(every_byte(store, seed).map_err(named)?);
+        tally.add(random_memories(store, seed, 1000).map_err(named)?);
+    }
+    Ok(tally)
+}
+
+/// A good store of a random history, every byte of memory and list changed to three other values.
+pub fn every_byte(store: &dyn Store, seed: u64) -> Result<Tally, String> {
+    let mut random = Random::new(seed ^ 0x6279_7465_0000_0000);
+    let mut watched = good(store, seed, &mut random)?;
+    let mut tally = Tally::default();
+    let lengths = (watched.memory.bytes().len(), watched.scans.bytes().len());
+    for at in 0..lengths.0 + lengths.1 {
+        let spread = 1 << random.between(1, 6);
+        for bits in [0x01, 0x80, spread] {
+            let byte = |watched: &mut Watched| match at.checked_sub(lengths.0) {
+                None => watched.memory.bytes_mut()[at] ^= bits,
+                Some(at) => watched.scans.bytes_mut()[at] ^= bits,
+            };
+            byte(&mut watched);
+            watched.keep();
+            let counted = every_call(store, &mut watched, &mut random);
+            tally.add(counted.map_err(|error| format!("byte {at} ^ {bits:02X}: {error}"))?);
+            byte(&mut watched);
+            watched.keep();
+        }
+    }
+    Ok(tally)
+}
+
+/// A store of the small shape after a random list of calls.
+pub fn good(store: &dyn Store, seed: u64, random: &mut Random) -> Result<Watched, String> {
+    let (mut watched, _) = made(store, &SMALL, random)?;
+    let count = 100 + random.below(200) as usize;
+    for call in generate::calls(seed, SMALL, count) {
+        store.call(watched.memory.bytes_mut(), watched.scans.bytes_mut(), &call);
+    }
+    watched.keep();
+    Ok(watched)
+}
+
+/// Random memories of every kind with random lists of every kind.
+pub fn random_memories(store: &dyn Store, seed: u64, count: u64) -> Result<Tally, String> {
+    let mut random = Random::new(seed ^ 0x616E_7900_0000_0000);
+    let mut tally = Tally::default();
+    for _ in 0..count {
+        let (memory, scans) = any_lent(&mut random);
+        let mut watched = Watched::new(memory, scans);
+        tally.add(every_call(store, &mut watched, &mut random)?);
+    }
+    Ok(tally)
+}
+
+/// Each of the calls on the same bytes.
+fn every_call(
+    store: &dyn Store,
+    watched: &mut Watched,
+    random: &mut Random,
+) -> Result<Tally, String> {
+    let failing = facts::failing(watched.memory.bytes(), watched.scans.bytes());
+    let mut tally =
+        Tally { memories: 1, failing: u64::from(failing.is_some()), ..Tally::default() };
+    for byte in COMMANDS {
+        let call = call_for(byte, watched.memory.bytes(), watched.scans.bytes(), random);
+        let answer = store.call(watched.memory.bytes_mut(), watched.scans.bytes_mut(), &call);
+        judge(watched, &call, &answer, failing)
+            .map_err(|error| format!("{}: {error}", trace::call_words(&call)))?;
+        tally.calls += 1;
+        tally.accepted += u64::from(!answer.is_refused());
+        if !answer.is_refused() {
+            watched.restore();
+        }
+    }
+    Ok(tally)
+}
+
+fn judge(
+    watched: &Watched,
+    call: &Call,
+    answer: &Answer,
+    failing: Option<&str>,
+) -> Result<(), String> {
+    match (failing, answer) {
+        (None, Answer::Refused(2)) => return Err("answer 2 where no fact fails".to_string()),
+        (Some(_), Answer::Refused(2)) | (None, _) => {}
+        (Some(fact), _) => {
+            let answer = trace::answer_words(answer);
+            return Err(format!("answer {answer} where '{fact}' fails"));
+        }
+    }
+    if answer.is_refused() {
+        return watched.unchanged();
+    }
+    let memory = watched.memory.bytes();
+    let layout = Layout::stored(memory).ok_or("the measures are gone")?;
+    watched.changed_by(call, layout.need())?;
+    // An accepted call keeps the facts, but for a count of merges that goes round to 0.
+    let round = matches!(call, Call::Merge { .. }) && word(memory, header::MERGES_MADE) == 0;
+    match facts::failing(memory, watched.scans.bytes()) {
+        Some(fact) if !round => Err(format!("'{fact}' fails afterwards")),
+        _ => Ok(()),
+    }
+}

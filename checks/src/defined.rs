@@ -1,0 +1,783 @@
+//! The model's definitions of the calls (crates/model/specs: Stored, Reading, Writing, Calls), put
+//! into Rust one for one over a list of words for each region, under their own names. Slow, and
+//! only there to compare the bytes that another store leaves with what the definitions say.
+
+use reference::{Answer, Call, Shape};
+
+use crate::facts;
+use crate::memory::{put_scan, put_word, scans, word, Layout, Region, Scan, PLACE, REGIONS, SCANS};
+use crate::store::Store;
+
+const RANGE_ROWS: usize = 64;
+const MOST_NUMBERS: u32 = 65_535;
+const FREE_PLACE: Scan = Scan { number: 0, stamp: 0, merges: 0 };
+
+/// The definitions as a store.
+#[derive(Clone, Copy, Debug, Default)]
+pub struct Defined;
+
+impl Store for Defined {
+    fn need(&self, shape: &Shape) -> Result<usize, u8> {
+        if shape.within_limits() {
+            Ok(Layout::of(shape).need())
+        } else {
+            Err(1)
+        }
+    }
+
+    fn make(&self, memory: &mut [u8], list: &mut [u8], shape: &Shape) -> Answer {
+        if !shape.within_limits() {
+            return Answer::Refused(1);
+        }
+        let layout = Layout::of(shape);
+        if memory.len() < layout.need() || list.len() / PLACE < SCANS {
+            return Answer::Refused(2);
+        }
+        let mut view = View { layout, lists: Vec::new() };
+        for region in 0..REGIONS {
+            view.lists.push(vec![0; layout.first(region + 1) - layout.first(region)]);
+        }
+        view.put(Region::Header, 0, shape.columns);
+        view.put(Region::Header, 1, shape.ranges);
+        view.put(Region::Header, 2, shape.tail);
+        view.put(Region::Header, 3, shape.spares);
+        for place in 0..layout.places {
+            view.put(Region::Current, place, place as u32);
+            view.put(Region::PagePlace, place, place as u32);
+            view.put(Region::PageState, place, 1);
+        }
+        view.lay(memory);
+        lay_places(&vec![FREE_PLACE; list.len() / PLACE], list);
+        Answer::Done
+    }
+
+    fn call(&self, memory: &mut [u8], list: &mut [u8], call: &Call) -> Answer {
+        if facts::failing(memory, list).is_some() {
+            return Answer::Refused(2);
+        }
+        let view = View::of(memory, Layout::stored(memory).expect("the facts hold"));
+        let places: Vec<Scan> = scans(list).collect();
+        if let Some((number, _)) = view.tests_in(&places, call).into_iter().find(|test| test.1) {
+            return Answer::Refused(number);
+        }
+        let answer = view.reply_in(&places, call);
+        lay_places(&view.places_after(&places, call), list);
+        view.act_in(&places, call).lay(memory);
+        answer
+    }
+}
+
+fn lay_places(places: &[Scan], list: &mut [u8]) {
+    for (at, scan) in places.iter().enumerate() {
+        put_scan(list, at, *scan);
+    }
+}
+
+/// One list for each region.
+#[derive(Clone)]
+struct View {
+    layout: Layout,
+    lists: Vec<Vec<u32>>,
+}
+
+#[derive(Clone, Copy)]
+struct RowWords {
+    transaction: u32,
+    state: u32,
+    stamp: u32,
+    link: u32,
+    mask: u32,
+}
+
+#[derive(Clone, Copy)]
+struct RecordWords {
+    transaction: u32,
+    row: u32,
+    kind: u32,
+    mask: u32,
+    link: u32,
+    state: u32,
+    stamp: u32,
+}
+
+#[derive(Clone, Copy)]
+struct PageWords {
+    state: u32,
+    place: u32,
+    made: u32,
+    replaced: u32,
+    lineage: u32,
+    newest: u32,
+}
+
+enum Walk {
+    Found(u32),
+    Stopped(usize),
+}
+
+fn range_of(row: usize) -> usize {
+    row / RANGE_ROWS
+}
+
+fn within(row: usize) -> usize {
+    row % RANGE_ROWS
+}
+
+fn bit(mask: u32, column: usize) -> bool {
+    mask >> column & 1 == 1
+}
+
+fn bears(number: u32, word: u32) -> bool {
+    word != 0 && word == number
+}
+
+// Stored
+impl View {
+    fn of(memory: &[u8], layout: Layout) -> View {
+        let list = |region| {
+            (layout.first(region)..layout.first(region + 1)).map(|at| word(memory, at)).collect()
+        };
+        View { layout, lists: (0..REGIONS).map(list).collect() }
+    }
+
+    fn lay(&self, memory: &mut [u8]) {
+        for (at, word) in self.lists.iter().flatten().enumerate() {
+            put_word(memory, at, *word);
+        }
+    }
+
+    /// 0 beyond the list's end.
+    fn get(&self, region: Region, at: usize) -> u32 {
+        self.lists[region as usize].get(at).copied().unwrap_or(0)
+    }
+
+    /// Nothing beyond the list's end.
+    fn put(&mut self, region: Region, at: usize, word: u32) {
+        if let Some(place) = self.lists[region as usize].get_mut(at) {
+            *place = word;
+        }
+    }
+
+    fn header(&self, at: usize) -> u32 {
+        self.get(Region::Header, at)
+    }
+
+    fn rows_given(&self) -> u32 {
+        self.header(4)
+    }
+
+    fn transactions_given(&self) -> u32 {
+        self.header(5)
+    }
+
+    fn scans_given(&self) -> u32 {
+        self.header(6)
+    }
+
+    fn last_stamp(&self) -> u32 {
+        self.header(7)
+    }
+
+    fn merges_made(&self) -> u32 {
+        self.header(8)
+    }
+
+    fn row_in(&self, row: usize) -> RowWords {
+        RowWords {
+            transaction: self.get(Region::RowTransaction, row),
+            state: self.get(Region::RowState, row),
+            stamp: self.get(Region::RowStamp, row),
+            link: self.get(Region::RowLink, row),
+            mask: self.get(Region::RowMask, row),
+        }
+    }
+
+    fn record_in(&self, slot: usize) -> RecordWords {
+        RecordWords {
+            transaction: self.get(Region::TailTransaction, slot),
+            row: self.get(Region::TailRow, slot),
+            kind: self.get(Region::TailKind, slot),
+            mask: self.get(Region::TailMask, slot),
+            link: self.get(Region::TailLink, slot),
+            state: self.get(Region::TailState, slot),
+            stamp: self.get(Region::TailStamp, slot),
+        }
+    }
+
+    fn page_in(&self, at: usize) -> PageWords {
+        PageWords {
+            state: self.get(Region::PageState, at),
+            place: self.get(Region::PagePlace, at),
+            made: self.get(Region::PageMade, at),
+            replaced: self.get(Region::PageReplaced, at),
+            lineage: self.get(Region::PageLineage, at),
+            newest: self.get(Region::PageNewest, at),
+        }
+    }
+
+    fn slot(&self, range: usize, number: usize) -> usize {
+        range * self.layout.capacity + number.saturating_sub(1)
+    }
+
+    fn used_in(&self, range: usize) -> u32 {
+        self.get(Region::Used, range)
+    }
+
+    fn value_in(&self, slot: usize, column: usize) -> u32 {
+        self.get(Region::TailValues, slot * self.layout.columns + column)
+    }
+
+    fn place_of(&self, range: usize, column: usize) -> usize {
+        range * self.layout.columns + column
+    }
+
+    fn current_in(&self, range: usize, column: usize) -> usize {
+        self.get(Region::Current, self.place_of(range, column)) as usize
+    }
+
+    fn cell_in(&self, page: usize, at: usize) -> u32 {
+        self.get(Region::Cells, page * RANGE_ROWS + at)
+    }
+
+    fn opens(&self) -> &[u32] {
+        &self.lists[Region::Opens as usize]
+    }
+
+    fn open_place(&self, transaction: u32) -> usize {
+        let opens = self.opens();
+        opens.iter().position(|word| bears(transaction, *word)).unwrap_or(opens.len())
+    }
+}
+
+fn scan_place(places: &[Scan], number: u32) -> Scan {
+    places.iter().copied().find(|scan| bears(number, scan.number)).unwrap_or(FREE_PLACE)
+}
+
+// Reading
+fn sees(stamp: u32, own: u32, state: u32, at: u32, transaction: u32) -> bool {
+    (state == 1 && at <= stamp) || (state == 0 && own != 0 && transaction == own)
+}
+
+impl View {
+    fn head_in(&self, row: usize) -> RecordWords {
+        self.record_in(self.slot(range_of(row), self.row_in(row).link as usize))
+    }
+
+    fn has_record(&self, row: usize) -> bool {
+        self.row_in(row).link != 0
+    }
+
+    fn visible_in(&self, stamp: u32, own: u32, row: usize) -> bool {
+        let (x, y) = (self.row_in(row), self.head_in(row));
+        let ended = y.kind > 1 && sees(stamp, own, y.state, y.stamp, y.transaction);
+        sees(stamp, own, x.state, x.stamp, x.transaction) && !(self.has_record(row) && ended)
+    }
+
+    fn walk(&self, g: usize, c: usize, stamp: u32, own: u32, low: usize, k: usize) -> Walk {
+        let (mut steps, mut k) = (k, k);
+        while steps > 0 && k > low {
+            let x = self.record_in(self.slot(g, k));
+            let seen = sees(stamp, own, x.state, x.stamp, x.transaction);
+            if bit(x.mask, c) && (x.kind == 0 || (x.kind == 1 && seen)) {
+                return Walk::Found(self.value_in(self.slot(g, k), c));
+            }
+            k = x.link as usize;
+            steps -= 1;
+        }
+        Walk::Stopped(k)
+    }
+
+    fn word_in(&self, stamp: u32, own: u32, page: usize, row: usize, c: usize) -> u32 {
+        let (x, g, p) = (self.row_in(row), range_of(row), self.page_in(page));
+        let cell = self.cell_in(page, within(row));
+        if !bit(x.mask, c) {
+            return cell;
+        }
+        match self.walk(g, c, stamp, own, p.lineage as usize, x.link as usize) {
+            Walk::Found(word) => word,
+            Walk::Stopped(_) if p.newest <= stamp => cell,
+            Walk::Stopped(k) => match self.walk(g, c, stamp, own, 0, k) {
+                Walk::Found(word) => word,
+                Walk::Stopped(_) => cell,
+            },
+        }
+    }
+
+    fn read_in(&self, stamp: u32, own: u32, page: usize, row: usize, c: usize) -> Answer {
+        if self.visible_in(stamp, own, row) {
+            Answer::Value(self.word_in(stamp, own, page, row, c) as i32)
+        } else {
+            Answer::None
+        }
+    }
+
+    fn read_current(&self, stamp: u32, own: u32, row: usize, c: usize) -> Answer {
+        self.read_in(stamp, own, self.current_in(range_of(row), c), row, c)
+    }
+
+    fn own_changes(&self, transaction: u32) -> u32 {
+        match self.get(Region::Changes, self.open_place(transaction)) {
+            0 => 0,
+            _ => transaction,
+        }
+    }
+
+    fn was_current(&self, merges: u32, place: usize, page: usize) -> bool {
+        let x = self.page_in(page);
+        x.state > 1
+            && x.place as usize % self.layout.places == place
+            && x.made <= merges
+            && merges < x.replaced
+    }
+
+    fn scan_page(&self, merges: u32, g: usize, c: usize) -> usize {
+        let current = self.current_in(g, c);
+        let place = self.place_of(g, c);
+        if self.page_in(current).made <= merges {
+            return current;
+        }
+        let old = (0..self.layout.pages).find(|page| self.was_current(merges, place, *page));
+        old.unwrap_or(current)
+    }
+
+    fn sum_in(&self, scan: Scan, c: usize) -> Answer {
+        let (mut count, mut sum) = (0, 0);
+        for row in 0..self.rows_given() as usize {
+            if self.visible_in(scan.stamp, 0, row) {
+                let page = self.scan_page(scan.merges, range_of(row), c);
+                count += 1;
+                sum += i64::from(self.word_in(scan.stamp, 0, page, row, c) as i32);
+            }
+        }
+        Answer::Sum { count, sum }
+    }
+}
+
+// Writing
+impl View {
+    fn begun(mut self) -> View {
+        let number = self.transactions_given() + 1;
+        let place = self.opens().iter().position(|word| *word == 0).unwrap_or(self.opens().len());
+        self.put(Region::Opens, place, number);
+        self.put(Region::Changes, place, 0);
+        self.put(Region::Header, 5, number);
+        self
+    }
+
+    fn noted(mut self, transaction: u32) -> View {
+        let place = self.open_place(transaction);
+        let noted = self.get(Region::Changes, place).wrapping_add(1);
+        self.put(Region::Changes, place, noted);
+        self
+    }
+
+    fn settled(mut self, transaction: u32, state: u32, stamp: u32) -> View {
+        for row in 0..self.rows_given() as usize {
+            if self.get(Region::RowTransaction, row) == transaction {
+                self.put(Region::RowState, row, state);
+                self.put(Region::RowStamp, row, stamp);
+            }
+        }
+        for range in 0..self.layout.ranges {
+            for number in 1..=self.used_in(range) as usize {
+                let slot = self.slot(range, number);
+                if self.get(Region::TailTransaction, slot) == transaction {
+                    self.put(Region::TailState, slot, state);
+                    self.put(Region::TailStamp, slot, stamp);
+                }
+            }
+        }
+        self
+    }
+
+    fn freed(mut self, transaction: u32) -> View {
+        let place = self.open_place(transaction);
+        self.put(Region::Opens, place, 0);
+        self.put(Region::Changes, place, 0);
+        self
+    }
+
+    fn inserted_in(mut self, transaction: u32, values: &[i32]) -> View {
+        let number = self.rows_given();
+        let row = number as usize;
+        self.put(Region::RowTransaction, row, transaction);
+        self.put(Region::RowState, row, 0);
+        self.put(Region::RowStamp, row, 0);
+        self.put(Region::RowLink, row, 0);
+        self.put(Region::RowMask, row, 0);
+        for c in 0..self.layout.columns {
+            let at = self.current_in(range_of(row), c) * RANGE_ROWS + within(row);
+            self.put(Region::Cells, at, value_of(values, c));
+        }
+        self.put(Region::Header, 4, number + 1);
+        self.noted(transaction)
+    }
+
+    fn appended(mut self, transaction: u32, row: usize, kind: u32, mask: u32) -> View {
+        let range = range_of(row);
+        let number = self.used_in(range) + 1;
+        let slot = self.slot(range, number as usize);
+        let link = self.row_in(row).link;
+        self.put(Region::TailTransaction, slot, transaction);
+        self.put(Region::TailRow, slot, row as u32);
+        self.put(Region::TailKind, slot, kind);
+        self.put(Region::TailMask, slot, mask);
+        self.put(Region::TailLink, slot, link);
+        self.put(Region::TailState, slot, 0);
+        self.put(Region::TailStamp, slot, 0);
+        self.put(Region::Used, range, number);
+        self.put(Region::RowLink, row, number);
+        self
+    }
+
+    fn filled_in(mut self, slot: usize, words: &[u32]) -> View {
+        for (c, word) in words.iter().enumerate() {
+            self.put(Region::TailValues, slot * self.layout.columns + c, *word);
+        }
+        self
+    }
+
+    fn new_bits_in(&self, row: usize, mask: u32) -> u32 {
+        let old = self.row_in(row).mask;
+        (mask | old) ^ old
+    }
+
+    fn records_wanted(&self, row: usize, mask: u32) -> u32 {
+        if self.new_bits_in(row, mask) == 0 {
+            1
+        } else {
+            2
+        }
+    }
+
+    fn next_slot(&self, range: usize) -> usize {
+        self.slot(range, self.used_in(range) as usize + 1)
+    }
+
+    fn original_appended(self, transaction: u32, row: usize, mask: u32) -> View {
+        let range = range_of(row);
+        let slot = self.next_slot(range);
+        let cell = |c| self.cell_in(self.current_in(range, c), within(row));
+        let cells: Vec<u32> = (0..self.layout.columns).map(cell).collect();
+        let new = self.new_bits_in(row, mask);
+        self.appended(transaction, row, 0, new).filled_in(slot, &cells)
+    }
+
+    fn setting_appended(self, transaction: u32, row: usize, mask: u32, values: &[i32]) -> View {
+        let slot = self.next_slot(range_of(row));
+        let words: Vec<u32> = (0..self.layout.columns).map(|c| value_of(values, c)).collect();
+        self.appended(transaction, row, 1, mask).filled_in(slot, &words)
+    }
+
+    fn updated_in(self, transaction: u32, row: usize, mask: u32, values: &[i32]) -> View {
+        let old = self.row_in(row).mask;
+        let before = if self.new_bits_in(row, mask) == 0 {
+            self
+        } else {
+            self.original_appended(transaction, row, mask)
+        };
+        let mut after = before.setting_appended(transaction, row, mask, values);
+        after.put(Region::RowMask, row, mask | old);
+        after.noted(transaction)
+    }
+
+    fn applies(c: usize, x: &RecordWords) -> bool {
+        bit(x.mask, c) && x.kind == 1 && x.state == 1
+    }
+
+    fn any_open(&self, g: usize, low: usize, n: usize) -> bool {
+        (1..=n).any(|i| self.record_in(self.slot(g, low + i)).state == 0)
+    }
+
+    fn free_in(&self) -> usize {
+        let free = |page: &usize| self.page_in(*page).state == 0;
+        (0..self.layout.pages).find(free).unwrap_or(self.layout.pages)
+    }
+
+    fn merged_in(mut self, g: usize, c: usize, through: usize) -> View {
+        let before = self.clone();
+        let old = before.current_in(g, c);
+        let (x, new) = (before.page_in(old), before.free_in());
+        let merges = before.merges_made().wrapping_add(1);
+        for at in 0..RANGE_ROWS {
+            self.put(Region::Cells, new * RANGE_ROWS + at, before.cell_in(old, at));
+        }
+        let mut newest = x.newest;
+        for number in x.lineage as usize + 1..=through {
+            let slot = before.slot(g, number);
+            let y = before.record_in(slot);
+            if View::applies(c, &y) {
+                let at = new * RANGE_ROWS + within(y.row as usize);
+                self.put(Region::Cells, at, before.value_in(slot, c));
+                newest = newest.max(y.stamp);
+            }
+        }
+        let place = before.place_of(g, c);
+        self.put(Region::PageState, new, 1);
+        self.put(Region::PagePlace, new, place as u32);
+        self.put(Region::PageMade, new, merges);
+        self.put(Region::PageLineage, new, through as u32);
+        self.put(Region::PageNewest, new, newest);
+        self.put(Region::PageState, old, 2);
+        self.put(Region::PageReplaced, old, merges);
+        self.put(Region::Current, place, new as u32);
+        self.put(Region::Header, 8, merges);
+        self
+    }
+
+    fn releasable(&self, places: &[Scan], page: usize) -> bool {
+        let x = self.page_in(page);
+        let needed = places.iter().any(|scan| scan.number != 0 && scan.merges < x.replaced);
+        x.state > 1 && !needed
+    }
+
+    fn released_in(mut self, places: &[Scan]) -> View {
+        let before = self.clone();
+        for page in 0..self.layout.pages {
+            if before.releasable(places, page) {
+                self.put(Region::PageState, page, 0);
+            }
+        }
+        self
+    }
+}
+
+fn value_of(values: &[i32], column: usize) -> u32 {
+    values.get(column).copied().unwrap_or(0) as u32
+}
+
+// Calls
+impl View {
+    fn not_open_in(&self, transaction: u32) -> bool {
+        !self.opens().iter().any(|word| bears(transaction, *word))
+    }
+
+    fn not_given_in(&self, row: u32) -> bool {
+        self.rows_given() <= row
+    }
+
+    fn no_column(&self, column: u32) -> bool {
+        self.layout.columns as u32 <= column
+    }
+
+    fn no_range(&self, range: u32) -> bool {
+        self.layout.ranges as u32 <= range
+    }
+
+    fn bad_mask(&self, mask: u16) -> bool {
+        mask == 0 || u32::from(mask) >= 1 << self.layout.columns
+    }
+
+    fn held_in(&self, transaction: u32, row: u32) -> bool {
+        let (x, y) = (self.row_in(row as usize), self.head_in(row as usize));
+        (x.state == 0 && x.transaction != transaction)
+            || (self.has_record(row as usize) && y.state == 0 && y.transaction != transaction)
+    }
+
+    fn gone_in(&self, row: u32) -> bool {
+        let (x, y) = (self.row_in(row as usize), self.head_in(row as usize));
+        x.state > 1 || (self.has_record(row as usize) && y.kind > 1 && y.state <= 1)
+    }
+
+    fn lacks_in(&self, row: u32, wanted: u32) -> bool {
+        (self.layout.capacity as u32) < self.used_in(range_of(row as usize)) + wanted
+    }
+
+    fn lineage_in(&self, g: usize, c: usize) -> u32 {
+        self.page_in(self.current_in(g, c)).lineage
+    }
+
+    fn open_among_in(&self, g: usize, c: usize, through: u32) -> bool {
+        let low = self.lineage_in(g, c);
+        self.any_open(g, low as usize, through.saturating_sub(low) as usize)
+    }
+
+    /// The refusals in the stated order, each with whether it applies. A test is only looked at
+    /// where those before it pass, as it may stand on them.
+    fn tests_in(&self, places: &[Scan], call: &Call) -> Vec<(u8, bool)> {
+        let no_scan = |number| !places.iter().any(|scan| bears(number, scan.number));
+        let mut tests: Vec<(u8, bool)> = Vec::new();
+        let mut test = |number: u8, applies: &dyn Fn() -> bool| {
+            let refused = tests.iter().any(|test| test.1);
+            tests.push((number, !refused && applies()));
+        };
+        match *call {
+            Call::Begin => {
+                test(15, &|| MOST_NUMBERS <= self.transactions_given());
+                test(14, &|| !self.opens().contains(&0));
+            }
+            Call::Insert { transaction, .. } => {
+                test(3, &|| self.not_open_in(transaction));
+                test(11, &|| self.layout.rows as u32 <= self.rows_given());
+            }
+            Call::Update { transaction, row, mask, .. } => {
+                test(3, &|| self.not_open_in(transaction));
+                test(5, &|| self.not_given_in(row));
+                test(8, &|| self.bad_mask(mask));
+                test(9, &|| self.held_in(transaction, row));
+                test(10, &|| self.gone_in(row));
+                let wanted = || self.records_wanted(row as usize, u32::from(mask));
+                test(12, &|| self.lacks_in(row, wanted()));
+            }
+            Call::Delete { transaction, row } => {
+                test(3, &|| self.not_open_in(transaction));
+                test(5, &|| self.not_given_in(row));
+                test(9, &|| self.held_in(transaction, row));
+                test(10, &|| self.gone_in(row));
+                test(12, &|| self.lacks_in(row, 1));
+            }
+            Call::Commit { transaction, stamp } => {
+                test(3, &|| self.not_open_in(transaction));
+                test(13, &|| stamp <= self.last_stamp());
+            }
+            Call::Abort { transaction } => test(3, &|| self.not_open_in(transaction)),
+            Call::Latest { row, column } => {
+                test(5, &|| self.not_given_in(row));
+                test(6, &|| self.no_column(column));
+            }
+            Call::ReadAt { stamp, row, column } => {
+                test(13, &|| self.last_stamp() < stamp);
+                test(5, &|| self.not_given_in(row));
+                test(6, &|| self.no_column(column));
+            }
+            Call::OwnRead { transaction, row, column } => {
+                test(3, &|| self.not_open_in(transaction));
+                test(5, &|| self.not_given_in(row));
+                test(6, &|| self.no_column(column));
+            }
+            Call::OpenScan { stamp } => {
+                test(13, &|| self.last_stamp() < stamp);
+                test(15, &|| MOST_NUMBERS <= self.scans_given());
+                let open = || places.iter().filter(|scan| scan.number != 0).count();
+                test(14, &|| SCANS <= open());
+            }
+            Call::ScanRead { scan, row, column } => {
+                test(4, &|| no_scan(scan));
+                test(5, &|| self.not_given_in(row));
+                test(6, &|| self.no_column(column));
+            }
+            Call::Sum { scan, column } => {
+                test(4, &|| no_scan(scan));
+                test(6, &|| self.no_column(column));
+            }
+            Call::Close { scan } => test(4, &|| no_scan(scan)),
+            Call::Merge { range, column, through } => {
+                let (g, c) = (range as usize, column as usize);
+                test(7, &|| self.no_range(range));
+                test(6, &|| self.no_column(column));
+                test(16, &|| through <= self.lineage_in(g, c) || self.used_in(g) < through);
+                test(17, &|| self.open_among_in(g, c, through));
+                test(18, &|| self.layout.pages <= self.free_in());
+            }
+            Call::Release => {}
+            Call::PageCell { column, row } => {
+                test(6, &|| self.no_column(column));
+                test(5, &|| self.not_given_in(row));
+            }
+            Call::Lineage { range, column } => {
+                test(7, &|| self.no_range(range));
+                test(6, &|| self.no_column(column));
+            }
+        }
+        tests
+    }
+
+    fn reply_in(&self, places: &[Scan], call: &Call) -> Answer {
+        let used = |row: u32| self.used_in(range_of(row as usize));
+        match *call {
+            Call::Begin => Answer::Number(self.transactions_given() + 1),
+            Call::Insert { .. } => Answer::Number(self.rows_given()),
+            Call::Update { row, mask, .. } => {
+                Answer::Number(used(row) + self.records_wanted(row as usize, u32::from(mask)))
+            }
+            Call::Delete { row, .. } => Answer::Number(used(row) + 1),
+            Call::Commit { .. } | Call::Abort { .. } | Call::Close { .. } | Call::Merge { .. } => {
+                Answer::Done
+            }
+            Call::Latest { row, column } => {
+                self.read_current(self.last_stamp(), 0, row as usize, column as usize)
+            }
+            Call::ReadAt { stamp, row, column } => {
+                self.read_current(stamp, 0, row as usize, column as usize)
+            }
+            Call::OwnRead { transaction, row, column } => {
+                let own = self.own_changes(transaction);
+                self.read_current(self.last_stamp(), own, row as usize, column as usize)
+            }
+            Call::OpenScan { .. } => Answer::Number(self.scans_given() + 1),
+            Call::ScanRead { scan, row, column } => {
+                let (scan, row, c) = (scan_place(places, scan), row as usize, column as usize);
+                let page = self.scan_page(scan.merges, range_of(row), c);
+                self.read_in(scan.stamp, 0, page, row, c)
+            }
+            Call::Sum { scan, column } => self.sum_in(scan_place(places, scan), column as usize),
+            Call::Release => {
+                let freed = |page: &usize| self.releasable(places, *page);
+                Answer::Number((0..self.layout.pages).filter(freed).count() as u32)
+            }
+            Call::PageCell { column, row } => {
+                let page = self.current_in(range_of(row as usize), column as usize);
+                Answer::Value(self.cell_in(page, within(row as usize)) as i32)
+            }
+            Call::Lineage { range, column } => Answer::Lineage {
+                through: self.lineage_in(range as usize, column as usize),
+                used: self.used_in(range as usize),
+            },
+        }
+    }
+
+    fn act_in(self, places: &[Scan], call: &Call) -> View {
+        match *call {
+            Call::Begin => self.begun(),
+            Call::Insert { transaction, ref values } => self.inserted_in(transaction, values),
+            Call::Update { transaction, row, mask, ref values } => {
+                self.updated_in(transaction, row as usize, u32::from(mask), values)
+            }
+            Call::Delete { transaction, row } => {
+                self.appended(transaction, row as usize, 2, 0).noted(transaction)
+            }
+            Call::Commit { transaction, stamp } => {
+                let mut after = self.settled(transaction, 1, stamp).freed(transaction);
+                after.put(Region::Header, 7, stamp);
+                after
+            }
+            Call::Abort { transaction } => self.settled(transaction, 2, 0).freed(transaction),
+            Call::OpenScan { .. } => {
+                let mut after = self;
+                let number = after.scans_given() + 1;
+                after.put(Region::Header, 6, number);
+                after
+            }
+            Call::Merge { range, column, through } => {
+                self.merged_in(range as usize, column as usize, through as usize)
+            }
+            Call::Release => self.released_in(places),
+            Call::Latest { .. }
+            | Call::ReadAt { .. }
+            | Call::OwnRead { .. }
+            | Call::ScanRead { .. }
+            | Call::Sum { .. }
+            | Call::Close { .. }
+            | Call::PageCell { .. }
+            | Call::Lineage { .. } => self,
+        }
+    }
+
+    fn places_after(&self, places: &[Scan], call: &Call) -> Vec<Scan> {
+        let mut after = places.to_vec();
+        let (found, new) = match *call {
+            Call::OpenScan { stamp } => (
+                places.iter().position(|scan| scan.number == 0),
+                Scan { number: self.scans_given() + 1, stamp, merges: self.merges_made() },
+            ),
+            Call::Close { scan: number } => {
+                (places.iter().position(|scan| bears(number, scan.number)), FREE_PLACE)
+            }
+            _ => return after,
+        };
+        if let Some(at) = found {
+            after[at] = new;
+        }
+        after
+    }
+}

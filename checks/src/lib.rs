@@ -1,0 +1,21 @@
+//! Checks of the store over its bytes and answers: the layout of the lent memory, an independent
+//! reading of the stored facts, a plain page store in Rust, the compiled library, and the
+//! comparisons of these with each other and with the second program's plain history.
+
+pub mod agree;
+pub mod command_line;
+pub mod damage;
+pub mod defined;
+#[cfg(feature = "door")]
+pub mod door;
+pub mod facts;
+pub mod lent;
+pub mod memory;
+pub mod operands;
+pub mod plain;
+pub mod same;
+pub mod store;
+pub mod unmade;
+
+pub use plain::Plain;
+pub use store::Store;

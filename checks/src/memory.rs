@@ -1,0 +1,250 @@
+//! The layout of a store's lent memory: little-endian 32-bit words in regions one after the other,
+//! and the lent list of scans.
+
+use reference::{call::RANGE_ROWS, Shape};
+
+/// Bytes in a word.
+pub const WORD: usize = 4;
+/// Rows in a range, cells in a page.
+pub const ROWS: usize = RANGE_ROWS as usize;
+/// Places for open transactions, and the fewest places of a scan list.
+pub const OPENS: usize = 8;
+pub const SCANS: usize = 16;
+/// The greatest transaction or scan number.
+pub const NUMBERS: u32 = 65_535;
+/// The greatest measures, for tables of a fixed length.
+pub const MOST_COLUMNS: usize = 16;
+pub const MOST_RANGES: usize = 16;
+pub const MOST_RECORDS: usize = 512;
+
+/// The regions in their order in memory.
+#[derive(Clone, Copy, Debug, PartialEq, Eq)]
+pub enum Region {
+    Header,
+    Opens,
+    RowTransaction,
+    RowState,
+    RowStamp,
+    RowLink,
+    RowMask,
+    TailTransaction,
+    TailRow,
+    TailKind,
+    TailMask,
+    TailLink,
+    TailState,
+    TailStamp,
+    TailValues,
+    Used,
+    Current,
+    PageState,
+    PagePlace,
+    PageMade,
+    PageReplaced,
+    PageLineage,
+    PageNewest,
+    Cells,
+    Changes,
+}
+
+pub const REGIONS: usize = Region::Changes as usize + 1;
+
+/// The words of the header.
+pub mod header {
+    pub const COLUMNS: usize = 0;
+    pub const RANGES: usize = 1;
+    pub const CAPACITY: usize = 2;
+    pub const SPARES: usize = 3;
+    pub const ROWS_GIVEN: usize = 4;
+    pub const TRANSACTIONS_GIVEN: usize = 5;
+    pub const SCANS_GIVEN: usize = 6;
+    pub const LAST_STAMP: usize = 7;
+    pub const MERGES_MADE: usize = 8;
+    pub const WORDS: usize = 16;
+}
+
+/// What the state of a row or record is written as. Any greater number counts as aborted.
+pub mod state {
+    pub const OPEN: u32 = 0;
+    pub const COMMITTED: u32 = 1;
+    pub const ABORTED: u32 = 2;
+}
+
+/// What the kind of a record is written as. Any greater number counts as a delete.
+pub mod kind {
+    pub const ORIGINAL: u32 = 0;
+    pub const SETTING: u32 = 1;
+    pub const DELETE: u32 = 2;
+}
+
+/// What the state of a page is written as. Any greater number counts as waiting.
+pub mod page {
+    pub const FREE: u32 = 0;
+    pub const CURRENT: u32 = 1;
+    pub const WAITING: u32 = 2;
+}
+
+/// The sizes that a shape makes, and where each region begins, in words.
+#[derive(Clone, Copy, Debug)]
+pub struct Layout {
+    pub columns: usize,
+    pub ranges: usize,
+    pub capacity: usize,
+    pub rows: usize,
+    pub slots: usize,
+    pub places: usize,
+    pub pages: usize,
+    bases: [usize; REGIONS + 1],
+}
+
+impl Layout {
+    /// The layout of a shape within the limits.
+    pub fn of(shape: &Shape) -> Layout {
+        debug_assert!(shape.within_limits());
+        let (columns, ranges) = (shape.columns as usize, shape.ranges as usize);
+        let capacity = shape.tail as usize;
+        let rows = ranges * ROWS;
+        let slots = ranges * capacity;
+        let places = columns * ranges;
+        let pages = places + shape.spares as usize;
+        let lengths: [usize; REGIONS] = [
+            header::WORDS,
+            OPENS,
+            rows,
+            rows,
+            rows,
+            rows,
+            rows,
+            slots,
+            slots,
+            slots,
+            slots,
+            slots,
+            slots,
+            slots,
+            slots * columns,
+            ranges,
+            places,
+            pages,
+            pages,
+            pages,
+            pages,
+            pages,
+            pages,
+            pages * ROWS,
+            OPENS,
+        ];
+        let mut bases = [0; REGIONS + 1];
+        for (region, length) in lengths.iter().enumerate() {
+            bases[region + 1] = bases[region] + length;
+        }
+        Layout { columns, ranges, capacity, rows, slots, places, pages, bases }
+    }
+
+    /// The shape that the memory's first words say, if it lies within the limits.
+    pub fn stored(memory: &[u8]) -> Option<Layout> {
+        if memory.len() < header::WORDS * WORD {
+            return None;
+        }
+        let shape = Shape {
+            columns: word(memory, header::COLUMNS),
+            ranges: word(memory, header::RANGES),
+            tail: word(memory, header::CAPACITY),
+            spares: word(memory, header::SPARES),
+        };
+        shape.within_limits().then(|| Layout::of(&shape))
+    }
+
+    /// The first word of a region.
+    #[inline(always)]
+    pub fn base(&self, region: Region) -> usize {
+        self.bases[region as usize]
+    }
+
+    /// The same, by the region's number in the order.
+    pub fn first(&self, region: usize) -> usize {
+        self.bases[region]
+    }
+
+    /// The words of a region.
+    #[inline(always)]
+    pub fn length(&self, region: Region) -> usize {
+        self.bases[region as usize + 1] - self.bases[region as usize]
+    }
+
+    /// The bytes that the shape needs.
+    pub fn need(&self) -> usize {
+        self.bases[REGIONS] * WORD
+    }
+
+    /// Where record k (from 1) of a range stands.
+    #[inline(always)]
+    pub fn slot(&self, range: usize, k: usize) -> usize {
+        range * self.capacity + k - 1
+    }
+
+    /// The place of a range and column.
+    #[inline(always)]
+    pub fn place(&self, range: usize, column: usize) -> usize {
+        range * self.columns + column
+    }
+}
+
+/// Word i of some bytes.
+#[inline(always)]
+pub fn word(bytes: &[u8], i: usize) -> u32 {
+    let from = i * WORD;
+    u32::from_le_bytes(bytes[from..from + WORD].try_into().expect("a word has four bytes"))
+}
+
+#[inline(always)]
+pub fn put_word(bytes: &mut [u8], i: usize, word: u32) {
+    let from = i * WORD;
+    bytes[from..from + WORD].copy_from_slice(&word.to_le_bytes());
+}
+
+/// The words of some bytes.
+#[inline(always)]
+pub fn words(bytes: &[u8]) -> impl ExactSizeIterator<Item = u32> + '_ {
+    bytes
+        .chunks_exact(WORD)
+        .map(|word| u32::from_le_bytes(word.try_into().expect("a word has four bytes")))
+}
+
+/// Bytes in a place of the scan list. A rest of fewer bytes at the list's end belongs to no place.
+pub const PLACE: usize = 12;
+
+/// A place of the scan list; number 0 marks a free one.
+#[derive(Clone, Copy, Debug, PartialEq, Eq)]
+pub struct Scan {
+    pub number: u32,
+    pub stamp: u32,
+    pub merges: u32,
+}
+
+pub fn places(list: &[u8]) -> usize {
+    list.len() / PLACE
+}
+
+#[inline(always)]
+pub fn scan(list: &[u8], place: usize) -> Scan {
+    scan_of(&list[place * PLACE..(place + 1) * PLACE])
+}
+
+#[inline(always)]
+fn scan_of(bytes: &[u8]) -> Scan {
+    Scan { number: word(bytes, 0), stamp: word(bytes, 1), merges: word(bytes, 2) }
+}
+
+/// The places of a list, in order.
+#[inline(always)]
+pub fn scans(list: &[u8]) -> impl Iterator<Item = Scan> + '_ {
+    list.chunks_exact(PLACE).map(scan_of)
+}
+
+pub fn put_scan(list: &mut [u8], place: usize, scan: Scan) {
+    let bytes = &mut list[place * PLACE..(place + 1) * PLACE];
+    put_word(bytes, 0, scan.number);
+    put_word(bytes, 1, scan.stamp);
+    put_word(bytes, 2, scan.merges);
+}

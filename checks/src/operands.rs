@@ -1,0 +1,169 @@
+//! Random calls with numbers chosen by looking at a memory and list, so that they are often accepted
+//! there, whoever made the bytes.
+
+use reference::random::Random;
+use reference::Call;
+
+use crate::memory::{header, scans, word, words, Layout, Region, OPENS, ROWS, WORD};
+
+/// The command bytes of the calls.
+pub const COMMANDS: std::ops::RangeInclusive<u8> = 0x01..=0x11;
+
+/// A call of a command byte with numbers that fit these bytes, so that it is often accepted.
+pub fn call_for(byte: u8, memory: &[u8], list: &[u8], random: &mut Random) -> Call {
+    Operands { memory, list, layout: readable(memory), random }.call(byte)
+}
+
+/// The layout, where the bytes are long enough to look at them.
+fn readable(memory: &[u8]) -> Option<Layout> {
+    Layout::stored(memory).filter(|layout| layout.need() <= memory.len())
+}
+
+struct Operands<'a> {
+    memory: &'a [u8],
+    list: &'a [u8],
+    layout: Option<Layout>,
+    random: &'a mut Random,
+}
+
+impl Operands<'_> {
+    fn call(&mut self, byte: u8) -> Call {
+        match byte {
+            0x01 => Call::Begin,
+            0x02 => Call::Insert { transaction: self.transaction(), values: self.values() },
+            0x03 => Call::Update {
+                transaction: self.transaction(),
+                row: self.row(),
+                mask: self.mask(),
+                values: self.values(),
+            },
+            0x04 => Call::Delete { transaction: self.transaction(), row: self.row() },
+            0x05 => Call::Commit { transaction: self.transaction(), stamp: self.later() },
+            0x06 => Call::Abort { transaction: self.transaction() },
+            0x07 => Call::Latest { row: self.row(), column: self.column() },
+            0x08 => Call::ReadAt { stamp: self.stamp(), row: self.row(), column: self.column() },
+            0x09 => Call::OwnRead {
+                transaction: self.transaction(),
+                row: self.row(),
+                column: self.column(),
+            },
+            0x0A => Call::OpenScan { stamp: self.stamp() },
+            0x0B => Call::ScanRead { scan: self.scan(), row: self.row(), column: self.column() },
+            0x0C => Call::Sum { scan: self.scan(), column: self.column() },
+            0x0D => Call::Close { scan: self.scan() },
+            0x0E => self.merge(),
+            0x0F => Call::Release,
+            0x10 => Call::PageCell { column: self.column(), row: self.row() },
+            _ => Call::Lineage { range: self.range(), column: self.column() },
+        }
+    }
+
+    fn header(&self, i: usize) -> u32 {
+        self.layout.map_or(0, |_| word(self.memory, i))
+    }
+
+    fn any(&mut self) -> u32 {
+        match self.random.below(3) {
+            0 => self.random.word() as u32,
+            1 => 0,
+            _ => self.random.below(20),
+        }
+    }
+
+    /// Mostly a number below the limit.
+    fn below(&mut self, limit: u32) -> u32 {
+        if limit == 0 || self.random.percent(5) {
+            self.any()
+        } else {
+            self.random.below(limit)
+        }
+    }
+
+    fn transaction(&mut self) -> u32 {
+        let open: Vec<u32> = self.layout.map_or(Vec::new(), |layout| {
+            let first = layout.base(Region::Opens) * WORD;
+            let numbers = words(&self.memory[first..first + OPENS * WORD]);
+            numbers.filter(|number| *number != 0).collect()
+        });
+        if open.is_empty() || self.random.percent(5) {
+            return self.any();
+        }
+        self.random.pick(&open)
+    }
+
+    fn scan(&mut self) -> u32 {
+        let open: Vec<u32> =
+            scans(self.list).map(|scan| scan.number).filter(|number| *number != 0).collect();
+        if open.is_empty() || self.random.percent(5) {
+            return self.any();
+        }
+        self.random.pick(&open)
+    }
+
+    fn row(&mut self) -> u32 {
+        let given = self.header(header::ROWS_GIVEN);
+        match self.random.below(4) {
+            // The rows that are most likely to have records.
+            0 | 1 => {
+                let range = self.range();
+                let first = range.wrapping_mul(ROWS as u32);
+                first.wrapping_add(self.random.below(3))
+            }
+            2 => self.below(given),
+            _ => self.below(given.min(3)),
+        }
+    }
+
+    fn column(&mut self) -> u32 {
+        let columns = self.layout.map_or(2, |layout| layout.columns as u32);
+        self.below(columns)
+    }
+
+    fn range(&mut self) -> u32 {
+        let ranges = self.layout.map_or(2, |layout| layout.ranges as u32);
+        self.below(ranges)
+    }
+
+    fn mask(&mut self) -> u16 {
+        let columns = self.layout.map_or(2, |layout| layout.columns);
+        if self.random.percent(5) {
+            return self.random.word() as u16;
+        }
+        self.random.below(1 << columns) as u16
+    }
+
+    fn values(&mut self) -> Vec<i32> {
+        (0..16).map(|_| self.random.word() as i32).collect()
+    }
+
+    fn stamp(&mut self) -> u32 {
+        let last = self.header(header::LAST_STAMP);
+        match self.random.below(4) {
+            0 => last,
+            1 => last.saturating_add(1),
+            _ => (self.random.word() % (u64::from(last.min(40)) + 1)) as u32,
+        }
+    }
+
+    fn later(&mut self) -> u32 {
+        let last = self.header(header::LAST_STAMP);
+        if self.random.percent(10) {
+            last
+        } else {
+            last.saturating_add(self.random.between(1, 3))
+        }
+    }
+
+    fn merge(&mut self) -> Call {
+        let (range, column) = (self.range(), self.column());
+        let used = match self.layout {
+            Some(layout) if (range as usize) < layout.ranges => {
+                word(self.memory, layout.base(Region::Used) + range as usize)
+            }
+            _ => 4,
+        };
+        let through =
+            if self.random.percent(50) { used } else { self.below(used.saturating_add(2)) };
+        Call::Merge { range, column, through }
+    }
+}

@@ -1,0 +1,321 @@
+//! A page store in plain Rust on the lent memory's layout: the benchmark's baseline, and a store
+//! to try the checks on. It does what the definitions of the proved store say, word for word, so
+//! that the two can be compared by their bytes. Written for speed, in safe code.
+//!
+//! The parameter switches on one of the wrong behaviours in `faults`, for the checks to find; the
+//! store itself is `Plain<NONE>`. A constant, so that the right store pays nothing for it.
+
+pub mod faults;
+mod reading;
+mod sound;
+mod writing;
+
+use reference::{Answer, Call, Shape};
+
+use crate::memory::{header, kind, page, put_scan, put_word, scans, state, word, words};
+use crate::memory::{Layout, Region, Scan, NUMBERS, OPENS, PLACE, ROWS, SCANS, WORD};
+use crate::store::Store;
+
+pub use sound::sound;
+
+/// The store. `FAULT` is one of the numbers in `faults`.
+#[derive(Clone, Copy, Debug, Default)]
+pub struct Plain<const FAULT: u8 = { faults::NONE }>;
+
+impl<const FAULT: u8> Store for Plain<FAULT> {
+    fn need(&self, shape: &Shape) -> Result<usize, u8> {
+        require(shape.within_limits(), 1)?;
+        Ok(Layout::of(shape).need())
+    }
+
+    fn make(&self, memory: &mut [u8], scans: &mut [u8], shape: &Shape) -> Answer {
+        answer(make(memory, scans, shape))
+    }
+
+    fn call(&self, memory: &mut [u8], scans: &mut [u8], call: &Call) -> Answer {
+        let Some(layout) = sound(memory, scans) else {
+            return Answer::Refused(2);
+        };
+        answer(Table::<FAULT> { memory, scans, layout }.call(call))
+    }
+}
+
+/// An accepted call's answer, or the refusal's number.
+type Outcome = Result<Answer, u8>;
+
+fn answer(outcome: Outcome) -> Answer {
+    outcome.unwrap_or_else(Answer::Refused)
+}
+
+#[inline(always)]
+fn require(holds: bool, number: u8) -> Result<(), u8> {
+    if holds {
+        Ok(())
+    } else {
+        Err(number)
+    }
+}
+
+/// Making looks at no content. It frees every place of the list, however long the list is.
+fn make(memory: &mut [u8], scans: &mut [u8], shape: &Shape) -> Outcome {
+    require(shape.within_limits(), 1)?;
+    let layout = Layout::of(shape);
+    require(memory.len() >= layout.need() && scans.len() / PLACE >= SCANS, 2)?;
+    memory[..layout.need()].fill(0);
+    let list = scans.len() / PLACE * PLACE;
+    scans[..list].fill(0);
+    put_word(memory, header::COLUMNS, shape.columns);
+    put_word(memory, header::RANGES, shape.ranges);
+    put_word(memory, header::CAPACITY, shape.tail);
+    put_word(memory, header::SPARES, shape.spares);
+    for place in 0..layout.places {
+        put_word(memory, layout.base(Region::Current) + place, place as u32);
+        put_word(memory, layout.base(Region::PagePlace) + place, place as u32);
+        put_word(memory, layout.base(Region::PageState) + place, page::CURRENT);
+    }
+    Ok(Answer::Done)
+}
+
+/// A store whose stored facts hold.
+struct Table<'m, const FAULT: u8> {
+    memory: &'m mut [u8],
+    scans: &'m mut [u8],
+    layout: Layout,
+}
+
+/// Words.
+impl<const FAULT: u8> Table<'_, FAULT> {
+    #[inline(always)]
+    fn get(&self, region: Region, i: usize) -> u32 {
+        word(self.memory, self.layout.base(region) + i)
+    }
+
+    #[inline(always)]
+    fn put(&mut self, region: Region, i: usize, word: u32) {
+        put_word(self.memory, self.layout.base(region) + i, word);
+    }
+
+    /// The bytes of n words of a region.
+    #[inline(always)]
+    fn run(&self, region: Region, from: usize, n: usize) -> &[u8] {
+        let first = (self.layout.base(region) + from) * WORD;
+        &self.memory[first..first + n * WORD]
+    }
+
+    #[inline(always)]
+    fn run_mut(&mut self, region: Region, from: usize, n: usize) -> &mut [u8] {
+        let first = (self.layout.base(region) + from) * WORD;
+        &mut self.memory[first..first + n * WORD]
+    }
+
+    #[inline(always)]
+    fn header(&self, i: usize) -> u32 {
+        self.get(Region::Header, i)
+    }
+
+    fn used(&self, range: usize) -> u32 {
+        self.get(Region::Used, range)
+    }
+
+    fn current(&self, range: usize, column: usize) -> usize {
+        self.get(Region::Current, self.layout.place(range, column)) as usize
+    }
+}
+
+/// The calls: the tests in document 01's order, then the work.
+impl<const FAULT: u8> Table<'_, FAULT> {
+    fn call(&mut self, call: &Call) -> Outcome {
+        match *call {
+            Call::Begin => self.begin(),
+            Call::Insert { transaction, ref values } => {
+                let open = self.open(transaction)?;
+                require((self.header(header::ROWS_GIVEN) as usize) < self.layout.rows, 11)?;
+                Ok(self.insert(transaction, open, values))
+            }
+            Call::Update { transaction, row, mask, ref values } => {
+                let open = self.open(transaction)?;
+                let row = self.given(row)?;
+                let mask = u32::from(mask);
+                require(mask != 0 && mask >> self.layout.columns == 0, 8)?;
+                self.not_held(transaction, row)?;
+                self.not_gone(row)?;
+                let new = mask & !self.get(Region::RowMask, row);
+                self.tail_has(row, if new == 0 { 1 } else { 2 })?;
+                Ok(self.update(transaction, open, row, mask, values))
+            }
+            Call::Delete { transaction, row } => {
+                let open = self.open(transaction)?;
+                let row = self.given(row)?;
+                self.not_held(transaction, row)?;
+                self.not_gone(row)?;
+                self.tail_has(row, 1)?;
+                Ok(self.delete(transaction, open, row))
+            }
+            Call::Commit { transaction, stamp } => {
+                let open = self.open(transaction)?;
+                require(stamp > self.header(header::LAST_STAMP), 13)?;
+                Ok(self.commit(transaction, open, stamp))
+            }
+            Call::Abort { transaction } => {
+                let open = self.open(transaction)?;
+                Ok(self.abort(transaction, open))
+            }
+            Call::Latest { row, column } => {
+                let row = self.given(row)?;
+                let column = self.column(column)?;
+                Ok(self.read(self.header(header::LAST_STAMP), 0, row, column))
+            }
+            Call::ReadAt { stamp, row, column } => {
+                require(stamp <= self.header(header::LAST_STAMP), 13)?;
+                let row = self.given(row)?;
+                let column = self.column(column)?;
+                Ok(self.read(stamp, 0, row, column))
+            }
+            Call::OwnRead { transaction, row, column } => {
+                let open = self.open(transaction)?;
+                let row = self.given(row)?;
+                let column = self.column(column)?;
+                // With nothing noted it is the latest read.
+                let own = if self.get(Region::Changes, open) == 0 { 0 } else { transaction };
+                Ok(self.read(self.header(header::LAST_STAMP), own, row, column))
+            }
+            Call::OpenScan { stamp } => self.open_scan(stamp),
+            Call::ScanRead { scan, row, column } => {
+                let (_, scan) = self.scan(scan)?;
+                let row = self.given(row)?;
+                let column = self.column(column)?;
+                let at = self.scan_page(scan.merges, row / ROWS, column);
+                Ok(self.read_page(scan.stamp, 0, at, row, column))
+            }
+            Call::Sum { scan, column } => {
+                let (_, scan) = self.scan(scan)?;
+                let column = self.column(column)?;
+                Ok(self.sum(scan, column))
+            }
+            Call::Close { scan } => {
+                let (place, _) = self.scan(scan)?;
+                put_scan(self.scans, place, Scan { number: 0, stamp: 0, merges: 0 });
+                Ok(Answer::Done)
+            }
+            Call::Merge { range, column, through } => {
+                let range = self.range(range)?;
+                let column = self.column(column)?;
+                let at = self.current(range, column);
+                let lineage = self.lineage(range, column, at);
+                require(lineage < through && through <= self.used(range), 16)?;
+                let (low, high) = (lineage as usize, through as usize);
+                require(!self.any_open(range, low, high), 17)?;
+                let free = self.free_page().ok_or(18)?;
+                Ok(self.merge(range, column, low, high, at, free))
+            }
+            Call::Release => Ok(self.release()),
+            Call::PageCell { column, row } => {
+                let column = self.column(column)?;
+                let row = self.given(row)?;
+                let at = self.current(row / ROWS, column);
+                Ok(Answer::Value(self.cell(at, row) as i32))
+            }
+            Call::Lineage { range, column } => {
+                let range = self.range(range)?;
+                let column = self.column(column)?;
+                let at = self.current(range, column);
+                let through = self.lineage(range, column, at);
+                Ok(Answer::Lineage { through, used: self.used(range) })
+            }
+        }
+    }
+
+    fn begin(&mut self) -> Outcome {
+        let given = self.header(header::TRANSACTIONS_GIVEN);
+        require(given < NUMBERS, 15)?;
+        let open = words(self.run(Region::Opens, 0, OPENS)).position(|number| number == 0);
+        let open = open.ok_or(14)?;
+        self.put(Region::Opens, open, given + 1);
+        self.put(Region::Changes, open, 0);
+        self.put(Region::Header, header::TRANSACTIONS_GIVEN, given + 1);
+        Ok(Answer::Number(given + 1))
+    }
+
+    fn open_scan(&mut self, stamp: u32) -> Outcome {
+        require(stamp <= self.header(header::LAST_STAMP), 13)?;
+        let given = self.header(header::SCANS_GIVEN);
+        require(given < NUMBERS, 15)?;
+        require(scans(self.scans).filter(|scan| scan.number != 0).count() < SCANS, 14)?;
+        let place = scans(self.scans).position(|scan| scan.number == 0).ok_or(14)?;
+        let merges = self.header(header::MERGES_MADE);
+        put_scan(self.scans, place, Scan { number: given + 1, stamp, merges });
+        self.put(Region::Header, header::SCANS_GIVEN, given + 1);
+        Ok(Answer::Number(given + 1))
+    }
+
+    /// The place of an open transaction. Number 0 marks a free place, so it is never found.
+    fn open(&self, transaction: u32) -> Result<usize, u8> {
+        require(transaction != 0, 3)?;
+        words(self.run(Region::Opens, 0, OPENS)).position(|number| number == transaction).ok_or(3)
+    }
+
+    /// An open scan and its place.
+    fn scan(&self, number: u32) -> Result<(usize, Scan), u8> {
+        require(number != 0, 4)?;
+        scans(self.scans).enumerate().find(|(_, scan)| scan.number == number).ok_or(4)
+    }
+
+    fn given(&self, row: u32) -> Result<usize, u8> {
+        require(row < self.header(header::ROWS_GIVEN), 5)?;
+        Ok(row as usize)
+    }
+
+    fn column(&self, column: u32) -> Result<usize, u8> {
+        require((column as usize) < self.layout.columns, 6)?;
+        Ok(column as usize)
+    }
+
+    fn range(&self, range: u32) -> Result<usize, u8> {
+        require((range as usize) < self.layout.ranges, 7)?;
+        Ok(range as usize)
+    }
+
+    /// The slot of a row's newest record, if it has one.
+    fn head(&self, row: usize) -> Option<usize> {
+        let link = self.get(Region::RowLink, row) as usize;
+        (link != 0).then(|| self.layout.slot(row / ROWS, link))
+    }
+
+    /// The inserter and the newest record tell it: only who holds a row adds records to it.
+    fn not_held(&self, transaction: u32, row: usize) -> Result<(), u8> {
+        let inserter = self.get(Region::RowTransaction, row);
+        require(self.get(Region::RowState, row) != state::OPEN || inserter == transaction, 9)?;
+        if FAULT == faults::HELD_BY_INSERTER_ONLY {
+            return Ok(());
+        }
+        let Some(head) = self.head(row) else {
+            return Ok(());
+        };
+        let open = self.get(Region::TailState, head) == state::OPEN;
+        require(!open || self.get(Region::TailTransaction, head) == transaction, 9)
+    }
+
+    /// An aborted delete ends nothing.
+    fn not_gone(&self, row: usize) -> Result<(), u8> {
+        require(self.get(Region::RowState, row) <= state::COMMITTED, 10)?;
+        let Some(head) = self.head(row) else {
+            return Ok(());
+        };
+        let delete = self.get(Region::TailKind, head) >= kind::DELETE;
+        let aborted = self.get(Region::TailState, head) >= state::ABORTED;
+        require(!delete || (aborted && FAULT != faults::ABORTED_DELETE_MAKES_GONE), 10)
+    }
+
+    fn tail_has(&self, row: usize, wanted: u32) -> Result<(), u8> {
+        require((self.used(row / ROWS) + wanted) as usize <= self.layout.capacity, 12)
+    }
+
+    /// The lineage of a place's current page.
+    fn lineage(&self, range: usize, column: usize, at: usize) -> u32 {
+        if FAULT == faults::OTHER_COLUMNS_LINEAGE {
+            let other = self.current(range, (column + 1) % self.layout.columns);
+            return self.get(Region::PageLineage, other);
+        }
+        self.get(Region::PageLineage, at)
+    }
+}

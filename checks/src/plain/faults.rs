@@ -1,0 +1,26 @@
+//! Wrong behaviours of a page store that a comparison with the plain history must tell apart.
+
+pub const NONE: u8 = 0;
+/// A merged value is given for a stamp before its commit.
+pub const NO_NEWEST_TEST: u8 = 1;
+pub const MERGE_STOPS_AT_ABORTED: u8 = 2;
+pub const OTHER_COLUMNS_LINEAGE: u8 = 3;
+pub const RELEASE_HEEDS_NO_SCAN: u8 = 4;
+/// Below the lineage the original value is passed over.
+pub const ORIGINAL_FORGOTTEN: u8 = 5;
+pub const ABORT_TAKES_MASK_BITS: u8 = 6;
+pub const MERGE_DROPS_UNCOMMITTED_ROWS: u8 = 7;
+pub const HELD_BY_INSERTER_ONLY: u8 = 8;
+pub const ABORTED_DELETE_ENDS: u8 = 9;
+pub const RELEASE_OFF_BY_ONE: u8 = 10;
+pub const DELETE_ZEROES_CELL: u8 = 11;
+pub const MERGE_APPLIES_ABORTED: u8 = 12;
+pub const MERGE_APPLIES_ORIGINALS: u8 = 13;
+/// A scan takes the first waiting page of the place, however old.
+pub const SCAN_ON_OLD_PAGE: u8 = 14;
+pub const ABORTED_DELETE_MAKES_GONE: u8 = 15;
+pub const MERGE_FORGETS_NEWEST: u8 = 16;
+/// A merge copies the page and only raises the lineage.
+pub const MERGE_APPLIES_NOTHING: u8 = 17;
+/// Commit marks the rows and forgets the records.
+pub const COMMIT_FORGETS_RECORDS: u8 = 18;

@@ -1,0 +1,149 @@
+//! Two stores on the same layout, call for call: the same answers, and the same bytes of memory
+//! and list after each call.
+
+use reference::random::Random;
+use reference::{trace, Answer, Call, Shape};
+
+use crate::agree;
+use crate::damage::good;
+use crate::lent::Lent;
+use crate::memory::{Layout, PLACE, REGIONS, SCANS, WORD};
+use crate::operands::{call_for, COMMANDS};
+use crate::store::Store;
+use crate::unmade::any_lent;
+
+/// What a run came to.
+#[derive(Clone, Copy, Debug, Default, PartialEq, Eq)]
+pub struct Tally {
+    pub lists: u64,
+    pub calls: u64,
+    pub accepted: u64,
+}
+
+/// Calls made one after the other on a memory that no call made.
+const STEPS: usize = 40;
+/// Memories that no call made, and damaged ones, for each list.
+const MEMORIES: usize = 8;
+
+/// For each seed a random list of calls, and some memories that no call made.
+pub fn run(one: &dyn Store, other: &dyn Store, first: u64, count: u64) -> Result<Tally, String> {
+    let mut tally = Tally::default();
+    for seed in first..first.saturating_add(count) {
+        let named = |difference| format!("seed {seed}: {difference}");
+        let mut random = Random::new(seed ^ 0x7361_6D65_0000_0000);
+        let (shape, calls) = agree::list(seed);
+        let mut pair = Pair::made(one, other, &shape, &mut random).map_err(named)?;
+        for call in &calls {
+            pair.call(call, &mut tally).map_err(named)?;
+        }
+        tally.lists += 1;
+        for _ in 0..MEMORIES {
+            let (memory, scans) = any_lent(&mut random);
+            Pair::of(one, other, memory, scans).steps(&mut random, &mut tally).map_err(named)?;
+        }
+        let mut damaged = good(one, seed, &mut random).map_err(named)?;
+        for _ in 0..random.between(1, 4) {
+            let at = random.below(damaged.memory.bytes().len() as u32) as usize;
+            damaged.memory.bytes_mut()[at] ^= 1 << random.below(8);
+        }
+        Pair::of(one, other, damaged.memory, damaged.scans)
+            .steps(&mut random, &mut tally)
+            .map_err(named)?;
+    }
+    Ok(tally)
+}
+
+/// Two stores with bytes of their own.
+struct Pair<'s> {
+    one: &'s dyn Store,
+    other: &'s dyn Store,
+    memory: [Lent; 2],
+    scans: [Lent; 2],
+}
+
+impl<'s> Pair<'s> {
+    fn of(one: &'s dyn Store, other: &'s dyn Store, memory: Lent, scans: Lent) -> Pair<'s> {
+        let (memory, scans) = ([memory.clone(), memory], [scans.clone(), scans]);
+        Pair { one, other, memory, scans }
+    }
+
+    /// Both made in the same dirty memory.
+    fn made(
+        one: &'s dyn Store,
+        other: &'s dyn Store,
+        shape: &Shape,
+        random: &mut Random,
+    ) -> Result<Pair<'s>, String> {
+        let need = one.need(shape);
+        if need != other.need(shape) {
+            return Err("the bytes needed differ".to_string());
+        }
+        let need = need.map_err(|number| format!("the need is refused with {number}"))?;
+        let memory = Lent::dirty(need + random.below(64) as usize, random);
+        let scans = Lent::dirty(SCANS * PLACE + random.below(64) as usize, random);
+        let mut pair = Pair::of(one, other, memory, scans);
+        let [first, second] = &mut pair.memory;
+        let [list, other_list] = &mut pair.scans;
+        let first = one.make(first.bytes_mut(), list.bytes_mut(), shape);
+        let second = other.make(second.bytes_mut(), other_list.bytes_mut(), shape);
+        pair.alike(&first, &second).map_err(|error| format!("making {shape:?}: {error}"))?;
+        Ok(pair)
+    }
+
+    fn steps(&mut self, random: &mut Random, tally: &mut Tally) -> Result<(), String> {
+        tally.lists += 1;
+        for _ in 0..STEPS {
+            let byte = random.between(u32::from(*COMMANDS.start()), u32::from(*COMMANDS.end()));
+            let (memory, list) = (self.memory[0].bytes(), self.scans[0].bytes());
+            let call = call_for(byte as u8, memory, list, random);
+            self.call(&call, tally)?;
+        }
+        Ok(())
+    }
+
+    fn call(&mut self, call: &Call, tally: &mut Tally) -> Result<(), String> {
+        let [first, second] = &mut self.memory;
+        let [list, other_list] = &mut self.scans;
+        let first = self.one.call(first.bytes_mut(), list.bytes_mut(), call);
+        let second = self.other.call(second.bytes_mut(), other_list.bytes_mut(), call);
+        tally.calls += 1;
+        tally.accepted += u64::from(!first.is_refused());
+        self.alike(&first, &second).map_err(|error| format!("{}: {error}", trace::call_words(call)))
+    }
+
+    fn alike(&self, first: &Answer, second: &Answer) -> Result<(), String> {
+        if first != second {
+            let (first, second) = (trace::answer_words(first), trace::answer_words(second));
+            return Err(format!("answers {first} and {second}"));
+        }
+        let [one, other] = &self.memory;
+        if one.bytes() != other.bytes() {
+            return Err(format!(
+                "the memories differ {}",
+                where_differ(one.bytes(), other.bytes())
+            ));
+        }
+        let [list, other_list] = &self.scans;
+        if list.bytes() != other_list.bytes() {
+            return Err("the scan lists differ".to_string());
+        }
+        if [one, other, list, other_list].iter().all(|lent| lent.guarded_well()) {
+            return Ok(());
+        }
+        Err("a byte beside the lent bytes changed".to_string())
+    }
+}
+
+/// The first word in which two memories differ, with both words.
+fn where_differ(one: &[u8], other: &[u8]) -> String {
+    let at = one.iter().zip(other).position(|(one, other)| one != other).unwrap_or(0) / WORD;
+    let Some(layout) = Layout::stored(one) else {
+        return format!("at word {at}");
+    };
+    let Some(region) = (0..REGIONS).rev().find(|region| layout.first(*region) <= at) else {
+        return format!("at word {at}");
+    };
+    let place = at - layout.first(region);
+    let bytes = |memory: &[u8]| memory[at * WORD..].iter().take(WORD).copied().collect::<Vec<u8>>();
+    format!("at word {place} of region {region}: {:?} and {:?}", bytes(one), bytes(other))
+}

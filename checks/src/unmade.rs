@@ -1,0 +1,306 @@
+//! Random memories and scan lists that no call made: anything, words of which every stored fact
+//! holds, and such words with a few of them changed.
+
+use reference::random::Random;
+use reference::Shape;
+
+use crate::lent::{fill, Lent};
+use crate::memory::{header, page, places, put_scan, put_word, scan, word, Layout, Region, Scan};
+use crate::memory::{NUMBERS, OPENS, PLACE, ROWS, SCANS, WORD};
+
+/// Random memory and list: good ones, nearly good ones, and anything.
+pub fn any_lent(random: &mut Random) -> (Lent, Lent) {
+    let (mut memory, mut list) = match random.below(8) {
+        0 => (anything(6000, random), anything(600, random)),
+        1 => (measured(random), anything(600, random)),
+        _ => passing(random),
+    };
+    match random.below(4) {
+        // Some words changed, mostly to a number near another one.
+        0 => {
+            for _ in 0..random.between(1, 3) {
+                let bytes = if random.percent(80) { &mut memory } else { &mut list };
+                let count = bytes.len() / WORD;
+                if count > 0 {
+                    let at = random.below(count as u32) as usize;
+                    let old = word(bytes, at);
+                    let new = odd_word(old, random);
+                    put_word(bytes, at, new);
+                }
+            }
+        }
+        // Cut a little or much.
+        1 if random.percent(30) => {
+            let bytes = if random.percent(70) { &mut memory } else { &mut list };
+            let length = bytes.len() as u32;
+            let kept = match random.below(3) {
+                0 => length.saturating_sub(random.between(1, 4)),
+                1 => random.below(length + 1),
+                _ => length.saturating_sub(random.between(1, 80)),
+            };
+            bytes.truncate(kept as usize);
+        }
+        _ => {}
+    }
+    (Lent::copy(&memory, random), Lent::copy(&list, random))
+}
+
+fn odd_word(old: u32, random: &mut Random) -> u32 {
+    match random.below(6) {
+        0 => old.wrapping_add(1),
+        1 => old.wrapping_sub(1),
+        2 => 0,
+        3 => random.below(8),
+        4 => u32::MAX,
+        _ => random.word() as u32,
+    }
+}
+
+fn anything(most: u32, random: &mut Random) -> Vec<u8> {
+    let mut bytes = vec![0; random.below(most + 1) as usize];
+    fill(&mut bytes, random);
+    bytes
+}
+
+fn small_shape(random: &mut Random) -> Shape {
+    Shape {
+        columns: random.between(1, 4),
+        ranges: random.between(1, 3),
+        tail: random.between(1, 8),
+        spares: random.below(5),
+    }
+}
+
+/// Random bytes under measures within the limits, about as long as they need.
+fn measured(random: &mut Random) -> Vec<u8> {
+    let shape = small_shape(random);
+    let length = Layout::of(&shape).need() + random.below(40) as usize;
+    let mut bytes = vec![0; length];
+    if random.percent(50) {
+        fill(&mut bytes, random);
+    }
+    put_measures(&mut bytes, &shape);
+    bytes
+}
+
+fn put_measures(bytes: &mut [u8], shape: &Shape) {
+    put_word(bytes, header::COLUMNS, shape.columns);
+    put_word(bytes, header::RANGES, shape.ranges);
+    put_word(bytes, header::CAPACITY, shape.tail);
+    put_word(bytes, header::SPARES, shape.spares);
+}
+
+/// A memory and list of which every stored fact holds, and else anything.
+pub fn passing(random: &mut Random) -> (Vec<u8>, Vec<u8>) {
+    let shape = small_shape(random);
+    let mut builder = Builder::new(&shape, random);
+    builder.opens();
+    for range in 0..shape.ranges as usize {
+        builder.records(range);
+    }
+    builder.rows();
+    builder.pages();
+    let list = builder.scans();
+    (builder.bytes, list)
+}
+
+/// Writes words that pass the facts into random bytes.
+struct Builder<'r> {
+    bytes: Vec<u8>,
+    layout: Layout,
+    random: &'r mut Random,
+    rows: u32,
+    transactions: u32,
+    scans: u32,
+    last: u32,
+    merges: u32,
+    open: Vec<u32>,
+}
+
+impl Builder<'_> {
+    fn new<'r>(shape: &Shape, random: &'r mut Random) -> Builder<'r> {
+        let layout = Layout::of(shape);
+        let mut bytes = vec![0; layout.need() + random.below(40) as usize];
+        fill(&mut bytes, random);
+        put_measures(&mut bytes, shape);
+        let rows = match random.below(4) {
+            0 => layout.rows as u32,
+            _ => random.below(layout.rows as u32 + 1),
+        };
+        // Rows and records need a number to bear.
+        let transactions = random.pick(&[1, 3, 8, 20, NUMBERS - 1, NUMBERS]);
+        let scans = random.pick(&[0, 2, 20, NUMBERS - 1, NUMBERS]);
+        let last = random.pick(&[0, 5, 30, u32::MAX]);
+        let merges = random.pick(&[0, 3, 12, u32::MAX - 1, u32::MAX]);
+        put_word(&mut bytes, header::ROWS_GIVEN, rows);
+        put_word(&mut bytes, header::TRANSACTIONS_GIVEN, transactions);
+        put_word(&mut bytes, header::SCANS_GIVEN, scans);
+        put_word(&mut bytes, header::LAST_STAMP, last);
+        put_word(&mut bytes, header::MERGES_MADE, merges);
+        let open = Vec::new();
+        Builder { bytes, layout, random, rows, transactions, scans, last, merges, open }
+    }
+
+    fn put(&mut self, region: Region, i: usize, word: u32) {
+        put_word(&mut self.bytes, self.layout.base(region) + i, word);
+    }
+
+    fn get(&self, region: Region, i: usize) -> u32 {
+        word(&self.bytes, self.layout.base(region) + i)
+    }
+
+    /// A number up to `most`, often a small one.
+    fn up_to(&mut self, most: u32) -> u32 {
+        let limit = if self.random.percent(50) { most.min(8) } else { most };
+        (self.random.word() % (u64::from(limit) + 1)) as u32
+    }
+
+    /// A state or kind: mostly one that the store writes.
+    fn code(&mut self) -> u32 {
+        if self.random.percent(90) {
+            self.random.below(3)
+        } else {
+            self.random.word() as u32
+        }
+    }
+
+    fn mask(&mut self) -> u32 {
+        if self.random.percent(80) {
+            self.random.below(1 << self.layout.columns)
+        } else {
+            self.random.word() as u32
+        }
+    }
+
+    /// A transaction to bear: often an open one.
+    fn transaction(&mut self) -> u32 {
+        if !self.open.is_empty() && self.random.percent(50) {
+            self.random.pick(&self.open)
+        } else {
+            self.up_to(self.transactions - 1) + 1
+        }
+    }
+
+    fn opens(&mut self) {
+        for place in 0..OPENS {
+            let number = self.up_to(self.transactions);
+            let number = if self.open.contains(&number) { 0 } else { number };
+            self.put(Region::Opens, place, number);
+            if self.random.percent(40) {
+                self.put(Region::Changes, place, 0);
+            }
+            if number != 0 {
+                self.open.push(number);
+            }
+        }
+    }
+
+    fn records(&mut self, range: usize) {
+        let first = (range * ROWS) as u32;
+        let given = self.rows.saturating_sub(first).min(ROWS as u32);
+        let capacity = self.layout.capacity as u32;
+        let used = if given == 0 { 0 } else { self.random.below(capacity + 1) };
+        self.put(Region::Used, range, used);
+        for number in 1..=used {
+            let slot = self.layout.slot(range, number as usize);
+            // Few rows, so that links find records.
+            let row = first + self.random.below(given.min(3));
+            let link = self.linked(range, row, number - 1);
+            let (transaction, state) = (self.transaction(), self.code());
+            let (kind, mask) = (self.code(), self.mask());
+            let stamp = self.up_to(self.last);
+            self.put(Region::TailTransaction, slot, transaction);
+            self.put(Region::TailRow, slot, row);
+            self.put(Region::TailKind, slot, kind);
+            self.put(Region::TailMask, slot, mask);
+            self.put(Region::TailLink, slot, link);
+            self.put(Region::TailState, slot, state);
+            self.put(Region::TailStamp, slot, stamp);
+        }
+    }
+
+    /// 0 or a record up to `most` of the row.
+    fn linked(&mut self, range: usize, row: u32, most: u32) -> u32 {
+        let named = |number: &u32| {
+            self.get(Region::TailRow, self.layout.slot(range, *number as usize)) == row
+        };
+        let all: Vec<u32> = (1..=most).filter(named).collect();
+        match all.last() {
+            Some(last) if self.random.percent(70) => *last,
+            Some(_) if self.random.percent(60) => self.random.pick(&all),
+            _ => 0,
+        }
+    }
+
+    fn rows(&mut self) {
+        for row in 0..self.rows {
+            let at = row as usize;
+            let used = self.get(Region::Used, at / ROWS);
+            let link = self.linked(at / ROWS, row, used);
+            let (transaction, state) = (self.transaction(), self.code());
+            let (stamp, mask) = (self.up_to(self.last), self.mask());
+            self.put(Region::RowTransaction, at, transaction);
+            self.put(Region::RowState, at, state);
+            self.put(Region::RowStamp, at, stamp);
+            self.put(Region::RowLink, at, link);
+            self.put(Region::RowMask, at, mask);
+        }
+    }
+
+    fn pages(&mut self) {
+        for at in 0..self.layout.pages {
+            let state = self.code();
+            let place = if self.random.percent(70) {
+                self.random.below(self.layout.places as u32)
+            } else {
+                self.random.word() as u32
+            };
+            self.page(at, state, place);
+        }
+        // Any pages of the pool may be the current ones.
+        let mut pool: Vec<usize> = (0..self.layout.pages).collect();
+        for place in 0..self.layout.places {
+            let other = place + self.random.below((pool.len() - place) as u32) as usize;
+            pool.swap(place, other);
+            self.put(Region::Current, place, pool[place] as u32);
+            self.page(pool[place], page::CURRENT, place as u32);
+        }
+    }
+
+    fn page(&mut self, at: usize, state: u32, place: u32) {
+        let range = place as usize % self.layout.places / self.layout.columns;
+        let used = self.get(Region::Used, range);
+        let (lineage, newest) = (self.up_to(used), self.up_to(self.last));
+        let (made, replaced) = (self.up_to(self.merges), self.up_to(self.merges));
+        self.put(Region::PageState, at, state);
+        self.put(Region::PagePlace, at, place);
+        self.put(Region::PageLineage, at, lineage);
+        self.put(Region::PageNewest, at, newest);
+        self.put(Region::PageReplaced, at, replaced);
+        if self.random.percent(90) {
+            self.put(Region::PageMade, at, made);
+        }
+    }
+
+    /// A list with up to 16 open scans, and a rest that belongs to no place.
+    fn scans(&mut self) -> Vec<u8> {
+        let length = SCANS * PLACE + self.random.below(300) as usize;
+        let mut list = vec![0; length];
+        fill(&mut list, self.random);
+        let share = self.random.pick(&[0, 20, 100]);
+        let mut open: Vec<u32> = Vec::new();
+        for place in 0..places(&list) {
+            let old = scan(&list, place);
+            let number = self.up_to(self.scans);
+            let wanted = open.len() < SCANS && self.random.percent(share);
+            if number == 0 || open.contains(&number) || !wanted {
+                put_scan(&mut list, place, Scan { number: 0, ..old });
+                continue;
+            }
+            open.push(number);
+            let (stamp, merges) = (self.up_to(self.last), self.up_to(self.merges));
+            put_scan(&mut list, place, Scan { number, stamp, merges });
+        }
+        list
+    }
+}

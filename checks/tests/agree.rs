@@ -1,0 +1,45 @@
+//! The plain page store and the definitions against the plain history, and against each other.
+
+use checks::defined::Defined;
+use checks::plain::Plain;
+use checks::{agree, same};
+use reference::{Call, Shape};
+
+#[test]
+fn answers_are_those_of_the_plain_history() {
+    let tally = agree::run(&Plain::<0>, 0, 1100).expect("no difference");
+    assert!(tally.largest > 0, "{tally:?}");
+    assert!(tally.accepted * 10 > tally.calls * 8, "{tally:?}");
+}
+
+#[test]
+fn bytes_are_those_of_the_definitions() {
+    let tally = same::run(&Plain::<0>, &Defined, 0, 200).expect("no difference");
+    assert!(tally.accepted * 10 > tally.calls * 4, "{tally:?}");
+}
+
+const SMALLEST: Shape = Shape { columns: 1, ranges: 1, tail: 1, spares: 0 };
+
+/// 65,535 numbers, the last ones left open, and then 15 before 14.
+#[test]
+fn numbers_run_out() {
+    let mut transactions = Vec::new();
+    let mut scans = Vec::new();
+    for number in 1..=65_535 {
+        transactions.push(Call::Begin);
+        scans.push(Call::OpenScan { stamp: 0 });
+        if number <= 65_527 {
+            transactions.push(Call::Abort { transaction: number });
+        }
+        if number <= 65_519 {
+            scans.push(Call::Close { scan: number });
+        }
+    }
+    transactions.extend([Call::Begin, Call::Abort { transaction: 65_535 }, Call::Begin]);
+    let open = Call::OpenScan { stamp: 0 };
+    scans.extend([open.clone(), Call::Close { scan: 65_535 }, open]);
+    for calls in [transactions, scans] {
+        let accepted = agree::compare(&Plain::<0>, 0, &SMALLEST, &calls).expect("no difference");
+        assert_eq!(accepted, calls.len() as u64 - 2);
+    }
+}

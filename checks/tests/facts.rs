@@ -1,0 +1,127 @@
+//! The stored facts, and answer 2 on memories that no call made.
+
+use std::collections::BTreeSet;
+
+use checks::damage::{good, SMALL};
+use checks::memory::{header, put_scan, put_word, word, Layout, Region, Scan};
+use checks::plain::{sound, Plain};
+use checks::unmade::{any_lent, passing};
+use checks::{damage, facts, Store};
+use reference::random::Random;
+use reference::{Answer, Call};
+
+#[test]
+fn two_is_answered_where_a_fact_fails_and_nowhere_else() {
+    let tally = damage::run(&Plain::<0>, 0, 2).expect("no difference");
+    assert!(tally.failing > 1000 && tally.accepted > 100_000, "{tally:?}");
+}
+
+/// For each fact there are bytes of which no other fact fails: a store that forgets any one of them
+/// is told apart by answer 2.
+#[test]
+fn every_fact_is_met_alone() {
+    let mut alone = BTreeSet::new();
+    let mut random = Random::new(1);
+    for seed in 0..8 {
+        let mut watched = good(&Plain::<0>, seed, &mut random).expect("a good store");
+        let lengths = (watched.memory.bytes().len(), watched.scans.bytes().len());
+        for at in 0..lengths.0 + lengths.1 {
+            let byte = match at.checked_sub(lengths.0) {
+                None => &mut watched.memory.bytes_mut()[at],
+                Some(at) => &mut watched.scans.bytes_mut()[at],
+            };
+            *byte ^= 1;
+            note(&mut alone, watched.memory.bytes(), watched.scans.bytes());
+            watched.restore();
+        }
+    }
+    for _ in 0..40_000 {
+        let (memory, scans) = any_lent(&mut random);
+        note(&mut alone, memory.bytes(), scans.bytes());
+    }
+    let missing: Vec<&str> = facts::names().filter(|name| !alone.contains(name)).collect();
+    assert!(missing.is_empty(), "not met alone: {missing:?}");
+}
+
+fn note(alone: &mut BTreeSet<&'static str>, memory: &[u8], list: &[u8]) {
+    let failing = facts::all_failing(memory, list);
+    assert_eq!(sound(memory, list).is_none(), !failing.is_empty(), "{failing:?}");
+    if let [fact] = failing[..] {
+        alone.insert(fact);
+    }
+}
+
+#[test]
+fn random_words_that_pass_do_pass() {
+    let mut random = Random::new(2);
+    for _ in 0..2000 {
+        let (memory, list) = passing(&mut random);
+        assert_eq!(facts::failing(&memory, &list), None);
+    }
+}
+
+/// A store of the small shape in exactly the bytes it needs.
+fn small() -> (Vec<u8>, Vec<u8>, Layout) {
+    let layout = Layout::of(&SMALL);
+    let (mut memory, mut list) = (vec![0xFF; layout.need()], vec![0xFF; 40 * 12 + 5]);
+    assert_eq!(Plain::<0>.make(&mut memory, &mut list, &SMALL), Answer::Done);
+    (memory, list, layout)
+}
+
+/// Seventeen open scans are one too many, however long the list is.
+#[test]
+fn open_scans_are_counted_over_the_whole_list() {
+    let (mut memory, mut list, _) = small();
+    put_word(&mut memory, header::SCANS_GIVEN, 17);
+    for number in 1..=16 {
+        put_scan(&mut list, 2 * number as usize, Scan { number, stamp: 0, merges: 0 });
+    }
+    assert_eq!(facts::failing(&memory, &list), None);
+    let opened = Plain::<0>.call(&mut memory, &mut list, &Call::OpenScan { stamp: 0 });
+    assert_eq!(opened, Answer::Refused(14));
+    put_scan(&mut list, 39, Scan { number: 17, stamp: 0, merges: 0 });
+    assert_eq!(facts::failing(&memory, &list), Some("at most 16 scans are open"));
+    assert_eq!(Plain::<0>.call(&mut memory, &mut list, &Call::Begin), Answer::Refused(2));
+}
+
+/// With 2^32 - 1 merges made a merge is accepted, and the count goes round.
+#[test]
+fn the_count_of_merges_goes_round() {
+    let (mut memory, mut list, _) = small();
+    let store = Plain::<0>;
+    for call in [
+        Call::Begin,
+        Call::Insert { transaction: 1, values: vec![1, 2] },
+        Call::Update { transaction: 1, row: 0, mask: 1, values: vec![3, 4] },
+        Call::Commit { transaction: 1, stamp: 5 },
+    ] {
+        assert!(!store.call(&mut memory, &mut list, &call).is_refused());
+    }
+    put_word(&mut memory, header::MERGES_MADE, u32::MAX);
+    let merge = Call::Merge { range: 0, column: 0, through: 2 };
+    assert_eq!(store.call(&mut memory, &mut list, &merge), Answer::Done);
+    assert_eq!(word(&memory, header::MERGES_MADE), 0);
+}
+
+/// Words of unused rows, records and free pages may hold anything.
+#[test]
+fn unused_words_may_hold_anything() {
+    let (mut memory, list, layout) = small();
+    let unused = [
+        (Region::RowTransaction, 0),
+        (Region::RowLink, 0),
+        (Region::RowStamp, 3),
+        (Region::TailRow, 0),
+        (Region::TailLink, 2),
+        (Region::PageNewest, layout.places),
+        (Region::PageLineage, layout.places + 1),
+        (Region::PageMade, 0),
+        (Region::Changes, 1),
+        (Region::Header, 15),
+    ];
+    for (region, at) in unused {
+        put_word(&mut memory, layout.base(region) + at, u32::MAX);
+    }
+    assert_eq!(facts::failing(&memory, &list), None);
+    assert!(sound(&memory, &list).is_some());
+}

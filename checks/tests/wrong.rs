@@ -1,0 +1,51 @@
+//! Wrong stores: each fault of the plain page store must be told apart by the comparisons, and the
+//! right store by none.
+
+use checks::plain::{faults, Plain};
+use checks::{agree, same, Store};
+
+/// Lists that are tried before a fault counts as not found.
+const LISTS: u64 = 4000;
+
+fn told_apart(store: &dyn Store) {
+    let found = agree::run(store, 0, LISTS);
+    assert!(found.is_err(), "the fault was not found in {LISTS} lists");
+}
+
+macro_rules! wrong_stores {
+    ($($name:ident: $fault:ident,)*) => {$(
+        #[test]
+        fn $name() {
+            told_apart(&Plain::<{ faults::$fault }>);
+        }
+    )*};
+}
+
+wrong_stores! {
+    no_newest_test: NO_NEWEST_TEST,
+    merge_stops_at_aborted: MERGE_STOPS_AT_ABORTED,
+    other_columns_lineage: OTHER_COLUMNS_LINEAGE,
+    release_heeds_no_scan: RELEASE_HEEDS_NO_SCAN,
+    original_forgotten: ORIGINAL_FORGOTTEN,
+    abort_takes_mask_bits: ABORT_TAKES_MASK_BITS,
+    merge_drops_uncommitted_rows: MERGE_DROPS_UNCOMMITTED_ROWS,
+    held_by_inserter_only: HELD_BY_INSERTER_ONLY,
+    aborted_delete_ends: ABORTED_DELETE_ENDS,
+    release_off_by_one: RELEASE_OFF_BY_ONE,
+    delete_zeroes_cell: DELETE_ZEROES_CELL,
+    merge_applies_aborted: MERGE_APPLIES_ABORTED,
+    scan_on_old_page: SCAN_ON_OLD_PAGE,
+    aborted_delete_makes_gone: ABORTED_DELETE_MAKES_GONE,
+    merge_forgets_newest: MERGE_FORGETS_NEWEST,
+    merge_applies_nothing: MERGE_APPLIES_NOTHING,
+    commit_forgets_records: COMMIT_FORGETS_RECORDS,
+}
+
+/// An original holds what the page has before any setting of its row and column, and a merge goes
+/// forward, so applying originals gives no other answer. The bytes tell it apart: a page's newest
+/// stamp is that of a setting.
+#[test]
+fn merge_applies_originals() {
+    let wrong = Plain::<{ faults::MERGE_APPLIES_ORIGINALS }>;
+    assert!(same::run(&Plain::<0>, &wrong, 0, LISTS).is_err());
+}

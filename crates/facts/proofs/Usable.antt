@@ -63,10 +63,10 @@ pub record Usable (s : Sizes) (v : View) (ps : List Place) : Type 0 where
 
 -- ---- the tests of one index, taken apart
 
-or-right : (a b : Bool) → a ≡ false → (a || b) ≡ true → b ≡ true
+pub or-right : (a b : Bool) → a ≡ false → (a || b) ≡ true → b ≡ true
 or-right a b e f = rw e at f
 
-link-tells : (s : Sizes) (v : View) (g most r link : ℕ) → linkHolds s v g most r link ≡ true → Linked s v g most r link
+pub link-tells : (s : Sizes) (v : View) (g most r link : ℕ) → linkHolds s v g most r link ≡ true → Linked s v g most r link
 unfolding linkHolds
 link-tells s v g most r link e = go (eqb link 0) refl
   where
@@ -80,7 +80,7 @@ page-tells : (v : View) (least : ℕ) (k : Region) (most p : ℕ) → pageAtMost
 unfolding pageAtMost
 page-tells v least k most p e h = leb-true (getD (v k) p 0) most (or-right (ltb (getD (v PageState) p 0) least) _ (le-ltb _ least h) e)
 
-placed-tells : (s : Sizes) (v : View) (i : ℕ) → pagePlaced s v i ≡ true
+pub placed-tells : (s : Sizes) (v : View) (i : ℕ) → pagePlaced s v i ≡ true
     → (getD (v Current) i 0 < s .pages) × (getD (v PageState) (getD (v Current) i 0) 0 ≡ 1) × (getD (v PagePlace) (getD (v Current) i 0) 0 ≡ i)
 unfolding pagePlaced
 placed-tells s v i e =

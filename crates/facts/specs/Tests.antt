@@ -2,12 +2,13 @@
 -- and the facts of one index by name, so that one loop tests each of them. Nothing here is needed to read the facts.
 use Prim.Native.Nat.{ℕ, _+_, _*_, _≤_, _<_}
 use mathlib.Core.Path.{_≡_}
-use mathlib.Core.Bool.{Bool}
+use mathlib.Core.Bool.{Bool, true}
 use mathlib.Core.List.{List}
 use lib.ListN.{length, getD}
 use Rattle.layout.specs.declared.Sizes.{Sizes}
 use Rattle.layout.specs.declared.Region.{Region}
 use Rattle.layout.specs.declared.Region.the-variants.{Used}
+use Rattle.terms.specs.Measures.{withinLimits}
 use Rattle.words.specs.Words.{words}
 use Rattle.layout.specs.Regions.{len, need}
 use Rattle.layout.specs.View.{View, view}
@@ -15,7 +16,10 @@ use Rattle.facts.specs.declared.Fact.{Fact}
 use Rattle.facts.specs.declared.Fact.the-variants.{RowNamed, RowLinked, RecordLinked, PageAtMost, PagePlaced, LineageWithin}
 use Rattle.facts.specs.declared.RangeFact.{RangeFact}
 use Rattle.facts.specs.declared.RangeFact.the-variants.{NamesRows, Linked, Between}
-use Rattle.facts.specs.Facts.{rowsGiven, used, rowNamed, rowLinked, recordLinked, pageAtMost, pagePlaced, lineageWithin, rangeNamesRows, rangeLinked, rangeBetween}
+use Rattle.facts.specs.declared.Checked.{Checked}
+use Rattle.facts.specs.declared.Checked.the-variants.{Fit, Unfit}
+use Rattle.facts.specs.Usable.{shapeIn, sizesIn}
+use Rattle.facts.specs.Facts.{storedWithin, recordsNameRows, linksHold, pagesPlaced, lineagesWithin, rowsGiven, used, rowNamed, rowLinked, recordLinked, pageAtMost, pagePlaced, lineageWithin, rangeNamesRows, rangeLinked, rangeBetween}
 
 -- sizes that a shape within the limits makes
 pub record Sized (s : Sizes) : Type 0 where
@@ -39,6 +43,25 @@ pub record Ready (s : Sizes) (m : List ℕ) : Type 0 where
   pub room : need s * 4 ≤ length m
   pub sized : Sized s
   pub counted : Counted s (view s (words m))
+
+-- The facts that speak of the memory alone.
+pub record MemoryFacts (s : Sizes) (v : View) : Type 0 where
+  pub counts : storedWithin s v ≡ true
+  pub names : recordsNameRows s v ≡ true
+  pub links : linksHold s v ≡ true
+  pub placed : pagesPlaced s v ≡ true
+  pub lineages : lineagesWithin s v ≡ true
+
+-- What holds of a memory that passed, whatever table it came with, even one that stands for no list: every access of a call rests on this.
+pub record Passed (s : Sizes) (m : List ℕ) : Type 0 where
+  pub sizes-are : s ≡ sizesIn (words m)
+  pub within : withinLimits (shapeIn (words m)) ≡ true
+  pub room : need s * 4 ≤ length m
+  pub facts : MemoryFacts s (view s (words m))
+
+abbrev pub Safe : Checked → List ℕ → Type 0
+Safe (Fit s) m = Passed s m
+Safe Unfit m = Unit {0}
 
 -- a fact of one index, and the indices that it may be asked of
 abbrev pub holdsAt : Sizes → View → Fact → ℕ → Bool

@@ -24,7 +24,7 @@ use scans::all_differ;
 use scans::at_most;
 use words::get;
 ghost use mathlib.Core.Path.{_≡_};
-ghost use mathlib.Core.Bool.{_&&_, not};
+ghost use mathlib.Core.Bool.{_&&_, not, true};
 ghost use mathlib.Core.List.{List, _++_};
 ghost use Prim.Native.Nat.{ℕ, _+_, _*_, _≤_, _<_};
 ghost use lib.ListN.{length, replicate};
@@ -38,7 +38,7 @@ ghost use Rattle.scans.specs.Places.{openCount};
 ghost use Rattle.scans.specs.Table.{tableOf};
 ghost use Rattle.facts.specs.Facts.{rowsGiven, used, firstSlot, rowsBetween, rowNamed, linkHolds, rowLinked, recordLinked, pageAtMost, pagePlaced, lineageWithin, each, storedWithin, numbersGiven, linksHold, stampsWithin, mergesWithin, openDiffer, factsHold};
 ghost use Rattle.facts.specs.Usable.{checked};
-ghost use Rattle.facts.specs.Tests.{Sized, Ready, holdsAt, Reaches, rangeHolds, RangeReaches};
+ghost use Rattle.facts.specs.Tests.{Sized, Ready, MemoryFacts, Safe, holdsAt, Reaches, rangeHolds, RangeReaches};
 
 // What the test finds: the sizes of the store, or that the memory is not usable.
 pub enum Checked {
@@ -363,6 +363,7 @@ fn open_differ(mem: &[u8], s: Sizes, t: Scans) -> bool
 fn facts_hold(mem: &[u8], s: Sizes, t: Scans) -> bool
     requires { ⌜ (need s * 4 ≤ length (now mem)) × Sized s ⌝ }
     ensures { λ r. ⌜ ((ps : List Place) → t ≡ tableOf ps → r ≡ factsHold s (view s (words (now (mem .entry)))) ps) ⌝ }
+    ensures { λ r. ⌜ (r ≡ true → MemoryFacts s (view s (words (now (mem .entry))))) ⌝ }
 {
     if counts_within(mem, s, t) {
         let named = ranges_hold(mem, s, RangeFact::NamesRows);
@@ -391,6 +392,7 @@ fn facts_hold(mem: &[u8], s: Sizes, t: Scans) -> bool
 // Whether a memory is usable with the scan list that a table stands for, and its sizes.
 pub fn check(mem: &[u8], t: Scans) -> Checked
     ensures { λ r. ⌜ ((ps : List Place) → t ≡ tableOf ps → r ≡ checked (now (mem .entry)) ps) ⌝ }
+    ensures { λ r. ⌜ Safe r (now (mem .entry)) ⌝ }
 {
     if mem.len() < MEASURES_BYTES {
         return Checked::Unfit;

@@ -13,7 +13,7 @@ use Rattle.terms.specs.declared.Place.{Place}
 use Rattle.loops.specs.declared.Found.{Found}
 use Rattle.loops.specs.declared.Found.the-variants.{At, Nothing}
 use Rattle.loops.specs.Search.{allBetween, firstAt}
-use Rattle.loops.proofs.Search.{first-in}
+use Rattle.loops.proofs.Search.{first-in, first-at}
 use Rattle.scans.specs.declared.Scans.{Scans}
 use Rattle.scans.specs.Places.{freePlace, bears, isOpen, place, firstFree, opened, openedAt, openCount, everyOpen, someOpen, among, differ}
 use Rattle.scans.specs.Table.{entries, tableOf, findIn, anyBelow}
@@ -167,6 +167,7 @@ none-zero (p ∷ ps) = go (eqb (p .number) 0) (none-zero ps)
 -- scan k stands at entry j of the table
 pub record Located (ps : List Place) (k j : ℕ) : Type 0 where
   pub entry : j < openCount ps
+  pub number-is : getD ps (place (bears k) ps) freePlace .number ≡ k
   pub place-is : getD (tableOf ps .places) j 0 ≡ place (bears k) ps
   pub stamp-is : getD (tableOf ps .stamps) j 0 ≡ getD ps (place (bears k) ps) freePlace .stamp
   pub merges-is : getD (tableOf ps .merges) j 0 ≡ getD ps (place (bears k) ps) freePlace .merges
@@ -219,6 +220,7 @@ module _ (ps : List Place) (few : openCount ps ≤ mostScans) where
           let t = found-place k (mostScans - openCount ps) q ps 0 0 j (rw (field-entries (λ p. p .number)) at f ∙ ap At (omega arith)) in
           record {
             entry = t .2;
+            number-is = ap (λ (p : Place). p .number) (t .1) ∙ sym (field-at (λ p. p .number) j refl (t .2)) ∙ first-at k j (tableOf ps .numbers) f .1;
             place-is = places-at j (t .2) ∙ omega (arith, t .0);
             stamp-is = field-at (λ p. p .stamp) j refl (t .2) ∙ ap (λ (p : Place). p .stamp) (sym (t .1));
             merges-is = field-at (λ p. p .merges) j refl (t .2) ∙ ap (λ (p : Place). p .merges) (sym (t .1));

@@ -64,21 +64,25 @@ roomy : (c : tie.Else3) → need (sizesIn (words (memory (c .before .before .bef
 roomy c = rw (bytes (c .before)) at (c .if3 .left)
 
 returns : tie.Need-returns
-returns c = λ ps e. too-short (memory (c .before .before)) ps (c .if1 .taken)
+returns c = (λ ps e. too-short (memory (c .before .before)) ps (c .if1 .taken), tt)
 
 returns-2 : tie.Need-returns-2
-returns-2 c =
-    λ ps e.
-    out-of-limits (memory (c .before .before .before .before .before .before .before .before)) ps (c .before .before .before .before .before .before .if1 .left) (sym (shape-read (c .before)) ∙ not-true (c .before .within-limits .result) (c .if2 .taken))
+returns-2 c = (
+  λ ps e.
+      out-of-limits (memory (c .before .before .before .before .before .before .before .before)) ps (c .before .before .before .before .before .before .if1 .left) (sym (shape-read (c .before)) ∙ not-true (c .before .within-limits .result) (c .if2 .taken)),
+  tt,
+)
 
 returns-3 : tie.Need-returns-3
 returns-3 c =
-    λ ps e. no-room (memory (c .before .before .before .before .before .before .before .before .before .before .before)) ps (c .before .before .before .before .before .before .before .before .before .if1 .left) (within (c .before .before .before)) (rw (bytes (c .before)) at (c .if3 .taken))
+    (λ ps e. no-room (memory (c .before .before .before .before .before .before .before .before .before .before .before)) ps (c .before .before .before .before .before .before .before .before .before .if1 .left) (within (c .before .before .before)) (rw (bytes (c .before)) at (c .if3 .taken)), tt)
 
 returns-4 : tie.Need-returns-4
-returns-4 c =
-    λ ps e.
-    few-places (memory (c .before .before .before .before .before .before .before .before .before .before .before .before .before)) ps (c .before .before .before .before .before .before .before .before .before .before .before .if1 .left) (within (c .before .before .before .before .before)) (roomy (c .before .before)) (rw (table-length _ ps e) at (c .if4 .taken))
+returns-4 c = (
+  λ ps e.
+      few-places (memory (c .before .before .before .before .before .before .before .before .before .before .before .before .before)) ps (c .before .before .before .before .before .before .before .before .before .before .before .if1 .left) (within (c .before .before .before .before .before)) (roomy (c .before .before)) (rw (table-length _ ps e) at (c .if4 .taken)),
+  tt,
+)
 
 facts-hold-requires : tie.Need-facts-hold-requires
 unfolding sizesIn
@@ -88,19 +92,28 @@ facts-hold-requires c κs =
 
 returns-5 : tie.Need-returns-5
 returns-5 c =
-    let f = c .before in
-    λ ps e.
-    sym
-    (by-facts (memory (c .before .before .before .before .before .before .before .before .before .before .before .before .before .before .before)) ps (c .before .before .before .before .before .before .before .before .before .before .before .before .before .if1 .left) (within (c .before .before .before .before .before .before .before)) (roomy (c .before .before .before .before)) (rw (table-length _ ps e) at (f .before .if4 .left))
-    ∙ rw (← sizes-read (c .before .before .before .before .before .before), ← f .facts-hold .ensures ps e, c .if5 .taken))
+    let f = c .before in (
+      λ ps e.
+          sym
+          (by-facts (memory (c .before .before .before .before .before .before .before .before .before .before .before .before .before .before .before)) ps (c .before .before .before .before .before .before .before .before .before .before .before .before .before .if1 .left) (within (c .before .before .before .before .before .before .before)) (roomy (c .before .before .before .before)) (rw (table-length _ ps e) at (f .before .if4 .left))
+          ∙ rw (← sizes-read (c .before .before .before .before .before .before), ← f .facts-hold .ensures .0 ps e, c .if5 .taken)),
+      record {
+        sizes-are = sizes-read (c .before .before .before .before .before .before);
+        within = within (c .before .before .before .before .before .before .before);
+        room = rw (sizes-read (c .before .before .before .before .before .before)) (roomy (c .before .before .before .before));
+        facts = f .facts-hold .ensures .1 (c .if5 .taken);
+      },
+    )
 
 returns-6 : tie.Need-returns-6
 returns-6 c =
-    let f = c .before in
-    λ ps e.
-    sym
-    (by-facts (memory (c .before .before .before .before .before .before .before .before .before .before .before .before .before .before .before)) ps (c .before .before .before .before .before .before .before .before .before .before .before .before .before .if1 .left) (within (c .before .before .before .before .before .before .before)) (roomy (c .before .before .before .before)) (rw (table-length _ ps e) at (f .before .if4 .left))
-    ∙ rw (← sizes-read (c .before .before .before .before .before .before), ← f .facts-hold .ensures ps e, c .if5 .left))
+    let f = c .before in (
+      λ ps e.
+          sym
+          (by-facts (memory (c .before .before .before .before .before .before .before .before .before .before .before .before .before .before .before)) ps (c .before .before .before .before .before .before .before .before .before .before .before .before .before .if1 .left) (within (c .before .before .before .before .before .before .before)) (roomy (c .before .before .before .before)) (rw (table-length _ ps e) at (f .before .if4 .left))
+          ∙ rw (← sizes-read (c .before .before .before .before .before .before), ← f .facts-hold .ensures .0 ps e, c .if5 .left)),
+      tt,
+    )
 
 pub check-spec : {M : Type 1} → statement M
 check-spec =

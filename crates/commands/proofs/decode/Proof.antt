@@ -1,0 +1,30 @@
+-- `commands::decode` meets its contract: each number and the values are those of the definition.
+use mathlib.Core.Path.{_≡_, ap}
+use borrow.Author.Needs.{needs}
+use lib.ListN.{length}
+use borrow.Rule.Slice.PartAt.{part-to-end}
+use Rattle.commands.specs.Commands.{callFrom}
+use Rattle.commands.proofs.decode.Statement.{statement}
+use Rattle.commands.proofs.decode.Tie as tie
+
+returns : tie.Need-returns
+unfolding callFrom
+returns c =
+    let vs = rw (part-to-end, c .before .before .before .before .before .value-count .ensures .0) at (c .values .ensures) in
+    rw (c .before .before .before .before .number .ensures, c .before .before .before .number2 .ensures, c .before .before .number3 .ensures, c .before .before .before .before .before .value-count .ensures .0, vs)
+
+pub decode-spec : {M : Type 1} → statement M
+decode-spec =
+    tie.close
+    (tie.spec
+    (λ c. search needs)
+    (λ c. search needs)
+    (λ c κs. search needs)
+    (λ c κs. search needs)
+    (λ c κs. search needs)
+    (λ c κs. search needs)
+    (λ c. search needs)
+    (λ c. search needs)
+    (λ c. search needs)
+    (λ c κs. search needs)
+    returns)

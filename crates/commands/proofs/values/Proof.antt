@@ -1,0 +1,71 @@
+-- `commands::values` meets its contract. The invariant: the first i places hold the first i values.
+use Prim.Native.Nat.{_+_, _-_, _≤_, _<_, _^_}
+use mathlib.Core.Path.{_≡_, refl, ap, sym, _∙_}
+use native.Mathlib.Omega.{arith}
+use mir.Syntax.{w32}
+use mir.ValLaws.{toZ-ofZ}
+use borrow.Author.Needs.{needs}
+use lib.ListN.{length, take, length-set}
+use Rattle.commands.specs.Commands.{values}
+use Rattle.commands.proofs.Operands.{value-next}
+use Rattle.commands.proofs.values.Statement.{statement}
+use Rattle.commands.proofs.values.Tie as tie
+
+abbrev Inv-loop : tie.InvT-loop
+Inv-loop bytes n out₀ i₀ out i = (i ≤ n) × (take i out ≡ values i bytes) × (length out ≡ 16)
+
+abbrev μ-loop : tie.MeasureT-loop
+μ-loop bytes n out₀ i₀ out i = n - i
+
+loop-holds : tie.Need-loop-holds Inv-loop μ-loop
+unfolding values
+loop-holds c = (omega arith, refl, refl)
+
+get-requires : tie.Need-get-requires Inv-loop μ-loop
+get-requires c κs = omega arith
+
+of-word-requires : tie.Need-of-word-requires Inv-loop μ-loop
+of-word-requires c κs = search needs
+
+mul-out : tie.Need-mul-out Inv-loop μ-loop
+mul-out c = omega arith
+
+array-set-from-out : tie.Need-array-set-from-out Inv-loop μ-loop
+array-set-from-out c = omega arith
+
+add-i : tie.Need-add-i Inv-loop μ-loop
+add-i c = omega arith
+
+loop-less : tie.Need-loop-less Inv-loop μ-loop
+loop-less c = omega arith
+
+loop-again : tie.Need-loop-again Inv-loop μ-loop
+loop-again c =
+    let head = c .before .before .before in (
+      omega arith,
+      rw (toZ-ofZ w32 (c .of-word .result) (record { sfits = c .of-word .ok }))
+          (value-next _ _ _ _ _ (head .loop .inv .1) (c .before .get .ensures) (c .of-word .ensures) (omega arith) (omega arith)),
+      simp length-set (head .loop .inv .2),
+    )
+
+returns : tie.Need-returns Inv-loop μ-loop
+returns c =
+    let head = c .before in
+    let all : head .loop .i ≡ head .before .before .args .n = omega arith in
+    rw all at (head .loop .inv .1)
+
+pub values-spec : {M : Type 1} → statement M
+values-spec =
+    tie.close
+    (tie.spec
+    Inv-loop
+    μ-loop
+    loop-holds
+    get-requires
+    of-word-requires
+    mul-out
+    array-set-from-out
+    add-i
+    loop-less
+    loop-again
+    returns)

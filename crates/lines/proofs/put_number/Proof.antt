@@ -1,0 +1,22 @@
+-- `lines::put_number` meets its contract.
+use native.Mathlib.Omega.{arith}
+use borrow.Author.Needs.{needs}
+use Rattle.lines.specs.Lines.{outcome}
+use Rattle.lines.proofs.Pieces.{joined}
+use Rattle.lines.proofs.put_number.Statement.{statement}
+use Rattle.lines.proofs.put_number.Tie as tie
+
+returns : tie.Need-returns
+unfolding outcome
+returns c =
+    let w = c .before .before .put .ensures in
+    (joined w (c .put-natural .ensures .0), omega (arith, w .place))
+
+pub put-number-spec : {M : Type 1} → statement M
+put-number-spec =
+    tie.close
+    (tie.spec
+    (λ c. search needs)
+    (λ c κs. search needs)
+    (λ c κs. search needs)
+    returns)

@@ -1,0 +1,28 @@
+-- `lines::put_value` meets its contract.
+use native.Mathlib.Omega.{arith}
+use borrow.Author.Needs.{needs}
+use Rattle.lines.specs.Lines.{outcome}
+use mir.Syntax.{w32, w64}
+use mir.ValLaws.{toZ-ofZ}
+use Rattle.lines.proofs.Pieces.{joined}
+use Rattle.lines.proofs.Signs.{wide, wider}
+use Rattle.lines.proofs.put_value.Statement.{statement}
+use Rattle.lines.proofs.put_value.Tie as tie
+
+returns : tie.Need-returns
+unfolding outcome
+returns c =
+    let w = c .before .before .put .ensures in
+    let fits = c .before .before .before .before .before .fits .v in
+    let value = rw (toZ-ofZ w32 _ fits, toZ-ofZ w64 _ (wide _ fits)) at (c .put-integer .ensures .0) in
+    (joined w value, omega (arith, w .place))
+
+pub put-value-spec : {M : Type 1} → statement M
+put-value-spec =
+    tie.close
+    (tie.spec
+    (λ c. search needs)
+    (λ c κs. search needs)
+    (λ c. wider _ (c .before .before .before .before .fits .v))
+    (λ c κs. search needs)
+    returns)

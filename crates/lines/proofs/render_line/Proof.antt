@@ -1,0 +1,29 @@
+-- `lines::render_line` meets its contract: the pieces that it writes are those of the definition.
+use mathlib.Core.Path.{_≡_, ap, _∙_}
+use native.Mathlib.Omega.{arith}
+use borrow.Author.Needs.{needs}
+use Rattle.lines.specs.Lines.{capitals, line}
+use Rattle.lines.proofs.Pieces.{joined, rendered}
+use Rattle.lines.proofs.render_line.Statement.{statement}
+use Rattle.lines.proofs.render_line.Tie as tie
+
+returns : tie.Need-returns
+unfolding line capitals
+returns c =
+    let start = rw (c .before .before .before .before .before .before .before .before .before .digit .ensures, c .before .before .before .before .before .before .before .before .digit2 .ensures) at (c .before .before .before .before .before .put .ensures) in
+    let o = c .before .before .before .put-outcome .ensures in
+    rendered (joined start (joined (o .0) (c .put2 .ensures)))
+    (omega (arith, start .place, c .put2 .ensures .place))
+
+pub render-line-spec : {M : Type 1} → statement M
+render-line-spec =
+    tie.close
+    (tie.spec
+    (λ c κs. search needs)
+    (λ c κs. search needs)
+    (λ c. search needs)
+    (λ c κs. search needs)
+    (λ c κs. search needs)
+    (λ c. search needs)
+    (λ c κs. search needs)
+    returns)

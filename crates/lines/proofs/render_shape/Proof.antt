@@ -1,0 +1,26 @@
+-- `lines::render_shape` meets its contract: the pieces that it writes are those of the definition.
+use native.Mathlib.Omega.{arith}
+use borrow.Author.Needs.{needs}
+use Rattle.lines.specs.Lines.{shapeLine}
+use Rattle.lines.proofs.Pieces.{joined, rendered}
+use Rattle.lines.proofs.render_shape.Statement.{statement}
+use Rattle.lines.proofs.render_shape.Tie as tie
+
+returns : tie.Need-returns
+unfolding shapeLine
+returns c =
+    let start = c .before .before .before .before .before .put .ensures in
+    let o = c .before .before .before .put-outcome .ensures in
+    rendered (joined start (joined (o .0) (c .put2 .ensures)))
+    (omega (arith, start .place, c .put2 .ensures .place))
+
+pub render-shape-spec : {M : Type 1} → statement M
+render-shape-spec =
+    tie.close
+    (tie.spec
+    (λ c. search needs)
+    (λ c κs. search needs)
+    (λ c κs. search needs)
+    (λ c. search needs)
+    (λ c κs. search needs)
+    returns)

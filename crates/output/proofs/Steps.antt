@@ -1,0 +1,180 @@
+-- Going step by step gives `output`. What makes them the same: no answer of the plain history ends the program, and behind a refused byte nothing is left.
+use Prim.Native.Nat.{ℕ, zero, suc, _≤_, _<_}
+use mathlib.Core.Path.{_≡_, refl, ap, sym, _∙_}
+use mathlib.Core.Bool.{Bool, true, false, cond, _&&_, false≢true}
+use mathlib.Core.List.{List, [], _∷_, _++_}
+use native.Mathlib.Omega.{arith}
+use lib.Dec.{leb}
+use lib.IntN.{ℤ}
+use lib.ListN.{length, drop, drop-of-length-le}
+use borrow.Author.Tests.{leb-false, leb-true, le-leb}
+use Rattle.terms.specs.Measures.{Shape, between, withinLimits, mostColumns, mostRanges, mostRecords, mostSpares}
+use Rattle.terms.specs.declared.Refusal.{Refusal}
+use Rattle.terms.specs.declared.Answer.{Answer}
+use Rattle.history.specs.History.{Call, begin, insert, update, delete, commit, abort, latest, readAt, ownRead, openScan, scanRead, sum, close, merge, release, pageCell, lineage, History, start, Test, tests, verdict, accept, refuse, Verdict, reply, read, visible, versionOf, sumOf, answer, answers, answerIf, next}
+use Rattle.lines.specs.Lines.{line, shapeLine}
+use Rattle.commands.specs.declared.Form.{Form}
+use Rattle.commands.specs.declared.Chosen.{Chosen}
+use Rattle.commands.specs.Commands.{chosen, width, callFrom, Item, itemAt, behind, items, script, cutShape, parse, shapeBytes, shapeFrom}
+use Rattle.output.specs.Output.{lent, shapeAnswer, goesOn, calls, linesOf, outputOf, output}
+use Rattle.output.specs.Steps.{answerTo, historyAfter, step, steps, written}
+
+-- ---- no answer of the plain history ends the program
+abbrev allGoOn : List Test → Bool
+allGoOn [] = true
+allGoOn (t ∷ ts) = goesOn (Answer.Refused (t .refusal)) && allGoOn ts
+
+verdict-goes-on : (ts : List Test) (a : Answer) → allGoOn ts ≡ true → goesOn a ≡ true → goesOn (answerIf (verdict ts) a) ≡ true
+unfolding verdict answerIf
+verdict-goes-on [] a p q = q
+verdict-goes-on (t ∷ ts) a p q = go (t .fails) (goesOn (Answer.Refused (t .refusal))) refl p (λ r. verdict-goes-on ts a r q)
+  where
+    go : (b g : Bool) → goesOn (Answer.Refused (t .refusal)) ≡ g → (g && allGoOn ts) ≡ true
+        → (allGoOn ts ≡ true → goesOn (answerIf (verdict ts) a) ≡ true)
+        → goesOn (answerIf (cond b (refuse (t .refusal)) (verdict ts)) a) ≡ true
+    go true true e r ih = e
+    go false true e r ih = ih r
+    go b false e r ih = absurd (false≢true r)
+
+tests-go-on : (s : Shape) (h : History) (c : Call) → allGoOn (tests s h c) ≡ true
+unfolding tests goesOn
+tests-go-on s h begin = refl
+tests-go-on s h (insert t vs) = refl
+tests-go-on s h (update t r m vs) = refl
+tests-go-on s h (delete t r) = refl
+tests-go-on s h (commit t k) = refl
+tests-go-on s h (abort t) = refl
+tests-go-on s h (latest r c) = refl
+tests-go-on s h (readAt k r c) = refl
+tests-go-on s h (ownRead t r c) = refl
+tests-go-on s h (openScan k) = refl
+tests-go-on s h (scanRead k r c) = refl
+tests-go-on s h (sum k c) = refl
+tests-go-on s h (close k) = refl
+tests-go-on s h (merge g c n) = refl
+tests-go-on s h release = refl
+tests-go-on s h (pageCell c r) = refl
+tests-go-on s h (lineage g c) = refl
+
+read-goes-on : (sees : ℕ → Bool) (h : History) (r c : ℕ) → goesOn (read sees h r c) ≡ true
+unfolding read goesOn
+read-goes-on sees h r c = go (visible sees h r) (versionOf sees h r c .value)
+  where
+    go : (b : Bool) (v : ℤ) → goesOn (cond b (Answer.Value v) Answer.None) ≡ true
+    go true v = refl
+    go false v = refl
+
+reply-goes-on : (s : Shape) (h : History) (c : Call) → goesOn (reply s h c) ≡ true
+unfolding reply sumOf goesOn
+reply-goes-on s h begin = refl
+reply-goes-on s h (insert t vs) = refl
+reply-goes-on s h (update t r m vs) = refl
+reply-goes-on s h (delete t r) = refl
+reply-goes-on s h (commit t k) = refl
+reply-goes-on s h (abort t) = refl
+reply-goes-on s h (latest r c) = read-goes-on _ h r c
+reply-goes-on s h (readAt k r c) = read-goes-on _ h r c
+reply-goes-on s h (ownRead t r c) = read-goes-on _ h r c
+reply-goes-on s h (openScan k) = refl
+reply-goes-on s h (scanRead k r c) = read-goes-on _ h r c
+reply-goes-on s h (sum k c) = refl
+reply-goes-on s h (close k) = refl
+reply-goes-on s h (merge g c n) = refl
+reply-goes-on s h release = refl
+reply-goes-on s h (pageCell c r) = refl
+reply-goes-on s h (lineage g c) = refl
+
+pub answer-goes-on : (s : Shape) (h : History) (c : Call) → goesOn (answer s h c) ≡ true
+unfolding answer
+answer-goes-on s h c = verdict-goes-on (tests s h c) (reply s h c) (tests-go-on s h c) (reply-goes-on s h c)
+
+-- ---- the steps and the items
+steps-none : (most : ℕ) (s : Shape) (h : History) → steps most s h [] ≡ []
+unfolding steps
+steps-none zero s h = refl
+steps-none (suc most) s h = refl
+
+items-none : (most columns : ℕ) → items most columns [] ≡ []
+unfolding items
+items-none zero columns = refl
+items-none (suc most) columns = refl
+
+-- the lines of a list of items, with the plain history's answers
+abbrev shown : Shape → History → List Item → List ℕ
+shown s h is = linesOf is (answers s h (calls is))
+
+-- behind a refused byte nothing is left
+last-step : (most : ℕ) (s : Shape) (h : History) (byte : ℕ) (r : Refusal) (b : Bool) (k : History)
+    → line byte (Answer.Refused r) ++ cond b (steps most s k []) [] ≡ line byte (Answer.Refused r) ++ shown s h (items most (s .columns) [])
+unfolding linesOf
+last-step most s h byte r true k = rw (steps-none most s k, items-none most (s .columns))
+last-step most s h byte r false k = rw (items-none most (s .columns))
+
+one-step : (most : ℕ) (s : Shape) (h : History) (byte : ℕ) (bs : List ℕ) (k : Chosen)
+    → ((h′ : History) (bs′ : List ℕ) → steps most s h′ bs′ ≡ shown s h′ (items most (s .columns) bs′))
+    → line byte (answerTo s h k bs) ++ cond (goesOn (answerTo s h k bs)) (steps most s (historyAfter s h k bs) (behind (s .columns) k bs)) []
+    ≡ shown s h (itemAt (s .columns) byte k bs ∷ items most (s .columns) (behind (s .columns) k bs))
+unfolding answerTo historyAfter behind itemAt linesOf calls answers
+one-step most s h byte bs (Chosen.Refused r) ih = last-step most s h byte r (goesOn (Answer.Refused r)) h
+one-step most s h byte bs (Chosen.Known f) ih = go (leb (width (s .columns) f) (length bs)) refl
+  where
+    c : Call
+    c = callFrom (s .columns) f bs
+
+    go : (b : Bool) → leb (width (s .columns) f) (length bs) ≡ b
+        → line byte (cond b (answer s h c) (Answer.Refused Refusal.Cut))
+        ++ cond (goesOn (cond b (answer s h c) (Answer.Refused Refusal.Cut))) (steps most s (next s h c) (drop (width (s .columns) f) bs)) []
+        ≡ shown s h (cond b (Item.command byte c) (Item.refused byte Refusal.Cut) ∷ items most (s .columns) (drop (width (s .columns) f) bs))
+    go true e = rw (answer-goes-on s h c) (ap (λ (l : List ℕ). line byte (answer s h c) ++ l) (ih (next s h c) (drop (width (s .columns) f) bs)))
+    go false e =
+        let short : length bs ≤ width (s .columns) f = omega (arith, leb-false (width (s .columns) f) (length bs) e) in
+        let none : drop (width (s .columns) f) bs ≡ [] = drop-of-length-le bs short in
+        rw none (last-step most s h byte Refusal.Cut (goesOn (Answer.Refused Refusal.Cut)) (next s h c))
+
+steps-are : (most : ℕ) (s : Shape) (h : History) (bs : List ℕ) → steps most s h bs ≡ shown s h (items most (s .columns) bs)
+unfolding steps step items linesOf
+steps-are zero s h bs = refl
+steps-are (suc most) s h [] = refl
+steps-are (suc most) s h (byte ∷ bs) = one-step most s h byte bs (chosen byte) (λ h′ bs′. steps-are most s h′ bs′)
+
+shape-step : (s : Shape) (l : List ℕ) → cond (goesOn (shapeAnswer s)) l [] ≡ cond (lent s) l []
+unfolding shapeAnswer goesOn
+shape-step s l = go (lent s)
+  where
+    go : (b : Bool) → cond (goesOn (cond b Answer.Done (Answer.Refused Refusal.Shape))) l [] ≡ cond b l []
+    go true = refl
+    go false = refl
+
+pub written-is-output : (bs : List ℕ) → written bs ≡ output bs
+unfolding written output parse outputOf
+written-is-output bs = go (leb shapeBytes (length bs))
+  where
+    s : Shape
+    s = shapeFrom bs
+
+    go : (b : Bool) → cond b (shapeLine (shapeAnswer s) ++ cond (goesOn (shapeAnswer s)) (steps (length bs) s start (drop shapeBytes bs)) []) (shapeLine (Answer.Refused Refusal.Cut))
+        ≡ outputOf (cond b (script s (items (length bs) (s .columns) (drop shapeBytes bs))) cutShape)
+    go true = rw (shape-step s, steps-are (length bs) s start (drop shapeBytes bs))
+    go false = refl
+
+-- ---- what is lent is within the limits of a shape
+both : (a b : Bool) → (a && b) ≡ true → (a ≡ true) × (b ≡ true)
+both true b e = (refl, e)
+both false b e = absurd (false≢true e)
+
+wider : (low high more n : ℕ) → high ≤ more → between low high n ≡ true → between low more n ≡ true
+wider low high more n h e =
+    let p = both (leb low n) (leb n high) e in
+    rw (p .0) (le-leb n more (omega (arith, leb-true n high (p .1))))
+
+pub lent-within : (s : Shape) → lent s ≡ true → withinLimits s ≡ true
+unfolding lent withinLimits
+lent-within s e =
+    let p = both (between 1 4 (s .columns) && between 1 4 (s .ranges) && between 1 64 (s .capacity)) (between 0 16 (s .spares)) e in
+    let q = both (between 1 4 (s .columns) && between 1 4 (s .ranges)) (between 1 64 (s .capacity)) (p .0) in
+    let r = both (between 1 4 (s .columns)) (between 1 4 (s .ranges)) (q .0) in
+    let columns = wider 1 4 mostColumns (s .columns) (omega arith) (r .0) in
+    let ranges = wider 1 4 mostRanges (s .ranges) (omega arith) (r .1) in
+    let records = wider 1 64 mostRecords (s .capacity) (omega arith) (q .1) in
+    let spares = wider 0 16 mostSpares (s .spares) (omega arith) (p .1) in
+    rw (columns, ranges, records, spares)

@@ -1,0 +1,41 @@
+-- Document 01's worked example, and inputs that end in other ways, by computation.
+use mathlib.Core.Path.{_≡_, refl}
+use mathlib.Core.List.{List, [], _∷_, _++_}
+use Prim.Native.Nat.{ℕ}
+use Rattle.lines.specs.Lines.{text}
+use Rattle.output.specs.Output.{output}
+
+-- "Shape 2, 1, 4, 1"
+unfoldable pub shape : List ℕ
+shape = 2 ∷ 1 ∷ 4 ∷ 0 ∷ 1 ∷ 0 ∷ []
+
+-- "begin; insert 1 (1200, −30); commit 1 at 10; begin; update 2, row 0, mask 1 (1250, 0); latest 0, 0; commit 2 at 20; merge 0, 0, 2; read at 10, 0, 0; page cell 0, 0; merge again."
+unfoldable pub example : List ℕ
+example =
+    shape
+    ++ 1 ∷ []
+    ++ 2 ∷ 1 ∷ 0 ∷ 176 ∷ 4 ∷ 0 ∷ 0 ∷ 226 ∷ 255 ∷ 255 ∷ 255 ∷ []
+    ++ 5 ∷ 1 ∷ 0 ∷ 10 ∷ 0 ∷ 0 ∷ 0 ∷ []
+    ++ 1 ∷ []
+    ++ 3 ∷ 2 ∷ 0 ∷ 0 ∷ 0 ∷ 1 ∷ 0 ∷ 226 ∷ 4 ∷ 0 ∷ 0 ∷ 0 ∷ 0 ∷ 0 ∷ 0 ∷ []
+    ++ 7 ∷ 0 ∷ 0 ∷ 0 ∷ []
+    ++ 5 ∷ 2 ∷ 0 ∷ 20 ∷ 0 ∷ 0 ∷ 0 ∷ []
+    ++ 14 ∷ 0 ∷ 0 ∷ 2 ∷ 0 ∷ []
+    ++ 8 ∷ 10 ∷ 0 ∷ 0 ∷ 0 ∷ 0 ∷ 0 ∷ 0 ∷ []
+    ++ 16 ∷ 0 ∷ 0 ∷ 0 ∷ []
+    ++ 14 ∷ 0 ∷ 0 ∷ 2 ∷ 0 ∷ []
+
+unfoldable pub lines : List ℕ
+lines =
+    text "shape ok\n"
+    ++ text "01 ok 1\n"
+    ++ text "02 ok 0\n"
+    ++ text "05 ok\n"
+    ++ text "01 ok 2\n"
+    ++ text "03 ok 2\n"
+    ++ text "07 ok 1200\n"
+    ++ text "05 ok\n"
+    ++ text "0E ok\n"
+    ++ text "08 ok 1200\n"
+    ++ text "10 ok 1250\n"
+    ++ text "0E no 16\n"

@@ -1,0 +1,58 @@
+-- What `gatebook` must write for an input: document 01, "Commands". The input is parsed, the plain history answers its calls, and each answer is a line.
+-- Every definition here is executable.
+use mathlib.Core.Bool.{Bool, true, cond, _&&_}
+use mathlib.Core.List.{List, [], _∷_, _++_}
+use Prim.Native.Nat.{ℕ}
+use Rattle.terms.specs.Measures.{Shape, between}
+use Rattle.terms.specs.Refusals.{refusalNumber}
+use Rattle.terms.specs.declared.Refusal.{Refusal}
+use Rattle.terms.specs.declared.Answer.{Answer}
+use Rattle.history.specs.History.{Call, start, answers}
+use Rattle.lines.specs.Lines.{line, shapeLine}
+use Rattle.commands.specs.Commands.{Item, command, refused, Script, cutShape, script, parse}
+
+-- "`gatebook` lends memory for 4 columns, 4 ranges, 64 tail records, 16 spares and answers 1 above that." Each of these is within the limits of a shape, so
+-- that a shape outside the limits is answered 1 as well (proofs/Steps.antt, `lent-within`).
+unfoldable pub lent : Shape → Bool
+lent s = between 1 4 (s .columns) && between 1 4 (s .ranges) && between 1 64 (s .capacity) && between 0 16 (s .spares)
+
+-- what the shape is answered
+unfoldable pub shapeAnswer : Shape → Answer
+shapeAnswer s = cond (lent s) Answer.Done (Answer.Refused Refusal.Shape)
+
+-- "It goes on after 2 to 18 and ends after the others."
+unfoldable pub goesOn : Answer → Bool
+goesOn (Answer.Refused r) = between 2 18 (refusalNumber r)
+goesOn Answer.Done = true
+goesOn (Answer.Number n) = true
+goesOn (Answer.Value v) = true
+goesOn Answer.None = true
+goesOn (Answer.Sum n s) = true
+goesOn (Answer.Lineage n used) = true
+
+-- the calls among the items
+unfoldable pub calls : List Item → List Call
+calls [] = []
+calls (command byte c ∷ is) = c ∷ calls is
+calls (refused byte r ∷ is) = calls is
+
+-- A line for each item: the calls have the given answers, in order. "A cut command still prints its byte".
+unfoldable pub linesOf : List Item → List Answer → List ℕ
+linesOf [] given = []
+linesOf (command byte c ∷ is) [] = []
+linesOf (command byte c ∷ is) (a ∷ given) = line byte a ++ linesOf is given
+linesOf (refused byte r ∷ is) given = line byte (Answer.Refused r) ++ linesOf is given
+
+unfoldable pub outputOf : Script → List ℕ
+outputOf cutShape = shapeLine (Answer.Refused Refusal.Cut)
+outputOf (script s is) =
+    shapeLine (shapeAnswer s) ++ cond (lent s) (linesOf is (answers s start (calls is))) []
+
+-- "empty input prints "shape no 20". Input that ends between commands adds no line."
+unfoldable pub output : List ℕ → List ℕ
+output bs = outputOf (parse bs)
+
+-- One name for what all of these unfold to, for a proof's `unfolding` line.
+unfoldable pub writing : Unit {0}
+unfolding lent shapeAnswer goesOn calls linesOf outputOf output
+writing = tt

@@ -1,0 +1,33 @@
+// The two decisions of `gatebook` that no call of the store makes: which shapes it lends memory for, and after which answers it goes on.
+use commands::Measures;
+use loops::and_between;
+use terms::Answer;
+use terms::number;
+ghost use mathlib.Core.Path.{_≡_};
+ghost use Rattle.commands.specs.Decoded.{shapeIn};
+ghost use Rattle.output.specs.Output.{goesOn, lent};
+
+// "`gatebook` lends memory for 4 columns, 4 ranges, 64 tail records, 16 spares and answers 1 above that."
+pub fn lends(m: Measures) -> bool
+    ensures { λ r. ⌜ r ≡ lent (shapeIn m) ⌝ }
+{
+    let columns = and_between(true, 1, 4, m.columns);
+    let ranges = and_between(columns, 1, 4, m.ranges);
+    let capacity = and_between(ranges, 1, 64, m.capacity);
+    and_between(capacity, 0, 16, m.spares)
+}
+
+// "It goes on after 2 to 18 and ends after the others."
+pub fn goes_on(answer: Answer) -> bool
+    ensures { λ r. ⌜ r ≡ goesOn answer ⌝ }
+{
+    match answer {
+        Answer::Refused(why) => and_between(true, 2, 18, number(why)),
+        Answer::Done => true,
+        Answer::Number(_) => true,
+        Answer::Value(_) => true,
+        Answer::None => true,
+        Answer::Sum(_, _) => true,
+        Answer::Lineage(_, _) => true,
+    }
+}

@@ -1,0 +1,202 @@
+-- The demands hold.
+use Prim.Native.Nat.{ℕ, _≤_, _<_}
+use mathlib.Core.Path.{_≡_, refl, ap, sym, _∙_}
+use mathlib.Core.Bool.{Bool, true, false, not}
+use mathlib.Core.List.{List}
+use lib.Dec.{T, leb, nleb→lt}
+use lib.ListN.{length, replicate}
+use borrow.Author.Tests.{leb-true}
+use Rattle.terms.specs.Measures.{Shape, withinLimits, mostScans}
+use Rattle.terms.specs.declared.Answer.{Answer}
+use Rattle.terms.specs.declared.Place.{Place}
+use Rattle.terms.specs.declared.Refusal.{Refusal}
+use Rattle.words.specs.Words.{words}
+use Rattle.layout.specs.Sizes.{sizesOf, bytesNeeded}
+use Rattle.layout.specs.View.{View, view, lay}
+use Rattle.layout.proofs.Lay.{view-lay}
+use Rattle.history.specs.History.{Call, History, start, answer, next, run, tests, reply, verdict, Verdict, accept, answerIf, read, seenAt, notGiven, noColumn}
+use Rattle.history.specs.Claims.{strike, Reads, latest-reads, at-reads, scan-reads, isRefused, answerAt, ReadAt, Striking, Stability}
+use Rattle.history.proofs.Lists.{All, nil, cons, all-keep, is-true, clash}
+use Rattle.history.proofs.Accepted.{Passed, passed}
+use Rattle.history.proofs.Striking.{striking}
+use Rattle.history.proofs.Stability.{stability}
+use Rattle.making.specs.Made.{made, madeView, madeList}
+use Rattle.making.proofs.Usable.{made-long, made-fits}
+use Rattle.making.proofs.Answers.{laid as making-laid}
+use Rattle.model.specs.Stored.{freePlace}
+use Rattle.model.specs.Writing.{made as modelMade}
+use Rattle.model.specs.Calls.{Typed, viewNext, viewAfter, listAfter as modelList}
+use Rattle.model.specs.Claims.{storeAfter, historyAfter}
+use Rattle.model.proofs.Heads.{sees-at}
+use Rattle.model.proofs.Calls.{current-read, one-call}
+use Rattle.model.proofs.Claims.{represented, reads, pages-hold, scans-keep}
+use Rattle.promise.specs.Promise.{storeView, answerOf, memoryAfter, listAfter}
+use Rattle.promise.specs.Demands.{Accepted, memoryMade, storeAnswers, memoryLeft, listLeft, storeMemory, storeList, MakingAccepted, ReadsCommitted, PagesCommitted, ScansKept, Demand3, StrikingStore, storeAnswerAt, ReadIn, StabilityStore}
+use Rattle.promise.proofs.Same.{Same, made-same, made-starts, view-is, memory-is, list-is, same-call, same-answers}
+
+-- ---- an accepted making: its measures are within their limits, and memory and list are long enough
+record Enough (S : Shape) (m : List ℕ) (ps : List Place) : Type 0 where
+  within : withinLimits S ≡ true
+  room : bytesNeeded S ≤ length m
+  places : mostScans ≤ length ps
+  left : memoryMade S m ps ≡ lay (sizesOf S) (madeView S) m
+
+enough : (S : Shape) (m : List ℕ) (ps : List Place) → Accepted S m ps → Enough S m ps
+unfolding made bytesNeeded
+enough S m ps a = go (withinLimits S) refl (leb (bytesNeeded S) (length m)) refl (leb mostScans (length ps)) refl a
+  where
+    not-done : (r : Refusal) → Answer.Refused r ≡ Answer.Done → ⊥
+    not-done r q = clash (cc)
+
+    go : (b : Bool) → withinLimits S ≡ b → (c : Bool) → leb (bytesNeeded S) (length m) ≡ c → (d : Bool) → leb mostScans (length ps) ≡ d → Accepted S m ps → Enough S m ps
+    go false x c y d z f = absurd (not-done Refusal.Shape (rw x at f))
+    go true x false y d z f = absurd (not-done Refusal.Memory (rw (x, y) at f))
+    go true x true y false z f = absurd (not-done Refusal.Memory (rw (x, y, z) at f))
+    go true x true y true z f =
+        let room = leb-true (bytesNeeded S) (length m) y in
+        let places = leb-true mostScans (length ps) z in
+        record {
+          within = x;
+          room = room;
+          places = places;
+          left = sym (ap (λ (w : Answer × List ℕ). w .1) (making-laid S (length ps) m x room places (lay (sizesOf S) (madeView S) m) refl));
+        }
+
+pub making-accepted : MakingAccepted
+unfolding MakingAccepted bytesNeeded
+making-accepted S m ps t b n =
+    sym (ap (λ (w : Answer × List ℕ). w .0) (making-laid S (length ps) m (is-true (withinLimits S) t) b n (lay (sizesOf S) (madeView S) m) refl))
+
+-- what it left represents the empty history
+from-making : (S : Shape) (m : List ℕ) (ps : List Place) → Accepted S m ps → Same (memoryMade S m ps) (madeList ps) S start
+from-making S m ps a = let e = enough S m ps a in rw (e .left) (made-starts S m ps (e .within) (e .room) (e .places))
+
+-- ---- demand 3
+pub demand3 : Demand3
+unfolding Demand3 storeAnswers
+demand3 S m ps a cs ys = same-answers (memoryMade S m ps) (madeList ps) S start (from-making S m ps a) ys
+
+pub striking-store : StrikingStore
+unfolding StrikingStore Demand3 strike Striking
+striking-store S m ps a cs ys =
+    rw (demand3 S m ps a cs ys, demand3 S m ps a (strike cs) (all-keep _ ys)) (striking S cs)
+
+-- a read of the store's list is one of the history's
+read-in : (S : Shape) (m : List ℕ) (ps : List Place) → Accepted S m ps → (cs : List Call) → All Typed cs → (i t r c : ℕ) → ReadIn S m ps cs i t r c → ReadAt S cs i t r c
+unfolding Demand3 storeAnswerAt answerAt
+read-in S m ps a cs ys i t r c x =
+    record { inside = x .inside; reads = x .reads; accepted = rw (demand3 S m ps a cs ys) at (x .accepted) }
+
+pub stability-store : StabilityStore
+unfolding StabilityStore Demand3 storeAnswerAt answerAt Stability
+stability-store S m ps a cs ys i j t r c x y =
+    rw (demand3 S m ps a cs ys)
+    (stability S cs i j t r c (read-in S m ps a cs ys i t r c x) (read-in S m ps a cs ys j t r c y))
+
+-- ---- the memory and the list after a list of calls
+record Left (m : List ℕ) (ps : List Place) (S : Shape) (h : History) (cs : List Call) : Type 0 where
+  same : Same (memoryLeft m ps cs) (listLeft m ps cs) S (run S h cs)
+  shown : view (sizesOf S) (words (memoryLeft m ps cs)) ≡ viewAfter S (view (sizesOf S) (words m)) ps cs
+  list : listLeft m ps cs ≡ modelList S (view (sizesOf S) (words m)) ps cs
+
+view-next : (m : List ℕ) (ps : List Place) (S : Shape) (h : History) → Same m ps S h → (c : Call) → Typed c
+    → view (sizesOf S) (words (memoryAfter m ps c)) ≡ viewNext S (view (sizesOf S) (words m)) ps c
+view-next m ps S h o c y =
+    let whole = (one-call S (view (sizesOf S) (words m)) ps h c y (o .shown) (o .known) .1) .whole in
+    rw (memory-is m ps S h o c) (view-lay (sizesOf S) (viewNext S (view (sizesOf S) (words m)) ps c) m (whole .long) (whole .fits))
+
+calls-left : (m : List ℕ) (ps : List Place) (S : Shape) (h : History) → Same m ps S h → {cs : List Call} → All Typed cs → Left m ps S h cs
+unfolding memoryLeft listLeft run viewAfter modelList
+calls-left m ps S h o nil = record { same = o; shown = refl; list = refl }
+calls-left m ps S h o (cons {x = c} {l = cs} y ys) =
+    let l = calls-left (memoryAfter m ps c) (listAfter m ps c) S (next S h c) (same-call m ps S h o c y .1) ys in
+    record {
+      same = l .same;
+      shown = rw (← view-next m ps S h o c y, ← list-is m ps S h o c) (l .shown);
+      list = rw (← view-next m ps S h o c y, ← list-is m ps S h o c) (l .list);
+    }
+
+-- from a making: the view is that of the model
+module _ (S : Shape) (m : List ℕ) (ps : List Place) (a : Accepted S m ps) {cs : List Call} (ys : All Typed cs) where
+  view-made : view (sizesOf S) (words (memoryMade S m ps)) ≡ modelMade S
+  view-made =
+      let e = enough S m ps a in
+      rw (e .left) (view-lay (sizesOf S) (madeView S) m (made-long S (e .within)) (made-fits S (e .within)) ∙ sym (made-same S))
+
+  left : Left (memoryMade S m ps) (madeList ps) S start cs
+  left = calls-left (memoryMade S m ps) (madeList ps) S start (from-making S m ps a) ys
+
+  -- the store's memory and list, as the demands name them
+  store-same : Same (storeMemory S m ps cs) (storeList S m ps cs) S (historyAfter S cs)
+  unfolding storeMemory storeList historyAfter
+  store-same = left .same
+
+  words-left : view (sizesOf S) (words (storeMemory S m ps cs)) ≡ storeAfter S (length ps) cs
+  unfolding storeMemory storeAfter
+  words-left = left .shown ∙ ap (λ (v : View). viewAfter S v (madeList ps) cs) view-made
+
+  list-left : storeList S m ps cs ≡ modelList S (modelMade S) (replicate (length ps) freePlace) cs
+  unfolding storeList
+  list-left = left .list ∙ ap (λ (v : View). modelList S v (madeList ps) cs) view-made
+
+  pub view-left : storeView (storeMemory S m ps cs) ≡ storeAfter S (length ps) cs
+  view-left = view-is (storeMemory S m ps cs) (storeList S m ps cs) S (historyAfter S cs) store-same ∙ words-left
+
+  -- and after further calls
+  view-later : {ds : List Call} → All Typed ds
+      → storeView (memoryLeft (storeMemory S m ps cs) (storeList S m ps cs) ds)
+      ≡ viewAfter S (storeAfter S (length ps) cs) (modelList S (modelMade S) (replicate (length ps) freePlace) cs) ds
+  view-later {ds} zs =
+      let l = calls-left (storeMemory S m ps cs) (storeList S m ps cs) S (historyAfter S cs) store-same zs in
+      view-is (memoryLeft (storeMemory S m ps cs) (storeList S m ps cs) ds) (listLeft (storeMemory S m ps cs) (storeList S m ps cs) ds) S (run S (historyAfter S cs) ds) (l .same)
+      ∙ l .shown
+      ∙ ap (λ (v : View). viewAfter S v (storeList S m ps cs) ds) words-left
+      ∙ ap (λ (l : List Place). viewAfter S (storeAfter S (length ps) cs) l ds) list-left
+
+-- ---- demand 2
+accepted-if : (S : Shape) (h : History) (x : Call) → T (not (isRefused (answer S h x))) → verdict (tests S h x) ≡ accept
+unfolding answer answerIf
+accepted-if S h x = go (verdict (tests S h x))
+  where
+    go : (w : Verdict) → T (not (isRefused (answerIf w (reply S h x)))) → w ≡ accept
+    go accept n = refl
+
+-- what a read that is not refused answers, and that its row and column are there
+read-answers : (S : Shape) (h : History) {x : Call} {t r c : ℕ} → Reads h x t r c → verdict (tests S h x) ≡ accept → answer S h x ≡ read (seenAt h t) h r c
+unfolding answer answerIf reply
+read-answers S h latest-reads e = rw e
+read-answers S h at-reads e = rw e
+read-answers S h scan-reads e = rw e
+
+read-inside : (S : Shape) (h : History) {x : Call} {t r c : ℕ} → Reads h x t r c → Passed (tests S h x) → (r < length (h .rows)) × (c < S .columns)
+unfolding tests notGiven noColumn
+read-inside S h {r = r} {c = c} latest-reads p = (nleb→lt (length (h .rows)) r (p .0), nleb→lt (S .columns) c (p .1 .0))
+read-inside S h {r = r} {c = c} at-reads p = (nleb→lt (length (h .rows)) r (p .1 .0), nleb→lt (S .columns) c (p .1 .1 .0))
+read-inside S h {r = r} {c = c} scan-reads p = (nleb→lt (length (h .rows)) r (p .1 .0), nleb→lt (S .columns) c (p .1 .1 .0))
+
+pub reads-committed : ReadsCommitted
+unfolding ReadsCommitted Rattle.model.specs.Claims.Reads
+reads-committed S m ps a cs ys x t r c y q n =
+    let h = historyAfter S cs in
+    let e : answerOf (storeMemory S m ps cs) (storeList S m ps cs) x ≡ answer S h x =
+    same-call (storeMemory S m ps cs) (storeList S m ps cs) S h (store-same S m ps a ys) x y .0 in
+    let w : verdict (tests S h x) ≡ accept = accepted-if S h x (rw e at n) in
+    let b = read-inside S h q (passed (tests S h x) w) in
+    let u = enough S m ps a in
+    let o = represented S (rw (u .within) tt) (length ps) (u .places) ys in
+    e ∙ read-answers S h q w
+    ∙ sym (current-read S (storeAfter S (length ps) cs) _ h (o .0) (o .1) t 0 r c (seenAt h t) (sees-at h t) (b .0) (b .1))
+    ∙ reads S (rw (u .within) tt) (length ps) (u .places) cs ys t r c (b .0) (b .1)
+
+pub pages-committed : PagesCommitted
+unfolding PagesCommitted Rattle.model.specs.Claims.PagesHold
+pages-committed S m ps a cs ys g c b d =
+    let u = enough S m ps a in
+    rw (view-left S m ps a ys) (pages-hold S (rw (u .within) tt) (length ps) (u .places) cs ys g c b d)
+
+pub scans-kept : ScansKept
+unfolding ScansKept Rattle.model.specs.Claims.ScansKeep
+scans-kept S m ps a cs ys s later zs e t g c b d =
+    let u = enough S m ps a in
+    rw (view-left S m ps a ys, view-later S m ps a ys zs)
+    (scans-keep S (rw (u .within) tt) (length ps) (u .places) cs later s ys zs e t g c b d)

@@ -1,0 +1,137 @@
+-- A lent memory and scan list that represent a history of a shape, and that every call keeps it so: the one relation between bytes and the plain history.
+use Prim.Native.Nat.{ℕ, _+_, _*_, _≤_, _<_}
+use mathlib.Core.Path.{_≡_, refl, ap, sym, _∙_, fun-ext}
+use mathlib.Core.Bool.{true}
+use mathlib.Core.List.{List, map}
+use native.Mathlib.Omega.{arith}
+use native.Mathlib.Nat.{zero-add}
+use lib.ListN.{length, getD, drop, length-append, length-drop}
+use borrow.Author.Tests.{le-leb}
+use Rattle.terms.specs.Measures.{Shape, withinLimits, mostScans}
+use Rattle.terms.specs.declared.Place.{Place}
+use Rattle.words.specs.Words.{words, bytes}
+use Rattle.words.proofs.Words.{length-bytes}
+use Rattle.layout.specs.declared.Sizes.{Sizes}
+use Rattle.layout.specs.declared.Region.{Region}
+use Rattle.layout.specs.declared.Region.the-variants.{Header}
+use Rattle.layout.specs.Cut.{join, endFrom}
+use Rattle.layout.specs.Regions.{all, lens, need, base}
+use Rattle.layout.specs.Sizes.{sizesOf, bytesNeeded}
+use Rattle.layout.specs.View.{View, view, renew, put, fill, number, lay}
+use Rattle.layout.proofs.Cut.{join-length}
+use Rattle.layout.proofs.View.{Long, view-at}
+use Rattle.layout.proofs.Lay.{view-lay}
+use Rattle.history.specs.History.{Call, History, start, answer, answers, next}
+use Rattle.history.proofs.Lists.{All, nil, cons}
+use Rattle.history.proofs.Past.{past-start}
+use Rattle.facts.specs.Usable.{measuresBytes, shapeIn, sizesIn, usable}
+use Rattle.making.specs.Made.{blankView, placedView, madeView, madeList}
+use Rattle.model.specs.Writing.{blank, made}
+use Rattle.model.specs.Calls.{Typed, say, viewNext, placesNext}
+use Rattle.model.proofs.Represents.{Represents, Known}
+use Rattle.model.proofs.Calls.{known-next, one-call}
+use Rattle.model.proofs.Made.{small-shape, made-represents}
+use Rattle.promise.specs.Promise.{storeView, answerOf, memoryAfter, listAfter, answersOf}
+use Rattle.promise.proofs.Stored.{represented-facts}
+
+-- The view by the shape represents the history, and there are the bytes for it. That the memory says this shape, and that it is usable, follows.
+pub record Same (m : List ℕ) (ps : List Place) (S : Shape) (h : History) : Type 0 where
+  pub within : withinLimits S ≡ true
+  pub room : bytesNeeded S ≤ length m
+  pub known : Known S h
+  pub shown : Represents S (view (sizesOf S) (words m)) ps h
+
+-- ---- what is laid is as long as it was
+pub lay-length : (s : Sizes) (v : View) (m : List ℕ) → Long s v → need s * 4 ≤ length m → length (lay s v m) ≡ length m
+unfolding lay need
+lay-length s v m long room =
+    let j : 0 + length (join (map v all)) ≡ endFrom 0 (lens s) = join-length 0 (map v all) ∙ ap (λ (f : Region → ℕ). endFrom 0 (map f all)) (fun-ext long) in
+    length-append (bytes (join (map v all))) (drop (endFrom 0 (lens s) * 4) m)
+    ∙ omega (arith, length-bytes (join (map v all)), length-drop (endFrom 0 (lens s) * 4) m)
+
+-- a view that represents a history, laid over a memory, is that memory's view
+pub laid : (S : Shape) (v : View) (m : List ℕ) (ps : List Place) (h : History) → withinLimits S ≡ true → bytesNeeded S ≤ length m → Known S h → Represents S v ps h
+    → Same (lay (sizesOf S) v m) ps S h
+unfolding bytesNeeded
+laid S v m ps h w b k o =
+    record {
+      within = w;
+      room = rw (lay-length (sizesOf S) v m (o .whole .long) b) b;
+      known = k;
+      shown = rw (view-lay (sizesOf S) v m (o .whole .long) (o .whole .fits)) o;
+    }
+
+-- ---- making
+pub made-same : (S : Shape) → made S ≡ madeView S
+unfolding made madeView placedView blank blankView put fill number renew
+made-same S = refl
+
+pub made-starts : (S : Shape) (m : List ℕ) (ps : List Place) → withinLimits S ≡ true → bytesNeeded S ≤ length m → mostScans ≤ length ps
+    → Same (lay (sizesOf S) (madeView S) m) (madeList ps) S start
+made-starts S m ps w b n =
+    let small = small-shape S (rw w tt) in
+    laid S (madeView S) m (madeList ps) start w b record { small = small; past = past-start S }
+    (rw (← made-same S) (made-represents S small (length ps) n))
+
+-- ---- a memory that represents a history
+module _ (m : List ℕ) (ps : List Place) (S : Shape) (h : History) (o : Same m ps S h) where
+  header-at : (i : ℕ) → i < 16 → getD (words m) i 0 ≡ getD (view (sizesOf S) (words m) Header) i 0
+  unfolding base
+  header-at i b = sym (rw (zero-add i) at (view-at (sizesOf S) (words m) Header i b))
+
+  pub shape-said : shapeIn (words m) ≡ S
+  unfolding shapeIn
+  shape-said =
+      let x = o .shown .header in
+      rw (header-at 0 (omega arith) ∙ x .columns, header-at 1 (omega arith) ∙ x .ranges, header-at 2 (omega arith) ∙ x .capacity, header-at 3 (omega arith) ∙ x .spares)
+
+  measures-there : measuresBytes ≤ length m
+  unfolding bytesNeeded need
+  measures-there = omega (arith, o .room)
+
+  pub same-usable : usable m ps ≡ true
+  unfolding usable sizesIn bytesNeeded
+  same-usable =
+      rw (
+        shape-said,
+        o .within,
+        le-leb measuresBytes (length m) measures-there,
+        le-leb (need (sizesOf S) * 4) (length m) (o .room),
+        le-leb mostScans (length ps) (o .shown .scans .room),
+      )
+      (represented-facts S (view (sizesOf S) (words m)) ps h (o .shown) (o .known) (o .within))
+
+  abbrev seen : View
+  seen = view (sizesOf S) (words m)
+
+  pub view-is : storeView m ≡ seen
+  unfolding storeView sizesIn
+  view-is = rw shape-said
+
+  pub answer-is : (c : Call) → answerOf m ps c ≡ say S seen ps c
+  unfolding answerOf
+  answer-is c = rw (same-usable, shape-said, view-is)
+
+  pub memory-is : (c : Call) → memoryAfter m ps c ≡ lay (sizesOf S) (viewNext S seen ps c) m
+  unfolding memoryAfter sizesIn
+  memory-is c = rw (same-usable, shape-said, view-is)
+
+  pub list-is : (c : Call) → listAfter m ps c ≡ placesNext S seen ps c
+  unfolding listAfter
+  list-is c = rw (same-usable, shape-said, view-is)
+
+  -- one call: it answers as the history does, and what it leaves represents the history after it
+  pub same-call : (c : Call) → Typed c → (answerOf m ps c ≡ answer S h c) × Same (memoryAfter m ps c) (listAfter m ps c) S (next S h c)
+  same-call c y =
+      let one = one-call S seen ps h c y (o .shown) (o .known) in (
+        answer-is c ∙ one .0,
+        rw (memory-is c, list-is c) (laid S (viewNext S seen ps c) m (placesNext S seen ps c) (next S h c) (o .within) (o .room) (known-next c (o .known)) (one .1)),
+      )
+
+-- every list of calls
+pub same-answers : (m : List ℕ) (ps : List Place) (S : Shape) (h : History) → Same m ps S h → {cs : List Call} → All Typed cs → answersOf m ps cs ≡ answers S h cs
+unfolding answersOf answers
+same-answers m ps S h o nil = refl
+same-answers m ps S h o (cons {x = c} {l = cs} y ys) =
+    let one = same-call m ps S h o c y in
+    rw (one .0, same-answers (memoryAfter m ps c) (listAfter m ps c) S (next S h c) (one .1) ys)

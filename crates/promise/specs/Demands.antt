@@ -1,0 +1,125 @@
+-- The three demands of document 00, stated of the bytes that the calls leave and of the answers that they give. proofs/Demands.antt proves each.
+-- What a call answers and leaves is in Promise, which the contracts of the calls cite, and what a making answers and leaves is `made`, which the contract of
+-- `make` cites. The plain history is History; what is committed, and what a page holds, is said in the Claims of the history and of the model.
+-- A memory is any list of numbers here, so that every list of bytes is one.
+use mathlib.Core.Path.{_≡_}
+use mathlib.Core.Bool.{false, not}
+use mathlib.Core.List.{List, [], _∷_}
+use Prim.Native.Nat.{ℕ, suc, _≤_, _<_}
+use lib.Dec.{T}
+use lib.ListN.{length, getD}
+use Rattle.terms.specs.Measures.{Shape, withinLimits, mostScans}
+use Rattle.terms.specs.declared.Answer.{Answer}
+use Rattle.terms.specs.declared.Place.{Place}
+use Rattle.terms.specs.declared.Refusal.{Refusal}
+use Rattle.words.proofs.Words.{Bytes}
+use Rattle.layout.specs.Sizes.{bytesNeeded}
+use Rattle.history.specs.History.{Call, openScan, start, answers, run, tests, verdict, accept, scanAt}
+use Rattle.history.specs.Claims.{strike, plainAnswers, Reads, isRefused, historyBefore, callAt}
+use Rattle.history.proofs.Lists.{All}
+use Rattle.facts.specs.Usable.{usable}
+use Rattle.making.specs.Made.{made, madeList}
+use Rattle.model.specs.Calls.{Typed}
+use Rattle.model.specs.Claims.{historyAfter, lastCommitted, PageHolds, PageKept}
+use Rattle.promise.specs.Promise.{storeView, answerOf, memoryAfter, listAfter, answersOf}
+
+-- ---- "The list starts from what an accepted making left, whatever memory and scan list held before": m and ps are what they held
+abbrev pub Accepted : Shape → List ℕ → List Place → Type 0
+Accepted S m ps = made S (length ps) m .0 ≡ Answer.Done
+
+abbrev pub memoryMade : Shape → List ℕ → List Place → List ℕ
+memoryMade S m ps = made S (length ps) m .1
+
+-- a making is accepted wherever document 01 lets it be, so that no claim here speaks of nothing
+unfoldable pub MakingAccepted : Type 0
+MakingAccepted = (S : Shape) (m : List ℕ) (ps : List Place) → T (withinLimits S) → bytesNeeded S ≤ length m → mostScans ≤ length ps → Accepted S m ps
+
+-- a claim for every accepted making and every list of calls whose numbers fit the types of the operands
+abbrev pub Every : (Shape → List ℕ → List Place → List Call → Type 0) → Type 0
+Every P = (S : Shape) (m : List ℕ) (ps : List Place) → Accepted S m ps → (cs : List Call) → All Typed cs → P S m ps cs
+
+-- the answers of the store to a list of calls, and the memory and the scan list after it
+unfoldable pub storeAnswers : Shape → List ℕ → List Place → List Call → List Answer
+storeAnswers S m ps cs = answersOf (memoryMade S m ps) (madeList ps) cs
+
+unfoldable pub memoryLeft : List ℕ → List Place → List Call → List ℕ
+memoryLeft m ps [] = m
+memoryLeft m ps (c ∷ cs) = memoryLeft (memoryAfter m ps c) (listAfter m ps c) cs
+
+unfoldable pub listLeft : List ℕ → List Place → List Call → List Place
+listLeft m ps [] = ps
+listLeft m ps (c ∷ cs) = listLeft (memoryAfter m ps c) (listAfter m ps c) cs
+
+unfoldable pub storeMemory : Shape → List ℕ → List Place → List Call → List ℕ
+storeMemory S m ps cs = memoryLeft (memoryMade S m ps) (madeList ps) cs
+
+unfoldable pub storeList : Shape → List ℕ → List Place → List Call → List Place
+storeList S m ps cs = listLeft (memoryMade S m ps) (madeList ps) cs
+
+-- ---- demand 1, for any numbers over any memory and any list
+-- "refused with its number from document 01, on the stated condition only": 2 for a memory or list that is not usable, and for nothing else. The other
+-- numbers stand with their conditions in the model's `testsIn`.
+unfoldable pub RefusedMemory : Type 0
+RefusedMemory =
+    (m : List ℕ) (ps : List Place) (c : Call)
+    → (usable m ps ≡ false → answerOf m ps c ≡ Answer.Refused Refusal.Memory) × (answerOf m ps c ≡ Answer.Refused Refusal.Memory → usable m ps ≡ false)
+
+-- "and changes no byte"
+unfoldable pub RefusedKeeps : Type 0
+RefusedKeeps =
+    (m : List ℕ) (ps : List Place) (c : Call) (n : Refusal) → Bytes m → answerOf m ps c ≡ Answer.Refused n
+    → (memoryAfter m ps c ≡ m) × (listAfter m ps c ≡ ps)
+
+-- ---- demand 2
+-- "each read gives the value last committed for that row and column at or before the stamp read": a latest read, a read at and a scan read that is not
+-- refused, after any calls
+unfoldable pub ReadsCommitted : Type 0
+ReadsCommitted =
+    Every
+    (λ S m ps cs.
+    (x : Call) (t r c : ℕ) → Typed x → Reads (historyAfter S cs) x t r c → T (not (isRefused (answerOf (storeMemory S m ps cs) (storeList S m ps cs) x)))
+    → answerOf (storeMemory S m ps cs) (storeList S m ps cs) x ≡ lastCommitted (historyAfter S cs) t r c)
+
+-- "each merged page, while current, holds, for every row, the last committed setting among the tail records it has taken in, and for a row with none the
+-- value it was inserted with, or 0 if that row was never inserted"
+unfoldable pub PagesCommitted : Type 0
+PagesCommitted =
+    Every
+    (λ S m ps cs.
+    (g c : ℕ) → g < S .ranges → c < S .columns → PageHolds S (storeView (storeMemory S m ps cs)) (historyAfter S cs) g c)
+
+-- document 01, "An open scan reads the pages that were current at its opening": whatever is called while it is open
+unfoldable pub ScansKept : Type 0
+ScansKept =
+    Every
+    (λ S m ps cs.
+    (s : ℕ) (later : List Call) → All Typed (openScan s ∷ later) → verdict (tests S (historyAfter S cs) (openScan s)) ≡ accept
+    → T (scanAt (run S (historyAfter S cs) (openScan s ∷ later)) (suc (length ((historyAfter S cs) .scans))) .running) → (g c : ℕ) → g < S .ranges → c < S .columns
+    → PageKept S (storeView (storeMemory S m ps cs))
+    (storeView (memoryLeft (storeMemory S m ps cs) (storeList S m ps cs) (openScan s ∷ later)))
+    (run S (historyAfter S cs) (openScan s ∷ later)) (suc (length ((historyAfter S cs) .scans))) g c (length ((historyAfter S cs) .rows)))
+
+-- ---- demand 3
+-- "the store and the plain version history of document 01 give the same answer at every call"
+unfoldable pub Demand3 : Type 0
+Demand3 = Every (λ S m ps cs. storeAnswers S m ps cs ≡ answers S start cs)
+
+-- "Strike every merge and release from the list and no other answer changes, except those of page cell and lineage"
+unfoldable pub StrikingStore : Type 0
+StrikingStore = Every (λ S m ps cs. plainAnswers cs (storeAnswers S m ps cs) ≡ plainAnswers (strike cs) (storeAnswers S m ps (strike cs)))
+
+-- "Whatever is called between, a value or an absence read for a stamp is read the same ever after for that stamp, row and column": any two reads in the
+-- list for one stamp, row and column that are not refused
+unfoldable pub storeAnswerAt : Shape → List ℕ → List Place → List Call → ℕ → Answer
+storeAnswerAt S m ps cs i = getD (storeAnswers S m ps cs) i Answer.Done
+
+pub record ReadIn (S : Shape) (m : List ℕ) (ps : List Place) (cs : List Call) (i t r c : ℕ) : Type 0 where
+  pub inside : i < length cs
+  pub reads : Reads (historyBefore S cs i) (callAt cs i) t r c
+  pub accepted : T (not (isRefused (storeAnswerAt S m ps cs i)))
+
+unfoldable pub StabilityStore : Type 0
+StabilityStore =
+    Every
+    (λ S m ps cs.
+    (i j t r c : ℕ) → ReadIn S m ps cs i t r c → ReadIn S m ps cs j t r c → storeAnswerAt S m ps cs i ≡ storeAnswerAt S m ps cs j)

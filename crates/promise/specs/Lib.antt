@@ -1,0 +1,3 @@
+-- The demands, and what every call on a lent memory and scan list promises.
+pub mod Demands
+pub mod Promise

@@ -1,14 +1,15 @@
 -- A lent memory and scan list that represent a history of a shape, and that every call keeps it so: the one relation between bytes and the plain history.
 use Prim.Native.Nat.{ℕ, _+_, _*_, _≤_, _<_}
 use mathlib.Core.Path.{_≡_, refl, ap, sym, _∙_, fun-ext}
-use mathlib.Core.Bool.{true}
-use mathlib.Core.List.{List, map}
+use mathlib.Core.Bool.{true, cond}
+use mathlib.Core.List.{List, _∷_, map}
 use native.Mathlib.Omega.{arith}
 use native.Mathlib.Nat.{zero-add}
 use lib.ListN.{length, getD, drop, length-append, length-drop}
 use borrow.Author.Tests.{le-leb}
 use Rattle.terms.specs.Measures.{Shape, withinLimits, mostScans}
 use Rattle.terms.specs.declared.Place.{Place}
+use Rattle.terms.specs.declared.Answer.{Answer}
 use Rattle.words.specs.Words.{words, bytes}
 use Rattle.words.proofs.Words.{length-bytes}
 use Rattle.layout.specs.declared.Sizes.{Sizes}
@@ -108,17 +109,21 @@ module _ (m : List ℕ) (ps : List Place) (S : Shape) (h : History) (o : Same m 
   unfolding storeView sizesIn
   view-is = rw shape-said
 
+  -- what is promised of a usable memory, by the shape that it says and its view
+  by-usable : {A : Type 0} (f : Shape → View → A) (z : A) → cond (usable m ps) (f (shapeIn (words m)) (storeView m)) z ≡ f S seen
+  by-usable f z = rw (same-usable, shape-said, view-is)
+
   pub answer-is : (c : Call) → answerOf m ps c ≡ say S seen ps c
   unfolding answerOf
-  answer-is c = rw (same-usable, shape-said, view-is)
+  answer-is c = by-usable (λ p v. say p v ps c) _
 
   pub memory-is : (c : Call) → memoryAfter m ps c ≡ lay (sizesOf S) (viewNext S seen ps c) m
   unfolding memoryAfter sizesIn
-  memory-is c = rw (same-usable, shape-said, view-is)
+  memory-is c = by-usable (λ p v. lay (sizesOf p) (viewNext p v ps c) m) _
 
   pub list-is : (c : Call) → listAfter m ps c ≡ placesNext S seen ps c
   unfolding listAfter
-  list-is c = rw (same-usable, shape-said, view-is)
+  list-is c = by-usable (λ p v. placesNext p v ps c) _
 
   -- one call: it answers as the history does, and what it leaves represents the history after it
   pub same-call : (c : Call) → Typed c → (answerOf m ps c ≡ answer S h c) × Same (memoryAfter m ps c) (listAfter m ps c) S (next S h c)
@@ -134,4 +139,5 @@ unfolding answersOf answers
 same-answers m ps S h o nil = refl
 same-answers m ps S h o (cons {x = c} {l = cs} y ys) =
     let one = same-call m ps S h o c y in
-    rw (one .0, same-answers (memoryAfter m ps c) (listAfter m ps c) S (next S h c) (one .1) ys)
+    ap (λ (a : Answer). a ∷ answersOf (memoryAfter m ps c) (listAfter m ps c) cs) (one .0)
+    ∙ ap (λ (l : List Answer). answer S h c ∷ l) (same-answers (memoryAfter m ps c) (listAfter m ps c) S (next S h c) (one .1) ys)

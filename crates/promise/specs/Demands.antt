@@ -1,4 +1,5 @@
--- The three demands of document 00, stated of the bytes that the calls leave and of the answers that they give. proofs/Demands.antt proves each.
+-- The three demands of document 00, stated of the bytes that the calls leave and of the answers that they give. proofs/Refused.antt proves
+-- those of demand 1, proofs/Demands.antt the others.
 -- What a call answers and leaves is in Promise, which the contracts of the calls cite, and what a making answers and leaves is `made`, which the contract of
 -- `make` cites. The plain history is History; what is committed, and what a page holds, is said in the Claims of the history and of the model.
 -- A memory is any list of numbers here, so that every list of bytes is one.
@@ -30,7 +31,7 @@ Accepted S m ps = made S (length ps) m .0 ≡ Answer.Done
 abbrev pub memoryMade : Shape → List ℕ → List Place → List ℕ
 memoryMade S m ps = made S (length ps) m .1
 
--- a making is accepted wherever document 01 lets it be, so that no claim here speaks of nothing
+-- Every shape within the limits, memory of the bytes needed and list of 16 places is accepted, so that the claims below speak of all of them.
 unfoldable pub MakingAccepted : Type 0
 MakingAccepted = (S : Shape) (m : List ℕ) (ps : List Place) → T (withinLimits S) → bytesNeeded S ≤ length m → mostScans ≤ length ps → Accepted S m ps
 

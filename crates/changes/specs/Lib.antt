@@ -1,0 +1,2 @@
+-- The tests that update and delete share.
+pub mod Steps

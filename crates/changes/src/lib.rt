@@ -1,0 +1,257 @@
+// The calls that change transactions and rows, over a lent memory and the table of the scan list: begin, insert, update, delete, commit, abort. A call tests the
+// stored facts, lends the needed bytes to the function that runs the call's own tests in document 01's order, and only then writes.
+use conditions::gone;
+use conditions::held;
+use conditions::open_place;
+use entry::not_given;
+use entry::not_later;
+use facts::Checked;
+use facts::check;
+use layout::HEADER_ROWS;
+use layout::HEADER_TRANSACTIONS;
+use layout::Region;
+use layout::Sizes;
+use layout::words_needed;
+use lending::Tested;
+use loops::Found;
+use regions::read;
+use rows::range_of;
+use scans::Scans;
+use settling::free_place;
+use terms::Answer;
+use terms::Refusal;
+use terms::Row;
+use terms::Stamp;
+use terms::Transaction;
+use writing::records_wanted;
+ghost use mathlib.Core.Path.{_≡_};
+ghost use mathlib.Core.Bool.{_||_};
+ghost use mathlib.Core.List.{[]};
+ghost use Prim.Native.Nat.{_*_, _^_, _≤_, _<_};
+ghost use lib.Dec.{eqb, leb};
+ghost use lib.ListN.{length};
+ghost use Rattle.words.specs.Words.{words};
+ghost use Rattle.layout.specs.Regions.{need};
+ghost use Rattle.layout.specs.View.{view};
+ghost use Rattle.history.specs.History.{Call, verdict};
+ghost use Rattle.model.specs.Stored.{openPlace, headerIn, rowsGiven};
+ghost use Rattle.model.specs.Calls.{testsIn};
+ghost use Rattle.model.specs.Asked.{shapeIn, Proper, Linked, Pooled};
+ghost use Rattle.promise.specs.Promise.{Leaves};
+ghost use Rattle.lending.specs.Carried.{tested, Below, Carries};
+ghost use Rattle.changes.specs.Steps.{appendTests};
+
+// The most transaction numbers that a store gives.
+const MOST_NUMBERS: u32 = 65535;
+
+// ---- the tests
+
+// Whether a mask has no bit, or one at or above the column count.
+fn bad_mask(columns: usize, mask: u32) -> bool
+    requires { ⌜ columns ≤ 16 ⌝ }
+    ensures { λ r. ⌜ r ≡ (eqb mask 0 || leb (2 ^ columns) mask) ⌝ }
+{
+    if mask == 0 {
+        return true;
+    }
+    mask >> columns != 0
+}
+
+// The last tests of a call that appends n tail records to a row: whether it is held, gone, or its range lacks them. `at` is the transaction's place.
+fn append_tests(mem: &[u8], s: Sizes, at: usize, t: Transaction, row: Row, n: u32) -> Tested
+    requires { ⌜ need s * 4 ≤ length (now mem) ⌝ }
+    requires { ⌜ Proper s × Linked s (view s (words (now mem))) ⌝ }
+    requires { ⌜ (row .0 < headerIn (view s (words (now mem))) rowsGiven) × (n ≤ 2) ⌝ }
+    ensures { λ r. ⌜ r ≡ tested (verdict (appendTests (shapeIn s) (view s (words (now (mem .entry)))) (t .0) (row .0) n)) at ⌝ }
+{
+    if held(mem, s, t, row) {
+        return Tested::Failed(Refusal::Held);
+    }
+    if gone(mem, s, row) {
+        return Tested::Failed(Refusal::Gone);
+    }
+    let used = read(mem, s, Region::Used, range_of(row)) as usize;
+    if used + n as usize > s.capacity {
+        return Tested::Failed(Refusal::Tail);
+    }
+    Tested::Passed(at)
+}
+
+fn update_tests(mem: &[u8], s: Sizes, t: Transaction, row: Row, mask: u32) -> Tested
+    requires { ⌜ need s * 4 ≤ length (now mem) ⌝ }
+    requires { ⌜ Proper s × Linked s (view s (words (now mem))) ⌝ }
+    ensures { λ r. ⌜ r ≡ tested (verdict (testsIn (shapeIn s) (view s (words (now (mem .entry)))) [] (Call.update (t .0) (row .0) mask []))) (openPlace (view s (words (now (mem .entry)))) (t .0)) ⌝ }
+    ensures { λ r. ⌜ Below r 8 ⌝ }
+{
+    let Found::At(at) = open_place(mem, s, t) else {
+        return Tested::Failed(Refusal::Transaction);
+    };
+    if not_given(mem, s, row) {
+        return Tested::Failed(Refusal::Row);
+    }
+    if bad_mask(s.columns, mask) {
+        return Tested::Failed(Refusal::Mask);
+    }
+    append_tests(mem, s, at, t, row, records_wanted(mem, s, row, mask))
+}
+
+fn delete_tests(mem: &[u8], s: Sizes, t: Transaction, row: Row) -> Tested
+    requires { ⌜ need s * 4 ≤ length (now mem) ⌝ }
+    requires { ⌜ Proper s × Linked s (view s (words (now mem))) ⌝ }
+    ensures { λ r. ⌜ r ≡ tested (verdict (testsIn (shapeIn s) (view s (words (now (mem .entry)))) [] (Call.delete (t .0) (row .0)))) (openPlace (view s (words (now (mem .entry)))) (t .0)) ⌝ }
+    ensures { λ r. ⌜ Below r 8 ⌝ }
+{
+    let Found::At(at) = open_place(mem, s, t) else {
+        return Tested::Failed(Refusal::Transaction);
+    };
+    if not_given(mem, s, row) {
+        return Tested::Failed(Refusal::Row);
+    }
+    append_tests(mem, s, at, t, row, 1)
+}
+
+// ---- the calls over the needed bytes
+
+fn begin_in(mem: &mut [u8], s: Sizes) -> Answer
+    requires { ⌜ need s * 4 ≤ length (now mem) ⌝ }
+    ensures { λ r. ⌜ Carries s (view s (words (now (mem .entry)))) Call.begin r (view s (words (now (mem .exit)))) ⌝ }
+{
+    if read(mem, s, Region::Header, HEADER_TRANSACTIONS) >= MOST_NUMBERS {
+        return Answer::Refused(Refusal::Number);
+    }
+    let Found::At(free) = free_place(mem, s) else {
+        return Answer::Refused(Refusal::Busy);
+    };
+    Answer::Number(settling::begin(mem, s, free).0)
+}
+
+fn insert_in(mem: &mut [u8], s: Sizes, t: Transaction, values: [i32; 16]) -> Answer
+    requires { ⌜ need s * 4 ≤ length (now mem) ⌝ }
+    requires { ⌜ Proper s × Pooled s (view s (words (now mem))) ⌝ }
+    ensures { λ r. ⌜ Carries s (view s (words (now (mem .entry)))) (Call.insert (t .0) values) r (view s (words (now (mem .exit)))) ⌝ }
+{
+    let Found::At(at) = open_place(mem, s, t) else {
+        return Answer::Refused(Refusal::Transaction);
+    };
+    if read(mem, s, Region::Header, HEADER_ROWS) as usize >= s.rows {
+        return Answer::Refused(Refusal::Full);
+    }
+    Answer::Number(writing::insert(mem, s, at, t, values).0)
+}
+
+fn update_in(mem: &mut [u8], s: Sizes, t: Transaction, row: Row, mask: u32, values: [i32; 16]) -> Answer
+    requires { ⌜ need s * 4 ≤ length (now mem) ⌝ }
+    requires { ⌜ Proper s × Linked s (view s (words (now mem))) × Pooled s (view s (words (now mem))) ⌝ }
+    ensures { λ r. ⌜ Carries s (view s (words (now (mem .entry)))) (Call.update (t .0) (row .0) mask values) r (view s (words (now (mem .exit)))) ⌝ }
+{
+    match update_tests(mem, s, t, row, mask) {
+        Tested::Failed(x) => Answer::Refused(x),
+        Tested::Passed(at) => Answer::Number(writing::update(mem, s, at, t, row, mask, values).0),
+    }
+}
+
+fn delete_in(mem: &mut [u8], s: Sizes, t: Transaction, row: Row) -> Answer
+    requires { ⌜ need s * 4 ≤ length (now mem) ⌝ }
+    requires { ⌜ Proper s × Linked s (view s (words (now mem))) ⌝ }
+    ensures { λ r. ⌜ Carries s (view s (words (now (mem .entry)))) (Call.delete (t .0) (row .0)) r (view s (words (now (mem .exit)))) ⌝ }
+{
+    match delete_tests(mem, s, t, row) {
+        Tested::Failed(x) => Answer::Refused(x),
+        Tested::Passed(at) => Answer::Number(writing::delete(mem, s, at, t, row).0),
+    }
+}
+
+fn commit_in(mem: &mut [u8], s: Sizes, t: Transaction, stamp: Stamp) -> Answer
+    requires { ⌜ need s * 4 ≤ length (now mem) ⌝ }
+    requires { ⌜ Proper s × Linked s (view s (words (now mem))) ⌝ }
+    ensures { λ r. ⌜ Carries s (view s (words (now (mem .entry)))) (Call.commit (t .0) (stamp .0)) r (view s (words (now (mem .exit)))) ⌝ }
+{
+    let Found::At(at) = open_place(mem, s, t) else {
+        return Answer::Refused(Refusal::Transaction);
+    };
+    if not_later(mem, s, stamp) {
+        return Answer::Refused(Refusal::Time);
+    }
+    settling::commit(mem, s, at, t, stamp);
+    Answer::Done
+}
+
+fn abort_in(mem: &mut [u8], s: Sizes, t: Transaction) -> Answer
+    requires { ⌜ need s * 4 ≤ length (now mem) ⌝ }
+    requires { ⌜ Proper s × Linked s (view s (words (now mem))) ⌝ }
+    ensures { λ r. ⌜ Carries s (view s (words (now (mem .entry)))) (Call.abort (t .0)) r (view s (words (now (mem .exit)))) ⌝ }
+{
+    let Found::At(at) = open_place(mem, s, t) else {
+        return Answer::Refused(Refusal::Transaction);
+    };
+    settling::abort(mem, s, at, t);
+    Answer::Done
+}
+
+// ---- the calls
+
+// A transaction is opened; the answer is its number.
+pub fn begin(mem: &mut [u8], scans: Scans) -> Answer
+    ensures { λ r. ⌜ Leaves (now (mem .entry)) scans Call.begin r (now (mem .exit)) ⌝ }
+{
+    let Checked::Fit(s) = check(mem, scans) else {
+        return Answer::Refused(Refusal::Memory);
+    };
+    let n = words_needed(s) * 4;
+    begin_in(&mut mem[..n], s)
+}
+
+// A row with a value for each column; the answer is its number. Values past the column count are not looked at.
+pub fn insert(mem: &mut [u8], scans: Scans, transaction: Transaction, values: [i32; 16]) -> Answer
+    ensures { λ r. ⌜ Leaves (now (mem .entry)) scans (Call.insert (transaction .0) values) r (now (mem .exit)) ⌝ }
+{
+    let Checked::Fit(s) = check(mem, scans) else {
+        return Answer::Refused(Refusal::Memory);
+    };
+    let n = words_needed(s) * 4;
+    insert_in(&mut mem[..n], s, transaction, values)
+}
+
+// The columns of a mask are set in a row; the answer is the last tail record's number.
+pub fn update(mem: &mut [u8], scans: Scans, transaction: Transaction, row: Row, mask: u16, values: [i32; 16]) -> Answer
+    ensures { λ r. ⌜ Leaves (now (mem .entry)) scans (Call.update (transaction .0) (row .0) mask values) r (now (mem .exit)) ⌝ }
+{
+    let Checked::Fit(s) = check(mem, scans) else {
+        return Answer::Refused(Refusal::Memory);
+    };
+    let n = words_needed(s) * 4;
+    update_in(&mut mem[..n], s, transaction, row, mask as u32, values)
+}
+
+// A row is deleted; the answer is the tail record's number.
+pub fn delete(mem: &mut [u8], scans: Scans, transaction: Transaction, row: Row) -> Answer
+    ensures { λ r. ⌜ Leaves (now (mem .entry)) scans (Call.delete (transaction .0) (row .0)) r (now (mem .exit)) ⌝ }
+{
+    let Checked::Fit(s) = check(mem, scans) else {
+        return Answer::Refused(Refusal::Memory);
+    };
+    let n = words_needed(s) * 4;
+    delete_in(&mut mem[..n], s, transaction, row)
+}
+
+// What a transaction has changed holds from a stamp on.
+pub fn commit(mem: &mut [u8], scans: Scans, transaction: Transaction, stamp: Stamp) -> Answer
+    ensures { λ r. ⌜ Leaves (now (mem .entry)) scans (Call.commit (transaction .0) (stamp .0)) r (now (mem .exit)) ⌝ }
+{
+    let Checked::Fit(s) = check(mem, scans) else {
+        return Answer::Refused(Refusal::Memory);
+    };
+    let n = words_needed(s) * 4;
+    commit_in(&mut mem[..n], s, transaction, stamp)
+}
+
+// What a transaction has changed is as if it had not been.
+pub fn abort(mem: &mut [u8], scans: Scans, transaction: Transaction) -> Answer
+    ensures { λ r. ⌜ Leaves (now (mem .entry)) scans (Call.abort (transaction .0)) r (now (mem .exit)) ⌝ }
+{
+    let Checked::Fit(s) = check(mem, scans) else {
+        return Answer::Refused(Refusal::Memory);
+    };
+    let n = words_needed(s) * 4;
+    abort_in(&mut mem[..n], s, transaction)
+}

@@ -1,0 +1,92 @@
+-- The search of a scan in the table, in the model's terms: whether the scan is open, where it stands in the list, and its entry.
+use Prim.Native.Nat.{ℕ, zero, suc, _≤_}
+use mathlib.Core.Path.{_≡_, refl, ap, sym, _∙_}
+use mathlib.Core.Bool.{Bool, true, false, not, cond, _&&_, _||_}
+use mathlib.Core.List.{List, [], _∷_}
+use native.Mathlib.Omega.{arith}
+use lib.Dec.{eqb}
+use lib.ListN.{length, getD}
+use borrow.Author.Tests.{eq-eqb, eqb-true, eqb-false, ne-eqb}
+use Rattle.terms.specs.Measures.{mostScans}
+use Rattle.terms.specs.declared.Place.{Place}
+use Rattle.loops.specs.declared.Found.the-variants.{At, Nothing}
+use Rattle.loops.specs.Search.{firstAt}
+use Rattle.history.specs.History.{any}
+use Rattle.scans.specs.Places as P
+use Rattle.scans.specs.Places.{freePlace, openCount}
+use Rattle.scans.specs.Table.{tableOf, findIn}
+use Rattle.scans.proofs.Answers.{Located, table-finds, table-lacks}
+use Rattle.model.specs.Stored.{bears, place, scanPlace}
+use Rattle.model.specs.Calls.{noScanIn}
+
+-- ---- the first that passes
+
+module _ (f : Place → Bool) where
+  none-passes : (ps : List Place) → place f ps ≡ length ps → any f ps ≡ false
+  none-passes [] e = refl
+  none-passes (p ∷ ps) e = go (f p) (none-passes ps) e
+    where
+      go : (b : Bool) → (place f ps ≡ length ps → any f ps ≡ false) → cond b 0 (suc (place f ps)) ≡ suc (length ps) → (b || any f ps) ≡ false
+      go true ih q = absurd (omega (arith, q))
+      go false ih q = ih (omega (arith, q))
+
+  one-passes : (ps : List Place) → f freePlace ≡ false → f (getD ps (place f ps) freePlace) ≡ true → any f ps ≡ true
+  one-passes [] e q = sym e ∙ q
+  one-passes (p ∷ ps) e q = go (f p) refl (one-passes ps e) q
+    where
+      go : (b : Bool) → f p ≡ b → (f (getD ps (place f ps) freePlace) ≡ true → any f ps ≡ true)
+          → f (getD (p ∷ ps) (cond b 0 (suc (place f ps))) freePlace) ≡ true → (b || any f ps) ≡ true
+      go true h ih r = refl
+      go false h ih r = ih r
+
+-- ---- the scan that bears k
+
+module _ (k : ℕ) where
+  abbrev scan : Place → Bool
+  scan p = bears k (p .number)
+
+  -- the list's definition of the place and the model's
+  same-place : (ps : List Place) → P.place (P.bears k) ps ≡ place scan ps
+  same-place [] = refl
+  same-place (p ∷ ps) = ap (λ (n : ℕ). cond (scan p) 0 (suc n)) (same-place ps)
+
+  -- what is found has a number
+  numbered : (ps : List Place) (j : ℕ) → findIn (tableOf ps) k ≡ At j → eqb k 0 ≡ false
+  unfolding findIn
+  numbered ps j e = go (eqb k 0) e
+    where
+      clash : Nothing ≡ At j → ⊥
+      clash q = let z : _≡_ {A = ℕ} 0 1 = cc in omega arith
+
+      go : (b : Bool) → cond b Nothing (firstAt k 0 (tableOf ps .numbers)) ≡ At j → b ≡ false
+      go true q = absurd (clash q)
+      go false q = refl
+
+  module _ (ps : List Place) (few : openCount ps ≤ mostScans) where
+    pub scan-lacks : findIn (tableOf ps) k ≡ Nothing → noScanIn ps k ≡ true
+    unfolding noScanIn
+    scan-lacks e = rw (none-passes scan ps (sym (same-place ps) ∙ table-lacks ps few k e))
+
+    pub scan-open : (j : ℕ) → findIn (tableOf ps) k ≡ At j → noScanIn ps k ≡ false
+    unfolding noScanIn
+    scan-open j e =
+        let t = table-finds ps few k j e in
+        let n : getD ps (place scan ps) freePlace .number ≡ k = ap (λ (i : ℕ). getD ps i freePlace .number) (sym (same-place ps)) ∙ t .number-is in
+        let b : scan (getD ps (place scan ps) freePlace) ≡ true = ap (λ (i : ℕ). not (eqb i 0) && eqb i k) n ∙ rw (numbered ps j e, eq-eqb k k refl) in
+        rw (one-passes scan ps refl b)
+
+    pub scan-at : (j : ℕ) → findIn (tableOf ps) k ≡ At j → place scan ps ≡ getD (tableOf ps .places) j 0
+    scan-at j e = sym (table-finds ps few k j e .place-is ∙ same-place ps)
+
+    -- the scan's stamp and merges, as the table has them
+    pub scan-stamp : (j : ℕ) → findIn (tableOf ps) k ≡ At j → getD (tableOf ps .stamps) j 0 ≡ scanPlace ps k .stamp
+    unfolding scanPlace
+    scan-stamp j e = table-finds ps few k j e .stamp-is ∙ ap (λ (i : ℕ). getD ps i freePlace .stamp) (same-place ps)
+
+    pub scan-merges : (j : ℕ) → findIn (tableOf ps) k ≡ At j → getD (tableOf ps .merges) j 0 ≡ scanPlace ps k .merges
+    unfolding scanPlace
+    scan-merges j e = table-finds ps few k j e .merges-is ∙ ap (λ (i : ℕ). getD ps i freePlace .merges) (same-place ps)
+
+    pub scan-number : (j : ℕ) → findIn (tableOf ps) k ≡ At j → k ≡ scanPlace ps k .number
+    unfolding scanPlace
+    scan-number j e = sym (table-finds ps few k j e .number-is) ∙ ap (λ (i : ℕ). getD ps i freePlace .number) (same-place ps)

@@ -1,0 +1,2 @@
+-- What a memory that passed the test gives a call.
+pub mod Fitted

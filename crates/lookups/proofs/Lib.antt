@@ -1,0 +1,2 @@
+-- Laws of the reading calls.
+pub mod Answers

@@ -1,0 +1,45 @@
+-- `lookups::own_read_in` meets its contract.
+use mathlib.Core.Path.{sym, _∙_}
+use Rattle.lookups.specs.Lookups.{SaysAlways}
+use Rattle.lookups.proofs.Answers.{says-not-open, says-own, open-lacks, open-has}
+use borrow.Author.Needs.{needs}
+use Rattle.lookups.proofs.own_read_in.Statement.{statement}
+use Rattle.lookups.proofs.own_read_in.Tie as tie
+
+returns : tie.Need-returns
+unfolding SaysAlways
+returns c =
+    λ ps. says-not-open _ _ ps _ _ _ (open-lacks _ _ (sym (c .before .before .open-place .ensures .0) ∙ c .enum-told .given .1))
+
+own-changes-requires : tie.Need-own-changes-requires
+own-changes-requires c κs =
+    let found = c .before .before in
+    let call = found .before .before in (
+      call .before .before .pre .room,
+      (
+        open-has _ _ _ (sym (call .open-place .ensures .0) ∙ found .place .given .1) .1,
+        rw (found .place .given .1) at (call .open-place .ensures .1),
+      ),
+    )
+
+returns-2 : tie.Need-returns-2
+unfolding SaysAlways
+returns-2 c =
+    let own = c .before in
+    let last = own .before in
+    let found = last .before .before in
+    let open-at = sym (found .before .before .open-place .ensures .0) ∙ found .place .given .1 in
+    λ ps. c .read-latest-page .ensures ∙ rw (own .own-changes .ensures, last .last-stamp .ensures) (says-own _ _ ps _ _ _ (open-has _ _ _ open-at .0))
+
+pub own-read-in-spec : {M : Type 1} → statement M
+own-read-in-spec =
+    tie.close
+    (tie.spec
+    (λ c κs. c .before .pre .room)
+    (λ c. search needs)
+    (λ c. search needs)
+    returns
+    (λ c κs. c .before .before .before .before .before .pre .room)
+    own-changes-requires
+    (λ c κs. c .before .before .before .before .before .before .before .pre)
+    returns-2)

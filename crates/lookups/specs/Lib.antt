@@ -1,0 +1,2 @@
+-- What the functions behind the reading calls answer.
+pub mod Lookups

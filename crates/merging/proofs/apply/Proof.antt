@@ -1,0 +1,58 @@
+-- `merging::apply` meets its contract: one forward pass.
+use native.Mathlib.Omega.{arith}
+use Prim.Native.Nat.{_+_, _*_, _-_, _≤_}
+use mathlib.Core.Path.{_≡_}
+use lib.ListN.{length}
+use Rattle.words.specs.Words.{words}
+use Rattle.layout.specs.Regions.{need}
+use Rattle.layout.specs.View.{view}
+use Rattle.model.specs.Writing.{newestOf}
+use Rattle.model.specs.Asked.{shapeIn}
+use Rattle.settling.proofs.Indices.{tail-in, sizes-need}
+use Rattle.merging.specs.Steps.{appliedAll}
+use Rattle.merging.proofs.Pass.{applied-none, applied-next, newest-none, newest-next, pass-end}
+use Rattle.merging.proofs.apply.Statement.{statement}
+use Rattle.merging.proofs.apply.Tie as tie
+
+abbrev Inv-loop : tie.InvT-loop
+Inv-loop mem₀ s g c page low n newest first latest₀ i₀ mem latest i =
+    (i ≤ n) × (length mem ≡ length mem₀) × (latest ≡ newestOf (shapeIn s) (view s (words mem₀)) g c low i newest)
+    × (view s (words mem) ≡ appliedAll (shapeIn s) g c page low i (view s (words mem₀)))
+
+abbrev μ-loop : tie.MeasureT-loop
+μ-loop mem₀ s g c page low n newest first latest₀ i₀ mem latest i = n - i
+
+-- the records of the range lie among the slots
+inside : (c : tie.Start Inv-loop μ-loop) → let a = c .args in (a .g * a .s .capacity + a .s .capacity ≤ a .s .slots) × (a .s .slots ≤ need (a .s))
+inside c = let a = c .args in (tail-in (a .s) (c .pre .1 .0) (a .g) (c .pre .1 .1 .0), omega (arith, sizes-need (a .s)))
+
+apply-one-requires : tie.Need-apply-one-requires Inv-loop μ-loop
+apply-one-requires c κs =
+    let start = c .before .before .before .before .before in
+    (omega arith, (start .pre .1 .0, (omega (arith, inside start), start .pre .1 .1 .1, start .pre .1 .1 .2)))
+
+loop-again : tie.Need-loop-again Inv-loop μ-loop
+loop-again c =
+    let inv = c .before .before .before .before .before .loop .inv in
+    let done = c .before .before .apply-one .ensures in
+    (omega arith, omega arith, newest-next _ _ _ _ _ _ _ _ _ _ _ (inv .3) (inv .2) (done .0), applied-next _ _ _ _ _ _ _ _ _ (inv .3) (done .1))
+
+returns : tie.Need-returns Inv-loop μ-loop
+returns c = pass-end _ _ _ _ _ _ _ _ _ _ _ (c .before .loop .inv .3) (c .before .loop .inv .2) (omega arith) (omega arith)
+
+pub apply-spec : {M : Type 1} → statement M
+apply-spec =
+    tie.close
+    (tie.spec
+    Inv-loop
+    μ-loop
+    (λ c. omega (arith, inside (c .before .before)))
+    (λ c. omega (arith, inside (c .before .before)))
+    (λ c. (omega arith, omega arith, newest-none _ _ _ _ _ _, applied-none _ _ _ _ _ _))
+    (λ c. omega (arith, inside (c .before .before .before .before .before)))
+    apply-one-requires
+    (λ c. omega arith)
+    (λ c. omega arith)
+    loop-again
+    (λ c. omega arith)
+    returns)

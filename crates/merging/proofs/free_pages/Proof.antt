@@ -1,0 +1,53 @@
+-- `merging::free_pages` meets its contract.
+use native.Mathlib.Omega.{arith}
+use Prim.Native.Nat.{_-_, _≤_, _<_}
+use mathlib.Core.Path.{_≡_, refl}
+use lib.ListN.{length}
+use Rattle.words.specs.Words.{words}
+use Rattle.layout.specs.View.{view}
+use Rattle.model.specs.Stored.{countBelow}
+use Rattle.merging.specs.Steps.{spare, sparesFreed}
+use Rattle.merging.proofs.Freeing.{freed-none, freed-next, freed-end, count-next, count-most, pages-few}
+use Rattle.merging.proofs.free_pages.Statement.{statement}
+use Rattle.merging.proofs.free_pages.Tie as tie
+
+abbrev Inv-loop : tie.InvT-loop
+Inv-loop mem₀ s least pages n₀ p₀ mem n p =
+    (p ≤ pages) × (length mem ≡ length mem₀) × (n ≡ countBelow (spare least (view s (words mem₀))) p)
+    × (view s (words mem) ≡ sparesFreed least p (view s (words mem₀)))
+
+abbrev μ-loop : tie.MeasureT-loop
+μ-loop mem₀ s least pages n₀ p₀ mem n p = pages - p
+
+free-one-requires : tie.Need-free-one-requires Inv-loop μ-loop
+free-one-requires c κs =
+    let start = c .before .before .before .before in
+    let a = start .args in
+    let here = c .before .before .loop in
+    let few = count-most (a .least) (view (a .s) (words (a .mem .now))) (here .p) in
+    (omega arith, (omega arith, omega (arith, few, here .inv .2, pages-few (a .s) (start .pre .1))))
+
+loop-again : tie.Need-loop-again Inv-loop μ-loop
+loop-again c =
+    let inv = c .before .before .before .before .before .loop .inv in
+    let done = c .before .before .free-one .ensures in
+    (omega arith, omega arith, count-next _ _ _ _ _ _ (inv .3) (inv .2) (done .0), freed-next _ _ _ _ _ (inv .3) (done .1))
+
+returns : tie.Need-returns Inv-loop μ-loop
+returns c =
+    let inv = c .before .loop .inv in
+    freed-end _ _ (c .before .before .before .args .s .pages) _ _ _ (inv .3) (inv .2) (omega arith) (omega arith)
+
+pub free-pages-spec : {M : Type 1} → statement M
+free-pages-spec =
+    tie.close
+    (tie.spec
+    Inv-loop
+    μ-loop
+    (λ c. (omega arith, omega arith, refl, freed-none _ _))
+    free-one-requires
+    (λ c. omega arith)
+    (λ c. omega arith)
+    loop-again
+    (λ c. omega arith)
+    returns)

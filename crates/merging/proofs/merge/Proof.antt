@@ -1,0 +1,71 @@
+-- `merging::merge` meets its contract.
+use native.Mathlib.Omega.{arith}
+use borrow.Author.Needs.{needs}
+use Prim.Native.Nat.{_+_, _*_, _≤_, _<_}
+use mathlib.Core.Path.{_≡_}
+use Rattle.layout.specs.Regions.{need}
+use Rattle.model.specs.Asked.{shapeIn}
+use Rattle.settling.proofs.Indices.{places-in, sizes-need}
+use Rattle.merging.proofs.Pass.{merged-is, not-free, reaches}
+use Rattle.merging.proofs.Freeing.{pages-few}
+use Rattle.merging.proofs.merge.Statement.{statement}
+use Rattle.merging.proofs.merge.Tie as tie
+
+-- the place of the range and column is there, and pages and places are few
+inside : (c : tie.Start) → let a = c .args in (a .g * a .s .columns + a .c < a .s .places) × (a .s .places ≤ need (a .s)) × (a .s .places ≤ a .s .pages) × (a .s .pages ≤ 512)
+inside c =
+    let a = c .args in
+    let p = c .pre .1 .0 .0 in
+    let m = c .pre .1 .1 in (
+      omega (arith, places-in (a .s) p (a .g) (m .range-below), m .column-below),
+      omega (arith, sizes-need (a .s)),
+      omega (arith, p .pages-are),
+      pages-few (a .s) p,
+    )
+
+-- the current page is one of the pool, and not the free one
+pool : (c : tie.After-read) → c .read .result < c .before .before .before .before .args .s .pages
+pool c =
+    let start = c .before .before .before .before in
+    omega (arith, c .read .ensures, start .pre .1 .0 .1 (start .args .g * start .args .s .columns + start .args .c) (inside start .0))
+
+other : (c : tie.After-read) → c .read .result ≡ c .before .before .before .before .args .page → ⊥
+other c = let start = c .before .before .before .before in not-free _ _ _ _ _ _ _ (start .pre .1 .0 .0) (start .pre .1 .1) (c .read .ensures)
+
+-- its lineage is at most the record merged through
+reach : (c : tie.After-read2) → c .read2 .result ≤ c .before .before .before .before .before .before .args .n .0
+reach c = reaches _ _ _ _ _ _ _ _ (c .before .before .before .before .before .before .pre .1 .1) (c .before .before .read .ensures) (c .read2 .ensures)
+
+copy-and-apply-requires : tie.Need-copy-and-apply-requires
+copy-and-apply-requires c κs =
+    let m = c .before .before .before .before .before .before .before .before .before .before .before .before .before .pre .1 .1 in
+    (omega arith, (c .before .before .before .before .before .before .before .before .before .before .before .before .before .pre .1 .0 .0, (m .range-below, m .column-below, m .page-below, omega (arith, reach (c .before .before .before .before .before .before .before), m .to), pool (c .before .before .before .before .before .before .before .before .before), other (c .before .before .before .before .before .before .before .before .before))))
+
+returns : tie.Need-returns
+returns c =
+    let start = c .before .before .before .before .before .before .before .before .before .before .before .before .before .before .before .before .before .before .before .before .before .before .before .before in
+    rw (c .before .before .replace-page .ensures, c .before .before .before .before .before .before .put-page .ensures, c .before .before .before .before .before .before .before .before .before .before .copy-and-apply .ensures .1, c .before .before .before .before .before .before .before .before .before .before .copy-and-apply .ensures .0, c .before .before .before .before .before .before .before .before .before .before .before .before .before .next-word .ensures, c .before .before .before .before .before .before .before .before .before .before .before .before .before .before .read4 .ensures, c .before .before .before .before .before .before .before .before .before .before .before .before .before .before .before .before .read3 .ensures, c .before .before .before .before .before .before .before .before .before .before .before .before .before .before .before .before .before .before .read2 .ensures, c .before .before .before .before .before .before .before .before .before .before .before .before .before .before .before .before .before .before .before .before .read .ensures)
+    (merged-is _ _ _ _ _ _ (start .pre .1 .1 .free))
+
+pub merge-spec : {M : Type 1} → statement M
+merge-spec =
+    tie.close
+    (tie.spec
+    (λ c. omega (arith, inside (c .before .before)))
+    (λ c. omega (arith, inside (c .before .before)))
+    (λ c κs. omega (arith, inside (c .before .before .before)))
+    (λ c. search needs)
+    (λ c κs. (omega arith, pool (c .before)))
+    (λ c κs. (omega arith, pool (c .before .before .before)))
+    (λ c κs. search needs)
+    (λ c κs. search needs)
+    (λ c. search needs)
+    (λ c. reach (c .before .before .before .before .before .before .before))
+    (λ c. search needs)
+    copy-and-apply-requires
+    (λ c. omega (arith, inside (c .before .before .before .before .before .before .before .before .before .before .before .before .before .before .before .before .before)))
+    (λ c κs. (omega arith, c .before .before .before .before .before .before .before .before .before .before .before .before .before .before .before .before .before .pre .1 .1 .page-below))
+    (λ c. omega (arith, inside (c .before .before .before .before .before .before .before .before .before .before .before .before .before .before .before .before .before .before .before .before .before), c .before .before .before .before .before .before .before .before .before .before .before .before .before .before .before .before .before .before .before .before .before .pre .1 .1 .page-below))
+    (λ c κs. (omega arith, (pool (c .before .before .before .before .before .before .before .before .before .before .before .before .before .before .before .before .before), inside (c .before .before .before .before .before .before .before .before .before .before .before .before .before .before .before .before .before .before .before .before .before) .0)))
+    (λ c. search needs)
+    returns)

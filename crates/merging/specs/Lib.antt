@@ -1,0 +1,2 @@
+-- The steps of merge and release.
+pub mod Steps

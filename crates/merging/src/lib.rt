@@ -1,0 +1,300 @@
+// What merge and release write, over the lent bytes. Nothing here tests whether a call may be carried out: a call has done that before, and hands on what
+// its tests have shown. Each contract cites the model's definition of the memory that is left.
+use layout::HEADER_MERGES;
+use layout::RANGE_ROWS;
+use layout::Region;
+use layout::Sizes;
+use loops::Found;
+use pending::next_word;
+use regions::copy_in;
+use regions::find_in;
+use regions::read;
+use regions::write;
+use scans::Scans;
+use terms::Place;
+use terms::Tail;
+ghost use mathlib.Core.Path.{_≡_};
+ghost use mathlib.Core.Bool.{_&&_, not, cond};
+ghost use mathlib.Core.List.{List};
+ghost use mathlib.Core.Logic.{_⊎_};
+ghost use Prim.Native.Nat.{_+_, _*_, _≤_, _<_};
+ghost use lib.Dec.{ltb};
+ghost use lib.ListN.{length, getD};
+ghost use Rattle.words.specs.Words.{words};
+ghost use Rattle.history.specs.History.{bit};
+ghost use Rattle.layout.specs.declared.Region.{Region};
+ghost use Rattle.terms.specs.declared.Place.{Place};
+ghost use Rattle.layout.specs.Regions.{need};
+ghost use Rattle.layout.specs.View.{view, put};
+ghost use Rattle.model.specs.Stored.{recordIn, pagesOf, countBelow};
+ghost use Rattle.model.specs.Writing.{applies, newestOf, freeIn, mergedIn, releasable, releasedIn};
+ghost use Rattle.scans.specs.Places.{openCount};
+ghost use Rattle.scans.specs.Table.{tableOf};
+ghost use Rattle.model.specs.Asked.{shapeIn, Proper, Pooled};
+ghost use Rattle.settling.specs.Steps.{foundAt};
+ghost use Rattle.merging.specs.Steps.{appliedOne, laterOne, appliedAll, mergedCells, pagePut, pageReplaced, Mergeable, leastOf, spare, sparesFreed};
+
+// The states of a page, as stored. A free page has the state 0.
+const CURRENT: u32 = 1;
+
+const WAITING: u32 = 2;
+
+// The kind of a setting and the state of what is committed, as stored.
+const SETTING: u32 = 1;
+
+const COMMITTED: u32 = 1;
+
+// ---- merge
+
+// The first free page.
+pub fn free_page(mem: &[u8], s: Sizes) -> Found
+    requires { ⌜ need s * 4 ≤ length (now mem) ⌝ }
+    requires { ⌜ Proper s ⌝ }
+    ensures { λ r. ⌜ r ≡ foundAt (s .pages) (freeIn (shapeIn s) (view s (words (now (mem .entry))))) ⌝ }
+{
+    find_in(mem, s, Region::PageState, 0, s.pages, 0)
+}
+
+// Whether a mask has column c.
+fn has_bit(mask: u32, c: u32) -> bool
+    requires { ⌜ c < 32 ⌝ }
+    ensures { λ r. ⌜ r ≡ bit mask c ⌝ }
+{
+    mask >> c & 1 == 1
+}
+
+// Whether the record at a slot is a committed setting of column c.
+fn is_applied(mem: &[u8], s: Sizes, slot: usize, c: u32) -> bool
+    requires { ⌜ need s * 4 ≤ length (now mem) ⌝ }
+    requires { ⌜ (slot < s .slots) × (c < 32) ⌝ }
+    ensures { λ r. ⌜ r ≡ applies c (recordIn (view s (words (now (mem .entry)))) slot) ⌝ }
+{
+    if has_bit(read(mem, s, Region::TailMask, slot), c) {
+        if read(mem, s, Region::TailKind, slot) == SETTING {
+            return read(mem, s, Region::TailState, slot) == COMMITTED;
+        }
+    }
+    false
+}
+
+// The later of two stamps.
+fn later(a: u32, b: u32) -> u32
+    ensures { λ r. ⌜ r ≡ cond (ltb a b) b a ⌝ }
+{
+    if a < b { b } else { a }
+}
+
+// The record at a slot goes into a page, if it is a committed setting of column c; the answer is the latest stamp with it.
+fn apply_one(mem: &mut [u8], s: Sizes, slot: usize, c: usize, page: usize, newest: u32) -> u32
+    requires { ⌜ need s * 4 ≤ length (now mem) ⌝ }
+    requires { ⌜ Proper s ⌝ }
+    requires { ⌜ (slot < s .slots) × (c < s .columns) × (page < s .pages) ⌝ }
+    ensures { λ r. ⌜ (r ≡ laterOne slot c (view s (words (now (mem .entry)))) newest) × (view s (words (now (mem .exit))) ≡ appliedOne (shapeIn s) slot c page (view s (words (now (mem .entry))))) ⌝ }
+{
+    if is_applied(mem, s, slot, c as u32) {
+        let stamp = read(mem, s, Region::TailStamp, slot);
+        let row = read(mem, s, Region::TailRow, slot) as usize;
+        let w = read(mem, s, Region::TailValues, slot * s.columns + c);
+        write(
+            mem,
+            s,
+            Region::Cells,
+            page * RANGE_ROWS + row % RANGE_ROWS,
+            w,
+        );
+        return later(newest, stamp);
+    }
+    newest
+}
+
+// One forward pass over n records after `low` of range g.
+fn apply(
+    mem: &mut [u8],
+    s: Sizes,
+    g: usize,
+    c: usize,
+    page: usize,
+    low: usize,
+    n: usize,
+    newest: u32,
+) -> u32
+    requires { ⌜ need s * 4 ≤ length (now mem) ⌝ }
+    requires { ⌜ Proper s ⌝ }
+    requires { ⌜ (g < s .ranges) × (c < s .columns) × (page < s .pages) × (low + n ≤ s .capacity) ⌝ }
+    ensures { λ r. ⌜ (r ≡ newestOf (shapeIn s) (view s (words (now (mem .entry)))) g c low n newest) × (view s (words (now (mem .exit))) ≡ appliedAll (shapeIn s) g c page low n (view s (words (now (mem .entry))))) ⌝ }
+{
+    let first = g * s.capacity + low;
+    let mut latest = newest;
+    let mut i = 0;
+    while i < n {
+        latest = apply_one(mem, s, first + i, c, page, latest);
+        i += 1;
+    }
+    latest
+}
+
+// A copy of page `old` takes n records after `low`; the answer is the latest stamp of a setting in it.
+fn copy_and_apply(
+    mem: &mut [u8],
+    s: Sizes,
+    g: usize,
+    c: usize,
+    old: usize,
+    page: usize,
+    low: usize,
+    n: usize,
+    newest: u32,
+) -> u32
+    requires { ⌜ need s * 4 ≤ length (now mem) ⌝ }
+    requires { ⌜ Proper s ⌝ }
+    requires { ⌜ (g < s .ranges) × (c < s .columns) × (page < s .pages) × (low + n ≤ s .capacity) × (old < s .pages) × (old ≡ page → ⊥) ⌝ }
+    ensures { λ r. ⌜ (r ≡ newestOf (shapeIn s) (view s (words (now (mem .entry)))) g c low n newest) × (view s (words (now (mem .exit))) ≡ mergedCells (shapeIn s) g c old page low n (view s (words (now (mem .entry))))) ⌝ }
+{
+    copy_in(
+        mem,
+        s,
+        Region::Cells,
+        old * RANGE_ROWS,
+        RANGE_ROWS,
+        page * RANGE_ROWS,
+    );
+    apply(mem, s, g, c, page, low, n, newest)
+}
+
+// The words of a page that merge m makes current.
+fn put_page(mem: &mut [u8], s: Sizes, page: usize, place: u32, m: u32, lineage: u32, newest: u32)
+    requires { ⌜ need s * 4 ≤ length (now mem) ⌝ }
+    requires { ⌜ page < s .pages ⌝ }
+    ensures { λ _. ⌜ view s (words (now (mem .exit))) ≡ pagePut page place m lineage newest (view s (words (now (mem .entry)))) ⌝ }
+{
+    write(mem, s, Region::PageState, page, CURRENT);
+    write(mem, s, Region::PagePlace, page, place);
+    write(mem, s, Region::PageMade, page, m);
+    write(mem, s, Region::PageLineage, page, lineage);
+    write(mem, s, Region::PageNewest, page, newest);
+}
+
+// A page takes the place of page `old`, which waits from merge m on.
+fn replace_page(mem: &mut [u8], s: Sizes, old: usize, page: u32, place: usize, m: u32)
+    requires { ⌜ need s * 4 ≤ length (now mem) ⌝ }
+    requires { ⌜ (old < s .pages) × (place < s .places) ⌝ }
+    ensures { λ _. ⌜ view s (words (now (mem .exit))) ≡ pageReplaced old page place m (view s (words (now (mem .entry)))) ⌝ }
+{
+    write(mem, s, Region::PageState, old, WAITING);
+    write(mem, s, Region::PageReplaced, old, m);
+    write(mem, s, Region::Current, place, page);
+    write(mem, s, Region::Header, HEADER_MERGES, m);
+}
+
+// Column c of range g is merged through tail record n, into a free page.
+pub fn merge(mem: &mut [u8], s: Sizes, g: usize, c: usize, n: Tail, page: usize)
+    requires { ⌜ need s * 4 ≤ length (now mem) ⌝ }
+    requires { ⌜ Proper s × Pooled s (view s (words (now mem))) ⌝ }
+    requires { ⌜ Mergeable s (view s (words (now mem))) g c (n .0) page ⌝ }
+    ensures { λ _. ⌜ view s (words (now (mem .exit))) ≡ mergedIn (shapeIn s) g c (n .0) (view s (words (now (mem .entry)))) ⌝ }
+{
+    let place = g * s.columns + c;
+    let old = read(mem, s, Region::Current, place) as usize;
+    let low = read(mem, s, Region::PageLineage, old);
+    let newest = read(mem, s, Region::PageNewest, old);
+    let m = next_word(read(mem, s, Region::Header, HEADER_MERGES));
+    let latest = copy_and_apply(
+        mem,
+        s,
+        g,
+        c,
+        old,
+        page,
+        low as usize,
+        (n.0 - low) as usize,
+        newest,
+    );
+    put_page(mem, s, page, place as u32, m, n.0, latest);
+    replace_page(mem, s, old, page as u32, place, m);
+}
+
+// ---- release
+
+// The least of the first n entries, or the highest word where there is none.
+fn least(entries: [u32; 16], n: usize) -> u32
+    requires { ⌜ n ≤ 16 ⌝ }
+    ensures { λ r. ⌜ r ≡ leastOf entries n ⌝ }
+{
+    let mut r = 0xffff_ffff;
+    let mut i = 0;
+    while i < n {
+        r = lesser(entries[i], r);
+        i += 1;
+    }
+    r
+}
+
+// The lesser of two numbers.
+fn lesser(a: u32, b: u32) -> u32
+    ensures { λ r. ⌜ r ≡ cond (ltb a b) a b ⌝ }
+{
+    if a < b { a } else { b }
+}
+
+// Whether a page waits that no scan needs.
+fn is_spare(state: u32, replaced: u32, least: u32) -> bool
+    ensures { λ r. ⌜ r ≡ (ltb 1 state && not (ltb least replaced)) ⌝ }
+{
+    if state > 1 { replaced <= least } else { false }
+}
+
+// The state of a page that is freed or not.
+fn state_after(freed: bool, state: u32) -> u32
+    ensures { λ r. ⌜ r ≡ cond freed 0 state ⌝ }
+{
+    if freed { 0 } else { state }
+}
+
+// One more where a page is freed.
+fn count_after(freed: bool, n: u32) -> u32
+    requires { ⌜ n < 4294967295 ⌝ }
+    ensures { λ r. ⌜ r ≡ cond freed (n + 1) n ⌝ }
+{
+    if freed { n + 1 } else { n }
+}
+
+// A page is freed if it waits and no scan needs it; the answer is the count with it. Each turn stores, so that there is no branch.
+fn free_one(mem: &mut [u8], s: Sizes, least: u32, p: usize, n: u32) -> u32
+    requires { ⌜ need s * 4 ≤ length (now mem) ⌝ }
+    requires { ⌜ (p < s .pages) × (n < 4294967295) ⌝ }
+    ensures { λ r. ⌜ (r ≡ cond (spare least (view s (words (now (mem .entry)))) p) (n + 1) n) × (view s (words (now (mem .exit))) ≡ put Region.PageState p (cond (spare least (view s (words (now (mem .entry)))) p) 0 (getD (view s (words (now (mem .entry))) Region.PageState) p 0)) (view s (words (now (mem .entry))))) ⌝ }
+{
+    let state = read(mem, s, Region::PageState, p);
+    let freed = is_spare(state, read(mem, s, Region::PageReplaced, p), least);
+    write(mem, s, Region::PageState, p, state_after(freed, state));
+    count_after(freed, n)
+}
+
+// Every waiting page that no scan needs is freed; the answer is how many.
+fn free_pages(mem: &mut [u8], s: Sizes, least: u32) -> u32
+    requires { ⌜ need s * 4 ≤ length (now mem) ⌝ }
+    requires { ⌜ Proper s ⌝ }
+    ensures { λ r. ⌜ (r ≡ countBelow (spare least (view s (words (now (mem .entry))))) (s .pages)) × (view s (words (now (mem .exit))) ≡ sparesFreed least (s .pages) (view s (words (now (mem .entry))))) ⌝ }
+{
+    let pages = s.pages;
+    let mut n = 0;
+    let mut p = 0;
+    while p < pages {
+        n = free_one(mem, s, least, p, n);
+        p += 1;
+    }
+    n
+}
+
+// Every waiting page is freed, unless a scan that is open was opened before the merge that replaced it; the answer is how many. `scans` is the table of the
+// scan list.
+pub fn release(mem: &mut [u8], s: Sizes, scans: Scans) -> u32
+    requires { ⌜ need s * 4 ≤ length (now mem) ⌝ }
+    requires { ⌜ Proper s × (scans .count ≤ 16) ⌝ }
+    ensures { λ r. ⌜ ((ps : List Place) → scans ≡ tableOf ps → openCount ps ≤ 16 → (r ≡ countBelow (releasable ps (view s (words (now (mem .entry))))) (pagesOf (shapeIn s))) × (view s (words (now (mem .exit))) ≡ releasedIn (shapeIn s) ps (view s (words (now (mem .entry)))))) ⌝ }
+{
+    let entries = scans.merges;
+    let n = scans.count;
+    let few = least(entries, n);
+    free_pages(mem, s, few)
+}

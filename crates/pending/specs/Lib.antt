@@ -1,0 +1,2 @@
+-- The record of an open transaction.
+pub mod Pending

@@ -1,0 +1,4 @@
+pub mod Views
+pub mod Indices
+pub mod Places
+pub mod Tails

@@ -1,0 +1,172 @@
+// What begin, commit, abort and open scan write, over the lent bytes, and the note of a change. Nothing here tests whether a call may be carried out: a call
+// has done that before, and hands on what its tests have shown. Each contract cites the model's definition of the memory that is left.
+use layout::HEADER_ROWS;
+use layout::HEADER_SCANS;
+use layout::HEADER_STAMP;
+use layout::HEADER_TRANSACTIONS;
+use layout::MOST_TRANSACTIONS;
+use layout::Region;
+use layout::Sizes;
+use loops::Found;
+use pending::Pending;
+use pending::keep;
+use pending::pending_at;
+use regions::find_in;
+use regions::mark_in;
+use regions::read;
+use regions::write;
+use terms::Stamp;
+use terms::Transaction;
+ghost use mathlib.Core.Path.{_≡_};
+ghost use Prim.Native.Nat.{_+_, _*_, _≤_, _<_};
+ghost use lib.Dec.{eqb};
+ghost use lib.ListN.{length};
+ghost use Rattle.words.specs.Words.{words};
+ghost use Rattle.layout.specs.declared.Region.{Region};
+ghost use Rattle.layout.specs.Regions.{index, len, need};
+ghost use Rattle.layout.specs.View.{view, put};
+ghost use Rattle.model.specs.Stored.{place, usedIn, headerIn, transactionsGiven, scansGiven};
+ghost use Rattle.model.specs.Writing.{begun, settled, freed, committedIn, abortedIn};
+ghost use Rattle.model.specs.Asked.{shapeIn, Proper, Counted, FreeAt, OpenAt};
+ghost use Rattle.settling.specs.Steps.{foundAt, notedAt, tailMarked, tailsMarked};
+
+// The states of a row and a tail record, as stored. What an open transaction wrote has the state 0.
+const COMMITTED: u32 = 1;
+
+const ABORTED: u32 = 2;
+
+// The first free place for an open transaction.
+pub fn free_place(mem: &[u8], s: Sizes) -> Found
+    requires { ⌜ need s * 4 ≤ length (now mem) ⌝ }
+    ensures { λ r. ⌜ r ≡ foundAt 8 (place (λ k. eqb k 0) (view s (words (now (mem .entry))) Region.Opens)) ⌝ }
+{
+    find_in(mem, s, Region::Opens, 0, MOST_TRANSACTIONS, 0)
+}
+
+// A new transaction takes a free place, and gets the next number.
+pub fn begin(mem: &mut [u8], s: Sizes, free: usize) -> Transaction
+    requires { ⌜ need s * 4 ≤ length (now mem) ⌝ }
+    requires { ⌜ FreeAt (view s (words (now mem))) free ⌝ }
+    requires { ⌜ headerIn (view s (words (now mem))) transactionsGiven < 65535 ⌝ }
+    ensures { λ r. ⌜ (r .0 ≡ headerIn (view s (words (now (mem .entry)))) transactionsGiven + 1) × (view s (words (now (mem .exit))) ≡ begun (view s (words (now (mem .entry))))) ⌝ }
+{
+    let n = read(mem, s, Region::Header, HEADER_TRANSACTIONS) + 1;
+    keep(mem, s, free, Pending::begin(Transaction(n)));
+    write(mem, s, Region::Header, HEADER_TRANSACTIONS, n);
+    Transaction(n)
+}
+
+// The open transaction at a place notes a change.
+pub fn note(mem: &mut [u8], s: Sizes, at: usize)
+    requires { ⌜ need s * 4 ≤ length (now mem) ⌝ }
+    requires { ⌜ at < 8 ⌝ }
+    ensures { λ _. ⌜ view s (words (now (mem .exit))) ≡ notedAt at (view s (words (now (mem .entry)))) ⌝ }
+{
+    let p = pending_at(mem, s, at).note();
+    write(mem, s, Region::Changes, at, p.changes);
+}
+
+// w in region k for the used records of range g that bear transaction t.
+fn mark_tail(mem: &mut [u8], s: Sizes, t: u32, k: Region, w: u32, g: usize)
+    requires { ⌜ need s * 4 ≤ length (now mem) ⌝ }
+    requires { ⌜ Proper s ⌝ }
+    requires { ⌜ (g < s .ranges) × (usedIn (view s (words (now mem))) g ≤ s .capacity) ⌝ }
+    requires { ⌜ (len s k ≡ s .slots) × (index Region.TailTransaction ≡ index k → ⊥) ⌝ }
+    ensures { λ _. ⌜ view s (words (now (mem .exit))) ≡ tailMarked (shapeIn s) t k w g (view s (words (now (mem .entry)))) ⌝ }
+{
+    let used = read(mem, s, Region::Used, g) as usize;
+    let first = g * s.capacity;
+    mark_in(mem, s, Region::TailTransaction, t, k, first, used, w);
+}
+
+// The same for every range.
+fn mark_tails(mem: &mut [u8], s: Sizes, t: u32, k: Region, w: u32)
+    requires { ⌜ need s * 4 ≤ length (now mem) ⌝ }
+    requires { ⌜ Proper s ⌝ }
+    requires { ⌜ Counted s (view s (words (now mem))) ⌝ }
+    requires { ⌜ (len s k ≡ s .slots) × (index Region.TailTransaction ≡ index k → ⊥) × (index k ≡ index Region.Used → ⊥) ⌝ }
+    ensures { λ _. ⌜ view s (words (now (mem .exit))) ≡ tailsMarked (shapeIn s) t k w (view s (words (now (mem .entry)))) ⌝ }
+{
+    let ranges = s.ranges;
+    let mut g = 0;
+    while g < ranges {
+        mark_tail(mem, s, t, k, w, g);
+        g += 1;
+    }
+}
+
+// Every given row and used record of a transaction gets a state and a stamp.
+fn settle(mem: &mut [u8], s: Sizes, t: u32, state: u32, stamp: u32)
+    requires { ⌜ need s * 4 ≤ length (now mem) ⌝ }
+    requires { ⌜ Proper s ⌝ }
+    requires { ⌜ Counted s (view s (words (now mem))) ⌝ }
+    ensures { λ _. ⌜ view s (words (now (mem .exit))) ≡ settled (shapeIn s) t state stamp (view s (words (now (mem .entry)))) ⌝ }
+{
+    let given = read(mem, s, Region::Header, HEADER_ROWS) as usize;
+    mark_in(
+        mem,
+        s,
+        Region::RowTransaction,
+        t,
+        Region::RowState,
+        0,
+        given,
+        state,
+    );
+    mark_in(
+        mem,
+        s,
+        Region::RowTransaction,
+        t,
+        Region::RowStamp,
+        0,
+        given,
+        stamp,
+    );
+    mark_tails(mem, s, t, Region::TailState, state);
+    mark_tails(mem, s, t, Region::TailStamp, stamp);
+}
+
+// The open transaction at a place hands it back.
+fn free(mem: &mut [u8], s: Sizes, at: usize)
+    requires { ⌜ need s * 4 ≤ length (now mem) ⌝ }
+    requires { ⌜ at < 8 ⌝ }
+    ensures { λ _. ⌜ view s (words (now (mem .exit))) ≡ put Region.Changes at 0 (put Region.Opens at 0 (view s (words (now (mem .entry))))) ⌝ }
+{
+    let p = pending_at(mem, s, at).hand_back();
+    keep(mem, s, at, p);
+}
+
+// What open transaction t, whose place is `at`, has written is committed at a stamp.
+pub fn commit(mem: &mut [u8], s: Sizes, at: usize, t: Transaction, stamp: Stamp)
+    requires { ⌜ need s * 4 ≤ length (now mem) ⌝ }
+    requires { ⌜ Proper s ⌝ }
+    requires { ⌜ Counted s (view s (words (now mem))) × OpenAt (view s (words (now mem))) (t .0) at ⌝ }
+    ensures { λ _. ⌜ view s (words (now (mem .exit))) ≡ committedIn (shapeIn s) (t .0) (stamp .0) (view s (words (now (mem .entry)))) ⌝ }
+{
+    settle(mem, s, t.0, COMMITTED, stamp.0);
+    free(mem, s, at);
+    write(mem, s, Region::Header, HEADER_STAMP, stamp.0);
+}
+
+// What it has written is aborted.
+pub fn abort(mem: &mut [u8], s: Sizes, at: usize, t: Transaction)
+    requires { ⌜ need s * 4 ≤ length (now mem) ⌝ }
+    requires { ⌜ Proper s ⌝ }
+    requires { ⌜ Counted s (view s (words (now mem))) × OpenAt (view s (words (now mem))) (t .0) at ⌝ }
+    ensures { λ _. ⌜ view s (words (now (mem .exit))) ≡ abortedIn (shapeIn s) (t .0) (view s (words (now (mem .entry)))) ⌝ }
+{
+    settle(mem, s, t.0, ABORTED, 0);
+    free(mem, s, at);
+}
+
+// A scan gets the next number; its place in the scan list is not written here.
+pub fn give_scan(mem: &mut [u8], s: Sizes) -> u32
+    requires { ⌜ need s * 4 ≤ length (now mem) ⌝ }
+    requires { ⌜ headerIn (view s (words (now mem))) scansGiven < 65535 ⌝ }
+    ensures { λ r. ⌜ (r ≡ headerIn (view s (words (now (mem .entry)))) scansGiven + 1) × (view s (words (now (mem .exit))) ≡ put Region.Header scansGiven (headerIn (view s (words (now (mem .entry)))) scansGiven + 1) (view s (words (now (mem .entry))))) ⌝ }
+{
+    let n = read(mem, s, Region::Header, HEADER_SCANS) + 1;
+    write(mem, s, Region::Header, HEADER_SCANS, n);
+    n
+}

@@ -1,0 +1,192 @@
+-- What the steps of insert, update and delete do to the parts of the memory that other steps go by, and the turns of the loops.
+use Prim.Native.Nat.{ℕ, _+_, _-_, _*_, _/_, _^_, _≤_, _<_}
+use mathlib.Core.Path.{_≡_, refl, ap, _∙_}
+use mathlib.Core.Bool.{Bool, true, false, cond}
+use mathlib.Core.List.{List}
+use native.Mathlib.Omega.{arith}
+use native.Mathlib.Numerals.{add-one}
+use lib.Dec.{eqb}
+use lib.ListN.{length, getD}
+use lib.Seq.{getD-set-same}
+use lib.Bits.{bitOr}
+use lib.IntN.{ℤ, pos}
+use borrow.Author.Tests.{eq-eqb, ne-eqb}
+use mir.Syntax.{w32}
+use mir.Val.{ofZ, toZ, hbits}
+use mir.ValLaws.{toZ-ofZ}
+use lib.Signed.{mag}
+use Rattle.terms.specs.Measures.{Shape}
+use Rattle.history.specs.History.{rangeOf}
+use Rattle.layout.specs.declared.Sizes.{Sizes}
+use Rattle.layout.specs.declared.Region.{Region}
+use Rattle.words.specs.Words.{words}
+use Rattle.loops.specs.Change.{changed}
+use Rattle.words.proofs.Words.{length-words}
+use Rattle.layout.specs.Regions.{need}
+use Rattle.layout.specs.View.{View, view, renew, put}
+use Rattle.layout.proofs.View.{view-long}
+use Rattle.model.specs.Stored.{openPlace, usedIn, slot, rowIn, cellIn, currentIn, asOriginal}
+use Rattle.model.specs.Writing.{noted, putCells, nextSlot, appended, filledIn, newBits, newBitsIn, recordsWanted, originalAppended, settingAppended, updatedIn}
+use Rattle.model.specs.Asked.{shapeIn, Proper, OpenAt}
+use Rattle.settling.specs.Steps.{notedAt}
+use Rattle.settling.proofs.Views.{renew-none, turn-put, change-none, change-next}
+use Rattle.settling.proofs.Indices.{range-in}
+use Rattle.writing.specs.Steps.{cellsPut, recordPut, cellWords, newestFilled, originalPut, recordsPut, Room, Newest}
+
+-- a note at the place of t, after a step that left the open transactions as they were
+pub noted-at : (v w : View) (t j : ℕ) → OpenAt v t j → w Region.Opens ≡ v Region.Opens → notedAt j w ≡ noted t w
+unfolding notedAt noted openPlace
+noted-at v w t j o e = rw (e, ← o .found)
+
+-- ---- the loop that puts a row's values into the current pages
+module _ (S : Shape) (g i : ℕ) (vs : List ℤ) (v : View) where
+  -- the view after c columns
+  unfoldable pub cellsTo : ℕ → View
+  cellsTo c = renew Region.Cells (putCells S (v Region.Current) g i vs c (v Region.Cells)) v
+
+  pub cells-none : v ≡ cellsTo 0
+  unfolding cellsTo
+  cells-none = renew-none Region.Cells v
+
+  pub cells-current : (x : View) (c : ℕ) → x ≡ cellsTo c → x Region.Current ≡ v Region.Current
+  unfolding cellsTo renew
+  cells-current x c e = ap (λ (y : View). y Region.Current) e
+
+  pub cells-next : (x x′ : View) (c w : ℕ) → x ≡ cellsTo c → w ≡ ofZ w32 (getD vs c (pos 0))
+      → x′ ≡ put Region.Cells (getD (x Region.Current) (g * S .columns + c) 0 * 64 + i) w x → x′ ≡ cellsTo (c + 1)
+  unfolding cellsTo
+  cells-next x x′ c w e q p =
+      turn-put Region.Cells (putCells S (v Region.Current) g i vs c (v Region.Cells)) v x x′ _ w e p
+      ∙ rw (cells-current x c e, q, add-one)
+
+  pub cells-all : (x : View) (c : ℕ) → x ≡ cellsTo c → c ≤ S .columns → S .columns ≤ c → x ≡ cellsPut S g i vs v
+  unfolding cellsTo cellsPut
+  cells-all x c e h m = let q : c ≡ S .columns = omega arith in e ∙ rw q
+
+-- ---- an appended record is the newest of its range
+pub appended-used : (S : Shape) (t r kind mask : ℕ) (v : View) → rangeOf r < length (v Region.Used)
+    → usedIn (appended S t r kind mask v) (rangeOf r) ≡ usedIn v (rangeOf r) + 1
+unfolding appended put renew
+appended-used S t r kind mask v h = getD-set-same (v Region.Used) (rangeOf r) _ 0 h
+
+-- the count of records of each range is there
+pub used-long : (s : Sizes) (m : List ℕ) → need s * 4 ≤ length m → length (view s (words m) Region.Used) ≡ s .ranges
+used-long s m h = view-long s (words m) (omega (arith, length-words m)) Region.Used
+
+-- the words that are put, as the code has them
+pub appended-is : (S : Shape) (t r kind mask : ℕ) (v : View) → let u = getD (v Region.Used) (r / 64) 0 in
+    put Region.RowLink r (u + 1) (put Region.Used (r / 64) (u + 1) (recordPut (r / 64 * S .capacity + u) t r kind mask (getD (v Region.RowLink) r 0) v))
+    ≡ appended S t r kind mask v
+unfolding appended nextSlot recordPut slot rangeOf rowIn
+appended-is S t r kind mask v =
+    let u = getD (v Region.Used) (r / 64) 0 in
+    let e : u + 1 - 1 ≡ u = omega arith in
+    rw e
+
+pub appended-newest : (s : Sizes) (t r kind mask : ℕ) (v : View) → Proper s → Room s v r 1 → length (v Region.Used) ≡ s .ranges
+    → Newest s (appended (shapeIn s) t r kind mask v) (r / 64)
+unfolding rangeOf
+appended-newest s t r kind mask v p o l =
+    let g : r / 64 < s .ranges = range-in s p r (o .row-below) in
+    let e = appended-used (shapeIn s) t r kind mask v (omega arith) in
+    record { range-below = g; some = omega (arith, e); most = omega (arith, e, o .left) }
+
+-- so that filling the newest record fills the appended one
+pub appended-filled : (s : Sizes) (t r kind mask : ℕ) (f : ℕ → ℕ) (v : View) → Proper s → Room s v r 1 → length (v Region.Used) ≡ s .ranges
+    → newestFilled (shapeIn s) (r / 64) f (appended (shapeIn s) t r kind mask v)
+    ≡ filledIn (shapeIn s) (nextSlot (shapeIn s) v (r / 64)) f (appended (shapeIn s) t r kind mask v)
+unfolding newestFilled nextSlot rangeOf
+appended-filled s t r kind mask f v p o l =
+    let g : r / 64 < s .ranges = range-in s p r (o .row-below) in
+    ap (λ (k : ℕ). filledIn (shapeIn s) (slot (shapeIn s) (r / 64) k) f (appended (shapeIn s) t r kind mask v))
+    (appended-used (shapeIn s) t r kind mask v (omega arith))
+
+-- after the record of the original values
+pub original-used : (S : Shape) (t r fresh : ℕ) (v : View) → r / 64 < length (v Region.Used)
+    → usedIn (originalPut S t r fresh v) (r / 64) ≡ usedIn v (r / 64) + 1
+unfolding originalPut filledIn rangeOf renew
+original-used S t r fresh v h = appended-used S t r asOriginal fresh v h
+
+pub original-room : (s : Sizes) (t r fresh : ℕ) (v : View) → Proper s → Room s v r 2 → length (v Region.Used) ≡ s .ranges
+    → Room s (originalPut (shapeIn s) t r fresh v) r 1
+original-room s t r fresh v p o l =
+    let g : r / 64 < s .ranges = range-in s p r (o .row-below) in
+    let e = original-used (shapeIn s) t r fresh v (omega arith) in
+    record { row-below = o .row-below; left = omega (arith, e, o .left) }
+
+-- the records of an update leave the open transactions as they were
+pub records-opens : (S : Shape) (t r mask : ℕ) (vs : List ℤ) (v : View) → recordsPut S t r mask vs v Region.Opens ≡ v Region.Opens
+unfolding recordsPut settingAppended originalAppended filledIn appended put renew
+records-opens S t r mask vs v = go (eqb (newBitsIn v r mask) 0)
+  where
+    go : (b : Bool)
+        → cond {A = View} b (settingAppended S t r mask vs v) (settingAppended S t r mask vs (originalAppended S t r mask v)) Region.Opens ≡ v Region.Opens
+    go true = refl
+    go false = refl
+
+-- ---- the loops that fill the newest record of a range
+module _ (S : Shape) (f : ℕ → ℕ) (at : ℕ) (v : View) where
+  -- the view after c columns
+  unfoldable pub fillsTo : ℕ → View
+  fillsTo c = renew Region.TailValues (changed (λ k w. f k) at c (v Region.TailValues)) v
+
+  pub fills-none : v ≡ fillsTo 0
+  unfolding fillsTo
+  fills-none = change-none Region.TailValues (λ k w. f k) at v
+
+  pub fills-next : (x x′ : View) (c w : ℕ) → x ≡ fillsTo c → w ≡ f c → x′ ≡ put Region.TailValues (at + c) w x → x′ ≡ fillsTo (c + 1)
+  unfolding fillsTo
+  fills-next x x′ c w e q p = change-next Region.TailValues (λ k w. f k) at v x x′ c w e q p
+
+  pub fills-all : (g : ℕ) (x : View) (c : ℕ) → at ≡ slot S g (usedIn v g) * S .columns → x ≡ fillsTo c → c ≤ S .columns → S .columns ≤ c
+      → x ≡ newestFilled S g f v
+  unfolding fillsTo newestFilled filledIn
+  fills-all g x c q e h m = let z : c ≡ S .columns = omega arith in e ∙ rw (z, q)
+
+  -- what the turns read is as it was
+  pub fills-current : (x : View) (c : ℕ) → x ≡ fillsTo c → x Region.Current ≡ v Region.Current
+  unfolding fillsTo renew
+  fills-current x c e = ap (λ (y : View). y Region.Current) e
+
+  pub fills-cells : (x : View) (c : ℕ) → x ≡ fillsTo c → x Region.Cells ≡ v Region.Cells
+  unfolding fillsTo renew
+  fills-cells x c e = ap (λ (y : View). y Region.Cells) e
+
+-- the word that a turn reads in a current page
+pub fills-cell : (S : Shape) (g i at : ℕ) (v x : View) (c w : ℕ) → x ≡ fillsTo S (cellWords S v g i) at v c
+    → w ≡ getD (x Region.Cells) (getD (x Region.Current) (g * S .columns + c) 0 * 64 + i) 0 → w ≡ cellWords S v g i c
+unfolding cellWords cellIn currentIn
+fills-cell S g i at v x c w e q =
+    q ∙ rw (fills-current S (cellWords S v g i) at v x c e, fills-cells S (cellWords S v g i) at v x c e)
+
+-- ---- the records of an update: fresh are the columns that it sets for the first time
+pub fresh-is : (v : View) (r mask old fresh : ℕ) → old ≡ getD (v Region.RowMask) r 0 → fresh ≡ newBits mask old → fresh ≡ newBitsIn v r mask
+unfolding newBitsIn rowIn
+fresh-is v r mask old fresh p q = q ∙ ap (newBits mask) p
+
+module _ (v : View) (r mask fresh : ℕ) (e : fresh ≡ newBitsIn v r mask) where
+  pub wanted-one : fresh ≡ 0 → recordsWanted v r mask ≡ 1
+  unfolding recordsWanted
+  wanted-one z = rw (← e, eq-eqb fresh 0 z)
+
+  pub wanted-two : (fresh ≡ 0 → ⊥) → recordsWanted v r mask ≡ 2
+  unfolding recordsWanted
+  wanted-two n = rw (← e, ne-eqb fresh 0 n)
+
+  pub records-one : (S : Shape) (t : ℕ) (vs : List ℤ) → fresh ≡ 0 → settingAppended S t r mask vs v ≡ recordsPut S t r mask vs v
+  unfolding recordsPut
+  records-one S t vs z = rw (← e, eq-eqb fresh 0 z)
+
+  pub records-two : (S : Shape) (t : ℕ) (vs : List ℤ) → (fresh ≡ 0 → ⊥)
+      → settingAppended S t r mask vs (originalPut S t r fresh v) ≡ recordsPut S t r mask vs v
+  unfolding recordsPut originalAppended originalPut cellWords
+  records-two S t vs n = rw (← e, ne-eqb fresh 0 n)
+
+pub updated-is : (S : Shape) (t r mask : ℕ) (vs : List ℤ) (v : View)
+    → noted t (put Region.RowMask r (bitOr mask (getD (v Region.RowMask) r 0)) (recordsPut S t r mask vs v)) ≡ updatedIn S t r mask vs v
+unfolding updatedIn recordsPut rowIn
+updated-is S t r mask vs v = refl
+
+-- the word of a signed number that was read from an array
+pub word-of : (z : ℤ) (r : ℕ) → r ≡ ofZ w32 (toZ w32 (ofZ w32 z)) → mag z < 2 ^ hbits w32 → r ≡ ofZ w32 z
+word-of z r e h = e ∙ ap (ofZ w32) (toZ-ofZ w32 z (record { sfits = h }))

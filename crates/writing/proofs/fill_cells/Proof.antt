@@ -1,0 +1,59 @@
+-- `writing::fill_cells` meets its contract: the loop copies the word of each column.
+use native.Mathlib.Omega.{arith}
+use borrow.Author.Needs.{needs}
+use Prim.Native.Nat.{_+_, _*_, _-_, _≤_}
+use mathlib.Core.Path.{_≡_}
+use lib.ListN.{length}
+use Rattle.words.specs.Words.{words}
+use Rattle.layout.specs.Regions.{need}
+use Rattle.layout.specs.View.{view}
+use Rattle.model.specs.Asked.{shapeIn}
+use Rattle.settling.proofs.Indices.{places-in, sizes-need}
+use Rattle.writing.specs.Steps.{cellWords}
+use Rattle.writing.proofs.Steps.{fillsTo, fills-none, fills-next, fills-all, fills-current, fills-cell}
+use Rattle.writing.proofs.fill_cells.Statement.{statement}
+use Rattle.writing.proofs.fill_cells.Tie as tie
+
+abbrev Inv-loop : tie.InvT-loop
+Inv-loop mem₀ s g i columns to first c₀ mem c =
+    (c ≤ columns) × (length mem ≡ length mem₀) × (view s (words mem) ≡ fillsTo (shapeIn s) (cellWords (shapeIn s) (view s (words mem₀)) g i) to (view s (words mem₀)) c)
+
+abbrev μ-loop : tie.MeasureT-loop
+μ-loop mem₀ s g i columns to first c₀ mem c = columns - c
+
+-- the range's current pages lie among the places
+inside : (c : tie.Start Inv-loop μ-loop) → let a = c .args in (a .g * a .s .columns + a .s .columns ≤ a .s .places) × (a .s .places + a .s .values ≤ need (a .s))
+inside c = let a = c .args in (places-in (a .s) (c .pre .1 .0 .0) (a .g) (c .pre .1 .1 .0 .range-below), omega (arith, sizes-need (a .s)))
+
+cell-word-requires : tie.Need-cell-word-requires Inv-loop μ-loop
+cell-word-requires c κs =
+    let start = c .before .before .before .before .before .before in
+    let e = fills-current _ _ _ _ _ _ (c .before .before .loop .inv .2) in
+    (omega arith, (omega (arith, inside start), start .pre .1 .1 .1, rw e (start .pre .1 .0 .1 _ (omega (arith, inside start)))))
+
+loop-again : tie.Need-loop-again Inv-loop μ-loop
+loop-again c =
+    let e = c .before .before .before .before .before .before .before .loop .inv .2 in
+    (omega arith, omega arith, fills-next _ _ _ _ _ _ _ _ e (fills-cell _ _ _ _ _ _ _ _ e (c .before .before .before .before .cell-word .ensures)) (c .before .before .write .ensures))
+
+returns : tie.Need-returns Inv-loop μ-loop
+returns c = fills-all _ _ _ _ _ _ _ (c .before .before .newest-values .ensures .0) (c .before .loop .inv .2) (omega arith) (omega arith)
+
+pub fill-cells-spec : {M : Type 1} → statement M
+fill-cells-spec =
+    tie.close
+    (tie.spec
+    Inv-loop
+    μ-loop
+    (λ c κs. search needs)
+    (λ c. omega (arith, inside (c .before .before .before)))
+    (λ c. (omega arith, omega arith, fills-none _ _ _ _))
+    (λ c. omega (arith, inside (c .before .before .before .before .before .before)))
+    cell-word-requires
+    (λ c. omega (arith, inside (c .before .before .before .before .before .before .before .before)))
+    (λ c κs. omega arith)
+    (λ c. omega arith)
+    (λ c. omega arith)
+    loop-again
+    (λ c. omega arith)
+    returns)

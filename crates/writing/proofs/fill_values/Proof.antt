@@ -1,0 +1,53 @@
+-- `writing::fill_values` meets its contract: the loop puts the word of each value.
+use native.Mathlib.Omega.{arith}
+use borrow.Author.Needs.{needs}
+use Prim.Native.Nat.{_+_, _*_, _-_, _≤_}
+use mathlib.Core.Path.{_≡_}
+use lib.IntN.{pos}
+use lib.ListN.{length, getD}
+use Rattle.words.specs.Words.{words}
+use Rattle.layout.specs.Regions.{need}
+use Rattle.layout.specs.View.{view}
+use Rattle.model.specs.Asked.{shapeIn}
+use Rattle.settling.proofs.Indices.{sizes-need}
+use Rattle.writing.specs.Steps.{valueWords}
+use Rattle.writing.proofs.Steps.{fillsTo, fills-none, fills-next, fills-all, word-of}
+use Rattle.writing.proofs.fill_values.Statement.{statement}
+use Rattle.writing.proofs.fill_values.Tie as tie
+
+abbrev Inv-loop : tie.InvT-loop
+Inv-loop mem₀ s g vs columns to c₀ mem c =
+    (c ≤ columns) × (length mem ≡ length mem₀) × (view s (words mem) ≡ fillsTo (shapeIn s) (valueWords vs) to (view s (words mem₀)) c)
+
+abbrev μ-loop : tie.MeasureT-loop
+μ-loop mem₀ s g vs columns to c₀ mem c = columns - c
+
+-- the columns are few, and the values are among the words needed
+inside : (c : tie.Start Inv-loop μ-loop) → (c .args .s .columns ≤ 16) × (c .args .s .values ≤ need (c .args .s))
+inside c = (c .pre .1 .0 .columns-to, omega (arith, sizes-need (c .args .s)))
+
+loop-again : tie.Need-loop-again Inv-loop μ-loop
+loop-again c =
+    (omega arith, omega arith, fills-next _ _ _ _ _ _ _ _ (c .before .before .before .before .before .before .before .loop .inv .2) (word-of (getD (c .before .before .before .before .before .before .before .before .before .before .before .args .t4) (c .before .before .before .before .before .before .before .loop .c) (pos 0)) _ (c .before .before .before .to-word .ensures) (c .before .before .before .before .to-word-arg .given)) (c .before .before .write .ensures))
+
+returns : tie.Need-returns Inv-loop μ-loop
+returns c = fills-all _ _ _ _ _ _ _ (c .before .before .newest-values .ensures .0) (c .before .loop .inv .2) (omega arith) (omega arith)
+
+pub fill-values-spec : {M : Type 1} → statement M
+fill-values-spec =
+    tie.close
+    (tie.spec
+    Inv-loop
+    μ-loop
+    (λ c κs. search needs)
+    (λ c. (omega arith, omega arith, fills-none _ _ _ _))
+    (λ c. omega (arith, inside (c .before .before .before .before .before .before)))
+    (λ c. omega (arith, inside (c .before .before .before .before .before .before)))
+    (λ c. omega (arith, inside (c .before .before .before .before .before .before)))
+    (λ c κs. search needs)
+    (λ c κs. omega (arith, inside (c .before .before .before .before .before .before .before .before)))
+    (λ c. omega arith)
+    (λ c. omega arith)
+    loop-again
+    (λ c. omega arith)
+    returns)

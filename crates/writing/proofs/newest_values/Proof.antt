@@ -1,0 +1,37 @@
+-- `writing::newest_values` meets its contract.
+use native.Mathlib.Omega.{arith}
+use borrow.Author.Needs.{needs}
+use Prim.Native.Nat.{_+_, _*_, _-_, _≤_, _<_}
+use mathlib.Core.Path.{refl}
+use Rattle.layout.specs.Regions.{need}
+use Rattle.model.specs.Stored.{slot}
+use Rattle.settling.proofs.Indices.{tail-in, values-in, sizes-need}
+use Rattle.writing.proofs.newest_values.Statement.{statement}
+use Rattle.writing.proofs.newest_values.Tie as tie
+
+-- the newest record lies among the slots, and its values among the values
+inside : (c : tie.After-read) → let a = c .before .before .args in
+    let k = a .g * a .s .capacity + (c .read .result - 1) in
+    (a .g * a .s .capacity + a .s .capacity ≤ a .s .slots) × (k * a .s .columns + a .s .columns ≤ a .s .values) × (a .s .slots + a .s .values ≤ need (a .s))
+inside c =
+    let start = c .before .before in
+    let a = start .args in
+    let p = start .pre .1 .0 in
+    let h = tail-in (a .s) p (a .g) (start .pre .1 .1 .range-below) in
+    (h, values-in (a .s) p _ (omega (arith, h, c .read .ensures, start .pre .1 .1 .some, start .pre .1 .1 .most)), omega (arith, sizes-need (a .s)))
+
+returns : tie.Need-returns
+unfolding slot
+returns c = (rw (c .before .before .read .ensures), inside (c .before .before) .1)
+
+pub newest-values-spec : {M : Type 1} → statement M
+newest-values-spec =
+    tie.close
+    (tie.spec
+    (λ c κs. search needs)
+    (λ c. search needs)
+    (λ c. omega (arith, inside (c .before)))
+    (λ c. search needs)
+    (λ c. omega (arith, inside (c .before)))
+    (λ c. omega (arith, inside (c .before .before)))
+    returns)

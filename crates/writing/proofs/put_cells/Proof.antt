@@ -1,0 +1,59 @@
+-- `writing::put_cells` meets its contract: the loop puts a word into the current page of each column.
+use native.Mathlib.Omega.{arith}
+use borrow.Author.Needs.{needs}
+use Prim.Native.Nat.{_+_, _*_, _-_, _≤_}
+use mathlib.Core.Path.{_≡_}
+use lib.IntN.{pos}
+use lib.ListN.{length, getD}
+use Rattle.words.specs.Words.{words}
+use Rattle.layout.specs.Regions.{need}
+use Rattle.layout.specs.View.{view}
+use Rattle.model.specs.Asked.{shapeIn}
+use Rattle.settling.proofs.Indices.{places-in, sizes-need}
+use Rattle.writing.proofs.Steps.{cellsTo, cells-none, cells-current, cells-next, cells-all, word-of}
+use Rattle.writing.proofs.put_cells.Statement.{statement}
+use Rattle.writing.proofs.put_cells.Tie as tie
+
+abbrev Inv-loop : tie.InvT-loop
+Inv-loop mem₀ s g i vs columns first c₀ mem c =
+    (c ≤ columns) × (length mem ≡ length mem₀) × (view s (words mem) ≡ cellsTo (shapeIn s) g i vs (view s (words mem₀)) c)
+
+abbrev μ-loop : tie.MeasureT-loop
+μ-loop mem₀ s g i vs columns first c₀ mem c = columns - c
+
+-- the range's current pages lie among the places
+inside : (c : tie.Start Inv-loop μ-loop) → let a = c .args in (a .g * a .s .columns + a .s .columns ≤ a .s .places) × (a .s .places ≤ need (a .s)) × (a .s .columns ≤ 16)
+inside c = let a = c .args in (places-in (a .s) (c .pre .1 .0 .0) (a .g) (c .pre .1 .1 .0), omega (arith, sizes-need (a .s)), c .pre .1 .0 .0 .columns-to)
+
+put-cell-requires : tie.Need-put-cell-requires Inv-loop μ-loop
+put-cell-requires c κs =
+    let start = c .before .before .before .before .before .before in
+    let k = c .before .before .before .before .loop .c in
+    let e = cells-current _ _ _ _ _ _ _ (c .before .before .before .before .loop .inv .2) in
+    (omega arith, (omega (arith, inside start), start .pre .1 .1 .1, rw e (start .pre .1 .0 .1 _ (omega (arith, inside start)))))
+
+loop-again : tie.Need-loop-again Inv-loop μ-loop
+loop-again c =
+    (omega arith, omega arith, cells-next _ _ _ _ _ _ _ _ _ (c .before .before .before .before .before .before .before .loop .inv .2) (word-of (getD (c .before .before .before .before .before .before .before .before .before .args .t5) (c .before .before .before .before .before .before .before .loop .c) (pos 0)) _ (c .before .before .before .to-word .ensures) (c .before .before .before .before .to-word-arg .given)) (c .before .before .put-cell .ensures))
+
+returns : tie.Need-returns Inv-loop μ-loop
+returns c = cells-all _ _ _ _ _ _ _ (c .before .loop .inv .2) (omega arith) (omega arith)
+
+pub put-cells-spec : {M : Type 1} → statement M
+put-cells-spec =
+    tie.close
+    (tie.spec
+    Inv-loop
+    μ-loop
+    (λ c. omega (arith, inside (c .before)))
+    (λ c. (omega arith, omega arith, cells-none _ _ _ _ _))
+    (λ c. omega (arith, inside (c .before .before .before .before)))
+    (λ c. omega (arith, inside (c .before .before .before .before)))
+    (λ c. omega (arith, inside (c .before .before .before .before)))
+    (λ c κs. search needs)
+    put-cell-requires
+    (λ c. omega arith)
+    (λ c. omega arith)
+    loop-again
+    (λ c. omega arith)
+    returns)

@@ -1,0 +1,2 @@
+-- The steps of insert, update and delete.
+pub mod Steps

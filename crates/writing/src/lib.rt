@@ -1,0 +1,281 @@
+// What insert, update and delete write, over the lent bytes. Nothing here tests whether a call may be carried out: a call has done that before, and hands on
+// what its tests have shown. Each contract cites the model's definition of the memory that is left.
+use layout::HEADER_ROWS;
+use layout::RANGE_ROWS;
+use layout::Region;
+use layout::Sizes;
+use regions::read;
+use regions::write;
+use settling::note;
+use terms::Row;
+use terms::Tail;
+use terms::Transaction;
+use words::to_word;
+ghost use mathlib.Core.Path.{_≡_};
+ghost use Prim.Native.Nat.{_+_, _*_, _≤_, _<_};
+ghost use lib.ListN.{length, getD};
+ghost use Rattle.words.specs.Words.{words};
+ghost use Rattle.history.specs.History.{rangeOf};
+ghost use Rattle.layout.specs.Regions.{need};
+ghost use Rattle.layout.specs.declared.Region.{Region};
+ghost use Rattle.layout.specs.View.{view, put};
+ghost use Rattle.model.specs.Stored.{headerIn, rowsGiven, usedIn, slot};
+ghost use Rattle.model.specs.Writing.{insertedIn, appended, newBits, recordsWanted, settingAppended, updatedIn, deletedIn};
+ghost use Rattle.model.specs.Asked.{shapeIn, Proper, Pooled, OpenAt};
+ghost use Rattle.writing.specs.Steps.{rowPut, cellsPut, recordPut, cellWords, valueWords, newestFilled, originalPut, recordsPut, Room, Newest};
+
+// The kinds of tail records, as stored.
+const ORIGINAL: u32 = 0;
+
+const SETTING: u32 = 1;
+
+const DELETE: u32 = 2;
+
+// ---- insert
+
+// The words of a row that transaction t inserts.
+fn put_row(mem: &mut [u8], s: Sizes, t: u32, row: usize)
+    requires { ⌜ need s * 4 ≤ length (now mem) ⌝ }
+    requires { ⌜ row < s .rows ⌝ }
+    ensures { λ _. ⌜ view s (words (now (mem .exit))) ≡ rowPut t row (view s (words (now (mem .entry)))) ⌝ }
+{
+    write(mem, s, Region::RowTransaction, row, t);
+    write(mem, s, Region::RowState, row, 0);
+    write(mem, s, Region::RowStamp, row, 0);
+    write(mem, s, Region::RowLink, row, 0);
+    write(mem, s, Region::RowMask, row, 0);
+}
+
+// The value of a column into a place of a range's current page.
+fn put_cell(mem: &mut [u8], s: Sizes, place: usize, i: usize, w: u32)
+    requires { ⌜ need s * 4 ≤ length (now mem) ⌝ }
+    requires { ⌜ (place < s .places) × (i < 64) × (getD (view s (words (now mem)) Region.Current) place 0 < s .pages) ⌝ }
+    ensures { λ _. ⌜ view s (words (now (mem .exit))) ≡ put Region.Cells (getD (view s (words (now (mem .entry))) Region.Current) place 0 * 64 + i) w (view s (words (now (mem .entry)))) ⌝ }
+{
+    let page = read(mem, s, Region::Current, place) as usize;
+    write(mem, s, Region::Cells, page * RANGE_ROWS + i, w);
+}
+
+// The values of a row into place i of the current pages of range g.
+fn put_cells(mem: &mut [u8], s: Sizes, g: usize, i: usize, vs: [i32; 16])
+    requires { ⌜ need s * 4 ≤ length (now mem) ⌝ }
+    requires { ⌜ Proper s × Pooled s (view s (words (now mem))) ⌝ }
+    requires { ⌜ (g < s .ranges) × (i < 64) ⌝ }
+    ensures { λ _. ⌜ view s (words (now (mem .exit))) ≡ cellsPut (shapeIn s) g i vs (view s (words (now (mem .entry)))) ⌝ }
+{
+    let columns = s.columns;
+    let first = g * columns;
+    let mut c = 0;
+    while c < columns {
+        put_cell(mem, s, first + c, i, to_word(vs[c]));
+        c += 1;
+    }
+}
+
+// A new row of open transaction t, whose place is `at`: the next number, and a value for each column.
+pub fn insert(mem: &mut [u8], s: Sizes, at: usize, t: Transaction, vs: [i32; 16]) -> Row
+    requires { ⌜ need s * 4 ≤ length (now mem) ⌝ }
+    requires { ⌜ Proper s × Pooled s (view s (words (now mem))) ⌝ }
+    requires { ⌜ OpenAt (view s (words (now mem))) (t .0) at × (headerIn (view s (words (now mem))) rowsGiven < s .rows) ⌝ }
+    ensures { λ r. ⌜ (r .0 ≡ headerIn (view s (words (now (mem .entry)))) rowsGiven) × (view s (words (now (mem .exit))) ≡ insertedIn (shapeIn s) (t .0) vs (view s (words (now (mem .entry))))) ⌝ }
+{
+    let r = read(mem, s, Region::Header, HEADER_ROWS);
+    let row = r as usize;
+    put_row(mem, s, t.0, row);
+    put_cells(mem, s, row / RANGE_ROWS, row % RANGE_ROWS, vs);
+    write(mem, s, Region::Header, HEADER_ROWS, r + 1);
+    note(mem, s, at);
+    Row(r)
+}
+
+// ---- update and delete
+
+// The words of a tail record of transaction t for a row.
+fn put_record(
+    mem: &mut [u8],
+    s: Sizes,
+    slot: usize,
+    t: u32,
+    row: u32,
+    kind: u32,
+    mask: u32,
+    link: u32,
+)
+    requires { ⌜ need s * 4 ≤ length (now mem) ⌝ }
+    requires { ⌜ slot < s .slots ⌝ }
+    ensures { λ _. ⌜ view s (words (now (mem .exit))) ≡ recordPut slot t row kind mask link (view s (words (now (mem .entry)))) ⌝ }
+{
+    write(mem, s, Region::TailTransaction, slot, t);
+    write(mem, s, Region::TailRow, slot, row);
+    write(mem, s, Region::TailKind, slot, kind);
+    write(mem, s, Region::TailMask, slot, mask);
+    write(mem, s, Region::TailLink, slot, link);
+    write(mem, s, Region::TailState, slot, 0);
+    write(mem, s, Region::TailStamp, slot, 0);
+}
+
+// One tail record more for a row, of open transaction t: it links to the row's newest one and is the row's newest now.
+fn append(mem: &mut [u8], s: Sizes, t: u32, row: u32, kind: u32, mask: u32)
+    requires { ⌜ need s * 4 ≤ length (now mem) ⌝ }
+    requires { ⌜ Proper s ⌝ }
+    requires { ⌜ Room s (view s (words (now mem))) row 1 ⌝ }
+    ensures { λ _. ⌜ view s (words (now (mem .exit))) ≡ appended (shapeIn s) t row kind mask (view s (words (now (mem .entry)))) ⌝ }
+{
+    let r = row as usize;
+    let g = r / RANGE_ROWS;
+    let used = read(mem, s, Region::Used, g);
+    let link = read(mem, s, Region::RowLink, r);
+    let slot = g * s.capacity + used as usize;
+    put_record(mem, s, slot, t, row, kind, mask, link);
+    write(mem, s, Region::Used, g, used + 1);
+    write(mem, s, Region::RowLink, r, used + 1);
+}
+
+// Where the values of the newest record of range g start.
+fn newest_values(mem: &[u8], s: Sizes, g: usize) -> usize
+    requires { ⌜ need s * 4 ≤ length (now mem) ⌝ }
+    requires { ⌜ Proper s ⌝ }
+    requires { ⌜ Newest s (view s (words (now mem))) g ⌝ }
+    ensures { λ r. ⌜ (r ≡ slot (shapeIn s) g (usedIn (view s (words (now (mem .entry)))) g) * s .columns) × (r + s .columns ≤ s .values) ⌝ }
+{
+    let used = read(mem, s, Region::Used, g) as usize;
+    (g * s.capacity + (used - 1)) * s.columns
+}
+
+// The word of a column in place i of a range's current page.
+fn cell_word(mem: &[u8], s: Sizes, place: usize, i: usize) -> u32
+    requires { ⌜ need s * 4 ≤ length (now mem) ⌝ }
+    requires { ⌜ (place < s .places) × (i < 64) × (getD (view s (words (now mem)) Region.Current) place 0 < s .pages) ⌝ }
+    ensures { λ r. ⌜ r ≡ getD (view s (words (now (mem .entry))) Region.Cells) (getD (view s (words (now (mem .entry))) Region.Current) place 0 * 64 + i) 0 ⌝ }
+{
+    let page = read(mem, s, Region::Current, place) as usize;
+    read(mem, s, Region::Cells, page * RANGE_ROWS + i)
+}
+
+// The newest record of range g holds the words of place i of the range's current pages.
+fn fill_cells(mem: &mut [u8], s: Sizes, g: usize, i: usize)
+    requires { ⌜ need s * 4 ≤ length (now mem) ⌝ }
+    requires { ⌜ Proper s × Pooled s (view s (words (now mem))) ⌝ }
+    requires { ⌜ Newest s (view s (words (now mem))) g × (i < 64) ⌝ }
+    ensures { λ _. ⌜ view s (words (now (mem .exit))) ≡ newestFilled (shapeIn s) g (cellWords (shapeIn s) (view s (words (now (mem .entry)))) g i) (view s (words (now (mem .entry)))) ⌝ }
+{
+    let columns = s.columns;
+    let to = newest_values(mem, s, g);
+    let first = g * columns;
+    let mut c = 0;
+    while c < columns {
+        let w = cell_word(mem, s, first + c, i);
+        write(mem, s, Region::TailValues, to + c, w);
+        c += 1;
+    }
+}
+
+// The newest record of range g holds a call's values.
+fn fill_values(mem: &mut [u8], s: Sizes, g: usize, vs: [i32; 16])
+    requires { ⌜ need s * 4 ≤ length (now mem) ⌝ }
+    requires { ⌜ Proper s ⌝ }
+    requires { ⌜ Newest s (view s (words (now mem))) g ⌝ }
+    ensures { λ _. ⌜ view s (words (now (mem .exit))) ≡ newestFilled (shapeIn s) g (valueWords vs) (view s (words (now (mem .entry)))) ⌝ }
+{
+    let columns = s.columns;
+    let to = newest_values(mem, s, g);
+    let mut c = 0;
+    while c < columns {
+        write(mem, s, Region::TailValues, to + c, to_word(vs[c]));
+        c += 1;
+    }
+}
+
+// The record of a row's original values, for the columns of the mask `fresh`.
+fn append_original(mem: &mut [u8], s: Sizes, t: u32, row: u32, fresh: u32)
+    requires { ⌜ need s * 4 ≤ length (now mem) ⌝ }
+    requires { ⌜ Proper s × Pooled s (view s (words (now mem))) ⌝ }
+    requires { ⌜ Room s (view s (words (now mem))) row 1 ⌝ }
+    ensures { λ _. ⌜ view s (words (now (mem .exit))) ≡ originalPut (shapeIn s) t row fresh (view s (words (now (mem .entry)))) ⌝ }
+{
+    append(mem, s, t, row, ORIGINAL, fresh);
+    let r = row as usize;
+    fill_cells(mem, s, r / RANGE_ROWS, r % RANGE_ROWS);
+}
+
+// The record of a call's values, for the columns of its mask.
+fn append_setting(mem: &mut [u8], s: Sizes, t: u32, row: u32, mask: u32, vs: [i32; 16])
+    requires { ⌜ need s * 4 ≤ length (now mem) ⌝ }
+    requires { ⌜ Proper s ⌝ }
+    requires { ⌜ Room s (view s (words (now mem))) row 1 ⌝ }
+    ensures { λ _. ⌜ view s (words (now (mem .exit))) ≡ settingAppended (shapeIn s) t row mask vs (view s (words (now (mem .entry)))) ⌝ }
+{
+    append(mem, s, t, row, SETTING, mask);
+    fill_values(mem, s, row as usize / RANGE_ROWS, vs);
+}
+
+// The columns of a mask that no update has set.
+pub fn new_bits(mask: u32, old: u32) -> u32
+    ensures { λ r. ⌜ r ≡ newBits mask old ⌝ }
+{
+    (mask | old) ^ old
+}
+
+// The tail records that an update of a row takes.
+pub fn records_wanted(mem: &[u8], s: Sizes, row: Row, mask: u32) -> u32
+    requires { ⌜ need s * 4 ≤ length (now mem) ⌝ }
+    requires { ⌜ row .0 < s .rows ⌝ }
+    ensures { λ r. ⌜ r ≡ recordsWanted (view s (words (now (mem .entry)))) (row .0) mask ⌝ }
+{
+    let old = read(mem, s, Region::RowMask, row.0 as usize);
+    if new_bits(mask, old) == 0 { 1 } else { 2 }
+}
+
+// The records of an update, two where it sets a column for the first time.
+fn append_records(mem: &mut [u8], s: Sizes, t: u32, row: u32, mask: u32, vs: [i32; 16])
+    requires { ⌜ need s * 4 ≤ length (now mem) ⌝ }
+    requires { ⌜ Proper s × Pooled s (view s (words (now mem))) ⌝ }
+    requires { ⌜ Room s (view s (words (now mem))) row (recordsWanted (view s (words (now mem))) row mask) ⌝ }
+    ensures { λ _. ⌜ view s (words (now (mem .exit))) ≡ recordsPut (shapeIn s) t row mask vs (view s (words (now (mem .entry)))) ⌝ }
+{
+    let fresh = new_bits(mask, read(mem, s, Region::RowMask, row as usize));
+    if fresh != 0 {
+        append_original(mem, s, t, row, fresh);
+        append_setting(mem, s, t, row, mask, vs);
+        return;
+    }
+    append_setting(mem, s, t, row, mask, vs);
+}
+
+// Open transaction t, whose place is `at`, sets the columns of a mask in a row.
+pub fn update(
+    mem: &mut [u8],
+    s: Sizes,
+    at: usize,
+    t: Transaction,
+    row: Row,
+    mask: u32,
+    vs: [i32; 16],
+) -> Tail
+    requires { ⌜ need s * 4 ≤ length (now mem) ⌝ }
+    requires { ⌜ Proper s × Pooled s (view s (words (now mem))) ⌝ }
+    requires { ⌜ OpenAt (view s (words (now mem))) (t .0) at × Room s (view s (words (now mem))) (row .0) (recordsWanted (view s (words (now mem))) (row .0) mask) ⌝ }
+    ensures { λ r. ⌜ (r .0 ≡ usedIn (view s (words (now (mem .entry)))) (rangeOf (row .0)) + recordsWanted (view s (words (now (mem .entry)))) (row .0) mask) × (view s (words (now (mem .exit))) ≡ updatedIn (shapeIn s) (t .0) (row .0) mask vs (view s (words (now (mem .entry))))) ⌝ }
+{
+    let r = row.0 as usize;
+    let used = read(mem, s, Region::Used, r / RANGE_ROWS);
+    let wanted = records_wanted(mem, s, row, mask);
+    let old = read(mem, s, Region::RowMask, r);
+    append_records(mem, s, t.0, row.0, mask, vs);
+    write(mem, s, Region::RowMask, r, mask | old);
+    note(mem, s, at);
+    Tail(used + wanted)
+}
+
+// Open transaction t, whose place is `at`, deletes a row.
+pub fn delete(mem: &mut [u8], s: Sizes, at: usize, t: Transaction, row: Row) -> Tail
+    requires { ⌜ need s * 4 ≤ length (now mem) ⌝ }
+    requires { ⌜ Proper s ⌝ }
+    requires { ⌜ OpenAt (view s (words (now mem))) (t .0) at × Room s (view s (words (now mem))) (row .0) 1 ⌝ }
+    ensures { λ r. ⌜ (r .0 ≡ usedIn (view s (words (now (mem .entry)))) (rangeOf (row .0)) + 1) × (view s (words (now (mem .exit))) ≡ deletedIn (shapeIn s) (t .0) (row .0) (view s (words (now (mem .entry))))) ⌝ }
+{
+    let used = read(mem, s, Region::Used, row.0 as usize / RANGE_ROWS);
+    append(mem, s, t.0, row.0, DELETE, 0);
+    note(mem, s, at);
+    Tail(used + 1)
+}

@@ -139,7 +139,14 @@ fn insert_in(mem: &mut [u8], s: Sizes, t: Transaction, values: [i32; 16]) -> Ans
     Answer::Number(writing::insert(mem, s, at, t, values).0)
 }
 
-fn update_in(mem: &mut [u8], s: Sizes, t: Transaction, row: Row, mask: u32, values: [i32; 16]) -> Answer
+fn update_in(
+    mem: &mut [u8],
+    s: Sizes,
+    t: Transaction,
+    row: Row,
+    mask: u32,
+    values: [i32; 16],
+) -> Answer
     requires { ⌜ need s * 4 ≤ length (now mem) ⌝ }
     requires { ⌜ Proper s × Linked s (view s (words (now mem))) × Pooled s (view s (words (now mem))) ⌝ }
     ensures { λ r. ⌜ Carries s (view s (words (now (mem .entry)))) (Call.update (t .0) (row .0) mask values) r (view s (words (now (mem .exit)))) ⌝ }
@@ -213,7 +220,14 @@ pub fn insert(mem: &mut [u8], scans: Scans, transaction: Transaction, values: [i
 }
 
 // The columns of a mask are set in a row; the answer is the last tail record's number.
-pub fn update(mem: &mut [u8], scans: Scans, transaction: Transaction, row: Row, mask: u16, values: [i32; 16]) -> Answer
+pub fn update(
+    mem: &mut [u8],
+    scans: Scans,
+    transaction: Transaction,
+    row: Row,
+    mask: u16,
+    values: [i32; 16],
+) -> Answer
     ensures { λ r. ⌜ Leaves (now (mem .entry)) scans (Call.update (transaction .0) (row .0) mask values) r (now (mem .exit)) ⌝ }
 {
     let Checked::Fit(s) = check(mem, scans) else {

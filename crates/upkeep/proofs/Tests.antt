@@ -1,0 +1,116 @@
+-- What the tests of a merge tell of its verdict, and what a merge may rely on once they are passed.
+use Prim.Native.Nat.{ℕ, _+_, _*_, _-_, _≤_, _<_}
+use mathlib.Core.Path.{_≡_, refl, ap, sym, _∙_}
+use mathlib.Core.Bool.{Bool, true, false, not, cond, _||_}
+use mathlib.Core.List.{List, [], _∷_}
+use native.Mathlib.Omega.{arith}
+use native.Mathlib.Nat.{min-le-left}
+use lib.Dec.{eqb, leb, ltb}
+use lib.ListN.{length, getD}
+use borrow.Author.Tests.{leb-true, leb-false, ltb-true, ltb-false, le-leb, lt-leb, lt-ltb, le-ltb}
+use Rattle.terms.specs.Measures.{mostScans}
+use Rattle.terms.specs.declared.Place.{Place}
+use Rattle.words.specs.Words.{words}
+use Rattle.loops.specs.declared.Found.{Found}
+use Rattle.layout.specs.declared.Sizes.{Sizes}
+use Rattle.layout.specs.declared.Region.{Region}
+use Rattle.layout.specs.View.{View, view}
+use Rattle.scans.specs.declared.Scans.{Scans}
+use Rattle.scans.specs.Places.{openCount}
+use Rattle.scans.specs.Table.{tableOf}
+use Rattle.history.specs.History.{Call, accept, verdict, noColumn, noRange}
+use Rattle.history.proofs.Accepted.{passed}
+use Rattle.facts.specs.Facts.{pagesPlaced, pagePlaced}
+use Rattle.facts.specs.declared.Checked.{Checked}
+use Rattle.facts.specs.declared.Checked.the-variants.{Fit}
+use Rattle.facts.specs.Tests.{MemoryFacts, Passed, Safe}
+use Rattle.facts.proofs.Each.{each-tells}
+use Rattle.facts.proofs.Usable.{placed-tells}
+use Rattle.model.specs.Stored.{usedIn, pageIn, currentIn, pagesOf}
+use Rattle.model.specs.Writing.{anyOpen, freeIn}
+use Rattle.model.specs.Calls.{testsIn, outOfReachIn, openAmongIn}
+use Rattle.model.specs.Asked.{shapeIn, Proper, Linked}
+use Rattle.rows.proofs.Indices.{place-in}
+use Rattle.settling.specs.Steps.{foundAt}
+use Rattle.merging.specs.Steps.{Mergeable}
+use Rattle.entry.proofs.Fitted.{column-tells, range-tells}
+use Rattle.lending.proofs.Ends.{off}
+use Rattle.upkeep.specs.Lists.{Currents}
+
+-- ---- the first free page
+found-here : (n i j : ℕ) → foundAt n i ≡ Found.At j → (i < n) × (j ≡ i)
+found-here n i j e = go (ltb i n) refl e
+  where
+    go : (b : Bool) → ltb i n ≡ b → cond b (Found.At i) Found.Nothing ≡ Found.At j → (i < n) × (j ≡ i)
+    go true q f = (ltb-true i n q, cc)
+    go false q f = let z : _≡_ {A = ℕ} 0 1 = cc in absurd (omega arith)
+
+found-none : (n i : ℕ) → foundAt n i ≡ Found.Nothing → n ≤ i
+found-none n i e = go (ltb i n) refl e
+  where
+    go : (b : Bool) → ltb i n ≡ b → cond b (Found.At i) Found.Nothing ≡ Found.Nothing → n ≤ i
+    go true q f = let z : _≡_ {A = ℕ} 0 1 = cc in absurd (omega arith)
+    go false q f = ltb-false i n q
+
+module _ (s : Sizes) (v : View) (p : Proper s) where
+  pages : s .pages ≡ pagesOf (shapeIn s)
+  pages = omega (arith, p .pages-are, p .places-are)
+
+  pub no-page : foundAt (s .pages) (freeIn (shapeIn s) v) ≡ Found.Nothing → leb (pagesOf (shapeIn s)) (freeIn (shapeIn s) v) ≡ true
+  no-page e =
+      le-leb (pagesOf (shapeIn s)) (freeIn (shapeIn s) v) (omega (arith, pages, found-none (s .pages) (freeIn (shapeIn s) v) e))
+
+  pub page-free : (j : ℕ) → foundAt (s .pages) (freeIn (shapeIn s) v) ≡ Found.At j
+      → (leb (pagesOf (shapeIn s)) (freeIn (shapeIn s) v) ≡ false) × (j ≡ freeIn (shapeIn s) v) × (j < s .pages)
+  page-free j e =
+      let f = found-here (s .pages) (freeIn (shapeIn s) v) j e in
+      (lt-leb (pagesOf (shapeIn s)) (freeIn (shapeIn s) v) (omega (arith, pages, f .0)), f .1, omega (arith, f))
+
+-- ---- whether a record is in reach
+module _ (v : View) (g low n used : ℕ) (e : used ≡ usedIn v g) where
+  pub too-low : n ≤ low → (leb n low || ltb (usedIn v g) n) ≡ true
+  too-low h = rw (le-leb n low h)
+
+  pub too-high : low < n → used < n → (leb n low || ltb (usedIn v g) n) ≡ true
+  too-high l h = rw (← e, lt-leb n low l, lt-ltb used n h)
+
+  pub in-reach : low < n → n ≤ used → (leb n low || ltb (usedIn v g) n) ≡ false
+  in-reach l h = rw (← e, lt-leb n low l, le-ltb used n h)
+
+-- ---- what a merge relies on
+pub current-states : (s : Sizes) (m : List ℕ) → Proper s → MemoryFacts s (view s (words m)) → Currents s (view s (words m))
+unfolding pageIn currentIn pagesPlaced
+current-states s m p f g c h l =
+    let v = view s (words m) in
+    placed-tells s v (g * s .columns + c) (each-tells (pagePlaced s v) (s .places) (f .placed) (g * s .columns + c) (place-in s p g c h l)) .1
+
+pub passed-facts : (f : Checked) (s : Sizes) (m : List ℕ) → f ≡ Fit s → Safe f m → MemoryFacts s (view s (words m))
+passed-facts f s m e x = let y : Passed s m = rw e at x in y .facts
+
+or-off : (a b : Bool) → (a || b) ≡ false → (a ≡ false) × (b ≡ false)
+or-off true b e = let z : _≡_ {A = ℕ} 0 1 = cc in absurd (omega arith)
+or-off false b e = (refl, e)
+
+pub mergeable : (s : Sizes) (v : View) (g c n page : ℕ) → Linked s v → Currents s v
+    → verdict (testsIn (shapeIn s) v [] (Call.merge g c n)) ≡ accept → page ≡ freeIn (shapeIn s) v → page < s .pages → Mergeable s v g c n page
+unfolding testsIn outOfReachIn
+mergeable s v g c n page l k e q h =
+    let p = passed (testsIn (shapeIn s) v [] (Call.merge g c n)) e in
+    let low : ℕ = (pageIn v (currentIn (shapeIn s) v g c)) .lineage in
+    let gb = range-tells s g (off (noRange (shapeIn s) g) (p .0)) in
+    let cb = column-tells s c (off (noColumn (shapeIn s) c) (p .1 .0)) in
+    let r = or-off (leb n low) (ltb (usedIn v g) n) (off (leb n low || ltb (usedIn v g) n) (p .1 .1 .0)) in
+    record {
+      range-below = gb;
+      column-below = cb;
+      from = omega (arith, leb-false n low (r .0));
+      to = omega (arith, ltb-false (usedIn v g) n (r .1), l .used-few g gb);
+      free = q;
+      page-below = h;
+      current = k g c gb cb;
+    }
+
+-- ---- a table of a list has at most as many entries as it has room for
+pub table-few : (t : Scans) (ps : List Place) → t ≡ tableOf ps → t .count ≤ mostScans
+unfolding tableOf
+table-few t ps e = rw e (min-le-left mostScans (openCount ps))

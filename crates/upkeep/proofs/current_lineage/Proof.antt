@@ -1,0 +1,33 @@
+-- `upkeep::current_lineage` meets its contract.
+use native.Mathlib.Omega.{arith}
+use borrow.Author.Needs.{needs}
+use Prim.Native.Nat.{_+_, _*_, _≤_, _<_}
+use mathlib.Core.Path.{refl}
+use Rattle.model.specs.Stored.{pageIn, currentIn}
+use Rattle.rows.proofs.Indices.{place-in, places-few}
+use Rattle.upkeep.proofs.current_lineage.Statement.{statement}
+use Rattle.upkeep.proofs.current_lineage.Tie as tie
+
+-- the place of the range and column is there
+inside : (c : tie.Start) → let a = c .args in (a .g * a .s .columns + a .c < a .s .places) × (a .s .places ≤ 256)
+inside c =
+    let p = c .pre .1 .0 .0 in (place-in _ p _ _ (c .pre .1 .1 .0) (c .pre .1 .1 .1), places-few _ p .0)
+
+read-requires-2 : tie.Need-read-requires-2
+read-requires-2 c κs =
+    let start = c .before .before .before in (start .pre .0, rw (c .read .ensures) (start .pre .1 .0 .1 _ (inside start .0)))
+
+returns : tie.Need-returns
+unfolding pageIn currentIn
+returns c = rw (c .read2 .ensures, c .before .read .ensures)
+
+pub current-lineage-spec : {M : Type 1} → statement M
+current-lineage-spec =
+    tie.close
+    (tie.spec
+    (λ c. omega (arith, inside (c .before .before)))
+    (λ c. omega (arith, inside (c .before .before)))
+    (λ c κs. (c .before .before .pre .0, inside (c .before .before) .0))
+    (λ c. search needs)
+    read-requires-2
+    returns)

@@ -1,0 +1,2 @@
+-- What the calls on the scan list promise, and what a merge relies on.
+pub mod Lists

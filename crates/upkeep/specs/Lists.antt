@@ -1,0 +1,45 @@
+-- What the calls that open and close a scan promise: beside the answer and the memory, the one place of the list that they change; and what a merge relies on
+-- of the current pages.
+use Prim.Native.Nat.{ℕ, _-_, _<_}
+use mathlib.Core.Path.{_≡_}
+use mathlib.Core.Bool.{_||_}
+use mathlib.Core.List.{List, [], _∷_}
+use lib.Dec.{leb, ltb}
+use lib.ListN.{set}
+use Rattle.terms.specs.Measures.{Shape, mostNumbers}
+use Rattle.terms.specs.declared.Place.{Place}
+use Rattle.terms.specs.declared.Refusal.{Refusal}
+use Rattle.layout.specs.declared.Sizes.{Sizes}
+use Rattle.layout.specs.View.{View}
+use Rattle.history.specs.History.{Call, Test, _when_}
+use Rattle.scans.specs.declared.Scans.{Scans}
+use Rattle.scans.specs.Table.{tableOf}
+use Rattle.model.specs.Stored.{headerIn, scansGiven, usedIn, pageIn, currentIn, pagesOf, asCurrent}
+use Rattle.model.specs.Writing.{anyOpen, freeIn}
+use Rattle.model.specs.Asked.{shapeIn}
+use Rattle.lending.specs.declared.Tested.{Tested}
+use Rattle.promise.specs.Promise.{answerOf, memoryAfter, listAfter}
+use Rattle.upkeep.specs.declared.Listed.{Listed}
+
+-- A call answers and leaves a memory, and the list that it leaves differs from the lent one in one place, or, where that is past the end, in none.
+unfoldable pub Lists : List ℕ → Scans → Call → Listed → List ℕ → Type 0
+Lists m t c r m′ =
+    (ps : List Place) → t ≡ tableOf ps
+    → (r .answer ≡ answerOf m ps c) × (m′ ≡ memoryAfter m ps c) × (set ps (r .place) (r .entry) ≡ listAfter m ps c)
+
+-- the current page of each range and column says that it is current
+abbrev pub Currents : Sizes → View → Type 0
+Currents s v = (g c : ℕ) → g < s .ranges → c < s .columns → (pageIn v (currentIn (shapeIn s) v g c)) .state ≡ asCurrent
+
+-- the last tests of a merge of range g through record n, into a column whose current page has the lineage `low`
+abbrev pub reachTests : Shape → View → ℕ → ℕ → ℕ → List Test
+reachTests S v g low n =
+    Refusal.Reach when (leb n low || ltb (usedIn v g) n)
+    ∷ Refusal.Open when anyOpen S v g low (n - low)
+    ∷ Refusal.NoPage when leb (pagesOf S) (freeIn S v)
+    ∷ []
+
+-- tests that were passed leave a scan number to give
+abbrev pub Gives : Tested → View → Type 0
+Gives (Tested.Passed j) v = headerIn v scansGiven < mostNumbers
+Gives (Tested.Failed x) v = Unit {0}

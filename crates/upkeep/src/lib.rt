@@ -1,0 +1,241 @@
+// The calls that keep the store in order, over a lent memory and the table of the scan list: merge, release, open scan, close scan. A call tests the stored
+// facts, runs its own tests in document 01's order, and only then writes. The scan list itself is not lent here: open and close answer the one place of
+// it that changes, and what stands there then.
+use conditions::any_open;
+use entry::later;
+use entry::no_column;
+use entry::no_range;
+use facts::Checked;
+use facts::check;
+use layout::HEADER_MERGES;
+use layout::HEADER_SCANS;
+use layout::Region;
+use layout::Sizes;
+use layout::words_needed;
+use lending::Tested;
+use loops::Found;
+use merging::free_page;
+use regions::read;
+use scans::MOST_SCANS;
+use scans::Scans;
+use scans::find_scan;
+use terms::Answer;
+use terms::Place;
+use terms::Refusal;
+use terms::Stamp;
+use terms::Tail;
+ghost use mathlib.Core.Path.{_≡_};
+ghost use mathlib.Core.List.{List, []};
+ghost use Prim.Native.Nat.{_*_, _≤_, _<_};
+ghost use lib.ListN.{length};
+ghost use Rattle.terms.specs.Measures.{mostScans};
+ghost use Rattle.terms.specs.declared.Place.{Place};
+ghost use Rattle.terms.specs.declared.Answer.{Answer};
+ghost use Rattle.words.specs.Words.{words};
+ghost use Rattle.layout.specs.Regions.{need};
+ghost use Rattle.layout.specs.View.{view};
+ghost use Rattle.scans.specs.Places.{openCount};
+ghost use Rattle.scans.specs.Table.{tableOf};
+ghost use Rattle.history.specs.History.{Call, verdict};
+ghost use Rattle.model.specs.Stored.{pageIn, currentIn};
+ghost use Rattle.model.specs.Writing.{freeIn};
+ghost use Rattle.model.specs.Calls.{testsIn};
+ghost use Rattle.model.specs.Asked.{shapeIn, Proper, Linked, Pooled};
+ghost use Rattle.promise.specs.Promise.{Leaves};
+ghost use Rattle.lending.specs.Carried.{tested, Below, Carries, CarriesBy};
+ghost use Rattle.upkeep.specs.Lists.{Lists, Currents, reachTests, Gives};
+
+// What a call on the scan list leaves: its answer, and the place of the list that becomes `entry`. A place past the list's end changes nothing.
+pub struct Listed {
+    pub answer: Answer,
+    pub place: usize,
+    pub entry: Place,
+}
+
+// The most scan numbers that a store gives.
+const MOST_NUMBERS: u32 = 65535;
+
+// ---- merge
+
+// The lineage of the current page of a range and column.
+fn current_lineage(mem: &[u8], s: Sizes, g: usize, c: usize) -> Tail
+    requires { ⌜ need s * 4 ≤ length (now mem) ⌝ }
+    requires { ⌜ Proper s × Pooled s (view s (words (now mem))) ⌝ }
+    requires { ⌜ (g < s .ranges) × (c < s .columns) ⌝ }
+    ensures { λ r. ⌜ r .0 ≡ (pageIn (view s (words (now (mem .entry)))) (currentIn (shapeIn s) (view s (words (now (mem .entry)))) g c)) .lineage ⌝ }
+{
+    let page = read(mem, s, Region::Current, g * s.columns + c) as usize;
+    Tail(read(mem, s, Region::PageLineage, page))
+}
+
+// The last tests of a merge of column c of range g: whether `through` is in reach, no record to be merged is open, and a page is free.
+fn reach_tests(mem: &[u8], s: Sizes, g: usize, low: Tail, through: Tail) -> Tested
+    requires { ⌜ need s * 4 ≤ length (now mem) ⌝ }
+    requires { ⌜ Proper s × Linked s (view s (words (now mem))) ⌝ }
+    requires { ⌜ g < s .ranges ⌝ }
+    ensures { λ r. ⌜ r ≡ tested (verdict (reachTests (shapeIn s) (view s (words (now (mem .entry)))) g (low .0) (through .0))) (freeIn (shapeIn s) (view s (words (now (mem .entry))))) ⌝ }
+    ensures { λ r. ⌜ Below r (s .pages) ⌝ }
+{
+    if through.0 <= low.0 {
+        return Tested::Failed(Refusal::Reach);
+    }
+    if through.0 > read(mem, s, Region::Used, g) {
+        return Tested::Failed(Refusal::Reach);
+    }
+    if any_open(mem, s, g, low, through) {
+        return Tested::Failed(Refusal::Open);
+    }
+    let Found::At(page) = free_page(mem, s) else {
+        return Tested::Failed(Refusal::NoPage);
+    };
+    Tested::Passed(page)
+}
+
+fn merge_tests(mem: &[u8], s: Sizes, range: u32, column: u32, through: Tail) -> Tested
+    requires { ⌜ need s * 4 ≤ length (now mem) ⌝ }
+    requires { ⌜ Proper s × Linked s (view s (words (now mem))) × Pooled s (view s (words (now mem))) ⌝ }
+    ensures { λ r. ⌜ r ≡ tested (verdict (testsIn (shapeIn s) (view s (words (now (mem .entry)))) [] (Call.merge range column (through .0)))) (freeIn (shapeIn s) (view s (words (now (mem .entry))))) ⌝ }
+    ensures { λ r. ⌜ Below r (s .pages) ⌝ }
+{
+    if no_range(s, range) {
+        return Tested::Failed(Refusal::Range);
+    }
+    if no_column(s, column) {
+        return Tested::Failed(Refusal::Column);
+    }
+    let g = range as usize;
+    let low = current_lineage(mem, s, g, column as usize);
+    reach_tests(mem, s, g, low, through)
+}
+
+fn merge_in(mem: &mut [u8], s: Sizes, range: u32, column: u32, through: Tail) -> Answer
+    requires { ⌜ need s * 4 ≤ length (now mem) ⌝ }
+    requires { ⌜ Proper s × Linked s (view s (words (now mem))) × Pooled s (view s (words (now mem))) × Currents s (view s (words (now mem))) ⌝ }
+    ensures { λ r. ⌜ Carries s (view s (words (now (mem .entry)))) (Call.merge range column (through .0)) r (view s (words (now (mem .exit)))) ⌝ }
+{
+    match merge_tests(mem, s, range, column, through) {
+        Tested::Failed(x) => Answer::Refused(x),
+        Tested::Passed(page) => {
+            merging::merge(mem, s, range as usize, column as usize, through, page);
+            Answer::Done
+        }
+    }
+}
+
+// The tail records of a range up to a number go into a new page of a column.
+pub fn merge(mem: &mut [u8], scans: Scans, range: u32, column: u32, through: Tail) -> Answer
+    ensures { λ r. ⌜ Leaves (now (mem .entry)) scans (Call.merge range column (through .0)) r (now (mem .exit)) ⌝ }
+{
+    let Checked::Fit(s) = check(mem, scans) else {
+        return Answer::Refused(Refusal::Memory);
+    };
+    let n = words_needed(s) * 4;
+    merge_in(&mut mem[..n], s, range, column, through)
+}
+
+// ---- release
+
+fn release_in(mem: &mut [u8], s: Sizes, scans: Scans) -> Answer
+    requires { ⌜ need s * 4 ≤ length (now mem) ⌝ }
+    requires { ⌜ Proper s × (scans .count ≤ 16) ⌝ }
+    ensures { λ r. ⌜ CarriesBy scans s (view s (words (now (mem .entry)))) Call.release r (view s (words (now (mem .exit)))) ⌝ }
+{
+    Answer::Number(merging::release(mem, s, scans))
+}
+
+// Every waiting page that no open scan needs is free again; the answer is how many. A table of more entries than it has room for stands for no list.
+pub fn release(mem: &mut [u8], scans: Scans) -> Answer
+    ensures { λ r. ⌜ Leaves (now (mem .entry)) scans Call.release r (now (mem .exit)) ⌝ }
+{
+    if scans.count > MOST_SCANS {
+        return Answer::Refused(Refusal::Memory);
+    }
+    let Checked::Fit(s) = check(mem, scans) else {
+        return Answer::Refused(Refusal::Memory);
+    };
+    let n = words_needed(s) * 4;
+    release_in(&mut mem[..n], s, scans)
+}
+
+// ---- open and close
+
+// A call that was refused changes no place of the list.
+fn unlisted(scans: Scans, why: Refusal) -> Listed
+    ensures { λ r. ⌜ (r .answer ≡ Answer.Refused why) × (r .place ≡ scans .length) ⌝ }
+{
+    Listed {
+        answer: Answer::Refused(why),
+        place: scans.length,
+        entry: Place {
+            number: 0,
+            stamp: 0,
+            merges: 0,
+        },
+    }
+}
+
+// The tests of open scan; where they are passed, the scan's place is the list's first free one.
+fn open_tests(mem: &[u8], s: Sizes, scans: Scans, stamp: Stamp) -> Tested
+    requires { ⌜ need s * 4 ≤ length (now mem) ⌝ }
+    ensures { λ r. ⌜ ((ps : List Place) → scans ≡ tableOf ps → openCount ps ≤ mostScans → r ≡ tested (verdict (testsIn (shapeIn s) (view s (words (now (mem .entry)))) ps (Call.openScan (stamp .0)))) (scans .free)) ⌝ }
+    ensures { λ r. ⌜ Gives r (view s (words (now (mem .entry)))) ⌝ }
+{
+    if later(mem, s, stamp) {
+        return Tested::Failed(Refusal::Time);
+    }
+    if read(mem, s, Region::Header, HEADER_SCANS) >= MOST_NUMBERS {
+        return Tested::Failed(Refusal::Number);
+    }
+    if scans.count >= MOST_SCANS {
+        return Tested::Failed(Refusal::Busy);
+    }
+    Tested::Passed(scans.free)
+}
+
+// A scan is opened at a stamp; the answer is its number.
+pub fn open_scan(mem: &mut [u8], scans: Scans, stamp: Stamp) -> Listed
+    ensures { λ r. ⌜ Lists (now (mem .entry)) scans (Call.openScan (stamp .0)) r (now (mem .exit)) ⌝ }
+{
+    let Checked::Fit(s) = check(mem, scans) else {
+        return unlisted(scans, Refusal::Memory);
+    };
+    match open_tests(mem, s, scans, stamp) {
+        Tested::Failed(x) => unlisted(scans, x),
+        Tested::Passed(place) => {
+            let merges = read(mem, s, Region::Header, HEADER_MERGES);
+            let n = words_needed(s) * 4;
+            let number = settling::give_scan(&mut mem[..n], s);
+            Listed {
+                answer: Answer::Number(number),
+                place: place,
+                entry: Place {
+                    number: number,
+                    stamp: stamp.0,
+                    merges: merges,
+                },
+            }
+        }
+    }
+}
+
+// A scan is closed: its place is free again.
+pub fn close_scan(mem: &[u8], scans: Scans, scan: u32) -> Listed
+    ensures { λ r. ⌜ Lists (now (mem .entry)) scans (Call.close scan) r (now (mem .entry)) ⌝ }
+{
+    let Checked::Fit(s) = check(mem, scans) else {
+        return unlisted(scans, Refusal::Memory);
+    };
+    let Found::At(i) = find_scan(scans, scan) else {
+        return unlisted(scans, Refusal::Scan);
+    };
+    let places = scans.places;
+    Listed {
+        answer: Answer::Done,
+        place: places[i],
+        entry: Place {
+            number: 0,
+            stamp: 0,
+            merges: 0,
+        },
+    }
+}

@@ -6,8 +6,9 @@ use crate::memory::{MOST_COLUMNS, WORD};
 use crate::store::Store;
 
 extern "C" {
-    /// The answer's fields go to `first` and `second`. 0 for accepted, 32 for the answer none,
-    /// else the refusal's number. Memory, list and values do not overlap.
+    /// The answer's fields go to `first`, `second` and `sum`, and those that it does not have are
+    /// 0; a value goes to `first` as its two's complement word. 0 for accepted, 32 for the answer
+    /// none, else the refusal's number. Memory, list and values do not overlap.
     #[allow(clippy::too_many_arguments)]
     fn deskrook_call(
         memory: *mut u8,
@@ -21,8 +22,9 @@ extern "C" {
         d: u32,
         values: *const u8,
         values_length: usize,
-        first: *mut i64,
-        second: *mut i64,
+        first: *mut u32,
+        second: *mut u32,
+        sum: *mut i64,
     ) -> u32;
 }
 
@@ -31,7 +33,7 @@ const NEED: u32 = 0x20;
 const ACCEPTED: u32 = 0;
 const NONE: u32 = 32;
 
-/// What stands in a field before the call, to see whether it was written.
+/// What stands in a field before the call, to see that it was written.
 const UNTOUCHED: i64 = 0x5A5A_1234_5678_A5A5;
 
 /// The compiled library.
@@ -41,8 +43,9 @@ pub struct Door;
 /// A result with the fields as they stand after the call.
 struct Reply {
     result: u32,
-    first: i64,
-    second: i64,
+    first: u32,
+    second: u32,
+    sum: i64,
 }
 
 fn call(
@@ -52,9 +55,9 @@ fn call(
     [a, b, c, d]: [u32; 4],
     values: &[u8],
 ) -> Reply {
-    let (mut first, mut second) = (UNTOUCHED, UNTOUCHED);
+    let (mut first, mut second, mut sum) = (UNTOUCHED as u32, UNTOUCHED as u32, UNTOUCHED);
     // SAFETY: each pointer goes with the length of a slice borrowed for the call, memory and list
-    // alone as the library's own, and the fields are two numbers of this frame.
+    // alone as the library's own, and the fields are three numbers of this frame.
     let result = unsafe {
         deskrook_call(
             memory.as_mut_ptr(),
@@ -70,16 +73,17 @@ fn call(
             values.len(),
             &mut first,
             &mut second,
+            &mut sum,
         )
     };
-    Reply { result, first, second }
+    Reply { result, first, second, sum }
 }
 
 impl Store for Door {
     fn need(&self, shape: &Shape) -> Result<usize, u8> {
         let reply = call(&mut [], &mut [], NEED, measures(shape), &[]);
         match reply.result {
-            ACCEPTED => Ok(usize::try_from(reply.first).expect("a need is no negative number")),
+            ACCEPTED => Ok(reply.first as usize),
             number => Err(refusal(number)),
         }
     }
@@ -138,38 +142,37 @@ fn refusal(number: u32) -> u8 {
     number as u8
 }
 
-/// The answer that a call's result and fields stand for.
+/// The answer that a call's result and fields stand for. A field that the answer does not have must
+/// have been made 0.
 fn answer(call: &Call, reply: &Reply) -> Answer {
-    match reply.result {
-        ACCEPTED => {}
+    let &Reply { result, first, second, sum } = reply;
+    let (answer, fields) = match result {
+        ACCEPTED => accepted(call, reply),
         NONE => {
             assert!(reads(call), "{call:?} does not answer none");
-            return Answer::None;
+            (Answer::None, (0, 0, 0))
         }
-        number => return Answer::Refused(refusal(number)),
-    }
-    let unused = |field: i64| assert!(field == 0 || field == UNTOUCHED, "{call:?} fills {field}");
-    let number = |field: i64| u32::try_from(field).expect("a number of 32 bits");
-    match call {
-        Call::Sum { .. } => return Answer::Sum { count: number(reply.first), sum: reply.second },
-        Call::Lineage { .. } => {
-            return Answer::Lineage { through: number(reply.first), used: number(reply.second) }
-        }
-        _ => unused(reply.second),
-    }
-    match call {
-        Call::Commit { .. } | Call::Abort { .. } | Call::Close { .. } | Call::Merge { .. } => {
-            unused(reply.first);
-            Answer::Done
-        }
-        Call::PageCell { .. } => Answer::Value(value(reply.first)),
-        _ if reads(call) => Answer::Value(value(reply.first)),
-        _ => Answer::Number(number(reply.first)),
-    }
+        number => (Answer::Refused(refusal(number)), (0, 0, 0)),
+    };
+    assert_eq!((first, second, sum), fields, "{call:?} fills a field that {answer:?} lacks");
+    answer
 }
 
-fn value(field: i64) -> i32 {
-    i32::try_from(field).expect("a value of 32 bits")
+/// An accepted call's answer, and the fields that it has.
+fn accepted(call: &Call, reply: &Reply) -> (Answer, (u32, u32, i64)) {
+    let &Reply { first, second, sum, .. } = reply;
+    match call {
+        Call::Sum { .. } => (Answer::Sum { count: first, sum }, (first, 0, sum)),
+        Call::Lineage { .. } => {
+            (Answer::Lineage { through: first, used: second }, (first, second, 0))
+        }
+        Call::Commit { .. } | Call::Abort { .. } | Call::Close { .. } | Call::Merge { .. } => {
+            (Answer::Done, (0, 0, 0))
+        }
+        Call::PageCell { .. } => (Answer::Value(first as i32), (first, 0, 0)),
+        _ if reads(call) => (Answer::Value(first as i32), (first, 0, 0)),
+        _ => (Answer::Number(first), (first, 0, 0)),
+    }
 }
 
 /// The calls that may answer none.

@@ -1,0 +1,3 @@
+-- Laws that the door's functions rest on.
+pub mod Values
+pub mod Arms

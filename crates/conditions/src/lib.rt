@@ -4,6 +4,7 @@ use layout::MOST_TRANSACTIONS;
 use layout::Region;
 use layout::Sizes;
 use loops::Found;
+use pending::Pending;
 use regions::between_in;
 use regions::find_in;
 use regions::read;
@@ -42,16 +43,17 @@ pub fn open_place(mem: &[u8], s: Sizes, t: Transaction) -> Found
     find_in(mem, s, Region::Opens, 0, MOST_TRANSACTIONS, number)
 }
 
-// Whose own changes an own read of transaction t, open at `place`, adds: with nothing noted there are none, and it is the latest read.
+// Whose own changes an own read of transaction t, open at `place`, adds: its record tells. With nothing noted there are none, and it is the latest read.
 pub fn own_changes(mem: &[u8], s: Sizes, place: usize, t: Transaction) -> Transaction
     requires { ⌜ need s * 4 ≤ length (now mem) ⌝ }
     requires { ⌜ (place ≡ openPlace (view s (words (now mem))) (t .0)) × (place < mostTransactions) ⌝ }
     ensures { λ r. ⌜ r .0 ≡ ownChanges (view s (words (now (mem .entry)))) (t .0) ⌝ }
 {
-    if read(mem, s, Region::Changes, place) == 0 {
-        return Transaction(0);
-    }
-    t
+    let p = Pending {
+        number: t.0,
+        changes: read(mem, s, Region::Changes, place),
+    };
+    p.owner()
 }
 
 // Whether a row or record of this state and transaction is of an open transaction other than t.

@@ -1,5 +1,5 @@
--- `conditions::own_changes` meets its contract.
-use borrow.Author.Tests.{eq-eqb, ne-eqb}
+-- `conditions::own_changes` meets its contract: the record's `owner` is the definition, with the word of the place that was found.
+use mathlib.Core.Path.{_∙_}
 use Rattle.model.specs.Reading.{ownChanges}
 use borrow.Author.Needs.{needs}
 use Rattle.conditions.proofs.own_changes.Statement.{statement}
@@ -7,11 +7,9 @@ use Rattle.conditions.proofs.own_changes.Tie as tie
 
 returns : tie.Need-returns
 unfolding ownChanges
-returns c = let start = c .before .before .before in rw (← start .pre .1 .0, ← c .before .read .ensures, eq-eqb _ _ (c .if1 .taken))
-
-returns-2 : tie.Need-returns-2
-unfolding ownChanges
-returns-2 c = let start = c .before .before .before in rw (← start .pre .1 .0, ← c .before .read .ensures, ne-eqb _ _ (c .if1 .left))
+returns c =
+    let start = c .before .before .before in
+    c .owner .ensures ∙ rw (← start .pre .1 .0, ← c .before .read .ensures)
 
 pub own-changes-spec : {M : Type 1} → statement M
-own-changes-spec = tie.close (tie.spec (λ c κs. search needs) returns returns-2)
+own-changes-spec = tie.close (tie.spec (λ c κs. search needs) (λ c κs. search needs) returns)

@@ -1,9 +1,9 @@
--- `changes::bad_mask` meets its contract.
+-- `conditions::bad_mask` meets its contract.
 use borrow.Author.Needs.{needs}
 use borrow.Author.Tests.{eq-eqb}
-use Rattle.changes.proofs.Tests.{high-bits}
-use Rattle.changes.proofs.bad_mask.Statement.{statement}
-use Rattle.changes.proofs.bad_mask.Tie as tie
+use Rattle.conditions.proofs.Masks.{high-bits}
+use Rattle.conditions.proofs.bad_mask.Statement.{statement}
+use Rattle.conditions.proofs.bad_mask.Tie as tie
 
 pub bad-mask-spec : {M : Type 1} → statement M
 bad-mask-spec =

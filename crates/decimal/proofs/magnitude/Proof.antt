@@ -1,8 +1,8 @@
--- `lines::magnitude` meets its contract: `proofs/Signs.antt` has what each way asks.
+-- `decimal::magnitude` meets its contract: `proofs/Signs.antt` has what each way asks.
 use borrow.Author.Needs.{needs}
-use Rattle.lines.proofs.Signs.{itself, minus-fits, below}
-use Rattle.lines.proofs.magnitude.Statement.{statement}
-use Rattle.lines.proofs.magnitude.Tie as tie
+use Rattle.decimal.proofs.Signs.{itself, minus-fits, below}
+use Rattle.decimal.proofs.magnitude.Statement.{statement}
+use Rattle.decimal.proofs.magnitude.Tie as tie
 
 pub magnitude-spec : {M : Type 1} → statement M
 magnitude-spec =

@@ -1,11 +1,11 @@
--- `lines::put_integer` meets its contract.
+-- `decimal::put_integer` meets its contract.
 use native.Mathlib.Omega.{arith}
 use mir.Syntax.{w64}
 use mir.ValLaws.{toZ-ofZ}
 use borrow.Author.Needs.{needs}
-use Rattle.lines.proofs.Pieces.{joined}
-use Rattle.lines.proofs.put_integer.Statement.{statement}
-use Rattle.lines.proofs.put_integer.Tie as tie
+use Rattle.decimal.proofs.Pieces.{joined}
+use Rattle.decimal.proofs.put_integer.Statement.{statement}
+use Rattle.decimal.proofs.put_integer.Tie as tie
 
 returns : tie.Need-returns
 returns c =

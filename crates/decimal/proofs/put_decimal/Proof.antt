@@ -1,11 +1,11 @@
--- `lines::put_decimal` meets its contract: the part of the array is all from `from` on.
+-- `decimal::put_decimal` meets its contract: the part of the array is all from `from` on.
 use mathlib.Core.Path.{_∙_}
 use native.Mathlib.Omega.{arith}
 use borrow.Author.Needs.{needs}
 use lib.ListN.{length-drop}
-use Rattle.lines.proofs.Pieces.{rest-of}
-use Rattle.lines.proofs.put_decimal.Statement.{statement}
-use Rattle.lines.proofs.put_decimal.Tie as tie
+use Rattle.decimal.proofs.Pieces.{rest-of}
+use Rattle.decimal.proofs.put_decimal.Statement.{statement}
+use Rattle.decimal.proofs.put_decimal.Tie as tie
 
 returns : tie.Need-returns
 returns c =

@@ -1,9 +1,9 @@
--- `lines::put_natural` meets its contract.
+-- `decimal::put_natural` meets its contract.
 use native.Mathlib.Omega.{arith}
 use borrow.Author.Needs.{needs}
-use Rattle.lines.proofs.Pieces.{joined}
-use Rattle.lines.proofs.put_natural.Statement.{statement}
-use Rattle.lines.proofs.put_natural.Tie as tie
+use Rattle.decimal.proofs.Pieces.{joined}
+use Rattle.decimal.proofs.put_natural.Statement.{statement}
+use Rattle.decimal.proofs.put_natural.Tie as tie
 
 pub put-natural-spec : {M : Type 1} → statement M
 put-natural-spec =

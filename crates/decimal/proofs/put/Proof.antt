@@ -1,12 +1,12 @@
--- `lines::put` meets its contract. The invariant: the first i bytes of s are written.
+-- `decimal::put` meets its contract. The invariant: the first i bytes of s are written.
 use Prim.Native.Nat.{_+_, _-_, _≤_}
 use mathlib.Core.Path.{_≡_, refl, ap, sym, _∙_}
 use native.Mathlib.Omega.{arith}
 use lib.ListN.{length, take, set, getD}
 use lib.Seq.{sets, take-length}
-use Rattle.lines.proofs.Pieces.{sets-next}
-use Rattle.lines.proofs.put.Statement.{statement}
-use Rattle.lines.proofs.put.Tie as tie
+use Rattle.decimal.proofs.Pieces.{sets-next}
+use Rattle.decimal.proofs.put.Statement.{statement}
+use Rattle.decimal.proofs.put.Tie as tie
 
 abbrev Inv-loop : tie.InvT-loop
 Inv-loop out₀ at s i₀ out i = (i ≤ length s) × (out ≡ sets out₀ at (take i s))

@@ -1,8 +1,8 @@
--- `lines::digit` meets its contract.
+-- `decimal::digit` meets its contract.
 use borrow.Author.Needs.{needs}
 use borrow.Author.Tests.{lt-ltb, le-ltb}
-use Rattle.lines.proofs.digit.Statement.{statement}
-use Rattle.lines.proofs.digit.Tie as tie
+use Rattle.decimal.proofs.digit.Statement.{statement}
+use Rattle.decimal.proofs.digit.Tie as tie
 
 returns : tie.Need-returns
 returns c = rw (lt-ltb _ _ (c .if1 .taken))

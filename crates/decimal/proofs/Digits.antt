@@ -7,7 +7,7 @@ use native.Mathlib.Omega.{arith}
 use native.Mathlib.Nat.{pow-succ'}
 use lib.ListN.{length, drop, set, getD, length-set}
 use lib.Seq.{drop-cons, getD-set-same, drop-set-lt}
-use Rattle.lines.specs.Lines.{digit, digits, decimal}
+use Rattle.decimal.specs.Decimal.{digit, digits, decimal}
 
 enough : (f g n : ℕ) → n ≤ f → n ≤ g → digits f n ≡ digits g n
 unfolding digits

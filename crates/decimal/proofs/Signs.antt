@@ -11,7 +11,7 @@ use mir.Syntax.{w32, w64}
 use mir.Val.{Fits, SFits, ofZ, toZ}
 use mir.ValLaws.{toZ-ofZ}
 use borrow.Author.Tests.{leb-false}
-use Rattle.lines.specs.Lines.{text, decimal, signed}
+use Rattle.decimal.specs.Decimal.{text, decimal, signed}
 use Rattle.words.proofs.Signed.{complement, complement-is}
 
 complement-fits : (z : ℤ) → SFits w64 z → SFits w64 (complement z)

@@ -1,11 +1,11 @@
--- `lines::put_signed` meets its contract.
+-- `decimal::put_signed` meets its contract.
 use mathlib.Core.Path.{_≡_, ap}
 use native.Mathlib.Omega.{arith}
 use borrow.Author.Needs.{needs}
-use Rattle.lines.proofs.Pieces.{joined}
-use Rattle.lines.proofs.Signs.{signed-itself, signed-below}
-use Rattle.lines.proofs.put_signed.Statement.{statement}
-use Rattle.lines.proofs.put_signed.Tie as tie
+use Rattle.decimal.proofs.Pieces.{joined}
+use Rattle.decimal.proofs.Signs.{signed-itself, signed-below}
+use Rattle.decimal.proofs.put_signed.Statement.{statement}
+use Rattle.decimal.proofs.put_signed.Tie as tie
 
 returns : tie.Need-returns
 returns c =

@@ -29,7 +29,7 @@ use Rattle.layout.specs.declared.Region.the-variants.{RowTransaction, RowState,
 use Rattle.terms.specs.declared.Place.{Place}
 use Rattle.model.specs.Stored.{RowWords, rowIn, recordIn, valueIn, pageIn, cellIn, currentIn, usedIn, within, openPlace, asOriginal, asSetting}
 use Rattle.model.specs.Reading.{scanPage, wasCurrent}
-use Rattle.model.specs.Writing.{noted, nextSlot, appended, filledIn, newBits, newBitsIn, recordsWanted, originalAppended, settingAppended, updatedIn}
+use Rattle.model.specs.Writing.{noted, nextSlot, appended, filledIn, newBits, newBitsIn, recordsWanted, originalAppended, originalWord, settingAppended, updatedIn}
 use Rattle.model.proofs.Lists.{clash, true-false, eqb-same, is-equal, same-truth}
 use Rattle.model.proofs.Represents.{RowIs, ContentIs, RowsAre, TailsFor, Represents, Known, Whole}
 use Rattle.model.proofs.Views.{put-whole}
@@ -84,7 +84,7 @@ module _ (S : Shape) (v : View) (ps : List Place) (h : History) (o : Represents 
       go (d ∷ cs) e = rw (some-new d cs e)
 
   -- the cell of a column that was never set is the inserted value
-  pub original-cell : (c : ℕ) → c < S .columns → T (bit (newBitsIn v r m) c) → toZ w32 (cellIn v (currentIn S v (rangeOf r) c) (within r)) ≡ getD ((rowAt h r) .values) c (pos 0)
+  pub original-cell : (c : ℕ) → c < S .columns → T (bit (newBitsIn v r m) c) → toZ w32 (originalWord S v r c) ≡ getD ((rowAt h r) .values) c (pos 0)
   unfolding cellThrough
   original-cell c d t =
       let n : ℕ = (pageIn v (currentIn S v (rangeOf r) c)) .lineage in
@@ -225,7 +225,7 @@ module _ (S : Shape) (v : View) (ps : List Place) (h : History) (o : Represents 
       fresh-fits = masks-fit S v r m (o .whole) mask .0
 
       f₁ : ℕ → ℕ
-      f₁ c = cellIn v (currentIn S v (rangeOf r) c) (within r)
+      f₁ = originalWord S v r
 
       original-is : ContentIs (S .columns) (original (d ∷ cs) ((rowAt h r) .values)) asOriginal (newBitsIn v r m) f₁
       original-is = (refl, (λ c. original-bits S v ps h o k r m b good c ∙ ap (among c) e), (λ c q u. original-cell S v ps h o k r m b good c q u))

@@ -109,11 +109,12 @@ newBitsIn v r mask = newBits mask ((rowIn v r) .mask)
 unfoldable pub recordsWanted : View → ℕ → ℕ → ℕ
 recordsWanted v r mask = cond (eqb (newBitsIn v r mask) 0) 1 2
 
--- The original values of the columns that were never set are the row's cells in the current pages.
+-- The original value of a column that was never set is the row's cell in the current page.
+abbrev pub originalWord : Shape → View → ℕ → ℕ → ℕ
+originalWord S v r c = cellIn v (currentIn S v (rangeOf r) c) (within r)
+
 unfoldable pub originalAppended : Shape → ℕ → ℕ → ℕ → View → View
-originalAppended S t r mask v =
-    let g = rangeOf r in
-    filledIn S (nextSlot S v g) (λ c. cellIn v (currentIn S v g c) (within r)) (appended S t r asOriginal (newBitsIn v r mask) v)
+originalAppended S t r mask v = filledIn S (nextSlot S v (rangeOf r)) (originalWord S v r) (appended S t r asOriginal (newBitsIn v r mask) v)
 
 unfoldable pub settingAppended : Shape → ℕ → ℕ → ℕ → List ℤ → View → View
 settingAppended S t r mask vs v =

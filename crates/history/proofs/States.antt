@@ -31,12 +31,6 @@ isAborted active = false
 isAborted aborted = true
 isAborted (committed s) = false
 
-abbrev pub stampOf : State → ℕ
-stampOf unknown = 0
-stampOf active = 0
-stampOf aborted = 0
-stampOf (committed s) = s
-
 -- no stamp exceeds the last commit's
 unfoldable pub Stamped : History → Type 0
 Stamped h = (k s : ℕ) → stateOf h k ≡ committed s → s ≤ h .last

@@ -5,8 +5,8 @@ use native.Mathlib.Decide.{decLe}
 use mathlib.Core.Path.{_≡_, refl, ap, sym, _∙_, fun-ext}
 use mathlib.Core.List.{List}
 use lib.IntN.{ℤ, pos}
-use lib.ListN.{length, getD, take, List·getD-eq-default}
-use lib.Seq.{getD-take, length-take-le}
+use lib.ListN.{length, getD, take, length-take, List·getD-eq-default}
+use lib.Seq.{getD-take}
 use mir.Syntax.{w32}
 use mir.Val.{ofZ}
 use Rattle.terms.specs.Measures.{Shape}
@@ -21,11 +21,13 @@ use Rattle.model.specs.Stored.{asSetting}
 use Rattle.model.specs.Writing.{putCells, insertedAt, insertedIn, settingAppended, originalAppended, updatedIn, filledIn, nextSlot, appended}
 use Rattle.model.specs.Calls.{testsIn, replyIn, actIn, placesAfter, say, viewNext, placesNext}
 use Rattle.commands.specs.declared.Kind.{Kind}
+use Rattle.commands.specs.declared.Request.{Request}
 use Rattle.commands.specs.Commands.{callOf}
+use Rattle.commands.specs.Decoded.{callIn, ZerosPast}
 use Rattle.promise.specs.Promise.{storeView, answerOf, memoryAfter, listAfter}
-use Rattle.calls.specs.Calls.{Serves}
+use Rattle.calls.specs.Calls.{asked, Serves}
 
-abbrev pub Agree : List ℤ → List ℤ → Type 0
+abbrev Agree : List ℤ → List ℤ → Type 0
 Agree vs us = (c : ℕ) → getD vs c (pos 0) ≡ getD us c (pos 0)
 
 cells-agree : (vs us : List ℤ) → Agree vs us → (S : Shape) (current : List ℕ) (g i n : ℕ) (cells : List ℕ)
@@ -64,7 +66,7 @@ served-alike m ps x y r m′ ps′ t a k l w =
     )
 
 -- What is due for a call with one list of values is due for it with another that agrees.
-pub served-values : (m : List ℕ) (ps : List Place) (k : Kind) (a b c : ℕ) (vs us : List ℤ) (r : Answer) (m′ : List ℕ) (ps′ : List Place) → Agree vs us
+served-values : (m : List ℕ) (ps : List Place) (k : Kind) (a b c : ℕ) (vs us : List ℤ) (r : Answer) (m′ : List ℕ) (ps′ : List Place) → Agree vs us
     → Serves m ps (callOf k a b c vs) r m′ ps′ → Serves m ps (callOf k a b c us) r m′ ps′
 unfolding callOf testsIn replyIn actIn placesAfter
 served-values m ps Kind.Begin a b c vs us r m′ ps′ e w = w
@@ -88,12 +90,18 @@ served-values m ps Kind.PageCell a b c vs us r m′ ps′ e w = w
 served-values m ps Kind.Lineage a b c vs us r m′ ps′ e w = w
 
 -- The first n values agree with all where those past them are 0.
-pub zeros-agree : (vs : List ℤ) (n : ℕ) → n ≤ length vs → ((i : ℕ) → n ≤ i → getD vs i (pos 0) ≡ pos 0) → Agree vs (take n vs)
-zeros-agree vs n h z c = go (decLe n c)
+zeros-agree : (vs : List ℤ) (n : ℕ) → ZerosPast n vs → Agree vs (take n vs)
+zeros-agree vs n z c = go (decLe n c)
   where
-    short : length (take n vs) ≡ n
-    short = length-take-le n vs h
+    short : length (take n vs) ≤ n
+    short = omega (arith, length-take n vs)
 
     go : Dec (n ≤ c) → getD vs c (pos 0) ≡ getD (take n vs) c (pos 0)
     go (yes l) = z c l ∙ sym (List·getD-eq-default (take n vs) (pos 0) (omega (arith, short)))
     go (no l) = sym (getD-take n vs c (pos 0) (omega arith))
+
+-- What is due for all the values of a request is due for the call that it stands for.
+pub served-call : (m : List ℕ) (ps : List Place) (q : Request) (r : Answer) (m′ : List ℕ) (ps′ : List Place) → ZerosPast (q .count) (q .values)
+    → Serves m ps (asked q) r m′ ps′ → Serves m ps (callIn q) r m′ ps′
+served-call m ps q r m′ ps′ z w =
+    served-values m ps (q .kind) (q .first) (q .second) (q .third) (q .values) (take (q .count) (q .values)) r m′ ps′ (zeros-agree (q .values) (q .count) z) w

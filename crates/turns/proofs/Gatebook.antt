@@ -63,11 +63,6 @@ enough S e =
     let d : S .columns * S .ranges ≤ 4 * 4 = mul-le-mul (l .columns) (l .ranges) in
     omega arith
 
--- that is the size of the memory that the program lends
-pub bytes-lent : bytesNeeded largest ≡ 25552
-unfolding bytesNeeded need
-bytes-lent = refl
-
 accepted : (x : Store) (S : Shape) → lent S ≡ true → bytesNeeded largest ≤ length (x .memory) → mostScans ≤ length (x .list) → Accepted S (x .memory) (x .list)
 unfolding MakingAccepted
 accepted x S e h k =

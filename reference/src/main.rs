@@ -13,7 +13,7 @@ reference encode               readable lines to command bytes
 reference decode               command bytes to readable lines
 reference generate SEED        a random stream of command bytes
 reference trace SEED CALLS     a random run, each call with its answer
-reference pack [short]         the packed streams of crate replay, or fewer of them
+reference pack [short]         the packed streams of crate replay; short: no number series
 reference replay               a pack on standard input, the lines of its streams on standard output
 reference survey FIRST COUNT   what the streams of COUNT seeds from FIRST on meet
 reference help                 this text

@@ -10,31 +10,25 @@ use crate::text;
 
 /// The streams of crate replay.
 pub fn all() -> Vec<Record> {
-    let mut pack = Pack::default();
-    pack.by_hand();
-    pack.shapes();
-    pack.cuts();
-    pack.unknown_bytes();
+    let mut pack = Pack { records: short() };
     pack.series();
-    pack.random(10, 2);
     pack.records
 }
 
-/// Fewer streams, for code that runs slowly: no number series, and less of the random ones.
+/// All but the number series, for code that runs slowly.
 pub fn short() -> Vec<Record> {
-    let mut pack = Pack::default();
+    let mut pack = Pack { records: Vec::new() };
     pack.by_hand();
     pack.shapes();
     pack.cuts();
     pack.unknown_bytes();
-    pack.random(2, 2);
+    pack.random(10, 2);
     pack.records
 }
 
 /// The smallest shape.
 const SMALLEST: [u8; SHAPE_BYTES] = [1, 1, 1, 0, 0, 0];
 
-#[derive(Default)]
 struct Pack {
     records: Vec<Record>,
 }

@@ -1,0 +1,2 @@
+-- Laws that the turns rest on, and the theorem over any input.
+pub mod Answers

@@ -10,6 +10,7 @@ pub mod defined;
 pub mod door;
 pub mod facts;
 pub mod lent;
+pub mod live;
 pub mod memory;
 pub mod operands;
 pub mod plain;

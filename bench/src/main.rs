@@ -1,6 +1,7 @@
 //! Prints tables of times: each call at three shapes and three fillings, the test of the stored
 //! facts for each word it looks at, and a sum over all rows. The plain page store is the measure;
-//! with the feature `door` the compiled library stands beside it, with the ratio.
+//! with the feature `library` the compiled library stands beside it, through its C interface and
+//! through the Rust crate, each with the ratio.
 
 mod filled;
 mod time;
@@ -25,8 +26,10 @@ const LARGEST: Shape = SHAPES[2];
 fn stores() -> Vec<(&'static str, Box<dyn Store>)> {
     vec![
         ("plain", Box::new(Plain::<0>)),
-        #[cfg(feature = "door")]
-        ("door", Box::new(checks::door::Door)),
+        #[cfg(feature = "library")]
+        ("C", Box::new(checks::library::Library)),
+        #[cfg(feature = "library")]
+        ("Rust", Box::new(checks::library::Wrapper)),
     ]
 }
 
@@ -37,6 +40,22 @@ fn main() {
     }
     facts_table(&stores);
     sums_table(&stores);
+    interfaces_table(&stores);
+}
+
+/// What a call costs that is refused before it looks at anything: the passing of arguments and
+/// answer, and the reading of the answer.
+fn interfaces_table(stores: &[(&str, Box<dyn Store>)]) {
+    println!("ns of a call that is refused at once, in a memory of no bytes");
+    println!("{:10}{}", "", heads(stores, ""));
+    let mut filled = Filled::new(SHAPES[0], 0);
+    filled.memory.clear();
+    for (name, call) in [("begin", Call::Begin), ("latest", Call::Latest { row: 0, column: 0 })] {
+        println!(
+            "{name:10}{}",
+            cells(&times(stores, |store| time::call(store, &filled, &call)), 1)
+        );
+    }
 }
 
 /// Rounds in which the stores are timed in turn, so that a busy stretch of the machine meets all.

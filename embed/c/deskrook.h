@@ -82,30 +82,33 @@ deskrook_reply deskrook_need(uint32_t columns, uint32_t ranges, uint32_t tail, u
 deskrook_reply deskrook_make(uint8_t *mem, size_t mem_length, deskrook_scan *scans, size_t scans_length, uint32_t columns, uint32_t ranges, uint32_t tail,
                              uint32_t spares);
 
+/* Whether memory and list are usable, which every call on a store asks first. Refusals: MEMORY. */
+deskrook_reply deskrook_check(const uint8_t *mem, size_t mem_length, const deskrook_scan *scans, size_t scans_length);
+
 /* ---- transactions ---- */
 
 /* Begins a transaction. first: its number. Refusals: MEMORY, NUMBER, BUSY. */
-deskrook_reply deskrook_begin(uint8_t *mem, size_t mem_length, deskrook_scan *scans, size_t scans_length);
+deskrook_reply deskrook_begin(uint8_t *mem, size_t mem_length, const deskrook_scan *scans, size_t scans_length);
 
 /* Inserts a row, with a value for each column; where fewer are lent the rest are 0, and those past the columns are not looked at.
  * first: the row's number. Refusals: MEMORY, TRANSACTION, FULL. */
-deskrook_reply deskrook_insert(uint8_t *mem, size_t mem_length, deskrook_scan *scans, size_t scans_length, uint32_t transaction, const int32_t *values,
+deskrook_reply deskrook_insert(uint8_t *mem, size_t mem_length, const deskrook_scan *scans, size_t scans_length, uint32_t transaction, const int32_t *values,
                                size_t values_length);
 
 /* Sets the columns of a row whose bits the mask has, bit k for column k; value k is column k's, lent as for an insert.
  * first: the number of the update's tail record. Refusals: MEMORY, TRANSACTION, ROW, MASK, HELD, GONE, TAIL. */
-deskrook_reply deskrook_update(uint8_t *mem, size_t mem_length, deskrook_scan *scans, size_t scans_length, uint32_t transaction, uint32_t row, uint16_t mask,
-                               const int32_t *values, size_t values_length);
+deskrook_reply deskrook_update(uint8_t *mem, size_t mem_length, const deskrook_scan *scans, size_t scans_length, uint32_t transaction, uint32_t row,
+                               uint16_t mask, const int32_t *values, size_t values_length);
 
 /* Deletes a row. first: the number of the delete's tail record. Refusals: MEMORY, TRANSACTION, ROW, HELD, GONE, TAIL. */
-deskrook_reply deskrook_delete(uint8_t *mem, size_t mem_length, deskrook_scan *scans, size_t scans_length, uint32_t transaction, uint32_t row);
+deskrook_reply deskrook_delete(uint8_t *mem, size_t mem_length, const deskrook_scan *scans, size_t scans_length, uint32_t transaction, uint32_t row);
 
 /* Commits a transaction at a stamp, which must be later than the last commit's. Refused, the transaction remains open.
  * Refusals: MEMORY, TRANSACTION, TIME. */
-deskrook_reply deskrook_commit(uint8_t *mem, size_t mem_length, deskrook_scan *scans, size_t scans_length, uint32_t transaction, uint32_t stamp);
+deskrook_reply deskrook_commit(uint8_t *mem, size_t mem_length, const deskrook_scan *scans, size_t scans_length, uint32_t transaction, uint32_t stamp);
 
 /* Gives up a transaction; nothing that it did is ever read. Refusals: MEMORY, TRANSACTION. */
-deskrook_reply deskrook_abort(uint8_t *mem, size_t mem_length, deskrook_scan *scans, size_t scans_length, uint32_t transaction);
+deskrook_reply deskrook_abort(uint8_t *mem, size_t mem_length, const deskrook_scan *scans, size_t scans_length, uint32_t transaction);
 
 /* ---- reads: they change neither memory nor list ---- */
 
@@ -140,10 +143,11 @@ deskrook_reply deskrook_close_scan(const uint8_t *mem, size_t mem_length, deskro
 
 /* Merges the committed settings among the tail records 1 to `through` of a range into a new page of one column; the old page waits.
  * Refusals: MEMORY, RANGE, COLUMN, REACH, OPEN, NO_PAGE. */
-deskrook_reply deskrook_merge(uint8_t *mem, size_t mem_length, deskrook_scan *scans, size_t scans_length, uint32_t range, uint32_t column, uint32_t through);
+deskrook_reply deskrook_merge(uint8_t *mem, size_t mem_length, const deskrook_scan *scans, size_t scans_length, uint32_t range, uint32_t column,
+                              uint32_t through);
 
 /* Frees every waiting page but those that a scan still open may read. first: how many were freed. Refusals: MEMORY. */
-deskrook_reply deskrook_release(uint8_t *mem, size_t mem_length, deskrook_scan *scans, size_t scans_length);
+deskrook_reply deskrook_release(uint8_t *mem, size_t mem_length, const deskrook_scan *scans, size_t scans_length);
 
 /* What the current page of a column holds for a row. first: the value. Refusals: MEMORY, COLUMN, ROW. */
 deskrook_reply deskrook_page_cell(const uint8_t *mem, size_t mem_length, const deskrook_scan *scans, size_t scans_length, uint32_t column, uint32_t row);

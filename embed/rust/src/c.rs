@@ -47,18 +47,19 @@ extern "C" {
 
 lent! {
     mut mut deskrook_make(columns: u32, ranges: u32, tail: u32, spares: u32);
-    mut mut deskrook_begin();
-    mut mut deskrook_insert(transaction: u32, values: *const i32, values_length: usize);
-    mut mut deskrook_update(
+    const const deskrook_check();
+    mut const deskrook_begin();
+    mut const deskrook_insert(transaction: u32, values: *const i32, values_length: usize);
+    mut const deskrook_update(
         transaction: u32,
         row: u32,
         mask: u16,
         values: *const i32,
         values_length: usize
     );
-    mut mut deskrook_delete(transaction: u32, row: u32);
-    mut mut deskrook_commit(transaction: u32, stamp: u32);
-    mut mut deskrook_abort(transaction: u32);
+    mut const deskrook_delete(transaction: u32, row: u32);
+    mut const deskrook_commit(transaction: u32, stamp: u32);
+    mut const deskrook_abort(transaction: u32);
     const const deskrook_latest(row: u32, column: u32);
     const const deskrook_read_at(stamp: u32, row: u32, column: u32);
     const const deskrook_own_read(transaction: u32, row: u32, column: u32);
@@ -66,8 +67,8 @@ lent! {
     const const deskrook_scan_read(scan: u32, row: u32, column: u32);
     const const deskrook_sum(scan: u32, column: u32);
     const mut deskrook_close_scan(scan: u32);
-    mut mut deskrook_merge(range: u32, column: u32, through: u32);
-    mut mut deskrook_release();
+    mut const deskrook_merge(range: u32, column: u32, through: u32);
+    mut const deskrook_release();
     const const deskrook_page_cell(column: u32, row: u32);
     const const deskrook_lineage(range: u32, column: u32);
 }

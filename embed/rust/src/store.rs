@@ -158,6 +158,15 @@ impl<'a> Store<'a> {
         Store { memory, scans }
     }
 
+    /// Whether memory and list are usable, which every other call asks first.
+    ///
+    /// # Errors
+    ///
+    /// [`Refusal::Memory`].
+    pub fn check(&self) -> Result<(), Refusal> {
+        accepted(call!(ref self, deskrook_check)).map(|_| ())
+    }
+
     /// Begins a transaction.
     ///
     /// # Errors

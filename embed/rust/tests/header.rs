@@ -41,6 +41,6 @@ fn functions(text: &str, mark: &str) -> Vec<String> {
 #[test]
 fn the_functions_are_the_headers() {
     let header = functions(HEADER, "\ndeskrook_reply deskrook_");
-    assert_eq!(header.len(), 19);
+    assert_eq!(header.len(), 20);
     assert_eq!(functions(DECLARED, " deskrook_"), header);
 }

@@ -1,6 +1,6 @@
 //! Stores of a shape, filled to a share of their rows and tail records.
 
-use checks::memory::{Layout, PLACE, ROWS, SCANS};
+use checks::memory::{Layout, Scan, ROWS, SCANS};
 use checks::plain::Plain;
 use checks::Store;
 use reference::{Answer, Call, Shape};
@@ -9,7 +9,7 @@ use reference::{Answer, Call, Shape};
 #[derive(Clone)]
 pub struct Filled {
     pub memory: Vec<u8>,
-    pub scans: Vec<u8>,
+    pub scans: Vec<Scan>,
     pub shape: Shape,
     /// Rows given, and the records used in range 0 before the open transaction's one.
     pub rows: u32,
@@ -31,7 +31,7 @@ impl Filled {
     /// of row 0, and one scan.
     pub fn new(shape: Shape, percent: u32) -> Filled {
         let layout = Layout::of(&shape);
-        let (memory, scans) = (vec![0; layout.need()], vec![0; SCANS * PLACE]);
+        let (memory, scans) = (vec![0; layout.need()], vec![Scan::FREE; SCANS]);
         let rows = (shape.rows() * percent / 100).clamp(1, shape.rows() - 1);
         let mut filled =
             Filled { memory, scans, shape, rows, settled: 0, open: 0, scan: 0, last: 0 };

@@ -1,6 +1,7 @@
 //! Prints tables of times: each call at three shapes and three fillings, the test of the stored
 //! facts for each word it looks at, and a sum over all rows. The plain page store is the measure;
-//! with the feature `door` the compiled library stands beside it, with the ratio.
+//! with the feature `library` the compiled library stands beside it, with the ratio, and a call
+//! through the C interface beside one through the Rust crate.
 
 mod filled;
 mod time;
@@ -25,8 +26,8 @@ const LARGEST: Shape = SHAPES[2];
 fn stores() -> Vec<(&'static str, Box<dyn Store>)> {
     vec![
         ("plain", Box::new(Plain::<0>)),
-        #[cfg(feature = "door")]
-        ("door", Box::new(checks::door::Door)),
+        #[cfg(feature = "library")]
+        ("library", Box::new(checks::library::Library)),
     ]
 }
 
@@ -37,6 +38,8 @@ fn main() {
     }
     facts_table(&stores);
     sums_table(&stores);
+    #[cfg(feature = "library")]
+    interfaces_table();
 }
 
 /// Rounds in which the stores are timed in turn, so that a busy stretch of the machine meets all.
@@ -204,5 +207,28 @@ fn sums_table(stores: &[(&str, Box<dyn Store>)]) {
         let sums = cells(&times(stores, |store| time::call(store, &filled, &sum)), 1);
         let facts = cells(&times(stores, |store| time::call(store, &filled, &AFTER_FACTS)), 1);
         println!("{percent:>6} %{sums}{facts}");
+    }
+}
+
+/// What an interface costs. A call in a memory of no bytes is refused before it looks at anything,
+/// so its time is that of passing the arguments and taking the answer.
+#[cfg(feature = "library")]
+fn interfaces_table() {
+    let stores: [(&str, Box<dyn Store>); 2] =
+        [("C", Box::new(checks::library::Library)), ("Rust", Box::new(checks::library::Wrapper))];
+    let latest = Call::Latest { row: 0, column: 0 };
+    let refused = Filled { memory: Vec::new(), ..Filled::new(SHAPES[0], 0) };
+    println!();
+    println!("ns of a latest read through each interface");
+    println!("{:24}{}", "", heads(&stores, ""));
+    let line = |name: &str, filled: &Filled| {
+        let times = times(&stores, |store| time::call(store, filled, &latest));
+        println!("{name:24}{}", cells(&times, 1));
+    };
+    line("refused at once", &refused);
+    for shape in SHAPES {
+        let Shape { columns, ranges, tail, spares } = shape;
+        let name = format!("{columns}, {ranges}, {tail}, {spares}, full");
+        line(&name, &Filled::new(shape, 100));
     }
 }

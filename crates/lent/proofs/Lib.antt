@@ -1,0 +1,5 @@
+pub mod Plain
+pub mod Written
+pub mod Rules
+pub mod Steps
+pub mod laws

@@ -1,1 +1,9 @@
-pub mod read2
+pub mod read_n
+pub mod read_vv
+pub mod read_vvv
+pub mod write_n
+pub mod write_v
+pub mod write_vv
+pub mod write_vvv
+pub mod write_vvvz
+pub mod write_vz

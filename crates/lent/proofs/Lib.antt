@@ -1,5 +1,6 @@
 pub mod Plain
 pub mod Written
 pub mod Rules
+pub mod Types
 pub mod Steps
 pub mod laws

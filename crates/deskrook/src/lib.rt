@@ -1,11 +1,16 @@
 // The public interface: every call of document 01 by name, over the lent memory and the lent list of open scans. Nothing is asked of the caller. A call that does
 // not change the memory or the list takes it as `&`.
+use lent::free_all;
+use lent::keep;
+use lent::len_of;
 use lent::table;
 use scans::Scans;
 use terms::Answer;
 use terms::Place;
 use terms::Row;
+use terms::Stamp;
 use terms::number;
+use upkeep::Listed;
 use words::to_word;
 ghost use mathlib.Core.Path.{_≡_};
 ghost use mathlib.Core.List.{List};
@@ -103,4 +108,68 @@ pub extern "C" fn deskrook_begin(mem: &mut [u8], scans: &[Place]) -> Reply
 {
     let t = table(scans);
     begin_reply(mem, t)
+}
+
+fn place_of(listed: Listed) -> usize
+    ensures { λ r. ⌜ r ≡ listed .place ⌝ }
+{
+    listed.place
+}
+
+fn entry_of(listed: Listed) -> Place
+    ensures { λ r. ⌜ r ≡ listed .entry ⌝ }
+{
+    let p = listed.entry;
+    p
+}
+
+fn answer_of(listed: Listed) -> Answer
+    ensures { λ r. ⌜ r ≡ listed .answer ⌝ }
+{
+    let a = listed.answer;
+    a
+}
+
+// A scan is opened at a stamp; the answer is its number.
+pub fn open_scan(mem: &mut [u8], scans: &mut [Place], stamp: Stamp) -> Answer
+    ensures { λ r. ⌜ Serves (now (mem .entry)) (now (scans .entry)) (Call.openScan (stamp .0)) r (now (mem .exit)) (now (scans .exit)) ⌝ }
+{
+    let t = table(scans);
+    let listed = upkeep::open_scan(mem, t, stamp);
+    keep(scans, place_of(listed), entry_of(listed));
+    answer_of(listed)
+}
+
+// A scan is closed: its place is free again.
+pub fn close_scan(mem: &[u8], scans: &mut [Place], scan: u32) -> Answer
+    ensures { λ r. ⌜ Serves (now (mem .entry)) (now (scans .entry)) (Call.close scan) r (now (mem .entry)) (now (scans .exit)) ⌝ }
+{
+    let t = table(scans);
+    let listed = upkeep::close_scan(mem, t, scan);
+    keep(scans, place_of(listed), entry_of(listed));
+    answer_of(listed)
+}
+
+fn accepted(answer: Answer) -> bool {
+    true
+}
+
+fn same(answer: Answer) -> Answer {
+    answer
+}
+
+pub fn make(
+    mem: &mut [u8],
+    scans: &mut [Place],
+    columns: u32,
+    ranges: u32,
+    capacity: u32,
+    spares: u32,
+) -> Answer {
+    let n = len_of(scans);
+    let answer = making::make(mem, n, columns, ranges, capacity, spares);
+    if accepted(answer) {
+        free_all(scans);
+    }
+    same(answer)
 }

@@ -1,3 +1,6 @@
+pub mod list_read_v
+pub mod list_v
+pub mod list_vvvv
 pub mod read_n
 pub mod read_vv
 pub mod read_vvv

@@ -1,8 +1,10 @@
 // The lent list of open scans, a slice of small records. Three functions reach into it, and each is proved by a walk of its MIR, by hand: `len_of`,
-// `place_at`, `put_place`. The others hand the list on to those: `table` finds the open scans, `keep` adds or drops one, `free_all` drops all.
+// `place_at`, `put_place`. The others hand the list on to those: `table` finds the open scans, `keep` adds or drops one, `free_all` and `free_made` drop all.
 use scans::MOST_SCANS;
 use scans::Scans;
+use terms::Answer;
 use terms::Place;
+use upkeep::Listed;
 ghost use mathlib.Core.Path.{_≡_};
 ghost use Prim.Native.Nat.{_+_, _<_};
 ghost use mathlib.Core.Bool.{true, cond};
@@ -11,7 +13,7 @@ ghost use lib.Dec.{eqb};
 ghost use lib.ListN.{length, getD, set};
 ghost use Rattle.scans.specs.Places.{freePlace, isOpen, allFreed};
 ghost use Rattle.scans.specs.Table.{tableOf, noted};
-ghost use Rattle.lent.specs.Lent.{ofLength};
+ghost use Rattle.lent.specs.Lent.{ofLength, isAccepted, freedIf};
 
 // The record of a free place.
 fn free_place() -> Place
@@ -120,12 +122,26 @@ pub fn table(list: &[Place]) -> Scans
     set_length(t, n)
 }
 
-// Place i becomes p: a scan is added or dropped. A place past the end is not there, and nothing is stored.
-pub fn keep(list: &mut [Place], i: usize, p: Place)
-    ensures { λ _. ⌜ now (list .exit) ≡ set (now (list .entry)) i p ⌝ }
+fn place_of(listed: Listed) -> usize
+    ensures { λ r. ⌜ r ≡ listed .place ⌝ }
 {
+    listed.place
+}
+
+fn entry_of(listed: Listed) -> Place
+    ensures { λ r. ⌜ r ≡ listed .entry ⌝ }
+{
+    let p = listed.entry;
+    p
+}
+
+// The place that a call names becomes what it says: a scan is added or dropped. A place past the end is not there, and nothing is stored.
+pub fn keep(list: &mut [Place], listed: Listed)
+    ensures { λ _. ⌜ now (list .exit) ≡ set (now (list .entry)) (listed .place) (listed .entry) ⌝ }
+{
+    let i = place_of(listed);
     if i < len_of(list) {
-        put_place(list, i, p);
+        put_place(list, i, entry_of(listed));
     }
 }
 
@@ -138,5 +154,28 @@ pub fn free_all(list: &mut [Place])
     while i < n {
         put_place(list, i, free_place());
         i += 1;
+    }
+}
+
+fn accepted(answer: Answer) -> bool
+    ensures { λ r. ⌜ r ≡ isAccepted answer ⌝ }
+{
+    match answer {
+        Answer::Refused(_) => false,
+        Answer::Done => true,
+        Answer::Number(_) => true,
+        Answer::Value(_) => true,
+        Answer::None => true,
+        Answer::Sum(_, _) => true,
+        Answer::Lineage(_, _) => true,
+    }
+}
+
+// The list of a store that was to be made: every place becomes free, unless the making was refused.
+pub fn free_made(list: &mut [Place], answer: Answer)
+    ensures { λ _. ⌜ now (list .exit) ≡ freedIf (isAccepted answer) (now (list .entry)) ⌝ }
+{
+    if accepted(answer) {
+        free_all(list);
     }
 }

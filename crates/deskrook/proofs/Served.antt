@@ -1,10 +1,10 @@
--- What a call is served by what its core promises: the answer and the memory are the core's, a call that does not touch the list leaves it, and a call that only
--- reads leaves the memory.
+-- From what a core promises to what its call promises: the answer and the memory are the core's, a call that does not touch the list leaves it, and a call that
+-- only reads leaves the memory.
 use Prim.Native.Nat.{ℕ, _*_, _≤_}
 use mathlib.Core.Path.{_≡_, refl, sym, ap, _∙_}
 use mathlib.Core.Bool.{Bool, true, false, cond}
 use mathlib.Core.List.{List}
-use lib.ListN.{length}
+use lib.ListN.{length, set}
 use Rattle.terms.specs.Measures.{Shape}
 use Rattle.terms.specs.declared.Answer.{Answer}
 use Rattle.terms.specs.declared.Place.{Place}
@@ -19,9 +19,11 @@ use Rattle.facts.specs.Usable.{shapeIn, sizesIn, usable}
 use Rattle.facts.proofs.Usable.{usable-tells}
 use Rattle.history.specs.History.{Call, Verdict, accept, refuse, verdict}
 use Rattle.model.specs.Calls.{testsIn, actIn, placesAfter, viewIf, placesIf, viewNext, placesNext}
-use Rattle.promise.specs.Promise.{storeView, answerOf, memoryAfter, listAfter, Answers, Leaves}
-use Rattle.deskrook.specs.declared.Reply.{Reply}
-use Rattle.deskrook.specs.Serves.{Serves, Replies, replyOf}
+use Rattle.making.specs.Made.{made}
+use Rattle.promise.specs.Promise.{storeView, answerOf, memoryAfter, listAfter}
+use Rattle.upkeep.specs.declared.Listed.{Listed}
+use Rattle.upkeep.specs.Lists.{Lists}
+use Rattle.lent.specs.Lent.{isAccepted, freedIf}
 
 -- ---- a command that changes no view leaves the memory, and one that changes no list leaves it
 
@@ -69,20 +71,33 @@ list-kept m ps x q = go (usable m ps)
     go true = sym (ap (placesIf (verdict (testsIn (shapeIn (words m)) v ps x)) ps) (q v ps) ∙ same-places _ _)
     go false = refl
 
--- ---- a call is served
+-- ---- a call is served: f is what becomes of the answer
 
-pub looked : (c : Call) → Reads c → KeepsList c → (m : List ℕ) (t : Scans) (r : Answer) (ps : List Place) → Bytes m → t ≡ tableOf ps → Answers m t c r
-    → Serves m ps c r m ps
-unfolding Serves Answers
-looked c q k m t r ps b e h = (h ps e, memory-kept m ps c b q, list-kept m ps c k)
+module _ {R : Type 0} (f : Answer → R) where
+  abbrev Served : List ℕ → List Place → Call → R → List ℕ → List Place → Type 0
+  Served m ps c z m′ ps′ = (z ≡ f (answerOf m ps c)) × (m′ ≡ memoryAfter m ps c) × (ps′ ≡ listAfter m ps c)
 
-pub changed : (c : Call) → KeepsList c → (m : List ℕ) (t : Scans) (r : Answer) (m′ : List ℕ) (ps : List Place) → t ≡ tableOf ps → Leaves m t c r m′
-    → Serves m ps c r m′ ps
-unfolding Serves Leaves
-changed c k m t r m′ ps e h = (h ps e .0, h ps e .1, list-kept m ps c k)
+  -- it only reads
+  pub looked : (c : Call) → Reads c → KeepsList c → (m : List ℕ) (t : Scans) (z : R) (ps : List Place) → Bytes m → t ≡ tableOf ps
+      → ((qs : List Place) → t ≡ tableOf qs → z ≡ f (answerOf m qs c)) → Served m ps c z m ps
+  looked c q k m t z ps b e h = (h ps e, memory-kept m ps c b q, list-kept m ps c k)
 
--- and its answer encoded
-pub replied : (m : List ℕ) (ps : List Place) (c : Call) (r : Answer) (z : Reply) (m′ : List ℕ) (ps′ : List Place) → Serves m ps c r m′ ps′ → z ≡ replyOf r
-    → Replies m ps c z m′ ps′
-unfolding Serves Replies
-replied m ps c r z m′ ps′ s e = (e ∙ ap replyOf (s .0), s .1, s .2)
+  -- it changes the memory
+  pub changed : (c : Call) → KeepsList c → (m : List ℕ) (t : Scans) (z : R) (m′ : List ℕ) (ps : List Place) → t ≡ tableOf ps
+      → ((qs : List Place) → t ≡ tableOf qs → (z ≡ f (answerOf m qs c)) × (m′ ≡ memoryAfter m qs c)) → Served m ps c z m′ ps
+  changed c k m t z m′ ps e h = (h ps e .0, h ps e .1, list-kept m ps c k)
+
+  -- it changes a place of the list
+  pub listed : (c : Call) (m : List ℕ) (t : Scans) (x : Listed) (z : R) (m′ : List ℕ) (ps ps′ : List Place) → t ≡ tableOf ps → Lists m t c x m′
+      → ps′ ≡ set ps (x .place) (x .entry) → z ≡ f (x .answer) → Served m ps c z m′ ps′
+  unfolding Lists
+  listed c m t x z m′ ps ps′ e h k g = (g ∙ ap f (h ps e .0), h ps e .1, k ∙ h ps e .2)
+
+  -- a store is made
+  pub made-so : (S : Shape) (m : List ℕ) (n : ℕ) (x : Answer) (z : R) (m′ : List ℕ) (ps ps′ : List Place) → n ≡ length ps → (x, m′) ≡ made S n m
+      → ps′ ≡ freedIf (isAccepted x) ps → z ≡ f x
+      → (z ≡ f (made S (length ps) m .0)) × (m′ ≡ made S (length ps) m .1) × (ps′ ≡ freedIf (isAccepted (made S (length ps) m .0)) ps)
+  made-so S m n x z m′ ps ps′ e h k g =
+      let both : (x, m′) ≡ made S (length ps) m = rw e at h in
+      let answer : x ≡ (made S (length ps) m) .0 = ap (λ (y : Answer × List ℕ). y .0) both in
+      (g ∙ ap f answer, ap (λ (y : Answer × List ℕ). y .1) both, k ∙ ap (λ (y : Answer). freedIf (isAccepted y) ps) answer)

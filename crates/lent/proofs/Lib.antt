@@ -3,4 +3,5 @@ pub mod Written
 pub mod Rules
 pub mod Types
 pub mod Steps
+pub mod Known
 pub mod laws

@@ -17,10 +17,10 @@ use Rattle.deskrook.proofs.begin.Statement.{statement}
 use Rattle.deskrook.proofs.begin.Code as code
 
 pub begin-spec : {M : Type 1} → statement M
-unfolding code.routine tablesOf placesAfter
+unfolding code.routine tablesOf placesAfter Serves Leaves
 begin-spec {M} 𝓤 H 𝓜 𝓖 𝓡 =
     let w : World = record { M = M; 𝓤 = 𝓤; H = H; 𝓜 = 𝓜; 𝓖 = 𝓖; 𝓡 = 𝓡 } in
     law.meets core.name answer (λ m t z m′. Leaves m t Call.begin z m′) (λ m l z m′. Serves m l Call.begin z m′ l)
-    (λ m l t z m′. changed Call.begin (λ v ps. refl) m t z m′ l)
+    (λ m l t z m′. changed (λ a. a) Call.begin (λ v ps. refl) m t z m′ l)
     w code.env key.name (code.unfolded 𝓤 H 𝓜 𝓡) code.calls-lent·table
     (core-reads.known w code.env core.name core.routine code.calls-changes·begin (core-thm.met 𝓤 H 𝓜 𝓖 𝓡))

@@ -8,6 +8,7 @@ use lib.ListN.{length, set}
 use Rattle.terms.specs.Measures.{Shape}
 use Rattle.terms.specs.declared.Answer.{Answer}
 use Rattle.terms.specs.declared.Place.{Place}
+use Rattle.terms.specs.declared.Refusal.{Refusal}
 use Rattle.words.specs.Words.{words}
 use Rattle.words.proofs.Words.{Bytes}
 use Rattle.layout.specs.Regions.{need}
@@ -15,7 +16,9 @@ use Rattle.layout.specs.View.{View, view, lay}
 use Rattle.layout.proofs.Lay.{lay-view}
 use Rattle.scans.specs.declared.Scans.{Scans}
 use Rattle.scans.specs.Table.{tableOf}
-use Rattle.facts.specs.Usable.{shapeIn, sizesIn, usable}
+use Rattle.facts.specs.declared.Checked.{Checked}
+use Rattle.facts.specs.declared.Checked.the-variants.{Fit, Unfit}
+use Rattle.facts.specs.Usable.{shapeIn, sizesIn, usable, checked}
 use Rattle.facts.proofs.Usable.{usable-tells}
 use Rattle.history.specs.History.{Call, Verdict, accept, refuse, verdict}
 use Rattle.model.specs.Calls.{testsIn, actIn, placesAfter, viewIf, placesIf, viewNext, placesNext}
@@ -24,6 +27,7 @@ use Rattle.promise.specs.Promise.{storeView, answerOf, memoryAfter, listAfter}
 use Rattle.upkeep.specs.declared.Listed.{Listed}
 use Rattle.upkeep.specs.Lists.{Lists}
 use Rattle.lent.specs.Lent.{isAccepted, freedIf}
+use Rattle.deskrook.specs.Serves.{usability}
 
 -- ---- a command that changes no view leaves the memory, and one that changes no list leaves it
 
@@ -101,3 +105,17 @@ module _ {R : Type 0} (f : Answer → R) where
       let both : (x, m′) ≡ made S (length ps) m = rw e at h in
       let answer : x ≡ (made S (length ps) m) .0 = ap (λ (y : Answer × List ℕ). y .0) both in
       (g ∙ ap f answer, ap (λ (y : Answer × List ℕ). y .1) both, k ∙ ap (λ (y : Answer). freedIf (isAccepted y) ps) answer)
+
+-- ---- the test of memory and list
+
+abbrev pub passed : Checked → Answer
+passed (Fit s) = Answer.Done
+passed Unfit = Answer.Refused Refusal.Memory
+
+pub tested : (m : List ℕ) (ps : List Place) (x : Checked) → x ≡ checked m ps → passed x ≡ usability m ps
+unfolding usability checked
+tested m ps x e = ap passed e ∙ go (usable m ps)
+  where
+    go : (b : Bool) → passed (cond b (Fit (sizesIn (words m))) Unfit) ≡ cond b Answer.Done (Answer.Refused Refusal.Memory)
+    go true = refl
+    go false = refl

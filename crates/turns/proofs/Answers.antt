@@ -20,8 +20,8 @@ use Rattle.commands.specs.Commands.{width, callFrom, shapeBytes, shapeFrom, cho
 use Rattle.commands.specs.Decoded.{callIn, ZerosPast}
 use Rattle.output.specs.Output.{lent, goesOn}
 use Rattle.output.specs.Steps.{answerTo, stateAfter, Step, step}
-use Rattle.calls.specs.Calls.{asked, Serves, Makes, isAccepted, freedIf}
-use Rattle.calls.proofs.Values.{served-call}
+use Rattle.requests.specs.Served.{asked, Serves, Makes, isAccepted, freedIf}
+use Rattle.requests.proofs.Values.{served-call}
 use Rattle.turns.specs.declared.Outcome.{Outcome}
 use Rattle.turns.specs.Turns.{Store, storeMachine, makingAnswer, madeStore, firstAnswer, firstStore, columnsFrom, operandWidth, Does, Turned}
 

@@ -1,6 +1,6 @@
 // What `gatebook` does between reading and writing: the answer to the shape, and the answer to one command, as lines in a buffer that is lent.
-use calls::call;
-use calls::make_store;
+use requests::call;
+use requests::make_store;
 use commands::Chosen;
 use commands::Form;
 use commands::Measures;

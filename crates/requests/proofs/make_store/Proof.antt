@@ -1,12 +1,12 @@
--- `calls::make_store` meets its contract.
+-- `requests::make_store` meets its contract.
 use borrow.Author.Needs.{needs}
 use mathlib.Core.Path.{refl, sym, ap, _∙_}
 use mathlib.Core.Bool.{true, false}
 use Rattle.scans.specs.Table.{tableOf}
 use Rattle.scans.specs.declared.Scans.{Scans}
-use Rattle.calls.proofs.Arms.{made-served}
-use Rattle.calls.proofs.make_store.Statement.{statement}
-use Rattle.calls.proofs.make_store.Tie as tie
+use Rattle.requests.proofs.Arms.{made-served}
+use Rattle.requests.proofs.make_store.Statement.{statement}
+use Rattle.requests.proofs.make_store.Tie as tie
 
 returns : tie.Need-returns
 unfolding tableOf

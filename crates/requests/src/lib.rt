@@ -36,7 +36,7 @@ ghost use Rattle.scans.specs.Places.{placesOf};
 ghost use Rattle.scans.specs.Table.{tableOf};
 ghost use Rattle.layout.specs.Sizes.{shapeOf};
 ghost use Rattle.history.specs.History.{Call};
-ghost use Rattle.calls.specs.Calls.{asked, Serves, isAccepted, Makes};
+ghost use Rattle.requests.specs.Served.{asked, Serves, isAccepted, Makes};
 
 fn accepted(answer: Answer) -> bool
     ensures { λ r. ⌜ r ≡ isAccepted answer ⌝ }

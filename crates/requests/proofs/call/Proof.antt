@@ -1,4 +1,4 @@
--- `calls::call` meets its contract: each arm's call is the one that its kind asks for.
+-- `requests::call` meets its contract: each arm's call is the one that its kind asks for.
 use native.Mathlib.Omega.{arith}
 use borrow.Author.Needs.{needs}
 use Prim.Native.Nat.{ℕ}
@@ -13,11 +13,11 @@ use Rattle.model.specs.Calls.{actIn, placesAfter}
 use Rattle.commands.specs.declared.Kind.{Kind}
 use Rattle.commands.specs.declared.Request.{Request}
 use Rattle.commands.specs.Commands.{callOf}
-use Rattle.calls.specs.Calls.{asked}
-use Rattle.calls.proofs.Arms.{looked, changed, asks}
-use Rattle.calls.proofs.Masks.{masked}
-use Rattle.calls.proofs.call.Statement.{statement}
-use Rattle.calls.proofs.call.Tie as tie
+use Rattle.requests.specs.Served.{asked}
+use Rattle.requests.proofs.Arms.{looked, changed, asks}
+use Rattle.requests.proofs.Masks.{masked}
+use Rattle.requests.proofs.call.Statement.{statement}
+use Rattle.requests.proofs.call.Tie as tie
 
 abbrev start : tie.After-values → tie.Start
 start u = u .before .before .before .before .before

@@ -23,7 +23,7 @@ use Rattle.promise.specs.Promise.{storeView, answerOf, memoryAfter, listAfter, 
 use Rattle.upkeep.specs.declared.Listed.{Listed}
 use Rattle.upkeep.specs.Lists.{Lists}
 use Rattle.commands.specs.declared.Request.{Request}
-use Rattle.calls.specs.Calls.{asked, Serves, isAccepted, freedIf, Makes}
+use Rattle.requests.specs.Served.{asked, Serves, isAccepted, freedIf, Makes}
 
 -- ---- a command that changes no view leaves the memory, and one that changes no list leaves it
 

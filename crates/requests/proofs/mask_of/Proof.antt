@@ -1,8 +1,8 @@
--- `calls::mask_of` meets its contract.
+-- `requests::mask_of` meets its contract.
 use borrow.Author.Needs.{needs}
 use borrow.Author.Tests.{lt-ltb, le-ltb}
-use Rattle.calls.proofs.mask_of.Statement.{statement}
-use Rattle.calls.proofs.mask_of.Tie as tie
+use Rattle.requests.proofs.mask_of.Statement.{statement}
+use Rattle.requests.proofs.mask_of.Tie as tie
 
 returns : tie.Need-returns
 returns c = rw (lt-ltb 65535 (c .before .args .c) (c .if1 .taken))

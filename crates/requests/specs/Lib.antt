@@ -1,2 +1,2 @@
 -- What a request asks for, and what it is served.
-pub mod Calls
+pub mod Served

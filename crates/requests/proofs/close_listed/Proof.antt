@@ -1,8 +1,8 @@
--- `calls::close_listed` meets its contract: what the call says of one place of the list is what is written back.
+-- `requests::close_listed` meets its contract: what the call says of one place of the list is what is written back.
 use borrow.Author.Needs.{needs}
-use Rattle.calls.proofs.Arms.{listed}
-use Rattle.calls.proofs.close_listed.Statement.{statement}
-use Rattle.calls.proofs.close_listed.Tie as tie
+use Rattle.requests.proofs.Arms.{listed}
+use Rattle.requests.proofs.close_listed.Statement.{statement}
+use Rattle.requests.proofs.close_listed.Tie as tie
 
 returns : tie.Need-returns
 returns c =

@@ -7,14 +7,13 @@ use conditions::lacks_records;
 use conditions::open_place;
 use entry::given_range;
 use entry::not_later;
-use facts::Checked;
-use facts::check;
 use layout::HEADER_ROWS;
 use layout::HEADER_TRANSACTIONS;
 use layout::Region;
 use layout::Sizes;
-use layout::words_needed;
+use lending::Part;
 use lending::Tested;
+use lending::lend;
 use loops::Found;
 use regions::read;
 use scans::Scans;
@@ -196,10 +195,9 @@ fn abort_in(mem: &mut [u8], s: Sizes, t: Transaction) -> Answer
 pub fn begin(mem: &mut [u8], scans: Scans) -> Answer
     ensures { λ r. ⌜ Leaves (now (mem .entry)) scans Call.begin r (now (mem .exit)) ⌝ }
 {
-    let Checked::Fit(s) = check(mem, scans) else {
+    let Part::Lent(s, n) = lend(mem, scans) else {
         return Answer::Refused(Refusal::Memory);
     };
-    let n = words_needed(s) * 4;
     begin_in(&mut mem[..n], s)
 }
 
@@ -207,10 +205,9 @@ pub fn begin(mem: &mut [u8], scans: Scans) -> Answer
 pub fn insert(mem: &mut [u8], scans: Scans, transaction: Transaction, values: [i32; 16]) -> Answer
     ensures { λ r. ⌜ Leaves (now (mem .entry)) scans (Call.insert (transaction .0) values) r (now (mem .exit)) ⌝ }
 {
-    let Checked::Fit(s) = check(mem, scans) else {
+    let Part::Lent(s, n) = lend(mem, scans) else {
         return Answer::Refused(Refusal::Memory);
     };
-    let n = words_needed(s) * 4;
     insert_in(&mut mem[..n], s, transaction, values)
 }
 
@@ -225,10 +222,9 @@ pub fn update(
 ) -> Answer
     ensures { λ r. ⌜ Leaves (now (mem .entry)) scans (Call.update (transaction .0) (row .0) mask values) r (now (mem .exit)) ⌝ }
 {
-    let Checked::Fit(s) = check(mem, scans) else {
+    let Part::Lent(s, n) = lend(mem, scans) else {
         return Answer::Refused(Refusal::Memory);
     };
-    let n = words_needed(s) * 4;
     update_in(&mut mem[..n], s, transaction, row, mask as u32, values)
 }
 
@@ -236,10 +232,9 @@ pub fn update(
 pub fn delete(mem: &mut [u8], scans: Scans, transaction: Transaction, row: Row) -> Answer
     ensures { λ r. ⌜ Leaves (now (mem .entry)) scans (Call.delete (transaction .0) (row .0)) r (now (mem .exit)) ⌝ }
 {
-    let Checked::Fit(s) = check(mem, scans) else {
+    let Part::Lent(s, n) = lend(mem, scans) else {
         return Answer::Refused(Refusal::Memory);
     };
-    let n = words_needed(s) * 4;
     delete_in(&mut mem[..n], s, transaction, row)
 }
 
@@ -247,10 +242,9 @@ pub fn delete(mem: &mut [u8], scans: Scans, transaction: Transaction, row: Row) 
 pub fn commit(mem: &mut [u8], scans: Scans, transaction: Transaction, stamp: Stamp) -> Answer
     ensures { λ r. ⌜ Leaves (now (mem .entry)) scans (Call.commit (transaction .0) (stamp .0)) r (now (mem .exit)) ⌝ }
 {
-    let Checked::Fit(s) = check(mem, scans) else {
+    let Part::Lent(s, n) = lend(mem, scans) else {
         return Answer::Refused(Refusal::Memory);
     };
-    let n = words_needed(s) * 4;
     commit_in(&mut mem[..n], s, transaction, stamp)
 }
 
@@ -258,9 +252,8 @@ pub fn commit(mem: &mut [u8], scans: Scans, transaction: Transaction, stamp: Sta
 pub fn abort(mem: &mut [u8], scans: Scans, transaction: Transaction) -> Answer
     ensures { λ r. ⌜ Leaves (now (mem .entry)) scans (Call.abort (transaction .0)) r (now (mem .exit)) ⌝ }
 {
-    let Checked::Fit(s) = check(mem, scans) else {
+    let Part::Lent(s, n) = lend(mem, scans) else {
         return Answer::Refused(Refusal::Memory);
     };
-    let n = words_needed(s) * 4;
     abort_in(&mut mem[..n], s, transaction)
 }

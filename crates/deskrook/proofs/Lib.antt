@@ -1,3 +1,2 @@
-pub mod Served
+pub mod Tested
 pub mod Types
-pub mod Values

@@ -1,2 +1,2 @@
--- What the public calls promise.
-pub mod Serves
+-- What the exports promise.
+pub mod Replies

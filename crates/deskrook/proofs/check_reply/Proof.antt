@@ -1,8 +1,8 @@
 -- `deskrook::check_reply` meets its contract.
 use borrow.Author.Needs.{needs}
 use mathlib.Core.Path.{sym, ap, _∙_}
-use Rattle.deskrook.specs.Serves.{replyOf}
-use Rattle.deskrook.proofs.Served.{tested}
+use Rattle.deskrook.specs.Replies.{replyOf}
+use Rattle.deskrook.proofs.Tested.{tested}
 use Rattle.deskrook.proofs.check_reply.Statement.{statement}
 use Rattle.deskrook.proofs.check_reply.Tie as tie
 

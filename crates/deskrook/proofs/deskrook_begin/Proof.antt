@@ -8,8 +8,8 @@ use Rattle.lent.proofs.laws.write_n as law
 use Rattle.deskrook.proofs.begin_reply.Symbol as core
 use Rattle.deskrook.proofs.begin_reply.Met as core-thm
 use Rattle.deskrook.proofs.begin_reply.Reads as core-reads
-use Rattle.deskrook.specs.Serves.{EncodesLeft, Replies, replyOf}
-use Rattle.deskrook.proofs.Served.{changed}
+use Rattle.deskrook.specs.Replies.{EncodesLeft, Replies, replyOf}
+use Rattle.calls.proofs.Served.{changed}
 use Rattle.deskrook.proofs.Types.{reply}
 use Rattle.deskrook.proofs.deskrook_begin.Key as key
 use Rattle.deskrook.proofs.deskrook_begin.Statement.{statement}

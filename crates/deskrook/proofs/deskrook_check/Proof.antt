@@ -9,7 +9,7 @@ use Rattle.lent.proofs.laws.read_n as law
 use Rattle.deskrook.proofs.check_reply.Symbol as core
 use Rattle.deskrook.proofs.check_reply.Met as core-thm
 use Rattle.deskrook.proofs.check_reply.Reads as core-reads
-use Rattle.deskrook.specs.Serves.{replyOf, usability}
+use Rattle.deskrook.specs.Replies.{replyOf, usability}
 use Rattle.deskrook.proofs.Types.{reply}
 use Rattle.deskrook.proofs.deskrook_check.Key as key
 use Rattle.deskrook.proofs.deskrook_check.Statement.{statement}

@@ -8,9 +8,11 @@ use Rattle.lent.proofs.laws.write_vz as law
 use Rattle.deskrook.proofs.insert_reply.Symbol as core
 use Rattle.deskrook.proofs.insert_reply.Met as core-thm
 use Rattle.deskrook.proofs.insert_reply.Reads as core-reads
-use Rattle.deskrook.specs.Serves.{EncodesLeft, Replies, replyOf, sixteen}
-use Rattle.deskrook.proofs.Served.{changed}
-use Rattle.deskrook.proofs.Types.{reply, u32}
+use Rattle.calls.specs.Serves.{sixteen}
+use Rattle.deskrook.specs.Replies.{EncodesLeft, Replies, replyOf}
+use Rattle.calls.proofs.Served.{changed}
+use Rattle.calls.proofs.Types.{u32}
+use Rattle.deskrook.proofs.Types.{reply}
 use Rattle.deskrook.proofs.deskrook_insert.Key as key
 use Rattle.deskrook.proofs.deskrook_insert.Statement.{statement}
 use Rattle.deskrook.proofs.deskrook_insert.Code as code

@@ -16,9 +16,10 @@ use Rattle.making.proofs.make.Reads as core-reads
 use Rattle.deskrook.proofs.encode.Symbol as last
 use Rattle.deskrook.proofs.encode.Met as last-thm
 use Rattle.deskrook.proofs.encode.Reads as last-reads
-use Rattle.deskrook.specs.Serves.{RepliesMade, replyOf}
-use Rattle.deskrook.proofs.Served.{made-so}
-use Rattle.deskrook.proofs.Types as type
+use Rattle.deskrook.specs.Replies.{RepliesMade, replyOf}
+use Rattle.calls.proofs.Served.{made-so}
+use Rattle.calls.proofs.Types as type
+use Rattle.deskrook.proofs.Types.{reply}
 use Rattle.deskrook.proofs.deskrook_make.Key as key
 use Rattle.deskrook.proofs.deskrook_make.Statement.{statement}
 use Rattle.deskrook.proofs.deskrook_make.Code as code
@@ -27,7 +28,7 @@ pub deskrook-make-spec : {M : Type 1} → statement M
 unfolding code.routine tablesOf RepliesMade
 deskrook-make-spec {M} 𝓤 H 𝓜 𝓖 𝓡 =
     let w : World = record { M = M; 𝓤 = 𝓤; H = H; 𝓜 = 𝓜; 𝓖 = 𝓖; 𝓡 = 𝓡 } in
-    law.meets len-of.name core.name free-made.name last.name type.usize type.answer type.reply type.u32 type.u32 type.u32 type.u32
+    law.meets len-of.name core.name free-made.name last.name type.usize type.answer reply type.u32 type.u32 type.u32 type.u32
     (λ l n. n ≡ length l) (λ m n a b c d x m′. (x, m′) ≡ made (shapeOf a b c d) n m) (λ l x l′. l′ ≡ freedIf (isAccepted x) l) (λ x z. z ≡ replyOf x)
     (λ m l a b c d z m′ l′. RepliesMade m l (shapeOf a b c d) z m′ l′)
     (λ m l a b c d n x z m′ l′. made-so replyOf (shapeOf a b c d) m n x z m′ l l′)

@@ -8,9 +8,11 @@ use Rattle.lent.proofs.laws.write_vvvz as law
 use Rattle.deskrook.proofs.update_reply.Symbol as core
 use Rattle.deskrook.proofs.update_reply.Met as core-thm
 use Rattle.deskrook.proofs.update_reply.Reads as core-reads
-use Rattle.deskrook.specs.Serves.{EncodesLeft, Replies, replyOf, sixteen}
-use Rattle.deskrook.proofs.Served.{changed}
-use Rattle.deskrook.proofs.Types.{reply, u16, u32}
+use Rattle.calls.specs.Serves.{sixteen}
+use Rattle.deskrook.specs.Replies.{EncodesLeft, Replies, replyOf}
+use Rattle.calls.proofs.Served.{changed}
+use Rattle.calls.proofs.Types.{u16, u32}
+use Rattle.deskrook.proofs.Types.{reply}
 use Rattle.deskrook.proofs.deskrook_update.Key as key
 use Rattle.deskrook.proofs.deskrook_update.Statement.{statement}
 use Rattle.deskrook.proofs.deskrook_update.Code as code

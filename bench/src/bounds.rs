@@ -61,8 +61,11 @@ pub fn measure(stores: &[Named], report: &mut Report) {
     report.table(&heads, &rows);
 }
 
+/// A bound test: whether all words lie between two bounds.
+type Test = fn(&[u8], u32, u32) -> bool;
+
 /// The library's bound test alone.
-fn bound_test() -> Option<fn(&[u8], u32, u32) -> bool> {
+fn bound_test() -> Option<Test> {
     #[cfg(feature = "door")]
     {
         extern "C" {

@@ -1,22 +1,19 @@
 -- A command is read from its operands alone: the bytes behind them do not matter.
-use Prim.Native.Nat.{ℕ, _+_, _*_, _≤_, min}
-use mathlib.Core.Path.{_≡_, refl, ap, sym, _∙_}
-use mathlib.Core.Bool.{Bool, true, false, cond}
+use Prim.Native.Nat.{ℕ, _+_, _*_, _≤_}
+use mathlib.Core.Path.{_≡_, ap, _∙_}
 use mathlib.Core.List.{List, map}
 use native.Mathlib.Omega.{arith}
 use native.Mathlib.Decide.{decLe}
-use native.Mathlib.Nat.{add-comm}
 use lib.Dec.{leb}
 use borrow.Author.Tests.{le-leb}
-use lib.IntN.{ℤ}
 use lib.ListN.{length, take, drop, length-drop}
-use lib.Seq.{slice, take-take, take-all, take-add, drop-at, length-take-le}
+use lib.Seq.{take-take, take-all, take-add, drop-at, length-take-le}
 use mir.Syntax.{w32}
 use mir.Val.{toZ}
 use Rattle.words.specs.Words.{words}
 use Rattle.words.proofs.Words.{words-take}
 use Rattle.commands.specs.declared.Form.{Form}
-use Rattle.commands.specs.Commands.{width, valueCount, operand, values, callOf, callFrom, littleEndian}
+use Rattle.commands.specs.Commands.{width, valueCount, operand, values, callFrom, littleEndian, shapeBytes, shapeFrom}
 
 -- whether the operands are whole can be told from them
 pub whole : (w : ℕ) (bs : List ℕ) → leb w (length (take w bs)) ≡ leb w (length bs)
@@ -50,3 +47,13 @@ call-part columns f bs h =
     let b : operand (f .first) (f .second) (take w bs) ≡ operand (f .first) (f .second) bs = operand-part (f .first) (f .second) w bs (omega arith) in
     let c : operand (f .first + f .second) (f .third) (take w bs) ≡ operand (f .first + f .second) (f .third) bs = operand-part (f .first + f .second) (f .third) w bs (omega arith) in
     rw (a, b, c, vs)
+
+-- and the shape from its six bytes
+pub shape-part : (bs : List ℕ) → shapeFrom (take shapeBytes bs) ≡ shapeFrom bs
+unfolding shapeFrom
+shape-part bs =
+    let a : operand 0 1 (take 6 bs) ≡ operand 0 1 bs = operand-part 0 1 6 bs (omega arith) in
+    let b : operand 1 1 (take 6 bs) ≡ operand 1 1 bs = operand-part 1 1 6 bs (omega arith) in
+    let c : operand 2 2 (take 6 bs) ≡ operand 2 2 bs = operand-part 2 2 6 bs (omega arith) in
+    let d : operand 4 2 (take 6 bs) ≡ operand 4 2 bs = operand-part 4 2 6 bs (omega arith) in
+    rw (a, b, c, d)

@@ -1,7 +1,8 @@
 -- What is due for a shape, for a command byte and for a command's operands, case by case.
-use Prim.Native.Nat.{ℕ, _≤_, _<_}
+use Prim.Native.Nat.{ℕ, _+_, _*_, _≤_, _<_}
+use native.Mathlib.Omega.{arith}
 use mathlib.Core.Path.{_≡_, refl, ap, sym, _∙_}
-use mathlib.Core.Bool.{Bool, true, false}
+use mathlib.Core.Bool.{Bool, true, false, cond}
 use mathlib.Core.List.{List}
 use lib.ListN.{length}
 use borrow.Author.Tests.{le-leb, lt-leb}
@@ -71,6 +72,14 @@ width-refused columns k r e = sym (ap (operandWidth columns) e)
 
 pub narrow : (k : Chosen) (f : Form) (columns : ℕ) → k ≡ Chosen.Known f → Narrow k → columns ≤ 16 → Small columns f
 narrow k f columns e n h = let m : Narrow (Chosen.Known f) = rw e at n in (m .0, m .1, m .2, h)
+
+-- the most bytes of operands: three numbers of four bytes and 16 values
+pub width-most : (columns : ℕ) (f : Form) → Small columns f → width columns f ≤ 76
+width-most columns f h = go (f .values)
+  where
+    go : (b : Bool) → f .first + f .second + f .third + 4 * cond b columns 0 ≤ 76
+    go true = omega (arith, h .0, h .1, h .2, h .3)
+    go false = omega (arith, h .0, h .1, h .2)
 
 -- ---- a command
 pub form-cut : (x : Store) (columns : ℕ) (f : Form) (os : List ℕ) → length os < width columns f

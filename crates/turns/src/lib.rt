@@ -16,14 +16,33 @@ use terms::Answer;
 use terms::Refusal;
 ghost use mathlib.Core.Path.{_≡_};
 ghost use Prim.Native.Nat.{_≤_};
+ghost use lib.ListN.{length};
+ghost use Rattle.terms.specs.Measures.{mostScans};
+ghost use Rattle.words.specs.Words.{words};
+ghost use Rattle.layout.specs.Sizes.{bytesNeeded};
+ghost use Rattle.scans.specs.Places.{placesOf};
 ghost use Rattle.commands.specs.Commands.{Small, chosen};
 ghost use Rattle.commands.specs.Decoded.{shapeIn};
 ghost use Rattle.output.specs.Steps.{step};
+ghost use Rattle.turns.specs.Gatebook.{largest};
 ghost use Rattle.turns.specs.Turns.{storeIn, storeMachine, makingAnswer, madeStore, firstAnswer, firstStore, firstStep, columnsFrom, capped as cappedAt, operandWidth, Does, Turned};
 
 const SHAPE_BYTES: usize = 6;
 
 const MOST_COLUMNS: usize = 16;
+
+// Memory for the largest shape that memory is lent for, and a scan list of 16 places.
+pub fn lent_memory() -> [u8; 25552]
+    ensures { λ r. ⌜ length r ≡ bytesNeeded largest ⌝ }
+{
+    [0; 25552]
+}
+
+pub fn lent_list() -> [u8; 192]
+    ensures { λ r. ⌜ length (placesOf (words r)) ≡ mostScans ⌝ }
+{
+    [0; 192]
+}
 
 // A line and what comes after it: the line's length, and whether the program goes on.
 pub struct Outcome {
@@ -86,7 +105,7 @@ fn capped(columns: usize) -> usize
 
 // How many bytes of operands are to be read behind a command byte.
 pub fn operand_width(byte: u8, columns: usize) -> usize
-    ensures { λ r. ⌜ r ≡ operandWidth (cappedAt columns) (chosen byte) ⌝ }
+    ensures { λ r. ⌜ (r ≡ operandWidth (cappedAt columns) (chosen byte)) × (r ≤ 76) ⌝ }
 {
     let chosen = choose(byte);
     match chosen {

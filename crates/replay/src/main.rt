@@ -8,6 +8,7 @@ use turns::start;
 use turns::turn;
 ghost use Prim.Native.Nat.{_+_, _≤_, _<_};
 ghost use lib.ListN.{length};
+ghost use mathlib.Core.Path.{_≡_};
 ghost use Rattle.io.specs.Counts.{Counts};
 
 // The bytes that gatebook lends, and those of 16 places of the scan list. They begin with other values than zeros.
@@ -140,6 +141,27 @@ fn put_line(line: &[u8; 64], n: usize, on: bool, folded: bool, c: Course) -> Cou
     }
 }
 
+// A command byte with its operands, and its line. Nothing is asked here of what the line says: the lines are compared.
+fn answer(
+    mem: &mut [u8],
+    scans: &mut [u8],
+    byte: u8,
+    operands: &[u8],
+    folded: bool,
+    c: Course,
+) -> Course {
+    let mut line = [0u8; 64];
+    let t = turn(mem, scans, c.columns, byte, operands, &mut line);
+    put_line(&line, t.length, t.on, folded, c)
+}
+
+// How many bytes of operands a command byte has, of those that are left.
+fn operands(byte: u8, columns: usize, left: usize) -> usize
+    ensures { λ r. ⌜ r ≤ left ⌝ }
+{
+    least(operand_width(byte, columns), left)
+}
+
 // One command: the byte at `at`, and its operands, as many as there are.
 fn run_command(
     mem: &mut [u8],
@@ -152,13 +174,10 @@ fn run_command(
     requires { ⌜ at < length (now bytes) ⌝ }
     ensures { λ r. ⌜ (at < r .at) × (r .at ≤ length (now (bytes .entry))) ⌝ }
 {
-    let columns = c.columns;
     let byte = bytes[at];
     let from = at + 1;
-    let end = from + least(operand_width(byte, columns), bytes.len() - from);
-    let mut line = [0u8; 64];
-    let t = turn(mem, scans, columns, byte, &bytes[from..end], &mut line);
-    let course = put_line(&line, t.length, t.on, folded, c);
+    let end = from + operands(byte, c.columns, bytes.len() - from);
+    let course = answer(mem, scans, byte, &bytes[from..end], folded, c);
     Step { at: end, course }
 }
 
@@ -326,10 +345,29 @@ fn run_all(mem: &mut [u8], scans: &mut [u8], pack: &mut [u8]) {
     }
 }
 
+// What is lent, of which only the length matters.
+fn lent_memory() -> [u8; MEMORY]
+    ensures { λ r. ⌜ 25552 ≡ length r ⌝ }
+{
+    [DIRT; MEMORY]
+}
+
+fn lent_list() -> [u8; LIST]
+    ensures { λ r. ⌜ 192 ≡ length r ⌝ }
+{
+    [DIRT; LIST]
+}
+
+fn pack_buffer() -> [u8; PACK]
+    ensures { λ r. ⌜ 262144 ≡ length r ⌝ }
+{
+    [0; PACK]
+}
+
 fn main() {
-    let mut mem = [DIRT; MEMORY];
-    let mut scans = [DIRT; LIST];
-    let mut pack = [0u8; PACK];
+    let mut mem = lent_memory();
+    let mut scans = lent_list();
+    let mut pack = pack_buffer();
     let n = io::read_full(STDIN_FILENO, &mut pack);
     run_all(&mut mem, &mut scans, &mut pack[..n]);
 }

@@ -1,28 +1,30 @@
 -- The demands of the lent list itself, from those stated of definitions.
-use Prim.Native.Nat.{ℕ}
+use Prim.Native.Nat.{ℕ, _<_}
 use mathlib.Core.Path.{_≡_, refl, sym, subst, ap, _∙_}
 use mathlib.Core.Bool.{Bool, true, false, cond}
 use mathlib.Core.List.{List, [], _∷_}
 use native.Mathlib.Nat.{le-refl}
+use native.Mathlib.Omega.{arith}
 use lib.ListN.{length, set}
 use lib.Seq.{set-out}
-use Rattle.terms.specs.Measures.{Shape}
+use Rattle.terms.specs.Measures.{Shape, mostScans}
 use Rattle.terms.specs.declared.Answer.{Answer}
 use Rattle.terms.specs.declared.Place.{Place}
 use Rattle.words.specs.Words.{words}
 use Rattle.layout.specs.View.{View}
 use Rattle.scans.specs.Places.{freePlace}
 use Rattle.facts.specs.Usable.{shapeIn, usable}
+use Rattle.facts.proofs.Usable.{usable-tells}
 use Rattle.history.specs.History.{Call, Verdict, accept, refuse, verdict}
 use Rattle.model.specs.Calls.{testsIn, placesAfter, placesIf, placesNext}
 use Rattle.promise.specs.Promise.{storeView, answerOf, memoryAfter, listAfter, answersOf}
-use Rattle.promise.specs.Demands.{Demand3, RefusedKeeps, storeAnswers}
+use Rattle.promise.specs.Demands.{Demand3, RefusedKeeps, RefusedMemory, storeAnswers}
 use Rattle.promise.proofs.Demands.{demand3}
-use Rattle.promise.proofs.Refused.{refused-keeps}
+use Rattle.promise.proofs.Refused.{refused-keeps, refused-memory}
 use Rattle.making.specs.Made.{made}
 use Rattle.lent.specs.Lent.{isAccepted, freedIf}
 use Rattle.calls.specs.Serves.{Serves, Makes}
-use Rattle.calls.specs.Runs.{Run, ends, goes, LentAnswers, LentKept, MakingFrees, OnePlace}
+use Rattle.calls.specs.Runs.{Run, ends, goes, LentAnswers, LentKept, MakingFrees, OnePlace, ShortRefused}
 
 pub run-answers : {m : List ℕ} {ps : List Place} {cs : List Call} {rs : List Answer} → Run m ps cs rs → rs ≡ answersOf m ps cs
 unfolding Serves answersOf
@@ -101,3 +103,16 @@ list-changed m ps c = go (usable m ps)
 pub one-place : OnePlace
 unfolding OnePlace Serves Changed
 one-place m m′ ps ps′ c r s = subst (Changed ps) (sym (s .2)) (list-changed m ps c)
+
+-- ---- a short list
+
+short-unusable : (m : List ℕ) (ps : List Place) → length ps < mostScans → usable m ps ≡ false
+short-unusable m ps k = go (usable m ps) refl
+  where
+    go : (b : Bool) → usable m ps ≡ b → b ≡ false
+    go true e = absurd (omega (arith, usable-tells m ps e .places))
+    go false e = refl
+
+pub short-refused : ShortRefused
+unfolding ShortRefused Serves RefusedMemory
+short-refused m m′ ps ps′ c r k s = s .0 ∙ refused-memory m ps c .0 (short-unusable m ps k)

@@ -1,5 +1,5 @@
 -- The demands of the lent list itself: what follows from the calls' promises alone, whatever program made the calls. proofs/Runs.antt proves them.
-use Prim.Native.Nat.{ℕ}
+use Prim.Native.Nat.{ℕ, _<_}
 use mathlib.Core.Path.{_≡_}
 use mathlib.Core.List.{List, [], _∷_}
 use lib.ListN.{length, set}
@@ -38,3 +38,8 @@ MakingFrees = (S : Shape) (m m′ : List ℕ) (ps ps′ : List Place) → Makes 
 
 unfoldable pub OnePlace : Type 0
 OnePlace = (m m′ : List ℕ) (ps ps′ : List Place) (c : Call) (r : Answer) → Serves m ps c r m′ ps′ → (i : ℕ) × (p : Place) × (ps′ ≡ set ps i p)
+
+-- a list under 16 places is refused with 2, whatever the memory
+unfoldable pub ShortRefused : Type 0
+ShortRefused =
+    (m m′ : List ℕ) (ps ps′ : List Place) (c : Call) (r : Answer) → length ps < mostScans → Serves m ps c r m′ ps′ → r ≡ Answer.Refused Refusal.Memory

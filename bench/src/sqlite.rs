@@ -123,7 +123,7 @@ pub fn measure(stores: &[Named], report: &mut Report) {
             let times = time::rounds(stores, |store| time::calls(store, &filled, &calls));
             let mut row = vec![format!("{name}, {}", named(&shape)), ns(sqlite)];
             for time in times {
-                row.extend([ns(time), format!("{:.1}", sqlite / time)]);
+                row.extend([ns(time), format!("{:.2}", sqlite / time)]);
             }
             rows.push(row);
         }

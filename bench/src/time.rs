@@ -12,7 +12,7 @@ use crate::filled::Filled;
 use crate::Named;
 
 /// Rounds in which the stores are timed in turn, so that a busy stretch of the machine meets all.
-const ROUNDS: usize = 5;
+const ROUNDS: usize = 9;
 /// How long one call is measured in one round.
 const SPAN: Duration = Duration::from_millis(5);
 const MOST: usize = 4000;

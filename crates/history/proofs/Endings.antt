@@ -36,7 +36,6 @@ abbrev pub recordAt : History → ℕ → ℕ → Record
 recordAt h g k = getD (recordsOf h g) k noRecord
 
 module _ (h : History) (g : ℕ) (i : InOrder h) where
-
   -- under the original value there is no setting
   pub original-reads : (sees : ℕ → Bool) (r c k : ℕ) (v : Version) → k < length (recordsOf h g) → recordAt h g k .row ≡ r → T (isOriginal c (recordAt h g k .content))
       → lastSetting sees r c v (take k (recordsOf h g)) ≡ v
@@ -46,4 +45,3 @@ module _ (h : History) (g : ℕ) (i : InOrder h) where
       (λ j a. not-T (eqb (recordAt h g j .row) r && sets c (recordAt h g j .content))
       (λ u. let p : T (eqb (recordAt h g j .row) r) × T (sets c (recordAt h g j .content)) = parts (eqb (recordAt h g j .row) r) _ u in
       rw (follows-at h g i j k noRecord a b (eqb→eq (recordAt h g j .row) r (p .0) ∙ sym e) .original-first c t .0) at (p .1))))
-

@@ -66,4 +66,3 @@ walk-is l links k r (suc n) (suc f) b e =
         → walk (suc f) l links (cond c (suc n) (lastOf l r n)) ≡ reverse (cond c (getD l n noRecord ∷ []) []) ++ reverse (keep (λ x. eqb (x .row) r) (take n l))
     go true q p p′ = ap {B = List Record} (λ z. getD l n noRecord ∷ z) (ap (walk f l links) (k n b ∙ ap (λ (i : ℕ). lastOf l i n) (q tt)) ∙ p)
     go false q p p′ = p′
-

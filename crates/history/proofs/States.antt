@@ -137,4 +137,3 @@ committed-seen h t k f = go (stateOf h k) refl
     go active e = refl
     go aborted e = refl
     go (committed s) e = is-true (leb s t) (le→leb s t (f s e))
-

@@ -1,0 +1,3 @@
+pub mod Served
+pub mod Types
+pub mod Values

@@ -157,7 +157,8 @@ pub fn free_all(list: &mut [Place])
     }
 }
 
-fn accepted(answer: Answer) -> bool
+// Whether a call was carried out.
+pub fn accepted(answer: Answer) -> bool
     ensures { λ r. ⌜ r ≡ isAccepted answer ⌝ }
 {
     match answer {

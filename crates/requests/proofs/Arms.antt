@@ -23,7 +23,9 @@ use Rattle.promise.specs.Promise.{storeView, answerOf, memoryAfter, listAfter, 
 use Rattle.upkeep.specs.declared.Listed.{Listed}
 use Rattle.upkeep.specs.Lists.{Lists}
 use Rattle.commands.specs.declared.Request.{Request}
-use Rattle.requests.specs.Served.{asked, Serves, isAccepted, freedIf, Makes}
+use Rattle.lent.specs.Lent.{isAccepted, freedIf}
+use Rattle.calls.specs.Serves.{Serves, Makes}
+use Rattle.requests.specs.Asked.{asked}
 
 -- ---- a command that changes no view leaves the memory, and one that changes no list leaves it
 
@@ -99,4 +101,10 @@ asks m ps q x r m′ ps′ e h = subst (λ (y : Call). Serves m ps y r m′ ps�
 pub made-served : (m : List ℕ) (ps : List Place) (S : Shape) (n : ℕ) (r : Answer) (m′ : List ℕ) (b : Bool) (ps′ : List Place)
     → (r, m′) ≡ made S n m → n ≡ length ps → b ≡ isAccepted r → ps′ ≡ freedIf b ps → Makes m ps S r m′ ps′
 unfolding Makes
-made-served m ps S n r m′ b ps′ e l a q = (rw l at e, q ∙ ap (λ (z : Bool). freedIf z ps) a)
+made-served m ps S n r m′ b ps′ e l a q =
+    let whole : (r, m′) ≡ made S (length ps) m = rw l at e in
+    let answer = ap (λ (z : Answer × List ℕ). z .0) whole in (
+      answer,
+      ap (λ (z : Answer × List ℕ). z .1) whole,
+      q ∙ ap (λ (z : Bool). freedIf z ps) a ∙ ap (λ (z : Answer). freedIf (isAccepted z) ps) answer,
+    )

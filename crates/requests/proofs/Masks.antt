@@ -18,7 +18,7 @@ use Rattle.facts.specs.Usable.{shapeIn, sizesIn, usable}
 use Rattle.history.specs.History.{Call, update, Verdict, accept, refuse, verdict, answerIf, badMask}
 use Rattle.model.specs.Calls.{notOpenIn, notGivenIn, testsIn, replyIn, actIn, placesAfter, viewIf, placesIf, say, viewNext, placesNext}
 use Rattle.promise.specs.Promise.{storeView, answerOf, memoryAfter, listAfter}
-use Rattle.requests.specs.Served.{Serves}
+use Rattle.calls.specs.Serves.{Serves}
 use Rattle.facts.proofs.Usable.{usable-tells}
 use native.Mathlib.Nat.{pow-le-pow-right}
 use Rattle.requests.proofs.Arms.{list-kept}

@@ -25,7 +25,8 @@ use Rattle.commands.specs.declared.Request.{Request}
 use Rattle.commands.specs.Commands.{callOf}
 use Rattle.commands.specs.Decoded.{callIn, ZerosPast}
 use Rattle.promise.specs.Promise.{storeView, answerOf, memoryAfter, listAfter}
-use Rattle.requests.specs.Served.{asked, Serves}
+use Rattle.calls.specs.Serves.{Serves}
+use Rattle.requests.specs.Asked.{asked}
 
 abbrev Agree : List ℤ → List ℤ → Type 0
 Agree vs us = (c : ℕ) → getD vs c (pos 0) ≡ getD us c (pos 0)

@@ -1,2 +1,2 @@
--- What a request asks for, and what it is served.
-pub mod Served
+-- What a request asks for.
+pub mod Asked

@@ -7,6 +7,7 @@ use changes::insert;
 use changes::update;
 use commands::Kind;
 use commands::Request;
+use lent::accepted;
 use lookups::latest;
 use lookups::lineage;
 use lookups::own_read;
@@ -36,21 +37,8 @@ ghost use Rattle.scans.specs.Places.{placesOf};
 ghost use Rattle.scans.specs.Table.{tableOf};
 ghost use Rattle.layout.specs.Sizes.{shapeOf};
 ghost use Rattle.history.specs.History.{Call};
-ghost use Rattle.requests.specs.Served.{asked, Serves, isAccepted, Makes};
-
-fn accepted(answer: Answer) -> bool
-    ensures { λ r. ⌜ r ≡ isAccepted answer ⌝ }
-{
-    match answer {
-        Answer::Refused(_) => false,
-        Answer::Done => true,
-        Answer::Number(_) => true,
-        Answer::Value(_) => true,
-        Answer::None => true,
-        Answer::Sum(_, _) => true,
-        Answer::Lineage(_, _) => true,
-    }
-}
+ghost use Rattle.calls.specs.Serves.{Serves, Makes};
+ghost use Rattle.requests.specs.Asked.{asked};
 
 // A store is made, and with it every place of the list becomes free.
 pub fn make_store(

@@ -20,7 +20,9 @@ use Rattle.commands.specs.Commands.{width, callFrom, shapeBytes, shapeFrom, cho
 use Rattle.commands.specs.Decoded.{callIn, ZerosPast}
 use Rattle.output.specs.Output.{lent, goesOn}
 use Rattle.output.specs.Steps.{answerTo, stateAfter, Step, step}
-use Rattle.requests.specs.Served.{asked, Serves, Makes, isAccepted, freedIf}
+use Rattle.lent.specs.Lent.{isAccepted, freedIf}
+use Rattle.calls.specs.Serves.{Serves, Makes}
+use Rattle.requests.specs.Asked.{asked}
 use Rattle.requests.proofs.Values.{served-call}
 use Rattle.turns.specs.declared.Outcome.{Outcome}
 use Rattle.turns.specs.Turns.{Store, storeMachine, makingAnswer, madeStore, firstAnswer, firstStore, columnsFrom, operandWidth, Does, Turned}
@@ -33,14 +35,11 @@ not-lent x S e = (rw e, rw e)
 pub lent-made : (x : Store) (S : Shape) (r : Answer) (m′ : List ℕ) (ps′ : List Place) → lent S ≡ true → Makes (x .memory) (x .list) S r m′ ps′
     → (r ≡ makingAnswer x S) × (_≡_ {A = Store} record { memory = m′; list = ps′ } (madeStore x S))
 unfolding makingAnswer madeStore Makes
-lent-made x S r m′ ps′ e h =
-    let answer : r ≡ made S (length (x .list)) (x .memory) .0 = ap (λ (z : Answer × List ℕ). z .0) (h .0) in
-    let memory : m′ ≡ made S (length (x .list)) (x .memory) .1 = ap (λ (z : Answer × List ℕ). z .1) (h .0) in
-    let list : ps′ ≡ freedIf (isAccepted (made S (length (x .list)) (x .memory) .0)) (x .list) = h .1 ∙ ap (λ (z : Answer). freedIf (isAccepted z) (x .list)) answer in (
-      rw e answer,
-      rw e (ap {B = Store} (λ (m : List ℕ). record { memory = m; list = ps′ }) memory
-          ∙ ap {B = Store} (λ (ps : List Place). record { memory = made S (length (x .list)) (x .memory) .1; list = ps }) list),
-    )
+lent-made x S r m′ ps′ e h = (
+  rw e (h .0),
+  rw e (ap {B = Store} (λ (m : List ℕ). record { memory = m; list = ps′ }) (h .1)
+      ∙ ap {B = Store} (λ (ps : List Place). record { memory = made S (length (x .list)) (x .memory) .1; list = ps }) (h .2)),
+)
 
 pub shape-cut : (x : Store) (bs : List ℕ) → length bs < shapeBytes → (Answer.Refused Refusal.Cut ≡ firstAnswer x bs) × (x ≡ firstStore x bs)
 unfolding firstAnswer firstStore

@@ -20,7 +20,7 @@ use Rattle.commands.specs.Commands.{width, shapeBytes, shapeFrom}
 use Rattle.output.specs.Output.{lent, goesOn}
 use Rattle.output.specs.Steps.{Machine, Step, answerTo, stateAfter}
 use Rattle.promise.specs.Promise.{answerOf, memoryAfter, listAfter}
-use Rattle.requests.specs.Served.{isAccepted, freedIf}
+use Rattle.lent.specs.Lent.{isAccepted, freedIf}
 use Rattle.turns.specs.declared.Outcome.{Outcome}
 
 -- ---- a store: the lent memory and the lent scan list

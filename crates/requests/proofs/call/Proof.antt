@@ -13,7 +13,7 @@ use Rattle.model.specs.Calls.{actIn, placesAfter}
 use Rattle.commands.specs.declared.Kind.{Kind}
 use Rattle.commands.specs.declared.Request.{Request}
 use Rattle.commands.specs.Commands.{callOf}
-use Rattle.requests.specs.Served.{asked}
+use Rattle.requests.specs.Asked.{asked}
 use Rattle.requests.proofs.Arms.{looked, changed, asks}
 use Rattle.requests.proofs.Masks.{masked}
 use Rattle.requests.proofs.call.Statement.{statement}

@@ -10,6 +10,7 @@ pub mod facts;
 pub mod lent;
 #[cfg(feature = "library")]
 pub mod library;
+pub mod live;
 pub mod memory;
 pub mod operands;
 pub mod plain;

@@ -375,7 +375,7 @@ static void call_and_judge(enum call call, struct input *in) {
 
 /* ---- an input ---- */
 
-/* A word of memory or list becomes any number, another word of it, or a number beside the one that is there. */
+/* A word of memory or list becomes any number, another word of it, a number beside the one that is there, or the greatest transaction or scan number. */
 static void damage(struct lent *lent, struct input *in) {
     size_t words = lent->length / 4;
     if (words == 0)
@@ -384,17 +384,27 @@ static void damage(struct lent *lent, struct input *in) {
     uint32_t first = take(in, 1);
     size_t at = (first < 0x40 ? first % HEADER_WORDS : take(in, 2)) % words;
     uint32_t old = word_at(lent->first, at), way = take(in, 1), new;
-    switch (way % 4) {
+    switch (way % 5) {
     case 0: new = any(in); break;
     case 1: new = word_at(lent->first, take(in, 2) % words); break;
     case 2: new = old + 1; break;
-    default: new = old - 1; break;
+    case 3: new = old - 1; break;
+    default: new = 65535; break;
     }
     for (int i = 0; i < 4; i++)
         lent->first[4 * at + i] = (uint8_t)(new >> (8 * i));
 }
 
 enum { AT_END = 0x01, LIST_AT_END = 0x02, RAW = 0x0C, ANY_LENGTH = 0x30, ANY_PLACES = 0xC0, MEASURED = 0x03, MOST_STEPS = 400 };
+
+/* Inserts rows until all are given. A store that is not usable refuses it. */
+static void fill_rows(void) {
+    const deskrook_scan *s = (const deskrook_scan *)(const void *)list.first;
+    uint32_t transaction = deskrook_begin(memory.first, memory.length, s, places()).first;
+    while (deskrook_insert(memory.first, memory.length, s, places(), transaction, (const int32_t *)(const void *)values.first, 0).result == DESKROOK_OK) {
+    }
+    deskrook_commit(memory.first, memory.length, s, places(), transaction, 1);
+}
 
 static int all_of(uint32_t flags, uint32_t some) {
     return (flags & some) == some;
@@ -416,6 +426,8 @@ static void begin_input(struct input *in) {
     lend(&list, count * sizeof(deskrook_scan), flags & LIST_AT_END);
     if (!all_of(flags, RAW)) {
         deskrook_make(memory.first, memory.length, (deskrook_scan *)(void *)list.first, places(), measures[0], measures[1], measures[2], measures[3]);
+        if (take(in, 1) >= 0xC0)
+            fill_rows();
         return;
     }
     size_t own = in->left / 2 < bytes ? in->left / 2 : bytes;

@@ -1,6 +1,4 @@
 // What `gatebook` does between reading and writing: the answer to the shape, and the answer to one command, as lines in a buffer that is lent.
-use requests::call;
-use requests::make_store;
 use commands::Chosen;
 use commands::Form;
 use commands::Measures;
@@ -12,6 +10,8 @@ use lines::render_line;
 use lines::render_shape;
 use output::goes_on;
 use output::lends;
+use requests::call;
+use requests::make_store;
 use terms::Answer;
 use terms::Refusal;
 ghost use mathlib.Core.Path.{_≡_};

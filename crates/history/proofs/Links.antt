@@ -1,5 +1,5 @@
 -- A row's records by links: each record names the one before it of the same row, and a walk from the row's newest record meets exactly the row's
--- records, the newest first. What a store that keeps links has to show is `Linked`; what it gets is `walk-is`, and for a read `first-is-last`.
+-- records, the newest first. What a store that keeps links has to show is `Linked`; what it gets is `walk-is`.
 use mathlib.Core.Path.{_≡_, refl, _∙_, ap}
 use mathlib.Core.Bool.{Bool, true, false, cond}
 use mathlib.Core.List.{List, [], _∷_, _++_, reverse, reverse-append}

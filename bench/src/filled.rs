@@ -1,15 +1,25 @@
 //! Stores of a shape, filled to a share of their rows and tail records.
 
-use checks::memory::{Layout, PLACE, ROWS, SCANS};
+use checks::memory::{Layout, Scan, ROWS, SCANS};
 use checks::plain::Plain;
 use checks::Store;
 use reference::{Answer, Call, Shape};
+
+/// A value that a row and column got at a stamp.
+#[derive(Clone)]
+#[cfg_attr(not(feature = "sqlite"), allow(dead_code))]
+pub struct Version {
+    pub row: u32,
+    pub column: u32,
+    pub stamp: u32,
+    pub value: i32,
+}
 
 /// A store's memory and scan list. All stores have one layout, so one filling serves them all.
 #[derive(Clone)]
 pub struct Filled {
     pub memory: Vec<u8>,
-    pub scans: Vec<u8>,
+    pub scans: Vec<Scan>,
     pub shape: Shape,
     /// Rows given, and the records used in range 0 before the open transaction's one.
     pub rows: u32,
@@ -18,6 +28,8 @@ pub struct Filled {
     pub open: u32,
     pub scan: u32,
     pub last: u32,
+    /// What the committed transactions of the filling have set.
+    pub versions: Vec<Version>,
 }
 
 /// Updates in one transaction of the filling.
@@ -27,14 +39,14 @@ const ABORTED: usize = 8;
 
 impl Filled {
     /// So many percent of the rows and of all records, the records in the ranges that have rows;
-    /// but always a row with a setting, and always room for one row and one record more. One transaction is open, with one setting
-    /// of row 0, and one scan.
+    /// but always a row with a setting, and always room for one row and one record more. One
+    /// transaction is open, with one setting of row 0, and one scan.
     pub fn new(shape: Shape, percent: u32) -> Filled {
         let layout = Layout::of(&shape);
-        let (memory, scans) = (vec![0; layout.need()], vec![0; SCANS * PLACE]);
+        let (memory, scans) = (vec![0; layout.need()], vec![Scan::FREE; SCANS]);
         let rows = (shape.rows() * percent / 100).clamp(1, shape.rows() - 1);
-        let mut filled =
-            Filled { memory, scans, shape, rows, settled: 0, open: 0, scan: 0, last: 0 };
+        let (settled, open, scan, last, versions) = (0, 0, 0, 0, Vec::new());
+        let mut filled = Filled { memory, scans, shape, rows, settled, open, scan, last, versions };
         let made = Plain::<0>.make(&mut filled.memory, &mut filled.scans, &shape);
         assert_eq!(made, Answer::Done);
         filled.insert_rows();
@@ -81,7 +93,11 @@ impl Filled {
         let transaction = self.number(&Call::Begin);
         for row in 0..self.rows {
             let value = |column: u32| (row * 31 + column * 7) as i32 - 500;
-            let values = (0..self.shape.columns).map(value).collect();
+            let values: Vec<i32> = (0..self.shape.columns).map(value).collect();
+            // The stamp of the first commit.
+            let version =
+                |(column, value): (u32, &i32)| Version { row, column, stamp: 10, value: *value };
+            self.versions.extend((0..).zip(&values).map(version));
             self.number(&Call::Insert { transaction, values });
         }
         self.commit(transaction);
@@ -95,6 +111,7 @@ impl Filled {
         let mut made = 0;
         while self.used(range) < records {
             let transaction = self.number(&Call::Begin);
+            let mut set = Vec::new();
             for row in rows.by_ref().take(UPDATES) {
                 // The first setting of a row takes two records: with one place left row 0, which
                 // has been set.
@@ -105,12 +122,16 @@ impl Filled {
                 };
                 let values = vec![row as i32; self.shape.columns as usize];
                 self.number(&Call::Update { transaction, row: first + row, mask: 1, values });
+                set.push((first + row, row as i32));
             }
             made += 1;
             if made % ABORTED == 0 {
                 self.call(&Call::Abort { transaction });
             } else {
                 self.commit(transaction);
+                let stamp = self.last;
+                let version = |(row, value)| Version { row, column: 0, stamp, value };
+                self.versions.extend(set.into_iter().map(version));
             }
         }
     }

@@ -1,6 +1,6 @@
-//! The time of one call. A call that writes is undone after each time, so that every repetition
-//! meets the same bytes; only the blocks that it changed are put back, so that the rest stays in
-//! the processor's cache as it was.
+//! The time of calls. Calls that write are undone after each time, so that every repetition meets
+//! the same bytes; only the blocks that they changed are put back, so that the rest stays in the
+//! processor's cache as it was.
 
 use std::hint::black_box;
 use std::time::{Duration, Instant};
@@ -9,18 +9,42 @@ use checks::Store;
 use reference::Call;
 
 use crate::filled::Filled;
+use crate::Named;
 
+/// Rounds in which the stores are timed in turn, so that a busy stretch of the machine meets all.
+const ROUNDS: usize = 9;
 /// How long one call is measured in one round.
 const SPAN: Duration = Duration::from_millis(5);
 const MOST: usize = 4000;
 /// Calls between two looks at the clock, where nothing need be undone.
-const BATCH: u32 = 32;
+pub const BATCH: u32 = 32;
 const BLOCK: usize = 64;
 
-/// Nanoseconds of a call.
-pub fn call(store: &dyn Store, filled: &Filled, call: &Call) -> f64 {
+/// The time of each store, the least of its rounds.
+pub fn rounds(stores: &[Named], time: impl Fn(&dyn Store) -> f64) -> Vec<f64> {
+    let mut least = vec![f64::INFINITY; stores.len()];
+    for _ in 0..ROUNDS {
+        for (least, (_, store)) in least.iter_mut().zip(stores) {
+            *least = least.min(time(store.as_ref()));
+        }
+    }
+    least
+}
+
+/// The least of as many rounds of something else.
+pub fn least(mut time: impl FnMut() -> f64) -> f64 {
+    (0..ROUNDS).map(|_| typical(&mut time)).fold(f64::INFINITY, f64::min)
+}
+
+/// Nanoseconds of some calls, one after the other.
+pub fn calls(store: &dyn Store, filled: &Filled, calls: &[&Call]) -> f64 {
+    let made = |bytes: &mut Filled| {
+        for call in calls {
+            black_box(store.call(&mut bytes.memory, &mut bytes.scans, black_box(call)));
+        }
+    };
     let mut after = filled.clone();
-    black_box(store.call(&mut after.memory, &mut after.scans, call));
+    made(&mut after);
     let changed = changed_blocks(&filled.memory, &after.memory);
     let list_changed = filled.scans != after.scans;
     let mut bytes = filled.clone();
@@ -28,7 +52,7 @@ pub fn call(store: &dyn Store, filled: &Filled, call: &Call) -> f64 {
         return typical(|| {
             let start = Instant::now();
             for _ in 0..BATCH {
-                black_box(store.call(&mut bytes.memory, &mut bytes.scans, black_box(call)));
+                made(&mut bytes);
             }
             start.elapsed().as_nanos() as f64 / f64::from(BATCH)
         });
@@ -39,7 +63,7 @@ pub fn call(store: &dyn Store, filled: &Filled, call: &Call) -> f64 {
     });
     let whole = typical(|| {
         let start = Instant::now();
-        black_box(store.call(&mut bytes.memory, &mut bytes.scans, black_box(call)));
+        made(&mut bytes);
         let time = start.elapsed().as_nanos() as f64;
         for block in &changed {
             bytes.memory[block.clone()].copy_from_slice(&filled.memory[block.clone()]);

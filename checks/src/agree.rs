@@ -6,7 +6,7 @@ use reference::{generate, trace, Answer, Call, History, Shape};
 
 use crate::facts;
 use crate::lent::Lent;
-use crate::memory::{Layout, PLACE, SCANS};
+use crate::memory::{Layout, Scan, SCANS};
 use crate::store::{writes, writes_list, Store};
 
 /// What the lists of a run came to.
@@ -57,37 +57,37 @@ pub fn run(store: &dyn Store, first: u64, count: u64) -> Result<Tally, String> {
 
 /// A store's lent bytes with those before the call, to see what a call changed.
 pub struct Watched {
-    pub memory: Lent,
-    pub scans: Lent,
+    pub memory: Lent<u8>,
+    pub scans: Lent<Scan>,
     memory_before: Vec<u8>,
-    scans_before: Vec<u8>,
+    scans_before: Vec<Scan>,
 }
 
 impl Watched {
-    pub fn new(memory: Lent, scans: Lent) -> Watched {
-        let memory_before = memory.bytes().to_vec();
-        let scans_before = scans.bytes().to_vec();
+    pub fn new(memory: Lent<u8>, scans: Lent<Scan>) -> Watched {
+        let memory_before = memory.get().to_vec();
+        let scans_before = scans.get().to_vec();
         Watched { memory, scans, memory_before, scans_before }
     }
 
     /// The bytes before the last call, to which `restore` goes back.
     pub fn restore(&mut self) {
-        self.memory.bytes_mut().copy_from_slice(&self.memory_before);
-        self.scans.bytes_mut().copy_from_slice(&self.scans_before);
+        self.memory.get_mut().copy_from_slice(&self.memory_before);
+        self.scans.get_mut().copy_from_slice(&self.scans_before);
     }
 
     /// From now on changes are looked for against these bytes.
     pub fn keep(&mut self) {
-        self.memory_before.copy_from_slice(self.memory.bytes());
-        self.scans_before.copy_from_slice(self.scans.bytes());
+        self.memory_before.copy_from_slice(self.memory.get());
+        self.scans_before.copy_from_slice(self.scans.get());
     }
 
     fn memory_changed(&self) -> bool {
-        self.memory.bytes() != self.memory_before
+        self.memory.get() != self.memory_before
     }
 
     fn list_changed(&self) -> bool {
-        self.scans.bytes() != self.scans_before
+        self.scans.get() != self.scans_before
     }
 
     /// No byte may have changed.
@@ -97,6 +97,22 @@ impl Watched {
             return Err("it changed a byte".to_string());
         }
         Ok(())
+    }
+
+    /// What an accepted making may have changed: bytes below the need, and all places, which are
+    /// free. Then the facts hold.
+    pub fn made(&self, need: usize) -> Result<(), String> {
+        self.guards()?;
+        if self.memory.get()[need..] != self.memory_before[need..] {
+            return Err("making changed a byte past the need".to_string());
+        }
+        if self.scans.get().iter().any(Scan::is_open) {
+            return Err("making left a place that is not free".to_string());
+        }
+        match facts::failing(self.memory.get(), self.scans.get()) {
+            Some(fact) => Err(format!("after making the fact '{fact}' fails")),
+            None => Ok(()),
+        }
     }
 
     fn guards(&self) -> Result<(), String> {
@@ -113,7 +129,7 @@ impl Watched {
         if !writes(call) && self.memory_changed() {
             return Err("a call that writes nothing changed the memory".to_string());
         }
-        if self.memory.bytes()[need..] != self.memory_before[need..] {
+        if self.memory.get()[need..] != self.memory_before[need..] {
             return Err("a byte past the need changed".to_string());
         }
         if !self.list_changed() {
@@ -122,14 +138,9 @@ impl Watched {
         if !writes_list(call) {
             return Err("a call that opens or closes no scan changed the list".to_string());
         }
-        let whole = self.scans_before.len() / PLACE * PLACE;
-        let (before, after) = (&self.scans_before, self.scans.bytes());
-        let both = before[..whole].chunks(PLACE).zip(after[..whole].chunks(PLACE));
+        let both = self.scans_before.iter().zip(self.scans.get());
         if both.filter(|(before, after)| before != after).count() > 1 {
             return Err("more than one place of the list changed".to_string());
-        }
-        if before[whole..] != after[whole..] {
-            return Err("the rest of the list changed".to_string());
         }
         Ok(())
     }
@@ -143,7 +154,7 @@ pub fn compare(store: &dyn Store, seed: u64, shape: &Shape, calls: &[Call]) -> R
     let mut accepted = 0;
     for (place, call) in calls.iter().enumerate() {
         let expected = history.call(call);
-        let found = store.call(watched.memory.bytes_mut(), watched.scans.bytes_mut(), call);
+        let found = store.call(watched.memory.get_mut(), watched.scans.get_mut(), call);
         let checked = after_call(&mut watched, call, need, &expected, &found);
         checked.map_err(|error| format!("call {place}, {}: {error}", trace::call_words(call)))?;
         accepted += u64::from(!found.is_refused());
@@ -167,7 +178,7 @@ fn after_call(
     }
     watched.changed_by(call, need)?;
     if writes(call) || writes_list(call) {
-        if let Some(fact) = facts::failing(watched.memory.bytes(), watched.scans.bytes()) {
+        if let Some(fact) = facts::failing(watched.memory.get(), watched.scans.get()) {
             return Err(format!("the fact '{fact}' fails"));
         }
         watched.keep();
@@ -184,25 +195,15 @@ pub fn made(
     let need = store.need(shape).map_err(|number| format!("the need is refused with {number}"))?;
     within_bound(shape, need)?;
     let memory = Lent::dirty(need + random.below(64) as usize, random);
-    let scans = Lent::dirty(SCANS * PLACE + random.below(64) as usize, random);
+    let scans = Lent::dirty(SCANS + random.below(6) as usize, random);
     let mut watched = Watched::new(memory, scans);
     refused_makings(store, shape, need, &mut watched)?;
 
-    let answer = store.make(watched.memory.bytes_mut(), watched.scans.bytes_mut(), shape);
+    let answer = store.make(watched.memory.get_mut(), watched.scans.get_mut(), shape);
     if answer != Answer::Done {
         return Err(format!("making answers {}", trace::answer_words(&answer)));
     }
-    watched.guards()?;
-    if watched.memory.bytes()[need..] != watched.memory_before[need..] {
-        return Err("making changed a byte past the need".to_string());
-    }
-    let whole = watched.scans.bytes().len() / PLACE * PLACE;
-    if watched.scans.bytes()[whole..] != watched.scans_before[whole..] {
-        return Err("making changed the rest of the list".to_string());
-    }
-    if let Some(fact) = facts::failing(watched.memory.bytes(), watched.scans.bytes()) {
-        return Err(format!("after making the fact '{fact}' fails"));
-    }
+    watched.made(need)?;
     watched.keep();
     Ok((watched, need))
 }
@@ -242,16 +243,14 @@ fn refused_makings(
             return Err(format!("the need of {shape:?} is not refused with 1"));
         }
         // Too short as well: 1 comes first.
-        let memory = &mut watched.memory.bytes_mut()[..need - 1];
+        let memory = &mut watched.memory.get_mut()[..need - 1];
         if store.make(memory, &mut [], shape) != Answer::Refused(1) {
             return Err(format!("making {shape:?} is not refused with 1"));
         }
     }
-    let short =
-        [(need - 1, SCANS * PLACE), (need, SCANS * PLACE - 1), (0, SCANS * PLACE), (need, 0)];
-    for (bytes, list) in short {
-        let memory = &mut watched.memory.bytes_mut()[..bytes];
-        let list = &mut watched.scans.bytes_mut()[..list];
+    for (bytes, places) in [(need - 1, SCANS), (need, SCANS - 1), (0, SCANS), (need, 0)] {
+        let memory = &mut watched.memory.get_mut()[..bytes];
+        let list = &mut watched.scans.get_mut()[..places];
         if store.make(memory, list, shape) != Answer::Refused(2) {
             return Err("making in too few bytes is not refused with 2".to_string());
         }

@@ -8,13 +8,15 @@ use crate::plain::Plain;
 use crate::store::Store;
 
 /// The store of a name: the plain page store, the definitions, or the compiled library where it is
-/// linked.
+/// linked, through its C interface or through the Rust crate.
 pub fn store(name: &str) -> Option<Box<dyn Store>> {
     match name {
         "plain" => Some(Box::new(Plain::<0>)),
         "defined" => Some(Box::new(Defined)),
-        #[cfg(feature = "door")]
-        "door" => Some(Box::new(crate::door::Door)),
+        #[cfg(feature = "library")]
+        "library" => Some(Box::new(crate::library::Library)),
+        #[cfg(feature = "library")]
+        "wrapper" => Some(Box::new(crate::library::Wrapper)),
         _ => None,
     }
 }
@@ -30,7 +32,8 @@ pub fn run<T: std::fmt::Debug>(
     let (Some(first), Some(count), Some(store), true) =
         (number(0), number(1), store, words.len() <= 3)
     else {
-        eprintln!("{name} FIRST COUNT [plain|defined|door]   (door with the feature of that name)");
+        eprintln!("{name} FIRST COUNT [plain|defined|library|wrapper]");
+        eprintln!("library and wrapper with the feature `library`");
         return ExitCode::from(2);
     };
     match check(store.as_ref(), first, count) {

@@ -6,7 +6,7 @@ use reference::{generate, trace, Answer, Call, Shape};
 
 use crate::agree::{made, Watched};
 use crate::facts;
-use crate::memory::{header, word, Layout};
+use crate::memory::{header, list_word, word, Layout, Scan, SCANS, SCAN_WORDS, WORD};
 use crate::operands::{call_for, COMMANDS};
 use crate::store::Store;
 use crate::unmade::any_lent;
@@ -48,13 +48,14 @@ pub fn every_byte(store: &dyn Store, seed: u64) -> Result<Tally, String> {
     let mut random = Random::new(seed ^ 0x6279_7465_0000_0000);
     let mut watched = good(store, seed, &mut random)?;
     let mut tally = Tally::default();
-    let lengths = (watched.memory.bytes().len(), watched.scans.bytes().len());
-    for at in 0..lengths.0 + lengths.1 {
+    let bytes = watched.memory.get().len();
+    let list_bytes = watched.scans.get().len() * SCAN_WORDS * WORD;
+    for at in 0..bytes + list_bytes {
         let spread = 1 << random.between(1, 6);
         for bits in [0x01, 0x80, spread] {
-            let byte = |watched: &mut Watched| match at.checked_sub(lengths.0) {
-                None => watched.memory.bytes_mut()[at] ^= bits,
-                Some(at) => watched.scans.bytes_mut()[at] ^= bits,
+            let byte = |watched: &mut Watched| match at.checked_sub(bytes) {
+                None => watched.memory.get_mut()[at] ^= bits,
+                Some(at) => flip(watched.scans.get_mut(), at, bits),
             };
             byte(&mut watched);
             watched.keep();
@@ -67,12 +68,17 @@ pub fn every_byte(store: &dyn Store, seed: u64) -> Result<Tally, String> {
     Ok(tally)
 }
 
+/// Changes bits of a byte of a scan list.
+pub fn flip(list: &mut [Scan], at: usize, bits: u8) {
+    *list_word(list, at / WORD) ^= u32::from(bits) << (8 * (at % WORD));
+}
+
 /// A store of the small shape after a random list of calls.
 pub fn good(store: &dyn Store, seed: u64, random: &mut Random) -> Result<Watched, String> {
     let (mut watched, _) = made(store, &SMALL, random)?;
     let count = 100 + random.below(200) as usize;
     for call in generate::calls(seed, SMALL, count) {
-        store.call(watched.memory.bytes_mut(), watched.scans.bytes_mut(), &call);
+        store.call(watched.memory.get_mut(), watched.scans.get_mut(), &call);
     }
     watched.keep();
     Ok(watched)
@@ -96,12 +102,12 @@ fn every_call(
     watched: &mut Watched,
     random: &mut Random,
 ) -> Result<Tally, String> {
-    let failing = facts::failing(watched.memory.bytes(), watched.scans.bytes());
+    let failing = facts::failing(watched.memory.get(), watched.scans.get());
     let mut tally =
         Tally { memories: 1, failing: u64::from(failing.is_some()), ..Tally::default() };
     for byte in COMMANDS {
-        let call = call_for(byte, watched.memory.bytes(), watched.scans.bytes(), random);
-        let answer = store.call(watched.memory.bytes_mut(), watched.scans.bytes_mut(), &call);
+        let call = call_for(byte, watched.memory.get(), watched.scans.get(), random);
+        let answer = store.call(watched.memory.get_mut(), watched.scans.get_mut(), &call);
         judge(watched, &call, &answer, failing)
             .map_err(|error| format!("{}: {error}", trace::call_words(&call)))?;
         tally.calls += 1;
@@ -110,7 +116,53 @@ fn every_call(
             watched.restore();
         }
     }
+    let shape = any_shape(random);
+    let answer = store.make(watched.memory.get_mut(), watched.scans.get_mut(), &shape);
+    judge_making(store, watched, &shape, &answer)
+        .map_err(|error| format!("making {shape:?}: {error}"))?;
+    tally.calls += 2;
+    if answer == Answer::Done {
+        tally.accepted += 1;
+        watched.restore();
+    }
     Ok(tally)
+}
+
+/// Measures that a small memory has room for, and any others.
+fn any_shape(random: &mut Random) -> Shape {
+    let mut measure = |most: u32| match random.below(20) {
+        0 => random.word() as u32,
+        1 => 0,
+        _ => random.between(1, most),
+    };
+    Shape { columns: measure(4), ranges: measure(2), tail: measure(8), spares: measure(5) }
+}
+
+/// Making looks at the measures and at the lengths alone, and the need at the measures.
+fn judge_making(
+    store: &dyn Store,
+    watched: &Watched,
+    shape: &Shape,
+    answer: &Answer,
+) -> Result<(), String> {
+    let need = shape.within_limits().then(|| Layout::of(shape).need());
+    if store.need(shape) != need.ok_or(1) {
+        return Err("the need is another".to_string());
+    }
+    let lengths = (watched.memory.get().len(), watched.scans.get().len());
+    let expected = match need {
+        None => Answer::Refused(1),
+        Some(need) if lengths.0 < need || lengths.1 < SCANS => Answer::Refused(2),
+        Some(_) => Answer::Done,
+    };
+    if *answer != expected {
+        let (answer, expected) = (trace::answer_words(answer), trace::answer_words(&expected));
+        return Err(format!("answer {answer} where {expected} is due"));
+    }
+    match need {
+        Some(need) if expected == Answer::Done => watched.made(need),
+        _ => watched.unchanged(),
+    }
 }
 
 fn judge(
@@ -130,12 +182,12 @@ fn judge(
     if answer.is_refused() {
         return watched.unchanged();
     }
-    let memory = watched.memory.bytes();
+    let memory = watched.memory.get();
     let layout = Layout::stored(memory).ok_or("the measures are gone")?;
     watched.changed_by(call, layout.need())?;
     // An accepted call keeps the facts, but for a count of merges that goes round to 0.
     let round = matches!(call, Call::Merge { .. }) && word(memory, header::MERGES_MADE) == 0;
-    match facts::failing(memory, watched.scans.bytes()) {
+    match facts::failing(memory, watched.scans.get()) {
         Some(fact) if !round => Err(format!("'{fact}' fails afterwards")),
         _ => Ok(()),
     }

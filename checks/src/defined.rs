@@ -5,12 +5,12 @@
 use reference::{Answer, Call, Shape};
 
 use crate::facts;
-use crate::memory::{put_scan, put_word, scans, word, Layout, Region, Scan, PLACE, REGIONS, SCANS};
+use crate::memory::{put_word, word, Layout, Region, Scan, REGIONS, SCANS};
 use crate::store::Store;
 
 const RANGE_ROWS: usize = 64;
 const MOST_NUMBERS: u32 = 65_535;
-const FREE_PLACE: Scan = Scan { number: 0, stamp: 0, merges: 0 };
+const FREE_PLACE: Scan = Scan::FREE;
 
 /// The definitions as a store.
 #[derive(Clone, Copy, Debug, Default)]
@@ -25,12 +25,12 @@ impl Store for Defined {
         }
     }
 
-    fn make(&self, memory: &mut [u8], list: &mut [u8], shape: &Shape) -> Answer {
+    fn make(&self, memory: &mut [u8], list: &mut [Scan], shape: &Shape) -> Answer {
         if !shape.within_limits() {
             return Answer::Refused(1);
         }
         let layout = Layout::of(shape);
-        if memory.len() < layout.need() || list.len() / PLACE < SCANS {
+        if memory.len() < layout.need() || list.len() < SCANS {
             return Answer::Refused(2);
         }
         let mut view = View { layout, lists: Vec::new() };
@@ -47,29 +47,23 @@ impl Store for Defined {
             view.put(Region::PageState, place, 1);
         }
         view.lay(memory);
-        lay_places(&vec![FREE_PLACE; list.len() / PLACE], list);
+        list.fill(FREE_PLACE);
         Answer::Done
     }
 
-    fn call(&self, memory: &mut [u8], list: &mut [u8], call: &Call) -> Answer {
+    fn call(&self, memory: &mut [u8], list: &mut [Scan], call: &Call) -> Answer {
         if facts::failing(memory, list).is_some() {
             return Answer::Refused(2);
         }
         let view = View::of(memory, Layout::stored(memory).expect("the facts hold"));
-        let places: Vec<Scan> = scans(list).collect();
+        let places = list.to_vec();
         if let Some((number, _)) = view.tests_in(&places, call).into_iter().find(|test| test.1) {
             return Answer::Refused(number);
         }
         let answer = view.reply_in(&places, call);
-        lay_places(&view.places_after(&places, call), list);
+        list.copy_from_slice(&view.places_after(&places, call));
         view.act_in(&places, call).lay(memory);
         answer
-    }
-}
-
-fn lay_places(places: &[Scan], list: &mut [u8]) {
-    for (at, scan) in places.iter().enumerate() {
-        put_scan(list, at, *scan);
     }
 }
 

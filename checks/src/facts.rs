@@ -2,11 +2,11 @@
 //! Written from that paragraph and the layout alone, to judge a store's answer 2, so it is plain
 //! rather than quick.
 
-use crate::memory::{header, page, places, scans, word, Layout, Region, Scan};
+use crate::memory::{header, page, word, Layout, Region, Scan};
 use crate::memory::{NUMBERS, OPENS, ROWS, SCANS};
 
 /// The name of the first fact that fails.
-pub fn failing(memory: &[u8], list: &[u8]) -> Option<&'static str> {
+pub fn failing(memory: &[u8], list: &[Scan]) -> Option<&'static str> {
     match Stored::of(memory, list) {
         Err(name) => Some(name),
         Ok(stored) => FACTS.iter().find(|fact| !(fact.1)(&stored)).map(|fact| fact.0),
@@ -14,7 +14,7 @@ pub fn failing(memory: &[u8], list: &[u8]) -> Option<&'static str> {
 }
 
 /// The names of all facts that fail.
-pub fn all_failing(memory: &[u8], list: &[u8]) -> Vec<&'static str> {
+pub fn all_failing(memory: &[u8], list: &[Scan]) -> Vec<&'static str> {
     match Stored::of(memory, list) {
         Err(name) => vec![name],
         Ok(stored) => FACTS.iter().filter(|fact| !(fact.1)(&stored)).map(|fact| fact.0).collect(),
@@ -141,15 +141,15 @@ struct Stored<'m> {
 }
 
 impl Stored<'_> {
-    fn of<'m>(memory: &'m [u8], list: &[u8]) -> Result<Stored<'m>, &'static str> {
-        if places(list) < SCANS {
+    fn of<'m>(memory: &'m [u8], list: &[Scan]) -> Result<Stored<'m>, &'static str> {
+        if list.len() < SCANS {
             return Err(LIST);
         }
         let layout = Layout::stored(memory).ok_or(MEASURES)?;
         if memory.len() < layout.need() {
             return Err(LENGTH);
         }
-        let scans = scans(list).filter(|scan| scan.number != 0).collect();
+        let scans = list.iter().copied().filter(Scan::is_open).collect();
         Ok(Stored { memory, layout, scans })
     }
 

@@ -1,57 +1,85 @@
-//! Lent bytes with guard zones around them, and random content: what stands before and behind the
-//! lent bytes must never change.
+//! What is lent, with guard zones around it, and random content: what stands before and behind it
+//! must never change.
 
 use reference::random::Random;
 
-const GUARD: usize = 64;
-const MARK: u8 = 0xA5;
+use crate::memory::Scan;
 
-/// Bytes to lend, at any distance from an even address.
+const GUARD: usize = 64;
+
+/// What memory and scan list are made of.
+pub trait Content: Copy + PartialEq {
+    /// What stands in the guard zones.
+    const MARK: Self;
+    /// How many distances from an even address are tried.
+    const SHIFTS: u32;
+
+    /// Random content.
+    fn fill(all: &mut [Self], random: &mut Random);
+}
+
+impl Content for u8 {
+    const MARK: u8 = 0xA5;
+    const SHIFTS: u32 = 4;
+
+    fn fill(all: &mut [u8], random: &mut Random) {
+        for part in all.chunks_mut(8) {
+            part.copy_from_slice(&random.word().to_le_bytes()[..part.len()]);
+        }
+    }
+}
+
+impl Content for Scan {
+    const MARK: Scan = Scan { number: 0xA5A5_A5A5, stamp: 0xA5A5_A5A5, merges: 0xA5A5_A5A5 };
+    const SHIFTS: u32 = 1;
+
+    fn fill(all: &mut [Scan], random: &mut Random) {
+        for scan in all {
+            let (one, other) = (random.word(), random.word());
+            *scan = Scan { number: one as u32, stamp: (one >> 32) as u32, merges: other as u32 };
+        }
+    }
+}
+
+/// Bytes to lend, at any distance from an even address, or places of a scan list.
 #[derive(Clone, Debug)]
-pub struct Lent {
-    bytes: Vec<u8>,
+pub struct Lent<T> {
+    all: Vec<T>,
     first: usize,
     length: usize,
 }
 
-impl Lent {
-    /// So many bytes of random content.
-    pub fn dirty(length: usize, random: &mut Random) -> Lent {
+impl<T: Content> Lent<T> {
+    /// So much of random content.
+    pub fn dirty(length: usize, random: &mut Random) -> Lent<T> {
         let mut lent = Lent::guarded(length, random);
-        fill(lent.bytes_mut(), random);
+        T::fill(lent.get_mut(), random);
         lent
     }
 
-    /// A copy of some bytes.
-    pub fn copy(bytes: &[u8], random: &mut Random) -> Lent {
-        let mut lent = Lent::guarded(bytes.len(), random);
-        lent.bytes_mut().copy_from_slice(bytes);
+    /// A copy.
+    pub fn copy(content: &[T], random: &mut Random) -> Lent<T> {
+        let mut lent = Lent::guarded(content.len(), random);
+        lent.get_mut().copy_from_slice(content);
         lent
     }
 
-    fn guarded(length: usize, random: &mut Random) -> Lent {
-        let first = GUARD + random.below(4) as usize;
-        Lent { bytes: vec![MARK; first + length + GUARD], first, length }
+    fn guarded(length: usize, random: &mut Random) -> Lent<T> {
+        let first = GUARD + random.below(T::SHIFTS) as usize;
+        Lent { all: vec![T::MARK; first + length + GUARD], first, length }
     }
 
-    pub fn bytes(&self) -> &[u8] {
-        &self.bytes[self.first..self.first + self.length]
+    pub fn get(&self) -> &[T] {
+        &self.all[self.first..self.first + self.length]
     }
 
-    pub fn bytes_mut(&mut self) -> &mut [u8] {
-        &mut self.bytes[self.first..self.first + self.length]
+    pub fn get_mut(&mut self) -> &mut [T] {
+        &mut self.all[self.first..self.first + self.length]
     }
 
     /// Whether the guard zones are as they were.
     pub fn guarded_well(&self) -> bool {
-        let (before, after) = (&self.bytes[..self.first], &self.bytes[self.first + self.length..]);
-        before.iter().chain(after).all(|byte| *byte == MARK)
-    }
-}
-
-/// Random content.
-pub fn fill(bytes: &mut [u8], random: &mut Random) {
-    for part in bytes.chunks_mut(8) {
-        part.copy_from_slice(&random.word().to_le_bytes()[..part.len()]);
+        let (before, after) = (&self.all[..self.first], &self.all[self.first + self.length..]);
+        before.iter().chain(after).all(|mark| *mark == T::MARK)
     }
 }

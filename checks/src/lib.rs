@@ -6,10 +6,11 @@ pub mod agree;
 pub mod command_line;
 pub mod damage;
 pub mod defined;
-#[cfg(feature = "door")]
-pub mod door;
 pub mod facts;
 pub mod lent;
+#[cfg(feature = "library")]
+pub mod library;
+pub mod live;
 pub mod memory;
 pub mod operands;
 pub mod plain;

@@ -211,10 +211,8 @@ pub fn words(bytes: &[u8]) -> impl ExactSizeIterator<Item = u32> + '_ {
         .map(|word| u32::from_le_bytes(word.try_into().expect("a word has four bytes")))
 }
 
-/// Bytes in a place of the scan list. A rest of fewer bytes at the list's end belongs to no place.
-pub const PLACE: usize = 12;
-
-/// A place of the scan list; number 0 marks a free one.
+/// A place of the scan list, as the C interface has it; number 0 marks a free one.
+#[repr(C)]
 #[derive(Clone, Copy, Debug, PartialEq, Eq)]
 pub struct Scan {
     pub number: u32,
@@ -222,29 +220,24 @@ pub struct Scan {
     pub merges: u32,
 }
 
-pub fn places(list: &[u8]) -> usize {
-    list.len() / PLACE
+impl Scan {
+    /// A free place as the store writes it.
+    pub const FREE: Scan = Scan { number: 0, stamp: 0, merges: 0 };
+
+    pub fn is_open(&self) -> bool {
+        self.number != 0
+    }
 }
 
-#[inline(always)]
-pub fn scan(list: &[u8], place: usize) -> Scan {
-    scan_of(&list[place * PLACE..(place + 1) * PLACE])
-}
+/// Words in a place of the scan list.
+pub const SCAN_WORDS: usize = 3;
 
-#[inline(always)]
-fn scan_of(bytes: &[u8]) -> Scan {
-    Scan { number: word(bytes, 0), stamp: word(bytes, 1), merges: word(bytes, 2) }
-}
-
-/// The places of a list, in order.
-#[inline(always)]
-pub fn scans(list: &[u8]) -> impl Iterator<Item = Scan> + '_ {
-    list.chunks_exact(PLACE).map(scan_of)
-}
-
-pub fn put_scan(list: &mut [u8], place: usize, scan: Scan) {
-    let bytes = &mut list[place * PLACE..(place + 1) * PLACE];
-    put_word(bytes, 0, scan.number);
-    put_word(bytes, 1, scan.stamp);
-    put_word(bytes, 2, scan.merges);
+/// Word i of a scan list.
+pub fn list_word(list: &mut [Scan], i: usize) -> &mut u32 {
+    let scan = &mut list[i / SCAN_WORDS];
+    match i % SCAN_WORDS {
+        0 => &mut scan.number,
+        1 => &mut scan.stamp,
+        _ => &mut scan.merges,
+    }
 }

@@ -4,14 +4,15 @@
 use reference::random::Random;
 use reference::Call;
 
-use crate::memory::{header, scans, word, words, Layout, Region, OPENS, ROWS, WORD};
+use crate::memory::{header, word, words, Layout, Region, Scan, OPENS, ROWS, WORD};
 
 /// The command bytes of the calls.
 pub const COMMANDS: std::ops::RangeInclusive<u8> = 0x01..=0x11;
 
 /// A call of a command byte with numbers that fit these bytes, so that it is often accepted.
-pub fn call_for(byte: u8, memory: &[u8], list: &[u8], random: &mut Random) -> Call {
-    Operands { memory, list, layout: readable(memory), random }.call(byte)
+pub fn call_for(byte: u8, memory: &[u8], list: &[Scan], random: &mut Random) -> Call {
+    let any = random.percent(5);
+    Operands { memory, list, layout: readable(memory), random, any }.call(byte)
 }
 
 /// The layout, where the bytes are long enough to look at them.
@@ -21,9 +22,11 @@ fn readable(memory: &[u8]) -> Option<Layout> {
 
 struct Operands<'a> {
     memory: &'a [u8],
-    list: &'a [u8],
+    list: &'a [Scan],
     layout: Option<Layout>,
     random: &'a mut Random,
+    /// Whether the numbers are to be anything.
+    any: bool,
 }
 
 impl Operands<'_> {
@@ -63,16 +66,22 @@ impl Operands<'_> {
     }
 
     fn any(&mut self) -> u32 {
-        match self.random.below(3) {
+        match self.random.below(4) {
             0 => self.random.word() as u32,
             1 => 0,
+            2 => u32::MAX - self.random.below(3),
             _ => self.random.below(20),
         }
     }
 
+    /// Whether the next number is to be anything.
+    fn odd(&mut self) -> bool {
+        self.any || self.random.percent(5)
+    }
+
     /// Mostly a number below the limit.
     fn below(&mut self, limit: u32) -> u32 {
-        if limit == 0 || self.random.percent(5) {
+        if limit == 0 || self.odd() {
             self.any()
         } else {
             self.random.below(limit)
@@ -85,7 +94,7 @@ impl Operands<'_> {
             let numbers = words(&self.memory[first..first + OPENS * WORD]);
             numbers.filter(|number| *number != 0).collect()
         });
-        if open.is_empty() || self.random.percent(5) {
+        if open.is_empty() || self.odd() {
             return self.any();
         }
         self.random.pick(&open)
@@ -93,8 +102,8 @@ impl Operands<'_> {
 
     fn scan(&mut self) -> u32 {
         let open: Vec<u32> =
-            scans(self.list).map(|scan| scan.number).filter(|number| *number != 0).collect();
-        if open.is_empty() || self.random.percent(5) {
+            self.list.iter().map(|scan| scan.number).filter(|number| *number != 0).collect();
+        if open.is_empty() || self.odd() {
             return self.any();
         }
         self.random.pick(&open)
@@ -102,6 +111,9 @@ impl Operands<'_> {
 
     fn row(&mut self) -> u32 {
         let given = self.header(header::ROWS_GIVEN);
+        if self.any {
+            return self.any();
+        }
         match self.random.below(4) {
             // The rows that are most likely to have records.
             0 | 1 => {
@@ -126,17 +138,22 @@ impl Operands<'_> {
 
     fn mask(&mut self) -> u16 {
         let columns = self.layout.map_or(2, |layout| layout.columns);
-        if self.random.percent(5) {
+        if self.odd() {
             return self.random.word() as u16;
         }
         self.random.below(1 << columns) as u16
     }
 
     fn values(&mut self) -> Vec<i32> {
-        (0..16).map(|_| self.random.word() as i32).collect()
+        // Mostly as many as any shape has columns, else any number of them.
+        let count = if self.odd() { self.random.below(40) } else { 16 };
+        (0..count).map(|_| self.random.word() as i32).collect()
     }
 
     fn stamp(&mut self) -> u32 {
+        if self.any {
+            return self.any();
+        }
         let last = self.header(header::LAST_STAMP);
         match self.random.below(4) {
             0 => last,
@@ -146,6 +163,9 @@ impl Operands<'_> {
     }
 
     fn later(&mut self) -> u32 {
+        if self.any {
+            return self.any();
+        }
         let last = self.header(header::LAST_STAMP);
         if self.random.percent(10) {
             last
@@ -162,8 +182,11 @@ impl Operands<'_> {
             }
             _ => 4,
         };
-        let through =
-            if self.random.percent(50) { used } else { self.below(used.saturating_add(2)) };
+        let through = if !self.any && self.random.percent(50) {
+            used
+        } else {
+            self.below(used.saturating_add(2))
+        };
         Call::Merge { range, column, through }
     }
 }

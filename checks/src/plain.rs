@@ -12,8 +12,8 @@ mod writing;
 
 use reference::{Answer, Call, Shape};
 
-use crate::memory::{header, kind, page, put_scan, put_word, scans, state, word, words};
-use crate::memory::{Layout, Region, Scan, NUMBERS, OPENS, PLACE, ROWS, SCANS, WORD};
+use crate::memory::{header, kind, page, put_word, state, word, words};
+use crate::memory::{Layout, Region, Scan, NUMBERS, OPENS, ROWS, SCANS, WORD};
 use crate::store::Store;
 
 pub use sound::sound;
@@ -28,11 +28,11 @@ impl<const FAULT: u8> Store for Plain<FAULT> {
         Ok(Layout::of(shape).need())
     }
 
-    fn make(&self, memory: &mut [u8], scans: &mut [u8], shape: &Shape) -> Answer {
+    fn make(&self, memory: &mut [u8], scans: &mut [Scan], shape: &Shape) -> Answer {
         answer(make(memory, scans, shape))
     }
 
-    fn call(&self, memory: &mut [u8], scans: &mut [u8], call: &Call) -> Answer {
+    fn call(&self, memory: &mut [u8], scans: &mut [Scan], call: &Call) -> Answer {
         let Some(layout) = sound(memory, scans) else {
             return Answer::Refused(2);
         };
@@ -57,13 +57,12 @@ fn require(holds: bool, number: u8) -> Result<(), u8> {
 }
 
 /// Making looks at no content. It frees every place of the list, however long the list is.
-fn make(memory: &mut [u8], scans: &mut [u8], shape: &Shape) -> Outcome {
+fn make(memory: &mut [u8], scans: &mut [Scan], shape: &Shape) -> Outcome {
     require(shape.within_limits(), 1)?;
     let layout = Layout::of(shape);
-    require(memory.len() >= layout.need() && scans.len() / PLACE >= SCANS, 2)?;
+    require(memory.len() >= layout.need() && scans.len() >= SCANS, 2)?;
     memory[..layout.need()].fill(0);
-    let list = scans.len() / PLACE * PLACE;
-    scans[..list].fill(0);
+    scans.fill(Scan::FREE);
     put_word(memory, header::COLUMNS, shape.columns);
     put_word(memory, header::RANGES, shape.ranges);
     put_word(memory, header::CAPACITY, shape.tail);
@@ -79,7 +78,7 @@ fn make(memory: &mut [u8], scans: &mut [u8], shape: &Shape) -> Outcome {
 /// A store whose stored facts hold.
 struct Table<'m, const FAULT: u8> {
     memory: &'m mut [u8],
-    scans: &'m mut [u8],
+    scans: &'m mut [Scan],
     layout: Layout,
 }
 
@@ -194,7 +193,7 @@ impl<const FAULT: u8> Table<'_, FAULT> {
             }
             Call::Close { scan } => {
                 let (place, _) = self.scan(scan)?;
-                put_scan(self.scans, place, Scan { number: 0, stamp: 0, merges: 0 });
+                self.scans[place] = Scan::FREE;
                 Ok(Answer::Done)
             }
             Call::Merge { range, column, through } => {
@@ -240,10 +239,10 @@ impl<const FAULT: u8> Table<'_, FAULT> {
         require(stamp <= self.header(header::LAST_STAMP), 13)?;
         let given = self.header(header::SCANS_GIVEN);
         require(given < NUMBERS, 15)?;
-        require(scans(self.scans).filter(|scan| scan.number != 0).count() < SCANS, 14)?;
-        let place = scans(self.scans).position(|scan| scan.number == 0).ok_or(14)?;
+        require(self.scans.iter().filter(|scan| scan.is_open()).count() < SCANS, 14)?;
+        let place = self.scans.iter().position(|scan| !scan.is_open()).ok_or(14)?;
         let merges = self.header(header::MERGES_MADE);
-        put_scan(self.scans, place, Scan { number: given + 1, stamp, merges });
+        self.scans[place] = Scan { number: given + 1, stamp, merges };
         self.put(Region::Header, header::SCANS_GIVEN, given + 1);
         Ok(Answer::Number(given + 1))
     }
@@ -257,7 +256,7 @@ impl<const FAULT: u8> Table<'_, FAULT> {
     /// An open scan and its place.
     fn scan(&self, number: u32) -> Result<(usize, Scan), u8> {
         require(number != 0, 4)?;
-        scans(self.scans).enumerate().find(|(_, scan)| scan.number == number).ok_or(4)
+        self.scans.iter().copied().enumerate().find(|(_, scan)| scan.number == number).ok_or(4)
     }
 
     fn given(&self, row: u32) -> Result<usize, u8> {

@@ -7,7 +7,7 @@ use reference::{trace, Answer, Call, Shape};
 use crate::agree;
 use crate::damage::good;
 use crate::lent::Lent;
-use crate::memory::{Layout, PLACE, REGIONS, SCANS, WORD};
+use crate::memory::{Layout, Scan, REGIONS, SCANS, WORD};
 use crate::operands::{call_for, COMMANDS};
 use crate::store::Store;
 use crate::unmade::any_lent;
@@ -43,8 +43,8 @@ pub fn run(one: &dyn Store, other: &dyn Store, first: u64, count: u64) -> Result
         }
         let mut damaged = good(one, seed, &mut random).map_err(named)?;
         for _ in 0..random.between(1, 4) {
-            let at = random.below(damaged.memory.bytes().len() as u32) as usize;
-            damaged.memory.bytes_mut()[at] ^= 1 << random.below(8);
+            let at = random.below(damaged.memory.get().len() as u32) as usize;
+            damaged.memory.get_mut()[at] ^= 1 << random.below(8);
         }
         Pair::of(one, other, damaged.memory, damaged.scans)
             .steps(&mut random, &mut tally)
@@ -57,12 +57,17 @@ pub fn run(one: &dyn Store, other: &dyn Store, first: u64, count: u64) -> Result
 struct Pair<'s> {
     one: &'s dyn Store,
     other: &'s dyn Store,
-    memory: [Lent; 2],
-    scans: [Lent; 2],
+    memory: [Lent<u8>; 2],
+    scans: [Lent<Scan>; 2],
 }
 
 impl<'s> Pair<'s> {
-    fn of(one: &'s dyn Store, other: &'s dyn Store, memory: Lent, scans: Lent) -> Pair<'s> {
+    fn of(
+        one: &'s dyn Store,
+        other: &'s dyn Store,
+        memory: Lent<u8>,
+        scans: Lent<Scan>,
+    ) -> Pair<'s> {
         let (memory, scans) = ([memory.clone(), memory], [scans.clone(), scans]);
         Pair { one, other, memory, scans }
     }
@@ -80,12 +85,12 @@ impl<'s> Pair<'s> {
         }
         let need = need.map_err(|number| format!("the need is refused with {number}"))?;
         let memory = Lent::dirty(need + random.below(64) as usize, random);
-        let scans = Lent::dirty(SCANS * PLACE + random.below(64) as usize, random);
+        let scans = Lent::dirty(SCANS + random.below(6) as usize, random);
         let mut pair = Pair::of(one, other, memory, scans);
         let [first, second] = &mut pair.memory;
         let [list, other_list] = &mut pair.scans;
-        let first = one.make(first.bytes_mut(), list.bytes_mut(), shape);
-        let second = other.make(second.bytes_mut(), other_list.bytes_mut(), shape);
+        let first = one.make(first.get_mut(), list.get_mut(), shape);
+        let second = other.make(second.get_mut(), other_list.get_mut(), shape);
         pair.alike(&first, &second).map_err(|error| format!("making {shape:?}: {error}"))?;
         Ok(pair)
     }
@@ -94,7 +99,7 @@ impl<'s> Pair<'s> {
         tally.lists += 1;
         for _ in 0..STEPS {
             let byte = random.between(u32::from(*COMMANDS.start()), u32::from(*COMMANDS.end()));
-            let (memory, list) = (self.memory[0].bytes(), self.scans[0].bytes());
+            let (memory, list) = (self.memory[0].get(), self.scans[0].get());
             let call = call_for(byte as u8, memory, list, random);
             self.call(&call, tally)?;
         }
@@ -104,8 +109,8 @@ impl<'s> Pair<'s> {
     fn call(&mut self, call: &Call, tally: &mut Tally) -> Result<(), String> {
         let [first, second] = &mut self.memory;
         let [list, other_list] = &mut self.scans;
-        let first = self.one.call(first.bytes_mut(), list.bytes_mut(), call);
-        let second = self.other.call(second.bytes_mut(), other_list.bytes_mut(), call);
+        let first = self.one.call(first.get_mut(), list.get_mut(), call);
+        let second = self.other.call(second.get_mut(), other_list.get_mut(), call);
         tally.calls += 1;
         tally.accepted += u64::from(!first.is_refused());
         self.alike(&first, &second).map_err(|error| format!("{}: {error}", trace::call_words(call)))
@@ -117,17 +122,15 @@ impl<'s> Pair<'s> {
             return Err(format!("answers {first} and {second}"));
         }
         let [one, other] = &self.memory;
-        if one.bytes() != other.bytes() {
-            return Err(format!(
-                "the memories differ {}",
-                where_differ(one.bytes(), other.bytes())
-            ));
+        if one.get() != other.get() {
+            return Err(format!("the memories differ {}", where_differ(one.get(), other.get())));
         }
         let [list, other_list] = &self.scans;
-        if list.bytes() != other_list.bytes() {
+        if list.get() != other_list.get() {
             return Err("the scan lists differ".to_string());
         }
-        if [one, other, list, other_list].iter().all(|lent| lent.guarded_well()) {
+        let guarded = one.guarded_well() && other.guarded_well();
+        if guarded && list.guarded_well() && other_list.guarded_well() {
             return Ok(());
         }
         Err("a byte beside the lent bytes changed".to_string())

@@ -2,16 +2,18 @@
 
 use reference::{Answer, Call, Shape};
 
+use crate::memory::Scan;
+
 /// Something that makes stores in lent memory and answers calls on them.
 pub trait Store {
     /// The bytes that a shape needs, or the refusal's number.
     fn need(&self, shape: &Shape) -> Result<usize, u8>;
 
     /// Makes a store; `Done` or a refusal.
-    fn make(&self, memory: &mut [u8], scans: &mut [u8], shape: &Shape) -> Answer;
+    fn make(&self, memory: &mut [u8], scans: &mut [Scan], shape: &Shape) -> Answer;
 
     /// One of the calls 01 to 11 (hexadecimal).
-    fn call(&self, memory: &mut [u8], scans: &mut [u8], call: &Call) -> Answer;
+    fn call(&self, memory: &mut [u8], scans: &mut [Scan], call: &Call) -> Answer;
 }
 
 /// Whether an accepted call may change the lent memory.

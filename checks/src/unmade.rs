@@ -4,45 +4,74 @@
 use reference::random::Random;
 use reference::Shape;
 
-use crate::lent::{fill, Lent};
-use crate::memory::{header, page, places, put_scan, put_word, scan, word, Layout, Region, Scan};
-use crate::memory::{NUMBERS, OPENS, PLACE, ROWS, SCANS, WORD};
+use crate::lent::{Content, Lent};
+use crate::memory::{header, list_word, page, put_word, word, Layout, Region, Scan};
+use crate::memory::{NUMBERS, OPENS, ROWS, SCANS, SCAN_WORDS, WORD};
 
 /// Random memory and list: good ones, nearly good ones, and anything.
-pub fn any_lent(random: &mut Random) -> (Lent, Lent) {
+pub fn any_lent(random: &mut Random) -> (Lent<u8>, Lent<Scan>) {
     let (mut memory, mut list) = match random.below(8) {
-        0 => (anything(6000, random), anything(600, random)),
-        1 => (measured(random), anything(600, random)),
+        0 => (anything(6000, 0, random), anything(50, Scan::FREE, random)),
+        1 => (measured(random), anything(50, Scan::FREE, random)),
         _ => passing(random),
     };
     match random.below(4) {
         // Some words changed, mostly to a number near another one.
         0 => {
             for _ in 0..random.between(1, 3) {
-                let bytes = if random.percent(80) { &mut memory } else { &mut list };
-                let count = bytes.len() / WORD;
-                if count > 0 {
-                    let at = random.below(count as u32) as usize;
-                    let old = word(bytes, at);
-                    let new = odd_word(old, random);
-                    put_word(bytes, at, new);
+                if random.percent(80) {
+                    change_memory(&mut memory, random);
+                } else {
+                    change_list(&mut list, random);
                 }
             }
         }
         // Cut a little or much.
         1 if random.percent(30) => {
-            let bytes = if random.percent(70) { &mut memory } else { &mut list };
-            let length = bytes.len() as u32;
-            let kept = match random.below(3) {
-                0 => length.saturating_sub(random.between(1, 4)),
-                1 => random.below(length + 1),
-                _ => length.saturating_sub(random.between(1, 80)),
-            };
-            bytes.truncate(kept as usize);
+            if random.percent(70) {
+                memory.truncate(cut(memory.len(), random));
+            } else {
+                list.truncate(cut(list.len(), random));
+            }
         }
         _ => {}
     }
     (Lent::copy(&memory, random), Lent::copy(&list, random))
+}
+
+fn change_memory(memory: &mut [u8], random: &mut Random) {
+    let count = (memory.len() / WORD) as u32;
+    if count > 0 {
+        // The header has few words, of which much hangs.
+        let among = if random.percent(20) { count.min(header::WORDS as u32) } else { count };
+        let at = random.below(among) as usize;
+        let new = odd_word(word(memory, at), random);
+        put_word(memory, at, new);
+    }
+}
+
+fn change_list(list: &mut [Scan], random: &mut Random) {
+    if list.is_empty() {
+        return;
+    }
+    let any = |random: &mut Random| random.below(list.len() as u32) as usize;
+    // Another place again, under another number.
+    if random.percent(30) {
+        let (at, scan) = (any(random), list[any(random)]);
+        list[at] = Scan { number: scan.number.wrapping_add(1), ..scan };
+        return;
+    }
+    let word = list_word(list, random.below((list.len() * SCAN_WORDS) as u32) as usize);
+    *word = odd_word(*word, random);
+}
+
+/// A lesser length, by a little or much.
+fn cut(length: usize, random: &mut Random) -> usize {
+    match random.below(3) {
+        0 => length.saturating_sub(random.between(1, 4) as usize),
+        1 => random.below(length as u32 + 1) as usize,
+        _ => length.saturating_sub(random.between(1, 80) as usize),
+    }
 }
 
 fn odd_word(old: u32, random: &mut Random) -> u32 {
@@ -56,10 +85,10 @@ fn odd_word(old: u32, random: &mut Random) -> u32 {
     }
 }
 
-fn anything(most: u32, random: &mut Random) -> Vec<u8> {
-    let mut bytes = vec![0; random.below(most + 1) as usize];
-    fill(&mut bytes, random);
-    bytes
+fn anything<T: Content>(most: u32, blank: T, random: &mut Random) -> Vec<T> {
+    let mut all = vec![blank; random.below(most + 1) as usize];
+    T::fill(&mut all, random);
+    all
 }
 
 fn small_shape(random: &mut Random) -> Shape {
@@ -77,7 +106,7 @@ fn measured(random: &mut Random) -> Vec<u8> {
     let length = Layout::of(&shape).need() + random.below(40) as usize;
     let mut bytes = vec![0; length];
     if random.percent(50) {
-        fill(&mut bytes, random);
+        Content::fill(&mut bytes[..], random);
     }
     put_measures(&mut bytes, &shape);
     bytes
@@ -91,7 +120,7 @@ fn put_measures(bytes: &mut [u8], shape: &Shape) {
 }
 
 /// A memory and list of which every stored fact holds, and else anything.
-pub fn passing(random: &mut Random) -> (Vec<u8>, Vec<u8>) {
+pub fn passing(random: &mut Random) -> (Vec<u8>, Vec<Scan>) {
     let shape = small_shape(random);
     let mut builder = Builder::new(&shape, random);
     builder.opens();
@@ -121,7 +150,7 @@ impl Builder<'_> {
     fn new<'r>(shape: &Shape, random: &'r mut Random) -> Builder<'r> {
         let layout = Layout::of(shape);
         let mut bytes = vec![0; layout.need() + random.below(40) as usize];
-        fill(&mut bytes, random);
+        Content::fill(&mut bytes[..], random);
         put_measures(&mut bytes, shape);
         let rows = match random.below(4) {
             0 => layout.rows as u32,
@@ -282,24 +311,22 @@ impl Builder<'_> {
         }
     }
 
-    /// A list with up to 16 open scans, and a rest that belongs to no place.
-    fn scans(&mut self) -> Vec<u8> {
-        let length = SCANS * PLACE + self.random.below(300) as usize;
-        let mut list = vec![0; length];
-        fill(&mut list, self.random);
+    /// A list with up to 16 open scans.
+    fn scans(&mut self) -> Vec<Scan> {
+        let mut list = vec![Scan::FREE; SCANS + self.random.below(25) as usize];
+        Content::fill(&mut list[..], self.random);
         let share = self.random.pick(&[0, 20, 100]);
         let mut open: Vec<u32> = Vec::new();
-        for place in 0..places(&list) {
-            let old = scan(&list, place);
+        for place in &mut list {
             let number = self.up_to(self.scans);
             let wanted = open.len() < SCANS && self.random.percent(share);
             if number == 0 || open.contains(&number) || !wanted {
-                put_scan(&mut list, place, Scan { number: 0, ..old });
+                place.number = 0;
                 continue;
             }
             open.push(number);
             let (stamp, merges) = (self.up_to(self.last), self.up_to(self.merges));
-            put_scan(&mut list, place, Scan { number, stamp, merges });
+            *place = Scan { number, stamp, merges };
         }
         list
     }

@@ -2,8 +2,8 @@
 
 use std::collections::BTreeSet;
 
-use checks::damage::{good, SMALL};
-use checks::memory::{header, put_scan, put_word, word, Layout, Region, Scan};
+use checks::damage::{flip, good, SMALL};
+use checks::memory::{header, put_word, word, Layout, Region, Scan, SCAN_WORDS, WORD};
 use checks::plain::{sound, Plain};
 use checks::unmade::{any_lent, passing};
 use checks::{damage, facts, Store};
@@ -24,26 +24,25 @@ fn every_fact_is_met_alone() {
     let mut random = Random::new(1);
     for seed in 0..8 {
         let mut watched = good(&Plain::<0>, seed, &mut random).expect("a good store");
-        let lengths = (watched.memory.bytes().len(), watched.scans.bytes().len());
-        for at in 0..lengths.0 + lengths.1 {
-            let byte = match at.checked_sub(lengths.0) {
-                None => &mut watched.memory.bytes_mut()[at],
-                Some(at) => &mut watched.scans.bytes_mut()[at],
+        let bytes = watched.memory.get().len();
+        for at in 0..bytes + watched.scans.get().len() * SCAN_WORDS * WORD {
+            match at.checked_sub(bytes) {
+                None => watched.memory.get_mut()[at] ^= 1,
+                Some(at) => flip(watched.scans.get_mut(), at, 1),
             };
-            *byte ^= 1;
-            note(&mut alone, watched.memory.bytes(), watched.scans.bytes());
+            note(&mut alone, watched.memory.get(), watched.scans.get());
             watched.restore();
         }
     }
     for _ in 0..40_000 {
         let (memory, scans) = any_lent(&mut random);
-        note(&mut alone, memory.bytes(), scans.bytes());
+        note(&mut alone, memory.get(), scans.get());
     }
     let missing: Vec<&str> = facts::names().filter(|name| !alone.contains(name)).collect();
     assert!(missing.is_empty(), "not met alone: {missing:?}");
 }
 
-fn note(alone: &mut BTreeSet<&'static str>, memory: &[u8], list: &[u8]) {
+fn note(alone: &mut BTreeSet<&'static str>, memory: &[u8], list: &[Scan]) {
     let failing = facts::all_failing(memory, list);
     assert_eq!(sound(memory, list).is_none(), !failing.is_empty(), "{failing:?}");
     if let [fact] = failing[..] {
@@ -60,10 +59,12 @@ fn random_words_that_pass_do_pass() {
     }
 }
 
+const ODD: Scan = Scan { number: u32::MAX, stamp: u32::MAX, merges: u32::MAX };
+
 /// A store of the small shape in exactly the bytes it needs.
-fn small() -> (Vec<u8>, Vec<u8>, Layout) {
+fn small() -> (Vec<u8>, Vec<Scan>, Layout) {
     let layout = Layout::of(&SMALL);
-    let (mut memory, mut list) = (vec![0xFF; layout.need()], vec![0xFF; 40 * 12 + 5]);
+    let (mut memory, mut list) = (vec![0xFF; layout.need()], vec![ODD; 40]);
     assert_eq!(Plain::<0>.make(&mut memory, &mut list, &SMALL), Answer::Done);
     (memory, list, layout)
 }
@@ -74,12 +75,12 @@ fn open_scans_are_counted_over_the_whole_list() {
     let (mut memory, mut list, _) = small();
     put_word(&mut memory, header::SCANS_GIVEN, 17);
     for number in 1..=16 {
-        put_scan(&mut list, 2 * number as usize, Scan { number, stamp: 0, merges: 0 });
+        list[2 * number as usize] = Scan { number, stamp: 0, merges: 0 };
     }
     assert_eq!(facts::failing(&memory, &list), None);
     let opened = Plain::<0>.call(&mut memory, &mut list, &Call::OpenScan { stamp: 0 });
     assert_eq!(opened, Answer::Refused(14));
-    put_scan(&mut list, 39, Scan { number: 17, stamp: 0, merges: 0 });
+    list[39] = Scan { number: 17, stamp: 0, merges: 0 };
     assert_eq!(facts::failing(&memory, &list), Some("at most 16 scans are open"));
     assert_eq!(Plain::<0>.call(&mut memory, &mut list, &Call::Begin), Answer::Refused(2));
 }

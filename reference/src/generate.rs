@@ -5,6 +5,7 @@ mod generator;
 mod workload;
 
 use self::generator::Generator;
+pub use self::workload::COUNT as WORKLOADS;
 use crate::call::{Call, Shape};
 use crate::command;
 use crate::history::{NUMBERS, OPEN_SCANS, OPEN_TRANSACTIONS};

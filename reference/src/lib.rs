@@ -7,6 +7,7 @@ pub mod call;
 pub mod command;
 pub mod generate;
 pub mod history;
+pub mod pack;
 pub mod program;
 pub mod random;
 pub mod survey;

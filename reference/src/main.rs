@@ -5,7 +5,7 @@
 use std::io::{self, BufReader, BufWriter, ErrorKind, Read, Write};
 use std::process::ExitCode;
 
-use reference::{generate, program, survey::Survey, text, trace};
+use reference::{generate, pack, program, survey::Survey, text, trace};
 
 const USAGE: &str = "\
 reference run                  command bytes on standard input, answer lines on standard output
@@ -13,6 +13,8 @@ reference encode               readable lines to command bytes
 reference decode               command bytes to readable lines
 reference generate SEED        a random stream of command bytes
 reference trace SEED CALLS     a random run, each call with its answer
+reference pack [short]         the packed streams of crate replay; short: no number series
+reference replay               a pack on standard input, the lines of its streams on standard output
 reference survey FIRST COUNT   what the streams of COUNT seeds from FIRST on meet
 reference help                 this text
 ";
@@ -24,7 +26,7 @@ const TRACE_CALLS: u64 = 1_000_000;
 enum Failure {
     /// The words of the command line are wrong.
     Usage(String),
-    /// The readable lines given to encode are wrong.
+    /// The readable lines given to encode, or the pack given to replay, are wrong.
     Lines(String),
     Channel(io::Error),
 }
@@ -77,6 +79,13 @@ fn perform(words: &[String], output: &mut impl Write) -> Result<(), Failure> {
                 return Err(Failure::Usage(format!("CALLS is at most {TRACE_CALLS}")));
             }
             trace::write(number(seed)?, calls as usize, output)?;
+        }
+        ["pack"] => output.write_all(&pack::write(&pack::all()))?,
+        ["pack", "short"] => output.write_all(&pack::write(&pack::short()))?,
+        ["replay"] => {
+            let mut bytes = Vec::new();
+            io::stdin().lock().read_to_end(&mut bytes)?;
+            pack::replay(&pack::read(&bytes).map_err(Failure::Lines)?, output)?;
         }
         ["survey", first, count] => {
             write!(output, "{}", Survey::of(number(first)?, number(count)?))?;

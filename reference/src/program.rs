@@ -15,34 +15,54 @@ pub const SHAPE_BYTES: usize = 6;
 
 /// Reads a shape and commands, and writes a line for each.
 pub fn run(input: &mut impl Read, output: &mut impl Write) -> io::Result<()> {
+    if let Some(mut history) = start(input, output)? {
+        while turn(&mut history, input, output)? {}
+    }
+    Ok(())
+}
+
+/// Reads the shape and writes its line; the new store's history where it is accepted.
+pub fn start(input: &mut impl Read, output: &mut impl Write) -> io::Result<Option<History>> {
     let mut bytes = [0; SHAPE_BYTES];
     if fill(input, &mut bytes)? < SHAPE_BYTES {
-        return writeln!(output, "shape no 20");
+        writeln!(output, "shape no 20")?;
+        return Ok(None);
     }
     let shape = shape(&bytes);
     if !shape.within_limits() || !within_lent(&shape) {
-        return writeln!(output, "shape no 1");
+        writeln!(output, "shape no 1")?;
+        return Ok(None);
     }
     writeln!(output, "shape ok")?;
-    let mut history = History::new(shape);
+    Ok(Some(History::new(shape)))
+}
+
+/// Reads one command and writes its line; whether the program goes on. "It goes on after 2 to 18
+/// and ends after the others."
+pub fn turn(
+    history: &mut History,
+    input: &mut impl Read,
+    output: &mut impl Write,
+) -> io::Result<bool> {
     let mut byte = [0];
-    let mut bytes = Vec::new();
     // "Input that ends between commands adds no line."
-    while fill(input, &mut byte)? == 1 {
-        let [byte] = byte;
-        // "It goes on after 2 to 18 and ends after the others."
-        let Some(fields) = command::operands(byte, shape.columns as usize) else {
-            return writeln!(output, "{byte:02X} no 19");
-        };
-        bytes.resize(command::width(&fields), 0);
-        if fill(input, &mut bytes)? < bytes.len() {
-            // "A cut command still prints its byte"
-            return writeln!(output, "{byte:02X} no 20");
-        }
-        let call = command::call(byte, &command::numbers(&fields, &bytes));
-        writeln!(output, "{byte:02X} {}", fields_of(&history.call(&call)))?;
+    if fill(input, &mut byte)? == 0 {
+        return Ok(false);
     }
-    Ok(())
+    let [byte] = byte;
+    let Some(fields) = command::operands(byte, history.shape().columns as usize) else {
+        writeln!(output, "{byte:02X} no 19")?;
+        return Ok(false);
+    };
+    let mut bytes = vec![0; command::width(&fields)];
+    if fill(input, &mut bytes)? < bytes.len() {
+        // "A cut command still prints its byte"
+        writeln!(output, "{byte:02X} no 20")?;
+        return Ok(false);
+    }
+    let call = command::call(byte, &command::numbers(&fields, &bytes));
+    writeln!(output, "{byte:02X} {}", fields_of(&history.call(&call)))?;
+    Ok(true)
 }
 
 /// The shape written in its six bytes.

@@ -2,16 +2,16 @@
 //! it is the greatest part of a call in a full store: one flag is carried to the end of each pass
 //! instead of an early exit, which lets the compiler test several words at once.
 
-use crate::memory::{header, page, places, scans, word, words, Layout, Region};
+use crate::memory::{header, page, word, words, Layout, Region, Scan};
 use crate::memory::{MOST_COLUMNS, MOST_RANGES, MOST_RECORDS, NUMBERS, OPENS, ROWS, SCANS, WORD};
 
 /// A range with no more records takes a smaller array to look them up in, which is sooner cleared.
 const FEW_RECORDS: usize = 32;
 
 /// The layout of a store whose facts hold.
-pub fn sound(memory: &[u8], list: &[u8]) -> Option<Layout> {
+pub fn sound(memory: &[u8], list: &[Scan]) -> Option<Layout> {
     let layout = Layout::stored(memory)?;
-    if memory.len() < layout.need() || places(list) < SCANS {
+    if memory.len() < layout.need() || list.len() < SCANS {
         return None;
     }
     let facts = Facts::of(memory, layout)?;
@@ -82,9 +82,9 @@ impl<'m> Facts<'m> {
 
     /// Open scans are at most 16, among those given, differ, and have a stamp and a count of
     /// merges that were there.
-    fn scans(&self, list: &[u8]) -> bool {
+    fn scans(&self, list: &[Scan]) -> bool {
         let mut open = [0; SCANS];
-        for (count, scan) in scans(list).filter(|scan| scan.number != 0).enumerate() {
+        for (count, scan) in list.iter().filter(|scan| scan.is_open()).enumerate() {
             let known =
                 scan.number <= self.scans && scan.stamp <= self.last && scan.merges <= self.merges;
             if count == SCANS || !known || open[..count].contains(&scan.number) {

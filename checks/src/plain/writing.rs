@@ -3,7 +3,7 @@
 use reference::Answer;
 
 use super::{faults, Table};
-use crate::memory::{header, kind, page, scans, state, words, Region, ROWS, WORD};
+use crate::memory::{header, kind, page, state, words, Region, ROWS, WORD};
 
 /// Words looked at together by the passes that seldom find what they look for.
 const STEP: usize = 16;
@@ -236,8 +236,8 @@ impl<const FAULT: u8> Table<'_, FAULT> {
     /// that replaced the page. So the scan opened first tells for all.
     pub(super) fn release(&mut self) -> Answer {
         let mut oldest = u32::MAX;
-        for scan in scans(self.scans) {
-            if scan.number != 0 {
+        for scan in self.scans.iter() {
+            if scan.is_open() {
                 oldest = oldest.min(scan.merges);
             }
         }

@@ -1,15 +1,13 @@
 -- What the finders and tests tell of a call's verdict.
-use Prim.Native.Nat.{ℕ, suc, _+_, _*_, _/_, _^_, _≤_, _<_}
+use Prim.Native.Nat.{ℕ, suc, _+_, _*_, _/_, _≤_, _<_}
 use mathlib.Core.Path.{_≡_, refl, ap, sym, _∙_}
 use mathlib.Core.Bool.{Bool, true, false, not, cond, _||_}
 use mathlib.Core.List.{List, [], _∷_}
 use native.Mathlib.Omega.{arith}
-use native.Mathlib.Nat.{div-eq-of-lt, div-eq-sub-div}
 use lib.Dec.{eqb, leb, ltb, leb·suc-suc}
 use lib.ListN.{length}
-use lib.Pow.{pow-pos}
-use borrow.Author.Tests.{leb-true, leb-false, ltb-true, ltb-false, le-leb, lt-leb, lt-ltb, le-ltb, ne-eqb}
-use Rattle.terms.specs.Measures.{Shape, rangeRows, mostTransactions}
+use borrow.Author.Tests.{ltb-true, ltb-false, le-leb, lt-leb, lt-ltb}
+use Rattle.terms.specs.Measures.{rangeRows, mostTransactions}
 use Rattle.loops.specs.declared.Found.{Found}
 use Rattle.layout.specs.declared.Sizes.{Sizes}
 use Rattle.words.specs.Words.{words}
@@ -20,40 +18,14 @@ use Rattle.layout.specs.View.{View, view}
 use Rattle.layout.proofs.View.{view-long}
 use Rattle.history.specs.History.{Call, accept, verdict, any, rangeOf}
 use Rattle.history.proofs.Accepted.{passed}
-use Rattle.model.specs.Stored.{place, openPlace, usedIn, headerIn, rowsGiven}
-use Rattle.model.specs.Writing.{newBitsIn, recordsWanted}
-use Rattle.model.specs.Calls.{notOpenIn, notGivenIn, lacksIn, testsIn}
+use Rattle.model.specs.Stored.{place, usedIn, headerIn, rowsGiven}
+use Rattle.model.specs.Writing.{recordsWanted}
+use Rattle.model.specs.Calls.{notGivenIn, lacksIn, testsIn}
 use Rattle.model.specs.Asked.{shapeIn, Proper, Counted, Linked, FreeAt}
-use Rattle.conditions.specs.Opens.{openAt}
 use Rattle.settling.specs.Steps.{foundAt}
 use Rattle.writing.specs.Steps.{Room}
 use Rattle.entry.proofs.Fitted.{given-tells}
 use Rattle.lending.proofs.Ends.{off}
-
--- ---- what a finder tells
-module _ (b : Bool) (j : ℕ) where
-  found-at : (i : ℕ) → cond b Found.Nothing (Found.At j) ≡ Found.At i → (b ≡ false) × (i ≡ j)
-  found-at i e = go b refl e
-    where
-      go : (d : Bool) → b ≡ d → cond d Found.Nothing (Found.At j) ≡ Found.At i → (b ≡ false) × (i ≡ j)
-      go true q f = let z : _≡_ {A = ℕ} 0 1 = cc in absurd (omega arith)
-      go false q f = (q, cc)
-
-  found-nothing : cond b Found.Nothing (Found.At j) ≡ Found.Nothing → b ≡ true
-  found-nothing e = go b refl e
-    where
-      go : (d : Bool) → b ≡ d → cond d Found.Nothing (Found.At j) ≡ Found.Nothing → b ≡ true
-      go true q f = q
-      go false q f = let z : _≡_ {A = ℕ} 0 1 = cc in absurd (omega arith)
-
-module _ (v : View) (t : ℕ) where
-  pub open-there : (j : ℕ) → openAt v t ≡ Found.At j → (notOpenIn v t ≡ false) × (j ≡ openPlace v t)
-  unfolding openAt
-  open-there j e = found-at (notOpenIn v t) (openPlace v t) j e
-
-  pub not-open : openAt v t ≡ Found.Nothing → notOpenIn v t ≡ true
-  unfolding openAt
-  not-open e = found-nothing (notOpenIn v t) (openPlace v t) e
 
 -- ---- what passed tests say
 module _ (s : Sizes) (v : View) (l : Linked s v) (r n : ℕ) where
@@ -79,37 +51,10 @@ module _ (s : Sizes) (v : View) (l : Linked s v) (t r : ℕ) where
       room s v l r (recordsWanted v r mask) (off (notGivenIn v r) (p .1 .0))
       (off (lacksIn (shapeIn s) v r (recordsWanted v r mask)) (p .1 .1 .1 .1 .1 .0))
 
--- the range g of row r lacks n tail records, or has them left
-module _ (s : Sizes) (v : View) (r n g used : ℕ) (e : used ≡ usedIn v g) (q : g ≡ rangeOf r) where
-  pub lacks : s .capacity < used + n → lacksIn (shapeIn s) v r n ≡ true
-  unfolding lacksIn
-  lacks h = rw (← q) (lt-ltb (s .capacity) (usedIn v g + n) (omega (arith, e)))
-
-  pub has-left : used + n ≤ s .capacity → lacksIn (shapeIn s) v r n ≡ false
-  unfolding lacksIn
-  has-left h = rw (← q) (le-ltb (s .capacity) (usedIn v g + n) (omega (arith, e)))
-
--- an update takes one or two records
-pub wanted-few : (v : View) (r mask : ℕ) → recordsWanted v r mask ≤ 2
-unfolding recordsWanted
-wanted-few v r mask = go (eqb (newBitsIn v r mask) 0)
-  where
-    go : (b : Bool) → cond b 1 2 ≤ 2
-    go true = omega arith
-    go false = omega arith
-
--- ---- the mask: shifted right by the column count, what is left of it are the bits at or above
-pub high-bits : (mask columns : ℕ) → (mask ≡ 0 → ⊥) → not (eqb (mask / 2 ^ columns) 0) ≡ (eqb mask 0 || leb (2 ^ columns) mask)
-high-bits mask columns n = rw (ne-eqb mask 0 n) (go (leb (2 ^ columns) mask) refl)
-  where
-    some : 0 < 2 ^ columns
-    some = pow-pos columns
-
-    go : (b : Bool) → leb (2 ^ columns) mask ≡ b → not (eqb (mask / 2 ^ columns) 0) ≡ b
-    go true e =
-        let h : 2 ^ columns ≤ mask = leb-true (2 ^ columns) mask e in
-        rw (ne-eqb (mask / 2 ^ columns) 0 (λ q. omega (arith, div-eq-sub-div {m = 2 ^ columns} {n = mask} some h)))
-    go false e = rw (div-eq-of-lt (leb-false (2 ^ columns) mask e))
+-- the range g of row r lacks n tail records
+pub lacks-is : (s : Sizes) (v : View) (r g n : ℕ) → g ≡ rangeOf r → lacksIn (shapeIn s) v r n ≡ ltb (s .capacity) (usedIn v g + n)
+unfolding lacksIn
+lacks-is s v r g n e = rw e
 
 -- ---- the rows of a store are all given, or not
 module _ (s : Sizes) (v : View) (n : ℕ) (p : Proper s) (e : n ≡ headerIn v rowsGiven) where

@@ -1,21 +1,21 @@
 // The calls that change transactions and rows, over a lent memory and the table of the scan list: begin, insert, update, delete, commit, abort. A call tests the
 // stored facts, lends the needed bytes to the function that runs the call's own tests in document 01's order, and only then writes.
+use conditions::bad_mask;
 use conditions::gone;
 use conditions::held;
+use conditions::lacks_records;
 use conditions::open_place;
-use entry::not_given;
+use entry::given_range;
 use entry::not_later;
-use facts::Checked;
-use facts::check;
 use layout::HEADER_ROWS;
 use layout::HEADER_TRANSACTIONS;
 use layout::Region;
 use layout::Sizes;
-use layout::words_needed;
+use lending::Part;
 use lending::Tested;
+use lending::lend;
 use loops::Found;
 use regions::read;
-use rows::range_of;
 use scans::Scans;
 use settling::free_place;
 use terms::Answer;
@@ -25,15 +25,13 @@ use terms::Stamp;
 use terms::Transaction;
 use writing::records_wanted;
 ghost use mathlib.Core.Path.{_≡_};
-ghost use mathlib.Core.Bool.{_||_};
 ghost use mathlib.Core.List.{[]};
-ghost use Prim.Native.Nat.{_*_, _^_, _≤_, _<_};
-ghost use lib.Dec.{eqb, leb};
+ghost use Prim.Native.Nat.{_*_, _≤_, _<_};
 ghost use lib.ListN.{length};
 ghost use Rattle.words.specs.Words.{words};
 ghost use Rattle.layout.specs.Regions.{need};
 ghost use Rattle.layout.specs.View.{view};
-ghost use Rattle.history.specs.History.{Call, verdict};
+ghost use Rattle.history.specs.History.{Call, verdict, rangeOf};
 ghost use Rattle.model.specs.Stored.{openPlace, headerIn, rowsGiven};
 ghost use Rattle.model.specs.Calls.{testsIn};
 ghost use Rattle.model.specs.Asked.{shapeIn, Proper, Linked, Pooled};
@@ -46,22 +44,19 @@ const MOST_NUMBERS: u32 = 65535;
 
 // ---- the tests
 
-// Whether a mask has no bit, or one at or above the column count.
-fn bad_mask(columns: usize, mask: u32) -> bool
-    requires { ⌜ columns ≤ 16 ⌝ }
-    ensures { λ r. ⌜ r ≡ (eqb mask 0 || leb (2 ^ columns) mask) ⌝ }
-{
-    if mask == 0 {
-        return true;
-    }
-    mask >> columns != 0
-}
-
-// The last tests of a call that appends n tail records to a row: whether it is held, gone, or its range lacks them. `at` is the transaction's place.
-fn append_tests(mem: &[u8], s: Sizes, at: usize, t: Transaction, row: Row, n: u32) -> Tested
+// The last tests of a call that appends n tail records to a row: whether it is held, gone, or its range g lacks them. `at` is the transaction's place.
+fn append_tests(
+    mem: &[u8],
+    s: Sizes,
+    at: usize,
+    t: Transaction,
+    row: Row,
+    g: usize,
+    n: u32,
+) -> Tested
     requires { ⌜ need s * 4 ≤ length (now mem) ⌝ }
     requires { ⌜ Proper s × Linked s (view s (words (now mem))) ⌝ }
-    requires { ⌜ (row .0 < headerIn (view s (words (now mem))) rowsGiven) × (n ≤ 2) ⌝ }
+    requires { ⌜ (row .0 < headerIn (view s (words (now mem))) rowsGiven) × (g ≡ rangeOf (row .0)) ⌝ }
     ensures { λ r. ⌜ r ≡ tested (verdict (appendTests (shapeIn s) (view s (words (now (mem .entry)))) (t .0) (row .0) n)) at ⌝ }
 {
     if held(mem, s, t, row) {
@@ -70,8 +65,7 @@ fn append_tests(mem: &[u8], s: Sizes, at: usize, t: Transaction, row: Row, n: u3
     if gone(mem, s, row) {
         return Tested::Failed(Refusal::Gone);
     }
-    let used = read(mem, s, Region::Used, range_of(row)) as usize;
-    if used + n as usize > s.capacity {
+    if lacks_records(mem, s, g, n) {
         return Tested::Failed(Refusal::Tail);
     }
     Tested::Passed(at)
@@ -86,13 +80,13 @@ fn update_tests(mem: &[u8], s: Sizes, t: Transaction, row: Row, mask: u32) -> Te
     let Found::At(at) = open_place(mem, s, t) else {
         return Tested::Failed(Refusal::Transaction);
     };
-    if not_given(mem, s, row) {
+    let Found::At(g) = given_range(mem, s, row) else {
         return Tested::Failed(Refusal::Row);
-    }
+    };
     if bad_mask(s.columns, mask) {
         return Tested::Failed(Refusal::Mask);
     }
-    append_tests(mem, s, at, t, row, records_wanted(mem, s, row, mask))
+    append_tests(mem, s, at, t, row, g, records_wanted(mem, s, row, mask))
 }
 
 fn delete_tests(mem: &[u8], s: Sizes, t: Transaction, row: Row) -> Tested
@@ -104,10 +98,10 @@ fn delete_tests(mem: &[u8], s: Sizes, t: Transaction, row: Row) -> Tested
     let Found::At(at) = open_place(mem, s, t) else {
         return Tested::Failed(Refusal::Transaction);
     };
-    if not_given(mem, s, row) {
+    let Found::At(g) = given_range(mem, s, row) else {
         return Tested::Failed(Refusal::Row);
-    }
-    append_tests(mem, s, at, t, row, 1)
+    };
+    append_tests(mem, s, at, t, row, g, 1)
 }
 
 // ---- the calls over the needed bytes
@@ -201,10 +195,9 @@ fn abort_in(mem: &mut [u8], s: Sizes, t: Transaction) -> Answer
 pub fn begin(mem: &mut [u8], scans: Scans) -> Answer
     ensures { λ r. ⌜ Leaves (now (mem .entry)) scans Call.begin r (now (mem .exit)) ⌝ }
 {
-    let Checked::Fit(s) = check(mem, scans) else {
+    let Part::Lent(s, n) = lend(mem, scans) else {
         return Answer::Refused(Refusal::Memory);
     };
-    let n = words_needed(s) * 4;
     begin_in(&mut mem[..n], s)
 }
 
@@ -212,10 +205,9 @@ pub fn begin(mem: &mut [u8], scans: Scans) -> Answer
 pub fn insert(mem: &mut [u8], scans: Scans, transaction: Transaction, values: [i32; 16]) -> Answer
     ensures { λ r. ⌜ Leaves (now (mem .entry)) scans (Call.insert (transaction .0) values) r (now (mem .exit)) ⌝ }
 {
-    let Checked::Fit(s) = check(mem, scans) else {
+    let Part::Lent(s, n) = lend(mem, scans) else {
         return Answer::Refused(Refusal::Memory);
     };
-    let n = words_needed(s) * 4;
     insert_in(&mut mem[..n], s, transaction, values)
 }
 
@@ -230,10 +222,9 @@ pub fn update(
 ) -> Answer
     ensures { λ r. ⌜ Leaves (now (mem .entry)) scans (Call.update (transaction .0) (row .0) mask values) r (now (mem .exit)) ⌝ }
 {
-    let Checked::Fit(s) = check(mem, scans) else {
+    let Part::Lent(s, n) = lend(mem, scans) else {
         return Answer::Refused(Refusal::Memory);
     };
-    let n = words_needed(s) * 4;
     update_in(&mut mem[..n], s, transaction, row, mask as u32, values)
 }
 
@@ -241,10 +232,9 @@ pub fn update(
 pub fn delete(mem: &mut [u8], scans: Scans, transaction: Transaction, row: Row) -> Answer
     ensures { λ r. ⌜ Leaves (now (mem .entry)) scans (Call.delete (transaction .0) (row .0)) r (now (mem .exit)) ⌝ }
 {
-    let Checked::Fit(s) = check(mem, scans) else {
+    let Part::Lent(s, n) = lend(mem, scans) else {
         return Answer::Refused(Refusal::Memory);
     };
-    let n = words_needed(s) * 4;
     delete_in(&mut mem[..n], s, transaction, row)
 }
 
@@ -252,10 +242,9 @@ pub fn delete(mem: &mut [u8], scans: Scans, transaction: Transaction, row: Row) 
 pub fn commit(mem: &mut [u8], scans: Scans, transaction: Transaction, stamp: Stamp) -> Answer
     ensures { λ r. ⌜ Leaves (now (mem .entry)) scans (Call.commit (transaction .0) (stamp .0)) r (now (mem .exit)) ⌝ }
 {
-    let Checked::Fit(s) = check(mem, scans) else {
+    let Part::Lent(s, n) = lend(mem, scans) else {
         return Answer::Refused(Refusal::Memory);
     };
-    let n = words_needed(s) * 4;
     commit_in(&mut mem[..n], s, transaction, stamp)
 }
 
@@ -263,9 +252,8 @@ pub fn commit(mem: &mut [u8], scans: Scans, transaction: Transaction, stamp: Sta
 pub fn abort(mem: &mut [u8], scans: Scans, transaction: Transaction) -> Answer
     ensures { λ r. ⌜ Leaves (now (mem .entry)) scans (Call.abort (transaction .0)) r (now (mem .exit)) ⌝ }
 {
-    let Checked::Fit(s) = check(mem, scans) else {
+    let Part::Lent(s, n) = lend(mem, scans) else {
         return Answer::Refused(Refusal::Memory);
     };
-    let n = words_needed(s) * 4;
     abort_in(&mut mem[..n], s, transaction)
 }

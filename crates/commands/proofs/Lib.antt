@@ -1,3 +1,4 @@
 pub mod Table
 pub mod Operands
 pub mod Items
+pub mod Parts

@@ -5,14 +5,15 @@ use mathlib.Core.List.{List, [], _∷_, _++_, map}
 use native.Mathlib.Omega.{arith}
 use native.Mathlib.Nat.{pow-succ'}
 use native.Mathlib.Numerals.{add-one}
-use lib.ListN.{length, getD, set, take}
-use lib.Seq.{slice, slice-cons, slice-empty, take-suc, take-suc-set}
+use lib.ListN.{length, getD, set, take, replicate}
+use lib.Seq.{slice, slice-cons, slice-empty, take-suc, take-suc-set, getD-set-other}
 use lib.IntN.{ℤ, pos}
 use mir.Syntax.{w32}
 use mir.Val.{toZ}
 use Rattle.words.specs.Words.{words}
 use Rattle.words.proofs.Words.{length-words}
 use Rattle.commands.specs.Commands.{littleEndian, operand, values}
+use Rattle.commands.specs.Decoded.{ZerosPast}
 
 -- ---- a number
 pub none-yet : (bytes : List ℕ) (at n : ℕ) → 0 ≡ littleEndian (slice (at + n) (at + n) bytes)
@@ -54,3 +55,12 @@ unfolding values
 value-next bytes out i w v e p q h l =
     let k : i < length (words bytes) = omega (arith, length-words bytes) in
     rw (add-one i, take-suc-set out i v, take-suc (words bytes) i 0, map-end, q, p) (ap (λ (t : List ℤ). t ++ toZ w32 (getD (words bytes) i 0) ∷ []) e)
+
+-- an array of zeros holds 0 at every place, and one that holds 0 from i on does so from the next after a store at i
+pub zeros-at : (n k : ℕ) → getD (replicate n (pos 0)) k (pos 0) ≡ pos 0
+zeros-at zero k = refl
+zeros-at (suc n) zero = refl
+zeros-at (suc n) (suc k) = zeros-at n k
+
+pub zeros-next : (out : List ℤ) (i : ℕ) (v : ℤ) → ZerosPast i out → ZerosPast (i + 1) (set out i v)
+zeros-next out i v z k h = getD-set-other out i k v (pos 0) (λ e. omega arith) ∙ z k (omega arith)

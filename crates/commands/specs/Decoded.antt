@@ -1,5 +1,9 @@
 -- What the decoded numbers of the code stand for.
-use lib.ListN.{take}
+use Prim.Native.Nat.{ℕ, _≤_}
+use mathlib.Core.Path.{_≡_}
+use mathlib.Core.List.{List}
+use lib.IntN.{ℤ, pos}
+use lib.ListN.{getD, take}
 use Rattle.terms.specs.Measures.{Shape}
 use Rattle.history.specs.History.{Call}
 use Rattle.commands.specs.declared.Measures.{Measures}
@@ -11,3 +15,7 @@ shapeIn m = record { columns = m .columns; ranges = m .ranges; capacity = m .cap
 
 abbrev pub callIn : Request → Call
 callIn r = callOf (r .kind) (r .first) (r .second) (r .third) (take (r .count) (r .values))
+
+-- the places of a request's array past its values hold 0
+abbrev pub ZerosPast : ℕ → List ℤ → Type 0
+ZerosPast n vs = (i : ℕ) → n ≤ i → getD vs i (pos 0) ≡ pos 0

@@ -7,7 +7,7 @@ ghost use mathlib.Core.Bool.{true, false, cond};
 ghost use Prim.Native.Nat.{_+_, _*_, _≤_, _<_};
 ghost use lib.ListN.{length, take};
 ghost use Rattle.commands.specs.Commands.{Narrow, Small, chosen, width as widthOf, operand, values as valuesOf, callFrom, shapeBytes, shapeFrom};
-ghost use Rattle.commands.specs.Decoded.{shapeIn, callIn};
+ghost use Rattle.commands.specs.Decoded.{shapeIn, callIn, ZerosPast};
 
 // The calls, in the order of their command bytes.
 pub enum Kind {
@@ -135,7 +135,7 @@ fn number(bytes: &[u8], at: usize, n: usize) -> u32
 // The first n values of the bytes. The other places of the array hold 0.
 fn values(bytes: &[u8], n: usize) -> [i32; 16]
     requires { ⌜ (n * 4 ≤ length (now bytes)) × (n ≤ 16) ⌝ }
-    ensures { λ r. ⌜ take n r ≡ valuesOf n (now (bytes .entry)) ⌝ }
+    ensures { λ r. ⌜ (take n r ≡ valuesOf n (now (bytes .entry))) × ZerosPast n r ⌝ }
 {
     let mut out = [0i32; 16];
     let mut i = 0;
@@ -159,7 +159,7 @@ pub struct Request {
 // The call of a command, from the bytes behind its command byte.
 pub fn decode(form: Form, columns: usize, operands: &[u8]) -> Request
     requires { ⌜ Small columns form × (widthOf columns form ≤ length (now operands)) ⌝ }
-    ensures { λ r. ⌜ callIn r ≡ callFrom columns form (now (operands .entry)) ⌝ }
+    ensures { λ r. ⌜ (callIn r ≡ callFrom columns form (now (operands .entry))) × ZerosPast (r .count) (r .values) ⌝ }
 {
     let kind = form.kind;
     let second_at = form.first;

@@ -18,12 +18,13 @@ use Rattle.loops.proofs.Search.{first-at}
 use Rattle.layout.specs.declared.Sizes.{Sizes}
 use Rattle.layout.specs.declared.Region.the-variants.{Opens}
 use Rattle.layout.specs.Regions.{need}
-use Rattle.layout.specs.View.{view}
+use Rattle.layout.specs.View.{View, view}
 use Rattle.layout.proofs.View.{view-long}
 use Rattle.history.specs.History.{any}
 use Rattle.model.specs.Stored.{bears, place, openPlace}
 use Rattle.model.specs.Calls.{notOpenIn}
 use Rattle.rows.specs.Finders.{Inside}
+use Rattle.rows.proofs.Cases.{found-at, found-nothing}
 use Rattle.conditions.specs.Opens.{openAt}
 
 none-bears : (l : List ℕ) → any (bears 0) l ≡ false
@@ -68,3 +69,13 @@ module _ (t : ℕ) (h : t ≡ 0 → ⊥) where
           let long : length (view s (words m) Opens) ≡ mostTransactions = view-long s (words m) (omega (arith, length-words m)) Opens in
           omega (arith, first-at t j (view s (words m) Opens) (sym q) .0)
       inside Found.Nothing q = tt
+
+-- ---- what the finder tells
+module _ (v : View) (t : ℕ) where
+  pub open-there : (j : ℕ) → openAt v t ≡ Found.At j → (notOpenIn v t ≡ false) × (j ≡ openPlace v t)
+  unfolding openAt
+  open-there j e = found-at (notOpenIn v t) (openPlace v t) j e
+
+  pub not-open : openAt v t ≡ Found.Nothing → notOpenIn v t ≡ true
+  unfolding openAt
+  not-open e = found-nothing (notOpenIn v t) (openPlace v t) e

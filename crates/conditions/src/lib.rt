@@ -13,15 +13,15 @@ use terms::Row;
 use terms::Tail;
 use terms::Transaction;
 ghost use mathlib.Core.Path.{_≡_};
-ghost use mathlib.Core.Bool.{not, _&&_};
-ghost use Prim.Native.Nat.{_*_, _-_, _≤_, _<_};
-ghost use lib.Dec.{eqb};
+ghost use mathlib.Core.Bool.{not, _&&_, _||_};
+ghost use Prim.Native.Nat.{_+_, _*_, _-_, _^_, _≤_, _<_};
+ghost use lib.Dec.{eqb, leb, ltb};
 ghost use lib.ListN.{length};
 ghost use Rattle.terms.specs.Measures.{mostTransactions};
 ghost use Rattle.words.specs.Words.{words};
 ghost use Rattle.layout.specs.Regions.{need};
 ghost use Rattle.layout.specs.View.{view};
-ghost use Rattle.model.specs.Stored.{openState, abortedState, deleteKind, openPlace, headerIn, rowsGiven};
+ghost use Rattle.model.specs.Stored.{openState, abortedState, deleteKind, openPlace, usedIn, headerIn, rowsGiven};
 ghost use Rattle.model.specs.Reading.{ownChanges};
 ghost use Rattle.model.specs.Writing.{anyOpen};
 ghost use Rattle.model.specs.Calls.{heldIn, goneIn};
@@ -116,6 +116,27 @@ pub fn gone(mem: &[u8], s: Sizes, row: Row) -> bool
     let kind = read(mem, s, Region::TailKind, at);
     let state = read(mem, s, Region::TailState, at);
     ends(kind, state)
+}
+
+// Whether a mask has no bit, or one at or above the column count.
+pub fn bad_mask(columns: usize, mask: u32) -> bool
+    requires { ⌜ columns ≤ 16 ⌝ }
+    ensures { λ r. ⌜ r ≡ (eqb mask 0 || leb (2 ^ columns) mask) ⌝ }
+{
+    if mask == 0 {
+        return true;
+    }
+    mask >> columns != 0
+}
+
+// Whether the range g lacks n more tail records.
+pub fn lacks_records(mem: &[u8], s: Sizes, g: usize, n: u32) -> bool
+    requires { ⌜ need s * 4 ≤ length (now mem) ⌝ }
+    requires { ⌜ g < s .ranges ⌝ }
+    ensures { λ r. ⌜ r ≡ ltb (s .capacity) (usedIn (view s (words (now (mem .entry)))) g + n) ⌝ }
+{
+    let used = read(mem, s, Region::Used, g) as usize;
+    used + n as usize > s.capacity
 }
 
 // Whether a tail record of range g after `low`, up to `through`, belongs to an open transaction: not all their states are 1 or more.

@@ -17,6 +17,7 @@ use Rattle.layout.specs.Sizes.{sizesOf}
 use Rattle.layout.specs.View.{View, view}
 use Rattle.layout.proofs.Limits.{limited, need-small}
 use Rattle.loops.proofs.Search.{and-true}
+use Rattle.loops.specs.declared.Found.{Found}
 use Rattle.history.specs.History.{rangeOf, noColumn, noRange}
 use Rattle.facts.specs.Facts.{used, inUse, linksHold, rowLinked, rangeLinked, recordLinked, pagesPlaced, pagePlaced, lineagesWithin, lineageWithin, pageRange}
 use Rattle.facts.specs.Usable.{shapeIn, sizesIn}
@@ -31,7 +32,9 @@ use Rattle.model.specs.Calls.{notGivenIn}
 use Rattle.model.specs.Asked as A
 use Rattle.model.specs.Asked.{Proper, Linked, Pooled}
 use Rattle.rows.proofs.Indices.{place-in}
+use Rattle.rows.proofs.Cases.{found-at, found-nothing}
 use Rattle.entry.specs.Fitted.{Fitted}
+use Rattle.entry.specs.Given.{rangeGiven}
 
 proper-of : (p : Shape) → withinLimits p ≡ true → Proper (sizesOf p)
 proper-of p e =
@@ -113,6 +116,14 @@ fit-tells s m x =
 pub given-tells : (v : View) (r : ℕ) → notGivenIn v r ≡ false → r < headerIn v rowsGiven
 unfolding notGivenIn
 given-tells v r e = leb-false (headerIn v rowsGiven) r e
+
+pub row-given : (v : View) (r g : ℕ) → rangeGiven v r ≡ Found.At g → (notGivenIn v r ≡ false) × (g ≡ rangeOf r)
+unfolding rangeGiven
+row-given v r g e = found-at (notGivenIn v r) (rangeOf r) g e
+
+pub row-missing : (v : View) (r : ℕ) → rangeGiven v r ≡ Found.Nothing → notGivenIn v r ≡ true
+unfolding rangeGiven
+row-missing v r e = found-nothing (notGivenIn v r) (rangeOf r) e
 
 pub column-tells : (s : Sizes) (c : ℕ) → noColumn (A.shapeIn s) c ≡ false → c < s .columns
 unfolding noColumn

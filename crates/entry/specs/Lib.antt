@@ -1,2 +1,3 @@
 -- What a memory that passed the test gives a call.
 pub mod Fitted
+pub mod Given

@@ -4,7 +4,9 @@ use layout::HEADER_ROWS;
 use layout::HEADER_STAMP;
 use layout::Region;
 use layout::Sizes;
+use loops::Found;
 use regions::read;
+use rows::range_of;
 use terms::Row;
 use terms::Stamp;
 ghost use mathlib.Core.Path.{_≡_};
@@ -15,8 +17,9 @@ ghost use Rattle.layout.specs.Regions.{need};
 ghost use Rattle.layout.specs.View.{view};
 ghost use Rattle.history.specs.History.{noColumn, noRange};
 ghost use Rattle.model.specs.Stored.{headerIn, lastStamp};
-ghost use Rattle.model.specs.Calls.{notGivenIn, notLaterIn, laterIn};
+ghost use Rattle.model.specs.Calls.{notLaterIn, laterIn};
 ghost use Rattle.model.specs.Asked.{shapeIn};
+ghost use Rattle.entry.specs.Given.{rangeGiven};
 
 // The stamp of the last commit.
 pub fn last_stamp(mem: &[u8], s: Sizes) -> Stamp
@@ -26,12 +29,15 @@ pub fn last_stamp(mem: &[u8], s: Sizes) -> Stamp
     Stamp(read(mem, s, Region::Header, HEADER_STAMP))
 }
 
-// 5: the row's number is not yet given.
-pub fn not_given(mem: &[u8], s: Sizes, row: Row) -> bool
+// The range of a row, or nothing where the row's number is not yet given: 5.
+pub fn given_range(mem: &[u8], s: Sizes, row: Row) -> Found
     requires { ⌜ need s * 4 ≤ length (now mem) ⌝ }
-    ensures { λ r. ⌜ r ≡ notGivenIn (view s (words (now (mem .entry)))) (row .0) ⌝ }
+    ensures { λ r. ⌜ r ≡ rangeGiven (view s (words (now (mem .entry)))) (row .0) ⌝ }
 {
-    read(mem, s, Region::Header, HEADER_ROWS) <= row.0
+    if read(mem, s, Region::Header, HEADER_ROWS) <= row.0 {
+        return Found::Nothing;
+    }
+    Found::At(range_of(row))
 }
 
 // 6: not below the column count.

@@ -6,7 +6,7 @@ use mathlib.Core.List.{List, [], _∷_, _++_, map}
 use native.Mathlib.Omega.{arith}
 use native.Mathlib.Nat.{zero-add}
 use lib.Dec.{leb, ltb}
-use lib.ListN.{length, getD, replicate}
+use lib.ListN.{length, getD, take, replicate}
 use lib.Seq.{take-all}
 use borrow.Author.Tests.{lt-ltb, le-ltb, le-leb, lt-leb, leb-true, leb-false}
 use Rattle.terms.specs.Measures.{mostScans}
@@ -23,7 +23,7 @@ use Rattle.layout.proofs.View.{view-long}
 use Rattle.scans.specs.declared.Scans.{Scans}
 use Rattle.scans.specs.Places.{openCount, everyOpen, differ}
 use Rattle.scans.specs.Table.{tableOf}
-use Rattle.scans.proofs.Answers.{table-at-most, table-differ, differ-zeros}
+use Rattle.scans.proofs.Answers.{table-at-most, table-differ}
 
 -- a region from its first word to its last is the region
 pub whole : (s : Sizes) (m : List ℕ) (k : Region) (n : ℕ) → need s * 4 ≤ length m → len s k ≡ n → region (view s (words m) k) 0 n ≡ view s (words m) k
@@ -63,6 +63,10 @@ module _ (t : Scans) (ps : List Place) (same : t ≡ tableOf ps) where
   unfolding tableOf
   more-told = rw same (few-told ps)
 
+  pub count-told : t .count ≤ 16
+  unfolding tableOf
+  count-told = rw same (omega arith)
+
   pub numbers-told : (b : ℕ) → openCount ps ≤ mostScans → allBetween 0 b (t .numbers) ≡ everyOpen (λ p. leb (p .number) b) ps
   unfolding tableOf
   numbers-told b few = rw same (table-at-most ps few (λ p. p .number) b)
@@ -75,5 +79,5 @@ module _ (t : Scans) (ps : List Place) (same : t ≡ tableOf ps) where
   unfolding tableOf
   merges-told b few = rw same (table-at-most ps few (λ p. p .merges) b)
 
-  pub differ-told : openCount ps ≤ mostScans → differ (t .numbers) ≡ differ (map (λ p. p .number) ps)
+  pub differ-told : openCount ps ≤ mostScans → differ (take (t .count) (t .numbers)) ≡ differ (map (λ p. p .number) ps)
   differ-told few = rw same (table-differ ps few)

@@ -32,6 +32,7 @@ sized p e =
     let d : p .columns * p .ranges ≤ 16 * 16 = mul-le-mul (l .columns-to) (l .ranges-to) in
     record {
       columns-from = l .columns-from;
+      columns-to = l .columns-to;
       ranges-to = l .ranges-to;
       ranges-from = l .ranges-from;
       capacity-to = l .capacity-to;

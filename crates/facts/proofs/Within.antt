@@ -30,3 +30,9 @@ place-range s w z =
     let b : w % s .places < s .places = mod-lt w (places-some s z) in
     let c : w % s .places < s .ranges * s .columns = omega (arith, z .places-are, mul-comm (s .columns) (s .ranges)) in
     (div-lt-iff-lt-mul {k = s .columns} {x = w % s .places} {y = s .ranges} (z .columns-from)) .1 c
+
+-- the places are at most as many as an inverse of the columns serves
+pub place-few : (s : Sizes) (w : ℕ) → Sized s → w % s .places < 256
+place-few s w z =
+    let a : s .columns * s .ranges ≤ 16 * 16 = mul-le-mul (z .columns-to) (z .ranges-to) in
+    let b : w % s .places < s .places = mod-lt w (places-some s z) in omega (arith, z .places-are)

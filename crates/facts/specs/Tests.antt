@@ -1,29 +1,30 @@
 -- What the functions that test the facts cite in their contracts beside the facts: sizes that a shape within the limits makes, counts that are within them,
--- and the facts of one index by name, so that one loop tests each of them. Nothing here is needed to read the facts.
+-- and the facts in the order in which the memory is gone through. Nothing here is needed to read the facts.
 use Prim.Native.Nat.{ℕ, _+_, _*_, _≤_, _<_}
 use mathlib.Core.Path.{_≡_}
-use mathlib.Core.Bool.{Bool, true}
-use mathlib.Core.List.{List}
+use mathlib.Core.Bool.{Bool, true, _&&_}
+use mathlib.Core.List.{List, map}
+use lib.Dec.{leb}
 use lib.ListN.{length, getD}
 use Rattle.layout.specs.declared.Sizes.{Sizes}
 use Rattle.layout.specs.declared.Region.{Region}
-use Rattle.layout.specs.declared.Region.the-variants.{Used}
+use Rattle.layout.specs.declared.Region.the-variants.{Opens, RowTransaction, RowStamp, TailTransaction, TailStamp, PageReplaced, PageNewest}
 use Rattle.terms.specs.Measures.{withinLimits}
+use Rattle.terms.specs.declared.Place.{Place}
 use Rattle.words.specs.Words.{words}
-use Rattle.layout.specs.Regions.{len, need}
+use Rattle.loops.specs.Search.{allBetween}
+use Rattle.layout.specs.Regions.{need}
 use Rattle.layout.specs.View.{View, view}
-use Rattle.facts.specs.declared.Fact.{Fact}
-use Rattle.facts.specs.declared.Fact.the-variants.{RowNamed, RowLinked, RecordLinked, PageAtMost, PagePlaced, LineageWithin}
-use Rattle.facts.specs.declared.RangeFact.{RangeFact}
-use Rattle.facts.specs.declared.RangeFact.the-variants.{NamesRows, Linked, Between}
 use Rattle.facts.specs.declared.Checked.{Checked}
 use Rattle.facts.specs.declared.Checked.the-variants.{Fit, Unfit}
 use Rattle.facts.specs.Usable.{shapeIn, sizesIn}
-use Rattle.facts.specs.Facts.{storedWithin, recordsNameRows, linksHold, pagesPlaced, lineagesWithin, rowsGiven, used, rowNamed, rowLinked, recordLinked, pageAtMost, pagePlaced, lineageWithin, rangeNamesRows, rangeLinked, rangeBetween}
+use Rattle.scans.specs.Places.{everyOpen, differ}
+use Rattle.facts.specs.Facts.{storedWithin, recordsNameRows, linksHold, pagesPlaced, lineagesWithin, each, rowsGiven, transactionsGiven, scansGiven, lastStamp, mergesMade, used, inUse, waiting, rowLinked, rowsBetween, rangeBetween, rangeNamesRows, rangeLinked, pageAtMost}
 
 -- sizes that a shape within the limits makes
 pub record Sized (s : Sizes) : Type 0 where
   pub columns-from : 1 ≤ s .columns
+  pub columns-to : s .columns ≤ 16
   pub ranges-to : s .ranges ≤ 16
   pub ranges-from : 1 ≤ s .ranges
   pub capacity-to : s .capacity ≤ 512
@@ -63,30 +64,32 @@ abbrev pub Safe : Checked → List ℕ → Type 0
 Safe (Fit s) m = Passed s m
 Safe Unfit m = Unit {0}
 
--- a fact of one index, and the indices that it may be asked of
-abbrev pub holdsAt : Sizes → View → Fact → ℕ → Bool
-holdsAt s v (RowNamed g) i = rowNamed s v g i
-holdsAt s v RowLinked r = rowLinked s v r
-holdsAt s v (RecordLinked g) i = recordLinked s v g i
-holdsAt s v (PageAtMost least k most) p = pageAtMost v least k most p
-holdsAt s v PagePlaced i = pagePlaced s v i
-holdsAt s v LineageWithin p = lineageWithin s v p
+-- ---- the facts by what they speak of
 
-abbrev pub Reaches : Sizes → View → Fact → ℕ → Type 0
-Reaches s v (RowNamed g) i = (g < s .ranges) × (i < used v g)
-Reaches s v RowLinked r = r < rowsGiven v
-Reaches s v (RecordLinked g) i = (g < s .ranges) × (i < used v g)
-Reaches s v (PageAtMost least k most) p = (p < s .pages) × (len s k ≡ s .pages)
-Reaches s v PagePlaced i = i < s .places
-Reaches s v LineageWithin p = p < s .pages
+-- the used tail records of range g
+unfoldable pub rangeHolds : Sizes → View → ℕ → Bool
+rangeHolds s v g =
+    rangeNamesRows s v g
+    && (rangeBetween s v TailTransaction 1 (transactionsGiven v) g && (rangeLinked s v g && rangeBetween s v TailStamp 0 (lastStamp v) g))
 
--- a fact of all records of a range
-abbrev pub rangeHolds : Sizes → View → RangeFact → ℕ → Bool
-rangeHolds s v NamesRows g = rangeNamesRows s v g
-rangeHolds s v Linked g = rangeLinked s v g
-rangeHolds s v (Between k low high) g = rangeBetween s v k low high g
+-- the given rows
+unfoldable pub rowsHold : Sizes → View → Bool
+rowsHold s v =
+    rowsBetween v RowTransaction 1 (transactionsGiven v) && (each (rowsGiven v) (rowLinked s v) && rowsBetween v RowStamp 0 (lastStamp v))
 
-abbrev pub RangeReaches : Sizes → RangeFact → Type 0
-RangeReaches s NamesRows = Unit {0}
-RangeReaches s Linked = Unit {0}
-RangeReaches s (Between k low high) = len s k ≡ s .slots
+-- the pages
+unfoldable pub pagesHold : Sizes → View → Bool
+pagesHold s v =
+    each (s .pages) (pageAtMost v inUse PageNewest (lastStamp v))
+    && (each (s .pages) (pageAtMost v waiting PageReplaced (mergesMade v)) && (pagesPlaced s v && lineagesWithin s v))
+
+-- the open transactions
+unfoldable pub opensHold : View → Bool
+opensHold v = allBetween 0 (transactionsGiven v) (v Opens) && differ (v Opens)
+
+-- the open scans
+unfoldable pub scansHold : View → List Place → Bool
+scansHold v ps =
+    everyOpen (λ p. leb (p .number) (scansGiven v)) ps
+    && (everyOpen (λ p. leb (p .stamp) (lastStamp v)) ps
+    && (everyOpen (λ p. leb (p .merges) (mergesMade v)) ps && differ (map (λ p. p .number) ps)))

@@ -24,9 +24,9 @@ use scans::all_differ;
 use scans::at_most;
 use words::get;
 ghost use mathlib.Core.Path.{_≡_};
-ghost use mathlib.Core.Bool.{_&&_, not, true};
+ghost use mathlib.Core.Bool.{_&&_, _||_, not, true};
 ghost use mathlib.Core.List.{List, _++_};
-ghost use Prim.Native.Nat.{ℕ, _+_, _*_, _≤_, _<_};
+ghost use Prim.Native.Nat.{ℕ, _+_, _*_, _/_, _%_, _≤_, _<_, min};
 ghost use lib.ListN.{length, replicate};
 ghost use Rattle.terms.specs.declared.Place.{Place};
 ghost use Rattle.terms.specs.Measures.{mostScans};
@@ -36,31 +36,14 @@ ghost use Rattle.layout.specs.declared.Region.the-variants.{Opens};
 ghost use Rattle.layout.specs.View.{view};
 ghost use Rattle.scans.specs.Places.{openCount};
 ghost use Rattle.scans.specs.Table.{tableOf};
-ghost use Rattle.facts.specs.Facts.{rowsGiven, used, firstSlot, rowsBetween, rowNamed, linkHolds, rowLinked, recordLinked, pageAtMost, pagePlaced, lineageWithin, each, storedWithin, numbersGiven, linksHold, stampsWithin, mergesWithin, openDiffer, factsHold};
+ghost use Rattle.facts.specs.Facts.{rowsGiven, used, firstSlot, each, rowsBetween, rangeBetween, rangeNamesRows, linkHolds, rowLinked, recordLinked, rangeLinked, pageAtMost, pagePlaced, pagesPlaced, lineageWithin, lineagesWithin, storedWithin, factsHold};
 ghost use Rattle.facts.specs.Usable.{checked};
-ghost use Rattle.facts.specs.Tests.{Sized, Ready, MemoryFacts, Safe, holdsAt, Reaches, rangeHolds, RangeReaches};
+ghost use Rattle.facts.specs.Tests.{Sized, Ready, MemoryFacts, Safe, rangeHolds, rowsHold, pagesHold, opensHold, scansHold};
 
 // What the test finds: the sizes of the store, or that the memory is not usable.
 pub enum Checked {
     Fit(Sizes),
     Unfit,
-}
-
-// A fact of one index: of a tail record after others of a range, of a row, of a page, of a place of the current pages. One loop tests each.
-pub enum Fact {
-    RowNamed(usize),
-    RowLinked,
-    RecordLinked(usize),
-    PageAtMost(u32, Region, u32),
-    PagePlaced,
-    LineageWithin,
-}
-
-// A fact of all used tail records of a range.
-pub enum RangeFact {
-    NamesRows,
-    Linked,
-    Between(Region, u32, u32),
 }
 
 const PAGE_CURRENT: u32 = 1;
@@ -78,6 +61,15 @@ fn both(a: bool, b: bool) -> bool
     if a { b } else { false }
 }
 
+// One of two flags at least, with no way out early.
+fn either(a: bool, b: bool) -> bool
+    ensures { λ r. ⌜ r ≡ (a || b) ⌝ }
+{
+    if a { true } else { b }
+}
+
+// ---- the records of a range
+
 // Where the first tail record of a range lies.
 fn first_slot(s: Sizes, g: usize) -> usize
     requires { ⌜ Sized s × (g < s .ranges) ⌝ }
@@ -86,15 +78,40 @@ fn first_slot(s: Sizes, g: usize) -> usize
     g * s.capacity
 }
 
-// Whether record i of range g, counted from 0, names a given row of the range.
-fn row_named(mem: &[u8], s: Sizes, g: usize, i: usize) -> bool
+// Whether a word of each used record of range g is from low to high.
+fn records_between(mem: &[u8], s: Sizes, k: Region, low: u32, high: u32, g: usize) -> bool
     requires { ⌜ Ready s (now mem) ⌝ }
-    requires { ⌜ (g < s .ranges) × (i < used (view s (words (now mem))) g) ⌝ }
-    ensures { λ r. ⌜ r ≡ rowNamed s (view s (words (now (mem .entry)))) g i ⌝ }
+    requires { ⌜ (g < s .ranges) × (len s k ≡ s .slots) ⌝ }
+    ensures { λ r. ⌜ r ≡ rangeBetween s (view s (words (now (mem .entry)))) k low high g ⌝ }
 {
-    let row = read(mem, s, Region::TailRow, first_slot(s, g) + i);
+    let n = read(mem, s, Region::Used, g) as usize;
+    between_in(mem, s, k, first_slot(s, g), n, low, high)
+}
+
+// The last given row of a range whose first row is `first`, and is given.
+fn last_row(first: u32, given: u32) -> u32
+    requires { ⌜ (first < given) × (first < 65536) ⌝ }
+    ensures { λ r. ⌜ r + 1 ≡ min given (first + 64) ⌝ }
+{
+    if given < first + 64 {
+        given - 1
+    } else {
+        first + 63
+    }
+}
+
+// Whether each used record of range g names a given row of the range: these rows are neighbours, so two bounds tell it.
+fn records_named(mem: &[u8], s: Sizes, g: usize) -> bool
+    requires { ⌜ Ready s (now mem) ⌝ }
+    requires { ⌜ g < s .ranges ⌝ }
+    ensures { λ r. ⌜ r ≡ rangeNamesRows s (view s (words (now (mem .entry)))) g ⌝ }
+{
     let given = read(mem, s, Region::Header, HEADER_ROWS);
-    both(row < given, row as usize / RANGE_ROWS == g)
+    let first = (g * RANGE_ROWS) as u32;
+    if given <= first {
+        return read(mem, s, Region::Used, g) == 0;
+    }
+    records_between(mem, s, Region::TailRow, first, last_row(first, given), g)
 }
 
 // Whether a link of a row, in range g, is 0 or a record of that row up to number `most`. A record is looked up only where its number is not above that.
@@ -118,17 +135,6 @@ fn link_holds(mem: &[u8], s: Sizes, g: usize, most: u32, row: u32, link: u32) ->
         == row
 }
 
-fn row_linked(mem: &[u8], s: Sizes, r: usize) -> bool
-    requires { ⌜ Ready s (now mem) ⌝ }
-    requires { ⌜ r < rowsGiven (view s (words (now mem))) ⌝ }
-    ensures { λ b. ⌜ b ≡ rowLinked s (view s (words (now (mem .entry)))) r ⌝ }
-{
-    let g = r / RANGE_ROWS;
-    let most = read(mem, s, Region::Used, g);
-    let link = read(mem, s, Region::RowLink, r);
-    link_holds(mem, s, g, most, r as u32, link)
-}
-
 fn record_linked(mem: &[u8], s: Sizes, g: usize, i: usize) -> bool
     requires { ⌜ Ready s (now mem) ⌝ }
     requires { ⌜ (g < s .ranges) × (i < used (view s (words (now mem))) g) ⌝ }
@@ -140,16 +146,129 @@ fn record_linked(mem: &[u8], s: Sizes, g: usize, i: usize) -> bool
     link_holds(mem, s, g, i as u32, row, link)
 }
 
-// Whether word k of a page is at most a number, unless the page's state is below one that counts.
+// Whether the link of each used record of range g holds. In this loop and the others here one flag is carried to the end.
+fn records_linked(mem: &[u8], s: Sizes, g: usize) -> bool
+    requires { ⌜ Ready s (now mem) ⌝ }
+    requires { ⌜ g < s .ranges ⌝ }
+    ensures { λ r. ⌜ r ≡ rangeLinked s (view s (words (now (mem .entry)))) g ⌝ }
+{
+    let n = read(mem, s, Region::Used, g) as usize;
+    let mut ok = true;
+    let mut i = 0;
+    while i < n {
+        ok = both(ok, record_linked(mem, s, g, i));
+        i += 1;
+    }
+    ok
+}
+
+// The facts of the used records of range g.
+fn range_holds(mem: &[u8], s: Sizes, g: usize) -> bool
+    requires { ⌜ Ready s (now mem) ⌝ }
+    requires { ⌜ g < s .ranges ⌝ }
+    ensures { λ r. ⌜ r ≡ rangeHolds s (view s (words (now (mem .entry)))) g ⌝ }
+{
+    let given = read(mem, s, Region::Header, HEADER_TRANSACTIONS);
+    let last = read(mem, s, Region::Header, HEADER_STAMP);
+    let named = records_named(mem, s, g);
+    let numbers = records_between(mem, s, Region::TailTransaction, 1, given, g);
+    let links = records_linked(mem, s, g);
+    let stamps = records_between(mem, s, Region::TailStamp, 0, last, g);
+    both(named, both(numbers, both(links, stamps)))
+}
+
+// The facts of the used records, range by range.
+fn ranges_hold(mem: &[u8], s: Sizes) -> bool
+    requires { ⌜ Ready s (now mem) ⌝ }
+    ensures { λ r. ⌜ r ≡ each (s .ranges) (rangeHolds s (view s (words (now (mem .entry))))) ⌝ }
+{
+    let n = s.ranges;
+    let mut ok = true;
+    let mut g = 0;
+    while g < n {
+        ok = both(ok, range_holds(mem, s, g));
+        g += 1;
+    }
+    ok
+}
+
+// ---- the rows
+
+// Whether a word of each given row is from low to high.
+fn rows_between(mem: &[u8], s: Sizes, k: Region, low: u32, high: u32) -> bool
+    requires { ⌜ Ready s (now mem) ⌝ }
+    requires { ⌜ len s k ≡ s .rows ⌝ }
+    ensures { λ r. ⌜ r ≡ rowsBetween (view s (words (now (mem .entry)))) k low high ⌝ }
+{
+    let given = read(mem, s, Region::Header, HEADER_ROWS) as usize;
+    between_in(mem, s, k, 0, given, low, high)
+}
+
+fn row_linked(mem: &[u8], s: Sizes, r: usize) -> bool
+    requires { ⌜ Ready s (now mem) ⌝ }
+    requires { ⌜ r < rowsGiven (view s (words (now mem))) ⌝ }
+    ensures { λ b. ⌜ b ≡ rowLinked s (view s (words (now (mem .entry)))) r ⌝ }
+{
+    let g = r / RANGE_ROWS;
+    let most = read(mem, s, Region::Used, g);
+    let link = read(mem, s, Region::RowLink, r);
+    link_holds(mem, s, g, most, r as u32, link)
+}
+
+// Whether the link of each given row holds.
+fn rows_linked(mem: &[u8], s: Sizes) -> bool
+    requires { ⌜ Ready s (now mem) ⌝ }
+    ensures { λ r. ⌜ r ≡ each (rowsGiven (view s (words (now (mem .entry))))) (rowLinked s (view s (words (now (mem .entry))))) ⌝ }
+{
+    let n = read(mem, s, Region::Header, HEADER_ROWS) as usize;
+    let mut ok = true;
+    let mut r = 0;
+    while r < n {
+        ok = both(ok, row_linked(mem, s, r));
+        r += 1;
+    }
+    ok
+}
+
+// The facts of the given rows.
+fn rows_hold(mem: &[u8], s: Sizes) -> bool
+    requires { ⌜ Ready s (now mem) ⌝ }
+    ensures { λ r. ⌜ r ≡ rowsHold s (view s (words (now (mem .entry)))) ⌝ }
+{
+    let given = read(mem, s, Region::Header, HEADER_TRANSACTIONS);
+    let last = read(mem, s, Region::Header, HEADER_STAMP);
+    let numbers = rows_between(mem, s, Region::RowTransaction, 1, given);
+    let links = rows_linked(mem, s);
+    let stamps = rows_between(mem, s, Region::RowStamp, 0, last);
+    both(numbers, both(links, stamps))
+}
+
+// ---- the pages
+
+// Whether word k of a page is at most a number, unless the page's state is below one that counts. Both words are read, so that the loop vectorises.
 fn page_at_most(mem: &[u8], s: Sizes, least: u32, k: Region, most: u32, p: usize) -> bool
     requires { ⌜ Ready s (now mem) ⌝ }
     requires { ⌜ (p < s .pages) × (len s k ≡ s .pages) ⌝ }
     ensures { λ r. ⌜ r ≡ pageAtMost (view s (words (now (mem .entry)))) least k most p ⌝ }
 {
-    if read(mem, s, Region::PageState, p) < least {
-        return true;
+    let state = read(mem, s, Region::PageState, p);
+    let word = read(mem, s, k, p);
+    either(state < least, word <= most)
+}
+
+fn pages_at_most(mem: &[u8], s: Sizes, least: u32, k: Region, most: u32) -> bool
+    requires { ⌜ Ready s (now mem) ⌝ }
+    requires { ⌜ len s k ≡ s .pages ⌝ }
+    ensures { λ r. ⌜ r ≡ each (s .pages) (pageAtMost (view s (words (now (mem .entry)))) least k most) ⌝ }
+{
+    let n = s.pages;
+    let mut ok = true;
+    let mut p = 0;
+    while p < n {
+        ok = both(ok, page_at_most(mem, s, least, k, most, p));
+        p += 1;
     }
-    read(mem, s, k, p) <= most
+    ok
 }
 
 // Whether place i has a page of the pool that is current and says so of that place.
@@ -167,162 +286,87 @@ fn page_placed(mem: &[u8], s: Sizes, i: usize) -> bool
     both(state == PAGE_CURRENT, place as usize == i)
 }
 
-fn lineage_within(mem: &[u8], s: Sizes, p: usize) -> bool
+fn pages_placed(mem: &[u8], s: Sizes) -> bool
     requires { ⌜ Ready s (now mem) ⌝ }
-    requires { ⌜ p < s .pages ⌝ }
-    ensures { λ r. ⌜ r ≡ lineageWithin s (view s (words (now (mem .entry)))) p ⌝ }
+    ensures { λ r. ⌜ r ≡ pagesPlaced s (view s (words (now (mem .entry)))) ⌝ }
 {
-    if read(mem, s, Region::PageState, p) < PAGE_CURRENT {
-        return true;
-    }
-    let place = read(mem, s, Region::PagePlace, p) as usize;
-    let g = place % s.places / s.columns;
-    let most = read(mem, s, Region::Used, g);
-    read(mem, s, Region::PageLineage, p) <= most
-}
-
-// Whether a word of each given row is from low to high.
-fn rows_between(mem: &[u8], s: Sizes, k: Region, low: u32, high: u32) -> bool
-    requires { ⌜ Ready s (now mem) ⌝ }
-    requires { ⌜ len s k ≡ s .rows ⌝ }
-    ensures { λ r. ⌜ r ≡ rowsBetween (view s (words (now (mem .entry)))) k low high ⌝ }
-{
-    let given = read(mem, s, Region::Header, HEADER_ROWS) as usize;
-    between_in(mem, s, k, 0, given, low, high)
-}
-
-fn holds(mem: &[u8], s: Sizes, f: Fact, i: usize) -> bool
-    requires { ⌜ Ready s (now mem) ⌝ }
-    requires { ⌜ Reaches s (view s (words (now mem))) f i ⌝ }
-    ensures { λ r. ⌜ r ≡ holdsAt s (view s (words (now (mem .entry)))) f i ⌝ }
-{
-    match f {
-        Fact::RowNamed(g) => row_named(mem, s, g, i),
-        Fact::RowLinked => row_linked(mem, s, i),
-        Fact::RecordLinked(g) => record_linked(mem, s, g, i),
-        Fact::PageAtMost(least, k, most) => page_at_most(mem, s, least, k, most, i),
-        Fact::PagePlaced => page_placed(mem, s, i),
-        Fact::LineageWithin => lineage_within(mem, s, i),
-    }
-}
-
-// Whether a fact holds of each index below n. One flag is carried to the end.
-fn all_hold(mem: &[u8], s: Sizes, f: Fact, n: usize) -> bool
-    requires { ⌜ Ready s (now mem) ⌝ }
-    requires { ⌜ ((i : ℕ) → i < n → Reaches s (view s (words (now mem))) f i) ⌝ }
-    ensures { λ r. ⌜ r ≡ each n (holdsAt s (view s (words (now (mem .entry)))) f) ⌝ }
-{
+    let n = s.places;
     let mut ok = true;
     let mut i = 0;
     while i < n {
-        ok = both(ok, holds(mem, s, f, i));
+        ok = both(ok, page_placed(mem, s, i));
         i += 1;
     }
     ok
 }
 
-fn range_holds(mem: &[u8], s: Sizes, f: RangeFact, g: usize) -> bool
-    requires { ⌜ Ready s (now mem) ⌝ }
-    requires { ⌜ (g < s .ranges) × RangeReaches s f ⌝ }
-    ensures { λ r. ⌜ r ≡ rangeHolds s (view s (words (now (mem .entry)))) f g ⌝ }
+// A word modulo the places. A division only where it is needed: a place that the store has written is below them.
+fn modulo_places(word: u32, places: u32) -> u32
+    requires { ⌜ 1 ≤ places ⌝ }
+    ensures { λ r. ⌜ r ≡ word % places ⌝ }
 {
-    let n = read(mem, s, Region::Used, g) as usize;
-    match f {
-        RangeFact::NamesRows => all_hold(mem, s, Fact::RowNamed(g), n),
-        RangeFact::Linked => all_hold(mem, s, Fact::RecordLinked(g), n),
-        RangeFact::Between(k, low, high) => between_in(mem, s, k, first_slot(s, g), n, low, high),
-    }
+    if word < places { word } else { word % places }
 }
 
-// Whether a fact holds of the used tail records of every range.
-fn ranges_hold(mem: &[u8], s: Sizes, f: RangeFact) -> bool
-    requires { ⌜ Ready s (now mem) ⌝ }
-    requires { ⌜ RangeReaches s f ⌝ }
-    ensures { λ r. ⌜ r ≡ each (s .ranges) (rangeHolds s (view s (words (now (mem .entry)))) f) ⌝ }
+// What a place is multiplied by in place of a division by the columns, and shifted by 16 bits.
+fn inverse_of(columns: usize) -> u32
+    requires { ⌜ (1 ≤ columns) × (columns ≤ 16) ⌝ }
+    ensures { λ r. ⌜ (r ≡ 65536 / columns + 1) × (r ≤ 65537) ⌝ }
 {
-    let n = s.ranges;
+    65536 / columns as u32 + 1
+}
+
+// The range of a place, by the inverse of the columns.
+fn range_of_place(place: u32, inverse: u32) -> usize
+    requires { ⌜ (place < 256) × (inverse ≤ 65537) ⌝ }
+    ensures { λ r. ⌜ ((c : ℕ) → 1 ≤ c → c ≤ 16 → inverse ≡ 65536 / c + 1 → r ≡ place / c) ⌝ }
+{
+    (place * inverse / 65536) as usize
+}
+
+fn lineage_within(mem: &[u8], s: Sizes, inverse: u32, p: usize) -> bool
+    requires { ⌜ Ready s (now mem) ⌝ }
+    requires { ⌜ (p < s .pages) × (inverse ≡ 65536 / s .columns + 1) × (inverse ≤ 65537) ⌝ }
+    ensures { λ r. ⌜ r ≡ lineageWithin s (view s (words (now (mem .entry)))) p ⌝ }
+{
+    if read(mem, s, Region::PageState, p) < PAGE_CURRENT {
+        return true;
+    }
+    let place = modulo_places(read(mem, s, Region::PagePlace, p), s.places as u32);
+    let most = read(mem, s, Region::Used, range_of_place(place, inverse));
+    read(mem, s, Region::PageLineage, p) <= most
+}
+
+fn lineages_within(mem: &[u8], s: Sizes) -> bool
+    requires { ⌜ Ready s (now mem) ⌝ }
+    ensures { λ r. ⌜ r ≡ lineagesWithin s (view s (words (now (mem .entry)))) ⌝ }
+{
+    let inverse = inverse_of(s.columns);
+    let n = s.pages;
     let mut ok = true;
-    let mut g = 0;
-    while g < n {
-        ok = both(ok, range_holds(mem, s, f, g));
-        g += 1;
+    let mut p = 0;
+    while p < n {
+        ok = both(ok, lineage_within(mem, s, inverse, p));
+        p += 1;
     }
     ok
 }
 
-// Whether the counts of the memory are within the measures, and no more scans are open than may be.
-fn counts_within(mem: &[u8], s: Sizes, t: Scans) -> bool
-    requires { ⌜ (need s * 4 ≤ length (now mem)) × Sized s ⌝ }
-    ensures { λ r. ⌜ r ≡ (storedWithin s (view s (words (now (mem .entry)))) && not (t .more)) ⌝ }
-{
-    let rows = read(mem, s, Region::Header, HEADER_ROWS) as usize <= s.rows;
-    let used = between_in(mem, s, Region::Used, 0, s.ranges, 0, s.capacity as u32);
-    let transactions = read(mem, s, Region::Header, HEADER_TRANSACTIONS) <= MOST_NUMBERS;
-    let scans = read(mem, s, Region::Header, HEADER_SCANS) <= MOST_NUMBERS;
-    both(both(rows, both(used, both(transactions, scans))), !t.more)
-}
-
-fn numbers_given(mem: &[u8], s: Sizes, t: Scans) -> bool
+// The facts of the pages.
+fn pages_hold(mem: &[u8], s: Sizes) -> bool
     requires { ⌜ Ready s (now mem) ⌝ }
-    ensures { λ r. ⌜ ((ps : List Place) → t ≡ tableOf ps → openCount ps ≤ mostScans → r ≡ numbersGiven s (view s (words (now (mem .entry)))) ps) ⌝ }
-{
-    let given = read(mem, s, Region::Header, HEADER_TRANSACTIONS);
-    let rows = rows_between(mem, s, Region::RowTransaction, 1, given);
-    let records = ranges_hold(
-        mem,
-        s,
-        RangeFact::Between(Region::TailTransaction, 1, given),
-    );
-    let opens = between_in(mem, s, Region::Opens, 0, MOST_TRANSACTIONS, 0, given);
-    let scans_given = read(mem, s, Region::Header, HEADER_SCANS);
-    let numbers = t.numbers;
-    let scans = at_most(numbers, scans_given);
-    both(rows, both(records, both(opens, scans)))
-}
-
-fn links_hold(mem: &[u8], s: Sizes) -> bool
-    requires { ⌜ Ready s (now mem) ⌝ }
-    ensures { λ r. ⌜ r ≡ linksHold s (view s (words (now (mem .entry)))) ⌝ }
-{
-    let given = read(mem, s, Region::Header, HEADER_ROWS) as usize;
-    let rows = all_hold(mem, s, Fact::RowLinked, given);
-    let records = ranges_hold(mem, s, RangeFact::Linked);
-    both(rows, records)
-}
-
-fn stamps_within(mem: &[u8], s: Sizes, t: Scans) -> bool
-    requires { ⌜ Ready s (now mem) ⌝ }
-    ensures { λ r. ⌜ ((ps : List Place) → t ≡ tableOf ps → openCount ps ≤ mostScans → r ≡ stampsWithin s (view s (words (now (mem .entry)))) ps) ⌝ }
+    ensures { λ r. ⌜ r ≡ pagesHold s (view s (words (now (mem .entry)))) ⌝ }
 {
     let last = read(mem, s, Region::Header, HEADER_STAMP);
-    let rows = rows_between(mem, s, Region::RowStamp, 0, last);
-    let records = ranges_hold(mem, s, RangeFact::Between(Region::TailStamp, 0, last));
-    let pages = all_hold(
-        mem,
-        s,
-        Fact::PageAtMost(PAGE_CURRENT, Region::PageNewest, last),
-        s.pages,
-    );
-    let stamps = t.stamps;
-    let scans = at_most(stamps, last);
-    both(rows, both(records, both(pages, scans)))
+    let made = read(mem, s, Region::Header, HEADER_MERGES);
+    let stamps = pages_at_most(mem, s, PAGE_CURRENT, Region::PageNewest, last);
+    let merges = pages_at_most(mem, s, PAGE_WAITING, Region::PageReplaced, made);
+    let placed = pages_placed(mem, s);
+    let lineages = lineages_within(mem, s);
+    both(stamps, both(merges, both(placed, lineages)))
 }
 
-fn merges_within(mem: &[u8], s: Sizes, t: Scans) -> bool
-    requires { ⌜ Ready s (now mem) ⌝ }
-    ensures { λ r. ⌜ ((ps : List Place) → t ≡ tableOf ps → openCount ps ≤ mostScans → r ≡ mergesWithin s (view s (words (now (mem .entry)))) ps) ⌝ }
-{
-    let made = read(mem, s, Region::Header, HEADER_MERGES);
-    let merges = t.merges;
-    let scans = at_most(merges, made);
-    let pages = all_hold(
-        mem,
-        s,
-        Fact::PageAtMost(PAGE_WAITING, Region::PageReplaced, made),
-        s.pages,
-    );
-    both(scans, pages)
-}
+// ---- the open transactions and scans
 
 // The numbers of the open transactions, as entries of the kind that the open scans' numbers are: then zeros.
 fn opens_of(mem: &[u8], s: Sizes) -> [u32; 16]
@@ -349,14 +393,58 @@ fn opens_of(mem: &[u8], s: Sizes) -> [u32; 16]
     ]
 }
 
-fn open_differ(mem: &[u8], s: Sizes, t: Scans) -> bool
+// The facts of the open transactions.
+fn opens_hold(mem: &[u8], s: Sizes) -> bool
     requires { ⌜ need s * 4 ≤ length (now mem) ⌝ }
-    ensures { λ r. ⌜ ((ps : List Place) → t ≡ tableOf ps → openCount ps ≤ mostScans → r ≡ openDiffer (view s (words (now (mem .entry)))) ps) ⌝ }
+    ensures { λ r. ⌜ r ≡ opensHold (view s (words (now (mem .entry)))) ⌝ }
 {
+    let given = read(mem, s, Region::Header, HEADER_TRANSACTIONS);
+    let numbers = between_in(mem, s, Region::Opens, 0, MOST_TRANSACTIONS, 0, given);
     let opens = opens_of(mem, s);
-    let transactions = all_differ(opens);
+    both(numbers, all_differ(opens, MOST_TRANSACTIONS))
+}
+
+// How many entries of a table may be looked at.
+fn entries_used(t: Scans) -> usize
+    ensures { λ r. ⌜ (r ≤ 16) × (t .count ≤ 16 → r ≡ t .count) ⌝ }
+{
+    if t.count < MOST_SCANS {
+        t.count
+    } else {
+        MOST_SCANS
+    }
+}
+
+// The facts of the open scans.
+fn scans_hold(mem: &[u8], s: Sizes, t: Scans) -> bool
+    requires { ⌜ need s * 4 ≤ length (now mem) ⌝ }
+    ensures { λ r. ⌜ ((ps : List Place) → t ≡ tableOf ps → openCount ps ≤ mostScans → r ≡ scansHold (view s (words (now (mem .entry)))) ps) ⌝ }
+{
+    let given = read(mem, s, Region::Header, HEADER_SCANS);
+    let last = read(mem, s, Region::Header, HEADER_STAMP);
+    let made = read(mem, s, Region::Header, HEADER_MERGES);
     let numbers = t.numbers;
-    both(transactions, all_differ(numbers))
+    let stamps = t.stamps;
+    let merges = t.merges;
+    let number = at_most(numbers, given);
+    let stamp = at_most(stamps, last);
+    let merge = at_most(merges, made);
+    let differ = all_differ(numbers, entries_used(t));
+    both(number, both(stamp, both(merge, differ)))
+}
+
+// ---- all of them
+
+// Whether the counts of the memory are within the measures, and no more scans are open than may be.
+fn counts_within(mem: &[u8], s: Sizes, t: Scans) -> bool
+    requires { ⌜ (need s * 4 ≤ length (now mem)) × Sized s ⌝ }
+    ensures { λ r. ⌜ r ≡ (storedWithin s (view s (words (now (mem .entry)))) && not (t .more)) ⌝ }
+{
+    let rows = read(mem, s, Region::Header, HEADER_ROWS) as usize <= s.rows;
+    let used = between_in(mem, s, Region::Used, 0, s.ranges, 0, s.capacity as u32);
+    let transactions = read(mem, s, Region::Header, HEADER_TRANSACTIONS) <= MOST_NUMBERS;
+    let scans = read(mem, s, Region::Header, HEADER_SCANS) <= MOST_NUMBERS;
+    both(both(rows, both(used, both(transactions, scans))), !t.more)
 }
 
 // Whether every stored fact holds. The counts come first, since every later test looks at what they say is given and used.
@@ -366,24 +454,12 @@ fn facts_hold(mem: &[u8], s: Sizes, t: Scans) -> bool
     ensures { λ r. ⌜ (r ≡ true → MemoryFacts s (view s (words (now (mem .entry))))) ⌝ }
 {
     if counts_within(mem, s, t) {
-        let named = ranges_hold(mem, s, RangeFact::NamesRows);
-        let numbers = numbers_given(mem, s, t);
-        let links = links_hold(mem, s);
-        let stamps = stamps_within(mem, s, t);
-        let merges = merges_within(mem, s, t);
-        let differ = open_differ(mem, s, t);
-        let placed = all_hold(mem, s, Fact::PagePlaced, s.places);
-        let lineages = all_hold(mem, s, Fact::LineageWithin, s.pages);
-        both(
-            named,
-            both(
-                numbers,
-                both(
-                    links,
-                    both(stamps, both(merges, both(differ, both(placed, lineages)))),
-                ),
-            ),
-        )
+        let records = ranges_hold(mem, s);
+        let rows = rows_hold(mem, s);
+        let pages = pages_hold(mem, s);
+        let opens = opens_hold(mem, s);
+        let scans = scans_hold(mem, s, t);
+        both(records, both(rows, both(pages, both(opens, scans))))
     } else {
         false
     }

@@ -1,25 +1,15 @@
 -- The last setting in the order of the records is the one with the latest stamp: what `lastSetting` takes for document 01's "the last such value at or
--- before t". No later proof wants it; it is here for whoever compares the definitions with document 01.
+-- before t".
 use mathlib.Core.Path.{_≡_, refl, sym, _∙_}
 use mathlib.Core.Bool.{Bool, true, false, cond, _&&_}
-use mathlib.Core.List.{List, [], _∷_}
+use mathlib.Core.List.{List}
 use Prim.Native.Nat.{ℕ, _≤_}
 use lib.Dec.{T, leb, eqb, eqb→eq, le→leb}
 use Rattle.history.specs.History.{History, Record, Version, State, committed, committedBy, stateOf, rowAt, sets, seenAt, inserted, versionIn, lastSetting, versionOf}
+use Rattle.history.specs.Latest.{stampOf, setterStamp, latestSetting}
 use Rattle.history.proofs.Lists.{parts, All, nil, cons, all-map, Pairs, empty, ahead}
-use Rattle.history.proofs.States.{stampOf, Before}
+use Rattle.history.proofs.States.{Before}
 use Rattle.history.proofs.Order.{RowFollows, InOrder}
-
-unfoldable pub setterStamp : History → Version → ℕ
-setterStamp h v = stampOf (stateOf h (v .setter))
-
--- document 01's "last such value at or before t" by the stamps themselves: another setting is taken only if its stamp is not before the one found. Of one
--- transaction's settings the last is taken, "its last value".
-unfoldable pub latestSetting : History → ℕ → ℕ → ℕ → Version → List Record → Version
-latestSetting h t r c v [] = v
-latestSetting h t r c v (x ∷ xs) =
-    latestSetting h t r c
-    (cond (eqb (x .row) r && (sets c (x .content) && seenAt h t (x .transaction)) && leb (setterStamp h v) (setterStamp h (versionIn c x))) (versionIn c x) v) xs
 
 -- no record of the row that is seen at t has a stamp before v's
 abbrev NotBefore : History → ℕ → ℕ → Version → Record → Type 0

@@ -14,6 +14,5 @@ pub mod Endings
 pub mod Newest
 pub mod Masks
 pub mod Past
-pub mod Simulation
 pub mod Striking
 pub mod Stability

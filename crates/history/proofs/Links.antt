@@ -1,17 +1,16 @@
 -- A row's records by links: each record names the one before it of the same row, and a walk from the row's newest record meets exactly the row's
--- records, the newest first. What a store that keeps links has to show is `Linked`; what it gets is `walk-is`, and for a read `first-is-last`.
+-- records, the newest first. What a store that keeps links has to show is `Linked`; what it gets is `walk-is`.
 use mathlib.Core.Path.{_≡_, refl, _∙_, ap}
-use mathlib.Core.Logic.{_≢_}
-use mathlib.Core.Bool.{Bool, true, false, cond, _&&_}
-use mathlib.Core.List.{List, [], _∷_, _++_, reverse, reverse-append, reverse-cons}
+use mathlib.Core.Bool.{Bool, true, false, cond}
+use mathlib.Core.List.{List, [], _∷_, _++_, reverse, reverse-append}
 use Prim.Native.Nat.{ℕ, zero, suc, _≤_, _<_}
 use native.Mathlib.Omega.{arith}
 use native.Mathlib.Nat.{not-suc-le-zero}
 use lib.Dec.{T, eqb, eqb→eq}
 use lib.ListN.{length, getD, take, List·getD-append}
 use lib.Seq.{take-suc}
-use Rattle.history.specs.History.{Record, ending, Version, keep, sets, versionIn, lastSetting}
-use Rattle.history.proofs.Lists.{eqb-other, All, all-at, keep-append}
+use Rattle.history.specs.History.{Record, ending, keep}
+use Rattle.history.proofs.Lists.{keep-append}
 
 unfoldable pub noRecord : Record
 noRecord = record { transaction = 0; row = 0; content = ending }
@@ -25,11 +24,6 @@ pub last-of-append : (l m : List Record) (r n : ℕ) → n ≤ length l → last
 unfolding lastOf
 last-of-append l m r zero b = refl
 last-of-append l m r (suc n) b = rw (List·getD-append l m noRecord n b, last-of-append l m r n (omega arith))
-
-pub last-of-none : (l : List Record) (r n : ℕ) → All (λ (x : Record). x .row ≢ r) l → n ≤ length l → lastOf l r n ≡ 0
-unfolding lastOf
-last-of-none l r zero a b = refl
-last-of-none l r (suc n) a b = rw (eqb-other ((getD l n noRecord) .row) r (all-at a n noRecord b), last-of-none l r n a (omega arith))
 
 -- what the number tells
 pub last-of-row : (l : List Record) (r n k : ℕ) → lastOf l r n ≡ suc k → (k < n) × ((getD l k noRecord) .row ≡ r)
@@ -72,25 +66,3 @@ walk-is l links k r (suc n) (suc f) b e =
         → walk (suc f) l links (cond c (suc n) (lastOf l r n)) ≡ reverse (cond c (getD l n noRecord ∷ []) []) ++ reverse (keep (λ x. eqb (x .row) r) (take n l))
     go true q p p′ = ap {B = List Record} (λ z. getD l n noRecord ∷ z) (ap (walk f l links) (k n b ∙ ap (λ (i : ℕ). lastOf l i n) (q tt)) ∙ p)
     go false q p p′ = p′
-
--- the first setting met that is seen, else v
-unfoldable pub firstSetting : (ℕ → Bool) → ℕ → Version → List Record → Version
-firstSetting sees c v [] = v
-firstSetting sees c v (x ∷ l) = cond (sets c (x .content) && sees (x .transaction)) (versionIn c x) (firstSetting sees c v l)
-
-first-snoc : (sees : ℕ → Bool) (c : ℕ) (v : Version) (l : List Record) (x : Record)
-    → firstSetting sees c v (l ++ x ∷ []) ≡ firstSetting sees c (cond (sets c (x .content) && sees (x .transaction)) (versionIn c x) v) l
-unfolding firstSetting
-first-snoc sees c v [] x = refl
-first-snoc sees c v (y ∷ l) x = rw (first-snoc sees c v l x)
-
-pub first-is-last : (sees : ℕ → Bool) (r c : ℕ) (v : Version) (l : List Record) → firstSetting sees c v (reverse (keep (λ x. eqb (x .row) r) l)) ≡ lastSetting sees r c v l
-unfolding lastSetting firstSetting
-first-is-last sees r c v [] = refl
-first-is-last sees r c v (x ∷ l) = go (eqb (x .row) r) (λ w. first-is-last sees r c w l)
-  where
-    go : (b : Bool) → ((w : Version) → firstSetting sees c w (reverse (keep (λ x. eqb (x .row) r) l)) ≡ lastSetting sees r c w l)
-        → firstSetting sees c v (reverse (cond b (x ∷ keep (λ x. eqb (x .row) r) l) (keep (λ x. eqb (x .row) r) l)))
-        ≡ lastSetting sees r c (cond (b && (sets c (x .content) && sees (x .transaction))) (versionIn c x) v) l
-    go true e = rw (reverse-cons x (keep (λ x. eqb (x .row) r) l)) (first-snoc sees c v (reverse (keep (λ x. eqb (x .row) r) l)) x ∙ e _)
-    go false e = e v

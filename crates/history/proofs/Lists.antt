@@ -171,9 +171,6 @@ module _ {A : Type 0} where
   any-none f nil = refl
   any-none f (cons {x = x} p ps) = rw (is-false (f x) p) (any-none f ps)
 
-  pub any-take : (f : A → Bool) (n : ℕ) (l : List A) → any f l ≡ false → any f (take n l) ≡ false
-  any-take f n l e = any-none f (all-take n (not-any f l (rw e tt)))
-
   -- a place where the test holds
   pub any-place : (f : A → Bool) (l : List A) (d : A) → T (any f l) → (k : ℕ) × (k < length l) × T (f (getD l k d))
   any-place f [] d t = absurd t

@@ -2,7 +2,6 @@
 -- last record for "the last such value at or before t". A store's proof wants it wherever it looks at a row's newest record only (held, gone, ended), and
 -- where a read stops at an original value.
 use mathlib.Core.Path.{_≡_, refl, sym, _∙_, ap}
-use mathlib.Core.Logic.{_≢_}
 use mathlib.Core.Bool.{Bool, true, false, not, _&&_, _||_, and-false, and-true, or-false}
 use mathlib.Core.List.{List, [], _∷_, _++_}
 use Prim.Native.Nat.{ℕ, zero, suc, _≤_, _<_}
@@ -221,6 +220,3 @@ unfolding recordsOf
 placed-at h g i = all-at (all-keep _ (i .records))
 
 -- ---- no record names a row that was not given
-pub row-unnamed : (h : History) (g r : ℕ) → InOrder h → length (h .rows) ≤ r → All (λ (x : Record). x .row ≢ r) (recordsOf h g)
-unfolding recordsOf
-row-unnamed h g r i b = all-keep _ (all-map (λ x p e. omega (arith, p .inside)) (i .records))

@@ -9,9 +9,8 @@ use native.Mathlib.Omega.{arith}
 use lib.Dec.{T, eqb, eqb→eq}
 use lib.ListN.{length, take, length-append, List·getD-append}
 use lib.Seq.{take-append-le}
-use lib.IntN.{ℤ}
 use Rattle.terms.specs.Measures.{Shape}
-use Rattle.history.specs.History.{Call, merge, History, Record, State, active, Version, Scan, Merge, start, next, isCommitted, stateOf, rowAt, insertedValue, inserted, lastSetting, rangeOf, recordsOf, lastThrough, mergedThrough, cellValue, afterRelease, withRows, withTail, withTransactions, withScans, withMerges}
+use Rattle.history.specs.History.{Call, merge, History, Record, State, active, Version, Scan, Merge, start, next, isCommitted, stateOf, rowAt, insertedValue, inserted, lastSetting, rangeOf, recordsOf, lastThrough, mergedThrough, cellValue, afterRelease, withRows, withTail, withTransactions, withScans, withMerges, cellThrough}
 use Rattle.history.proofs.Lists.{All, nil, all-map, all-map₂, all-keep, all-take, keep-append}
 use Rattle.history.proofs.Steps.{Step, nothing, began, rowGiven, recordsMade, closed, scanOpened, scanClosed, merged, released, next-step}
 use Rattle.history.proofs.States.{isClosed, Moved, inactive-closed, began-moved, closed-moved}
@@ -141,12 +140,8 @@ unfolding PagesSettled start recordsOf mergedThrough lastThrough
 pages-start g c = record { within = zero-le; closed-all = nil }
 
 -- ---- cells
--- the cell that a page of lineage n holds for row r; `cellValue` is that of the current page
-unfoldable pub cellThrough : History → ℕ → ℕ → ℕ → ℤ
-cellThrough h c r n = lastSetting (λ k. isCommitted (stateOf h k)) r c (inserted h r c) (take n (recordsOf h (rangeOf r))) .value
-
 pub cell-is : (h : History) (c r : ℕ) → cellValue h c r ≡ cellThrough h c r (mergedThrough h (rangeOf r) c)
-unfolding cellValue cellThrough
+unfolding cellValue
 cell-is h c r = refl
 
 pub cell-stays : {S : Shape} {x : Call} {h h′ : History} (c r n : ℕ) → InOrder h → Through h (rangeOf r) n → r < length (h .rows) → Step S h x h′

@@ -1,15 +1,14 @@
 -- Reads over a list of records, as a store with one tail for each range wants them: a row's reads go by its range's records alone; the newest record
 -- first; and a read is the page's value under the records past its lineage.
 use mathlib.Core.Path.{_≡_, refl, _∙_, ap}
-use mathlib.Core.Logic.{_≢_}
 use mathlib.Core.Bool.{Bool, true, false, not, cond, _&&_, _||_}
 use mathlib.Core.List.{List, [], _∷_, _++_}
 use Prim.Native.Nat.{ℕ, suc, _<_}
 use lib.Dec.{T, eqb, eqb→eq, eqb-refl}
-use lib.ListN.{length, getD, take, drop, take-append-drop}
+use lib.ListN.{length, getD, take}
 use lib.Seq.{take-suc}
-use Rattle.history.specs.History.{withTail, History, Record, Version, any, keep, sets, ends, rangeOf, recordsOf, versionIn, lastSetting, ended, inserted, versionOf}
-use Rattle.history.proofs.Lists.{refuted, eqb-other, All, nil, cons, all-map, keep-append, keep-all, not-any}
+use Rattle.history.specs.History.{withTail, History, Record, Version, any, keep, sets, rangeOf, recordsOf, versionIn, lastSetting, inserted, versionOf}
+use Rattle.history.proofs.Lists.{refuted, All, nil, cons, all-map, keep-append, keep-all, not-any}
 use Rattle.history.proofs.Steps.{New, wasSet}
 
 -- whether a record is a setting of row and column that is seen
@@ -39,10 +38,6 @@ of-range {r = r} g (cons {x = x} {l = m} o os) =
 pub records-made : (h : History) {t r : ℕ} (g : ℕ) {m : List Record} → All (New h t r) m → recordsOf (withTail h (h .tail ++ m)) g ≡ recordsOf h g ++ cond (eqb (rangeOf r) g) m []
 unfolding recordsOf withTail
 records-made h g o = keep-append _ (h .tail) _ ∙ rw (of-range g o)
-
--- records of other rows pass no test of row r
-pub none-here : (r : ℕ) (f : Record → Bool) {l : List Record} → All (λ (x : Record). x .row ≢ r) l → All (λ (x : Record). T (not (eqb (x .row) r && f x))) l
-none-here r f ns = all-map (λ x n. rw (eqb-other (x .row) r n) tt) ns
 
 -- ---- the records of the row's range, and all
 module _ (r : ℕ) where
@@ -75,10 +70,6 @@ pub any-range : (h : History) (r : ℕ) (f : Record → Bool) → any (λ x. eqb
 unfolding recordsOf
 any-range h r f = any-near r f (h .tail)
 
-pub ended-range : (h : History) (sees : ℕ → Bool) (r : ℕ) → ended sees r (recordsOf h (rangeOf r)) ≡ ended sees r (h .tail)
-unfolding ended
-ended-range h sees r = any-range h r (λ x. ends (x .content) && sees (x .transaction))
-
 pub version-range : (h : History) (sees : ℕ → Bool) (r c : ℕ) → lastSetting sees r c (inserted h r c) (recordsOf h (rangeOf r)) ≡ versionOf sees h r c
 unfolding recordsOf versionOf
 version-range h sees r c = last-near r sees c (inserted h r c) (h .tail)
@@ -98,10 +89,6 @@ module _ (sees : ℕ → Bool) (r c : ℕ) where
   pub last-next : (v : Version) (l : List Record) (n : ℕ) (d : Record) → n < length l
       → lastSetting sees r c v (take (suc n) l) ≡ cond (found sees r c (getD l n d)) (versionIn c (getD l n d)) (lastSetting sees r c v (take n l))
   last-next v l n d b = rw (take-suc l n d b) (last-snoc v (take n l) (getD l n d))
-
-  -- the records up to a lineage, then the rest
-  pub last-through : (v : Version) (n : ℕ) (l : List Record) → lastSetting sees r c v l ≡ lastSetting sees r c (lastSetting sees r c v (take n l)) (drop n l)
-  last-through v n l = rw (← (last-append v (take n l) (drop n l)), take-append-drop)
 
   -- two views that agree on the settings of the column
   pub last-agree : (sees′ : ℕ → Bool) (v : Version) {l : List Record} → All (λ (x : Record). T (sets c (x .content)) → sees (x .transaction) ≡ sees′ (x .transaction)) l

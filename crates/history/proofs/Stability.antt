@@ -1,7 +1,7 @@
 -- `Stability` holds: an accepted call changes no read for a stamp that is not after the last commit's, of a row that is given. What an active transaction
 -- does is not seen at any such stamp, and a commit's stamp is later than all of them.
 use mathlib.Core.Path.{_≡_, refl, sym, _∙_, ap, fun-ext}
-use mathlib.Core.Bool.{Bool, true, false, not, and-false}
+use mathlib.Core.Bool.{Bool, false, not, and-false}
 use mathlib.Core.List.{List, [], _∷_, _++_}
 use Prim.Native.Nat.{ℕ, zero, suc, _≤_, _<_}
 use native.Mathlib.Omega.{arith}
@@ -13,7 +13,7 @@ use lib.ListN.{length, getD, take, drop, length-append, List·getD-append, take-
 use lib.Seq.{take-take}
 use Rattle.terms.specs.Measures.{Shape}
 use Rattle.terms.specs.declared.Answer.{Answer}
-use Rattle.history.specs.History.{Call, release, History, Row, Record, State, unknown, active, aborted, committed, Scan, Merge, Version, start, answers, answer, next, run, tests, reply, verdict, Verdict, accept, refuse, answerIf, nth, change, read, visible, versionOf, inserted, insertedValue, rowAt, seenAt, committedBy, stateOf, ended, lastSetting, withRows, withTail, withTransactions, withScans, withMerges, notGiven, later}
+use Rattle.history.specs.History.{Call, release, History, Row, Record, State, unknown, active, aborted, committed, Scan, Merge, Version, start, answers, answer, next, run, tests, reply, verdict, Verdict, accept, answerIf, nth, change, read, visible, versionOf, inserted, insertedValue, rowAt, seenAt, committedBy, stateOf, ended, lastSetting, withRows, withTail, withTransactions, withScans, withMerges, notGiven, later}
 use Rattle.history.specs.Claims.{Reads, latest-reads, at-reads, scan-reads, isRefused, historyBefore, callAt, answerAt, ReadAt, Stability}
 use Rattle.history.proofs.Accepted.{Passed, passed, run-keeps}
 use Rattle.history.proofs.Lists.{All, nil, cons}

@@ -2,15 +2,15 @@
 -- what every later proof wants of the states after a begin, a commit or an abort; `Before` is what a row's earlier change knows of a later one.
 use mathlib.Core.Path.{_≡_, refl, sym, _∙_, ap}
 use mathlib.Core.Logic.{_≢_}
-use mathlib.Core.Bool.{cond, Bool, true, false}
+use mathlib.Core.Bool.{Bool, true, false}
 use mathlib.Core.List.{[], _∷_, _++_}
 use Prim.Native.Nat.{ℕ, _≤_}
 use native.Mathlib.Omega.{arith}
 use native.Mathlib.Nat.{le-refl}
 use native.Mathlib.Decide.{ℕ-discrete}
-use lib.Dec.{eqb, eqb-refl, T, leb, le→leb}
+use lib.Dec.{T, leb, le→leb}
 use Rattle.history.specs.History.{History, State, unknown, active, aborted, committed, nth, change, isCommitted, committedBy, stateOf, seenAt, withTransactions}
-use Rattle.history.proofs.Lists.{clash, eqb-other, is-true, nth-append, nth-added, nth-changed, nth-other}
+use Rattle.history.proofs.Lists.{clash, is-true, nth-append, nth-added, nth-changed, nth-other}
 use Rattle.history.proofs.Steps.{Closing, by-commit, by-abort}
 
 abbrev pub isGiven : State → Bool
@@ -30,12 +30,6 @@ isAborted unknown = false
 isAborted active = false
 isAborted aborted = true
 isAborted (committed s) = false
-
-abbrev pub stampOf : State → ℕ
-stampOf unknown = 0
-stampOf active = 0
-stampOf aborted = 0
-stampOf (committed s) = s
 
 -- no stamp exceeds the last commit's
 unfoldable pub Stamped : History → Type 0
@@ -92,15 +86,6 @@ pub closing-stamp : {h : History} {x : State} {s : ℕ} → Closing h x s → (a
 closing-stamp (by-commit b) a e = cc
 closing-stamp by-abort a e = clash (cc)
 
-pub state-closed : (h : History) (t : ℕ) (x : State) (s k : ℕ) → stateOf h t ≡ active
-    → stateOf (withTransactions h (change (h .transactions) t x) s) k ≡ cond (eqb k t) x (stateOf h k)
-unfolding stateOf withTransactions
-state-closed h t x s k o = go (ℕ-discrete k t)
-  where
-    go : Dec (k ≡ t) → nth (change (h .transactions) t x) k unknown ≡ cond (eqb k t) x (stateOf h k)
-    go (yes e) = rw (e, is-true (eqb t t) (eqb-refl t)) (nth-changed unknown (h .transactions) t x (λ e. clash (cc)))
-    go (no f) = rw (eqb-other k t f) (nth-other unknown (h .transactions) t x k f)
-
 pub closed-moved : {h : History} {x : State} {s : ℕ} (t : ℕ) → Stamped h → stateOf h t ≡ active → Closing h x s
     → Moved (stateOf h) (stateOf (withTransactions h (change (h .transactions) t x) s)) s
 unfolding Stamped stateOf withTransactions
@@ -152,7 +137,3 @@ committed-seen h t k f = go (stateOf h k) refl
     go active e = refl
     go aborted e = refl
     go (committed s) e = is-true (leb s t) (le→leb s t (f s e))
-
-pub committed-latest : (h : History) → Stamped h → (k : ℕ) → seenAt h (h .last) k ≡ isCommitted (stateOf h k)
-unfolding Stamped
-committed-latest h i k = committed-seen h (h .last) k (i k)

@@ -1,14 +1,14 @@
 -- `Striking` holds: a call that is no merge and no release answers and alters alike in two histories that differ in their merges alone.
 -- Such histories are compared by a function that forgets the merges, so that most cases hold by computation.
 use mathlib.Core.Path.{_≡_, refl, sym, _∙_, ap}
-use mathlib.Core.Bool.{Bool, true, false, not, cond}
+use mathlib.Core.Bool.{false, not}
 use mathlib.Core.List.{List, [], _∷_, _++_, map}
 use Prim.Native.Nat.{ℕ, zero, suc}
 use lib.Dec.{T}
 use lib.ListN.{length-map, List·getD-map}
 use Rattle.terms.specs.Measures.{Shape}
 use Rattle.terms.specs.declared.Answer.{Answer}
-use Rattle.history.specs.History.{Call, begin, insert, update, delete, commit, abort, latest, readAt, ownRead, openScan, scanRead, sum, close, merge, release, pageCell, lineage, History, Scan, start, answers, answer, next, tests, reply, effect, verdict, Verdict, accept, refuse, answerIf, nextIf, change, count, scanAt, definitions}
+use Rattle.history.specs.History.{Call, begin, insert, update, delete, commit, abort, latest, readAt, ownRead, openScan, scanRead, sum, close, merge, release, pageCell, lineage, History, Scan, start, answers, answer, next, tests, reply, effect, verdict, Verdict, accept, refuse, nextIf, change, count, scanAt, definitions}
 use Rattle.history.specs.Claims.{Kind, struck, inspecting, plain, kind, isPlain, isStruck, strike, plainAnswers, Striking}
 
 -- ---- a history without its merges, and without what its scans know of them

@@ -5,9 +5,9 @@ use Prim.Native.Nat.{ℕ, zero, suc, _≤_}
 use native.Mathlib.Omega.{arith}
 use native.Mathlib.Nat.{le-refl}
 use Rattle.terms.specs.Measures.{Shape}
-use Rattle.history.specs.History.{Call, History, Scan, start, next, run, scanAt, stopped, withRows, withTail, withTransactions, withScans, withMerges}
+use Rattle.history.specs.History.{Call, History, Scan, start, run, scanAt, stopped, withRows, withTail, withTransactions, withScans, withMerges}
 use Rattle.history.proofs.Lists.{nth-append, nth-change}
-use Rattle.history.proofs.Steps.{Step, nothing, began, rowGiven, recordsMade, closed, by-commit, by-abort, scanOpened, scanClosed, merged, released, next-step, run-steps}
+use Rattle.history.proofs.Steps.{Step, nothing, began, rowGiven, recordsMade, closed, by-commit, by-abort, scanOpened, scanClosed, merged, released, run-steps}
 
 unfoldable pub Timely : History → Type 0
 Timely h = (k : ℕ) → (scanAt h k) .stamp ≤ h .last
@@ -24,9 +24,6 @@ timely-step {h = h} i (scanOpened a b d) = nth-append (λ (x : Scan). x .stamp �
 timely-step {h = h} i (scanClosed k a) = nth-change (λ (x : Scan). x .stamp ≤ h .last) _ (h .scans) k _ (i k) i
 timely-step i (merged g c n a b d e f j) = i
 timely-step i released = i
-
-pub timely-next : (S : Shape) (h : History) (c : Call) → Timely h → Timely (next S h c)
-timely-next S h c i = timely-step i (next-step S h c)
 
 pub timely-start : Timely start
 unfolding Timely start scanAt

@@ -16,28 +16,41 @@ use Rattle.layout.proofs.Lay.{view-part, lent}
 use Rattle.history.specs.History.{Call}
 use Rattle.scans.specs.declared.Scans.{Scans}
 use Rattle.scans.specs.Table.{tableOf}
-use Rattle.facts.specs.declared.Checked.the-variants.{Fit}
+use Rattle.facts.specs.declared.Checked.the-variants.{Unfit}
 use Rattle.facts.specs.Usable.{checked}
 use Rattle.model.specs.Calls.{say, viewNext}
 use Rattle.model.specs.Asked.{shapeIn}
 use Rattle.promise.specs.Promise.{Leaves}
-use Rattle.entry.specs.Fitted.{Fitted, Says}
+use Rattle.entry.specs.Fitted.{Says}
 use Rattle.entry.proofs.Promised.{leaves-fit}
+use Rattle.lending.specs.declared.Part.{Part}
 use Rattle.lending.specs.Carried.{CarriesBy}
+use Rattle.lending.specs.Part.{Lendable, Lends}
 
--- the first n bytes of m are those that a memory of sizes s needs
-module _ (s : Sizes) (n : ℕ) (m : List ℕ) (fit : Fitted s m) (e : n ≡ need s * 4) where
+pub lent-by : (r : Part) (s : Sizes) (n : ℕ) (m : List ℕ) (t : Scans) → r ≡ Part.Lent s n → Lends r m t → Lendable s n m t
+lent-by r s n m t e h = rw e at h
+
+pub unfit-by : (r : Part) (m : List ℕ) (t : Scans) → r ≡ Part.Unfit → Lends r m t → (ps : List Place) → t ≡ tableOf ps → Unfit ≡ checked m ps
+unfit-by r m t e h = rw e at h
+
+-- ---- the part that is lent
+module _ {s : Sizes} {n : ℕ} {m : List ℕ} {t : Scans} (l : Lendable s n m t) where
+  pub part-in : n ≤ length m
+  part-in = omega (arith, l .bytes, l .fitted .room)
+
   pub part-long : length (take n m) ≡ n
-  part-long = length-take-le n m (omega (arith, fit .room))
+  part-long = length-take-le n m part-in
 
   pub part-seen : view s (words (take n m)) ≡ view s (words m)
-  part-seen = rw e (view-part s m (fit .room))
+  part-seen = rw (l .bytes) (view-part s m (l .fitted .room))
 
-  -- a call was lent them, and left p there
-  pub lent-leaves : (p : List ℕ) (t : Scans) (c : Call) (r : Answer) → ((ps : List Place) → t ≡ tableOf ps → Fit s ≡ checked m ps)
-      → CarriesBy t s (view s (words (take n m))) c r (view s (words p)) → length p ≡ length (take n m) → Bytes (p ++ drop n m)
-      → Leaves m t c r (p ++ drop n m)
+  pub part-room : need s * 4 ≤ length (take n m)
+  part-room = omega (arith, l .bytes, part-long)
+
+  -- a call was lent it, and left p there
+  pub lent-leaves : (p : List ℕ) (c : Call) (r : Answer) → CarriesBy t s (view s (words (take n m))) c r (view s (words p)) → length p ≡ length (take n m)
+      → Bytes (p ++ drop n m) → Leaves m t c r (p ++ drop n m)
   unfolding Says
-  lent-leaves p t c r told h l b =
-      leaves-fit m t c s told r (p ++ drop n m) (λ ps q k. h ps q k .0 ∙ ap (λ (v : View). say (shapeIn s) v ps c) part-seen)
-      (λ ps q k. lent s n m p (λ v. viewNext (shapeIn s) v ps c) (h ps q k .1) l b e (fit .room))
+  lent-leaves p c r h k b =
+      leaves-fit m t c s (l .told) r (p ++ drop n m) (λ ps q few. h ps q few .0 ∙ ap (λ (v : View). say (shapeIn s) v ps c) part-seen)
+      (λ ps q few. lent s n m p (λ v. viewNext (shapeIn s) v ps c) (h ps q few .1) k b (l .bytes) (l .fitted .room))

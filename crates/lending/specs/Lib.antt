@@ -1,2 +1,3 @@
 -- What a call over the needed bytes promises, and what its tests answer.
 pub mod Carried
+pub mod Part

@@ -1,106 +1,15 @@
 // The lines that `gatebook` prints, as bytes in a buffer that is lent: a command's byte and its answer, or the answer to the shape.
+use decimal::digit;
+use decimal::put;
+use decimal::put_integer;
+use decimal::put_natural;
 use terms::Answer;
 use terms::Refusal;
 use terms::number;
-ghost use mathlib.Core.Path.{_≡_};
-ghost use Prim.Native.Nat.{_+_, _≤_, _<_};
-ghost use lib.ListN.{length, drop};
-ghost use lib.IntN.{natAbs};
-ghost use Rattle.lines.specs.Lines.{decimal, signed, field, digit as digitOf, outcome, line, shapeLine};
-ghost use Rattle.lines.specs.Written.{Written, Rendered};
-
-// The character of a digit below 16.
-fn digit(d: u64) -> u8
-    requires { ⌜ d < 16 ⌝ }
-    ensures { λ r. ⌜ r ≡ digitOf d ⌝ }
-{
-    if d < 10 { 48 + d as u8 } else { 55 + d as u8 }
-}
-
-// The bytes of s from `at` on. It answers the place behind them, as each function below does that writes into the buffer.
-fn put(out: &mut [u8; 64], at: usize, s: &[u8]) -> usize
-    requires { ⌜ at + length (now s) ≤ 64 ⌝ }
-    ensures { λ r. ⌜ Written (now (out .entry)) (now (out .exit)) at (now (s .entry)) r ⌝ }
-{
-    let mut i = 0;
-    while i < s.len() {
-        out[at + i] = s[i];
-        i += 1;
-    }
-    at + i
-}
-
-// A number in decimal: the characters of `digits` from `from` on. They are found from the last to the first, so that they stand at the end of the array.
-struct Decimal {
-    digits: [u8; 20],
-    from: usize,
-}
-
-fn in_decimal(n: u64) -> Decimal
-    ensures { λ r. ⌜ (drop (r .from) (r .digits) ≡ decimal n) × (r .from ≤ 20) × (length (r .digits) ≡ 20) ⌝ }
-{
-    let mut digits = [0u8; 20];
-    let mut from = 19;
-    digits[from] = digit(n % 10);
-    let mut rest = n / 10;
-    while rest > 0 {
-        from -= 1;
-        digits[from] = digit(rest % 10);
-        rest /= 10;
-    }
-    Decimal { digits, from }
-}
-
-fn put_decimal(out: &mut [u8; 64], at: usize, n: u64) -> usize
-    requires { ⌜ at + 20 ≤ 64 ⌝ }
-    ensures { λ r. ⌜ Written (now (out .entry)) (now (out .exit)) at (decimal n) r × (r ≤ at + 20) ⌝ }
-{
-    let d = in_decimal(n);
-    let from = d.from;
-    let digits = d.digits;
-    put(out, at, &digits[from..])
-}
-
-// A number without its sign. -1 - z is the one signed operation here, and it never overflows.
-fn magnitude(z: i64) -> u64
-    ensures { λ r. ⌜ r ≡ natAbs z ⌝ }
-{
-    if z >= 0 {
-        z as u64
-    } else {
-        (-1 - z) as u64 + 1
-    }
-}
-
-fn put_signed(out: &mut [u8; 64], at: usize, z: i64) -> usize
-    requires { ⌜ at + 21 ≤ 64 ⌝ }
-    ensures { λ r. ⌜ Written (now (out .entry)) (now (out .exit)) at (signed z) r × (r ≤ at + 21) ⌝ }
-{
-    let n = magnitude(z);
-    if z >= 0 {
-        put_decimal(out, at, n)
-    } else {
-        let next = put(out, at, b"-");
-        put_decimal(out, next, n)
-    }
-}
-
-// One more field: a space, and a number.
-fn put_natural(out: &mut [u8; 64], at: usize, n: u32) -> usize
-    requires { ⌜ at + 21 ≤ 64 ⌝ }
-    ensures { λ r. ⌜ Written (now (out .entry)) (now (out .exit)) at (field (decimal n)) r × (r ≤ at + 21) ⌝ }
-{
-    let next = put(out, at, b" ");
-    put_decimal(out, next, n as u64)
-}
-
-fn put_integer(out: &mut [u8; 64], at: usize, z: i64) -> usize
-    requires { ⌜ at + 22 ≤ 64 ⌝ }
-    ensures { λ r. ⌜ Written (now (out .entry)) (now (out .exit)) at (field (signed z)) r × (r ≤ at + 22) ⌝ }
-{
-    let next = put(out, at, b" ");
-    put_signed(out, next, z)
-}
+ghost use Prim.Native.Nat.{_+_, _≤_};
+ghost use Rattle.decimal.specs.Written.{Written};
+ghost use Rattle.lines.specs.Lines.{outcome, line, shapeLine};
+ghost use Rattle.lines.specs.Written.{Rendered};
 
 // What a line says of each kind of answer, behind the command's byte or the word shape.
 fn put_refused(out: &mut [u8; 64], at: usize, why: Refusal) -> usize

@@ -125,30 +125,7 @@ module _ (S : Shape) (v : View) (ps : List Place) where
   unfolding say testsIn replyIn verdict answerIf
   says-lineage g c e f = rw (e, f)
 
--- ---- the finders
-
-module _ (v : View) (t : ℕ) where
-  pub open-lacks : openAt v t ≡ Found.Nothing → notOpenIn v t ≡ true
-  unfolding openAt
-  open-lacks e = go (notOpenIn v t) e
-    where
-      clash : Found.At (openPlace v t) ≡ Found.Nothing → ⊥
-      clash q = let z : _≡_ {A = ℕ} 0 1 = cc in omega arith
-
-      go : (b : Bool) → cond b Found.Nothing (Found.At (openPlace v t)) ≡ Found.Nothing → b ≡ true
-      go true q = refl
-      go false q = absurd (clash q)
-
-  pub open-has : (j : ℕ) → openAt v t ≡ Found.At j → (notOpenIn v t ≡ false) × (j ≡ openPlace v t)
-  unfolding openAt
-  open-has j e = go (notOpenIn v t) e
-    where
-      clash : Found.Nothing ≡ Found.At j → ⊥
-      clash q = let z : _≡_ {A = ℕ} 0 1 = cc in omega arith
-
-      go : (b : Bool) → cond b Found.Nothing (Found.At (openPlace v t)) ≡ Found.At j → (b ≡ false) × (j ≡ openPlace v t)
-      go true q = absurd (clash q)
-      go false q = (refl, cc)
+-- ---- the finder of a scan
 
 module _ (t : Scans) (k : ℕ) where
   pub scan-missing : findIn t k ≡ Found.Nothing → Finds t k Scan.Missing

@@ -2,11 +2,11 @@
 // None asks anything of its caller: the memory is tested first, and a function that is handed a fitted memory makes the call's tests in document 01's order.
 use conditions::open_place;
 use conditions::own_changes;
+use entry::given_range;
 use entry::last_stamp;
 use entry::later;
 use entry::no_column;
 use entry::no_range;
-use entry::not_given;
 use facts::Checked;
 use facts::check;
 use layout::Region;
@@ -18,7 +18,6 @@ use reading::read_current;
 use reading::read_row;
 use regions::read;
 use rows::Reader;
-use rows::range_of;
 use scans::Scans;
 use scans::find_scan;
 use summing::scan_page;
@@ -51,9 +50,9 @@ fn read_latest_page(mem: &[u8], s: Sizes, who: Reader, row: Row, column: u32) ->
     requires { ⌜ Fitted s (now mem) ⌝ }
     ensures { λ r. ⌜ r ≡ afterRow (shapeIn s) (view s (words (now (mem .entry)))) (row .0) column (readCurrent (shapeIn s) (view s (words (now (mem .entry)))) (who .stamp .0) (who .me .0) (row .0) column) ⌝ }
 {
-    if not_given(mem, s, row) {
+    let Found::At(_) = given_range(mem, s, row) else {
         return Answer::Refused(Refusal::Row);
-    }
+    };
     if no_column(s, column) {
         return Answer::Refused(Refusal::Column);
     }
@@ -150,14 +149,14 @@ fn read_old_page(mem: &[u8], s: Sizes, scan: Place, row: Row, column: u32) -> An
     requires { ⌜ Fitted s (now mem) ⌝ }
     ensures { λ r. ⌜ r ≡ scanReads (shapeIn s) (view s (words (now (mem .entry)))) (row .0) column scan ⌝ }
 {
-    if not_given(mem, s, row) {
+    let Found::At(g) = given_range(mem, s, row) else {
         return Answer::Refused(Refusal::Row);
-    }
+    };
     if no_column(s, column) {
         return Answer::Refused(Refusal::Column);
     }
     let merges = scan.merges;
-    let page = scan_page(mem, s, merges, range_of(row), column);
+    let page = scan_page(mem, s, merges, g, column);
     let who = Reader {
         stamp: Stamp(scan.stamp),
         me: Transaction(0),
@@ -215,10 +214,10 @@ fn page_cell_in(mem: &[u8], s: Sizes, column: u32, row: Row) -> Answer
     if no_column(s, column) {
         return Answer::Refused(Refusal::Column);
     }
-    if not_given(mem, s, row) {
+    let Found::At(g) = given_range(mem, s, row) else {
         return Answer::Refused(Refusal::Row);
-    }
-    let page = current_page(mem, s, range_of(row), column);
+    };
+    let page = current_page(mem, s, g, column);
     Answer::Value(of_word(cell(mem, s, page, row)))
 }
 

@@ -1,17 +1,18 @@
 // The loops over words that the store is made of. What each writes is one change of a stretch, word by word; what each reads is a
 // function of the list of the words that it looks at.
 use words::get;
+use words::of_word;
 use words::put;
 ghost use mathlib.Core.Path.{_≡_};
 ghost use mathlib.Core.Bool.{cond, _&&_};
 ghost use mathlib.Core.Logic.{_⊎_};
-ghost use Prim.Native.Nat.{_+_, _*_, _≤_};
-ghost use lib.Dec.{leb, eqb};
+ghost use Prim.Native.Nat.{_+_, _*_, _≤_, _<_};
+ghost use lib.Dec.{leb, ltb, eqb};
 ghost use lib.ListN.{length};
 ghost use Rattle.terms.specs.Measures.{between};
 ghost use Rattle.words.specs.Words.{words};
 ghost use Rattle.loops.specs.Change.{filled, numbered, copied, marked};
-ghost use Rattle.loops.specs.Search.{region, allBetween, firstAt};
+ghost use Rattle.loops.specs.Search.{region, turned, allBetween, firstAt};
 
 // The n words from `at` become v.
 pub fn fill(mem: &mut [u8], at: usize, n: usize, v: u32)
@@ -95,22 +96,49 @@ pub fn and_between(ok: bool, low: u32, high: u32, w: u32) -> bool
     and_most(and_least(ok, low, w), high, w)
 }
 
-// Whether each of the n words from `at` is from low to high. A flag for each bound is carried to the end: a loop with an early exit, or with
-// one flag for both bounds, does not vectorise.
+// Whether a is above b, each with its highest bit turned: as signed numbers, which SSE2 compares in one step where unsigned ones take two.
+fn above(a: u32, b: u32) -> bool
+    ensures { λ r. ⌜ r ≡ ltb (turned b) (turned a) ⌝ }
+{
+    of_word(b) < of_word(a)
+}
+
+// A word with its highest bit turned.
+fn turn(w: u32) -> u32
+    ensures { λ r. ⌜ r ≡ turned w ⌝ }
+{
+    std::num::wrapping_add_u32(w, 0x8000_0000)
+}
+
+// A flag that stays up only if w is from low to low + span, where these are turned. What is left of a word below low wraps to more than the span, so that one
+// comparison tells both bounds.
+fn and_within(ok: bool, low: u32, span: u32, w: u32) -> bool
+    ensures { λ r. ⌜ (turned low + turned span < 4294967296 → r ≡ (ok && between (turned low) (turned low + turned span) w)) ⌝ }
+{
+    if above(std::num::wrapping_sub_u32(w, low), span) {
+        false
+    } else {
+        ok
+    }
+}
+
+// Whether each of the n words from `at` is from low to high. One flag is carried to the end: a loop with an early exit does not vectorise.
 pub fn all_between(mem: &[u8], at: usize, n: usize, low: u32, high: u32) -> bool
     requires { ⌜ (at + n) * 4 ≤ length (now mem) ⌝ }
     ensures { λ r. ⌜ r ≡ allBetween low high (region (words (now (mem .entry))) at n) ⌝ }
 {
-    let mut least = true;
-    let mut most = true;
+    if high < low {
+        return n == 0;
+    }
+    let first = turn(low);
+    let span = turn(high - low);
+    let mut ok = true;
     let mut i = 0;
     while i < n {
-        let w = get(mem, at + i);
-        least = and_least(least, low, w);
-        most = and_most(most, high, w);
+        ok = and_within(ok, first, span, get(mem, at + i));
         i += 1;
     }
-    if least { most } else { false }
+    ok
 }
 
 // Where a search ended.

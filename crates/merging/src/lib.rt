@@ -10,6 +10,7 @@ use regions::copy_in;
 use regions::find_in;
 use regions::read;
 use regions::write;
+use rows::has_bit;
 use scans::Scans;
 use terms::Place;
 use terms::Tail;
@@ -21,7 +22,6 @@ ghost use Prim.Native.Nat.{_+_, _*_, _≤_, _<_};
 ghost use lib.Dec.{ltb};
 ghost use lib.ListN.{length, getD};
 ghost use Rattle.words.specs.Words.{words};
-ghost use Rattle.history.specs.History.{bit};
 ghost use Rattle.layout.specs.declared.Region.{Region};
 ghost use Rattle.terms.specs.declared.Place.{Place};
 ghost use Rattle.layout.specs.Regions.{need};
@@ -53,14 +53,6 @@ pub fn free_page(mem: &[u8], s: Sizes) -> Found
     ensures { λ r. ⌜ r ≡ foundAt (s .pages) (freeIn (shapeIn s) (view s (words (now (mem .entry))))) ⌝ }
 {
     find_in(mem, s, Region::PageState, 0, s.pages, 0)
-}
-
-// Whether a mask has column c.
-fn has_bit(mask: u32, c: u32) -> bool
-    requires { ⌜ c < 32 ⌝ }
-    ensures { λ r. ⌜ r ≡ bit mask c ⌝ }
-{
-    mask >> c & 1 == 1
 }
 
 // Whether the record at a slot is a committed setting of column c.

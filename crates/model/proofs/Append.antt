@@ -1,28 +1,25 @@
 -- One tail record more: the records of its range grow by it, and those of the other ranges stay.
-use mathlib.Core.Path.{_≡_, refl, sym, _∙_, ap, subst}
+use mathlib.Core.Path.{_≡_, sym, _∙_, ap}
 use mathlib.Core.Logic.{_≢_, _⊎_, inl, inr}
-use mathlib.Core.Bool.{Bool, true, false, not, cond, _&&_, _||_}
+use mathlib.Core.Bool.{cond}
 use mathlib.Core.List.{List, [], _∷_, _++_}
-use Prim.Native.Nat.{ℕ, zero, suc, _+_, _*_, _^_, _≤_, _<_}
+use Prim.Native.Nat.{ℕ, suc, _+_, _*_, _^_, _≤_, _<_}
 use native.Mathlib.Omega.{arith}
 use native.Mathlib.Nat.{le-refl, le-trans, mul-le-mul-right, suc-mul}
 use native.Mathlib.Decide.{ℕ-discrete, decLt}
-use lib.Dec.{T, eqb, eqb→eq}
-use lib.ListN.{length, getD, set, take, length-append, List·getD-append}
+use lib.Dec.{eqb}
+use lib.ListN.{length, getD, set, length-append, List·getD-append}
 use lib.Seq.{getD-set-same, getD-set-other, getD-append-seam}
-use lib.IntN.{ℤ, pos}
 use Rattle.terms.specs.Measures.{Shape, rangeRows}
 use Rattle.history.specs.History.{Record, State, Content, original, setting, ending, rangeOf}
 use Rattle.history.proofs.Lists.{eqb-other}
 use Rattle.history.proofs.Links.{noRecord, lastOf, last-of-append}
-use Rattle.loops.specs.Change.{changed}
-use Rattle.words.proofs.Words.{Fit}
 use Rattle.loops.proofs.Change.{changed-length, changed-outside, changed-at, changed-fit}
 use Rattle.layout.specs.View.{View, renew, put}
 use Rattle.layout.specs.declared.Region.the-variants.{RowLink, TailTransaction, TailRow, TailKind, TailMask, TailLink, TailState, TailStamp, TailValues, Used}
 use Rattle.model.specs.Stored.{RecordWords, rowIn, recordIn, valueIn, usedIn, slot, asOpen}
 use Rattle.model.specs.Writing.{nextSlot, appended, filledIn}
-use Rattle.model.proofs.Lists.{part-in, parts-apart, same-part, is-equal, eqb-same}
+use Rattle.model.proofs.Lists.{part-in, same-part, eqb-same}
 use Rattle.model.proofs.Represents.{ContentIs, RecordIs, TailIs, TailsFor, Whole}
 use Rattle.model.proofs.Views.{renew-whole, put-whole}
 use Rattle.model.proofs.Heads.{slot-is}

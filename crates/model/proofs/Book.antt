@@ -1,12 +1,12 @@
 -- Places that bear the numbers of what is live in a list of the history: the open transactions, the open scans. The relation is one equation of counts for
 -- every test q, so that membership, the limits, that numbers differ, and what stands in the place found are read off by a choice of q.
 use mathlib.Core.Path.{_≡_, refl, sym, _∙_, ap, fun-ext}
-use mathlib.Core.Bool.{Bool, true, false, not, cond, _&&_, _||_, and-false, and-true}
+use mathlib.Core.Bool.{Bool, true, false, not, cond, _&&_, and-false, and-true}
 use mathlib.Core.List.{List, [], _∷_, _++_}
 use Prim.Native.Nat.{ℕ, zero, suc, _+_, _≤_, _<_}
 use native.Mathlib.Omega.{arith}
-use lib.Dec.{T, leb, ltb, eqb, eqb→eq, eqb·suc-zero}
-use lib.ListN.{length, getD, set, length-set}
+use lib.Dec.{T, ltb, eqb, eqb→eq, eqb·suc-zero}
+use lib.ListN.{length, getD, set}
 use Rattle.history.specs.History.{any, count, nth, change}
 use Rattle.history.proofs.Lists.{is-true, eqb-other}
 use Rattle.model.specs.Stored.{place, bears}

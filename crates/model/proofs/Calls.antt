@@ -5,33 +5,31 @@ use mathlib.Core.Bool.{Bool, true, false, not, cond, _&&_, _||_}
 use mathlib.Core.List.{List, [], _∷_, _++_}
 use Prim.Native.Nat.{ℕ, zero, suc, _+_, _*_, _-_, _^_, _≤_, _<_}
 use native.Mathlib.Omega.{arith}
-use native.Mathlib.Nat.{le-refl, le-trans, mul-le-mul}
+use native.Mathlib.Nat.{le-refl, mul-le-mul}
 use lib.Dec.{T, leb, ltb, eqb, eqb→eq, nleb→lt, nltb→le}
 use lib.ListN.{length, getD, take, length-append}
-use lib.IntN.{ℤ, pos, _+ℤ_, +ℤ-assoc, +ℤ-idl, +ℤ-idr}
+use lib.IntN.{ℤ, _+ℤ_, +ℤ-assoc, +ℤ-idl, +ℤ-idr}
 use mir.Syntax.{w32}
 use mir.Val.{toZ}
-use Rattle.terms.specs.Measures.{Shape, rangeRows, mostNumbers, mostTransactions, mostScans}
-use Rattle.terms.specs.declared.Refusal.{Refusal}
+use Rattle.terms.specs.Measures.{Shape, rangeRows, mostNumbers, mostScans}
 use Rattle.terms.specs.declared.Answer.{Answer}
 use Rattle.history.specs.History as H
-use Rattle.history.specs.History.{Call, begin, insert, update, delete, commit, abort, latest, readAt, ownRead, openScan, scanRead, sum, close, merge, release, pageCell, lineage, History, Row, Record, State, active, Test, Verdict, accept, refuse, verdict, tests, reply, effect, answer, next, answerIf, nextIf, any, keep, count, upTo, total, isActive, stateOf, rowAt, rangeOf, recordsOf, mergedThrough, seenAt, seenBy, ended, visible, versionOf, read, scanAt, inserted, lastSetting, cellValue, updateRecords, deleteRecords, notActive, notRunning, notGiven, noColumn, noRange, held, gone, lacksRecords, notLater, later, outOfReach, anyActive, noPage}
-use Rattle.history.proofs.Lists.{All, all-map, all-at, all-append, keep-append, any-agree, is-true, is-false, not-not, neither, parts, eqb-other}
+use Rattle.history.specs.History.{Call, begin, insert, update, delete, commit, abort, latest, readAt, ownRead, openScan, scanRead, sum, close, merge, release, pageCell, lineage, History, Record, active, Test, Verdict, accept, refuse, verdict, tests, reply, effect, answer, next, answerIf, nextIf, any, keep, count, upTo, total, isActive, stateOf, rowAt, rangeOf, recordsOf, mergedThrough, seenAt, seenBy, ended, visible, versionOf, read, scanAt, inserted, lastSetting, cellValue, notActive, notRunning, notGiven, noColumn, noRange, lacksRecords, notLater, later, outOfReach, anyActive, noPage, cellThrough}
+use Rattle.history.proofs.Lists.{All, all-map, all-at, keep-append, any-agree, not-not, neither, parts, eqb-other}
 use Rattle.history.proofs.Accepted.{Passed, passed}
-use Rattle.history.proofs.Steps.{Step, step, active-is, New, Made, by-update, by-delete, made-new}
+use Rattle.history.proofs.Steps.{step, active-is, by-update, by-delete, made-new}
 use Rattle.history.proofs.Ranges.{last-agree}
 use Rattle.history.proofs.Merges.{merges-most}
-use Rattle.history.proofs.Pages.{cellThrough, cell-is}
-use Rattle.history.proofs.Past.{Past, past-next}
+use Rattle.history.proofs.Pages.{cell-is}
+use Rattle.history.proofs.Past.{past-next}
 use Rattle.layout.specs.View.{View}
 use Rattle.layout.specs.declared.Region.the-variants.{Opens, Changes}
 use Rattle.terms.specs.declared.Place.{Place}
-use Rattle.model.specs.Stored.{pageIn, cellIn, currentIn, usedIn, headerIn, within, rowsGiven, transactionsGiven, scansGiven, lastStamp, mergesMade, bears, place, openPlace, scanPlace, pagesOf}
-use Rattle.model.specs.Reading.{readIn, readCurrent, ownChanges, wordIn, visibleIn, scanPage, Tally, tally, sumIn}
-use Rattle.model.specs.Writing.{recordsWanted}
+use Rattle.model.specs.Stored.{pageIn, cellIn, currentIn, usedIn, headerIn, within, rowsGiven, lastStamp, bears, place, openPlace, scanPlace, pagesOf}
+use Rattle.model.specs.Reading.{readIn, readCurrent, ownChanges, wordIn, scanPage, Tally, tally, sumIn}
 use Rattle.model.specs.Calls.{testsIn, replyIn, actIn, placesAfter, viewIf, placesIf, say, viewNext, placesNext, notOpenIn, noScanIn, notGivenIn, lacksIn, notLaterIn, laterIn, outOfReachIn, Typed}
 use Rattle.model.proofs.Lists.{clash}
-use Rattle.model.proofs.Represents.{everyRow, CurrentIs, ScanPageIs, Unchanged, NotedIs, scanAs, Represents, Small, Known}
+use Rattle.model.proofs.Represents.{everyRow, CurrentIs, Unchanged, scanAs, Represents, Known}
 use Rattle.model.proofs.Transactions.{opens-is, opens-full, open-there, begin-kept, commit-kept, abort-kept}
 use Rattle.model.proofs.Insert.{insert-kept}
 use Rattle.model.proofs.Heads.{in-range, SeesAs, sees-at, sees-own, held-is, gone-is, visible-is}

@@ -1,22 +1,21 @@
 -- Demand 2 holds: what is read and what the pages hold follows from the relation, which every list of calls keeps.
 use mathlib.Core.Path.{_≡_, refl, sym, _∙_, ap, subst}
-use mathlib.Core.Bool.{Bool, true, false, not, cond, _&&_}
-use mathlib.Core.List.{List, [], _∷_}
-use Prim.Native.Nat.{ℕ, suc, _+_, _*_, _/_, _%_, _^_, _≤_, _<_}
+use mathlib.Core.Bool.{Bool, true, false, cond}
+use mathlib.Core.List.{List}
+use Prim.Native.Nat.{ℕ, suc, _+_, _*_, _^_, _≤_, _<_}
 use native.Mathlib.Omega.{arith}
-use native.Mathlib.Nat.{le-refl}
 use lib.Dec.{T}
-use lib.ListN.{length, getD, replicate, length-append}
-use lib.IntN.{ℤ, pos}
+use lib.ListN.{length, replicate, length-append}
+use lib.IntN.{pos}
 use mir.Syntax.{w32}
 use mir.Val.{toZ, ofZ}
 use mir.ValLaws.{ofZ-toZ}
 use Rattle.terms.specs.Measures.{Shape, rangeRows, mostScans, withinLimits}
 use Rattle.terms.specs.declared.Answer.{Answer}
-use Rattle.history.specs.History.{Call, openScan, effect, nextIf, tests, verdict, Verdict, accept, refuse, Scan, withScans, History, Version, start, next, run, seenAt, rowAt, inserted, visible, versionOf, read, rangeOf, mergedThrough, scanAt}
+use Rattle.history.specs.History.{Call, openScan, effect, nextIf, tests, verdict, Verdict, accept, refuse, Scan, withScans, History, Version, start, next, run, seenAt, rowAt, inserted, visible, versionOf, read, rangeOf, mergedThrough, scanAt, cellThrough}
 use Rattle.history.proofs.Lists.{All, nil, cons, parts}
-use Rattle.history.proofs.Latest.{latestSetting, latest-stamp}
-use Rattle.history.proofs.Pages.{cellThrough}
+use Rattle.history.specs.Latest.{latestSetting}
+use Rattle.history.proofs.Latest.{latest-stamp}
 use Rattle.history.proofs.Past.{past-start}
 use Rattle.layout.specs.View.{View, put, renew}
 use Rattle.layout.specs.declared.Region.the-variants.{Cells}
@@ -31,7 +30,7 @@ use Rattle.model.proofs.Holding.{cell-absent}
 use Rattle.model.proofs.Heads.{sees-at}
 use Rattle.model.proofs.Calls.{current-read, scan-read, known-next, one-call}
 use Rattle.model.proofs.Scans.{scan-current, nth-last}
-use Rattle.model.proofs.Openings.{SamePage, next-same, same-after, scan-later}
+use Rattle.model.proofs.Openings.{SamePage, same-after, scan-later}
 use Rattle.model.proofs.Made.{small-shape, made-represents}
 
 -- ---- the relation after a list of calls

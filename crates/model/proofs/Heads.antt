@@ -1,27 +1,27 @@
 -- A row's newest record, reached by the row's link, tells whether the row is held, gone or ended; and a reader sees a row exactly as in the history.
 use mathlib.Core.Path.{_≡_, refl, sym, _∙_, ap}
 use mathlib.Core.Logic.{_≢_}
-use mathlib.Core.Bool.{Bool, true, false, not, cond, _&&_, _||_, or-false}
-use mathlib.Core.List.{List, [], _∷_, _++_}
-use Prim.Native.Nat.{ℕ, zero, suc, _+_, _*_, _-_, _≤_, _<_}
+use mathlib.Core.Bool.{Bool, false, not, _&&_, _||_, or-false}
+use mathlib.Core.List.{List}
+use Prim.Native.Nat.{ℕ, zero, suc, _+_, _*_, _-_, _<_}
 use native.Mathlib.Omega.{arith}
-use native.Mathlib.Nat.{le-refl}
-use lib.Dec.{T, leb, ltb, eqb, eqb·suc-zero}
+use lib.Dec.{T, leb, eqb, eqb·suc-zero}
 use lib.ListN.{length, getD}
-use Rattle.terms.specs.Measures.{Shape, rangeRows}
-use Rattle.history.specs.History.{History, Record, State, unknown, active, aborted, committed, Content, original, setting, ending, isActive, committedBy, stateOf, rowAt, ends, rangeOf, recordsOf, seenAt, seenBy, ended, visible, activeOther, held, gone}
+use Rattle.terms.specs.Measures.{Shape}
+use Rattle.history.specs.History.{History, Record, State, unknown, active, aborted, committed, Content, original, setting, ending, isActive, committedBy, stateOf, rowAt, ends, rangeOf, recordsOf, seenAt, seenBy, visible, activeOther, held, gone}
 use Rattle.history.proofs.Lists.{eqb-other}
-use Rattle.history.proofs.States.{isGiven, isAborted, stampOf}
-use Rattle.history.proofs.Order.{InOrder, placed-at}
+use Rattle.history.specs.Latest.{stampOf}
+use Rattle.history.proofs.States.{isGiven, isAborted}
+use Rattle.history.proofs.Order.{placed-at}
 use Rattle.history.proofs.Links.{noRecord, lastOf, last-of-row}
 use Rattle.history.proofs.Newest.{recordIs, newestIs, held-newest, ended-newest, gone-newest}
 use Rattle.layout.specs.View.{View}
 use Rattle.terms.specs.declared.Place.{Place}
-use Rattle.model.specs.Stored.{RowWords, RecordWords, rowIn, recordIn, valueIn, usedIn, slot, openState, abortedState, deleteKind}
-use Rattle.model.specs.Reading.{sees, seesRow, seesRecord, headIn, hasRecord, visibleIn}
+use Rattle.model.specs.Stored.{RecordWords, rowIn, recordIn, valueIn, usedIn, slot, openState, abortedState, deleteKind}
+use Rattle.model.specs.Reading.{sees, seesRecord, headIn, hasRecord, visibleIn}
 use Rattle.model.specs.Calls.{heldIn, goneIn}
 use Rattle.model.proofs.Lists.{clash}
-use Rattle.model.proofs.Represents.{stateWord, RowIs, ContentIs, RecordIs, TailIs, Represents, Known}
+use Rattle.model.proofs.Represents.{stateWord, RowIs, ContentIs, TailIs, Represents, Known}
 
 pub slot-is : (S : Shape) (g k : ℕ) → slot S g (suc k) ≡ g * S .capacity + k
 unfolding slot

@@ -1,25 +1,24 @@
 -- What a page holds stays right under every step of the history that gives no row of the page, and under an insert into it.
 use mathlib.Core.Path.{_≡_, refl, sym, _∙_, ap}
 use mathlib.Core.Logic.{_≢_, _⊎_, inl, inr}
-use mathlib.Core.Bool.{Bool, true, false, not, cond, _&&_, _||_}
+use mathlib.Core.Bool.{Bool, cond, _&&_}
 use mathlib.Core.List.{List, [], _∷_, _++_}
-use Prim.Native.Nat.{ℕ, zero, suc, _+_, _*_, _/_, _%_, _≤_, _<_}
+use Prim.Native.Nat.{ℕ, suc, _+_, _≤_, _<_}
 use native.Mathlib.Omega.{arith}
 use native.Mathlib.Nat.{le-refl, le-trans}
 use native.Mathlib.Decide.{ℕ-discrete, decLt}
-use lib.Dec.{T, eqb, eqb→eq}
 use lib.ListN.{length, getD, take, length-append, List·getD-append, List·getD-eq-default}
 use lib.Seq.{getD-append-seam}
-use lib.IntN.{ℤ, pos}
+use lib.IntN.{pos}
 use mir.Syntax.{w32}
 use mir.Val.{toZ}
 use Rattle.terms.specs.Measures.{Shape, rangeRows}
-use Rattle.history.specs.History.{Call, History, Row, Record, Version, State, active, committed, isCommitted, stateOf, rowAt, insertedValue, inserted, sets, versionIn, lastSetting, rangeOf, recordsOf, withRows}
+use Rattle.history.specs.History.{Call, History, Row, Record, Version, isCommitted, stateOf, rowAt, insertedValue, inserted, sets, versionIn, lastSetting, rangeOf, recordsOf, withRows, cellThrough}
 use Rattle.history.proofs.Lists.{All, nil, cons, all-map, all-map₂, all-keep, all-take, eqb-other}
 use Rattle.history.proofs.Steps.{Step, nothing, began, rowGiven, recordsMade, closed, scanOpened, scanClosed, merged, released}
 use Rattle.history.proofs.States.{closing-last}
 use Rattle.history.proofs.Order.{InOrder, order-step}
-use Rattle.history.proofs.Pages.{Through, through-step, Settled, settled-step, cellThrough, cell-stays}
+use Rattle.history.proofs.Pages.{Through, through-step, Settled, settled-step, cell-stays}
 use Rattle.model.specs.Stored.{PageWords, within}
 use Rattle.model.proofs.Represents.{Holds, NotAfter, everyRow}
 

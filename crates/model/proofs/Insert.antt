@@ -1,26 +1,25 @@
 -- Insert keeps the relation: a row more, and its values in the current pages of its range.
 use mathlib.Core.Path.{_≡_, refl, sym, _∙_, ap, subst}
 use mathlib.Core.Logic.{_≢_, _⊎_, inl, inr}
-use mathlib.Core.Bool.{Bool, true, false, not, cond, _&&_, _||_}
+use mathlib.Core.Bool.{false, _&&_}
 use mathlib.Core.List.{List, [], _∷_, _++_}
-use Prim.Native.Nat.{ℕ, zero, suc, _+_, _*_, _/_, _%_, _^_, _≤_, _<_, zero-le}
+use Prim.Native.Nat.{ℕ, zero, suc, _+_, _*_, _/_, _%_, _^_, _≤_, _<_}
 use native.Mathlib.Omega.{arith}
-use native.Mathlib.Nat.{le-refl, le-trans, not-suc-le-zero}
+use native.Mathlib.Nat.{le-refl, not-suc-le-zero}
 use native.Mathlib.Decide.{ℕ-discrete, decLt}
-use lib.Dec.{T, eqb, eqb→eq}
-use lib.ListN.{length, getD, set, take, length-append, length-set}
+use lib.Dec.{T, eqb}
+use lib.ListN.{length, getD, set, length-append, length-set}
 use lib.Seq.{getD-set-same, getD-set-other, take-length}
 use lib.IntN.{ℤ, pos}
 use lib.Pow.{shr-le}
 use mir.Syntax.{w32}
 use mir.Val.{toZ, ofZ, SFits}
 use mir.ValLaws.{toZ-ofZ, ofZ-fits}
-use Rattle.terms.specs.Measures.{Shape, rangeRows, mostTransactions}
-use Rattle.history.specs.History.{Call, insert, History, Row, Record, State, unknown, active, nth, isActive, stateOf, rowAt, bit, sets, rangeOf, recordsOf, mergedThrough, scanAt, seenAt, withRows}
+use Rattle.terms.specs.Measures.{Shape, rangeRows}
+use Rattle.history.specs.History.{insert, History, Row, Record, active, isActive, stateOf, rowAt, bit, sets, rangeOf, recordsOf, mergedThrough, scanAt, seenAt, withRows}
 use Rattle.history.proofs.Lists.{All, nil, cons, all-append, all-map, all-at, any-none, eqb-other}
 use Rattle.history.proofs.Steps.{Step, wasSet}
-use Rattle.history.proofs.States.{stampOf}
-use Rattle.history.proofs.Order.{InOrder}
+use Rattle.history.specs.Latest.{stampOf}
 use Rattle.history.proofs.Timely.{Timely}
 use Rattle.history.proofs.Links.{noRecord, lastOf}
 use Rattle.words.proofs.Words.{Fit}
@@ -28,14 +27,14 @@ use Rattle.loops.proofs.Change.{set-fit}
 use Rattle.layout.specs.View.{View, renew, put}
 use Rattle.layout.specs.declared.Region.the-variants.{Header, Opens, RowTransaction, RowState, RowStamp, RowLink, RowMask, Current, Cells, Changes}
 use Rattle.terms.specs.declared.Place.{Place}
-use Rattle.model.specs.Stored.{RowWords, rowIn, recordIn, valueIn, pageIn, cellIn, currentIn, placeOf, pagesOf, headerIn, within, rowsGiven, openPlace, nextWord, bears, place, asOpen}
+use Rattle.model.specs.Stored.{rowIn, recordIn, valueIn, pageIn, cellIn, currentIn, placeOf, within, rowsGiven, openPlace, nextWord, bears, place, asOpen}
 use Rattle.model.specs.Reading.{scanPage, wasCurrent}
 use Rattle.model.specs.Writing.{noted, putCells, insertedAt, insertedIn}
-use Rattle.model.proofs.Lists.{same-part, clash}
-use Rattle.model.proofs.Represents.{stateWord, RowIs, RowsAre, TailsAre, Holds, everyRow, CurrentIs, CurrentsAre, WaitingAre, ScanPageIs, ScanPagesAre, Unchanged, NotesAre, Represents, Known, Whole}
+use Rattle.model.proofs.Lists.{same-part}
+use Rattle.model.proofs.Represents.{stateWord, RowIs, RowsAre, Holds, everyRow, CurrentIs, CurrentsAre, ScanPageIs, ScanPagesAre, NotesAre, Represents, Known, Whole}
 use Rattle.model.proofs.Holding.{withRow, row-new, row-old, rows-more, not-given, holds-step, holds-cells, holds-insert}
-use Rattle.model.proofs.Steady.{waiting-step, scan-page-step, seen-given, active-unseen}
-use Rattle.model.proofs.Views.{renew-whole, put-whole, kept-word}
+use Rattle.model.proofs.Steady.{waiting-step, scan-page-step, active-unseen}
+use Rattle.model.proofs.Views.{renew-whole, put-whole, header-put, header-same}
 use Rattle.model.proofs.Notes.{notes-more, few-changes, active-given}
 
 -- ---- a new row has no record and no bit
@@ -258,18 +257,7 @@ module _ (S : Shape) (v : View) (ps : List Place) (h : History) (o : Represents 
   unfolding insertedAt noted openPlace put renew withRows recordIn valueIn pageIn stateOf recordsOf currentIn
   insert-at step =
       record {
-        header =
-            record {
-              columns = kept-word (v Header) 4 0 (r + 1) tt ∙ o .header .columns;
-              ranges = kept-word (v Header) 4 1 (r + 1) tt ∙ o .header .ranges;
-              capacity = kept-word (v Header) 4 2 (r + 1) tt ∙ o .header .capacity;
-              spares = kept-word (v Header) 4 3 (r + 1) tt ∙ o .header .spares;
-              rows-given = getD-set-same (v Header) 4 (r + 1) 0 (omega (arith, o .whole .long Header)) ∙ sym (simp length-append (omega arith));
-              transactions-given = kept-word (v Header) 4 5 (r + 1) tt ∙ o .header .transactions-given;
-              scans-given = kept-word (v Header) 4 6 (r + 1) tt ∙ o .header .scans-given;
-              last-stamp = kept-word (v Header) 4 7 (r + 1) tt ∙ o .header .last-stamp;
-              merges-made = kept-word (v Header) 4 8 (r + 1) tt ∙ o .header .merges-made;
-            };
+        header = header-same (sym (simp length-append (omega arith))) refl refl refl (header-put (v Header) 4 (r + 1) (omega (arith, o .whole .long Header)) (omega arith) (o .header));
         opens = o .opens;
         notes = insert-notes;
         rows = insert-rows;

@@ -3,15 +3,15 @@
 use mathlib.Core.Path.{_≡_, refl, sym, _∙_, ap, fun-ext}
 use mathlib.Core.Logic.{_≢_}
 use mathlib.Core.Bool.{Bool, true, false, not, cond, _&&_, _||_, and-false, and-true}
-use mathlib.Core.List.{List, [], _∷_, _++_, map}
+use mathlib.Core.List.{List, [], _∷_, _++_}
 use Prim.Native.Nat.{ℕ, zero, suc, _+_, _*_, _≤_, _<_, zero-le}
 use native.Mathlib.Omega.{arith}
 use native.Mathlib.Nat.{le-refl, not-suc-le-zero, add-zero, add-suc, suc-add, mul-le-mul-right, suc-mul}
 use native.Mathlib.Decide.{ℕ-discrete, decLt}
-use lib.Dec.{T, leb, ltb, eqb, leb→le, nleb→lt, nltb→le, le→leb, eqb→eq, eqb-refl, ltb→lt, lt→ltb}
-use lib.ListN.{length, getD, set, take, length-set}
+use lib.Dec.{T, leb, ltb, eqb, leb→le, nleb→lt, eqb-refl, lt→ltb}
+use lib.ListN.{length, getD, set, take}
 use lib.Seq.{take-suc}
-use Rattle.history.specs.History.{any, keep, count}
+use Rattle.history.specs.History.{any, count}
 use Rattle.history.proofs.Lists.{any-append, is-true, refuted, eqb-equal, eqb-other}
 use Rattle.model.specs.Stored.{place, firstFrom, countBelow}
 

@@ -1,34 +1,34 @@
 -- A store just made represents the empty history, and every list of calls on it is answered as the history answers it.
 use mathlib.Core.Path.{_≡_, refl, sym, _∙_, ap, subst}
-use mathlib.Core.Logic.{_≢_, _⊎_, inl, inr}
-use mathlib.Core.Bool.{Bool, true, false, not, cond, _&&_, _||_}
-use mathlib.Core.List.{List, [], _∷_, _++_}
-use Prim.Native.Nat.{ℕ, zero, suc, _+_, _*_, _^_, _≤_, _<_, zero-le}
+use mathlib.Core.Logic.{inr}
+use mathlib.Core.Bool.{Bool, false, not, _&&_}
+use mathlib.Core.List.{List, []}
+use Prim.Native.Nat.{ℕ, zero, suc, _+_, _*_, _≤_, _<_, zero-le}
 use native.Mathlib.Omega.{arith}
-use native.Mathlib.Nat.{le-refl, le-trans, not-suc-le-zero, zero-add, mul-le-mul}
+use native.Mathlib.Nat.{le-refl, not-suc-le-zero, zero-add, mul-le-mul}
 use native.Mathlib.Decide.{decLt}
-use lib.Dec.{T, leb, ltb, eqb, leb→le}
-use lib.ListN.{length, getD, set, replicate, length-replicate}
+use lib.Dec.{T, leb, eqb, leb→le}
+use lib.ListN.{length, getD, replicate, length-replicate}
 use mir.Syntax.{w32}
 use mir.Val.{toZ}
 use Rattle.terms.specs.Measures.{Shape, rangeRows, mostScans, mostColumns, mostRanges, mostRecords, mostSpares, between, withinLimits}
-use Rattle.history.specs.History.{Call, History, start, answers, answer, next, run, count, stateOf, rowAt, insertedValue, inserted, lastSetting, rangeOf, recordsOf, lastThrough, mergedThrough, scanAt}
-use Rattle.history.proofs.Lists.{All, nil, cons, parts, is-true}
-use Rattle.history.proofs.Pages.{Through, cellThrough}
+use Rattle.history.specs.History.{Call, History, start, answers, answer, next, count, rowAt, insertedValue, inserted, lastSetting, recordsOf, lastThrough, mergedThrough, scanAt, cellThrough}
+use Rattle.history.proofs.Lists.{All, nil, cons, parts}
 use Rattle.history.proofs.Past.{past-start}
-use Rattle.loops.specs.Change.{changed, filled, numbered}
+use Rattle.loops.specs.Change.{changed, numbered}
 use Rattle.words.proofs.Words.{Fit}
 use Rattle.loops.proofs.Change.{changed-length, changed-outside, changed-at, changed-fit}
 use Rattle.layout.specs.Regions.{len}
 use Rattle.layout.specs.View.{View, renew, put}
 use Rattle.layout.specs.declared.Region.{Region}
-use Rattle.layout.specs.declared.Region.the-variants.{Header, Opens, Changes, Used, Current, PageState, PagePlace, PageMade, PageReplaced, PageLineage, PageNewest, Cells}
+use Rattle.layout.specs.declared.Region.the-variants.{Header, Opens, Current, PageState, PagePlace}
 use Rattle.terms.specs.declared.Place.{Place}
-use Rattle.model.specs.Stored.{PageWords, pageIn, cellIn, currentIn, placeOf, placesOf, pagesOf, sizesOf, within, freePlace, waitingPage, currentPage, asCurrent, countBelow}
+use Rattle.layout.specs.Sizes.{sizesOf}
+use Rattle.model.specs.Stored.{PageWords, pageIn, cellIn, currentIn, placeOf, placesOf, pagesOf, within, freePlace, waitingPage, currentPage, asCurrent, countBelow}
 use Rattle.model.specs.Writing.{blank, made}
 use Rattle.model.specs.Calls.{Typed, say, viewNext, placesNext, sayAll}
 use Rattle.model.proofs.Lists.{below-all, below-none}
-use Rattle.model.proofs.Represents.{Holds, everyRow, CurrentIs, CurrentsAre, WaitingAre, PoolIs, NotesAre, ScansAre, Represents, Small, Known, Whole}
+use Rattle.model.proofs.Represents.{Holds, everyRow, CurrentIs, CurrentsAre, PoolIs, Represents, Small, Known, Whole}
 use Rattle.model.proofs.Views.{renew-whole, put-whole}
 use Rattle.model.proofs.Merged.{place-in}
 use Rattle.model.proofs.Calls.{known-next, one-call}

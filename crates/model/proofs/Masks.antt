@@ -1,10 +1,10 @@
 -- The bits of masks: of a union, of the columns that are new, and that a number without bits is 0.
-use mathlib.Core.Path.{_≡_, refl, sym, _∙_, ap}
+use mathlib.Core.Path.{_≡_, refl, _∙_, ap}
 use mathlib.Core.Bool.{Bool, true, false, not, cond, _&&_, _||_}
-use Prim.Native.Nat.{ℕ, zero, suc, _+_, _*_, _≤_, _<_, _/_, _%_, _^_, max, min}
+use Prim.Native.Nat.{ℕ, zero, suc, _<_, _/_, _%_, _^_, max}
 use native.Mathlib.Omega.{arith}
 use native.Mathlib.Nat.{pow-suc}
-use lib.Dec.{T, eqb}
+use lib.Dec.{eqb}
 use lib.Pow.{shr-shr}
 use lib.Bits.{bitOr, bitXor, differ, or-shr, xor-shr, or-step, xor-step}
 use Rattle.history.specs.History.{bit}

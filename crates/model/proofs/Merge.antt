@@ -1,33 +1,30 @@
 -- Merge keeps the relation: the records above the lineage applied forward to a copy of the current page, which waits from then on. The scans find the pages that
 -- they found before.
-use mathlib.Core.Path.{_≡_, refl, sym, _∙_, ap, subst}
-use mathlib.Core.Logic.{_≢_, _⊎_, inl, inr}
-use mathlib.Core.Bool.{Bool, true, false, not, cond, _&&_, _||_, and-false, and-true, or-false}
-use mathlib.Core.List.{List, [], _∷_, _++_}
-use Prim.Native.Nat.{ℕ, zero, suc, _+_, _*_, _-_, _/_, _%_, _^_, _≤_, _<_, zero-le}
+use mathlib.Core.Path.{_≡_, refl, sym, _∙_, ap}
+use mathlib.Core.Logic.{_⊎_, inl, inr}
+use mathlib.Core.Bool.{Bool, true, false, not, cond, _&&_, _||_, and-false, or-false}
+use mathlib.Core.List.{List}
+use Prim.Native.Nat.{ℕ, zero, suc, _+_, _*_, _-_, _^_, _≤_, _<_, zero-le}
 use native.Mathlib.Omega.{arith}
-use native.Mathlib.Nat.{le-refl, le-trans, not-suc-le-zero, add-zero}
-use native.Mathlib.Decide.{ℕ-discrete, decLt}
-use lib.Dec.{T, leb, ltb, eqb, eqb→eq, leb→le, le→leb, ltb→lt, nltb→le, eqb-refl}
-use lib.ListN.{length, getD, set, take, length-set, length-append}
+use native.Mathlib.Nat.{le-refl, le-trans, add-zero}
+use native.Mathlib.Decide.{ℕ-discrete}
+use lib.Dec.{T, ltb, eqb, ltb→lt, nltb→le}
+use lib.ListN.{length, getD, set, take, length-set}
 use lib.Seq.{getD-set-same, getD-set-other, take-suc}
-use lib.IntN.{ℤ, pos}
 use mir.Syntax.{w32}
 use mir.Val.{toZ}
 use Rattle.terms.specs.Measures.{Shape, rangeRows}
-use Rattle.history.specs.History.{Call, merge, History, Record, Version, State, unknown, active, aborted, committed, Content, original, setting, ending, Merge, any, isActive, isCommitted, stateOf, bit, sets, newValue, inserted, versionIn, lastSetting, rangeOf, recordsOf, mergedThrough, anyActive}
-use Rattle.history.proofs.Lists.{All, nil, cons, all-append, all-map, all-at, any-append, is-true, is-false, refuted, eqb-other, parts}
-use Rattle.history.proofs.States.{isClosed, stampOf}
+use Rattle.history.specs.History.{History, Record, State, unknown, active, aborted, committed, Content, original, setting, ending, any, isActive, isCommitted, stateOf, bit, sets, newValue, inserted, versionIn, lastSetting, rangeOf, recordsOf}
+use Rattle.history.proofs.Lists.{All, nil, cons, all-append, all-map, all-at, eqb-other}
+use Rattle.history.specs.Latest.{stampOf}
 use Rattle.history.proofs.Order.{InOrder}
-use Rattle.history.proofs.Ranges.{found, last-next, records-range}
+use Rattle.history.proofs.Ranges.{last-next, records-range}
 use Rattle.history.proofs.Links.{noRecord}
-use Rattle.history.proofs.Pages.{cellThrough}
-use Rattle.loops.specs.Change.{changed, copied}
 use Rattle.words.proofs.Words.{Fit}
-use Rattle.loops.proofs.Change.{changed-length, changed-outside, changed-at, changed-fit, set-fit}
+use Rattle.loops.proofs.Change.{set-fit}
 use Rattle.layout.specs.View.{View}
-use Rattle.layout.specs.declared.Region.the-variants.{TailValues, Cells}
-use Rattle.model.specs.Stored.{RecordWords, recordIn, valueIn, cellIn, usedIn, slot, within, openState, committedState, settingKind, asOpen}
+use Rattle.layout.specs.declared.Region.the-variants.{TailValues}
+use Rattle.model.specs.Stored.{recordIn, valueIn, usedIn, slot, within, committedState, settingKind}
 use Rattle.model.specs.Writing.{applies, applied, newestOf, anyOpen}
 use Rattle.model.proofs.Lists.{take-next, is-equal}
 use Rattle.model.proofs.Represents.{stateWord, ContentIs, RecordIs, TailIs, NotAfter}

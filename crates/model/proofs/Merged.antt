@@ -1,38 +1,38 @@
 -- Merge, the whole: the page taken, the page replaced, and what every other part sees of it.
 use mathlib.Core.Path.{_≡_, refl, sym, _∙_, ap, subst}
 use mathlib.Core.Logic.{_≢_, _⊎_, inl, inr}
-use mathlib.Core.Bool.{Bool, true, false, not, cond, _&&_, _||_, and-false, and-true}
+use mathlib.Core.Bool.{Bool, true, false, not, cond, _&&_}
 use mathlib.Core.List.{List, [], _∷_, _++_}
-use Prim.Native.Nat.{ℕ, zero, suc, _+_, _*_, _-_, _/_, _%_, _^_, _≤_, _<_, zero-le}
+use Prim.Native.Nat.{ℕ, zero, suc, _+_, _*_, _-_, _%_, _^_, _≤_, _<_}
 use native.Mathlib.Omega.{arith}
-use native.Mathlib.Nat.{le-refl, le-trans, mod-eq-of-lt, mul-comm}
+use native.Mathlib.Nat.{le-trans, mod-eq-of-lt, mul-comm}
 use native.Mathlib.Decide.{ℕ-discrete, decLt}
-use lib.Dec.{T, leb, ltb, eqb, eqb→eq, leb→le, le→leb, ltb→lt, lt→ltb, eqb-refl}
+use lib.Dec.{T, leb, ltb, eqb, eqb→eq, leb→le, le→leb, ltb→lt, lt→ltb}
 use lib.ListN.{length, getD, set, take, length-set, length-append}
 use lib.Seq.{getD-set-same, getD-set-other}
 use mir.Syntax.{w32}
 use mir.Val.{toZ}
 use Rattle.terms.specs.Measures.{Shape, rangeRows}
-use Rattle.history.specs.History.{Call, merge, History, Record, State, active, committed, Merge, Scan, any, isActive, isCommitted, stateOf, rowAt, rangeOf, recordsOf, lastThrough, mergedThrough, anyActive, waitingPages, noPage, scanAt, seenAt, inserted, lastSetting, withMerges}
-use Rattle.history.proofs.Lists.{All, all-map, any-none, is-true, is-false, refuted, eqb-other, eqb-equal, parts, both}
+use Rattle.history.specs.History.{merge, History, Record, State, active, committed, Merge, Scan, any, isActive, isCommitted, stateOf, rowAt, rangeOf, recordsOf, lastThrough, mergedThrough, anyActive, waitingPages, scanAt, inserted, lastSetting, withMerges, cellThrough}
+use Rattle.history.proofs.Lists.{All, all-map, any-none, is-true, refuted, eqb-other, eqb-equal, parts}
 use Rattle.history.proofs.Steps.{Step}
 use Rattle.history.proofs.States.{isClosed}
 use Rattle.history.proofs.Timely.{Timely}
-use Rattle.history.proofs.Pages.{Through, merge-through, cellThrough}
-use Rattle.loops.specs.Change.{changed, copied}
+use Rattle.history.proofs.Pages.{Through, merge-through}
+use Rattle.loops.specs.Change.{copied}
 use Rattle.loops.proofs.Change.{changed-length, changed-outside, changed-at, changed-fit}
 use Rattle.layout.specs.View.{View, renew, put}
 use Rattle.layout.specs.declared.Region.the-variants.{Header, Current, PageState, PagePlace, PageMade, PageReplaced, PageLineage, PageNewest, Cells, TailValues, TailStamp}
 use Rattle.terms.specs.declared.Place.{Place}
-use Rattle.model.specs.Stored.{PageWords, rowIn, recordIn, valueIn, pageIn, cellIn, currentIn, usedIn, placeOf, placesOf, pagesOf, headerIn, within, mergesMade, nextWord, freePage, currentPage, waitingPage, asCurrent, asWaiting, firstFrom, countBelow}
+use Rattle.model.specs.Stored.{PageWords, rowIn, recordIn, valueIn, pageIn, cellIn, currentIn, placeOf, placesOf, pagesOf, headerIn, within, mergesMade, nextWord, freePage, currentPage, waitingPage, asCurrent, asWaiting, countBelow}
 use Rattle.model.specs.Reading.{wasCurrent, scanPage}
-use Rattle.model.specs.Writing.{applied, newestOf, anyOpen, freeIn, mergedIn}
+use Rattle.model.specs.Writing.{applied, newestOf, freeIn, mergedIn}
 use Rattle.model.specs.Calls.{openAmongIn}
-use Rattle.model.proofs.Lists.{clash, true-false, one, countFrom, count-from, from-snoc, first-is, first-only, first-ext, first-none, first-found, below-ext, below-change, below-three, part-in, same-part, is-equal, same-truth}
+use Rattle.model.proofs.Lists.{one, count-from, from-snoc, first-is, first-only, first-ext, first-none, below-change, below-three, part-in, same-part, is-equal, same-truth}
 use Rattle.model.proofs.Represents.{Holds, NotAfter, everyRow, CurrentIs, CurrentsAre, WaitingIs, WaitingAre, madeIn, PoolIs, ScanPageIs, ScanPagesAre, Represents, Known, Whole}
 use Rattle.model.proofs.Holding.{holds-step, holds-cells, same-rows}
 use Rattle.model.proofs.Steady.{current-step, waiting-step, scan-page-step}
-use Rattle.model.proofs.Views.{renew-whole, put-whole, kept-word}
+use Rattle.model.proofs.Views.{renew-whole, put-whole, header-put, header-same}
 use Rattle.model.proofs.Insert.{current-apart}
 use Rattle.model.proofs.Merge.{applied-length, applied-fit, applied-outside, applied-is, newest-is, newest-fit, newest-last, any-open-is}
 use Rattle.model.proofs.Scans.{scan-current}
@@ -518,18 +518,7 @@ module _ (S : Shape) (v : View) (ps : List Place) (h : History) (o : Represents 
   unfolding withMerges stateOf rowAt recordsOf mergedIn put renew rowIn recordIn valueIn
   merge-kept step =
       record {
-        header =
-            record {
-              columns = kept-word (v Header) 8 0 m tt ∙ o .header .columns;
-              ranges = kept-word (v Header) 8 1 m tt ∙ o .header .ranges;
-              capacity = kept-word (v Header) 8 2 m tt ∙ o .header .capacity;
-              spares = kept-word (v Header) 8 3 m tt ∙ o .header .spares;
-              rows-given = kept-word (v Header) 8 4 m tt ∙ o .header .rows-given;
-              transactions-given = kept-word (v Header) 8 5 m tt ∙ o .header .transactions-given;
-              scans-given = kept-word (v Header) 8 6 m tt ∙ o .header .scans-given;
-              last-stamp = kept-word (v Header) 8 7 m tt ∙ o .header .last-stamp;
-              merges-made = getD-set-same (v Header) 8 m 0 (omega (arith, o .whole .long Header)) ∙ m-is ∙ sym more-merges;
-            };
+        header = header-same refl refl refl (m-is ∙ sym more-merges) (header-put (v Header) 8 m (omega (arith, o .whole .long Header)) (omega arith) (o .header));
         opens = o .opens;
         notes = o .notes;
         rows = o .rows;

@@ -1,21 +1,19 @@
 -- The changes noted of the open transactions: a row or record more is noted in its transaction's place alone, and the count cannot go round.
 use mathlib.Core.Path.{_≡_, refl, sym, _∙_, ap}
 use mathlib.Core.Logic.{_≢_}
-use mathlib.Core.Bool.{Bool, true, false, not, cond, _&&_, _||_}
-use mathlib.Core.List.{List, [], _∷_, _++_}
-use Prim.Native.Nat.{ℕ, zero, suc, _+_, _*_, _/_, _%_, _^_, _≤_, _<_, zero-le}
+use mathlib.Core.List.{List, [], _∷_}
+use Prim.Native.Nat.{ℕ, zero, suc, _+_, _*_, _^_, _≤_, _<_, zero-le}
 use native.Mathlib.Omega.{arith}
-use native.Mathlib.Nat.{le-refl, le-trans, not-suc-le-zero, suc-mul, mul-le-mul}
-use native.Mathlib.Decide.{ℕ-discrete, decLt}
-use lib.Dec.{T, eqb, eqb→eq}
+use native.Mathlib.Nat.{le-refl, not-suc-le-zero, suc-mul, mul-le-mul}
+use native.Mathlib.Decide.{ℕ-discrete}
+use lib.Dec.{T, eqb}
 use lib.ListN.{length, getD, set}
 use lib.Seq.{getD-set-same, getD-set-other}
-use Rattle.terms.specs.Measures.{Shape, rangeRows, mostTransactions, mostNumbers}
-use Rattle.history.specs.History.{History, Row, Record, State, unknown, active, nth, keep, isActive, stateOf, rangeOf, recordsOf}
-use Rattle.history.proofs.Lists.{All, nil, cons, all-map, eqb-other, eqb-equal, both}
+use Rattle.terms.specs.Measures.{Shape, mostTransactions}
+use Rattle.history.specs.History.{History, Row, Record, State, unknown, active, nth, keep, isActive, rangeOf, recordsOf}
+use Rattle.history.proofs.Lists.{All, nil, cons, all-map, eqb-other}
 use Rattle.model.specs.Stored.{bears, place, nextWord}
 use Rattle.model.proofs.Lists.{clash, is-equal}
-use Rattle.model.proofs.Book.{book-only}
 use Rattle.model.proofs.Represents.{OpensAre, Unchanged, NotedIs, NotesAre, Known}
 use Rattle.model.proofs.Transactions.{open-there, other-place}
 

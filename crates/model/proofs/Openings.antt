@@ -1,34 +1,34 @@
 -- A running scan reads the pages that were current at its opening: no call makes it find another page, and no call writes a cell of a row that was given before.
 use mathlib.Core.Path.{_≡_, refl, sym, _∙_, ap, subst}
-use mathlib.Core.Logic.{_≢_, _⊎_, inl, inr}
-use mathlib.Core.Bool.{Bool, true, false, not, cond, _&&_, _||_}
-use mathlib.Core.List.{List, [], _∷_, _++_}
-use Prim.Native.Nat.{ℕ, zero, suc, _+_, _*_, _/_, _%_, _≤_, _<_}
+use mathlib.Core.Logic.{_≢_}
+use mathlib.Core.Bool.{Bool, true, false, not, cond}
+use mathlib.Core.List.{List, [], _∷_}
+use Prim.Native.Nat.{ℕ, _*_, _≤_, _<_}
 use native.Mathlib.Omega.{arith}
 use native.Mathlib.Nat.{le-refl, le-trans}
 use native.Mathlib.Decide.{ℕ-discrete}
 use lib.Dec.{T, eqb, nleb→lt}
-use lib.ListN.{length, getD, length-append}
+use lib.ListN.{length, length-append}
 use lib.IntN.{ℤ}
 use lib.Bits.{bitOr}
 use Rattle.terms.specs.Measures.{Shape, rangeRows}
 use Rattle.history.specs.History as H
-use Rattle.history.specs.History.{Call, begin, insert, update, delete, commit, abort, latest, readAt, ownRead, openScan, scanRead, sum, close, merge, release, pageCell, lineage, History, Scan, Verdict, accept, refuse, verdict, tests, effect, next, nextIf, run, nth, change, stateOf, rangeOf, scanAt, stopped, withScans}
+use Rattle.history.specs.History.{Call, begin, insert, update, delete, commit, abort, latest, readAt, ownRead, openScan, scanRead, sum, close, merge, release, pageCell, lineage, History, Scan, Verdict, accept, refuse, verdict, tests, next, run, nth, change, stateOf, rangeOf, scanAt, stopped, withScans}
 use Rattle.history.proofs.Lists.{All, nil, cons, nth-other, nth-changed, length-change}
 use Rattle.history.proofs.Accepted.{Passed, passed}
-use Rattle.history.proofs.Steps.{Step, nothing, began, rowGiven, recordsMade, closed, scanOpened, scanClosed, merged, released, step, next-step}
+use Rattle.history.proofs.Steps.{Step, nothing, began, rowGiven, recordsMade, closed, scanOpened, scanClosed, merged, released, next-step}
 use Rattle.layout.specs.View.{View, renew, put}
 use Rattle.layout.specs.declared.Region.the-variants.{RowMask}
 use Rattle.terms.specs.declared.Place.{Place}
-use Rattle.model.specs.Stored.{rowIn, pageIn, cellIn, currentIn, headerIn, placeOf, within, rowsGiven, openPlace}
+use Rattle.model.specs.Stored.{rowIn, pageIn, cellIn, currentIn, within, openPlace}
 use Rattle.model.specs.Reading.{scanPage, wasCurrent}
-use Rattle.model.specs.Writing.{begun, noted, settled, freed, committedIn, abortedIn, insertedAt, insertedIn, nextSlot, appended, filledIn, newBitsIn, originalAppended, settingAppended, updatedIn, deletedIn, mergedIn, releasedIn}
+use Rattle.model.specs.Writing.{begun, noted, settled, freed, committedIn, abortedIn, insertedAt, insertedIn, appended, filledIn, newBitsIn, originalAppended, settingAppended, updatedIn, deletedIn, mergedIn, releasedIn}
 use Rattle.model.specs.Calls.{Typed, testsIn, actIn, viewIf, viewNext, placesNext, viewAfter}
 use Rattle.model.proofs.Lists.{same-part}
 use Rattle.model.proofs.Represents.{ScanPageIs, Represents, Known}
 use Rattle.model.proofs.Insert.{inside, cell-kept}
 use Rattle.model.proofs.Merged.{scan-same, scan-not-free, cells-other}
-use Rattle.model.proofs.Scans.{scan-current, nth-before, nth-last}
+use Rattle.model.proofs.Scans.{nth-before}
 use Rattle.model.proofs.Steady.{rows-grow}
 use Rattle.model.proofs.Release.{scan-page-kept}
 use Rattle.model.proofs.Calls.{agree-verdict, tests-agree, active-of, column-lt, range-lt, above-of, none-active, page-room, merges-few, known-next, one-call}

@@ -1,36 +1,35 @@
 -- The read: the page's cell, the records above its lineage, and those below where it must be, give the value that the history reads.
-use mathlib.Core.Path.{_≡_, refl, sym, _∙_, ap, subst}
-use mathlib.Core.Logic.{_≢_}
-use mathlib.Core.Bool.{Bool, true, false, not, cond, _&&_, _||_, and-false, and-true, or-false}
-use mathlib.Core.List.{List, [], _∷_, _++_}
+use mathlib.Core.Path.{_≡_, refl, sym, _∙_, ap}
+use mathlib.Core.Bool.{Bool, true, false, cond, _&&_, _||_, and-false, and-true, or-false}
+use mathlib.Core.List.{List}
 use Prim.Native.Nat.{ℕ, zero, suc, _+_, _*_, _≤_, _<_, zero-le}
 use native.Mathlib.Omega.{arith}
 use native.Mathlib.Nat.{le-refl, le-trans, not-suc-le-zero}
 use native.Mathlib.Decide.{ℕ-discrete}
-use lib.Dec.{T, leb, ltb, eqb, eqb→eq, leb→le, le→leb}
+use lib.Dec.{T, leb, eqb, eqb→eq, leb→le, le→leb}
 use lib.ListN.{length, getD, take}
 use lib.Seq.{take-length}
 use lib.IntN.{ℤ, pos}
 use mir.Syntax.{w32}
 use mir.Val.{toZ}
-use Rattle.terms.specs.Measures.{Shape, rangeRows, mostColumns}
+use Rattle.terms.specs.Measures.{Shape}
 use Rattle.terms.specs.declared.Answer.{Answer}
-use Rattle.history.specs.History.{History, Record, Version, State, unknown, active, aborted, committed, Content, original, setting, ending, any, isCommitted, stateOf, rowAt, bit, sets, newValue, insertedValue, inserted, versionIn, lastSetting, rangeOf, recordsOf, visible, versionOf, read}
-use Rattle.history.proofs.Lists.{All, all-map₂, is-true, is-false, refuted, eqb-other, eqb-equal, among, any-none, all-take, not-any}
+use Rattle.history.specs.History.{History, Record, Version, State, aborted, committed, Content, original, setting, ending, any, isCommitted, stateOf, bit, sets, newValue, insertedValue, inserted, versionIn, lastSetting, rangeOf, recordsOf, visible, versionOf, read, cellThrough}
+use Rattle.history.proofs.Lists.{all-map₂, is-true, refuted, any-none, all-take, not-any}
 use Rattle.history.proofs.Steps.{isOriginal, wasSet, hasOriginal}
-use Rattle.history.proofs.States.{isClosed, stampOf}
+use Rattle.history.specs.Latest.{stampOf}
+use Rattle.history.proofs.States.{isClosed}
 use Rattle.history.proofs.Order.{InOrder, placed-at}
-use Rattle.history.proofs.Ranges.{found, version-range, last-next, last-agree, last-unset}
+use Rattle.history.proofs.Ranges.{version-range, last-next, last-agree, last-unset}
 use Rattle.history.proofs.Links.{noRecord, lastOf, last-of-row}
-use Rattle.history.proofs.Endings.{original-reads, originals-of, set-range}
-use Rattle.history.proofs.Pages.{cellThrough}
+use Rattle.history.proofs.Endings.{original-reads, originals-of}
 use Rattle.layout.specs.View.{View}
 use Rattle.terms.specs.declared.Place.{Place}
 use Rattle.model.specs.declared.Walk.{Walk}
-use Rattle.model.specs.Stored.{RecordWords, PageWords, rowIn, recordIn, valueIn, pageIn, cellIn, usedIn, slot, within, originalKind, settingKind}
-use Rattle.model.specs.Reading.{sees, seesRecord, answersFor, walk, orElse, belowLineage, wordIn, visibleIn, readIn}
-use Rattle.model.proofs.Lists.{clash, true-false, take-next}
-use Rattle.model.proofs.Represents.{stateWord, RowIs, ContentIs, RecordIs, TailIs, Holds, NotAfter, Represents, Known}
+use Rattle.model.specs.Stored.{PageWords, rowIn, recordIn, valueIn, pageIn, cellIn, usedIn, within, originalKind, settingKind}
+use Rattle.model.specs.Reading.{sees, answersFor, walk, orElse, belowLineage, wordIn, readIn}
+use Rattle.model.proofs.Lists.{true-false, take-next}
+use Rattle.model.proofs.Represents.{stateWord, ContentIs, RecordIs, TailIs, Holds, Represents, Known}
 use Rattle.model.proofs.Heads.{slot-is, in-range, SeesAs, visible-is}
 
 -- ---- one record

@@ -1,45 +1,36 @@
 -- Update and delete keep the relation: the records that a call makes stand at the end of their range, the row's link leads to the last of them, and the row's
 -- mask has their columns.
 use mathlib.Core.Path.{_≡_, refl, sym, _∙_, ap, subst}
-use mathlib.Core.Logic.{_≢_, _⊎_, inl, inr}
-use mathlib.Core.Bool.{Bool, true, false, not, cond, _&&_, _||_, or-false}
-use mathlib.Core.List.{List, [], _∷_, _++_, append-nil, append-assoc}
+use mathlib.Core.Logic.{_≢_}
+use mathlib.Core.Bool.{Bool, true, false, cond, _&&_, _||_, or-false}
+use mathlib.Core.List.{List, [], _∷_, _++_, append-nil}
 use Prim.Native.Nat.{ℕ, zero, suc, _+_, _*_, _^_, _≤_, _<_}
 use native.Mathlib.Omega.{arith}
-use native.Mathlib.Nat.{le-refl, le-trans}
+use native.Mathlib.Nat.{le-refl}
 use native.Mathlib.Decide.{ℕ-discrete}
-use lib.Dec.{T, eqb, eqb→eq}
-use lib.ListN.{length, getD, set, take, length-append, List·getD-append}
-use lib.Seq.{getD-set-same, getD-set-other, getD-append-seam, getD-append-add}
-use lib.IntN.{ℤ, pos}
-use lib.Bits.{bitOr, or-lt, xor-lt}
-use mir.Syntax.{w32}
-use mir.Val.{toZ, ofZ, SFits}
-use mir.ValLaws.{toZ-ofZ, ofZ-fits}
-use Rattle.terms.specs.Measures.{Shape, rangeRows, mostColumns}
-use Rattle.history.specs.History.{Call, update, delete, History, Row, Record, State, active, Content, original, setting, ending, any, upTo, isActive, stateOf, rowAt, insertedValue, inserted, bit, sets, rangeOf, recordsOf, mergedThrough, scanAt, badMask, newColumns, originalRecords, updateRecords, deleteRecords, withTail}
-use Rattle.history.proofs.Lists.{All, nil, cons, all-map, all-at, all-append, any-append, is-true, is-false, eqb-other, parts, among, among-upTo}
-use Rattle.history.proofs.Steps.{Step, New, wasSet, new-columns}
-use Rattle.history.proofs.Masks.{bit-low}
-use Rattle.history.proofs.Timely.{Timely}
+use lib.Dec.{T, eqb}
+use lib.ListN.{length, getD, set, length-append}
+use lib.Seq.{getD-append-seam, getD-append-add}
+use Rattle.terms.specs.Measures.{Shape}
+use Rattle.history.specs.History.{delete, History, Record, State, active, Content, ending, isActive, stateOf, rowAt, bit, sets, rangeOf, recordsOf, scanAt, deleteRecords, withTail}
+use Rattle.history.proofs.Lists.{All, nil, all-map, all-at, all-append, any-append, eqb-other}
+use Rattle.history.proofs.Steps.{Step, New, wasSet}
 use Rattle.history.proofs.Ranges.{records-made}
 use Rattle.history.proofs.Links.{noRecord, lastOf, last-of-append}
-use Rattle.history.proofs.Endings.{set-range}
 use Rattle.layout.specs.View.{View, renew, put}
-use Rattle.layout.specs.declared.Region.the-variants.{Opens, RowTransaction, RowState, RowStamp, RowLink, RowMask, Changes}
+use Rattle.layout.specs.declared.Region.the-variants.{Opens, RowTransaction, RowState, RowStamp, RowMask, Changes}
 use Rattle.terms.specs.declared.Place.{Place}
-use Rattle.model.specs.Stored.{RowWords, RecordWords, rowIn, recordIn, valueIn, pageIn, cellIn, currentIn, usedIn, within, openPlace, nextWord, bears, place, asOpen, asOriginal, asSetting, asDelete}
+use Rattle.model.specs.Stored.{RowWords, RecordWords, rowIn, recordIn, valueIn, pageIn, cellIn, currentIn, usedIn, openPlace, nextWord, bears, place, asOpen, asDelete}
 use Rattle.model.specs.Reading.{scanPage, wasCurrent}
-use Rattle.model.specs.Writing.{noted, nextSlot, appended, filledIn, newBits, newBitsIn, recordsWanted, originalAppended, settingAppended, updatedIn, deletedIn}
-use Rattle.model.proofs.Lists.{clash, true-false, eqb-same, is-equal}
-use Rattle.model.proofs.Represents.{stateWord, RowIs, ContentIs, RecordIs, TailIs, RowsAre, TailsFor, TailsAre, CurrentsAre, WaitingAre, ScanPagesAre, Unchanged, NotesAre, Represents, Known, Whole}
-use Rattle.model.proofs.Steady.{current-step, waiting-step, scan-page-step}
-use Rattle.model.proofs.Views.{renew-whole, put-whole}
+use Rattle.model.specs.Writing.{noted, nextSlot, appended, filledIn, deletedIn}
+use Rattle.model.proofs.Lists.{eqb-same}
+use Rattle.model.proofs.Represents.{stateWord, RowIs, ContentIs, RecordIs, TailIs, TailsFor, TailsAre, NotesAre, Represents, Known, Whole}
+use Rattle.model.proofs.Steady.{currents-stay, waits-stay, scan-stays}
+use Rattle.model.proofs.Views.{put-whole}
 use Rattle.model.proofs.Notes.{notes-more, few-changes, active-given}
-use Rattle.model.proofs.Insert.{bit-none, never-set, value-fits}
+use Rattle.model.proofs.Insert.{never-set}
 use Rattle.model.proofs.Heads.{in-range}
-use Rattle.model.proofs.Masks.{bit-or, bit-new, no-bits}
-use Rattle.model.proofs.Append.{tails-more, appended-here, appended-there, used-here, used-there, link-here, link-there, appended-whole, slot-next, slot-in, filled-here, filled-there, filled-whole, content-values}
+use Rattle.model.proofs.Append.{tails-more, appended-here, appended-there, used-here, used-there, link-here, link-there, appended-whole, slot-next, slot-in, filled-here, filled-there, content-values}
 
 -- ---- the last record of a row
 -- records of other rows at the end do not matter
@@ -109,18 +100,6 @@ module _ (S : Shape) (v : View) (ps : List Place) (h : History) (o : Represents 
         mask = λ c. e5 c ∙ rw (p .mask c) (sym (set-append (recordsOf h (rangeOf r)) ms r c));
       }
 
-  pub made-currents : {y : Call} → Step S h y h′ → CurrentsAre S h′ v
-  unfolding mergedThrough withTail
-  made-currents step g c p q = current-step (k .past .order) step refl refl (le-refl _) (o .currents g c p q)
-
-  pub made-waits : {y : Call} → Step S h y h′ → WaitingAre S h′ v
-  unfolding withTail
-  made-waits step p q u = waiting-step step (le-refl _) (o .waits p q u)
-
-  pub made-scans : {y : Call} → Step S h y h′ → ScanPagesAre S h′ v
-  unfolding withTail scanAt Timely
-  made-scans step i u g c p q = scan-page-step (k .past .order) step (k .past .timely i) (le-refl _) (o .scanPages i u g c p q)
-
   is-active : T (isActive (stateOf h t))
   unfolding isActive
   is-active = rw a tt
@@ -164,7 +143,7 @@ module _ (S : Shape) (u : View) (whole : Whole S u) (st : ℕ → State) (list l
   there j f = appended-there S t r kind mask u whole inside room′ j (λ e. f (e ∙ end-is))
 
   open-record : (value : ℕ → ℕ) → ContentIs (S .columns) content kind mask value → RecordIs (S .columns) st record { transaction = t; row = r; content = content } (recordIn (appended S t r kind mask u) end) value
-  open-record value c = rw here record { transaction = refl; row = refl; state = sym (ap stateWord a); stamp = sym (ap Rattle.history.proofs.States.stampOf a); content = c }
+  open-record value c = rw here record { transaction = refl; row = refl; state = sym (ap stateWord a); stamp = sym (ap Rattle.history.specs.Latest.stampOf a); content = c }
 
   new-link : (recordIn (appended S t r kind mask u) end) .link ≡ lastOf (list g₀) r n
   new-link = ap (λ (x : RecordWords). x .link) here ∙ link
@@ -216,7 +195,7 @@ number-fits {h = h} k t a = omega (arith, active-given (h .transactions) t a, k 
 pub delete-kept : (S : Shape) (v : View) (ps : List Place) (h : History) → Represents S v ps h → Known S h → (t r : ℕ) → stateOf h t ≡ active → r < length (h .rows)
     → length (recordsOf h (rangeOf r)) + 1 ≤ S .capacity → Step S h (delete t r) (withTail h (h .tail ++ deleteRecords t r)) → All (New h t r) (deleteRecords t r)
     → Represents S (deletedIn S t r v) ps (withTail h (h .tail ++ deleteRecords t r))
-unfolding deletedIn noted openPlace put renew withTail deleteRecords recordIn valueIn pageIn cellIn currentIn scanPage wasCurrent appended stateOf rowAt
+unfolding deletedIn noted openPlace put renew withTail deleteRecords recordIn valueIn pageIn cellIn currentIn scanPage wasCurrent appended stateOf rowAt scanAt
 delete-kept S v ps h o k t r a b room step new =
     record {
       header = o .header;
@@ -224,11 +203,11 @@ delete-kept S v ps h o k t r a b room step new =
       notes = made-notes S v ps h o k t r a b (y ∷ []) new (omega arith);
       rows = λ i u. rows i (ℕ-discrete i r) u;
       tails = tails-are S v ps h o k t r a b (y ∷ []) new w tails;
-      currents = made-currents S v ps h o k t r a b (y ∷ []) new step;
-      waits = made-waits S v ps h o k t r a b (y ∷ []) new step;
+      currents = currents-stay o k step refl refl;
+      waits = waits-stay o k step refl;
       pool = o .pool;
       scans = o .scans;
-      scanPages = made-scans S v ps h o k t r a b (y ∷ []) new step;
+      scanPages = λ i. scan-stays o k step refl i refl;
       whole = put-whole Changes _ _ (omega arith) (appended-whole S t r asDelete 0 v (o .whole) inside room′ (omega (arith, number-fits k t a)) (omega (arith, row-fits k r b)) (omega arith) (omega arith) (small-shape k));
     }
   where

@@ -1,31 +1,31 @@
 -- Release keeps the relation: a waiting page is freed unless an open scan was opened before the merge that replaced it, so no open scan's page is freed.
 use mathlib.Core.Path.{_≡_, refl, sym, _∙_, ap, subst}
-use mathlib.Core.Logic.{_≢_, _⊎_, inl, inr}
+use mathlib.Core.Logic.{_⊎_, inl, inr}
 use mathlib.Core.Bool.{Bool, true, false, not, cond, _&&_, _||_, and-false, and-true}
-use mathlib.Core.List.{List, [], _∷_, _++_}
-use Prim.Native.Nat.{ℕ, zero, suc, _+_, _*_, _^_, _≤_, _<_}
+use mathlib.Core.List.{List, [], _∷_}
+use Prim.Native.Nat.{ℕ, zero, suc, _^_, _≤_, _<_}
 use native.Mathlib.Omega.{arith}
-use native.Mathlib.Nat.{le-refl, zero-add}
-use lib.Dec.{T, leb, ltb, eqb, eqb→eq, leb→le, le→leb, ltb→lt, lt→ltb, not-T}
-use lib.ListN.{length, getD, set}
+use native.Mathlib.Nat.{zero-add}
+use lib.Dec.{T, leb, ltb, eqb, eqb→eq, leb→le, le→leb, ltb→lt, lt→ltb}
+use lib.ListN.{length, getD}
 use Rattle.terms.specs.Measures.{Shape}
-use Rattle.history.specs.History.{Call, release, merge, History, Scan, Merge, any, count, nth, stateOf, rowAt, recordsOf, mergedThrough, scanAt, seenAt, neededBy, afterRelease, releasedCount, withMerges}
-use Rattle.history.proofs.Lists.{is-true, is-false, refuted, parts, both}
+use Rattle.history.specs.History.{release, History, Scan, Merge, any, nth, stateOf, rowAt, recordsOf, mergedThrough, scanAt, neededBy, afterRelease, releasedCount, withMerges}
+use Rattle.history.proofs.Lists.{is-true, refuted, parts, both}
 use Rattle.history.proofs.Steps.{Step}
 use Rattle.history.proofs.Timely.{Timely}
 use Rattle.history.proofs.Pages.{lineage-step, lineage-stays}
 use Rattle.loops.specs.Change.{changed}
 use Rattle.loops.proofs.Change.{changed-length, changed-at, changed-fit}
-use Rattle.layout.specs.View.{View, renew, put}
-use Rattle.layout.specs.declared.Region.the-variants.{PageState, PagePlace, PageMade, PageReplaced, PageLineage, PageNewest}
+use Rattle.layout.specs.View.{View, renew}
+use Rattle.layout.specs.declared.Region.the-variants.{PageState}
 use Rattle.terms.specs.declared.Place.{Place}
 use Rattle.model.specs.Stored.{PageWords, rowIn, recordIn, valueIn, pageIn, cellIn, currentIn, placeOf, pagesOf, asFree, currentPage, waitingPage, countBelow}
 use Rattle.model.specs.Reading.{wasCurrent, scanPage}
 use Rattle.model.specs.Writing.{neededIn, releasable, releasedIn}
 use Rattle.model.proofs.Lists.{clash, true-false, countFrom, any-count, from-count, count-ext, first-ext, below-ext, same-truth}
-use Rattle.model.proofs.Represents.{CurrentIs, CurrentsAre, WaitingIs, WaitingAre, PoolIs, ScanPageIs, ScanPagesAre, ScansAre, scanAs, madeIn, Represents, Known, Whole}
+use Rattle.model.proofs.Represents.{CurrentIs, CurrentsAre, WaitingIs, WaitingAre, PoolIs, ScanPageIs, ScanPagesAre, ScansAre, madeIn, Represents, Known, Whole}
 use Rattle.model.proofs.Steady.{current-step, waiting-step, scan-page-step}
-use Rattle.model.proofs.Views.{renew-whole}
+use Rattle.model.proofs.Views.{renew-whole, header-same}
 use Rattle.model.proofs.Scans.{scan-current}
 use Rattle.model.proofs.ScanPages.{WasCurrent, was-current, search-same, search, scan-cases, found-page, scan-page-same}
 
@@ -254,18 +254,7 @@ module _ (S : Shape) (v : View) (ps : List Place) (h : History) (o : Represents 
   unfolding withMerges stateOf rowAt recordsOf releasedIn renew rowIn recordIn valueIn
   release-kept step =
       record {
-        header =
-            record {
-              columns = o .header .columns;
-              ranges = o .header .ranges;
-              capacity = o .header .capacity;
-              spares = o .header .spares;
-              rows-given = o .header .rows-given;
-              transactions-given = o .header .transactions-given;
-              scans-given = o .header .scans-given;
-              last-stamp = o .header .last-stamp;
-              merges-made = o .header .merges-made ∙ sym merges-same;
-            };
+        header = header-same refl refl refl (sym merges-same) (o .header);
         opens = o .opens;
         notes = o .notes;
         rows = o .rows;

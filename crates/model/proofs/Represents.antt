@@ -2,21 +2,21 @@
 -- needs and of the parts of the history that it needs, so that a call that leaves those leaves the part as it stands.
 use mathlib.Core.Path.{_≡_}
 use mathlib.Core.Logic.{_≢_}
-use mathlib.Core.Bool.{Bool, true, false, not, cond, _&&_, _||_}
-use mathlib.Core.List.{List, [], _∷_}
-use Prim.Native.Nat.{ℕ, zero, suc, _+_, _*_, _≤_, _<_}
+use mathlib.Core.Bool.{Bool, not, _&&_}
+use mathlib.Core.List.{List}
+use Prim.Native.Nat.{ℕ, _+_, _*_, _≤_, _<_}
 use lib.Dec.{T, eqb}
 use lib.ListN.{length, getD, take}
-use lib.IntN.{ℤ, pos}
+use lib.IntN.{pos}
 use mir.Syntax.{w32}
 use mir.Val.{toZ}
-use Rattle.terms.specs.Measures.{Shape, rangeRows, mostColumns, mostRanges, mostRecords, mostSpares, mostTransactions, mostScans}
-use Rattle.history.specs.History.{History, Row, Record, State, unknown, active, aborted, committed, Content, original, setting, ending, Scan, Merge, isActive, stateOf, rowAt, bit, sets, rangeOf, recordsOf, mergedThrough, scanAt, seenAt}
+use Rattle.terms.specs.Measures.{Shape, mostColumns, mostRanges, mostRecords, mostSpares, mostTransactions, mostScans}
+use Rattle.history.specs.History.{History, Row, Record, State, unknown, active, aborted, committed, Content, original, setting, ending, Scan, Merge, isActive, stateOf, rowAt, bit, sets, rangeOf, recordsOf, mergedThrough, scanAt, seenAt, cellThrough}
 use Rattle.history.proofs.Lists.{All, among}
 use Rattle.history.proofs.Steps.{wasSet}
-use Rattle.history.proofs.States.{stampOf}
+use Rattle.history.specs.Latest.{stampOf}
 use Rattle.history.proofs.Past.{Past}
-use Rattle.history.proofs.Pages.{Through, cellThrough}
+use Rattle.history.proofs.Pages.{Through}
 use Rattle.history.proofs.Links.{noRecord, lastOf}
 use Rattle.words.proofs.Words.{Fit}
 use Rattle.layout.specs.View.{View}
@@ -24,7 +24,8 @@ use Rattle.layout.proofs.View.{Long}
 use Rattle.layout.specs.declared.Region.{Region}
 use Rattle.layout.specs.declared.Region.the-variants.{Opens, Changes}
 use Rattle.terms.specs.declared.Place.{Place}
-use Rattle.model.specs.Stored.{RowWords, RecordWords, PageWords, rowIn, recordIn, pageIn, valueIn, usedIn, currentIn, cellIn, within, placeOf, placesOf, pagesOf, sizesOf, headerIn, rowsGiven, transactionsGiven, scansGiven, lastStamp, mergesMade, asOpen, asCommitted, asAborted, asOriginal, asSetting, asDelete, asCurrent, currentPage, waitingPage, countBelow}
+use Rattle.layout.specs.Sizes.{sizesOf}
+use Rattle.model.specs.Stored.{RowWords, RecordWords, PageWords, rowIn, recordIn, pageIn, valueIn, usedIn, currentIn, cellIn, within, placeOf, placesOf, pagesOf, headerIn, rowsGiven, transactionsGiven, scansGiven, lastStamp, mergesMade, asOpen, asCommitted, asAborted, asOriginal, asSetting, asDelete, asCurrent, currentPage, waitingPage, countBelow}
 use Rattle.model.specs.Reading.{scanPage}
 use Rattle.model.proofs.Lists.{countFrom}
 

@@ -1,10 +1,10 @@
 -- How a scan's page is found: the current page if it was made before the scan was opened, else the one waiting page that was current then.
-use mathlib.Core.Path.{_≡_, refl, sym, _∙_, ap}
-use mathlib.Core.Logic.{_≢_, _⊎_, inl, inr}
-use mathlib.Core.Bool.{Bool, true, false, not, cond, _&&_, _||_, and-false}
-use Prim.Native.Nat.{ℕ, zero, suc, _+_, _*_, _%_, _≤_, _<_}
+use mathlib.Core.Path.{_≡_, _∙_, ap}
+use mathlib.Core.Logic.{_⊎_, inl, inr}
+use mathlib.Core.Bool.{Bool, true, false, not, cond, _&&_}
+use Prim.Native.Nat.{ℕ, _%_, _≤_, _<_}
 use native.Mathlib.Omega.{arith}
-use lib.Dec.{T, leb, ltb, eqb, eqb→eq, leb→le, nleb→lt, le→leb, ltb→lt, lt→ltb, nltb→le}
+use lib.Dec.{T, leb, ltb, eqb, eqb→eq, leb→le, nleb→lt, le→leb, ltb→lt, lt→ltb}
 use Rattle.terms.specs.Measures.{Shape}
 use Rattle.history.proofs.Lists.{is-true, refuted, parts, both, eqb-equal}
 use Rattle.layout.specs.View.{View}

@@ -2,31 +2,29 @@
 -- leaves a free place.
 use mathlib.Core.Path.{_≡_, refl, sym, _∙_, ap, fun-ext, subst, subst₂}
 use mathlib.Core.Logic.{_≢_}
-use mathlib.Core.Bool.{Bool, true, false, not, cond, _&&_, _||_, and-true}
+use mathlib.Core.Bool.{Bool, true, false, not, and-true}
 use mathlib.Core.List.{List, [], _∷_, _++_}
-use Prim.Native.Nat.{ℕ, zero, suc, _+_, _*_, _^_, _≤_, _<_}
+use Prim.Native.Nat.{ℕ, zero, suc, _+_, _≤_, _<_}
 use native.Mathlib.Omega.{arith}
-use native.Mathlib.Nat.{le-refl, le-trans}
+use native.Mathlib.Nat.{le-refl}
 use native.Mathlib.Decide.{ℕ-discrete}
 use lib.Dec.{T, leb, ltb, eqb, lt→ltb, le→leb}
-use lib.ListN.{length, getD, set, length-append, length-set}
-use lib.Seq.{getD-set-same, getD-set-other}
+use lib.ListN.{length, set, length-append, length-set}
 use Rattle.terms.specs.Measures.{Shape, mostScans, mostNumbers}
-use Rattle.history.specs.History.{Call, openScan, close, History, Scan, any, count, nth, change, stateOf, rowAt, recordsOf, mergedThrough, scanAt, seenAt, stopped, withScans}
+use Rattle.history.specs.History.{openScan, close, History, Scan, any, count, nth, change, stateOf, rowAt, recordsOf, scanAt, stopped, withScans}
 use Rattle.history.proofs.Lists.{is-true, length-change, nth-other, nth-changed}
 use Rattle.history.proofs.Steps.{Step}
-use Rattle.history.proofs.Timely.{Timely}
 use Rattle.layout.specs.View.{View, renew, put}
 use Rattle.layout.specs.declared.Region.the-variants.{Header}
 use Rattle.terms.specs.declared.Place.{Place}
-use Rattle.model.specs.Stored.{rowIn, recordIn, valueIn, pageIn, cellIn, currentIn, headerIn, scansGiven, mergesMade, bears, place, freePlace, scanPlace, pagesOf}
+use Rattle.model.specs.Stored.{rowIn, recordIn, valueIn, pageIn, cellIn, currentIn, headerIn, scansGiven, mergesMade, bears, place, freePlace, scanPlace}
 use Rattle.model.specs.Reading.{scanPage, wasCurrent}
-use Rattle.model.proofs.Lists.{any-count, clash}
+use Rattle.model.proofs.Lists.{any-count}
 use Rattle.model.proofs.Book.{book-is, book-room, book-count, book-add, book-drop, book-found}
-use Rattle.model.proofs.Represents.{Holds, everyRow, CurrentIs, CurrentsAre, WaitingAre, ScanPageIs, ScanPagesAre, ScansAre, scanAs, Represents, Known}
+use Rattle.model.proofs.Represents.{CurrentIs, ScanPageIs, ScanPagesAre, ScansAre, scanAs, Represents, Known}
 use Rattle.model.proofs.Holding.{holds-step, same-rows}
-use Rattle.model.proofs.Steady.{current-step, waiting-step, scan-page-step}
-use Rattle.model.proofs.Views.{put-whole, kept-word}
+use Rattle.model.proofs.Steady.{currents-stay, waits-stay, scan-stays}
+use Rattle.model.proofs.Views.{put-whole, header-put, header-same}
 
 -- ---- the places of scans are a book
 abbrev none : Scan
@@ -84,26 +82,6 @@ pub scan-current : (S : Shape) (v : View) (m g c : ℕ) → (pageIn v (currentIn
 unfolding scanPage
 scan-current S v m g c b = rw (is-true (leb ((pageIn v (currentIn S v g c)) .made) m) (le→leb _ m b))
 
-module _ (S : Shape) (v : View) (ps : List Place) (h : History) (o : Represents S v ps h) (k : Known S h) (ss : List Scan) where
-  abbrev h′ : History
-  h′ = withScans h ss
-
-  scans-currents : {y : Call} → Step S h y h′ → CurrentsAre S h′ v
-  unfolding mergedThrough withScans
-  scans-currents step g c p q = current-step (k .past .order) step refl refl (le-refl _) (o .currents g c p q)
-
-  scans-waits : {y : Call} → Step S h y h′ → WaitingAre S h′ v
-  unfolding withScans
-  scans-waits step p q u = waiting-step step (le-refl _) (o .waits p q u)
-
-  -- a scan that was running before
-  scan-stays : {y : Call} → Step S h y h′ → (i : ℕ) → nth ss i none ≡ scanAt h i → T ((nth ss i none) .running) → (g c : ℕ) → g < S .ranges → c < S .columns
-      → ScanPageIs S h′ (nth ss i none) g c (scanPage S v ((nth ss i none) .before) g c) (pageIn v (scanPage S v ((nth ss i none) .before) g c)) (cellIn v (scanPage S v ((nth ss i none) .before) g c))
-  unfolding withScans Timely
-  scan-stays step i e t g c p q =
-      subst (λ (s : Scan). ScanPageIs S h′ s g c (scanPage S v (s .before) g c) (pageIn v (scanPage S v (s .before) g c)) (cellIn v (scanPage S v (s .before) g c))) (sym e)
-      (scan-page-step (k .past .order) step (k .past .timely i) (le-refl _) (o .scanPages i (subst (λ (s : Scan). T (s .running)) e t) g c p q))
-
 -- ---- open scan
 module _ (S : Shape) (v : View) (ps : List Place) (h : History) (o : Represents S v ps h) (k : Known S h) (s : ℕ) (room : count (λ s. s .running) (h .scans) < mostScans)
     (few : length (h .scans) < mostNumbers) where
@@ -139,7 +117,7 @@ module _ (S : Shape) (v : View) (ps : List Place) (h : History) (o : Represents 
       go (yes e) =
           subst (λ (s : Scan). ScanPageIs S after s g c (scanPage S v (s .before) g c) (pageIn v (scanPage S v (s .before) g c)) (cellIn v (scanPage S v (s .before) g c)))
           (sym (ap (λ (j : ℕ). nth list j none) e ∙ nth-last (h .scans) new none)) (new-page step g c p q)
-      go (no f) = scan-stays S v ps h o k list step i (nth-before (h .scans) new none i f) t g c p q
+      go (no f) = scan-stays o k step refl i (nth-before (h .scans) new none i f) t g c p q
 
   pub open-kept : Step S h (openScan s) after
       → Represents S (put Header scansGiven (headerIn v scansGiven + 1) v)
@@ -147,24 +125,13 @@ module _ (S : Shape) (v : View) (ps : List Place) (h : History) (o : Represents 
   unfolding put renew withScans rowIn recordIn valueIn pageIn cellIn currentIn scanPage wasCurrent stateOf rowAt recordsOf
   open-kept step =
       record {
-        header =
-            record {
-              columns = kept-word (v Header) 6 0 n tt ∙ o .header .columns;
-              ranges = kept-word (v Header) 6 1 n tt ∙ o .header .ranges;
-              capacity = kept-word (v Header) 6 2 n tt ∙ o .header .capacity;
-              spares = kept-word (v Header) 6 3 n tt ∙ o .header .spares;
-              rows-given = kept-word (v Header) 6 4 n tt ∙ o .header .rows-given;
-              transactions-given = kept-word (v Header) 6 5 n tt ∙ o .header .transactions-given;
-              scans-given = getD-set-same (v Header) 6 n 0 (omega (arith, o .whole .long Header)) ∙ e ∙ sym (simp length-append (omega arith));
-              last-stamp = kept-word (v Header) 6 7 n tt ∙ o .header .last-stamp;
-              merges-made = kept-word (v Header) 6 8 n tt ∙ o .header .merges-made;
-            };
+        header = header-same refl refl (e ∙ sym (simp length-append (omega arith))) refl (header-put (v Header) 6 n (omega (arith, o .whole .long Header)) (omega arith) (o .header));
         opens = o .opens;
         notes = o .notes;
         rows = o .rows;
         tails = o .tails;
-        currents = scans-currents S v ps h o k (h .scans ++ new ∷ []) step;
-        waits = scans-waits S v ps h o k (h .scans ++ new ∷ []) step;
+        currents = currents-stay o k step refl refl;
+        waits = waits-stay o k step refl;
         pool = o .pool;
         scans = subst₂ (λ (i j : ℕ). ScansAre (h .scans ++ new ∷ []) (set ps (place (λ p. eqb (p .number) 0) ps) record { number = i; stamp = s; merges = j })) (sym e) (sym (o .header .merges-made)) (scans-add (h .scans) ps new (o .scans) tt room);
         scanPages = open-pages step;
@@ -193,30 +160,19 @@ module _ (S : Shape) (v : View) (ps : List Place) (h : History) (o : Represents 
       go : Dec (j ≡ i)
           → ScanPageIs S (withScans h ended) (nth ended j none) g c (scanPage S v ((nth ended j none) .before) g c) (pageIn v (scanPage S v ((nth ended j none) .before) g c)) (cellIn v (scanPage S v ((nth ended j none) .before) g c))
       go (yes e) = absurd (subst (λ (s : Scan). T (s .running)) (ap (λ (j : ℕ). nth ended j none) e ∙ nth-changed none (h .scans) i (stopped (scanAt h i)) running-known) t)
-      go (no f) = scan-stays S v ps h o k ended step j (nth-other none (h .scans) i (stopped (scanAt h i)) j f) t g c p q
+      go (no f) = scan-stays o k step refl j (nth-other none (h .scans) i (stopped (scanAt h i)) j f) t g c p q
 
   pub close-kept : Step S h (close i) (withScans h ended) → Represents S v (set ps (place (λ p. bears i (p .number)) ps) freePlace) (withScans h ended)
   unfolding withScans rowIn recordIn valueIn stateOf rowAt recordsOf
   close-kept step =
       record {
-        header =
-            record {
-              columns = o .header .columns;
-              ranges = o .header .ranges;
-              capacity = o .header .capacity;
-              spares = o .header .spares;
-              rows-given = o .header .rows-given;
-              transactions-given = o .header .transactions-given;
-              scans-given = o .header .scans-given ∙ sym (length-change (h .scans) i (stopped (scanAt h i)));
-              last-stamp = o .header .last-stamp;
-              merges-made = o .header .merges-made;
-            };
+        header = header-same refl refl (sym (length-change (h .scans) i (stopped (scanAt h i)))) refl (o .header);
         opens = o .opens;
         notes = o .notes;
         rows = o .rows;
         tails = o .tails;
-        currents = scans-currents S v ps h o k ended step;
-        waits = scans-waits S v ps h o k ended step;
+        currents = currents-stay o k step refl refl;
+        waits = waits-stay o k step refl;
         pool = o .pool;
         scans = scans-drop (h .scans) ps i (stopped (scanAt h i)) (o .scans) (unfold scanAt in run) (unfold stopped in refl);
         scanPages = close-pages step;

@@ -1,24 +1,26 @@
 -- What a step of the history leaves of the pages: the current pages, the waiting ones and those of the running scans, as long as their words stay.
 use mathlib.Core.Path.{_≡_, refl, sym, _∙_, ap, subst}
-use mathlib.Core.Logic.{_≢_, _⊎_, inl, inr}
-use mathlib.Core.Bool.{Bool, true, false, not, cond, _&&_, _||_}
+use mathlib.Core.Logic.{_⊎_, inl}
 use mathlib.Core.List.{List, [], _∷_, _++_}
-use Prim.Native.Nat.{ℕ, zero, suc, _+_, _*_, _≤_, _<_}
+use Prim.Native.Nat.{ℕ, zero, suc, _+_, _≤_, _<_}
 use native.Mathlib.Omega.{arith}
 use native.Mathlib.Nat.{le-refl, le-trans}
 use native.Mathlib.Decide.{ℕ-discrete, decLt}
-use lib.Dec.{T, leb, eqb, leb→le}
-use lib.ListN.{length, getD, take, length-append, List·getD-eq-default}
-use Rattle.terms.specs.Measures.{Shape, rangeRows}
+use lib.Dec.{T, leb, leb→le}
+use lib.ListN.{length, length-append, List·getD-eq-default}
+use Rattle.terms.specs.Measures.{Shape}
 use Rattle.history.specs.History as H
-use Rattle.history.specs.History.{Call, History, Row, Record, State, unknown, active, aborted, committed, Scan, nth, change, committedBy, stateOf, rowAt, rangeOf, recordsOf, mergedThrough, seenAt, scanAt, withRows, withTail, withTransactions, withScans, withMerges}
-use Rattle.history.proofs.Lists.{All, keep-append, nth-other, nth-changed}
+use Rattle.history.specs.History.{Call, History, Row, State, unknown, active, committed, Scan, nth, change, committedBy, stateOf, rowAt, recordsOf, mergedThrough, seenAt, scanAt, withRows, withTail, withTransactions, withScans, withMerges}
+use Rattle.history.proofs.Lists.{keep-append, nth-other, nth-changed}
 use Rattle.history.proofs.Steps.{Step, nothing, began, rowGiven, recordsMade, closed, scanOpened, scanClosed, merged, released, Closing, by-commit, by-abort}
 use Rattle.history.proofs.Order.{InOrder}
+use Rattle.history.proofs.Timely.{Timely}
 use Rattle.layout.specs.View.{View}
-use Rattle.model.specs.Stored.{PageWords, pageIn, cellIn, currentIn, pagesOf}
+use Rattle.terms.specs.declared.Place.{Place}
+use Rattle.model.specs.Stored.{PageWords, pageIn, cellIn}
+use Rattle.model.specs.Reading.{scanPage}
 use Rattle.model.proofs.Lists.{clash}
-use Rattle.model.proofs.Represents.{Holds, everyRow, CurrentIs, CurrentsAre, WaitingIs, WaitingAre, ScanPageIs}
+use Rattle.model.proofs.Represents.{CurrentIs, CurrentsAre, WaitingIs, WaitingAre, ScanPageIs, Represents, Known}
 use Rattle.model.proofs.Holding.{holds-step, last-step, same-rows, withRow, row-new, row-old, rows-more}
 
 -- ---- what only grows
@@ -172,3 +174,23 @@ scan-page-step {s = s} {g = g} {c = c} {x = x} i step b l o =
       made = o .made;
       holds = holds-step i step g c x (rows-grow step) (λ r e u. seen-step step (s .stamp) r b u) (o .holds);
     }
+
+-- ---- a step that makes no merge, in a memory whose pages stay
+module _ {S : Shape} {v : View} {ps : List Place} {h h′ : History} {y : Call} (o : Represents S v ps h) (k : Known S h) (step : Step S h y h′) (same : h′ .merges ≡ h .merges) where
+  as-many : length (h .merges) ≤ length (h′ .merges)
+  as-many = omega (arith, ap length same)
+
+  pub currents-stay : length (h .rows) ≡ length (h′ .rows) → CurrentsAre S h′ v
+  unfolding mergedThrough
+  currents-stay e g c a b = current-step (k .past .order) step e (ap (H.lastThrough g c 0) same) as-many (o .currents g c a b)
+
+  pub waits-stay : WaitingAre S h′ v
+  waits-stay p a b = waiting-step step as-many (o .waits p a b)
+
+  -- a scan that was running before
+  pub scan-stays : (i : ℕ) → scanAt h′ i ≡ scanAt h i → T (scanAt h′ i .running) → (g c : ℕ) → g < S .ranges → c < S .columns
+      → ScanPageIs S h′ (scanAt h′ i) g c (scanPage S v (scanAt h′ i .before) g c) (pageIn v (scanPage S v (scanAt h′ i .before) g c)) (cellIn v (scanPage S v (scanAt h′ i .before) g c))
+  unfolding Timely
+  scan-stays i e t g c a b =
+      subst (λ (s : Scan). ScanPageIs S h′ s g c (scanPage S v (s .before) g c) (pageIn v (scanPage S v (s .before) g c)) (cellIn v (scanPage S v (s .before) g c))) (sym e)
+      (scan-page-step (k .past .order) step (k .past .timely i) as-many (o .scanPages i (subst (λ (s : Scan). T (s .running)) e t) g c a b))

@@ -1,39 +1,38 @@
 -- Open transactions: begin, commit and abort keep the relation. Commit and abort mark every row and record that bears the number.
 use mathlib.Core.Path.{_≡_, refl, sym, _∙_, ap, subst}
-use mathlib.Core.Logic.{_≢_, _⊎_, inl, inr}
-use mathlib.Core.Bool.{Bool, true, false, not, cond, _&&_, _||_}
+use mathlib.Core.Logic.{_≢_, inl, inr}
+use mathlib.Core.Bool.{Bool, true, false, not, cond}
 use mathlib.Core.List.{List, [], _∷_, _++_}
 use Prim.Native.Nat.{ℕ, zero, suc, _+_, _*_, _^_, _≤_, _<_, zero-le}
 use native.Mathlib.Omega.{arith}
 use native.Mathlib.Nat.{le-refl, le-trans, not-suc-le-zero, zero-add, mul-le-mul-right, suc-mul}
 use native.Mathlib.Decide.{ℕ-discrete, decLt}
-use lib.Dec.{T, leb, ltb, eqb, eqb→eq, leb→le, le→leb, nltb→le, ltb→lt, not-T, T-not}
-use lib.ListN.{length, getD, set, take, length-append, length-set}
+use lib.Dec.{T, leb, ltb, eqb, eqb→eq, leb→le, le→leb, nltb→le, ltb→lt, not-T}
+use lib.ListN.{length, getD, set, length-append}
 use lib.Seq.{getD-set-same, getD-set-other}
 use Rattle.terms.specs.Measures.{Shape, rangeRows, mostTransactions, mostNumbers}
 use Rattle.history.specs.History as H
-use Rattle.history.specs.History.{Call, begin, commit, abort, History, Row, Record, State, unknown, active, aborted, committed, Content, original, setting, ending, Scan, any, count, nth, change, isActive, stateOf, rowAt, rangeOf, recordsOf, mergedThrough, scanAt, seenAt, withTransactions}
-use Rattle.history.proofs.Lists.{All, nil, cons, all-map, all-at, is-true, is-false, eqb-other, eqb-equal, nth-added, nth-changed, nth-other, length-change, parts, both}
-use Rattle.history.proofs.Steps.{Step, began, closed, Closing, by-commit, by-abort}
-use Rattle.history.proofs.States.{isGiven, stampOf, given-known}
+use Rattle.history.specs.History.{begin, commit, abort, History, Row, Record, State, unknown, active, aborted, committed, any, count, nth, change, isActive, stateOf, rowAt, rangeOf, recordsOf, scanAt, withTransactions}
+use Rattle.history.proofs.Lists.{All, nil, cons, all-map, eqb-other, eqb-equal, nth-added, nth-changed, nth-other, length-change, parts, both}
+use Rattle.history.proofs.Steps.{Step, Closing, by-commit, by-abort}
+use Rattle.history.specs.Latest.{stampOf}
+use Rattle.history.proofs.States.{isGiven, given-known}
 use Rattle.history.proofs.Order.{InOrder, placed-at}
-use Rattle.history.proofs.Timely.{Timely}
 use Rattle.history.proofs.Links.{noRecord}
-use Rattle.history.proofs.Past.{Past}
-use Rattle.loops.specs.Change.{changed, marked}
+use Rattle.loops.specs.Change.{marked}
 use Rattle.words.proofs.Words.{Fit}
-use Rattle.loops.proofs.Change.{changed-length, changed-outside, changed-at, changed-fit, set-fit}
+use Rattle.loops.proofs.Change.{changed-length, changed-outside, changed-at, changed-fit}
 use Rattle.layout.specs.View.{View, renew, put}
 use Rattle.layout.specs.declared.Region.the-variants.{Header, Opens, RowTransaction, RowState, RowStamp, TailTransaction, TailState, TailStamp, Used, Changes}
 use Rattle.terms.specs.declared.Place.{Place}
-use Rattle.model.specs.Stored.{RowWords, RecordWords, rowIn, recordIn, valueIn, pageIn, cellIn, currentIn, usedIn, headerIn, sizesOf, rowsGiven, transactionsGiven, scansGiven, lastStamp, mergesMade, bears, place, openPlace, asAborted, asCommitted}
+use Rattle.model.specs.Stored.{RowWords, RecordWords, rowIn, recordIn, valueIn, pageIn, cellIn, currentIn, usedIn, headerIn, rowsGiven, transactionsGiven, lastStamp, bears, place, openPlace, asAborted, asCommitted}
 use Rattle.model.specs.Reading.{scanPage, wasCurrent}
 use Rattle.model.specs.Writing.{begun, markTails, settled, freed, committedIn, abortedIn}
-use Rattle.model.proofs.Lists.{clash, same-truth, any-count, place-lt, place-is, part-in, parts-apart, is-equal}
+use Rattle.model.proofs.Lists.{clash, same-truth, any-count, place-lt, place-is, part-in, is-equal}
 use Rattle.model.proofs.Book.{book-is, book-room, book-add, book-drop, book-only}
-use Rattle.model.proofs.Represents.{stateWord, RowIs, RecordIs, TailIs, RowsAre, TailsAre, OpensAre, Unchanged, NotedIs, NotesAre, HeaderIs, CurrentsAre, WaitingAre, ScanPagesAre, Represents, Known, Whole}
-use Rattle.model.proofs.Views.{renew-whole, put-whole, kept-word}
-use Rattle.model.proofs.Steady.{current-step, waiting-step, scan-page-step}
+use Rattle.model.proofs.Represents.{stateWord, RowIs, RecordIs, TailIs, RowsAre, TailsAre, OpensAre, Unchanged, NotedIs, NotesAre, Represents, Known, Whole}
+use Rattle.model.proofs.Views.{renew-whole, put-whole, header-put, header-same}
+use Rattle.model.proofs.Steady.{currents-stay, waits-stay, scan-stays}
 
 -- ---- the open places are a book
 abbrev self : ℕ → ℕ
@@ -152,18 +151,6 @@ module _ (S : Shape) (v : View) (ps : List Place) (h : History) (o : Represents 
         links = t .links;
       }
 
-  begun-currents : Step S h begin begunHistory → CurrentsAre S begunHistory v
-  unfolding mergedThrough withTransactions
-  begun-currents step g c a b = current-step (k .past .order) step refl refl (le-refl _) (o .currents g c a b)
-
-  begun-waits : Step S h begin begunHistory → WaitingAre S begunHistory v
-  unfolding withTransactions
-  begun-waits step p a b = waiting-step step (le-refl _) (o .waits p a b)
-
-  begun-scans : Step S h begin begunHistory → ScanPagesAre S begunHistory v
-  unfolding withTransactions scanAt Timely
-  begun-scans step i t g c a b = scan-page-step (k .past .order) step (k .past .timely i) (le-refl _) (o .scanPages i t g c a b)
-
   begun-whole : length (h .transactions) < mostNumbers → Whole S (begun v)
   unfolding begun
   begun-whole few =
@@ -171,32 +158,21 @@ module _ (S : Shape) (v : View) (ps : List Place) (h : History) (o : Represents 
       put-whole Header transactionsGiven _ b (put-whole Changes _ 0 (omega arith) (put-whole Opens _ _ b (o .whole)))
 
   pub begin-kept : T (any (λ i. eqb i 0) (v Opens)) → Step S h begin begunHistory → length (h .transactions) < mostNumbers → Represents S (begun v) ps begunHistory
-  unfolding begun put renew withTransactions rowIn recordIn valueIn pageIn cellIn currentIn scanPage wasCurrent
+  unfolding begun put renew withTransactions rowIn recordIn valueIn pageIn cellIn currentIn scanPage wasCurrent scanAt
   begin-kept free step few =
       record {
-        header =
-            record {
-              columns = kept-word (v Header) 5 0 n tt ∙ o .header .columns;
-              ranges = kept-word (v Header) 5 1 n tt ∙ o .header .ranges;
-              capacity = kept-word (v Header) 5 2 n tt ∙ o .header .capacity;
-              spares = kept-word (v Header) 5 3 n tt ∙ o .header .spares;
-              rows-given = kept-word (v Header) 5 4 n tt ∙ o .header .rows-given;
-              transactions-given = getD-set-same (v Header) 5 n 0 (omega (arith, o .whole .long Header)) ∙ e ∙ sym (simp length-append (omega arith));
-              scans-given = kept-word (v Header) 5 6 n tt ∙ o .header .scans-given;
-              last-stamp = kept-word (v Header) 5 7 n tt ∙ o .header .last-stamp;
-              merges-made = kept-word (v Header) 5 8 n tt ∙ o .header .merges-made;
-            };
+        header = header-same refl (e ∙ sym (simp length-append (omega arith))) refl refl (header-put (v Header) 5 n (omega (arith, o .whole .long Header)) (omega arith) (o .header));
         opens = rw e (opens-begin (h .transactions) (v Opens) (o .opens) free);
         notes =
             notes-begin (h .rows) (h .tail) (v Opens) (v Changes) j n inside (omega (arith, inside, o .whole .long Opens, o .whole .long Changes))
             (subst (λ (t : ℕ). Unchanged (h .rows) (h .tail) t) (sym e) (not-begun h (k .past .order))) (o .notes);
         rows = begun-rows;
         tails = begun-tails;
-        currents = begun-currents step;
-        waits = begun-waits step;
+        currents = currents-stay o k step refl refl;
+        waits = waits-stay o k step refl;
         pool = o .pool;
         scans = o .scans;
-        scanPages = begun-scans step;
+        scanPages = λ i. scan-stays o k step refl i refl;
         whole = begun-whole few;
       }
     where
@@ -348,18 +324,6 @@ module _ (S : Shape) (v : View) (ps : List Place) (h : History) (o : Represents 
         links = y .links;
       }
 
-  closed-currents : {y : Call} → Step S h y closedHistory → CurrentsAre S closedHistory v
-  unfolding mergedThrough withTransactions
-  closed-currents step g c a b = current-step (k .past .order) step refl refl (le-refl _) (o .currents g c a b)
-
-  closed-waits : {y : Call} → Step S h y closedHistory → WaitingAre S closedHistory v
-  unfolding withTransactions
-  closed-waits step p a b = waiting-step step (le-refl _) (o .waits p a b)
-
-  closed-scans : {y : Call} → Step S h y closedHistory → ScanPagesAre S closedHistory v
-  unfolding withTransactions scanAt Timely
-  closed-scans step i t g c a b = scan-page-step (k .past .order) step (k .past .timely i) (le-refl _) (o .scanPages i t g c a b)
-
   is-active : T (isActive (stateOf h t))
   unfolding isActive
   is-active = rw a tt
@@ -376,30 +340,19 @@ module _ (S : Shape) (v : View) (ps : List Place) (h : History) (o : Represents 
 pub abort-kept : (S : Shape) (v : View) (ps : List Place) (h : History) → Represents S v ps h → Known S h → (t : ℕ) → stateOf h t ≡ active
     → Step S h (abort t) (withTransactions h (change (h .transactions) t aborted) (h .last))
     → Represents S (abortedIn S t v) ps (withTransactions h (change (h .transactions) t aborted) (h .last))
-unfolding abortedIn freed openPlace settled put renew withTransactions rowIn recordIn valueIn pageIn cellIn currentIn scanPage wasCurrent
+unfolding abortedIn freed openPlace settled put renew withTransactions rowIn recordIn valueIn pageIn cellIn currentIn scanPage wasCurrent scanAt
 abort-kept S v ps h o k t a step =
     record {
-      header =
-          record {
-            columns = o .header .columns;
-            ranges = o .header .ranges;
-            capacity = o .header .capacity;
-            spares = o .header .spares;
-            rows-given = o .header .rows-given;
-            transactions-given = o .header .transactions-given ∙ sym (length-change (h .transactions) t aborted);
-            scans-given = o .header .scans-given;
-            last-stamp = o .header .last-stamp;
-            merges-made = o .header .merges-made;
-          };
+      header = header-same refl (sym (length-change (h .transactions) t aborted)) refl refl (o .header);
       opens = closed-opens S v ps h o k t aborted (h .last) a by-abort;
       notes = closed-notes S v ps h o k t aborted (h .last) a by-abort;
       rows = closed-rows S v ps h o k t aborted (h .last) a by-abort;
       tails = closed-tails S v ps h o k t aborted (h .last) a by-abort;
-      currents = closed-currents S v ps h o k t aborted (h .last) a by-abort step;
-      waits = closed-waits S v ps h o k t aborted (h .last) a by-abort step;
+      currents = currents-stay o k step refl refl;
+      waits = waits-stay o k step refl;
       pool = o .pool;
       scans = o .scans;
-      scanPages = closed-scans S v ps h o k t aborted (h .last) a by-abort step;
+      scanPages = λ i. scan-stays o k step refl i refl;
       whole = abort-whole S v t (o .whole);
     }
   where
@@ -409,30 +362,19 @@ abort-kept S v ps h o k t a step =
 pub commit-kept : (S : Shape) (v : View) (ps : List Place) (h : History) → Represents S v ps h → Known S h → (t s : ℕ) → stateOf h t ≡ active → h .last < s → s < 2 ^ 32
     → Step S h (commit t s) (withTransactions h (change (h .transactions) t (committed s)) s)
     → Represents S (committedIn S t s v) ps (withTransactions h (change (h .transactions) t (committed s)) s)
-unfolding committedIn freed openPlace settled put renew withTransactions rowIn recordIn valueIn pageIn cellIn currentIn scanPage wasCurrent
+unfolding committedIn freed openPlace settled put renew withTransactions rowIn recordIn valueIn pageIn cellIn currentIn scanPage wasCurrent scanAt
 commit-kept S v ps h o k t s a later fit step =
     record {
-      header =
-          record {
-            columns = kept-word (v Header) 7 0 s tt ∙ o .header .columns;
-            ranges = kept-word (v Header) 7 1 s tt ∙ o .header .ranges;
-            capacity = kept-word (v Header) 7 2 s tt ∙ o .header .capacity;
-            spares = kept-word (v Header) 7 3 s tt ∙ o .header .spares;
-            rows-given = kept-word (v Header) 7 4 s tt ∙ o .header .rows-given;
-            transactions-given = kept-word (v Header) 7 5 s tt ∙ o .header .transactions-given ∙ sym (length-change (h .transactions) t (committed s));
-            scans-given = kept-word (v Header) 7 6 s tt ∙ o .header .scans-given;
-            last-stamp = getD-set-same (v Header) 7 s 0 (omega (arith, o .whole .long Header));
-            merges-made = kept-word (v Header) 7 8 s tt ∙ o .header .merges-made;
-          };
+      header = header-same refl (sym (length-change (h .transactions) t (committed s))) refl refl (header-put (v Header) 7 s (omega (arith, o .whole .long Header)) (omega arith) (o .header));
       opens = closed-opens S v ps h o k t (committed s) s a (by-commit later);
       notes = closed-notes S v ps h o k t (committed s) s a (by-commit later);
       rows = closed-rows S v ps h o k t (committed s) s a (by-commit later);
       tails = closed-tails S v ps h o k t (committed s) s a (by-commit later);
-      currents = closed-currents S v ps h o k t (committed s) s a (by-commit later) step;
-      waits = closed-waits S v ps h o k t (committed s) s a (by-commit later) step;
+      currents = currents-stay o k step refl refl;
+      waits = waits-stay o k step refl;
       pool = o .pool;
       scans = o .scans;
-      scanPages = closed-scans S v ps h o k t (committed s) s a (by-commit later) step;
+      scanPages = λ i. scan-stays o k step refl i refl;
       whole = commit-whole S v t s fit (o .whole);
     }
   where

@@ -1,44 +1,42 @@
 -- Update keeps the relation: one record where every column was set before, two where one is new.
 use mathlib.Core.Path.{_≡_, refl, sym, _∙_, ap, subst}
-use mathlib.Core.Logic.{_≢_}
-use mathlib.Core.Bool.{Bool, true, false, not, cond, _&&_, _||_, or-false}
+use mathlib.Core.Bool.{Bool, true, false, not, cond, _&&_, _||_}
 use mathlib.Core.List.{List, [], _∷_, _++_, append-nil, append-assoc}
-use Prim.Native.Nat.{ℕ, zero, suc, _+_, _*_, _^_, _≤_, _<_}
+use Prim.Native.Nat.{ℕ, suc, _+_, _^_, _≤_, _<_}
 use native.Mathlib.Omega.{arith}
-use native.Mathlib.Nat.{le-refl, le-trans}
 use native.Mathlib.Decide.{ℕ-discrete}
-use lib.Dec.{T, eqb, eqb→eq, eqb-refl}
-use lib.ListN.{length, getD, set, take, length-append}
+use lib.Dec.{T, eqb, eqb→eq}
+use lib.ListN.{length, getD, take, length-append}
 use lib.Seq.{getD-set-same, getD-set-other}
 use lib.IntN.{ℤ, pos}
 use lib.Bits.{bitOr, or-lt, xor-lt}
 use mir.Syntax.{w32}
 use mir.Val.{toZ, ofZ, SFits}
 use mir.ValLaws.{toZ-ofZ, ofZ-fits}
-use Rattle.terms.specs.Measures.{Shape, rangeRows, mostColumns}
-use Rattle.history.specs.History.{Call, update, History, Row, Record, Version, State, active, Content, original, setting, isCommitted, upTo, stateOf, rowAt, insertedValue, inserted, bit, sets, rangeOf, recordsOf, badMask, newColumns, originalRecords, updateRecords, withTail}
+use Rattle.terms.specs.Measures.{Shape, mostColumns}
+use Rattle.history.specs.History.{update, History, Record, Version, active, original, setting, isCommitted, upTo, stateOf, rowAt, insertedValue, inserted, bit, sets, rangeOf, recordsOf, badMask, newColumns, originalRecords, updateRecords, withTail, cellThrough, scanAt}
 use Rattle.history.proofs.Lists.{All, is-true, is-false, refuted, parts, both, among, among-upTo}
 use Rattle.history.proofs.Steps.{Step, New, wasSet, new-columns}
 use Rattle.history.proofs.Masks.{bit-low}
 use Rattle.history.proofs.Ranges.{last-unset}
 use Rattle.history.proofs.Links.{lastOf}
 use Rattle.history.proofs.Endings.{set-range}
-use Rattle.history.proofs.Pages.{cellThrough}
 use Rattle.layout.specs.View.{View, renew, put}
-use Rattle.layout.specs.declared.Region.the-variants.{RowTransaction, RowState, RowStamp, RowLink, RowMask, Cells, Changes}
+use Rattle.layout.specs.declared.Region.the-variants.{RowTransaction, RowState, RowStamp, RowMask, Cells, Changes}
 use Rattle.terms.specs.declared.Place.{Place}
-use Rattle.model.specs.Stored.{RowWords, rowIn, recordIn, valueIn, pageIn, cellIn, currentIn, usedIn, within, openPlace, asOriginal, asSetting}
+use Rattle.model.specs.Stored.{RowWords, rowIn, recordIn, valueIn, pageIn, cellIn, currentIn, usedIn, openPlace, asOriginal, asSetting}
 use Rattle.model.specs.Reading.{scanPage, wasCurrent}
-use Rattle.model.specs.Writing.{noted, nextSlot, appended, filledIn, newBits, newBitsIn, recordsWanted, originalAppended, settingAppended, updatedIn}
-use Rattle.model.proofs.Lists.{clash, true-false, eqb-same, is-equal, same-truth}
-use Rattle.model.proofs.Represents.{RowIs, ContentIs, RowsAre, TailsFor, Represents, Known, Whole}
+use Rattle.model.specs.Writing.{noted, nextSlot, appended, filledIn, newBitsIn, recordsWanted, originalAppended, originalWord, settingAppended, updatedIn}
+use Rattle.model.proofs.Lists.{true-false, eqb-same, is-equal}
+use Rattle.model.proofs.Represents.{RowIs, ContentIs, TailsFor, Represents, Known, Whole}
 use Rattle.model.proofs.Views.{put-whole}
 use Rattle.model.proofs.Insert.{bit-none, value-fits}
 use Rattle.model.proofs.Heads.{in-range}
 use Rattle.model.proofs.Read.{unset-take}
 use Rattle.model.proofs.Masks.{bit-or, bit-new, no-bits}
 use Rattle.model.proofs.Append.{link-here, link-there, used-here, appended-whole, slot-next, slot-in, filled-whole}
-use Rattle.model.proofs.Records.{last-of-new, tails-are, row-other, row-own, made-currents, made-waits, made-scans, made-notes, filled-more, grow-one, small-shape, row-fits, number-fits}
+use Rattle.model.proofs.Steady.{currents-stay, waits-stay, scan-stays}
+use Rattle.model.proofs.Records.{last-of-new, tails-are, row-other, row-own, made-notes, filled-more, grow-one, small-shape, row-fits, number-fits}
 
 -- ---- the columns that are set for the first time
 module _ (S : Shape) (v : View) (ps : List Place) (h : History) (o : Represents S v ps h) (k : Known S h) (r m : ℕ) (b : r < length (h .rows)) (good : T (not (badMask S m))) where
@@ -84,7 +82,7 @@ module _ (S : Shape) (v : View) (ps : List Place) (h : History) (o : Represents 
       go (d ∷ cs) e = rw (some-new d cs e)
 
   -- the cell of a column that was never set is the inserted value
-  pub original-cell : (c : ℕ) → c < S .columns → T (bit (newBitsIn v r m) c) → toZ w32 (cellIn v (currentIn S v (rangeOf r) c) (within r)) ≡ getD ((rowAt h r) .values) c (pos 0)
+  pub original-cell : (c : ℕ) → c < S .columns → T (bit (newBitsIn v r m) c) → toZ w32 (originalWord S v r c) ≡ getD ((rowAt h r) .values) c (pos 0)
   unfolding cellThrough
   original-cell c d t =
       let n : ℕ = (pageIn v (currentIn S v (rangeOf r) c)) .lineage in
@@ -145,7 +143,7 @@ module _ (S : Shape) (v : View) (ps : List Place) (h : History) (o : Represents 
   -- ---- every column was set before
   update-one : length (recordsOf h (rangeOf r)) + 1 ≤ S .capacity → Step S h (update t r m vs) (withTail h (h .tail ++ y ∷ [])) → All (New h t r) (y ∷ [])
       → Represents S (noted t (put RowMask r (bitOr m ((rowIn v r) .mask)) (settingAppended S t r m vs v))) ps (withTail h (h .tail ++ y ∷ []))
-  unfolding settingAppended filledIn noted openPlace put renew withTail recordIn valueIn pageIn cellIn currentIn scanPage wasCurrent appended stateOf rowAt
+  unfolding settingAppended filledIn noted openPlace put renew withTail recordIn valueIn pageIn cellIn currentIn scanPage wasCurrent appended stateOf rowAt scanAt
   update-one room step new =
       record {
         header = o .header;
@@ -153,11 +151,11 @@ module _ (S : Shape) (v : View) (ps : List Place) (h : History) (o : Represents 
         notes = made-notes S v ps h o k t r a b (y ∷ []) new (omega arith);
         rows = λ i u. rows i (ℕ-discrete i r) u;
         tails = tails-are S v ps h o k t r a b (y ∷ []) new (settingAppended S t r m vs v) tails;
-        currents = made-currents S v ps h o k t r a b (y ∷ []) new step;
-        waits = made-waits S v ps h o k t r a b (y ∷ []) new step;
+        currents = currents-stay o k step refl refl;
+        waits = waits-stay o k step refl;
         pool = o .pool;
         scans = o .scans;
-        scanPages = made-scans S v ps h o k t r a b (y ∷ []) new step;
+        scanPages = λ i. scan-stays o k step refl i refl;
         whole = put-whole Changes _ _ (omega arith) (put-whole RowMask r _ (masks-fit S v r m (o .whole) mask .1) (setting-whole v (o .whole) room′));
       }
     where
@@ -193,7 +191,7 @@ module _ (S : Shape) (v : View) (ps : List Place) (h : History) (o : Represents 
       → All (New h t r) (record { transaction = t; row = r; content = original (d ∷ cs) ((rowAt h r) .values) } ∷ y ∷ [])
       → Represents S (noted t (put RowMask r (bitOr m ((rowIn v r) .mask)) (settingAppended S t r m vs (originalAppended S t r m v)))) ps
       (withTail h (h .tail ++ record { transaction = t; row = r; content = original (d ∷ cs) ((rowAt h r) .values) } ∷ y ∷ []))
-  unfolding settingAppended originalAppended filledIn noted openPlace put renew withTail recordIn valueIn pageIn cellIn currentIn scanPage wasCurrent appended stateOf
+  unfolding settingAppended originalAppended filledIn noted openPlace put renew withTail recordIn valueIn pageIn cellIn currentIn scanPage wasCurrent appended stateOf scanAt
   update-two d cs e room step new =
       record {
         header = o .header;
@@ -201,11 +199,11 @@ module _ (S : Shape) (v : View) (ps : List Place) (h : History) (o : Represents 
         notes = made-notes S v ps h o k t r a b ms new (omega arith);
         rows = λ i u. (unfold rowAt in rows i (ℕ-discrete i r) u);
         tails = tails-are S v ps h o k t r a b ms new (settingAppended S t r m vs u₁) tails₂;
-        currents = made-currents S v ps h o k t r a b ms new step;
-        waits = made-waits S v ps h o k t r a b ms new step;
+        currents = currents-stay o k step refl refl;
+        waits = waits-stay o k step refl;
         pool = o .pool;
         scans = o .scans;
-        scanPages = made-scans S v ps h o k t r a b ms new step;
+        scanPages = λ i. scan-stays o k step refl i refl;
         whole = put-whole Changes _ _ (omega arith) (put-whole RowMask r _ (masks-fit S v r m (o .whole) mask .1) (setting-whole u₁ whole₁ room₂));
       }
     where
@@ -225,7 +223,7 @@ module _ (S : Shape) (v : View) (ps : List Place) (h : History) (o : Represents 
       fresh-fits = masks-fit S v r m (o .whole) mask .0
 
       f₁ : ℕ → ℕ
-      f₁ c = cellIn v (currentIn S v (rangeOf r) c) (within r)
+      f₁ = originalWord S v r
 
       original-is : ContentIs (S .columns) (original (d ∷ cs) ((rowAt h r) .values)) asOriginal (newBitsIn v r m) f₁
       original-is = (refl, (λ c. original-bits S v ps h o k r m b good c ∙ ap (among c) e), (λ c q u. original-cell S v ps h o k r m b good c q u))

@@ -1,10 +1,11 @@
--- Laws of views that the layout leaves open: words that fit stay so, and one word of a region after a put at another.
-use mathlib.Core.Path.{_≡_, refl, _∙_}
-use mathlib.Core.Logic.{_≢_}
-use mathlib.Core.Bool.{Bool, true, false, not, cond}
+-- Laws of views that the layout leaves open: words that fit stay so; and the header after a count was written.
+use mathlib.Core.Path.{_≡_, _∙_, ap}
+use mathlib.Core.Bool.{Bool, true, false, cond}
 use mathlib.Core.List.{List}
-use Prim.Native.Nat.{ℕ, _<_, _^_}
-use lib.Dec.{T, eqb, T-not, eqb-refl}
+use Prim.Native.Nat.{ℕ, _<_, _≤_, _^_}
+use native.Mathlib.Omega.{arith}
+use native.Mathlib.Decide.{ℕ-discrete}
+use lib.Dec.{eqb}
 use lib.ListN.{length, getD, set, length-set}
 use Rattle.terms.specs.Measures.{Shape}
 use lib.Seq.{getD-set-same, getD-set-other}
@@ -14,8 +15,10 @@ use Rattle.layout.specs.Regions.{index, len}
 use Rattle.layout.specs.View.{View, renew, put}
 use Rattle.layout.proofs.View.{renew-long}
 use Rattle.layout.specs.declared.Region.{Region}
-use Rattle.model.specs.Stored.{sizesOf}
-use Rattle.model.proofs.Represents.{Whole}
+use Rattle.layout.specs.Sizes.{sizesOf}
+use Rattle.history.proofs.Lists.{eqb-other}
+use Rattle.model.proofs.Lists.{eqb-same}
+use Rattle.model.proofs.Represents.{Whole, HeaderIs}
 
 pub renew-whole : {S : Shape} {v : View} (k : Region) (l : List ℕ) → length l ≡ len (sizesOf S) k → Fit l → Whole S v → Whole S (renew k l v)
 renew-whole {S} {v} k l e f o = record { long = renew-long (sizesOf S) k l v e (o .long); fits = unfold renew in (λ j. go (v j) (eqb (index k) (index j)) (o .fits j)) }
@@ -28,6 +31,40 @@ pub put-whole : {S : Shape} {v : View} (k : Region) (i w : ℕ) → w < 2 ^ 32 �
 unfolding put
 put-whole {v = v} k i w b o = renew-whole k (set (v k) i w) (length-set (v k) i w ∙ o .long k) (set-fit (v k) i w (o .fits k) b) o
 
--- the other place is told by a test that computes where both are numerals
-pub kept-word : (l : List ℕ) (i j w : ℕ) → T (not (eqb j i)) → getD (set l i w) j 0 ≡ getD l j 0
-kept-word l i j w t = getD-set-other l i j w 0 (λ e. T-not (eqb j i) t (rw e (eqb-refl i)))
+-- ---- the header: one of its counts is written, and counts that are equal
+word-put : (ws : List ℕ) (i k n : ℕ) → i < length ws → getD (set ws i n) k 0 ≡ cond (eqb k i) n (getD ws k 0)
+word-put ws i k n b = go (ℕ-discrete k i)
+  where
+    go : Dec (k ≡ i) → getD (set ws i n) k 0 ≡ cond (eqb k i) n (getD ws k 0)
+    go (yes e) = rw (e, eqb-same i) (getD-set-same ws i n 0 b)
+    go (no f) = rw (eqb-other k i f) (getD-set-other ws i k n 0 f)
+
+module _ {S : Shape} {r t s l m : ℕ} where
+  pub header-put : (ws : List ℕ) (i n : ℕ) → i < length ws → 4 ≤ i → HeaderIs S r t s l m (λ k. getD ws k 0)
+      → HeaderIs S (cond (eqb 4 i) n r) (cond (eqb 5 i) n t) (cond (eqb 6 i) n s) (cond (eqb 7 i) n l) (cond (eqb 8 i) n m) (λ k. getD (set ws i n) k 0)
+  header-put ws i n b d o =
+      record {
+        columns = getD-set-other ws i 0 n 0 (λ e. omega arith) ∙ o .columns;
+        ranges = getD-set-other ws i 1 n 0 (λ e. omega arith) ∙ o .ranges;
+        capacity = getD-set-other ws i 2 n 0 (λ e. omega arith) ∙ o .capacity;
+        spares = getD-set-other ws i 3 n 0 (λ e. omega arith) ∙ o .spares;
+        rows-given = word-put ws i 4 n b ∙ ap (cond (eqb 4 i) n) (o .rows-given);
+        transactions-given = word-put ws i 5 n b ∙ ap (cond (eqb 5 i) n) (o .transactions-given);
+        scans-given = word-put ws i 6 n b ∙ ap (cond (eqb 6 i) n) (o .scans-given);
+        last-stamp = word-put ws i 7 n b ∙ ap (cond (eqb 7 i) n) (o .last-stamp);
+        merges-made = word-put ws i 8 n b ∙ ap (cond (eqb 8 i) n) (o .merges-made);
+      }
+
+  pub header-same : {r′ t′ s′ m′ : ℕ} {word : ℕ → ℕ} → r ≡ r′ → t ≡ t′ → s ≡ s′ → m ≡ m′ → HeaderIs S r t s l m word → HeaderIs S r′ t′ s′ l m′ word
+  header-same a b c d o =
+      record {
+        columns = o .columns;
+        ranges = o .ranges;
+        capacity = o .capacity;
+        spares = o .spares;
+        rows-given = o .rows-given ∙ a;
+        transactions-given = o .transactions-given ∙ b;
+        scans-given = o .scans-given ∙ c;
+        last-stamp = o .last-stamp;
+        merges-made = o .merges-made ∙ d;
+      }

@@ -1,15 +1,15 @@
 -- The calls on a store, as the plain history has them: `testsIn` are a call's refusals in the stated order, `replyIn` what it answers if none applies, `actIn` and
 -- `placesAfter` the memory and the scan list that it leaves then. All four are total and look at the memory alone. The test of the stored facts,
 -- which every call makes first, is not here: it is the same for all.
-use mathlib.Core.Bool.{Bool, true, false, not, cond, _&&_, _||_}
+use mathlib.Core.Bool.{Bool, not, _&&_, _||_}
 use mathlib.Core.List.{List, [], _∷_}
-use Prim.Native.Nat.{ℕ, zero, suc, _+_, _*_, _-_, _/_, _%_, _^_, _<_}
+use Prim.Native.Nat.{ℕ, _+_, _*_, _-_, _^_, _<_}
 use lib.Dec.{leb, ltb, eqb}
-use lib.ListN.{length, getD, set, replicate}
-use lib.IntN.{ℤ, pos}
+use lib.ListN.{set}
+use lib.IntN.{ℤ}
 use mir.Syntax.{w32}
 use mir.Val.{toZ, SFits}
-use Rattle.terms.specs.Measures.{Shape, rangeRows, mostTransactions, mostScans, mostNumbers, mostColumns}
+use Rattle.terms.specs.Measures.{Shape, rangeRows, mostScans, mostNumbers, mostColumns}
 use Rattle.terms.specs.declared.Refusal.{Refusal}
 use Rattle.terms.specs.declared.Answer.{Answer}
 use Rattle.history.specs.History.{Call, begin, insert, update, delete, commit, abort, latest, readAt, ownRead, openScan, scanRead, sum, close, merge, release, pageCell, lineage, Test, _when_, verdict, Verdict, accept, refuse, answerIf, any, count, noColumn, noRange, badMask, rangeOf}

@@ -11,12 +11,10 @@ use mir.Syntax.{w32}
 use mir.Val.{toZ}
 use Rattle.terms.specs.Measures.{Shape, rangeRows, mostScans, withinLimits}
 use Rattle.terms.specs.declared.Answer.{Answer}
-use Rattle.history.specs.History.{Call, openScan, History, Version, start, run, tests, verdict, accept, seenAt, inserted, visible, mergedThrough, scanAt, rangeOf}
+use Rattle.history.specs.History.{Call, openScan, History, start, run, tests, verdict, accept, seenAt, inserted, visible, mergedThrough, scanAt, rangeOf, cellThrough}
 use Rattle.history.proofs.Lists.{All}
-use Rattle.history.proofs.Latest.{latestSetting}
-use Rattle.history.proofs.Pages.{cellThrough}
+use Rattle.history.specs.Latest.{latestSetting}
 use Rattle.layout.specs.View.{View}
-use Rattle.terms.specs.declared.Place.{Place}
 use Rattle.model.specs.Stored.{pageIn, cellIn, currentIn, within, freePlace}
 use Rattle.model.specs.Reading.{readCurrent, readIn, scanPage}
 use Rattle.model.specs.Writing.{made}

@@ -1,19 +1,18 @@
 -- What a reader finds in the store. Latest read, read at, own read, scan read and sum are one definition: who sees a row or record is told by a stamp
 -- and by the transaction whose own changes count, and the value is found in a page, in the tail records above the page's lineage, and further down only
 -- where the page is newer than the stamp.
-use mathlib.Core.Bool.{Bool, true, false, not, cond, _&&_, _||_}
-use mathlib.Core.List.{List, [], _∷_}
-use Prim.Native.Nat.{ℕ, zero, suc, _+_, _*_, _-_, _/_, _%_, _^_}
+use mathlib.Core.Bool.{Bool, not, cond, _&&_, _||_}
+use Prim.Native.Nat.{ℕ, zero, suc, _+_, _%_}
 use lib.Dec.{leb, ltb, eqb}
 use lib.ListN.{getD}
 use lib.IntN.{ℤ, pos, _+ℤ_}
 use mir.Syntax.{w32}
 use mir.Val.{toZ}
-use Rattle.terms.specs.Measures.{Shape, rangeRows}
+use Rattle.terms.specs.Measures.{Shape}
 use Rattle.terms.specs.declared.Answer.{Answer}
 use Rattle.history.specs.History.{bit, rangeOf}
 use Rattle.layout.specs.View.{View}
-use Rattle.layout.specs.declared.Region.the-variants.{Opens, Changes}
+use Rattle.layout.specs.declared.Region.the-variants.{Changes}
 use Rattle.terms.specs.declared.Place.{Place}
 use Rattle.model.specs.declared.Walk.{Walk}
 use Rattle.model.specs.Stored.{RowWords, RecordWords, PageWords, rowIn, recordIn, pageIn, slot, valueIn, currentIn, placeOf, placesOf, pagesOf, cellIn, within, headerIn, rowsGiven, openState, committedState, originalKind, settingKind, deleteKind, waitingPage, firstFrom, openPlace}

@@ -1,14 +1,14 @@
 -- How a view of the memory is read: the header's words, one row, one tail record, one page, and what the words for states and kinds mean.
 -- Where a word can hold more than the store writes, the tests here say what every other value counts as; so each call answers for every memory.
-use mathlib.Core.Bool.{Bool, true, false, not, cond, _&&_, _||_}
+use mathlib.Core.Bool.{Bool, not, cond, _&&_}
 use mathlib.Core.List.{List, [], _∷_}
-use Prim.Native.Nat.{ℕ, zero, suc, _+_, _*_, _-_, _/_, _%_, _^_}
-use lib.Dec.{leb, ltb, eqb}
+use Prim.Native.Nat.{ℕ, zero, suc, _+_, _*_, _-_, _%_, _^_}
+use lib.Dec.{ltb, eqb}
 use lib.ListN.{getD}
 use Rattle.terms.specs.Measures.{Shape, rangeRows}
 use Rattle.layout.specs.View.{View}
-use Rattle.layout.specs.declared.Sizes.{Sizes}
-use Rattle.layout.specs.declared.Region.the-variants.{Header, Opens, RowTransaction, RowState, RowStamp, RowLink, RowMask, TailTransaction, TailRow, TailKind, TailMask, TailLink, TailState, TailStamp, TailValues, Used, Current, PageState, PagePlace, PageMade, PageReplaced, PageLineage, PageNewest, Cells, Changes}
+use Rattle.layout.specs.Regions.{rowsAt, transactionsAt, scansAt, stampAt, mergesAt}
+use Rattle.layout.specs.declared.Region.the-variants.{Header, Opens, RowTransaction, RowState, RowStamp, RowLink, RowMask, TailTransaction, TailRow, TailKind, TailMask, TailLink, TailState, TailStamp, TailValues, Used, Current, PageState, PagePlace, PageMade, PageReplaced, PageLineage, PageNewest, Cells}
 use Rattle.terms.specs.declared.Place.{Place}
 
 -- ---- sizes that a shape makes
@@ -18,35 +18,21 @@ placesOf S = S .columns * S .ranges
 abbrev pub pagesOf : Shape → ℕ
 pagesOf S = placesOf S + S .spares
 
-abbrev pub sizesOf : Shape → Sizes
-sizesOf S =
-    record {
-      columns = S .columns;
-      ranges = S .ranges;
-      capacity = S .capacity;
-      spares = S .spares;
-      rows = S .ranges * rangeRows;
-      slots = S .ranges * S .capacity;
-      values = S .ranges * S .capacity * S .columns;
-      places = placesOf S;
-      pages = pagesOf S;
-    }
-
 -- ---- the header's words after the four measures
 abbrev pub rowsGiven : ℕ
-rowsGiven = 4
+rowsGiven = rowsAt
 
 abbrev pub transactionsGiven : ℕ
-transactionsGiven = 5
+transactionsGiven = transactionsAt
 
 abbrev pub scansGiven : ℕ
-scansGiven = 6
+scansGiven = scansAt
 
 abbrev pub lastStamp : ℕ
-lastStamp = 7
+lastStamp = stampAt
 
 abbrev pub mergesMade : ℕ
-mergesMade = 8
+mergesMade = mergesAt
 
 abbrev pub headerIn : View → ℕ → ℕ
 headerIn v i = getD (v Header) i 0

@@ -1,22 +1,22 @@
 -- What the accepted calls write. Each is a few puts, or one pass that writes one region.
-use mathlib.Core.Bool.{Bool, true, false, not, cond, _&&_, _||_}
-use mathlib.Core.List.{List, [], _∷_}
-use Prim.Native.Nat.{ℕ, zero, suc, _+_, _*_, _-_, _/_, _%_, _^_}
-use lib.Dec.{leb, ltb, eqb}
-use lib.ListN.{length, getD, set, replicate}
+use mathlib.Core.Bool.{Bool, false, not, cond, _&&_, _||_}
+use mathlib.Core.List.{List}
+use Prim.Native.Nat.{ℕ, zero, suc, _+_, _*_, _-_}
+use lib.Dec.{ltb, eqb}
+use lib.ListN.{getD, set, replicate}
 use lib.IntN.{ℤ, pos}
 use lib.Bits.{bitOr, bitXor}
 use mir.Syntax.{w32}
 use mir.Val.{ofZ}
-use Rattle.terms.specs.Measures.{Shape, rangeRows, mostTransactions}
+use Rattle.terms.specs.Measures.{Shape, rangeRows}
 use Rattle.history.specs.History.{any, bit, rangeOf}
 use Rattle.loops.specs.Change.{changed, filled, numbered, copied, marked}
 use Rattle.layout.specs.Regions.{len}
 use Rattle.layout.specs.View.{View, renew, put}
-use Rattle.layout.specs.declared.Region.{Region}
 use Rattle.layout.specs.declared.Region.the-variants.{Header, Opens, RowTransaction, RowState, RowStamp, RowLink, RowMask, TailTransaction, TailRow, TailKind, TailMask, TailLink, TailState, TailStamp, TailValues, Used, Current, PageState, PagePlace, PageMade, PageReplaced, PageLineage, PageNewest, Cells, Changes}
 use Rattle.terms.specs.declared.Place.{Place}
-use Rattle.model.specs.Stored.{RowWords, RecordWords, PageWords, rowIn, recordIn, pageIn, slot, valueIn, currentIn, placeOf, placesOf, pagesOf, sizesOf, cellIn, within, usedIn, headerIn, rowsGiven, transactionsGiven, scansGiven, lastStamp, mergesMade, nextWord, asOpen, asCommitted, asAborted, asOriginal, asSetting, asDelete, asFree, asCurrent, asWaiting, committedState, settingKind, freePage, waitingPage, place, firstFrom, countBelow, openPlace}
+use Rattle.layout.specs.Sizes.{sizesOf}
+use Rattle.model.specs.Stored.{RecordWords, rowIn, recordIn, pageIn, slot, valueIn, currentIn, placeOf, placesOf, pagesOf, cellIn, within, usedIn, headerIn, rowsGiven, transactionsGiven, lastStamp, mergesMade, nextWord, asOpen, asCommitted, asAborted, asOriginal, asSetting, asDelete, asFree, asCurrent, asWaiting, committedState, settingKind, freePage, waitingPage, place, firstFrom, openPlace}
 
 -- ---- open transactions
 -- begin: the first free place takes the next number, with nothing noted
@@ -109,11 +109,12 @@ newBitsIn v r mask = newBits mask ((rowIn v r) .mask)
 unfoldable pub recordsWanted : View → ℕ → ℕ → ℕ
 recordsWanted v r mask = cond (eqb (newBitsIn v r mask) 0) 1 2
 
--- The original values of the columns that were never set are the row's cells in the current pages.
+-- The original value of a column that was never set is the row's cell in the current page.
+abbrev pub originalWord : Shape → View → ℕ → ℕ → ℕ
+originalWord S v r c = cellIn v (currentIn S v (rangeOf r) c) (within r)
+
 unfoldable pub originalAppended : Shape → ℕ → ℕ → ℕ → View → View
-originalAppended S t r mask v =
-    let g = rangeOf r in
-    filledIn S (nextSlot S v g) (λ c. cellIn v (currentIn S v g c) (within r)) (appended S t r asOriginal (newBitsIn v r mask) v)
+originalAppended S t r mask v = filledIn S (nextSlot S v (rangeOf r)) (originalWord S v r) (appended S t r asOriginal (newBitsIn v r mask) v)
 
 unfoldable pub settingAppended : Shape → ℕ → ℕ → ℕ → List ℤ → View → View
 settingAppended S t r mask vs v =

@@ -2,11 +2,11 @@
 use Prim.Native.Nat.{ℕ, zero, suc, _≤_, _<_}
 use mathlib.Core.Path.{_≡_, refl, ap, sym, _∙_}
 use mathlib.Core.Bool.{Bool, true, false, cond, _&&_, false≢true}
-use mathlib.Core.List.{List, [], _∷_, _++_}
+use mathlib.Core.List.{List, [], _∷_, _++_, append-nil}
 use native.Mathlib.Omega.{arith}
 use lib.Dec.{leb}
 use lib.IntN.{ℤ}
-use lib.ListN.{length, drop, drop-of-length-le}
+use lib.ListN.{length, take, drop, drop-of-length-le}
 use borrow.Author.Tests.{leb-false, leb-true, le-leb}
 use Rattle.terms.specs.Measures.{Shape, between, withinLimits, mostColumns, mostRanges, mostRecords, mostSpares}
 use Rattle.terms.specs.declared.Refusal.{Refusal}
@@ -16,8 +16,9 @@ use Rattle.lines.specs.Lines.{line, shapeLine}
 use Rattle.commands.specs.declared.Form.{Form}
 use Rattle.commands.specs.declared.Chosen.{Chosen}
 use Rattle.commands.specs.Commands.{chosen, width, callFrom, Item, itemAt, behind, items, script, cutShape, parse, shapeBytes, shapeFrom}
+use Rattle.commands.proofs.Parts.{whole, call-part}
 use Rattle.output.specs.Output.{lent, shapeAnswer, goesOn, calls, linesOf, outputOf, output}
-use Rattle.output.specs.Steps.{answerTo, historyAfter, step, steps, written}
+use Rattle.output.specs.Steps.{Machine, historyOf, operandsOf, answerTo, stateAfter, steps, session, written}
 
 -- ---- no answer of the plain history ends the program
 abbrev allGoOn : List Test → Bool
@@ -89,10 +90,10 @@ unfolding answer
 answer-goes-on s h c = verdict-goes-on (tests s h c) (reply s h c) (tests-go-on s h c) (reply-goes-on s h c)
 
 -- ---- the steps and the items
-steps-none : (most : ℕ) (s : Shape) (h : History) → steps most s h [] ≡ []
+pub steps-none : {State : Type 0} (most : ℕ) (m : Machine State) (columns : ℕ) (x : State) → steps most m columns x [] ≡ []
 unfolding steps
-steps-none zero s h = refl
-steps-none (suc most) s h = refl
+steps-none zero m columns x = refl
+steps-none (suc most) m columns x = refl
 
 items-none : (most columns : ℕ) → items most columns [] ≡ []
 unfolding items
@@ -105,34 +106,45 @@ shown s h is = linesOf is (answers s h (calls is))
 
 -- behind a refused byte nothing is left
 last-step : (most : ℕ) (s : Shape) (h : History) (byte : ℕ) (r : Refusal) (b : Bool) (k : History)
-    → line byte (Answer.Refused r) ++ cond b (steps most s k []) [] ≡ line byte (Answer.Refused r) ++ shown s h (items most (s .columns) [])
+    → line byte (Answer.Refused r) ++ cond b (steps most (historyOf s) (s .columns) k []) []
+    ≡ line byte (Answer.Refused r) ++ shown s h (items most (s .columns) [])
 unfolding linesOf
-last-step most s h byte r true k = rw (steps-none most s k, items-none most (s .columns))
+last-step most s h byte r true k = rw (steps-none most (historyOf s) (s .columns) k, items-none most (s .columns))
 last-step most s h byte r false k = rw (items-none most (s .columns))
 
 one-step : (most : ℕ) (s : Shape) (h : History) (byte : ℕ) (bs : List ℕ) (k : Chosen)
-    → ((h′ : History) (bs′ : List ℕ) → steps most s h′ bs′ ≡ shown s h′ (items most (s .columns) bs′))
-    → line byte (answerTo s h k bs) ++ cond (goesOn (answerTo s h k bs)) (steps most s (historyAfter s h k bs) (behind (s .columns) k bs)) []
+    → ((h′ : History) (bs′ : List ℕ) → steps most (historyOf s) (s .columns) h′ bs′ ≡ shown s h′ (items most (s .columns) bs′))
+    → line byte (answerTo (historyOf s) (s .columns) h k (operandsOf (s .columns) k bs))
+    ++ cond (goesOn (answerTo (historyOf s) (s .columns) h k (operandsOf (s .columns) k bs)))
+    (steps most (historyOf s) (s .columns) (stateAfter (historyOf s) (s .columns) h k (operandsOf (s .columns) k bs)) (behind (s .columns) k bs)) []
     ≡ shown s h (itemAt (s .columns) byte k bs ∷ items most (s .columns) (behind (s .columns) k bs))
-unfolding answerTo historyAfter behind itemAt linesOf calls answers
+unfolding operandsOf answerTo stateAfter behind itemAt linesOf calls answers
 one-step most s h byte bs (Chosen.Refused r) ih = last-step most s h byte r (goesOn (Answer.Refused r)) h
-one-step most s h byte bs (Chosen.Known f) ih = go (leb (width (s .columns) f) (length bs)) refl
+one-step most s h byte bs (Chosen.Known f) ih = rw (whole (width (s .columns) f) bs) (go (leb (width (s .columns) f) (length bs)) refl)
   where
+    w : ℕ
+    w = width (s .columns) f
+
     c : Call
     c = callFrom (s .columns) f bs
 
-    go : (b : Bool) → leb (width (s .columns) f) (length bs) ≡ b
-        → line byte (cond b (answer s h c) (Answer.Refused Refusal.Cut))
-        ++ cond (goesOn (cond b (answer s h c) (Answer.Refused Refusal.Cut))) (steps most s (next s h c) (drop (width (s .columns) f) bs)) []
-        ≡ shown s h (cond b (Item.command byte c) (Item.refused byte Refusal.Cut) ∷ items most (s .columns) (drop (width (s .columns) f) bs))
-    go true e = rw (answer-goes-on s h c) (ap (λ (l : List ℕ). line byte (answer s h c) ++ l) (ih (next s h c) (drop (width (s .columns) f) bs)))
-    go false e =
-        let short : length bs ≤ width (s .columns) f = omega (arith, leb-false (width (s .columns) f) (length bs) e) in
-        let none : drop (width (s .columns) f) bs ≡ [] = drop-of-length-le bs short in
-        rw none (last-step most s h byte Refusal.Cut (goesOn (Answer.Refused Refusal.Cut)) (next s h c))
+    d : Call
+    d = callFrom (s .columns) f (take w bs)
 
-steps-are : (most : ℕ) (s : Shape) (h : History) (bs : List ℕ) → steps most s h bs ≡ shown s h (items most (s .columns) bs)
-unfolding steps step items linesOf
+    go : (b : Bool) → leb w (length bs) ≡ b
+        → line byte (cond b (answer s h d) (Answer.Refused Refusal.Cut))
+        ++ cond (goesOn (cond b (answer s h d) (Answer.Refused Refusal.Cut))) (steps most (historyOf s) (s .columns) (cond b (next s h d) h) (drop w bs)) []
+        ≡ shown s h (cond b (Item.command byte c) (Item.refused byte Refusal.Cut) ∷ items most (s .columns) (drop w bs))
+    go true e =
+        rw (call-part (s .columns) f bs (leb-true w (length bs) e), answer-goes-on s h c)
+        (ap (λ (l : List ℕ). line byte (answer s h c) ++ l) (ih (next s h c) (drop w bs)))
+    go false e =
+        let short : length bs ≤ w = omega (arith, leb-false w (length bs) e) in
+        let none : drop w bs ≡ [] = drop-of-length-le bs short in
+        rw none (last-step most s h byte Refusal.Cut (goesOn (Answer.Refused Refusal.Cut)) h)
+
+steps-are : (most : ℕ) (s : Shape) (h : History) (bs : List ℕ) → steps most (historyOf s) (s .columns) h bs ≡ shown s h (items most (s .columns) bs)
+unfolding steps items linesOf
 steps-are zero s h bs = refl
 steps-are (suc most) s h [] = refl
 steps-are (suc most) s h (byte ∷ bs) = one-step most s h byte bs (chosen byte) (λ h′ bs′. steps-are most s h′ bs′)
@@ -146,16 +158,19 @@ shape-step s l = go (lent s)
     go false = refl
 
 pub written-is-output : (bs : List ℕ) → written bs ≡ output bs
-unfolding written output parse outputOf
+unfolding written session output parse outputOf goesOn
 written-is-output bs = go (leb shapeBytes (length bs))
   where
     s : Shape
     s = shapeFrom bs
 
-    go : (b : Bool) → cond b (shapeLine (shapeAnswer s) ++ cond (goesOn (shapeAnswer s)) (steps (length bs) s start (drop shapeBytes bs)) []) (shapeLine (Answer.Refused Refusal.Cut))
+    a : Bool → Answer
+    a b = cond b (shapeAnswer s) (Answer.Refused Refusal.Cut)
+
+    go : (b : Bool) → shapeLine (a b) ++ cond (goesOn (a b)) (steps (length bs) (historyOf s) (s .columns) start (drop shapeBytes bs)) []
         ≡ outputOf (cond b (script s (items (length bs) (s .columns) (drop shapeBytes bs))) cutShape)
     go true = rw (shape-step s, steps-are (length bs) s start (drop shapeBytes bs))
-    go false = refl
+    go false = append-nil (shapeLine (Answer.Refused Refusal.Cut))
 
 -- ---- what is lent is within the limits of a shape
 both : (a b : Bool) → (a && b) ≡ true → (a ≡ true) × (b ≡ true)

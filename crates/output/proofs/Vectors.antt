@@ -3,7 +3,8 @@ use mathlib.Core.Path.{_≡_, refl}
 use mathlib.Core.List.{List, [], _∷_, _++_}
 use Prim.Native.Nat.{ℕ}
 use Rattle.history.specs.History.{execution}
-use Rattle.lines.specs.Lines.{text, printing}
+use Rattle.decimal.specs.Decimal.{text}
+use Rattle.lines.specs.Lines.{printing}
 use Rattle.commands.specs.Commands.{reading}
 use Rattle.output.specs.Output.{output, writing}
 use Rattle.output.specs.Example.{shape, example, lines}

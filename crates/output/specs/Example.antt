@@ -2,7 +2,7 @@
 use mathlib.Core.Path.{_≡_, refl}
 use mathlib.Core.List.{List, [], _∷_, _++_}
 use Prim.Native.Nat.{ℕ}
-use Rattle.lines.specs.Lines.{text}
+use Rattle.decimal.specs.Decimal.{text}
 use Rattle.output.specs.Output.{output}
 
 -- "Shape 2, 1, 4, 1"

@@ -1,54 +1,74 @@
 -- The same output as a program gives it that reads as it goes: the six bytes of the shape, then a command byte and its operands, an answer and its line,
--- until an answer after which it ends or the end of the input. proofs/Steps.antt has the theorem that this is `output`.
+-- until an answer after which it ends or the end of the input. What answers the calls is a parameter here: the plain history, or a store.
+-- proofs/Steps.antt has the theorem that with the plain history this is `output`.
 use mathlib.Core.Bool.{Bool, cond}
 use mathlib.Core.List.{List, [], _∷_, _++_}
 use Prim.Native.Nat.{ℕ, zero, suc}
 use lib.Dec.{leb}
-use lib.ListN.{length, drop}
+use lib.ListN.{length, take, drop}
 use Rattle.terms.specs.Measures.{Shape}
 use Rattle.terms.specs.declared.Refusal.{Refusal}
 use Rattle.terms.specs.declared.Answer.{Answer}
-use Rattle.history.specs.History.{History, start, answer, next}
+use Rattle.history.specs.History.{Call, History, start, answer, next}
 use Rattle.lines.specs.Lines.{line, shapeLine}
 use Rattle.commands.specs.declared.Chosen.{Chosen}
 use Rattle.commands.specs.Commands.{chosen, width, callFrom, behind, shapeBytes, shapeFrom}
 use Rattle.output.specs.Output.{shapeAnswer, goesOn}
 
--- what a command byte with bs behind it is answered, and the history after it
-unfoldable pub answerTo : Shape → History → Chosen → List ℕ → Answer
-answerTo s h (Chosen.Known f) bs =
-    cond (leb (width (s .columns) f) (length bs)) (answer s h (callFrom (s .columns) f bs)) (Answer.Refused Refusal.Cut)
-answerTo s h (Chosen.Refused r) bs = Answer.Refused r
+-- What answers calls: in each state an answer to a call, and the state after it.
+pub record Machine (State : Type 0) : Type 0 where
+  pub answer : State → Call → Answer
+  pub next : State → Call → State
 
-unfoldable pub historyAfter : Shape → History → Chosen → List ℕ → History
-historyAfter s h (Chosen.Known f) bs = next s h (callFrom (s .columns) f bs)
-historyAfter s h (Chosen.Refused r) bs = h
+abbrev pub historyOf : Shape → Machine History
+historyOf s = record { answer = answer s; next = next s }
 
--- One step: the line, whether the program goes on, and with what.
-pub record Step : Type 0 where
+-- the bytes that are read behind a command byte: its operands, or as many as there are
+unfoldable pub operandsOf : ℕ → Chosen → List ℕ → List ℕ
+operandsOf columns (Chosen.Known f) bs = take (width columns f) bs
+operandsOf columns (Chosen.Refused r) bs = []
+
+-- What a command byte with the operands os is answered, and the state after it. A cut command does nothing.
+unfoldable pub answerTo : {State : Type 0} → Machine State → ℕ → State → Chosen → List ℕ → Answer
+answerTo m columns x (Chosen.Known f) os =
+    cond (leb (width columns f) (length os)) (m .answer x (callFrom columns f os)) (Answer.Refused Refusal.Cut)
+answerTo m columns x (Chosen.Refused r) os = Answer.Refused r
+
+unfoldable pub stateAfter : {State : Type 0} → Machine State → ℕ → State → Chosen → List ℕ → State
+stateAfter m columns x (Chosen.Known f) os = cond (leb (width columns f) (length os)) (m .next x (callFrom columns f os)) x
+stateAfter m columns x (Chosen.Refused r) os = x
+
+-- One step: the line, whether the program goes on, and in what state.
+pub record Step (State : Type 0) : Type 0 where
   pub line : List ℕ
   pub on : Bool
-  pub history : History
-  pub rest : List ℕ
+  pub state : State
 
-unfoldable pub step : Shape → History → ℕ → List ℕ → Step
-step s h byte bs = record {
-  line = line byte (answerTo s h (chosen byte) bs);
-  on = goesOn (answerTo s h (chosen byte) bs);
-  history = historyAfter s h (chosen byte) bs;
-  rest = behind (s .columns) (chosen byte) bs;
+abbrev pub step : {State : Type 0} → Machine State → ℕ → State → ℕ → List ℕ → Step State
+step m columns x byte os = record {
+  line = line byte (answerTo m columns x (chosen byte) os);
+  on = goesOn (answerTo m columns x (chosen byte) os);
+  state = stateAfter m columns x (chosen byte) os;
 }
 
--- The first argument bounds the number of steps, and that of the bytes is enough.
-unfoldable pub steps : ℕ → Shape → History → List ℕ → List ℕ
-steps zero s h bs = []
-steps (suc most) s h [] = []
-steps (suc most) s h (byte ∷ bs) =
-    step s h byte bs .line ++ cond (step s h byte bs .on) (steps most s (step s h byte bs .history) (step s h byte bs .rest)) []
+-- The steps over bs. The first argument bounds their number, and that of the bytes is enough.
+unfoldable pub steps : {State : Type 0} → ℕ → Machine State → ℕ → State → List ℕ → List ℕ
+steps zero m columns x bs = []
+steps (suc most) m columns x [] = []
+steps (suc most) m columns x (byte ∷ bs) =
+    let s = step m columns x byte (operandsOf columns (chosen byte) bs) in
+    s .line ++ cond (s .on) (steps most m columns (s .state) (behind columns (chosen byte) bs)) []
 
+-- all that is written for the input bs: the shape was answered `a` and left the state x
+unfoldable pub session : {State : Type 0} → Answer → Machine State → ℕ → State → List ℕ → List ℕ
+session a m columns x bs = shapeLine a ++ cond (goesOn a) (steps (length bs) m columns x (drop shapeBytes bs)) []
+
+-- with the plain history
 unfoldable pub written : List ℕ → List ℕ
 written bs =
-    cond (leb shapeBytes (length bs))
-    (shapeLine (shapeAnswer (shapeFrom bs))
-    ++ cond (goesOn (shapeAnswer (shapeFrom bs))) (steps (length bs) (shapeFrom bs) start (drop shapeBytes bs)) [])
-    (shapeLine (Answer.Refused Refusal.Cut))
+    session
+    (cond (leb shapeBytes (length bs)) (shapeAnswer (shapeFrom bs)) (Answer.Refused Refusal.Cut))
+    (historyOf (shapeFrom bs))
+    (shapeFrom bs .columns)
+    start
+    bs

@@ -16,7 +16,8 @@ use Rattle.layout.specs.View.{View}
 use Rattle.layout.specs.Sizes.{sizesOf}
 use Rattle.history.specs.History.{History, State, unknown, active, aborted, committed, Scan, count, any, nth, isActive, stateOf, rowAt, rangeOf, recordsOf, scanAt}
 use Rattle.history.proofs.Lists.{all-at, parts, eqb-other, eqb-equal, place-any}
-use Rattle.history.proofs.States.{isGiven, stampOf, Stamped}
+use Rattle.history.specs.Latest.{stampOf}
+use Rattle.history.proofs.States.{isGiven, Stamped}
 use Rattle.history.proofs.Order.{Placed, placed-at}
 use Rattle.history.proofs.Ranges.{records-range}
 use Rattle.history.proofs.Timely.{Timely}

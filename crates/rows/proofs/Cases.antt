@@ -32,6 +32,22 @@ module _ (t me state stamp transaction : ℕ) where
   unfolding sees
   sees-own e h = rw (e, ne-eqb me 0 h)
 
+-- ---- what a finder tells whose answer hangs on one test
+module _ (b : Bool) (j : ℕ) where
+  pub found-at : (i : ℕ) → cond b Found.Nothing (Found.At j) ≡ Found.At i → (b ≡ false) × (i ≡ j)
+  found-at i e = go b refl e
+    where
+      go : (d : Bool) → b ≡ d → cond d Found.Nothing (Found.At j) ≡ Found.At i → (b ≡ false) × (i ≡ j)
+      go true q f = let z : _≡_ {A = ℕ} 0 1 = cc in absurd (omega arith)
+      go false q f = (q, cc)
+
+  pub found-nothing : cond b Found.Nothing (Found.At j) ≡ Found.Nothing → b ≡ true
+  found-nothing e = go b refl e
+    where
+      go : (d : Bool) → b ≡ d → cond d Found.Nothing (Found.At j) ≡ Found.Nothing → b ≡ true
+      go true q f = q
+      go false q f = let z : _≡_ {A = ℕ} 0 1 = cc in absurd (omega arith)
+
 -- ---- what the finder of a row's newest record tells
 module _ (S : Shape) (v : View) (r : ℕ) where
   pub head-there : (at : ℕ) → headAt S v r ≡ Found.At at → (hasRecord v r ≡ true) × (headIn S v r ≡ recordIn v at)

@@ -1,4 +1,3 @@
 -- Lemmas of more than one function.
 pub mod Indices
 pub mod Cases
-pub mod Made

@@ -38,20 +38,6 @@ between-zeros b zero [] = refl
 between-zeros b (suc n) [] = rw (leb·zero b) (between-zeros b n [])
 between-zeros b n (x ∷ l) = rw (between-zeros b n l)
 
-among-zeros : (x n : ℕ) (l : List ℕ) → eqb x 0 ≡ false → among x (l ++ replicate n 0) ≡ among x l
-among-zeros x zero [] e = refl
-among-zeros x (suc n) [] e = rw (ne-eqb 0 x (λ q. eqb-false x 0 e (sym q))) (among-zeros x n [] e)
-among-zeros x n (y ∷ l) e = rw (among-zeros x n l e)
-
-pub differ-zeros : (n : ℕ) (l : List ℕ) → differ (l ++ replicate n 0) ≡ differ l
-differ-zeros zero [] = refl
-differ-zeros (suc n) [] = differ-zeros n []
-differ-zeros n (x ∷ l) = go (eqb x 0) refl (differ-zeros n l)
-  where
-    go : (b : Bool) → eqb x 0 ≡ b → differ (l ++ replicate n 0) ≡ differ l → differ (x ∷ l ++ replicate n 0) ≡ differ (x ∷ l)
-    go true e h = rw (e, h)
-    go false e h = rw (e, among-zeros x n l e, h)
-
 -- ---- and the list itself has its open scans, with free places among them
 
 every-opened : (f : Place → ℕ) (b : ℕ) (ps : List Place) → allBetween 0 b (map f (opened ps)) ≡ everyOpen (λ p. leb (f p) b) ps
@@ -197,9 +183,11 @@ module _ (ps : List Place) (few : openCount ps ≤ mostScans) where
   pub table-at-most : (f : Place → ℕ) (b : ℕ) → allBetween 0 b (entries (map f (opened ps))) ≡ everyOpen (λ p. leb (f p) b) ps
   table-at-most f b = rw (field-entries f) (between-zeros b (mostScans - openCount ps) (map f (opened ps)) ∙ every-opened f b ps)
 
-  pub table-differ : differ (tableOf ps .numbers) ≡ differ (map (λ p. p .number) ps)
+  pub table-differ : differ (take (tableOf ps .count) (tableOf ps .numbers)) ≡ differ (map (λ p. p .number) ps)
   unfolding tableOf
-  table-differ = rw (field-entries (λ p. p .number)) (differ-zeros (mostScans - openCount ps) (map (λ p. p .number) (opened ps)) ∙ differ-opened ps)
+  table-differ =
+      let e : length (map (λ p. p .number) (opened ps)) ≡ openCount ps = length-map (opened ps) (λ p. p .number) in
+      rw (table-count, field-entries (λ p. p .number), take-at (map (λ p. p .number) (opened ps)) _ (openCount ps) e) (differ-opened ps)
 
   pub table-before : (m : ℕ) → anyBelow m (take (tableOf ps .count) (tableOf ps .merges)) ≡ someOpen (λ p. ltb (p .merges) m) ps
   unfolding tableOf

@@ -160,3 +160,41 @@ table-length t ps e = ap (λ (u : Scans). u .length) e
 pub table-next : (ps : List Place) (t r : Scans) (p : Place) (i : ℕ) → t ≡ tableOf (take i ps) → p ≡ getD ps i freePlace → r ≡ noted t p → i < length ps
     → r ≡ tableOf (take (i + 1) ps)
 table-next ps t r p i e q n h = n ∙ rw (e, q, add-one) (noted-table (take i ps) (getD ps i freePlace) ∙ ap tableOf (sym (take-suc ps i freePlace h)))
+
+-- ---- a loop over the places that holds the table's fields apart
+
+abbrev pub held : ℕ → ℕ → List ℕ → List ℕ → List ℕ → List ℕ → ℕ → Bool → Scans
+held i count numbers stamps merges places free more =
+    record {
+      length = i;
+      count = count;
+      numbers = numbers;
+      stamps = stamps;
+      merges = merges;
+      places = places;
+      free = free;
+      more = more;
+    }
+
+module _ (ps : List Place) (p : Place) (i n f : ℕ) (a b c d : List ℕ) (o : Bool) (e : held i n a b c d f o ≡ tableOf (take i ps)) (q : p ≡ getD ps i freePlace) (h : i < length ps) where
+  next : (t : Scans) → t ≡ noted (held i n a b c d f o) p → t ≡ tableOf (take (i + 1) ps)
+  next t k = table-next ps (held i n a b c d f o) t p i e q k h
+
+  pub held-free : (n′ f′ : ℕ) (a′ b′ c′ d′ : List ℕ) (o′ : Bool) → p .number ≡ 0
+      → a′ ≡ a → b′ ≡ b → c′ ≡ c → d′ ≡ d → n′ ≡ n → f′ ≡ f → o′ ≡ o → held (i + 1) n′ a′ b′ c′ d′ f′ o′ ≡ tableOf (take (i + 1) ps)
+  unfolding noted
+  held-free n′ f′ a′ b′ c′ d′ o′ z ea eb ec ed en ef eo = next _ (rw (ea, eb, ec, ed, en, ef, eo) (sym (rw (eq-eqb _ _ z))))
+
+  pub held-open : (n′ f′ x y z : ℕ) (a′ b′ c′ d′ : List ℕ) (o′ : Bool) → (p .number ≡ 0 → ⊥) → n < mostScans
+      → x ≡ p .number → y ≡ p .stamp → z ≡ p .merges → a′ ≡ set a n x → b′ ≡ set b n y → c′ ≡ set c n z → d′ ≡ set d n i → n′ ≡ n + 1
+      → f′ ≡ cond (eqb f i) (i + 1) f → o′ ≡ o → held (i + 1) n′ a′ b′ c′ d′ f′ o′ ≡ tableOf (take (i + 1) ps)
+  unfolding noted
+  held-open n′ f′ x y z a′ b′ c′ d′ o′ k l ex ey ez ea eb ec ed en ef eo =
+      next _ (rw (ea, eb, ec, ed, en, ef, eo, ex, ey, ez) (sym (rw (ne-eqb _ _ k, lt-ltb _ _ l))))
+
+  pub held-over : (n′ f′ : ℕ) (a′ b′ c′ d′ : List ℕ) (o′ : Bool) → (p .number ≡ 0 → ⊥) → mostScans ≤ n
+      → a′ ≡ a → b′ ≡ b → c′ ≡ c → d′ ≡ d → n′ ≡ n → f′ ≡ cond (eqb f i) (i + 1) f → o′ ≡ true
+      → held (i + 1) n′ a′ b′ c′ d′ f′ o′ ≡ tableOf (take (i + 1) ps)
+  unfolding noted
+  held-over n′ f′ a′ b′ c′ d′ o′ k l ea eb ec ed en ef eo =
+      next _ (rw (ea, eb, ec, ed, en, ef, eo) (sym (rw (ne-eqb _ _ k, le-ltb _ _ l))))

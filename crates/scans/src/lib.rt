@@ -3,20 +3,20 @@
 // the functions over bytes, three words to a place, serve callers that lend the list as bytes.
 
 use loops::Found;
+use loops::and_between;
 use loops::fill;
 use terms::Place;
 use words::get;
 use words::put;
 ghost use mathlib.Core.Path.{_≡_};
 ghost use mathlib.Core.Bool.{_||_, not, cond};
-ghost use mathlib.Core.List.{[]};
 ghost use Prim.Native.Nat.{_+_, _*_, _<_, _≤_};
 ghost use lib.Dec.{eqb, ltb};
 ghost use lib.ListN.{length, getD, set, take, drop};
 ghost use Rattle.words.specs.Words.{words};
 ghost use Rattle.loops.specs.Search.{allBetween};
-ghost use Rattle.scans.specs.Places.{freePlace, placesOf, allFreed, among, differ};
-ghost use Rattle.scans.specs.Table.{tableOf, noted, findIn, anyBelow};
+ghost use Rattle.scans.specs.Places.{placesOf, allFreed, among, differ};
+ghost use Rattle.scans.specs.Table.{tableOf, findIn, anyBelow};
 
 pub const MOST_SCANS: usize = 16;
 
@@ -39,21 +39,6 @@ pub struct Scans {
     pub more: bool,
 }
 
-fn empty() -> Scans
-    ensures { λ r. ⌜ r ≡ tableOf [] ⌝ }
-{
-    Scans {
-        length: 0,
-        count: 0,
-        numbers: [0; 16],
-        stamps: [0; 16],
-        merges: [0; 16],
-        places: [0; 16],
-        free: 0,
-        more: false,
-    }
-}
-
 // The first free place of a list that has grown by an open one.
 fn free_after(free: usize, length: usize) -> usize
     requires { ⌜ length < 4611686018427387904 ⌝ }
@@ -62,55 +47,46 @@ fn free_after(free: usize, length: usize) -> usize
     if free == length { length + 1 } else { free }
 }
 
-// The table with one place more, the next of the list.
-fn note(t: Scans, p: Place) -> Scans
-    requires { ⌜ t .length < 4611686018427387904 ⌝ }
-    ensures { λ r. ⌜ r ≡ noted t p ⌝ }
-{
-    let mut u = t;
-    u.length = t.length + 1;
-    if p.number == 0 {
-        return u;
-    }
-    u.free = free_after(t.free, t.length);
-    let n = t.count;
-    if n < MOST_SCANS {
-        u.numbers[n] = p.number;
-        u.stamps[n] = p.stamp;
-        u.merges[n] = p.merges;
-        u.places[n] = t.length;
-        u.count = n + 1;
-    } else {
-        u.more = true;
-    }
-    u
-}
-
-// Place i of a list of bytes.
-fn place_get(list: &[u8], i: usize) -> Place
-    requires { ⌜ i * 12 + 12 ≤ length (now list) ⌝ }
-    ensures { λ r. ⌜ r ≡ getD (placesOf (words (now (list .entry)))) i freePlace ⌝ }
-{
-    let w = i * 3;
-    Place {
-        number: get(list, w),
-        stamp: get(list, w + 1),
-        merges: get(list, w + 2),
-    }
-}
-
 // The table of a list of bytes. A rest of fewer bytes than a place has belongs to no place.
 pub fn summarise(list: &[u8]) -> Scans
     ensures { λ r. ⌜ r ≡ tableOf (placesOf (words (now (list .entry)))) ⌝ }
 {
     let n = list.len() / PLACE_BYTES;
-    let mut t = empty();
+    let mut numbers: [u32; 16] = [0; 16];
+    let mut stamps: [u32; 16] = [0; 16];
+    let mut merges: [u32; 16] = [0; 16];
+    let mut places: [usize; 16] = [0; 16];
+    let mut count = 0;
+    let mut free = 0;
+    let mut more = false;
     let mut i = 0;
     while i < n {
-        t = note(t, place_get(list, i));
+        let w = i * 3;
+        let number = get(list, w);
+        if number != 0 {
+            free = free_after(free, i);
+            if count < MOST_SCANS {
+                numbers[count] = number;
+                stamps[count] = get(list, w + 1);
+                merges[count] = get(list, w + 2);
+                places[count] = i;
+                count += 1;
+            } else {
+                more = true;
+            }
+        }
         i += 1;
     }
-    t
+    Scans {
+        length: n,
+        count: count,
+        numbers: numbers,
+        stamps: stamps,
+        merges: merges,
+        places: places,
+        free: free,
+        more: more,
+    }
 }
 
 // Place i becomes p; a place past the end is not there, and nothing is written.
@@ -168,31 +144,30 @@ pub fn opened_before(t: Scans, m: u32) -> bool
     false
 }
 
-// Whether each entry is at most a bound. Unused entries are 0, so all are looked at.
+// Whether each entry is at most a bound. Unused entries are 0, so all are looked at, and one flag is carried to the end: so the loop vectorises.
 pub fn at_most(entries: [u32; 16], bound: u32) -> bool
     ensures { λ r. ⌜ r ≡ allBetween 0 bound entries ⌝ }
 {
+    let mut ok = true;
     let mut i = 0;
     while i < MOST_SCANS {
-        if entries[i] > bound {
-            return false;
-        }
+        ok = and_between(ok, 0, bound, entries[i]);
         i += 1;
     }
-    true
+    ok
 }
 
-// Whether entry i is 0 or stands in no later entry.
-fn differs(entries: [u32; 16], i: usize) -> bool
-    requires { ⌜ i < 16 ⌝ }
-    ensures { λ r. ⌜ r ≡ (eqb (getD entries i 0) 0 || not (among (getD entries i 0) (drop (i + 1) entries))) ⌝ }
+// Whether entry i is 0 or stands in no later one of the first n entries.
+fn differs(entries: [u32; 16], n: usize, i: usize) -> bool
+    requires { ⌜ (i < n) × (n ≤ 16) ⌝ }
+    ensures { λ r. ⌜ r ≡ (eqb (getD (take n entries) i 0) 0 || not (among (getD (take n entries) i 0) (drop (i + 1) (take n entries)))) ⌝ }
 {
     let x = entries[i];
     if x == 0 {
         return true;
     }
     let mut j = i + 1;
-    while j < MOST_SCANS {
+    while j < n {
         if entries[j] == x {
             return false;
         }
@@ -201,13 +176,14 @@ fn differs(entries: [u32; 16], i: usize) -> bool
     true
 }
 
-// Whether the entries that are not 0 differ from each other.
-pub fn all_differ(entries: [u32; 16]) -> bool
-    ensures { λ r. ⌜ r ≡ differ entries ⌝ }
+// Whether those of the first n entries that are not 0 differ from each other.
+pub fn all_differ(entries: [u32; 16], n: usize) -> bool
+    requires { ⌜ n ≤ 16 ⌝ }
+    ensures { λ r. ⌜ r ≡ differ (take n entries) ⌝ }
 {
     let mut i = 0;
-    while i < MOST_SCANS {
-        if !differs(entries, i) {
+    while i < n {
+        if !differs(entries, n, i) {
             return false;
         }
         i += 1;

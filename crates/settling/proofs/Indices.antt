@@ -1,15 +1,10 @@
 -- Where the words of a row, a record and a page lie: every index of the code is below its region's length, and no sum wraps.
 use Prim.Native.Nat.{ℕ, _+_, _*_, _/_, _≤_, _<_}
-use mathlib.Core.Path.{_≡_, ap}
-use mathlib.Core.Bool.{true}
 use native.Mathlib.Omega.{arith}
 use native.Mathlib.Nat.{mul-le-mul-right, suc-mul, mul-comm}
-use Rattle.terms.specs.Measures.{withinLimits}
 use Rattle.layout.specs.declared.Sizes.{Sizes}
 use Rattle.layout.specs.Regions.{need}
-use Rattle.layout.specs.Sizes.{sizesOf}
-use Rattle.layout.proofs.Limits.{Limited, limited}
-use Rattle.model.specs.Asked.{shapeIn, Proper}
+use Rattle.model.specs.Asked.{Proper}
 
 -- block p, of blocks of one size, ends within them
 block-in : (p n size : ℕ) → p < n → p * size + size ≤ n * size
@@ -36,21 +31,3 @@ module _ (s : Sizes) (p : Proper s) where
 pub sizes-need : (s : Sizes) → s .rows + s .slots + s .values + s .ranges + s .places + s .pages * 64 ≤ need s
 unfolding need
 sizes-need s = omega arith
-
--- sizes that a shape within the limits makes
-pub proper : (s : Sizes) → s ≡ sizesOf (shapeIn s) → withinLimits (shapeIn s) ≡ true → Proper s
-proper s e h =
-    let l = limited (shapeIn s) h in
-    record {
-      rows-are = ap (λ (x : Sizes). x .rows) e;
-      slots-are = ap (λ (x : Sizes). x .slots) e;
-      values-are = omega (arith, ap (λ (x : Sizes). x .values) e, ap (λ (x : Sizes). x .slots * s .columns) e);
-      places-are = ap (λ (x : Sizes). x .places) e;
-      pages-are = omega (arith, ap (λ (x : Sizes). x .pages) e, ap (λ (x : Sizes). x .places) e);
-      columns-from = l .columns-from;
-      columns-to = l .columns-to;
-      ranges-from = l .ranges-from;
-      ranges-to = l .ranges-to;
-      capacity-to = l .capacity-to;
-      spares-to = l .spares-to;
-    }

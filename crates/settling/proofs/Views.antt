@@ -1,9 +1,8 @@
 -- Laws of a view in which one region was renewed: what every loop that writes into one region says of its turns.
-use Prim.Native.Nat.{ℕ, _+_, _≤_}
+use Prim.Native.Nat.{ℕ, _+_}
 use mathlib.Core.Path.{_≡_, refl, ap, sym, _∙_, fun-ext}
 use mathlib.Core.Bool.{Bool, true, false, cond}
 use mathlib.Core.List.{List, [], map}
-use native.Mathlib.Omega.{arith}
 use lib.Dec.{eqb}
 use lib.ListN.{getD, set}
 use borrow.Author.Tests.{eqb-true}
@@ -54,6 +53,3 @@ module _ (k : Region) (f : ℕ → ℕ → ℕ) (at : ℕ) (v : View) where
   change-next w w′ i x e q p =
       turn-put k (changed f at i (v k)) v w w′ (at + i) x e p
       ∙ ap (λ (l : List ℕ). renew k l v) (changed-next f at (v k) (changed f at i (v k)) _ i x refl q refl)
-
-  pub change-all : (w : View) (i n : ℕ) → w ≡ renew k (changed f at i (v k)) v → i ≤ n → n ≤ i → w ≡ renew k (changed f at n (v k)) v
-  change-all w i n e h g = let q : i ≡ n = omega arith in e ∙ rw q

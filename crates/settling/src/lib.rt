@@ -66,7 +66,7 @@ pub fn note(mem: &mut [u8], s: Sizes, at: usize)
     write(mem, s, Region::Changes, at, p.changes);
 }
 
-// w in region k for the used records of range g that bear transaction t.
+// w in region k for the used records of range g that bear transaction t. A range that has none is passed over.
 fn mark_tail(mem: &mut [u8], s: Sizes, t: u32, k: Region, w: u32, g: usize)
     requires { ⌜ need s * 4 ≤ length (now mem) ⌝ }
     requires { ⌜ Proper s ⌝ }
@@ -75,6 +75,9 @@ fn mark_tail(mem: &mut [u8], s: Sizes, t: u32, k: Region, w: u32, g: usize)
     ensures { λ _. ⌜ view s (words (now (mem .exit))) ≡ tailMarked (shapeIn s) t k w g (view s (words (now (mem .entry)))) ⌝ }
 {
     let used = read(mem, s, Region::Used, g) as usize;
+    if used == 0 {
+        return;
+    }
     let first = g * s.capacity;
     mark_in(mem, s, Region::TailTransaction, t, k, first, used, w);
 }

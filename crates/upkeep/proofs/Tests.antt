@@ -1,19 +1,17 @@
 -- What the tests of a merge tell of its verdict, and what a merge may rely on once they are passed.
 use Prim.Native.Nat.{ℕ, _+_, _*_, _-_, _≤_, _<_}
-use mathlib.Core.Path.{_≡_, refl, ap, sym, _∙_}
-use mathlib.Core.Bool.{Bool, true, false, not, cond, _||_}
-use mathlib.Core.List.{List, [], _∷_}
+use mathlib.Core.Path.{_≡_, refl}
+use mathlib.Core.Bool.{Bool, true, false, cond, _||_}
+use mathlib.Core.List.{List, []}
 use native.Mathlib.Omega.{arith}
 use native.Mathlib.Nat.{min-le-left}
-use lib.Dec.{eqb, leb, ltb}
-use lib.ListN.{length, getD}
-use borrow.Author.Tests.{leb-true, leb-false, ltb-true, ltb-false, le-leb, lt-leb, lt-ltb, le-ltb}
+use lib.Dec.{leb, ltb}
+use borrow.Author.Tests.{leb-false, ltb-true, ltb-false, le-leb, lt-leb, lt-ltb, le-ltb}
 use Rattle.terms.specs.Measures.{mostScans}
 use Rattle.terms.specs.declared.Place.{Place}
 use Rattle.words.specs.Words.{words}
 use Rattle.loops.specs.declared.Found.{Found}
 use Rattle.layout.specs.declared.Sizes.{Sizes}
-use Rattle.layout.specs.declared.Region.{Region}
 use Rattle.layout.specs.View.{View, view}
 use Rattle.scans.specs.declared.Scans.{Scans}
 use Rattle.scans.specs.Places.{openCount}
@@ -21,14 +19,12 @@ use Rattle.scans.specs.Table.{tableOf}
 use Rattle.history.specs.History.{Call, accept, verdict, noColumn, noRange}
 use Rattle.history.proofs.Accepted.{passed}
 use Rattle.facts.specs.Facts.{pagesPlaced, pagePlaced}
-use Rattle.facts.specs.declared.Checked.{Checked}
-use Rattle.facts.specs.declared.Checked.the-variants.{Fit}
-use Rattle.facts.specs.Tests.{MemoryFacts, Passed, Safe}
+use Rattle.facts.specs.Tests.{MemoryFacts}
 use Rattle.facts.proofs.Each.{each-tells}
 use Rattle.facts.proofs.Usable.{placed-tells}
 use Rattle.model.specs.Stored.{usedIn, pageIn, currentIn, pagesOf}
-use Rattle.model.specs.Writing.{anyOpen, freeIn}
-use Rattle.model.specs.Calls.{testsIn, outOfReachIn, openAmongIn}
+use Rattle.model.specs.Writing.{freeIn}
+use Rattle.model.specs.Calls.{testsIn, outOfReachIn}
 use Rattle.model.specs.Asked.{shapeIn, Proper, Linked}
 use Rattle.rows.proofs.Indices.{place-in}
 use Rattle.settling.specs.Steps.{foundAt}
@@ -83,9 +79,6 @@ unfolding pageIn currentIn pagesPlaced
 current-states s m p f g c h l =
     let v = view s (words m) in
     placed-tells s v (g * s .columns + c) (each-tells (pagePlaced s v) (s .places) (f .placed) (g * s .columns + c) (place-in s p g c h l)) .1
-
-pub passed-facts : (f : Checked) (s : Sizes) (m : List ℕ) → f ≡ Fit s → Safe f m → MemoryFacts s (view s (words m))
-passed-facts f s m e x = let y : Passed s m = rw e at x in y .facts
 
 or-off : (a b : Bool) → (a || b) ≡ false → (a ≡ false) × (b ≡ false)
 or-off true b e = let z : _≡_ {A = ℕ} 0 1 = cc in absurd (omega arith)

@@ -11,8 +11,9 @@ use layout::HEADER_MERGES;
 use layout::HEADER_SCANS;
 use layout::Region;
 use layout::Sizes;
-use layout::words_needed;
+use lending::Part;
 use lending::Tested;
+use lending::lend;
 use loops::Found;
 use merging::free_page;
 use regions::read;
@@ -126,10 +127,9 @@ fn merge_in(mem: &mut [u8], s: Sizes, range: u32, column: u32, through: Tail) ->
 pub fn merge(mem: &mut [u8], scans: Scans, range: u32, column: u32, through: Tail) -> Answer
     ensures { λ r. ⌜ Leaves (now (mem .entry)) scans (Call.merge range column (through .0)) r (now (mem .exit)) ⌝ }
 {
-    let Checked::Fit(s) = check(mem, scans) else {
+    let Part::Lent(s, n) = lend(mem, scans) else {
         return Answer::Refused(Refusal::Memory);
     };
-    let n = words_needed(s) * 4;
     merge_in(&mut mem[..n], s, range, column, through)
 }
 
@@ -150,10 +150,9 @@ pub fn release(mem: &mut [u8], scans: Scans) -> Answer
     if scans.count > MOST_SCANS {
         return Answer::Refused(Refusal::Memory);
     }
-    let Checked::Fit(s) = check(mem, scans) else {
+    let Part::Lent(s, n) = lend(mem, scans) else {
         return Answer::Refused(Refusal::Memory);
     };
-    let n = words_needed(s) * 4;
     release_in(&mut mem[..n], s, scans)
 }
 
@@ -196,14 +195,13 @@ fn open_tests(mem: &[u8], s: Sizes, scans: Scans, stamp: Stamp) -> Tested
 pub fn open_scan(mem: &mut [u8], scans: Scans, stamp: Stamp) -> Listed
     ensures { λ r. ⌜ Lists (now (mem .entry)) scans (Call.openScan (stamp .0)) r (now (mem .exit)) ⌝ }
 {
-    let Checked::Fit(s) = check(mem, scans) else {
+    let Part::Lent(s, n) = lend(mem, scans) else {
         return unlisted(scans, Refusal::Memory);
     };
     match open_tests(mem, s, scans, stamp) {
         Tested::Failed(x) => unlisted(scans, x),
         Tested::Passed(place) => {
             let merges = read(mem, s, Region::Header, HEADER_MERGES);
-            let n = words_needed(s) * 4;
             let number = settling::give_scan(&mut mem[..n], s);
             Listed {
                 answer: Answer::Number(number),

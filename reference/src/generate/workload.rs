@@ -78,6 +78,9 @@ const SEVERAL_RANGES: Workload = Workload {
 
 const LATE_STAMPS: Workload = Workload { step: 1 << 29, ..EVEN };
 
+/// How many workloads there are; a seed's remainder by it chooses one.
+pub const COUNT: u64 = WORKLOADS.len() as u64;
+
 const WORKLOADS: [&Workload; 12] = [
     &EVEN,
     &SMALL_TAIL,
@@ -95,5 +98,5 @@ const WORKLOADS: [&Workload; 12] = [
 
 /// The workload of a seed.
 pub fn of(seed: u64) -> &'static Workload {
-    WORKLOADS[(seed % WORKLOADS.len() as u64) as usize]
+    WORKLOADS[(seed % COUNT) as usize]
 }

@@ -7,7 +7,8 @@ use Rattle.terms.specs.declared.Answer.{Answer}
 use Rattle.history.specs.History.{verdict}
 use Rattle.model.specs.Calls.{testsIn, replyIn, actIn}
 use Rattle.lending.proofs.Ends.{refused, accepted}
-use Rattle.changes.proofs.Tests.{not-open, open-there, full, not-full}
+use Rattle.conditions.proofs.Opens.{not-open, open-there}
+use Rattle.changes.proofs.Tests.{full, not-full}
 use Rattle.changes.proofs.insert_in.Statement.{statement}
 use Rattle.changes.proofs.insert_in.Tie as tie
 

@@ -10,8 +10,10 @@ use Rattle.commands.proofs.decode.Tie as tie
 returns : tie.Need-returns
 unfolding callFrom
 returns c =
-    let vs = rw (part-to-end, c .before .before .before .before .before .value-count .ensures .0) at (c .values .ensures) in
-    rw (c .before .before .before .before .number .ensures, c .before .before .before .number2 .ensures, c .before .before .number3 .ensures, c .before .before .before .before .before .value-count .ensures .0, vs)
+    let vs = rw (part-to-end, c .before .before .before .before .before .value-count .ensures .0) at (c .values .ensures .0) in (
+      rw (c .before .before .before .before .number .ensures, c .before .before .before .number2 .ensures, c .before .before .number3 .ensures, c .before .before .before .before .before .value-count .ensures .0, vs),
+      c .values .ensures .1,
+    )
 
 pub decode-spec : {M : Type 1} → statement M
 decode-spec =

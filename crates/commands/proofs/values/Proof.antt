@@ -1,4 +1,4 @@
--- `commands::values` meets its contract. The invariant: the first i places hold the first i values.
+-- `commands::values` meets its contract. The invariant: the first i places hold the first i values, and the others 0.
 use Prim.Native.Nat.{_+_, _-_, _≤_, _<_, _^_}
 use mathlib.Core.Path.{_≡_, refl, ap, sym, _∙_}
 use native.Mathlib.Omega.{arith}
@@ -7,19 +7,20 @@ use mir.ValLaws.{toZ-ofZ}
 use borrow.Author.Needs.{needs}
 use lib.ListN.{length, take, length-set}
 use Rattle.commands.specs.Commands.{values}
-use Rattle.commands.proofs.Operands.{value-next}
+use Rattle.commands.specs.Decoded.{ZerosPast}
+use Rattle.commands.proofs.Operands.{value-next, zeros-at, zeros-next}
 use Rattle.commands.proofs.values.Statement.{statement}
 use Rattle.commands.proofs.values.Tie as tie
 
 abbrev Inv-loop : tie.InvT-loop
-Inv-loop bytes n out₀ i₀ out i = (i ≤ n) × (take i out ≡ values i bytes) × (length out ≡ 16)
+Inv-loop bytes n out₀ i₀ out i = (i ≤ n) × (take i out ≡ values i bytes) × (length out ≡ 16) × ZerosPast i out
 
 abbrev μ-loop : tie.MeasureT-loop
 μ-loop bytes n out₀ i₀ out i = n - i
 
 loop-holds : tie.Need-loop-holds Inv-loop μ-loop
 unfolding values
-loop-holds c = (omega arith, refl, refl)
+loop-holds c = (omega arith, refl, refl, λ k h. zeros-at 16 k)
 
 get-requires : tie.Need-get-requires Inv-loop μ-loop
 get-requires c κs = omega arith
@@ -46,13 +47,14 @@ loop-again c =
       rw (toZ-ofZ w32 (c .of-word .result) (record { sfits = c .of-word .ok }))
           (value-next _ _ _ _ _ (head .loop .inv .1) (c .before .get .ensures) (c .of-word .ensures) (omega arith) (omega arith)),
       simp length-set (head .loop .inv .2),
+      zeros-next (head .loop .out) (head .loop .i) _ (head .loop .inv .3),
     )
 
 returns : tie.Need-returns Inv-loop μ-loop
 returns c =
     let head = c .before in
     let all : head .loop .i ≡ head .before .before .args .n = omega arith in
-    rw all at (head .loop .inv .1)
+    (rw all at (head .loop .inv .1), rw all at (head .loop .inv .3))
 
 pub values-spec : {M : Type 1} → statement M
 values-spec =

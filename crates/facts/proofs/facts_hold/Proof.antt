@@ -1,4 +1,4 @@
--- `facts::facts_hold` meets its contract. The counts come first; the facts then are those of the calls, in their order.
+-- `facts::facts_hold` meets its contract. The counts come first; then each call tests the facts of one part of the memory.
 use mathlib.Core.Path.{_≡_, sym, _∙_}
 use mathlib.Core.Bool.{true, false}
 use Prim.Native.Nat.{ℕ}
@@ -7,8 +7,9 @@ use borrow.Author.Needs.{needs}
 use Rattle.words.specs.Words.{words}
 use Rattle.layout.specs.View.{view}
 use Rattle.loops.proofs.Search.{and-true}
-use Rattle.facts.specs.Facts.{factsHold, recordsNameRows, pagesPlaced, lineagesWithin}
-use Rattle.facts.specs.Tests.{Ready, MemoryFacts}
+use Rattle.facts.specs.Facts.{factsHold}
+use Rattle.facts.specs.Tests.{Ready}
+use Rattle.facts.proofs.Order.{facts-are, memory-facts}
 use Rattle.facts.proofs.Ready.{ready, few, counts-are}
 use Rattle.facts.proofs.facts_hold.Statement.{statement}
 use Rattle.facts.proofs.facts_hold.Tie as tie
@@ -19,68 +20,36 @@ passed c =
     let s = c .before .before .before in
     ready (s .args .s) (s .args .mem .now) (s .args .t) _ (c .before .counts-within .ensures) (s .pre .0) (s .pre .1) (c .if1 .taken)
 
-ranges-hold-requires : tie.Need-ranges-hold-requires
-ranges-hold-requires c κs = (passed (c), tt)
-
-numbers-given-requires : tie.Need-numbers-given-requires
-numbers-given-requires c κs = passed (c .before)
-
-links-hold-requires : tie.Need-links-hold-requires
-links-hold-requires c κs = passed (c .before .before)
-
-stamps-within-requires : tie.Need-stamps-within-requires
-stamps-within-requires c κs = passed (c .before .before .before)
-
-merges-within-requires : tie.Need-merges-within-requires
-merges-within-requires c κs = passed (c .before .before .before .before)
-
-all-hold-requires : tie.Need-all-hold-requires
-all-hold-requires c κs = (passed (c .before .before .before .before .before .before), λ i h. h)
-
-all-hold-requires-2 : tie.Need-all-hold-requires-2
-all-hold-requires-2 c κs = (passed (c .before .before .before .before .before .before .before), λ i h. h)
-
 unlike : false ≡ true → ⊥
 unlike e = let z : _≡_ {A = ℕ} 0 1 = cc in omega arith
 
 returns : tie.Need-returns
-unfolding factsHold recordsNameRows pagesPlaced lineagesWithin
 returns c =
-    let b6 = c .before in
-    let b5 = b6 .before in
-    let b4 = b5 .before in
-    let b3 = b4 .before in
+    let b3 = c .before in
     let b2 = b3 .before in
     let b1 = b2 .before in
-    let lineages = b1 .before in
-    let placed = lineages .before in
-    let differ = placed .before in
-    let merges = differ .before in
-    let stamps = merges .before in
-    let links = stamps .before in
-    let numbers = links .before in
-    let named = numbers .before in
-    let counts = named .before in
-    let s = counts .before .before .before in (
+    let scans = b1 .before in
+    let opens = scans .before in
+    let pages = opens .before in
+    let rows = pages .before in
+    let records = rows .before in
+    let counts = records .before in
+    let s = counts .before .before .before in
+    let z = s .args .s in
+    let v = view z (words (s .args .mem .now)) in
+    let flag = counts .before .counts-within .ensures in (
       λ ps e.
-          let k = few (s .args .s) (s .args .mem .now) (s .args .t) _ (counts .before .counts-within .ensures) ps e (counts .if1 .taken) in
-          rw (counts-are (s .args .s) (s .args .mem .now) (s .args .t) _ (counts .before .counts-within .ensures) ps e, counts .if1 .taken, c .both7 .ensures, b6 .both6 .ensures, b5 .both5 .ensures, b4 .both4 .ensures, b3 .both3 .ensures, b2 .both2 .ensures, b1 .both .ensures)
-          (rw (lineages .all-hold2 .ensures, placed .all-hold .ensures, differ .open-differ .ensures ps e k, merges .merges-within .ensures ps e k, stamps .stamps-within .ensures ps e k, links .links-hold .ensures, numbers .numbers-given .ensures ps e k, named .ranges-hold .ensures)),
+          let k = few z (s .args .mem .now) (s .args .t) _ flag ps e (counts .if1 .taken) in
+          rw (facts-are z v ps, counts-are z (s .args .mem .now) (s .args .t) _ flag ps e, counts .if1 .taken, c .both4 .ensures, b3 .both3 .ensures, b2 .both2 .ensures, b1 .both .ensures, scans .scans-hold .ensures ps e k, opens .opens-hold .ensures, pages .pages-hold .ensures, rows .rows-hold .ensures, records .ranges-hold .ensures),
       λ up.
-          let a1 = and-true (named .ranges-hold .result) (b6 .both6 .result) (sym (c .both7 .ensures) ∙ up) in
-          let a2 = and-true (numbers .numbers-given .result) (b5 .both5 .result) (sym (b6 .both6 .ensures) ∙ a1 .1) in
-          let a3 = and-true (links .links-hold .result) (b4 .both4 .result) (sym (b5 .both5 .ensures) ∙ a2 .1) in
-          let a4 = and-true (stamps .stamps-within .result) (b3 .both3 .result) (sym (b4 .both4 .ensures) ∙ a3 .1) in
-          let a5 = and-true (merges .merges-within .result) (b2 .both2 .result) (sym (b3 .both3 .ensures) ∙ a4 .1) in
-          let a6 = and-true (differ .open-differ .result) (b1 .both .result) (sym (b2 .both2 .ensures) ∙ a5 .1) in
-          let a7 = and-true (placed .all-hold .result) (lineages .all-hold2 .result) (sym (b1 .both .ensures) ∙ a6 .1) in
-          record {
-            counts = and-true _ _ (sym (counts .before .counts-within .ensures) ∙ counts .if1 .taken) .0;
-            names = sym (named .ranges-hold .ensures) ∙ a1 .0;
-            links = sym (links .links-hold .ensures) ∙ a3 .0;
-            placed = sym (placed .all-hold .ensures) ∙ a7 .0;
-            lineages = sym (lineages .all-hold2 .ensures) ∙ a7 .1;
-          },
+          let a1 = and-true (records .ranges-hold .result) (b3 .both3 .result) (sym (c .both4 .ensures) ∙ up) in
+          let a2 = and-true (rows .rows-hold .result) (b2 .both2 .result) (sym (b3 .both3 .ensures) ∙ a1 .1) in
+          let a3 = and-true (pages .pages-hold .result) (b1 .both .result) (sym (b2 .both2 .ensures) ∙ a2 .1) in
+          memory-facts z v
+          (and-true _ _ (sym flag ∙ counts .if1 .taken) .0)
+          (sym (records .ranges-hold .ensures) ∙ a1 .0)
+          (sym (rows .rows-hold .ensures) ∙ a2 .0)
+          (sym (pages .pages-hold .ensures) ∙ a3 .0),
     )
 
 returns-2 : tie.Need-returns-2
@@ -97,15 +66,9 @@ facts-hold-spec =
     tie.close
     (tie.spec
     (λ c κs. search needs)
-    ranges-hold-requires
-    numbers-given-requires
-    links-hold-requires
-    stamps-within-requires
-    merges-within-requires
-    (λ c κs. search needs)
-    all-hold-requires
-    all-hold-requires-2
-    (λ c κs. search needs)
+    (λ c κs. passed c)
+    (λ c κs. passed (c .before))
+    (λ c κs. passed (c .before .before))
     (λ c κs. search needs)
     (λ c κs. search needs)
     (λ c κs. search needs)

@@ -1,11 +1,13 @@
 -- `facts::lineage_within` meets its contract.
 use native.Mathlib.Omega.{arith}
 use borrow.Author.Needs.{needs}
-use Prim.Native.Nat.{_*_, _≤_}
-use native.Mathlib.Nat.{mul-le-mul}
+use Prim.Native.Nat.{ℕ, _/_, _%_}
+use mathlib.Core.Path.{_≡_, ap, _∙_}
 use borrow.Author.Tests.{lt-ltb, le-ltb}
-use Rattle.facts.specs.Facts.{lineageWithin}
-use Rattle.facts.proofs.Within.{place-range, places-some}
+use Rattle.words.specs.Words.{words}
+use Rattle.layout.specs.View.{view}
+use Rattle.facts.specs.Facts.{pageRange, lineageWithin}
+use Rattle.facts.proofs.Within.{place-range, place-few, places-some}
 use Rattle.facts.proofs.lineage_within.Statement.{statement}
 use Rattle.facts.proofs.lineage_within.Tie as tie
 
@@ -13,23 +15,38 @@ returns : tie.Need-returns
 unfolding lineageWithin
 returns c = rw (← c .before .read .ensures, lt-ltb _ _ (c .if1 .taken))
 
-rem-g : tie.Need-rem-g
-rem-g c =
+modulo-places-requires : tie.Need-modulo-places-requires
+modulo-places-requires c κs =
     let s = c .before .before .before .before .before in
     omega (arith, places-some (s .args .s) (s .pre .0 .sized))
 
-read-requires-3 : tie.Need-read-requires-3
-read-requires-3 c κs =
+range-of-place-requires : tie.Need-range-of-place-requires
+range-of-place-requires c κs =
     let s = c .before .before .before .before .before .before in
-    (s .pre .0 .room, place-range (s .args .s) _ (s .pre .0 .sized))
+    (rw (c .modulo-places .ensures) (place-few (s .args .s) _ (s .pre .0 .sized)), s .pre .1 .2)
+
+abbrev start : tie.After-range-of-place → tie.Start
+start c = c .before .before .before .before .before .before .before
+
+-- the range of the page's place
+range-is : (c : tie.After-range-of-place) → c .range-of-place .result ≡ pageRange (start c .args .s) (view (start c .args .s) (words (start c .args .mem .now))) (start c .args .p)
+range-is c =
+    let s = start c in
+    let z = s .args .s in
+    c .range-of-place .ensures (z .columns) (s .pre .0 .sized .columns-from) (s .pre .0 .sized .columns-to) (s .pre .1 .1)
+    ∙ ap (λ (x : ℕ). x / z .columns) (c .before .modulo-places .ensures ∙ ap (λ (x : ℕ). x % z .places) (c .before .before .before .read2 .ensures))
+
+read-requires-3 : tie.Need-read-requires-3
+read-requires-3 c κs = (start c .pre .0 .room, rw (range-is c) (place-range (start c .args .s) _ (start c .pre .0 .sized)))
 
 returns-2 : tie.Need-returns-2
 unfolding lineageWithin
 returns-2 c =
     let three = c .before in
-    let two = three .before .before .before in
+    let range = three .before in
+    let two = range .before .before .before in
     let one = two .before in
-    rw (← one .before .read .ensures, le-ltb _ _ (one .if1 .left), c .read4 .ensures, three .read3 .ensures, two .read2 .ensures)
+    rw (← one .before .read .ensures, le-ltb _ _ (one .if1 .left), c .read4 .ensures, three .read3 .ensures, range-is range)
 
 pub lineage-within-spec : {M : Type 1} → statement M
 lineage-within-spec =
@@ -39,8 +56,8 @@ lineage-within-spec =
     returns
     (λ c κs. search needs)
     (λ c. search needs)
-    rem-g
-    (λ c. search needs)
+    modulo-places-requires
+    range-of-place-requires
     read-requires-3
     (λ c κs. search needs)
     returns-2)

@@ -12,15 +12,15 @@ use Rattle.facts.proofs.ranges_hold.Statement.{statement}
 use Rattle.facts.proofs.ranges_hold.Tie as tie
 
 abbrev Inv-loop : tie.InvT-loop
-Inv-loop mem s f n ok₀ g₀ ok g = (g ≤ n) × (ok ≡ each g (rangeHolds s (view s (words mem)) f))
+Inv-loop mem s n ok₀ g₀ ok g = (g ≤ n) × (ok ≡ each g (rangeHolds s (view s (words mem))))
 
 abbrev μ-loop : tie.MeasureT-loop
-μ-loop mem s f n ok₀ g₀ ok g = n - g
+μ-loop mem s n ok₀ g₀ ok g = n - g
 
 range-holds-requires : tie.Need-range-holds-requires Inv-loop μ-loop
 range-holds-requires c κs =
     let s = c .before .before .before in
-    (s .pre .0, (c .loop-test .taken, s .pre .1))
+    (s .pre, c .loop-test .taken)
 
 loop-again : tie.Need-loop-again Inv-loop μ-loop
 loop-again c =
@@ -28,7 +28,9 @@ loop-again c =
     (omega arith, each-next _ _ _ _ (b .loop .g) (b .loop .inv .1) (c .before .range-holds .ensures) (c .both .ensures))
 
 returns : tie.Need-returns Inv-loop μ-loop
-returns c = each-all _ _ (c .before .loop .g) _ (c .before .loop .inv .0) (omega arith) (c .before .loop .inv .1)
+returns c =
+    let b = c .before in
+    each-all _ _ (b .loop .g) _ (b .loop .inv .0) (omega arith) (b .loop .inv .1)
 
 pub ranges-hold-spec : {M : Type 1} → statement M
 ranges-hold-spec =

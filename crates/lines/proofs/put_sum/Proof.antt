@@ -4,7 +4,7 @@ use borrow.Author.Needs.{needs}
 use Rattle.lines.specs.Lines.{outcome}
 use mir.Syntax.{w64}
 use mir.ValLaws.{toZ-ofZ}
-use Rattle.lines.proofs.Pieces.{joined}
+use Rattle.decimal.proofs.Pieces.{joined}
 use Rattle.lines.proofs.put_sum.Statement.{statement}
 use Rattle.lines.proofs.put_sum.Tie as tie
 

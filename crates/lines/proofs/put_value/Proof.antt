@@ -4,8 +4,8 @@ use borrow.Author.Needs.{needs}
 use Rattle.lines.specs.Lines.{outcome}
 use mir.Syntax.{w32, w64}
 use mir.ValLaws.{toZ-ofZ}
-use Rattle.lines.proofs.Pieces.{joined}
-use Rattle.lines.proofs.Signs.{wide, wider}
+use Rattle.decimal.proofs.Pieces.{joined}
+use Rattle.decimal.proofs.Signs.{wide, wider}
 use Rattle.lines.proofs.put_value.Statement.{statement}
 use Rattle.lines.proofs.put_value.Tie as tie
 

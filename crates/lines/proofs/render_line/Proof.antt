@@ -3,7 +3,8 @@ use mathlib.Core.Path.{_≡_, ap, _∙_}
 use native.Mathlib.Omega.{arith}
 use borrow.Author.Needs.{needs}
 use Rattle.lines.specs.Lines.{capitals, line}
-use Rattle.lines.proofs.Pieces.{joined, rendered}
+use Rattle.decimal.proofs.Pieces.{joined}
+use Rattle.lines.proofs.Pieces.{rendered}
 use Rattle.lines.proofs.render_line.Statement.{statement}
 use Rattle.lines.proofs.render_line.Tie as tie
 

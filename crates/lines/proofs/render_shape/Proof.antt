@@ -2,7 +2,8 @@
 use native.Mathlib.Omega.{arith}
 use borrow.Author.Needs.{needs}
 use Rattle.lines.specs.Lines.{shapeLine}
-use Rattle.lines.proofs.Pieces.{joined, rendered}
+use Rattle.decimal.proofs.Pieces.{joined}
+use Rattle.lines.proofs.Pieces.{rendered}
 use Rattle.lines.proofs.render_shape.Statement.{statement}
 use Rattle.lines.proofs.render_shape.Tie as tie
 

@@ -1,7 +1,8 @@
 -- `lookups::own_read_in` meets its contract.
 use mathlib.Core.Path.{sym, _∙_}
+use Rattle.conditions.proofs.Opens.{open-there, not-open}
 use Rattle.lookups.specs.Lookups.{SaysAlways}
-use Rattle.lookups.proofs.Answers.{says-not-open, says-own, open-lacks, open-has}
+use Rattle.lookups.proofs.Answers.{says-not-open, says-own}
 use borrow.Author.Needs.{needs}
 use Rattle.lookups.proofs.own_read_in.Statement.{statement}
 use Rattle.lookups.proofs.own_read_in.Tie as tie
@@ -9,7 +10,7 @@ use Rattle.lookups.proofs.own_read_in.Tie as tie
 returns : tie.Need-returns
 unfolding SaysAlways
 returns c =
-    λ ps. says-not-open _ _ ps _ _ _ (open-lacks _ _ (sym (c .before .before .open-place .ensures .0) ∙ c .enum-told .given .1))
+    λ ps. says-not-open _ _ ps _ _ _ (not-open _ _ (sym (c .before .before .open-place .ensures .0) ∙ c .enum-told .given .1))
 
 own-changes-requires : tie.Need-own-changes-requires
 own-changes-requires c κs =
@@ -17,7 +18,7 @@ own-changes-requires c κs =
     let call = found .before .before in (
       call .before .before .pre .room,
       (
-        open-has _ _ _ (sym (call .open-place .ensures .0) ∙ found .place .given .1) .1,
+        open-there _ _ _ (sym (call .open-place .ensures .0) ∙ found .place .given .1) .1,
         rw (found .place .given .1) at (call .open-place .ensures .1),
       ),
     )
@@ -29,7 +30,7 @@ returns-2 c =
     let last = own .before in
     let found = last .before .before in
     let open-at = sym (found .before .before .open-place .ensures .0) ∙ found .place .given .1 in
-    λ ps. c .read-latest-page .ensures ∙ rw (own .own-changes .ensures, last .last-stamp .ensures) (says-own _ _ ps _ _ _ (open-has _ _ _ open-at .0))
+    λ ps. c .read-latest-page .ensures ∙ rw (own .own-changes .ensures, last .last-stamp .ensures) (says-own _ _ ps _ _ _ (open-there _ _ _ open-at .0))
 
 pub own-read-in-spec : {M : Type 1} → statement M
 own-read-in-spec =

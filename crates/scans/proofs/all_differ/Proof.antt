@@ -2,39 +2,41 @@
 use Prim.Native.Nat.{_≤_, _-_}
 use mathlib.Core.Path.{_≡_, refl, sym, _∙_}
 use native.Mathlib.Omega.{arith}
-use lib.ListN.{length, drop}
+use lib.ListN.{length, take, drop}
+use lib.Seq.{length-take-le}
 use borrow.Author.Needs.{needs}
 use borrow.Author.Tests.{not-true, not-false}
 use Rattle.scans.specs.Places.{differ}
-use Rattle.scans.proofs.Entries.{left-next, left-none}
+use Rattle.scans.proofs.Entries.{left-next, first-none}
 use Rattle.scans.proofs.all_differ.Statement.{statement}
 use Rattle.scans.proofs.all_differ.Tie as tie
 
 abbrev Inv-loop : tie.InvT-loop
-Inv-loop entries i₀ i = (i ≤ 16) × (differ entries ≡ differ (drop i entries))
+Inv-loop entries n i₀ i = (i ≤ n) × (differ (take n entries) ≡ differ (drop i (take n entries)))
 
 abbrev μ-loop : tie.MeasureT-loop
-μ-loop entries i₀ i = 16 - i
+μ-loop entries n i₀ i = n - i
 
 returns : tie.Need-returns Inv-loop μ-loop
 returns c =
     let b = c .before .before .before in
-    let l = b .before .args .entries in
-    let n : length l ≡ 16 = search needs in
-    sym (b .loop .inv .1 ∙ rw (left-next l (b .loop .i) (omega arith), ← c .before .differs .ensures, not-true (c .before .differs .result) (c .if1 .taken)))
+    let a = b .before .args in
+    let l : length (a .entries) ≡ 16 = search needs in
+    sym (b .loop .inv .1 ∙ rw (left-next (take (a .n) (a .entries)) (b .loop .i) (omega (arith, length-take-le (a .n) (a .entries) (omega arith))), ← c .before .differs .ensures, not-true (c .before .differs .result) (c .if1 .taken)))
 
 loop-again : tie.Need-loop-again Inv-loop μ-loop
 loop-again c =
     let b = c .before .before .before in
-    let l = b .before .args .entries in
-    let n : length l ≡ 16 = search needs in
-    (omega arith, b .loop .inv .1 ∙ rw (left-next l (b .loop .i) (omega arith), ← c .before .differs .ensures, not-false (c .before .differs .result) (c .if1 .left)))
+    let a = b .before .args in
+    let l : length (a .entries) ≡ 16 = search needs in
+    (omega arith, b .loop .inv .1 ∙ rw (left-next (take (a .n) (a .entries)) (b .loop .i) (omega (arith, length-take-le (a .n) (a .entries) (omega arith))), ← c .before .differs .ensures, not-false (c .before .differs .result) (c .if1 .left)))
 
 returns-2 : tie.Need-returns-2 Inv-loop μ-loop
 returns-2 c =
-    let l = c .before .before .args .entries in
-    let n : length l ≡ 16 = search needs in
-    sym (c .before .loop .inv .1 ∙ rw (left-none l (c .before .loop .i) (omega arith)))
+    let b = c .before in
+    let a = b .before .args in
+    let l : length (a .entries) ≡ 16 = search needs in
+    sym (b .loop .inv .1 ∙ rw (first-none (a .n) (a .entries) (b .loop .i) (omega arith) (omega arith)))
 
 pub all-differ-spec : {M : Type 1} → statement M
 all-differ-spec =

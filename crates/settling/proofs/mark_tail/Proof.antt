@@ -2,10 +2,11 @@
 use native.Mathlib.Omega.{arith}
 use borrow.Author.Needs.{needs}
 use Prim.Native.Nat.{_+_, _*_, _≤_}
-use mathlib.Core.Path.{_≡_}
+use mathlib.Core.Path.{_≡_, sym}
 use Rattle.layout.specs.Regions.{need}
 use Rattle.settling.specs.Steps.{tailMarked}
 use Rattle.settling.proofs.Indices.{tail-in, sizes-need}
+use Rattle.settling.proofs.Nothing.{mark-none}
 use Rattle.settling.proofs.mark_tail.Statement.{statement}
 use Rattle.settling.proofs.mark_tail.Tie as tie
 
@@ -13,14 +14,20 @@ use Rattle.settling.proofs.mark_tail.Tie as tie
 inside : (c : tie.Start) → let a = c .args in (a .g * a .s .capacity + a .s .capacity ≤ a .s .slots) × (a .s .slots ≤ need (a .s))
 inside c = let a = c .args in (tail-in (a .s) (c .pre .1 .0) (a .g) (c .pre .1 .1 .0 .0), omega (arith, sizes-need (a .s)))
 
-mark-in-requires : tie.Need-mark-in-requires
-mark-in-requires c κs =
-    let start = c .before .before .before .before .before in
-    (search needs, (omega (arith, inside start), omega (arith, inside start), start .pre .1 .1 .1 .1))
-
 returns : tie.Need-returns
 unfolding tailMarked
-returns c = rw (c .before .before .mark-in .ensures, c .before .before .before .before .before .read .ensures)
+returns c =
+    let r = c .before in
+    sym (rw (← r .read .ensures, c .if1 .taken) (mark-none _ _ _ _ _ _))
+
+mark-in-requires : tie.Need-mark-in-requires
+mark-in-requires c κs =
+    let start = c .before .before .before .before .before .before in
+    (search needs, (omega (arith, inside start), omega (arith, inside start), start .pre .1 .1 .1 .1))
+
+returns-2 : tie.Need-returns-2
+unfolding tailMarked
+returns-2 c = rw (c .before .before .mark-in .ensures, c .before .before .before .before .before .before .read .ensures)
 
 pub mark-tail-spec : {M : Type 1} → statement M
 mark-tail-spec =
@@ -28,7 +35,9 @@ mark-tail-spec =
     (tie.spec
     (λ c κs. search needs)
     (λ c. search needs)
-    (λ c. omega (arith, inside (c .before .before .before .before)))
+    (λ c. search needs)
+    returns
+    (λ c. omega (arith, inside (c .before .before .before .before .before)))
     mark-in-requires
     (λ c. search needs)
-    returns)
+    returns-2)

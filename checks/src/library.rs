@@ -1,0 +1,226 @@
+//! The compiled library as a `Store`: through its C interface, and through the Rust crate over it.
+
+use deskrook::c::{self, Reply};
+use deskrook::{Mask, Refusal, Row, ScanNumber, Stamp, Tail, Transaction};
+use reference::{Answer, Call, Shape};
+
+use crate::memory::Scan;
+use crate::store::Store;
+
+/// The library through its C interface.
+#[derive(Clone, Copy, Debug, Default)]
+pub struct Library;
+
+/// The library through the crate `deskrook`.
+#[derive(Clone, Copy, Debug, Default)]
+pub struct Wrapper;
+
+impl Store for Library {
+    fn need(&self, shape: &Shape) -> Result<usize, u8> {
+        let Shape { columns, ranges, tail, spares } = *shape;
+        // SAFETY: it takes numbers alone.
+        let reply = unsafe { c::deskrook_need(columns, ranges, tail, spares) };
+        let (answer, fields) = match reply.result {
+            c::OK => (Ok(reply.first as usize), (reply.first, 0, 0)),
+            number => (Err(refusal(number)), (0, 0, 0)),
+        };
+        filled(&reply, fields);
+        answer
+    }
+
+    fn make(&self, memory: &mut [u8], scans: &mut [Scan], shape: &Shape) -> Answer {
+        let Shape { columns, ranges, tail, spares } = *shape;
+        let (mem, bytes) = (memory.as_mut_ptr(), memory.len());
+        let (list, places) = (scans.as_mut_ptr().cast(), scans.len());
+        // SAFETY: pointers and lengths are those of two slices borrowed for the call alone.
+        let reply =
+            unsafe { c::deskrook_make(mem, bytes, list, places, columns, ranges, tail, spares) };
+        filled(&reply, (0, 0, 0));
+        match reply.result {
+            c::OK => Answer::Done,
+            number => Answer::Refused(refusal(number)),
+        }
+    }
+
+    fn call(&self, memory: &mut [u8], scans: &mut [Scan], call: &Call) -> Answer {
+        answer(call, &reply(memory, scans, call))
+    }
+}
+
+/// The call by its name.
+fn reply(memory: &mut [u8], scans: &mut [Scan], call: &Call) -> Reply {
+    let (mem, bytes) = (memory.as_mut_ptr(), memory.len());
+    let (list, places) = (scans.as_mut_ptr().cast(), scans.len());
+    // SAFETY: pointers and lengths are those of slices borrowed for the call, memory and list
+    // alone; `Scan` is declared as the library's.
+    unsafe {
+        match *call {
+            Call::Begin => c::deskrook_begin(mem, bytes, list, places),
+            Call::Insert { transaction, ref values } => {
+                let (first, count) = (values.as_ptr(), values.len());
+                c::deskrook_insert(mem, bytes, list, places, transaction, first, count)
+            }
+            Call::Update { transaction, row, mask, ref values } => {
+                let (first, count) = (values.as_ptr(), values.len());
+                c::deskrook_update(mem, bytes, list, places, transaction, row, mask, first, count)
+            }
+            Call::Delete { transaction, row } => {
+                c::deskrook_delete(mem, bytes, list, places, transaction, row)
+            }
+            Call::Commit { transaction, stamp } => {
+                c::deskrook_commit(mem, bytes, list, places, transaction, stamp)
+            }
+            Call::Abort { transaction } => c::deskrook_abort(mem, bytes, list, places, transaction),
+            Call::Latest { row, column } => {
+                c::deskrook_latest(mem, bytes, list, places, row, column)
+            }
+            Call::ReadAt { stamp, row, column } => {
+                c::deskrook_read_at(mem, bytes, list, places, stamp, row, column)
+            }
+            Call::OwnRead { transaction, row, column } => {
+                c::deskrook_own_read(mem, bytes, list, places, transaction, row, column)
+            }
+            Call::OpenScan { stamp } => c::deskrook_open_scan(mem, bytes, list, places, stamp),
+            Call::ScanRead { scan, row, column } => {
+                c::deskrook_scan_read(mem, bytes, list, places, scan, row, column)
+            }
+            Call::Sum { scan, column } => c::deskrook_sum(mem, bytes, list, places, scan, column),
+            Call::Close { scan } => c::deskrook_close_scan(mem, bytes, list, places, scan),
+            Call::Merge { range, column, through } => {
+                c::deskrook_merge(mem, bytes, list, places, range, column, through)
+            }
+            Call::Release => c::deskrook_release(mem, bytes, list, places),
+            Call::PageCell { column, row } => {
+                c::deskrook_page_cell(mem, bytes, list, places, column, row)
+            }
+            Call::Lineage { range, column } => {
+                c::deskrook_lineage(mem, bytes, list, places, range, column)
+            }
+        }
+    }
+}
+
+fn refusal(number: u32) -> u8 {
+    assert!((1..=18).contains(&number), "{number} is no refusal");
+    number as u8
+}
+
+/// A field that an answer does not have must be 0.
+fn filled(reply: &Reply, fields: (u32, u32, i64)) {
+    assert_eq!((reply.first, reply.second, reply.sum), fields, "{reply:?} fills another field");
+}
+
+/// The answer that a call's reply stands for.
+fn answer(call: &Call, reply: &Reply) -> Answer {
+    let (answer, fields) = match reply.result {
+        c::OK => accepted(call, reply),
+        c::NONE => {
+            assert!(reads(call), "{call:?} does not answer none");
+            (Answer::None, (0, 0, 0))
+        }
+        number => (Answer::Refused(refusal(number)), (0, 0, 0)),
+    };
+    filled(reply, fields);
+    answer
+}
+
+/// An accepted call's answer, and the fields that it has.
+fn accepted(call: &Call, reply: &Reply) -> (Answer, (u32, u32, i64)) {
+    let &Reply { first, second, sum, .. } = reply;
+    match call {
+        Call::Sum { .. } => (Answer::Sum { count: first, sum }, (first, 0, sum)),
+        Call::Lineage { .. } => {
+            (Answer::Lineage { through: first, used: second }, (first, second, 0))
+        }
+        Call::Commit { .. } | Call::Abort { .. } | Call::Close { .. } | Call::Merge { .. } => {
+            (Answer::Done, (0, 0, 0))
+        }
+        Call::PageCell { .. } => (Answer::Value(first as i32), (first, 0, 0)),
+        _ if reads(call) => (Answer::Value(first as i32), (first, 0, 0)),
+        _ => (Answer::Number(first), (first, 0, 0)),
+    }
+}
+
+/// The calls that may answer none.
+fn reads(call: &Call) -> bool {
+    matches!(
+        call,
+        Call::Latest { .. } | Call::ReadAt { .. } | Call::OwnRead { .. } | Call::ScanRead { .. }
+    )
+}
+
+impl Store for Wrapper {
+    fn need(&self, shape: &Shape) -> Result<usize, u8> {
+        shaped(shape).bytes().map_err(|refusal| refusal.number() as u8)
+    }
+
+    fn make(&self, memory: &mut [u8], scans: &mut [Scan], shape: &Shape) -> Answer {
+        match deskrook::Store::make(memory, list(scans), shaped(shape)) {
+            Ok(_) => Answer::Done,
+            Err(refusal) => Answer::Refused(refusal.number() as u8),
+        }
+    }
+
+    fn call(&self, memory: &mut [u8], scans: &mut [Scan], call: &Call) -> Answer {
+        wrapped(&mut deskrook::Store::lent(memory, list(scans)), call)
+            .unwrap_or_else(|refusal| Answer::Refused(refusal.number() as u8))
+    }
+}
+
+fn shaped(shape: &Shape) -> deskrook::Shape {
+    let Shape { columns, ranges, tail, spares } = *shape;
+    deskrook::Shape { columns, ranges, tail, spares }
+}
+
+/// The list in the crate's type.
+fn list(scans: &mut [Scan]) -> &mut [deskrook::Scan] {
+    // SAFETY: both types are three 32-bit words by `repr(C)`, and the borrow is handed on.
+    unsafe { std::slice::from_raw_parts_mut(scans.as_mut_ptr().cast(), scans.len()) }
+}
+
+fn wrapped(store: &mut deskrook::Store, call: &Call) -> Result<Answer, Refusal> {
+    let done = |()| Answer::Done;
+    let value = |value: Option<i32>| value.map_or(Answer::None, Answer::Value);
+    let record = |tail: Tail| Answer::Number(tail.0);
+    match *call {
+        Call::Begin => store.begin().map(|transaction| Answer::Number(transaction.0)),
+        Call::Insert { transaction, ref values } => {
+            store.insert(Transaction(transaction), values).map(|row| Answer::Number(row.0))
+        }
+        Call::Update { transaction, row, mask, ref values } => {
+            store.update(Transaction(transaction), Row(row), Mask(mask), values).map(record)
+        }
+        Call::Delete { transaction, row } => {
+            store.delete(Transaction(transaction), Row(row)).map(record)
+        }
+        Call::Commit { transaction, stamp } => {
+            store.commit(Transaction(transaction), Stamp(stamp)).map(done)
+        }
+        Call::Abort { transaction } => store.abort(Transaction(transaction)).map(done),
+        Call::Latest { row, column } => store.latest(Row(row), column).map(value),
+        Call::ReadAt { stamp, row, column } => {
+            store.read_at(Stamp(stamp), Row(row), column).map(value)
+        }
+        Call::OwnRead { transaction, row, column } => {
+            store.own_read(Transaction(transaction), Row(row), column).map(value)
+        }
+        Call::OpenScan { stamp } => {
+            store.open_scan(Stamp(stamp)).map(|scan| Answer::Number(scan.0))
+        }
+        Call::ScanRead { scan, row, column } => {
+            store.scan_read(ScanNumber(scan), Row(row), column).map(value)
+        }
+        Call::Sum { scan, column } => store
+            .sum(ScanNumber(scan), column)
+            .map(|sum| Answer::Sum { count: sum.rows, sum: sum.sum }),
+        Call::Close { scan } => store.close_scan(ScanNumber(scan)).map(done),
+        Call::Merge { range, column, through } => {
+            store.merge(range, column, Tail(through)).map(done)
+        }
+        Call::Release => store.release().map(Answer::Number),
+        Call::PageCell { column, row } => store.page_cell(column, Row(row)).map(Answer::Value),
+        Call::Lineage { range, column } => store
+            .lineage(range, column)
+            .map(|lineage| Answer::Lineage { through: lineage.through.0, used: lineage.used }),
+    }
+}

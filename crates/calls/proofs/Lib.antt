@@ -1,0 +1,4 @@
+pub mod Runs
+pub mod Served
+pub mod Types
+pub mod Values

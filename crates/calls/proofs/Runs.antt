@@ -1,0 +1,118 @@
+-- The demands of the lent list itself, from those stated of definitions.
+use Prim.Native.Nat.{ℕ, _<_}
+use mathlib.Core.Path.{_≡_, refl, sym, subst, ap, _∙_}
+use mathlib.Core.Bool.{Bool, true, false, cond}
+use mathlib.Core.List.{List, [], _∷_}
+use native.Mathlib.Nat.{le-refl}
+use native.Mathlib.Omega.{arith}
+use lib.ListN.{length, set}
+use lib.Seq.{set-out}
+use Rattle.terms.specs.Measures.{Shape, mostScans}
+use Rattle.terms.specs.declared.Answer.{Answer}
+use Rattle.terms.specs.declared.Place.{Place}
+use Rattle.words.specs.Words.{words}
+use Rattle.layout.specs.View.{View}
+use Rattle.scans.specs.Places.{freePlace}
+use Rattle.facts.specs.Usable.{shapeIn, usable}
+use Rattle.facts.proofs.Usable.{usable-tells}
+use Rattle.history.specs.History.{Call, Verdict, accept, refuse, verdict}
+use Rattle.model.specs.Calls.{testsIn, placesAfter, placesIf, placesNext}
+use Rattle.promise.specs.Promise.{storeView, answerOf, memoryAfter, listAfter, answersOf}
+use Rattle.promise.specs.Demands.{Demand3, RefusedKeeps, RefusedMemory, storeAnswers}
+use Rattle.promise.proofs.Demands.{demand3}
+use Rattle.promise.proofs.Refused.{refused-keeps, refused-memory}
+use Rattle.making.specs.Made.{made}
+use Rattle.lent.specs.Lent.{isAccepted, freedIf}
+use Rattle.calls.specs.Serves.{Serves, Makes}
+use Rattle.calls.specs.Runs.{Run, ends, goes, LentAnswers, LentKept, MakingFrees, OnePlace, ShortRefused}
+
+pub run-answers : {m : List ℕ} {ps : List Place} {cs : List Call} {rs : List Answer} → Run m ps cs rs → rs ≡ answersOf m ps cs
+unfolding Serves answersOf
+run-answers ends = refl
+run-answers (goes {m} {m′} {ps} {ps′} {c} {r} {cs} {rs} s q) =
+    ap (λ (x : Answer). x ∷ rs) (s .0)
+    ∙ ap (λ (l : List Answer). answerOf m ps c ∷ l)
+    (run-answers q ∙ ap (λ (n : List ℕ). answersOf n ps′ cs) (s .1) ∙ ap (λ (l : List Place). answersOf (memoryAfter m ps c) l cs) (s .2))
+
+pub making-frees : MakingFrees
+unfolding MakingFrees Makes
+making-frees S m m′ ps ps′ h = h .2 ∙ ap (λ (x : Answer). freedIf (isAccepted x) ps) (sym (h .0))
+
+pub lent-answers : LentAnswers
+unfolding LentAnswers MakingFrees Makes Demand3 storeAnswers
+lent-answers S m m′ ps ps′ cs rs h t q =
+    run-answers q
+    ∙ ap (λ (n : List ℕ). answersOf n ps′ cs) (h .1)
+    ∙ ap (λ (l : List Place). answersOf (made S (length ps) m .1) l cs) (making-frees S m m′ ps ps′ h)
+    ∙ demand3 S m ps (sym (h .0)) cs t
+
+pub lent-kept : LentKept
+unfolding LentKept Serves RefusedKeeps
+lent-kept m m′ ps ps′ c n b s =
+    let k = refused-keeps m ps c n b (sym (s .0)) in
+    (s .1 ∙ k .0, s .2 ∙ k .1)
+
+-- ---- at most one place
+
+Changed : List Place → List Place → Type 0
+Changed ps ps′ = (i : ℕ) × (p : Place) × (ps′ ≡ set ps i p)
+
+none-changed : (ps : List Place) → Changed ps ps
+unfolding Changed
+none-changed ps = (length ps, freePlace, sym (set-out ps (length ps) freePlace (le-refl (length ps))))
+
+after-changed : (v : View) (ps : List Place) (c : Call) → Changed ps (placesAfter v ps c)
+unfolding Changed placesAfter
+after-changed v ps Call.begin = none-changed ps
+after-changed v ps (Call.insert t vs) = none-changed ps
+after-changed v ps (Call.update t r m vs) = none-changed ps
+after-changed v ps (Call.delete t r) = none-changed ps
+after-changed v ps (Call.commit t s) = none-changed ps
+after-changed v ps (Call.abort t) = none-changed ps
+after-changed v ps (Call.latest r c) = none-changed ps
+after-changed v ps (Call.readAt s r c) = none-changed ps
+after-changed v ps (Call.ownRead t r c) = none-changed ps
+after-changed v ps (Call.openScan s) = (_, _, refl)
+after-changed v ps (Call.scanRead k r c) = none-changed ps
+after-changed v ps (Call.sum k c) = none-changed ps
+after-changed v ps (Call.close k) = (_, _, refl)
+after-changed v ps (Call.merge g c n) = none-changed ps
+after-changed v ps Call.release = none-changed ps
+after-changed v ps (Call.pageCell c r) = none-changed ps
+after-changed v ps (Call.lineage g c) = none-changed ps
+
+if-changed : (w : Verdict) (ps ps′ : List Place) → Changed ps ps′ → Changed ps (placesIf w ps ps′)
+unfolding placesIf
+if-changed accept ps ps′ h = h
+if-changed (refuse n) ps ps′ h = none-changed ps
+
+list-changed : (m : List ℕ) (ps : List Place) (c : Call) → Changed ps (listAfter m ps c)
+unfolding listAfter placesNext
+list-changed m ps c = go (usable m ps)
+  where
+    S : Shape
+    S = shapeIn (words m)
+
+    v : View
+    v = storeView m
+
+    go : (b : Bool) → Changed ps (cond b (placesIf (verdict (testsIn S v ps c)) ps (placesAfter v ps c)) ps)
+    go true = if-changed (verdict (testsIn S v ps c)) ps (placesAfter v ps c) (after-changed v ps c)
+    go false = none-changed ps
+
+pub one-place : OnePlace
+unfolding OnePlace Serves Changed
+one-place m m′ ps ps′ c r s = subst (Changed ps) (sym (s .2)) (list-changed m ps c)
+
+-- ---- a short list
+
+short-unusable : (m : List ℕ) (ps : List Place) → length ps < mostScans → usable m ps ≡ false
+short-unusable m ps k = go (usable m ps) refl
+  where
+    go : (b : Bool) → usable m ps ≡ b → b ≡ false
+    go true e = absurd (omega (arith, usable-tells m ps e .places))
+    go false e = refl
+
+pub short-refused : ShortRefused
+unfolding ShortRefused Serves RefusedMemory
+short-refused m m′ ps ps′ c r k s = s .0 ∙ refused-memory m ps c .0 (short-unusable m ps k)

@@ -1,0 +1,43 @@
+-- The values lent with a call, one by one: those that were lent, then zeros.
+use Prim.Native.Nat.{ℕ, suc, _+_, _-_, _<_, _≤_}
+use mathlib.Core.Path.{_≡_, sym, ap, _∙_}
+use mathlib.Core.List.{List, _++_}
+use native.Mathlib.Omega.{arith}
+use lib.IntN.{ℤ, pos}
+use lib.ListN.{length, getD, set, take, replicate, List·getD-append, getD-replicate, length-append}
+use lib.Seq.{getD-take, getD-append-add, take-suc, take-suc-set, take-all, length-take-le}
+use Rattle.terms.specs.Measures.{mostColumns}
+use Rattle.calls.specs.Serves.{sixteen}
+
+abbrev zeros : List ℤ
+zeros = replicate mostColumns (pos 0)
+
+pub value-in : (vs : List ℤ) (i : ℕ) → i < mostColumns → i < length vs → getD (sixteen vs) i (pos 0) ≡ getD vs i (pos 0)
+unfolding sixteen
+value-in vs i h k = getD-take mostColumns (vs ++ zeros) i (pos 0) h ∙ List·getD-append vs zeros (pos 0) i k
+
+pub value-past : (vs : List ℤ) (i : ℕ) → i < mostColumns → length vs ≤ i → getD (sixteen vs) i (pos 0) ≡ pos 0
+unfolding sixteen
+value-past vs i h k =
+    let e : length vs + (i - length vs) ≡ i = omega arith in
+    let l : i - length vs < mostColumns = omega arith in
+    getD-take mostColumns (vs ++ zeros) i (pos 0) h
+    ∙ ap (λ (j : ℕ). getD (vs ++ zeros) j (pos 0)) (sym e)
+    ∙ getD-append-add vs zeros (i - length vs) (pos 0)
+    ∙ getD-replicate mostColumns (i - length vs) (pos 0) (pos 0) l
+
+pub sixteen-length : (vs : List ℤ) → length (sixteen vs) ≡ mostColumns
+unfolding sixteen
+sixteen-length vs =
+    let e : length (vs ++ zeros) ≡ length vs + mostColumns = length-append vs zeros in
+    length-take-le mostColumns (vs ++ zeros) (omega (arith, e))
+
+-- a turn of the loop that takes them, and its end
+pub next-value : (l vs : List ℤ) (i : ℕ) (x : ℤ) → x ≡ getD vs i (pos 0) → take i l ≡ take i vs → i < length l → i < length vs
+    → take (i + 1) (set l i x) ≡ take (i + 1) vs
+next-value l vs i x e q h k =
+    let one : i + 1 ≡ suc i = omega arith in
+    rw (one, take-suc-set l i x h, take-suc vs i (pos 0) k, q, e)
+
+pub all-values : (l vs : List ℤ) (n : ℕ) → length l ≡ n → length vs ≡ n → take n l ≡ take n vs → l ≡ vs
+all-values l vs n h k e = sym (take-all n l (omega arith)) ∙ e ∙ take-all n vs (omega arith)

@@ -1,0 +1,67 @@
+use native.Mathlib.Omega.{arith}
+use borrow.Author.Needs.{needs}
+use Prim.Native.Nat.{_≤_, _-_}
+use mathlib.Core.Path.{_≡_, refl, sym, _∙_}
+use mir.Syntax.{w32}
+use mir.ValLaws.{toZ-ofZ}
+use lib.ListN.{length, take, length-set}
+use Rattle.calls.specs.Serves.{sixteen}
+use Rattle.calls.proofs.Values.{sixteen-length, next-value, all-values}
+use Rattle.calls.proofs.take_sixteen.Statement.{statement}
+use Rattle.calls.proofs.take_sixteen.Tie as tie
+
+abbrev Inv-loop : tie.InvT-loop
+Inv-loop values taken₀ i₀ taken i =
+    (i ≤ 16) × (length taken ≡ 16) × (take i taken ≡ take i (sixteen values))
+
+abbrev μ-loop : tie.MeasureT-loop
+μ-loop values taken₀ i₀ taken i = 16 - i
+
+loop-holds : tie.Need-loop-holds Inv-loop μ-loop
+loop-holds c = (omega arith, refl, refl)
+
+value-at-requires : tie.Need-value-at-requires Inv-loop μ-loop
+value-at-requires c κs = omega arith
+
+mul-taken : tie.Need-mul-taken Inv-loop μ-loop
+mul-taken c = omega arith
+
+array-set-from-taken : tie.Need-array-set-from-taken Inv-loop μ-loop
+array-set-from-taken c = omega arith
+
+add-i : tie.Need-add-i Inv-loop μ-loop
+add-i c = omega arith
+
+loop-less : tie.Need-loop-less Inv-loop μ-loop
+loop-less c = omega arith
+
+loop-again : tie.Need-loop-again Inv-loop μ-loop
+loop-again c =
+    let loop = c .before .before .loop in
+    let m = c .before .before .before .args .values .now in
+    let e = toZ-ofZ w32 (c .value-at .result) record { sfits = c .value-at .ok } in (
+      omega arith,
+      length-set (loop .taken) (loop .i) _ ∙ loop .inv .1,
+      next-value (loop .taken) (sixteen m) (loop .i) _ (e ∙ c .value-at .ensures) (loop .inv .2) (omega arith) (omega (arith, sixteen-length m)),
+    )
+
+returns : tie.Need-returns Inv-loop μ-loop
+returns c =
+    let m = c .before .before .args .values .now in
+    let n : c .before .loop .i ≡ 16 = omega arith in
+    all-values (c .before .loop .taken) (sixteen m) 16 (c .before .loop .inv .1) (sixteen-length m) (rw n at (c .before .loop .inv .2))
+
+pub take-sixteen-spec : {M : Type 1} → statement M
+take-sixteen-spec =
+    tie.close
+    (tie.spec
+    Inv-loop
+    μ-loop
+    loop-holds
+    value-at-requires
+    mul-taken
+    array-set-from-taken
+    add-i
+    loop-less
+    loop-again
+    returns)

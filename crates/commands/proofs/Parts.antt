@@ -1,0 +1,59 @@
+-- A command is read from its operands alone: the bytes behind them do not matter.
+use Prim.Native.Nat.{ℕ, _+_, _*_, _≤_}
+use mathlib.Core.Path.{_≡_, ap, _∙_}
+use mathlib.Core.List.{List, map}
+use native.Mathlib.Omega.{arith}
+use native.Mathlib.Decide.{decLe}
+use lib.Dec.{leb}
+use borrow.Author.Tests.{le-leb}
+use lib.ListN.{length, take, drop, length-drop}
+use lib.Seq.{take-take, take-all, take-add, drop-at, length-take-le}
+use mir.Syntax.{w32}
+use mir.Val.{toZ}
+use Rattle.words.specs.Words.{words}
+use Rattle.words.proofs.Words.{words-take}
+use Rattle.commands.specs.declared.Form.{Form}
+use Rattle.commands.specs.Commands.{width, valueCount, operand, values, callFrom, littleEndian, shapeBytes, shapeFrom}
+
+-- whether the operands are whole can be told from them
+pub whole : (w : ℕ) (bs : List ℕ) → leb w (length (take w bs)) ≡ leb w (length bs)
+whole w bs = go (decLe w (length bs))
+  where
+    go : Dec (w ≤ length bs) → leb w (length (take w bs)) ≡ leb w (length bs)
+    go (yes h) = let e : length (take w bs) ≡ w = length-take-le w bs h in rw (le-leb w (length bs) h, e) (le-leb w w (omega arith))
+    go (no h) = rw (take-all w bs (omega arith))
+
+operand-part : (at n w : ℕ) (bs : List ℕ) → at + n ≤ w → operand at n (take w bs) ≡ operand at n bs
+unfolding operand
+operand-part at n w bs h = ap (λ (l : List ℕ). littleEndian (drop at l)) (take-take (at + n) w bs h)
+
+values-part : (k n : ℕ) (bs : List ℕ) → k + n * 4 ≤ length bs → values n (drop k (take (k + n * 4) bs)) ≡ values n (drop k bs)
+unfolding values
+values-part k n bs h =
+    let rest : n * 4 ≤ length (drop k bs) = omega (arith, length-drop k bs) in
+    let cut : drop k (take (k + n * 4) bs) ≡ take (n * 4) (drop k bs) = ap (drop k) (take-add k (n * 4) bs) ∙ drop-at (take k bs) (take (n * 4) (drop k bs)) k (length-take-le k bs (omega arith)) in
+    let same : take n (words (take (n * 4) (drop k bs))) ≡ take n (words (drop k bs)) = ap (take n) (words-take n (drop k bs) rest) ∙ take-take n n (words (drop k bs)) (omega arith) in
+    ap (λ (l : List ℕ). map (toZ w32) (take n (words l))) cut ∙ ap (map (toZ w32)) same
+
+pub call-part : (columns : ℕ) (f : Form) (bs : List ℕ) → width columns f ≤ length bs → callFrom columns f (take (width columns f) bs) ≡ callFrom columns f bs
+unfolding callFrom
+call-part columns f bs h =
+    let w : ℕ = width columns f in
+    let k : ℕ = f .first + f .second + f .third in
+    let n : ℕ = valueCount columns f in
+    let e : w ≡ k + n * 4 = omega arith in
+    let vs : values n (drop k (take w bs)) ≡ values n (drop k bs) = ap (λ (z : ℕ). values n (drop k (take z bs))) e ∙ values-part k n bs (omega arith) in
+    let a : operand 0 (f .first) (take w bs) ≡ operand 0 (f .first) bs = operand-part 0 (f .first) w bs (omega arith) in
+    let b : operand (f .first) (f .second) (take w bs) ≡ operand (f .first) (f .second) bs = operand-part (f .first) (f .second) w bs (omega arith) in
+    let c : operand (f .first + f .second) (f .third) (take w bs) ≡ operand (f .first + f .second) (f .third) bs = operand-part (f .first + f .second) (f .third) w bs (omega arith) in
+    rw (a, b, c, vs)
+
+-- and the shape from its six bytes
+pub shape-part : (bs : List ℕ) → shapeFrom (take shapeBytes bs) ≡ shapeFrom bs
+unfolding shapeFrom
+shape-part bs =
+    let a : operand 0 1 (take 6 bs) ≡ operand 0 1 bs = operand-part 0 1 6 bs (omega arith) in
+    let b : operand 1 1 (take 6 bs) ≡ operand 1 1 bs = operand-part 1 1 6 bs (omega arith) in
+    let c : operand 2 2 (take 6 bs) ≡ operand 2 2 bs = operand-part 2 2 6 bs (omega arith) in
+    let d : operand 4 2 (take 6 bs) ≡ operand 4 2 bs = operand-part 4 2 6 bs (omega arith) in
+    rw (a, b, c, d)

@@ -1,2 +1,0 @@
--- What the door's numbers mean, and what it answers.
-pub mod Door

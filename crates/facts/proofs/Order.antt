@@ -1,0 +1,99 @@
+-- The facts in the order in which the memory is gone through are the facts in document 01's order.
+use Prim.Native.Nat.{ℕ}
+use mathlib.Core.Path.{_≡_, refl, ap, sym, _∙_}
+use mathlib.Core.Bool.{Bool, true, false, _&&_}
+use mathlib.Core.List.{List, map}
+use lib.Dec.{leb}
+use Rattle.terms.specs.declared.Place.{Place}
+use Rattle.loops.specs.Search.{allBetween}
+use Rattle.loops.proofs.Search.{and-true, and-false}
+use Rattle.scans.specs.Places.{everyOpen, differ}
+use Rattle.layout.specs.declared.Sizes.{Sizes}
+use Rattle.layout.specs.declared.Region.the-variants.{Opens, RowTransaction, RowStamp, TailTransaction, TailStamp, PageReplaced, PageNewest}
+use Rattle.layout.specs.View.{View}
+use Rattle.facts.specs.Facts.{each, rowsGiven, transactionsGiven, scansGiven, lastStamp, mergesMade, inUse, waiting, rowsBetween, rowLinked, rangeNamesRows, rangeBetween, rangeLinked, pageAtMost, storedWithin, countsWithin, recordsNameRows, numbersGiven, linksHold, stampsWithin, mergesWithin, openDiffer, pagesPlaced, lineagesWithin, factsHold}
+use Rattle.facts.specs.Tests.{MemoryFacts, rangeHolds, rowsHold, pagesHold, opensHold, scansHold}
+use Rattle.facts.proofs.Each.{each-both}
+
+regroup : (k n rt tt op sn rl tl rs ts pn ss sm pr od sd pl li : Bool)
+    → (k && (n && ((rt && (tt && (op && sn))) && ((rl && tl) && ((rs && (ts && (pn && ss))) && ((sm && pr) && ((od && sd) && (pl && li))))))))
+    ≡ (k && ((n && (tt && (tl && ts))) && ((rt && (rl && rs)) && ((pn && (pr && (pl && li))) && ((op && od) && (sn && (ss && (sm && sd))))))))
+regroup false n rt tt op sn rl tl rs ts pn ss sm pr od sd pl li = refl
+regroup true false rt tt op sn rl tl rs ts pn ss sm pr od sd pl li = refl
+regroup true true false tt op sn rl tl rs ts pn ss sm pr od sd pl li = simp and-false
+regroup true true true false op sn rl tl rs ts pn ss sm pr od sd pl li = simp and-false
+regroup true true true true false sn rl tl rs ts pn ss sm pr od sd pl li = simp and-false
+regroup true true true true true false rl tl rs ts pn ss sm pr od sd pl li = simp and-false
+regroup true true true true true true false tl rs ts pn ss sm pr od sd pl li = simp and-false
+regroup true true true true true true true false rs ts pn ss sm pr od sd pl li = simp and-false
+regroup true true true true true true true true false ts pn ss sm pr od sd pl li = simp and-false
+regroup true true true true true true true true true false pn ss sm pr od sd pl li = simp and-false
+regroup true true true true true true true true true true false ss sm pr od sd pl li = simp and-false
+regroup true true true true true true true true true true true false sm pr od sd pl li = simp and-false
+regroup true true true true true true true true true true true true false pr od sd pl li = simp and-false
+regroup true true true true true true true true true true true true true false od sd pl li = simp and-false
+regroup true true true true true true true true true true true true true true false sd pl li = simp and-false
+regroup true true true true true true true true true true true true true true true false pl li = simp and-false
+regroup true true true true true true true true true true true true true true true true false li = simp and-false
+regroup true true true true true true true true true true true true true true true true true false = simp and-false
+regroup true true true true true true true true true true true true true true true true true true = refl
+
+-- the records of all ranges, fact by fact
+pub ranges-are : (s : Sizes) (v : View) → each (s .ranges) (rangeHolds s v)
+    ≡ (recordsNameRows s v
+    && (each (s .ranges) (rangeBetween s v TailTransaction 1 (transactionsGiven v))
+    && (each (s .ranges) (rangeLinked s v) && each (s .ranges) (rangeBetween s v TailStamp 0 (lastStamp v)))))
+unfolding rangeHolds recordsNameRows
+ranges-are s v =
+    let n = s .ranges in
+    let a = rangeNamesRows s v in
+    let b = rangeBetween s v TailTransaction 1 (transactionsGiven v) in
+    let c = rangeLinked s v in
+    let d = rangeBetween s v TailStamp 0 (lastStamp v) in
+    each-both a (λ g. b g && (c g && d g)) n
+    ∙ ap (λ (x : Bool). each n a && x) (each-both b (λ g. c g && d g) n ∙ ap (λ (x : Bool). each n b && x) (each-both c d n))
+
+pub facts-are : (s : Sizes) (v : View) (ps : List Place)
+    → factsHold s v ps ≡ (countsWithin s v ps && (each (s .ranges) (rangeHolds s v) && (rowsHold s v && (pagesHold s v && (opensHold v && scansHold v ps)))))
+unfolding factsHold numbersGiven linksHold stampsWithin mergesWithin openDiffer rowsHold pagesHold opensHold scansHold
+facts-are s v ps =
+    rw (ranges-are s v)
+    (regroup
+    (countsWithin s v ps)
+    (recordsNameRows s v)
+    (rowsBetween v RowTransaction 1 (transactionsGiven v))
+    (each (s .ranges) (rangeBetween s v TailTransaction 1 (transactionsGiven v)))
+    (allBetween 0 (transactionsGiven v) (v Opens))
+    (everyOpen (λ p. leb (p .number) (scansGiven v)) ps)
+    (each (rowsGiven v) (rowLinked s v))
+    (each (s .ranges) (rangeLinked s v))
+    (rowsBetween v RowStamp 0 (lastStamp v))
+    (each (s .ranges) (rangeBetween s v TailStamp 0 (lastStamp v)))
+    (each (s .pages) (pageAtMost v inUse PageNewest (lastStamp v)))
+    (everyOpen (λ p. leb (p .stamp) (lastStamp v)) ps)
+    (everyOpen (λ p. leb (p .merges) (mergesMade v)) ps)
+    (each (s .pages) (pageAtMost v waiting PageReplaced (mergesMade v)))
+    (differ (v Opens))
+    (differ (map (λ p. p .number) ps))
+    (pagesPlaced s v)
+    (lineagesWithin s v))
+
+-- the facts that speak of the memory alone
+pub memory-facts : (s : Sizes) (v : View) → storedWithin s v ≡ true → each (s .ranges) (rangeHolds s v) ≡ true → rowsHold s v ≡ true → pagesHold s v ≡ true
+    → MemoryFacts s v
+unfolding rowsHold pagesHold linksHold
+memory-facts s v counts records rows pages =
+    let names = recordsNameRows s v in
+    let numbers = each (s .ranges) (rangeBetween s v TailTransaction 1 (transactionsGiven v)) in
+    let linked = each (s .ranges) (rangeLinked s v) in
+    let stamps = each (s .ranges) (rangeBetween s v TailStamp 0 (lastStamp v)) in
+    let a = and-true names (numbers && (linked && stamps)) (sym (ranges-are s v) ∙ records) in
+    let b = and-true linked stamps (and-true numbers (linked && stamps) (a .1) .1) in
+    let row-links = each (rowsGiven v) (rowLinked s v) in
+    let row-stamps = rowsBetween v RowStamp 0 (lastStamp v) in
+    let c = and-true row-links row-stamps (and-true (rowsBetween v RowTransaction 1 (transactionsGiven v)) (row-links && row-stamps) rows .1) in
+    let placed = pagesPlaced s v && lineagesWithin s v in
+    let merges = each (s .pages) (pageAtMost v waiting PageReplaced (mergesMade v)) in
+    let d = and-true merges placed (and-true (each (s .pages) (pageAtMost v inUse PageNewest (lastStamp v))) (merges && placed) pages .1) in
+    let e = and-true (pagesPlaced s v) (lineagesWithin s v) (d .1) in
+    record { counts = counts; names = a .0; links = rw (c .0, b .0); placed = e .0; lineages = e .1 }

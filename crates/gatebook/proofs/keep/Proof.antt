@@ -1,0 +1,65 @@
+-- `gatebook::keep` meets its contract. The invariant: the first i bytes of the line stand behind what was there.
+use Prim.Native.Nat.{_-_, _≤_}
+use mathlib.Core.Path.{_≡_, refl}
+use native.Mathlib.Omega.{arith}
+use lib.ListN.{length, length-set}
+use Rattle.gatebook.specs.Buffers.{Kept}
+use Rattle.gatebook.proofs.Buffers.{keep-none, keep-next}
+use Rattle.gatebook.proofs.keep.Statement.{statement}
+use Rattle.gatebook.proofs.keep.Tie as tie
+
+abbrev Inv-loop : tie.InvT-loop
+Inv-loop lines₀ at line n i₀ lines i = (i ≤ n) × (length lines ≡ length lines₀) × Kept lines₀ lines at line i
+
+abbrev μ-loop : tie.MeasureT-loop
+μ-loop lines₀ at line n i₀ lines i = n - i
+
+loop-holds : tie.Need-loop-holds Inv-loop μ-loop
+loop-holds c = (omega arith, refl, keep-none _ _ _)
+
+element-copy-out-lines : tie.Need-element-copy-out-lines Inv-loop μ-loop
+element-copy-out-lines c = omega arith
+
+add-lines : tie.Need-add-lines Inv-loop μ-loop
+add-lines c = omega arith
+
+slice-write-lines : tie.Need-slice-write-lines Inv-loop μ-loop
+slice-write-lines c = omega arith
+
+add-i : tie.Need-add-i Inv-loop μ-loop
+add-i c = omega arith
+
+loop-less : tie.Need-loop-less Inv-loop μ-loop
+loop-less c = omega arith
+
+loop-again : tie.Need-loop-again Inv-loop μ-loop
+loop-again c =
+    let loop = c .before .before .loop in (
+      omega arith,
+      simp length-set (loop .inv .1),
+      keep-next _ (loop .lines) _ _ (loop .i) _ (loop .inv .2) refl (omega arith),
+    )
+
+same-length : tie.Need-same-length Inv-loop μ-loop
+same-length c = c .before .loop .inv .1
+
+returns : tie.Need-returns Inv-loop μ-loop
+returns c =
+    let all : c .before .loop .i ≡ c .before .before .args .n = omega arith in
+    rw all at (c .before .loop .inv .2)
+
+pub keep-spec : {M : Type 1} → statement M
+keep-spec =
+    tie.close
+    (tie.spec
+    Inv-loop
+    μ-loop
+    loop-holds
+    element-copy-out-lines
+    add-lines
+    slice-write-lines
+    add-i
+    loop-less
+    loop-again
+    same-length
+    returns)

@@ -1,0 +1,2 @@
+-- What the program's buffers hold.
+pub mod Buffers

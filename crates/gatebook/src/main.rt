@@ -1,0 +1,283 @@
+// The program `gatebook`: it reads the shape and commands from standard input and writes a line for each to standard output. It answers as it reads, so that
+// neither the input nor the output has to fit a buffer, and it writes what was answered before it waits for more input.
+use libc::STDIN_FILENO;
+use libc::STDOUT_FILENO;
+use turns::columns_of;
+use turns::lent_list;
+use turns::lent_memory;
+use turns::operand_width;
+use turns::start;
+use turns::turn;
+ghost use mathlib.Core.Path.{_≡_};
+ghost use mathlib.Core.Bool.{_&&_};
+ghost use Prim.Native.Nat.{_+_, _≤_, _<_, min};
+ghost use lib.ListN.{length, getD, take};
+ghost use lib.Seq.{slice};
+ghost use Rattle.output.specs.Steps.{step};
+ghost use Rattle.turns.specs.Turns.{storeIn, storeMachine, firstStep, capped};
+ghost use Rattle.gatebook.specs.Buffers.{Inside, Fetched, Kept, Answered};
+
+const SHAPE_BYTES: usize = 6;
+
+// The most bytes of a line.
+const LINE: usize = 64;
+
+// How far the program is: the bytes of the input buffer from `from` to `to` are read and not yet answered, the first `used` bytes of the output buffer are
+// still to be written, and whether the program goes on.
+struct Progress {
+    from: usize,
+    to: usize,
+    used: usize,
+    on: bool,
+}
+
+fn least(a: usize, b: usize) -> usize
+    ensures { λ r. ⌜ (r ≡ min a b) × (r ≤ a) × (r ≤ b) ⌝ }
+{
+    if a < b { a } else { b }
+}
+
+fn both(a: bool, b: bool) -> bool
+    ensures { λ r. ⌜ r ≡ (a && b) ⌝ }
+{
+    if a { b } else { false }
+}
+
+// The n bytes from `from` on move to the front.
+fn move_down(buffer: &mut [u8], from: usize, n: usize)
+    requires { ⌜ from + n ≤ length (now buffer) ⌝ }
+    ensures { λ _. ⌜ take n (now (buffer .exit)) ≡ slice from (from + n) (now (buffer .entry)) ⌝ }
+{
+    let mut i = 0;
+    while i < n {
+        buffer[i] = buffer[from + i];
+        i += 1;
+    }
+}
+
+// One read behind the first `to` bytes of the buffer. It answers how many bytes came, 0 at the end of the input and where the read fails.
+fn read_behind(buffer: &mut [u8], to: usize) -> usize
+    requires { ⌜ to ≤ length (now buffer) ⌝ }
+    ensures { λ r. ⌜ (to + r ≤ length (now (buffer .entry))) × (take to (now (buffer .exit)) ≡ take to (now (buffer .entry))) ⌝ }
+{
+    let part = &mut buffer[to..];
+    let got = libc::read(STDIN_FILENO, part);
+    io::count(got, part)
+}
+
+// Reads until the buffer holds as many bytes as are wanted, or the input ends. It answers how many it holds.
+fn fill(buffer: &mut [u8], have: usize, wanted: usize) -> usize
+    requires { ⌜ have ≤ length (now buffer) ⌝ }
+    ensures { λ r. ⌜ (have ≤ r) × (r ≤ length (now (buffer .entry))) × (take have (now (buffer .exit)) ≡ take have (now (buffer .entry))) ⌝ }
+{
+    let mut to = have;
+    while to < wanted {
+        let more = read_behind(buffer, to);
+        if more == 0 {
+            break;
+        }
+        to += more;
+    }
+    to
+}
+
+// Writes the first n bytes of the lines. It answers whether all could be written.
+fn write_lines(lines: &[u8], n: usize) -> bool
+    requires { ⌜ n ≤ length (now lines) ⌝ }
+{
+    io::write_all(STDOUT_FILENO, &lines[..n])
+}
+
+// Has the wanted bytes in the input buffer, fewer only where the input ends. Before it waits for more, it writes what was answered.
+fn fetch(input: &mut [u8], lines: &[u8], p: Progress, wanted: usize) -> Progress
+    requires { ⌜ Inside p (now input) (now lines) ⌝ }
+    ensures { λ r. ⌜ Fetched p r (now (input .entry)) (now (input .exit)) (now (lines .entry)) ⌝ }
+{
+    let from = p.from;
+    let have = p.to - from;
+    if wanted <= have {
+        return p;
+    }
+    let done = write_lines(lines, p.used);
+    move_down(input, from, have);
+    let to = fill(input, have, wanted);
+    Progress {
+        from: 0,
+        to,
+        used: 0,
+        on: both(p.on, done),
+    }
+}
+
+// The first n bytes of a line go into the buffer of lines, at `at`.
+fn keep(lines: &mut [u8], at: usize, line: &[u8; 64], n: usize)
+    requires { ⌜ (at + n ≤ length (now lines)) × (n ≤ 64) ⌝ }
+    ensures { λ _. ⌜ Kept (now (lines .entry)) (now (lines .exit)) at (now (line .entry)) n ⌝ }
+{
+    let mut i = 0;
+    while i < n {
+        lines[at + i] = line[i];
+        i += 1;
+    }
+}
+
+// Writes what was answered, if the buffer has no room for another line.
+fn make_room(lines: &[u8], p: Progress) -> Progress
+    requires { ⌜ (64 ≤ length (now lines)) × (p .used ≤ length (now lines)) ⌝ }
+    ensures { λ r. ⌜ (r .from ≡ p .from) × (r .to ≡ p .to) × (r .used + 64 ≤ length (now (lines .entry))) ⌝ }
+{
+    let used = p.used;
+    if LINE <= lines.len() - used {
+        return p;
+    }
+    let done = write_lines(lines, used);
+    Progress {
+        from: p.from,
+        to: p.to,
+        used: 0,
+        on: both(p.on, done),
+    }
+}
+
+// The turn of the shape, whose bytes are at the front of the input buffer, as many as there are.
+fn answer_shape(
+    mem: &mut [u8],
+    scans: &mut [u8],
+    input: &[u8],
+    lines: &mut [u8],
+    p: Progress,
+) -> Progress
+    requires { ⌜ Inside p (now input) (now lines) × (p .used + 64 ≤ length (now lines)) ⌝ }
+    ensures { λ r. ⌜ Answered (firstStep (storeIn (now (mem .entry)) (now (scans .entry))) (slice (p .from) (r .from) (now (input .entry)))) (storeIn (now (mem .exit)) (now (scans .exit))) (now (input .entry)) (now (lines .entry)) (now (lines .exit)) p r 6 ⌝ }
+{
+    let from = p.from;
+    let n = least(p.to - from, SHAPE_BYTES);
+    let end = from + n;
+    let mut line = [0u8; 64];
+    let t = start(mem, scans, &input[from..end], &mut line);
+    let used = p.used;
+    let length = t.length;
+    keep(lines, used, &line, length);
+    Progress {
+        from: end,
+        to: p.to,
+        used: used + length,
+        on: both(p.on, t.on),
+    }
+}
+
+// The turn of a command, whose byte and operands are in the input buffer, the operands as many as there are.
+fn answer_command(
+    mem: &mut [u8],
+    scans: &mut [u8],
+    columns: usize,
+    wanted: usize,
+    input: &[u8],
+    lines: &mut [u8],
+    p: Progress,
+) -> Progress
+    requires { ⌜ Inside p (now input) (now lines) × (p .from < p .to) × (p .used + 64 ≤ length (now lines)) × (1 ≤ wanted) ⌝ }
+    ensures { λ r. ⌜ Answered (step storeMachine (capped columns) (storeIn (now (mem .entry)) (now (scans .entry))) (getD (now (input .entry)) (p .from) 0) (slice (p .from + 1) (r .from) (now (input .entry)))) (storeIn (now (mem .exit)) (now (scans .exit))) (now (input .entry)) (now (lines .entry)) (now (lines .exit)) p r wanted ⌝ }
+{
+    let from = p.from;
+    let n = least(p.to - from, wanted);
+    let end = from + n;
+    let byte = input[from];
+    let operands = from + 1;
+    let mut line = [0u8; 64];
+    let t = turn(mem, scans, columns, byte, &input[operands..end], &mut line);
+    let used = p.used;
+    let length = t.length;
+    keep(lines, used, &line, length);
+    Progress {
+        from: end,
+        to: p.to,
+        used: used + length,
+        on: both(p.on, t.on),
+    }
+}
+
+// The shape is read and answered.
+fn begin(mem: &mut [u8], scans: &mut [u8], input: &mut [u8], lines: &mut [u8]) -> Progress
+    requires { ⌜ 64 ≤ length (now lines) ⌝ }
+    ensures { λ r. ⌜ Inside r (now (input .exit)) (now (lines .exit)) ⌝ }
+{
+    let nothing = Progress {
+        from: 0,
+        to: 0,
+        used: 0,
+        on: true,
+    };
+    let p = fetch(input, lines, nothing, SHAPE_BYTES);
+    let q = make_room(lines, p);
+    answer_shape(mem, scans, input, lines, q)
+}
+
+// A command is read and answered. The program ends with the input, and where a line cannot be written.
+fn advance(
+    mem: &mut [u8],
+    scans: &mut [u8],
+    columns: usize,
+    input: &mut [u8],
+    lines: &mut [u8],
+    p: Progress,
+) -> Progress
+    requires { ⌜ (64 ≤ length (now lines)) × Inside p (now input) (now lines) ⌝ }
+    ensures { λ r. ⌜ Inside r (now (input .exit)) (now (lines .exit)) ⌝ }
+{
+    let q = fetch(input, lines, p, 1);
+    let at = q.from;
+    if at == q.to {
+        return Progress {
+            from: at,
+            to: at,
+            used: q.used,
+            on: false,
+        };
+    }
+    let byte = input[at];
+    let wanted = operand_width(byte, columns) + 1;
+    let whole = fetch(input, lines, q, wanted);
+    let s = make_room(lines, whole);
+    answer_command(mem, scans, columns, wanted, input, lines, s)
+}
+
+// All commands. The loop counts them down from a number that no run uses up, since nothing says that the input ends.
+fn answer_commands(
+    mem: &mut [u8],
+    scans: &mut [u8],
+    columns: usize,
+    input: &mut [u8],
+    lines: &mut [u8],
+    first: Progress,
+) -> Progress
+    requires { ⌜ (64 ≤ length (now lines)) × Inside first (now input) (now lines) ⌝ }
+    ensures { λ r. ⌜ r .used ≤ length (now (lines .exit)) ⌝ }
+{
+    let mut p = first;
+    let mut budget = u64::MAX;
+    while p.on && budget > 0 {
+        p = advance(mem, scans, columns, input, lines, p);
+        budget -= 1;
+    }
+    p
+}
+
+// The whole input.
+fn answer_all(mem: &mut [u8], scans: &mut [u8], input: &mut [u8], lines: &mut [u8])
+    requires { ⌜ 64 ≤ length (now lines) ⌝ }
+{
+    let p = begin(mem, scans, input, lines);
+    let end = p.from;
+    let columns = columns_of(&input[..end]);
+    let q = answer_commands(mem, scans, columns, input, lines, p);
+    write_lines(lines, q.used);
+}
+
+fn main() {
+    let mut mem = lent_memory();
+    let mut scans = lent_list();
+    let mut input = io::large_buffer();
+    let mut lines = io::large_buffer();
+    answer_all(&mut mem, &mut scans, &mut input, &mut lines);
+}

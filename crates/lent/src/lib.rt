@@ -1,0 +1,182 @@
+// The lent list of open scans, a slice of small records. Three functions reach into it, and each is proved by a walk of its MIR, by hand: `len_of`,
+// `place_at`, `put_place`. The others hand the list on to those: `table` finds the open scans, `keep` adds or drops one, `free_all` and `free_made` drop all.
+use scans::MOST_SCANS;
+use scans::Scans;
+use terms::Answer;
+use terms::Place;
+use upkeep::Listed;
+ghost use mathlib.Core.Path.{_≡_};
+ghost use Prim.Native.Nat.{_+_, _<_};
+ghost use mathlib.Core.Bool.{true, cond};
+ghost use mathlib.Core.List.{[]};
+ghost use lib.Dec.{eqb};
+ghost use lib.ListN.{length, getD, set};
+ghost use Rattle.scans.specs.Places.{freePlace, isOpen, allFreed};
+ghost use Rattle.scans.specs.Table.{tableOf, noted};
+ghost use Rattle.lent.specs.Lent.{ofLength, isAccepted, freedIf};
+
+// The record of a free place.
+fn free_place() -> Place
+    ensures { λ r. ⌜ r ≡ freePlace ⌝ }
+{
+    Place {
+        number: 0,
+        stamp: 0,
+        merges: 0,
+    }
+}
+
+pub fn len_of(list: &[Place]) -> usize
+    ensures { λ r. ⌜ r ≡ length (now (list .entry)) ⌝ }
+{
+    list.len()
+}
+
+pub fn place_at(list: &[Place], i: usize) -> Place
+    requires { ⌜ i < length (now list) ⌝ }
+    ensures { λ r. ⌜ r ≡ getD (now (list .entry)) i freePlace ⌝ }
+{
+    list[i]
+}
+
+pub fn put_place(list: &mut [Place], i: usize, p: Place)
+    requires { ⌜ i < length (now list) ⌝ }
+    ensures { λ _. ⌜ now (list .exit) ≡ set (now (list .entry)) i p ⌝ }
+{
+    list[i] = p;
+}
+
+// The table of no place.
+fn blank() -> Scans
+    ensures { λ r. ⌜ r ≡ tableOf [] ⌝ }
+{
+    Scans {
+        length: 0,
+        count: 0,
+        numbers: [0; 16],
+        stamps: [0; 16],
+        merges: [0; 16],
+        places: [0; 16],
+        free: 0,
+        more: false,
+    }
+}
+
+fn is_open(p: Place) -> bool
+    ensures { λ r. ⌜ r ≡ isOpen p ⌝ }
+{
+    p.number != 0
+}
+
+// The first free place of i places and an open one after them.
+fn free_after(free: usize, i: usize) -> usize
+    requires { ⌜ i < 4611686018427387904 ⌝ }
+    ensures { λ r. ⌜ r ≡ cond (eqb free i) (i + 1) free ⌝ }
+{
+    if free == i { i + 1 } else { free }
+}
+
+// The table of the first i places, with place i, an open one. What t has as its length is not looked at: free places are passed over without it.
+fn enter(t: Scans, i: usize, p: Place) -> Scans
+    requires { ⌜ (i < 4611686018427387904) × (isOpen p ≡ true) ⌝ }
+    ensures { λ r. ⌜ r ≡ noted (ofLength i t) p ⌝ }
+{
+    let mut u = t;
+    u.length = i + 1;
+    u.free = free_after(t.free, i);
+    let n = t.count;
+    if n < MOST_SCANS {
+        u.numbers[n] = p.number;
+        u.stamps[n] = p.stamp;
+        u.merges[n] = p.merges;
+        u.places[n] = i;
+        u.count = n + 1;
+    } else {
+        u.more = true;
+    }
+    u
+}
+
+fn set_length(t: Scans, n: usize) -> Scans
+    ensures { λ r. ⌜ r ≡ ofLength n t ⌝ }
+{
+    let mut u = t;
+    u.length = n;
+    u
+}
+
+// The table of the list, of any length.
+pub fn table(list: &[Place]) -> Scans
+    ensures { λ r. ⌜ r ≡ tableOf (now (list .entry)) ⌝ }
+{
+    let n = len_of(list);
+    let mut t = blank();
+    let mut i = 0;
+    while i < n {
+        let p = place_at(list, i);
+        if is_open(p) {
+            t = enter(t, i, p);
+        }
+        i += 1;
+    }
+    set_length(t, n)
+}
+
+fn place_of(listed: Listed) -> usize
+    ensures { λ r. ⌜ r ≡ listed .place ⌝ }
+{
+    listed.place
+}
+
+fn entry_of(listed: Listed) -> Place
+    ensures { λ r. ⌜ r ≡ listed .entry ⌝ }
+{
+    let p = listed.entry;
+    p
+}
+
+// The place that a call names becomes what it says: a scan is added or dropped. A place past the end is not there, and nothing is stored.
+pub fn keep(list: &mut [Place], listed: Listed)
+    ensures { λ _. ⌜ now (list .exit) ≡ set (now (list .entry)) (listed .place) (listed .entry) ⌝ }
+{
+    let i = place_of(listed);
+    if i < len_of(list) {
+        put_place(list, i, entry_of(listed));
+    }
+}
+
+// Every place becomes free, however many there are.
+pub fn free_all(list: &mut [Place])
+    ensures { λ _. ⌜ now (list .exit) ≡ allFreed (now (list .entry)) ⌝ }
+{
+    let n = len_of(list);
+    let mut i = 0;
+    while i < n {
+        put_place(list, i, free_place());
+        i += 1;
+    }
+}
+
+// Whether a call was carried out.
+pub fn accepted(answer: Answer) -> bool
+    ensures { λ r. ⌜ r ≡ isAccepted answer ⌝ }
+{
+    match answer {
+        Answer::Refused(_) => false,
+        Answer::Done => true,
+        Answer::Number(_) => true,
+        Answer::Value(_) => true,
+        Answer::None => true,
+        Answer::Sum(_, _) => true,
+        Answer::Lineage(_, _) => true,
+    }
+}
+
+// The list of a store that was to be made: every place becomes free, unless the making was refused.
+pub fn free_made(list: &mut [Place], answer: Answer)
+    ensures { λ _. ⌜ now (list .exit) ≡ freedIf (isAccepted answer) (now (list .entry)) ⌝ }
+{
+    if accepted(answer) {
+        free_all(list);
+    }
+}

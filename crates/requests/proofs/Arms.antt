@@ -1,0 +1,110 @@
+-- What is due for each kind of call: one that changes no memory, one that changes no list, and one that changes one place of the list.
+use Prim.Native.Nat.{ℕ, _*_, _≤_}
+use mathlib.Core.Path.{_≡_, refl, sym, ap, subst, _∙_}
+use mathlib.Core.Bool.{Bool, true, false, cond}
+use mathlib.Core.List.{List}
+use lib.ListN.{length, set}
+use Rattle.terms.specs.Measures.{Shape}
+use Rattle.terms.specs.declared.Answer.{Answer}
+use Rattle.terms.specs.declared.Place.{Place}
+use Rattle.words.specs.Words.{words}
+use Rattle.words.proofs.Words.{Bytes}
+use Rattle.layout.specs.Regions.{need}
+use Rattle.layout.specs.View.{View, view, lay}
+use Rattle.layout.proofs.Lay.{lay-view}
+use Rattle.scans.specs.declared.Scans.{Scans}
+use Rattle.scans.specs.Table.{tableOf}
+use Rattle.facts.specs.Usable.{shapeIn, sizesIn, usable}
+use Rattle.facts.proofs.Usable.{usable-tells}
+use Rattle.making.specs.Made.{made}
+use Rattle.history.specs.History.{Call, Verdict, accept, refuse, verdict}
+use Rattle.model.specs.Calls.{testsIn, actIn, placesAfter, viewIf, placesIf, viewNext, placesNext}
+use Rattle.promise.specs.Promise.{storeView, answerOf, memoryAfter, listAfter, Answers, Leaves}
+use Rattle.upkeep.specs.declared.Listed.{Listed}
+use Rattle.upkeep.specs.Lists.{Lists}
+use Rattle.commands.specs.declared.Request.{Request}
+use Rattle.lent.specs.Lent.{isAccepted, freedIf}
+use Rattle.calls.specs.Serves.{Serves, Makes}
+use Rattle.requests.specs.Asked.{asked}
+
+-- ---- a command that changes no view leaves the memory, and one that changes no list leaves it
+
+abbrev pub Reads : Call → Type 0
+Reads x = (S : Shape) (v : View) (ps : List Place) → actIn S v ps x ≡ v
+
+abbrev pub KeepsList : Call → Type 0
+KeepsList x = (v : View) (ps : List Place) → placesAfter v ps x ≡ ps
+
+same-view : (w : Verdict) (v : View) → viewIf w v v ≡ v
+unfolding viewIf
+same-view accept v = refl
+same-view (refuse n) v = refl
+
+same-places : (w : Verdict) (ps : List Place) → placesIf w ps ps ≡ ps
+unfolding placesIf
+same-places accept ps = refl
+same-places (refuse n) ps = refl
+
+pub memory-kept : (m : List ℕ) (ps : List Place) (x : Call) → Bytes m → Reads x → m ≡ memoryAfter m ps x
+unfolding memoryAfter viewNext storeView
+memory-kept m ps x b q = go (usable m ps) (λ e. usable-tells m ps e .room)
+  where
+    S : Shape
+    S = shapeIn (words m)
+
+    go : (f : Bool) → (f ≡ true → need (sizesIn (words m)) * 4 ≤ length m)
+        → m ≡ cond f (lay (sizesIn (words m)) (viewNext S (view (sizesIn (words m)) (words m)) ps x) m) m
+    go true h =
+        sym
+        (ap (λ (v : View). lay (sizesIn (words m)) v m)
+        (ap (viewIf (verdict (testsIn S (view (sizesIn (words m)) (words m)) ps x)) (view (sizesIn (words m)) (words m))) (q S (view (sizesIn (words m)) (words m)) ps)
+        ∙ same-view _ _)
+        ∙ lay-view (sizesIn (words m)) m b (h refl))
+    go false h = refl
+
+pub list-kept : (m : List ℕ) (ps : List Place) (x : Call) → KeepsList x → ps ≡ listAfter m ps x
+unfolding listAfter placesNext storeView
+list-kept m ps x q = go (usable m ps)
+  where
+    v : View
+    v = view (sizesIn (words m)) (words m)
+
+    go : (f : Bool) → ps ≡ cond f (placesNext (shapeIn (words m)) v ps x) ps
+    go true = sym (ap (placesIf (verdict (testsIn (shapeIn (words m)) v ps x)) ps) (q v ps) ∙ same-places _ _)
+    go false = refl
+
+-- ---- a call is served
+
+pub looked : (m : List ℕ) (t : Scans) (x : Call) (r : Answer) → Bytes m → Reads x → KeepsList x → Answers m t x r
+    → (ps : List Place) → t ≡ tableOf ps → Serves m ps x r m ps
+unfolding Serves Answers
+looked m t x r b q k h ps e = (h ps e, memory-kept m ps x b q, list-kept m ps x k)
+
+pub changed : (m : List ℕ) (t : Scans) (x : Call) (r : Answer) (m′ : List ℕ) → KeepsList x → Leaves m t x r m′
+    → (ps : List Place) → t ≡ tableOf ps → Serves m ps x r m′ ps
+unfolding Serves Leaves
+changed m t x r m′ k h ps e = (h ps e .0, h ps e .1, list-kept m ps x k)
+
+-- a call that changes one place of the list, which is written back
+pub listed : (m : List ℕ) (t : Scans) (x : Call) (r : Listed) (m′ : List ℕ) (ps ps′ : List Place) → Lists m t x r m′ → ps′ ≡ set ps (r .place) (r .entry)
+    → t ≡ tableOf ps → Serves m ps x (r .answer) m′ ps′
+unfolding Serves Lists
+listed m t x r m′ ps ps′ h e z = (h ps z .0, h ps z .1, e ∙ h ps z .2)
+
+-- what is due for a call is due for a request that asks for it
+pub asks : (m : List ℕ) (ps : List Place) (q : Request) (x : Call) (r : Answer) (m′ : List ℕ) (ps′ : List Place)
+    → asked q ≡ x → Serves m ps x r m′ ps′ → Serves m ps (asked q) r m′ ps′
+asks m ps q x r m′ ps′ e h = subst (λ (y : Call). Serves m ps y r m′ ps′) (sym e) h
+
+-- ---- a store is made
+
+pub made-served : (m : List ℕ) (ps : List Place) (S : Shape) (n : ℕ) (r : Answer) (m′ : List ℕ) (b : Bool) (ps′ : List Place)
+    → (r, m′) ≡ made S n m → n ≡ length ps → b ≡ isAccepted r → ps′ ≡ freedIf b ps → Makes m ps S r m′ ps′
+unfolding Makes
+made-served m ps S n r m′ b ps′ e l a q =
+    let whole : (r, m′) ≡ made S (length ps) m = rw l at e in
+    let answer = ap (λ (z : Answer × List ℕ). z .0) whole in (
+      answer,
+      ap (λ (z : Answer × List ℕ). z .1) whole,
+      q ∙ ap (λ (z : Bool). freedIf z ps) a ∙ ap (λ (z : Answer). freedIf (isAccepted z) ps) answer,
+    )

@@ -1,0 +1,4 @@
+-- Laws that the functions of this crate rest on.
+pub mod Arms
+pub mod Masks
+pub mod Values

@@ -1,0 +1,112 @@
+-- A mask of more than 16 bits has a bit at or above the columns: it is refused as the mask 0 is, at the same test.
+use Prim.Native.Nat.{ℕ, _≤_, _<_, _^_}
+use native.Mathlib.Omega.{arith}
+use mathlib.Core.Path.{_≡_, refl, ap, sym, subst, _∙_}
+use mathlib.Core.Bool.{Bool, true, false, cond}
+use mathlib.Core.List.{List}
+use lib.Dec.{ltb}
+use lib.IntN.{ℤ}
+use borrow.Author.Tests.{ltb-true, le-leb, ne-eqb}
+use Rattle.terms.specs.Measures.{Shape}
+use Rattle.terms.specs.declared.Answer.{Answer}
+use Rattle.terms.specs.declared.Place.{Place}
+use Rattle.terms.specs.declared.Refusal.{Refusal}
+use Rattle.words.specs.Words.{words}
+use Rattle.layout.specs.View.{View, lay}
+use Rattle.layout.proofs.Limits.{limited}
+use Rattle.facts.specs.Usable.{shapeIn, sizesIn, usable}
+use Rattle.history.specs.History.{Call, update, Verdict, accept, refuse, verdict, answerIf, badMask}
+use Rattle.model.specs.Calls.{notOpenIn, notGivenIn, testsIn, replyIn, actIn, placesAfter, viewIf, placesIf, say, viewNext, placesNext}
+use Rattle.promise.specs.Promise.{storeView, answerOf, memoryAfter, listAfter}
+use Rattle.calls.specs.Serves.{Serves}
+use Rattle.facts.proofs.Usable.{usable-tells}
+use native.Mathlib.Nat.{pow-le-pow-right}
+use Rattle.requests.proofs.Arms.{list-kept}
+
+-- ---- what an update with a refused mask answers and leaves, by the two tests before the mask's
+
+abbrev stopped : Bool → Bool → Verdict
+stopped p q = cond p (refuse Refusal.Transaction) (cond q (refuse Refusal.Row) (refuse Refusal.Mask))
+
+same-answer : (p q : Bool) (x y : Answer) → answerIf (stopped p q) x ≡ answerIf (stopped p q) y
+unfolding answerIf
+same-answer true q x y = refl
+same-answer false true x y = refl
+same-answer false false x y = refl
+
+same-view : (p q : Bool) (v x y : View) → viewIf (stopped p q) v x ≡ viewIf (stopped p q) v y
+unfolding viewIf
+same-view true q v x y = refl
+same-view false true v x y = refl
+same-view false false v x y = refl
+
+module _ (S : Shape) (v : View) (ps : List Place) (a b : ℕ) (vs : List ℤ) where
+  bad-mask : (c : ℕ) → badMask S c ≡ true → verdict (testsIn S v ps (update a b c vs)) ≡ stopped (notOpenIn v a) (notGivenIn v b)
+  unfolding verdict testsIn
+  bad-mask c e = rw e
+
+  say-bad : (c d : ℕ) → badMask S c ≡ true → badMask S d ≡ true → say S v ps (update a b c vs) ≡ say S v ps (update a b d vs)
+  unfolding say
+  say-bad c d p q =
+      ap (λ (w : Verdict). answerIf w (replyIn S v ps (update a b c vs))) (bad-mask c p)
+      ∙ same-answer (notOpenIn v a) (notGivenIn v b) _ _
+      ∙ sym (ap (λ (w : Verdict). answerIf w (replyIn S v ps (update a b d vs))) (bad-mask d q))
+
+  view-bad : (c d : ℕ) → badMask S c ≡ true → badMask S d ≡ true → viewNext S v ps (update a b c vs) ≡ viewNext S v ps (update a b d vs)
+  unfolding viewNext
+  view-bad c d p q =
+      ap (λ (w : Verdict). viewIf w v (actIn S v ps (update a b c vs))) (bad-mask c p)
+      ∙ same-view (notOpenIn v a) (notGivenIn v b) v _ _
+      ∙ sym (ap (λ (w : Verdict). viewIf w v (actIn S v ps (update a b d vs))) (bad-mask d q))
+
+-- ---- on a lent memory
+
+wide-bad : (m : List ℕ) (ps : List Place) (c : ℕ) → usable m ps ≡ true → 65535 < c → badMask (shapeIn (words m)) c ≡ true
+unfolding badMask
+wide-bad m ps c u h =
+    let l = limited (shapeIn (words m)) (usable-tells m ps u .within) in
+    let p : 2 ^ (shapeIn (words m)) .columns ≤ 2 ^ 16 = pow-le-pow-right (omega arith) (l .columns-to) in
+    let q : 2 ^ (shapeIn (words m)) .columns ≤ c = omega arith in
+    rw (ne-eqb c 0 (λ e. omega arith), le-leb _ c q)
+
+none-bad : (S : Shape) → badMask S 0 ≡ true
+unfolding badMask
+none-bad S = refl
+
+module _ (m : List ℕ) (ps : List Place) (a b c : ℕ) (vs : List ℤ) (h : 65535 < c) where
+  answer-wide : answerOf m ps (update a b 0 vs) ≡ answerOf m ps (update a b c vs)
+  unfolding answerOf
+  answer-wide = go (usable m ps) refl
+    where
+      S : Shape
+      S = shapeIn (words m)
+
+      go : (f : Bool) → usable m ps ≡ f
+          → cond f (say S (storeView m) ps (update a b 0 vs)) (Answer.Refused Refusal.Memory) ≡ cond f (say S (storeView m) ps (update a b c vs)) (Answer.Refused Refusal.Memory)
+      go true u = say-bad S (storeView m) ps a b vs 0 c (none-bad S) (wide-bad m ps c u h)
+      go false u = refl
+
+  memory-wide : memoryAfter m ps (update a b 0 vs) ≡ memoryAfter m ps (update a b c vs)
+  unfolding memoryAfter
+  memory-wide = go (usable m ps) refl
+    where
+      S : Shape
+      S = shapeIn (words m)
+
+      go : (f : Bool) → usable m ps ≡ f
+          → cond f (lay (sizesIn (words m)) (viewNext S (storeView m) ps (update a b 0 vs)) m) m ≡ cond f (lay (sizesIn (words m)) (viewNext S (storeView m) ps (update a b c vs)) m) m
+      go true u = ap (λ (v : View). lay (sizesIn (words m)) v m) (view-bad S (storeView m) ps a b vs 0 c (none-bad S) (wide-bad m ps c u h))
+      go false u = refl
+
+-- What is due for the mask n that the code takes is due for the operand c.
+pub masked : (m : List ℕ) (ps : List Place) (a b c n : ℕ) (vs : List ℤ) (r : Answer) (m′ : List ℕ) → n ≡ cond (ltb 65535 c) 0 c
+    → Serves m ps (update a b n vs) r m′ ps → Serves m ps (update a b c vs) r m′ ps
+unfolding Serves placesAfter
+masked m ps a b c n vs r m′ z s = go (ltb 65535 c) refl z
+  where
+    go : (f : Bool) → ltb 65535 c ≡ f → n ≡ cond f 0 c → Serves m ps (update a b c vs) r m′ ps
+    go true e q =
+        let h = ltb-true 65535 c e in
+        let w : Serves m ps (update a b 0 vs) r m′ ps = subst (λ (k : ℕ). Serves m ps (update a b k vs) r m′ ps) q s in
+        (w .0 ∙ answer-wide m ps a b c vs h, w .1 ∙ memory-wide m ps a b c vs h, list-kept m ps (update a b c vs) (λ v qs. refl))
+    go false e q = subst (λ (k : ℕ). Serves m ps (update a b k vs) r m′ ps) q s

@@ -1,0 +1,108 @@
+-- Two lists of values that agree at every column are the same to a call.
+use Prim.Native.Nat.{ℕ, zero, suc, _≤_}
+use native.Mathlib.Omega.{arith}
+use native.Mathlib.Decide.{decLe}
+use mathlib.Core.Path.{_≡_, refl, ap, sym, _∙_, fun-ext}
+use mathlib.Core.List.{List}
+use lib.IntN.{ℤ, pos}
+use lib.ListN.{length, getD, take, length-take, List·getD-eq-default}
+use lib.Seq.{getD-take}
+use mir.Syntax.{w32}
+use mir.Val.{ofZ}
+use Rattle.terms.specs.Measures.{Shape}
+use Rattle.terms.specs.declared.Answer.{Answer}
+use Rattle.terms.specs.declared.Place.{Place}
+use Rattle.words.specs.Words.{words}
+use Rattle.layout.specs.View.{View}
+use Rattle.layout.specs.declared.Region.the-variants.{Current}
+use Rattle.facts.specs.Usable.{shapeIn}
+use Rattle.history.specs.History.{Call, insert, update, rangeOf}
+use Rattle.model.specs.Stored.{asSetting}
+use Rattle.model.specs.Writing.{putCells, insertedAt, insertedIn, settingAppended, originalAppended, updatedIn, filledIn, nextSlot, appended}
+use Rattle.model.specs.Calls.{testsIn, replyIn, actIn, placesAfter, say, viewNext, placesNext}
+use Rattle.commands.specs.declared.Kind.{Kind}
+use Rattle.commands.specs.declared.Request.{Request}
+use Rattle.commands.specs.Commands.{callOf}
+use Rattle.commands.specs.Decoded.{callIn, ZerosPast}
+use Rattle.promise.specs.Promise.{storeView, answerOf, memoryAfter, listAfter}
+use Rattle.calls.specs.Serves.{Serves}
+use Rattle.requests.specs.Asked.{asked}
+
+abbrev Agree : List ℤ → List ℤ → Type 0
+Agree vs us = (c : ℕ) → getD vs c (pos 0) ≡ getD us c (pos 0)
+
+cells-agree : (vs us : List ℤ) → Agree vs us → (S : Shape) (current : List ℕ) (g i n : ℕ) (cells : List ℕ)
+    → putCells S current g i vs n cells ≡ putCells S current g i us n cells
+cells-agree vs us e S current g i zero cells = refl
+cells-agree vs us e S current g i (suc n) cells = rw (cells-agree vs us e S current g i n cells, e n)
+
+module _ (vs us : List ℤ) (e : Agree vs us) (S : Shape) where
+  inserted-agree : (t : ℕ) (v : View) → insertedIn S t vs v ≡ insertedIn S t us v
+  unfolding insertedIn insertedAt
+  inserted-agree t v = rw (cells-agree vs us e S (v Current))
+
+  setting-agree : (t r mask : ℕ) (v : View) → settingAppended S t r mask vs v ≡ settingAppended S t r mask us v
+  unfolding settingAppended
+  setting-agree t r mask v =
+      ap (λ (f : ℕ → ℕ). filledIn S (nextSlot S v (rangeOf r)) f (appended S t r asSetting mask v)) (fun-ext (λ (c : ℕ). ap (ofZ w32) (e c)))
+
+  updated-agree : (t r mask : ℕ) (v : View) → updatedIn S t r mask vs v ≡ updatedIn S t r mask us v
+  unfolding updatedIn
+  updated-agree t r mask v = rw (setting-agree t r mask (originalAppended S t r mask v), setting-agree t r mask v)
+
+-- a call whose tests and answer do not look at its values, on a lent memory
+served-alike : (m : List ℕ) (ps : List Place) (x y : Call) (r : Answer) (m′ : List ℕ) (ps′ : List Place)
+    → ((S : Shape) (v : View) → testsIn S v ps x ≡ testsIn S v ps y)
+    → ((S : Shape) (v : View) → replyIn S v ps x ≡ replyIn S v ps y)
+    → ((S : Shape) (v : View) → actIn S v ps x ≡ actIn S v ps y)
+    → ((v : View) → placesAfter v ps x ≡ placesAfter v ps y)
+    → Serves m ps x r m′ ps′ → Serves m ps y r m′ ps′
+unfolding Serves answerOf memoryAfter listAfter say viewNext placesNext
+served-alike m ps x y r m′ ps′ t a k l w =
+    let S = shapeIn (words m) in
+    let v = storeView m in (
+      rw (t S v, a S v) at (w .0),
+      rw (t S v, k S v) at (w .1),
+      rw (t S v, l v) at (w .2),
+    )
+
+-- What is due for a call with one list of values is due for it with another that agrees.
+served-values : (m : List ℕ) (ps : List Place) (k : Kind) (a b c : ℕ) (vs us : List ℤ) (r : Answer) (m′ : List ℕ) (ps′ : List Place) → Agree vs us
+    → Serves m ps (callOf k a b c vs) r m′ ps′ → Serves m ps (callOf k a b c us) r m′ ps′
+unfolding callOf testsIn replyIn actIn placesAfter
+served-values m ps Kind.Begin a b c vs us r m′ ps′ e w = w
+served-values m ps Kind.Insert a b c vs us r m′ ps′ e w =
+    served-alike m ps (insert a vs) (insert a us) r m′ ps′ (λ S v. refl) (λ S v. refl) (λ S v. inserted-agree vs us e S a v) (λ v. refl) w
+served-values m ps Kind.Update a b c vs us r m′ ps′ e w =
+    served-alike m ps (update a b c vs) (update a b c us) r m′ ps′ (λ S v. refl) (λ S v. refl) (λ S v. updated-agree vs us e S a b c v) (λ v. refl) w
+served-values m ps Kind.Delete a b c vs us r m′ ps′ e w = w
+served-values m ps Kind.Commit a b c vs us r m′ ps′ e w = w
+served-values m ps Kind.Abort a b c vs us r m′ ps′ e w = w
+served-values m ps Kind.Latest a b c vs us r m′ ps′ e w = w
+served-values m ps Kind.ReadAt a b c vs us r m′ ps′ e w = w
+served-values m ps Kind.OwnRead a b c vs us r m′ ps′ e w = w
+served-values m ps Kind.OpenScan a b c vs us r m′ ps′ e w = w
+served-values m ps Kind.ScanRead a b c vs us r m′ ps′ e w = w
+served-values m ps Kind.Sum a b c vs us r m′ ps′ e w = w
+served-values m ps Kind.Close a b c vs us r m′ ps′ e w = w
+served-values m ps Kind.Merge a b c vs us r m′ ps′ e w = w
+served-values m ps Kind.Release a b c vs us r m′ ps′ e w = w
+served-values m ps Kind.PageCell a b c vs us r m′ ps′ e w = w
+served-values m ps Kind.Lineage a b c vs us r m′ ps′ e w = w
+
+-- The first n values agree with all where those past them are 0.
+zeros-agree : (vs : List ℤ) (n : ℕ) → ZerosPast n vs → Agree vs (take n vs)
+zeros-agree vs n z c = go (decLe n c)
+  where
+    short : length (take n vs) ≤ n
+    short = omega (arith, length-take n vs)
+
+    go : Dec (n ≤ c) → getD vs c (pos 0) ≡ getD (take n vs) c (pos 0)
+    go (yes l) = z c l ∙ sym (List·getD-eq-default (take n vs) (pos 0) (omega (arith, short)))
+    go (no l) = sym (getD-take n vs c (pos 0) (omega arith))
+
+-- What is due for all the values of a request is due for the call that it stands for.
+pub served-call : (m : List ℕ) (ps : List Place) (q : Request) (r : Answer) (m′ : List ℕ) (ps′ : List Place) → ZerosPast (q .count) (q .values)
+    → Serves m ps (asked q) r m′ ps′ → Serves m ps (callIn q) r m′ ps′
+served-call m ps q r m′ ps′ z w =
+    served-values m ps (q .kind) (q .first) (q .second) (q .third) (q .values) (take (q .count) (q .values)) r m′ ps′ (zeros-agree (q .values) (q .count) z) w

@@ -1,0 +1,2 @@
+-- What a request asks for.
+pub mod Asked

@@ -1,0 +1,130 @@
+-- `gatebook` writes what it must write, for every input: demand 3 says that the store's answers are the plain history's.
+use Prim.Native.Nat.{ℕ, _*_, _≤_}
+use mathlib.Core.Path.{_≡_, refl, ap, sym, subst, _∙_}
+use mathlib.Core.Bool.{Bool, true, false, cond, _&&_}
+use mathlib.Core.List.{List, [], _∷_, _++_}
+use native.Mathlib.Omega.{arith}
+use native.Mathlib.Nat.{mul-le-mul}
+use lib.Dec.{T, leb}
+use lib.ListN.{length, take, drop}
+use borrow.Author.Tests.{lt-ltb}
+use Rattle.terms.specs.Measures.{Shape, withinLimits, mostScans, mostColumns}
+use Rattle.terms.specs.declared.Answer.{Answer}
+use Rattle.terms.specs.declared.Place.{Place}
+use Rattle.terms.specs.declared.Refusal.{Refusal}
+use Rattle.words.proofs.Words.{Bytes}
+use Rattle.loops.proofs.Search.{and-true, between-tells}
+use Rattle.layout.specs.Regions.{need}
+use Rattle.layout.specs.Sizes.{sizesOf, bytesNeeded}
+use Rattle.making.specs.Made.{made, madeList}
+use Rattle.history.specs.History.{Call, History, start, answers}
+use Rattle.lines.specs.Lines.{shapeLine}
+use Rattle.commands.specs.Commands.{shapeBytes, shapeFrom}
+use Rattle.commands.proofs.Parts.{whole, shape-part}
+use Rattle.output.specs.Output.{lent, shapeAnswer, goesOn, output}
+use Rattle.output.specs.Steps.{historyOf, steps, session, written}
+use Rattle.output.proofs.Steps.{lent-within, written-is-output}
+use Rattle.promise.specs.Promise.{answersOf}
+use Rattle.promise.specs.Demands.{Accepted, memoryMade, storeAnswers, MakingAccepted, Demand3}
+use Rattle.promise.proofs.Demands.{making-accepted, demand3}
+use Rattle.lent.specs.Lent.{isAccepted, freedIf}
+use Rattle.turns.specs.Turns.{Store, storeMachine, makingAnswer, madeStore, firstAnswer, firstStore, columnsFrom, capped}
+use Rattle.turns.specs.Gatebook.{gatebook, largest, GatebookWrites}
+use Rattle.turns.proofs.Typed.{bytes-drop}
+use Rattle.turns.proofs.Alike.{answersFrom, Alike, steps-alike}
+
+-- ---- what is lent is enough
+pub record LentTo (S : Shape) : Type 0 where
+  pub columns : S .columns ≤ 4
+  pub ranges : S .ranges ≤ 4
+  pub capacity : S .capacity ≤ 64
+  pub spares : S .spares ≤ 16
+
+lent-to : (S : Shape) → lent S ≡ true → LentTo S
+unfolding lent
+lent-to S e =
+    let a = and-true _ _ e in
+    let b = and-true _ _ (a .0) in
+    let c = and-true _ _ (b .0) in
+    record {
+      columns = between-tells 1 4 (S .columns) (c .0) .1;
+      ranges = between-tells 1 4 (S .ranges) (c .1) .1;
+      capacity = between-tells 1 64 (S .capacity) (b .1) .1;
+      spares = between-tells 0 16 (S .spares) (a .1) .1;
+    }
+
+-- no shape that memory is lent for needs more bytes than the largest
+pub enough : (S : Shape) → lent S ≡ true → bytesNeeded S ≤ bytesNeeded largest
+unfolding bytesNeeded need
+enough S e =
+    let l = lent-to S e in
+    let a : S .ranges * S .capacity ≤ 4 * 64 = mul-le-mul (l .ranges) (l .capacity) in
+    let b : S .ranges * S .capacity * S .columns ≤ 4 * 64 * 4 = mul-le-mul a (l .columns) in
+    let d : S .columns * S .ranges ≤ 4 * 4 = mul-le-mul (l .columns) (l .ranges) in
+    omega arith
+
+accepted : (x : Store) (S : Shape) → lent S ≡ true → bytesNeeded largest ≤ length (x .memory) → mostScans ≤ length (x .list) → Accepted S (x .memory) (x .list)
+unfolding MakingAccepted
+accepted x S e h k =
+    let l : bytesNeeded S ≤ length (x .memory) = omega (arith, enough S e) in
+    making-accepted S (x .memory) (x .list) (subst T (sym (lent-within S e)) tt) l k
+
+-- ---- the store answers as the plain history
+store-answers : (m : List ℕ) (ps : List Place) (cs : List Call) → answersFrom storeMachine record { memory = m; list = ps } cs ≡ answersOf m ps cs
+unfolding answersFrom answersOf
+store-answers m ps [] = refl
+store-answers m ps (c ∷ cs) = ap (λ (l : List Answer). storeMachine .answer record { memory = m; list = ps } c ∷ l) (store-answers _ _ cs)
+
+history-answers : (S : Shape) (h : History) (cs : List Call) → answersFrom (historyOf S) h cs ≡ answers S h cs
+unfolding answersFrom answers
+history-answers S h [] = refl
+history-answers S h (c ∷ cs) = ap (λ (l : List Answer). historyOf S .answer h c ∷ l) (history-answers S (historyOf S .next h c) cs)
+
+store-alike : (x : Store) (S : Shape) → Accepted S (x .memory) (x .list)
+    → Alike storeMachine (historyOf S) record { memory = memoryMade S (x .memory) (x .list); list = madeList (x .list) } start
+unfolding Demand3 storeAnswers
+store-alike x S a cs t =
+    store-answers (memoryMade S (x .memory) (x .list)) (madeList (x .list)) cs ∙ demand3 S (x .memory) (x .list) a cs t ∙ sym (history-answers S start cs)
+
+-- ---- a session
+small-columns : (S : Shape) → lent S ≡ true → capped (S .columns) ≡ S .columns
+unfolding capped
+small-columns S e = let l = lent-to S e .columns in rw (lt-ltb (S .columns) mostColumns (omega arith))
+
+made-session : (x : Store) (S : Shape) (bs : List ℕ) → Bytes bs → bytesNeeded largest ≤ length (x .memory) → mostScans ≤ length (x .list)
+    → session (makingAnswer x S) storeMachine (capped (S .columns)) (madeStore x S) bs ≡ session (shapeAnswer S) (historyOf S) (S .columns) start bs
+unfolding session makingAnswer madeStore shapeAnswer goesOn
+made-session x S bs b h k = go (lent S) refl
+  where
+    ms : Answer × List ℕ
+    ms = made S (length (x .list)) (x .memory)
+
+    state : Answer → Store
+    state a = record { memory = ms .1; list = freedIf (isAccepted a) (x .list) }
+
+    go : (l : Bool) → lent S ≡ l
+        → shapeLine (cond l (ms .0) (Answer.Refused Refusal.Shape))
+        ++ cond (goesOn (cond l (ms .0) (Answer.Refused Refusal.Shape))) (steps (length bs) storeMachine (capped (S .columns)) (cond l (state (ms .0)) x) (drop shapeBytes bs)) []
+        ≡ shapeLine (cond l Answer.Done (Answer.Refused Refusal.Shape))
+        ++ cond (goesOn (cond l Answer.Done (Answer.Refused Refusal.Shape))) (steps (length bs) (historyOf S) (S .columns) start (drop shapeBytes bs)) []
+    go true e =
+        let a = accepted x S e h k in
+        let same = steps-alike storeMachine (historyOf S) (length bs) (S .columns) (state Answer.Done) start (drop shapeBytes bs) (bytes-drop shapeBytes bs b) (store-alike x S a) in
+        ap (λ (z : Answer). shapeLine z ++ cond (goesOn z) (steps (length bs) storeMachine (capped (S .columns)) (state z) (drop shapeBytes bs)) []) a
+        ∙ ap (λ (n : ℕ). shapeLine Answer.Done ++ steps (length bs) storeMachine n (state Answer.Done) (drop shapeBytes bs)) (small-columns S e)
+        ∙ ap (λ (l : List ℕ). shapeLine Answer.Done ++ l) same
+    go false e = refl
+
+pub gatebook-writes : GatebookWrites
+unfolding GatebookWrites gatebook firstAnswer firstStore columnsFrom written session goesOn
+gatebook-writes x bs b h k =
+    rw (whole shapeBytes bs, shape-part bs) (go (leb shapeBytes (length bs)) ∙ written-is-output bs)
+  where
+    S : Shape
+    S = shapeFrom bs
+
+    go : (c : Bool)
+        → session (cond c (makingAnswer x S) (Answer.Refused Refusal.Cut)) storeMachine (capped (cond c (S .columns) 0)) (cond c (madeStore x S) x) bs
+        ≡ session (cond c (shapeAnswer S) (Answer.Refused Refusal.Cut)) (historyOf S) (S .columns) start bs
+    go true = made-session x S bs b h k
+    go false = refl

@@ -1,0 +1,27 @@
+-- What `gatebook` writes, and the claim that it is what it must write. proofs/Gatebook.antt proves it.
+use Prim.Native.Nat.{ℕ, _≤_}
+use mathlib.Core.Path.{_≡_}
+use mathlib.Core.List.{List}
+use lib.ListN.{length, take}
+use Rattle.terms.specs.Measures.{Shape, mostScans}
+use Rattle.words.proofs.Words.{Bytes}
+use Rattle.layout.specs.Sizes.{shapeOf, bytesNeeded}
+use Rattle.commands.specs.Commands.{shapeBytes}
+use Rattle.output.specs.Output.{output}
+use Rattle.output.specs.Steps.{session}
+use Rattle.turns.specs.Turns.{Store, storeMachine, firstAnswer, firstStore, columnsFrom, capped}
+
+-- All that is written for the input bs by the turns that the code makes, in the memory and scan list x: the shape's, and then a command's after another.
+unfoldable pub gatebook : Store → List ℕ → List ℕ
+gatebook x bs =
+    session (firstAnswer x (take shapeBytes bs)) storeMachine (capped (columnsFrom (take shapeBytes bs))) (firstStore x (take shapeBytes bs)) bs
+
+-- the largest shape that memory is lent for
+abbrev pub largest : Shape
+largest = shapeOf 4 4 64 16
+
+-- For every input, whatever the memory and the list held before, the bytes written are those that document 01 asks for: the lines of the plain history's
+-- answers to the commands.
+unfoldable pub GatebookWrites : Type 0
+GatebookWrites =
+    (x : Store) (bs : List ℕ) → Bytes bs → bytesNeeded largest ≤ length (x .memory) → mostScans ≤ length (x .list) → gatebook x bs ≡ output bs

@@ -1,0 +1,86 @@
+-- What a turn of `gatebook` answers and leaves, for any memory, scan list and bytes. A turn is a step as the output's definitions have it, with the calls
+-- answered by a store in lent memory.
+use Prim.Native.Nat.{ℕ}
+use mathlib.Core.Path.{_≡_}
+use mathlib.Core.Bool.{Bool, cond}
+use mathlib.Core.List.{List, []}
+use lib.Dec.{leb, ltb}
+use lib.ListN.{length}
+use Rattle.terms.specs.Measures.{Shape, mostColumns}
+use Rattle.terms.specs.declared.Answer.{Answer}
+use Rattle.terms.specs.declared.Place.{Place}
+use Rattle.terms.specs.declared.Refusal.{Refusal}
+use Rattle.words.specs.Words.{words}
+use Rattle.scans.specs.Places.{placesOf}
+use Rattle.making.specs.Made.{made}
+use Rattle.lines.specs.Lines.{shapeLine}
+use Rattle.lines.specs.Written.{Rendered}
+use Rattle.commands.specs.declared.Chosen.{Chosen}
+use Rattle.commands.specs.Commands.{width, shapeBytes, shapeFrom}
+use Rattle.output.specs.Output.{lent, goesOn}
+use Rattle.output.specs.Steps.{Machine, Step, answerTo, stateAfter}
+use Rattle.promise.specs.Promise.{answerOf, memoryAfter, listAfter}
+use Rattle.lent.specs.Lent.{isAccepted, freedIf}
+use Rattle.turns.specs.declared.Outcome.{Outcome}
+
+-- ---- a store: the lent memory and the lent scan list
+pub record Store : Type 0 where
+  pub memory : List ℕ
+  pub list : List Place
+
+-- with the list as bytes
+abbrev pub storeIn : List ℕ → List ℕ → Store
+storeIn m l = record { memory = m; list = placesOf (words l) }
+
+-- It answers calls as the promise of the calls has it.
+abbrev pub storeMachine : Machine Store
+storeMachine = record {
+  answer = λ x c. answerOf (x .memory) (x .list) c;
+  next = λ x c. record { memory = memoryAfter (x .memory) (x .list) c; list = listAfter (x .memory) (x .list) c };
+}
+
+-- ---- the shape's turn, over the bytes bs
+-- a store of shape S is made where memory is lent for it
+unfoldable pub makingAnswer : Store → Shape → Answer
+makingAnswer x S = cond (lent S) (made S (length (x .list)) (x .memory) .0) (Answer.Refused Refusal.Shape)
+
+unfoldable pub madeStore : Store → Shape → Store
+madeStore x S =
+    cond (lent S)
+    record { memory = made S (length (x .list)) (x .memory) .1; list = freedIf (isAccepted (made S (length (x .list)) (x .memory) .0)) (x .list) }
+    x
+
+unfoldable pub firstAnswer : Store → List ℕ → Answer
+firstAnswer x bs = cond (leb shapeBytes (length bs)) (makingAnswer x (shapeFrom bs)) (Answer.Refused Refusal.Cut)
+
+unfoldable pub firstStore : Store → List ℕ → Store
+firstStore x bs = cond (leb shapeBytes (length bs)) (madeStore x (shapeFrom bs)) x
+
+abbrev pub firstStep : Store → List ℕ → Step Store
+firstStep x bs = record { line = shapeLine (firstAnswer x bs); on = goesOn (firstAnswer x bs); state = firstStore x bs }
+
+-- the number of columns by which the commands are read, 0 for a cut shape
+unfoldable pub columnsFrom : List ℕ → ℕ
+columnsFrom bs = cond (leb shapeBytes (length bs)) (shapeFrom bs .columns) 0
+
+-- ---- a command's turn
+-- No shape has more columns than the most; a greater number counts as the most, so that a turn has a meaning for every number.
+unfoldable pub capped : ℕ → ℕ
+capped columns = cond (ltb columns mostColumns) columns mostColumns
+
+-- how many bytes of operands are read
+unfoldable pub operandWidth : ℕ → Chosen → ℕ
+operandWidth columns (Chosen.Known f) = width columns f
+operandWidth columns (Chosen.Refused r) = 0
+
+-- ---- what the code promises
+-- an answer, and the store after it
+unfoldable pub Does : Store → ℕ → Chosen → List ℕ → Answer → Store → Type 0
+Does x columns k os r x′ = (r ≡ answerTo storeMachine columns x k os) × (x′ ≡ stateAfter storeMachine columns x k os)
+
+-- A buffer of 64 bytes that was `old` starts with the line of a step, the turn tells the line's length and whether the program goes on, and the store is as
+-- the step leaves it.
+pub record Turned (s : Step Store) (old new : List ℕ) (t : Outcome) (x : Store) : Type 0 where
+  pub rendered : Rendered old new (s .line) (t .length)
+  pub goes : t .on ≡ s .on
+  pub left : x ≡ s .state

@@ -1,0 +1,168 @@
+// What `gatebook` does between reading and writing: the answer to the shape, and the answer to one command, as lines in a buffer that is lent.
+use commands::Chosen;
+use commands::Form;
+use commands::Measures;
+use commands::choose;
+use commands::decode;
+use commands::decode_shape;
+use commands::width;
+use lines::render_line;
+use lines::render_shape;
+use output::goes_on;
+use output::lends;
+use requests::call;
+use requests::make_store;
+use terms::Answer;
+use terms::Refusal;
+ghost use mathlib.Core.Path.{_≡_};
+ghost use Prim.Native.Nat.{_≤_};
+ghost use lib.ListN.{length};
+ghost use Rattle.terms.specs.Measures.{mostScans};
+ghost use Rattle.words.specs.Words.{words};
+ghost use Rattle.layout.specs.Sizes.{bytesNeeded};
+ghost use Rattle.scans.specs.Places.{placesOf};
+ghost use Rattle.commands.specs.Commands.{Small, chosen};
+ghost use Rattle.commands.specs.Decoded.{shapeIn};
+ghost use Rattle.output.specs.Steps.{step};
+ghost use Rattle.turns.specs.Gatebook.{largest};
+ghost use Rattle.turns.specs.Turns.{storeIn, storeMachine, makingAnswer, madeStore, firstAnswer, firstStore, firstStep, columnsFrom, capped as cappedAt, operandWidth, Does, Turned};
+
+const SHAPE_BYTES: usize = 6;
+
+const MOST_COLUMNS: usize = 16;
+
+// Memory for the largest shape that memory is lent for, and a scan list of 16 places.
+pub fn lent_memory() -> [u8; 25552]
+    ensures { λ r. ⌜ length r ≡ bytesNeeded largest ⌝ }
+{
+    [0; 25552]
+}
+
+pub fn lent_list() -> [u8; 192]
+    ensures { λ r. ⌜ length (placesOf (words r)) ≡ mostScans ⌝ }
+{
+    [0; 192]
+}
+
+// A line and what comes after it: the line's length, and whether the program goes on.
+pub struct Outcome {
+    pub length: usize,
+    pub on: bool,
+}
+
+// A store of the shape, where memory is lent for it.
+fn make_lent(mem: &mut [u8], scans: &mut [u8], m: Measures) -> Answer
+    ensures { λ r. ⌜ (r ≡ makingAnswer (storeIn (now (mem .entry)) (now (scans .entry))) (shapeIn m)) × (storeIn (now (mem .exit)) (now (scans .exit)) ≡ madeStore (storeIn (now (mem .entry)) (now (scans .entry))) (shapeIn m)) ⌝ }
+{
+    if !lends(m) {
+        return Answer::Refused(Refusal::Shape);
+    }
+    make_store(mem, scans, m.columns, m.ranges, m.capacity, m.spares)
+}
+
+// What the shape is answered.
+fn answer_to_shape(mem: &mut [u8], scans: &mut [u8], bytes: &[u8]) -> Answer
+    ensures { λ r. ⌜ (r ≡ firstAnswer (storeIn (now (mem .entry)) (now (scans .entry))) (now (bytes .entry))) × (storeIn (now (mem .exit)) (now (scans .exit)) ≡ firstStore (storeIn (now (mem .entry)) (now (scans .entry))) (now (bytes .entry))) ⌝ }
+{
+    if bytes.len() < SHAPE_BYTES {
+        return Answer::Refused(Refusal::Cut);
+    }
+    make_lent(mem, scans, decode_shape(bytes))
+}
+
+// The first turn: the bytes of the shape, as many as there are, and its line.
+pub fn start(mem: &mut [u8], scans: &mut [u8], bytes: &[u8], out: &mut [u8; 64]) -> Outcome
+    ensures { λ r. ⌜ Turned (firstStep (storeIn (now (mem .entry)) (now (scans .entry))) (now (bytes .entry))) (now (out .entry)) (now (out .exit)) r (storeIn (now (mem .exit)) (now (scans .exit))) ⌝ }
+{
+    let answer = answer_to_shape(mem, scans, bytes);
+    let length = render_shape(out, answer);
+    Outcome {
+        length,
+        on: goes_on(answer),
+    }
+}
+
+// The columns of the shape, by which the commands are read.
+pub fn columns_of(bytes: &[u8]) -> usize
+    ensures { λ r. ⌜ r ≡ columnsFrom (now (bytes .entry)) ⌝ }
+{
+    if bytes.len() < SHAPE_BYTES {
+        return 0;
+    }
+    decode_shape(bytes).columns as usize
+}
+
+// A number of columns above the most counts as the most.
+fn capped(columns: usize) -> usize
+    ensures { λ r. ⌜ (r ≡ cappedAt columns) × (r ≤ 16) ⌝ }
+{
+    if columns < MOST_COLUMNS {
+        columns
+    } else {
+        MOST_COLUMNS
+    }
+}
+
+// How many bytes of operands are to be read behind a command byte.
+pub fn operand_width(byte: u8, columns: usize) -> usize
+    ensures { λ r. ⌜ (r ≡ operandWidth (cappedAt columns) (chosen byte)) × (r ≤ 76) ⌝ }
+{
+    let chosen = choose(byte);
+    match chosen {
+        Chosen::Known(form) => width(form, capped(columns)),
+        Chosen::Refused(_) => 0,
+    }
+}
+
+// What a command of a known form is answered.
+fn answer_to_form(
+    mem: &mut [u8],
+    scans: &mut [u8],
+    columns: usize,
+    form: Form,
+    operands: &[u8],
+) -> Answer
+    requires { ⌜ Small columns form ⌝ }
+    ensures { λ r. ⌜ Does (storeIn (now (mem .entry)) (now (scans .entry))) columns (Chosen.Known form) (now (operands .entry)) r (storeIn (now (mem .exit)) (now (scans .exit))) ⌝ }
+{
+    if operands.len() < width(form, columns) {
+        return Answer::Refused(Refusal::Cut);
+    }
+    call(mem, scans, decode(form, columns, operands))
+}
+
+// What a command is answered.
+fn answer_to_command(
+    mem: &mut [u8],
+    scans: &mut [u8],
+    columns: usize,
+    byte: u8,
+    operands: &[u8],
+) -> Answer
+    ensures { λ r. ⌜ Does (storeIn (now (mem .entry)) (now (scans .entry))) (cappedAt columns) (chosen byte) (now (operands .entry)) r (storeIn (now (mem .exit)) (now (scans .exit))) ⌝ }
+{
+    let chosen = choose(byte);
+    match chosen {
+        Chosen::Known(form) => answer_to_form(mem, scans, capped(columns), form, operands),
+        Chosen::Refused(why) => Answer::Refused(why),
+    }
+}
+
+// One turn: a command byte with its operands, as many as there are, and its line.
+pub fn turn(
+    mem: &mut [u8],
+    scans: &mut [u8],
+    columns: usize,
+    byte: u8,
+    operands: &[u8],
+    out: &mut [u8; 64],
+) -> Outcome
+    ensures { λ r. ⌜ Turned (step storeMachine (cappedAt columns) (storeIn (now (mem .entry)) (now (scans .entry))) byte (now (operands .entry))) (now (out .entry)) (now (out .exit)) r (storeIn (now (mem .exit)) (now (scans .exit))) ⌝ }
+{
+    let answer = answer_to_command(mem, scans, columns, byte, operands);
+    let length = render_line(out, byte, answer);
+    Outcome {
+        length,
+        on: goes_on(answer),
+    }
+}

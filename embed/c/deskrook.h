@@ -1,0 +1,163 @@
+/* Deskrook for programs in C: a settings store for tide-mill gates, in memory that the caller lends.
+ *
+ * `rt staticlib deskrook` at the repository's root makes target/staticlib/libdeskrook.a. The library keeps nothing between calls, allocates nothing and calls nothing but
+ * memcpy and memset: a store is the memory and the scan list that its calls are lent. Two stores never meet, and calls on different stores may run at the same time.
+ *
+ * LENDING. Every call on a store takes
+ *   mem, mem_length      the memory: bytes at any address, at least as many as deskrook_need answers;
+ *   scans, scans_length  the list of open scans: an array of at least DESKROOK_SCANS places.
+ * The pointers are not null, also where the length is 0. Memory, list and values do not overlap. Lend the same memory and list to every call on a store, and
+ * write to neither in between. A call that meets other bytes than the last one left, even random ones, still answers, touches nothing outside what it was
+ * lent, and answers DESKROOK_MEMORY wherever a stored fact fails.
+ *
+ * ANSWERS. `result` is DESKROOK_OK, DESKROOK_NONE or the number of a refusal. A refused call changes no byte of memory and list. The other fields are said with
+ * each call; a field of which nothing is said is 0, and all of them are 0 where the result is not DESKROOK_OK.
+ *
+ * NUMBERS. Rows and columns count from 0, ranges too; row r lies in range r / 64. Transactions, scans and tail records count from 1. A stamp is a count of minutes
+ * since 1 January 2000 UTC. Any number may be passed: one that is not there is refused. Each call says its refusals in the order in which they are tested. */
+#ifndef DESKROOK_H
+#define DESKROOK_H
+
+#include <stddef.h>
+#include <stdint.h>
+
+#ifdef __cplusplus
+extern "C" {
+#endif
+
+/* The fewest places of a scan list, which is also how many scans can be open. */
+#define DESKROOK_SCANS 16
+
+/* A place of the list of open scans. Number 0 marks a free place. */
+typedef struct deskrook_scan {
+    uint32_t number;
+    uint32_t stamp;
+    uint32_t merges; /* the merges made before the scan was opened */
+} deskrook_scan;
+
+/* What a call answers. */
+typedef struct deskrook_reply {
+    uint32_t result; /* one of enum deskrook_result */
+    uint32_t first;
+    uint32_t second;
+    int64_t sum;
+} deskrook_reply;
+
+enum deskrook_result {
+    DESKROOK_OK = 0,           /* accepted */
+    DESKROOK_SHAPE = 1,        /* a measure outside its limits */
+    DESKROOK_MEMORY = 2,       /* memory shorter than the shape needs, a scan list under 16 places, or a stored fact fails */
+    DESKROOK_TRANSACTION = 3,  /* the transaction's number is not open */
+    DESKROOK_SCAN = 4,         /* the scan's number is not open */
+    DESKROOK_ROW = 5,          /* row number not yet given */
+    DESKROOK_COLUMN = 6,       /* not below the column count */
+    DESKROOK_RANGE = 7,        /* not below the range count */
+    DESKROOK_MASK = 8,         /* no bit, or a bit at or above the column count */
+    DESKROOK_HELD = 9,         /* another open transaction inserted, updated or deleted the row */
+    DESKROOK_GONE = 10,        /* not held, and the row is deleted or its insert aborted, in the caller's own view */
+    DESKROOK_FULL = 11,        /* all rows given */
+    DESKROOK_TAIL = 12,        /* the range lacks the one or two tail records wanted */
+    DESKROOK_TIME = 13,        /* a commit not later than the last (0 in a new store), or a read or scan later than the last */
+    DESKROOK_BUSY = 14,        /* 8 transactions, or 16 scans, open */
+    DESKROOK_NUMBER = 15,      /* 65,535 numbers given */
+    DESKROOK_REACH = 16,       /* merge not above what the page holds, or above the records used */
+    DESKROOK_OPEN = 17,        /* a record up to the one merged through belongs to an open transaction */
+    DESKROOK_NO_PAGE = 18,     /* no free page */
+    DESKROOK_NONE = 32         /* accepted, and the answer is none: the row is not there for this reader */
+};
+
+/* The value in a reply's `first`, where a call says that it is one. */
+static inline int32_t deskrook_value(deskrook_reply reply) {
+    return reply.first <= INT32_MAX ? (int32_t)reply.first : -1 - (int32_t)(UINT32_MAX - reply.first);
+}
+
+/* ---- a store's shape ---- */
+
+/* The bytes that a shape needs: columns 1 to 16, ranges 1 to 16 of 64 rows each, tail 1 to 512 records for each range, spares 0 to 256 pages.
+ * first: the bytes. Refusals: SHAPE. */
+deskrook_reply deskrook_need(uint32_t columns, uint32_t ranges, uint32_t tail, uint32_t spares);
+
+/* Makes an empty store of a shape, whatever memory and list held before, and frees every place of the list. Bytes past those needed stay as they are.
+ * Refusals: SHAPE, MEMORY (too few bytes or places). */
+deskrook_reply deskrook_make(uint8_t *mem, size_t mem_length, deskrook_scan *scans, size_t scans_length, uint32_t columns, uint32_t ranges, uint32_t tail,
+                             uint32_t spares);
+
+/* Whether memory and list are usable, which every call on a store asks first. Refusals: MEMORY. */
+deskrook_reply deskrook_check(const uint8_t *mem, size_t mem_length, const deskrook_scan *scans, size_t scans_length);
+
+/* ---- transactions ---- */
+
+/* Begins a transaction. first: its number. Refusals: MEMORY, NUMBER, BUSY. */
+deskrook_reply deskrook_begin(uint8_t *mem, size_t mem_length, const deskrook_scan *scans, size_t scans_length);
+
+/* Inserts a row, with a value for each column; where fewer are lent the rest are 0, and those past the columns are not looked at.
+ * first: the row's number. Refusals: MEMORY, TRANSACTION, FULL. */
+deskrook_reply deskrook_insert(uint8_t *mem, size_t mem_length, const deskrook_scan *scans, size_t scans_length, uint32_t transaction, const int32_t *values,
+                               size_t values_length);
+
+/* Sets the columns of a row whose bits the mask has, bit k for column k; value k is column k's, lent as for an insert.
+ * first: the number of the update's tail record. Refusals: MEMORY, TRANSACTION, ROW, MASK, HELD, GONE, TAIL. */
+deskrook_reply deskrook_update(uint8_t *mem, size_t mem_length, const deskrook_scan *scans, size_t scans_length, uint32_t transaction, uint32_t row,
+                               uint16_t mask, const int32_t *values, size_t values_length);
+
+/* Deletes a row. first: the number of the delete's tail record. Refusals: MEMORY, TRANSACTION, ROW, HELD, GONE, TAIL. */
+deskrook_reply deskrook_delete(uint8_t *mem, size_t mem_length, const deskrook_scan *scans, size_t scans_length, uint32_t transaction, uint32_t row);
+
+/* Commits a transaction at a stamp, which must be later than the last commit's. Refused, the transaction remains open.
+ * Refusals: MEMORY, TRANSACTION, TIME. */
+deskrook_reply deskrook_commit(uint8_t *mem, size_t mem_length, const deskrook_scan *scans, size_t scans_length, uint32_t transaction, uint32_t stamp);
+
+/* Gives up a transaction; nothing that it did is ever read. Refusals: MEMORY, TRANSACTION. */
+deskrook_reply deskrook_abort(uint8_t *mem, size_t mem_length, const deskrook_scan *scans, size_t scans_length, uint32_t transaction);
+
+/* ---- reads: they change neither memory nor list ---- */
+
+/* The value at the last commit. first: the value (deskrook_value); or NONE. Refusals: MEMORY, ROW, COLUMN. */
+deskrook_reply deskrook_latest(const uint8_t *mem, size_t mem_length, const deskrook_scan *scans, size_t scans_length, uint32_t row, uint32_t column);
+
+/* The value at a stamp, which must not be later than the last commit's. first: the value; or NONE. Refusals: MEMORY, TIME, ROW, COLUMN. */
+deskrook_reply deskrook_read_at(const uint8_t *mem, size_t mem_length, const deskrook_scan *scans, size_t scans_length, uint32_t stamp, uint32_t row,
+                                uint32_t column);
+
+/* The value that a transaction sees: its own pending changes above the latest. first: the value; or NONE. Refusals: MEMORY, TRANSACTION, ROW, COLUMN. */
+deskrook_reply deskrook_own_read(const uint8_t *mem, size_t mem_length, const deskrook_scan *scans, size_t scans_length, uint32_t transaction, uint32_t row,
+                                 uint32_t column);
+
+/* ---- scans ---- */
+
+/* Opens a scan at a stamp, which must not be later than the last commit's. It takes a free place of the list. first: the scan's number.
+ * Refusals: MEMORY, TIME, NUMBER, BUSY. */
+deskrook_reply deskrook_open_scan(uint8_t *mem, size_t mem_length, deskrook_scan *scans, size_t scans_length, uint32_t stamp);
+
+/* The value at a scan's stamp, read in the pages that were current at its opening. first: the value; or NONE. Refusals: MEMORY, SCAN, ROW, COLUMN. */
+deskrook_reply deskrook_scan_read(const uint8_t *mem, size_t mem_length, const deskrook_scan *scans, size_t scans_length, uint32_t scan, uint32_t row,
+                                  uint32_t column);
+
+/* The sum of one column over the rows that a scan sees. first: the count of these rows; sum: the sum. Refusals: MEMORY, SCAN, COLUMN. */
+deskrook_reply deskrook_sum(const uint8_t *mem, size_t mem_length, const deskrook_scan *scans, size_t scans_length, uint32_t scan, uint32_t column);
+
+/* Closes a scan and frees its place of the list. The memory does not change. Refusals: MEMORY, SCAN. */
+deskrook_reply deskrook_close_scan(const uint8_t *mem, size_t mem_length, deskrook_scan *scans, size_t scans_length, uint32_t scan);
+
+/* ---- pages ---- */
+
+/* Merges the committed settings among the tail records 1 to `through` of a range into a new page of one column; the old page waits.
+ * Refusals: MEMORY, RANGE, COLUMN, REACH, OPEN, NO_PAGE. */
+deskrook_reply deskrook_merge(uint8_t *mem, size_t mem_length, const deskrook_scan *scans, size_t scans_length, uint32_t range, uint32_t column,
+                              uint32_t through);
+
+/* Frees every waiting page but those that a scan still open may read. first: how many were freed. Refusals: MEMORY. */
+deskrook_reply deskrook_release(uint8_t *mem, size_t mem_length, const deskrook_scan *scans, size_t scans_length);
+
+/* What the current page of a column holds for a row. first: the value. Refusals: MEMORY, COLUMN, ROW. */
+deskrook_reply deskrook_page_cell(const uint8_t *mem, size_t mem_length, const deskrook_scan *scans, size_t scans_length, uint32_t column, uint32_t row);
+
+/* How far a range's column is merged. first: the tail record merged through, 0 before any merge; second: the range's tail records used.
+ * Refusals: MEMORY, RANGE, COLUMN. */
+deskrook_reply deskrook_lineage(const uint8_t *mem, size_t mem_length, const deskrook_scan *scans, size_t scans_length, uint32_t range, uint32_t column);
+
+#ifdef __cplusplus
+}
+#endif
+
+#endif

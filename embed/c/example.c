@@ -1,0 +1,68 @@
+/* The worked example of document 01 in C, on memory of its own: one gate with two columns, an update, and its merge into the page. Prints a line for each call
+ * as the program gatebook does: the command byte, "ok" and the answer's fields, or "no" and the refusal's number. */
+#include <inttypes.h>
+#include <stdio.h>
+#include <stdlib.h>
+
+#include "deskrook.h"
+
+/* Prints a call's line. `fields` is what an accepted answer shows: "" for nothing, "n" for a number, "v" for a value. Any other answer is a refusal, which the
+ * program may act on by its number. */
+static void show(const char *name, deskrook_reply reply, const char *fields) {
+    if (reply.result == DESKROOK_NONE)
+        printf("%s ok none\n", name);
+    else if (reply.result != DESKROOK_OK)
+        printf("%s no %" PRIu32 "\n", name, reply.result);
+    else if (fields[0] == 'n')
+        printf("%s ok %" PRIu32 "\n", name, reply.first);
+    else if (fields[0] == 'v')
+        printf("%s ok %" PRId32 "\n", name, deskrook_value(reply));
+    else
+        printf("%s ok\n", name);
+}
+
+int main(void) {
+    /* Two columns, one range of 64 rows, four tail records, one spare page. */
+    const uint32_t columns = 2, ranges = 1, tail = 4, spares = 1;
+    deskrook_reply need = deskrook_need(columns, ranges, tail, spares);
+    if (need.result != DESKROOK_OK)
+        return EXIT_FAILURE;
+
+    /* The lent memory and the lent list of scans. Their content before the making does not matter. */
+    size_t length = need.first;
+    uint8_t *mem = malloc(length);
+    deskrook_scan scans[DESKROOK_SCANS];
+    const size_t places = DESKROOK_SCANS;
+    if (mem == NULL)
+        return EXIT_FAILURE;
+
+    show("shape", deskrook_make(mem, length, scans, places, columns, ranges, tail, spares), "");
+
+    deskrook_reply begun = deskrook_begin(mem, length, scans, places);
+    show("01", begun, "n");
+    const int32_t levels[] = {1200, -30};
+    deskrook_reply inserted = deskrook_insert(mem, length, scans, places, begun.first, levels, 2);
+    show("02", inserted, "n");
+    const uint32_t gate = inserted.first;
+    show("05", deskrook_commit(mem, length, scans, places, begun.first, 10), "");
+
+    begun = deskrook_begin(mem, length, scans, places);
+    show("01", begun, "n");
+    /* Mask 1 sets column 0 alone. */
+    const int32_t raised[] = {1250, 0};
+    deskrook_reply updated = deskrook_update(mem, length, scans, places, begun.first, gate, 1, raised, 2);
+    show("03", updated, "n");
+    /* Not committed yet, so the latest is the inserted value. */
+    show("07", deskrook_latest(mem, length, scans, places, gate, 0), "v");
+    show("05", deskrook_commit(mem, length, scans, places, begun.first, 20), "");
+
+    show("0E", deskrook_merge(mem, length, scans, places, 0, 0, updated.first), "");
+    /* The value before the update, though the page holds the new one. */
+    show("08", deskrook_read_at(mem, length, scans, places, 10, gate, 0), "v");
+    show("10", deskrook_page_cell(mem, length, scans, places, 0, gate), "v");
+    /* The page holds this record already. */
+    show("0E", deskrook_merge(mem, length, scans, places, 0, 0, updated.first), "");
+
+    free(mem);
+    return EXIT_SUCCESS;
+}

@@ -1,0 +1,482 @@
+/* Damaged memory from outside: an input's bytes become a store, words written into it at will, and calls with any numbers over any bytes and any list, through the C
+ * interface. Of every call: the result is 2 exactly where facts.c finds a failing fact; it is one that the call may answer; fields that it has not are 0; a refusal
+ * changes no byte; an accepted call changes only what it may, and the facts hold again. Memory, list and values end or begin at a page that cannot be read, and the rest of
+ * their own pages is marked, so that neither a read nor a write outside goes unseen though the library itself is not instrumented.
+ *
+ * LLVMFuzzerTestOneInput is called by libFuzzer, or by random.c with random bytes. */
+#define _DEFAULT_SOURCE
+#include <inttypes.h>
+#include <stdio.h>
+#include <stdlib.h>
+#include <string.h>
+#include <sys/mman.h>
+
+#include "facts.h"
+
+int LLVMFuzzerTestOneInput(const uint8_t *data, size_t size);
+
+/* ---- what is said at the end, and at a fault ---- */
+
+static uint64_t inputs, calls, damaged, accepted, nones, refused[19];
+
+static void say_counts(void) {
+    uint64_t all = 0;
+    for (int number = 1; number <= 18; number++)
+        all += refused[number];
+    fprintf(stderr, "inputs %" PRIu64 ", calls %" PRIu64 ", of them on memory or list with a failing fact %" PRIu64 "; accepted %" PRIu64 ", none %" PRIu64 ", refused %" PRIu64 ":",
+            inputs, calls, damaged, accepted, nones, all);
+    for (int number = 1; number <= 18; number++)
+        fprintf(stderr, " %d %" PRIu64 "%s", number, refused[number], number < 18 ? "," : "\n");
+}
+
+static void fail(const char *name, const char *what) {
+    fprintf(stderr, "deskrook_%s: %s\n", name, what);
+    abort();
+}
+
+/* A fact that fails where it must hold, or fails unseen. */
+static void fail_by_fact(const char *name, const char *when, const char *fact) {
+    fprintf(stderr, "deskrook_%s: %s fails: %s\n", name, when, fact);
+    abort();
+}
+
+/* ---- the lent bytes ---- */
+
+enum { PAGE = 4096, MARK = 0xA5, MOST_PLACES = 64, MOST_VALUES = 48 };
+
+/* Pages between two that cannot be read; what is lent ends at the last or begins at the first of them. */
+struct lent {
+    uint8_t *room;
+    size_t size;
+    uint8_t *first;
+    size_t length; /* in bytes */
+    uint8_t *before;
+    uint8_t *saved; /* what was lent before a damage */
+    size_t saved_length;
+};
+
+static struct lent memory, list, values;
+
+static void reserve(struct lent *lent, size_t pages) {
+    uint8_t *all = mmap(NULL, (pages + 2) * PAGE, PROT_NONE, MAP_PRIVATE | MAP_ANONYMOUS, -1, 0);
+    lent->size = pages * PAGE;
+    lent->room = all + PAGE;
+    lent->before = malloc(lent->size);
+    lent->saved = malloc(lent->size);
+    if (all == MAP_FAILED || lent->before == NULL || lent->saved == NULL || mprotect(lent->room, lent->size, PROT_READ | PROT_WRITE) != 0)
+        exit(2);
+}
+
+/* So many bytes at the room's end or beginning, the rest marked; what was lent before is kept as far as it goes. */
+static void lend(struct lent *lent, size_t length, int at_end) {
+    size_t kept = lent->length < length ? lent->length : length;
+    if (kept > 0)
+        memcpy(lent->before, lent->first, kept);
+    memset(lent->room, MARK, lent->size);
+    lent->length = length;
+    lent->first = at_end ? lent->room + lent->size - length : lent->room;
+    memset(lent->first, 0, length);
+    memcpy(lent->first, lent->before, kept);
+}
+
+static void save(struct lent *lent) {
+    memcpy(lent->saved, lent->first, lent->length);
+    lent->saved_length = lent->length;
+}
+
+static void restore(struct lent *lent, int at_end) {
+    lend(lent, lent->saved_length, at_end);
+    memcpy(lent->first, lent->saved, lent->length);
+}
+
+static void keep(struct lent *lent) {
+    memcpy(lent->before, lent->first, lent->length);
+}
+
+static int changed(const struct lent *lent) {
+    return memcmp(lent->before, lent->first, lent->length) != 0;
+}
+
+static int marked(const uint8_t *from, const uint8_t *to) {
+    /* Each byte is the mark if the first is and each equals the one before it. */
+    return from == to || (*from == MARK && memcmp(from, from + 1, (size_t)(to - from) - 1) == 0);
+}
+
+static void look_around(const char *name, const struct lent *lent) {
+    if (!marked(lent->room, lent->first) || !marked(lent->first + lent->length, lent->room + lent->size))
+        fail(name, "a byte beside the lent ones changed");
+}
+
+static size_t places(void) {
+    return list.length / sizeof(deskrook_scan);
+}
+
+/* ---- the input's bytes as numbers ---- */
+
+struct input {
+    const uint8_t *data;
+    size_t left;
+};
+
+static uint32_t take(struct input *in, int bytes) {
+    uint32_t number = 0;
+    for (int i = 0; i < bytes && in->left > 0; i++, in->left--)
+        number |= (uint32_t)*in->data++ << (8 * i);
+    return number;
+}
+
+/* Any 32-bit number; small ones, the greatest ones and those about 65,535 by one byte. */
+static uint32_t any(struct input *in) {
+    uint32_t first = take(in, 1);
+    if (first < 0xE8)
+        return first;
+    if (first < 0xEC)
+        return UINT32_MAX - (0xEB - first);
+    if (first < 0xF0)
+        return 65536 - (0xEF - first);
+    return take(in, first < 0xF8 ? 2 : 4);
+}
+
+/* A word of the header, 0 where there is none. */
+static uint32_t header(size_t i) {
+    return memory.length < HEADER_WORDS * 4 ? 0 : word_at(memory.first, i);
+}
+
+/* A number of a kind: mostly one that the lent words make likely to be accepted, else any. */
+static uint32_t number(struct input *in, char kind) {
+    uint32_t first = take(in, 1);
+    if (first >= 0xE0)
+        return any(in);
+    switch (kind) {
+    case 't': /* transaction: the numbers of the open ones come right after the header */
+        return memory.length < (HEADER_WORDS + 8) * 4 ? first : word_at(memory.first, HEADER_WORDS + first % 8);
+    case 's': /* scan */
+        return places() == 0 ? first : word_at(list.first, first % places() * 3);
+    case 'd': /* stamp: the last, the next, or an earlier one */
+        return header(LAST_STAMP) + first % 3 - first / 32 % 2 * (first / 4);
+    case 'r': /* row */
+        return header(ROWS_GIVEN) == 0 || first < 0x80 ? first % 4 : first % header(ROWS_GIVEN);
+    case 'c': /* column */
+        return header(COLUMNS) == 0 ? first : first % header(COLUMNS);
+    case 'g': /* range */
+        return header(RANGES) == 0 ? first : first % header(RANGES);
+    case 'm': /* mask: a few bits */
+        return first % 16;
+    default: /* tail record, measure */
+        return first % 9;
+    }
+}
+
+/* ---- the calls ---- */
+
+enum call {
+    BEGIN,
+    INSERT,
+    UPDATE,
+    DELETE,
+    COMMIT,
+    ABORT,
+    LATEST,
+    READ_AT,
+    OWN_READ,
+    OPEN_SCAN,
+    SCAN_READ,
+    SUM,
+    CLOSE_SCAN,
+    MERGE,
+    RELEASE,
+    PAGE_CELL,
+    LINEAGE,
+    CHECK,
+    MAKE,
+    NEED,
+    CALLS
+};
+
+enum { WRITES_MEMORY = 1, WRITES_LIST = 2, MAY_BE_NONE = 4, HAS_FIRST = 8, HAS_SECOND = 16, HAS_SUM = 32 };
+
+#define MAY(number) (UINT32_C(1) << (number))
+
+/* What each call may do, and the refusals that document 01 gives it besides 2. */
+static const struct {
+    const char *name;
+    const char *kinds; /* of its numbers, as `number` has them */
+    int does;
+    uint32_t refusals;
+} about[CALLS] = {
+    [BEGIN] = {"begin", "", WRITES_MEMORY | HAS_FIRST, MAY(15) | MAY(14)},
+    [INSERT] = {"insert", "t", WRITES_MEMORY | HAS_FIRST, MAY(3) | MAY(11)},
+    [UPDATE] = {"update", "trm", WRITES_MEMORY | HAS_FIRST, MAY(3) | MAY(5) | MAY(8) | MAY(9) | MAY(10) | MAY(12)},
+    [DELETE] = {"delete", "tr", WRITES_MEMORY | HAS_FIRST, MAY(3) | MAY(5) | MAY(9) | MAY(10) | MAY(12)},
+    [COMMIT] = {"commit", "td", WRITES_MEMORY, MAY(3) | MAY(13)},
+    [ABORT] = {"abort", "t", WRITES_MEMORY, MAY(3)},
+    [LATEST] = {"latest", "rc", HAS_FIRST | MAY_BE_NONE, MAY(5) | MAY(6)},
+    [READ_AT] = {"read_at", "drc", HAS_FIRST | MAY_BE_NONE, MAY(13) | MAY(5) | MAY(6)},
+    [OWN_READ] = {"own_read", "trc", HAS_FIRST | MAY_BE_NONE, MAY(3) | MAY(5) | MAY(6)},
+    [OPEN_SCAN] = {"open_scan", "d", WRITES_MEMORY | WRITES_LIST | HAS_FIRST, MAY(13) | MAY(15) | MAY(14)},
+    [SCAN_READ] = {"scan_read", "src", HAS_FIRST | MAY_BE_NONE, MAY(4) | MAY(5) | MAY(6)},
+    [SUM] = {"sum", "sc", HAS_FIRST | HAS_SUM, MAY(4) | MAY(6)},
+    [CLOSE_SCAN] = {"close_scan", "s", WRITES_LIST, MAY(4)},
+    [MERGE] = {"merge", "gcn", WRITES_MEMORY, MAY(7) | MAY(6) | MAY(16) | MAY(17) | MAY(18)},
+    [RELEASE] = {"release", "", WRITES_MEMORY | HAS_FIRST, 0},
+    [PAGE_CELL] = {"page_cell", "cr", HAS_FIRST, MAY(6) | MAY(5)},
+    [LINEAGE] = {"lineage", "gc", HAS_FIRST | HAS_SECOND, MAY(7) | MAY(6)},
+    [CHECK] = {"check", "", 0, 0},
+    [MAKE] = {"make", "nnnn", WRITES_MEMORY | WRITES_LIST, MAY(1)},
+    [NEED] = {"need", "nnnn", HAS_FIRST, MAY(1)},
+};
+
+/* Lends values for an insert or update, as many as any shape has columns or any number of them. */
+static void lend_values(struct input *in) {
+    uint32_t first = take(in, 1);
+    lend(&values, 4 * (first < 0x80 ? 16 : first % MOST_VALUES), first & 1);
+    for (size_t i = 0; i < values.length; i++)
+        values.first[i] = (uint8_t)(first * (i + 1));
+    keep(&values);
+}
+
+static deskrook_reply make_call(enum call call, const uint32_t numbers[4]) {
+    uint8_t *m = memory.first;
+    size_t n = memory.length, k = places();
+    deskrook_scan *s = (deskrook_scan *)(void *)list.first;
+    uint32_t a = numbers[0], b = numbers[1], c = numbers[2], d = numbers[3];
+    const int32_t *v = (const int32_t *)(const void *)values.first;
+    size_t l = values.length / 4;
+    switch (call) {
+    case BEGIN: return deskrook_begin(m, n, s, k);
+    case INSERT: return deskrook_insert(m, n, s, k, a, v, l);
+    case UPDATE: return deskrook_update(m, n, s, k, a, b, (uint16_t)c, v, l);
+    case DELETE: return deskrook_delete(m, n, s, k, a, b);
+    case COMMIT: return deskrook_commit(m, n, s, k, a, b);
+    case ABORT: return deskrook_abort(m, n, s, k, a);
+    case LATEST: return deskrook_latest(m, n, s, k, a, b);
+    case READ_AT: return deskrook_read_at(m, n, s, k, a, b, c);
+    case OWN_READ: return deskrook_own_read(m, n, s, k, a, b, c);
+    case OPEN_SCAN: return deskrook_open_scan(m, n, s, k, a);
+    case SCAN_READ: return deskrook_scan_read(m, n, s, k, a, b, c);
+    case SUM: return deskrook_sum(m, n, s, k, a, b);
+    case CLOSE_SCAN: return deskrook_close_scan(m, n, s, k, a);
+    case MERGE: return deskrook_merge(m, n, s, k, a, b, c);
+    case RELEASE: return deskrook_release(m, n, s, k);
+    case PAGE_CELL: return deskrook_page_cell(m, n, s, k, a, b);
+    case LINEAGE: return deskrook_lineage(m, n, s, k, a, b);
+    case CHECK: return deskrook_check(m, n, s, k);
+    case MAKE: return deskrook_make(m, n, s, k, a, b, c, d);
+    case NEED: return deskrook_need(a, b, c, d);
+    default: abort();
+    }
+}
+
+/* ---- the judging ---- */
+
+/* For libFuzzer: which call answered what, and which fact failed, count as ways gone. */
+__attribute__((section("__libfuzzer_extra_counters"))) static uint8_t ways[CALLS * 64];
+
+/* How many places of the list changed. */
+static size_t places_changed(void) {
+    size_t count = 0;
+    for (size_t at = 0; at < list.length; at += sizeof(deskrook_scan))
+        count += memcmp(list.before + at, list.first + at, sizeof(deskrook_scan)) != 0;
+    return count;
+}
+
+static const char *failing(struct layout *layout) {
+    return failing_fact(layout, memory.first, memory.length, (const deskrook_scan *)(const void *)list.first, places());
+}
+
+/* After an accepted call on a usable store. */
+static void judge_accepted(enum call call) {
+    const char *name = about[call].name;
+    struct layout layout;
+    if (!(about[call].does & WRITES_MEMORY) && changed(&memory))
+        fail(name, "a call that writes no memory changed it");
+    if (!(about[call].does & WRITES_LIST) && changed(&list))
+        fail(name, "a call that opens or closes no scan changed the list");
+    if (call != MAKE && places_changed() > 1)
+        fail(name, "more than one place of the list changed");
+    /* The count of merges made goes round at 2^32, and then those recorded may be above it. */
+    if (call == MERGE && word_at(memory.first, MERGES_MADE) == 0)
+        return;
+    const char *fact = failing(&layout);
+    if (fact != NULL)
+        fail_by_fact(name, "afterwards this", fact);
+    size_t need = layout_need(&layout);
+    if (memcmp(memory.before + need, memory.first + need, memory.length - need) != 0)
+        fail(name, "a byte past the need changed");
+    for (size_t at = 0; call == MAKE && at < list.length; at++)
+        if (list.first[at] != 0)
+            fail(name, "a place is not free after the making");
+}
+
+/* The result that making and the need must have, by the measures and the lengths. */
+static uint32_t due(enum call call, const uint32_t measures[4], uint32_t *need) {
+    struct layout layout;
+    if (!layout_of(&layout, measures[0], measures[1], measures[2], measures[3]))
+        return DESKROOK_SHAPE;
+    *need = (uint32_t)layout_need(&layout);
+    return call == MAKE && (memory.length < *need || places() < DESKROOK_SCANS) ? DESKROOK_MEMORY : DESKROOK_OK;
+}
+
+static void call_and_judge(enum call call, struct input *in) {
+    const char *name = about[call].name;
+    int does = about[call].does;
+    struct layout layout;
+    const char *fact = failing(&layout);
+    uint32_t numbers[4] = {0};
+    for (size_t i = 0; about[call].kinds[i] != 0; i++)
+        numbers[i] = number(in, about[call].kinds[i]);
+    if (call == INSERT || call == UPDATE)
+        lend_values(in);
+    keep(&memory);
+    keep(&list);
+    deskrook_reply reply = make_call(call, numbers);
+    uint32_t result = reply.result;
+    calls++;
+    damaged += fact != NULL;
+    if (result > 18 && result != DESKROOK_NONE)
+        fail(name, "no such result");
+    ways[call * 64 + result] = 1;
+
+    if (call == MAKE || call == NEED) {
+        uint32_t need = 0;
+        if (result != due(call, numbers, &need))
+            fail(name, "another result is due");
+        if (call == NEED && reply.first != need)
+            fail(name, "another need is due");
+    } else if (fact != NULL) {
+        if (result != DESKROOK_MEMORY)
+            fail_by_fact(name, "another answer than 2 where this", fact);
+    } else if (result == DESKROOK_MEMORY) {
+        fail(name, "2 where no fact fails");
+    } else if (result != DESKROOK_OK && result != DESKROOK_NONE && !(about[call].refusals & MAY(result))) {
+        fail(name, "a refusal that the call does not have");
+    } else if (result == DESKROOK_NONE && !(does & MAY_BE_NONE)) {
+        fail(name, "none from a call that reads no row");
+    }
+    int ok = result == DESKROOK_OK;
+    if ((reply.first != 0 && !(ok && does & HAS_FIRST)) || (reply.second != 0 && !(ok && does & HAS_SECOND)) || (reply.sum != 0 && !(ok && does & HAS_SUM)))
+        fail(name, "a field that the answer does not have is filled");
+
+    look_around(name, &memory);
+    look_around(name, &list);
+    look_around(name, &values);
+    if (changed(&values))
+        fail(name, "a value changed");
+    if (ok && call != NEED)
+        judge_accepted(call);
+    else if (changed(&memory) || changed(&list))
+        fail(name, "a byte changed, though nothing was to be done");
+
+    accepted += ok;
+    nones += result == DESKROOK_NONE;
+    if (!ok && result != DESKROOK_NONE)
+        refused[result]++;
+}
+
+/* ---- an input ---- */
+
+/* A word of memory or list becomes any number, another word of it, a number beside the one that is there, or the greatest transaction or scan number. */
+static void damage(struct lent *lent, struct input *in) {
+    size_t words = lent->length / 4;
+    if (words == 0)
+        return;
+    /* The header has few words, of which much hangs. */
+    uint32_t first = take(in, 1);
+    size_t at = (first < 0x40 ? first % HEADER_WORDS : take(in, 2)) % words;
+    uint32_t old = word_at(lent->first, at), way = take(in, 1), new;
+    switch (way % 5) {
+    case 0: new = any(in); break;
+    case 1: new = word_at(lent->first, take(in, 2) % words); break;
+    case 2: new = old + 1; break;
+    case 3: new = old - 1; break;
+    default: new = 65535; break;
+    }
+    for (int i = 0; i < 4; i++)
+        lent->first[4 * at + i] = (uint8_t)(new >> (8 * i));
+}
+
+enum { AT_END = 0x01, LIST_AT_END = 0x02, RAW = 0x0C, ANY_LENGTH = 0x30, ANY_PLACES = 0xC0, MEASURED = 0x03, MOST_STEPS = 400 };
+
+/* Inserts rows until all are given. A store that is not usable refuses it. */
+static void fill_rows(void) {
+    const deskrook_scan *s = (const deskrook_scan *)(const void *)list.first;
+    uint32_t transaction = deskrook_begin(memory.first, memory.length, s, places()).first;
+    while (deskrook_insert(memory.first, memory.length, s, places(), transaction, (const int32_t *)(const void *)values.first, 0).result == DESKROOK_OK) {
+    }
+    deskrook_commit(memory.first, memory.length, s, places(), transaction, 1);
+}
+
+static int all_of(uint32_t flags, uint32_t some) {
+    return (flags & some) == some;
+}
+
+/* The first bytes choose what is lent: a store of a small shape, or the input's own bytes, with or without good measures. */
+static void begin_input(struct input *in) {
+    uint32_t flags = take(in, 1);
+    uint32_t measures[4] = {1 + take(in, 1) % 4, 1 + take(in, 1) % 3, 1 + take(in, 1) % 8, take(in, 1) % 5};
+    struct layout layout;
+    layout_of(&layout, measures[0], measures[1], measures[2], measures[3]);
+    size_t need = layout_need(&layout), bytes = need + take(in, 1) % 8, count = DESKROOK_SCANS + take(in, 1) % 8;
+    if (all_of(flags, ANY_LENGTH))
+        bytes = take(in, 2) % (memory.size + 1);
+    if (all_of(flags, ANY_PLACES))
+        count = take(in, 1) % (MOST_PLACES + 1);
+    memory.length = list.length = 0;
+    lend(&memory, bytes, flags & AT_END);
+    lend(&list, count * sizeof(deskrook_scan), flags & LIST_AT_END);
+    if (!all_of(flags, RAW)) {
+        deskrook_make(memory.first, memory.length, (deskrook_scan *)(void *)list.first, places(), measures[0], measures[1], measures[2], measures[3]);
+        if (take(in, 1) >= 0xC0)
+            fill_rows();
+        return;
+    }
+    size_t own = in->left / 2 < bytes ? in->left / 2 : bytes;
+    memcpy(memory.first, in->data, own);
+    in->data += own;
+    in->left -= own;
+    for (size_t i = 0; !all_of(flags, MEASURED) && i < 16 && i < bytes; i++)
+        memory.first[i] = (uint8_t)(measures[i / 4] >> (8 * (i % 4)));
+}
+
+int LLVMFuzzerTestOneInput(const uint8_t *data, size_t size) {
+    if (inputs++ == 0) {
+        reserve(&memory, 4);
+        reserve(&list, 1);
+        reserve(&values, 1);
+        lend(&values, 0, 1);
+        atexit(say_counts);
+    }
+    struct input in = {data, size};
+    begin_input(&in);
+    int undo = -1; /* the step at which memory and list are again as they were before the damage */
+    for (int step = 0; step < MOST_STEPS && in.left > 0; step++) {
+        if (step == undo) {
+            restore(&memory, step & 1);
+            restore(&list, step & 2);
+            undo = -1;
+        }
+        /* A zero byte is an update: libFuzzer likes runs of them, and begin is soon refused. */
+        uint32_t what = (take(&in, 1) + UPDATE) % 32;
+        if (what < CALLS) {
+            call_and_judge((enum call)what, &in);
+        } else if (what < 28) { /* the calls that make a history: begin to read_at, and again begin and insert */
+            call_and_judge((enum call)((what - CALLS) % 8), &in);
+        } else {
+            uint32_t steps = take(&in, 1) % 32;
+            if (undo < step && steps > 0) {
+                save(&memory);
+                save(&list);
+                undo = step + 1 + (int)(steps % 8);
+            }
+            if (what == 28)
+                damage(&memory, &in);
+            else if (what == 29)
+                damage(&list, &in);
+            else if (what == 30)
+                lend(&memory, any(&in) % (memory.size + 1), step & 1);
+            else
+                lend(&list, take(&in, 1) % (MOST_PLACES + 1) * sizeof(deskrook_scan), step & 1);
+        }
+    }
+    return 0;
+}

@@ -1,0 +1,57 @@
+/* The layout of a store's memory and the stored facts of document 01, read independently of the library: plain rather than quick. */
+#ifndef FACTS_H
+#define FACTS_H
+
+#include "../c/deskrook.h"
+
+/* The regions in their order in memory, each of little-endian 32-bit words. */
+enum region {
+    HEADER,
+    OPENS,
+    ROW_TRANSACTION,
+    ROW_STATE,
+    ROW_STAMP,
+    ROW_LINK,
+    ROW_MASK,
+    TAIL_TRANSACTION,
+    TAIL_ROW,
+    TAIL_KIND,
+    TAIL_MASK,
+    TAIL_LINK,
+    TAIL_STATE,
+    TAIL_STAMP,
+    TAIL_VALUES,
+    USED,
+    CURRENT,
+    PAGE_STATE,
+    PAGE_PLACE,
+    PAGE_MADE,
+    PAGE_REPLACED,
+    PAGE_LINEAGE,
+    PAGE_NEWEST,
+    CELLS,
+    CHANGES,
+    REGIONS
+};
+
+/* The words of the header. */
+enum { COLUMNS, RANGES, CAPACITY, SPARES, ROWS_GIVEN, TRANSACTIONS_GIVEN, SCANS_GIVEN, LAST_STAMP, MERGES_MADE, HEADER_WORDS = 16 };
+
+struct layout {
+    uint32_t columns, ranges, capacity, rows, slots, places, pages;
+    uint32_t base[REGIONS + 1]; /* where each region begins, in words; the last is the end */
+};
+
+/* The layout of a shape; 0 where a measure is outside its limits. */
+int layout_of(struct layout *layout, uint32_t columns, uint32_t ranges, uint32_t capacity, uint32_t spares);
+
+/* The bytes that a layout needs. */
+size_t layout_need(const struct layout *layout);
+
+/* Word i of some bytes. */
+uint32_t word_at(const uint8_t *mem, size_t i);
+
+/* The first stored fact that fails, or null where memory and list are usable; then the layout is filled. */
+const char *failing_fact(struct layout *layout, const uint8_t *mem, size_t mem_length, const deskrook_scan *scans, size_t scans_length);
+
+#endif

@@ -1,0 +1,62 @@
+//! Deskrook: a settings store for tide-mill gates. Rows are gates, columns are whole numbers such
+//! as a sill level in millimetres; writers work in transactions, and readers see the latest values
+//! or those of an earlier minute. The store is proved: this crate is a thin layer over the static
+//! library that is built from its proved source.
+//!
+//! A store lives in memory that the program lends, and so does its list of open scans. It allocates
+//! nothing, and keeps nothing elsewhere.
+//!
+//! ```
+//! use deskrook::{Mask, Scan, Shape, Stamp, Store, PLACES};
+//!
+//! # fn main() -> Result<(), deskrook::Refusal> {
+//! let shape = Shape { columns: 2, ranges: 1, tail: 4, spares: 1 };
+//! let mut memory = vec![0; shape.bytes()?];
+//! let mut scans = [Scan::FREE; PLACES];
+//! let mut store = Store::make(&mut memory, &mut scans, shape)?;
+//!
+//! let transaction = store.begin()?;
+//! let gate = store.insert(transaction, &[1200, -30])?;
+//! store.commit(transaction, Stamp(10))?;
+//!
+//! let transaction = store.begin()?;
+//! store.update(transaction, gate, Mask::of(&[0]), &[1250])?;
+//! assert_eq!(store.latest(gate, 0)?, Some(1200));
+//! assert_eq!(store.own_read(transaction, gate, 0)?, Some(1250));
+//! store.commit(transaction, Stamp(20))?;
+//!
+//! assert_eq!(store.latest(gate, 0)?, Some(1250));
+//! assert_eq!(store.read_at(Stamp(10), gate, 0)?, Some(1200));
+//! assert_eq!(store.read_at(Stamp(9), gate, 0)?, None);
+//! # Ok(())
+//! # }
+//! ```
+//!
+//! # Refusals
+//!
+//! A call that cannot be done answers a [`Refusal`] and changes no byte. Any number may be passed.
+//!
+//! ```
+//! use deskrook::{Refusal, Row, Scan, Shape, Store, PLACES};
+//!
+//! # fn main() -> Result<(), Refusal> {
+//! let shape = Shape { columns: 2, ranges: 1, tail: 4, spares: 0 };
+//! let mut memory = vec![0; shape.bytes()?];
+//! let mut scans = [Scan::FREE; PLACES];
+//! let store = Store::make(&mut memory, &mut scans, shape)?;
+//! match store.latest(Row(7), 0) {
+//!     Err(Refusal::Row) => {}
+//!     other => panic!("no row is given yet, and the answer is {other:?}"),
+//! }
+//! # Ok(())
+//! # }
+//! ```
+
+pub mod c;
+mod numbers;
+mod refusal;
+mod store;
+
+pub use numbers::{Lineage, Mask, Row, ScanNumber, Stamp, Sum, Tail, Transaction};
+pub use refusal::Refusal;
+pub use store::{Scan, Shape, Store, PLACES};

@@ -1,0 +1,61 @@
+//! The numbers that calls take and answer, a type for each, so that none is taken for another. Any
+//! number may be passed to a call; one that is not there is refused.
+
+/// The number of a transaction, from 1.
+#[derive(Clone, Copy, Debug, PartialEq, Eq, PartialOrd, Ord, Hash)]
+pub struct Transaction(pub u32);
+
+/// The number of a row, from 0. Row r lies in range r / 64.
+#[derive(Clone, Copy, Debug, PartialEq, Eq, PartialOrd, Ord, Hash)]
+pub struct Row(pub u32);
+
+/// The number of a tail record in its range, from 1.
+#[derive(Clone, Copy, Debug, PartialEq, Eq, PartialOrd, Ord, Hash)]
+pub struct Tail(pub u32);
+
+/// The number of a scan, from 1.
+#[derive(Clone, Copy, Debug, PartialEq, Eq, PartialOrd, Ord, Hash)]
+pub struct ScanNumber(pub u32);
+
+/// Minutes since 1 January 2000 UTC.
+#[derive(Clone, Copy, Debug, PartialEq, Eq, PartialOrd, Ord, Hash)]
+pub struct Stamp(pub u32);
+
+/// The columns that an update sets: bit k for column k.
+#[derive(Clone, Copy, Debug, PartialEq, Eq, Hash)]
+pub struct Mask(pub u16);
+
+impl Mask {
+    /// The mask of some columns.
+    ///
+    /// ```
+    /// use deskrook::Mask;
+    /// assert_eq!(Mask::of(&[0, 3]), Mask(0b1001));
+    /// ```
+    ///
+    /// # Panics
+    ///
+    /// If a column is 16 or more.
+    pub fn of(columns: &[u32]) -> Mask {
+        Mask(columns.iter().fold(0, |mask, column| {
+            assert!(*column < 16, "a mask has 16 columns, {column} is none of them");
+            mask | 1 << column
+        }))
+    }
+}
+
+/// The rows that a scan sees, and the sum of one of their columns.
+#[derive(Clone, Copy, Debug, PartialEq, Eq)]
+pub struct Sum {
+    pub rows: u32,
+    pub sum: i64,
+}
+
+/// How far a range's column is merged.
+#[derive(Clone, Copy, Debug, PartialEq, Eq)]
+pub struct Lineage {
+    /// The last tail record merged, `Tail(0)` before any merge.
+    pub through: Tail,
+    /// The tail records that the range has used.
+    pub used: u32,
+}

@@ -1,0 +1,391 @@
+//! The store over lent memory.
+
+use crate::c::{self, Reply};
+use crate::{Lineage, Mask, Refusal, Row, ScanNumber, Stamp, Sum, Tail, Transaction};
+
+/// The fewest places of a scan list, which is also how many scans can be open.
+pub const PLACES: usize = 16;
+
+/// A place of the lent list of open scans.
+#[repr(C)]
+#[derive(Clone, Copy, Debug, Default, PartialEq, Eq)]
+pub struct Scan {
+    /// The scan's number; 0 marks a free place.
+    pub number: u32,
+    /// The stamp that it was opened with.
+    pub stamp: u32,
+    /// The merges made before it.
+    pub merges: u32,
+}
+
+impl Scan {
+    /// A free place.
+    pub const FREE: Scan = Scan { number: 0, stamp: 0, merges: 0 };
+}
+
+/// The measures of a store.
+#[derive(Clone, Copy, Debug, PartialEq, Eq)]
+pub struct Shape {
+    /// 1 to 16.
+    pub columns: u32,
+    /// 1 to 16, of 64 rows each.
+    pub ranges: u32,
+    /// 1 to 512 tail records for each range.
+    pub tail: u32,
+    /// 0 to 256 spare pages.
+    pub spares: u32,
+}
+
+impl Shape {
+    /// The bytes that a store of this shape needs.
+    ///
+    /// ```
+    /// use deskrook::{Refusal, Shape};
+    /// let shape = Shape { columns: 2, ranges: 1, tail: 4, spares: 1 };
+    /// assert!(shape.bytes().is_ok());
+    /// assert_eq!(Shape { columns: 17, ..shape }.bytes(), Err(Refusal::Shape));
+    /// ```
+    ///
+    /// # Errors
+    ///
+    /// [`Refusal::Shape`].
+    pub fn bytes(&self) -> Result<usize, Refusal> {
+        // SAFETY: it takes numbers alone.
+        let reply = unsafe { c::deskrook_need(self.columns, self.ranges, self.tail, self.spares) };
+        Ok(accepted(reply)?.first as usize)
+    }
+}
+
+/// A store in lent memory.
+///
+/// Each call first tests memory and list, and answers [`Refusal::Memory`] where they are not
+/// usable. The errors of a call are listed in the order in which they are tested, after that one.
+#[derive(Debug)]
+pub struct Store<'a> {
+    memory: &'a mut [u8],
+    scans: &'a mut [Scan],
+}
+
+/// An accepted reply, or the refusal.
+fn accepted(reply: Reply) -> Result<Reply, Refusal> {
+    match reply.result {
+        c::OK | c::NONE => Ok(reply),
+        number => match Refusal::from_number(number) {
+            Some(refusal) => Err(refusal),
+            None => unreachable!("the library answers {number}, which its contract rules out"),
+        },
+    }
+}
+
+/// What a read answers: a value, or none.
+fn read(reply: Reply) -> Result<Option<i32>, Refusal> {
+    let reply = accepted(reply)?;
+    Ok((reply.result == c::OK).then_some(reply.first as i32))
+}
+
+/// Calls a function of the C interface with a store's memory and list, and its numbers.
+///
+/// SAFETY of all uses: pointers and lengths are those of the store's two slices, which are
+/// borrowed alone where the method takes `&mut self` and shared where it takes `&self` and the
+/// function takes `*const`; slices of values are another borrow of the call.
+macro_rules! call {
+    (mut $store:ident, $name:ident $(, $number:expr)*) => {
+        unsafe {
+            c::$name(
+                $store.memory.as_mut_ptr(),
+                $store.memory.len(),
+                $store.scans.as_mut_ptr(),
+                $store.scans.len(),
+                $($number),*
+            )
+        }
+    };
+    (ref $store:ident, $name:ident $(, $number:expr)*) => {
+        unsafe {
+            c::$name(
+                $store.memory.as_ptr(),
+                $store.memory.len(),
+                $store.scans.as_ptr(),
+                $store.scans.len(),
+                $($number),*
+            )
+        }
+    };
+}
+
+impl<'a> Store<'a> {
+    /// Makes an empty store, whatever memory and list held before. Every place of the list becomes
+    /// free; bytes past those that the shape needs stay as they are.
+    ///
+    /// ```
+    /// use deskrook::{Refusal, Scan, Shape, Store, PLACES};
+    /// let shape = Shape { columns: 2, ranges: 1, tail: 4, spares: 1 };
+    /// let (mut memory, mut scans) = ([0; 100], [Scan::FREE; PLACES]);
+    /// let refused = Store::make(&mut memory, &mut scans, shape);
+    /// assert_eq!(refused.err(), Some(Refusal::Memory));
+    /// ```
+    ///
+    /// # Errors
+    ///
+    /// [`Refusal::Shape`], [`Refusal::Memory`].
+    pub fn make(
+        memory: &'a mut [u8],
+        scans: &'a mut [Scan],
+        shape: Shape,
+    ) -> Result<Store<'a>, Refusal> {
+        let Shape { columns, ranges, tail, spares } = shape;
+        let store = Store { memory, scans };
+        accepted(call!(mut store, deskrook_make, columns, ranges, tail, spares))?;
+        Ok(store)
+    }
+
+    /// The store that is in this memory and list already. Nothing is tested here; if there is none,
+    /// every call answers [`Refusal::Memory`].
+    ///
+    /// ```
+    /// use deskrook::{Refusal, Scan, Shape, Store, PLACES};
+    ///
+    /// # fn main() -> Result<(), Refusal> {
+    /// let shape = Shape { columns: 1, ranges: 1, tail: 1, spares: 0 };
+    /// let (mut memory, mut scans) = (vec![0; shape.bytes()?], [Scan::FREE; PLACES]);
+    /// assert_eq!(Store::lent(&mut memory, &mut scans).begin(), Err(Refusal::Memory));
+    /// Store::make(&mut memory, &mut scans, shape)?;
+    /// assert!(Store::lent(&mut memory, &mut scans).begin().is_ok());
+    /// # Ok(())
+    /// # }
+    /// ```
+    pub fn lent(memory: &'a mut [u8], scans: &'a mut [Scan]) -> Store<'a> {
+        Store { memory, scans }
+    }
+
+    /// Whether memory and list are usable, which every other call asks first.
+    ///
+    /// # Errors
+    ///
+    /// [`Refusal::Memory`].
+    pub fn check(&self) -> Result<(), Refusal> {
+        accepted(call!(ref self, deskrook_check)).map(|_| ())
+    }
+
+    /// Begins a transaction.
+    ///
+    /// # Errors
+    ///
+    /// [`Refusal::Number`], [`Refusal::Busy`].
+    pub fn begin(&mut self) -> Result<Transaction, Refusal> {
+        Ok(Transaction(accepted(call!(mut self, deskrook_begin))?.first))
+    }
+
+    /// Inserts a row with a value for each column. Where there are fewer values the rest are 0,
+    /// and those past the columns are not looked at.
+    ///
+    /// # Errors
+    ///
+    /// [`Refusal::Transaction`], [`Refusal::Full`].
+    pub fn insert(&mut self, transaction: Transaction, values: &[i32]) -> Result<Row, Refusal> {
+        let (first, length) = (values.as_ptr(), values.len());
+        Ok(Row(accepted(call!(mut self, deskrook_insert, transaction.0, first, length))?.first))
+    }
+
+    /// Sets the columns of a row that the mask has; value k is column k's, as in
+    /// [`insert`](Store::insert).
+    ///
+    /// # Errors
+    ///
+    /// [`Refusal::Transaction`], [`Refusal::Row`], [`Refusal::Mask`], [`Refusal::Held`],
+    /// [`Refusal::Gone`], [`Refusal::Tail`].
+    pub fn update(
+        &mut self,
+        transaction: Transaction,
+        row: Row,
+        mask: Mask,
+        values: &[i32],
+    ) -> Result<Tail, Refusal> {
+        let (first, length) = (values.as_ptr(), values.len());
+        let reply = call!(mut self, deskrook_update, transaction.0, row.0, mask.0, first, length);
+        Ok(Tail(accepted(reply)?.first))
+    }
+
+    /// Deletes a row.
+    ///
+    /// # Errors
+    ///
+    /// [`Refusal::Transaction`], [`Refusal::Row`], [`Refusal::Held`], [`Refusal::Gone`],
+    /// [`Refusal::Tail`].
+    pub fn delete(&mut self, transaction: Transaction, row: Row) -> Result<Tail, Refusal> {
+        Ok(Tail(accepted(call!(mut self, deskrook_delete, transaction.0, row.0))?.first))
+    }
+
+    /// Commits a transaction at a stamp later than the last commit's. Refused, it remains open.
+    ///
+    /// ```
+    /// use deskrook::{Refusal, Scan, Shape, Stamp, Store, PLACES};
+    ///
+    /// # fn main() -> Result<(), Refusal> {
+    /// # let shape = Shape { columns: 1, ranges: 1, tail: 1, spares: 0 };
+    /// # let (mut memory, mut scans) = (vec![0; shape.bytes()?], [Scan::FREE; PLACES]);
+    /// # let mut store = Store::make(&mut memory, &mut scans, shape)?;
+    /// let transaction = store.begin()?;
+    /// assert_eq!(store.commit(transaction, Stamp(0)), Err(Refusal::Time));
+    /// store.commit(transaction, Stamp(1))?;
+    /// assert_eq!(store.commit(transaction, Stamp(2)), Err(Refusal::Transaction));
+    /// # Ok(())
+    /// # }
+    /// ```
+    ///
+    /// # Errors
+    ///
+    /// [`Refusal::Transaction`], [`Refusal::Time`].
+    pub fn commit(&mut self, transaction: Transaction, stamp: Stamp) -> Result<(), Refusal> {
+        accepted(call!(mut self, deskrook_commit, transaction.0, stamp.0)).map(|_| ())
+    }
+
+    /// Gives up a transaction; nothing that it did is ever read.
+    ///
+    /// # Errors
+    ///
+    /// [`Refusal::Transaction`].
+    pub fn abort(&mut self, transaction: Transaction) -> Result<(), Refusal> {
+        accepted(call!(mut self, deskrook_abort, transaction.0)).map(|_| ())
+    }
+
+    /// The value at the last commit, or none where the row is not there then.
+    ///
+    /// # Errors
+    ///
+    /// [`Refusal::Row`], [`Refusal::Column`].
+    pub fn latest(&self, row: Row, column: u32) -> Result<Option<i32>, Refusal> {
+        read(call!(ref self, deskrook_latest, row.0, column))
+    }
+
+    /// The value at a stamp not later than the last commit's.
+    ///
+    /// # Errors
+    ///
+    /// [`Refusal::Time`], [`Refusal::Row`], [`Refusal::Column`].
+    pub fn read_at(&self, stamp: Stamp, row: Row, column: u32) -> Result<Option<i32>, Refusal> {
+        read(call!(ref self, deskrook_read_at, stamp.0, row.0, column))
+    }
+
+    /// The value that a transaction sees: its own pending changes above the latest.
+    ///
+    /// # Errors
+    ///
+    /// [`Refusal::Transaction`], [`Refusal::Row`], [`Refusal::Column`].
+    pub fn own_read(
+        &self,
+        transaction: Transaction,
+        row: Row,
+        column: u32,
+    ) -> Result<Option<i32>, Refusal> {
+        read(call!(ref self, deskrook_own_read, transaction.0, row.0, column))
+    }
+
+    /// Opens a scan at a stamp not later than the last commit's.
+    ///
+    /// ```
+    /// use deskrook::{Mask, Scan, Shape, Stamp, Store, Sum, PLACES};
+    ///
+    /// # fn main() -> Result<(), deskrook::Refusal> {
+    /// # let shape = Shape { columns: 1, ranges: 1, tail: 4, spares: 1 };
+    /// # let (mut memory, mut scans) = (vec![0; shape.bytes()?], [Scan::FREE; PLACES]);
+    /// # let mut store = Store::make(&mut memory, &mut scans, shape)?;
+    /// let transaction = store.begin()?;
+    /// let gate = store.insert(transaction, &[1200])?;
+    /// store.insert(transaction, &[-30])?;
+    /// store.commit(transaction, Stamp(10))?;
+    /// let scan = store.open_scan(Stamp(10))?;
+    ///
+    /// let transaction = store.begin()?;
+    /// let last = store.update(transaction, gate, Mask(1), &[1250])?;
+    /// store.commit(transaction, Stamp(20))?;
+    /// store.merge(0, 0, last)?;
+    ///
+    /// assert_eq!(store.scan_read(scan, gate, 0)?, Some(1200));
+    /// assert_eq!(store.sum(scan, 0)?, Sum { rows: 2, sum: 1170 });
+    /// assert_eq!(store.release()?, 0); // the scan still reads the old page
+    /// store.close_scan(scan)?;
+    /// assert_eq!(store.release()?, 1);
+    /// # Ok(())
+    /// # }
+    /// ```
+    ///
+    /// # Errors
+    ///
+    /// [`Refusal::Time`], [`Refusal::Number`], [`Refusal::Busy`].
+    pub fn open_scan(&mut self, stamp: Stamp) -> Result<ScanNumber, Refusal> {
+        Ok(ScanNumber(accepted(call!(mut self, deskrook_open_scan, stamp.0))?.first))
+    }
+
+    /// The value at a scan's stamp, read in the pages that were current at its opening.
+    ///
+    /// # Errors
+    ///
+    /// [`Refusal::Scan`], [`Refusal::Row`], [`Refusal::Column`].
+    pub fn scan_read(
+        &self,
+        scan: ScanNumber,
+        row: Row,
+        column: u32,
+    ) -> Result<Option<i32>, Refusal> {
+        read(call!(ref self, deskrook_scan_read, scan.0, row.0, column))
+    }
+
+    /// The sum of one column over the rows that a scan sees.
+    ///
+    /// # Errors
+    ///
+    /// [`Refusal::Scan`], [`Refusal::Column`].
+    pub fn sum(&self, scan: ScanNumber, column: u32) -> Result<Sum, Refusal> {
+        let reply = accepted(call!(ref self, deskrook_sum, scan.0, column))?;
+        Ok(Sum { rows: reply.first, sum: reply.sum })
+    }
+
+    /// Closes a scan and frees its place of the list.
+    ///
+    /// # Errors
+    ///
+    /// [`Refusal::Scan`].
+    pub fn close_scan(&mut self, scan: ScanNumber) -> Result<(), Refusal> {
+        accepted(call!(mut self, deskrook_close_scan, scan.0)).map(|_| ())
+    }
+
+    /// Merges the committed settings among a range's tail records up to `through` into a new page
+    /// of one column. The old page waits for a [`release`](Store::release).
+    ///
+    /// # Errors
+    ///
+    /// [`Refusal::Range`], [`Refusal::Column`], [`Refusal::Reach`], [`Refusal::Open`],
+    /// [`Refusal::NoPage`].
+    pub fn merge(&mut self, range: u32, column: u32, through: Tail) -> Result<(), Refusal> {
+        accepted(call!(mut self, deskrook_merge, range, column, through.0)).map(|_| ())
+    }
+
+    /// Frees every waiting page but those that a scan still open may read, and answers how many.
+    ///
+    /// # Errors
+    ///
+    /// None but [`Refusal::Memory`].
+    pub fn release(&mut self) -> Result<u32, Refusal> {
+        Ok(accepted(call!(mut self, deskrook_release))?.first)
+    }
+
+    /// What the current page of a column holds for a row.
+    ///
+    /// # Errors
+    ///
+    /// [`Refusal::Column`], [`Refusal::Row`].
+    pub fn page_cell(&self, column: u32, row: Row) -> Result<i32, Refusal> {
+        Ok(accepted(call!(ref self, deskrook_page_cell, column, row.0))?.first as i32)
+    }
+
+    /// How far a range's column is merged, and how many tail records the range has used.
+    ///
+    /// # Errors
+    ///
+    /// [`Refusal::Range`], [`Refusal::Column`].
+    pub fn lineage(&self, range: u32, column: u32) -> Result<Lineage, Refusal> {
+        let reply = accepted(call!(ref self, deskrook_lineage, range, column))?;
+        Ok(Lineage { through: Tail(reply.first), used: reply.second })
+    }
+}

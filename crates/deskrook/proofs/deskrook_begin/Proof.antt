@@ -5,12 +5,13 @@ use borrow.Fn.World.{World}
 use Rattle.history.specs.History.{Call}
 use Rattle.model.specs.Calls.{placesAfter}
 use Rattle.lent.proofs.laws.write_n as law
-use Rattle.deskrook.proofs.begin_reply.Symbol as core
-use Rattle.deskrook.proofs.begin_reply.Met as core-thm
-use Rattle.deskrook.proofs.begin_reply.Reads as core-reads
-use Rattle.deskrook.specs.Replies.{EncodesLeft, Replies, replyOf}
+use Rattle.replies.proofs.begin_reply.Symbol as core
+use Rattle.replies.proofs.begin_reply.Met as core-thm
+use Rattle.replies.proofs.begin_reply.Reads as core-reads
+use Rattle.replies.specs.Replies.{EncodesLeft, replyOf}
+use Rattle.deskrook.specs.Replies.{Replies}
 use Rattle.calls.proofs.Served.{changed}
-use Rattle.deskrook.proofs.Types.{reply}
+use Rattle.replies.proofs.Types.{reply}
 use Rattle.deskrook.proofs.deskrook_begin.Key as key
 use Rattle.deskrook.proofs.deskrook_begin.Statement.{statement}
 use Rattle.deskrook.proofs.deskrook_begin.Code as code
@@ -22,4 +23,4 @@ deskrook-begin-spec {M} 𝓤 H 𝓜 𝓖 𝓡 =
     law.meets core.name reply (λ m t z m′. EncodesLeft m t Call.begin z m′) (λ m l z m′. Replies m l Call.begin z m′ l)
     (λ m l t z m′. changed replyOf Call.begin (λ v ps. refl) m t z m′ l)
     w code.env key.name (code.unfolded 𝓤 H 𝓜 𝓡) code.calls-lent·table
-    (core-reads.known w code.env core.name core.routine code.calls-deskrook·begin-reply (core-thm.met 𝓤 H 𝓜 𝓖 𝓡))
+    (core-reads.known w code.env core.name core.routine code.calls-replies·begin-reply (core-thm.met 𝓤 H 𝓜 𝓖 𝓡))

@@ -14,13 +14,14 @@ use Rattle.lent.proofs.keep.Symbol as keep
 use Rattle.upkeep.proofs.close_scan.Symbol as core
 use Rattle.upkeep.proofs.close_scan.Met as core-thm
 use Rattle.upkeep.proofs.close_scan.Reads as core-reads
-use Rattle.deskrook.proofs.reply_of.Symbol as last
-use Rattle.deskrook.proofs.reply_of.Met as last-thm
-use Rattle.deskrook.proofs.reply_of.Reads as last-reads
-use Rattle.deskrook.specs.Replies.{Replies, replyOf}
+use Rattle.replies.proofs.reply_of.Symbol as last
+use Rattle.replies.proofs.reply_of.Met as last-thm
+use Rattle.replies.proofs.reply_of.Reads as last-reads
+use Rattle.replies.specs.Replies.{replyOf}
+use Rattle.deskrook.specs.Replies.{Replies}
 use Rattle.calls.proofs.Served.{listed}
 use Rattle.calls.proofs.Types as type
-use Rattle.deskrook.proofs.Types.{reply}
+use Rattle.replies.proofs.Types.{reply}
 use Rattle.deskrook.proofs.deskrook_close_scan.Key as key
 use Rattle.deskrook.proofs.deskrook_close_scan.Statement.{statement}
 use Rattle.deskrook.proofs.deskrook_close_scan.Code as code
@@ -37,4 +38,4 @@ deskrook-close-scan-spec {M} 𝓤 H 𝓜 𝓖 𝓡 =
     (table-known w code.env code.calls-lent·table)
     (core-reads.known w code.env core.name core.routine code.calls-upkeep·close-scan (core-thm.met 𝓤 H 𝓜 𝓖 𝓡))
     (keep-known w code.env code.calls-lent·keep)
-    (last-reads.known w code.env last.name last.routine code.calls-deskrook·reply-of (last-thm.met 𝓤 H 𝓜 𝓖 𝓡))
+    (last-reads.known w code.env last.name last.routine code.calls-replies·reply-of (last-thm.met 𝓤 H 𝓜 𝓖 𝓡))

@@ -5,13 +5,14 @@ use borrow.Fn.World.{World}
 use Rattle.history.specs.History.{Call}
 use Rattle.model.specs.Calls.{placesAfter}
 use Rattle.lent.proofs.laws.write_vv as law
-use Rattle.deskrook.proofs.commit_reply.Symbol as core
-use Rattle.deskrook.proofs.commit_reply.Met as core-thm
-use Rattle.deskrook.proofs.commit_reply.Reads as core-reads
-use Rattle.deskrook.specs.Replies.{EncodesLeft, Replies, replyOf}
+use Rattle.replies.proofs.commit_reply.Symbol as core
+use Rattle.replies.proofs.commit_reply.Met as core-thm
+use Rattle.replies.proofs.commit_reply.Reads as core-reads
+use Rattle.replies.specs.Replies.{EncodesLeft, replyOf}
+use Rattle.deskrook.specs.Replies.{Replies}
 use Rattle.calls.proofs.Served.{changed}
 use Rattle.calls.proofs.Types.{u32}
-use Rattle.deskrook.proofs.Types.{reply}
+use Rattle.replies.proofs.Types.{reply}
 use Rattle.deskrook.proofs.deskrook_commit.Key as key
 use Rattle.deskrook.proofs.deskrook_commit.Statement.{statement}
 use Rattle.deskrook.proofs.deskrook_commit.Code as code
@@ -23,4 +24,4 @@ deskrook-commit-spec {M} 𝓤 H 𝓜 𝓖 𝓡 =
     law.meets core.name reply u32 u32 (λ m t x y z m′. EncodesLeft m t (Call.commit x y) z m′) (λ m l x y z m′. Replies m l (Call.commit x y) z m′ l)
     (λ m l x y t z m′. changed replyOf (Call.commit x y) (λ v ps. refl) m t z m′ l)
     w code.env key.name (code.unfolded 𝓤 H 𝓜 𝓡) code.calls-lent·table
-    (core-reads.known w code.env core.name core.routine code.calls-deskrook·commit-reply (core-thm.met 𝓤 H 𝓜 𝓖 𝓡))
+    (core-reads.known w code.env core.name core.routine code.calls-replies·commit-reply (core-thm.met 𝓤 H 𝓜 𝓖 𝓡))

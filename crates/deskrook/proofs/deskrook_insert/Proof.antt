@@ -5,14 +5,15 @@ use borrow.Fn.World.{World}
 use Rattle.history.specs.History.{Call}
 use Rattle.model.specs.Calls.{placesAfter}
 use Rattle.lent.proofs.laws.write_vz as law
-use Rattle.deskrook.proofs.insert_reply.Symbol as core
-use Rattle.deskrook.proofs.insert_reply.Met as core-thm
-use Rattle.deskrook.proofs.insert_reply.Reads as core-reads
+use Rattle.replies.proofs.insert_reply.Symbol as core
+use Rattle.replies.proofs.insert_reply.Met as core-thm
+use Rattle.replies.proofs.insert_reply.Reads as core-reads
 use Rattle.calls.specs.Serves.{sixteen}
-use Rattle.deskrook.specs.Replies.{EncodesLeft, Replies, replyOf}
+use Rattle.replies.specs.Replies.{EncodesLeft, replyOf}
+use Rattle.deskrook.specs.Replies.{Replies}
 use Rattle.calls.proofs.Served.{changed}
 use Rattle.calls.proofs.Types.{u32}
-use Rattle.deskrook.proofs.Types.{reply}
+use Rattle.replies.proofs.Types.{reply}
 use Rattle.deskrook.proofs.deskrook_insert.Key as key
 use Rattle.deskrook.proofs.deskrook_insert.Statement.{statement}
 use Rattle.deskrook.proofs.deskrook_insert.Code as code
@@ -24,4 +25,4 @@ deskrook-insert-spec {M} 𝓤 H 𝓜 𝓖 𝓡 =
     law.meets core.name reply u32 (λ m t x y z m′. EncodesLeft m t (Call.insert x (sixteen y)) z m′) (λ m l x y z m′. Replies m l (Call.insert x (sixteen y)) z m′ l)
     (λ m l x y t z m′. changed replyOf (Call.insert x (sixteen y)) (λ v ps. refl) m t z m′ l)
     w code.env key.name (code.unfolded 𝓤 H 𝓜 𝓡) code.calls-lent·table
-    (core-reads.known w code.env core.name core.routine code.calls-deskrook·insert-reply (core-thm.met 𝓤 H 𝓜 𝓖 𝓡))
+    (core-reads.known w code.env core.name core.routine code.calls-replies·insert-reply (core-thm.met 𝓤 H 𝓜 𝓖 𝓡))

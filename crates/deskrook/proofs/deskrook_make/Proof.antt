@@ -13,13 +13,14 @@ use Rattle.lent.proofs.free_made.Symbol as free-made
 use Rattle.making.proofs.make.Symbol as core
 use Rattle.making.proofs.make.Met as core-thm
 use Rattle.making.proofs.make.Reads as core-reads
-use Rattle.deskrook.proofs.encode.Symbol as last
-use Rattle.deskrook.proofs.encode.Met as last-thm
-use Rattle.deskrook.proofs.encode.Reads as last-reads
-use Rattle.deskrook.specs.Replies.{RepliesMade, replyOf}
+use Rattle.replies.proofs.encode.Symbol as last
+use Rattle.replies.proofs.encode.Met as last-thm
+use Rattle.replies.proofs.encode.Reads as last-reads
+use Rattle.replies.specs.Replies.{replyOf}
+use Rattle.deskrook.specs.Replies.{RepliesMade}
 use Rattle.calls.proofs.Served.{made-so}
 use Rattle.calls.proofs.Types as type
-use Rattle.deskrook.proofs.Types.{reply}
+use Rattle.replies.proofs.Types.{reply}
 use Rattle.deskrook.proofs.deskrook_make.Key as key
 use Rattle.deskrook.proofs.deskrook_make.Statement.{statement}
 use Rattle.deskrook.proofs.deskrook_make.Code as code
@@ -36,4 +37,4 @@ deskrook-make-spec {M} 𝓤 H 𝓜 𝓖 𝓡 =
     (len-known w code.env code.calls-lent·len-of)
     (core-reads.known w code.env core.name core.routine code.calls-making·make (core-thm.met 𝓤 H 𝓜 𝓖 𝓡))
     (made-known w code.env code.calls-lent·free-made)
-    (last-reads.known w code.env last.name last.routine code.calls-deskrook·encode (last-thm.met 𝓤 H 𝓜 𝓖 𝓡))
+    (last-reads.known w code.env last.name last.routine code.calls-replies·encode (last-thm.met 𝓤 H 𝓜 𝓖 𝓡))

@@ -1,7 +1,7 @@
 -- `deskrook::deskrook_need` meets its contract.
 use mathlib.Core.Path.{ap, _∙_}
 use borrow.Author.Needs.{needs}
-use Rattle.deskrook.specs.Replies.{replyOf}
+use Rattle.replies.specs.Replies.{replyOf}
 use Rattle.deskrook.proofs.deskrook_need.Statement.{statement}
 use Rattle.deskrook.proofs.deskrook_need.Tie as tie
 

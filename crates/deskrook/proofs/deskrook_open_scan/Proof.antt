@@ -10,16 +10,17 @@ use Rattle.lent.proofs.Known.{table-known, keep-known}
 use Rattle.lent.proofs.laws.list_v as law
 use Rattle.lent.proofs.table.Symbol as table
 use Rattle.lent.proofs.keep.Symbol as keep
-use Rattle.deskrook.proofs.open_raw.Symbol as core
-use Rattle.deskrook.proofs.open_raw.Met as core-thm
-use Rattle.deskrook.proofs.open_raw.Reads as core-reads
-use Rattle.deskrook.proofs.reply_of.Symbol as last
-use Rattle.deskrook.proofs.reply_of.Met as last-thm
-use Rattle.deskrook.proofs.reply_of.Reads as last-reads
-use Rattle.deskrook.specs.Replies.{Replies, replyOf}
+use Rattle.replies.proofs.open_raw.Symbol as core
+use Rattle.replies.proofs.open_raw.Met as core-thm
+use Rattle.replies.proofs.open_raw.Reads as core-reads
+use Rattle.replies.proofs.reply_of.Symbol as last
+use Rattle.replies.proofs.reply_of.Met as last-thm
+use Rattle.replies.proofs.reply_of.Reads as last-reads
+use Rattle.replies.specs.Replies.{replyOf}
+use Rattle.deskrook.specs.Replies.{Replies}
 use Rattle.calls.proofs.Served.{listed}
 use Rattle.calls.proofs.Types as type
-use Rattle.deskrook.proofs.Types.{reply}
+use Rattle.replies.proofs.Types.{reply}
 use Rattle.deskrook.proofs.deskrook_open_scan.Key as key
 use Rattle.deskrook.proofs.deskrook_open_scan.Statement.{statement}
 use Rattle.deskrook.proofs.deskrook_open_scan.Code as code
@@ -34,6 +35,6 @@ deskrook-open-scan-spec {M} 𝓤 H 𝓜 𝓖 𝓡 =
     (λ m l x t c z m′ l′. listed replyOf (Call.openScan x) m t c z m′ l l′)
     w code.env key.name (code.unfolded 𝓤 H 𝓜 𝓡)
     (table-known w code.env code.calls-lent·table)
-    (core-reads.known w code.env core.name core.routine code.calls-deskrook·open-raw (core-thm.met 𝓤 H 𝓜 𝓖 𝓡))
+    (core-reads.known w code.env core.name core.routine code.calls-replies·open-raw (core-thm.met 𝓤 H 𝓜 𝓖 𝓡))
     (keep-known w code.env code.calls-lent·keep)
-    (last-reads.known w code.env last.name last.routine code.calls-deskrook·reply-of (last-thm.met 𝓤 H 𝓜 𝓖 𝓡))
+    (last-reads.known w code.env last.name last.routine code.calls-replies·reply-of (last-thm.met 𝓤 H 𝓜 𝓖 𝓡))

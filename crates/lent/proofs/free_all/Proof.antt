@@ -8,11 +8,10 @@ use lib.ListN.{length, set as put}
 use contract.Running.{tablesOf, givenOf}
 use Rattle.scans.specs.Places.{freePlace, allFreed}
 use Rattle.lent.proofs.Rules.{_≡_, refl, List, [], _∷_, ℕ, URA, some, none, Ty, Body, Opd, tyInt, tyBool, tyUnit, erased, named, imm, mut, w64, copy, place, field, deref, seq, call, return, assign, rvOpd, addrOf, aggregate, op2, lt, add, unsigned, int, cond, skip, exit, loop, block, opdUnit, valueLocal, Home, Heap, Tables, Env, Atoms, Given, Lfts, Shares, now, sliceTy, Row, Cx, Life, lease, off, alive, dead, get, set, valS, sInt, sBool, sUnit, sslice, any-gone, sc-here, room-gone, as-is, Typed, Outs, TF, Mo, Both, Asks, Gives, both, ask, give, pass, atRet, atNext, atExit, withNext, wantNext, inBlock₀, inBlock, inLoop₀, LoopBy, t-return, t-skip, t-exit, t-seq, t-block, t-loop-by, s-typed, s-seq, g-pre, n-room, g-room, n-use, t-use, k-op2, t-op2, t-cond, Φcond, oAt, oInt, oFld, oUnit, reads-sc, holds-sc, room-sc, g-begin, g-end, g-forget, reads-sslice, room-sslice, lenV, mslice, msleft, reads-mslice, mslice-owed, msptr, ssptr, asMut, asShr, k-sl-relend, t-sl-relend, k-sl-aggregate, t-sl-aggregate, reads-owed-len, k-back-sl, g-back-sl, mslice-owedS, k-sl-reshare, t-sl-reshare, reads-owedS-len, n-back-sl-shr, g-back-sl-shr, vAt, pShrS, spares-sslice, pMutS, fix-len, EnvOf, tysP, PK, In, Out, pNum, rNum, rUnit, tyR, callB, sub-id, Known, t-call-plain, t-fn-plain, Over, World, Place, entry, places, num, no-num, flag, no-flag}
-use Rattle.lent.proofs.Plain.{Plain, type, full, gone, arg, res, copied, room, struct-of}
+use Rattle.lent.proofs.Plain.{type, full, gone, arg, res, copied, room}
 use Rattle.lent.proofs.Written as written
 use Rattle.lent.proofs.Steps.{Freed, none-freed, one-freed, all-freed}
-use Rattle.terms.proofs.Place as Place·
-use Rattle.terms.proofs.Place.Laws as Place′
+use Rattle.lent.proofs.Types.{p as P}
 use Rattle.lent.proofs.len_of.Symbol as len-of
 use Rattle.lent.proofs.len_of.Met as len-of-thm
 use Rattle.lent.proofs.free_place.Symbol as free-place
@@ -23,9 +22,6 @@ use Rattle.lent.proofs.put_place.Met as put-place-thm
 use Rattle.lent.proofs.free_all.Key as key
 use Rattle.lent.proofs.free_all.Statement.{statement}
 use Rattle.lent.proofs.free_all.Code as code
-
-abbrev P : Plain
-P = struct-of Place·.the-type Place′.the-laws Place′.the-copy Place′.the-plain
 
 -- ---- the parameters of the function and of those that it calls, and what is known of them
 

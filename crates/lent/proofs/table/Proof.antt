@@ -12,13 +12,10 @@ use Rattle.scans.specs.Places.{freePlace, isOpen}
 use Rattle.scans.specs.Table.{tableOf, noted}
 use Rattle.lent.specs.Lent.{ofLength}
 use Rattle.lent.proofs.Rules.{_≡_, refl, List, [], _∷_, ℕ, URA, some, none, Ty, Body, tyInt, tyBool, named, imm, w64, copy, place, seq, call, return, assign, rvOpd, op2, lt, add, unsigned, int, cond, skip, exit, loop, block, valueLocal, Home, Name, Heap, Tables, Env, Atoms, Given, Lfts, Shares, now, Row, Cx, lease, get, set, valS, sInt, sBool, sslice, room-gone, Typed, Outs, TF, Mo, Both, Asks, both, ask, pass, atRet, atNext, atExit, withNext, wantNext, inBlock₀, inBlock, inLoop₀, LoopBy, t-return, t-skip, t-exit, t-seq, t-block, t-loop-by, s-typed, s-seq, g-pre, g-post, n-room, g-room, n-use, t-use, k-op2, t-op2, t-cond, Φcond, oAt, oInt, reads-sc, holds-sc, room-sc, reads-sslice, vAt, pShrS, spares-sslice, EnvOf, tysP, PK, RK, In, Out, pNum, rNum, rBool, tyR, callB, sub-id, Known, t-call-plain, t-fn-plain, Over, World, Place, entry, places, num, no-num, flag, no-flag}
-use Rattle.lent.proofs.Plain.{Plain, type, full, gone, arg, res, copied, room, struct-of}
+use Rattle.lent.proofs.Plain.{type, full, gone, arg, res, copied, room}
 use Rattle.lent.proofs.Written as written
 use Rattle.lent.proofs.Steps.{Gone, none-gone, open-gone, free-gone, all-gone}
-use Rattle.terms.proofs.Place as Place·
-use Rattle.terms.proofs.Place.Laws as Place′
-use Rattle.scans.proofs.Scans as Scans·
-use Rattle.scans.proofs.Scans.Laws as Scans′
+use Rattle.lent.proofs.Types.{p as P, t as T}
 use Rattle.lent.proofs.len_of.Symbol as len-of
 use Rattle.lent.proofs.len_of.Met as len-of-thm
 use Rattle.lent.proofs.place_at.Symbol as place-at
@@ -38,12 +35,6 @@ use Rattle.lent.proofs.set_length.Reads as set-length-reads
 use Rattle.lent.proofs.table.Key as key
 use Rattle.lent.proofs.table.Statement.{statement}
 use Rattle.lent.proofs.table.Code as code
-
-abbrev P : Plain
-P = struct-of Place·.the-type Place′.the-laws Place′.the-copy Place′.the-plain
-
-abbrev T : Plain
-T = struct-of Scans·.the-type Scans′.the-laws Scans′.the-copy Scans′.the-plain
 
 -- ---- the parameters of the function and of those that it calls, and what is known of them
 

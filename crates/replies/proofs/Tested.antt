@@ -1,0 +1,25 @@
+-- The test of memory and list, as an answer.
+use Prim.Native.Nat.{ℕ}
+use mathlib.Core.Path.{_≡_, refl, ap, _∙_}
+use mathlib.Core.Bool.{Bool, true, false, cond}
+use mathlib.Core.List.{List}
+use Rattle.terms.specs.declared.Answer.{Answer}
+use Rattle.terms.specs.declared.Place.{Place}
+use Rattle.terms.specs.declared.Refusal.{Refusal}
+use Rattle.words.specs.Words.{words}
+use Rattle.facts.specs.declared.Checked.{Checked}
+use Rattle.facts.specs.declared.Checked.the-variants.{Fit, Unfit}
+use Rattle.facts.specs.Usable.{sizesIn, usable, checked}
+use Rattle.replies.specs.Replies.{usability}
+
+abbrev pub passed : Checked → Answer
+passed (Fit s) = Answer.Done
+passed Unfit = Answer.Refused Refusal.Memory
+
+pub tested : (m : List ℕ) (ps : List Place) (x : Checked) → x ≡ checked m ps → passed x ≡ usability m ps
+unfolding usability checked
+tested m ps x e = ap passed e ∙ go (usable m ps)
+  where
+    go : (b : Bool) → passed (cond b (Fit (sizesIn (words m))) Unfit) ≡ cond b Answer.Done (Answer.Refused Refusal.Memory)
+    go true = refl
+    go false = refl

@@ -1,0 +1,2 @@
+-- The answer as C takes it, and what the exports' cores promise.
+pub mod Replies

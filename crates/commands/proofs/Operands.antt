@@ -1,6 +1,6 @@
 -- Numbers in bytes: a turn of the loop of `number`, and one of the loop of `values`.
-use Prim.Native.Nat.{ℕ, zero, suc, _+_, _-_, _*_, _/_, _^_, _≤_, _<_}
-use mathlib.Core.Path.{_≡_, refl, ap, sym, _∙_}
+use Prim.Native.Nat.{ℕ, zero, suc, _+_, _-_, _*_, _^_, _≤_, _<_}
+use mathlib.Core.Path.{_≡_, refl, ap, _∙_}
 use mathlib.Core.List.{List, [], _∷_, _++_, map}
 use native.Mathlib.Omega.{arith}
 use native.Mathlib.Nat.{pow-succ'}
@@ -12,7 +12,7 @@ use mir.Syntax.{w32}
 use mir.Val.{toZ}
 use Rattle.words.specs.Words.{words}
 use Rattle.words.proofs.Words.{length-words}
-use Rattle.commands.specs.Commands.{littleEndian, operand, values}
+use Rattle.commands.specs.Commands.{littleEndian, values}
 use Rattle.commands.specs.Decoded.{ZerosPast}
 
 -- ---- a number

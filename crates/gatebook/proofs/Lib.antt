@@ -1,2 +1,2 @@
--- Laws of the program's buffers.
-pub mod Buffers
+-- Laws of the program's turns.
+pub mod Answered

@@ -1,2 +1,2 @@
--- What the program's buffers hold.
-pub mod Buffers
+-- What a turn of the program leaves.
+pub mod Answered

@@ -1,143 +1,27 @@
 // The program `gatebook`: it reads the shape and commands from standard input and writes a line for each to standard output. It answers as it reads, so that
 // neither the input nor the output has to fit a buffer, and it writes what was answered before it waits for more input.
-use libc::STDIN_FILENO;
-use libc::STDOUT_FILENO;
+use buffers::Progress;
+use buffers::both;
+use buffers::fetch;
+use buffers::keep;
+use buffers::least;
+use buffers::make_room;
+use buffers::write_lines;
 use turns::columns_of;
 use turns::lent_list;
 use turns::lent_memory;
 use turns::operand_width;
 use turns::start;
 use turns::turn;
-ghost use mathlib.Core.Path.{_≡_};
-ghost use mathlib.Core.Bool.{_&&_};
-ghost use Prim.Native.Nat.{_+_, _≤_, _<_, min};
-ghost use lib.ListN.{length, getD, take};
+ghost use Prim.Native.Nat.{_+_, _≤_, _<_};
+ghost use lib.ListN.{length, getD};
 ghost use lib.Seq.{slice};
 ghost use Rattle.output.specs.Steps.{step};
 ghost use Rattle.turns.specs.Turns.{storeIn, storeMachine, firstStep, capped};
-ghost use Rattle.gatebook.specs.Buffers.{Inside, Fetched, Kept, Answered};
+ghost use Rattle.buffers.specs.Buffers.{Inside};
+ghost use Rattle.gatebook.specs.Answered.{Answered};
 
 const SHAPE_BYTES: usize = 6;
-
-// The most bytes of a line.
-const LINE: usize = 64;
-
-// How far the program is: the bytes of the input buffer from `from` to `to` are read and not yet answered, the first `used` bytes of the output buffer are
-// still to be written, and whether the program goes on.
-struct Progress {
-    from: usize,
-    to: usize,
-    used: usize,
-    on: bool,
-}
-
-fn least(a: usize, b: usize) -> usize
-    ensures { λ r. ⌜ (r ≡ min a b) × (r ≤ a) × (r ≤ b) ⌝ }
-{
-    if a < b { a } else { b }
-}
-
-fn both(a: bool, b: bool) -> bool
-    ensures { λ r. ⌜ r ≡ (a && b) ⌝ }
-{
-    if a { b } else { false }
-}
-
-// The n bytes from `from` on move to the front.
-fn move_down(buffer: &mut [u8], from: usize, n: usize)
-    requires { ⌜ from + n ≤ length (now buffer) ⌝ }
-    ensures { λ _. ⌜ take n (now (buffer .exit)) ≡ slice from (from + n) (now (buffer .entry)) ⌝ }
-{
-    let mut i = 0;
-    while i < n {
-        buffer[i] = buffer[from + i];
-        i += 1;
-    }
-}
-
-// One read behind the first `to` bytes of the buffer. It answers how many bytes came, 0 at the end of the input and where the read fails.
-fn read_behind(buffer: &mut [u8], to: usize) -> usize
-    requires { ⌜ to ≤ length (now buffer) ⌝ }
-    ensures { λ r. ⌜ (to + r ≤ length (now (buffer .entry))) × (take to (now (buffer .exit)) ≡ take to (now (buffer .entry))) ⌝ }
-{
-    let part = &mut buffer[to..];
-    let got = libc::read(STDIN_FILENO, part);
-    io::count(got, part)
-}
-
-// Reads until the buffer holds as many bytes as are wanted, or the input ends. It answers how many it holds.
-fn fill(buffer: &mut [u8], have: usize, wanted: usize) -> usize
-    requires { ⌜ have ≤ length (now buffer) ⌝ }
-    ensures { λ r. ⌜ (have ≤ r) × (r ≤ length (now (buffer .entry))) × (take have (now (buffer .exit)) ≡ take have (now (buffer .entry))) ⌝ }
-{
-    let mut to = have;
-    while to < wanted {
-        let more = read_behind(buffer, to);
-        if more == 0 {
-            break;
-        }
-        to += more;
-    }
-    to
-}
-
-// Writes the first n bytes of the lines. It answers whether all could be written.
-fn write_lines(lines: &[u8], n: usize) -> bool
-    requires { ⌜ n ≤ length (now lines) ⌝ }
-{
-    io::write_all(STDOUT_FILENO, &lines[..n])
-}
-
-// Has the wanted bytes in the input buffer, fewer only where the input ends. Before it waits for more, it writes what was answered.
-fn fetch(input: &mut [u8], lines: &[u8], p: Progress, wanted: usize) -> Progress
-    requires { ⌜ Inside p (now input) (now lines) ⌝ }
-    ensures { λ r. ⌜ Fetched p r (now (input .entry)) (now (input .exit)) (now (lines .entry)) ⌝ }
-{
-    let from = p.from;
-    let have = p.to - from;
-    if wanted <= have {
-        return p;
-    }
-    let done = write_lines(lines, p.used);
-    move_down(input, from, have);
-    let to = fill(input, have, wanted);
-    Progress {
-        from: 0,
-        to,
-        used: 0,
-        on: both(p.on, done),
-    }
-}
-
-// The first n bytes of a line go into the buffer of lines, at `at`.
-fn keep(lines: &mut [u8], at: usize, line: &[u8; 64], n: usize)
-    requires { ⌜ (at + n ≤ length (now lines)) × (n ≤ 64) ⌝ }
-    ensures { λ _. ⌜ Kept (now (lines .entry)) (now (lines .exit)) at (now (line .entry)) n ⌝ }
-{
-    let mut i = 0;
-    while i < n {
-        lines[at + i] = line[i];
-        i += 1;
-    }
-}
-
-// Writes what was answered, if the buffer has no room for another line.
-fn make_room(lines: &[u8], p: Progress) -> Progress
-    requires { ⌜ (64 ≤ length (now lines)) × (p .used ≤ length (now lines)) ⌝ }
-    ensures { λ r. ⌜ (r .from ≡ p .from) × (r .to ≡ p .to) × (r .used + 64 ≤ length (now (lines .entry))) ⌝ }
-{
-    let used = p.used;
-    if LINE <= lines.len() - used {
-        return p;
-    }
-    let done = write_lines(lines, used);
-    Progress {
-        from: p.from,
-        to: p.to,
-        used: 0,
-        on: both(p.on, done),
-    }
-}
 
 // The turn of the shape, whose bytes are at the front of the input buffer, as many as there are.
 fn answer_shape(

@@ -1,6 +1,6 @@
 -- Going step by step gives `output`. What makes them the same: no answer of the plain history ends the program, and behind a refused byte nothing is left.
-use Prim.Native.Nat.{ℕ, zero, suc, _≤_, _<_}
-use mathlib.Core.Path.{_≡_, refl, ap, sym, _∙_}
+use Prim.Native.Nat.{ℕ, zero, suc, _≤_}
+use mathlib.Core.Path.{_≡_, refl, ap}
 use mathlib.Core.Bool.{Bool, true, false, cond, _&&_, false≢true}
 use mathlib.Core.List.{List, [], _∷_, _++_, append-nil}
 use native.Mathlib.Omega.{arith}
@@ -11,9 +11,8 @@ use borrow.Author.Tests.{leb-false, leb-true, le-leb}
 use Rattle.terms.specs.Measures.{Shape, between, withinLimits, mostColumns, mostRanges, mostRecords, mostSpares}
 use Rattle.terms.specs.declared.Refusal.{Refusal}
 use Rattle.terms.specs.declared.Answer.{Answer}
-use Rattle.history.specs.History.{Call, begin, insert, update, delete, commit, abort, latest, readAt, ownRead, openScan, scanRead, sum, close, merge, release, pageCell, lineage, History, start, Test, tests, verdict, accept, refuse, Verdict, reply, read, visible, versionOf, sumOf, answer, answers, answerIf, next}
+use Rattle.history.specs.History.{Call, begin, insert, update, delete, commit, abort, latest, readAt, ownRead, openScan, scanRead, sum, close, merge, release, pageCell, lineage, History, start, Test, tests, verdict, refuse, reply, read, visible, versionOf, sumOf, answer, answers, answerIf, next}
 use Rattle.lines.specs.Lines.{line, shapeLine}
-use Rattle.commands.specs.declared.Form.{Form}
 use Rattle.commands.specs.declared.Chosen.{Chosen}
 use Rattle.commands.specs.Commands.{chosen, width, callFrom, Item, itemAt, behind, items, script, cutShape, parse, shapeBytes, shapeFrom}
 use Rattle.commands.proofs.Parts.{whole, call-part}

@@ -19,7 +19,7 @@ use Rattle.facts.proofs.Usable.{usable-tells}
 use Rattle.making.specs.Made.{made}
 use Rattle.history.specs.History.{Call, Verdict, accept, refuse, verdict}
 use Rattle.model.specs.Calls.{testsIn, actIn, placesAfter, viewIf, placesIf, viewNext, placesNext}
-use Rattle.promise.specs.Promise.{storeView, answerOf, memoryAfter, listAfter, Answers, Leaves}
+use Rattle.promise.specs.Promise.{storeView, memoryAfter, listAfter, Answers, Leaves}
 use Rattle.upkeep.specs.declared.Listed.{Listed}
 use Rattle.upkeep.specs.Lists.{Lists}
 use Rattle.commands.specs.declared.Request.{Request}

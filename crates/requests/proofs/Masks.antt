@@ -15,9 +15,9 @@ use Rattle.words.specs.Words.{words}
 use Rattle.layout.specs.View.{View, lay}
 use Rattle.layout.proofs.Limits.{limited}
 use Rattle.facts.specs.Usable.{shapeIn, sizesIn, usable}
-use Rattle.history.specs.History.{Call, update, Verdict, accept, refuse, verdict, answerIf, badMask}
-use Rattle.model.specs.Calls.{notOpenIn, notGivenIn, testsIn, replyIn, actIn, placesAfter, viewIf, placesIf, say, viewNext, placesNext}
-use Rattle.promise.specs.Promise.{storeView, answerOf, memoryAfter, listAfter}
+use Rattle.history.specs.History.{update, Verdict, refuse, verdict, answerIf, badMask}
+use Rattle.model.specs.Calls.{notOpenIn, notGivenIn, testsIn, replyIn, actIn, placesAfter, viewIf, say, viewNext}
+use Rattle.promise.specs.Promise.{storeView, answerOf, memoryAfter}
 use Rattle.calls.specs.Serves.{Serves}
 use Rattle.facts.proofs.Usable.{usable-tells}
 use native.Mathlib.Nat.{pow-le-pow-right}

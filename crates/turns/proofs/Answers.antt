@@ -1,7 +1,7 @@
 -- What is due for a shape, for a command byte and for a command's operands, case by case.
 use Prim.Native.Nat.{ℕ, _+_, _*_, _≤_, _<_}
 use native.Mathlib.Omega.{arith}
-use mathlib.Core.Path.{_≡_, refl, ap, sym, _∙_}
+use mathlib.Core.Path.{_≡_, ap, sym, _∙_}
 use mathlib.Core.Bool.{Bool, true, false, cond}
 use mathlib.Core.List.{List}
 use lib.ListN.{length}
@@ -11,20 +11,17 @@ use Rattle.terms.specs.declared.Answer.{Answer}
 use Rattle.terms.specs.declared.Place.{Place}
 use Rattle.terms.specs.declared.Refusal.{Refusal}
 use Rattle.making.specs.Made.{made}
-use Rattle.history.specs.History.{Call}
 use Rattle.lines.specs.Written.{Rendered}
 use Rattle.commands.specs.declared.Form.{Form}
 use Rattle.commands.specs.declared.Chosen.{Chosen}
 use Rattle.commands.specs.declared.Request.{Request}
-use Rattle.commands.specs.Commands.{width, callFrom, shapeBytes, shapeFrom, chosen, Narrow, Small}
+use Rattle.commands.specs.Commands.{width, callFrom, shapeBytes, shapeFrom, Narrow, Small}
 use Rattle.commands.specs.Decoded.{callIn, ZerosPast}
 use Rattle.output.specs.Output.{lent, goesOn}
-use Rattle.output.specs.Steps.{answerTo, stateAfter, Step, step}
-use Rattle.lent.specs.Lent.{isAccepted, freedIf}
+use Rattle.output.specs.Steps.{answerTo, stateAfter, Step}
 use Rattle.calls.specs.Serves.{Serves, Makes}
 use Rattle.requests.specs.Asked.{asked}
 use Rattle.requests.proofs.Values.{served-call}
-use Rattle.turns.specs.declared.Outcome.{Outcome}
 use Rattle.turns.specs.Turns.{Store, storeMachine, makingAnswer, madeStore, firstAnswer, firstStore, columnsFrom, operandWidth, Does, Turned}
 
 -- ---- the shape

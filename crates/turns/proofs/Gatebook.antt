@@ -1,27 +1,27 @@
 -- `gatebook` writes what it must write, for every input: demand 3 says that the store's answers are the plain history's.
 use Prim.Native.Nat.{ℕ, _*_, _≤_}
 use mathlib.Core.Path.{_≡_, refl, ap, sym, subst, _∙_}
-use mathlib.Core.Bool.{Bool, true, false, cond, _&&_}
+use mathlib.Core.Bool.{Bool, true, false, cond}
 use mathlib.Core.List.{List, [], _∷_, _++_}
 use native.Mathlib.Omega.{arith}
 use native.Mathlib.Nat.{mul-le-mul}
 use lib.Dec.{T, leb}
-use lib.ListN.{length, take, drop}
+use lib.ListN.{length, drop}
 use borrow.Author.Tests.{lt-ltb}
-use Rattle.terms.specs.Measures.{Shape, withinLimits, mostScans, mostColumns}
+use Rattle.terms.specs.Measures.{Shape, mostScans, mostColumns}
 use Rattle.terms.specs.declared.Answer.{Answer}
 use Rattle.terms.specs.declared.Place.{Place}
 use Rattle.terms.specs.declared.Refusal.{Refusal}
 use Rattle.words.proofs.Words.{Bytes}
 use Rattle.loops.proofs.Search.{and-true, between-tells}
 use Rattle.layout.specs.Regions.{need}
-use Rattle.layout.specs.Sizes.{sizesOf, bytesNeeded}
+use Rattle.layout.specs.Sizes.{bytesNeeded}
 use Rattle.making.specs.Made.{made, madeList}
 use Rattle.history.specs.History.{Call, History, start, answers}
 use Rattle.lines.specs.Lines.{shapeLine}
 use Rattle.commands.specs.Commands.{shapeBytes, shapeFrom}
 use Rattle.commands.proofs.Parts.{whole, shape-part}
-use Rattle.output.specs.Output.{lent, shapeAnswer, goesOn, output}
+use Rattle.output.specs.Output.{lent, shapeAnswer, goesOn}
 use Rattle.output.specs.Steps.{historyOf, steps, session, written}
 use Rattle.output.proofs.Steps.{lent-within, written-is-output}
 use Rattle.promise.specs.Promise.{answersOf}

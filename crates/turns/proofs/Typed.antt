@@ -1,24 +1,22 @@
 -- A call that is parsed from bytes has numbers that fit the types of its operands.
-use Prim.Native.Nat.{ℕ, zero, suc, _+_, _*_, _^_, _≤_, _<_}
-use mathlib.Core.Path.{_≡_, refl, ap, sym, subst, _∙_}
+use Prim.Native.Nat.{ℕ, zero, suc, _+_, _^_, _≤_, _<_}
+use mathlib.Core.Path.{_≡_, subst}
 use mathlib.Core.List.{List, [], _∷_, map}
 use native.Mathlib.Omega.{arith}
 use native.Mathlib.Nat.{pow-succ', pow-le-pow-right}
-use lib.IntN.{ℤ}
 use lib.ListN.{length, getD, take, drop, length-take, length-drop}
 use lib.Seq.{getD-drop}
 use mir.Syntax.{w32}
-use mir.Val.{toZ, SFits, Fits}
+use mir.Val.{toZ, SFits}
 use mir.ValLaws.{toZ-fits}
 use Rattle.terms.specs.declared.Refusal.{Refusal}
 use Rattle.words.specs.Words.{words}
 use Rattle.words.proofs.Words.{Bytes, Fit, words-fit, take-fit}
-use Rattle.history.specs.History.{Call}
 use Rattle.history.proofs.Lists.{All}
 use Rattle.model.specs.Calls.{Typed, Values}
 use Rattle.commands.specs.declared.Form.{Form}
 use Rattle.commands.specs.declared.Chosen.{Chosen}
-use Rattle.commands.specs.Commands.{littleEndian, operand, values, callOf, callFrom, chosen, commands, valueCount}
+use Rattle.commands.specs.Commands.{littleEndian, operand, values, callOf, callFrom, chosen, commands}
 
 -- ---- numbers in bytes
 pub bytes-take : (n : ℕ) (l : List ℕ) → Bytes l → Bytes (take n l)

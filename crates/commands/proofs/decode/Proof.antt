@@ -1,7 +1,5 @@
 -- `commands::decode` meets its contract: each number and the values are those of the definition.
-use mathlib.Core.Path.{_≡_, ap}
 use borrow.Author.Needs.{needs}
-use lib.ListN.{length}
 use borrow.Rule.Slice.PartAt.{part-to-end}
 use Rattle.commands.specs.Commands.{callFrom}
 use Rattle.commands.proofs.decode.Statement.{statement}

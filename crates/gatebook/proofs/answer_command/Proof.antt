@@ -2,7 +2,7 @@
 use borrow.Author.Needs.{needs}
 use mathlib.Core.Path.{refl}
 use native.Mathlib.Omega.{arith}
-use Rattle.gatebook.proofs.Buffers.{answered-command}
+use Rattle.gatebook.proofs.Answered.{answered-command}
 use Rattle.gatebook.proofs.answer_command.Statement.{statement}
 use Rattle.gatebook.proofs.answer_command.Tie as tie
 

@@ -3,7 +3,7 @@ use mathlib.Core.Path.{_≡_, refl}
 use native.Mathlib.Omega.{arith}
 use borrow.Author.Tests.{ltb-true}
 use lib.ListN.{length}
-use Rattle.gatebook.specs.Buffers.{Inside}
+use Rattle.buffers.specs.Buffers.{Inside}
 use Rattle.gatebook.proofs.answer_commands.Statement.{statement}
 use Rattle.gatebook.proofs.answer_commands.Tie as tie
 

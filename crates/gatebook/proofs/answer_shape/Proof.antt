@@ -2,7 +2,7 @@
 use borrow.Author.Needs.{needs}
 use mathlib.Core.Path.{refl}
 use native.Mathlib.Omega.{arith}
-use Rattle.gatebook.proofs.Buffers.{answered-shape}
+use Rattle.gatebook.proofs.Answered.{answered-shape}
 use Rattle.gatebook.proofs.answer_shape.Statement.{statement}
 use Rattle.gatebook.proofs.answer_shape.Tie as tie
 

@@ -1,11 +1,11 @@
--- `gatebook::fill` meets its contract. The invariant: the bytes that were there are as they were. Each turn leaves less room.
+-- `buffers::fill` meets its contract. The invariant: the bytes that were there are as they were. Each turn leaves less room.
 use Prim.Native.Nat.{_-_, _≤_}
 use mathlib.Core.Path.{_≡_, refl, _∙_}
 use native.Mathlib.Omega.{arith}
 use lib.ListN.{length, take}
-use Rattle.gatebook.proofs.Buffers.{front}
-use Rattle.gatebook.proofs.fill.Statement.{statement}
-use Rattle.gatebook.proofs.fill.Tie as tie
+use Rattle.buffers.proofs.Buffers.{front}
+use Rattle.buffers.proofs.fill.Statement.{statement}
+use Rattle.buffers.proofs.fill.Tie as tie
 
 abbrev Inv-loop : tie.InvT-loop
 Inv-loop buffer₀ have wanted to₀ buffer to = (have ≤ to) × (to ≤ length buffer₀) × (length buffer ≡ length buffer₀) × (take have buffer ≡ take have buffer₀)

@@ -1,10 +1,10 @@
--- `gatebook::read_behind` meets its contract: what is read goes behind the first bytes.
+-- `buffers::read_behind` meets its contract: what is read goes behind the first bytes.
 use borrow.Author.Needs.{needs}
 use Prim.Native.Nat.{_-_}
 use lib.ListN.{length}
 use borrow.Rule.Slice.PartMut.{take-put}
-use Rattle.gatebook.proofs.read_behind.Statement.{statement}
-use Rattle.gatebook.proofs.read_behind.Tie as tie
+use Rattle.buffers.proofs.read_behind.Statement.{statement}
+use Rattle.buffers.proofs.read_behind.Tie as tie
 
 returns : tie.Need-returns
 returns c =

@@ -1,13 +1,13 @@
--- `gatebook::move_down` meets its contract. The invariant: the first i bytes are moved, and from the i-th on the buffer is as it was.
+-- `buffers::move_down` meets its contract. The invariant: the first i bytes are moved, and from the i-th on the buffer is as it was.
 use Prim.Native.Nat.{ℕ, _+_, _-_, _≤_}
 use mathlib.Core.Path.{_≡_, refl, sym}
 use native.Mathlib.Omega.{arith}
 use native.Mathlib.Nat.{add-zero}
 use lib.ListN.{length, getD, take, length-set}
 use lib.Seq.{slice, slice-empty}
-use Rattle.gatebook.proofs.Buffers.{move-next, move-rest}
-use Rattle.gatebook.proofs.move_down.Statement.{statement}
-use Rattle.gatebook.proofs.move_down.Tie as tie
+use Rattle.buffers.proofs.Buffers.{move-next, move-rest}
+use Rattle.buffers.proofs.move_down.Statement.{statement}
+use Rattle.buffers.proofs.move_down.Tie as tie
 
 abbrev Inv-loop : tie.InvT-loop
 Inv-loop buffer₀ from n i₀ buffer i =

@@ -1,12 +1,12 @@
--- `gatebook::keep` meets its contract. The invariant: the first i bytes of the line stand behind what was there.
+-- `buffers::keep` meets its contract. The invariant: the first i bytes of the line stand behind what was there.
 use Prim.Native.Nat.{_-_, _≤_}
 use mathlib.Core.Path.{_≡_, refl}
 use native.Mathlib.Omega.{arith}
 use lib.ListN.{length, length-set}
-use Rattle.gatebook.specs.Buffers.{Kept}
-use Rattle.gatebook.proofs.Buffers.{keep-none, keep-next}
-use Rattle.gatebook.proofs.keep.Statement.{statement}
-use Rattle.gatebook.proofs.keep.Tie as tie
+use Rattle.buffers.specs.Buffers.{Kept}
+use Rattle.buffers.proofs.Buffers.{keep-none, keep-next}
+use Rattle.buffers.proofs.keep.Statement.{statement}
+use Rattle.buffers.proofs.keep.Tie as tie
 
 abbrev Inv-loop : tie.InvT-loop
 Inv-loop lines₀ at line n i₀ lines i = (i ≤ n) × (length lines ≡ length lines₀) × Kept lines₀ lines at line i

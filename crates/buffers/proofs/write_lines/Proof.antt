@@ -1,9 +1,9 @@
--- `gatebook::write_lines` meets its contract.
+-- `buffers::write_lines` meets its contract.
 use mathlib.Core.Path.{sym}
 use borrow.Author.Needs.{needs}
 use lib.Seq.{length-take-le}
-use Rattle.gatebook.proofs.write_lines.Statement.{statement}
-use Rattle.gatebook.proofs.write_lines.Tie as tie
+use Rattle.buffers.proofs.write_lines.Statement.{statement}
+use Rattle.buffers.proofs.write_lines.Tie as tie
 
 slice-aggregate-write-all : tie.Need-slice-aggregate-write-all
 slice-aggregate-write-all c = sym (length-take-le _ _ (c .before .before .pre))

@@ -1,13 +1,10 @@
--- What the program's two buffers hold: of the input the bytes that are read and not yet answered, of the output the lines that are still to be written.
-use Prim.Native.Nat.{ℕ, _+_, _-_, _≤_, _<_, min}
+-- What the two buffers hold: of the input the bytes that are read and not yet answered, of the output the lines that are still to be written.
+use Prim.Native.Nat.{ℕ, _+_, _-_, _≤_, _<_}
 use mathlib.Core.Path.{_≡_}
-use mathlib.Core.Bool.{_&&_}
 use mathlib.Core.List.{List}
 use lib.ListN.{length, getD, take}
 use lib.Seq.{slice}
-use Rattle.output.specs.Steps.{Step}
-use Rattle.turns.specs.Turns.{Store}
-use Rattle.gatebook.specs.declared.Progress.{Progress}
+use Rattle.buffers.specs.declared.Progress.{Progress}
 
 -- the bytes that are not yet answered
 abbrev pub waiting : Progress → List ℕ → List ℕ
@@ -32,13 +29,3 @@ pub record Fetched (p q : Progress) (old new lines : List ℕ) : Type 0 where
 pub record Kept (old new : List ℕ) (at : ℕ) (line : List ℕ) (n : ℕ) : Type 0 where
   pub before : take at new ≡ take at old
   pub behind : (k : ℕ) → k < n → getD new (at + k) 0 ≡ getD line k 0
-
--- A turn was made: at most so many bytes as were wanted are answered, the line of the step stands behind the lines, the program goes on if it did and the step
--- says so, and the store is as the step leaves it.
-pub record Answered (s : Step Store) (x : Store) (input old new : List ℕ) (p q : Progress) (wanted : ℕ) : Type 0 where
-  pub inside : Inside q input new
-  pub taken : q .from ≡ p .from + min (held p) wanted
-  pub kept : Kept old new (p .used) (s .line) (length (s .line))
-  pub grown : q .used ≡ p .used + length (s .line)
-  pub goes : q .on ≡ (p .on && s .on)
-  pub left : x ≡ s .state

@@ -1,10 +1,10 @@
--- `gatebook::fetch` meets its contract: the bytes that waited are moved to the front, and what is read goes behind them.
+-- `buffers::fetch` meets its contract: the bytes that waited are moved to the front, and what is read goes behind them.
 use borrow.Author.Needs.{needs}
 use mathlib.Core.Path.{refl}
 use native.Mathlib.Omega.{arith}
-use Rattle.gatebook.proofs.Buffers.{fetched-none, fetched-more}
-use Rattle.gatebook.proofs.fetch.Statement.{statement}
-use Rattle.gatebook.proofs.fetch.Tie as tie
+use Rattle.buffers.proofs.Buffers.{fetched-none, fetched-more}
+use Rattle.buffers.proofs.fetch.Statement.{statement}
+use Rattle.buffers.proofs.fetch.Tie as tie
 
 returns : tie.Need-returns
 returns c =

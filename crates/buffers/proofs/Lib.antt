@@ -1,0 +1,2 @@
+-- Laws of the buffers.
+pub mod Buffers

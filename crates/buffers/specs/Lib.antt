@@ -1,0 +1,2 @@
+-- What the buffers hold.
+pub mod Buffers

@@ -1,77 +1,25 @@
 -- What is due for each kind of call: one that changes no memory, one that changes no list, and one that changes one place of the list.
-use Prim.Native.Nat.{ℕ, _*_, _≤_}
-use mathlib.Core.Path.{_≡_, refl, sym, ap, subst, _∙_}
-use mathlib.Core.Bool.{Bool, true, false, cond}
+use Prim.Native.Nat.{ℕ}
+use mathlib.Core.Path.{_≡_, sym, ap, subst, _∙_}
+use mathlib.Core.Bool.{Bool}
 use mathlib.Core.List.{List}
 use lib.ListN.{length, set}
 use Rattle.terms.specs.Measures.{Shape}
 use Rattle.terms.specs.declared.Answer.{Answer}
 use Rattle.terms.specs.declared.Place.{Place}
-use Rattle.words.specs.Words.{words}
 use Rattle.words.proofs.Words.{Bytes}
-use Rattle.layout.specs.Regions.{need}
-use Rattle.layout.specs.View.{View, view, lay}
-use Rattle.layout.proofs.Lay.{lay-view}
 use Rattle.scans.specs.declared.Scans.{Scans}
 use Rattle.scans.specs.Table.{tableOf}
-use Rattle.facts.specs.Usable.{shapeIn, sizesIn, usable}
-use Rattle.facts.proofs.Usable.{usable-tells}
 use Rattle.making.specs.Made.{made}
-use Rattle.history.specs.History.{Call, Verdict, accept, refuse, verdict}
-use Rattle.model.specs.Calls.{testsIn, actIn, placesAfter, viewIf, placesIf, viewNext, placesNext}
-use Rattle.promise.specs.Promise.{storeView, memoryAfter, listAfter, Answers, Leaves}
+use Rattle.history.specs.History.{Call}
+use Rattle.promise.specs.Promise.{Answers, Leaves}
 use Rattle.upkeep.specs.declared.Listed.{Listed}
 use Rattle.upkeep.specs.Lists.{Lists}
 use Rattle.commands.specs.declared.Request.{Request}
 use Rattle.lent.specs.Lent.{isAccepted, freedIf}
 use Rattle.calls.specs.Serves.{Serves, Makes}
+use Rattle.calls.proofs.Served.{Reads, KeepsList, memory-kept, list-kept}
 use Rattle.requests.specs.Asked.{asked}
-
--- ---- a command that changes no view leaves the memory, and one that changes no list leaves it
-
-abbrev pub Reads : Call → Type 0
-Reads x = (S : Shape) (v : View) (ps : List Place) → actIn S v ps x ≡ v
-
-abbrev pub KeepsList : Call → Type 0
-KeepsList x = (v : View) (ps : List Place) → placesAfter v ps x ≡ ps
-
-same-view : (w : Verdict) (v : View) → viewIf w v v ≡ v
-unfolding viewIf
-same-view accept v = refl
-same-view (refuse n) v = refl
-
-same-places : (w : Verdict) (ps : List Place) → placesIf w ps ps ≡ ps
-unfolding placesIf
-same-places accept ps = refl
-same-places (refuse n) ps = refl
-
-pub memory-kept : (m : List ℕ) (ps : List Place) (x : Call) → Bytes m → Reads x → m ≡ memoryAfter m ps x
-unfolding memoryAfter viewNext storeView
-memory-kept m ps x b q = go (usable m ps) (λ e. usable-tells m ps e .room)
-  where
-    S : Shape
-    S = shapeIn (words m)
-
-    go : (f : Bool) → (f ≡ true → need (sizesIn (words m)) * 4 ≤ length m)
-        → m ≡ cond f (lay (sizesIn (words m)) (viewNext S (view (sizesIn (words m)) (words m)) ps x) m) m
-    go true h =
-        sym
-        (ap (λ (v : View). lay (sizesIn (words m)) v m)
-        (ap (viewIf (verdict (testsIn S (view (sizesIn (words m)) (words m)) ps x)) (view (sizesIn (words m)) (words m))) (q S (view (sizesIn (words m)) (words m)) ps)
-        ∙ same-view _ _)
-        ∙ lay-view (sizesIn (words m)) m b (h refl))
-    go false h = refl
-
-pub list-kept : (m : List ℕ) (ps : List Place) (x : Call) → KeepsList x → ps ≡ listAfter m ps x
-unfolding listAfter placesNext storeView
-list-kept m ps x q = go (usable m ps)
-  where
-    v : View
-    v = view (sizesIn (words m)) (words m)
-
-    go : (f : Bool) → ps ≡ cond f (placesNext (shapeIn (words m)) v ps x) ps
-    go true = sym (ap (placesIf (verdict (testsIn (shapeIn (words m)) v ps x)) ps) (q v ps) ∙ same-places _ _)
-    go false = refl
 
 -- ---- a call is served
 

@@ -21,7 +21,7 @@ use Rattle.promise.specs.Promise.{storeView, answerOf, memoryAfter}
 use Rattle.calls.specs.Serves.{Serves}
 use Rattle.facts.proofs.Usable.{usable-tells}
 use native.Mathlib.Nat.{pow-le-pow-right}
-use Rattle.requests.proofs.Arms.{list-kept}
+use Rattle.calls.proofs.Served.{list-kept}
 
 -- ---- what an update with a refused mask answers and leaves, by the two tests before the mask's
 

@@ -17,7 +17,7 @@ use Rattle.commands.specs.declared.Chosen.{Chosen}
 use Rattle.commands.specs.Commands.{chosen, width, callFrom, Item, itemAt, behind, items, script, cutShape, parse, shapeBytes, shapeFrom}
 use Rattle.commands.proofs.Parts.{whole, call-part}
 use Rattle.output.specs.Output.{lent, shapeAnswer, goesOn, calls, linesOf, outputOf, output}
-use Rattle.output.specs.Steps.{Machine, historyOf, operandsOf, answerTo, stateAfter, steps, session, written}
+use Rattle.output.specs.Steps.{Machine, historyOf, operandsOf, answerTo, stateAfter, steps, linesFrom, written}
 
 -- ---- no answer of the plain history ends the program
 abbrev allGoOn : List Test → Bool
@@ -157,7 +157,7 @@ shape-step s l = go (lent s)
     go false = refl
 
 pub written-is-output : (bs : List ℕ) → written bs ≡ output bs
-unfolding written session output parse outputOf goesOn
+unfolding written linesFrom output parse outputOf goesOn
 written-is-output bs = go (leb shapeBytes (length bs))
   where
     s : Shape

@@ -60,13 +60,13 @@ steps (suc most) m columns x (byte ∷ bs) =
     s .line ++ cond (s .on) (steps most m columns (s .state) (behind columns (chosen byte) bs)) []
 
 -- all that is written for the input bs: the shape was answered `a` and left the state x
-unfoldable pub session : {State : Type 0} → Answer → Machine State → ℕ → State → List ℕ → List ℕ
-session a m columns x bs = shapeLine a ++ cond (goesOn a) (steps (length bs) m columns x (drop shapeBytes bs)) []
+unfoldable pub linesFrom : {State : Type 0} → Answer → Machine State → ℕ → State → List ℕ → List ℕ
+linesFrom a m columns x bs = shapeLine a ++ cond (goesOn a) (steps (length bs) m columns x (drop shapeBytes bs)) []
 
 -- with the plain history
 unfoldable pub written : List ℕ → List ℕ
 written bs =
-    session
+    linesFrom
     (cond (leb shapeBytes (length bs)) (shapeAnswer (shapeFrom bs)) (Answer.Refused Refusal.Cut))
     (historyOf (shapeFrom bs))
     (shapeFrom bs .columns)

@@ -22,7 +22,7 @@ use Rattle.lines.specs.Lines.{shapeLine}
 use Rattle.commands.specs.Commands.{shapeBytes, shapeFrom}
 use Rattle.commands.proofs.Parts.{whole, shape-part}
 use Rattle.output.specs.Output.{lent, shapeAnswer, goesOn}
-use Rattle.output.specs.Steps.{historyOf, steps, session, written}
+use Rattle.output.specs.Steps.{historyOf, steps, linesFrom, written}
 use Rattle.output.proofs.Steps.{lent-within, written-is-output}
 use Rattle.promise.specs.Promise.{answersOf}
 use Rattle.promise.specs.Demands.{Accepted, memoryMade, storeAnswers, MakingAccepted, Demand3}
@@ -86,15 +86,15 @@ unfolding Demand3 storeAnswers
 store-alike x S a cs t =
     store-answers (memoryMade S (x .memory) (x .list)) (madeList (x .list)) cs ∙ demand3 S (x .memory) (x .list) a cs t ∙ sym (history-answers S start cs)
 
--- ---- a session
+-- ---- all lines of an input
 small-columns : (S : Shape) → lent S ≡ true → capped (S .columns) ≡ S .columns
 unfolding capped
 small-columns S e = let l = lent-to S e .columns in rw (lt-ltb (S .columns) mostColumns (omega arith))
 
-made-session : (x : Store) (S : Shape) (bs : List ℕ) → Bytes bs → bytesNeeded largest ≤ length (x .memory) → mostScans ≤ length (x .list)
-    → session (makingAnswer x S) storeMachine (capped (S .columns)) (madeStore x S) bs ≡ session (shapeAnswer S) (historyOf S) (S .columns) start bs
-unfolding session makingAnswer madeStore shapeAnswer goesOn
-made-session x S bs b h k = go (lent S) refl
+made-lines : (x : Store) (S : Shape) (bs : List ℕ) → Bytes bs → bytesNeeded largest ≤ length (x .memory) → mostScans ≤ length (x .list)
+    → linesFrom (makingAnswer x S) storeMachine (capped (S .columns)) (madeStore x S) bs ≡ linesFrom (shapeAnswer S) (historyOf S) (S .columns) start bs
+unfolding linesFrom makingAnswer madeStore shapeAnswer goesOn
+made-lines x S bs b h k = go (lent S) refl
   where
     ms : Answer × List ℕ
     ms = made S (length (x .list)) (x .memory)
@@ -116,7 +116,7 @@ made-session x S bs b h k = go (lent S) refl
     go false e = refl
 
 pub gatebook-writes : GatebookWrites
-unfolding GatebookWrites gatebook firstAnswer firstStore columnsFrom written session goesOn
+unfolding GatebookWrites gatebook firstAnswer firstStore columnsFrom written linesFrom goesOn
 gatebook-writes x bs b h k =
     rw (whole shapeBytes bs, shape-part bs) (go (leb shapeBytes (length bs)) ∙ written-is-output bs)
   where
@@ -124,7 +124,7 @@ gatebook-writes x bs b h k =
     S = shapeFrom bs
 
     go : (c : Bool)
-        → session (cond c (makingAnswer x S) (Answer.Refused Refusal.Cut)) storeMachine (capped (cond c (S .columns) 0)) (cond c (madeStore x S) x) bs
-        ≡ session (cond c (shapeAnswer S) (Answer.Refused Refusal.Cut)) (historyOf S) (S .columns) start bs
-    go true = made-session x S bs b h k
+        → linesFrom (cond c (makingAnswer x S) (Answer.Refused Refusal.Cut)) storeMachine (capped (cond c (S .columns) 0)) (cond c (madeStore x S) x) bs
+        ≡ linesFrom (cond c (shapeAnswer S) (Answer.Refused Refusal.Cut)) (historyOf S) (S .columns) start bs
+    go true = made-lines x S bs b h k
     go false = refl

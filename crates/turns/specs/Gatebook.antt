@@ -8,13 +8,13 @@ use Rattle.words.proofs.Words.{Bytes}
 use Rattle.layout.specs.Sizes.{shapeOf, bytesNeeded}
 use Rattle.commands.specs.Commands.{shapeBytes}
 use Rattle.output.specs.Output.{output}
-use Rattle.output.specs.Steps.{session}
+use Rattle.output.specs.Steps.{linesFrom}
 use Rattle.turns.specs.Turns.{Store, storeMachine, firstAnswer, firstStore, columnsFrom, capped}
 
 -- All that is written for the input bs by the turns that the code makes, in the memory and scan list x: the shape's, and then a command's after another.
 unfoldable pub gatebook : Store → List ℕ → List ℕ
 gatebook x bs =
-    session (firstAnswer x (take shapeBytes bs)) storeMachine (capped (columnsFrom (take shapeBytes bs))) (firstStore x (take shapeBytes bs)) bs
+    linesFrom (firstAnswer x (take shapeBytes bs)) storeMachine (capped (columnsFrom (take shapeBytes bs))) (firstStore x (take shapeBytes bs)) bs
 
 -- the largest shape that memory is lent for
 abbrev pub largest : Shape

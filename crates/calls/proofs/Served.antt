@@ -8,8 +8,7 @@ use lib.ListN.{length, set}
 use Rattle.terms.specs.Measures.{Shape}
 use Rattle.terms.specs.declared.Answer.{Answer}
 use Rattle.terms.specs.declared.Place.{Place}
-use Rattle.words.specs.Words.{words}
-use Rattle.words.proofs.Words.{Bytes}
+use Rattle.words.specs.Words.{words, Bytes}
 use Rattle.layout.specs.Regions.{need}
 use Rattle.layout.specs.View.{View, view, lay}
 use Rattle.layout.proofs.Lay.{lay-view}

@@ -7,10 +7,10 @@ use Rattle.terms.specs.Measures.{Shape, mostScans}
 use Rattle.terms.specs.declared.Answer.{Answer}
 use Rattle.terms.specs.declared.Place.{Place}
 use Rattle.terms.specs.declared.Refusal.{Refusal}
-use Rattle.words.proofs.Words.{Bytes}
+use Rattle.words.specs.Words.{Bytes}
 use Rattle.scans.specs.Places.{allFreed}
 use Rattle.history.specs.History.{Call, start, answers}
-use Rattle.history.proofs.Lists.{All}
+use Rattle.history.specs.Lists.{All}
 use Rattle.model.specs.Calls.{Typed}
 use Rattle.calls.specs.Serves.{Serves, Makes}
 

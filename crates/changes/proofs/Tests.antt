@@ -18,7 +18,8 @@ use Rattle.layout.specs.View.{View, view}
 use Rattle.layout.proofs.View.{view-long}
 use Rattle.history.specs.History.{Call, accept, verdict, any, rangeOf}
 use Rattle.history.proofs.Accepted.{passed}
-use Rattle.model.specs.Stored.{place, usedIn, headerIn, rowsGiven}
+use Rattle.terms.specs.Places.{place}
+use Rattle.model.specs.Stored.{usedIn, headerIn, rowsGiven}
 use Rattle.model.specs.Writing.{recordsWanted}
 use Rattle.model.specs.Calls.{notGivenIn, lacksIn, testsIn}
 use Rattle.model.specs.Asked.{shapeIn, Proper, Counted, Linked, FreeAt}

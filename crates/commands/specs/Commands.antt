@@ -1,7 +1,7 @@
 -- What the bytes that `gatebook` reads mean: document 01, "Commands". "The program `gatebook` reads standard input: columns (1 byte), ranges (1), tail (2),
 -- spares (2), then commands. A command is one byte with operands of fixed widths, little-endian, chosen by its value in hexadecimal". Every definition here
 -- is executable.
-use mathlib.Core.Bool.{Bool, true, false, cond}
+use mathlib.Core.Bool.{true, false, cond}
 use mathlib.Core.List.{List, [], _∷_, map}
 use Prim.Native.Nat.{ℕ, zero, suc, _+_, _*_, _≤_}
 use lib.Dec.{leb}

@@ -1,12 +1,12 @@
 -- The search among the open places: the first place of a number other than 0 is the place of that transaction.
-use Prim.Native.Nat.{ℕ, suc, _+_, _*_, _≤_, _<_}
+use Prim.Native.Nat.{ℕ, suc, _+_, _*_, _≤_}
 use mathlib.Core.Path.{_≡_, refl, sym, _∙_, ap}
 use mathlib.Core.Bool.{Bool, true, false, not, cond, _&&_, _||_, not-and-self, and-false}
 use mathlib.Core.List.{List, [], _∷_}
 use native.Mathlib.Omega.{arith}
 use native.Mathlib.Nat.{add-zero, zero-add}
 use lib.Dec.{eqb}
-use lib.ListN.{length, take}
+use lib.ListN.{length}
 use lib.Seq.{take-all}
 use borrow.Author.Tests.{eqb-true, ne-eqb}
 use Rattle.terms.specs.Measures.{mostTransactions}
@@ -21,7 +21,8 @@ use Rattle.layout.specs.Regions.{need}
 use Rattle.layout.specs.View.{View, view}
 use Rattle.layout.proofs.View.{view-long}
 use Rattle.history.specs.History.{any}
-use Rattle.model.specs.Stored.{bears, place, openPlace}
+use Rattle.terms.specs.Places.{bears, place}
+use Rattle.model.specs.Stored.{openPlace}
 use Rattle.model.specs.Calls.{notOpenIn}
 use Rattle.rows.specs.Finders.{Inside}
 use Rattle.rows.proofs.Cases.{found-at, found-nothing}

@@ -1,14 +1,14 @@
 -- No record of a stretch is of an open transaction just if each state is 1 or more.
 use Prim.Native.Nat.{ℕ, zero, suc, _+_, _*_, _-_, _≤_, _<_}
-use mathlib.Core.Path.{_≡_, refl, sym, _∙_, ap}
+use mathlib.Core.Path.{_≡_, refl, _∙_, ap}
 use mathlib.Core.Bool.{Bool, true, false, not, _&&_, _||_}
 use mathlib.Core.List.{List, [], _∷_, _++_}
 use native.Mathlib.Omega.{arith}
 use native.Mathlib.Nat.{add-zero, add-suc}
-use lib.Dec.{eqb, leb}
-use lib.ListN.{length, getD, take, drop}
-use lib.Seq.{slice, slice-empty, take-suc, drop-append-le, length-take-le}
-use borrow.Author.Tests.{eq-eqb, ne-eqb, le-leb, lt-leb}
+use lib.Dec.{eqb}
+use lib.ListN.{length, getD, take}
+use lib.Seq.{slice-empty, take-suc, drop-append-le, length-take-le}
+use borrow.Author.Tests.{ne-eqb, le-leb}
 use Rattle.terms.specs.Measures.{Shape, between}
 use Rattle.loops.specs.Search.{region, allBetween}
 use Rattle.words.proofs.Words.{Fit}

@@ -1,5 +1,5 @@
 -- A signed number of 64 bits and its magnitude: what `magnitude` and `put_signed` ask.
-use Prim.Native.Nat.{ℕ, suc, _+_, _<_}
+use Prim.Native.Nat.{_+_}
 use mathlib.Core.Path.{_≡_, refl}
 use mathlib.Core.Bool.{true, false, false≢true}
 use mathlib.Core.List.{_++_}

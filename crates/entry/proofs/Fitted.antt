@@ -1,17 +1,15 @@
 -- A memory that passed the test is fitted.
-use Prim.Native.Nat.{ℕ, _+_, _*_, _-_, _/_, _%_, _^_, _≤_, _<_}
-use mathlib.Core.Path.{_≡_, refl, ap, sym, _∙_, subst}
+use Prim.Native.Nat.{ℕ, _-_, _^_, _<_}
+use mathlib.Core.Path.{_≡_, refl, sym, subst}
 use mathlib.Core.Bool.{true, false}
 use mathlib.Core.List.{List}
 use native.Mathlib.Omega.{arith}
-use native.Mathlib.Nat.{mod-eq-of-lt, mul-add-div-right, div-eq-of-lt}
-use lib.Dec.{ltb}
-use lib.ListN.{length, getD}
-use borrow.Author.Tests.{leb-true, leb-false, le-ltb}
+use lib.ListN.{getD}
+use borrow.Author.Tests.{leb-false}
 use Rattle.terms.specs.Measures.{Shape, withinLimits}
 use Rattle.words.specs.Words.{words}
 use Rattle.layout.specs.declared.Sizes.{Sizes}
-use Rattle.layout.specs.declared.Region.the-variants.{Current, RowLink, TailLink, PageState, PagePlace, PageLineage}
+use Rattle.layout.specs.declared.Region.the-variants.{Current, PageState, PagePlace}
 use Rattle.layout.specs.Regions.{need}
 use Rattle.layout.specs.Sizes.{sizesOf}
 use Rattle.layout.specs.View.{View, view}
@@ -19,19 +17,18 @@ use Rattle.layout.proofs.Limits.{limited, need-small}
 use Rattle.loops.proofs.Search.{and-true}
 use Rattle.loops.specs.declared.Found.{Found}
 use Rattle.history.specs.History.{rangeOf, noColumn, noRange}
-use Rattle.facts.specs.Facts.{used, inUse, linksHold, rowLinked, rangeLinked, recordLinked, pagesPlaced, pagePlaced, lineagesWithin, lineageWithin, pageRange}
+use Rattle.facts.specs.Facts.{used, linksHold, rowLinked, rangeLinked, recordLinked, pagesPlaced, pagePlaced}
 use Rattle.facts.specs.Usable.{shapeIn, sizesIn}
 use Rattle.facts.specs.declared.Checked.{Checked}
 use Rattle.facts.specs.declared.Checked.the-variants.{Fit}
 use Rattle.facts.specs.Tests.{MemoryFacts, Passed, Safe}
 use Rattle.facts.proofs.Each.{each-tells}
 use Rattle.facts.proofs.Ready.{stored}
-use Rattle.facts.proofs.Usable.{or-right, link-tells, placed-tells}
-use Rattle.model.specs.Stored.{slot, usedIn, headerIn, rowsGiven, pageIn, currentIn}
+use Rattle.facts.proofs.Usable.{link-tells, placed-tells}
+use Rattle.model.specs.Stored.{slot, headerIn, rowsGiven}
 use Rattle.model.specs.Calls.{notGivenIn}
 use Rattle.model.specs.Asked as A
-use Rattle.model.specs.Asked.{Proper, Linked, Pooled}
-use Rattle.rows.proofs.Indices.{place-in}
+use Rattle.model.specs.Asked.{Proper, Linked}
 use Rattle.rows.proofs.Cases.{found-at, found-nothing}
 use Rattle.entry.specs.Fitted.{Fitted}
 use Rattle.entry.specs.Given.{rangeGiven}
@@ -75,24 +72,6 @@ module _ (s : Sizes) (v : View) (proper : Proper s) (facts : MemoryFacts s v) wh
   unfolding pagesPlaced
   at-place i h = placed-tells s v i (each-tells (pagePlaced s v) (s .places) (facts .placed) i h)
 
-  -- the range of a place
-  range-is : (g c : ℕ) → g < s .ranges → c < s .columns → (g * s .columns + c) % s .places / s .columns ≡ g
-  range-is g c h l =
-      ap (λ (k : ℕ). k / s .columns) (mod-eq-of-lt (place-in s proper g c h l))
-      ∙ mul-add-div-right {m = s .columns} (omega (arith, proper .columns-from)) g c
-      ∙ omega (arith, div-eq-of-lt l)
-
-  lineage-of : (g c : ℕ) → g < s .ranges → c < s .columns → pageIn v (currentIn (A.shapeIn s) v g c) .lineage ≤ usedIn v g
-  unfolding pageIn currentIn lineagesWithin lineageWithin
-  lineage-of g c h l =
-      let i : ℕ = g * s .columns + c in
-      let p : ℕ = getD (v Current) i 0 in
-      let t = at-place i (place-in s proper g c h l) in
-      let state : ltb (getD (v PageState) p 0) inUse ≡ _ = le-ltb (getD (v PageState) p 0) inUse (omega (arith, t .1)) in
-      let low = leb-true (getD (v PageLineage) p 0) (used v (pageRange s v p)) (or-right (ltb (getD (v PageState) p 0) inUse) _ state (each-tells (lineageWithin s v) (s .pages) (facts .lineages) p (t .0))) in
-      let same : pageRange s v p ≡ g = ap (λ (k : ℕ). k % s .places / s .columns) (t .2) ∙ range-is g c h l in
-      omega (arith, low, ap (used v) same)
-
 pub fit-tells : (s : Sizes) (m : List ℕ) → Passed s m → Fitted s m
 unfolding sizesIn
 fit-tells s m x =
@@ -103,12 +82,10 @@ fit-tells s m x =
       room = x .room;
       small = subst (λ z. need z < 2 ^ 24) (sym (x .sizes-are)) (need-small (shapeIn (words m)) (x .within));
       proper = proper;
-      counted = record { rows-given = k .rows-to; records-used = λ g h. k .records-to g };
       linked = linked-of s v proper (x .facts);
       pooled = λ i h. (at-place s v proper (x .facts) i h) .0;
       transactions-to = k .transactions-to;
       scans-to = k .scans-to;
-      lineage-to = lineage-of s v proper (x .facts);
     }
 
 -- ---- what the conditions tell where they do not hold

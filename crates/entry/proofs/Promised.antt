@@ -1,7 +1,7 @@
 -- The promised answer, memory and list of a call, by what the test of the memory found: the model's where it is fit, and a refusal that changes nothing where
 -- it is not. For each there is a law of one list, and of a whole contract.
 use Prim.Native.Nat.{ℕ, _≤_}
-use mathlib.Core.Path.{_≡_, refl, sym, _∙_}
+use mathlib.Core.Path.{_≡_, refl, _∙_}
 use mathlib.Core.Bool.{Bool, true, false, cond}
 use mathlib.Core.List.{List}
 use native.Mathlib.Omega.{arith}
@@ -16,7 +16,6 @@ use Rattle.history.specs.History.{Call}
 use Rattle.scans.specs.declared.Scans.{Scans}
 use Rattle.scans.specs.Places.{openCount}
 use Rattle.scans.specs.Table.{tableOf}
-use Rattle.facts.specs.declared.Checked.{Checked}
 use Rattle.facts.specs.declared.Checked.the-variants.{Fit, Unfit}
 use Rattle.facts.specs.Usable.{shapeIn, sizesIn, usable, checked}
 use Rattle.facts.proofs.Usable.{UsableMemory, usable-tells}

@@ -1,22 +1,22 @@
 -- The search of a scan in the table, in the model's terms: whether the scan is open, where it stands in the list, and its entry.
-use Prim.Native.Nat.{ℕ, zero, suc, _≤_}
+use Prim.Native.Nat.{ℕ, suc, _≤_}
 use mathlib.Core.Path.{_≡_, refl, ap, sym, _∙_}
-use mathlib.Core.Bool.{Bool, true, false, not, cond, _&&_, _||_}
+use mathlib.Core.Bool.{Bool, true, false, cond, _||_}
 use mathlib.Core.List.{List, [], _∷_}
 use native.Mathlib.Omega.{arith}
 use lib.Dec.{eqb}
 use lib.ListN.{length, getD}
-use borrow.Author.Tests.{eq-eqb, eqb-true, eqb-false, ne-eqb}
+use borrow.Author.Tests.{eq-eqb}
 use Rattle.terms.specs.Measures.{mostScans}
 use Rattle.terms.specs.declared.Place.{Place}
 use Rattle.loops.specs.declared.Found.the-variants.{At, Nothing}
 use Rattle.loops.specs.Search.{firstAt}
 use Rattle.history.specs.History.{any}
-use Rattle.scans.specs.Places as P
-use Rattle.scans.specs.Places.{freePlace, openCount}
+use Rattle.scans.specs.Places.{openCount}
 use Rattle.scans.specs.Table.{tableOf, findIn}
-use Rattle.scans.proofs.Answers.{Located, table-finds, table-lacks}
-use Rattle.model.specs.Stored.{bears, place, scanPlace}
+use Rattle.scans.proofs.Answers.{table-finds, table-lacks}
+use Rattle.terms.specs.Places.{freePlace, place, bears, isScan}
+use Rattle.model.specs.Stored.{scanPlace}
 use Rattle.model.specs.Calls.{noScanIn}
 
 -- ---- the first that passes
@@ -42,14 +42,6 @@ module _ (f : Place → Bool) where
 -- ---- the scan that bears k
 
 module _ (k : ℕ) where
-  abbrev scan : Place → Bool
-  scan p = bears k (p .number)
-
-  -- the list's definition of the place and the model's
-  same-place : (ps : List Place) → P.place (P.bears k) ps ≡ place scan ps
-  same-place [] = refl
-  same-place (p ∷ ps) = ap (λ (n : ℕ). cond (scan p) 0 (suc n)) (same-place ps)
-
   -- what is found has a number
   numbered : (ps : List Place) (j : ℕ) → findIn (tableOf ps) k ≡ At j → eqb k 0 ≡ false
   unfolding findIn
@@ -65,28 +57,27 @@ module _ (k : ℕ) where
   module _ (ps : List Place) (few : openCount ps ≤ mostScans) where
     pub scan-lacks : findIn (tableOf ps) k ≡ Nothing → noScanIn ps k ≡ true
     unfolding noScanIn
-    scan-lacks e = rw (none-passes scan ps (sym (same-place ps) ∙ table-lacks ps few k e))
+    scan-lacks e = rw (none-passes (isScan k) ps (table-lacks ps few k e))
 
     pub scan-open : (j : ℕ) → findIn (tableOf ps) k ≡ At j → noScanIn ps k ≡ false
     unfolding noScanIn
     scan-open j e =
         let t = table-finds ps few k j e in
-        let n : getD ps (place scan ps) freePlace .number ≡ k = ap (λ (i : ℕ). getD ps i freePlace .number) (sym (same-place ps)) ∙ t .number-is in
-        let b : scan (getD ps (place scan ps) freePlace) ≡ true = ap (λ (i : ℕ). not (eqb i 0) && eqb i k) n ∙ rw (numbered ps j e, eq-eqb k k refl) in
-        rw (one-passes scan ps refl b)
+        let b : isScan k (getD ps (place (isScan k) ps) freePlace) ≡ true = ap (bears k) (t .number-is) ∙ rw (numbered ps j e, eq-eqb k k refl) in
+        rw (one-passes (isScan k) ps refl b)
 
-    pub scan-at : (j : ℕ) → findIn (tableOf ps) k ≡ At j → place scan ps ≡ getD (tableOf ps .places) j 0
-    scan-at j e = sym (table-finds ps few k j e .place-is ∙ same-place ps)
+    pub scan-at : (j : ℕ) → findIn (tableOf ps) k ≡ At j → place (isScan k) ps ≡ getD (tableOf ps .places) j 0
+    scan-at j e = sym (table-finds ps few k j e .place-is)
 
     -- the scan's stamp and merges, as the table has them
     pub scan-stamp : (j : ℕ) → findIn (tableOf ps) k ≡ At j → getD (tableOf ps .stamps) j 0 ≡ scanPlace ps k .stamp
     unfolding scanPlace
-    scan-stamp j e = table-finds ps few k j e .stamp-is ∙ ap (λ (i : ℕ). getD ps i freePlace .stamp) (same-place ps)
+    scan-stamp j e = table-finds ps few k j e .stamp-is
 
     pub scan-merges : (j : ℕ) → findIn (tableOf ps) k ≡ At j → getD (tableOf ps .merges) j 0 ≡ scanPlace ps k .merges
     unfolding scanPlace
-    scan-merges j e = table-finds ps few k j e .merges-is ∙ ap (λ (i : ℕ). getD ps i freePlace .merges) (same-place ps)
+    scan-merges j e = table-finds ps few k j e .merges-is
 
     pub scan-number : (j : ℕ) → findIn (tableOf ps) k ≡ At j → k ≡ scanPlace ps k .number
     unfolding scanPlace
-    scan-number j e = sym (table-finds ps few k j e .number-is) ∙ ap (λ (i : ℕ). getD ps i freePlace .number) (same-place ps)
+    scan-number j e = sym (table-finds ps few k j e .number-is)

@@ -14,21 +14,18 @@ use Rattle.scans.specs.declared.Scans.{Scans}
 use Rattle.scans.specs.Places.{openCount}
 use Rattle.scans.specs.Table.{tableOf}
 use Rattle.history.specs.History.{Call}
-use Rattle.model.specs.Stored.{headerIn, usedIn, pageIn, currentIn, transactionsGiven, scansGiven}
+use Rattle.model.specs.Stored.{headerIn, transactionsGiven, scansGiven}
 use Rattle.model.specs.Calls.{say}
-use Rattle.model.specs.Asked.{shapeIn, Proper, Counted, Linked, Pooled}
+use Rattle.model.specs.Asked.{shapeIn, Proper, Linked, Pooled}
 
 pub record Fitted (s : Sizes) (m : List ℕ) : Type 0 where
   pub room : need s * 4 ≤ length m
   pub small : need s < 2 ^ 24
   pub proper : Proper s
-  pub counted : Counted s (view s (words m))
   pub linked : Linked s (view s (words m))
   pub pooled : Pooled s (view s (words m))
   pub transactions-to : headerIn (view s (words m)) transactionsGiven ≤ mostNumbers
   pub scans-to : headerIn (view s (words m)) scansGiven ≤ mostNumbers
-  pub lineage-to : (g c : ℕ) → g < s .ranges → c < s .columns
-      → pageIn (view s (words m)) (currentIn (shapeIn s) (view s (words m)) g c) .lineage ≤ usedIn (view s (words m)) g
 
 -- Answer r is the model's, for every list that the table stands for and that a usable store may have.
 unfoldable pub Says : Sizes → List ℕ → Scans → Call → Answer → Type 0

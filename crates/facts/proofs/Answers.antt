@@ -1,9 +1,8 @@
 -- The answers of `check`, test by test: each but the last is reached with the earlier ones passed.
 use Prim.Native.Nat.{ℕ, _*_, _≤_, _<_}
-use mathlib.Core.Path.{_≡_, refl, ap, sym, _∙_}
-use mathlib.Core.Bool.{Bool, true, false, cond}
+use mathlib.Core.Path.{_≡_}
+use mathlib.Core.Bool.{true, false, cond}
 use mathlib.Core.List.{List}
-use lib.Dec.{leb}
 use lib.ListN.{length}
 use borrow.Author.Tests.{le-leb, lt-leb}
 use Rattle.terms.specs.Measures.{withinLimits, mostScans}
@@ -11,7 +10,6 @@ use Rattle.terms.specs.declared.Place.{Place}
 use Rattle.words.specs.Words.{words}
 use Rattle.layout.specs.Regions.{need}
 use Rattle.layout.specs.View.{view}
-use Rattle.facts.specs.declared.Checked.{Checked}
 use Rattle.facts.specs.declared.Checked.the-variants.{Fit, Unfit}
 use Rattle.facts.specs.Facts.{factsHold}
 use Rattle.facts.specs.Usable.{measuresBytes, shapeIn, sizesIn, usable, checked}

@@ -2,18 +2,17 @@
 use Prim.Native.Nat.{ℕ, _+_, _*_, _/_, _≤_, _<_, min}
 use mathlib.Core.Path.{_≡_, refl}
 use mathlib.Core.Bool.{Bool, true, false, _&&_}
-use mathlib.Core.List.{List}
 use native.Mathlib.Omega.{arith}
 use lib.Dec.{eqb, ltb}
-use lib.ListN.{length, getD}
-use borrow.Author.Tests.{ltb-true, lt-ltb, le-ltb, leb-true, le-leb, eqb-true, eq-eqb, ne-eqb}
+use lib.ListN.{length}
+use borrow.Author.Tests.{ltb-true, lt-ltb, leb-true, le-leb, eqb-true, eq-eqb, ne-eqb}
 use Rattle.terms.specs.Measures.{rangeRows, between}
 use Rattle.loops.specs.Search.{region, allBetween}
 use Rattle.loops.proofs.Search.{and-true}
 use Rattle.layout.specs.declared.Sizes.{Sizes}
 use Rattle.layout.specs.declared.Region.the-variants.{TailRow}
 use Rattle.layout.specs.View.{View}
-use Rattle.facts.specs.Facts.{each, rowsGiven, used, firstSlot, rowNamed, rangeNamesRows}
+use Rattle.facts.specs.Facts.{rowsGiven, used, firstSlot, rowNamed, rangeNamesRows}
 use Rattle.facts.proofs.Each.{same, each-between, each-nothing}
 
 -- whether row r is given and of range g

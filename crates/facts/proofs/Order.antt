@@ -1,5 +1,4 @@
 -- The facts in the order in which the memory is gone through are the facts in document 01's order.
-use Prim.Native.Nat.{ℕ}
 use mathlib.Core.Path.{_≡_, refl, ap, sym, _∙_}
 use mathlib.Core.Bool.{Bool, true, false, _&&_}
 use mathlib.Core.List.{List, map}
@@ -96,4 +95,4 @@ memory-facts s v counts records rows pages =
     let merges = each (s .pages) (pageAtMost v waiting PageReplaced (mergesMade v)) in
     let d = and-true merges placed (and-true (each (s .pages) (pageAtMost v inUse PageNewest (lastStamp v))) (merges && placed) pages .1) in
     let e = and-true (pagesPlaced s v) (lineagesWithin s v) (d .1) in
-    record { counts = counts; names = a .0; links = rw (c .0, b .0); placed = e .0; lineages = e .1 }
+    record { counts = counts; links = rw (c .0, b .0); placed = e .0; lineages = e .1 }

@@ -1,11 +1,11 @@
 -- What the tests that come first tell: sizes within the limits, and counts within the sizes.
-use Prim.Native.Nat.{ℕ, _+_, _*_, _≤_, _<_}
+use Prim.Native.Nat.{ℕ, _*_, _≤_}
 use mathlib.Core.Path.{_≡_, refl, ap, sym, _∙_}
 use mathlib.Core.Bool.{Bool, true, false, not, _&&_}
 use mathlib.Core.List.{List}
 use native.Mathlib.Omega.{arith}
 use native.Mathlib.Nat.{mul-le-mul}
-use lib.Dec.{leb, ltb}
+use lib.Dec.{ltb}
 use lib.ListN.{length, getD, List·getD-eq-default}
 use borrow.Author.Tests.{leb-true, ltb-true, ltb-false}
 use Rattle.terms.specs.Measures.{Shape, withinLimits, mostScans, mostNumbers}
@@ -18,12 +18,12 @@ use Rattle.layout.specs.declared.Region.the-variants.{Used}
 use Rattle.layout.specs.Regions.{need}
 use Rattle.layout.specs.Sizes.{sizesOf}
 use Rattle.layout.specs.View.{View, view}
-use Rattle.layout.proofs.Limits.{Limited, limited}
+use Rattle.layout.proofs.Limits.{limited}
 use Rattle.scans.specs.declared.Scans.{Scans}
 use Rattle.scans.specs.Places.{openCount}
 use Rattle.scans.specs.Table.{tableOf}
 use Rattle.facts.specs.Facts.{rowsGiven, used, transactionsGiven, scansGiven, storedWithin, countsWithin}
-use Rattle.facts.specs.Tests.{Sized, Counted, Ready}
+use Rattle.facts.specs.Tests.{Sized, Ready}
 use Rattle.facts.proofs.Parts.{more-told}
 
 pub sized : (p : Shape) → withinLimits p ≡ true → Sized (sizesOf p)
@@ -76,7 +76,7 @@ module _ (s : Sizes) (m : List ℕ) (t : Scans) (r : Bool) (flag : r ≡ (stored
   pub ready : need s * 4 ≤ length m → Sized s → r ≡ true → Ready s m
   ready h z e =
       let k = stored s (view s (words m)) (and-true _ _ (sym flag ∙ e) .0) in
-      record { room = h; sized = z; counted = record { rows-in = k .rows-to; records-in = k .records-to } }
+      record { room = h; sized = z; rows-in = k .rows-to; records-in = k .records-to }
 
   pub few : (ps : List Place) → t ≡ tableOf ps → r ≡ true → openCount ps ≤ mostScans
   few ps q e =

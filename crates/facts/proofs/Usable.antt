@@ -1,15 +1,15 @@
 -- What a usable memory tells, clause by clause, for the proofs of the calls: every later access and walk rests on one of these.
 use Prim.Native.Nat.{ℕ, zero, suc, _+_, _*_, _-_, _/_, _≤_, _<_}
-use mathlib.Core.Path.{_≡_, refl, ap, sym, _∙_}
-use mathlib.Core.Bool.{Bool, true, false, not, _&&_, _||_}
+use mathlib.Core.Path.{_≡_, refl, sym, _∙_}
+use mathlib.Core.Bool.{Bool, true, false, not, _||_}
 use mathlib.Core.Logic.{_≢_}
 use mathlib.Core.List.{List, [], _∷_, map}
 use native.Mathlib.Omega.{arith}
 use native.Mathlib.Nat.{zero-add}
 use lib.Dec.{leb, ltb, eqb}
 use lib.ListN.{length, getD, List·getD-map}
-use borrow.Author.Tests.{leb-true, ltb-true, ltb-false, eqb-true, eqb-false, eq-eqb, ne-eqb, le-ltb}
-use Rattle.terms.specs.Measures.{withinLimits, mostScans, mostNumbers, rangeRows}
+use borrow.Author.Tests.{leb-true, ltb-true, eqb-true, eqb-false, ne-eqb, le-ltb}
+use Rattle.terms.specs.Measures.{withinLimits, mostScans, rangeRows}
 use Rattle.terms.specs.declared.Place.{Place}
 use Rattle.words.specs.Words.{words}
 use Rattle.words.proofs.Words.{length-words}
@@ -22,7 +22,8 @@ use Rattle.layout.specs.declared.Region.the-variants.{Opens, RowTransaction, Ro
 use Rattle.layout.specs.Regions.{len, need}
 use Rattle.layout.specs.View.{View, view}
 use Rattle.layout.proofs.View.{Long, view-long}
-use Rattle.scans.specs.Places.{freePlace, openCount, everyOpen, among, differ}
+use Rattle.terms.specs.Places.{freePlace}
+use Rattle.scans.specs.Places.{openCount, everyOpen, among, differ}
 use Rattle.facts.specs.Facts.{rowsGiven, transactionsGiven, scansGiven, lastStamp, mergesMade, used, firstSlot, each, rowsBetween, rangeBetween, pageAtMost, inUse, waiting, countsWithin, rowNamed, rangeNamesRows, recordsNameRows, numbersGiven, linkHolds, rowLinked, recordLinked, rangeLinked, linksHold, stampsWithin, mergesWithin, openDiffer, pagePlaced, pagesPlaced, pageRange, lineageWithin, lineagesWithin, factsHold}
 use Rattle.facts.specs.Usable.{shapeIn, sizesIn, measuresBytes, usable}
 use Rattle.facts.specs.Tests.{Sized}

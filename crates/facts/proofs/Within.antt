@@ -1,14 +1,13 @@
 -- Why each access of the tests lies in its region: a used record among the record slots, a row's range among the ranges, a page's range among the ranges.
-use Prim.Native.Nat.{ℕ, zero, suc, _+_, _*_, _/_, _%_, _≤_, _<_}
-use mathlib.Core.Path.{_≡_}
+use Prim.Native.Nat.{ℕ, _+_, _*_, _/_, _%_, _≤_, _<_}
 use mathlib.Core.List.{List}
 use native.Mathlib.Omega.{arith}
 use native.Mathlib.Nat.{mul-le-mul, mul-le-mul-right, suc-mul, mod-lt, div-lt-iff-lt-mul, mul-comm}
 use Rattle.words.specs.Words.{words}
 use Rattle.layout.specs.declared.Sizes.{Sizes}
-use Rattle.layout.specs.View.{View, view}
+use Rattle.layout.specs.View.{view}
 use Rattle.facts.specs.Facts.{used}
-use Rattle.facts.specs.Tests.{Sized, Counted, Ready}
+use Rattle.facts.specs.Tests.{Sized, Ready}
 
 pub slots-few : (s : Sizes) → Sized s → s .slots ≤ 8192
 slots-few s z =
@@ -19,7 +18,7 @@ range-in s g z h = omega (arith, mul-le-mul-right (s .capacity) h, suc-mul g (s 
 
 -- record i of range g, counted from 0, is one that fits the range
 pub record-in : (s : Sizes) (m : List ℕ) (g i : ℕ) → Ready s m → i < used (view s (words m)) g → i < s .capacity
-record-in s m g i r h = omega (arith, r .counted .records-in g)
+record-in s m g i r h = omega (arith, r .records-in g)
 
 pub places-some : (s : Sizes) → Sized s → 1 ≤ s .places
 places-some s z = let a : 1 * 1 ≤ s .columns * s .ranges = mul-le-mul (z .columns-from) (z .ranges-from) in omega (arith, z .places-are)

@@ -3,7 +3,7 @@
 -- records, current and waiting pages and open places alone, and what stands elsewhere may be anything.
 -- What a word counts as that no fact governs: a page's state 0 is free, 1 is current, any other waits; its place is taken modulo columns × ranges.
 use Prim.Native.Nat.{ℕ, zero, suc, _+_, _*_, _-_, _/_, _%_}
-use mathlib.Core.Bool.{Bool, true, cond, _&&_, _||_}
+use mathlib.Core.Bool.{Bool, true, _&&_, _||_}
 use mathlib.Core.List.{List, map}
 use lib.Dec.{eqb, leb, ltb}
 use lib.ListN.{getD}

@@ -1,13 +1,12 @@
 -- What the functions that test the facts cite in their contracts beside the facts: sizes that a shape within the limits makes, counts that are within them,
 -- and the facts in the order in which the memory is gone through. Nothing here is needed to read the facts.
-use Prim.Native.Nat.{ℕ, _+_, _*_, _≤_, _<_}
+use Prim.Native.Nat.{ℕ, _*_, _≤_}
 use mathlib.Core.Path.{_≡_}
 use mathlib.Core.Bool.{Bool, true, _&&_}
 use mathlib.Core.List.{List, map}
 use lib.Dec.{leb}
-use lib.ListN.{length, getD}
+use lib.ListN.{length}
 use Rattle.layout.specs.declared.Sizes.{Sizes}
-use Rattle.layout.specs.declared.Region.{Region}
 use Rattle.layout.specs.declared.Region.the-variants.{Opens, RowTransaction, RowStamp, TailTransaction, TailStamp, PageReplaced, PageNewest}
 use Rattle.terms.specs.Measures.{withinLimits}
 use Rattle.terms.specs.declared.Place.{Place}
@@ -19,7 +18,7 @@ use Rattle.facts.specs.declared.Checked.{Checked}
 use Rattle.facts.specs.declared.Checked.the-variants.{Fit, Unfit}
 use Rattle.facts.specs.Usable.{shapeIn, sizesIn}
 use Rattle.scans.specs.Places.{everyOpen, differ}
-use Rattle.facts.specs.Facts.{storedWithin, recordsNameRows, linksHold, pagesPlaced, lineagesWithin, each, rowsGiven, transactionsGiven, scansGiven, lastStamp, mergesMade, used, inUse, waiting, rowLinked, rowsBetween, rangeBetween, rangeNamesRows, rangeLinked, pageAtMost}
+use Rattle.facts.specs.Facts.{storedWithin, linksHold, pagesPlaced, lineagesWithin, each, rowsGiven, transactionsGiven, scansGiven, lastStamp, mergesMade, used, inUse, waiting, rowLinked, rowsBetween, rangeBetween, rangeNamesRows, rangeLinked, pageAtMost}
 
 -- sizes that a shape within the limits makes
 pub record Sized (s : Sizes) : Type 0 where
@@ -34,21 +33,16 @@ pub record Sized (s : Sizes) : Type 0 where
   pub places-are : s .places ≡ s .columns * s .ranges
   pub places-in : s .places ≤ s .pages
 
--- counts that are within the sizes, so that what is given and used lies in its region
-pub record Counted (s : Sizes) (v : View) : Type 0 where
-  pub rows-in : rowsGiven v ≤ s .rows
-  pub records-in : (g : ℕ) → used v g ≤ s .capacity
-
--- a memory in which every access to what is given and used lies within it
+-- a memory in which every access to what is given and used lies within it: the counts of rows and of records are within the sizes
 pub record Ready (s : Sizes) (m : List ℕ) : Type 0 where
   pub room : need s * 4 ≤ length m
   pub sized : Sized s
-  pub counted : Counted s (view s (words m))
+  pub rows-in : rowsGiven (view s (words m)) ≤ s .rows
+  pub records-in : (g : ℕ) → used (view s (words m)) g ≤ s .capacity
 
 -- The facts that speak of the memory alone.
 pub record MemoryFacts (s : Sizes) (v : View) : Type 0 where
   pub counts : storedWithin s v ≡ true
-  pub names : recordsNameRows s v ≡ true
   pub links : linksHold s v ≡ true
   pub placed : pagesPlaced s v ≡ true
   pub lineages : lineagesWithin s v ≡ true

@@ -12,7 +12,7 @@ use Rattle.words.specs.Words.{words}
 use Rattle.layout.specs.declared.Sizes.{Sizes}
 use Rattle.layout.specs.Regions.{need, columnsAt, rangesAt, capacityAt, sparesAt}
 use Rattle.layout.specs.Sizes.{shapeOf, sizesOf}
-use Rattle.layout.specs.View.{View, view}
+use Rattle.layout.specs.View.{view}
 use Rattle.facts.specs.Facts.{factsHold}
 use Rattle.facts.specs.declared.Checked.{Checked}
 use Rattle.facts.specs.declared.Checked.the-variants.{Fit, Unfit}

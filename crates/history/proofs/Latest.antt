@@ -7,7 +7,8 @@ use Prim.Native.Nat.{ℕ, _≤_}
 use lib.Dec.{T, leb, eqb, eqb→eq, le→leb}
 use Rattle.history.specs.History.{History, Record, Version, State, committed, committedBy, stateOf, rowAt, sets, seenAt, inserted, versionIn, lastSetting, versionOf}
 use Rattle.history.specs.Latest.{stampOf, setterStamp, latestSetting}
-use Rattle.history.proofs.Lists.{parts, All, nil, cons, all-map, Pairs, empty, ahead}
+use Rattle.history.specs.Lists.{All, nil, cons}
+use Rattle.history.proofs.Lists.{parts, all-map, Pairs, empty, ahead}
 use Rattle.history.proofs.States.{Before}
 use Rattle.history.proofs.Order.{RowFollows, InOrder}
 

@@ -10,7 +10,8 @@ use lib.Dec.{T, eqb, eqb→eq}
 use lib.ListN.{length, length-append}
 use Rattle.terms.specs.Measures.{Shape, rangeRows, mostTransactions, mostScans, mostNumbers}
 use Rattle.history.specs.History.{Call, History, Record, State, active, Scan, Merge, start, count, isActive, stopped, rangeOf, recordsOf, waitingPages, neededBy, afterRelease, withRows, withTail, withTransactions, withScans, withMerges}
-use Rattle.history.proofs.Lists.{All, count-more, count-change, length-change}
+use Rattle.history.specs.Lists.{All}
+use Rattle.history.proofs.Lists.{count-more, count-change, length-change}
 use Rattle.history.proofs.Ranges.{records-made}
 use Rattle.history.proofs.Steps.{New, made-new, Closing, by-commit, by-abort, Step, nothing, began, rowGiven, recordsMade, closed, scanOpened, scanClosed, merged, released}
 

@@ -12,6 +12,7 @@ use lib.Dec.{T, eqb, eqb→eq, eqb-refl}
 use lib.ListN.{length, getD, take, length-set}
 use lib.Seq.{getD-set-other}
 use Rattle.history.specs.History.{any, keep, count, nth, change, upTo}
+use Rattle.history.specs.Lists.{All, nil, cons}
 
 -- two constructors that cannot be equal; `cc` takes such an equation to this one
 pub clash : {A : Type 0} → _≡_ {A = ℕ} 0 1 → A
@@ -61,10 +62,6 @@ pub eqb-other : (a b : ℕ) → a ≢ b → eqb a b ≡ false
 eqb-other a b f = refuted (eqb a b) (λ t. f (eqb→eq a b t))
 
 -- ---- a property of every element
-pub data All {A : Type 0} (P : A → Type 0) : List A → Type 0 where
-  nil : All P []
-  cons : {x : A} {l : List A} → P x → All P l → All P (x ∷ l)
-
 module _ {A : Type 0} {P : A → Type 0} where
   pub all-append : {l m : List A} → All P l → All P m → All P (l ++ m)
   all-append nil q = q
@@ -170,13 +167,6 @@ module _ {A : Type 0} where
   pub any-none : (f : A → Bool) {l : List A} → All (λ x. T (not (f x))) l → any f l ≡ false
   any-none f nil = refl
   any-none f (cons {x = x} p ps) = rw (is-false (f x) p) (any-none f ps)
-
-  -- a place where the test holds
-  pub any-place : (f : A → Bool) (l : List A) (d : A) → T (any f l) → (k : ℕ) × (k < length l) × T (f (getD l k d))
-  any-place f [] d t = absurd t
-  any-place f (x ∷ l) d t =
-      or-cases (f x) (any f l) t (λ u. (0, omega arith, u))
-      (λ u. let q : (k : ℕ) × (k < length l) × T (f (getD l k d)) = any-place f l d u in (suc (q .0), omega (arith, q .1), q .2))
 
   pub place-any : (f : A → Bool) (l : List A) (d : A) (k : ℕ) → k < length l → T (f (getD l k d)) → T (any f l)
   place-any f [] d k b t = absurd (not-suc-le-zero b)

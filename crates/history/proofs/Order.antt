@@ -14,7 +14,8 @@ use lib.Seq.{getD-append-seam}
 use lib.IntN.{ℤ}
 use Rattle.terms.specs.Measures.{Shape, mostColumns}
 use Rattle.history.specs.History.{Call, History, Row, Record, Scan, Merge, State, unknown, active, aborted, committed, original, setting, start, any, nth, committedBy, stateOf, rowAt, bit, sets, ends, seenAt, seenBy, recordsOf, upTo, newColumns, updateRecords, originalRecords, deleteRecords, withRows, withTail, withTransactions, withScans, withMerges}
-use Rattle.history.proofs.Lists.{clash, is-true, is-false, neither, not-second, eqb-equal, All, nil, cons, all-append, all-at, all-keep, all-map, all-map₂, all-both, all-swap, Pairs, empty, ahead, pairs-append, pairs-map, pairs-keep, pairs-at, any-append, not-any, among, among-upTo}
+use Rattle.history.specs.Lists.{All, nil, cons}
+use Rattle.history.proofs.Lists.{clash, is-true, is-false, neither, not-second, eqb-equal, all-append, all-at, all-keep, all-map, all-map₂, all-both, all-swap, Pairs, empty, ahead, pairs-append, pairs-map, pairs-keep, pairs-at, any-append, not-any, among, among-upTo}
 use Rattle.history.proofs.Steps.{Writable, Made, by-update, by-delete, New, made-new, new-columns, isOriginal, wasSet, hasOriginal, Step, nothing, began, rowGiven, recordsMade, closed, scanOpened, scanClosed, merged, released}
 use Rattle.history.proofs.States.{isGiven, Stamped, Before, Moved, began-moved, closed-moved}
 

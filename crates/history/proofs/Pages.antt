@@ -11,7 +11,8 @@ use lib.ListN.{length, take, length-append, List·getD-append}
 use lib.Seq.{take-append-le}
 use Rattle.terms.specs.Measures.{Shape}
 use Rattle.history.specs.History.{Call, merge, History, Record, State, active, Version, Scan, Merge, start, next, isCommitted, stateOf, rowAt, insertedValue, inserted, lastSetting, rangeOf, recordsOf, lastThrough, mergedThrough, cellValue, afterRelease, withRows, withTail, withTransactions, withScans, withMerges, cellThrough}
-use Rattle.history.proofs.Lists.{All, nil, all-map, all-map₂, all-keep, all-take, keep-append}
+use Rattle.history.specs.Lists.{All, nil}
+use Rattle.history.proofs.Lists.{all-map, all-map₂, all-keep, all-take, keep-append}
 use Rattle.history.proofs.Steps.{Step, nothing, began, rowGiven, recordsMade, closed, scanOpened, scanClosed, merged, released, next-step}
 use Rattle.history.proofs.States.{isClosed, Moved, inactive-closed, began-moved, closed-moved}
 use Rattle.history.proofs.Order.{InOrder}

@@ -8,7 +8,8 @@ use lib.Dec.{T, eqb, eqb→eq, eqb-refl}
 use lib.ListN.{length, getD, take}
 use lib.Seq.{take-suc}
 use Rattle.history.specs.History.{withTail, History, Record, Version, any, keep, sets, rangeOf, recordsOf, versionIn, lastSetting, inserted, versionOf}
-use Rattle.history.proofs.Lists.{refuted, All, nil, cons, all-map, keep-append, keep-all, not-any}
+use Rattle.history.specs.Lists.{All, nil, cons}
+use Rattle.history.proofs.Lists.{refuted, all-map, keep-append, keep-all, not-any}
 use Rattle.history.proofs.Steps.{New, wasSet}
 
 -- whether a record is a setting of row and column that is seen

@@ -16,7 +16,7 @@ use Rattle.terms.specs.declared.Answer.{Answer}
 use Rattle.history.specs.History.{Call, release, History, Row, Record, State, unknown, active, aborted, committed, Scan, Merge, Version, start, answers, answer, next, run, tests, reply, verdict, Verdict, accept, answerIf, nth, change, read, visible, versionOf, inserted, insertedValue, rowAt, seenAt, committedBy, stateOf, ended, lastSetting, withRows, withTail, withTransactions, withScans, withMerges, notGiven, later}
 use Rattle.history.specs.Claims.{Reads, latest-reads, at-reads, scan-reads, isRefused, historyBefore, callAt, answerAt, ReadAt, Stability}
 use Rattle.history.proofs.Accepted.{Passed, passed, run-keeps}
-use Rattle.history.proofs.Lists.{All, nil, cons}
+use Rattle.history.specs.Lists.{All, nil, cons}
 use Rattle.history.proofs.Steps.{Step, nothing, began, rowGiven, recordsMade, closed, by-commit, by-abort, scanOpened, scanClosed, merged, released, New, made-new, step}
 use Rattle.history.proofs.Timely.{Timely, timely}
 

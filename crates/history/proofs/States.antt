@@ -8,9 +8,9 @@ use Prim.Native.Nat.{ℕ, _≤_}
 use native.Mathlib.Omega.{arith}
 use native.Mathlib.Nat.{le-refl}
 use native.Mathlib.Decide.{ℕ-discrete}
-use lib.Dec.{T, leb, le→leb}
-use Rattle.history.specs.History.{History, State, unknown, active, aborted, committed, nth, change, isCommitted, committedBy, stateOf, seenAt, withTransactions}
-use Rattle.history.proofs.Lists.{clash, is-true, nth-append, nth-added, nth-changed, nth-other}
+use lib.Dec.{T}
+use Rattle.history.specs.History.{History, State, unknown, active, aborted, committed, nth, change, stateOf, withTransactions}
+use Rattle.history.proofs.Lists.{clash, nth-append, nth-added, nth-changed, nth-other}
 use Rattle.history.proofs.Steps.{Closing, by-commit, by-abort}
 
 abbrev pub isGiven : State → Bool
@@ -126,14 +126,3 @@ closed-moved {h} {x} {s} t i o c =
 
     other-before : (j k : ℕ) → Before (stateOf h) j k → j ≢ t → k ≢ t → Before st′ j k
     other-before j k p f g = record { holder = λ u. p .holder (sym (other j f) ∙ u); rises = λ a b u v. p .rises a b (sym (other j f) ∙ u) (sym (other k g) ∙ v) }
-
--- ---- what is committed at or before t is seen at t; at the last stamp that is all that is committed, so pages and the latest reads see the same
-pub committed-seen : (h : History) (t k : ℕ) → ((s : ℕ) → stateOf h k ≡ committed s → s ≤ t) → seenAt h t k ≡ isCommitted (stateOf h k)
-unfolding seenAt committedBy isCommitted
-committed-seen h t k f = go (stateOf h k) refl
-  where
-    go : (x : State) → stateOf h k ≡ x → committedBy t x ≡ isCommitted x
-    go unknown e = refl
-    go active e = refl
-    go aborted e = refl
-    go (committed s) e = is-true (leb s t) (le→leb s t (f s e))

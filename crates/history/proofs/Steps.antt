@@ -12,7 +12,8 @@ use lib.IntN.{ℤ}
 use Rattle.terms.specs.Measures.{Shape, rangeRows, mostColumns, mostTransactions, mostScans, mostNumbers}
 use Rattle.history.specs.History.{Call, begin, insert, update, delete, commit, abort, latest, readAt, ownRead, openScan, scanRead, sum, close, merge, release, pageCell, lineage, History, Record, State, active, aborted, committed, Content, original, setting, ending, ends, start, next, nextIf, run, tests, effect, verdict, Verdict, accept, refuse, any, count, change, isActive, stateOf, rowAt, scanAt, stopped, rangeOf, recordsOf, mergedThrough, waitingPages, afterRelease, seenBy, visible, ended, held, gone, activeOther, notActive, notRunning, notGiven, noColumn, noRange, badMask, bit, sets, upTo, allGiven, lacksRecords, notLater, later, allActive, allRunning, outOfReach, anyActive, noPage, newColumns, originalRecords, updateRecords, deleteRecords, withRows, withTail, withTransactions, withScans, withMerges}
 use Rattle.history.proofs.Accepted.{Passed, passed, run-keeps}
-use Rattle.history.proofs.Lists.{clash, All, nil, cons, all-map, any-append, not-any, neither, not-not, not-second, parts, or-cases, is-false, eqb-equal, among, among-keep}
+use Rattle.history.specs.Lists.{All, nil, cons}
+use Rattle.history.proofs.Lists.{clash, all-map, any-append, not-any, neither, not-not, not-second, parts, or-cases, is-false, eqb-equal, among, among-keep}
 
 pub active-is : (x : State) → T (isActive x) → x ≡ active
 unfolding isActive
@@ -24,7 +25,6 @@ pub record Writable (h : History) (t r : ℕ) : Type 0 where
   pub given : r < length (h .rows)
   pub inserter-free : stateOf h ((rowAt h r) .inserter) ≡ active → (rowAt h r) .inserter ≡ t
   pub records-free : All (λ (x : Record). x .row ≡ r → stateOf h (x .transaction) ≡ active → x .transaction ≡ t) (h .tail)
-  pub inserter-seen : T (seenBy h t ((rowAt h r) .inserter))
   pub not-ended : All (λ (x : Record). x .row ≡ r → T (ends (x .content)) → T (not (seenBy h t (x .transaction)))) (h .tail)
 
 -- the records that a call makes
@@ -105,7 +105,6 @@ writable h t r a b p q =
       given = nleb→lt (length (h .rows)) r b;
       inserter-free = free-row h t r p .0;
       records-free = free-row h t r p .1;
-      inserter-seen = live .0;
       not-ended = all-map (λ x n e u. not-second (ends (x .content)) _ u (not-second (eqb (x .row) r) _ (eqb-equal (x .row) r e) n)) (not-any _ (h .tail) (live .1));
     }
 

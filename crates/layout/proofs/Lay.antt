@@ -6,15 +6,15 @@ use mathlib.Core.List.{List, [], _∷_, map, _++_}
 use native.Mathlib.Omega.{arith}
 use lib.ListN.{length, getD, take, drop, take-append-drop}
 use lib.Seq.{take-all, take-take, length-take-le}
-use Rattle.words.specs.Words.{words, bytes}
-use Rattle.words.proofs.Words.{Bytes, Fit, words-bytes, bytes-words, words-take, words-fit, front-bytes, append-fit, take-fit, drop-fit}
+use Rattle.words.specs.Words.{words, Bytes}
+use Rattle.words.proofs.Words.{Fit, words-bytes, bytes-words, words-take, words-fit, front-bytes, append-fit, take-fit, drop-fit}
 use Rattle.layout.specs.declared.Sizes.{Sizes}
 use Rattle.layout.specs.declared.Region.{Region}
 use Rattle.layout.specs.Cut.{join}
 use Rattle.layout.specs.Regions.{index, lens, all, len, base, need}
 use Rattle.layout.specs.View.{View, view, lay}
 use Rattle.layout.proofs.Cut.{piece, piece-join}
-use Rattle.layout.proofs.View.{base-in, view-join, view-tells, Long, Fits}
+use Rattle.layout.proofs.View.{base-in, view-join, Long, Fits}
 
 -- ---- laying what was seen
 
@@ -105,18 +105,6 @@ lent s n m p f e l b q h = rw q (go (rw q at e) (rw q at l) (rw q at b))
         → Bytes (p ++ drop (need s * 4) m) → p ++ drop (need s * 4) m ≡ lay s (f (view s (words m))) m
     go e l b =
         lay-part s m p (f (view s (words m))) (front-bytes p _ b) (l ∙ length-take-le (need s * 4) m h) (e ∙ ap f (view-part s m h))
-
--- ---- two memories of just the needed length with one view are equal
-pub view-tells-bytes : (s : Sizes) (a b : List ℕ) → Bytes a → Bytes b → length a ≡ need s * 4 → length b ≡ need s * 4
-    → view s (words a) ≡ view s (words b) → a ≡ b
-view-tells-bytes s a b p q h k e =
-    let i : need s * 4 ≤ length a = omega arith in
-    let j : need s * 4 ≤ length b = omega arith in
-    sym (take-all (need s * 4) a (omega arith))
-    ∙ sym (bytes-words (need s) a p i)
-    ∙ ap bytes (view-tells s (words a) (words b) e)
-    ∙ bytes-words (need s) b q j
-    ∙ take-all (need s * 4) b (omega arith)
 
 -- the view of a memory fits
 pub view-fits : (s : Sizes) (m : List ℕ) → Bytes m → Fits (view s (words m))

@@ -14,7 +14,6 @@ pub record Limited (p : Shape) : Type 0 where
   pub columns-to : p .columns ≤ 16
   pub ranges-from : 1 ≤ p .ranges
   pub ranges-to : p .ranges ≤ 16
-  pub capacity-from : 1 ≤ p .capacity
   pub capacity-to : p .capacity ≤ 512
   pub spares-to : p .spares ≤ 256
 
@@ -33,7 +32,6 @@ limited p e =
       columns-to = q .1;
       ranges-from = r .0;
       ranges-to = r .1;
-      capacity-from = t .0;
       capacity-to = t .1;
       spares-to = x .1;
     }

@@ -139,9 +139,6 @@ pub view-join : (s : Sizes) (ws : List ℕ) → join (map (view s ws) all) ≡ t
 unfolding base view need
 view-join s ws = join-pieces 0 (lens s) ws
 
-pub view-tells : (s : Sizes) (ws ws′ : List ℕ) → view s ws ≡ view s ws′ → take (need s) ws ≡ take (need s) ws′
-view-tells s ws ws′ e = sym (view-join s ws) ∙ ap (λ (m : View). join (map m all)) e ∙ view-join s ws′
-
 -- ---- a view that a memory can have: each list as long as the sizes say, each word below 2 ^ 32; kept by each store
 
 abbrev pub Long : Sizes → View → Type 0
@@ -188,14 +185,6 @@ module _ (s : Sizes) (k : Region) (m : View) (h : Long s m) where
   unfolding number
   number-long at n = change-long (λ i x. i) at n
 
-  pub copy-long : (from n to : ℕ) → Long s (copy k from n to m)
-  unfolding copy
-  copy-long from n to = change-long (λ i x. getD (m k) (from + i) 0) to n
-
-  pub mark-long : (keys : Region) (key at n v : ℕ) → Long s (mark keys key k at n v m)
-  unfolding mark
-  mark-long keys key at n v = change-long (λ i x. cond (eqb (getD (m keys) (at + i) 0) key) v x) at n
-
 module _ (k : Region) (m : View) (h : Fits m) where
   change-fits : (f : ℕ → ℕ → ℕ) (at n : ℕ) → ((i x : ℕ) → i < n → x < 2 ^ 32 → f i x < 2 ^ 32) → Fits (renew k (changed f at n (m k)) m)
   change-fits f at n b = renew-fits k (changed f at n (m k)) m (changed-fit f at n (m k) b (h k)) h
@@ -211,16 +200,3 @@ module _ (k : Region) (m : View) (h : Fits m) where
   pub number-fits : (at n : ℕ) → n ≤ 2 ^ 32 → Fits (number k at n m)
   unfolding number
   number-fits at n b = change-fits (λ i x. i) at n (λ i x l f. omega arith)
-
-  pub copy-fits : (from n to : ℕ) → Fits (copy k from n to m)
-  unfolding copy
-  copy-fits from n to = change-fits (λ i x. getD (m k) (from + i) 0) to n (λ i x l f. h k (from + i))
-
-  pub mark-fits : (keys : Region) (key at n v : ℕ) → v < 2 ^ 32 → Fits (mark keys key k at n v m)
-  unfolding mark
-  mark-fits keys key at n v b =
-      change-fits (λ i x. cond (eqb (getD (m keys) (at + i) 0) key) v x) at n (λ i x l f. pick (eqb (getD (m keys) (at + i) 0) key) x f)
-    where
-      pick : (t : Bool) (x : ℕ) → x < 2 ^ 32 → cond t v x < 2 ^ 32
-      pick true x f = b
-      pick false x f = f

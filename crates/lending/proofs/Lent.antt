@@ -1,14 +1,13 @@
 -- From the needed bytes, which a call lends, to the whole memory: what was proved of the view of the part is what the call promises.
 use Prim.Native.Nat.{ℕ, _*_, _≤_}
-use mathlib.Core.Path.{_≡_, ap, sym, _∙_}
+use mathlib.Core.Path.{_≡_, ap, _∙_}
 use mathlib.Core.List.{List, _++_}
 use native.Mathlib.Omega.{arith}
 use lib.ListN.{length, take, drop}
 use lib.Seq.{length-take-le}
 use Rattle.terms.specs.declared.Place.{Place}
 use Rattle.terms.specs.declared.Answer.{Answer}
-use Rattle.words.specs.Words.{words}
-use Rattle.words.proofs.Words.{Bytes}
+use Rattle.words.specs.Words.{words, Bytes}
 use Rattle.layout.specs.declared.Sizes.{Sizes}
 use Rattle.layout.specs.Regions.{need}
 use Rattle.layout.specs.View.{View, view}

@@ -15,7 +15,7 @@ pub use contract.Lifetimes.{Lfts, Shares}
 pub use denote.RattleType.{RattleType}
 pub use denote.Ref.{now}
 pub use denote.Slice.{sliceTy}
-pub use borrow.Table.Row.{Row, Entry, Cx, Life, lease, off, alive, dead, get, set, valS, sInt, sBool, sUnit}
+pub use borrow.Table.Row.{Row, Cx, Life, lease, off, alive, dead, get, set, valS, sInt, sBool, sUnit}
 pub use borrow.Table.Rows.{sslice, any-gone, sc-here}
 pub use borrow.Table.Reads.{room-gone, as-is}
 pub use borrow.Table.Referent.{rtF, fInt}
@@ -32,7 +32,7 @@ pub use borrow.Kind.ShrSlice.{pShrS, spares-sslice}
 pub use borrow.Kind.MutSlice.{pMutS, fix-len}
 pub use borrow.Fn.Frame.{EnvOf}
 pub use borrow.Fn.Enter.{tysP}
-pub use borrow.Fn.Kinds.{PK, RK, In, Out, pNum, rNum, rBool, rUnit, tyR}
+pub use borrow.Fn.Kinds.{PK, In, Out, pNum, rNum, rBool, rUnit, tyR}
 pub use borrow.Fn.Call.{callB, sub-id}
 pub use borrow.Fn.Function.{fnOf}
 pub use borrow.Fn.Plain.{Known, t-call-plain, t-fn-plain}

@@ -1,6 +1,6 @@
 -- Going through the list place by place: what the table is after i places, and after one more; which places are free by then.
 use mathlib.Core.Path.{_≡_, sym, _∙_, ap, subst}
-use mathlib.Core.Bool.{true, false}
+use mathlib.Core.Bool.{false}
 use mathlib.Core.List.{List, []}
 use mathlib.Core.Logic.{⊎-elim}
 use Prim.Native.Nat.{ℕ, _+_, _≤_, _<_}
@@ -8,11 +8,12 @@ use native.Mathlib.Nat.{not-suc-le-zero, eq-or-lt-of-le}
 use native.Mathlib.Omega.{arith}
 use borrow.Author.Tests.{not-false}
 use lib.Dec.{eqb}
-use lib.ListN.{length, getD, set, take, replicate, length-set, length-replicate, getD-replicate}
+use lib.ListN.{length, getD, set, take, length-set, length-replicate, getD-replicate}
 use lib.Seq.{take-all, length-take-le, getD-set-same, getD-set-other, ext-getD}
 use Rattle.terms.specs.declared.Place.{Place}
 use Rattle.scans.specs.declared.Scans.{Scans}
-use Rattle.scans.specs.Places.{freePlace, isOpen, allFreed}
+use Rattle.terms.specs.Places.{freePlace}
+use Rattle.scans.specs.Places.{isOpen, allFreed}
 use Rattle.scans.specs.Table.{tableOf, noted}
 use Rattle.scans.proofs.Table.{table-next, table-length}
 use Rattle.lent.specs.Lent.{ofLength}

@@ -11,7 +11,8 @@ ghost use mathlib.Core.Bool.{true, cond};
 ghost use mathlib.Core.List.{[]};
 ghost use lib.Dec.{eqb};
 ghost use lib.ListN.{length, getD, set};
-ghost use Rattle.scans.specs.Places.{freePlace, isOpen, allFreed};
+ghost use Rattle.terms.specs.Places.{freePlace};
+ghost use Rattle.scans.specs.Places.{isOpen, allFreed};
 ghost use Rattle.scans.specs.Table.{tableOf, noted};
 ghost use Rattle.lent.specs.Lent.{ofLength, isAccepted, freedIf};
 

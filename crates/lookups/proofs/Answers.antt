@@ -1,5 +1,5 @@
 -- The model's answers of the reading calls, test by test: each law has the tests that came before it passed.
-use Prim.Native.Nat.{ℕ, _≤_, _<_}
+use Prim.Native.Nat.{ℕ, _<_}
 use mathlib.Core.Path.{_≡_, refl, ap, sym, _∙_}
 use mathlib.Core.Bool.{Bool, true, false, cond}
 use mathlib.Core.List.{List}
@@ -8,7 +8,7 @@ use mir.Syntax.{w32}
 use mir.Val.{toZ}
 use lib.Dec.{eqb}
 use lib.ListN.{length, getD}
-use Rattle.terms.specs.Measures.{Shape, mostScans}
+use Rattle.terms.specs.Measures.{Shape}
 use Rattle.terms.specs.declared.Place.{Place}
 use Rattle.terms.specs.declared.Refusal.{Refusal}
 use Rattle.terms.specs.declared.Answer.{Answer}
@@ -20,13 +20,11 @@ use Rattle.layout.specs.declared.Sizes.{Sizes}
 use Rattle.layout.specs.View.{View, view}
 use Rattle.history.specs.History.{latest, readAt, ownRead, scanRead, sum, pageCell, lineage, Call, rangeOf, noColumn, noRange, verdict, answerIf}
 use Rattle.scans.specs.declared.Scans.{Scans}
-use Rattle.scans.specs.Places.{openCount}
 use Rattle.scans.specs.Table.{tableOf, findIn}
-use Rattle.model.specs.Stored.{headerIn, lastStamp, openPlace, scanPlace, cellIn, currentIn, within, pageIn, usedIn}
-use Rattle.model.specs.Reading.{readIn, readCurrent, ownChanges, scanPage, sumIn}
+use Rattle.model.specs.Stored.{headerIn, lastStamp, scanPlace, cellIn, currentIn, within, pageIn, usedIn}
+use Rattle.model.specs.Reading.{readCurrent, ownChanges}
 use Rattle.model.specs.Calls.{notGivenIn, notOpenIn, noScanIn, laterIn, testsIn, replyIn, say}
 use Rattle.model.specs.Asked.{shapeIn}
-use Rattle.conditions.specs.Opens.{openAt}
 use Rattle.entry.specs.Fitted.{Says}
 use Rattle.entry.proofs.Scans.{scan-lacks, scan-open, scan-stamp, scan-merges, scan-number}
 use Rattle.lookups.specs.declared.Scan.{Scan}

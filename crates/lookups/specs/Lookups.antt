@@ -10,7 +10,7 @@ use Rattle.terms.specs.declared.Answer.{Answer}
 use Rattle.words.specs.Words.{words}
 use Rattle.layout.specs.declared.Sizes.{Sizes}
 use Rattle.layout.specs.View.{View, view}
-use Rattle.history.specs.History.{Call, Test, _when_, verdict, answerIf, noColumn, rangeOf}
+use Rattle.history.specs.History.{Call, _when_, verdict, answerIf, noColumn, rangeOf}
 use Rattle.scans.specs.declared.Scans.{Scans}
 use Rattle.scans.specs.Places.{openCount}
 use Rattle.scans.specs.Table.{tableOf}

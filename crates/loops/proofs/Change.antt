@@ -1,17 +1,17 @@
 -- The laws of `changed`, on which every loop that writes rests: its length, its words, the words and regions outside it, and that it
 -- is a change of the one region in which it lies.
 use Prim.Native.Nat.{ℕ, zero, suc, _+_, _^_, _≤_, _<_}
-use mathlib.Core.Path.{_≡_, _∙_, ap, sym, refl}
+use mathlib.Core.Path.{_≡_, _∙_, ap, refl}
 use mathlib.Core.Logic.{_⊎_, inl, inr, ⊎-elim}
 use mathlib.Core.Bool.{cond}
 use mathlib.Core.List.{List, [], _∷_}
 use native.Mathlib.Omega.{arith}
-use native.Mathlib.Nat.{eq-or-lt-of-le, le-of-suc-le-suc, zero-add}
+use native.Mathlib.Nat.{eq-or-lt-of-le, le-of-suc-le-suc}
 use native.Mathlib.Numerals.{add-one}
 use lib.Dec.{eqb}
-use lib.ListN.{length, getD, set, length-set, replicate, length-replicate, getD-replicate}
-use lib.Seq.{getD-set-same, getD-set-other, ext-getD}
-use Rattle.loops.specs.Change.{changed, filled, numbered, copied, marked}
+use lib.ListN.{length, getD, set, length-set}
+use lib.Seq.{getD-set-same, getD-set-other}
+use Rattle.loops.specs.Change.{changed, copied, marked}
 use Rattle.loops.specs.Search.{region}
 use Rattle.words.proofs.Words.{Fit}
 use Rattle.loops.proofs.Region.{region-at, region-put, region-before, region-after}
@@ -89,19 +89,6 @@ pub changed-same : (f g : ℕ → ℕ → ℕ) (at n : ℕ) (l : List ℕ) → (
 unfolding changed
 changed-same f g at zero l h = refl
 changed-same f g at (suc n) l h = rw (changed-same f g at n l (λ i x b. h i x (omega arith)), h n (getD l (at + n) 0) (omega arith))
-
--- a whole list filled, and a whole list numbered
-pub filled-all : (v : ℕ) (l : List ℕ) → filled 0 (length l) v l ≡ replicate (length l) v
-filled-all v l =
-    let e : length (filled 0 (length l) v l) ≡ length l = changed-length (λ i x. v) 0 l (length l) in
-    ext-getD 0 _ _ (e ∙ sym (length-replicate (length l) v))
-    (λ i h.
-    ap (λ (j : ℕ). getD (filled 0 (length l) v l) j 0) (sym (zero-add i))
-    ∙ changed-at (λ j x. v) 0 l (length l) i (omega arith) (omega arith)
-    ∙ sym (getD-replicate (length l) i v 0 (omega arith)))
-
-pub numbered-at : (at n : ℕ) (l : List ℕ) (i : ℕ) → at + n ≤ length l → i < n → getD (numbered at n l) (at + i) 0 ≡ i
-numbered-at at n l i h b = changed-at (λ j x. j) at l n i h b
 
 -- ---- one turn of `copy` and of `mark`, which read what an earlier turn may not have written
 

@@ -165,16 +165,6 @@ first-at v j l e =
     let t = first-in v 0 j l e in
     let z : j - 0 ≡ j = omega arith in (omega (arith, t .1), rw z at (t .2))
 
-pub first-none : (v k : ℕ) (l : List ℕ) → firstAt v k l ≡ Nothing → (i : ℕ) → i < length l → getD l i 0 ≡ v → ⊥
-first-none v k [] e i h q = omega arith
-first-none v k (x ∷ xs) e i h q = go (eqb x v) refl (first-none v (k + 1) xs) e i h q
-  where
-    go : (b : Bool) → eqb x v ≡ b → (firstAt v (k + 1) xs ≡ Nothing → (i : ℕ) → i < length xs → getD xs i 0 ≡ v → ⊥)
-        → cond b (At k) (firstAt v (k + 1) xs) ≡ Nothing → (i : ℕ) → i < suc (length xs) → getD (x ∷ xs) i 0 ≡ v → ⊥
-    go true r ih f i h q = let z : _≡_ {A = ℕ} 0 1 = cc in omega arith
-    go false r ih f zero h q = let z : _≡_ {A = Bool} true false = sym (eq-eqb x v q) ∙ r in let y : _≡_ {A = ℕ} 0 1 = cc in omega arith
-    go false r ih f (suc i) h q = ih f i (omega arith) q
-
 pub between-tells : (low high w : ℕ) → between low high w ≡ true → (low ≤ w) × (w ≤ high)
 between-tells low high w e = let t = and-true (leb low w) (leb w high) e in (leb-true low w (t .0), leb-true w high (t .1))
 

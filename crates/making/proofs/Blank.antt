@@ -1,15 +1,14 @@
 -- Zeros in every word that is needed are zeros in every region.
 use Prim.Native.Nat.{ℕ, _+_, _≤_, _<_}
-use mathlib.Core.Path.{_≡_, sym, ap, _∙_, fun-ext}
+use mathlib.Core.Path.{_≡_, sym, _∙_, fun-ext}
 use mathlib.Core.List.{List}
 use native.Mathlib.Omega.{arith}
 use native.Mathlib.Nat.{zero-add}
 use lib.ListN.{length, getD, replicate, length-replicate, getD-replicate}
 use lib.Seq.{ext-getD}
-use Rattle.loops.specs.Change.{changed, filled}
+use Rattle.loops.specs.Change.{filled}
 use Rattle.loops.proofs.Change.{changed-length, changed-at}
 use Rattle.layout.specs.declared.Sizes.{Sizes}
-use Rattle.layout.specs.declared.Region.{Region}
 use Rattle.layout.specs.Regions.{len, base, need}
 use Rattle.layout.specs.View.{view}
 use Rattle.layout.proofs.View.{view-long, view-at, in-need}

@@ -1,38 +1,36 @@
 -- What was made is usable: every stored fact holds of a store just made, for each shape within the limits.
-use Prim.Native.Nat.{ℕ, zero, suc, _+_, _*_, _^_, _/_, _%_, _≤_, _<_}
+use Prim.Native.Nat.{ℕ, zero, suc, _+_, _*_, _^_, _≤_, _<_}
 use mathlib.Core.Path.{_≡_, refl, ap, sym, _∙_, fun-ext}
-use mathlib.Core.Bool.{Bool, true, false, not, _&&_, _||_}
-use mathlib.Core.List.{List, [], _∷_, _++_, map}
+use mathlib.Core.Bool.{Bool, true, false, _&&_, _||_}
+use mathlib.Core.List.{List, map}
 use native.Mathlib.Omega.{arith}
 use native.Mathlib.Nat.{zero-add, add-zero}
 use lib.Seq.{slice-empty}
-use lib.Dec.{leb, ltb, eqb, leb·zero}
-use lib.ListN.{length, getD, set, drop, replicate, length-replicate, getD-replicate, length-append, length-drop, List·getD-eq-default}
-use borrow.Author.Tests.{leb-true, le-leb, lt-ltb, le-ltb, eq-eqb, ltb-true, ltb-false}
+use lib.Dec.{leb, ltb, leb·zero}
+use lib.ListN.{length, getD, drop, replicate, length-replicate, getD-replicate, length-append, length-drop, List·getD-eq-default}
+use borrow.Author.Tests.{leb-true, le-leb, lt-ltb, eq-eqb, ltb-true, ltb-false}
 use Rattle.terms.specs.Measures.{Shape, withinLimits, mostScans, rangeRows}
 use Rattle.terms.specs.declared.Answer.{Answer}
 use Rattle.terms.specs.declared.Refusal.{Refusal}
 use Rattle.terms.specs.declared.Place.{Place}
 use Rattle.words.specs.Words.{words, bytes}
-use Rattle.words.proofs.Words.{length-bytes, Fit}
+use Rattle.words.proofs.Words.{length-bytes}
 use Rattle.loops.specs.Search.{region, allBetween}
-use Rattle.loops.specs.Change.{changed, filled, numbered}
-use Rattle.loops.proofs.Change.{changed-at, changed-outside}
-use Rattle.layout.specs.declared.Sizes.{Sizes}
+use Rattle.loops.proofs.Change.{changed-at}
 use Rattle.layout.specs.declared.Region.{Region}
-use Rattle.layout.specs.declared.Region.the-variants.{Header, Opens, RowTransaction, RowStamp, TailTransaction, TailStamp, Used, Current, PageState, PagePlace, PageReplaced, PageLineage, PageNewest}
+use Rattle.layout.specs.declared.Region.the-variants.{Header, RowTransaction, RowStamp, TailTransaction, TailStamp, Current, PageState, PagePlace, PageReplaced, PageLineage, PageNewest}
 use Rattle.layout.specs.Cut.{join, endFrom}
 use Rattle.layout.specs.Regions.{all, lens, len, need, base}
-use Rattle.layout.specs.Sizes.{shapeOf, sizesOf, bytesNeeded}
+use Rattle.layout.specs.Sizes.{sizesOf, bytesNeeded}
 use Rattle.layout.specs.View.{View, view, put, fill, number, renew, lay}
 use Rattle.layout.proofs.Cut.{join-length}
 use Rattle.layout.proofs.View.{Long, Fits, view-at, put-long, fill-long, number-long, put-fits, fill-fits, number-fits}
 use Rattle.layout.proofs.Lay.{view-lay}
-use Rattle.layout.proofs.Limits.{Limited, limited}
-use Rattle.scans.specs.Places.{freePlace, openCount, everyOpen, differ, among, allFreed}
-use Rattle.facts.specs.Facts.{used, lastStamp, mergesMade, each, rowsBetween, rangeBetween, pageAtMost, inUse, waiting, storedWithin, countsWithin, rowNamed, rangeNamesRows, recordsNameRows, numbersGiven, rowLinked, rangeLinked, recordLinked, linksHold, stampsWithin, mergesWithin, openDiffer, pagePlaced, pagesPlaced, pageRange, lineageWithin, lineagesWithin, factsHold}
+use Rattle.layout.proofs.Limits.{limited}
+use Rattle.terms.specs.Places.{freePlace}
+use Rattle.scans.specs.Places.{openCount, everyOpen, differ}
+use Rattle.facts.specs.Facts.{used, lastStamp, mergesMade, each, rowsBetween, rangeBetween, pageAtMost, inUse, waiting, storedWithin, countsWithin, rowNamed, rangeNamesRows, recordsNameRows, numbersGiven, rangeLinked, recordLinked, linksHold, stampsWithin, mergesWithin, openDiffer, pagePlaced, pagesPlaced, pageRange, lineageWithin, lineagesWithin, factsHold}
 use Rattle.facts.specs.Usable.{shapeIn, sizesIn, measuresBytes, usable}
-use Rattle.facts.specs.Tests.{Sized}
 use Rattle.facts.proofs.Each.{each-true}
 use Rattle.facts.proofs.Ready.{sized}
 use Rattle.making.specs.Made.{blankView, placedView, madeView, made, madeList}

@@ -2,7 +2,7 @@
 use Prim.Native.Nat.{ℕ, zero, suc, _+_, _-_, _*_, _%_, _≤_, _<_}
 use mathlib.Core.Path.{_≡_, refl, ap, sym, _∙_}
 use mathlib.Core.Logic.{_⊎_, inl, inr}
-use mathlib.Core.Bool.{Bool, true, false, cond, _&&_}
+use mathlib.Core.Bool.{Bool, true, false, cond}
 use mathlib.Core.List.{List, [], _∷_}
 use native.Mathlib.Omega.{arith}
 use native.Mathlib.Numerals.{add-one}
@@ -15,7 +15,8 @@ use Rattle.loops.specs.Change.{copied}
 use Rattle.layout.specs.declared.Sizes.{Sizes}
 use Rattle.layout.specs.declared.Region.{Region}
 use Rattle.layout.specs.View.{View, renew, put, copy}
-use Rattle.model.specs.Stored.{slot, recordIn, valueIn, pageIn, currentIn, pagesOf, within, freePage, firstFrom, place, nextWord}
+use Rattle.terms.specs.Places.{place}
+use Rattle.model.specs.Stored.{slot, recordIn, valueIn, pageIn, currentIn, pagesOf, within, freePage, firstFrom, nextWord}
 use Rattle.model.specs.Writing.{applies, applied, newestOf, freeIn, mergedIn}
 use Rattle.model.specs.Asked.{shapeIn, Proper}
 use Rattle.settling.specs.Steps.{foundAt}

@@ -9,7 +9,7 @@ use lib.Dec.{T, ltb, eqb, eqb→eq, eqb·suc-zero}
 use lib.ListN.{length, getD, set}
 use Rattle.history.specs.History.{any, count, nth, change}
 use Rattle.history.proofs.Lists.{is-true, eqb-other}
-use Rattle.model.specs.Stored.{place, bears}
+use Rattle.terms.specs.Places.{place, bears}
 use Rattle.model.proofs.Lists.{one, countFrom, count-set, any-count, count-rest, count-from, from-snoc, from-set, from-none, from-at, place-lt, place-is, count-pos, eqb-same}
 
 one-pos : (b : Bool) → ltb 0 (one b) ≡ b

@@ -15,7 +15,8 @@ use Rattle.terms.specs.Measures.{Shape, rangeRows, mostNumbers, mostScans}
 use Rattle.terms.specs.declared.Answer.{Answer}
 use Rattle.history.specs.History as H
 use Rattle.history.specs.History.{Call, begin, insert, update, delete, commit, abort, latest, readAt, ownRead, openScan, scanRead, sum, close, merge, release, pageCell, lineage, History, Record, active, Test, Verdict, accept, refuse, verdict, tests, reply, effect, answer, next, answerIf, nextIf, any, keep, count, upTo, total, isActive, stateOf, rowAt, rangeOf, recordsOf, mergedThrough, seenAt, seenBy, ended, visible, versionOf, read, scanAt, inserted, lastSetting, cellValue, notActive, notRunning, notGiven, noColumn, noRange, lacksRecords, notLater, later, outOfReach, anyActive, noPage, cellThrough}
-use Rattle.history.proofs.Lists.{All, all-map, all-at, keep-append, any-agree, not-not, neither, parts, eqb-other}
+use Rattle.history.specs.Lists.{All}
+use Rattle.history.proofs.Lists.{all-map, all-at, keep-append, any-agree, not-not, neither, parts, eqb-other}
 use Rattle.history.proofs.Accepted.{Passed, passed}
 use Rattle.history.proofs.Steps.{step, active-is, by-update, by-delete, made-new}
 use Rattle.history.proofs.Ranges.{last-agree}
@@ -25,7 +26,8 @@ use Rattle.history.proofs.Past.{past-next}
 use Rattle.layout.specs.View.{View}
 use Rattle.layout.specs.declared.Region.the-variants.{Opens, Changes}
 use Rattle.terms.specs.declared.Place.{Place}
-use Rattle.model.specs.Stored.{pageIn, cellIn, currentIn, usedIn, headerIn, within, rowsGiven, lastStamp, bears, place, openPlace, scanPlace, pagesOf}
+use Rattle.terms.specs.Places.{bears, place}
+use Rattle.model.specs.Stored.{pageIn, cellIn, currentIn, usedIn, headerIn, within, rowsGiven, lastStamp, openPlace, scanPlace, pagesOf}
 use Rattle.model.specs.Reading.{readIn, readCurrent, ownChanges, wordIn, scanPage, Tally, tally, sumIn}
 use Rattle.model.specs.Calls.{testsIn, replyIn, actIn, placesAfter, viewIf, placesIf, say, viewNext, placesNext, notOpenIn, noScanIn, notGivenIn, lacksIn, notLaterIn, laterIn, outOfReachIn, Typed}
 use Rattle.model.proofs.Lists.{clash}

@@ -13,22 +13,24 @@ use mir.ValLaws.{ofZ-toZ}
 use Rattle.terms.specs.Measures.{Shape, rangeRows, mostScans, withinLimits}
 use Rattle.terms.specs.declared.Answer.{Answer}
 use Rattle.history.specs.History.{Call, openScan, effect, nextIf, tests, verdict, Verdict, accept, refuse, Scan, withScans, History, Version, start, next, run, seenAt, rowAt, inserted, visible, versionOf, read, rangeOf, mergedThrough, scanAt, cellThrough}
-use Rattle.history.proofs.Lists.{All, nil, cons, parts}
+use Rattle.history.specs.Lists.{All, nil, cons}
+use Rattle.history.proofs.Lists.{parts}
 use Rattle.history.specs.Latest.{latestSetting}
 use Rattle.history.proofs.Latest.{latest-stamp}
 use Rattle.history.proofs.Past.{past-start}
 use Rattle.layout.specs.View.{View, put, renew}
 use Rattle.layout.specs.declared.Region.the-variants.{Cells}
 use Rattle.terms.specs.declared.Place.{Place}
-use Rattle.model.specs.Stored.{pageIn, cellIn, currentIn, freePlace, within}
+use Rattle.terms.specs.Places.{freePlace}
+use Rattle.model.specs.Stored.{pageIn, cellIn, currentIn, within}
 use Rattle.model.specs.Writing.{made}
 use Rattle.model.specs.Reading.{scanPage, wasCurrent}
 use Rattle.model.specs.Calls.{testsIn, actIn, viewIf, Typed, viewNext, placesNext, viewAfter, listAfter}
-use Rattle.model.specs.Claims.{storeAfter, historyAfter, lastCommitted, Reads, ScanReads, PageHolds, PagesHold, PageKept, ScansKeep}
+use Rattle.model.specs.Claims.{storeAfter, historyAfter, lastCommitted, Reads, PageHolds, PagesHold, PageKept, ScansKeep}
 use Rattle.model.proofs.Represents.{CurrentIs, Represents, Known}
 use Rattle.model.proofs.Holding.{cell-absent}
 use Rattle.model.proofs.Heads.{sees-at}
-use Rattle.model.proofs.Calls.{current-read, scan-read, known-next, one-call}
+use Rattle.model.proofs.Calls.{current-read, known-next, one-call}
 use Rattle.model.proofs.Scans.{scan-current, nth-last}
 use Rattle.model.proofs.Openings.{SamePage, same-after, scan-later}
 use Rattle.model.proofs.Made.{small-shape, made-represents}
@@ -67,12 +69,6 @@ reads S l n enough cs ys t r c b d =
     let q : Represents S (storeAfter S n cs) (listAfter S (made S) (replicate n freePlace) cs) (historyAfter S cs) × Known S (historyAfter S cs) = represented S l n enough ys in
     current-read S (storeAfter S n cs) _ (historyAfter S cs) (q .0) (q .1) t 0 r c (seenAt (historyAfter S cs) t) (sees-at (historyAfter S cs) t) b d
     ∙ read-committed (q .1) t r c
-
-pub scan-reads : ScanReads
-unfolding ScanReads
-scan-reads S l n enough cs ys k r c run b d =
-    let q : Represents S (storeAfter S n cs) (listAfter S (made S) (replicate n freePlace) cs) (historyAfter S cs) × Known S (historyAfter S cs) = represented S l n enough ys in
-    scan-read S (storeAfter S n cs) _ (historyAfter S cs) (q .0) (q .1) k r c run b d ∙ read-committed (q .1) (scanAt (historyAfter S cs) k .stamp) r c
 
 -- ---- pages
 zero-word : (w : ℕ) → w < 2 ^ 32 → toZ w32 w ≡ pos 0 → w ≡ 0

@@ -14,7 +14,8 @@ use mir.Syntax.{w32}
 use mir.Val.{toZ}
 use Rattle.terms.specs.Measures.{Shape, rangeRows}
 use Rattle.history.specs.History.{Call, History, Row, Record, Version, isCommitted, stateOf, rowAt, insertedValue, inserted, sets, versionIn, lastSetting, rangeOf, recordsOf, withRows, cellThrough}
-use Rattle.history.proofs.Lists.{All, nil, cons, all-map, all-map₂, all-keep, all-take, eqb-other}
+use Rattle.history.specs.Lists.{All, nil, cons}
+use Rattle.history.proofs.Lists.{all-map, all-map₂, all-keep, all-take, eqb-other}
 use Rattle.history.proofs.Steps.{Step, nothing, began, rowGiven, recordsMade, closed, scanOpened, scanClosed, merged, released}
 use Rattle.history.proofs.States.{closing-last}
 use Rattle.history.proofs.Order.{InOrder, order-step}

@@ -17,7 +17,8 @@ use mir.Val.{toZ, ofZ, SFits}
 use mir.ValLaws.{toZ-ofZ, ofZ-fits}
 use Rattle.terms.specs.Measures.{Shape, rangeRows}
 use Rattle.history.specs.History.{insert, History, Row, Record, active, isActive, stateOf, rowAt, bit, sets, rangeOf, recordsOf, mergedThrough, scanAt, seenAt, withRows}
-use Rattle.history.proofs.Lists.{All, nil, cons, all-append, all-map, all-at, any-none, eqb-other}
+use Rattle.history.specs.Lists.{All, nil, cons}
+use Rattle.history.proofs.Lists.{all-append, all-map, all-at, any-none, eqb-other}
 use Rattle.history.proofs.Steps.{Step, wasSet}
 use Rattle.history.specs.Latest.{stampOf}
 use Rattle.history.proofs.Timely.{Timely}
@@ -27,7 +28,8 @@ use Rattle.loops.proofs.Change.{set-fit}
 use Rattle.layout.specs.View.{View, renew, put}
 use Rattle.layout.specs.declared.Region.the-variants.{Header, Opens, RowTransaction, RowState, RowStamp, RowLink, RowMask, Current, Cells, Changes}
 use Rattle.terms.specs.declared.Place.{Place}
-use Rattle.model.specs.Stored.{rowIn, recordIn, valueIn, pageIn, cellIn, currentIn, placeOf, within, rowsGiven, openPlace, nextWord, bears, place, asOpen}
+use Rattle.terms.specs.Places.{bears, place}
+use Rattle.model.specs.Stored.{rowIn, recordIn, valueIn, pageIn, cellIn, currentIn, placeOf, within, rowsGiven, openPlace, nextWord, asOpen}
 use Rattle.model.specs.Reading.{scanPage, wasCurrent}
 use Rattle.model.specs.Writing.{noted, putCells, insertedAt, insertedIn}
 use Rattle.model.proofs.Lists.{same-part}

@@ -13,7 +13,8 @@ use lib.ListN.{length, getD, set, take}
 use lib.Seq.{take-suc}
 use Rattle.history.specs.History.{any, count}
 use Rattle.history.proofs.Lists.{any-append, is-true, refuted, eqb-equal, eqb-other}
-use Rattle.model.specs.Stored.{place, firstFrom, countBelow}
+use Rattle.terms.specs.Places.{place}
+use Rattle.model.specs.Stored.{firstFrom, countBelow}
 
 pub true-false : true ≡ false → ⊥
 true-false e = let z : _≡_ {A = ℕ} 0 1 = cc in omega arith

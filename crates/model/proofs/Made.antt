@@ -13,7 +13,8 @@ use mir.Syntax.{w32}
 use mir.Val.{toZ}
 use Rattle.terms.specs.Measures.{Shape, rangeRows, mostScans, mostColumns, mostRanges, mostRecords, mostSpares, between, withinLimits}
 use Rattle.history.specs.History.{Call, History, start, answers, answer, next, count, rowAt, insertedValue, inserted, lastSetting, recordsOf, lastThrough, mergedThrough, scanAt, cellThrough}
-use Rattle.history.proofs.Lists.{All, nil, cons, parts}
+use Rattle.history.specs.Lists.{All, nil, cons}
+use Rattle.history.proofs.Lists.{parts}
 use Rattle.history.proofs.Past.{past-start}
 use Rattle.loops.specs.Change.{changed, numbered}
 use Rattle.words.proofs.Words.{Fit}
@@ -24,7 +25,8 @@ use Rattle.layout.specs.declared.Region.{Region}
 use Rattle.layout.specs.declared.Region.the-variants.{Header, Opens, Current, PageState, PagePlace}
 use Rattle.terms.specs.declared.Place.{Place}
 use Rattle.layout.specs.Sizes.{sizesOf}
-use Rattle.model.specs.Stored.{PageWords, pageIn, cellIn, currentIn, placeOf, placesOf, pagesOf, within, freePlace, waitingPage, currentPage, asCurrent, countBelow}
+use Rattle.terms.specs.Places.{freePlace}
+use Rattle.model.specs.Stored.{PageWords, pageIn, cellIn, currentIn, placeOf, placesOf, pagesOf, within, waitingPage, currentPage, asCurrent, countBelow}
 use Rattle.model.specs.Writing.{blank, made}
 use Rattle.model.specs.Calls.{Typed, say, viewNext, placesNext, sayAll}
 use Rattle.model.proofs.Lists.{below-all, below-none}

@@ -15,7 +15,8 @@ use mir.Syntax.{w32}
 use mir.Val.{toZ}
 use Rattle.terms.specs.Measures.{Shape, rangeRows}
 use Rattle.history.specs.History.{History, Record, State, unknown, active, aborted, committed, Content, original, setting, ending, any, isActive, isCommitted, stateOf, bit, sets, newValue, inserted, versionIn, lastSetting, rangeOf, recordsOf}
-use Rattle.history.proofs.Lists.{All, nil, cons, all-append, all-map, all-at, eqb-other}
+use Rattle.history.specs.Lists.{All, nil, cons}
+use Rattle.history.proofs.Lists.{all-append, all-map, all-at, eqb-other}
 use Rattle.history.specs.Latest.{stampOf}
 use Rattle.history.proofs.Order.{InOrder}
 use Rattle.history.proofs.Ranges.{last-next, records-range}

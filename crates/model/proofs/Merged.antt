@@ -14,7 +14,8 @@ use mir.Syntax.{w32}
 use mir.Val.{toZ}
 use Rattle.terms.specs.Measures.{Shape, rangeRows}
 use Rattle.history.specs.History.{merge, History, Record, State, active, committed, Merge, Scan, any, isActive, isCommitted, stateOf, rowAt, rangeOf, recordsOf, lastThrough, mergedThrough, anyActive, waitingPages, scanAt, inserted, lastSetting, withMerges, cellThrough}
-use Rattle.history.proofs.Lists.{All, all-map, any-none, is-true, refuted, eqb-other, eqb-equal, parts}
+use Rattle.history.specs.Lists.{All}
+use Rattle.history.proofs.Lists.{all-map, any-none, is-true, refuted, eqb-other, eqb-equal, parts}
 use Rattle.history.proofs.Steps.{Step}
 use Rattle.history.proofs.States.{isClosed}
 use Rattle.history.proofs.Timely.{Timely}

@@ -13,14 +13,16 @@ use lib.ListN.{length, getD, set, length-append}
 use lib.Seq.{getD-append-seam, getD-append-add}
 use Rattle.terms.specs.Measures.{Shape}
 use Rattle.history.specs.History.{delete, History, Record, State, active, Content, ending, isActive, stateOf, rowAt, bit, sets, rangeOf, recordsOf, scanAt, deleteRecords, withTail}
-use Rattle.history.proofs.Lists.{All, nil, all-map, all-at, all-append, any-append, eqb-other}
+use Rattle.history.specs.Lists.{All, nil}
+use Rattle.history.proofs.Lists.{all-map, all-at, all-append, any-append, eqb-other}
 use Rattle.history.proofs.Steps.{Step, New, wasSet}
 use Rattle.history.proofs.Ranges.{records-made}
 use Rattle.history.proofs.Links.{noRecord, lastOf, last-of-append}
 use Rattle.layout.specs.View.{View, renew, put}
 use Rattle.layout.specs.declared.Region.the-variants.{Opens, RowTransaction, RowState, RowStamp, RowMask, Changes}
 use Rattle.terms.specs.declared.Place.{Place}
-use Rattle.model.specs.Stored.{RowWords, RecordWords, rowIn, recordIn, valueIn, pageIn, cellIn, currentIn, usedIn, openPlace, nextWord, bears, place, asOpen, asDelete}
+use Rattle.terms.specs.Places.{bears, place}
+use Rattle.model.specs.Stored.{RowWords, RecordWords, rowIn, recordIn, valueIn, pageIn, cellIn, currentIn, usedIn, openPlace, nextWord, asOpen, asDelete}
 use Rattle.model.specs.Reading.{scanPage, wasCurrent}
 use Rattle.model.specs.Writing.{noted, nextSlot, appended, filledIn, deletedIn}
 use Rattle.model.proofs.Lists.{eqb-same}

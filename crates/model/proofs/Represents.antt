@@ -12,7 +12,8 @@ use mir.Syntax.{w32}
 use mir.Val.{toZ}
 use Rattle.terms.specs.Measures.{Shape, mostColumns, mostRanges, mostRecords, mostSpares, mostTransactions, mostScans}
 use Rattle.history.specs.History.{History, Row, Record, State, unknown, active, aborted, committed, Content, original, setting, ending, Scan, Merge, isActive, stateOf, rowAt, bit, sets, rangeOf, recordsOf, mergedThrough, scanAt, seenAt, cellThrough}
-use Rattle.history.proofs.Lists.{All, among}
+use Rattle.history.specs.Lists.{All}
+use Rattle.history.proofs.Lists.{among}
 use Rattle.history.proofs.Steps.{wasSet}
 use Rattle.history.specs.Latest.{stampOf}
 use Rattle.history.proofs.Past.{Past}

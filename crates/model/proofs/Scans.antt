@@ -8,7 +8,7 @@ use Prim.Native.Nat.{ℕ, zero, suc, _+_, _≤_, _<_}
 use native.Mathlib.Omega.{arith}
 use native.Mathlib.Nat.{le-refl}
 use native.Mathlib.Decide.{ℕ-discrete}
-use lib.Dec.{T, leb, ltb, eqb, lt→ltb, le→leb}
+use lib.Dec.{T, leb, eqb, lt→ltb, le→leb}
 use lib.ListN.{length, set, length-append, length-set}
 use Rattle.terms.specs.Measures.{Shape, mostScans, mostNumbers}
 use Rattle.history.specs.History.{openScan, close, History, Scan, any, count, nth, change, stateOf, rowAt, recordsOf, scanAt, stopped, withScans}
@@ -17,7 +17,8 @@ use Rattle.history.proofs.Steps.{Step}
 use Rattle.layout.specs.View.{View, renew, put}
 use Rattle.layout.specs.declared.Region.the-variants.{Header}
 use Rattle.terms.specs.declared.Place.{Place}
-use Rattle.model.specs.Stored.{rowIn, recordIn, valueIn, pageIn, cellIn, currentIn, headerIn, scansGiven, mergesMade, bears, place, freePlace, scanPlace}
+use Rattle.terms.specs.Places.{place, freePlace, isScan}
+use Rattle.model.specs.Stored.{rowIn, recordIn, valueIn, pageIn, cellIn, currentIn, headerIn, scansGiven, mergesMade, scanPlace}
 use Rattle.model.specs.Reading.{scanPage, wasCurrent}
 use Rattle.model.proofs.Lists.{any-count}
 use Rattle.model.proofs.Book.{book-is, book-room, book-count, book-add, book-drop, book-found}
@@ -33,7 +34,7 @@ none = record { running = false; stamp = 0; before = 0 }
 same-place : (p q : Place) → ((f : Place → ℕ) → f p ≡ f q) → p ≡ q
 same-place p q f = λ i. record { number = f (λ z. z .number) i; stamp = f (λ z. z .stamp) i; merges = f (λ z. z .merges) i }
 
-pub scan-is : (ss : List Scan) (l : List Place) → ScansAre ss l → (k : ℕ) → any (λ p. bears k (p .number)) l ≡ (nth ss k none) .running
+pub scan-is : (ss : List Scan) (l : List Place) → ScansAre ss l → (k : ℕ) → any (isScan k) l ≡ (nth ss k none) .running
 scan-is ss l o k = book-is (λ p. p .number) (λ s. s .running) scanAs (λ i s. refl) freePlace refl none refl same-place ss l (o .same) k
 
 pub scan-count : (ss : List Scan) (l : List Place) → ScansAre ss l → count (λ p. not (eqb (p .number) 0)) l ≡ count (λ s. s .running) ss
@@ -58,7 +59,7 @@ scans-add ss l s o t b =
     }
 
 scans-drop : (ss : List Scan) (l : List Place) (k : ℕ) (s : Scan) → ScansAre ss l → T ((nth ss k none) .running) → s .running ≡ false
-    → ScansAre (change ss k s) (set l (place (λ p. bears k (p .number)) l) freePlace)
+    → ScansAre (change ss k s) (set l (place (isScan k) l) freePlace)
 scans-drop ss l k s o t n =
     record {
       room = rw length-set (o .room);
@@ -162,7 +163,7 @@ module _ (S : Shape) (v : View) (ps : List Place) (h : History) (o : Represents 
       go (yes e) = absurd (subst (λ (s : Scan). T (s .running)) (ap (λ (j : ℕ). nth ended j none) e ∙ nth-changed none (h .scans) i (stopped (scanAt h i)) running-known) t)
       go (no f) = scan-stays o k step refl j (nth-other none (h .scans) i (stopped (scanAt h i)) j f) t g c p q
 
-  pub close-kept : Step S h (close i) (withScans h ended) → Represents S v (set ps (place (λ p. bears i (p .number)) ps) freePlace) (withScans h ended)
+  pub close-kept : Step S h (close i) (withScans h ended) → Represents S v (set ps (place (isScan i) ps) freePlace) (withScans h ended)
   unfolding withScans rowIn recordIn valueIn stateOf rowAt recordsOf
   close-kept step =
       record {

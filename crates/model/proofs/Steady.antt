@@ -6,7 +6,7 @@ use Prim.Native.Nat.{ℕ, zero, suc, _+_, _≤_, _<_}
 use native.Mathlib.Omega.{arith}
 use native.Mathlib.Nat.{le-refl, le-trans}
 use native.Mathlib.Decide.{ℕ-discrete, decLt}
-use lib.Dec.{T, leb, leb→le}
+use lib.Dec.{T, leb→le}
 use lib.ListN.{length, length-append, List·getD-eq-default}
 use Rattle.terms.specs.Measures.{Shape}
 use Rattle.history.specs.History as H

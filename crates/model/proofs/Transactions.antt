@@ -11,9 +11,9 @@ use lib.Dec.{T, leb, ltb, eqb, eqb→eq, leb→le, le→leb, nltb→le, ltb→lt
 use lib.ListN.{length, getD, set, length-append}
 use lib.Seq.{getD-set-same, getD-set-other}
 use Rattle.terms.specs.Measures.{Shape, rangeRows, mostTransactions, mostNumbers}
-use Rattle.history.specs.History as H
 use Rattle.history.specs.History.{begin, commit, abort, History, Row, Record, State, unknown, active, aborted, committed, any, count, nth, change, isActive, stateOf, rowAt, rangeOf, recordsOf, scanAt, withTransactions}
-use Rattle.history.proofs.Lists.{All, nil, cons, all-map, eqb-other, eqb-equal, nth-added, nth-changed, nth-other, length-change, parts, both}
+use Rattle.history.specs.Lists.{All, nil, cons}
+use Rattle.history.proofs.Lists.{all-map, eqb-other, eqb-equal, nth-added, nth-changed, nth-other, length-change, parts, both}
 use Rattle.history.proofs.Steps.{Step, Closing, by-commit, by-abort}
 use Rattle.history.specs.Latest.{stampOf}
 use Rattle.history.proofs.States.{isGiven, given-known}
@@ -25,7 +25,8 @@ use Rattle.loops.proofs.Change.{changed-length, changed-outside, changed-at, ch
 use Rattle.layout.specs.View.{View, renew, put}
 use Rattle.layout.specs.declared.Region.the-variants.{Header, Opens, RowTransaction, RowState, RowStamp, TailTransaction, TailState, TailStamp, Used, Changes}
 use Rattle.terms.specs.declared.Place.{Place}
-use Rattle.model.specs.Stored.{RowWords, RecordWords, rowIn, recordIn, valueIn, pageIn, cellIn, currentIn, usedIn, headerIn, rowsGiven, transactionsGiven, lastStamp, bears, place, openPlace, asAborted, asCommitted}
+use Rattle.terms.specs.Places.{bears, place}
+use Rattle.model.specs.Stored.{RowWords, RecordWords, rowIn, recordIn, valueIn, pageIn, cellIn, currentIn, usedIn, headerIn, rowsGiven, transactionsGiven, lastStamp, openPlace, asAborted, asCommitted}
 use Rattle.model.specs.Reading.{scanPage, wasCurrent}
 use Rattle.model.specs.Writing.{begun, markTails, settled, freed, committedIn, abortedIn}
 use Rattle.model.proofs.Lists.{clash, same-truth, any-count, place-lt, place-is, part-in, is-equal}

@@ -15,7 +15,8 @@ use mir.Val.{toZ, ofZ, SFits}
 use mir.ValLaws.{toZ-ofZ, ofZ-fits}
 use Rattle.terms.specs.Measures.{Shape, mostColumns}
 use Rattle.history.specs.History.{update, History, Record, Version, active, original, setting, isCommitted, upTo, stateOf, rowAt, insertedValue, inserted, bit, sets, rangeOf, recordsOf, badMask, newColumns, originalRecords, updateRecords, withTail, cellThrough, scanAt}
-use Rattle.history.proofs.Lists.{All, is-true, is-false, refuted, parts, both, among, among-upTo}
+use Rattle.history.specs.Lists.{All}
+use Rattle.history.proofs.Lists.{is-true, is-false, refuted, parts, both, among, among-upTo}
 use Rattle.history.proofs.Steps.{Step, New, wasSet, new-columns}
 use Rattle.history.proofs.Masks.{bit-low}
 use Rattle.history.proofs.Ranges.{last-unset}
@@ -251,9 +252,6 @@ module _ (S : Shape) (v : View) (ps : List Place) (h : History) (o : Represents 
 
       here₁ : list₁ (rangeOf r) ≡ recs ++ w ∷ []
       here₁ = rw (eqb-same (rangeOf r))
-
-      here₂ : list₂ (rangeOf r) ≡ (recs ++ w ∷ []) ++ y ∷ []
-      here₂ = rw (eqb-same (rangeOf r)) (sym (append-assoc recs (w ∷ []) (y ∷ [])))
 
       used₁ : usedIn u₁ (rangeOf r) ≡ suc (length recs)
       used₁ = used-here S t r asOriginal fresh v (o .whole) inside room₁ ∙ ap suc (o .tails (rangeOf r) inside .used-all)

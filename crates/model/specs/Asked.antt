@@ -9,7 +9,8 @@ use Rattle.layout.specs.declared.Sizes.{Sizes}
 use Rattle.layout.specs.declared.Region.{Region}
 use Rattle.layout.specs.View.{View}
 use Rattle.history.specs.History.{rangeOf}
-use Rattle.model.specs.Stored.{slot, place, openPlace, usedIn, headerIn, rowsGiven}
+use Rattle.terms.specs.Places.{place}
+use Rattle.model.specs.Stored.{slot, openPlace, usedIn, headerIn, rowsGiven}
 
 -- the shape that sizes were made of
 abbrev pub shapeIn : Sizes → Shape

@@ -13,12 +13,13 @@ use Rattle.terms.specs.Measures.{Shape, rangeRows, mostScans, mostNumbers, most
 use Rattle.terms.specs.declared.Refusal.{Refusal}
 use Rattle.terms.specs.declared.Answer.{Answer}
 use Rattle.history.specs.History.{Call, begin, insert, update, delete, commit, abort, latest, readAt, ownRead, openScan, scanRead, sum, close, merge, release, pageCell, lineage, Test, _when_, verdict, Verdict, accept, refuse, answerIf, any, count, noColumn, noRange, badMask, rangeOf}
-use Rattle.history.proofs.Lists.{All}
+use Rattle.history.specs.Lists.{All}
 use Rattle.loops.specs.Change.{changed}
 use Rattle.layout.specs.View.{View, put, renew}
 use Rattle.layout.specs.declared.Region.the-variants.{Header, Opens}
 use Rattle.terms.specs.declared.Place.{Place}
-use Rattle.model.specs.Stored.{rowIn, recordIn, slot, valueIn, openPlace, pageIn, currentIn, cellIn, within, usedIn, headerIn, rowsGiven, transactionsGiven, scansGiven, lastStamp, mergesMade, openState, abortedState, deleteKind, freePlace, place, bears, scanPlace, pagesOf, countBelow, wordLimit}
+use Rattle.terms.specs.Places.{freePlace, place, bears, isScan}
+use Rattle.model.specs.Stored.{rowIn, recordIn, slot, valueIn, openPlace, pageIn, currentIn, cellIn, within, usedIn, headerIn, rowsGiven, transactionsGiven, scansGiven, lastStamp, mergesMade, openState, abortedState, deleteKind, scanPlace, pagesOf, countBelow, wordLimit}
 use Rattle.model.specs.Reading.{headIn, hasRecord, readIn, readCurrent, ownChanges, scanPage, sumIn, sees, visibleIn, answersFor, walk, belowLineage, wordIn, wasCurrent, tally}
 use Rattle.model.specs.Writing.{made, blank, noted, settled, freed, nextSlot, appended, filledIn, newBitsIn, originalAppended, settingAppended, applies, applied, newestOf, begun, committedIn, abortedIn, insertedAt, insertedIn, updatedIn, deletedIn, mergedIn, releasedIn, releasable, recordsWanted, anyOpen, freeIn}
 
@@ -29,7 +30,7 @@ notOpenIn v t = not (any (bears t) (v Opens))
 
 -- 4
 unfoldable pub noScanIn : List Place → ℕ → Bool
-noScanIn ps k = not (any (λ p. bears k (p .number)) ps)
+noScanIn ps k = not (any (isScan k) ps)
 
 -- 5
 unfoldable pub notGivenIn : View → ℕ → Bool
@@ -175,7 +176,7 @@ placesAfter v ps (openScan s) =
     set ps (place (λ p. eqb (p .number) 0) ps) record { number = headerIn v scansGiven + 1; stamp = s; merges = headerIn v mergesMade }
 placesAfter v ps (scanRead k r c) = ps
 placesAfter v ps (sum k c) = ps
-placesAfter v ps (close k) = set ps (place (λ p. bears k (p .number)) ps) freePlace
+placesAfter v ps (close k) = set ps (place (isScan k) ps) freePlace
 placesAfter v ps (merge g c n) = ps
 placesAfter v ps release = ps
 placesAfter v ps (pageCell c r) = ps

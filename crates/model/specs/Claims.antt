@@ -12,11 +12,12 @@ use mir.Val.{toZ}
 use Rattle.terms.specs.Measures.{Shape, rangeRows, mostScans, withinLimits}
 use Rattle.terms.specs.declared.Answer.{Answer}
 use Rattle.history.specs.History.{Call, openScan, History, start, run, tests, verdict, accept, seenAt, inserted, visible, mergedThrough, scanAt, rangeOf, cellThrough}
-use Rattle.history.proofs.Lists.{All}
+use Rattle.history.specs.Lists.{All}
 use Rattle.history.specs.Latest.{latestSetting}
 use Rattle.layout.specs.View.{View}
-use Rattle.model.specs.Stored.{pageIn, cellIn, currentIn, within, freePlace}
-use Rattle.model.specs.Reading.{readCurrent, readIn, scanPage}
+use Rattle.terms.specs.Places.{freePlace}
+use Rattle.model.specs.Stored.{pageIn, cellIn, currentIn, within}
+use Rattle.model.specs.Reading.{readCurrent, scanPage}
 use Rattle.model.specs.Writing.{made}
 use Rattle.model.specs.Calls.{Typed, viewAfter, listAfter}
 
@@ -32,19 +33,11 @@ historyAfter S cs = run S start cs
 unfoldable pub lastCommitted : History → ℕ → ℕ → ℕ → Answer
 lastCommitted h t r c = cond (visible (seenAt h t) h r) (Answer.Value (latestSetting h t r c (inserted h r c) (h .tail) .value)) Answer.None
 
--- "each read gives the value last committed for that row and column at or before the stamp read": on the current page and on a scan's
+-- "each read gives the value last committed for that row and column at or before the stamp read"
 unfoldable pub Reads : Type 0
 Reads =
     (S : Shape) → T (withinLimits S) → (n : ℕ) → mostScans ≤ n → (cs : List Call) → All Typed cs → (t r c : ℕ)
     → r < length ((historyAfter S cs) .rows) → c < S .columns → readCurrent S (storeAfter S n cs) t 0 r c ≡ lastCommitted (historyAfter S cs) t r c
-
-unfoldable pub ScanReads : Type 0
-ScanReads =
-    (S : Shape) → T (withinLimits S) → (n : ℕ) → mostScans ≤ n → (cs : List Call) → All Typed cs → (k r c : ℕ)
-    → T (scanAt (historyAfter S cs) k .running) → r < length ((historyAfter S cs) .rows) → c < S .columns
-    → readIn S (storeAfter S n cs) (scanAt (historyAfter S cs) k .stamp) 0
-    (scanPage S (storeAfter S n cs) (scanAt (historyAfter S cs) k .before) (rangeOf r) c) r c
-    ≡ lastCommitted (historyAfter S cs) (scanAt (historyAfter S cs) k .stamp) r c
 
 -- "each merged page, while current, holds, for every row, the last committed setting among the tail records it has taken in, and for a row with none the
 -- value it was inserted with, or 0 if that row was never inserted". The records taken in are those up to the page's lineage.

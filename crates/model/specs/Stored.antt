@@ -1,7 +1,7 @@
 -- How a view of the memory is read: the header's words, one row, one tail record, one page, and what the words for states and kinds mean.
 -- Where a word can hold more than the store writes, the tests here say what every other value counts as; so each call answers for every memory.
-use mathlib.Core.Bool.{Bool, not, cond, _&&_}
-use mathlib.Core.List.{List, [], _∷_}
+use mathlib.Core.Bool.{Bool, cond}
+use mathlib.Core.List.{List}
 use Prim.Native.Nat.{ℕ, zero, suc, _+_, _*_, _-_, _%_, _^_}
 use lib.Dec.{ltb, eqb}
 use lib.ListN.{getD}
@@ -10,6 +10,7 @@ use Rattle.layout.specs.View.{View}
 use Rattle.layout.specs.Regions.{rowsAt, transactionsAt, scansAt, stampAt, mergesAt}
 use Rattle.layout.specs.declared.Region.the-variants.{Header, Opens, RowTransaction, RowState, RowStamp, RowLink, RowMask, TailTransaction, TailRow, TailKind, TailMask, TailLink, TailState, TailStamp, TailValues, Used, Current, PageState, PagePlace, PageMade, PageReplaced, PageLineage, PageNewest, Cells}
 use Rattle.terms.specs.declared.Place.{Place}
+use Rattle.terms.specs.Places.{freePlace, place, bears, isScan}
 
 -- ---- sizes that a shape makes
 abbrev pub placesOf : Shape → ℕ
@@ -184,12 +185,6 @@ unfoldable pub cellIn : View → ℕ → ℕ → ℕ
 cellIn v p i = getD (v Cells) (p * rangeRows + i) 0
 
 -- ---- searches
-module _ {A : Type 0} where
-  -- the first place of a list that passes, else its length
-  abbrev pub place : (A → Bool) → List A → ℕ
-  place p [] = 0
-  place p (x ∷ l) = cond (p x) 0 (suc (place p l))
-
 -- the first of the n numbers from i that passes, else i + n
 abbrev pub firstFrom : (ℕ → Bool) → ℕ → ℕ → ℕ
 firstFrom f zero i = i
@@ -200,17 +195,10 @@ abbrev pub countBelow : (ℕ → Bool) → ℕ → ℕ
 countBelow f zero = 0
 countBelow f (suc n) = cond (f n) (suc (countBelow f n)) (countBelow f n)
 
--- An open place bears the number t. Number 0 marks a free place, so no call's number 0 is ever found.
-abbrev pub bears : ℕ → ℕ → Bool
-bears t k = not (eqb k 0) && eqb k t
-
 -- the place of open transaction t
 unfoldable pub openPlace : View → ℕ → ℕ
 openPlace v t = place (bears t) (v Opens)
 
-abbrev pub freePlace : Place
-freePlace = record { number = 0; stamp = 0; merges = 0 }
-
 -- the place of open scan k
 unfoldable pub scanPlace : List Place → ℕ → Place
-scanPlace ps k = getD ps (place (λ p. bears k (p .number)) ps) freePlace
+scanPlace ps k = getD ps (place (isScan k) ps) freePlace

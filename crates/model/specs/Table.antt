@@ -6,7 +6,7 @@ use Rattle.terms.specs.Measures.{mostScans}
 use Rattle.terms.specs.declared.Answer.{Answer}
 use Rattle.history.specs.History.{definitions}
 use Rattle.history.specs.Table.{Case, table, wanted}
-use Rattle.model.specs.Stored.{freePlace}
+use Rattle.terms.specs.Places.{freePlace}
 use Rattle.model.specs.Writing.{made}
 use Rattle.model.specs.Calls.{sayAll, execution}
 

@@ -16,7 +16,8 @@ use Rattle.layout.specs.View.{View, renew, put}
 use Rattle.layout.specs.declared.Region.the-variants.{Header, Opens, RowTransaction, RowState, RowStamp, RowLink, RowMask, TailTransaction, TailRow, TailKind, TailMask, TailLink, TailState, TailStamp, TailValues, Used, Current, PageState, PagePlace, PageMade, PageReplaced, PageLineage, PageNewest, Cells, Changes}
 use Rattle.terms.specs.declared.Place.{Place}
 use Rattle.layout.specs.Sizes.{sizesOf}
-use Rattle.model.specs.Stored.{RecordWords, rowIn, recordIn, pageIn, slot, valueIn, currentIn, placeOf, placesOf, pagesOf, cellIn, within, usedIn, headerIn, rowsGiven, transactionsGiven, lastStamp, mergesMade, nextWord, asOpen, asCommitted, asAborted, asOriginal, asSetting, asDelete, asFree, asCurrent, asWaiting, committedState, settingKind, freePage, waitingPage, place, firstFrom, openPlace}
+use Rattle.terms.specs.Places.{place}
+use Rattle.model.specs.Stored.{RecordWords, rowIn, recordIn, pageIn, slot, valueIn, currentIn, placeOf, placesOf, pagesOf, cellIn, within, usedIn, headerIn, rowsGiven, transactionsGiven, lastStamp, mergesMade, nextWord, asOpen, asCommitted, asAborted, asOriginal, asSetting, asDelete, asFree, asCurrent, asWaiting, committedState, settingKind, freePage, waitingPage, firstFrom, openPlace}
 
 -- ---- open transactions
 -- begin: the first free place takes the next number, with nothing noted

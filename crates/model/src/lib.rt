@@ -2,7 +2,7 @@
 // The code has the two types from here, so that its contracts can cite the definitions as they stand.
 use terms::Place;
 ghost use mathlib.Core.Path.{_≡_};
-ghost use Rattle.model.specs.Stored.{freePlace};
+ghost use Rattle.terms.specs.Places.{freePlace};
 
 // How a walk along a row's tail records ends: with the word of a record that answers, or at a record number that is not above the limit of the walk.
 pub enum Walk {

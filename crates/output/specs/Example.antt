@@ -1,9 +1,7 @@
 -- Document 01's worked example, and inputs that end in other ways, by computation.
-use mathlib.Core.Path.{_≡_, refl}
 use mathlib.Core.List.{List, [], _∷_, _++_}
 use Prim.Native.Nat.{ℕ}
 use Rattle.decimal.specs.Decimal.{text}
-use Rattle.output.specs.Output.{output}
 
 -- "Shape 2, 1, 4, 1"
 unfoldable pub shape : List ℕ

@@ -16,14 +16,15 @@ use Rattle.layout.specs.View.{View, view, lay}
 use Rattle.layout.proofs.Lay.{view-lay}
 use Rattle.history.specs.History.{Call, History, start, answer, next, run, tests, reply, verdict, Verdict, accept, answerIf, read, seenAt, notGiven, noColumn}
 use Rattle.history.specs.Claims.{strike, Reads, latest-reads, at-reads, scan-reads, isRefused, answerAt, ReadAt, Striking, Stability}
-use Rattle.history.proofs.Lists.{All, nil, cons, all-keep, is-true, clash}
+use Rattle.history.specs.Lists.{All, nil, cons}
+use Rattle.history.proofs.Lists.{all-keep, is-true, clash}
 use Rattle.history.proofs.Accepted.{Passed, passed}
 use Rattle.history.proofs.Striking.{striking}
 use Rattle.history.proofs.Stability.{stability}
 use Rattle.making.specs.Made.{made, madeView, madeList}
 use Rattle.making.proofs.Usable.{made-long, made-fits}
 use Rattle.making.proofs.Answers.{laid as making-laid}
-use Rattle.model.specs.Stored.{freePlace}
+use Rattle.terms.specs.Places.{freePlace}
 use Rattle.model.specs.Writing.{made as modelMade}
 use Rattle.model.specs.Calls.{Typed, viewNext, viewAfter, listAfter as modelList}
 use Rattle.model.specs.Claims.{storeAfter, historyAfter}

@@ -23,7 +23,7 @@ use Rattle.layout.proofs.Cut.{join-length}
 use Rattle.layout.proofs.View.{Long, view-at}
 use Rattle.layout.proofs.Lay.{view-lay}
 use Rattle.history.specs.History.{Call, History, start, answer, answers, next}
-use Rattle.history.proofs.Lists.{All, nil, cons}
+use Rattle.history.specs.Lists.{All, nil, cons}
 use Rattle.history.proofs.Past.{past-start}
 use Rattle.facts.specs.Usable.{measuresBytes, shapeIn, sizesIn, usable}
 use Rattle.making.specs.Made.{blankView, placedView, madeView, madeList}

@@ -22,11 +22,12 @@ use Rattle.history.proofs.Order.{Placed, placed-at}
 use Rattle.history.proofs.Ranges.{records-range}
 use Rattle.history.proofs.Timely.{Timely}
 use Rattle.history.proofs.Links.{noRecord, lastOf, last-of-row}
-use Rattle.scans.specs.Places.{freePlace, opened, openCount}
+use Rattle.scans.specs.Places.{opened, openCount}
 use Rattle.facts.specs.Facts.{rowsGiven, transactionsGiven, scansGiven, lastStamp, mergesMade, used, inUse, factsHold}
 use Rattle.facts.proofs.Ready.{Stored, sized}
 use Rattle.facts.proofs.Usable.{Linked, Usable}
-use Rattle.model.specs.Stored.{rowIn, recordIn, valueIn, pageIn, cellIn, currentIn, placeOf, placesOf, pagesOf, bears, place, currentPage, scanPlace}
+use Rattle.terms.specs.Places.{bears, place, freePlace, isScan}
+use Rattle.model.specs.Stored.{rowIn, recordIn, valueIn, pageIn, cellIn, currentIn, placeOf, placesOf, pagesOf, currentPage, scanPlace}
 use Rattle.model.proofs.Lists.{same-part, place-is}
 use Rattle.model.proofs.Book.{book-only}
 use Rattle.model.proofs.Merged.{place-in, place-mod}
@@ -201,17 +202,17 @@ module _ (S : Shape) (v : View) (ps : List Place) (h : History) (o : Represents 
       t = getD ps j freePlace .number
 
       own : ℕ
-      own = place (λ p. bears t (p .number)) ps
+      own = place (isScan t) ps
 
-      found : T (any (λ p. bears t (p .number)) ps)
-      found = place-any (λ p. bears t (p .number)) ps freePlace j (within-places ps j n) (bearing t n)
+      found : T (any (isScan t) ps)
+      found = place-any (isScan t) ps freePlace j (within-places ps j n) (bearing t n)
 
       running : T (scanAt h t .running)
       running = subst (λ (b : Bool). T b) (scan-is (h .scans) ps (o .scans) t) found
 
       own-number : getD ps own freePlace .number ≡ t
       own-number =
-          eqb→eq _ t (parts (not (eqb (getD ps own freePlace .number) 0)) _ (place-is (λ p. bears t (p .number)) ps freePlace found) .1)
+          eqb→eq _ t (parts (not (eqb (getD ps own freePlace .number) 0)) _ (place-is (isScan t) ps freePlace found) .1)
 
       here : Dec (j < own) → Dec (own < j) → j ≡ own
       here (yes p) q = absurd (scans-twice t j own p n refl own-number)

@@ -18,7 +18,8 @@ use Rattle.layout.specs.declared.Region.the-variants.{Opens, RowTransaction, Ro
 use Rattle.layout.specs.Regions.{len}
 use Rattle.layout.specs.View.{View}
 use Rattle.layout.proofs.View.{Long}
-use Rattle.scans.specs.Places.{freePlace, everyOpen, among, differ}
+use Rattle.terms.specs.Places.{freePlace}
+use Rattle.scans.specs.Places.{everyOpen, among, differ}
 use Rattle.facts.specs.Facts.{rowsGiven, transactionsGiven, scansGiven, lastStamp, mergesMade, used, firstSlot, each, rowsBetween, rangeBetween, pageAtMost, inUse, waiting, storedWithin, countsWithin, rowNamed, rangeNamesRows, recordsNameRows, numbersGiven, linkHolds, rowLinked, recordLinked, rangeLinked, linksHold, stampsWithin, mergesWithin, openDiffer, pagePlaced, pagesPlaced, lineageWithin, lineagesWithin, factsHold}
 use Rattle.facts.specs.Tests.{Sized}
 use Rattle.facts.proofs.Each.{each-true}

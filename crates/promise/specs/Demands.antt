@@ -13,11 +13,11 @@ use Rattle.terms.specs.Measures.{Shape, withinLimits, mostScans}
 use Rattle.terms.specs.declared.Answer.{Answer}
 use Rattle.terms.specs.declared.Place.{Place}
 use Rattle.terms.specs.declared.Refusal.{Refusal}
-use Rattle.words.proofs.Words.{Bytes}
+use Rattle.words.specs.Words.{Bytes}
 use Rattle.layout.specs.Sizes.{bytesNeeded}
 use Rattle.history.specs.History.{Call, openScan, start, answers, run, tests, verdict, accept, scanAt}
 use Rattle.history.specs.Claims.{strike, plainAnswers, Reads, isRefused, historyBefore, callAt}
-use Rattle.history.proofs.Lists.{All}
+use Rattle.history.specs.Lists.{All}
 use Rattle.facts.specs.Usable.{usable}
 use Rattle.making.specs.Made.{made, madeList}
 use Rattle.model.specs.Calls.{Typed}

@@ -1,8 +1,7 @@
 -- Whether a record answers for a column: one lemma for each way through the code.
 use Prim.Native.Nat.{ℕ}
 use mathlib.Core.Path.{_≡_}
-use mathlib.Core.Bool.{Bool, true, false, _&&_, _||_}
-use lib.Dec.{eqb}
+use mathlib.Core.Bool.{Bool, true, false}
 use lib.ListN.{getD}
 use borrow.Author.Tests.{ne-eqb}
 use Rattle.layout.specs.declared.Region.the-variants.{TailKind, TailMask}

@@ -1,16 +1,14 @@
 -- That an index lies in its region: the products of the sizes.
-use Prim.Native.Nat.{ℕ, _+_, _*_, _-_, _/_, _%_, _≤_, _<_}
-use mathlib.Core.Path.{_≡_}
+use Prim.Native.Nat.{ℕ, _+_, _*_, _-_, _≤_, _<_}
 use native.Mathlib.Omega.{arith}
-use native.Mathlib.Nat.{mul-le-mul, mul-le-mul-right, mul-le-mul-left, suc-mul, mul-comm}
-use Rattle.terms.specs.Measures.{rangeRows}
+use native.Mathlib.Nat.{mul-le-mul, mul-le-mul-right, suc-mul, mul-comm}
 use lib.ListN.{getD}
 use Rattle.layout.specs.declared.Sizes.{Sizes}
 use Rattle.layout.specs.declared.Region.the-variants.{RowLink}
 use Rattle.layout.specs.View.{View}
 use Rattle.history.specs.History.{rangeOf}
-use Rattle.model.specs.Stored.{slot, usedIn, headerIn, rowsGiven}
-use Rattle.model.specs.Asked.{shapeIn, Proper}
+use Rattle.model.specs.Stored.{usedIn, headerIn, rowsGiven}
+use Rattle.model.specs.Asked.{Proper}
 use Rattle.model.specs.Asked.{Linked}
 
 -- place i of block p, of blocks of one size

@@ -1,21 +1,21 @@
 -- What the table of a list tells, where at most 16 scans are open: each question has the answer that the list itself gives.
-use Prim.Native.Nat.{ℕ, zero, suc, _+_, _-_, _≤_, _<_, min}
+use Prim.Native.Nat.{ℕ, zero, suc, _+_, _-_, _≤_, _<_}
 use mathlib.Core.Path.{_≡_, refl, ap, sym, _∙_}
 use mathlib.Core.Bool.{Bool, true, false, not, cond, _&&_, _||_}
 use mathlib.Core.List.{List, [], _∷_, _++_, map}
 use native.Mathlib.Omega.{arith}
 use lib.Dec.{eqb, ltb, leb, leb·zero}
-use lib.ListN.{length, getD, take, replicate, length-append, length-replicate, length-map, List·getD-map, List·getD-append, replicate-append-replicate}
-use lib.Seq.{take-append-add, take-append-seam, take-at, take-take}
-use borrow.Author.Tests.{eq-eqb, ne-eqb, eqb-true, eqb-false, lt-ltb, le-ltb}
+use lib.ListN.{length, getD, take, replicate, length-replicate, length-map, List·getD-map, List·getD-append, replicate-append-replicate}
+use lib.Seq.{take-append-add, take-at}
+use borrow.Author.Tests.{ne-eqb, eqb-true, eqb-false}
 use Rattle.terms.specs.Measures.{mostScans}
 use Rattle.terms.specs.declared.Place.{Place}
 use Rattle.loops.specs.declared.Found.{Found}
 use Rattle.loops.specs.declared.Found.the-variants.{At, Nothing}
 use Rattle.loops.specs.Search.{allBetween, firstAt}
 use Rattle.loops.proofs.Search.{first-in, first-at}
-use Rattle.scans.specs.declared.Scans.{Scans}
-use Rattle.scans.specs.Places.{freePlace, bears, isOpen, place, firstFree, opened, openedAt, openCount, everyOpen, someOpen, among, differ}
+use Rattle.terms.specs.Places.{freePlace, isScan, place}
+use Rattle.scans.specs.Places.{opened, openedAt, openCount, everyOpen, someOpen, among, differ}
 use Rattle.scans.specs.Table.{entries, tableOf, findIn, anyBelow}
 use Rattle.scans.proofs.Table.{at-length}
 
@@ -88,7 +88,7 @@ module _ (k n : ℕ) (nonzero : eqb k 0 ≡ false) where
   searched c ps = firstAt k c (map (λ p. p .number) (opened ps) ++ replicate n 0)
 
   found-place : (ps : List Place) (c d j : ℕ) → searched c ps ≡ At (c + j)
-      → (place (bears k) ps + d ≡ getD (openedAt d ps) j 0) × (getD ps (place (bears k) ps) freePlace ≡ getD (opened ps) j freePlace) × (j < openCount ps)
+      → (place (isScan k) ps + d ≡ getD (openedAt d ps) j 0) × (getD ps (place (isScan k) ps) freePlace ≡ getD (opened ps) j freePlace) × (j < openCount ps)
   found-place [] c d j e = absurd (clash (c + j) (sym (zeros-none k c n nonzero) ∙ e))
     where
       clash : (i : ℕ) → Nothing ≡ At i → ⊥
@@ -97,15 +97,15 @@ module _ (k n : ℕ) (nonzero : eqb k 0 ≡ false) where
     where
       Later : Type 0
       Later = (c d j : ℕ) → searched c ps ≡ At (c + j)
-          → (place (bears k) ps + d ≡ getD (openedAt d ps) j 0) × (getD ps (place (bears k) ps) freePlace ≡ getD (opened ps) j freePlace) × (j < openCount ps)
+          → (place (isScan k) ps + d ≡ getD (openedAt d ps) j 0) × (getD ps (place (isScan k) ps) freePlace ≡ getD (opened ps) j freePlace) × (j < openCount ps)
 
       at : (i : ℕ) → At c ≡ At i → c ≡ i
       at i q = cc
 
       go : (o b : Bool) → eqb (p .number) k ≡ b → Later
           → firstAt k c (map (λ p. p .number) (cond (not o) (p ∷ opened ps) (opened ps)) ++ replicate n 0) ≡ At (c + j)
-          → (cond (not o && b) 0 (suc (place (bears k) ps)) + d ≡ getD (cond (not o) (d ∷ openedAt (suc d) ps) (openedAt (suc d) ps)) j 0)
-          × (getD (p ∷ ps) (cond (not o && b) 0 (suc (place (bears k) ps))) freePlace ≡ getD (cond (not o) (p ∷ opened ps) (opened ps)) j freePlace)
+          → (cond (not o && b) 0 (suc (place (isScan k) ps)) + d ≡ getD (cond (not o) (d ∷ openedAt (suc d) ps) (openedAt (suc d) ps)) j 0)
+          × (getD (p ∷ ps) (cond (not o && b) 0 (suc (place (isScan k) ps))) freePlace ≡ getD (cond (not o) (p ∷ opened ps) (opened ps)) j freePlace)
           × (j < length (cond (not o) (p ∷ opened ps) (opened ps)))
       go true b q later f = let t = later c (suc d) j f in (omega (arith, t .0), t .1, t .2)
       go false true q later f = first j (at (c + j) (rw q at f))
@@ -117,34 +117,34 @@ module _ (k n : ℕ) (nonzero : eqb k 0 ≡ false) where
       go false false q later f = next j (rw q at f)
         where
           next : (i : ℕ) → searched (c + 1) ps ≡ At (c + i)
-              → (suc (place (bears k) ps) + d ≡ getD (d ∷ openedAt (suc d) ps) i 0)
-              × (getD ps (place (bears k) ps) freePlace ≡ getD (p ∷ opened ps) i freePlace) × (i < suc (openCount ps))
+              → (suc (place (isScan k) ps) + d ≡ getD (d ∷ openedAt (suc d) ps) i 0)
+              × (getD ps (place (isScan k) ps) freePlace ≡ getD (p ∷ opened ps) i freePlace) × (i < suc (openCount ps))
           next zero r = absurd (omega (arith, (first-in k (c + 1) (c + 0) (map (λ p. p .number) (opened ps) ++ replicate n 0) r) .0))
           next (suc i) r =
               let t = later (c + 1) (suc d) i (r ∙ ap At (omega arith)) in
               (omega (arith, t .0), t .1, omega (arith, t .2))
 
   -- and where none is found no place of the list bears k
-  found-none : (ps : List Place) (c : ℕ) → searched c ps ≡ Nothing → place (bears k) ps ≡ length ps
+  found-none : (ps : List Place) (c : ℕ) → searched c ps ≡ Nothing → place (isScan k) ps ≡ length ps
   found-none [] c e = refl
   found-none (p ∷ ps) c e = go (eqb (p .number) 0) (eqb (p .number) k) refl (found-none ps) e
     where
       clash : At c ≡ Nothing → ⊥
       clash q = let z : _≡_ {A = ℕ} 0 1 = cc in omega arith
 
-      go : (o b : Bool) → eqb (p .number) k ≡ b → ((c : ℕ) → searched c ps ≡ Nothing → place (bears k) ps ≡ length ps)
+      go : (o b : Bool) → eqb (p .number) k ≡ b → ((c : ℕ) → searched c ps ≡ Nothing → place (isScan k) ps ≡ length ps)
           → firstAt k c (map (λ p. p .number) (cond (not o) (p ∷ opened ps) (opened ps)) ++ replicate n 0) ≡ Nothing
-          → cond (not o && b) 0 (suc (place (bears k) ps)) ≡ suc (length ps)
+          → cond (not o && b) 0 (suc (place (isScan k) ps)) ≡ suc (length ps)
       go true b q later f = ap suc (later c f)
       go false true q later f = absurd (clash (rw q at f))
       go false false q later f = ap suc (later (c + 1) (rw q at f))
 
 -- no place bears 0
-none-zero : (ps : List Place) → place (bears 0) ps ≡ length ps
+none-zero : (ps : List Place) → place (isScan 0) ps ≡ length ps
 none-zero [] = refl
 none-zero (p ∷ ps) = go (eqb (p .number) 0) (none-zero ps)
   where
-    go : (b : Bool) → place (bears 0) ps ≡ length ps → cond (not b && b) 0 (suc (place (bears 0) ps)) ≡ suc (length ps)
+    go : (b : Bool) → place (isScan 0) ps ≡ length ps → cond (not b && b) 0 (suc (place (isScan 0) ps)) ≡ suc (length ps)
     go true e = ap suc e
     go false e = ap suc e
 
@@ -153,10 +153,10 @@ none-zero (p ∷ ps) = go (eqb (p .number) 0) (none-zero ps)
 -- scan k stands at entry j of the table
 pub record Located (ps : List Place) (k j : ℕ) : Type 0 where
   pub entry : j < openCount ps
-  pub number-is : getD ps (place (bears k) ps) freePlace .number ≡ k
-  pub place-is : getD (tableOf ps .places) j 0 ≡ place (bears k) ps
-  pub stamp-is : getD (tableOf ps .stamps) j 0 ≡ getD ps (place (bears k) ps) freePlace .stamp
-  pub merges-is : getD (tableOf ps .merges) j 0 ≡ getD ps (place (bears k) ps) freePlace .merges
+  pub number-is : getD ps (place (isScan k) ps) freePlace .number ≡ k
+  pub place-is : getD (tableOf ps .places) j 0 ≡ place (isScan k) ps
+  pub stamp-is : getD (tableOf ps .stamps) j 0 ≡ getD ps (place (isScan k) ps) freePlace .stamp
+  pub merges-is : getD (tableOf ps .merges) j 0 ≡ getD ps (place (isScan k) ps) freePlace .merges
 
 module _ (ps : List Place) (few : openCount ps ≤ mostScans) where
   field-entries : (f : Place → ℕ) → entries (map f (opened ps)) ≡ map f (opened ps) ++ replicate (mostScans - openCount ps) 0
@@ -175,10 +175,6 @@ module _ (ps : List Place) (few : openCount ps ≤ mostScans) where
   pub table-count : tableOf ps .count ≡ openCount ps
   unfolding tableOf
   table-count = omega arith
-
-  pub table-more : tableOf ps .more ≡ false
-  unfolding tableOf
-  table-more = le-ltb mostScans (openCount ps) few
 
   pub table-at-most : (f : Place → ℕ) (b : ℕ) → allBetween 0 b (entries (map f (opened ps))) ≡ everyOpen (λ p. leb (f p) b) ps
   table-at-most f b = rw (field-entries f) (between-zeros b (mostScans - openCount ps) (map f (opened ps)) ∙ every-opened f b ps)
@@ -214,10 +210,10 @@ module _ (ps : List Place) (few : openCount ps ≤ mostScans) where
             merges-is = field-at (λ p. p .merges) j refl (t .2) ∙ ap (λ (p : Place). p .merges) (sym (t .1));
           }
 
-  pub table-lacks : (k : ℕ) → findIn (tableOf ps) k ≡ Nothing → place (bears k) ps ≡ length ps
+  pub table-lacks : (k : ℕ) → findIn (tableOf ps) k ≡ Nothing → place (isScan k) ps ≡ length ps
   unfolding findIn tableOf
   table-lacks k e = go (eqb k 0) refl e
     where
-      go : (b : Bool) → eqb k 0 ≡ b → cond b Nothing (firstAt k 0 (tableOf ps .numbers)) ≡ Nothing → place (bears k) ps ≡ length ps
+      go : (b : Bool) → eqb k 0 ≡ b → cond b Nothing (firstAt k 0 (tableOf ps .numbers)) ≡ Nothing → place (isScan k) ps ≡ length ps
       go true q f = let z : k ≡ 0 = eqb-true k 0 q in rw z (none-zero ps)
       go false q f = found-none k (mostScans - openCount ps) q ps 0 (rw (field-entries (λ p. p .number)) at f)

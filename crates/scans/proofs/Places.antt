@@ -3,12 +3,13 @@ use Prim.Native.Nat.{ℕ, zero, suc, _+_, _*_, _/_, _≤_, _<_}
 use mathlib.Core.Path.{_≡_, refl, ap, sym, _∙_}
 use mathlib.Core.List.{List, [], _∷_}
 use native.Mathlib.Omega.{arith}
-use lib.ListN.{length, getD, set, replicate, length-replicate, getD-replicate}
+use lib.ListN.{length, getD, set, length-replicate, getD-replicate}
 use lib.Seq.{ext-getD}
 use Rattle.terms.specs.declared.Place.{Place}
-use Rattle.loops.specs.Change.{changed, filled}
+use Rattle.loops.specs.Change.{filled}
 use Rattle.loops.proofs.Change.{changed-length, changed-at}
-use Rattle.scans.specs.Places.{freePlace, placesOf, allFreed}
+use Rattle.terms.specs.Places.{freePlace}
+use Rattle.scans.specs.Places.{placesOf, allFreed}
 
 abbrev pub threeWords : ℕ → ℕ → ℕ → Place
 threeWords a b c = record { number = a; stamp = b; merges = c }

@@ -1,19 +1,20 @@
 -- The table of a list of places: it grows place by place as the list does, and for a list with at most 16 open scans it answers as the list does.
-use Prim.Native.Nat.{ℕ, zero, suc, _+_, _-_, _≤_, _<_, min}
+use Prim.Native.Nat.{ℕ, suc, _+_, _-_, _≤_, _<_, min}
 use mathlib.Core.Path.{_≡_, refl, ap, sym, _∙_}
-use mathlib.Core.Bool.{Bool, true, false, not, cond, _&&_, _||_}
+use mathlib.Core.Bool.{Bool, true, false, cond}
 use mathlib.Core.List.{List, [], _∷_, _++_, map, append-assoc, append-nil, map-append}
 use native.Mathlib.Omega.{arith}
 use native.Mathlib.Nat.{add-zero, zero-add}
 use native.Mathlib.Numerals.{add-one}
-use lib.Dec.{eqb, ltb, leb, eqb·suc-suc}
-use lib.ListN.{length, getD, set, take, replicate, length-append, length-replicate, length-map, replicate-append-replicate}
-use lib.Seq.{take-append-le, take-set-lt, set-append-seam, take-all, take-suc, length-take-le}
-use borrow.Author.Tests.{lt-ltb, le-ltb, eq-eqb, ne-eqb, ltb-true, ltb-false, eqb-true, eqb-false}
+use lib.Dec.{eqb, ltb, eqb·suc-suc}
+use lib.ListN.{length, getD, set, take, replicate, length-append, length-map}
+use lib.Seq.{take-append-le, take-set-lt, set-append-seam, take-suc}
+use borrow.Author.Tests.{lt-ltb, le-ltb, eq-eqb, ne-eqb, ltb-true, ltb-false, eqb-true}
 use Rattle.terms.specs.Measures.{mostScans}
 use Rattle.terms.specs.declared.Place.{Place}
 use Rattle.scans.specs.declared.Scans.{Scans}
-use Rattle.scans.specs.Places.{freePlace, isOpen, opened, openedAt, openCount, firstFree}
+use Rattle.terms.specs.Places.{freePlace}
+use Rattle.scans.specs.Places.{isOpen, opened, openedAt, openCount, firstFree}
 use Rattle.scans.specs.Table.{entries, tableOf, noted}
 
 -- ---- one place more
@@ -35,14 +36,6 @@ openedAt-snoc k (q ∷ ps) p = go (isOpen q) (openedAt-snoc (suc k) ps p) (omega
         → cond b (k ∷ openedAt (suc k) (ps ++ p ∷ [])) (openedAt (suc k) (ps ++ p ∷ [])) ≡ cond b (k ∷ openedAt (suc k) ps) (openedAt (suc k) ps) ++ cond (isOpen p) ((k + suc (length ps)) ∷ []) []
     go true e q = rw (e, q)
     go false e q = rw (e, q)
-
-free-at-most : (ps : List Place) → firstFree ps ≤ length ps
-free-at-most [] = omega arith
-free-at-most (q ∷ ps) = go (eqb (q .number) 0) (free-at-most ps)
-  where
-    go : (b : Bool) → firstFree ps ≤ length ps → cond b 0 (suc (firstFree ps)) ≤ suc (length ps)
-    go true h = omega arith
-    go false h = omega arith
 
 free-snoc : (ps : List Place) (p : Place) → firstFree (ps ++ p ∷ []) ≡ cond (eqb (firstFree ps) (length ps)) (cond (eqb (p .number) 0) (length ps) (length ps + 1)) (firstFree ps)
 free-snoc [] p = refl

@@ -1,14 +1,11 @@
--- The lent list of open scans: document 01, "a lent list of small records: number, stamp, merges made before it; number 0 marks a free place".
--- It may be of any length.
-use Prim.Native.Nat.{ℕ, zero, suc}
+-- What is asked of the lent list of open scans, which may be of any length.
+use Prim.Native.Nat.{ℕ, suc}
 use mathlib.Core.Bool.{Bool, true, false, not, cond, _&&_, _||_}
 use mathlib.Core.List.{List, [], _∷_}
 use lib.Dec.{eqb}
-use lib.ListN.{length, getD, replicate}
+use lib.ListN.{length, replicate}
 use Rattle.terms.specs.declared.Place.{Place}
-
-abbrev pub freePlace : Place
-freePlace = record { number = 0; stamp = 0; merges = 0 }
+use Rattle.terms.specs.Places.{freePlace, place}
 
 -- the places that a list of words holds, three words to a place; up to two words at its end belong to none
 unfoldable pub placesOf : List ℕ → List Place
@@ -17,17 +14,8 @@ placesOf (a ∷ []) = []
 placesOf (a ∷ b ∷ []) = []
 placesOf (a ∷ b ∷ c ∷ ws) = record { number = a; stamp = b; merges = c } ∷ placesOf ws
 
--- A place bears the number k. Number 0 marks a free place, so no call's number 0 is ever found.
-abbrev pub bears : ℕ → Place → Bool
-bears k p = not (eqb (p .number) 0) && eqb (p .number) k
-
 abbrev pub isOpen : Place → Bool
 isOpen p = not (eqb (p .number) 0)
-
--- the first place of a list that passes a test, else the list's length
-abbrev pub place : (Place → Bool) → List Place → ℕ
-place f [] = 0
-place f (p ∷ ps) = cond (f p) 0 (suc (place f ps))
 
 abbrev pub firstFree : List Place → ℕ
 firstFree ps = place (λ p. eqb (p .number) 0) ps

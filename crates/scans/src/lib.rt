@@ -11,12 +11,12 @@ use words::put;
 ghost use mathlib.Core.Path.{_≡_};
 ghost use mathlib.Core.Bool.{_||_, not, cond};
 ghost use Prim.Native.Nat.{_+_, _*_, _<_, _≤_};
-ghost use lib.Dec.{eqb, ltb};
+ghost use lib.Dec.{eqb};
 ghost use lib.ListN.{length, getD, set, take, drop};
 ghost use Rattle.words.specs.Words.{words};
 ghost use Rattle.loops.specs.Search.{allBetween};
 ghost use Rattle.scans.specs.Places.{placesOf, allFreed, among, differ};
-ghost use Rattle.scans.specs.Table.{tableOf, findIn, anyBelow};
+ghost use Rattle.scans.specs.Table.{tableOf, findIn};
 
 pub const MOST_SCANS: usize = 16;
 
@@ -125,23 +125,6 @@ pub fn find_scan(t: Scans, number: u32) -> Found
         i += 1;
     }
     Found::Nothing
-}
-
-// Whether one of the open scans was opened before merge m.
-pub fn opened_before(t: Scans, m: u32) -> bool
-    requires { ⌜ t .count ≤ 16 ⌝ }
-    ensures { λ r. ⌜ r ≡ anyBelow m (take (t .count) (t .merges)) ⌝ }
-{
-    let merges = t.merges;
-    let n = t.count;
-    let mut i = 0;
-    while i < n {
-        if merges[i] < m {
-            return true;
-        }
-        i += 1;
-    }
-    false
 }
 
 // Whether each entry is at most a bound. Unused entries are 0, so all are looked at, and one flag is carried to the end: so the loop vectorises.

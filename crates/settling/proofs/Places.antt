@@ -10,7 +10,7 @@ use lib.Seq.{take-all}
 use borrow.Author.Tests.{lt-ltb}
 use Rattle.loops.specs.declared.Found.the-variants.{At, Nothing}
 use Rattle.loops.specs.Search.{region, firstAt}
-use Rattle.model.specs.Stored.{place}
+use Rattle.terms.specs.Places.{place}
 use Rattle.settling.specs.Steps.{foundAt}
 
 -- counted from k

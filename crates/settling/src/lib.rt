@@ -25,8 +25,9 @@ ghost use Rattle.words.specs.Words.{words};
 ghost use Rattle.layout.specs.declared.Region.{Region};
 ghost use Rattle.layout.specs.Regions.{index, len, need};
 ghost use Rattle.layout.specs.View.{view, put};
-ghost use Rattle.model.specs.Stored.{place, usedIn, headerIn, transactionsGiven, scansGiven};
-ghost use Rattle.model.specs.Writing.{begun, settled, freed, committedIn, abortedIn};
+ghost use Rattle.terms.specs.Places.{place};
+ghost use Rattle.model.specs.Stored.{usedIn, headerIn, transactionsGiven, scansGiven};
+ghost use Rattle.model.specs.Writing.{begun, settled, committedIn, abortedIn};
 ghost use Rattle.model.specs.Asked.{shapeIn, Proper, Counted, FreeAt, OpenAt};
 ghost use Rattle.settling.specs.Steps.{foundAt, notedAt, tailMarked, tailsMarked};
 

@@ -1,10 +1,10 @@
 -- The ways through the tests of a page, the search for the first page that passes, and how it gives a scan's page.
-use Prim.Native.Nat.{ℕ, zero, suc, _+_, _*_, _-_, _%_, _≤_, _<_}
-use mathlib.Core.Path.{_≡_, refl, sym, _∙_, ap}
-use mathlib.Core.Bool.{Bool, true, false, cond, _&&_}
+use Prim.Native.Nat.{ℕ, suc, _+_, _-_, _%_, _≤_, _<_}
+use mathlib.Core.Path.{_≡_, refl}
+use mathlib.Core.Bool.{Bool, true, false, cond}
 use native.Mathlib.Omega.{arith}
 use native.Mathlib.Nat.{mul-le-mul}
-use lib.Dec.{eqb, leb, ltb}
+use lib.Dec.{ltb}
 use lib.ListN.{getD}
 use borrow.Author.Tests.{eq-eqb, ne-eqb, lt-ltb, le-ltb, le-leb, lt-leb}
 use Rattle.terms.specs.Measures.{Shape}
@@ -12,7 +12,7 @@ use Rattle.loops.specs.declared.Found.{Found}
 use Rattle.layout.specs.declared.Sizes.{Sizes}
 use Rattle.layout.specs.declared.Region.the-variants.{PageState, PagePlace, PageMade, PageReplaced}
 use Rattle.layout.specs.View.{View}
-use Rattle.model.specs.Stored.{pageIn, firstFrom, placesOf, pagesOf, placeOf, currentIn}
+use Rattle.model.specs.Stored.{pageIn, firstFrom, pagesOf, placeOf, currentIn}
 use Rattle.model.specs.Reading.{wasCurrent, scanPage}
 use Rattle.model.specs.Asked.{shapeIn, Proper}
 use Rattle.summing.specs.Sums.{oldPage}

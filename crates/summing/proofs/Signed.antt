@@ -1,11 +1,10 @@
 -- Bounds of signed sums: the size of a sum is at most that of its terms, and a word's number has a size of at most 2 ^ 31.
-use Prim.Native.Nat.{ℕ, suc, _+_, _-_, _^_, _≤_, _<_}
-use mathlib.Core.Path.{_≡_, refl, _∙_, ap}
+use Prim.Native.Nat.{ℕ, suc, _+_, _-_, _^_, _≤_}
+use mathlib.Core.Path.{_≡_, refl}
 use mathlib.Core.Bool.{Bool, true, false, cond}
 use native.Mathlib.Omega.{arith}
 use lib.Dec.{ltb}
 use lib.IntN.{ℤ, pos, negsuc, natAbs, subℕ, _+ℤ_}
-use lib.Signed.{mag}
 use borrow.Author.Tests.{ltb-true, ltb-false}
 use mir.Syntax.{w32, w64}
 use mir.Val.{SFits, ofZ, toZ, sel}

@@ -1,7 +1,7 @@
 -- What the finder of a waiting page answers, and that a running tally is the model's.
 use mathlib.Core.Path.{_≡_}
 use mathlib.Core.Bool.{cond}
-use Prim.Native.Nat.{ℕ, _<_}
+use Prim.Native.Nat.{ℕ}
 use lib.Dec.{ltb}
 use Rattle.terms.specs.Measures.{Shape}
 use Rattle.loops.specs.declared.Found.{Found}

@@ -12,7 +12,7 @@ use Rattle.terms.specs.Measures.{Shape, mostScans, mostColumns}
 use Rattle.terms.specs.declared.Answer.{Answer}
 use Rattle.terms.specs.declared.Place.{Place}
 use Rattle.terms.specs.declared.Refusal.{Refusal}
-use Rattle.words.proofs.Words.{Bytes}
+use Rattle.words.specs.Words.{Bytes}
 use Rattle.loops.proofs.Search.{and-true, between-tells}
 use Rattle.layout.specs.Regions.{need}
 use Rattle.layout.specs.Sizes.{bytesNeeded}

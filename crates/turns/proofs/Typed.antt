@@ -10,9 +10,9 @@ use mir.Syntax.{w32}
 use mir.Val.{toZ, SFits}
 use mir.ValLaws.{toZ-fits}
 use Rattle.terms.specs.declared.Refusal.{Refusal}
-use Rattle.words.specs.Words.{words}
-use Rattle.words.proofs.Words.{Bytes, Fit, words-fit, take-fit}
-use Rattle.history.proofs.Lists.{All}
+use Rattle.words.specs.Words.{words, Bytes}
+use Rattle.words.proofs.Words.{Fit, words-fit, take-fit}
+use Rattle.history.specs.Lists.{All}
 use Rattle.model.specs.Calls.{Typed, Values}
 use Rattle.commands.specs.declared.Form.{Form}
 use Rattle.commands.specs.declared.Chosen.{Chosen}

@@ -4,7 +4,7 @@ use mathlib.Core.Path.{_≡_}
 use mathlib.Core.List.{List}
 use lib.ListN.{length, take}
 use Rattle.terms.specs.Measures.{Shape, mostScans}
-use Rattle.words.proofs.Words.{Bytes}
+use Rattle.words.specs.Words.{Bytes}
 use Rattle.layout.specs.Sizes.{shapeOf, bytesNeeded}
 use Rattle.commands.specs.Commands.{shapeBytes}
 use Rattle.output.specs.Output.{output}

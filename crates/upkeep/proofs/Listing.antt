@@ -12,8 +12,7 @@ use Rattle.terms.specs.Measures.{mostScans}
 use Rattle.terms.specs.declared.Place.{Place}
 use Rattle.terms.specs.declared.Refusal.{Refusal}
 use Rattle.terms.specs.declared.Answer.{Answer}
-use Rattle.words.specs.Words.{words}
-use Rattle.words.proofs.Words.{Bytes}
+use Rattle.words.specs.Words.{words, Bytes}
 use Rattle.loops.specs.declared.Found.{Found}
 use Rattle.loops.specs.declared.Found.the-variants.{At, Nothing}
 use Rattle.loops.proofs.Search.{first-at}
@@ -23,16 +22,16 @@ use Rattle.layout.specs.Regions.{need}
 use Rattle.layout.specs.declared.Region.{Region}
 use Rattle.layout.specs.View.{View, view, put, lay}
 use Rattle.layout.proofs.Lay.{lay-view}
-use Rattle.history.specs.History.{Call, Verdict, accept, refuse, verdict, count}
+use Rattle.history.specs.History.{Call, accept, refuse, verdict, count}
 use Rattle.scans.specs.declared.Scans.{Scans}
-use Rattle.scans.specs.Places as P
-use Rattle.scans.specs.Places.{freePlace, openCount, opened}
+use Rattle.scans.specs.Places.{openCount, opened}
 use Rattle.scans.specs.Table.{tableOf, findIn}
 use Rattle.scans.proofs.Table.{table-length}
 use Rattle.scans.proofs.Answers.{table-count}
 use Rattle.facts.specs.declared.Checked.the-variants.{Fit, Unfit}
 use Rattle.facts.specs.Usable.{checked}
-use Rattle.model.specs.Stored.{bears, place, headerIn, scansGiven, mergesMade}
+use Rattle.terms.specs.Places.{place, freePlace, isScan}
+use Rattle.model.specs.Stored.{headerIn, scansGiven, mergesMade}
 use Rattle.model.specs.Calls.{testsIn, replyIn, actIn, placesIf, placesNext, placesAfter, viewNext}
 use Rattle.model.specs.Asked.{shapeIn}
 use Rattle.promise.specs.Promise.{answerOf, memoryAfter, listAfter}
@@ -52,11 +51,6 @@ open-count (p ∷ ps) = go (not (eqb (p .number) 0)) (open-count ps)
     go true ih = ap suc ih
     go false ih = ih
 
--- the first free place, as the list's definitions have it and as the model's
-first-free : (ps : List Place) → P.firstFree ps ≡ place (λ p. eqb (p .number) 0) ps
-first-free [] = refl
-first-free (p ∷ ps) = ap (λ (n : ℕ). cond (eqb (p .number) 0) 0 (suc n)) (first-free ps)
-
 module _ (t : Scans) (ps : List Place) (q : t ≡ tableOf ps) where
   counted : openCount ps ≤ mostScans → t .count ≡ count (λ p. not (eqb (p .number) 0)) ps
   counted few = ap (λ (x : Scans). x .count) q ∙ table-count ps few ∙ sym (open-count ps)
@@ -69,7 +63,7 @@ module _ (t : Scans) (ps : List Place) (q : t ≡ tableOf ps) where
 
   pub free-is : t .free ≡ place (λ p. eqb (p .number) 0) ps
   unfolding tableOf
-  free-is = ap (λ (x : Scans). x .free) q ∙ first-free ps
+  free-is = ap (λ (x : Scans). x .free) q
 
 -- a scan that was found is an entry of the table
 pub entry-in : (t : Scans) (k j : ℕ) → findIn t k ≡ At j → j < length (t .numbers)
@@ -135,7 +129,7 @@ module _ (m : List ℕ) (t : Scans) (ps : List Place) (q : t ≡ tableOf ps) (r 
         let few = few-open m ps s e in
         let d : verdict (testsIn (shapeIn s) (view s (words m)) ps (Call.close k)) ≡ accept = rw (scan-open k ps few j (looked k (At j) g)) in
         let f = accepted (shapeIn s) (view s (words m)) ps (Call.close k) (r .answer) (view s (words m)) d a refl in
-        let i : r .place ≡ place (λ x. bears k (x .number)) ps = p ∙ ap (λ (x : Scans). getD (x .places) j 0) q ∙ sym (scan-at k ps few j (looked k (At j) g)) in
+        let i : r .place ≡ place (isScan k) ps = p ∙ ap (λ (x : Scans). getD (x .places) j 0) q ∙ sym (scan-at k ps few j (looked k (At j) g)) in
         (f .0 ∙ answer-fit m ps s (Call.close k) e, memory-kept m t ps q (Call.close k) r s e b h (f .1), next-list m ps _ s (Call.close k) e d (rw (i, n)))
 
   pub opened-at : (stamp number : ℕ) (m′ : List ℕ) → verdict (testsIn (shapeIn s) (view s (words m)) ps (Call.openScan stamp)) ≡ accept

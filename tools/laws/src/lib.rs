@@ -320,7 +320,7 @@ const RULES: &str =
 
 fn mentioned(text: &str) -> String {
     let words: std::collections::HashSet<&str> = text.split(|c: char| c.is_whitespace() || "(){},;".contains(c)).collect();
-    let used = |r: &&str| *r == "_≡_" || *r == "_∷_" || words.contains(*r);
+    let used = |r: &&str| words.contains(r.trim_matches('_'));
     RULES.split_whitespace().filter(used).collect::<Vec<_>>().join(", ")
 }
 
@@ -457,7 +457,7 @@ pub fn law(s: &Shape) -> String {
 
     let body = text(s, &d, &types, n, loans);
     let (known, library) = (
-        if writes { "" } else { "use native.Mathlib.Omega.{arith}\nuse lib.Dec.{lit<}\nuse Rattle.words.proofs.Words.{Bytes}\n" },
+        if writes { "" } else { "use native.Mathlib.Omega.{arith}\nuse lib.Dec.{lit<}\nuse Rattle.words.specs.Words.{Bytes}\n" },
         "Rattle.lent.proofs",
     );
     let signed = if values.is_empty() { "" } else { "use lib.IntN.{ℤ}\nuse denote.Signed.{SInt}\n" };

@@ -1,5 +1,4 @@
 -- `changes::append_tests` meets its contract: each answer follows from the tests that led to it.
-use mathlib.Core.Path.{sym, _∙_}
 use borrow.Author.Needs.{needs}
 use Rattle.history.specs.History.{verdict}
 use Rattle.rows.proofs.Indices.{row-in}

@@ -1,5 +1,5 @@
 -- `commands::choose` meets its contract: in each arm the byte is known, and the table computes.
-use mathlib.Core.Path.{_≡_, refl}
+use mathlib.Core.Path.{refl}
 use borrow.Author.Needs.{needs}
 use Rattle.commands.specs.Commands.{chosen, commands}
 use Rattle.commands.proofs.Table.{known, refused, past}

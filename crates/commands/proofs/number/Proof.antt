@@ -1,10 +1,9 @@
 -- `commands::number` meets its contract. The invariant: the total is the number of the bytes from i on, and one byte more fits.
 use Prim.Native.Nat.{_+_, _-_, _≤_, _<_, _^_}
-use mathlib.Core.Path.{_≡_, refl, ap, sym, _∙_}
+use mathlib.Core.Path.{_≡_}
 use native.Mathlib.Omega.{arith}
 use native.Mathlib.Nat.{add-zero}
 use borrow.Author.Needs.{needs}
-use lib.ListN.{length}
 use lib.Seq.{slice}
 use Rattle.commands.specs.Commands.{littleEndian, operand}
 use Rattle.commands.proofs.Operands.{none-yet, turn, room}

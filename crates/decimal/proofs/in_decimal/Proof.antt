@@ -1,6 +1,6 @@
 -- `decimal::in_decimal` meets its contract. The invariant: the digits of what is left and those that are stored are the number's, and the places that are left are enough.
 use Prim.Native.Nat.{_/_, _≤_, _<_, _^_}
-use mathlib.Core.Path.{_≡_, refl, ap, sym, _∙_}
+use mathlib.Core.Path.{_≡_, refl, ap, _∙_}
 use mathlib.Core.List.{[], _∷_, _++_}
 use native.Mathlib.Omega.{arith}
 use lib.ListN.{length, drop, length-set}

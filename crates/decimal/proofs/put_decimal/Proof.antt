@@ -1,5 +1,4 @@
 -- `decimal::put_decimal` meets its contract: the part of the array is all from `from` on.
-use mathlib.Core.Path.{_∙_}
 use native.Mathlib.Omega.{arith}
 use borrow.Author.Needs.{needs}
 use lib.ListN.{length-drop}

@@ -1,5 +1,4 @@
 -- `decimal::put_signed` meets its contract.
-use mathlib.Core.Path.{_≡_, ap}
 use native.Mathlib.Omega.{arith}
 use borrow.Author.Needs.{needs}
 use Rattle.decimal.proofs.Pieces.{joined}

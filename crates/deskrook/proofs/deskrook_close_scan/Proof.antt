@@ -1,11 +1,10 @@
 -- `deskrook::deskrook_close_scan` meets its contract, by the law of its arguments.
-use mathlib.Core.Path.{_≡_, refl}
+use mathlib.Core.Path.{_≡_}
 use lib.ListN.{set}
 use contract.Running.{tablesOf}
 use borrow.Fn.World.{World}
 use Rattle.scans.specs.Table.{tableOf}
 use Rattle.history.specs.History.{Call}
-use Rattle.model.specs.Calls.{actIn}
 use Rattle.upkeep.specs.Lists.{Lists}
 use Rattle.lent.proofs.Known.{table-known, keep-known}
 use Rattle.lent.proofs.laws.list_read_v as law

@@ -1,7 +1,5 @@
 -- `entry::given_range` meets its contract.
-use mathlib.Core.Path.{ap, sym}
-use lib.Dec.{leb}
-use native.Mathlib.Omega.{arith}
+use mathlib.Core.Path.{ap}
 use borrow.Author.Needs.{needs}
 use borrow.Author.Tests.{le-leb, lt-leb}
 use Rattle.loops.specs.declared.Found.{Found}

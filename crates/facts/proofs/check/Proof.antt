@@ -2,7 +2,7 @@
 use native.Mathlib.Omega.{arith}
 use borrow.Author.Needs.{needs}
 use Prim.Native.Nat.{ℕ, _*_, _^_, _≤_, _<_}
-use mathlib.Core.Path.{_≡_, sym, ap, _∙_}
+use mathlib.Core.Path.{_≡_, sym, _∙_}
 use mathlib.Core.Bool.{true}
 use mathlib.Core.List.{List}
 use lib.ListN.{length}
@@ -12,7 +12,7 @@ use Rattle.words.specs.Words.{words}
 use Rattle.layout.specs.Regions.{need}
 use Rattle.layout.proofs.Limits.{need-small}
 use Rattle.scans.proofs.Table.{table-length}
-use Rattle.facts.specs.Usable.{shapeIn, sizesIn, checked}
+use Rattle.facts.specs.Usable.{shapeIn, sizesIn}
 use Rattle.facts.proofs.Ready.{sized}
 use Rattle.facts.proofs.Answers.{too-short, out-of-limits, no-room, few-places, by-facts}
 use Rattle.facts.proofs.check.Statement.{statement}

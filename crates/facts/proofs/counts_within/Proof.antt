@@ -1,5 +1,4 @@
 -- `facts::counts_within` meets its contract.
-use native.Mathlib.Omega.{arith}
 use borrow.Author.Needs.{needs}
 use Rattle.facts.specs.Facts.{storedWithin}
 use Rattle.layout.specs.declared.Region.the-variants.{Used}

@@ -1,5 +1,4 @@
 -- `facts::opens_of` meets its contract.
-use native.Mathlib.Omega.{arith}
 use borrow.Author.Needs.{needs}
 use Rattle.words.specs.Words.{words}
 use Rattle.layout.specs.View.{view}

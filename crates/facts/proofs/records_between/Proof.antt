@@ -10,7 +10,7 @@ between-in-requires : tie.Need-between-in-requires
 between-in-requires c κs =
     let r = c .before in
     let s = r .before .before in
-    let n : r .read .result ≤ s .args .s .capacity = rw (r .read .ensures) (s .pre .0 .counted .records-in (s .args .g)) in
+    let n : r .read .result ≤ s .args .s .capacity = rw (r .read .ensures) (s .pre .0 .records-in (s .args .g)) in
     (s .pre .0 .room, omega (arith, c .first-slot .ensures .1, s .pre .1 .1))
 
 returns : tie.Need-returns

@@ -5,12 +5,12 @@
 -- That the one follows from the other is `ends`. Assumes nothing.
 use native.Mathlib.Omega.{arith}
 use lib.Dec.{lit<}
-use Rattle.words.proofs.Words.{Bytes}
+use Rattle.words.specs.Words.{Bytes}
 use prog.Routine as routine
 use prog.Wp.{Closed}
 use contract.Running.{tables, givenOf}
 use borrow.Fn.Written.{Holds}
-use Rattle.lent.proofs.Rules.{_≡_, refl, List, [], _∷_, ℕ, URA, some, none, Ty, Body, Opd, tyInt, tyUnit, erased, named, imm, mut, w8, w64, copy, place, field, deref, seq, call, return, assign, addrOf, aggregate, valueLocal, Home, Name, Heap, Tables, Env, Atoms, Given, Lfts, Shares, now, sliceTy, Row, Cx, Life, lease, off, alive, dead, sUnit, sslice, any-gone, sc-here, room-gone, as-is, fInt, Typed, Outs, TF, Both, Asks, Gives, both, ask, give, pass, atRet, t-return, s-seq, g-pre, n-room, g-room, oFld, room-sc, g-begin, g-end, g-forget, k-shs-known, g-shs-known, reads-sslice, room-sslice, lenV, mslice, msleft, reads-mslice, mslice-owed, msptr, ssptr, asMut, asShr, k-sl-relend, t-sl-relend, k-sl-aggregate, t-sl-aggregate, reads-owed-len, k-back-sl, g-back-sl, mslice-owedS, k-sl-reshare, t-sl-reshare, reads-owedS-len, n-back-sl-shr, g-back-sl-shr, pShrS, spares-sslice, pMutS, fix-len, EnvOf, tysP, PK, In, Out, rUnit, tyR, callB, sub-id, Known, t-call-plain, t-fn-plain, fnOf, Over, World, Place, byte, entry, bytes, places}
+use Rattle.lent.proofs.Rules.{refl, List, [], _∷_, ℕ, URA, some, none, Ty, Body, Opd, tyInt, tyUnit, erased, named, imm, mut, w8, w64, copy, place, field, deref, seq, call, return, assign, addrOf, aggregate, valueLocal, Home, Name, Heap, Tables, Env, Atoms, Given, Lfts, Shares, now, sliceTy, Row, Cx, Life, lease, off, alive, dead, sUnit, sslice, any-gone, sc-here, room-gone, as-is, fInt, Typed, Outs, TF, Both, Asks, Gives, both, ask, give, pass, atRet, t-return, s-seq, g-pre, n-room, g-room, oFld, room-sc, g-begin, g-end, g-forget, k-shs-known, g-shs-known, reads-sslice, room-sslice, lenV, mslice, msleft, reads-mslice, mslice-owed, msptr, ssptr, asMut, asShr, k-sl-relend, t-sl-relend, k-sl-aggregate, t-sl-aggregate, reads-owed-len, k-back-sl, g-back-sl, mslice-owedS, k-sl-reshare, t-sl-reshare, reads-owedS-len, n-back-sl-shr, g-back-sl-shr, pShrS, spares-sslice, pMutS, fix-len, EnvOf, tysP, PK, In, Out, rUnit, tyR, callB, sub-id, Known, t-call-plain, t-fn-plain, fnOf, Over, World, Place, byte, entry, bytes, places}
 use Rattle.lent.proofs.Plain.{Plain, type, full, gone, arg, res, copied, room}
 use Rattle.lent.proofs.Types.{p}
 use Rattle.lent.proofs.Written as written

@@ -5,7 +5,7 @@
 -- That the one follows from the other is `ends`. Assumes nothing.
 use native.Mathlib.Omega.{arith}
 use lib.Dec.{lit<}
-use Rattle.words.proofs.Words.{Bytes}
+use Rattle.words.specs.Words.{Bytes}
 use prog.Routine as routine
 use prog.Wp.{Closed}
 use contract.Running.{tables, givenOf}

@@ -38,7 +38,7 @@ use denote.Triple.Table.{entered}
 use denote.Triple.Walked.{says, needs, Stays, stay-none, stay-none-slice, walkOf, goes-none, goes-none-slice, Walks, ends-at, walked, walk-meets}
 use denote.Exit.{yes}
 use Rattle.terms.specs.declared.Place.{Place}
-use Rattle.scans.specs.Places.{freePlace}
+use Rattle.terms.specs.Places.{freePlace}
 use Rattle.terms.proofs.Place as T
 use Rattle.terms.proofs.Place.Laws as T′
 use Rattle.lent.proofs.place_at.Key.{name as #lent·place-at}

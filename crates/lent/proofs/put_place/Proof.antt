@@ -40,7 +40,7 @@ use denote.Triple.Table.{entered}
 use denote.Triple.Walked.{says, needs, Stays, stay-none, stay-slice, walkOf, goes-none, goes-slice, Walks, ends-at, walked, walk-meets}
 use denote.Exit.{yes}
 use Rattle.terms.specs.declared.Place.{Place}
-use Rattle.scans.specs.Places.{freePlace}
+use Rattle.terms.specs.Places.{freePlace}
 use Rattle.terms.proofs.Place as T
 use Rattle.terms.proofs.Place.Laws as T′
 use Rattle.lent.proofs.put_place.Key.{name as #lent·put-place}

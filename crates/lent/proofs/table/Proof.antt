@@ -8,10 +8,11 @@ use mathlib.Core.Bool.{true}
 use lib.ListN.{length, getD}
 use contract.Running.{tablesOf, givenOf}
 use Rattle.scans.specs.declared.Scans.{Scans}
-use Rattle.scans.specs.Places.{freePlace, isOpen}
+use Rattle.terms.specs.Places.{freePlace}
+use Rattle.scans.specs.Places.{isOpen}
 use Rattle.scans.specs.Table.{tableOf, noted}
 use Rattle.lent.specs.Lent.{ofLength}
-use Rattle.lent.proofs.Rules.{_≡_, refl, List, [], _∷_, ℕ, URA, some, none, Ty, Body, tyInt, tyBool, named, imm, w64, copy, place, seq, call, return, assign, rvOpd, op2, lt, add, unsigned, int, cond, skip, exit, loop, block, valueLocal, Home, Name, Heap, Tables, Env, Atoms, Given, Lfts, Shares, now, Row, Cx, lease, get, set, valS, sInt, sBool, sslice, room-gone, Typed, Outs, TF, Mo, Both, Asks, both, ask, pass, atRet, atNext, atExit, withNext, wantNext, inBlock₀, inBlock, inLoop₀, LoopBy, t-return, t-skip, t-exit, t-seq, t-block, t-loop-by, s-typed, s-seq, g-pre, g-post, n-room, g-room, n-use, t-use, k-op2, t-op2, t-cond, Φcond, oAt, oInt, reads-sc, holds-sc, room-sc, reads-sslice, vAt, pShrS, spares-sslice, EnvOf, tysP, PK, RK, In, Out, pNum, rNum, rBool, tyR, callB, sub-id, Known, t-call-plain, t-fn-plain, Over, World, Place, entry, places, num, no-num, flag, no-flag}
+use Rattle.lent.proofs.Rules.{_≡_, refl, List, [], _∷_, ℕ, URA, some, none, Ty, Body, tyInt, tyBool, named, imm, w64, copy, place, seq, call, return, assign, rvOpd, op2, lt, add, unsigned, int, cond, skip, exit, loop, block, valueLocal, Home, Heap, Tables, Env, Atoms, Given, Lfts, Shares, now, Row, Cx, lease, get, set, valS, sInt, sBool, sslice, room-gone, Typed, Outs, TF, Mo, Both, Asks, both, ask, pass, atRet, atNext, atExit, withNext, wantNext, inBlock₀, inBlock, inLoop₀, LoopBy, t-return, t-skip, t-exit, t-seq, t-block, t-loop-by, s-typed, s-seq, g-pre, g-post, n-room, g-room, n-use, t-use, k-op2, t-op2, t-cond, Φcond, oAt, oInt, reads-sc, holds-sc, room-sc, reads-sslice, vAt, pShrS, spares-sslice, EnvOf, tysP, PK, In, Out, pNum, rNum, rBool, tyR, callB, sub-id, Known, t-call-plain, t-fn-plain, Over, World, entry, places, num, no-num, flag, no-flag}
 use Rattle.lent.proofs.Plain.{type, full, gone, arg, res, copied, room}
 use Rattle.lent.proofs.Written as written
 use Rattle.lent.proofs.Steps.{Gone, none-gone, open-gone, free-gone, all-gone}

@@ -1,5 +1,4 @@
 -- `lines::render_line` meets its contract: the pieces that it writes are those of the definition.
-use mathlib.Core.Path.{_≡_, ap, _∙_}
 use native.Mathlib.Omega.{arith}
 use borrow.Author.Needs.{needs}
 use Rattle.lines.specs.Lines.{capitals, line}

@@ -2,7 +2,6 @@
 use mathlib.Core.Path.{_∙_}
 use Rattle.lookups.specs.Lookups.{SaysAlways}
 use Rattle.lookups.proofs.Answers.{says-latest}
-use borrow.Author.Needs.{needs}
 use Rattle.lookups.proofs.latest_in.Statement.{statement}
 use Rattle.lookups.proofs.latest_in.Tie as tie
 

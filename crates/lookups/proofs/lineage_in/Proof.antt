@@ -1,6 +1,5 @@
 -- `lookups::lineage_in` meets its contract.
-use mathlib.Core.Path.{ap, sym, _∙_}
-use Rattle.terms.specs.declared.Answer.{Answer}
+use mathlib.Core.Path.{sym, _∙_}
 use Rattle.model.specs.Stored.{pageIn}
 use Rattle.entry.proofs.Fitted.{column-tells, range-tells}
 use Rattle.lookups.specs.Lookups.{SaysAlways}

@@ -2,7 +2,6 @@
 use mathlib.Core.Path.{sym, _∙_}
 use Rattle.lookups.specs.Lookups.{SaysAlways}
 use Rattle.lookups.proofs.Answers.{says-later, says-at}
-use borrow.Author.Needs.{needs}
 use Rattle.lookups.proofs.read_at_in.Statement.{statement}
 use Rattle.lookups.proofs.read_at_in.Tie as tie
 

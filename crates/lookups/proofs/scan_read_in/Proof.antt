@@ -1,5 +1,4 @@
 -- `lookups::scan_read_in` meets its contract.
-use mathlib.Core.Path.{_∙_}
 use Rattle.lookups.specs.Lookups.{scanAnswer}
 use borrow.Author.Needs.{needs}
 use Rattle.lookups.proofs.scan_read_in.Statement.{statement}

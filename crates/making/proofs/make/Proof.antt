@@ -2,7 +2,7 @@
 use native.Mathlib.Omega.{arith}
 use borrow.Author.Needs.{needs}
 use Prim.Native.Nat.{_*_, _^_, _≤_, _<_}
-use mathlib.Core.Path.{_≡_, sym, ap, _∙_}
+use mathlib.Core.Path.{_≡_, sym, _∙_}
 use mathlib.Core.Bool.{true}
 use lib.ListN.{length, take}
 use lib.Seq.{length-take-le}
@@ -10,12 +10,11 @@ use borrow.Author.Tests.{not-true, not-false}
 use Rattle.terms.specs.Measures.{Shape, withinLimits}
 use Rattle.layout.specs.Regions.{need}
 use Rattle.layout.specs.Sizes.{shapeOf, sizesOf}
-use Rattle.layout.specs.View.{View}
 use Rattle.layout.proofs.Lay.{lent}
 use Rattle.layout.proofs.Limits.{need-small}
 use Rattle.facts.specs.Tests.{Sized}
 use Rattle.facts.proofs.Ready.{sized}
-use Rattle.making.specs.Made.{madeView, made}
+use Rattle.making.specs.Made.{madeView}
 use Rattle.making.proofs.Answers.{out-of-limits, no-room, few-places, laid}
 use Rattle.making.proofs.make.Statement.{statement}
 use Rattle.making.proofs.make.Tie as tie

@@ -4,7 +4,6 @@ use borrow.Author.Needs.{needs}
 use Prim.Native.Nat.{_+_, _*_, _≤_, _<_}
 use mathlib.Core.Path.{_≡_}
 use Rattle.layout.specs.Regions.{need}
-use Rattle.model.specs.Asked.{shapeIn}
 use Rattle.settling.proofs.Indices.{places-in, sizes-need}
 use Rattle.merging.proofs.Pass.{merged-is, not-free, reaches}
 use Rattle.merging.proofs.Freeing.{pages-few}

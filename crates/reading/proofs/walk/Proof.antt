@@ -5,7 +5,6 @@ use native.Mathlib.Omega.{arith}
 use denote.Ref.{now}
 use Rattle.words.specs.Words.{words}
 use Rattle.layout.specs.View.{view}
-use Rattle.model.specs.Stored.{usedIn}
 use Rattle.model.specs.Reading as R
 use Rattle.model.specs.Asked.{shapeIn}
 use Rattle.reading.proofs.Walking.{walk-stop, walk-hit, walk-on}

@@ -5,8 +5,7 @@ use Prim.Native.Nat.{ℕ}
 use mathlib.Core.Path.{_≡_, refl, ap}
 use mathlib.Core.List.{List}
 use Rattle.terms.specs.declared.Place.{Place}
-use Rattle.words.specs.Words.{words}
-use Rattle.words.proofs.Words.{Bytes}
+use Rattle.words.specs.Words.{words, Bytes}
 use Rattle.scans.specs.Places.{placesOf}
 use Rattle.history.specs.History.{begin, insert, update, delete, commit, abort, latest, readAt, ownRead, openScan, scanRead, sum, close, merge, release, pageCell, lineage}
 use Rattle.model.specs.Calls.{actIn, placesAfter}

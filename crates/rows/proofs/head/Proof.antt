@@ -1,6 +1,4 @@
 -- `rows::head` meets its contract.
-use mathlib.Core.Path.{ap}
-use Rattle.loops.specs.declared.Found.{Found}
 use native.Mathlib.Omega.{arith}
 use borrow.Author.Tests.{eq-eqb, ne-eqb}
 use Rattle.model.specs.Stored.{rowIn}

@@ -1,9 +1,8 @@
 -- `rows::visible` meets its contract.
-use mathlib.Core.Path.{_≡_, sym, _∙_}
+use mathlib.Core.Path.{sym, _∙_}
 use Prim.Native.Nat.{_<_}
 use native.Mathlib.Omega.{arith}
 use borrow.Author.Tests.{not-true, not-false}
-use Rattle.model.specs.Reading.{seesRow}
 use Rattle.rows.proofs.Cases.{unseen-row, row-alone, row-kept, row-deleted}
 use borrow.Author.Needs.{needs}
 use Rattle.rows.proofs.visible.Statement.{statement}

@@ -6,10 +6,10 @@ use native.Mathlib.Omega.{arith}
 use borrow.Author.Needs.{needs}
 use lib.ListN.{length, getD, take}
 use lib.Seq.{take-all}
-use Rattle.terms.specs.declared.Place.{Place}
 use Rattle.words.specs.Words.{words}
 use Rattle.words.proofs.Words.{length-words}
-use Rattle.scans.specs.Places.{placesOf, freePlace}
+use Rattle.terms.specs.Places.{freePlace}
+use Rattle.scans.specs.Places.{placesOf}
 use Rattle.scans.specs.Table.{tableOf}
 use Rattle.scans.proofs.Places.{length-places, places-at, threeWords}
 use Rattle.scans.proofs.Table.{held, held-free, held-open, held-over}

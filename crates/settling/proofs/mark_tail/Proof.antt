@@ -2,7 +2,7 @@
 use native.Mathlib.Omega.{arith}
 use borrow.Author.Needs.{needs}
 use Prim.Native.Nat.{_+_, _*_, _≤_}
-use mathlib.Core.Path.{_≡_, sym}
+use mathlib.Core.Path.{sym}
 use Rattle.layout.specs.Regions.{need}
 use Rattle.settling.specs.Steps.{tailMarked}
 use Rattle.settling.proofs.Indices.{tail-in, sizes-need}

@@ -2,7 +2,6 @@
 use native.Mathlib.Omega.{arith}
 use borrow.Author.Needs.{needs}
 use Prim.Native.Nat.{_+_, _*_, _≤_, _<_}
-use mathlib.Core.Path.{refl}
 use Rattle.model.specs.Stored.{pageIn, currentIn}
 use Rattle.rows.proofs.Indices.{place-in, places-few}
 use Rattle.upkeep.proofs.current_lineage.Statement.{statement}

@@ -1,7 +1,6 @@
 -- `writing::append_records` meets its contract.
 use native.Mathlib.Omega.{arith}
 use borrow.Author.Needs.{needs}
-use Prim.Native.Nat.{ℕ}
 use mathlib.Core.Path.{_≡_, _∙_}
 use Rattle.words.specs.Words.{words}
 use Rattle.layout.specs.View.{view}

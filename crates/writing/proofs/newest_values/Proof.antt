@@ -1,8 +1,7 @@
 -- `writing::newest_values` meets its contract.
 use native.Mathlib.Omega.{arith}
 use borrow.Author.Needs.{needs}
-use Prim.Native.Nat.{_+_, _*_, _-_, _≤_, _<_}
-use mathlib.Core.Path.{refl}
+use Prim.Native.Nat.{_+_, _*_, _-_, _≤_}
 use Rattle.layout.specs.Regions.{need}
 use Rattle.model.specs.Stored.{slot}
 use Rattle.settling.proofs.Indices.{tail-in, values-in, sizes-need}

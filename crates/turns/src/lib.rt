@@ -20,7 +20,7 @@ ghost use lib.ListN.{length};
 ghost use Rattle.terms.specs.Measures.{mostScans};
 ghost use Rattle.words.specs.Words.{words};
 ghost use Rattle.layout.specs.Sizes.{bytesNeeded};
-ghost use Rattle.scans.specs.Places.{placesOf};
+ghost use Rattle.packed.specs.Packed.{placesOf};
 ghost use Rattle.commands.specs.Commands.{Small, chosen};
 ghost use Rattle.commands.specs.Decoded.{shapeIn};
 ghost use Rattle.output.specs.Steps.{step};

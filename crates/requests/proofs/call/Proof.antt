@@ -6,7 +6,7 @@ use mathlib.Core.Path.{_≡_, refl, ap}
 use mathlib.Core.List.{List}
 use Rattle.terms.specs.declared.Place.{Place}
 use Rattle.words.specs.Words.{words, Bytes}
-use Rattle.scans.specs.Places.{placesOf}
+use Rattle.packed.specs.Packed.{placesOf}
 use Rattle.history.specs.History.{begin, insert, update, delete, commit, abort, latest, readAt, ownRead, openScan, scanRead, sum, close, merge, release, pageCell, lineage}
 use Rattle.model.specs.Calls.{actIn, placesAfter}
 use Rattle.commands.specs.declared.Kind.{Kind}
@@ -53,7 +53,7 @@ returns c =
     let k = z .before .before in
     let u = k .before .before in
     asks (mem u) (list u) (request u) (begin) _ _ _ (of-kind u Kind.Begin (k .enum-told .given .1))
-    (changed (mem u) _ (begin) _ _ (λ v qs. refl) (z .begin .ensures) (list u) (u .before .summarise .ensures))
+    (changed (mem u) _ (begin) _ _ (λ v qs. refl) (z .begin .ensures) (list u) (u .before .table .ensures))
 
 returns-2 : tie.Need-returns-2
 unfolding callOf placesAfter
@@ -62,7 +62,7 @@ returns-2 c =
     let k = z .before .before in
     let u = k .before .before in
     asks (mem u) (list u) (request u) (insert (first u) (request u .values)) _ _ _ (of-kind u Kind.Insert (k .enum-told2 .given .1))
-    (changed (mem u) _ (insert (first u) (request u .values)) _ _ (λ v qs. refl) (z .insert .ensures) (list u) (u .before .summarise .ensures))
+    (changed (mem u) _ (insert (first u) (request u .values)) _ _ (λ v qs. refl) (z .insert .ensures) (list u) (u .before .table .ensures))
 
 returns-3 : tie.Need-returns-3
 unfolding callOf placesAfter
@@ -72,7 +72,7 @@ returns-3 c =
     let u = k .before .before in
     asks (mem u) (list u) (request u) (update (first u) (second u) (third u) (request u .values)) _ _ _ (of-kind u Kind.Update (k .enum-told3 .given .1))
     (masked (mem u) (list u) (first u) (second u) (third u) (z .before .mask-of .result) (request u .values) _ _ (z .before .mask-of .ensures)
-    (changed (mem u) _ (update (first u) (second u) (z .before .mask-of .result) (request u .values)) _ _ (λ v qs. refl) (z .update .ensures) (list u) (u .before .summarise .ensures)))
+    (changed (mem u) _ (update (first u) (second u) (z .before .mask-of .result) (request u .values)) _ _ (λ v qs. refl) (z .update .ensures) (list u) (u .before .table .ensures)))
 
 returns-4 : tie.Need-returns-4
 unfolding callOf placesAfter
@@ -81,7 +81,7 @@ returns-4 c =
     let k = z .before .before in
     let u = k .before .before in
     asks (mem u) (list u) (request u) (delete (first u) (second u)) _ _ _ (of-kind u Kind.Delete (k .enum-told4 .given .1))
-    (changed (mem u) _ (delete (first u) (second u)) _ _ (λ v qs. refl) (z .delete .ensures) (list u) (u .before .summarise .ensures))
+    (changed (mem u) _ (delete (first u) (second u)) _ _ (λ v qs. refl) (z .delete .ensures) (list u) (u .before .table .ensures))
 
 returns-5 : tie.Need-returns-5
 unfolding callOf placesAfter
@@ -90,7 +90,7 @@ returns-5 c =
     let k = z .before .before in
     let u = k .before .before in
     asks (mem u) (list u) (request u) (commit (first u) (second u)) _ _ _ (of-kind u Kind.Commit (k .enum-told5 .given .1))
-    (changed (mem u) _ (commit (first u) (second u)) _ _ (λ v qs. refl) (z .commit .ensures) (list u) (u .before .summarise .ensures))
+    (changed (mem u) _ (commit (first u) (second u)) _ _ (λ v qs. refl) (z .commit .ensures) (list u) (u .before .table .ensures))
 
 returns-6 : tie.Need-returns-6
 unfolding callOf placesAfter
@@ -99,7 +99,7 @@ returns-6 c =
     let k = z .before .before in
     let u = k .before .before in
     asks (mem u) (list u) (request u) (abort (first u)) _ _ _ (of-kind u Kind.Abort (k .enum-told6 .given .1))
-    (changed (mem u) _ (abort (first u)) _ _ (λ v qs. refl) (z .abort .ensures) (list u) (u .before .summarise .ensures))
+    (changed (mem u) _ (abort (first u)) _ _ (λ v qs. refl) (z .abort .ensures) (list u) (u .before .table .ensures))
 
 returns-7 : tie.Need-returns-7
 unfolding callOf actIn placesAfter
@@ -107,7 +107,7 @@ returns-7 c =
     let k = c .before .before in
     let u = k .before .before in
     asks (mem u) (list u) (request u) (latest (first u) (second u)) _ _ _ (of-kind u Kind.Latest (k .enum-told7 .given .1))
-    (looked (mem u) _ (latest (first u) (second u)) _ (bytes (u .before .before .before .before)) (λ S v qs. refl) (λ v qs. refl) (c .latest .ensures) (list u) (u .before .summarise .ensures))
+    (looked (mem u) _ (latest (first u) (second u)) _ (bytes (u .before .before .before .before)) (λ S v qs. refl) (λ v qs. refl) (c .latest .ensures) (list u) (u .before .table .ensures))
 
 returns-8 : tie.Need-returns-8
 unfolding callOf actIn placesAfter
@@ -115,7 +115,7 @@ returns-8 c =
     let k = c .before .before in
     let u = k .before .before in
     asks (mem u) (list u) (request u) (readAt (first u) (second u) (third u)) _ _ _ (of-kind u Kind.ReadAt (k .enum-told8 .given .1))
-    (looked (mem u) _ (readAt (first u) (second u) (third u)) _ (bytes (u .before .before .before .before)) (λ S v qs. refl) (λ v qs. refl) (c .read-at .ensures) (list u) (u .before .summarise .ensures))
+    (looked (mem u) _ (readAt (first u) (second u) (third u)) _ (bytes (u .before .before .before .before)) (λ S v qs. refl) (λ v qs. refl) (c .read-at .ensures) (list u) (u .before .table .ensures))
 
 returns-9 : tie.Need-returns-9
 unfolding callOf actIn placesAfter
@@ -123,7 +123,7 @@ returns-9 c =
     let k = c .before .before in
     let u = k .before .before in
     asks (mem u) (list u) (request u) (ownRead (first u) (second u) (third u)) _ _ _ (of-kind u Kind.OwnRead (k .enum-told9 .given .1))
-    (looked (mem u) _ (ownRead (first u) (second u) (third u)) _ (bytes (u .before .before .before .before)) (λ S v qs. refl) (λ v qs. refl) (c .own-read .ensures) (list u) (u .before .summarise .ensures))
+    (looked (mem u) _ (ownRead (first u) (second u) (third u)) _ (bytes (u .before .before .before .before)) (λ S v qs. refl) (λ v qs. refl) (c .own-read .ensures) (list u) (u .before .table .ensures))
 
 returns-10 : tie.Need-returns-10
 unfolding callOf
@@ -132,7 +132,7 @@ returns-10 c =
     let k = z .before .before .before in
     let u = k .before .before in
     asks (mem u) (list u) (request u) (openScan (first u)) _ _ _ (of-kind u Kind.OpenScan (k .enum-told10 .given .1))
-    (z .open-listed .ensures (u .before .summarise .ensures))
+    (z .open-listed .ensures (u .before .table .ensures))
 
 returns-11 : tie.Need-returns-11
 unfolding callOf actIn placesAfter
@@ -140,7 +140,7 @@ returns-11 c =
     let k = c .before .before in
     let u = k .before .before in
     asks (mem u) (list u) (request u) (scanRead (first u) (second u) (third u)) _ _ _ (of-kind u Kind.ScanRead (k .enum-told11 .given .1))
-    (looked (mem u) _ (scanRead (first u) (second u) (third u)) _ (bytes (u .before .before .before .before)) (λ S v qs. refl) (λ v qs. refl) (c .scan-read .ensures) (list u) (u .before .summarise .ensures))
+    (looked (mem u) _ (scanRead (first u) (second u) (third u)) _ (bytes (u .before .before .before .before)) (λ S v qs. refl) (λ v qs. refl) (c .scan-read .ensures) (list u) (u .before .table .ensures))
 
 returns-12 : tie.Need-returns-12
 unfolding callOf actIn placesAfter
@@ -148,7 +148,7 @@ returns-12 c =
     let k = c .before .before in
     let u = k .before .before in
     asks (mem u) (list u) (request u) (sum (first u) (second u)) _ _ _ (of-kind u Kind.Sum (k .enum-told12 .given .1))
-    (looked (mem u) _ (sum (first u) (second u)) _ (bytes (u .before .before .before .before)) (λ S v qs. refl) (λ v qs. refl) (c .sum .ensures) (list u) (u .before .summarise .ensures))
+    (looked (mem u) _ (sum (first u) (second u)) _ (bytes (u .before .before .before .before)) (λ S v qs. refl) (λ v qs. refl) (c .sum .ensures) (list u) (u .before .table .ensures))
 
 returns-13 : tie.Need-returns-13
 unfolding callOf
@@ -157,7 +157,7 @@ returns-13 c =
     let k = z .before .before .before in
     let u = k .before .before in
     asks (mem u) (list u) (request u) (close (first u)) _ _ _ (of-kind u Kind.Close (k .enum-told13 .given .1))
-    (z .close-listed .ensures (u .before .summarise .ensures))
+    (z .close-listed .ensures (u .before .table .ensures))
 
 returns-14 : tie.Need-returns-14
 unfolding callOf placesAfter
@@ -166,7 +166,7 @@ returns-14 c =
     let k = z .before .before in
     let u = k .before .before in
     asks (mem u) (list u) (request u) (merge (first u) (second u) (third u)) _ _ _ (of-kind u Kind.Merge (k .enum-told14 .given .1))
-    (changed (mem u) _ (merge (first u) (second u) (third u)) _ _ (λ v qs. refl) (z .merge .ensures) (list u) (u .before .summarise .ensures))
+    (changed (mem u) _ (merge (first u) (second u) (third u)) _ _ (λ v qs. refl) (z .merge .ensures) (list u) (u .before .table .ensures))
 
 returns-15 : tie.Need-returns-15
 unfolding callOf placesAfter
@@ -175,7 +175,7 @@ returns-15 c =
     let k = z .before .before in
     let u = k .before .before in
     asks (mem u) (list u) (request u) (release) _ _ _ (of-kind u Kind.Release (k .enum-told15 .given .1))
-    (changed (mem u) _ (release) _ _ (λ v qs. refl) (z .release .ensures) (list u) (u .before .summarise .ensures))
+    (changed (mem u) _ (release) _ _ (λ v qs. refl) (z .release .ensures) (list u) (u .before .table .ensures))
 
 returns-16 : tie.Need-returns-16
 unfolding callOf actIn placesAfter
@@ -183,7 +183,7 @@ returns-16 c =
     let k = c .before .before in
     let u = k .before .before in
     asks (mem u) (list u) (request u) (pageCell (first u) (second u)) _ _ _ (of-kind u Kind.PageCell (k .enum-told16 .given .1))
-    (looked (mem u) _ (pageCell (first u) (second u)) _ (bytes (u .before .before .before .before)) (λ S v qs. refl) (λ v qs. refl) (c .page-cell .ensures) (list u) (u .before .summarise .ensures))
+    (looked (mem u) _ (pageCell (first u) (second u)) _ (bytes (u .before .before .before .before)) (λ S v qs. refl) (λ v qs. refl) (c .page-cell .ensures) (list u) (u .before .table .ensures))
 
 returns-17 : tie.Need-returns-17
 unfolding callOf actIn placesAfter
@@ -191,7 +191,7 @@ returns-17 c =
     let k = c .before .before in
     let u = k .before .before in
     asks (mem u) (list u) (request u) (lineage (first u) (second u)) _ _ _ (of-kind u Kind.Lineage (k .enum-told17 .given .1))
-    (looked (mem u) _ (lineage (first u) (second u)) _ (bytes (u .before .before .before .before)) (λ S v qs. refl) (λ v qs. refl) (c .lineage .ensures) (list u) (u .before .summarise .ensures))
+    (looked (mem u) _ (lineage (first u) (second u)) _ (bytes (u .before .before .before .before)) (λ S v qs. refl) (λ v qs. refl) (c .lineage .ensures) (list u) (u .before .table .ensures))
 
 pub call-spec : {M : Type 1} → statement M
 call-spec =

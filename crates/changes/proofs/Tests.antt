@@ -26,7 +26,7 @@ use Rattle.model.specs.Asked.{shapeIn, Proper, Counted, Linked, FreeAt}
 use Rattle.settling.specs.Steps.{foundAt}
 use Rattle.writing.specs.Steps.{Room}
 use Rattle.entry.proofs.Fitted.{given-tells}
-use Rattle.lending.proofs.Ends.{off}
+use Rattle.history.proofs.Lists.{is-false}
 
 -- ---- what passed tests say
 module _ (s : Sizes) (v : View) (l : Linked s v) (r n : ℕ) where
@@ -43,14 +43,14 @@ module _ (s : Sizes) (v : View) (l : Linked s v) (t r : ℕ) where
   unfolding testsIn
   delete-room e =
       let p = passed (testsIn (shapeIn s) v [] (Call.delete t r)) e in
-      room s v l r 1 (off (notGivenIn v r) (p .1 .0)) (off (lacksIn (shapeIn s) v r 1) (p .1 .1 .1 .1 .0))
+      room s v l r 1 (is-false (notGivenIn v r) (p .1 .0)) (is-false (lacksIn (shapeIn s) v r 1) (p .1 .1 .1 .1 .0))
 
   pub update-room : (mask : ℕ) → verdict (testsIn (shapeIn s) v [] (Call.update t r mask [])) ≡ accept → Room s v r (recordsWanted v r mask)
   unfolding testsIn
   update-room mask e =
       let p = passed (testsIn (shapeIn s) v [] (Call.update t r mask [])) e in
-      room s v l r (recordsWanted v r mask) (off (notGivenIn v r) (p .1 .0))
-      (off (lacksIn (shapeIn s) v r (recordsWanted v r mask)) (p .1 .1 .1 .1 .1 .0))
+      room s v l r (recordsWanted v r mask) (is-false (notGivenIn v r) (p .1 .0))
+      (is-false (lacksIn (shapeIn s) v r (recordsWanted v r mask)) (p .1 .1 .1 .1 .1 .0))
 
 -- the range g of row r lacks n tail records
 pub lacks-is : (s : Sizes) (v : View) (r g n : ℕ) → g ≡ rangeOf r → lacksIn (shapeIn s) v r n ≡ ltb (s .capacity) (usedIn v g + n)

@@ -131,7 +131,7 @@ differ-tells (x ∷ l) e zero (suc j) h q = go (eqb x 0) refl
         absurd
         (among-tells x l j (or-right (eqb x 0) (not (among x l)) p (and-true (eqb x 0 || not (among x l)) (differ l) e .0)) q (eqb-false x 0 p))
 
-numbers-at : (ps : List Place) (j : ℕ) → getD (map (λ p. p .number) ps) j 0 ≡ getD ps j freePlace .number
+pub numbers-at : (ps : List Place) (j : ℕ) → getD (map (λ p. p .number) ps) j 0 ≡ getD ps j freePlace .number
 numbers-at ps j = List·getD-map (λ p. p .number) ps j freePlace
 
 -- a bounded stretch of a region, word by word

@@ -14,7 +14,8 @@ use lib.Seq.{take-take}
 use Rattle.terms.specs.Measures.{Shape}
 use Rattle.terms.specs.declared.Answer.{Answer}
 use Rattle.history.specs.History.{Call, release, History, Row, Record, State, unknown, active, aborted, committed, Scan, Merge, Version, start, answers, answer, next, run, tests, reply, verdict, Verdict, accept, answerIf, nth, change, read, visible, versionOf, inserted, insertedValue, rowAt, seenAt, committedBy, stateOf, ended, lastSetting, withRows, withTail, withTransactions, withScans, withMerges, notGiven, later}
-use Rattle.history.specs.Claims.{Reads, latest-reads, at-reads, scan-reads, isRefused, historyBefore, callAt, answerAt, ReadAt, Stability}
+use Rattle.terms.specs.Refusals.{isRefused}
+use Rattle.history.specs.Claims.{Reads, latest-reads, at-reads, scan-reads, historyBefore, callAt, answerAt, ReadAt, Stability}
 use Rattle.history.proofs.Accepted.{Passed, passed, run-keeps}
 use Rattle.history.specs.Lists.{All, nil, cons}
 use Rattle.history.proofs.Steps.{Step, nothing, began, rowGiven, recordsMade, closed, by-commit, by-abort, scanOpened, scanClosed, merged, released, New, made-new, step}
@@ -159,7 +160,7 @@ run-on S calls i j b =
     ap (run S start) (sym (take-append-drop i (take j calls)) ∙ ap (λ (l : List Call). l ++ drop i (take j calls)) (take-take i j calls b))
     ∙ run-append S start (take i calls) (drop i (take j calls))
 
-accepted : (S : Shape) (h : History) (x : Call) → T (not (isRefused (answer S h x))) → verdict (tests S h x) ≡ accept
+pub accepted : (S : Shape) (h : History) (x : Call) → T (not (isRefused (answer S h x))) → verdict (tests S h x) ≡ accept
 unfolding answer answerIf
 accepted S h x = go (verdict (tests S h x))
   where

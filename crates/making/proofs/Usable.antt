@@ -7,8 +7,8 @@ use native.Mathlib.Omega.{arith}
 use native.Mathlib.Nat.{zero-add, add-zero}
 use lib.Seq.{slice-empty}
 use lib.Dec.{leb, ltb, leb·zero}
-use lib.ListN.{length, getD, drop, replicate, length-replicate, getD-replicate, length-append, length-drop, List·getD-eq-default}
-use borrow.Author.Tests.{leb-true, le-leb, lt-ltb, eq-eqb, ltb-true, ltb-false}
+use lib.ListN.{length, getD, drop, replicate, length-replicate, length-append, length-drop}
+use borrow.Author.Tests.{leb-true, le-leb, lt-ltb, eq-eqb}
 use Rattle.terms.specs.Measures.{Shape, withinLimits, mostScans, rangeRows}
 use Rattle.terms.specs.declared.Answer.{Answer}
 use Rattle.terms.specs.declared.Refusal.{Refusal}
@@ -16,7 +16,7 @@ use Rattle.terms.specs.declared.Place.{Place}
 use Rattle.words.specs.Words.{words, bytes}
 use Rattle.words.proofs.Words.{length-bytes}
 use Rattle.loops.specs.Search.{region, allBetween}
-use Rattle.loops.proofs.Change.{changed-at}
+use Rattle.loops.proofs.Change.{changed-at, zeros}
 use Rattle.layout.specs.declared.Region.{Region}
 use Rattle.layout.specs.declared.Region.the-variants.{Header, RowTransaction, RowStamp, TailTransaction, TailStamp, Current, PageState, PagePlace, PageReplaced, PageLineage, PageNewest}
 use Rattle.layout.specs.Cut.{join, endFrom}
@@ -36,13 +36,6 @@ use Rattle.facts.proofs.Ready.{sized}
 use Rattle.making.specs.Made.{blankView, placedView, madeView, made, madeList}
 
 -- ---- zeros
-
-zero-at : (n i : ℕ) → _≡_ {A = ℕ} (getD (replicate n 0) i 0) 0
-zero-at n i = go (ltb i n) refl
-  where
-    go : (b : Bool) → ltb i n ≡ b → _≡_ {A = ℕ} (getD (replicate n 0) i 0) 0
-    go true e = getD-replicate n i 0 0 (ltb-true i n e)
-    go false e = List·getD-eq-default {A = ℕ} (replicate n 0) 0 (rw (length-replicate {A = ℕ} n 0) (ltb-false i n e))
 
 zeros-between : (n b : ℕ) → allBetween 0 b (replicate n 0) ≡ true
 zeros-between zero b = refl
@@ -86,7 +79,7 @@ module _ (p : Shape) (w : withinLimits p ≡ true) where
 
   blank-fits : Fits (blankView (sizesOf p))
   unfolding blankView
-  blank-fits k i = let z = zero-at (len (sizesOf p) k) i in omega arith
+  blank-fits k i = let z = zeros (len (sizesOf p) k) i in omega arith
 
   pub made-long : Long (sizesOf p) (madeView p)
   unfolding madeView placedView
@@ -111,7 +104,7 @@ module _ (p : Shape) (w : withinLimits p ≡ true) where
 
   none-used : (g : ℕ) → used (madeView p) g ≡ 0
   unfolding madeView placedView put number fill renew blankView
-  none-used g = zero-at (p .ranges) g
+  none-used g = zeros (p .ranges) g
 
   each-unused : (f : ℕ → ℕ → Bool) → each (p .ranges) (λ g. each (used (madeView p) g) (f g)) ≡ true
   unfolding each
@@ -156,15 +149,15 @@ module _ (p : Shape) (w : withinLimits p ≡ true) where
 
     newest-zero : (i : ℕ) → getD (madeView p PageNewest) i 0 ≡ 0
     unfolding madeView placedView put number fill renew blankView
-    newest-zero i = zero-at (sizesOf p .pages) i
+    newest-zero i = zeros (sizesOf p .pages) i
 
     replaced-zero : (i : ℕ) → getD (madeView p PageReplaced) i 0 ≡ 0
     unfolding madeView placedView put number fill renew blankView
-    replaced-zero i = zero-at (sizesOf p .pages) i
+    replaced-zero i = zeros (sizesOf p .pages) i
 
     lineage-zero : (i : ℕ) → getD (madeView p PageLineage) i 0 ≡ 0
     unfolding madeView placedView put number fill renew blankView
-    lineage-zero i = zero-at (sizesOf p .pages) i
+    lineage-zero i = zeros (sizesOf p .pages) i
 
     stamps : stampsWithin (sizesOf p) (madeView p) list ≡ true
     unfolding stampsWithin rowsBetween

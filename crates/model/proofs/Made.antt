@@ -18,7 +18,7 @@ use Rattle.history.proofs.Lists.{parts}
 use Rattle.history.proofs.Past.{past-start}
 use Rattle.loops.specs.Change.{changed, numbered}
 use Rattle.words.proofs.Words.{Fit}
-use Rattle.loops.proofs.Change.{changed-length, changed-outside, changed-at, changed-fit}
+use Rattle.loops.proofs.Change.{changed-length, changed-outside, changed-at, changed-fit, zeros}
 use Rattle.layout.specs.Regions.{len}
 use Rattle.layout.specs.View.{View, renew, put}
 use Rattle.layout.specs.declared.Region.{Region}
@@ -35,12 +35,7 @@ use Rattle.model.proofs.Views.{renew-whole, put-whole}
 use Rattle.model.proofs.Merged.{place-in}
 use Rattle.model.proofs.Calls.{known-next, one-call}
 
--- ---- zeros, and a stretch from the start
-zeros : (n i : ℕ) → _≡_ {A = ℕ} (getD (replicate n 0) i 0) 0
-zeros zero i = refl
-zeros (suc n) zero = refl
-zeros (suc n) (suc i) = zeros n i
-
+-- ---- a stretch from the start
 changed-start : (f : ℕ → ℕ → ℕ) (n : ℕ) (l : List ℕ) (i : ℕ) → n ≤ length l → i < n → getD (changed f 0 n l) i 0 ≡ f i (getD l i 0)
 changed-start f n l i a b =
     ap (λ (j : ℕ). getD (changed f 0 n l) j 0) (sym (zero-add i)) ∙ changed-at f 0 l n i (omega arith) b ∙ ap (λ (j : ℕ). f i (getD l j 0)) (zero-add i)

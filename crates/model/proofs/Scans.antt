@@ -31,7 +31,7 @@ use Rattle.model.proofs.Views.{put-whole, header-put, header-same}
 abbrev none : Scan
 none = record { running = false; stamp = 0; before = 0 }
 
-same-place : (p q : Place) → ((f : Place → ℕ) → f p ≡ f q) → p ≡ q
+pub same-place : (p q : Place) → ((f : Place → ℕ) → f p ≡ f q) → p ≡ q
 same-place p q f = λ i. record { number = f (λ z. z .number) i; stamp = f (λ z. z .stamp) i; merges = f (λ z. z .merges) i }
 
 pub scan-is : (ss : List Scan) (l : List Place) → ScansAre ss l → (k : ℕ) → any (isScan k) l ≡ (nth ss k none) .running

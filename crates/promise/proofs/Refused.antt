@@ -6,7 +6,7 @@ use mathlib.Core.List.{List, [], _∷_}
 use lib.Dec.{T, eqb}
 use lib.IntN.{ℤ}
 use Rattle.terms.specs.Measures.{Shape}
-use Rattle.terms.specs.Refusals.{refusalNumber}
+use Rattle.terms.specs.Refusals.{refusalNumber, isRefused}
 use Rattle.terms.specs.declared.Answer.{Answer}
 use Rattle.terms.specs.declared.Place.{Place}
 use Rattle.terms.specs.declared.Refusal.{Refusal}
@@ -14,7 +14,6 @@ use Rattle.words.specs.Words.{words}
 use Rattle.layout.specs.View.{View, lay}
 use Rattle.layout.proofs.Lay.{lay-view}
 use Rattle.history.specs.History.{Call, begin, insert, update, delete, commit, abort, latest, readAt, ownRead, openScan, scanRead, sum, close, merge, release, pageCell, lineage, Test, any, verdict, Verdict, accept, refuse, answerIf}
-use Rattle.history.specs.Claims.{isRefused}
 use Rattle.history.proofs.Lists.{clash, or-left, or-right, eqb-equal}
 use Rattle.facts.specs.Usable.{shapeIn, sizesIn, usable}
 use Rattle.facts.proofs.Usable.{usable-tells}

@@ -32,7 +32,7 @@ use Rattle.model.proofs.Lists.{same-part, place-is}
 use Rattle.model.proofs.Book.{book-only}
 use Rattle.model.proofs.Merged.{place-in, place-mod}
 use Rattle.model.proofs.Heads.{in-range}
-use Rattle.model.proofs.Scans.{scan-is, scan-count, scan-found}
+use Rattle.model.proofs.Scans.{scan-is, scan-count, scan-found, same-place}
 use Rattle.model.proofs.Transactions.{opens-is}
 use Rattle.model.proofs.Represents.{RecordIs, CurrentIs, WaitingIs, madeIn, scanAs, Represents, Known}
 use Rattle.promise.proofs.Tests.{facts-hold}
@@ -74,9 +74,6 @@ noScan = record { running = false; stamp = 0; before = 0 }
 
 abbrev self : ℕ → ℕ
 self k = k
-
-same-place : (p q : Place) → ((f : Place → ℕ) → f p ≡ f q) → p ≡ q
-same-place p q f = λ i. record { number = f (λ z. z .number) i; stamp = f (λ z. z .stamp) i; merges = f (λ z. z .merges) i }
 
 -- ---- places of pages
 

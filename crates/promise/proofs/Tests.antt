@@ -7,7 +7,7 @@ use mathlib.Core.List.{List, [], _∷_, map}
 use native.Mathlib.Omega.{arith}
 use native.Mathlib.Nat.{zero-add}
 use lib.Dec.{leb, ltb, eqb}
-use lib.ListN.{length, getD, List·getD-map}
+use lib.ListN.{length, getD}
 use borrow.Author.Tests.{ltb-false, eqb-false, eq-eqb, ne-eqb, le-leb, lt-ltb}
 use Rattle.terms.specs.declared.Place.{Place}
 use Rattle.loops.specs.Search.{region, allBetween}
@@ -24,7 +24,7 @@ use Rattle.facts.specs.Facts.{rowsGiven, transactionsGiven, scansGiven, lastSta
 use Rattle.facts.specs.Tests.{Sized}
 use Rattle.facts.proofs.Each.{each-true}
 use Rattle.facts.proofs.Within.{range-in}
-use Rattle.facts.proofs.Usable.{Linked, Usable}
+use Rattle.facts.proofs.Usable.{Linked, Usable, numbers-at}
 
 -- ---- one list, one test
 
@@ -71,9 +71,6 @@ page-holds : (v : View) (least : ℕ) (k : Region) (most p : ℕ) → (least ≤
 unfolding pageAtMost
 page-holds v least k most p f =
     either (ltb (getD (v PageState) p 0) least) _ (λ e. le-leb (getD (v k) p 0) most (f (ltb-false (getD (v PageState) p 0) least e)))
-
-numbers-at : (ps : List Place) (j : ℕ) → getD (map (λ p. p .number) ps) j 0 ≡ getD ps j freePlace .number
-numbers-at ps j = List·getD-map (λ p. p .number) ps j freePlace
 
 -- ---- all clauses
 

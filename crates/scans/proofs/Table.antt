@@ -145,7 +145,7 @@ module _ (ps : List Place) (p : Place) where
           rw (e, m, more-length, count-open e, m′, field-open (λ q. q .number) e, field-open (λ q. q .stamp) e, field-open (λ q. q .merges) e, at-open e, free-snoc ps p, e)
           (rw (full (map (λ q. q .number) (opened ps)) (p .number) (field-long (λ q. q .number)) h, full (map (λ q. q .stamp) (opened ps)) (p .stamp) (field-long (λ q. q .stamp)) h, full (map (λ q. q .merges) (opened ps)) (p .merges) (field-long (λ q. q .merges)) h, full (openedAt 0 ps) (length ps) (at-length 0 ps) h, lt-ltb mostScans (n + 1) (omega arith)))
 
-table-length : (t : Scans) (ps : List Place) → t ≡ tableOf ps → t .length ≡ length ps
+pub table-length : (t : Scans) (ps : List Place) → t ≡ tableOf ps → t .length ≡ length ps
 unfolding tableOf
 table-length t ps e = ap (λ (u : Scans). u .length) e
 

@@ -8,6 +8,7 @@ use lib.Dec.{eqb, leb, ltb, leb·suc-suc}
 use lib.ListN.{length}
 use borrow.Author.Tests.{ltb-true, ltb-false, le-leb, lt-leb, lt-ltb}
 use Rattle.terms.specs.Measures.{rangeRows, mostTransactions}
+use Rattle.terms.specs.declared.Refusal.{Refusal}
 use Rattle.loops.specs.declared.Found.{Found}
 use Rattle.layout.specs.declared.Sizes.{Sizes}
 use Rattle.words.specs.Words.{words}
@@ -16,17 +17,49 @@ use Rattle.layout.specs.declared.Region.{Region}
 use Rattle.layout.specs.Regions.{need}
 use Rattle.layout.specs.View.{View, view}
 use Rattle.layout.proofs.View.{view-long}
-use Rattle.history.specs.History.{Call, accept, verdict, any, rangeOf}
+use Rattle.history.specs.History.{Call, Test, _when_, accept, verdict, any, rangeOf}
 use Rattle.history.proofs.Accepted.{passed}
 use Rattle.terms.specs.Places.{place}
-use Rattle.model.specs.Stored.{usedIn, headerIn, rowsGiven}
+use Rattle.model.specs.Stored.{usedIn, headerIn, rowsGiven, openPlace}
 use Rattle.model.specs.Writing.{recordsWanted}
-use Rattle.model.specs.Calls.{notGivenIn, lacksIn, testsIn}
+use Rattle.model.specs.Calls.{notOpenIn, notGivenIn, lacksIn, testsIn}
 use Rattle.model.specs.Asked.{shapeIn, Proper, Counted, Linked, FreeAt}
 use Rattle.settling.specs.Steps.{foundAt}
 use Rattle.writing.specs.Steps.{Room}
-use Rattle.entry.proofs.Fitted.{given-tells}
+use Rattle.conditions.specs.Opens.{openAt}
+use Rattle.conditions.proofs.Opens.{open-there, not-open}
+use Rattle.entry.specs.Given.{rangeGiven}
+use Rattle.entry.proofs.Fitted.{given-tells, row-given, row-missing}
+use Rattle.lending.specs.declared.Tested.{Tested}
+use Rattle.lending.specs.Carried.{tested}
 use Rattle.history.proofs.Lists.{is-false}
+
+-- ---- the first two tests of a call that names a transaction and a row, by what their finders answer
+-- Transaction t is open at j, and row r is one of range g.
+pub record RowFound (v : View) (t r j g : ℕ) : Type 0 where
+  pub begun : notOpenIn v t ≡ false
+  pub place-is : j ≡ openPlace v t
+  pub given : notGivenIn v r ≡ false
+  pub below : r < headerIn v rowsGiven
+  pub range-is : g ≡ rangeOf r
+
+module _ (v : View) (t : ℕ) (f : Found) (e : f ≡ openAt v t) where
+  pub fails-open : (ts : List Test) (at : ℕ) → f ≡ Found.Nothing
+      → Tested.Failed Refusal.Transaction ≡ tested (verdict (Refusal.Transaction when notOpenIn v t ∷ ts)) at
+  unfolding verdict tested
+  fails-open ts at q = rw (not-open v t (sym e ∙ q))
+
+  module _ (r : ℕ) (h : Found) (k : h ≡ rangeGiven v r) (j : ℕ) (q : f ≡ Found.At j) where
+    pub fails-given : (ts : List Test) (at : ℕ) → h ≡ Found.Nothing
+        → Tested.Failed Refusal.Row ≡ tested (verdict (Refusal.Transaction when notOpenIn v t ∷ Refusal.Row when notGivenIn v r ∷ ts)) at
+    unfolding verdict tested
+    fails-given ts at n = rw (open-there v t j (sym e ∙ q) .0, row-missing v r (sym k ∙ n))
+
+    pub row-found : (g : ℕ) → h ≡ Found.At g → RowFound v t r j g
+    row-found g n =
+        let o = open-there v t j (sym e ∙ q) in
+        let w = row-given v r g (sym k ∙ n) in
+        record { begun = o .0; place-is = o .1; given = w .0; below = given-tells v r (w .0); range-is = w .1 }
 
 -- ---- what passed tests say
 module _ (s : Sizes) (v : View) (l : Linked s v) (r n : ℕ) where

@@ -1,54 +1,45 @@
 -- `changes::delete_tests` meets its contract: each answer follows from the tests that led to it.
 use borrow.Author.Needs.{needs}
-use mathlib.Core.Path.{sym, _∙_}
 use Rattle.history.specs.History.{verdict}
 use Rattle.model.specs.Calls.{testsIn}
-use Rattle.conditions.proofs.Opens.{open-there, not-open}
-use Rattle.entry.proofs.Fitted.{given-tells, row-given, row-missing}
-use Rattle.lending.specs.Carried.{tested}
 use Rattle.lending.proofs.Ends.{below-tested}
+use Rattle.changes.proofs.Tests.{fails-open, fails-given, row-found}
 use Rattle.changes.proofs.delete_tests.Statement.{statement}
 use Rattle.changes.proofs.delete_tests.Tie as tie
-
-returns : tie.Need-returns
-unfolding testsIn verdict tested
-returns c = (rw (not-open _ _ (sym (c .before .before .open-place .ensures .0) ∙ c .enum-told .given .1)), tt)
-
-returns-2 : tie.Need-returns-2
-unfolding testsIn verdict tested
-returns-2 c =
-    let found = c .before .before .before .before in
-    let row = c .before .before in
-    (rw (open-there _ _ _ (sym (found .before .before .open-place .ensures .0) ∙ found .at .given .1) .0, row-missing _ _ (sym (row .given-range .ensures) ∙ c .enum-told2 .given .1)), tt)
 
 append-tests-requires : tie.Need-append-tests-requires
 append-tests-requires c κs =
     let row = c .before in
-    let start = row .before .before .before .before .before .before .before .before in
-    let given = row-given _ _ _ (sym (row .before .before .given-range .ensures) ∙ row .g .given .1) in
-    (start .pre .0, (start .pre .1, (given-tells _ _ (given .0), given .1)))
+    let found = row .before .before .before .before in
+    let place = found .before .before .open-place in
+    let r = row-found _ _ _ (place .ensures .0) _ _ (row .before .before .given-range .ensures) _ (found .at .given .1) _ (row .g .given .1) in
+    let start = found .before .before .before .before in
+    (start .pre .0, (start .pre .1, (r .below, r .range-is)))
 
-returns-3 : tie.Need-returns-3
+returns : tie.Need-returns-3
 unfolding testsIn verdict
-returns-3 c =
+returns c =
     let row = c .before .before in
     let found = row .before .before .before .before in
     let place = found .before .before .open-place in
-    let o = open-there _ _ _ (sym (place .ensures .0) ∙ found .at .given .1) in
-    let given = row-given _ _ _ (sym (row .before .before .given-range .ensures) ∙ row .g .given .1) in
-    (rw (o .0, given .0, ← o .1) (c .append-tests .ensures), below-tested _ _ 8 _ (c .append-tests .ensures) (rw (found .at .given .1) at (place .ensures .1)))
+    let r = row-found _ _ _ (place .ensures .0) _ _ (row .before .before .given-range .ensures) _ (found .at .given .1) _ (row .g .given .1) in
+    (rw (r .begun, r .given, ← r .place-is) (c .append-tests .ensures), below-tested _ _ 8 _ (c .append-tests .ensures) (rw (found .at .given .1) at (place .ensures .1)))
 
 pub delete-tests-spec : {M : Type 1} → statement M
+unfolding testsIn
 delete-tests-spec =
     tie.close
     (tie.spec
     (λ c κs. search needs)
     (λ c. search needs)
     (λ c. search needs)
-    returns
+    (λ c. (fails-open _ _ _ (c .before .before .open-place .ensures .0) _ _ (c .enum-told .given .1), tt))
     (λ c κs. search needs)
     (λ c. search needs)
     (λ c. search needs)
-    returns-2
+    (λ c.
+        let row = c .before .before in
+        let found = row .before .before in
+        (fails-given _ _ _ (found .before .before .open-place .ensures .0) _ _ (row .given-range .ensures) _ (found .at .given .1) _ _ (c .enum-told2 .given .1), tt))
     append-tests-requires
-    returns-3)
+    returns)

@@ -1,4 +1,4 @@
--- What `each` says: one turn of a loop that carries a flag, the end of it, and what a raised flag tells of each index.
+-- What `each` says: the turns of a loop that carries a flag, and what a raised flag tells of each index.
 use Prim.Native.Nat.{ℕ, zero, suc, _+_, _≤_, _<_}
 use mathlib.Core.Path.{_≡_, refl, sym, _∙_}
 use mathlib.Core.Bool.{Bool, true, false, _&&_}
@@ -16,18 +16,25 @@ use Rattle.loops.proofs.Search.{and-true, and-false, all-tells}
 use Rattle.loops.proofs.Region.{region-at, region-length}
 use Rattle.facts.specs.Facts.{each}
 
+-- ---- a loop that carries a flag: after i of n turns it is that of the indices below i
+abbrev pub Flagged : ℕ → (ℕ → Bool) → Bool → ℕ → Type 0
+Flagged n f ok i = (i ≤ n) × (ok ≡ each i f)
+
+module _ (n : ℕ) (f : ℕ → Bool) where
+  pub flag-raised : Flagged n f true 0
+  unfolding each
+  flag-raised = (omega arith, refl)
+
+  module _ (ok : Bool) (i : ℕ) (p : Flagged n f ok i) where
+    pub flag-next : (h r : Bool) → i < n → h ≡ f i → r ≡ (ok && h) → Flagged n f r (i + 1)
+    unfolding each
+    flag-next h r l q e = (omega arith, e ∙ rw (add-one, p .1, q))
+
+    pub flag-all : n ≤ i → ok ≡ each n f
+    flag-all k = let q : i ≡ n = omega arith in p .1 ∙ rw q
+
+-- ---- what a raised flag tells
 module _ (f : ℕ → Bool) where
-  pub each-none : true ≡ each 0 f
-  unfolding each
-  each-none = refl
-
-  pub each-next : (ok h r : Bool) (i : ℕ) → ok ≡ each i f → h ≡ f i → r ≡ (ok && h) → r ≡ each (i + 1) f
-  unfolding each
-  each-next ok h r i p q e = e ∙ rw (add-one, p, q)
-
-  pub each-all : (ok : Bool) (i n : ℕ) → i ≤ n → n ≤ i → ok ≡ each i f → ok ≡ each n f
-  each-all ok i n h k e = let q : i ≡ n = omega arith in e ∙ rw q
-
   pub each-tells : (n : ℕ) → each n f ≡ true → (i : ℕ) → i < n → f i ≡ true
   unfolding each
   each-tells zero e i h = absurd (omega arith)

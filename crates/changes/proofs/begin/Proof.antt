@@ -19,5 +19,5 @@ begin-spec =
     (λ c κs. part-room (lent-by _ _ _ _ _ (c .before .before .s .given .1) (c .before .before .before .before .lend .ensures)))
     (λ c. search needs)
     (λ c.
-        lent-leaves (lent-by _ _ _ _ _ (c .before .before .before .before .before .s .given .1) (c .before .before .before .before .before .before .before .lend .ensures)) _ _ _ (λ ps q k. c .before .before .begin-in .ensures ps)
-        (c .before .before .begin-in .kept .0) (λ k. omega (arith, c .slice-known2 .given k))))
+    lent-leaves (lent-by _ _ _ _ _ (c .before .before .before .before .before .s .given .1) (c .before .before .before .before .before .before .before .lend .ensures)) _ _ _ (λ ps q k. c .before .before .begin-in .ensures ps)
+    (c .before .before .begin-in .kept .0) (λ k. omega (arith, c .slice-known2 .given k))))

@@ -1,5 +1,4 @@
 -- `conditions::gone` meets its contract.
-use Prim.Native.Nat.{_<_}
 use mathlib.Core.Path.{sym, _∙_}
 use native.Mathlib.Omega.{arith}
 use Rattle.conditions.proofs.Rows.{gone-insert, gone-none, gone-head}
@@ -7,24 +6,11 @@ use borrow.Author.Needs.{needs}
 use Rattle.conditions.proofs.gone.Statement.{statement}
 use Rattle.conditions.proofs.gone.Tie as tie
 
-returns : tie.Need-returns
-returns c = gone-insert _ _ _ _ (c .before .read .ensures) (c .if1 .taken)
-
 returns-2 : tie.Need-returns-2
 returns-2 c =
     let call = c .before .before in
     let test = call .before in
     gone-none _ _ _ _ (test .before .read .ensures) (test .if1 .left) (sym (call .head .ensures .0) ∙ c .enum-told .given .1)
-
--- the record that was found lies among the slots
-found : (c : tie.After-at) → c .at .given .0 .0 < c .before .before .before .before .before .before .before .args .s .slots
-found c = rw (c .at .given .1) at (c .before .before .head .ensures .1)
-
-read-requires-2 : tie.Need-read-requires-2
-read-requires-2 c κs = (omega arith, found (c .before))
-
-read-requires-3 : tie.Need-read-requires-3
-read-requires-3 c κs = (omega arith, found (c .before .before))
 
 returns-3 : tie.Need-returns-3
 returns-3 c =
@@ -42,12 +28,12 @@ gone-spec =
     (tie.spec
     (λ c. search needs)
     (λ c κs. search needs)
-    returns
+    (λ c. gone-insert _ _ _ _ (c .before .read .ensures) (c .if1 .taken))
     (λ c κs. search needs)
     (λ c. search needs)
     (λ c. search needs)
     returns-2
-    read-requires-2
-    read-requires-3
+    (λ c κs. (omega arith, rw (c .before .at .given .1) at (c .before .before .before .head .ensures .1)))
+    (λ c κs. (omega arith, rw (c .before .before .at .given .1) at (c .before .before .before .before .head .ensures .1)))
     (λ c κs. search needs)
     returns-3)

@@ -1,5 +1,4 @@
 -- `conditions::held` meets its contract.
-use Prim.Native.Nat.{_<_}
 use mathlib.Core.Path.{sym, _∙_}
 use native.Mathlib.Omega.{arith}
 use Rattle.conditions.proofs.Rows.{held-insert, held-none, held-head}
@@ -21,16 +20,6 @@ returns-2 c =
     let second = call .before in
     held-none _ _ _ _ (second .before .read .ensures) _ _ (second .read2 .ensures) (sym (call .open-elsewhere .ensures) ∙ test .if1 .left)
     (sym (find .head .ensures .0) ∙ c .enum-told .given .1)
-
--- the record that was found lies among the slots
-found : (c : tie.After-at) → c .at .given .0 .0 < c .before .before .before .before .before .before .before .before .before .args .s .slots
-found c = rw (c .at .given .1) at (c .before .before .head .ensures .1)
-
-read-requires-3 : tie.Need-read-requires-3
-read-requires-3 c κs = (omega arith, found (c .before))
-
-read-requires-4 : tie.Need-read-requires-4
-read-requires-4 c κs = (omega arith, found (c .before .before))
 
 returns-3 : tie.Need-returns-3
 returns-3 c =
@@ -58,7 +47,7 @@ held-spec =
     (λ c. search needs)
     (λ c. search needs)
     returns-2
-    read-requires-3
-    read-requires-4
+    (λ c κs. (omega arith, rw (c .before .at .given .1) at (c .before .before .before .head .ensures .1)))
+    (λ c κs. (omega arith, rw (c .before .before .at .given .1) at (c .before .before .before .before .head .ensures .1)))
     (λ c κs. search needs)
     returns-3)

@@ -4,20 +4,8 @@ use Rattle.facts.specs.Tests.{rangeHolds}
 use Rattle.facts.proofs.range_holds.Statement.{statement}
 use Rattle.facts.proofs.range_holds.Tie as tie
 
-returns : tie.Need-returns
-unfolding rangeHolds
-returns c =
-    let two = c .before in
-    let one = two .before in
-    let stamps = one .before in
-    let links = stamps .before in
-    let numbers = links .before in
-    let named = numbers .before in
-    let last = named .before in
-    let given = last .before in
-    rw (c .both3 .ensures, two .both2 .ensures, one .both .ensures, stamps .records-between2 .ensures, links .records-linked .ensures, numbers .records-between .ensures, named .records-named .ensures, last .read2 .ensures, given .read .ensures)
-
 pub range-holds-spec : {M : Type 1} → statement M
+unfolding rangeHolds
 range-holds-spec =
     tie.close
     (tie.spec
@@ -30,4 +18,4 @@ range-holds-spec =
     (λ c κs. search needs)
     (λ c κs. search needs)
     (λ c κs. search needs)
-    returns)
+    (λ c. rw (c .both3 .ensures, c .before .both2 .ensures, c .before .before .both .ensures, c .before .before .before .records-between2 .ensures, c .before .before .before .before .records-linked .ensures, c .before .before .before .before .before .records-between .ensures, c .before .before .before .before .before .before .records-named .ensures, c .before .before .before .before .before .before .before .read2 .ensures, c .before .before .before .before .before .before .before .before .read .ensures)))

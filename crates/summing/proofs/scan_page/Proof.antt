@@ -1,5 +1,4 @@
 -- `summing::scan_page` meets its contract.
-use Prim.Native.Nat.{_+_, _*_, _≤_, _<_}
 use mathlib.Core.Path.{sym, _∙_}
 use native.Mathlib.Omega.{arith}
 use Rattle.rows.proofs.Indices.{places-few, place-in}
@@ -7,11 +6,6 @@ use Rattle.summing.proofs.Pages.{scan-current, scan-old, scan-none}
 use borrow.Author.Needs.{needs}
 use Rattle.summing.proofs.scan_page.Statement.{statement}
 use Rattle.summing.proofs.scan_page.Tie as tie
-
-inside : (c : tie.Start) → let a = c .args in (a .g * a .s .columns + a .c < a .s .places) × (a .s .places ≤ 256)
-inside c =
-    let proper = c .pre .1 .0 in
-    (place-in _ proper _ _ (c .pre .1 .1 .1 .0) (c .pre .1 .1 .1 .1), places-few _ proper .0)
 
 returns : tie.Need-returns
 returns c =
@@ -44,8 +38,8 @@ scan-page-spec =
     (λ c κs. search needs)
     (λ c κs. search needs)
     returns
-    (λ c. omega (arith, inside (c .before .before .before .before .before)))
-    (λ c. omega (arith, inside (c .before .before .before .before .before)))
+    (λ c. let p = c .before .before .before .before .before .pre .1 in omega (arith, place-in _ (p .0) _ _ (p .1 .1 .0) (p .1 .1 .1), places-few _ (p .0)))
+    (λ c. let p = c .before .before .before .before .before .pre .1 in omega (arith, place-in _ (p .0) _ _ (p .1 .1 .0) (p .1 .1 .1), places-few _ (p .0)))
     (λ c κs. search needs)
     (λ c. search needs)
     (λ c. search needs)

@@ -65,7 +65,7 @@ open-scan-spec =
     (λ c. search needs)
     (λ c κs. (lent (c .before .before .before .before .before .before) .fitted .room, omega arith))
     (λ c. part-in (lent (c .before .before .before .before .before .before .before)))
-    (λ c. sym (part-long (lent (c .before .before .before .before .before .before .before .before))))
+    (λ c. part-long (lent (c .before .before .before .before .before .before .before .before)))
     give-scan-requires
     (λ c. search needs)
     returns-2

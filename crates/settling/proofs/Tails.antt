@@ -1,6 +1,6 @@
 -- The loop that marks the used records of every range, and the counts that it goes by.
 use Prim.Native.Nat.{ℕ, _+_, _≤_}
-use mathlib.Core.Path.{_≡_, ap, _∙_}
+use mathlib.Core.Path.{_≡_, refl, ap, _∙_}
 use mathlib.Core.Logic.{_≢_}
 use mathlib.Core.List.{List}
 use native.Mathlib.Omega.{arith}
@@ -12,8 +12,8 @@ use Rattle.layout.specs.declared.Region.{Region}
 use Rattle.layout.specs.Regions.{index}
 use Rattle.layout.specs.View.{View, renew, mark}
 use Rattle.layout.proofs.View.{renew-here, renew-there}
-use Rattle.model.specs.Stored.{usedIn}
-use Rattle.model.specs.Writing.{markTails}
+use Rattle.model.specs.Stored.{usedIn, headerIn, rowsGiven}
+use Rattle.model.specs.Writing.{markTails, settled}
 use Rattle.model.specs.Asked.{Counted}
 use Rattle.settling.specs.Steps.{tailMarked, tailsMarked}
 use Rattle.settling.proofs.Views.{renew-none, renew-again}
@@ -48,3 +48,28 @@ module _ (S : Shape) (t : ℕ) (k : Region) (w : ℕ) (v : View) where
 pub counted-kept : (s : Sizes) (v w : View) → w Region.Header ≡ v Region.Header → w Region.Used ≡ v Region.Used → Counted s v → Counted s w
 counted-kept s v w h u c =
     record { rows-given = rw h (c .rows-given); records-used = λ g l. rw u (c .records-used g l) }
+
+-- ---- the steps of a settlement: the states and the stamps of the rows, then of the records
+
+-- what the records are marked by is neither of the two, and neither is a count of records
+pub states-apart : (index Region.TailTransaction ≡ index Region.TailState → ⊥) × (index Region.TailState ≡ index Region.Used → ⊥)
+states-apart = (λ e. omega arith, λ e. omega arith)
+
+pub stamps-apart : (index Region.TailTransaction ≡ index Region.TailStamp → ⊥) × (index Region.TailStamp ≡ index Region.Used → ⊥)
+stamps-apart = (λ e. omega arith, λ e. omega arith)
+
+module _ (t state stamp n : ℕ) (v v₁ v₂ : View) (a : v₁ ≡ mark Region.RowTransaction t Region.RowState 0 n state v)
+    (b : v₂ ≡ mark Region.RowTransaction t Region.RowStamp 0 n stamp v₁) where
+  pub rows-counted : (s : Sizes) → Counted s v → Counted s v₂
+  unfolding mark renew
+  rows-counted s k = rw (b, a) (counted-kept s v _ refl refl k)
+
+  module _ (S : Shape) (v₃ : View) (c : v₃ ≡ tailsMarked S t Region.TailState state v₂) where
+    pub tails-counted : (s : Sizes) → Counted s v → Counted s v₃
+    unfolding mark renew tailsMarked
+    tails-counted s k = rw (c, b, a) (counted-kept s v _ refl refl k)
+
+    pub settled-is : (v₄ : View) → v₄ ≡ tailsMarked S t Region.TailStamp stamp v₃ → n ≡ headerIn v rowsGiven
+        → v₄ ≡ settled S t state stamp v
+    unfolding settled mark renew tailsMarked
+    settled-is v₄ d e = rw (d, c, b, a, e)

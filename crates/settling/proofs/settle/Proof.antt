@@ -2,29 +2,9 @@
 use native.Mathlib.Omega.{arith}
 use borrow.Author.Needs.{needs}
 use mathlib.Core.Path.{refl}
-use Rattle.layout.specs.View.{mark, renew}
-use Rattle.model.specs.Writing.{settled}
-use Rattle.settling.specs.Steps.{tailsMarked}
-use Rattle.settling.proofs.Tails.{counted-kept}
+use Rattle.settling.proofs.Tails.{states-apart, stamps-apart, rows-counted, tails-counted, settled-is}
 use Rattle.settling.proofs.settle.Statement.{statement}
 use Rattle.settling.proofs.settle.Tie as tie
-
--- what was marked so far is neither the header nor a count of records
-mark-tails-requires : tie.Need-mark-tails-requires
-unfolding mark renew
-mark-tails-requires c κs =
-    let start = c .before .before .before .before .before .before .before .before .before .before .before .before in
-    (omega arith, (start .pre .1 .0, (rw (c .before .before .before .mark-in2 .ensures, c .before .before .before .before .before .before .before .mark-in .ensures) (counted-kept _ _ _ refl refl (start .pre .1 .1)), (refl, (λ e. omega arith), (λ e. omega arith)))))
-
-mark-tails-requires-2 : tie.Need-mark-tails-requires-2
-unfolding mark renew tailsMarked
-mark-tails-requires-2 c κs =
-    let start = c .before .before .before .before .before .before .before .before .before .before .before .before .before .before .before .before in
-    (omega arith, (start .pre .1 .0, (rw (c .before .before .before .mark-tails .ensures, c .before .before .before .before .before .before .before .mark-in2 .ensures, c .before .before .before .before .before .before .before .before .before .before .before .mark-in .ensures) (counted-kept _ _ _ refl refl (start .pre .1 .1)), (refl, (λ e. omega arith), (λ e. omega arith)))))
-
-returns : tie.Need-returns
-unfolding settled mark renew tailsMarked
-returns c = rw (c .before .before .mark-tails2 .ensures, c .before .before .before .before .before .before .mark-tails .ensures, c .before .before .before .before .before .before .before .before .before .before .mark-in2 .ensures, c .before .before .before .before .before .before .before .before .before .before .before .before .before .before .mark-in .ensures, c .before .before .before .before .before .before .before .before .before .before .before .before .before .before .before .before .read .ensures)
 
 pub settle-spec : {M : Type 1} → statement M
 settle-spec =
@@ -34,7 +14,20 @@ settle-spec =
     (λ c. search needs)
     (λ c κs. search needs)
     (λ c κs. search needs)
-    mark-tails-requires
-    mark-tails-requires-2
+    (λ c κs.
+    let second = c .before .before .before in
+    let start = second .before .before .before .before .before .before .before .before .before in
+    let counted = rows-counted _ _ _ _ _ _ _ (second .before .before .before .before .mark-in .ensures) (second .mark-in2 .ensures) _ (start .pre .1 .1) in
+    (omega arith, (start .pre .1 .0, (counted, (refl, states-apart .0, states-apart .1)))))
+    (λ c κs.
+    let third = c .before .before .before in
+    let second = third .before .before .before .before in
+    let start = second .before .before .before .before .before .before .before .before .before in
+    let counted = tails-counted _ _ _ _ _ _ _ (second .before .before .before .before .mark-in .ensures) (second .mark-in2 .ensures) _ _ (third .mark-tails .ensures) _ (start .pre .1 .1) in
+    (omega arith, (start .pre .1 .0, (counted, (refl, stamps-apart .0, stamps-apart .1)))))
     (λ c. search needs)
-    returns)
+    (λ c.
+    let third = c .before .before .before .before .before .before in
+    let second = third .before .before .before .before in
+    let first = second .before .before .before .before in
+    settled-is _ _ _ _ _ _ _ (first .mark-in .ensures) (second .mark-in2 .ensures) _ _ (third .mark-tails .ensures) _ (c .before .before .mark-tails2 .ensures) (first .before .before .read .ensures)))

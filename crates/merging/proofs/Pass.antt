@@ -22,7 +22,7 @@ use Rattle.model.specs.Asked.{shapeIn, Proper}
 use Rattle.settling.specs.Steps.{foundAt}
 use Rattle.settling.proofs.Places.{find-place}
 use Rattle.settling.proofs.Views.{renew-none, renew-again, put-renew}
-use Rattle.merging.specs.Steps.{appliedOne, laterOne, appliedAll, mergedCells, pagePut, pageReplaced, Mergeable}
+use Rattle.merging.specs.Steps.{appliedOne, laterOne, appliedAll, pagePut, pageReplaced, Mergeable}
 
 -- ---- the pass looks at no cell
 applied-blind : (S : Shape) (v : View) (l : List ℕ) (g c p low n : ℕ) (cells : List ℕ)
@@ -106,9 +106,9 @@ copy-here : (S : Shape) (g c p low n : ℕ) (v : View) (l : List ℕ)
 unfolding renew
 copy-here S g c p low n v l = refl
 
-pub merged-cells : (S : Shape) (g c old p low n : ℕ) (v x : View) → x ≡ copy Region.Cells (old * 64) 64 (p * 64) v
-    → appliedAll S g c p low n x ≡ mergedCells S g c old p low n v
-unfolding appliedAll mergedCells copy
+merged-cells : (S : Shape) (g c old p low n : ℕ) (v x : View) → x ≡ copy Region.Cells (old * 64) 64 (p * 64) v
+    → appliedAll S g c p low n x ≡ renew Region.Cells (applied S v g c p low n (copied (v Region.Cells) (old * 64) 64 (p * 64) (v Region.Cells))) v
+unfolding appliedAll copy
 merged-cells S g c old p low n v x e =
     let l : List ℕ = copied (v Region.Cells) (old * 64) 64 (p * 64) (v Region.Cells) in
     rw e
@@ -116,7 +116,7 @@ merged-cells S g c old p low n v x e =
     ∙ renew-again Region.Cells l (applied S v g c p low n (renew Region.Cells l v Region.Cells)) v
     ∙ copy-here S g c p low n v l)
 
-pub merged-newest : (S : Shape) (g c old p low n stamp : ℕ) (v x : View) → x ≡ copy Region.Cells (old * 64) 64 (p * 64) v
+merged-newest : (S : Shape) (g c old p low n stamp : ℕ) (v x : View) → x ≡ copy Region.Cells (old * 64) 64 (p * 64) v
     → newestOf S x g c low n stamp ≡ newestOf S v g c low n stamp
 unfolding copy
 merged-newest S g c old p low n stamp v x e = rw e (newest-blind S v _ g c low n stamp)
@@ -172,16 +172,14 @@ free-found s v p l =
     find-place 0 (v Region.PageState) (s .pages) l
     ∙ ap (foundAt (s .pages)) (sym (first-list 0 (v Region.PageState) (s .pages) l) ∙ ap (λ (n : ℕ). firstFrom (λ p. eqb (getD (v Region.PageState) p 0) 0) n 0) q)
 
--- ---- the whole merge, as the code has it
-pub merged-is : (S : Shape) (g c n p : ℕ) (v : View) → p ≡ freeIn S v
-    → let old = getD (v Region.Current) (g * S .columns + c) 0 in
-    let low = getD (v Region.PageLineage) old 0 in
-    let m = nextWord (getD (v Region.Header) 8 0) in
-    pageReplaced old p (g * S .columns + c) m
-    (pagePut p (g * S .columns + c) m n (newestOf S v g c low (n - low) (getD (v Region.PageNewest) old 0)) (mergedCells S g c old p low (n - low) v))
-    ≡ mergedIn S g c n v
-unfolding mergedIn pageReplaced pagePut mergedCells pageIn currentIn
-merged-is S g c n p v e = rw (← e)
+-- ---- the whole merge, as the code has it: a copy of page `old` takes the records after `low`, and is put in its place
+pub merged-is : (S : Shape) (g c n p old low newest m latest : ℕ) (v x y z w : View) → p ≡ freeIn S v → old ≡ getD (v Region.Current) (g * S .columns + c) 0
+    → low ≡ getD (v Region.PageLineage) old 0 → newest ≡ getD (v Region.PageNewest) old 0 → m ≡ nextWord (getD (v Region.Header) 8 0)
+    → x ≡ copy Region.Cells (old * 64) 64 (p * 64) v → latest ≡ newestOf S x g c low (n - low) newest → y ≡ appliedAll S g c p low (n - low) x
+    → z ≡ pagePut p (g * S .columns + c) m n latest y → w ≡ pageReplaced old p (g * S .columns + c) m z → w ≡ mergedIn S g c n v
+unfolding mergedIn pageReplaced pagePut pageIn currentIn
+merged-is S g c n p old low newest m latest v x y z w e f h k l q r t u s =
+    rw (s, u, t ∙ merged-cells S g c old p low (n - low) v x q, r ∙ merged-newest S g c old p low (n - low) newest v x q, l, k, h, f, ← e)
 
 -- the current page is not the free one
 pub not-free : (s : Sizes) (v : View) (g c n p old : ℕ) → Proper s → Mergeable s v g c n p → old ≡ getD (v Region.Current) (g * s .columns + c) 0

@@ -6,7 +6,7 @@ use mathlib.Core.List.{List}
 use lib.Dec.{ltb}
 use lib.ListN.{getD}
 use Rattle.terms.specs.Measures.{Shape, rangeRows}
-use Rattle.loops.specs.Change.{changed, copied}
+use Rattle.loops.specs.Change.{changed}
 use Rattle.layout.specs.declared.Sizes.{Sizes}
 use Rattle.layout.specs.declared.Region.{Region}
 use Rattle.layout.specs.View.{View, renew, put}
@@ -30,13 +30,6 @@ laterOne k c v stamp =
 -- n records after `low` of range g go into page p
 unfoldable pub appliedAll : Shape → ℕ → ℕ → ℕ → ℕ → ℕ → View → View
 appliedAll S g c p low n v = renew Region.Cells (applied S v g c p low n (v Region.Cells)) v
-
--- a copy of page `old` takes them
-unfoldable pub mergedCells : Shape → ℕ → ℕ → ℕ → ℕ → ℕ → ℕ → View → View
-mergedCells S g c old p low n v =
-    renew Region.Cells
-    (applied S v g c p low n (copied (v Region.Cells) (old * rangeRows) rangeRows (p * rangeRows) (v Region.Cells)))
-    v
 
 -- the words of page p, made current by merge m
 unfoldable pub pagePut : ℕ → ℕ → ℕ → ℕ → ℕ → View → View

@@ -31,7 +31,7 @@ ghost use Rattle.scans.specs.Places.{openCount};
 ghost use Rattle.scans.specs.Table.{tableOf};
 ghost use Rattle.model.specs.Asked.{shapeIn, Proper, Pooled};
 ghost use Rattle.settling.specs.Steps.{foundAt};
-ghost use Rattle.merging.specs.Steps.{appliedOne, laterOne, appliedAll, mergedCells, pagePut, pageReplaced, Mergeable, leastOf, spare, sparesFreed};
+ghost use Rattle.merging.specs.Steps.{appliedOne, laterOne, appliedAll, pagePut, pageReplaced, Mergeable, leastOf, spare, sparesFreed};
 
 // The states of a page, as stored. A free page has the state 0.
 const CURRENT: u32 = 1;
@@ -124,34 +124,6 @@ fn apply(
     latest
 }
 
-// A copy of page `old` takes n records after `low`; the answer is the latest stamp of a setting in it.
-fn copy_and_apply(
-    mem: &mut [u8],
-    s: Sizes,
-    g: usize,
-    c: usize,
-    old: usize,
-    page: usize,
-    low: usize,
-    n: usize,
-    newest: u32,
-) -> u32
-    requires { ⌜ need s * 4 ≤ length (now mem) ⌝ }
-    requires { ⌜ Proper s ⌝ }
-    requires { ⌜ (g < s .ranges) × (c < s .columns) × (page < s .pages) × (low + n ≤ s .capacity) × (old < s .pages) × (old ≡ page → ⊥) ⌝ }
-    ensures { λ r. ⌜ (r ≡ newestOf (shapeIn s) (view s (words (now (mem .entry)))) g c low n newest) × (view s (words (now (mem .exit))) ≡ mergedCells (shapeIn s) g c old page low n (view s (words (now (mem .entry))))) ⌝ }
-{
-    copy_in(
-        mem,
-        s,
-        Region::Cells,
-        old * RANGE_ROWS,
-        RANGE_ROWS,
-        page * RANGE_ROWS,
-    );
-    apply(mem, s, g, c, page, low, n, newest)
-}
-
 // The words of a page that merge m makes current.
 fn put_page(mem: &mut [u8], s: Sizes, page: usize, place: u32, m: u32, lineage: u32, newest: u32)
     requires { ⌜ need s * 4 ≤ length (now mem) ⌝ }
@@ -177,7 +149,7 @@ fn replace_page(mem: &mut [u8], s: Sizes, old: usize, page: u32, place: usize, m
     write(mem, s, Region::Header, HEADER_MERGES, m);
 }
 
-// Column c of range g is merged through tail record n, into a free page.
+// Column c of range g is merged through tail record n: a copy of its page, in a free page, takes the records after the page's lineage.
 pub fn merge(mem: &mut [u8], s: Sizes, g: usize, c: usize, n: Tail, page: usize)
     requires { ⌜ need s * 4 ≤ length (now mem) ⌝ }
     requires { ⌜ Proper s × Pooled s (view s (words (now mem))) ⌝ }
@@ -185,21 +157,15 @@ pub fn merge(mem: &mut [u8], s: Sizes, g: usize, c: usize, n: Tail, page: usize)
     ensures { λ _. ⌜ view s (words (now (mem .exit))) ≡ mergedIn (shapeIn s) g c (n .0) (view s (words (now (mem .entry)))) ⌝ }
 {
     let place = g * s.columns + c;
-    let old = read(mem, s, Region::Current, place) as usize;
-    let low = read(mem, s, Region::PageLineage, old);
-    let newest = read(mem, s, Region::PageNewest, old);
-    let m = next_word(read(mem, s, Region::Header, HEADER_MERGES));
-    let latest = copy_and_apply(
-        mem,
-        s,
-        g,
-        c,
-        old,
-        page,
-        low as usize,
-        (n.0 - low) as usize,
-        newest,
-    );
+    let seen: &[u8] = mem;
+    let old = read(seen, s, Region::Current, place) as usize;
+    let low = read(seen, s, Region::PageLineage, old);
+    let newest = read(seen, s, Region::PageNewest, old);
+    let m = next_word(read(seen, s, Region::Header, HEADER_MERGES));
+    let cells = page * RANGE_ROWS;
+    copy_in(mem, s, Region::Cells, old * RANGE_ROWS, RANGE_ROWS, cells);
+    let first = low as usize;
+    let latest = apply(mem, s, g, c, page, first, n.0 as usize - first, newest);
     put_page(mem, s, page, place as u32, m, n.0, latest);
     replace_page(mem, s, old, page as u32, place, m);
 }

@@ -5,7 +5,7 @@ use Prim.Native.Nat.{_+_, _*_, _≤_, _<_}
 use mathlib.Core.Path.{_≡_}
 use Rattle.layout.specs.Regions.{need}
 use Rattle.settling.proofs.Indices.{places-in, sizes-need}
-use Rattle.merging.proofs.Pass.{merged-is, not-free, reaches}
+use Rattle.merging.proofs.Pass.{merged-is, not-free, reaches, apart}
 use Rattle.merging.proofs.Freeing.{pages-few}
 use Rattle.merging.proofs.merge.Statement.{statement}
 use Rattle.merging.proofs.merge.Tie as tie
@@ -32,19 +32,27 @@ other : (c : tie.After-read) → c .read .result ≡ c .before .before .before .
 other c = let start = c .before .before .before .before in not-free _ _ _ _ _ _ _ (start .pre .1 .0 .0) (start .pre .1 .1) (c .read .ensures)
 
 -- its lineage is at most the record merged through
-reach : (c : tie.After-read2) → c .read2 .result ≤ c .before .before .before .before .before .before .args .n .0
-reach c = reaches _ _ _ _ _ _ _ _ (c .before .before .before .before .before .before .pre .1 .1) (c .before .before .read .ensures) (c .read2 .ensures)
+reach : (c : tie.After-read2) → c .read2 .result ≤ c .before .before .before .before .before .args .n .0
+reach c = reaches _ _ _ _ _ _ _ _ (c .before .before .before .before .before .pre .1 .1) (c .before .read .ensures) (c .read2 .ensures)
 
-copy-and-apply-requires : tie.Need-copy-and-apply-requires
-copy-and-apply-requires c κs =
-    let m = c .before .before .before .before .before .before .before .before .before .before .before .before .before .pre .1 .1 in
-    (omega arith, (c .before .before .before .before .before .before .before .before .before .before .before .before .before .pre .1 .0 .0, (m .range-below, m .column-below, m .page-below, omega (arith, reach (c .before .before .before .before .before .before .before), m .to), pool (c .before .before .before .before .before .before .before .before .before), other (c .before .before .before .before .before .before .before .before .before))))
+copy-in-requires : tie.Need-copy-in-requires
+copy-in-requires c κs =
+    let read = c .before .before .before .before .before in
+    let page = c .before .before .before .before .before .before .before .before .before .pre .1 .1 .page-below in
+    (omega arith, ((omega (arith, pool read), omega (arith, page)), apart _ _ (other read)))
+
+apply-requires : tie.Need-apply-requires
+apply-requires c κs =
+    let start = c .before .before .before .before .before .before .before .before .before .before .before .before .before .before in
+    let m = start .pre .1 .1 in
+    (omega arith, (start .pre .1 .0 .0, (m .range-below, m .column-below, m .page-below, omega (arith, reach (c .before .before .before .before .before .before .before .before .before), m .to))))
 
 returns : tie.Need-returns
 returns c =
-    let start = c .before .before .before .before .before .before .before .before .before .before .before .before .before .before .before .before .before .before .before .before .before .before .before .before in
-    rw (c .before .before .replace-page .ensures, c .before .before .before .before .before .before .put-page .ensures, c .before .before .before .before .before .before .before .before .before .before .copy-and-apply .ensures .1, c .before .before .before .before .before .before .before .before .before .before .copy-and-apply .ensures .0, c .before .before .before .before .before .before .before .before .before .before .before .before .before .next-word .ensures, c .before .before .before .before .before .before .before .before .before .before .before .before .before .before .read4 .ensures, c .before .before .before .before .before .before .before .before .before .before .before .before .before .before .before .before .read3 .ensures, c .before .before .before .before .before .before .before .before .before .before .before .before .before .before .before .before .before .before .read2 .ensures, c .before .before .before .before .before .before .before .before .before .before .before .before .before .before .before .before .before .before .before .before .read .ensures)
-    (merged-is _ _ _ _ _ _ (start .pre .1 .1 .free))
+    let read = c .before .before .before .before .before .before .before .before .before .before .before .before .before .before .before .before .before .before .before .before .before in
+    let apply = c .before .before .before .before .before .before .before .before .before .before .apply .ensures in
+    merged-is _ _ _ _ _ _ _ _ _ _ _ _ _ _ _ (read .before .before .before .before .pre .1 .1 .free) (read .read .ensures) (c .before .before .before .before .before .before .before .before .before .before .before .before .before .before .before .before .before .before .before .before .read2 .ensures) (c .before .before .before .before .before .before .before .before .before .before .before .before .before .before .before .before .before .before .before .read3 .ensures) (rw (c .before .before .before .before .before .before .before .before .before .before .before .before .before .before .before .before .before .before .read4 .ensures) at (c .before .before .before .before .before .before .before .before .before .before .before .before .before .before .before .before .before .next-word .ensures))
+    (c .before .before .before .before .before .before .before .before .before .before .before .before .before .before .before .copy-in .ensures) (apply .0) (apply .1) (c .before .before .before .before .before .before .put-page .ensures) (c .before .before .replace-page .ensures)
 
 pub merge-spec : {M : Type 1} → statement M
 merge-spec =
@@ -54,17 +62,20 @@ merge-spec =
     (λ c. omega (arith, inside (c .before .before)))
     (λ c κs. omega (arith, inside (c .before .before .before)))
     (λ c. search needs)
+    (λ c κs. (omega arith, pool c))
     (λ c κs. (omega arith, pool (c .before)))
-    (λ c κs. (omega arith, pool (c .before .before .before)))
     (λ c κs. search needs)
     (λ c κs. search needs)
+    (λ c. omega (arith, inside (c .before .before .before .before .before .before .before .before), c .before .before .before .before .before .before .before .before .pre .1 .1 .page-below))
     (λ c. search needs)
-    (λ c. reach (c .before .before .before .before .before .before .before))
+    copy-in-requires
     (λ c. search needs)
-    copy-and-apply-requires
-    (λ c. omega (arith, inside (c .before .before .before .before .before .before .before .before .before .before .before .before .before .before .before .before .before)))
-    (λ c κs. (omega arith, c .before .before .before .before .before .before .before .before .before .before .before .before .before .before .before .before .before .pre .1 .1 .page-below))
-    (λ c. omega (arith, inside (c .before .before .before .before .before .before .before .before .before .before .before .before .before .before .before .before .before .before .before .before .before), c .before .before .before .before .before .before .before .before .before .before .before .before .before .before .before .before .before .before .before .before .before .pre .1 .1 .page-below))
-    (λ c κs. (omega arith, (pool (c .before .before .before .before .before .before .before .before .before .before .before .before .before .before .before .before .before), inside (c .before .before .before .before .before .before .before .before .before .before .before .before .before .before .before .before .before .before .before .before .before) .0)))
+    (λ c. search needs)
+    (λ c. reach (c .before .before .before .before .before .before .before .before .before))
+    apply-requires
+    (λ c. omega (arith, inside (c .before .before .before .before .before .before .before .before .before .before .before .before .before .before .before .before .before .before)))
+    (λ c κs. (omega arith, c .before .before .before .before .before .before .before .before .before .before .before .before .before .before .before .before .before .before .pre .1 .1 .page-below))
+    (λ c. omega (arith, inside (c .before .before .before .before .before .before .before .before .before .before .before .before .before .before .before .before .before .before .before .before .before .before), c .before .before .before .before .before .before .before .before .before .before .before .before .before .before .before .before .before .before .before .before .before .before .pre .1 .1 .page-below))
+    (λ c κs. (omega (arith, c .before .before .before .before .before .before .before .before .before .before .before .before .before .before .before .before .before .before .before .before .before .before .pre .0), (pool (c .before .before .before .before .before .before .before .before .before .before .before .before .before .before .before .before .before .before), inside (c .before .before .before .before .before .before .before .before .before .before .before .before .before .before .before .before .before .before .before .before .before .before) .0)))
     (λ c. search needs)
     returns)

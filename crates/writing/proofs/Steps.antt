@@ -1,5 +1,5 @@
 -- What the steps of insert, update and delete do to the parts of the memory that other steps go by, and the turns of the loops.
-use Prim.Native.Nat.{ℕ, _+_, _-_, _*_, _/_, _^_, _≤_, _<_}
+use Prim.Native.Nat.{ℕ, _+_, _-_, _*_, _/_, _%_, _^_, _≤_, _<_}
 use mathlib.Core.Path.{_≡_, refl, ap, _∙_}
 use mathlib.Core.Bool.{Bool, true, false, cond}
 use mathlib.Core.List.{List}
@@ -25,16 +25,16 @@ use Rattle.words.proofs.Words.{length-words}
 use Rattle.layout.specs.Regions.{need}
 use Rattle.layout.specs.View.{View, view, renew, put}
 use Rattle.layout.proofs.View.{view-long}
-use Rattle.model.specs.Stored.{openPlace, usedIn, slot, rowIn, cellIn, currentIn, asOriginal}
-use Rattle.model.specs.Writing.{noted, putCells, nextSlot, appended, filledIn, newBits, newBitsIn, recordsWanted, originalAppended, settingAppended, updatedIn}
+use Rattle.model.specs.Stored.{openPlace, usedIn, slot, rowIn, cellIn, currentIn, headerIn, rowsGiven, asOriginal, asDelete}
+use Rattle.model.specs.Writing.{noted, putCells, nextSlot, appended, filledIn, newBits, newBitsIn, recordsWanted, originalAppended, settingAppended, updatedIn, insertedIn, insertedAt, deletedIn}
 use Rattle.model.specs.Asked.{shapeIn, Proper, OpenAt}
 use Rattle.settling.specs.Steps.{notedAt}
 use Rattle.settling.proofs.Views.{renew-none, turn-put, change-none, change-next}
 use Rattle.settling.proofs.Indices.{range-in}
-use Rattle.writing.specs.Steps.{cellsPut, recordPut, cellWords, newestFilled, originalPut, recordsPut, Room, Newest}
+use Rattle.writing.specs.Steps.{rowPut, cellsPut, recordPut, cellWords, newestFilled, originalPut, recordsPut, Room, Newest}
 
 -- a note at the place of t, after a step that left the open transactions as they were
-pub noted-at : (v w : View) (t j : ℕ) → OpenAt v t j → w Region.Opens ≡ v Region.Opens → notedAt j w ≡ noted t w
+noted-at : (v w : View) (t j : ℕ) → OpenAt v t j → w Region.Opens ≡ v Region.Opens → notedAt j w ≡ noted t w
 unfolding notedAt noted openPlace
 noted-at v w t j o e = rw (e, ← o .found)
 
@@ -73,15 +73,14 @@ appended-used S t r kind mask v h = getD-set-same (v Region.Used) (rangeOf r) _ 
 pub used-long : (s : Sizes) (m : List ℕ) → need s * 4 ≤ length m → length (view s (words m) Region.Used) ≡ s .ranges
 used-long s m h = view-long s (words m) (omega (arith, length-words m)) Region.Used
 
--- the words that are put, as the code has them
-pub appended-is : (S : Shape) (t r kind mask : ℕ) (v : View) → let u = getD (v Region.Used) (r / 64) 0 in
-    put Region.RowLink r (u + 1) (put Region.Used (r / 64) (u + 1) (recordPut (r / 64 * S .capacity + u) t r kind mask (getD (v Region.RowLink) r 0) v))
-    ≡ appended S t r kind mask v
+-- the words that are put, one after the other
+pub appended-is : (S : Shape) (t r kind mask u link : ℕ) (v x y z : View) → u ≡ getD (v Region.Used) (r / 64) 0 → link ≡ getD (v Region.RowLink) r 0
+    → x ≡ recordPut (r / 64 * S .capacity + u) t r kind mask link v → y ≡ put Region.Used (r / 64) (u + 1) x → z ≡ put Region.RowLink r (u + 1) y
+    → z ≡ appended S t r kind mask v
 unfolding appended nextSlot recordPut slot rangeOf rowIn
-appended-is S t r kind mask v =
-    let u = getD (v Region.Used) (r / 64) 0 in
-    let e : u + 1 - 1 ≡ u = omega arith in
-    rw e
+appended-is S t r kind mask u link v x y z e f a b c =
+    let q : getD (v Region.Used) (r / 64) 0 + 1 - 1 ≡ getD (v Region.Used) (r / 64) 0 = omega arith in
+    rw (c, b, a, f, e, q)
 
 pub appended-newest : (s : Sizes) (t r kind mask : ℕ) (v : View) → Proper s → Room s v r 1 → length (v Region.Used) ≡ s .ranges
     → Newest s (appended (shapeIn s) t r kind mask v) (r / 64)
@@ -115,7 +114,7 @@ original-room s t r fresh v p o l =
     record { row-below = o .row-below; left = omega (arith, e, o .left) }
 
 -- the records of an update leave the open transactions as they were
-pub records-opens : (S : Shape) (t r mask : ℕ) (vs : List ℤ) (v : View) → recordsPut S t r mask vs v Region.Opens ≡ v Region.Opens
+records-opens : (S : Shape) (t r mask : ℕ) (vs : List ℤ) (v : View) → recordsPut S t r mask vs v Region.Opens ≡ v Region.Opens
 unfolding recordsPut settingAppended originalAppended filledIn appended put renew
 records-opens S t r mask vs v = go (eqb (newBitsIn v r mask) 0)
   where
@@ -182,10 +181,21 @@ module _ (v : View) (r mask fresh : ℕ) (e : fresh ≡ newBitsIn v r mask) wher
   unfolding recordsPut originalAppended originalPut cellWords
   records-two S t vs n = rw (← e, ne-eqb fresh 0 n)
 
-pub updated-is : (S : Shape) (t r mask : ℕ) (vs : List ℤ) (v : View)
-    → noted t (put Region.RowMask r (bitOr mask (getD (v Region.RowMask) r 0)) (recordsPut S t r mask vs v)) ≡ updatedIn S t r mask vs v
-unfolding updatedIn recordsPut rowIn
-updated-is S t r mask vs v = refl
+-- ---- the steps of each call, one after the other: the last is the note
+module _ (S : Shape) (t j : ℕ) (v : View) (o : OpenAt v t j) where
+  pub updated-is : (r mask old : ℕ) (vs : List ℤ) (x y z : View) → old ≡ getD (v Region.RowMask) r 0 → x ≡ recordsPut S t r mask vs v
+      → y ≡ put Region.RowMask r (bitOr mask old) x → z ≡ notedAt j y → z ≡ updatedIn S t r mask vs v
+  unfolding updatedIn recordsPut rowIn put renew
+  updated-is r mask old vs x y z e a b c = rw (c, b, a, e) (noted-at v _ t j o (records-opens S t r mask vs v))
+
+  pub inserted-is : (n : ℕ) (vs : List ℤ) (w x y z : View) → n ≡ headerIn v rowsGiven → w ≡ rowPut t n v → x ≡ cellsPut S (n / 64) (n % 64) vs w
+      → y ≡ put Region.Header rowsGiven (n + 1) x → z ≡ notedAt j y → z ≡ insertedIn S t vs v
+  unfolding insertedIn insertedAt cellsPut rowPut rangeOf put renew
+  inserted-is n vs w x y z e a b c d = rw (d, c, b, a, e) (noted-at v _ t j o refl)
+
+  pub deleted-is : (r : ℕ) (x z : View) → x ≡ appended S t r asDelete 0 v → z ≡ notedAt j x → z ≡ deletedIn S t r v
+  unfolding deletedIn appended put renew
+  deleted-is r x z a b = rw (b, a) (noted-at v _ t j o refl)
 
 -- the word of a signed number that was read from an array
 pub word-of : (z : ℤ) (r : ℕ) → r ≡ ofZ w32 (toZ w32 (ofZ w32 z)) → mag z < 2 ^ hbits w32 → r ≡ ofZ w32 z

@@ -17,7 +17,7 @@ inside c =
 
 returns : tie.Need-returns
 returns c =
-    rw (c .before .before .write2 .ensures, c .before .before .before .before .before .before .write .ensures, c .before .before .before .before .before .before .before .before .before .before .put-record .ensures, c .before .before .before .before .before .before .before .before .before .before .before .before .before .read2 .ensures, c .before .before .before .before .before .before .before .before .before .before .before .before .before .before .before .read .ensures) (appended-is _ _ _ _ _ _)
+    appended-is _ _ _ _ _ _ _ _ _ _ _ (c .before .before .before .before .before .before .before .before .before .before .before .before .before .before .before .read .ensures) (c .before .before .before .before .before .before .before .before .before .before .before .before .before .read2 .ensures) (c .before .before .before .before .before .before .before .before .before .before .put-record .ensures) (c .before .before .before .before .before .before .write .ensures) (c .before .before .write2 .ensures)
 
 pub append-spec : {M : Type 1} → statement M
 append-spec =

@@ -1,20 +1,17 @@
 -- `writing::delete` meets its contract.
 use native.Mathlib.Omega.{arith}
 use borrow.Author.Needs.{needs}
-use mathlib.Core.Path.{refl}
 use Rattle.history.specs.History.{rangeOf}
-use Rattle.layout.specs.View.{put, renew}
-use Rattle.model.specs.Writing.{deletedIn, appended}
-use Rattle.writing.proofs.Steps.{noted-at}
+use Rattle.writing.proofs.Steps.{deleted-is}
 use Rattle.settling.proofs.Indices.{range-in}
 use Rattle.writing.proofs.delete.Statement.{statement}
 use Rattle.writing.proofs.delete.Tie as tie
 
 returns : tie.Need-returns
-unfolding deletedIn appended rangeOf put renew
+unfolding rangeOf
 returns c =
-    let start = c .before .before .before .before .before .before .before .before .before .before .before .before in
-    rw (c .before .before .note .ensures, c .before .before .before .before .before .before .append .ensures, c .before .before .before .before .before .before .before .before .read .ensures) (refl, noted-at _ _ _ _ (start .pre .1 .1 .0) refl)
+    let used = c .before .before .before .before .before .before .before .before in
+    (rw (used .read .ensures), deleted-is _ _ _ _ (used .before .before .before .before .pre .1 .1 .0) _ _ _ (c .before .before .before .before .before .before .append .ensures) (c .before .before .note .ensures))
 
 pub delete-spec : {M : Type 1} → statement M
 delete-spec =

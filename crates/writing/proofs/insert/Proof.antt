@@ -1,13 +1,10 @@
 -- `writing::insert` meets its contract.
 use native.Mathlib.Omega.{arith}
 use borrow.Author.Needs.{needs}
-use mathlib.Core.Path.{refl}
-use Rattle.history.specs.History.{rangeOf}
 use Rattle.layout.specs.View.{put, renew}
-use Rattle.model.specs.Writing.{insertedIn, insertedAt}
 use Rattle.settling.proofs.Indices.{range-in}
-use Rattle.writing.specs.Steps.{rowPut, cellsPut}
-use Rattle.writing.proofs.Steps.{noted-at}
+use Rattle.writing.specs.Steps.{rowPut}
+use Rattle.writing.proofs.Steps.{inserted-is}
 use Rattle.writing.proofs.insert.Statement.{statement}
 use Rattle.writing.proofs.insert.Tie as tie
 
@@ -20,11 +17,9 @@ put-cells-requires c κs =
     (omega arith, ((start .pre .1 .0 .0, rw (c .before .before .before .put-row .ensures) (start .pre .1 .0 .1)), (range-in _ (start .pre .1 .0 .0) _ (omega arith), omega arith)))
 
 returns : tie.Need-returns
-unfolding insertedIn insertedAt cellsPut rowPut rangeOf put renew
 returns c =
-    let start = c .before .before .before .before .before .before .before .before .before .before .before .before .before .before .before .before .before .before .before in
-    rw (c .before .before .note .ensures, c .before .before .before .before .before .before .write .ensures, c .before .before .before .before .before .before .before .before .before .before .put-cells .ensures, c .before .before .before .before .before .before .before .before .before .before .before .before .before .before .put-row .ensures, c .before .before .before .before .before .before .before .before .before .before .before .before .before .before .before .before .read .ensures)
-    (refl, noted-at _ _ _ _ (start .pre .1 .1 .0) refl)
+    let given = c .before .before .before .before .before .before .before .before .before .before .before .before .before .before .before .before in
+    (given .read .ensures, inserted-is _ _ _ _ (given .before .before .before .pre .1 .1 .0) _ _ _ _ _ _ (given .read .ensures) (c .before .before .before .before .before .before .before .before .before .before .before .before .before .before .put-row .ensures) (c .before .before .before .before .before .before .before .before .before .before .put-cells .ensures) (c .before .before .before .before .before .before .write .ensures) (c .before .before .note .ensures))
 
 pub insert-spec : {M : Type 1} → statement M
 insert-spec =

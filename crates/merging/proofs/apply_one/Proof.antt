@@ -1,19 +1,27 @@
 -- `merging::apply_one` meets its contract.
 use native.Mathlib.Omega.{arith}
 use borrow.Author.Needs.{needs}
-use Prim.Native.Nat.{_+_, _*_, _≤_}
+use Prim.Native.Nat.{ℕ, _+_, _*_, _%_, _<_}
+use mir.Syntax.{w32, w64}
+use mir.Val.{Fits}
 use mathlib.Core.Path.{sym, _∙_}
-use Rattle.layout.specs.Regions.{need}
-use Rattle.settling.proofs.Indices.{values-in, sizes-need}
+use Rattle.rows.proofs.Indices.{places-few, values-few, value-in}
 use Rattle.merging.proofs.Pass.{one-applied, one-later, one-skipped, one-kept}
 use Rattle.merging.proofs.apply_one.Statement.{statement}
 use Rattle.merging.proofs.apply_one.Tie as tie
 
--- the values of the record lie among the values, and the page among the cells
-inside : (c : tie.Start) → let a = c .args in (a .slot * a .s .columns + a .s .columns ≤ a .s .values) × (a .s .values + a .s .pages * 64 ≤ need (a .s)) × (a .s .columns ≤ 16)
+-- the values of the record lie among the values, and the page among the cells; said here, where little is known, so that each need finds it at once
+inside : (c : tie.Start)
+    → let a = c .args in
+    let at = a .slot * a .s .columns in
+    Fits w32 (a .c) × Fits w64 at × Fits w64 (at + a .c) × (at + a .c < a .s .values) × Fits w64 (a .page * 64)
+    × ((r : ℕ) → Fits w64 (a .page * 64 + r % 64) × (a .page * 64 + r % 64 < a .s .pages * 64))
 inside c =
-    let a = c .args in
-    (values-in (a .s) (c .pre .1 .0) (a .slot) (c .pre .1 .1 .0), omega (arith, sizes-need (a .s)), c .pre .1 .0 .columns-to)
+    let p = c .pre .1 .0 in
+    let i = value-in _ p _ _ (c .pre .1 .1 .0) (c .pre .1 .1 .1) in
+    let values = values-few _ p in
+    let pages = places-few _ p .1 in
+    (omega (arith, p .columns-to), omega arith, omega arith, i, omega arith, λ r. (omega arith, omega arith))
 
 returns : tie.Need-returns
 returns c =
@@ -29,17 +37,17 @@ pub apply-one-spec : {M : Type 1} → statement M
 apply-one-spec =
     tie.close
     (tie.spec
-    (λ c. omega (arith, inside (c .before .before)))
-    (λ c κs. omega (arith, inside (c .before .before)))
+    (λ c. inside (c .before .before) .0)
+    (λ c κs. let pre = c .before .before .pre in (pre .0, (pre .1 .1 .0, omega (arith, pre .1 .0 .columns-to))))
     (λ c κs. search needs)
     (λ c κs. search needs)
     (λ c. search needs)
-    (λ c. omega (arith, inside (c .before .before .before .before .before .before .before .before .before .before)))
-    (λ c. omega (arith, inside (c .before .before .before .before .before .before .before .before .before .before)))
-    (λ c κs. omega (arith, inside (c .before .before .before .before .before .before .before .before .before .before)))
-    (λ c. omega (arith, inside (c .before .before .before .before .before .before .before .before .before .before .before .before)))
-    (λ c. omega (arith, inside (c .before .before .before .before .before .before .before .before .before .before .before .before)))
-    (λ c κs. omega (arith, inside (c .before .before .before .before .before .before .before .before .before .before .before .before)))
+    (λ c. inside (c .before .before .before .before .before .before .before .before .before .before) .1)
+    (λ c. inside (c .before .before .before .before .before .before .before .before .before .before) .2)
+    (λ c κs. (c .before .before .before .before .before .before .before .before .before .before .pre .0, inside (c .before .before .before .before .before .before .before .before .before .before) .3))
+    (λ c. inside (c .before .before .before .before .before .before .before .before .before .before .before .before) .4)
+    (λ c. inside (c .before .before .before .before .before .before .before .before .before .before .before .before) .5 _ .0)
+    (λ c κs. (c .before .before .before .before .before .before .before .before .before .before .before .before .pre .0, inside (c .before .before .before .before .before .before .before .before .before .before .before .before) .5 _ .1))
     (λ c κs. search needs)
     (λ c. search needs)
     returns

@@ -1,5 +1,5 @@
 -- Release: the least of the open scans' merges tells whether a page is needed, and the loop that frees the pages, turn by turn.
-use Prim.Native.Nat.{ℕ, zero, suc, _+_, _*_, _^_, _≤_, _<_}
+use Prim.Native.Nat.{ℕ, zero, suc, _+_, _^_, _≤_, _<_}
 use mathlib.Core.Path.{_≡_, refl, ap, sym, _∙_, fun-ext}
 use mathlib.Core.Bool.{Bool, true, false, not, cond, _||_}
 use mathlib.Core.Logic.{inr}
@@ -7,7 +7,6 @@ use mathlib.Core.List.{List, [], _∷_, _++_}
 use native.Mathlib.Omega.{arith}
 use native.Mathlib.Numerals.{add-one}
 use lib.Dec.{ltb, leb}
-use native.Mathlib.Nat.{mul-le-mul}
 use lib.ListN.{length, getD, take, length-take, length-append, length-replicate}
 use lib.Seq.{take-suc}
 use borrow.Author.Tests.{lt-ltb, le-ltb, ltb-true, ltb-false, leb-true, leb-false}
@@ -120,12 +119,6 @@ module _ (least : ℕ) (v : View) where
   pub freed-end : (n : ℕ) (x : View) (c p : ℕ) → x ≡ sparesFreed least p v → c ≡ countBelow (spare least v) p → p ≤ n → n ≤ p
       → (c ≡ countBelow (spare least v) n) × (x ≡ sparesFreed least n v)
   freed-end n x c p e k h m = let q : p ≡ n = omega arith in (k ∙ rw q, e ∙ rw q)
-
--- the pages are few
-pub pages-few : (s : Sizes) → Proper s → s .pages ≤ 512
-pages-few s p =
-    let h : s .columns * s .ranges ≤ 16 * 16 = mul-le-mul (p .columns-to) (p .ranges-to) in
-    omega (arith, p .pages-are, p .places-are, p .spares-to)
 
 -- ---- what the scan list says
 needed-some : (m : ℕ) (ps : List Place) → neededIn ps m ≡ someOpen (λ p. ltb (p .merges) m) ps

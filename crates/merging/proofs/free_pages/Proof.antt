@@ -7,7 +7,8 @@ use Rattle.words.specs.Words.{words}
 use Rattle.layout.specs.View.{view}
 use Rattle.model.specs.Stored.{countBelow}
 use Rattle.merging.specs.Steps.{spare, sparesFreed}
-use Rattle.merging.proofs.Freeing.{freed-none, freed-next, freed-end, count-next, count-most, pages-few}
+use Rattle.rows.proofs.Indices.{places-few}
+use Rattle.merging.proofs.Freeing.{freed-none, freed-next, freed-end, count-next, count-most}
 use Rattle.merging.proofs.free_pages.Statement.{statement}
 use Rattle.merging.proofs.free_pages.Tie as tie
 
@@ -25,7 +26,7 @@ free-one-requires c κs =
     let a = start .args in
     let here = c .before .before .loop in
     let few = count-most (a .least) (view (a .s) (words (a .mem .now))) (here .p) in
-    (omega arith, (omega arith, omega (arith, few, here .inv .2, pages-few (a .s) (start .pre .1))))
+    (omega arith, (omega arith, omega (arith, few, here .inv .2, places-few _ (start .pre .1) .1)))
 
 loop-again : tie.Need-loop-again Inv-loop μ-loop
 loop-again c =

@@ -2,25 +2,26 @@
 use native.Mathlib.Omega.{arith}
 use borrow.Author.Needs.{needs}
 use Prim.Native.Nat.{_+_, _*_, _≤_, _<_}
+use mir.Syntax.{w32, w64}
+use mir.Val.{Fits}
 use mathlib.Core.Path.{_≡_}
-use Rattle.layout.specs.Regions.{need}
-use Rattle.settling.proofs.Indices.{places-in, sizes-need}
+use Rattle.rows.proofs.Indices.{places-few, place-in}
 use Rattle.merging.proofs.Pass.{merged-is, not-free, reaches, apart}
-use Rattle.merging.proofs.Freeing.{pages-few}
 use Rattle.merging.proofs.merge.Statement.{statement}
 use Rattle.merging.proofs.merge.Tie as tie
 
--- the place of the range and column is there, and pages and places are few
-inside : (c : tie.Start) → let a = c .args in (a .g * a .s .columns + a .c < a .s .places) × (a .s .places ≤ need (a .s)) × (a .s .places ≤ a .s .pages) × (a .s .pages ≤ 512)
+-- the place of the range and column is there, and places and pages are few; said here, where little is known, so that each need finds it at once
+inside : (c : tie.Start)
+    → let a = c .args in
+    let place = a .g * a .s .columns + a .c in
+    (place < a .s .places) × Fits w64 (a .g * a .s .columns) × Fits w64 place × Fits w32 place × Fits w64 (a .page * 64) × Fits w32 (a .page)
 inside c =
-    let a = c .args in
     let p = c .pre .1 .0 .0 in
-    let m = c .pre .1 .1 in (
-      omega (arith, places-in (a .s) p (a .g) (m .range-below), m .column-below),
-      omega (arith, sizes-need (a .s)),
-      omega (arith, p .pages-are),
-      pages-few (a .s) p,
-    )
+    let m = c .pre .1 .1 in
+    let i = place-in _ p _ _ (m .range-below) (m .column-below) in
+    let few = places-few _ p in
+    let page = m .page-below in
+    (i, omega arith, omega arith, omega arith, omega arith, omega arith)
 
 -- the current page is one of the pool, and not the free one
 pool : (c : tie.After-read) → c .read .result < c .before .before .before .before .args .s .pages
@@ -39,7 +40,7 @@ copy-in-requires : tie.Need-copy-in-requires
 copy-in-requires c κs =
     let read = c .before .before .before .before .before in
     let page = c .before .before .before .before .before .before .before .before .before .pre .1 .1 .page-below in
-    (omega arith, ((omega (arith, pool read), omega (arith, page)), apart _ _ (other read)))
+    (c .before .before .before .before .before .before .before .before .before .pre .0, ((omega (arith, pool read), omega (arith, page)), apart _ _ (other read)))
 
 apply-requires : tie.Need-apply-requires
 apply-requires c κs =
@@ -58,24 +59,24 @@ pub merge-spec : {M : Type 1} → statement M
 merge-spec =
     tie.close
     (tie.spec
-    (λ c. omega (arith, inside (c .before .before)))
-    (λ c. omega (arith, inside (c .before .before)))
-    (λ c κs. omega (arith, inside (c .before .before .before)))
+    (λ c. inside (c .before .before) .1)
+    (λ c. inside (c .before .before) .2)
+    (λ c κs. (c .before .before .before .pre .0, inside (c .before .before .before) .0))
     (λ c. search needs)
-    (λ c κs. (omega arith, pool c))
-    (λ c κs. (omega arith, pool (c .before)))
+    (λ c κs. (c .before .before .before .before .pre .0, pool c))
+    (λ c κs. (c .before .before .before .before .before .pre .0, pool (c .before)))
     (λ c κs. search needs)
     (λ c κs. search needs)
-    (λ c. omega (arith, inside (c .before .before .before .before .before .before .before .before), c .before .before .before .before .before .before .before .before .pre .1 .1 .page-below))
+    (λ c. inside (c .before .before .before .before .before .before .before .before) .4)
     (λ c. search needs)
     copy-in-requires
     (λ c. search needs)
     (λ c. search needs)
     (λ c. reach (c .before .before .before .before .before .before .before .before .before))
     apply-requires
-    (λ c. omega (arith, inside (c .before .before .before .before .before .before .before .before .before .before .before .before .before .before .before .before .before .before)))
+    (λ c. inside (c .before .before .before .before .before .before .before .before .before .before .before .before .before .before .before .before .before .before) .3)
     (λ c κs. (omega arith, c .before .before .before .before .before .before .before .before .before .before .before .before .before .before .before .before .before .before .pre .1 .1 .page-below))
-    (λ c. omega (arith, inside (c .before .before .before .before .before .before .before .before .before .before .before .before .before .before .before .before .before .before .before .before .before .before), c .before .before .before .before .before .before .before .before .before .before .before .before .before .before .before .before .before .before .before .before .before .before .pre .1 .1 .page-below))
+    (λ c. inside (c .before .before .before .before .before .before .before .before .before .before .before .before .before .before .before .before .before .before .before .before .before .before) .5)
     (λ c κs. (omega (arith, c .before .before .before .before .before .before .before .before .before .before .before .before .before .before .before .before .before .before .before .before .before .before .pre .0), (pool (c .before .before .before .before .before .before .before .before .before .before .before .before .before .before .before .before .before .before), inside (c .before .before .before .before .before .before .before .before .before .before .before .before .before .before .before .before .before .before .before .before .before .before) .0)))
     (λ c. search needs)
     returns)

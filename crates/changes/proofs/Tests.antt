@@ -15,15 +15,16 @@ use Rattle.words.specs.Words.{words}
 use Rattle.words.proofs.Words.{length-words}
 use Rattle.layout.specs.declared.Region.{Region}
 use Rattle.layout.specs.Regions.{need}
-use Rattle.layout.specs.View.{View, view}
+use Rattle.layout.specs.View.{View, view, rowsGiven, usedIn}
 use Rattle.layout.proofs.View.{view-long}
 use Rattle.history.specs.History.{Call, Test, _when_, accept, verdict, any, rangeOf}
 use Rattle.history.proofs.Accepted.{passed}
 use Rattle.terms.specs.Places.{place}
-use Rattle.model.specs.Stored.{usedIn, headerIn, rowsGiven, openPlace}
+use Rattle.model.specs.Stored.{openPlace}
 use Rattle.model.specs.Writing.{recordsWanted}
 use Rattle.model.specs.Calls.{notOpenIn, notGivenIn, lacksIn, testsIn}
-use Rattle.model.specs.Asked.{shapeIn, Proper, Counted, Linked, FreeAt}
+use Rattle.layout.specs.Sizes.{Proper}
+use Rattle.model.specs.Asked.{shapeIn, Counted, Linked, FreeAt}
 use Rattle.settling.specs.Steps.{foundAt}
 use Rattle.writing.specs.Steps.{Room}
 use Rattle.conditions.specs.Opens.{openAt}
@@ -40,7 +41,7 @@ pub record RowFound (v : View) (t r j g : ℕ) : Type 0 where
   pub begun : notOpenIn v t ≡ false
   pub place-is : j ≡ openPlace v t
   pub given : notGivenIn v r ≡ false
-  pub below : r < headerIn v rowsGiven
+  pub below : r < rowsGiven v
   pub range-is : g ≡ rangeOf r
 
 module _ (v : View) (t : ℕ) (f : Found) (e : f ≡ openAt v t) where
@@ -91,12 +92,12 @@ unfolding lacksIn
 lacks-is s v r g n e = rw e
 
 -- ---- the rows of a store are all given, or not
-module _ (s : Sizes) (v : View) (n : ℕ) (p : Proper s) (e : n ≡ headerIn v rowsGiven) where
-  pub full : s .rows ≤ n → leb (s .ranges * rangeRows) (headerIn v rowsGiven) ≡ true
-  full h = le-leb (s .ranges * rangeRows) (headerIn v rowsGiven) (omega (arith, p .rows-are))
+module _ (s : Sizes) (v : View) (n : ℕ) (p : Proper s) (e : n ≡ rowsGiven v) where
+  pub full : s .rows ≤ n → leb (s .ranges * rangeRows) (rowsGiven v) ≡ true
+  full h = le-leb (s .ranges * rangeRows) (rowsGiven v) (omega (arith, p .rows-are))
 
-  pub not-full : n < s .rows → leb (s .ranges * rangeRows) (headerIn v rowsGiven) ≡ false
-  not-full h = lt-leb (s .ranges * rangeRows) (headerIn v rowsGiven) (omega (arith, p .rows-are))
+  pub not-full : n < s .rows → leb (s .ranges * rangeRows) (rowsGiven v) ≡ false
+  not-full h = lt-leb (s .ranges * rangeRows) (rowsGiven v) (omega (arith, p .rows-are))
 
 pub counted : (s : Sizes) (v : View) → Linked s v → Counted s v
 counted s v l = record { rows-given = l .rows-few; records-used = l .used-few }

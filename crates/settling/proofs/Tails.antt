@@ -10,9 +10,8 @@ use Rattle.terms.specs.Measures.{Shape}
 use Rattle.layout.specs.declared.Sizes.{Sizes}
 use Rattle.layout.specs.declared.Region.{Region}
 use Rattle.layout.specs.Regions.{index}
-use Rattle.layout.specs.View.{View, renew, mark}
+use Rattle.layout.specs.View.{View, renew, mark, rowsGiven, usedIn}
 use Rattle.layout.proofs.View.{renew-here, renew-there}
-use Rattle.model.specs.Stored.{usedIn, headerIn, rowsGiven}
 use Rattle.model.specs.Writing.{markTails, settled}
 use Rattle.model.specs.Asked.{Counted}
 use Rattle.settling.specs.Steps.{tailMarked, tailsMarked}
@@ -69,7 +68,7 @@ module _ (t state stamp n : ℕ) (v v₁ v₂ : View) (a : v₁ ≡ mark Region.
     unfolding mark renew tailsMarked
     tails-counted s k = rw (c, b, a) (counted-kept s v _ refl refl k)
 
-    pub settled-is : (v₄ : View) → v₄ ≡ tailsMarked S t Region.TailStamp stamp v₃ → n ≡ headerIn v rowsGiven
+    pub settled-is : (v₄ : View) → v₄ ≡ tailsMarked S t Region.TailStamp stamp v₃ → n ≡ rowsGiven v
         → v₄ ≡ settled S t state stamp v
     unfolding settled mark renew tailsMarked
     settled-is v₄ d e = rw (d, c, b, a, e)

@@ -22,12 +22,13 @@ use Rattle.layout.specs.declared.Region.{Region}
 use Rattle.words.specs.Words.{words}
 use Rattle.loops.specs.Change.{changed}
 use Rattle.words.proofs.Words.{length-words}
-use Rattle.layout.specs.Regions.{need}
-use Rattle.layout.specs.View.{View, view, renew, put}
+use Rattle.layout.specs.Regions.{need, rowsAt}
+use Rattle.layout.specs.View.{View, view, renew, put, rowsGiven, usedIn}
 use Rattle.layout.proofs.View.{view-long}
-use Rattle.model.specs.Stored.{openPlace, usedIn, slot, rowIn, cellIn, currentIn, headerIn, rowsGiven, asOriginal, asDelete}
+use Rattle.model.specs.Stored.{openPlace, slot, rowIn, cellIn, currentIn, asOriginal, asDelete}
 use Rattle.model.specs.Writing.{noted, putCells, nextSlot, appended, filledIn, newBits, newBitsIn, recordsWanted, originalAppended, settingAppended, updatedIn, insertedIn, insertedAt, deletedIn}
-use Rattle.model.specs.Asked.{shapeIn, Proper, OpenAt}
+use Rattle.layout.specs.Sizes.{Proper}
+use Rattle.model.specs.Asked.{shapeIn, OpenAt}
 use Rattle.settling.specs.Steps.{notedAt}
 use Rattle.settling.proofs.Views.{renew-none, turn-put, change-none, change-next}
 use Rattle.settling.proofs.Indices.{range-in}
@@ -188,8 +189,8 @@ module _ (S : Shape) (t j : ℕ) (v : View) (o : OpenAt v t j) where
   unfolding updatedIn recordsPut rowIn put renew
   updated-is r mask old vs x y z e a b c = rw (c, b, a, e) (noted-at v _ t j o (records-opens S t r mask vs v))
 
-  pub inserted-is : (n : ℕ) (vs : List ℤ) (w x y z : View) → n ≡ headerIn v rowsGiven → w ≡ rowPut t n v → x ≡ cellsPut S (n / 64) (n % 64) vs w
-      → y ≡ put Region.Header rowsGiven (n + 1) x → z ≡ notedAt j y → z ≡ insertedIn S t vs v
+  pub inserted-is : (n : ℕ) (vs : List ℤ) (w x y z : View) → n ≡ rowsGiven v → w ≡ rowPut t n v → x ≡ cellsPut S (n / 64) (n % 64) vs w
+      → y ≡ put Region.Header rowsAt (n + 1) x → z ≡ notedAt j y → z ≡ insertedIn S t vs v
   unfolding insertedIn insertedAt cellsPut rowPut rangeOf put renew
   inserted-is n vs w x y z e a b c d = rw (d, c, b, a, e) (noted-at v _ t j o refl)
 

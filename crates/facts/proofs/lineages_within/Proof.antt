@@ -27,7 +27,7 @@ lineages-within-spec =
     (tie.spec
     Inv-loop
     μ-loop
-    (λ c κs. (c .before .pre .sized .columns-from, c .before .pre .sized .columns-to))
+    (λ c κs. (c .before .pre .proper .columns-from, c .before .pre .proper .columns-to))
     (λ c. flag-raised _ _)
     lineage-within-requires
     (λ c κs. search needs)

@@ -6,14 +6,14 @@ use mathlib.Core.List.{List, [], _∷_, _++_}
 use Prim.Native.Nat.{ℕ, suc, _+_, _*_, _≤_, zero-le}
 use native.Mathlib.Omega.{arith}
 use native.Mathlib.Nat.{le-refl, le-trans}
-use lib.Dec.{T, eqb, eqb→eq}
+use lib.Dec.{eqb, eqb→eq}
 use lib.ListN.{length, length-append}
 use Rattle.terms.specs.Measures.{Shape, rangeRows, mostTransactions, mostScans, mostNumbers}
-use Rattle.history.specs.History.{Call, History, Record, State, active, Scan, Merge, start, count, isActive, stopped, rangeOf, recordsOf, waitingPages, neededBy, afterRelease, withRows, withTail, withTransactions, withScans, withMerges}
+use Rattle.history.specs.History.{Call, History, Row, Record, State, active, Scan, Merge, start, count, isActive, stopped, rangeOf, recordsOf, waitingPages, neededBy, afterRelease, withRows, withTail, withTransactions, withScans, withMerges}
 use Rattle.history.specs.Lists.{All}
-use Rattle.history.proofs.Lists.{count-more, count-change, length-change}
+use Rattle.history.proofs.Lists.{by-test, one, cond-suc, count-more, count-change, length-change}
 use Rattle.history.proofs.Ranges.{records-made}
-use Rattle.history.proofs.Steps.{New, made-new, Closing, by-commit, by-abort, Step, nothing, began, rowGiven, recordsMade, closed, scanOpened, scanClosed, merged, released}
+use Rattle.history.proofs.Steps.{New, made-new, Closing, by-commit, by-abort, began, closed, scanOpened, scanClosed, merged, released, Step, nothing, newStates, rowGiven, recordsMade, newScans, newMerges}
 
 pub record Limits (S : Shape) (h : History) : Type 0 where
   pub transactions : length (h .transactions) ≤ mostNumbers
@@ -27,23 +27,24 @@ pub record Limits (S : Shape) (h : History) : Type 0 where
 -- ---- the parts that a call alters
 records-fit : {S : Shape} (h : History) {t r : ℕ} {m : List Record} → Limits S h → All (New h t r) m → length (recordsOf h (rangeOf r)) + length m ≤ S .capacity
     → (g : ℕ) → length (recordsOf (withTail h (h .tail ++ m)) g) ≤ S .capacity
-records-fit {S} h {r = r} {m = m} i o b g = rw (records-made h g o, length-append) (go (eqb (rangeOf r) g) (eqb→eq (rangeOf r) g))
-  where
-    go : (e : Bool) → (T e → rangeOf r ≡ g) → length (recordsOf h g) + length (cond e m []) ≤ S .capacity
-    go true e = rw (← (e tt)) b
-    go false e = omega (arith, i .records g)
+records-fit {S} h {r = r} {m = m} i o b g = rw (records-made h g o, length-append)
+    (by-test (λ e. length (recordsOf h g) + length (cond e m []) ≤ S .capacity) (eqb (rangeOf r) g) (λ t. rw (← (eqb→eq (rangeOf r) g t)) b) (λ _. omega (arith, i .records g)))
 
 released-fewer : (ss : List Scan) (i : ℕ) (ms : List Merge) → waitingPages (afterRelease ss i ms) ≤ waitingPages ms
 unfolding waitingPages afterRelease
 released-fewer ss i [] = le-refl _
-released-fewer ss i (m ∷ ms) = go (m .waiting) (neededBy ss i) (released-fewer ss (suc i) ms)
+released-fewer ss i (m ∷ ms) = omega (
+  arith,
+  cond-suc (m .waiting && neededBy ss i) (count (λ m. m .waiting) (afterRelease ss (suc i) ms)),
+  cond-suc (m .waiting) (count (λ m. m .waiting) ms),
+  fewer (m .waiting) (neededBy ss i),
+  released-fewer ss (suc i) ms,
+)
   where
-    go : (a b : Bool) → count (λ m. m .waiting) (afterRelease ss (suc i) ms) ≤ count (λ m. m .waiting) ms
-        → cond (a && b) (suc (count (λ m. m .waiting) (afterRelease ss (suc i) ms))) (count (λ m. m .waiting) (afterRelease ss (suc i) ms))
-        ≤ cond a (suc (count (λ m. m .waiting) ms)) (count (λ m. m .waiting) ms)
-    go true true e = omega arith
-    go true false e = omega arith
-    go false b e = e
+    fewer : (a b : Bool) → one (a && b) ≤ one a
+    fewer true true = omega arith
+    fewer true false = omega arith
+    fewer false b = omega arith
 
 closing-inactive : {h : History} {x : State} {s : ℕ} → Closing h x s → isActive x ≡ false
 unfolding isActive
@@ -55,6 +56,14 @@ module _ {S : Shape} (h : History) (i : Limits S h) where
   limit-transactions : (l : List State) (s : ℕ) → length l ≤ mostNumbers → count isActive l ≤ mostTransactions → Limits S (withTransactions h l s)
   unfolding withTransactions recordsOf
   limit-transactions l s a b = record { transactions = a; actives = b; rows = i .rows; records = i .records; scans = i .scans; runnings = i .runnings; pages = i .pages }
+
+  limit-rows : (l : List Row) → length l ≤ S .ranges * rangeRows → Limits S (withRows h l)
+  unfolding withRows recordsOf
+  limit-rows l a = record { transactions = i .transactions; actives = i .actives; rows = a; records = i .records; scans = i .scans; runnings = i .runnings; pages = i .pages }
+
+  limit-tail : (l : List Record) → ((g : ℕ) → length (recordsOf (withTail h l) g) ≤ S .capacity) → Limits S (withTail h l)
+  unfolding withTail
+  limit-tail l a = record { transactions = i .transactions; actives = i .actives; rows = i .rows; records = a; scans = i .scans; runnings = i .runnings; pages = i .pages }
 
   limit-scans : (l : List Scan) → length l ≤ mostNumbers → count (λ s. s .running) l ≤ mostScans → Limits S (withScans h l)
   unfolding withScans recordsOf
@@ -68,33 +77,15 @@ module _ {S : Shape} (h : History) (i : Limits S h) where
 pub limits-step : {S : Shape} {c : Call} {h h′ : History} → Limits S h → Step S h c h′ → Limits S h′
 unfolding withRows withTail recordsOf isActive waitingPages stopped
 limits-step i nothing = i
-limits-step {h = h} i (began a b) = limit-transactions h i _ _ (simp length-append (omega arith)) (le-trans (count-more isActive (h .transactions) active) b)
-limits-step i (rowGiven t vs a b) =
-    record {
-      transactions = i .transactions;
-      actives = i .actives;
-      rows = simp length-append (omega arith);
-      records = i .records;
-      scans = i .scans;
-      runnings = i .runnings;
-      pages = i .pages;
-    }
-limits-step {h = h} i (recordsMade t r a b d) =
-    record {
-      transactions = i .transactions;
-      actives = i .actives;
-      rows = i .rows;
-      records = records-fit h i (made-new b) d;
-      scans = i .scans;
-      runnings = i .runnings;
-      pages = i .pages;
-    }
-limits-step {h = h} i (closed t a b) =
+limits-step {h = h} i (newStates (began a b)) = limit-transactions h i _ _ (simp length-append (omega arith)) (le-trans (count-more isActive (h .transactions) active) b)
+limits-step {h = h} i (rowGiven t vs a b) = limit-rows h i _ (simp length-append (omega arith))
+limits-step {h = h} i (recordsMade t r a b d) = limit-tail h i _ (records-fit h i (made-new b) d)
+limits-step {h = h} i (newStates (closed t a b)) =
     limit-transactions h i _ _ (rw length-change (i .transactions)) (le-trans (count-change isActive (h .transactions) t _ (closing-inactive b)) (i .actives))
-limits-step {h = h} i (scanOpened a b d) = limit-scans h i _ (simp length-append (omega arith)) (le-trans (count-more (λ s. s .running) (h .scans) _) d)
-limits-step {h = h} i (scanClosed k a) = limit-scans h i _ (rw length-change (i .scans)) (le-trans (count-change (λ s. s .running) (h .scans) k _ refl) (i .runnings))
-limits-step {h = h} i (merged g c n a b d e f j) = limit-merges h i _ (le-trans (count-more (λ m. m .waiting) (h .merges) _) j)
-limits-step {h = h} i released = limit-merges h i _ (le-trans (released-fewer (h .scans) 0 (h .merges)) (i .pages))
+limits-step {h = h} i (newScans (scanOpened a b d)) = limit-scans h i _ (simp length-append (omega arith)) (le-trans (count-more (λ s. s .running) (h .scans) _) d)
+limits-step {h = h} i (newScans (scanClosed k a)) = limit-scans h i _ (rw length-change (i .scans)) (le-trans (count-change (λ s. s .running) (h .scans) k _ refl) (i .runnings))
+limits-step {h = h} i (newMerges (merged g c n a b d e f j)) = limit-merges h i _ (le-trans (count-more (λ m. m .waiting) (h .merges) _) j)
+limits-step {h = h} i (newMerges released) = limit-merges h i _ (le-trans (released-fewer (h .scans) 0 (h .merges)) (i .pages))
 
 pub limits-start : (S : Shape) → Limits S start
 unfolding start recordsOf waitingPages

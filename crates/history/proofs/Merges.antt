@@ -1,19 +1,19 @@
 -- The merges that a store can make are bounded by its shape, since each raises the lineage of one page, and a lineage is at most the capacity. So one
 -- 32-bit word counts them, which the store's proof wants.
 use mathlib.Core.Path.{_≡_, refl, _∙_, ap}
-use mathlib.Core.Bool.{Bool, true}
+use mathlib.Core.Bool.{true}
 use mathlib.Core.List.{List, [], _∷_, _++_}
 use Prim.Native.Nat.{ℕ, zero, suc, _+_, _*_, _≤_, _<_, zero-le}
 use native.Mathlib.Omega.{arith}
 use native.Mathlib.Nat.{suc-mul}
 use native.Mathlib.Decide.{ℕ-discrete}
-use lib.Dec.{T, eqb, eqb-refl}
 use lib.ListN.{length, length-append}
 use Rattle.terms.specs.Measures.{Shape}
 use Rattle.history.specs.History.{Call, merge, History, Scan, Merge, start, mergedThrough, afterRelease, withRows, withTail, withTransactions, withScans, withMerges}
-use Rattle.history.proofs.Steps.{Step, nothing, began, rowGiven, recordsMade, closed, scanOpened, scanClosed, merged, released}
+use Rattle.history.proofs.Steps.{merged, released, Step, nothing, newStates, rowGiven, recordsMade, newScans, newMerges}
 use Rattle.history.proofs.Pages.{LineageStep, stays, rises, lineage-step, merged-append, PagesSettled}
 use Rattle.history.proofs.Limits.{Limits}
+use Rattle.history.proofs.Lists.{by-cases, eqb-same}
 
 -- the sum of f over the numbers below n
 unfoldable pub sumBelow : (ℕ → ℕ) → ℕ → ℕ
@@ -28,11 +28,9 @@ sum-same f g (suc n) a = omega (arith, sum-same f g n a, a n)
 sum-more : (f g : ℕ → ℕ) (n j : ℕ) → j < n → ((i : ℕ) → f i ≤ g i) → f j < g j → sumBelow f n < sumBelow g n
 unfolding sumBelow
 sum-more f g zero j b a m = absurd (omega arith)
-sum-more f g (suc n) j b a m = go (ℕ-discrete j n) (λ (d : j < n). sum-more f g n j d a m)
-  where
-    go : Dec (j ≡ n) → (j < n → sumBelow f n < sumBelow g n) → sumBelow f n + f n < sumBelow g n + g n
-    go (yes e) rest = let k : f n < g n = rw e at m in omega (arith, sum-same f g n a)
-    go (no d) rest = omega (arith, rest (omega arith), a n)
+sum-more f g (suc n) j b a m = by-cases (ℕ-discrete j n)
+    (λ e. let k : f n < g n = rw e at m in omega (arith, sum-same f g n a))
+    (λ d. omega (arith, sum-more f g n j (omega arith) a m, a n))
 
 sum-most : (f : ℕ → ℕ) (n k : ℕ) → ((i : ℕ) → i < n → f i ≤ k) → sumBelow f n ≤ n * k
 unfolding sumBelow
@@ -56,7 +54,7 @@ unfolding lineages
 lineages-keep {S} {h = h} {h′ = h′} s =
     sum-same _ _ (S .ranges) (λ g. sum-same (mergedThrough h g) (mergedThrough h′ g) (S .columns) (λ c. not-lower (lineage-step g c s)))
 
-length-released : (ss : List Scan) (i : ℕ) (ms : List Merge) → length (afterRelease ss i ms) ≡ length ms
+pub length-released : (ss : List Scan) (i : ℕ) (ms : List Merge) → length (afterRelease ss i ms) ≡ length ms
 unfolding afterRelease
 length-released ss i [] = refl
 length-released ss i (m ∷ ms) = ap suc (length-released ss (suc i) ms)
@@ -66,12 +64,6 @@ merged-page : (h : History) (g c n : ℕ)
     → mergedThrough (withMerges h (h .merges ++ record { range = g; column = c; through = n; waiting = true } ∷ [])) g c ≡ n
 unfolding mergedThrough withMerges
 merged-page h g c n = merged-append g c 0 (h .merges) record { range = g; column = c; through = n; waiting = true } ∙ rw (eqb-same g, eqb-same c)
-  where
-    eqb-same : (k : ℕ) → eqb k k ≡ true
-    eqb-same k = go (eqb k k) (eqb-refl k)
-      where
-        go : (b : Bool) → T b → b ≡ true
-        go true t = refl
 
 merge-counted : {S : Shape} {h h′ : History} {g c n : ℕ} → MergesCounted S h → Step S h (merge g c n) h′ → g < S .ranges → c < S .columns
     → mergedThrough h g c < mergedThrough h′ g c → length (h′ .merges) ≡ suc (length (h .merges)) → MergesCounted S h′
@@ -86,16 +78,14 @@ merge-counted {S} {h} {h′} {g} {c} i s b d m e =
 pub counted-step : {S : Shape} {x : Call} {h h′ : History} → MergesCounted S h → Step S h x h′ → MergesCounted S h′
 unfolding MergesCounted lineages mergedThrough withRows withTail withTransactions withScans withMerges
 counted-step i nothing = i
-counted-step i (began a b) = i
+counted-step i (newStates _) = i
 counted-step i (rowGiven t vs a b) = i
 counted-step i (recordsMade t r a b d) = i
-counted-step i (closed t a b) = i
-counted-step i (scanOpened a b d) = i
-counted-step i (scanClosed k a) = i
-counted-step {S} {h = h} i (merged g c n a b d e f j) =
-    merge-counted {S = S} i (merged g c n a b d e f j) a b (rw (merged-page h g c n) d) (simp length-append (omega arith))
-counted-step {S} {x = x} {h = h} {h′ = h′} i released =
-    let k : lineages S h ≤ lineages S h′ = lineages-keep {S = S} {x = x} {h = h} {h′ = h′} released in
+counted-step i (newScans _) = i
+counted-step {S} {h = h} i (newMerges (merged g c n a b d e f j)) =
+    merge-counted {S = S} i (newMerges (merged g c n a b d e f j)) a b (rw (merged-page h g c n) d) (simp length-append (omega arith))
+counted-step {S} {x = x} {h = h} {h′ = h′} i (newMerges released) =
+    let k : lineages S h ≤ lineages S h′ = lineages-keep {S = S} {x = x} {h = h} {h′ = h′} (newMerges released) in
     rw length-released (omega arith)
 
 pub counted-start : (S : Shape) → MergesCounted S start

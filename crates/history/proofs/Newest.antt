@@ -1,7 +1,7 @@
 -- A row's newest record alone tells whether the row is held, ended or gone, though the history's tests look at all its records. A store's tests follow the
 -- row's link to that record and no further.
 use mathlib.Core.Path.{_≡_, refl, sym, _∙_, ap}
-use mathlib.Core.Bool.{Bool, true, false, not, cond, _&&_, _||_}
+use mathlib.Core.Bool.{Bool, true, false, not, cond, _&&_, _||_, or-false}
 use mathlib.Core.List.{List}
 use Prim.Native.Nat.{ℕ, zero, suc, _≤_, _<_}
 use native.Mathlib.Omega.{arith}
@@ -10,7 +10,7 @@ use lib.Dec.{T, eqb, eqb→eq, le→leb}
 use lib.ListN.{length, getD, take}
 use lib.Seq.{take-suc, take-length}
 use Rattle.history.specs.History.{History, Record, State, active, aborted, committed, any, isActive, committedBy, stateOf, rowAt, ends, rangeOf, recordsOf, seenAt, seenBy, ended, visible, activeOther, held, gone}
-use Rattle.history.proofs.Lists.{clash, is-true, parts, eqb-equal, eqb-other, or-right, all-map₂, any-agree, any-append}
+use Rattle.history.proofs.Lists.{clash, by-test, and-same, is-true, parts, eqb-equal, eqb-other, or-right, all-map₂, any-agree, any-append}
 use Rattle.history.proofs.Steps.{active-is, free-row}
 use Rattle.history.proofs.States.{isGiven, isAborted, Stamped}
 use Rattle.history.proofs.Order.{Follows, InOrder, follows-at}
@@ -31,27 +31,18 @@ pub newest-any : (f : Record → Bool) (l : List Record) (r : ℕ) → Rises f l
 unfolding lastOf
 newest-any f l r up zero b = refl
 newest-any f l r up (suc n) b =
-    rw (take-suc l n noRecord b, any-append)
-    (go (eqb ((getD l n noRecord) .row) r) (eqb→eq ((getD l n noRecord) .row) r) (lastOf l r n) refl (newest-any f l r up n (omega arith)))
+    rw (take-suc l n noRecord b, any-append, or-false, newest-any f l r up n (omega arith))
+    (by-test (λ c. (recordIs f l (lastOf l r n) || c && f (getD l n noRecord)) ≡ recordIs f l (cond c (suc n) (lastOf l r n))) (eqb ((getD l n noRecord) .row) r)
+    (λ t. top (recordIs f l (lastOf l r n)) (f (getD l n noRecord)) (before (lastOf l r n) refl (eqb→eq ((getD l n noRecord) .row) r t)))
+    (λ _. or-false (recordIs f l (lastOf l r n))))
   where
     before : (k : ℕ) → lastOf l r n ≡ k → (getD l n noRecord) .row ≡ r → T (recordIs f l k) → T (f (getD l n noRecord))
     before zero e q t = absurd t
     before (suc k) e q t = let z : (k < n) × ((getD l k noRecord) .row ≡ r) = last-of-row l r n k e in up k n (z .0) b (z .1) q t
 
-    go : (c : Bool) → (T c → (getD l n noRecord) .row ≡ r) → (k : ℕ) → lastOf l r n ≡ k → any (λ x. eqb (x .row) r && f x) (take n l) ≡ recordIs f l k
-        → (any (λ x. eqb (x .row) r && f x) (take n l) || (c && f (getD l n noRecord) || false)) ≡ recordIs f l (cond c (suc n) k)
-    go true q k e ih = rw ih (top (recordIs f l k) (f (getD l n noRecord)) (before k e (q tt)))
-      where
-        top : (a x : Bool) → (T a → T x) → (a || (x || false)) ≡ x
-        top true true g = refl
-        top true false g = absurd (g tt)
-        top false true g = refl
-        top false false g = refl
-    go false q k e ih = rw ih (rest (recordIs f l k))
-      where
-        rest : (a : Bool) → (a || false) ≡ a
-        rest true = refl
-        rest false = refl
+    top : (a x : Bool) → (T a → T x) → (a || x) ≡ x
+    top true x g = sym (is-true x (g tt))
+    top false x g = refl
 
 -- the same of a row of the history, by the records of its range
 unfoldable pub newestIs : (Record → Bool) → History → ℕ → Bool
@@ -118,12 +109,7 @@ gone-newest h t r i o b n =
   where
     agree : (x : Record) → T (isGiven (stateOf h (x .transaction))) → (x .row ≡ r → stateOf h (x .transaction) ≡ active → x .transaction ≡ t)
         → (eqb (x .row) r && (ends (x .content) && seenBy h t (x .transaction))) ≡ (eqb (x .row) r && (ends (x .content) && not (isAborted (stateOf h (x .transaction)))))
-    agree x g f = go (eqb (x .row) r) (λ u. seen-by-live h t (x .transaction) i o g (f (eqb→eq (x .row) r u)))
-      where
-        go : (c : Bool) → (T c → seenBy h t (x .transaction) ≡ not (isAborted (stateOf h (x .transaction))))
-            → (c && (ends (x .content) && seenBy h t (x .transaction))) ≡ (c && (ends (x .content) && not (isAborted (stateOf h (x .transaction)))))
-        go true e = rw (e tt)
-        go false e = refl
+    agree x g f = and-same (eqb (x .row) r) (λ u. rw (seen-by-live h t (x .transaction) i o g (f (eqb→eq (x .row) r u))))
 
     bools : (a x : Bool) → not (not a && not x) ≡ (a || x)
     bools true x = refl

@@ -16,8 +16,8 @@ use Rattle.terms.specs.Measures.{Shape, mostColumns}
 use Rattle.history.specs.History.{Call, History, Row, Record, Scan, Merge, State, unknown, active, aborted, committed, original, setting, start, any, nth, committedBy, stateOf, rowAt, bit, sets, ends, seenAt, seenBy, recordsOf, upTo, newColumns, updateRecords, originalRecords, deleteRecords, withRows, withTail, withTransactions, withScans, withMerges}
 use Rattle.history.specs.Lists.{All, nil, cons}
 use Rattle.history.proofs.Lists.{clash, is-true, is-false, neither, not-second, eqb-equal, all-append, all-at, all-keep, all-map, all-map₂, all-both, all-swap, Pairs, empty, ahead, pairs-append, pairs-map, pairs-keep, pairs-at, any-append, not-any, among, among-upTo}
-use Rattle.history.proofs.Steps.{Writable, Made, by-update, by-delete, New, made-new, new-columns, isOriginal, wasSet, hasOriginal, Step, nothing, began, rowGiven, recordsMade, closed, scanOpened, scanClosed, merged, released}
-use Rattle.history.proofs.States.{isGiven, Stamped, Before, Moved, began-moved, closed-moved}
+use Rattle.history.proofs.Steps.{Writable, Made, by-update, by-delete, New, made-new, new-columns, isOriginal, wasSet, hasOriginal, Step, nothing, newStates, rowGiven, recordsMade, newScans, newMerges}
+use Rattle.history.proofs.States.{isGiven, Stamped, Before, Moved, moved}
 
 -- an earlier record x and a later one y of one row
 pub record Follows (st : ℕ → State) (x y : Record) : Type 0 where
@@ -192,14 +192,11 @@ order-other ss ms i = record { stamps = i .stamps; inserters = i .inserters; rec
 pub order-step : {S : Shape} {c : Call} {h h′ : History} → InOrder h → Step S h c h′ → InOrder h′
 unfolding withScans withMerges
 order-step i nothing = i
-order-step {h = h} i (began a b) = order-states _ _ i (began-moved h (i .stamps))
+order-step i (newStates n) = order-states _ _ i (moved (i .stamps) n)
 order-step i (rowGiven t vs a b) = order-row t vs i a
 order-step i (recordsMade t r a b d) = order-tail i a b
-order-step i (closed t a b) = order-states _ _ i (closed-moved t (i .stamps) a b)
-order-step {h = h} i (scanOpened a b d) = order-other _ (h .merges) i
-order-step {h = h} i (scanClosed k a) = order-other _ (h .merges) i
-order-step {h = h} i (merged g c n a b d e f j) = order-other (h .scans) _ i
-order-step {h = h} i released = order-other (h .scans) _ i
+order-step {h = h} i (newScans _) = order-other _ (h .merges) i
+order-step {h = h} i (newMerges _) = order-other (h .scans) _ i
 
 pub order-start : InOrder start
 unfolding Stamped start stateOf wasSet hasOriginal
@@ -219,5 +216,3 @@ pub placed-at : (h : History) (g : ℕ) → InOrder h → (k : ℕ) (d : Record)
     → Placed (stateOf h) (rowAt h) (length (h .rows)) (getD (recordsOf h g) k d)
 unfolding recordsOf
 placed-at h g i = all-at (all-keep _ (i .records))
-
--- ---- no record names a row that was not given

@@ -13,8 +13,8 @@ use Rattle.terms.specs.Measures.{Shape}
 use Rattle.history.specs.History.{Call, merge, History, Record, State, active, Version, Scan, Merge, start, next, isCommitted, stateOf, rowAt, insertedValue, inserted, lastSetting, rangeOf, recordsOf, lastThrough, mergedThrough, cellValue, afterRelease, withRows, withTail, withTransactions, withScans, withMerges, cellThrough}
 use Rattle.history.specs.Lists.{All, nil}
 use Rattle.history.proofs.Lists.{all-map, all-map₂, all-keep, all-take, keep-append}
-use Rattle.history.proofs.Steps.{Step, nothing, began, rowGiven, recordsMade, closed, scanOpened, scanClosed, merged, released, next-step}
-use Rattle.history.proofs.States.{isClosed, Moved, inactive-closed, began-moved, closed-moved}
+use Rattle.history.proofs.Steps.{merged, released, Step, nothing, newStates, rowGiven, recordsMade, newScans, newMerges, next-step}
+use Rattle.history.proofs.States.{isClosed, Moved, inactive-closed, moved}
 use Rattle.history.proofs.Order.{InOrder}
 use Rattle.history.proofs.Ranges.{last-agree}
 
@@ -48,15 +48,13 @@ merge-lineage h h′ g c {g′} {c′} {n} e above within free = go (eqb g′ g)
 pub lineage-step : {S : Shape} {x : Call} {h h′ : History} (g c : ℕ) → Step S h x h′ → LineageStep h h′ g c x
 unfolding mergedThrough withRows withTail withTransactions withScans withMerges
 lineage-step g c nothing = stays refl
-lineage-step g c (began _ _) = stays refl
+lineage-step g c (newStates _) = stays refl
 lineage-step g c (rowGiven t vs _ _) = stays refl
 lineage-step g c (recordsMade t r _ _ _) = stays refl
-lineage-step g c (closed t _ _) = stays refl
-lineage-step g c (scanOpened _ _ _) = stays refl
-lineage-step g c (scanClosed k _) = stays refl
-lineage-step {h = h} {h′ = h′} g c (merged g′ c′ n _ _ above within free _) =
+lineage-step g c (newScans _) = stays refl
+lineage-step {h = h} {h′ = h′} g c (newMerges (merged g′ c′ n _ _ above within free _)) =
     merge-lineage h h′ g c (merged-append g c 0 (h .merges) record { range = g′; column = c′; through = n; waiting = true }) above within free
-lineage-step {h = h} g c released = stays (merged-released (h .scans) 0 g c 0 (h .merges))
+lineage-step {h = h} g c (newMerges released) = stays (merged-released (h .scans) 0 g c 0 (h .merges))
 
 pub lineage-stays : {h h′ : History} {g c : ℕ} {x : Call} → LineageStep h h′ g c x → ((n : ℕ) → x ≢ merge g c n) → mergedThrough h′ g c ≡ mergedThrough h g c
 lineage-stays (stays e) f = e
@@ -66,14 +64,11 @@ lineage-stays (rises {n = n} _ _ _ _) f = absurd (f n refl)
 pub row-stays : {S : Shape} {x : Call} {h h′ : History} (r : ℕ) → r < length (h .rows) → Step S h x h′ → rowAt h′ r ≡ rowAt h r
 unfolding rowAt withRows withTail withTransactions withScans withMerges
 row-stays r b nothing = refl
-row-stays r b (began _ _) = refl
+row-stays r b (newStates _) = refl
 row-stays r b (rowGiven t vs _ _) = rw List·getD-append
 row-stays r b (recordsMade t r′ _ _ _) = refl
-row-stays r b (closed t _ _) = refl
-row-stays r b (scanOpened _ _ _) = refl
-row-stays r b (scanClosed k _) = refl
-row-stays r b (merged g c n _ _ _ _ _ _) = refl
-row-stays r b released = refl
+row-stays r b (newScans _) = refl
+row-stays r b (newMerges _) = refl
 
 pub inserted-stays : {S : Shape} {x : Call} {h h′ : History} (r c : ℕ) → r < length (h .rows) → Step S h x h′ → inserted h′ r c ≡ inserted h r c
 unfolding inserted insertedValue
@@ -103,7 +98,7 @@ unmoved h h′ p e f = record { within = rw e (p .within); records = rw e; state
 pub settled-step : {S : Shape} {x : Call} {h h′ : History} {g n : ℕ} → InOrder h → Through h g n → Step S h x h′ → Settled h h′ g n
 unfolding recordsOf stateOf withRows withTail withScans withMerges
 settled-step {h = h} i p nothing = unmoved h h p refl (λ k. refl)
-settled-step {h = h} i p (began _ _) = settled-states _ _ p (began-moved h (i .stamps))
+settled-step i p (newStates n) = settled-states _ _ p (moved (i .stamps) n)
 settled-step {h = h} {h′ = h′} i p (rowGiven t vs _ _) = unmoved h h′ p refl (λ k. refl)
 settled-step {h = h} {g = g} {n = n} i p (recordsMade t r _ _ _) =
     record {
@@ -111,11 +106,8 @@ settled-step {h = h} {g = g} {n = n} i p (recordsMade t r _ _ _) =
       records = rw (keep-append, take-append-le n (recordsOf h g) _ (p .within));
       states = all-map (λ x _. refl) (p .closed-all);
     }
-settled-step i p (closed t a b) = settled-states _ _ p (closed-moved t (i .stamps) a b)
-settled-step {h = h} {h′ = h′} i p (scanOpened _ _ _) = unmoved h h′ p refl (λ k. refl)
-settled-step {h = h} {h′ = h′} i p (scanClosed k _) = unmoved h h′ p refl (λ k. refl)
-settled-step {h = h} {h′ = h′} i p (merged _ _ _ _ _ _ _ _ _) = unmoved h h′ p refl (λ k. refl)
-settled-step {h = h} {h′ = h′} i p released = unmoved h h′ p refl (λ k. refl)
+settled-step {h = h} {h′ = h′} i p (newScans _) = unmoved h h′ p refl (λ k. refl)
+settled-step {h = h} {h′ = h′} i p (newMerges _) = unmoved h h′ p refl (λ k. refl)
 
 pub through-step : {S : Shape} {x : Call} {h h′ : History} {g n : ℕ} → InOrder h → Through h g n → Step S h x h′ → Through h′ g n
 through-step {h = h} {h′ = h′} {g = g} {n = n} i p s =

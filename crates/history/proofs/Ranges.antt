@@ -1,15 +1,15 @@
 -- Reads over a list of records, as a store with one tail for each range wants them: a row's reads go by its range's records alone; the newest record
 -- first; and a read is the page's value under the records past its lineage.
-use mathlib.Core.Path.{_≡_, refl, _∙_, ap}
-use mathlib.Core.Bool.{Bool, true, false, not, cond, _&&_, _||_}
+use mathlib.Core.Path.{_≡_, refl, sym, _∙_, ap}
+use mathlib.Core.Bool.{Bool, true, false, not, cond, _&&_, _||_, and-assoc}
 use mathlib.Core.List.{List, [], _∷_, _++_}
 use Prim.Native.Nat.{ℕ, suc, _<_}
-use lib.Dec.{T, eqb, eqb→eq, eqb-refl}
+use lib.Dec.{T, eqb, eqb→eq, T-not}
 use lib.ListN.{length, getD, take}
 use lib.Seq.{take-suc}
 use Rattle.history.specs.History.{withTail, History, Record, Version, any, keep, sets, rangeOf, recordsOf, versionIn, lastSetting, inserted, versionOf}
 use Rattle.history.specs.Lists.{All, nil, cons}
-use Rattle.history.proofs.Lists.{refuted, all-map, keep-append, keep-all, not-any}
+use Rattle.history.proofs.Lists.{is-false, refuted, eqb-equal, by-test, and-same, all-map, keep-append, keep-all, not-any}
 use Rattle.history.proofs.Steps.{New, wasSet}
 
 -- whether a record is a setting of row and column that is seen
@@ -23,18 +23,10 @@ records-range h g = all-map (λ x t. eqb→eq (rangeOf (x .row)) g t) (keep-all 
 
 -- a call's records all stand in their row's range
 of-range : {h : History} {t r : ℕ} (g : ℕ) {m : List Record} → All (New h t r) m → keep (λ x. eqb (rangeOf (x .row)) g) m ≡ cond (eqb (rangeOf r) g) m []
-of-range {r = r} g nil = go (eqb (rangeOf r) g)
-  where
-    go : (b : Bool) → _≡_ {A = List Record} [] (cond b [] [])
-    go true = refl
-    go false = refl
+of-range {r = r} g nil = elim (eqb (rangeOf r) g) as (λ b. _≡_ {A = List Record} [] (cond b [] [])) [ true ↦ refl | false ↦ refl ]
 of-range {r = r} g (cons {x = x} {l = m} o os) =
     ap (λ (k : ℕ). cond (eqb (rangeOf k) g) (x ∷ keep (λ x. eqb (rangeOf (x .row)) g) m) (keep (λ x. eqb (rangeOf (x .row)) g) m)) (o .row)
-    ∙ rw (of-range g os) (go (eqb (rangeOf r) g))
-  where
-    go : (b : Bool) → cond b (x ∷ cond b m []) (cond b m []) ≡ cond b (x ∷ m) []
-    go true = refl
-    go false = refl
+    ∙ rw (of-range g os) (elim (eqb (rangeOf r) g) as (λ b. cond b (x ∷ cond b m []) (cond b m []) ≡ cond b (x ∷ m) []) [ true ↦ refl | false ↦ refl ])
 
 pub records-made : (h : History) {t r : ℕ} (g : ℕ) {m : List Record} → All (New h t r) m → recordsOf (withTail h (h .tail ++ m)) g ≡ recordsOf h g ++ cond (eqb (rangeOf r) g) m []
 unfolding recordsOf withTail
@@ -45,27 +37,20 @@ module _ (r : ℕ) where
   abbrev near : Record → Bool
   near x = eqb (rangeOf (x .row)) (rangeOf r)
 
-  elsewhere : (x : Record) → near x ≡ false → eqb (x .row) r ≡ false
-  elsewhere x e = refuted (eqb (x .row) r) (λ t. rw (rw (eqb→eq (x .row) r t) at e) at (eqb-refl (rangeOf r)))
+  elsewhere : (x : Record) → T (not (near x)) → eqb (x .row) r ≡ false
+  elsewhere x n = refuted (eqb (x .row) r) (λ t. T-not (near x) n (eqb-equal _ _ (ap rangeOf (eqb→eq (x .row) r t))))
 
   any-near : (f : Record → Bool) (l : List Record) → any (λ x. eqb (x .row) r && f x) (keep near l) ≡ any (λ x. eqb (x .row) r && f x) l
   any-near f [] = refl
-  any-near f (x ∷ l) = go (near x) refl (any-near f l)
-    where
-      go : (b : Bool) → near x ≡ b → any (λ x. eqb (x .row) r && f x) (keep near l) ≡ any (λ x. eqb (x .row) r && f x) l
-          → any (λ x. eqb (x .row) r && f x) (cond b (x ∷ keep near l) (keep near l)) ≡ (eqb (x .row) r && f x || any (λ x. eqb (x .row) r && f x) l)
-      go true p e = rw e
-      go false p e = rw (elsewhere x p, e)
+  any-near f (x ∷ l) = by-test (λ b. any (λ x. eqb (x .row) r && f x) (cond b (x ∷ keep near l) (keep near l)) ≡ (eqb (x .row) r && f x || any (λ x. eqb (x .row) r && f x) l)) (near x)
+      (λ _. rw (any-near f l)) (λ p. rw (elsewhere x p, any-near f l))
 
   last-near : (sees : ℕ → Bool) (c : ℕ) (v : Version) (l : List Record) → lastSetting sees r c v (keep near l) ≡ lastSetting sees r c v l
   unfolding lastSetting
   last-near sees c v [] = refl
-  last-near sees c v (x ∷ l) = go (near x) refl (λ w. last-near sees c w l)
-    where
-      go : (b : Bool) → near x ≡ b → ((w : Version) → lastSetting sees r c w (keep near l) ≡ lastSetting sees r c w l)
-          → lastSetting sees r c v (cond b (x ∷ keep near l) (keep near l)) ≡ lastSetting sees r c (cond (found sees r c x) (versionIn c x) v) l
-      go true p e = e _
-      go false p e = e v ∙ ap (λ w. lastSetting sees r c w l) (rw (elsewhere x p))
+  last-near sees c v (x ∷ l) =
+      by-test (λ b. lastSetting sees r c v (cond b (x ∷ keep near l) (keep near l)) ≡ lastSetting sees r c (cond (found sees r c x) (versionIn c x) v) l) (near x)
+      (λ _. last-near sees c _ l) (λ p. last-near sees c v l ∙ ap (λ w. lastSetting sees r c w l) (rw (elsewhere x p)))
 
 pub any-range : (h : History) (r : ℕ) (f : Record → Bool) → any (λ x. eqb (x .row) r && f x) (recordsOf h (rangeOf r)) ≡ any (λ x. eqb (x .row) r && f x) (h .tail)
 unfolding recordsOf
@@ -97,23 +82,17 @@ module _ (sees : ℕ → Bool) (r c : ℕ) where
   unfolding lastSetting
   last-agree sees′ v nil = refl
   last-agree sees′ v (cons {x = x} {l = l} a as′) =
-      ap (λ (b : Bool). lastSetting sees r c (cond b (versionIn c x) v) l) (go (eqb (x .row) r) (sets c (x .content)) a) ∙ last-agree sees′ _ as′
-    where
-      go : (p q : Bool) → (T q → sees (x .transaction) ≡ sees′ (x .transaction)) → (p && (q && sees (x .transaction))) ≡ (p && (q && sees′ (x .transaction)))
-      go true true e = e tt
-      go true false e = refl
-      go false q e = refl
+      ap (λ (b : Bool). lastSetting sees r c (cond (eqb (x .row) r && b) (versionIn c x) v) l) (and-same (sets c (x .content)) a) ∙ last-agree sees′ _ as′
+
+  -- nothing found
+  pub last-unfound : (v : Version) {l : List Record} → All (λ (x : Record). found sees r c x ≡ false) l → lastSetting sees r c v l ≡ v
+  unfolding lastSetting
+  last-unfound v nil = refl
+  last-unfound v (cons {x = x} {l = l} n ns) = ap (λ (b : Bool). lastSetting sees r c (cond b (versionIn c x) v) l) n ∙ last-unfound v ns
 
   -- no setting of the column
   pub last-none : (v : Version) {l : List Record} → All (λ (x : Record). T (not (eqb (x .row) r && sets c (x .content)))) l → lastSetting sees r c v l ≡ v
-  unfolding lastSetting
-  last-none v nil = refl
-  last-none v (cons {x = x} {l = l} n ns) =
-      ap (λ (b : Bool). lastSetting sees r c (cond b (versionIn c x) v) l) (go (eqb (x .row) r) (sets c (x .content)) n) ∙ last-none v ns
-    where
-      go : (p q : Bool) → T (not (p && q)) → (p && (q && sees (x .transaction))) ≡ false
-      go true false t = refl
-      go false q t = refl
+  last-none v a = last-unfound v (all-map (λ x n. sym (and-assoc (eqb (x .row) r) (sets c (x .content)) _) ∙ rw (is-false (eqb (x .row) r && sets c (x .content)) n)) a)
 
   pub last-unset : (v : Version) (l : List Record) → wasSet l r c ≡ false → lastSetting sees r c v l ≡ v
   unfolding wasSet

@@ -1,44 +1,36 @@
 -- `Stability` holds: an accepted call changes no read for a stamp that is not after the last commit's, of a row that is given. What an active transaction
 -- does is not seen at any such stamp, and a commit's stamp is later than all of them.
 use mathlib.Core.Path.{_≡_, refl, sym, _∙_, ap, fun-ext}
-use mathlib.Core.Bool.{Bool, false, not, and-false}
+use mathlib.Core.Bool.{Bool, false, not, _&&_, and-false, or-false}
 use mathlib.Core.List.{List, [], _∷_, _++_}
 use Prim.Native.Nat.{ℕ, zero, suc, _≤_, _<_}
 use native.Mathlib.Omega.{arith}
-use native.Mathlib.Decide.{decLe}
+use native.Mathlib.Decide.{ℕ-discrete, decLe}
 use native.Mathlib.Nat.{le-refl}
 use borrow.Author.Tests.{lt-leb}
-use lib.Dec.{T, nleb→lt, nltb→le}
+use lib.Dec.{T, eqb, nleb→lt, nltb→le}
 use lib.ListN.{length, getD, take, drop, length-append, List·getD-append, take-append-drop}
 use lib.Seq.{take-take}
 use Rattle.terms.specs.Measures.{Shape}
 use Rattle.terms.specs.declared.Answer.{Answer}
-use Rattle.history.specs.History.{Call, release, History, Row, Record, State, unknown, active, aborted, committed, Scan, Merge, Version, start, answers, answer, next, run, tests, reply, verdict, Verdict, accept, answerIf, nth, change, read, visible, versionOf, inserted, insertedValue, rowAt, seenAt, committedBy, stateOf, ended, lastSetting, withRows, withTail, withTransactions, withScans, withMerges, notGiven, later}
+use Rattle.history.specs.History.{Call, release, History, Row, Record, State, unknown, active, aborted, committed, Scan, Merge, Version, start, answers, answer, next, run, tests, reply, verdict, Verdict, accept, answerIf, nth, change, read, visible, versionOf, inserted, insertedValue, rowAt, seenAt, committedBy, stateOf, ends, ended, lastSetting, withRows, withTail, withTransactions, withScans, withMerges, notGiven, later}
 use Rattle.history.specs.Claims.{Reads, latest-reads, at-reads, scan-reads, isRefused, historyBefore, callAt, answerAt, ReadAt, Stability}
 use Rattle.history.proofs.Accepted.{Passed, passed, run-keeps}
-use Rattle.history.specs.Lists.{All, nil, cons}
-use Rattle.history.proofs.Steps.{Step, nothing, began, rowGiven, recordsMade, closed, by-commit, by-abort, scanOpened, scanClosed, merged, released, New, made-new, step}
+use Rattle.history.specs.Lists.{All}
+use Rattle.history.proofs.Lists.{clash, by-cases, all-map, any-append, any-none, nth-last, nth-beyond, nth-before, nth-changed, nth-other}
+use Rattle.history.proofs.Steps.{by-commit, by-abort, began, closed, Step, nothing, newStates, rowGiven, recordsMade, newScans, newMerges, made-new, step}
+use Rattle.history.proofs.Ranges.{last-append, last-unfound}
 use Rattle.history.proofs.Timely.{Timely, timely}
 
 -- ---- a transaction that begins, or ends without being seen, changes nothing of what was committed by t
 begun-unseen : (t : ℕ) (l : List State) (j : ℕ) → committedBy t (nth (l ++ active ∷ []) j unknown) ≡ committedBy t (nth l j unknown)
 unfolding committedBy
-begun-unseen t l zero = refl
-begun-unseen t [] (suc zero) = refl
-begun-unseen t [] (suc (suc j)) = refl
-begun-unseen t (x ∷ l) (suc zero) = refl
-begun-unseen t (x ∷ l) (suc (suc j)) = begun-unseen t l (suc j)
+begun-unseen t l j = by-cases (ℕ-discrete j (suc (length l))) (λ e. rw (e, nth-last unknown l active, nth-beyond unknown l)) (λ n. rw (nth-before unknown l active j n))
 
-changed-unseen : (t : ℕ) (l : List State) (k j : ℕ) (x : State) → committedBy t (nth l k unknown) ≡ false → committedBy t x ≡ false
+closed-unseen : (t : ℕ) (l : List State) (k j : ℕ) (x : State) → nth l k unknown ≡ active → committedBy t x ≡ false
     → committedBy t (nth (change l k x) j unknown) ≡ committedBy t (nth l j unknown)
 unfolding committedBy
-changed-unseen t l zero j x p q = refl
-changed-unseen t l (suc k) zero x p q = refl
-changed-unseen t [] (suc k) (suc j) x p q = refl
-changed-unseen t (y ∷ l) (suc zero) (suc zero) x p q = q ∙ sym p
-changed-unseen t (y ∷ l) (suc zero) (suc (suc j)) x p q = refl
-changed-unseen t (y ∷ l) (suc (suc k)) (suc zero) x p q = refl
-changed-unseen t (y ∷ l) (suc (suc k)) (suc (suc j)) x p q = changed-unseen t l (suc k) (suc j) x p q
+closed-unseen t l k j x a q = by-cases (ℕ-discrete j k) (λ e. rw (e, nth-changed unknown l k x (λ z. clash (cc)), a) q) (λ n. rw (nth-other unknown l k x j n))
 
 active-unseen : (t : ℕ) (x : State) → x ≡ active → committedBy t x ≡ false
 unfolding committedBy
@@ -49,26 +41,13 @@ unfolding committedBy
 later-unseen t s l b p = lt-leb s t (omega arith)
 
 -- ---- records that are not seen change no read
-abbrev Unseen : (ℕ → Bool) → List Record → Type 0
-Unseen sees [] = Unit {0}
-Unseen sees (x ∷ l) = (sees (x .transaction) ≡ false) × Unseen sees l
+module _ (sees : ℕ → Bool) (r : ℕ) (l : List Record) {m : List Record} (unseen : All (λ (x : Record). sees (x .transaction) ≡ false) m) where
+  ended-same : ended sees r (l ++ m) ≡ ended sees r l
+  unfolding ended
+  ended-same = any-append _ l m ∙ rw (any-none (λ x. eqb (x .row) r && (ends (x .content) && sees (x .transaction))) (all-map (λ x (e : sees (x .transaction) ≡ false). simp (e, and-false) tt) unseen)) (or-false _)
 
-ended-append : (sees : ℕ → Bool) (r : ℕ) (l m : List Record) → Unseen sees m → ended sees r (l ++ m) ≡ ended sees r l
-unfolding ended
-ended-append sees r [] [] p = refl
-ended-append sees r [] (x ∷ m) p = simp (p .0, and-false) (ended-append sees r [] m (p .1))
-ended-append sees r (x ∷ l) m p = rw (ended-append sees r l m p)
-
-last-append : (sees : ℕ → Bool) (r c : ℕ) (v : Version) (l m : List Record) → Unseen sees m → lastSetting sees r c v (l ++ m) ≡ lastSetting sees r c v l
-unfolding lastSetting
-last-append sees r c v [] [] p = refl
-last-append sees r c v [] (x ∷ m) p = ap (λ w. lastSetting sees r c w m) (simp (p .0, and-false)) ∙ last-append sees r c v [] m (p .1)
-last-append sees r c v (x ∷ l) m p = last-append sees r c _ l m p
-
--- the records that an active transaction makes
-made-unseen : (t : ℕ) (h : History) (k r : ℕ) {m : List Record} → seenAt h t k ≡ false → All (New h k r) m → Unseen (seenAt h t) m
-made-unseen t h k r p nil = tt
-made-unseen t h k r p (cons n a) = (ap (seenAt h t) (n .transaction) ∙ p, made-unseen t h k r p a)
+  last-same : (c : ℕ) (v : Version) → lastSetting sees r c v (l ++ m) ≡ lastSetting sees r c v l
+  last-same c v = last-append sees r c v l m ∙ last-unfound sees r c _ (all-map (λ x (e : sees (x .transaction) ≡ false). simp (e, and-false)) unseen)
 
 -- ---- what stays: the reads of row r for stamp t, which is not after the last commit's
 record Stays (t r : ℕ) (reading : ℕ → Answer) (h : History) : Type 0 where
@@ -76,17 +55,15 @@ record Stays (t r : ℕ) (reading : ℕ → Answer) (h : History) : Type 0 where
   past : t ≤ h .last
   given : r < length (h .rows)
 
--- each of the five ways in which a call alters a history
+-- each of the ways in which a call alters a history
 module _ (t r : ℕ) (reading : ℕ → Answer) (h : History) (s : Stays t r reading h) where
-  tail-stays : (m : List Record) → Unseen (seenAt h t) m → Stays t r reading (withTail h (h .tail ++ m))
+  tail-stays : {m : List Record} → All (λ (x : Record). seenAt h t (x .transaction) ≡ false) m → Stays t r reading (withTail h (h .tail ++ m))
   unfolding read visible versionOf inserted seenAt stateOf rowAt insertedValue withTail
-  tail-stays m u =
-      record {
-        same = λ c.
-            simp (ended-append (seenAt h t) r (h .tail) m u, last-append (seenAt h t) r c (inserted h r c) (h .tail) m u) (s .same c);
-        past = s .past;
-        given = s .given;
-      }
+  tail-stays u = record {
+    same = λ c. simp (ended-same (seenAt h t) r (h .tail) u, last-same (seenAt h t) r (h .tail) u c (inserted h r c)) (s .same c);
+    past = s .past;
+    given = s .given;
+  }
 
   rows-stay : (x : Row) → Stays t r reading (withRows h (h .rows ++ x ∷ []))
   unfolding read visible versionOf inserted seenAt stateOf rowAt insertedValue withRows
@@ -100,31 +77,24 @@ module _ (t r : ℕ) (reading : ℕ → Answer) (h : History) (s : Stays t r rea
   states-stay l last o f =
       record { same = λ c. ap (λ (sees : ℕ → Bool). read sees h r c) (fun-ext f) ∙ s .same c; past = omega (arith, s .past); given = s .given }
 
-  scans-stay : (l : List Scan) → Stays t r reading (withScans h l)
-  unfolding read visible versionOf inserted seenAt stateOf rowAt insertedValue withScans
-  scans-stay l = record { same = s .same; past = s .past; given = s .given }
-
-  merges-stay : (l : List Merge) → Stays t r reading (withMerges h l)
-  unfolding read visible versionOf inserted seenAt stateOf rowAt insertedValue withMerges
-  merges-stay l = record { same = s .same; past = s .past; given = s .given }
+  others-stay : (ss : List Scan) (ms : List Merge)
+      → Stays t r reading record { rows = h .rows; tail = h .tail; transactions = h .transactions; scans = ss; merges = ms; last = h .last }
+  unfolding read visible versionOf inserted seenAt stateOf rowAt insertedValue
+  others-stay ss ms = record { same = s .same; past = s .past; given = s .given }
 
 step-stays : (S : Shape) (t r : ℕ) (reading : ℕ → Answer) (h : History) {c : Call} {h′ : History} → Stays t r reading h → Step S h c h′
     → Stays t r reading h′
-unfolding seenAt stateOf committedBy
+unfolding seenAt stateOf committedBy withScans withMerges
 step-stays S t r f h s nothing = s
-step-stays S t r f h s (began _ _) = states-stay t r f h s _ _ (le-refl _) (begun-unseen t (h .transactions))
+step-stays S t r f h s (newStates (began _ _)) = states-stay t r f h s _ _ (le-refl _) (begun-unseen t (h .transactions))
+step-stays S t r f h s (newStates (closed k a (by-commit {s = e} l))) =
+    states-stay t r f h s _ _ (omega arith) (λ j. closed-unseen t (h .transactions) k j (committed e) a (later-unseen t e (h .last) (s .past) l))
+step-stays S t r f h s (newStates (closed k a by-abort)) = states-stay t r f h s _ _ (le-refl _) (λ j. closed-unseen t (h .transactions) k j aborted a refl)
 step-stays S t r f h s (rowGiven k vs _ _) = rows-stay t r f h s _
 step-stays S t r f h s (recordsMade k r′ w m _) =
-    tail-stays t r f h s _ (made-unseen t h k r′ (active-unseen t (stateOf h k) (w .active-own)) (made-new m))
-step-stays S t r f h s (closed k a (by-commit {s = e} l)) =
-    states-stay t r f h s _ _ (omega arith)
-    (λ j. changed-unseen t (h .transactions) k j (committed e) (active-unseen t (stateOf h k) a) (later-unseen t e (h .last) (s .past) l))
-step-stays S t r f h s (closed k a by-abort) =
-    states-stay t r f h s _ _ (le-refl _) (λ j. changed-unseen t (h .transactions) k j aborted (active-unseen t (stateOf h k) a) refl)
-step-stays S t r f h s (scanOpened _ _ _) = scans-stay t r f h s _
-step-stays S t r f h s (scanClosed k _) = scans-stay t r f h s _
-step-stays S t r f h s (merged g c n _ _ _ _ _ _) = merges-stay t r f h s _
-step-stays S t r f h s released = merges-stay t r f h s _
+    tail-stays t r f h s (all-map (λ x n. ap (seenAt h t) (n .transaction) ∙ active-unseen t (stateOf h k) (w .active-own)) (made-new m))
+step-stays S t r f h s (newScans _) = others-stay t r f h s _ (h .merges)
+step-stays S t r f h s (newMerges _) = others-stay t r f h s (h .scans) _
 
 -- ---- what an accepted read answers
 reads-reply : (S : Shape) (h : History) {x : Call} {t r c : ℕ} → Reads h x t r c → reply S h x ≡ read (seenAt h t) h r c
@@ -201,8 +171,6 @@ in-order S calls i j t r c b first second =
 
 pub stability : Stability
 unfolding Stability
-stability S calls i j t r c first second = go (decLe i j)
-  where
-    go : Dec (i ≤ j) → answerAt S calls i ≡ answerAt S calls j
-    go (yes b) = in-order S calls i j t r c b first second
-    go (no n) = let b : j ≤ i = omega arith in sym (in-order S calls j i t r c b second first)
+stability S calls i j t r c first second = by-cases (decLe i j)
+    (λ b. in-order S calls i j t r c b first second)
+    (λ n. sym (in-order S calls j i t r c (omega arith) second first))

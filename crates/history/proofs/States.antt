@@ -3,15 +3,15 @@
 use mathlib.Core.Path.{_≡_, refl, sym, _∙_, ap}
 use mathlib.Core.Logic.{_≢_}
 use mathlib.Core.Bool.{Bool, true, false}
-use mathlib.Core.List.{[], _∷_, _++_}
+use mathlib.Core.List.{List, [], _∷_, _++_}
 use Prim.Native.Nat.{ℕ, _≤_}
 use native.Mathlib.Omega.{arith}
 use native.Mathlib.Nat.{le-refl}
 use native.Mathlib.Decide.{ℕ-discrete}
 use lib.Dec.{T}
 use Rattle.history.specs.History.{History, State, unknown, active, aborted, committed, nth, change, stateOf, withTransactions}
-use Rattle.history.proofs.Lists.{clash, nth-append, nth-added, nth-changed, nth-other}
-use Rattle.history.proofs.Steps.{Closing, by-commit, by-abort}
+use Rattle.history.proofs.Lists.{clash, by-cases, nth-append, nth-added, nth-changed, nth-other}
+use Rattle.history.proofs.Steps.{Closing, by-commit, by-abort, NewStates, began, closed}
 
 abbrev pub isGiven : State → Bool
 isGiven unknown = false
@@ -63,38 +63,38 @@ pub state-began : (h : History) (k : ℕ) → T (isGiven (stateOf h k)) → stat
 unfolding stateOf withTransactions
 state-began h k t = nth-added unknown (h .transactions) active k (given-known (stateOf h k) t)
 
-pub began-moved : (h : History) → Stamped h → Moved (stateOf h) (stateOf (withTransactions h (h .transactions ++ active ∷ []) (h .last))) (h .last)
+began-moved : (h : History) → Stamped h → Moved (stateOf h) (stateOf (withTransactions h (h .transactions ++ active ∷ []) (h .last))) (h .last)
 unfolding Stamped stateOf withTransactions
 began-moved h i =
     record {
       given = λ k t. rw (state-began h k t) t;
       final = λ k t. state-began h k (closed-given (stateOf h k) t);
-      stamps = nth-append (λ (x : State). (s : ℕ) → x ≡ committed s → s ≤ h .last) unknown (h .transactions) active (λ s e. clash (cc)) i;
+      stamps = nth-append unknown (λ (x : State). (s : ℕ) → x ≡ committed s → s ≤ h .last) (h .transactions) active (λ s e. clash (cc)) i;
       before = λ j k a b p.
           record { holder = λ e. p .holder (sym (state-began h j a) ∙ e); rises = λ s t e f. p .rises s t (sym (state-began h j a) ∙ e) (sym (state-began h k b) ∙ f) };
     }
 
-pub closing-closed : {h : History} {x : State} {s : ℕ} → Closing h x s → T (isClosed x)
+closing-closed : {h : History} {x : State} {s : ℕ} → Closing h x s → T (isClosed x)
 closing-closed (by-commit b) = tt
 closing-closed by-abort = tt
 
-pub closing-last : {h : History} {x : State} {s : ℕ} → Closing h x s → h .last ≤ s
+closing-last : {h : History} {x : State} {s : ℕ} → Closing h x s → h .last ≤ s
 closing-last (by-commit b) = omega arith
 closing-last by-abort = le-refl _
 
-pub closing-stamp : {h : History} {x : State} {s : ℕ} → Closing h x s → (a : ℕ) → x ≡ committed a → s ≡ a
+closing-stamp : {h : History} {x : State} {s : ℕ} → Closing h x s → (a : ℕ) → x ≡ committed a → s ≡ a
 closing-stamp (by-commit b) a e = cc
 closing-stamp by-abort a e = clash (cc)
 
-pub closed-moved : {h : History} {x : State} {s : ℕ} (t : ℕ) → Stamped h → stateOf h t ≡ active → Closing h x s
+closed-moved : {h : History} {x : State} {s : ℕ} (t : ℕ) → Stamped h → stateOf h t ≡ active → Closing h x s
     → Moved (stateOf h) (stateOf (withTransactions h (change (h .transactions) t x) s)) s
 unfolding Stamped stateOf withTransactions
 closed-moved {h} {x} {s} t i o c =
     record {
-      given = λ k u. cases k (λ e. rw (own k e) (closed-given x (closing-closed c))) (λ f. rw (other k f) u);
-      final = λ k u. cases k (λ e. absurd (rw (ap (stateOf h) e ∙ o) at u)) (other k);
-      stamps = λ k a e. cases k (λ p. omega (arith, closing-stamp c a (sym (own k p) ∙ e))) (λ f. omega (arith, i k a (sym (other k f) ∙ e), closing-last c));
-      before = λ j k _ _ p. cases j (own-before j k p) (λ f. cases k (into-before j k p f) (other-before j k p f));
+      given = λ k u. by-cases (ℕ-discrete k t) (λ e. rw (own k e) (closed-given x (closing-closed c))) (λ f. rw (other k f) u);
+      final = λ k u. by-cases (ℕ-discrete k t) (λ e. absurd (rw (ap (stateOf h) e ∙ o) at u)) (other k);
+      stamps = λ k a e. by-cases (ℕ-discrete k t) (λ p. omega (arith, closing-stamp c a (sym (own k p) ∙ e))) (λ f. omega (arith, i k a (sym (other k f) ∙ e), closing-last c));
+      before = λ j k _ _ p. by-cases (ℕ-discrete j t) (own-before j k p) (λ f. by-cases (ℕ-discrete k t) (into-before j k p f) (other-before j k p f));
     }
   where
     st′ : ℕ → State
@@ -105,9 +105,6 @@ closed-moved {h} {x} {s} t i o c =
 
     other : (k : ℕ) → k ≢ t → st′ k ≡ stateOf h k
     other k f = nth-other unknown (h .transactions) t x k f
-
-    cases : {A : Type 0} (k : ℕ) → (k ≡ t → A) → (k ≢ t → A) → A
-    cases k f g = elim (ℕ-discrete k t) [ yes e ↦ f e | no n ↦ g n ]
 
     shut : (k : ℕ) → k ≡ t → st′ k ≡ active → ⊥
     shut k e u = rw (sym (own k e) ∙ u) at (closing-closed c)
@@ -126,3 +123,12 @@ closed-moved {h} {x} {s} t i o c =
 
     other-before : (j k : ℕ) → Before (stateOf h) j k → j ≢ t → k ≢ t → Before st′ j k
     other-before j k p f g = record { holder = λ u. p .holder (sym (other j f) ∙ u); rises = λ a b u v. p .rises a b (sym (other j f) ∙ u) (sym (other k g) ∙ v) }
+
+-- ---- after a begin, a commit or an abort
+pub moved : {h : History} {l : List State} {s : ℕ} → Stamped h → NewStates h l s → Moved (stateOf h) (stateOf (withTransactions h l s)) s
+moved {h} i (began _ _) = began-moved h i
+moved i (closed t a b) = closed-moved t i a b
+
+pub states-last : {h : History} {l : List State} {s : ℕ} → NewStates h l s → h .last ≤ s
+states-last (began _ _) = le-refl _
+states-last (closed _ _ b) = closing-last b

@@ -1,6 +1,6 @@
 -- What an accepted call does to the history, in nine ways and not in seventeen calls, with the tests that it passed as facts about numbers and states.
--- Every invariant is proved by these nine cases, once for each; a later proof that goes call by call takes `next-step` for the history's side.
-use mathlib.Core.Path.{_≡_, refl}
+-- Every invariant is proved by these nine cases, or by six where it does not look into new states, scans or merges; a later proof that goes call by call takes `next-step` for the history's side.
+use mathlib.Core.Path.{_≡_, refl, subst}
 use mathlib.Core.Logic.{_≢_}
 use mathlib.Core.Bool.{Bool, true, false, not, _&&_, _||_}
 use mathlib.Core.List.{List, [], _∷_, _++_}
@@ -10,7 +10,7 @@ use lib.Dec.{T, leb, ltb, eqb, nleb→lt, nltb→le, eqb→eq}
 use lib.ListN.{length, take}
 use lib.IntN.{ℤ}
 use Rattle.terms.specs.Measures.{Shape, rangeRows, mostColumns, mostTransactions, mostScans, mostNumbers}
-use Rattle.history.specs.History.{Call, begin, insert, update, delete, commit, abort, latest, readAt, ownRead, openScan, scanRead, sum, close, merge, release, pageCell, lineage, History, Record, State, active, aborted, committed, Content, original, setting, ending, ends, start, next, nextIf, run, tests, effect, verdict, Verdict, accept, refuse, any, count, change, isActive, stateOf, rowAt, scanAt, stopped, rangeOf, recordsOf, mergedThrough, waitingPages, afterRelease, seenBy, visible, ended, held, gone, activeOther, notActive, notRunning, notGiven, noColumn, noRange, badMask, bit, sets, upTo, allGiven, lacksRecords, notLater, later, allActive, allRunning, outOfReach, anyActive, noPage, newColumns, originalRecords, updateRecords, deleteRecords, withRows, withTail, withTransactions, withScans, withMerges}
+use Rattle.history.specs.History.{Call, begin, insert, update, delete, commit, abort, latest, readAt, ownRead, openScan, scanRead, sum, close, merge, release, pageCell, lineage, History, Record, State, active, aborted, committed, Scan, Merge, Content, original, setting, ending, ends, start, next, nextIf, run, tests, effect, verdict, Verdict, accept, refuse, any, count, nth, change, isActive, stateOf, rowAt, scanAt, stopped, rangeOf, recordsOf, mergedThrough, waitingPages, afterRelease, seenBy, visible, ended, held, gone, activeOther, notActive, notRunning, notGiven, noColumn, noRange, badMask, bit, sets, upTo, allGiven, lacksRecords, notLater, later, allActive, allRunning, outOfReach, anyActive, noPage, newColumns, originalRecords, updateRecords, deleteRecords, withRows, withTail, withTransactions, withScans, withMerges}
 use Rattle.history.proofs.Accepted.{Passed, passed, run-keeps}
 use Rattle.history.specs.Lists.{All, nil, cons}
 use Rattle.history.proofs.Lists.{clash, all-map, any-append, not-any, neither, not-not, not-second, parts, or-cases, is-false, eqb-equal, among, among-keep}
@@ -57,23 +57,38 @@ pub data Closing (h : History) : State → ℕ → Type 0 where
   by-commit : {s : ℕ} → h .last < s → Closing h (committed s) s
   by-abort : Closing h aborted (h .last)
 
+-- what stands under a scan's number that was not given
+abbrev pub noScan : Scan
+noScan = record { running = false; stamp = 0; before = 0 }
+
+pub running-known : (l : List Scan) (k : ℕ) → T ((nth l k noScan) .running) → nth l k noScan ≢ noScan
+running-known l k t e = subst (λ (s : Scan). T (s .running)) e t
+
+-- ---- the nine ways: none, two that end with new states, a row more, records more, two with new scans, two with new merges
+pub data NewStates (h : History) : List State → ℕ → Type 0 where
+  began : length (h .transactions) < mostNumbers → count isActive (h .transactions) < mostTransactions → NewStates h (h .transactions ++ active ∷ []) (h .last)
+  closed : (t : ℕ) {x : State} {s : ℕ} → stateOf h t ≡ active → Closing h x s → NewStates h (change (h .transactions) t x) s
+
+pub data NewScans (h : History) : List Scan → Type 0 where
+  scanOpened : {s : ℕ} → s ≤ h .last → length (h .scans) < mostNumbers → count (λ s. s .running) (h .scans) < mostScans
+      → NewScans h (h .scans ++ record { running = true; stamp = s; before = length (h .merges) } ∷ [])
+  scanClosed : (k : ℕ) → T (scanAt h k .running) → NewScans h (change (h .scans) k (stopped (scanAt h k)))
+
+pub data NewMerges (S : Shape) (h : History) : Call → List Merge → Type 0 where
+  merged : (g c n : ℕ) → g < S .ranges → c < S .columns → mergedThrough h g c < n → n ≤ length (recordsOf h g)
+      → All (λ (x : Record). stateOf h (x .transaction) ≢ active) (take n (recordsOf h g)) → waitingPages (h .merges) < S .spares
+      → NewMerges S h (merge g c n) (h .merges ++ record { range = g; column = c; through = n; waiting = true } ∷ [])
+  released : {c : Call} → NewMerges S h c (afterRelease (h .scans) 0 (h .merges))
+
 pub data Step (S : Shape) (h : History) : Call → History → Type 0 where
   nothing : {c : Call} → Step S h c h
-  began : {c : Call} → length (h .transactions) < mostNumbers → count isActive (h .transactions) < mostTransactions
-      → Step S h c (withTransactions h (h .transactions ++ active ∷ []) (h .last))
+  newStates : {c : Call} {l : List State} {s : ℕ} → NewStates h l s → Step S h c (withTransactions h l s)
   rowGiven : {c : Call} (t : ℕ) (vs : List ℤ) → stateOf h t ≡ active → length (h .rows) < S .ranges * rangeRows
       → Step S h c (withRows h (h .rows ++ record { inserter = t; values = vs } ∷ []))
   recordsMade : {c : Call} (t r : ℕ) {m : List Record} → Writable h t r → Made S h t r m → length (recordsOf h (rangeOf r)) + length m ≤ S .capacity
       → Step S h c (withTail h (h .tail ++ m))
-  closed : {c : Call} (t : ℕ) {x : State} {s : ℕ} → stateOf h t ≡ active → Closing h x s
-      → Step S h c (withTransactions h (change (h .transactions) t x) s)
-  scanOpened : {c : Call} {s : ℕ} → s ≤ h .last → length (h .scans) < mostNumbers → count (λ s. s .running) (h .scans) < mostScans
-      → Step S h c (withScans h (h .scans ++ record { running = true; stamp = s; before = length (h .merges) } ∷ []))
-  scanClosed : {c : Call} (k : ℕ) → T (scanAt h k .running) → Step S h c (withScans h (change (h .scans) k (stopped (scanAt h k))))
-  merged : (g c n : ℕ) → g < S .ranges → c < S .columns → mergedThrough h g c < n → n ≤ length (recordsOf h g)
-      → All (λ (x : Record). stateOf h (x .transaction) ≢ active) (take n (recordsOf h g)) → waitingPages (h .merges) < S .spares
-      → Step S h (merge g c n) (withMerges h (h .merges ++ record { range = g; column = c; through = n; waiting = true } ∷ []))
-  released : {c : Call} → Step S h c (withMerges h (afterRelease (h .scans) 0 (h .merges)))
+  newScans : {c : Call} {l : List Scan} → NewScans h l → Step S h c (withScans h l)
+  newMerges : {c : Call} {l : List Merge} → NewMerges S h c l → Step S h c (withMerges h l)
 
 -- ---- from the tests
 is-active : (h : History) (t : ℕ) → T (not (notActive h t)) → stateOf h t ≡ active
@@ -114,25 +129,25 @@ none-active h l p = all-map (λ x n e. rw e at n) (not-any _ l p)
 
 pub step : (S : Shape) (h : History) (c : Call) → Passed (tests S h c) → Step S h c (effect S h c)
 unfolding tests effect notRunning noColumn noRange allGiven lacksRecords notLater later allActive allRunning outOfReach anyActive noPage deleteRecords
-step S h begin p = began (nleb→lt mostNumbers _ (p .0)) (nleb→lt mostTransactions _ (p .1 .0))
+step S h begin p = newStates (began (nleb→lt mostNumbers _ (p .0)) (nleb→lt mostTransactions _ (p .1 .0)))
 step S h (insert t vs) p = rowGiven t vs (is-active h t (p .0)) (nleb→lt _ _ (p .1 .0))
 step S h (update t r m vs) p =
     recordsMade t r (writable h t r (p .0) (p .1 .0) (p .1 .1 .1 .0) (p .1 .1 .1 .1 .0)) (by-update m vs (p .1 .1 .0)) (nltb→le (S .capacity) _ (p .1 .1 .1 .1 .1 .0))
 step S h (delete t r) p = recordsMade t r (writable h t r (p .0) (p .1 .0) (p .1 .1 .0) (p .1 .1 .1 .0)) by-delete (nltb→le (S .capacity) _ (p .1 .1 .1 .1 .0))
-step S h (commit t s) p = closed t (is-active h t (p .0)) (by-commit (nleb→lt s (h .last) (p .1 .0)))
-step S h (abort t) p = closed t (is-active h t (p .0)) by-abort
+step S h (commit t s) p = newStates (closed t (is-active h t (p .0)) (by-commit (nleb→lt s (h .last) (p .1 .0))))
+step S h (abort t) p = newStates (closed t (is-active h t (p .0)) by-abort)
 step S h (latest r c) p = nothing
 step S h (readAt s r c) p = nothing
 step S h (ownRead t r c) p = nothing
-step S h (openScan s) p = scanOpened (nltb→le (h .last) s (p .0)) (nleb→lt mostNumbers _ (p .1 .0)) (nleb→lt mostScans _ (p .1 .1 .0))
+step S h (openScan s) p = newScans (scanOpened (nltb→le (h .last) s (p .0)) (nleb→lt mostNumbers _ (p .1 .0)) (nleb→lt mostScans _ (p .1 .1 .0)))
 step S h (scanRead k r c) p = nothing
 step S h (sum k c) p = nothing
-step S h (close k) p = scanClosed k (not-not (scanAt h k .running) (p .0))
+step S h (close k) p = newScans (scanClosed k (not-not (scanAt h k .running) (p .0)))
 step S h (merge g c n) p =
     let reach : T (not (leb n (mergedThrough h g c))) × T (not (ltb (length (recordsOf h g)) n)) = neither (leb n (mergedThrough h g c)) _ (p .1 .1 .0) in
-    merged g c n (nleb→lt (S .ranges) g (p .0)) (nleb→lt (S .columns) c (p .1 .0)) (nleb→lt n _ (reach .0)) (nltb→le _ n (reach .1))
-    (none-active h (take n (recordsOf h g)) (p .1 .1 .1 .0)) (nleb→lt (S .spares) _ (p .1 .1 .1 .1 .0))
-step S h release p = released
+    newMerges (merged g c n (nleb→lt (S .ranges) g (p .0)) (nleb→lt (S .columns) c (p .1 .0)) (nleb→lt n _ (reach .0)) (nltb→le _ n (reach .1))
+    (none-active h (take n (recordsOf h g)) (p .1 .1 .1 .0)) (nleb→lt (S .spares) _ (p .1 .1 .1 .1 .0)))
+step S h release p = newMerges released
 step S h (pageCell c r) p = nothing
 step S h (lineage g c) p = nothing
 

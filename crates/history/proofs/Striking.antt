@@ -55,58 +55,28 @@ change-forget [] (suc k) s = refl
 change-forget (x ∷ l) (suc zero) s = refl
 change-forget (x ∷ l) (suc (suc k)) s = rw (change-forget l (suc k) s)
 
--- ---- the tests, the reply and the effect of a call that is not struck
-tests-forget : (S : Shape) (h : History) (c : Call) → T (not (isStruck (kind c))) → tests S (forget h) c ≡ tests S h c
-unfolding everything
-tests-forget S h begin x = refl
-tests-forget S h (insert t vs) x = refl
-tests-forget S h (update t r m vs) x = refl
-tests-forget S h (delete t r) x = refl
-tests-forget S h (commit t s) x = refl
-tests-forget S h (abort t) x = refl
-tests-forget S h (latest r c) x = refl
-tests-forget S h (readAt s r c) x = refl
-tests-forget S h (ownRead t r c) x = refl
-tests-forget S h (openScan s) x = rw (length-map, count-forget)
-tests-forget S h (scanRead k r c) x = rw scan-forget
-tests-forget S h (sum k c) x = rw scan-forget
-tests-forget S h (close k) x = rw scan-forget
-tests-forget S h (pageCell c r) x = refl
-tests-forget S h (lineage g c) x = refl
+-- ---- a call that is not struck: its tests, its reply if it is plain, and its effect
+Alike : Shape → History → Call → Type 0
+Alike S h c =
+    (tests S (forget h) c ≡ tests S h c) × (T (isPlain (kind c)) → reply S (forget h) c ≡ reply S h c) × (forget (effect S (forget h) c) ≡ forget (effect S h c))
 
-reply-forget : (S : Shape) (h : History) (c : Call) → T (isPlain (kind c)) → reply S (forget h) c ≡ reply S h c
-unfolding everything
-reply-forget S h begin x = refl
-reply-forget S h (insert t vs) x = refl
-reply-forget S h (update t r m vs) x = refl
-reply-forget S h (delete t r) x = refl
-reply-forget S h (commit t s) x = refl
-reply-forget S h (abort t) x = refl
-reply-forget S h (latest r c) x = refl
-reply-forget S h (readAt s r c) x = refl
-reply-forget S h (ownRead t r c) x = refl
-reply-forget S h (openScan s) x = rw length-map
-reply-forget S h (scanRead k r c) x = rw scan-forget
-reply-forget S h (sum k c) x = rw scan-forget
-reply-forget S h (close k) x = refl
-
-effect-forget : (S : Shape) (h : History) (c : Call) → T (not (isStruck (kind c))) → forget (effect S (forget h) c) ≡ forget (effect S h c)
-unfolding everything
-effect-forget S h begin x = rw twice-forget
-effect-forget S h (insert t vs) x = rw twice-forget
-effect-forget S h (update t r m vs) x = rw twice-forget
-effect-forget S h (delete t r) x = rw twice-forget
-effect-forget S h (commit t s) x = rw twice-forget
-effect-forget S h (abort t) x = rw twice-forget
-effect-forget S h (latest r c) x = rw twice-forget
-effect-forget S h (readAt s r c) x = rw twice-forget
-effect-forget S h (ownRead t r c) x = rw twice-forget
-effect-forget S h (openScan s) x = simp (append-forget, twice-forget)
-effect-forget S h (scanRead k r c) x = rw twice-forget
-effect-forget S h (sum k c) x = rw twice-forget
-effect-forget S h (close k) x = simp (change-forget, scan-forget, twice-forget)
-effect-forget S h (pageCell c r) x = rw twice-forget
-effect-forget S h (lineage g c) x = rw twice-forget
+alike : (S : Shape) (h : History) (c : Call) → T (not (isStruck (kind c))) → Alike S h c
+unfolding everything Alike
+alike S h begin x = (refl, λ y. refl, rw twice-forget)
+alike S h (insert t vs) x = (refl, λ y. refl, rw twice-forget)
+alike S h (update t r m vs) x = (refl, λ y. refl, rw twice-forget)
+alike S h (delete t r) x = (refl, λ y. refl, rw twice-forget)
+alike S h (commit t s) x = (refl, λ y. refl, rw twice-forget)
+alike S h (abort t) x = (refl, λ y. refl, rw twice-forget)
+alike S h (latest r c) x = (refl, λ y. refl, rw twice-forget)
+alike S h (readAt s r c) x = (refl, λ y. refl, rw twice-forget)
+alike S h (ownRead t r c) x = (refl, λ y. refl, rw twice-forget)
+alike S h (openScan s) x = (rw (length-map, count-forget), λ y. rw length-map, simp (append-forget, twice-forget))
+alike S h (scanRead k r c) x = (rw scan-forget, λ y. rw scan-forget, rw twice-forget)
+alike S h (sum k c) x = (rw scan-forget, λ y. rw scan-forget, rw twice-forget)
+alike S h (close k) x = (rw scan-forget, λ y. refl, simp (change-forget, scan-forget, twice-forget))
+alike S h (pageCell c r) x = (refl, λ y. absurd y, rw twice-forget)
+alike S h (lineage g c) x = (refl, λ y. absurd y, rw twice-forget)
 
 effect-struck : (S : Shape) (h : History) (c : Call) → T (isStruck (kind c)) → forget (effect S h c) ≡ forget h
 unfolding everything
@@ -118,8 +88,8 @@ plain-stays : (q : Kind) → T (isPlain q) → T (not (isStruck q))
 plain-stays plain x = tt
 
 answer-forget : (S : Shape) (h : History) (c : Call) → T (isPlain (kind c)) → answer S (forget h) c ≡ answer S h c
-unfolding answer
-answer-forget S h c x = rw (tests-forget S h c (plain-stays (kind c) x), reply-forget S h c x)
+unfolding answer Alike
+answer-forget S h c x = let a = alike S h c (plain-stays (kind c) x) in rw (a .0, a .1 x)
 
 forget-if : (v : Verdict) (h k h′ k′ : History) → forget h ≡ forget k → forget h′ ≡ forget k′ → forget (nextIf v h h′) ≡ forget (nextIf v k k′)
 unfolding nextIf
@@ -131,10 +101,10 @@ unfolding forget
 forget-forget h = rw twice-forget
 
 next-forget : (S : Shape) (h : History) (c : Call) → T (not (isStruck (kind c))) → forget (next S (forget h) c) ≡ forget (next S h c)
-unfolding next
+unfolding next Alike
 next-forget S h c x =
-    rw (tests-forget S h c x)
-    (forget-if (verdict (tests S h c)) (forget h) h (effect S (forget h) c) (effect S h c) (forget-forget h) (effect-forget S h c x))
+    let a = alike S h c x in
+    rw (a .0) (forget-if (verdict (tests S h c)) (forget h) h (effect S (forget h) c) (effect S h c) (forget-forget h) (a .2))
 
 next-struck : (S : Shape) (h : History) (c : Call) → T (isStruck (kind c)) → forget (next S h c) ≡ forget h
 unfolding next nextIf

@@ -20,7 +20,7 @@ use Rattle.layout.specs.declared.Region.the-variants.{RowLink, TailTransaction,
 use Rattle.model.specs.Stored.{RecordWords, rowIn, recordIn, valueIn, usedIn, slot, asOpen}
 use Rattle.model.specs.Writing.{nextSlot, appended, filledIn}
 use Rattle.model.proofs.Lists.{part-in, same-part, eqb-same}
-use Rattle.model.proofs.Represents.{ContentIs, RecordIs, TailIs, TailsFor, Whole}
+use Rattle.model.proofs.Represents.{ContentIs, RecordIs, TailIs, TailOf, TailsFor, Whole}
 use Rattle.model.proofs.Views.{renew-whole, put-whole}
 use Rattle.model.proofs.Heads.{slot-is}
 
@@ -79,7 +79,7 @@ module _ (S : Shape) (v w : View) (st : ℕ → State) (list list′ : ℕ → L
   pub tails-more : TailsFor S st list v → TailsFor S st list′ w
   tails-more o a b = go (ℕ-discrete g a)
     where
-      go : Dec (g ≡ a) → TailIs (S .columns) st (list′ a) (usedIn w a) (λ k. recordIn w (a * S .capacity + k)) (λ k. valueIn S w (a * S .capacity + k))
+      go : Dec (g ≡ a) → TailOf S st (list′ a) w a
       go (yes e) =
           rw (← e, grows g, eqb-same g)
           (tail-more y used-here (λ k u. there _ (λ z. omega arith)) (λ k c u d. value-there _ c (λ z. omega arith) d) new link (o g inside))

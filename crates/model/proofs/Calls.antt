@@ -27,11 +27,11 @@ use Rattle.layout.specs.View.{View}
 use Rattle.layout.specs.declared.Region.the-variants.{Opens, Changes}
 use Rattle.terms.specs.declared.Place.{Place}
 use Rattle.terms.specs.Places.{bears, place}
-use Rattle.model.specs.Stored.{pageIn, cellIn, currentIn, usedIn, headerIn, within, rowsGiven, lastStamp, openPlace, scanPlace, pagesOf}
+use Rattle.model.specs.Stored.{cellIn, currentIn, usedIn, headerIn, within, rowsGiven, lastStamp, openPlace, scanPlace, pagesOf}
 use Rattle.model.specs.Reading.{readIn, readCurrent, ownChanges, wordIn, scanPage, Tally, tally, sumIn}
 use Rattle.model.specs.Calls.{testsIn, replyIn, actIn, placesAfter, viewIf, placesIf, say, viewNext, placesNext, notOpenIn, noScanIn, notGivenIn, lacksIn, notLaterIn, laterIn, outOfReachIn, Typed}
 use Rattle.model.proofs.Lists.{clash}
-use Rattle.model.proofs.Represents.{everyRow, CurrentIs, Unchanged, scanAs, Represents, Known}
+use Rattle.model.proofs.Represents.{everyRow, CurrentOf, Unchanged, scanAs, Represents, Known}
 use Rattle.model.proofs.Transactions.{opens-is, opens-full, open-there, begin-kept, commit-kept, abort-kept}
 use Rattle.model.proofs.Insert.{insert-kept}
 use Rattle.model.proofs.Heads.{in-range, SeesAs, sees-at, sees-own, held-is, gone-is, visible-is}
@@ -325,7 +325,7 @@ module _ (S : Shape) (v : View) (ps : List Place) (h : History) (o : Represents 
 
   cell-same : (c r : ℕ) → c < S .columns → r < length (h .rows) → toZ w32 (cellIn v (currentIn S v (rangeOf r) c) (within r)) ≡ cellValue h c r
   cell-same c r d b =
-      let x : CurrentIs S h (rangeOf r) c (currentIn S v (rangeOf r) c) (pageIn v (currentIn S v (rangeOf r) c)) (cellIn v (currentIn S v (rangeOf r) c)) = o .currents (rangeOf r) c (in-range k r b) d in
+      let x : CurrentOf S h v (rangeOf r) c = o .currents (rangeOf r) c (in-range k r b) d in
       x .holds .cells r refl tt ∙ ap (cellThrough h c r) (x .lineage) ∙ sym (cell-is h c r)
 
   plus-one : (n m : ℕ) → n ≡ m → n + 1 ≡ suc m

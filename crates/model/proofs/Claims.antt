@@ -14,7 +14,8 @@ use Rattle.terms.specs.Measures.{Shape, rangeRows, mostScans, withinLimits}
 use Rattle.terms.specs.declared.Answer.{Answer}
 use Rattle.history.specs.History.{Call, openScan, effect, nextIf, tests, verdict, Verdict, accept, refuse, Scan, withScans, History, Version, start, next, run, seenAt, rowAt, inserted, visible, versionOf, read, rangeOf, mergedThrough, scanAt, cellThrough}
 use Rattle.history.specs.Lists.{All, nil, cons}
-use Rattle.history.proofs.Lists.{parts}
+use Rattle.history.proofs.Lists.{parts, nth-last}
+use Rattle.history.proofs.Steps.{noScan}
 use Rattle.history.specs.Latest.{latestSetting}
 use Rattle.history.proofs.Latest.{latest-stamp}
 use Rattle.history.proofs.Past.{past-start}
@@ -27,11 +28,11 @@ use Rattle.model.specs.Writing.{made}
 use Rattle.model.specs.Reading.{scanPage, wasCurrent}
 use Rattle.model.specs.Calls.{testsIn, actIn, viewIf, Typed, viewNext, placesNext, viewAfter, listAfter}
 use Rattle.model.specs.Claims.{storeAfter, historyAfter, lastCommitted, Reads, PageHolds, PagesHold, PageKept, ScansKeep}
-use Rattle.model.proofs.Represents.{CurrentIs, Represents, Known}
+use Rattle.model.proofs.Represents.{CurrentOf, Represents, Known}
 use Rattle.model.proofs.Holding.{cell-absent}
 use Rattle.model.proofs.Heads.{sees-at}
 use Rattle.model.proofs.Calls.{current-read, known-next, one-call}
-use Rattle.model.proofs.Scans.{scan-current, nth-last}
+use Rattle.model.proofs.Scans.{scan-current}
 use Rattle.model.proofs.Openings.{SamePage, same-after, scan-later}
 use Rattle.model.proofs.Made.{small-shape, made-represents}
 
@@ -81,7 +82,7 @@ row-of g i b = (omega arith, omega arith)
 page-holds : (S : Shape) (v : View) (ps : List Place) (h : History) → Represents S v ps h → Known S h → (g c : ℕ) → g < S .ranges → c < S .columns → PageHolds S v h g c
 page-holds S v ps h o k g c a b = record { taken = x .lineage; every-row = every; never-inserted = λ i u n. zero-word (cellIn v (currentIn S v g c) i) (fits i) (every i u ∙ cell-absent h c (g * rangeRows + i) (mergedThrough h g c) (k .past .order) n) }
   where
-    x : CurrentIs S h g c (currentIn S v g c) (pageIn v (currentIn S v g c)) (cellIn v (currentIn S v g c))
+    x : CurrentOf S h v g c
     x = o .currents g c a b
 
     fits : (i : ℕ) → cellIn v (currentIn S v g c) i < 2 ^ 32
@@ -102,7 +103,7 @@ pages-hold S l n enough cs ys g c a b =
 scan-opened : (S : Shape) (h : History) (s : ℕ) → verdict (tests S h (openScan s)) ≡ accept
     → (scanAt (next S h (openScan s)) (suc (length (h .scans))) .before ≡ length (h .merges)) × (suc (length (h .scans)) ≤ length ((next S h (openScan s)) .scans)) × (length ((next S h (openScan s)) .rows) ≡ length (h .rows))
 unfolding next nextIf effect withScans scanAt
-scan-opened S h s e = rw e (ap (λ (x : Scan). x .before) (nth-last (h .scans) _ _), simp length-append (omega arith), refl)
+scan-opened S h s e = rw e (ap (λ (x : Scan). x .before) (nth-last noScan (h .scans) _), simp length-append (omega arith), refl)
 
 -- opening a scan changes no page
 opened-same : (S : Shape) (v : View) (ps : List Place) (s m g c : ℕ) → (scanPage S (viewNext S v ps (openScan s)) m g c ≡ scanPage S v m g c) × ((q i : ℕ) → cellIn (viewNext S v ps (openScan s)) q i ≡ cellIn v q i)

@@ -17,11 +17,11 @@ use Rattle.history.proofs.Links.{noRecord, lastOf, last-of-row}
 use Rattle.history.proofs.Newest.{recordIs, newestIs, held-newest, ended-newest, gone-newest}
 use Rattle.layout.specs.View.{View}
 use Rattle.terms.specs.declared.Place.{Place}
-use Rattle.model.specs.Stored.{RecordWords, rowIn, recordIn, valueIn, usedIn, slot, openState, abortedState, deleteKind}
+use Rattle.model.specs.Stored.{RecordWords, rowIn, recordIn, slot, openState, abortedState, deleteKind}
 use Rattle.model.specs.Reading.{sees, seesRecord, headIn, hasRecord, visibleIn}
 use Rattle.model.specs.Calls.{heldIn, goneIn}
 use Rattle.model.proofs.Lists.{clash}
-use Rattle.model.proofs.Represents.{stateWord, RowIs, ContentIs, TailIs, Represents, Known}
+use Rattle.model.proofs.Represents.{stateWord, RowIs, ContentIs, TailOf, Represents, Known}
 
 pub slot-is : (S : Shape) (g k : ℕ) → slot S g (suc k) ≡ g * S .capacity + k
 unfolding slot
@@ -89,7 +89,7 @@ module _ (S : Shape) (v : View) (ps : List Place) (h : History) (o : Represents 
   abbrev base : ℕ
   base = rangeOf r * S .capacity
 
-  tail : TailIs (S .columns) (stateOf h) (recordsOf h (rangeOf r)) (usedIn v (rangeOf r)) (λ i. recordIn v (rangeOf r * S .capacity + i)) (λ i. valueIn S v (rangeOf r * S .capacity + i))
+  tail : TailOf S (stateOf h) (recordsOf h (rangeOf r)) v (rangeOf r)
   tail = o .tails (rangeOf r) (in-range k r b)
 
   row : RowIs (stateOf h) (rowAt h r) (recordsOf h (rangeOf r)) r (rowIn v r)

@@ -1,12 +1,12 @@
 -- Insert keeps the relation: a row more, and its values in the current pages of its range.
 use mathlib.Core.Path.{_≡_, refl, sym, _∙_, ap, subst}
-use mathlib.Core.Logic.{_≢_, _⊎_, inl, inr}
+use mathlib.Core.Logic.{_≢_}
 use mathlib.Core.Bool.{false, _&&_}
 use mathlib.Core.List.{List, [], _∷_, _++_}
 use Prim.Native.Nat.{ℕ, zero, suc, _+_, _*_, _/_, _%_, _^_, _≤_, _<_}
 use native.Mathlib.Omega.{arith}
 use native.Mathlib.Nat.{le-refl, not-suc-le-zero}
-use native.Mathlib.Decide.{ℕ-discrete, decLt}
+use native.Mathlib.Decide.{ℕ-discrete}
 use lib.Dec.{T, eqb}
 use lib.ListN.{length, getD, set, length-append, length-set}
 use lib.Seq.{getD-set-same, getD-set-other, take-length}
@@ -34,7 +34,7 @@ use Rattle.model.specs.Reading.{scanPage, wasCurrent}
 use Rattle.model.specs.Writing.{noted, putCells, insertedAt, insertedIn}
 use Rattle.model.proofs.Lists.{same-part}
 use Rattle.model.proofs.Represents.{stateWord, RowIs, RowsAre, Holds, everyRow, CurrentIs, CurrentsAre, ScanPageIs, ScanPagesAre, NotesAre, Represents, Known, Whole}
-use Rattle.model.proofs.Holding.{withRow, row-new, row-old, rows-more, not-given, holds-step, holds-cells, holds-insert}
+use Rattle.model.proofs.Holding.{withRow, row-new, row-old, rows-more, not-given, other-row, holds-step, holds-cells, holds-insert}
 use Rattle.model.proofs.Steady.{waiting-step, scan-page-step, active-unseen}
 use Rattle.model.proofs.Views.{renew-whole, put-whole, header-put, header-same}
 use Rattle.model.proofs.Notes.{notes-more, few-changes, active-given}
@@ -190,24 +190,17 @@ module _ (S : Shape) (v : View) (ps : List Place) (h : History) (o : Represents 
       go (no f) =
           packed
           (holds-cells (λ i e q. cell-kept p (within i) (within-small i) (λ c′ w z. absurd (f (sym (current-apart S v h (o .currents) g c (rangeOf r) c′ b d inside w z .0)))))
-          (holds-step (k .past .order) step g c (pageIn v p) (omega (arith, rows-more h row)) (λ i e q. (tt, side i (λ z. f (ap rangeOf (sym z) ∙ e)))) (x .holds)))
+          (holds-step (k .past .order) step g c (pageIn v p) (λ i e q. (tt, other-row h row i (λ z. f (ap rangeOf (sym z) ∙ e)))) (x .holds)))
         where
           within-small : (i : ℕ) → within i < rangeRows
           within-small i = omega arith
-
-          side : (i : ℕ) → i ≢ r → (i < length (h .rows)) ⊎ (length (h′ .rows) ≤ i)
-          side i n = pick (decLt i r)
-            where
-              pick : Dec (i < r) → (i < length (h .rows)) ⊎ (length (h′ .rows) ≤ i)
-              pick (yes u) = inl u
-              pick (no u) = inr (omega (arith, rows-more h row, u, n))
 
   insert-scans : Step S h (insert t vs) h′ → ScanPagesAre S h′ v′
   unfolding insertedAt noted openPlace put renew pageIn cellIn currentIn scanPage wasCurrent scanAt Timely withRows
   insert-scans step i run g c b d =
       let p : ℕ = scanPage S v (scanAt h i .before) g c in
       let x : ScanPageIs S h (scanAt h i) g c p (pageIn v p) (cellIn v p) = o .scanPages i (unfold withRows in run) g c b d in
-      let y : ScanPageIs S h′ (scanAt h i) g c p (pageIn v p) (cellIn v p) = scan-page-step (k .past .order) step (k .past .timely i) (unfold withRows in le-refl _) x in
+      let y : ScanPageIs S h′ (scanAt h i) g c p (pageIn v p) (cellIn v p) = scan-page-step (k .past .order) step (k .past .timely i) x in
       record {
         inside = y .inside;
         early = y .early;
@@ -265,7 +258,7 @@ module _ (S : Shape) (v : View) (ps : List Place) (h : History) (o : Represents 
         rows = insert-rows;
         tails = o .tails;
         currents = insert-currents step;
-        waits = λ p b w. waiting-step step (le-refl _) (o .waits p b w);
+        waits = λ p b w. waiting-step step (o .waits p b w);
         pool = o .pool;
         scans = o .scans;
         scanPages = insert-scans step;

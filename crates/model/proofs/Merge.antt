@@ -25,10 +25,10 @@ use Rattle.words.proofs.Words.{Fit}
 use Rattle.loops.proofs.Change.{set-fit}
 use Rattle.layout.specs.View.{View}
 use Rattle.layout.specs.declared.Region.the-variants.{TailValues}
-use Rattle.model.specs.Stored.{recordIn, valueIn, usedIn, slot, within, committedState, settingKind}
+use Rattle.model.specs.Stored.{recordIn, valueIn, slot, within, committedState, settingKind}
 use Rattle.model.specs.Writing.{applies, applied, newestOf, anyOpen}
 use Rattle.model.proofs.Lists.{take-next, is-equal}
-use Rattle.model.proofs.Represents.{stateWord, ContentIs, RecordIs, TailIs, NotAfter}
+use Rattle.model.proofs.Represents.{stateWord, ContentIs, RecordIs, TailOf, NotAfter}
 use Rattle.model.proofs.Heads.{slot-is, open-word}
 
 committed-word : (s : State) → committedState (stateWord s) ≡ isCommitted s
@@ -50,7 +50,7 @@ setting-value C c (setting m vs) kind mask value d o t = o .2 c d t
 
 -- ---- the forward pass
 module _ (S : Shape) (v : View) (h : History) (g c p low : ℕ) (inside : c < S .columns)
-    (o : TailIs (S .columns) (stateOf h) (recordsOf h g) (usedIn v g) (λ k. recordIn v (g * S .capacity + k)) (λ k. valueIn S v (g * S .capacity + k))) where
+    (o : TailOf S (stateOf h) (recordsOf h g) v g) where
   abbrev recs : List Record
   recs = recordsOf h g
 

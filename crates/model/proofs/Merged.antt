@@ -19,7 +19,7 @@ use Rattle.history.proofs.Lists.{all-map, any-none, is-true, refuted, eqb-other
 use Rattle.history.proofs.Steps.{Step}
 use Rattle.history.proofs.States.{isClosed}
 use Rattle.history.proofs.Timely.{Timely}
-use Rattle.history.proofs.Pages.{Through, merge-through}
+use Rattle.history.proofs.Pages.{merged-append, Through, merge-through}
 use Rattle.loops.specs.Change.{copied}
 use Rattle.loops.proofs.Change.{changed-length, changed-outside, changed-at, changed-fit}
 use Rattle.layout.specs.View.{View, renew, put}
@@ -30,7 +30,7 @@ use Rattle.model.specs.Reading.{wasCurrent, scanPage}
 use Rattle.model.specs.Writing.{applied, newestOf, freeIn, mergedIn}
 use Rattle.model.specs.Calls.{openAmongIn}
 use Rattle.model.proofs.Lists.{one, count-from, from-snoc, first-is, first-only, first-ext, first-none, below-change, below-three, part-in, same-part, is-equal, same-truth}
-use Rattle.model.proofs.Represents.{Holds, NotAfter, everyRow, CurrentIs, CurrentsAre, WaitingIs, WaitingAre, madeIn, PoolIs, ScanPageIs, ScanPagesAre, Represents, Known, Whole}
+use Rattle.model.proofs.Represents.{Holds, NotAfter, everyRow, CurrentOf, CurrentsAre, WaitingIs, WaitingAre, madeIn, PoolIs, ScanPageIs, ScanPagesAre, Represents, Known, Whole}
 use Rattle.model.proofs.Holding.{holds-step, holds-cells, same-rows}
 use Rattle.model.proofs.Steady.{current-step, waiting-step, scan-page-step}
 use Rattle.model.proofs.Views.{renew-whole, put-whole, header-put, header-same}
@@ -80,7 +80,7 @@ pub open-among-is : (S : Shape) (v : View) (ps : List Place) (h : History) → R
     → openAmongIn S v g c n ≡ anyActive h g n
 unfolding openAmongIn anyActive
 open-among-is S v ps h o g c n a b above used =
-    let x : CurrentIs S h g c (currentIn S v g c) (pageIn v (currentIn S v g c)) (cellIn v (currentIn S v g c)) = o .currents g c a b in
+    let x : CurrentOf S h v g c = o .currents g c a b in
     let low : ℕ = (pageIn v (currentIn S v g c)) .lineage in
     let e : low + (n - low) ≡ n = omega (arith, x .lineage) in
     any-open-is S v h g c 0 low b (o .tails g a)
@@ -91,11 +91,6 @@ open-among-is S v ps h o g c n a b above used =
     shut : (s : State) → T (isClosed s) → T (not (isActive s))
     shut Rattle.history.specs.History.aborted q = unfold isActive in tt
     shut (committed s) q = unfold isActive in tt
-
-merged-last : (g c n : ℕ) (ms : List Merge) (m : Merge) → lastThrough g c n (ms ++ m ∷ []) ≡ cond (eqb (m .range) g && eqb (m .column) c) (m .through) (lastThrough g c n ms)
-unfolding lastThrough
-merged-last g c n [] m = refl
-merged-last g c n (x ∷ ms) m = merged-last g c _ ms m
 
 module _ (S : Shape) (v : View) (ps : List Place) (h : History) (o : Represents S v ps h) (k : Known S h) (g c n : ℕ) (bg : g < S .ranges) (bc : c < S .columns)
     (above : mergedThrough h g c < n) (used : n ≤ length (recordsOf h g)) (shut : All (λ (x : Record). stateOf h (x .transaction) ≢ active) (take n (recordsOf h g)))
@@ -124,7 +119,7 @@ module _ (S : Shape) (v : View) (ps : List Place) (h : History) (o : Represents 
   abbrev late : ℕ
   late = newestOf S v g c low (n - low) ((pageIn v (currentIn S v g c)) .newest)
 
-  now : CurrentIs S h g c (currentIn S v g c) (pageIn v (currentIn S v g c)) (cellIn v (currentIn S v g c))
+  now : CurrentOf S h v g c
   now = o .currents g c bg bc
 
   m-is : m ≡ suc (length (h .merges))
@@ -251,11 +246,11 @@ module _ (S : Shape) (v : View) (ps : List Place) (h : History) (o : Represents 
   -- ---- the current pages
   through-here : mergedThrough h′ g c ≡ n
   unfolding mergedThrough withMerges
-  through-here = merged-last g c 0 (h .merges) new ∙ rw (is-equal g g refl, is-equal c c refl)
+  through-here = merged-append g c 0 (h .merges) new ∙ rw (is-equal g g refl, is-equal c c refl)
 
   through-there : (a b : ℕ) → placeOf S a b ≢ placeOf S g c → mergedThrough h′ a b ≡ mergedThrough h a b
   unfolding mergedThrough withMerges
-  through-there a b f = merged-last a b 0 (h .merges) new ∙ ap (λ (q : Bool). cond q n (lastThrough a b 0 (h .merges))) (refuted (eqb g a && eqb c b) (λ t. f (same (parts (eqb g a) (eqb c b) t))))
+  through-there a b f = merged-append a b 0 (h .merges) new ∙ ap (λ (q : Bool). cond q n (lastThrough a b 0 (h .merges))) (refuted (eqb g a && eqb c b) (λ t. f (same (parts (eqb g a) (eqb c b) t))))
     where
       same : T (eqb g a) × T (eqb c b) → placeOf S a b ≡ placeOf S g c
       same t = ap (λ (i : ℕ). placeOf S i b) (sym (eqb→eq g a (t .0))) ∙ ap (placeOf S g) (sym (eqb→eq c b (t .1)))
@@ -271,7 +266,7 @@ module _ (S : Shape) (v : View) (ps : List Place) (h : History) (o : Represents 
   merge-currents : Step S h (merge g c n) h′ → CurrentsAre S h′ v′
   merge-currents step a b u w = go (ℕ-discrete (placeOf S a b) (placeOf S g c))
     where
-      go : Dec (placeOf S a b ≡ placeOf S g c) → CurrentIs S h′ a b (currentIn S v′ a b) (pageIn v′ (currentIn S v′ a b)) (cellIn v′ (currentIn S v′ a b))
+      go : Dec (placeOf S a b ≡ placeOf S g c) → CurrentOf S h′ v′ a b
       go (yes e) =
           let q : (a ≡ g) × (b ≡ c) = same-part (S .columns) a g b c w bc e in
           rw (q .0, q .1, current-here, page-free)
@@ -281,12 +276,12 @@ module _ (S : Shape) (v : View) (ps : List Place) (h : History) (o : Represents 
             place = refl;
             made = omega (arith, m-is, more-merges);
             lineage = sym through-here;
-            holds = holds-step (k .past .order) step g c _ (omega (arith, rows-same)) (λ r e u. (tt, same-rows (length (h .rows)) (length ((h′) .rows)) r rows-same)) new-holds;
+            holds = holds-step (k .past .order) step g c _ (λ r e u. (tt, same-rows (length (h .rows)) (length ((h′) .rows)) r rows-same)) new-holds;
           }
       go (no f) =
-          let x : CurrentIs S h a b (currentIn S v a b) (pageIn v (currentIn S v a b)) (cellIn v (currentIn S v a b)) = o .currents a b u w in
-          let y : CurrentIs S h′ a b (currentIn S v a b) (pageIn v (currentIn S v a b)) (cellIn v (currentIn S v a b)) =
-          current-step (k .past .order) step rows-same (through-there a b f) (omega (arith, more-merges)) x in
+          let x : CurrentOf S h v a b = o .currents a b u w in
+          let y : CurrentOf S h′ v a b =
+          current-step (k .past .order) step rows-same (through-there a b f) x in
           rw (current-there a b f, page-other (currentIn S v a b) (current-not-free a b u w) (current-not-old a b u w f))
           record {
             inside = y .inside;
@@ -331,7 +326,7 @@ module _ (S : Shape) (v : View) (ps : List Place) (h : History) (o : Represents 
           }
       go (no f) (no e) t =
           let x : WaitingIs S h (madeIn S v) (pageIn v q) = o .waits q b (rw (page-other q f e) at t) in
-          let y : WaitingIs S h′ (madeIn S v) (pageIn v q) = waiting-step step (omega (arith, more-merges)) x in
+          let y : WaitingIs S h′ (madeIn S v) (pageIn v q) = waiting-step step x in
           rw (page-other q f e)
           record {
             place = y .place;
@@ -475,7 +470,7 @@ module _ (S : Shape) (v : View) (ps : List Place) (h : History) (o : Represents 
   merge-scans step i t a d u w =
       let q : ℕ = scanPage S v (scanAt h i .before) a d in
       let x : ScanPageIs S h (scanAt h i) a d q (pageIn v q) (cellIn v q) = o .scanPages i t a d u w in
-      let y : ScanPageIs S h′ (scanAt h i) a d q (pageIn v q) (cellIn v q) = scan-page-step (k .past .order) step (k .past .timely i) (omega (arith, more-merges)) x in
+      let y : ScanPageIs S h′ (scanAt h i) a d q (pageIn v q) (cellIn v q) = scan-page-step (k .past .order) step (k .past .timely i) x in
       let e : scanPage S v′ (scanAt h i .before) a d ≡ q = scan-same (scanAt h i .before) a d u w (x .early) (x .made) in
       let f : q ≢ p = scan-not-free (scanAt h i .before) a d u w (x .made) in
       subst (λ (j : ℕ). ScanPageIs S h′ (scanAt h i) a d j (pageIn v′ j) (cellIn v′ j)) (sym e) (kept (scanAt h i) a d q f y (ℕ-discrete q old))

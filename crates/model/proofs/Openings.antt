@@ -1,23 +1,21 @@
 -- A running scan reads the pages that were current at its opening: no call makes it find another page, and no call writes a cell of a row that was given before.
 use mathlib.Core.Path.{_≡_, refl, sym, _∙_, ap, subst}
-use mathlib.Core.Logic.{_≢_}
 use mathlib.Core.Bool.{Bool, true, false, not, cond}
 use mathlib.Core.List.{List, [], _∷_}
 use Prim.Native.Nat.{ℕ, _*_, _≤_, _<_}
 use native.Mathlib.Omega.{arith}
-use native.Mathlib.Nat.{le-refl, le-trans}
-use native.Mathlib.Decide.{ℕ-discrete}
+use native.Mathlib.Nat.{le-trans}
 use lib.Dec.{T, eqb, nleb→lt}
-use lib.ListN.{length, length-append}
+use lib.ListN.{length}
 use lib.IntN.{ℤ}
 use lib.Bits.{bitOr}
 use Rattle.terms.specs.Measures.{Shape, rangeRows}
 use Rattle.history.specs.History as H
-use Rattle.history.specs.History.{Call, begin, insert, update, delete, commit, abort, latest, readAt, ownRead, openScan, scanRead, sum, close, merge, release, pageCell, lineage, History, Scan, Verdict, accept, refuse, verdict, tests, next, run, nth, change, stateOf, rangeOf, scanAt, stopped, withScans}
+use Rattle.history.specs.History.{Call, begin, insert, update, delete, commit, abort, latest, readAt, ownRead, openScan, scanRead, sum, close, merge, release, pageCell, lineage, History, Scan, Verdict, accept, refuse, verdict, tests, next, run, stateOf, rangeOf, scanAt, withScans}
 use Rattle.history.specs.Lists.{All, nil, cons}
-use Rattle.history.proofs.Lists.{nth-other, nth-changed, length-change}
+use Rattle.history.proofs.Lists.{nth-before}
 use Rattle.history.proofs.Accepted.{Passed, passed}
-use Rattle.history.proofs.Steps.{Step, nothing, began, rowGiven, recordsMade, closed, scanOpened, scanClosed, merged, released, next-step}
+use Rattle.history.proofs.Steps.{scanOpened, scanClosed, Step, nothing, newStates, rowGiven, recordsMade, newScans, newMerges, next-step}
 use Rattle.layout.specs.View.{View, renew, put}
 use Rattle.layout.specs.declared.Region.the-variants.{RowMask}
 use Rattle.terms.specs.declared.Place.{Place}
@@ -26,11 +24,11 @@ use Rattle.model.specs.Reading.{scanPage, wasCurrent}
 use Rattle.model.specs.Writing.{begun, noted, settled, freed, committedIn, abortedIn, insertedAt, insertedIn, appended, filledIn, newBitsIn, originalAppended, settingAppended, updatedIn, deletedIn, mergedIn, releasedIn}
 use Rattle.model.specs.Calls.{Typed, testsIn, actIn, viewIf, viewNext, placesNext, viewAfter}
 use Rattle.model.proofs.Lists.{same-part}
-use Rattle.model.proofs.Represents.{ScanPageIs, Represents, Known}
+use Rattle.model.proofs.Represents.{ScanPageOf, Represents, Known}
 use Rattle.model.proofs.Insert.{inside, cell-kept}
 use Rattle.model.proofs.Merged.{scan-same, scan-not-free, cells-other}
-use Rattle.model.proofs.Scans.{nth-before}
-use Rattle.model.proofs.Steady.{rows-grow}
+use Rattle.model.proofs.Holding.{grown}
+use Rattle.model.proofs.Steady.{still-running}
 use Rattle.model.proofs.Release.{scan-page-kept}
 use Rattle.model.proofs.Calls.{agree-verdict, tests-agree, active-of, column-lt, range-lt, above-of, none-active, page-room, merges-few, known-next, one-call}
 
@@ -53,7 +51,7 @@ module _ (S : Shape) (v : View) (ps : List Place) (h : History) (o : Represents 
   abbrev q : ℕ
   q = scanPage S v (scanAt h i .before) g c
 
-  page : ScanPageIs S h (scanAt h i) g c q (pageIn v q) (cellIn v q)
+  page : ScanPageOf S h v (scanAt h i) g c
   page = o .scanPages i run g c bg bc
 
   -- an insert writes the cell of a new row
@@ -135,44 +133,20 @@ module _ (S : Shape) (v : View) (ps : List Place) (h : History) (o : Represents 
 
 -- ---- a scan that runs later ran before, and is the same scan
 scan-before : {S : Shape} {x : Call} {h h′ : History} → Step S h x h′ → (i : ℕ) → i ≤ length (h .scans) → T (scanAt h′ i .running) → scanAt h′ i ≡ scanAt h i
-unfolding scanAt H.withRows H.withTail H.withTransactions withScans H.withMerges stopped
+unfolding scanAt H.withRows H.withTail H.withTransactions withScans H.withMerges
 scan-before nothing i b t = refl
-scan-before (began _ _) i b t = refl
+scan-before (newStates _) i b t = refl
 scan-before (rowGiven _ _ _ _) i b t = refl
 scan-before (recordsMade _ _ _ _ _) i b t = refl
-scan-before (closed _ _ _) i b t = refl
-scan-before {h = h} (scanOpened _ _ _) i b t = nth-before (h .scans) _ _ i (λ e. omega arith)
-scan-before {h = h} (scanClosed j run) i b t = go (ℕ-discrete i j)
-  where
-    none : Scan
-    none = record { running = false; stamp = 0; before = 0 }
-
-    running : nth (h .scans) j none ≢ none
-    running e = subst (λ (s : Scan). T (s .running)) e run
-
-    go : Dec (i ≡ j) → nth (change (h .scans) j (stopped (scanAt h j))) i none ≡ nth (h .scans) i none
-    go (yes e) = absurd (subst (λ (s : Scan). T (s .running)) (ap (λ (n : ℕ). nth (change (h .scans) j (stopped (scanAt h j))) n none) e ∙ nth-changed none (h .scans) j (stopped (scanAt h j)) running) t)
-    go (no f) = nth-other none (h .scans) j (stopped (scanAt h j)) i f
-scan-before (merged _ _ _ _ _ _ _ _ _) i b t = refl
-scan-before released i b t = refl
-
-scans-grow : {S : Shape} {x : Call} {h h′ : History} → Step S h x h′ → length (h .scans) ≤ length (h′ .scans)
-unfolding H.withRows H.withTail H.withTransactions withScans H.withMerges
-scans-grow nothing = le-refl _
-scans-grow (began _ _) = le-refl _
-scans-grow (rowGiven _ _ _ _) = le-refl _
-scans-grow (recordsMade _ _ _ _ _) = le-refl _
-scans-grow (closed _ _ _) = le-refl _
-scans-grow (scanOpened _ _ _) = simp length-append (omega arith)
-scans-grow {h = h} (scanClosed j run) = omega (arith, length-change (h .scans) j (stopped (scanAt h j)))
-scans-grow (merged _ _ _ _ _ _ _ _ _) = le-refl _
-scans-grow released = le-refl _
+scan-before {h = h} (newScans (scanOpened _ _ _)) i b t = nth-before _ (h .scans) _ i (λ e. omega arith)
+scan-before {h = h} (newScans (scanClosed j run)) i b t = still-running (h .scans) j i run t
+scan-before (newMerges _) i b t = refl
 
 ran-before : (S : Shape) (h : History) (cs : List Call) (i : ℕ) → i ≤ length (h .scans) → T (scanAt (run S h cs) i .running) → T (scanAt h i .running)
 unfolding run
 ran-before S h [] i b t = t
 ran-before S h (x ∷ cs) i b t =
-    let later : T (scanAt (next S h x) i .running) = ran-before S (next S h x) cs i (le-trans b (scans-grow (next-step S h x))) t in
+    let later : T (scanAt (next S h x) i .running) = ran-before S (next S h x) cs i (le-trans b (grown (next-step S h x) .scans)) t in
     subst (λ (s : Scan). T (s .running)) (scan-before (next-step S h x) i b later) later
 
 -- and is the scan that it was
@@ -180,7 +154,7 @@ pub scan-later : (S : Shape) (h : History) (cs : List Call) (i : ℕ) → i ≤ 
 unfolding run
 scan-later S h [] i b t = refl
 scan-later S h (x ∷ cs) i b t =
-    let c : i ≤ length ((next S h x) .scans) = le-trans b (scans-grow (next-step S h x)) in
+    let c : i ≤ length ((next S h x) .scans) = le-trans b (grown (next-step S h x) .scans) in
     scan-later S (next S h x) cs i c t ∙ scan-before (next-step S h x) i b (ran-before S (next S h x) cs i c t)
 
 pub same-after : (S : Shape) (v : View) (ps : List Place) (h : History) → Represents S v ps h → Known S h → (i : ℕ) → i ≤ length (h .scans) → {cs : List Call} → All Typed cs → T (scanAt (run S h cs) i .running)
@@ -190,15 +164,15 @@ same-after S v ps h o k i b nil t g c bg bc = unmoved S v _ _ g c
 same-after S v ps h o k i b (cons {x = x} {l = cs} y ys) t g c bg bc =
     let h₁ : History = next S h x in
     let s : Step S h x (next S h x) = next-step S h x in
-    let later : T (scanAt (next S h x) i .running) = ran-before S (next S h x) cs i (le-trans b (scans-grow s)) t in
+    let later : T (scanAt (next S h x) i .running) = ran-before S (next S h x) cs i (le-trans b (grown s .scans)) t in
     let e : scanAt (next S h x) i ≡ scanAt h i = scan-before s i b later in
     let first : SamePage S v (viewNext S v ps x) (scanAt h i .before) (length (h .rows)) g c = next-same S v ps h o k i (subst (λ (z : Scan). T (z .running)) e later) g c bg bc x y in
     let rest : SamePage S (viewNext S v ps x) (viewAfter S (viewNext S v ps x) (placesNext S v ps x) cs) (scanAt h i .before) (length (h₁ .rows)) g c =
     subst (λ (z : Scan). SamePage S (viewNext S v ps x) (viewAfter S (viewNext S v ps x) (placesNext S v ps x) cs) (z .before) (length (h₁ .rows)) g c) e
-    (same-after S (viewNext S v ps x) (placesNext S v ps x) (next S h x) (one-call S v ps h x y o k .1) (known-next x k) i (le-trans b (scans-grow s)) ys t g c bg bc) in
+    (same-after S (viewNext S v ps x) (placesNext S v ps x) (next S h x) (one-call S v ps h x y o k .1) (known-next x k) i (le-trans b (grown s .scans)) ys t g c bg bc) in
     record {
       page = rest .page ∙ first .page;
       cells = λ r u f.
-          subst (λ (q : ℕ). cellIn (viewAfter S (viewNext S v ps x) (placesNext S v ps x) cs) q (within r) ≡ cellIn (viewNext S v ps x) q (within r)) (first .page) (rest .cells r (le-trans u (rows-grow s)) f)
+          subst (λ (q : ℕ). cellIn (viewAfter S (viewNext S v ps x) (placesNext S v ps x) cs) q (within r) ≡ cellIn (viewNext S v ps x) q (within r)) (first .page) (rest .cells r (le-trans u (grown s .rows)) f)
           ∙ first .cells r u f;
     }

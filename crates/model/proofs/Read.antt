@@ -26,10 +26,10 @@ use Rattle.history.proofs.Endings.{original-reads, originals-of}
 use Rattle.layout.specs.View.{View}
 use Rattle.terms.specs.declared.Place.{Place}
 use Rattle.model.specs.declared.Walk.{Walk}
-use Rattle.model.specs.Stored.{PageWords, rowIn, recordIn, valueIn, pageIn, cellIn, usedIn, within, originalKind, settingKind}
+use Rattle.model.specs.Stored.{PageWords, rowIn, recordIn, valueIn, pageIn, cellIn, within, originalKind, settingKind}
 use Rattle.model.specs.Reading.{sees, answersFor, walk, orElse, belowLineage, wordIn, readIn}
 use Rattle.model.proofs.Lists.{true-false, take-next}
-use Rattle.model.proofs.Represents.{stateWord, ContentIs, RecordIs, TailIs, Holds, Represents, Known}
+use Rattle.model.proofs.Represents.{stateWord, ContentIs, RecordIs, TailOf, Holds, Represents, Known}
 use Rattle.model.proofs.Heads.{slot-is, in-range, SeesAs, visible-is}
 
 -- ---- one record
@@ -62,7 +62,7 @@ last-le l r n = go (lastOf l r n) refl
 
 -- ---- the walk
 module _ (S : Shape) (v : View) (h : History) (i : InOrder h) (g r c t me : ℕ) (f : ℕ → Bool) (w : SeesAs h t me f) (here : rangeOf r ≡ g) (inside : c < S .columns)
-    (o : TailIs (S .columns) (stateOf h) (recordsOf h g) (usedIn v g) (λ k. recordIn v (g * S .capacity + k)) (λ k. valueIn S v (g * S .capacity + k))) where
+    (o : TailOf S (stateOf h) (recordsOf h g) v g) where
   abbrev recs : List Record
   recs = recordsOf h g
 
@@ -176,7 +176,7 @@ module _ (S : Shape) (v : View) (ps : List Place) (h : History) (o : Represents 
   abbrev cell : ℕ
   cell = cellIn v p (within r)
 
-  lok : TailIs (S .columns) (stateOf h) (recordsOf h (rangeOf r)) (usedIn v (rangeOf r)) (λ k. recordIn v (rangeOf r * S .capacity + k)) (λ k. valueIn S v (rangeOf r * S .capacity + k))
+  lok : TailOf S (stateOf h) (recordsOf h (rangeOf r)) v (rangeOf r)
   lok = o .tails (rangeOf r) (in-range k r b)
 
   cell-is : Q r → toZ w32 cell ≡ lastSetting (λ k. isCommitted (stateOf h k)) r c (inserted h r c) (take (page .lineage) list) .value

@@ -26,7 +26,7 @@ use Rattle.model.specs.Stored.{RowWords, RecordWords, rowIn, recordIn, v
 use Rattle.model.specs.Reading.{scanPage, wasCurrent}
 use Rattle.model.specs.Writing.{noted, nextSlot, appended, filledIn, deletedIn}
 use Rattle.model.proofs.Lists.{eqb-same}
-use Rattle.model.proofs.Represents.{stateWord, RowIs, ContentIs, RecordIs, TailIs, TailsFor, TailsAre, NotesAre, Represents, Known, Whole}
+use Rattle.model.proofs.Represents.{stateWord, RowIs, ContentIs, RecordIs, TailOf, TailsFor, TailsAre, NotesAre, Represents, Known, Whole}
 use Rattle.model.proofs.Steady.{currents-stay, waits-stay, scan-stays}
 use Rattle.model.proofs.Views.{put-whole}
 use Rattle.model.proofs.Notes.{notes-more, few-changes, active-given}
@@ -66,7 +66,7 @@ module _ (S : Shape) (v : View) (ps : List Place) (h : History) (o : Represents 
 
   pub tails-are : (x : View) → TailsFor S (stateOf h) list x → TailsAre S h′ x
   unfolding stateOf withTail
-  tails-are x f g u = subst (λ (l : List Record). TailIs (S .columns) (stateOf h) l (usedIn x g) (λ k. recordIn x (g * S .capacity + k)) (λ k. valueIn S x (g * S .capacity + k))) (sym (records-made h g new)) (f g u)
+  tails-are x f g u = subst (λ (l : List Record). TailOf S (stateOf h) l x g) (sym (records-made h g new)) (f g u)
 
   others : (i : ℕ) → i ≢ r → All (λ (x : Record). x .row ≢ i) ms
   others i n = all-map (λ x p e. n (sym e ∙ p .row)) new

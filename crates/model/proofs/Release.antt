@@ -13,6 +13,7 @@ use Rattle.history.specs.History.{release, History, Scan, Merge, any, nth, stat
 use Rattle.history.proofs.Lists.{is-true, refuted, parts, both}
 use Rattle.history.proofs.Steps.{Step}
 use Rattle.history.proofs.Timely.{Timely}
+use Rattle.history.proofs.Merges.{length-released}
 use Rattle.history.proofs.Pages.{lineage-step, lineage-stays}
 use Rattle.loops.specs.Change.{changed}
 use Rattle.loops.proofs.Change.{changed-length, changed-at, changed-fit}
@@ -23,7 +24,7 @@ use Rattle.model.specs.Stored.{PageWords, rowIn, recordIn, valueIn, page
 use Rattle.model.specs.Reading.{wasCurrent, scanPage}
 use Rattle.model.specs.Writing.{neededIn, releasable, releasedIn}
 use Rattle.model.proofs.Lists.{clash, true-false, countFrom, any-count, from-count, count-ext, first-ext, below-ext, same-truth}
-use Rattle.model.proofs.Represents.{CurrentIs, CurrentsAre, WaitingIs, WaitingAre, PoolIs, ScanPageIs, ScanPagesAre, ScansAre, madeIn, Represents, Known, Whole}
+use Rattle.model.proofs.Represents.{CurrentIs, CurrentOf, CurrentsAre, WaitingIs, WaitingAre, PoolIs, ScanPageIs, ScanPagesAre, ScansAre, madeIn, Represents, Known, Whole}
 use Rattle.model.proofs.Steady.{current-step, waiting-step, scan-page-step}
 use Rattle.model.proofs.Views.{renew-whole, header-same}
 use Rattle.model.proofs.Scans.{scan-current}
@@ -64,11 +65,6 @@ freed-count : (ss : List Scan) (ps : List Place) → ScansAre ss ps → (i : ℕ
 unfolding releasedCount
 freed-count ss ps o i [] = refl
 freed-count ss ps o i (m ∷ ms) = rw (needed-is ss ps o i, freed-count ss ps o (suc i) ms)
-
-after-length : (ss : List Scan) (i : ℕ) (ms : List Merge) → length (afterRelease ss i ms) ≡ length ms
-unfolding afterRelease
-after-length ss i [] = refl
-after-length ss i (m ∷ ms) = ap suc (after-length ss (suc i) ms)
 
 any-nth : {A : Type 0} (f : A → Bool) (l : List A) (k : ℕ) (d : A) → f d ≡ false → T (f (nth l k d)) → T (any f l)
 any-nth f l zero d e t = absurd (rw e at t)
@@ -174,7 +170,7 @@ module _ (S : Shape) (v : View) (ps : List Place) (h : History) (o : Represents 
   -- ---- the parts
   merges-same : length ((h′) .merges) ≡ length (h .merges)
   unfolding withMerges
-  merges-same = after-length (h .scans) 0 (h .merges)
+  merges-same = length-released (h .scans) 0 (h .merges)
 
   through-same : Step S h release h′ → (a b : ℕ) → mergedThrough h′ a b ≡ mergedThrough h a b
   through-same step a b = lineage-stays (lineage-step a b step) (λ n e. clash (cc))
@@ -182,9 +178,9 @@ module _ (S : Shape) (v : View) (ps : List Place) (h : History) (o : Represents 
   release-currents : Step S h release h′ → CurrentsAre S h′ v′
   unfolding currentIn cellIn releasedIn renew
   release-currents step a b u w =
-      let x : CurrentIs S h a b (currentIn S v a b) (pageIn v (currentIn S v a b)) (cellIn v (currentIn S v a b)) = o .currents a b u w in
+      let x : CurrentOf S h v a b = o .currents a b u w in
       subst (λ (y : PageWords). CurrentIs S h′ a b (currentIn S v a b) y (cellIn v (currentIn S v a b))) (sym (page-kept (currentIn S v a b) (x .inside) (current-kept a b u w)))
-      (current-step (k .past .order) step (unfold withMerges in refl) (through-same step a b) (omega (arith, merges-same)) x)
+      (current-step (k .past .order) step (unfold withMerges in refl) (through-same step a b) x)
 
   release-waits : Step S h release h′ → WaitingAre S h′ v′
   release-waits step q b t = go (releasable ps v q) refl
@@ -196,7 +192,7 @@ module _ (S : Shape) (v : View) (ps : List Place) (h : History) (o : Represents 
       go true e = absurd (omega (arith, ltb→lt 1 ((pageIn v′ q) .state) t, state-after q b, ap (λ (z : Bool). cond z asFree ((pageIn v q) .state)) e))
       go false e =
           let x : WaitingIs S h (madeIn S v) (pageIn v q) = o .waits q b (subst (λ (y : PageWords). T (waitingPage (y .state))) (page-kept q b e) t) in
-          let y : WaitingIs S h′ (madeIn S v) (pageIn v q) = waiting-step step (omega (arith, merges-same)) x in
+          let y : WaitingIs S h′ (madeIn S v) (pageIn v q) = waiting-step step x in
           subst (λ (z : PageWords). WaitingIs S h′ (madeIn S v′) z) (sym (page-kept q b e))
           record { place = y .place; rises = y .rises; replaced-by = y .replaced-by; early = λ a d u w z. omega (arith, y .early a d u w z, same-made a d); reach = y .reach; stamped = y .stamped }
 
@@ -233,7 +229,7 @@ module _ (S : Shape) (v : View) (ps : List Place) (h : History) (o : Represents 
   release-scans step i t a d u w =
       let q : ℕ = scanPage S v (scanAt h i .before) a d in
       let x : ScanPageIs S h (scanAt h i) a d q (pageIn v q) (cellIn v q) = o .scanPages i t a d u w in
-      let y : ScanPageIs S h′ (scanAt h i) a d q (pageIn v q) (cellIn v q) = scan-page-step (k .past .order) step (k .past .timely i) (omega (arith, merges-same)) x in
+      let y : ScanPageIs S h′ (scanAt h i) a d q (pageIn v q) (cellIn v q) = scan-page-step (k .past .order) step (k .past .timely i) x in
       subst (λ (j : ℕ). ScanPageIs S h′ (scanAt h i) a d j (pageIn v′ j) (cellIn v′ j)) (sym (scan-page-kept i a d t))
       (subst (λ (z : PageWords). ScanPageIs S h′ (scanAt h i) a d q z (cellIn v′ q)) (sym (page-kept q (x .inside) (scan-releasable i a d u w t (x .made)))) (same-cells (scanAt h i) a d q y))
     where

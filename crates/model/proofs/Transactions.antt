@@ -31,7 +31,7 @@ use Rattle.model.specs.Reading.{scanPage, wasCurrent}
 use Rattle.model.specs.Writing.{begun, markTails, settled, freed, committedIn, abortedIn}
 use Rattle.model.proofs.Lists.{clash, same-truth, any-count, place-lt, place-is, part-in, is-equal}
 use Rattle.model.proofs.Book.{book-is, book-room, book-add, book-drop, book-only}
-use Rattle.model.proofs.Represents.{stateWord, RowIs, RecordIs, TailIs, RowsAre, TailsAre, OpensAre, Unchanged, NotedIs, NotesAre, Represents, Known, Whole}
+use Rattle.model.proofs.Represents.{stateWord, RowIs, RecordIs, TailOf, RowsAre, TailsAre, OpensAre, Unchanged, NotedIs, NotesAre, Represents, Known, Whole}
 use Rattle.model.proofs.Views.{renew-whole, put-whole, header-put, header-same}
 use Rattle.model.proofs.Steady.{currents-stay, waits-stay, scan-stays}
 
@@ -145,7 +145,7 @@ module _ (S : Shape) (v : View) (ps : List Place) (h : History) (o : Represents 
   begun-tails : TailsAre S begunHistory v
   unfolding recordsOf withTransactions
   begun-tails g b =
-      let t : TailIs (S .columns) (stateOf h) (recordsOf h g) (usedIn v g) (λ k. recordIn v (g * S .capacity + k)) (λ k. valueIn S v (g * S .capacity + k)) = o .tails g b in
+      let t : TailOf S (stateOf h) (recordsOf h g) v g = o .tails g b in
       record {
         used-all = t .used-all;
         each = λ i u. record-states {st = stateOf h} {st′ = stateOf begunHistory} (begun-state _ (placed-at h g (k .past .order) i noRecord u .giver)) (t .each i u);
@@ -305,7 +305,7 @@ module _ (S : Shape) (v : View) (ps : List Place) (h : History) (o : Represents 
   closed-tails : TailsAre S closedHistory marks
   unfolding stateOf recordsOf withTransactions settled renew recordIn valueIn
   closed-tails g b =
-      let y : TailIs (S .columns) (stateOf h) (recordsOf h g) (usedIn v g) (λ i. recordIn v (g * S .capacity + i)) (λ i. valueIn S v (g * S .capacity + i)) = o .tails g b in
+      let y : TailOf S (stateOf h) (recordsOf h g) v g = o .tails g b in
       record {
         used-all = y .used-all;
         each = λ i u.

@@ -46,7 +46,7 @@ released-fewer ss i (m ∷ ms) = omega (
     fewer true false = omega arith
     fewer false b = omega arith
 
-closing-inactive : {h : History} {x : State} {s : ℕ} → Closing h x s → isActive x ≡ false
+pub closing-inactive : {h : History} {x : State} {s : ℕ} → Closing h x s → isActive x ≡ false
 unfolding isActive
 closing-inactive (by-commit b) = refl
 closing-inactive by-abort = refl

@@ -1,16 +1,17 @@
 -- Places that bear the numbers of what is live in a list of the history: the open transactions, the open scans. The relation is one equation of counts for
 -- every test q, so that membership, the limits, that numbers differ, and what stands in the place found are read off by a choice of q.
 use mathlib.Core.Path.{_≡_, refl, sym, _∙_, ap, fun-ext}
-use mathlib.Core.Bool.{Bool, true, false, not, cond, _&&_, and-false, and-true}
+use mathlib.Core.Bool.{Bool, true, false, not, _&&_, and-false, and-true}
 use mathlib.Core.List.{List, [], _∷_, _++_}
 use Prim.Native.Nat.{ℕ, zero, suc, _+_, _≤_, _<_}
 use native.Mathlib.Omega.{arith}
-use lib.Dec.{T, ltb, eqb, eqb→eq, eqb·suc-zero}
+use native.Mathlib.Decide.{ℕ-discrete}
+use lib.Dec.{T, ltb, eqb, eqb·suc-zero}
 use lib.ListN.{length, getD, set}
 use Rattle.history.specs.History.{any, count, nth, change}
-use Rattle.history.proofs.Lists.{is-true, eqb-other}
+use Rattle.history.proofs.Lists.{by-cases, cond-suc, eqb-same, is-true, eqb-other}
 use Rattle.terms.specs.Places.{place, bears}
-use Rattle.model.proofs.Lists.{one, countFrom, count-set, any-count, count-rest, count-from, from-snoc, from-set, from-none, from-at, place-lt, place-is, count-pos, eqb-same}
+use Rattle.model.proofs.Lists.{one, countFrom, count-set, any-count, count-rest, count-from, from-snoc, from-set, from-none, from-at, place-lt, place-is, count-pos}
 
 one-pos : (b : Bool) → ltb 0 (one b) ≡ b
 one-pos true = refl
@@ -97,40 +98,24 @@ module _ {P A : Type 0} (number : P → ℕ) (live : A → Bool) (as′ : ℕ �
       let p : P = getD l (place (bearing t) l) free in
       let w : ℕ = f (as′ t (nth ts t none)) in
       let a : T (any (bearing t) l) = rw (book-is ts l o t) v in
-      let e : count (λ p. not (eqb (number p) 0) && (not (eqb (f p) w) && eqb (number p) t)) l ≡ 0 =
+      let g : P → Bool = λ p. not (eqb (number p) 0) && (not (eqb (f p) w) && eqb (number p) t) in
+      let e : count g l ≡ 0 =
       book-at ts l o t (λ p. not (eqb (f p) w))
       ∙ one-zero (live (nth ts t none) && not (eqb w w)) (rw (eqb-same w, and-false (live (nth ts t none)))) in
-      go (eqb (f p) w) refl (place-is (bearing t) l free a) (place-lt (bearing t) l a) e
-    where
-      none-there : (g : P → Bool) (l : List P) (i : ℕ) → i < length l → T (g (getD l i free)) → count g l ≡ 0 → ⊥
-      none-there g l i b t e = omega (arith, count-pos g l i free b t, e)
-
-      go : (b : Bool) → eqb (f (getD l (place (bearing t) l) free)) (f (as′ t (nth ts t none))) ≡ b
-          → T (bearing t (getD l (place (bearing t) l) free)) → place (bearing t) l < length l
-          → count (λ p. not (eqb (number p) 0) && (not (eqb (f p) (f (as′ t (nth ts t none)))) && eqb (number p) t)) l ≡ 0
-          → f (getD l (place (bearing t) l) free) ≡ f (as′ t (nth ts t none))
-      go true e u b z = eqb→eq _ _ (rw e tt)
-      go false e u b z = absurd (none-there _ l (place (bearing t) l) b (rw e u) z)
+      by-cases (ℕ-discrete (f p) w) (λ q. q)
+      (λ n. absurd (omega (arith, e, count-pos g l (place (bearing t) l) free (place-lt (bearing t) l a) (rw (eqb-other (f p) w n) (place-is (bearing t) l free a)))))
 
   -- no other place bears the number
   pub book-only : (ts : List A) (l : List P) → Book ts l → (t i j : ℕ) → i < j → j < length l → T (bearing t (getD l i free))
       → T (bearing t (getD l j free)) → ⊥
   book-only ts l o t i j a b p q =
-      omega (arith, twice (bearing t) l i j a b p q, least (live (nth ts t none)), book-at ts l o t (λ p. true))
+      omega (arith, twice (bearing t) l i j a b p q, elim (live (nth ts t none)) as (λ b. one (b && true) ≤ 1) [ true ↦ omega arith | false ↦ omega arith ], book-at ts l o t (λ p. true))
     where
-      least : (b : Bool) → one (b && true) ≤ 1
-      least true = omega arith
-      least false = omega arith
-
       twice : (g : P → Bool) (l : List P) (i j : ℕ) → i < j → j < length l → T (g (getD l i free)) → T (g (getD l j free)) → 1 < count g l
       twice g [] i j a b p q = absurd (omega arith)
       twice g (x ∷ l) i zero a b p q = absurd (omega arith)
       twice g (x ∷ l) zero (suc j) a b p q = rw (is-true (g x) p) (omega (arith, count-pos g l j free (omega arith) q))
-      twice g (x ∷ l) (suc i) (suc j) a b p q = go (g x) (twice g l i j (omega arith) (omega arith) p q)
-        where
-          go : (b : Bool) → 1 < count g l → 1 < cond b (suc (count g l)) (count g l)
-          go true c = omega arith
-          go false c = c
+      twice g (x ∷ l) (suc i) (suc j) a b p q = omega (arith, cond-suc (g x) (count g l), twice g l i j (omega arith) (omega arith) p q)
 
   pub book-drop : (ts : List A) (l : List P) → Book ts l → (t : ℕ) → T (live (nth ts t none)) → (s : A) → live s ≡ false
       → Book (change ts t s) (set l (place (bearing t) l) free)

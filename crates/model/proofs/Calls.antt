@@ -12,11 +12,12 @@ use lib.IntN.{ℤ, _+ℤ_, +ℤ-assoc, +ℤ-idl, +ℤ-idr}
 use mir.Syntax.{w32}
 use mir.Val.{toZ}
 use Rattle.terms.specs.Measures.{Shape, rangeRows, mostNumbers, mostScans}
+use Rattle.terms.specs.declared.Refusal.{Refusal}
 use Rattle.terms.specs.declared.Answer.{Answer}
 use Rattle.history.specs.History as H
-use Rattle.history.specs.History.{Call, begin, insert, update, delete, commit, abort, latest, readAt, ownRead, openScan, scanRead, sum, close, merge, release, pageCell, lineage, History, Record, active, Test, Verdict, accept, refuse, verdict, tests, reply, effect, answer, next, answerIf, nextIf, any, keep, count, upTo, total, isActive, stateOf, rowAt, rangeOf, recordsOf, mergedThrough, seenAt, seenBy, ended, visible, versionOf, read, scanAt, inserted, lastSetting, cellValue, notActive, notRunning, notGiven, noColumn, noRange, lacksRecords, notLater, later, outOfReach, anyActive, noPage, cellThrough}
+use Rattle.history.specs.History.{Call, begin, insert, update, delete, commit, abort, latest, readAt, ownRead, openScan, scanRead, sum, close, merge, release, pageCell, lineage, History, Record, active, Test, _when_, Verdict, accept, refuse, verdict, tests, reply, effect, answer, next, answerIf, nextIf, any, keep, count, upTo, total, isActive, stateOf, rowAt, rangeOf, recordsOf, mergedThrough, seenAt, seenBy, ended, visible, versionOf, read, scanAt, inserted, lastSetting, cellValue, notActive, notRunning, notGiven, noColumn, noRange, lacksRecords, notLater, later, outOfReach, anyActive, noPage, cellThrough}
 use Rattle.history.specs.Lists.{All}
-use Rattle.history.proofs.Lists.{all-map, all-at, keep-append, any-agree, not-not, neither, parts, eqb-other}
+use Rattle.history.proofs.Lists.{by-test, clash, all-map, all-at, keep-append, any-agree, not-not, neither, parts, eqb-other}
 use Rattle.history.proofs.Accepted.{Passed, passed}
 use Rattle.history.proofs.Steps.{step, active-is, by-update, by-delete, made-new}
 use Rattle.history.proofs.Ranges.{last-agree}
@@ -30,7 +31,6 @@ use Rattle.terms.specs.Places.{bears, place}
 use Rattle.model.specs.Stored.{cellIn, currentIn, usedIn, headerIn, within, rowsGiven, lastStamp, openPlace, scanPlace, pagesOf}
 use Rattle.model.specs.Reading.{readIn, readCurrent, ownChanges, wordIn, scanPage, Tally, tally, sumIn}
 use Rattle.model.specs.Calls.{testsIn, replyIn, actIn, placesAfter, viewIf, placesIf, say, viewNext, placesNext, notOpenIn, noScanIn, notGivenIn, lacksIn, notLaterIn, laterIn, outOfReachIn, Typed}
-use Rattle.model.proofs.Lists.{clash}
 use Rattle.model.proofs.Represents.{everyRow, CurrentOf, Unchanged, scanAs, Represents, Known}
 use Rattle.model.proofs.Transactions.{opens-is, opens-full, open-there, begin-kept, commit-kept, abort-kept}
 use Rattle.model.proofs.Insert.{insert-kept}
@@ -43,22 +43,15 @@ use Rattle.model.proofs.Merged.{free-is, open-among-is, merge-kept}
 use Rattle.model.proofs.Release.{release-count, release-kept}
 
 -- ---- tests that agree as far as they are run: each has the other's outcome, if those before it passed
-abbrev pub Agree : List Test → List Test → Type 0
-Agree [] [] = Unit {0}
-Agree [] (u ∷ us) = ⊥
-Agree (t ∷ ts) [] = ⊥
-Agree (t ∷ ts) (u ∷ us) = (t .refusal ≡ u .refusal) × (t .fails ≡ u .fails) × (T (not (u .fails)) → Agree ts us)
+pub data Agree : List Test → List Test → Type 0 where
+  done : Agree [] []
+  test : {n : Refusal} {a b : Bool} {ts us : List Test} → a ≡ b → (T (not b) → Agree ts us) → Agree (n when a ∷ ts) (n when b ∷ us)
 
-pub agree-verdict : (ts us : List Test) → Agree ts us → verdict ts ≡ verdict us
+pub agree-verdict : {ts us : List Test} → Agree ts us → verdict ts ≡ verdict us
 unfolding verdict
-agree-verdict [] [] a = refl
-agree-verdict [] (u ∷ us) a = absurd a
-agree-verdict (t ∷ ts) [] a = absurd a
-agree-verdict (t ∷ ts) (u ∷ us) a = rw (a .0, a .1) (go (u .fails) (λ n. agree-verdict ts us (a .2 n)))
-  where
-    go : (b : Bool) → (T (not b) → verdict ts ≡ verdict us) → cond b (refuse (u .refusal)) (verdict ts) ≡ cond b (refuse (u .refusal)) (verdict us)
-    go true f = refl
-    go false f = f tt
+agree-verdict done = refl
+agree-verdict (test {n} {b = b} {ts} {us} e f) = rw e
+    (by-test (λ z. cond z (refuse n) (verdict ts) ≡ cond z (refuse n) (verdict us)) b (λ _. refl) (λ u. agree-verdict (f u)))
 
 -- the merges' counter is far from going round
 pub merges-few : {S : Shape} {h : History} → Known S h → suc (length (h .merges)) < 2 ^ 32
@@ -155,79 +148,37 @@ module _ (S : Shape) (v : View) (ps : List Place) (h : History) (o : Represents 
 
   pub tests-agree : (c : Call) → Agree (testsIn S v ps c) (tests S h c)
   unfolding testsIn tests H.allActive H.allGiven H.allRunning
-  tests-agree begin = (refl, ap (leb mostNumbers) (o .header .transactions-given), λ p. (refl, opens-full (h .transactions) (v Opens) (o .whole .long Opens) (o .opens), λ q. tt))
-  tests-agree (insert t vs) = (refl, open-is t, λ p. (refl, ap (leb (S .ranges * rangeRows)) (o .header .rows-given), λ q. tt))
-  tests-agree (update t r m vs) = (
-    refl,
-    open-is t,
-    λ p. (
-      refl,
-      given-is r,
-      λ u. (
-        refl,
-        refl,
-        λ n. (
-          refl,
-          held-is S v ps h o k r (given-lt r u) t,
-          λ f. (
-            refl,
-            gone-is S v ps h o k r (given-lt r u) t (active-of t p) f,
-            λ q. (refl, lacks-is r _ _ (given-lt r u) (wanted-is S v ps h o k r m (given-lt r u) n t vs), λ z. tt),
-          ),
-        ),
-      ),
-    ),
-  )
-  tests-agree (delete t r) = (
-    refl,
-    open-is t,
-    λ p. (
-      refl,
-      given-is r,
-      λ u. (
-        refl,
-        held-is S v ps h o k r (given-lt r u) t,
-        λ f. (
-          refl,
-          gone-is S v ps h o k r (given-lt r u) t (active-of t p) f,
-          λ q. (refl, lacks-is r 1 1 (given-lt r u) refl, λ z. tt),
-        ),
-      ),
-    ),
-  )
-  tests-agree (commit t s) = (refl, open-is t, λ p. (refl, not-later-is s, λ q. tt))
-  tests-agree (abort t) = (refl, open-is t, λ p. tt)
-  tests-agree (latest r c) = (refl, given-is r, λ p. (refl, refl, λ q. tt))
-  tests-agree (readAt s r c) = (refl, later-is s, λ z. (refl, given-is r, λ p. (refl, refl, λ q. tt)))
-  tests-agree (ownRead t r c) = (refl, open-is t, λ z. (refl, given-is r, λ p. (refl, refl, λ q. tt)))
-  tests-agree (openScan s) = (
-    refl,
-    later-is s,
-    λ z. (refl, ap (leb mostNumbers) (o .header .scans-given), λ p. (refl, ap (leb mostScans) (scan-count (h .scans) ps (o .scans)), λ q. tt)),
-  )
-  tests-agree (scanRead i r c) = (refl, scan-running i, λ z. (refl, given-is r, λ p. (refl, refl, λ q. tt)))
-  tests-agree (sum i c) = (refl, scan-running i, λ z. (refl, refl, λ q. tt))
-  tests-agree (close i) = (refl, scan-running i, λ z. tt)
-  tests-agree (merge g c n) = (
-    refl,
-    refl,
-    λ p. (
-      refl,
-      refl,
-      λ q. (
-        refl,
-        reach-is g c n (range-lt g p) (column-lt c q),
-        λ z. (
-          refl,
-          open-among-is S v ps h o g c n (range-lt g p) (column-lt c q) (above-of g c n z .0) (above-of g c n z .1),
-          λ w. (refl, no-page-is, λ y. tt),
-        ),
-      ),
-    ),
-  )
-  tests-agree release = tt
-  tests-agree (pageCell c r) = (refl, refl, λ p. (refl, given-is r, λ q. tt))
-  tests-agree (lineage g c) = (refl, refl, λ p. (refl, refl, λ q. tt))
+  tests-agree begin =
+      test (ap (leb mostNumbers) (o .header .transactions-given)) (λ p. test (opens-full (h .transactions) (v Opens) (o .whole .long Opens) (o .opens)) (λ q. done))
+  tests-agree (insert t vs) = test (open-is t) (λ p. test (ap (leb (S .ranges * rangeRows)) (o .header .rows-given)) (λ q. done))
+  tests-agree (update t r m vs) =
+      test (open-is t) (λ p. test (given-is r) (λ u. test refl (λ n.
+      test (held-is S v ps h o k r (given-lt r u) t) (λ f.
+      test (gone-is S v ps h o k r (given-lt r u) t (active-of t p) f) (λ q.
+      test (lacks-is r _ _ (given-lt r u) (wanted-is S v ps h o k r m (given-lt r u) n t vs)) (λ z. done))))))
+  tests-agree (delete t r) =
+      test (open-is t) (λ p. test (given-is r) (λ u.
+      test (held-is S v ps h o k r (given-lt r u) t) (λ f.
+      test (gone-is S v ps h o k r (given-lt r u) t (active-of t p) f) (λ q.
+      test (lacks-is r 1 1 (given-lt r u) refl) (λ z. done)))))
+  tests-agree (commit t s) = test (open-is t) (λ p. test (not-later-is s) (λ q. done))
+  tests-agree (abort t) = test (open-is t) (λ p. done)
+  tests-agree (latest r c) = test (given-is r) (λ p. test refl (λ q. done))
+  tests-agree (readAt s r c) = test (later-is s) (λ z. test (given-is r) (λ p. test refl (λ q. done)))
+  tests-agree (ownRead t r c) = test (open-is t) (λ z. test (given-is r) (λ p. test refl (λ q. done)))
+  tests-agree (openScan s) =
+      test (later-is s) (λ z. test (ap (leb mostNumbers) (o .header .scans-given)) (λ p. test (ap (leb mostScans) (scan-count (h .scans) ps (o .scans))) (λ q. done)))
+  tests-agree (scanRead i r c) = test (scan-running i) (λ z. test (given-is r) (λ p. test refl (λ q. done)))
+  tests-agree (sum i c) = test (scan-running i) (λ z. test refl (λ q. done))
+  tests-agree (close i) = test (scan-running i) (λ z. done)
+  tests-agree (merge g c n) =
+      test refl (λ p. test refl (λ q.
+      test (reach-is g c n (range-lt g p) (column-lt c q)) (λ z.
+      test (open-among-is S v ps h o g c n (range-lt g p) (column-lt c q) (above-of g c n z .0) (above-of g c n z .1)) (λ w.
+      test no-page-is (λ y. done)))))
+  tests-agree release = done
+  tests-agree (pageCell c r) = test refl (λ p. test (given-is r) (λ q. done))
+  tests-agree (lineage g c) = test refl (λ p. test refl (λ q. done))
 
   -- ---- the answers
   pub current-read : (t me r c : ℕ) (f : ℕ → Bool) → SeesAs h t me f → r < length (h .rows) → c < S .columns → readCurrent S v t me r c ≡ read f h r c
@@ -410,7 +361,7 @@ one-call S v ps h c y o k = (
 )
   where
     same : verdict (testsIn S v ps c) ≡ verdict (tests S h c)
-    same = agree-verdict (testsIn S v ps c) (tests S h c) (tests-agree S v ps h o k c)
+    same = agree-verdict (tests-agree S v ps h o k c)
 
     answers : (w : Verdict) → verdict (tests S h c) ≡ w → answerIf w (replyIn S v ps c) ≡ answerIf w (reply S h c)
     answers accept e = ap (answerIf accept) (reply-same S v ps h o k c (passed (tests S h c) e))

@@ -9,7 +9,7 @@ use lib.Dec.{T, leb, eqb, eqb·suc-zero}
 use lib.ListN.{length, getD}
 use Rattle.terms.specs.Measures.{Shape}
 use Rattle.history.specs.History.{History, Record, State, unknown, active, aborted, committed, Content, original, setting, ending, isActive, committedBy, stateOf, rowAt, ends, rangeOf, recordsOf, seenAt, seenBy, visible, activeOther, held, gone}
-use Rattle.history.proofs.Lists.{eqb-other}
+use Rattle.history.proofs.Lists.{clash, eqb-other}
 use Rattle.history.specs.Latest.{stampOf}
 use Rattle.history.proofs.States.{isGiven, isAborted}
 use Rattle.history.proofs.Order.{placed-at}
@@ -20,7 +20,6 @@ use Rattle.terms.specs.declared.Place.{Place}
 use Rattle.model.specs.Stored.{RecordWords, rowIn, recordIn, slot, openState, abortedState, deleteKind}
 use Rattle.model.specs.Reading.{sees, seesRecord, headIn, hasRecord, visibleIn}
 use Rattle.model.specs.Calls.{heldIn, goneIn}
-use Rattle.model.proofs.Lists.{clash}
 use Rattle.model.proofs.Represents.{stateWord, RowIs, ContentIs, TailOf, Represents, Known}
 
 pub slot-is : (S : Shape) (g k : ℕ) → slot S g (suc k) ≡ g * S .capacity + k

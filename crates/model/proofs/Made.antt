@@ -5,7 +5,7 @@ use mathlib.Core.Bool.{Bool, false, not, _&&_}
 use mathlib.Core.List.{List, []}
 use Prim.Native.Nat.{ℕ, zero, suc, _+_, _*_, _≤_, _<_, zero-le}
 use native.Mathlib.Omega.{arith}
-use native.Mathlib.Nat.{le-refl, not-suc-le-zero, zero-add, mul-le-mul}
+use native.Mathlib.Nat.{le-refl, not-suc-le-zero, mul-le-mul}
 use native.Mathlib.Decide.{decLt}
 use lib.Dec.{T, leb, eqb, leb→le}
 use lib.ListN.{length, getD, replicate, length-replicate}
@@ -14,11 +14,11 @@ use mir.Val.{toZ}
 use Rattle.terms.specs.Measures.{Shape, rangeRows, mostScans, mostColumns, mostRanges, mostRecords, mostSpares, between, withinLimits}
 use Rattle.history.specs.History.{Call, History, start, answers, answer, next, count, rowAt, insertedValue, inserted, lastSetting, recordsOf, lastThrough, mergedThrough, scanAt, cellThrough}
 use Rattle.history.specs.Lists.{All, nil, cons}
-use Rattle.history.proofs.Lists.{parts}
+use Rattle.history.proofs.Lists.{by-cases, parts}
 use Rattle.history.proofs.Past.{past-start}
-use Rattle.loops.specs.Change.{changed, numbered}
+use Rattle.loops.specs.Change.{numbered}
 use Rattle.words.proofs.Words.{Fit}
-use Rattle.loops.proofs.Change.{changed-length, changed-outside, changed-at, changed-fit}
+use Rattle.loops.proofs.Change.{changed-length, changed-outside, changed-fit}
 use Rattle.layout.specs.Regions.{len}
 use Rattle.layout.specs.View.{View, renew, put}
 use Rattle.layout.specs.declared.Region.{Region}
@@ -31,7 +31,7 @@ use Rattle.model.specs.Writing.{blank, made}
 use Rattle.model.specs.Calls.{Typed, say, viewNext, placesNext, sayAll}
 use Rattle.model.proofs.Lists.{below-all, below-none}
 use Rattle.model.proofs.Represents.{Holds, everyRow, CurrentIs, CurrentsAre, PoolIs, Represents, Small, Known, Whole}
-use Rattle.model.proofs.Views.{renew-whole, put-whole}
+use Rattle.model.proofs.Views.{renew-whole, put-whole, changed-start}
 use Rattle.model.proofs.Merged.{place-in}
 use Rattle.model.proofs.Calls.{known-next, one-call}
 
@@ -41,21 +41,15 @@ zeros zero i = refl
 zeros (suc n) zero = refl
 zeros (suc n) (suc i) = zeros n i
 
-changed-start : (f : ℕ → ℕ → ℕ) (n : ℕ) (l : List ℕ) (i : ℕ) → n ≤ length l → i < n → getD (changed f 0 n l) i 0 ≡ f i (getD l i 0)
-changed-start f n l i a b =
-    ap (λ (j : ℕ). getD (changed f 0 n l) j 0) (sym (zero-add i)) ∙ changed-at f 0 l n i (omega arith) b ∙ ap (λ (j : ℕ). f i (getD l j 0)) (zero-add i)
-
 none-counted : {A : Type 0} (f : A → Bool) (n : ℕ) (x : A) → f x ≡ false → count f (replicate n x) ≡ 0
 none-counted f zero x e = refl
 none-counted f (suc n) x e = rw e (none-counted f n x e)
 
 below-start : (f : ℕ → Bool) (a n : ℕ) → a ≤ n → ((k : ℕ) → a ≤ k → k < n → f k ≡ false) → countBelow f n ≡ countBelow f a
 below-start f a zero b e = let q : 0 ≡ a = omega arith in ap (countBelow f) q
-below-start f a (suc n) b e = go (decLt n a) (λ u. below-start f a n u (λ k c d. e k c (omega arith)))
-  where
-    go : Dec (n < a) → (a ≤ n → countBelow f n ≡ countBelow f a) → countBelow f (suc n) ≡ countBelow f a
-    go (yes u) r = let q : suc n ≡ a = omega arith in ap (countBelow f) q
-    go (no u) r = rw (e n (omega (arith, u)) (le-refl _)) (r (omega (arith, u)))
+below-start f a (suc n) b e = by-cases (decLt n a)
+    (λ u. let q : suc n ≡ a = omega arith in ap (countBelow f) q)
+    (λ u. rw (e n (omega arith) (le-refl _)) (below-start f a n (omega arith) (λ k c d. e k c (omega arith))))
 
 -- ---- the shape's limits as numbers
 pub small-shape : (S : Shape) → T (withinLimits S) → Small S
@@ -134,11 +128,7 @@ module _ (S : Shape) (small : Small S) where
       })
 
   state-not-waiting : (p : ℕ) → waitingPage ((pageIn (made S) p) .state) ≡ false
-  state-not-waiting p = go (decLt p (placesOf S))
-    where
-      go : Dec (p < placesOf S) → waitingPage ((pageIn (made S) p) .state) ≡ false
-      go (yes b) = ap waitingPage (state-first p b)
-      go (no b) = ap waitingPage (state-rest p (omega (arith, b)))
+  state-not-waiting p = by-cases (decLt p (placesOf S)) (λ b. ap waitingPage (state-first p b)) (λ b. ap waitingPage (state-rest p (omega arith)))
 
   pool-made : PoolIs S [] (pageIn (made S))
   pool-made =

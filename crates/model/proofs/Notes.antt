@@ -12,10 +12,10 @@ use lib.Seq.{getD-set-same, getD-set-other}
 use Rattle.terms.specs.Measures.{Shape, mostTransactions}
 use Rattle.history.specs.History.{History, Row, Record, State, unknown, active, nth, keep, isActive, rangeOf, recordsOf}
 use Rattle.history.specs.Lists.{All, nil, cons}
-use Rattle.history.proofs.Lists.{all-map, eqb-other}
+use Rattle.history.proofs.Lists.{clash, all-map, eqb-other}
 use Rattle.terms.specs.Places.{bears, place}
 use Rattle.model.specs.Stored.{nextWord}
-use Rattle.model.proofs.Lists.{clash, is-equal}
+use Rattle.model.proofs.Lists.{is-equal}
 use Rattle.model.proofs.Represents.{OpensAre, Unchanged, NotedIs, NotesAre, Known}
 use Rattle.model.proofs.Transactions.{open-there, other-place}
 

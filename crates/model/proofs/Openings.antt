@@ -22,7 +22,7 @@ use Rattle.terms.specs.declared.Place.{Place}
 use Rattle.model.specs.Stored.{rowIn, pageIn, cellIn, currentIn, within, openPlace}
 use Rattle.model.specs.Reading.{scanPage, wasCurrent}
 use Rattle.model.specs.Writing.{begun, noted, settled, freed, committedIn, abortedIn, insertedAt, insertedIn, appended, filledIn, newBitsIn, originalAppended, settingAppended, updatedIn, deletedIn, mergedIn, releasedIn}
-use Rattle.model.specs.Calls.{Typed, testsIn, actIn, viewIf, viewNext, placesNext, viewAfter}
+use Rattle.model.specs.Calls.{Typed, actIn, viewIf, viewNext, placesNext, viewAfter}
 use Rattle.model.proofs.Lists.{same-part}
 use Rattle.model.proofs.Represents.{ScanPageOf, Represents, Known}
 use Rattle.model.proofs.Insert.{inside, cell-kept}
@@ -125,7 +125,7 @@ module _ (S : Shape) (v : View) (ps : List Place) (h : History) (o : Represents 
 
   pub next-same : (x : Call) → Typed x → Same (viewNext S v ps x)
   unfolding viewNext
-  next-same x y = subst (λ (w : Verdict). Same (viewIf w v (actIn S v ps x))) (sym (agree-verdict (testsIn S v ps x) (tests S h x) (tests-agree S v ps h o k x))) (go (verdict (tests S h x)) refl)
+  next-same x y = subst (λ (w : Verdict). Same (viewIf w v (actIn S v ps x))) (sym (agree-verdict (tests-agree S v ps h o k x))) (go (verdict (tests S h x)) refl)
     where
       go : (w : Verdict) → verdict (tests S h x) ≡ w → Same (viewIf w v (actIn S v ps x))
       go accept e = unfold viewIf in (act-same x y (passed (tests S h x) e))

@@ -14,7 +14,7 @@ use lib.Seq.{getD-append-seam, getD-append-add}
 use Rattle.terms.specs.Measures.{Shape}
 use Rattle.history.specs.History.{delete, History, Record, State, active, Content, ending, isActive, stateOf, rowAt, bit, sets, rangeOf, recordsOf, scanAt, deleteRecords, withTail}
 use Rattle.history.specs.Lists.{All, nil}
-use Rattle.history.proofs.Lists.{all-map, all-at, all-append, any-append, eqb-other}
+use Rattle.history.proofs.Lists.{eqb-same, all-map, all-at, all-append, any-append, eqb-other}
 use Rattle.history.proofs.Steps.{Step, New, wasSet}
 use Rattle.history.proofs.Ranges.{records-made}
 use Rattle.history.proofs.Links.{noRecord, lastOf, last-of-append}
@@ -25,7 +25,6 @@ use Rattle.terms.specs.Places.{bears, place}
 use Rattle.model.specs.Stored.{RowWords, RecordWords, rowIn, recordIn, valueIn, pageIn, cellIn, currentIn, usedIn, openPlace, nextWord, asOpen, asDelete}
 use Rattle.model.specs.Reading.{scanPage, wasCurrent}
 use Rattle.model.specs.Writing.{noted, nextSlot, appended, filledIn, deletedIn}
-use Rattle.model.proofs.Lists.{eqb-same}
 use Rattle.model.proofs.Represents.{stateWord, RowIs, ContentIs, RecordIs, TailOf, TailsFor, TailsAre, NotesAre, Represents, Known, Whole}
 use Rattle.model.proofs.Steady.{currents-stay, waits-stay, scan-stays}
 use Rattle.model.proofs.Views.{put-whole}

@@ -5,28 +5,26 @@ use mathlib.Core.Bool.{Bool, true, false, not, cond, _&&_, _||_, and-false, and-
 use mathlib.Core.List.{List, [], _∷_}
 use Prim.Native.Nat.{ℕ, zero, suc, _^_, _≤_, _<_}
 use native.Mathlib.Omega.{arith}
-use native.Mathlib.Nat.{zero-add}
 use lib.Dec.{T, leb, ltb, eqb, eqb→eq, leb→le, le→leb, ltb→lt, lt→ltb}
-use lib.ListN.{length, getD}
+use lib.ListN.{length}
 use Rattle.terms.specs.Measures.{Shape}
 use Rattle.history.specs.History.{release, History, Scan, Merge, any, nth, stateOf, rowAt, recordsOf, mergedThrough, scanAt, neededBy, afterRelease, releasedCount, withMerges}
-use Rattle.history.proofs.Lists.{is-true, refuted, parts, both}
+use Rattle.history.proofs.Lists.{clash, is-true, refuted, parts, both}
 use Rattle.history.proofs.Steps.{Step}
 use Rattle.history.proofs.Timely.{Timely}
 use Rattle.history.proofs.Merges.{length-released}
 use Rattle.history.proofs.Pages.{lineage-step, lineage-stays}
-use Rattle.loops.specs.Change.{changed}
-use Rattle.loops.proofs.Change.{changed-length, changed-at, changed-fit}
+use Rattle.loops.proofs.Change.{changed-length, changed-fit}
 use Rattle.layout.specs.View.{View, renew}
 use Rattle.layout.specs.declared.Region.the-variants.{PageState}
 use Rattle.terms.specs.declared.Place.{Place}
 use Rattle.model.specs.Stored.{PageWords, rowIn, recordIn, valueIn, pageIn, cellIn, currentIn, placeOf, pagesOf, asFree, currentPage, waitingPage, countBelow}
 use Rattle.model.specs.Reading.{wasCurrent, scanPage}
 use Rattle.model.specs.Writing.{neededIn, releasable, releasedIn}
-use Rattle.model.proofs.Lists.{clash, true-false, countFrom, any-count, from-count, count-ext, first-ext, below-ext, same-truth}
+use Rattle.model.proofs.Lists.{true-false, countFrom, any-count, from-count, count-ext, first-ext, below-ext, same-truth}
 use Rattle.model.proofs.Represents.{CurrentIs, CurrentOf, CurrentsAre, WaitingIs, WaitingAre, PoolIs, ScanPageIs, ScanPagesAre, ScansAre, madeIn, Represents, Known, Whole}
 use Rattle.model.proofs.Steady.{current-step, waiting-step, scan-page-step}
-use Rattle.model.proofs.Views.{renew-whole, header-same}
+use Rattle.model.proofs.Views.{renew-whole, changed-start, header-same}
 use Rattle.model.proofs.Scans.{scan-current}
 use Rattle.model.proofs.ScanPages.{WasCurrent, was-current, search-same, search, scan-cases, found-page, scan-page-same}
 
@@ -92,9 +90,7 @@ module _ (S : Shape) (v : View) (ps : List Place) (h : History) (o : Represents 
   state-after : (q : ℕ) → q < pagesOf S → (pageIn v′ q) .state ≡ cond (releasable ps v q) asFree ((pageIn v q) .state)
   unfolding releasedIn renew pageIn
   state-after q b =
-      let f : ℕ → ℕ → ℕ = λ i w. cond (releasable ps v i) asFree w in
-      ap (λ (j : ℕ). getD (changed f 0 (pagesOf S) (v PageState)) j 0) (sym (zero-add q)) ∙ changed-at f 0 (v PageState) (pagesOf S) q (omega (arith, o .whole .long PageState)) b
-      ∙ ap (λ (j : ℕ). cond (releasable ps v q) asFree (getD (v PageState) j 0)) (zero-add q)
+      changed-start (λ i w. cond (releasable ps v i) asFree w) (pagesOf S) (v PageState) q (omega (arith, o .whole .long PageState)) b
 
   page-kept : (q : ℕ) → q < pagesOf S → releasable ps v q ≡ false → pageIn v′ q ≡ pageIn v q
   unfolding pageIn releasedIn renew

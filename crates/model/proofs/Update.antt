@@ -16,7 +16,7 @@ use mir.ValLaws.{toZ-ofZ, ofZ-fits}
 use Rattle.terms.specs.Measures.{Shape, mostColumns}
 use Rattle.history.specs.History.{update, History, Record, Version, active, original, setting, isCommitted, upTo, stateOf, rowAt, insertedValue, inserted, bit, sets, rangeOf, recordsOf, badMask, newColumns, originalRecords, updateRecords, withTail, cellThrough, scanAt}
 use Rattle.history.specs.Lists.{All}
-use Rattle.history.proofs.Lists.{is-true, is-false, refuted, parts, both, among, among-upTo}
+use Rattle.history.proofs.Lists.{eqb-same, is-true, is-false, refuted, parts, both, among, among-upTo}
 use Rattle.history.proofs.Steps.{Step, New, wasSet, new-columns}
 use Rattle.history.proofs.Masks.{bit-low}
 use Rattle.history.proofs.Ranges.{last-unset}
@@ -28,7 +28,7 @@ use Rattle.terms.specs.declared.Place.{Place}
 use Rattle.model.specs.Stored.{RowWords, rowIn, recordIn, valueIn, pageIn, cellIn, currentIn, usedIn, openPlace, asOriginal, asSetting}
 use Rattle.model.specs.Reading.{scanPage, wasCurrent}
 use Rattle.model.specs.Writing.{noted, nextSlot, appended, filledIn, newBitsIn, recordsWanted, originalAppended, originalWord, settingAppended, updatedIn}
-use Rattle.model.proofs.Lists.{true-false, eqb-same, is-equal}
+use Rattle.model.proofs.Lists.{true-false, is-equal}
 use Rattle.model.proofs.Represents.{RowIs, ContentIs, TailsFor, Represents, Known, Whole}
 use Rattle.model.proofs.Views.{put-whole}
 use Rattle.model.proofs.Insert.{bit-none, value-fits}

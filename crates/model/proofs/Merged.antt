@@ -9,7 +9,7 @@ use native.Mathlib.Nat.{le-trans, mod-eq-of-lt, mul-comm}
 use native.Mathlib.Decide.{ℕ-discrete, decLt}
 use lib.Dec.{T, leb, ltb, eqb, eqb→eq, leb→le, le→leb, ltb→lt, lt→ltb}
 use lib.ListN.{length, getD, set, take, length-set, length-append}
-use lib.Seq.{getD-set-same, getD-set-other}
+use lib.Seq.{lt-length-set, getD-set-same, getD-set-other}
 use mir.Syntax.{w32}
 use mir.Val.{toZ}
 use Rattle.terms.specs.Measures.{Shape, rangeRows}
@@ -23,6 +23,9 @@ use Rattle.history.proofs.Pages.{merged-append, Through, merge-through}
 use Rattle.loops.specs.Change.{copied}
 use Rattle.loops.proofs.Change.{changed-length, changed-outside, changed-at, changed-fit}
 use Rattle.layout.specs.View.{View, renew, put}
+use Rattle.layout.specs.Regions.{len}
+use Rattle.layout.specs.Sizes.{sizesOf}
+use Rattle.layout.specs.declared.Region.{Region}
 use Rattle.layout.specs.declared.Region.the-variants.{Header, Current, PageState, PagePlace, PageMade, PageReplaced, PageLineage, PageNewest, Cells, TailValues, TailStamp}
 use Rattle.terms.specs.declared.Place.{Place}
 use Rattle.model.specs.Stored.{PageWords, rowIn, recordIn, valueIn, pageIn, cellIn, currentIn, placeOf, placesOf, pagesOf, headerIn, within, mergesMade, nextWord, freePage, currentPage, waitingPage, asCurrent, asWaiting, countBelow}
@@ -139,17 +142,12 @@ module _ (S : Shape) (v : View) (ps : List Place) (h : History) (o : Represents 
   old-not-free = not-free old (omega (arith, now .state))
 
   -- ---- the pages' words
+  in-page : (q : ℕ) → q < pagesOf S → (r : Region) → len (sizesOf S) r ≡ pagesOf S → q < length (v r)
+  in-page q b r e = omega (arith, o .whole .long r, e)
+
   page-free : pageIn v′ p ≡ record { state = asCurrent; place = placeOf S g c; made = m; replaced = (pageIn v p) .replaced; lineage = n; newest = late }
   unfolding mergedIn put renew pageIn
-  page-free =
-      λ i. record {
-        state = (getD-set-other (set (v PageState) p asCurrent) old p asWaiting 0 (λ e. old-not-free (sym e)) ∙ getD-set-same (v PageState) p asCurrent 0 (omega (arith, o .whole .long PageState))) i;
-        place = getD-set-same (v PagePlace) p (placeOf S g c) 0 (omega (arith, o .whole .long PagePlace)) i;
-        made = getD-set-same (v PageMade) p m 0 (omega (arith, o .whole .long PageMade)) i;
-        replaced = getD-set-other (v PageReplaced) old p m 0 (λ e. old-not-free (sym e)) i;
-        lineage = getD-set-same (v PageLineage) p n 0 (omega (arith, o .whole .long PageLineage)) i;
-        newest = getD-set-same (v PageNewest) p late 0 (omega (arith, o .whole .long PageNewest)) i;
-      }
+  page-free = let f : p ≢ old = λ e. old-not-free (sym e) in simp (getD-set-same, getD-set-other, in-page p room)
 
   page-old : pageIn v′ old
       ≡ record {
@@ -161,27 +159,11 @@ module _ (S : Shape) (v : View) (ps : List Place) (h : History) (o : Represents 
         newest = (pageIn v old) .newest;
       }
   unfolding mergedIn put renew pageIn
-  page-old =
-      λ i. record {
-        state = getD-set-same (set (v PageState) p asCurrent) old asWaiting 0 (rw length-set (omega (arith, o .whole .long PageState, now .inside))) i;
-        place = getD-set-other (v PagePlace) p old (placeOf S g c) 0 old-not-free i;
-        made = getD-set-other (v PageMade) p old m 0 old-not-free i;
-        replaced = getD-set-same (v PageReplaced) old m 0 (omega (arith, o .whole .long PageReplaced, now .inside)) i;
-        lineage = getD-set-other (v PageLineage) p old n 0 old-not-free i;
-        newest = getD-set-other (v PageNewest) p old late 0 old-not-free i;
-      }
+  page-old = simp (getD-set-same, getD-set-other, lt-length-set, old-not-free, in-page old (now .inside))
 
   page-other : (q : ℕ) → q ≢ p → q ≢ old → pageIn v′ q ≡ pageIn v q
   unfolding mergedIn put renew pageIn
-  page-other q a b =
-      λ i. record {
-        state = (getD-set-other (set (v PageState) p asCurrent) old q asWaiting 0 b ∙ getD-set-other (v PageState) p q asCurrent 0 a) i;
-        place = getD-set-other (v PagePlace) p q (placeOf S g c) 0 a i;
-        made = getD-set-other (v PageMade) p q m 0 a i;
-        replaced = getD-set-other (v PageReplaced) old q m 0 b i;
-        lineage = getD-set-other (v PageLineage) p q n 0 a i;
-        newest = getD-set-other (v PageNewest) p q late 0 a i;
-      }
+  page-other q a b = simp getD-set-other
 
   current-here : currentIn S v′ g c ≡ p
   unfolding mergedIn put renew currentIn

@@ -86,15 +86,7 @@ module _ (S : Shape) (small : Small S) where
 
   page-made : (p : ℕ) → p < placesOf S → pageIn (made S) p ≡ record { state = asCurrent; place = p; made = 0; replaced = 0; lineage = 0; newest = 0 }
   unfolding made blank put renew pageIn
-  page-made p b =
-      λ i. record {
-        state = state-first p b i;
-        place = changed-start (λ i x. i) (placesOf S) (replicate (pagesOf S) 0) p (rw length-replicate (omega arith)) b i;
-        made = zeros (pagesOf S) p i;
-        replaced = zeros (pagesOf S) p i;
-        lineage = zeros (pagesOf S) p i;
-        newest = zeros (pagesOf S) p i;
-      }
+  page-made p b = let room : placesOf S ≤ length {A = ℕ} (replicate (pagesOf S) 0) = rw length-replicate (omega arith) in simp (changed-start, zeros)
 
   current-made : (g c : ℕ) → g < S .ranges → c < S .columns → currentIn S (made S) g c ≡ placeOf S g c
   unfolding made blank put renew currentIn

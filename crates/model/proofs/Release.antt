@@ -94,15 +94,7 @@ module _ (S : Shape) (v : View) (ps : List Place) (h : History) (o : Represents 
 
   page-kept : (q : ℕ) → q < pagesOf S → releasable ps v q ≡ false → pageIn v′ q ≡ pageIn v q
   unfolding pageIn releasedIn renew
-  page-kept q b e =
-      λ i. record {
-        state = (state-after q b ∙ ap (λ (z : Bool). cond z asFree ((pageIn v q) .state)) e) i;
-        place = (pageIn v q) .place;
-        made = (pageIn v q) .made;
-        replaced = (pageIn v q) .replaced;
-        lineage = (pageIn v q) .lineage;
-        newest = (pageIn v q) .newest;
-      }
+  page-kept q b e = rw (state-after q b, e)
 
   -- a current page, and one that a running scan needs, is not released
   current-kept : (a b : ℕ) → a < S .ranges → b < S .columns → releasable ps v (currentIn S v a b) ≡ false

@@ -1,6 +1,6 @@
 -- One tail record more: the records of its range grow by it, and those of the other ranges stay.
 use mathlib.Core.Path.{_≡_, sym, _∙_, ap}
-use mathlib.Core.Logic.{_≢_, _⊎_, inl, inr}
+use mathlib.Core.Logic.{_≢_, inl, inr}
 use mathlib.Core.Bool.{cond}
 use mathlib.Core.List.{List, [], _∷_, _++_}
 use Prim.Native.Nat.{ℕ, suc, _+_, _*_, _^_, _≤_, _<_}
@@ -23,7 +23,7 @@ use Rattle.layout.specs.declared.Region.the-variants.{RowLink, TailTransaction,
 use Rattle.model.specs.Stored.{RecordWords, rowIn, recordIn, valueIn, usedIn, slot, asOpen}
 use Rattle.model.specs.Writing.{nextSlot, appended, filledIn}
 use Rattle.model.proofs.Lists.{part-in, same-part}
-use Rattle.model.proofs.Represents.{ContentIs, RecordIs, TailIs, TailOf, TailsFor, Whole}
+use Rattle.model.proofs.Represents.{ContentIs, RecordIs, TailIs, TailsFor, Whole}
 use Rattle.model.proofs.Views.{renew-whole, put-whole}
 use Rattle.model.proofs.Heads.{slot-is}
 

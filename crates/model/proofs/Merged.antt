@@ -8,7 +8,7 @@ use native.Mathlib.Omega.{arith}
 use native.Mathlib.Nat.{le-trans, mod-eq-of-lt, mul-comm}
 use native.Mathlib.Decide.{ℕ-discrete, decLt}
 use lib.Dec.{T, leb, ltb, eqb, eqb→eq, leb→le, le→leb, ltb→lt, lt→ltb}
-use lib.ListN.{length, getD, set, take, length-set, length-append}
+use lib.ListN.{length, getD, take, length-append}
 use lib.Seq.{lt-length-set, getD-set-same, getD-set-other}
 use mir.Syntax.{w32}
 use mir.Val.{toZ}

@@ -14,18 +14,18 @@ use lib.Seq.{getD-append-seam, getD-append-add}
 use Rattle.terms.specs.Measures.{Shape}
 use Rattle.history.specs.History.{delete, History, Record, State, active, Content, ending, isActive, stateOf, rowAt, bit, sets, rangeOf, recordsOf, scanAt, deleteRecords, withTail}
 use Rattle.history.specs.Lists.{All, nil}
-use Rattle.history.proofs.Lists.{eqb-same, all-map, all-at, all-append, any-append, eqb-other}
+use Rattle.history.proofs.Lists.{by-cases, eqb-same, all-map, all-at, all-append, any-append, eqb-other}
 use Rattle.history.proofs.Steps.{Step, New, wasSet}
 use Rattle.history.proofs.Ranges.{records-made}
 use Rattle.history.proofs.Links.{noRecord, lastOf, last-of-append}
 use Rattle.layout.specs.View.{View, renew, put}
-use Rattle.layout.specs.declared.Region.the-variants.{Opens, RowTransaction, RowState, RowStamp, RowMask, Changes}
+use Rattle.layout.specs.declared.Region.the-variants.{Opens, Changes}
 use Rattle.terms.specs.declared.Place.{Place}
 use Rattle.terms.specs.Places.{bears, place}
 use Rattle.model.specs.Stored.{RowWords, RecordWords, rowIn, recordIn, valueIn, pageIn, cellIn, currentIn, usedIn, openPlace, nextWord, asOpen, asDelete}
 use Rattle.model.specs.Reading.{scanPage, wasCurrent}
 use Rattle.model.specs.Writing.{noted, nextSlot, appended, filledIn, deletedIn}
-use Rattle.model.proofs.Represents.{stateWord, RowIs, ContentIs, RecordIs, TailOf, TailsFor, TailsAre, NotesAre, Represents, Known, Whole}
+use Rattle.model.proofs.Represents.{stateWord, RowIs, RowsAre, ContentIs, RecordIs, TailOf, TailsFor, TailsAre, NotesAre, Represents, Known, Whole}
 use Rattle.model.proofs.Steady.{currents-stay, waits-stay, scan-stays}
 use Rattle.model.proofs.Views.{put-whole}
 use Rattle.model.proofs.Notes.{notes-more, few-changes, active-given}
@@ -50,6 +50,10 @@ last-of-new l y =
     let e : length (l ++ y ∷ []) ≡ suc (length l) = simp length-append (omega arith) in
     rw (e, getD-append-seam l y [] noRecord, eqb-same (y .row))
 
+-- a row's words with another link and mask
+abbrev pub relinked : RowWords → ℕ → ℕ → RowWords
+relinked x l m = record { transaction = x .transaction; state = x .state; stamp = x .stamp; link = l; mask = m }
+
 set-append : (l m : List Record) (r c : ℕ) → wasSet (l ++ m) r c ≡ (wasSet l r c || wasSet m r c)
 unfolding wasSet
 set-append l m r c = any-append (λ x. eqb (x .row) r && sets c (x .content)) l m
@@ -67,39 +71,38 @@ module _ (S : Shape) (v : View) (ps : List Place) (h : History) (o : Represents 
   unfolding stateOf withTail
   tails-are x f g u = subst (λ (l : List Record). TailOf S (stateOf h) l x g) (sym (records-made h g new)) (f g u)
 
-  others : (i : ℕ) → i ≢ r → All (λ (x : Record). x .row ≢ i) ms
-  others i n = all-map (λ x p e. n (sym e ∙ p .row)) new
-
-  pub row-other : (i : ℕ) (x : RowWords) → i ≢ r → RowIs (stateOf h) (rowAt h i) (recordsOf h (rangeOf i)) i x → RowIs (stateOf h) (rowAt h i) (recordsOf h′ (rangeOf i)) i x
+  row-other : (i : ℕ) (x : RowWords) → i ≢ r → RowIs (stateOf h) (rowAt h i) (recordsOf h (rangeOf i)) i x → RowIs (stateOf h) (rowAt h i) (recordsOf h′ (rangeOf i)) i x
   row-other i x n p =
       rw (records-made h (rangeOf i) new)
       record {
         transaction = p .transaction;
         state = p .state;
         stamp = p .stamp;
-        link = p .link ∙ sym (rw length-append (last-of-others (recordsOf h (rangeOf i)) (more (eqb (rangeOf r) (rangeOf i))) i (length (more (eqb (rangeOf r) (rangeOf i)))) (le-refl _) (apart (eqb (rangeOf r) (rangeOf i)))));
-        mask = λ c. p .mask c ∙ sym (set-append (recordsOf h (rangeOf i)) (more (eqb (rangeOf r) (rangeOf i))) i c ∙ rw (never-set (more (eqb (rangeOf r) (rangeOf i))) i c (apart (eqb (rangeOf r) (rangeOf i)))) (or-false _));
+        link = p .link ∙ sym (rw length-append (last-of-others (recordsOf h (rangeOf i)) more i (length more) (le-refl _) apart));
+        mask = λ c. p .mask c ∙ sym (set-append (recordsOf h (rangeOf i)) more i c ∙ rw (never-set more i c apart) (or-false _));
       }
     where
-      more : Bool → List Record
-      more q = cond q ms []
+      more : List Record
+      more = cond (eqb (rangeOf r) (rangeOf i)) ms []
 
-      apart : (q : Bool) → All (λ (x : Record). x .row ≢ i) (cond q ms [])
-      apart true = others i n
-      apart false = nil
+      apart : All (λ (x : Record). x .row ≢ i) more
+      apart = elim (eqb (rangeOf r) (rangeOf i)) as (λ q. All (λ (x : Record). x .row ≢ i) (cond q ms [])) [ true ↦ all-map (λ x p e. n (sym e ∙ p .row)) new | false ↦ nil ]
 
-  pub row-own : (x y : RowWords) → y .transaction ≡ x .transaction → y .state ≡ x .state → y .stamp ≡ x .stamp → y .link ≡ lastOf (recordsOf h (rangeOf r) ++ ms) r (length (recordsOf h (rangeOf r) ++ ms))
-      → ((c : ℕ) → bit (y .mask) c ≡ (bit (x .mask) c || wasSet ms r c)) → RowIs (stateOf h) (rowAt h r) (recordsOf h (rangeOf r)) r x
-      → RowIs (stateOf h) (rowAt h r) (recordsOf h′ (rangeOf r)) r y
-  row-own x y e1 e2 e3 e4 e5 p =
-      rw (records-made h (rangeOf r) new, eqb-same (rangeOf r))
+  -- in a memory x that differs in the link and the mask of row r
+  pub made-rows : (x : View) (l m : ℕ) → ((i : ℕ) → i ≢ r → rowIn x i ≡ rowIn v i) → rowIn x r ≡ relinked (rowIn v r) l m
+      → l ≡ lastOf (recordsOf h (rangeOf r) ++ ms) r (length (recordsOf h (rangeOf r) ++ ms)) → ((c : ℕ) → bit m c ≡ (bit ((rowIn v r) .mask) c || wasSet ms r c))
+      → RowsAre h′ x
+  unfolding stateOf rowAt withTail
+  made-rows x l m other own e f i u = by-cases (ℕ-discrete i r)
+      (λ q. rw (q, own, records-made h (rangeOf r) new, eqb-same (rangeOf r))
       record {
-        transaction = e1 ∙ p .transaction;
-        state = e2 ∙ p .state;
-        stamp = e3 ∙ p .stamp;
-        link = e4;
-        mask = λ c. e5 c ∙ rw (p .mask c) (sym (set-append (recordsOf h (rangeOf r)) ms r c));
-      }
+        transaction = o .rows r b .transaction;
+        state = o .rows r b .state;
+        stamp = o .rows r b .stamp;
+        link = e;
+        mask = λ c. f c ∙ rw (o .rows r b .mask c) (sym (set-append (recordsOf h (rangeOf r)) ms r c));
+      })
+      (λ n. rw (other i n) (row-other i (rowIn v i) n (o .rows i u)))
 
   is-active : T (isActive (stateOf h t))
   unfolding isActive
@@ -202,7 +205,7 @@ delete-kept S v ps h o k t r a b room step new =
       header = o .header;
       opens = o .opens;
       notes = made-notes S v ps h o k t r a b (y ∷ []) new (omega arith);
-      rows = λ i u. rows i (ℕ-discrete i r) u;
+      rows = rows;
       tails = tails-are S v ps h o k t r a b (y ∷ []) new w tails;
       currents = currents-stay o k step refl refl;
       waits = waits-stay o k step refl;
@@ -228,16 +231,9 @@ delete-kept S v ps h o k t r a b room step new =
     tails = plain-more S v (o .whole) (stateOf h) (recordsOf h) _ t r a inside (λ g. k .past .limits .records g) (omega arith) (o .tails) (o .rows r b .link) ending asDelete 0
         (λ g. grow-one (recordsOf h g) y (eqb (rangeOf r) g)) (λ value. refl)
 
-    rows : (i : ℕ) → Dec (i ≡ r) → i < length (h .rows)
-        → RowIs (stateOf h) (rowAt h i) (recordsOf (withTail h (h .tail ++ y ∷ [])) (rangeOf i)) i (rowIn (noted t (appended S t r asDelete 0 v)) i)
-    rows i (yes e) u =
-        rw e
-        (row-own S v ps h o k t r a b (y ∷ []) new (rowIn v r) (rowIn (noted t (appended S t r asDelete 0 v)) r) (unfold rowIn in refl) (unfold rowIn in refl) (unfold rowIn in refl)
-        (unfold rowIn in (link-here S t r asDelete 0 v (o .whole) inside room′ (omega (arith, k .past .limits .rows)) ∙ ap suc (o .tails (rangeOf r) inside .used-all) ∙ sym (last-of-new (recordsOf h (rangeOf r)) y)))
-        (λ c. unfold rowIn wasSet sets in (sym (rw (eqb-same r) (or-false _))))
-        (o .rows r b))
-    rows i (no f) u =
-        subst (λ (x : RowWords). RowIs (stateOf h) (rowAt h i) (recordsOf (withTail h (h .tail ++ y ∷ [])) (rangeOf i)) i x) (sym same) (row-other S v ps h o k t r a b (y ∷ []) new i (rowIn v i) f (o .rows i u))
-      where
-        same : rowIn (noted t (appended S t r asDelete 0 v)) i ≡ rowIn v i
-        same = unfold rowIn in (λ j. record { transaction = getD (v RowTransaction) i 0; state = getD (v RowState) i 0; stamp = getD (v RowStamp) i 0; link = link-there S t r asDelete 0 v (o .whole) inside room′ i f j; mask = getD (v RowMask) i 0 })
+    rows : RowsAre (withTail h (h .tail ++ y ∷ [])) (noted t w)
+    rows = made-rows S v ps h o k t r a b (y ∷ []) new (noted t w) (suc (usedIn v (rangeOf r))) ((rowIn v r) .mask)
+        (λ i f. unfold rowIn in (rw (link-there S t r asDelete 0 v (o .whole) inside room′ i f)))
+        (unfold rowIn in (rw (link-here S t r asDelete 0 v (o .whole) inside room′ (omega (arith, k .past .limits .rows)))))
+        (ap suc (o .tails (rangeOf r) inside .used-all) ∙ sym (last-of-new (recordsOf h (rangeOf r)) y))
+        (λ c. unfold wasSet sets in (sym (rw (eqb-same r) (or-false _))))

@@ -1,10 +1,9 @@
 -- Update keeps the relation: one record where every column was set before, two where one is new.
 use mathlib.Core.Path.{_≡_, refl, sym, _∙_, ap, subst}
-use mathlib.Core.Bool.{Bool, true, false, not, cond, _&&_, _||_}
+use mathlib.Core.Bool.{Bool, true, false, not, cond, _&&_, _||_, or-comm, or-false}
 use mathlib.Core.List.{List, [], _∷_, _++_, append-nil, append-assoc}
-use Prim.Native.Nat.{ℕ, suc, _+_, _^_, _≤_, _<_}
+use Prim.Native.Nat.{ℕ, suc, _+_, _*_, _^_, _≤_, _<_}
 use native.Mathlib.Omega.{arith}
-use native.Mathlib.Decide.{ℕ-discrete}
 use lib.Dec.{T, eqb, eqb→eq}
 use lib.ListN.{length, getD, take, length-append}
 use lib.Seq.{getD-set-same, getD-set-other}
@@ -13,7 +12,7 @@ use lib.Bits.{bitOr, or-lt, xor-lt}
 use mir.Syntax.{w32}
 use mir.Val.{toZ, ofZ, SFits}
 use mir.ValLaws.{toZ-ofZ, ofZ-fits}
-use Rattle.terms.specs.Measures.{Shape, mostColumns}
+use Rattle.terms.specs.Measures.{Shape, rangeRows, mostColumns}
 use Rattle.history.specs.History.{update, History, Record, Version, active, original, setting, isCommitted, upTo, stateOf, rowAt, insertedValue, inserted, bit, sets, rangeOf, recordsOf, badMask, newColumns, originalRecords, updateRecords, withTail, cellThrough, scanAt}
 use Rattle.history.specs.Lists.{All}
 use Rattle.history.proofs.Lists.{eqb-same, is-true, is-false, refuted, parts, both, among, among-upTo}
@@ -23,13 +22,13 @@ use Rattle.history.proofs.Ranges.{last-unset}
 use Rattle.history.proofs.Links.{lastOf}
 use Rattle.history.proofs.Endings.{set-range}
 use Rattle.layout.specs.View.{View, renew, put}
-use Rattle.layout.specs.declared.Region.the-variants.{RowTransaction, RowState, RowStamp, RowMask, Cells, Changes}
+use Rattle.layout.specs.declared.Region.the-variants.{RowMask, Cells, Changes}
 use Rattle.terms.specs.declared.Place.{Place}
-use Rattle.model.specs.Stored.{RowWords, rowIn, recordIn, valueIn, pageIn, cellIn, currentIn, usedIn, openPlace, asOriginal, asSetting}
+use Rattle.model.specs.Stored.{rowIn, recordIn, valueIn, pageIn, cellIn, currentIn, usedIn, openPlace, asOriginal, asSetting}
 use Rattle.model.specs.Reading.{scanPage, wasCurrent}
 use Rattle.model.specs.Writing.{noted, nextSlot, appended, filledIn, newBitsIn, recordsWanted, originalAppended, originalWord, settingAppended, updatedIn}
 use Rattle.model.proofs.Lists.{true-false, is-equal}
-use Rattle.model.proofs.Represents.{RowIs, ContentIs, TailsFor, Represents, Known, Whole}
+use Rattle.model.proofs.Represents.{RowsAre, ContentIs, TailsFor, Represents, Known, Whole}
 use Rattle.model.proofs.Views.{put-whole}
 use Rattle.model.proofs.Insert.{bit-none, value-fits}
 use Rattle.model.proofs.Heads.{in-range}
@@ -37,7 +36,7 @@ use Rattle.model.proofs.Read.{unset-take}
 use Rattle.model.proofs.Masks.{bit-or, bit-new, no-bits}
 use Rattle.model.proofs.Append.{link-here, link-there, used-here, appended-whole, slot-next, slot-in, filled-whole}
 use Rattle.model.proofs.Steady.{currents-stay, waits-stay, scan-stays}
-use Rattle.model.proofs.Records.{last-of-new, tails-are, row-other, row-own, made-notes, filled-more, grow-one, small-shape, row-fits, number-fits}
+use Rattle.model.proofs.Records.{last-of-new, tails-are, made-rows, made-notes, filled-more, grow-one, small-shape, row-fits, number-fits}
 
 -- ---- the columns that are set for the first time
 module _ (S : Shape) (v : View) (ps : List Place) (h : History) (o : Represents S v ps h) (k : Known S h) (r m : ℕ) (b : r < length (h .rows)) (good : T (not (badMask S m))) where
@@ -110,6 +109,9 @@ module _ (S : Shape) (v : View) (ps : List Place) (h : History) (o : Represents 
   inside : rangeOf r < S .ranges
   inside = in-range k r b
 
+  row-in : r < S .ranges * rangeRows
+  row-in = omega (arith, k .past .limits .rows)
+
   abbrev f₂ : ℕ → ℕ
   f₂ c = ofZ w32 (getD vs c (pos 0))
 
@@ -126,13 +128,7 @@ module _ (S : Shape) (v : View) (ps : List Place) (h : History) (o : Represents 
   r-fits = omega (arith, row-fits k r b)
 
   union : (c : ℕ) → bit (bitOr m ((rowIn v r) .mask)) c ≡ (bit ((rowIn v r) .mask) c || (eqb r r && bit m c || false))
-  union c = bit-or m ((rowIn v r) .mask) c ∙ rw (eqb-same r) (go (bit m c) (bit ((rowIn v r) .mask) c))
-    where
-      go : (p q : Bool) → (p || q) ≡ (q || (p || false))
-      go true true = refl
-      go true false = refl
-      go false true = refl
-      go false false = refl
+  union c = bit-or m ((rowIn v r) .mask) c ∙ rw (eqb-same r, or-false (bit m c)) (or-comm (bit m c) (bit ((rowIn v r) .mask) c))
 
   setting-whole : (u : View) → Whole S u → usedIn u (rangeOf r) < S .capacity → Whole S (settingAppended S t r m vs u)
   unfolding settingAppended
@@ -150,7 +146,7 @@ module _ (S : Shape) (v : View) (ps : List Place) (h : History) (o : Represents 
         header = o .header;
         opens = o .opens;
         notes = made-notes S v ps h o k t r a b (y ∷ []) new (omega arith);
-        rows = λ i u. rows i (ℕ-discrete i r) u;
+        rows = rows;
         tails = tails-are S v ps h o k t r a b (y ∷ []) new (settingAppended S t r m vs v) tails;
         currents = currents-stay o k step refl refl;
         waits = waits-stay o k step refl;
@@ -170,21 +166,12 @@ module _ (S : Shape) (v : View) (ps : List Place) (h : History) (o : Represents 
       x : View
       x = noted t (put RowMask r (bitOr m ((rowIn v r) .mask)) (settingAppended S t r m vs v))
 
-      rows : (i : ℕ) → Dec (i ≡ r) → i < length (h .rows) → RowIs (stateOf h) (rowAt h i) (recordsOf (withTail h (h .tail ++ y ∷ [])) (rangeOf i)) i (rowIn x i)
-      rows i (yes e) u =
-          rw e
-          (row-own S v ps h o k t r a b (y ∷ []) new (rowIn v r) (rowIn x r) (unfold rowIn in refl) (unfold rowIn in refl) (unfold rowIn in refl)
-          (unfold rowIn in (link-here S t r asSetting m v (o .whole) inside room′ (omega (arith, k .past .limits .rows)) ∙ ap suc (o .tails (rangeOf r) inside .used-all) ∙ sym (last-of-new (recordsOf h (rangeOf r)) y)))
-          (λ c. ap (λ (n : ℕ). bit n c) mask-here ∙ union c ∙ (unfold wasSet sets in refl))
-          (o .rows r b))
-        where
-          mask-here : (rowIn x r) .mask ≡ bitOr m ((rowIn v r) .mask)
-          mask-here = unfold rowIn in (getD-set-same (v RowMask) r _ 0 (omega (arith, o .whole .long RowMask, k .past .limits .rows)))
-      rows i (no f) u =
-          subst (λ (z : RowWords). RowIs (stateOf h) (rowAt h i) (recordsOf (withTail h (h .tail ++ y ∷ [])) (rangeOf i)) i z) (sym same) (row-other S v ps h o k t r a b (y ∷ []) new i (rowIn v i) f (o .rows i u))
-        where
-          same : rowIn x i ≡ rowIn v i
-          same = unfold rowIn in (λ j. record { transaction = getD (v RowTransaction) i 0; state = getD (v RowState) i 0; stamp = getD (v RowStamp) i 0; link = link-there S t r asSetting m v (o .whole) inside room′ i f j; mask = getD-set-other (v RowMask) r i (bitOr m (getD (v RowMask) r 0)) 0 f j })
+      rows : RowsAre (withTail h (h .tail ++ y ∷ [])) x
+      rows = made-rows S v ps h o k t r a b (y ∷ []) new x (suc (usedIn v (rangeOf r))) (bitOr m ((rowIn v r) .mask))
+          (λ i f. unfold rowIn in (rw (link-there S t r asSetting m v (o .whole) inside room′ i f, getD-set-other (v RowMask) r i (bitOr m (getD (v RowMask) r 0)) 0 f)))
+          (unfold rowIn in (rw (link-here S t r asSetting m v (o .whole) inside room′ row-in, getD-set-same (v RowMask) r _ 0 (omega (arith, row-in, o .whole .long RowMask)))))
+          (ap suc (o .tails (rangeOf r) inside .used-all) ∙ sym (last-of-new (recordsOf h (rangeOf r)) y))
+          (λ c. union c ∙ (unfold wasSet sets in refl))
 
   -- ---- a column is new: its original value goes first
   update-two : (d : ℕ) (cs : List ℕ) → newColumns h r m ≡ d ∷ cs → length (recordsOf h (rangeOf r)) + 2 ≤ S .capacity
@@ -198,7 +185,7 @@ module _ (S : Shape) (v : View) (ps : List Place) (h : History) (o : Represents 
         header = o .header;
         opens = o .opens;
         notes = made-notes S v ps h o k t r a b ms new (omega arith);
-        rows = λ i u. (unfold rowAt in rows i (ℕ-discrete i r) u);
+        rows = rows;
         tails = tails-are S v ps h o k t r a b ms new (settingAppended S t r m vs u₁) tails₂;
         currents = currents-stay o k step refl refl;
         waits = waits-stay o k step refl;
@@ -263,7 +250,7 @@ module _ (S : Shape) (v : View) (ps : List Place) (h : History) (o : Represents 
       room₂ = omega (arith, used₁)
 
       link₁ : (rowIn u₁ r) .link ≡ suc (length recs)
-      link₁ = unfold rowIn in (link-here S t r asOriginal fresh v (o .whole) inside room₁ (omega (arith, k .past .limits .rows)) ∙ ap suc (o .tails (rangeOf r) inside .used-all))
+      link₁ = unfold rowIn in (link-here S t r asOriginal fresh v (o .whole) inside room₁ row-in ∙ ap suc (o .tails (rangeOf r) inside .used-all))
 
       few₁ : (g : ℕ) → length (list₁ g) ≤ S .capacity
       few₁ g = pick (eqb (rangeOf r) g) (eqb→eq (rangeOf r) g)
@@ -286,33 +273,21 @@ module _ (S : Shape) (v : View) (ps : List Place) (h : History) (o : Represents 
       x : View
       x = noted t (put RowMask r (bitOr m ((rowIn v r) .mask)) (settingAppended S t r m vs (originalAppended S t r m v)))
 
-      rows : (i : ℕ) → Dec (i ≡ r) → i < length (h .rows) → RowIs (stateOf h) (rowAt h i) (recordsOf (withTail h (h .tail ++ ms)) (rangeOf i)) i (rowIn x i)
-      rows i (yes q) u =
-          rw q
-          (row-own S v ps h o k t r a b ms new (rowIn v r) (rowIn x r) (unfold rowIn in refl) (unfold rowIn in refl) (unfold rowIn in refl)
-          (unfold rowIn in (link-here S t r asSetting m u₁ whole₁ inside room₂ (omega (arith, k .past .limits .rows)) ∙ ap suc used₁ ∙ sym both))
-          (λ c. ap (λ (n : ℕ). bit n c) mask-here ∙ union c ∙ (unfold wasSet sets in (rw (eqb-same r))))
-          (o .rows r b))
-        where
-          mask-here : (rowIn x r) .mask ≡ bitOr m ((rowIn v r) .mask)
-          mask-here = unfold rowIn in (getD-set-same (v RowMask) r _ 0 (omega (arith, o .whole .long RowMask, k .past .limits .rows)))
+      both : lastOf (recs ++ w ∷ y ∷ []) r (length (recs ++ w ∷ y ∷ [])) ≡ suc (suc (length recs))
+      both =
+          ap (λ (l : List Record). lastOf l r (length l)) (sym (append-assoc recs (w ∷ []) (y ∷ [])))
+          ∙ last-of-new (recs ++ w ∷ []) y ∙ ap suc (simp length-append (omega arith))
 
-          both : lastOf (recs ++ w ∷ y ∷ []) r (length (recs ++ w ∷ y ∷ [])) ≡ suc (suc (length recs))
-          both =
-              ap (λ (l : List Record). lastOf l r (length l)) (sym (append-assoc recs (w ∷ []) (y ∷ [])))
-              ∙ last-of-new (recs ++ w ∷ []) y ∙ ap suc (simp length-append (omega arith))
-      rows i (no f) u =
-          subst (λ (z : RowWords). RowIs (stateOf h) (rowAt h i) (recordsOf (withTail h (h .tail ++ ms)) (rangeOf i)) i z) (sym same) (row-other S v ps h o k t r a b ms new i (rowIn v i) f (o .rows i u))
-        where
-          same : rowIn x i ≡ rowIn v i
-          same = unfold rowIn in
-              (λ j. record {
-                transaction = getD (v RowTransaction) i 0;
-                state = getD (v RowState) i 0;
-                stamp = getD (v RowStamp) i 0;
-                link = (link-there S t r asSetting m u₁ whole₁ inside room₂ i f ∙ link-there S t r asOriginal fresh v (o .whole) inside room₁ i f) j;
-                mask = getD-set-other (v RowMask) r i (bitOr m (getD (v RowMask) r 0)) 0 f j;
-              })
+      rows : RowsAre (withTail h (h .tail ++ ms)) x
+      rows = made-rows S v ps h o k t r a b ms new x (suc (usedIn u₁ (rangeOf r))) (bitOr m ((rowIn v r) .mask))
+          (λ i f. unfold rowIn in (rw (
+            link-there S t r asSetting m u₁ whole₁ inside room₂ i f,
+            link-there S t r asOriginal fresh v (o .whole) inside room₁ i f,
+            getD-set-other (v RowMask) r i (bitOr m (getD (v RowMask) r 0)) 0 f,
+          )))
+          (unfold rowIn in (rw (link-here S t r asSetting m u₁ whole₁ inside room₂ row-in, getD-set-same (v RowMask) r _ 0 (omega (arith, row-in, o .whole .long RowMask)))))
+          (ap suc used₁ ∙ sym both)
+          (λ c. union c ∙ (unfold wasSet sets in (rw (eqb-same r))))
 
   pub update-kept : length (recordsOf h (rangeOf r)) + length (updateRecords h t r m vs) ≤ S .capacity → Step S h (update t r m vs) (withTail h (h .tail ++ updateRecords h t r m vs))
       → All (New h t r) (updateRecords h t r m vs) → Represents S (updatedIn S t r m vs v) ps (withTail h (h .tail ++ updateRecords h t r m vs))

@@ -25,14 +25,14 @@ unfolding sumBelow
 sum-same f g zero a = zero-le
 sum-same f g (suc n) a = omega (arith, sum-same f g n a, a n)
 
-sum-more : (f g : ℕ → ℕ) (n j : ℕ) → j < n → ((i : ℕ) → f i ≤ g i) → f j < g j → sumBelow f n < sumBelow g n
+pub sum-more : (f g : ℕ → ℕ) (n j : ℕ) → j < n → ((i : ℕ) → f i ≤ g i) → f j < g j → sumBelow f n < sumBelow g n
 unfolding sumBelow
 sum-more f g zero j b a m = absurd (omega arith)
 sum-more f g (suc n) j b a m = by-cases (ℕ-discrete j n)
     (λ e. let k : f n < g n = rw e at m in omega (arith, sum-same f g n a))
     (λ d. omega (arith, sum-more f g n j (omega arith) a m, a n))
 
-sum-most : (f : ℕ → ℕ) (n k : ℕ) → ((i : ℕ) → i < n → f i ≤ k) → sumBelow f n ≤ n * k
+pub sum-most : (f : ℕ → ℕ) (n k : ℕ) → ((i : ℕ) → i < n → f i ≤ k) → sumBelow f n ≤ n * k
 unfolding sumBelow
 sum-most f zero k a = zero-le
 sum-most f (suc n) k a = rw (suc-mul n k) (omega (arith, sum-most f n k (λ i b. a i (omega arith)), a n (omega arith)))

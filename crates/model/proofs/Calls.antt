@@ -17,7 +17,7 @@ use Rattle.terms.specs.declared.Answer.{Answer}
 use Rattle.history.specs.History as H
 use Rattle.history.specs.History.{Call, begin, insert, update, delete, commit, abort, latest, readAt, ownRead, openScan, scanRead, sum, close, merge, release, pageCell, lineage, History, Record, active, Test, _when_, Verdict, accept, refuse, verdict, tests, reply, effect, answer, next, answerIf, nextIf, any, keep, count, upTo, total, isActive, stateOf, rowAt, rangeOf, recordsOf, mergedThrough, seenAt, seenBy, ended, visible, versionOf, read, scanAt, inserted, lastSetting, cellValue, notActive, notRunning, notGiven, noColumn, noRange, lacksRecords, notLater, later, outOfReach, anyActive, noPage, cellThrough}
 use Rattle.history.specs.Lists.{All}
-use Rattle.history.proofs.Lists.{by-test, clash, all-map, all-at, keep-append, any-agree, not-not, neither, parts, eqb-other}
+use Rattle.history.proofs.Lists.{by-test, all-map, all-at, keep-append, any-agree, not-not, neither, parts, eqb-other}
 use Rattle.history.proofs.Accepted.{Passed, passed}
 use Rattle.history.proofs.Steps.{step, active-is, by-update, by-delete, made-new}
 use Rattle.history.proofs.Ranges.{last-agree}
@@ -32,7 +32,7 @@ use Rattle.model.specs.Stored.{cellIn, currentIn, usedIn, headerIn, with
 use Rattle.model.specs.Reading.{readIn, readCurrent, ownChanges, wordIn, scanPage, Tally, tally, sumIn}
 use Rattle.model.specs.Calls.{testsIn, replyIn, actIn, placesAfter, viewIf, placesIf, say, viewNext, placesNext, notOpenIn, noScanIn, notGivenIn, lacksIn, notLaterIn, laterIn, outOfReachIn, Typed}
 use Rattle.model.proofs.Represents.{everyRow, CurrentOf, Unchanged, scanAs, Represents, Known}
-use Rattle.model.proofs.Transactions.{opens-is, opens-full, open-there, begin-kept, commit-kept, abort-kept}
+use Rattle.model.proofs.Transactions.{opens-is, opens-full, open-there, active-some, begin-kept, commit-kept, abort-kept}
 use Rattle.model.proofs.Insert.{insert-kept}
 use Rattle.model.proofs.Heads.{in-range, SeesAs, sees-at, sees-own, held-is, gone-is, visible-is}
 use Rattle.model.proofs.Read.{word-is, read-is}
@@ -188,7 +188,10 @@ module _ (S : Shape) (v : View) (ps : List Place) (h : History) (o : Represents 
 
   own-read : (t r c : ℕ) → stateOf h t ≡ active → r < length (h .rows) → c < S .columns → readCurrent S v (headerIn v lastStamp) (ownChanges v t) r c ≡ read (seenBy h t) h r c
   unfolding ownChanges openPlace
-  own-read t r c a b d = ap (λ (s : ℕ). readCurrent S v s (cond (eqb noted 0) 0 t) r c) (o .header .last-stamp) ∙ go (eqb noted 0) (eqb→eq noted 0)
+  own-read t r c a b d = ap (λ (s : ℕ). readCurrent S v s (cond (eqb noted 0) 0 t) r c) (o .header .last-stamp) ∙
+      by-test (λ z. readCurrent S v (h .last) (cond z 0 t) r c ≡ read (seenBy h t) h r c) (eqb noted 0)
+      (λ z. current-read (h .last) 0 r c (seenAt h (h .last)) (sees-at h (h .last)) b d ∙ own-latest h t r c b (unchanged (eqb→eq noted 0 z)))
+      (λ _. current-read (h .last) t r c (seenBy h t) (sees-own h t a) b d)
     where
       j : ℕ
       j = place (bears t) (v Opens)
@@ -197,24 +200,13 @@ module _ (S : Shape) (v : View) (ps : List Place) (h : History) (o : Represents 
       noted = getD (v Changes) j 0
 
       here : (j < length (v Opens)) × (getD (v Opens) j 0 ≡ t)
-      here = open-there (h .transactions) (v Opens) (o .opens) t (unfold stateOf isActive in (rw a tt))
+      here = open-there (h .transactions) (v Opens) (o .opens) t (unfold stateOf in a)
 
       not-zero : getD (v Opens) j 0 ≢ 0
-      not-zero e = own-zero (sym (here .1) ∙ e)
-        where
-          own-zero : t ≡ 0 → ⊥
-          own-zero z = unfold stateOf in (zero-idle t z a)
-            where
-              zero-idle : (t : ℕ) → t ≡ 0 → H.nth (h .transactions) t H.unknown ≡ active → ⊥
-              zero-idle zero z a = clash (cc)
-              zero-idle (suc t) z a = omega arith
+      not-zero e = active-some (h .transactions) t (unfold stateOf in a) (sym (here .1) ∙ e)
 
       unchanged : noted ≡ 0 → Unchanged (h .rows) (h .tail) t
       unchanged e = subst (λ (i : ℕ). Unchanged (h .rows) (h .tail) i) (here .1) (o .notes j (omega (arith, here .0, o .whole .long Opens)) not-zero .none e)
-
-      go : (z : Bool) → (T z → noted ≡ 0) → readCurrent S v (h .last) (cond z 0 t) r c ≡ read (seenBy h t) h r c
-      go true f = current-read (h .last) 0 r c (seenAt h (h .last)) (sees-at h (h .last)) b d ∙ own-latest h t r c b (unchanged (f tt))
-      go false f = current-read (h .last) t r c (seenBy h t) (sees-own h t a) b d
 
   found : (i : ℕ) → T (scanAt h i .running) → scanPlace ps i ≡ scanAs i (scanAt h i)
   unfolding scanAt

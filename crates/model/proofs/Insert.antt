@@ -16,7 +16,7 @@ use mir.Syntax.{w32}
 use mir.Val.{toZ, ofZ, SFits}
 use mir.ValLaws.{toZ-ofZ, ofZ-fits}
 use Rattle.terms.specs.Measures.{Shape, rangeRows}
-use Rattle.history.specs.History.{insert, History, Row, Record, active, isActive, stateOf, rowAt, bit, sets, rangeOf, recordsOf, mergedThrough, scanAt, seenAt, withRows}
+use Rattle.history.specs.History.{insert, History, Row, Record, active, stateOf, rowAt, bit, sets, rangeOf, recordsOf, mergedThrough, scanAt, seenAt, withRows}
 use Rattle.history.specs.Lists.{All, nil, cons}
 use Rattle.history.proofs.Lists.{all-append, all-map, all-at, any-none, eqb-other}
 use Rattle.history.proofs.Steps.{Step, wasSet}
@@ -228,15 +228,11 @@ module _ (S : Shape) (v : View) (ps : List Place) (h : History) (o : Represents 
           same-row : (m n : ℕ) → rangeOf m ≡ rangeOf n → within m ≡ within n → m ≡ n
           same-row m n a b = unfold rangeOf in (omega arith)
 
-  is-active : T (isActive (stateOf h t))
-  unfolding isActive
-  is-active = rw a tt
-
   insert-notes : NotesAre (h .rows ++ row ∷ []) (h .tail) (v Opens) (set (v Changes) (place (bears t) (v Opens)) (nextWord (getD (v Changes) (place (bears t) (v Opens)) 0)))
   unfolding stateOf
   insert-notes =
       notes-more (h .rows) (h .rows ++ row ∷ []) (h .tail) (h .tail) (h .transactions) (v Opens) (v Changes) t (o .whole .long Opens) (o .whole .long Changes) (few-changes k)
-      (simp length-append (omega arith)) (λ u f n. record { no-row = all-append (n .no-row) (cons (λ e. f (sym e)) nil); no-record = n .no-record }) (o .opens) is-active (o .notes)
+      (simp length-append (omega arith)) (λ u f n. record { no-row = all-append (n .no-row) (cons (λ e. f (sym e)) nil); no-record = n .no-record }) (o .opens) a (o .notes)
 
   insert-whole : Whole S v′
   unfolding insertedAt noted stateOf

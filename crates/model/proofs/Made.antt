@@ -55,21 +55,20 @@ below-start f a (suc n) b e = by-cases (decLt n a)
 pub small-shape : (S : Shape) → T (withinLimits S) → Small S
 unfolding withinLimits
 small-shape S t =
-    let a : T (between 1 mostColumns (S .columns)) × T (between 1 mostRanges (S .ranges) && (between 1 mostRecords (S .capacity) && between 0 mostSpares (S .spares))) = parts (between 1 mostColumns (S .columns)) _ t in
-    let b : T (between 1 mostRanges (S .ranges)) × T (between 1 mostRecords (S .capacity) && between 0 mostSpares (S .spares)) = parts (between 1 mostRanges (S .ranges)) _ (a .1) in
-    let c : T (between 1 mostRecords (S .capacity)) × T (between 0 mostSpares (S .spares)) = parts (between 1 mostRecords (S .capacity)) _ (b .1) in
-    let columns : T (leb 1 (S .columns)) × T (leb (S .columns) mostColumns) = parts (leb 1 (S .columns)) _ (a .0) in
-    let ranges : T (leb 1 (S .ranges)) × T (leb (S .ranges) mostRanges) = parts (leb 1 (S .ranges)) _ (b .0) in
-    let capacity : T (leb 1 (S .capacity)) × T (leb (S .capacity) mostRecords) = parts (leb 1 (S .capacity)) _ (c .0) in
-    let spares : T (leb 0 (S .spares)) × T (leb (S .spares) mostSpares) = parts (leb 0 (S .spares)) _ (c .1) in
+    let a = parts (between 1 mostColumns (S .columns)) _ t in
+    let b = parts (between 1 mostRanges (S .ranges)) _ (a .1) in
+    let c = parts (between 1 mostRecords (S .capacity)) _ (b .1) in
     record {
-      columns = leb→le (S .columns) mostColumns (columns .1);
-      ranges = leb→le (S .ranges) mostRanges (ranges .1);
-      capacity = leb→le (S .capacity) mostRecords (capacity .1);
-      spares = leb→le (S .spares) mostSpares (spares .1);
-      some-column = leb→le 1 (S .columns) (columns .0);
-      some-range = leb→le 1 (S .ranges) (ranges .0);
+      columns = bounds 1 mostColumns (S .columns) (a .0) .1;
+      ranges = bounds 1 mostRanges (S .ranges) (b .0) .1;
+      capacity = bounds 1 mostRecords (S .capacity) (c .0) .1;
+      spares = bounds 0 mostSpares (S .spares) (c .1) .1;
+      some-column = bounds 1 mostColumns (S .columns) (a .0) .0;
+      some-range = bounds 1 mostRanges (S .ranges) (b .0) .0;
     }
+  where
+    bounds : (a b n : ℕ) → T (between a b n) → (a ≤ n) × (n ≤ b)
+    bounds a b n t = let p = parts (leb a n) _ t in (leb→le a n (p .0), leb→le n b (p .1))
 
 module _ (S : Shape) (small : Small S) where
   few-places : placesOf S ≤ 16 * 16

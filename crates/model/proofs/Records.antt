@@ -8,11 +8,11 @@ use Prim.Native.Nat.{ℕ, zero, suc, _+_, _*_, _^_, _≤_, _<_}
 use native.Mathlib.Omega.{arith}
 use native.Mathlib.Nat.{le-refl}
 use native.Mathlib.Decide.{ℕ-discrete}
-use lib.Dec.{T, eqb}
+use lib.Dec.{eqb}
 use lib.ListN.{length, getD, set, length-append}
 use lib.Seq.{getD-append-seam, getD-append-add}
 use Rattle.terms.specs.Measures.{Shape}
-use Rattle.history.specs.History.{delete, History, Record, State, active, Content, ending, isActive, stateOf, rowAt, bit, sets, rangeOf, recordsOf, scanAt, deleteRecords, withTail}
+use Rattle.history.specs.History.{delete, History, Record, State, active, Content, ending, stateOf, rowAt, bit, sets, rangeOf, recordsOf, scanAt, deleteRecords, withTail}
 use Rattle.history.specs.Lists.{All, nil}
 use Rattle.history.proofs.Lists.{by-cases, eqb-same, all-map, all-at, all-append, any-append, eqb-other}
 use Rattle.history.proofs.Steps.{Step, New, wasSet}
@@ -104,17 +104,13 @@ module _ (S : Shape) (v : View) (ps : List Place) (h : History) (o : Represents 
       })
       (λ n. rw (other i n) (row-other i (rowIn v i) n (o .rows i u)))
 
-  is-active : T (isActive (stateOf h t))
-  unfolding isActive
-  is-active = rw a tt
-
   pub made-notes : 0 < length ms → NotesAre (h .rows) (h .tail ++ ms) (v Opens) (set (v Changes) (place (bears t) (v Opens)) (nextWord (getD (v Changes) (place (bears t) (v Opens)) 0)))
   unfolding stateOf
   made-notes some =
       notes-more (h .rows) (h .rows) (h .tail) (h .tail ++ ms) (h .transactions) (v Opens) (v Changes) t (o .whole .long Opens) (o .whole .long Changes) (few-changes k)
       (simp length-append (omega arith))
       (λ u f n. record { no-row = n .no-row; no-record = all-append (n .no-record) (all-map (λ x p e. f (sym e ∙ p .transaction)) new) })
-      (o .opens) is-active (o .notes)
+      (o .opens) a (o .notes)
 
 -- ---- one record more, in the words and in the list
 module _ (S : Shape) (u : View) (whole : Whole S u) (st : ℕ → State) (list list′ : ℕ → List Record) (t r : ℕ) (a : st t ≡ active) (inside : rangeOf r < S .ranges)

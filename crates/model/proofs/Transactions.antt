@@ -50,13 +50,18 @@ pub opens-is : (ts : List State) (l : List ℕ) → OpensAre ts l → (t : ℕ) 
 opens-is ts l o = book-is self isActive numbered (λ i s. refl) 0 refl unknown unknown-idle (λ p q f. f self) ts l o
 
 -- what stands in the place of an active transaction
-pub open-there : (ts : List State) (l : List ℕ) → OpensAre ts l → (t : ℕ) → T (isActive (nth ts t unknown)) → (place (bears t) l < length l) × (getD l (place (bears t) l) 0 ≡ t)
+pub open-there : (ts : List State) (l : List ℕ) → OpensAre ts l → (t : ℕ) → nth ts t unknown ≡ active → (place (bears t) l < length l) × (getD l (place (bears t) l) 0 ≡ t)
+unfolding isActive
 open-there ts l o t a =
-    let b : T (any (bears t) l) = rw (opens-is ts l o t) a in
+    let b : T (any (bears t) l) = rw (opens-is ts l o t, a) tt in
     (place-lt (bears t) l b, eqb→eq _ t (parts (not (eqb (getD l (place (bears t) l) 0) 0)) _ (place-is (bears t) l 0 b) .1))
 
+pub active-some : (ts : List State) (t : ℕ) → nth ts t unknown ≡ active → t ≢ 0
+active-some ts zero a e = clash (cc)
+active-some ts (suc t) a e = omega arith
+
 -- no other place bears its number
-pub other-place : (ts : List State) (l : List ℕ) → OpensAre ts l → (t : ℕ) → T (isActive (nth ts t unknown)) → (j : ℕ) → j < length l → getD l j 0 ≢ 0 → j ≢ place (bears t) l
+pub other-place : (ts : List State) (l : List ℕ) → OpensAre ts l → (t : ℕ) → nth ts t unknown ≡ active → (j : ℕ) → j < length l → getD l j 0 ≢ 0 → j ≢ place (bears t) l
     → getD l j 0 ≢ t
 other-place ts l o t a j b n f e =
     by-cases (decLt j own) (λ p. twice j own p (here .0) bearing found) (λ p. by-cases (decLt own j) (λ q. twice own j q b found bearing) (λ q. f (omega arith)))
@@ -88,9 +93,10 @@ opens-begin : (ts : List State) (l : List ℕ) → OpensAre ts l → T (any (λ 
 unfolding isActive
 opens-begin ts l o a = book-add self isActive numbered (λ i s. refl) 0 refl unknown unknown-idle (λ p q f. f self) ts l o active tt a
 
-opens-close : (ts : List State) (l : List ℕ) (t : ℕ) (x : State) → OpensAre ts l → T (isActive (nth ts t unknown)) → isActive x ≡ false
+opens-close : (ts : List State) (l : List ℕ) (t : ℕ) (x : State) → OpensAre ts l → nth ts t unknown ≡ active → isActive x ≡ false
     → OpensAre (change ts t x) (set l (place (bears t) l) 0)
-opens-close ts l t x o p n = book-drop self isActive numbered (λ i s. refl) 0 refl unknown unknown-idle (λ p q f. f self) ts l o t p x n
+unfolding isActive
+opens-close ts l t x o p n = book-drop self isActive numbered (λ i s. refl) 0 refl unknown unknown-idle (λ p q f. f self) ts l o t (rw p tt) x n
 
 -- ---- rows and records under new states
 row-states : {st st′ : ℕ → State} {w : Row} {recs : List Record} {r : ℕ} {x : RowWords} → st′ (w .inserter) ≡ st (w .inserter) → RowIs st w recs r x → RowIs st′ w recs r x
@@ -280,19 +286,15 @@ module _ (S : Shape) (v : View) (ps : List Place) (h : History) (o : Represents 
         links = y .links;
       }
 
-  is-active : T (isActive (stateOf h t))
-  unfolding isActive
-  is-active = rw a tt
-
   -- the places after a transaction was closed
   closed-opens : OpensAre (change (h .transactions) t x) (set (v Opens) (place (bears t) (v Opens)) 0)
   unfolding stateOf
-  closed-opens = opens-close (h .transactions) (v Opens) t x (o .opens) is-active (closing-inactive c)
+  closed-opens = opens-close (h .transactions) (v Opens) t x (o .opens) a (closing-inactive c)
 
   closed-notes : NotesAre (h .rows) (h .tail) (set (v Opens) (place (bears t) (v Opens)) 0) (set (v Changes) (place (bears t) (v Opens)) 0)
   unfolding stateOf
   closed-notes =
-      let inside = open-there (h .transactions) (v Opens) (o .opens) t is-active .0 in
+      let inside = open-there (h .transactions) (v Opens) (o .opens) t a .0 in
       notes-set (h .rows) (h .tail) (v Opens) (v Changes) (place (bears t) (v Opens)) 0 inside (omega (arith, o .whole .long Opens, o .whole .long Changes)) (λ f. absurd (f refl)) (o .notes)
 
 pub abort-kept : (S : Shape) (v : View) (ps : List Place) (h : History) → Represents S v ps h → Known S h → (t : ℕ) → stateOf h t ≡ active

@@ -20,7 +20,7 @@ one-pos false = refl
 one-zero : (b : Bool) → b ≡ false → one b ≡ 0
 one-zero b e = rw e
 
-live-inside : {A : Type 0} (live : A → Bool) (l : List A) (k : ℕ) (d : A) → live d ≡ false → T (live (getD l k d)) → k < length l
+pub live-inside : {A : Type 0} (live : A → Bool) (l : List A) (k : ℕ) (d : A) → live d ≡ false → T (live (getD l k d)) → k < length l
 live-inside live [] k d e t = absurd (rw e at t)
 live-inside live (x ∷ l) zero d e t = omega arith
 live-inside live (x ∷ l) (suc k) d e t = omega (arith, live-inside live l k d e t)

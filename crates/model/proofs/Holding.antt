@@ -103,6 +103,10 @@ pub holds-cells : {h : History} {g c : ℕ} {Q : ℕ → Type 0} {x : PageWords}
 holds-cells f o =
     record { through = o .through; newest = o .newest; stamped = o .stamped; cells = λ r e q. ap (toZ w32) (f r e q) ∙ o .cells r e q }
 
+pub same-row : (m n : ℕ) → rangeOf m ≡ rangeOf n → within m ≡ within n → m ≡ n
+unfolding rangeOf
+same-row m n a b = omega arith
+
 -- ---- an insert into the page
 abbrev pub withRow : History → Row → History
 withRow h w = withRows h (h .rows ++ w ∷ [])

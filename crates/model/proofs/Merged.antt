@@ -5,7 +5,7 @@ use mathlib.Core.Bool.{Bool, true, false, not, cond, _&&_}
 use mathlib.Core.List.{List, [], _∷_, _++_}
 use Prim.Native.Nat.{ℕ, zero, suc, _+_, _*_, _-_, _%_, _^_, _≤_, _<_}
 use native.Mathlib.Omega.{arith}
-use native.Mathlib.Nat.{le-trans, mod-eq-of-lt, mul-comm}
+use native.Mathlib.Nat.{mod-eq-of-lt, mul-comm}
 use native.Mathlib.Decide.{ℕ-discrete, decLt}
 use lib.Dec.{T, leb, ltb, eqb, eqb→eq, leb→le, le→leb, ltb→lt, lt→ltb}
 use lib.ListN.{length, getD, take, length-append}
@@ -15,7 +15,7 @@ use mir.Val.{toZ}
 use Rattle.terms.specs.Measures.{Shape, rangeRows}
 use Rattle.history.specs.History.{merge, History, Record, State, active, committed, Merge, Scan, any, isActive, isCommitted, stateOf, rowAt, rangeOf, recordsOf, lastThrough, mergedThrough, anyActive, waitingPages, scanAt, inserted, lastSetting, withMerges, cellThrough}
 use Rattle.history.specs.Lists.{All}
-use Rattle.history.proofs.Lists.{all-map, any-none, is-true, refuted, eqb-other, eqb-equal, parts}
+use Rattle.history.proofs.Lists.{by-cases, all-map, any-none, is-true, refuted, eqb-other, eqb-equal, parts}
 use Rattle.history.proofs.Steps.{Step}
 use Rattle.history.proofs.States.{isClosed}
 use Rattle.history.proofs.Timely.{Timely}
@@ -35,12 +35,12 @@ use Rattle.model.specs.Calls.{openAmongIn}
 use Rattle.model.proofs.Lists.{one, count-from, from-snoc, first-is, first-only, first-ext, first-none, below-change, below-three, part-in, same-part, is-equal, same-truth}
 use Rattle.model.proofs.Represents.{Holds, NotAfter, everyRow, CurrentOf, CurrentsAre, WaitingIs, WaitingAre, madeIn, PoolIs, ScanPageIs, ScanPagesAre, Represents, Known, Whole}
 use Rattle.model.proofs.Holding.{holds-step, holds-cells, same-rows}
-use Rattle.model.proofs.Steady.{current-step, waiting-step, scan-page-step}
+use Rattle.model.proofs.Steady.{current-step, current-cells, waiting-step, scan-cells, scan-page-step}
 use Rattle.model.proofs.Views.{renew-whole, put-whole, header-put, header-same}
 use Rattle.model.proofs.Insert.{current-apart}
 use Rattle.model.proofs.Merge.{applied-length, applied-fit, applied-outside, applied-is, newest-is, newest-fit, newest-last, any-open-is}
 use Rattle.model.proofs.Scans.{scan-current}
-use Rattle.model.proofs.ScanPages.{WasCurrent, was-current, is-current, search-same, search, found-page, scan-cases, scan-page-same}
+use Rattle.model.proofs.ScanPages.{WasCurrent, was-current, is-current, unfound, unfound-state, search-same, search, search-is, found-page, Cases, scan-cases, scan-page-same}
 
 -- a place is below the number of places
 pub place-in : (S : Shape) (g c : ℕ) → g < S .ranges → c < S .columns → placeOf S g c < placesOf S
@@ -193,13 +193,9 @@ module _ (S : Shape) (v : View) (ps : List Place) (h : History) (o : Represents 
   pub cells-other : (q i : ℕ) → q ≢ p → i < rangeRows → cellIn v′ q i ≡ cellIn v q i
   unfolding mergedIn put renew cellIn
   cells-other q i f b =
-      let d : (q * rangeRows + i < p * rangeRows) ⊎ (p * rangeRows + rangeRows ≤ q * rangeRows + i) = side (decLt q p) in
+      let d : (q * rangeRows + i < p * rangeRows) ⊎ (p * rangeRows + rangeRows ≤ q * rangeRows + i) = by-cases (decLt q p) (λ u. inl (omega arith)) (λ u. inr (omega arith)) in
       applied-outside S v h g c p low bc (o .tails g bg) (n - low) copy (q * rangeRows + i) d
       ∙ changed-outside (λ i x. getD (v Cells) (old * rangeRows + i) 0) (p * rangeRows) (v Cells) rangeRows (q * rangeRows + i) d
-    where
-      side : Dec (q < p) → (q * rangeRows + i < p * rangeRows) ⊎ (p * rangeRows + rangeRows ≤ q * rangeRows + i)
-      side (yes u) = inl (omega arith)
-      side (no u) = inr (omega (arith, u, f))
 
   -- ---- what the new page holds
   new-holds : Holds h g c everyRow record { state = asCurrent; place = placeOf S g c; made = m; replaced = (pageIn v p) .replaced; lineage = n; newest = late } (cellIn v′ p)
@@ -246,33 +242,20 @@ module _ (S : Shape) (v : View) (ps : List Place) (h : History) (o : Represents 
   rows-same = refl
 
   merge-currents : Step S h (merge g c n) h′ → CurrentsAre S h′ v′
-  merge-currents step a b u w = go (ℕ-discrete (placeOf S a b) (placeOf S g c))
-    where
-      go : Dec (placeOf S a b ≡ placeOf S g c) → CurrentOf S h′ v′ a b
-      go (yes e) =
-          let q : (a ≡ g) × (b ≡ c) = same-part (S .columns) a g b c w bc e in
-          rw (q .0, q .1, current-here, page-free)
-          record {
-            inside = room;
-            state = refl;
-            place = refl;
-            made = omega (arith, m-is, more-merges);
-            lineage = sym through-here;
-            holds = holds-step (k .past .order) step g c _ (λ r e u. (tt, same-rows (length (h .rows)) (length ((h′) .rows)) r rows-same)) new-holds;
-          }
-      go (no f) =
-          let x : CurrentOf S h v a b = o .currents a b u w in
-          let y : CurrentOf S h′ v a b =
-          current-step (k .past .order) step rows-same (through-there a b f) x in
-          rw (current-there a b f, page-other (currentIn S v a b) (current-not-free a b u w) (current-not-old a b u w f))
-          record {
-            inside = y .inside;
-            state = y .state;
-            place = y .place;
-            made = y .made;
-            lineage = y .lineage;
-            holds = holds-cells (λ r e q. cells-other (currentIn S v a b) (within r) (current-not-free a b u w) (omega arith)) (y .holds);
-          }
+  merge-currents step a b u w = by-cases (ℕ-discrete (placeOf S a b) (placeOf S g c))
+      (λ e. let q : (a ≡ g) × (b ≡ c) = same-part (S .columns) a g b c w bc e in
+      rw (q .0, q .1, current-here, page-free)
+      record {
+        inside = room;
+        state = refl;
+        place = refl;
+        made = omega (arith, m-is, more-merges);
+        lineage = sym through-here;
+        holds = holds-step (k .past .order) step g c _ (λ r e u. (tt, same-rows (length (h .rows)) (length ((h′) .rows)) r rows-same)) new-holds;
+      })
+      (λ f. rw (current-there a b f, page-other (currentIn S v a b) (current-not-free a b u w) (current-not-old a b u w f))
+      (current-cells (λ r. cells-other (currentIn S v a b) (within r) (current-not-free a b u w) (omega arith))
+      (current-step (k .past .order) step rows-same (through-there a b f) (o .currents a b u w))))
 
   -- ---- the waiting pages
   made-here : (a b : ℕ) → (a ≡ g) × (b ≡ c) → madeIn S v′ a b ≡ m
@@ -283,11 +266,9 @@ module _ (S : Shape) (v : View) (ps : List Place) (h : History) (o : Represents 
       ap (λ (i : ℕ). (pageIn v′ i) .made) (current-there a b f) ∙ ap (λ (x : PageWords). x .made) (page-other (currentIn S v a b) (current-not-free a b u w) (current-not-old a b u w f))
 
   made-later : (a b : ℕ) → a < S .ranges → b < S .columns → madeIn S v a b ≤ madeIn S v′ a b
-  made-later a b u w = go (ℕ-discrete (placeOf S a b) (placeOf S g c))
-    where
-      go : Dec (placeOf S a b ≡ placeOf S g c) → madeIn S v a b ≤ madeIn S v′ a b
-      go (yes e) = omega (arith, o .currents a b u w .made, m-is, made-here a b (same-part (S .columns) a g b c w bc e))
-      go (no f) = omega (arith, made-there a b u w f)
+  made-later a b u w = by-cases (ℕ-discrete (placeOf S a b) (placeOf S g c))
+      (λ e. omega (arith, o .currents a b u w .made, m-is, made-here a b (same-part (S .columns) a g b c w bc e)))
+      (λ f. omega (arith, made-there a b u w f))
 
   merge-waits : Step S h (merge g c n) h′ → WaitingAre S h′ v′
   merge-waits step q b t = go (ℕ-discrete q p) (ℕ-discrete q old) t
@@ -306,18 +287,7 @@ module _ (S : Shape) (v : View) (ps : List Place) (h : History) (o : Represents 
                 rw (s .0) (unfold recordsOf withMerges in (now .holds .through .within));
             stamped = unfold withMerges in (now .holds .stamped);
           }
-      go (no f) (no e) t =
-          let x : WaitingIs S h (madeIn S v) (pageIn v q) = o .waits q b (rw (page-other q f e) at t) in
-          let y : WaitingIs S h′ (madeIn S v) (pageIn v q) = waiting-step step x in
-          rw (page-other q f e)
-          record {
-            place = y .place;
-            rises = y .rises;
-            replaced-by = y .replaced-by;
-            early = λ a b′ u w z. le-trans (y .early a b′ u w z) (made-later a b′ u w);
-            reach = y .reach;
-            stamped = y .stamped;
-          }
+      go (no f) (no e) t = rw (page-other q f e) (waiting-step step made-later (o .waits q b (rw (page-other q f e) at t)))
 
   -- ---- the pool
   -- a test of a page's words, before and after: it changes at the two pages alone
@@ -366,32 +336,19 @@ module _ (S : Shape) (v : View) (ps : List Place) (h : History) (o : Represents 
       }
 
   -- ---- the scans' pages
-  never : (q b pl : ℕ) → (WasCurrent S b pl (pageIn v q) → ⊥) → wasCurrent S v b pl q ≡ false
-  never q b pl f = refuted (wasCurrent S v b pl q) (λ t. f (was-current S v b pl q t))
-
-  never′ : (q b pl : ℕ) → (WasCurrent S b pl (pageIn v′ q) → ⊥) → wasCurrent S v′ b pl q ≡ false
-  never′ q b pl f = refuted (wasCurrent S v′ b pl q) (λ t. f (was-current S v′ b pl q t))
-
-  free-unfound : (b pl : ℕ) → wasCurrent S v b pl p ≡ false
-  free-unfound b pl = never p b pl (λ x. omega (arith, ltb→lt 1 ((pageIn v p) .state) (x .waits), free-state))
-
   new-unfound : (b pl : ℕ) → wasCurrent S v′ b pl p ≡ false
-  new-unfound b pl = never′ p b pl (λ x. omega (arith, ltb→lt 1 ((pageIn v′ p) .state) (x .waits), ap (λ (z : PageWords). z .state) page-free))
-
-  current-unfound : (b pl : ℕ) → wasCurrent S v b pl old ≡ false
-  current-unfound b pl = never old b pl (λ x. omega (arith, ltb→lt 1 ((pageIn v old) .state) (x .waits), now .state))
+  new-unfound b pl = unfound-state S v′ b pl p (omega (arith, ap (λ (z : PageWords). z .state) page-free))
 
   old-place : (pageIn v′ old) .place % placesOf S ≡ placeOf S g c
   old-place = ap (λ (z : PageWords). z .place % placesOf S) page-old ∙ ap (λ (i : ℕ). i % placesOf S) (now .place) ∙ place-mod S (placeOf S g c) (place-in S g c bg bc)
 
   -- where the replaced page does not pass, the search is as it was
   search-stays : (b a d : ℕ) → wasCurrent S v′ b (placeOf S a d) old ≡ false → search S v′ b a d ≡ search S v b a d
-  search-stays b a d e = first-ext _ _ (pagesOf S) 0 (λ q _ _. at-page q (ℕ-discrete q p) (ℕ-discrete q old))
-    where
-      at-page : (q : ℕ) → Dec (q ≡ p) → Dec (q ≡ old) → wasCurrent S v′ b (placeOf S a d) q ≡ wasCurrent S v b (placeOf S a d) q
-      at-page q (yes z) y = ap (wasCurrent S v′ b (placeOf S a d)) z ∙ new-unfound b (placeOf S a d) ∙ sym (ap (wasCurrent S v b (placeOf S a d)) z ∙ free-unfound b (placeOf S a d))
-      at-page q (no z) (yes y) = ap (wasCurrent S v′ b (placeOf S a d)) y ∙ e ∙ sym (ap (wasCurrent S v b (placeOf S a d)) y ∙ current-unfound b (placeOf S a d))
-      at-page q (no z) (no y) = search-same S v v′ b (placeOf S a d) q (page-other q z y)
+  search-stays b a d e = first-ext _ _ (pagesOf S) 0 (λ q _ _. by-cases (ℕ-discrete q p)
+      (λ z. rw (z, new-unfound b (placeOf S a d), unfound-state S v b (placeOf S a d) p (omega (arith, free-state))))
+      (λ z. by-cases (ℕ-discrete q old)
+      (λ y. rw (y, e, unfound-state S v b (placeOf S a d) old (omega (arith, now .state))))
+      (λ y. search-same S v v′ b (placeOf S a d) q (page-other q z y))))
 
   -- the page was current when the scan was opened: the search finds it now
   search-finds : (b : ℕ) → b ≤ length (h .merges) → (pageIn v old) .made ≤ b → search S v′ b g c ≡ old
@@ -420,7 +377,7 @@ module _ (S : Shape) (v : View) (ps : List Place) (h : History) (o : Represents 
       later : (a ≡ g) × (d ≡ c) → b < madeIn S v′ a d
       later q = omega (arith, made-here a d q, m-is)
 
-      go : Dec (placeOf S a d ≡ placeOf S g c) → (madeIn S v a d ≤ b) ⊎ ((b < madeIn S v a d) × (search S v b a d < pagesOf S)) → scanPage S v′ b a d ≡ scanPage S v b a d
+      go : Dec (placeOf S a d ≡ placeOf S g c) → Cases S v b a d → scanPage S v′ b a d ≡ scanPage S v b a d
       go (yes e) (inl x) =
           let q : (a ≡ g) × (d ≡ c) = same-part (S .columns) a g d c w bc e in
           let y : currentIn S v a d ≡ old = ap (λ (i : ℕ). currentIn S v i d) (q .0) ∙ ap (currentIn S v g) (q .1) in
@@ -431,20 +388,20 @@ module _ (S : Shape) (v : View) (ps : List Place) (h : History) (o : Represents 
           let q : (a ≡ g) × (d ≡ c) = same-part (S .columns) a g d c w bc e in
           let y : currentIn S v a d ≡ old = ap (λ (i : ℕ). currentIn S v i d) (q .0) ∙ ap (currentIn S v g) (q .1) in
           let z : search S v′ b a d ≡ search S v b a d =
-          search-stays b a d (never′ old b (placeOf S a d) (λ t. omega (arith, t .before, ap (λ (z : PageWords). z .made) page-old, x .0, ap (λ (i : ℕ). (pageIn v i) .made) y))) in
+          search-stays b a d (unfound S v′ b (placeOf S a d) old (λ t. omega (arith, t .before, ap (λ (z : PageWords). z .made) page-old, x .0, ap (λ (i : ℕ). (pageIn v i) .made) y))) in
           found-page S v′ b a d (later q) (omega (arith, z, x .1)) ∙ z ∙ sym (found-page S v b a d (x .0) (x .1))
       go (no f) x =
-          scan-page-same S v v′ b a d (current-there a d f) (made-there a d u w f) (search-stays b a d (never′ old b (placeOf S a d) (λ t. f (sym (sym old-place ∙ t .place-is)))))
+          scan-page-same S v v′ b a d (current-there a d f) (made-there a d u w f) (search-stays b a d (unfound S v′ b (placeOf S a d) old (λ t. f (sym (sym old-place ∙ t .place-is)))))
 
   -- a running scan's page is not the page taken
   pub scan-not-free : (b a d : ℕ) → a < S .ranges → d < S .columns → (pageIn v (scanPage S v b a d)) .made ≤ b → scanPage S v b a d ≢ p
   scan-not-free b a d u w before = go (scan-cases S v b a d before)
     where
-      go : (madeIn S v a d ≤ b) ⊎ ((b < madeIn S v a d) × (search S v b a d < pagesOf S)) → scanPage S v b a d ≢ p
+      go : Cases S v b a d → scanPage S v b a d ≢ p
       go (inl x) e = current-not-free a d u w (sym (scan-current S v b a d x) ∙ e)
       go (inr x) e =
           not-free (search S v b a d)
-          (omega (arith, ltb→lt 1 ((pageIn v (search S v b a d)) .state) (was-current S v b (placeOf S a d) (search S v b a d) (first-is (wasCurrent S v b (placeOf S a d)) (pagesOf S) 0 (omega (arith, x .1))) .waits)))
+          (omega (arith, ltb→lt 1 ((pageIn v (search S v b a d)) .state) (search-is S v b a d (x .1) .waits)))
           (sym (found-page S v b a d (x .0) (x .1)) ∙ e)
 
   merge-scans : Step S h (merge g c n) h′ → ScanPagesAre S h′ v′
@@ -460,7 +417,7 @@ module _ (S : Shape) (v : View) (ps : List Place) (h : History) (o : Represents 
       kept : (s : Scan) (a d q : ℕ) → q ≢ p → ScanPageIs S h′ s a d q (pageIn v q) (cellIn v q) → Dec (q ≡ old) → ScanPageIs S h′ s a d q (pageIn v′ q) (cellIn v′ q)
       kept s a d q f y (no z) =
           subst (λ (x : PageWords). ScanPageIs S h′ s a d q x (cellIn v′ q)) (sym (page-other q f z))
-          record { inside = y .inside; early = y .early; place = y .place; made = y .made; holds = holds-cells (λ r e t. cells-other q (within r) f (omega arith)) (y .holds) }
+          (scan-cells (λ r e t. cells-other q (within r) f (omega arith)) y)
       kept s a d q f y (yes z) =
           let w : pageIn v′ q ≡ record { state = asWaiting; place = (pageIn v q) .place; made = (pageIn v q) .made; replaced = m; lineage = (pageIn v q) .lineage; newest = (pageIn v q) .newest } =
           subst (λ (j : ℕ). pageIn v′ j ≡ record { state = asWaiting; place = (pageIn v j) .place; made = (pageIn v j) .made; replaced = m; lineage = (pageIn v j) .lineage; newest = (pageIn v j) .newest }) (sym z) page-old in

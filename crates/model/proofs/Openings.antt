@@ -1,5 +1,5 @@
 -- A running scan reads the pages that were current at its opening: no call makes it find another page, and no call writes a cell of a row that was given before.
-use mathlib.Core.Path.{_≡_, refl, sym, _∙_, ap, subst}
+use mathlib.Core.Path.{_≡_, refl, sym, _∙_, subst}
 use mathlib.Core.Bool.{Bool, true, false, not, cond}
 use mathlib.Core.List.{List, [], _∷_}
 use Prim.Native.Nat.{ℕ, _*_, _≤_, _<_}
@@ -23,9 +23,8 @@ use Rattle.model.specs.Stored.{rowIn, pageIn, cellIn, currentIn, within,
 use Rattle.model.specs.Reading.{scanPage, wasCurrent}
 use Rattle.model.specs.Writing.{begun, noted, settled, freed, committedIn, abortedIn, insertedAt, insertedIn, appended, filledIn, newBitsIn, originalAppended, settingAppended, updatedIn, deletedIn, mergedIn, releasedIn}
 use Rattle.model.specs.Calls.{Typed, actIn, viewIf, viewNext, placesNext, viewAfter}
-use Rattle.model.proofs.Lists.{same-part}
 use Rattle.model.proofs.Represents.{ScanPageOf, Represents, Known}
-use Rattle.model.proofs.Insert.{inside, cell-kept}
+use Rattle.model.proofs.Insert.{cell-kept, scan-apart}
 use Rattle.model.proofs.Merged.{scan-same, scan-not-free, cells-other}
 use Rattle.model.proofs.Holding.{grown}
 use Rattle.model.proofs.Steady.{still-running}
@@ -39,10 +38,6 @@ pub record SamePage (S : Shape) (v w : View) (m n g c : ℕ) : Type 0 where
 
 unmoved : (S : Shape) (v : View) (m n g c : ℕ) → SamePage S v v m n g c
 unmoved S v m n g c = record { page = refl; cells = λ r b e. refl }
-
-same-row : (m n : ℕ) → rangeOf m ≡ rangeOf n → within m ≡ within n → m ≡ n
-unfolding rangeOf
-same-row m n a b = omega arith
 
 module _ (S : Shape) (v : View) (ps : List Place) (h : History) (o : Represents S v ps h) (k : Known S h) (i : ℕ) (run : T (scanAt h i .running)) (g c : ℕ) (bg : g < S .ranges) (bc : c < S .columns) where
   abbrev Same : View → Type 0
@@ -65,21 +60,13 @@ module _ (S : Shape) (v : View) (ps : List Place) (h : History) (o : Represents 
       is-active : stateOf h t ≡ H.active
       is-active = active-of S v ps h o k t a
 
-      row-in : rangeOf (length (h .rows)) < S .ranges
-      row-in = inside S v ps h o k t vs is-active room (y .1)
-
       at-row : Same (insertedAt S t vs (length (h .rows)) v)
       at-row = unfold insertedAt noted openPlace put renew scanPage wasCurrent currentIn pageIn cellIn in
           record {
             page = refl;
-            cells = λ r u e. cell-kept S v ps h o k t vs is-active room (y .1) q (within r) (omega arith) (λ c′ w z x. apart r c′ u e w z x);
+            cells = λ r u e. cell-kept S v ps h o k t vs is-active room (y .1) q (within r) (omega arith)
+                (scan-apart S v ps h o k t vs is-active room (y .1) g c q bc (page .place) r e (λ z. omega arith));
           }
-        where
-          apart : (r c′ : ℕ) → r < length (h .rows) → rangeOf r ≡ g → c′ < S .columns → q ≡ currentIn S v (rangeOf (length (h .rows))) c′ → within r ≡ within (length (h .rows)) → ⊥
-          apart r c′ u e w z x =
-              let f : g ≡ rangeOf (length (h .rows)) =
-              same-part (S .columns) g (rangeOf (length (h .rows))) c c′ bc w (sym (page .place) ∙ ap (λ (j : ℕ). (pageIn v j) .place) z ∙ o .currents (rangeOf (length (h .rows))) c′ row-in w .place) .0 in
-              omega (arith, same-row r (length (h .rows)) (e ∙ f) x)
 
   update-same : (t r n : ℕ) (vs : List ℤ) → Same (updatedIn S t r n vs v)
   unfolding updatedIn

@@ -1,15 +1,16 @@
 -- Release keeps the relation: a waiting page is freed unless an open scan was opened before the merge that replaced it, so no open scan's page is freed.
 use mathlib.Core.Path.{_≡_, refl, sym, _∙_, ap, subst}
-use mathlib.Core.Logic.{_⊎_, inl, inr}
-use mathlib.Core.Bool.{Bool, true, false, not, cond, _&&_, _||_, and-false, and-true}
+use mathlib.Core.Logic.{inl, inr}
+use mathlib.Core.Bool.{Bool, true, false, not, cond, _&&_, and-false, and-true, and-assoc, and-comm}
 use mathlib.Core.List.{List, [], _∷_}
 use Prim.Native.Nat.{ℕ, zero, suc, _^_, _≤_, _<_}
 use native.Mathlib.Omega.{arith}
+use native.Mathlib.Nat.{le-refl}
 use lib.Dec.{T, leb, ltb, eqb, eqb→eq, leb→le, le→leb, ltb→lt, lt→ltb}
 use lib.ListN.{length}
 use Rattle.terms.specs.Measures.{Shape}
 use Rattle.history.specs.History.{release, History, Scan, Merge, any, nth, stateOf, rowAt, recordsOf, mergedThrough, scanAt, neededBy, afterRelease, releasedCount, withMerges}
-use Rattle.history.proofs.Lists.{clash, is-true, refuted, parts, both}
+use Rattle.history.proofs.Lists.{place-any, clash, refuted, parts, both}
 use Rattle.history.proofs.Steps.{Step}
 use Rattle.history.proofs.Timely.{Timely}
 use Rattle.history.proofs.Merges.{length-released}
@@ -26,7 +27,8 @@ use Rattle.model.proofs.Represents.{CurrentIs, CurrentOf, CurrentsAre, 
 use Rattle.model.proofs.Steady.{current-step, waiting-step, scan-page-step}
 use Rattle.model.proofs.Views.{renew-whole, changed-start, header-same}
 use Rattle.model.proofs.Scans.{scan-current}
-use Rattle.model.proofs.ScanPages.{WasCurrent, was-current, search-same, search, scan-cases, found-page, scan-page-same}
+use Rattle.model.proofs.ScanPages.{WasCurrent, unfound, unfound-state, search-same, search, search-is, Cases, scan-cases, found-page, scan-page-same}
+use Rattle.model.proofs.Book.{live-inside}
 
 -- ---- the scans that need a page
 pub needed-is : (ss : List Scan) (ps : List Place) → ScansAre ss ps → (i : ℕ) → neededIn ps (suc i) ≡ neededBy ss i
@@ -49,14 +51,7 @@ still-waiting ss ps o q i (m ∷ ms) =
     rw (needed-is ss ps o i, still-waiting ss ps o q (suc i) ms)
     (ap
     (λ (b : Bool). cond b (suc (countFrom (λ j m. m .waiting && q j) (suc (suc i)) (afterRelease ss (suc i) ms))) (countFrom (λ j m. m .waiting && q j) (suc (suc i)) (afterRelease ss (suc i) ms)))
-    (swap (m .waiting) (q (suc i)) (neededBy ss i)))
-  where
-    swap : (a b c : Bool) → (a && (b && c)) ≡ (a && c && b)
-    swap true true true = refl
-    swap true true false = refl
-    swap true false true = refl
-    swap true false false = refl
-    swap false b c = refl
+    (ap (λ (b : Bool). m .waiting && b) (and-comm (q (suc i)) (neededBy ss i)) ∙ sym (and-assoc (m .waiting) (neededBy ss i) (q (suc i)))))
 
 freed-count : (ss : List Scan) (ps : List Place) → ScansAre ss ps → (i : ℕ) (ms : List Merge)
     → countFrom (λ j m. m .waiting && not (neededIn ps j)) (suc i) ms ≡ releasedCount ss i ms
@@ -66,13 +61,7 @@ freed-count ss ps o i (m ∷ ms) = rw (needed-is ss ps o i, freed-count ss ps o 
 
 any-nth : {A : Type 0} (f : A → Bool) (l : List A) (k : ℕ) (d : A) → f d ≡ false → T (f (nth l k d)) → T (any f l)
 any-nth f l zero d e t = absurd (rw e at t)
-any-nth f [] (suc k) d e t = absurd (rw e at t)
-any-nth f (x ∷ l) (suc zero) d e t = rw (is-true (f x) t) tt
-any-nth f (x ∷ l) (suc (suc k)) d e t = go (f x) (any-nth f l (suc k) d e t)
-  where
-    go : (b : Bool) → T (any f l) → T (b || any f l)
-    go true u = tt
-    go false u = u
+any-nth f l (suc k) d e t = place-any f l d k (live-inside f l k d e t) t
 
 -- ---- the answer
 pub release-count : (S : Shape) (v : View) (ps : List Place) (h : History) → Represents S v ps h → countBelow (releasable ps v) (pagesOf S) ≡ releasedCount (h .scans) 0 (h .merges)
@@ -120,8 +109,7 @@ module _ (S : Shape) (v : View) (ps : List Place) (h : History) (o : Represents 
   -- a page that is freed passes no search
   freed-unfound : (m pl q : ℕ) → q < pagesOf S → releasable ps v q ≡ true → wasCurrent S v′ m pl q ≡ false
   freed-unfound m pl q b e =
-      refuted (wasCurrent S v′ m pl q)
-      (λ t. omega (arith, ltb→lt 1 ((pageIn v′ q) .state) (was-current S v′ m pl q t .waits), state-after q b, ap (λ (z : Bool). cond z asFree ((pageIn v q) .state)) e))
+      unfound-state S v′ m pl q (omega (arith, state-after q b, ap (λ (z : Bool). cond z asFree ((pageIn v q) .state)) e))
 
   search-kept : (i a d : ℕ) → T (scanAt h i .running) → search S v′ (scanAt h i .before) a d ≡ search S v (scanAt h i .before) a d
   search-kept i a d t = first-ext _ _ (pagesOf S) 0 (λ q _ b. at-page q (omega arith) (releasable ps v q) refl)
@@ -129,8 +117,7 @@ module _ (S : Shape) (v : View) (ps : List Place) (h : History) (o : Represents 
       at-page : (q : ℕ) → q < pagesOf S → (z : Bool) → releasable ps v q ≡ z → wasCurrent S v′ (scanAt h i .before) (placeOf S a d) q ≡ wasCurrent S v (scanAt h i .before) (placeOf S a d) q
       at-page q b true e =
           freed-unfound (scanAt h i .before) (placeOf S a d) q b e
-          ∙ sym (refuted (wasCurrent S v (scanAt h i .before) (placeOf S a d) q)
-          (λ u. true-false (sym e ∙ found-kept i (placeOf S a d) q t (was-current S v (scanAt h i .before) (placeOf S a d) q u))))
+          ∙ sym (unfound S v (scanAt h i .before) (placeOf S a d) q (λ x. true-false (sym e ∙ found-kept i (placeOf S a d) q t x)))
       at-page q b false e = search-same S v v′ (scanAt h i .before) (placeOf S a d) q (page-kept q b e)
 
   pub scan-page-kept : (i a d : ℕ) → T (scanAt h i .running) → scanPage S v′ (scanAt h i .before) a d ≡ scanPage S v (scanAt h i .before) a d
@@ -147,13 +134,11 @@ module _ (S : Shape) (v : View) (ps : List Place) (h : History) (o : Represents 
       → releasable ps v (scanPage S v (scanAt h i .before) a d) ≡ false
   scan-releasable i a d u w t before = go (scan-cases S v (scanAt h i .before) a d before)
     where
-      go : (madeIn S v a d ≤ scanAt h i .before) ⊎ ((scanAt h i .before < madeIn S v a d) × (search S v (scanAt h i .before) a d < pagesOf S))
-          → releasable ps v (scanPage S v (scanAt h i .before) a d) ≡ false
+      go : Cases S v (scanAt h i .before) a d → releasable ps v (scanPage S v (scanAt h i .before) a d) ≡ false
       go (inl x) = ap (releasable ps v) (scan-current S v (scanAt h i .before) a d x) ∙ current-kept a d u w
       go (inr x) =
           ap (releasable ps v) (found-page S v (scanAt h i .before) a d (x .0) (x .1))
-          ∙ found-kept i (placeOf S a d) (search S v (scanAt h i .before) a d) t
-          (was-current S v (scanAt h i .before) (placeOf S a d) _ (Rattle.model.proofs.Lists.first-is (wasCurrent S v (scanAt h i .before) (placeOf S a d)) (pagesOf S) 0 (omega (arith, x .1))))
+          ∙ found-kept i (placeOf S a d) (search S v (scanAt h i .before) a d) t (search-is S v (scanAt h i .before) a d (x .1))
 
   -- ---- the parts
   merges-same : length ((h′) .merges) ≡ length (h .merges)
@@ -173,16 +158,10 @@ module _ (S : Shape) (v : View) (ps : List Place) (h : History) (o : Represents 
   release-waits : Step S h release h′ → WaitingAre S h′ v′
   release-waits step q b t = go (releasable ps v q) refl
     where
-      same-made : (a d : ℕ) → madeIn S v′ a d ≡ madeIn S v a d
-      same-made a d = unfold currentIn pageIn releasedIn renew in refl
-
       go : (z : Bool) → releasable ps v q ≡ z → WaitingIs S h′ (madeIn S v′) (pageIn v′ q)
       go true e = absurd (omega (arith, ltb→lt 1 ((pageIn v′ q) .state) t, state-after q b, ap (λ (z : Bool). cond z asFree ((pageIn v q) .state)) e))
-      go false e =
-          let x : WaitingIs S h (madeIn S v) (pageIn v q) = o .waits q b (subst (λ (y : PageWords). T (waitingPage (y .state))) (page-kept q b e) t) in
-          let y : WaitingIs S h′ (madeIn S v) (pageIn v q) = waiting-step step x in
-          subst (λ (z : PageWords). WaitingIs S h′ (madeIn S v′) z) (sym (page-kept q b e))
-          record { place = y .place; rises = y .rises; replaced-by = y .replaced-by; early = λ a d u w z. omega (arith, y .early a d u w z, same-made a d); reach = y .reach; stamped = y .stamped }
+      go false e = rw (page-kept q b e)
+          (waiting-step {made = madeIn S v} {made′ = madeIn S v′} step (λ a d _ _. unfold currentIn pageIn releasedIn renew in le-refl _) (o .waits q b (rw (page-kept q b e) at t)))
 
   released-waits : (q : ℕ) → releasable ps v q ≡ true → T (waitingPage ((pageIn v q) .state))
   unfolding releasable
@@ -228,11 +207,7 @@ module _ (S : Shape) (v : View) (ps : List Place) (h : History) (o : Represents 
   unfolding releasedIn
   release-whole =
       renew-whole PageState _ (changed-length _ 0 (v PageState) (pagesOf S) ∙ o .whole .long PageState)
-      (changed-fit _ 0 (pagesOf S) (v PageState) (λ i x _ b. pick (releasable ps v i) x b) (o .whole .fits PageState)) (o .whole)
-    where
-      pick : (z : Bool) (x : ℕ) → x < 2 ^ 32 → cond z asFree x < 2 ^ 32
-      pick true x b = omega arith
-      pick false x b = b
+      (changed-fit _ 0 (pagesOf S) (v PageState) (λ i x _ b. elim (releasable ps v i) as (λ z. cond z asFree x < 2 ^ 32) [ true ↦ omega arith | false ↦ b ]) (o .whole .fits PageState)) (o .whole)
 
   pub release-kept : Step S h release h′ → Represents S (releasedIn S ps v) ps h′
   unfolding withMerges stateOf rowAt recordsOf releasedIn renew rowIn recordIn valueIn

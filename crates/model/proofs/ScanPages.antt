@@ -10,6 +10,7 @@ use Rattle.history.proofs.Lists.{by-test, is-true, refuted, parts, both, eqb-eq
 use Rattle.layout.specs.View.{View}
 use Rattle.model.specs.Stored.{PageWords, pageIn, currentIn, placeOf, placesOf, pagesOf, waitingPage, firstFrom}
 use Rattle.model.specs.Reading.{wasCurrent, scanPage}
+use Rattle.model.proofs.Lists.{first-is}
 use Rattle.model.proofs.Represents.{madeIn}
 
 -- what the search asks of a page
@@ -50,6 +51,9 @@ search-same S v w m place q e =
 
 abbrev pub search : Shape → View → ℕ → ℕ → ℕ → ℕ
 search S v m g c = firstFrom (wasCurrent S v m (placeOf S g c)) (pagesOf S) 0
+
+pub search-is : (S : Shape) (v : View) (m g c : ℕ) → search S v m g c < pagesOf S → WasCurrent S m (placeOf S g c) (pageIn v (search S v m g c))
+search-is S v m g c b = was-current S v m (placeOf S g c) (search S v m g c) (first-is (wasCurrent S v m (placeOf S g c)) (pagesOf S) 0 (omega arith))
 
 pub found-page : (S : Shape) (v : View) (m g c : ℕ) → m < madeIn S v g c → search S v m g c < pagesOf S → scanPage S v m g c ≡ search S v m g c
 unfolding scanPage

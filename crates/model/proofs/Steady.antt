@@ -4,22 +4,22 @@ use mathlib.Core.Logic.{_⊎_, inl}
 use mathlib.Core.List.{List, [], _∷_, _++_}
 use Prim.Native.Nat.{ℕ, suc, _+_, _≤_, _<_}
 use native.Mathlib.Omega.{arith}
-use native.Mathlib.Nat.{le-trans}
+use native.Mathlib.Nat.{le-refl, le-trans}
 use native.Mathlib.Decide.{ℕ-discrete, decLt}
 use lib.Dec.{T, leb→le}
 use lib.ListN.{length, List·getD-eq-default}
 use Rattle.terms.specs.Measures.{Shape}
 use Rattle.history.specs.History as H
-use Rattle.history.specs.History.{Call, History, Row, State, unknown, active, committed, Scan, nth, change, committedBy, stateOf, rowAt, mergedThrough, seenAt, scanAt, stopped, withRows, withTail, withTransactions, withScans, withMerges}
+use Rattle.history.specs.History.{Call, History, Row, State, unknown, active, committed, Scan, nth, change, committedBy, stateOf, rowAt, rangeOf, mergedThrough, seenAt, scanAt, stopped, withRows, withTail, withTransactions, withScans, withMerges}
 use Rattle.history.proofs.Lists.{clash, by-cases, nth-last, nth-before, nth-other, nth-changed}
 use Rattle.history.proofs.Steps.{noScan, running-known, Closing, by-commit, by-abort, began, closed, Step, nothing, newStates, rowGiven, recordsMade, newScans, newMerges}
 use Rattle.history.proofs.Order.{InOrder}
 use Rattle.history.proofs.Timely.{Timely}
 use Rattle.layout.specs.View.{View}
 use Rattle.terms.specs.declared.Place.{Place}
-use Rattle.model.specs.Stored.{PageWords}
+use Rattle.model.specs.Stored.{PageWords, within}
 use Rattle.model.proofs.Represents.{CurrentIs, CurrentsAre, WaitingIs, WaitingAre, ScanPageIs, ScanPageOf, Represents, Known}
-use Rattle.model.proofs.Holding.{grown, holds-step, same-rows, withRow, row-new, row-old, rows-more}
+use Rattle.model.proofs.Holding.{grown, holds-step, holds-cells, same-rows, withRow, row-new, row-old, rows-more}
 
 -- ---- the pages
 pub current-step : {S : Shape} {y : Call} {h h′ : History} {g c p : ℕ} {x : PageWords} {cell : ℕ → ℕ} → InOrder h → Step S h y h′ → length (h .rows) ≡ length (h′ .rows)
@@ -34,16 +34,26 @@ current-step {h = h} {h′ = h′} {g = g} {c = c} {x = x} i step e m o =
       holds = holds-step i step g c x (λ r q u. (tt, same-rows (length (h .rows)) (length (h′ .rows)) r e)) (o .holds);
     }
 
-pub waiting-step : {S : Shape} {y : Call} {h h′ : History} {made : ℕ → ℕ → ℕ} {x : PageWords} → Step S h y h′ → WaitingIs S h made x → WaitingIs S h′ made x
-waiting-step step o =
+pub waiting-step : {S : Shape} {y : Call} {h h′ : History} {made made′ : ℕ → ℕ → ℕ} {x : PageWords} → Step S h y h′ → ((g c : ℕ) → g < S .ranges → c < S .columns → made g c ≤ made′ g c)
+    → WaitingIs S h made x → WaitingIs S h′ made′ x
+waiting-step step later o =
     record {
       place = o .place;
       rises = o .rises;
       replaced-by = le-trans (o .replaced-by) (grown step .merges);
-      early = o .early;
+      early = λ g c a b e. le-trans (o .early g c a b e) (later g c a b);
       reach = λ g c a b e. le-trans (o .reach g c a b e) (grown step .records g);
       stamped = le-trans (o .stamped) (grown step .last);
     }
+
+-- other cells
+pub current-cells : {S : Shape} {h : History} {g c p : ℕ} {x : PageWords} {cell cell′ : ℕ → ℕ} → ((r : ℕ) → cell′ (within r) ≡ cell (within r))
+    → CurrentIs S h g c p x cell → CurrentIs S h g c p x cell′
+current-cells f o = record { inside = o .inside; state = o .state; place = o .place; made = o .made; lineage = o .lineage; holds = holds-cells (λ r _ _. f r) (o .holds) }
+
+pub scan-cells : {S : Shape} {h : History} {s : Scan} {g c p : ℕ} {x : PageWords} {cell cell′ : ℕ → ℕ}
+    → ((r : ℕ) → rangeOf r ≡ g → T (seenAt h (s .stamp) ((rowAt h r) .inserter)) → cell′ (within r) ≡ cell (within r)) → ScanPageIs S h s g c p x cell → ScanPageIs S h s g c p x cell′
+scan-cells f o = record { inside = o .inside; early = o .early; place = o .place; made = o .made; holds = holds-cells f (o .holds) }
 
 -- ---- a row seen at a stamp that is not after the last commit was seen before
 committed-before : (l : List State) (k a : ℕ) → nth (l ++ active ∷ []) k unknown ≡ committed a → nth l k unknown ≡ committed a
@@ -140,7 +150,7 @@ module _ {S : Shape} {v : View} {ps : List Place} {h h′ : History} {y : Call} 
   currents-stay e g c a b = current-step (k .past .order) step e (ap (H.lastThrough g c 0) same) (o .currents g c a b)
 
   pub waits-stay : WaitingAre S h′ v
-  waits-stay p a b = waiting-step step (o .waits p a b)
+  waits-stay p a b = waiting-step step (λ g c _ _. le-refl _) (o .waits p a b)
 
   -- a scan that was running before
   pub scan-stays : (i : ℕ) → scanAt h′ i ≡ scanAt h i → T (scanAt h′ i .running) → (g c : ℕ) → g < S .ranges → c < S .columns

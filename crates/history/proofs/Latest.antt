@@ -1,15 +1,17 @@
 -- The last setting in the order of the records is the one with the latest stamp: what `lastSetting` takes for document 01's "the last such value at or
 -- before t".
 use mathlib.Core.Path.{_≡_, refl, sym, _∙_}
-use mathlib.Core.Bool.{Bool, true, false, cond, _&&_}
+use mathlib.Core.Bool.{cond, _&&_}
 use mathlib.Core.List.{List}
 use Prim.Native.Nat.{ℕ, _≤_}
-use lib.Dec.{T, leb, eqb, eqb→eq, le→leb}
+use borrow.Author.Tests.{le-leb}
+use lib.Dec.{T, leb, eqb, eqb→eq}
 use Rattle.history.specs.History.{History, Record, Version, State, committed, committedBy, stateOf, rowAt, sets, seenAt, inserted, versionIn, lastSetting, versionOf}
 use Rattle.history.specs.Latest.{stampOf, setterStamp, latestSetting}
 use Rattle.history.specs.Lists.{All, nil, cons}
-use Rattle.history.proofs.Lists.{parts, all-map, Pairs, empty, ahead}
+use Rattle.history.proofs.Lists.{by-test, parts, all-map, Pairs, empty, ahead}
 use Rattle.history.proofs.States.{Before}
+use Rattle.history.proofs.Ranges.{found}
 use Rattle.history.proofs.Order.{RowFollows, InOrder}
 
 -- no record of the row that is seen at t has a stamp before v's
@@ -28,23 +30,17 @@ last-latest : (h : History) (t r c : ℕ) (v : Version) {l : List Record} → Pa
 unfolding latestSetting lastSetting setterStamp versionIn
 last-latest h t r c v empty nil = refl
 last-latest h t r c v (ahead {x = x} {l = l} p ps) (cons a as′) =
-    go (eqb (x .row) r && (sets c (x .content) && seenAt h t (x .transaction))) (leb (setterStamp h v) (setterStamp h (versionIn c x)))
-    (λ b. le→leb (setterStamp h v) _ (a (row-is b) (seen b)))
-    (λ b. last-latest h t r c (versionIn c x) ps (all-map (λ y f e s. seen-stamps h t (x .transaction) (y .transaction) (f (row-is b ∙ sym e) .after) (seen b) s) p))
-    (last-latest h t r c v ps as′)
+    by-test (λ b. latestSetting h t r c (cond (b && leb (setterStamp h v) (setterStamp h (versionIn c x))) (versionIn c x) v) l ≡ lastSetting (seenAt h t) r c (cond b (versionIn c x) v) l)
+    (found (seenAt h t) r c x)
+    (λ b. rw (le-leb (setterStamp h v) _ (a (row-is b) (seen b)))
+    (last-latest h t r c (versionIn c x) ps (all-map (λ y f e s. seen-stamps h t (x .transaction) (y .transaction) (f (row-is b ∙ sym e) .after) (seen b) s) p)))
+    (λ _. last-latest h t r c v ps as′)
   where
-    row-is : T (eqb (x .row) r && (sets c (x .content) && seenAt h t (x .transaction))) → x .row ≡ r
+    row-is : T (found (seenAt h t) r c x) → x .row ≡ r
     row-is b = eqb→eq (x .row) r (parts (eqb (x .row) r) _ b .0)
 
-    seen : T (eqb (x .row) r && (sets c (x .content) && seenAt h t (x .transaction))) → T (seenAt h t (x .transaction))
+    seen : T (found (seenAt h t) r c x) → T (seenAt h t (x .transaction))
     seen b = parts (sets c (x .content)) _ (parts (eqb (x .row) r) _ b .1) .1
-
-    go : (b z : Bool) → (T b → T z) → (T b → latestSetting h t r c (versionIn c x) l ≡ lastSetting (seenAt h t) r c (versionIn c x) l)
-        → latestSetting h t r c v l ≡ lastSetting (seenAt h t) r c v l
-        → latestSetting h t r c (cond (b && z) (versionIn c x) v) l ≡ lastSetting (seenAt h t) r c (cond b (versionIn c x) v) l
-    go true true f e k = e tt
-    go true false f e k = absurd (f tt)
-    go false z f e k = k
 
 -- every read at a stamp takes the setting with the latest stamp at or before it
 pub latest-stamp : (h : History) (t r c : ℕ) → InOrder h → T (seenAt h t ((rowAt h r) .inserter))

@@ -6,13 +6,13 @@ use mathlib.Core.List.{List}
 use Prim.Native.Nat.{ℕ, zero, suc, _≤_, _<_}
 use native.Mathlib.Omega.{arith}
 use native.Mathlib.Nat.{le-refl}
-use lib.Dec.{T, eqb, eqb→eq, le→leb}
+use lib.Dec.{T, eqb, eqb→eq}
 use lib.ListN.{length, getD, take}
 use lib.Seq.{take-suc, take-length}
-use Rattle.history.specs.History.{History, Record, State, active, aborted, committed, any, isActive, committedBy, stateOf, rowAt, ends, rangeOf, recordsOf, seenAt, seenBy, ended, visible, activeOther, held, gone}
-use Rattle.history.proofs.Lists.{clash, by-test, and-same, is-true, parts, eqb-equal, eqb-other, or-right, all-map₂, any-agree, any-append}
+use Rattle.history.specs.History.{History, Record, active, aborted, any, isActive, stateOf, rowAt, ends, rangeOf, recordsOf, seenBy, ended, visible, activeOther, held, gone}
+use Rattle.history.proofs.Lists.{by-test, and-same, is-true, parts, all-map₂, any-agree, any-append}
 use Rattle.history.proofs.Steps.{active-is, free-row}
-use Rattle.history.proofs.States.{isGiven, isAborted, Stamped}
+use Rattle.history.proofs.States.{seen-by-live, isGiven, isAborted}
 use Rattle.history.proofs.Order.{Follows, InOrder, follows-at}
 use Rattle.history.proofs.Ranges.{any-range}
 use Rattle.history.proofs.Links.{noRecord, lastOf, last-of-row}
@@ -73,33 +73,13 @@ ended-newest h sees r i unseen =
     (λ x y w u. let p : T (ends (x .content)) × T (sees (x .transaction)) = parts (ends (x .content)) _ u in
     absurd (rw (unseen (x .transaction) (w .ended-aborted (p .0))) at (p .1)))
 
--- what a reader at a stamp, or an active transaction itself, sees is not aborted
-pub aborted-unseen-at : (h : History) (t k : ℕ) → stateOf h k ≡ aborted → seenAt h t k ≡ false
-unfolding seenAt committedBy
-aborted-unseen-at h t k e = rw e
-
-pub aborted-unseen-by : (h : History) (me k : ℕ) → stateOf h me ≡ active → stateOf h k ≡ aborted → seenBy h me k ≡ false
-unfolding seenBy
-aborted-unseen-by h me k o e = rw (eqb-other k me (λ q. clash (cc)), aborted-unseen-at h (h .last) k e)
-
--- where no other active transaction has changed the row, the own view sees all but what is aborted
-pub seen-by-live : (h : History) (me k : ℕ) → InOrder h → stateOf h me ≡ active → T (isGiven (stateOf h k)) → (stateOf h k ≡ active → k ≡ me)
-    → seenBy h me k ≡ not (isAborted (stateOf h k))
-unfolding Stamped seenBy seenAt committedBy
-seen-by-live h me k i o g free = go (stateOf h k) refl g
-  where
-    go : (x : State) → stateOf h k ≡ x → T (isGiven x) → seenBy h me k ≡ not (isAborted x)
-    go active e _ = rw (is-true (eqb k me) (eqb-equal k me (free e)))
-    go aborted e _ = aborted-unseen-by h me k o e
-    go (committed s) e _ = is-true (seenBy h me k) (or-right (eqb k me) _ (rw e (le→leb s (h .last) (i .stamps k s e))))
-
 pub gone-newest : (h : History) (t r : ℕ) → InOrder h → stateOf h t ≡ active → r < length (h .rows) → T (not (held h t r))
     → gone h t r ≡ (isAborted (stateOf h ((rowAt h r) .inserter)) || newestIs (λ x. ends (x .content) && not (isAborted (stateOf h (x .transaction)))) h r)
 unfolding gone visible ended
 gone-newest h t r i o b n =
     let free = free-row h t r n in
     rw (
-      seen-by-live h t _ i o (i .inserters r b) (free .0),
+      seen-by-live h t _ (i .stamps) o (i .inserters r b) (free .0),
       any-agree (all-map₂ (λ x p q. agree x (p .giver) q) (i .records) (free .1)),
       rising (λ x. ends (x .content) && not (isAborted (stateOf h (x .transaction)))) h r i
           (λ x y w u. let p : T (ends (x .content)) × T (not (isAborted (stateOf h (x .transaction)))) = parts (ends (x .content)) _ u in
@@ -109,7 +89,7 @@ gone-newest h t r i o b n =
   where
     agree : (x : Record) → T (isGiven (stateOf h (x .transaction))) → (x .row ≡ r → stateOf h (x .transaction) ≡ active → x .transaction ≡ t)
         → (eqb (x .row) r && (ends (x .content) && seenBy h t (x .transaction))) ≡ (eqb (x .row) r && (ends (x .content) && not (isAborted (stateOf h (x .transaction)))))
-    agree x g f = and-same (eqb (x .row) r) (λ u. rw (seen-by-live h t (x .transaction) i o g (f (eqb→eq (x .row) r u))))
+    agree x g f = and-same (eqb (x .row) r) (λ u. rw (seen-by-live h t (x .transaction) (i .stamps) o g (f (eqb→eq (x .row) r u))))
 
     bools : (a x : Bool) → not (not a && not x) ≡ (a || x)
     bools true x = refl

@@ -8,16 +8,16 @@ use Prim.Native.Nat.{ℕ, zero, suc, _≤_, _<_}
 use native.Mathlib.Omega.{arith}
 use native.Mathlib.Nat.{not-suc-le-zero}
 use native.Mathlib.Decide.{decLt}
-use lib.Dec.{T, leb, eqb, eqb→eq, le→leb, T-not}
+use lib.Dec.{T, eqb, eqb→eq}
 use lib.ListN.{length, getD, length-append, List·getD-append}
 use lib.Seq.{getD-append-seam}
 use lib.IntN.{ℤ}
 use Rattle.terms.specs.Measures.{Shape, mostColumns}
-use Rattle.history.specs.History.{Call, History, Row, Record, Scan, Merge, State, unknown, active, aborted, committed, original, setting, start, any, nth, committedBy, stateOf, rowAt, bit, sets, ends, seenAt, seenBy, recordsOf, upTo, newColumns, updateRecords, originalRecords, deleteRecords, withRows, withTail, withTransactions, withScans, withMerges}
+use Rattle.history.specs.History.{Call, History, Row, Record, Scan, Merge, State, unknown, active, aborted, committed, original, setting, start, any, nth, stateOf, rowAt, bit, sets, ends, recordsOf, upTo, newColumns, updateRecords, originalRecords, deleteRecords, withRows, withTail, withTransactions, withScans, withMerges}
 use Rattle.history.specs.Lists.{All, nil, cons}
-use Rattle.history.proofs.Lists.{clash, is-true, is-false, neither, not-second, eqb-equal, all-append, all-at, all-keep, all-map, all-map₂, all-both, all-swap, Pairs, empty, ahead, pairs-append, pairs-map, pairs-keep, pairs-at, any-append, not-any, among, among-upTo}
+use Rattle.history.proofs.Lists.{not-not, clash, is-true, is-false, not-second, eqb-equal, all-append, all-at, all-keep, all-map, all-map₂, all-both, all-swap, Pairs, empty, ahead, pairs-append, pairs-map, pairs-keep, pairs-at, any-append, not-any, among, among-upTo}
 use Rattle.history.proofs.Steps.{Writable, Made, by-update, by-delete, New, made-new, new-columns, isOriginal, wasSet, hasOriginal, Step, nothing, newStates, rowGiven, recordsMade, newScans, newMerges}
-use Rattle.history.proofs.States.{isGiven, Stamped, Before, Moved, moved}
+use Rattle.history.proofs.States.{isAborted, seen-by-live, aborted-is, isGiven, Stamped, Before, Moved, moved}
 
 -- an earlier record x and a later one y of one row
 pub record Follows (st : ℕ → State) (x y : Record) : Type 0 where
@@ -131,16 +131,6 @@ made-covers by-delete r′ c b = refl
 none-of : (r : ℕ) (f : Record → Bool) (l : List Record) → any (λ x. eqb (x .row) r && f x) l ≡ false → All (λ (x : Record). x .row ≡ r → f x ≡ false) l
 none-of r f l e = all-map (λ x n q. is-false (f x) (not-second (eqb (x .row) r) (f x) (eqb-equal (x .row) r q) n)) (not-any (λ x. eqb (x .row) r && f x) l (rw e tt))
 
--- not seen in the own view, and of no other active transaction: aborted
-pub unseen-aborted : (h : History) (me k : ℕ) → InOrder h → T (isGiven (stateOf h k)) → (stateOf h k ≡ active → k ≡ me) → T (not (seenBy h me k)) → stateOf h k ≡ aborted
-unfolding Stamped seenBy seenAt committedBy
-unseen-aborted h me k i g free n = go (stateOf h k) refl g n
-  where
-    go : (x : State) → stateOf h k ≡ x → T (isGiven x) → T (not (eqb k me || committedBy (h .last) x)) → x ≡ aborted
-    go active e g n = absurd (T-not (eqb k me) (neither (eqb k me) _ n .0) (eqb-equal k me (free e)))
-    go aborted e g n = refl
-    go (committed s) e g n = absurd (T-not (leb s (h .last)) (neither (eqb k me) _ n .1) (le→leb s (h .last) (i .stamps k s e)))
-
 order-tail : {S : Shape} {h : History} {t r : ℕ} {m : List Record} → InOrder h → Writable h t r → Made S h t r m → InOrder (withTail h (h .tail ++ m))
 unfolding Stamped stateOf rowAt withTail wasSet hasOriginal
 order-tail {h = h} {t = t} {r = r} {m = m} i w d =
@@ -178,7 +168,7 @@ order-tail {h = h} {t = t} {r = r} {m = m} i w d =
         (λ x p q e y n.
         record {
           after = rw (n .transaction) (onto (x .transaction) (p .0 e));
-          ended-aborted = λ u. unseen-aborted h t (x .transaction) i (q .0 .giver) (p .0 e) (p .1 e u);
+          ended-aborted = λ u. aborted-is _ (not-not (isAborted (stateOf h (x .transaction))) (rw (seen-by-live h t (x .transaction) (i .stamps) (w .active-own) (q .0 .giver) (p .0 e)) at (p .1 e u)));
           original-first = λ c u. let f : (c < mostColumns) × (wasSet (h .tail) r c ≡ false) = n .first c u in q .1 c (f .1, sym (i .originals r c (f .0)) ∙ f .1) e;
         })
         (all-both (w .records-free) (w .not-ended)) (all-both (i .records) unset)

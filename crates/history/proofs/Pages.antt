@@ -2,7 +2,7 @@
 -- page, or by the insert of their row. `Through` speaks of any record number, so that a store's proof has it for the pages that open scans keep, too.
 use mathlib.Core.Path.{_≡_, refl, sym, _∙_, ap}
 use mathlib.Core.Logic.{_≢_}
-use mathlib.Core.Bool.{Bool, true, false, cond, _&&_}
+use mathlib.Core.Bool.{Bool, true, cond, _&&_}
 use mathlib.Core.List.{List, [], _∷_, _++_}
 use Prim.Native.Nat.{ℕ, suc, _≤_, _<_, zero-le}
 use native.Mathlib.Omega.{arith}
@@ -12,7 +12,7 @@ use lib.Seq.{take-append-le}
 use Rattle.terms.specs.Measures.{Shape}
 use Rattle.history.specs.History.{Call, merge, History, Record, State, active, Version, Scan, Merge, start, next, isCommitted, stateOf, rowAt, insertedValue, inserted, lastSetting, rangeOf, recordsOf, lastThrough, mergedThrough, cellValue, afterRelease, withRows, withTail, withTransactions, withScans, withMerges, cellThrough}
 use Rattle.history.specs.Lists.{All, nil}
-use Rattle.history.proofs.Lists.{all-map, all-map₂, all-keep, all-take, keep-append}
+use Rattle.history.proofs.Lists.{by-test, parts, all-map, all-map₂, all-keep, all-take, keep-append}
 use Rattle.history.proofs.Steps.{merged, released, Step, nothing, newStates, rowGiven, recordsMade, newScans, newMerges, next-step}
 use Rattle.history.proofs.States.{isClosed, Moved, inactive-closed, moved}
 use Rattle.history.proofs.Order.{InOrder}
@@ -38,12 +38,13 @@ pub data LineageStep (h h′ : History) (g c : ℕ) : Call → Type 0 where
 
 merge-lineage : (h h′ : History) (g c : ℕ) {g′ c′ n : ℕ} → mergedThrough h′ g c ≡ cond (eqb g′ g && eqb c′ c) n (mergedThrough h g c) → mergedThrough h g′ c′ < n
     → n ≤ length (recordsOf h g′) → All (λ (x : Record). stateOf h (x .transaction) ≢ active) (take n (recordsOf h g′)) → LineageStep h h′ g c (merge g′ c′ n)
-merge-lineage h h′ g c {g′} {c′} {n} e above within free = go (eqb g′ g) (eqb c′ c) (eqb→eq g′ g) (eqb→eq c′ c) e
-  where
-    go : (a b : Bool) → (T a → g′ ≡ g) → (T b → c′ ≡ c) → mergedThrough h′ g c ≡ cond (a && b) n (mergedThrough h g c) → LineageStep h h′ g c (merge g′ c′ n)
-    go true true p q e = rw (p tt, q tt) (rises e (rw (p tt, q tt) at above) (rw (p tt) at within) (rw (p tt) at free))
-    go true false p q e = stays e
-    go false b p q e = stays e
+merge-lineage h h′ g c {g′} {c′} {n} e above within free =
+    by-test (λ q. mergedThrough h′ g c ≡ cond q n (mergedThrough h g c) → LineageStep h h′ g c (merge g′ c′ n)) (eqb g′ g && eqb c′ c)
+    (λ t e. let p = parts (eqb g′ g) _ t in
+    let q : g′ ≡ g = eqb→eq g′ g (p .0) in
+    let w : c′ ≡ c = eqb→eq c′ c (p .1) in
+    rw (q, w) (rises e (rw (q, w) at above) (rw q at within) (rw q at free)))
+    (λ _ e. stays e) e
 
 pub lineage-step : {S : Shape} {x : Call} {h h′ : History} (g c : ℕ) → Step S h x h′ → LineageStep h h′ g c x
 unfolding mergedThrough withRows withTail withTransactions withScans withMerges

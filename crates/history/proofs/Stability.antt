@@ -15,12 +15,13 @@ use Rattle.terms.specs.Measures.{Shape}
 use Rattle.terms.specs.declared.Answer.{Answer}
 use Rattle.history.specs.History.{Call, release, History, Row, Record, State, unknown, active, aborted, committed, Scan, Merge, Version, start, answers, answer, next, run, tests, reply, verdict, Verdict, accept, answerIf, nth, change, read, visible, versionOf, inserted, insertedValue, rowAt, seenAt, committedBy, stateOf, ends, ended, lastSetting, withRows, withTail, withTransactions, withScans, withMerges, notGiven, later}
 use Rattle.history.specs.Claims.{Reads, latest-reads, at-reads, scan-reads, isRefused, historyBefore, callAt, answerAt, ReadAt, Stability}
-use Rattle.history.proofs.Accepted.{Passed, passed, run-keeps}
+use Rattle.history.proofs.Accepted.{Passed, passed}
 use Rattle.history.specs.Lists.{All}
 use Rattle.history.proofs.Lists.{clash, by-cases, all-map, any-append, any-none, nth-last, nth-beyond, nth-before, nth-changed, nth-other}
-use Rattle.history.proofs.Steps.{by-commit, by-abort, began, closed, Step, nothing, newStates, rowGiven, recordsMade, newScans, newMerges, made-new, step}
+use Rattle.history.proofs.Steps.{by-commit, by-abort, began, closed, Step, nothing, newStates, rowGiven, recordsMade, newScans, newMerges, made-new, run-steps}
 use Rattle.history.proofs.Ranges.{last-append, last-unfound}
-use Rattle.history.proofs.Timely.{Timely, timely}
+use Rattle.history.proofs.Timely.{Timely}
+use Rattle.history.proofs.Past.{past}
 
 -- ---- a transaction that begins, or ends without being seen, changes nothing of what was committed by t
 begun-unseen : (t : ℕ) (l : List State) (j : ℕ) → committedBy t (nth (l ++ active ∷ []) j unknown) ≡ committedBy t (nth l j unknown)
@@ -153,7 +154,7 @@ read-at S calls i t r c a =
     let x : Call = getD calls i release in
     let e : answerAt S calls i ≡ answer S h x = answers-at S start calls i (a .inside) in
     let v : verdict (tests S h x) ≡ accept = accepted S h x (rw e at (a .accepted)) in
-    let b : (t ≤ h .last) × (r < length (h .rows)) = reads-bounds S h (a .reads) (timely S (take i calls)) (passed (tests S h x) v) in
+    let b : (t ≤ h .last) × (r < length (h .rows)) = reads-bounds S h (a .reads) (past S (take i calls) .timely) (passed (tests S h x) v) in
     record { says = e ∙ replies S h x v ∙ reads-reply S h (a .reads); past = b .0; given = b .1 }
 
 in-order : (S : Shape) (calls : List Call) (i j t r c : ℕ) → i ≤ j → ReadAt S calls i t r c → ReadAt S calls j t r c → answerAt S calls i ≡ answerAt S calls j
@@ -164,7 +165,7 @@ in-order S calls i j t r c b first second =
     let q : Read S calls j t r c k = read-at S calls j t r c second in
     let reading : ℕ → Answer = λ c. read (seenAt h t) h r c in
     let s : Stays t r reading (run S h (drop i (take j calls))) =
-    run-keeps S (Stays t r reading) (λ h c q a. step-stays S t r reading h q (step S h c a)) h (drop i (take j calls))
+    run-steps S (Stays t r reading) (λ h c h′ q s. step-stays S t r reading h q s) h (drop i (take j calls))
     record { same = λ c. refl; past = p .past; given = p .given } in
     let e : Stays t r reading k = rw (run-on S calls i j b) s in
     p .says ∙ sym (e .same c) ∙ sym (q .says)

@@ -2,15 +2,15 @@
 -- what every later proof wants of the states after a begin, a commit or an abort; `Before` is what a row's earlier change knows of a later one.
 use mathlib.Core.Path.{_≡_, refl, sym, _∙_, ap}
 use mathlib.Core.Logic.{_≢_}
-use mathlib.Core.Bool.{Bool, true, false}
+use mathlib.Core.Bool.{Bool, true, false, not}
 use mathlib.Core.List.{List, [], _∷_, _++_}
 use Prim.Native.Nat.{ℕ, _≤_}
 use native.Mathlib.Omega.{arith}
 use native.Mathlib.Nat.{le-refl}
 use native.Mathlib.Decide.{ℕ-discrete}
-use lib.Dec.{T}
-use Rattle.history.specs.History.{History, State, unknown, active, aborted, committed, nth, change, stateOf, withTransactions}
-use Rattle.history.proofs.Lists.{clash, by-cases, nth-append, nth-added, nth-changed, nth-other}
+use lib.Dec.{T, eqb, le→leb}
+use Rattle.history.specs.History.{committedBy, seenAt, seenBy, History, State, unknown, active, aborted, committed, nth, change, stateOf, withTransactions}
+use Rattle.history.proofs.Lists.{is-true, or-right, eqb-equal, eqb-other, clash, by-cases, nth-append, nth-added, nth-changed, nth-other}
 use Rattle.history.proofs.Steps.{Closing, by-commit, by-abort, NewStates, began, closed}
 
 abbrev pub isGiven : State → Bool
@@ -132,3 +132,17 @@ moved i (closed t a b) = closed-moved t i a b
 pub states-last : {h : History} {l : List State} {s : ℕ} → NewStates h l s → h .last ≤ s
 states-last (began _ _) = le-refl _
 states-last (closed _ _ b) = closing-last b
+
+-- ---- what an active transaction sees itself: all but what is aborted, where no other active transaction has changed the row
+pub seen-by-live : (h : History) (me k : ℕ) → Stamped h → stateOf h me ≡ active → T (isGiven (stateOf h k)) → (stateOf h k ≡ active → k ≡ me)
+    → seenBy h me k ≡ not (isAborted (stateOf h k))
+unfolding Stamped seenBy seenAt committedBy
+seen-by-live h me k i o g free = go (stateOf h k) refl g
+  where
+    go : (x : State) → stateOf h k ≡ x → T (isGiven x) → seenBy h me k ≡ not (isAborted x)
+    go active e _ = rw (is-true (eqb k me) (eqb-equal k me (free e)))
+    go aborted e _ = rw (eqb-other k me (λ q. clash (cc)), e)
+    go (committed s) e _ = is-true (seenBy h me k) (or-right (eqb k me) _ (rw e (le→leb s (h .last) (i k s e))))
+
+pub aborted-is : (x : State) → T (isAborted x) → x ≡ aborted
+aborted-is aborted t = refl

@@ -10,8 +10,8 @@ use lib.Dec.{T, leb, ltb, eqb, nleb→lt, nltb→le, eqb→eq}
 use lib.ListN.{length, take}
 use lib.IntN.{ℤ}
 use Rattle.terms.specs.Measures.{Shape, rangeRows, mostColumns, mostTransactions, mostScans, mostNumbers}
-use Rattle.history.specs.History.{Call, begin, insert, update, delete, commit, abort, latest, readAt, ownRead, openScan, scanRead, sum, close, merge, release, pageCell, lineage, History, Record, State, active, aborted, committed, Scan, Merge, Content, original, setting, ending, ends, start, next, nextIf, run, tests, effect, verdict, Verdict, accept, refuse, any, count, nth, change, isActive, stateOf, rowAt, scanAt, stopped, rangeOf, recordsOf, mergedThrough, waitingPages, afterRelease, seenBy, visible, ended, held, gone, activeOther, notActive, notRunning, notGiven, noColumn, noRange, badMask, bit, sets, upTo, allGiven, lacksRecords, notLater, later, allActive, allRunning, outOfReach, anyActive, noPage, newColumns, originalRecords, updateRecords, deleteRecords, withRows, withTail, withTransactions, withScans, withMerges}
-use Rattle.history.proofs.Accepted.{Passed, passed, run-keeps}
+use Rattle.history.specs.History.{Call, begin, insert, update, delete, commit, abort, latest, readAt, ownRead, openScan, scanRead, sum, close, merge, release, pageCell, lineage, History, Record, State, active, aborted, committed, Scan, Merge, Content, original, setting, ending, ends, next, nextIf, run, tests, effect, verdict, Verdict, accept, refuse, any, count, nth, change, isActive, stateOf, rowAt, scanAt, stopped, rangeOf, recordsOf, mergedThrough, waitingPages, afterRelease, seenBy, visible, ended, held, gone, activeOther, notActive, notRunning, notGiven, noColumn, noRange, badMask, bit, sets, upTo, allGiven, lacksRecords, notLater, later, allActive, allRunning, outOfReach, anyActive, noPage, newColumns, originalRecords, updateRecords, deleteRecords, withRows, withTail, withTransactions, withScans, withMerges}
+use Rattle.history.proofs.Accepted.{Passed, passed}
 use Rattle.history.specs.Lists.{All, nil, cons}
 use Rattle.history.proofs.Lists.{clash, all-map, any-append, not-any, neither, not-not, not-second, parts, or-cases, is-false, eqb-equal, among, among-keep}
 
@@ -191,6 +191,8 @@ next-step S h c = go (verdict (tests S h c)) refl
     go (refuse r) e = nothing
 
 -- a fact that every step keeps holds after every list of calls
-pub run-steps : (S : Shape) (P : History → Type 0) → ((h : History) (c : Call) (h′ : History) → P h → Step S h c h′ → P h′) → P start
-    → (cs : List Call) → P (run S start cs)
-run-steps S P kept p cs = run-keeps S P (λ h c q a. kept h c _ q (step S h c a)) start cs p
+pub run-steps : (S : Shape) (P : History → Type 0) → ((h : History) (c : Call) (h′ : History) → P h → Step S h c h′ → P h′) → (h : History) (cs : List Call) → P h
+    → P (run S h cs)
+unfolding run
+run-steps S P kept h [] p = p
+run-steps S P kept h (c ∷ cs) p = run-steps S P kept (next S h c) cs (kept h c (next S h c) p (next-step S h c))

@@ -1,6 +1,6 @@
 -- Demand 2 holds: what is read and what the pages hold follows from the relation, which every list of calls keeps.
 use mathlib.Core.Path.{_≡_, refl, sym, _∙_, ap, subst}
-use mathlib.Core.Bool.{Bool, true, false, cond}
+use mathlib.Core.Bool.{cond}
 use mathlib.Core.List.{List}
 use Prim.Native.Nat.{ℕ, suc, _+_, _*_, _^_, _≤_, _<_}
 use native.Mathlib.Omega.{arith}
@@ -14,7 +14,7 @@ use Rattle.terms.specs.Measures.{Shape, rangeRows, mostScans, withinLimits}
 use Rattle.terms.specs.declared.Answer.{Answer}
 use Rattle.history.specs.History.{Call, openScan, effect, nextIf, tests, verdict, Verdict, accept, refuse, Scan, withScans, History, Version, start, next, run, seenAt, rowAt, inserted, visible, versionOf, read, rangeOf, mergedThrough, scanAt, cellThrough}
 use Rattle.history.specs.Lists.{All, nil, cons}
-use Rattle.history.proofs.Lists.{parts, nth-last}
+use Rattle.history.proofs.Lists.{by-test, parts, nth-last}
 use Rattle.history.proofs.Steps.{noScan}
 use Rattle.history.specs.Latest.{latestSetting}
 use Rattle.history.proofs.Latest.{latest-stamp}
@@ -53,16 +53,13 @@ represented S t n enough ys =
 -- ---- reads
 read-committed : {S : Shape} {h : History} → Known S h → (t r c : ℕ) → read (seenAt h t) h r c ≡ lastCommitted h t r c
 unfolding read lastCommitted
-read-committed {h = h} k t r c = go (visible (seenAt h t) h r) (λ z. seen z)
+read-committed {h = h} k t r c =
+    by-test (λ b. cond b (Answer.Value (versionOf (seenAt h t) h r c .value)) Answer.None ≡ cond b (Answer.Value (latestSetting h t r c (inserted h r c) (h .tail) .value)) Answer.None)
+    (visible (seenAt h t) h r)
+    (λ z. ap (λ (y : Version). Answer.Value (y .value)) (sym (latest-stamp h t r c (k .past .order) (seen z)))) (λ _. refl)
   where
     seen : T (visible (seenAt h t) h r) → T (seenAt h t ((rowAt h r) .inserter))
     seen z = unfold visible in (parts (seenAt h t ((rowAt h r) .inserter)) _ z .0)
-
-    go : (b : Bool) → (T b → T (seenAt h t ((rowAt h r) .inserter)))
-        → cond b (Answer.Value (versionOf (seenAt h t) h r c .value)) Answer.None
-        ≡ cond b (Answer.Value (latestSetting h t r c (inserted h r c) (h .tail) .value)) Answer.None
-    go true f = ap (λ (y : Version). Answer.Value (y .value)) (sym (latest-stamp h t r c (k .past .order) (f tt)))
-    go false f = refl
 
 pub reads : Reads
 unfolding Reads

@@ -15,7 +15,7 @@ use mir.ValLaws.{toZ-ofZ, ofZ-fits}
 use Rattle.terms.specs.Measures.{Shape, rangeRows, mostColumns}
 use Rattle.history.specs.History.{update, History, Record, Version, active, original, setting, isCommitted, upTo, stateOf, rowAt, insertedValue, inserted, bit, sets, rangeOf, recordsOf, badMask, newColumns, originalRecords, updateRecords, withTail, cellThrough, scanAt}
 use Rattle.history.specs.Lists.{All}
-use Rattle.history.proofs.Lists.{eqb-same, is-true, is-false, refuted, parts, both, among, among-upTo}
+use Rattle.history.proofs.Lists.{by-test, eqb-same, is-true, is-false, refuted, parts, both, among, among-upTo}
 use Rattle.history.proofs.Steps.{Step, New, wasSet, new-columns}
 use Rattle.history.proofs.Masks.{bit-low}
 use Rattle.history.proofs.Ranges.{last-unset}
@@ -253,18 +253,13 @@ module _ (S : Shape) (v : View) (ps : List Place) (h : History) (o : Represents 
       link₁ = unfold rowIn in (link-here S t r asOriginal fresh v (o .whole) inside room₁ row-in ∙ ap suc (o .tails (rangeOf r) inside .used-all))
 
       few₁ : (g : ℕ) → length (list₁ g) ≤ S .capacity
-      few₁ g = pick (eqb (rangeOf r) g) (eqb→eq (rangeOf r) g)
-        where
-          pick : (q : Bool) → (T q → rangeOf r ≡ g) → length (recordsOf h g ++ cond q (w ∷ []) []) ≤ S .capacity
-          pick true z = rw (← (z tt), length-append) (omega arith)
-          pick false z = rw (append-nil (recordsOf h g)) (k .past .limits .records g)
+      few₁ g = by-test (λ q. length (recordsOf h g ++ cond q (w ∷ []) []) ≤ S .capacity) (eqb (rangeOf r) g)
+          (λ t. rw (← (eqb→eq (rangeOf r) g t), length-append) (omega arith)) (λ _. rw (append-nil (recordsOf h g)) (k .past .limits .records g))
 
       grows₂ : (g : ℕ) → list₂ g ≡ cond (eqb (rangeOf r) g) (list₁ g ++ y ∷ []) (list₁ g)
-      grows₂ g = pick (eqb (rangeOf r) g)
-        where
-          pick : (q : Bool) → recordsOf h g ++ cond q (w ∷ y ∷ []) [] ≡ cond q ((recordsOf h g ++ cond q (w ∷ []) []) ++ y ∷ []) (recordsOf h g ++ cond q (w ∷ []) [])
-          pick true = sym (append-assoc (recordsOf h g) (w ∷ []) (y ∷ []))
-          pick false = refl
+      grows₂ g =
+          elim (eqb (rangeOf r) g) as (λ q. recordsOf h g ++ cond q (w ∷ y ∷ []) [] ≡ cond q ((recordsOf h g ++ cond q (w ∷ []) []) ++ y ∷ []) (recordsOf h g ++ cond q (w ∷ []) []))
+          [ true ↦ sym (append-assoc (recordsOf h g) (w ∷ []) (y ∷ [])) | false ↦ refl ]
 
       tails₂ : TailsFor S (stateOf h) list₂ (settingAppended S t r m vs (originalAppended S t r m v))
       tails₂ = filled-more S u₁ whole₁ (stateOf h) list₁ list₂ t r a inside few₁ (omega (arith, length₁)) tails₁

@@ -64,7 +64,7 @@ read-committed {h = h} k t r c =
 pub reads : Reads
 unfolding Reads
 reads S l n enough cs ys t r c b d =
-    let q : Represents S (storeAfter S n cs) (listAfter S (made S) (replicate n freePlace) cs) (historyAfter S cs) × Known S (historyAfter S cs) = represented S l n enough ys in
+    let q = represented S l n enough ys in
     current-read S (storeAfter S n cs) _ (historyAfter S cs) (q .0) (q .1) t 0 r c (seenAt (historyAfter S cs) t) (sees-at (historyAfter S cs) t) b d
     ∙ read-committed (q .1) t r c
 
@@ -93,7 +93,7 @@ page-holds S v ps h o k g c a b = record { taken = x .lineage; every-row = every
 pub pages-hold : PagesHold
 unfolding PagesHold
 pages-hold S l n enough cs ys g c a b =
-    let q : Represents S (storeAfter S n cs) (listAfter S (made S) (replicate n freePlace) cs) (historyAfter S cs) × Known S (historyAfter S cs) = represented S l n enough ys in
+    let q = represented S l n enough ys in
     page-holds S (storeAfter S n cs) _ (historyAfter S cs) (q .0) (q .1) g c a b
 
 -- ---- the pages of open scans
@@ -149,5 +149,5 @@ pages-kept S v ps h o k s cs y ys e t g c bg bc =
 pub scans-keep : ScansKeep
 unfolding ScansKeep run viewAfter
 scans-keep S l n enough before after s ys (cons y zs) e t g c bg bc =
-    let q : Represents S (storeAfter S n before) (listAfter S (made S) (replicate n freePlace) before) (historyAfter S before) × Known S (historyAfter S before) = represented S l n enough ys in
+    let q = represented S l n enough ys in
     pages-kept S (storeAfter S n before) _ (historyAfter S before) (q .0) (q .1) s after y zs e t g c bg bc

@@ -141,6 +141,10 @@ module _ (S : Shape) (v : View) (ps : List Place) (h : History) (o : Represents 
   old-not-free : old ≢ p
   old-not-free = not-free old (omega (arith, now .state))
 
+  -- a page is the one taken, the one replaced or another
+  each-page : (P : ℕ → Type 0) → P p → P old → ((q : ℕ) → q ≢ p → q ≢ old → P q) → (q : ℕ) → P q
+  each-page P a b f q = by-cases (ℕ-discrete q p) (λ e. rw e a) (λ z. by-cases (ℕ-discrete q old) (λ e. rw e b) (f q z))
+
   -- ---- the pages' words
   in-page : (q : ℕ) → q < pagesOf S → (r : Region) → len (sizesOf S) r ≡ pagesOf S → q < length (v r)
   in-page q b r e = omega (arith, o .whole .long r, e)
@@ -258,8 +262,8 @@ module _ (S : Shape) (v : View) (ps : List Place) (h : History) (o : Represents 
       (current-step (k .past .order) step rows-same (through-there a b f) (o .currents a b u w))))
 
   -- ---- the waiting pages
-  made-here : (a b : ℕ) → (a ≡ g) × (b ≡ c) → madeIn S v′ a b ≡ m
-  made-here a b q = ap (λ (i : ℕ). madeIn S v′ i b) (q .0) ∙ ap (madeIn S v′ g) (q .1) ∙ ap (λ (i : ℕ). (pageIn v′ i) .made) current-here ∙ ap (λ (x : PageWords). x .made) page-free
+  made-here : madeIn S v′ g c ≡ m
+  made-here = ap (λ (i : ℕ). (pageIn v′ i) .made) current-here ∙ ap (λ (x : PageWords). x .made) page-free
 
   made-there : (a b : ℕ) → a < S .ranges → b < S .columns → placeOf S a b ≢ placeOf S g c → madeIn S v′ a b ≡ madeIn S v a b
   made-there a b u w f =
@@ -267,27 +271,22 @@ module _ (S : Shape) (v : View) (ps : List Place) (h : History) (o : Represents 
 
   made-later : (a b : ℕ) → a < S .ranges → b < S .columns → madeIn S v a b ≤ madeIn S v′ a b
   made-later a b u w = by-cases (ℕ-discrete (placeOf S a b) (placeOf S g c))
-      (λ e. omega (arith, o .currents a b u w .made, m-is, made-here a b (same-part (S .columns) a g b c w bc e)))
+      (λ e. let q : (a ≡ g) × (b ≡ c) = same-part (S .columns) a g b c w bc e in rw (q .0, q .1) (omega (arith, now .made, m-is, made-here)))
       (λ f. omega (arith, made-there a b u w f))
 
   merge-waits : Step S h (merge g c n) h′ → WaitingAre S h′ v′
-  merge-waits step q b t = go (ℕ-discrete q p) (ℕ-discrete q old) t
-    where
-      go : Dec (q ≡ p) → Dec (q ≡ old) → T (waitingPage ((pageIn v′ q) .state)) → WaitingIs S h′ (madeIn S v′) (pageIn v′ q)
-      go (yes e) d t = absurd (rw (ap (pageIn v′) e ∙ page-free) at t)
-      go (no f) (yes e) t =
-          rw (e, page-old)
-          record {
-            place = rw (now .place) (place-in S g c bg bc);
-            rises = omega (arith, now .made, m-is);
-            replaced-by = omega (arith, m-is, more-merges);
-            early = λ a b′ u w z. omega (arith, made-here a b′ (same-part (S .columns) a g b′ c w bc (sym z ∙ now .place)));
-            reach = λ a b′ u w z.
-                let s : (a ≡ g) × (b′ ≡ c) = same-part (S .columns) a g b′ c w bc (sym z ∙ now .place) in
-                rw (s .0) (unfold recordsOf withMerges in (now .holds .through .within));
-            stamped = unfold withMerges in (now .holds .stamped);
-          }
-      go (no f) (no e) t = rw (page-other q f e) (waiting-step step made-later (o .waits q b (rw (page-other q f e) at t)))
+  merge-waits step = each-page (λ q. q < pagesOf S → T (waitingPage ((pageIn v′ q) .state)) → WaitingIs S h′ (madeIn S v′) (pageIn v′ q))
+      (λ _ t. absurd (rw page-free at t))
+      (λ _ _. rw page-old
+      record {
+        place = rw (now .place) (place-in S g c bg bc);
+        rises = omega (arith, now .made, m-is);
+        replaced-by = omega (arith, m-is, more-merges);
+        early = λ a b u w z. let s : (a ≡ g) × (b ≡ c) = same-part (S .columns) a g b c w bc (sym z ∙ now .place) in rw (s .0, s .1) (omega (arith, made-here));
+        reach = λ a b u w z. rw (same-part (S .columns) a g b c w bc (sym z ∙ now .place) .0) (unfold recordsOf withMerges in (now .holds .through .within));
+        stamped = unfold withMerges in (now .holds .stamped);
+      })
+      (λ q f e b t. rw (page-other q f e) (waiting-step step made-later (o .waits q b (rw (page-other q f e) at t))))
 
   -- ---- the pool
   -- a test of a page's words, before and after: it changes at the two pages alone
@@ -344,11 +343,10 @@ module _ (S : Shape) (v : View) (ps : List Place) (h : History) (o : Represents 
 
   -- where the replaced page does not pass, the search is as it was
   search-stays : (b a d : ℕ) → wasCurrent S v′ b (placeOf S a d) old ≡ false → search S v′ b a d ≡ search S v b a d
-  search-stays b a d e = first-ext _ _ (pagesOf S) 0 (λ q _ _. by-cases (ℕ-discrete q p)
-      (λ z. rw (z, new-unfound b (placeOf S a d), unfound-state S v b (placeOf S a d) p (omega (arith, free-state))))
-      (λ z. by-cases (ℕ-discrete q old)
-      (λ y. rw (y, e, unfound-state S v b (placeOf S a d) old (omega (arith, now .state))))
-      (λ y. search-same S v v′ b (placeOf S a d) q (page-other q z y))))
+  search-stays b a d e = first-ext _ _ (pagesOf S) 0 (λ q _ _. each-page (λ q. wasCurrent S v′ b (placeOf S a d) q ≡ wasCurrent S v b (placeOf S a d) q)
+      (new-unfound b (placeOf S a d) ∙ sym (unfound-state S v b (placeOf S a d) p (omega (arith, free-state))))
+      (e ∙ sym (unfound-state S v b (placeOf S a d) old (omega (arith, now .state))))
+      (λ q z y. search-same S v v′ b (placeOf S a d) q (page-other q z y)) q)
 
   -- the page was current when the scan was opened: the search finds it now
   search-finds : (b : ℕ) → b ≤ length (h .merges) → (pageIn v old) .made ≤ b → search S v′ b g c ≡ old
@@ -361,37 +359,26 @@ module _ (S : Shape) (v : View) (ps : List Place) (h : History) (o : Represents 
         before = omega (arith, ap (λ (z : PageWords). z .made) page-old);
         after = omega (arith, ap (λ (z : PageWords). z .replaced) page-old, m-is);
       })
-      (λ q u t. only q u t (ℕ-discrete q p) (ℕ-discrete q old))
-    where
-      only : (q : ℕ) → q < pagesOf S → T (wasCurrent S v′ b (placeOf S g c) q) → Dec (q ≡ p) → Dec (q ≡ old) → q ≡ old
-      only q u t (yes z) y = absurd (rw (ap (wasCurrent S v′ b (placeOf S g c)) z ∙ new-unfound b (placeOf S g c)) at t)
-      only q u t (no z) (yes y) = y
-      only q u t (no z) (no y) =
-          let x : WasCurrent S b (placeOf S g c) (pageIn v q) = was-current S v b (placeOf S g c) q (rw (search-same S v v′ b (placeOf S g c) q (page-other q z y)) at t) in
-          let w : WaitingIs S h (madeIn S v) (pageIn v q) = o .waits q u (x .waits) in
-          absurd (omega (arith, x .after, w .early g c bg bc (sym (place-mod S ((pageIn v q) .place) (w .place)) ∙ x .place-is)))
+      (each-page (λ q. q < pagesOf S → T (wasCurrent S v′ b (placeOf S g c) q) → q ≡ old)
+      (λ _ t. absurd (rw (new-unfound b (placeOf S g c)) at t))
+      (λ _ _. refl)
+      (λ q z y u t. let x : WasCurrent S b (placeOf S g c) (pageIn v q) = was-current S v b (placeOf S g c) q (rw (search-same S v v′ b (placeOf S g c) q (page-other q z y)) at t) in
+      let w : WaitingIs S h (madeIn S v) (pageIn v q) = o .waits q u (x .waits) in
+      absurd (omega (arith, x .after, w .early g c bg bc (sym (place-mod S ((pageIn v q) .place) (w .place)) ∙ x .place-is)))))
+
+  -- the page of a scan of this place
+  scan-here : (b : ℕ) → b ≤ length (h .merges) → Cases S v b g c → scanPage S v′ b g c ≡ scanPage S v b g c
+  scan-here b early (inl x) =
+      let z = search-finds b early x in
+      found-page S v′ b g c (omega (arith, made-here, m-is)) (omega (arith, now .inside)) ∙ z ∙ sym (scan-current S v b g c x)
+  scan-here b early (inr x) =
+      let z = search-stays b g c (unfound S v′ b (placeOf S g c) old (λ t. omega (arith, t .before, ap (λ (z : PageWords). z .made) page-old, x .0))) in
+      found-page S v′ b g c (omega (arith, made-here, m-is)) (omega (arith, x .1)) ∙ z ∙ sym (found-page S v b g c (x .0) (x .1))
 
   pub scan-same : (b a d : ℕ) → a < S .ranges → d < S .columns → b ≤ length (h .merges) → (pageIn v (scanPage S v b a d)) .made ≤ b → scanPage S v′ b a d ≡ scanPage S v b a d
-  scan-same b a d u w early before = go (ℕ-discrete (placeOf S a d) (placeOf S g c)) (scan-cases S v b a d before)
-    where
-      later : (a ≡ g) × (d ≡ c) → b < madeIn S v′ a d
-      later q = omega (arith, made-here a d q, m-is)
-
-      go : Dec (placeOf S a d ≡ placeOf S g c) → Cases S v b a d → scanPage S v′ b a d ≡ scanPage S v b a d
-      go (yes e) (inl x) =
-          let q : (a ≡ g) × (d ≡ c) = same-part (S .columns) a g d c w bc e in
-          let y : currentIn S v a d ≡ old = ap (λ (i : ℕ). currentIn S v i d) (q .0) ∙ ap (currentIn S v g) (q .1) in
-          let z : search S v′ b a d ≡ old =
-          ap (λ (i : ℕ). search S v′ b i d) (q .0) ∙ ap (search S v′ b g) (q .1) ∙ search-finds b early (omega (arith, ap (λ (i : ℕ). (pageIn v i) .made) y)) in
-          found-page S v′ b a d (later q) (omega (arith, z, now .inside)) ∙ z ∙ sym (scan-current S v b a d x ∙ y)
-      go (yes e) (inr x) =
-          let q : (a ≡ g) × (d ≡ c) = same-part (S .columns) a g d c w bc e in
-          let y : currentIn S v a d ≡ old = ap (λ (i : ℕ). currentIn S v i d) (q .0) ∙ ap (currentIn S v g) (q .1) in
-          let z : search S v′ b a d ≡ search S v b a d =
-          search-stays b a d (unfound S v′ b (placeOf S a d) old (λ t. omega (arith, t .before, ap (λ (z : PageWords). z .made) page-old, x .0, ap (λ (i : ℕ). (pageIn v i) .made) y))) in
-          found-page S v′ b a d (later q) (omega (arith, z, x .1)) ∙ z ∙ sym (found-page S v b a d (x .0) (x .1))
-      go (no f) x =
-          scan-page-same S v v′ b a d (current-there a d f) (made-there a d u w f) (search-stays b a d (unfound S v′ b (placeOf S a d) old (λ t. f (sym (sym old-place ∙ t .place-is)))))
+  scan-same b a d u w early before = by-cases (ℕ-discrete (placeOf S a d) (placeOf S g c))
+      (λ e. let q : (a ≡ g) × (d ≡ c) = same-part (S .columns) a g d c w bc e in rw (q .0, q .1) (scan-here b early (rw (q .0, q .1) at (scan-cases S v b a d before))))
+      (λ f. scan-page-same S v v′ b a d (current-there a d f) (made-there a d u w f) (search-stays b a d (unfound S v′ b (placeOf S a d) old (λ t. f (sym (sym old-place ∙ t .place-is))))))
 
   -- a running scan's page is not the page taken
   pub scan-not-free : (b a d : ℕ) → a < S .ranges → d < S .columns → (pageIn v (scanPage S v b a d)) .made ≤ b → scanPage S v b a d ≢ p
@@ -410,19 +397,14 @@ module _ (S : Shape) (v : View) (ps : List Place) (h : History) (o : Represents 
       let q : ℕ = scanPage S v (scanAt h i .before) a d in
       let x : ScanPageIs S h (scanAt h i) a d q (pageIn v q) (cellIn v q) = o .scanPages i t a d u w in
       let y : ScanPageIs S h′ (scanAt h i) a d q (pageIn v q) (cellIn v q) = scan-page-step (k .past .order) step (k .past .timely i) x in
-      let e : scanPage S v′ (scanAt h i .before) a d ≡ q = scan-same (scanAt h i .before) a d u w (x .early) (x .made) in
-      let f : q ≢ p = scan-not-free (scanAt h i .before) a d u w (x .made) in
-      subst (λ (j : ℕ). ScanPageIs S h′ (scanAt h i) a d j (pageIn v′ j) (cellIn v′ j)) (sym e) (kept (scanAt h i) a d q f y (ℕ-discrete q old))
+      rw (scan-same (scanAt h i .before) a d u w (x .early) (x .made)) (kept (scanAt h i) a d q (scan-not-free (scanAt h i .before) a d u w (x .made)) y)
     where
-      kept : (s : Scan) (a d q : ℕ) → q ≢ p → ScanPageIs S h′ s a d q (pageIn v q) (cellIn v q) → Dec (q ≡ old) → ScanPageIs S h′ s a d q (pageIn v′ q) (cellIn v′ q)
-      kept s a d q f y (no z) =
-          subst (λ (x : PageWords). ScanPageIs S h′ s a d q x (cellIn v′ q)) (sym (page-other q f z))
-          (scan-cells (λ r e t. cells-other q (within r) f (omega arith)) y)
-      kept s a d q f y (yes z) =
-          let w : pageIn v′ q ≡ record { state = asWaiting; place = (pageIn v q) .place; made = (pageIn v q) .made; replaced = m; lineage = (pageIn v q) .lineage; newest = (pageIn v q) .newest } =
-          subst (λ (j : ℕ). pageIn v′ j ≡ record { state = asWaiting; place = (pageIn v j) .place; made = (pageIn v j) .made; replaced = m; lineage = (pageIn v j) .lineage; newest = (pageIn v j) .newest }) (sym z) page-old in
-          subst (λ (x : PageWords). ScanPageIs S h′ s a d q x (cellIn v′ q)) (sym w)
-          record { inside = y .inside; early = y .early; place = y .place; made = y .made; holds = holds-words refl refl (holds-cells (λ r e t. cells-other q (within r) f (omega arith)) (y .holds)) }
+      kept : (s : Scan) (a d q : ℕ) → q ≢ p → ScanPageIs S h′ s a d q (pageIn v q) (cellIn v q) → ScanPageIs S h′ s a d q (pageIn v′ q) (cellIn v′ q)
+      kept s a d = each-page (λ q. q ≢ p → ScanPageIs S h′ s a d q (pageIn v q) (cellIn v q) → ScanPageIs S h′ s a d q (pageIn v′ q) (cellIn v′ q))
+          (λ f. absurd (f refl))
+          (λ f y. rw page-old
+          record { inside = y .inside; early = y .early; place = y .place; made = y .made; holds = holds-words refl refl (holds-cells (λ r e t. cells-other old (within r) f (omega arith)) (y .holds)) })
+          (λ q f z _ y. rw (page-other q f z) (scan-cells (λ r e t. cells-other q (within r) f (omega arith)) y))
 
   -- ---- the whole
   merge-whole : Whole S v′

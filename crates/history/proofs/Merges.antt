@@ -60,7 +60,7 @@ length-released ss i [] = refl
 length-released ss i (m ∷ ms) = ap suc (length-released ss (suc i) ms)
 
 -- what an accepted merge leaves as its page's lineage
-merged-page : (h : History) (g c n : ℕ)
+pub merged-page : (h : History) (g c n : ℕ)
     → mergedThrough (withMerges h (h .merges ++ record { range = g; column = c; through = n; waiting = true } ∷ [])) g c ≡ n
 unfolding mergedThrough withMerges
 merged-page h g c n = merged-append g c 0 (h .merges) record { range = g; column = c; through = n; waiting = true } ∙ rw (eqb-same g, eqb-same c)

@@ -5,41 +5,23 @@ use mathlib.Core.Bool.{Bool, false, not, _&&_, and-false, or-false}
 use mathlib.Core.List.{List, [], _∷_, _++_}
 use Prim.Native.Nat.{ℕ, zero, suc, _≤_, _<_}
 use native.Mathlib.Omega.{arith}
-use native.Mathlib.Decide.{ℕ-discrete, decLe}
+use native.Mathlib.Decide.{decLe}
 use native.Mathlib.Nat.{le-refl}
-use borrow.Author.Tests.{lt-leb}
 use lib.Dec.{T, eqb, nleb→lt, nltb→le}
 use lib.ListN.{length, getD, take, drop, length-append, List·getD-append, take-append-drop}
 use lib.Seq.{take-take}
 use Rattle.terms.specs.Measures.{Shape}
 use Rattle.terms.specs.declared.Answer.{Answer}
-use Rattle.history.specs.History.{Call, release, History, Row, Record, State, unknown, active, aborted, committed, Scan, Merge, Version, start, answers, answer, next, run, tests, reply, verdict, Verdict, accept, answerIf, nth, change, read, visible, versionOf, inserted, insertedValue, rowAt, seenAt, committedBy, stateOf, ends, ended, lastSetting, withRows, withTail, withTransactions, withScans, withMerges, notGiven, later}
+use Rattle.history.specs.History.{Call, release, History, Row, Record, State, unknown, Scan, Merge, Version, start, answers, answer, next, run, tests, reply, verdict, Verdict, accept, answerIf, nth, read, visible, versionOf, inserted, insertedValue, rowAt, seenAt, committedBy, stateOf, ends, ended, lastSetting, withRows, withTail, withTransactions, withScans, withMerges, notGiven, later}
 use Rattle.history.specs.Claims.{Reads, latest-reads, at-reads, scan-reads, isRefused, historyBefore, callAt, answerAt, ReadAt, Stability}
 use Rattle.history.proofs.Accepted.{Passed, passed}
 use Rattle.history.specs.Lists.{All}
-use Rattle.history.proofs.Lists.{clash, by-cases, all-map, any-append, any-none, nth-last, nth-beyond, nth-before, nth-changed, nth-other}
-use Rattle.history.proofs.Steps.{by-commit, by-abort, began, closed, Step, nothing, newStates, rowGiven, recordsMade, newScans, newMerges, made-new, run-steps}
+use Rattle.history.proofs.Lists.{by-cases, all-map, any-append, any-none}
+use Rattle.history.proofs.Steps.{Step, nothing, newStates, rowGiven, recordsMade, newScans, newMerges, made-new, run-steps}
+use Rattle.history.proofs.States.{states-last, active-unseen, seen-moved}
 use Rattle.history.proofs.Ranges.{last-append, last-unfound}
 use Rattle.history.proofs.Timely.{Timely}
 use Rattle.history.proofs.Past.{past}
-
--- ---- a transaction that begins, or ends without being seen, changes nothing of what was committed by t
-begun-unseen : (t : ℕ) (l : List State) (j : ℕ) → committedBy t (nth (l ++ active ∷ []) j unknown) ≡ committedBy t (nth l j unknown)
-unfolding committedBy
-begun-unseen t l j = by-cases (ℕ-discrete j (suc (length l))) (λ e. rw (e, nth-last unknown l active, nth-beyond unknown l)) (λ n. rw (nth-before unknown l active j n))
-
-closed-unseen : (t : ℕ) (l : List State) (k j : ℕ) (x : State) → nth l k unknown ≡ active → committedBy t x ≡ false
-    → committedBy t (nth (change l k x) j unknown) ≡ committedBy t (nth l j unknown)
-unfolding committedBy
-closed-unseen t l k j x a q = by-cases (ℕ-discrete j k) (λ e. rw (e, nth-changed unknown l k x (λ z. clash (cc)), a) q) (λ n. rw (nth-other unknown l k x j n))
-
-active-unseen : (t : ℕ) (x : State) → x ≡ active → committedBy t x ≡ false
-unfolding committedBy
-active-unseen t x e = rw e
-
-later-unseen : (t s l : ℕ) → t ≤ l → l < s → committedBy t (committed s) ≡ false
-unfolding committedBy
-later-unseen t s l b p = lt-leb s t (omega arith)
 
 -- ---- records that are not seen change no read
 module _ (sees : ℕ → Bool) (r : ℕ) (l : List Record) {m : List Record} (unseen : All (λ (x : Record). sees (x .transaction) ≡ false) m) where
@@ -87,13 +69,10 @@ step-stays : (S : Shape) (t r : ℕ) (reading : ℕ → Answer) (h : History) {c
     → Stays t r reading h′
 unfolding seenAt stateOf committedBy withScans withMerges
 step-stays S t r f h s nothing = s
-step-stays S t r f h s (newStates (began _ _)) = states-stay t r f h s _ _ (le-refl _) (begun-unseen t (h .transactions))
-step-stays S t r f h s (newStates (closed k a (by-commit {s = e} l))) =
-    states-stay t r f h s _ _ (omega arith) (λ j. closed-unseen t (h .transactions) k j (committed e) a (later-unseen t e (h .last) (s .past) l))
-step-stays S t r f h s (newStates (closed k a by-abort)) = states-stay t r f h s _ _ (le-refl _) (λ j. closed-unseen t (h .transactions) k j aborted a refl)
+step-stays S t r f h s (newStates n) = states-stay t r f h s _ _ (states-last n) (λ j. seen-moved n t j (s .past))
 step-stays S t r f h s (rowGiven k vs _ _) = rows-stay t r f h s _
 step-stays S t r f h s (recordsMade k r′ w m _) =
-    tail-stays t r f h s (all-map (λ x n. ap (seenAt h t) (n .transaction) ∙ active-unseen t (stateOf h k) (w .active-own)) (made-new m))
+    tail-stays t r f h s (all-map (λ x n. ap (seenAt h t) (n .transaction) ∙ active-unseen h t k (w .active-own)) (made-new m))
 step-stays S t r f h s (newScans _) = others-stay t r f h s _ (h .merges)
 step-stays S t r f h s (newMerges _) = others-stay t r f h s (h .scans) _
 

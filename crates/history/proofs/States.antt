@@ -4,13 +4,15 @@ use mathlib.Core.Path.{_≡_, refl, sym, _∙_, ap}
 use mathlib.Core.Logic.{_≢_}
 use mathlib.Core.Bool.{Bool, true, false, not}
 use mathlib.Core.List.{List, [], _∷_, _++_}
-use Prim.Native.Nat.{ℕ, _≤_}
+use Prim.Native.Nat.{ℕ, suc, _≤_}
 use native.Mathlib.Omega.{arith}
 use native.Mathlib.Nat.{le-refl}
 use native.Mathlib.Decide.{ℕ-discrete}
+use borrow.Author.Tests.{lt-leb}
+use lib.ListN.{length}
 use lib.Dec.{T, eqb, le→leb}
 use Rattle.history.specs.History.{committedBy, seenAt, seenBy, History, State, unknown, active, aborted, committed, nth, change, stateOf, withTransactions}
-use Rattle.history.proofs.Lists.{is-true, or-right, eqb-equal, eqb-other, clash, by-cases, nth-append, nth-added, nth-changed, nth-other}
+use Rattle.history.proofs.Lists.{nth-last, nth-beyond, nth-before, is-true, or-right, eqb-equal, eqb-other, clash, by-cases, nth-append, nth-added, nth-changed, nth-other}
 use Rattle.history.proofs.Steps.{Closing, by-commit, by-abort, NewStates, began, closed}
 
 abbrev pub isGiven : State → Bool
@@ -146,3 +148,19 @@ seen-by-live h me k i o g free = go (stateOf h k) refl g
 
 pub aborted-is : (x : State) → T (isAborted x) → x ≡ aborted
 aborted-is aborted t = refl
+
+-- ---- what is seen at a stamp: nothing of an active transaction; and for a stamp that is not after the last commit's the same ever after
+pub active-unseen : (h : History) (t k : ℕ) → stateOf h k ≡ active → seenAt h t k ≡ false
+unfolding seenAt committedBy
+active-unseen h t k e = rw e
+
+pub seen-moved : {h : History} {l : List State} {s : ℕ} → NewStates h l s → (t j : ℕ) → t ≤ h .last → committedBy t (nth l j unknown) ≡ committedBy t (nth (h .transactions) j unknown)
+unfolding committedBy stateOf
+seen-moved {h} (began _ _) t j b = by-cases (ℕ-discrete j (suc (length (h .transactions))))
+    (λ e. rw (e, nth-last unknown (h .transactions) active, nth-beyond unknown (h .transactions))) (λ n. rw (nth-before unknown (h .transactions) active j n))
+seen-moved {h} (closed k {x = x} a c) t j b = by-cases (ℕ-discrete j k)
+    (λ e. rw (e, nth-changed unknown (h .transactions) k x (λ z. clash (cc)), a) (late c)) (λ n. rw (nth-other unknown (h .transactions) k x j n))
+  where
+    late : {x : State} {s : ℕ} → Closing h x s → committedBy t x ≡ false
+    late (by-commit {s = s} l) = lt-leb s t (omega arith)
+    late by-abort = refl

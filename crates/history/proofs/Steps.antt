@@ -6,7 +6,7 @@ use mathlib.Core.Bool.{Bool, true, false, not, _&&_, _||_}
 use mathlib.Core.List.{List, [], _∷_, _++_}
 use Prim.Native.Nat.{ℕ, zero, suc, _+_, _*_, _≤_, _<_}
 use native.Mathlib.Omega.{arith}
-use lib.Dec.{T, leb, ltb, eqb, nleb→lt, nltb→le, eqb→eq}
+use lib.Dec.{T, leb, eqb, nleb→lt, nltb→le, eqb→eq}
 use lib.ListN.{length, take}
 use lib.IntN.{ℤ}
 use Rattle.terms.specs.Measures.{Shape, rangeRows, mostColumns, mostTransactions, mostScans, mostNumbers}
@@ -91,7 +91,7 @@ pub data Step (S : Shape) (h : History) : Call → History → Type 0 where
   newMerges : {c : Call} {l : List Merge} → NewMerges S h c l → Step S h c (withMerges h l)
 
 -- ---- from the tests
-is-active : (h : History) (t : ℕ) → T (not (notActive h t)) → stateOf h t ≡ active
+pub is-active : (h : History) (t : ℕ) → T (not (notActive h t)) → stateOf h t ≡ active
 unfolding notActive
 is-active h t p = active-is (stateOf h t) (not-not (isActive (stateOf h t)) p)
 
@@ -123,9 +123,15 @@ writable h t r a b p q =
       not-ended = all-map (λ x n e u. not-second (ends (x .content)) _ u (not-second (eqb (x .row) r) _ (eqb-equal (x .row) r e) n)) (not-any _ (h .tail) (live .1));
     }
 
-none-active : (h : History) (l : List Record) → T (not (any (λ x. isActive (stateOf h (x .transaction))) l)) → All (λ (x : Record). stateOf h (x .transaction) ≢ active) l
+pub none-active : (h : History) (l : List Record) → T (not (any (λ x. isActive (stateOf h (x .transaction))) l)) → All (λ (x : Record). stateOf h (x .transaction) ≢ active) l
 unfolding isActive
 none-active h l p = all-map (λ x n e. rw e at n) (not-any _ l p)
+
+pub within-reach : (h : History) (g c n : ℕ) → T (not (outOfReach h g c n)) → (mergedThrough h g c < n) × (n ≤ length (recordsOf h g))
+unfolding outOfReach
+within-reach h g c n t =
+    let q = neither (leb n (mergedThrough h g c)) _ t in
+    (nleb→lt n (mergedThrough h g c) (q .0), nltb→le (length (recordsOf h g)) n (q .1))
 
 pub step : (S : Shape) (h : History) (c : Call) → Passed (tests S h c) → Step S h c (effect S h c)
 unfolding tests effect notRunning noColumn noRange allGiven lacksRecords notLater later allActive allRunning outOfReach anyActive noPage deleteRecords
@@ -144,8 +150,8 @@ step S h (scanRead k r c) p = nothing
 step S h (sum k c) p = nothing
 step S h (close k) p = newScans (scanClosed k (not-not (scanAt h k .running) (p .0)))
 step S h (merge g c n) p =
-    let reach : T (not (leb n (mergedThrough h g c))) × T (not (ltb (length (recordsOf h g)) n)) = neither (leb n (mergedThrough h g c)) _ (p .1 .1 .0) in
-    newMerges (merged g c n (nleb→lt (S .ranges) g (p .0)) (nleb→lt (S .columns) c (p .1 .0)) (nleb→lt n _ (reach .0)) (nltb→le _ n (reach .1))
+    let reach = within-reach h g c n (p .1 .1 .0) in
+    newMerges (merged g c n (nleb→lt (S .ranges) g (p .0)) (nleb→lt (S .columns) c (p .1 .0)) (reach .0) (reach .1)
     (none-active h (take n (recordsOf h g)) (p .1 .1 .1 .0)) (nleb→lt (S .spares) _ (p .1 .1 .1 .1 .0)))
 step S h release p = newMerges released
 step S h (pageCell c r) p = nothing

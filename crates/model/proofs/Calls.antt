@@ -15,11 +15,10 @@ use Rattle.terms.specs.Measures.{Shape, rangeRows, mostNumbers, mostScans}
 use Rattle.terms.specs.declared.Refusal.{Refusal}
 use Rattle.terms.specs.declared.Answer.{Answer}
 use Rattle.history.specs.History as H
-use Rattle.history.specs.History.{Call, begin, insert, update, delete, commit, abort, latest, readAt, ownRead, openScan, scanRead, sum, close, merge, release, pageCell, lineage, History, Record, active, Test, _when_, Verdict, accept, refuse, verdict, tests, reply, effect, answer, next, answerIf, nextIf, any, keep, count, upTo, total, isActive, stateOf, rowAt, rangeOf, recordsOf, mergedThrough, seenAt, seenBy, ended, visible, versionOf, read, scanAt, inserted, lastSetting, cellValue, notActive, notRunning, notGiven, noColumn, noRange, lacksRecords, notLater, later, outOfReach, anyActive, noPage, cellThrough}
-use Rattle.history.specs.Lists.{All}
-use Rattle.history.proofs.Lists.{by-test, all-map, all-at, keep-append, any-agree, not-not, neither, parts, eqb-other}
+use Rattle.history.specs.History.{Call, begin, insert, update, delete, commit, abort, latest, readAt, ownRead, openScan, scanRead, sum, close, merge, release, pageCell, lineage, History, Record, active, Test, _when_, Verdict, accept, refuse, verdict, tests, reply, effect, answer, next, answerIf, nextIf, any, keep, count, upTo, total, stateOf, rowAt, rangeOf, recordsOf, seenAt, seenBy, ended, visible, versionOf, read, scanAt, inserted, lastSetting, cellValue, notActive, notRunning, notGiven, noColumn, noRange, lacksRecords, notLater, later, outOfReach, anyActive, noPage, cellThrough}
+use Rattle.history.proofs.Lists.{by-test, all-map, all-at, keep-append, any-agree, not-not, parts, eqb-other}
 use Rattle.history.proofs.Accepted.{Passed, passed}
-use Rattle.history.proofs.Steps.{step, active-is, by-update, by-delete, made-new}
+use Rattle.history.proofs.Steps.{is-active, none-active, within-reach, step, by-update, by-delete, made-new}
 use Rattle.history.proofs.Ranges.{last-agree}
 use Rattle.history.proofs.Merges.{merges-most}
 use Rattle.history.proofs.Pages.{cell-is}
@@ -97,10 +96,6 @@ module _ (S : Shape) (v : View) (ps : List Place) (h : History) (o : Represents 
   unfolding notGiven
   given-lt r t = nleb→lt (length (h .rows)) r t
 
-  pub active-of : (t : ℕ) → T (not (notActive h t)) → stateOf h t ≡ active
-  unfolding notActive
-  active-of t p = active-is (stateOf h t) (not-not (isActive (stateOf h t)) p)
-
   later-is : (s : ℕ) → laterIn v s ≡ later h s
   unfolding laterIn later
   later-is s = ap (λ (n : ℕ). ltb n s) (o .header .last-stamp)
@@ -136,12 +131,6 @@ module _ (S : Shape) (v : View) (ps : List Place) (h : History) (o : Represents 
   unfolding outOfReachIn outOfReach
   reach-is g c n a b = ap₂ (λ (x y : ℕ). leb n x || ltb y n) (o .currents g c a b .lineage) (o .tails g a .used-all)
 
-  pub above-of : (g c n : ℕ) → T (not (outOfReach h g c n)) → (mergedThrough h g c < n) × (n ≤ length (recordsOf h g))
-  unfolding outOfReach
-  above-of g c n t =
-      let q : T (not (leb n (mergedThrough h g c))) × T (not (ltb (length (recordsOf h g)) n)) = neither (leb n (mergedThrough h g c)) _ t in
-      (nleb→lt n (mergedThrough h g c) (q .0), nltb→le (length (recordsOf h g)) n (q .1))
-
   no-page-is : leb (pagesOf S) (Rattle.model.specs.Writing.freeIn S v) ≡ noPage S h
   unfolding noPage
   no-page-is = free-is S v (h .merges) (o .pool)
@@ -154,12 +143,12 @@ module _ (S : Shape) (v : View) (ps : List Place) (h : History) (o : Represents 
   tests-agree (update t r m vs) =
       test (open-is t) (λ p. test (given-is r) (λ u. test refl (λ n.
       test (held-is S v ps h o k r (given-lt r u) t) (λ f.
-      test (gone-is S v ps h o k r (given-lt r u) t (active-of t p) f) (λ q.
+      test (gone-is S v ps h o k r (given-lt r u) t (is-active h t p) f) (λ q.
       test (lacks-is r _ _ (given-lt r u) (wanted-is S v ps h o k r m (given-lt r u) n t vs)) (λ z. done))))))
   tests-agree (delete t r) =
       test (open-is t) (λ p. test (given-is r) (λ u.
       test (held-is S v ps h o k r (given-lt r u) t) (λ f.
-      test (gone-is S v ps h o k r (given-lt r u) t (active-of t p) f) (λ q.
+      test (gone-is S v ps h o k r (given-lt r u) t (is-active h t p) f) (λ q.
       test (lacks-is r 1 1 (given-lt r u) refl) (λ z. done)))))
   tests-agree (commit t s) = test (open-is t) (λ p. test (not-later-is s) (λ q. done))
   tests-agree (abort t) = test (open-is t) (λ p. done)
@@ -174,7 +163,7 @@ module _ (S : Shape) (v : View) (ps : List Place) (h : History) (o : Represents 
   tests-agree (merge g c n) =
       test refl (λ p. test refl (λ q.
       test (reach-is g c n (range-lt g p) (column-lt c q)) (λ z.
-      test (open-among-is S v ps h o g c n (range-lt g p) (column-lt c q) (above-of g c n z .0) (above-of g c n z .1)) (λ w.
+      test (open-among-is S v ps h o g c n (range-lt g p) (column-lt c q) (within-reach h g c n z .0) (within-reach h g c n z .1)) (λ w.
       test no-page-is (λ y. done)))))
   tests-agree release = done
   tests-agree (pageCell c r) = test refl (λ p. test (given-is r) (λ q. done))
@@ -286,7 +275,7 @@ module _ (S : Shape) (v : View) (ps : List Place) (h : History) (o : Represents 
   reply-same (latest r c) p =
       ap (λ (s : ℕ). readCurrent S v s 0 r c) (o .header .last-stamp) ∙ current-read (h .last) 0 r c (seenAt h (h .last)) (sees-at h (h .last)) (given-lt r (p .0)) (column-lt c (p .1 .0))
   reply-same (readAt s r c) p = current-read s 0 r c (seenAt h s) (sees-at h s) (given-lt r (p .1 .0)) (column-lt c (p .1 .1 .0))
-  reply-same (ownRead t r c) p = own-read t r c (active-of t (p .0)) (given-lt r (p .1 .0)) (column-lt c (p .1 .1 .0))
+  reply-same (ownRead t r c) p = own-read t r c (is-active h t (p .0)) (given-lt r (p .1 .0)) (column-lt c (p .1 .1 .0))
   reply-same (openScan s) p = ap Answer.Number (plus-one _ _ (o .header .scans-given))
   reply-same (scanRead i r c) p =
       ap (λ (s : Place). readIn S v (s .stamp) 0 (scanPage S v (s .merges) (rangeOf r) c) r c) (found i (running-of i (p .0)))
@@ -307,24 +296,20 @@ module _ (S : Shape) (v : View) (ps : List Place) (h : History) (o : Represents 
   unfolding lacksRecords
   capacity-of r n q = nltb→le (S .capacity) (length (recordsOf h (rangeOf r)) + n) q
 
-  pub none-active : (g n : ℕ) → T (not (anyActive h g n)) → All (λ (x : Record). stateOf h (x .transaction) ≢ active) (take n (recordsOf h g))
-  unfolding anyActive isActive
-  none-active g n q = all-map (λ (x : Record) u e. rw e at u) (Rattle.history.proofs.Lists.not-any (λ (x : Record). isActive (stateOf h (x .transaction))) (take n (recordsOf h g)) q)
-
   pub page-room : T (not (noPage S h)) → Rattle.model.specs.Writing.freeIn S v < pagesOf S
   page-room q = nleb→lt (pagesOf S) (Rattle.model.specs.Writing.freeIn S v) (subst (λ (b : Bool). T (not b)) (sym no-page-is) q)
 
   pub act-kept : (c : Call) → Typed c → Passed (tests S h c) → Represents S (actIn S v ps c) (placesAfter v ps c) (effect S h c)
   unfolding actIn placesAfter effect tests H.allGiven notLater H.allRunning later
   act-kept begin y p = begin-kept S v ps h o k (free-place (p .1 .0)) (step S h begin p) (nleb→lt mostNumbers (length (h .transactions)) (p .0))
-  act-kept (insert t vs) y p = insert-kept S v ps h o k t vs (active-of t (p .0)) (nleb→lt (S .ranges * rangeRows) (length (h .rows)) (p .1 .0)) (y .1) (step S h (insert t vs) p)
+  act-kept (insert t vs) y p = insert-kept S v ps h o k t vs (is-active h t (p .0)) (nleb→lt (S .ranges * rangeRows) (length (h .rows)) (p .1 .0)) (y .1) (step S h (insert t vs) p)
   act-kept (update t r m vs) y p =
-      update-kept S v ps h o k t r m vs (active-of t (p .0)) (given-lt r (p .1 .0)) (p .1 .1 .0) (y .2) (y .3) (capacity-of r _ (p .1 .1 .1 .1 .1 .0)) (step S h (update t r m vs) p)
+      update-kept S v ps h o k t r m vs (is-active h t (p .0)) (given-lt r (p .1 .0)) (p .1 .1 .0) (y .2) (y .3) (capacity-of r _ (p .1 .1 .1 .1 .1 .0)) (step S h (update t r m vs) p)
       (made-new {S = S} (by-update m vs (p .1 .1 .0)))
   act-kept (delete t r) y p =
-      delete-kept S v ps h o k t r (active-of t (p .0)) (given-lt r (p .1 .0)) (capacity-of r 1 (p .1 .1 .1 .1 .0)) (step S h (delete t r) p) (made-new {S = S} by-delete)
-  act-kept (commit t s) y p = commit-kept S v ps h o k t s (active-of t (p .0)) (nleb→lt s (h .last) (p .1 .0)) (y .1) (step S h (commit t s) p)
-  act-kept (abort t) y p = abort-kept S v ps h o k t (active-of t (p .0)) (step S h (abort t) p)
+      delete-kept S v ps h o k t r (is-active h t (p .0)) (given-lt r (p .1 .0)) (capacity-of r 1 (p .1 .1 .1 .1 .0)) (step S h (delete t r) p) (made-new {S = S} by-delete)
+  act-kept (commit t s) y p = commit-kept S v ps h o k t s (is-active h t (p .0)) (nleb→lt s (h .last) (p .1 .0)) (y .1) (step S h (commit t s) p)
+  act-kept (abort t) y p = abort-kept S v ps h o k t (is-active h t (p .0)) (step S h (abort t) p)
   act-kept (latest r c) y p = o
   act-kept (readAt s r c) y p = o
   act-kept (ownRead t r c) y p = o
@@ -334,7 +319,7 @@ module _ (S : Shape) (v : View) (ps : List Place) (h : History) (o : Represents 
   act-kept (sum i c) y p = o
   act-kept (close i) y p = close-kept S v ps h o k i (running-of i (p .0)) (step S h (close i) p)
   act-kept (merge g c n) y p =
-      merge-kept S v ps h o k g c n (range-lt g (p .0)) (column-lt c (p .1 .0)) (above-of g c n (p .1 .1 .0) .0) (above-of g c n (p .1 .1 .0) .1) (none-active g n (p .1 .1 .1 .0))
+      merge-kept S v ps h o k g c n (range-lt g (p .0)) (column-lt c (p .1 .0)) (within-reach h g c n (p .1 .1 .0) .0) (within-reach h g c n (p .1 .1 .0) .1) (none-active h (take n (recordsOf h g)) (unfold anyActive in (p .1 .1 .1 .0)))
       (page-room (p .1 .1 .1 .1 .0)) (merges-few k) (step S h (merge g c n) p)
   act-kept release y p = release-kept S v ps h o k (step S h release p)
   act-kept (pageCell c r) y p = o

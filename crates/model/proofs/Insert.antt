@@ -21,6 +21,7 @@ use Rattle.history.specs.Lists.{All, nil, cons}
 use Rattle.history.proofs.Lists.{by-cases, all-append, all-map, all-at, any-none, eqb-other}
 use Rattle.history.proofs.Steps.{Step, wasSet}
 use Rattle.history.specs.Latest.{stampOf}
+use Rattle.history.proofs.States.{active-unseen}
 use Rattle.history.proofs.Timely.{Timely}
 use Rattle.history.proofs.Links.{noRecord, lastOf}
 use Rattle.words.proofs.Words.{Fit}
@@ -35,7 +36,7 @@ use Rattle.model.specs.Writing.{noted, putCells, insertedAt, insertedIn}
 use Rattle.model.proofs.Lists.{same-part}
 use Rattle.model.proofs.Represents.{stateWord, RowsAre, Holds, everyRow, CurrentIs, CurrentOf, CurrentsAre, ScanPageOf, ScanPagesAre, NotesAre, Represents, Known, Whole}
 use Rattle.model.proofs.Holding.{same-row, withRow, row-new, row-old, rows-more, not-given, other-row, holds-step, holds-cells, holds-insert}
-use Rattle.model.proofs.Steady.{waiting-step, scan-cells, scan-page-step, active-unseen}
+use Rattle.model.proofs.Steady.{waiting-step, scan-cells, scan-page-step}
 use Rattle.model.proofs.Views.{renew-whole, put-whole, header-put, header-same}
 use Rattle.model.proofs.Notes.{notes-more, few-changes, active-given}
 
@@ -182,7 +183,7 @@ module _ (S : Shape) (v : View) (ps : List Place) (h : History) (o : Represents 
     where
       -- a row that the scan sees is not the new one, which is open
       seen : (j : ℕ) → T (seenAt h′ (scanAt h i .stamp) ((rowAt h′ j) .inserter)) → j ≢ r
-      seen j q e = active-unseen h′ (scanAt h i .stamp) t (unfold stateOf withRows in a) (subst (λ (w : Row). T (seenAt h′ (scanAt h i .stamp) (w .inserter))) (row-new h row) (subst (λ (n : ℕ). T (seenAt h′ (scanAt h i .stamp) ((rowAt h′ n) .inserter))) e q))
+      seen j q e = rw (e, row-new h row, active-unseen h′ (scanAt h i .stamp) t (unfold stateOf withRows in a)) at q
 
   insert-notes : NotesAre (h .rows ++ row ∷ []) (h .tail) (v Opens) (set (v Changes) (place (bears t) (v Opens)) (nextWord (getD (v Changes) (place (bears t) (v Opens)) 0)))
   unfolding stateOf

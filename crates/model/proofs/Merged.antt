@@ -13,13 +13,14 @@ use lib.Seq.{lt-length-set, getD-set-same, getD-set-other}
 use mir.Syntax.{w32}
 use mir.Val.{toZ}
 use Rattle.terms.specs.Measures.{Shape, rangeRows}
-use Rattle.history.specs.History.{merge, History, Record, State, active, committed, Merge, Scan, any, isActive, isCommitted, stateOf, rowAt, rangeOf, recordsOf, lastThrough, mergedThrough, anyActive, waitingPages, scanAt, inserted, lastSetting, withMerges, cellThrough}
+use Rattle.history.specs.History.{merge, History, Record, State, active, committed, Merge, Scan, any, isActive, isCommitted, stateOf, rowAt, rangeOf, recordsOf, mergedThrough, anyActive, waitingPages, scanAt, inserted, lastSetting, withMerges, cellThrough}
 use Rattle.history.specs.Lists.{All}
-use Rattle.history.proofs.Lists.{by-cases, all-map, any-none, is-true, refuted, eqb-other, eqb-equal, parts}
+use Rattle.history.proofs.Lists.{by-cases, all-map, any-none, is-true, eqb-other, eqb-equal}
 use Rattle.history.proofs.Steps.{Step}
 use Rattle.history.proofs.States.{isClosed}
 use Rattle.history.proofs.Timely.{Timely}
-use Rattle.history.proofs.Pages.{merged-append, Through, merge-through}
+use Rattle.history.proofs.Pages.{Through, merge-through, lineage-step, lineage-stays}
+use Rattle.history.proofs.Merges.{merged-page}
 use Rattle.loops.specs.Change.{copied}
 use Rattle.loops.proofs.Change.{changed-length, changed-outside, changed-at, changed-fit}
 use Rattle.layout.specs.View.{View, renew, put}
@@ -226,16 +227,8 @@ module _ (S : Shape) (v : View) (ps : List Place) (h : History) (o : Represents 
               ∙ (unfold cellThrough in (ap (λ (j : ℕ). lastSetting (λ i. isCommitted (stateOf h i)) r c (inserted h r c) (take low (recordsOf h j)) .value) e))
 
   -- ---- the current pages
-  through-here : mergedThrough h′ g c ≡ n
-  unfolding mergedThrough withMerges
-  through-here = merged-append g c 0 (h .merges) new ∙ rw (is-equal g g refl, is-equal c c refl)
-
-  through-there : (a b : ℕ) → placeOf S a b ≢ placeOf S g c → mergedThrough h′ a b ≡ mergedThrough h a b
-  unfolding mergedThrough withMerges
-  through-there a b f = merged-append a b 0 (h .merges) new ∙ ap (λ (q : Bool). cond q n (lastThrough a b 0 (h .merges))) (refuted (eqb g a && eqb c b) (λ t. f (same (parts (eqb g a) (eqb c b) t))))
-    where
-      same : T (eqb g a) × T (eqb c b) → placeOf S a b ≡ placeOf S g c
-      same t = ap (λ (i : ℕ). placeOf S i b) (sym (eqb→eq g a (t .0))) ∙ ap (placeOf S g) (sym (eqb→eq c b (t .1)))
+  through-there : Step S h (merge g c n) h′ → (a b : ℕ) → placeOf S a b ≢ placeOf S g c → mergedThrough h′ a b ≡ mergedThrough h a b
+  through-there step a b f = lineage-stays (lineage-step a b step) (λ j e. f (cc))
 
   more-merges : length ((h′) .merges) ≡ suc (length (h .merges))
   unfolding withMerges
@@ -254,12 +247,12 @@ module _ (S : Shape) (v : View) (ps : List Place) (h : History) (o : Represents 
         state = refl;
         place = refl;
         made = omega (arith, m-is, more-merges);
-        lineage = sym through-here;
+        lineage = sym (merged-page h g c n);
         holds = holds-step (k .past .order) step g c _ (λ r e u. (tt, same-rows (length (h .rows)) (length ((h′) .rows)) r rows-same)) new-holds;
       })
       (λ f. rw (current-there a b f, page-other (currentIn S v a b) (current-not-free a b u w) (current-not-old a b u w f))
       (current-cells (λ r. cells-other (currentIn S v a b) (within r) (current-not-free a b u w) (omega arith))
-      (current-step (k .past .order) step rows-same (through-there a b f) (o .currents a b u w))))
+      (current-step (k .past .order) step rows-same (through-there step a b f) (o .currents a b u w))))
 
   -- ---- the waiting pages
   made-here : madeIn S v′ g c ≡ m

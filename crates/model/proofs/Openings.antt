@@ -6,16 +6,16 @@ use Prim.Native.Nat.{ℕ, _*_, _≤_, _<_}
 use native.Mathlib.Omega.{arith}
 use native.Mathlib.Nat.{le-trans}
 use lib.Dec.{T, eqb, nleb→lt}
-use lib.ListN.{length}
+use lib.ListN.{length, take}
 use lib.IntN.{ℤ}
 use lib.Bits.{bitOr}
 use Rattle.terms.specs.Measures.{Shape, rangeRows}
 use Rattle.history.specs.History as H
-use Rattle.history.specs.History.{Call, begin, insert, update, delete, commit, abort, latest, readAt, ownRead, openScan, scanRead, sum, close, merge, release, pageCell, lineage, History, Scan, Verdict, accept, refuse, verdict, tests, next, run, stateOf, rangeOf, scanAt, withScans}
+use Rattle.history.specs.History.{Call, begin, insert, update, delete, commit, abort, latest, readAt, ownRead, openScan, scanRead, sum, close, merge, release, pageCell, lineage, History, Scan, Verdict, accept, refuse, verdict, tests, next, run, rangeOf, recordsOf, scanAt, withScans}
 use Rattle.history.specs.Lists.{All, nil, cons}
 use Rattle.history.proofs.Lists.{nth-before}
 use Rattle.history.proofs.Accepted.{Passed, passed}
-use Rattle.history.proofs.Steps.{scanOpened, scanClosed, Step, nothing, newStates, rowGiven, recordsMade, newScans, newMerges, next-step}
+use Rattle.history.proofs.Steps.{is-active, none-active, within-reach, scanOpened, scanClosed, Step, nothing, newStates, rowGiven, recordsMade, newScans, newMerges, next-step}
 use Rattle.layout.specs.View.{View, renew, put}
 use Rattle.layout.specs.declared.Region.the-variants.{RowMask}
 use Rattle.terms.specs.declared.Place.{Place}
@@ -29,7 +29,7 @@ use Rattle.model.proofs.Merged.{scan-same, scan-not-free, cells-other}
 use Rattle.model.proofs.Holding.{grown}
 use Rattle.model.proofs.Steady.{still-running}
 use Rattle.model.proofs.Release.{scan-page-kept}
-use Rattle.model.proofs.Calls.{agree-verdict, tests-agree, active-of, column-lt, range-lt, above-of, none-active, page-room, merges-few, known-next, one-call}
+use Rattle.model.proofs.Calls.{agree-verdict, tests-agree, column-lt, range-lt, page-room, merges-few, known-next, one-call}
 
 -- The scan that had m merges made before it finds the same page in w as in v, and the page's cells of the first n rows are the same.
 pub record SamePage (S : Shape) (v w : View) (m n g c : ℕ) : Type 0 where
@@ -57,15 +57,12 @@ module _ (S : Shape) (v : View) (ps : List Place) (h : History) (o : Represents 
       room : length (h .rows) < S .ranges * rangeRows
       room = nleb→lt (S .ranges * rangeRows) (length (h .rows)) b
 
-      is-active : stateOf h t ≡ H.active
-      is-active = active-of S v ps h o k t a
-
       at-row : Same (insertedAt S t vs (length (h .rows)) v)
       at-row = unfold insertedAt noted openPlace put renew scanPage wasCurrent currentIn pageIn cellIn in
           record {
             page = refl;
-            cells = λ r u e. cell-kept S v ps h o k t vs is-active room (y .1) q (within r) (omega arith)
-                (scan-apart S v ps h o k t vs is-active room (y .1) g c q bc (page .place) r e (λ z. omega arith));
+            cells = λ r u e. cell-kept S v ps h o k t vs (is-active h t a) room (y .1) q (within r) (omega arith)
+                (scan-apart S v ps h o k t vs (is-active h t a) room (y .1) g c q bc (page .place) r e (λ z. omega arith));
           }
 
   update-same : (t r n : ℕ) (vs : List ℤ) → Same (updatedIn S t r n vs v)
@@ -82,12 +79,12 @@ module _ (S : Shape) (v : View) (ps : List Place) (h : History) (o : Represents 
   merge-same a d n p =
       let u : a < S .ranges = range-lt S v ps h o k a (p .0) in
       let w : d < S .columns = column-lt S v ps h o k d (p .1 .0) in
-      let z : _ = above-of S v ps h o k a d n (p .1 .1 .0) in
+      let z : _ = within-reach h a d n (p .1 .1 .0) in
       record {
-        page = scan-same S v ps h o k a d n u w (z .0) (z .1) (none-active S v ps h o k a n (p .1 .1 .1 .0)) (page-room S v ps h o k (p .1 .1 .1 .1 .0)) (merges-few k) (scanAt h i .before) g c bg bc (page .early) (page .made);
+        page = scan-same S v ps h o k a d n u w (z .0) (z .1) (none-active h (take n (recordsOf h a)) (unfold H.anyActive in (p .1 .1 .1 .0))) (page-room S v ps h o k (p .1 .1 .1 .1 .0)) (merges-few k) (scanAt h i .before) g c bg bc (page .early) (page .made);
         cells = λ r b e.
-            cells-other S v ps h o k a d n u w (z .0) (z .1) (none-active S v ps h o k a n (p .1 .1 .1 .0)) (page-room S v ps h o k (p .1 .1 .1 .1 .0)) (merges-few k) q (within r)
-            (scan-not-free S v ps h o k a d n u w (z .0) (z .1) (none-active S v ps h o k a n (p .1 .1 .1 .0)) (page-room S v ps h o k (p .1 .1 .1 .1 .0)) (merges-few k) (scanAt h i .before) g c bg bc (page .made)) (omega arith);
+            cells-other S v ps h o k a d n u w (z .0) (z .1) (none-active h (take n (recordsOf h a)) (unfold H.anyActive in (p .1 .1 .1 .0))) (page-room S v ps h o k (p .1 .1 .1 .1 .0)) (merges-few k) q (within r)
+            (scan-not-free S v ps h o k a d n u w (z .0) (z .1) (none-active h (take n (recordsOf h a)) (unfold H.anyActive in (p .1 .1 .1 .0))) (page-room S v ps h o k (p .1 .1 .1 .1 .0)) (merges-few k) (scanAt h i .before) g c bg bc (page .made)) (omega arith);
       }
 
   act-same : (x : Call) → Typed x → Passed (tests S h x) → Same (actIn S v ps x)

@@ -1,18 +1,19 @@
 -- What a step of the history leaves of the pages: the current pages, the waiting ones and those of the running scans, as long as their words stay.
-use mathlib.Core.Path.{_≡_, refl, sym, _∙_, ap, subst}
+use mathlib.Core.Path.{_≡_, sym, _∙_, ap, subst}
 use mathlib.Core.Logic.{_⊎_, inl}
-use mathlib.Core.List.{List, [], _∷_, _++_}
-use Prim.Native.Nat.{ℕ, suc, _+_, _≤_, _<_}
+use mathlib.Core.List.{List, []}
+use Prim.Native.Nat.{ℕ, _≤_, _<_}
 use native.Mathlib.Omega.{arith}
 use native.Mathlib.Nat.{le-refl, le-trans}
 use native.Mathlib.Decide.{ℕ-discrete, decLt}
-use lib.Dec.{T, leb→le}
+use lib.Dec.{T}
 use lib.ListN.{length, List·getD-eq-default}
 use Rattle.terms.specs.Measures.{Shape}
 use Rattle.history.specs.History as H
-use Rattle.history.specs.History.{Call, History, Row, State, unknown, active, committed, Scan, nth, change, committedBy, stateOf, rowAt, rangeOf, mergedThrough, seenAt, scanAt, stopped, withRows, withTail, withTransactions, withScans, withMerges}
-use Rattle.history.proofs.Lists.{clash, by-cases, nth-last, nth-before, nth-other, nth-changed}
-use Rattle.history.proofs.Steps.{noScan, running-known, Closing, by-commit, by-abort, began, closed, Step, nothing, newStates, rowGiven, recordsMade, newScans, newMerges}
+use Rattle.history.specs.History.{Call, History, Row, Scan, nth, change, committedBy, stateOf, rowAt, rangeOf, mergedThrough, seenAt, scanAt, stopped, withRows, withTail, withTransactions, withScans, withMerges}
+use Rattle.history.proofs.Lists.{by-cases, nth-other, nth-changed}
+use Rattle.history.proofs.Steps.{noScan, running-known, Step, nothing, newStates, rowGiven, recordsMade, newScans, newMerges}
+use Rattle.history.proofs.States.{active-unseen, seen-moved}
 use Rattle.history.proofs.Order.{InOrder}
 use Rattle.history.proofs.Timely.{Timely}
 use Rattle.layout.specs.View.{View}
@@ -56,42 +57,6 @@ pub scan-cells : {S : Shape} {h : History} {s : Scan} {g c p : ℕ} {x : PageWor
 scan-cells f o = record { inside = o .inside; early = o .early; place = o .place; made = o .made; holds = holds-cells f (o .holds) }
 
 -- ---- a row seen at a stamp that is not after the last commit was seen before
-committed-before : (l : List State) (k a : ℕ) → nth (l ++ active ∷ []) k unknown ≡ committed a → nth l k unknown ≡ committed a
-committed-before l k a e = by-cases (ℕ-discrete k (suc (length l)))
-    (λ q. let z : active ≡ committed a = sym (nth-last unknown l active) ∙ ap (λ (j : ℕ). nth (l ++ active ∷ []) j unknown) (sym q) ∙ e in clash (cc))
-    (λ n. sym (nth-before unknown l active k n) ∙ e)
-
-closed-late : {h : History} {x : State} {s a : ℕ} → Closing h x s → x ≡ committed a → h .last < a
-closed-late {s = s} {a = a} (by-commit b) e = let q : s ≡ a = cc in omega arith
-closed-late by-abort e = clash (cc)
-
-pub committed-step : {S : Shape} {y : Call} {h h′ : History} → Step S h y h′ → (k a : ℕ) → a ≤ h .last → stateOf h′ k ≡ committed a → stateOf h k ≡ committed a
-unfolding stateOf withRows withTail withTransactions withScans withMerges
-committed-step nothing k a b e = e
-committed-step {h = h} (newStates (began _ _)) k a b e = committed-before (h .transactions) k a e
-committed-step {h = h} (newStates (closed t {x = x} o c)) k a b e = by-cases (ℕ-discrete k t)
-    (λ q. let z : x ≡ committed a = sym (nth-changed unknown (h .transactions) t x (λ u. clash (cc))) ∙ ap (λ (j : ℕ). nth (change (h .transactions) t x) j unknown) (sym q) ∙ e in
-    absurd (omega (arith, closed-late c z)))
-    (λ f. sym (nth-other unknown (h .transactions) t x k f) ∙ e)
-committed-step (rowGiven t vs _ _) k a b e = e
-committed-step (recordsMade t r _ _ _) k a b e = e
-committed-step (newScans _) k a b e = e
-committed-step (newMerges _) k a b e = e
-
-seen-committed : (t : ℕ) (x : State) → T (committedBy t x) → (a : ℕ) × (x ≡ committed a) × (a ≤ t)
-unfolding committedBy
-seen-committed t (committed a) u = (a, refl, leb→le a t u)
-
-committed-seen : (t : ℕ) (x : State) (a : ℕ) → x ≡ committed a → a ≤ t → T (committedBy t x)
-unfolding committedBy
-committed-seen t x a e b = rw e (lib.Dec.le→leb a t b)
-
-pub seen-states : {S : Shape} {y : Call} {h h′ : History} → Step S h y h′ → (s k : ℕ) → s ≤ h .last → T (seenAt h′ s k) → T (seenAt h s k)
-unfolding seenAt
-seen-states {h = h} {h′ = h′} step s k b u =
-    let q = seen-committed s (stateOf h′ k) u in
-    committed-seen s (stateOf h k) (q .0) (committed-step step k (q .0) (le-trans (q .2) b) (q .1)) (q .2)
-
 no-row : (h : History) (r : ℕ) → length (h .rows) ≤ r → (rowAt h r) .inserter ≡ 0
 unfolding rowAt
 no-row h r b = rw (List·getD-eq-default (h .rows) record { inserter = 0; values = [] } b)
@@ -101,29 +66,23 @@ pub seen-given : (h : History) (s r : ℕ) → T (seenAt h s ((rowAt h r) .inser
 unfolding seenAt stateOf committedBy
 seen-given h s r u = by-cases (decLt r (length (h .rows))) (λ b. b) (λ f. absurd (rw (no-row h r (omega arith)) at u))
 
-pub active-unseen : (h : History) (s t : ℕ) → stateOf h t ≡ active → T (seenAt h s t) → ⊥
-unfolding seenAt committedBy
-active-unseen h s t e u = rw e at u
-
-row-seen : {S : Shape} {y : Call} {h h′ : History} → Step S h y h′ → (s r : ℕ) → T (seenAt h s ((rowAt h′ r) .inserter)) → T (seenAt h s ((rowAt h r) .inserter))
-unfolding rowAt withTail withTransactions withScans withMerges
-row-seen nothing s r u = u
-row-seen (newStates _) s r u = u
-row-seen {h = h} (rowGiven t vs a _) s r u = by-cases (ℕ-discrete r (length (h .rows))) (λ e. absurd (active-unseen h s t a (rw (e, row-new h w) at u))) (λ f. by-cases (decLt r (length (h .rows)))
-    (λ b. rw (row-old h w r b) at u)
-    (λ b. rw (no-row h r (omega arith), ← (no-row (withRow h w) r (omega (arith, rows-more h w)))) u))
+row-seen : {S : Shape} {y : Call} {h h′ : History} → Step S h y h′ → (s r : ℕ) → s ≤ h .last → T (seenAt h′ s ((rowAt h′ r) .inserter)) → T (seenAt h s ((rowAt h r) .inserter))
+unfolding seenAt committedBy stateOf rowAt withRows withTail withTransactions withScans withMerges
+row-seen nothing s r b u = u
+row-seen (newStates n) s r b u = rw (seen-moved n s _ b) at u
+row-seen {h = h} (rowGiven t vs a _) s r b u = by-cases (ℕ-discrete r (length (h .rows)))
+    (λ e. absurd (rw (e, row-new h w, active-unseen h s t a) at u))
+    (λ f. by-cases (decLt r (length (h .rows))) (λ b. rw (row-old h w r b) at u) (λ b. absurd (rw (no-row (withRow h w) r (omega (arith, rows-more h w))) at u)))
   where
     w : Row
     w = record { inserter = t; values = vs }
-row-seen (recordsMade _ _ _ _ _) s r u = u
-row-seen (newScans _) s r u = u
-row-seen (newMerges _) s r u = u
+row-seen (recordsMade _ _ _ _ _) s r b u = u
+row-seen (newScans _) s r b u = u
+row-seen (newMerges _) s r b u = u
 
 pub seen-step : {S : Shape} {y : Call} {h h′ : History} → Step S h y h′ → (s r : ℕ) → s ≤ h .last → T (seenAt h′ s ((rowAt h′ r) .inserter))
     → T (seenAt h s ((rowAt h r) .inserter)) × ((r < length (h .rows)) ⊎ (length (h′ .rows) ≤ r))
-seen-step {h = h} {h′ = h′} step s r b u =
-    let old : T (seenAt h s ((rowAt h r) .inserter)) = row-seen step s r (seen-states step s ((rowAt h′ r) .inserter) b u) in
-    (old, inl (seen-given h s r old))
+seen-step {h = h} step s r b u = let old = row-seen step s r b u in (old, inl (seen-given h s r old))
 
 -- a running scan's page
 pub scan-page-step : {S : Shape} {y : Call} {h h′ : History} {s : Scan} {g c p : ℕ} {x : PageWords} {cell : ℕ → ℕ} → InOrder h → Step S h y h′ → s .stamp ≤ h .last

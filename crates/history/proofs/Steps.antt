@@ -74,10 +74,17 @@ pub data NewScans (h : History) : List Scan → Type 0 where
       → NewScans h (h .scans ++ record { running = true; stamp = s; before = length (h .merges) } ∷ [])
   scanClosed : (k : ℕ) → T (scanAt h k .running) → NewScans h (change (h .scans) k (stopped (scanAt h k)))
 
+-- Range g may be merged through record n into column c's page.
+pub record Mergeable (S : Shape) (h : History) (g c n : ℕ) : Type 0 where
+  pub range-in : g < S .ranges
+  pub column-in : c < S .columns
+  pub above : mergedThrough h g c < n
+  pub used : n ≤ length (recordsOf h g)
+  pub shut : All (λ (x : Record). stateOf h (x .transaction) ≢ active) (take n (recordsOf h g))
+  pub spare : waitingPages (h .merges) < S .spares
+
 pub data NewMerges (S : Shape) (h : History) : Call → List Merge → Type 0 where
-  merged : (g c n : ℕ) → g < S .ranges → c < S .columns → mergedThrough h g c < n → n ≤ length (recordsOf h g)
-      → All (λ (x : Record). stateOf h (x .transaction) ≢ active) (take n (recordsOf h g)) → waitingPages (h .merges) < S .spares
-      → NewMerges S h (merge g c n) (h .merges ++ record { range = g; column = c; through = n; waiting = true } ∷ [])
+  merged : {g c n : ℕ} → Mergeable S h g c n → NewMerges S h (merge g c n) (h .merges ++ record { range = g; column = c; through = n; waiting = true } ∷ [])
   released : {c : Call} → NewMerges S h c (afterRelease (h .scans) 0 (h .merges))
 
 pub data Step (S : Shape) (h : History) : Call → History → Type 0 where
@@ -123,7 +130,7 @@ writable h t r a b p q =
       not-ended = all-map (λ x n e u. not-second (ends (x .content)) _ u (not-second (eqb (x .row) r) _ (eqb-equal (x .row) r e) n)) (not-any _ (h .tail) (live .1));
     }
 
-pub none-active : (h : History) (l : List Record) → T (not (any (λ x. isActive (stateOf h (x .transaction))) l)) → All (λ (x : Record). stateOf h (x .transaction) ≢ active) l
+none-active : (h : History) (l : List Record) → T (not (any (λ x. isActive (stateOf h (x .transaction))) l)) → All (λ (x : Record). stateOf h (x .transaction) ≢ active) l
 unfolding isActive
 none-active h l p = all-map (λ x n e. rw e at n) (not-any _ l p)
 
@@ -133,8 +140,21 @@ within-reach h g c n t =
     let q = neither (leb n (mergedThrough h g c)) _ t in
     (nleb→lt n (mergedThrough h g c) (q .0), nltb→le (length (recordsOf h g)) n (q .1))
 
+pub mergeable : (S : Shape) (h : History) (g c n : ℕ) → Passed (tests S h (merge g c n)) → Mergeable S h g c n
+unfolding tests noColumn noRange anyActive noPage
+mergeable S h g c n p =
+    let reach = within-reach h g c n (p .1 .1 .0) in
+    record {
+      range-in = nleb→lt (S .ranges) g (p .0);
+      column-in = nleb→lt (S .columns) c (p .1 .0);
+      above = reach .0;
+      used = reach .1;
+      shut = none-active h (take n (recordsOf h g)) (p .1 .1 .1 .0);
+      spare = nleb→lt (S .spares) _ (p .1 .1 .1 .1 .0);
+    }
+
 pub step : (S : Shape) (h : History) (c : Call) → Passed (tests S h c) → Step S h c (effect S h c)
-unfolding tests effect notRunning noColumn noRange allGiven lacksRecords notLater later allActive allRunning outOfReach anyActive noPage deleteRecords
+unfolding tests effect notRunning allGiven lacksRecords notLater later allActive allRunning deleteRecords
 step S h begin p = newStates (began (nleb→lt mostNumbers _ (p .0)) (nleb→lt mostTransactions _ (p .1 .0)))
 step S h (insert t vs) p = rowGiven t vs (is-active h t (p .0)) (nleb→lt _ _ (p .1 .0))
 step S h (update t r m vs) p =
@@ -149,10 +169,7 @@ step S h (openScan s) p = newScans (scanOpened (nltb→le (h .last) s (p .0)) (n
 step S h (scanRead k r c) p = nothing
 step S h (sum k c) p = nothing
 step S h (close k) p = newScans (scanClosed k (not-not (scanAt h k .running) (p .0)))
-step S h (merge g c n) p =
-    let reach = within-reach h g c n (p .1 .1 .0) in
-    newMerges (merged g c n (nleb→lt (S .ranges) g (p .0)) (nleb→lt (S .columns) c (p .1 .0)) (reach .0) (reach .1)
-    (none-active h (take n (recordsOf h g)) (p .1 .1 .1 .0)) (nleb→lt (S .spares) _ (p .1 .1 .1 .1 .0)))
+step S h (merge g c n) p = newMerges (merged (mergeable S h g c n p))
 step S h release p = newMerges released
 step S h (pageCell c r) p = nothing
 step S h (lineage g c) p = nothing

@@ -3,11 +3,11 @@ use mathlib.Core.Path.{_≡_, refl, sym, _∙_, ap, ap₂, subst}
 use mathlib.Core.Logic.{_≢_}
 use mathlib.Core.Bool.{Bool, true, false, not, cond, _&&_, _||_}
 use mathlib.Core.List.{List, [], _∷_, _++_}
-use Prim.Native.Nat.{ℕ, zero, suc, _+_, _*_, _-_, _^_, _≤_, _<_}
+use Prim.Native.Nat.{ℕ, zero, suc, _+_, _*_, _-_, _≤_, _<_}
 use native.Mathlib.Omega.{arith}
-use native.Mathlib.Nat.{le-refl, mul-le-mul}
+use native.Mathlib.Nat.{le-refl}
 use lib.Dec.{T, leb, ltb, eqb, eqb→eq, nleb→lt, nltb→le}
-use lib.ListN.{length, getD, take, length-append}
+use lib.ListN.{length, getD, length-append}
 use lib.IntN.{ℤ, _+ℤ_, +ℤ-assoc, +ℤ-idl, +ℤ-idr}
 use mir.Syntax.{w32}
 use mir.Val.{toZ}
@@ -15,12 +15,11 @@ use Rattle.terms.specs.Measures.{Shape, rangeRows, mostNumbers, mostScans}
 use Rattle.terms.specs.declared.Refusal.{Refusal}
 use Rattle.terms.specs.declared.Answer.{Answer}
 use Rattle.history.specs.History as H
-use Rattle.history.specs.History.{Call, begin, insert, update, delete, commit, abort, latest, readAt, ownRead, openScan, scanRead, sum, close, merge, release, pageCell, lineage, History, Record, active, Test, _when_, Verdict, accept, refuse, verdict, tests, reply, effect, answer, next, answerIf, nextIf, any, keep, count, upTo, total, stateOf, rowAt, rangeOf, recordsOf, seenAt, seenBy, ended, visible, versionOf, read, scanAt, inserted, lastSetting, cellValue, notActive, notRunning, notGiven, noColumn, noRange, lacksRecords, notLater, later, outOfReach, anyActive, noPage, cellThrough}
+use Rattle.history.specs.History.{Call, begin, insert, update, delete, commit, abort, latest, readAt, ownRead, openScan, scanRead, sum, close, merge, release, pageCell, lineage, History, Record, active, Test, _when_, Verdict, accept, refuse, verdict, tests, reply, effect, answer, next, answerIf, nextIf, any, keep, count, upTo, total, stateOf, rowAt, rangeOf, recordsOf, seenAt, seenBy, ended, visible, versionOf, read, scanAt, inserted, lastSetting, cellValue, notActive, notRunning, notGiven, noColumn, noRange, lacksRecords, notLater, later, outOfReach, noPage, cellThrough}
 use Rattle.history.proofs.Lists.{by-test, all-map, all-at, keep-append, any-agree, not-not, parts, eqb-other}
 use Rattle.history.proofs.Accepted.{Passed, passed}
-use Rattle.history.proofs.Steps.{is-active, none-active, within-reach, step, by-update, by-delete, made-new}
+use Rattle.history.proofs.Steps.{mergeable, is-active, within-reach, step, by-update, by-delete, made-new}
 use Rattle.history.proofs.Ranges.{last-agree}
-use Rattle.history.proofs.Merges.{merges-most}
 use Rattle.history.proofs.Pages.{cell-is}
 use Rattle.history.proofs.Past.{past-next}
 use Rattle.layout.specs.View.{View}
@@ -51,13 +50,6 @@ unfolding verdict
 agree-verdict done = refl
 agree-verdict (test {n} {b = b} {ts} {us} e f) = rw e
     (by-test (λ z. cond z (refuse n) (verdict ts) ≡ cond z (refuse n) (verdict us)) b (λ _. refl) (λ u. agree-verdict (f u)))
-
--- the merges' counter is far from going round
-pub merges-few : {S : Shape} {h : History} → Known S h → suc (length (h .merges)) < 2 ^ 32
-merges-few {S} {h} k =
-    let a : S .columns * S .capacity ≤ 16 * 512 = mul-le-mul (k .small .columns) (k .small .capacity) in
-    let b : S .ranges * (S .columns * S .capacity) ≤ 16 * (16 * 512) = mul-le-mul (k .small .ranges) a in
-    omega (arith, merges-most S h (k .past .merges) (k .past .pages) (k .past .limits))
 
 -- ---- a transaction that changed nothing reads the latest
 own-latest : (h : History) (t r c : ℕ) → r < length (h .rows) → Unchanged (h .rows) (h .tail) t → read (seenAt h (h .last)) h r c ≡ read (seenBy h t) h r c
@@ -112,11 +104,11 @@ module _ (S : Shape) (v : View) (ps : List Place) (h : History) (o : Represents 
   unfolding notRunning
   running-of i p = not-not (scanAt h i .running) p
 
-  pub column-lt : (c : ℕ) → T (not (noColumn S c)) → c < S .columns
+  column-lt : (c : ℕ) → T (not (noColumn S c)) → c < S .columns
   unfolding noColumn
   column-lt c t = nleb→lt (S .columns) c t
 
-  pub range-lt : (g : ℕ) → T (not (noRange S g)) → g < S .ranges
+  range-lt : (g : ℕ) → T (not (noRange S g)) → g < S .ranges
   unfolding noRange
   range-lt g t = nleb→lt (S .ranges) g t
 
@@ -296,9 +288,6 @@ module _ (S : Shape) (v : View) (ps : List Place) (h : History) (o : Represents 
   unfolding lacksRecords
   capacity-of r n q = nltb→le (S .capacity) (length (recordsOf h (rangeOf r)) + n) q
 
-  pub page-room : T (not (noPage S h)) → Rattle.model.specs.Writing.freeIn S v < pagesOf S
-  page-room q = nleb→lt (pagesOf S) (Rattle.model.specs.Writing.freeIn S v) (subst (λ (b : Bool). T (not b)) (sym no-page-is) q)
-
   pub act-kept : (c : Call) → Typed c → Passed (tests S h c) → Represents S (actIn S v ps c) (placesAfter v ps c) (effect S h c)
   unfolding actIn placesAfter effect tests H.allGiven notLater H.allRunning later
   act-kept begin y p = begin-kept S v ps h o k (free-place (p .1 .0)) (step S h begin p) (nleb→lt mostNumbers (length (h .transactions)) (p .0))
@@ -318,9 +307,7 @@ module _ (S : Shape) (v : View) (ps : List Place) (h : History) (o : Represents 
   act-kept (scanRead i r c) y p = o
   act-kept (sum i c) y p = o
   act-kept (close i) y p = close-kept S v ps h o k i (running-of i (p .0)) (step S h (close i) p)
-  act-kept (merge g c n) y p =
-      merge-kept S v ps h o k g c n (range-lt g (p .0)) (column-lt c (p .1 .0)) (within-reach h g c n (p .1 .1 .0) .0) (within-reach h g c n (p .1 .1 .0) .1) (none-active h (take n (recordsOf h g)) (unfold anyActive in (p .1 .1 .1 .0)))
-      (page-room (p .1 .1 .1 .1 .0)) (merges-few k) (step S h (merge g c n) p)
+  act-kept (merge g c n) y p = merge-kept S v ps h o k g c n (mergeable S h g c n p) (step S h (merge g c n) p)
   act-kept release y p = release-kept S v ps h o k (step S h release p)
   act-kept (pageCell c r) y p = o
   act-kept (lineage g c) y p = o

@@ -64,7 +64,7 @@ grown {h = h} (newScans n) = record { last = le-refl _; rows = le-refl _; record
 grown {S} {h = h} (newMerges n) = record { last = le-refl _; rows = le-refl _; records = λ g. le-refl _; scans = le-refl _; merges = more n }
   where
     more : {x : Call} {l : List Merge} → NewMerges S h x l → length (h .merges) ≤ length l
-    more (merged _ _ _ _ _ _ _ _ _) = simp length-append (omega arith)
+    more (merged _) = simp length-append (omega arith)
     more released = omega (arith, length-released (h .scans) 0 (h .merges))
 
 -- ---- a step that gives none of the rows in question

@@ -5,22 +5,22 @@ use mathlib.Core.Bool.{Bool, true, false, not, cond, _&&_}
 use mathlib.Core.List.{List, [], _∷_, _++_}
 use Prim.Native.Nat.{ℕ, zero, suc, _+_, _*_, _-_, _%_, _^_, _≤_, _<_}
 use native.Mathlib.Omega.{arith}
-use native.Mathlib.Nat.{mod-eq-of-lt, mul-comm}
+use native.Mathlib.Nat.{mul-le-mul, mod-eq-of-lt, mul-comm}
 use native.Mathlib.Decide.{ℕ-discrete, decLt}
-use lib.Dec.{T, leb, ltb, eqb, eqb→eq, leb→le, le→leb, ltb→lt, lt→ltb}
+use lib.Dec.{not-T, nleb→lt, T, leb, ltb, eqb, eqb→eq, leb→le, le→leb, ltb→lt, lt→ltb}
 use lib.ListN.{length, getD, take, length-append}
 use lib.Seq.{lt-length-set, getD-set-same, getD-set-other}
 use mir.Syntax.{w32}
 use mir.Val.{toZ}
 use Rattle.terms.specs.Measures.{Shape, rangeRows}
-use Rattle.history.specs.History.{merge, History, Record, State, active, committed, Merge, Scan, any, isActive, isCommitted, stateOf, rowAt, rangeOf, recordsOf, mergedThrough, anyActive, waitingPages, scanAt, inserted, lastSetting, withMerges, cellThrough}
+use Rattle.history.specs.History.{merge, History, Record, State, committed, Merge, Scan, any, isActive, isCommitted, stateOf, rowAt, rangeOf, recordsOf, mergedThrough, anyActive, waitingPages, scanAt, inserted, lastSetting, withMerges, cellThrough}
 use Rattle.history.specs.Lists.{All}
 use Rattle.history.proofs.Lists.{by-cases, all-map, any-none, is-true, eqb-other, eqb-equal}
-use Rattle.history.proofs.Steps.{Step}
+use Rattle.history.proofs.Steps.{Mergeable, Step}
 use Rattle.history.proofs.States.{isClosed}
 use Rattle.history.proofs.Timely.{Timely}
 use Rattle.history.proofs.Pages.{Through, merge-through, lineage-step, lineage-stays}
-use Rattle.history.proofs.Merges.{merged-page}
+use Rattle.history.proofs.Merges.{merges-most, merged-page}
 use Rattle.loops.specs.Change.{copied}
 use Rattle.loops.proofs.Change.{changed-length, changed-outside, changed-at, changed-fit}
 use Rattle.layout.specs.View.{View, renew, put}
@@ -96,9 +96,17 @@ open-among-is S v ps h o g c n a b above used =
     shut Rattle.history.specs.History.aborted q = unfold isActive in tt
     shut (committed s) q = unfold isActive in tt
 
-module _ (S : Shape) (v : View) (ps : List Place) (h : History) (o : Represents S v ps h) (k : Known S h) (g c n : ℕ) (bg : g < S .ranges) (bc : c < S .columns)
-    (above : mergedThrough h g c < n) (used : n ≤ length (recordsOf h g)) (shut : All (λ (x : Record). stateOf h (x .transaction) ≢ active) (take n (recordsOf h g)))
-    (room : freeIn S v < pagesOf S) (few : suc (length (h .merges)) < 2 ^ 32) where
+-- the merges' counter is far from going round
+merges-few : {S : Shape} {h : History} → Known S h → suc (length (h .merges)) < 2 ^ 32
+merges-few {S} {h} k =
+    let a : S .columns * S .capacity ≤ 16 * 512 = mul-le-mul (k .small .columns) (k .small .capacity) in
+    let b : S .ranges * (S .columns * S .capacity) ≤ 16 * (16 * 512) = mul-le-mul (k .small .ranges) a in
+    omega (arith, merges-most S h (k .past .merges) (k .past .pages) (k .past .limits))
+
+module _ (S : Shape) (v : View) (ps : List Place) (h : History) (o : Represents S v ps h) (k : Known S h) (g c n : ℕ) (ok : Mergeable S h g c n) where
+  room : freeIn S v < pagesOf S
+  room = nleb→lt (pagesOf S) (freeIn S v) (rw (free-is S v (h .merges) (o .pool)) (not-T (leb (S .spares) (waitingPages (h .merges))) (λ t. omega (arith, leb→le (S .spares) (waitingPages (h .merges)) t, ok .spare))))
+
   abbrev new : Merge
   new = record { range = g; column = c; through = n; waiting = true }
 
@@ -124,17 +132,17 @@ module _ (S : Shape) (v : View) (ps : List Place) (h : History) (o : Represents 
   late = newestOf S v g c low (n - low) ((pageIn v (currentIn S v g c)) .newest)
 
   now : CurrentOf S h v g c
-  now = o .currents g c bg bc
+  now = o .currents g c (ok .range-in) (ok .column-in)
 
   m-is : m ≡ suc (length (h .merges))
-  m-is = omega (arith, o .header .merges-made)
+  m-is = omega (arith, o .header .merges-made, merges-few k)
 
   low-to : low + (n - low) ≡ n
   low-to = omega (arith, now .lineage)
 
   free-state : (pageIn v p) .state ≡ 0
   unfolding freeIn
-  free-state = eqb→eq _ 0 (first-is (λ q. freePage ((pageIn v q) .state)) (pagesOf S) 0 (omega arith))
+  free-state = eqb→eq _ 0 (first-is (λ q. freePage ((pageIn v q) .state)) (pagesOf S) 0 (omega (arith, room)))
 
   not-free : (q : ℕ) → 0 < (pageIn v q) .state → q ≢ p
   not-free q b e = omega (arith, free-state, ap (λ (i : ℕ). (pageIn v i) .state) e)
@@ -172,7 +180,7 @@ module _ (S : Shape) (v : View) (ps : List Place) (h : History) (o : Represents 
 
   current-here : currentIn S v′ g c ≡ p
   unfolding mergedIn put renew currentIn
-  current-here = getD-set-same (v Current) (placeOf S g c) p 0 (omega (arith, o .whole .long Current, place-in S g c bg bc))
+  current-here = getD-set-same (v Current) (placeOf S g c) p 0 (omega (arith, o .whole .long Current, place-in S g c (ok .range-in) (ok .column-in)))
 
   current-there : (a b : ℕ) → placeOf S a b ≢ placeOf S g c → currentIn S v′ a b ≡ currentIn S v a b
   unfolding mergedIn put renew currentIn
@@ -181,7 +189,7 @@ module _ (S : Shape) (v : View) (ps : List Place) (h : History) (o : Represents 
   -- another current page is neither of the two
   current-not-old : (a b : ℕ) → a < S .ranges → b < S .columns → placeOf S a b ≢ placeOf S g c → currentIn S v a b ≢ old
   current-not-old a b u w f e =
-      let q : (a ≡ g) × (b ≡ c) = current-apart S v h (o .currents) a b g c u w bg bc e in
+      let q : (a ≡ g) × (b ≡ c) = current-apart S v h (o .currents) a b g c u w (ok .range-in) (ok .column-in) e in
       f (ap (λ (i : ℕ). placeOf S i b) (q .0) ∙ ap (placeOf S g) (q .1))
 
   current-not-free : (a b : ℕ) → a < S .ranges → b < S .columns → currentIn S v a b ≢ p
@@ -193,23 +201,23 @@ module _ (S : Shape) (v : View) (ps : List Place) (h : History) (o : Represents 
 
   copy-at : (i : ℕ) → i < rangeRows → getD copy (p * rangeRows + i) 0 ≡ cellIn v old i
   unfolding cellIn
-  copy-at i b = changed-at (λ i x. getD (v Cells) (old * rangeRows + i) 0) (p * rangeRows) (v Cells) rangeRows i (omega (arith, o .whole .long Cells)) b
+  copy-at i b = changed-at (λ i x. getD (v Cells) (old * rangeRows + i) 0) (p * rangeRows) (v Cells) rangeRows i (omega (arith, room, o .whole .long Cells)) b
 
   pub cells-other : (q i : ℕ) → q ≢ p → i < rangeRows → cellIn v′ q i ≡ cellIn v q i
   unfolding mergedIn put renew cellIn
   cells-other q i f b =
       let d : (q * rangeRows + i < p * rangeRows) ⊎ (p * rangeRows + rangeRows ≤ q * rangeRows + i) = by-cases (decLt q p) (λ u. inl (omega arith)) (λ u. inr (omega arith)) in
-      applied-outside S v h g c p low bc (o .tails g bg) (n - low) copy (q * rangeRows + i) d
+      applied-outside S v h g c p low (ok .column-in) (o .tails g (ok .range-in)) (n - low) copy (q * rangeRows + i) d
       ∙ changed-outside (λ i x. getD (v Cells) (old * rangeRows + i) 0) (p * rangeRows) (v Cells) rangeRows (q * rangeRows + i) d
 
   -- ---- what the new page holds
   new-holds : Holds h g c everyRow record { state = asCurrent; place = placeOf S g c; made = m; replaced = (pageIn v p) .replaced; lineage = n; newest = late } (cellIn v′ p)
   new-holds =
       record {
-        through = merge-through (k .past .order) used shut;
+        through = merge-through (k .past .order) (ok .used) (ok .shut);
         newest = subst (λ (j : ℕ). All (NotAfter (stateOf h) c late) (take j (recordsOf h g))) low-to
-            (newest-is S v h g c p low bc (o .tails g bg) ((pageIn v old) .newest) (now .holds .newest) (n - low) (omega (arith, low-to)));
-        stamped = newest-last S v h g c p low bc (o .tails g bg) (k .past .order) ((pageIn v old) .newest) (now .holds .stamped) (n - low) (omega (arith, low-to));
+            (newest-is S v h g c p low (ok .column-in) (o .tails g (ok .range-in)) ((pageIn v old) .newest) (now .holds .newest) (n - low) (omega (arith, low-to)));
+        stamped = newest-last S v h g c p low (ok .column-in) (o .tails g (ok .range-in)) (k .past .order) ((pageIn v old) .newest) (now .holds .stamped) (n - low) (omega (arith, low-to));
         cells = λ r e q. cells r e;
       }
     where
@@ -217,8 +225,8 @@ module _ (S : Shape) (v : View) (ps : List Place) (h : History) (o : Represents 
       cells r e =
           (unfold mergedIn put renew cellIn cellThrough in
           (subst (λ (j : ℕ). toZ w32 (getD (applied S v g c p low (n - low) copy) (p * rangeRows + within r) 0) ≡ lastSetting (λ i. isCommitted (stateOf h i)) r c (inserted h r c) (take n (recordsOf h j)) .value) (sym e)
-          (applied-is S v h g c p low bc (o .tails g bg) copy
-          (omega (arith, changed-length (λ i x. getD (v Cells) (old * rangeRows + i) 0) (p * rangeRows) (v Cells) rangeRows, o .whole .long Cells)) r e base (n - low) (omega (arith, low-to))
+          (applied-is S v h g c p low (ok .column-in) (o .tails g (ok .range-in)) copy
+          (omega (arith, room, changed-length (λ i x. getD (v Cells) (old * rangeRows + i) 0) (p * rangeRows) (v Cells) rangeRows, o .whole .long Cells)) r e base (n - low) (omega (arith, low-to))
           ∙ ap (λ (j : ℕ). lastSetting (λ i. isCommitted (stateOf h i)) r c (inserted h r c) (take j (recordsOf h g)) .value) low-to)))
         where
           base : toZ w32 (getD copy (p * rangeRows + within r) 0) ≡ lastSetting (λ i. isCommitted (stateOf h i)) r c (inserted h r c) (take low (recordsOf h g)) .value
@@ -240,7 +248,7 @@ module _ (S : Shape) (v : View) (ps : List Place) (h : History) (o : Represents 
 
   merge-currents : Step S h (merge g c n) h′ → CurrentsAre S h′ v′
   merge-currents step a b u w = by-cases (ℕ-discrete (placeOf S a b) (placeOf S g c))
-      (λ e. let q : (a ≡ g) × (b ≡ c) = same-part (S .columns) a g b c w bc e in
+      (λ e. let q : (a ≡ g) × (b ≡ c) = same-part (S .columns) a g b c w (ok .column-in) e in
       rw (q .0, q .1, current-here, page-free)
       record {
         inside = room;
@@ -264,7 +272,7 @@ module _ (S : Shape) (v : View) (ps : List Place) (h : History) (o : Represents 
 
   made-later : (a b : ℕ) → a < S .ranges → b < S .columns → madeIn S v a b ≤ madeIn S v′ a b
   made-later a b u w = by-cases (ℕ-discrete (placeOf S a b) (placeOf S g c))
-      (λ e. let q : (a ≡ g) × (b ≡ c) = same-part (S .columns) a g b c w bc e in rw (q .0, q .1) (omega (arith, now .made, m-is, made-here)))
+      (λ e. let q : (a ≡ g) × (b ≡ c) = same-part (S .columns) a g b c w (ok .column-in) e in rw (q .0, q .1) (omega (arith, now .made, m-is, made-here)))
       (λ f. omega (arith, made-there a b u w f))
 
   merge-waits : Step S h (merge g c n) h′ → WaitingAre S h′ v′
@@ -272,11 +280,11 @@ module _ (S : Shape) (v : View) (ps : List Place) (h : History) (o : Represents 
       (λ _ t. absurd (rw page-free at t))
       (λ _ _. rw page-old
       record {
-        place = rw (now .place) (place-in S g c bg bc);
+        place = rw (now .place) (place-in S g c (ok .range-in) (ok .column-in));
         rises = omega (arith, now .made, m-is);
         replaced-by = omega (arith, m-is, more-merges);
-        early = λ a b u w z. let s : (a ≡ g) × (b ≡ c) = same-part (S .columns) a g b c w bc (sym z ∙ now .place) in rw (s .0, s .1) (omega (arith, made-here));
-        reach = λ a b u w z. rw (same-part (S .columns) a g b c w bc (sym z ∙ now .place) .0) (unfold recordsOf withMerges in (now .holds .through .within));
+        early = λ a b u w z. let s : (a ≡ g) × (b ≡ c) = same-part (S .columns) a g b c w (ok .column-in) (sym z ∙ now .place) in rw (s .0, s .1) (omega (arith, made-here));
+        reach = λ a b u w z. rw (same-part (S .columns) a g b c w (ok .column-in) (sym z ∙ now .place) .0) (unfold recordsOf withMerges in (now .holds .through .within));
         stamped = unfold withMerges in (now .holds .stamped);
       })
       (λ q f e b t. rw (page-other q f e) (waiting-step step made-later (o .waits q b (rw (page-other q f e) at t))))
@@ -332,7 +340,7 @@ module _ (S : Shape) (v : View) (ps : List Place) (h : History) (o : Represents 
   new-unfound b pl = unfound-state S v′ b pl p (omega (arith, ap (λ (z : PageWords). z .state) page-free))
 
   old-place : (pageIn v′ old) .place % placesOf S ≡ placeOf S g c
-  old-place = ap (λ (z : PageWords). z .place % placesOf S) page-old ∙ ap (λ (i : ℕ). i % placesOf S) (now .place) ∙ place-mod S (placeOf S g c) (place-in S g c bg bc)
+  old-place = ap (λ (z : PageWords). z .place % placesOf S) page-old ∙ ap (λ (i : ℕ). i % placesOf S) (now .place) ∙ place-mod S (placeOf S g c) (place-in S g c (ok .range-in) (ok .column-in))
 
   -- where the replaced page does not pass, the search is as it was
   search-stays : (b a d : ℕ) → wasCurrent S v′ b (placeOf S a d) old ≡ false → search S v′ b a d ≡ search S v b a d
@@ -357,7 +365,7 @@ module _ (S : Shape) (v : View) (ps : List Place) (h : History) (o : Represents 
       (λ _ _. refl)
       (λ q z y u t. let x : WasCurrent S b (placeOf S g c) (pageIn v q) = was-current S v b (placeOf S g c) q (rw (search-same S v v′ b (placeOf S g c) q (page-other q z y)) at t) in
       let w : WaitingIs S h (madeIn S v) (pageIn v q) = o .waits q u (x .waits) in
-      absurd (omega (arith, x .after, w .early g c bg bc (sym (place-mod S ((pageIn v q) .place) (w .place)) ∙ x .place-is)))))
+      absurd (omega (arith, x .after, w .early g c (ok .range-in) (ok .column-in) (sym (place-mod S ((pageIn v q) .place) (w .place)) ∙ x .place-is)))))
 
   -- the page of a scan of this place
   scan-here : (b : ℕ) → b ≤ length (h .merges) → Cases S v b g c → scanPage S v′ b g c ≡ scanPage S v b g c
@@ -370,7 +378,7 @@ module _ (S : Shape) (v : View) (ps : List Place) (h : History) (o : Represents 
 
   pub scan-same : (b a d : ℕ) → a < S .ranges → d < S .columns → b ≤ length (h .merges) → (pageIn v (scanPage S v b a d)) .made ≤ b → scanPage S v′ b a d ≡ scanPage S v b a d
   scan-same b a d u w early before = by-cases (ℕ-discrete (placeOf S a d) (placeOf S g c))
-      (λ e. let q : (a ≡ g) × (d ≡ c) = same-part (S .columns) a g d c w bc e in rw (q .0, q .1) (scan-here b early (rw (q .0, q .1) at (scan-cases S v b a d before))))
+      (λ e. let q : (a ≡ g) × (d ≡ c) = same-part (S .columns) a g d c w (ok .column-in) e in rw (q .0, q .1) (scan-here b early (rw (q .0, q .1) at (scan-cases S v b a d before))))
       (λ f. scan-page-same S v v′ b a d (current-there a d f) (made-there a d u w f) (search-stays b a d (unfound S v′ b (placeOf S a d) old (λ t. f (sym (sym old-place ∙ t .place-is))))))
 
   -- a running scan's page is not the page taken
@@ -403,21 +411,21 @@ module _ (S : Shape) (v : View) (ps : List Place) (h : History) (o : Represents 
   merge-whole : Whole S v′
   unfolding mergedIn
   merge-whole =
-      let fit : m < 2 ^ 32 = omega arith in
-      let pages : pagesOf S ≤ 16 * 16 + 256 = omega (arith, native.Mathlib.Nat.mul-le-mul (k .small .columns) (k .small .ranges), k .small .spares) in
-      let spot : placeOf S g c < 2 ^ 32 = omega (arith, place-in S g c bg bc) in
+      let fit : m < 2 ^ 32 = omega (arith, m-is, merges-few k) in
+      let pages : pagesOf S ≤ 16 * 16 + 256 = omega (arith, mul-le-mul (k .small .columns) (k .small .ranges), k .small .spares) in
+      let spot : placeOf S g c < 2 ^ 32 = omega (arith, place-in S g c (ok .range-in) (ok .column-in)) in
       put-whole Header mergesMade m fit
       (put-whole Current (placeOf S g c) p (omega (arith, room))
       (put-whole PageReplaced old m fit
       (put-whole PageState old asWaiting (omega arith)
-      (put-whole PageNewest p late (newest-fit S v h g c p low bc (o .tails g bg) ((pageIn v old) .newest) newest-fits (o .whole .fits TailStamp) (n - low))
+      (put-whole PageNewest p late (newest-fit S v h g c p low (ok .column-in) (o .tails g (ok .range-in)) ((pageIn v old) .newest) newest-fits (o .whole .fits TailStamp) (n - low))
       (put-whole PageLineage p n (omega (arith, k .past .limits .records g, k .small .capacity))
       (put-whole PageMade p m fit
       (put-whole PagePlace p (placeOf S g c) spot
       (put-whole PageState p asCurrent (omega arith)
       (renew-whole Cells (applied S v g c p low (n - low) copy)
-      (applied-length S v h g c p low bc (o .tails g bg) (n - low) copy ∙ changed-length (λ i x. getD (v Cells) (old * rangeRows + i) 0) (p * rangeRows) (v Cells) rangeRows ∙ o .whole .long Cells)
-      (applied-fit S v h g c p low bc (o .tails g bg) (o .whole .fits TailValues) (n - low) copy
+      (applied-length S v h g c p low (ok .column-in) (o .tails g (ok .range-in)) (n - low) copy ∙ changed-length (λ i x. getD (v Cells) (old * rangeRows + i) 0) (p * rangeRows) (v Cells) rangeRows ∙ o .whole .long Cells)
+      (applied-fit S v h g c p low (ok .column-in) (o .tails g (ok .range-in)) (o .whole .fits TailValues) (n - low) copy
       (changed-fit (λ i x. getD (v Cells) (old * rangeRows + i) 0) (p * rangeRows) rangeRows (v Cells) (λ i x _ _. o .whole .fits Cells (old * rangeRows + i)) (o .whole .fits Cells)))
       (o .whole))))))))))
     where

@@ -6,16 +6,16 @@ use Prim.Native.Nat.{ℕ, _*_, _≤_, _<_}
 use native.Mathlib.Omega.{arith}
 use native.Mathlib.Nat.{le-trans}
 use lib.Dec.{T, eqb, nleb→lt}
-use lib.ListN.{length, take}
+use lib.ListN.{length}
 use lib.IntN.{ℤ}
 use lib.Bits.{bitOr}
 use Rattle.terms.specs.Measures.{Shape, rangeRows}
 use Rattle.history.specs.History as H
-use Rattle.history.specs.History.{Call, begin, insert, update, delete, commit, abort, latest, readAt, ownRead, openScan, scanRead, sum, close, merge, release, pageCell, lineage, History, Scan, Verdict, accept, refuse, verdict, tests, next, run, rangeOf, recordsOf, scanAt, withScans}
+use Rattle.history.specs.History.{Call, begin, insert, update, delete, commit, abort, latest, readAt, ownRead, openScan, scanRead, sum, close, merge, release, pageCell, lineage, History, Scan, Verdict, accept, refuse, verdict, tests, next, run, rangeOf, scanAt, withScans}
 use Rattle.history.specs.Lists.{All, nil, cons}
 use Rattle.history.proofs.Lists.{nth-before}
 use Rattle.history.proofs.Accepted.{Passed, passed}
-use Rattle.history.proofs.Steps.{is-active, none-active, within-reach, scanOpened, scanClosed, Step, nothing, newStates, rowGiven, recordsMade, newScans, newMerges, next-step}
+use Rattle.history.proofs.Steps.{Mergeable, mergeable, is-active, scanOpened, scanClosed, Step, nothing, newStates, rowGiven, recordsMade, newScans, newMerges, next-step}
 use Rattle.layout.specs.View.{View, renew, put}
 use Rattle.layout.specs.declared.Region.the-variants.{RowMask}
 use Rattle.terms.specs.declared.Place.{Place}
@@ -29,7 +29,7 @@ use Rattle.model.proofs.Merged.{scan-same, scan-not-free, cells-other}
 use Rattle.model.proofs.Holding.{grown}
 use Rattle.model.proofs.Steady.{still-running}
 use Rattle.model.proofs.Release.{scan-page-kept}
-use Rattle.model.proofs.Calls.{agree-verdict, tests-agree, column-lt, range-lt, page-room, merges-few, known-next, one-call}
+use Rattle.model.proofs.Calls.{agree-verdict, tests-agree, known-next, one-call}
 
 -- The scan that had m merges made before it finds the same page in w as in v, and the page's cells of the first n rows are the same.
 pub record SamePage (S : Shape) (v w : View) (m n g c : ℕ) : Type 0 where
@@ -74,17 +74,11 @@ module _ (S : Shape) (v : View) (ps : List Place) (h : History) (o : Represents 
       go true = unfold settingAppended filledIn appended noted put renew scanPage wasCurrent currentIn pageIn cellIn in record { page = refl; cells = λ r b e. refl }
       go false = unfold settingAppended originalAppended filledIn appended noted put renew scanPage wasCurrent currentIn pageIn cellIn in record { page = refl; cells = λ r b e. refl }
 
-  merge-same : (a d n : ℕ) → Passed (tests S h (merge a d n)) → Same (mergedIn S a d n v)
-  unfolding tests
-  merge-same a d n p =
-      let u : a < S .ranges = range-lt S v ps h o k a (p .0) in
-      let w : d < S .columns = column-lt S v ps h o k d (p .1 .0) in
-      let z : _ = within-reach h a d n (p .1 .1 .0) in
+  merge-same : (a d n : ℕ) → Mergeable S h a d n → Same (mergedIn S a d n v)
+  merge-same a d n ok =
       record {
-        page = scan-same S v ps h o k a d n u w (z .0) (z .1) (none-active h (take n (recordsOf h a)) (unfold H.anyActive in (p .1 .1 .1 .0))) (page-room S v ps h o k (p .1 .1 .1 .1 .0)) (merges-few k) (scanAt h i .before) g c bg bc (page .early) (page .made);
-        cells = λ r b e.
-            cells-other S v ps h o k a d n u w (z .0) (z .1) (none-active h (take n (recordsOf h a)) (unfold H.anyActive in (p .1 .1 .1 .0))) (page-room S v ps h o k (p .1 .1 .1 .1 .0)) (merges-few k) q (within r)
-            (scan-not-free S v ps h o k a d n u w (z .0) (z .1) (none-active h (take n (recordsOf h a)) (unfold H.anyActive in (p .1 .1 .1 .0))) (page-room S v ps h o k (p .1 .1 .1 .1 .0)) (merges-few k) (scanAt h i .before) g c bg bc (page .made)) (omega arith);
+        page = scan-same S v ps h o k a d n ok (scanAt h i .before) g c bg bc (page .early) (page .made);
+        cells = λ r b e. cells-other S v ps h o k a d n ok q (within r) (scan-not-free S v ps h o k a d n ok (scanAt h i .before) g c bg bc (page .made)) (omega arith);
       }
 
   act-same : (x : Call) → Typed x → Passed (tests S h x) → Same (actIn S v ps x)
@@ -102,7 +96,7 @@ module _ (S : Shape) (v : View) (ps : List Place) (h : History) (o : Represents 
   act-same (scanRead j r x) y p = unmoved S v _ _ g c
   act-same (sum j x) y p = unmoved S v _ _ g c
   act-same (close j) y p = unmoved S v _ _ g c
-  act-same (merge a d n) y p = merge-same a d n p
+  act-same (merge a d n) y p = merge-same a d n (mergeable S h a d n p)
   act-same release y p = record { page = scan-page-kept S v ps h o k i g c run; cells = λ r b e. (unfold releasedIn renew cellIn in refl) }
   act-same (pageCell x r) y p = unmoved S v _ _ g c
   act-same (lineage a x) y p = unmoved S v _ _ g c

@@ -27,7 +27,9 @@ use Rattle.history.proofs.Past.{past}
 module _ (sees : ℕ → Bool) (r : ℕ) (l : List Record) {m : List Record} (unseen : All (λ (x : Record). sees (x .transaction) ≡ false) m) where
   ended-same : ended sees r (l ++ m) ≡ ended sees r l
   unfolding ended
-  ended-same = any-append _ l m ∙ rw (any-none (λ x. eqb (x .row) r && (ends (x .content) && sees (x .transaction))) (all-map (λ x (e : sees (x .transaction) ≡ false). simp (e, and-false) tt) unseen)) (or-false _)
+  ended-same =
+      any-append _ l m
+      ∙ rw (any-none (λ x. eqb (x .row) r && (ends (x .content) && sees (x .transaction))) (all-map (λ x (e : sees (x .transaction) ≡ false). simp (e, and-false) tt) unseen)) (or-false _)
 
   last-same : (c : ℕ) (v : Version) → lastSetting sees r c v (l ++ m) ≡ lastSetting sees r c v l
   last-same c v = last-append sees r c v l m ∙ last-unfound sees r c _ (all-map (λ x (e : sees (x .transaction) ≡ false). simp (e, and-false)) unseen)

@@ -97,8 +97,13 @@ pages-hold S l n enough cs ys g c a b =
     page-holds S (storeAfter S n cs) _ (historyAfter S cs) (q .0) (q .1) g c a b
 
 -- ---- the pages of open scans
+-- the scan that has the next number, and what stays
+abbrev Opened : History → History → Type 0
+Opened h h′ =
+    (scanAt h′ (suc (length (h .scans))) .before ≡ length (h .merges)) × (suc (length (h .scans)) ≤ length (h′ .scans)) × (length (h′ .rows) ≡ length (h .rows))
+
 scan-opened : (S : Shape) (h : History) (s : ℕ) → verdict (tests S h (openScan s)) ≡ accept
-    → (scanAt (next S h (openScan s)) (suc (length (h .scans))) .before ≡ length (h .merges)) × (suc (length (h .scans)) ≤ length ((next S h (openScan s)) .scans)) × (length ((next S h (openScan s)) .rows) ≡ length (h .rows))
+    → Opened h (next S h (openScan s))
 unfolding next nextIf effect withScans scanAt
 scan-opened S h s e = rw e (ap (λ (x : Scan). x .before) (nth-last noScan (h .scans) _), simp length-append (omega arith), refl)
 
@@ -134,7 +139,7 @@ pages-kept S v ps h o k s cs y ys e t g c bg bc =
     v₂ : View
     v₂ = viewAfter S (viewNext S v ps (openScan s)) (placesNext S v ps (openScan s)) cs
 
-    new : (scanAt (next S h (openScan s)) (suc (length (h .scans))) .before ≡ length (h .merges)) × (suc (length (h .scans)) ≤ length ((next S h (openScan s)) .scans)) × (length ((next S h (openScan s)) .rows) ≡ length (h .rows))
+    new : Opened h (next S h (openScan s))
     new = scan-opened S h s e
 
     same : SamePage S v₁ v₂ (scanAt h₁ i .before) (length (h₁ .rows)) g c

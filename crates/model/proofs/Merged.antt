@@ -19,7 +19,7 @@ use Rattle.history.proofs.Lists.{by-cases, all-map, any-none, is-true, eqb-othe
 use Rattle.history.proofs.Steps.{Mergeable, Step}
 use Rattle.history.proofs.States.{isClosed}
 use Rattle.history.proofs.Timely.{Timely}
-use Rattle.history.proofs.Pages.{Through, merge-through, lineage-step, lineage-stays}
+use Rattle.history.proofs.Pages.{merge-through, lineage-step, lineage-stays}
 use Rattle.history.proofs.Merges.{merges-most, merged-page}
 use Rattle.loops.specs.Change.{copied}
 use Rattle.loops.proofs.Change.{changed-length, changed-outside, changed-at, changed-fit}
@@ -52,11 +52,11 @@ place-mod S n b = mod-eq-of-lt b
 
 -- ---- only lineage and newest matter
 holds-words : {h : History} {g c : ℕ} {Q : ℕ → Type 0} {x y : PageWords} {cell : ℕ → ℕ} → y .lineage ≡ x .lineage → y .newest ≡ x .newest → Holds h g c Q x cell → Holds h g c Q y cell
-holds-words {h} {g} {c} {Q} {x} {y} {cell} e f o =
+holds-words {h} {c = c} e f o =
     record {
-      through = subst (λ (n : ℕ). Through h g n) (sym e) (o .through);
-      newest = subst (λ (n : ℕ). All (NotAfter (stateOf h) c (y .newest)) (take n (recordsOf h g))) (sym e) (subst (λ (n : ℕ). All (NotAfter (stateOf h) c n) (take (x .lineage) (recordsOf h g))) (sym f) (o .newest));
-      stamped = subst (λ (n : ℕ). n ≤ h .last) (sym f) (o .stamped);
+      through = rw e (o .through);
+      newest = rw (e, f) (o .newest);
+      stamped = rw f (o .stamped);
       cells = λ r q u. o .cells r q u ∙ ap (cellThrough h c r) (sym e);
     }
 
@@ -71,11 +71,17 @@ states-three (suc (suc w)) =
 pub free-is : (S : Shape) (v : View) (ms : List Merge) → PoolIs S ms (pageIn v) → leb (pagesOf S) (freeIn S v) ≡ leb (S .spares) (waitingPages ms)
 unfolding freeIn waitingPages
 free-is S v ms o =
-    let n = pagesOf S in
-    let free = countBelow (λ p. freePage ((pageIn v p) .state)) n in
-    let e : free + placesOf S + waitingPages ms ≡ n =
-    omega (arith, below-three (λ p. freePage ((pageIn v p) .state)) (λ p. currentPage ((pageIn v p) .state)) (λ p. waitingPage ((pageIn v p) .state) && true) n (λ p. states-three ((pageIn v p) .state)), o .current, o .waiting (λ i. true), count-from (λ m. m .waiting) 1 ms) in
-    first-none (λ p. freePage ((pageIn v p) .state)) n
+    let state : ℕ → ℕ = λ p. (pageIn v p) .state in
+    let free = countBelow (λ p. freePage (state p)) (pagesOf S) in
+    let e : free + placesOf S + waitingPages ms ≡ pagesOf S =
+    omega (
+      arith,
+      below-three (λ p. freePage (state p)) (λ p. currentPage (state p)) (λ p. waitingPage (state p) && true) (pagesOf S) (λ p. states-three (state p)),
+      o .current,
+      o .waiting (λ i. true),
+      count-from (λ m. m .waiting) 1 ms,
+    ) in
+    first-none (λ p. freePage (state p)) (pagesOf S)
     ∙ same-truth (eqb free 0) (leb (S .spares) (waitingPages ms)) (λ t. le→leb (S .spares) (waitingPages ms) (omega (arith, eqb→eq free 0 t)))
     (λ t. eqb-equal free 0 (omega (arith, leb→le (S .spares) (waitingPages ms) t)))
 
@@ -105,7 +111,8 @@ merges-few {S} {h} k =
 
 module _ (S : Shape) (v : View) (ps : List Place) (h : History) (o : Represents S v ps h) (k : Known S h) (g c n : ℕ) (ok : Mergeable S h g c n) where
   room : freeIn S v < pagesOf S
-  room = nleb→lt (pagesOf S) (freeIn S v) (rw (free-is S v (h .merges) (o .pool)) (not-T (leb (S .spares) (waitingPages (h .merges))) (λ t. omega (arith, leb→le (S .spares) (waitingPages (h .merges)) t, ok .spare))))
+  room = nleb→lt (pagesOf S) (freeIn S v)
+      (rw (free-is S v (h .merges) (o .pool)) (not-T (leb (S .spares) (waitingPages (h .merges))) (λ t. omega (arith, leb→le (S .spares) (waitingPages (h .merges)) t, ok .spare))))
 
   abbrev new : Merge
   new = record { range = g; column = c; through = n; waiting = true }

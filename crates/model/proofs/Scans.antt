@@ -1,6 +1,6 @@
 -- Open scan and close keep the relation: a scan takes a place of the list with the merges made before it, so that its pages are the current ones; a closed scan
 -- leaves a free place.
-use mathlib.Core.Path.{_≡_, refl, sym, _∙_, ap, fun-ext, subst, subst₂}
+use mathlib.Core.Path.{_≡_, refl, sym, _∙_, ap, fun-ext, subst}
 use mathlib.Core.Bool.{Bool, true, false, not, and-true}
 use mathlib.Core.List.{List, [], _∷_, _++_}
 use Prim.Native.Nat.{ℕ, suc, _+_, _≤_, _<_}
@@ -109,7 +109,7 @@ module _ (S : Shape) (v : View) (ps : List Place) (h : History) (o : Represents 
         currents = currents-stay o k step refl refl;
         waits = waits-stay o k step refl;
         pool = o .pool;
-        scans = subst₂ (λ (i j : ℕ). ScansAre (h .scans ++ new ∷ []) (set ps (place (λ p. eqb (p .number) 0) ps) record { number = i; stamp = s; merges = j })) (sym e) (sym (o .header .merges-made)) (scans-add (h .scans) ps new (o .scans) tt room);
+        scans = rw (e, o .header .merges-made) (scans-add (h .scans) ps new (o .scans) tt room);
         scanPages = open-pages step;
         whole = put-whole Header 6 n (omega (arith, e)) (o .whole);
       }

@@ -1,5 +1,5 @@
 -- Update keeps the relation: one record where every column was set before, two where one is new.
-use mathlib.Core.Path.{_≡_, refl, sym, _∙_, ap, subst}
+use mathlib.Core.Path.{_≡_, refl, sym, _∙_, ap}
 use mathlib.Core.Bool.{Bool, true, false, not, cond, _&&_, _||_, or-comm, or-false}
 use mathlib.Core.List.{List, [], _∷_, _++_, append-nil, append-assoc}
 use Prim.Native.Nat.{ℕ, suc, _+_, _*_, _^_, _≤_, _<_}
@@ -292,11 +292,5 @@ module _ (S : Shape) (v : View) (ps : List Place) (h : History) (o : Represents 
       go : (cs : List ℕ) → newColumns h r m ≡ cs → length (recordsOf h (rangeOf r)) + length (originalRecords t r cs ((rowAt h r) .values) ++ y ∷ []) ≤ S .capacity
           → Step S h (update t r m vs) (withTail h (h .tail ++ (originalRecords t r cs ((rowAt h r) .values) ++ y ∷ []))) → All (New h t r) (originalRecords t r cs ((rowAt h r) .values) ++ y ∷ [])
           → Represents S (updatedIn S t r m vs v) ps (withTail h (h .tail ++ (originalRecords t r cs ((rowAt h r) .values) ++ y ∷ [])))
-      go [] e room step new =
-          subst (λ (q : Bool). Represents S (noted t (put RowMask r (bitOr m ((rowIn v r) .mask)) (cond q (settingAppended S t r m vs v) (settingAppended S t r m vs (originalAppended S t r m v))))) ps (withTail h (h .tail ++ y ∷ [])))
-          (sym (none-new S v ps h o k r m b good e)) (update-one room step new)
-      go (d ∷ cs) e room step new =
-          subst
-          (λ (q : Bool). Represents S (noted t (put RowMask r (bitOr m ((rowIn v r) .mask)) (cond q (settingAppended S t r m vs v) (settingAppended S t r m vs (originalAppended S t r m v))))) ps
-          (withTail h (h .tail ++ record { transaction = t; row = r; content = original (d ∷ cs) ((rowAt h r) .values) } ∷ y ∷ [])))
-          (sym (some-new S v ps h o k r m b good d cs e)) (update-two d cs e room step new)
+      go [] e room step new = rw (none-new S v ps h o k r m b good e) (update-one room step new)
+      go (d ∷ cs) e room step new = rw (some-new S v ps h o k r m b good d cs e) (update-two d cs e room step new)

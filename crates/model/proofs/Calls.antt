@@ -1,5 +1,5 @@
 -- One call of every kind: the store's tests have the history's outcome, an accepted call has the history's answer, and the relation is kept.
-use mathlib.Core.Path.{_≡_, refl, sym, _∙_, ap, ap₂, subst}
+use mathlib.Core.Path.{_≡_, refl, sym, _∙_, ap, ap₂}
 use mathlib.Core.Logic.{_≢_}
 use mathlib.Core.Bool.{Bool, true, false, not, cond, _&&_, _||_}
 use mathlib.Core.List.{List, [], _∷_, _++_}
@@ -187,7 +187,7 @@ module _ (S : Shape) (v : View) (ps : List Place) (h : History) (o : Represents 
       not-zero e = active-some (h .transactions) t (unfold stateOf in a) (sym (here .1) ∙ e)
 
       unchanged : noted ≡ 0 → Unchanged (h .rows) (h .tail) t
-      unchanged e = subst (λ (i : ℕ). Unchanged (h .rows) (h .tail) i) (here .1) (o .notes j (omega (arith, here .0, o .whole .long Opens)) not-zero .none e)
+      unchanged e = rw (here .1) at (o .notes j (omega (arith, here .0, o .whole .long Opens)) not-zero .none e)
 
   found : (i : ℕ) → T (scanAt h i .running) → scanPlace ps i ≡ scanAs i (scanAt h i)
   unfolding scanAt
@@ -282,7 +282,7 @@ module _ (S : Shape) (v : View) (ps : List Place) (h : History) (o : Represents 
   -- ---- what a call leaves
   free-place : T (not (H.allActive h)) → T (any (λ i. eqb i 0) (v Opens))
   unfolding H.allActive
-  free-place q = not-not (any (λ i. eqb i 0) (v Opens)) (subst (λ (b : Bool). T (not b)) (sym (opens-full (h .transactions) (v Opens) (o .whole .long Opens) (o .opens))) q)
+  free-place q = not-not (any (λ i. eqb i 0) (v Opens)) (rw (opens-full (h .transactions) (v Opens) (o .whole .long Opens) (o .opens)) q)
 
   capacity-of : (r n : ℕ) → T (not (lacksRecords S h r n)) → length (recordsOf h (rangeOf r)) + n ≤ S .capacity
   unfolding lacksRecords
@@ -321,7 +321,7 @@ pub one-call : (S : Shape) (v : View) (ps : List Place) (h : History) (c : Call)
 unfolding say viewNext placesNext answer next
 one-call S v ps h c y o k = (
   ap (λ (w : Verdict). answerIf w (replyIn S v ps c)) same ∙ answers (verdict (tests S h c)) refl,
-  subst (λ (w : Verdict). Represents S (viewIf w v (actIn S v ps c)) (placesIf w ps (placesAfter v ps c)) (nextIf (verdict (tests S h c)) h (effect S h c))) (sym same) (kept (verdict (tests S h c)) refl),
+  rw same (kept (verdict (tests S h c)) refl),
 )
   where
     same : verdict (testsIn S v ps c) ≡ verdict (tests S h c)

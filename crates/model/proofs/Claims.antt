@@ -1,5 +1,5 @@
 -- Demand 2 holds: what is read and what the pages hold follows from the relation, which every list of calls keeps.
-use mathlib.Core.Path.{_≡_, refl, sym, _∙_, ap, subst}
+use mathlib.Core.Path.{_≡_, refl, sym, _∙_, ap}
 use mathlib.Core.Bool.{cond}
 use mathlib.Core.List.{List}
 use Prim.Native.Nat.{ℕ, suc, _+_, _*_, _^_, _≤_, _<_}
@@ -121,9 +121,9 @@ pages-kept : (S : Shape) (v : View) (ps : List Place) (h : History) → Represen
     → PageKept S v (viewAfter S (viewNext S v ps (openScan s)) (placesNext S v ps (openScan s)) cs) (run S (next S h (openScan s)) cs) (suc (length (h .scans))) g c (length (h .rows))
 pages-kept S v ps h o k s cs y ys e t g c bg bc =
     record {
-      page = ap (λ (j : ℕ). scanPage S v₂ j g c) before-is ∙ (subst (λ (j : ℕ). scanPage S v₂ j g c ≡ scanPage S v₁ j g c) (new .0) (same .page)) ∙ first;
+      page = ap (λ (j : ℕ). scanPage S v₂ j g c) before-is ∙ (rw (new .0) at (same .page)) ∙ first;
       cells = λ r u f.
-          subst (λ (q : ℕ). cellIn v₂ q (within r) ≡ cellIn v₁ q (within r)) (ap (λ (j : ℕ). scanPage S v₁ j g c) (new .0) ∙ first) (same .cells r (omega (arith, new .2)) f)
+          (rw (new .0, first) at (same .cells r (omega (arith, new .2)) f))
           ∙ opened-same S v ps s (length (h .merges)) g c .1 (currentIn S v g c) (within r);
     }
   where

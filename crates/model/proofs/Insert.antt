@@ -220,4 +220,4 @@ module _ (S : Shape) (v : View) (ps : List Place) (h : History) (o : Represents 
 
   pub insert-kept : Step S h (insert t vs) h′ → Represents S (insertedIn S t vs v) ps h′
   unfolding insertedIn
-  insert-kept step = subst (λ (n : ℕ). Represents S (insertedAt S t vs n v) ps h′) (sym (o .header .rows-given)) (insert-at step)
+  insert-kept step = rw (o .header .rows-given) (insert-at step)

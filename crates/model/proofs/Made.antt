@@ -1,5 +1,5 @@
 -- A store just made represents the empty history, and every list of calls on it is answered as the history answers it.
-use mathlib.Core.Path.{_≡_, refl, sym, _∙_, ap, subst}
+use mathlib.Core.Path.{_≡_, refl, _∙_, ap}
 use mathlib.Core.Logic.{inr}
 use mathlib.Core.Bool.{Bool, false, not, _&&_}
 use mathlib.Core.List.{List, []}
@@ -26,11 +26,11 @@ use Rattle.layout.specs.declared.Region.the-variants.{Header, Opens, Current, P
 use Rattle.terms.specs.declared.Place.{Place}
 use Rattle.layout.specs.Sizes.{sizesOf}
 use Rattle.terms.specs.Places.{freePlace}
-use Rattle.model.specs.Stored.{PageWords, pageIn, cellIn, currentIn, placeOf, placesOf, pagesOf, within, waitingPage, currentPage, asCurrent, countBelow}
+use Rattle.model.specs.Stored.{pageIn, cellIn, currentIn, placeOf, placesOf, pagesOf, within, waitingPage, currentPage, asCurrent, countBelow}
 use Rattle.model.specs.Writing.{blank, made}
 use Rattle.model.specs.Calls.{Typed, say, viewNext, placesNext, sayAll}
 use Rattle.model.proofs.Lists.{below-all, below-none}
-use Rattle.model.proofs.Represents.{Holds, everyRow, CurrentIs, CurrentsAre, PoolIs, Represents, Small, Known, Whole}
+use Rattle.model.proofs.Represents.{Holds, everyRow, CurrentsAre, PoolIs, Represents, Small, Known, Whole}
 use Rattle.model.proofs.Views.{renew-whole, put-whole, changed-start}
 use Rattle.model.proofs.Merged.{place-in}
 use Rattle.model.proofs.Calls.{known-next, one-call}
@@ -107,8 +107,7 @@ module _ (S : Shape) (small : Small S) where
 
   currents-made : CurrentsAre S start (made S)
   currents-made g c a b =
-      subst (λ (p : ℕ). CurrentIs S start g c p (pageIn (made S) p) (cellIn (made S) p)) (sym (current-made g c a b))
-      (subst (λ (x : PageWords). CurrentIs S start g c (placeOf S g c) x (cellIn (made S) (placeOf S g c))) (sym (page-made (placeOf S g c) (place-in S g c a b)))
+      rw (current-made g c a b, page-made (placeOf S g c) (place-in S g c a b))
       record {
         inside = omega (arith, place-in S g c a b);
         state = refl;
@@ -116,7 +115,7 @@ module _ (S : Shape) (small : Small S) where
         made = zero-le;
         lineage = unfold mergedThrough lastThrough start in refl;
         holds = holds-made g c (cellIn (made S) (placeOf S g c)) (cells-made (placeOf S g c)) (placeOf S g c);
-      })
+      }
 
   state-not-waiting : (p : ℕ) → waitingPage ((pageIn (made S) p) .state) ≡ false
   state-not-waiting p = by-cases (decLt p (placesOf S)) (λ b. ap waitingPage (state-first p b)) (λ b. ap waitingPage (state-rest p (omega arith)))
@@ -161,7 +160,7 @@ module _ (S : Shape) (small : Small S) where
         rows = λ r b. absurd (no-rows r b);
         tails = λ g b. unfold made blank put renew start recordsOf in record { used-all = zeros (S .ranges) g; each = λ k u. absurd (not-suc-le-zero u); links = λ k u. absurd (not-suc-le-zero u) };
         currents = currents-made;
-        waits = λ p b t. absurd (subst (λ (w : Bool). T w) (state-not-waiting p) t);
+        waits = λ p b t. absurd (rw (state-not-waiting p) at t);
         pool = unfold start in pool-made;
         scans = unfold start in record { room = rw length-replicate enough; same = λ q. none-counted (λ p. not (eqb (p .number) 0) && q p) n freePlace refl };
         scanPages = λ k t. absurd (no-scan k t);

@@ -1,5 +1,5 @@
 -- Merge, the whole: the page taken, the page replaced, and what every other part sees of it.
-use mathlib.Core.Path.{_≡_, refl, sym, _∙_, ap, subst}
+use mathlib.Core.Path.{_≡_, refl, sym, _∙_, ap}
 use mathlib.Core.Logic.{_≢_, _⊎_, inl, inr}
 use mathlib.Core.Bool.{Bool, true, false, not, cond, _&&_}
 use mathlib.Core.List.{List, [], _∷_, _++_}
@@ -10,11 +10,11 @@ use native.Mathlib.Decide.{ℕ-discrete, decLt}
 use lib.Dec.{not-T, nleb→lt, T, leb, ltb, eqb, eqb→eq, leb→le, le→leb, ltb→lt, lt→ltb}
 use lib.ListN.{length, getD, take, length-append}
 use lib.Seq.{lt-length-set, getD-set-same, getD-set-other}
+use lib.IntN.{ℤ}
 use mir.Syntax.{w32}
 use mir.Val.{toZ}
 use Rattle.terms.specs.Measures.{Shape, rangeRows}
 use Rattle.history.specs.History.{merge, History, Record, State, committed, Merge, Scan, any, isActive, isCommitted, stateOf, rowAt, rangeOf, recordsOf, mergedThrough, anyActive, waitingPages, scanAt, inserted, lastSetting, withMerges, cellThrough}
-use Rattle.history.specs.Lists.{All}
 use Rattle.history.proofs.Lists.{by-cases, all-map, any-none, is-true, eqb-other, eqb-equal}
 use Rattle.history.proofs.Steps.{Mergeable, Step}
 use Rattle.history.proofs.States.{isClosed}
@@ -34,7 +34,7 @@ use Rattle.model.specs.Reading.{wasCurrent, scanPage}
 use Rattle.model.specs.Writing.{applied, newestOf, freeIn, mergedIn}
 use Rattle.model.specs.Calls.{openAmongIn}
 use Rattle.model.proofs.Lists.{one, count-from, from-snoc, first-is, first-only, first-ext, first-none, below-change, below-three, part-in, same-part, is-equal, same-truth}
-use Rattle.model.proofs.Represents.{Holds, NotAfter, everyRow, CurrentOf, CurrentsAre, WaitingIs, WaitingAre, madeIn, PoolIs, ScanPageIs, ScanPagesAre, Represents, Known, Whole}
+use Rattle.model.proofs.Represents.{Holds, everyRow, CurrentOf, CurrentsAre, WaitingIs, WaitingAre, madeIn, PoolIs, ScanPageIs, ScanPagesAre, Represents, Known, Whole}
 use Rattle.model.proofs.Holding.{holds-step, holds-cells, same-rows}
 use Rattle.model.proofs.Steady.{current-step, current-cells, waiting-step, scan-cells, scan-page-step}
 use Rattle.model.proofs.Views.{renew-whole, put-whole, header-put, header-same}
@@ -222,24 +222,23 @@ module _ (S : Shape) (v : View) (ps : List Place) (h : History) (o : Represents 
   new-holds =
       record {
         through = merge-through (k .past .order) (ok .used) (ok .shut);
-        newest = subst (λ (j : ℕ). All (NotAfter (stateOf h) c late) (take j (recordsOf h g))) low-to
-            (newest-is S v h g c p low (ok .column-in) (o .tails g (ok .range-in)) ((pageIn v old) .newest) (now .holds .newest) (n - low) (omega (arith, low-to)));
+        newest = rw low-to at (newest-is S v h g c p low (ok .column-in) (o .tails g (ok .range-in)) ((pageIn v old) .newest) (now .holds .newest) (n - low) (omega (arith, low-to)));
         stamped = newest-last S v h g c p low (ok .column-in) (o .tails g (ok .range-in)) (k .past .order) ((pageIn v old) .newest) (now .holds .stamped) (n - low) (omega (arith, low-to));
         cells = λ r e q. cells r e;
       }
     where
+      last : ℕ → ℕ → ℕ → ℤ
+      last r a j = lastSetting (λ i. isCommitted (stateOf h i)) r c (inserted h r c) (take j (recordsOf h a)) .value
+
+      base : (r : ℕ) → rangeOf r ≡ g → toZ w32 (getD copy (p * rangeRows + within r) 0) ≡ last r g low
+      base r e = ap (toZ w32) (copy-at (within r) (omega arith)) ∙ now .holds .cells r e tt ∙ (unfold cellThrough in (ap (λ (a : ℕ). last r a low) e))
+
       cells : (r : ℕ) → rangeOf r ≡ g → toZ w32 (cellIn v′ p (within r)) ≡ cellThrough h c r n
       cells r e =
           (unfold mergedIn put renew cellIn cellThrough in
-          (subst (λ (j : ℕ). toZ w32 (getD (applied S v g c p low (n - low) copy) (p * rangeRows + within r) 0) ≡ lastSetting (λ i. isCommitted (stateOf h i)) r c (inserted h r c) (take n (recordsOf h j)) .value) (sym e)
           (applied-is S v h g c p low (ok .column-in) (o .tails g (ok .range-in)) copy
-          (omega (arith, room, changed-length (λ i x. getD (v Cells) (old * rangeRows + i) 0) (p * rangeRows) (v Cells) rangeRows, o .whole .long Cells)) r e base (n - low) (omega (arith, low-to))
-          ∙ ap (λ (j : ℕ). lastSetting (λ i. isCommitted (stateOf h i)) r c (inserted h r c) (take j (recordsOf h g)) .value) low-to)))
-        where
-          base : toZ w32 (getD copy (p * rangeRows + within r) 0) ≡ lastSetting (λ i. isCommitted (stateOf h i)) r c (inserted h r c) (take low (recordsOf h g)) .value
-          base =
-              ap (toZ w32) (copy-at (within r) (omega arith)) ∙ now .holds .cells r e tt
-              ∙ (unfold cellThrough in (ap (λ (j : ℕ). lastSetting (λ i. isCommitted (stateOf h i)) r c (inserted h r c) (take low (recordsOf h j)) .value) e))
+          (omega (arith, room, changed-length (λ i x. getD (v Cells) (old * rangeRows + i) 0) (p * rangeRows) (v Cells) rangeRows, o .whole .long Cells)) r e (base r e) (n - low) (omega (arith, low-to))
+          ∙ ap (last r g) low-to ∙ ap (λ (a : ℕ). last r a n) (sym e)))
 
   -- ---- the current pages
   through-there : Step S h (merge g c n) h′ → (a b : ℕ) → placeOf S a b ≢ placeOf S g c → mergedThrough h′ a b ≡ mergedThrough h a b

@@ -1,5 +1,5 @@
 -- A running scan reads the pages that were current at its opening: no call makes it find another page, and no call writes a cell of a row that was given before.
-use mathlib.Core.Path.{_≡_, refl, sym, _∙_, subst}
+use mathlib.Core.Path.{_≡_, refl, _∙_}
 use mathlib.Core.Bool.{Bool, true, false, not, cond}
 use mathlib.Core.List.{List, [], _∷_}
 use Prim.Native.Nat.{ℕ, _*_, _≤_, _<_}
@@ -11,7 +11,7 @@ use lib.IntN.{ℤ}
 use lib.Bits.{bitOr}
 use Rattle.terms.specs.Measures.{Shape, rangeRows}
 use Rattle.history.specs.History as H
-use Rattle.history.specs.History.{Call, begin, insert, update, delete, commit, abort, latest, readAt, ownRead, openScan, scanRead, sum, close, merge, release, pageCell, lineage, History, Scan, Verdict, accept, refuse, verdict, tests, next, run, rangeOf, scanAt, withScans}
+use Rattle.history.specs.History.{Call, begin, insert, update, delete, commit, abort, latest, readAt, ownRead, openScan, scanRead, sum, close, merge, release, pageCell, lineage, History, Verdict, accept, refuse, verdict, tests, next, run, rangeOf, scanAt, withScans}
 use Rattle.history.specs.Lists.{All, nil, cons}
 use Rattle.history.proofs.Lists.{nth-before}
 use Rattle.history.proofs.Accepted.{Passed, passed}
@@ -52,7 +52,7 @@ module _ (S : Shape) (v : View) (ps : List Place) (h : History) (o : Represents 
   -- an insert writes the cell of a new row
   insert-same : (t : ℕ) (vs : List ℤ) → T (not (H.notActive h t)) → T (not (H.allGiven S h)) → Typed (insert t vs) → Same (insertedIn S t vs v)
   unfolding insertedIn H.allGiven
-  insert-same t vs a b y = subst (λ (n : ℕ). Same (insertedAt S t vs n v)) (sym (o .header .rows-given)) at-row
+  insert-same t vs a b y = rw (o .header .rows-given) at-row
     where
       room : length (h .rows) < S .ranges * rangeRows
       room = nleb→lt (S .ranges * rangeRows) (length (h .rows)) b
@@ -103,7 +103,7 @@ module _ (S : Shape) (v : View) (ps : List Place) (h : History) (o : Represents 
 
   pub next-same : (x : Call) → Typed x → Same (viewNext S v ps x)
   unfolding viewNext
-  next-same x y = subst (λ (w : Verdict). Same (viewIf w v (actIn S v ps x))) (sym (agree-verdict (tests-agree S v ps h o k x))) (go (verdict (tests S h x)) refl)
+  next-same x y = rw (agree-verdict (tests-agree S v ps h o k x)) (go (verdict (tests S h x)) refl)
     where
       go : (w : Verdict) → verdict (tests S h x) ≡ w → Same (viewIf w v (actIn S v ps x))
       go accept e = unfold viewIf in (act-same x y (passed (tests S h x) e))
@@ -125,7 +125,7 @@ unfolding run
 ran-before S h [] i b t = t
 ran-before S h (x ∷ cs) i b t =
     let later : T (scanAt (next S h x) i .running) = ran-before S (next S h x) cs i (le-trans b (grown (next-step S h x) .scans)) t in
-    subst (λ (s : Scan). T (s .running)) (scan-before (next-step S h x) i b later) later
+    rw (scan-before (next-step S h x) i b later) at later
 
 -- and is the scan that it was
 pub scan-later : (S : Shape) (h : History) (cs : List Call) (i : ℕ) → i ≤ length (h .scans) → T (scanAt (run S h cs) i .running) → scanAt (run S h cs) i ≡ scanAt h i
@@ -144,13 +144,12 @@ same-after S v ps h o k i b (cons {x = x} {l = cs} y ys) t g c bg bc =
     let s : Step S h x (next S h x) = next-step S h x in
     let later : T (scanAt (next S h x) i .running) = ran-before S (next S h x) cs i (le-trans b (grown s .scans)) t in
     let e : scanAt (next S h x) i ≡ scanAt h i = scan-before s i b later in
-    let first : SamePage S v (viewNext S v ps x) (scanAt h i .before) (length (h .rows)) g c = next-same S v ps h o k i (subst (λ (z : Scan). T (z .running)) e later) g c bg bc x y in
+    let first : SamePage S v (viewNext S v ps x) (scanAt h i .before) (length (h .rows)) g c = next-same S v ps h o k i (rw e at later) g c bg bc x y in
     let rest : SamePage S (viewNext S v ps x) (viewAfter S (viewNext S v ps x) (placesNext S v ps x) cs) (scanAt h i .before) (length (h₁ .rows)) g c =
-    subst (λ (z : Scan). SamePage S (viewNext S v ps x) (viewAfter S (viewNext S v ps x) (placesNext S v ps x) cs) (z .before) (length (h₁ .rows)) g c) e
-    (same-after S (viewNext S v ps x) (placesNext S v ps x) (next S h x) (one-call S v ps h x y o k .1) (known-next x k) i (le-trans b (grown s .scans)) ys t g c bg bc) in
+    rw e at (same-after S (viewNext S v ps x) (placesNext S v ps x) (next S h x) (one-call S v ps h x y o k .1) (known-next x k) i (le-trans b (grown s .scans)) ys t g c bg bc) in
     record {
       page = rest .page ∙ first .page;
       cells = λ r u f.
-          subst (λ (q : ℕ). cellIn (viewAfter S (viewNext S v ps x) (placesNext S v ps x) cs) q (within r) ≡ cellIn (viewNext S v ps x) q (within r)) (first .page) (rest .cells r (le-trans u (grown s .rows)) f)
+          (rw (first .page) at (rest .cells r (le-trans u (grown s .rows)) f))
           ∙ first .cells r u f;
     }

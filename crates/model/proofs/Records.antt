@@ -25,7 +25,7 @@ use Rattle.terms.specs.Places.{bears, place}
 use Rattle.model.specs.Stored.{RowWords, RecordWords, rowIn, recordIn, valueIn, pageIn, cellIn, currentIn, usedIn, openPlace, nextWord, asOpen, asDelete}
 use Rattle.model.specs.Reading.{scanPage, wasCurrent}
 use Rattle.model.specs.Writing.{noted, nextSlot, appended, filledIn, deletedIn}
-use Rattle.model.proofs.Represents.{stateWord, RowIs, RowsAre, ContentIs, RecordIs, TailOf, TailsFor, TailsAre, NotesAre, Represents, Known, Whole}
+use Rattle.model.proofs.Represents.{stateWord, RowIs, RowsAre, ContentIs, RecordIs, TailsFor, TailsAre, NotesAre, Represents, Known, Whole}
 use Rattle.model.proofs.Steady.{currents-stay, waits-stay, scan-stays}
 use Rattle.model.proofs.Views.{put-whole}
 use Rattle.model.proofs.Notes.{notes-more, few-changes, active-given}
@@ -69,7 +69,7 @@ module _ (S : Shape) (v : View) (ps : List Place) (h : History) (o : Represents 
 
   pub tails-are : (x : View) → TailsFor S (stateOf h) list x → TailsAre S h′ x
   unfolding stateOf withTail
-  tails-are x f g u = subst (λ (l : List Record). TailOf S (stateOf h) l x g) (sym (records-made h g new)) (f g u)
+  tails-are x f g u = rw (records-made h g new) (f g u)
 
   row-other : (i : ℕ) (x : RowWords) → i ≢ r → RowIs (stateOf h) (rowAt h i) (recordsOf h (rangeOf i)) i x → RowIs (stateOf h) (rowAt h i) (recordsOf h′ (rangeOf i)) i x
   row-other i x n p =
@@ -136,8 +136,7 @@ module _ (S : Shape) (u : View) (whole : Whole S u) (st : ℕ → State) (list l
   end-is = ap (λ (i : ℕ). g₀ * S .capacity + i) used-is
 
   here : recordIn (appended S t r kind mask u) end ≡ record { transaction = t; row = r; kind = kind; mask = mask; link = (rowIn u r) .link; state = asOpen; stamp = 0 }
-  here = subst (λ (j : ℕ). recordIn (appended S t r kind mask u) j ≡ record { transaction = t; row = r; kind = kind; mask = mask; link = (rowIn u r) .link; state = asOpen; stamp = 0 }) end-is
-      (appended-here S t r kind mask u whole inside room′)
+  here = rw end-is at (appended-here S t r kind mask u whole inside room′)
 
   there : (j : ℕ) → j ≢ end → recordIn (appended S t r kind mask u) j ≡ recordIn u j
   there j f = appended-there S t r kind mask u whole inside room′ j (λ e. f (e ∙ end-is))

@@ -1,5 +1,5 @@
 -- Release keeps the relation: a waiting page is freed unless an open scan was opened before the merge that replaced it, so no open scan's page is freed.
-use mathlib.Core.Path.{_≡_, refl, sym, _∙_, ap, subst}
+use mathlib.Core.Path.{_≡_, refl, sym, _∙_, ap}
 use mathlib.Core.Logic.{inl, inr}
 use mathlib.Core.Bool.{Bool, true, false, not, cond, _&&_, and-false, and-true, and-assoc, and-comm}
 use mathlib.Core.List.{List, [], _∷_}
@@ -19,11 +19,11 @@ use Rattle.loops.proofs.Change.{changed-length, changed-fit}
 use Rattle.layout.specs.View.{View, renew}
 use Rattle.layout.specs.declared.Region.the-variants.{PageState}
 use Rattle.terms.specs.declared.Place.{Place}
-use Rattle.model.specs.Stored.{PageWords, rowIn, recordIn, valueIn, pageIn, cellIn, currentIn, placeOf, pagesOf, asFree, currentPage, waitingPage, countBelow}
+use Rattle.model.specs.Stored.{rowIn, recordIn, valueIn, pageIn, cellIn, currentIn, placeOf, pagesOf, asFree, currentPage, waitingPage, countBelow}
 use Rattle.model.specs.Reading.{wasCurrent, scanPage}
 use Rattle.model.specs.Writing.{neededIn, releasable, releasedIn}
 use Rattle.model.proofs.Lists.{true-false, countFrom, any-count, from-count, count-ext, first-ext, below-ext, same-truth}
-use Rattle.model.proofs.Represents.{CurrentIs, CurrentOf, CurrentsAre, WaitingIs, WaitingAre, PoolIs, ScanPageIs, ScanPagesAre, ScansAre, madeIn, Represents, Known, Whole}
+use Rattle.model.proofs.Represents.{CurrentOf, CurrentsAre, WaitingIs, WaitingAre, PoolIs, ScanPageIs, ScanPagesAre, ScansAre, madeIn, Represents, Known, Whole}
 use Rattle.model.proofs.Steady.{current-step, waiting-step, scan-page-step}
 use Rattle.model.proofs.Views.{renew-whole, changed-start, header-same}
 use Rattle.model.proofs.Scans.{scan-current}
@@ -152,7 +152,7 @@ module _ (S : Shape) (v : View) (ps : List Place) (h : History) (o : Represents 
   unfolding currentIn cellIn releasedIn renew
   release-currents step a b u w =
       let x : CurrentOf S h v a b = o .currents a b u w in
-      subst (λ (y : PageWords). CurrentIs S h′ a b (currentIn S v a b) y (cellIn v (currentIn S v a b))) (sym (page-kept (currentIn S v a b) (x .inside) (current-kept a b u w)))
+      rw (page-kept (currentIn S v a b) (x .inside) (current-kept a b u w))
       (current-step (k .past .order) step (unfold withMerges in refl) (through-same step a b) x)
 
   release-waits : Step S h release h′ → WaitingAre S h′ v′
@@ -165,7 +165,7 @@ module _ (S : Shape) (v : View) (ps : List Place) (h : History) (o : Represents 
 
   released-waits : (q : ℕ) → releasable ps v q ≡ true → T (waitingPage ((pageIn v q) .state))
   unfolding releasable
-  released-waits q e = parts (waitingPage ((pageIn v q) .state)) (not (neededIn ps ((pageIn v q) .replaced))) (subst (λ (b : Bool). T b) (sym e) tt) .0
+  released-waits q e = parts (waitingPage ((pageIn v q) .state)) (not (neededIn ps ((pageIn v q) .replaced))) (rw e tt) .0
 
   release-pool : PoolIs S (afterRelease (h .scans) 0 (h .merges)) (pageIn v′)
   release-pool =
@@ -197,8 +197,7 @@ module _ (S : Shape) (v : View) (ps : List Place) (h : History) (o : Represents 
       let q : ℕ = scanPage S v (scanAt h i .before) a d in
       let x : ScanPageIs S h (scanAt h i) a d q (pageIn v q) (cellIn v q) = o .scanPages i t a d u w in
       let y : ScanPageIs S h′ (scanAt h i) a d q (pageIn v q) (cellIn v q) = scan-page-step (k .past .order) step (k .past .timely i) x in
-      subst (λ (j : ℕ). ScanPageIs S h′ (scanAt h i) a d j (pageIn v′ j) (cellIn v′ j)) (sym (scan-page-kept i a d t))
-      (subst (λ (z : PageWords). ScanPageIs S h′ (scanAt h i) a d q z (cellIn v′ q)) (sym (page-kept q (x .inside) (scan-releasable i a d u w t (x .made)))) (same-cells (scanAt h i) a d q y))
+      rw (scan-page-kept i a d t, page-kept q (x .inside) (scan-releasable i a d u w t (x .made))) (same-cells (scanAt h i) a d q y)
     where
       same-cells : (s : Scan) (a d q : ℕ) → ScanPageIs S h′ s a d q (pageIn v q) (cellIn v q) → ScanPageIs S h′ s a d q (pageIn v q) (cellIn v′ q)
       same-cells s a d q y = unfold cellIn releasedIn renew in y

@@ -1,6 +1,6 @@
 -- Open scan and close keep the relation: a scan takes a place of the list with the merges made before it, so that its pages are the current ones; a closed scan
 -- leaves a free place.
-use mathlib.Core.Path.{_≡_, refl, sym, _∙_, ap, fun-ext, subst}
+use mathlib.Core.Path.{_≡_, refl, sym, _∙_, ap, fun-ext}
 use mathlib.Core.Bool.{Bool, true, false, not, and-true}
 use mathlib.Core.List.{List, [], _∷_, _++_}
 use Prim.Native.Nat.{ℕ, suc, _+_, _≤_, _<_}
@@ -92,7 +92,7 @@ module _ (S : Shape) (v : View) (ps : List Place) (h : History) (o : Represents 
   open-pages : Step S h (openScan s) after → ScanPagesAre S after v
   unfolding scanAt withScans
   open-pages step i t g c p q = by-cases (ℕ-discrete i (suc (length (h .scans))))
-      (λ e. subst (λ (s : Scan). ScanPageOf S after v s g c) (sym (ap (λ (j : ℕ). nth (h .scans ++ new ∷ []) j noScan) e ∙ nth-last noScan (h .scans) new)) (new-page step g c p q))
+      (λ e. rw (e, nth-last noScan (h .scans) new) (new-page step g c p q))
       (λ f. scan-stays o k step refl i (nth-before noScan (h .scans) new i f) t g c p q)
 
   pub open-kept : Step S h (openScan s) after

@@ -1,5 +1,5 @@
 -- What a step of the history leaves of the pages: the current pages, the waiting ones and those of the running scans, as long as their words stay.
-use mathlib.Core.Path.{_≡_, sym, _∙_, ap, subst}
+use mathlib.Core.Path.{_≡_, sym, _∙_, ap}
 use mathlib.Core.Logic.{_⊎_, inl}
 use mathlib.Core.List.{List, []}
 use Prim.Native.Nat.{ℕ, _≤_, _<_}
@@ -116,5 +116,4 @@ module _ {S : Shape} {v : View} {ps : List Place} {h h′ : History} {y : Call} 
       → ScanPageOf S h′ v (scanAt h′ i) g c
   unfolding Timely
   scan-stays i e t g c a b =
-      subst (λ (s : Scan). ScanPageOf S h′ v s g c) (sym e)
-      (scan-page-step (k .past .order) step (k .past .timely i) (o .scanPages i (subst (λ (s : Scan). T (s .running)) e t) g c a b))
+      rw e (scan-page-step (k .past .order) step (k .past .timely i) (o .scanPages i (rw e at t) g c a b))

@@ -1,5 +1,5 @@
 -- Open transactions: begin, commit and abort keep the relation. Commit and abort mark every row and record that bears the number.
-use mathlib.Core.Path.{_≡_, refl, sym, _∙_, ap, subst}
+use mathlib.Core.Path.{_≡_, refl, sym, _∙_, ap}
 use mathlib.Core.Logic.{_≢_, inl, inr}
 use mathlib.Core.Bool.{true, false, not, cond}
 use mathlib.Core.List.{List, [], _∷_, _++_}
@@ -76,7 +76,7 @@ other-place ts l o t a j b n f e =
     bearing = both (not (eqb (getD l j 0) 0)) _ (not-T (eqb (getD l j 0) 0) (λ z. n (eqb→eq _ 0 z))) (eqb-equal _ t e)
 
     found : T (bears t (getD l own 0))
-    found = subst (λ (i : ℕ). T (bears t i)) (e ∙ sym (here .1)) bearing
+    found = rw (e ∙ sym (here .1)) at bearing
 
     twice : (i k : ℕ) → i < k → k < length l → T (bears t (getD l i 0)) → T (bears t (getD l k 0)) → ⊥
     twice i k = book-only self isActive numbered (λ i s. refl) 0 refl unknown unknown-idle (λ p q f. f self) ts l o t i k
@@ -156,7 +156,7 @@ module _ (S : Shape) (v : View) (ps : List Place) (h : History) (o : Represents 
         opens = rw e (opens-begin (h .transactions) (v Opens) (o .opens) free);
         notes =
             notes-set (h .rows) (h .tail) (v Opens) (v Changes) j n inside (omega (arith, inside, o .whole .long Opens, o .whole .long Changes))
-            (λ _. subst (λ (t : ℕ). Unchanged (h .rows) (h .tail) t) (sym e) (not-begun h (k .past .order))) (o .notes);
+            (λ _. rw e (not-begun h (k .past .order))) (o .notes);
         rows = begun-rows;
         tails = begun-tails;
         currents = currents-stay o k step refl refl;

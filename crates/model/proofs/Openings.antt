@@ -120,36 +120,26 @@ scan-before {h = h} (newScans (scanOpened _ _ _)) i b t = nth-before _ (h .scans
 scan-before {h = h} (newScans (scanClosed j run)) i b t = still-running (h .scans) j i run t
 scan-before (newMerges _) i b t = refl
 
-ran-before : (S : Shape) (h : History) (cs : List Call) (i : ℕ) → i ≤ length (h .scans) → T (scanAt (run S h cs) i .running) → T (scanAt h i .running)
-unfolding run
-ran-before S h [] i b t = t
-ran-before S h (x ∷ cs) i b t =
-    let later : T (scanAt (next S h x) i .running) = ran-before S (next S h x) cs i (le-trans b (grown (next-step S h x) .scans)) t in
-    rw (scan-before (next-step S h x) i b later) at later
-
--- and is the scan that it was
 pub scan-later : (S : Shape) (h : History) (cs : List Call) (i : ℕ) → i ≤ length (h .scans) → T (scanAt (run S h cs) i .running) → scanAt (run S h cs) i ≡ scanAt h i
 unfolding run
 scan-later S h [] i b t = refl
 scan-later S h (x ∷ cs) i b t =
-    let c : i ≤ length ((next S h x) .scans) = le-trans b (grown (next-step S h x) .scans) in
-    scan-later S (next S h x) cs i c t ∙ scan-before (next-step S h x) i b (ran-before S (next S h x) cs i c t)
+    let s = next-step S h x in
+    let e = scan-later S (next S h x) cs i (le-trans b (grown s .scans)) t in
+    e ∙ scan-before s i b (rw e at t)
 
 pub same-after : (S : Shape) (v : View) (ps : List Place) (h : History) → Represents S v ps h → Known S h → (i : ℕ) → i ≤ length (h .scans) → {cs : List Call} → All Typed cs → T (scanAt (run S h cs) i .running)
     → (g c : ℕ) → g < S .ranges → c < S .columns → SamePage S v (viewAfter S v ps cs) (scanAt h i .before) (length (h .rows)) g c
 unfolding run viewAfter
 same-after S v ps h o k i b nil t g c bg bc = unmoved S v _ _ g c
 same-after S v ps h o k i b (cons {x = x} {l = cs} y ys) t g c bg bc =
-    let h₁ : History = next S h x in
-    let s : Step S h x (next S h x) = next-step S h x in
-    let later : T (scanAt (next S h x) i .running) = ran-before S (next S h x) cs i (le-trans b (grown s .scans)) t in
+    let s = next-step S h x in
+    let later : T (scanAt (next S h x) i .running) = rw (scan-later S (next S h x) cs i (le-trans b (grown s .scans)) t) at t in
     let e : scanAt (next S h x) i ≡ scanAt h i = scan-before s i b later in
     let first : SamePage S v (viewNext S v ps x) (scanAt h i .before) (length (h .rows)) g c = next-same S v ps h o k i (rw e at later) g c bg bc x y in
-    let rest : SamePage S (viewNext S v ps x) (viewAfter S (viewNext S v ps x) (placesNext S v ps x) cs) (scanAt h i .before) (length (h₁ .rows)) g c =
+    let rest : SamePage S (viewNext S v ps x) (viewAfter S (viewNext S v ps x) (placesNext S v ps x) cs) (scanAt h i .before) (length ((next S h x) .rows)) g c =
     rw e at (same-after S (viewNext S v ps x) (placesNext S v ps x) (next S h x) (one-call S v ps h x y o k .1) (known-next x k) i (le-trans b (grown s .scans)) ys t g c bg bc) in
     record {
       page = rest .page ∙ first .page;
-      cells = λ r u f.
-          (rw (first .page) at (rest .cells r (le-trans u (grown s .rows)) f))
-          ∙ first .cells r u f;
+      cells = λ r u f. (rw (first .page) at (rest .cells r (le-trans u (grown s .rows)) f)) ∙ first .cells r u f;
     }

@@ -1,11 +1,12 @@
 -- One call of every kind: the store's tests have the history's outcome, an accepted call has the history's answer, and the relation is kept.
 use mathlib.Core.Path.{_≡_, refl, sym, _∙_, ap, ap₂}
 use mathlib.Core.Logic.{_≢_}
-use mathlib.Core.Bool.{Bool, true, false, not, cond, _&&_, _||_}
+use mathlib.Core.Bool.{Bool, not, cond, _&&_, _||_}
 use mathlib.Core.List.{List, [], _∷_, _++_}
 use Prim.Native.Nat.{ℕ, zero, suc, _+_, _*_, _-_, _≤_, _<_}
 use native.Mathlib.Omega.{arith}
-use native.Mathlib.Nat.{le-refl}
+use native.Mathlib.Nat.{add-zero, le-refl}
+use native.Mathlib.Numerals.{add-one}
 use lib.Dec.{T, leb, ltb, eqb, eqb→eq, nleb→lt, nltb→le}
 use lib.ListN.{length, getD, length-append}
 use lib.IntN.{ℤ, _+ℤ_, +ℤ-assoc, +ℤ-idl, +ℤ-idr}
@@ -73,6 +74,10 @@ total-append : (f : ℕ → ℤ) (l m : List ℕ) → total f (l ++ m) ≡ total
 unfolding total
 total-append f [] m = sym (+ℤ-idl _)
 total-append f (x ∷ l) m = ap (λ (z : ℤ). f x +ℤ z) (total-append f l m) ∙ sym (+ℤ-assoc (f x) (total f l) (total f m))
+
+-- the rows below n that a reader sees, and their sum
+abbrev tallied : History → (ℕ → Bool) → ℕ → ℕ → Tally
+tallied h f c n = record { count = length (keep (visible f h) (upTo n)); total = total (λ r. versionOf f h r c .value) (keep (visible f h) (upTo n)) }
 
 module _ (S : Shape) (v : View) (ps : List Place) (h : History) (o : Represents S v ps h) (k : Known S h) where
   -- ---- the conditions, one for one
@@ -202,22 +207,22 @@ module _ (S : Shape) (v : View) (ps : List Place) (h : History) (o : Represents 
   scan-read i r c t b d =
       read-is S v ps h o k (scanAt h i .stamp) 0 _ (sees-at h (scanAt h i .stamp)) r b c d _ _ (o .scanPages i t (rangeOf r) c (in-range k r b) d .holds) (seen-row (scanAt h i .stamp) r)
 
-  -- the rows below n that are seen, and their sum
   tally-is : (i c : ℕ) → T (scanAt h i .running) → c < S .columns → (n : ℕ) → n ≤ length (h .rows)
-      → tally S v (scanAs i (scanAt h i)) c n
-      ≡ record { count = length (keep (visible (seenAt h (scanAt h i .stamp)) h) (upTo n)); total = total (λ r. versionOf (seenAt h (scanAt h i .stamp)) h r c .value) (keep (visible (seenAt h (scanAt h i .stamp)) h) (upTo n)) }
+      → tally S v (scanAs i (scanAt h i)) c n ≡ tallied h (seenAt h (scanAt h i .stamp)) c n
   unfolding tally total
   tally-is i c t d zero b = refl
   tally-is i c t d (suc n) b =
       rw (
         keep-append (visible f h) (upTo n) (n ∷ []),
-        length-append (keep (visible f h) (upTo n)) (keep (visible f h) (n ∷ [])),
-        total-append value (keep (visible f h) (upTo n)) (keep (visible f h) (n ∷ [])),
+        length-append rows (keep (visible f h) (n ∷ [])),
+        total-append value rows (keep (visible f h) (n ∷ [])),
         visible-is S v ps h o k n b (scanAt h i .stamp) 0 f (sees-at h (scanAt h i .stamp)),
         tally-is i c t d n (omega arith),
       )
-      (go (visible f h n)
-      (λ z. word-is S v ps h o k (scanAt h i .stamp) 0 f (sees-at h (scanAt h i .stamp)) n b c d _ _ (o .scanPages i t (rangeOf n) c (in-range k n b) d .holds) (seen-row (scanAt h i .stamp) n z)))
+      (by-test (λ z. _≡_ {A = Tally} (cond z record { count = suc (length rows); total = total value rows +ℤ toZ w32 word } record { count = length rows; total = total value rows })
+      record { count = length rows + length (cond z (n ∷ []) []); total = total value rows +ℤ total value (cond z (n ∷ []) []) }) (visible f h n)
+      (λ z. rw (same z, add-one (length rows), +ℤ-idr (value n)))
+      (λ _. rw (add-zero (length rows), +ℤ-idr (total value rows))))
     where
       f : ℕ → Bool
       f = seenAt h (scanAt h i .stamp)
@@ -228,17 +233,11 @@ module _ (S : Shape) (v : View) (ps : List Place) (h : History) (o : Represents 
       rows : List ℕ
       rows = keep (visible f h) (upTo n)
 
-      go : (z : Bool) → (T z → toZ w32 (wordIn S v (scanAt h i .stamp) 0 (scanPage S v (scanAt h i .before) (rangeOf n) c) n c) ≡ value n)
-          → _≡_ {A = Tally} (cond z record { count = suc (length rows); total = total value rows +ℤ toZ w32 (wordIn S v (scanAt h i .stamp) 0 (scanPage S v (scanAt h i .before) (rangeOf n) c) n c) } record { count = length rows; total = total value rows })
-          record { count = length rows + length (cond z (n ∷ []) []); total = total value rows +ℤ total value (cond z (n ∷ []) []) }
-      go true e = λ j. record { count = plus-one (length rows) j; total = (ap (λ (x : ℤ). total value rows +ℤ x) (e tt ∙ sym (+ℤ-idr (value n)))) j }
-        where
-          plus-one : (x : ℕ) → suc x ≡ x + 1
-          plus-one x = omega arith
-      go false e = λ j. record { count = plus-none (length rows) j; total = sym (+ℤ-idr (total value rows)) j }
-        where
-          plus-none : (x : ℕ) → x ≡ x + 0
-          plus-none x = omega arith
+      word : ℕ
+      word = wordIn S v (scanAt h i .stamp) 0 (scanPage S v (scanAt h i .before) (rangeOf n) c) n c
+
+      same : T (visible f h n) → toZ w32 word ≡ value n
+      same z = word-is S v ps h o k (scanAt h i .stamp) 0 f (sees-at h (scanAt h i .stamp)) n b c d _ _ (o .scanPages i t (rangeOf n) c (in-range k n b) d .holds) (seen-row (scanAt h i .stamp) n z)
 
   sum-same : (i c : ℕ) → T (scanAt h i .running) → c < S .columns → sumIn S v (scanPlace ps i) c ≡ H.sumOf (seenAt h (scanAt h i .stamp)) h c
   unfolding sumIn H.sumOf H.rowsSeen

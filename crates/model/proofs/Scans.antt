@@ -20,38 +20,42 @@ use Rattle.terms.specs.Places.{place, freePlace, isScan}
 use Rattle.model.specs.Stored.{rowIn, recordIn, valueIn, pageIn, cellIn, currentIn, headerIn, scansGiven, mergesMade, scanPlace}
 use Rattle.model.specs.Reading.{scanPage, wasCurrent}
 use Rattle.model.proofs.Lists.{any-count}
-use Rattle.model.proofs.Book.{book-is, book-room, book-count, book-add, book-drop, book-found}
+use Rattle.model.proofs.Book.{Kind, book-is, book-room, book-count, book-add, book-drop, book-found}
 use Rattle.model.proofs.Represents.{CurrentOf, ScanPageOf, ScanPagesAre, ScansAre, scanAs, Represents, Known}
 use Rattle.model.proofs.Holding.{holds-step, same-rows}
 use Rattle.model.proofs.Steady.{still-running, currents-stay, waits-stay, scan-stays}
 use Rattle.model.proofs.Views.{put-whole, header-put, header-same}
 
 -- ---- the places of scans are a book
-same-place : (p q : Place) → ((f : Place → ℕ) → f p ≡ f q) → p ≡ q
+pub same-place : (p q : Place) → ((f : Place → ℕ) → f p ≡ f q) → p ≡ q
 same-place p q f = λ i. record { number = f (λ z. z .number) i; stamp = f (λ z. z .stamp) i; merges = f (λ z. z .merges) i }
 
+abbrev pub scanKind : Kind Place Scan
+scanKind =
+    record { number = λ p. p .number; live = λ s. s .running; as′ = scanAs; as-number = λ i s. refl; free = freePlace; free-number = refl; none = noScan; none-live = refl; tells = same-place }
+
 pub scan-is : (ss : List Scan) (l : List Place) → ScansAre ss l → (k : ℕ) → any (isScan k) l ≡ (nth ss k noScan) .running
-scan-is ss l o k = book-is (λ p. p .number) (λ s. s .running) scanAs (λ i s. refl) freePlace refl noScan refl same-place ss l (o .same) k
+scan-is ss l o k = book-is scanKind ss l (o .same) k
 
 pub scan-count : (ss : List Scan) (l : List Place) → ScansAre ss l → count (λ p. not (eqb (p .number) 0)) l ≡ count (λ s. s .running) ss
 scan-count ss l o =
     ap (λ (f : Place → Bool). count f l) (fun-ext (λ p. sym (and-true (not (eqb (p .number) 0)))))
-    ∙ book-count (λ p. p .number) (λ s. s .running) scanAs (λ i s. refl) freePlace refl noScan refl same-place ss l (o .same)
+    ∙ book-count scanKind ss l (o .same)
 
 pub scan-found : (ss : List Scan) (l : List Place) → ScansAre ss l → (k : ℕ) → T ((nth ss k noScan) .running) → scanPlace l k ≡ scanAs k (nth ss k noScan)
 unfolding scanPlace
 scan-found ss l o k t =
-    same-place _ _ (book-found (λ p. p .number) (λ s. s .running) scanAs (λ i s. refl) freePlace refl noScan refl same-place ss l (o .same) k t)
+    same-place _ _ (book-found scanKind ss l (o .same) k t)
 
 scans-add : (ss : List Scan) (l : List Place) (s : Scan) → ScansAre ss l → T (s .running) → count (λ s. s .running) ss < mostScans
     → ScansAre (ss ++ s ∷ []) (set l (place (λ p. eqb (p .number) 0) l) (scanAs (suc (length ss)) s))
 scans-add ss l s o t b =
     record {
       room = rw length-set (o .room);
-      same = book-add (λ p. p .number) (λ s. s .running) scanAs (λ i s. refl) freePlace refl noScan refl same-place ss l (o .same) s t
+      same = book-add scanKind ss l (o .same) s t
           (rw (any-count (λ p. eqb (p .number) 0) l)
           (lt→ltb 0 (count (λ p. eqb (p .number) 0) l)
-          (omega (arith, o .room, book-room (λ p. p .number) (λ s. s .running) scanAs (λ i s. refl) freePlace refl noScan refl same-place ss l (o .same)))));
+          (omega (arith, o .room, book-room scanKind ss l (o .same)))));
     }
 
 scans-drop : (ss : List Scan) (l : List Place) (k : ℕ) (s : Scan) → ScansAre ss l → T ((nth ss k noScan) .running) → s .running ≡ false
@@ -59,7 +63,7 @@ scans-drop : (ss : List Scan) (l : List Place) (k : ℕ) (s : Scan) → ScansAre
 scans-drop ss l k s o t n =
     record {
       room = rw length-set (o .room);
-      same = book-drop (λ p. p .number) (λ s. s .running) scanAs (λ i s. refl) freePlace refl noScan refl same-place ss l (o .same) k t s n;
+      same = book-drop scanKind ss l (o .same) k t s n;
     }
 
 -- ---- a page that was made before: the scan's page is the current one

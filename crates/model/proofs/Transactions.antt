@@ -30,24 +30,22 @@ use Rattle.model.specs.Stored.{RowWords, RecordWords, rowIn, recordIn, v
 use Rattle.model.specs.Reading.{scanPage, wasCurrent}
 use Rattle.model.specs.Writing.{begun, markTails, settled, freed, committedIn, abortedIn}
 use Rattle.model.proofs.Lists.{same-truth, any-count, place-lt, place-is, part-in, is-equal}
-use Rattle.model.proofs.Book.{book-is, book-room, book-add, book-drop, book-only}
+use Rattle.model.proofs.Book.{Kind, book-is, book-room, book-add, book-drop, book-only}
 use Rattle.model.proofs.Represents.{stateWord, RowIs, RecordIs, TailOf, RowsAre, TailsAre, OpensAre, Unchanged, NotesAre, Represents, Known, Whole}
 use Rattle.model.proofs.Views.{renew-whole, put-whole, changed-start, header-put, header-same}
 use Rattle.model.proofs.Steady.{currents-stay, waits-stay, scan-stays}
 
 -- ---- the open places are a book
-abbrev self : ℕ → ℕ
-self k = k
-
-abbrev numbered : ℕ → State → ℕ
-numbered i s = i
-
-unknown-idle : isActive unknown ≡ false
+pub unknown-idle : isActive unknown ≡ false
 unfolding isActive
 unknown-idle = refl
 
+abbrev pub openKind : Kind ℕ State
+openKind =
+    record { number = λ k. k; live = isActive; as′ = λ i s. i; as-number = λ i s. refl; free = 0; free-number = refl; none = unknown; none-live = unknown-idle; tells = λ p q f. f (λ k. k) }
+
 pub opens-is : (ts : List State) (l : List ℕ) → OpensAre ts l → (t : ℕ) → any (bears t) l ≡ isActive (nth ts t unknown)
-opens-is ts l o = book-is self isActive numbered (λ i s. refl) 0 refl unknown unknown-idle (λ p q f. f self) ts l o
+opens-is ts l o = book-is openKind ts l o
 
 -- what stands in the place of an active transaction
 pub open-there : (ts : List State) (l : List ℕ) → OpensAre ts l → (t : ℕ) → nth ts t unknown ≡ active → (place (bears t) l < length l) × (getD l (place (bears t) l) 0 ≡ t)
@@ -79,24 +77,24 @@ other-place ts l o t a j b n f e =
     found = rw (e ∙ sym (here .1)) at bearing
 
     twice : (i k : ℕ) → i < k → k < length l → T (bears t (getD l i 0)) → T (bears t (getD l k 0)) → ⊥
-    twice i k = book-only self isActive numbered (λ i s. refl) 0 refl unknown unknown-idle (λ p q f. f self) ts l o t i k
+    twice i k = book-only openKind ts l o t i k
 
 -- all places are taken
 pub opens-full : (ts : List State) (l : List ℕ) → length l ≡ mostTransactions → OpensAre ts l → not (any (λ k. eqb k 0) l) ≡ leb mostTransactions (count isActive ts)
 opens-full ts l n o =
-    let e : count (λ k. eqb k 0) l + count isActive ts ≡ length l = book-room self isActive numbered (λ i s. refl) 0 refl unknown unknown-idle (λ p q f. f self) ts l o in
+    let e : count (λ k. eqb k 0) l + count isActive ts ≡ length l = book-room openKind ts l o in
     ap not (any-count (λ k. eqb k 0) l)
     ∙ same-truth _ _ (λ t. le→leb mostTransactions (count isActive ts) (omega (arith, nltb→le 0 (count (λ k. eqb k 0) l) t)))
     (λ t. not-T (ltb 0 (count (λ k. eqb k 0) l)) (λ u. omega (arith, ltb→lt 0 (count (λ k. eqb k 0) l) u, leb→le mostTransactions (count isActive ts) t)))
 
 opens-begin : (ts : List State) (l : List ℕ) → OpensAre ts l → T (any (λ k. eqb k 0) l) → OpensAre (ts ++ active ∷ []) (set l (place (λ k. eqb k 0) l) (suc (length ts)))
 unfolding isActive
-opens-begin ts l o a = book-add self isActive numbered (λ i s. refl) 0 refl unknown unknown-idle (λ p q f. f self) ts l o active tt a
+opens-begin ts l o a = book-add openKind ts l o active tt a
 
 opens-close : (ts : List State) (l : List ℕ) (t : ℕ) (x : State) → OpensAre ts l → nth ts t unknown ≡ active → isActive x ≡ false
     → OpensAre (change ts t x) (set l (place (bears t) l) 0)
 unfolding isActive
-opens-close ts l t x o p n = book-drop self isActive numbered (λ i s. refl) 0 refl unknown unknown-idle (λ p q f. f self) ts l o t (rw p tt) x n
+opens-close ts l t x o p n = book-drop openKind ts l o t (rw p tt) x n
 
 -- ---- rows and records under new states
 row-states : {st st′ : ℕ → State} {w : Row} {recs : List Record} {r : ℕ} {x : RowWords} → st′ (w .inserter) ≡ st (w .inserter) → RowIs st w recs r x → RowIs st′ w recs r x

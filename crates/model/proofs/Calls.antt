@@ -29,6 +29,7 @@ use Rattle.terms.specs.declared.Place.{Place}
 use Rattle.terms.specs.Places.{bears, place}
 use Rattle.model.specs.Stored.{cellIn, currentIn, usedIn, headerIn, within, rowsGiven, lastStamp, openPlace, scanPlace, pagesOf}
 use Rattle.model.specs.Reading.{readIn, readCurrent, ownChanges, wordIn, scanPage, Tally, tally, sumIn}
+use Rattle.model.specs.Writing.{freeIn}
 use Rattle.model.specs.Calls.{testsIn, replyIn, actIn, placesAfter, viewIf, placesIf, say, viewNext, placesNext, notOpenIn, noScanIn, notGivenIn, lacksIn, notLaterIn, laterIn, outOfReachIn, Typed}
 use Rattle.model.proofs.Represents.{everyRow, CurrentOf, Unchanged, scanAs, Represents, Known}
 use Rattle.model.proofs.Transactions.{opens-is, opens-full, open-there, active-some, begin-kept, commit-kept, abort-kept}
@@ -128,7 +129,7 @@ module _ (S : Shape) (v : View) (ps : List Place) (h : History) (o : Represents 
   unfolding outOfReachIn outOfReach
   reach-is g c n a b = ap₂ (λ (x y : ℕ). leb n x || ltb y n) (o .currents g c a b .lineage) (o .tails g a .used-all)
 
-  no-page-is : leb (pagesOf S) (Rattle.model.specs.Writing.freeIn S v) ≡ noPage S h
+  no-page-is : leb (pagesOf S) (freeIn S v) ≡ noPage S h
   unfolding noPage
   no-page-is = free-is S v (h .merges) (o .pool)
 

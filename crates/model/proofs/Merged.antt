@@ -14,7 +14,7 @@ use lib.IntN.{ℤ}
 use mir.Syntax.{w32}
 use mir.Val.{toZ}
 use Rattle.terms.specs.Measures.{Shape, rangeRows}
-use Rattle.history.specs.History.{merge, History, Record, State, committed, Merge, Scan, any, isActive, isCommitted, stateOf, rowAt, rangeOf, recordsOf, mergedThrough, anyActive, waitingPages, scanAt, inserted, lastSetting, withMerges, cellThrough}
+use Rattle.history.specs.History.{merge, History, Record, State, committed, Merge, Scan, any, isActive, isCommitted, stateOf, rowAt, rangeOf, recordsOf, mergedThrough, anyActive, waitingPages, scanAt, inserted, lastSetting, withMerges, cellThrough, aborted}
 use Rattle.history.proofs.Lists.{by-cases, all-map, any-none, is-true, eqb-other, eqb-equal}
 use Rattle.history.proofs.Steps.{Mergeable, Step}
 use Rattle.history.proofs.States.{isClosed}
@@ -99,7 +99,7 @@ open-among-is S v ps h o g c n a b above used =
     ∙ ap (λ (j : ℕ). any (λ (y : Record). isActive (stateOf h (y .transaction))) (take j (recordsOf h g))) e
   where
     shut : (s : State) → T (isClosed s) → T (not (isActive s))
-    shut Rattle.history.specs.History.aborted q = unfold isActive in tt
+    shut aborted q = unfold isActive in tt
     shut (committed s) q = unfold isActive in tt
 
 -- the merges' counter is far from going round

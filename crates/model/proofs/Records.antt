@@ -13,6 +13,7 @@ use lib.ListN.{length, getD, set, length-append}
 use lib.Seq.{getD-append-seam, getD-append-add}
 use Rattle.terms.specs.Measures.{Shape}
 use Rattle.history.specs.History.{delete, History, Record, State, active, Content, ending, stateOf, rowAt, bit, sets, rangeOf, recordsOf, scanAt, deleteRecords, withTail}
+use Rattle.history.specs.Latest.{stampOf}
 use Rattle.history.specs.Lists.{All, nil}
 use Rattle.history.proofs.Lists.{by-cases, eqb-same, all-map, all-at, all-append, any-append, eqb-other}
 use Rattle.history.proofs.Steps.{Step, New, wasSet}
@@ -142,7 +143,7 @@ module _ (S : Shape) (u : View) (whole : Whole S u) (st : ℕ → State) (list l
   there j f = appended-there S t r kind mask u whole inside room′ j (λ e. f (e ∙ end-is))
 
   open-record : (value : ℕ → ℕ) → ContentIs (S .columns) content kind mask value → RecordIs (S .columns) st record { transaction = t; row = r; content = content } (recordIn (appended S t r kind mask u) end) value
-  open-record value c = rw here record { transaction = refl; row = refl; state = sym (ap stateWord a); stamp = sym (ap Rattle.history.specs.Latest.stampOf a); content = c }
+  open-record value c = rw here record { transaction = refl; row = refl; state = sym (ap stateWord a); stamp = sym (ap stampOf a); content = c }
 
   new-link : (recordIn (appended S t r kind mask u) end) .link ≡ lastOf (list g₀) r n
   new-link = ap (λ (x : RecordWords). x .link) here ∙ link

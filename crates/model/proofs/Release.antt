@@ -6,7 +6,7 @@ use mathlib.Core.List.{List, [], _∷_}
 use Prim.Native.Nat.{ℕ, zero, suc, _^_, _≤_, _<_}
 use native.Mathlib.Omega.{arith}
 use native.Mathlib.Nat.{le-refl}
-use lib.Dec.{T, leb, ltb, eqb, eqb→eq, leb→le, le→leb, ltb→lt, lt→ltb}
+use lib.Dec.{T, leb, ltb, eqb, eqb→eq, leb→le, le→leb, ltb→lt, lt→ltb, T-not}
 use lib.ListN.{length}
 use Rattle.terms.specs.Measures.{Shape}
 use Rattle.history.specs.History.{release, History, Scan, Merge, any, nth, stateOf, rowAt, recordsOf, mergedThrough, scanAt, neededBy, afterRelease, releasedCount, withMerges}
@@ -104,7 +104,7 @@ module _ (S : Shape) (v : View) (ps : List Place) (h : History) (o : Represents 
   unfolding releasable
   found-kept i pl q t x =
       refuted (releasable ps v q)
-      (λ r. lib.Dec.T-not (neededIn ps ((pageIn v q) .replaced)) (parts (waitingPage ((pageIn v q) .state)) _ r .1) (needed i ((pageIn v q) .replaced) t (x .after)))
+      (λ r. T-not (neededIn ps ((pageIn v q) .replaced)) (parts (waitingPage ((pageIn v q) .state)) _ r .1) (needed i ((pageIn v q) .replaced) t (x .after)))
 
   -- a page that is freed passes no search
   freed-unfound : (m pl q : ℕ) → q < pagesOf S → releasable ps v q ≡ true → wasCurrent S v′ m pl q ≡ false

@@ -11,7 +11,7 @@ use lib.IntN.{pos}
 use mir.Syntax.{w32}
 use mir.Val.{toZ}
 use Rattle.terms.specs.Measures.{Shape, mostColumns, mostRanges, mostRecords, mostSpares, mostTransactions, mostScans}
-use Rattle.history.specs.History.{History, Row, Record, State, unknown, active, aborted, committed, Content, original, setting, ending, Scan, Merge, isActive, stateOf, rowAt, bit, sets, rangeOf, recordsOf, mergedThrough, scanAt, seenAt, cellThrough}
+use Rattle.history.specs.History.{History, Row, Record, State, unknown, active, aborted, committed, Content, original, setting, ending, Scan, Merge, isActive, stateOf, rowAt, bit, sets, rangeOf, recordsOf, mergedThrough, scanAt, seenAt, cellThrough, count}
 use Rattle.history.specs.Lists.{All}
 use Rattle.history.proofs.Lists.{among}
 use Rattle.history.proofs.Steps.{wasSet}
@@ -135,7 +135,7 @@ pub record PoolIs (S : Shape) (merges : List Merge) (page : ℕ → PageWords) :
 
 -- ---- open transactions and open scans: equal counts for every test
 abbrev pub OpensAre : List State → List ℕ → Type 0
-OpensAre ts l = (q : ℕ → Bool) → Rattle.history.specs.History.count (λ k. not (eqb k 0) && q k) l ≡ countFrom (λ i s. isActive s && q i) 1 ts
+OpensAre ts l = (q : ℕ → Bool) → count (λ k. not (eqb k 0) && q k) l ≡ countFrom (λ i s. isActive s && q i) 1 ts
 
 abbrev pub scanAs : ℕ → Scan → Place
 scanAs i s = record { number = i; stamp = s .stamp; merges = s .before }
@@ -143,7 +143,7 @@ scanAs i s = record { number = i; stamp = s .stamp; merges = s .before }
 pub record ScansAre (ss : List Scan) (l : List Place) : Type 0 where
   pub room : mostScans ≤ length l
   pub same : (q : Place → Bool)
-      → Rattle.history.specs.History.count (λ p. not (eqb (p .number) 0) && q p) l ≡ countFrom (λ i s. s .running && q (scanAs i s)) 1 ss
+      → count (λ p. not (eqb (p .number) 0) && q p) l ≡ countFrom (λ i s. s .running && q (scanAs i s)) 1 ss
 
 -- transaction t has made no row and no record
 pub record Unchanged (rows : List Row) (tail : List Record) (t : ℕ) : Type 0 where

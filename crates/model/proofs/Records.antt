@@ -3,24 +3,24 @@
 use mathlib.Core.Path.{_≡_, refl, sym, _∙_, ap, subst}
 use mathlib.Core.Logic.{_≢_}
 use mathlib.Core.Bool.{Bool, true, false, cond, _&&_, _||_, or-false}
-use mathlib.Core.List.{List, [], _∷_, _++_, append-nil}
+use mathlib.Core.List.{List, [], _∷_, _++_, append-nil, append-assoc}
 use Prim.Native.Nat.{ℕ, zero, suc, _+_, _*_, _^_, _≤_, _<_}
 use native.Mathlib.Omega.{arith}
 use native.Mathlib.Nat.{le-refl}
 use native.Mathlib.Decide.{ℕ-discrete}
-use lib.Dec.{eqb}
+use lib.Dec.{eqb, T, eqb→eq}
 use lib.ListN.{length, getD, set, length-append}
 use lib.Seq.{getD-append-seam, getD-append-add}
 use Rattle.terms.specs.Measures.{Shape}
 use Rattle.history.specs.History.{delete, History, Record, State, active, Content, ending, stateOf, rowAt, bit, sets, rangeOf, recordsOf, scanAt, deleteRecords, withTail}
 use Rattle.history.specs.Latest.{stampOf}
 use Rattle.history.specs.Lists.{All, nil}
-use Rattle.history.proofs.Lists.{by-cases, eqb-same, all-map, all-at, all-append, any-append, eqb-other}
+use Rattle.history.proofs.Lists.{by-cases, eqb-same, all-map, all-at, all-append, any-append, eqb-other, by-test}
 use Rattle.history.proofs.Steps.{Step, New, wasSet}
 use Rattle.history.proofs.Ranges.{records-made}
 use Rattle.history.proofs.Links.{noRecord, lastOf, last-of-append}
 use Rattle.layout.specs.View.{View, renew, put}
-use Rattle.layout.specs.declared.Region.the-variants.{Opens, Changes}
+use Rattle.layout.specs.declared.Region.the-variants.{Opens, Changes, RowLink}
 use Rattle.terms.specs.declared.Place.{Place}
 use Rattle.terms.specs.Places.{bears, place}
 use Rattle.model.specs.Stored.{RowWords, RecordWords, rowIn, recordIn, valueIn, pageIn, cellIn, currentIn, usedIn, openPlace, nextWord, asOpen, asDelete}
@@ -32,7 +32,7 @@ use Rattle.model.proofs.Views.{put-whole}
 use Rattle.model.proofs.Notes.{notes-more, few-changes, active-given}
 use Rattle.model.proofs.Insert.{never-set}
 use Rattle.model.proofs.Heads.{in-range}
-use Rattle.model.proofs.Append.{tails-more, appended-here, appended-there, used-here, used-there, link-here, link-there, appended-whole, slot-next, slot-in, filled-here, filled-there, content-values}
+use Rattle.model.proofs.Append.{tails-more, appended-here, appended-there, used-here, used-there, link-here, link-there, appended-whole, slot-next, slot-in, filled-here, filled-there, content-values, filled-whole}
 
 -- ---- the last record of a row
 -- records of other rows at the end do not matter
@@ -190,6 +190,85 @@ row-fits k r b = omega (arith, k .past .limits .rows, k .small .ranges)
 pub number-fits : {S : Shape} {h : History} → Known S h → (t : ℕ) → stateOf h t ≡ active → t < 2 ^ 31
 unfolding stateOf
 number-fits {h = h} k t a = omega (arith, active-given (h .transactions) t a, k .past .limits .transactions)
+
+-- ---- the records that a call makes on row r, one after another
+-- Memory u has the records ms of row r besides those of v: the tails hold them, the row's link leads to the last, and nothing else of the rows differs.
+pub record Extended (S : Shape) (h : History) (v : View) (r : ℕ) (ms : List Record) (u : View) : Type 0 where
+  pub whole : Whole S u
+  pub tails : TailsFor S (stateOf h) (λ g. recordsOf h g ++ cond (eqb (rangeOf r) g) ms []) u
+  pub link : getD (u RowLink) r 0 ≡ lastOf (recordsOf h (rangeOf r) ++ ms) r (length (recordsOf h (rangeOf r) ++ ms))
+  pub others : (i : ℕ) → i ≢ r → getD (u RowLink) i 0 ≡ getD (v RowLink) i 0
+  pub rows : (i : ℕ) → rowIn u i ≡ relinked (rowIn v i) (getD (u RowLink) i 0) ((rowIn v i) .mask)
+
+pub none-made : (S : Shape) (v : View) (ps : List Place) (h : History) → Represents S v ps h → (r : ℕ) → r < length (h .rows) → Extended S h v r [] v
+unfolding rowIn
+none-made S v ps h o r b = record {
+  whole = o .whole;
+  tails = λ g u. rw (elim (eqb (rangeOf r) g) as (λ q. recordsOf h g ++ cond q [] [] ≡ recordsOf h g) [ true ↦ append-nil (recordsOf h g) | false ↦ append-nil (recordsOf h g) ]) (o .tails g u);
+  link = rw (append-nil (recordsOf h (rangeOf r))) (o .rows r b .link);
+  others = λ i f. refl;
+  rows = λ i. refl;
+}
+
+module _ {S : Shape} {h : History} {v : View} {r : ℕ} {ms : List Record} {u : View} (E : Extended S h v r ms u) (k : Known S h) (t : ℕ) (a : stateOf h t ≡ active) (b : r < length (h .rows))
+    (content : Content) (kind mask : ℕ) (room : length (recordsOf h (rangeOf r)) + length ms < S .capacity) (kind-fits : kind < 2 ^ 32) (mask-fits : mask < 2 ^ 32) where
+  abbrev made : ℕ → List Record
+  made g = recordsOf h g ++ cond (eqb (rangeOf r) g) ms []
+
+  abbrev more : List Record
+  more = ms ++ record { transaction = t; row = r; content = content } ∷ []
+
+  in-ranges : rangeOf r < S .ranges
+  in-ranges = in-range k r b
+
+  made-length : length (made (rangeOf r)) ≡ length (recordsOf h (rangeOf r) ++ ms)
+  made-length = rw (eqb-same (rangeOf r))
+
+  made-room : length (made (rangeOf r)) < S .capacity
+  made-room = omega (arith, made-length, length-append (recordsOf h (rangeOf r)) ms)
+
+  made-few : (g : ℕ) → length (made g) ≤ S .capacity
+  made-few g = by-test (λ q. length (recordsOf h g ++ cond q ms []) ≤ S .capacity) (eqb (rangeOf r) g)
+      (λ t. rw (← (eqb→eq (rangeOf r) g t), length-append) (omega arith)) (λ _. rw (append-nil (recordsOf h g)) (k .past .limits .records g))
+
+  made-grows : (g : ℕ) → recordsOf h g ++ cond (eqb (rangeOf r) g) more [] ≡ cond (eqb (rangeOf r) g) (made g ++ record { transaction = t; row = r; content = content } ∷ []) (made g)
+  made-grows g =
+      elim (eqb (rangeOf r) g) as (λ q. recordsOf h g ++ cond q more [] ≡ cond q ((recordsOf h g ++ cond q ms []) ++ record { transaction = t; row = r; content = content } ∷ []) (recordsOf h g ++ cond q ms []))
+      [ true ↦ sym (append-assoc (recordsOf h g) ms _) | false ↦ refl ]
+
+  made-link : (rowIn u r) .link ≡ lastOf (made (rangeOf r)) r (length (made (rangeOf r)))
+  unfolding rowIn
+  made-link = E .link ∙ rw (eqb-same (rangeOf r))
+
+  room-in : usedIn u (rangeOf r) < S .capacity
+  room-in = omega (arith, E .tails (rangeOf r) in-ranges .used-all, made-room)
+
+  appended-fits : Whole S (appended S t r kind mask u)
+  appended-fits = appended-whole S t r kind mask u (E .whole) in-ranges room-in (omega (arith, number-fits k t a)) (omega (arith, row-fits k r b)) kind-fits mask-fits (small-shape k)
+
+  -- what a memory with the links of the appended one has
+  extended : (w : View) → Whole S w → TailsFor S (stateOf h) (λ g. recordsOf h g ++ cond (eqb (rangeOf r) g) more []) w → ((i : ℕ) → getD (w RowLink) i 0 ≡ getD (appended S t r kind mask u RowLink) i 0)
+      → ((i : ℕ) → rowIn w i ≡ relinked (rowIn u i) (getD (w RowLink) i 0) ((rowIn u i) .mask)) → Extended S h v r more w
+  extended w fits tails links rows = record {
+    whole = fits;
+    tails = tails;
+    link = links r ∙ link-here S t r kind mask u (E .whole) in-ranges room-in (omega (arith, k .past .limits .rows))
+        ∙ ap suc (E .tails (rangeOf r) in-ranges .used-all ∙ made-length) ∙ sym (rw (← (append-assoc (recordsOf h (rangeOf r)) ms (record { transaction = t; row = r; content = content } ∷ []))) (last-of-new (recordsOf h (rangeOf r) ++ ms) record { transaction = t; row = r; content = content }));
+    others = λ i f. links i ∙ link-there S t r kind mask u (E .whole) in-ranges room-in i f ∙ E .others i f;
+    rows = λ i. rows i ∙ ap (λ (x : RowWords). relinked x (getD (w RowLink) i 0) (x .mask)) (E .rows i);
+  }
+
+  pub extend-plain : ((value : ℕ → ℕ) → ContentIs (S .columns) content kind mask value) → Extended S h v r more (appended S t r kind mask u)
+  extend-plain c =
+      extended (appended S t r kind mask u) appended-fits
+      (plain-more S u (E .whole) (stateOf h) made _ t r a in-ranges made-few made-room (E .tails) made-link content kind mask made-grows c) (λ i. refl) (unfold rowIn appended put renew in (λ i. refl))
+
+  pub extend : (f : ℕ → ℕ) → ContentIs (S .columns) content kind mask f → ((c : ℕ) → f c < 2 ^ 32) → Extended S h v r more (filledIn S (nextSlot S u (rangeOf r)) f (appended S t r kind mask u))
+  extend f c fits =
+      extended (filledIn S (nextSlot S u (rangeOf r)) f (appended S t r kind mask u))
+      (filled-whole S (nextSlot S u (rangeOf r)) f (appended S t r kind mask u) appended-fits (rw (slot-next S t r kind mask u (E .whole) in-ranges room-in) (slot-in S t r kind mask u (E .whole) in-ranges room-in)) fits)
+      (filled-more S u (E .whole) (stateOf h) made _ t r a in-ranges made-few made-room (E .tails) made-link content kind mask made-grows f c (small-shape k) (omega (arith, number-fits k t a)) (omega (arith, row-fits k r b)) kind-fits mask-fits)
+      (unfold filledIn renew in (λ i. refl)) (unfold rowIn filledIn appended put renew in (λ i. refl))
 
 -- ---- delete
 pub delete-kept : (S : Shape) (v : View) (ps : List Place) (h : History) → Represents S v ps h → Known S h → (t r : ℕ) → stateOf h t ≡ active → r < length (h .rows)

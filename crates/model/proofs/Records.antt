@@ -8,7 +8,7 @@ use Prim.Native.Nat.{ℕ, zero, suc, _+_, _*_, _^_, _≤_, _<_}
 use native.Mathlib.Omega.{arith}
 use native.Mathlib.Nat.{le-refl}
 use native.Mathlib.Decide.{ℕ-discrete}
-use lib.Dec.{eqb, T, eqb→eq}
+use lib.Dec.{eqb, eqb→eq}
 use lib.ListN.{length, getD, set, length-append}
 use lib.Seq.{getD-append-seam, getD-append-add}
 use Rattle.terms.specs.Measures.{Shape}
@@ -55,6 +55,15 @@ last-of-new l y =
 abbrev pub relinked : RowWords → ℕ → ℕ → RowWords
 relinked x l m = record { transaction = x .transaction; state = x .state; stamp = x .stamp; link = l; mask = m }
 
+-- ---- the records that a call makes on row r, one after another
+-- Memory u has the records ms of row r besides those of v: the tails hold them, the row's link leads to the last, and nothing else of the rows differs.
+pub record Extended (S : Shape) (h : History) (v : View) (r : ℕ) (ms : List Record) (u : View) : Type 0 where
+  pub whole : Whole S u
+  pub tails : TailsFor S (stateOf h) (λ g. recordsOf h g ++ cond (eqb (rangeOf r) g) ms []) u
+  pub link : getD (u RowLink) r 0 ≡ lastOf (recordsOf h (rangeOf r) ++ ms) r (length (recordsOf h (rangeOf r) ++ ms))
+  pub others : (i : ℕ) → i ≢ r → getD (u RowLink) i 0 ≡ getD (v RowLink) i 0
+  pub rows : (i : ℕ) → rowIn u i ≡ relinked (rowIn v i) (getD (u RowLink) i 0) ((rowIn v i) .mask)
+
 set-append : (l m : List Record) (r c : ℕ) → wasSet (l ++ m) r c ≡ (wasSet l r c || wasSet m r c)
 unfolding wasSet
 set-append l m r c = any-append (λ x. eqb (x .row) r && sets c (x .content)) l m
@@ -89,21 +98,20 @@ module _ (S : Shape) (v : View) (ps : List Place) (h : History) (o : Represents 
       apart : All (λ (x : Record). x .row ≢ i) more
       apart = elim (eqb (rangeOf r) (rangeOf i)) as (λ q. All (λ (x : Record). x .row ≢ i) (cond q ms [])) [ true ↦ all-map (λ x p e. n (sym e ∙ p .row)) new | false ↦ nil ]
 
-  -- in a memory x that differs in the link and the mask of row r
-  pub made-rows : (x : View) (l m : ℕ) → ((i : ℕ) → i ≢ r → rowIn x i ≡ rowIn v i) → rowIn x r ≡ relinked (rowIn v r) l m
-      → l ≡ lastOf (recordsOf h (rangeOf r) ++ ms) r (length (recordsOf h (rangeOf r) ++ ms)) → ((c : ℕ) → bit m c ≡ (bit ((rowIn v r) .mask) c || wasSet ms r c))
-      → RowsAre h′ x
+  -- in a memory x that differs from u in the mask of row r alone
+  pub made-rows : {u : View} → Extended S h v r ms u → (x : View) (m : ℕ) → ((i : ℕ) → i ≢ r → rowIn x i ≡ rowIn u i) → rowIn x r ≡ relinked (rowIn u r) (getD (u RowLink) r 0) m
+      → ((c : ℕ) → bit m c ≡ (bit ((rowIn v r) .mask) c || wasSet ms r c)) → RowsAre h′ x
   unfolding stateOf rowAt withTail
-  made-rows x l m other own e f i u = by-cases (ℕ-discrete i r)
-      (λ q. rw (q, own, records-made h (rangeOf r) new, eqb-same (rangeOf r))
+  made-rows E x m other own f i u = by-cases (ℕ-discrete i r)
+      (λ q. rw (q, own, E .rows r, records-made h (rangeOf r) new, eqb-same (rangeOf r))
       record {
         transaction = o .rows r b .transaction;
         state = o .rows r b .state;
         stamp = o .rows r b .stamp;
-        link = e;
+        link = E .link;
         mask = λ c. f c ∙ rw (o .rows r b .mask c) (sym (set-append (recordsOf h (rangeOf r)) ms r c));
       })
-      (λ n. rw (other i n) (row-other i (rowIn v i) n (o .rows i u)))
+      (λ n. rw (other i n, E .rows i, E .others i n) (row-other i _ n (unfold rowIn in (o .rows i u))))
 
   pub made-notes : 0 < length ms → NotesAre (h .rows) (h .tail ++ ms) (v Opens) (set (v Changes) (place (bears t) (v Opens)) (nextWord (getD (v Changes) (place (bears t) (v Opens)) 0)))
   unfolding stateOf
@@ -191,15 +199,6 @@ pub number-fits : {S : Shape} {h : History} → Known S h → (t : ℕ) → stat
 unfolding stateOf
 number-fits {h = h} k t a = omega (arith, active-given (h .transactions) t a, k .past .limits .transactions)
 
--- ---- the records that a call makes on row r, one after another
--- Memory u has the records ms of row r besides those of v: the tails hold them, the row's link leads to the last, and nothing else of the rows differs.
-pub record Extended (S : Shape) (h : History) (v : View) (r : ℕ) (ms : List Record) (u : View) : Type 0 where
-  pub whole : Whole S u
-  pub tails : TailsFor S (stateOf h) (λ g. recordsOf h g ++ cond (eqb (rangeOf r) g) ms []) u
-  pub link : getD (u RowLink) r 0 ≡ lastOf (recordsOf h (rangeOf r) ++ ms) r (length (recordsOf h (rangeOf r) ++ ms))
-  pub others : (i : ℕ) → i ≢ r → getD (u RowLink) i 0 ≡ getD (v RowLink) i 0
-  pub rows : (i : ℕ) → rowIn u i ≡ relinked (rowIn v i) (getD (u RowLink) i 0) ((rowIn v i) .mask)
-
 pub none-made : (S : Shape) (v : View) (ps : List Place) (h : History) → Represents S v ps h → (r : ℕ) → r < length (h .rows) → Extended S h v r [] v
 unfolding rowIn
 none-made S v ps h o r b = record {
@@ -280,35 +279,19 @@ delete-kept S v ps h o k t r a b room step new =
       header = o .header;
       opens = o .opens;
       notes = made-notes S v ps h o k t r a b (y ∷ []) new (omega arith);
-      rows = rows;
-      tails = tails-are S v ps h o k t r a b (y ∷ []) new w tails;
+      rows = made-rows S v ps h o k t r a b (y ∷ []) new made (noted t (appended S t r asDelete 0 v)) ((rowIn v r) .mask) (λ i f. unfold rowIn in refl) (unfold rowIn in refl)
+          (λ c. unfold wasSet sets in (sym (rw (eqb-same r) (or-false _))));
+      tails = tails-are S v ps h o k t r a b (y ∷ []) new (appended S t r asDelete 0 v) (made .tails);
       currents = currents-stay o k step refl refl;
       waits = waits-stay o k step refl;
       pool = o .pool;
       scans = o .scans;
       scanPages = λ i. scan-stays o k step refl i refl;
-      whole = put-whole Changes _ _ (omega arith) (appended-whole S t r asDelete 0 v (o .whole) inside room′ (omega (arith, number-fits k t a)) (omega (arith, row-fits k r b)) (omega arith) (omega arith) (small-shape k));
+      whole = put-whole Changes _ _ (omega arith) (made .whole);
     }
   where
     y : Record
     y = record { transaction = t; row = r; content = ending }
 
-    w : View
-    w = appended S t r asDelete 0 v
-
-    inside : rangeOf r < S .ranges
-    inside = in-range k r b
-
-    room′ : usedIn v (rangeOf r) < S .capacity
-    room′ = omega (arith, o .tails (rangeOf r) inside .used-all)
-
-    tails : TailsFor S (stateOf h) (λ g. recordsOf h g ++ cond (eqb (rangeOf r) g) (y ∷ []) []) (appended S t r asDelete 0 v)
-    tails = plain-more S v (o .whole) (stateOf h) (recordsOf h) _ t r a inside (λ g. k .past .limits .records g) (omega arith) (o .tails) (o .rows r b .link) ending asDelete 0
-        (λ g. grow-one (recordsOf h g) y (eqb (rangeOf r) g)) (λ value. refl)
-
-    rows : RowsAre (withTail h (h .tail ++ y ∷ [])) (noted t w)
-    rows = made-rows S v ps h o k t r a b (y ∷ []) new (noted t w) (suc (usedIn v (rangeOf r))) ((rowIn v r) .mask)
-        (λ i f. unfold rowIn in (rw (link-there S t r asDelete 0 v (o .whole) inside room′ i f)))
-        (unfold rowIn in (rw (link-here S t r asDelete 0 v (o .whole) inside room′ (omega (arith, k .past .limits .rows)))))
-        (ap suc (o .tails (rangeOf r) inside .used-all) ∙ sym (last-of-new (recordsOf h (rangeOf r)) y))
-        (λ c. unfold wasSet sets in (sym (rw (eqb-same r) (or-false _))))
+    made : Extended S h v r (y ∷ []) (appended S t r asDelete 0 v)
+    made = extend-plain (none-made S v ps h o r b) k t a b ending asDelete 0 (omega arith) (omega arith) (omega arith) (λ value. refl)

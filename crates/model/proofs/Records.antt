@@ -2,7 +2,7 @@
 -- mask has their columns.
 use mathlib.Core.Path.{_≡_, refl, sym, _∙_, ap, subst}
 use mathlib.Core.Logic.{_≢_}
-use mathlib.Core.Bool.{Bool, true, false, cond, _&&_, _||_, or-false}
+use mathlib.Core.Bool.{true, false, cond, _&&_, _||_, or-false}
 use mathlib.Core.List.{List, [], _∷_, _++_, append-nil, append-assoc}
 use Prim.Native.Nat.{ℕ, zero, suc, _+_, _*_, _^_, _≤_, _<_}
 use native.Mathlib.Omega.{arith}
@@ -12,7 +12,7 @@ use lib.Dec.{eqb, eqb→eq}
 use lib.ListN.{length, getD, set, length-append}
 use lib.Seq.{getD-append-seam, getD-append-add}
 use Rattle.terms.specs.Measures.{Shape}
-use Rattle.history.specs.History.{delete, History, Record, State, active, Content, ending, stateOf, rowAt, bit, sets, rangeOf, recordsOf, scanAt, deleteRecords, withTail}
+use Rattle.history.specs.History.{delete, History, Record, active, Content, ending, stateOf, rowAt, bit, sets, rangeOf, recordsOf, scanAt, deleteRecords, withTail}
 use Rattle.history.specs.Latest.{stampOf}
 use Rattle.history.specs.Lists.{All, nil}
 use Rattle.history.proofs.Lists.{by-cases, eqb-same, all-map, all-at, all-append, any-append, eqb-other, by-test}
@@ -121,74 +121,6 @@ module _ (S : Shape) (v : View) (ps : List Place) (h : History) (o : Represents 
       (λ u f n. record { no-row = n .no-row; no-record = all-append (n .no-record) (all-map (λ x p e. f (sym e ∙ p .transaction)) new) })
       (o .opens) a (o .notes)
 
--- ---- one record more, in the words and in the list
-module _ (S : Shape) (u : View) (whole : Whole S u) (st : ℕ → State) (list list′ : ℕ → List Record) (t r : ℕ) (a : st t ≡ active) (inside : rangeOf r < S .ranges)
-    (few : (g : ℕ) → length (list g) ≤ S .capacity) (room : length (list (rangeOf r)) < S .capacity) (tails : TailsFor S st list u)
-    (link : (rowIn u r) .link ≡ lastOf (list (rangeOf r)) r (length (list (rangeOf r)))) (content : Content) (kind mask : ℕ)
-    (grows : (g : ℕ) → list′ g ≡ cond (eqb (rangeOf r) g) (list g ++ record { transaction = t; row = r; content = content } ∷ []) (list g)) where
-  abbrev g₀ : ℕ
-  g₀ = rangeOf r
-
-  abbrev n : ℕ
-  n = length (list (rangeOf r))
-
-  used-is : usedIn u g₀ ≡ n
-  used-is = tails g₀ inside .used-all
-
-  room′ : usedIn u g₀ < S .capacity
-  room′ = omega (arith, used-is)
-
-  abbrev end : ℕ
-  end = rangeOf r * S .capacity + length (list (rangeOf r))
-
-  end-is : g₀ * S .capacity + usedIn u g₀ ≡ end
-  end-is = ap (λ (i : ℕ). g₀ * S .capacity + i) used-is
-
-  here : recordIn (appended S t r kind mask u) end ≡ record { transaction = t; row = r; kind = kind; mask = mask; link = (rowIn u r) .link; state = asOpen; stamp = 0 }
-  here = rw end-is at (appended-here S t r kind mask u whole inside room′)
-
-  there : (j : ℕ) → j ≢ end → recordIn (appended S t r kind mask u) j ≡ recordIn u j
-  there j f = appended-there S t r kind mask u whole inside room′ j (λ e. f (e ∙ end-is))
-
-  open-record : (value : ℕ → ℕ) → ContentIs (S .columns) content kind mask value → RecordIs (S .columns) st record { transaction = t; row = r; content = content } (recordIn (appended S t r kind mask u) end) value
-  open-record value c = rw here record { transaction = refl; row = refl; state = sym (ap stateWord a); stamp = sym (ap stampOf a); content = c }
-
-  new-link : (recordIn (appended S t r kind mask u) end) .link ≡ lastOf (list g₀) r n
-  new-link = ap (λ (x : RecordWords). x .link) here ∙ link
-
-  -- without values
-  pub plain-more : ((value : ℕ → ℕ) → ContentIs (S .columns) content kind mask value) → TailsFor S st list′ (appended S t r kind mask u)
-  plain-more c =
-      tails-more S u (appended S t r kind mask u) st list list′ g₀ record { transaction = t; row = r; content = content } inside few room grows
-      (used-here S t r kind mask u whole inside room′) (λ g f. used-there S t r kind mask u whole inside room′ g f) there (λ j c f d. unfold valueIn appended put renew in refl) (open-record _ (c _)) new-link tails
-
-  -- with a word for each column
-  pub filled-more : (f : ℕ → ℕ) → ContentIs (S .columns) content kind mask f → S .capacity < 2 ^ 31 → t < 2 ^ 32 → r < 2 ^ 32 → kind < 2 ^ 32 → mask < 2 ^ 32
-      → TailsFor S st list′ (filledIn S (nextSlot S u (rangeOf r)) f (appended S t r kind mask u))
-  unfolding filledIn renew recordIn
-  filled-more f c e1 e2 e3 e4 e5 =
-      tails-more S u w st list list′ g₀ record { transaction = t; row = r; content = content } inside few room grows
-      (used-here S t r kind mask u whole inside room′) (λ g f. used-there S t r kind mask u whole inside room′ g f) there
-      (λ j c n d. filled-there S (nextSlot S u (rangeOf r)) f (appended S t r kind mask u) whole′ slot-inside j c (λ z. n (z ∙ slot-is′)) d ∙ (unfold valueIn appended put renew in refl))
-      (open-record _ (content-values (S .columns) content kind mask f _ (λ c d. subst (λ (j : ℕ). valueIn S w j c ≡ f c) slot-is′ (filled-here S (nextSlot S u (rangeOf r)) f (appended S t r kind mask u) whole′ slot-inside c d)) c))
-      new-link tails
-    where
-      w : View
-      w = filledIn S (nextSlot S u (rangeOf r)) f (appended S t r kind mask u)
-
-      slot-is′ : nextSlot S u (rangeOf r) ≡ end
-      slot-is′ = slot-next S t r kind mask u whole inside room′ ∙ end-is
-
-      slot-inside : nextSlot S u (rangeOf r) < S .ranges * S .capacity
-      slot-inside = rw (slot-next S t r kind mask u whole inside room′) (slot-in S t r kind mask u whole inside room′)
-
-      whole′ : Whole S (appended S t r kind mask u)
-      whole′ = appended-whole S t r kind mask u whole inside room′ e2 e3 e4 e5 e1
-
-pub grow-one : (l : List Record) (y : Record) (q : Bool) → l ++ cond q (y ∷ []) [] ≡ cond q (l ++ y ∷ []) l
-grow-one l y true = refl
-grow-one l y false = append-nil l
-
 pub small-shape : {S : Shape} {h : History} → Known S h → S .capacity < 2 ^ 31
 small-shape k = omega (arith, k .small .capacity)
 
@@ -211,14 +143,17 @@ none-made S v ps h o r b = record {
 
 module _ {S : Shape} {h : History} {v : View} {r : ℕ} {ms : List Record} {u : View} (E : Extended S h v r ms u) (k : Known S h) (t : ℕ) (a : stateOf h t ≡ active) (b : r < length (h .rows))
     (content : Content) (kind mask : ℕ) (room : length (recordsOf h (rangeOf r)) + length ms < S .capacity) (kind-fits : kind < 2 ^ 32) (mask-fits : mask < 2 ^ 32) where
+  abbrev y : Record
+  y = record { transaction = t; row = r; content = content }
+
   abbrev made : ℕ → List Record
   made g = recordsOf h g ++ cond (eqb (rangeOf r) g) ms []
 
-  abbrev more : List Record
-  more = ms ++ record { transaction = t; row = r; content = content } ∷ []
+  abbrev more : ℕ → List Record
+  more g = recordsOf h g ++ cond (eqb (rangeOf r) g) (ms ++ record { transaction = t; row = r; content = content } ∷ []) []
 
-  in-ranges : rangeOf r < S .ranges
-  in-ranges = in-range k r b
+  inside : rangeOf r < S .ranges
+  inside = in-range k r b
 
   made-length : length (made (rangeOf r)) ≡ length (recordsOf h (rangeOf r) ++ ms)
   made-length = rw (eqb-same (rangeOf r))
@@ -230,44 +165,85 @@ module _ {S : Shape} {h : History} {v : View} {r : ℕ} {ms : List Record} {u : 
   made-few g = by-test (λ q. length (recordsOf h g ++ cond q ms []) ≤ S .capacity) (eqb (rangeOf r) g)
       (λ t. rw (← (eqb→eq (rangeOf r) g t), length-append) (omega arith)) (λ _. rw (append-nil (recordsOf h g)) (k .past .limits .records g))
 
-  made-grows : (g : ℕ) → recordsOf h g ++ cond (eqb (rangeOf r) g) more [] ≡ cond (eqb (rangeOf r) g) (made g ++ record { transaction = t; row = r; content = content } ∷ []) (made g)
+  made-grows : (g : ℕ) → more g ≡ cond (eqb (rangeOf r) g) (made g ++ y ∷ []) (made g)
   made-grows g =
-      elim (eqb (rangeOf r) g) as (λ q. recordsOf h g ++ cond q more [] ≡ cond q ((recordsOf h g ++ cond q ms []) ++ record { transaction = t; row = r; content = content } ∷ []) (recordsOf h g ++ cond q ms []))
-      [ true ↦ sym (append-assoc (recordsOf h g) ms _) | false ↦ refl ]
+      elim (eqb (rangeOf r) g) as (λ q. recordsOf h g ++ cond q (ms ++ y ∷ []) [] ≡ cond q ((recordsOf h g ++ cond q ms []) ++ y ∷ []) (recordsOf h g ++ cond q ms []))
+      [ true ↦ sym (append-assoc (recordsOf h g) ms (y ∷ [])) | false ↦ refl ]
 
-  made-link : (rowIn u r) .link ≡ lastOf (made (rangeOf r)) r (length (made (rangeOf r)))
-  unfolding rowIn
-  made-link = E .link ∙ rw (eqb-same (rangeOf r))
+  used-is : usedIn u (rangeOf r) ≡ length (made (rangeOf r))
+  used-is = E .tails (rangeOf r) inside .used-all
 
   room-in : usedIn u (rangeOf r) < S .capacity
-  room-in = omega (arith, E .tails (rangeOf r) in-ranges .used-all, made-room)
+  room-in = omega (arith, used-is, made-room)
 
   appended-fits : Whole S (appended S t r kind mask u)
-  appended-fits = appended-whole S t r kind mask u (E .whole) in-ranges room-in (omega (arith, number-fits k t a)) (omega (arith, row-fits k r b)) kind-fits mask-fits (small-shape k)
+  appended-fits = appended-whole S t r kind mask u (E .whole) inside room-in (omega (arith, number-fits k t a)) (omega (arith, row-fits k r b)) kind-fits mask-fits (small-shape k)
+
+  -- the record's words
+  abbrev end : ℕ
+  end = rangeOf r * S .capacity + length (made (rangeOf r))
+
+  end-is : rangeOf r * S .capacity + usedIn u (rangeOf r) ≡ end
+  end-is = ap (λ (i : ℕ). rangeOf r * S .capacity + i) used-is
+
+  here : recordIn (appended S t r kind mask u) end ≡ record { transaction = t; row = r; kind = kind; mask = mask; link = (rowIn u r) .link; state = asOpen; stamp = 0 }
+  here = rw end-is at (appended-here S t r kind mask u (E .whole) inside room-in)
+
+  there : (j : ℕ) → j ≢ end → recordIn (appended S t r kind mask u) j ≡ recordIn u j
+  there j f = appended-there S t r kind mask u (E .whole) inside room-in j (λ e. f (e ∙ end-is))
+
+  open-record : (value : ℕ → ℕ) → ContentIs (S .columns) content kind mask value → RecordIs (S .columns) (stateOf h) y (recordIn (appended S t r kind mask u) end) value
+  open-record value c = rw here record { transaction = refl; row = refl; state = sym (ap stateWord a); stamp = sym (ap stampOf a); content = c }
+
+  new-link : (recordIn (appended S t r kind mask u) end) .link ≡ lastOf (made (rangeOf r)) r (length (made (rangeOf r)))
+  unfolding rowIn
+  new-link = ap (λ (x : RecordWords). x .link) here ∙ E .link ∙ rw (eqb-same (rangeOf r))
 
   -- what a memory with the links of the appended one has
-  extended : (w : View) → Whole S w → TailsFor S (stateOf h) (λ g. recordsOf h g ++ cond (eqb (rangeOf r) g) more []) w → ((i : ℕ) → getD (w RowLink) i 0 ≡ getD (appended S t r kind mask u RowLink) i 0)
-      → ((i : ℕ) → rowIn w i ≡ relinked (rowIn u i) (getD (w RowLink) i 0) ((rowIn u i) .mask)) → Extended S h v r more w
+  extended : (w : View) → Whole S w → TailsFor S (stateOf h) more w → ((i : ℕ) → getD (w RowLink) i 0 ≡ getD (appended S t r kind mask u RowLink) i 0)
+      → ((i : ℕ) → rowIn w i ≡ relinked (rowIn u i) (getD (w RowLink) i 0) ((rowIn u i) .mask)) → Extended S h v r (ms ++ y ∷ []) w
   extended w fits tails links rows = record {
     whole = fits;
     tails = tails;
-    link = links r ∙ link-here S t r kind mask u (E .whole) in-ranges room-in (omega (arith, k .past .limits .rows))
-        ∙ ap suc (E .tails (rangeOf r) in-ranges .used-all ∙ made-length) ∙ sym (rw (← (append-assoc (recordsOf h (rangeOf r)) ms (record { transaction = t; row = r; content = content } ∷ []))) (last-of-new (recordsOf h (rangeOf r) ++ ms) record { transaction = t; row = r; content = content }));
-    others = λ i f. links i ∙ link-there S t r kind mask u (E .whole) in-ranges room-in i f ∙ E .others i f;
+    link = links r ∙ link-here S t r kind mask u (E .whole) inside room-in (omega (arith, k .past .limits .rows)) ∙ ap suc (used-is ∙ made-length)
+        ∙ sym (rw (← (append-assoc (recordsOf h (rangeOf r)) ms (y ∷ []))) (last-of-new (recordsOf h (rangeOf r) ++ ms) y));
+    others = λ i f. links i ∙ link-there S t r kind mask u (E .whole) inside room-in i f ∙ E .others i f;
     rows = λ i. rows i ∙ ap (λ (x : RowWords). relinked x (getD (w RowLink) i 0) (x .mask)) (E .rows i);
   }
 
-  pub extend-plain : ((value : ℕ → ℕ) → ContentIs (S .columns) content kind mask value) → Extended S h v r more (appended S t r kind mask u)
+  -- without values
+  pub extend-plain : ((value : ℕ → ℕ) → ContentIs (S .columns) content kind mask value) → Extended S h v r (ms ++ y ∷ []) (appended S t r kind mask u)
   extend-plain c =
       extended (appended S t r kind mask u) appended-fits
-      (plain-more S u (E .whole) (stateOf h) made _ t r a in-ranges made-few made-room (E .tails) made-link content kind mask made-grows c) (λ i. refl) (unfold rowIn appended put renew in (λ i. refl))
+      (tails-more S u (appended S t r kind mask u) (stateOf h) made more (rangeOf r) y inside made-few made-room made-grows
+      (used-here S t r kind mask u (E .whole) inside room-in) (λ g f. used-there S t r kind mask u (E .whole) inside room-in g f) there (λ j c f d. unfold valueIn appended put renew in refl)
+      (open-record _ (c _)) new-link (E .tails))
+      (λ i. refl) (unfold rowIn appended put renew in (λ i. refl))
 
-  pub extend : (f : ℕ → ℕ) → ContentIs (S .columns) content kind mask f → ((c : ℕ) → f c < 2 ^ 32) → Extended S h v r more (filledIn S (nextSlot S u (rangeOf r)) f (appended S t r kind mask u))
+  -- with a word for each column
+  pub extend : (f : ℕ → ℕ) → ContentIs (S .columns) content kind mask f → ((c : ℕ) → f c < 2 ^ 32)
+      → Extended S h v r (ms ++ y ∷ []) (filledIn S (nextSlot S u (rangeOf r)) f (appended S t r kind mask u))
   extend f c fits =
-      extended (filledIn S (nextSlot S u (rangeOf r)) f (appended S t r kind mask u))
-      (filled-whole S (nextSlot S u (rangeOf r)) f (appended S t r kind mask u) appended-fits (rw (slot-next S t r kind mask u (E .whole) in-ranges room-in) (slot-in S t r kind mask u (E .whole) in-ranges room-in)) fits)
-      (filled-more S u (E .whole) (stateOf h) made _ t r a in-ranges made-few made-room (E .tails) made-link content kind mask made-grows f c (small-shape k) (omega (arith, number-fits k t a)) (omega (arith, row-fits k r b)) kind-fits mask-fits)
-      (unfold filledIn renew in (λ i. refl)) (unfold rowIn filledIn appended put renew in (λ i. refl))
+      extended w (filled-whole S (nextSlot S u (rangeOf r)) f (appended S t r kind mask u) appended-fits slot-inside fits) tails (unfold filledIn renew in (λ i. refl))
+      (unfold rowIn filledIn appended put renew in (λ i. refl))
+    where
+      w : View
+      w = filledIn S (nextSlot S u (rangeOf r)) f (appended S t r kind mask u)
+
+      slot-end : nextSlot S u (rangeOf r) ≡ end
+      slot-end = slot-next S t r kind mask u (E .whole) inside room-in ∙ end-is
+
+      slot-inside : nextSlot S u (rangeOf r) < S .ranges * S .capacity
+      slot-inside = rw (slot-next S t r kind mask u (E .whole) inside room-in) (slot-in S t r kind mask u (E .whole) inside room-in)
+
+      tails : TailsFor S (stateOf h) more w
+      tails = unfold filledIn renew recordIn in
+          (tails-more S u w (stateOf h) made more (rangeOf r) y inside made-few made-room made-grows
+          (used-here S t r kind mask u (E .whole) inside room-in) (λ g f. used-there S t r kind mask u (E .whole) inside room-in g f) there
+          (λ j c n d. filled-there S (nextSlot S u (rangeOf r)) f (appended S t r kind mask u) appended-fits slot-inside j c (λ z. n (z ∙ slot-end)) d ∙ (unfold valueIn appended put renew in refl))
+          (open-record _ (content-values (S .columns) content kind mask f _
+          (λ c d. subst (λ (j : ℕ). valueIn S w j c ≡ f c) slot-end (filled-here S (nextSlot S u (rangeOf r)) f (appended S t r kind mask u) appended-fits slot-inside c d)) c))
+          new-link (E .tails))
 
 -- ---- delete
 pub delete-kept : (S : Shape) (v : View) (ps : List Place) (h : History) → Represents S v ps h → Known S h → (t r : ℕ) → stateOf h t ≡ active → r < length (h .rows)

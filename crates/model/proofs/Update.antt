@@ -34,7 +34,7 @@ use Rattle.model.proofs.Heads.{in-range}
 use Rattle.model.proofs.Read.{unset-take}
 use Rattle.model.proofs.Masks.{bit-or, bit-new, no-bits}
 use Rattle.model.proofs.Steady.{currents-stay, waits-stay, scan-stays}
-use Rattle.model.proofs.Records.{tails-are, made-rows, made-notes, row-fits, number-fits, Extended, none-made, extend}
+use Rattle.model.proofs.Records.{tails-are, made-rows, made-notes, Extended, none-made, extend}
 
 -- ---- the columns that are set for the first time
 module _ (S : Shape) (v : View) (ps : List Place) (h : History) (o : Represents S v ps h) (k : Known S h) (r m : ℕ) (b : r < length (h .rows)) (good : T (not (badMask S m))) where
@@ -104,9 +104,6 @@ module _ (S : Shape) (v : View) (ps : List Place) (h : History) (o : Represents 
   abbrev y : Record
   y = record { transaction = t; row = r; content = setting m vs }
 
-  inside : rangeOf r < S .ranges
-  inside = in-range k r b
-
   row-in : r < S .ranges * rangeRows
   row-in = omega (arith, k .past .limits .rows)
 
@@ -118,12 +115,6 @@ module _ (S : Shape) (v : View) (ps : List Place) (h : History) (o : Represents 
 
   values-fit : (c : ℕ) → f₂ c < 2 ^ 32
   values-fit c = ofZ-fits w32 (getD vs c (pos 0)) (value-fits vs typed c) .fits
-
-  t-fits : t < 2 ^ 32
-  t-fits = omega (arith, number-fits k t a)
-
-  r-fits : r < 2 ^ 32
-  r-fits = omega (arith, row-fits k r b)
 
   union : (c : ℕ) → bit (bitOr m ((rowIn v r) .mask)) c ≡ (bit ((rowIn v r) .mask) c || (eqb r r && bit m c || false))
   union c = bit-or m ((rowIn v r) .mask) c ∙ rw (eqb-same r, or-false (bit m c)) (or-comm (bit m c) (bit ((rowIn v r) .mask) c))

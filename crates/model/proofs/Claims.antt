@@ -77,7 +77,11 @@ unfolding rangeOf
 row-of g i b = (omega arith, omega arith)
 
 page-holds : (S : Shape) (v : View) (ps : List Place) (h : History) → Represents S v ps h → Known S h → (g c : ℕ) → g < S .ranges → c < S .columns → PageHolds S v h g c
-page-holds S v ps h o k g c a b = record { taken = x .lineage; every-row = every; never-inserted = λ i u n. zero-word (cellIn v (currentIn S v g c) i) (fits i) (every i u ∙ cell-absent h c (g * rangeRows + i) (mergedThrough h g c) (k .past .order) n) }
+page-holds S v ps h o k g c a b = record {
+  taken = x .lineage;
+  every-row = every;
+  never-inserted = λ i u n. zero-word (cellIn v (currentIn S v g c) i) (fits i) (every i u ∙ cell-absent h c (g * rangeRows + i) (mergedThrough h g c) (k .past .order) n);
+}
   where
     x : CurrentOf S h v g c
     x = o .currents g c a b

@@ -1,6 +1,6 @@
 -- A running scan reads the pages that were current at its opening: no call makes it find another page, and no call writes a cell of a row that was given before.
 use mathlib.Core.Path.{_≡_, refl, _∙_}
-use mathlib.Core.Bool.{Bool, true, false, not, cond}
+use mathlib.Core.Bool.{true, false, not, cond}
 use mathlib.Core.List.{List, [], _∷_}
 use Prim.Native.Nat.{ℕ, _*_, _≤_, _<_}
 use native.Mathlib.Omega.{arith}
@@ -66,13 +66,11 @@ module _ (S : Shape) (v : View) (ps : List Place) (h : History) (o : Represents 
           }
 
   update-same : (t r n : ℕ) (vs : List ℤ) → Same (updatedIn S t r n vs v)
-  unfolding updatedIn
-  update-same t r n vs = go (eqb (newBitsIn v r n) 0)
-    where
-      go : (z : Bool) → Same (noted t (put RowMask r (bitOr n ((rowIn v r) .mask))
-          (cond z (settingAppended S t r n vs v) (settingAppended S t r n vs (originalAppended S t r n v)))))
-      go true = unfold settingAppended filledIn appended noted put renew scanPage wasCurrent currentIn pageIn cellIn in record { page = refl; cells = λ r b e. refl }
-      go false = unfold settingAppended originalAppended filledIn appended noted put renew scanPage wasCurrent currentIn pageIn cellIn in record { page = refl; cells = λ r b e. refl }
+  unfolding updatedIn settingAppended originalAppended filledIn appended noted put renew scanPage wasCurrent currentIn pageIn cellIn
+  update-same t r n vs =
+      elim (eqb (newBitsIn v r n) 0)
+      as (λ z. Same (noted t (put RowMask r (bitOr n ((rowIn v r) .mask)) (cond z (settingAppended S t r n vs v) (settingAppended S t r n vs (originalAppended S t r n v))))))
+      [ true ↦ record { page = refl; cells = λ r b e. refl } | false ↦ record { page = refl; cells = λ r b e. refl } ]
 
   merge-same : (a d n : ℕ) → Mergeable S h a d n → Same (mergedIn S a d n v)
   merge-same a d n ok =
@@ -82,17 +80,17 @@ module _ (S : Shape) (v : View) (ps : List Place) (h : History) (o : Represents 
       }
 
   act-same : (x : Call) → Typed x → Passed (tests S h x) → Same (actIn S v ps x)
-  unfolding actIn
-  act-same begin y p = unfold begun put renew scanPage wasCurrent currentIn pageIn cellIn in record { page = refl; cells = λ r b e. refl }
+  unfolding actIn begun noted deletedIn appended committedIn abortedIn freed settled put renew scanPage wasCurrent currentIn pageIn cellIn
+  act-same begin y p = record { page = refl; cells = λ r b e. refl }
   act-same (insert t vs) y p = insert-same t vs (unfold tests in (p .0)) (unfold tests in (p .1 .0)) y
   act-same (update t r n vs) y p = update-same t r n vs
-  act-same (delete t r) y p = unfold deletedIn appended noted put renew scanPage wasCurrent currentIn pageIn cellIn in record { page = refl; cells = λ r b e. refl }
-  act-same (commit t s) y p = unfold committedIn freed settled put renew scanPage wasCurrent currentIn pageIn cellIn in record { page = refl; cells = λ r b e. refl }
-  act-same (abort t) y p = unfold abortedIn freed settled put renew scanPage wasCurrent currentIn pageIn cellIn in record { page = refl; cells = λ r b e. refl }
+  act-same (delete t r) y p = record { page = refl; cells = λ r b e. refl }
+  act-same (commit t s) y p = record { page = refl; cells = λ r b e. refl }
+  act-same (abort t) y p = record { page = refl; cells = λ r b e. refl }
   act-same (latest r x) y p = unmoved S v _ _ g c
   act-same (readAt s r x) y p = unmoved S v _ _ g c
   act-same (ownRead t r x) y p = unmoved S v _ _ g c
-  act-same (openScan s) y p = unfold put renew scanPage wasCurrent currentIn pageIn cellIn in record { page = refl; cells = λ r b e. refl }
+  act-same (openScan s) y p = record { page = refl; cells = λ r b e. refl }
   act-same (scanRead j r x) y p = unmoved S v _ _ g c
   act-same (sum j x) y p = unmoved S v _ _ g c
   act-same (close j) y p = unmoved S v _ _ g c

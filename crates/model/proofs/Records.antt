@@ -56,10 +56,14 @@ abbrev pub relinked : RowWords → ℕ → ℕ → RowWords
 relinked x l m = record { transaction = x .transaction; state = x .state; stamp = x .stamp; link = l; mask = m }
 
 -- ---- the records that a call makes on row r, one after another
+-- those of range g, with ms at the end of the row's range
+abbrev withMade : History → ℕ → List Record → ℕ → List Record
+withMade h r ms g = recordsOf h g ++ cond (eqb (rangeOf r) g) ms []
+
 -- Memory u has the records ms of row r besides those of v: the tails hold them, the row's link leads to the last, and nothing else of the rows differs.
 pub record Extended (S : Shape) (h : History) (v : View) (r : ℕ) (ms : List Record) (u : View) : Type 0 where
   pub whole : Whole S u
-  pub tails : TailsFor S (stateOf h) (λ g. recordsOf h g ++ cond (eqb (rangeOf r) g) ms []) u
+  pub tails : TailsFor S (stateOf h) (withMade h r ms) u
   pub link : getD (u RowLink) r 0 ≡ lastOf (recordsOf h (rangeOf r) ++ ms) r (length (recordsOf h (rangeOf r) ++ ms))
   pub others : (i : ℕ) → i ≢ r → getD (u RowLink) i 0 ≡ getD (v RowLink) i 0
   pub rows : (i : ℕ) → rowIn u i ≡ relinked (rowIn v i) (getD (u RowLink) i 0) ((rowIn v i) .mask)
@@ -73,11 +77,7 @@ module _ (S : Shape) (v : View) (ps : List Place) (h : History) (o : Represents 
   abbrev h′ : History
   h′ = withTail h (h .tail ++ ms)
 
-  -- each range's records now
-  abbrev list : ℕ → List Record
-  list g = recordsOf h g ++ cond (eqb (rangeOf r) g) ms []
-
-  pub tails-are : (x : View) → TailsFor S (stateOf h) list x → TailsAre S h′ x
+  pub tails-are : (x : View) → TailsFor S (stateOf h) (withMade h r ms) x → TailsAre S h′ x
   unfolding stateOf withTail
   tails-are x f g u = rw (records-made h g new) (f g u)
 
@@ -147,10 +147,10 @@ module _ {S : Shape} {h : History} {v : View} {r : ℕ} {ms : List Record} {u : 
   y = record { transaction = t; row = r; content = content }
 
   abbrev made : ℕ → List Record
-  made g = recordsOf h g ++ cond (eqb (rangeOf r) g) ms []
+  made = withMade h r ms
 
   abbrev more : ℕ → List Record
-  more g = recordsOf h g ++ cond (eqb (rangeOf r) g) (ms ++ record { transaction = t; row = r; content = content } ∷ []) []
+  more = withMade h r (ms ++ record { transaction = t; row = r; content = content } ∷ [])
 
   inside : rangeOf r < S .ranges
   inside = in-range k r b

@@ -19,11 +19,11 @@ use Rattle.history.proofs.Lists.{by-cases, eqb-same, all-map, all-at, all-appen
 use Rattle.history.proofs.Steps.{Step, New, wasSet}
 use Rattle.history.proofs.Ranges.{records-made}
 use Rattle.history.proofs.Links.{noRecord, lastOf, last-of-append}
-use Rattle.layout.specs.View.{View, renew, put}
+use Rattle.layout.specs.View.{View, renew, put, usedIn}
 use Rattle.layout.specs.declared.Region.the-variants.{Opens, Changes, RowLink}
 use Rattle.terms.specs.declared.Place.{Place}
 use Rattle.terms.specs.Places.{bears, place}
-use Rattle.model.specs.Stored.{RowWords, RecordWords, rowIn, recordIn, valueIn, pageIn, cellIn, currentIn, usedIn, openPlace, nextWord, asOpen, asDelete}
+use Rattle.model.specs.Stored.{RowWords, RecordWords, rowIn, recordIn, valueIn, pageIn, cellIn, currentIn, openPlace, nextWord, asOpen, asDelete}
 use Rattle.model.specs.Reading.{scanPage, wasCurrent}
 use Rattle.model.specs.Writing.{noted, nextSlot, appended, filledIn, deletedIn}
 use Rattle.model.proofs.Represents.{stateWord, RowIs, RowsAre, ContentIs, RecordIs, TailsFor, TailsAre, NotesAre, Represents, Known, Whole}

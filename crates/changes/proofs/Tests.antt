@@ -14,12 +14,11 @@ use Rattle.words.specs.Words.{words}
 use Rattle.words.proofs.Words.{length-words}
 use Rattle.layout.specs.declared.Region.{Region}
 use Rattle.layout.specs.Regions.{need}
-use Rattle.layout.specs.View.{View, view}
+use Rattle.layout.specs.View.{View, view, rowsGiven, usedIn}
 use Rattle.layout.proofs.View.{view-long}
 use Rattle.history.specs.History.{Call, accept, verdict, any, rangeOf}
 use Rattle.history.proofs.Accepted.{passed}
 use Rattle.terms.specs.Places.{place}
-use Rattle.model.specs.Stored.{usedIn, headerIn, rowsGiven}
 use Rattle.model.specs.Writing.{recordsWanted}
 use Rattle.model.specs.Calls.{notGivenIn, lacksIn, testsIn}
 use Rattle.model.specs.Asked.{shapeIn, Proper, Counted, Linked, FreeAt}
@@ -58,12 +57,12 @@ unfolding lacksIn
 lacks-is s v r g n e = rw e
 
 -- ---- the rows of a store are all given, or not
-module _ (s : Sizes) (v : View) (n : ℕ) (p : Proper s) (e : n ≡ headerIn v rowsGiven) where
-  pub full : s .rows ≤ n → leb (s .ranges * rangeRows) (headerIn v rowsGiven) ≡ true
-  full h = le-leb (s .ranges * rangeRows) (headerIn v rowsGiven) (omega (arith, p .rows-are))
+module _ (s : Sizes) (v : View) (n : ℕ) (p : Proper s) (e : n ≡ rowsGiven v) where
+  pub full : s .rows ≤ n → leb (s .ranges * rangeRows) (rowsGiven v) ≡ true
+  full h = le-leb (s .ranges * rangeRows) (rowsGiven v) (omega (arith, p .rows-are))
 
-  pub not-full : n < s .rows → leb (s .ranges * rangeRows) (headerIn v rowsGiven) ≡ false
-  not-full h = lt-leb (s .ranges * rangeRows) (headerIn v rowsGiven) (omega (arith, p .rows-are))
+  pub not-full : n < s .rows → leb (s .ranges * rangeRows) (rowsGiven v) ≡ false
+  not-full h = lt-leb (s .ranges * rangeRows) (rowsGiven v) (omega (arith, p .rows-are))
 
 pub counted : (s : Sizes) (v : View) → Linked s v → Counted s v
 counted s v l = record { rows-given = l .rows-few; records-used = l .used-few }

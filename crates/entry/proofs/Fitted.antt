@@ -12,12 +12,12 @@ use Rattle.layout.specs.declared.Sizes.{Sizes}
 use Rattle.layout.specs.declared.Region.the-variants.{Current, PageState, PagePlace}
 use Rattle.layout.specs.Regions.{need}
 use Rattle.layout.specs.Sizes.{sizesOf}
-use Rattle.layout.specs.View.{View, view}
+use Rattle.layout.specs.View.{View, view, rowsGiven, usedIn}
 use Rattle.layout.proofs.Limits.{limited, need-small}
 use Rattle.loops.proofs.Search.{and-true}
 use Rattle.loops.specs.declared.Found.{Found}
 use Rattle.history.specs.History.{rangeOf, noColumn, noRange}
-use Rattle.facts.specs.Facts.{used, linksHold, rowLinked, rangeLinked, recordLinked, pagesPlaced, pagePlaced}
+use Rattle.facts.specs.Facts.{linksHold, rowLinked, rangeLinked, recordLinked, pagesPlaced, pagePlaced}
 use Rattle.facts.specs.Usable.{shapeIn, sizesIn}
 use Rattle.facts.specs.declared.Checked.{Checked}
 use Rattle.facts.specs.declared.Checked.the-variants.{Fit}
@@ -25,7 +25,7 @@ use Rattle.facts.specs.Tests.{MemoryFacts, Passed, Safe}
 use Rattle.facts.proofs.Each.{each-tells}
 use Rattle.facts.proofs.Ready.{stored}
 use Rattle.facts.proofs.Usable.{link-tells, placed-tells}
-use Rattle.model.specs.Stored.{slot, headerIn, rowsGiven}
+use Rattle.model.specs.Stored.{slot}
 use Rattle.model.specs.Calls.{notGivenIn}
 use Rattle.model.specs.Asked as A
 use Rattle.model.specs.Asked.{Proper, Linked}
@@ -59,10 +59,10 @@ module _ (s : Sizes) (v : View) (proper : Proper s) (facts : MemoryFacts s v) wh
       record {
         rows-few = k .rows-to;
         used-few = λ g h. k .records-to g;
-        rows-linked = λ r h. link-tells s v _ _ r _ (each-tells (rowLinked s v) (headerIn v rowsGiven) (l .0) r h) .low;
+        rows-linked = λ r h. link-tells s v _ _ r _ (each-tells (rowLinked s v) (rowsGiven v) (l .0) r h) .low;
         links-lower = λ g n h low high.
-            let i : n - 1 < used v g = omega arith in
-            let t = link-tells s v g (n - 1) _ _ (each-tells (recordLinked s v g) (used v g) (each-tells (rangeLinked s v) (s .ranges) (l .1) g h) (n - 1) i) in
+            let i : n - 1 < usedIn v g = omega arith in
+            let t = link-tells s v g (n - 1) _ _ (each-tells (recordLinked s v g) (usedIn v g) (each-tells (rangeLinked s v) (s .ranges) (l .1) g h) (n - 1) i) in
             omega (arith, t .low);
       }
 
@@ -90,9 +90,9 @@ fit-tells s m x =
 
 -- ---- what the conditions tell where they do not hold
 
-pub given-tells : (v : View) (r : ℕ) → notGivenIn v r ≡ false → r < headerIn v rowsGiven
+pub given-tells : (v : View) (r : ℕ) → notGivenIn v r ≡ false → r < rowsGiven v
 unfolding notGivenIn
-given-tells v r e = leb-false (headerIn v rowsGiven) r e
+given-tells v r e = leb-false (rowsGiven v) r e
 
 pub row-given : (v : View) (r g : ℕ) → rangeGiven v r ≡ Found.At g → (notGivenIn v r ≡ false) × (g ≡ rangeOf r)
 unfolding rangeGiven

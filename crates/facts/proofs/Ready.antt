@@ -17,12 +17,12 @@ use Rattle.layout.specs.declared.Sizes.{Sizes}
 use Rattle.layout.specs.declared.Region.the-variants.{Used}
 use Rattle.layout.specs.Regions.{need}
 use Rattle.layout.specs.Sizes.{sizesOf}
-use Rattle.layout.specs.View.{View, view}
+use Rattle.layout.specs.View.{View, view, rowsGiven, transactionsGiven, scansGiven, usedIn}
 use Rattle.layout.proofs.Limits.{limited}
 use Rattle.scans.specs.declared.Scans.{Scans}
 use Rattle.scans.specs.Places.{openCount}
 use Rattle.scans.specs.Table.{tableOf}
-use Rattle.facts.specs.Facts.{rowsGiven, used, transactionsGiven, scansGiven, storedWithin, countsWithin}
+use Rattle.facts.specs.Facts.{storedWithin, countsWithin}
 use Rattle.facts.specs.Tests.{Sized, Ready}
 use Rattle.facts.proofs.Parts.{more-told}
 
@@ -54,7 +54,7 @@ at-most l b e i = go (ltb i (length l)) refl
 -- the four counts that are stored
 pub record Stored (s : Sizes) (v : View) : Type 0 where
   pub rows-to : rowsGiven v ≤ s .rows
-  pub records-to : (g : ℕ) → used v g ≤ s .capacity
+  pub records-to : (g : ℕ) → usedIn v g ≤ s .capacity
   pub transactions-to : transactionsGiven v ≤ mostNumbers
   pub scans-to : scansGiven v ≤ mostNumbers
 

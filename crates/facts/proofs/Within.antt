@@ -5,8 +5,7 @@ use native.Mathlib.Omega.{arith}
 use native.Mathlib.Nat.{mul-le-mul, mul-le-mul-right, suc-mul, mod-lt, div-lt-iff-lt-mul, mul-comm}
 use Rattle.words.specs.Words.{words}
 use Rattle.layout.specs.declared.Sizes.{Sizes}
-use Rattle.layout.specs.View.{view}
-use Rattle.facts.specs.Facts.{used}
+use Rattle.layout.specs.View.{view, usedIn}
 use Rattle.facts.specs.Tests.{Sized, Ready}
 
 pub slots-few : (s : Sizes) → Sized s → s .slots ≤ 8192
@@ -17,7 +16,7 @@ pub range-in : (s : Sizes) (g : ℕ) → Sized s → g < s .ranges → g * s .ca
 range-in s g z h = omega (arith, mul-le-mul-right (s .capacity) h, suc-mul g (s .capacity), z .slots-are)
 
 -- record i of range g, counted from 0, is one that fits the range
-pub record-in : (s : Sizes) (m : List ℕ) (g i : ℕ) → Ready s m → i < used (view s (words m)) g → i < s .capacity
+pub record-in : (s : Sizes) (m : List ℕ) (g i : ℕ) → Ready s m → i < usedIn (view s (words m)) g → i < s .capacity
 record-in s m g i r h = omega (arith, r .records-in g)
 
 pub places-some : (s : Sizes) → Sized s → 1 ≤ s .places

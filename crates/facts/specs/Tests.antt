@@ -13,12 +13,12 @@ use Rattle.terms.specs.declared.Place.{Place}
 use Rattle.words.specs.Words.{words}
 use Rattle.loops.specs.Search.{allBetween}
 use Rattle.layout.specs.Regions.{need}
-use Rattle.layout.specs.View.{View, view}
+use Rattle.layout.specs.View.{View, view, rowsGiven, transactionsGiven, scansGiven, lastStamp, mergesMade, usedIn}
 use Rattle.facts.specs.declared.Checked.{Checked}
 use Rattle.facts.specs.declared.Checked.the-variants.{Fit, Unfit}
 use Rattle.facts.specs.Usable.{shapeIn, sizesIn}
 use Rattle.scans.specs.Places.{everyOpen, differ}
-use Rattle.facts.specs.Facts.{storedWithin, linksHold, pagesPlaced, lineagesWithin, each, rowsGiven, transactionsGiven, scansGiven, lastStamp, mergesMade, used, inUse, waiting, rowLinked, rowsBetween, rangeBetween, rangeNamesRows, rangeLinked, pageAtMost}
+use Rattle.facts.specs.Facts.{storedWithin, linksHold, pagesPlaced, lineagesWithin, each, inUse, waiting, rowLinked, rowsBetween, rangeBetween, rangeNamesRows, rangeLinked, pageAtMost}
 
 -- sizes that a shape within the limits makes
 pub record Sized (s : Sizes) : Type 0 where
@@ -38,7 +38,7 @@ pub record Ready (s : Sizes) (m : List ℕ) : Type 0 where
   pub room : need s * 4 ≤ length m
   pub sized : Sized s
   pub rows-in : rowsGiven (view s (words m)) ≤ s .rows
-  pub records-in : (g : ℕ) → used (view s (words m)) g ≤ s .capacity
+  pub records-in : (g : ℕ) → usedIn (view s (words m)) g ≤ s .capacity
 
 -- The facts that speak of the memory alone.
 pub record MemoryFacts (s : Sizes) (v : View) : Type 0 where

@@ -33,10 +33,10 @@ ghost use Rattle.terms.specs.Measures.{mostScans};
 ghost use Rattle.words.specs.Words.{words};
 ghost use Rattle.layout.specs.Regions.{need, len};
 ghost use Rattle.layout.specs.declared.Region.the-variants.{Opens};
-ghost use Rattle.layout.specs.View.{view};
+ghost use Rattle.layout.specs.View.{view, rowsGiven, usedIn};
 ghost use Rattle.scans.specs.Places.{openCount};
 ghost use Rattle.scans.specs.Table.{tableOf};
-ghost use Rattle.facts.specs.Facts.{rowsGiven, used, firstSlot, each, rowsBetween, rangeBetween, rangeNamesRows, linkHolds, rowLinked, recordLinked, rangeLinked, pageAtMost, pagePlaced, pagesPlaced, lineageWithin, lineagesWithin, storedWithin, factsHold};
+ghost use Rattle.facts.specs.Facts.{firstSlot, each, rowsBetween, rangeBetween, rangeNamesRows, linkHolds, rowLinked, recordLinked, rangeLinked, pageAtMost, pagePlaced, pagesPlaced, lineageWithin, lineagesWithin, storedWithin, factsHold};
 ghost use Rattle.facts.specs.Usable.{checked};
 ghost use Rattle.facts.specs.Tests.{Sized, Ready, MemoryFacts, Safe, rangeHolds, rowsHold, pagesHold, opensHold, scansHold};
 
@@ -137,7 +137,7 @@ fn link_holds(mem: &[u8], s: Sizes, g: usize, most: u32, row: u32, link: u32) ->
 
 fn record_linked(mem: &[u8], s: Sizes, g: usize, i: usize) -> bool
     requires { ⌜ Ready s (now mem) ⌝ }
-    requires { ⌜ (g < s .ranges) × (i < used (view s (words (now mem))) g) ⌝ }
+    requires { ⌜ (g < s .ranges) × (i < usedIn (view s (words (now mem))) g) ⌝ }
     ensures { λ r. ⌜ r ≡ recordLinked s (view s (words (now (mem .entry)))) g i ⌝ }
 {
     let slot = first_slot(s, g) + i;
@@ -441,7 +441,7 @@ fn counts_within(mem: &[u8], s: Sizes, t: Scans) -> bool
     ensures { λ r. ⌜ r ≡ (storedWithin s (view s (words (now (mem .entry)))) && not (t .more)) ⌝ }
 {
     let rows = read(mem, s, Region::Header, HEADER_ROWS) as usize <= s.rows;
-    let used = between_in(mem, s, Region::Used, 0, s.ranges, 0, s.capacity as u32);
+    let usedIn = between_in(mem, s, Region::Used, 0, s.ranges, 0, s.capacity as u32);
     let transactions = read(mem, s, Region::Header, HEADER_TRANSACTIONS) <= MOST_NUMBERS;
     let scans = read(mem, s, Region::Header, HEADER_SCANS) <= MOST_NUMBERS;
     both(both(rows, both(used, both(transactions, scans))), !t.more)

@@ -22,14 +22,14 @@ use Rattle.layout.specs.declared.Region.the-variants.{Header, RowTransaction, R
 use Rattle.layout.specs.Cut.{join, endFrom}
 use Rattle.layout.specs.Regions.{all, lens, len, need, base}
 use Rattle.layout.specs.Sizes.{sizesOf, bytesNeeded}
-use Rattle.layout.specs.View.{View, view, put, fill, number, renew, lay}
+use Rattle.layout.specs.View.{View, view, put, fill, number, renew, lay, lastStamp, mergesMade, usedIn}
 use Rattle.layout.proofs.Cut.{join-length}
 use Rattle.layout.proofs.View.{Long, Fits, view-at, put-long, fill-long, number-long, put-fits, fill-fits, number-fits}
 use Rattle.layout.proofs.Lay.{view-lay}
 use Rattle.layout.proofs.Limits.{limited}
 use Rattle.terms.specs.Places.{freePlace}
 use Rattle.scans.specs.Places.{openCount, everyOpen, differ}
-use Rattle.facts.specs.Facts.{used, lastStamp, mergesMade, each, rowsBetween, rangeBetween, pageAtMost, inUse, waiting, storedWithin, countsWithin, rowNamed, rangeNamesRows, recordsNameRows, numbersGiven, rangeLinked, recordLinked, linksHold, stampsWithin, mergesWithin, openDiffer, pagePlaced, pagesPlaced, pageRange, lineageWithin, lineagesWithin, factsHold}
+use Rattle.facts.specs.Facts.{each, rowsBetween, rangeBetween, pageAtMost, inUse, waiting, storedWithin, countsWithin, rowNamed, rangeNamesRows, recordsNameRows, numbersGiven, rangeLinked, recordLinked, linksHold, stampsWithin, mergesWithin, openDiffer, pagePlaced, pagesPlaced, pageRange, lineageWithin, lineagesWithin, factsHold}
 use Rattle.facts.specs.Usable.{shapeIn, sizesIn, measuresBytes, usable}
 use Rattle.facts.proofs.Each.{each-true}
 use Rattle.facts.proofs.Ready.{sized}
@@ -102,18 +102,18 @@ module _ (p : Shape) (w : withinLimits p ≡ true) where
 
   -- ---- the clauses
 
-  none-used : (g : ℕ) → used (madeView p) g ≡ 0
+  none-used : (g : ℕ) → usedIn (madeView p) g ≡ 0
   unfolding madeView placedView put number fill renew blankView
   none-used g = zeros (p .ranges) g
 
-  each-unused : (f : ℕ → ℕ → Bool) → each (p .ranges) (λ g. each (used (madeView p) g) (f g)) ≡ true
+  each-unused : (f : ℕ → ℕ → Bool) → each (p .ranges) (λ g. each (usedIn (madeView p) g) (f g)) ≡ true
   unfolding each
-  each-unused f = each-true (λ g. each (used (madeView p) g) (f g)) (p .ranges) (λ g h. rw (none-used g))
+  each-unused f = each-true (λ g. each (usedIn (madeView p) g) (f g)) (p .ranges) (λ g h. rw (none-used g))
 
   between-unused : (k : Region) (low high : ℕ) → each (p .ranges) (rangeBetween (sizesOf p) (madeView p) k low high) ≡ true
   unfolding rangeBetween
   between-unused k low high =
-      each-true (rangeBetween (sizesOf p) (madeView p) k low high) (p .ranges) (λ g h. none-between (madeView p k) (g * p .capacity) (used (madeView p) g) low high (none-used g))
+      each-true (rangeBetween (sizesOf p) (madeView p) k low high) (p .ranges) (λ g h. none-between (madeView p k) (g * p .capacity) (usedIn (madeView p) g) low high (none-used g))
 
   -- no row is given
   no-rows : (k : Region) (low high : ℕ) → rowsBetween (madeView p) k low high ≡ true
@@ -206,7 +206,7 @@ module _ (p : Shape) (w : withinLimits p ≡ true) where
     unfolding lineagesWithin lineageWithin
     lineages =
         each-true (lineageWithin (sizesOf p) (madeView p)) (sizesOf p .pages)
-        (λ i h. rw (lineage-zero i, leb·zero (used (madeView p) (pageRange (sizesOf p) (madeView p) i))) (or-true (ltb (getD (madeView p PageState) i 0) inUse)))
+        (λ i h. rw (lineage-zero i, leb·zero (usedIn (madeView p) (pageRange (sizesOf p) (madeView p) i))) (or-true (ltb (getD (madeView p PageState) i 0) inUse)))
 
     pub made-facts : factsHold (sizesOf p) (madeView p) list ≡ true
     unfolding factsHold

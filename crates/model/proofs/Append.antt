@@ -15,9 +15,9 @@ use Rattle.history.specs.History.{Record, State, Content, original, setting, en
 use Rattle.history.proofs.Lists.{eqb-other}
 use Rattle.history.proofs.Links.{noRecord, lastOf, last-of-append}
 use Rattle.loops.proofs.Change.{changed-length, changed-outside, changed-at, changed-fit}
-use Rattle.layout.specs.View.{View, renew, put}
+use Rattle.layout.specs.View.{View, renew, put, usedIn}
 use Rattle.layout.specs.declared.Region.the-variants.{RowLink, TailTransaction, TailRow, TailKind, TailMask, TailLink, TailState, TailStamp, TailValues, Used}
-use Rattle.model.specs.Stored.{RecordWords, rowIn, recordIn, valueIn, usedIn, slot, asOpen}
+use Rattle.model.specs.Stored.{RecordWords, rowIn, recordIn, valueIn, slot, asOpen}
 use Rattle.model.specs.Writing.{nextSlot, appended, filledIn}
 use Rattle.model.proofs.Lists.{part-in, same-part, eqb-same}
 use Rattle.model.proofs.Represents.{ContentIs, RecordIs, TailIs, TailsFor, Whole}

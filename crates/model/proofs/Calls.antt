@@ -23,11 +23,11 @@ use Rattle.history.proofs.Ranges.{last-agree}
 use Rattle.history.proofs.Merges.{merges-most}
 use Rattle.history.proofs.Pages.{cell-is}
 use Rattle.history.proofs.Past.{past-next}
-use Rattle.layout.specs.View.{View}
+use Rattle.layout.specs.View.{View, rowsGiven, lastStamp, usedIn}
 use Rattle.layout.specs.declared.Region.the-variants.{Opens, Changes}
 use Rattle.terms.specs.declared.Place.{Place}
 use Rattle.terms.specs.Places.{bears, place}
-use Rattle.model.specs.Stored.{pageIn, cellIn, currentIn, usedIn, headerIn, within, rowsGiven, lastStamp, openPlace, scanPlace, pagesOf}
+use Rattle.model.specs.Stored.{pageIn, cellIn, currentIn, within, openPlace, scanPlace, pagesOf}
 use Rattle.model.specs.Reading.{readIn, readCurrent, ownChanges, wordIn, scanPage, Tally, tally, sumIn}
 use Rattle.model.specs.Calls.{testsIn, replyIn, actIn, placesAfter, viewIf, placesIf, say, viewNext, placesNext, notOpenIn, noScanIn, notGivenIn, lacksIn, notLaterIn, laterIn, outOfReachIn, Typed}
 use Rattle.model.proofs.Lists.{clash}
@@ -235,7 +235,7 @@ module _ (S : Shape) (v : View) (ps : List Place) (h : History) (o : Represents 
   current-read t me r c f w b d =
       read-is S v ps h o k t me f w r b c d (currentIn S v (rangeOf r) c) everyRow (o .currents (rangeOf r) c (in-range k r b) d .holds) (λ z. tt)
 
-  own-read : (t r c : ℕ) → stateOf h t ≡ active → r < length (h .rows) → c < S .columns → readCurrent S v (headerIn v lastStamp) (ownChanges v t) r c ≡ read (seenBy h t) h r c
+  own-read : (t r c : ℕ) → stateOf h t ≡ active → r < length (h .rows) → c < S .columns → readCurrent S v (lastStamp v) (ownChanges v t) r c ≡ read (seenBy h t) h r c
   unfolding ownChanges openPlace
   own-read t r c a b d = ap (λ (s : ℕ). readCurrent S v s (cond (eqb noted 0) 0 t) r c) (o .header .last-stamp) ∙ go (eqb noted 0) (eqb→eq noted 0)
     where
@@ -319,7 +319,7 @@ module _ (S : Shape) (v : View) (ps : List Place) (h : History) (o : Represents 
   sum-same : (i c : ℕ) → T (scanAt h i .running) → c < S .columns → sumIn S v (scanPlace ps i) c ≡ H.sumOf (seenAt h (scanAt h i .stamp)) h c
   unfolding sumIn H.sumOf H.rowsSeen
   sum-same i c t d =
-      ap (λ (s : Place). Answer.Sum (tally S v s c (headerIn v rowsGiven) .count) (tally S v s c (headerIn v rowsGiven) .total)) (found i t)
+      ap (λ (s : Place). Answer.Sum (tally S v s c (rowsGiven v) .count) (tally S v s c (rowsGiven v) .total)) (found i t)
       ∙ ap (λ (n : ℕ). Answer.Sum (tally S v (scanAs i (scanAt h i)) c n .count) (tally S v (scanAs i (scanAt h i)) c n .total)) (o .header .rows-given)
       ∙ ap (λ (x : Tally). Answer.Sum (x .count) (x .total)) (tally-is i c t d (length (h .rows)) (le-refl _))
 

@@ -29,7 +29,8 @@ use Rattle.layout.specs.View.{View, renew, put}
 use Rattle.layout.specs.declared.Region.the-variants.{Header, Opens, RowTransaction, RowState, RowStamp, RowLink, RowMask, Current, Cells, Changes}
 use Rattle.terms.specs.declared.Place.{Place}
 use Rattle.terms.specs.Places.{bears, place}
-use Rattle.model.specs.Stored.{rowIn, recordIn, valueIn, pageIn, cellIn, currentIn, placeOf, within, rowsGiven, openPlace, nextWord, asOpen}
+use Rattle.layout.specs.Regions.{rowsAt}
+use Rattle.model.specs.Stored.{rowIn, recordIn, valueIn, pageIn, cellIn, currentIn, placeOf, within, openPlace, nextWord, asOpen}
 use Rattle.model.specs.Reading.{scanPage, wasCurrent}
 use Rattle.model.specs.Writing.{noted, putCells, insertedAt, insertedIn}
 use Rattle.model.proofs.Lists.{same-part}
@@ -250,7 +251,7 @@ module _ (S : Shape) (v : View) (ps : List Place) (h : History) (o : Represents 
   insert-whole =
       let number : t < 2 ^ 32 = omega (arith, active-given (h .transactions) t a, k .past .limits .transactions) in
       put-whole Changes _ _ (omega arith)
-      (put-whole Header rowsGiven (r + 1) (omega (arith, k .small .ranges))
+      (put-whole Header rowsAt (r + 1) (omega (arith, k .small .ranges))
       (renew-whole Cells cells′ (cells-length S (v Current) (rangeOf r) (within r) vs (v Cells) (S .columns) ∙ o .whole .long Cells)
       (cells-fit S (v Current) (rangeOf r) (within r) vs (v Cells) (λ c. ofZ-fits w32 (getD vs c (pos 0)) (value-fits vs typed c) .fits) (o .whole .fits Cells) (S .columns))
       (put-whole RowMask r 0 (omega arith) (put-whole RowLink r 0 (omega arith) (put-whole RowStamp r 0 (omega arith) (put-whole RowState r 0 (omega arith) (put-whole RowTransaction r t number (o .whole))))))))

@@ -22,10 +22,11 @@ use Rattle.history.proofs.Timely.{Timely}
 use Rattle.history.proofs.Pages.{Through, merge-through}
 use Rattle.loops.specs.Change.{copied}
 use Rattle.loops.proofs.Change.{changed-length, changed-outside, changed-at, changed-fit}
-use Rattle.layout.specs.View.{View, renew, put}
+use Rattle.layout.specs.View.{View, renew, put, mergesMade}
 use Rattle.layout.specs.declared.Region.the-variants.{Header, Current, PageState, PagePlace, PageMade, PageReplaced, PageLineage, PageNewest, Cells, TailValues, TailStamp}
 use Rattle.terms.specs.declared.Place.{Place}
-use Rattle.model.specs.Stored.{PageWords, rowIn, recordIn, valueIn, pageIn, cellIn, currentIn, placeOf, placesOf, pagesOf, headerIn, within, mergesMade, nextWord, freePage, currentPage, waitingPage, asCurrent, asWaiting, countBelow}
+use Rattle.layout.specs.Regions.{mergesAt}
+use Rattle.model.specs.Stored.{PageWords, rowIn, recordIn, valueIn, pageIn, cellIn, currentIn, placeOf, placesOf, pagesOf, within, nextWord, freePage, currentPage, waitingPage, asCurrent, asWaiting, countBelow}
 use Rattle.model.specs.Reading.{wasCurrent, scanPage}
 use Rattle.model.specs.Writing.{applied, newestOf, freeIn, mergedIn}
 use Rattle.model.specs.Calls.{openAmongIn}
@@ -119,7 +120,7 @@ module _ (S : Shape) (v : View) (ps : List Place) (h : History) (o : Represents 
   low = (pageIn v (currentIn S v g c)) .lineage
 
   abbrev m : ℕ
-  m = nextWord (headerIn v mergesMade)
+  m = nextWord (mergesMade v)
 
   abbrev late : ℕ
   late = newestOf S v g c low (n - low) ((pageIn v (currentIn S v g c)) .newest)
@@ -497,7 +498,7 @@ module _ (S : Shape) (v : View) (ps : List Place) (h : History) (o : Represents 
       let fit : m < 2 ^ 32 = omega arith in
       let pages : pagesOf S ≤ 16 * 16 + 256 = omega (arith, native.Mathlib.Nat.mul-le-mul (k .small .columns) (k .small .ranges), k .small .spares) in
       let spot : placeOf S g c < 2 ^ 32 = omega (arith, place-in S g c bg bc) in
-      put-whole Header mergesMade m fit
+      put-whole Header mergesAt m fit
       (put-whole Current (placeOf S g c) p (omega (arith, room))
       (put-whole PageReplaced old m fit
       (put-whole PageState old asWaiting (omega arith)

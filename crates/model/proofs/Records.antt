@@ -18,11 +18,11 @@ use Rattle.history.proofs.Lists.{all-map, all-at, all-append, any-append, eqb-o
 use Rattle.history.proofs.Steps.{Step, New, wasSet}
 use Rattle.history.proofs.Ranges.{records-made}
 use Rattle.history.proofs.Links.{noRecord, lastOf, last-of-append}
-use Rattle.layout.specs.View.{View, renew, put}
+use Rattle.layout.specs.View.{View, renew, put, usedIn}
 use Rattle.layout.specs.declared.Region.the-variants.{Opens, RowTransaction, RowState, RowStamp, RowMask, Changes}
 use Rattle.terms.specs.declared.Place.{Place}
 use Rattle.terms.specs.Places.{bears, place}
-use Rattle.model.specs.Stored.{RowWords, RecordWords, rowIn, recordIn, valueIn, pageIn, cellIn, currentIn, usedIn, openPlace, nextWord, asOpen, asDelete}
+use Rattle.model.specs.Stored.{RowWords, RecordWords, rowIn, recordIn, valueIn, pageIn, cellIn, currentIn, openPlace, nextWord, asOpen, asDelete}
 use Rattle.model.specs.Reading.{scanPage, wasCurrent}
 use Rattle.model.specs.Writing.{noted, nextSlot, appended, filledIn, deletedIn}
 use Rattle.model.proofs.Lists.{eqb-same}

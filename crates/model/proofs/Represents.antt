@@ -20,13 +20,14 @@ use Rattle.history.proofs.Past.{Past}
 use Rattle.history.proofs.Pages.{Through}
 use Rattle.history.proofs.Links.{noRecord, lastOf}
 use Rattle.words.proofs.Words.{Fit}
-use Rattle.layout.specs.View.{View}
+use Rattle.layout.specs.View.{View, usedIn}
 use Rattle.layout.proofs.View.{Long}
 use Rattle.layout.specs.declared.Region.{Region}
 use Rattle.layout.specs.declared.Region.the-variants.{Opens, Changes}
 use Rattle.terms.specs.declared.Place.{Place}
 use Rattle.layout.specs.Sizes.{sizesOf}
-use Rattle.model.specs.Stored.{RowWords, RecordWords, PageWords, rowIn, recordIn, pageIn, valueIn, usedIn, currentIn, cellIn, within, placeOf, placesOf, pagesOf, headerIn, rowsGiven, transactionsGiven, scansGiven, lastStamp, mergesMade, asOpen, asCommitted, asAborted, asOriginal, asSetting, asDelete, asCurrent, currentPage, waitingPage, countBelow}
+use Rattle.layout.specs.Regions.{rowsAt, transactionsAt, scansAt, stampAt, mergesAt}
+use Rattle.model.specs.Stored.{RowWords, RecordWords, PageWords, rowIn, recordIn, pageIn, valueIn, currentIn, cellIn, within, placeOf, placesOf, pagesOf, headerIn, asOpen, asCommitted, asAborted, asOriginal, asSetting, asDelete, asCurrent, currentPage, waitingPage, countBelow}
 use Rattle.model.specs.Reading.{scanPage}
 use Rattle.model.proofs.Lists.{countFrom}
 
@@ -175,11 +176,11 @@ pub record HeaderIs (S : Shape) (rows transactions scans last merges : ℕ) (wor
   pub ranges : word 1 ≡ S .ranges
   pub capacity : word 2 ≡ S .capacity
   pub spares : word 3 ≡ S .spares
-  pub rows-given : word rowsGiven ≡ rows
-  pub transactions-given : word transactionsGiven ≡ transactions
-  pub scans-given : word scansGiven ≡ scans
-  pub last-stamp : word lastStamp ≡ last
-  pub merges-made : word mergesMade ≡ merges
+  pub rows-given : word rowsAt ≡ rows
+  pub transactions-given : word transactionsAt ≡ transactions
+  pub scans-given : word scansAt ≡ scans
+  pub last-stamp : word stampAt ≡ last
+  pub merges-made : word mergesAt ≡ merges
 
 abbrev pub HeaderFor : Shape → History → View → Type 0
 HeaderFor S h v = HeaderIs S (length (h .rows)) (length (h .transactions)) (length (h .scans)) (h .last) (length (h .merges)) (headerIn v)

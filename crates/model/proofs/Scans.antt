@@ -14,11 +14,12 @@ use Rattle.terms.specs.Measures.{Shape, mostScans, mostNumbers}
 use Rattle.history.specs.History.{openScan, close, History, Scan, any, count, nth, change, stateOf, rowAt, recordsOf, scanAt, stopped, withScans}
 use Rattle.history.proofs.Lists.{is-true, length-change, nth-other, nth-changed}
 use Rattle.history.proofs.Steps.{Step}
-use Rattle.layout.specs.View.{View, renew, put}
+use Rattle.layout.specs.View.{View, renew, put, scansGiven, mergesMade}
 use Rattle.layout.specs.declared.Region.the-variants.{Header}
 use Rattle.terms.specs.declared.Place.{Place}
 use Rattle.terms.specs.Places.{place, freePlace, isScan}
-use Rattle.model.specs.Stored.{rowIn, recordIn, valueIn, pageIn, cellIn, currentIn, headerIn, scansGiven, mergesMade, scanPlace}
+use Rattle.layout.specs.Regions.{scansAt}
+use Rattle.model.specs.Stored.{rowIn, recordIn, valueIn, pageIn, cellIn, currentIn, scanPlace}
 use Rattle.model.specs.Reading.{scanPage, wasCurrent}
 use Rattle.model.proofs.Lists.{any-count}
 use Rattle.model.proofs.Book.{book-is, book-room, book-count, book-add, book-drop, book-found}
@@ -121,8 +122,8 @@ module _ (S : Shape) (v : View) (ps : List Place) (h : History) (o : Represents 
       go (no f) = scan-stays o k step refl i (nth-before (h .scans) new none i f) t g c p q
 
   pub open-kept : Step S h (openScan s) after
-      → Represents S (put Header scansGiven (headerIn v scansGiven + 1) v)
-      (set ps (place (λ p. eqb (p .number) 0) ps) record { number = headerIn v scansGiven + 1; stamp = s; merges = headerIn v mergesMade }) after
+      → Represents S (put Header scansAt (scansGiven v + 1) v)
+      (set ps (place (λ p. eqb (p .number) 0) ps) record { number = scansGiven v + 1; stamp = s; merges = mergesMade v }) after
   unfolding put renew withScans rowIn recordIn valueIn pageIn cellIn currentIn scanPage wasCurrent stateOf rowAt recordsOf
   open-kept step =
       record {
@@ -140,7 +141,7 @@ module _ (S : Shape) (v : View) (ps : List Place) (h : History) (o : Represents 
       }
     where
       n : ℕ
-      n = headerIn v scansGiven + 1
+      n = scansGiven v + 1
 
       e : n ≡ suc (length (h .scans))
       e = omega (arith, o .header .scans-given)

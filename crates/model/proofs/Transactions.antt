@@ -22,11 +22,12 @@ use Rattle.history.proofs.Links.{noRecord}
 use Rattle.loops.specs.Change.{marked}
 use Rattle.words.proofs.Words.{Fit}
 use Rattle.loops.proofs.Change.{changed-length, changed-outside, changed-at, changed-fit}
-use Rattle.layout.specs.View.{View, renew, put}
+use Rattle.layout.specs.View.{View, renew, put, rowsGiven, transactionsGiven, usedIn}
 use Rattle.layout.specs.declared.Region.the-variants.{Header, Opens, RowTransaction, RowState, RowStamp, TailTransaction, TailState, TailStamp, Used, Changes}
 use Rattle.terms.specs.declared.Place.{Place}
 use Rattle.terms.specs.Places.{bears, place}
-use Rattle.model.specs.Stored.{RowWords, RecordWords, rowIn, recordIn, valueIn, pageIn, cellIn, currentIn, usedIn, headerIn, rowsGiven, transactionsGiven, lastStamp, openPlace, asAborted, asCommitted}
+use Rattle.layout.specs.Regions.{transactionsAt, stampAt}
+use Rattle.model.specs.Stored.{RowWords, RecordWords, rowIn, recordIn, valueIn, pageIn, cellIn, currentIn, openPlace, asAborted, asCommitted}
 use Rattle.model.specs.Reading.{scanPage, wasCurrent}
 use Rattle.model.specs.Writing.{begun, markTails, settled, freed, committedIn, abortedIn}
 use Rattle.model.proofs.Lists.{clash, same-truth, any-count, place-lt, place-is, part-in, is-equal}
@@ -155,8 +156,8 @@ module _ (S : Shape) (v : View) (ps : List Place) (h : History) (o : Represents 
   begun-whole : length (h .transactions) < mostNumbers → Whole S (begun v)
   unfolding begun
   begun-whole few =
-      let b : headerIn v transactionsGiven + 1 < 2 ^ 32 = omega (arith, o .header .transactions-given) in
-      put-whole Header transactionsGiven _ b (put-whole Changes _ 0 (omega arith) (put-whole Opens _ _ b (o .whole)))
+      let b : transactionsGiven v + 1 < 2 ^ 32 = omega (arith, o .header .transactions-given) in
+      put-whole Header transactionsAt _ b (put-whole Changes _ 0 (omega arith) (put-whole Opens _ _ b (o .whole)))
 
   pub begin-kept : T (any (λ i. eqb i 0) (v Opens)) → Step S h begin begunHistory → length (h .transactions) < mostNumbers → Represents S (begun v) ps begunHistory
   unfolding begun put renew withTransactions rowIn recordIn valueIn pageIn cellIn currentIn scanPage wasCurrent scanAt
@@ -178,7 +179,7 @@ module _ (S : Shape) (v : View) (ps : List Place) (h : History) (o : Represents 
       }
     where
       n : ℕ
-      n = headerIn v transactionsGiven + 1
+      n = transactionsGiven v + 1
 
       j : ℕ
       j = place (λ i. eqb i 0) (v Opens)
@@ -246,8 +247,8 @@ unfolding settled
 settled-whole {S} {v} t state stamp a b o =
     renew-whole TailStamp _ (marks-long S (v Used) (v TailTransaction) t stamp (S .ranges) (v TailStamp) ∙ o .long TailStamp) (marks-fit S (v Used) (v TailTransaction) t stamp (S .ranges) (v TailStamp) b (o .fits TailStamp))
     (renew-whole TailState _ (marks-long S (v Used) (v TailTransaction) t state (S .ranges) (v TailState) ∙ o .long TailState) (marks-fit S (v Used) (v TailTransaction) t state (S .ranges) (v TailState) a (o .fits TailState))
-    (renew-whole RowStamp _ (changed-length _ 0 (v RowStamp) (headerIn v rowsGiven) ∙ o .long RowStamp) (marked-fit (v RowTransaction) 0 (headerIn v rowsGiven) t stamp (v RowStamp) b (o .fits RowStamp))
-    (renew-whole RowState _ (changed-length _ 0 (v RowState) (headerIn v rowsGiven) ∙ o .long RowState) (marked-fit (v RowTransaction) 0 (headerIn v rowsGiven) t state (v RowState) a (o .fits RowState)) o)))
+    (renew-whole RowStamp _ (changed-length _ 0 (v RowStamp) (rowsGiven v) ∙ o .long RowStamp) (marked-fit (v RowTransaction) 0 (rowsGiven v) t stamp (v RowStamp) b (o .fits RowStamp))
+    (renew-whole RowState _ (changed-length _ 0 (v RowState) (rowsGiven v) ∙ o .long RowState) (marked-fit (v RowTransaction) 0 (rowsGiven v) t state (v RowState) a (o .fits RowState)) o)))
 
 -- a function of a transaction's state, after t is closed with x
 closed-is : {A : Type 0} (f : State → A) (ts : List State) (t : ℕ) (x : State) (k : ℕ) → nth ts t unknown ≡ active
@@ -284,16 +285,16 @@ module _ (S : Shape) (v : View) (ps : List Place) (h : History) (o : Represents 
   unfolding stateOf rowAt recordsOf withTransactions settled renew rowIn
   closed-rows r b =
       let y : RowIs (stateOf h) (rowAt h r) (recordsOf h (rangeOf r)) r (rowIn v r) = o .rows r b in
-      let g : r < headerIn v rowsGiven = omega (arith, o .header .rows-given) in
-      let m : headerIn v rowsGiven ≤ length (v RowState) = omega (arith, o .header .rows-given, o .whole .long RowState, given-room) in
-      let n : headerIn v rowsGiven ≤ length (v RowStamp) = omega (arith, o .header .rows-given, o .whole .long RowStamp, given-room) in
+      let g : r < rowsGiven v = omega (arith, o .header .rows-given) in
+      let m : rowsGiven v ≤ length (v RowState) = omega (arith, o .header .rows-given, o .whole .long RowState, given-room) in
+      let n : rowsGiven v ≤ length (v RowStamp) = omega (arith, o .header .rows-given, o .whole .long RowStamp, given-room) in
       record {
         transaction = y .transaction;
         state =
-            marked-at (v RowTransaction) (headerIn v rowsGiven) t (stateWord x) (v RowState) r m g
+            marked-at (v RowTransaction) (rowsGiven v) t (stateWord x) (v RowState) r m g
             ∙ rw (y .transaction, y .state) (sym (closed-is stateWord (h .transactions) t x ((rowAt h r) .inserter) a));
         stamp =
-            marked-at (v RowTransaction) (headerIn v rowsGiven) t (stampOf x) (v RowStamp) r n g
+            marked-at (v RowTransaction) (rowsGiven v) t (stampOf x) (v RowStamp) r n g
             ∙ rw (y .transaction, y .stamp) (sym (closed-is stampOf (h .transactions) t x ((rowAt h r) .inserter) a));
         link = y .link;
         mask = y .mask;
@@ -381,4 +382,4 @@ commit-kept S v ps h o k t s a later fit step =
   where
     commit-whole : (S : Shape) (v : View) (t s : ℕ) → s < 2 ^ 32 → Whole S v → Whole S (committedIn S t s v)
     commit-whole S v t s b w =
-        put-whole Header lastStamp s b (put-whole Changes _ 0 (omega arith) (put-whole Opens _ 0 (omega arith) (settled-whole t asCommitted s (omega arith) b w)))
+        put-whole Header stampAt s b (put-whole Changes _ 0 (omega arith) (put-whole Opens _ 0 (omega arith) (settled-whole t asCommitted s (omega arith) b w)))

@@ -12,7 +12,7 @@ use lib.ListN.{length, getD, List·getD-eq-default}
 use Rattle.terms.specs.Measures.{Shape, rangeRows, withinLimits}
 use Rattle.terms.specs.declared.Place.{Place}
 use Rattle.layout.specs.declared.Region.the-variants.{Opens, TailRow, Used, Current, PageState}
-use Rattle.layout.specs.View.{View}
+use Rattle.layout.specs.View.{View, rowsGiven, transactionsGiven, scansGiven, lastStamp, mergesMade, usedIn}
 use Rattle.layout.specs.Sizes.{sizesOf}
 use Rattle.history.specs.History.{History, State, unknown, active, aborted, committed, Scan, count, any, nth, isActive, stateOf, rowAt, rangeOf, recordsOf, scanAt}
 use Rattle.history.proofs.Lists.{all-at, parts, eqb-other, eqb-equal, place-any}
@@ -23,7 +23,7 @@ use Rattle.history.proofs.Ranges.{records-range}
 use Rattle.history.proofs.Timely.{Timely}
 use Rattle.history.proofs.Links.{noRecord, lastOf, last-of-row}
 use Rattle.scans.specs.Places.{opened, openCount}
-use Rattle.facts.specs.Facts.{rowsGiven, transactionsGiven, scansGiven, lastStamp, mergesMade, used, inUse, factsHold}
+use Rattle.facts.specs.Facts.{inUse, factsHold}
 use Rattle.facts.proofs.Ready.{Stored, sized}
 use Rattle.facts.proofs.Usable.{Linked, Usable}
 use Rattle.terms.specs.Places.{bears, place, freePlace, isScan}
@@ -94,17 +94,17 @@ module _ (S : Shape) (some : 1 ≤ S .columns) where
 
 module _ (S : Shape) (v : View) (ps : List Place) (h : History) (o : Represents S v ps h) (k : Known S h) where
   -- used records are those of the history
-  used-few : (g i : ℕ) → g < S .ranges → i < used v g → i < length (recordsOf h g)
+  used-few : (g i : ℕ) → g < S .ranges → i < usedIn v g → i < length (recordsOf h g)
   used-few g i a b = omega (arith, o .tails g a .used-all)
 
-  record-is : (g i : ℕ) → (a : g < S .ranges) → i < used v g → RecordIs (S .columns) (stateOf h) (getD (recordsOf h g) i noRecord) (recordIn v (g * S .capacity + i)) (valueIn S v (g * S .capacity + i))
+  record-is : (g i : ℕ) → (a : g < S .ranges) → i < usedIn v g → RecordIs (S .columns) (stateOf h) (getD (recordsOf h g) i noRecord) (recordIn v (g * S .capacity + i)) (valueIn S v (g * S .capacity + i))
   record-is g i a b = o .tails g a .each i (used-few g i a b)
 
-  record-row : (g i : ℕ) → g < S .ranges → i < used v g → getD (v TailRow) (g * S .capacity + i) 0 ≡ (getD (recordsOf h g) i noRecord) .row
+  record-row : (g i : ℕ) → g < S .ranges → i < usedIn v g → getD (v TailRow) (g * S .capacity + i) 0 ≡ (getD (recordsOf h g) i noRecord) .row
   unfolding recordIn
   record-row g i a b = record-is g i a b .row
 
-  record-placed : (g i : ℕ) → g < S .ranges → i < used v g → Placed (stateOf h) (rowAt h) (length (h .rows)) (getD (recordsOf h g) i noRecord)
+  record-placed : (g i : ℕ) → g < S .ranges → i < usedIn v g → Placed (stateOf h) (rowAt h) (length (h .rows)) (getD (recordsOf h g) i noRecord)
   record-placed g i a b = placed-at h g (k .past .order) i noRecord (used-few g i a b)
 
   -- a row that is given, as the store counts and as the history does
@@ -134,12 +134,12 @@ module _ (S : Shape) (v : View) (ps : List Place) (h : History) (o : Represents 
         scans-to = omega (arith, o .header .scans-given, k .past .limits .scans);
       }
     where
-      records : (g : ℕ) → Dec (g < S .ranges) → used v g ≤ S .capacity
+      records : (g : ℕ) → Dec (g < S .ranges) → usedIn v g ≤ S .capacity
       records g (yes a) = omega (arith, o .tails g a .used-all, k .past .limits .records g)
-      records g (no a) = let z : used v g ≡ 0 = List·getD-eq-default (v Used) 0 (omega (arith, a, o .whole .long Used)) in omega arith
+      records g (no a) = let z : usedIn v g ≡ 0 = List·getD-eq-default (v Used) 0 (omega (arith, a, o .whole .long Used)) in omega arith
 
   -- a link is the row's last record among the first n
-  linked : (g r n link : ℕ) → g < S .ranges → n ≤ used v g → link ≡ lastOf (recordsOf h g) r n → Linked (sizesOf S) v g n r link
+  linked : (g r n link : ℕ) → g < S .ranges → n ≤ usedIn v g → link ≡ lastOf (recordsOf h g) r n → Linked (sizesOf S) v g n r link
   linked g r n zero a b e = record { low = omega arith; same = λ f. absurd (f refl) }
   linked g r n (suc i) a b e =
       let t = last-of-row (recordsOf h g) r n i (sym e) in
@@ -284,23 +284,23 @@ module _ (S : Shape) (v : View) (ps : List Place) (h : History) (o : Represents 
       (λ i c e. omega (arith, page-current i c .holds .stamped, ap (λ (r : ℕ). (pageIn v r) .newest) e, o .header .last-stamp))
       (λ w. omega (arith, w .stamped, o .header .last-stamp))
 
-  page-lineages : (p : ℕ) → p < pagesOf S → inUse ≤ (pageIn v p) .state → (pageIn v p) .lineage ≤ used v ((pageIn v p) .place % placesOf S / S .columns)
+  page-lineages : (p : ℕ) → p < pagesOf S → inUse ≤ (pageIn v p) .state → (pageIn v p) .lineage ≤ usedIn v ((pageIn v p) .place % placesOf S / S .columns)
   page-lineages p b u = page-cases p b u current waits
     where
       -- a lineage within the records of the place's range
       within : (i : ℕ) → i < placesOf S → (pageIn v p) .place ≡ i → (pageIn v p) .lineage ≤ length (recordsOf h (i / S .columns))
-          → (pageIn v p) .lineage ≤ used v ((pageIn v p) .place % placesOf S / S .columns)
+          → (pageIn v p) .lineage ≤ usedIn v ((pageIn v p) .place % placesOf S / S .columns)
       within i c e l =
           let t = place-parts S (k .small .some-column) i c in
           rw (range-of-place S (k .small .some-column) (i / S .columns) (i % S .columns) ((pageIn v p) .place) (t .0) (t .1) (e ∙ sym (t .2)))
           (omega (arith, l, o .tails (i / S .columns) (t .0) .used-all))
 
-      current : (i : ℕ) → i < placesOf S → pageAt i ≡ p → (pageIn v p) .lineage ≤ used v ((pageIn v p) .place % placesOf S / S .columns)
+      current : (i : ℕ) → i < placesOf S → pageAt i ≡ p → (pageIn v p) .lineage ≤ usedIn v ((pageIn v p) .place % placesOf S / S .columns)
       current i c e =
           within i c (ap (λ (r : ℕ). (pageIn v r) .place) (sym e) ∙ page-place i c)
           (subst (λ (r : ℕ). (pageIn v r) .lineage ≤ length (recordsOf h (i / S .columns))) e (page-current i c .holds .through .within))
 
-      waits : WaitingIs S h (madeIn S v) (pageIn v p) → (pageIn v p) .lineage ≤ used v ((pageIn v p) .place % placesOf S / S .columns)
+      waits : WaitingIs S h (madeIn S v) (pageIn v p) → (pageIn v p) .lineage ≤ usedIn v ((pageIn v p) .place % placesOf S / S .columns)
       waits w =
           let t = place-parts S (k .small .some-column) ((pageIn v p) .place) (w .place) in
           within ((pageIn v p) .place) (w .place) refl (w .reach _ _ (t .0) (t .1) (sym (t .2)))
@@ -317,7 +317,7 @@ module _ (S : Shape) (v : View) (ps : List Place) (h : History) (o : Represents 
         record-numbers = λ g i a b. rw (record-is g i a b .transaction) (transaction-given _ (record-placed g i a b .giver));
         open-numbers = open-numbers;
         scan-numbers = scan-numbers;
-        row-links = λ r b. linked (r / rangeRows) r (used v (r / rangeRows)) _ (in-range k r (row-is r b)) (le-refl _) (o .rows r (row-is r b) .link ∙ ap (lastOf (recordsOf h (r / rangeRows)) r) (sym (o .tails (r / rangeRows) (in-range k r (row-is r b)) .used-all)));
+        row-links = λ r b. linked (r / rangeRows) r (usedIn v (r / rangeRows)) _ (in-range k r (row-is r b)) (le-refl _) (o .rows r (row-is r b) .link ∙ ap (lastOf (recordsOf h (r / rangeRows)) r) (sym (o .tails (r / rangeRows) (in-range k r (row-is r b)) .used-all)));
         record-links = λ g i a b. linked g _ i _ a (omega arith) (o .tails g a .links i (used-few g i a b) ∙ ap (λ (r : ℕ). lastOf (recordsOf h g) r i) (sym (record-row g i a b)));
         row-stamps = λ r b. rw (o .rows r (row-is r b) .stamp) (stamp-within _);
         record-stamps = λ g i a b. rw (record-is g i a b .stamp) (stamp-within _);

@@ -12,7 +12,7 @@ use Rattle.terms.specs.declared.Place.{Place}
 use Rattle.words.specs.Words.{words}
 use Rattle.loops.specs.declared.Found.{Found}
 use Rattle.layout.specs.declared.Sizes.{Sizes}
-use Rattle.layout.specs.View.{View, view}
+use Rattle.layout.specs.View.{View, view, usedIn}
 use Rattle.scans.specs.declared.Scans.{Scans}
 use Rattle.scans.specs.Places.{openCount}
 use Rattle.scans.specs.Table.{tableOf}
@@ -22,7 +22,7 @@ use Rattle.facts.specs.Facts.{pagesPlaced, pagePlaced}
 use Rattle.facts.specs.Tests.{MemoryFacts}
 use Rattle.facts.proofs.Each.{each-tells}
 use Rattle.facts.proofs.Usable.{placed-tells}
-use Rattle.model.specs.Stored.{usedIn, pageIn, currentIn, pagesOf}
+use Rattle.model.specs.Stored.{pageIn, currentIn, pagesOf}
 use Rattle.model.specs.Writing.{freeIn}
 use Rattle.model.specs.Calls.{testsIn, outOfReachIn}
 use Rattle.model.specs.Asked.{shapeIn, Proper, Linked}

@@ -21,7 +21,8 @@ use Rattle.history.proofs.Accepted.{passed}
 use Rattle.terms.specs.Places.{place}
 use Rattle.model.specs.Writing.{recordsWanted}
 use Rattle.model.specs.Calls.{notGivenIn, lacksIn, testsIn}
-use Rattle.model.specs.Asked.{shapeIn, Proper, Counted, Linked, FreeAt}
+use Rattle.layout.specs.Sizes.{Proper}
+use Rattle.model.specs.Asked.{shapeIn, Counted, Linked, FreeAt}
 use Rattle.settling.specs.Steps.{foundAt}
 use Rattle.writing.specs.Steps.{Room}
 use Rattle.entry.proofs.Fitted.{given-tells}

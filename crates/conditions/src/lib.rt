@@ -25,7 +25,8 @@ ghost use Rattle.model.specs.Stored.{openState, abortedState, deleteKind, openP
 ghost use Rattle.model.specs.Reading.{ownChanges};
 ghost use Rattle.model.specs.Writing.{anyOpen};
 ghost use Rattle.model.specs.Calls.{heldIn, goneIn};
-ghost use Rattle.model.specs.Asked.{shapeIn, Proper};
+ghost use Rattle.layout.specs.Sizes.{Proper};
+ghost use Rattle.model.specs.Asked.{shapeIn};
 ghost use Rattle.model.specs.Asked.{Linked};
 ghost use Rattle.rows.specs.Finders.{Inside};
 ghost use Rattle.conditions.specs.Opens.{openAt};

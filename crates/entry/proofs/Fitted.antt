@@ -1,19 +1,18 @@
 -- A memory that passed the test is fitted.
 use Prim.Native.Nat.{ℕ, _-_, _^_, _<_}
-use mathlib.Core.Path.{_≡_, refl, sym, subst}
+use mathlib.Core.Path.{_≡_, sym, subst}
 use mathlib.Core.Bool.{true, false}
 use mathlib.Core.List.{List}
 use native.Mathlib.Omega.{arith}
 use lib.ListN.{getD}
 use borrow.Author.Tests.{leb-false}
-use Rattle.terms.specs.Measures.{Shape, withinLimits}
 use Rattle.words.specs.Words.{words}
 use Rattle.layout.specs.declared.Sizes.{Sizes}
 use Rattle.layout.specs.declared.Region.the-variants.{Current, PageState, PagePlace}
 use Rattle.layout.specs.Regions.{need}
-use Rattle.layout.specs.Sizes.{sizesOf}
+use Rattle.layout.specs.Sizes.{Proper}
 use Rattle.layout.specs.View.{View, view, rowsGiven, usedIn}
-use Rattle.layout.proofs.Limits.{limited, need-small}
+use Rattle.layout.proofs.Limits.{need-small, proper as proper-of}
 use Rattle.loops.proofs.Search.{and-true}
 use Rattle.loops.specs.declared.Found.{Found}
 use Rattle.history.specs.History.{rangeOf, noColumn, noRange}
@@ -28,27 +27,10 @@ use Rattle.facts.proofs.Usable.{link-tells, placed-tells}
 use Rattle.model.specs.Stored.{slot}
 use Rattle.model.specs.Calls.{notGivenIn}
 use Rattle.model.specs.Asked as A
-use Rattle.model.specs.Asked.{Proper, Linked}
+use Rattle.model.specs.Asked.{Linked}
 use Rattle.rows.proofs.Cases.{found-at, found-nothing}
 use Rattle.entry.specs.Fitted.{Fitted}
 use Rattle.entry.specs.Given.{rangeGiven}
-
-proper-of : (p : Shape) → withinLimits p ≡ true → Proper (sizesOf p)
-proper-of p e =
-    let l = limited p e in
-    record {
-      rows-are = refl;
-      slots-are = refl;
-      values-are = refl;
-      places-are = refl;
-      pages-are = refl;
-      columns-from = l .columns-from;
-      columns-to = l .columns-to;
-      ranges-from = l .ranges-from;
-      ranges-to = l .ranges-to;
-      capacity-to = l .capacity-to;
-      spares-to = l .spares-to;
-    }
 
 module _ (s : Sizes) (v : View) (proper : Proper s) (facts : MemoryFacts s v) where
   linked-of : Linked s v

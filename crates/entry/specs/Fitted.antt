@@ -15,7 +15,8 @@ use Rattle.scans.specs.Places.{openCount}
 use Rattle.scans.specs.Table.{tableOf}
 use Rattle.history.specs.History.{Call}
 use Rattle.model.specs.Calls.{say}
-use Rattle.model.specs.Asked.{shapeIn, Proper, Linked, Pooled}
+use Rattle.layout.specs.Sizes.{Proper}
+use Rattle.model.specs.Asked.{shapeIn, Linked, Pooled}
 
 pub record Fitted (s : Sizes) (m : List ℕ) : Type 0 where
   pub room : need s * 4 ≤ length m

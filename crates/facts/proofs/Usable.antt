@@ -26,9 +26,10 @@ use Rattle.terms.specs.Places.{freePlace}
 use Rattle.scans.specs.Places.{openCount, everyOpen, among, differ}
 use Rattle.facts.specs.Facts.{firstSlot, each, rowsBetween, rangeBetween, pageAtMost, inUse, waiting, countsWithin, rowNamed, rangeNamesRows, recordsNameRows, numbersGiven, linkHolds, rowLinked, recordLinked, rangeLinked, linksHold, stampsWithin, mergesWithin, openDiffer, pagePlaced, pagesPlaced, pageRange, lineageWithin, lineagesWithin, factsHold}
 use Rattle.facts.specs.Usable.{shapeIn, sizesIn, measuresBytes, usable}
-use Rattle.facts.specs.Tests.{Sized}
+use Rattle.layout.specs.Sizes.{Proper}
 use Rattle.facts.proofs.Each.{each-tells}
-use Rattle.facts.proofs.Ready.{Stored, stored, at-most, sized}
+use Rattle.layout.proofs.Limits.{proper}
+use Rattle.facts.proofs.Ready.{Stored, stored, at-most}
 use Rattle.facts.proofs.Within.{range-in}
 
 -- a link, in range g, of row r: at most `most`, and if it is not 0 its record is of that row
@@ -144,7 +145,7 @@ module _ (s : Sizes) (v : View) (long : Long s v) (k : Region) (at n low high : 
 
 -- ---- all clauses
 
-module _ (s : Sizes) (v : View) (ps : List Place) (z : Sized s) (long : Long s v) where
+module _ (s : Sizes) (v : View) (ps : List Place) (z : Proper s) (long : Long s v) where
   -- words of the given rows, and of the used records
   rows-tell : (k : Region) (low high : ℕ) → Stored s v → len s k ≡ s .rows → rowsBetween v k low high ≡ true
       → (r : ℕ) → r < rowsGiven v → (low ≤ getD (v k) r 0) × (getD (v k) r 0 ≤ high)
@@ -224,5 +225,5 @@ usable-tells m ps e =
       within = b .0;
       room = r;
       places = leb-true mostScans (length ps) (d .0);
-      facts = facts-tell s (view s (words m)) ps (sized (shapeIn (words m)) (b .0)) (view-long s (words m) (omega (arith, length-words m))) (d .1);
+      facts = facts-tell s (view s (words m)) ps (proper (shapeIn (words m)) (b .0)) (view-long s (words m) (omega (arith, length-words m))) (d .1);
     }

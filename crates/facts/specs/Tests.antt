@@ -1,5 +1,4 @@
--- What the functions that test the facts cite in their contracts beside the facts: sizes that a shape within the limits makes, counts that are within them,
--- and the facts in the order in which the memory is gone through. Nothing here is needed to read the facts.
+-- What the functions that test the facts cite in their contracts beside the facts: counts that are within the sizes, and the facts in the order in which the memory is gone through. Nothing here is needed to read the facts.
 use Prim.Native.Nat.{ℕ, _*_, _≤_}
 use mathlib.Core.Path.{_≡_}
 use mathlib.Core.Bool.{Bool, true, _&&_}
@@ -7,6 +6,7 @@ use mathlib.Core.List.{List, map}
 use lib.Dec.{leb}
 use lib.ListN.{length}
 use Rattle.layout.specs.declared.Sizes.{Sizes}
+use Rattle.layout.specs.Sizes.{Proper}
 use Rattle.layout.specs.declared.Region.the-variants.{Opens, RowTransaction, RowStamp, TailTransaction, TailStamp, PageReplaced, PageNewest}
 use Rattle.terms.specs.Measures.{withinLimits}
 use Rattle.terms.specs.declared.Place.{Place}
@@ -20,23 +20,10 @@ use Rattle.facts.specs.Usable.{shapeIn, sizesIn}
 use Rattle.scans.specs.Places.{everyOpen, differ}
 use Rattle.facts.specs.Facts.{storedWithin, linksHold, pagesPlaced, lineagesWithin, each, inUse, waiting, rowLinked, rowsBetween, rangeBetween, rangeNamesRows, rangeLinked, pageAtMost}
 
--- sizes that a shape within the limits makes
-pub record Sized (s : Sizes) : Type 0 where
-  pub columns-from : 1 ≤ s .columns
-  pub columns-to : s .columns ≤ 16
-  pub ranges-to : s .ranges ≤ 16
-  pub ranges-from : 1 ≤ s .ranges
-  pub capacity-to : s .capacity ≤ 512
-  pub pages-to : s .pages ≤ 512
-  pub rows-are : s .rows ≡ s .ranges * 64
-  pub slots-are : s .slots ≡ s .ranges * s .capacity
-  pub places-are : s .places ≡ s .columns * s .ranges
-  pub places-in : s .places ≤ s .pages
-
 -- a memory in which every access to what is given and used lies within it: the counts of rows and of records are within the sizes
 pub record Ready (s : Sizes) (m : List ℕ) : Type 0 where
   pub room : need s * 4 ≤ length m
-  pub sized : Sized s
+  pub proper : Proper s
   pub rows-in : rowsGiven (view s (words m)) ≤ s .rows
   pub records-in : (g : ℕ) → usedIn (view s (words m)) g ≤ s .capacity
 

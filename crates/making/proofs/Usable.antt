@@ -26,13 +26,12 @@ use Rattle.layout.specs.View.{View, view, put, fill, number, renew, lay, lastSt
 use Rattle.layout.proofs.Cut.{join-length}
 use Rattle.layout.proofs.View.{Long, Fits, view-at, put-long, fill-long, number-long, put-fits, fill-fits, number-fits}
 use Rattle.layout.proofs.Lay.{view-lay}
-use Rattle.layout.proofs.Limits.{limited}
+use Rattle.layout.proofs.Limits.{limited, proper}
 use Rattle.terms.specs.Places.{freePlace}
 use Rattle.scans.specs.Places.{openCount, everyOpen, differ}
 use Rattle.facts.specs.Facts.{each, rowsBetween, rangeBetween, pageAtMost, inUse, waiting, storedWithin, countsWithin, rowNamed, rangeNamesRows, recordsNameRows, numbersGiven, rangeLinked, recordLinked, linksHold, stampsWithin, mergesWithin, openDiffer, pagePlaced, pagesPlaced, pageRange, lineageWithin, lineagesWithin, factsHold}
 use Rattle.facts.specs.Usable.{shapeIn, sizesIn, measuresBytes, usable}
 use Rattle.facts.proofs.Each.{each-true}
-use Rattle.facts.proofs.Ready.{sized}
 use Rattle.making.specs.Made.{blankView, placedView, madeView, made, madeList}
 
 -- ---- zeros
@@ -94,8 +93,8 @@ module _ (p : Shape) (w : withinLimits p ≡ true) where
   made-fits =
       let s = sizesOf p in
       let l = limited p w in
-      let z = sized p w in
-      let k : s .places ≤ 2 ^ 32 = omega (arith, z .places-in, z .pages-to) in
+      let z = proper p w in
+      let k : s .places ≤ 2 ^ 32 = omega (arith, z .pages-are, z .pages-to) in
       put-fits Header _
       (put-fits Header _ (put-fits Header _ (put-fits Header _ (number-fits Current _ (number-fits PagePlace _ (fill-fits PageState _ blank-fits 0 (s .places) 1 (omega arith)) 0 (s .places) k) 0 (s .places) k) 3 (p .spares) (omega (arith, l .spares-to))) 2 (p .capacity) (omega (arith, l .capacity-to))) 1 (p .ranges) (omega (arith, l .ranges-to)))
       0 (p .columns) (omega (arith, l .columns-to))
@@ -187,20 +186,20 @@ module _ (p : Shape) (w : withinLimits p ≡ true) where
     place-at i h =
         let k = sizesOf p .places in
         let m = sizesOf p .pages in
-        rw (zero-add i) at (changed-at (λ j x. j) 0 (replicate m 0) k i (omega (arith, length-replicate {A = ℕ} m 0, sized p w .places-in)) h)
+        rw (zero-add i) at (changed-at (λ j x. j) 0 (replicate m 0) k i (omega (arith, length-replicate {A = ℕ} m 0, proper p w .pages-are)) h)
 
     state-at : (i : ℕ) → i < sizesOf p .places → getD (madeView p PageState) i 0 ≡ 1
     unfolding madeView placedView put number fill renew blankView
     state-at i h =
         let k = sizesOf p .places in
         let m = sizesOf p .pages in
-        rw (zero-add i) at (changed-at (λ j x. 1) 0 (replicate m 0) k i (omega (arith, length-replicate {A = ℕ} m 0, sized p w .places-in)) h)
+        rw (zero-add i) at (changed-at (λ j x. 1) 0 (replicate m 0) k i (omega (arith, length-replicate {A = ℕ} m 0, proper p w .pages-are)) h)
 
     placed : pagesPlaced (sizesOf p) (madeView p) ≡ true
     unfolding pagesPlaced pagePlaced
     placed =
         each-true (pagePlaced (sizesOf p) (madeView p)) (sizesOf p .places)
-        (λ i h. rw (current-at i h, state-at i h, place-at i h, lt-ltb i (sizesOf p .pages) (omega (arith, sized p w .places-in)), eq-eqb i i refl))
+        (λ i h. rw (current-at i h, state-at i h, place-at i h, lt-ltb i (sizesOf p .pages) (omega (arith, proper p w .pages-are)), eq-eqb i i refl))
 
     lineages : lineagesWithin (sizesOf p) (madeView p) ≡ true
     unfolding lineagesWithin lineageWithin

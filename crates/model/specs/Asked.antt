@@ -1,10 +1,9 @@
--- What the functions over the lent memory ask for before they read or write: that sizes are those of a shape within the limits, and narrow stored facts of the
--- view, each a record of named facts. Every call tests the stored facts first, so that it can hand these on.
-use Prim.Native.Nat.{ℕ, _+_, _*_, _≤_, _<_}
+-- What the functions over the lent memory ask for before they read or write: narrow stored facts of the view, each a record of named facts. Every call tests the stored facts first, so that it can hand these on.
+use Prim.Native.Nat.{ℕ, _≤_, _<_}
 use mathlib.Core.Path.{_≡_}
 use lib.Dec.{eqb}
 use lib.ListN.{getD}
-use Rattle.terms.specs.Measures.{Shape, rangeRows, mostColumns, mostRanges, mostRecords, mostSpares, mostTransactions}
+use Rattle.terms.specs.Measures.{Shape, mostTransactions}
 use Rattle.layout.specs.declared.Sizes.{Sizes}
 use Rattle.layout.specs.declared.Region.{Region}
 use Rattle.layout.specs.View.{View, rowsGiven, usedIn}
@@ -15,20 +14,6 @@ use Rattle.model.specs.Stored.{slot, openPlace}
 -- the shape that sizes were made of
 abbrev pub shapeIn : Sizes → Shape
 shapeIn s = record { columns = s .columns; ranges = s .ranges; capacity = s .capacity; spares = s .spares }
-
--- The sizes are what their shape makes. Said field by field, since sums and bounds are what the code's indices want.
-pub record Proper (s : Sizes) : Type 0 where
-  pub rows-are : s .rows ≡ s .ranges * rangeRows
-  pub slots-are : s .slots ≡ s .ranges * s .capacity
-  pub values-are : s .values ≡ s .slots * s .columns
-  pub places-are : s .places ≡ s .columns * s .ranges
-  pub pages-are : s .pages ≡ s .places + s .spares
-  pub columns-from : 1 ≤ s .columns
-  pub columns-to : s .columns ≤ mostColumns
-  pub ranges-from : 1 ≤ s .ranges
-  pub ranges-to : s .ranges ≤ mostRanges
-  pub capacity-to : s .capacity ≤ mostRecords
-  pub spares-to : s .spares ≤ mostSpares
 
 -- The counts lie within the measures: rows given, and tail records used of each range.
 pub record Counted (s : Sizes) (v : View) : Type 0 where

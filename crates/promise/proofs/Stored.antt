@@ -24,7 +24,7 @@ use Rattle.history.proofs.Timely.{Timely}
 use Rattle.history.proofs.Links.{noRecord, lastOf, last-of-row}
 use Rattle.scans.specs.Places.{opened, openCount}
 use Rattle.facts.specs.Facts.{inUse, factsHold}
-use Rattle.facts.proofs.Ready.{Stored, sized}
+use Rattle.facts.proofs.Ready.{Stored}
 use Rattle.facts.proofs.Usable.{Linked, Usable}
 use Rattle.terms.specs.Places.{bears, place, freePlace, isScan}
 use Rattle.model.specs.Stored.{rowIn, recordIn, valueIn, pageIn, cellIn, currentIn, placeOf, placesOf, pagesOf, currentPage, scanPlace}
@@ -334,4 +334,4 @@ module _ (S : Shape) (v : View) (ps : List Place) (h : History) (o : Represents 
       }
 
   pub represented-facts : withinLimits S ≡ true → factsHold (sizesOf S) v ps ≡ true
-  represented-facts w = facts-hold (sizesOf S) v ps (sized S w) (o .whole .long) represented-usable
+  represented-facts w = facts-hold (sizesOf S) v ps (proper S w) (o .whole .long) represented-usable

@@ -21,7 +21,7 @@ use Rattle.layout.proofs.View.{Long}
 use Rattle.terms.specs.Places.{freePlace}
 use Rattle.scans.specs.Places.{everyOpen, among, differ}
 use Rattle.facts.specs.Facts.{firstSlot, each, rowsBetween, rangeBetween, pageAtMost, inUse, waiting, storedWithin, countsWithin, rowNamed, rangeNamesRows, recordsNameRows, numbersGiven, linkHolds, rowLinked, recordLinked, rangeLinked, linksHold, stampsWithin, mergesWithin, openDiffer, pagePlaced, pagesPlaced, lineageWithin, lineagesWithin, factsHold}
-use Rattle.facts.specs.Tests.{Sized}
+use Rattle.layout.specs.Sizes.{Proper}
 use Rattle.facts.proofs.Each.{each-true}
 use Rattle.facts.proofs.Within.{range-in}
 use Rattle.facts.proofs.Usable.{Linked, Usable, numbers-at}
@@ -74,7 +74,7 @@ page-holds v least k most p f =
 
 -- ---- all clauses
 
-module _ (s : Sizes) (v : View) (ps : List Place) (z : Sized s) (long : Long s v) (u : Usable s v ps) where
+module _ (s : Sizes) (v : View) (ps : List Place) (z : Proper s) (long : Long s v) (u : Usable s v ps) where
   stretch : (k : Region) (at n low high : ℕ) → at + n ≤ len s k → ((i : ℕ) → i < n → (low ≤ getD (v k) (at + i) 0) × (getD (v k) (at + i) 0 ≤ high))
       → allBetween low high (region (v k) at n) ≡ true
   stretch k at n low high b f =

@@ -22,7 +22,8 @@ ghost use Rattle.layout.specs.Regions.{need};
 ghost use Rattle.layout.specs.View.{view, rowsGiven, usedIn};
 ghost use Rattle.model.specs.Stored.{recordIn, pageIn, valueIn, cellIn, within, currentIn};
 ghost use Rattle.model.specs.Reading.{answersFor, walk, belowLineage, wordIn, readIn, readCurrent};
-ghost use Rattle.model.specs.Asked.{shapeIn, Proper};
+ghost use Rattle.layout.specs.Sizes.{Proper};
+ghost use Rattle.model.specs.Asked.{shapeIn};
 ghost use Rattle.model.specs.Asked.{Linked, Pooled};
 ghost use Rattle.reading.specs.Reached.{Reached};
 

@@ -7,7 +7,7 @@ use Rattle.layout.specs.declared.Sizes.{Sizes}
 use Rattle.layout.specs.declared.Region.the-variants.{RowLink}
 use Rattle.layout.specs.View.{View, rowsGiven, usedIn}
 use Rattle.history.specs.History.{rangeOf}
-use Rattle.model.specs.Asked.{Proper}
+use Rattle.layout.specs.Sizes.{Proper}
 use Rattle.model.specs.Asked.{Linked}
 
 -- place i of block p, of blocks of one size

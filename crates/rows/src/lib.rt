@@ -17,7 +17,8 @@ ghost use Rattle.layout.specs.View.{view, rowsGiven};
 ghost use Rattle.history.specs.History.{bit, rangeOf};
 ghost use Rattle.model.specs.Stored.{rowIn, recordIn, slot};
 ghost use Rattle.model.specs.Reading.{sees, seesRow, seesRecord, visibleIn};
-ghost use Rattle.model.specs.Asked.{shapeIn, Proper};
+ghost use Rattle.layout.specs.Sizes.{Proper};
+ghost use Rattle.model.specs.Asked.{shapeIn};
 ghost use Rattle.model.specs.Asked.{Linked};
 ghost use Rattle.rows.specs.Finders.{headAt, Inside};
 

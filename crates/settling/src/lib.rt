@@ -27,7 +27,8 @@ ghost use Rattle.layout.specs.Regions.{index, len, need, scansAt};
 ghost use Rattle.layout.specs.View.{view, put, transactionsGiven, scansGiven, usedIn};
 ghost use Rattle.terms.specs.Places.{place};
 ghost use Rattle.model.specs.Writing.{begun, settled, committedIn, abortedIn};
-ghost use Rattle.model.specs.Asked.{shapeIn, Proper, Counted, FreeAt, OpenAt};
+ghost use Rattle.layout.specs.Sizes.{Proper};
+ghost use Rattle.model.specs.Asked.{shapeIn, Counted, FreeAt, OpenAt};
 ghost use Rattle.settling.specs.Steps.{foundAt, notedAt, tailMarked, tailsMarked};
 
 // The states of a row and a tail record, as stored. What an open transaction wrote has the state 0.

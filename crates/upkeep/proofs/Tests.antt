@@ -25,7 +25,8 @@ use Rattle.facts.proofs.Usable.{placed-tells}
 use Rattle.model.specs.Stored.{pageIn, currentIn, pagesOf}
 use Rattle.model.specs.Writing.{freeIn}
 use Rattle.model.specs.Calls.{testsIn, outOfReachIn}
-use Rattle.model.specs.Asked.{shapeIn, Proper, Linked}
+use Rattle.layout.specs.Sizes.{Proper}
+use Rattle.model.specs.Asked.{shapeIn, Linked}
 use Rattle.rows.proofs.Indices.{place-in}
 use Rattle.settling.specs.Steps.{foundAt}
 use Rattle.merging.specs.Steps.{Mergeable}

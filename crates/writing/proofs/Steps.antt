@@ -27,7 +27,8 @@ use Rattle.layout.specs.View.{View, view, renew, put, usedIn}
 use Rattle.layout.proofs.View.{view-long}
 use Rattle.model.specs.Stored.{openPlace, slot, rowIn, cellIn, currentIn, asOriginal}
 use Rattle.model.specs.Writing.{noted, putCells, nextSlot, appended, filledIn, newBits, newBitsIn, recordsWanted, originalAppended, settingAppended, updatedIn}
-use Rattle.model.specs.Asked.{shapeIn, Proper, OpenAt}
+use Rattle.layout.specs.Sizes.{Proper}
+use Rattle.model.specs.Asked.{shapeIn, OpenAt}
 use Rattle.settling.specs.Steps.{notedAt}
 use Rattle.settling.proofs.Views.{renew-none, turn-put, change-none, change-next}
 use Rattle.settling.proofs.Indices.{range-in}

@@ -21,7 +21,8 @@ ghost use Rattle.layout.specs.declared.Region.{Region};
 ghost use Rattle.layout.specs.View.{view, put, rowsGiven, usedIn};
 ghost use Rattle.model.specs.Stored.{slot};
 ghost use Rattle.model.specs.Writing.{insertedIn, appended, newBits, recordsWanted, settingAppended, updatedIn, deletedIn};
-ghost use Rattle.model.specs.Asked.{shapeIn, Proper, Pooled, OpenAt};
+ghost use Rattle.layout.specs.Sizes.{Proper};
+ghost use Rattle.model.specs.Asked.{shapeIn, Pooled, OpenAt};
 ghost use Rattle.writing.specs.Steps.{rowPut, cellsPut, recordPut, cellWords, valueWords, newestFilled, originalPut, recordsPut, Room, Newest};
 
 // The kinds of tail records, as stored.

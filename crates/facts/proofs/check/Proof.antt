@@ -10,10 +10,9 @@ use borrow.Author.Tests.{not-true, not-false}
 use Rattle.terms.specs.Measures.{withinLimits}
 use Rattle.words.specs.Words.{words}
 use Rattle.layout.specs.Regions.{need}
-use Rattle.layout.proofs.Limits.{need-small}
+use Rattle.layout.proofs.Limits.{need-small, proper}
 use Rattle.scans.proofs.Table.{table-length}
 use Rattle.facts.specs.Usable.{shapeIn, sizesIn}
-use Rattle.facts.proofs.Ready.{sized}
 use Rattle.facts.proofs.Answers.{too-short, out-of-limits, no-room, few-places, by-facts}
 use Rattle.facts.proofs.check.Statement.{statement}
 use Rattle.facts.proofs.check.Tie as tie
@@ -88,7 +87,7 @@ facts-hold-requires : tie.Need-facts-hold-requires
 unfolding sizesIn
 facts-hold-requires c κs =
     let n = c .before .before .before in
-    (rw (n .words-needed .ensures) at (c .before .before .if3 .left), rw (sizes-read (n .before)) (sized (shapeIn (words (memory (c .before .before .before .before .before .before .before .before .before .before .before .before .before)))) (within (n .before .before))))
+    (rw (n .words-needed .ensures) at (c .before .before .if3 .left), rw (sizes-read (n .before)) (proper (shapeIn (words (memory (c .before .before .before .before .before .before .before .before .before .before .before .before .before)))) (within (n .before .before))))
 
 returns-5 : tie.Need-returns-5
 returns-5 c =

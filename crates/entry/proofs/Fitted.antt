@@ -17,7 +17,7 @@ use Rattle.loops.proofs.Search.{and-true}
 use Rattle.loops.specs.declared.Found.{Found}
 use Rattle.history.specs.History.{rangeOf, noColumn, noRange}
 use Rattle.facts.specs.Facts.{linksHold, rowLinked, rangeLinked, recordLinked, pagesPlaced, pagePlaced}
-use Rattle.facts.specs.Usable.{shapeIn, sizesIn}
+use Rattle.facts.specs.Usable.{storedShape, storedSizes}
 use Rattle.facts.specs.declared.Checked.{Checked}
 use Rattle.facts.specs.declared.Checked.the-variants.{Fit}
 use Rattle.facts.specs.Tests.{MemoryFacts, Passed, Safe}
@@ -26,8 +26,7 @@ use Rattle.facts.proofs.Ready.{stored}
 use Rattle.facts.proofs.Usable.{link-tells, placed-tells}
 use Rattle.model.specs.Stored.{slot}
 use Rattle.model.specs.Calls.{notGivenIn}
-use Rattle.model.specs.Asked as A
-use Rattle.model.specs.Asked.{Linked}
+use Rattle.model.specs.Asked.{shapeIn, Linked}
 use Rattle.rows.proofs.Cases.{found-at, found-nothing}
 use Rattle.entry.specs.Fitted.{Fitted}
 use Rattle.entry.specs.Given.{rangeGiven}
@@ -55,14 +54,14 @@ module _ (s : Sizes) (v : View) (proper : Proper s) (facts : MemoryFacts s v) wh
   at-place i h = placed-tells s v i (each-tells (pagePlaced s v) (s .places) (facts .placed) i h)
 
 pub fit-tells : (s : Sizes) (m : List ℕ) → Passed s m → Fitted s m
-unfolding sizesIn
+unfolding storedSizes
 fit-tells s m x =
     let v = view s (words m) in
-    let proper : Proper s = subst Proper (sym (x .sizes-are)) (proper-of (shapeIn (words m)) (x .within)) in
+    let proper : Proper s = subst Proper (sym (x .sizes-are)) (proper-of (storedShape (words m)) (x .within)) in
     let k = stored s v (x .facts .counts) in
     record {
       room = x .room;
-      small = subst (λ z. need z < 2 ^ 24) (sym (x .sizes-are)) (need-small (shapeIn (words m)) (x .within));
+      small = subst (λ z. need z < 2 ^ 24) (sym (x .sizes-are)) (need-small (storedShape (words m)) (x .within));
       proper = proper;
       linked = linked-of s v proper (x .facts);
       pooled = λ i h. (at-place s v proper (x .facts) i h) .0;
@@ -84,11 +83,11 @@ pub row-missing : (v : View) (r : ℕ) → rangeGiven v r ≡ Found.Nothing → 
 unfolding rangeGiven
 row-missing v r e = found-nothing (notGivenIn v r) (rangeOf r) e
 
-pub column-tells : (s : Sizes) (c : ℕ) → noColumn (A.shapeIn s) c ≡ false → c < s .columns
+pub column-tells : (s : Sizes) (c : ℕ) → noColumn (shapeIn s) c ≡ false → c < s .columns
 unfolding noColumn
 column-tells s c e = leb-false (s .columns) c e
 
-pub range-tells : (s : Sizes) (g : ℕ) → noRange (A.shapeIn s) g ≡ false → g < s .ranges
+pub range-tells : (s : Sizes) (g : ℕ) → noRange (shapeIn s) g ≡ false → g < s .ranges
 unfolding noRange
 range-tells s g e = leb-false (s .ranges) g e
 

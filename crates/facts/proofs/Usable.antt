@@ -25,7 +25,7 @@ use Rattle.layout.proofs.View.{Long, view-long}
 use Rattle.terms.specs.Places.{freePlace}
 use Rattle.scans.specs.Places.{openCount, everyOpen, among, differ}
 use Rattle.facts.specs.Facts.{firstSlot, each, rowsBetween, rangeBetween, pageAtMost, inUse, waiting, countsWithin, rowNamed, rangeNamesRows, recordsNameRows, numbersGiven, linkHolds, rowLinked, recordLinked, rangeLinked, linksHold, stampsWithin, mergesWithin, openDiffer, pagePlaced, pagesPlaced, pageRange, lineageWithin, lineagesWithin, factsHold}
-use Rattle.facts.specs.Usable.{shapeIn, sizesIn, measuresBytes, usable}
+use Rattle.facts.specs.Usable.{storedShape, storedSizes, measuresBytes, usable}
 use Rattle.layout.specs.Sizes.{Proper}
 use Rattle.facts.proofs.Each.{each-tells}
 use Rattle.layout.proofs.Limits.{proper}
@@ -207,15 +207,15 @@ module _ (s : Sizes) (v : View) (ps : List Place) (z : Proper s) (long : Long s 
 -- ---- and of a memory
 
 pub record UsableMemory (m : List ℕ) (ps : List Place) : Type 0 where
-  pub within : withinLimits (shapeIn (words m)) ≡ true
-  pub room : need (sizesIn (words m)) * 4 ≤ length m
+  pub within : withinLimits (storedShape (words m)) ≡ true
+  pub room : need (storedSizes (words m)) * 4 ≤ length m
   pub places : mostScans ≤ length ps
-  pub facts : Usable (sizesIn (words m)) (view (sizesIn (words m)) (words m)) ps
+  pub facts : Usable (storedSizes (words m)) (view (storedSizes (words m)) (words m)) ps
 
 pub usable-tells : (m : List ℕ) (ps : List Place) → usable m ps ≡ true → UsableMemory m ps
-unfolding usable sizesIn
+unfolding usable storedSizes
 usable-tells m ps e =
-    let s = sizesIn (words m) in
+    let s = storedSizes (words m) in
     let a = and-true (leb measuresBytes (length m)) _ e in
     let b = and-true _ _ (a .1) in
     let c = and-true _ _ (b .1) in
@@ -225,5 +225,5 @@ usable-tells m ps e =
       within = b .0;
       room = r;
       places = leb-true mostScans (length ps) (d .0);
-      facts = facts-tell s (view s (words m)) ps (proper (shapeIn (words m)) (b .0)) (view-long s (words m) (omega (arith, length-words m))) (d .1);
+      facts = facts-tell s (view s (words m)) ps (proper (storedShape (words m)) (b .0)) (view-long s (words m) (omega (arith, length-words m))) (d .1);
     }

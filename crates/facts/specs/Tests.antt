@@ -16,7 +16,7 @@ use Rattle.layout.specs.Regions.{need}
 use Rattle.layout.specs.View.{View, view, rowsGiven, transactionsGiven, scansGiven, lastStamp, mergesMade, usedIn}
 use Rattle.facts.specs.declared.Checked.{Checked}
 use Rattle.facts.specs.declared.Checked.the-variants.{Fit, Unfit}
-use Rattle.facts.specs.Usable.{shapeIn, sizesIn}
+use Rattle.facts.specs.Usable.{storedShape, storedSizes}
 use Rattle.scans.specs.Places.{everyOpen, differ}
 use Rattle.facts.specs.Facts.{storedWithin, linksHold, pagesPlaced, lineagesWithin, each, inUse, waiting, rowLinked, rowsBetween, rangeBetween, rangeNamesRows, rangeLinked, pageAtMost}
 
@@ -36,8 +36,8 @@ pub record MemoryFacts (s : Sizes) (v : View) : Type 0 where
 
 -- What holds of a memory that passed, whatever table it came with, even one that stands for no list: every access of a call rests on this.
 pub record Passed (s : Sizes) (m : List ℕ) : Type 0 where
-  pub sizes-are : s ≡ sizesIn (words m)
-  pub within : withinLimits (shapeIn (words m)) ≡ true
+  pub sizes-are : s ≡ storedSizes (words m)
+  pub within : withinLimits (storedShape (words m)) ≡ true
   pub room : need s * 4 ≤ length m
   pub facts : MemoryFacts s (view s (words m))
 

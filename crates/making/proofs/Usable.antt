@@ -30,7 +30,7 @@ use Rattle.layout.proofs.Limits.{limited, proper}
 use Rattle.terms.specs.Places.{freePlace}
 use Rattle.scans.specs.Places.{openCount, everyOpen, differ}
 use Rattle.facts.specs.Facts.{each, rowsBetween, rangeBetween, pageAtMost, inUse, waiting, storedWithin, countsWithin, rowNamed, rangeNamesRows, recordsNameRows, numbersGiven, rangeLinked, recordLinked, linksHold, stampsWithin, mergesWithin, openDiffer, pagePlaced, pagesPlaced, pageRange, lineageWithin, lineagesWithin, factsHold}
-use Rattle.facts.specs.Usable.{shapeIn, sizesIn, measuresBytes, usable}
+use Rattle.facts.specs.Usable.{storedShape, storedSizes, measuresBytes, usable}
 use Rattle.facts.proofs.Each.{each-true}
 use Rattle.making.specs.Made.{blankView, placedView, madeView, made, madeList}
 
@@ -225,8 +225,8 @@ module _ (p : Shape) (w : withinLimits p ≡ true) where
         rw (zero-add i) at (sym (view-at (sizesOf p) ws Header i h))
         ∙ ap (λ (v : View). getD (v Header) i 0) seen
 
-    shape-seen : shapeIn (words (lay (sizesOf p) (madeView p) m)) ≡ p
-    unfolding shapeIn madeView placedView put number fill renew blankView
+    shape-seen : storedShape (words (lay (sizesOf p) (madeView p) m)) ≡ p
+    unfolding storedShape madeView placedView put number fill renew blankView
     shape-seen = rw (header-at 0 (omega arith), header-at 1 (omega arith), header-at 2 (omega arith), header-at 3 (omega arith))
 
     laid-length : length (lay (sizesOf p) (madeView p) m) ≡ length m
@@ -244,7 +244,7 @@ module _ (p : Shape) (w : withinLimits p ≡ true) where
 
     -- what an accepted making left is usable, with a scan list whose places were all freed
     pub made-usable : (n : ℕ) → mostScans ≤ n → usable (lay (sizesOf p) (madeView p) m) (replicate n freePlace) ≡ true
-    unfolding usable sizesIn bytesNeeded
+    unfolding usable storedSizes bytesNeeded
     made-usable n k =
         let l = laid-length in
         rw (shape-seen, w, seen, l, length-replicate n freePlace, le-leb measuresBytes (length m) (omega (arith, needs-some)), le-leb (need (sizesOf p) * 4) (length m) room, le-leb mostScans n k)

@@ -14,6 +14,7 @@ use Rattle.terms.specs.declared.Place.{Place}
 use Rattle.layout.specs.declared.Region.the-variants.{Opens, TailRow, Used, Current, PageState}
 use Rattle.layout.specs.View.{View, rowsGiven, transactionsGiven, scansGiven, lastStamp, mergesMade, usedIn}
 use Rattle.layout.specs.Sizes.{sizesOf}
+use Rattle.layout.proofs.Limits.{proper}
 use Rattle.history.specs.History.{History, State, unknown, active, aborted, committed, Scan, count, any, nth, isActive, stateOf, rowAt, rangeOf, recordsOf, scanAt}
 use Rattle.history.proofs.Lists.{all-at, parts, eqb-other, eqb-equal, place-any}
 use Rattle.history.specs.Latest.{stampOf}

@@ -13,7 +13,7 @@ use Rattle.terms.specs.declared.Place.{Place}
 use Rattle.words.specs.Words.{words}
 use Rattle.layout.specs.View.{View}
 use Rattle.terms.specs.Places.{freePlace}
-use Rattle.facts.specs.Usable.{shapeIn, usable}
+use Rattle.facts.specs.Usable.{storedShape, usable}
 use Rattle.facts.proofs.Usable.{usable-tells}
 use Rattle.history.specs.History.{Call, Verdict, accept, refuse, verdict}
 use Rattle.model.specs.Calls.{testsIn, placesAfter, placesIf, placesNext}
@@ -91,7 +91,7 @@ unfolding listAfter placesNext
 list-changed m ps c = go (usable m ps)
   where
     S : Shape
-    S = shapeIn (words m)
+    S = storedShape (words m)
 
     v : View
     v = storeView m

@@ -14,7 +14,7 @@ use Rattle.layout.specs.View.{View, view, lay}
 use Rattle.layout.proofs.Lay.{lay-view}
 use Rattle.scans.specs.declared.Scans.{Scans}
 use Rattle.scans.specs.Table.{tableOf}
-use Rattle.facts.specs.Usable.{shapeIn, sizesIn, usable}
+use Rattle.facts.specs.Usable.{storedShape, storedSizes, usable}
 use Rattle.facts.proofs.Usable.{usable-tells}
 use Rattle.history.specs.History.{Call, Verdict, accept, refuse, verdict}
 use Rattle.model.specs.Calls.{testsIn, actIn, placesAfter, viewIf, placesIf, viewNext, placesNext}
@@ -47,16 +47,16 @@ unfolding memoryAfter viewNext storeView
 memory-kept m ps x b q = go (usable m ps) (λ e. usable-tells m ps e .room)
   where
     S : Shape
-    S = shapeIn (words m)
+    S = storedShape (words m)
 
-    go : (f : Bool) → (f ≡ true → need (sizesIn (words m)) * 4 ≤ length m)
-        → m ≡ cond f (lay (sizesIn (words m)) (viewNext S (view (sizesIn (words m)) (words m)) ps x) m) m
+    go : (f : Bool) → (f ≡ true → need (storedSizes (words m)) * 4 ≤ length m)
+        → m ≡ cond f (lay (storedSizes (words m)) (viewNext S (view (storedSizes (words m)) (words m)) ps x) m) m
     go true h =
         sym
-        (ap (λ (v : View). lay (sizesIn (words m)) v m)
-        (ap (viewIf (verdict (testsIn S (view (sizesIn (words m)) (words m)) ps x)) (view (sizesIn (words m)) (words m))) (q S (view (sizesIn (words m)) (words m)) ps)
+        (ap (λ (v : View). lay (storedSizes (words m)) v m)
+        (ap (viewIf (verdict (testsIn S (view (storedSizes (words m)) (words m)) ps x)) (view (storedSizes (words m)) (words m))) (q S (view (storedSizes (words m)) (words m)) ps)
         ∙ same-view _ _)
-        ∙ lay-view (sizesIn (words m)) m b (h refl))
+        ∙ lay-view (storedSizes (words m)) m b (h refl))
     go false h = refl
 
 pub list-kept : (m : List ℕ) (ps : List Place) (x : Call) → KeepsList x → ps ≡ listAfter m ps x
@@ -64,10 +64,10 @@ unfolding listAfter placesNext storeView
 list-kept m ps x q = go (usable m ps)
   where
     v : View
-    v = view (sizesIn (words m)) (words m)
+    v = view (storedSizes (words m)) (words m)
 
-    go : (f : Bool) → ps ≡ cond f (placesNext (shapeIn (words m)) v ps x) ps
-    go true = sym (ap (placesIf (verdict (testsIn (shapeIn (words m)) v ps x)) ps) (q v ps) ∙ same-places _ _)
+    go : (f : Bool) → ps ≡ cond f (placesNext (storedShape (words m)) v ps x) ps
+    go true = sym (ap (placesIf (verdict (testsIn (storedShape (words m)) v ps x)) ps) (q v ps) ∙ same-places _ _)
     go false = refl
 
 -- ---- a call is served: f is what becomes of the answer

@@ -14,19 +14,19 @@ use Rattle.words.specs.Words.{words}
 use Rattle.words.proofs.Words.{length-words}
 use Rattle.layout.specs.declared.Region.{Region}
 use Rattle.layout.specs.Regions.{need}
-use Rattle.layout.specs.View.{View, view}
+use Rattle.layout.specs.View.{View, view, rowsGiven, usedIn}
 use Rattle.layout.proofs.View.{view-long}
 use Rattle.history.specs.History.{Call, accept, verdict, any, rangeOf}
 use Rattle.history.proofs.Accepted.{passed}
 use Rattle.terms.specs.Places.{place}
-use Rattle.model.specs.Stored.{usedIn, headerIn, rowsGiven}
 use Rattle.model.specs.Writing.{recordsWanted}
 use Rattle.model.specs.Calls.{notGivenIn, lacksIn, testsIn}
-use Rattle.model.specs.Asked.{shapeIn, Proper, Counted, Linked, FreeAt}
+use Rattle.layout.specs.Sizes.{Proper}
+use Rattle.model.specs.Asked.{shapeIn, Counted, Linked, FreeAt}
 use Rattle.settling.specs.Steps.{foundAt}
 use Rattle.writing.specs.Steps.{Room}
 use Rattle.entry.proofs.Fitted.{given-tells}
-use Rattle.lending.proofs.Ends.{off}
+use Rattle.history.proofs.Lists.{is-false}
 
 -- ---- what passed tests say
 module _ (s : Sizes) (v : View) (l : Linked s v) (r n : ℕ) where
@@ -43,14 +43,14 @@ module _ (s : Sizes) (v : View) (l : Linked s v) (t r : ℕ) where
   unfolding testsIn
   delete-room e =
       let p = passed (testsIn (shapeIn s) v [] (Call.delete t r)) e in
-      room s v l r 1 (off (notGivenIn v r) (p .1 .0)) (off (lacksIn (shapeIn s) v r 1) (p .1 .1 .1 .1 .0))
+      room s v l r 1 (is-false (notGivenIn v r) (p .1 .0)) (is-false (lacksIn (shapeIn s) v r 1) (p .1 .1 .1 .1 .0))
 
   pub update-room : (mask : ℕ) → verdict (testsIn (shapeIn s) v [] (Call.update t r mask [])) ≡ accept → Room s v r (recordsWanted v r mask)
   unfolding testsIn
   update-room mask e =
       let p = passed (testsIn (shapeIn s) v [] (Call.update t r mask [])) e in
-      room s v l r (recordsWanted v r mask) (off (notGivenIn v r) (p .1 .0))
-      (off (lacksIn (shapeIn s) v r (recordsWanted v r mask)) (p .1 .1 .1 .1 .1 .0))
+      room s v l r (recordsWanted v r mask) (is-false (notGivenIn v r) (p .1 .0))
+      (is-false (lacksIn (shapeIn s) v r (recordsWanted v r mask)) (p .1 .1 .1 .1 .1 .0))
 
 -- the range g of row r lacks n tail records
 pub lacks-is : (s : Sizes) (v : View) (r g n : ℕ) → g ≡ rangeOf r → lacksIn (shapeIn s) v r n ≡ ltb (s .capacity) (usedIn v g + n)
@@ -58,12 +58,12 @@ unfolding lacksIn
 lacks-is s v r g n e = rw e
 
 -- ---- the rows of a store are all given, or not
-module _ (s : Sizes) (v : View) (n : ℕ) (p : Proper s) (e : n ≡ headerIn v rowsGiven) where
-  pub full : s .rows ≤ n → leb (s .ranges * rangeRows) (headerIn v rowsGiven) ≡ true
-  full h = le-leb (s .ranges * rangeRows) (headerIn v rowsGiven) (omega (arith, p .rows-are))
+module _ (s : Sizes) (v : View) (n : ℕ) (p : Proper s) (e : n ≡ rowsGiven v) where
+  pub full : s .rows ≤ n → leb (s .ranges * rangeRows) (rowsGiven v) ≡ true
+  full h = le-leb (s .ranges * rangeRows) (rowsGiven v) (omega (arith, p .rows-are))
 
-  pub not-full : n < s .rows → leb (s .ranges * rangeRows) (headerIn v rowsGiven) ≡ false
-  not-full h = lt-leb (s .ranges * rangeRows) (headerIn v rowsGiven) (omega (arith, p .rows-are))
+  pub not-full : n < s .rows → leb (s .ranges * rangeRows) (rowsGiven v) ≡ false
+  not-full h = lt-leb (s .ranges * rangeRows) (rowsGiven v) (omega (arith, p .rows-are))
 
 pub counted : (s : Sizes) (v : View) → Linked s v → Counted s v
 counted s v l = record { rows-given = l .rows-few; records-used = l .used-few }

@@ -30,11 +30,12 @@ ghost use Prim.Native.Nat.{_*_, _≤_, _<_};
 ghost use lib.ListN.{length};
 ghost use Rattle.words.specs.Words.{words};
 ghost use Rattle.layout.specs.Regions.{need};
-ghost use Rattle.layout.specs.View.{view};
+ghost use Rattle.layout.specs.View.{view, rowsGiven};
 ghost use Rattle.history.specs.History.{Call, verdict, rangeOf};
-ghost use Rattle.model.specs.Stored.{openPlace, headerIn, rowsGiven};
+ghost use Rattle.model.specs.Stored.{openPlace};
 ghost use Rattle.model.specs.Calls.{testsIn};
-ghost use Rattle.model.specs.Asked.{shapeIn, Proper, Linked, Pooled};
+ghost use Rattle.layout.specs.Sizes.{Proper};
+ghost use Rattle.model.specs.Asked.{shapeIn, Linked, Pooled};
 ghost use Rattle.promise.specs.Promise.{Leaves};
 ghost use Rattle.lending.specs.Carried.{tested, Below, Carries};
 ghost use Rattle.changes.specs.Steps.{appendTests};
@@ -56,7 +57,7 @@ fn append_tests(
 ) -> Tested
     requires { ⌜ need s * 4 ≤ length (now mem) ⌝ }
     requires { ⌜ Proper s × Linked s (view s (words (now mem))) ⌝ }
-    requires { ⌜ (row .0 < headerIn (view s (words (now mem))) rowsGiven) × (g ≡ rangeOf (row .0)) ⌝ }
+    requires { ⌜ (row .0 < rowsGiven (view s (words (now mem)))) × (g ≡ rangeOf (row .0)) ⌝ }
     ensures { λ r. ⌜ r ≡ tested (verdict (appendTests (shapeIn s) (view s (words (now (mem .entry)))) (t .0) (row .0) n)) at ⌝ }
 {
     if held(mem, s, t, row) {

@@ -1,7 +1,7 @@
 -- The table of commands at a byte that is known, and past its end.
 use Prim.Native.Nat.{ℕ, zero, suc, _<_}
 use mathlib.Core.Path.{_≡_, ap, sym, _∙_, subst}
-use mathlib.Core.Bool.{Bool, true, false, _&&_}
+use mathlib.Core.Bool.{Bool, _&&_}
 use native.Mathlib.Omega.{arith}
 use lib.Dec.{T, leb, leb→le}
 use lib.ListN.{List·getD-eq-default}
@@ -9,18 +9,15 @@ use Rattle.terms.specs.declared.Refusal.{Refusal}
 use Rattle.commands.specs.declared.Form.{Form}
 use Rattle.commands.specs.declared.Chosen.{Chosen}
 use Rattle.commands.specs.Commands.{Narrow, chosen, commands}
+use Rattle.history.proofs.Lists.{parts}
 
 abbrev pub narrow : Form → Bool
 narrow f = leb (f .first) 4 && (leb (f .second) 4 && leb (f .third) 4)
 
-both : (a b : Bool) → T (a && b) → T a × T b
-both true b t = (tt, t)
-both false b t = absurd t
-
 narrow-tells : (f : Form) → T (narrow f) → Narrow (Chosen.Known f)
 narrow-tells f t =
-    let p = both (leb (f .first) 4) (leb (f .second) 4 && leb (f .third) 4) t in
-    let q = both (leb (f .second) 4) (leb (f .third) 4) (p .1) in
+    let p = parts (leb (f .first) 4) (leb (f .second) 4 && leb (f .third) 4) t in
+    let q = parts (leb (f .second) 4) (leb (f .third) 4) (p .1) in
     (leb→le (f .first) 4 (p .0), leb→le (f .second) 4 (q .0), leb→le (f .third) 4 (q .1))
 
 pub known : {byte i : ℕ} {r : Chosen} {f : Form} → byte ≡ i → r ≡ Chosen.Known f → chosen i ≡ Chosen.Known f → T (narrow f)

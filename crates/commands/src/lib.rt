@@ -7,7 +7,7 @@ ghost use mathlib.Core.Bool.{true, false, cond};
 ghost use Prim.Native.Nat.{_+_, _*_, _≤_, _<_};
 ghost use lib.ListN.{length, take};
 ghost use Rattle.commands.specs.Commands.{Narrow, Small, chosen, width as widthOf, operand, values as valuesOf, callFrom, shapeBytes, shapeFrom};
-ghost use Rattle.commands.specs.Decoded.{shapeIn, callIn, ZerosPast};
+ghost use Rattle.commands.specs.Decoded.{measured, callIn, ZerosPast};
 
 // The calls, in the order of their command bytes.
 pub enum Kind {
@@ -191,7 +191,7 @@ pub struct Measures {
 // The shape, from its six bytes.
 pub fn decode_shape(bytes: &[u8]) -> Measures
     requires { ⌜ shapeBytes ≤ length (now bytes) ⌝ }
-    ensures { λ r. ⌜ shapeIn r ≡ shapeFrom (now (bytes .entry)) ⌝ }
+    ensures { λ r. ⌜ measured r ≡ shapeFrom (now (bytes .entry)) ⌝ }
 {
     let columns = number(bytes, 0, 1);
     let ranges = number(bytes, 1, 1);

@@ -20,12 +20,13 @@ ghost use lib.ListN.{length};
 ghost use Rattle.terms.specs.Measures.{mostTransactions};
 ghost use Rattle.words.specs.Words.{words};
 ghost use Rattle.layout.specs.Regions.{need};
-ghost use Rattle.layout.specs.View.{view};
-ghost use Rattle.model.specs.Stored.{openState, abortedState, deleteKind, openPlace, usedIn, headerIn, rowsGiven};
+ghost use Rattle.layout.specs.View.{view, rowsGiven, usedIn};
+ghost use Rattle.model.specs.Stored.{openState, abortedState, deleteKind, openPlace};
 ghost use Rattle.model.specs.Reading.{ownChanges};
 ghost use Rattle.model.specs.Writing.{anyOpen};
 ghost use Rattle.model.specs.Calls.{heldIn, goneIn};
-ghost use Rattle.model.specs.Asked.{shapeIn, Proper};
+ghost use Rattle.layout.specs.Sizes.{Proper};
+ghost use Rattle.model.specs.Asked.{shapeIn};
 ghost use Rattle.model.specs.Asked.{Linked};
 ghost use Rattle.rows.specs.Finders.{Inside};
 ghost use Rattle.conditions.specs.Opens.{openAt};
@@ -72,7 +73,7 @@ pub fn held(mem: &[u8], s: Sizes, t: Transaction, row: Row) -> bool
     requires { ⌜ need s * 4 ≤ length (now mem) ⌝ }
     requires { ⌜ Proper s ⌝ }
     requires { ⌜ Linked s (view s (words (now mem))) ⌝ }
-    requires { ⌜ row .0 < headerIn (view s (words (now mem))) rowsGiven ⌝ }
+    requires { ⌜ row .0 < rowsGiven (view s (words (now mem))) ⌝ }
     ensures { λ r. ⌜ r ≡ heldIn (shapeIn s) (view s (words (now (mem .entry)))) (t .0) (row .0) ⌝ }
 {
     let i = row.0 as usize;
@@ -104,7 +105,7 @@ pub fn gone(mem: &[u8], s: Sizes, row: Row) -> bool
     requires { ⌜ need s * 4 ≤ length (now mem) ⌝ }
     requires { ⌜ Proper s ⌝ }
     requires { ⌜ Linked s (view s (words (now mem))) ⌝ }
-    requires { ⌜ row .0 < headerIn (view s (words (now mem))) rowsGiven ⌝ }
+    requires { ⌜ row .0 < rowsGiven (view s (words (now mem))) ⌝ }
     ensures { λ r. ⌜ r ≡ goneIn (shapeIn s) (view s (words (now (mem .entry)))) (row .0) ⌝ }
 {
     if read(mem, s, Region::RowState, row.0 as usize) > 1 {

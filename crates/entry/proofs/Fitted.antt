@@ -1,54 +1,35 @@
 -- A memory that passed the test is fitted.
 use Prim.Native.Nat.{ℕ, _-_, _^_, _<_}
-use mathlib.Core.Path.{_≡_, refl, sym, subst}
+use mathlib.Core.Path.{_≡_, sym, subst}
 use mathlib.Core.Bool.{true, false}
 use mathlib.Core.List.{List}
 use native.Mathlib.Omega.{arith}
 use lib.ListN.{getD}
 use borrow.Author.Tests.{leb-false}
-use Rattle.terms.specs.Measures.{Shape, withinLimits}
 use Rattle.words.specs.Words.{words}
 use Rattle.layout.specs.declared.Sizes.{Sizes}
 use Rattle.layout.specs.declared.Region.the-variants.{Current, PageState, PagePlace}
 use Rattle.layout.specs.Regions.{need}
-use Rattle.layout.specs.Sizes.{sizesOf}
-use Rattle.layout.specs.View.{View, view}
-use Rattle.layout.proofs.Limits.{limited, need-small}
+use Rattle.layout.specs.Sizes.{Proper}
+use Rattle.layout.specs.View.{View, view, rowsGiven, usedIn}
+use Rattle.layout.proofs.Limits.{need-small, proper as proper-of}
 use Rattle.loops.proofs.Search.{and-true}
 use Rattle.loops.specs.declared.Found.{Found}
 use Rattle.history.specs.History.{rangeOf, noColumn, noRange}
-use Rattle.facts.specs.Facts.{used, linksHold, rowLinked, rangeLinked, recordLinked, pagesPlaced, pagePlaced}
-use Rattle.facts.specs.Usable.{shapeIn, sizesIn}
+use Rattle.facts.specs.Facts.{linksHold, rowLinked, rangeLinked, recordLinked, pagesPlaced, pagePlaced}
+use Rattle.facts.specs.Usable.{storedShape, storedSizes}
 use Rattle.facts.specs.declared.Checked.{Checked}
 use Rattle.facts.specs.declared.Checked.the-variants.{Fit}
 use Rattle.facts.specs.Tests.{MemoryFacts, Passed, Safe}
 use Rattle.facts.proofs.Each.{each-tells}
 use Rattle.facts.proofs.Ready.{stored}
 use Rattle.facts.proofs.Usable.{link-tells, placed-tells}
-use Rattle.model.specs.Stored.{slot, headerIn, rowsGiven}
+use Rattle.model.specs.Stored.{slot}
 use Rattle.model.specs.Calls.{notGivenIn}
-use Rattle.model.specs.Asked as A
-use Rattle.model.specs.Asked.{Proper, Linked}
+use Rattle.model.specs.Asked.{shapeIn, Linked}
 use Rattle.rows.proofs.Cases.{found-at, found-nothing}
 use Rattle.entry.specs.Fitted.{Fitted}
 use Rattle.entry.specs.Given.{rangeGiven}
-
-proper-of : (p : Shape) → withinLimits p ≡ true → Proper (sizesOf p)
-proper-of p e =
-    let l = limited p e in
-    record {
-      rows-are = refl;
-      slots-are = refl;
-      values-are = refl;
-      places-are = refl;
-      pages-are = refl;
-      columns-from = l .columns-from;
-      columns-to = l .columns-to;
-      ranges-from = l .ranges-from;
-      ranges-to = l .ranges-to;
-      capacity-to = l .capacity-to;
-      spares-to = l .spares-to;
-    }
 
 module _ (s : Sizes) (v : View) (proper : Proper s) (facts : MemoryFacts s v) where
   linked-of : Linked s v
@@ -59,10 +40,10 @@ module _ (s : Sizes) (v : View) (proper : Proper s) (facts : MemoryFacts s v) wh
       record {
         rows-few = k .rows-to;
         used-few = λ g h. k .records-to g;
-        rows-linked = λ r h. link-tells s v _ _ r _ (each-tells (rowLinked s v) (headerIn v rowsGiven) (l .0) r h) .low;
+        rows-linked = λ r h. link-tells s v _ _ r _ (each-tells (rowLinked s v) (rowsGiven v) (l .0) r h) .low;
         links-lower = λ g n h low high.
-            let i : n - 1 < used v g = omega arith in
-            let t = link-tells s v g (n - 1) _ _ (each-tells (recordLinked s v g) (used v g) (each-tells (rangeLinked s v) (s .ranges) (l .1) g h) (n - 1) i) in
+            let i : n - 1 < usedIn v g = omega arith in
+            let t = link-tells s v g (n - 1) _ _ (each-tells (recordLinked s v g) (usedIn v g) (each-tells (rangeLinked s v) (s .ranges) (l .1) g h) (n - 1) i) in
             omega (arith, t .low);
       }
 
@@ -73,14 +54,14 @@ module _ (s : Sizes) (v : View) (proper : Proper s) (facts : MemoryFacts s v) wh
   at-place i h = placed-tells s v i (each-tells (pagePlaced s v) (s .places) (facts .placed) i h)
 
 pub fit-tells : (s : Sizes) (m : List ℕ) → Passed s m → Fitted s m
-unfolding sizesIn
+unfolding storedSizes
 fit-tells s m x =
     let v = view s (words m) in
-    let proper : Proper s = subst Proper (sym (x .sizes-are)) (proper-of (shapeIn (words m)) (x .within)) in
+    let proper : Proper s = subst Proper (sym (x .sizes-are)) (proper-of (storedShape (words m)) (x .within)) in
     let k = stored s v (x .facts .counts) in
     record {
       room = x .room;
-      small = subst (λ z. need z < 2 ^ 24) (sym (x .sizes-are)) (need-small (shapeIn (words m)) (x .within));
+      small = subst (λ z. need z < 2 ^ 24) (sym (x .sizes-are)) (need-small (storedShape (words m)) (x .within));
       proper = proper;
       linked = linked-of s v proper (x .facts);
       pooled = λ i h. (at-place s v proper (x .facts) i h) .0;
@@ -90,9 +71,9 @@ fit-tells s m x =
 
 -- ---- what the conditions tell where they do not hold
 
-pub given-tells : (v : View) (r : ℕ) → notGivenIn v r ≡ false → r < headerIn v rowsGiven
+pub given-tells : (v : View) (r : ℕ) → notGivenIn v r ≡ false → r < rowsGiven v
 unfolding notGivenIn
-given-tells v r e = leb-false (headerIn v rowsGiven) r e
+given-tells v r e = leb-false (rowsGiven v) r e
 
 pub row-given : (v : View) (r g : ℕ) → rangeGiven v r ≡ Found.At g → (notGivenIn v r ≡ false) × (g ≡ rangeOf r)
 unfolding rangeGiven
@@ -102,11 +83,11 @@ pub row-missing : (v : View) (r : ℕ) → rangeGiven v r ≡ Found.Nothing → 
 unfolding rangeGiven
 row-missing v r e = found-nothing (notGivenIn v r) (rangeOf r) e
 
-pub column-tells : (s : Sizes) (c : ℕ) → noColumn (A.shapeIn s) c ≡ false → c < s .columns
+pub column-tells : (s : Sizes) (c : ℕ) → noColumn (shapeIn s) c ≡ false → c < s .columns
 unfolding noColumn
 column-tells s c e = leb-false (s .columns) c e
 
-pub range-tells : (s : Sizes) (g : ℕ) → noRange (A.shapeIn s) g ≡ false → g < s .ranges
+pub range-tells : (s : Sizes) (g : ℕ) → noRange (shapeIn s) g ≡ false → g < s .ranges
 unfolding noRange
 range-tells s g e = leb-false (s .ranges) g e
 

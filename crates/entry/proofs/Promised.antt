@@ -17,12 +17,12 @@ use Rattle.scans.specs.declared.Scans.{Scans}
 use Rattle.scans.specs.Places.{openCount}
 use Rattle.scans.specs.Table.{tableOf}
 use Rattle.facts.specs.declared.Checked.the-variants.{Fit, Unfit}
-use Rattle.facts.specs.Usable.{shapeIn, sizesIn, usable, checked}
+use Rattle.facts.specs.Usable.{storedShape, storedSizes, usable, checked}
 use Rattle.facts.proofs.Usable.{UsableMemory, usable-tells}
 use Rattle.model.specs.Calls.{say, viewNext, placesNext}
-use Rattle.model.specs.Asked as A
 use Rattle.promise.specs.Promise.{storeView, answerOf, memoryAfter, listAfter, Answers, Leaves}
 use Rattle.entry.specs.Fitted.{Says}
+use Rattle.model.specs.Asked.{shapeIn}
 
 -- ---- what the test's answer tells
 
@@ -33,18 +33,18 @@ unfit-is m ps e = go (usable m ps) e
     clash : (z : Sizes) → Unfit ≡ Fit z → ⊥
     clash z q = let w : _≡_ {A = ℕ} 0 1 = cc in omega arith
 
-    go : (b : Bool) → Unfit ≡ cond b (Fit (sizesIn (words m))) Unfit → b ≡ false
-    go true q = absurd (clash (sizesIn (words m)) q)
+    go : (b : Bool) → Unfit ≡ cond b (Fit (storedSizes (words m))) Unfit → b ≡ false
+    go true q = absurd (clash (storedSizes (words m)) q)
     go false q = refl
 
-pub fit-is : (m : List ℕ) (ps : List Place) (s : Sizes) → Fit s ≡ checked m ps → (usable m ps ≡ true) × (s ≡ sizesIn (words m))
+pub fit-is : (m : List ℕ) (ps : List Place) (s : Sizes) → Fit s ≡ checked m ps → (usable m ps ≡ true) × (s ≡ storedSizes (words m))
 unfolding checked
 fit-is m ps s e = go (usable m ps) e
   where
     clash : Fit s ≡ Unfit → ⊥
     clash q = let w : _≡_ {A = ℕ} 0 1 = cc in omega arith
 
-    go : (b : Bool) → Fit s ≡ cond b (Fit (sizesIn (words m))) Unfit → (b ≡ true) × (s ≡ sizesIn (words m))
+    go : (b : Bool) → Fit s ≡ cond b (Fit (storedSizes (words m))) Unfit → (b ≡ true) × (s ≡ storedSizes (words m))
     go true q = (refl, cc)
     go false q = absurd (clash q)
 
@@ -54,16 +54,16 @@ fit-usable m ps s e = usable-tells m ps (fit-is m ps s e .0)
 -- ---- of one list
 
 module _ (m : List ℕ) (ps : List Place) (s : Sizes) (c : Call) (e : Fit s ≡ checked m ps) where
-  pub answer-fit : say (A.shapeIn s) (view s (words m)) ps c ≡ answerOf m ps c
-  unfolding answerOf storeView sizesIn shapeIn
+  pub answer-fit : say (shapeIn s) (view s (words m)) ps c ≡ answerOf m ps c
+  unfolding answerOf storeView storedSizes storedShape
   answer-fit = let t = fit-is m ps s e in rw (t .0, t .1)
 
-  pub memory-fit : lay s (viewNext (A.shapeIn s) (view s (words m)) ps c) m ≡ memoryAfter m ps c
-  unfolding memoryAfter storeView sizesIn shapeIn
+  pub memory-fit : lay s (viewNext (shapeIn s) (view s (words m)) ps c) m ≡ memoryAfter m ps c
+  unfolding memoryAfter storeView storedSizes storedShape
   memory-fit = let t = fit-is m ps s e in rw (t .0, t .1)
 
-  pub list-fit : placesNext (A.shapeIn s) (view s (words m)) ps c ≡ listAfter m ps c
-  unfolding listAfter storeView sizesIn shapeIn
+  pub list-fit : placesNext (shapeIn s) (view s (words m)) ps c ≡ listAfter m ps c
+  unfolding listAfter storeView storedSizes storedShape
   list-fit = let t = fit-is m ps s e in rw (t .0, t .1)
 
 module _ (m : List ℕ) (ps : List Place) (c : Call) (e : Unfit ≡ checked m ps) where
@@ -99,7 +99,7 @@ module _ (m : List ℕ) (t : Scans) (c : Call) where
     answers-fit r h = λ ps q. h ps q (few ps q) ∙ answer-fit m ps s c (told ps q)
 
     pub leaves-fit : (r : Answer) (m′ : List ℕ) → Says s m t c r
-        → ((ps : List Place) → t ≡ tableOf ps → openCount ps ≤ mostScans → m′ ≡ lay s (viewNext (A.shapeIn s) (view s (words m)) ps c) m)
+        → ((ps : List Place) → t ≡ tableOf ps → openCount ps ≤ mostScans → m′ ≡ lay s (viewNext (shapeIn s) (view s (words m)) ps c) m)
         → Leaves m t c r m′
     unfolding Leaves Says
     leaves-fit r m′ h k = λ ps q. (h ps q (few ps q) ∙ answer-fit m ps s c (told ps q), k ps q (few ps q) ∙ memory-fit m ps s c (told ps q))

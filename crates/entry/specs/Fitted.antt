@@ -9,14 +9,14 @@ use Rattle.terms.specs.declared.Answer.{Answer}
 use Rattle.words.specs.Words.{words}
 use Rattle.layout.specs.declared.Sizes.{Sizes}
 use Rattle.layout.specs.Regions.{need}
-use Rattle.layout.specs.View.{view}
+use Rattle.layout.specs.View.{view, transactionsGiven, scansGiven}
 use Rattle.scans.specs.declared.Scans.{Scans}
 use Rattle.scans.specs.Places.{openCount}
 use Rattle.scans.specs.Table.{tableOf}
 use Rattle.history.specs.History.{Call}
-use Rattle.model.specs.Stored.{headerIn, transactionsGiven, scansGiven}
 use Rattle.model.specs.Calls.{say}
-use Rattle.model.specs.Asked.{shapeIn, Proper, Linked, Pooled}
+use Rattle.layout.specs.Sizes.{Proper}
+use Rattle.model.specs.Asked.{shapeIn, Linked, Pooled}
 
 pub record Fitted (s : Sizes) (m : List ℕ) : Type 0 where
   pub room : need s * 4 ≤ length m
@@ -24,8 +24,8 @@ pub record Fitted (s : Sizes) (m : List ℕ) : Type 0 where
   pub proper : Proper s
   pub linked : Linked s (view s (words m))
   pub pooled : Pooled s (view s (words m))
-  pub transactions-to : headerIn (view s (words m)) transactionsGiven ≤ mostNumbers
-  pub scans-to : headerIn (view s (words m)) scansGiven ≤ mostNumbers
+  pub transactions-to : transactionsGiven (view s (words m)) ≤ mostNumbers
+  pub scans-to : scansGiven (view s (words m)) ≤ mostNumbers
 
 -- Answer r is the model's, for every list that the table stands for and that a usable store may have.
 unfoldable pub Says : Sizes → List ℕ → Scans → Call → Answer → Type 0

@@ -14,9 +14,8 @@ ghost use Prim.Native.Nat.{_*_, _≤_};
 ghost use lib.ListN.{length};
 ghost use Rattle.words.specs.Words.{words};
 ghost use Rattle.layout.specs.Regions.{need};
-ghost use Rattle.layout.specs.View.{view};
+ghost use Rattle.layout.specs.View.{view, lastStamp};
 ghost use Rattle.history.specs.History.{noColumn, noRange};
-ghost use Rattle.model.specs.Stored.{headerIn, lastStamp};
 ghost use Rattle.model.specs.Calls.{notLaterIn, laterIn};
 ghost use Rattle.model.specs.Asked.{shapeIn};
 ghost use Rattle.entry.specs.Given.{rangeGiven};
@@ -24,7 +23,7 @@ ghost use Rattle.entry.specs.Given.{rangeGiven};
 // The stamp of the last commit.
 pub fn last_stamp(mem: &[u8], s: Sizes) -> Stamp
     requires { ⌜ need s * 4 ≤ length (now mem) ⌝ }
-    ensures { λ r. ⌜ r .0 ≡ headerIn (view s (words (now (mem .entry)))) lastStamp ⌝ }
+    ensures { λ r. ⌜ r .0 ≡ lastStamp (view s (words (now (mem .entry)))) ⌝ }
 {
     Stamp(read(mem, s, Region::Header, HEADER_STAMP))
 }

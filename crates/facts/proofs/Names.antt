@@ -11,8 +11,8 @@ use Rattle.loops.specs.Search.{region, allBetween}
 use Rattle.loops.proofs.Search.{and-true}
 use Rattle.layout.specs.declared.Sizes.{Sizes}
 use Rattle.layout.specs.declared.Region.the-variants.{TailRow}
-use Rattle.layout.specs.View.{View}
-use Rattle.facts.specs.Facts.{rowsGiven, used, firstSlot, rowNamed, rangeNamesRows}
+use Rattle.layout.specs.View.{View, rowsGiven, usedIn}
+use Rattle.facts.specs.Facts.{firstSlot, rowNamed, rangeNamesRows}
 use Rattle.facts.proofs.Each.{same, each-between, each-nothing}
 
 -- whether row r is given and of range g
@@ -41,12 +41,12 @@ named-none given g r h = go (ltb r given) refl
     go false q = refl
 
 module _ (s : Sizes) (v : View) (g : ℕ) where
-  pub names-between : (last : ℕ) → g * 64 < rowsGiven v → last + 1 ≡ min (rowsGiven v) (g * 64 + 64) → firstSlot s g + used v g ≤ length (v TailRow)
-      → rangeNamesRows s v g ≡ allBetween (g * 64) last (region (v TailRow) (firstSlot s g) (used v g))
+  pub names-between : (last : ℕ) → g * 64 < rowsGiven v → last + 1 ≡ min (rowsGiven v) (g * 64 + 64) → firstSlot s g + usedIn v g ≤ length (v TailRow)
+      → rangeNamesRows s v g ≡ allBetween (g * 64) last (region (v TailRow) (firstSlot s g) (usedIn v g))
   unfolding rangeNamesRows rowNamed
   names-between last h e k =
-      each-between (v TailRow) (firstSlot s g) (used v g) (g * 64) last (rowNamed s v g) k (λ i l. named-between (rowsGiven v) g last _ h e)
+      each-between (v TailRow) (firstSlot s g) (usedIn v g) (g * 64) last (rowNamed s v g) k (λ i l. named-between (rowsGiven v) g last _ h e)
 
-  pub names-none : rowsGiven v ≤ g * 64 → rangeNamesRows s v g ≡ eqb (used v g) 0
+  pub names-none : rowsGiven v ≤ g * 64 → rangeNamesRows s v g ≡ eqb (usedIn v g) 0
   unfolding rangeNamesRows rowNamed
-  names-none h = each-nothing (rowNamed s v g) (used v g) (λ i l. named-none (rowsGiven v) g _ h)
+  names-none h = each-nothing (rowNamed s v g) (usedIn v g) (λ i l. named-none (rowsGiven v) g _ h)

@@ -9,8 +9,8 @@ use Rattle.loops.proofs.Search.{and-true, and-false}
 use Rattle.scans.specs.Places.{everyOpen, differ}
 use Rattle.layout.specs.declared.Sizes.{Sizes}
 use Rattle.layout.specs.declared.Region.the-variants.{Opens, RowTransaction, RowStamp, TailTransaction, TailStamp, PageReplaced, PageNewest}
-use Rattle.layout.specs.View.{View}
-use Rattle.facts.specs.Facts.{each, rowsGiven, transactionsGiven, scansGiven, lastStamp, mergesMade, inUse, waiting, rowsBetween, rowLinked, rangeNamesRows, rangeBetween, rangeLinked, pageAtMost, storedWithin, countsWithin, recordsNameRows, numbersGiven, linksHold, stampsWithin, mergesWithin, openDiffer, pagesPlaced, lineagesWithin, factsHold}
+use Rattle.layout.specs.View.{View, rowsGiven, transactionsGiven, scansGiven, lastStamp, mergesMade}
+use Rattle.facts.specs.Facts.{each, inUse, waiting, rowsBetween, rowLinked, rangeNamesRows, rangeBetween, rangeLinked, pageAtMost, storedWithin, countsWithin, recordsNameRows, numbersGiven, linksHold, stampsWithin, mergesWithin, openDiffer, pagesPlaced, lineagesWithin, factsHold}
 use Rattle.facts.specs.Tests.{MemoryFacts, rangeHolds, rowsHold, pagesHold, opensHold, scansHold}
 use Rattle.facts.proofs.Each.{each-both}
 

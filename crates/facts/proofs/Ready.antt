@@ -4,11 +4,10 @@ use mathlib.Core.Path.{_≡_, refl, ap, sym, _∙_}
 use mathlib.Core.Bool.{Bool, true, false, not, _&&_}
 use mathlib.Core.List.{List}
 use native.Mathlib.Omega.{arith}
-use native.Mathlib.Nat.{mul-le-mul}
 use lib.Dec.{ltb}
 use lib.ListN.{length, getD, List·getD-eq-default}
 use borrow.Author.Tests.{leb-true, ltb-true, ltb-false}
-use Rattle.terms.specs.Measures.{Shape, withinLimits, mostScans, mostNumbers}
+use Rattle.terms.specs.Measures.{mostScans, mostNumbers}
 use Rattle.terms.specs.declared.Place.{Place}
 use Rattle.words.specs.Words.{words}
 use Rattle.loops.specs.Search.{allBetween}
@@ -16,32 +15,14 @@ use Rattle.loops.proofs.Search.{and-true, all-tells}
 use Rattle.layout.specs.declared.Sizes.{Sizes}
 use Rattle.layout.specs.declared.Region.the-variants.{Used}
 use Rattle.layout.specs.Regions.{need}
-use Rattle.layout.specs.Sizes.{sizesOf}
-use Rattle.layout.specs.View.{View, view}
-use Rattle.layout.proofs.Limits.{limited}
+use Rattle.layout.specs.Sizes.{Proper}
+use Rattle.layout.specs.View.{View, view, rowsGiven, transactionsGiven, scansGiven, usedIn}
 use Rattle.scans.specs.declared.Scans.{Scans}
 use Rattle.scans.specs.Places.{openCount}
 use Rattle.scans.specs.Table.{tableOf}
-use Rattle.facts.specs.Facts.{rowsGiven, used, transactionsGiven, scansGiven, storedWithin, countsWithin}
-use Rattle.facts.specs.Tests.{Sized, Ready}
+use Rattle.facts.specs.Facts.{storedWithin, countsWithin}
+use Rattle.facts.specs.Tests.{Ready}
 use Rattle.facts.proofs.Parts.{more-told}
-
-pub sized : (p : Shape) → withinLimits p ≡ true → Sized (sizesOf p)
-sized p e =
-    let l = limited p e in
-    let d : p .columns * p .ranges ≤ 16 * 16 = mul-le-mul (l .columns-to) (l .ranges-to) in
-    record {
-      columns-from = l .columns-from;
-      columns-to = l .columns-to;
-      ranges-to = l .ranges-to;
-      ranges-from = l .ranges-from;
-      capacity-to = l .capacity-to;
-      pages-to = omega (arith, l .spares-to);
-      rows-are = refl;
-      slots-are = refl;
-      places-are = refl;
-      places-in = omega arith;
-    }
 
 -- every word of a list that is bounded is, and so is what stands past its end
 pub at-most : (l : List ℕ) (b : ℕ) → allBetween 0 b l ≡ true → (i : ℕ) → getD l i 0 ≤ b
@@ -54,7 +35,7 @@ at-most l b e i = go (ltb i (length l)) refl
 -- the four counts that are stored
 pub record Stored (s : Sizes) (v : View) : Type 0 where
   pub rows-to : rowsGiven v ≤ s .rows
-  pub records-to : (g : ℕ) → used v g ≤ s .capacity
+  pub records-to : (g : ℕ) → usedIn v g ≤ s .capacity
   pub transactions-to : transactionsGiven v ≤ mostNumbers
   pub scans-to : scansGiven v ≤ mostNumbers
 
@@ -73,10 +54,10 @@ stored s v e =
 
 -- the flag of the counts, raised
 module _ (s : Sizes) (m : List ℕ) (t : Scans) (r : Bool) (flag : r ≡ (storedWithin s (view s (words m)) && not (t .more))) where
-  pub ready : need s * 4 ≤ length m → Sized s → r ≡ true → Ready s m
+  pub ready : need s * 4 ≤ length m → Proper s → r ≡ true → Ready s m
   ready h z e =
       let k = stored s (view s (words m)) (and-true _ _ (sym flag ∙ e) .0) in
-      record { room = h; sized = z; rows-in = k .rows-to; records-in = k .records-to }
+      record { room = h; proper = z; rows-in = k .rows-to; records-in = k .records-to }
 
   pub few : (ps : List Place) → t ≡ tableOf ps → r ≡ true → openCount ps ≤ mostScans
   few ps q e =

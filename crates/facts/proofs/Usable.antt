@@ -20,15 +20,16 @@ use Rattle.layout.specs.declared.Sizes.{Sizes}
 use Rattle.layout.specs.declared.Region.{Region}
 use Rattle.layout.specs.declared.Region.the-variants.{Opens, RowTransaction, RowStamp, RowLink, TailTransaction, TailRow, TailLink, TailStamp, Current, PageState, PagePlace, PageReplaced, PageLineage, PageNewest}
 use Rattle.layout.specs.Regions.{len, need}
-use Rattle.layout.specs.View.{View, view}
+use Rattle.layout.specs.View.{View, view, rowsGiven, transactionsGiven, scansGiven, lastStamp, mergesMade, usedIn}
 use Rattle.layout.proofs.View.{Long, view-long}
 use Rattle.terms.specs.Places.{freePlace}
 use Rattle.scans.specs.Places.{openCount, everyOpen, among, differ}
-use Rattle.facts.specs.Facts.{rowsGiven, transactionsGiven, scansGiven, lastStamp, mergesMade, used, firstSlot, each, rowsBetween, rangeBetween, pageAtMost, inUse, waiting, countsWithin, rowNamed, rangeNamesRows, recordsNameRows, numbersGiven, linkHolds, rowLinked, recordLinked, rangeLinked, linksHold, stampsWithin, mergesWithin, openDiffer, pagePlaced, pagesPlaced, pageRange, lineageWithin, lineagesWithin, factsHold}
-use Rattle.facts.specs.Usable.{shapeIn, sizesIn, measuresBytes, usable}
-use Rattle.facts.specs.Tests.{Sized}
+use Rattle.facts.specs.Facts.{firstSlot, each, rowsBetween, rangeBetween, pageAtMost, inUse, waiting, countsWithin, rowNamed, rangeNamesRows, recordsNameRows, numbersGiven, linkHolds, rowLinked, recordLinked, rangeLinked, linksHold, stampsWithin, mergesWithin, openDiffer, pagePlaced, pagesPlaced, pageRange, lineageWithin, lineagesWithin, factsHold}
+use Rattle.facts.specs.Usable.{storedShape, storedSizes, measuresBytes, usable}
+use Rattle.layout.specs.Sizes.{Proper}
 use Rattle.facts.proofs.Each.{each-tells}
-use Rattle.facts.proofs.Ready.{Stored, stored, at-most, sized}
+use Rattle.layout.proofs.Limits.{proper}
+use Rattle.facts.proofs.Ready.{Stored, stored, at-most}
 use Rattle.facts.proofs.Within.{range-in}
 
 -- a link, in range g, of row r: at most `most`, and if it is not 0 its record is of that row
@@ -39,18 +40,18 @@ pub record Linked (s : Sizes) (v : View) (g most r link : ℕ) : Type 0 where
 pub record Usable (s : Sizes) (v : View) (ps : List Place) : Type 0 where
   pub counts : Stored s v
   pub open-few : openCount ps ≤ mostScans
-  pub named : (g i : ℕ) → g < s .ranges → i < used v g
+  pub named : (g i : ℕ) → g < s .ranges → i < usedIn v g
       → (getD (v TailRow) (firstSlot s g + i) 0 < rowsGiven v) × (getD (v TailRow) (firstSlot s g + i) 0 / rangeRows ≡ g)
   pub row-numbers : (r : ℕ) → r < rowsGiven v → (1 ≤ getD (v RowTransaction) r 0) × (getD (v RowTransaction) r 0 ≤ transactionsGiven v)
-  pub record-numbers : (g i : ℕ) → g < s .ranges → i < used v g
+  pub record-numbers : (g i : ℕ) → g < s .ranges → i < usedIn v g
       → (1 ≤ getD (v TailTransaction) (firstSlot s g + i) 0) × (getD (v TailTransaction) (firstSlot s g + i) 0 ≤ transactionsGiven v)
   pub open-numbers : (j : ℕ) → getD (v Opens) j 0 ≤ transactionsGiven v
   pub scan-numbers : (j : ℕ) → getD ps j freePlace .number ≤ scansGiven v
-  pub row-links : (r : ℕ) → r < rowsGiven v → Linked s v (r / rangeRows) (used v (r / rangeRows)) r (getD (v RowLink) r 0)
-  pub record-links : (g i : ℕ) → g < s .ranges → i < used v g
+  pub row-links : (r : ℕ) → r < rowsGiven v → Linked s v (r / rangeRows) (usedIn v (r / rangeRows)) r (getD (v RowLink) r 0)
+  pub record-links : (g i : ℕ) → g < s .ranges → i < usedIn v g
       → Linked s v g i (getD (v TailRow) (firstSlot s g + i) 0) (getD (v TailLink) (firstSlot s g + i) 0)
   pub row-stamps : (r : ℕ) → r < rowsGiven v → getD (v RowStamp) r 0 ≤ lastStamp v
-  pub record-stamps : (g i : ℕ) → g < s .ranges → i < used v g → getD (v TailStamp) (firstSlot s g + i) 0 ≤ lastStamp v
+  pub record-stamps : (g i : ℕ) → g < s .ranges → i < usedIn v g → getD (v TailStamp) (firstSlot s g + i) 0 ≤ lastStamp v
   pub page-stamps : (p : ℕ) → p < s .pages → inUse ≤ getD (v PageState) p 0 → getD (v PageNewest) p 0 ≤ lastStamp v
   pub scan-stamps : (j : ℕ) → getD ps j freePlace .number ≢ 0 → getD ps j freePlace .stamp ≤ lastStamp v
   pub scan-merges : (j : ℕ) → getD ps j freePlace .number ≢ 0 → getD ps j freePlace .merges ≤ mergesMade v
@@ -60,7 +61,7 @@ pub record Usable (s : Sizes) (v : View) (ps : List Place) : Type 0 where
   pub current-in : (i : ℕ) → i < s .places → getD (v Current) i 0 < s .pages
   pub current-state : (i : ℕ) → i < s .places → getD (v PageState) (getD (v Current) i 0) 0 ≡ 1
   pub current-place : (i : ℕ) → i < s .places → getD (v PagePlace) (getD (v Current) i 0) 0 ≡ i
-  pub lineages : (p : ℕ) → p < s .pages → inUse ≤ getD (v PageState) p 0 → getD (v PageLineage) p 0 ≤ used v (pageRange s v p)
+  pub lineages : (p : ℕ) → p < s .pages → inUse ≤ getD (v PageState) p 0 → getD (v PageLineage) p 0 ≤ usedIn v (pageRange s v p)
 
 -- ---- the tests of one index, taken apart
 
@@ -131,7 +132,7 @@ differ-tells (x ∷ l) e zero (suc j) h q = go (eqb x 0) refl
         absurd
         (among-tells x l j (or-right (eqb x 0) (not (among x l)) p (and-true (eqb x 0 || not (among x l)) (differ l) e .0)) q (eqb-false x 0 p))
 
-numbers-at : (ps : List Place) (j : ℕ) → getD (map (λ p. p .number) ps) j 0 ≡ getD ps j freePlace .number
+pub numbers-at : (ps : List Place) (j : ℕ) → getD (map (λ p. p .number) ps) j 0 ≡ getD ps j freePlace .number
 numbers-at ps j = List·getD-map (λ p. p .number) ps j freePlace
 
 -- a bounded stretch of a region, word by word
@@ -144,7 +145,7 @@ module _ (s : Sizes) (v : View) (long : Long s v) (k : Region) (at n low high : 
 
 -- ---- all clauses
 
-module _ (s : Sizes) (v : View) (ps : List Place) (z : Sized s) (long : Long s v) where
+module _ (s : Sizes) (v : View) (ps : List Place) (z : Proper s) (long : Long s v) where
   -- words of the given rows, and of the used records
   rows-tell : (k : Region) (low high : ℕ) → Stored s v → len s k ≡ s .rows → rowsBetween v k low high ≡ true
       → (r : ℕ) → r < rowsGiven v → (low ≤ getD (v k) r 0) × (getD (v k) r 0 ≤ high)
@@ -152,10 +153,10 @@ module _ (s : Sizes) (v : View) (ps : List Place) (z : Sized s) (long : Long s v
   rows-tell k low high c l e r h = rw (zero-add r) at (stretch-tells s v long k 0 (rowsGiven v) low high (omega (arith, c .rows-to)) e r h)
 
   records-tell : (k : Region) (low high : ℕ) → Stored s v → len s k ≡ s .slots → each (s .ranges) (rangeBetween s v k low high) ≡ true
-      → (g i : ℕ) → g < s .ranges → i < used v g → (low ≤ getD (v k) (firstSlot s g + i) 0) × (getD (v k) (firstSlot s g + i) 0 ≤ high)
+      → (g i : ℕ) → g < s .ranges → i < usedIn v g → (low ≤ getD (v k) (firstSlot s g + i) 0) × (getD (v k) (firstSlot s g + i) 0 ≤ high)
   unfolding rangeBetween
   records-tell k low high c l e g i h j =
-      stretch-tells s v long k (firstSlot s g) (used v g) low high (omega (arith, range-in s g z h, c .records-to g)) (each-tells (rangeBetween s v k low high) (s .ranges) e g h) i j
+      stretch-tells s v long k (firstSlot s g) (usedIn v g) low high (omega (arith, range-in s g z h, c .records-to g)) (each-tells (rangeBetween s v k low high) (s .ranges) e g h) i j
 
   pub facts-tell : factsHold s v ps ≡ true → Usable s v ps
   unfolding factsHold countsWithin recordsNameRows rangeNamesRows rowNamed numbersGiven linksHold rowLinked rangeLinked recordLinked stampsWithin mergesWithin openDiffer pagesPlaced lineagesWithin lineageWithin
@@ -182,13 +183,13 @@ module _ (s : Sizes) (v : View) (ps : List Place) (z : Sized s) (long : Long s v
       record {
         counts = c;
         open-few = leb-true (openCount ps) mostScans (c1 .1);
-        named = λ g i h j. let t = and-true _ _ (each-tells (rowNamed s v g) (used v g) (each-tells (rangeNamesRows s v) (s .ranges) (a2 .0) g h) i j) in (ltb-true _ _ (t .0), eqb-true _ g (t .1));
+        named = λ g i h j. let t = and-true _ _ (each-tells (rowNamed s v g) (usedIn v g) (each-tells (rangeNamesRows s v) (s .ranges) (a2 .0) g h) i j) in (ltb-true _ _ (t .0), eqb-true _ g (t .1));
         row-numbers = rows-tell RowTransaction 1 (transactionsGiven v) c refl (n1 .0);
         record-numbers = records-tell TailTransaction 1 (transactionsGiven v) c refl (n2 .0);
         open-numbers = at-most (v Opens) (transactionsGiven v) (n3 .0);
         scan-numbers = numbers-tell ps (scansGiven v) (n3 .1);
         row-links = λ r h. link-tells s v _ _ r _ (each-tells (rowLinked s v) (rowsGiven v) (l .0) r h);
-        record-links = λ g i h j. link-tells s v g i _ _ (each-tells (recordLinked s v g) (used v g) (each-tells (rangeLinked s v) (s .ranges) (l .1) g h) i j);
+        record-links = λ g i h j. link-tells s v g i _ _ (each-tells (recordLinked s v g) (usedIn v g) (each-tells (rangeLinked s v) (s .ranges) (l .1) g h) i j);
         row-stamps = λ r h. (rows-tell RowStamp 0 (lastStamp v) c refl (t1 .0) r h) .1;
         record-stamps = λ g i h j. (records-tell TailStamp 0 (lastStamp v) c refl (t2 .0) g i h j) .1;
         page-stamps = λ p h. page-tells v inUse PageNewest (lastStamp v) p (each-tells (pageAtMost v inUse PageNewest (lastStamp v)) (s .pages) (t3 .0) p h);
@@ -206,15 +207,15 @@ module _ (s : Sizes) (v : View) (ps : List Place) (z : Sized s) (long : Long s v
 -- ---- and of a memory
 
 pub record UsableMemory (m : List ℕ) (ps : List Place) : Type 0 where
-  pub within : withinLimits (shapeIn (words m)) ≡ true
-  pub room : need (sizesIn (words m)) * 4 ≤ length m
+  pub within : withinLimits (storedShape (words m)) ≡ true
+  pub room : need (storedSizes (words m)) * 4 ≤ length m
   pub places : mostScans ≤ length ps
-  pub facts : Usable (sizesIn (words m)) (view (sizesIn (words m)) (words m)) ps
+  pub facts : Usable (storedSizes (words m)) (view (storedSizes (words m)) (words m)) ps
 
 pub usable-tells : (m : List ℕ) (ps : List Place) → usable m ps ≡ true → UsableMemory m ps
-unfolding usable sizesIn
+unfolding usable storedSizes
 usable-tells m ps e =
-    let s = sizesIn (words m) in
+    let s = storedSizes (words m) in
     let a = and-true (leb measuresBytes (length m)) _ e in
     let b = and-true _ _ (a .1) in
     let c = and-true _ _ (b .1) in
@@ -224,5 +225,5 @@ usable-tells m ps e =
       within = b .0;
       room = r;
       places = leb-true mostScans (length ps) (d .0);
-      facts = facts-tell s (view s (words m)) ps (sized (shapeIn (words m)) (b .0)) (view-long s (words m) (omega (arith, length-words m))) (d .1);
+      facts = facts-tell s (view s (words m)) ps (proper (storedShape (words m)) (b .0)) (view-long s (words m) (omega (arith, length-words m))) (d .1);
     }

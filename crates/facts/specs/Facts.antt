@@ -12,32 +12,13 @@ use Rattle.terms.specs.declared.Place.{Place}
 use Rattle.loops.specs.Search.{region, allBetween}
 use Rattle.layout.specs.declared.Sizes.{Sizes}
 use Rattle.layout.specs.declared.Region.{Region}
-use Rattle.layout.specs.declared.Region.the-variants.{Header, Opens, RowTransaction, RowStamp, RowLink, TailTransaction, TailRow, TailLink, TailStamp, Used, Current, PageState, PagePlace, PageReplaced, PageLineage, PageNewest}
-use Rattle.layout.specs.Regions.{rowsAt, transactionsAt, scansAt, stampAt, mergesAt}
-use Rattle.layout.specs.View.{View}
+use Rattle.layout.specs.declared.Region.the-variants.{Opens, RowTransaction, RowStamp, RowLink, TailTransaction, TailRow, TailLink, TailStamp, Used, Current, PageState, PagePlace, PageReplaced, PageLineage, PageNewest}
+use Rattle.layout.specs.View.{View, rowsGiven, transactionsGiven, scansGiven, lastStamp, mergesMade, usedIn}
 use Rattle.scans.specs.Places.{openCount, everyOpen, differ}
 
--- ---- the counts that a store keeps
+-- ---- tail records
 
-abbrev pub rowsGiven : View → ℕ
-rowsGiven v = getD (v Header) rowsAt 0
-
-abbrev pub transactionsGiven : View → ℕ
-transactionsGiven v = getD (v Header) transactionsAt 0
-
-abbrev pub scansGiven : View → ℕ
-scansGiven v = getD (v Header) scansAt 0
-
-abbrev pub lastStamp : View → ℕ
-lastStamp v = getD (v Header) stampAt 0
-
-abbrev pub mergesMade : View → ℕ
-mergesMade v = getD (v Header) mergesAt 0
-
--- the records used of range g, and where its first one lies; record k, counted from 1, lies k - 1 after it
-abbrev pub used : View → ℕ → ℕ
-used v g = getD (v Used) g 0
-
+-- where the first record of range g lies; record k, counted from 1, lies k - 1 after it
 abbrev pub firstSlot : Sizes → ℕ → ℕ
 firstSlot s g = g * s .capacity
 
@@ -53,7 +34,7 @@ unfoldable pub rowsBetween : View → Region → ℕ → ℕ → Bool
 rowsBetween v k low high = allBetween low high (region (v k) 0 (rowsGiven v))
 
 unfoldable pub rangeBetween : Sizes → View → Region → ℕ → ℕ → ℕ → Bool
-rangeBetween s v k low high g = allBetween low high (region (v k) (firstSlot s g) (used v g))
+rangeBetween s v k low high g = allBetween low high (region (v k) (firstSlot s g) (usedIn v g))
 
 -- word k of page p is at most a number, unless the page's state is below one that counts
 unfoldable pub pageAtMost : View → ℕ → Region → ℕ → ℕ → Bool
@@ -81,7 +62,7 @@ unfoldable pub rowNamed : Sizes → View → ℕ → ℕ → Bool
 rowNamed s v g i = let r = getD (v TailRow) (firstSlot s g + i) 0 in ltb r (rowsGiven v) && eqb (r / rangeRows) g
 
 unfoldable pub rangeNamesRows : Sizes → View → ℕ → Bool
-rangeNamesRows s v g = each (used v g) (rowNamed s v g)
+rangeNamesRows s v g = each (usedIn v g) (rowNamed s v g)
 
 unfoldable pub recordsNameRows : Sizes → View → Bool
 recordsNameRows s v = each (s .ranges) (rangeNamesRows s v)
@@ -99,7 +80,7 @@ unfoldable pub linkHolds : Sizes → View → ℕ → ℕ → ℕ → ℕ → Bo
 linkHolds s v g most r link = eqb link 0 || (leb link most && eqb (getD (v TailRow) (firstSlot s g + (link - 1)) 0) r)
 
 unfoldable pub rowLinked : Sizes → View → ℕ → Bool
-rowLinked s v r = linkHolds s v (r / rangeRows) (used v (r / rangeRows)) r (getD (v RowLink) r 0)
+rowLinked s v r = linkHolds s v (r / rangeRows) (usedIn v (r / rangeRows)) r (getD (v RowLink) r 0)
 
 -- the record after i others: lower numbers are those up to i
 unfoldable pub recordLinked : Sizes → View → ℕ → ℕ → Bool
@@ -107,7 +88,7 @@ recordLinked s v g i =
     linkHolds s v g i (getD (v TailRow) (firstSlot s g + i) 0) (getD (v TailLink) (firstSlot s g + i) 0)
 
 unfoldable pub rangeLinked : Sizes → View → ℕ → Bool
-rangeLinked s v g = each (used v g) (recordLinked s v g)
+rangeLinked s v g = each (usedIn v g) (recordLinked s v g)
 
 unfoldable pub linksHold : Sizes → View → Bool
 linksHold s v = each (rowsGiven v) (rowLinked s v) && each (s .ranges) (rangeLinked s v)
@@ -143,7 +124,7 @@ abbrev pub pageRange : Sizes → View → ℕ → ℕ
 pageRange s v p = getD (v PagePlace) p 0 % s .places / s .columns
 
 unfoldable pub lineageWithin : Sizes → View → ℕ → Bool
-lineageWithin s v p = ltb (getD (v PageState) p 0) inUse || leb (getD (v PageLineage) p 0) (used v (pageRange s v p))
+lineageWithin s v p = ltb (getD (v PageState) p 0) inUse || leb (getD (v PageLineage) p 0) (usedIn v (pageRange s v p))
 
 unfoldable pub lineagesWithin : Sizes → View → Bool
 lineagesWithin s v = each (s .pages) (lineageWithin s v)

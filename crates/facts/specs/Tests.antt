@@ -1,5 +1,4 @@
--- What the functions that test the facts cite in their contracts beside the facts: sizes that a shape within the limits makes, counts that are within them,
--- and the facts in the order in which the memory is gone through. Nothing here is needed to read the facts.
+-- What the functions that test the facts cite in their contracts beside the facts: counts that are within the sizes, and the facts in the order in which the memory is gone through. Nothing here is needed to read the facts.
 use Prim.Native.Nat.{ℕ, _*_, _≤_}
 use mathlib.Core.Path.{_≡_}
 use mathlib.Core.Bool.{Bool, true, _&&_}
@@ -7,38 +6,26 @@ use mathlib.Core.List.{List, map}
 use lib.Dec.{leb}
 use lib.ListN.{length}
 use Rattle.layout.specs.declared.Sizes.{Sizes}
+use Rattle.layout.specs.Sizes.{Proper}
 use Rattle.layout.specs.declared.Region.the-variants.{Opens, RowTransaction, RowStamp, TailTransaction, TailStamp, PageReplaced, PageNewest}
 use Rattle.terms.specs.Measures.{withinLimits}
 use Rattle.terms.specs.declared.Place.{Place}
 use Rattle.words.specs.Words.{words}
 use Rattle.loops.specs.Search.{allBetween}
 use Rattle.layout.specs.Regions.{need}
-use Rattle.layout.specs.View.{View, view}
+use Rattle.layout.specs.View.{View, view, rowsGiven, transactionsGiven, scansGiven, lastStamp, mergesMade, usedIn}
 use Rattle.facts.specs.declared.Checked.{Checked}
 use Rattle.facts.specs.declared.Checked.the-variants.{Fit, Unfit}
-use Rattle.facts.specs.Usable.{shapeIn, sizesIn}
+use Rattle.facts.specs.Usable.{storedShape, storedSizes}
 use Rattle.scans.specs.Places.{everyOpen, differ}
-use Rattle.facts.specs.Facts.{storedWithin, linksHold, pagesPlaced, lineagesWithin, each, rowsGiven, transactionsGiven, scansGiven, lastStamp, mergesMade, used, inUse, waiting, rowLinked, rowsBetween, rangeBetween, rangeNamesRows, rangeLinked, pageAtMost}
-
--- sizes that a shape within the limits makes
-pub record Sized (s : Sizes) : Type 0 where
-  pub columns-from : 1 ≤ s .columns
-  pub columns-to : s .columns ≤ 16
-  pub ranges-to : s .ranges ≤ 16
-  pub ranges-from : 1 ≤ s .ranges
-  pub capacity-to : s .capacity ≤ 512
-  pub pages-to : s .pages ≤ 512
-  pub rows-are : s .rows ≡ s .ranges * 64
-  pub slots-are : s .slots ≡ s .ranges * s .capacity
-  pub places-are : s .places ≡ s .columns * s .ranges
-  pub places-in : s .places ≤ s .pages
+use Rattle.facts.specs.Facts.{storedWithin, linksHold, pagesPlaced, lineagesWithin, each, inUse, waiting, rowLinked, rowsBetween, rangeBetween, rangeNamesRows, rangeLinked, pageAtMost}
 
 -- a memory in which every access to what is given and used lies within it: the counts of rows and of records are within the sizes
 pub record Ready (s : Sizes) (m : List ℕ) : Type 0 where
   pub room : need s * 4 ≤ length m
-  pub sized : Sized s
+  pub proper : Proper s
   pub rows-in : rowsGiven (view s (words m)) ≤ s .rows
-  pub records-in : (g : ℕ) → used (view s (words m)) g ≤ s .capacity
+  pub records-in : (g : ℕ) → usedIn (view s (words m)) g ≤ s .capacity
 
 -- The facts that speak of the memory alone.
 pub record MemoryFacts (s : Sizes) (v : View) : Type 0 where
@@ -49,8 +36,8 @@ pub record MemoryFacts (s : Sizes) (v : View) : Type 0 where
 
 -- What holds of a memory that passed, whatever table it came with, even one that stands for no list: every access of a call rests on this.
 pub record Passed (s : Sizes) (m : List ℕ) : Type 0 where
-  pub sizes-are : s ≡ sizesIn (words m)
-  pub within : withinLimits (shapeIn (words m)) ≡ true
+  pub sizes-are : s ≡ storedSizes (words m)
+  pub within : withinLimits (storedShape (words m)) ≡ true
   pub room : need s * 4 ≤ length m
   pub facts : MemoryFacts s (view s (words m))
 

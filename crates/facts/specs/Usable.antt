@@ -21,18 +21,18 @@ use Rattle.facts.specs.declared.Checked.the-variants.{Fit, Unfit}
 abbrev pub measuresBytes : ℕ
 measuresBytes = 16
 
-unfoldable pub shapeIn : List ℕ → Shape
-shapeIn ws = shapeOf (getD ws columnsAt 0) (getD ws rangesAt 0) (getD ws capacityAt 0) (getD ws sparesAt 0)
+unfoldable pub storedShape : List ℕ → Shape
+storedShape ws = shapeOf (getD ws columnsAt 0) (getD ws rangesAt 0) (getD ws capacityAt 0) (getD ws sparesAt 0)
 
-unfoldable pub sizesIn : List ℕ → Sizes
-sizesIn ws = sizesOf (shapeIn ws)
+unfoldable pub storedSizes : List ℕ → Sizes
+storedSizes ws = sizesOf (storedShape ws)
 
 unfoldable pub usable : List ℕ → List Place → Bool
 usable m ps =
     leb measuresBytes (length m)
-    && (withinLimits (shapeIn (words m))
-    && (leb (need (sizesIn (words m)) * 4) (length m)
-    && (leb mostScans (length ps) && factsHold (sizesIn (words m)) (view (sizesIn (words m)) (words m)) ps)))
+    && (withinLimits (storedShape (words m))
+    && (leb (need (storedSizes (words m)) * 4) (length m)
+    && (leb mostScans (length ps) && factsHold (storedSizes (words m)) (view (storedSizes (words m)) (words m)) ps)))
 
 unfoldable pub checked : List ℕ → List Place → Checked
-checked m ps = cond (usable m ps) (Fit (sizesIn (words m))) Unfit
+checked m ps = cond (usable m ps) (Fit (storedSizes (words m))) Unfit

@@ -33,12 +33,13 @@ ghost use Rattle.terms.specs.Measures.{mostScans};
 ghost use Rattle.words.specs.Words.{words};
 ghost use Rattle.layout.specs.Regions.{need, len};
 ghost use Rattle.layout.specs.declared.Region.the-variants.{Opens};
-ghost use Rattle.layout.specs.View.{view};
+ghost use Rattle.layout.specs.View.{view, rowsGiven, usedIn};
 ghost use Rattle.scans.specs.Places.{openCount};
 ghost use Rattle.scans.specs.Table.{tableOf};
-ghost use Rattle.facts.specs.Facts.{rowsGiven, used, firstSlot, each, rowsBetween, rangeBetween, rangeNamesRows, linkHolds, rowLinked, recordLinked, rangeLinked, pageAtMost, pagePlaced, pagesPlaced, lineageWithin, lineagesWithin, storedWithin, factsHold};
+ghost use Rattle.facts.specs.Facts.{firstSlot, each, rowsBetween, rangeBetween, rangeNamesRows, linkHolds, rowLinked, recordLinked, rangeLinked, pageAtMost, pagePlaced, pagesPlaced, lineageWithin, lineagesWithin, storedWithin, factsHold};
 ghost use Rattle.facts.specs.Usable.{checked};
-ghost use Rattle.facts.specs.Tests.{Sized, Ready, MemoryFacts, Safe, rangeHolds, rowsHold, pagesHold, opensHold, scansHold};
+ghost use Rattle.layout.specs.Sizes.{Proper};
+ghost use Rattle.facts.specs.Tests.{Ready, MemoryFacts, Safe, rangeHolds, rowsHold, pagesHold, opensHold, scansHold};
 
 // What the test finds: the sizes of the store, or that the memory is not usable.
 pub enum Checked {
@@ -72,7 +73,7 @@ fn either(a: bool, b: bool) -> bool
 
 // Where the first tail record of a range lies.
 fn first_slot(s: Sizes, g: usize) -> usize
-    requires { ⌜ Sized s × (g < s .ranges) ⌝ }
+    requires { ⌜ Proper s × (g < s .ranges) ⌝ }
     ensures { λ r. ⌜ (r ≡ firstSlot s g) × (r + s .capacity ≤ s .slots) ⌝ }
 {
     g * s.capacity
@@ -137,7 +138,7 @@ fn link_holds(mem: &[u8], s: Sizes, g: usize, most: u32, row: u32, link: u32) ->
 
 fn record_linked(mem: &[u8], s: Sizes, g: usize, i: usize) -> bool
     requires { ⌜ Ready s (now mem) ⌝ }
-    requires { ⌜ (g < s .ranges) × (i < used (view s (words (now mem))) g) ⌝ }
+    requires { ⌜ (g < s .ranges) × (i < usedIn (view s (words (now mem))) g) ⌝ }
     ensures { λ r. ⌜ r ≡ recordLinked s (view s (words (now (mem .entry)))) g i ⌝ }
 {
     let slot = first_slot(s, g) + i;
@@ -437,7 +438,7 @@ fn scans_hold(mem: &[u8], s: Sizes, t: Scans) -> bool
 
 // Whether the counts of the memory are within the measures, and no more scans are open than may be.
 fn counts_within(mem: &[u8], s: Sizes, t: Scans) -> bool
-    requires { ⌜ (need s * 4 ≤ length (now mem)) × Sized s ⌝ }
+    requires { ⌜ (need s * 4 ≤ length (now mem)) × Proper s ⌝ }
     ensures { λ r. ⌜ r ≡ (storedWithin s (view s (words (now (mem .entry)))) && not (t .more)) ⌝ }
 {
     let rows = read(mem, s, Region::Header, HEADER_ROWS) as usize <= s.rows;
@@ -449,7 +450,7 @@ fn counts_within(mem: &[u8], s: Sizes, t: Scans) -> bool
 
 // Whether every stored fact holds. The counts come first, since every later test looks at what they say is given and used.
 fn facts_hold(mem: &[u8], s: Sizes, t: Scans) -> bool
-    requires { ⌜ (need s * 4 ≤ length (now mem)) × Sized s ⌝ }
+    requires { ⌜ (need s * 4 ≤ length (now mem)) × Proper s ⌝ }
     ensures { λ r. ⌜ ((ps : List Place) → t ≡ tableOf ps → r ≡ factsHold s (view s (words (now (mem .entry)))) ps) ⌝ }
     ensures { λ r. ⌜ (r ≡ true → MemoryFacts s (view s (words (now (mem .entry))))) ⌝ }
 {

@@ -111,7 +111,7 @@ run-on S calls i j b =
     ap (run S start) (sym (take-append-drop i (take j calls)) ∙ ap (λ (l : List Call). l ++ drop i (take j calls)) (take-take i j calls b))
     ∙ run-append S start (take i calls) (drop i (take j calls))
 
-accepted : (S : Shape) (h : History) (x : Call) → T (not (isRefused (answer S h x))) → verdict (tests S h x) ≡ accept
+pub accepted : (S : Shape) (h : History) (x : Call) → T (not (isRefused (answer S h x))) → verdict (tests S h x) ≡ accept
 unfolding answer answerIf
 accepted S h x = go (verdict (tests S h x))
   where

@@ -1,13 +1,13 @@
 -- What the limits of a shape say of its sizes: the words needed fit every sum of the code, and the bytes needed are within document 01's bound.
 use Prim.Native.Nat.{ℕ, _+_, _*_, _^_, _≤_, _<_}
-use mathlib.Core.Path.{_≡_}
+use mathlib.Core.Path.{_≡_, refl}
 use mathlib.Core.Bool.{true}
 use native.Mathlib.Omega.{arith}
 use native.Mathlib.Nat.{mul-le-mul, add-mul, mul-assoc, mul-comm}
 use Rattle.terms.specs.Measures.{Shape, withinLimits, mostColumns, mostRanges, mostRecords, mostSpares}
 use Rattle.loops.proofs.Search.{and-true, between-tells}
 use Rattle.layout.specs.Regions.{need}
-use Rattle.layout.specs.Sizes.{sizesOf, bytesNeeded, bytesAllowed}
+use Rattle.layout.specs.Sizes.{Proper, sizesOf, bytesNeeded, bytesAllowed}
 
 pub record Limited (p : Shape) : Type 0 where
   pub columns-from : 1 ≤ p .columns
@@ -34,6 +34,25 @@ limited p e =
       ranges-to = r .1;
       capacity-to = t .1;
       spares-to = x .1;
+    }
+
+pub proper : (p : Shape) → withinLimits p ≡ true → Proper (sizesOf p)
+proper p e =
+    let l = limited p e in
+    let d : p .columns * p .ranges ≤ 16 * 16 = mul-le-mul (l .columns-to) (l .ranges-to) in
+    record {
+      rows-are = refl;
+      slots-are = refl;
+      values-are = refl;
+      places-are = refl;
+      pages-are = refl;
+      columns-from = l .columns-from;
+      columns-to = l .columns-to;
+      ranges-from = l .ranges-from;
+      ranges-to = l .ranges-to;
+      capacity-to = l .capacity-to;
+      spares-to = l .spares-to;
+      pages-to = omega (arith, l .spares-to);
     }
 
 pub need-small : (p : Shape) → withinLimits p ≡ true → need (sizesOf p) < 2 ^ 24

@@ -1,7 +1,8 @@
 -- The sizes that a shape makes, and the bytes that it needs.
-use Prim.Native.Nat.{ℕ, _+_, _*_}
+use Prim.Native.Nat.{ℕ, _+_, _*_, _≤_}
+use mathlib.Core.Path.{_≡_}
 use mathlib.Core.Bool.{cond}
-use Rattle.terms.specs.Measures.{Shape, rangeRows, withinLimits}
+use Rattle.terms.specs.Measures.{Shape, rangeRows, mostColumns, mostRanges, mostRecords, mostSpares, withinLimits}
 use Rattle.terms.specs.declared.Answer.{Answer}
 use Rattle.terms.specs.declared.Refusal.{Refusal}
 use Rattle.layout.specs.declared.Sizes.{Sizes}
@@ -23,6 +24,21 @@ sizesOf p =
       places = p .columns * p .ranges;
       pages = p .columns * p .ranges + p .spares;
     }
+
+-- The sizes are what a shape within the limits makes. Said field by field, since sums and bounds are what the code's indices want.
+pub record Proper (s : Sizes) : Type 0 where
+  pub rows-are : s .rows ≡ s .ranges * rangeRows
+  pub slots-are : s .slots ≡ s .ranges * s .capacity
+  pub values-are : s .values ≡ s .slots * s .columns
+  pub places-are : s .places ≡ s .columns * s .ranges
+  pub pages-are : s .pages ≡ s .places + s .spares
+  pub columns-from : 1 ≤ s .columns
+  pub columns-to : s .columns ≤ mostColumns
+  pub ranges-from : 1 ≤ s .ranges
+  pub ranges-to : s .ranges ≤ mostRanges
+  pub capacity-to : s .capacity ≤ mostRecords
+  pub spares-to : s .spares ≤ mostSpares
+  pub pages-to : s .pages ≤ 512
 
 unfoldable pub bytesNeeded : Shape → ℕ
 bytesNeeded p = need (sizesOf p) * 4

@@ -4,14 +4,15 @@ use Prim.Native.Nat.{ℕ, _+_, _*_}
 use mathlib.Core.Bool.{cond}
 use mathlib.Core.List.{List, map, _++_}
 use lib.Dec.{eqb}
-use lib.ListN.{set, drop}
+use lib.ListN.{getD, set, drop}
 use Rattle.words.specs.Words.{bytes}
 use Rattle.loops.specs.Search.{region}
 use Rattle.loops.specs.Change.{filled, numbered, copied, marked}
 use Rattle.layout.specs.declared.Sizes.{Sizes}
 use Rattle.layout.specs.declared.Region.{Region}
+use Rattle.layout.specs.declared.Region.the-variants.{Header, Used}
 use Rattle.layout.specs.Cut.{join}
-use Rattle.layout.specs.Regions.{index, all, len, base, need}
+use Rattle.layout.specs.Regions.{index, all, len, base, need, rowsAt, transactionsAt, scansAt, stampAt, mergesAt}
 
 abbrev pub View : Type 0
 View = Region → List ℕ
@@ -46,3 +47,24 @@ mark keys key k at n v m = renew k (marked (m keys) at n key at v (m k)) m
 -- a memory with the view m over the bytes that the sizes need, and its other bytes as they are
 unfoldable pub lay : Sizes → View → List ℕ → List ℕ
 lay s m mem = bytes (join (map m all)) ++ drop (need s * 4) mem
+
+-- ---- the counts that a store keeps
+
+abbrev pub rowsGiven : View → ℕ
+rowsGiven v = getD (v Header) rowsAt 0
+
+abbrev pub transactionsGiven : View → ℕ
+transactionsGiven v = getD (v Header) transactionsAt 0
+
+abbrev pub scansGiven : View → ℕ
+scansGiven v = getD (v Header) scansAt 0
+
+abbrev pub lastStamp : View → ℕ
+lastStamp v = getD (v Header) stampAt 0
+
+abbrev pub mergesMade : View → ℕ
+mergesMade v = getD (v Header) mergesAt 0
+
+-- the records used of range g
+abbrev pub usedIn : View → ℕ → ℕ
+usedIn v g = getD (v Used) g 0

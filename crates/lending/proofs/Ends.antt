@@ -1,10 +1,8 @@
 -- The two ways that a call over a view ends, and what the answer of its tests tells.
 use Prim.Native.Nat.{ℕ, _<_}
 use mathlib.Core.Path.{_≡_, refl}
-use mathlib.Core.Bool.{Bool, true, false, not}
 use mathlib.Core.List.{List}
 use native.Mathlib.Omega.{arith}
-use lib.Dec.{T}
 use Rattle.terms.specs.Measures.{Shape}
 use Rattle.terms.specs.declared.Place.{Place}
 use Rattle.terms.specs.declared.Refusal.{Refusal}
@@ -41,8 +39,3 @@ pub below-tested : (d : Verdict) (at n : ℕ) (x : Tested) → x ≡ tested d at
 unfolding tested
 below-tested accept at n x e h = rw e h
 below-tested (refuse y) at n x e h = rw e tt
-
--- ---- what a passed test says
-pub off : (b : Bool) → T (not b) → b ≡ false
-off true p = absurd p
-off false p = refl

@@ -1,20 +1,20 @@
 // The lent list of open scans, a slice of small records. Three functions reach into it, and each is proved by a walk of its MIR, by hand: `len_of`,
 // `place_at`, `put_place`. The others hand the list on to those: `table` finds the open scans, `keep` adds or drops one, `free_all` and `free_made` drop all.
-use scans::MOST_SCANS;
 use scans::Scans;
+use scans::blank;
+use scans::enter;
+use scans::is_open;
+use scans::set_length;
 use terms::Answer;
 use terms::Place;
 use upkeep::Listed;
 ghost use mathlib.Core.Path.{_≡_};
-ghost use Prim.Native.Nat.{_+_, _<_};
-ghost use mathlib.Core.Bool.{true, cond};
-ghost use mathlib.Core.List.{[]};
-ghost use lib.Dec.{eqb};
+ghost use Prim.Native.Nat.{_<_};
 ghost use lib.ListN.{length, getD, set};
 ghost use Rattle.terms.specs.Places.{freePlace};
-ghost use Rattle.scans.specs.Places.{isOpen, allFreed};
-ghost use Rattle.scans.specs.Table.{tableOf, noted};
-ghost use Rattle.lent.specs.Lent.{ofLength, isAccepted, freedIf};
+ghost use Rattle.scans.specs.Places.{allFreed};
+ghost use Rattle.scans.specs.Table.{tableOf};
+ghost use Rattle.lent.specs.Lent.{isAccepted, freedIf};
 
 // The record of a free place.
 fn free_place() -> Place
@@ -45,65 +45,6 @@ pub fn put_place(list: &mut [Place], i: usize, p: Place)
     ensures { λ _. ⌜ now (list .exit) ≡ set (now (list .entry)) i p ⌝ }
 {
     list[i] = p;
-}
-
-// The table of no place.
-fn blank() -> Scans
-    ensures { λ r. ⌜ r ≡ tableOf [] ⌝ }
-{
-    Scans {
-        length: 0,
-        count: 0,
-        numbers: [0; 16],
-        stamps: [0; 16],
-        merges: [0; 16],
-        places: [0; 16],
-        free: 0,
-        more: false,
-    }
-}
-
-fn is_open(p: Place) -> bool
-    ensures { λ r. ⌜ r ≡ isOpen p ⌝ }
-{
-    p.number != 0
-}
-
-// The first free place of i places and an open one after them.
-fn free_after(free: usize, i: usize) -> usize
-    requires { ⌜ i < 4611686018427387904 ⌝ }
-    ensures { λ r. ⌜ r ≡ cond (eqb free i) (i + 1) free ⌝ }
-{
-    if free == i { i + 1 } else { free }
-}
-
-// The table of the first i places, with place i, an open one. What t has as its length is not looked at: free places are passed over without it.
-fn enter(t: Scans, i: usize, p: Place) -> Scans
-    requires { ⌜ (i < 4611686018427387904) × (isOpen p ≡ true) ⌝ }
-    ensures { λ r. ⌜ r ≡ noted (ofLength i t) p ⌝ }
-{
-    let mut u = t;
-    u.length = i + 1;
-    u.free = free_after(t.free, i);
-    let n = t.count;
-    if n < MOST_SCANS {
-        u.numbers[n] = p.number;
-        u.stamps[n] = p.stamp;
-        u.merges[n] = p.merges;
-        u.places[n] = i;
-        u.count = n + 1;
-    } else {
-        u.more = true;
-    }
-    u
-}
-
-fn set_length(t: Scans, n: usize) -> Scans
-    ensures { λ r. ⌜ r ≡ ofLength n t ⌝ }
-{
-    let mut u = t;
-    u.length = n;
-    u
 }
 
 // The table of the list, of any length.

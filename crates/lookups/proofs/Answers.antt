@@ -17,11 +17,11 @@ use Rattle.loops.specs.Search.{firstAt}
 use Rattle.loops.proofs.Search.{first-at}
 use Rattle.words.specs.Words.{words}
 use Rattle.layout.specs.declared.Sizes.{Sizes}
-use Rattle.layout.specs.View.{View, view}
+use Rattle.layout.specs.View.{View, view, lastStamp, usedIn}
 use Rattle.history.specs.History.{latest, readAt, ownRead, scanRead, sum, pageCell, lineage, Call, rangeOf, noColumn, noRange, verdict, answerIf}
 use Rattle.scans.specs.declared.Scans.{Scans}
 use Rattle.scans.specs.Table.{tableOf, findIn}
-use Rattle.model.specs.Stored.{headerIn, lastStamp, scanPlace, cellIn, currentIn, within, pageIn, usedIn}
+use Rattle.model.specs.Stored.{scanPlace, cellIn, currentIn, within, pageIn}
 use Rattle.model.specs.Reading.{readCurrent, ownChanges}
 use Rattle.model.specs.Calls.{notGivenIn, notOpenIn, noScanIn, laterIn, testsIn, replyIn, say}
 use Rattle.model.specs.Asked.{shapeIn}
@@ -57,7 +57,7 @@ module _ (S : Shape) (c : ℕ) (a : Answer) where
 -- ---- the calls
 
 module _ (S : Shape) (v : View) (ps : List Place) where
-  pub says-latest : (r c : ℕ) → afterRow S v r c (readCurrent S v (headerIn v lastStamp) 0 r c) ≡ say S v ps (latest r c)
+  pub says-latest : (r c : ℕ) → afterRow S v r c (readCurrent S v (lastStamp v) 0 r c) ≡ say S v ps (latest r c)
   unfolding say testsIn replyIn afterRow verdict answerIf
   says-latest r c = refl
 
@@ -74,7 +74,7 @@ module _ (S : Shape) (v : View) (ps : List Place) where
   says-not-open t r c e = rw e
 
   pub says-own : (t r c : ℕ) → notOpenIn v t ≡ false
-      → afterRow S v r c (readCurrent S v (headerIn v lastStamp) (ownChanges v t) r c) ≡ say S v ps (ownRead t r c)
+      → afterRow S v r c (readCurrent S v (lastStamp v) (ownChanges v t) r c) ≡ say S v ps (ownRead t r c)
   unfolding say testsIn replyIn afterRow verdict answerIf
   says-own t r c e = rw e
 

@@ -9,7 +9,7 @@ use native.Mathlib.Omega.{arith}
 use native.Mathlib.Nat.{eq-or-lt-of-le, le-of-suc-le-suc}
 use native.Mathlib.Numerals.{add-one}
 use lib.Dec.{eqb}
-use lib.ListN.{length, getD, set, length-set}
+use lib.ListN.{length, getD, set, replicate, length-set}
 use lib.Seq.{getD-set-same, getD-set-other}
 use Rattle.loops.specs.Change.{changed, copied, marked}
 use Rattle.loops.specs.Search.{region}
@@ -83,6 +83,12 @@ unfolding changed
 changed-fit f at zero l h g = g
 changed-fit f at (suc n) l h g =
     set-fit (changed f at n l) (at + n) _ (changed-fit f at n l (λ i x b. h i x (omega arith)) g) (h n _ (omega arith) (g (at + n)))
+
+-- zeros, and past their end
+pub zeros : (n i : ℕ) → _≡_ {A = ℕ} (getD (replicate n 0) i 0) 0
+zeros zero i = refl
+zeros (suc n) zero = refl
+zeros (suc n) (suc i) = zeros n i
 
 -- only the values of f below n matter
 pub changed-same : (f g : ℕ → ℕ → ℕ) (at n : ℕ) (l : List ℕ) → ((i x : ℕ) → i < n → f i x ≡ g i x) → changed f at n l ≡ changed g at n l

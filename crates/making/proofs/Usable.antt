@@ -7,8 +7,8 @@ use native.Mathlib.Omega.{arith}
 use native.Mathlib.Nat.{zero-add, add-zero}
 use lib.Seq.{slice-empty}
 use lib.Dec.{leb, ltb, leb·zero}
-use lib.ListN.{length, getD, drop, replicate, length-replicate, getD-replicate, length-append, length-drop, List·getD-eq-default}
-use borrow.Author.Tests.{leb-true, le-leb, lt-ltb, eq-eqb, ltb-true, ltb-false}
+use lib.ListN.{length, getD, drop, replicate, length-replicate, length-append, length-drop}
+use borrow.Author.Tests.{leb-true, le-leb, lt-ltb, eq-eqb}
 use Rattle.terms.specs.Measures.{Shape, withinLimits, mostScans, rangeRows}
 use Rattle.terms.specs.declared.Answer.{Answer}
 use Rattle.terms.specs.declared.Refusal.{Refusal}
@@ -16,33 +16,25 @@ use Rattle.terms.specs.declared.Place.{Place}
 use Rattle.words.specs.Words.{words, bytes}
 use Rattle.words.proofs.Words.{length-bytes}
 use Rattle.loops.specs.Search.{region, allBetween}
-use Rattle.loops.proofs.Change.{changed-at}
+use Rattle.loops.proofs.Change.{changed-at, zeros}
 use Rattle.layout.specs.declared.Region.{Region}
 use Rattle.layout.specs.declared.Region.the-variants.{Header, RowTransaction, RowStamp, TailTransaction, TailStamp, Current, PageState, PagePlace, PageReplaced, PageLineage, PageNewest}
 use Rattle.layout.specs.Cut.{join, endFrom}
 use Rattle.layout.specs.Regions.{all, lens, len, need, base}
 use Rattle.layout.specs.Sizes.{sizesOf, bytesNeeded}
-use Rattle.layout.specs.View.{View, view, put, fill, number, renew, lay}
+use Rattle.layout.specs.View.{View, view, put, fill, number, renew, lay, lastStamp, mergesMade, usedIn}
 use Rattle.layout.proofs.Cut.{join-length}
 use Rattle.layout.proofs.View.{Long, Fits, view-at, put-long, fill-long, number-long, put-fits, fill-fits, number-fits}
 use Rattle.layout.proofs.Lay.{view-lay}
-use Rattle.layout.proofs.Limits.{limited}
+use Rattle.layout.proofs.Limits.{limited, proper}
 use Rattle.terms.specs.Places.{freePlace}
 use Rattle.scans.specs.Places.{openCount, everyOpen, differ}
-use Rattle.facts.specs.Facts.{used, lastStamp, mergesMade, each, rowsBetween, rangeBetween, pageAtMost, inUse, waiting, storedWithin, countsWithin, rowNamed, rangeNamesRows, recordsNameRows, numbersGiven, rangeLinked, recordLinked, linksHold, stampsWithin, mergesWithin, openDiffer, pagePlaced, pagesPlaced, pageRange, lineageWithin, lineagesWithin, factsHold}
-use Rattle.facts.specs.Usable.{shapeIn, sizesIn, measuresBytes, usable}
+use Rattle.facts.specs.Facts.{each, rowsBetween, rangeBetween, pageAtMost, inUse, waiting, storedWithin, countsWithin, rowNamed, rangeNamesRows, recordsNameRows, numbersGiven, rangeLinked, recordLinked, linksHold, stampsWithin, mergesWithin, openDiffer, pagePlaced, pagesPlaced, pageRange, lineageWithin, lineagesWithin, factsHold}
+use Rattle.facts.specs.Usable.{storedShape, storedSizes, measuresBytes, usable}
 use Rattle.facts.proofs.Each.{each-true}
-use Rattle.facts.proofs.Ready.{sized}
 use Rattle.making.specs.Made.{blankView, placedView, madeView, made, madeList}
 
 -- ---- zeros
-
-zero-at : (n i : ℕ) → _≡_ {A = ℕ} (getD (replicate n 0) i 0) 0
-zero-at n i = go (ltb i n) refl
-  where
-    go : (b : Bool) → ltb i n ≡ b → _≡_ {A = ℕ} (getD (replicate n 0) i 0) 0
-    go true e = getD-replicate n i 0 0 (ltb-true i n e)
-    go false e = List·getD-eq-default {A = ℕ} (replicate n 0) 0 (rw (length-replicate {A = ℕ} n 0) (ltb-false i n e))
 
 zeros-between : (n b : ℕ) → allBetween 0 b (replicate n 0) ≡ true
 zeros-between zero b = refl
@@ -86,7 +78,7 @@ module _ (p : Shape) (w : withinLimits p ≡ true) where
 
   blank-fits : Fits (blankView (sizesOf p))
   unfolding blankView
-  blank-fits k i = let z = zero-at (len (sizesOf p) k) i in omega arith
+  blank-fits k i = let z = zeros (len (sizesOf p) k) i in omega arith
 
   pub made-long : Long (sizesOf p) (madeView p)
   unfolding madeView placedView
@@ -101,26 +93,26 @@ module _ (p : Shape) (w : withinLimits p ≡ true) where
   made-fits =
       let s = sizesOf p in
       let l = limited p w in
-      let z = sized p w in
-      let k : s .places ≤ 2 ^ 32 = omega (arith, z .places-in, z .pages-to) in
+      let z = proper p w in
+      let k : s .places ≤ 2 ^ 32 = omega (arith, z .pages-are, z .pages-to) in
       put-fits Header _
       (put-fits Header _ (put-fits Header _ (put-fits Header _ (number-fits Current _ (number-fits PagePlace _ (fill-fits PageState _ blank-fits 0 (s .places) 1 (omega arith)) 0 (s .places) k) 0 (s .places) k) 3 (p .spares) (omega (arith, l .spares-to))) 2 (p .capacity) (omega (arith, l .capacity-to))) 1 (p .ranges) (omega (arith, l .ranges-to)))
       0 (p .columns) (omega (arith, l .columns-to))
 
   -- ---- the clauses
 
-  none-used : (g : ℕ) → used (madeView p) g ≡ 0
+  none-used : (g : ℕ) → usedIn (madeView p) g ≡ 0
   unfolding madeView placedView put number fill renew blankView
-  none-used g = zero-at (p .ranges) g
+  none-used g = zeros (p .ranges) g
 
-  each-unused : (f : ℕ → ℕ → Bool) → each (p .ranges) (λ g. each (used (madeView p) g) (f g)) ≡ true
+  each-unused : (f : ℕ → ℕ → Bool) → each (p .ranges) (λ g. each (usedIn (madeView p) g) (f g)) ≡ true
   unfolding each
-  each-unused f = each-true (λ g. each (used (madeView p) g) (f g)) (p .ranges) (λ g h. rw (none-used g))
+  each-unused f = each-true (λ g. each (usedIn (madeView p) g) (f g)) (p .ranges) (λ g h. rw (none-used g))
 
   between-unused : (k : Region) (low high : ℕ) → each (p .ranges) (rangeBetween (sizesOf p) (madeView p) k low high) ≡ true
   unfolding rangeBetween
   between-unused k low high =
-      each-true (rangeBetween (sizesOf p) (madeView p) k low high) (p .ranges) (λ g h. none-between (madeView p k) (g * p .capacity) (used (madeView p) g) low high (none-used g))
+      each-true (rangeBetween (sizesOf p) (madeView p) k low high) (p .ranges) (λ g h. none-between (madeView p k) (g * p .capacity) (usedIn (madeView p) g) low high (none-used g))
 
   -- no row is given
   no-rows : (k : Region) (low high : ℕ) → rowsBetween (madeView p) k low high ≡ true
@@ -156,15 +148,15 @@ module _ (p : Shape) (w : withinLimits p ≡ true) where
 
     newest-zero : (i : ℕ) → getD (madeView p PageNewest) i 0 ≡ 0
     unfolding madeView placedView put number fill renew blankView
-    newest-zero i = zero-at (sizesOf p .pages) i
+    newest-zero i = zeros (sizesOf p .pages) i
 
     replaced-zero : (i : ℕ) → getD (madeView p PageReplaced) i 0 ≡ 0
     unfolding madeView placedView put number fill renew blankView
-    replaced-zero i = zero-at (sizesOf p .pages) i
+    replaced-zero i = zeros (sizesOf p .pages) i
 
     lineage-zero : (i : ℕ) → getD (madeView p PageLineage) i 0 ≡ 0
     unfolding madeView placedView put number fill renew blankView
-    lineage-zero i = zero-at (sizesOf p .pages) i
+    lineage-zero i = zeros (sizesOf p .pages) i
 
     stamps : stampsWithin (sizesOf p) (madeView p) list ≡ true
     unfolding stampsWithin rowsBetween
@@ -194,26 +186,26 @@ module _ (p : Shape) (w : withinLimits p ≡ true) where
     place-at i h =
         let k = sizesOf p .places in
         let m = sizesOf p .pages in
-        rw (zero-add i) at (changed-at (λ j x. j) 0 (replicate m 0) k i (omega (arith, length-replicate {A = ℕ} m 0, sized p w .places-in)) h)
+        rw (zero-add i) at (changed-at (λ j x. j) 0 (replicate m 0) k i (omega (arith, length-replicate {A = ℕ} m 0, proper p w .pages-are)) h)
 
     state-at : (i : ℕ) → i < sizesOf p .places → getD (madeView p PageState) i 0 ≡ 1
     unfolding madeView placedView put number fill renew blankView
     state-at i h =
         let k = sizesOf p .places in
         let m = sizesOf p .pages in
-        rw (zero-add i) at (changed-at (λ j x. 1) 0 (replicate m 0) k i (omega (arith, length-replicate {A = ℕ} m 0, sized p w .places-in)) h)
+        rw (zero-add i) at (changed-at (λ j x. 1) 0 (replicate m 0) k i (omega (arith, length-replicate {A = ℕ} m 0, proper p w .pages-are)) h)
 
     placed : pagesPlaced (sizesOf p) (madeView p) ≡ true
     unfolding pagesPlaced pagePlaced
     placed =
         each-true (pagePlaced (sizesOf p) (madeView p)) (sizesOf p .places)
-        (λ i h. rw (current-at i h, state-at i h, place-at i h, lt-ltb i (sizesOf p .pages) (omega (arith, sized p w .places-in)), eq-eqb i i refl))
+        (λ i h. rw (current-at i h, state-at i h, place-at i h, lt-ltb i (sizesOf p .pages) (omega (arith, proper p w .pages-are)), eq-eqb i i refl))
 
     lineages : lineagesWithin (sizesOf p) (madeView p) ≡ true
     unfolding lineagesWithin lineageWithin
     lineages =
         each-true (lineageWithin (sizesOf p) (madeView p)) (sizesOf p .pages)
-        (λ i h. rw (lineage-zero i, leb·zero (used (madeView p) (pageRange (sizesOf p) (madeView p) i))) (or-true (ltb (getD (madeView p PageState) i 0) inUse)))
+        (λ i h. rw (lineage-zero i, leb·zero (usedIn (madeView p) (pageRange (sizesOf p) (madeView p) i))) (or-true (ltb (getD (madeView p PageState) i 0) inUse)))
 
     pub made-facts : factsHold (sizesOf p) (madeView p) list ≡ true
     unfolding factsHold
@@ -233,8 +225,8 @@ module _ (p : Shape) (w : withinLimits p ≡ true) where
         rw (zero-add i) at (sym (view-at (sizesOf p) ws Header i h))
         ∙ ap (λ (v : View). getD (v Header) i 0) seen
 
-    shape-seen : shapeIn (words (lay (sizesOf p) (madeView p) m)) ≡ p
-    unfolding shapeIn madeView placedView put number fill renew blankView
+    shape-seen : storedShape (words (lay (sizesOf p) (madeView p) m)) ≡ p
+    unfolding storedShape madeView placedView put number fill renew blankView
     shape-seen = rw (header-at 0 (omega arith), header-at 1 (omega arith), header-at 2 (omega arith), header-at 3 (omega arith))
 
     laid-length : length (lay (sizesOf p) (madeView p) m) ≡ length m
@@ -252,7 +244,7 @@ module _ (p : Shape) (w : withinLimits p ≡ true) where
 
     -- what an accepted making left is usable, with a scan list whose places were all freed
     pub made-usable : (n : ℕ) → mostScans ≤ n → usable (lay (sizesOf p) (madeView p) m) (replicate n freePlace) ≡ true
-    unfolding usable sizesIn bytesNeeded
+    unfolding usable storedSizes bytesNeeded
     made-usable n k =
         let l = laid-length in
         rw (shape-seen, w, seen, l, length-replicate n freePlace, le-leb measuresBytes (length m) (omega (arith, needs-some)), le-leb (need (sizesOf p) * 4) (length m) room, le-leb mostScans n k)

@@ -22,7 +22,8 @@ use Rattle.scans.specs.declared.Scans.{Scans}
 use Rattle.scans.specs.Places.{openCount, someOpen}
 use Rattle.scans.specs.Table.{tableOf, anyBelow}
 use Rattle.scans.proofs.Answers.{table-before}
-use Rattle.model.specs.Asked.{shapeIn, Proper}
+use Rattle.layout.specs.Sizes.{Proper}
+use Rattle.model.specs.Asked.{shapeIn}
 use Rattle.settling.proofs.Views.{change-none, change-next}
 use Rattle.merging.specs.Steps.{leastOf, spare, sparesFreed}
 

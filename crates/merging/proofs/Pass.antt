@@ -18,7 +18,8 @@ use Rattle.layout.specs.View.{View, renew, put, copy}
 use Rattle.terms.specs.Places.{place}
 use Rattle.model.specs.Stored.{slot, recordIn, valueIn, pageIn, currentIn, pagesOf, within, freePage, firstFrom, nextWord}
 use Rattle.model.specs.Writing.{applies, applied, newestOf, freeIn, mergedIn}
-use Rattle.model.specs.Asked.{shapeIn, Proper}
+use Rattle.layout.specs.Sizes.{Proper}
+use Rattle.model.specs.Asked.{shapeIn}
 use Rattle.settling.specs.Steps.{foundAt}
 use Rattle.settling.proofs.Places.{find-place}
 use Rattle.settling.proofs.Views.{renew-none, renew-again, put-renew}

@@ -10,7 +10,8 @@ use Rattle.loops.specs.Change.{changed, copied}
 use Rattle.layout.specs.declared.Sizes.{Sizes}
 use Rattle.layout.specs.declared.Region.{Region}
 use Rattle.layout.specs.View.{View, renew, put}
-use Rattle.model.specs.Stored.{recordIn, pageIn, valueIn, currentIn, within, mergesMade, asFree, asCurrent, asWaiting, waitingPage}
+use Rattle.layout.specs.Regions.{mergesAt}
+use Rattle.model.specs.Stored.{recordIn, pageIn, valueIn, currentIn, within, asFree, asCurrent, asWaiting, waitingPage}
 use Rattle.model.specs.Writing.{applies, applied, freeIn}
 use Rattle.model.specs.Asked.{shapeIn}
 
@@ -47,7 +48,7 @@ pagePut p place m lineage newest v =
 -- page p takes the place of page `old`, which waits
 unfoldable pub pageReplaced : ℕ → ℕ → ℕ → ℕ → View → View
 pageReplaced old p place m v =
-    put Region.Header mergesMade m
+    put Region.Header mergesAt m
     (put Region.Current place p (put Region.PageReplaced old m (put Region.PageState old asWaiting v)))
 
 -- What a merge of column c of range g through record n into page p asks of the memory: its tests have shown it, but for the last, which is a stored fact.

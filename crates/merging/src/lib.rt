@@ -29,7 +29,8 @@ ghost use Rattle.model.specs.Stored.{recordIn, pagesOf, countBelow};
 ghost use Rattle.model.specs.Writing.{applies, newestOf, freeIn, mergedIn, releasable, releasedIn};
 ghost use Rattle.scans.specs.Places.{openCount};
 ghost use Rattle.scans.specs.Table.{tableOf};
-ghost use Rattle.model.specs.Asked.{shapeIn, Proper, Pooled};
+ghost use Rattle.layout.specs.Sizes.{Proper};
+ghost use Rattle.model.specs.Asked.{shapeIn, Pooled};
 ghost use Rattle.settling.specs.Steps.{foundAt};
 ghost use Rattle.merging.specs.Steps.{appliedOne, laterOne, appliedAll, mergedCells, pagePut, pageReplaced, Mergeable, leastOf, spare, sparesFreed};
 

@@ -1,46 +1,31 @@
--- What the functions over the lent memory ask for before they read or write: that sizes are those of a shape within the limits, and narrow stored facts of the
--- view, each a record of named facts. Every call tests the stored facts first, so that it can hand these on.
-use Prim.Native.Nat.{ℕ, _+_, _*_, _≤_, _<_}
+-- What the functions over the lent memory ask for before they read or write: narrow stored facts of the view, each a record of named facts. Every call tests the stored facts first, so that it can hand these on.
+use Prim.Native.Nat.{ℕ, _≤_, _<_}
 use mathlib.Core.Path.{_≡_}
 use lib.Dec.{eqb}
 use lib.ListN.{getD}
-use Rattle.terms.specs.Measures.{Shape, rangeRows, mostColumns, mostRanges, mostRecords, mostSpares, mostTransactions}
+use Rattle.terms.specs.Measures.{Shape, mostTransactions}
 use Rattle.layout.specs.declared.Sizes.{Sizes}
 use Rattle.layout.specs.declared.Region.{Region}
-use Rattle.layout.specs.View.{View}
+use Rattle.layout.specs.View.{View, rowsGiven, usedIn}
 use Rattle.history.specs.History.{rangeOf}
 use Rattle.terms.specs.Places.{place}
-use Rattle.model.specs.Stored.{slot, openPlace, usedIn, headerIn, rowsGiven}
+use Rattle.model.specs.Stored.{slot, openPlace}
 
 -- the shape that sizes were made of
 abbrev pub shapeIn : Sizes → Shape
 shapeIn s = record { columns = s .columns; ranges = s .ranges; capacity = s .capacity; spares = s .spares }
 
--- The sizes are what their shape makes. Said field by field, since sums and bounds are what the code's indices want.
-pub record Proper (s : Sizes) : Type 0 where
-  pub rows-are : s .rows ≡ s .ranges * rangeRows
-  pub slots-are : s .slots ≡ s .ranges * s .capacity
-  pub values-are : s .values ≡ s .slots * s .columns
-  pub places-are : s .places ≡ s .columns * s .ranges
-  pub pages-are : s .pages ≡ s .places + s .spares
-  pub columns-from : 1 ≤ s .columns
-  pub columns-to : s .columns ≤ mostColumns
-  pub ranges-from : 1 ≤ s .ranges
-  pub ranges-to : s .ranges ≤ mostRanges
-  pub capacity-to : s .capacity ≤ mostRecords
-  pub spares-to : s .spares ≤ mostSpares
-
 -- The counts lie within the measures: rows given, and tail records used of each range.
 pub record Counted (s : Sizes) (v : View) : Type 0 where
-  pub rows-given : headerIn v rowsGiven ≤ s .rows
+  pub rows-given : rowsGiven v ≤ s .rows
   pub records-used : (g : ℕ) → g < s .ranges → usedIn v g ≤ s .capacity
 
 -- What reading a row and following its links relies on: no more rows are given and no more records used than there are, a row's link is a used record or 0,
 -- and a used record's link is lower than its own number. So a walk ends, and stays among the records that there are.
 pub record Linked (s : Sizes) (v : View) : Type 0 where
-  pub rows-few : headerIn v rowsGiven ≤ s .rows
+  pub rows-few : rowsGiven v ≤ s .rows
   pub used-few : (g : ℕ) → g < s .ranges → usedIn v g ≤ s .capacity
-  pub rows-linked : (r : ℕ) → r < headerIn v rowsGiven → getD (v Region.RowLink) r 0 ≤ usedIn v (rangeOf r)
+  pub rows-linked : (r : ℕ) → r < rowsGiven v → getD (v Region.RowLink) r 0 ≤ usedIn v (rangeOf r)
   pub links-lower : (g k : ℕ) → g < s .ranges → 1 ≤ k → k ≤ usedIn v g → getD (v Region.TailLink) (slot (shapeIn s) g k) 0 < k
 
 -- Each current page is one of the pool.

@@ -15,11 +15,12 @@ use Rattle.terms.specs.declared.Answer.{Answer}
 use Rattle.history.specs.History.{Call, begin, insert, update, delete, commit, abort, latest, readAt, ownRead, openScan, scanRead, sum, close, merge, release, pageCell, lineage, Test, _when_, verdict, Verdict, accept, refuse, answerIf, any, count, noColumn, noRange, badMask, rangeOf}
 use Rattle.history.specs.Lists.{All}
 use Rattle.loops.specs.Change.{changed}
-use Rattle.layout.specs.View.{View, put, renew}
+use Rattle.layout.specs.View.{View, put, renew, rowsGiven, transactionsGiven, scansGiven, lastStamp, mergesMade, usedIn}
 use Rattle.layout.specs.declared.Region.the-variants.{Header, Opens}
 use Rattle.terms.specs.declared.Place.{Place}
 use Rattle.terms.specs.Places.{freePlace, place, bears, isScan}
-use Rattle.model.specs.Stored.{rowIn, recordIn, slot, valueIn, openPlace, pageIn, currentIn, cellIn, within, usedIn, headerIn, rowsGiven, transactionsGiven, scansGiven, lastStamp, mergesMade, openState, abortedState, deleteKind, scanPlace, pagesOf, countBelow, wordLimit}
+use Rattle.layout.specs.Regions.{scansAt}
+use Rattle.model.specs.Stored.{rowIn, recordIn, slot, valueIn, openPlace, pageIn, currentIn, cellIn, within, openState, abortedState, deleteKind, scanPlace, pagesOf, countBelow, wordLimit}
 use Rattle.model.specs.Reading.{headIn, hasRecord, readIn, readCurrent, ownChanges, scanPage, sumIn, sees, visibleIn, answersFor, walk, belowLineage, wordIn, wasCurrent, tally}
 use Rattle.model.specs.Writing.{made, blank, noted, settled, freed, nextSlot, appended, filledIn, newBitsIn, originalAppended, settingAppended, applies, applied, newestOf, begun, committedIn, abortedIn, insertedAt, insertedIn, updatedIn, deletedIn, mergedIn, releasedIn, releasable, recordsWanted, anyOpen, freeIn}
 
@@ -34,7 +35,7 @@ noScanIn ps k = not (any (isScan k) ps)
 
 -- 5
 unfoldable pub notGivenIn : View → ℕ → Bool
-notGivenIn v r = leb (headerIn v rowsGiven) r
+notGivenIn v r = leb (rowsGiven v) r
 
 -- 9: the inserter and the newest record tell it, as only the transaction that holds a row adds records to it
 unfoldable pub heldIn : Shape → View → ℕ → ℕ → Bool
@@ -56,10 +57,10 @@ lacksIn S v r n = ltb (S .capacity) (usedIn v (rangeOf r) + n)
 
 -- 13
 unfoldable pub notLaterIn : View → ℕ → Bool
-notLaterIn v s = leb s (headerIn v lastStamp)
+notLaterIn v s = leb s (lastStamp v)
 
 unfoldable pub laterIn : View → ℕ → Bool
-laterIn v s = ltb (headerIn v lastStamp) s
+laterIn v s = ltb (lastStamp v) s
 
 -- 16
 unfoldable pub outOfReachIn : Shape → View → ℕ → ℕ → ℕ → Bool
@@ -74,9 +75,9 @@ openAmongIn S v g c n =
 -- ---- the tests: "Tests run in this order."
 unfoldable pub testsIn : Shape → View → List Place → Call → List Test
 testsIn S v ps begin =
-    Refusal.Number when leb mostNumbers (headerIn v transactionsGiven) ∷ Refusal.Busy when not (any (λ k. eqb k 0) (v Opens)) ∷ []
+    Refusal.Number when leb mostNumbers (transactionsGiven v) ∷ Refusal.Busy when not (any (λ k. eqb k 0) (v Opens)) ∷ []
 testsIn S v ps (insert t vs) =
-    Refusal.Transaction when notOpenIn v t ∷ Refusal.Full when leb (S .ranges * rangeRows) (headerIn v rowsGiven) ∷ []
+    Refusal.Transaction when notOpenIn v t ∷ Refusal.Full when leb (S .ranges * rangeRows) (rowsGiven v) ∷ []
 testsIn S v ps (update t r m vs) =
     Refusal.Transaction when notOpenIn v t
     ∷ Refusal.Row when notGivenIn v r
@@ -101,7 +102,7 @@ testsIn S v ps (ownRead t r c) =
     Refusal.Transaction when notOpenIn v t ∷ Refusal.Row when notGivenIn v r ∷ Refusal.Column when noColumn S c ∷ []
 testsIn S v ps (openScan s) =
     Refusal.Time when laterIn v s
-    ∷ Refusal.Number when leb mostNumbers (headerIn v scansGiven)
+    ∷ Refusal.Number when leb mostNumbers (scansGiven v)
     ∷ Refusal.Busy when leb mostScans (count (λ p. not (eqb (p .number) 0)) ps)
     ∷ []
 testsIn S v ps (scanRead k r c) =
@@ -121,16 +122,16 @@ testsIn S v ps (lineage g c) = Refusal.Range when noRange S g ∷ Refusal.Column
 
 -- ---- what an accepted call answers
 unfoldable pub replyIn : Shape → View → List Place → Call → Answer
-replyIn S v ps begin = Answer.Number (headerIn v transactionsGiven + 1)
-replyIn S v ps (insert t vs) = Answer.Number (headerIn v rowsGiven)
+replyIn S v ps begin = Answer.Number (transactionsGiven v + 1)
+replyIn S v ps (insert t vs) = Answer.Number (rowsGiven v)
 replyIn S v ps (update t r m vs) = Answer.Number (usedIn v (rangeOf r) + recordsWanted v r m)
 replyIn S v ps (delete t r) = Answer.Number (usedIn v (rangeOf r) + 1)
 replyIn S v ps (commit t s) = Answer.Done
 replyIn S v ps (abort t) = Answer.Done
-replyIn S v ps (latest r c) = readCurrent S v (headerIn v lastStamp) 0 r c
+replyIn S v ps (latest r c) = readCurrent S v (lastStamp v) 0 r c
 replyIn S v ps (readAt s r c) = readCurrent S v s 0 r c
-replyIn S v ps (ownRead t r c) = readCurrent S v (headerIn v lastStamp) (ownChanges v t) r c
-replyIn S v ps (openScan s) = Answer.Number (headerIn v scansGiven + 1)
+replyIn S v ps (ownRead t r c) = readCurrent S v (lastStamp v) (ownChanges v t) r c
+replyIn S v ps (openScan s) = Answer.Number (scansGiven v + 1)
 replyIn S v ps (scanRead k r c) =
     let s = scanPlace ps k in
     readIn S v (s .stamp) 0 (scanPage S v (s .merges) (rangeOf r) c) r c
@@ -152,7 +153,7 @@ actIn S v ps (abort t) = abortedIn S t v
 actIn S v ps (latest r c) = v
 actIn S v ps (readAt s r c) = v
 actIn S v ps (ownRead t r c) = v
-actIn S v ps (openScan s) = put Header scansGiven (headerIn v scansGiven + 1) v
+actIn S v ps (openScan s) = put Header scansAt (scansGiven v + 1) v
 actIn S v ps (scanRead k r c) = v
 actIn S v ps (sum k c) = v
 actIn S v ps (close k) = v
@@ -173,7 +174,7 @@ placesAfter v ps (latest r c) = ps
 placesAfter v ps (readAt s r c) = ps
 placesAfter v ps (ownRead t r c) = ps
 placesAfter v ps (openScan s) =
-    set ps (place (λ p. eqb (p .number) 0) ps) record { number = headerIn v scansGiven + 1; stamp = s; merges = headerIn v mergesMade }
+    set ps (place (λ p. eqb (p .number) 0) ps) record { number = scansGiven v + 1; stamp = s; merges = mergesMade v }
 placesAfter v ps (scanRead k r c) = ps
 placesAfter v ps (sum k c) = ps
 placesAfter v ps (close k) = set ps (place (isScan k) ps) freePlace

@@ -11,11 +11,11 @@ use mir.Val.{toZ}
 use Rattle.terms.specs.Measures.{Shape}
 use Rattle.terms.specs.declared.Answer.{Answer}
 use Rattle.history.specs.History.{bit, rangeOf}
-use Rattle.layout.specs.View.{View}
+use Rattle.layout.specs.View.{View, rowsGiven}
 use Rattle.layout.specs.declared.Region.the-variants.{Changes}
 use Rattle.terms.specs.declared.Place.{Place}
 use Rattle.model.specs.declared.Walk.{Walk}
-use Rattle.model.specs.Stored.{RowWords, RecordWords, PageWords, rowIn, recordIn, pageIn, slot, valueIn, currentIn, placeOf, placesOf, pagesOf, cellIn, within, headerIn, rowsGiven, openState, committedState, originalKind, settingKind, deleteKind, waitingPage, firstFrom, openPlace}
+use Rattle.model.specs.Stored.{RowWords, RecordWords, PageWords, rowIn, recordIn, pageIn, slot, valueIn, currentIn, placeOf, placesOf, pagesOf, cellIn, within, openState, committedState, originalKind, settingKind, deleteKind, waitingPage, firstFrom, openPlace}
 
 -- Who sees a row or record in state `state`: t is the reader's stamp, me the transaction whose own changes count (0: none).
 unfoldable pub sees : ℕ → ℕ → ℕ → ℕ → ℕ → Bool
@@ -117,5 +117,5 @@ tally S v s c (suc r) =
 
 unfoldable pub sumIn : Shape → View → Place → ℕ → Answer
 sumIn S v s c =
-    let t = tally S v s c (headerIn v rowsGiven) in
+    let t = tally S v s c (rowsGiven v) in
     Answer.Sum (t .count) (t .total)

@@ -7,8 +7,7 @@ use lib.Dec.{ltb, eqb}
 use lib.ListN.{getD}
 use Rattle.terms.specs.Measures.{Shape, rangeRows}
 use Rattle.layout.specs.View.{View}
-use Rattle.layout.specs.Regions.{rowsAt, transactionsAt, scansAt, stampAt, mergesAt}
-use Rattle.layout.specs.declared.Region.the-variants.{Header, Opens, RowTransaction, RowState, RowStamp, RowLink, RowMask, TailTransaction, TailRow, TailKind, TailMask, TailLink, TailState, TailStamp, TailValues, Used, Current, PageState, PagePlace, PageMade, PageReplaced, PageLineage, PageNewest, Cells}
+use Rattle.layout.specs.declared.Region.the-variants.{Header, Opens, RowTransaction, RowState, RowStamp, RowLink, RowMask, TailTransaction, TailRow, TailKind, TailMask, TailLink, TailState, TailStamp, TailValues, Current, PageState, PagePlace, PageMade, PageReplaced, PageLineage, PageNewest, Cells}
 use Rattle.terms.specs.declared.Place.{Place}
 use Rattle.terms.specs.Places.{freePlace, place, bears, isScan}
 
@@ -19,22 +18,7 @@ placesOf S = S .columns * S .ranges
 abbrev pub pagesOf : Shape → ℕ
 pagesOf S = placesOf S + S .spares
 
--- ---- the header's words after the four measures
-abbrev pub rowsGiven : ℕ
-rowsGiven = rowsAt
-
-abbrev pub transactionsGiven : ℕ
-transactionsGiven = transactionsAt
-
-abbrev pub scansGiven : ℕ
-scansGiven = scansAt
-
-abbrev pub lastStamp : ℕ
-lastStamp = stampAt
-
-abbrev pub mergesMade : ℕ
-mergesMade = mergesAt
-
+-- ---- a word of the header
 abbrev pub headerIn : View → ℕ → ℕ
 headerIn v i = getD (v Header) i 0
 
@@ -162,9 +146,6 @@ pageIn v p =
 -- ---- indices. A tail record is reached through `slot` alone: k counts from 1 in its range.
 unfoldable pub slot : Shape → ℕ → ℕ → ℕ
 slot S g k = g * S .capacity + (k - 1)
-
-abbrev pub usedIn : View → ℕ → ℕ
-usedIn v g = getD (v Used) g 0
 
 -- the word of column c in the record at slot s
 unfoldable pub valueIn : Shape → View → ℕ → ℕ → ℕ

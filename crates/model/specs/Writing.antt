@@ -11,21 +11,21 @@ use mir.Val.{ofZ}
 use Rattle.terms.specs.Measures.{Shape, rangeRows}
 use Rattle.history.specs.History.{any, bit, rangeOf}
 use Rattle.loops.specs.Change.{changed, filled, numbered, copied, marked}
-use Rattle.layout.specs.Regions.{len}
-use Rattle.layout.specs.View.{View, renew, put}
+use Rattle.layout.specs.Regions.{len, rowsAt, transactionsAt, stampAt, mergesAt}
+use Rattle.layout.specs.View.{View, renew, put, rowsGiven, transactionsGiven, mergesMade, usedIn}
 use Rattle.layout.specs.declared.Region.the-variants.{Header, Opens, RowTransaction, RowState, RowStamp, RowLink, RowMask, TailTransaction, TailRow, TailKind, TailMask, TailLink, TailState, TailStamp, TailValues, Used, Current, PageState, PagePlace, PageMade, PageReplaced, PageLineage, PageNewest, Cells, Changes}
 use Rattle.terms.specs.declared.Place.{Place}
 use Rattle.layout.specs.Sizes.{sizesOf}
 use Rattle.terms.specs.Places.{place}
-use Rattle.model.specs.Stored.{RecordWords, rowIn, recordIn, pageIn, slot, valueIn, currentIn, placeOf, placesOf, pagesOf, cellIn, within, usedIn, headerIn, rowsGiven, transactionsGiven, lastStamp, mergesMade, nextWord, asOpen, asCommitted, asAborted, asOriginal, asSetting, asDelete, asFree, asCurrent, asWaiting, committedState, settingKind, freePage, waitingPage, firstFrom, openPlace}
+use Rattle.model.specs.Stored.{RecordWords, rowIn, recordIn, pageIn, slot, valueIn, currentIn, placeOf, placesOf, pagesOf, cellIn, within, nextWord, asOpen, asCommitted, asAborted, asOriginal, asSetting, asDelete, asFree, asCurrent, asWaiting, committedState, settingKind, freePage, waitingPage, firstFrom, openPlace}
 
 -- ---- open transactions
 -- begin: the first free place takes the next number, with nothing noted
 unfoldable pub begun : View → View
 begun v =
-    let n = headerIn v transactionsGiven + 1 in
+    let n = transactionsGiven v + 1 in
     let j = place (λ k. eqb k 0) (v Opens) in
-    put Header transactionsGiven n (put Changes j 0 (put Opens j n v))
+    put Header transactionsAt n (put Changes j 0 (put Opens j n v))
 
 -- A row or record made by open transaction t is noted. One note for a call is enough: what is asked of the count is whether it is 0.
 unfoldable pub noted : ℕ → View → View
@@ -42,7 +42,7 @@ markTails S used ks t w (suc g) l =
 -- commit and abort: every given row and used record that bears t gets the state and the stamp
 unfoldable pub settled : Shape → ℕ → ℕ → ℕ → View → View
 settled S t state stamp v =
-    let given = headerIn v rowsGiven in
+    let given = rowsGiven v in
     renew TailStamp (markTails S (v Used) (v TailTransaction) t stamp (S .ranges) (v TailStamp))
     (renew TailState (markTails S (v Used) (v TailTransaction) t state (S .ranges) (v TailState))
     (renew RowStamp (marked (v RowTransaction) 0 given t 0 stamp (v RowStamp))
@@ -55,7 +55,7 @@ freed t v =
     put Changes j 0 (put Opens j 0 v)
 
 unfoldable pub committedIn : Shape → ℕ → ℕ → View → View
-committedIn S t stamp v = put Header lastStamp stamp (freed t (settled S t asCommitted stamp v))
+committedIn S t stamp v = put Header stampAt stamp (freed t (settled S t asCommitted stamp v))
 
 unfoldable pub abortedIn : Shape → ℕ → View → View
 abortedIn S t v = freed t (settled S t asAborted 0 v)
@@ -71,12 +71,12 @@ putCells S current g i vs (suc c) cells =
 unfoldable pub insertedAt : Shape → ℕ → List ℤ → ℕ → View → View
 insertedAt S t vs r v =
     noted t
-    (put Header rowsGiven (r + 1)
+    (put Header rowsAt (r + 1)
     (renew Cells (putCells S (v Current) (rangeOf r) (within r) vs (S .columns) (v Cells))
     (put RowMask r 0 (put RowLink r 0 (put RowStamp r 0 (put RowState r asOpen (put RowTransaction r t v)))))))
 
 unfoldable pub insertedIn : Shape → ℕ → List ℤ → View → View
-insertedIn S t vs v = insertedAt S t vs (headerIn v rowsGiven) v
+insertedIn S t vs v = insertedAt S t vs (rowsGiven v) v
 
 -- ---- update and delete
 -- the slot of the next record of range g
@@ -166,9 +166,9 @@ mergedIn S g c n v =
     let old = currentIn S v g c in
     let x = pageIn v old in
     let p = freeIn S v in
-    let m = nextWord (headerIn v mergesMade) in
+    let m = nextWord (mergesMade v) in
     let low = x .lineage in
-    put Header mergesMade m
+    put Header mergesAt m
     (put Current (placeOf S g c) p
     (put PageReplaced old m
     (put PageState old asWaiting

@@ -18,6 +18,7 @@ use Rattle.commands.specs.Commands.{chosen, width, callFrom, Item, itemAt, behi
 use Rattle.commands.proofs.Parts.{whole, call-part}
 use Rattle.output.specs.Output.{lent, shapeAnswer, goesOn, calls, linesOf, outputOf, output}
 use Rattle.output.specs.Steps.{Machine, historyOf, operandsOf, answerTo, stateAfter, steps, linesFrom, written}
+use Rattle.loops.proofs.Search.{and-true}
 
 -- ---- no answer of the plain history ends the program
 abbrev allGoOn : List Test → Bool
@@ -172,21 +173,17 @@ written-is-output bs = go (leb shapeBytes (length bs))
     go false = append-nil (shapeLine (Answer.Refused Refusal.Cut))
 
 -- ---- what is lent is within the limits of a shape
-both : (a b : Bool) → (a && b) ≡ true → (a ≡ true) × (b ≡ true)
-both true b e = (refl, e)
-both false b e = absurd (false≢true e)
-
 wider : (low high more n : ℕ) → high ≤ more → between low high n ≡ true → between low more n ≡ true
 wider low high more n h e =
-    let p = both (leb low n) (leb n high) e in
+    let p = and-true (leb low n) (leb n high) e in
     rw (p .0) (le-leb n more (omega (arith, leb-true n high (p .1))))
 
 pub lent-within : (s : Shape) → lent s ≡ true → withinLimits s ≡ true
 unfolding lent withinLimits
 lent-within s e =
-    let p = both (between 1 4 (s .columns) && between 1 4 (s .ranges) && between 1 64 (s .capacity)) (between 0 16 (s .spares)) e in
-    let q = both (between 1 4 (s .columns) && between 1 4 (s .ranges)) (between 1 64 (s .capacity)) (p .0) in
-    let r = both (between 1 4 (s .columns)) (between 1 4 (s .ranges)) (q .0) in
+    let p = and-true (between 1 4 (s .columns) && between 1 4 (s .ranges) && between 1 64 (s .capacity)) (between 0 16 (s .spares)) e in
+    let q = and-true (between 1 4 (s .columns) && between 1 4 (s .ranges)) (between 1 64 (s .capacity)) (p .0) in
+    let r = and-true (between 1 4 (s .columns)) (between 1 4 (s .ranges)) (q .0) in
     let columns = wider 1 4 mostColumns (s .columns) (omega arith) (r .0) in
     let ranges = wider 1 4 mostRanges (s .ranges) (omega arith) (r .1) in
     let records = wider 1 64 mostRecords (s .capacity) (omega arith) (q .1) in

@@ -4,12 +4,12 @@ use loops::and_between;
 use terms::Answer;
 use terms::number;
 ghost use mathlib.Core.Path.{_≡_};
-ghost use Rattle.commands.specs.Decoded.{shapeIn};
+ghost use Rattle.commands.specs.Decoded.{measured};
 ghost use Rattle.output.specs.Output.{goesOn, lent};
 
 // "`gatebook` lends memory for 4 columns, 4 ranges, 64 tail records, 16 spares and answers 1 above that."
 pub fn lends(m: Measures) -> bool
-    ensures { λ r. ⌜ r ≡ lent (shapeIn m) ⌝ }
+    ensures { λ r. ⌜ r ≡ lent (measured m) ⌝ }
 {
     let columns = and_between(true, 1, 4, m.columns);
     let ranges = and_between(columns, 1, 4, m.ranges);

@@ -1,9 +1,9 @@
 -- The demands hold.
 use Prim.Native.Nat.{ℕ, _≤_, _<_}
 use mathlib.Core.Path.{_≡_, refl, ap, sym, _∙_}
-use mathlib.Core.Bool.{Bool, true, false, not}
+use mathlib.Core.Bool.{Bool, true, false}
 use mathlib.Core.List.{List}
-use lib.Dec.{T, leb, nleb→lt}
+use lib.Dec.{leb, nleb→lt}
 use lib.ListN.{length, replicate}
 use borrow.Author.Tests.{leb-true}
 use Rattle.terms.specs.Measures.{Shape, withinLimits, mostScans}
@@ -14,13 +14,13 @@ use Rattle.words.specs.Words.{words}
 use Rattle.layout.specs.Sizes.{sizesOf, bytesNeeded}
 use Rattle.layout.specs.View.{View, view, lay}
 use Rattle.layout.proofs.Lay.{view-lay}
-use Rattle.history.specs.History.{Call, History, start, answer, next, run, tests, reply, verdict, Verdict, accept, answerIf, read, seenAt, notGiven, noColumn}
-use Rattle.history.specs.Claims.{strike, Reads, latest-reads, at-reads, scan-reads, isRefused, answerAt, ReadAt, Striking, Stability}
+use Rattle.history.specs.History.{Call, History, start, answer, next, run, tests, reply, verdict, accept, answerIf, read, seenAt, notGiven, noColumn}
+use Rattle.history.specs.Claims.{strike, Reads, latest-reads, at-reads, scan-reads, answerAt, ReadAt, Striking, Stability}
 use Rattle.history.specs.Lists.{All, nil, cons}
 use Rattle.history.proofs.Lists.{all-keep, is-true, clash}
 use Rattle.history.proofs.Accepted.{Passed, passed}
 use Rattle.history.proofs.Striking.{striking}
-use Rattle.history.proofs.Stability.{stability}
+use Rattle.history.proofs.Stability.{stability, accepted}
 use Rattle.making.specs.Made.{made, madeView, madeList}
 use Rattle.making.proofs.Usable.{made-long, made-fits}
 use Rattle.making.proofs.Answers.{laid as making-laid}
@@ -155,13 +155,6 @@ module _ (S : Shape) (m : List ℕ) (ps : List Place) (a : Accepted S m ps) {cs 
       ∙ ap (λ (l : List Place). viewAfter S (storeAfter S (length ps) cs) l ds) list-left
 
 -- ---- demand 2
-accepted-if : (S : Shape) (h : History) (x : Call) → T (not (isRefused (answer S h x))) → verdict (tests S h x) ≡ accept
-unfolding answer answerIf
-accepted-if S h x = go (verdict (tests S h x))
-  where
-    go : (w : Verdict) → T (not (isRefused (answerIf w (reply S h x)))) → w ≡ accept
-    go accept n = refl
-
 -- what a read that is not refused answers, and that its row and column are there
 read-answers : (S : Shape) (h : History) {x : Call} {t r c : ℕ} → Reads h x t r c → verdict (tests S h x) ≡ accept → answer S h x ≡ read (seenAt h t) h r c
 unfolding answer answerIf reply
@@ -181,7 +174,7 @@ reads-committed S m ps a cs ys x t r c y q n =
     let h = historyAfter S cs in
     let e : answerOf (storeMemory S m ps cs) (storeList S m ps cs) x ≡ answer S h x =
     same-call (storeMemory S m ps cs) (storeList S m ps cs) S h (store-same S m ps a ys) x y .0 in
-    let w : verdict (tests S h x) ≡ accept = accepted-if S h x (rw e at n) in
+    let w : verdict (tests S h x) ≡ accept = accepted S h x (rw e at n) in
     let b = read-inside S h q (passed (tests S h x) w) in
     let u = enough S m ps a in
     let o = represented S (rw (u .within) tt) (length ps) (u .places) ys in

@@ -6,7 +6,7 @@ use mathlib.Core.List.{List, [], _∷_}
 use lib.Dec.{T, eqb}
 use lib.IntN.{ℤ}
 use Rattle.terms.specs.Measures.{Shape}
-use Rattle.terms.specs.Refusals.{refusalNumber}
+use Rattle.terms.specs.Refusals.{refusalNumber, isRefused}
 use Rattle.terms.specs.declared.Answer.{Answer}
 use Rattle.terms.specs.declared.Place.{Place}
 use Rattle.terms.specs.declared.Refusal.{Refusal}
@@ -14,9 +14,8 @@ use Rattle.words.specs.Words.{words}
 use Rattle.layout.specs.View.{View, lay}
 use Rattle.layout.proofs.Lay.{lay-view}
 use Rattle.history.specs.History.{Call, begin, insert, update, delete, commit, abort, latest, readAt, ownRead, openScan, scanRead, sum, close, merge, release, pageCell, lineage, Test, any, verdict, Verdict, accept, refuse, answerIf}
-use Rattle.history.specs.Claims.{isRefused}
 use Rattle.history.proofs.Lists.{clash, or-left, or-right, eqb-equal}
-use Rattle.facts.specs.Usable.{shapeIn, sizesIn, usable}
+use Rattle.facts.specs.Usable.{storedShape, storedSizes, usable}
 use Rattle.facts.proofs.Usable.{usable-tells}
 use Rattle.model.specs.Reading.{readIn, readCurrent, sumIn, visibleIn}
 use Rattle.model.specs.Calls.{testsIn, replyIn, actIn, placesAfter, viewIf, placesIf, say, viewNext, placesNext}
@@ -89,18 +88,18 @@ unfolding RefusedKeeps answerOf memoryAfter listAfter say viewNext placesNext an
 refused-keeps m ps c n b = go (usable m ps) refl
   where
     S : Shape
-    S = shapeIn (words m)
+    S = storedShape (words m)
 
     v : View
     v = storeView m
 
     Kept : Bool → Type 0
-    Kept u = (cond u (lay (sizesIn (words m)) (viewNext S v ps c) m) m ≡ m) × (cond u (placesNext S v ps c) ps ≡ ps)
+    Kept u = (cond u (lay (storedSizes (words m)) (viewNext S v ps c) m) m ≡ m) × (cond u (placesNext S v ps c) ps ≡ ps)
 
     by-verdict : usable m ps ≡ true → (w : Verdict) → answerIf w (replyIn S v ps c) ≡ Answer.Refused n
-        → (lay (sizesIn (words m)) (viewIf w v (actIn S v ps c)) m ≡ m) × (placesIf w ps (placesAfter v ps c) ≡ ps)
+        → (lay (storedSizes (words m)) (viewIf w v (actIn S v ps c)) m ≡ m) × (placesIf w ps (placesAfter v ps c) ≡ ps)
     by-verdict u accept e = absurd (true-false (sym (ap isRefused e) ∙ not-refused S v ps c))
-    by-verdict u (refuse r) e = (lay-view (sizesIn (words m)) m b (usable-tells m ps u .room), refl)
+    by-verdict u (refuse r) e = (lay-view (storedSizes (words m)) m b (usable-tells m ps u .room), refl)
 
     go : (u : Bool) → usable m ps ≡ u → cond u (say S v ps c) (Answer.Refused Refusal.Memory) ≡ Answer.Refused n → Kept u
     go true u e = by-verdict u (verdict (testsIn S v ps c)) e
@@ -111,7 +110,7 @@ unfolding RefusedMemory answerOf say answerIf
 refused-memory m ps c = (λ u. rw u, λ e. go (usable m ps) e)
   where
     S : Shape
-    S = shapeIn (words m)
+    S = storedShape (words m)
 
     v : View
     v = storeView m

@@ -25,7 +25,7 @@ use Rattle.layout.proofs.Lay.{view-lay}
 use Rattle.history.specs.History.{Call, History, start, answer, answers, next}
 use Rattle.history.specs.Lists.{All, nil, cons}
 use Rattle.history.proofs.Past.{past-start}
-use Rattle.facts.specs.Usable.{measuresBytes, shapeIn, sizesIn, usable}
+use Rattle.facts.specs.Usable.{measuresBytes, storedShape, storedSizes, usable}
 use Rattle.making.specs.Made.{blankView, placedView, madeView, madeList}
 use Rattle.model.specs.Writing.{blank, made}
 use Rattle.model.specs.Calls.{Typed, say, viewNext, placesNext}
@@ -80,8 +80,8 @@ module _ (m : List ℕ) (ps : List Place) (S : Shape) (h : History) (o : Same m 
   unfolding base
   header-at i b = sym (rw (zero-add i) at (view-at (sizesOf S) (words m) Header i b))
 
-  pub shape-said : shapeIn (words m) ≡ S
-  unfolding shapeIn
+  pub shape-said : storedShape (words m) ≡ S
+  unfolding storedShape
   shape-said =
       let x = o .shown .header in
       rw (header-at 0 (omega arith) ∙ x .columns, header-at 1 (omega arith) ∙ x .ranges, header-at 2 (omega arith) ∙ x .capacity, header-at 3 (omega arith) ∙ x .spares)
@@ -91,7 +91,7 @@ module _ (m : List ℕ) (ps : List Place) (S : Shape) (h : History) (o : Same m 
   measures-there = omega (arith, o .room)
 
   pub same-usable : usable m ps ≡ true
-  unfolding usable sizesIn bytesNeeded
+  unfolding usable storedSizes bytesNeeded
   same-usable =
       rw (
         shape-said,
@@ -106,11 +106,11 @@ module _ (m : List ℕ) (ps : List Place) (S : Shape) (h : History) (o : Same m 
   seen = view (sizesOf S) (words m)
 
   pub view-is : storeView m ≡ seen
-  unfolding storeView sizesIn
+  unfolding storeView storedSizes
   view-is = rw shape-said
 
   -- what is promised of a usable memory, by the shape that it says and its view
-  by-usable : {A : Type 0} (f : Shape → View → A) (z : A) → cond (usable m ps) (f (shapeIn (words m)) (storeView m)) z ≡ f S seen
+  by-usable : {A : Type 0} (f : Shape → View → A) (z : A) → cond (usable m ps) (f (storedShape (words m)) (storeView m)) z ≡ f S seen
   by-usable f z = rw (same-usable, shape-said, view-is)
 
   pub answer-is : (c : Call) → answerOf m ps c ≡ say S seen ps c
@@ -118,7 +118,7 @@ module _ (m : List ℕ) (ps : List Place) (S : Shape) (h : History) (o : Same m 
   answer-is c = by-usable (λ p v. say p v ps c) _
 
   pub memory-is : (c : Call) → memoryAfter m ps c ≡ lay (sizesOf S) (viewNext S seen ps c) m
-  unfolding memoryAfter sizesIn
+  unfolding memoryAfter storedSizes
   memory-is c = by-usable (λ p v. lay (sizesOf p) (viewNext p v ps c) m) _
 
   pub list-is : (c : Call) → listAfter m ps c ≡ placesNext S seen ps c

@@ -329,4 +329,4 @@ module _ (S : Shape) (v : View) (ps : List Place) (h : History) (o : Represents 
       }
 
   pub represented-facts : withinLimits S ≡ true → factsHold (sizesOf S) v ps ≡ true
-  represented-facts w = facts-hold (sizesOf S) v ps (sized S w) (o .whole .long) represented-usable
+  represented-facts w = facts-hold (sizesOf S) v ps (proper S w) (o .whole .long) represented-usable

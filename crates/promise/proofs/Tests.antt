@@ -7,7 +7,7 @@ use mathlib.Core.List.{List, [], _∷_, map}
 use native.Mathlib.Omega.{arith}
 use native.Mathlib.Nat.{zero-add}
 use lib.Dec.{leb, ltb, eqb}
-use lib.ListN.{length, getD, List·getD-map}
+use lib.ListN.{length, getD}
 use borrow.Author.Tests.{ltb-false, eqb-false, eq-eqb, ne-eqb, le-leb, lt-ltb}
 use Rattle.terms.specs.declared.Place.{Place}
 use Rattle.loops.specs.Search.{region, allBetween}
@@ -16,15 +16,15 @@ use Rattle.layout.specs.declared.Sizes.{Sizes}
 use Rattle.layout.specs.declared.Region.{Region}
 use Rattle.layout.specs.declared.Region.the-variants.{Opens, RowTransaction, RowStamp, TailTransaction, TailStamp, Used, PageState, PageReplaced, PageNewest}
 use Rattle.layout.specs.Regions.{len}
-use Rattle.layout.specs.View.{View}
+use Rattle.layout.specs.View.{View, rowsGiven, transactionsGiven, scansGiven, lastStamp, mergesMade, usedIn}
 use Rattle.layout.proofs.View.{Long}
 use Rattle.terms.specs.Places.{freePlace}
 use Rattle.scans.specs.Places.{everyOpen, among, differ}
-use Rattle.facts.specs.Facts.{rowsGiven, transactionsGiven, scansGiven, lastStamp, mergesMade, used, firstSlot, each, rowsBetween, rangeBetween, pageAtMost, inUse, waiting, storedWithin, countsWithin, rowNamed, rangeNamesRows, recordsNameRows, numbersGiven, linkHolds, rowLinked, recordLinked, rangeLinked, linksHold, stampsWithin, mergesWithin, openDiffer, pagePlaced, pagesPlaced, lineageWithin, lineagesWithin, factsHold}
-use Rattle.facts.specs.Tests.{Sized}
+use Rattle.facts.specs.Facts.{firstSlot, each, rowsBetween, rangeBetween, pageAtMost, inUse, waiting, storedWithin, countsWithin, rowNamed, rangeNamesRows, recordsNameRows, numbersGiven, linkHolds, rowLinked, recordLinked, rangeLinked, linksHold, stampsWithin, mergesWithin, openDiffer, pagePlaced, pagesPlaced, lineageWithin, lineagesWithin, factsHold}
+use Rattle.layout.specs.Sizes.{Proper}
 use Rattle.facts.proofs.Each.{each-true}
 use Rattle.facts.proofs.Within.{range-in}
-use Rattle.facts.proofs.Usable.{Linked, Usable}
+use Rattle.facts.proofs.Usable.{Linked, Usable, numbers-at}
 
 -- ---- one list, one test
 
@@ -72,12 +72,9 @@ unfolding pageAtMost
 page-holds v least k most p f =
     either (ltb (getD (v PageState) p 0) least) _ (λ e. le-leb (getD (v k) p 0) most (f (ltb-false (getD (v PageState) p 0) least e)))
 
-numbers-at : (ps : List Place) (j : ℕ) → getD (map (λ p. p .number) ps) j 0 ≡ getD ps j freePlace .number
-numbers-at ps j = List·getD-map (λ p. p .number) ps j freePlace
-
 -- ---- all clauses
 
-module _ (s : Sizes) (v : View) (ps : List Place) (z : Sized s) (long : Long s v) (u : Usable s v ps) where
+module _ (s : Sizes) (v : View) (ps : List Place) (z : Proper s) (long : Long s v) (u : Usable s v ps) where
   stretch : (k : Region) (at n low high : ℕ) → at + n ≤ len s k → ((i : ℕ) → i < n → (low ≤ getD (v k) (at + i) 0) × (getD (v k) (at + i) 0 ≤ high))
       → allBetween low high (region (v k) at n) ≡ true
   stretch k at n low high b f =
@@ -90,12 +87,12 @@ module _ (s : Sizes) (v : View) (ps : List Place) (z : Sized s) (long : Long s v
   rows-between k low high l f = stretch k 0 (rowsGiven v) low high (omega (arith, u .counts .rows-to)) (λ i h. rw (zero-add i) (f i h))
 
   records-between : (k : Region) (low high : ℕ) → len s k ≡ s .slots
-      → ((g i : ℕ) → g < s .ranges → i < used v g → (low ≤ getD (v k) (firstSlot s g + i) 0) × (getD (v k) (firstSlot s g + i) 0 ≤ high))
+      → ((g i : ℕ) → g < s .ranges → i < usedIn v g → (low ≤ getD (v k) (firstSlot s g + i) 0) × (getD (v k) (firstSlot s g + i) 0 ≤ high))
       → each (s .ranges) (rangeBetween s v k low high) ≡ true
   unfolding rangeBetween
   records-between k low high l f =
       each-true (rangeBetween s v k low high) (s .ranges)
-      (λ g h. stretch k (firstSlot s g) (used v g) low high (omega (arith, range-in s g z h, u .counts .records-to g)) (λ i j. f g i h j))
+      (λ g h. stretch k (firstSlot s g) (usedIn v g) low high (omega (arith, range-in s g z h, u .counts .records-to g)) (λ i j. f g i h j))
 
   counts : countsWithin s v ps ≡ true
   unfolding countsWithin storedWithin
@@ -110,7 +107,7 @@ module _ (s : Sizes) (v : View) (ps : List Place) (z : Sized s) (long : Long s v
   unfolding recordsNameRows rangeNamesRows rowNamed
   named =
       each-true (rangeNamesRows s v) (s .ranges)
-      (λ g h. each-true (rowNamed s v g) (used v g) (λ i j. let t = u .named g i h j in both (lt-ltb _ _ (t .0)) (eq-eqb _ g (t .1))))
+      (λ g h. each-true (rowNamed s v g) (usedIn v g) (λ i j. let t = u .named g i h j in both (lt-ltb _ _ (t .0)) (eq-eqb _ g (t .1))))
 
   numbers : numbersGiven s v ps ≡ true
   unfolding numbersGiven
@@ -125,7 +122,7 @@ module _ (s : Sizes) (v : View) (ps : List Place) (z : Sized s) (long : Long s v
   links =
       both (each-true (rowLinked s v) (rowsGiven v) (λ r h. link-holds s v _ _ r _ (u .row-links r h)))
       (each-true (rangeLinked s v) (s .ranges)
-      (λ g h. each-true (recordLinked s v g) (used v g) (λ i j. link-holds s v g i _ _ (u .record-links g i h j))))
+      (λ g h. each-true (recordLinked s v g) (usedIn v g) (λ i j. link-holds s v g i _ _ (u .record-links g i h j))))
 
   stamps : stampsWithin s v ps ≡ true
   unfolding stampsWithin

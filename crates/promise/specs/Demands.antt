@@ -16,7 +16,8 @@ use Rattle.terms.specs.declared.Refusal.{Refusal}
 use Rattle.words.specs.Words.{Bytes}
 use Rattle.layout.specs.Sizes.{bytesNeeded}
 use Rattle.history.specs.History.{Call, openScan, start, answers, run, tests, verdict, accept, scanAt}
-use Rattle.history.specs.Claims.{strike, plainAnswers, Reads, isRefused, historyBefore, callAt}
+use Rattle.terms.specs.Refusals.{isRefused}
+use Rattle.history.specs.Claims.{strike, plainAnswers, Reads, historyBefore, callAt}
 use Rattle.history.specs.Lists.{All}
 use Rattle.facts.specs.Usable.{usable}
 use Rattle.making.specs.Made.{made, madeList}

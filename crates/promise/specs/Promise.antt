@@ -13,21 +13,21 @@ use Rattle.layout.specs.View.{View, view, lay}
 use Rattle.history.specs.History.{Call}
 use Rattle.scans.specs.declared.Scans.{Scans}
 use Rattle.scans.specs.Table.{tableOf}
-use Rattle.facts.specs.Usable.{shapeIn, sizesIn, usable}
+use Rattle.facts.specs.Usable.{storedShape, storedSizes, usable}
 use Rattle.model.specs.Calls.{say, viewNext, placesNext}
 
 -- the view of a memory by the shape that it holds
 unfoldable pub storeView : List ℕ → View
-storeView m = view (sizesIn (words m)) (words m)
+storeView m = view (storedSizes (words m)) (words m)
 
 unfoldable pub answerOf : List ℕ → List Place → Call → Answer
-answerOf m ps c = cond (usable m ps) (say (shapeIn (words m)) (storeView m) ps c) (Answer.Refused Refusal.Memory)
+answerOf m ps c = cond (usable m ps) (say (storedShape (words m)) (storeView m) ps c) (Answer.Refused Refusal.Memory)
 
 unfoldable pub memoryAfter : List ℕ → List Place → Call → List ℕ
-memoryAfter m ps c = cond (usable m ps) (lay (sizesIn (words m)) (viewNext (shapeIn (words m)) (storeView m) ps c) m) m
+memoryAfter m ps c = cond (usable m ps) (lay (storedSizes (words m)) (viewNext (storedShape (words m)) (storeView m) ps c) m) m
 
 unfoldable pub listAfter : List ℕ → List Place → Call → List Place
-listAfter m ps c = cond (usable m ps) (placesNext (shapeIn (words m)) (storeView m) ps c) ps
+listAfter m ps c = cond (usable m ps) (placesNext (storedShape (words m)) (storeView m) ps c) ps
 
 -- a list of calls: each is lent the memory and the list as the last one left them
 unfoldable pub answersOf : List ℕ → List Place → List Call → List Answer

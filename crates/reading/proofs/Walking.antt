@@ -9,11 +9,11 @@ use lib.ListN.{getD}
 use borrow.Author.Tests.{le-leb, lt-leb}
 use Rattle.layout.specs.declared.Sizes.{Sizes}
 use Rattle.layout.specs.declared.Region.the-variants.{TailLink, RowMask, RowLink, PageLineage, PageNewest}
-use Rattle.layout.specs.View.{View}
+use Rattle.layout.specs.View.{View, usedIn}
 use Rattle.model.specs.declared.Walk.{Walk}
 use Rattle.terms.specs.Measures.{Shape}
 use Rattle.history.specs.History.{bit, rangeOf}
-use Rattle.model.specs.Stored.{rowIn, recordIn, pageIn, slot, valueIn, usedIn, cellIn, within}
+use Rattle.model.specs.Stored.{rowIn, recordIn, pageIn, slot, valueIn, cellIn, within}
 use Rattle.model.specs.Reading.{answersFor, walk, belowLineage, wordIn}
 use Rattle.model.specs.Asked.{shapeIn}
 use Rattle.model.specs.Asked.{Linked}

@@ -19,10 +19,11 @@ ghost use Prim.Native.Nat.{_*_, _≤_, _<_};
 ghost use lib.ListN.{length};
 ghost use Rattle.words.specs.Words.{words};
 ghost use Rattle.layout.specs.Regions.{need};
-ghost use Rattle.layout.specs.View.{view};
-ghost use Rattle.model.specs.Stored.{recordIn, pageIn, valueIn, cellIn, within, currentIn, usedIn, headerIn, rowsGiven};
+ghost use Rattle.layout.specs.View.{view, rowsGiven, usedIn};
+ghost use Rattle.model.specs.Stored.{recordIn, pageIn, valueIn, cellIn, within, currentIn};
 ghost use Rattle.model.specs.Reading.{answersFor, walk, belowLineage, wordIn, readIn, readCurrent};
-ghost use Rattle.model.specs.Asked.{shapeIn, Proper};
+ghost use Rattle.layout.specs.Sizes.{Proper};
+ghost use Rattle.model.specs.Asked.{shapeIn};
 ghost use Rattle.model.specs.Asked.{Linked, Pooled};
 ghost use Rattle.reading.specs.Reached.{Reached};
 
@@ -116,7 +117,7 @@ pub fn word_of(mem: &[u8], s: Sizes, who: Reader, page: usize, row: Row, c: u32)
     requires { ⌜ need s * 4 ≤ length (now mem) ⌝ }
     requires { ⌜ Proper s ⌝ }
     requires { ⌜ Linked s (view s (words (now mem))) ⌝ }
-    requires { ⌜ (page < s .pages) × (c < s .columns) × (row .0 < headerIn (view s (words (now mem))) rowsGiven) ⌝ }
+    requires { ⌜ (page < s .pages) × (c < s .columns) × (row .0 < rowsGiven (view s (words (now mem)))) ⌝ }
     ensures { λ r. ⌜ r ≡ wordIn (shapeIn s) (view s (words (now (mem .entry)))) (who .stamp .0) (who .me .0) page (row .0) c ⌝ }
 {
     let at = cell(mem, s, page, row);
@@ -138,7 +139,7 @@ pub fn read_row(mem: &[u8], s: Sizes, who: Reader, page: usize, row: Row, c: u32
     requires { ⌜ need s * 4 ≤ length (now mem) ⌝ }
     requires { ⌜ Proper s ⌝ }
     requires { ⌜ Linked s (view s (words (now mem))) ⌝ }
-    requires { ⌜ (page < s .pages) × (c < s .columns) × (row .0 < headerIn (view s (words (now mem))) rowsGiven) ⌝ }
+    requires { ⌜ (page < s .pages) × (c < s .columns) × (row .0 < rowsGiven (view s (words (now mem)))) ⌝ }
     ensures { λ r. ⌜ r ≡ readIn (shapeIn s) (view s (words (now (mem .entry)))) (who .stamp .0) (who .me .0) page (row .0) c ⌝ }
 {
     if visible(mem, s, who, row) {
@@ -163,7 +164,7 @@ pub fn read_current(mem: &[u8], s: Sizes, who: Reader, row: Row, c: u32) -> Answ
     requires { ⌜ need s * 4 ≤ length (now mem) ⌝ }
     requires { ⌜ Proper s ⌝ }
     requires { ⌜ Linked s (view s (words (now mem))) × Pooled s (view s (words (now mem))) ⌝ }
-    requires { ⌜ (c < s .columns) × (row .0 < headerIn (view s (words (now mem))) rowsGiven) ⌝ }
+    requires { ⌜ (c < s .columns) × (row .0 < rowsGiven (view s (words (now mem)))) ⌝ }
     ensures { λ r. ⌜ r ≡ readCurrent (shapeIn s) (view s (words (now (mem .entry)))) (who .stamp .0) (who .me .0) (row .0) c ⌝ }
 {
     let page = current_page(mem, s, range_of(row), c);

@@ -9,7 +9,7 @@ use Rattle.terms.specs.declared.Refusal.{Refusal}
 use Rattle.words.specs.Words.{words}
 use Rattle.facts.specs.declared.Checked.{Checked}
 use Rattle.facts.specs.declared.Checked.the-variants.{Fit, Unfit}
-use Rattle.facts.specs.Usable.{sizesIn, usable, checked}
+use Rattle.facts.specs.Usable.{storedSizes, usable, checked}
 use Rattle.replies.specs.Replies.{usability}
 
 abbrev pub passed : Checked → Answer
@@ -20,6 +20,6 @@ pub tested : (m : List ℕ) (ps : List Place) (x : Checked) → x ≡ checked m 
 unfolding usability checked
 tested m ps x e = ap passed e ∙ go (usable m ps)
   where
-    go : (b : Bool) → passed (cond b (Fit (sizesIn (words m))) Unfit) ≡ cond b Answer.Done (Answer.Refused Refusal.Memory)
+    go : (b : Bool) → passed (cond b (Fit (storedSizes (words m))) Unfit) ≡ cond b Answer.Done (Answer.Refused Refusal.Memory)
     go true = refl
     go false = refl

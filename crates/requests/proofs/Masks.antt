@@ -14,7 +14,7 @@ use Rattle.terms.specs.declared.Refusal.{Refusal}
 use Rattle.words.specs.Words.{words}
 use Rattle.layout.specs.View.{View, lay}
 use Rattle.layout.proofs.Limits.{limited}
-use Rattle.facts.specs.Usable.{shapeIn, sizesIn, usable}
+use Rattle.facts.specs.Usable.{storedShape, storedSizes, usable}
 use Rattle.history.specs.History.{update, Verdict, refuse, verdict, answerIf, badMask}
 use Rattle.model.specs.Calls.{notOpenIn, notGivenIn, testsIn, replyIn, actIn, placesAfter, viewIf, say, viewNext}
 use Rattle.promise.specs.Promise.{storeView, answerOf, memoryAfter}
@@ -61,12 +61,12 @@ module _ (S : Shape) (v : View) (ps : List Place) (a b : ℕ) (vs : List ℤ) wh
 
 -- ---- on a lent memory
 
-wide-bad : (m : List ℕ) (ps : List Place) (c : ℕ) → usable m ps ≡ true → 65535 < c → badMask (shapeIn (words m)) c ≡ true
+wide-bad : (m : List ℕ) (ps : List Place) (c : ℕ) → usable m ps ≡ true → 65535 < c → badMask (storedShape (words m)) c ≡ true
 unfolding badMask
 wide-bad m ps c u h =
-    let l = limited (shapeIn (words m)) (usable-tells m ps u .within) in
-    let p : 2 ^ (shapeIn (words m)) .columns ≤ 2 ^ 16 = pow-le-pow-right (omega arith) (l .columns-to) in
-    let q : 2 ^ (shapeIn (words m)) .columns ≤ c = omega arith in
+    let l = limited (storedShape (words m)) (usable-tells m ps u .within) in
+    let p : 2 ^ (storedShape (words m)) .columns ≤ 2 ^ 16 = pow-le-pow-right (omega arith) (l .columns-to) in
+    let q : 2 ^ (storedShape (words m)) .columns ≤ c = omega arith in
     rw (ne-eqb c 0 (λ e. omega arith), le-leb _ c q)
 
 none-bad : (S : Shape) → badMask S 0 ≡ true
@@ -79,7 +79,7 @@ module _ (m : List ℕ) (ps : List Place) (a b c : ℕ) (vs : List ℤ) (h : 655
   answer-wide = go (usable m ps) refl
     where
       S : Shape
-      S = shapeIn (words m)
+      S = storedShape (words m)
 
       go : (f : Bool) → usable m ps ≡ f
           → cond f (say S (storeView m) ps (update a b 0 vs)) (Answer.Refused Refusal.Memory) ≡ cond f (say S (storeView m) ps (update a b c vs)) (Answer.Refused Refusal.Memory)
@@ -91,11 +91,11 @@ module _ (m : List ℕ) (ps : List Place) (a b c : ℕ) (vs : List ℤ) (h : 655
   memory-wide = go (usable m ps) refl
     where
       S : Shape
-      S = shapeIn (words m)
+      S = storedShape (words m)
 
       go : (f : Bool) → usable m ps ≡ f
-          → cond f (lay (sizesIn (words m)) (viewNext S (storeView m) ps (update a b 0 vs)) m) m ≡ cond f (lay (sizesIn (words m)) (viewNext S (storeView m) ps (update a b c vs)) m) m
-      go true u = ap (λ (v : View). lay (sizesIn (words m)) v m) (view-bad S (storeView m) ps a b vs 0 c (none-bad S) (wide-bad m ps c u h))
+          → cond f (lay (storedSizes (words m)) (viewNext S (storeView m) ps (update a b 0 vs)) m) m ≡ cond f (lay (storedSizes (words m)) (viewNext S (storeView m) ps (update a b c vs)) m) m
+      go true u = ap (λ (v : View). lay (storedSizes (words m)) v m) (view-bad S (storeView m) ps a b vs 0 c (none-bad S) (wide-bad m ps c u h))
       go false u = refl
 
 -- What is due for the mask n that the code takes is due for the operand c.

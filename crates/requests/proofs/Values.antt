@@ -15,7 +15,7 @@ use Rattle.terms.specs.declared.Place.{Place}
 use Rattle.words.specs.Words.{words}
 use Rattle.layout.specs.View.{View}
 use Rattle.layout.specs.declared.Region.the-variants.{Current}
-use Rattle.facts.specs.Usable.{shapeIn}
+use Rattle.facts.specs.Usable.{storedShape}
 use Rattle.history.specs.History.{Call, insert, update, rangeOf}
 use Rattle.model.specs.Stored.{asSetting}
 use Rattle.model.specs.Writing.{putCells, insertedAt, insertedIn, settingAppended, originalAppended, updatedIn, filledIn, nextSlot, appended}
@@ -59,7 +59,7 @@ served-alike : (m : List ℕ) (ps : List Place) (x y : Call) (r : Answer) (m′ 
     → Serves m ps x r m′ ps′ → Serves m ps y r m′ ps′
 unfolding Serves answerOf memoryAfter listAfter say viewNext placesNext
 served-alike m ps x y r m′ ps′ t a k l w =
-    let S = shapeIn (words m) in
+    let S = storedShape (words m) in
     let v = storeView m in (
       rw (t S v, a S v) at (w .0),
       rw (t S v, k S v) at (w .1),

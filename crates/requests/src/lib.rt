@@ -16,10 +16,10 @@ use lookups::read_at;
 use lookups::scan_read;
 use lookups::sum;
 use making::make;
+use packed::free_all;
+use packed::place_put;
+use packed::table;
 use scans::Scans;
-use scans::free_all;
-use scans::place_put;
-use scans::summarise;
 use terms::Answer;
 use terms::Row;
 use terms::Stamp;
@@ -33,7 +33,7 @@ ghost use mathlib.Core.Path.{_≡_};
 ghost use mathlib.Core.Bool.{cond};
 ghost use lib.Dec.{ltb};
 ghost use Rattle.words.specs.Words.{words};
-ghost use Rattle.scans.specs.Places.{placesOf};
+ghost use Rattle.packed.specs.Packed.{placesOf};
 ghost use Rattle.scans.specs.Table.{tableOf};
 ghost use Rattle.layout.specs.Sizes.{shapeOf};
 ghost use Rattle.history.specs.History.{Call};
@@ -51,7 +51,7 @@ pub fn make_store(
 ) -> Answer
     ensures { λ r. ⌜ Makes (now (mem .entry)) (placesOf (words (now (scans .entry)))) (shapeOf columns ranges capacity spares) r (now (mem .exit)) (placesOf (words (now (scans .exit)))) ⌝ }
 {
-    let t = summarise(scans);
+    let t = table(scans);
     let answer = make(mem, t.length, columns, ranges, capacity, spares);
     if accepted(answer) {
         free_all(scans);
@@ -96,7 +96,7 @@ fn close_listed(mem: &[u8], scans: &mut [u8], t: Scans, a: u32) -> Answer
 pub fn call(mem: &mut [u8], scans: &mut [u8], request: Request) -> Answer
     ensures { λ r. ⌜ Serves (now (mem .entry)) (placesOf (words (now (scans .entry)))) (asked request) r (now (mem .exit)) (placesOf (words (now (scans .exit)))) ⌝ }
 {
-    let t = summarise(scans);
+    let t = table(scans);
     let kind = request.kind;
     let a = request.first;
     let b = request.second;

@@ -5,10 +5,9 @@ use native.Mathlib.Nat.{mul-le-mul, mul-le-mul-right, suc-mul, mul-comm}
 use lib.ListN.{getD}
 use Rattle.layout.specs.declared.Sizes.{Sizes}
 use Rattle.layout.specs.declared.Region.the-variants.{RowLink}
-use Rattle.layout.specs.View.{View}
+use Rattle.layout.specs.View.{View, rowsGiven, usedIn}
 use Rattle.history.specs.History.{rangeOf}
-use Rattle.model.specs.Stored.{usedIn, headerIn, rowsGiven}
-use Rattle.model.specs.Asked.{Proper}
+use Rattle.layout.specs.Sizes.{Proper}
 use Rattle.model.specs.Asked.{Linked}
 
 -- place i of block p, of blocks of one size
@@ -46,7 +45,7 @@ module _ (s : Sizes) (proper : Proper s) where
   range-in r h = omega (arith, proper .rows-are)
 
   -- a given row: its place, its range, and its newest record
-  pub row-in : (v : View) → Linked s v → (r : ℕ) → r < headerIn v rowsGiven
+  pub row-in : (v : View) → Linked s v → (r : ℕ) → r < rowsGiven v
       → (r < s .rows) × (rangeOf r < s .ranges) × (getD (v RowLink) r 0 ≤ usedIn v (rangeOf r)) × (usedIn v (rangeOf r) ≤ s .capacity)
   row-in v linked r h =
       let l : r < s .rows = omega (arith, linked .rows-few) in

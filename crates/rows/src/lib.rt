@@ -13,11 +13,12 @@ ghost use Prim.Native.Nat.{_*_, _≤_, _<_};
 ghost use lib.ListN.{length};
 ghost use Rattle.words.specs.Words.{words};
 ghost use Rattle.layout.specs.Regions.{need};
-ghost use Rattle.layout.specs.View.{view};
+ghost use Rattle.layout.specs.View.{view, rowsGiven};
 ghost use Rattle.history.specs.History.{bit, rangeOf};
-ghost use Rattle.model.specs.Stored.{rowIn, recordIn, slot, headerIn, rowsGiven};
+ghost use Rattle.model.specs.Stored.{rowIn, recordIn, slot};
 ghost use Rattle.model.specs.Reading.{sees, seesRow, seesRecord, visibleIn};
-ghost use Rattle.model.specs.Asked.{shapeIn, Proper};
+ghost use Rattle.layout.specs.Sizes.{Proper};
+ghost use Rattle.model.specs.Asked.{shapeIn};
 ghost use Rattle.model.specs.Asked.{Linked};
 ghost use Rattle.rows.specs.Finders.{headAt, Inside};
 
@@ -99,7 +100,7 @@ pub fn head(mem: &[u8], s: Sizes, row: Row) -> Found
     requires { ⌜ need s * 4 ≤ length (now mem) ⌝ }
     requires { ⌜ Proper s ⌝ }
     requires { ⌜ Linked s (view s (words (now mem))) ⌝ }
-    requires { ⌜ row .0 < headerIn (view s (words (now mem))) rowsGiven ⌝ }
+    requires { ⌜ row .0 < rowsGiven (view s (words (now mem))) ⌝ }
     ensures { λ r. ⌜ r ≡ headAt (shapeIn s) (view s (words (now (mem .entry)))) (row .0) ⌝ }
     ensures { λ r. ⌜ Inside r (s .slots) ⌝ }
 {
@@ -115,7 +116,7 @@ pub fn visible(mem: &[u8], s: Sizes, who: Reader, row: Row) -> bool
     requires { ⌜ need s * 4 ≤ length (now mem) ⌝ }
     requires { ⌜ Proper s ⌝ }
     requires { ⌜ Linked s (view s (words (now mem))) ⌝ }
-    requires { ⌜ row .0 < headerIn (view s (words (now mem))) rowsGiven ⌝ }
+    requires { ⌜ row .0 < rowsGiven (view s (words (now mem))) ⌝ }
     ensures { λ r. ⌜ r ≡ visibleIn (shapeIn s) (view s (words (now (mem .entry)))) (who .stamp .0) (who .me .0) (row .0) ⌝ }
 {
     if !sees_row(mem, s, who, row) {

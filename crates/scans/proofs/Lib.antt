@@ -1,5 +1,4 @@
 -- Laws of the list of open scans and of its table, for the proofs of this crate and of those above it.
 pub mod Entries
-pub mod Places
 pub mod Table
 pub mod Answers

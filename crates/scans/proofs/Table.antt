@@ -8,14 +8,14 @@ use native.Mathlib.Nat.{add-zero, zero-add}
 use native.Mathlib.Numerals.{add-one}
 use lib.Dec.{eqb, ltb, eqb·suc-suc}
 use lib.ListN.{length, getD, set, take, replicate, length-append, length-map}
-use lib.Seq.{take-append-le, take-set-lt, set-append-seam, take-suc}
-use borrow.Author.Tests.{lt-ltb, le-ltb, eq-eqb, ne-eqb, ltb-true, ltb-false, eqb-true}
+use lib.Seq.{take-append-le, take-set-lt, set-append-seam, take-suc, take-all, length-take-le}
+use borrow.Author.Tests.{not-false, lt-ltb, le-ltb, ne-eqb, ltb-true, ltb-false, eqb-true}
 use Rattle.terms.specs.Measures.{mostScans}
 use Rattle.terms.specs.declared.Place.{Place}
 use Rattle.scans.specs.declared.Scans.{Scans}
 use Rattle.terms.specs.Places.{freePlace}
 use Rattle.scans.specs.Places.{isOpen, opened, openedAt, openCount, firstFree}
-use Rattle.scans.specs.Table.{entries, tableOf, noted}
+use Rattle.scans.specs.Table.{entries, tableOf, noted, ofLength}
 
 -- ---- one place more
 
@@ -150,44 +150,38 @@ unfolding tableOf
 table-length t ps e = ap (λ (u : Scans). u .length) e
 
 -- one turn of the loop that makes a table
-pub table-next : (ps : List Place) (t r : Scans) (p : Place) (i : ℕ) → t ≡ tableOf (take i ps) → p ≡ getD ps i freePlace → r ≡ noted t p → i < length ps
+table-next : (ps : List Place) (t r : Scans) (p : Place) (i : ℕ) → t ≡ tableOf (take i ps) → p ≡ getD ps i freePlace → r ≡ noted t p → i < length ps
     → r ≡ tableOf (take (i + 1) ps)
 table-next ps t r p i e q n h = n ∙ rw (e, q, add-one) (noted-table (take i ps) (getD ps i freePlace) ∙ ap tableOf (sym (take-suc ps i freePlace h)))
 
--- ---- a loop over the places that holds the table's fields apart
+-- ---- a loop that makes a table place by place
 
-abbrev pub held : ℕ → ℕ → List ℕ → List ℕ → List ℕ → List ℕ → ℕ → Bool → Scans
-held i count numbers stamps merges places free more =
+-- t has the first i of the n places of l: but for its length it is their table
+pub record Entered (l : List Place) (n : ℕ) (t : Scans) (i : ℕ) : Type 0 where
+  pub within : i ≤ n
+  pub whole : n ≡ length l
+  pub table : ofLength i t ≡ tableOf (take i l)
+
+pub none-entered : (l : List Place) (n : ℕ) (t : Scans) → n ≡ length l → t ≡ tableOf [] → Entered l n t 0
+unfolding tableOf
+none-entered l n t e f = record { within = omega arith; whole = e; table = ap (ofLength 0) f }
+
+own-length : (l : List Place) (t : Scans) (i : ℕ) → i ≤ length l → t ≡ tableOf (take i l) → ofLength i t ≡ t
+own-length l t i k e = ap (λ n. ofLength n t) (sym (table-length t (take i l) e ∙ length-take-le i l k))
+
+pub open-entered : (l : List Place) (n : ℕ) (t r : Scans) (i : ℕ) (p : Place) → Entered l n t i → i < n → p ≡ getD l i freePlace → r ≡ noted (ofLength i t) p → Entered l n r (i + 1)
+open-entered l n t r i p g k e f =
+    let e = table-next l (ofLength i t) r p i (g .table) e f (omega (arith, g .whole)) in
+    record { within = omega arith; whole = g .whole; table = own-length l r (i + 1) (omega (arith, g .whole)) e ∙ e }
+
+pub free-entered : (l : List Place) (n : ℕ) (t : Scans) (i : ℕ) (p : Place) → Entered l n t i → i < n → p ≡ getD l i freePlace → isOpen p ≡ false → Entered l n t (i + 1)
+unfolding noted
+free-entered l n t i p g k e f =
     record {
-      length = i;
-      count = count;
-      numbers = numbers;
-      stamps = stamps;
-      merges = merges;
-      places = places;
-      free = free;
-      more = more;
+      within = omega arith;
+      whole = g .whole;
+      table = table-next l (ofLength i t) (ofLength (i + 1) t) p i (g .table) e (sym (rw (not-false (eqb (p .number) 0) f))) (omega (arith, g .whole));
     }
 
-module _ (ps : List Place) (p : Place) (i n f : ℕ) (a b c d : List ℕ) (o : Bool) (e : held i n a b c d f o ≡ tableOf (take i ps)) (q : p ≡ getD ps i freePlace) (h : i < length ps) where
-  next : (t : Scans) → t ≡ noted (held i n a b c d f o) p → t ≡ tableOf (take (i + 1) ps)
-  next t k = table-next ps (held i n a b c d f o) t p i e q k h
-
-  pub held-free : (n′ f′ : ℕ) (a′ b′ c′ d′ : List ℕ) (o′ : Bool) → p .number ≡ 0
-      → a′ ≡ a → b′ ≡ b → c′ ≡ c → d′ ≡ d → n′ ≡ n → f′ ≡ f → o′ ≡ o → held (i + 1) n′ a′ b′ c′ d′ f′ o′ ≡ tableOf (take (i + 1) ps)
-  unfolding noted
-  held-free n′ f′ a′ b′ c′ d′ o′ z ea eb ec ed en ef eo = next _ (rw (ea, eb, ec, ed, en, ef, eo) (sym (rw (eq-eqb _ _ z))))
-
-  pub held-open : (n′ f′ x y z : ℕ) (a′ b′ c′ d′ : List ℕ) (o′ : Bool) → (p .number ≡ 0 → ⊥) → n < mostScans
-      → x ≡ p .number → y ≡ p .stamp → z ≡ p .merges → a′ ≡ set a n x → b′ ≡ set b n y → c′ ≡ set c n z → d′ ≡ set d n i → n′ ≡ n + 1
-      → f′ ≡ cond (eqb f i) (i + 1) f → o′ ≡ o → held (i + 1) n′ a′ b′ c′ d′ f′ o′ ≡ tableOf (take (i + 1) ps)
-  unfolding noted
-  held-open n′ f′ x y z a′ b′ c′ d′ o′ k l ex ey ez ea eb ec ed en ef eo =
-      next _ (rw (ea, eb, ec, ed, en, ef, eo, ex, ey, ez) (sym (rw (ne-eqb _ _ k, lt-ltb _ _ l))))
-
-  pub held-over : (n′ f′ : ℕ) (a′ b′ c′ d′ : List ℕ) (o′ : Bool) → (p .number ≡ 0 → ⊥) → mostScans ≤ n
-      → a′ ≡ a → b′ ≡ b → c′ ≡ c → d′ ≡ d → n′ ≡ n → f′ ≡ cond (eqb f i) (i + 1) f → o′ ≡ true
-      → held (i + 1) n′ a′ b′ c′ d′ f′ o′ ≡ tableOf (take (i + 1) ps)
-  unfolding noted
-  held-over n′ f′ a′ b′ c′ d′ o′ k l ea eb ec ed en ef eo =
-      next _ (rw (ea, eb, ec, ed, en, ef, eo) (sym (rw (ne-eqb _ _ k, le-ltb _ _ l))))
+pub all-entered : (l : List Place) (n : ℕ) (t : Scans) (i : ℕ) → Entered l n t i → n ≤ i → ofLength n t ≡ tableOf l
+all-entered l n t i g k = ap (λ j. ofLength j t) (omega (arith, g .within)) ∙ g .table ∙ ap tableOf (take-all i l (omega (arith, g .whole)))

@@ -7,13 +7,6 @@ use lib.ListN.{length, replicate}
 use Rattle.terms.specs.declared.Place.{Place}
 use Rattle.terms.specs.Places.{freePlace, place}
 
--- the places that a list of words holds, three words to a place; up to two words at its end belong to none
-unfoldable pub placesOf : List ℕ → List Place
-placesOf [] = []
-placesOf (a ∷ []) = []
-placesOf (a ∷ b ∷ []) = []
-placesOf (a ∷ b ∷ c ∷ ws) = record { number = a; stamp = b; merges = c } ∷ placesOf ws
-
 abbrev pub isOpen : Place → Bool
 isOpen p = not (eqb (p .number) 0)
 

@@ -29,22 +29,27 @@ tableOf ps =
       more = ltb mostScans (openCount ps);
     }
 
--- the table with the next place of the list: a free one, an open one that has room, and one past the last entry
-unfoldable pub noted : Scans → Place → Scans
-noted t p =
-    let free = cond (eqb (t .free) (t .length)) (t .length + 1) (t .free) in
-    let n = t .count in
-    cond (eqb (p .number) 0)
-    (record {
-      length = t .length + 1;
-      count = n;
+-- a table whose list has another length
+abbrev pub ofLength : ℕ → Scans → Scans
+ofLength n t =
+    record {
+      length = n;
+      count = t .count;
       numbers = t .numbers;
       stamps = t .stamps;
       merges = t .merges;
       places = t .places;
       free = t .free;
       more = t .more;
-    })
+    }
+
+-- the table with the next place of the list: a free one, an open one that has room, and one past the last entry
+unfoldable pub noted : Scans → Place → Scans
+noted t p =
+    let free = cond (eqb (t .free) (t .length)) (t .length + 1) (t .free) in
+    let n = t .count in
+    cond (eqb (p .number) 0)
+    (ofLength (t .length + 1) t)
     (cond (ltb n mostScans)
     (record {
       length = t .length + 1;

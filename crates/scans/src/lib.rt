@@ -1,27 +1,21 @@
-// The lent list of open scans, taken by value: how long it is, its open scans with their places, and its first free place. At most 16 scans are
-// open in a usable store, so a table of 16 holds all that a call asks of a list of any length. Definitions and laws speak of the list of places;
-// the functions over bytes, three words to a place, serve callers that lend the list as bytes.
+// The lent list of open scans as a table: how long it is, its open scans with their places, and its first free place. At most 16 scans are open in a
+// usable store, so a table of 16 holds all that a call asks of a list of any length. Definitions and laws speak of the list of places. A table is made
+// place by place, by `enter`, for a list lent as records (crates/lent) and for one in bytes (crates/packed).
 
 use loops::Found;
 use loops::and_between;
-use loops::fill;
 use terms::Place;
-use words::get;
-use words::put;
 ghost use mathlib.Core.Path.{_≡_};
-ghost use mathlib.Core.Bool.{_||_, not, cond};
-ghost use Prim.Native.Nat.{_+_, _*_, _<_, _≤_};
+ghost use mathlib.Core.Bool.{_||_, not, cond, true};
+ghost use mathlib.Core.List.{[]};
+ghost use Prim.Native.Nat.{_+_, _<_, _≤_};
 ghost use lib.Dec.{eqb};
-ghost use lib.ListN.{length, getD, set, take, drop};
-ghost use Rattle.words.specs.Words.{words};
+ghost use lib.ListN.{length, getD, take, drop};
 ghost use Rattle.loops.specs.Search.{allBetween};
-ghost use Rattle.scans.specs.Places.{placesOf, allFreed, among, differ};
-ghost use Rattle.scans.specs.Table.{tableOf, findIn};
+ghost use Rattle.scans.specs.Places.{isOpen, among, differ};
+ghost use Rattle.scans.specs.Table.{tableOf, noted, ofLength, findIn};
 
 pub const MOST_SCANS: usize = 16;
-
-// The bytes of a place.
-const PLACE_BYTES: usize = 12;
 
 // What a call wants to know of the list. Entries at and past `count` are 0.
 pub struct Scans {
@@ -47,66 +41,55 @@ fn free_after(free: usize, length: usize) -> usize
     if free == length { length + 1 } else { free }
 }
 
-// The table of a list of bytes. A rest of fewer bytes than a place has belongs to no place.
-pub fn summarise(list: &[u8]) -> Scans
-    ensures { λ r. ⌜ r ≡ tableOf (placesOf (words (now (list .entry)))) ⌝ }
+// The table of no place.
+pub fn blank() -> Scans
+    ensures { λ r. ⌜ r ≡ tableOf [] ⌝ }
 {
-    let n = list.len() / PLACE_BYTES;
-    let mut numbers: [u32; 16] = [0; 16];
-    let mut stamps: [u32; 16] = [0; 16];
-    let mut merges: [u32; 16] = [0; 16];
-    let mut places: [usize; 16] = [0; 16];
-    let mut count = 0;
-    let mut free = 0;
-    let mut more = false;
-    let mut i = 0;
-    while i < n {
-        let w = i * 3;
-        let number = get(list, w);
-        if number != 0 {
-            free = free_after(free, i);
-            if count < MOST_SCANS {
-                numbers[count] = number;
-                stamps[count] = get(list, w + 1);
-                merges[count] = get(list, w + 2);
-                places[count] = i;
-                count += 1;
-            } else {
-                more = true;
-            }
-        }
-        i += 1;
-    }
     Scans {
-        length: n,
-        count: count,
-        numbers: numbers,
-        stamps: stamps,
-        merges: merges,
-        places: places,
-        free: free,
-        more: more,
+        length: 0,
+        count: 0,
+        numbers: [0; 16],
+        stamps: [0; 16],
+        merges: [0; 16],
+        places: [0; 16],
+        free: 0,
+        more: false,
     }
 }
 
-// Place i becomes p; a place past the end is not there, and nothing is written.
-pub fn place_put(list: &mut [u8], i: usize, p: Place)
-    ensures { λ _. ⌜ placesOf (words (now (list .exit))) ≡ set (placesOf (words (now (list .entry)))) i p ⌝ }
+pub fn is_open(p: Place) -> bool
+    ensures { λ r. ⌜ r ≡ isOpen p ⌝ }
 {
-    if i < list.len() / PLACE_BYTES {
-        let w = i * 3;
-        put(list, w, p.number);
-        put(list, w + 1, p.stamp);
-        put(list, w + 2, p.merges);
-    }
+    p.number != 0
 }
 
-// Every place becomes free, however many there are.
-pub fn free_all(list: &mut [u8])
-    ensures { λ _. ⌜ placesOf (words (now (list .exit))) ≡ allFreed (placesOf (words (now (list .entry)))) ⌝ }
+// The table of the first i places, with place i, an open one. What t has as its length is not looked at: free places are passed over without it.
+pub fn enter(t: Scans, i: usize, p: Place) -> Scans
+    requires { ⌜ (i < 4611686018427387904) × (isOpen p ≡ true) ⌝ }
+    ensures { λ r. ⌜ r ≡ noted (ofLength i t) p ⌝ }
 {
-    let n = list.len() / PLACE_BYTES * 3;
-    fill(list, 0, n, 0);
+    let mut u = t;
+    u.length = i + 1;
+    u.free = free_after(t.free, i);
+    let n = t.count;
+    if n < MOST_SCANS {
+        u.numbers[n] = p.number;
+        u.stamps[n] = p.stamp;
+        u.merges[n] = p.merges;
+        u.places[n] = i;
+        u.count = n + 1;
+    } else {
+        u.more = true;
+    }
+    u
+}
+
+pub fn set_length(t: Scans, n: usize) -> Scans
+    ensures { λ r. ⌜ r ≡ ofLength n t ⌝ }
+{
+    let mut u = t;
+    u.length = n;
+    u
 }
 
 // The entry of the scan that bears a number.

@@ -4,7 +4,7 @@ use native.Mathlib.Omega.{arith}
 use native.Mathlib.Nat.{mul-le-mul-right, suc-mul, mul-comm}
 use Rattle.layout.specs.declared.Sizes.{Sizes}
 use Rattle.layout.specs.Regions.{need}
-use Rattle.model.specs.Asked.{Proper}
+use Rattle.layout.specs.Sizes.{Proper}
 
 -- block p, of blocks of one size, ends within them
 block-in : (p n size : ℕ) → p < n → p * size + size ≤ n * size

@@ -10,9 +10,8 @@ use Rattle.terms.specs.Measures.{Shape}
 use Rattle.layout.specs.declared.Sizes.{Sizes}
 use Rattle.layout.specs.declared.Region.{Region}
 use Rattle.layout.specs.Regions.{index}
-use Rattle.layout.specs.View.{View, renew, mark}
+use Rattle.layout.specs.View.{View, renew, mark, usedIn}
 use Rattle.layout.proofs.View.{renew-here, renew-there}
-use Rattle.model.specs.Stored.{usedIn}
 use Rattle.model.specs.Writing.{markTails}
 use Rattle.model.specs.Asked.{Counted}
 use Rattle.settling.specs.Steps.{tailMarked, tailsMarked}

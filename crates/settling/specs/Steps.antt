@@ -6,8 +6,8 @@ use lib.ListN.{getD}
 use Rattle.terms.specs.Measures.{Shape}
 use Rattle.loops.specs.declared.Found.{Found}
 use Rattle.layout.specs.declared.Region.{Region}
-use Rattle.layout.specs.View.{View, renew, put, mark}
-use Rattle.model.specs.Stored.{usedIn, nextWord}
+use Rattle.layout.specs.View.{View, renew, put, mark, usedIn}
+use Rattle.model.specs.Stored.{nextWord}
 use Rattle.model.specs.Writing.{markTails}
 
 -- the answer of a search for a place below n that ended at i

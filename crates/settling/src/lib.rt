@@ -23,12 +23,12 @@ ghost use lib.Dec.{eqb};
 ghost use lib.ListN.{length};
 ghost use Rattle.words.specs.Words.{words};
 ghost use Rattle.layout.specs.declared.Region.{Region};
-ghost use Rattle.layout.specs.Regions.{index, len, need};
-ghost use Rattle.layout.specs.View.{view, put};
+ghost use Rattle.layout.specs.Regions.{index, len, need, scansAt};
+ghost use Rattle.layout.specs.View.{view, put, transactionsGiven, scansGiven, usedIn};
 ghost use Rattle.terms.specs.Places.{place};
-ghost use Rattle.model.specs.Stored.{usedIn, headerIn, transactionsGiven, scansGiven};
 ghost use Rattle.model.specs.Writing.{begun, settled, committedIn, abortedIn};
-ghost use Rattle.model.specs.Asked.{shapeIn, Proper, Counted, FreeAt, OpenAt};
+ghost use Rattle.layout.specs.Sizes.{Proper};
+ghost use Rattle.model.specs.Asked.{shapeIn, Counted, FreeAt, OpenAt};
 ghost use Rattle.settling.specs.Steps.{foundAt, notedAt, tailMarked, tailsMarked};
 
 // The states of a row and a tail record, as stored. What an open transaction wrote has the state 0.
@@ -48,8 +48,8 @@ pub fn free_place(mem: &[u8], s: Sizes) -> Found
 pub fn begin(mem: &mut [u8], s: Sizes, free: usize) -> Transaction
     requires { ⌜ need s * 4 ≤ length (now mem) ⌝ }
     requires { ⌜ FreeAt (view s (words (now mem))) free ⌝ }
-    requires { ⌜ headerIn (view s (words (now mem))) transactionsGiven < 65535 ⌝ }
-    ensures { λ r. ⌜ (r .0 ≡ headerIn (view s (words (now (mem .entry)))) transactionsGiven + 1) × (view s (words (now (mem .exit))) ≡ begun (view s (words (now (mem .entry))))) ⌝ }
+    requires { ⌜ transactionsGiven (view s (words (now mem))) < 65535 ⌝ }
+    ensures { λ r. ⌜ (r .0 ≡ transactionsGiven (view s (words (now (mem .entry)))) + 1) × (view s (words (now (mem .exit))) ≡ begun (view s (words (now (mem .entry))))) ⌝ }
 {
     let n = read(mem, s, Region::Header, HEADER_TRANSACTIONS) + 1;
     keep(mem, s, free, Pending::begin(Transaction(n)));
@@ -167,8 +167,8 @@ pub fn abort(mem: &mut [u8], s: Sizes, at: usize, t: Transaction)
 // A scan gets the next number; its place in the scan list is not written here.
 pub fn give_scan(mem: &mut [u8], s: Sizes) -> u32
     requires { ⌜ need s * 4 ≤ length (now mem) ⌝ }
-    requires { ⌜ headerIn (view s (words (now mem))) scansGiven < 65535 ⌝ }
-    ensures { λ r. ⌜ (r ≡ headerIn (view s (words (now (mem .entry)))) scansGiven + 1) × (view s (words (now (mem .exit))) ≡ put Region.Header scansGiven (headerIn (view s (words (now (mem .entry)))) scansGiven + 1) (view s (words (now (mem .entry))))) ⌝ }
+    requires { ⌜ scansGiven (view s (words (now mem))) < 65535 ⌝ }
+    ensures { λ r. ⌜ (r ≡ scansGiven (view s (words (now (mem .entry)))) + 1) × (view s (words (now (mem .exit))) ≡ put Region.Header scansAt (scansGiven (view s (words (now (mem .entry)))) + 1) (view s (words (now (mem .entry))))) ⌝ }
 {
     let n = read(mem, s, Region::Header, HEADER_SCANS) + 1;
     write(mem, s, Region::Header, HEADER_SCANS, n);

@@ -14,7 +14,8 @@ use Rattle.layout.specs.declared.Region.the-variants.{PageState, PagePlace, Pag
 use Rattle.layout.specs.View.{View}
 use Rattle.model.specs.Stored.{pageIn, firstFrom, pagesOf, placeOf, currentIn}
 use Rattle.model.specs.Reading.{wasCurrent, scanPage}
-use Rattle.model.specs.Asked.{shapeIn, Proper}
+use Rattle.layout.specs.Sizes.{Proper}
+use Rattle.model.specs.Asked.{shapeIn}
 use Rattle.summing.specs.Sums.{oldPage}
 
 -- ---- one page

@@ -10,11 +10,10 @@ use mir.Val.{ofZ, toZ}
 use mir.ValLaws.{toZ-ofZ}
 use Rattle.terms.specs.Measures.{Shape}
 use Rattle.terms.specs.declared.Answer.{Answer}
-use Rattle.layout.specs.View.{View}
+use Rattle.layout.specs.View.{View, rowsGiven}
 use Rattle.history.specs.History.{rangeOf}
 use Rattle.terms.specs.declared.Place.{Place}
 use Rattle.model.specs.Reading as R
-use Rattle.model.specs.Stored.{headerIn, rowsGiven}
 use Rattle.model.specs.Reading.{wordIn, visibleIn, scanPage, tally, sumIn}
 use Rattle.summing.specs.declared.Tally.{Tally}
 use Rattle.summing.specs.Sums.{Tallied}
@@ -59,7 +58,7 @@ module _ (S : Shape) (v : View) (scan : Place) (c : ℕ) where
     pub tallied-kept : r ≤ 1024 → toZ w64 (ofZ w64 (t .total)) ≡ t .total
     tallied-kept l = toZ-ofZ w64 (t .total) (size-fits (t .total) (omega (arith, tallied-small l .1)))
 
-    pub sum-is : r ≡ headerIn v rowsGiven → r ≤ 1024 → Answer.Sum (t .count) (toZ w64 (ofZ w64 (t .total))) ≡ sumIn S v scan c
+    pub sum-is : r ≡ rowsGiven v → r ≤ 1024 → Answer.Sum (t .count) (toZ w64 (ofZ w64 (t .total))) ≡ sumIn S v scan c
     unfolding sumIn
     sum-is e l = rw (tallied-kept l, h .count-is, h .total-is, e)
 

@@ -21,11 +21,11 @@ ghost use lib.IntN.{natAbs, _+ℤ_};
 ghost use lib.ListN.{length};
 ghost use Rattle.words.specs.Words.{words};
 ghost use Rattle.layout.specs.Regions.{need};
-ghost use Rattle.layout.specs.View.{view};
+ghost use Rattle.layout.specs.View.{view, rowsGiven};
 ghost use Rattle.history.specs.History.{rangeOf};
-ghost use Rattle.model.specs.Stored.{headerIn, rowsGiven};
 ghost use Rattle.model.specs.Reading.{wasCurrent, scanPage, sumIn};
-ghost use Rattle.model.specs.Asked.{shapeIn, Proper};
+ghost use Rattle.layout.specs.Sizes.{Proper};
+ghost use Rattle.model.specs.Asked.{shapeIn};
 ghost use Rattle.model.specs.Asked.{Linked, Pooled};
 ghost use Rattle.rows.specs.Finders.{Inside};
 ghost use Rattle.summing.specs.Sums.{oldPage, Tallied};
@@ -105,7 +105,7 @@ fn add_row(mem: &[u8], s: Sizes, scan: Place, page: usize, row: Row, c: u32, t: 
     requires { ⌜ need s * 4 ≤ length (now mem) ⌝ }
     requires { ⌜ Proper s ⌝ }
     requires { ⌜ Linked s (view s (words (now mem))) ⌝ }
-    requires { ⌜ (page < s .pages) × (c < s .columns) × (row .0 < headerIn (view s (words (now mem))) rowsGiven) ⌝ }
+    requires { ⌜ (page < s .pages) × (c < s .columns) × (row .0 < rowsGiven (view s (words (now mem)))) ⌝ }
     requires { ⌜ page ≡ scanPage (shapeIn s) (view s (words (now mem))) (scan .merges) (rangeOf (row .0)) c ⌝ }
     requires { ⌜ Tallied (shapeIn s) (view s (words (now mem))) scan c (row .0) t ⌝ }
     ensures { λ r. ⌜ Tallied (shapeIn s) (view s (words (now (mem .entry)))) scan c (row .0 + 1) r ⌝ }
@@ -138,7 +138,7 @@ fn add_rows(
     requires { ⌜ need s * 4 ≤ length (now mem) ⌝ }
     requires { ⌜ Proper s ⌝ }
     requires { ⌜ Linked s (view s (words (now mem))) ⌝ }
-    requires { ⌜ (page < s .pages) × (c < s .columns) × (to ≤ headerIn (view s (words (now mem))) rowsGiven) ⌝ }
+    requires { ⌜ (page < s .pages) × (c < s .columns) × (to ≤ rowsGiven (view s (words (now mem)))) ⌝ }
     requires { ⌜ (from ≤ to) × (to ≤ (from / 64 + 1) * 64) ⌝ }
     requires { ⌜ page ≡ scanPage (shapeIn s) (view s (words (now mem))) (scan .merges) (rangeOf from) c ⌝ }
     requires { ⌜ Tallied (shapeIn s) (view s (words (now mem))) scan c from t ⌝ }

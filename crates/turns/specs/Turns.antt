@@ -11,7 +11,7 @@ use Rattle.terms.specs.declared.Answer.{Answer}
 use Rattle.terms.specs.declared.Place.{Place}
 use Rattle.terms.specs.declared.Refusal.{Refusal}
 use Rattle.words.specs.Words.{words}
-use Rattle.scans.specs.Places.{placesOf}
+use Rattle.packed.specs.Packed.{placesOf}
 use Rattle.making.specs.Made.{made}
 use Rattle.lines.specs.Lines.{shapeLine}
 use Rattle.lines.specs.Written.{Rendered}

@@ -20,9 +20,9 @@ ghost use lib.ListN.{length};
 ghost use Rattle.terms.specs.Measures.{mostScans};
 ghost use Rattle.words.specs.Words.{words};
 ghost use Rattle.layout.specs.Sizes.{bytesNeeded};
-ghost use Rattle.scans.specs.Places.{placesOf};
+ghost use Rattle.packed.specs.Packed.{placesOf};
 ghost use Rattle.commands.specs.Commands.{Small, chosen};
-ghost use Rattle.commands.specs.Decoded.{shapeIn};
+ghost use Rattle.commands.specs.Decoded.{measured};
 ghost use Rattle.output.specs.Steps.{step};
 ghost use Rattle.turns.specs.Gatebook.{largest};
 ghost use Rattle.turns.specs.Turns.{storeIn, storeMachine, makingAnswer, madeStore, firstAnswer, firstStore, firstStep, columnsFrom, capped as cappedAt, operandWidth, Does, Turned};
@@ -52,7 +52,7 @@ pub struct Outcome {
 
 // A store of the shape, where memory is lent for it.
 fn make_lent(mem: &mut [u8], scans: &mut [u8], m: Measures) -> Answer
-    ensures { λ r. ⌜ (r ≡ makingAnswer (storeIn (now (mem .entry)) (now (scans .entry))) (shapeIn m)) × (storeIn (now (mem .exit)) (now (scans .exit)) ≡ madeStore (storeIn (now (mem .entry)) (now (scans .entry))) (shapeIn m)) ⌝ }
+    ensures { λ r. ⌜ (r ≡ makingAnswer (storeIn (now (mem .entry)) (now (scans .entry))) (measured m)) × (storeIn (now (mem .exit)) (now (scans .exit)) ≡ madeStore (storeIn (now (mem .entry)) (now (scans .entry))) (measured m)) ⌝ }
 {
     if !lends(m) {
         return Answer::Refused(Refusal::Shape);

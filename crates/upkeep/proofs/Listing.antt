@@ -18,9 +18,9 @@ use Rattle.loops.specs.declared.Found.the-variants.{At, Nothing}
 use Rattle.loops.proofs.Search.{first-at}
 use Rattle.loops.specs.Search.{firstAt}
 use Rattle.layout.specs.declared.Sizes.{Sizes}
-use Rattle.layout.specs.Regions.{need}
+use Rattle.layout.specs.Regions.{need, scansAt}
 use Rattle.layout.specs.declared.Region.{Region}
-use Rattle.layout.specs.View.{View, view, put, lay}
+use Rattle.layout.specs.View.{View, view, put, lay, scansGiven, mergesMade}
 use Rattle.layout.proofs.Lay.{lay-view}
 use Rattle.history.specs.History.{Call, accept, refuse, verdict, count}
 use Rattle.scans.specs.declared.Scans.{Scans}
@@ -31,7 +31,6 @@ use Rattle.scans.proofs.Answers.{table-count}
 use Rattle.facts.specs.declared.Checked.the-variants.{Fit, Unfit}
 use Rattle.facts.specs.Usable.{checked}
 use Rattle.terms.specs.Places.{place, freePlace, isScan}
-use Rattle.model.specs.Stored.{headerIn, scansGiven, mergesMade}
 use Rattle.model.specs.Calls.{testsIn, replyIn, actIn, placesIf, placesNext, placesAfter, viewNext}
 use Rattle.model.specs.Asked.{shapeIn}
 use Rattle.promise.specs.Promise.{answerOf, memoryAfter, listAfter}
@@ -133,13 +132,13 @@ module _ (m : List ℕ) (t : Scans) (ps : List Place) (q : t ≡ tableOf ps) (r 
         (f .0 ∙ answer-fit m ps s (Call.close k) e, memory-kept m t ps q (Call.close k) r s e b h (f .1), next-list m ps _ s (Call.close k) e d (rw (i, n)))
 
   pub opened-at : (stamp number : ℕ) (m′ : List ℕ) → verdict (testsIn (shapeIn s) (view s (words m)) ps (Call.openScan stamp)) ≡ accept
-      → r .answer ≡ Answer.Number number → number ≡ headerIn (view s (words m)) scansGiven + 1 → r .place ≡ t .free
-      → r .entry ≡ record { number = number; stamp = stamp; merges = headerIn (view s (words m)) mergesMade }
-      → m′ ≡ lay s (put Region.Header scansGiven (headerIn (view s (words m)) scansGiven + 1) (view s (words m))) m
+      → r .answer ≡ Answer.Number number → number ≡ scansGiven (view s (words m)) + 1 → r .place ≡ t .free
+      → r .entry ≡ record { number = number; stamp = stamp; merges = mergesMade (view s (words m)) }
+      → m′ ≡ lay s (put Region.Header scansAt (scansGiven (view s (words m)) + 1) (view s (words m))) m
       → (r .answer ≡ answerOf m ps (Call.openScan stamp)) × (m′ ≡ memoryAfter m ps (Call.openScan stamp)) × (set ps (r .place) (r .entry) ≡ listAfter m ps (Call.openScan stamp))
   unfolding replyIn actIn placesAfter
   opened-at stamp number m′ d a n p y l =
       let v = view s (words m) in
-      let f = accepted (shapeIn s) v ps (Call.openScan stamp) (r .answer) (put Region.Header scansGiven (headerIn v scansGiven + 1) v) d (a ∙ ap Answer.Number n) refl in
+      let f = accepted (shapeIn s) v ps (Call.openScan stamp) (r .answer) (put Region.Header scansAt (scansGiven v + 1) v) d (a ∙ ap Answer.Number n) refl in
       let i : r .place ≡ place (λ x. eqb (x .number) 0) ps = p ∙ free-is t ps q in
       (f .0 ∙ answer-fit m ps s (Call.openScan stamp) e, l ∙ ap (λ (w : View). lay s w m) (f .1) ∙ memory-fit m ps s (Call.openScan stamp) e, next-list m ps _ s (Call.openScan stamp) e d (rw (i, y, n)))

@@ -12,7 +12,7 @@ use Rattle.terms.specs.declared.Place.{Place}
 use Rattle.words.specs.Words.{words}
 use Rattle.loops.specs.declared.Found.{Found}
 use Rattle.layout.specs.declared.Sizes.{Sizes}
-use Rattle.layout.specs.View.{View, view}
+use Rattle.layout.specs.View.{View, view, usedIn}
 use Rattle.scans.specs.declared.Scans.{Scans}
 use Rattle.scans.specs.Places.{openCount}
 use Rattle.scans.specs.Table.{tableOf}
@@ -22,16 +22,17 @@ use Rattle.facts.specs.Facts.{pagesPlaced, pagePlaced}
 use Rattle.facts.specs.Tests.{MemoryFacts}
 use Rattle.facts.proofs.Each.{each-tells}
 use Rattle.facts.proofs.Usable.{placed-tells}
-use Rattle.model.specs.Stored.{usedIn, pageIn, currentIn, pagesOf}
+use Rattle.model.specs.Stored.{pageIn, currentIn, pagesOf}
 use Rattle.model.specs.Writing.{freeIn}
 use Rattle.model.specs.Calls.{testsIn, outOfReachIn}
-use Rattle.model.specs.Asked.{shapeIn, Proper, Linked}
+use Rattle.layout.specs.Sizes.{Proper}
+use Rattle.model.specs.Asked.{shapeIn, Linked}
 use Rattle.rows.proofs.Indices.{place-in}
 use Rattle.settling.specs.Steps.{foundAt}
 use Rattle.merging.specs.Steps.{Mergeable}
 use Rattle.entry.proofs.Fitted.{column-tells, range-tells}
-use Rattle.lending.proofs.Ends.{off}
 use Rattle.upkeep.specs.Lists.{Currents}
+use Rattle.history.proofs.Lists.{is-false}
 
 -- ---- the first free page
 found-here : (n i j : ℕ) → foundAt n i ≡ Found.At j → (i < n) × (j ≡ i)
@@ -90,9 +91,9 @@ unfolding testsIn outOfReachIn
 mergeable s v g c n page l k e q h =
     let p = passed (testsIn (shapeIn s) v [] (Call.merge g c n)) e in
     let low : ℕ = (pageIn v (currentIn (shapeIn s) v g c)) .lineage in
-    let gb = range-tells s g (off (noRange (shapeIn s) g) (p .0)) in
-    let cb = column-tells s c (off (noColumn (shapeIn s) c) (p .1 .0)) in
-    let r = or-off (leb n low) (ltb (usedIn v g) n) (off (leb n low || ltb (usedIn v g) n) (p .1 .1 .0)) in
+    let gb = range-tells s g (is-false (noRange (shapeIn s) g) (p .0)) in
+    let cb = column-tells s c (is-false (noColumn (shapeIn s) c) (p .1 .0)) in
+    let r = or-off (leb n low) (ltb (usedIn v g) n) (is-false (leb n low || ltb (usedIn v g) n) (p .1 .1 .0)) in
     record {
       range-below = gb;
       column-below = cb;

@@ -10,11 +10,11 @@ use Rattle.terms.specs.Measures.{Shape, mostNumbers}
 use Rattle.terms.specs.declared.Place.{Place}
 use Rattle.terms.specs.declared.Refusal.{Refusal}
 use Rattle.layout.specs.declared.Sizes.{Sizes}
-use Rattle.layout.specs.View.{View}
+use Rattle.layout.specs.View.{View, scansGiven, usedIn}
 use Rattle.history.specs.History.{Call, Test, _when_}
 use Rattle.scans.specs.declared.Scans.{Scans}
 use Rattle.scans.specs.Table.{tableOf}
-use Rattle.model.specs.Stored.{headerIn, scansGiven, usedIn, pageIn, currentIn, pagesOf, asCurrent}
+use Rattle.model.specs.Stored.{pageIn, currentIn, pagesOf, asCurrent}
 use Rattle.model.specs.Writing.{anyOpen, freeIn}
 use Rattle.model.specs.Asked.{shapeIn}
 use Rattle.lending.specs.declared.Tested.{Tested}
@@ -41,5 +41,5 @@ reachTests S v g low n =
 
 -- tests that were passed leave a scan number to give
 abbrev pub Gives : Tested → View → Type 0
-Gives (Tested.Passed j) v = headerIn v scansGiven < mostNumbers
+Gives (Tested.Passed j) v = scansGiven v < mostNumbers
 Gives (Tested.Failed x) v = Unit {0}

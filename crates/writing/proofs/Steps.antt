@@ -23,11 +23,12 @@ use Rattle.words.specs.Words.{words}
 use Rattle.loops.specs.Change.{changed}
 use Rattle.words.proofs.Words.{length-words}
 use Rattle.layout.specs.Regions.{need}
-use Rattle.layout.specs.View.{View, view, renew, put}
+use Rattle.layout.specs.View.{View, view, renew, put, usedIn}
 use Rattle.layout.proofs.View.{view-long}
-use Rattle.model.specs.Stored.{openPlace, usedIn, slot, rowIn, cellIn, currentIn, asOriginal}
+use Rattle.model.specs.Stored.{openPlace, slot, rowIn, cellIn, currentIn, asOriginal}
 use Rattle.model.specs.Writing.{noted, putCells, nextSlot, appended, filledIn, newBits, newBitsIn, recordsWanted, originalAppended, settingAppended, updatedIn}
-use Rattle.model.specs.Asked.{shapeIn, Proper, OpenAt}
+use Rattle.layout.specs.Sizes.{Proper}
+use Rattle.model.specs.Asked.{shapeIn, OpenAt}
 use Rattle.settling.specs.Steps.{notedAt}
 use Rattle.settling.proofs.Views.{renew-none, turn-put, change-none, change-next}
 use Rattle.settling.proofs.Indices.{range-in}

@@ -11,8 +11,8 @@ use Rattle.terms.specs.Measures.{Shape, rangeRows}
 use Rattle.history.specs.History.{rangeOf}
 use Rattle.layout.specs.declared.Sizes.{Sizes}
 use Rattle.layout.specs.declared.Region.{Region}
-use Rattle.layout.specs.View.{View, renew, put}
-use Rattle.model.specs.Stored.{asOpen, asOriginal, within, usedIn, slot, cellIn, currentIn}
+use Rattle.layout.specs.View.{View, renew, put, usedIn}
+use Rattle.model.specs.Stored.{asOpen, asOriginal, within, slot, cellIn, currentIn}
 use Rattle.model.specs.Writing.{putCells, nextSlot, appended, filledIn, newBitsIn, originalAppended, settingAppended}
 
 -- the words of row r, inserted by transaction t and not yet changed

@@ -18,10 +18,11 @@ ghost use Rattle.words.specs.Words.{words};
 ghost use Rattle.history.specs.History.{rangeOf};
 ghost use Rattle.layout.specs.Regions.{need};
 ghost use Rattle.layout.specs.declared.Region.{Region};
-ghost use Rattle.layout.specs.View.{view, put};
-ghost use Rattle.model.specs.Stored.{headerIn, rowsGiven, usedIn, slot};
+ghost use Rattle.layout.specs.View.{view, put, rowsGiven, usedIn};
+ghost use Rattle.model.specs.Stored.{slot};
 ghost use Rattle.model.specs.Writing.{insertedIn, appended, newBits, recordsWanted, settingAppended, updatedIn, deletedIn};
-ghost use Rattle.model.specs.Asked.{shapeIn, Proper, Pooled, OpenAt};
+ghost use Rattle.layout.specs.Sizes.{Proper};
+ghost use Rattle.model.specs.Asked.{shapeIn, Pooled, OpenAt};
 ghost use Rattle.writing.specs.Steps.{rowPut, cellsPut, recordPut, cellWords, valueWords, newestFilled, originalPut, recordsPut, Room, Newest};
 
 // The kinds of tail records, as stored.
@@ -76,8 +77,8 @@ fn put_cells(mem: &mut [u8], s: Sizes, g: usize, i: usize, vs: [i32; 16])
 pub fn insert(mem: &mut [u8], s: Sizes, at: usize, t: Transaction, vs: [i32; 16]) -> Row
     requires { ⌜ need s * 4 ≤ length (now mem) ⌝ }
     requires { ⌜ Proper s × Pooled s (view s (words (now mem))) ⌝ }
-    requires { ⌜ OpenAt (view s (words (now mem))) (t .0) at × (headerIn (view s (words (now mem))) rowsGiven < s .rows) ⌝ }
-    ensures { λ r. ⌜ (r .0 ≡ headerIn (view s (words (now (mem .entry)))) rowsGiven) × (view s (words (now (mem .exit))) ≡ insertedIn (shapeIn s) (t .0) vs (view s (words (now (mem .entry))))) ⌝ }
+    requires { ⌜ OpenAt (view s (words (now mem))) (t .0) at × (rowsGiven (view s (words (now mem))) < s .rows) ⌝ }
+    ensures { λ r. ⌜ (r .0 ≡ rowsGiven (view s (words (now (mem .entry))))) × (view s (words (now (mem .exit))) ≡ insertedIn (shapeIn s) (t .0) vs (view s (words (now (mem .entry))))) ⌝ }
 {
     let r = read(mem, s, Region::Header, HEADER_ROWS);
     let row = r as usize;

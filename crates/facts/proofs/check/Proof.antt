@@ -10,10 +10,9 @@ use borrow.Author.Tests.{not-true, not-false}
 use Rattle.terms.specs.Measures.{withinLimits}
 use Rattle.words.specs.Words.{words}
 use Rattle.layout.specs.Regions.{need}
-use Rattle.layout.proofs.Limits.{need-small}
+use Rattle.layout.proofs.Limits.{need-small, proper}
 use Rattle.scans.proofs.Table.{table-length}
-use Rattle.facts.specs.Usable.{shapeIn, sizesIn}
-use Rattle.facts.proofs.Ready.{sized}
+use Rattle.facts.specs.Usable.{storedShape, storedSizes}
 use Rattle.facts.proofs.Answers.{too-short, out-of-limits, no-room, few-places, by-facts}
 use Rattle.facts.proofs.check.Statement.{statement}
 use Rattle.facts.proofs.check.Tie as tie
@@ -22,8 +21,8 @@ use Rattle.facts.proofs.check.Tie as tie
 abbrev memory : tie.Start → List ℕ
 memory c = c .args .mem .now
 
-shape-read : (c : tie.After-within-limits) → c .within-limits .result ≡ withinLimits (shapeIn (words (memory (c .before .before .before .before .before .before .before))))
-unfolding shapeIn
+shape-read : (c : tie.After-within-limits) → c .within-limits .result ≡ withinLimits (storedShape (words (memory (c .before .before .before .before .before .before .before))))
+unfolding storedShape
 shape-read c =
     let x = c .before in
     let t = x .before in
@@ -31,11 +30,11 @@ shape-read c =
     let n = r .before in
     c .within-limits .ensures ∙ rw (x .get4 .ensures, t .get3 .ensures, r .get2 .ensures, n .get .ensures)
 
-within : (c : tie.Else2) → withinLimits (shapeIn (words (memory (c .before .before .before .before .before .before .before .before)))) ≡ true
+within : (c : tie.Else2) → withinLimits (storedShape (words (memory (c .before .before .before .before .before .before .before .before)))) ≡ true
 within c = sym (shape-read (c .before)) ∙ not-false (c .before .within-limits .result) (c .if2 .left)
 
-sizes-read : (c : tie.After-sizes-of) → c .sizes-of .result ≡ sizesIn (words (memory (c .before .before .before .before .before .before .before .before .before)))
-unfolding sizesIn shapeIn
+sizes-read : (c : tie.After-sizes-of) → c .sizes-of .result ≡ storedSizes (words (memory (c .before .before .before .before .before .before .before .before .before)))
+unfolding storedSizes storedShape
 sizes-read c =
     let x = c .before .before .before in
     let t = x .before in
@@ -44,8 +43,8 @@ sizes-read c =
     c .sizes-of .ensures ∙ rw (x .get4 .ensures, t .get3 .ensures, r .get2 .ensures, n .get .ensures)
 
 small : (c : tie.After-sizes-of) → need (c .sizes-of .result) < 2 ^ 24
-unfolding sizesIn
-small c = rw (sizes-read c) (need-small (shapeIn (words (memory (c .before .before .before .before .before .before .before .before .before)))) (within (c .before)))
+unfolding storedSizes
+small c = rw (sizes-read c) (need-small (storedShape (words (memory (c .before .before .before .before .before .before .before .before .before)))) (within (c .before)))
 
 sizes-of-requires : tie.Need-sizes-of-requires
 sizes-of-requires c κs = sym (c .before .within-limits .ensures) ∙ not-false (c .before .within-limits .result) (c .if2 .left)
@@ -57,10 +56,10 @@ mul-if3 : tie.Need-mul-if3
 mul-if3 c = omega (arith, small (c .before), c .words-needed .ensures)
 
 -- the bytes that the sizes need, as the test of the length has them
-bytes : (c : tie.After-words-needed) → c .words-needed .result * 4 ≡ need (sizesIn (words (memory (c .before .before .before .before .before .before .before .before .before .before)))) * 4
+bytes : (c : tie.After-words-needed) → c .words-needed .result * 4 ≡ need (storedSizes (words (memory (c .before .before .before .before .before .before .before .before .before .before)))) * 4
 bytes c = rw (c .words-needed .ensures, sizes-read (c .before))
 
-roomy : (c : tie.Else3) → need (sizesIn (words (memory (c .before .before .before .before .before .before .before .before .before .before .before)))) * 4 ≤ length (memory (c .before .before .before .before .before .before .before .before .before .before .before))
+roomy : (c : tie.Else3) → need (storedSizes (words (memory (c .before .before .before .before .before .before .before .before .before .before .before)))) * 4 ≤ length (memory (c .before .before .before .before .before .before .before .before .before .before .before))
 roomy c = rw (bytes (c .before)) at (c .if3 .left)
 
 returns : tie.Need-returns
@@ -85,10 +84,10 @@ returns-4 c = (
 )
 
 facts-hold-requires : tie.Need-facts-hold-requires
-unfolding sizesIn
+unfolding storedSizes
 facts-hold-requires c κs =
     let n = c .before .before .before in
-    (rw (n .words-needed .ensures) at (c .before .before .if3 .left), rw (sizes-read (n .before)) (sized (shapeIn (words (memory (c .before .before .before .before .before .before .before .before .before .before .before .before .before)))) (within (n .before .before))))
+    (rw (n .words-needed .ensures) at (c .before .before .if3 .left), rw (sizes-read (n .before)) (proper (storedShape (words (memory (c .before .before .before .before .before .before .before .before .before .before .before .before .before)))) (within (n .before .before))))
 
 returns-5 : tie.Need-returns-5
 returns-5 c =

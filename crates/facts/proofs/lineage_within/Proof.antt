@@ -18,12 +18,12 @@ returns c = rw (← c .before .read .ensures, lt-ltb _ _ (c .if1 .taken))
 modulo-places-requires : tie.Need-modulo-places-requires
 modulo-places-requires c κs =
     let s = c .before .before .before .before .before in
-    omega (arith, places-some (s .args .s) (s .pre .0 .sized))
+    omega (arith, places-some (s .args .s) (s .pre .0 .proper))
 
 range-of-place-requires : tie.Need-range-of-place-requires
 range-of-place-requires c κs =
     let s = c .before .before .before .before .before .before in
-    (rw (c .modulo-places .ensures) (place-few (s .args .s) _ (s .pre .0 .sized)), s .pre .1 .2)
+    (rw (c .modulo-places .ensures) (place-few (s .args .s) _ (s .pre .0 .proper)), s .pre .1 .2)
 
 abbrev start : tie.After-range-of-place → tie.Start
 start c = c .before .before .before .before .before .before .before
@@ -33,11 +33,11 @@ range-is : (c : tie.After-range-of-place) → c .range-of-place .result ≡ page
 range-is c =
     let s = start c in
     let z = s .args .s in
-    c .range-of-place .ensures (z .columns) (s .pre .0 .sized .columns-from) (s .pre .0 .sized .columns-to) (s .pre .1 .1)
+    c .range-of-place .ensures (z .columns) (s .pre .0 .proper .columns-from) (s .pre .0 .proper .columns-to) (s .pre .1 .1)
     ∙ ap (λ (x : ℕ). x / z .columns) (c .before .modulo-places .ensures ∙ ap (λ (x : ℕ). x % z .places) (c .before .before .before .read2 .ensures))
 
 read-requires-3 : tie.Need-read-requires-3
-read-requires-3 c κs = (start c .pre .0 .room, rw (range-is c) (place-range (start c .args .s) _ (start c .pre .0 .sized)))
+read-requires-3 c κs = (start c .pre .0 .room, rw (range-is c) (place-range (start c .args .s) _ (start c .pre .0 .proper)))
 
 returns-2 : tie.Need-returns-2
 unfolding lineageWithin

@@ -39,7 +39,7 @@ lineages-within-spec =
     (tie.spec
     Inv-loop
     μ-loop
-    (λ c κs. (c .before .pre .sized .columns-from, c .before .pre .sized .columns-to))
+    (λ c κs. (c .before .pre .proper .columns-from, c .before .pre .proper .columns-to))
     (λ c. (omega arith, each-none _))
     lineage-within-requires
     (λ c κs. search needs)

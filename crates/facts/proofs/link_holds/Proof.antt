@@ -18,7 +18,7 @@ returns-2 c = rw (ne-eqb _ _ (c .before .if1 .left), lt-leb _ _ (c .if2 .taken))
 add-read : tie.Need-add-read
 add-read c =
     let s = c .before .before .before .before in
-    omega (arith, slots-few (s .args .s) (s .pre .0 .sized))
+    omega (arith, slots-few (s .args .s) (s .pre .0 .proper))
 
 returns-3 : tie.Need-returns-3
 unfolding linkHolds

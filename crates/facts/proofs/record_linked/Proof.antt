@@ -11,7 +11,7 @@ use Rattle.facts.proofs.record_linked.Tie as tie
 inside : (c : tie.Start) → (c .args .i < c .args .s .capacity) × (c .args .s .slots ≤ 8192)
 inside c =
     let a = c .args in
-    (record-in (a .s) (a .mem .now) (a .g) (a .i) (c .pre .0) (c .pre .1 .1), slots-few (a .s) (c .pre .0 .sized))
+    (record-in (a .s) (a .mem .now) (a .g) (a .i) (c .pre .0) (c .pre .1 .1), slots-few (a .s) (c .pre .0 .proper))
 
 add-slot : tie.Need-add-slot
 add-slot c = omega (arith, inside (c .before .before))
@@ -23,7 +23,7 @@ read-requires-2 : tie.Need-read-requires-2
 read-requires-2 c κs = omega (arith, inside (c .before .before .before))
 
 cast-link-holds : tie.Need-cast-link-holds
-cast-link-holds c = omega (arith, inside (c .before .before .before .before), c .before .before .before .before .pre .0 .sized .capacity-to)
+cast-link-holds c = omega (arith, inside (c .before .before .before .before), c .before .before .before .before .pre .0 .proper .capacity-to)
 
 link-holds-requires : tie.Need-link-holds-requires
 link-holds-requires c κs =

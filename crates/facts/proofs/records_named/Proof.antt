@@ -6,10 +6,10 @@ use mathlib.Core.Path.{sym, _∙_}
 use lib.ListN.{length}
 use Rattle.words.specs.Words.{words}
 use Rattle.words.proofs.Words.{length-words}
-use Rattle.layout.specs.View.{view}
+use Rattle.layout.specs.View.{view, usedIn}
 use Rattle.layout.specs.declared.Region.the-variants.{TailRow}
 use Rattle.layout.proofs.View.{view-long}
-use Rattle.facts.specs.Facts.{used, firstSlot, rangeBetween}
+use Rattle.facts.specs.Facts.{firstSlot, rangeBetween}
 use Rattle.facts.proofs.Names.{names-between, names-none}
 use Rattle.facts.proofs.Within.{range-in}
 use Rattle.facts.proofs.records_named.Statement.{statement}
@@ -32,7 +32,7 @@ returns-2 c =
     let z = s .args .s in
     let g = s .args .g in
     let v = view z (words m) in
-    let k : firstSlot z g + used v g ≤ length (v TailRow) = omega (arith, view-long z (words m) (omega (arith, length-words m)) TailRow, s .pre .0 .records-in g, range-in z g (s .pre .0 .sized) (s .pre .1)) in
+    let k : firstSlot z g + usedIn v g ≤ length (v TailRow) = omega (arith, view-long z (words m) (omega (arith, length-words m)) TailRow, s .pre .0 .records-in g, range-in z g (s .pre .0 .proper) (s .pre .1)) in
     c .records-between .ensures
     ∙ sym (names-between z v g _ (rw (r .read .ensures) at (t .if1 .left)) (rw (r .read .ensures) at (l .last-row .ensures)) k)
 

@@ -10,7 +10,7 @@ link-holds-requires : tie.Need-link-holds-requires
 link-holds-requires c κs =
     let s = c .before .before .before in
     let g = s .args .r / 64 in
-    (s .pre .0, (omega (arith, s .pre .0 .sized .rows-are), rw (c .before .read .ensures) (s .pre .0 .records-in g)))
+    (s .pre .0, (omega (arith, s .pre .0 .proper .rows-are), rw (c .before .read .ensures) (s .pre .0 .records-in g)))
 
 returns : tie.Need-returns
 unfolding rowLinked

@@ -10,29 +10,28 @@ use contract.Running.{tablesOf, givenOf}
 use Rattle.scans.specs.declared.Scans.{Scans}
 use Rattle.terms.specs.Places.{freePlace}
 use Rattle.scans.specs.Places.{isOpen}
-use Rattle.scans.specs.Table.{tableOf, noted}
-use Rattle.lent.specs.Lent.{ofLength}
-use Rattle.lent.proofs.Rules.{_≡_, refl, List, [], _∷_, ℕ, URA, some, none, Ty, Body, tyInt, tyBool, named, imm, w64, copy, place, seq, call, return, assign, rvOpd, op2, lt, add, unsigned, int, cond, skip, exit, loop, block, valueLocal, Home, Heap, Tables, Env, Atoms, Given, Lfts, Shares, now, Row, Cx, lease, get, set, valS, sInt, sBool, sslice, room-gone, Typed, Outs, TF, Mo, Both, Asks, both, ask, pass, atRet, atNext, atExit, withNext, wantNext, inBlock₀, inBlock, inLoop₀, LoopBy, t-return, t-skip, t-exit, t-seq, t-block, t-loop-by, s-typed, s-seq, g-pre, g-post, n-room, g-room, n-use, t-use, k-op2, t-op2, t-cond, Φcond, oAt, oInt, reads-sc, holds-sc, room-sc, reads-sslice, vAt, pShrS, spares-sslice, EnvOf, tysP, PK, In, Out, pNum, rNum, rBool, tyR, callB, sub-id, Known, t-call-plain, t-fn-plain, Over, World, entry, places, num, no-num, flag, no-flag}
+use Rattle.scans.specs.Table.{tableOf, noted, ofLength}
+use Rattle.lent.proofs.Rules.{_≡_, refl, List, [], _∷_, ℕ, URA, some, none, Ty, Body, tyInt, tyBool, named, imm, w64, place, seq, call, return, assign, rvOpd, op2, lt, add, unsigned, int, cond, skip, exit, loop, block, valueLocal, Home, Heap, Tables, Env, Atoms, Given, Lfts, Shares, now, Row, Cx, lease, get, set, valS, sInt, sBool, sslice, room-gone, Typed, Outs, TF, Mo, Both, Asks, both, ask, pass, atRet, atNext, atExit, withNext, wantNext, inBlock₀, inBlock, inLoop₀, LoopBy, t-return, t-skip, t-exit, t-seq, t-block, t-loop-by, s-typed, s-seq, g-pre, g-post, n-room, g-room, n-use, t-use, k-op2, t-op2, t-cond, Φcond, oAt, oInt, reads-sc, holds-sc, room-sc, reads-sslice, vAt, pShrS, spares-sslice, EnvOf, tysP, PK, In, Out, pNum, rNum, rBool, tyR, callB, sub-id, Known, t-call-plain, t-fn-plain, Over, World, entry, places, none-asked, num, no-num, flag, no-flag, at}
 use Rattle.lent.proofs.Plain.{type, full, gone, arg, res, copied, room}
 use Rattle.lent.proofs.Written as written
-use Rattle.lent.proofs.Steps.{Gone, none-gone, open-gone, free-gone, all-gone}
+use Rattle.scans.proofs.Table.{Entered, none-entered, open-entered, free-entered, all-entered}
 use Rattle.lent.proofs.Types.{p as P, t as T}
 use Rattle.lent.proofs.len_of.Symbol as len-of
 use Rattle.lent.proofs.len_of.Met as len-of-thm
 use Rattle.lent.proofs.place_at.Symbol as place-at
 use Rattle.lent.proofs.place_at.Met as place-at-thm
-use Rattle.lent.proofs.blank.Symbol as blank
-use Rattle.lent.proofs.blank.Met as blank-thm
-use Rattle.lent.proofs.blank.Reads as blank-reads
-use Rattle.lent.proofs.is_open.Symbol as is-open
-use Rattle.lent.proofs.is_open.Met as is-open-thm
-use Rattle.lent.proofs.is_open.Reads as is-open-reads
-use Rattle.lent.proofs.enter.Symbol as enter
-use Rattle.lent.proofs.enter.Met as enter-thm
-use Rattle.lent.proofs.enter.Reads as enter-reads
-use Rattle.lent.proofs.set_length.Symbol as set-length
-use Rattle.lent.proofs.set_length.Met as set-length-thm
-use Rattle.lent.proofs.set_length.Reads as set-length-reads
+use Rattle.scans.proofs.blank.Symbol as blank
+use Rattle.scans.proofs.blank.Met as blank-thm
+use Rattle.scans.proofs.blank.Reads as blank-reads
+use Rattle.scans.proofs.is_open.Symbol as is-open
+use Rattle.scans.proofs.is_open.Met as is-open-thm
+use Rattle.scans.proofs.is_open.Reads as is-open-reads
+use Rattle.scans.proofs.enter.Symbol as enter
+use Rattle.scans.proofs.enter.Met as enter-thm
+use Rattle.scans.proofs.enter.Reads as enter-reads
+use Rattle.scans.proofs.set_length.Symbol as set-length
+use Rattle.scans.proofs.set_length.Met as set-length-thm
+use Rattle.scans.proofs.set_length.Reads as set-length-reads
 use Rattle.lent.proofs.table.Key as key
 use Rattle.lent.proofs.table.Statement.{statement}
 use Rattle.lent.proofs.table.Code as code
@@ -56,9 +55,6 @@ ps-enter = arg T ∷ pNum w64 ∷ arg P ∷ []
 
 abbrev ps-length : List (PK 0)
 ps-length = arg T ∷ pNum w64 ∷ []
-
-abbrev none-asked : {n : ℕ} (ps : List (PK n)) → In n ps
-none-asked ps κs a = Unit {0}
 
 abbrev Q-len : Out 1 ps (rNum w64)
 Q-len κs a z e = z ≡ length (now (a .0))
@@ -94,9 +90,6 @@ xs = tyInt w64 ∷ type T ∷ tyInt w64 ∷ type P ∷ tyBool ∷ tyBool ∷ []
 
 abbrev hs : List Home
 hs = valueLocal ∷ valueLocal ∷ valueLocal ∷ valueLocal ∷ valueLocal ∷ valueLocal ∷ valueLocal ∷ valueLocal ∷ []
-
-abbrev at : ℕ → mir.Syntax.Opd
-at i = copy (place i [])
 
 abbrev takes : Body
 takes = call enter.name (at 3 ∷ at 4 ∷ at 5 ∷ []) (place 3 [])
@@ -233,7 +226,7 @@ module _ (κs : Lfts 1) (qs : Shares 1) where
   put vs u = set 4 (4, num) (vs .1) (G₃ .locals) (set 3 (3, full T) (vs .0) (G₃ .locals) u)
 
   abbrev Inv : Mo G₃ → Scans × ℕ → Type 0
-  Inv u vs = Gone (get 1 (G₃ .locals) u .now) (get 2 (G₃ .locals) u) (vs .0) (vs .1)
+  Inv u vs = Entered (get 1 (G₃ .locals) u .now) (get 2 (G₃ .locals) u) (vs .0) (vs .1)
 
   abbrev left : Mo G₃ → Scans × ℕ → ℕ
   left u vs = get 2 (G₃ .locals) u - vs .1
@@ -325,17 +318,17 @@ table-spec {M} 𝓤 H 𝓜 𝓖 𝓡 =
     written.close-free 1 ps (res T) Q w code.env key.name code.function (code.unfolded 𝓤 H 𝓜 𝓡)
     (t-fn-plain 𝓤 H (𝓖 .A) (givenOf 𝓤 H 𝓜 𝓖) (Over 𝓤 H 𝓜 𝓖 𝓡 code.env) 1 ps (res T) xs 0 hs body (λ κs qs bs. Φ κs qs) (λ κs qs bs bd. typed κs qs 𝓤 H (𝓖 .A) (givenOf 𝓤 H 𝓜 𝓖) (Over 𝓤 H 𝓜 𝓖 𝓡 code.env)
     (written.known-free 1 ps (rNum w64) Q-len w code.env len-of.name len-of.routine code.calls-lent·len-of (len-of-thm.met 𝓤 H 𝓜 𝓖 𝓡))
-    (blank-reads.known w code.env blank.name blank.routine code.calls-lent·blank (blank-thm.met 𝓤 H 𝓜 𝓖 𝓡))
+    (blank-reads.known w code.env blank.name blank.routine code.calls-scans·blank (blank-thm.met 𝓤 H 𝓜 𝓖 𝓡))
     (written.known 1 ps-at (res P) Q-at P-at w code.env place-at.name place-at.routine code.calls-lent·place-at (place-at-thm.met 𝓤 H 𝓜 𝓖 𝓡))
-    (is-open-reads.known w code.env is-open.name is-open.routine code.calls-lent·is-open (is-open-thm.met 𝓤 H 𝓜 𝓖 𝓡))
-    (enter-reads.known w code.env enter.name enter.routine code.calls-lent·enter (enter-thm.met 𝓤 H 𝓜 𝓖 𝓡))
-    (set-length-reads.known w code.env set-length.name set-length.routine code.calls-lent·set-length (set-length-thm.met 𝓤 H 𝓜 𝓖 𝓡)) bs) (none-asked ps) Q
+    (is-open-reads.known w code.env is-open.name is-open.routine code.calls-scans·is-open (is-open-thm.met 𝓤 H 𝓜 𝓖 𝓡))
+    (enter-reads.known w code.env enter.name enter.routine code.calls-scans·enter (enter-thm.met 𝓤 H 𝓜 𝓖 𝓡))
+    (set-length-reads.known w code.env set-length.name set-length.routine code.calls-scans·set-length (set-length-thm.met 𝓤 H 𝓜 𝓖 𝓡)) bs) (none-asked ps) Q
     (λ κs qs a good pre bs. (
       λ κ. tt,
       λ g₀. (
         λ κ. tt,
         λ g₁. (
-          ((g₁ .1, 0), refl, none-gone (now (a .0)) (g₀ .1) (g₁ .1) (g₀ .5) (g₁ .5)),
+          ((g₁ .1, 0), refl, none-entered (now (a .0)) (g₀ .1) (g₁ .1) (g₀ .5) (g₁ .5)),
           λ vs inv. (
             tt,
             (
@@ -353,17 +346,17 @@ table-spec {M} 𝓤 H 𝓜 𝓖 𝓡 =
                           λ κ. (omega arith, sym (g₃ .5) ∙ yes),
                           λ g₄. (
                             record { fits = omega arith },
-                            (n - (i + 1), omega arith, ((g₄ .1, i + 1), refl, open-gone l n (vs .0) (g₄ .1) i (g₂ .1) inv k (g₂ .5) (g₄ .5), refl)),
+                            (n - (i + 1), omega arith, ((g₄ .1, i + 1), refl, open-entered l n (vs .0) (g₄ .1) i (g₂ .1) inv k (g₂ .5) (g₄ .5), refl)),
                           ),
                         ),
                         λ no. (
                           record { fits = omega arith },
-                          (n - (i + 1), omega arith, ((vs .0, i + 1), refl, free-gone l n (vs .0) i (g₂ .1) inv k (g₂ .5) (sym (g₃ .5) ∙ no), refl)),
+                          (n - (i + 1), omega arith, ((vs .0, i + 1), refl, free-entered l n (vs .0) i (g₂ .1) inv k (g₂ .5) (sym (g₃ .5) ∙ no), refl)),
                         ),
                       ),
                     ),
                   ),
-              λ done. (λ κ. tt, λ g₅. ((refl, tt), g₅ .5 ∙ all-gone (now (a .0)) (g₀ .1) (vs .0) (vs .1) inv (ltb-false (vs .1) (g₀ .1) done))),
+              λ done. (λ κ. tt, λ g₅. ((refl, tt), g₅ .5 ∙ all-entered (now (a .0)) (g₀ .1) (vs .0) (vs .1) inv (ltb-false (vs .1) (g₀ .1) done))),
             ),
           ),
         ),

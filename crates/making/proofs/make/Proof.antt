@@ -9,11 +9,9 @@ use lib.Seq.{length-take-le}
 use borrow.Author.Tests.{not-true, not-false}
 use Rattle.terms.specs.Measures.{Shape, withinLimits}
 use Rattle.layout.specs.Regions.{need}
-use Rattle.layout.specs.Sizes.{shapeOf, sizesOf}
+use Rattle.layout.specs.Sizes.{shapeOf, sizesOf, Proper}
 use Rattle.layout.proofs.Lay.{lent}
-use Rattle.layout.proofs.Limits.{need-small}
-use Rattle.facts.specs.Tests.{Sized}
-use Rattle.facts.proofs.Ready.{sized}
+use Rattle.layout.proofs.Limits.{need-small, proper}
 use Rattle.making.specs.Made.{madeView}
 use Rattle.making.proofs.Answers.{out-of-limits, no-room, few-places, laid}
 use Rattle.making.proofs.make.Statement.{statement}
@@ -62,8 +60,8 @@ lay-out-requires c κs =
     let n = c .before .before .before in
     let z = n .before in
     let w = within (z .before) in
-    let k : Sized (z .sizes-of .result) = rw (z .sizes-of .ensures) (sized (shape (z .before .before .before .before)) w) in
-    ((omega (arith, part (c .before .before), n .words-needed .ensures), small z), (z .sizes-of .ensures, k .places-in, omega (arith, k .pages-to)))
+    let k : Proper (z .sizes-of .result) = rw (z .sizes-of .ensures) (proper (shape (z .before .before .before .before)) w) in
+    ((omega (arith, part (c .before .before), n .words-needed .ensures), small z), (z .sizes-of .ensures, omega (arith, k .pages-are), omega (arith, k .pages-to)))
 
 returns-4 : tie.Need-returns-4
 returns-4 c =

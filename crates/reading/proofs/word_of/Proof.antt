@@ -4,8 +4,7 @@ use mathlib.Core.Path.{sym, _∙_}
 use native.Mathlib.Omega.{arith}
 use denote.Ref.{now}
 use Rattle.words.specs.Words.{words}
-use Rattle.layout.specs.View.{view}
-use Rattle.model.specs.Stored.{usedIn}
+use Rattle.layout.specs.View.{view, usedIn}
 use Rattle.rows.proofs.Indices.{row-in}
 use Rattle.reading.proofs.Walking.{word-alone, word-found, word-below}
 use borrow.Author.Needs.{needs}

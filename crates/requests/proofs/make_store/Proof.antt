@@ -14,7 +14,7 @@ returns c =
     let free = c .before .before in
     let test = free .before .before .before in
     let u = test .before .before .before .before .before in
-    made-served _ _ _ (u .summarise .result .length) _ _ true _ (test .before .before .before .make .ensures) (ap (λ (t : Scans). t .length) (u .summarise .ensures))
+    made-served _ _ _ (u .table .result .length) _ _ true _ (test .before .before .before .make .ensures) (ap (λ (t : Scans). t .length) (u .table .ensures))
     (sym (free .before .before .if1 .taken) ∙ test .accepted .ensures) (free .free-all .ensures)
 
 returns-2 : tie.Need-returns-2
@@ -22,7 +22,7 @@ unfolding tableOf
 returns-2 c =
     let test = c .before in
     let u = test .before .before .before .before .before in
-    made-served _ _ _ (u .summarise .result .length) _ _ false _ (test .before .before .before .make .ensures) (ap (λ (t : Scans). t .length) (u .summarise .ensures))
+    made-served _ _ _ (u .table .result .length) _ _ false _ (test .before .before .before .make .ensures) (ap (λ (t : Scans). t .length) (u .table .ensures))
     (sym (c .if1 .left) ∙ test .accepted .ensures) refl
 
 pub make-store-spec : {M : Type 1} → statement M

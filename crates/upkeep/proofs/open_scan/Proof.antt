@@ -4,9 +4,9 @@ use borrow.Author.Needs.{needs}
 use Prim.Native.Nat.{_+_}
 use mathlib.Core.Path.{refl, ap, sym, _∙_}
 use Rattle.layout.specs.declared.Region.{Region}
-use Rattle.layout.specs.View.{View, put}
+use Rattle.layout.specs.View.{View, put, scansGiven}
 use Rattle.layout.proofs.Lay as lay
-use Rattle.model.specs.Stored.{headerIn, scansGiven}
+use Rattle.layout.specs.Regions.{scansAt}
 use Rattle.lending.specs.Part.{Lendable}
 use Rattle.lending.proofs.Ends.{all-passed, one-failed}
 use Rattle.lending.proofs.Lent.{lent-by, unfit-by, part-in, part-long, part-seen, part-room}
@@ -46,8 +46,8 @@ returns-3 c =
     let e = l .told ps q in
     let ok = all-passed _ _ _ (sym (found .before .before .open-tests .ensures .0 ps q (few-open _ ps _ e)) ∙ found .place .given .1) in
     let given = c .before .before .give-scan in
-    opened-at _ _ ps q _ _ e _ _ _ (ok .0) refl (given .ensures .0 ∙ ap (λ (v : View). headerIn v scansGiven + 1) (part-seen l)) (ok .1) (rw (c .before .before .before .before .read .ensures))
-    (lay.lent _ _ _ _ (λ (v : View). put Region.Header scansGiven (headerIn v scansGiven + 1) v) (given .ensures .1) (given .kept .0) (λ k. omega (arith, c .slice-known2 .given k)) (l .bytes) (l .fitted .room))
+    opened-at _ _ ps q _ _ e _ _ _ (ok .0) refl (given .ensures .0 ∙ ap (λ (v : View). scansGiven v + 1) (part-seen l)) (ok .1) (rw (c .before .before .before .before .read .ensures))
+    (lay.lent _ _ _ _ (λ (v : View). put Region.Header scansAt (scansGiven v + 1) v) (given .ensures .1) (given .kept .0) (λ k. omega (arith, c .slice-known2 .given k)) (l .bytes) (l .fitted .room))
 
 pub open-scan-spec : {M : Type 1} → statement M
 open-scan-spec =

@@ -1,11 +1,11 @@
--- `scans::free_all` meets its contract.
+-- `packed::free_all` meets its contract.
 use native.Mathlib.Omega.{arith}
 use borrow.Author.Needs.{needs}
 use Rattle.words.specs.Words.{words}
 use Rattle.words.proofs.Words.{length-words}
-use Rattle.scans.proofs.Places.{places-freed}
-use Rattle.scans.proofs.free_all.Statement.{statement}
-use Rattle.scans.proofs.free_all.Tie as tie
+use Rattle.packed.proofs.Places.{places-freed}
+use Rattle.packed.proofs.free_all.Statement.{statement}
+use Rattle.packed.proofs.free_all.Tie as tie
 
 returns : tie.Need-returns
 returns c =

@@ -9,7 +9,8 @@ use Rattle.terms.specs.declared.Place.{Place}
 use Rattle.loops.specs.Change.{filled}
 use Rattle.loops.proofs.Change.{changed-length, changed-at}
 use Rattle.terms.specs.Places.{freePlace}
-use Rattle.scans.specs.Places.{placesOf, allFreed}
+use Rattle.packed.specs.Packed.{placesOf}
+use Rattle.scans.specs.Places.{allFreed}
 
 abbrev pub threeWords : ℕ → ℕ → ℕ → Place
 threeWords a b c = record { number = a; stamp = b; merges = c }

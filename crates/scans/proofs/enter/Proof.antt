@@ -1,11 +1,11 @@
--- `lent::enter` meets its contract.
+-- `scans::enter` meets its contract.
 use mathlib.Core.Path.{sym}
 use lib.Dec.{eqb}
 use borrow.Author.Needs.{needs}
 use borrow.Author.Tests.{not-true, lt-ltb, le-ltb}
 use Rattle.scans.specs.Table.{noted}
-use Rattle.lent.proofs.enter.Statement.{statement}
-use Rattle.lent.proofs.enter.Tie as tie
+use Rattle.scans.proofs.enter.Statement.{statement}
+use Rattle.scans.proofs.enter.Tie as tie
 
 returns : tie.Need-returns
 unfolding noted

@@ -1,14 +1,14 @@
--- `scans::place_put` meets its contract.
+-- `packed::place_put` meets its contract.
 use mathlib.Core.Path.{sym}
 use native.Mathlib.Omega.{arith}
 use borrow.Author.Needs.{needs}
 use lib.Seq.{set-out}
 use Rattle.words.specs.Words.{words}
 use Rattle.words.proofs.Words.{length-words}
-use Rattle.scans.specs.Places.{placesOf}
-use Rattle.scans.proofs.Places.{places-put, length-places}
-use Rattle.scans.proofs.place_put.Statement.{statement}
-use Rattle.scans.proofs.place_put.Tie as tie
+use Rattle.packed.specs.Packed.{placesOf}
+use Rattle.packed.proofs.Places.{places-put, length-places}
+use Rattle.packed.proofs.place_put.Statement.{statement}
+use Rattle.packed.proofs.place_put.Tie as tie
 
 returns : tie.Need-returns
 returns c =

@@ -1,0 +1,2 @@
+-- Laws of the scan list in bytes.
+pub mod Places

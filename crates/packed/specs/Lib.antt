@@ -1,0 +1,2 @@
+-- The scan list in bytes.
+pub mod Packed

@@ -18,7 +18,7 @@ use Rattle.history.proofs.Lists.{by-cases, parts}
 use Rattle.history.proofs.Past.{past-start}
 use Rattle.loops.specs.Change.{numbered}
 use Rattle.words.proofs.Words.{Fit}
-use Rattle.loops.proofs.Change.{changed-length, changed-outside, changed-fit}
+use Rattle.loops.proofs.Change.{changed-length, changed-outside, changed-fit, zeros}
 use Rattle.layout.specs.Regions.{len}
 use Rattle.layout.specs.View.{View, renew, put}
 use Rattle.layout.specs.declared.Region.{Region}
@@ -35,12 +35,7 @@ use Rattle.model.proofs.Views.{renew-whole, put-whole, changed-start}
 use Rattle.model.proofs.Merged.{place-in}
 use Rattle.model.proofs.Calls.{known-next, one-call}
 
--- ---- zeros, and a stretch from the start
-zeros : (n i : ℕ) → _≡_ {A = ℕ} (getD (replicate n 0) i 0) 0
-zeros zero i = refl
-zeros (suc n) zero = refl
-zeros (suc n) (suc i) = zeros n i
-
+-- ---- a stretch from the start
 none-counted : {A : Type 0} (f : A → Bool) (n : ℕ) (x : A) → f x ≡ false → count f (replicate n x) ≡ 0
 none-counted f zero x e = refl
 none-counted f (suc n) x e = rw e (none-counted f n x e)

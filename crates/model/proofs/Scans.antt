@@ -18,7 +18,7 @@ use Rattle.layout.specs.declared.Region.the-variants.{Header}
 use Rattle.terms.specs.declared.Place.{Place}
 use Rattle.terms.specs.Places.{place, freePlace, isScan}
 use Rattle.layout.specs.Regions.{scansAt}
-use Rattle.model.specs.Stored.{rowIn, recordIn, valueIn, pageIn, cellIn, currentIn, headerIn, scanPlace}
+use Rattle.model.specs.Stored.{rowIn, recordIn, valueIn, pageIn, cellIn, currentIn, scanPlace}
 use Rattle.model.specs.Reading.{scanPage, wasCurrent}
 use Rattle.model.proofs.Lists.{any-count}
 use Rattle.model.proofs.Book.{Kind, book-is, book-room, book-count, book-add, book-drop, book-found}

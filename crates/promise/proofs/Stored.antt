@@ -14,6 +14,7 @@ use Rattle.terms.specs.declared.Place.{Place}
 use Rattle.layout.specs.declared.Region.the-variants.{Opens, TailRow, Used, Current, PageState}
 use Rattle.layout.specs.View.{View, rowsGiven, transactionsGiven, scansGiven, lastStamp, mergesMade, usedIn}
 use Rattle.layout.specs.Sizes.{sizesOf}
+use Rattle.layout.proofs.Limits.{proper}
 use Rattle.history.specs.History.{History, State, unknown, active, aborted, committed, count, any, nth, isActive, stateOf, rowAt, rangeOf, recordsOf, scanAt}
 use Rattle.history.proofs.Lists.{all-at, parts, eqb-other, eqb-equal, place-any}
 use Rattle.history.specs.Latest.{stampOf}
@@ -25,7 +26,7 @@ use Rattle.history.proofs.Timely.{Timely}
 use Rattle.history.proofs.Links.{noRecord, lastOf, last-of-row}
 use Rattle.scans.specs.Places.{opened, openCount}
 use Rattle.facts.specs.Facts.{inUse, factsHold}
-use Rattle.facts.proofs.Ready.{Stored, sized}
+use Rattle.facts.proofs.Ready.{Stored}
 use Rattle.facts.proofs.Usable.{Linked, Usable}
 use Rattle.terms.specs.Places.{bears, place, freePlace, isScan}
 use Rattle.model.specs.Stored.{rowIn, recordIn, valueIn, pageIn, cellIn, currentIn, placeOf, placesOf, pagesOf, currentPage, scanPlace}

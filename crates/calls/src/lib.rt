@@ -75,6 +75,7 @@ pub fn bytes_needed(columns: u32, ranges: u32, capacity: u32, spares: u32) -> An
     layout::bytes_needed(columns, ranges, capacity, spares)
 }
 
+// The answer as it is: the law by which `make` is proved ends with a function of what was decided.
 fn told(answer: Answer) -> Answer
     ensures { λ r. ⌜ r ≡ answer ⌝ }
 {

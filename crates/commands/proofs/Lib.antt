@@ -1,3 +1,4 @@
+-- Laws of the commands and of their operands.
 pub mod Table
 pub mod Operands
 pub mod Items

@@ -1,2 +1,3 @@
+-- gatebook's commands: what the bytes of an input are, and what the code makes of them.
 pub mod Commands
 pub mod Decoded

@@ -1,2 +1,3 @@
+-- Numbers in decimal, and what is written of them into a buffer.
 pub mod Decimal
 pub mod Written

@@ -1,3 +1,4 @@
+-- What the proofs over the lent list share: the rules, plain types, what is known of its functions, and the laws of the calls.
 pub mod Plain
 pub mod Written
 pub mod Rules

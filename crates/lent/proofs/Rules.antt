@@ -42,6 +42,8 @@ pub use Rattle.terms.specs.declared.Place.{Place}
 use denote.Memory.{pointee}
 use mir.Syntax.{Lifetime, Mutability}
 use Rattle.terms.proofs.Place as P
+use Rattle.lent.proofs.Plain.{type}
+use Rattle.lent.proofs.Types.{p}
 
 -- the elements of the memory and of the list, and the MIR type of a reference to a place
 abbrev pub byte : RattleType
@@ -55,6 +57,31 @@ places κ m = tyRef κ m (pointee (P.the-row .written))
 
 abbrev pub bytes : Lifetime → Mutability → Ty
 bytes κ m = tyRef κ m (tyInt w8)
+
+-- the list lent on to be read and to be changed, and the memory lent on to be changed
+abbrev pub list-read : Ty
+list-read = places erased imm
+
+abbrev pub list-again : Ty
+list-again = places erased mut
+
+abbrev pub memory-again : Ty
+memory-again = bytes erased mut
+
+-- the operand that copies local i
+abbrev pub at : ℕ → Opd
+at i = copy (place i [])
+
+-- local i becomes a pointer to the first place of the list in local 1, and local j that list, lent on
+abbrev pub points : ℕ → Body
+points i = assign (place i []) (addrOf (place 1 (field 0 ∷ deref (type p) ∷ [])))
+
+abbrev pub joins : ℕ → ℕ → Body
+joins i j = assign (place j []) (aggregate (at i ∷ copy (place 1 (field 1 ∷ [])) ∷ []))
+
+-- a contract with no `requires`
+abbrev pub none-asked : {n : ℕ} (ps : List (PK n)) → In n ps
+none-asked ps κs a = Unit {0}
 
 -- the rows of locals that hold a usize or a bool, and of those that hold none
 abbrev pub num : Row

@@ -1,3 +1,4 @@
+-- The laws of the calls, one for each list of arguments: n for none, v a plain value, z a `&[i32]`. Those of `list` may change the list, those of `write` the memory.
 pub mod list_read_v
 pub mod list_v
 pub mod list_vvvv

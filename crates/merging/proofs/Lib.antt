@@ -1,2 +1,3 @@
+-- A merge's pass over the records, and the freeing of pages.
 pub mod Pass
 pub mod Freeing

@@ -1,6 +1,6 @@
 -- One tail record more: the records of its range grow by it, and those of the other ranges stay.
 use mathlib.Core.Path.{_≡_, sym, _∙_, ap}
-use mathlib.Core.Logic.{_≢_, _⊎_, inl, inr}
+use mathlib.Core.Logic.{_≢_, inl, inr}
 use mathlib.Core.Bool.{cond}
 use mathlib.Core.List.{List, [], _∷_, _++_}
 use Prim.Native.Nat.{ℕ, suc, _+_, _*_, _^_, _≤_, _<_}
@@ -12,14 +12,14 @@ use lib.ListN.{length, getD, set, length-append, List·getD-append}
 use lib.Seq.{getD-set-same, getD-set-other, getD-append-seam}
 use Rattle.terms.specs.Measures.{Shape, rangeRows}
 use Rattle.history.specs.History.{Record, State, Content, original, setting, ending, rangeOf}
-use Rattle.history.proofs.Lists.{eqb-other}
+use Rattle.history.proofs.Lists.{by-cases, eqb-same, eqb-other}
 use Rattle.history.proofs.Links.{noRecord, lastOf, last-of-append}
 use Rattle.loops.proofs.Change.{changed-length, changed-outside, changed-at, changed-fit}
 use Rattle.layout.specs.View.{View, renew, put, usedIn}
 use Rattle.layout.specs.declared.Region.the-variants.{RowLink, TailTransaction, TailRow, TailKind, TailMask, TailLink, TailState, TailStamp, TailValues, Used}
 use Rattle.model.specs.Stored.{RecordWords, rowIn, recordIn, valueIn, slot, asOpen}
 use Rattle.model.specs.Writing.{nextSlot, appended, filledIn}
-use Rattle.model.proofs.Lists.{part-in, same-part, eqb-same}
+use Rattle.model.proofs.Lists.{part-in, same-part}
 use Rattle.model.proofs.Represents.{ContentIs, RecordIs, TailIs, TailsFor, Whole}
 use Rattle.model.proofs.Views.{renew-whole, put-whole}
 use Rattle.model.proofs.Heads.{slot-is}
@@ -51,21 +51,17 @@ tail-more : {C : ℕ} {st : ℕ → State} {recs : List Record} {used used′ : 
 tail-more {C} {st} {recs} {used} {used′} {rec} {rec′} {value} {value′} y e f g new link o =
     record {
       used-all = e ∙ ap suc (o .used-all) ∙ sym (simp length-append (omega arith));
-      each = λ k u. each k (ℕ-discrete k (length recs)) (simp length-append at u);
-      links = λ k u. links k (ℕ-discrete k (length recs)) (simp length-append at u);
+      each = λ k u. by-cases (ℕ-discrete k (length recs))
+          (λ q. rw (q, getD-append-seam) new)
+          (λ n. rw (List·getD-append recs (y ∷ []) noRecord k (old k u n)) (record-same (f k (old k u n)) (λ c d. g k c (old k u n) d) (o .each k (old k u n))));
+      links = λ k u. by-cases (ℕ-discrete k (length recs))
+          (λ q. rw (q, getD-append-seam, last-of-append recs (y ∷ []) (y .row) (length recs) (le-refl _)) link)
+          (λ n. let b : k < length recs = old k u n in
+          rw (List·getD-append recs (y ∷ []) noRecord k b, last-of-append recs (y ∷ []) ((getD recs k noRecord) .row) k (omega arith), f k b) (o .links k b));
     }
   where
-    each : (k : ℕ) → Dec (k ≡ length recs) → k < length recs + 1 → RecordIs C st (getD (recs ++ y ∷ []) k noRecord) (rec′ k) (value′ k)
-    each k (yes q) u = rw (q, getD-append-seam) new
-    each k (no n) u =
-        let b : k < length recs = omega (arith, n) in
-        rw (List·getD-append recs (y ∷ []) noRecord k b) (record-same (f k b) (λ c d. g k c b d) (o .each k b))
-
-    links : (k : ℕ) → Dec (k ≡ length recs) → k < length recs + 1 → (rec′ k) .link ≡ lastOf (recs ++ y ∷ []) ((getD (recs ++ y ∷ []) k noRecord) .row) k
-    links k (yes q) u = rw (q, getD-append-seam, last-of-append recs (y ∷ []) (y .row) (length recs) (le-refl _)) link
-    links k (no n) u =
-        let b : k < length recs = omega (arith, n) in
-        rw (List·getD-append recs (y ∷ []) noRecord k b, last-of-append recs (y ∷ []) ((getD recs k noRecord) .row) k (omega arith), f k b) (o .links k b)
+    old : (k : ℕ) → k < length (recs ++ y ∷ []) → k ≢ length recs → k < length recs
+    old k u n = omega (arith, simp length-append at u)
 
 -- ---- every range
 module _ (S : Shape) (v w : View) (st : ℕ → State) (list list′ : ℕ → List Record) (g : ℕ) (y : Record) (inside : g < S .ranges)
@@ -77,18 +73,14 @@ module _ (S : Shape) (v w : View) (st : ℕ → State) (list list′ : ℕ → L
     (new : RecordIs (S .columns) st y (recordIn w (g * S .capacity + length (list g))) (valueIn S w (g * S .capacity + length (list g))))
     (link : (recordIn w (g * S .capacity + length (list g))) .link ≡ lastOf (list g) (y .row) (length (list g))) where
   pub tails-more : TailsFor S st list v → TailsFor S st list′ w
-  tails-more o a b = go (ℕ-discrete g a)
+  tails-more o a b = by-cases (ℕ-discrete g a)
+      (λ e. rw (← e, grows g, eqb-same g)
+      (tail-more y used-here (λ k u. there _ (λ z. omega arith)) (λ k c u d. value-there _ c (λ z. omega arith) d) new link (o g inside)))
+      (λ n. rw (grows a, eqb-other g a n)
+      (tail-same (used-there a (λ z. n (sym z))) (λ k u. there _ (λ z. n (sym (apart k u z)))) (λ k c u d. value-there _ c (λ z. n (sym (apart k u z))) d) (o a b)))
     where
-      go : Dec (g ≡ a) → TailIs (S .columns) st (list′ a) (usedIn w a) (λ k. recordIn w (a * S .capacity + k)) (λ k. valueIn S w (a * S .capacity + k))
-      go (yes e) =
-          rw (← e, grows g, eqb-same g)
-          (tail-more y used-here (λ k u. there _ (λ z. omega arith)) (λ k c u d. value-there _ c (λ z. omega arith) d) new link (o g inside))
-      go (no n) =
-          rw (grows a, eqb-other g a n)
-          (tail-same (used-there a (λ z. n (sym z))) (λ k u. there _ (λ z. n (sym (apart k u z)))) (λ k c u d. value-there _ c (λ z. n (sym (apart k u z))) d) (o a b))
-        where
-          apart : (k : ℕ) → k < length (list a) → a * S .capacity + k ≡ g * S .capacity + length (list g) → a ≡ g
-          apart k u z = same-part (S .capacity) a g k (length (list g)) (le-trans u (few a)) room z .0
+      apart : (k : ℕ) → k < length (list a) → a * S .capacity + k ≡ g * S .capacity + length (list g) → a ≡ g
+      apart k u z = same-part (S .capacity) a g k (length (list g)) (le-trans u (few a)) room z .0
 
 -- ---- the words of an appended record
 module _ (S : Shape) (t r kind mask : ℕ) (v : View) (o : Whole S v) (inside : rangeOf r < S .ranges) (room : usedIn v (rangeOf r) < S .capacity) where
@@ -102,38 +94,23 @@ module _ (S : Shape) (t r kind mask : ℕ) (v : View) (o : Whole S v) (inside : 
   pub slot-in : slot′ < S .ranges * S .capacity
   slot-in = part-in (S .ranges) (S .capacity) (rangeOf r) (usedIn v (rangeOf r)) inside room
 
-  here-word : (l : List ℕ) (x : ℕ) → length l ≡ S .ranges * S .capacity → getD (set l (nextSlot S v (rangeOf r)) x) slot′ 0 ≡ x
-  here-word l x e = rw slot-next (getD-set-same l slot′ x 0 (omega (arith, slot-in)))
+  here-word : (l : List ℕ) (x : ℕ) → slot′ < length l → getD (set l (nextSlot S v (rangeOf r)) x) slot′ 0 ≡ x
+  here-word l x e = rw slot-next (getD-set-same l slot′ x 0 e)
 
   there-word : (l : List ℕ) (x j : ℕ) → j ≢ slot′ → getD (set l (nextSlot S v (rangeOf r)) x) j 0 ≡ getD l j 0
   there-word l x j n = rw slot-next (getD-set-other l slot′ j x 0 n)
 
+  in-tail : (i : Region) → len (sizesOf S) i ≡ S .ranges * S .capacity → slot′ < length (v i)
+  in-tail i e = omega (arith, o .long i, e, slot-in)
+
   pub appended-here : recordIn (appended S t r kind mask v) slot′
       ≡ record { transaction = t; row = r; kind = kind; mask = mask; link = (rowIn v r) .link; state = asOpen; stamp = 0 }
   unfolding appended put renew recordIn
-  appended-here =
-      λ i. record {
-        transaction = here-word (v TailTransaction) t (o .long TailTransaction) i;
-        row = here-word (v TailRow) r (o .long TailRow) i;
-        kind = here-word (v TailKind) kind (o .long TailKind) i;
-        mask = here-word (v TailMask) mask (o .long TailMask) i;
-        link = here-word (v TailLink) ((rowIn v r) .link) (o .long TailLink) i;
-        state = here-word (v TailState) asOpen (o .long TailState) i;
-        stamp = here-word (v TailStamp) 0 (o .long TailStamp) i;
-      }
+  appended-here = simp (here-word, in-tail)
 
   pub appended-there : (j : ℕ) → j ≢ slot′ → recordIn (appended S t r kind mask v) j ≡ recordIn v j
   unfolding appended put renew recordIn
-  appended-there j n =
-      λ i. record {
-        transaction = there-word (v TailTransaction) t j n i;
-        row = there-word (v TailRow) r j n i;
-        kind = there-word (v TailKind) kind j n i;
-        mask = there-word (v TailMask) mask j n i;
-        link = there-word (v TailLink) ((rowIn v r) .link) j n i;
-        state = there-word (v TailState) asOpen j n i;
-        stamp = there-word (v TailStamp) 0 j n i;
-      }
+  appended-there j n = simp there-word
 
   pub used-here : usedIn (appended S t r kind mask v) (rangeOf r) ≡ suc (usedIn v (rangeOf r))
   unfolding appended put renew
@@ -173,11 +150,9 @@ module _ (S : Shape) (s : ℕ) (f : ℕ → ℕ) (v : View) (o : Whole S v) (ins
 
   pub filled-there : (j c : ℕ) → j ≢ s → c < S .columns → valueIn S (filledIn S s f v) j c ≡ valueIn S v j c
   unfolding filledIn renew valueIn
-  filled-there j c n b = changed-outside (λ c w. f c) (s * S .columns) (v TailValues) (S .columns) (j * S .columns + c) (side (decLt j s))
-    where
-      side : Dec (j < s) → (j * S .columns + c < s * S .columns) ⊎ (s * S .columns + S .columns ≤ j * S .columns + c)
-      side (yes u) = inl (omega (arith, mul-le-mul-right (S .columns) u, suc-mul j (S .columns)))
-      side (no u) = let d : suc s ≤ j = omega (arith, u, n) in inr (omega (arith, mul-le-mul-right (S .columns) d, suc-mul s (S .columns)))
+  filled-there j c n b = changed-outside (λ c w. f c) (s * S .columns) (v TailValues) (S .columns) (j * S .columns + c) (by-cases (decLt j s)
+      (λ u. inl (omega (arith, mul-le-mul-right (S .columns) u, suc-mul j (S .columns))))
+      (λ u. let d : suc s ≤ j = omega arith in inr (omega (arith, mul-le-mul-right (S .columns) d, suc-mul s (S .columns)))))
 
   pub filled-whole : ((c : ℕ) → f c < 2 ^ 32) → Whole S (filledIn S s f v)
   unfolding filledIn

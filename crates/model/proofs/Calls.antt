@@ -1,26 +1,26 @@
 -- One call of every kind: the store's tests have the history's outcome, an accepted call has the history's answer, and the relation is kept.
-use mathlib.Core.Path.{_≡_, refl, sym, _∙_, ap, ap₂, subst}
+use mathlib.Core.Path.{_≡_, refl, sym, _∙_, ap, ap₂}
 use mathlib.Core.Logic.{_≢_}
-use mathlib.Core.Bool.{Bool, true, false, not, cond, _&&_, _||_}
+use mathlib.Core.Bool.{Bool, not, cond, _&&_, _||_}
 use mathlib.Core.List.{List, [], _∷_, _++_}
-use Prim.Native.Nat.{ℕ, zero, suc, _+_, _*_, _-_, _^_, _≤_, _<_}
+use Prim.Native.Nat.{ℕ, zero, suc, _+_, _*_, _-_, _≤_, _<_}
 use native.Mathlib.Omega.{arith}
-use native.Mathlib.Nat.{le-refl, mul-le-mul}
+use native.Mathlib.Nat.{add-zero, le-refl}
+use native.Mathlib.Numerals.{add-one}
 use lib.Dec.{T, leb, ltb, eqb, eqb→eq, nleb→lt, nltb→le}
-use lib.ListN.{length, getD, take, length-append}
+use lib.ListN.{length, getD, length-append}
 use lib.IntN.{ℤ, _+ℤ_, +ℤ-assoc, +ℤ-idl, +ℤ-idr}
 use mir.Syntax.{w32}
 use mir.Val.{toZ}
 use Rattle.terms.specs.Measures.{Shape, rangeRows, mostNumbers, mostScans}
+use Rattle.terms.specs.declared.Refusal.{Refusal}
 use Rattle.terms.specs.declared.Answer.{Answer}
 use Rattle.history.specs.History as H
-use Rattle.history.specs.History.{Call, begin, insert, update, delete, commit, abort, latest, readAt, ownRead, openScan, scanRead, sum, close, merge, release, pageCell, lineage, History, Record, active, Test, Verdict, accept, refuse, verdict, tests, reply, effect, answer, next, answerIf, nextIf, any, keep, count, upTo, total, isActive, stateOf, rowAt, rangeOf, recordsOf, mergedThrough, seenAt, seenBy, ended, visible, versionOf, read, scanAt, inserted, lastSetting, cellValue, notActive, notRunning, notGiven, noColumn, noRange, lacksRecords, notLater, later, outOfReach, anyActive, noPage, cellThrough}
-use Rattle.history.specs.Lists.{All}
-use Rattle.history.proofs.Lists.{all-map, all-at, keep-append, any-agree, not-not, neither, parts, eqb-other}
+use Rattle.history.specs.History.{Call, begin, insert, update, delete, commit, abort, latest, readAt, ownRead, openScan, scanRead, sum, close, merge, release, pageCell, lineage, History, Record, active, Test, _when_, Verdict, accept, refuse, verdict, tests, reply, effect, answer, next, answerIf, nextIf, any, keep, count, upTo, total, stateOf, rowAt, rangeOf, recordsOf, seenAt, seenBy, ended, visible, versionOf, read, scanAt, inserted, lastSetting, cellValue, notActive, notRunning, notGiven, noColumn, noRange, lacksRecords, notLater, later, outOfReach, noPage, cellThrough}
+use Rattle.history.proofs.Lists.{by-test, all-map, all-at, keep-append, any-agree, not-not, parts, eqb-other}
 use Rattle.history.proofs.Accepted.{Passed, passed}
-use Rattle.history.proofs.Steps.{step, active-is, by-update, by-delete, made-new}
+use Rattle.history.proofs.Steps.{mergeable, is-active, within-reach, step, by-update, by-delete, made-new}
 use Rattle.history.proofs.Ranges.{last-agree}
-use Rattle.history.proofs.Merges.{merges-most}
 use Rattle.history.proofs.Pages.{cell-is}
 use Rattle.history.proofs.Past.{past-next}
 use Rattle.layout.specs.View.{View, rowsGiven, lastStamp, usedIn}
@@ -29,10 +29,10 @@ use Rattle.terms.specs.declared.Place.{Place}
 use Rattle.terms.specs.Places.{bears, place}
 use Rattle.model.specs.Stored.{pageIn, cellIn, currentIn, within, openPlace, scanPlace, pagesOf}
 use Rattle.model.specs.Reading.{readIn, readCurrent, ownChanges, wordIn, scanPage, Tally, tally, sumIn}
+use Rattle.model.specs.Writing.{freeIn}
 use Rattle.model.specs.Calls.{testsIn, replyIn, actIn, placesAfter, viewIf, placesIf, say, viewNext, placesNext, notOpenIn, noScanIn, notGivenIn, lacksIn, notLaterIn, laterIn, outOfReachIn, Typed}
-use Rattle.model.proofs.Lists.{clash}
-use Rattle.model.proofs.Represents.{everyRow, CurrentIs, Unchanged, scanAs, Represents, Known}
-use Rattle.model.proofs.Transactions.{opens-is, opens-full, open-there, begin-kept, commit-kept, abort-kept}
+use Rattle.model.proofs.Represents.{everyRow, CurrentOf, Unchanged, scanAs, Represents, Known}
+use Rattle.model.proofs.Transactions.{opens-is, opens-full, open-there, active-some, begin-kept, commit-kept, abort-kept}
 use Rattle.model.proofs.Insert.{insert-kept}
 use Rattle.model.proofs.Heads.{in-range, SeesAs, sees-at, sees-own, held-is, gone-is, visible-is}
 use Rattle.model.proofs.Read.{word-is, read-is}
@@ -43,29 +43,15 @@ use Rattle.model.proofs.Merged.{free-is, open-among-is, merge-kept}
 use Rattle.model.proofs.Release.{release-count, release-kept}
 
 -- ---- tests that agree as far as they are run: each has the other's outcome, if those before it passed
-abbrev pub Agree : List Test → List Test → Type 0
-Agree [] [] = Unit {0}
-Agree [] (u ∷ us) = ⊥
-Agree (t ∷ ts) [] = ⊥
-Agree (t ∷ ts) (u ∷ us) = (t .refusal ≡ u .refusal) × (t .fails ≡ u .fails) × (T (not (u .fails)) → Agree ts us)
+pub data Agree : List Test → List Test → Type 0 where
+  done : Agree [] []
+  test : {n : Refusal} {a b : Bool} {ts us : List Test} → a ≡ b → (T (not b) → Agree ts us) → Agree (n when a ∷ ts) (n when b ∷ us)
 
-pub agree-verdict : (ts us : List Test) → Agree ts us → verdict ts ≡ verdict us
+pub agree-verdict : {ts us : List Test} → Agree ts us → verdict ts ≡ verdict us
 unfolding verdict
-agree-verdict [] [] a = refl
-agree-verdict [] (u ∷ us) a = absurd a
-agree-verdict (t ∷ ts) [] a = absurd a
-agree-verdict (t ∷ ts) (u ∷ us) a = rw (a .0, a .1) (go (u .fails) (λ n. agree-verdict ts us (a .2 n)))
-  where
-    go : (b : Bool) → (T (not b) → verdict ts ≡ verdict us) → cond b (refuse (u .refusal)) (verdict ts) ≡ cond b (refuse (u .refusal)) (verdict us)
-    go true f = refl
-    go false f = f tt
-
--- the merges' counter is far from going round
-pub merges-few : {S : Shape} {h : History} → Known S h → suc (length (h .merges)) < 2 ^ 32
-merges-few {S} {h} k =
-    let a : S .columns * S .capacity ≤ 16 * 512 = mul-le-mul (k .small .columns) (k .small .capacity) in
-    let b : S .ranges * (S .columns * S .capacity) ≤ 16 * (16 * 512) = mul-le-mul (k .small .ranges) a in
-    omega (arith, merges-most S h (k .past .merges) (k .past .pages) (k .past .limits))
+agree-verdict done = refl
+agree-verdict (test {n} {b = b} {ts} {us} e f) = rw e
+    (by-test (λ z. cond z (refuse n) (verdict ts) ≡ cond z (refuse n) (verdict us)) b (λ _. refl) (λ u. agree-verdict (f u)))
 
 -- ---- a transaction that changed nothing reads the latest
 own-latest : (h : History) (t r c : ℕ) → r < length (h .rows) → Unchanged (h .rows) (h .tail) t → read (seenAt h (h .last)) h r c ≡ read (seenBy h t) h r c
@@ -90,6 +76,10 @@ unfolding total
 total-append f [] m = sym (+ℤ-idl _)
 total-append f (x ∷ l) m = ap (λ (z : ℤ). f x +ℤ z) (total-append f l m) ∙ sym (+ℤ-assoc (f x) (total f l) (total f m))
 
+-- the rows below n that a reader sees, and their sum
+abbrev tallied : History → (ℕ → Bool) → ℕ → ℕ → Tally
+tallied h f c n = record { count = length (keep (visible f h) (upTo n)); total = total (λ r. versionOf f h r c .value) (keep (visible f h) (upTo n)) }
+
 module _ (S : Shape) (v : View) (ps : List Place) (h : History) (o : Represents S v ps h) (k : Known S h) where
   -- ---- the conditions, one for one
   open-is : (t : ℕ) → notOpenIn v t ≡ notActive h t
@@ -103,10 +93,6 @@ module _ (S : Shape) (v : View) (ps : List Place) (h : History) (o : Represents 
   given-lt : (r : ℕ) → T (not (notGiven h r)) → r < length (h .rows)
   unfolding notGiven
   given-lt r t = nleb→lt (length (h .rows)) r t
-
-  pub active-of : (t : ℕ) → T (not (notActive h t)) → stateOf h t ≡ active
-  unfolding notActive
-  active-of t p = active-is (stateOf h t) (not-not (isActive (stateOf h t)) p)
 
   later-is : (s : ℕ) → laterIn v s ≡ later h s
   unfolding laterIn later
@@ -124,11 +110,11 @@ module _ (S : Shape) (v : View) (ps : List Place) (h : History) (o : Represents 
   unfolding notRunning
   running-of i p = not-not (scanAt h i .running) p
 
-  pub column-lt : (c : ℕ) → T (not (noColumn S c)) → c < S .columns
+  column-lt : (c : ℕ) → T (not (noColumn S c)) → c < S .columns
   unfolding noColumn
   column-lt c t = nleb→lt (S .columns) c t
 
-  pub range-lt : (g : ℕ) → T (not (noRange S g)) → g < S .ranges
+  range-lt : (g : ℕ) → T (not (noRange S g)) → g < S .ranges
   unfolding noRange
   range-lt g t = nleb→lt (S .ranges) g t
 
@@ -143,91 +129,43 @@ module _ (S : Shape) (v : View) (ps : List Place) (h : History) (o : Represents 
   unfolding outOfReachIn outOfReach
   reach-is g c n a b = ap₂ (λ (x y : ℕ). leb n x || ltb y n) (o .currents g c a b .lineage) (o .tails g a .used-all)
 
-  pub above-of : (g c n : ℕ) → T (not (outOfReach h g c n)) → (mergedThrough h g c < n) × (n ≤ length (recordsOf h g))
-  unfolding outOfReach
-  above-of g c n t =
-      let q : T (not (leb n (mergedThrough h g c))) × T (not (ltb (length (recordsOf h g)) n)) = neither (leb n (mergedThrough h g c)) _ t in
-      (nleb→lt n (mergedThrough h g c) (q .0), nltb→le (length (recordsOf h g)) n (q .1))
-
-  no-page-is : leb (pagesOf S) (Rattle.model.specs.Writing.freeIn S v) ≡ noPage S h
+  no-page-is : leb (pagesOf S) (freeIn S v) ≡ noPage S h
   unfolding noPage
   no-page-is = free-is S v (h .merges) (o .pool)
 
   pub tests-agree : (c : Call) → Agree (testsIn S v ps c) (tests S h c)
   unfolding testsIn tests H.allActive H.allGiven H.allRunning
-  tests-agree begin = (refl, ap (leb mostNumbers) (o .header .transactions-given), λ p. (refl, opens-full (h .transactions) (v Opens) (o .whole .long Opens) (o .opens), λ q. tt))
-  tests-agree (insert t vs) = (refl, open-is t, λ p. (refl, ap (leb (S .ranges * rangeRows)) (o .header .rows-given), λ q. tt))
-  tests-agree (update t r m vs) = (
-    refl,
-    open-is t,
-    λ p. (
-      refl,
-      given-is r,
-      λ u. (
-        refl,
-        refl,
-        λ n. (
-          refl,
-          held-is S v ps h o k r (given-lt r u) t,
-          λ f. (
-            refl,
-            gone-is S v ps h o k r (given-lt r u) t (active-of t p) f,
-            λ q. (refl, lacks-is r _ _ (given-lt r u) (wanted-is S v ps h o k r m (given-lt r u) n t vs), λ z. tt),
-          ),
-        ),
-      ),
-    ),
-  )
-  tests-agree (delete t r) = (
-    refl,
-    open-is t,
-    λ p. (
-      refl,
-      given-is r,
-      λ u. (
-        refl,
-        held-is S v ps h o k r (given-lt r u) t,
-        λ f. (
-          refl,
-          gone-is S v ps h o k r (given-lt r u) t (active-of t p) f,
-          λ q. (refl, lacks-is r 1 1 (given-lt r u) refl, λ z. tt),
-        ),
-      ),
-    ),
-  )
-  tests-agree (commit t s) = (refl, open-is t, λ p. (refl, not-later-is s, λ q. tt))
-  tests-agree (abort t) = (refl, open-is t, λ p. tt)
-  tests-agree (latest r c) = (refl, given-is r, λ p. (refl, refl, λ q. tt))
-  tests-agree (readAt s r c) = (refl, later-is s, λ z. (refl, given-is r, λ p. (refl, refl, λ q. tt)))
-  tests-agree (ownRead t r c) = (refl, open-is t, λ z. (refl, given-is r, λ p. (refl, refl, λ q. tt)))
-  tests-agree (openScan s) = (
-    refl,
-    later-is s,
-    λ z. (refl, ap (leb mostNumbers) (o .header .scans-given), λ p. (refl, ap (leb mostScans) (scan-count (h .scans) ps (o .scans)), λ q. tt)),
-  )
-  tests-agree (scanRead i r c) = (refl, scan-running i, λ z. (refl, given-is r, λ p. (refl, refl, λ q. tt)))
-  tests-agree (sum i c) = (refl, scan-running i, λ z. (refl, refl, λ q. tt))
-  tests-agree (close i) = (refl, scan-running i, λ z. tt)
-  tests-agree (merge g c n) = (
-    refl,
-    refl,
-    λ p. (
-      refl,
-      refl,
-      λ q. (
-        refl,
-        reach-is g c n (range-lt g p) (column-lt c q),
-        λ z. (
-          refl,
-          open-among-is S v ps h o g c n (range-lt g p) (column-lt c q) (above-of g c n z .0) (above-of g c n z .1),
-          λ w. (refl, no-page-is, λ y. tt),
-        ),
-      ),
-    ),
-  )
-  tests-agree release = tt
-  tests-agree (pageCell c r) = (refl, refl, λ p. (refl, given-is r, λ q. tt))
-  tests-agree (lineage g c) = (refl, refl, λ p. (refl, refl, λ q. tt))
+  tests-agree begin =
+      test (ap (leb mostNumbers) (o .header .transactions-given)) (λ p. test (opens-full (h .transactions) (v Opens) (o .whole .long Opens) (o .opens)) (λ q. done))
+  tests-agree (insert t vs) = test (open-is t) (λ p. test (ap (leb (S .ranges * rangeRows)) (o .header .rows-given)) (λ q. done))
+  tests-agree (update t r m vs) =
+      test (open-is t) (λ p. test (given-is r) (λ u. test refl (λ n.
+      test (held-is S v ps h o k r (given-lt r u) t) (λ f.
+      test (gone-is S v ps h o k r (given-lt r u) t (is-active h t p) f) (λ q.
+      test (lacks-is r _ _ (given-lt r u) (wanted-is S v ps h o k r m (given-lt r u) n t vs)) (λ z. done))))))
+  tests-agree (delete t r) =
+      test (open-is t) (λ p. test (given-is r) (λ u.
+      test (held-is S v ps h o k r (given-lt r u) t) (λ f.
+      test (gone-is S v ps h o k r (given-lt r u) t (is-active h t p) f) (λ q.
+      test (lacks-is r 1 1 (given-lt r u) refl) (λ z. done)))))
+  tests-agree (commit t s) = test (open-is t) (λ p. test (not-later-is s) (λ q. done))
+  tests-agree (abort t) = test (open-is t) (λ p. done)
+  tests-agree (latest r c) = test (given-is r) (λ p. test refl (λ q. done))
+  tests-agree (readAt s r c) = test (later-is s) (λ z. test (given-is r) (λ p. test refl (λ q. done)))
+  tests-agree (ownRead t r c) = test (open-is t) (λ z. test (given-is r) (λ p. test refl (λ q. done)))
+  tests-agree (openScan s) =
+      test (later-is s) (λ z. test (ap (leb mostNumbers) (o .header .scans-given)) (λ p. test (ap (leb mostScans) (scan-count (h .scans) ps (o .scans))) (λ q. done)))
+  tests-agree (scanRead i r c) = test (scan-running i) (λ z. test (given-is r) (λ p. test refl (λ q. done)))
+  tests-agree (sum i c) = test (scan-running i) (λ z. test refl (λ q. done))
+  tests-agree (close i) = test (scan-running i) (λ z. done)
+  tests-agree (merge g c n) =
+      test refl (λ p. test refl (λ q.
+      test (reach-is g c n (range-lt g p) (column-lt c q)) (λ z.
+      test (open-among-is S v ps h o g c n (range-lt g p) (column-lt c q) (within-reach h g c n z .0) (within-reach h g c n z .1)) (λ w.
+      test no-page-is (λ y. done)))))
+  tests-agree release = done
+  tests-agree (pageCell c r) = test refl (λ p. test (given-is r) (λ q. done))
+  tests-agree (lineage g c) = test refl (λ p. test refl (λ q. done))
 
   -- ---- the answers
   pub current-read : (t me r c : ℕ) (f : ℕ → Bool) → SeesAs h t me f → r < length (h .rows) → c < S .columns → readCurrent S v t me r c ≡ read f h r c
@@ -237,7 +175,10 @@ module _ (S : Shape) (v : View) (ps : List Place) (h : History) (o : Represents 
 
   own-read : (t r c : ℕ) → stateOf h t ≡ active → r < length (h .rows) → c < S .columns → readCurrent S v (lastStamp v) (ownChanges v t) r c ≡ read (seenBy h t) h r c
   unfolding ownChanges openPlace
-  own-read t r c a b d = ap (λ (s : ℕ). readCurrent S v s (cond (eqb noted 0) 0 t) r c) (o .header .last-stamp) ∙ go (eqb noted 0) (eqb→eq noted 0)
+  own-read t r c a b d = ap (λ (s : ℕ). readCurrent S v s (cond (eqb noted 0) 0 t) r c) (o .header .last-stamp) ∙
+      by-test (λ z. readCurrent S v (h .last) (cond z 0 t) r c ≡ read (seenBy h t) h r c) (eqb noted 0)
+      (λ z. current-read (h .last) 0 r c (seenAt h (h .last)) (sees-at h (h .last)) b d ∙ own-latest h t r c b (unchanged (eqb→eq noted 0 z)))
+      (λ _. current-read (h .last) t r c (seenBy h t) (sees-own h t a) b d)
     where
       j : ℕ
       j = place (bears t) (v Opens)
@@ -246,24 +187,13 @@ module _ (S : Shape) (v : View) (ps : List Place) (h : History) (o : Represents 
       noted = getD (v Changes) j 0
 
       here : (j < length (v Opens)) × (getD (v Opens) j 0 ≡ t)
-      here = open-there (h .transactions) (v Opens) (o .opens) t (unfold stateOf isActive in (rw a tt))
+      here = open-there (h .transactions) (v Opens) (o .opens) t (unfold stateOf in a)
 
       not-zero : getD (v Opens) j 0 ≢ 0
-      not-zero e = own-zero (sym (here .1) ∙ e)
-        where
-          own-zero : t ≡ 0 → ⊥
-          own-zero z = unfold stateOf in (zero-idle t z a)
-            where
-              zero-idle : (t : ℕ) → t ≡ 0 → H.nth (h .transactions) t H.unknown ≡ active → ⊥
-              zero-idle zero z a = clash (cc)
-              zero-idle (suc t) z a = omega arith
+      not-zero e = active-some (h .transactions) t (unfold stateOf in a) (sym (here .1) ∙ e)
 
       unchanged : noted ≡ 0 → Unchanged (h .rows) (h .tail) t
-      unchanged e = subst (λ (i : ℕ). Unchanged (h .rows) (h .tail) i) (here .1) (o .notes j (omega (arith, here .0, o .whole .long Opens)) not-zero .none e)
-
-      go : (z : Bool) → (T z → noted ≡ 0) → readCurrent S v (h .last) (cond z 0 t) r c ≡ read (seenBy h t) h r c
-      go true f = current-read (h .last) 0 r c (seenAt h (h .last)) (sees-at h (h .last)) b d ∙ own-latest h t r c b (unchanged (f tt))
-      go false f = current-read (h .last) t r c (seenBy h t) (sees-own h t a) b d
+      unchanged e = rw (here .1) at (o .notes j (omega (arith, here .0, o .whole .long Opens)) not-zero .none e)
 
   found : (i : ℕ) → T (scanAt h i .running) → scanPlace ps i ≡ scanAs i (scanAt h i)
   unfolding scanAt
@@ -278,22 +208,22 @@ module _ (S : Shape) (v : View) (ps : List Place) (h : History) (o : Represents 
   scan-read i r c t b d =
       read-is S v ps h o k (scanAt h i .stamp) 0 _ (sees-at h (scanAt h i .stamp)) r b c d _ _ (o .scanPages i t (rangeOf r) c (in-range k r b) d .holds) (seen-row (scanAt h i .stamp) r)
 
-  -- the rows below n that are seen, and their sum
   tally-is : (i c : ℕ) → T (scanAt h i .running) → c < S .columns → (n : ℕ) → n ≤ length (h .rows)
-      → tally S v (scanAs i (scanAt h i)) c n
-      ≡ record { count = length (keep (visible (seenAt h (scanAt h i .stamp)) h) (upTo n)); total = total (λ r. versionOf (seenAt h (scanAt h i .stamp)) h r c .value) (keep (visible (seenAt h (scanAt h i .stamp)) h) (upTo n)) }
+      → tally S v (scanAs i (scanAt h i)) c n ≡ tallied h (seenAt h (scanAt h i .stamp)) c n
   unfolding tally total
   tally-is i c t d zero b = refl
   tally-is i c t d (suc n) b =
       rw (
         keep-append (visible f h) (upTo n) (n ∷ []),
-        length-append (keep (visible f h) (upTo n)) (keep (visible f h) (n ∷ [])),
-        total-append value (keep (visible f h) (upTo n)) (keep (visible f h) (n ∷ [])),
+        length-append rows (keep (visible f h) (n ∷ [])),
+        total-append value rows (keep (visible f h) (n ∷ [])),
         visible-is S v ps h o k n b (scanAt h i .stamp) 0 f (sees-at h (scanAt h i .stamp)),
         tally-is i c t d n (omega arith),
       )
-      (go (visible f h n)
-      (λ z. word-is S v ps h o k (scanAt h i .stamp) 0 f (sees-at h (scanAt h i .stamp)) n b c d _ _ (o .scanPages i t (rangeOf n) c (in-range k n b) d .holds) (seen-row (scanAt h i .stamp) n z)))
+      (by-test (λ z. _≡_ {A = Tally} (cond z record { count = suc (length rows); total = total value rows +ℤ toZ w32 word } record { count = length rows; total = total value rows })
+      record { count = length rows + length (cond z (n ∷ []) []); total = total value rows +ℤ total value (cond z (n ∷ []) []) }) (visible f h n)
+      (λ z. rw (same z, add-one (length rows), +ℤ-idr (value n)))
+      (λ _. rw (add-zero (length rows), +ℤ-idr (total value rows))))
     where
       f : ℕ → Bool
       f = seenAt h (scanAt h i .stamp)
@@ -304,17 +234,11 @@ module _ (S : Shape) (v : View) (ps : List Place) (h : History) (o : Represents 
       rows : List ℕ
       rows = keep (visible f h) (upTo n)
 
-      go : (z : Bool) → (T z → toZ w32 (wordIn S v (scanAt h i .stamp) 0 (scanPage S v (scanAt h i .before) (rangeOf n) c) n c) ≡ value n)
-          → _≡_ {A = Tally} (cond z record { count = suc (length rows); total = total value rows +ℤ toZ w32 (wordIn S v (scanAt h i .stamp) 0 (scanPage S v (scanAt h i .before) (rangeOf n) c) n c) } record { count = length rows; total = total value rows })
-          record { count = length rows + length (cond z (n ∷ []) []); total = total value rows +ℤ total value (cond z (n ∷ []) []) }
-      go true e = λ j. record { count = plus-one (length rows) j; total = (ap (λ (x : ℤ). total value rows +ℤ x) (e tt ∙ sym (+ℤ-idr (value n)))) j }
-        where
-          plus-one : (x : ℕ) → suc x ≡ x + 1
-          plus-one x = omega arith
-      go false e = λ j. record { count = plus-none (length rows) j; total = sym (+ℤ-idr (total value rows)) j }
-        where
-          plus-none : (x : ℕ) → x ≡ x + 0
-          plus-none x = omega arith
+      word : ℕ
+      word = wordIn S v (scanAt h i .stamp) 0 (scanPage S v (scanAt h i .before) (rangeOf n) c) n c
+
+      same : T (visible f h n) → toZ w32 word ≡ value n
+      same z = word-is S v ps h o k (scanAt h i .stamp) 0 f (sees-at h (scanAt h i .stamp)) n b c d _ _ (o .scanPages i t (rangeOf n) c (in-range k n b) d .holds) (seen-row (scanAt h i .stamp) n z)
 
   sum-same : (i c : ℕ) → T (scanAt h i .running) → c < S .columns → sumIn S v (scanPlace ps i) c ≡ H.sumOf (seenAt h (scanAt h i .stamp)) h c
   unfolding sumIn H.sumOf H.rowsSeen
@@ -325,7 +249,7 @@ module _ (S : Shape) (v : View) (ps : List Place) (h : History) (o : Represents 
 
   cell-same : (c r : ℕ) → c < S .columns → r < length (h .rows) → toZ w32 (cellIn v (currentIn S v (rangeOf r) c) (within r)) ≡ cellValue h c r
   cell-same c r d b =
-      let x : CurrentIs S h (rangeOf r) c (currentIn S v (rangeOf r) c) (pageIn v (currentIn S v (rangeOf r) c)) (cellIn v (currentIn S v (rangeOf r) c)) = o .currents (rangeOf r) c (in-range k r b) d in
+      let x : CurrentOf S h v (rangeOf r) c = o .currents (rangeOf r) c (in-range k r b) d in
       x .holds .cells r refl tt ∙ ap (cellThrough h c r) (x .lineage) ∙ sym (cell-is h c r)
 
   plus-one : (n m : ℕ) → n ≡ m → n + 1 ≡ suc m
@@ -343,7 +267,7 @@ module _ (S : Shape) (v : View) (ps : List Place) (h : History) (o : Represents 
   reply-same (latest r c) p =
       ap (λ (s : ℕ). readCurrent S v s 0 r c) (o .header .last-stamp) ∙ current-read (h .last) 0 r c (seenAt h (h .last)) (sees-at h (h .last)) (given-lt r (p .0)) (column-lt c (p .1 .0))
   reply-same (readAt s r c) p = current-read s 0 r c (seenAt h s) (sees-at h s) (given-lt r (p .1 .0)) (column-lt c (p .1 .1 .0))
-  reply-same (ownRead t r c) p = own-read t r c (active-of t (p .0)) (given-lt r (p .1 .0)) (column-lt c (p .1 .1 .0))
+  reply-same (ownRead t r c) p = own-read t r c (is-active h t (p .0)) (given-lt r (p .1 .0)) (column-lt c (p .1 .1 .0))
   reply-same (openScan s) p = ap Answer.Number (plus-one _ _ (o .header .scans-given))
   reply-same (scanRead i r c) p =
       ap (λ (s : Place). readIn S v (s .stamp) 0 (scanPage S v (s .merges) (rangeOf r) c) r c) (found i (running-of i (p .0)))
@@ -358,30 +282,23 @@ module _ (S : Shape) (v : View) (ps : List Place) (h : History) (o : Represents 
   -- ---- what a call leaves
   free-place : T (not (H.allActive h)) → T (any (λ i. eqb i 0) (v Opens))
   unfolding H.allActive
-  free-place q = not-not (any (λ i. eqb i 0) (v Opens)) (subst (λ (b : Bool). T (not b)) (sym (opens-full (h .transactions) (v Opens) (o .whole .long Opens) (o .opens))) q)
+  free-place q = not-not (any (λ i. eqb i 0) (v Opens)) (rw (opens-full (h .transactions) (v Opens) (o .whole .long Opens) (o .opens)) q)
 
   capacity-of : (r n : ℕ) → T (not (lacksRecords S h r n)) → length (recordsOf h (rangeOf r)) + n ≤ S .capacity
   unfolding lacksRecords
   capacity-of r n q = nltb→le (S .capacity) (length (recordsOf h (rangeOf r)) + n) q
 
-  pub none-active : (g n : ℕ) → T (not (anyActive h g n)) → All (λ (x : Record). stateOf h (x .transaction) ≢ active) (take n (recordsOf h g))
-  unfolding anyActive isActive
-  none-active g n q = all-map (λ (x : Record) u e. rw e at u) (Rattle.history.proofs.Lists.not-any (λ (x : Record). isActive (stateOf h (x .transaction))) (take n (recordsOf h g)) q)
-
-  pub page-room : T (not (noPage S h)) → Rattle.model.specs.Writing.freeIn S v < pagesOf S
-  page-room q = nleb→lt (pagesOf S) (Rattle.model.specs.Writing.freeIn S v) (subst (λ (b : Bool). T (not b)) (sym no-page-is) q)
-
   pub act-kept : (c : Call) → Typed c → Passed (tests S h c) → Represents S (actIn S v ps c) (placesAfter v ps c) (effect S h c)
   unfolding actIn placesAfter effect tests H.allGiven notLater H.allRunning later
   act-kept begin y p = begin-kept S v ps h o k (free-place (p .1 .0)) (step S h begin p) (nleb→lt mostNumbers (length (h .transactions)) (p .0))
-  act-kept (insert t vs) y p = insert-kept S v ps h o k t vs (active-of t (p .0)) (nleb→lt (S .ranges * rangeRows) (length (h .rows)) (p .1 .0)) (y .1) (step S h (insert t vs) p)
+  act-kept (insert t vs) y p = insert-kept S v ps h o k t vs (is-active h t (p .0)) (nleb→lt (S .ranges * rangeRows) (length (h .rows)) (p .1 .0)) (y .1) (step S h (insert t vs) p)
   act-kept (update t r m vs) y p =
-      update-kept S v ps h o k t r m vs (active-of t (p .0)) (given-lt r (p .1 .0)) (p .1 .1 .0) (y .2) (y .3) (capacity-of r _ (p .1 .1 .1 .1 .1 .0)) (step S h (update t r m vs) p)
+      update-kept S v ps h o k t r m vs (is-active h t (p .0)) (given-lt r (p .1 .0)) (p .1 .1 .0) (y .2) (y .3) (capacity-of r _ (p .1 .1 .1 .1 .1 .0)) (step S h (update t r m vs) p)
       (made-new {S = S} (by-update m vs (p .1 .1 .0)))
   act-kept (delete t r) y p =
-      delete-kept S v ps h o k t r (active-of t (p .0)) (given-lt r (p .1 .0)) (capacity-of r 1 (p .1 .1 .1 .1 .0)) (step S h (delete t r) p) (made-new {S = S} by-delete)
-  act-kept (commit t s) y p = commit-kept S v ps h o k t s (active-of t (p .0)) (nleb→lt s (h .last) (p .1 .0)) (y .1) (step S h (commit t s) p)
-  act-kept (abort t) y p = abort-kept S v ps h o k t (active-of t (p .0)) (step S h (abort t) p)
+      delete-kept S v ps h o k t r (is-active h t (p .0)) (given-lt r (p .1 .0)) (capacity-of r 1 (p .1 .1 .1 .1 .0)) (step S h (delete t r) p) (made-new {S = S} by-delete)
+  act-kept (commit t s) y p = commit-kept S v ps h o k t s (is-active h t (p .0)) (nleb→lt s (h .last) (p .1 .0)) (y .1) (step S h (commit t s) p)
+  act-kept (abort t) y p = abort-kept S v ps h o k t (is-active h t (p .0)) (step S h (abort t) p)
   act-kept (latest r c) y p = o
   act-kept (readAt s r c) y p = o
   act-kept (ownRead t r c) y p = o
@@ -390,9 +307,7 @@ module _ (S : Shape) (v : View) (ps : List Place) (h : History) (o : Represents 
   act-kept (scanRead i r c) y p = o
   act-kept (sum i c) y p = o
   act-kept (close i) y p = close-kept S v ps h o k i (running-of i (p .0)) (step S h (close i) p)
-  act-kept (merge g c n) y p =
-      merge-kept S v ps h o k g c n (range-lt g (p .0)) (column-lt c (p .1 .0)) (above-of g c n (p .1 .1 .0) .0) (above-of g c n (p .1 .1 .0) .1) (none-active g n (p .1 .1 .1 .0))
-      (page-room (p .1 .1 .1 .1 .0)) (merges-few k) (step S h (merge g c n) p)
+  act-kept (merge g c n) y p = merge-kept S v ps h o k g c n (mergeable S h g c n p) (step S h (merge g c n) p)
   act-kept release y p = release-kept S v ps h o k (step S h release p)
   act-kept (pageCell c r) y p = o
   act-kept (lineage g c) y p = o
@@ -406,11 +321,11 @@ pub one-call : (S : Shape) (v : View) (ps : List Place) (h : History) (c : Call)
 unfolding say viewNext placesNext answer next
 one-call S v ps h c y o k = (
   ap (λ (w : Verdict). answerIf w (replyIn S v ps c)) same ∙ answers (verdict (tests S h c)) refl,
-  subst (λ (w : Verdict). Represents S (viewIf w v (actIn S v ps c)) (placesIf w ps (placesAfter v ps c)) (nextIf (verdict (tests S h c)) h (effect S h c))) (sym same) (kept (verdict (tests S h c)) refl),
+  rw same (kept (verdict (tests S h c)) refl),
 )
   where
     same : verdict (testsIn S v ps c) ≡ verdict (tests S h c)
-    same = agree-verdict (testsIn S v ps c) (tests S h c) (tests-agree S v ps h o k c)
+    same = agree-verdict (tests-agree S v ps h o k c)
 
     answers : (w : Verdict) → verdict (tests S h c) ≡ w → answerIf w (replyIn S v ps c) ≡ answerIf w (reply S h c)
     answers accept e = ap (answerIf accept) (reply-same S v ps h o k c (passed (tests S h c) e))

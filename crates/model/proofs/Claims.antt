@@ -1,6 +1,6 @@
 -- Demand 2 holds: what is read and what the pages hold follows from the relation, which every list of calls keeps.
-use mathlib.Core.Path.{_≡_, refl, sym, _∙_, ap, subst}
-use mathlib.Core.Bool.{Bool, true, false, cond}
+use mathlib.Core.Path.{_≡_, refl, sym, _∙_, ap}
+use mathlib.Core.Bool.{cond}
 use mathlib.Core.List.{List}
 use Prim.Native.Nat.{ℕ, suc, _+_, _*_, _^_, _≤_, _<_}
 use native.Mathlib.Omega.{arith}
@@ -14,7 +14,8 @@ use Rattle.terms.specs.Measures.{Shape, rangeRows, mostScans, withinLimits}
 use Rattle.terms.specs.declared.Answer.{Answer}
 use Rattle.history.specs.History.{Call, openScan, effect, nextIf, tests, verdict, Verdict, accept, refuse, Scan, withScans, History, Version, start, next, run, seenAt, rowAt, inserted, visible, versionOf, read, rangeOf, mergedThrough, scanAt, cellThrough}
 use Rattle.history.specs.Lists.{All, nil, cons}
-use Rattle.history.proofs.Lists.{parts}
+use Rattle.history.proofs.Lists.{by-test, parts, nth-last}
+use Rattle.history.proofs.Steps.{noScan}
 use Rattle.history.specs.Latest.{latestSetting}
 use Rattle.history.proofs.Latest.{latest-stamp}
 use Rattle.history.proofs.Past.{past-start}
@@ -27,11 +28,11 @@ use Rattle.model.specs.Writing.{made}
 use Rattle.model.specs.Reading.{scanPage, wasCurrent}
 use Rattle.model.specs.Calls.{testsIn, actIn, viewIf, Typed, viewNext, placesNext, viewAfter, listAfter}
 use Rattle.model.specs.Claims.{storeAfter, historyAfter, lastCommitted, Reads, PageHolds, PagesHold, PageKept, ScansKeep}
-use Rattle.model.proofs.Represents.{CurrentIs, Represents, Known}
+use Rattle.model.proofs.Represents.{CurrentOf, Represents, Known}
 use Rattle.model.proofs.Holding.{cell-absent}
 use Rattle.model.proofs.Heads.{sees-at}
 use Rattle.model.proofs.Calls.{current-read, known-next, one-call}
-use Rattle.model.proofs.Scans.{scan-current, nth-last}
+use Rattle.model.proofs.Scans.{scan-current}
 use Rattle.model.proofs.Openings.{SamePage, same-after, scan-later}
 use Rattle.model.proofs.Made.{small-shape, made-represents}
 
@@ -52,21 +53,18 @@ represented S t n enough ys =
 -- ---- reads
 read-committed : {S : Shape} {h : History} → Known S h → (t r c : ℕ) → read (seenAt h t) h r c ≡ lastCommitted h t r c
 unfolding read lastCommitted
-read-committed {h = h} k t r c = go (visible (seenAt h t) h r) (λ z. seen z)
+read-committed {h = h} k t r c =
+    by-test (λ b. cond b (Answer.Value (versionOf (seenAt h t) h r c .value)) Answer.None ≡ cond b (Answer.Value (latestSetting h t r c (inserted h r c) (h .tail) .value)) Answer.None)
+    (visible (seenAt h t) h r)
+    (λ z. ap (λ (y : Version). Answer.Value (y .value)) (sym (latest-stamp h t r c (k .past .order) (seen z)))) (λ _. refl)
   where
     seen : T (visible (seenAt h t) h r) → T (seenAt h t ((rowAt h r) .inserter))
     seen z = unfold visible in (parts (seenAt h t ((rowAt h r) .inserter)) _ z .0)
 
-    go : (b : Bool) → (T b → T (seenAt h t ((rowAt h r) .inserter)))
-        → cond b (Answer.Value (versionOf (seenAt h t) h r c .value)) Answer.None
-        ≡ cond b (Answer.Value (latestSetting h t r c (inserted h r c) (h .tail) .value)) Answer.None
-    go true f = ap (λ (y : Version). Answer.Value (y .value)) (sym (latest-stamp h t r c (k .past .order) (f tt)))
-    go false f = refl
-
 pub reads : Reads
 unfolding Reads
 reads S l n enough cs ys t r c b d =
-    let q : Represents S (storeAfter S n cs) (listAfter S (made S) (replicate n freePlace) cs) (historyAfter S cs) × Known S (historyAfter S cs) = represented S l n enough ys in
+    let q = represented S l n enough ys in
     current-read S (storeAfter S n cs) _ (historyAfter S cs) (q .0) (q .1) t 0 r c (seenAt (historyAfter S cs) t) (sees-at (historyAfter S cs) t) b d
     ∙ read-committed (q .1) t r c
 
@@ -79,9 +77,13 @@ unfolding rangeOf
 row-of g i b = (omega arith, omega arith)
 
 page-holds : (S : Shape) (v : View) (ps : List Place) (h : History) → Represents S v ps h → Known S h → (g c : ℕ) → g < S .ranges → c < S .columns → PageHolds S v h g c
-page-holds S v ps h o k g c a b = record { taken = x .lineage; every-row = every; never-inserted = λ i u n. zero-word (cellIn v (currentIn S v g c) i) (fits i) (every i u ∙ cell-absent h c (g * rangeRows + i) (mergedThrough h g c) (k .past .order) n) }
+page-holds S v ps h o k g c a b = record {
+  taken = x .lineage;
+  every-row = every;
+  never-inserted = λ i u n. zero-word (cellIn v (currentIn S v g c) i) (fits i) (every i u ∙ cell-absent h c (g * rangeRows + i) (mergedThrough h g c) (k .past .order) n);
+}
   where
-    x : CurrentIs S h g c (currentIn S v g c) (pageIn v (currentIn S v g c)) (cellIn v (currentIn S v g c))
+    x : CurrentOf S h v g c
     x = o .currents g c a b
 
     fits : (i : ℕ) → cellIn v (currentIn S v g c) i < 2 ^ 32
@@ -95,14 +97,19 @@ page-holds S v ps h o k g c a b = record { taken = x .lineage; every-row = every
 pub pages-hold : PagesHold
 unfolding PagesHold
 pages-hold S l n enough cs ys g c a b =
-    let q : Represents S (storeAfter S n cs) (listAfter S (made S) (replicate n freePlace) cs) (historyAfter S cs) × Known S (historyAfter S cs) = represented S l n enough ys in
+    let q = represented S l n enough ys in
     page-holds S (storeAfter S n cs) _ (historyAfter S cs) (q .0) (q .1) g c a b
 
 -- ---- the pages of open scans
+-- the scan that has the next number, and what stays
+abbrev Opened : History → History → Type 0
+Opened h h′ =
+    (scanAt h′ (suc (length (h .scans))) .before ≡ length (h .merges)) × (suc (length (h .scans)) ≤ length (h′ .scans)) × (length (h′ .rows) ≡ length (h .rows))
+
 scan-opened : (S : Shape) (h : History) (s : ℕ) → verdict (tests S h (openScan s)) ≡ accept
-    → (scanAt (next S h (openScan s)) (suc (length (h .scans))) .before ≡ length (h .merges)) × (suc (length (h .scans)) ≤ length ((next S h (openScan s)) .scans)) × (length ((next S h (openScan s)) .rows) ≡ length (h .rows))
+    → Opened h (next S h (openScan s))
 unfolding next nextIf effect withScans scanAt
-scan-opened S h s e = rw e (ap (λ (x : Scan). x .before) (nth-last (h .scans) _ _), simp length-append (omega arith), refl)
+scan-opened S h s e = rw e (ap (λ (x : Scan). x .before) (nth-last noScan (h .scans) _), simp length-append (omega arith), refl)
 
 -- opening a scan changes no page
 opened-same : (S : Shape) (v : View) (ps : List Place) (s m g c : ℕ) → (scanPage S (viewNext S v ps (openScan s)) m g c ≡ scanPage S v m g c) × ((q i : ℕ) → cellIn (viewNext S v ps (openScan s)) q i ≡ cellIn v q i)
@@ -118,9 +125,9 @@ pages-kept : (S : Shape) (v : View) (ps : List Place) (h : History) → Represen
     → PageKept S v (viewAfter S (viewNext S v ps (openScan s)) (placesNext S v ps (openScan s)) cs) (run S (next S h (openScan s)) cs) (suc (length (h .scans))) g c (length (h .rows))
 pages-kept S v ps h o k s cs y ys e t g c bg bc =
     record {
-      page = ap (λ (j : ℕ). scanPage S v₂ j g c) before-is ∙ (subst (λ (j : ℕ). scanPage S v₂ j g c ≡ scanPage S v₁ j g c) (new .0) (same .page)) ∙ first;
+      page = ap (λ (j : ℕ). scanPage S v₂ j g c) before-is ∙ (rw (new .0) at (same .page)) ∙ first;
       cells = λ r u f.
-          subst (λ (q : ℕ). cellIn v₂ q (within r) ≡ cellIn v₁ q (within r)) (ap (λ (j : ℕ). scanPage S v₁ j g c) (new .0) ∙ first) (same .cells r (omega (arith, new .2)) f)
+          (rw (new .0, first) at (same .cells r (omega (arith, new .2)) f))
           ∙ opened-same S v ps s (length (h .merges)) g c .1 (currentIn S v g c) (within r);
     }
   where
@@ -136,7 +143,7 @@ pages-kept S v ps h o k s cs y ys e t g c bg bc =
     v₂ : View
     v₂ = viewAfter S (viewNext S v ps (openScan s)) (placesNext S v ps (openScan s)) cs
 
-    new : (scanAt (next S h (openScan s)) (suc (length (h .scans))) .before ≡ length (h .merges)) × (suc (length (h .scans)) ≤ length ((next S h (openScan s)) .scans)) × (length ((next S h (openScan s)) .rows) ≡ length (h .rows))
+    new : Opened h (next S h (openScan s))
     new = scan-opened S h s e
 
     same : SamePage S v₁ v₂ (scanAt h₁ i .before) (length (h₁ .rows)) g c
@@ -151,5 +158,5 @@ pages-kept S v ps h o k s cs y ys e t g c bg bc =
 pub scans-keep : ScansKeep
 unfolding ScansKeep run viewAfter
 scans-keep S l n enough before after s ys (cons y zs) e t g c bg bc =
-    let q : Represents S (storeAfter S n before) (listAfter S (made S) (replicate n freePlace) before) (historyAfter S before) × Known S (historyAfter S before) = represented S l n enough ys in
+    let q = represented S l n enough ys in
     pages-kept S (storeAfter S n before) _ (historyAfter S before) (q .0) (q .1) s after y zs e t g c bg bc

@@ -1,7 +1,7 @@
 -- What a page holds stays right under every step of the history that gives no row of the page, and under an insert into it.
-use mathlib.Core.Path.{_≡_, refl, sym, _∙_, ap}
+use mathlib.Core.Path.{_≡_, sym, _∙_, ap}
 use mathlib.Core.Logic.{_≢_, _⊎_, inl, inr}
-use mathlib.Core.Bool.{Bool, cond, _&&_}
+use mathlib.Core.Bool.{Bool}
 use mathlib.Core.List.{List, [], _∷_, _++_}
 use Prim.Native.Nat.{ℕ, suc, _+_, _≤_, _<_}
 use native.Mathlib.Omega.{arith}
@@ -13,11 +13,13 @@ use lib.IntN.{pos}
 use mir.Syntax.{w32}
 use mir.Val.{toZ}
 use Rattle.terms.specs.Measures.{Shape, rangeRows}
-use Rattle.history.specs.History.{Call, History, Row, Record, Version, isCommitted, stateOf, rowAt, insertedValue, inserted, sets, versionIn, lastSetting, rangeOf, recordsOf, withRows, cellThrough}
-use Rattle.history.specs.Lists.{All, nil, cons}
-use Rattle.history.proofs.Lists.{all-map, all-map₂, all-keep, all-take, eqb-other}
-use Rattle.history.proofs.Steps.{Step, nothing, began, rowGiven, recordsMade, closed, scanOpened, scanClosed, merged, released}
-use Rattle.history.proofs.States.{closing-last}
+use Rattle.history.specs.History.{Call, History, Row, Record, Scan, Merge, Version, isCommitted, stateOf, rowAt, scanAt, stopped, insertedValue, inserted, lastSetting, rangeOf, recordsOf, withRows, withTail, withTransactions, withScans, withMerges, cellThrough}
+use Rattle.history.specs.Lists.{All}
+use Rattle.history.proofs.Lists.{by-cases, all-map, all-map₂, all-keep, all-take, keep-append, length-change, eqb-other}
+use Rattle.history.proofs.Steps.{NewScans, scanOpened, scanClosed, NewMerges, merged, released, Step, nothing, newStates, rowGiven, recordsMade, newScans, newMerges}
+use Rattle.history.proofs.States.{states-last}
+use Rattle.history.proofs.Ranges.{last-unfound}
+use Rattle.history.proofs.Merges.{length-released}
 use Rattle.history.proofs.Order.{InOrder, order-step}
 use Rattle.history.proofs.Pages.{Through, through-step, Settled, settled-step, cell-stays}
 use Rattle.model.specs.Stored.{PageWords, within}
@@ -25,11 +27,7 @@ use Rattle.model.proofs.Represents.{Holds, NotAfter, everyRow}
 
 -- ---- a row that was not given has no records, and 0 in every cell
 pub last-other : (sees : ℕ → Bool) (r c : ℕ) (v : Version) {l : List Record} → All (λ (x : Record). x .row ≢ r) l → lastSetting sees r c v l ≡ v
-unfolding lastSetting
-last-other sees r c v nil = refl
-last-other sees r c v (cons {x = x} {l = l} p ps) =
-    ap (λ (b : Bool). lastSetting sees r c (cond (b && (sets c (x .content) && sees (x .transaction))) (versionIn c x) v) l) (eqb-other (x .row) r p)
-    ∙ last-other sees r c v ps
+last-other sees r c v a = last-unfound sees r c v (all-map (λ x n. rw (eqb-other (x .row) r n)) a)
 
 pub not-given : (h : History) (g n r : ℕ) → InOrder h → length (h .rows) ≤ r → All (λ (x : Record). x .row ≢ r) (take n (recordsOf h g))
 unfolding recordsOf
@@ -44,18 +42,30 @@ unfolding cellThrough inserted
 cell-absent h c r n i b =
     ap (λ (v : Version). v .value) (last-other (λ k. isCommitted (stateOf h k)) r c (inserted h r c) (not-given h (rangeOf r) n r i b)) ∙ absent-inserted h r c b
 
--- ---- the last stamp never falls
-pub last-step : {S : Shape} {x : Call} {h h′ : History} → Step S h x h′ → h .last ≤ h′ .last
-unfolding Rattle.history.specs.History.withTransactions withRows Rattle.history.specs.History.withTail Rattle.history.specs.History.withScans Rattle.history.specs.History.withMerges
-last-step nothing = le-refl _
-last-step (began a b) = le-refl _
-last-step (rowGiven t vs a b) = le-refl _
-last-step (recordsMade t r a b d) = le-refl _
-last-step (closed t a b) = closing-last b
-last-step (scanOpened a b d) = le-refl _
-last-step (scanClosed k a) = le-refl _
-last-step (merged g c n a b d e f j) = le-refl _
-last-step released = le-refl _
+-- ---- what no step lowers
+pub record Grown (h h′ : History) : Type 0 where
+  pub last : h .last ≤ h′ .last
+  pub rows : length (h .rows) ≤ length (h′ .rows)
+  pub records : (g : ℕ) → length (recordsOf h g) ≤ length (recordsOf h′ g)
+  pub scans : length (h .scans) ≤ length (h′ .scans)
+  pub merges : length (h .merges) ≤ length (h′ .merges)
+
+pub grown : {S : Shape} {x : Call} {h h′ : History} → Step S h x h′ → Grown h h′
+unfolding recordsOf withTransactions withRows withTail withScans withMerges
+grown nothing = record { last = le-refl _; rows = le-refl _; records = λ g. le-refl _; scans = le-refl _; merges = le-refl _ }
+grown (newStates n) = record { last = states-last n; rows = le-refl _; records = λ g. le-refl _; scans = le-refl _; merges = le-refl _ }
+grown (rowGiven _ _ _ _) = record { last = le-refl _; rows = simp length-append (omega arith); records = λ g. le-refl _; scans = le-refl _; merges = le-refl _ }
+grown (recordsMade _ _ _ _ _) = record { last = le-refl _; rows = le-refl _; records = λ g. simp (keep-append, length-append) (omega arith); scans = le-refl _; merges = le-refl _ }
+grown {h = h} (newScans n) = record { last = le-refl _; rows = le-refl _; records = λ g. le-refl _; scans = more n; merges = le-refl _ }
+  where
+    more : {l : List Scan} → NewScans h l → length (h .scans) ≤ length l
+    more (scanOpened _ _ _) = simp length-append (omega arith)
+    more (scanClosed k _) = omega (arith, length-change (h .scans) k (stopped (scanAt h k)))
+grown {S} {h = h} (newMerges n) = record { last = le-refl _; rows = le-refl _; records = λ g. le-refl _; scans = le-refl _; merges = more n }
+  where
+    more : {x : Call} {l : List Merge} → NewMerges S h x l → length (h .merges) ≤ length l
+    more (merged _) = simp length-append (omega arith)
+    more released = omega (arith, length-released (h .scans) 0 (h .merges))
 
 -- ---- a step that gives none of the rows in question
 module _ {S : Shape} {y : Call} {h h′ : History} (i : InOrder h) (step : Step S h y h′) (g c : ℕ) (x : PageWords) where
@@ -65,37 +75,37 @@ module _ {S : Shape} {y : Call} {h h′ : History} (i : InOrder h) (step : Step 
       let q : Settled h h′ g (x .lineage) = settled-step i t step in
       rw (q .records) (all-map₂ (λ y e f s n u. f s n (sym e ∙ u)) (q .states) a)
 
-  cell-step : (r : ℕ) → rangeOf r ≡ g → Through h g (x .lineage) → (r < length (h .rows)) ⊎ (length (h′ .rows) ≤ r) → length (h .rows) ≤ length (h′ .rows)
+  cell-step : (r : ℕ) → rangeOf r ≡ g → Through h g (x .lineage) → (r < length (h .rows)) ⊎ (length (h′ .rows) ≤ r)
       → cellThrough h′ c r (x .lineage) ≡ cellThrough h c r (x .lineage)
-  cell-step r e t (inl b) m = cell-stays c r (x .lineage) i (rw e t) b step
-  cell-step r e t (inr b) m = cell-absent h′ c r (x .lineage) (order-step i step) b ∙ sym (cell-absent h c r (x .lineage) i (le-trans m b))
+  cell-step r e t (inl b) = cell-stays c r (x .lineage) i (rw e t) b step
+  cell-step r e t (inr b) = cell-absent h′ c r (x .lineage) (order-step i step) b ∙ sym (cell-absent h c r (x .lineage) i (le-trans (grown step .rows) b))
 
-  pub holds-step : {Q Q′ : ℕ → Type 0} {cell : ℕ → ℕ} → length (h .rows) ≤ length (h′ .rows)
+  pub holds-step : {Q Q′ : ℕ → Type 0} {cell : ℕ → ℕ}
       → ((r : ℕ) → rangeOf r ≡ g → Q′ r → Q r × ((r < length (h .rows)) ⊎ (length (h′ .rows) ≤ r)))
       → Holds h g c Q x cell → Holds h′ g c Q′ x cell
-  holds-step m f o =
+  holds-step f o =
       record {
         through = through-step i (o .through) step;
         newest = newest-step (o .through) (o .newest);
-        stamped = le-trans (o .stamped) (last-step step);
+        stamped = le-trans (o .stamped) (grown step .last);
         cells = λ r e q.
             let p = f r e q in
-            o .cells r e (p .0) ∙ sym (cell-step r e (o .through) (p .1) m);
+            o .cells r e (p .0) ∙ sym (cell-step r e (o .through) (p .1));
       }
 
 -- a row is given or not, where a step gives none
 pub same-rows : (n m r : ℕ) → n ≡ m → (r < n) ⊎ (m ≤ r)
-same-rows n m r e = go (decLt r n)
-  where
-    go : Dec (r < n) → (r < n) ⊎ (m ≤ r)
-    go (yes b) = inl b
-    go (no f) = inr (omega (arith, f))
+same-rows n m r e = by-cases (decLt r n) (λ b. inl b) (λ f. inr (omega arith))
 
 -- only the cells that are looked at matter
 pub holds-cells : {h : History} {g c : ℕ} {Q : ℕ → Type 0} {x : PageWords} {cell cell′ : ℕ → ℕ} → ((r : ℕ) → rangeOf r ≡ g → Q r → cell′ (within r) ≡ cell (within r))
     → Holds h g c Q x cell → Holds h g c Q x cell′
 holds-cells f o =
     record { through = o .through; newest = o .newest; stamped = o .stamped; cells = λ r e q. ap (toZ w32) (f r e q) ∙ o .cells r e q }
+
+pub same-row : (m n : ℕ) → rangeOf m ≡ rangeOf n → within m ≡ within n → m ≡ n
+unfolding rangeOf
+same-row m n a b = omega arith
 
 -- ---- an insert into the page
 abbrev pub withRow : History → Row → History
@@ -124,6 +134,9 @@ cell-new h w c n i =
     (last-other (λ k. isCommitted (stateOf (withRow h w) k)) (length (h .rows)) c (inserted (withRow h w) (length (h .rows)) c) (fresh-row h w (rangeOf (length (h .rows))) n i))
     ∙ ap (λ (x : Row). getD (x .values) c (pos 0)) (row-new h w)
 
+pub other-row : (h : History) (w : Row) (r : ℕ) → r ≢ length (h .rows) → (r < length (h .rows)) ⊎ (length ((withRow h w) .rows) ≤ r)
+other-row h w r f = by-cases (decLt r (length (h .rows))) (λ b. inl b) (λ b. inr (omega (arith, rows-more h w)))
+
 -- The new row's cell gets its value, and the other cells stay.
 pub holds-insert : {S : Shape} {y : Call} {h : History} (w : Row) (g c : ℕ) (x : PageWords) {cell cell′ : ℕ → ℕ} → InOrder h → Step S h y (withRow h w)
     → rangeOf (length (h .rows)) ≡ g → toZ w32 (cell′ (within (length (h .rows)))) ≡ getD (w .values) c (pos 0)
@@ -133,23 +146,8 @@ holds-insert {h = h} w g c x {cell} {cell′} i step e new old o =
     record {
       through = through-step i (o .through) step;
       newest = newest-step i step g c x (o .through) (o .newest);
-      stamped = le-trans (o .stamped) (last-step step);
-      cells = λ r q u. go r q (ℕ-discrete r (length (h .rows)));
+      stamped = le-trans (o .stamped) (grown step .last);
+      cells = λ r q u. by-cases (ℕ-discrete r (length (h .rows)))
+          (λ z. rw z (new ∙ sym (cell-new h w c (x .lineage) i)))
+          (λ f. ap (toZ w32) (old (within r) (omega arith) (λ z. f (omega arith))) ∙ o .cells r q tt ∙ sym (cell-step i step g c x r q (o .through) (other-row h w r f)));
     }
-  where
-    n : ℕ
-    n = length (h .rows)
-
-    side : (r : ℕ) → r ≢ n → (r < n) ⊎ (length ((withRow h w) .rows) ≤ r)
-    side r f = pick (decLt r n)
-      where
-        pick : Dec (r < n) → (r < n) ⊎ (length ((withRow h w) .rows) ≤ r)
-        pick (yes b) = inl b
-        pick (no b) = inr (omega (arith, rows-more h w, b, f))
-
-    go : (r : ℕ) → rangeOf r ≡ g → Dec (r ≡ n) → toZ w32 (cell′ (within r)) ≡ cellThrough (withRow h w) c r (x .lineage)
-    go r q (yes z) = rw z (new ∙ sym (cell-new h w c (x .lineage) i))
-    go r q (no f) =
-        ap (toZ w32) (old (within r) (omega arith) (λ z. f (omega arith)))
-        ∙ o .cells r q tt
-        ∙ sym (cell-step i step g c x r q (o .through) (side r f) (omega (arith, rows-more h w)))

@@ -1,12 +1,12 @@
 -- Insert keeps the relation: a row more, and its values in the current pages of its range.
 use mathlib.Core.Path.{_≡_, refl, sym, _∙_, ap, subst}
-use mathlib.Core.Logic.{_≢_, _⊎_, inl, inr}
+use mathlib.Core.Logic.{_≢_}
 use mathlib.Core.Bool.{false, _&&_}
 use mathlib.Core.List.{List, [], _∷_, _++_}
 use Prim.Native.Nat.{ℕ, zero, suc, _+_, _*_, _/_, _%_, _^_, _≤_, _<_}
 use native.Mathlib.Omega.{arith}
 use native.Mathlib.Nat.{le-refl, not-suc-le-zero}
-use native.Mathlib.Decide.{ℕ-discrete, decLt}
+use native.Mathlib.Decide.{ℕ-discrete}
 use lib.Dec.{T, eqb}
 use lib.ListN.{length, getD, set, length-append, length-set}
 use lib.Seq.{getD-set-same, getD-set-other, take-length}
@@ -16,11 +16,12 @@ use mir.Syntax.{w32}
 use mir.Val.{toZ, ofZ, SFits}
 use mir.ValLaws.{toZ-ofZ, ofZ-fits}
 use Rattle.terms.specs.Measures.{Shape, rangeRows}
-use Rattle.history.specs.History.{insert, History, Row, Record, active, isActive, stateOf, rowAt, bit, sets, rangeOf, recordsOf, mergedThrough, scanAt, seenAt, withRows}
+use Rattle.history.specs.History.{insert, History, Row, Record, active, stateOf, rowAt, bit, sets, rangeOf, recordsOf, mergedThrough, scanAt, seenAt, withRows}
 use Rattle.history.specs.Lists.{All, nil, cons}
-use Rattle.history.proofs.Lists.{all-append, all-map, all-at, any-none, eqb-other}
+use Rattle.history.proofs.Lists.{by-cases, all-append, all-map, all-at, any-none, eqb-other}
 use Rattle.history.proofs.Steps.{Step, wasSet}
 use Rattle.history.specs.Latest.{stampOf}
+use Rattle.history.proofs.States.{active-unseen}
 use Rattle.history.proofs.Timely.{Timely}
 use Rattle.history.proofs.Links.{noRecord, lastOf}
 use Rattle.words.proofs.Words.{Fit}
@@ -34,9 +35,9 @@ use Rattle.model.specs.Stored.{rowIn, recordIn, valueIn, pageIn, cellIn,
 use Rattle.model.specs.Reading.{scanPage, wasCurrent}
 use Rattle.model.specs.Writing.{noted, putCells, insertedAt, insertedIn}
 use Rattle.model.proofs.Lists.{same-part}
-use Rattle.model.proofs.Represents.{stateWord, RowIs, RowsAre, Holds, everyRow, CurrentIs, CurrentsAre, ScanPageIs, ScanPagesAre, NotesAre, Represents, Known, Whole}
-use Rattle.model.proofs.Holding.{withRow, row-new, row-old, rows-more, not-given, holds-step, holds-cells, holds-insert}
-use Rattle.model.proofs.Steady.{waiting-step, scan-page-step, active-unseen}
+use Rattle.model.proofs.Represents.{stateWord, RowsAre, Holds, everyRow, CurrentIs, CurrentOf, CurrentsAre, ScanPageOf, ScanPagesAre, NotesAre, Represents, Known, Whole}
+use Rattle.model.proofs.Holding.{same-row, withRow, row-new, row-old, rows-more, not-given, other-row, holds-step, holds-cells, holds-insert}
+use Rattle.model.proofs.Steady.{waiting-step, scan-cells, scan-page-step}
 use Rattle.model.proofs.Views.{renew-whole, put-whole, header-put, header-same}
 use Rattle.model.proofs.Notes.{notes-more, few-changes, active-given}
 
@@ -71,15 +72,10 @@ module _ (S : Shape) (current : List ℕ) (g i : ℕ) (vs : List ℤ) (cells : L
   pub cells-same : (n c : ℕ) → c < n → ((a b : ℕ) → a < n → b < n → page a ≡ page b → a ≡ b) → page c * rangeRows + i < length cells
       → getD (putCells S current g i vs n cells) (page c * rangeRows + i) 0 ≡ ofZ w32 (getD vs c (pos 0))
   cells-same zero c b d e = absurd (not-suc-le-zero b)
-  cells-same (suc n) c b d e = go (ℕ-discrete c n) (λ u. cells-same n c u (λ x y p q. d x y (omega arith) (omega arith)) e)
-    where
-      go : Dec (c ≡ n) → (c < n → getD (putCells S current g i vs n cells) (page c * rangeRows + i) 0 ≡ ofZ w32 (getD vs c (pos 0)))
-          → getD (putCells S current g i vs (suc n) cells) (page c * rangeRows + i) 0 ≡ ofZ w32 (getD vs c (pos 0))
-      go (yes q) r = rw q (getD-set-same (putCells S current g i vs n cells) (page n * rangeRows + i) _ 0 (omega (arith, cells-length n, ap page q)))
-      go (no q) r =
-          getD-set-other (putCells S current g i vs n cells) (page n * rangeRows + i) (page c * rangeRows + i) _ 0
-          (λ z. q (d c n b (le-refl _) (omega arith)))
-          ∙ r (omega (arith, q))
+  cells-same (suc n) c b d e = by-cases (ℕ-discrete c n)
+      (λ q. rw q (getD-set-same (putCells S current g i vs n cells) (page n * rangeRows + i) _ 0 (omega (arith, cells-length n, ap page q))))
+      (λ q. getD-set-other (putCells S current g i vs n cells) (page n * rangeRows + i) (page c * rangeRows + i) _ 0 (λ z. q (d c n b (le-refl _) (omega arith)))
+      ∙ cells-same n c (omega arith) (λ x y p q. d x y (omega arith) (omega arith)) e)
 
   cells-fit : ((c : ℕ) → ofZ w32 (getD vs c (pos 0)) < 2 ^ 32) → Fit cells → (n : ℕ) → Fit (putCells S current g i vs n cells)
   cells-fit f k zero = k
@@ -120,34 +116,19 @@ module _ (S : Shape) (v : View) (ps : List Place) (h : History) (o : Represents 
 
   insert-rows : RowsAre h′ v′
   unfolding insertedAt noted openPlace put renew rowIn stateOf recordsOf withRows
-  insert-rows i b = go (ℕ-discrete i r)
+  insert-rows i b = by-cases (ℕ-discrete i r)
+      (λ e. rw (e, row-new h row)
+      record {
+        transaction = getD-set-same (v RowTransaction) r t 0 (omega (arith, o .whole .long RowTransaction));
+        state = getD-set-same (v RowState) r asOpen 0 (omega (arith, o .whole .long RowState)) ∙ sym (ap stateWord a);
+        stamp = getD-set-same (v RowStamp) r 0 0 (omega (arith, o .whole .long RowStamp)) ∙ sym (ap stampOf a);
+        link = getD-set-same (v RowLink) r 0 0 (omega (arith, o .whole .long RowLink)) ∙ sym (no-link (recordsOf h (rangeOf r)) r _ (le-refl _) fresh);
+        mask = λ c. ap (λ (m : ℕ). bit m c) (getD-set-same (v RowMask) r 0 0 (omega (arith, o .whole .long RowMask))) ∙ bit-none c ∙ sym (never-set (recordsOf h (rangeOf r)) r c fresh);
+      })
+      (λ f. let u : i < length (h .rows) = omega (arith, rows-more h row) in rw (row-old h row i u) (simp getD-set-other (o .rows i u)))
     where
-      old : i ≢ r → i < length (h .rows)
-      old f = omega (arith, f, rows-more h row)
-
-      go : Dec (i ≡ r) → RowIs (stateOf h) (rowAt h′ i) (recordsOf h (rangeOf i)) i (rowIn v′ i)
-      go (yes e) =
-          rw (e, row-new h row)
-          record {
-            transaction = getD-set-same (v RowTransaction) r t 0 (omega (arith, o .whole .long RowTransaction));
-            state = getD-set-same (v RowState) r asOpen 0 (omega (arith, o .whole .long RowState)) ∙ sym (ap stateWord a);
-            stamp = getD-set-same (v RowStamp) r 0 0 (omega (arith, o .whole .long RowStamp)) ∙ sym (ap stampOf a);
-            link = getD-set-same (v RowLink) r 0 0 (omega (arith, o .whole .long RowLink)) ∙ sym (no-link (recordsOf h (rangeOf r)) r _ (le-refl _) fresh);
-            mask = λ c. ap (λ (m : ℕ). bit m c) (getD-set-same (v RowMask) r 0 0 (omega (arith, o .whole .long RowMask))) ∙ bit-none c ∙ sym (never-set (recordsOf h (rangeOf r)) r c fresh);
-          }
-        where
-          fresh : All (λ (x : Record). x .row ≢ r) (recordsOf h (rangeOf r))
-          fresh = rw take-length at (not-given h (rangeOf r) (length (recordsOf h (rangeOf r))) r (k .past .order) (le-refl _))
-      go (no f) =
-          let y : RowIs (stateOf h) (rowAt h i) (recordsOf h (rangeOf i)) i (rowIn v i) = o .rows i (old f) in
-          rw (row-old h row i (old f))
-          record {
-            transaction = getD-set-other (v RowTransaction) r i t 0 f ∙ y .transaction;
-            state = getD-set-other (v RowState) r i asOpen 0 f ∙ y .state;
-            stamp = getD-set-other (v RowStamp) r i 0 0 f ∙ y .stamp;
-            link = getD-set-other (v RowLink) r i 0 0 f ∙ y .link;
-            mask = λ c. ap (λ (m : ℕ). bit m c) (getD-set-other (v RowMask) r i 0 0 f) ∙ y .mask c;
-          }
+      fresh : All (λ (x : Record). x .row ≢ r) (recordsOf h (rangeOf r))
+      fresh = rw take-length at (not-given h (rangeOf r) (length (recordsOf h (rangeOf r))) r (k .past .order) (le-refl _))
 
   -- what the cells of a page are now: for a page that is of no column of the row's range, and for places other than the row's
   pub cell-kept : (p i : ℕ) → i < rangeRows → ((c : ℕ) → c < S .columns → p ≡ currentIn S v (rangeOf r) c → i ≢ within r) → getD cells′ (p * rangeRows + i) 0 ≡ cellIn v p i
@@ -168,12 +149,17 @@ module _ (S : Shape) (v : View) (ps : List Place) (h : History) (o : Represents 
 
   insert-currents : Step S h (insert t vs) h′ → CurrentsAre S h′ v′
   unfolding insertedAt noted openPlace put renew pageIn cellIn currentIn mergedThrough
-  insert-currents step g c b d = go (ℕ-discrete (rangeOf r) g)
+  insert-currents step g c b d = by-cases (ℕ-discrete (rangeOf r) g)
+      (λ e. packed (holds-insert row g c (pageIn v p) (k .past .order) step e
+      (subst (λ (z : ℕ). toZ w32 (getD cells′ (currentIn S v z c * rangeRows + within r) 0) ≡ getD vs c (pos 0)) e (cell-written c d)) (λ i u f. cell-kept p i u (λ c′ w z. f)) (x .holds)))
+      (λ f. packed
+      (holds-cells (λ i e q. cell-kept p (within i) (omega arith) (λ c′ w z. absurd (f (sym (current-apart S v h (o .currents) g c (rangeOf r) c′ b d inside w z .0)))))
+      (holds-step (k .past .order) step g c (pageIn v p) (λ i e q. (tt, other-row h row i (λ z. f (ap rangeOf (sym z) ∙ e)))) (x .holds))))
     where
       p : ℕ
       p = currentIn S v g c
 
-      x : CurrentIs S h g c p (pageIn v p) (cellIn v p)
+      x : CurrentOf S h v g c
       x = o .currents g c b d
 
       cell : ℕ → ℕ
@@ -183,68 +169,28 @@ module _ (S : Shape) (v : View) (ps : List Place) (h : History) (o : Represents 
       packed q =
           record { inside = x .inside; state = x .state; place = x .place; made = unfold withRows in x .made; lineage = unfold withRows in x .lineage; holds = q }
 
-      go : Dec (rangeOf r ≡ g) → CurrentIs S h′ g c p (pageIn v p) cell
-      go (yes e) =
-          packed
-          (holds-insert row g c (pageIn v p) (k .past .order) step e (subst (λ (z : ℕ). toZ w32 (getD cells′ (currentIn S v z c * rangeRows + within r) 0) ≡ getD vs c (pos 0)) e (cell-written c d))
-          (λ i u f. cell-kept p i u (λ c′ w z. f)) (x .holds))
-      go (no f) =
-          packed
-          (holds-cells (λ i e q. cell-kept p (within i) (within-small i) (λ c′ w z. absurd (f (sym (current-apart S v h (o .currents) g c (rangeOf r) c′ b d inside w z .0)))))
-          (holds-step (k .past .order) step g c (pageIn v p) (omega (arith, rows-more h row)) (λ i e q. (tt, side i (λ z. f (ap rangeOf (sym z) ∙ e)))) (x .holds)))
-        where
-          within-small : (i : ℕ) → within i < rangeRows
-          within-small i = omega arith
-
-          side : (i : ℕ) → i ≢ r → (i < length (h .rows)) ⊎ (length (h′ .rows) ≤ i)
-          side i n = pick (decLt i r)
-            where
-              pick : Dec (i < r) → (i < length (h .rows)) ⊎ (length (h′ .rows) ≤ i)
-              pick (yes u) = inl u
-              pick (no u) = inr (omega (arith, rows-more h row, u, n))
+  -- a page of this place that is a current page of the new row's range has another place in it for each row given before
+  pub scan-apart : (g c p : ℕ) → c < S .columns → (pageIn v p) .place ≡ placeOf S g c → (j : ℕ) → rangeOf j ≡ g → j ≢ r → (c′ : ℕ) → c′ < S .columns → p ≡ currentIn S v (rangeOf r) c′
+      → within j ≢ within r
+  scan-apart g c p d pl j e f c′ w z u =
+      f (same-row j r (e ∙ same-part (S .columns) g (rangeOf r) c c′ d w (sym pl ∙ ap (λ (p : ℕ). (pageIn v p) .place) z ∙ o .currents (rangeOf r) c′ inside w .place) .0) u)
 
   insert-scans : Step S h (insert t vs) h′ → ScanPagesAre S h′ v′
   unfolding insertedAt noted openPlace put renew pageIn cellIn currentIn scanPage wasCurrent scanAt Timely withRows
   insert-scans step i run g c b d =
       let p : ℕ = scanPage S v (scanAt h i .before) g c in
-      let x : ScanPageIs S h (scanAt h i) g c p (pageIn v p) (cellIn v p) = o .scanPages i (unfold withRows in run) g c b d in
-      let y : ScanPageIs S h′ (scanAt h i) g c p (pageIn v p) (cellIn v p) = scan-page-step (k .past .order) step (k .past .timely i) (unfold withRows in le-refl _) x in
-      record {
-        inside = y .inside;
-        early = y .early;
-        place = y .place;
-        made = y .made;
-        holds = holds-cells
-            (λ j e q. cell-kept p (within j) (small j)
-            (λ c′ w z u. apart j c′ e (seen j q) w (x .place) z u))
-            (y .holds);
-      }
+      let x : ScanPageOf S h v (scanAt h i) g c = o .scanPages i (unfold withRows in run) g c b d in
+      scan-cells (λ j e q. cell-kept p (within j) (omega arith) (scan-apart g c p d (x .place) j e (seen j q))) (scan-page-step (k .past .order) step (k .past .timely i) x)
     where
-      small : (j : ℕ) → within j < rangeRows
-      small j = omega arith
-
       -- a row that the scan sees is not the new one, which is open
       seen : (j : ℕ) → T (seenAt h′ (scanAt h i .stamp) ((rowAt h′ j) .inserter)) → j ≢ r
-      seen j q e = active-unseen h′ (scanAt h i .stamp) t (unfold stateOf withRows in a) (subst (λ (w : Row). T (seenAt h′ (scanAt h i .stamp) (w .inserter))) (row-new h row) (subst (λ (n : ℕ). T (seenAt h′ (scanAt h i .stamp) ((rowAt h′ n) .inserter))) e q))
-
-      apart : (j c′ : ℕ) → rangeOf j ≡ g → j ≢ r → c′ < S .columns → (pageIn v (scanPage S v (scanAt h i .before) g c)) .place ≡ placeOf S g c
-          → scanPage S v (scanAt h i .before) g c ≡ currentIn S v (rangeOf r) c′ → within j ≡ within r → ⊥
-      apart j c′ e f w pl z u =
-          let q : g ≡ rangeOf r = same-part (S .columns) g (rangeOf r) c c′ d w (sym pl ∙ ap (λ (p : ℕ). (pageIn v p) .place) z ∙ o .currents (rangeOf r) c′ inside w .place) .0 in
-          f (same-row j r (e ∙ q) u)
-        where
-          same-row : (m n : ℕ) → rangeOf m ≡ rangeOf n → within m ≡ within n → m ≡ n
-          same-row m n a b = unfold rangeOf in (omega arith)
-
-  is-active : T (isActive (stateOf h t))
-  unfolding isActive
-  is-active = rw a tt
+      seen j q e = rw (e, row-new h row, active-unseen h′ (scanAt h i .stamp) t (unfold stateOf withRows in a)) at q
 
   insert-notes : NotesAre (h .rows ++ row ∷ []) (h .tail) (v Opens) (set (v Changes) (place (bears t) (v Opens)) (nextWord (getD (v Changes) (place (bears t) (v Opens)) 0)))
   unfolding stateOf
   insert-notes =
       notes-more (h .rows) (h .rows ++ row ∷ []) (h .tail) (h .tail) (h .transactions) (v Opens) (v Changes) t (o .whole .long Opens) (o .whole .long Changes) (few-changes k)
-      (simp length-append (omega arith)) (λ u f n. record { no-row = all-append (n .no-row) (cons (λ e. f (sym e)) nil); no-record = n .no-record }) (o .opens) is-active (o .notes)
+      (simp length-append (omega arith)) (λ u f n. record { no-row = all-append (n .no-row) (cons (λ e. f (sym e)) nil); no-record = n .no-record }) (o .opens) a (o .notes)
 
   insert-whole : Whole S v′
   unfolding insertedAt noted stateOf
@@ -266,7 +212,7 @@ module _ (S : Shape) (v : View) (ps : List Place) (h : History) (o : Represents 
         rows = insert-rows;
         tails = o .tails;
         currents = insert-currents step;
-        waits = λ p b w. waiting-step step (le-refl _) (o .waits p b w);
+        waits = λ p b w. waiting-step step (λ _ _ _ _. le-refl _) (o .waits p b w);
         pool = o .pool;
         scans = o .scans;
         scanPages = insert-scans step;
@@ -275,4 +221,4 @@ module _ (S : Shape) (v : View) (ps : List Place) (h : History) (o : Represents 
 
   pub insert-kept : Step S h (insert t vs) h′ → Represents S (insertedIn S t vs v) ps h′
   unfolding insertedIn
-  insert-kept step = subst (λ (n : ℕ). Represents S (insertedAt S t vs n v) ps h′) (sym (o .header .rows-given)) (insert-at step)
+  insert-kept step = rw (o .header .rows-given) (insert-at step)

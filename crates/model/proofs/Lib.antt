@@ -1,3 +1,4 @@
+-- That the store answers as the plain history does: Represents is the relation that every call keeps (Calls), and Claims says what follows.
 pub mod Lists
 pub mod Book
 pub mod Represents

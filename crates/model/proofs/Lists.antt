@@ -8,22 +8,18 @@ use Prim.Native.Nat.{ℕ, zero, suc, _+_, _*_, _≤_, _<_, zero-le}
 use native.Mathlib.Omega.{arith}
 use native.Mathlib.Nat.{le-refl, not-suc-le-zero, add-zero, add-suc, suc-add, mul-le-mul-right, suc-mul}
 use native.Mathlib.Decide.{ℕ-discrete, decLt}
-use lib.Dec.{T, leb, ltb, eqb, leb→le, nleb→lt, eqb-refl, lt→ltb}
+use lib.Dec.{T, leb, ltb, eqb, eqb→eq, leb→le, le→leb, T-not}
+use borrow.Author.Tests.{lt-ltb}
 use lib.ListN.{length, getD, set, take}
 use lib.Seq.{take-suc}
 use Rattle.history.specs.History.{any, count}
-use Rattle.history.proofs.Lists.{any-append, is-true, refuted, eqb-equal, eqb-other}
+pub use Rattle.history.proofs.Lists.{one}
+use Rattle.history.proofs.Lists.{by-cases, by-test, cond-suc, any-append, is-true, refuted, eqb-equal, eqb-same, eqb-other}
 use Rattle.terms.specs.Places.{place}
 use Rattle.model.specs.Stored.{firstFrom, countBelow}
 
 pub true-false : true ≡ false → ⊥
 true-false e = let z : _≡_ {A = ℕ} 0 1 = cc in omega arith
-
-pub clash : {A : Type 0} → _≡_ {A = ℕ} 0 1 → A
-clash e = absurd (omega arith)
-
-pub eqb-same : (n : ℕ) → eqb n n ≡ true
-eqb-same n = is-true (eqb n n) (eqb-refl n)
 
 pub is-equal : (a b : ℕ) → a ≡ b → eqb a b ≡ true
 is-equal a b e = is-true (eqb a b) (eqb-equal a b e)
@@ -35,52 +31,37 @@ same-truth false true f g = absurd (g tt)
 same-truth false false f g = refl
 
 -- ---- counts
-abbrev pub one : Bool → ℕ
-one b = cond b 1 0
-
-pub cond-suc : (b : Bool) (n : ℕ) → cond b (suc n) n ≡ n + one b
-cond-suc true n = omega arith
-cond-suc false n = omega arith
-
 module _ {A : Type 0} where
   -- of a list whose first place has the number i
   abbrev pub countFrom : (ℕ → A → Bool) → ℕ → List A → ℕ
   countFrom p i [] = 0
   countFrom p i (x ∷ l) = cond (p i x) (suc (countFrom p (suc i) l)) (countFrom p (suc i) l)
 
-  pub count-set : (f : A → Bool) (l : List A) (i : ℕ) (x d : A) → i < length l
-      → count f (set l i x) + one (f (getD l i d)) ≡ count f l + one (f x)
-  count-set f [] i x d b = absurd (not-suc-le-zero b)
-  count-set f (y ∷ l) zero x d b = omega (arith, cond-suc (f x) (count f l), cond-suc (f y) (count f l))
-  count-set f (y ∷ l) (suc i) x d b =
-      omega (arith, cond-suc (f y) (count f (set l i x)), cond-suc (f y) (count f l), count-set f l i x d (omega arith))
-
   pub any-count : (f : A → Bool) (l : List A) → any f l ≡ ltb 0 (count f l)
   any-count f [] = refl
-  any-count f (x ∷ l) = go (f x) (any-count f l)
-    where
-      go : (b : Bool) → any f l ≡ ltb 0 (count f l) → (b || any f l) ≡ ltb 0 (cond b (suc (count f l)) (count f l))
-      go true e = sym (is-true (ltb 0 (suc (count f l))) (lt→ltb 0 (suc (count f l)) (omega arith)))
-      go false e = e
+  any-count f (x ∷ l) = rw (any-count f l)
+      (elim (f x) as (λ b. (b || ltb 0 (count f l)) ≡ ltb 0 (cond b (suc (count f l)) (count f l))) [ true ↦ sym (lt-ltb 0 (suc (count f l)) (omega arith)) | false ↦ refl ])
 
   pub count-rest : (f : A → Bool) (l : List A) → count f l + count (λ x. not (f x) && true) l ≡ length l
   count-rest f [] = refl
-  count-rest f (x ∷ l) = go (f x) (count-rest f l)
-    where
-      go : (b : Bool) → count f l + count (λ x. not (f x) && true) l ≡ length l
-          → cond b (suc (count f l)) (count f l)
-          + cond (not b && true) (suc (count (λ x. not (f x) && true) l)) (count (λ x. not (f x) && true) l)
-          ≡ suc (length l)
-      go true e = omega arith
-      go false e = omega arith
-
-  pub count-from : (f : A → Bool) (i : ℕ) (l : List A) → count f l ≡ countFrom (λ k x. f x && true) i l
-  count-from f i [] = refl
-  count-from f i (x ∷ l) = rw (and-true (f x), count-from f (suc i) l)
+  count-rest f (x ∷ l) =
+      omega (
+        arith,
+        cond-suc (f x) (count f l),
+        cond-suc (not (f x) && true) (count (λ x. not (f x) && true) l),
+        count-rest f l,
+        elim (f x) as (λ b. one b + one (not b && true) ≡ 1) [ true ↦ refl | false ↦ refl ],
+      )
 
   pub from-count : (f : A → Bool) (i : ℕ) (l : List A) → countFrom (λ k x. f x) i l ≡ count f l
   from-count f i [] = refl
   from-count f i (x ∷ l) = rw (from-count f (suc i) l)
+
+  pub count-ext : (f g : A → Bool) (l : List A) → ((x : A) → f x ≡ g x) → count f l ≡ count g l
+  count-ext f g l e = ap (λ (k : A → Bool). count k l) (fun-ext e)
+
+  pub count-from : (f : A → Bool) (i : ℕ) (l : List A) → count f l ≡ countFrom (λ k x. f x && true) i l
+  count-from f i l = count-ext f _ l (λ x. sym (and-true (f x))) ∙ sym (from-count (λ x. f x && true) i l)
 
   pub from-snoc : (p : ℕ → A → Bool) (i : ℕ) (l : List A) (x : A)
       → countFrom p i (l ++ x ∷ []) ≡ countFrom p i l + one (p (i + length l) x)
@@ -99,6 +80,10 @@ module _ {A : Type 0} where
       let e : countFrom p (suc i) (set l k x) + one (p (i + suc k) (getD l k d)) ≡ countFrom p (suc i) l + one (p (i + suc k) x) =
       rw (add-suc, ← suc-add) (from-set p (suc i) l k x d (omega arith)) in
       omega (arith, cond-suc (p i y) (countFrom p (suc i) (set l k x)), cond-suc (p i y) (countFrom p (suc i) l))
+
+  pub count-set : (f : A → Bool) (l : List A) (i : ℕ) (x d : A) → i < length l
+      → count f (set l i x) + one (f (getD l i d)) ≡ count f l + one (f x)
+  count-set f l i x d b = omega (arith, from-set (λ k x. f x) 0 l i x d b, from-count f 0 (set l i x), from-count f 0 l)
 
   pub from-none : (p : ℕ → A → Bool) (i : ℕ) (l : List A) → ((n : ℕ) (x : A) → i ≤ n → n < i + length l → p n x ≡ false)
       → countFrom p i l ≡ 0
@@ -126,46 +111,26 @@ module _ {A : Type 0} where
   pub take-next : (l : List A) (n : ℕ) (d : A) → n < length l → (f : A → Bool) → any f (take (suc n) l) ≡ (any f (take n l) || (f (getD l n d) || false))
   take-next l n d b f = rw (take-suc l n d b, any-append)
 
-  pub count-ext : (f g : A → Bool) (l : List A) → ((x : A) → f x ≡ g x) → count f l ≡ count g l
-  count-ext f g l e = ap (λ (k : A → Bool). count k l) (fun-ext e)
-
   -- ---- the place that is found
   pub place-lt : (f : A → Bool) (l : List A) → T (any f l) → place f l < length l
-  place-lt f [] t = absurd t
-  place-lt f (x ∷ l) t = go (f x) (λ u. place-lt f l u) t
-    where
-      go : (b : Bool) → (T (any f l) → place f l < length l) → T (b || any f l) → cond b 0 (suc (place f l)) < suc (length l)
-      go true r u = omega arith
-      go false r u = omega (arith, r u)
+  place-lt f [] = λ t. absurd t
+  place-lt f (x ∷ l) = by-test (λ b. T (b || any f l) → cond b 0 (suc (place f l)) < suc (length l)) (f x) (λ _ u. omega arith) (λ _ u. omega (arith, place-lt f l u))
 
   pub place-is : (f : A → Bool) (l : List A) (d : A) → T (any f l) → T (f (getD l (place f l) d))
-  place-is f [] d t = absurd t
-  place-is f (x ∷ l) d t = go (f x) refl (λ u. place-is f l d u) t
-    where
-      go : (b : Bool) → f x ≡ b → (T (any f l) → T (f (getD l (place f l) d))) → T (b || any f l)
-          → T (f (getD (x ∷ l) (cond b 0 (suc (place f l))) d))
-      go true e r u = rw e tt
-      go false e r u = r u
+  place-is f [] d = λ t. absurd t
+  place-is f (x ∷ l) d = by-test (λ b. T (b || any f l) → T (f (getD (x ∷ l) (cond b 0 (suc (place f l))) d))) (f x) (λ t _. t) (λ _ u. place-is f l d u)
 
 -- ---- the first number that passes
 module _ (f : ℕ → Bool) where
   pub first-found : (n i j : ℕ) → i ≤ j → j < i + n → T (f j) → firstFrom f n i < i + n
   first-found zero i j a b t = absurd (omega arith)
-  first-found (suc n) i j a b t = go (f i) refl (ℕ-discrete i j) (λ u. first-found n (suc i) j u (omega arith) t)
-    where
-      go : (c : Bool) → f i ≡ c → Dec (i ≡ j) → (suc i ≤ j → firstFrom f n (suc i) < suc i + n) → cond c i (firstFrom f n (suc i)) < i + suc n
-      go true e d r = omega arith
-      go false e (yes q) r = absurd (rw (ap f (sym q) ∙ e) at t)
-      go false e (no q) r = omega (arith, r (omega (arith, q)))
+  first-found (suc n) i j a b t = by-test (λ c. cond c i (firstFrom f n (suc i)) < i + suc n) (f i) (λ _. omega arith) (λ u. by-cases (ℕ-discrete i j)
+      (λ q. absurd (T-not (f j) (rw q at u) t))
+      (λ q. omega (arith, first-found n (suc i) j (omega arith) (omega arith) t)))
 
   pub first-is : (n i : ℕ) → firstFrom f n i < i + n → T (f (firstFrom f n i))
-  first-is zero i b = absurd (omega arith)
-  first-is (suc n) i b = go (f i) refl b (λ u. first-is n (suc i) u)
-    where
-      go : (c : Bool) → f i ≡ c → cond c i (firstFrom f n (suc i)) < i + suc n
-          → (firstFrom f n (suc i) < suc i + n → T (f (firstFrom f n (suc i)))) → T (f (cond c i (firstFrom f n (suc i))))
-      go true e d r = rw e tt
-      go false e d r = r (omega arith)
+  first-is zero i = λ b. absurd (omega arith)
+  first-is (suc n) i = by-test (λ c. cond c i (firstFrom f n (suc i)) < i + suc n → T (f (cond c i (firstFrom f n (suc i))))) (f i) (λ t _. t) (λ _ b. first-is n (suc i) (omega arith))
 
   pub first-only : (n j : ℕ) → j < n → T (f j) → ((k : ℕ) → k < n → T (f k) → k ≡ j) → firstFrom f n 0 ≡ j
   first-only n j b t u =
@@ -192,30 +157,20 @@ below-all f (suc n) e = rw (e n (le-refl _)) (ap suc (below-all f n (λ k b. e k
 
 pub below-pos : (f : ℕ → Bool) (n p : ℕ) → p < n → T (f p) → 0 < countBelow f n
 below-pos f zero p b t = absurd (not-suc-le-zero b)
-below-pos f (suc n) p b t = go (ℕ-discrete p n) (λ u. below-pos f n p u t)
-  where
-    go : Dec (p ≡ n) → (p < n → 0 < countBelow f n) → 0 < cond (f n) (suc (countBelow f n)) (countBelow f n)
-    go (yes e) r = rw (is-true (f n) (rw e at t)) (omega arith)
-    go (no q) r = omega (arith, cond-suc (f n) (countBelow f n), r (omega (arith, q)))
+below-pos f (suc n) p b t = by-cases (ℕ-discrete p n)
+    (λ e. rw (is-true (f n) (rw e at t)) (omega arith))
+    (λ q. omega (arith, cond-suc (f n) (countBelow f n), below-pos f n p (omega arith) t))
 
 -- the test differs at p alone
 pub below-change : (f g : ℕ → Bool) (n p : ℕ) → p < n → ((k : ℕ) → k < n → k ≢ p → f k ≡ g k)
     → countBelow g n + one (f p) ≡ countBelow f n + one (g p)
 below-change f g zero p b e = absurd (not-suc-le-zero b)
-below-change f g (suc n) p b e = go (ℕ-discrete p n) (λ u. below-change f g n p u (λ k b. e k (omega arith)))
-  where
-    go : Dec (p ≡ n) → (p < n → countBelow g n + one (f p) ≡ countBelow f n + one (g p)) → countBelow g (suc n) + one (f p) ≡ countBelow f (suc n) + one (g p)
-    go (yes q) r =
-        rw q
-        (omega (
-          arith,
-          cond-suc (f n) (countBelow f n),
-          cond-suc (g n) (countBelow g n),
-          below-ext f g n (λ k b. e k (omega arith) (λ z. omega arith)),
-        ))
-    go (no q) r =
-        omega
-        (arith, cond-suc (f n) (countBelow f n), cond-suc (g n) (countBelow g n), ap one (e n (le-refl _) (λ z. q (sym z))), r (omega (arith, q)))
+below-change f g (suc n) p b e =
+    let x = cond-suc (f n) (countBelow f n) in
+    let y = cond-suc (g n) (countBelow g n) in
+    by-cases (ℕ-discrete p n)
+    (λ q. rw q (omega (arith, below-ext f g n (λ k b. e k (omega arith) (λ z. omega arith)))))
+    (λ q. omega (arith, ap one (e n (le-refl _) (λ z. q (sym z))), below-change f g n p (omega arith) (λ k b. e k (omega arith))))
 
 -- of three tests exactly one passes
 pub below-three : (f g h : ℕ → Bool) (n : ℕ) → ((k : ℕ) → one (f k) + one (g k) + one (h k) ≡ 1)
@@ -227,16 +182,10 @@ below-three f g h (suc n) e =
 
 -- none passes exactly if none is found
 pub first-none : (f : ℕ → Bool) (n : ℕ) → leb n (firstFrom f n 0) ≡ eqb (countBelow f n) 0
-first-none f n = go (leb n (firstFrom f n 0)) refl
-  where
-    go : (b : Bool) → leb n (firstFrom f n 0) ≡ b → b ≡ eqb (countBelow f n) 0
-    go true e =
-        let a : n ≤ firstFrom f n 0 = leb→le n _ (rw e tt) in
-        sym (is-equal (countBelow f n) 0 (below-none f n (λ k b. refuted (f k) (λ t. omega (arith, first-found f n 0 k zero-le (omega arith) t)))))
-    go false e =
-        let a : firstFrom f n 0 < n = nleb→lt n (firstFrom f n 0) (rw e tt) in
-        let t : T (f (firstFrom f n 0)) = first-is f n 0 (omega arith) in
-        sym (eqb-other (countBelow f n) 0 (λ z. omega (arith, below-pos f n _ a t)))
+first-none f n = same-truth _ _
+    (λ t. let a : n ≤ firstFrom f n 0 = leb→le n _ t in
+    eqb-equal (countBelow f n) 0 (below-none f n (λ k b. refuted (f k) (λ t. omega (arith, first-found f n 0 k zero-le (omega arith) t)))))
+    (λ t. by-cases (decLt (firstFrom f n 0) n) (λ a. absurd (omega (arith, eqb→eq (countBelow f n) 0 t, below-pos f n _ a (first-is f n 0 (omega arith))))) (λ b. le→leb n _ (omega arith)))
 
 -- ---- equal parts of length n, one after the other: part a starts at a * n
 pub part-in : (m n a i : ℕ) → a < m → i < n → a * n + i < m * n
@@ -246,11 +195,6 @@ pub parts-apart : (n a b i j : ℕ) → i < n → j < n → a < b → a * n + i 
 parts-apart n a b i j u w c = omega (arith, mul-le-mul-right n c, suc-mul a n)
 
 pub same-part : (n a b i j : ℕ) → i < n → j < n → a * n + i ≡ b * n + j → (a ≡ b) × (i ≡ j)
-same-part n a b i j u w e = go (decLt a b) (decLt b a)
-  where
-    go : Dec (a < b) → Dec (b < a) → (a ≡ b) × (i ≡ j)
-    go (yes p) q = absurd (omega (arith, parts-apart n a b i j u w p))
-    go (no p) (yes q) = absurd (omega (arith, parts-apart n b a j i w u q))
-    go (no p) (no q) =
-        let z : a ≡ b = omega (arith, p, q) in
-        (z, omega (arith, ap (λ (k : ℕ). k * n) z))
+same-part n a b i j u w e = by-cases (decLt a b) (λ p. absurd (omega (arith, parts-apart n a b i j u w p))) (λ p. by-cases (decLt b a)
+    (λ q. absurd (omega (arith, parts-apart n b a j i w u q)))
+    (λ q. let z : a ≡ b = omega arith in (z, omega (arith, ap (λ (k : ℕ). k * n) z))))

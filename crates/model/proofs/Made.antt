@@ -1,11 +1,11 @@
 -- A store just made represents the empty history, and every list of calls on it is answered as the history answers it.
-use mathlib.Core.Path.{_≡_, refl, sym, _∙_, ap, subst}
+use mathlib.Core.Path.{_≡_, refl, _∙_, ap}
 use mathlib.Core.Logic.{inr}
 use mathlib.Core.Bool.{Bool, false, not, _&&_}
 use mathlib.Core.List.{List, []}
 use Prim.Native.Nat.{ℕ, zero, suc, _+_, _*_, _≤_, _<_, zero-le}
 use native.Mathlib.Omega.{arith}
-use native.Mathlib.Nat.{le-refl, not-suc-le-zero, zero-add, mul-le-mul}
+use native.Mathlib.Nat.{le-refl, not-suc-le-zero, mul-le-mul}
 use native.Mathlib.Decide.{decLt}
 use lib.Dec.{T, leb, eqb, leb→le}
 use lib.ListN.{length, getD, replicate, length-replicate}
@@ -14,11 +14,11 @@ use mir.Val.{toZ}
 use Rattle.terms.specs.Measures.{Shape, rangeRows, mostScans, mostColumns, mostRanges, mostRecords, mostSpares, between, withinLimits}
 use Rattle.history.specs.History.{Call, History, start, answers, answer, next, count, rowAt, insertedValue, inserted, lastSetting, recordsOf, lastThrough, mergedThrough, scanAt, cellThrough}
 use Rattle.history.specs.Lists.{All, nil, cons}
-use Rattle.history.proofs.Lists.{parts}
+use Rattle.history.proofs.Lists.{by-cases, parts}
 use Rattle.history.proofs.Past.{past-start}
-use Rattle.loops.specs.Change.{changed, numbered}
+use Rattle.loops.specs.Change.{numbered}
 use Rattle.words.proofs.Words.{Fit}
-use Rattle.loops.proofs.Change.{changed-length, changed-outside, changed-at, changed-fit, zeros}
+use Rattle.loops.proofs.Change.{changed-length, changed-outside, changed-fit, zeros}
 use Rattle.layout.specs.Regions.{len}
 use Rattle.layout.specs.View.{View, renew, put}
 use Rattle.layout.specs.declared.Region.{Region}
@@ -26,51 +26,44 @@ use Rattle.layout.specs.declared.Region.the-variants.{Header, Opens, Current, P
 use Rattle.terms.specs.declared.Place.{Place}
 use Rattle.layout.specs.Sizes.{sizesOf}
 use Rattle.terms.specs.Places.{freePlace}
-use Rattle.model.specs.Stored.{PageWords, pageIn, cellIn, currentIn, placeOf, placesOf, pagesOf, within, waitingPage, currentPage, asCurrent, countBelow}
+use Rattle.model.specs.Stored.{pageIn, cellIn, currentIn, placeOf, placesOf, pagesOf, within, waitingPage, currentPage, asCurrent, countBelow}
 use Rattle.model.specs.Writing.{blank, made}
 use Rattle.model.specs.Calls.{Typed, say, viewNext, placesNext, sayAll}
 use Rattle.model.proofs.Lists.{below-all, below-none}
-use Rattle.model.proofs.Represents.{Holds, everyRow, CurrentIs, CurrentsAre, PoolIs, Represents, Small, Known, Whole}
-use Rattle.model.proofs.Views.{renew-whole, put-whole}
+use Rattle.model.proofs.Represents.{Holds, everyRow, CurrentsAre, PoolIs, Represents, Small, Known, Whole}
+use Rattle.model.proofs.Views.{renew-whole, put-whole, changed-start}
 use Rattle.model.proofs.Merged.{place-in}
 use Rattle.model.proofs.Calls.{known-next, one-call}
 
 -- ---- a stretch from the start
-changed-start : (f : ℕ → ℕ → ℕ) (n : ℕ) (l : List ℕ) (i : ℕ) → n ≤ length l → i < n → getD (changed f 0 n l) i 0 ≡ f i (getD l i 0)
-changed-start f n l i a b =
-    ap (λ (j : ℕ). getD (changed f 0 n l) j 0) (sym (zero-add i)) ∙ changed-at f 0 l n i (omega arith) b ∙ ap (λ (j : ℕ). f i (getD l j 0)) (zero-add i)
-
 none-counted : {A : Type 0} (f : A → Bool) (n : ℕ) (x : A) → f x ≡ false → count f (replicate n x) ≡ 0
 none-counted f zero x e = refl
 none-counted f (suc n) x e = rw e (none-counted f n x e)
 
 below-start : (f : ℕ → Bool) (a n : ℕ) → a ≤ n → ((k : ℕ) → a ≤ k → k < n → f k ≡ false) → countBelow f n ≡ countBelow f a
 below-start f a zero b e = let q : 0 ≡ a = omega arith in ap (countBelow f) q
-below-start f a (suc n) b e = go (decLt n a) (λ u. below-start f a n u (λ k c d. e k c (omega arith)))
-  where
-    go : Dec (n < a) → (a ≤ n → countBelow f n ≡ countBelow f a) → countBelow f (suc n) ≡ countBelow f a
-    go (yes u) r = let q : suc n ≡ a = omega arith in ap (countBelow f) q
-    go (no u) r = rw (e n (omega (arith, u)) (le-refl _)) (r (omega (arith, u)))
+below-start f a (suc n) b e = by-cases (decLt n a)
+    (λ u. let q : suc n ≡ a = omega arith in ap (countBelow f) q)
+    (λ u. rw (e n (omega arith) (le-refl _)) (below-start f a n (omega arith) (λ k c d. e k c (omega arith))))
 
 -- ---- the shape's limits as numbers
 pub small-shape : (S : Shape) → T (withinLimits S) → Small S
 unfolding withinLimits
 small-shape S t =
-    let a : T (between 1 mostColumns (S .columns)) × T (between 1 mostRanges (S .ranges) && (between 1 mostRecords (S .capacity) && between 0 mostSpares (S .spares))) = parts (between 1 mostColumns (S .columns)) _ t in
-    let b : T (between 1 mostRanges (S .ranges)) × T (between 1 mostRecords (S .capacity) && between 0 mostSpares (S .spares)) = parts (between 1 mostRanges (S .ranges)) _ (a .1) in
-    let c : T (between 1 mostRecords (S .capacity)) × T (between 0 mostSpares (S .spares)) = parts (between 1 mostRecords (S .capacity)) _ (b .1) in
-    let columns : T (leb 1 (S .columns)) × T (leb (S .columns) mostColumns) = parts (leb 1 (S .columns)) _ (a .0) in
-    let ranges : T (leb 1 (S .ranges)) × T (leb (S .ranges) mostRanges) = parts (leb 1 (S .ranges)) _ (b .0) in
-    let capacity : T (leb 1 (S .capacity)) × T (leb (S .capacity) mostRecords) = parts (leb 1 (S .capacity)) _ (c .0) in
-    let spares : T (leb 0 (S .spares)) × T (leb (S .spares) mostSpares) = parts (leb 0 (S .spares)) _ (c .1) in
+    let a = parts (between 1 mostColumns (S .columns)) _ t in
+    let b = parts (between 1 mostRanges (S .ranges)) _ (a .1) in
+    let c = parts (between 1 mostRecords (S .capacity)) _ (b .1) in
     record {
-      columns = leb→le (S .columns) mostColumns (columns .1);
-      ranges = leb→le (S .ranges) mostRanges (ranges .1);
-      capacity = leb→le (S .capacity) mostRecords (capacity .1);
-      spares = leb→le (S .spares) mostSpares (spares .1);
-      some-column = leb→le 1 (S .columns) (columns .0);
-      some-range = leb→le 1 (S .ranges) (ranges .0);
+      columns = bounds 1 mostColumns (S .columns) (a .0) .1;
+      ranges = bounds 1 mostRanges (S .ranges) (b .0) .1;
+      capacity = bounds 1 mostRecords (S .capacity) (c .0) .1;
+      spares = bounds 0 mostSpares (S .spares) (c .1) .1;
+      some-column = bounds 1 mostColumns (S .columns) (a .0) .0;
+      some-range = bounds 1 mostRanges (S .ranges) (b .0) .0;
     }
+  where
+    bounds : (a b n : ℕ) → T (between a b n) → (a ≤ n) × (n ≤ b)
+    bounds a b n t = let p = parts (leb a n) _ t in (leb→le a n (p .0), leb→le n b (p .1))
 
 module _ (S : Shape) (small : Small S) where
   few-places : placesOf S ≤ 16 * 16
@@ -87,15 +80,7 @@ module _ (S : Shape) (small : Small S) where
 
   page-made : (p : ℕ) → p < placesOf S → pageIn (made S) p ≡ record { state = asCurrent; place = p; made = 0; replaced = 0; lineage = 0; newest = 0 }
   unfolding made blank put renew pageIn
-  page-made p b =
-      λ i. record {
-        state = state-first p b i;
-        place = changed-start (λ i x. i) (placesOf S) (replicate (pagesOf S) 0) p (rw length-replicate (omega arith)) b i;
-        made = zeros (pagesOf S) p i;
-        replaced = zeros (pagesOf S) p i;
-        lineage = zeros (pagesOf S) p i;
-        newest = zeros (pagesOf S) p i;
-      }
+  page-made p b = let room : placesOf S ≤ length {A = ℕ} (replicate (pagesOf S) 0) = rw length-replicate (omega arith) in simp (changed-start, zeros)
 
   current-made : (g c : ℕ) → g < S .ranges → c < S .columns → currentIn S (made S) g c ≡ placeOf S g c
   unfolding made blank put renew currentIn
@@ -117,8 +102,7 @@ module _ (S : Shape) (small : Small S) where
 
   currents-made : CurrentsAre S start (made S)
   currents-made g c a b =
-      subst (λ (p : ℕ). CurrentIs S start g c p (pageIn (made S) p) (cellIn (made S) p)) (sym (current-made g c a b))
-      (subst (λ (x : PageWords). CurrentIs S start g c (placeOf S g c) x (cellIn (made S) (placeOf S g c))) (sym (page-made (placeOf S g c) (place-in S g c a b)))
+      rw (current-made g c a b, page-made (placeOf S g c) (place-in S g c a b))
       record {
         inside = omega (arith, place-in S g c a b);
         state = refl;
@@ -126,14 +110,10 @@ module _ (S : Shape) (small : Small S) where
         made = zero-le;
         lineage = unfold mergedThrough lastThrough start in refl;
         holds = holds-made g c (cellIn (made S) (placeOf S g c)) (cells-made (placeOf S g c)) (placeOf S g c);
-      })
+      }
 
   state-not-waiting : (p : ℕ) → waitingPage ((pageIn (made S) p) .state) ≡ false
-  state-not-waiting p = go (decLt p (placesOf S))
-    where
-      go : Dec (p < placesOf S) → waitingPage ((pageIn (made S) p) .state) ≡ false
-      go (yes b) = ap waitingPage (state-first p b)
-      go (no b) = ap waitingPage (state-rest p (omega (arith, b)))
+  state-not-waiting p = by-cases (decLt p (placesOf S)) (λ b. ap waitingPage (state-first p b)) (λ b. ap waitingPage (state-rest p (omega arith)))
 
   pool-made : PoolIs S [] (pageIn (made S))
   pool-made =
@@ -175,7 +155,7 @@ module _ (S : Shape) (small : Small S) where
         rows = λ r b. absurd (no-rows r b);
         tails = λ g b. unfold made blank put renew start recordsOf in record { used-all = zeros (S .ranges) g; each = λ k u. absurd (not-suc-le-zero u); links = λ k u. absurd (not-suc-le-zero u) };
         currents = currents-made;
-        waits = λ p b t. absurd (subst (λ (w : Bool). T w) (state-not-waiting p) t);
+        waits = λ p b t. absurd (rw (state-not-waiting p) at t);
         pool = unfold start in pool-made;
         scans = unfold start in record { room = rw length-replicate enough; same = λ q. none-counted (λ p. not (eqb (p .number) 0) && q p) n freePlace refl };
         scanPages = λ k t. absurd (no-scan k t);

@@ -8,8 +8,8 @@ use lib.Dec.{eqb}
 use lib.Pow.{shr-shr}
 use lib.Bits.{bitOr, bitXor, differ, or-shr, xor-shr, or-step, xor-step}
 use Rattle.history.specs.History.{bit}
+use Rattle.history.proofs.Lists.{clash}
 use Rattle.model.specs.Writing.{newBits}
-use Rattle.model.proofs.Lists.{clash}
 
 low-or : (p q : ℕ) → p < 2 → q < 2 → eqb (max p q) 1 ≡ (eqb p 1 || eqb q 1)
 low-or zero zero a b = refl

@@ -1,8 +1,8 @@
 -- Merge keeps the relation: the records above the lineage applied forward to a copy of the current page, which waits from then on. The scans find the pages that
 -- they found before.
 use mathlib.Core.Path.{_≡_, refl, sym, _∙_, ap}
-use mathlib.Core.Logic.{_⊎_, inl, inr}
-use mathlib.Core.Bool.{Bool, true, false, not, cond, _&&_, _||_, and-false, or-false}
+use mathlib.Core.Logic.{_≢_, _⊎_, inl, inr}
+use mathlib.Core.Bool.{Bool, true, false, cond, _&&_, _||_, and-false, or-false}
 use mathlib.Core.List.{List}
 use Prim.Native.Nat.{ℕ, zero, suc, _+_, _*_, _-_, _^_, _≤_, _<_, zero-le}
 use native.Mathlib.Omega.{arith}
@@ -16,8 +16,9 @@ use mir.Val.{toZ}
 use Rattle.terms.specs.Measures.{Shape, rangeRows}
 use Rattle.history.specs.History.{History, Record, State, unknown, active, aborted, committed, Content, original, setting, ending, any, isActive, isCommitted, stateOf, bit, sets, newValue, inserted, versionIn, lastSetting, rangeOf, recordsOf}
 use Rattle.history.specs.Lists.{All, nil, cons}
-use Rattle.history.proofs.Lists.{all-append, all-map, all-at, eqb-other}
+use Rattle.history.proofs.Lists.{by-cases, by-test, all-append, all-map, all-at, eqb-other}
 use Rattle.history.specs.Latest.{stampOf}
+use Rattle.history.proofs.States.{Stamped}
 use Rattle.history.proofs.Order.{InOrder}
 use Rattle.history.proofs.Ranges.{last-next, records-range}
 use Rattle.history.proofs.Links.{noRecord}
@@ -28,7 +29,8 @@ use Rattle.layout.specs.declared.Region.the-variants.{TailValues}
 use Rattle.model.specs.Stored.{recordIn, valueIn, slot, within, committedState, settingKind}
 use Rattle.model.specs.Writing.{applies, applied, newestOf, anyOpen}
 use Rattle.model.proofs.Lists.{take-next, is-equal}
-use Rattle.model.proofs.Represents.{stateWord, ContentIs, RecordIs, TailIs, NotAfter}
+use Rattle.model.proofs.Represents.{stateWord, ContentIs, RecordIs, TailOf, NotAfter}
+use Rattle.model.proofs.Holding.{same-row}
 use Rattle.model.proofs.Heads.{slot-is, open-word}
 
 committed-word : (s : State) → committedState (stateWord s) ≡ isCommitted s
@@ -50,7 +52,7 @@ setting-value C c (setting m vs) kind mask value d o t = o .2 c d t
 
 -- ---- the forward pass
 module _ (S : Shape) (v : View) (h : History) (g c p low : ℕ) (inside : c < S .columns)
-    (o : TailIs (S .columns) (stateOf h) (recordsOf h g) (usedIn v g) (λ k. recordIn v (g * S .capacity + k)) (λ k. valueIn S v (g * S .capacity + k))) where
+    (o : TailOf S (stateOf h) (recordsOf h g) v g) where
   abbrev recs : List Record
   recs = recordsOf h g
 
@@ -74,40 +76,33 @@ module _ (S : Shape) (v : View) (h : History) (g c p low : ℕ) (inside : c < S 
       let x : RecordIs (S .columns) (stateOf h) (rec k) (recordIn v (slot S g (suc (low + k)))) (valueIn S v (slot S g (suc (low + k)))) = record-at k b in
       rw (x .state, committed-word (stateOf h ((rec k) .transaction))) (setting-word (S .columns) c ((rec k) .content) _ _ _ (done ((rec k) .transaction)) (x .content))
 
-  pub applied-length : (k : ℕ) (l : List ℕ) → length (applied S v g c p low k l) ≡ length l
+  -- what every put into the page keeps
+  applied-keeps : (P : List ℕ → Type 0) → ((l : List ℕ) (r s : ℕ) → P l → P (set l (p * rangeRows + within r) (valueIn S v s c))) → (k : ℕ) (l : List ℕ) → P l
+      → P (applied S v g c p low k l)
   unfolding applied
-  applied-length zero l = refl
-  applied-length (suc k) l = go (applies c (recordIn v (slot S g (suc (low + k))))) (applied-length k l)
-    where
-      go : (b : Bool) → length (applied S v g c p low k l) ≡ length l
-          → length (cond b (set (applied S v g c p low k l) (p * rangeRows + within ((recordIn v (slot S g (suc (low + k)))) .row)) (valueIn S v (slot S g (suc (low + k))) c)) (applied S v g c p low k l)) ≡ length l
-      go true e = rw length-set e
-      go false e = e
+  applied-keeps P kept zero l o = o
+  applied-keeps P kept (suc k) l o =
+      let s = slot S g (suc (low + k)) in
+      let done = applied S v g c p low k l in
+      elim (applies c (recordIn v s)) as (λ b. P (cond b (set done (p * rangeRows + within ((recordIn v s) .row)) (valueIn S v s c)) done)) [
+        | true ↦ kept done _ _ (applied-keeps P kept k l o)
+        | false ↦ applied-keeps P kept k l o
+      ]
+
+  pub applied-length : (k : ℕ) (l : List ℕ) → length (applied S v g c p low k l) ≡ length l
+  applied-length k l = applied-keeps (λ m. length m ≡ length l) (λ m r s e. length-set m _ _ ∙ e) k l refl
 
   pub applied-fit : Fit (v TailValues) → (k : ℕ) (l : List ℕ) → Fit l → Fit (applied S v g c p low k l)
-  unfolding applied valueIn
-  applied-fit w zero l f = f
-  applied-fit w (suc k) l f = go (applies c (recordIn v (slot S g (suc (low + k))))) (applied-fit w k l f)
-    where
-      go : (b : Bool) → Fit (applied S v g c p low k l)
-          → Fit (cond b (set (applied S v g c p low k l) (p * rangeRows + within ((recordIn v (slot S g (suc (low + k)))) .row)) (valueIn S v (slot S g (suc (low + k))) c)) (applied S v g c p low k l))
-      go true e = set-fit (applied S v g c p low k l) _ _ e (w _)
-      go false e = e
+  unfolding valueIn
+  applied-fit w = applied-keeps Fit (λ m r s f. set-fit m _ _ f (w _))
 
   -- other pages stay
   pub applied-outside : (k : ℕ) (l : List ℕ) (j : ℕ) → (j < p * rangeRows) ⊎ (p * rangeRows + rangeRows ≤ j) → getD (applied S v g c p low k l) j 0 ≡ getD l j 0
-  unfolding applied
-  applied-outside zero l j d = refl
-  applied-outside (suc k) l j d = go (applies c (recordIn v (slot S g (suc (low + k))))) (applied-outside k l j d) d
+  applied-outside k l j d = applied-keeps (λ m. getD m j 0 ≡ getD l j 0) (λ m r s e. getD-set-other m _ j _ 0 (apart r d) ∙ e) k l refl
     where
-      i : ℕ
-      i = (recordIn v (slot S g (suc (low + k)))) .row
-
-      go : (b : Bool) → getD (applied S v g c p low k l) j 0 ≡ getD l j 0 → (j < p * rangeRows) ⊎ (p * rangeRows + rangeRows ≤ j)
-          → getD (cond b (set (applied S v g c p low k l) (p * rangeRows + within i) (valueIn S v (slot S g (suc (low + k))) c)) (applied S v g c p low k l)) j 0 ≡ getD l j 0
-      go true e (inl u) = getD-set-other (applied S v g c p low k l) (p * rangeRows + within i) j _ 0 (λ z. omega arith) ∙ e
-      go true e (inr u) = getD-set-other (applied S v g c p low k l) (p * rangeRows + within i) j _ 0 (λ z. omega arith) ∙ e
-      go false e d = e
+      apart : (r : ℕ) → (j < p * rangeRows) ⊎ (p * rangeRows + rangeRows ≤ j) → j ≢ p * rangeRows + within r
+      apart r (inl u) z = omega arith
+      apart r (inr u) z = omega arith
 
   pub applied-is : (l : List ℕ) → p * rangeRows + rangeRows ≤ length l → (r : ℕ) → rangeOf r ≡ g
       → toZ w32 (getD l (p * rangeRows + within r) 0) ≡ lastSetting done r c (inserted h r c) (take low recs) .value
@@ -129,31 +124,19 @@ module _ (S : Shape) (v : View) (h : History) (g c p low : ℕ) (inside : c < S 
       -- the cell of row r after a put at the record's row
       put-at : low + k < length recs → (x : ℕ) → getD (set before (p * rangeRows + within ((recordIn v s) .row)) x) (p * rangeRows + within r) 0
           ≡ cond (eqb ((rec k) .row) r) x (getD before (p * rangeRows + within r) 0)
-      put-at u x = cases (ℕ-discrete ((rec k) .row) r)
-        where
-          cases : Dec ((rec k) .row ≡ r) → getD (set before (p * rangeRows + within ((recordIn v s) .row)) x) (p * rangeRows + within r) 0
-              ≡ cond (eqb ((rec k) .row) r) x (getD before (p * rangeRows + within r) 0)
-          cases (yes q) =
-              rw (is-equal ((rec k) .row) r q, record-at k u .row ∙ q)
-              (getD-set-same before (p * rangeRows + within r) x 0 (omega (arith, applied-length k l)))
-          cases (no f) =
-              rw (eqb-other ((rec k) .row) r f)
-              (getD-set-other before (p * rangeRows + within ((recordIn v s) .row)) (p * rangeRows + within r) x 0
-              (λ z. f (same-row ((rec k) .row) r (all-at (records-range h g) (low + k) noRecord u ∙ sym e) (omega (arith, record-at k u .row, z)))))
-            where
-              same-row : (m n : ℕ) → rangeOf m ≡ rangeOf n → within m ≡ within n → m ≡ n
-              same-row m n a b = unfold rangeOf in (omega arith)
+      put-at u x = by-cases (ℕ-discrete ((rec k) .row) r)
+          (λ q. rw (is-equal ((rec k) .row) r q, record-at k u .row ∙ q) (getD-set-same before (p * rangeRows + within r) x 0 (omega (arith, applied-length k l))))
+          (λ f. rw (eqb-other ((rec k) .row) r f)
+          (getD-set-other before (p * rangeRows + within ((recordIn v s) .row)) (p * rangeRows + within r) x 0
+          (λ z. f (same-row ((rec k) .row) r (all-at (records-range h g) (low + k) noRecord u ∙ sym e) (omega (arith, record-at k u .row, z))))))
 
       go : low + k < length recs → (q : Bool) → (T q → toZ w32 (valueIn S v s c) ≡ newValue c ((rec k) .content)) → (d : Bool)
           → toZ w32 (getD before (p * rangeRows + within r) 0) ≡ lastSetting done r c (inserted h r c) (take (low + k) recs) .value
           → toZ w32 (getD (cond (q && d) (set before (p * rangeRows + within ((recordIn v s) .row)) (valueIn S v s c)) before) (p * rangeRows + within r) 0)
           ≡ cond (eqb ((rec k) .row) r && (q && d)) (versionIn c (rec k)) (lastSetting done r c (inserted h r c) (take (low + k) recs)) .value
-      go u true f true ih = ap (toZ w32) (put-at u (valueIn S v s c)) ∙ pick (eqb ((rec k) .row) r)
-        where
-          pick : (z : Bool) → toZ w32 (cond z (valueIn S v s c) (getD before (p * rangeRows + within r) 0))
-              ≡ cond (z && true) (versionIn c (rec k)) (lastSetting done r c (inserted h r c) (take (low + k) recs)) .value
-          pick true = unfold versionIn in (f tt)
-          pick false = ih
+      go u true f true ih = ap (toZ w32) (put-at u (valueIn S v s c))
+          ∙ elim (eqb ((rec k) .row) r) as (λ z. toZ w32 (cond z (valueIn S v s c) (getD before (p * rangeRows + within r) 0))
+          ≡ cond (z && true) (versionIn c (rec k)) (lastSetting done r c (inserted h r c) (take (low + k) recs)) .value) [ true ↦ unfold versionIn in (f tt) | false ↦ ih ]
       go u true f false ih = rw (and-false (eqb ((rec k) .row) r)) ih
       go u false f d ih = rw (and-false (eqb ((rec k) .row) r)) ih
 
@@ -176,48 +159,36 @@ module _ (S : Shape) (v : View) (h : History) (g c p low : ℕ) (inside : c < S 
       st = stampOf (stateOf h ((rec k) .transaction))
 
       grows : (a : Bool) → old ≤ cond (a && ltb old st) st old
-      grows true = more (ltb old st) (ltb→lt old st)
-        where
-          more : (d : Bool) → (T d → old < st) → old ≤ cond d st old
-          more true f = omega (arith, f tt)
-          more false f = le-refl _
+      grows true = by-test (λ d. old ≤ cond d st old) (ltb old st) (λ t. omega (arith, ltb→lt old st t)) (λ _. le-refl _)
       grows false = le-refl _
 
       covers : (x : State) (q : Bool) → T q → (a : ℕ) → x ≡ committed a → a ≤ cond (q && isCommitted x && ltb old (stampOf x)) (stampOf x) old
-      covers x true t a e = rw e (unfold isCommitted in (more (ltb old a) (nltb→le old a)))
-        where
-          more : (d : Bool) → (T (not d) → a ≤ old) → a ≤ cond d a old
-          more true f = le-refl _
-          more false f = f tt
+      covers x true t a e = rw e (unfold isCommitted in (by-test (λ d. a ≤ cond d a old) (ltb old a) (λ _. le-refl _) (nltb→le old a)))
 
-  pub newest-fit : (s : ℕ) → s < 2 ^ 32 → Fit (v Rattle.layout.specs.declared.Region.the-variants.TailStamp) → (k : ℕ) → newestOf S v g c low k s < 2 ^ 32
-  unfolding newestOf recordIn
-  newest-fit s b f zero = b
-  newest-fit s b f (suc k) = go (applies c (recordIn v (slot S g (suc (low + k)))) && ltb (newestOf S v g c low k s) ((recordIn v (slot S g (suc (low + k)))) .stamp)) (newest-fit s b f k)
-    where
-      go : (q : Bool) → newestOf S v g c low k s < 2 ^ 32 → cond q ((recordIn v (slot S g (suc (low + k)))) .stamp) (newestOf S v g c low k s) < 2 ^ 32
-      go true e = f (slot S g (suc (low + k)))
-      go false e = e
+  -- what the first stamp and those of the records have in common
+  newest-keeps : (P : ℕ → Type 0) (s : ℕ) → P s → (k : ℕ) → ((j : ℕ) → j < k → P ((recordIn v (slot S g (suc (low + j)))) .stamp)) → P (newestOf S v g c low k s)
+  unfolding newestOf
+  newest-keeps P s b zero f = b
+  newest-keeps P s b (suc k) f =
+      let x = recordIn v (slot S g (suc (low + k))) in
+      let done = newestOf S v g c low k s in
+      elim (applies c x && ltb done (x .stamp)) as (λ q. P (cond q (x .stamp) done)) [ true ↦ f k (le-refl _) | false ↦ newest-keeps P s b k (λ j u. f j (omega arith)) ]
+
+  pub newest-fit : (s : ℕ) → s < 2 ^ 32 → Fit (v TailStamp) → (k : ℕ) → newestOf S v g c low k s < 2 ^ 32
+  unfolding recordIn
+  newest-fit s b f k = newest-keeps (λ n. n < 2 ^ 32) s b k (λ j _. f _)
 
   -- no stamp is after the last commit's
   pub newest-last : InOrder h → (s : ℕ) → s ≤ h .last → (k : ℕ) → low + k ≤ length recs → newestOf S v g c low k s ≤ h .last
-  unfolding newestOf
-  newest-last i s b zero d = b
-  newest-last i s b (suc k) d =
-      go (omega arith) (applies c (recordIn v (slot S g (suc (low + k)))) && ltb (newestOf S v g c low k s) ((recordIn v (slot S g (suc (low + k)))) .stamp)) (newest-last i s b k (omega arith))
+  unfolding Stamped
+  newest-last i s b k d =
+      newest-keeps (λ n. n ≤ h .last) s b k (λ j u. omega (arith, record-at j (omega arith) .stamp, stamp-last (stateOf h ((rec j) .transaction)) (i .stamps ((rec j) .transaction))))
     where
-      stamp-last : (k : ℕ) → stampOf (stateOf h k) ≤ h .last
-      stamp-last k = pick (stateOf h k) refl
-        where
-          pick : (x : State) → stateOf h k ≡ x → stampOf x ≤ h .last
-          pick unknown e = zero-le
-          pick active e = zero-le
-          pick aborted e = zero-le
-          pick (committed a) e = unfold Rattle.history.proofs.States.Stamped in (i .stamps k a e)
-
-      go : low + k < length recs → (q : Bool) → newestOf S v g c low k s ≤ h .last → cond q ((recordIn v (slot S g (suc (low + k)))) .stamp) (newestOf S v g c low k s) ≤ h .last
-      go u true e = omega (arith, record-at k u .stamp, stamp-last ((rec k) .transaction))
-      go u false e = e
+      stamp-last : (x : State) → ((a : ℕ) → x ≡ committed a → a ≤ h .last) → stampOf x ≤ h .last
+      stamp-last unknown f = zero-le
+      stamp-last active f = zero-le
+      stamp-last aborted f = zero-le
+      stamp-last (committed a) f = f a refl
 
   -- ---- test 17 looks at the records above the lineage only
   pub any-open-is : any (λ (y : Record). isActive (stateOf h (y .transaction))) (take low recs) ≡ false → (k : ℕ) → low + k ≤ length recs

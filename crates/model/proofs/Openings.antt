@@ -1,38 +1,35 @@
 -- A running scan reads the pages that were current at its opening: no call makes it find another page, and no call writes a cell of a row that was given before.
-use mathlib.Core.Path.{_≡_, refl, sym, _∙_, ap, subst}
-use mathlib.Core.Logic.{_≢_}
-use mathlib.Core.Bool.{Bool, true, false, not, cond}
+use mathlib.Core.Path.{_≡_, refl, _∙_}
+use mathlib.Core.Bool.{true, false, not, cond}
 use mathlib.Core.List.{List, [], _∷_}
 use Prim.Native.Nat.{ℕ, _*_, _≤_, _<_}
 use native.Mathlib.Omega.{arith}
-use native.Mathlib.Nat.{le-refl, le-trans}
-use native.Mathlib.Decide.{ℕ-discrete}
+use native.Mathlib.Nat.{le-trans}
 use lib.Dec.{T, eqb, nleb→lt}
-use lib.ListN.{length, length-append}
+use lib.ListN.{length}
 use lib.IntN.{ℤ}
 use lib.Bits.{bitOr}
 use Rattle.terms.specs.Measures.{Shape, rangeRows}
 use Rattle.history.specs.History as H
-use Rattle.history.specs.History.{Call, begin, insert, update, delete, commit, abort, latest, readAt, ownRead, openScan, scanRead, sum, close, merge, release, pageCell, lineage, History, Scan, Verdict, accept, refuse, verdict, tests, next, run, nth, change, stateOf, rangeOf, scanAt, stopped, withScans}
+use Rattle.history.specs.History.{Call, begin, insert, update, delete, commit, abort, latest, readAt, ownRead, openScan, scanRead, sum, close, merge, release, pageCell, lineage, History, Verdict, accept, refuse, verdict, tests, next, run, rangeOf, scanAt, withScans}
 use Rattle.history.specs.Lists.{All, nil, cons}
-use Rattle.history.proofs.Lists.{nth-other, nth-changed, length-change}
+use Rattle.history.proofs.Lists.{nth-before}
 use Rattle.history.proofs.Accepted.{Passed, passed}
-use Rattle.history.proofs.Steps.{Step, nothing, began, rowGiven, recordsMade, closed, scanOpened, scanClosed, merged, released, next-step}
+use Rattle.history.proofs.Steps.{Mergeable, mergeable, is-active, scanOpened, scanClosed, Step, nothing, newStates, rowGiven, recordsMade, newScans, newMerges, next-step}
 use Rattle.layout.specs.View.{View, renew, put}
 use Rattle.layout.specs.declared.Region.the-variants.{RowMask}
 use Rattle.terms.specs.declared.Place.{Place}
 use Rattle.model.specs.Stored.{rowIn, pageIn, cellIn, currentIn, within, openPlace}
 use Rattle.model.specs.Reading.{scanPage, wasCurrent}
 use Rattle.model.specs.Writing.{begun, noted, settled, freed, committedIn, abortedIn, insertedAt, insertedIn, appended, filledIn, newBitsIn, originalAppended, settingAppended, updatedIn, deletedIn, mergedIn, releasedIn}
-use Rattle.model.specs.Calls.{Typed, testsIn, actIn, viewIf, viewNext, placesNext, viewAfter}
-use Rattle.model.proofs.Lists.{same-part}
-use Rattle.model.proofs.Represents.{ScanPageIs, Represents, Known}
-use Rattle.model.proofs.Insert.{inside, cell-kept}
+use Rattle.model.specs.Calls.{Typed, actIn, viewIf, viewNext, placesNext, viewAfter}
+use Rattle.model.proofs.Represents.{ScanPageOf, Represents, Known}
+use Rattle.model.proofs.Insert.{cell-kept, scan-apart}
 use Rattle.model.proofs.Merged.{scan-same, scan-not-free, cells-other}
-use Rattle.model.proofs.Scans.{nth-before}
-use Rattle.model.proofs.Steady.{rows-grow}
+use Rattle.model.proofs.Holding.{grown}
+use Rattle.model.proofs.Steady.{still-running}
 use Rattle.model.proofs.Release.{scan-page-kept}
-use Rattle.model.proofs.Calls.{agree-verdict, tests-agree, active-of, column-lt, range-lt, above-of, none-active, page-room, merges-few, known-next, one-call}
+use Rattle.model.proofs.Calls.{agree-verdict, tests-agree, known-next, one-call}
 
 -- The scan that had m merges made before it finds the same page in w as in v, and the page's cells of the first n rows are the same.
 pub record SamePage (S : Shape) (v w : View) (m n g c : ℕ) : Type 0 where
@@ -42,10 +39,6 @@ pub record SamePage (S : Shape) (v w : View) (m n g c : ℕ) : Type 0 where
 unmoved : (S : Shape) (v : View) (m n g c : ℕ) → SamePage S v v m n g c
 unmoved S v m n g c = record { page = refl; cells = λ r b e. refl }
 
-same-row : (m n : ℕ) → rangeOf m ≡ rangeOf n → within m ≡ within n → m ≡ n
-unfolding rangeOf
-same-row m n a b = omega arith
-
 module _ (S : Shape) (v : View) (ps : List Place) (h : History) (o : Represents S v ps h) (k : Known S h) (i : ℕ) (run : T (scanAt h i .running)) (g c : ℕ) (bg : g < S .ranges) (bc : c < S .columns) where
   abbrev Same : View → Type 0
   Same w = SamePage S v w (scanAt h i .before) (length (h .rows)) g c
@@ -53,81 +46,62 @@ module _ (S : Shape) (v : View) (ps : List Place) (h : History) (o : Represents 
   abbrev q : ℕ
   q = scanPage S v (scanAt h i .before) g c
 
-  page : ScanPageIs S h (scanAt h i) g c q (pageIn v q) (cellIn v q)
+  page : ScanPageOf S h v (scanAt h i) g c
   page = o .scanPages i run g c bg bc
 
   -- an insert writes the cell of a new row
   insert-same : (t : ℕ) (vs : List ℤ) → T (not (H.notActive h t)) → T (not (H.allGiven S h)) → Typed (insert t vs) → Same (insertedIn S t vs v)
   unfolding insertedIn H.allGiven
-  insert-same t vs a b y = subst (λ (n : ℕ). Same (insertedAt S t vs n v)) (sym (o .header .rows-given)) at-row
+  insert-same t vs a b y = rw (o .header .rows-given) at-row
     where
       room : length (h .rows) < S .ranges * rangeRows
       room = nleb→lt (S .ranges * rangeRows) (length (h .rows)) b
-
-      is-active : stateOf h t ≡ H.active
-      is-active = active-of S v ps h o k t a
-
-      row-in : rangeOf (length (h .rows)) < S .ranges
-      row-in = inside S v ps h o k t vs is-active room (y .1)
 
       at-row : Same (insertedAt S t vs (length (h .rows)) v)
       at-row = unfold insertedAt noted openPlace put renew scanPage wasCurrent currentIn pageIn cellIn in
           record {
             page = refl;
-            cells = λ r u e. cell-kept S v ps h o k t vs is-active room (y .1) q (within r) (omega arith) (λ c′ w z x. apart r c′ u e w z x);
+            cells = λ r u e. cell-kept S v ps h o k t vs (is-active h t a) room (y .1) q (within r) (omega arith)
+                (scan-apart S v ps h o k t vs (is-active h t a) room (y .1) g c q bc (page .place) r e (λ z. omega arith));
           }
-        where
-          apart : (r c′ : ℕ) → r < length (h .rows) → rangeOf r ≡ g → c′ < S .columns → q ≡ currentIn S v (rangeOf (length (h .rows))) c′ → within r ≡ within (length (h .rows)) → ⊥
-          apart r c′ u e w z x =
-              let f : g ≡ rangeOf (length (h .rows)) =
-              same-part (S .columns) g (rangeOf (length (h .rows))) c c′ bc w (sym (page .place) ∙ ap (λ (j : ℕ). (pageIn v j) .place) z ∙ o .currents (rangeOf (length (h .rows))) c′ row-in w .place) .0 in
-              omega (arith, same-row r (length (h .rows)) (e ∙ f) x)
 
   update-same : (t r n : ℕ) (vs : List ℤ) → Same (updatedIn S t r n vs v)
-  unfolding updatedIn
-  update-same t r n vs = go (eqb (newBitsIn v r n) 0)
-    where
-      go : (z : Bool) → Same (noted t (put RowMask r (bitOr n ((rowIn v r) .mask))
-          (cond z (settingAppended S t r n vs v) (settingAppended S t r n vs (originalAppended S t r n v)))))
-      go true = unfold settingAppended filledIn appended noted put renew scanPage wasCurrent currentIn pageIn cellIn in record { page = refl; cells = λ r b e. refl }
-      go false = unfold settingAppended originalAppended filledIn appended noted put renew scanPage wasCurrent currentIn pageIn cellIn in record { page = refl; cells = λ r b e. refl }
+  unfolding updatedIn settingAppended originalAppended filledIn appended noted put renew scanPage wasCurrent currentIn pageIn cellIn
+  update-same t r n vs =
+      elim (eqb (newBitsIn v r n) 0)
+      as (λ z. Same (noted t (put RowMask r (bitOr n ((rowIn v r) .mask)) (cond z (settingAppended S t r n vs v) (settingAppended S t r n vs (originalAppended S t r n v))))))
+      [ true ↦ record { page = refl; cells = λ r b e. refl } | false ↦ record { page = refl; cells = λ r b e. refl } ]
 
-  merge-same : (a d n : ℕ) → Passed (tests S h (merge a d n)) → Same (mergedIn S a d n v)
-  unfolding tests
-  merge-same a d n p =
-      let u : a < S .ranges = range-lt S v ps h o k a (p .0) in
-      let w : d < S .columns = column-lt S v ps h o k d (p .1 .0) in
-      let z : _ = above-of S v ps h o k a d n (p .1 .1 .0) in
+  merge-same : (a d n : ℕ) → Mergeable S h a d n → Same (mergedIn S a d n v)
+  merge-same a d n ok =
       record {
-        page = scan-same S v ps h o k a d n u w (z .0) (z .1) (none-active S v ps h o k a n (p .1 .1 .1 .0)) (page-room S v ps h o k (p .1 .1 .1 .1 .0)) (merges-few k) (scanAt h i .before) g c bg bc (page .early) (page .made);
-        cells = λ r b e.
-            cells-other S v ps h o k a d n u w (z .0) (z .1) (none-active S v ps h o k a n (p .1 .1 .1 .0)) (page-room S v ps h o k (p .1 .1 .1 .1 .0)) (merges-few k) q (within r)
-            (scan-not-free S v ps h o k a d n u w (z .0) (z .1) (none-active S v ps h o k a n (p .1 .1 .1 .0)) (page-room S v ps h o k (p .1 .1 .1 .1 .0)) (merges-few k) (scanAt h i .before) g c bg bc (page .made)) (omega arith);
+        page = scan-same S v ps h o k a d n ok (scanAt h i .before) g c bg bc (page .early) (page .made);
+        cells = λ r b e. cells-other S v ps h o k a d n ok q (within r) (scan-not-free S v ps h o k a d n ok (scanAt h i .before) g c bg bc (page .made)) (omega arith);
       }
 
   act-same : (x : Call) → Typed x → Passed (tests S h x) → Same (actIn S v ps x)
-  unfolding actIn
-  act-same begin y p = unfold begun put renew scanPage wasCurrent currentIn pageIn cellIn in record { page = refl; cells = λ r b e. refl }
+  unfolding actIn begun noted deletedIn appended committedIn abortedIn freed settled put renew scanPage wasCurrent currentIn pageIn cellIn
+  act-same begin y p = record { page = refl; cells = λ r b e. refl }
   act-same (insert t vs) y p = insert-same t vs (unfold tests in (p .0)) (unfold tests in (p .1 .0)) y
   act-same (update t r n vs) y p = update-same t r n vs
-  act-same (delete t r) y p = unfold deletedIn appended noted put renew scanPage wasCurrent currentIn pageIn cellIn in record { page = refl; cells = λ r b e. refl }
-  act-same (commit t s) y p = unfold committedIn freed settled put renew scanPage wasCurrent currentIn pageIn cellIn in record { page = refl; cells = λ r b e. refl }
-  act-same (abort t) y p = unfold abortedIn freed settled put renew scanPage wasCurrent currentIn pageIn cellIn in record { page = refl; cells = λ r b e. refl }
+  act-same (delete t r) y p = record { page = refl; cells = λ r b e. refl }
+  act-same (commit t s) y p = record { page = refl; cells = λ r b e. refl }
+  act-same (abort t) y p = record { page = refl; cells = λ r b e. refl }
   act-same (latest r x) y p = unmoved S v _ _ g c
   act-same (readAt s r x) y p = unmoved S v _ _ g c
   act-same (ownRead t r x) y p = unmoved S v _ _ g c
-  act-same (openScan s) y p = unfold put renew scanPage wasCurrent currentIn pageIn cellIn in record { page = refl; cells = λ r b e. refl }
+  act-same (openScan s) y p = record { page = refl; cells = λ r b e. refl }
   act-same (scanRead j r x) y p = unmoved S v _ _ g c
   act-same (sum j x) y p = unmoved S v _ _ g c
   act-same (close j) y p = unmoved S v _ _ g c
-  act-same (merge a d n) y p = merge-same a d n p
+  act-same (merge a d n) y p = merge-same a d n (mergeable S h a d n p)
   act-same release y p = record { page = scan-page-kept S v ps h o k i g c run; cells = λ r b e. (unfold releasedIn renew cellIn in refl) }
   act-same (pageCell x r) y p = unmoved S v _ _ g c
   act-same (lineage a x) y p = unmoved S v _ _ g c
 
   pub next-same : (x : Call) → Typed x → Same (viewNext S v ps x)
   unfolding viewNext
-  next-same x y = subst (λ (w : Verdict). Same (viewIf w v (actIn S v ps x))) (sym (agree-verdict (testsIn S v ps x) (tests S h x) (tests-agree S v ps h o k x))) (go (verdict (tests S h x)) refl)
+  next-same x y = rw (agree-verdict (tests-agree S v ps h o k x)) (go (verdict (tests S h x)) refl)
     where
       go : (w : Verdict) → verdict (tests S h x) ≡ w → Same (viewIf w v (actIn S v ps x))
       go accept e = unfold viewIf in (act-same x y (passed (tests S h x) e))
@@ -135,70 +109,35 @@ module _ (S : Shape) (v : View) (ps : List Place) (h : History) (o : Represents 
 
 -- ---- a scan that runs later ran before, and is the same scan
 scan-before : {S : Shape} {x : Call} {h h′ : History} → Step S h x h′ → (i : ℕ) → i ≤ length (h .scans) → T (scanAt h′ i .running) → scanAt h′ i ≡ scanAt h i
-unfolding scanAt H.withRows H.withTail H.withTransactions withScans H.withMerges stopped
+unfolding scanAt H.withRows H.withTail H.withTransactions withScans H.withMerges
 scan-before nothing i b t = refl
-scan-before (began _ _) i b t = refl
+scan-before (newStates _) i b t = refl
 scan-before (rowGiven _ _ _ _) i b t = refl
 scan-before (recordsMade _ _ _ _ _) i b t = refl
-scan-before (closed _ _ _) i b t = refl
-scan-before {h = h} (scanOpened _ _ _) i b t = nth-before (h .scans) _ _ i (λ e. omega arith)
-scan-before {h = h} (scanClosed j run) i b t = go (ℕ-discrete i j)
-  where
-    none : Scan
-    none = record { running = false; stamp = 0; before = 0 }
+scan-before {h = h} (newScans (scanOpened _ _ _)) i b t = nth-before _ (h .scans) _ i (λ e. omega arith)
+scan-before {h = h} (newScans (scanClosed j run)) i b t = still-running (h .scans) j i run t
+scan-before (newMerges _) i b t = refl
 
-    running : nth (h .scans) j none ≢ none
-    running e = subst (λ (s : Scan). T (s .running)) e run
-
-    go : Dec (i ≡ j) → nth (change (h .scans) j (stopped (scanAt h j))) i none ≡ nth (h .scans) i none
-    go (yes e) = absurd (subst (λ (s : Scan). T (s .running)) (ap (λ (n : ℕ). nth (change (h .scans) j (stopped (scanAt h j))) n none) e ∙ nth-changed none (h .scans) j (stopped (scanAt h j)) running) t)
-    go (no f) = nth-other none (h .scans) j (stopped (scanAt h j)) i f
-scan-before (merged _ _ _ _ _ _ _ _ _) i b t = refl
-scan-before released i b t = refl
-
-scans-grow : {S : Shape} {x : Call} {h h′ : History} → Step S h x h′ → length (h .scans) ≤ length (h′ .scans)
-unfolding H.withRows H.withTail H.withTransactions withScans H.withMerges
-scans-grow nothing = le-refl _
-scans-grow (began _ _) = le-refl _
-scans-grow (rowGiven _ _ _ _) = le-refl _
-scans-grow (recordsMade _ _ _ _ _) = le-refl _
-scans-grow (closed _ _ _) = le-refl _
-scans-grow (scanOpened _ _ _) = simp length-append (omega arith)
-scans-grow {h = h} (scanClosed j run) = omega (arith, length-change (h .scans) j (stopped (scanAt h j)))
-scans-grow (merged _ _ _ _ _ _ _ _ _) = le-refl _
-scans-grow released = le-refl _
-
-ran-before : (S : Shape) (h : History) (cs : List Call) (i : ℕ) → i ≤ length (h .scans) → T (scanAt (run S h cs) i .running) → T (scanAt h i .running)
-unfolding run
-ran-before S h [] i b t = t
-ran-before S h (x ∷ cs) i b t =
-    let later : T (scanAt (next S h x) i .running) = ran-before S (next S h x) cs i (le-trans b (scans-grow (next-step S h x))) t in
-    subst (λ (s : Scan). T (s .running)) (scan-before (next-step S h x) i b later) later
-
--- and is the scan that it was
 pub scan-later : (S : Shape) (h : History) (cs : List Call) (i : ℕ) → i ≤ length (h .scans) → T (scanAt (run S h cs) i .running) → scanAt (run S h cs) i ≡ scanAt h i
 unfolding run
 scan-later S h [] i b t = refl
 scan-later S h (x ∷ cs) i b t =
-    let c : i ≤ length ((next S h x) .scans) = le-trans b (scans-grow (next-step S h x)) in
-    scan-later S (next S h x) cs i c t ∙ scan-before (next-step S h x) i b (ran-before S (next S h x) cs i c t)
+    let s = next-step S h x in
+    let e = scan-later S (next S h x) cs i (le-trans b (grown s .scans)) t in
+    e ∙ scan-before s i b (rw e at t)
 
 pub same-after : (S : Shape) (v : View) (ps : List Place) (h : History) → Represents S v ps h → Known S h → (i : ℕ) → i ≤ length (h .scans) → {cs : List Call} → All Typed cs → T (scanAt (run S h cs) i .running)
     → (g c : ℕ) → g < S .ranges → c < S .columns → SamePage S v (viewAfter S v ps cs) (scanAt h i .before) (length (h .rows)) g c
 unfolding run viewAfter
 same-after S v ps h o k i b nil t g c bg bc = unmoved S v _ _ g c
 same-after S v ps h o k i b (cons {x = x} {l = cs} y ys) t g c bg bc =
-    let h₁ : History = next S h x in
-    let s : Step S h x (next S h x) = next-step S h x in
-    let later : T (scanAt (next S h x) i .running) = ran-before S (next S h x) cs i (le-trans b (scans-grow s)) t in
+    let s = next-step S h x in
+    let later : T (scanAt (next S h x) i .running) = rw (scan-later S (next S h x) cs i (le-trans b (grown s .scans)) t) at t in
     let e : scanAt (next S h x) i ≡ scanAt h i = scan-before s i b later in
-    let first : SamePage S v (viewNext S v ps x) (scanAt h i .before) (length (h .rows)) g c = next-same S v ps h o k i (subst (λ (z : Scan). T (z .running)) e later) g c bg bc x y in
-    let rest : SamePage S (viewNext S v ps x) (viewAfter S (viewNext S v ps x) (placesNext S v ps x) cs) (scanAt h i .before) (length (h₁ .rows)) g c =
-    subst (λ (z : Scan). SamePage S (viewNext S v ps x) (viewAfter S (viewNext S v ps x) (placesNext S v ps x) cs) (z .before) (length (h₁ .rows)) g c) e
-    (same-after S (viewNext S v ps x) (placesNext S v ps x) (next S h x) (one-call S v ps h x y o k .1) (known-next x k) i (le-trans b (scans-grow s)) ys t g c bg bc) in
+    let first : SamePage S v (viewNext S v ps x) (scanAt h i .before) (length (h .rows)) g c = next-same S v ps h o k i (rw e at later) g c bg bc x y in
+    let rest : SamePage S (viewNext S v ps x) (viewAfter S (viewNext S v ps x) (placesNext S v ps x) cs) (scanAt h i .before) (length ((next S h x) .rows)) g c =
+    rw e at (same-after S (viewNext S v ps x) (placesNext S v ps x) (next S h x) (one-call S v ps h x y o k .1) (known-next x k) i (le-trans b (grown s .scans)) ys t g c bg bc) in
     record {
       page = rest .page ∙ first .page;
-      cells = λ r u f.
-          subst (λ (q : ℕ). cellIn (viewAfter S (viewNext S v ps x) (placesNext S v ps x) cs) q (within r) ≡ cellIn (viewNext S v ps x) q (within r)) (first .page) (rest .cells r (le-trans u (rows-grow s)) f)
-          ∙ first .cells r u f;
+      cells = λ r u f. (rw (first .page) at (rest .cells r (le-trans u (grown s .rows)) f)) ∙ first .cells r u f;
     }

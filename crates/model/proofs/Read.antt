@@ -15,7 +15,7 @@ use mir.Val.{toZ}
 use Rattle.terms.specs.Measures.{Shape}
 use Rattle.terms.specs.declared.Answer.{Answer}
 use Rattle.history.specs.History.{History, Record, Version, State, aborted, committed, Content, original, setting, ending, any, isCommitted, stateOf, bit, sets, newValue, insertedValue, inserted, versionIn, lastSetting, rangeOf, recordsOf, visible, versionOf, read, cellThrough}
-use Rattle.history.proofs.Lists.{all-map₂, is-true, refuted, any-none, all-take, not-any}
+use Rattle.history.proofs.Lists.{by-test, parts, all-map₂, is-true, refuted, any-none, all-take, not-any}
 use Rattle.history.proofs.Steps.{isOriginal, wasSet, hasOriginal}
 use Rattle.history.specs.Latest.{stampOf}
 use Rattle.history.proofs.States.{isClosed}
@@ -29,7 +29,7 @@ use Rattle.model.specs.declared.Walk.{Walk}
 use Rattle.model.specs.Stored.{PageWords, rowIn, recordIn, valueIn, pageIn, cellIn, within, originalKind, settingKind}
 use Rattle.model.specs.Reading.{sees, answersFor, walk, orElse, belowLineage, wordIn, readIn}
 use Rattle.model.proofs.Lists.{true-false, take-next}
-use Rattle.model.proofs.Represents.{stateWord, ContentIs, RecordIs, TailIs, Holds, Represents, Known}
+use Rattle.model.proofs.Represents.{stateWord, ContentIs, RecordIs, TailOf, Holds, Represents, Known}
 use Rattle.model.proofs.Heads.{slot-is, in-range, SeesAs, visible-is}
 
 -- ---- one record
@@ -39,18 +39,12 @@ record-answers : (C c : ℕ) → c < C → (ins : ℤ) (y : Content) (kind mask 
     → toZ w32 (orElse (cond (bit mask c && (originalKind kind || (settingKind kind && b))) (Walk.Found (value c)) further) rest)
     ≡ cond (sets c y && b) (newValue c y) (cond (isOriginal c y) ins (toZ w32 (orElse further rest)))
 unfolding sets newValue isOriginal
-record-answers C c d ins (original cs vs) kind mask value b further rest o e = rw (o .0, and-true (bit mask c), ← (o .1 c)) (go (bit mask c) (o .2 c d))
-  where
-    go : (a : Bool) → (T a → toZ w32 (value c) ≡ getD vs c (pos 0)) → toZ w32 (orElse (cond a (Walk.Found (value c)) further) rest) ≡ cond a ins (toZ w32 (orElse further rest))
-    go true f = f tt ∙ e cs vs refl
-    go false f = refl
-record-answers C c d ins (setting m vs) kind mask value b further rest o e = rw (o .0, o .1) (go (bit m c) (o .2 c d) b)
-  where
-    go : (a : Bool) → (T a → toZ w32 (value c) ≡ getD vs c (pos 0)) → (b : Bool)
-        → toZ w32 (orElse (cond (a && b) (Walk.Found (value c)) further) rest) ≡ cond (a && b) (getD vs c (pos 0)) (toZ w32 (orElse further rest))
-    go true f true = f tt
-    go true f false = refl
-    go false f b = refl
+record-answers C c d ins (original cs vs) kind mask value b further rest o e = rw (o .0, and-true (bit mask c), ← (o .1 c))
+    (by-test (λ a. toZ w32 (orElse (cond a (Walk.Found (value c)) further) rest) ≡ cond a ins (toZ w32 (orElse further rest))) (bit mask c)
+    (λ t. o .2 c d t ∙ e cs vs refl) (λ _. refl))
+record-answers C c d ins (setting m vs) kind mask value b further rest o e = rw (o .0, o .1)
+    (by-test (λ z. toZ w32 (orElse (cond z (Walk.Found (value c)) further) rest) ≡ cond z (getD vs c (pos 0)) (toZ w32 (orElse further rest))) (bit m c && b)
+    (λ t. o .2 c d (parts (bit m c) b t .0)) (λ _. refl))
 record-answers C c d ins ending kind mask value b further rest o e = rw (o, and-false (bit mask c))
 
 last-le : (l : List Record) (r n : ℕ) → lastOf l r n ≤ n
@@ -62,7 +56,7 @@ last-le l r n = go (lastOf l r n) refl
 
 -- ---- the walk
 module _ (S : Shape) (v : View) (h : History) (i : InOrder h) (g r c t me : ℕ) (f : ℕ → Bool) (w : SeesAs h t me f) (here : rangeOf r ≡ g) (inside : c < S .columns)
-    (o : TailIs (S .columns) (stateOf h) (recordsOf h g) (usedIn v g) (λ k. recordIn v (g * S .capacity + k)) (λ k. valueIn S v (g * S .capacity + k))) where
+    (o : TailOf S (stateOf h) (recordsOf h g) v g) where
   abbrev recs : List Record
   recs = recordsOf h g
 
@@ -116,12 +110,8 @@ module _ (S : Shape) (v : View) (h : History) (i : InOrder h) (g r c t me : ℕ)
           → (hasOriginal (take n recs) r c ≡ hasOriginal (take low recs) r c → toZ w32 (rest (lastOf recs r low)) ≡ seenTo low .value)
           → toZ w32 (orElse (step low fuel (lastOf recs r n)) rest) ≡ seenTo n .value
 
-      skip : (a b : Bool) → b ≡ false → (a || (b || false)) ≡ a
-      skip true b e = refl
-      skip false b e = rw e
-
       down : original-here x ≡ false → hasOriginal (take n recs) r c ≡ hasOriginal (take low recs) r c → toZ w32 (rest (lastOf recs r low)) ≡ seenTo low .value
-      down q e = z (take-next recs n noRecord b original-here ∙ skip (any original-here (take n recs)) (original-here x) q ∙ e)
+      down q e = z (take-next recs n noRecord b original-here ∙ rw q (or-false (any original-here (take n recs))) ∙ e)
 
       pick : (s q : Bool) (new ins next : ℤ) (y old : Version) → y .value ≡ new → (T q → ins ≡ old .value) → (q ≡ false → next ≡ old .value)
           → cond s new (cond q ins next) ≡ cond s y old .value
@@ -176,7 +166,7 @@ module _ (S : Shape) (v : View) (ps : List Place) (h : History) (o : Represents 
   abbrev cell : ℕ
   cell = cellIn v p (within r)
 
-  lok : TailIs (S .columns) (stateOf h) (recordsOf h (rangeOf r)) (usedIn v (rangeOf r)) (λ k. recordIn v (rangeOf r * S .capacity + k)) (λ k. valueIn S v (rangeOf r * S .capacity + k))
+  lok : TailOf S (stateOf h) (recordsOf h (rangeOf r)) v (rangeOf r)
   lok = o .tails (rangeOf r) (in-range k r b)
 
   cell-is : Q r → toZ w32 cell ≡ lastSetting (λ k. isCommitted (stateOf h k)) r c (inserted h r c) (take (page .lineage) list) .value
@@ -197,21 +187,18 @@ module _ (S : Shape) (v : View) (ps : List Place) (h : History) (o : Represents 
   at-lineage : Q r → wasSet list r c ≡ true → hasOriginal (take (length list) list) r c ≡ hasOriginal (take (page .lineage) list) r c
       → toZ w32 (belowLineage S v g c t me page cell (lastOf list r (page .lineage))) ≡ lastSetting f r c (inserted h r c) (take (page .lineage) list) .value
   unfolding belowLineage
-  at-lineage q s e = go (leb (page .newest) t) (leb→le (page .newest) t)
+  at-lineage q s e =
+      by-test (λ a. toZ w32 (cond a cell (orElse (walk S v g c t me 0 (lastOf list r (page .lineage)) (lastOf list r (page .lineage))) (λ j. cell)))
+      ≡ lastSetting f r c (inserted h r c) (take (page .lineage) list) .value) (leb (page .newest) t)
+      (λ n. cell-seen q (leb→le (page .newest) t n))
+      (λ _. walk-is S v h (k .past .order) g r c t me f w refl inside lok 0 (λ j. cell) (page .lineage) (lastOf list r (page .lineage)) zero-le (held .through .within) (le-refl _)
+      (λ z. absurd (true-false (sym all-there ∙ z ∙ none-below))))
     where
       all-there : hasOriginal (take (page .lineage) list) r c ≡ true
       all-there = sym e ∙ ap (λ (l : List Record). hasOriginal l r c) (take-length list) ∙ has-original s
 
       none-below : hasOriginal (take 0 list) r c ≡ false
       none-below = unfold hasOriginal in refl
-
-      go : (a : Bool) → (T a → page .newest ≤ t)
-          → toZ w32 (cond a cell (orElse (walk S v g c t me 0 (lastOf list r (page .lineage)) (lastOf list r (page .lineage))) (λ j. cell)))
-          ≡ lastSetting f r c (inserted h r c) (take (page .lineage) list) .value
-      go true n = cell-seen q (n tt)
-      go false n =
-          walk-is S v h (k .past .order) g r c t me f w refl inside lok 0 (λ j. cell) (page .lineage) (lastOf list r (page .lineage)) zero-le (held .through .within) (le-refl _)
-          (λ z. absurd (true-false (sym all-there ∙ z ∙ none-below)))
 
   pub word-is : Q r → toZ w32 (wordIn S v t me p r c) ≡ versionOf f h r c .value
   unfolding wordIn
@@ -231,9 +218,6 @@ module _ (S : Shape) (v : View) (ps : List Place) (h : History) (o : Represents 
 
   pub read-is : (T (visible f h r) → Q r) → readIn S v t me p r c ≡ read f h r c
   unfolding readIn read
-  read-is q = rw (visible-is S v ps h o k r b t me f w) (go (visible f h r) (λ z. word-is (q z)))
-    where
-      go : (a : Bool) → (T a → toZ w32 (wordIn S v t me p r c) ≡ versionOf f h r c .value)
-          → cond a (Answer.Value (toZ w32 (wordIn S v t me p r c))) Answer.None ≡ cond a (Answer.Value (versionOf f h r c .value)) Answer.None
-      go true e = ap Answer.Value (e tt)
-      go false e = refl
+  read-is q = rw (visible-is S v ps h o k r b t me f w)
+      (by-test (λ a. cond a (Answer.Value (toZ w32 (wordIn S v t me p r c))) Answer.None ≡ cond a (Answer.Value (versionOf f h r c .value)) Answer.None) (visible f h r)
+      (λ z. ap Answer.Value (word-is (q z))) (λ _. refl))

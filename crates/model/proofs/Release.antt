@@ -1,33 +1,34 @@
 -- Release keeps the relation: a waiting page is freed unless an open scan was opened before the merge that replaced it, so no open scan's page is freed.
-use mathlib.Core.Path.{_≡_, refl, sym, _∙_, ap, subst}
-use mathlib.Core.Logic.{_⊎_, inl, inr}
-use mathlib.Core.Bool.{Bool, true, false, not, cond, _&&_, _||_, and-false, and-true}
+use mathlib.Core.Path.{_≡_, refl, sym, _∙_, ap}
+use mathlib.Core.Logic.{inl, inr}
+use mathlib.Core.Bool.{Bool, true, false, not, cond, _&&_, and-false, and-true, and-assoc, and-comm}
 use mathlib.Core.List.{List, [], _∷_}
 use Prim.Native.Nat.{ℕ, zero, suc, _^_, _≤_, _<_}
 use native.Mathlib.Omega.{arith}
-use native.Mathlib.Nat.{zero-add}
-use lib.Dec.{T, leb, ltb, eqb, eqb→eq, leb→le, le→leb, ltb→lt, lt→ltb}
-use lib.ListN.{length, getD}
+use native.Mathlib.Nat.{le-refl}
+use lib.Dec.{T, leb, ltb, eqb, eqb→eq, leb→le, le→leb, ltb→lt, lt→ltb, T-not}
+use lib.ListN.{length}
 use Rattle.terms.specs.Measures.{Shape}
 use Rattle.history.specs.History.{release, History, Scan, Merge, any, nth, stateOf, rowAt, recordsOf, mergedThrough, scanAt, neededBy, afterRelease, releasedCount, withMerges}
-use Rattle.history.proofs.Lists.{is-true, refuted, parts, both}
+use Rattle.history.proofs.Lists.{place-any, clash, refuted, parts, both}
 use Rattle.history.proofs.Steps.{Step}
 use Rattle.history.proofs.Timely.{Timely}
+use Rattle.history.proofs.Merges.{length-released}
 use Rattle.history.proofs.Pages.{lineage-step, lineage-stays}
-use Rattle.loops.specs.Change.{changed}
-use Rattle.loops.proofs.Change.{changed-length, changed-at, changed-fit}
+use Rattle.loops.proofs.Change.{changed-length, changed-fit}
 use Rattle.layout.specs.View.{View, renew}
 use Rattle.layout.specs.declared.Region.the-variants.{PageState}
 use Rattle.terms.specs.declared.Place.{Place}
-use Rattle.model.specs.Stored.{PageWords, rowIn, recordIn, valueIn, pageIn, cellIn, currentIn, placeOf, pagesOf, asFree, currentPage, waitingPage, countBelow}
+use Rattle.model.specs.Stored.{rowIn, recordIn, valueIn, pageIn, cellIn, currentIn, placeOf, pagesOf, asFree, currentPage, waitingPage, countBelow}
 use Rattle.model.specs.Reading.{wasCurrent, scanPage}
 use Rattle.model.specs.Writing.{neededIn, releasable, releasedIn}
-use Rattle.model.proofs.Lists.{clash, true-false, countFrom, any-count, from-count, count-ext, first-ext, below-ext, same-truth}
-use Rattle.model.proofs.Represents.{CurrentIs, CurrentsAre, WaitingIs, WaitingAre, PoolIs, ScanPageIs, ScanPagesAre, ScansAre, madeIn, Represents, Known, Whole}
+use Rattle.model.proofs.Lists.{true-false, countFrom, any-count, from-count, count-ext, first-ext, below-ext, same-truth}
+use Rattle.model.proofs.Represents.{CurrentOf, CurrentsAre, WaitingIs, WaitingAre, PoolIs, ScanPageIs, ScanPagesAre, ScansAre, madeIn, Represents, Known, Whole}
 use Rattle.model.proofs.Steady.{current-step, waiting-step, scan-page-step}
-use Rattle.model.proofs.Views.{renew-whole, header-same}
+use Rattle.model.proofs.Views.{renew-whole, changed-start, header-same}
 use Rattle.model.proofs.Scans.{scan-current}
-use Rattle.model.proofs.ScanPages.{WasCurrent, was-current, search-same, search, scan-cases, found-page, scan-page-same}
+use Rattle.model.proofs.ScanPages.{WasCurrent, unfound, unfound-state, search-same, search, search-is, Cases, scan-cases, found-page, scan-page-same}
+use Rattle.model.proofs.Book.{live-inside}
 
 -- ---- the scans that need a page
 pub needed-is : (ss : List Scan) (ps : List Place) → ScansAre ss ps → (i : ℕ) → neededIn ps (suc i) ≡ neededBy ss i
@@ -50,14 +51,7 @@ still-waiting ss ps o q i (m ∷ ms) =
     rw (needed-is ss ps o i, still-waiting ss ps o q (suc i) ms)
     (ap
     (λ (b : Bool). cond b (suc (countFrom (λ j m. m .waiting && q j) (suc (suc i)) (afterRelease ss (suc i) ms))) (countFrom (λ j m. m .waiting && q j) (suc (suc i)) (afterRelease ss (suc i) ms)))
-    (swap (m .waiting) (q (suc i)) (neededBy ss i)))
-  where
-    swap : (a b c : Bool) → (a && (b && c)) ≡ (a && c && b)
-    swap true true true = refl
-    swap true true false = refl
-    swap true false true = refl
-    swap true false false = refl
-    swap false b c = refl
+    (ap (λ (b : Bool). m .waiting && b) (and-comm (q (suc i)) (neededBy ss i)) ∙ sym (and-assoc (m .waiting) (neededBy ss i) (q (suc i)))))
 
 freed-count : (ss : List Scan) (ps : List Place) → ScansAre ss ps → (i : ℕ) (ms : List Merge)
     → countFrom (λ j m. m .waiting && not (neededIn ps j)) (suc i) ms ≡ releasedCount ss i ms
@@ -65,20 +59,9 @@ unfolding releasedCount
 freed-count ss ps o i [] = refl
 freed-count ss ps o i (m ∷ ms) = rw (needed-is ss ps o i, freed-count ss ps o (suc i) ms)
 
-after-length : (ss : List Scan) (i : ℕ) (ms : List Merge) → length (afterRelease ss i ms) ≡ length ms
-unfolding afterRelease
-after-length ss i [] = refl
-after-length ss i (m ∷ ms) = ap suc (after-length ss (suc i) ms)
-
 any-nth : {A : Type 0} (f : A → Bool) (l : List A) (k : ℕ) (d : A) → f d ≡ false → T (f (nth l k d)) → T (any f l)
 any-nth f l zero d e t = absurd (rw e at t)
-any-nth f [] (suc k) d e t = absurd (rw e at t)
-any-nth f (x ∷ l) (suc zero) d e t = rw (is-true (f x) t) tt
-any-nth f (x ∷ l) (suc (suc k)) d e t = go (f x) (any-nth f l (suc k) d e t)
-  where
-    go : (b : Bool) → T (any f l) → T (b || any f l)
-    go true u = tt
-    go false u = u
+any-nth f l (suc k) d e t = place-any f l d k (live-inside f l k d e t) t
 
 -- ---- the answer
 pub release-count : (S : Shape) (v : View) (ps : List Place) (h : History) → Represents S v ps h → countBelow (releasable ps v) (pagesOf S) ≡ releasedCount (h .scans) 0 (h .merges)
@@ -96,21 +79,11 @@ module _ (S : Shape) (v : View) (ps : List Place) (h : History) (o : Represents 
   state-after : (q : ℕ) → q < pagesOf S → (pageIn v′ q) .state ≡ cond (releasable ps v q) asFree ((pageIn v q) .state)
   unfolding releasedIn renew pageIn
   state-after q b =
-      let f : ℕ → ℕ → ℕ = λ i w. cond (releasable ps v i) asFree w in
-      ap (λ (j : ℕ). getD (changed f 0 (pagesOf S) (v PageState)) j 0) (sym (zero-add q)) ∙ changed-at f 0 (v PageState) (pagesOf S) q (omega (arith, o .whole .long PageState)) b
-      ∙ ap (λ (j : ℕ). cond (releasable ps v q) asFree (getD (v PageState) j 0)) (zero-add q)
+      changed-start (λ i w. cond (releasable ps v i) asFree w) (pagesOf S) (v PageState) q (omega (arith, o .whole .long PageState)) b
 
   page-kept : (q : ℕ) → q < pagesOf S → releasable ps v q ≡ false → pageIn v′ q ≡ pageIn v q
   unfolding pageIn releasedIn renew
-  page-kept q b e =
-      λ i. record {
-        state = (state-after q b ∙ ap (λ (z : Bool). cond z asFree ((pageIn v q) .state)) e) i;
-        place = (pageIn v q) .place;
-        made = (pageIn v q) .made;
-        replaced = (pageIn v q) .replaced;
-        lineage = (pageIn v q) .lineage;
-        newest = (pageIn v q) .newest;
-      }
+  page-kept q b e = rw (state-after q b, e)
 
   -- a current page, and one that a running scan needs, is not released
   current-kept : (a b : ℕ) → a < S .ranges → b < S .columns → releasable ps v (currentIn S v a b) ≡ false
@@ -131,13 +104,12 @@ module _ (S : Shape) (v : View) (ps : List Place) (h : History) (o : Represents 
   unfolding releasable
   found-kept i pl q t x =
       refuted (releasable ps v q)
-      (λ r. lib.Dec.T-not (neededIn ps ((pageIn v q) .replaced)) (parts (waitingPage ((pageIn v q) .state)) _ r .1) (needed i ((pageIn v q) .replaced) t (x .after)))
+      (λ r. T-not (neededIn ps ((pageIn v q) .replaced)) (parts (waitingPage ((pageIn v q) .state)) _ r .1) (needed i ((pageIn v q) .replaced) t (x .after)))
 
   -- a page that is freed passes no search
   freed-unfound : (m pl q : ℕ) → q < pagesOf S → releasable ps v q ≡ true → wasCurrent S v′ m pl q ≡ false
   freed-unfound m pl q b e =
-      refuted (wasCurrent S v′ m pl q)
-      (λ t. omega (arith, ltb→lt 1 ((pageIn v′ q) .state) (was-current S v′ m pl q t .waits), state-after q b, ap (λ (z : Bool). cond z asFree ((pageIn v q) .state)) e))
+      unfound-state S v′ m pl q (omega (arith, state-after q b, ap (λ (z : Bool). cond z asFree ((pageIn v q) .state)) e))
 
   search-kept : (i a d : ℕ) → T (scanAt h i .running) → search S v′ (scanAt h i .before) a d ≡ search S v (scanAt h i .before) a d
   search-kept i a d t = first-ext _ _ (pagesOf S) 0 (λ q _ b. at-page q (omega arith) (releasable ps v q) refl)
@@ -145,8 +117,7 @@ module _ (S : Shape) (v : View) (ps : List Place) (h : History) (o : Represents 
       at-page : (q : ℕ) → q < pagesOf S → (z : Bool) → releasable ps v q ≡ z → wasCurrent S v′ (scanAt h i .before) (placeOf S a d) q ≡ wasCurrent S v (scanAt h i .before) (placeOf S a d) q
       at-page q b true e =
           freed-unfound (scanAt h i .before) (placeOf S a d) q b e
-          ∙ sym (refuted (wasCurrent S v (scanAt h i .before) (placeOf S a d) q)
-          (λ u. true-false (sym e ∙ found-kept i (placeOf S a d) q t (was-current S v (scanAt h i .before) (placeOf S a d) q u))))
+          ∙ sym (unfound S v (scanAt h i .before) (placeOf S a d) q (λ x. true-false (sym e ∙ found-kept i (placeOf S a d) q t x)))
       at-page q b false e = search-same S v v′ (scanAt h i .before) (placeOf S a d) q (page-kept q b e)
 
   pub scan-page-kept : (i a d : ℕ) → T (scanAt h i .running) → scanPage S v′ (scanAt h i .before) a d ≡ scanPage S v (scanAt h i .before) a d
@@ -163,18 +134,16 @@ module _ (S : Shape) (v : View) (ps : List Place) (h : History) (o : Represents 
       → releasable ps v (scanPage S v (scanAt h i .before) a d) ≡ false
   scan-releasable i a d u w t before = go (scan-cases S v (scanAt h i .before) a d before)
     where
-      go : (madeIn S v a d ≤ scanAt h i .before) ⊎ ((scanAt h i .before < madeIn S v a d) × (search S v (scanAt h i .before) a d < pagesOf S))
-          → releasable ps v (scanPage S v (scanAt h i .before) a d) ≡ false
+      go : Cases S v (scanAt h i .before) a d → releasable ps v (scanPage S v (scanAt h i .before) a d) ≡ false
       go (inl x) = ap (releasable ps v) (scan-current S v (scanAt h i .before) a d x) ∙ current-kept a d u w
       go (inr x) =
           ap (releasable ps v) (found-page S v (scanAt h i .before) a d (x .0) (x .1))
-          ∙ found-kept i (placeOf S a d) (search S v (scanAt h i .before) a d) t
-          (was-current S v (scanAt h i .before) (placeOf S a d) _ (Rattle.model.proofs.Lists.first-is (wasCurrent S v (scanAt h i .before) (placeOf S a d)) (pagesOf S) 0 (omega (arith, x .1))))
+          ∙ found-kept i (placeOf S a d) (search S v (scanAt h i .before) a d) t (search-is S v (scanAt h i .before) a d (x .1))
 
   -- ---- the parts
   merges-same : length ((h′) .merges) ≡ length (h .merges)
   unfolding withMerges
-  merges-same = after-length (h .scans) 0 (h .merges)
+  merges-same = length-released (h .scans) 0 (h .merges)
 
   through-same : Step S h release h′ → (a b : ℕ) → mergedThrough h′ a b ≡ mergedThrough h a b
   through-same step a b = lineage-stays (lineage-step a b step) (λ n e. clash (cc))
@@ -182,27 +151,21 @@ module _ (S : Shape) (v : View) (ps : List Place) (h : History) (o : Represents 
   release-currents : Step S h release h′ → CurrentsAre S h′ v′
   unfolding currentIn cellIn releasedIn renew
   release-currents step a b u w =
-      let x : CurrentIs S h a b (currentIn S v a b) (pageIn v (currentIn S v a b)) (cellIn v (currentIn S v a b)) = o .currents a b u w in
-      subst (λ (y : PageWords). CurrentIs S h′ a b (currentIn S v a b) y (cellIn v (currentIn S v a b))) (sym (page-kept (currentIn S v a b) (x .inside) (current-kept a b u w)))
-      (current-step (k .past .order) step (unfold withMerges in refl) (through-same step a b) (omega (arith, merges-same)) x)
+      let x : CurrentOf S h v a b = o .currents a b u w in
+      rw (page-kept (currentIn S v a b) (x .inside) (current-kept a b u w))
+      (current-step (k .past .order) step (unfold withMerges in refl) (through-same step a b) x)
 
   release-waits : Step S h release h′ → WaitingAre S h′ v′
   release-waits step q b t = go (releasable ps v q) refl
     where
-      same-made : (a d : ℕ) → madeIn S v′ a d ≡ madeIn S v a d
-      same-made a d = unfold currentIn pageIn releasedIn renew in refl
-
       go : (z : Bool) → releasable ps v q ≡ z → WaitingIs S h′ (madeIn S v′) (pageIn v′ q)
       go true e = absurd (omega (arith, ltb→lt 1 ((pageIn v′ q) .state) t, state-after q b, ap (λ (z : Bool). cond z asFree ((pageIn v q) .state)) e))
-      go false e =
-          let x : WaitingIs S h (madeIn S v) (pageIn v q) = o .waits q b (subst (λ (y : PageWords). T (waitingPage (y .state))) (page-kept q b e) t) in
-          let y : WaitingIs S h′ (madeIn S v) (pageIn v q) = waiting-step step (omega (arith, merges-same)) x in
-          subst (λ (z : PageWords). WaitingIs S h′ (madeIn S v′) z) (sym (page-kept q b e))
-          record { place = y .place; rises = y .rises; replaced-by = y .replaced-by; early = λ a d u w z. omega (arith, y .early a d u w z, same-made a d); reach = y .reach; stamped = y .stamped }
+      go false e = rw (page-kept q b e)
+          (waiting-step {made = madeIn S v} {made′ = madeIn S v′} step (λ a d _ _. unfold currentIn pageIn releasedIn renew in le-refl _) (o .waits q b (rw (page-kept q b e) at t)))
 
   released-waits : (q : ℕ) → releasable ps v q ≡ true → T (waitingPage ((pageIn v q) .state))
   unfolding releasable
-  released-waits q e = parts (waitingPage ((pageIn v q) .state)) (not (neededIn ps ((pageIn v q) .replaced))) (subst (λ (b : Bool). T b) (sym e) tt) .0
+  released-waits q e = parts (waitingPage ((pageIn v q) .state)) (not (neededIn ps ((pageIn v q) .replaced))) (rw e tt) .0
 
   release-pool : PoolIs S (afterRelease (h .scans) 0 (h .merges)) (pageIn v′)
   release-pool =
@@ -233,9 +196,8 @@ module _ (S : Shape) (v : View) (ps : List Place) (h : History) (o : Represents 
   release-scans step i t a d u w =
       let q : ℕ = scanPage S v (scanAt h i .before) a d in
       let x : ScanPageIs S h (scanAt h i) a d q (pageIn v q) (cellIn v q) = o .scanPages i t a d u w in
-      let y : ScanPageIs S h′ (scanAt h i) a d q (pageIn v q) (cellIn v q) = scan-page-step (k .past .order) step (k .past .timely i) (omega (arith, merges-same)) x in
-      subst (λ (j : ℕ). ScanPageIs S h′ (scanAt h i) a d j (pageIn v′ j) (cellIn v′ j)) (sym (scan-page-kept i a d t))
-      (subst (λ (z : PageWords). ScanPageIs S h′ (scanAt h i) a d q z (cellIn v′ q)) (sym (page-kept q (x .inside) (scan-releasable i a d u w t (x .made)))) (same-cells (scanAt h i) a d q y))
+      let y : ScanPageIs S h′ (scanAt h i) a d q (pageIn v q) (cellIn v q) = scan-page-step (k .past .order) step (k .past .timely i) x in
+      rw (scan-page-kept i a d t, page-kept q (x .inside) (scan-releasable i a d u w t (x .made))) (same-cells (scanAt h i) a d q y)
     where
       same-cells : (s : Scan) (a d q : ℕ) → ScanPageIs S h′ s a d q (pageIn v q) (cellIn v q) → ScanPageIs S h′ s a d q (pageIn v q) (cellIn v′ q)
       same-cells s a d q y = unfold cellIn releasedIn renew in y
@@ -244,11 +206,7 @@ module _ (S : Shape) (v : View) (ps : List Place) (h : History) (o : Represents 
   unfolding releasedIn
   release-whole =
       renew-whole PageState _ (changed-length _ 0 (v PageState) (pagesOf S) ∙ o .whole .long PageState)
-      (changed-fit _ 0 (pagesOf S) (v PageState) (λ i x _ b. pick (releasable ps v i) x b) (o .whole .fits PageState)) (o .whole)
-    where
-      pick : (z : Bool) (x : ℕ) → x < 2 ^ 32 → cond z asFree x < 2 ^ 32
-      pick true x b = omega arith
-      pick false x b = b
+      (changed-fit _ 0 (pagesOf S) (v PageState) (λ i x _ b. elim (releasable ps v i) as (λ z. cond z asFree x < 2 ^ 32) [ true ↦ omega arith | false ↦ b ]) (o .whole .fits PageState)) (o .whole)
 
   pub release-kept : Step S h release h′ → Represents S (releasedIn S ps v) ps h′
   unfolding withMerges stateOf rowAt recordsOf releasedIn renew rowIn recordIn valueIn

@@ -11,7 +11,7 @@ use lib.IntN.{pos}
 use mir.Syntax.{w32}
 use mir.Val.{toZ}
 use Rattle.terms.specs.Measures.{Shape, mostColumns, mostRanges, mostRecords, mostSpares, mostTransactions, mostScans}
-use Rattle.history.specs.History.{History, Row, Record, State, unknown, active, aborted, committed, Content, original, setting, ending, Scan, Merge, isActive, stateOf, rowAt, bit, sets, rangeOf, recordsOf, mergedThrough, scanAt, seenAt, cellThrough}
+use Rattle.history.specs.History.{History, Row, Record, State, unknown, active, aborted, committed, Content, original, setting, ending, Scan, Merge, isActive, stateOf, rowAt, bit, sets, rangeOf, recordsOf, mergedThrough, scanAt, seenAt, cellThrough, count}
 use Rattle.history.specs.Lists.{All}
 use Rattle.history.proofs.Lists.{among}
 use Rattle.history.proofs.Steps.{wasSet}
@@ -68,11 +68,13 @@ pub record TailIs (C : ℕ) (st : ℕ → State) (recs : List Record) (used : �
   pub each : (k : ℕ) → k < length recs → RecordIs C st (getD recs k noRecord) (rec k) (value k)
   pub links : (k : ℕ) → k < length recs → (rec k) .link ≡ lastOf recs ((getD recs k noRecord) .row) k
 
+-- the same of the words of range g
+abbrev pub TailOf : Shape → (ℕ → State) → List Record → View → ℕ → Type 0
+TailOf S st recs v g = TailIs (S .columns) st recs (usedIn v g) (λ k. recordIn v (g * S .capacity + k)) (λ k. valueIn S v (g * S .capacity + k))
+
 -- the records of every range, where `list g` has those of range g
 abbrev pub TailsFor : Shape → (ℕ → State) → (ℕ → List Record) → View → Type 0
-TailsFor S st list v =
-    (g : ℕ) → g < S .ranges
-    → TailIs (S .columns) st (list g) (usedIn v g) (λ k. recordIn v (g * S .capacity + k)) (λ k. valueIn S v (g * S .capacity + k))
+TailsFor S st list v = (g : ℕ) → g < S .ranges → TailOf S st (list g) v g
 
 abbrev pub TailsAre : Shape → History → View → Type 0
 TailsAre S h v = TailsFor S (stateOf h) (recordsOf h) v
@@ -105,10 +107,11 @@ pub record CurrentIs (S : Shape) (h : History) (g c p : ℕ) (x : PageWords) (ce
   pub lineage : x .lineage ≡ mergedThrough h g c
   pub holds : Holds h g c everyRow x cell
 
+abbrev pub CurrentOf : Shape → History → View → ℕ → ℕ → Type 0
+CurrentOf S h v g c = CurrentIs S h g c (currentIn S v g c) (pageIn v (currentIn S v g c)) (cellIn v (currentIn S v g c))
+
 abbrev pub CurrentsAre : Shape → History → View → Type 0
-CurrentsAre S h v =
-    (g c : ℕ) → g < S .ranges → c < S .columns
-    → CurrentIs S h g c (currentIn S v g c) (pageIn v (currentIn S v g c)) (cellIn v (currentIn S v g c))
+CurrentsAre S h v = (g c : ℕ) → g < S .ranges → c < S .columns → CurrentOf S h v g c
 
 -- A waiting page was replaced not later than the current page of its place was made; `made` has that for each range and column.
 pub record WaitingIs (S : Shape) (h : History) (made : ℕ → ℕ → ℕ) (x : PageWords) : Type 0 where
@@ -133,7 +136,7 @@ pub record PoolIs (S : Shape) (merges : List Merge) (page : ℕ → PageWords) :
 
 -- ---- open transactions and open scans: equal counts for every test
 abbrev pub OpensAre : List State → List ℕ → Type 0
-OpensAre ts l = (q : ℕ → Bool) → Rattle.history.specs.History.count (λ k. not (eqb k 0) && q k) l ≡ countFrom (λ i s. isActive s && q i) 1 ts
+OpensAre ts l = (q : ℕ → Bool) → count (λ k. not (eqb k 0) && q k) l ≡ countFrom (λ i s. isActive s && q i) 1 ts
 
 abbrev pub scanAs : ℕ → Scan → Place
 scanAs i s = record { number = i; stamp = s .stamp; merges = s .before }
@@ -141,7 +144,7 @@ scanAs i s = record { number = i; stamp = s .stamp; merges = s .before }
 pub record ScansAre (ss : List Scan) (l : List Place) : Type 0 where
   pub room : mostScans ≤ length l
   pub same : (q : Place → Bool)
-      → Rattle.history.specs.History.count (λ p. not (eqb (p .number) 0) && q p) l ≡ countFrom (λ i s. s .running && q (scanAs i s)) 1 ss
+      → count (λ p. not (eqb (p .number) 0) && q p) l ≡ countFrom (λ i s. s .running && q (scanAs i s)) 1 ss
 
 -- transaction t has made no row and no record
 pub record Unchanged (rows : List Row) (tail : List Record) (t : ℕ) : Type 0 where
@@ -164,11 +167,11 @@ pub record ScanPageIs (S : Shape) (h : History) (s : Scan) (g c p : ℕ) (x : Pa
   pub made : x .made ≤ s .before
   pub holds : Holds h g c (λ r. T (seenAt h (s .stamp) ((rowAt h r) .inserter))) x cell
 
+abbrev pub ScanPageOf : Shape → History → View → Scan → ℕ → ℕ → Type 0
+ScanPageOf S h v s g c = ScanPageIs S h s g c (scanPage S v (s .before) g c) (pageIn v (scanPage S v (s .before) g c)) (cellIn v (scanPage S v (s .before) g c))
+
 abbrev pub ScanPagesAre : Shape → History → View → Type 0
-ScanPagesAre S h v =
-    (k : ℕ) → T (scanAt h k .running) → (g c : ℕ) → g < S .ranges → c < S .columns
-    → ScanPageIs S h (scanAt h k) g c (scanPage S v (scanAt h k .before) g c) (pageIn v (scanPage S v (scanAt h k .before) g c))
-    (cellIn v (scanPage S v (scanAt h k .before) g c))
+ScanPagesAre S h v = (k : ℕ) → T (scanAt h k .running) → (g c : ℕ) → g < S .ranges → c < S .columns → ScanPageOf S h v (scanAt h k) g c
 
 -- ---- the header
 pub record HeaderIs (S : Shape) (rows transactions scans last merges : ℕ) (word : ℕ → ℕ) : Type 0 where

@@ -1,15 +1,16 @@
 -- How a scan's page is found: the current page if it was made before the scan was opened, else the one waiting page that was current then.
 use mathlib.Core.Path.{_≡_, _∙_, ap}
 use mathlib.Core.Logic.{_⊎_, inl, inr}
-use mathlib.Core.Bool.{Bool, true, false, not, cond, _&&_}
+use mathlib.Core.Bool.{false, cond, _&&_}
 use Prim.Native.Nat.{ℕ, _%_, _≤_, _<_}
 use native.Mathlib.Omega.{arith}
 use lib.Dec.{T, leb, ltb, eqb, eqb→eq, leb→le, nleb→lt, le→leb, ltb→lt, lt→ltb}
 use Rattle.terms.specs.Measures.{Shape}
-use Rattle.history.proofs.Lists.{is-true, refuted, parts, both, eqb-equal}
+use Rattle.history.proofs.Lists.{by-test, is-true, refuted, parts, both, eqb-equal}
 use Rattle.layout.specs.View.{View}
 use Rattle.model.specs.Stored.{PageWords, pageIn, currentIn, placeOf, placesOf, pagesOf, waitingPage, firstFrom}
 use Rattle.model.specs.Reading.{wasCurrent, scanPage}
+use Rattle.model.proofs.Lists.{first-is}
 use Rattle.model.proofs.Represents.{madeIn}
 
 -- what the search asks of a page
@@ -23,9 +24,9 @@ pub was-current : (S : Shape) (v : View) (m place q : ℕ) → T (wasCurrent S v
 unfolding wasCurrent
 was-current S v m place q t =
     let x : PageWords = pageIn v q in
-    let a : T (waitingPage (x .state)) × T (eqb (x .place % placesOf S) place && (leb (x .made) m && ltb m (x .replaced))) = parts (waitingPage (x .state)) _ t in
-    let b : T (eqb (x .place % placesOf S) place) × T (leb (x .made) m && ltb m (x .replaced)) = parts (eqb (x .place % placesOf S) place) _ (a .1) in
-    let c : T (leb (x .made) m) × T (ltb m (x .replaced)) = parts (leb (x .made) m) _ (b .1) in
+    let a = parts (waitingPage (x .state)) _ t in
+    let b = parts (eqb (x .place % placesOf S) place) _ (a .1) in
+    let c = parts (leb (x .made) m) _ (b .1) in
     record { waits = a .0; place-is = eqb→eq _ place (b .0); before = leb→le _ m (c .0); after = ltb→lt m _ (c .1) }
 
 pub is-current : (S : Shape) (v : View) (m place q : ℕ) → WasCurrent S m place (pageIn v q) → T (wasCurrent S v m place q)
@@ -34,6 +35,13 @@ is-current S v m place q o =
     let x : PageWords = pageIn v q in
     both (waitingPage (x .state)) _ (o .waits)
     (both (eqb (x .place % placesOf S) place) _ (eqb-equal _ place (o .place-is)) (both (leb (x .made) m) _ (le→leb _ m (o .before)) (lt→ltb m _ (o .after))))
+
+pub unfound : (S : Shape) (v : View) (m place q : ℕ) → (WasCurrent S m place (pageIn v q) → ⊥) → wasCurrent S v m place q ≡ false
+unfound S v m place q f = refuted (wasCurrent S v m place q) (λ t. f (was-current S v m place q t))
+
+-- a page that does not wait
+pub unfound-state : (S : Shape) (v : View) (m place q : ℕ) → (pageIn v q) .state ≤ 1 → wasCurrent S v m place q ≡ false
+unfound-state S v m place q b = unfound S v m place q (λ x. omega (arith, ltb→lt 1 ((pageIn v q) .state) (x .waits)))
 
 -- the search looks at a page's words alone
 pub search-same : (S : Shape) (v w : View) (m place q : ℕ) → pageIn w q ≡ pageIn v q → wasCurrent S w m place q ≡ wasCurrent S v m place q
@@ -44,21 +52,25 @@ search-same S v w m place q e =
 abbrev pub search : Shape → View → ℕ → ℕ → ℕ → ℕ
 search S v m g c = firstFrom (wasCurrent S v m (placeOf S g c)) (pagesOf S) 0
 
+pub search-is : (S : Shape) (v : View) (m g c : ℕ) → search S v m g c < pagesOf S → WasCurrent S m (placeOf S g c) (pageIn v (search S v m g c))
+search-is S v m g c b = was-current S v m (placeOf S g c) (search S v m g c) (first-is (wasCurrent S v m (placeOf S g c)) (pagesOf S) 0 (omega arith))
+
 pub found-page : (S : Shape) (v : View) (m g c : ℕ) → m < madeIn S v g c → search S v m g c < pagesOf S → scanPage S v m g c ≡ search S v m g c
 unfolding scanPage
 found-page S v m g c a b =
     rw (refuted (leb (madeIn S v g c) m) (λ t. omega (arith, leb→le (madeIn S v g c) m t)), is-true (ltb (search S v m g c) (pagesOf S)) (lt→ltb (search S v m g c) (pagesOf S) b))
 
+abbrev pub Cases : Shape → View → ℕ → ℕ → ℕ → Type 0
+Cases S v m g c = (madeIn S v g c ≤ m) ⊎ ((m < madeIn S v g c) × (search S v m g c < pagesOf S))
+
 -- a scan's page that was made before the scan was opened is the current one, or was found
-pub scan-cases : (S : Shape) (v : View) (m g c : ℕ) → (pageIn v (scanPage S v m g c)) .made ≤ m → (madeIn S v g c ≤ m) ⊎ ((m < madeIn S v g c) × (search S v m g c < pagesOf S))
+pub scan-cases : (S : Shape) (v : View) (m g c : ℕ) → (pageIn v (scanPage S v m g c)) .made ≤ m → Cases S v m g c
 unfolding scanPage
-scan-cases S v m g c = go (leb (madeIn S v g c) m) (leb→le (madeIn S v g c) m) (nleb→lt (madeIn S v g c) m) (ltb (search S v m g c) (pagesOf S)) (ltb→lt (search S v m g c) (pagesOf S))
-  where
-    go : (a : Bool) → (T a → madeIn S v g c ≤ m) → (T (not a) → m < madeIn S v g c) → (b : Bool) → (T b → search S v m g c < pagesOf S)
-        → (pageIn v (cond a (currentIn S v g c) (cond b (search S v m g c) (currentIn S v g c)))) .made ≤ m → (madeIn S v g c ≤ m) ⊎ ((m < madeIn S v g c) × (search S v m g c < pagesOf S))
-    go true f n b q u = inl (f tt)
-    go false f n true q u = inr (n tt, q tt)
-    go false f n false q u = inl u
+scan-cases S v m g c =
+    by-test (λ a. (pageIn v (cond a (currentIn S v g c) (cond (ltb (search S v m g c) (pagesOf S)) (search S v m g c) (currentIn S v g c)))) .made ≤ m → Cases S v m g c) (leb (madeIn S v g c) m)
+    (λ t _. inl (leb→le (madeIn S v g c) m t))
+    (λ n. by-test (λ b. (pageIn v (cond b (search S v m g c) (currentIn S v g c))) .made ≤ m → Cases S v m g c) (ltb (search S v m g c) (pagesOf S))
+    (λ t _. inr (nleb→lt (madeIn S v g c) m n, ltb→lt (search S v m g c) (pagesOf S) t)) (λ _ u. inl u))
 
 -- the same words, the same page
 pub scan-page-same : (S : Shape) (v w : View) (m g c : ℕ) → currentIn S w g c ≡ currentIn S v g c → madeIn S w g c ≡ madeIn S v g c → search S w m g c ≡ search S v m g c

@@ -1,7 +1,7 @@
 -- Open transactions: begin, commit and abort keep the relation. Commit and abort mark every row and record that bears the number.
-use mathlib.Core.Path.{_≡_, refl, sym, _∙_, ap, subst}
+use mathlib.Core.Path.{_≡_, refl, sym, _∙_, ap}
 use mathlib.Core.Logic.{_≢_, inl, inr}
-use mathlib.Core.Bool.{Bool, true, false, not, cond}
+use mathlib.Core.Bool.{true, false, not, cond}
 use mathlib.Core.List.{List, [], _∷_, _++_}
 use Prim.Native.Nat.{ℕ, zero, suc, _+_, _*_, _^_, _≤_, _<_, zero-le}
 use native.Mathlib.Omega.{arith}
@@ -9,14 +9,14 @@ use native.Mathlib.Nat.{le-refl, le-trans, not-suc-le-zero, zero-add, mul-le-mul
 use native.Mathlib.Decide.{ℕ-discrete, decLt}
 use lib.Dec.{T, leb, ltb, eqb, eqb→eq, leb→le, le→leb, nltb→le, ltb→lt, not-T}
 use lib.ListN.{length, getD, set, length-append}
-use lib.Seq.{getD-set-same, getD-set-other}
+use lib.Seq.{getD-set-same, getD-set-other, take-length}
 use Rattle.terms.specs.Measures.{Shape, rangeRows, mostTransactions, mostNumbers}
 use Rattle.history.specs.History.{begin, commit, abort, History, Row, Record, State, unknown, active, aborted, committed, any, count, nth, change, isActive, stateOf, rowAt, rangeOf, recordsOf, scanAt, withTransactions}
-use Rattle.history.specs.Lists.{All, nil, cons}
-use Rattle.history.proofs.Lists.{all-map, eqb-other, eqb-equal, nth-added, nth-changed, nth-other, length-change, parts, both}
+use Rattle.history.proofs.Lists.{by-cases, all-below, nth-beyond, clash, all-map, eqb-other, eqb-equal, nth-changed, nth-other, length-change, parts, both}
 use Rattle.history.proofs.Steps.{Step, Closing, by-commit, by-abort}
 use Rattle.history.specs.Latest.{stampOf}
-use Rattle.history.proofs.States.{isGiven, given-known}
+use Rattle.history.proofs.States.{given-known, state-began}
+use Rattle.history.proofs.Limits.{closing-inactive}
 use Rattle.history.proofs.Order.{InOrder, placed-at}
 use Rattle.history.proofs.Links.{noRecord}
 use Rattle.loops.specs.Change.{marked}
@@ -30,36 +30,40 @@ use Rattle.layout.specs.Regions.{transactionsAt, stampAt}
 use Rattle.model.specs.Stored.{RowWords, RecordWords, rowIn, recordIn, valueIn, pageIn, cellIn, currentIn, openPlace, asAborted, asCommitted}
 use Rattle.model.specs.Reading.{scanPage, wasCurrent}
 use Rattle.model.specs.Writing.{begun, markTails, settled, freed, committedIn, abortedIn}
-use Rattle.model.proofs.Lists.{clash, same-truth, any-count, place-lt, place-is, part-in, is-equal}
-use Rattle.model.proofs.Book.{book-is, book-room, book-add, book-drop, book-only}
-use Rattle.model.proofs.Represents.{stateWord, RowIs, RecordIs, TailIs, RowsAre, TailsAre, OpensAre, Unchanged, NotedIs, NotesAre, Represents, Known, Whole}
-use Rattle.model.proofs.Views.{renew-whole, put-whole, header-put, header-same}
+use Rattle.model.proofs.Lists.{same-truth, any-count, place-lt, place-is, part-in, is-equal}
+use Rattle.model.proofs.Book.{Kind, book-is, book-room, book-add, book-drop, book-only}
+use Rattle.model.proofs.Represents.{stateWord, RowIs, RecordIs, TailOf, RowsAre, TailsAre, OpensAre, Unchanged, NotesAre, Represents, Known, Whole}
+use Rattle.model.proofs.Views.{renew-whole, put-whole, changed-start, header-put, header-same}
 use Rattle.model.proofs.Steady.{currents-stay, waits-stay, scan-stays}
 
 -- ---- the open places are a book
-abbrev self : ℕ → ℕ
-self k = k
-
-abbrev numbered : ℕ → State → ℕ
-numbered i s = i
-
-unknown-idle : isActive unknown ≡ false
+pub unknown-idle : isActive unknown ≡ false
 unfolding isActive
 unknown-idle = refl
 
+abbrev pub openKind : Kind ℕ State
+openKind =
+    record { number = λ k. k; live = isActive; as′ = λ i s. i; as-number = λ i s. refl; free = 0; free-number = refl; none = unknown; none-live = unknown-idle; tells = λ p q f. f (λ k. k) }
+
 pub opens-is : (ts : List State) (l : List ℕ) → OpensAre ts l → (t : ℕ) → any (bears t) l ≡ isActive (nth ts t unknown)
-opens-is ts l o = book-is self isActive numbered (λ i s. refl) 0 refl unknown unknown-idle (λ p q f. f self) ts l o
+opens-is ts l o = book-is openKind ts l o
 
 -- what stands in the place of an active transaction
-pub open-there : (ts : List State) (l : List ℕ) → OpensAre ts l → (t : ℕ) → T (isActive (nth ts t unknown)) → (place (bears t) l < length l) × (getD l (place (bears t) l) 0 ≡ t)
+pub open-there : (ts : List State) (l : List ℕ) → OpensAre ts l → (t : ℕ) → nth ts t unknown ≡ active → (place (bears t) l < length l) × (getD l (place (bears t) l) 0 ≡ t)
+unfolding isActive
 open-there ts l o t a =
-    let b : T (any (bears t) l) = rw (opens-is ts l o t) a in
+    let b : T (any (bears t) l) = rw (opens-is ts l o t, a) tt in
     (place-lt (bears t) l b, eqb→eq _ t (parts (not (eqb (getD l (place (bears t) l) 0) 0)) _ (place-is (bears t) l 0 b) .1))
 
+pub active-some : (ts : List State) (t : ℕ) → nth ts t unknown ≡ active → t ≢ 0
+active-some ts zero a e = clash (cc)
+active-some ts (suc t) a e = omega arith
+
 -- no other place bears its number
-pub other-place : (ts : List State) (l : List ℕ) → OpensAre ts l → (t : ℕ) → T (isActive (nth ts t unknown)) → (j : ℕ) → j < length l → getD l j 0 ≢ 0 → j ≢ place (bears t) l
+pub other-place : (ts : List State) (l : List ℕ) → OpensAre ts l → (t : ℕ) → nth ts t unknown ≡ active → (j : ℕ) → j < length l → getD l j 0 ≢ 0 → j ≢ place (bears t) l
     → getD l j 0 ≢ t
-other-place ts l o t a j b n f e = go (decLt j own) (decLt own j)
+other-place ts l o t a j b n f e =
+    by-cases (decLt j own) (λ p. twice j own p (here .0) bearing found) (λ p. by-cases (decLt own j) (λ q. twice own j q b found bearing) (λ q. f (omega arith)))
   where
     own : ℕ
     own = place (bears t) l
@@ -71,31 +75,27 @@ other-place ts l o t a j b n f e = go (decLt j own) (decLt own j)
     bearing = both (not (eqb (getD l j 0) 0)) _ (not-T (eqb (getD l j 0) 0) (λ z. n (eqb→eq _ 0 z))) (eqb-equal _ t e)
 
     found : T (bears t (getD l own 0))
-    found = subst (λ (i : ℕ). T (bears t i)) (e ∙ sym (here .1)) bearing
+    found = rw (e ∙ sym (here .1)) at bearing
 
     twice : (i k : ℕ) → i < k → k < length l → T (bears t (getD l i 0)) → T (bears t (getD l k 0)) → ⊥
-    twice i k = book-only self isActive numbered (λ i s. refl) 0 refl unknown unknown-idle (λ p q f. f self) ts l o t i k
-
-    go : Dec (j < own) → Dec (own < j) → ⊥
-    go (yes p) q = twice j own p (here .0) bearing found
-    go (no p) (yes q) = twice own j q b found bearing
-    go (no p) (no q) = f (omega (arith, p, q))
+    twice i k = book-only openKind ts l o t i k
 
 -- all places are taken
 pub opens-full : (ts : List State) (l : List ℕ) → length l ≡ mostTransactions → OpensAre ts l → not (any (λ k. eqb k 0) l) ≡ leb mostTransactions (count isActive ts)
 opens-full ts l n o =
-    let e : count (λ k. eqb k 0) l + count isActive ts ≡ length l = book-room self isActive numbered (λ i s. refl) 0 refl unknown unknown-idle (λ p q f. f self) ts l o in
+    let e : count (λ k. eqb k 0) l + count isActive ts ≡ length l = book-room openKind ts l o in
     ap not (any-count (λ k. eqb k 0) l)
     ∙ same-truth _ _ (λ t. le→leb mostTransactions (count isActive ts) (omega (arith, nltb→le 0 (count (λ k. eqb k 0) l) t)))
     (λ t. not-T (ltb 0 (count (λ k. eqb k 0) l)) (λ u. omega (arith, ltb→lt 0 (count (λ k. eqb k 0) l) u, leb→le mostTransactions (count isActive ts) t)))
 
 opens-begin : (ts : List State) (l : List ℕ) → OpensAre ts l → T (any (λ k. eqb k 0) l) → OpensAre (ts ++ active ∷ []) (set l (place (λ k. eqb k 0) l) (suc (length ts)))
 unfolding isActive
-opens-begin ts l o a = book-add self isActive numbered (λ i s. refl) 0 refl unknown unknown-idle (λ p q f. f self) ts l o active tt a
+opens-begin ts l o a = book-add openKind ts l o active tt a
 
-opens-close : (ts : List State) (l : List ℕ) (t : ℕ) (x : State) → OpensAre ts l → T (isActive (nth ts t unknown)) → isActive x ≡ false
+opens-close : (ts : List State) (l : List ℕ) (t : ℕ) (x : State) → OpensAre ts l → nth ts t unknown ≡ active → isActive x ≡ false
     → OpensAre (change ts t x) (set l (place (bears t) l) 0)
-opens-close ts l t x o p n = book-drop self isActive numbered (λ i s. refl) 0 refl unknown unknown-idle (λ p q f. f self) ts l o t p x n
+unfolding isActive
+opens-close ts l t x o p n = book-drop openKind ts l o t (rw p tt) x n
 
 -- ---- rows and records under new states
 row-states : {st st′ : ℕ → State} {w : Row} {recs : List Record} {r : ℕ} {x : RowWords} → st′ (w .inserter) ≡ st (w .inserter) → RowIs st w recs r x → RowIs st′ w recs r x
@@ -106,50 +106,38 @@ record-states e o =
     record { transaction = o .transaction; row = o .row; state = o .state ∙ ap stateWord (sym e); stamp = o .stamp ∙ ap stampOf (sym e); content = o .content }
 
 -- ---- begin
-beyond : {A : Type 0} (l : List A) (d : A) → nth l (suc (length l)) d ≡ d
-beyond [] d = refl
-beyond (x ∷ l) d = beyond l d
-
-all-from : {A : Type 0} {P : A → Type 0} (l : List A) (d : A) → ((k : ℕ) → k < length l → P (getD l k d)) → All P l
-all-from [] d f = nil
-all-from (x ∷ l) d f = cons (f 0 (omega arith)) (all-from l d (λ k b. f (suc k) (omega arith)))
-
 -- a number not yet given has made nothing
 not-begun : (h : History) → InOrder h → Unchanged (h .rows) (h .tail) (suc (length (h .transactions)))
 unfolding stateOf rowAt
 not-begun h i =
     record {
-      no-row = all-from (h .rows) record { inserter = 0; values = [] } (λ r b e. given-known _ (i .inserters r b) (ap (stateOf h) e ∙ beyond (h .transactions) unknown));
-      no-record = all-map (λ y p e. given-known _ (p .giver) (ap (stateOf h) e ∙ beyond (h .transactions) unknown)) (i .records);
+      no-row = rw take-length at (all-below {P = λ (w : Row). w .inserter ≢ suc (length (h .transactions))} (h .rows) (length (h .rows)) record { inserter = 0; values = [] } (le-refl _)
+          (λ r b e. given-known _ (i .inserters r b) (ap (stateOf h) e ∙ nth-beyond unknown (h .transactions))));
+      no-record = all-map (λ y p e. given-known _ (p .giver) (ap (stateOf h) e ∙ nth-beyond unknown (h .transactions))) (i .records);
     }
 
-notes-begin : (rows : List Row) (tail : List Record) (l notes : List ℕ) (j t : ℕ) → j < length l → j < length notes → Unchanged rows tail t → NotesAre rows tail l notes
+-- a place that is taken or freed, with nothing noted
+notes-set : (rows : List Row) (tail : List Record) (l notes : List ℕ) (j t : ℕ) → j < length l → j < length notes → (t ≢ 0 → Unchanged rows tail t) → NotesAre rows tail l notes
     → NotesAre rows tail (set l j t) (set notes j 0)
-notes-begin rows tail l notes j t b c u o k d n = go (ℕ-discrete k j) n
-  where
-    go : Dec (k ≡ j) → getD (set l j t) k 0 ≢ 0 → NotedIs rows tail (getD (set l j t) k 0) (getD (set notes j 0) k 0)
-    go (yes e) n = rw (e, getD-set-same l j t 0 b, getD-set-same notes j 0 0 c) record { bound = zero-le; none = λ _. u }
-    go (no f) n = rw (getD-set-other l j k t 0 f, getD-set-other notes j k 0 0 f) (o k d (λ e. n (getD-set-other l j k t 0 f ∙ e)))
+notes-set rows tail l notes j t b c u o k d = by-cases (ℕ-discrete k j)
+    (λ e. rw (e, getD-set-same l j t 0 b, getD-set-same notes j 0 0 c) (λ n. record { bound = zero-le; none = λ _. u n }))
+    (λ f. rw (getD-set-other l j k t 0 f, getD-set-other notes j k 0 0 f) (o k d))
 
 module _ (S : Shape) (v : View) (ps : List Place) (h : History) (o : Represents S v ps h) (k : Known S h) where
   abbrev begunHistory : History
   begunHistory = withTransactions h (h .transactions ++ active ∷ []) (h .last)
 
-  begun-state : (t : ℕ) → T (isGiven (stateOf h t)) → stateOf begunHistory t ≡ stateOf h t
-  unfolding stateOf withTransactions
-  begun-state t g = nth-added unknown (h .transactions) active t (given-known (stateOf h t) g)
-
   begun-rows : RowsAre begunHistory v
   unfolding rowAt recordsOf withTransactions
-  begun-rows r b = row-states {st = stateOf h} {st′ = stateOf begunHistory} (begun-state _ (k .past .order .inserters r b)) (o .rows r b)
+  begun-rows r b = row-states {st = stateOf h} {st′ = stateOf begunHistory} (state-began h _ (k .past .order .inserters r b)) (o .rows r b)
 
   begun-tails : TailsAre S begunHistory v
   unfolding recordsOf withTransactions
   begun-tails g b =
-      let t : TailIs (S .columns) (stateOf h) (recordsOf h g) (usedIn v g) (λ k. recordIn v (g * S .capacity + k)) (λ k. valueIn S v (g * S .capacity + k)) = o .tails g b in
+      let t : TailOf S (stateOf h) (recordsOf h g) v g = o .tails g b in
       record {
         used-all = t .used-all;
-        each = λ i u. record-states {st = stateOf h} {st′ = stateOf begunHistory} (begun-state _ (placed-at h g (k .past .order) i noRecord u .giver)) (t .each i u);
+        each = λ i u. record-states {st = stateOf h} {st′ = stateOf begunHistory} (state-began h _ (placed-at h g (k .past .order) i noRecord u .giver)) (t .each i u);
         links = t .links;
       }
 
@@ -166,8 +154,8 @@ module _ (S : Shape) (v : View) (ps : List Place) (h : History) (o : Represents 
         header = header-same refl (e ∙ sym (simp length-append (omega arith))) refl refl (header-put (v Header) 5 n (omega (arith, o .whole .long Header)) (omega arith) (o .header));
         opens = rw e (opens-begin (h .transactions) (v Opens) (o .opens) free);
         notes =
-            notes-begin (h .rows) (h .tail) (v Opens) (v Changes) j n inside (omega (arith, inside, o .whole .long Opens, o .whole .long Changes))
-            (subst (λ (t : ℕ). Unchanged (h .rows) (h .tail) t) (sym e) (not-begun h (k .past .order))) (o .notes);
+            notes-set (h .rows) (h .tail) (v Opens) (v Changes) j n inside (omega (arith, inside, o .whole .long Opens, o .whole .long Changes))
+            (λ _. rw e (not-begun h (k .past .order))) (o .notes);
         rows = begun-rows;
         tails = begun-tails;
         currents = currents-stay o k step refl refl;
@@ -193,15 +181,13 @@ module _ (S : Shape) (v : View) (ps : List Place) (h : History) (o : Represents 
 -- ---- the marks
 pub marked-at : (ks : List ℕ) (n t w : ℕ) (l : List ℕ) (r : ℕ) → n ≤ length l → r < n → getD (marked ks 0 n t 0 w l) r 0 ≡ cond (eqb (getD ks r 0) t) w (getD l r 0)
 marked-at ks n t w l r a b =
-    ap (λ (j : ℕ). getD (marked ks 0 n t 0 w l) j 0) (sym (zero-add r))
-    ∙ changed-at (λ i x. cond (eqb (getD ks (0 + i) 0) t) w x) 0 l n r (omega arith) b
-    ∙ ap (λ (j : ℕ). cond (eqb (getD ks j 0) t) w (getD l j 0)) (zero-add r)
+    changed-start (λ i x. cond (eqb (getD ks (0 + i) 0) t) w x) n l r a b ∙ ap (λ (j : ℕ). cond (eqb (getD ks j 0) t) w (getD l r 0)) (zero-add r)
+
+marks-length : (S : Shape) (used ks : List ℕ) (t w n : ℕ) (l : List ℕ) → length (markTails S used ks t w n l) ≡ length l
+marks-length S used ks t w zero l = refl
+marks-length S used ks t w (suc n) l = changed-length _ (n * S .capacity) (markTails S used ks t w n l) (getD used n 0) ∙ marks-length S used ks t w n l
 
 module _ (S : Shape) (used ks : List ℕ) (t w : ℕ) (l : List ℕ) (few : (g : ℕ) → g < S .ranges → getD used g 0 ≤ S .capacity) (room : S .ranges * S .capacity ≤ length l) where
-  marks-length : (n : ℕ) → length (markTails S used ks t w n l) ≡ length l
-  marks-length zero = refl
-  marks-length (suc n) = changed-length _ (n * S .capacity) (markTails S used ks t w n l) (getD used n 0) ∙ marks-length n
-
   -- the ranges from n on are as they were
   marks-above : (n j : ℕ) → n ≤ S .ranges → n * S .capacity ≤ j → getD (markTails S used ks t w n l) j 0 ≡ getD l j 0
   marks-above zero j a b = refl
@@ -212,35 +198,22 @@ module _ (S : Shape) (used ks : List ℕ) (t w : ℕ) (l : List ℕ) (few : (g :
   pub marks-at : (n g i : ℕ) → n ≤ S .ranges → g < n → i < getD used g 0
       → getD (markTails S used ks t w n l) (g * S .capacity + i) 0 ≡ cond (eqb (getD ks (g * S .capacity + i) 0) t) w (getD l (g * S .capacity + i) 0)
   marks-at zero g i a b c = absurd (not-suc-le-zero b)
-  marks-at (suc n) g i a b c = go (ℕ-discrete g n) (λ u. marks-at n g i (omega arith) u c)
-    where
-      go : Dec (g ≡ n) → (g < n → getD (markTails S used ks t w n l) (g * S .capacity + i) 0 ≡ cond (eqb (getD ks (g * S .capacity + i) 0) t) w (getD l (g * S .capacity + i) 0))
-          → getD (markTails S used ks t w (suc n) l) (g * S .capacity + i) 0 ≡ cond (eqb (getD ks (g * S .capacity + i) 0) t) w (getD l (g * S .capacity + i) 0)
-      go (yes e) r =
-          rw e
-          (changed-at (λ i x. cond (eqb (getD ks (n * S .capacity + i) 0) t) w x) (n * S .capacity) (markTails S used ks t w n l) (getD used n 0) i
-          (omega (arith, marks-length n, few n a, suc-mul n (S .capacity), mul-le-mul-right (S .capacity) a)) (rw e at c)
-          ∙ ap (λ (x : ℕ). cond (eqb (getD ks (n * S .capacity + i) 0) t) w x) (marks-above n (n * S .capacity + i) (omega arith) (omega arith)))
-      go (no f) r =
-          let u : g < n = omega (arith, f) in
-          changed-outside _ (n * S .capacity) (markTails S used ks t w n l) (getD used n 0) (g * S .capacity + i)
-          (inl (omega (arith, part-in n (S .capacity) g i u (le-trans c (few g (omega arith))))))
-          ∙ r u
+  marks-at (suc n) g i a b c = by-cases (ℕ-discrete g n)
+      (λ e. rw e
+      (changed-at (λ i x. cond (eqb (getD ks (n * S .capacity + i) 0) t) w x) (n * S .capacity) (markTails S used ks t w n l) (getD used n 0) i
+      (omega (arith, marks-length S used ks t w n l, few n a, suc-mul n (S .capacity), mul-le-mul-right (S .capacity) a)) (rw e at c)
+      ∙ ap (λ (x : ℕ). cond (eqb (getD ks (n * S .capacity + i) 0) t) w x) (marks-above n (n * S .capacity + i) (omega arith) (omega arith))))
+      (λ f. let u : g < n = omega arith in
+      changed-outside _ (n * S .capacity) (markTails S used ks t w n l) (getD used n 0) (g * S .capacity + i)
+      (inl (omega (arith, part-in n (S .capacity) g i u (le-trans c (few g (omega arith))))))
+      ∙ marks-at n g i (omega arith) u c)
 
 marked-fit : (ks : List ℕ) (at n t w : ℕ) (l : List ℕ) → w < 2 ^ 32 → Fit l → Fit (marked ks at n t at w l)
-marked-fit ks at n t w l b f = changed-fit _ at n l (λ i x c d. pick (eqb (getD ks (at + i) 0) t) x d) f
-  where
-    pick : (c : Bool) (x : ℕ) → x < 2 ^ 32 → cond c w x < 2 ^ 32
-    pick true x d = b
-    pick false x d = d
+marked-fit ks at n t w l b f = changed-fit _ at n l (λ i x c d. elim (eqb (getD ks (at + i) 0) t) as (λ z. cond z w x < 2 ^ 32) [ true ↦ b | false ↦ d ]) f
 
 marks-fit : (S : Shape) (used ks : List ℕ) (t w n : ℕ) (l : List ℕ) → w < 2 ^ 32 → Fit l → Fit (markTails S used ks t w n l)
 marks-fit S used ks t w zero l b f = f
 marks-fit S used ks t w (suc n) l b f = marked-fit ks (n * S .capacity) (getD used n 0) t w (markTails S used ks t w n l) b (marks-fit S used ks t w n l b f)
-
-marks-long : (S : Shape) (used ks : List ℕ) (t w n : ℕ) (l : List ℕ) → length (markTails S used ks t w n l) ≡ length l
-marks-long S used ks t w zero l = refl
-marks-long S used ks t w (suc n) l = changed-length _ (n * S .capacity) (markTails S used ks t w n l) (getD used n 0) ∙ marks-long S used ks t w n l
 
 pub settled-whole : {S : Shape} {v : View} (t state stamp : ℕ) → state < 2 ^ 32 → stamp < 2 ^ 32 → Whole S v → Whole S (settled S t state stamp v)
 unfolding settled
@@ -253,23 +226,9 @@ settled-whole {S} {v} t state stamp a b o =
 -- a function of a transaction's state, after t is closed with x
 closed-is : {A : Type 0} (f : State → A) (ts : List State) (t : ℕ) (x : State) (k : ℕ) → nth ts t unknown ≡ active
     → f (nth (change ts t x) k unknown) ≡ cond (eqb k t) (f x) (f (nth ts k unknown))
-closed-is f ts t x k a = go (ℕ-discrete k t)
-  where
-    go : Dec (k ≡ t) → f (nth (change ts t x) k unknown) ≡ cond (eqb k t) (f x) (f (nth ts k unknown))
-    go (yes e) = rw (is-equal k t e) (ap f (ap (λ (j : ℕ). nth (change ts t x) j unknown) e ∙ nth-changed unknown ts t x (λ u. clash (cc))))
-    go (no n) = rw (eqb-other k t n) (ap f (nth-other unknown ts t x k n))
-
-notes-close : (rows : List Row) (tail : List Record) (l notes : List ℕ) (j : ℕ) → j < length l → NotesAre rows tail l notes → NotesAre rows tail (set l j 0) (set notes j 0)
-notes-close rows tail l notes j b o k d n = go (ℕ-discrete k j) n
-  where
-    go : Dec (k ≡ j) → getD (set l j 0) k 0 ≢ 0 → NotedIs rows tail (getD (set l j 0) k 0) (getD (set notes j 0) k 0)
-    go (yes e) n = absurd (n (rw e (getD-set-same l j 0 0 b)))
-    go (no f) n = rw (getD-set-other l j k 0 0 f, getD-set-other notes j k 0 0 f) (o k d (λ e. n (getD-set-other l j k 0 0 f ∙ e)))
-
-closing-idle : {h : History} {x : State} {s : ℕ} → Closing h x s → isActive x ≡ false
-unfolding isActive
-closing-idle (by-commit b) = refl
-closing-idle by-abort = refl
+closed-is f ts t x k a = by-cases (ℕ-discrete k t)
+    (λ e. rw (is-equal k t e, e, nth-changed unknown ts t x (λ u. clash (cc))))
+    (λ n. rw (eqb-other k t n, nth-other unknown ts t x k n))
 
 module _ (S : Shape) (v : View) (ps : List Place) (h : History) (o : Represents S v ps h) (k : Known S h) (t : ℕ) (x : State) (s : ℕ) (a : stateOf h t ≡ active) (c : Closing h x s) where
   abbrev closedHistory : History
@@ -306,7 +265,7 @@ module _ (S : Shape) (v : View) (ps : List Place) (h : History) (o : Represents 
   closed-tails : TailsAre S closedHistory marks
   unfolding stateOf recordsOf withTransactions settled renew recordIn valueIn
   closed-tails g b =
-      let y : TailIs (S .columns) (stateOf h) (recordsOf h g) (usedIn v g) (λ i. recordIn v (g * S .capacity + i)) (λ i. valueIn S v (g * S .capacity + i)) = o .tails g b in
+      let y : TailOf S (stateOf h) (recordsOf h g) v g = o .tails g b in
       record {
         used-all = y .used-all;
         each = λ i u.
@@ -326,18 +285,16 @@ module _ (S : Shape) (v : View) (ps : List Place) (h : History) (o : Represents 
         links = y .links;
       }
 
-  is-active : T (isActive (stateOf h t))
-  unfolding isActive
-  is-active = rw a tt
-
   -- the places after a transaction was closed
   closed-opens : OpensAre (change (h .transactions) t x) (set (v Opens) (place (bears t) (v Opens)) 0)
   unfolding stateOf
-  closed-opens = opens-close (h .transactions) (v Opens) t x (o .opens) is-active (closing-idle c)
+  closed-opens = opens-close (h .transactions) (v Opens) t x (o .opens) a (closing-inactive c)
 
   closed-notes : NotesAre (h .rows) (h .tail) (set (v Opens) (place (bears t) (v Opens)) 0) (set (v Changes) (place (bears t) (v Opens)) 0)
   unfolding stateOf
-  closed-notes = notes-close (h .rows) (h .tail) (v Opens) (v Changes) (place (bears t) (v Opens)) (open-there (h .transactions) (v Opens) (o .opens) t is-active .0) (o .notes)
+  closed-notes =
+      let inside = open-there (h .transactions) (v Opens) (o .opens) t a .0 in
+      notes-set (h .rows) (h .tail) (v Opens) (v Changes) (place (bears t) (v Opens)) 0 inside (omega (arith, o .whole .long Opens, o .whole .long Changes)) (λ f. absurd (f refl)) (o .notes)
 
 pub abort-kept : (S : Shape) (v : View) (ps : List Place) (h : History) → Represents S v ps h → Known S h → (t : ℕ) → stateOf h t ≡ active
     → Step S h (abort t) (withTransactions h (change (h .transactions) t aborted) (h .last))

@@ -1,43 +1,40 @@
 -- Update keeps the relation: one record where every column was set before, two where one is new.
-use mathlib.Core.Path.{_≡_, refl, sym, _∙_, ap, subst}
-use mathlib.Core.Bool.{Bool, true, false, not, cond, _&&_, _||_}
-use mathlib.Core.List.{List, [], _∷_, _++_, append-nil, append-assoc}
-use Prim.Native.Nat.{ℕ, suc, _+_, _^_, _≤_, _<_}
+use mathlib.Core.Path.{_≡_, refl, sym, _∙_, ap}
+use mathlib.Core.Bool.{Bool, true, false, not, cond, _&&_, _||_, or-comm, or-false}
+use mathlib.Core.List.{List, [], _∷_, _++_}
+use Prim.Native.Nat.{ℕ, _+_, _*_, _^_, _≤_, _<_}
 use native.Mathlib.Omega.{arith}
-use native.Mathlib.Decide.{ℕ-discrete}
 use lib.Dec.{T, eqb, eqb→eq}
-use lib.ListN.{length, getD, take, length-append}
+use lib.ListN.{length, getD, take}
 use lib.Seq.{getD-set-same, getD-set-other}
 use lib.IntN.{ℤ, pos}
 use lib.Bits.{bitOr, or-lt, xor-lt}
 use mir.Syntax.{w32}
 use mir.Val.{toZ, ofZ, SFits}
 use mir.ValLaws.{toZ-ofZ, ofZ-fits}
-use Rattle.terms.specs.Measures.{Shape, mostColumns}
+use Rattle.terms.specs.Measures.{Shape, rangeRows, mostColumns}
 use Rattle.history.specs.History.{update, History, Record, Version, active, original, setting, isCommitted, upTo, stateOf, rowAt, insertedValue, inserted, bit, sets, rangeOf, recordsOf, badMask, newColumns, originalRecords, updateRecords, withTail, cellThrough, scanAt}
 use Rattle.history.specs.Lists.{All}
-use Rattle.history.proofs.Lists.{is-true, is-false, refuted, parts, both, among, among-upTo}
+use Rattle.history.proofs.Lists.{eqb-same, is-true, is-false, refuted, parts, among, among-upTo}
 use Rattle.history.proofs.Steps.{Step, New, wasSet, new-columns}
 use Rattle.history.proofs.Masks.{bit-low}
 use Rattle.history.proofs.Ranges.{last-unset}
-use Rattle.history.proofs.Links.{lastOf}
 use Rattle.history.proofs.Endings.{set-range}
 use Rattle.layout.specs.View.{View, renew, put, usedIn}
 use Rattle.layout.specs.declared.Region.the-variants.{RowTransaction, RowState, RowStamp, RowMask, Cells, Changes}
 use Rattle.terms.specs.declared.Place.{Place}
 use Rattle.model.specs.Stored.{RowWords, rowIn, recordIn, valueIn, pageIn, cellIn, currentIn, openPlace, asOriginal, asSetting}
 use Rattle.model.specs.Reading.{scanPage, wasCurrent}
-use Rattle.model.specs.Writing.{noted, nextSlot, appended, filledIn, newBitsIn, recordsWanted, originalAppended, originalWord, settingAppended, updatedIn}
-use Rattle.model.proofs.Lists.{true-false, eqb-same, is-equal}
-use Rattle.model.proofs.Represents.{RowIs, ContentIs, TailsFor, Represents, Known, Whole}
+use Rattle.model.specs.Writing.{noted, appended, filledIn, newBitsIn, recordsWanted, originalAppended, originalWord, settingAppended, updatedIn}
+use Rattle.model.proofs.Lists.{true-false, is-equal}
+use Rattle.model.proofs.Represents.{RowsAre, ContentIs, Represents, Known, Whole}
 use Rattle.model.proofs.Views.{put-whole}
 use Rattle.model.proofs.Insert.{bit-none, value-fits}
 use Rattle.model.proofs.Heads.{in-range}
 use Rattle.model.proofs.Read.{unset-take}
 use Rattle.model.proofs.Masks.{bit-or, bit-new, no-bits}
-use Rattle.model.proofs.Append.{link-here, link-there, used-here, appended-whole, slot-next, slot-in, filled-whole}
 use Rattle.model.proofs.Steady.{currents-stay, waits-stay, scan-stays}
-use Rattle.model.proofs.Records.{last-of-new, tails-are, row-other, row-own, made-notes, filled-more, grow-one, small-shape, row-fits, number-fits}
+use Rattle.model.proofs.Records.{tails-are, made-rows, made-notes, Extended, none-made, extend}
 
 -- ---- the columns that are set for the first time
 module _ (S : Shape) (v : View) (ps : List Place) (h : History) (o : Represents S v ps h) (k : Known S h) (r m : ℕ) (b : r < length (h .rows)) (good : T (not (badMask S m))) where
@@ -107,8 +104,8 @@ module _ (S : Shape) (v : View) (ps : List Place) (h : History) (o : Represents 
   abbrev y : Record
   y = record { transaction = t; row = r; content = setting m vs }
 
-  inside : rangeOf r < S .ranges
-  inside = in-range k r b
+  row-in : r < S .ranges * rangeRows
+  row-in = omega (arith, k .past .limits .rows)
 
   abbrev f₂ : ℕ → ℕ
   f₂ c = ofZ w32 (getD vs c (pos 0))
@@ -119,72 +116,46 @@ module _ (S : Shape) (v : View) (ps : List Place) (h : History) (o : Represents 
   values-fit : (c : ℕ) → f₂ c < 2 ^ 32
   values-fit c = ofZ-fits w32 (getD vs c (pos 0)) (value-fits vs typed c) .fits
 
-  t-fits : t < 2 ^ 32
-  t-fits = omega (arith, number-fits k t a)
-
-  r-fits : r < 2 ^ 32
-  r-fits = omega (arith, row-fits k r b)
-
   union : (c : ℕ) → bit (bitOr m ((rowIn v r) .mask)) c ≡ (bit ((rowIn v r) .mask) c || (eqb r r && bit m c || false))
-  union c = bit-or m ((rowIn v r) .mask) c ∙ rw (eqb-same r) (go (bit m c) (bit ((rowIn v r) .mask) c))
-    where
-      go : (p q : Bool) → (p || q) ≡ (q || (p || false))
-      go true true = refl
-      go true false = refl
-      go false true = refl
-      go false false = refl
+  union c = bit-or m ((rowIn v r) .mask) c ∙ rw (eqb-same r, or-false (bit m c)) (or-comm (bit m c) (bit ((rowIn v r) .mask) c))
 
-  setting-whole : (u : View) → Whole S u → usedIn u (rangeOf r) < S .capacity → Whole S (settingAppended S t r m vs u)
+  add-setting : {ms : List Record} {u : View} → Extended S h v r ms u → length (recordsOf h (rangeOf r)) + length ms < S .capacity → Extended S h v r (ms ++ y ∷ []) (settingAppended S t r m vs u)
   unfolding settingAppended
-  setting-whole u w room =
-      filled-whole S (nextSlot S u (rangeOf r)) f₂ (appended S t r asSetting m u)
-      (appended-whole S t r asSetting m u w inside room t-fits r-fits (omega arith) (omega arith) (small-shape k))
-      (rw (slot-next S t r asSetting m u w inside room) (slot-in S t r asSetting m u w inside room)) values-fit
+  add-setting E room = extend E k t a b (setting m vs) asSetting m room (omega arith) (omega arith) f₂ setting-is values-fit
+
+  -- the row's new mask, in a memory that has the records
+  abbrev masked : View → View
+  masked u = noted t (put RowMask r (bitOr m ((rowIn v r) .mask)) u)
+
+  masked-rows : {ms : List Record} {u : View} → Extended S h v r ms u → All (New h t r) ms → ((c : ℕ) → (eqb r r && bit m c || false) ≡ wasSet ms r c) → RowsAre (withTail h (h .tail ++ ms)) (masked u)
+  masked-rows {ms} {u} E new f = made-rows S v ps h o k t r a b ms new E (masked u) (bitOr m ((rowIn v r) .mask))
+      (λ i n. unfold rowIn noted put renew in (rw (getD-set-other (u RowMask) r i (bitOr m (getD (v RowMask) r 0)) 0 n)))
+      (unfold rowIn noted put renew in (rw (getD-set-same (u RowMask) r (bitOr m (getD (v RowMask) r 0)) 0 (omega (arith, row-in, E .whole .long RowMask)))))
+      (λ c. union c ∙ ap (λ (q : Bool). bit ((rowIn v r) .mask) c || q) (f c))
+
+  masked-whole : {ms : List Record} {u : View} → Extended S h v r ms u → Whole S (masked u)
+  unfolding noted
+  masked-whole E = put-whole Changes _ _ (omega arith) (put-whole RowMask r _ (masks-fit S v r m (o .whole) mask .1) (E .whole))
 
   -- ---- every column was set before
   update-one : length (recordsOf h (rangeOf r)) + 1 ≤ S .capacity → Step S h (update t r m vs) (withTail h (h .tail ++ y ∷ [])) → All (New h t r) (y ∷ [])
       → Represents S (noted t (put RowMask r (bitOr m ((rowIn v r) .mask)) (settingAppended S t r m vs v))) ps (withTail h (h .tail ++ y ∷ []))
   unfolding settingAppended filledIn noted openPlace put renew withTail recordIn valueIn pageIn cellIn currentIn scanPage wasCurrent appended stateOf rowAt scanAt
   update-one room step new =
+      let made = add-setting (none-made S v ps h o r b) (omega arith) in
       record {
         header = o .header;
         opens = o .opens;
         notes = made-notes S v ps h o k t r a b (y ∷ []) new (omega arith);
-        rows = λ i u. rows i (ℕ-discrete i r) u;
-        tails = tails-are S v ps h o k t r a b (y ∷ []) new (settingAppended S t r m vs v) tails;
+        rows = masked-rows made new (λ c. unfold wasSet sets in refl);
+        tails = tails-are S v ps h o k t r a b (y ∷ []) new (settingAppended S t r m vs v) (made .tails);
         currents = currents-stay o k step refl refl;
         waits = waits-stay o k step refl;
         pool = o .pool;
         scans = o .scans;
         scanPages = λ i. scan-stays o k step refl i refl;
-        whole = put-whole Changes _ _ (omega arith) (put-whole RowMask r _ (masks-fit S v r m (o .whole) mask .1) (setting-whole v (o .whole) room′));
+        whole = masked-whole made;
       }
-    where
-      room′ : usedIn v (rangeOf r) < S .capacity
-      room′ = omega (arith, o .tails (rangeOf r) inside .used-all)
-
-      tails : TailsFor S (stateOf h) (λ g. recordsOf h g ++ cond (eqb (rangeOf r) g) (y ∷ []) []) (settingAppended S t r m vs v)
-      tails = filled-more S v (o .whole) (stateOf h) (recordsOf h) _ t r a inside (λ g. k .past .limits .records g) (omega arith) (o .tails) (o .rows r b .link) (setting m vs) asSetting m
-          (λ g. grow-one (recordsOf h g) y (eqb (rangeOf r) g)) f₂ setting-is (small-shape k) t-fits r-fits (omega arith) (omega arith)
-
-      x : View
-      x = noted t (put RowMask r (bitOr m ((rowIn v r) .mask)) (settingAppended S t r m vs v))
-
-      rows : (i : ℕ) → Dec (i ≡ r) → i < length (h .rows) → RowIs (stateOf h) (rowAt h i) (recordsOf (withTail h (h .tail ++ y ∷ [])) (rangeOf i)) i (rowIn x i)
-      rows i (yes e) u =
-          rw e
-          (row-own S v ps h o k t r a b (y ∷ []) new (rowIn v r) (rowIn x r) (unfold rowIn in refl) (unfold rowIn in refl) (unfold rowIn in refl)
-          (unfold rowIn in (link-here S t r asSetting m v (o .whole) inside room′ (omega (arith, k .past .limits .rows)) ∙ ap suc (o .tails (rangeOf r) inside .used-all) ∙ sym (last-of-new (recordsOf h (rangeOf r)) y)))
-          (λ c. ap (λ (n : ℕ). bit n c) mask-here ∙ union c ∙ (unfold wasSet sets in refl))
-          (o .rows r b))
-        where
-          mask-here : (rowIn x r) .mask ≡ bitOr m ((rowIn v r) .mask)
-          mask-here = unfold rowIn in (getD-set-same (v RowMask) r _ 0 (omega (arith, o .whole .long RowMask, k .past .limits .rows)))
-      rows i (no f) u =
-          subst (λ (z : RowWords). RowIs (stateOf h) (rowAt h i) (recordsOf (withTail h (h .tail ++ y ∷ [])) (rangeOf i)) i z) (sym same) (row-other S v ps h o k t r a b (y ∷ []) new i (rowIn v i) f (o .rows i u))
-        where
-          same : rowIn x i ≡ rowIn v i
-          same = unfold rowIn in (λ j. record { transaction = getD (v RowTransaction) i 0; state = getD (v RowState) i 0; stamp = getD (v RowStamp) i 0; link = link-there S t r asSetting m v (o .whole) inside room′ i f j; mask = getD-set-other (v RowMask) r i (bitOr m (getD (v RowMask) r 0)) 0 f j })
 
   -- ---- a column is new: its original value goes first
   update-two : (d : ℕ) (cs : List ℕ) → newColumns h r m ≡ d ∷ cs → length (recordsOf h (rangeOf r)) + 2 ≤ S .capacity
@@ -197,122 +168,29 @@ module _ (S : Shape) (v : View) (ps : List Place) (h : History) (o : Represents 
       record {
         header = o .header;
         opens = o .opens;
-        notes = made-notes S v ps h o k t r a b ms new (omega arith);
-        rows = λ i u. (unfold rowAt in rows i (ℕ-discrete i r) u);
-        tails = tails-are S v ps h o k t r a b ms new (settingAppended S t r m vs u₁) tails₂;
+        notes = made-notes S v ps h o k t r a b (w ∷ y ∷ []) new (omega arith);
+        rows = masked-rows two new (λ c. unfold wasSet sets in (rw (eqb-same r)));
+        tails = tails-are S v ps h o k t r a b (w ∷ y ∷ []) new (settingAppended S t r m vs (originalAppended S t r m v)) (two .tails);
         currents = currents-stay o k step refl refl;
         waits = waits-stay o k step refl;
         pool = o .pool;
         scans = o .scans;
         scanPages = λ i. scan-stays o k step refl i refl;
-        whole = put-whole Changes _ _ (omega arith) (put-whole RowMask r _ (masks-fit S v r m (o .whole) mask .1) (setting-whole u₁ whole₁ room₂));
+        whole = masked-whole two;
       }
     where
       w : Record
       w = record { transaction = t; row = r; content = original (d ∷ cs) ((rowAt h r) .values) }
 
-      ms : List Record
-      ms = w ∷ y ∷ []
-
-      recs : List Record
-      recs = recordsOf h (rangeOf r)
-
-      fresh : ℕ
-      fresh = newBitsIn v r m
-
-      fresh-fits : newBitsIn v r m < 2 ^ 32
-      fresh-fits = masks-fit S v r m (o .whole) mask .0
-
-      f₁ : ℕ → ℕ
-      f₁ = originalWord S v r
-
-      original-is : ContentIs (S .columns) (original (d ∷ cs) ((rowAt h r) .values)) asOriginal (newBitsIn v r m) f₁
+      original-is : ContentIs (S .columns) (original (d ∷ cs) ((rowAt h r) .values)) asOriginal (newBitsIn v r m) (originalWord S v r)
       original-is = (refl, (λ c. original-bits S v ps h o k r m b good c ∙ ap (among c) e), (λ c q u. original-cell S v ps h o k r m b good c q u))
 
-      u₁ : View
-      u₁ = originalAppended S t r m v
+      one : Extended S h v r (w ∷ []) (originalAppended S t r m v)
+      one = extend (none-made S v ps h o r b) k t a b (original (d ∷ cs) ((rowAt h r) .values)) asOriginal (newBitsIn v r m) (omega arith) (omega arith) (masks-fit S v r m (o .whole) mask .0)
+          (originalWord S v r) original-is (λ c. o .whole .fits Cells _)
 
-      room₁ : usedIn v (rangeOf r) < S .capacity
-      room₁ = omega (arith, o .tails (rangeOf r) inside .used-all)
-
-      whole₁ : Whole S (originalAppended S t r m v)
-      whole₁ = filled-whole S (nextSlot S v (rangeOf r)) f₁ (appended S t r asOriginal fresh v)
-          (appended-whole S t r asOriginal fresh v (o .whole) inside room₁ t-fits r-fits (omega arith) fresh-fits (small-shape k))
-          (rw (slot-next S t r asOriginal fresh v (o .whole) inside room₁) (slot-in S t r asOriginal fresh v (o .whole) inside room₁)) (λ c. o .whole .fits Cells _)
-
-      list₁ : ℕ → List Record
-      list₁ g = recordsOf h g ++ cond (eqb (rangeOf r) g) (w ∷ []) []
-
-      list₂ : ℕ → List Record
-      list₂ g = recordsOf h g ++ cond (eqb (rangeOf r) g) (w ∷ y ∷ []) []
-
-      tails₁ : TailsFor S (stateOf h) list₁ (originalAppended S t r m v)
-      tails₁ = filled-more S v (o .whole) (stateOf h) (recordsOf h) list₁ t r a inside (λ g. k .past .limits .records g) (omega arith) (o .tails) (o .rows r b .link)
-          (original (d ∷ cs) ((rowAt h r) .values)) asOriginal fresh (λ g. grow-one (recordsOf h g) w (eqb (rangeOf r) g)) f₁ original-is (small-shape k) t-fits r-fits (omega arith) fresh-fits
-
-      here₁ : list₁ (rangeOf r) ≡ recs ++ w ∷ []
-      here₁ = rw (eqb-same (rangeOf r))
-
-      used₁ : usedIn u₁ (rangeOf r) ≡ suc (length recs)
-      used₁ = used-here S t r asOriginal fresh v (o .whole) inside room₁ ∙ ap suc (o .tails (rangeOf r) inside .used-all)
-
-      length₁ : length (list₁ (rangeOf r)) ≡ suc (length recs)
-      length₁ = ap length here₁ ∙ simp length-append (omega arith)
-
-      room₂ : usedIn u₁ (rangeOf r) < S .capacity
-      room₂ = omega (arith, used₁)
-
-      link₁ : (rowIn u₁ r) .link ≡ suc (length recs)
-      link₁ = unfold rowIn in (link-here S t r asOriginal fresh v (o .whole) inside room₁ (omega (arith, k .past .limits .rows)) ∙ ap suc (o .tails (rangeOf r) inside .used-all))
-
-      few₁ : (g : ℕ) → length (list₁ g) ≤ S .capacity
-      few₁ g = pick (eqb (rangeOf r) g) (eqb→eq (rangeOf r) g)
-        where
-          pick : (q : Bool) → (T q → rangeOf r ≡ g) → length (recordsOf h g ++ cond q (w ∷ []) []) ≤ S .capacity
-          pick true z = rw (← (z tt), length-append) (omega arith)
-          pick false z = rw (append-nil (recordsOf h g)) (k .past .limits .records g)
-
-      grows₂ : (g : ℕ) → list₂ g ≡ cond (eqb (rangeOf r) g) (list₁ g ++ y ∷ []) (list₁ g)
-      grows₂ g = pick (eqb (rangeOf r) g)
-        where
-          pick : (q : Bool) → recordsOf h g ++ cond q (w ∷ y ∷ []) [] ≡ cond q ((recordsOf h g ++ cond q (w ∷ []) []) ++ y ∷ []) (recordsOf h g ++ cond q (w ∷ []) [])
-          pick true = sym (append-assoc (recordsOf h g) (w ∷ []) (y ∷ []))
-          pick false = refl
-
-      tails₂ : TailsFor S (stateOf h) list₂ (settingAppended S t r m vs (originalAppended S t r m v))
-      tails₂ = filled-more S u₁ whole₁ (stateOf h) list₁ list₂ t r a inside few₁ (omega (arith, length₁)) tails₁
-          (link₁ ∙ sym (ap (λ (l : List Record). lastOf l r (length l)) here₁ ∙ last-of-new recs w)) (setting m vs) asSetting m grows₂ f₂ setting-is (small-shape k) t-fits r-fits (omega arith) (omega arith)
-
-      x : View
-      x = noted t (put RowMask r (bitOr m ((rowIn v r) .mask)) (settingAppended S t r m vs (originalAppended S t r m v)))
-
-      rows : (i : ℕ) → Dec (i ≡ r) → i < length (h .rows) → RowIs (stateOf h) (rowAt h i) (recordsOf (withTail h (h .tail ++ ms)) (rangeOf i)) i (rowIn x i)
-      rows i (yes q) u =
-          rw q
-          (row-own S v ps h o k t r a b ms new (rowIn v r) (rowIn x r) (unfold rowIn in refl) (unfold rowIn in refl) (unfold rowIn in refl)
-          (unfold rowIn in (link-here S t r asSetting m u₁ whole₁ inside room₂ (omega (arith, k .past .limits .rows)) ∙ ap suc used₁ ∙ sym both))
-          (λ c. ap (λ (n : ℕ). bit n c) mask-here ∙ union c ∙ (unfold wasSet sets in (rw (eqb-same r))))
-          (o .rows r b))
-        where
-          mask-here : (rowIn x r) .mask ≡ bitOr m ((rowIn v r) .mask)
-          mask-here = unfold rowIn in (getD-set-same (v RowMask) r _ 0 (omega (arith, o .whole .long RowMask, k .past .limits .rows)))
-
-          both : lastOf (recs ++ w ∷ y ∷ []) r (length (recs ++ w ∷ y ∷ [])) ≡ suc (suc (length recs))
-          both =
-              ap (λ (l : List Record). lastOf l r (length l)) (sym (append-assoc recs (w ∷ []) (y ∷ [])))
-              ∙ last-of-new (recs ++ w ∷ []) y ∙ ap suc (simp length-append (omega arith))
-      rows i (no f) u =
-          subst (λ (z : RowWords). RowIs (stateOf h) (rowAt h i) (recordsOf (withTail h (h .tail ++ ms)) (rangeOf i)) i z) (sym same) (row-other S v ps h o k t r a b ms new i (rowIn v i) f (o .rows i u))
-        where
-          same : rowIn x i ≡ rowIn v i
-          same = unfold rowIn in
-              (λ j. record {
-                transaction = getD (v RowTransaction) i 0;
-                state = getD (v RowState) i 0;
-                stamp = getD (v RowStamp) i 0;
-                link = (link-there S t r asSetting m u₁ whole₁ inside room₂ i f ∙ link-there S t r asOriginal fresh v (o .whole) inside room₁ i f) j;
-                mask = getD-set-other (v RowMask) r i (bitOr m (getD (v RowMask) r 0)) 0 f j;
-              })
+      two : Extended S h v r (w ∷ y ∷ []) (settingAppended S t r m vs (originalAppended S t r m v))
+      two = add-setting one (omega arith)
 
   pub update-kept : length (recordsOf h (rangeOf r)) + length (updateRecords h t r m vs) ≤ S .capacity → Step S h (update t r m vs) (withTail h (h .tail ++ updateRecords h t r m vs))
       → All (New h t r) (updateRecords h t r m vs) → Represents S (updatedIn S t r m vs v) ps (withTail h (h .tail ++ updateRecords h t r m vs))
@@ -322,11 +200,5 @@ module _ (S : Shape) (v : View) (ps : List Place) (h : History) (o : Represents 
       go : (cs : List ℕ) → newColumns h r m ≡ cs → length (recordsOf h (rangeOf r)) + length (originalRecords t r cs ((rowAt h r) .values) ++ y ∷ []) ≤ S .capacity
           → Step S h (update t r m vs) (withTail h (h .tail ++ (originalRecords t r cs ((rowAt h r) .values) ++ y ∷ []))) → All (New h t r) (originalRecords t r cs ((rowAt h r) .values) ++ y ∷ [])
           → Represents S (updatedIn S t r m vs v) ps (withTail h (h .tail ++ (originalRecords t r cs ((rowAt h r) .values) ++ y ∷ [])))
-      go [] e room step new =
-          subst (λ (q : Bool). Represents S (noted t (put RowMask r (bitOr m ((rowIn v r) .mask)) (cond q (settingAppended S t r m vs v) (settingAppended S t r m vs (originalAppended S t r m v))))) ps (withTail h (h .tail ++ y ∷ [])))
-          (sym (none-new S v ps h o k r m b good e)) (update-one room step new)
-      go (d ∷ cs) e room step new =
-          subst
-          (λ (q : Bool). Represents S (noted t (put RowMask r (bitOr m ((rowIn v r) .mask)) (cond q (settingAppended S t r m vs v) (settingAppended S t r m vs (originalAppended S t r m v))))) ps
-          (withTail h (h .tail ++ record { transaction = t; row = r; content = original (d ∷ cs) ((rowAt h r) .values) } ∷ y ∷ [])))
-          (sym (some-new S v ps h o k r m b good d cs e)) (update-two d cs e room step new)
+      go [] e room step new = rw (none-new S v ps h o k r m b good e) (update-one room step new)
+      go (d ∷ cs) e room step new = rw (some-new S v ps h o k r m b good d cs e) (update-two d cs e room step new)

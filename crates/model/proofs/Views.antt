@@ -1,43 +1,44 @@
--- Laws of views that the layout leaves open: words that fit stay so; and the header after a count was written.
-use mathlib.Core.Path.{_≡_, _∙_, ap}
-use mathlib.Core.Bool.{Bool, true, false, cond}
+-- Laws of views that the layout leaves open: words that fit stay so; a region after a pass over it; and the header after a count was written.
+use mathlib.Core.Path.{_≡_, sym, _∙_, ap}
+use mathlib.Core.Bool.{true, false, cond}
 use mathlib.Core.List.{List}
 use Prim.Native.Nat.{ℕ, _<_, _≤_, _^_}
 use native.Mathlib.Omega.{arith}
+use native.Mathlib.Nat.{zero-add}
 use native.Mathlib.Decide.{ℕ-discrete}
 use lib.Dec.{eqb}
 use lib.ListN.{length, getD, set, length-set}
 use Rattle.terms.specs.Measures.{Shape}
 use lib.Seq.{getD-set-same, getD-set-other}
 use Rattle.words.proofs.Words.{Fit}
-use Rattle.loops.proofs.Change.{set-fit}
+use Rattle.loops.specs.Change.{changed}
+use Rattle.loops.proofs.Change.{changed-at, set-fit}
 use Rattle.layout.specs.Regions.{index, len}
 use Rattle.layout.specs.View.{View, renew, put}
 use Rattle.layout.proofs.View.{renew-long}
 use Rattle.layout.specs.declared.Region.{Region}
 use Rattle.layout.specs.Sizes.{sizesOf}
-use Rattle.history.proofs.Lists.{eqb-other}
-use Rattle.model.proofs.Lists.{eqb-same}
+use Rattle.history.proofs.Lists.{by-cases, eqb-same, eqb-other}
 use Rattle.model.proofs.Represents.{Whole, HeaderIs}
 
 pub renew-whole : {S : Shape} {v : View} (k : Region) (l : List ℕ) → length l ≡ len (sizesOf S) k → Fit l → Whole S v → Whole S (renew k l v)
-renew-whole {S} {v} k l e f o = record { long = renew-long (sizesOf S) k l v e (o .long); fits = unfold renew in (λ j. go (v j) (eqb (index k) (index j)) (o .fits j)) }
-  where
-    go : (m : List ℕ) (b : Bool) → Fit m → Fit (cond b l m)
-    go m true g = f
-    go m false g = g
+renew-whole {S} {v} k l e f o = record {
+  long = renew-long (sizesOf S) k l v e (o .long);
+  fits = unfold renew in (λ j. elim (eqb (index k) (index j)) as (λ b. Fit (cond b l (v j))) [ true ↦ f | false ↦ o .fits j ]);
+}
 
 pub put-whole : {S : Shape} {v : View} (k : Region) (i w : ℕ) → w < 2 ^ 32 → Whole S v → Whole S (put k i w v)
 unfolding put
 put-whole {v = v} k i w b o = renew-whole k (set (v k) i w) (length-set (v k) i w ∙ o .long k) (set-fit (v k) i w (o .fits k) b) o
 
+-- ---- a pass over a region from its start
+pub changed-start : (f : ℕ → ℕ → ℕ) (n : ℕ) (l : List ℕ) (i : ℕ) → n ≤ length l → i < n → getD (changed f 0 n l) i 0 ≡ f i (getD l i 0)
+changed-start f n l i a b =
+    ap (λ (j : ℕ). getD (changed f 0 n l) j 0) (sym (zero-add i)) ∙ changed-at f 0 l n i (omega arith) b ∙ ap (λ (j : ℕ). f i (getD l j 0)) (zero-add i)
+
 -- ---- the header: one of its counts is written, and counts that are equal
 word-put : (ws : List ℕ) (i k n : ℕ) → i < length ws → getD (set ws i n) k 0 ≡ cond (eqb k i) n (getD ws k 0)
-word-put ws i k n b = go (ℕ-discrete k i)
-  where
-    go : Dec (k ≡ i) → getD (set ws i n) k 0 ≡ cond (eqb k i) n (getD ws k 0)
-    go (yes e) = rw (e, eqb-same i) (getD-set-same ws i n 0 b)
-    go (no f) = rw (eqb-other k i f) (getD-set-other ws i k n 0 f)
+word-put ws i k n b = by-cases (ℕ-discrete k i) (λ e. rw (e, eqb-same i) (getD-set-same ws i n 0 b)) (λ f. rw (eqb-other k i f) (getD-set-other ws i k n 0 f))
 
 module _ {S : Shape} {r t s l m : ℕ} where
   pub header-put : (ws : List ℕ) (i n : ℕ) → i < length ws → 4 ≤ i → HeaderIs S r t s l m (λ k. getD ws k 0)
@@ -56,15 +57,4 @@ module _ {S : Shape} {r t s l m : ℕ} where
       }
 
   pub header-same : {r′ t′ s′ m′ : ℕ} {word : ℕ → ℕ} → r ≡ r′ → t ≡ t′ → s ≡ s′ → m ≡ m′ → HeaderIs S r t s l m word → HeaderIs S r′ t′ s′ l m′ word
-  header-same a b c d o =
-      record {
-        columns = o .columns;
-        ranges = o .ranges;
-        capacity = o .capacity;
-        spares = o .spares;
-        rows-given = o .rows-given ∙ a;
-        transactions-given = o .transactions-given ∙ b;
-        scans-given = o .scans-given ∙ c;
-        last-stamp = o .last-stamp;
-        merges-made = o .merges-made ∙ d;
-      }
+  header-same a b c d o = rw (← a, ← b, ← c, ← d) o

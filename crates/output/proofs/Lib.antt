@@ -1,2 +1,3 @@
+-- That a program which reads as it goes writes what must be written; examples by computation.
 pub mod Steps
 pub mod Vectors

@@ -1,3 +1,4 @@
+-- What gatebook must write for any input, at once and step by step, and the worked example.
 pub mod Output
 pub mod Steps
 pub mod Example

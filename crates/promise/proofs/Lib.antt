@@ -1,3 +1,4 @@
+-- The demands, proved of lent bytes: a store that calls made is usable, so what the calls promise is what the model says.
 pub mod Tests
 pub mod Pool
 pub mod Stored

@@ -14,12 +14,14 @@ use Rattle.terms.specs.declared.Place.{Place}
 use Rattle.layout.specs.declared.Region.the-variants.{Opens, TailRow, Used, Current, PageState}
 use Rattle.layout.specs.View.{View, rowsGiven, transactionsGiven, scansGiven, lastStamp, mergesMade, usedIn}
 use Rattle.layout.specs.Sizes.{sizesOf}
-use Rattle.history.specs.History.{History, State, unknown, active, aborted, committed, Scan, count, any, nth, isActive, stateOf, rowAt, rangeOf, recordsOf, scanAt}
+use Rattle.layout.proofs.Limits.{proper}
+use Rattle.history.specs.History.{History, State, unknown, active, aborted, committed, count, any, nth, isActive, stateOf, rowAt, rangeOf, recordsOf, scanAt}
 use Rattle.history.proofs.Lists.{all-at, parts, eqb-other, eqb-equal, place-any}
 use Rattle.history.specs.Latest.{stampOf}
 use Rattle.history.proofs.States.{isGiven, Stamped}
 use Rattle.history.proofs.Order.{Placed, placed-at}
 use Rattle.history.proofs.Ranges.{records-range}
+use Rattle.history.proofs.Steps.{noScan}
 use Rattle.history.proofs.Timely.{Timely}
 use Rattle.history.proofs.Links.{noRecord, lastOf, last-of-row}
 use Rattle.scans.specs.Places.{opened, openCount}
@@ -33,8 +35,8 @@ use Rattle.model.proofs.Lists.{same-part, place-is}
 use Rattle.model.proofs.Book.{book-only}
 use Rattle.model.proofs.Merged.{place-in, place-mod}
 use Rattle.model.proofs.Heads.{in-range}
-use Rattle.model.proofs.Scans.{scan-is, scan-count, scan-found, same-place}
-use Rattle.model.proofs.Transactions.{opens-is}
+use Rattle.model.proofs.Scans.{scanKind, scan-is, scan-count, scan-found}
+use Rattle.model.proofs.Transactions.{openKind, opens-is}
 use Rattle.model.proofs.Represents.{RecordIs, CurrentIs, WaitingIs, madeIn, scanAs, Represents, Known}
 use Rattle.promise.proofs.Tests.{facts-hold}
 use Rattle.promise.proofs.Pool.{all-taken}
@@ -69,12 +71,6 @@ opened-count (p ∷ ps) = go (eqb (p .number) 0) (opened-count ps)
         → length (cond (not b) (p ∷ opened ps) (opened ps)) ≡ cond (not b) (suc (count (λ p. not (eqb (p .number) 0)) ps)) (count (λ p. not (eqb (p .number) 0)) ps)
     go true e = e
     go false e = ap suc e
-
-abbrev noScan : Scan
-noScan = record { running = false; stamp = 0; before = 0 }
-
-abbrev self : ℕ → ℕ
-self k = k
 
 -- ---- places of pages
 
@@ -171,7 +167,7 @@ module _ (S : Shape) (v : View) (ps : List Place) (h : History) (o : Represents 
     where
       twice : (t : ℕ) → t ≢ 0 → getD (v Opens) i 0 ≡ t → getD (v Opens) j 0 ≡ t → ⊥
       twice t n p q =
-          book-only self isActive (λ i s. i) (λ i s. refl) 0 refl unknown refl (λ p q f. f self) (h .transactions) (v Opens) (o .opens) t i j b
+          book-only openKind (h .transactions) (v Opens) (o .opens) t i j b
           (within-list (v Opens) j (rw q n)) (rw p (bearing t n)) (rw q (bearing t n))
 
       go : Dec (getD (v Opens) i 0 ≡ 0) → getD (v Opens) i 0 ≡ 0
@@ -185,7 +181,7 @@ module _ (S : Shape) (v : View) (ps : List Place) (h : History) (o : Represents 
 
   scans-twice : (t i j : ℕ) → i < j → t ≢ 0 → getD ps i freePlace .number ≡ t → getD ps j freePlace .number ≡ t → ⊥
   scans-twice t i j b n p q =
-      book-only (λ p. p .number) (λ s. s .running) scanAs (λ i s. refl) freePlace refl noScan refl same-place (h .scans) ps (o .scans .same) t i j b
+      book-only scanKind (h .scans) ps (o .scans .same) t i j b
       (within-places ps j (rw q n)) (rw p (bearing t n)) (rw q (bearing t n))
 
   scan-place : (j : ℕ) → getD ps j freePlace .number ≢ 0 → PlaceIs (getD ps j freePlace)

@@ -1,2 +1,3 @@
+-- What the proofs of the replies share.
 pub mod Tested
 pub mod Types

@@ -1,3 +1,4 @@
+-- What a commit or an abort marks, word by word.
 pub mod Views
 pub mod Indices
 pub mod Places

@@ -236,7 +236,7 @@ impl Derivation {
             Result::Plain(p) => (format!("(res {p})"), format!("(type {p})"), format!("(full {p})")),
             Result::Unit => ("rUnit".to_string(), "tyUnit".to_string(), "(sc-here sUnit)".to_string()),
         };
-        self.part(&format!("s-{what}"), "Both", format!("callB ps-{what} {kind} P-{what} Q-{what} {a} {named} {to} ({slots}[]) {mir}"));
+        self.part(&format!("s-{what}"), "Both", format!("callB ps-{what} {kind} (none-asked ps-{what}) Q-{what} {a} {named} {to} ({slots}[]) {mir}"));
         self.rows[to] = full;
         for x in arguments {
             if let Passed::Slice(l, Changed) = x {
@@ -246,7 +246,7 @@ impl Derivation {
         self.step(
             Some(format!("call {function} ({operands}[]) (place {to} [])")),
             format!("(both s-{what})"),
-            format!("(t-call-plain {W} 𝓣 {lifetimes} ps-{what} {kind} P-{what} Q-{what} {function} k-{what} E (λ pos β. β) {a} {named} {to} ({slots}[]) (sub-id {W} ({a} .slots)) {had} (room-gone 𝓤 H A {mir}) {outlives} refl)"),
+            format!("(t-call-plain {W} 𝓣 {lifetimes} ps-{what} {kind} (none-asked ps-{what}) Q-{what} {function} k-{what} E (λ pos β. β) {a} {named} {to} ({slots}[]) (sub-id {W} ({a} .slots)) {had} (room-gone 𝓤 H A {mir}) {outlives} refl)"),
             Premise::Called(what),
         );
     }
@@ -316,7 +316,7 @@ const RULES: &str =
     room-sc g-begin g-end g-forget k-shs-known g-shs-known reads-sslice room-sslice lenV mslice msleft reads-mslice mslice-owed msptr ssptr \
     asMut asShr k-sl-relend t-sl-relend k-sl-aggregate t-sl-aggregate reads-owed-len k-back-sl g-back-sl mslice-owedS k-sl-reshare t-sl-reshare \
     reads-owedS-len n-back-sl-shr g-back-sl-shr pShrS spares-sslice pMutS fix-len EnvOf tysP PK In Out rUnit tyR callB sub-id Known \
-    t-call-plain t-fn-plain fnOf Over World Place byte entry bytes places";
+    t-call-plain t-fn-plain fnOf Over World Place byte entry bytes places list-read list-again memory-again at none-asked";
 
 fn mentioned(text: &str) -> String {
     let words: std::collections::HashSet<&str> = text.split(|c: char| c.is_whitespace() || "(){},;".contains(c)).collect();
@@ -328,7 +328,16 @@ fn mentioned(text: &str) -> String {
 fn define(out: &mut String, indent: usize, public: bool, name: &str, kind: &str, value: &str) {
     let (pad, public) = (" ".repeat(indent), if public { "pub " } else { "" });
     let head = name.split(' ').next().unwrap();
-    writeln!(out, "{pad}abbrev {public}{head} : {kind}\n{pad}{name} = {value}\n").unwrap();
+    let space = if value.starts_with('\n') { "" } else { " " };
+    writeln!(out, "{pad}abbrev {public}{head} : {kind}\n{pad}{name} ={space}{value}\n").unwrap();
+}
+
+/// Terms each of which has the next as its last argument, one to a line, and the last of all, in the formatter's way.
+fn nested(indent: usize, terms: &[impl AsRef<str>], last: &str) -> String {
+    let pad = " ".repeat(indent);
+    let (last, open) = if last.contains(' ') { (format!("({last}"), terms.len()) } else { (last.to_string(), terms.len() - 1) };
+    let lines: Vec<&str> = terms.iter().map(AsRef::as_ref).collect();
+    format!("\n{pad}{}\n{pad}{last}{}", lines.join(&format!("\n{pad}(")), ")".repeat(open))
 }
 
 /// The text of a law.
@@ -355,8 +364,8 @@ pub fn law(s: &Shape) -> String {
         slot += 1;
         l
     };
-    let asked = lists.then(|| take(2, "own-l", "read-l", "entry", "life-l", "read", &mut types));
-    let memory = writes.then(|| take(1, "own-m", "again-m", "byte", "life-m", "memory", &mut types));
+    let asked = lists.then(|| take(2, "own-l", "list-read", "entry", "life-l", "read", &mut types));
+    let memory = writes.then(|| take(1, "own-m", "memory-again", "byte", "life-m", "memory", &mut types));
     let unit = asked.map(|_| 3 + k + types.len());
     if lists {
         types.push("tyUnit".to_string());
@@ -367,14 +376,14 @@ pub fn law(s: &Shape) -> String {
             slot: 1,
             element: "entry",
             own: "own-l",
-            again: "again-l",
+            again: "list-again",
             pointer: 3 + k + types.len(),
             slice: 4 + k + types.len(),
             new: n + 1 + usize::from(writes),
             life: "life-l",
             label: "keep",
         };
-        types.extend(["again-l".to_string(), "sliceTy again-l".to_string()]);
+        types.extend(["list-again".to_string(), "sliceTy list-again".to_string()]);
         l
     });
     let loans = usize::from(asked.is_some()) + usize::from(writes) + usize::from(kept.is_some());
@@ -533,27 +542,18 @@ fn text(s: &Shape, d: &Derivation, types: &[String], n: usize, loans: usize) -> 
         define(o, 2, true, "ps-store", "List (PK 1)", "pMutS entry 0 tt ∷ arg d ∷ []");
         define(o, 2, true, "ps-last", "List (PK 0)", "arg d ∷ []");
         define(o, 2, false, "own-l", "Ty", "places (named 1) mut");
-        define(o, 2, false, "read-l", "Ty", "places erased imm");
-        define(o, 2, false, "again-l", "Ty", "places erased mut");
     }
     if writes {
         define(o, 2, false, "own-m", "Ty", "bytes (named 0) mut");
-        define(o, 2, false, "again-m", "Ty", "bytes erased mut");
     }
     let listed: String = types.iter().map(|kind| format!("{kind} ∷ ")).collect();
     define(o, 2, true, "xs", "List Ty", &format!("{listed}[]"));
     define(o, 2, true, "hs", "List Home", &format!("{}[]", "valueLocal ∷ ".repeat(d.rows.len())));
-    define(o, 2, false, "at i", "ℕ → Opd", "copy (place i [])");
 
-    // the code: rest i is what follows statement i
+    // the code
     let statements: Vec<&String> = d.steps.iter().filter_map(|s| s.statement.as_ref()).collect();
-    let last = statements.len();
-    let rest = |i: usize| if i == last { "return".to_string() } else { format!("rest{i}") };
-    for (i, statement) in statements.iter().enumerate().rev() {
-        define(o, 2, false, &format!("do{i}"), "Body", statement);
-        define(o, 2, false, &format!("rest{i}"), "Body", &format!("seq do{i} {}", rest(i + 1)));
-    }
-    define(o, 2, true, "body", "Body", "rest0");
+    let code = nested(6, &statements.iter().map(|x| format!("seq ({x})")).collect::<Vec<_>>(), "return");
+    define(o, 2, true, "body", "Body", &code);
 
     // what the functions ensure
     let took: String = (1..=k).map(|i| format!("{} → ", denotation(i))).collect();
@@ -583,7 +583,6 @@ fn text(s: &Shape, d: &Derivation, types: &[String], n: usize, loans: usize) -> 
     }
     claims.push(("call", n, "ps", "(res r)", format!("post (now (a .0)) (now (a .1 .0)){passed} z{memory_left}{list_left}")));
     for (name, lifetimes, ps, result, claim) in &claims {
-        define(o, 4, true, &format!("P-{name} κs a"), &format!("In {lifetimes} {ps}"), "Unit {0}");
         define(o, 4, true, &format!("Q-{name} κs a z e"), &format!("Out {lifetimes} {ps} {result}"), claim);
     }
 
@@ -611,45 +610,30 @@ fn text(s: &Shape, d: &Derivation, types: &[String], n: usize, loans: usize) -> 
     for (name, kind, value) in &d.parts {
         define(o, 6, false, name, kind, value);
     }
-    define(o, 6, false, &format!("Φ{end}"), &format!("TF G{end} Δ"), "atRet Δ");
-    for (i, step) in d.steps.iter().enumerate().rev() {
-        let transformer = unwrapped(&step.transformer);
-        let value = if transformer == "λ Ψ. Ψ" { format!("Φ{} Ψ", i + 1) } else { format!("{transformer} (Φ{} Ψ)", i + 1) };
-        define(o, 6, false, &format!("Φ{i} Ψ"), &format!("TF G{i} Δ"), &value);
-    }
+    let wanted: Vec<&str> = d.steps.iter().map(|x| unwrapped(&x.transformer)).filter(|x| *x != "λ Ψ. Ψ").collect();
+    define(o, 6, false, "Φ Ψ", "TF G0 Δ", &nested(10, &wanted, "atRet Δ Ψ"));
 
-    // the derivation, from the return to the start
+    // the derivation
     let known: String = claims[..claims.len() - 1]
         .iter()
         .map(|(name, lifetimes, ps, result, _)| {
             let function = if *name == "load" && !lists { "table.name" } else { name };
-            format!(" (k-{name} : Known 𝓤 H A W 𝓣 {lifetimes} {ps} {result} P-{name} Q-{name} {function})")
+            format!(" (k-{name} : Known 𝓤 H A W 𝓣 {lifetimes} {ps} {result} (none-asked {ps}) Q-{name} {function})")
         })
         .collect();
     writeln!(o, "      module _ {{M : Type 1}} (𝓤 : URA M) (H : Heap 𝓤) (A : Atoms 𝓤) (W : Given 𝓤 H A) (𝓣 : Tables 𝓤 H){known} (bs : List ℕ) where").unwrap();
     define(o, 8, false, "E", "Env 𝓤 H", &format!("EnvOf 𝓤 H (tyR (res {{n = {n}}} r) ∷ tysP ps xs) bs"));
-    writeln!(o, "        d{end} : Typed 𝓤 H A 𝓣 E G{end} return Δ Φ{end}\n        d{end} = t-return {W} 𝓣 E Δ tt\n").unwrap();
-    let mut at = last;
-    for (i, step) in d.steps.iter().enumerate().rev() {
-        let (rule, part) = match &step.statement {
-            Some(_) => {
-                at -= 1;
-                ("s-seq", format!("do{at} {}", rest(at + 1)))
-            }
-            None => ("g-pre", rest(at)),
-        };
-        writeln!(o, "        d{i} : Typed 𝓤 H A 𝓣 E G{i} {} Δ Φ{i}", rest(at)).unwrap();
-        writeln!(
-            o,
-            "        d{i} =\n            {rule} {W} 𝓣 E G{i} G{} {part} Δ {} Φ{}\n            {}\n            d{}\n",
-            i + 1,
-            step.transformer,
-            i + 1,
-            step.rule,
-            i + 1
-        )
-        .unwrap();
-    }
+    let steps: Vec<String> = d
+        .steps
+        .iter()
+        .enumerate()
+        .map(|(i, step)| {
+            let (rule, part) = if step.statement.is_some() { ("s-seq", "_ _") } else { ("g-pre", "_") };
+            format!("{rule} {W} 𝓣 E G{i} G{} {part} Δ {} _ {}", i + 1, step.transformer, step.rule)
+        })
+        .collect();
+    writeln!(o, "        typed : Typed 𝓤 H A 𝓣 E G0 body Δ Φ").unwrap();
+    writeln!(o, "        typed ={}\n", nested(12, &steps, &format!("t-return {W} 𝓣 E Δ tt"))).unwrap();
 
     // the theorem
     let xs: String = (1..=k).map(|i| format!(" (x{i} : {})", denotation(i))).collect();
@@ -675,7 +659,7 @@ fn text(s: &Shape, d: &Derivation, types: &[String], n: usize, loans: usize) -> 
                     .to_string(),
             );
         } else {
-            writeln!(o, "          → Known {over} {lifetimes} {ps} {result} P-{name} Q-{name} {name}").unwrap();
+            writeln!(o, "          → Known {over} {lifetimes} {ps} {result} (none-asked {ps}) Q-{name} {name}").unwrap();
             met.push(format!("k-{name}"));
         }
     }
@@ -686,8 +670,8 @@ fn text(s: &Shape, d: &Derivation, types: &[String], n: usize, loans: usize) -> 
     writeln!(o, "          let W : Given (w .𝓤) (w .H) (w .𝓖 .A) = givenOf (w .𝓤) (w .H) (w .𝓜) (w .𝓖) in").unwrap();
     writeln!(o, "          let 𝓣 : Tables (w .𝓤) (w .H) = Over (w .𝓤) (w .H) (w .𝓜) (w .𝓖) (w .𝓡) γ in").unwrap();
     writeln!(o, "          written.close-free {n} ps (res r) Q-call w γ k _ closed").unwrap();
-    writeln!(o, "          (t-fn-plain (w .𝓤) (w .H) (w .𝓖 .A) W 𝓣 {n} ps (res r) xs {loans} hs body (λ κs qs bs. Φ0 κs qs)").unwrap();
-    writeln!(o, "          (λ κs qs bs bd. d0 κs qs (w .𝓤) (w .H) (w .𝓖 .A) W 𝓣 {} bs) P-call Q-call", met.join(" ")).unwrap();
+    writeln!(o, "          (t-fn-plain (w .𝓤) (w .H) (w .𝓖 .A) W 𝓣 {n} ps (res r) xs {loans} hs body (λ κs qs bs. Φ κs qs)").unwrap();
+    writeln!(o, "          (λ κs qs bs bd. typed κs qs (w .𝓤) (w .H) (w .𝓖 .A) W 𝓣 {} bs) (none-asked ps) Q-call", met.join(" ")).unwrap();
     let fixed = |at: &str, by: &str| format!("fix-len ({at} .ptr) ({at} .name) (g-{by} .2 .0) ({at} .now) (g-{by} .4 .0)");
     let arguments = (1..=k).rev().fold("tt".to_string(), |t, i| format!("({}, {t})", if plain(i) { "tt" } else { "refl" }));
     let memory = if writes { fixed("a .0", "core") } else { "refl".to_string() };

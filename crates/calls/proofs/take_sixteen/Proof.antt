@@ -1,3 +1,4 @@
+-- `calls::take_sixteen` meets its contract: after i turns the first i values are taken.
 use native.Mathlib.Omega.{arith}
 use Prim.Native.Nat.{_≤_, _-_}
 use mathlib.Core.Path.{_≡_, refl, _∙_}

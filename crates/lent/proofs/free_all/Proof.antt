@@ -8,7 +8,7 @@ use lib.ListN.{length, set as put}
 use contract.Running.{tablesOf, givenOf}
 use Rattle.terms.specs.Places.{freePlace}
 use Rattle.scans.specs.Places.{allFreed}
-use Rattle.lent.proofs.Rules.{_≡_, refl, List, [], _∷_, ℕ, URA, some, none, Ty, Body, Opd, tyInt, tyBool, tyUnit, erased, named, imm, mut, w64, copy, place, field, deref, seq, call, return, assign, rvOpd, addrOf, aggregate, op2, lt, add, unsigned, int, cond, skip, exit, loop, block, opdUnit, valueLocal, Home, Heap, Tables, Env, Atoms, Given, Lfts, Shares, now, sliceTy, Row, Cx, Life, lease, off, alive, dead, get, set, valS, sInt, sBool, sUnit, sslice, any-gone, sc-here, room-gone, as-is, Typed, Outs, TF, Mo, Both, Asks, Gives, both, ask, give, pass, atRet, atNext, atExit, withNext, wantNext, inBlock₀, inBlock, inLoop₀, LoopBy, t-return, t-skip, t-exit, t-seq, t-block, t-loop-by, s-typed, s-seq, g-pre, n-room, g-room, n-use, t-use, k-op2, t-op2, t-cond, Φcond, oAt, oInt, oFld, oUnit, reads-sc, holds-sc, room-sc, g-begin, g-end, g-forget, reads-sslice, room-sslice, lenV, mslice, msleft, reads-mslice, mslice-owed, msptr, ssptr, asMut, asShr, k-sl-relend, t-sl-relend, k-sl-aggregate, t-sl-aggregate, reads-owed-len, k-back-sl, g-back-sl, mslice-owedS, k-sl-reshare, t-sl-reshare, reads-owedS-len, n-back-sl-shr, g-back-sl-shr, vAt, pShrS, spares-sslice, pMutS, fix-len, EnvOf, tysP, PK, In, Out, pNum, rNum, rUnit, tyR, callB, sub-id, Known, t-call-plain, t-fn-plain, Over, World, Place, entry, places, num, no-num, flag, no-flag}
+use Rattle.lent.proofs.Rules.{_≡_, refl, List, [], _∷_, ℕ, URA, some, none, Ty, Body, tyInt, tyBool, tyUnit, named, mut, w64, place, field, seq, call, return, assign, rvOpd, op2, lt, add, unsigned, int, cond, skip, exit, loop, block, opdUnit, valueLocal, Home, Heap, Tables, Env, Atoms, Given, Lfts, Shares, now, sliceTy, Row, Cx, Life, lease, off, alive, dead, get, set, valS, sInt, sBool, sUnit, sslice, any-gone, sc-here, room-gone, as-is, Typed, Outs, TF, Mo, Both, Asks, Gives, both, ask, give, pass, atRet, atNext, atExit, withNext, wantNext, inBlock₀, inBlock, inLoop₀, LoopBy, t-return, t-skip, t-exit, t-seq, t-block, t-loop-by, s-typed, s-seq, g-pre, n-room, g-room, n-use, t-use, k-op2, t-op2, t-cond, Φcond, oAt, oInt, oFld, oUnit, reads-sc, holds-sc, room-sc, g-begin, g-end, g-forget, reads-sslice, room-sslice, lenV, mslice, msleft, reads-mslice, mslice-owed, msptr, ssptr, asMut, asShr, k-sl-relend, t-sl-relend, k-sl-aggregate, t-sl-aggregate, reads-owed-len, k-back-sl, g-back-sl, mslice-owedS, k-sl-reshare, t-sl-reshare, reads-owedS-len, n-back-sl-shr, g-back-sl-shr, vAt, pShrS, spares-sslice, pMutS, fix-len, EnvOf, tysP, PK, In, Out, pNum, rNum, rUnit, tyR, callB, sub-id, Known, t-call-plain, t-fn-plain, Over, World, Place, entry, places, num, no-num, flag, no-flag, none-asked, list-read, list-again, at, points, joins}
 use Rattle.lent.proofs.Plain.{type, full, gone, arg, res, copied, room}
 use Rattle.lent.proofs.Written as written
 use Rattle.lent.proofs.Steps.{Freed, none-freed, one-freed, all-freed}
@@ -38,20 +38,11 @@ ps-free = []
 abbrev ps-put : List (PK 1)
 ps-put = pMutS entry 0 tt ∷ pNum w64 ∷ arg P ∷ []
 
-abbrev P-all : In 1 ps
-P-all κs a = Unit {0}
-
 abbrev Q : Out 1 ps rUnit
 Q κs a z e = now (e .0) ≡ allFreed (now (a .0))
 
-abbrev P-len : In 1 ps-len
-P-len κs a = Unit {0}
-
 abbrev Q-len : Out 1 ps-len (rNum w64)
 Q-len κs a z e = z ≡ length (now (a .0))
-
-abbrev P-free : In 0 ps-free
-P-free κs a = Unit {0}
 
 abbrev Q-free : Out 0 ps-free (res P)
 Q-free κs a z e = z ≡ freePlace
@@ -64,30 +55,14 @@ Q-put κs a z e = now (e .0) ≡ put (now (a .0)) (a .1 .0) (a .1 .1 .0)
 
 -- ---- the code
 
-abbrev shr : Ty
-shr = places erased imm
-
 abbrev own : Ty
 own = places (named 0) mut
 
-abbrev again : Ty
-again = places erased mut
-
 abbrev xs : List Ty
-xs = tyInt w64 ∷ tyInt w64 ∷ shr ∷ sliceTy shr ∷ tyBool ∷ tyUnit ∷ again ∷ sliceTy again ∷ type P ∷ []
+xs = tyInt w64 ∷ tyInt w64 ∷ list-read ∷ sliceTy list-read ∷ tyBool ∷ tyUnit ∷ list-again ∷ sliceTy list-again ∷ type P ∷ []
 
 abbrev hs : List Home
 hs = valueLocal ∷ valueLocal ∷ valueLocal ∷ valueLocal ∷ valueLocal ∷ valueLocal ∷ valueLocal ∷ valueLocal ∷ valueLocal ∷ valueLocal ∷ valueLocal ∷ []
-
-abbrev at : ℕ → Opd
-at i = copy (place i [])
-
--- local i becomes a pointer to the list's first place, and local j the list lent again
-abbrev points : ℕ → Body
-points i = assign (place i []) (addrOf (place 1 (field 0 ∷ deref (type P) ∷ [])))
-
-abbrev joins : ℕ → ℕ → Body
-joins i j = assign (place j []) (aggregate (at i ∷ copy (place 1 (field 1 ∷ [])) ∷ []))
 
 abbrev len : Body
 len = call len-of.name (at 5 ∷ []) (place 2 [])
@@ -146,16 +121,16 @@ module _ (κs : Lfts 1) (qs : Shares 1) where
   lent = mslice-owed entry own 0 2 life
 
   abbrev no-q : Row
-  no-q = any-gone shr
+  no-q = any-gone list-read
 
   abbrev no-s : Row
-  no-s = any-gone (sliceTy shr)
+  no-s = any-gone (sliceTy list-read)
 
   abbrev no-q′ : Row
-  no-q′ = any-gone again
+  no-q′ = any-gone list-again
 
   abbrev no-s′ : Row
-  no-s′ = any-gone (sliceTy again)
+  no-s′ = any-gone (sliceTy list-again)
 
   -- before the loop: the list, the length, the pointer, the slice
   abbrev A : Row → Row → Row → Row → Life → Life → Cx
@@ -172,13 +147,13 @@ module _ (κs : Lfts 1) (qs : Shares 1) where
   G₁ = A whole no-num no-q no-s life alive
 
   abbrev G₂ : Cx
-  G₂ = A shared no-num (ssptr entry shr 1) no-s off alive
+  G₂ = A shared no-num (ssptr entry list-read 1) no-s off alive
 
   abbrev G₃ : Cx
-  G₃ = A shared no-num no-q (sslice entry shr 1) off alive
+  G₃ = A shared no-num no-q (sslice entry list-read 1) off alive
 
   abbrev G₄ : Cx
-  G₄ = A shared num no-q (sslice entry shr 1) off alive
+  G₄ = A shared num no-q (sslice entry list-read 1) off alive
 
   abbrev G₅ : Cx
   G₅ = A shared num no-q no-s off alive
@@ -203,25 +178,25 @@ module _ (κs : Lfts 1) (qs : Shares 1) where
   H₂ = B whole no-flag no-unit no-q′ no-s′ (gone P) life alive
 
   abbrev H₃ : Cx
-  H₃ = B lent no-flag no-unit (msptr entry again 2) no-s′ (gone P) off alive
+  H₃ = B lent no-flag no-unit (msptr entry list-again 2) no-s′ (gone P) off alive
 
   abbrev H₄ : Cx
-  H₄ = B lent no-flag no-unit no-q′ (mslice entry again 2) (gone P) off alive
+  H₄ = B lent no-flag no-unit no-q′ (mslice entry list-again 2) (gone P) off alive
 
   abbrev H₅ : Cx
-  H₅ = B lent no-flag no-unit no-q′ (mslice entry again 2) (full P) off alive
+  H₅ = B lent no-flag no-unit no-q′ (mslice entry list-again 2) (full P) off alive
 
   abbrev H₆ : Cx
-  H₆ = B lent no-flag (sc-here sUnit) no-q′ (msleft entry again) (full P) off alive
+  H₆ = B lent no-flag (sc-here sUnit) no-q′ (msleft entry list-again) (full P) off alive
 
   abbrev H₇ : Cx
-  H₇ = B lent no-flag no-unit no-q′ (msleft entry again) (full P) off alive
+  H₇ = B lent no-flag no-unit no-q′ (msleft entry list-again) (full P) off alive
 
   abbrev H₈ : Cx
-  H₈ = B lent no-flag no-unit no-q′ (msleft entry again) (gone P) off alive
+  H₈ = B lent no-flag no-unit no-q′ (msleft entry list-again) (gone P) off alive
 
   abbrev H₉ : Cx
-  H₉ = B lent no-flag no-unit no-q′ (msleft entry again) (gone P) off dead
+  H₉ = B lent no-flag no-unit no-q′ (msleft entry list-again) (gone P) off dead
 
   abbrev H₁₀ : Cx
   H₁₀ = B whole no-flag no-unit no-q′ no-s′ (gone P) life dead
@@ -251,31 +226,31 @@ module _ (κs : Lfts 1) (qs : Shares 1) where
   Δ-arm = withNext (some H₀) Δ-turn
 
   abbrev s-share : Gives G₁ G₂
-  s-share = k-sl-reshare entry G₁ 1 4 0 1 own shr life (λ x. x)
+  s-share = k-sl-reshare entry G₁ 1 4 0 1 own list-read life (λ x. x)
 
   abbrev s-join : Asks G₂ G₃
-  s-join = k-sl-aggregate entry (asShr entry) G₂ 4 5 1 shr shr (λ x. x) (oFld 1 (field 1 ∷ []) (tyInt w64) 8 (λ v. lenV (v .0)))
+  s-join = k-sl-aggregate entry (asShr entry) G₂ 4 5 1 list-read list-read (λ x. x) (oFld 1 (field 1 ∷ []) (tyInt w64) 8 (λ v. lenV (v .0)))
 
   abbrev s-len : Both G₃ G₄
-  s-len = callB ps-len (rNum w64) P-len Q-len G₃ (record { pos = 5; ty = shr; ref = λ x. x }, tt) 2 (1 ∷ []) (tyInt w64)
+  s-len = callB ps-len (rNum w64) (none-asked ps-len) Q-len G₃ (record { pos = 5; ty = list-read; ref = λ x. x }, tt) 2 (1 ∷ []) (tyInt w64)
 
   abbrev s-less : Asks H₀ H₁
   s-less = k-op2 H₀ (lt unsigned) (oAt 3 (tyInt w64) (valS (sInt w64))) (oAt 2 (tyInt w64) (valS (sInt w64))) 6 flag (sBool .of)
 
   abbrev s-lend : Gives H₂ H₃
-  s-lend = k-sl-relend entry H₂ 1 8 0 2 own again life (λ x. x)
+  s-lend = k-sl-relend entry H₂ 1 8 0 2 own list-again life (λ x. x)
 
   abbrev s-join′ : Asks H₃ H₄
-  s-join′ = k-sl-aggregate entry (asMut entry) H₃ 8 9 2 again again (λ x. x) (oFld 1 (field 1 ∷ []) (tyInt w64) 8 (λ v. lenV (v .0)))
+  s-join′ = k-sl-aggregate entry (asMut entry) H₃ 8 9 2 list-again list-again (λ x. x) (oFld 1 (field 1 ∷ []) (tyInt w64) 8 (λ v. lenV (v .0)))
 
   abbrev s-free : Both H₄ H₅
-  s-free = callB ps-free (res P) P-free Q-free H₄ tt 10 [] (type P)
+  s-free = callB ps-free (res P) (none-asked ps-free) Q-free H₄ tt 10 [] (type P)
 
   abbrev s-put : Both H₅ H₆
-  s-put = callB ps-put rUnit P-put Q-put H₅ (record { pos = 9; ty = again; ref = λ x. x }, (vAt 3 (λ x. x), (record { pos = 10; st = []; d = 0; at = λ x. x }, tt))) 7 (2 ∷ []) tyUnit
+  s-put = callB ps-put rUnit P-put Q-put H₅ (record { pos = 9; ty = list-again; ref = λ x. x }, (vAt 3 (λ x. x), (record { pos = 10; st = []; d = 0; at = λ x. x }, tt))) 7 (2 ∷ []) tyUnit
 
   abbrev s-back : Both H₉ H₁₀
-  s-back = k-back-sl entry H₉ 9 1 0 2 own again life (λ x. x) (λ x. x)
+  s-back = k-back-sl entry H₉ 9 1 0 2 own list-again life (λ x. x) (λ x. x)
 
   abbrev s-count : Asks H₀ H₀
   s-count = k-op2 H₀ (add unsigned) (oAt 3 (tyInt w64) (valS (sInt w64))) (oInt w64 1) 3 num (sInt w64 .of)
@@ -317,14 +292,14 @@ module _ (κs : Lfts 1) (qs : Shares 1) where
 
   abbrev Φ-start : TF G₄ Δ
   Φ-start Ψ =
-      pass G₄ G₅ (n-room G₄ 5 (sliceTy shr))
+      pass G₄ G₅ (n-room G₄ 5 (sliceTy list-read))
       (pass G₆ G₇ (n-back-sl-shr entry G₆ 1 0 1 own life (λ x. x)) (pass G₈ H₀ (n-use G₈ (oInt w64 0) 3 num (sInt w64 .of)) (Φ-all Ψ)))
 
   abbrev Φ : TF G₀ Δ
   Φ Ψ = give s-share (ask s-join (both s-len (Φ-start Ψ)))
 
-  module _ {M : Type 1} (𝓤 : URA M) (H : Heap 𝓤) (A : Atoms 𝓤) (W : Given 𝓤 H A) (𝓣 : Tables 𝓤 H) (k-len : Known 𝓤 H A W 𝓣 1 ps-len (rNum w64) P-len Q-len len-of.name)
-      (k-free : Known 𝓤 H A W 𝓣 0 ps-free (res P) P-free Q-free free-place.name) (k-put : Known 𝓤 H A W 𝓣 1 ps-put rUnit P-put Q-put put-place.name) (bs : List ℕ) where
+  module _ {M : Type 1} (𝓤 : URA M) (H : Heap 𝓤) (A : Atoms 𝓤) (W : Given 𝓤 H A) (𝓣 : Tables 𝓤 H) (k-len : Known 𝓤 H A W 𝓣 1 ps-len (rNum w64) (none-asked ps-len) Q-len len-of.name)
+      (k-free : Known 𝓤 H A W 𝓣 0 ps-free (res P) (none-asked ps-free) Q-free free-place.name) (k-put : Known 𝓤 H A W 𝓣 1 ps-put rUnit P-put Q-put put-place.name) (bs : List ℕ) where
     abbrev E : Env 𝓤 H
     E = EnvOf 𝓤 H (tyR (rUnit {n = 1}) ∷ tysP ps xs) bs
 
@@ -339,7 +314,7 @@ module _ (κs : Lfts 1) (qs : Shares 1) where
         g-pre 𝓤 H A W 𝓣 E H₆ H₇ counts Δ-turn (pass H₆ H₇ (n-room H₆ 7 tyUnit)) _ (g-room 𝓤 H A W E H₆ 7 tyUnit (room-sc 𝓤 H A W sUnit))
         (g-pre 𝓤 H A W 𝓣 E H₇ H₈ counts Δ-turn (pass H₇ H₈ (n-room H₇ 10 (type P))) _ (g-room 𝓤 H A W E H₇ 10 (type P) (room P 𝓤 H A W))
         (g-pre 𝓤 H A W 𝓣 E H₈ H₉ counts Δ-turn (λ Ψ. Ψ) _ (g-end 𝓤 H A W E H₈ 2 refl)
-        (g-pre 𝓤 H A W 𝓣 E H₉ H₁₀ counts Δ-turn (both s-back) _ (g-back-sl 𝓤 H A W E entry H₉ 9 1 0 2 own again life (λ x. x) (λ x. x) (as-is 𝓤 H A (msleft entry again)) (as-is 𝓤 H A lent) refl refl)
+        (g-pre 𝓤 H A W 𝓣 E H₉ H₁₀ counts Δ-turn (both s-back) _ (g-back-sl 𝓤 H A W E entry H₉ 9 1 0 2 own list-again life (λ x. x) (λ x. x) (as-is 𝓤 H A (msleft entry list-again)) (as-is 𝓤 H A lent) refl refl)
         (g-pre 𝓤 H A W 𝓣 E H₁₀ H₀ counts Δ-turn (λ Ψ. Ψ) _ (g-forget 𝓤 H A W E H₁₀ 2 dead refl)
         (s-typed 𝓤 H A W 𝓣 E H₀ counts Δ-turn (ask s-count) tt
         (t-op2 𝓤 H A W E 𝓣 H₀ (add unsigned) (oAt 3 (tyInt w64) (valS (sInt w64))) (oInt w64 1) 3 num (tyInt w64) (valS (sInt w64)) (sInt w64 .of) (reads-sc 𝓤 H A W (sInt w64), refl) tt (room-sc 𝓤 H A W (sInt w64)) (holds-sc 𝓤 H A W (sInt w64)) refl (λ u. refl) (λ u. tt)))))))
@@ -348,14 +323,14 @@ module _ (κs : Lfts 1) (qs : Shares 1) where
     stored =
         g-pre 𝓤 H A W 𝓣 E H₀ H₂ stores Δ-turn (λ Ψ. Ψ) Φ-store (g-begin 𝓤 H A W E H₀ 2 (tt, (tt, (tt, (tt, (tt, (tt, (tt, (tt, (tt, (tt, (tt, tt))))))))))))
         (s-seq 𝓤 H A W 𝓣 E H₂ H₃ (points 8) (seq (joins 8 9) (seq makes (seq puts counts))) Δ-turn (give s-lend) (λ Ψ. ask s-join′ (both s-free (both s-put (Φ-count Ψ))))
-        (t-sl-relend 𝓤 H A W E entry 𝓣 H₂ 1 8 0 2 own again life 0 (λ x. x) (as-is 𝓤 H A whole) (room-gone 𝓤 H A again) refl tt refl refl refl (λ b o. tt))
+        (t-sl-relend 𝓤 H A W E entry 𝓣 H₂ 1 8 0 2 own list-again life 0 (λ x. x) (as-is 𝓤 H A whole) (room-gone 𝓤 H A list-again) refl tt refl refl refl (λ b o. tt))
         (s-seq 𝓤 H A W 𝓣 E H₃ H₄ (joins 8 9) (seq makes (seq puts counts)) Δ-turn (ask s-join′) (λ Ψ. both s-free (both s-put (Φ-count Ψ)))
-        (t-sl-aggregate 𝓤 H A W E entry 𝓣 (asMut entry) H₃ 8 9 2 again again (λ x. x) (oFld 1 (field 1 ∷ []) (tyInt w64) 8 (λ v. lenV (v .0))) (as-is 𝓤 H A (msptr entry again 2)) (room-gone 𝓤 H A (sliceTy again)) (reads-owed-len 𝓤 H A W entry own 0 2 life 8 refl, refl) refl refl (λ b o k. tt))
+        (t-sl-aggregate 𝓤 H A W E entry 𝓣 (asMut entry) H₃ 8 9 2 list-again list-again (λ x. x) (oFld 1 (field 1 ∷ []) (tyInt w64) 8 (λ v. lenV (v .0))) (as-is 𝓤 H A (msptr entry list-again 2)) (room-gone 𝓤 H A (sliceTy list-again)) (reads-owed-len 𝓤 H A W entry own 0 2 life 8 refl, refl) refl refl (λ b o k. tt))
         (s-seq 𝓤 H A W 𝓣 E H₄ H₅ makes (seq puts counts) Δ-turn (both s-free) (λ Ψ. both s-put (Φ-count Ψ))
-        (t-call-plain 𝓤 H A W 𝓣 0 ps-free (res P) P-free Q-free free-place.name k-free E (λ pos β. β) H₄ tt 10 [] (sub-id 𝓤 H A W (H₄ .slots)) tt (room-gone 𝓤 H A (type P)) tt refl)
+        (t-call-plain 𝓤 H A W 𝓣 0 ps-free (res P) (none-asked ps-free) Q-free free-place.name k-free E (λ pos β. β) H₄ tt 10 [] (sub-id 𝓤 H A W (H₄ .slots)) tt (room-gone 𝓤 H A (type P)) tt refl)
         (s-seq 𝓤 H A W 𝓣 E H₅ H₆ puts counts Δ-turn (both s-put) Φ-count
-        (t-call-plain 𝓤 H A W 𝓣 1 ps-put rUnit P-put Q-put put-place.name k-put E (λ pos β. β) H₅ (record { pos = 9; ty = again; ref = λ x. x }, (vAt 3 (λ x. x), (record { pos = 10; st = []; d = 0; at = λ x. x }, tt))) 7 (2 ∷ []) (sub-id 𝓤 H A W (H₅ .slots))
-        (as-is 𝓤 H A (mslice entry again 2), reads-mslice 𝓤 H A W entry again 2, refl, ((reads-sc 𝓤 H A W (sInt w64), refl), ((copied P 𝓤 H A W, refl), tt))) (room-gone 𝓤 H A tyUnit) (tt, tt) refl)
+        (t-call-plain 𝓤 H A W 𝓣 1 ps-put rUnit P-put Q-put put-place.name k-put E (λ pos β. β) H₅ (record { pos = 9; ty = list-again; ref = λ x. x }, (vAt 3 (λ x. x), (record { pos = 10; st = []; d = 0; at = λ x. x }, tt))) 7 (2 ∷ []) (sub-id 𝓤 H A W (H₅ .slots))
+        (as-is 𝓤 H A (mslice entry list-again 2), reads-mslice 𝓤 H A W entry list-again 2, refl, ((reads-sc 𝓤 H A W (sInt w64), refl), ((copied P 𝓤 H A W, refl), tt))) (room-gone 𝓤 H A tyUnit) (tt, tt) refl)
         counted))))
 
     turns : Typed 𝓤 H A 𝓣 E H₀ turn Δ-turn Φ-turn
@@ -373,7 +348,7 @@ module _ (κs : Lfts 1) (qs : Shares 1) where
 
     started : Typed 𝓤 H A 𝓣 E G₄ starts Δ Φ-start
     started =
-        g-pre 𝓤 H A W 𝓣 E G₄ G₅ starts Δ (pass G₄ G₅ (n-room G₄ 5 (sliceTy shr))) _ (g-room 𝓤 H A W E G₄ 5 (sliceTy shr) (room-sslice 𝓤 H A W entry shr 1))
+        g-pre 𝓤 H A W 𝓣 E G₄ G₅ starts Δ (pass G₄ G₅ (n-room G₄ 5 (sliceTy list-read))) _ (g-room 𝓤 H A W E G₄ 5 (sliceTy list-read) (room-sslice 𝓤 H A W entry list-read 1))
         (g-pre 𝓤 H A W 𝓣 E G₅ G₆ starts Δ (λ Ψ. Ψ) _ (g-end 𝓤 H A W E G₅ 1 refl)
         (g-pre 𝓤 H A W 𝓣 E G₆ G₇ starts Δ (pass G₆ G₇ (n-back-sl-shr entry G₆ 1 0 1 own life (λ x. x))) _ (g-back-sl-shr 𝓤 H A W E entry G₆ 1 0 1 own life (λ x. x) (as-is 𝓤 H A shared) refl refl)
         (g-pre 𝓤 H A W 𝓣 E G₇ G₈ starts Δ (λ Ψ. Ψ) _ (g-forget 𝓤 H A W E G₇ 1 dead refl)
@@ -386,12 +361,12 @@ module _ (κs : Lfts 1) (qs : Shares 1) where
     typed =
         g-pre 𝓤 H A W 𝓣 E G₀ G₁ body Δ (λ Ψ. Ψ) Φ (g-begin 𝓤 H A W E G₀ 1 (tt, (tt, (tt, (tt, (tt, (tt, (tt, (tt, (tt, (tt, (tt, tt))))))))))))
         (s-seq 𝓤 H A W 𝓣 E G₁ G₂ (points 4) (seq (joins 4 5) (seq len starts)) Δ (give s-share) (λ Ψ. ask s-join (both s-len (Φ-start Ψ)))
-        (t-sl-reshare 𝓤 H A W E entry 𝓣 G₁ 1 4 0 1 own shr life 0 (λ x. x) (as-is 𝓤 H A whole) (room-gone 𝓤 H A shr) refl tt refl refl refl (λ b o. tt))
+        (t-sl-reshare 𝓤 H A W E entry 𝓣 G₁ 1 4 0 1 own list-read life 0 (λ x. x) (as-is 𝓤 H A whole) (room-gone 𝓤 H A list-read) refl tt refl refl refl (λ b o. tt))
         (s-seq 𝓤 H A W 𝓣 E G₂ G₃ (joins 4 5) (seq len starts) Δ (ask s-join) (λ Ψ. both s-len (Φ-start Ψ))
-        (t-sl-aggregate 𝓤 H A W E entry 𝓣 (asShr entry) G₂ 4 5 1 shr shr (λ x. x) (oFld 1 (field 1 ∷ []) (tyInt w64) 8 (λ v. lenV (v .0))) (as-is 𝓤 H A (ssptr entry shr 1)) (room-gone 𝓤 H A (sliceTy shr)) (reads-owedS-len 𝓤 H A W entry own 0 1 life 8 refl, refl) refl refl (λ b o k. tt))
+        (t-sl-aggregate 𝓤 H A W E entry 𝓣 (asShr entry) G₂ 4 5 1 list-read list-read (λ x. x) (oFld 1 (field 1 ∷ []) (tyInt w64) 8 (λ v. lenV (v .0))) (as-is 𝓤 H A (ssptr entry list-read 1)) (room-gone 𝓤 H A (sliceTy list-read)) (reads-owedS-len 𝓤 H A W entry own 0 1 life 8 refl, refl) refl refl (λ b o k. tt))
         (s-seq 𝓤 H A W 𝓣 E G₃ G₄ len starts Δ (both s-len) Φ-start
-        (t-call-plain 𝓤 H A W 𝓣 1 ps-len (rNum w64) P-len Q-len len-of.name k-len E (λ pos β. β) G₃ (record { pos = 5; ty = shr; ref = λ x. x }, tt) 2 (1 ∷ []) (sub-id 𝓤 H A W (G₃ .slots))
-        (spares-sslice 𝓤 H A W entry shr 1, reads-sslice 𝓤 H A W entry shr 1, refl, tt) (room-gone 𝓤 H A (tyInt w64)) (tt, tt) refl)
+        (t-call-plain 𝓤 H A W 𝓣 1 ps-len (rNum w64) (none-asked ps-len) Q-len len-of.name k-len E (λ pos β. β) G₃ (record { pos = 5; ty = list-read; ref = λ x. x }, tt) 2 (1 ∷ []) (sub-id 𝓤 H A W (G₃ .slots))
+        (spares-sslice 𝓤 H A W entry list-read 1, reads-sslice 𝓤 H A W entry list-read 1, refl, tt) (room-gone 𝓤 H A (tyInt w64)) (tt, tt) refl)
         started)))
 
 pub free-all-spec : {M : Type 1} → statement M
@@ -402,7 +377,7 @@ free-all-spec {M} 𝓤 H 𝓜 𝓖 𝓡 =
     (t-fn-plain 𝓤 H (𝓖 .A) (givenOf 𝓤 H 𝓜 𝓖) (Over 𝓤 H 𝓜 𝓖 𝓡 code.env) 1 ps rUnit xs 2 hs body (λ κs qs bs. Φ κs qs) (λ κs qs bs bd. typed κs qs 𝓤 H (𝓖 .A) (givenOf 𝓤 H 𝓜 𝓖) (Over 𝓤 H 𝓜 𝓖 𝓡 code.env)
     (written.known-free 1 ps-len (rNum w64) Q-len w code.env len-of.name len-of.routine code.calls-lent·len-of (len-of-thm.met 𝓤 H 𝓜 𝓖 𝓡))
     (free-place-reads.known w code.env free-place.name free-place.routine code.calls-lent·free-place (free-place-thm.met 𝓤 H 𝓜 𝓖 𝓡))
-    (written.known 1 ps-put rUnit Q-put P-put w code.env put-place.name put-place.routine code.calls-lent·put-place (put-place-thm.met 𝓤 H 𝓜 𝓖 𝓡)) bs) P-all Q
+    (written.known 1 ps-put rUnit Q-put P-put w code.env put-place.name put-place.routine code.calls-lent·put-place (put-place-thm.met 𝓤 H 𝓜 𝓖 𝓡)) bs) (none-asked ps) Q
     (λ κs qs a good pre bs. λ g₀. (
       refl,
       (

@@ -5,9 +5,9 @@ use mathlib.Core.Bool.{Bool}
 use contract.Running.{tablesOf, givenOf}
 use Rattle.scans.specs.Places.{allFreed}
 use Rattle.lent.specs.Lent.{isAccepted, freedIf}
-use Rattle.lent.proofs.Rules.{_≡_, refl, List, [], _∷_, ℕ, URA, some, none, Ty, Body, Opd, tyInt, tyBool, tyUnit, erased, named, mut, w64, copy, place, field, deref, seq, call, return, assign, rvOpd, addrOf, aggregate, cond, skip, opdUnit, valueLocal, Home, Heap, Tables, Env, Atoms, Given, Lfts, Shares, now, sliceTy, Row, Cx, Life, lease, off, alive, dead, valS, sBool, sUnit, any-gone, sc-here, room-gone, as-is, Typed, Outs, TF, Tf, Both, Asks, Gives, both, ask, give, pass, atRet, atNext, withNext, wantNext, t-return, t-skip, t-seq, s-typed, s-seq, g-pre, g-post, n-room, g-room, n-use, t-use, t-cond, Φcond, oFld, oUnit, reads-sc, holds-sc, room-sc, g-begin, g-end, g-forget, lenV, mslice, msleft, reads-mslice, mslice-owed, msptr, asMut, k-sl-relend, t-sl-relend, k-sl-aggregate, t-sl-aggregate, reads-owed-len, k-back-sl, g-back-sl, pMutS, fix-len, EnvOf, tysP, PK, In, Out, rBool, rUnit, tyR, callB, sub-id, Known, t-call-plain, t-fn-plain, Over, World, entry, places, flag, no-flag}
+use Rattle.lent.proofs.Rules.{_≡_, refl, List, [], _∷_, ℕ, URA, some, none, Ty, Body, tyInt, tyBool, tyUnit, named, mut, w64, place, field, seq, call, return, assign, rvOpd, cond, skip, opdUnit, valueLocal, Home, Heap, Tables, Env, Atoms, Given, Lfts, Shares, now, sliceTy, Row, Cx, Life, lease, off, alive, dead, valS, sBool, sUnit, any-gone, sc-here, room-gone, as-is, Typed, Outs, TF, Tf, Both, Asks, Gives, both, ask, give, pass, atRet, atNext, withNext, wantNext, t-return, t-skip, t-seq, s-typed, s-seq, g-pre, g-post, n-room, g-room, n-use, t-use, t-cond, Φcond, oFld, oUnit, reads-sc, holds-sc, room-sc, g-begin, g-end, g-forget, lenV, mslice, msleft, reads-mslice, mslice-owed, msptr, asMut, k-sl-relend, t-sl-relend, k-sl-aggregate, t-sl-aggregate, reads-owed-len, k-back-sl, g-back-sl, pMutS, fix-len, EnvOf, tysP, PK, Out, rBool, rUnit, tyR, callB, sub-id, Known, t-call-plain, t-fn-plain, Over, World, entry, places, flag, no-flag, none-asked, list-again, at, points, joins}
 use Rattle.lent.proofs.Plain.{type, full, gone, arg, copied, room}
-use Rattle.lent.proofs.Types.{p, answer}
+use Rattle.lent.proofs.Types.{answer}
 use Rattle.lent.proofs.Written as written
 use Rattle.lent.proofs.accepted.Symbol as accepted
 use Rattle.lent.proofs.accepted.Met as accepted-thm
@@ -29,20 +29,11 @@ ps-test = arg answer ∷ []
 abbrev ps-free : List (PK 1)
 ps-free = pMutS entry 0 tt ∷ []
 
-abbrev P-all : In 1 ps
-P-all κs a = Unit {0}
-
 abbrev Q : Out 1 ps rUnit
 Q κs a z e = now (e .0) ≡ freedIf (isAccepted (a .1 .0)) (now (a .0))
 
-abbrev P-test : In 0 ps-test
-P-test κs a = Unit {0}
-
 abbrev Q-test : Out 0 ps-test rBool
 Q-test κs a z e = z ≡ isAccepted (a .0)
-
-abbrev P-free : In 1 ps-free
-P-free κs a = Unit {0}
 
 abbrev Q-free : Out 1 ps-free rUnit
 Q-free κs a z e = now (e .0) ≡ allFreed (now (a .0))
@@ -52,32 +43,20 @@ Q-free κs a z e = now (e .0) ≡ allFreed (now (a .0))
 abbrev own : Ty
 own = places (named 0) mut
 
-abbrev again : Ty
-again = places erased mut
-
 abbrev xs : List Ty
-xs = tyBool ∷ tyUnit ∷ again ∷ sliceTy again ∷ []
+xs = tyBool ∷ tyUnit ∷ list-again ∷ sliceTy list-again ∷ []
 
 abbrev hs : List Home
 hs = valueLocal ∷ valueLocal ∷ valueLocal ∷ valueLocal ∷ valueLocal ∷ valueLocal ∷ valueLocal ∷ []
 
-abbrev at : ℕ → Opd
-at i = copy (place i [])
-
 abbrev tests : Body
 tests = call accepted.name (at 2 ∷ []) (place 3 [])
-
-abbrev points : Body
-points = assign (place 5 []) (addrOf (place 1 (field 0 ∷ deref (type p) ∷ [])))
-
-abbrev joins : Body
-joins = assign (place 6 []) (aggregate (at 5 ∷ copy (place 1 (field 1 ∷ [])) ∷ []))
 
 abbrev frees : Body
 frees = call free-all.name (at 6 ∷ []) (place 4 [])
 
 abbrev acts : Body
-acts = seq points (seq joins frees)
+acts = seq (points 5) (seq (joins 5 6) frees)
 
 abbrev chooses : Body
 chooses = cond (at 3) acts skip
@@ -111,10 +90,10 @@ module _ (κs : Lfts 1) (qs : Shares 1) where
   lent = mslice-owed entry own 0 1 life
 
   abbrev no-q : Row
-  no-q = any-gone again
+  no-q = any-gone list-again
 
   abbrev no-s : Row
-  no-s = any-gone (sliceTy again)
+  no-s = any-gone (sliceTy list-again)
 
   abbrev G₀ : Cx
   G₀ = G no-unit whole (full answer) no-flag no-unit no-q no-s life off
@@ -126,19 +105,19 @@ module _ (κs : Lfts 1) (qs : Shares 1) where
   G₂ = G no-unit whole (full answer) no-flag no-unit no-q no-s life alive
 
   abbrev G₃ : Cx
-  G₃ = G no-unit lent (full answer) no-flag no-unit (msptr entry again 1) no-s off alive
+  G₃ = G no-unit lent (full answer) no-flag no-unit (msptr entry list-again 1) no-s off alive
 
   abbrev G₄ : Cx
-  G₄ = G no-unit lent (full answer) no-flag no-unit no-q (mslice entry again 1) off alive
+  G₄ = G no-unit lent (full answer) no-flag no-unit no-q (mslice entry list-again 1) off alive
 
   abbrev G₅ : Cx
-  G₅ = G no-unit lent (full answer) no-flag (sc-here sUnit) no-q (msleft entry again) off alive
+  G₅ = G no-unit lent (full answer) no-flag (sc-here sUnit) no-q (msleft entry list-again) off alive
 
   abbrev G₆ : Cx
-  G₆ = G no-unit lent (full answer) no-flag no-unit no-q (msleft entry again) off alive
+  G₆ = G no-unit lent (full answer) no-flag no-unit no-q (msleft entry list-again) off alive
 
   abbrev G₇ : Cx
-  G₇ = G no-unit lent (full answer) no-flag no-unit no-q (msleft entry again) off dead
+  G₇ = G no-unit lent (full answer) no-flag no-unit no-q (msleft entry list-again) off dead
 
   abbrev G₈ : Cx
   G₈ = G no-unit whole (full answer) no-flag no-unit no-q no-s life dead
@@ -156,19 +135,19 @@ module _ (κs : Lfts 1) (qs : Shares 1) where
   Δ-arm = withNext (some G₀) Δ
 
   abbrev s-test : Both G₀ G₁
-  s-test = callB ps-test rBool P-test Q-test G₀ (record { pos = 2; st = []; d = 0; at = λ x. x }, tt) 3 [] tyBool
+  s-test = callB ps-test rBool (none-asked ps-test) Q-test G₀ (record { pos = 2; st = []; d = 0; at = λ x. x }, tt) 3 [] tyBool
 
   abbrev s-lend : Gives G₂ G₃
-  s-lend = k-sl-relend entry G₂ 1 5 0 1 own again life (λ x. x)
+  s-lend = k-sl-relend entry G₂ 1 5 0 1 own list-again life (λ x. x)
 
   abbrev s-join : Asks G₃ G₄
-  s-join = k-sl-aggregate entry (asMut entry) G₃ 5 6 1 again again (λ x. x) (oFld 1 (field 1 ∷ []) (tyInt w64) 8 (λ v. lenV (v .0)))
+  s-join = k-sl-aggregate entry (asMut entry) G₃ 5 6 1 list-again list-again (λ x. x) (oFld 1 (field 1 ∷ []) (tyInt w64) 8 (λ v. lenV (v .0)))
 
   abbrev s-free : Both G₄ G₅
-  s-free = callB ps-free rUnit P-free Q-free G₄ (record { pos = 6; ty = again; ref = λ x. x }, tt) 4 (1 ∷ []) tyUnit
+  s-free = callB ps-free rUnit (none-asked ps-free) Q-free G₄ (record { pos = 6; ty = list-again; ref = λ x. x }, tt) 4 (1 ∷ []) tyUnit
 
   abbrev s-back : Both G₇ G₈
-  s-back = k-back-sl entry G₇ 6 1 0 1 own again life (λ x. x) (λ x. x)
+  s-back = k-back-sl entry G₇ 6 1 0 1 own list-again life (λ x. x) (λ x. x)
 
   -- what becomes of the locals after freeing, up to each step
   abbrev after₆ : Tf G₄ G₆
@@ -192,8 +171,8 @@ module _ (κs : Lfts 1) (qs : Shares 1) where
   abbrev Φ : TF G₀ Δ
   Φ Ψ = both s-test (Φ-arms (wantNext G₀ Δ (Φ-ends Ψ) Ψ))
 
-  module _ {M : Type 1} (𝓤 : URA M) (H : Heap 𝓤) (A : Atoms 𝓤) (W : Given 𝓤 H A) (𝓣 : Tables 𝓤 H) (k-test : Known 𝓤 H A W 𝓣 0 ps-test rBool P-test Q-test accepted.name)
-      (k-free : Known 𝓤 H A W 𝓣 1 ps-free rUnit P-free Q-free free-all.name) (bs : List ℕ) where
+  module _ {M : Type 1} (𝓤 : URA M) (H : Heap 𝓤) (A : Atoms 𝓤) (W : Given 𝓤 H A) (𝓣 : Tables 𝓤 H) (k-test : Known 𝓤 H A W 𝓣 0 ps-test rBool (none-asked ps-test) Q-test accepted.name)
+      (k-free : Known 𝓤 H A W 𝓣 1 ps-free rUnit (none-asked ps-free) Q-free free-all.name) (bs : List ℕ) where
     abbrev E : Env 𝓤 H
     E = EnvOf 𝓤 H (tyR (rUnit {n = 1}) ∷ tysP ps xs) bs
 
@@ -204,11 +183,11 @@ module _ (κs : Lfts 1) (qs : Shares 1) where
         (g-post 𝓤 H A W 𝓣 E G₄ G₇ G₈ frees after₆ (both s-back)
         (g-post 𝓤 H A W 𝓣 E G₄ G₆ G₇ frees after₆ (λ Ψ. Ψ)
         (g-post 𝓤 H A W 𝓣 E G₄ G₅ G₆ frees (both s-free) (pass G₅ G₆ (n-room G₅ 4 tyUnit))
-        (t-call-plain 𝓤 H A W 𝓣 1 ps-free rUnit P-free Q-free free-all.name k-free E (λ pos β. β) G₄ (record { pos = 6; ty = again; ref = λ x. x }, tt) 4 (1 ∷ []) (sub-id 𝓤 H A W (G₄ .slots))
-        (as-is 𝓤 H A (mslice entry again 1), reads-mslice 𝓤 H A W entry again 1, refl, tt) (room-gone 𝓤 H A tyUnit) (tt, tt) refl)
+        (t-call-plain 𝓤 H A W 𝓣 1 ps-free rUnit (none-asked ps-free) Q-free free-all.name k-free E (λ pos β. β) G₄ (record { pos = 6; ty = list-again; ref = λ x. x }, tt) 4 (1 ∷ []) (sub-id 𝓤 H A W (G₄ .slots))
+        (as-is 𝓤 H A (mslice entry list-again 1), reads-mslice 𝓤 H A W entry list-again 1, refl, tt) (room-gone 𝓤 H A tyUnit) (tt, tt) refl)
         (g-room 𝓤 H A W E G₅ 4 tyUnit (room-sc 𝓤 H A W sUnit)))
         (g-end 𝓤 H A W E G₆ 1 refl))
-        (g-back-sl 𝓤 H A W E entry G₇ 6 1 0 1 own again life (λ x. x) (λ x. x) (as-is 𝓤 H A (msleft entry again)) (as-is 𝓤 H A lent) refl refl))
+        (g-back-sl 𝓤 H A W E entry G₇ 6 1 0 1 own list-again life (λ x. x) (λ x. x) (as-is 𝓤 H A (msleft entry list-again)) (as-is 𝓤 H A lent) refl refl))
         (g-forget 𝓤 H A W E G₈ 1 dead refl))
 
     arms : Typed 𝓤 H A 𝓣 E G₁ chooses Δ-arm Φ-arms
@@ -216,10 +195,10 @@ module _ (κs : Lfts 1) (qs : Shares 1) where
         t-cond 𝓤 H A W E 𝓣 G₁ 3 (λ x. x) acts skip Δ-arm _ _ (reads-sc 𝓤 H A W sBool) refl
         (g-pre 𝓤 H A W 𝓣 E G₁ G₀ acts Δ-arm (pass G₁ G₀ (n-room G₁ 3 tyBool)) Φ-act (g-room 𝓤 H A W E G₁ 3 tyBool (room-sc 𝓤 H A W sBool))
         (g-pre 𝓤 H A W 𝓣 E G₀ G₂ acts Δ-arm (λ Ψ. Ψ) Φ-act (g-begin 𝓤 H A W E G₀ 1 (tt, (tt, (tt, (tt, (tt, (tt, (tt, tt))))))))
-        (s-seq 𝓤 H A W 𝓣 E G₂ G₃ points (seq joins frees) Δ-arm (give s-lend) (λ Ψ. ask s-join (Φ-free Ψ))
-        (t-sl-relend 𝓤 H A W E entry 𝓣 G₂ 1 5 0 1 own again life 0 (λ x. x) (as-is 𝓤 H A whole) (room-gone 𝓤 H A again) refl tt refl refl refl (λ b o. tt))
-        (s-seq 𝓤 H A W 𝓣 E G₃ G₄ joins frees Δ-arm (ask s-join) Φ-free
-        (t-sl-aggregate 𝓤 H A W E entry 𝓣 (asMut entry) G₃ 5 6 1 again again (λ x. x) (oFld 1 (field 1 ∷ []) (tyInt w64) 8 (λ v. lenV (v .0))) (as-is 𝓤 H A (msptr entry again 1)) (room-gone 𝓤 H A (sliceTy again)) (reads-owed-len 𝓤 H A W entry own 0 1 life 8 refl, refl) refl refl (λ b o k. tt))
+        (s-seq 𝓤 H A W 𝓣 E G₂ G₃ (points 5) (seq (joins 5 6) frees) Δ-arm (give s-lend) (λ Ψ. ask s-join (Φ-free Ψ))
+        (t-sl-relend 𝓤 H A W E entry 𝓣 G₂ 1 5 0 1 own list-again life 0 (λ x. x) (as-is 𝓤 H A whole) (room-gone 𝓤 H A list-again) refl tt refl refl refl (λ b o. tt))
+        (s-seq 𝓤 H A W 𝓣 E G₃ G₄ (joins 5 6) frees Δ-arm (ask s-join) Φ-free
+        (t-sl-aggregate 𝓤 H A W E entry 𝓣 (asMut entry) G₃ 5 6 1 list-again list-again (λ x. x) (oFld 1 (field 1 ∷ []) (tyInt w64) 8 (λ v. lenV (v .0))) (as-is 𝓤 H A (msptr entry list-again 1)) (room-gone 𝓤 H A (sliceTy list-again)) (reads-owed-len 𝓤 H A W entry own 0 1 life 8 refl, refl) refl refl (λ b o k. tt))
         freed))))
         (g-pre 𝓤 H A W 𝓣 E G₁ G₀ skip Δ-arm (pass G₁ G₀ (n-room G₁ 3 tyBool)) _ (g-room 𝓤 H A W E G₁ 3 tyBool (room-sc 𝓤 H A W sBool)) (t-skip 𝓤 H A W 𝓣 E Δ-arm tt))
 
@@ -232,7 +211,7 @@ module _ (κs : Lfts 1) (qs : Shares 1) where
     typed : Typed 𝓤 H A 𝓣 E G₀ body Δ Φ
     typed =
         s-seq 𝓤 H A W 𝓣 E G₀ G₁ tests (seq chooses ends) Δ (both s-test) (λ Ψ. Φ-arms (wantNext G₀ Δ (Φ-ends Ψ) Ψ))
-        (t-call-plain 𝓤 H A W 𝓣 0 ps-test rBool P-test Q-test accepted.name k-test E (λ pos β. β) G₀ (record { pos = 2; st = []; d = 0; at = λ x. x }, tt) 3 [] (sub-id 𝓤 H A W (G₀ .slots))
+        (t-call-plain 𝓤 H A W 𝓣 0 ps-test rBool (none-asked ps-test) Q-test accepted.name k-test E (λ pos β. β) G₀ (record { pos = 2; st = []; d = 0; at = λ x. x }, tt) 3 [] (sub-id 𝓤 H A W (G₀ .slots))
         ((copied answer 𝓤 H A W, refl), tt) (room-gone 𝓤 H A tyBool) tt refl)
         (t-seq 𝓤 H A W 𝓣 E G₁ G₀ chooses ends Δ Φ-arms Φ-ends arms ended)
 
@@ -243,7 +222,7 @@ free-made-spec {M} 𝓤 H 𝓜 𝓖 𝓡 =
     written.close-free 1 ps rUnit Q w code.env key.name code.function (code.unfolded 𝓤 H 𝓜 𝓡)
     (t-fn-plain 𝓤 H (𝓖 .A) (givenOf 𝓤 H 𝓜 𝓖) (Over 𝓤 H 𝓜 𝓖 𝓡 code.env) 1 ps rUnit xs 1 hs body (λ κs qs bs. Φ κs qs) (λ κs qs bs bd. typed κs qs 𝓤 H (𝓖 .A) (givenOf 𝓤 H 𝓜 𝓖) (Over 𝓤 H 𝓜 𝓖 𝓡 code.env)
     (accepted-reads.known w code.env accepted.name accepted.routine code.calls-lent·accepted (accepted-thm.met 𝓤 H 𝓜 𝓖 𝓡))
-    (written.known-free 1 ps-free rUnit Q-free w code.env free-all.name free-all.routine code.calls-lent·free-all (free-all-thm.met 𝓤 H 𝓜 𝓖 𝓡)) bs) P-all Q
+    (written.known-free 1 ps-free rUnit Q-free w code.env free-all.name free-all.routine code.calls-lent·free-all (free-all-thm.met 𝓤 H 𝓜 𝓖 𝓡)) bs) (none-asked ps) Q
     (λ κs qs a good pre bs. (
       λ κ. tt,
       λ g-test. (

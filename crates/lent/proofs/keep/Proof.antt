@@ -8,7 +8,7 @@ use lib.ListN.{length, set as put}
 use lib.Seq.{set-out}
 use contract.Running.{tablesOf, givenOf}
 use Rattle.upkeep.specs.declared.Listed.{Listed}
-use Rattle.lent.proofs.Rules.{_≡_, refl, List, [], _∷_, ℕ, URA, some, none, Ty, Body, Opd, tyInt, tyBool, tyUnit, erased, named, imm, mut, w64, copy, place, field, deref, seq, call, return, assign, rvOpd, addrOf, aggregate, op2, lt, unsigned, cond, skip, opdUnit, valueLocal, Home, Heap, Tables, Env, Atoms, Given, Lfts, Shares, now, sliceTy, Row, Cx, Life, lease, off, alive, dead, valS, sInt, sBool, sUnit, sslice, any-gone, sc-here, room-gone, as-is, Typed, Outs, TF, Tf, Both, Asks, Gives, both, ask, give, pass, atRet, atNext, withNext, wantNext, t-return, t-skip, t-seq, s-typed, s-seq, g-pre, g-post, n-room, g-room, n-use, t-use, k-op2, t-op2, t-cond, Φcond, oAt, oFld, oUnit, reads-sc, holds-sc, room-sc, g-begin, g-end, g-forget, reads-sslice, room-sslice, lenV, mslice, msleft, reads-mslice, mslice-owed, msptr, ssptr, asMut, asShr, k-sl-relend, t-sl-relend, k-sl-aggregate, t-sl-aggregate, reads-owed-len, k-back-sl, g-back-sl, mslice-owedS, k-sl-reshare, t-sl-reshare, reads-owedS-len, n-back-sl-shr, g-back-sl-shr, vAt, pShrS, spares-sslice, pMutS, fix-len, EnvOf, tysP, PK, In, Out, pNum, rNum, rUnit, tyR, callB, sub-id, Known, t-call-plain, t-fn-plain, Over, World, Place, entry, places, num, no-num, flag, no-flag}
+use Rattle.lent.proofs.Rules.{_≡_, refl, List, [], _∷_, ℕ, URA, some, none, Ty, Body, tyInt, tyBool, tyUnit, named, mut, w64, place, field, seq, call, return, assign, rvOpd, op2, lt, unsigned, cond, skip, opdUnit, valueLocal, Home, Heap, Tables, Env, Atoms, Given, Lfts, Shares, now, sliceTy, Row, Cx, Life, lease, off, alive, dead, valS, sInt, sBool, sUnit, sslice, any-gone, sc-here, room-gone, as-is, Typed, Outs, TF, Tf, Both, Asks, Gives, both, ask, give, pass, atRet, atNext, withNext, wantNext, t-return, t-skip, t-seq, s-typed, s-seq, g-pre, g-post, n-room, g-room, n-use, t-use, k-op2, t-op2, t-cond, Φcond, oAt, oFld, oUnit, reads-sc, holds-sc, room-sc, g-begin, g-end, g-forget, reads-sslice, room-sslice, lenV, mslice, msleft, reads-mslice, mslice-owed, msptr, ssptr, asMut, asShr, k-sl-relend, t-sl-relend, k-sl-aggregate, t-sl-aggregate, reads-owed-len, k-back-sl, g-back-sl, mslice-owedS, k-sl-reshare, t-sl-reshare, reads-owedS-len, n-back-sl-shr, g-back-sl-shr, vAt, pShrS, spares-sslice, pMutS, fix-len, EnvOf, tysP, PK, In, Out, pNum, rNum, rUnit, tyR, callB, sub-id, Known, t-call-plain, t-fn-plain, Over, World, Place, entry, places, num, no-num, flag, no-flag, none-asked, list-read, list-again, at, points, joins}
 use Rattle.lent.proofs.Plain.{type, full, gone, arg, res, copied, room}
 use Rattle.lent.proofs.Types.{p, d}
 use Rattle.lent.proofs.Written as written
@@ -40,23 +40,14 @@ ps-len = pShrS entry 0 tt ∷ []
 abbrev ps-put : List (PK 1)
 ps-put = pMutS entry 0 tt ∷ pNum w64 ∷ arg p ∷ []
 
-abbrev P-all : In 1 ps
-P-all κs a = Unit {0}
-
 abbrev Q : Out 1 ps rUnit
 Q κs a z e = now (e .0) ≡ put (now (a .0)) (a .1 .0 .place) (a .1 .0 .entry)
-
-abbrev P-of : In 0 ps-of
-P-of κs a = Unit {0}
 
 abbrev Q-place : Out 0 ps-of (rNum w64)
 Q-place κs a z e = z ≡ a .0 .place
 
 abbrev Q-entry : Out 0 ps-of (res p)
 Q-entry κs a z e = z ≡ a .0 .entry
-
-abbrev P-len : In 1 ps-len
-P-len κs a = Unit {0}
 
 abbrev Q-len : Out 1 ps-len (rNum w64)
 Q-len κs a z e = z ≡ length (now (a .0))
@@ -69,30 +60,14 @@ Q-put κs a z e = now (e .0) ≡ put (now (a .0)) (a .1 .0) (a .1 .1 .0)
 
 -- ---- the code
 
-abbrev shr : Ty
-shr = places erased imm
-
 abbrev own : Ty
 own = places (named 0) mut
 
-abbrev again : Ty
-again = places erased mut
-
 abbrev xs : List Ty
-xs = tyInt w64 ∷ tyInt w64 ∷ shr ∷ sliceTy shr ∷ tyBool ∷ tyUnit ∷ again ∷ sliceTy again ∷ type p ∷ []
+xs = tyInt w64 ∷ tyInt w64 ∷ list-read ∷ sliceTy list-read ∷ tyBool ∷ tyUnit ∷ list-again ∷ sliceTy list-again ∷ type p ∷ []
 
 abbrev hs : List Home
 hs = valueLocal ∷ valueLocal ∷ valueLocal ∷ valueLocal ∷ valueLocal ∷ valueLocal ∷ valueLocal ∷ valueLocal ∷ valueLocal ∷ valueLocal ∷ valueLocal ∷ valueLocal ∷ []
-
-abbrev at : ℕ → Opd
-at i = copy (place i [])
-
--- local i becomes a pointer to the list's first place, and local j the list lent again
-abbrev points : ℕ → Body
-points i = assign (place i []) (addrOf (place 1 (field 0 ∷ deref (type p) ∷ [])))
-
-abbrev joins : ℕ → ℕ → Body
-joins i j = assign (place j []) (aggregate (at i ∷ copy (place 1 (field 1 ∷ [])) ∷ []))
 
 abbrev finds : Body
 finds = call place-of.name (at 2 ∷ []) (place 3 [])
@@ -151,16 +126,16 @@ module _ (κs : Lfts 1) (qs : Shares 1) where
   lent = mslice-owed entry own 0 2 life
 
   abbrev no-q : Row
-  no-q = any-gone shr
+  no-q = any-gone list-read
 
   abbrev no-s : Row
-  no-s = any-gone (sliceTy shr)
+  no-s = any-gone (sliceTy list-read)
 
   abbrev no-q′ : Row
-  no-q′ = any-gone again
+  no-q′ = any-gone list-again
 
   abbrev no-s′ : Row
-  no-s′ = any-gone (sliceTy again)
+  no-s′ = any-gone (sliceTy list-again)
 
   -- before the length is known: the list, the place, the length, the pointer, the slice
   abbrev A : Row → Row → Row → Row → Row → Life → Life → Cx
@@ -180,13 +155,13 @@ module _ (κs : Lfts 1) (qs : Shares 1) where
   G₁ = A whole num no-num no-q no-s life alive
 
   abbrev G₂ : Cx
-  G₂ = A shared num no-num (ssptr entry shr 1) no-s off alive
+  G₂ = A shared num no-num (ssptr entry list-read 1) no-s off alive
 
   abbrev G₃ : Cx
-  G₃ = A shared num no-num no-q (sslice entry shr 1) off alive
+  G₃ = A shared num no-num no-q (sslice entry list-read 1) off alive
 
   abbrev G₄ : Cx
-  G₄ = A shared num num no-q (sslice entry shr 1) off alive
+  G₄ = A shared num num no-q (sslice entry list-read 1) off alive
 
   abbrev G₅ : Cx
   G₅ = A shared num num no-q no-s off alive
@@ -214,25 +189,25 @@ module _ (κs : Lfts 1) (qs : Shares 1) where
   H₂ = B whole no-flag no-unit no-q′ no-s′ (gone p) life alive
 
   abbrev H₃ : Cx
-  H₃ = B lent no-flag no-unit (msptr entry again 2) no-s′ (gone p) off alive
+  H₃ = B lent no-flag no-unit (msptr entry list-again 2) no-s′ (gone p) off alive
 
   abbrev H₄ : Cx
-  H₄ = B lent no-flag no-unit no-q′ (mslice entry again 2) (gone p) off alive
+  H₄ = B lent no-flag no-unit no-q′ (mslice entry list-again 2) (gone p) off alive
 
   abbrev H₅ : Cx
-  H₅ = B lent no-flag no-unit no-q′ (mslice entry again 2) (full p) off alive
+  H₅ = B lent no-flag no-unit no-q′ (mslice entry list-again 2) (full p) off alive
 
   abbrev H₆ : Cx
-  H₆ = B lent no-flag (sc-here sUnit) no-q′ (msleft entry again) (full p) off alive
+  H₆ = B lent no-flag (sc-here sUnit) no-q′ (msleft entry list-again) (full p) off alive
 
   abbrev H₇ : Cx
-  H₇ = B lent no-flag (sc-here sUnit) no-q′ (msleft entry again) (gone p) off alive
+  H₇ = B lent no-flag (sc-here sUnit) no-q′ (msleft entry list-again) (gone p) off alive
 
   abbrev H₈ : Cx
-  H₈ = B lent no-flag no-unit no-q′ (msleft entry again) (gone p) off alive
+  H₈ = B lent no-flag no-unit no-q′ (msleft entry list-again) (gone p) off alive
 
   abbrev H₉ : Cx
-  H₉ = B lent no-flag no-unit no-q′ (msleft entry again) (gone p) off dead
+  H₉ = B lent no-flag no-unit no-q′ (msleft entry list-again) (gone p) off dead
 
   abbrev H₁₀ : Cx
   H₁₀ = B whole no-flag no-unit no-q′ no-s′ (gone p) life dead
@@ -257,34 +232,34 @@ module _ (κs : Lfts 1) (qs : Shares 1) where
   Δ-arm = withNext (some H₁) Δ
 
   abbrev s-place : Both F₀ G₀
-  s-place = callB ps-of (rNum w64) P-of Q-place F₀ (record { pos = 2; st = []; d = 0; at = λ x. x }, tt) 3 [] (tyInt w64)
+  s-place = callB ps-of (rNum w64) (none-asked ps-of) Q-place F₀ (record { pos = 2; st = []; d = 0; at = λ x. x }, tt) 3 [] (tyInt w64)
 
   abbrev s-share : Gives G₁ G₂
-  s-share = k-sl-reshare entry G₁ 1 5 0 1 own shr life (λ x. x)
+  s-share = k-sl-reshare entry G₁ 1 5 0 1 own list-read life (λ x. x)
 
   abbrev s-join : Asks G₂ G₃
-  s-join = k-sl-aggregate entry (asShr entry) G₂ 5 6 1 shr shr (λ x. x) (oFld 1 (field 1 ∷ []) (tyInt w64) 8 (λ v. lenV (v .0)))
+  s-join = k-sl-aggregate entry (asShr entry) G₂ 5 6 1 list-read list-read (λ x. x) (oFld 1 (field 1 ∷ []) (tyInt w64) 8 (λ v. lenV (v .0)))
 
   abbrev s-len : Both G₃ G₄
-  s-len = callB ps-len (rNum w64) P-len Q-len G₃ (record { pos = 6; ty = shr; ref = λ x. x }, tt) 4 (1 ∷ []) (tyInt w64)
+  s-len = callB ps-len (rNum w64) (none-asked ps-len) Q-len G₃ (record { pos = 6; ty = list-read; ref = λ x. x }, tt) 4 (1 ∷ []) (tyInt w64)
 
   abbrev s-less : Asks G₈ G₉
   s-less = k-op2 G₈ (lt unsigned) (oAt 3 (tyInt w64) (valS (sInt w64))) (oAt 4 (tyInt w64) (valS (sInt w64))) 7 flag (sBool .of)
 
   abbrev s-lend : Gives H₂ H₃
-  s-lend = k-sl-relend entry H₂ 1 9 0 2 own again life (λ x. x)
+  s-lend = k-sl-relend entry H₂ 1 9 0 2 own list-again life (λ x. x)
 
   abbrev s-join′ : Asks H₃ H₄
-  s-join′ = k-sl-aggregate entry (asMut entry) H₃ 9 10 2 again again (λ x. x) (oFld 1 (field 1 ∷ []) (tyInt w64) 8 (λ v. lenV (v .0)))
+  s-join′ = k-sl-aggregate entry (asMut entry) H₃ 9 10 2 list-again list-again (λ x. x) (oFld 1 (field 1 ∷ []) (tyInt w64) 8 (λ v. lenV (v .0)))
 
   abbrev s-entry : Both H₄ H₅
-  s-entry = callB ps-of (res p) P-of Q-entry H₄ (record { pos = 2; st = []; d = 0; at = λ x. x }, tt) 11 [] (type p)
+  s-entry = callB ps-of (res p) (none-asked ps-of) Q-entry H₄ (record { pos = 2; st = []; d = 0; at = λ x. x }, tt) 11 [] (type p)
 
   abbrev s-put : Both H₅ H₆
-  s-put = callB ps-put rUnit P-put Q-put H₅ (record { pos = 10; ty = again; ref = λ x. x }, (vAt 3 (λ x. x), (record { pos = 11; st = []; d = 0; at = λ x. x }, tt))) 8 (2 ∷ []) tyUnit
+  s-put = callB ps-put rUnit P-put Q-put H₅ (record { pos = 10; ty = list-again; ref = λ x. x }, (vAt 3 (λ x. x), (record { pos = 11; st = []; d = 0; at = λ x. x }, tt))) 8 (2 ∷ []) tyUnit
 
   abbrev s-back : Both H₉ H₁₀
-  s-back = k-back-sl entry H₉ 10 1 0 2 own again life (λ x. x) (λ x. x)
+  s-back = k-back-sl entry H₉ 10 1 0 2 own list-again life (λ x. x) (λ x. x)
 
   -- what becomes of the locals after storing, up to each step
   abbrev after₇ : Tf H₅ H₇
@@ -313,7 +288,7 @@ module _ (κs : Lfts 1) (qs : Shares 1) where
   Φ-choose Ψ = pass G₉ H₀ (n-room G₉ 4 (tyInt w64)) (Φ-arms (wantNext H₁ Δ (Φ-ends Ψ) Ψ))
 
   abbrev Φ-compare : TF G₄ Δ
-  Φ-compare Ψ = pass G₄ G₅ (n-room G₄ 6 (sliceTy shr)) (pass G₆ G₇ (n-back-sl-shr entry G₆ 1 0 1 own life (λ x. x)) (ask s-less (Φ-choose Ψ)))
+  Φ-compare Ψ = pass G₄ G₅ (n-room G₄ 6 (sliceTy list-read)) (pass G₆ G₇ (n-back-sl-shr entry G₆ 1 0 1 own life (λ x. x)) (ask s-less (Φ-choose Ψ)))
 
   abbrev Φ-ask : TF G₁ Δ
   Φ-ask Ψ = give s-share (ask s-join (both s-len (Φ-compare Ψ)))
@@ -321,8 +296,8 @@ module _ (κs : Lfts 1) (qs : Shares 1) where
   abbrev Φ : TF F₀ Δ
   Φ Ψ = both s-place (Φ-ask Ψ)
 
-  module _ {M : Type 1} (𝓤 : URA M) (H : Heap 𝓤) (A : Atoms 𝓤) (W : Given 𝓤 H A) (𝓣 : Tables 𝓤 H) (k-place : Known 𝓤 H A W 𝓣 0 ps-of (rNum w64) P-of Q-place place-of.name)
-      (k-entry : Known 𝓤 H A W 𝓣 0 ps-of (res p) P-of Q-entry entry-of.name) (k-len : Known 𝓤 H A W 𝓣 1 ps-len (rNum w64) P-len Q-len len-of.name)
+  module _ {M : Type 1} (𝓤 : URA M) (H : Heap 𝓤) (A : Atoms 𝓤) (W : Given 𝓤 H A) (𝓣 : Tables 𝓤 H) (k-place : Known 𝓤 H A W 𝓣 0 ps-of (rNum w64) (none-asked ps-of) Q-place place-of.name)
+      (k-entry : Known 𝓤 H A W 𝓣 0 ps-of (res p) (none-asked ps-of) Q-entry entry-of.name) (k-len : Known 𝓤 H A W 𝓣 1 ps-len (rNum w64) (none-asked ps-len) Q-len len-of.name)
       (k-put : Known 𝓤 H A W 𝓣 1 ps-put rUnit P-put Q-put put-place.name) (bs : List ℕ) where
     abbrev E : Env 𝓤 H
     E = EnvOf 𝓤 H (tyR (rUnit {n = 1}) ∷ tysP ps xs) bs
@@ -335,12 +310,12 @@ module _ (κs : Lfts 1) (qs : Shares 1) where
         (g-post 𝓤 H A W 𝓣 E H₅ H₈ H₉ puts after₈ (λ Ψ. Ψ)
         (g-post 𝓤 H A W 𝓣 E H₅ H₇ H₈ puts after₇ (pass H₇ H₈ (n-room H₇ 8 tyUnit))
         (g-post 𝓤 H A W 𝓣 E H₅ H₆ H₇ puts (both s-put) (pass H₆ H₇ (n-room H₆ 11 (type p)))
-        (t-call-plain 𝓤 H A W 𝓣 1 ps-put rUnit P-put Q-put put-place.name k-put E (λ pos β. β) H₅ (record { pos = 10; ty = again; ref = λ x. x }, (vAt 3 (λ x. x), (record { pos = 11; st = []; d = 0; at = λ x. x }, tt))) 8 (2 ∷ []) (sub-id 𝓤 H A W (H₅ .slots))
-        (as-is 𝓤 H A (mslice entry again 2), reads-mslice 𝓤 H A W entry again 2, refl, ((reads-sc 𝓤 H A W (sInt w64), refl), ((copied p 𝓤 H A W, refl), tt))) (room-gone 𝓤 H A tyUnit) (tt, tt) refl)
+        (t-call-plain 𝓤 H A W 𝓣 1 ps-put rUnit P-put Q-put put-place.name k-put E (λ pos β. β) H₅ (record { pos = 10; ty = list-again; ref = λ x. x }, (vAt 3 (λ x. x), (record { pos = 11; st = []; d = 0; at = λ x. x }, tt))) 8 (2 ∷ []) (sub-id 𝓤 H A W (H₅ .slots))
+        (as-is 𝓤 H A (mslice entry list-again 2), reads-mslice 𝓤 H A W entry list-again 2, refl, ((reads-sc 𝓤 H A W (sInt w64), refl), ((copied p 𝓤 H A W, refl), tt))) (room-gone 𝓤 H A tyUnit) (tt, tt) refl)
         (g-room 𝓤 H A W E H₆ 11 (type p) (room p 𝓤 H A W)))
         (g-room 𝓤 H A W E H₇ 8 tyUnit (room-sc 𝓤 H A W sUnit)))
         (g-end 𝓤 H A W E H₈ 2 refl))
-        (g-back-sl 𝓤 H A W E entry H₉ 10 1 0 2 own again life (λ x. x) (λ x. x) (as-is 𝓤 H A (msleft entry again)) (as-is 𝓤 H A lent) refl refl))
+        (g-back-sl 𝓤 H A W E entry H₉ 10 1 0 2 own list-again life (λ x. x) (λ x. x) (as-is 𝓤 H A (msleft entry list-again)) (as-is 𝓤 H A lent) refl refl))
         (g-forget 𝓤 H A W E H₁₀ 2 dead refl))
 
     arms : Typed 𝓤 H A 𝓣 E H₀ chooses Δ-arm Φ-arms
@@ -349,11 +324,11 @@ module _ (κs : Lfts 1) (qs : Shares 1) where
         (g-pre 𝓤 H A W 𝓣 E H₀ H₁ stores Δ-arm (pass H₀ H₁ (n-room H₀ 7 tyBool)) Φ-store (g-room 𝓤 H A W E H₀ 7 tyBool (room-sc 𝓤 H A W sBool))
         (g-pre 𝓤 H A W 𝓣 E H₁ H₂ stores Δ-arm (λ Ψ. Ψ) Φ-store (g-begin 𝓤 H A W E H₁ 2 (tt, (tt, (tt, (tt, (tt, (tt, (tt, (tt, (tt, (tt, (tt, (tt, tt)))))))))))))
         (s-seq 𝓤 H A W 𝓣 E H₂ H₃ (points 9) (seq (joins 9 10) (seq gets puts)) Δ-arm (give s-lend) (λ Ψ. ask s-join′ (both s-entry (Φ-put Ψ)))
-        (t-sl-relend 𝓤 H A W E entry 𝓣 H₂ 1 9 0 2 own again life 0 (λ x. x) (as-is 𝓤 H A whole) (room-gone 𝓤 H A again) refl tt refl refl refl (λ b o. tt))
+        (t-sl-relend 𝓤 H A W E entry 𝓣 H₂ 1 9 0 2 own list-again life 0 (λ x. x) (as-is 𝓤 H A whole) (room-gone 𝓤 H A list-again) refl tt refl refl refl (λ b o. tt))
         (s-seq 𝓤 H A W 𝓣 E H₃ H₄ (joins 9 10) (seq gets puts) Δ-arm (ask s-join′) (λ Ψ. both s-entry (Φ-put Ψ))
-        (t-sl-aggregate 𝓤 H A W E entry 𝓣 (asMut entry) H₃ 9 10 2 again again (λ x. x) (oFld 1 (field 1 ∷ []) (tyInt w64) 8 (λ v. lenV (v .0))) (as-is 𝓤 H A (msptr entry again 2)) (room-gone 𝓤 H A (sliceTy again)) (reads-owed-len 𝓤 H A W entry own 0 2 life 8 refl, refl) refl refl (λ b o k. tt))
+        (t-sl-aggregate 𝓤 H A W E entry 𝓣 (asMut entry) H₃ 9 10 2 list-again list-again (λ x. x) (oFld 1 (field 1 ∷ []) (tyInt w64) 8 (λ v. lenV (v .0))) (as-is 𝓤 H A (msptr entry list-again 2)) (room-gone 𝓤 H A (sliceTy list-again)) (reads-owed-len 𝓤 H A W entry own 0 2 life 8 refl, refl) refl refl (λ b o k. tt))
         (s-seq 𝓤 H A W 𝓣 E H₄ H₅ gets puts Δ-arm (both s-entry) Φ-put
-        (t-call-plain 𝓤 H A W 𝓣 0 ps-of (res p) P-of Q-entry entry-of.name k-entry E (λ pos β. β) H₄ (record { pos = 2; st = []; d = 0; at = λ x. x }, tt) 11 [] (sub-id 𝓤 H A W (H₄ .slots))
+        (t-call-plain 𝓤 H A W 𝓣 0 ps-of (res p) (none-asked ps-of) Q-entry entry-of.name k-entry E (λ pos β. β) H₄ (record { pos = 2; st = []; d = 0; at = λ x. x }, tt) 11 [] (sub-id 𝓤 H A W (H₄ .slots))
         ((copied d 𝓤 H A W, refl), tt) (room-gone 𝓤 H A (type p)) tt refl)
         stored)))))
         (g-pre 𝓤 H A W 𝓣 E H₀ H₁ skip Δ-arm (pass H₀ H₁ (n-room H₀ 7 tyBool)) _ (g-room 𝓤 H A W E H₀ 7 tyBool (room-sc 𝓤 H A W sBool)) (t-skip 𝓤 H A W 𝓣 E Δ-arm tt))
@@ -367,7 +342,7 @@ module _ (κs : Lfts 1) (qs : Shares 1) where
 
     compared : Typed 𝓤 H A 𝓣 E G₄ compares Δ Φ-compare
     compared =
-        g-pre 𝓤 H A W 𝓣 E G₄ G₅ compares Δ (pass G₄ G₅ (n-room G₄ 6 (sliceTy shr))) _ (g-room 𝓤 H A W E G₄ 6 (sliceTy shr) (room-sslice 𝓤 H A W entry shr 1))
+        g-pre 𝓤 H A W 𝓣 E G₄ G₅ compares Δ (pass G₄ G₅ (n-room G₄ 6 (sliceTy list-read))) _ (g-room 𝓤 H A W E G₄ 6 (sliceTy list-read) (room-sslice 𝓤 H A W entry list-read 1))
         (g-pre 𝓤 H A W 𝓣 E G₅ G₆ compares Δ (λ Ψ. Ψ) _ (g-end 𝓤 H A W E G₅ 1 refl)
         (g-pre 𝓤 H A W 𝓣 E G₆ G₇ compares Δ (pass G₆ G₇ (n-back-sl-shr entry G₆ 1 0 1 own life (λ x. x))) _ (g-back-sl-shr 𝓤 H A W E entry G₆ 1 0 1 own life (λ x. x) (as-is 𝓤 H A shared) refl refl)
         (g-pre 𝓤 H A W 𝓣 E G₇ G₈ compares Δ (λ Ψ. Ψ) _ (g-forget 𝓤 H A W E G₇ 1 dead refl)
@@ -379,16 +354,16 @@ module _ (κs : Lfts 1) (qs : Shares 1) where
     typed : Typed 𝓤 H A 𝓣 E F₀ body Δ Φ
     typed =
         s-seq 𝓤 H A W 𝓣 E F₀ G₀ finds asks Δ (both s-place) Φ-ask
-        (t-call-plain 𝓤 H A W 𝓣 0 ps-of (rNum w64) P-of Q-place place-of.name k-place E (λ pos β. β) F₀ (record { pos = 2; st = []; d = 0; at = λ x. x }, tt) 3 [] (sub-id 𝓤 H A W (F₀ .slots))
+        (t-call-plain 𝓤 H A W 𝓣 0 ps-of (rNum w64) (none-asked ps-of) Q-place place-of.name k-place E (λ pos β. β) F₀ (record { pos = 2; st = []; d = 0; at = λ x. x }, tt) 3 [] (sub-id 𝓤 H A W (F₀ .slots))
         ((copied d 𝓤 H A W, refl), tt) (room-gone 𝓤 H A (tyInt w64)) tt refl)
         (g-pre 𝓤 H A W 𝓣 E G₀ G₁ asks Δ (λ Ψ. Ψ) Φ-ask (g-begin 𝓤 H A W E G₀ 1 (tt, (tt, (tt, (tt, (tt, (tt, (tt, (tt, (tt, (tt, (tt, (tt, tt)))))))))))))
         (s-seq 𝓤 H A W 𝓣 E G₁ G₂ (points 5) (seq (joins 5 6) (seq len compares)) Δ (give s-share) (λ Ψ. ask s-join (both s-len (Φ-compare Ψ)))
-        (t-sl-reshare 𝓤 H A W E entry 𝓣 G₁ 1 5 0 1 own shr life 0 (λ x. x) (as-is 𝓤 H A whole) (room-gone 𝓤 H A shr) refl tt refl refl refl (λ b o. tt))
+        (t-sl-reshare 𝓤 H A W E entry 𝓣 G₁ 1 5 0 1 own list-read life 0 (λ x. x) (as-is 𝓤 H A whole) (room-gone 𝓤 H A list-read) refl tt refl refl refl (λ b o. tt))
         (s-seq 𝓤 H A W 𝓣 E G₂ G₃ (joins 5 6) (seq len compares) Δ (ask s-join) (λ Ψ. both s-len (Φ-compare Ψ))
-        (t-sl-aggregate 𝓤 H A W E entry 𝓣 (asShr entry) G₂ 5 6 1 shr shr (λ x. x) (oFld 1 (field 1 ∷ []) (tyInt w64) 8 (λ v. lenV (v .0))) (as-is 𝓤 H A (ssptr entry shr 1)) (room-gone 𝓤 H A (sliceTy shr)) (reads-owedS-len 𝓤 H A W entry own 0 1 life 8 refl, refl) refl refl (λ b o k. tt))
+        (t-sl-aggregate 𝓤 H A W E entry 𝓣 (asShr entry) G₂ 5 6 1 list-read list-read (λ x. x) (oFld 1 (field 1 ∷ []) (tyInt w64) 8 (λ v. lenV (v .0))) (as-is 𝓤 H A (ssptr entry list-read 1)) (room-gone 𝓤 H A (sliceTy list-read)) (reads-owedS-len 𝓤 H A W entry own 0 1 life 8 refl, refl) refl refl (λ b o k. tt))
         (s-seq 𝓤 H A W 𝓣 E G₃ G₄ len compares Δ (both s-len) Φ-compare
-        (t-call-plain 𝓤 H A W 𝓣 1 ps-len (rNum w64) P-len Q-len len-of.name k-len E (λ pos β. β) G₃ (record { pos = 6; ty = shr; ref = λ x. x }, tt) 4 (1 ∷ []) (sub-id 𝓤 H A W (G₃ .slots))
-        (spares-sslice 𝓤 H A W entry shr 1, reads-sslice 𝓤 H A W entry shr 1, refl, tt) (room-gone 𝓤 H A (tyInt w64)) (tt, tt) refl)
+        (t-call-plain 𝓤 H A W 𝓣 1 ps-len (rNum w64) (none-asked ps-len) Q-len len-of.name k-len E (λ pos β. β) G₃ (record { pos = 6; ty = list-read; ref = λ x. x }, tt) 4 (1 ∷ []) (sub-id 𝓤 H A W (G₃ .slots))
+        (spares-sslice 𝓤 H A W entry list-read 1, reads-sslice 𝓤 H A W entry list-read 1, refl, tt) (room-gone 𝓤 H A (tyInt w64)) (tt, tt) refl)
         compared))))
 
 -- ---- the facts
@@ -407,7 +382,7 @@ keep-spec {M} 𝓤 H 𝓜 𝓖 𝓡 =
     (place-of-reads.known w code.env place-of.name place-of.routine code.calls-lent·place-of (place-of-thm.met 𝓤 H 𝓜 𝓖 𝓡))
     (entry-of-reads.known w code.env entry-of.name entry-of.routine code.calls-lent·entry-of (entry-of-thm.met 𝓤 H 𝓜 𝓖 𝓡))
     (written.known-free 1 ps-len (rNum w64) Q-len w code.env len-of.name len-of.routine code.calls-lent·len-of (len-of-thm.met 𝓤 H 𝓜 𝓖 𝓡))
-    (written.known 1 ps-put rUnit Q-put P-put w code.env put-place.name put-place.routine code.calls-lent·put-place (put-place-thm.met 𝓤 H 𝓜 𝓖 𝓡)) bs) P-all Q
+    (written.known 1 ps-put rUnit Q-put P-put w code.env put-place.name put-place.routine code.calls-lent·put-place (put-place-thm.met 𝓤 H 𝓜 𝓖 𝓡)) bs) (none-asked ps) Q
     (λ κs qs a good pre bs. (
       λ κ. tt,
       λ g-place. λ shared. (

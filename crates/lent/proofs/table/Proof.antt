@@ -11,7 +11,7 @@ use Rattle.scans.specs.declared.Scans.{Scans}
 use Rattle.terms.specs.Places.{freePlace}
 use Rattle.scans.specs.Places.{isOpen}
 use Rattle.scans.specs.Table.{tableOf, noted, ofLength}
-use Rattle.lent.proofs.Rules.{_≡_, refl, List, [], _∷_, ℕ, URA, some, none, Ty, Body, tyInt, tyBool, named, imm, w64, copy, place, seq, call, return, assign, rvOpd, op2, lt, add, unsigned, int, cond, skip, exit, loop, block, valueLocal, Home, Heap, Tables, Env, Atoms, Given, Lfts, Shares, now, Row, Cx, lease, get, set, valS, sInt, sBool, sslice, room-gone, Typed, Outs, TF, Mo, Both, Asks, both, ask, pass, atRet, atNext, atExit, withNext, wantNext, inBlock₀, inBlock, inLoop₀, LoopBy, t-return, t-skip, t-exit, t-seq, t-block, t-loop-by, s-typed, s-seq, g-pre, g-post, n-room, g-room, n-use, t-use, k-op2, t-op2, t-cond, Φcond, oAt, oInt, reads-sc, holds-sc, room-sc, reads-sslice, vAt, pShrS, spares-sslice, EnvOf, tysP, PK, In, Out, pNum, rNum, rBool, tyR, callB, sub-id, Known, t-call-plain, t-fn-plain, Over, World, entry, places, num, no-num, flag, no-flag}
+use Rattle.lent.proofs.Rules.{_≡_, refl, List, [], _∷_, ℕ, URA, some, none, Ty, Body, tyInt, tyBool, named, imm, w64, place, seq, call, return, assign, rvOpd, op2, lt, add, unsigned, int, cond, skip, exit, loop, block, valueLocal, Home, Heap, Tables, Env, Atoms, Given, Lfts, Shares, now, Row, Cx, lease, get, set, valS, sInt, sBool, sslice, room-gone, Typed, Outs, TF, Mo, Both, Asks, both, ask, pass, atRet, atNext, atExit, withNext, wantNext, inBlock₀, inBlock, inLoop₀, LoopBy, t-return, t-skip, t-exit, t-seq, t-block, t-loop-by, s-typed, s-seq, g-pre, g-post, n-room, g-room, n-use, t-use, k-op2, t-op2, t-cond, Φcond, oAt, oInt, reads-sc, holds-sc, room-sc, reads-sslice, vAt, pShrS, spares-sslice, EnvOf, tysP, PK, In, Out, pNum, rNum, rBool, tyR, callB, sub-id, Known, t-call-plain, t-fn-plain, Over, World, entry, places, none-asked, num, no-num, flag, no-flag, at}
 use Rattle.lent.proofs.Plain.{type, full, gone, arg, res, copied, room}
 use Rattle.lent.proofs.Written as written
 use Rattle.scans.proofs.Table.{Entered, none-entered, open-entered, free-entered, all-entered}
@@ -56,9 +56,6 @@ ps-enter = arg T ∷ pNum w64 ∷ arg P ∷ []
 abbrev ps-length : List (PK 0)
 ps-length = arg T ∷ pNum w64 ∷ []
 
-abbrev none-asked : {n : ℕ} (ps : List (PK n)) → In n ps
-none-asked ps κs a = Unit {0}
-
 abbrev Q-len : Out 1 ps (rNum w64)
 Q-len κs a z e = z ≡ length (now (a .0))
 
@@ -93,9 +90,6 @@ xs = tyInt w64 ∷ type T ∷ tyInt w64 ∷ type P ∷ tyBool ∷ tyBool ∷ []
 
 abbrev hs : List Home
 hs = valueLocal ∷ valueLocal ∷ valueLocal ∷ valueLocal ∷ valueLocal ∷ valueLocal ∷ valueLocal ∷ valueLocal ∷ []
-
-abbrev at : ℕ → mir.Syntax.Opd
-at i = copy (place i [])
 
 abbrev takes : Body
 takes = call enter.name (at 3 ∷ at 4 ∷ at 5 ∷ []) (place 3 [])

@@ -7,8 +7,13 @@ use mathlib.Core.List.{List}
 use Rattle.terms.specs.declared.Place.{Place}
 use Rattle.words.specs.Words.{words, Bytes}
 use Rattle.packed.specs.Packed.{placesOf}
-use Rattle.history.specs.History.{begin, insert, update, delete, commit, abort, latest, readAt, ownRead, openScan, scanRead, sum, close, merge, release, pageCell, lineage}
+use Rattle.history.specs.History.{Call, update}
+use Rattle.scans.specs.declared.Scans.{Scans}
+use Rattle.terms.specs.declared.Answer.{Answer}
 use Rattle.model.specs.Calls.{actIn, placesAfter}
+use Rattle.promise.specs.Promise.{Answers, Leaves}
+use Rattle.calls.specs.Serves.{Serves}
+use Rattle.calls.proofs.Served.{Reads, KeepsList}
 use Rattle.commands.specs.declared.Kind.{Kind}
 use Rattle.commands.specs.declared.Request.{Request}
 use Rattle.commands.specs.Commands.{callOf}
@@ -42,27 +47,35 @@ third u = request u .third
 bytes : (c : tie.After-slice-known) → Bytes (c .before .args .mem .now)
 bytes c k = omega (arith, c .slice-known .given k)
 
--- the call of the request, by its kind
-of-kind : (u : tie.After-values) (k : Kind) → request u .kind ≡ k → asked (request u) ≡ callOf k (first u) (second u) (third u) (request u .values)
-of-kind u k e = ap (λ (z : Kind). callOf z (first u) (second u) (third u) (request u .values)) e
+-- the call of a request of kind k
+abbrev callAs : tie.After-values → Kind → Call
+callAs u k = callOf k (first u) (second u) (third u) (request u .values)
+
+abbrev found : tie.After-values → Scans
+found u = u .before .table .result
+
+-- what is due where the request is of kind k: for a call that may change the memory, for one that does not, and for one that changes a place of the list
+module _ (u : tie.After-values) (k : Kind) (e : request u .kind ≡ k) where
+  served : (r : Answer) (m′ : List ℕ) (ps′ : List Place) → Serves (mem u) (list u) (callAs u k) r m′ ps′ → Serves (mem u) (list u) (asked (request u)) r m′ ps′
+  served r m′ ps′ h = asks (mem u) (list u) (request u) (callAs u k) r m′ ps′ (ap (callAs u) e) h
+
+  changes : (r : Answer) (m′ : List ℕ) → KeepsList (callAs u k) → Leaves (mem u) (found u) (callAs u k) r m′ → Serves (mem u) (list u) (asked (request u)) r m′ (list u)
+  changes r m′ q h = served r m′ (list u) (changed (mem u) (found u) (callAs u k) r m′ q h (list u) (u .before .table .ensures))
+
+  looks : (r : Answer) → Reads (callAs u k) → KeepsList (callAs u k) → Answers (mem u) (found u) (callAs u k) r → Serves (mem u) (list u) (asked (request u)) r (mem u) (list u)
+  looks r p q h = served r (mem u) (list u) (looked (mem u) (found u) (callAs u k) r (bytes (u .before .before .before .before)) p q h (list u) (u .before .table .ensures))
 
 returns : tie.Need-returns
 unfolding callOf placesAfter
 returns c =
     let z = c .before .before in
-    let k = z .before .before in
-    let u = k .before .before in
-    asks (mem u) (list u) (request u) (begin) _ _ _ (of-kind u Kind.Begin (k .enum-told .given .1))
-    (changed (mem u) _ (begin) _ _ (λ v qs. refl) (z .begin .ensures) (list u) (u .before .table .ensures))
+    let k = z .before .before in changes (k .before .before) Kind.Begin (k .enum-told .given .1) _ _ (λ v qs. refl) (z .begin .ensures)
 
 returns-2 : tie.Need-returns-2
 unfolding callOf placesAfter
 returns-2 c =
     let z = c .before .before in
-    let k = z .before .before in
-    let u = k .before .before in
-    asks (mem u) (list u) (request u) (insert (first u) (request u .values)) _ _ _ (of-kind u Kind.Insert (k .enum-told2 .given .1))
-    (changed (mem u) _ (insert (first u) (request u .values)) _ _ (λ v qs. refl) (z .insert .ensures) (list u) (u .before .table .ensures))
+    let k = z .before .before in changes (k .before .before) Kind.Insert (k .enum-told2 .given .1) _ _ (λ v qs. refl) (z .insert .ensures)
 
 returns-3 : tie.Need-returns-3
 unfolding callOf placesAfter
@@ -70,128 +83,89 @@ returns-3 c =
     let z = c .before .before in
     let k = z .before .before .before in
     let u = k .before .before in
-    asks (mem u) (list u) (request u) (update (first u) (second u) (third u) (request u .values)) _ _ _ (of-kind u Kind.Update (k .enum-told3 .given .1))
-    (masked (mem u) (list u) (first u) (second u) (third u) (z .before .mask-of .result) (request u .values) _ _ (z .before .mask-of .ensures)
-    (changed (mem u) _ (update (first u) (second u) (z .before .mask-of .result) (request u .values)) _ _ (λ v qs. refl) (z .update .ensures) (list u) (u .before .table .ensures)))
+    let mask = z .before .mask-of in
+    served u Kind.Update (k .enum-told3 .given .1) _ _ _
+    (masked (mem u) (list u) (first u) (second u) (third u) (mask .result) (request u .values) _ _ (mask .ensures)
+    (changed (mem u) (found u) (update (first u) (second u) (mask .result) (request u .values)) _ _ (λ v qs. refl) (z .update .ensures) (list u) (u .before .table .ensures)))
 
 returns-4 : tie.Need-returns-4
 unfolding callOf placesAfter
 returns-4 c =
     let z = c .before .before in
-    let k = z .before .before in
-    let u = k .before .before in
-    asks (mem u) (list u) (request u) (delete (first u) (second u)) _ _ _ (of-kind u Kind.Delete (k .enum-told4 .given .1))
-    (changed (mem u) _ (delete (first u) (second u)) _ _ (λ v qs. refl) (z .delete .ensures) (list u) (u .before .table .ensures))
+    let k = z .before .before in changes (k .before .before) Kind.Delete (k .enum-told4 .given .1) _ _ (λ v qs. refl) (z .delete .ensures)
 
 returns-5 : tie.Need-returns-5
 unfolding callOf placesAfter
 returns-5 c =
     let z = c .before .before in
-    let k = z .before .before in
-    let u = k .before .before in
-    asks (mem u) (list u) (request u) (commit (first u) (second u)) _ _ _ (of-kind u Kind.Commit (k .enum-told5 .given .1))
-    (changed (mem u) _ (commit (first u) (second u)) _ _ (λ v qs. refl) (z .commit .ensures) (list u) (u .before .table .ensures))
+    let k = z .before .before in changes (k .before .before) Kind.Commit (k .enum-told5 .given .1) _ _ (λ v qs. refl) (z .commit .ensures)
 
 returns-6 : tie.Need-returns-6
 unfolding callOf placesAfter
 returns-6 c =
     let z = c .before .before in
-    let k = z .before .before in
-    let u = k .before .before in
-    asks (mem u) (list u) (request u) (abort (first u)) _ _ _ (of-kind u Kind.Abort (k .enum-told6 .given .1))
-    (changed (mem u) _ (abort (first u)) _ _ (λ v qs. refl) (z .abort .ensures) (list u) (u .before .table .ensures))
+    let k = z .before .before in changes (k .before .before) Kind.Abort (k .enum-told6 .given .1) _ _ (λ v qs. refl) (z .abort .ensures)
 
 returns-7 : tie.Need-returns-7
 unfolding callOf actIn placesAfter
 returns-7 c =
-    let k = c .before .before in
-    let u = k .before .before in
-    asks (mem u) (list u) (request u) (latest (first u) (second u)) _ _ _ (of-kind u Kind.Latest (k .enum-told7 .given .1))
-    (looked (mem u) _ (latest (first u) (second u)) _ (bytes (u .before .before .before .before)) (λ S v qs. refl) (λ v qs. refl) (c .latest .ensures) (list u) (u .before .table .ensures))
+    let k = c .before .before in looks (k .before .before) Kind.Latest (k .enum-told7 .given .1) _ (λ S v qs. refl) (λ v qs. refl) (c .latest .ensures)
 
 returns-8 : tie.Need-returns-8
 unfolding callOf actIn placesAfter
 returns-8 c =
-    let k = c .before .before in
-    let u = k .before .before in
-    asks (mem u) (list u) (request u) (readAt (first u) (second u) (third u)) _ _ _ (of-kind u Kind.ReadAt (k .enum-told8 .given .1))
-    (looked (mem u) _ (readAt (first u) (second u) (third u)) _ (bytes (u .before .before .before .before)) (λ S v qs. refl) (λ v qs. refl) (c .read-at .ensures) (list u) (u .before .table .ensures))
+    let k = c .before .before in looks (k .before .before) Kind.ReadAt (k .enum-told8 .given .1) _ (λ S v qs. refl) (λ v qs. refl) (c .read-at .ensures)
 
 returns-9 : tie.Need-returns-9
 unfolding callOf actIn placesAfter
 returns-9 c =
-    let k = c .before .before in
-    let u = k .before .before in
-    asks (mem u) (list u) (request u) (ownRead (first u) (second u) (third u)) _ _ _ (of-kind u Kind.OwnRead (k .enum-told9 .given .1))
-    (looked (mem u) _ (ownRead (first u) (second u) (third u)) _ (bytes (u .before .before .before .before)) (λ S v qs. refl) (λ v qs. refl) (c .own-read .ensures) (list u) (u .before .table .ensures))
+    let k = c .before .before in looks (k .before .before) Kind.OwnRead (k .enum-told9 .given .1) _ (λ S v qs. refl) (λ v qs. refl) (c .own-read .ensures)
 
 returns-10 : tie.Need-returns-10
 unfolding callOf
 returns-10 c =
     let z = c .before .before .before .before in
     let k = z .before .before .before in
-    let u = k .before .before in
-    asks (mem u) (list u) (request u) (openScan (first u)) _ _ _ (of-kind u Kind.OpenScan (k .enum-told10 .given .1))
-    (z .open-listed .ensures (u .before .table .ensures))
+    let u = k .before .before in served u Kind.OpenScan (k .enum-told10 .given .1) _ _ _ (z .open-listed .ensures (u .before .table .ensures))
 
 returns-11 : tie.Need-returns-11
 unfolding callOf actIn placesAfter
 returns-11 c =
-    let k = c .before .before in
-    let u = k .before .before in
-    asks (mem u) (list u) (request u) (scanRead (first u) (second u) (third u)) _ _ _ (of-kind u Kind.ScanRead (k .enum-told11 .given .1))
-    (looked (mem u) _ (scanRead (first u) (second u) (third u)) _ (bytes (u .before .before .before .before)) (λ S v qs. refl) (λ v qs. refl) (c .scan-read .ensures) (list u) (u .before .table .ensures))
+    let k = c .before .before in looks (k .before .before) Kind.ScanRead (k .enum-told11 .given .1) _ (λ S v qs. refl) (λ v qs. refl) (c .scan-read .ensures)
 
 returns-12 : tie.Need-returns-12
 unfolding callOf actIn placesAfter
 returns-12 c =
-    let k = c .before .before in
-    let u = k .before .before in
-    asks (mem u) (list u) (request u) (sum (first u) (second u)) _ _ _ (of-kind u Kind.Sum (k .enum-told12 .given .1))
-    (looked (mem u) _ (sum (first u) (second u)) _ (bytes (u .before .before .before .before)) (λ S v qs. refl) (λ v qs. refl) (c .sum .ensures) (list u) (u .before .table .ensures))
+    let k = c .before .before in looks (k .before .before) Kind.Sum (k .enum-told12 .given .1) _ (λ S v qs. refl) (λ v qs. refl) (c .sum .ensures)
 
 returns-13 : tie.Need-returns-13
 unfolding callOf
 returns-13 c =
     let z = c .before .before in
     let k = z .before .before .before in
-    let u = k .before .before in
-    asks (mem u) (list u) (request u) (close (first u)) _ _ _ (of-kind u Kind.Close (k .enum-told13 .given .1))
-    (z .close-listed .ensures (u .before .table .ensures))
+    let u = k .before .before in served u Kind.Close (k .enum-told13 .given .1) _ _ _ (z .close-listed .ensures (u .before .table .ensures))
 
 returns-14 : tie.Need-returns-14
 unfolding callOf placesAfter
 returns-14 c =
     let z = c .before .before in
-    let k = z .before .before in
-    let u = k .before .before in
-    asks (mem u) (list u) (request u) (merge (first u) (second u) (third u)) _ _ _ (of-kind u Kind.Merge (k .enum-told14 .given .1))
-    (changed (mem u) _ (merge (first u) (second u) (third u)) _ _ (λ v qs. refl) (z .merge .ensures) (list u) (u .before .table .ensures))
+    let k = z .before .before in changes (k .before .before) Kind.Merge (k .enum-told14 .given .1) _ _ (λ v qs. refl) (z .merge .ensures)
 
 returns-15 : tie.Need-returns-15
 unfolding callOf placesAfter
 returns-15 c =
     let z = c .before .before in
-    let k = z .before .before in
-    let u = k .before .before in
-    asks (mem u) (list u) (request u) (release) _ _ _ (of-kind u Kind.Release (k .enum-told15 .given .1))
-    (changed (mem u) _ (release) _ _ (λ v qs. refl) (z .release .ensures) (list u) (u .before .table .ensures))
+    let k = z .before .before in changes (k .before .before) Kind.Release (k .enum-told15 .given .1) _ _ (λ v qs. refl) (z .release .ensures)
 
 returns-16 : tie.Need-returns-16
 unfolding callOf actIn placesAfter
 returns-16 c =
-    let k = c .before .before in
-    let u = k .before .before in
-    asks (mem u) (list u) (request u) (pageCell (first u) (second u)) _ _ _ (of-kind u Kind.PageCell (k .enum-told16 .given .1))
-    (looked (mem u) _ (pageCell (first u) (second u)) _ (bytes (u .before .before .before .before)) (λ S v qs. refl) (λ v qs. refl) (c .page-cell .ensures) (list u) (u .before .table .ensures))
+    let k = c .before .before in looks (k .before .before) Kind.PageCell (k .enum-told16 .given .1) _ (λ S v qs. refl) (λ v qs. refl) (c .page-cell .ensures)
 
 returns-17 : tie.Need-returns-17
 unfolding callOf actIn placesAfter
 returns-17 c =
-    let k = c .before .before in
-    let u = k .before .before in
-    asks (mem u) (list u) (request u) (lineage (first u) (second u)) _ _ _ (of-kind u Kind.Lineage (k .enum-told17 .given .1))
-    (looked (mem u) _ (lineage (first u) (second u)) _ (bytes (u .before .before .before .before)) (λ S v qs. refl) (λ v qs. refl) (c .lineage .ensures) (list u) (u .before .table .ensures))
+    let k = c .before .before in looks (k .before .before) Kind.Lineage (k .enum-told17 .given .1) _ (λ S v qs. refl) (λ v qs. refl) (c .lineage .ensures)
 
 pub call-spec : {M : Type 1} → statement M
 call-spec =

@@ -15,9 +15,9 @@ use Rattle.history.proofs.States.{isGiven, isAborted}
 use Rattle.history.proofs.Order.{placed-at}
 use Rattle.history.proofs.Links.{noRecord, lastOf, last-of-row}
 use Rattle.history.proofs.Newest.{recordIs, newestIs, held-newest, ended-newest, gone-newest}
-use Rattle.layout.specs.View.{View, usedIn}
+use Rattle.layout.specs.View.{View}
 use Rattle.terms.specs.declared.Place.{Place}
-use Rattle.model.specs.Stored.{RecordWords, rowIn, recordIn, valueIn, slot, openState, abortedState, deleteKind}
+use Rattle.model.specs.Stored.{RecordWords, rowIn, recordIn, slot, openState, abortedState, deleteKind}
 use Rattle.model.specs.Reading.{sees, seesRecord, headIn, hasRecord, visibleIn}
 use Rattle.model.specs.Calls.{heldIn, goneIn}
 use Rattle.model.proofs.Represents.{stateWord, RowIs, ContentIs, TailOf, Represents, Known}

@@ -24,8 +24,8 @@ use Rattle.history.proofs.Ranges.{last-next, records-range}
 use Rattle.history.proofs.Links.{noRecord}
 use Rattle.words.proofs.Words.{Fit}
 use Rattle.loops.proofs.Change.{set-fit}
-use Rattle.layout.specs.View.{View, usedIn}
-use Rattle.layout.specs.declared.Region.the-variants.{TailValues}
+use Rattle.layout.specs.View.{View}
+use Rattle.layout.specs.declared.Region.the-variants.{TailValues, TailStamp}
 use Rattle.model.specs.Stored.{recordIn, valueIn, slot, within, committedState, settingKind}
 use Rattle.model.specs.Writing.{applies, applied, newestOf, anyOpen}
 use Rattle.model.proofs.Lists.{take-next, is-equal}

@@ -24,9 +24,11 @@ use Rattle.history.proofs.Merges.{merges-most, merged-page}
 use Rattle.loops.specs.Change.{copied}
 use Rattle.loops.proofs.Change.{changed-length, changed-outside, changed-at, changed-fit}
 use Rattle.layout.specs.View.{View, renew, put, mergesMade}
+use Rattle.layout.specs.Regions.{len, mergesAt}
+use Rattle.layout.specs.Sizes.{sizesOf}
+use Rattle.layout.specs.declared.Region.{Region}
 use Rattle.layout.specs.declared.Region.the-variants.{Header, Current, PageState, PagePlace, PageMade, PageReplaced, PageLineage, PageNewest, Cells, TailValues, TailStamp}
 use Rattle.terms.specs.declared.Place.{Place}
-use Rattle.layout.specs.Regions.{mergesAt}
 use Rattle.model.specs.Stored.{PageWords, rowIn, recordIn, valueIn, pageIn, cellIn, currentIn, placeOf, placesOf, pagesOf, within, nextWord, freePage, currentPage, waitingPage, asCurrent, asWaiting, countBelow}
 use Rattle.model.specs.Reading.{wasCurrent, scanPage}
 use Rattle.model.specs.Writing.{applied, newestOf, freeIn, mergedIn}
@@ -415,9 +417,9 @@ module _ (S : Shape) (v : View) (ps : List Place) (h : History) (o : Represents 
   merge-whole : Whole S v′
   unfolding mergedIn
   merge-whole =
-      let fit : m < 2 ^ 32 = omega arith in
-      let pages : pagesOf S ≤ 16 * 16 + 256 = omega (arith, native.Mathlib.Nat.mul-le-mul (k .small .columns) (k .small .ranges), k .small .spares) in
-      let spot : placeOf S g c < 2 ^ 32 = omega (arith, place-in S g c bg bc) in
+      let fit : m < 2 ^ 32 = omega (arith, m-is, merges-few k) in
+      let pages : pagesOf S ≤ 16 * 16 + 256 = omega (arith, mul-le-mul (k .small .columns) (k .small .ranges), k .small .spares) in
+      let spot : placeOf S g c < 2 ^ 32 = omega (arith, place-in S g c (ok .range-in) (ok .column-in)) in
       put-whole Header mergesAt m fit
       (put-whole Current (placeOf S g c) p (omega (arith, room))
       (put-whole PageReplaced old m fit

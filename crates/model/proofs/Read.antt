@@ -23,7 +23,7 @@ use Rattle.history.proofs.Order.{InOrder, placed-at}
 use Rattle.history.proofs.Ranges.{version-range, last-next, last-agree, last-unset}
 use Rattle.history.proofs.Links.{noRecord, lastOf, last-of-row}
 use Rattle.history.proofs.Endings.{original-reads, originals-of}
-use Rattle.layout.specs.View.{View, usedIn}
+use Rattle.layout.specs.View.{View}
 use Rattle.terms.specs.declared.Place.{Place}
 use Rattle.model.specs.declared.Walk.{Walk}
 use Rattle.model.specs.Stored.{PageWords, rowIn, recordIn, valueIn, pageIn, cellIn, within, originalKind, settingKind}

@@ -20,7 +20,7 @@ use Rattle.history.proofs.Steps.{Step, New, wasSet}
 use Rattle.history.proofs.Ranges.{records-made}
 use Rattle.history.proofs.Links.{noRecord, lastOf, last-of-append}
 use Rattle.layout.specs.View.{View, renew, put, usedIn}
-use Rattle.layout.specs.declared.Region.the-variants.{Opens, RowTransaction, RowState, RowStamp, RowMask, Changes}
+use Rattle.layout.specs.declared.Region.the-variants.{Opens, Changes, RowLink}
 use Rattle.terms.specs.declared.Place.{Place}
 use Rattle.terms.specs.Places.{bears, place}
 use Rattle.model.specs.Stored.{RowWords, RecordWords, rowIn, recordIn, valueIn, pageIn, cellIn, currentIn, openPlace, nextWord, asOpen, asDelete}

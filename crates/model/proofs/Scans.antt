@@ -11,8 +11,8 @@ use lib.Dec.{T, leb, eqb, lt→ltb, le→leb}
 use lib.ListN.{length, set, length-append, length-set}
 use Rattle.terms.specs.Measures.{Shape, mostScans, mostNumbers}
 use Rattle.history.specs.History.{openScan, close, History, Scan, any, count, nth, change, stateOf, rowAt, recordsOf, scanAt, stopped, withScans}
-use Rattle.history.proofs.Lists.{is-true, length-change, nth-other, nth-changed}
-use Rattle.history.proofs.Steps.{Step}
+use Rattle.history.proofs.Lists.{is-true, by-cases, length-change, nth-last, nth-before}
+use Rattle.history.proofs.Steps.{noScan, Step}
 use Rattle.layout.specs.View.{View, renew, put, scansGiven, mergesMade}
 use Rattle.layout.specs.declared.Region.the-variants.{Header}
 use Rattle.terms.specs.declared.Place.{Place}

@@ -218,8 +218,8 @@ marks-fit S used ks t w (suc n) l b f = marked-fit ks (n * S .capacity) (getD us
 pub settled-whole : {S : Shape} {v : View} (t state stamp : ℕ) → state < 2 ^ 32 → stamp < 2 ^ 32 → Whole S v → Whole S (settled S t state stamp v)
 unfolding settled
 settled-whole {S} {v} t state stamp a b o =
-    renew-whole TailStamp _ (marks-long S (v Used) (v TailTransaction) t stamp (S .ranges) (v TailStamp) ∙ o .long TailStamp) (marks-fit S (v Used) (v TailTransaction) t stamp (S .ranges) (v TailStamp) b (o .fits TailStamp))
-    (renew-whole TailState _ (marks-long S (v Used) (v TailTransaction) t state (S .ranges) (v TailState) ∙ o .long TailState) (marks-fit S (v Used) (v TailTransaction) t state (S .ranges) (v TailState) a (o .fits TailState))
+    renew-whole TailStamp _ (marks-length S (v Used) (v TailTransaction) t stamp (S .ranges) (v TailStamp) ∙ o .long TailStamp) (marks-fit S (v Used) (v TailTransaction) t stamp (S .ranges) (v TailStamp) b (o .fits TailStamp))
+    (renew-whole TailState _ (marks-length S (v Used) (v TailTransaction) t state (S .ranges) (v TailState) ∙ o .long TailState) (marks-fit S (v Used) (v TailTransaction) t state (S .ranges) (v TailState) a (o .fits TailState))
     (renew-whole RowStamp _ (changed-length _ 0 (v RowStamp) (rowsGiven v) ∙ o .long RowStamp) (marked-fit (v RowTransaction) 0 (rowsGiven v) t stamp (v RowStamp) b (o .fits RowStamp))
     (renew-whole RowState _ (changed-length _ 0 (v RowState) (rowsGiven v) ∙ o .long RowState) (marked-fit (v RowTransaction) 0 (rowsGiven v) t state (v RowState) a (o .fits RowState)) o)))
 

@@ -20,10 +20,10 @@ use Rattle.history.proofs.Steps.{Step, New, wasSet, new-columns}
 use Rattle.history.proofs.Masks.{bit-low}
 use Rattle.history.proofs.Ranges.{last-unset}
 use Rattle.history.proofs.Endings.{set-range}
-use Rattle.layout.specs.View.{View, renew, put, usedIn}
-use Rattle.layout.specs.declared.Region.the-variants.{RowTransaction, RowState, RowStamp, RowMask, Cells, Changes}
+use Rattle.layout.specs.View.{View, renew, put}
+use Rattle.layout.specs.declared.Region.the-variants.{RowMask, Cells, Changes}
 use Rattle.terms.specs.declared.Place.{Place}
-use Rattle.model.specs.Stored.{RowWords, rowIn, recordIn, valueIn, pageIn, cellIn, currentIn, openPlace, asOriginal, asSetting}
+use Rattle.model.specs.Stored.{rowIn, recordIn, valueIn, pageIn, cellIn, currentIn, openPlace, asOriginal, asSetting}
 use Rattle.model.specs.Reading.{scanPage, wasCurrent}
 use Rattle.model.specs.Writing.{noted, appended, filledIn, newBitsIn, recordsWanted, originalAppended, originalWord, settingAppended, updatedIn}
 use Rattle.model.proofs.Lists.{true-false, is-equal}

@@ -26,7 +26,6 @@ use Rattle.history.proofs.Timely.{Timely}
 use Rattle.history.proofs.Links.{noRecord, lastOf, last-of-row}
 use Rattle.scans.specs.Places.{opened, openCount}
 use Rattle.facts.specs.Facts.{inUse, factsHold}
-use Rattle.layout.proofs.Limits.{proper}
 use Rattle.facts.proofs.Ready.{Stored}
 use Rattle.facts.proofs.Usable.{Linked, Usable}
 use Rattle.terms.specs.Places.{bears, place, freePlace, isScan}

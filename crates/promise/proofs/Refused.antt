@@ -1,6 +1,6 @@
 -- Demand 1 holds: 2 is answered exactly where memory and list are not usable, and a refused call leaves every byte and every place as it was. Both speak of
 -- any memory and list, also of those that no call made.
-use mathlib.Core.Path.{_≡_, refl, ap, sym, _∙_, subst}
+use mathlib.Core.Path.{_≡_, refl, ap, sym, _∙_}
 use mathlib.Core.Bool.{Bool, true, false, cond}
 use mathlib.Core.List.{List, [], _∷_}
 use lib.Dec.{T, eqb}
@@ -19,7 +19,7 @@ use Rattle.history.proofs.Lists.{clash, by-test, is-true, or-left, or-right, eq
 use Rattle.facts.specs.Usable.{storedShape, storedSizes, usable}
 use Rattle.facts.proofs.Usable.{usable-tells}
 use Rattle.model.specs.Reading.{readIn, readCurrent, sumIn, visibleIn}
-use Rattle.model.specs.Calls.{testsIn, replyIn, actIn, placesAfter, viewIf, placesIf, say, viewNext, placesNext}
+use Rattle.model.specs.Calls.{testsIn, replyIn, viewIf, placesIf, say, viewNext, placesNext}
 use Rattle.model.proofs.Lists.{true-false}
 use Rattle.promise.specs.Promise.{storeView, answerOf, memoryAfter, listAfter}
 use Rattle.promise.specs.Demands.{RefusedMemory, RefusedKeeps}

@@ -1,6 +1,6 @@
 -- Every stored fact holds of a memory and a list that represent a history: so no call on a store that calls alone have worked on is answered 2.
 use Prim.Native.Nat.{ℕ, zero, suc, _+_, _*_, _-_, _/_, _%_, _≤_, _<_, zero-le}
-use mathlib.Core.Path.{_≡_, refl, ap, sym, _∙_, subst}
+use mathlib.Core.Path.{_≡_, refl, ap, sym, _∙_}
 use mathlib.Core.Logic.{_≢_}
 use mathlib.Core.Bool.{Bool, true, false, not}
 use mathlib.Core.List.{List, [], _∷_}
@@ -15,7 +15,7 @@ use Rattle.layout.specs.declared.Region.the-variants.{Opens, TailRow, Used, Cur
 use Rattle.layout.specs.View.{View, rowsGiven, transactionsGiven, lastStamp, mergesMade, usedIn}
 use Rattle.layout.specs.Sizes.{sizesOf}
 use Rattle.layout.proofs.Limits.{proper}
-use Rattle.history.specs.History.{History, State, unknown, active, aborted, committed, count, nth, stateOf, rowAt, rangeOf, recordsOf, scanAt}
+use Rattle.history.specs.History.{History, unknown, active, aborted, committed, count, nth, stateOf, rowAt, rangeOf, recordsOf, scanAt}
 use Rattle.history.proofs.Lists.{all-at, by-cases, cond-ap, eqb-other, eqb-equal, place-any}
 use Rattle.history.specs.Latest.{stampOf}
 use Rattle.history.proofs.States.{isGiven, Stamped}
@@ -29,9 +29,8 @@ use Rattle.facts.proofs.Ready.{Stored}
 use Rattle.facts.proofs.Usable.{Linked, Usable}
 use Rattle.terms.specs.Places.{bears, place, freePlace}
 use Rattle.model.specs.Stored.{rowIn, recordIn, valueIn, pageIn, cellIn, currentIn, placeOf, placesOf, pagesOf, currentPage}
-use Rattle.model.proofs.Lists.{same-part}
 use Rattle.model.proofs.Book.{live-inside, Kind, Book, book-is, book-found, book-only}
-use Rattle.model.proofs.Merged.{place-in, place-mod}
+use Rattle.model.proofs.Merged.{place-mod}
 use Rattle.model.proofs.Heads.{in-range}
 use Rattle.model.proofs.Scans.{scanKind, scan-count}
 use Rattle.model.proofs.Transactions.{openKind}

@@ -2,7 +2,7 @@
 use Prim.Native.Nat.{ℕ, _+_, _^_, _≤_, _<_}
 use mathlib.Core.Path.{_≡_, refl, ap, sym, _∙_, fun-ext}
 use mathlib.Core.Bool.{Bool, true, false, cond}
-use mathlib.Core.Logic.{_≢_, _⊎_, inl, inr}
+use mathlib.Core.Logic.{_≢_, _⊎_, ⊎-elim, ⊎-map}
 use mathlib.Core.List.{List, map}
 use native.Mathlib.Omega.{arith}
 use lib.Dec.{eqb}
@@ -36,17 +36,11 @@ base-sides s k l h = sides 0 (lens s) (index k) (index l) h
 -- and so do one stretch of each
 pub stretches-apart : (s : Sizes) (k l : Region) (at n : ℕ) → at + n ≤ len s k → at + n ≤ len s l → index k ≢ index l
     → (base s k + at + n ≤ base s l + at) ⊎ (base s l + at + n ≤ base s k + at)
-stretches-apart s k l at n h g d = go (base-sides s k l d)
-  where
-    go : (base s k + len s k ≤ base s l) ⊎ (base s l + len s l ≤ base s k)
-        → (base s k + at + n ≤ base s l + at) ⊎ (base s l + at + n ≤ base s k + at)
-    go (inl a) = inl (omega arith)
-    go (inr a) = inr (omega arith)
+stretches-apart s k l at n h g d = ⊎-map (λ a. omega arith) (λ a. omega arith) (base-sides s k l d)
 
 -- two stretches of one region that do not overlap, counted from the first word
 pub stretches-shifted : (b from n to : ℕ) → (from + n ≤ to) ⊎ (to + n ≤ from) → (b + from + n ≤ b + to) ⊎ (b + to + n ≤ b + from)
-stretches-shifted b from n to (inl a) = inl (omega arith)
-stretches-shifted b from n to (inr a) = inr (omega arith)
+stretches-shifted b from n to = ⊎-map (λ a. omega arith) (λ a. omega arith)
 
 -- a stretch of a region ends within the words needed
 pub stretch-in : (s : Sizes) (k : Region) (at n : ℕ) → at + n ≤ len s k → base s k + at + n ≤ need s
@@ -76,22 +70,16 @@ pub view-put : (s : Sizes) (ws : List ℕ) (k : Region) (i v : ℕ) → i < len 
     → view s (set ws (base s k + i) v) ≡ put k i v (view s ws)
 unfolding view put
 view-put s ws k i v h =
-    view-inside s ws _ k same ∙ ap (λ (l : List ℕ). renew k l (view s ws)) (region-put ws (base s k) (len s k) i v h)
-  where
-    same : (b n : ℕ) → (b + n ≤ base s k) ⊎ (base s k + len s k ≤ b) → region (set ws (base s k + i) v) b n ≡ region ws b n
-    same b n (inl a) = region-after ws b n _ v (omega arith)
-    same b n (inr a) = region-before ws b n _ v (omega arith)
+    view-inside s ws _ k (λ b n. ⊎-elim (λ a. region-after ws b n _ v (omega arith)) (λ a. region-before ws b n _ v (omega arith)))
+    ∙ ap (λ (l : List ℕ). renew k l (view s ws)) (region-put ws (base s k) (len s k) i v h)
 
 -- a change of a stretch, which is what every loop that writes does
 pub view-changed : (s : Sizes) (ws : List ℕ) (k : Region) (f : ℕ → ℕ → ℕ) (at n : ℕ) → at + n ≤ len s k
     → view s (changed f (base s k + at) n ws) ≡ renew k (changed f at n (view s ws k)) (view s ws)
 unfolding view
 view-changed s ws k f at n h =
-    view-inside s ws _ k same ∙ ap (λ (l : List ℕ). renew k l (view s ws)) (changed-inside f ws (base s k) (len s k) at n h)
-  where
-    same : (b m : ℕ) → (b + m ≤ base s k) ⊎ (base s k + len s k ≤ b) → region (changed f (base s k + at) n ws) b m ≡ region ws b m
-    same b m (inl a) = changed-apart f (base s k + at) ws n b m (inl (omega arith))
-    same b m (inr a) = changed-apart f (base s k + at) ws n b m (inr (omega arith))
+    view-inside s ws _ k (λ b m c. changed-apart f (base s k + at) ws n b m (⊎-map (λ a. omega arith) (λ a. omega arith) c))
+    ∙ ap (λ (l : List ℕ). renew k l (view s ws)) (changed-inside f ws (base s k) (len s k) at n h)
 
 module _ (s : Sizes) (ws : List ℕ) (k : Region) (at n : ℕ) (h : at + n ≤ len s k) where
   pub view-fill : (v : ℕ) → view s (changed (λ i x. v) (base s k + at) n ws) ≡ fill k at n v (view s ws)
@@ -155,11 +143,8 @@ view-long s ws h k = region-length ws (base s k) (len s k) (omega (arith, base-i
 renew-each : (P : Region → List ℕ → Type 0) (k : Region) (l : List ℕ) (m : View)
     → ((j : Region) → index k ≡ index j → P j l) → ((j : Region) → P j (m j)) → (j : Region) → P j (renew k l m j)
 unfolding renew
-renew-each P k l m h g j = go (eqb (index k) (index j)) refl
-  where
-    go : (b : Bool) → eqb (index k) (index j) ≡ b → P j (cond b l (m j))
-    go true q = h j (eqb-true (index k) (index j) q)
-    go false q = g j
+renew-each P k l m h g j =
+    elim (eqb (index k) (index j)) as (λ b. eqb (index k) (index j) ≡ b → P j (cond b l (m j))) [ true ↦ λ q. h j (eqb-true (index k) (index j) q) | false ↦ λ q. g j ] refl
 
 pub renew-long : (s : Sizes) (k : Region) (l : List ℕ) (m : View) → length l ≡ len s k → Long s m → Long s (renew k l m)
 renew-long s k l m e h =

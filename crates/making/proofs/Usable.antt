@@ -26,7 +26,7 @@ use Rattle.layout.specs.View.{View, view, put, fill, number, renew, lay, lastSt
 use Rattle.layout.proofs.Cut.{join-length}
 use Rattle.layout.proofs.View.{Long, Fits, view-at, put-long, fill-long, number-long, put-fits, fill-fits, number-fits}
 use Rattle.layout.proofs.Lay.{view-lay}
-use Rattle.layout.proofs.Limits.{limited, proper}
+use Rattle.layout.proofs.Limits.{proper}
 use Rattle.terms.specs.Places.{freePlace}
 use Rattle.scans.specs.Places.{openCount, everyOpen, differ}
 use Rattle.facts.specs.Facts.{each, rowsBetween, rangeBetween, pageAtMost, inUse, waiting, storedWithin, countsWithin, rowNamed, rangeNamesRows, recordsNameRows, numbersGiven, rangeLinked, recordLinked, linksHold, stampsWithin, mergesWithin, openDiffer, pagePlaced, pagesPlaced, pageRange, lineageWithin, lineagesWithin, factsHold}
@@ -92,7 +92,7 @@ module _ (p : Shape) (w : withinLimits p ≡ true) where
   unfolding madeView placedView
   made-fits =
       let s = sizesOf p in
-      let l = limited p w in
+      let l = proper p w in
       let z = proper p w in
       let k : s .places ≤ 2 ^ 32 = omega (arith, z .pages-are, z .pages-to) in
       put-fits Header _

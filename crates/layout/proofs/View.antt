@@ -1,7 +1,7 @@
 -- The laws of the view: what each store into the words does to it, for every region at once.
 use Prim.Native.Nat.{ℕ, _+_, _^_, _≤_, _<_}
 use mathlib.Core.Path.{_≡_, refl, ap, sym, _∙_, fun-ext}
-use mathlib.Core.Bool.{Bool, true, false, cond}
+use mathlib.Core.Bool.{true, false, cond}
 use mathlib.Core.Logic.{_≢_, _⊎_, ⊎-elim, ⊎-map}
 use mathlib.Core.List.{List, map}
 use native.Mathlib.Omega.{arith}

@@ -1,18 +1,18 @@
 -- The laws of the view: what each store into the words does to it, for every region at once.
-use Prim.Native.Nat.{ℕ, _+_, _^_, _≤_, _<_}
+use Prim.Native.Nat.{ℕ, _+_, _≤_, _<_}
 use mathlib.Core.Path.{_≡_, refl, ap, sym, _∙_, fun-ext}
 use mathlib.Core.Bool.{true, false, cond}
 use mathlib.Core.Logic.{_≢_, _⊎_, ⊎-elim, ⊎-map}
 use mathlib.Core.List.{List, map}
 use native.Mathlib.Omega.{arith}
 use lib.Dec.{eqb}
-use lib.ListN.{length, getD, set, take, length-set}
+use lib.ListN.{length, getD, set, take}
 use borrow.Author.Tests.{eq-eqb, ne-eqb, eqb-true}
 use Rattle.loops.specs.Search.{region}
 use Rattle.loops.specs.Change.{changed, copied, marked}
 use Rattle.words.proofs.Words.{Fit}
 use Rattle.loops.proofs.Region.{region-at, region-length, region-put, region-before, region-after, region-region}
-use Rattle.loops.proofs.Change.{changed-apart, changed-inside, changed-same, changed-length, changed-fit, set-fit}
+use Rattle.loops.proofs.Change.{changed-apart, changed-inside, changed-same}
 use Rattle.layout.specs.declared.Sizes.{Sizes}
 use Rattle.layout.specs.declared.Region.{Region}
 use Rattle.layout.specs.Cut.{join}
@@ -127,7 +127,7 @@ pub view-join : (s : Sizes) (ws : List ℕ) → join (map (view s ws) all) ≡ t
 unfolding base view need
 view-join s ws = join-pieces 0 (lens s) ws
 
--- ---- a view that a memory can have: each list as long as the sizes say, each word below 2 ^ 32; kept by each store
+-- ---- a view that a memory can have: each list as long as the sizes say, each word below 2 ^ 32
 
 abbrev pub Long : Sizes → View → Type 0
 Long s m = (k : Region) → length (m k) ≡ len s k
@@ -139,49 +139,8 @@ pub view-long : (s : Sizes) (ws : List ℕ) → need s ≤ length ws → Long s 
 unfolding view
 view-long s ws h k = region-length ws (base s k) (len s k) (omega (arith, base-in s k))
 
--- what holds of the new list, and of the list of each region, holds of the lists of the new view
-renew-each : (P : Region → List ℕ → Type 0) (k : Region) (l : List ℕ) (m : View)
-    → ((j : Region) → index k ≡ index j → P j l) → ((j : Region) → P j (m j)) → (j : Region) → P j (renew k l m j)
-unfolding renew
-renew-each P k l m h g j =
-    elim (eqb (index k) (index j)) as (λ b. eqb (index k) (index j) ≡ b → P j (cond b l (m j))) [ true ↦ λ q. h j (eqb-true (index k) (index j) q) | false ↦ λ q. g j ] refl
-
 pub renew-long : (s : Sizes) (k : Region) (l : List ℕ) (m : View) → length l ≡ len s k → Long s m → Long s (renew k l m)
-renew-long s k l m e h =
-    renew-each (λ j x. length x ≡ len s j) k l m (λ j q. e ∙ ap (λ (i : ℕ). getD (lens s) i 0) q) h
-
-pub renew-fits : (k : Region) (l : List ℕ) (m : View) → Fit l → Fits m → Fits (renew k l m)
-renew-fits k l m f h = renew-each (λ j x. Fit x) k l m (λ j q. f) h
-
--- each of the stores of a view
-module _ (s : Sizes) (k : Region) (m : View) (h : Long s m) where
-  change-long : (f : ℕ → ℕ → ℕ) (at n : ℕ) → Long s (renew k (changed f at n (m k)) m)
-  change-long f at n = renew-long s k (changed f at n (m k)) m (changed-length f at (m k) n ∙ h k) h
-
-  pub put-long : (i v : ℕ) → Long s (put k i v m)
-  unfolding put
-  put-long i v = renew-long s k (set (m k) i v) m (length-set (m k) i v ∙ h k) h
-
-  pub fill-long : (at n v : ℕ) → Long s (fill k at n v m)
-  unfolding fill
-  fill-long at n v = change-long (λ i x. v) at n
-
-  pub number-long : (at n : ℕ) → Long s (number k at n m)
-  unfolding number
-  number-long at n = change-long (λ i x. i) at n
-
-module _ (k : Region) (m : View) (h : Fits m) where
-  change-fits : (f : ℕ → ℕ → ℕ) (at n : ℕ) → ((i x : ℕ) → i < n → x < 2 ^ 32 → f i x < 2 ^ 32) → Fits (renew k (changed f at n (m k)) m)
-  change-fits f at n b = renew-fits k (changed f at n (m k)) m (changed-fit f at n (m k) b (h k)) h
-
-  pub put-fits : (i v : ℕ) → v < 2 ^ 32 → Fits (put k i v m)
-  unfolding put
-  put-fits i v b = renew-fits k (set (m k) i v) m (set-fit (m k) i v (h k) b) h
-
-  pub fill-fits : (at n v : ℕ) → v < 2 ^ 32 → Fits (fill k at n v m)
-  unfolding fill
-  fill-fits at n v b = change-fits (λ i x. v) at n (λ i x l f. b)
-
-  pub number-fits : (at n : ℕ) → n ≤ 2 ^ 32 → Fits (number k at n m)
-  unfolding number
-  number-fits at n b = change-fits (λ i x. i) at n (λ i x l f. omega arith)
+unfolding renew
+renew-long s k l m e h j =
+    elim (eqb (index k) (index j)) as (λ b. eqb (index k) (index j) ≡ b → length (cond b l (m j)) ≡ len s j)
+    [ true ↦ λ q. e ∙ ap (λ (i : ℕ). getD (lens s) i 0) (eqb-true (index k) (index j) q) | false ↦ λ q. h j ] refl

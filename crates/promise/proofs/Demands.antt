@@ -20,8 +20,8 @@ use Rattle.history.proofs.Lists.{all-keep, parts, is-true, clash}
 use Rattle.history.proofs.Accepted.{Passed, passed}
 use Rattle.history.proofs.Striking.{striking}
 use Rattle.history.proofs.Stability.{stability, accepted}
+use Rattle.facts.specs.Usable.{usable}
 use Rattle.making.specs.Made.{made, madeView, madeList}
-use Rattle.making.proofs.Usable.{made-long, made-fits}
 use Rattle.making.proofs.Answers.{laid as making-laid}
 use Rattle.terms.specs.Places.{freePlace}
 use Rattle.model.specs.Writing.{made as modelMade}
@@ -29,10 +29,11 @@ use Rattle.model.specs.Calls.{Typed, viewNext, viewAfter, listAfter as modelLis
 use Rattle.model.specs.Claims.{storeAfter, historyAfter}
 use Rattle.model.proofs.Heads.{sees-at}
 use Rattle.model.proofs.Calls.{current-read, one-call}
+use Rattle.model.proofs.Made.{small-shape, made-represents}
 use Rattle.model.proofs.Claims.{represented, reads, pages-hold, scans-keep}
 use Rattle.promise.specs.Promise.{storeView, answerOf, memoryAfter}
 use Rattle.promise.specs.Demands.{Accepted, memoryMade, storeAnswers, memoryLeft, listLeft, storeMemory, storeList, MakingAccepted, ReadsCommitted, PagesCommitted, ScansKept, Demand3, StrikingStore, storeAnswerAt, ReadIn, StabilityStore}
-use Rattle.promise.proofs.Same.{Same, made-same, made-starts, view-is, memory-is, list-is, same-call, same-answers}
+use Rattle.promise.proofs.Same.{Same, made-same, made-starts, same-usable, view-is, memory-is, list-is, same-call, same-answers}
 
 -- ---- an accepted making: its measures are within their limits, and memory and list are long enough
 record Enough (S : Shape) (m : List ℕ) (ps : List Place) : Type 0 where
@@ -70,6 +71,10 @@ making-accepted S m ps t b n =
 -- what it left represents the empty history
 from-making : (S : Shape) (m : List ℕ) (ps : List Place) → Accepted S m ps → Same (memoryMade S m ps) (madeList ps) S start
 from-making S m ps a = let e = enough S m ps a in rw (e .left) (made-starts S m ps (e .within) (e .room) (e .places))
+
+-- and is usable, with a scan list whose places were all freed
+pub made-then-usable : (p : Shape) (m : List ℕ) (qs : List Place) → made p (length qs) m .0 ≡ Answer.Done → usable (made p (length qs) m .1) (madeList qs) ≡ true
+made-then-usable p m qs e = same-usable (from-making p m qs e)
 
 -- ---- demand 3
 pub demand3 : Demand3
@@ -117,7 +122,8 @@ module _ (S : Shape) (m : List ℕ) (ps : List Place) (a : Accepted S m ps) {cs 
   view-made : view (sizesOf S) (words (memoryMade S m ps)) ≡ modelMade S
   view-made =
       let e = enough S m ps a in
-      rw (e .left) (view-lay (sizesOf S) (madeView S) m (made-long S (e .within)) (made-fits S (e .within)) ∙ sym (made-same S))
+      let whole = made-represents S (small-shape S (rw (e .within) tt)) (length ps) (e .places) .whole in
+      rw (e .left, ← made-same S) (view-lay (sizesOf S) (modelMade S) m (whole .long) (whole .fits))
 
   left : Left (memoryMade S m ps) (madeList ps) S start cs
   left = calls-left (from-making S m ps a) ys

@@ -16,11 +16,13 @@ keep-none old line at = record { before = refl; behind = λ k h. absurd (omega a
 pub keep-next : (old lines line : List ℕ) (at i v : ℕ) → Kept old lines at line i → v ≡ getD line i 0 → at + i < length lines
     → Kept old (set lines (at + i) v) at line (i + 1)
 keep-next old lines line at i v e q h =
-    record { before = take-set-le at lines (at + i) v (omega arith) ∙ e .before; behind = λ k l. go k l (decLt k i) }
-  where
-    go : (k : ℕ) → k < i + 1 → Dec (k < i) → getD (set lines (at + i) v) (at + k) 0 ≡ getD line k 0
-    go k l (yes m) = getD-set-other lines (at + i) (at + k) v 0 (λ z. omega arith) ∙ e .behind k m
-    go k l (no m) = let same : k ≡ i = omega arith in rw same (getD-set-same lines (at + i) v 0 h ∙ q)
+    record {
+      before = take-set-le at lines (at + i) v (omega arith) ∙ e .before;
+      behind = λ k l. elim (decLt k i) as (λ _. getD (set lines (at + i) v) (at + k) 0 ≡ getD line k 0) [
+        | yes m ↦ getD-set-other lines (at + i) (at + k) v 0 (λ z. omega arith) ∙ e .behind k m
+        | no m ↦ let same : k ≡ i = omega arith in rw same (getD-set-same lines (at + i) v 0 h ∙ q)
+      ];
+    }
 
 -- ---- bytes that move to the front: those that were not yet overwritten are as they were
 pub move-next : (old buffer : List ℕ) (from i v : ℕ) → take i buffer ≡ slice from (from + i) old → v ≡ getD old (from + i) 0 → i < length buffer

@@ -1,13 +1,13 @@
 -- The demands of the lent list itself, from those stated of definitions.
 use Prim.Native.Nat.{ℕ, _<_}
 use mathlib.Core.Path.{_≡_, refl, sym, subst, ap, _∙_}
-use mathlib.Core.Bool.{Bool, true, false, cond}
-use mathlib.Core.List.{List, _∷_}
+use mathlib.Core.Bool.{true, false, cond}
+use mathlib.Core.List.{List}
 use native.Mathlib.Nat.{le-refl}
 use native.Mathlib.Omega.{arith}
 use lib.ListN.{length, set}
 use lib.Seq.{set-out}
-use Rattle.terms.specs.Measures.{Shape, mostScans}
+use Rattle.terms.specs.Measures.{mostScans}
 use Rattle.terms.specs.declared.Answer.{Answer}
 use Rattle.terms.specs.declared.Place.{Place}
 use Rattle.words.specs.Words.{words}
@@ -15,13 +15,13 @@ use Rattle.layout.specs.View.{View}
 use Rattle.terms.specs.Places.{freePlace}
 use Rattle.facts.specs.Usable.{storedShape, usable}
 use Rattle.facts.proofs.Usable.{usable-tells}
-use Rattle.history.specs.History.{Call, Verdict, accept, refuse, verdict}
-use Rattle.model.specs.Calls.{testsIn, placesAfter, placesIf, placesNext}
-use Rattle.promise.specs.Promise.{storeView, answerOf, memoryAfter, listAfter, answersOf}
+use Rattle.history.proofs.Lists.{is-true, refuted}
+use Rattle.history.specs.History.{Call, Verdict, accept, refuse}
+use Rattle.model.specs.Calls.{placesAfter, placesIf, placesNext}
+use Rattle.promise.specs.Promise.{storeView, listAfter, answersOf}
 use Rattle.promise.specs.Demands.{Demand3, RefusedKeeps, RefusedMemory, storeAnswers}
 use Rattle.promise.proofs.Demands.{demand3}
 use Rattle.promise.proofs.Refused.{refused-keeps, refused-memory}
-use Rattle.making.specs.Made.{made}
 use Rattle.lent.specs.Lent.{isAccepted, freedIf}
 use Rattle.calls.specs.Serves.{Serves, Makes}
 use Rattle.calls.specs.Runs.{Run, ends, goes, LentAnswers, LentKept, MakingFrees, OnePlace, ShortRefused}
@@ -29,10 +29,7 @@ use Rattle.calls.specs.Runs.{Run, ends, goes, LentAnswers, LentKept, Mak
 pub run-answers : {m : List ℕ} {ps : List Place} {cs : List Call} {rs : List Answer} → Run m ps cs rs → rs ≡ answersOf m ps cs
 unfolding Serves answersOf
 run-answers ends = refl
-run-answers (goes {m} {m′} {ps} {ps′} {c} {r} {cs} {rs} s q) =
-    ap (λ (x : Answer). x ∷ rs) (s .0)
-    ∙ ap (λ (l : List Answer). answerOf m ps c ∷ l)
-    (run-answers q ∙ ap (λ (n : List ℕ). answersOf n ps′ cs) (s .1) ∙ ap (λ (l : List Place). answersOf (memoryAfter m ps c) l cs) (s .2))
+run-answers (goes s q) = rw (s .0, run-answers q, s .1, s .2)
 
 pub making-frees : MakingFrees
 unfolding MakingFrees Makes
@@ -40,11 +37,7 @@ making-frees S m m′ ps ps′ h = h .2 ∙ ap (λ (x : Answer). freedIf (isAcce
 
 pub lent-answers : LentAnswers
 unfolding LentAnswers MakingFrees Makes Demand3 storeAnswers
-lent-answers S m m′ ps ps′ cs rs h t q =
-    run-answers q
-    ∙ ap (λ (n : List ℕ). answersOf n ps′ cs) (h .1)
-    ∙ ap (λ (l : List Place). answersOf (made S (length ps) m .1) l cs) (making-frees S m m′ ps ps′ h)
-    ∙ demand3 S m ps (sym (h .0)) cs t
+lent-answers S m m′ ps ps′ cs rs h t q = run-answers q ∙ rw (h .1, making-frees S m m′ ps ps′ h) (demand3 S m ps (sym (h .0)) cs t)
 
 pub lent-kept : LentKept
 unfolding LentKept Serves RefusedKeeps
@@ -88,17 +81,9 @@ if-changed (refuse n) ps ps′ h = none-changed ps
 
 list-changed : (m : List ℕ) (ps : List Place) (c : Call) → Changed ps (listAfter m ps c)
 unfolding listAfter placesNext
-list-changed m ps c = go (usable m ps)
-  where
-    S : Shape
-    S = storedShape (words m)
-
-    v : View
-    v = storeView m
-
-    go : (b : Bool) → Changed ps (cond b (placesIf (verdict (testsIn S v ps c)) ps (placesAfter v ps c)) ps)
-    go true = if-changed (verdict (testsIn S v ps c)) ps (placesAfter v ps c) (after-changed v ps c)
-    go false = none-changed ps
+list-changed m ps c =
+    elim (usable m ps) as (λ b. Changed ps (cond b (placesNext (storedShape (words m)) (storeView m) ps c) ps))
+    [ true ↦ if-changed _ ps _ (after-changed (storeView m) ps c) | false ↦ none-changed ps ]
 
 pub one-place : OnePlace
 unfolding OnePlace Serves Changed
@@ -107,11 +92,7 @@ one-place m m′ ps ps′ c r s = subst (Changed ps) (sym (s .2)) (list-changed 
 -- ---- a short list
 
 short-unusable : (m : List ℕ) (ps : List Place) → length ps < mostScans → usable m ps ≡ false
-short-unusable m ps k = go (usable m ps) refl
-  where
-    go : (b : Bool) → usable m ps ≡ b → b ≡ false
-    go true e = absurd (omega (arith, usable-tells m ps e .places))
-    go false e = refl
+short-unusable m ps k = refuted (usable m ps) (λ t. omega (arith, usable-tells m ps (is-true (usable m ps) t) .places))
 
 pub short-refused : ShortRefused
 unfolding ShortRefused Serves RefusedMemory

@@ -1,23 +1,24 @@
 -- From what a core promises to what its call promises: the answer and the memory are the core's, a call that does not touch the list leaves it, and a call that
 -- only reads leaves the memory.
-use Prim.Native.Nat.{ℕ, _*_, _≤_}
+use Prim.Native.Nat.{ℕ}
 use mathlib.Core.Path.{_≡_, refl, sym, ap, _∙_}
-use mathlib.Core.Bool.{Bool, true, false, cond}
+use mathlib.Core.Bool.{true, false, cond}
 use mathlib.Core.List.{List}
 use lib.ListN.{length, set}
 use Rattle.terms.specs.Measures.{Shape}
 use Rattle.terms.specs.declared.Answer.{Answer}
 use Rattle.terms.specs.declared.Place.{Place}
 use Rattle.words.specs.Words.{words, Bytes}
-use Rattle.layout.specs.Regions.{need}
+use Rattle.layout.specs.declared.Sizes.{Sizes}
 use Rattle.layout.specs.View.{View, view, lay}
 use Rattle.layout.proofs.Lay.{lay-view}
 use Rattle.scans.specs.declared.Scans.{Scans}
 use Rattle.scans.specs.Table.{tableOf}
 use Rattle.facts.specs.Usable.{storedShape, storedSizes, usable}
 use Rattle.facts.proofs.Usable.{usable-tells}
-use Rattle.history.specs.History.{Call, Verdict, accept, refuse, verdict}
-use Rattle.model.specs.Calls.{testsIn, actIn, placesAfter, viewIf, placesIf, viewNext, placesNext}
+use Rattle.history.proofs.Lists.{by-test, is-true}
+use Rattle.history.specs.History.{Call, Verdict, accept, refuse}
+use Rattle.model.specs.Calls.{actIn, placesAfter, viewIf, placesIf, viewNext, placesNext}
 use Rattle.making.specs.Made.{made}
 use Rattle.promise.specs.Promise.{storeView, answerOf, memoryAfter, listAfter}
 use Rattle.upkeep.specs.declared.Listed.{Listed}
@@ -44,31 +45,24 @@ same-places (refuse n) ps = refl
 
 pub memory-kept : (m : List ℕ) (ps : List Place) (x : Call) → Bytes m → Reads x → m ≡ memoryAfter m ps x
 unfolding memoryAfter viewNext storeView
-memory-kept m ps x b q = go (usable m ps) (λ e. usable-tells m ps e .room)
+memory-kept m ps x b q =
+    by-test (λ f. m ≡ cond f (lay s (viewNext S v ps x) m) m) (usable m ps)
+    (λ t. rw (q S v ps, same-view) (sym (lay-view s m b (usable-tells m ps (is-true (usable m ps) t) .room)))) (λ _. refl)
   where
     S : Shape
     S = storedShape (words m)
 
-    go : (f : Bool) → (f ≡ true → need (storedSizes (words m)) * 4 ≤ length m)
-        → m ≡ cond f (lay (storedSizes (words m)) (viewNext S (view (storedSizes (words m)) (words m)) ps x) m) m
-    go true h =
-        sym
-        (ap (λ (v : View). lay (storedSizes (words m)) v m)
-        (ap (viewIf (verdict (testsIn S (view (storedSizes (words m)) (words m)) ps x)) (view (storedSizes (words m)) (words m))) (q S (view (storedSizes (words m)) (words m)) ps)
-        ∙ same-view _ _)
-        ∙ lay-view (storedSizes (words m)) m b (h refl))
-    go false h = refl
+    s : Sizes
+    s = storedSizes (words m)
+
+    v : View
+    v = view s (words m)
 
 pub list-kept : (m : List ℕ) (ps : List Place) (x : Call) → KeepsList x → ps ≡ listAfter m ps x
-unfolding listAfter placesNext storeView
-list-kept m ps x q = go (usable m ps)
-  where
-    v : View
-    v = view (storedSizes (words m)) (words m)
-
-    go : (f : Bool) → ps ≡ cond f (placesNext (storedShape (words m)) v ps x) ps
-    go true = sym (ap (placesIf (verdict (testsIn (storedShape (words m)) v ps x)) ps) (q v ps) ∙ same-places _ _)
-    go false = refl
+unfolding listAfter placesNext
+list-kept m ps x q =
+    elim (usable m ps) as (λ f. ps ≡ cond f (placesNext (storedShape (words m)) (storeView m) ps x) ps)
+    [ true ↦ sym (ap (placesIf _ ps) (q (storeView m) ps) ∙ same-places _ _) | false ↦ refl ]
 
 -- ---- a call is served: f is what becomes of the answer
 

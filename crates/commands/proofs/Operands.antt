@@ -1,7 +1,7 @@
 -- Numbers in bytes: a turn of the loop of `number`, and one of the loop of `values`.
 use Prim.Native.Nat.{ℕ, zero, suc, _+_, _-_, _*_, _^_, _≤_, _<_}
 use mathlib.Core.Path.{_≡_, refl, ap, _∙_}
-use mathlib.Core.List.{List, [], _∷_, _++_, map}
+use mathlib.Core.List.{List, [], _∷_, _++_, map-append}
 use native.Mathlib.Omega.{arith}
 use native.Mathlib.Nat.{pow-succ'}
 use native.Mathlib.Numerals.{add-one}
@@ -45,16 +45,12 @@ room (suc (suc (suc zero))) total h l = omega arith
 room (suc (suc (suc (suc k)))) total h l = absurd (omega arith)
 
 -- ---- values
-map-end : (f : ℕ → ℤ) (l : List ℕ) (x : ℕ) → map f (l ++ x ∷ []) ≡ map f l ++ f x ∷ []
-map-end f [] x = refl
-map-end f (y ∷ l) x = ap (λ (t : List ℤ). f y ∷ t) (map-end f l x)
-
 pub value-next : (bytes : List ℕ) (out : List ℤ) (i w : ℕ) (v : ℤ) → take i out ≡ values i bytes → w ≡ getD (words bytes) i 0 → v ≡ toZ w32 w
     → i * 4 + 4 ≤ length bytes → i < length out → take (i + 1) (set out i v) ≡ values (i + 1) bytes
 unfolding values
 value-next bytes out i w v e p q h l =
     let k : i < length (words bytes) = omega (arith, length-words bytes) in
-    rw (add-one i, take-suc-set out i v, take-suc (words bytes) i 0, map-end, q, p) (ap (λ (t : List ℤ). t ++ toZ w32 (getD (words bytes) i 0) ∷ []) e)
+    rw (add-one i, take-suc-set out i v, take-suc (words bytes) i 0, map-append, q, p) (ap (λ (t : List ℤ). t ++ toZ w32 (getD (words bytes) i 0) ∷ []) e)
 
 -- an array of zeros holds 0 at every place, and one that holds 0 from i on does so from the next after a store at i
 pub zeros-at : (n k : ℕ) → getD (replicate n (pos 0)) k (pos 0) ≡ pos 0

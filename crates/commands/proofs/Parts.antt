@@ -11,17 +11,16 @@ use lib.Seq.{take-take, take-all, take-add, drop-at, length-take-le}
 use mir.Syntax.{w32}
 use mir.Val.{toZ}
 use Rattle.words.specs.Words.{words}
+use Rattle.history.proofs.Lists.{by-cases}
 use Rattle.words.proofs.Words.{words-take}
 use Rattle.commands.specs.declared.Form.{Form}
 use Rattle.commands.specs.Commands.{width, valueCount, operand, values, callFrom, littleEndian, shapeBytes, shapeFrom}
 
 -- whether the operands are whole can be told from them
 pub whole : (w : ℕ) (bs : List ℕ) → leb w (length (take w bs)) ≡ leb w (length bs)
-whole w bs = go (decLe w (length bs))
-  where
-    go : Dec (w ≤ length bs) → leb w (length (take w bs)) ≡ leb w (length bs)
-    go (yes h) = let e : length (take w bs) ≡ w = length-take-le w bs h in rw (le-leb w (length bs) h, e) (le-leb w w (omega arith))
-    go (no h) = rw (take-all w bs (omega arith))
+whole w bs =
+    by-cases (decLe w (length bs)) (λ h. let e : length (take w bs) ≡ w = length-take-le w bs h in rw (le-leb w (length bs) h, e) (le-leb w w (omega arith)))
+    (λ h. rw (take-all w bs (omega arith)))
 
 operand-part : (at n w : ℕ) (bs : List ℕ) → at + n ≤ w → operand at n (take w bs) ≡ operand at n bs
 unfolding operand

@@ -2,15 +2,16 @@
 -- Nothing here is said for each region, and nothing for each pair of regions.
 use Prim.Native.Nat.{ℕ, zero, suc, _+_, _≤_, _<_}
 use mathlib.Core.Path.{_≡_, refl, ap, sym, _∙_}
-use mathlib.Core.Bool.{Bool, true, false, cond}
-use mathlib.Core.Logic.{_≢_, _⊎_, inl, inr}
+use mathlib.Core.Bool.{true, false, cond}
+use mathlib.Core.Logic.{_≢_, _⊎_, inl, inr, ⊎-swap}
 use mathlib.Core.List.{List, [], _∷_, _++_, map, append-assoc}
 use native.Mathlib.Omega.{arith}
 use native.Mathlib.Nat.{add-zero}
-use lib.Dec.{eqb, ltb}
+use native.Mathlib.Decide.{decLt}
+use lib.Dec.{eqb}
 use lib.ListN.{length, getD, take, take-append-drop, length-append}
 use lib.Seq.{slice, slice-empty, take-take, take-append-seam, drop-append-seam, take-append-add}
-use borrow.Author.Tests.{eqb-true, eqb-false, ltb-true, ltb-false}
+use borrow.Author.Tests.{eqb-true, eqb-false}
 use Rattle.loops.specs.Search.{region}
 use Rattle.layout.specs.Cut.{startFrom, endFrom, join}
 
@@ -42,26 +43,17 @@ within b (n ∷ ns) (suc i) = within (b + n) ns i
 -- two pieces lie side by side
 pub sides : (b : ℕ) (ns : List ℕ) (i j : ℕ) → i ≢ j
     → (startFrom b ns i + getD ns i 0 ≤ startFrom b ns j) ⊎ (startFrom b ns j + getD ns j 0 ≤ startFrom b ns i)
-sides b ns i j h = go (ltb i j) refl
-  where
-    go : (t : Bool) → ltb i j ≡ t
-        → (startFrom b ns i + getD ns i 0 ≤ startFrom b ns j) ⊎ (startFrom b ns j + getD ns j 0 ≤ startFrom b ns i)
-    go true f = inl (apart b ns i j (ltb-true i j f))
-    go false f = let a : j < i = omega (arith, ltb-false i j f) in inr (apart b ns j i a)
+sides b ns i j h =
+    elim (decLt i j) as (λ _. (startFrom b ns i + getD ns i 0 ≤ startFrom b ns j) ⊎ (startFrom b ns j + getD ns j 0 ≤ startFrom b ns i))
+    [ yes f ↦ inl (apart b ns i j f) | no f ↦ inr (apart b ns j i (omega arith)) ]
 
 -- words that changed inside piece k only: every other piece is as it was
 pub inside : (ns ws ws′ : List ℕ) (k l : ℕ)
     → ((b n : ℕ) → (b + n ≤ startFrom 0 ns k) ⊎ (startFrom 0 ns k + getD ns k 0 ≤ b) → region ws′ b n ≡ region ws b n)
     → piece ns ws′ l ≡ cond (eqb k l) (piece ns ws′ k) (piece ns ws l)
-inside ns ws ws′ k l same = go (eqb k l) refl
-  where
-    turn : {A B : Type 0} → A ⊎ B → B ⊎ A
-    turn (inl a) = inr a
-    turn (inr b) = inl b
-
-    go : (b : Bool) → eqb k l ≡ b → piece ns ws′ l ≡ cond b (piece ns ws′ k) (piece ns ws l)
-    go true e = let q : k ≡ l = eqb-true k l e in rw (← q)
-    go false e = same (startFrom 0 ns l) (getD ns l 0) (turn (sides 0 ns k l (eqb-false k l e)))
+inside ns ws ws′ k l same =
+    elim (eqb k l) as (λ b. eqb k l ≡ b → piece ns ws′ l ≡ cond b (piece ns ws′ k) (piece ns ws l))
+    [ true ↦ λ e. let q : k ≡ l = eqb-true k l e in rw (← q) | false ↦ λ e. same (startFrom 0 ns l) (getD ns l 0) (⊎-swap (sides 0 ns k l (eqb-false k l e))) ] refl
 
 -- ---- all the pieces, and the words again
 
@@ -95,13 +87,8 @@ piece-after [] p r i = rw (add-zero (length p)) (slice-empty (length p) (p ++ r)
 piece-after (x ∷ ls) p r zero =
     rw (append-assoc x (join ls) r, take-append-add p (x ++ (join ls ++ r)) (length x), drop-append-seam, take-append-seam)
 piece-after (x ∷ ls) p r (suc i) =
-    let n : ℕ = getD (map length ls) i 0 in
-    ap (λ (w : List ℕ). region w (startFrom (length p + length x) (map length ls) i) n) next
-    ∙ ap (λ (b : ℕ). region (p ++ x ++ (join ls ++ r)) (startFrom b (map length ls) i) n) (sym (length-append p x))
-    ∙ piece-after ls (p ++ x) r i
-  where
-    next : p ++ (x ++ join ls ++ r) ≡ p ++ x ++ (join ls ++ r)
-    next = rw (append-assoc x (join ls) r, append-assoc p x (join ls ++ r))
+    rw (append-assoc x (join ls) r, ← append-assoc p x (join ls ++ r))
+    (ap (λ (b : ℕ). region (p ++ x ++ (join ls ++ r)) (startFrom b (map length ls) i) (getD (map length ls) i 0)) (sym (length-append p x)) ∙ piece-after ls (p ++ x) r i)
 
 pub piece-join : (ls : List (List ℕ)) (r : List ℕ) (i : ℕ) → piece (map length ls) (join ls ++ r) i ≡ getD ls i []
 piece-join ls r i = piece-after ls [] r i

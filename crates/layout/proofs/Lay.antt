@@ -99,12 +99,8 @@ view-part s m h = rw (words-take (need s) m h) (view-take s (words m))
 pub lent : (s : Sizes) (n : ℕ) (m p : List ℕ) (f : View → View) → view s (words p) ≡ f (view s (words (take n m)))
     → length p ≡ length (take n m) → Bytes (p ++ drop n m) → n ≡ need s * 4 → need s * 4 ≤ length m
     → p ++ drop n m ≡ lay s (f (view s (words m))) m
-lent s n m p f e l b q h = rw q (go (rw q at e) (rw q at l) (rw q at b))
-  where
-    go : view s (words p) ≡ f (view s (words (take (need s * 4) m))) → length p ≡ length (take (need s * 4) m)
-        → Bytes (p ++ drop (need s * 4) m) → p ++ drop (need s * 4) m ≡ lay s (f (view s (words m))) m
-    go e l b =
-        lay-part s m p (f (view s (words m))) (front-bytes p _ b) (l ∙ length-take-le (need s * 4) m h) (e ∙ ap f (view-part s m h))
+lent s n m p f e l b q h =
+    rw q (lay-part s m p (f (view s (words m))) (front-bytes p _ (rw q at b)) ((rw q at l) ∙ length-take-le (need s * 4) m h) ((rw q at e) ∙ ap f (view-part s m h)))
 
 -- the view of a memory fits
 pub view-fits : (s : Sizes) (m : List ℕ) → Bytes m → Fits (view s (words m))

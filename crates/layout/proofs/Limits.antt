@@ -9,56 +9,35 @@ use Rattle.loops.proofs.Search.{and-true, between-tells}
 use Rattle.layout.specs.Regions.{need}
 use Rattle.layout.specs.Sizes.{Proper, sizesOf, bytesNeeded, bytesAllowed}
 
-pub record Limited (p : Shape) : Type 0 where
-  pub columns-from : 1 ≤ p .columns
-  pub columns-to : p .columns ≤ 16
-  pub ranges-from : 1 ≤ p .ranges
-  pub ranges-to : p .ranges ≤ 16
-  pub capacity-to : p .capacity ≤ 512
-  pub spares-to : p .spares ≤ 256
-
-pub limited : (p : Shape) → withinLimits p ≡ true → Limited p
+pub proper : (p : Shape) → withinLimits p ≡ true → Proper (sizesOf p)
 unfolding withinLimits
-limited p e =
+proper p e =
     let a = and-true _ _ e in
     let b = and-true _ _ (a .1) in
     let c = and-true _ _ (b .1) in
     let q = between-tells 1 mostColumns (p .columns) (a .0) in
     let r = between-tells 1 mostRanges (p .ranges) (b .0) in
-    let t = between-tells 1 mostRecords (p .capacity) (c .0) in
     let x = between-tells 0 mostSpares (p .spares) (c .1) in
-    record {
-      columns-from = q .0;
-      columns-to = q .1;
-      ranges-from = r .0;
-      ranges-to = r .1;
-      capacity-to = t .1;
-      spares-to = x .1;
-    }
-
-pub proper : (p : Shape) → withinLimits p ≡ true → Proper (sizesOf p)
-proper p e =
-    let l = limited p e in
-    let d : p .columns * p .ranges ≤ 16 * 16 = mul-le-mul (l .columns-to) (l .ranges-to) in
+    let d : p .columns * p .ranges ≤ 16 * 16 = mul-le-mul (q .1) (r .1) in
     record {
       rows-are = refl;
       slots-are = refl;
       values-are = refl;
       places-are = refl;
       pages-are = refl;
-      columns-from = l .columns-from;
-      columns-to = l .columns-to;
-      ranges-from = l .ranges-from;
-      ranges-to = l .ranges-to;
-      capacity-to = l .capacity-to;
-      spares-to = l .spares-to;
-      pages-to = omega (arith, l .spares-to);
+      columns-from = q .0;
+      columns-to = q .1;
+      ranges-from = r .0;
+      ranges-to = r .1;
+      capacity-to = between-tells 1 mostRecords (p .capacity) (c .0) .1;
+      spares-to = x .1;
+      pages-to = omega (arith, x .1);
     }
 
 pub need-small : (p : Shape) → withinLimits p ≡ true → need (sizesOf p) < 2 ^ 24
 unfolding need
 need-small p e =
-    let l = limited p e in
+    let l = proper p e in
     let a : p .ranges * p .capacity ≤ 16 * 512 = mul-le-mul (l .ranges-to) (l .capacity-to) in
     let b : p .ranges * p .capacity * p .columns ≤ 16 * 512 * 16 = mul-le-mul a (l .columns-to) in
     let d : p .columns * p .ranges ≤ 16 * 16 = mul-le-mul (l .columns-to) (l .ranges-to) in
@@ -69,8 +48,5 @@ pub bytes-allowed : (p : Shape) → bytesNeeded p ≤ bytesAllowed (sizesOf p)
 unfolding bytesNeeded need
 bytes-allowed p =
     let t : ℕ = p .ranges * p .capacity in
-    let e : (64 + 4 * p .columns) * t ≡ 64 * t + 4 * (t * p .columns) = product (p .columns) t in
-    omega (arith, e)
-  where
-    product : (c t : ℕ) → (64 + 4 * c) * t ≡ 64 * t + 4 * (t * c)
-    product c t = rw (add-mul 64 (4 * c) t, mul-assoc 4 c t, mul-comm c t)
+    let e : (64 + 4 * p .columns) * t ≡ 64 * t + 4 * (t * p .columns) = rw (add-mul 64 (4 * p .columns) t, mul-assoc 4 (p .columns) t, mul-comm (p .columns) t) in
+    omega arith

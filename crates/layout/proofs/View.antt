@@ -1,18 +1,18 @@
 -- The laws of the view: what each store into the words does to it, for every region at once.
-use Prim.Native.Nat.{ℕ, _+_, _^_, _≤_, _<_}
+use Prim.Native.Nat.{ℕ, _+_, _≤_, _<_}
 use mathlib.Core.Path.{_≡_, refl, ap, sym, _∙_, fun-ext}
-use mathlib.Core.Bool.{Bool, true, false, cond}
-use mathlib.Core.Logic.{_≢_, _⊎_, inl, inr}
+use mathlib.Core.Bool.{true, false, cond}
+use mathlib.Core.Logic.{_≢_, _⊎_, ⊎-elim, ⊎-map}
 use mathlib.Core.List.{List, map}
 use native.Mathlib.Omega.{arith}
 use lib.Dec.{eqb}
-use lib.ListN.{length, getD, set, take, length-set}
+use lib.ListN.{length, getD, set, take}
 use borrow.Author.Tests.{eq-eqb, ne-eqb, eqb-true}
 use Rattle.loops.specs.Search.{region}
 use Rattle.loops.specs.Change.{changed, copied, marked}
 use Rattle.words.proofs.Words.{Fit}
 use Rattle.loops.proofs.Region.{region-at, region-length, region-put, region-before, region-after, region-region}
-use Rattle.loops.proofs.Change.{changed-apart, changed-inside, changed-same, changed-length, changed-fit, set-fit}
+use Rattle.loops.proofs.Change.{changed-apart, changed-inside, changed-same}
 use Rattle.layout.specs.declared.Sizes.{Sizes}
 use Rattle.layout.specs.declared.Region.{Region}
 use Rattle.layout.specs.Cut.{join}
@@ -36,17 +36,11 @@ base-sides s k l h = sides 0 (lens s) (index k) (index l) h
 -- and so do one stretch of each
 pub stretches-apart : (s : Sizes) (k l : Region) (at n : ℕ) → at + n ≤ len s k → at + n ≤ len s l → index k ≢ index l
     → (base s k + at + n ≤ base s l + at) ⊎ (base s l + at + n ≤ base s k + at)
-stretches-apart s k l at n h g d = go (base-sides s k l d)
-  where
-    go : (base s k + len s k ≤ base s l) ⊎ (base s l + len s l ≤ base s k)
-        → (base s k + at + n ≤ base s l + at) ⊎ (base s l + at + n ≤ base s k + at)
-    go (inl a) = inl (omega arith)
-    go (inr a) = inr (omega arith)
+stretches-apart s k l at n h g d = ⊎-map (λ a. omega arith) (λ a. omega arith) (base-sides s k l d)
 
 -- two stretches of one region that do not overlap, counted from the first word
 pub stretches-shifted : (b from n to : ℕ) → (from + n ≤ to) ⊎ (to + n ≤ from) → (b + from + n ≤ b + to) ⊎ (b + to + n ≤ b + from)
-stretches-shifted b from n to (inl a) = inl (omega arith)
-stretches-shifted b from n to (inr a) = inr (omega arith)
+stretches-shifted b from n to = ⊎-map (λ a. omega arith) (λ a. omega arith)
 
 -- a stretch of a region ends within the words needed
 pub stretch-in : (s : Sizes) (k : Region) (at n : ℕ) → at + n ≤ len s k → base s k + at + n ≤ need s
@@ -76,22 +70,16 @@ pub view-put : (s : Sizes) (ws : List ℕ) (k : Region) (i v : ℕ) → i < len 
     → view s (set ws (base s k + i) v) ≡ put k i v (view s ws)
 unfolding view put
 view-put s ws k i v h =
-    view-inside s ws _ k same ∙ ap (λ (l : List ℕ). renew k l (view s ws)) (region-put ws (base s k) (len s k) i v h)
-  where
-    same : (b n : ℕ) → (b + n ≤ base s k) ⊎ (base s k + len s k ≤ b) → region (set ws (base s k + i) v) b n ≡ region ws b n
-    same b n (inl a) = region-after ws b n _ v (omega arith)
-    same b n (inr a) = region-before ws b n _ v (omega arith)
+    view-inside s ws _ k (λ b n. ⊎-elim (λ a. region-after ws b n _ v (omega arith)) (λ a. region-before ws b n _ v (omega arith)))
+    ∙ ap (λ (l : List ℕ). renew k l (view s ws)) (region-put ws (base s k) (len s k) i v h)
 
 -- a change of a stretch, which is what every loop that writes does
 pub view-changed : (s : Sizes) (ws : List ℕ) (k : Region) (f : ℕ → ℕ → ℕ) (at n : ℕ) → at + n ≤ len s k
     → view s (changed f (base s k + at) n ws) ≡ renew k (changed f at n (view s ws k)) (view s ws)
 unfolding view
 view-changed s ws k f at n h =
-    view-inside s ws _ k same ∙ ap (λ (l : List ℕ). renew k l (view s ws)) (changed-inside f ws (base s k) (len s k) at n h)
-  where
-    same : (b m : ℕ) → (b + m ≤ base s k) ⊎ (base s k + len s k ≤ b) → region (changed f (base s k + at) n ws) b m ≡ region ws b m
-    same b m (inl a) = changed-apart f (base s k + at) ws n b m (inl (omega arith))
-    same b m (inr a) = changed-apart f (base s k + at) ws n b m (inr (omega arith))
+    view-inside s ws _ k (λ b m c. changed-apart f (base s k + at) ws n b m (⊎-map (λ a. omega arith) (λ a. omega arith) c))
+    ∙ ap (λ (l : List ℕ). renew k l (view s ws)) (changed-inside f ws (base s k) (len s k) at n h)
 
 module _ (s : Sizes) (ws : List ℕ) (k : Region) (at n : ℕ) (h : at + n ≤ len s k) where
   pub view-fill : (v : ℕ) → view s (changed (λ i x. v) (base s k + at) n ws) ≡ fill k at n v (view s ws)
@@ -139,7 +127,7 @@ pub view-join : (s : Sizes) (ws : List ℕ) → join (map (view s ws) all) ≡ t
 unfolding base view need
 view-join s ws = join-pieces 0 (lens s) ws
 
--- ---- a view that a memory can have: each list as long as the sizes say, each word below 2 ^ 32; kept by each store
+-- ---- a view that a memory can have: each list as long as the sizes say, each word below 2 ^ 32
 
 abbrev pub Long : Sizes → View → Type 0
 Long s m = (k : Region) → length (m k) ≡ len s k
@@ -151,52 +139,8 @@ pub view-long : (s : Sizes) (ws : List ℕ) → need s ≤ length ws → Long s 
 unfolding view
 view-long s ws h k = region-length ws (base s k) (len s k) (omega (arith, base-in s k))
 
--- what holds of the new list, and of the list of each region, holds of the lists of the new view
-renew-each : (P : Region → List ℕ → Type 0) (k : Region) (l : List ℕ) (m : View)
-    → ((j : Region) → index k ≡ index j → P j l) → ((j : Region) → P j (m j)) → (j : Region) → P j (renew k l m j)
-unfolding renew
-renew-each P k l m h g j = go (eqb (index k) (index j)) refl
-  where
-    go : (b : Bool) → eqb (index k) (index j) ≡ b → P j (cond b l (m j))
-    go true q = h j (eqb-true (index k) (index j) q)
-    go false q = g j
-
 pub renew-long : (s : Sizes) (k : Region) (l : List ℕ) (m : View) → length l ≡ len s k → Long s m → Long s (renew k l m)
-renew-long s k l m e h =
-    renew-each (λ j x. length x ≡ len s j) k l m (λ j q. e ∙ ap (λ (i : ℕ). getD (lens s) i 0) q) h
-
-pub renew-fits : (k : Region) (l : List ℕ) (m : View) → Fit l → Fits m → Fits (renew k l m)
-renew-fits k l m f h = renew-each (λ j x. Fit x) k l m (λ j q. f) h
-
--- each of the stores of a view
-module _ (s : Sizes) (k : Region) (m : View) (h : Long s m) where
-  change-long : (f : ℕ → ℕ → ℕ) (at n : ℕ) → Long s (renew k (changed f at n (m k)) m)
-  change-long f at n = renew-long s k (changed f at n (m k)) m (changed-length f at (m k) n ∙ h k) h
-
-  pub put-long : (i v : ℕ) → Long s (put k i v m)
-  unfolding put
-  put-long i v = renew-long s k (set (m k) i v) m (length-set (m k) i v ∙ h k) h
-
-  pub fill-long : (at n v : ℕ) → Long s (fill k at n v m)
-  unfolding fill
-  fill-long at n v = change-long (λ i x. v) at n
-
-  pub number-long : (at n : ℕ) → Long s (number k at n m)
-  unfolding number
-  number-long at n = change-long (λ i x. i) at n
-
-module _ (k : Region) (m : View) (h : Fits m) where
-  change-fits : (f : ℕ → ℕ → ℕ) (at n : ℕ) → ((i x : ℕ) → i < n → x < 2 ^ 32 → f i x < 2 ^ 32) → Fits (renew k (changed f at n (m k)) m)
-  change-fits f at n b = renew-fits k (changed f at n (m k)) m (changed-fit f at n (m k) b (h k)) h
-
-  pub put-fits : (i v : ℕ) → v < 2 ^ 32 → Fits (put k i v m)
-  unfolding put
-  put-fits i v b = renew-fits k (set (m k) i v) m (set-fit (m k) i v (h k) b) h
-
-  pub fill-fits : (at n v : ℕ) → v < 2 ^ 32 → Fits (fill k at n v m)
-  unfolding fill
-  fill-fits at n v b = change-fits (λ i x. v) at n (λ i x l f. b)
-
-  pub number-fits : (at n : ℕ) → n ≤ 2 ^ 32 → Fits (number k at n m)
-  unfolding number
-  number-fits at n b = change-fits (λ i x. i) at n (λ i x l f. omega arith)
+unfolding renew
+renew-long s k l m e h j =
+    elim (eqb (index k) (index j)) as (λ b. eqb (index k) (index j) ≡ b → length (cond b l (m j)) ≡ len s j)
+    [ true ↦ λ q. e ∙ ap (λ (i : ℕ). getD (lens s) i 0) (eqb-true (index k) (index j) q) | false ↦ λ q. h j ] refl

@@ -2,7 +2,7 @@
 -- is a change of the one region in which it lies.
 use Prim.Native.Nat.{ℕ, zero, suc, _+_, _^_, _≤_, _<_}
 use mathlib.Core.Path.{_≡_, _∙_, ap, refl}
-use mathlib.Core.Logic.{_⊎_, inl, inr, ⊎-elim}
+use mathlib.Core.Logic.{_⊎_, inl, inr, ⊎-elim, ⊎-map}
 use mathlib.Core.Bool.{cond}
 use mathlib.Core.List.{List, [], _∷_}
 use native.Mathlib.Omega.{arith}
@@ -100,8 +100,7 @@ changed-same f g at (suc n) l h = rw (changed-same f g at n l (λ i x b. h i x (
 
 -- place from + i of a stretch that does not overlap the n words from `to` is below or above what i turns wrote
 clear : (from to n i : ℕ) → i < n → (from + n ≤ to) ⊎ (to + n ≤ from) → (from + i < to) ⊎ (to + i ≤ from + i)
-clear from to n i b (inl a) = inl (omega arith)
-clear from to n i b (inr a) = inr (omega arith)
+clear from to n i b = ⊎-map (λ a. omega arith) (λ a. omega arith)
 
 module _ (ws w w′ : List ℕ) (from n to i : ℕ) where
   pub copied-next : (r : ℕ) → w ≡ copied ws from i to ws → r ≡ getD w (from + i) 0 → w′ ≡ set w (to + i) r → i < n

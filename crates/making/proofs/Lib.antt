@@ -1,4 +1,3 @@
 -- Laws of a store just made.
 pub mod Blank
 pub mod Answers
-pub mod Usable

@@ -1,11 +1,10 @@
 -- Going step by step gives `output`. What makes them the same: no answer of the plain history ends the program, and behind a refused byte nothing is left.
 use Prim.Native.Nat.{ℕ, zero, suc, _≤_}
 use mathlib.Core.Path.{_≡_, refl, ap}
-use mathlib.Core.Bool.{Bool, true, false, cond, _&&_, false≢true}
+use mathlib.Core.Bool.{Bool, true, false, cond, _&&_}
 use mathlib.Core.List.{List, [], _∷_, _++_, append-nil}
 use native.Mathlib.Omega.{arith}
 use lib.Dec.{leb}
-use lib.IntN.{ℤ}
 use lib.ListN.{length, take, drop, drop-of-length-le}
 use borrow.Author.Tests.{leb-false, leb-true, le-leb}
 use Rattle.terms.specs.Measures.{Shape, between, withinLimits, mostColumns, mostRanges, mostRecords, mostSpares}
@@ -28,14 +27,9 @@ allGoOn (t ∷ ts) = goesOn (Answer.Refused (t .refusal)) && allGoOn ts
 verdict-goes-on : (ts : List Test) (a : Answer) → allGoOn ts ≡ true → goesOn a ≡ true → goesOn (answerIf (verdict ts) a) ≡ true
 unfolding verdict answerIf
 verdict-goes-on [] a p q = q
-verdict-goes-on (t ∷ ts) a p q = go (t .fails) (goesOn (Answer.Refused (t .refusal))) refl p (λ r. verdict-goes-on ts a r q)
-  where
-    go : (b g : Bool) → goesOn (Answer.Refused (t .refusal)) ≡ g → (g && allGoOn ts) ≡ true
-        → (allGoOn ts ≡ true → goesOn (answerIf (verdict ts) a) ≡ true)
-        → goesOn (answerIf (cond b (refuse (t .refusal)) (verdict ts)) a) ≡ true
-    go true true e r ih = e
-    go false true e r ih = ih r
-    go b false e r ih = absurd (false≢true r)
+verdict-goes-on (t ∷ ts) a p q =
+    let r = and-true _ _ p in
+    elim (t .fails) as (λ b. goesOn (answerIf (cond b (refuse (t .refusal)) (verdict ts)) a) ≡ true) [ true ↦ r .0 | false ↦ verdict-goes-on ts a (r .1) q ]
 
 tests-go-on : (s : Shape) (h : History) (c : Call) → allGoOn (tests s h c) ≡ true
 unfolding tests goesOn
@@ -59,11 +53,7 @@ tests-go-on s h (lineage g c) = refl
 
 read-goes-on : (sees : ℕ → Bool) (h : History) (r c : ℕ) → goesOn (read sees h r c) ≡ true
 unfolding read goesOn
-read-goes-on sees h r c = go (visible sees h r) (versionOf sees h r c .value)
-  where
-    go : (b : Bool) (v : ℤ) → goesOn (cond b (Answer.Value v) Answer.None) ≡ true
-    go true v = refl
-    go false v = refl
+read-goes-on sees h r c = elim (visible sees h r) as (λ b. goesOn (cond b (Answer.Value (versionOf sees h r c .value)) Answer.None) ≡ true) [ true ↦ refl | false ↦ refl ]
 
 reply-goes-on : (s : Shape) (h : History) (c : Call) → goesOn (reply s h c) ≡ true
 unfolding reply sumOf goesOn
@@ -151,26 +141,21 @@ steps-are (suc most) s h (byte ∷ bs) = one-step most s h byte bs (chosen byte)
 
 shape-step : (s : Shape) (l : List ℕ) → cond (goesOn (shapeAnswer s)) l [] ≡ cond (lent s) l []
 unfolding shapeAnswer goesOn
-shape-step s l = go (lent s)
-  where
-    go : (b : Bool) → cond (goesOn (cond b Answer.Done (Answer.Refused Refusal.Shape))) l [] ≡ cond b l []
-    go true = refl
-    go false = refl
+shape-step s l = elim (lent s) as (λ b. cond (goesOn (cond b Answer.Done (Answer.Refused Refusal.Shape))) l [] ≡ cond b l []) [ true ↦ refl | false ↦ refl ]
 
 pub written-is-output : (bs : List ℕ) → written bs ≡ output bs
 unfolding written linesFrom output parse outputOf goesOn
-written-is-output bs = go (leb shapeBytes (length bs))
+written-is-output bs =
+    elim (leb shapeBytes (length bs)) as (λ b.
+    shapeLine (a b) ++ cond (goesOn (a b)) (steps (length bs) (historyOf s) (s .columns) start (drop shapeBytes bs)) []
+    ≡ outputOf (cond b (script s (items (length bs) (s .columns) (drop shapeBytes bs))) cutShape))
+    [ true ↦ rw (shape-step s, steps-are (length bs) s start (drop shapeBytes bs)) | false ↦ append-nil (shapeLine (Answer.Refused Refusal.Cut)) ]
   where
     s : Shape
     s = shapeFrom bs
 
     a : Bool → Answer
     a b = cond b (shapeAnswer s) (Answer.Refused Refusal.Cut)
-
-    go : (b : Bool) → shapeLine (a b) ++ cond (goesOn (a b)) (steps (length bs) (historyOf s) (s .columns) start (drop shapeBytes bs)) []
-        ≡ outputOf (cond b (script s (items (length bs) (s .columns) (drop shapeBytes bs))) cutShape)
-    go true = rw (shape-step s, steps-are (length bs) s start (drop shapeBytes bs))
-    go false = append-nil (shapeLine (Answer.Refused Refusal.Cut))
 
 -- ---- what is lent is within the limits of a shape
 wider : (low high more n : ℕ) → high ≤ more → between low high n ≡ true → between low more n ≡ true

@@ -1,11 +1,10 @@
 -- The demands hold.
 use Prim.Native.Nat.{ℕ, _≤_, _<_}
 use mathlib.Core.Path.{_≡_, refl, ap, sym, _∙_}
-use mathlib.Core.Bool.{Bool, true, false}
+use mathlib.Core.Bool.{Bool, true, false, cond, _&&_}
 use mathlib.Core.List.{List}
-use lib.Dec.{leb, nleb→lt}
+use lib.Dec.{T, leb, leb→le, nleb→lt}
 use lib.ListN.{length, replicate}
-use borrow.Author.Tests.{leb-true}
 use Rattle.terms.specs.Measures.{Shape, withinLimits, mostScans}
 use Rattle.terms.specs.declared.Answer.{Answer}
 use Rattle.terms.specs.declared.Place.{Place}
@@ -14,15 +13,15 @@ use Rattle.words.specs.Words.{words}
 use Rattle.layout.specs.Sizes.{sizesOf, bytesNeeded}
 use Rattle.layout.specs.View.{View, view, lay}
 use Rattle.layout.proofs.Lay.{view-lay}
-use Rattle.history.specs.History.{Call, History, start, answer, next, run, tests, reply, verdict, accept, answerIf, read, seenAt, notGiven, noColumn}
+use Rattle.history.specs.History.{Call, History, start, answer, run, tests, reply, verdict, accept, answerIf, read, seenAt, notGiven, noColumn}
 use Rattle.history.specs.Claims.{strike, Reads, latest-reads, at-reads, scan-reads, answerAt, ReadAt, Striking, Stability}
 use Rattle.history.specs.Lists.{All, nil, cons}
-use Rattle.history.proofs.Lists.{all-keep, is-true, clash}
+use Rattle.history.proofs.Lists.{all-keep, parts, is-true, clash}
 use Rattle.history.proofs.Accepted.{Passed, passed}
 use Rattle.history.proofs.Striking.{striking}
 use Rattle.history.proofs.Stability.{stability, accepted}
+use Rattle.facts.specs.Usable.{usable}
 use Rattle.making.specs.Made.{made, madeView, madeList}
-use Rattle.making.proofs.Usable.{made-long, made-fits}
 use Rattle.making.proofs.Answers.{laid as making-laid}
 use Rattle.terms.specs.Places.{freePlace}
 use Rattle.model.specs.Writing.{made as modelMade}
@@ -30,10 +29,11 @@ use Rattle.model.specs.Calls.{Typed, viewNext, viewAfter, listAfter as modelLis
 use Rattle.model.specs.Claims.{storeAfter, historyAfter}
 use Rattle.model.proofs.Heads.{sees-at}
 use Rattle.model.proofs.Calls.{current-read, one-call}
+use Rattle.model.proofs.Made.{small-shape, made-represents}
 use Rattle.model.proofs.Claims.{represented, reads, pages-hold, scans-keep}
-use Rattle.promise.specs.Promise.{storeView, answerOf, memoryAfter, listAfter}
+use Rattle.promise.specs.Promise.{storeView, answerOf, memoryAfter}
 use Rattle.promise.specs.Demands.{Accepted, memoryMade, storeAnswers, memoryLeft, listLeft, storeMemory, storeList, MakingAccepted, ReadsCommitted, PagesCommitted, ScansKept, Demand3, StrikingStore, storeAnswerAt, ReadIn, StabilityStore}
-use Rattle.promise.proofs.Same.{Same, made-same, made-starts, view-is, memory-is, list-is, same-call, same-answers}
+use Rattle.promise.proofs.Same.{Same, made-same, made-starts, same-usable, view-is, memory-is, list-is, same-call, same-answers}
 
 -- ---- an accepted making: its measures are within their limits, and memory and list are long enough
 record Enough (S : Shape) (m : List ℕ) (ps : List Place) : Type 0 where
@@ -42,26 +42,26 @@ record Enough (S : Shape) (m : List ℕ) (ps : List Place) : Type 0 where
   places : mostScans ≤ length ps
   left : memoryMade S m ps ≡ lay (sizesOf S) (madeView S) m
 
+-- `made` answers Done where both of its tests pass
+both-passed : (b c : Bool) (l k : List ℕ) → cond {A = Answer × List ℕ} b (cond c (Answer.Done, l) (Answer.Refused Refusal.Memory, k)) (Answer.Refused Refusal.Shape, k) .0 ≡ Answer.Done → T b × T c
+both-passed true true l k e = (tt, tt)
+both-passed true false l k e = clash (cc)
+both-passed false c l k e = clash (cc)
+
 enough : (S : Shape) (m : List ℕ) (ps : List Place) → Accepted S m ps → Enough S m ps
 unfolding made bytesNeeded
-enough S m ps a = go (withinLimits S) refl (leb (bytesNeeded S) (length m)) refl (leb mostScans (length ps)) refl a
-  where
-    not-done : (r : Refusal) → Answer.Refused r ≡ Answer.Done → ⊥
-    not-done r q = clash (cc)
-
-    go : (b : Bool) → withinLimits S ≡ b → (c : Bool) → leb (bytesNeeded S) (length m) ≡ c → (d : Bool) → leb mostScans (length ps) ≡ d → Accepted S m ps → Enough S m ps
-    go false x c y d z f = absurd (not-done Refusal.Shape (rw x at f))
-    go true x false y d z f = absurd (not-done Refusal.Memory (rw (x, y) at f))
-    go true x true y false z f = absurd (not-done Refusal.Memory (rw (x, y, z) at f))
-    go true x true y true z f =
-        let room = leb-true (bytesNeeded S) (length m) y in
-        let places = leb-true mostScans (length ps) z in
-        record {
-          within = x;
-          room = room;
-          places = places;
-          left = sym (ap (λ (w : Answer × List ℕ). w .1) (making-laid S (length ps) m x room places (lay (sizesOf S) (madeView S) m) refl));
-        }
+enough S m ps a =
+    let t = both-passed (withinLimits S) (leb (bytesNeeded S) (length m) && leb mostScans (length ps)) (lay (sizesOf S) (madeView S) m) m a in
+    let u = parts (leb (bytesNeeded S) (length m)) (leb mostScans (length ps)) (t .1) in
+    let within = is-true (withinLimits S) (t .0) in
+    let room = leb→le (bytesNeeded S) (length m) (u .0) in
+    let places = leb→le mostScans (length ps) (u .1) in
+    record {
+      within = within;
+      room = room;
+      places = places;
+      left = sym (ap (λ (w : Answer × List ℕ). w .1) (making-laid S (length ps) m within room places (lay (sizesOf S) (madeView S) m) refl));
+    }
 
 pub making-accepted : MakingAccepted
 unfolding MakingAccepted bytesNeeded
@@ -72,10 +72,14 @@ making-accepted S m ps t b n =
 from-making : (S : Shape) (m : List ℕ) (ps : List Place) → Accepted S m ps → Same (memoryMade S m ps) (madeList ps) S start
 from-making S m ps a = let e = enough S m ps a in rw (e .left) (made-starts S m ps (e .within) (e .room) (e .places))
 
+-- and is usable, with a scan list whose places were all freed
+pub made-then-usable : (p : Shape) (m : List ℕ) (qs : List Place) → made p (length qs) m .0 ≡ Answer.Done → usable (made p (length qs) m .1) (madeList qs) ≡ true
+made-then-usable p m qs e = same-usable (from-making p m qs e)
+
 -- ---- demand 3
 pub demand3 : Demand3
 unfolding Demand3 storeAnswers
-demand3 S m ps a cs ys = same-answers (memoryMade S m ps) (madeList ps) S start (from-making S m ps a) ys
+demand3 S m ps a cs ys = same-answers (from-making S m ps a) ys
 
 pub striking-store : StrikingStore
 unfolding StrikingStore Demand3 strike Striking
@@ -100,32 +104,29 @@ record Left (m : List ℕ) (ps : List Place) (S : Shape) (h : History) (cs : Lis
   shown : view (sizesOf S) (words (memoryLeft m ps cs)) ≡ viewAfter S (view (sizesOf S) (words m)) ps cs
   list : listLeft m ps cs ≡ modelList S (view (sizesOf S) (words m)) ps cs
 
-view-next : (m : List ℕ) (ps : List Place) (S : Shape) (h : History) → Same m ps S h → (c : Call) → Typed c
+view-next : {m : List ℕ} {ps : List Place} {S : Shape} {h : History} → Same m ps S h → (c : Call) → Typed c
     → view (sizesOf S) (words (memoryAfter m ps c)) ≡ viewNext S (view (sizesOf S) (words m)) ps c
-view-next m ps S h o c y =
+view-next {m} {ps} {S} {h} o c y =
     let whole = (one-call S (view (sizesOf S) (words m)) ps h c y (o .shown) (o .known) .1) .whole in
-    rw (memory-is m ps S h o c) (view-lay (sizesOf S) (viewNext S (view (sizesOf S) (words m)) ps c) m (whole .long) (whole .fits))
+    rw (memory-is o c) (view-lay (sizesOf S) (viewNext S (view (sizesOf S) (words m)) ps c) m (whole .long) (whole .fits))
 
-calls-left : (m : List ℕ) (ps : List Place) (S : Shape) (h : History) → Same m ps S h → {cs : List Call} → All Typed cs → Left m ps S h cs
+calls-left : {m : List ℕ} {ps : List Place} {S : Shape} {h : History} → Same m ps S h → {cs : List Call} → All Typed cs → Left m ps S h cs
 unfolding memoryLeft listLeft run viewAfter modelList
-calls-left m ps S h o nil = record { same = o; shown = refl; list = refl }
-calls-left m ps S h o (cons {x = c} {l = cs} y ys) =
-    let l = calls-left (memoryAfter m ps c) (listAfter m ps c) S (next S h c) (same-call m ps S h o c y .1) ys in
-    record {
-      same = l .same;
-      shown = rw (← view-next m ps S h o c y, ← list-is m ps S h o c) (l .shown);
-      list = rw (← view-next m ps S h o c y, ← list-is m ps S h o c) (l .list);
-    }
+calls-left o nil = record { same = o; shown = refl; list = refl }
+calls-left o (cons {x = c} y ys) =
+    let l = calls-left (same-call o c y .1) ys in
+    record { same = l .same; shown = rw (← view-next o c y, ← list-is o c) (l .shown); list = rw (← view-next o c y, ← list-is o c) (l .list) }
 
 -- from a making: the view is that of the model
 module _ (S : Shape) (m : List ℕ) (ps : List Place) (a : Accepted S m ps) {cs : List Call} (ys : All Typed cs) where
   view-made : view (sizesOf S) (words (memoryMade S m ps)) ≡ modelMade S
   view-made =
       let e = enough S m ps a in
-      rw (e .left) (view-lay (sizesOf S) (madeView S) m (made-long S (e .within)) (made-fits S (e .within)) ∙ sym (made-same S))
+      let whole = made-represents S (small-shape S (rw (e .within) tt)) (length ps) (e .places) .whole in
+      rw (e .left, ← made-same S) (view-lay (sizesOf S) (modelMade S) m (whole .long) (whole .fits))
 
   left : Left (memoryMade S m ps) (madeList ps) S start cs
-  left = calls-left (memoryMade S m ps) (madeList ps) S start (from-making S m ps a) ys
+  left = calls-left (from-making S m ps a) ys
 
   -- the store's memory and list, as the demands name them
   store-same : Same (storeMemory S m ps cs) (storeList S m ps cs) S (historyAfter S cs)
@@ -141,18 +142,13 @@ module _ (S : Shape) (m : List ℕ) (ps : List Place) (a : Accepted S m ps) {cs 
   list-left = left .list ∙ ap (λ (v : View). modelList S v (madeList ps) cs) view-made
 
   pub view-left : storeView (storeMemory S m ps cs) ≡ storeAfter S (length ps) cs
-  view-left = view-is (storeMemory S m ps cs) (storeList S m ps cs) S (historyAfter S cs) store-same ∙ words-left
+  view-left = view-is store-same ∙ words-left
 
   -- and after further calls
   view-later : {ds : List Call} → All Typed ds
       → storeView (memoryLeft (storeMemory S m ps cs) (storeList S m ps cs) ds)
       ≡ viewAfter S (storeAfter S (length ps) cs) (modelList S (modelMade S) (replicate (length ps) freePlace) cs) ds
-  view-later {ds} zs =
-      let l = calls-left (storeMemory S m ps cs) (storeList S m ps cs) S (historyAfter S cs) store-same zs in
-      view-is (memoryLeft (storeMemory S m ps cs) (storeList S m ps cs) ds) (listLeft (storeMemory S m ps cs) (storeList S m ps cs) ds) S (run S (historyAfter S cs) ds) (l .same)
-      ∙ l .shown
-      ∙ ap (λ (v : View). viewAfter S v (storeList S m ps cs) ds) words-left
-      ∙ ap (λ (l : List Place). viewAfter S (storeAfter S (length ps) cs) l ds) list-left
+  view-later zs = let l = calls-left store-same zs in view-is (l .same) ∙ l .shown ∙ rw (words-left, list-left)
 
 -- ---- demand 2
 -- what a read that is not refused answers, and that its row and column are there
@@ -173,7 +169,7 @@ unfolding ReadsCommitted Rattle.model.specs.Claims.Reads
 reads-committed S m ps a cs ys x t r c y q n =
     let h = historyAfter S cs in
     let e : answerOf (storeMemory S m ps cs) (storeList S m ps cs) x ≡ answer S h x =
-    same-call (storeMemory S m ps cs) (storeList S m ps cs) S h (store-same S m ps a ys) x y .0 in
+    same-call (store-same S m ps a ys) x y .0 in
     let w : verdict (tests S h x) ≡ accept = accepted S h x (rw e at n) in
     let b = read-inside S h q (passed (tests S h x) w) in
     let u = enough S m ps a in

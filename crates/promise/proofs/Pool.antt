@@ -3,11 +3,11 @@
 use Prim.Native.Nat.{ℕ, zero, suc, _+_, _≤_, _<_}
 use mathlib.Core.Path.{_≡_, refl, sym}
 use mathlib.Core.Logic.{_≢_}
-use mathlib.Core.Bool.{Bool, true, false, not, _&&_, _||_, and-true, and-false}
+use mathlib.Core.Bool.{Bool, false, not, _&&_, _||_, and-true, and-false}
 use native.Mathlib.Omega.{arith}
 use native.Mathlib.Nat.{le-refl}
 use lib.Dec.{T, eqb, eqb→eq}
-use Rattle.history.proofs.Lists.{is-true, eqb-other, eqb-equal, both}
+use Rattle.history.proofs.Lists.{is-true, or-cases, by-test, eqb-other, eqb-equal, both}
 use Rattle.model.specs.Stored.{countBelow}
 use Rattle.model.proofs.Lists.{one, below-ext, below-pos, below-change}
 
@@ -17,11 +17,8 @@ among c zero q = false
 among c (suc k) q = eqb (c k) q || among c k q
 
 among-tells : (c : ℕ → ℕ) (k q : ℕ) → T (among c k q) → (i : ℕ) × (i < k) × (c i ≡ q)
-among-tells c (suc k) q t = go (eqb (c k) q) (eqb→eq (c k) q) (λ u. among-tells c k q u) t
-  where
-    go : (b : Bool) → (T b → c k ≡ q) → (T (among c k q) → (i : ℕ) × (i < k) × (c i ≡ q)) → T (b || among c k q) → (i : ℕ) × (i < suc k) × (c i ≡ q)
-    go true e earlier u = (k, le-refl _, e tt)
-    go false e earlier u = let r = earlier u in (r .0, omega (arith, r .1), r .2)
+among-tells c (suc k) q t =
+    or-cases (eqb (c k) q) (among c k q) t (λ u. (k, le-refl _, eqb→eq (c k) q u)) (λ u. let r = among-tells c k q u in (r .0, omega (arith, r .1), r .2))
 
 among-none : (c : ℕ → ℕ) (k q : ℕ) → ((i : ℕ) → i < k → c i ≢ q) → among c k q ≡ false
 among-none c zero q f = refl
@@ -48,8 +45,6 @@ module _ (f : ℕ → Bool) (size : ℕ) (c : ℕ → ℕ) (n : ℕ) (inside : (
       )
 
   pub all-taken : countBelow f size ≡ n → (p : ℕ) → p < size → T (f p) → (i : ℕ) × (i < n) × (c i ≡ p)
-  all-taken e p b t = go (among c n p) refl
-    where
-      go : (a : Bool) → among c n p ≡ a → (i : ℕ) × (i < n) × (c i ≡ p)
-      go true q = among-tells c n p (rw q tt)
-      go false q = absurd (omega (arith, below-pos (rest n) size p b (both (f p) (not (among c n p)) t (rw q tt)), rest-count n (le-refl _)))
+  all-taken e p b t =
+      by-test (λ a. among c n p ≡ a → (i : ℕ) × (i < n) × (c i ≡ p)) (among c n p) (λ u q. among-tells c n p (rw q tt))
+      (λ u q. absurd (omega (arith, below-pos (rest n) size p b (both (f p) (not (among c n p)) t (rw q tt)), rest-count n (le-refl _)))) refl

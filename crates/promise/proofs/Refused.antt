@@ -1,6 +1,6 @@
 -- Demand 1 holds: 2 is answered exactly where memory and list are not usable, and a refused call leaves every byte and every place as it was. Both speak of
 -- any memory and list, also of those that no call made.
-use mathlib.Core.Path.{_≡_, refl, ap, sym, _∙_, subst}
+use mathlib.Core.Path.{_≡_, refl, ap, sym, _∙_}
 use mathlib.Core.Bool.{Bool, true, false, cond}
 use mathlib.Core.List.{List, [], _∷_}
 use lib.Dec.{T, eqb}
@@ -11,34 +11,32 @@ use Rattle.terms.specs.declared.Answer.{Answer}
 use Rattle.terms.specs.declared.Place.{Place}
 use Rattle.terms.specs.declared.Refusal.{Refusal}
 use Rattle.words.specs.Words.{words}
+use Rattle.layout.specs.declared.Sizes.{Sizes}
 use Rattle.layout.specs.View.{View, lay}
 use Rattle.layout.proofs.Lay.{lay-view}
 use Rattle.history.specs.History.{Call, begin, insert, update, delete, commit, abort, latest, readAt, ownRead, openScan, scanRead, sum, close, merge, release, pageCell, lineage, Test, any, verdict, Verdict, accept, refuse, answerIf}
-use Rattle.history.proofs.Lists.{clash, or-left, or-right, eqb-equal}
+use Rattle.history.proofs.Lists.{clash, by-test, is-true, or-left, or-right, eqb-equal}
 use Rattle.facts.specs.Usable.{storedShape, storedSizes, usable}
 use Rattle.facts.proofs.Usable.{usable-tells}
 use Rattle.model.specs.Reading.{readIn, readCurrent, sumIn, visibleIn}
-use Rattle.model.specs.Calls.{testsIn, replyIn, actIn, placesAfter, viewIf, placesIf, say, viewNext, placesNext}
+use Rattle.model.specs.Calls.{testsIn, replyIn, viewIf, placesIf, say, viewNext, placesNext}
 use Rattle.model.proofs.Lists.{true-false}
 use Rattle.promise.specs.Promise.{storeView, answerOf, memoryAfter, listAfter}
 use Rattle.promise.specs.Demands.{RefusedMemory, RefusedKeeps}
 
 -- a refusal is that of one of the tests
-refusal-among : (ts : List Test) (r : Refusal) → verdict ts ≡ refuse r → T (any (λ t. eqb (refusalNumber (t .refusal)) (refusalNumber r)) ts)
+abbrev refusesWith : Refusal → Test → Bool
+refusesWith r t = eqb (refusalNumber (t .refusal)) (refusalNumber r)
+
+refusal-among : (ts : List Test) (r : Refusal) → verdict ts ≡ refuse r → T (any (refusesWith r) ts)
 unfolding verdict
 refusal-among [] r e = clash (cc)
-refusal-among (t ∷ ts) r e = go (t .fails) (λ q. refusal-among ts r q) e
-  where
-    own : refuse (t .refusal) ≡ refuse r → t .refusal ≡ r
-    own q = cc
-
-    go : (b : Bool) → (verdict ts ≡ refuse r → T (any (λ t. eqb (refusalNumber (t .refusal)) (refusalNumber r)) ts)) → cond b (refuse (t .refusal)) (verdict ts) ≡ refuse r
-        → T (any (λ t. eqb (refusalNumber (t .refusal)) (refusalNumber r)) (t ∷ ts))
-    go true later q = or-left (eqb (refusalNumber (t .refusal)) (refusalNumber r)) _ (eqb-equal _ _ (ap refusalNumber (own q)))
-    go false later q = or-right (eqb (refusalNumber (t .refusal)) (refusalNumber r)) _ (later q)
+refusal-among (t ∷ ts) r e =
+    elim (t .fails) as (λ b. cond b (refuse (t .refusal)) (verdict ts) ≡ refuse r → T (any (refusesWith r) (t ∷ ts)))
+    [ true ↦ λ q. let own : t .refusal ≡ r = cc in or-left (refusesWith r t) _ (eqb-equal _ _ (ap refusalNumber own)) | false ↦ λ q. or-right (refusesWith r t) _ (refusal-among ts r q) ] e
 
 -- no call's tests have the number 2
-never-memory : (S : Shape) (v : View) (ps : List Place) (c : Call) → any (λ t. eqb (refusalNumber (t .refusal)) 2) (testsIn S v ps c) ≡ false
+never-memory : (S : Shape) (v : View) (ps : List Place) (c : Call) → any (refusesWith Refusal.Memory) (testsIn S v ps c) ≡ false
 unfolding testsIn
 never-memory S v ps begin = refl
 never-memory S v ps (insert t vs) = refl
@@ -83,44 +81,37 @@ not-refused S v ps release = refl
 not-refused S v ps (pageCell c r) = refl
 not-refused S v ps (lineage g c) = refl
 
+-- so an answer that is a refusal is the verdict's
+refused-by : (S : Shape) (v : View) (ps : List Place) (c : Call) (w : Verdict) {n : Refusal} → answerIf w (replyIn S v ps c) ≡ Answer.Refused n → w ≡ refuse n
+unfolding answerIf
+refused-by S v ps c accept e = absurd (true-false (sym (ap isRefused e) ∙ not-refused S v ps c))
+refused-by S v ps c (refuse r) e = cc
+
 pub refused-keeps : RefusedKeeps
-unfolding RefusedKeeps answerOf memoryAfter listAfter say viewNext placesNext answerIf viewIf placesIf storeView
-refused-keeps m ps c n b = go (usable m ps) refl
+unfolding RefusedKeeps answerOf memoryAfter listAfter say viewNext placesNext viewIf placesIf storeView
+refused-keeps m ps c n b =
+    by-test (λ u. cond u (say S v ps c) (Answer.Refused Refusal.Memory) ≡ Answer.Refused n → (cond u (lay s (viewNext S v ps c) m) m ≡ m) × (cond u (placesNext S v ps c) ps ≡ ps)) (usable m ps)
+    (λ t e. rw (refused-by S v ps c _ e) (lay-view s m b (usable-tells m ps (is-true (usable m ps) t) .room), refl)) (λ _ e. (refl, refl))
   where
     S : Shape
     S = storedShape (words m)
 
+    s : Sizes
+    s = storedSizes (words m)
+
     v : View
     v = storeView m
-
-    Kept : Bool → Type 0
-    Kept u = (cond u (lay (storedSizes (words m)) (viewNext S v ps c) m) m ≡ m) × (cond u (placesNext S v ps c) ps ≡ ps)
-
-    by-verdict : usable m ps ≡ true → (w : Verdict) → answerIf w (replyIn S v ps c) ≡ Answer.Refused n
-        → (lay (storedSizes (words m)) (viewIf w v (actIn S v ps c)) m ≡ m) × (placesIf w ps (placesAfter v ps c) ≡ ps)
-    by-verdict u accept e = absurd (true-false (sym (ap isRefused e) ∙ not-refused S v ps c))
-    by-verdict u (refuse r) e = (lay-view (storedSizes (words m)) m b (usable-tells m ps u .room), refl)
-
-    go : (u : Bool) → usable m ps ≡ u → cond u (say S v ps c) (Answer.Refused Refusal.Memory) ≡ Answer.Refused n → Kept u
-    go true u e = by-verdict u (verdict (testsIn S v ps c)) e
-    go false u e = (refl, refl)
 
 pub refused-memory : RefusedMemory
-unfolding RefusedMemory answerOf say answerIf
-refused-memory m ps c = (λ u. rw u, λ e. go (usable m ps) e)
+unfolding RefusedMemory answerOf say
+refused-memory m ps c = (
+  λ u. rw u,
+  elim (usable m ps) as (λ u. cond u (say S v ps c) (Answer.Refused Refusal.Memory) ≡ Answer.Refused Refusal.Memory → u ≡ false)
+      [ true ↦ λ e. absurd (rw (never-memory S v ps c) at (refusal-among (testsIn S v ps c) Refusal.Memory (refused-by S v ps c _ e))) | false ↦ λ e. refl ],
+)
   where
     S : Shape
     S = storedShape (words m)
 
     v : View
     v = storeView m
-
-    by-verdict : (w : Verdict) → verdict (testsIn S v ps c) ≡ w → answerIf w (replyIn S v ps c) ≡ Answer.Refused Refusal.Memory → ⊥
-    by-verdict accept q e = true-false (sym (ap isRefused e) ∙ not-refused S v ps c)
-    by-verdict (refuse r) q e =
-        let z : r ≡ Refusal.Memory = cc in
-        subst (λ (b : Bool). T b) (never-memory S v ps c) (refusal-among (testsIn S v ps c) Refusal.Memory (rw z at q))
-
-    go : (u : Bool) → cond u (say S v ps c) (Answer.Refused Refusal.Memory) ≡ Answer.Refused Refusal.Memory → u ≡ false
-    go true e = absurd (by-verdict (verdict (testsIn S v ps c)) refl e)
-    go false e = refl

@@ -2,14 +2,13 @@
 use Prim.Native.Nat.{ℕ, _+_, _*_, _≤_, _<_}
 use mathlib.Core.Path.{_≡_, refl, ap, sym, _∙_, fun-ext}
 use mathlib.Core.Bool.{true, cond}
-use mathlib.Core.List.{List, _∷_, map}
+use mathlib.Core.List.{List, map}
 use native.Mathlib.Omega.{arith}
 use native.Mathlib.Nat.{zero-add}
 use lib.ListN.{length, getD, drop, length-append, length-drop}
 use borrow.Author.Tests.{le-leb}
 use Rattle.terms.specs.Measures.{Shape, withinLimits, mostScans}
 use Rattle.terms.specs.declared.Place.{Place}
-use Rattle.terms.specs.declared.Answer.{Answer}
 use Rattle.words.specs.Words.{words, bytes}
 use Rattle.words.proofs.Words.{length-bytes}
 use Rattle.layout.specs.declared.Sizes.{Sizes}
@@ -75,7 +74,7 @@ made-starts S m ps w b n =
     (rw (← made-same S) (made-represents S small (length ps) n))
 
 -- ---- a memory that represents a history
-module _ (m : List ℕ) (ps : List Place) (S : Shape) (h : History) (o : Same m ps S h) where
+module _ {m : List ℕ} {ps : List Place} {S : Shape} {h : History} (o : Same m ps S h) where
   header-at : (i : ℕ) → i < 16 → getD (words m) i 0 ≡ getD (view (sizesOf S) (words m) Header) i 0
   unfolding base
   header-at i b = sym (rw (zero-add i) at (view-at (sizesOf S) (words m) Header i b))
@@ -134,10 +133,7 @@ module _ (m : List ℕ) (ps : List Place) (S : Shape) (h : History) (o : Same m 
       )
 
 -- every list of calls
-pub same-answers : (m : List ℕ) (ps : List Place) (S : Shape) (h : History) → Same m ps S h → {cs : List Call} → All Typed cs → answersOf m ps cs ≡ answers S h cs
+pub same-answers : {m : List ℕ} {ps : List Place} {S : Shape} {h : History} → Same m ps S h → {cs : List Call} → All Typed cs → answersOf m ps cs ≡ answers S h cs
 unfolding answersOf answers
-same-answers m ps S h o nil = refl
-same-answers m ps S h o (cons {x = c} {l = cs} y ys) =
-    let one = same-call m ps S h o c y in
-    ap (λ (a : Answer). a ∷ answersOf (memoryAfter m ps c) (listAfter m ps c) cs) (one .0)
-    ∙ ap (λ (l : List Answer). answer S h c ∷ l) (same-answers (memoryAfter m ps c) (listAfter m ps c) S (next S h c) (one .1) ys)
+same-answers o nil = refl
+same-answers o (cons {x = c} y ys) = let one = same-call o c y in rw (one .0, same-answers (one .1) ys)

@@ -1,42 +1,40 @@
 -- Every stored fact holds of a memory and a list that represent a history: so no call on a store that calls alone have worked on is answered 2.
-use Prim.Native.Nat.{ℕ, zero, suc, _+_, _*_, _-_, _/_, _%_, _≤_, _<_}
-use mathlib.Core.Path.{_≡_, refl, ap, sym, _∙_, subst}
+use Prim.Native.Nat.{ℕ, zero, suc, _+_, _*_, _-_, _/_, _%_, _≤_, _<_, zero-le}
+use mathlib.Core.Path.{_≡_, refl, ap, sym, _∙_}
 use mathlib.Core.Logic.{_≢_}
-use mathlib.Core.Bool.{Bool, true, false, not, cond}
+use mathlib.Core.Bool.{Bool, true, false, not}
 use mathlib.Core.List.{List, [], _∷_}
 use native.Mathlib.Omega.{arith}
 use native.Mathlib.Nat.{mod-lt, div-add-mod', div-lt-iff-lt-mul, mul-comm, le-refl}
 use native.Mathlib.Decide.{decLt, ℕ-discrete}
-use lib.Dec.{T, eqb, eqb→eq, lt→ltb}
+use lib.Dec.{T, eqb, lt→ltb}
 use lib.ListN.{length, getD, List·getD-eq-default}
 use Rattle.terms.specs.Measures.{Shape, rangeRows, withinLimits}
 use Rattle.terms.specs.declared.Place.{Place}
 use Rattle.layout.specs.declared.Region.the-variants.{Opens, TailRow, Used, Current, PageState}
-use Rattle.layout.specs.View.{View, rowsGiven, transactionsGiven, scansGiven, lastStamp, mergesMade, usedIn}
+use Rattle.layout.specs.View.{View, rowsGiven, transactionsGiven, lastStamp, mergesMade, usedIn}
 use Rattle.layout.specs.Sizes.{sizesOf}
 use Rattle.layout.proofs.Limits.{proper}
-use Rattle.history.specs.History.{History, State, unknown, active, aborted, committed, count, any, nth, isActive, stateOf, rowAt, rangeOf, recordsOf, scanAt}
-use Rattle.history.proofs.Lists.{all-at, parts, eqb-other, eqb-equal, place-any}
+use Rattle.history.specs.History.{History, unknown, active, aborted, committed, count, nth, stateOf, rowAt, rangeOf, recordsOf, scanAt}
+use Rattle.history.proofs.Lists.{all-at, by-cases, cond-ap, eqb-other, eqb-equal, place-any}
 use Rattle.history.specs.Latest.{stampOf}
 use Rattle.history.proofs.States.{isGiven, Stamped}
 use Rattle.history.proofs.Order.{Placed, placed-at}
 use Rattle.history.proofs.Ranges.{records-range}
-use Rattle.history.proofs.Steps.{noScan}
 use Rattle.history.proofs.Timely.{Timely}
 use Rattle.history.proofs.Links.{noRecord, lastOf, last-of-row}
 use Rattle.scans.specs.Places.{opened, openCount}
 use Rattle.facts.specs.Facts.{inUse, factsHold}
 use Rattle.facts.proofs.Ready.{Stored}
 use Rattle.facts.proofs.Usable.{Linked, Usable}
-use Rattle.terms.specs.Places.{bears, place, freePlace, isScan}
-use Rattle.model.specs.Stored.{rowIn, recordIn, valueIn, pageIn, cellIn, currentIn, placeOf, placesOf, pagesOf, currentPage, scanPlace}
-use Rattle.model.proofs.Lists.{same-part, place-is}
-use Rattle.model.proofs.Book.{book-only}
-use Rattle.model.proofs.Merged.{place-in, place-mod}
+use Rattle.terms.specs.Places.{bears, place, freePlace}
+use Rattle.model.specs.Stored.{rowIn, recordIn, valueIn, pageIn, cellIn, currentIn, placeOf, placesOf, pagesOf, currentPage}
+use Rattle.model.proofs.Book.{live-inside, Kind, Book, book-is, book-found, book-only}
+use Rattle.model.proofs.Merged.{place-mod}
 use Rattle.model.proofs.Heads.{in-range}
-use Rattle.model.proofs.Scans.{scanKind, scan-is, scan-count, scan-found}
-use Rattle.model.proofs.Transactions.{openKind, opens-is}
-use Rattle.model.proofs.Represents.{RecordIs, CurrentIs, WaitingIs, madeIn, scanAs, Represents, Known}
+use Rattle.model.proofs.Scans.{scanKind, scan-count}
+use Rattle.model.proofs.Transactions.{openKind}
+use Rattle.model.proofs.Represents.{RecordIs, CurrentIs, WaitingIs, madeIn, Represents, Known}
 use Rattle.promise.proofs.Tests.{facts-hold}
 use Rattle.promise.proofs.Pool.{all-taken}
 
@@ -45,46 +43,55 @@ use Rattle.promise.proofs.Pool.{all-taken}
 -- what is live has a number that was given
 live-given : {A : Type 0} (live : A → Bool) (l : List A) (k : ℕ) (d : A) → live d ≡ false → T (live (nth l k d)) → (1 ≤ k) × (k ≤ length l)
 live-given live l zero d e t = absurd (rw e at t)
-live-given live [] (suc k) d e t = absurd (rw e at t)
-live-given live (x ∷ l) (suc zero) d e t = (omega arith, omega arith)
-live-given live (x ∷ l) (suc (suc k)) d e t = let r = live-given live l (suc k) d e t in (omega arith, omega (arith, r .1))
+live-given live l (suc k) d e t = (omega arith, live-inside live l k d e t)
 
-within-list : (l : List ℕ) (j : ℕ) → getD l j 0 ≢ 0 → j < length l
-within-list [] j n = absurd (n refl)
-within-list (x ∷ l) zero n = omega arith
-within-list (x ∷ l) (suc j) n = omega (arith, within-list l j n)
+-- the places of a book: what stands in one that is not free
+module _ {P A : Type 0} (K : Kind P A) (ts : List A) (l : List P) (o : Book K ts l) where
+  abbrev numberAt : ℕ → ℕ
+  numberAt j = K.number (getD l j K.free)
 
-within-places : (l : List Place) (j : ℕ) → getD l j freePlace .number ≢ 0 → j < length l
-within-places [] j n = absurd (n refl)
-within-places (x ∷ l) zero n = omega arith
-within-places (x ∷ l) (suc j) n = omega (arith, within-places l j n)
+  bearing : (j : ℕ) → numberAt j ≢ 0 → T (bears (numberAt j) (numberAt j))
+  bearing j n = rw (eqb-other (numberAt j) 0 n) (eqb-equal (numberAt j) (numberAt j) refl)
 
-bearing : (k : ℕ) → k ≢ 0 → T (bears k k)
-bearing k n = rw (eqb-other k 0 n) (eqb-equal k k refl)
+  inside : (j : ℕ) → numberAt j ≢ 0 → j < length l
+  inside j n = live-inside (λ p. bears (numberAt j) (K.number p)) l j K.free (rw K.free-number) (bearing j n)
+
+  -- its number is that of what is live
+  number-live : (j : ℕ) → numberAt j ≢ 0 → T (K.live (nth ts (numberAt j) K.none))
+  number-live j n = rw (book-is K ts l o (numberAt j)) at (place-any (λ p. bears (numberAt j) (K.number p)) l K.free j (inside j n) (bearing j n))
+
+  number-given : (j : ℕ) → numberAt j ≤ length ts
+  number-given j = by-cases (ℕ-discrete (numberAt j) 0) (λ z. omega arith) (λ n. live-given K.live ts (numberAt j) K.none K.none-live (number-live j n) .1)
+
+  numbers-apart : (i j : ℕ) → i < j → numberAt i ≡ numberAt j → numberAt i ≡ 0
+  numbers-apart i j b e =
+      by-cases (ℕ-discrete (numberAt i) 0) (λ z. z)
+      (λ n. absurd (book-only K ts l o (numberAt i) i j b (inside j (rw (← e) n)) (bearing i n) (rw (← e) (bearing i n))))
+
+  place-is : (j : ℕ) → numberAt j ≢ 0 → getD l j K.free ≡ K.as′ (numberAt j) (nth ts (numberAt j) K.none)
+  place-is j n = ap (λ (i : ℕ). getD l i K.free) here ∙ K.tells _ _ (book-found K ts l o (numberAt j) (number-live j n))
+    where
+      own : ℕ
+      own = place (λ p. bears (numberAt j) (K.number p)) l
+
+      own-number : numberAt own ≡ numberAt j
+      own-number = book-found K ts l o (numberAt j) (number-live j n) K.number ∙ K.as-number (numberAt j) _
+
+      here : j ≡ own
+      here =
+          by-cases (decLt j own) (λ p. absurd (n (numbers-apart j own p (sym own-number))))
+          (λ p. by-cases (decLt own j) (λ q. absurd (n (sym own-number ∙ numbers-apart own j q own-number))) (λ q. omega arith))
 
 opened-count : (ps : List Place) → openCount ps ≡ count (λ p. not (eqb (p .number) 0)) ps
 opened-count [] = refl
-opened-count (p ∷ ps) = go (eqb (p .number) 0) (opened-count ps)
-  where
-    go : (b : Bool) → openCount ps ≡ count (λ p. not (eqb (p .number) 0)) ps
-        → length (cond (not b) (p ∷ opened ps) (opened ps)) ≡ cond (not b) (suc (count (λ p. not (eqb (p .number) 0)) ps)) (count (λ p. not (eqb (p .number) 0)) ps)
-    go true e = e
-    go false e = ap suc e
+opened-count (p ∷ ps) = cond-ap length (not (eqb (p .number) 0)) (p ∷ opened ps) (opened ps) ∙ rw (opened-count ps)
 
 -- ---- places of pages
-
-module _ (S : Shape) (some : 1 ≤ S .columns) where
-  -- the range and the column of a place
-  pub place-parts : (i : ℕ) → i < placesOf S → (i / S .columns < S .ranges) × (i % S .columns < S .columns) × (placeOf S (i / S .columns) (i % S .columns) ≡ i)
-  place-parts i b =
-      let c : i < S .ranges * S .columns = omega (arith, mul-comm (S .columns) (S .ranges)) in
-      ((div-lt-iff-lt-mul {k = S .columns} {x = i} {y = S .ranges} some) .1 c, mod-lt i some, div-add-mod' i (S .columns))
-
-  range-of-place : (g c x : ℕ) → g < S .ranges → c < S .columns → x ≡ placeOf S g c → x % placesOf S / S .columns ≡ g
-  range-of-place g c x a b e =
-      let p : placeOf S g c < placesOf S = place-in S g c a b in
-      rw (e, place-mod S (placeOf S g c) p)
-      (same-part (S .columns) (placeOf S g c / S .columns) g (placeOf S g c % S .columns) c (mod-lt (placeOf S g c) some) b (div-add-mod' (placeOf S g c) (S .columns)) .0)
+-- the range and the column of a place
+place-parts : (S : Shape) → 1 ≤ S .columns → (i : ℕ) → i < placesOf S → (i / S .columns < S .ranges) × (i % S .columns < S .columns) × (placeOf S (i / S .columns) (i % S .columns) ≡ i)
+place-parts S some i b =
+    let c : i < S .ranges * S .columns = omega (arith, mul-comm (S .columns) (S .ranges)) in
+    ((div-lt-iff-lt-mul {k = S .columns} {x = i} {y = S .ranges} some) .1 c, mod-lt i some, div-add-mod' i (S .columns))
 
 -- ---- the facts, part by part
 
@@ -113,26 +120,20 @@ module _ (S : Shape) (v : View) (ps : List Place) (h : History) (o : Represents 
 
   stamp-within : (t : ℕ) → stampOf (stateOf h t) ≤ lastStamp v
   unfolding Stamped
-  stamp-within t = let n : stampOf (stateOf h t) ≤ h .last = go (stateOf h t) refl in omega (arith, o .header .last-stamp)
-    where
-      go : (x : State) → stateOf h t ≡ x → stampOf x ≤ h .last
-      go unknown e = omega arith
-      go active e = omega arith
-      go aborted e = omega arith
-      go (committed s) e = k .past .order .stamps t s e
+  stamp-within t =
+      let n = elim (stateOf h t) as (λ x. stateOf h t ≡ x → stampOf x ≤ h .last)
+      [ unknown ↦ λ e. zero-le | active ↦ λ e. zero-le | aborted ↦ λ e. zero-le | committed s ↦ k .past .order .stamps t s ] refl in
+      omega (arith, o .header .last-stamp)
 
   stored : Stored (sizesOf S) v
   stored =
       record {
         rows-to = omega (arith, o .header .rows-given, k .past .limits .rows);
-        records-to = λ g. records g (decLt g (S .ranges));
+        records-to = λ g. by-cases (decLt g (S .ranges)) (λ a. omega (arith, o .tails g a .used-all, k .past .limits .records g))
+            (λ a. let z : usedIn v g ≡ 0 = List·getD-eq-default (v Used) 0 (omega (arith, o .whole .long Used)) in omega arith);
         transactions-to = omega (arith, o .header .transactions-given, k .past .limits .transactions);
         scans-to = omega (arith, o .header .scans-given, k .past .limits .scans);
       }
-    where
-      records : (g : ℕ) → Dec (g < S .ranges) → usedIn v g ≤ S .capacity
-      records g (yes a) = omega (arith, o .tails g a .used-all, k .past .limits .records g)
-      records g (no a) = let z : usedIn v g ≡ 0 = List·getD-eq-default (v Used) 0 (omega (arith, a, o .whole .long Used)) in omega arith
 
   -- a link is the row's last record among the first n
   linked : (g r n link : ℕ) → g < S .ranges → n ≤ usedIn v g → link ≡ lastOf (recordsOf h g) r n → Linked (sizesOf S) v g n r link
@@ -142,103 +143,19 @@ module _ (S : Shape) (v : View) (ps : List Place) (h : History) (o : Represents 
       let q : suc i - 1 ≡ i = omega arith in
       record { low = omega (arith, t .0); same = λ f. rw q (record-row g i a (omega (arith, t .0)) ∙ t .1) }
 
-  -- ---- open transactions and scans
-  open-active : (j : ℕ) → getD (v Opens) j 0 ≢ 0 → T (isActive (stateOf h (getD (v Opens) j 0)))
-  unfolding stateOf
-  open-active j n =
-      subst (λ (b : Bool). T b) (opens-is (h .transactions) (v Opens) (o .opens) (getD (v Opens) j 0))
-      (place-any (bears (getD (v Opens) j 0)) (v Opens) 0 j (within-list (v Opens) j n) (bearing (getD (v Opens) j 0) n))
-
-  active-given : (x : State) → T (isActive x) → T (isGiven x)
-  unfolding isActive
-  active-given active t = tt
-
-  open-numbers : (j : ℕ) → getD (v Opens) j 0 ≤ transactionsGiven v
-  open-numbers j = go (ℕ-discrete (getD (v Opens) j 0) 0)
-    where
-      go : Dec (getD (v Opens) j 0 ≡ 0) → getD (v Opens) j 0 ≤ transactionsGiven v
-      go (yes e) = omega arith
-      go (no n) = transaction-given (getD (v Opens) j 0) (active-given (stateOf h (getD (v Opens) j 0)) (open-active j n)) .1
-
-  opens-apart : (i j : ℕ) → i < j → getD (v Opens) i 0 ≡ getD (v Opens) j 0 → getD (v Opens) i 0 ≡ 0
-  unfolding isActive
-  opens-apart i j b e = go (ℕ-discrete (getD (v Opens) i 0) 0)
-    where
-      twice : (t : ℕ) → t ≢ 0 → getD (v Opens) i 0 ≡ t → getD (v Opens) j 0 ≡ t → ⊥
-      twice t n p q =
-          book-only openKind (h .transactions) (v Opens) (o .opens) t i j b
-          (within-list (v Opens) j (rw q n)) (rw p (bearing t n)) (rw q (bearing t n))
-
-      go : Dec (getD (v Opens) i 0 ≡ 0) → getD (v Opens) i 0 ≡ 0
-      go (yes z) = z
-      go (no n) = absurd (twice (getD (v Opens) i 0) n refl (sym e))
-
-  -- an open place has the scan of its number
-  pub record PlaceIs (p : Place) : Type 0 where
-    pub running : T (scanAt h (p .number) .running)
-    pub same : p ≡ scanAs (p .number) (scanAt h (p .number))
-
-  scans-twice : (t i j : ℕ) → i < j → t ≢ 0 → getD ps i freePlace .number ≡ t → getD ps j freePlace .number ≡ t → ⊥
-  scans-twice t i j b n p q =
-      book-only scanKind (h .scans) ps (o .scans .same) t i j b
-      (within-places ps j (rw q n)) (rw p (bearing t n)) (rw q (bearing t n))
-
-  scan-place : (j : ℕ) → getD ps j freePlace .number ≢ 0 → PlaceIs (getD ps j freePlace)
-  unfolding scanAt scanPlace
-  scan-place j n =
-      record {
-        running = running;
-        same = ap (λ (i : ℕ). getD ps i freePlace) (here (decLt j own) (decLt own j)) ∙ scan-found (h .scans) ps (o .scans) t running;
-      }
-    where
-      t : ℕ
-      t = getD ps j freePlace .number
-
-      own : ℕ
-      own = place (isScan t) ps
-
-      found : T (any (isScan t) ps)
-      found = place-any (isScan t) ps freePlace j (within-places ps j n) (bearing t n)
-
-      running : T (scanAt h t .running)
-      running = subst (λ (b : Bool). T b) (scan-is (h .scans) ps (o .scans) t) found
-
-      own-number : getD ps own freePlace .number ≡ t
-      own-number =
-          eqb→eq _ t (parts (not (eqb (getD ps own freePlace .number) 0)) _ (place-is (isScan t) ps freePlace found) .1)
-
-      here : Dec (j < own) → Dec (own < j) → j ≡ own
-      here (yes p) q = absurd (scans-twice t j own p n refl own-number)
-      here (no p) (yes q) = absurd (scans-twice t own j q n own-number refl)
-      here (no p) (no q) = omega (arith, p, q)
-
-  scans-apart : (i j : ℕ) → i < j → getD ps i freePlace .number ≡ getD ps j freePlace .number → getD ps i freePlace .number ≡ 0
-  scans-apart i j b e = go (ℕ-discrete (getD ps i freePlace .number) 0)
-    where
-      go : Dec (getD ps i freePlace .number ≡ 0) → getD ps i freePlace .number ≡ 0
-      go (yes z) = z
-      go (no n) = absurd (scans-twice (getD ps i freePlace .number) i j b n refl (sym e))
-
-  scan-numbers : (j : ℕ) → getD ps j freePlace .number ≤ scansGiven v
-  unfolding scanAt
-  scan-numbers j = go (ℕ-discrete (getD ps j freePlace .number) 0)
-    where
-      go : Dec (getD ps j freePlace .number ≡ 0) → getD ps j freePlace .number ≤ scansGiven v
-      go (yes z) = omega arith
-      go (no n) =
-          omega (arith, live-given (λ s. s .running) (h .scans) (getD ps j freePlace .number) noScan refl (scan-place j n .running) .1, o .header .scans-given)
-
+  -- ---- open scans
   scan-stamps : (j : ℕ) → getD ps j freePlace .number ≢ 0 → getD ps j freePlace .stamp ≤ lastStamp v
-  unfolding Timely
+  unfolding Timely scanAt
   scan-stamps j n =
-      omega (arith, ap (λ (p : Place). p .stamp) (scan-place j n .same), k .past .timely (getD ps j freePlace .number), o .header .last-stamp)
+      omega (arith, ap (λ (p : Place). p .stamp) (place-is scanKind (h .scans) ps (o .scans .same) j n), k .past .timely (getD ps j freePlace .number), o .header .last-stamp)
 
   scan-merges : (j : ℕ) → getD ps j freePlace .number ≢ 0 → getD ps j freePlace .merges ≤ mergesMade v
+  unfolding scanAt
   scan-merges j n =
       omega (
         arith,
-        ap (λ (p : Place). p .merges) (scan-place j n .same),
-        o .scanPages (getD ps j freePlace .number) (scan-place j n .running) 0 0 (k .small .some-range) (k .small .some-column) .early,
+        ap (λ (p : Place). p .merges) (place-is scanKind (h .scans) ps (o .scans .same) j n),
+        o .scanPages (getD ps j freePlace .number) (number-live scanKind (h .scans) ps (o .scans .same) j n) 0 0 (k .small .some-range) (k .small .some-column) .early,
         o .header .merges-made,
       )
 
@@ -252,17 +169,15 @@ module _ (S : Shape) (v : View) (ps : List Place) (h : History) (o : Represents 
   unfolding currentIn pageAt
   page-current i b =
       let t = place-parts S (k .small .some-column) i b in
-      subst
-      (λ (j : ℕ). CurrentIs S h (i / S .columns) (i % S .columns) (getD (v Current) j 0) (pageIn v (getD (v Current) j 0)) (cellIn v (getD (v Current) j 0)))
-      (t .2) (o .currents (i / S .columns) (i % S .columns) (t .0) (t .1))
+      rw (t .2) at (o .currents (i / S .columns) (i % S .columns) (t .0) (t .1))
 
   page-place : (i : ℕ) → i < placesOf S → (pageIn v (pageAt i)) .place ≡ i
   page-place i b = page-current i b .place ∙ place-parts S (k .small .some-column) i b .2
 
   -- a page in use is the current page of a place, or waits
-  page-cases : {A : Type 0} (p : ℕ) → p < pagesOf S → 1 ≤ (pageIn v p) .state → ((i : ℕ) → i < placesOf S → pageAt i ≡ p → A)
-      → (WaitingIs S h (madeIn S v) (pageIn v p) → A) → A
-  page-cases {A} p b u f g = go (ℕ-discrete ((pageIn v p) .state) 1)
+  page-cases : (A : ℕ → Type 0) (p : ℕ) → p < pagesOf S → 1 ≤ (pageIn v p) .state → ((i : ℕ) → i < placesOf S → A (pageAt i)) → (WaitingIs S h (madeIn S v) (pageIn v p) → A p) → A p
+  page-cases A p b u f g =
+      by-cases (ℕ-discrete ((pageIn v p) .state) 1) (λ e. let r = found e in rw (← r .2) (f (r .0) (r .1))) (λ n. g (o .waits p b (lt→ltb 1 ((pageIn v p) .state) (omega arith))))
     where
       found : (pageIn v p) .state ≡ 1 → (i : ℕ) × (i < placesOf S) × (pageAt i ≡ p)
       found e =
@@ -270,36 +185,22 @@ module _ (S : Shape) (v : View) (ps : List Place) (h : History) (o : Represents 
           (λ i c. eqb-equal _ 1 (page-current i c .state))
           (λ i j c d q. omega (arith, page-place i (omega arith), page-place j d, ap (λ (r : ℕ). (pageIn v r) .place) q)) (o .pool .current) p b (eqb-equal _ 1 e)
 
-      go : Dec ((pageIn v p) .state ≡ 1) → A
-      go (yes e) = let r = found e in f (r .0) (r .1) (r .2)
-      go (no n) = g (o .waits p b (lt→ltb 1 ((pageIn v p) .state) (omega (arith, n))))
-
   page-stamps : (p : ℕ) → p < pagesOf S → inUse ≤ (pageIn v p) .state → (pageIn v p) .newest ≤ lastStamp v
   page-stamps p b u =
-      page-cases p b u
-      (λ i c e. omega (arith, page-current i c .holds .stamped, ap (λ (r : ℕ). (pageIn v r) .newest) e, o .header .last-stamp))
+      page-cases (λ q. (pageIn v q) .newest ≤ lastStamp v) p b u (λ i c. omega (arith, page-current i c .holds .stamped, o .header .last-stamp))
       (λ w. omega (arith, w .stamped, o .header .last-stamp))
 
   page-lineages : (p : ℕ) → p < pagesOf S → inUse ≤ (pageIn v p) .state → (pageIn v p) .lineage ≤ usedIn v ((pageIn v p) .place % placesOf S / S .columns)
-  page-lineages p b u = page-cases p b u current waits
+  page-lineages p b u =
+      page-cases (λ q. (pageIn v q) .lineage ≤ usedIn v ((pageIn v q) .place % placesOf S / S .columns)) p b u
+      (λ i c. within (pageAt i) i c (page-place i c) (page-current i c .holds .through .within))
+      (λ w. let t = place-parts S (k .small .some-column) ((pageIn v p) .place) (w .place) in within p _ (w .place) refl (w .reach _ _ (t .0) (t .1) (sym (t .2))))
     where
       -- a lineage within the records of the place's range
-      within : (i : ℕ) → i < placesOf S → (pageIn v p) .place ≡ i → (pageIn v p) .lineage ≤ length (recordsOf h (i / S .columns))
-          → (pageIn v p) .lineage ≤ usedIn v ((pageIn v p) .place % placesOf S / S .columns)
-      within i c e l =
-          let t = place-parts S (k .small .some-column) i c in
-          rw (range-of-place S (k .small .some-column) (i / S .columns) (i % S .columns) ((pageIn v p) .place) (t .0) (t .1) (e ∙ sym (t .2)))
-          (omega (arith, l, o .tails (i / S .columns) (t .0) .used-all))
-
-      current : (i : ℕ) → i < placesOf S → pageAt i ≡ p → (pageIn v p) .lineage ≤ usedIn v ((pageIn v p) .place % placesOf S / S .columns)
-      current i c e =
-          within i c (ap (λ (r : ℕ). (pageIn v r) .place) (sym e) ∙ page-place i c)
-          (subst (λ (r : ℕ). (pageIn v r) .lineage ≤ length (recordsOf h (i / S .columns))) e (page-current i c .holds .through .within))
-
-      waits : WaitingIs S h (madeIn S v) (pageIn v p) → (pageIn v p) .lineage ≤ usedIn v ((pageIn v p) .place % placesOf S / S .columns)
-      waits w =
-          let t = place-parts S (k .small .some-column) ((pageIn v p) .place) (w .place) in
-          within ((pageIn v p) .place) (w .place) refl (w .reach _ _ (t .0) (t .1) (sym (t .2)))
+      within : (q i : ℕ) → i < placesOf S → (pageIn v q) .place ≡ i → (pageIn v q) .lineage ≤ length (recordsOf h (i / S .columns))
+          → (pageIn v q) .lineage ≤ usedIn v ((pageIn v q) .place % placesOf S / S .columns)
+      within q i c e l =
+          rw (ap (λ (x : ℕ). x % placesOf S / S .columns) e, place-mod S i c) (omega (arith, o .tails (i / S .columns) (place-parts S (k .small .some-column) i c .0) .used-all))
 
   -- ---- all together
   pub represented-usable : Usable (sizesOf S) v ps
@@ -311,8 +212,8 @@ module _ (S : Shape) (v : View) (ps : List Place) (h : History) (o : Represents 
         named = λ g i a b. rw (record-row g i a b) (omega (arith, record-placed g i a b .inside, o .header .rows-given), all-at (records-range h g) i noRecord (used-few g i a b));
         row-numbers = λ r b. rw (o .rows r (row-is r b) .transaction) (transaction-given _ (k .past .order .inserters r (row-is r b)));
         record-numbers = λ g i a b. rw (record-is g i a b .transaction) (transaction-given _ (record-placed g i a b .giver));
-        open-numbers = open-numbers;
-        scan-numbers = scan-numbers;
+        open-numbers = λ j. omega (arith, number-given openKind (h .transactions) (v Opens) (o .opens) j, o .header .transactions-given);
+        scan-numbers = λ j. omega (arith, number-given scanKind (h .scans) ps (o .scans .same) j, o .header .scans-given);
         row-links = λ r b. linked (r / rangeRows) r (usedIn v (r / rangeRows)) _ (in-range k r (row-is r b)) (le-refl _) (o .rows r (row-is r b) .link ∙ ap (lastOf (recordsOf h (r / rangeRows)) r) (sym (o .tails (r / rangeRows) (in-range k r (row-is r b)) .used-all)));
         record-links = λ g i a b. linked g _ i _ a (omega arith) (o .tails g a .links i (used-few g i a b) ∙ ap (λ (r : ℕ). lastOf (recordsOf h g) r i) (sym (record-row g i a b)));
         row-stamps = λ r b. rw (o .rows r (row-is r b) .stamp) (stamp-within _);
@@ -321,8 +222,8 @@ module _ (S : Shape) (v : View) (ps : List Place) (h : History) (o : Represents 
         scan-stamps = scan-stamps;
         scan-merges = scan-merges;
         page-merges = λ p b u. omega (arith, o .waits p b (lt→ltb 1 (getD (v PageState) p 0) u) .replaced-by, o .header .merges-made);
-        open-differ = opens-apart;
-        scans-differ = scans-apart;
+        open-differ = numbers-apart openKind (h .transactions) (v Opens) (o .opens);
+        scans-differ = numbers-apart scanKind (h .scans) ps (o .scans .same);
         current-in = λ i b. page-current i b .inside;
         current-state = λ i b. page-current i b .state;
         current-place = page-place;

@@ -10,6 +10,7 @@ use lib.Dec.{leb, ltb, eqb}
 use lib.ListN.{length, getD}
 use borrow.Author.Tests.{ltb-false, eqb-false, eq-eqb, ne-eqb, le-leb, lt-ltb}
 use Rattle.terms.specs.declared.Place.{Place}
+use Rattle.history.proofs.Lists.{by-test, is-false}
 use Rattle.loops.specs.Search.{region, allBetween}
 use Rattle.loops.proofs.Region.{region-at, region-length}
 use Rattle.layout.specs.declared.Sizes.{Sizes}
@@ -43,11 +44,8 @@ all-between low high (x ∷ l) f =
 
 every-open : (f : Place → Bool) (ps : List Place) → ((j : ℕ) → getD ps j freePlace .number ≢ 0 → f (getD ps j freePlace) ≡ true) → everyOpen f ps ≡ true
 every-open f [] h = refl
-every-open f (p ∷ ps) h = both (go (eqb (p .number) 0) refl) (every-open f ps (λ j. h (suc j)))
-  where
-    go : (b : Bool) → eqb (p .number) 0 ≡ b → (not (not b) || f p) ≡ true
-    go true e = refl
-    go false e = h 0 (eqb-false (p .number) 0 e)
+every-open f (p ∷ ps) h =
+    both (by-test (λ b. (not (not b) || f p) ≡ true) (eqb (p .number) 0) (λ _. refl) (λ t. h 0 (eqb-false (p .number) 0 (is-false _ t)))) (every-open f ps (λ j. h (suc j)))
 
 not-among : (x : ℕ) (l : List ℕ) → ((j : ℕ) → j < length l → x ≢ getD l j 0) → not (among x l) ≡ true
 not-among x [] h = refl

@@ -13,7 +13,7 @@ use Rattle.terms.specs.declared.Place.{Place}
 use Rattle.terms.specs.declared.Refusal.{Refusal}
 use Rattle.words.specs.Words.{words}
 use Rattle.layout.specs.View.{View, lay}
-use Rattle.layout.proofs.Limits.{limited}
+use Rattle.layout.proofs.Limits.{proper}
 use Rattle.facts.specs.Usable.{storedShape, storedSizes, usable}
 use Rattle.history.specs.History.{update, Verdict, refuse, verdict, answerIf, badMask}
 use Rattle.model.specs.Calls.{notOpenIn, notGivenIn, testsIn, replyIn, actIn, placesAfter, viewIf, say, viewNext}
@@ -64,7 +64,7 @@ module _ (S : Shape) (v : View) (ps : List Place) (a b : ℕ) (vs : List ℤ) wh
 wide-bad : (m : List ℕ) (ps : List Place) (c : ℕ) → usable m ps ≡ true → 65535 < c → badMask (storedShape (words m)) c ≡ true
 unfolding badMask
 wide-bad m ps c u h =
-    let l = limited (storedShape (words m)) (usable-tells m ps u .within) in
+    let l = proper (storedShape (words m)) (usable-tells m ps u .within) in
     let p : 2 ^ (storedShape (words m)) .columns ≤ 2 ^ 16 = pow-le-pow-right (omega arith) (l .columns-to) in
     let q : 2 ^ (storedShape (words m)) .columns ≤ c = omega arith in
     rw (ne-eqb c 0 (λ e. omega arith), le-leb _ c q)

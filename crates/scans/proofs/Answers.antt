@@ -42,39 +42,27 @@ between-zeros b n (x ∷ l) = rw (between-zeros b n l)
 
 every-opened : (f : Place → ℕ) (b : ℕ) (ps : List Place) → allBetween 0 b (map f (opened ps)) ≡ everyOpen (λ p. leb (f p) b) ps
 every-opened f b [] = refl
-every-opened f b (p ∷ ps) = go (eqb (p .number) 0) (every-opened f b ps)
-  where
-    go : (o : Bool) → allBetween 0 b (map f (opened ps)) ≡ everyOpen (λ p. leb (f p) b) ps
-        → allBetween 0 b (map f (cond (not o) (p ∷ opened ps) (opened ps))) ≡ ((not (not o) || leb (f p) b) && everyOpen (λ p. leb (f p) b) ps)
-    go true e = e
-    go false e = rw (leb·zero (f p), e)
+every-opened f b (p ∷ ps) =
+    elim (eqb (p .number) 0) as (λ o. allBetween 0 b (map f (cond (not o) (p ∷ opened ps) (opened ps))) ≡ ((not (not o) || leb (f p) b) && everyOpen (λ p. leb (f p) b) ps))
+    [ true ↦ every-opened f b ps | false ↦ rw (leb·zero (f p), every-opened f b ps) ]
 
 some-opened : (m : ℕ) (ps : List Place) → anyBelow m (map (λ p. p .merges) (opened ps)) ≡ someOpen (λ p. ltb (p .merges) m) ps
 some-opened m [] = refl
-some-opened m (p ∷ ps) = go (eqb (p .number) 0) (some-opened m ps)
-  where
-    go : (o : Bool) → anyBelow m (map (λ p. p .merges) (opened ps)) ≡ someOpen (λ p. ltb (p .merges) m) ps
-        → anyBelow m (map (λ p. p .merges) (cond (not o) (p ∷ opened ps) (opened ps))) ≡ ((not o && ltb (p .merges) m) || someOpen (λ p. ltb (p .merges) m) ps)
-    go true e = e
-    go false e = rw e
+some-opened m (p ∷ ps) =
+    elim (eqb (p .number) 0) as (λ o. anyBelow m (map (λ p. p .merges) (cond (not o) (p ∷ opened ps) (opened ps))) ≡ ((not o && ltb (p .merges) m) || someOpen (λ p. ltb (p .merges) m) ps))
+    [ true ↦ some-opened m ps | false ↦ rw (some-opened m ps) ]
 
 among-opened : (x : ℕ) (ps : List Place) → eqb x 0 ≡ false → among x (map (λ p. p .number) (opened ps)) ≡ among x (map (λ p. p .number) ps)
 among-opened x [] e = refl
-among-opened x (p ∷ ps) e = go (eqb (p .number) 0) refl (among-opened x ps e)
-  where
-    go : (o : Bool) → eqb (p .number) 0 ≡ o → among x (map (λ p. p .number) (opened ps)) ≡ among x (map (λ p. p .number) ps)
-        → among x (map (λ p. p .number) (cond (not o) (p ∷ opened ps) (opened ps))) ≡ (eqb (p .number) x || among x (map (λ p. p .number) ps))
-    go true q h = rw (ne-eqb (p .number) x (λ r. eqb-false x 0 e (sym r ∙ eqb-true (p .number) 0 q))) h
-    go false q h = rw h
+among-opened x (p ∷ ps) e =
+    elim (eqb (p .number) 0) as (λ o. eqb (p .number) 0 ≡ o → among x (map (λ p. p .number) (cond (not o) (p ∷ opened ps) (opened ps))) ≡ (eqb (p .number) x || among x (map (λ p. p .number) ps)))
+    [ true ↦ λ q. rw (ne-eqb (p .number) x (λ r. eqb-false x 0 e (sym r ∙ eqb-true (p .number) 0 q))) (among-opened x ps e) | false ↦ λ q. rw (among-opened x ps e) ] refl
 
 differ-opened : (ps : List Place) → differ (map (λ p. p .number) (opened ps)) ≡ differ (map (λ p. p .number) ps)
 differ-opened [] = refl
-differ-opened (p ∷ ps) = go (eqb (p .number) 0) refl (differ-opened ps)
-  where
-    go : (o : Bool) → eqb (p .number) 0 ≡ o → differ (map (λ p. p .number) (opened ps)) ≡ differ (map (λ p. p .number) ps)
-        → differ (map (λ p. p .number) (cond (not o) (p ∷ opened ps) (opened ps))) ≡ ((eqb (p .number) 0 || not (among (p .number) (map (λ p. p .number) ps))) && differ (map (λ p. p .number) ps))
-    go true q h = rw q h
-    go false q h = rw (q, among-opened (p .number) ps q, h)
+differ-opened (p ∷ ps) =
+    elim (eqb (p .number) 0) as (λ o. eqb (p .number) 0 ≡ o → differ (map (λ p. p .number) (cond (not o) (p ∷ opened ps) (opened ps))) ≡ ((o || not (among (p .number) (map (λ p. p .number) ps))) && differ (map (λ p. p .number) ps)))
+    [ true ↦ λ q. differ-opened ps | false ↦ λ q. rw (q, among-opened (p .number) ps q, differ-opened ps) ] refl
 
 -- ---- the scan that bears a number
 
@@ -87,66 +75,42 @@ module _ (k n : ℕ) (nonzero : eqb k 0 ≡ false) where
   abbrev searched : ℕ → List Place → Found
   searched c ps = firstAt k c (map (λ p. p .number) (opened ps) ++ replicate n 0)
 
-  found-place : (ps : List Place) (c d j : ℕ) → searched c ps ≡ At (c + j)
-      → (place (isScan k) ps + d ≡ getD (openedAt d ps) j 0) × (getD ps (place (isScan k) ps) freePlace ≡ getD (opened ps) j freePlace) × (j < openCount ps)
-  found-place [] c d j e = absurd (clash (c + j) (sym (zeros-none k c n nonzero) ∙ e))
-    where
-      clash : (i : ℕ) → Nothing ≡ At i → ⊥
-      clash i q = let z : _≡_ {A = ℕ} 0 1 = cc in omega arith
-  found-place (p ∷ ps) c d j e = go (eqb (p .number) 0) (eqb (p .number) k) refl (found-place ps) e
-    where
-      Later : Type 0
-      Later = (c d j : ℕ) → searched c ps ≡ At (c + j)
-          → (place (isScan k) ps + d ≡ getD (openedAt d ps) j 0) × (getD ps (place (isScan k) ps) freePlace ≡ getD (opened ps) j freePlace) × (j < openCount ps)
+  -- the place of k in a list that starts at place d, and its entry j
+  abbrev Entry : ℕ → List Place → ℕ → Type 0
+  Entry d ps j = (place (isScan k) ps + d ≡ getD (openedAt d ps) j 0) × (getD ps (place (isScan k) ps) freePlace ≡ getD (opened ps) j freePlace) × (j < openCount ps)
 
+  found-place : (ps : List Place) (c d j : ℕ) → searched c ps ≡ At (c + j) → Entry d ps j
+  found-place [] c d j e = let z : _≡_ {A = ℕ} 0 1 = cc (zeros-none k c n nonzero) in absurd (omega arith)
+  found-place (p ∷ ps) c d j e = go (eqb (p .number) 0) refl (eqb (p .number) k) refl (found-place ps) j e
+    where
       at : (i : ℕ) → At c ≡ At i → c ≡ i
       at i q = cc
 
-      go : (o b : Bool) → eqb (p .number) k ≡ b → Later
-          → firstAt k c (map (λ p. p .number) (cond (not o) (p ∷ opened ps) (opened ps)) ++ replicate n 0) ≡ At (c + j)
-          → (cond (not o && b) 0 (suc (place (isScan k) ps)) + d ≡ getD (cond (not o) (d ∷ openedAt (suc d) ps) (openedAt (suc d) ps)) j 0)
-          × (getD (p ∷ ps) (cond (not o && b) 0 (suc (place (isScan k) ps))) freePlace ≡ getD (cond (not o) (p ∷ opened ps) (opened ps)) j freePlace)
-          × (j < length (cond (not o) (p ∷ opened ps) (opened ps)))
-      go true b q later f = let t = later c (suc d) j f in (omega (arith, t .0), t .1, t .2)
-      go false true q later f = first j (at (c + j) (rw q at f))
-        where
-          first : (i : ℕ) → c ≡ c + i
-              → (0 + d ≡ getD (d ∷ openedAt (suc d) ps) i 0) × (p ≡ getD (p ∷ opened ps) i freePlace) × (i < suc (openCount ps))
-          first zero r = (omega arith, refl, omega arith)
-          first (suc i) r = absurd (omega arith)
-      go false false q later f = next j (rw q at f)
-        where
-          next : (i : ℕ) → searched (c + 1) ps ≡ At (c + i)
-              → (suc (place (isScan k) ps) + d ≡ getD (d ∷ openedAt (suc d) ps) i 0)
-              × (getD ps (place (isScan k) ps) freePlace ≡ getD (p ∷ opened ps) i freePlace) × (i < suc (openCount ps))
-          next zero r = absurd (omega (arith, (first-in k (c + 1) (c + 0) (map (λ p. p .number) (opened ps) ++ replicate n 0) r) .0))
-          next (suc i) r =
-              let t = later (c + 1) (suc d) i (r ∙ ap At (omega arith)) in
-              (omega (arith, t .0), t .1, omega (arith, t .2))
+      go : (o : Bool) → eqb (p .number) 0 ≡ o → (b : Bool) → eqb (p .number) k ≡ b → ((c d j : ℕ) → searched c ps ≡ At (c + j) → Entry d ps j)
+          → (i : ℕ) → searched c (p ∷ ps) ≡ At (c + i) → Entry d (p ∷ ps) i
+      go true o b q later i f = rw o (let t = later c (suc d) i (rw o at f) in (omega (arith, t .0), t .1, t .2))
+      go false o true q later zero f = rw (o, q) (omega arith, refl, omega arith)
+      go false o true q later (suc i) f = absurd (omega (arith, at (c + suc i) (rw (o, q) at f)))
+      go false o false q later zero f = absurd (omega (arith, first-in k (c + 1) (c + 0) (map (λ p. p .number) (opened ps) ++ replicate n 0) (rw (o, q) at f) .0))
+      go false o false q later (suc i) f =
+          rw (o, q) (let t = later (c + 1) (suc d) i ((rw (o, q) at f) ∙ ap At (omega arith)) in (omega (arith, t .0), t .1, omega (arith, t .2)))
 
   -- and where none is found no place of the list bears k
   found-none : (ps : List Place) (c : ℕ) → searched c ps ≡ Nothing → place (isScan k) ps ≡ length ps
   found-none [] c e = refl
-  found-none (p ∷ ps) c e = go (eqb (p .number) 0) (eqb (p .number) k) refl (found-none ps) e
+  found-none (p ∷ ps) c e = go (eqb (p .number) 0) refl (eqb (p .number) k) refl (found-none ps)
     where
-      clash : At c ≡ Nothing → ⊥
-      clash q = let z : _≡_ {A = ℕ} 0 1 = cc in omega arith
-
-      go : (o b : Bool) → eqb (p .number) k ≡ b → ((c : ℕ) → searched c ps ≡ Nothing → place (isScan k) ps ≡ length ps)
-          → firstAt k c (map (λ p. p .number) (cond (not o) (p ∷ opened ps) (opened ps)) ++ replicate n 0) ≡ Nothing
-          → cond (not o && b) 0 (suc (place (isScan k) ps)) ≡ suc (length ps)
-      go true b q later f = ap suc (later c f)
-      go false true q later f = absurd (clash (rw q at f))
-      go false false q later f = ap suc (later (c + 1) (rw q at f))
+      go : (o : Bool) → eqb (p .number) 0 ≡ o → (b : Bool) → eqb (p .number) k ≡ b → ((c : ℕ) → searched c ps ≡ Nothing → place (isScan k) ps ≡ length ps)
+          → place (isScan k) (p ∷ ps) ≡ suc (length ps)
+      go true o b q later = rw o (ap suc (later c (rw o at e)))
+      go false o true q later = let f = rw (o, q) at e in let z : _≡_ {A = ℕ} 0 1 = cc in absurd (omega arith)
+      go false o false q later = rw (o, q) (ap suc (later (c + 1) (rw (o, q) at e)))
 
 -- no place bears 0
 none-zero : (ps : List Place) → place (isScan 0) ps ≡ length ps
 none-zero [] = refl
-none-zero (p ∷ ps) = go (eqb (p .number) 0) (none-zero ps)
-  where
-    go : (b : Bool) → place (isScan 0) ps ≡ length ps → cond (not b && b) 0 (suc (place (isScan 0) ps)) ≡ suc (length ps)
-    go true e = ap suc e
-    go false e = ap suc e
+none-zero (p ∷ ps) =
+    elim (eqb (p .number) 0) as (λ b. cond (not b && b) 0 (suc (place (isScan 0) ps)) ≡ suc (length ps)) [ true ↦ ap suc (none-zero ps) | false ↦ ap suc (none-zero ps) ]
 
 -- ---- the answers of a table
 
@@ -179,41 +143,37 @@ module _ (ps : List Place) (few : openCount ps ≤ mostScans) where
   pub table-at-most : (f : Place → ℕ) (b : ℕ) → allBetween 0 b (entries (map f (opened ps))) ≡ everyOpen (λ p. leb (f p) b) ps
   table-at-most f b = rw (field-entries f) (between-zeros b (mostScans - openCount ps) (map f (opened ps)) ∙ every-opened f b ps)
 
+  field-taken : (f : Place → ℕ) → take (tableOf ps .count) (entries (map f (opened ps))) ≡ map f (opened ps)
+  field-taken f = rw (table-count, field-entries f) (take-at (map f (opened ps)) _ (openCount ps) (length-map (opened ps) f))
+
   pub table-differ : differ (take (tableOf ps .count) (tableOf ps .numbers)) ≡ differ (map (λ p. p .number) ps)
   unfolding tableOf
-  table-differ =
-      let e : length (map (λ p. p .number) (opened ps)) ≡ openCount ps = length-map (opened ps) (λ p. p .number) in
-      rw (table-count, field-entries (λ p. p .number), take-at (map (λ p. p .number) (opened ps)) _ (openCount ps) e) (differ-opened ps)
+  table-differ = rw (field-taken (λ p. p .number)) (differ-opened ps)
 
   pub table-before : (m : ℕ) → anyBelow m (take (tableOf ps .count) (tableOf ps .merges)) ≡ someOpen (λ p. ltb (p .merges) m) ps
   unfolding tableOf
-  table-before m =
-      let e : length (map (λ p. p .merges) (opened ps)) ≡ openCount ps = length-map (opened ps) (λ p. p .merges) in
-      rw (table-count, field-entries (λ p. p .merges), take-at (map (λ p. p .merges) (opened ps)) _ (openCount ps) e) (some-opened m ps)
+  table-before m = rw (field-taken (λ p. p .merges)) (some-opened m ps)
 
   pub table-finds : (k j : ℕ) → findIn (tableOf ps) k ≡ At j → Located ps k j
   unfolding findIn tableOf
-  table-finds k j e = go (eqb k 0) refl e
-    where
-      clash : Nothing ≡ At j → ⊥
-      clash q = let z : _≡_ {A = ℕ} 0 1 = cc in omega arith
-
-      go : (b : Bool) → eqb k 0 ≡ b → cond b Nothing (firstAt k 0 (tableOf ps .numbers)) ≡ At j → Located ps k j
-      go true q f = absurd (clash f)
-      go false q f =
-          let t = found-place k (mostScans - openCount ps) q ps 0 0 j (rw (field-entries (λ p. p .number)) at f ∙ ap At (omega arith)) in
-          record {
-            entry = t .2;
-            number-is = ap (λ (p : Place). p .number) (t .1) ∙ sym (field-at (λ p. p .number) j refl (t .2)) ∙ first-at k j (tableOf ps .numbers) f .1;
-            place-is = places-at j (t .2) ∙ omega (arith, t .0);
-            stamp-is = field-at (λ p. p .stamp) j refl (t .2) ∙ ap (λ (p : Place). p .stamp) (sym (t .1));
-            merges-is = field-at (λ p. p .merges) j refl (t .2) ∙ ap (λ (p : Place). p .merges) (sym (t .1));
-          }
+  table-finds k j e =
+      elim (eqb k 0) as (λ b. eqb k 0 ≡ b → cond b Nothing (firstAt k 0 (tableOf ps .numbers)) ≡ At j → Located ps k j) [
+        | true ↦ λ q f. let z : _≡_ {A = ℕ} 0 1 = cc in absurd (omega arith)
+        | false ↦ λ q f.
+            let t = found-place k (mostScans - openCount ps) q ps 0 0 j ((rw (field-entries (λ p. p .number)) at f) ∙ ap At (omega arith)) in
+            record {
+              entry = t .2;
+              number-is = ap (λ (p : Place). p .number) (t .1) ∙ sym (field-at (λ p. p .number) j refl (t .2)) ∙ first-at k j (tableOf ps .numbers) f .1;
+              place-is = places-at j (t .2) ∙ omega (arith, t .0);
+              stamp-is = field-at (λ p. p .stamp) j refl (t .2) ∙ ap (λ (p : Place). p .stamp) (sym (t .1));
+              merges-is = field-at (λ p. p .merges) j refl (t .2) ∙ ap (λ (p : Place). p .merges) (sym (t .1));
+            }
+      ] refl e
 
   pub table-lacks : (k : ℕ) → findIn (tableOf ps) k ≡ Nothing → place (isScan k) ps ≡ length ps
   unfolding findIn tableOf
-  table-lacks k e = go (eqb k 0) refl e
-    where
-      go : (b : Bool) → eqb k 0 ≡ b → cond b Nothing (firstAt k 0 (tableOf ps .numbers)) ≡ Nothing → place (isScan k) ps ≡ length ps
-      go true q f = let z : k ≡ 0 = eqb-true k 0 q in rw z (none-zero ps)
-      go false q f = found-none k (mostScans - openCount ps) q ps 0 (rw (field-entries (λ p. p .number)) at f)
+  table-lacks k e =
+      elim (eqb k 0) as (λ b. eqb k 0 ≡ b → cond b Nothing (firstAt k 0 (tableOf ps .numbers)) ≡ Nothing → place (isScan k) ps ≡ length ps) [
+        | true ↦ λ q f. let z : k ≡ 0 = eqb-true k 0 q in rw z (none-zero ps)
+        | false ↦ λ q f. found-none k (mostScans - openCount ps) q ps 0 (rw (field-entries (λ p. p .number)) at f)
+      ] refl e

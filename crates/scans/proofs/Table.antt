@@ -21,38 +21,32 @@ use Rattle.scans.specs.Table.{entries, tableOf, noted, ofLength}
 
 opened-snoc : (ps : List Place) (p : Place) → opened (ps ++ p ∷ []) ≡ opened ps ++ cond (isOpen p) (p ∷ []) []
 opened-snoc [] p = refl
-opened-snoc (q ∷ ps) p = go (isOpen q) (opened-snoc ps p)
-  where
-    go : (b : Bool) → opened (ps ++ p ∷ []) ≡ opened ps ++ cond (isOpen p) (p ∷ []) []
-        → cond b (q ∷ opened (ps ++ p ∷ [])) (opened (ps ++ p ∷ [])) ≡ cond b (q ∷ opened ps) (opened ps) ++ cond (isOpen p) (p ∷ []) []
-    go true e = ap (λ (l : List Place). q ∷ l) e
-    go false e = e
+opened-snoc (q ∷ ps) p =
+    elim (isOpen q) as (λ b. cond b (q ∷ opened (ps ++ p ∷ [])) (opened (ps ++ p ∷ [])) ≡ cond b (q ∷ opened ps) (opened ps) ++ cond (isOpen p) (p ∷ []) [])
+    [ true ↦ rw (opened-snoc ps p) | false ↦ opened-snoc ps p ]
 
 openedAt-snoc : (k : ℕ) (ps : List Place) (p : Place) → openedAt k (ps ++ p ∷ []) ≡ openedAt k ps ++ cond (isOpen p) ((k + length ps) ∷ []) []
 openedAt-snoc k [] p = rw (add-zero k)
-openedAt-snoc k (q ∷ ps) p = go (isOpen q) (openedAt-snoc (suc k) ps p) (omega arith)
-  where
-    go : (b : Bool) → openedAt (suc k) (ps ++ p ∷ []) ≡ openedAt (suc k) ps ++ cond (isOpen p) ((suc k + length ps) ∷ []) [] → suc k + length ps ≡ k + suc (length ps)
-        → cond b (k ∷ openedAt (suc k) (ps ++ p ∷ [])) (openedAt (suc k) (ps ++ p ∷ [])) ≡ cond b (k ∷ openedAt (suc k) ps) (openedAt (suc k) ps) ++ cond (isOpen p) ((k + suc (length ps)) ∷ []) []
-    go true e q = rw (e, q)
-    go false e q = rw (e, q)
+openedAt-snoc k (q ∷ ps) p =
+    let e : suc k + length ps ≡ k + suc (length ps) = omega arith in
+    rw (openedAt-snoc (suc k) ps p, e)
+    (elim (isOpen q) as (λ b. let l = openedAt (suc k) ps in let m = cond (isOpen p) ((k + suc (length ps)) ∷ []) [] in cond b (k ∷ l ++ m) (l ++ m) ≡ cond b (k ∷ l) l ++ m)
+    [ true ↦ refl | false ↦ refl ])
 
 free-snoc : (ps : List Place) (p : Place) → firstFree (ps ++ p ∷ []) ≡ cond (eqb (firstFree ps) (length ps)) (cond (eqb (p .number) 0) (length ps) (length ps + 1)) (firstFree ps)
 free-snoc [] p = refl
-free-snoc (q ∷ ps) p = go (eqb (q .number) 0) (free-snoc ps p)
+free-snoc (q ∷ ps) p =
+    let n = length ps in
+    let z = firstFree ps in
+    let e : suc n + 1 ≡ suc (n + 1) = omega arith in
+    rw (free-snoc ps p, e)
+    (elim (eqb (q .number) 0) as (λ b. cond b 0 (suc (cond (eqb z n) (cond (eqb (p .number) 0) n (n + 1)) z)) ≡ cond (eqb (cond b 0 (suc z)) (suc n)) (cond (eqb (p .number) 0) (suc n) (suc (n + 1))) (cond b 0 (suc z)))
+    [ true ↦ rw (ne-eqb 0 (suc n) (λ h. omega arith)) | false ↦ rw (eqb·suc-suc z n) (under (eqb z n) (eqb (p .number) 0) n (n + 1) z) ])
   where
     under : (b c : Bool) (x y z : ℕ) → suc (cond b (cond c x y) z) ≡ cond b (cond c (suc x) (suc y)) (suc z)
     under true true x y z = refl
     under true false x y z = refl
     under false c x y z = refl
-
-    go : (b : Bool) → firstFree (ps ++ p ∷ []) ≡ cond (eqb (firstFree ps) (length ps)) (cond (eqb (p .number) 0) (length ps) (length ps + 1)) (firstFree ps)
-        → cond b 0 (suc (firstFree (ps ++ p ∷ []))) ≡ cond (eqb (cond b 0 (suc (firstFree ps))) (suc (length ps))) (cond (eqb (p .number) 0) (suc (length ps)) (suc (length ps) + 1)) (cond b 0 (suc (firstFree ps)))
-    go true e = rw (ne-eqb 0 (suc (length ps)) (λ h. omega arith))
-    go false e =
-        rw (e, eqb·suc-suc (firstFree ps) (length ps))
-        (under (eqb (firstFree ps) (length ps)) (eqb (p .number) 0) (length ps) (length ps + 1) (firstFree ps)
-        ∙ ap (λ (n : ℕ). cond (eqb (firstFree ps) (length ps)) (cond (eqb (p .number) 0) (suc (length ps)) n) (suc (firstFree ps))) (omega arith))
 
 -- entries of a list that grows: it has room, or it has none
 entries-snoc : (l : List ℕ) (x : ℕ) → length l < mostScans → entries (l ++ x ∷ []) ≡ set (entries l) (length l) x
@@ -76,74 +70,45 @@ entries-full l x h =
 
 pub at-length : (k : ℕ) (qs : List Place) → length (openedAt k qs) ≡ openCount qs
 at-length k [] = refl
-at-length k (q ∷ qs) = go (isOpen q) (at-length (suc k) qs)
+at-length k (q ∷ qs) =
+    elim (isOpen q) as (λ b. length (cond b (k ∷ openedAt (suc k) qs) (openedAt (suc k) qs)) ≡ length (cond b (q ∷ opened qs) (opened qs)))
+    [ true ↦ ap suc (at-length (suc k) qs) | false ↦ at-length (suc k) qs ]
+
+pub noted-table : (ps : List Place) (p : Place) → noted (tableOf ps) p ≡ tableOf (ps ++ p ∷ [])
+unfolding noted tableOf
+noted-table ps p = go (eqb (p .number) 0) refl (ltb n mostScans) refl
   where
-    go : (b : Bool) → length (openedAt (suc k) qs) ≡ openCount qs
-        → length (cond b (k ∷ openedAt (suc k) qs) (openedAt (suc k) qs)) ≡ length (cond b (q ∷ opened qs) (opened qs))
-    go true e = ap suc e
-    go false e = e
+    n : ℕ
+    n = openCount ps
 
-module _ (ps : List Place) (p : Place) where
-  more-length : length (ps ++ p ∷ []) ≡ length ps + 1
-  more-length = length-append ps (p ∷ [])
+    as-free : cond (eqb (firstFree ps) (length ps)) (length ps) (firstFree ps) ≡ firstFree ps
+    as-free =
+        elim (eqb (firstFree ps) (length ps)) as (λ b. eqb (firstFree ps) (length ps) ≡ b → cond b (length ps) (firstFree ps) ≡ firstFree ps)
+        [ true ↦ λ e. sym (eqb-true (firstFree ps) (length ps) e) | false ↦ λ e. refl ] refl
 
-  -- a list of one field of the open scans, after a free place and after an open one
-  field-free : (f : Place → ℕ) → eqb (p .number) 0 ≡ true → map f (opened (ps ++ p ∷ [])) ≡ map f (opened ps)
-  field-free f e = rw (opened-snoc ps p, e, append-nil)
+    -- an entry list after an open scan: with room for it, and without
+    room : (l : List ℕ) (x : ℕ) → length l ≡ n → n < mostScans → entries (l ++ x ∷ []) ≡ set (entries l) n x
+    room l x e h = entries-snoc l x (omega arith) ∙ ap (λ (k : ℕ). set (entries l) k x) e
 
-  field-open : (f : Place → ℕ) → eqb (p .number) 0 ≡ false → map f (opened (ps ++ p ∷ [])) ≡ map f (opened ps) ++ f p ∷ []
-  field-open f e = rw (opened-snoc ps p, e, map-append)
+    full : (l : List ℕ) (x : ℕ) → length l ≡ n → mostScans ≤ n → entries (l ++ x ∷ []) ≡ entries l
+    full l x e h = entries-full l x (omega arith)
 
-  count-free : eqb (p .number) 0 ≡ true → openCount (ps ++ p ∷ []) ≡ openCount ps
-  count-free e = rw (opened-snoc ps p, e, append-nil)
-
-  count-open : eqb (p .number) 0 ≡ false → openCount (ps ++ p ∷ []) ≡ openCount ps + 1
-  count-open e = rw (opened-snoc ps p, e) (length-append (opened ps) (p ∷ []))
-
-  at-free : eqb (p .number) 0 ≡ true → openedAt 0 (ps ++ p ∷ []) ≡ openedAt 0 ps
-  at-free e = rw (openedAt-snoc 0 ps p, e, append-nil)
-
-  at-open : eqb (p .number) 0 ≡ false → openedAt 0 (ps ++ p ∷ []) ≡ openedAt 0 ps ++ length ps ∷ []
-  at-open e = rw (openedAt-snoc 0 ps p, e, zero-add (length ps))
-
-  pub noted-table : noted (tableOf ps) p ≡ tableOf (ps ++ p ∷ [])
-  unfolding noted tableOf
-  noted-table = go (eqb (p .number) 0) refl (ltb (openCount ps) mostScans) refl
-    where
-      as-free : cond (eqb (firstFree ps) (length ps)) (length ps) (firstFree ps) ≡ firstFree ps
-      as-free = when-equal (eqb (firstFree ps) (length ps)) refl
-        where
-          when-equal : (b : Bool) → eqb (firstFree ps) (length ps) ≡ b → cond b (length ps) (firstFree ps) ≡ firstFree ps
-          when-equal true e = sym (eqb-true (firstFree ps) (length ps) e)
-          when-equal false e = refl
-
-      field-long : (f : Place → ℕ) → length (map f (opened ps)) ≡ openCount ps
-      field-long f = length-map (opened ps) f
-
-      -- an entry list after an open scan: with room for it, and without
-      room : (l : List ℕ) (x : ℕ) → length l ≡ openCount ps → openCount ps < mostScans → entries (l ++ x ∷ []) ≡ set (entries l) (openCount ps) x
-      room l x e h = entries-snoc l x (omega arith) ∙ ap (λ (k : ℕ). set (entries l) k x) e
-
-      full : (l : List ℕ) (x : ℕ) → length l ≡ openCount ps → mostScans ≤ openCount ps → entries (l ++ x ∷ []) ≡ entries l
-      full l x e h = entries-full l x (omega arith)
-
-      go : (b : Bool) → eqb (p .number) 0 ≡ b → (r : Bool) → ltb (openCount ps) mostScans ≡ r → noted (tableOf ps) p ≡ tableOf (ps ++ p ∷ [])
-      go true e r f =
-          rw (e, more-length, count-free e, field-free (λ q. q .number) e, field-free (λ q. q .stamp) e, field-free (λ q. q .merges) e, at-free e, free-snoc ps p, e, as-free)
-      go false e true f =
-          let n = openCount ps in
-          let h : n < mostScans = ltb-true n mostScans f in
-          let m : min mostScans n ≡ n = omega arith in
-          let m′ : min mostScans (n + 1) ≡ n + 1 = omega arith in
-          rw (e, m, f, more-length, count-open e, m′, field-open (λ q. q .number) e, field-open (λ q. q .stamp) e, field-open (λ q. q .merges) e, at-open e, free-snoc ps p, e)
-          (rw (room (map (λ q. q .number) (opened ps)) (p .number) (field-long (λ q. q .number)) h, room (map (λ q. q .stamp) (opened ps)) (p .stamp) (field-long (λ q. q .stamp)) h, room (map (λ q. q .merges) (opened ps)) (p .merges) (field-long (λ q. q .merges)) h, room (openedAt 0 ps) (length ps) (at-length 0 ps) h, le-ltb mostScans n (omega arith), le-ltb mostScans (n + 1) (omega arith)))
-      go false e false f =
-          let n = openCount ps in
-          let h : mostScans ≤ n = ltb-false n mostScans f in
-          let m : min mostScans n ≡ mostScans = omega arith in
-          let m′ : min mostScans (n + 1) ≡ mostScans = omega arith in
-          rw (e, m, more-length, count-open e, m′, field-open (λ q. q .number) e, field-open (λ q. q .stamp) e, field-open (λ q. q .merges) e, at-open e, free-snoc ps p, e)
-          (rw (full (map (λ q. q .number) (opened ps)) (p .number) (field-long (λ q. q .number)) h, full (map (λ q. q .stamp) (opened ps)) (p .stamp) (field-long (λ q. q .stamp)) h, full (map (λ q. q .merges) (opened ps)) (p .merges) (field-long (λ q. q .merges)) h, full (openedAt 0 ps) (length ps) (at-length 0 ps) h, lt-ltb mostScans (n + 1) (omega arith)))
+    go : (b : Bool) → eqb (p .number) 0 ≡ b → (r : Bool) → ltb n mostScans ≡ r → noted (tableOf ps) p ≡ tableOf (ps ++ p ∷ [])
+    go true e r f = rw (e, length-append ps (p ∷ []), opened-snoc ps p, openedAt-snoc 0 ps p, free-snoc ps p, e, append-nil (opened ps), append-nil (openedAt 0 ps), as-free)
+    go false e true f =
+        let h : n < mostScans = ltb-true n mostScans f in
+        let m : min mostScans n ≡ n = omega arith in
+        let m′ : min mostScans (n + 1) ≡ n + 1 = omega arith in
+        rw (e, m, f, length-append ps (p ∷ []), opened-snoc ps p, openedAt-snoc 0 ps p, free-snoc ps p, e, zero-add (length ps), length-append (opened ps) (p ∷ []), m′)
+        (simp map-append
+        (rw (room (map (λ q. q .number) (opened ps)) (p .number) (length-map (opened ps) _) h, room (map (λ q. q .stamp) (opened ps)) (p .stamp) (length-map (opened ps) _) h, room (map (λ q. q .merges) (opened ps)) (p .merges) (length-map (opened ps) _) h, room (openedAt 0 ps) (length ps) (at-length 0 ps) h, le-ltb mostScans n (omega arith), le-ltb mostScans (n + 1) (omega arith))))
+    go false e false f =
+        let h : mostScans ≤ n = ltb-false n mostScans f in
+        let m : min mostScans n ≡ mostScans = omega arith in
+        let m′ : min mostScans (n + 1) ≡ mostScans = omega arith in
+        rw (e, m, length-append ps (p ∷ []), opened-snoc ps p, openedAt-snoc 0 ps p, free-snoc ps p, e, zero-add (length ps), length-append (opened ps) (p ∷ []), m′)
+        (simp map-append
+        (rw (full (map (λ q. q .number) (opened ps)) (p .number) (length-map (opened ps) _) h, full (map (λ q. q .stamp) (opened ps)) (p .stamp) (length-map (opened ps) _) h, full (map (λ q. q .merges) (opened ps)) (p .merges) (length-map (opened ps) _) h, full (openedAt 0 ps) (length ps) (at-length 0 ps) h, lt-ltb mostScans (n + 1) (omega arith))))
 
 pub table-length : (t : Scans) (ps : List Place) → t ≡ tableOf ps → t .length ≡ length ps
 unfolding tableOf

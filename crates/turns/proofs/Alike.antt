@@ -1,7 +1,7 @@
 -- Two machines that give the same answers to every list of calls write the same lines for every input. The calls are those that bytes can ask for.
 use Prim.Native.Nat.{ℕ, zero, suc}
 use mathlib.Core.Path.{_≡_, refl, ap, _∙_}
-use mathlib.Core.Bool.{Bool, true, false, cond}
+use mathlib.Core.Bool.{true, false, cond}
 use mathlib.Core.List.{List, [], _∷_, _++_}
 use native.Mathlib.Omega.{arith}
 use lib.Dec.{leb}
@@ -50,11 +50,9 @@ module _ {A B : Type 0} (m : Machine A) (n : Machine B) where
   state-alike : (columns : ℕ) (x : A) (y : B) (k : Chosen) (os : List ℕ) → TypedBy columns k os → Alike x y
       → Alike (stateAfter m columns x k os) (stateAfter n columns y k os)
   unfolding stateAfter
-  state-alike columns x y (Chosen.Known f) os t a = go (leb (width columns f) (length os))
-    where
-      go : (b : Bool) → Alike (cond b (m .next x (callFrom columns f os)) x) (cond b (n .next y (callFrom columns f os)) y)
-      go true = alike-next x y (callFrom columns f os) a t
-      go false = a
+  state-alike columns x y (Chosen.Known f) os t a =
+      elim (leb (width columns f) (length os)) as (λ b. Alike (cond b (m .next x (callFrom columns f os)) x) (cond b (n .next y (callFrom columns f os)) y))
+      [ true ↦ alike-next x y (callFrom columns f os) a t | false ↦ a ]
   state-alike columns x y (Chosen.Refused r) os t a = a
 
   typed-by : (byte columns : ℕ) (k : Chosen) (os : List ℕ) → chosen byte ≡ k → Bytes os → TypedBy columns k os

@@ -10,7 +10,6 @@ use Rattle.terms.specs.Measures.{Shape}
 use Rattle.terms.specs.declared.Answer.{Answer}
 use Rattle.terms.specs.declared.Place.{Place}
 use Rattle.terms.specs.declared.Refusal.{Refusal}
-use Rattle.making.specs.Made.{made}
 use Rattle.lines.specs.Written.{Rendered}
 use Rattle.commands.specs.declared.Form.{Form}
 use Rattle.commands.specs.declared.Chosen.{Chosen}
@@ -22,7 +21,7 @@ use Rattle.output.specs.Steps.{answerTo, stateAfter, Step}
 use Rattle.calls.specs.Serves.{Serves, Makes}
 use Rattle.requests.specs.Asked.{asked}
 use Rattle.requests.proofs.Values.{served-call}
-use Rattle.turns.specs.Turns.{Store, storeMachine, makingAnswer, madeStore, firstAnswer, firstStore, columnsFrom, operandWidth, Does, Turned}
+use Rattle.turns.specs.Turns.{Store, makingAnswer, madeStore, firstAnswer, firstStore, columnsFrom, operandWidth, Does, Turned}
 
 -- ---- the shape
 pub not-lent : (x : Store) (S : Shape) → lent S ≡ false → (Answer.Refused Refusal.Shape ≡ makingAnswer x S) × (x ≡ madeStore x S)
@@ -32,11 +31,7 @@ not-lent x S e = (rw e, rw e)
 pub lent-made : (x : Store) (S : Shape) (r : Answer) (m′ : List ℕ) (ps′ : List Place) → lent S ≡ true → Makes (x .memory) (x .list) S r m′ ps′
     → (r ≡ makingAnswer x S) × (_≡_ {A = Store} record { memory = m′; list = ps′ } (madeStore x S))
 unfolding makingAnswer madeStore Makes
-lent-made x S r m′ ps′ e h = (
-  rw e (h .0),
-  rw e (ap {B = Store} (λ (m : List ℕ). record { memory = m; list = ps′ }) (h .1)
-      ∙ ap {B = Store} (λ (ps : List Place). record { memory = made S (length (x .list)) (x .memory) .1; list = ps }) (h .2)),
-)
+lent-made x S r m′ ps′ e h = (rw e (h .0), rw (e, h .1, h .2))
 
 pub shape-cut : (x : Store) (bs : List ℕ) → length bs < shapeBytes → (Answer.Refused Refusal.Cut ≡ firstAnswer x bs) × (x ≡ firstStore x bs)
 unfolding firstAnswer firstStore
@@ -71,11 +66,8 @@ narrow k f columns e n h = let m : Narrow (Chosen.Known f) = rw e at n in (m .0,
 
 -- the most bytes of operands: three numbers of four bytes and 16 values
 pub width-most : (columns : ℕ) (f : Form) → Small columns f → width columns f ≤ 76
-width-most columns f h = go (f .values)
-  where
-    go : (b : Bool) → f .first + f .second + f .third + 4 * cond b columns 0 ≤ 76
-    go true = omega (arith, h .0, h .1, h .2, h .3)
-    go false = omega (arith, h .0, h .1, h .2)
+width-most columns f h =
+    elim (f .values) as (λ b. f .first + f .second + f .third + 4 * cond b columns 0 ≤ 76) [ true ↦ omega (arith, h .0, h .1, h .2, h .3) | false ↦ omega (arith, h .0, h .1, h .2) ]
 
 -- ---- a command
 pub form-cut : (x : Store) (columns : ℕ) (f : Form) (os : List ℕ) → length os < width columns f
@@ -89,12 +81,7 @@ pub form-called : (x : Store) (columns : ℕ) (f : Form) (os : List ℕ) (q : Re
 unfolding Does answerTo stateAfter Serves
 form-called x columns f os q r m′ ps′ h p w =
     let e = le-leb (width columns f) (length os) h in
-    let s = served-call (x .memory) (x .list) q r m′ ps′ (p .1) w in (
-      rw (e, ← p .0) (s .0),
-      rw (e, ← p .0)
-          (ap {B = Store} (λ (m : List ℕ). record { memory = m; list = ps′ }) (s .1)
-          ∙ ap {B = Store} (λ (ps : List Place). record { memory = storeMachine .next x (callIn q) .memory; list = ps }) (s .2)),
-    )
+    let s = served-call (x .memory) (x .list) q r m′ ps′ (p .1) w in (rw (e, ← p .0) (s .0), rw (e, ← p .0, s .1, s .2))
 
 -- what is due for the form of a command byte is due for the byte
 pub known-does : (x : Store) (columns n : ℕ) (k : Chosen) (f : Form) (os : List ℕ) (r : Answer) (x′ : Store) → k ≡ Chosen.Known f → n ≡ columns

@@ -1,11 +1,11 @@
 -- `gatebook` writes what it must write, for every input: demand 3 says that the store's answers are the plain history's.
 use Prim.Native.Nat.{ℕ, _*_, _≤_}
-use mathlib.Core.Path.{_≡_, refl, ap, sym, subst, _∙_}
+use mathlib.Core.Path.{_≡_, refl, ap, sym, _∙_}
 use mathlib.Core.Bool.{Bool, true, false, cond}
 use mathlib.Core.List.{List, [], _∷_, _++_}
 use native.Mathlib.Omega.{arith}
 use native.Mathlib.Nat.{mul-le-mul}
-use lib.Dec.{T, leb}
+use lib.Dec.{leb}
 use lib.ListN.{length, drop}
 use borrow.Author.Tests.{lt-ltb}
 use Rattle.terms.specs.Measures.{Shape, mostScans, mostColumns}
@@ -67,7 +67,7 @@ accepted : (x : Store) (S : Shape) → lent S ≡ true → bytesNeeded largest �
 unfolding MakingAccepted
 accepted x S e h k =
     let l : bytesNeeded S ≤ length (x .memory) = omega (arith, enough S e) in
-    making-accepted S (x .memory) (x .list) (subst T (sym (lent-within S e)) tt) l k
+    making-accepted S (x .memory) (x .list) (rw (lent-within S e) tt) l k
 
 -- ---- the store answers as the plain history
 store-answers : (m : List ℕ) (ps : List Place) (cs : List Call) → answersFrom storeMachine record { memory = m; list = ps } cs ≡ answersOf m ps cs
@@ -118,13 +118,12 @@ made-lines x S bs b h k = go (lent S) refl
 pub gatebook-writes : GatebookWrites
 unfolding GatebookWrites gatebook firstAnswer firstStore columnsFrom written linesFrom goesOn
 gatebook-writes x bs b h k =
-    rw (whole shapeBytes bs, shape-part bs) (go (leb shapeBytes (length bs)) ∙ written-is-output bs)
+    rw (whole shapeBytes bs, shape-part bs)
+    (elim (leb shapeBytes (length bs)) as (λ c.
+    linesFrom (cond c (makingAnswer x S) (Answer.Refused Refusal.Cut)) storeMachine (capped (cond c (S .columns) 0)) (cond c (madeStore x S) x) bs
+    ≡ linesFrom (cond c (shapeAnswer S) (Answer.Refused Refusal.Cut)) (historyOf S) (S .columns) start bs)
+    [ true ↦ made-lines x S bs b h k | false ↦ refl ]
+    ∙ written-is-output bs)
   where
     S : Shape
     S = shapeFrom bs
-
-    go : (c : Bool)
-        → linesFrom (cond c (makingAnswer x S) (Answer.Refused Refusal.Cut)) storeMachine (capped (cond c (S .columns) 0)) (cond c (madeStore x S) x) bs
-        ≡ linesFrom (cond c (shapeAnswer S) (Answer.Refused Refusal.Cut)) (historyOf S) (S .columns) start bs
-    go true = made-lines x S bs b h k
-    go false = refl

@@ -1,17 +1,17 @@
 -- A call that is parsed from bytes has numbers that fit the types of its operands.
 use Prim.Native.Nat.{ℕ, zero, suc, _+_, _^_, _≤_, _<_}
-use mathlib.Core.Path.{_≡_, subst}
+use mathlib.Core.Path.{_≡_}
 use mathlib.Core.List.{List, [], _∷_, map}
 use native.Mathlib.Omega.{arith}
 use native.Mathlib.Nat.{pow-succ', pow-le-pow-right}
-use lib.ListN.{length, getD, take, drop, length-take, length-drop}
+use lib.ListN.{length, getD, take, drop, length-take, length-drop, take-append-drop}
 use lib.Seq.{getD-drop}
 use mir.Syntax.{w32}
 use mir.Val.{toZ, SFits}
 use mir.ValLaws.{toZ-fits}
 use Rattle.terms.specs.declared.Refusal.{Refusal}
 use Rattle.words.specs.Words.{words, Bytes}
-use Rattle.words.proofs.Words.{Fit, words-fit, take-fit}
+use Rattle.words.proofs.Words.{Fit, words-fit, take-fit, front-bytes}
 use Rattle.history.specs.Lists.{All}
 use Rattle.model.specs.Calls.{Typed, Values}
 use Rattle.commands.specs.declared.Form.{Form}
@@ -20,10 +20,7 @@ use Rattle.commands.specs.Commands.{littleEndian, operand, values, callOf, call
 
 -- ---- numbers in bytes
 pub bytes-take : (n : ℕ) (l : List ℕ) → Bytes l → Bytes (take n l)
-bytes-take zero l b k = omega arith
-bytes-take (suc n) [] b k = omega arith
-bytes-take (suc n) (x ∷ l) b zero = b 0
-bytes-take (suc n) (x ∷ l) b (suc k) = bytes-take n l (λ i. b (suc i)) k
+bytes-take n l b = front-bytes (take n l) (drop n l) (rw (take-append-drop n l) b)
 
 pub bytes-drop : (n : ℕ) (l : List ℕ) → Bytes l → Bytes (drop n l)
 bytes-drop n l b k = rw getD-drop (b (n + k))
@@ -137,5 +134,5 @@ typed-at (k ∷ ks) a (suc i) = typed-at ks (a .1) i
 pub typed : (byte columns : ℕ) (f : Form) (os : List ℕ) → chosen byte ≡ Chosen.Known f → Bytes os → Typed (callFrom columns f os)
 unfolding chosen
 typed byte columns f os e b =
-    let t : TypedForm (Chosen.Known f) = subst TypedForm e (typed-at commands each-typed byte) in
+    let t : TypedForm (Chosen.Known f) = rw e at (typed-at commands each-typed byte) in
     t columns os b

@@ -13,18 +13,6 @@ Inv-loop buffer₀ have wanted to₀ buffer to = (have ≤ to) × (to ≤ length
 abbrev μ-loop : tie.MeasureT-loop
 μ-loop buffer₀ have wanted to₀ buffer to = length buffer₀ - to
 
-loop-holds : tie.Need-loop-holds Inv-loop μ-loop
-loop-holds c = (omega arith, omega arith, refl, refl)
-
-read-behind-requires : tie.Need-read-behind-requires Inv-loop μ-loop
-read-behind-requires c κs = omega arith
-
-add-to : tie.Need-add-to Inv-loop μ-loop
-add-to c = omega arith
-
-loop-less : tie.Need-loop-less Inv-loop μ-loop
-loop-less c = omega arith
-
 -- after a read
 stays : (c : tie.After-buffer Inv-loop μ-loop)
     → take (c .before .before .before .before .before .before .args .have) (c .before .read-behind .last .0)
@@ -36,30 +24,18 @@ stays c =
 loop-again : tie.Need-loop-again Inv-loop μ-loop
 loop-again c = (omega arith, omega arith, omega arith, stays (c .before .before))
 
-same-length : tie.Need-same-length Inv-loop μ-loop
-same-length c = c .before .loop .inv .2
-
-returns : tie.Need-returns Inv-loop μ-loop
-returns c = (omega arith, omega arith, c .before .loop .inv .3)
-
-same-length-2 : tie.Need-same-length-2 Inv-loop μ-loop
-same-length-2 c = omega arith
-
-returns-2 : tie.Need-returns-2 Inv-loop μ-loop
-returns-2 c = (omega arith, omega arith, stays (c .before .before))
-
 pub fill-spec : {M : Type 1} → statement M
 fill-spec =
     tie.close
     (tie.spec
     Inv-loop
     μ-loop
-    loop-holds
-    read-behind-requires
-    add-to
-    loop-less
+    (λ c. (omega arith, omega arith, refl, refl))
+    (λ c κs. omega arith)
+    (λ c. omega arith)
+    (λ c. omega arith)
     loop-again
-    same-length
-    returns
-    same-length-2
-    returns-2)
+    (λ c. c .before .loop .inv .2)
+    (λ c. (omega arith, omega arith, c .before .loop .inv .3))
+    (λ c. omega arith)
+    (λ c. (omega arith, omega arith, stays (c .before .before))))

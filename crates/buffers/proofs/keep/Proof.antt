@@ -14,24 +14,6 @@ Inv-loop lines₀ at line n i₀ lines i = (i ≤ n) × (length lines ≡ length
 abbrev μ-loop : tie.MeasureT-loop
 μ-loop lines₀ at line n i₀ lines i = n - i
 
-loop-holds : tie.Need-loop-holds Inv-loop μ-loop
-loop-holds c = (omega arith, refl, keep-none _ _ _)
-
-element-copy-out-lines : tie.Need-element-copy-out-lines Inv-loop μ-loop
-element-copy-out-lines c = omega arith
-
-add-lines : tie.Need-add-lines Inv-loop μ-loop
-add-lines c = omega arith
-
-slice-write-lines : tie.Need-slice-write-lines Inv-loop μ-loop
-slice-write-lines c = omega arith
-
-add-i : tie.Need-add-i Inv-loop μ-loop
-add-i c = omega arith
-
-loop-less : tie.Need-loop-less Inv-loop μ-loop
-loop-less c = omega arith
-
 loop-again : tie.Need-loop-again Inv-loop μ-loop
 loop-again c =
     let loop = c .before .before .loop in (
@@ -39,9 +21,6 @@ loop-again c =
       simp length-set (loop .inv .1),
       keep-next _ (loop .lines) _ _ (loop .i) _ (loop .inv .2) refl (omega arith),
     )
-
-same-length : tie.Need-same-length Inv-loop μ-loop
-same-length c = c .before .loop .inv .1
 
 returns : tie.Need-returns Inv-loop μ-loop
 returns c =
@@ -54,12 +33,12 @@ keep-spec =
     (tie.spec
     Inv-loop
     μ-loop
-    loop-holds
-    element-copy-out-lines
-    add-lines
-    slice-write-lines
-    add-i
-    loop-less
+    (λ c. (omega arith, refl, keep-none _ _ _))
+    (λ c. omega arith)
+    (λ c. omega arith)
+    (λ c. omega arith)
+    (λ c. omega arith)
+    (λ c. omega arith)
     loop-again
-    same-length
+    (λ c. c .before .loop .inv .1)
     returns)

@@ -19,21 +19,6 @@ abbrev μ-loop : tie.MeasureT-loop
 loop-holds : tie.Need-loop-holds Inv-loop μ-loop
 loop-holds c = (omega arith, refl, rw add-zero (sym (slice-empty (c .args .from) _)), λ k h. refl)
 
-add-buffer : tie.Need-add-buffer Inv-loop μ-loop
-add-buffer c = omega arith
-
-slice-read-buffer : tie.Need-slice-read-buffer Inv-loop μ-loop
-slice-read-buffer c = omega arith
-
-slice-write-buffer : tie.Need-slice-write-buffer Inv-loop μ-loop
-slice-write-buffer c = omega arith
-
-add-i : tie.Need-add-i Inv-loop μ-loop
-add-i c = omega arith
-
-loop-less : tie.Need-loop-less Inv-loop μ-loop
-loop-less c = omega arith
-
 loop-again : tie.Need-loop-again Inv-loop μ-loop
 loop-again c =
     let loop = c .before .before .loop in
@@ -44,9 +29,6 @@ loop-again c =
       move-next old (loop .buffer) from (loop .i) _ (loop .inv .2) (loop .inv .3 (from + loop .i) (omega arith)) (omega arith) (omega arith),
       move-rest old (loop .buffer) (loop .i) _ (loop .inv .3),
     )
-
-same-length : tie.Need-same-length Inv-loop μ-loop
-same-length c = c .before .loop .inv .1
 
 returns : tie.Need-returns Inv-loop μ-loop
 returns c =
@@ -60,11 +42,11 @@ move-down-spec =
     Inv-loop
     μ-loop
     loop-holds
-    add-buffer
-    slice-read-buffer
-    slice-write-buffer
-    add-i
-    loop-less
+    (λ c. omega arith)
+    (λ c. omega arith)
+    (λ c. omega arith)
+    (λ c. omega arith)
+    (λ c. omega arith)
     loop-again
-    same-length
+    (λ c. c .before .loop .inv .1)
     returns)

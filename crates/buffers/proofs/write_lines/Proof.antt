@@ -6,11 +6,5 @@ use lib.Seq.{length-take-le}
 use Rattle.buffers.proofs.write_lines.Statement.{statement}
 use Rattle.buffers.proofs.write_lines.Tie as tie
 
-slice-aggregate-write-all : tie.Need-slice-aggregate-write-all
-slice-aggregate-write-all c = sym (length-take-le _ _ (c .before .before .before .pre))
-
-returns-2 : tie.Need-returns-2
-returns-2 c = λ e. absurd (omega (arith, e, c .before .before .if1 .left))
-
 pub write-lines-spec : {M : Type 1} → statement M
-write-lines-spec = tie.close (tie.spec (λ c. search needs) slice-aggregate-write-all (λ c κs. search needs) returns-2)
+write-lines-spec = tie.close (tie.spec (λ c. search needs) (λ c. sym (length-take-le _ _ (c .before .before .before .pre))) (λ c κs. search needs) (λ c. λ e. absurd (omega (arith, e, c .before .before .if1 .left))))

@@ -17,24 +17,6 @@ Inv-loop values taken₀ i₀ taken i =
 abbrev μ-loop : tie.MeasureT-loop
 μ-loop values taken₀ i₀ taken i = 16 - i
 
-loop-holds : tie.Need-loop-holds Inv-loop μ-loop
-loop-holds c = (omega arith, refl, refl)
-
-value-at-requires : tie.Need-value-at-requires Inv-loop μ-loop
-value-at-requires c κs = omega arith
-
-mul-taken : tie.Need-mul-taken Inv-loop μ-loop
-mul-taken c = omega arith
-
-array-set-from-taken : tie.Need-array-set-from-taken Inv-loop μ-loop
-array-set-from-taken c = omega arith
-
-add-i : tie.Need-add-i Inv-loop μ-loop
-add-i c = omega arith
-
-loop-less : tie.Need-loop-less Inv-loop μ-loop
-loop-less c = omega arith
-
 loop-again : tie.Need-loop-again Inv-loop μ-loop
 loop-again c =
     let loop = c .before .before .loop in
@@ -57,11 +39,11 @@ take-sixteen-spec =
     (tie.spec
     Inv-loop
     μ-loop
-    loop-holds
-    value-at-requires
-    mul-taken
-    array-set-from-taken
-    add-i
-    loop-less
+    (λ c. (omega arith, refl, refl))
+    (λ c κs. omega arith)
+    (λ c. omega arith)
+    (λ c. omega arith)
+    (λ c. omega arith)
+    (λ c. omega arith)
     loop-again
     returns)

@@ -22,30 +22,15 @@ loop-holds c =
     let nothing : start .n - start .n ≡ 0 = omega arith in
     (omega arith, none-yet (start .bytes .now) (start .at) (start .n), rw nothing (omega arith))
 
-sub-i : tie.Need-sub-i Inv-loop μ-loop
-sub-i c = omega arith
-
 mul-total : tie.Need-mul-total Inv-loop μ-loop
 mul-total c =
     let small = room _ _ (c .before .loop .inv .2) (omega arith) in
     record { fits = omega arith }
 
-add-wide : tie.Need-add-wide Inv-loop μ-loop
-add-wide c = omega arith
-
-shared-slice-read-wide : tie.Need-shared-slice-read-wide Inv-loop μ-loop
-shared-slice-read-wide c = omega arith
-
-wide-requires : tie.Need-wide-requires Inv-loop μ-loop
-wide-requires c κs = search needs
-
 add-total : tie.Need-add-total Inv-loop μ-loop
 add-total c =
     let small = room _ _ (c .before .before .before .loop .inv .2) (omega arith) in
     record { fits = omega (arith, c .wide .ensures .1) }
-
-loop-less : tie.Need-loop-less Inv-loop μ-loop
-loop-less c = omega arith
 
 loop-again : tie.Need-loop-again Inv-loop μ-loop
 loop-again c =
@@ -70,12 +55,12 @@ number-spec =
     Inv-loop
     μ-loop
     loop-holds
-    sub-i
+    (λ c. omega arith)
     mul-total
-    add-wide
-    shared-slice-read-wide
-    wide-requires
+    (λ c. omega arith)
+    (λ c. omega arith)
+    (λ c κs. search needs)
     add-total
-    loop-less
+    (λ c. omega arith)
     loop-again
     returns)

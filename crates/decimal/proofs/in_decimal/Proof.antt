@@ -15,12 +15,6 @@ Inv-loop n digits₀ from₀ rest₀ digits from rest = (from ≤ 19) × (rest <
 abbrev μ-loop : tie.MeasureT-loop
 μ-loop n digits₀ from₀ rest₀ digits from rest = rest
 
-digit-requires : tie.Need-digit-requires Inv-loop μ-loop
-digit-requires c κs = omega arith
-
-array-write-digits : tie.Need-array-write-digits Inv-loop μ-loop
-array-write-digits c = omega arith
-
 loop-holds : tie.Need-loop-holds Inv-loop μ-loop
 loop-holds c = (
   omega arith,
@@ -31,15 +25,6 @@ loop-holds c = (
 
 sub-from : tie.Need-sub-from Inv-loop μ-loop
 sub-from c = let left = some-left _ _ (c .before .loop .inv .1) (omega arith) in omega arith
-
-digit-requires-2 : tie.Need-digit-requires-2 Inv-loop μ-loop
-digit-requires-2 c κs = omega arith
-
-array-write-digits-2 : tie.Need-array-write-digits-2 Inv-loop μ-loop
-array-write-digits-2 c = omega arith
-
-loop-less : tie.Need-loop-less Inv-loop μ-loop
-loop-less c = omega arith
 
 loop-again : tie.Need-loop-again Inv-loop μ-loop
 loop-again c =
@@ -60,12 +45,12 @@ in-decimal-spec =
     (tie.spec
     Inv-loop
     μ-loop
-    digit-requires
-    array-write-digits
+    (λ c κs. omega arith)
+    (λ c. omega arith)
     loop-holds
     sub-from
-    digit-requires-2
-    array-write-digits-2
-    loop-less
+    (λ c κs. omega arith)
+    (λ c. omega arith)
+    (λ c. omega arith)
     loop-again
     returns)

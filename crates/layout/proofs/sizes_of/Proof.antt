@@ -1,13 +1,13 @@
 -- `layout::sizes_of` meets its contract: the limits keep each product small.
 use native.Mathlib.Omega.{arith}
 use borrow.Author.Needs.{needs}
-use Rattle.layout.specs.Sizes.{shapeOf}
-use Rattle.layout.proofs.Limits.{Limited, limited}
+use Rattle.layout.specs.Sizes.{Proper, sizesOf, shapeOf}
+use Rattle.layout.proofs.Limits.{proper}
 use Rattle.layout.proofs.sizes_of.Statement.{statement}
 use Rattle.layout.proofs.sizes_of.Tie as tie
 
-within : (c : tie.Start) → Limited (shapeOf (c .args .columns) (c .args .ranges) (c .args .capacity) (c .args .spares))
-within c = limited (shapeOf (c .args .columns) (c .args .ranges) (c .args .capacity) (c .args .spares)) (c .pre)
+within : (c : tie.Start) → Proper (sizesOf (shapeOf (c .args .columns) (c .args .ranges) (c .args .capacity) (c .args .spares)))
+within c = proper (shapeOf (c .args .columns) (c .args .ranges) (c .args .capacity) (c .args .spares)) (c .pre)
 
 returns : tie.Need-returns
 returns c = rw (c .times3 .ensures .0, c .before .times2 .ensures .0, c .before .before .times .ensures .0)

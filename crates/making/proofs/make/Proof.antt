@@ -33,15 +33,6 @@ bytes c = rw (c .words-needed .ensures, c .before .sizes-of .ensures)
 returns : tie.Need-returns
 returns c = out-of-limits (shape (c .before .before .before)) _ _ (sym (c .before .within-limits .ensures) ∙ not-true (c .before .within-limits .result) (c .if1 .taken))
 
-sizes-of-requires : tie.Need-sizes-of-requires
-sizes-of-requires c κs = within c
-
-words-needed-requires : tie.Need-words-needed-requires
-words-needed-requires c κs = omega (arith, small c)
-
-mul-n : tie.Need-mul-n
-mul-n c = omega (arith, small (c .before), c .words-needed .ensures)
-
 returns-2 : tie.Need-returns-2
 returns-2 c = no-room (shape (c .before .before .before .before .before .before)) _ _ (within (c .before .before .before)) (rw (bytes (c .before)) at (c .if2 .taken))
 
@@ -51,9 +42,6 @@ returns-3 c = few-places (shape (c .before .before .before .before .before .befo
 -- the part is as long as it is to be
 part : (c : tie.Else2) → length (take (c .before .words-needed .result * 4) (c .before .before .before .before .before .before .args .mem .now)) ≡ c .before .words-needed .result * 4
 part c = length-take-le (c .before .words-needed .result * 4) (c .before .before .before .before .before .before .args .mem .now) (c .if2 .left)
-
-slice-aggregate-lay-out : tie.Need-slice-aggregate-lay-out
-slice-aggregate-lay-out c = sym (part (c .before .before))
 
 lay-out-requires : tie.Need-lay-out-requires
 lay-out-requires c κs =
@@ -84,13 +72,13 @@ make-spec =
     (tie.spec
     (λ c κs. search needs)
     returns
-    sizes-of-requires
-    words-needed-requires
-    mul-n
+    (λ c κs. within c)
+    (λ c κs. omega (arith, small c))
+    (λ c. omega (arith, small (c .before), c .words-needed .ensures))
     returns-2
     returns-3
     (λ c. search needs)
-    slice-aggregate-lay-out
+    (λ c. sym (part (c .before .before)))
     lay-out-requires
     (λ c. search needs)
     returns-4)

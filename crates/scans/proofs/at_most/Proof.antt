@@ -1,12 +1,12 @@
 -- `scans::at_most` meets its contract. The invariant: the flag, with the answer for what is left of the entries, is the answer for all of them.
 use Prim.Native.Nat.{_≤_, _-_}
 use mathlib.Core.Path.{_≡_, refl, sym, _∙_}
-use mathlib.Core.Bool.{_&&_}
+use mathlib.Core.Bool.{_&&_, and-assoc}
 use native.Mathlib.Omega.{arith}
 use lib.ListN.{length, drop}
 use borrow.Author.Needs.{needs}
 use Rattle.loops.specs.Search.{allBetween}
-use Rattle.loops.proofs.Search.{and-assoc, and-end}
+use Rattle.loops.proofs.Search.{and-end}
 use Rattle.scans.proofs.Entries.{left-next, left-none}
 use Rattle.scans.proofs.at_most.Statement.{statement}
 use Rattle.scans.proofs.at_most.Tie as tie
@@ -22,7 +22,7 @@ loop-again c =
     let b = c .before .before in
     let l = b .before .args .t1 in
     let n : length l ≡ 16 = search needs in
-    (omega arith, b .loop .inv .1 ∙ rw (left-next l (b .loop .i) (omega arith), c .and-between .ensures) (and-assoc (b .loop .ok) _ _))
+    (omega arith, b .loop .inv .1 ∙ rw (left-next l (b .loop .i) (omega arith), c .and-between .ensures) (sym (and-assoc (b .loop .ok) _ _)))
 
 returns : tie.Need-returns Inv-loop μ-loop
 returns c =

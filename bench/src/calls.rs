@@ -8,6 +8,9 @@ use crate::{named, time, Named};
 
 const FILLINGS: [(&str, u32); 3] = [("empty", 0), ("half", 50), ("full", 100)];
 
+/// How often all calls of a shape are measured: a stretch of seconds in which the machine is slow meets a call once.
+const PASSES: usize = 4;
+
 /// The ratios of a shape: for each call, one for each filling.
 pub struct Ratios {
     pub shape: Shape,
@@ -25,14 +28,25 @@ pub fn measure(stores: &[Named], shape: Shape, report: &mut Report) -> Ratios {
         }
     }
     let filled = FILLINGS.map(|(_, percent)| Filled::new(shape, percent));
+    let mut least =
+        vec![vec![vec![f64::INFINITY; stores.len()]; FILLINGS.len()]; text::NAMES.len()];
+    for _ in 0..PASSES {
+        for (of_call, byte) in least.iter_mut().zip(1..) {
+            for (times, filled) in of_call.iter_mut().zip(&filled) {
+                let (filled, call) = prepared(filled, byte);
+                time::lesser(
+                    times,
+                    &time::rounds(stores, |store| time::calls(store, &filled, &[&call])),
+                );
+            }
+        }
+    }
     let mut ratios = Ratios { shape, calls: Vec::new() };
     let mut rows = Vec::new();
-    for (name, byte) in text::NAMES.iter().zip(1..) {
+    for (name, of_call) in text::NAMES.iter().zip(&least) {
         let mut row = vec![name.to_string()];
-        let mut of_call = [1.0; FILLINGS.len()];
-        for (filled, ratio) in filled.iter().zip(&mut of_call) {
-            let (filled, call) = prepared(filled, byte);
-            let times = time::rounds(stores, |store| time::calls(store, &filled, &[&call]));
+        let mut of_fillings = [1.0; FILLINGS.len()];
+        for (times, ratio) in of_call.iter().zip(&mut of_fillings) {
             row.push(ns(times[0]));
             for other in &times[1..] {
                 *ratio = other / times[0];
@@ -41,7 +55,7 @@ pub fn measure(stores: &[Named], shape: Shape, report: &mut Report) -> Ratios {
             }
         }
         rows.push(row);
-        ratios.calls.push(of_call);
+        ratios.calls.push(of_fillings);
     }
     report.table(&heads, &rows);
     ratios

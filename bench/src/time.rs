@@ -3,6 +3,7 @@
 //! processor's cache as it was.
 
 use std::hint::black_box;
+use std::sync::atomic::{AtomicUsize, Ordering};
 use std::time::{Duration, Instant};
 
 use checks::Store;
@@ -13,6 +14,9 @@ use crate::Named;
 
 /// Rounds in which the stores are timed in turn, so that a busy stretch of the machine meets all.
 const ROUNDS: usize = 9;
+/// The memory lies elsewhere in each round, by so many blocks: where it lies beside the stack can cost a third.
+const PLACES: usize = 64;
+static PLACE: AtomicUsize = AtomicUsize::new(0);
 /// How long one call is measured in one round.
 const SPAN: Duration = Duration::from_millis(5);
 const MOST: usize = 4000;
@@ -31,6 +35,13 @@ pub fn rounds(stores: &[Named], time: impl Fn(&dyn Store) -> f64) -> Vec<f64> {
     least
 }
 
+/// The lesser times of each store.
+pub fn lesser(of: &mut [f64], than: &[f64]) {
+    for (a, b) in of.iter_mut().zip(than) {
+        *a = a.min(*b);
+    }
+}
+
 /// The least of as many rounds of something else.
 pub fn least(mut time: impl FnMut() -> f64) -> f64 {
     (0..ROUNDS).map(|_| typical(&mut time)).fold(f64::INFINITY, f64::min)
@@ -38,37 +49,43 @@ pub fn least(mut time: impl FnMut() -> f64) -> f64 {
 
 /// Nanoseconds of some calls, one after the other.
 pub fn calls(store: &dyn Store, filled: &Filled, calls: &[&Call]) -> f64 {
-    let made = |bytes: &mut Filled| {
+    let skipped = PLACE.fetch_add(5, Ordering::Relaxed) % PLACES * BLOCK;
+    let mut placed = vec![0; skipped + filled.memory.len()];
+    let memory = &mut placed[skipped..];
+    memory.copy_from_slice(&filled.memory);
+    let mut bytes = filled.clone();
+    let made = |memory: &mut [u8], bytes: &mut Filled| {
         for call in calls {
-            black_box(store.call(&mut bytes.memory, &mut bytes.scans, black_box(call)));
+            black_box(store.call(memory, &mut bytes.scans, black_box(call)));
         }
     };
-    let mut after = filled.clone();
-    made(&mut after);
-    let changed = changed_blocks(&filled.memory, &after.memory);
-    let list_changed = filled.scans != after.scans;
-    let mut bytes = filled.clone();
-    if changed.is_empty() && !list_changed {
+    made(memory, &mut bytes);
+    let changed = changed_blocks(&filled.memory, memory);
+    if changed.is_empty() && filled.scans == bytes.scans {
         return typical(|| {
             let start = Instant::now();
             for _ in 0..BATCH {
-                made(&mut bytes);
+                made(memory, &mut bytes);
             }
             start.elapsed().as_nanos() as f64 / f64::from(BATCH)
         });
     }
+    let undo = |memory: &mut [u8], bytes: &mut Filled| {
+        for block in &changed {
+            memory[block.clone()].copy_from_slice(&filled.memory[block.clone()]);
+        }
+        bytes.scans.copy_from_slice(&filled.scans);
+    };
+    undo(memory, &mut bytes);
     let look = typical(|| {
         let start = Instant::now();
         start.elapsed().as_nanos() as f64
     });
     let whole = typical(|| {
         let start = Instant::now();
-        made(&mut bytes);
+        made(memory, &mut bytes);
         let time = start.elapsed().as_nanos() as f64;
-        for block in &changed {
-            bytes.memory[block.clone()].copy_from_slice(&filled.memory[block.clone()]);
-        }
-        bytes.scans.copy_from_slice(&filled.scans);
+        undo(memory, &mut bytes);
         time
     });
     (whole - look).max(0.0)

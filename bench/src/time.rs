@@ -14,7 +14,7 @@ use crate::Named;
 
 /// Rounds in which the stores are timed in turn, so that a busy stretch of the machine meets all.
 const ROUNDS: usize = 9;
-/// The memory lies elsewhere in each round, by so many blocks: where it lies beside the stack can cost a third.
+/// The memory lies elsewhere in each round, at one of so many blocks, so that no figure hangs on one place.
 const PLACES: usize = 64;
 static PLACE: AtomicUsize = AtomicUsize::new(0);
 /// How long one call is measured in one round.

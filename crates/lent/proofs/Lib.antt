@@ -4,5 +4,8 @@ pub mod Written
 pub mod Rules
 pub mod Types
 pub mod Steps
+pub mod Tokens
+pub mod Further
+pub mod Hands
 pub mod Known
 pub mod laws

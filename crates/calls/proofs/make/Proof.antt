@@ -1,5 +1,6 @@
 -- `calls::make` meets its contract, by the law of its arguments.
 use mathlib.Core.Path.{_≡_}
+use mathlib.Core.List.{[], _∷_}
 use lib.ListN.{length}
 use contract.Running.{tablesOf}
 use borrow.Fn.World.{World}
@@ -7,7 +8,8 @@ use Rattle.layout.specs.Sizes.{shapeOf}
 use Rattle.making.specs.Made.{made}
 use Rattle.lent.specs.Lent.{isAccepted, freedIf}
 use Rattle.lent.proofs.Known.{len-known, made-known}
-use Rattle.lent.proofs.laws.list_vvvv as law
+use Rattle.lent.proofs.Further.{value}
+use Rattle.lent.proofs.laws.list as law
 use Rattle.lent.proofs.len_of.Symbol as len-of
 use Rattle.lent.proofs.free_made.Symbol as free-made
 use Rattle.making.proofs.make.Symbol as core
@@ -27,10 +29,10 @@ pub make-spec : {M : Type 1} → statement M
 unfolding code.routine tablesOf Makes
 make-spec {M} 𝓤 H 𝓜 𝓖 𝓡 =
     let w : World = record { M = M; 𝓤 = 𝓤; H = H; 𝓜 = 𝓜; 𝓖 = 𝓖; 𝓡 = 𝓡 } in
-    law.meets len-of.name core.name free-made.name last.name type.usize type.answer type.answer type.u32 type.u32 type.u32 type.u32
-    (λ l n. n ≡ length l) (λ m n a b c d x m′. (x, m′) ≡ made (shapeOf a b c d) n m) (λ l x l′. l′ ≡ freedIf (isAccepted x) l) (λ x z. z ≡ x)
-    (λ m l a b c d z m′ l′. Makes m l (shapeOf a b c d) z m′ l′)
-    (λ m l a b c d n x z m′ l′. made-so (λ y. y) (shapeOf a b c d) m n x z m′ l l′)
+    law.meets 0 len-of.name core.name free-made.name last.name type.usize type.answer type.answer (value type.u32 ∷ value type.u32 ∷ value type.u32 ∷ value type.u32 ∷ [])
+    (λ l n. n ≡ length l) (λ m n (a, (b, (c, (d, _)))) x m′. (x, m′) ≡ made (shapeOf a b c d) n m) (λ l x l′. l′ ≡ freedIf (isAccepted x) l) (λ x z. z ≡ x)
+    (λ m l (a, (b, (c, (d, _)))) z m′ l′. Makes m l (shapeOf a b c d) z m′ l′)
+    (λ m l (a, (b, (c, (d, _)))) n x z m′ l′. made-so (λ y. y) (shapeOf a b c d) m n x z m′ l l′)
     w code.env key.name (code.unfolded 𝓤 H 𝓜 𝓡)
     (len-known w code.env code.calls-lent·len-of)
     (core-reads.known w code.env core.name core.routine code.calls-making·make (core-thm.met 𝓤 H 𝓜 𝓖 𝓡))

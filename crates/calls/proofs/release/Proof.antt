@@ -1,11 +1,12 @@
 -- `calls::release` meets its contract, by the law of its arguments.
 use mathlib.Core.Path.{refl}
+use mathlib.Core.List.{[]}
 use contract.Running.{tablesOf}
 use borrow.Fn.World.{World}
 use Rattle.history.specs.History.{Call}
 use Rattle.model.specs.Calls.{placesAfter}
 use Rattle.promise.specs.Promise.{Leaves}
-use Rattle.lent.proofs.laws.write_n as law
+use Rattle.lent.proofs.laws.write as law
 use Rattle.upkeep.proofs.release.Symbol as core
 use Rattle.upkeep.proofs.release.Met as core-thm
 use Rattle.upkeep.proofs.release.Reads as core-reads
@@ -20,7 +21,7 @@ pub release-spec : {M : Type 1} → statement M
 unfolding code.routine tablesOf placesAfter Serves Leaves
 release-spec {M} 𝓤 H 𝓜 𝓖 𝓡 =
     let w : World = record { M = M; 𝓤 = 𝓤; H = H; 𝓜 = 𝓜; 𝓖 = 𝓖; 𝓡 = 𝓡 } in
-    law.meets core.name answer (λ m t z m′. Leaves m t Call.release z m′) (λ m l z m′. Serves m l Call.release z m′ l)
-    (λ m l t z m′. changed (λ a. a) Call.release (λ v ps. refl) m t z m′ l)
+    law.meets 0 core.name answer [] (λ m t _ z m′. Leaves m t Call.release z m′) (λ m l _ z m′. Serves m l Call.release z m′ l)
+    (λ m l _ t z m′. changed (λ a. a) Call.release (λ v ps. refl) m t z m′ l)
     w code.env key.name (code.unfolded 𝓤 H 𝓜 𝓡) code.calls-lent·table
     (core-reads.known w code.env core.name core.routine code.calls-upkeep·release (core-thm.met 𝓤 H 𝓜 𝓖 𝓡))

@@ -1,0 +1,230 @@
+-- The law of a call that changes the memory and only reads the list, with any further arguments that are handed on as they are.
+-- It takes the table of the list, and hands it to its core.
+--     l, fs           the lifetimes of the further arguments, and these
+--     cpost, post     what the core and the call ensure; neither requires anything
+-- That the one follows from the other is `ends`. Assumes nothing.
+use Prim.Native.Nat.{zero, suc}
+use mathlib.Core.Path.{ap, subst, _∙_}
+use prog.Routine as routine
+use prog.Wp.{Closed, spotOf}
+use contract.Running.{tables, givenOf}
+use borrow.Fn.Written.{Holds}
+use borrow.Fn.Frame.{rowsFrom, from}
+use borrow.Fn.Function.{Γin, Γret, Δret}
+use borrow.Fn.Leases.{leases}
+use base.Logic.{ent, id⊢}
+use borrow.Table.Row.{Entry, Rho, St, tl, out}
+use borrow.Table.Own.{own}
+use Rattle.scans.specs.declared.Scans.{Scans}
+use Rattle.scans.specs.Table.{tableOf}
+use Rattle.lent.proofs.table.Symbol as table
+use Rattle.lent.proofs.table.Met as table-thm
+use Rattle.lent.proofs.Rules.{_≡_, refl, List, [], _∷_, ℕ, URA, some, Ty, Body, tyInt, named, imm, mut, w8, w64, copy, place, field, deref, seq, call, return, assign, addrOf, aggregate, Name, Heap, Tables, Env, Atoms, Given, Lfts, Shares, now, sliceTy, Row, Cx, Life, lease, off, alive, dead, sslice, any-gone, room-gone, as-is, Typed, Outs, TF, Both, Asks, Gives, both, ask, give, pass, atRet, t-return, s-seq, g-pre, n-room, g-room, oFld, g-begin, g-end, g-forget, reads-sslice, lenV, mslice, msleft, reads-mslice, mslice-owed, msptr, asMut, k-sl-relend, t-sl-relend, k-sl-aggregate, t-sl-aggregate, reads-owed-len, k-back-sl, g-back-sl, pShrS, spares-sslice, pMutS, fix-len, EnvOf, tysP, PK, Out, tyR, callB, sub-id, Known, t-call-plain, t-fn-plain, fnOf, Over, World, Place, byte, entry, bytes, places, memory-again, at, none-asked}
+use Rattle.lent.proofs.Plain.{Plain, type, full, gone, arg, res, copied, room}
+use Rattle.lent.proofs.Types.{t}
+use Rattle.lent.proofs.Further.{Further}
+use Rattle.lent.proofs.Hands.{heres, handeds, rows, beyond, ats, Vals, see-all, sees-all, pastU, layU, liftU, lays, lifts, parts, t-call-further, has-all, lends-past, spots, spot-free, nth, Nth, sees-shown, shown-see, fixes, fresh-all}
+use Rattle.lent.proofs.Tokens.{up, ins, del, ups, lent-on}
+use Rattle.lent.proofs.Written as written
+
+module _ (l : ℕ) (core : Name) (r : Plain) (fs : List (Further 2 1 1 l)) where
+  abbrev pub ps : List (PK (up 2 l))
+  ps = pMutS byte 0 tt ∷ pShrS entry 1 tt ∷ heres fs
+
+  abbrev pub ps-load : List (PK 1)
+  ps-load = pShrS entry 0 tt ∷ []
+
+  abbrev pub ps-core : List (PK (up 1 l))
+  ps-core = pMutS byte 0 tt ∷ arg t ∷ handeds fs
+
+  abbrev own-m : Ty
+  own-m = bytes (named 0) mut
+
+  abbrev pub xs : List Ty
+  xs = type t ∷ memory-again ∷ sliceTy memory-again ∷ []
+
+  -- the first local after the arguments
+  abbrev T : ℕ
+  T = beyond 3 fs
+
+  abbrev pub body : Body
+  body =
+      seq (call table.name (at 2 ∷ []) (place T []))
+      (seq (assign (place (suc T) []) (addrOf (place 1 (field 0 ∷ deref (tyInt w8) ∷ []))))
+      (seq (assign (place (suc (suc T)) []) (aggregate (at (suc T) ∷ copy (place 1 (field 1 ∷ [])) ∷ [])))
+      (seq (call core (at (suc (suc T)) ∷ at T ∷ ats 3 fs) (place 0 []))
+      return)))
+
+  abbrev βs : List ℕ
+  βs = 2 ∷ ups 3 l
+
+  module _ (cpost : List ℕ → Scans → Vals fs → r .ty .Denot → List ℕ → Type 0) (post : List ℕ → List Place → Vals fs → r .ty .Denot → List ℕ → Type 0) where
+    abbrev pub Q-load : Out 1 ps-load (res t)
+    Q-load κs a z e = z ≡ tableOf (now (a .0))
+
+    abbrev pub Q-core : Out (up 1 l) ps-core (res r)
+    Q-core κs a z e = cpost (now (a .0)) (a .1 .0) (sees-all κs fs (a .1 .1)) z (now (e .0))
+
+    abbrev pub Q-call : Out (up 2 l) ps (res r)
+    Q-call κs a z e = post (now (a .0)) (now (a .1 .0)) (see-all κs fs (a .1 .1)) z (now (e .0))
+
+    module _ (κs : Lfts (up 2 l)) (qs : Shares (up 2 l)) where
+      abbrev life-m : Life
+      life-m = lease (κs .0) (qs .0)
+
+      abbrev list : Entry
+      list = (2, sslice entry (places (named 1) imm) 1)
+
+      abbrev F : Row → List Entry
+      F l0 = (0, l0) ∷ (1, mslice byte own-m 0) ∷ list ∷ []
+
+      -- the locals and the slots whose content changes
+      abbrev G : Row → Row → Row → Row → Row → Life → Life → Cx
+      G l0 l1 lt lp ls s0 s2 =
+          record {
+            locals = (0, l0) ∷ (1, l1) ∷ list ∷ (T, lt) ∷ (suc T, lp) ∷ (suc (suc T), ls) ∷ rowsFrom 3 (rows fs);
+            slots = s0 ∷ lease (κs .1 .0) (qs .1 .0) ∷ s2 ∷ leases l (κs .1 .1) (qs .1 .1) 0;
+          }
+
+      abbrev mine : Row
+      mine = mslice byte own-m 0
+
+      abbrev owed : Row
+      owed = mslice-owed byte own-m 0 2 life-m
+
+      abbrev no-ptr : Row
+      no-ptr = any-gone memory-again
+
+      abbrev no-slice : Row
+      no-slice = any-gone (sliceTy memory-again)
+
+      abbrev G0 : Cx
+      G0 = G (gone r) mine (gone t) no-ptr no-slice life-m off
+
+      abbrev G1 : Cx
+      G1 = G (gone r) mine (full t) no-ptr no-slice life-m off
+
+      abbrev G2 : Cx
+      G2 = G (gone r) mine (full t) no-ptr no-slice life-m alive
+
+      abbrev G3 : Cx
+      G3 = G (gone r) owed (full t) (msptr byte memory-again 2) no-slice off alive
+
+      abbrev G4 : Cx
+      G4 = G (gone r) owed (full t) no-ptr (mslice byte memory-again 2) off alive
+
+      abbrev G5 : Cx
+      G5 = G (full r) owed (full t) no-ptr (msleft byte memory-again) off alive
+
+      abbrev G6 : Cx
+      G6 = G (full r) owed (gone t) no-ptr (msleft byte memory-again) off alive
+
+      abbrev G7 : Cx
+      G7 = G (full r) owed (gone t) no-ptr (msleft byte memory-again) off dead
+
+      abbrev G8 : Cx
+      G8 = G (full r) mine (gone t) no-ptr no-slice life-m dead
+
+      abbrev G9 : Cx
+      G9 = G (full r) mine (gone t) no-ptr no-slice life-m off
+
+      abbrev Γ : Cx
+      Γ = Γin (up 2 l) ps (res r) xs 0 κs qs
+
+      abbrev Γ′ : Cx
+      Γ′ = Γret (up 2 l) ps (res r) xs 0 κs qs
+
+      abbrev Δ : Outs
+      Δ = Δret (up 2 l) ps (res r) xs 0 κs qs
+
+      abbrev s-load : Both G0 G1
+      s-load = callB ps-load (res t) (none-asked ps-load) Q-load G0 (record { pos = 2; ty = (places (named 1) imm); ref = λ x. x }, tt) 3 (1 ∷ []) (type t)
+
+      abbrev s-lend : Gives G2 G3
+      s-lend = k-sl-relend byte G2 1 4 0 2 own-m memory-again life-m (λ x. x)
+
+      abbrev s-join : Asks G3 G4
+      s-join = k-sl-aggregate byte (asMut byte) G3 4 5 2 memory-again memory-again (λ x. x) (oFld 1 (field 1 ∷ []) (tyInt w64) 8 (λ v. lenV (v .0)))
+
+      abbrev s-core : Both G4 G5
+      s-core = parts fs 3 (pMutS byte 0 tt ∷ arg t ∷ []) (res r) Q-core G4 (record { pos = 5; ty = memory-again; ref = λ x. x }, (record { pos = 3; st = []; d = 0; at = λ x. x }, tt)) (pastU 6 (out 5 (G4 .locals))) 0 βs (type r)
+
+      abbrev s-back : Both G7 G8
+      s-back = k-back-sl byte G7 5 1 0 2 own-m memory-again life-m (λ x. x) (λ x. x)
+
+      abbrev Φ : TF Γ Δ
+      Φ Ψ =
+          pass Γ G0 (layU κs (F (gone r)) 3 fs xs)
+          (both s-load
+          (give s-lend
+          (ask s-join
+          (both s-core
+          (pass G5 G6 (n-room G5 3 (type t))
+          (both s-back
+          (pass G9 Γ′ (liftU κs (F (full r)) 3 fs xs)
+          (atRet Δ Ψ))))))))
+
+      module _ {M : Type 1} (𝓤 : URA M) (H : Heap 𝓤) (A : Atoms 𝓤) (W : Given 𝓤 H A) (𝓣 : Tables 𝓤 H) (k-load : Known 𝓤 H A W 𝓣 1 ps-load (res t) (none-asked ps-load) Q-load table.name) (k-core : Known 𝓤 H A W 𝓣 (up 1 l) ps-core (res r) (none-asked ps-core) Q-core core) (bs : List ℕ) where
+        abbrev E : Env 𝓤 H
+        E = EnvOf 𝓤 H (tyR (res {n = up 2 l} r) ∷ tysP ps xs) bs
+
+        here : from 3 E ≡ EnvOf 𝓤 H (tysP (heres fs) xs) (tl (tl (tl bs)))
+        unfolding from
+        here = refl
+
+        spot : (k : ℕ) → Nth k xs → spotOf 𝓤 H E (up k T) .0 ≡ nth k xs
+        spot = spot-free 𝓤 H A E 3 fs xs (tl (tl (tl bs))) here
+
+        front-in : (ρ : Rho) (u : St (F (gone r))) → ent 𝓤 (own 𝓤 H A E ρ (F (gone r)) u) (own 𝓤 H A E (ins 2 1 ρ) (F (gone r)) u)
+        unfolding own
+        front-in ρ u = id⊢ 𝓤 (own 𝓤 H A E ρ (F (gone r)) u)
+
+        front-out : (ρ : Rho) (u : St (F (full r))) → ent 𝓤 (own 𝓤 H A E ρ (F (full r)) u) (own 𝓤 H A E (del 2 1 ρ) (F (full r)) u)
+        unfolding own
+        front-out ρ u = id⊢ 𝓤 (own 𝓤 H A E ρ (F (full r)) u)
+
+        typed : Typed 𝓤 H A 𝓣 E Γ body Δ Φ
+        typed =
+            g-pre 𝓤 H A W 𝓣 E Γ G0 _ Δ (pass Γ G0 (layU κs (F (gone r)) 3 fs xs)) _ (lays 𝓤 H A E W κs qs (F (gone r)) 3 fs xs front-in)
+            (s-seq 𝓤 H A W 𝓣 E G0 G1 _ _ Δ (both s-load) _ (t-call-plain 𝓤 H A W 𝓣 1 ps-load (res t) (none-asked ps-load) Q-load table.name k-load E (λ pos β. β) G0 (record { pos = 2; ty = (places (named 1) imm); ref = λ x. x }, tt) 3 (1 ∷ []) (sub-id 𝓤 H A W (G0 .slots)) (spares-sslice 𝓤 H A W entry (places (named 1) imm) 1, reads-sslice 𝓤 H A W entry (places (named 1) imm) 1, refl, tt) (room-gone 𝓤 H A (type t)) (tt, tt) (spot 0 tt))
+            (g-pre 𝓤 H A W 𝓣 E G1 G2 _ Δ (λ Ψ. Ψ) _ (g-begin 𝓤 H A W E G1 2 (tt, (tt, (tt, (tt, (tt, (tt, fresh-all 2 tt 3 fs)))))))
+            (s-seq 𝓤 H A W 𝓣 E G2 G3 _ _ Δ (give s-lend) _ (t-sl-relend 𝓤 H A W E byte 𝓣 G2 1 4 0 2 own-m memory-again life-m 0 (λ x. x) (as-is 𝓤 H A mine) (room-gone 𝓤 H A memory-again) refl tt refl refl (spot 1 tt) (λ b o. tt))
+            (s-seq 𝓤 H A W 𝓣 E G3 G4 _ _ Δ (ask s-join) _ (t-sl-aggregate 𝓤 H A W E byte 𝓣 (asMut byte) G3 4 5 2 memory-again memory-again (λ x. x) (oFld 1 (field 1 ∷ []) (tyInt w64) 8 (λ v. lenV (v .0))) (as-is 𝓤 H A (msptr byte memory-again 2)) (room-gone 𝓤 H A (sliceTy memory-again)) (reads-owed-len 𝓤 H A W byte own-m 0 2 life-m 8 refl, refl) (spot 1 tt) (spot 2 tt) (λ b o k. tt))
+            (s-seq 𝓤 H A W 𝓣 E G4 G5 _ _ Δ (both s-core) _ (t-call-further fs 3 (pMutS byte 0 tt ∷ arg t ∷ []) (res r) Q-core G4 (record { pos = 5; ty = memory-again; ref = λ x. x }, (record { pos = 3; st = []; d = 0; at = λ x. x }, tt)) (pastU 6 (out 5 (G4 .locals))) 0 βs 𝓤 H A W 𝓣 core E k-core (λ pos β. β) (sub-id 𝓤 H A W (G4 .slots))
+            (as-is 𝓤 H A (mslice byte memory-again 2), reads-mslice 𝓤 H A W byte memory-again 2, spot 2 tt, ((copied t 𝓤 H A W, ap (λ (τ : Ty). some (τ, zero)) (spot 0 tt)), has-all 𝓤 H A E βs (λ pos β. β) 3 fs (out 5 (G4 .locals)) (pastU 6 (out 5 (G4 .locals))) (lends-past 𝓤 H A E 6 (out 5 (G4 .locals))) (spots 𝓤 H A E 3 fs xs (tl (tl (tl bs))) here) refl))
+            (tt, lent-on (_ ∷ _ ∷ _ ∷ []) l (κs .1 .1) (qs .1 .1)) (room-gone 𝓤 H A (type r)) refl)
+            (g-pre 𝓤 H A W 𝓣 E G5 G6 _ Δ (pass G5 G6 (n-room G5 3 (type t))) _ (g-room 𝓤 H A W E G5 3 (type t) (room t 𝓤 H A W))
+            (g-pre 𝓤 H A W 𝓣 E G6 G7 _ Δ (λ Ψ. Ψ) _ (g-end 𝓤 H A W E G6 2 refl)
+            (g-pre 𝓤 H A W 𝓣 E G7 G8 _ Δ (both s-back) _ (g-back-sl 𝓤 H A W E byte G7 5 1 0 2 own-m memory-again life-m (λ x. x) (λ x. x) (as-is 𝓤 H A (msleft byte memory-again)) (as-is 𝓤 H A owed) refl refl)
+            (g-pre 𝓤 H A W 𝓣 E G8 G9 _ Δ (λ Ψ. Ψ) _ (g-forget 𝓤 H A W E G8 2 dead refl)
+            (g-pre 𝓤 H A W 𝓣 E G9 Γ′ _ Δ (pass G9 Γ′ (liftU κs (F (full r)) 3 fs xs)) _ (lifts 𝓤 H A E W κs qs (F (full r)) 3 fs xs front-out)
+            (t-return 𝓤 H A W 𝓣 E Δ tt)))))))))))
+
+    module _ (ends : (m : List ℕ) (p : List Place) (x : Vals fs) (u : Scans) (z : r .ty .Denot) (m′ : List ℕ) → u ≡ tableOf p → cpost m u x z m′ → post m p x z m′) where
+      pub meets : (w : World) (γ : routine.Env) (k : Name)
+          → Closed (w .𝓤) (w .H) (tables (w .𝓤) (w .H) (w .𝓜) (w .𝓡) γ .C) (tables (w .𝓤) (w .H) (w .𝓜) (w .𝓡) γ .Λ) k (fnOf (up 2 l) ps (res r) xs 0 [] body)
+          → γ table.name ≡ table.routine
+          → Known (w .𝓤) (w .H) (w .𝓖 .A) (givenOf (w .𝓤) (w .H) (w .𝓜) (w .𝓖)) (Over (w .𝓤) (w .H) (w .𝓜) (w .𝓖) (w .𝓡) γ) (up 1 l) ps-core (res r) (none-asked ps-core) Q-core core
+          → Holds (up 2 l) ps (res r) (Unit {0}) (written.free (up 2 l) ps (res r) Q-call) (written.ens (up 2 l) ps (res r) Q-call) w (w .𝓡 .run (γ k))
+      meets w γ k closed k-load k-core =
+          let W : Given (w .𝓤) (w .H) (w .𝓖 .A) = givenOf (w .𝓤) (w .H) (w .𝓜) (w .𝓖) in
+          let 𝓣 : Tables (w .𝓤) (w .H) = Over (w .𝓤) (w .H) (w .𝓜) (w .𝓖) (w .𝓡) γ in
+          written.close-free (up 2 l) ps (res r) Q-call w γ k _ closed
+          (t-fn-plain (w .𝓤) (w .H) (w .𝓖 .A) W 𝓣 (up 2 l) ps (res r) xs 0 [] body (λ κs qs bs. Φ κs qs)
+          (λ κs qs bs bd. typed κs qs (w .𝓤) (w .H) (w .𝓖 .A) W 𝓣 (written.known-free 1 ps-load (res t) Q-load w γ table.name table.routine k-load (table-thm.met (w .𝓤) (w .H) (w .𝓜) (w .𝓖) (w .𝓡))) k-core bs) (none-asked ps) Q-call
+          (λ κs qs a good pre bs. (
+            λ κ. tt,
+            λ g-load. λ lent. (
+              refl,
+              (
+                λ κ. tt,
+                λ g-core. (
+                  refl,
+                  λ back. (
+                    (fix-len (a .0 .ptr) (a .0 .name) (g-core .2 .0) (a .0 .now) (g-core .4 .0), (refl, fixes κs 3 fs xs (a .1 .1) _)),
+                    ends _ _ _ _ _ _ (g-load .5) (subst (λ (x : Vals fs). cpost (now (a .0)) (g-load .1) x (g-core .1) (g-core .2 .0)) (sees-shown (g-core .0) 3 fs _ _ _ ∙ shown-see κs (g-core .0) 3 fs xs (a .1 .1)) (g-core .5)),
+                  ),
+                ),
+              ),
+            ),
+          )))

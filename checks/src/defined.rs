@@ -479,13 +479,21 @@ impl View {
         bit(x.mask, c) && x.kind == 1 && x.state == 1
     }
 
-    fn any_open(&self, g: usize, low: usize, n: usize) -> bool {
-        (1..=n).any(|i| self.record_in(self.slot(g, low + i)).state == 0)
+    fn named_in(&self, page: usize) -> bool {
+        let place = self.page_in(page).place as usize;
+        place < self.layout.columns * self.layout.ranges
+            && self.get(Region::Current, place) as usize == page
+    }
+
+    fn stray_in(&self, page: usize) -> bool {
+        self.page_in(page).state == 1 && !self.named_in(page)
     }
 
     fn free_in(&self) -> usize {
         let free = |page: &usize| self.page_in(*page).state == 0;
-        (0..self.layout.pages).find(free).unwrap_or(self.layout.pages)
+        let stray = |page: &usize| self.stray_in(*page);
+        let mut pages = 0..self.layout.pages;
+        pages.clone().find(free).or_else(|| pages.find(stray)).unwrap_or(self.layout.pages)
     }
 
     fn merged_in(mut self, g: usize, c: usize, through: usize) -> View {
@@ -543,7 +551,7 @@ fn value_of(values: &[i32], column: usize) -> u32 {
 // Calls
 impl View {
     fn not_open_in(&self, transaction: u32) -> bool {
-        !self.opens().iter().any(|word| bears(transaction, *word))
+        !self.open_in(transaction)
     }
 
     fn not_given_in(&self, row: u32) -> bool {
@@ -562,15 +570,29 @@ impl View {
         mask == 0 || u32::from(mask) >= 1 << self.layout.columns
     }
 
-    fn held_in(&self, transaction: u32, row: u32) -> bool {
-        let (x, y) = (self.row_in(row as usize), self.head_in(row as usize));
-        (x.state == 0 && x.transaction != transaction)
-            || (self.has_record(row as usize) && y.state == 0 && y.transaction != transaction)
+    fn open_in(&self, transaction: u32) -> bool {
+        self.opens().iter().any(|word| bears(transaction, *word))
     }
 
-    fn gone_in(&self, row: u32) -> bool {
-        let (x, y) = (self.row_in(row as usize), self.head_in(row as usize));
-        x.state > 1 || (self.has_record(row as usize) && y.kind > 1 && y.state <= 1)
+    fn any_record(&self, row: u32, test: impl Fn(&RecordWords) -> bool) -> bool {
+        let g = range_of(row as usize);
+        (1..=self.used_in(g) as usize).any(|k| {
+            let x = self.record_in(self.slot(g, k));
+            x.row == row && test(&x)
+        })
+    }
+
+    fn held_in(&self, transaction: u32, row: u32) -> bool {
+        let other = |number: u32| self.open_in(number) && number != transaction;
+        other(self.row_in(row as usize).transaction)
+            || self.any_record(row, |x| other(x.transaction))
+    }
+
+    fn gone_in(&self, transaction: u32, row: u32) -> bool {
+        let stands = |number: u32, state: u32| number == transaction || state == 1;
+        let x = self.row_in(row as usize);
+        !stands(x.transaction, x.state)
+            || self.any_record(row, |y| y.kind > 1 && stands(y.transaction, y.state))
     }
 
     fn lacks_in(&self, row: u32, wanted: u32) -> bool {
@@ -581,9 +603,8 @@ impl View {
         self.page_in(self.current_in(g, c)).lineage
     }
 
-    fn open_among_in(&self, g: usize, c: usize, through: u32) -> bool {
-        let low = self.lineage_in(g, c);
-        self.any_open(g, low as usize, through.saturating_sub(low) as usize)
+    fn open_among_in(&self, g: usize, through: u32) -> bool {
+        (1..=through as usize).any(|k| self.open_in(self.record_in(self.slot(g, k)).transaction))
     }
 
     /// The refusals in the stated order, each with whether it applies. A test is only looked at
@@ -609,7 +630,7 @@ impl View {
                 test(5, &|| self.not_given_in(row));
                 test(8, &|| self.bad_mask(mask));
                 test(9, &|| self.held_in(transaction, row));
-                test(10, &|| self.gone_in(row));
+                test(10, &|| self.gone_in(transaction, row));
                 let wanted = || self.records_wanted(row as usize, u32::from(mask));
                 test(12, &|| self.lacks_in(row, wanted()));
             }
@@ -617,7 +638,7 @@ impl View {
                 test(3, &|| self.not_open_in(transaction));
                 test(5, &|| self.not_given_in(row));
                 test(9, &|| self.held_in(transaction, row));
-                test(10, &|| self.gone_in(row));
+                test(10, &|| self.gone_in(transaction, row));
                 test(12, &|| self.lacks_in(row, 1));
             }
             Call::Commit { transaction, stamp } => {
@@ -660,7 +681,7 @@ impl View {
                 test(7, &|| self.no_range(range));
                 test(6, &|| self.no_column(column));
                 test(16, &|| through <= self.lineage_in(g, c) || self.used_in(g) < through);
-                test(17, &|| self.open_among_in(g, c, through));
+                test(17, &|| self.open_among_in(g, through));
                 test(18, &|| self.layout.pages <= self.free_in());
             }
             Call::Release => {}

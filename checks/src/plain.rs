@@ -137,7 +137,7 @@ impl<const FAULT: u8> Table<'_, FAULT> {
                 let mask = u32::from(mask);
                 require(mask != 0 && mask >> self.layout.columns == 0, 8)?;
                 self.not_held(transaction, row)?;
-                self.not_gone(row)?;
+                self.not_gone(transaction, row)?;
                 let new = mask & !self.get(Region::RowMask, row);
                 self.tail_has(row, if new == 0 { 1 } else { 2 })?;
                 Ok(self.update(transaction, open, row, mask, values))
@@ -146,7 +146,7 @@ impl<const FAULT: u8> Table<'_, FAULT> {
                 let open = self.open(transaction)?;
                 let row = self.given(row)?;
                 self.not_held(transaction, row)?;
-                self.not_gone(row)?;
+                self.not_gone(transaction, row)?;
                 self.tail_has(row, 1)?;
                 Ok(self.delete(transaction, open, row))
             }
@@ -203,7 +203,7 @@ impl<const FAULT: u8> Table<'_, FAULT> {
                 let lineage = self.lineage(range, column, at);
                 require(lineage < through && through <= self.used(range), 16)?;
                 let (low, high) = (lineage as usize, through as usize);
-                require(!self.any_open(range, low, high), 17)?;
+                require(!self.any_open(range, high), 17)?;
                 let free = self.free_page().ok_or(18)?;
                 Ok(self.merge(range, column, low, high, at, free))
             }
@@ -280,29 +280,44 @@ impl<const FAULT: u8> Table<'_, FAULT> {
         (link != 0).then(|| self.layout.slot(row / ROWS, link))
     }
 
-    /// The inserter and the newest record tell it: only who holds a row adds records to it.
+    /// Each other open number looks through the records that name the row: most often there is none.
     fn not_held(&self, transaction: u32, row: usize) -> Result<(), u8> {
         let inserter = self.get(Region::RowTransaction, row);
-        require(self.get(Region::RowState, row) != state::OPEN || inserter == transaction, 9)?;
+        require(inserter == transaction || self.open(inserter).is_err(), 9)?;
         if FAULT == faults::HELD_BY_INSERTER_ONLY {
             return Ok(());
         }
-        let Some(head) = self.head(row) else {
-            return Ok(());
-        };
-        let open = self.get(Region::TailState, head) == state::OPEN;
-        require(!open || self.get(Region::TailTransaction, head) == transaction, 9)
+        let (at, used) = ((row / ROWS) * self.layout.capacity, self.used(row / ROWS) as usize);
+        let others = words(self.run(Region::Opens, 0, OPENS));
+        let held = others.filter(|other| *other != 0 && *other != transaction).any(|other| {
+            let rows = words(self.run(Region::TailRow, at, used));
+            let setters = words(self.run(Region::TailTransaction, at, used));
+            rows.zip(setters).fold(false, |any, (named, setter)| {
+                any | ((named == row as u32) & (setter == other))
+            })
+        });
+        require(!held, 9)
     }
 
-    /// An aborted delete ends nothing.
-    fn not_gone(&self, row: usize) -> Result<(), u8> {
-        require(self.get(Region::RowState, row) <= state::COMMITTED, 10)?;
-        let Some(head) = self.head(row) else {
-            return Ok(());
+    /// An aborted delete ends nothing; what is not open is aborted unless it says committed.
+    fn not_gone(&self, transaction: u32, row: usize) -> Result<(), u8> {
+        let stands = |number: u32, state: u32| {
+            (number == transaction)
+                | (state == state::COMMITTED)
+                | (FAULT == faults::ABORTED_DELETE_MAKES_GONE)
         };
-        let delete = self.get(Region::TailKind, head) >= kind::DELETE;
-        let aborted = self.get(Region::TailState, head) >= state::ABORTED;
-        require(!delete || (aborted && FAULT != faults::ABORTED_DELETE_MAKES_GONE), 10)
+        let inserter = self.get(Region::RowTransaction, row);
+        let state = self.get(Region::RowState, row);
+        require(inserter == transaction || state == state::COMMITTED, 10)?;
+        let (at, used) = ((row / ROWS) * self.layout.capacity, self.used(row / ROWS) as usize);
+        let rows = words(self.run(Region::TailRow, at, used));
+        let kinds = words(self.run(Region::TailKind, at, used));
+        let setters = words(self.run(Region::TailTransaction, at, used));
+        let states = words(self.run(Region::TailState, at, used));
+        let ended = rows.zip(kinds).zip(setters.zip(states)).fold(false, |any, (x, y)| {
+            any | ((x.0 == row as u32) & (x.1 >= kind::DELETE) & stands(y.0, y.1))
+        });
+        require(!ended, 10)
     }
 
     fn tail_has(&self, row: usize, wanted: u32) -> Result<(), u8> {

@@ -3,7 +3,7 @@
 use reference::Answer;
 
 use super::{faults, Table};
-use crate::memory::{header, kind, page, state, words, Region, ROWS, WORD};
+use crate::memory::{header, kind, page, state, words, Region, OPENS, ROWS, WORD};
 
 /// Words looked at together by the passes that seldom find what they look for.
 const STEP: usize = 16;
@@ -160,15 +160,28 @@ impl<const FAULT: u8> Table<'_, FAULT> {
         }
     }
 
-    /// Whether one of the records after `low`, through `high`, belongs to an open transaction.
-    pub(super) fn any_open(&self, range: usize, low: usize, high: usize) -> bool {
-        let states = self.run(Region::TailState, range * self.layout.capacity + low, high - low);
-        words(states).fold(false, |any, state| any | (state == state::OPEN))
+    /// Whether one of the records through `high` belongs to an open transaction.
+    pub(super) fn any_open(&self, range: usize, high: usize) -> bool {
+        let opens = words(self.run(Region::Opens, 0, OPENS));
+        opens.filter(|number| *number != 0).any(|number| {
+            words(self.run(Region::TailTransaction, range * self.layout.capacity, high))
+                .fold(false, |any, setter| any | (setter == number))
+        })
     }
 
+    /// The first page that says it is free, else the first that says current and whose place
+    /// does not name it.
     pub(super) fn free_page(&self) -> Option<usize> {
         let states = self.run(Region::PageState, 0, self.layout.pages);
-        words(states).position(|state| state == page::FREE)
+        let free = words(states).position(|state| state == page::FREE);
+        free.or_else(|| (0..self.layout.pages).find(|at| self.is_stray(*at)))
+    }
+
+    fn is_stray(&self, at: usize) -> bool {
+        let place = self.get(Region::PagePlace, at) as usize;
+        let named = place < self.layout.columns * self.layout.ranges
+            && self.get(Region::Current, place) as usize == at;
+        self.get(Region::PageState, at) == page::CURRENT && !named
     }
 
     /// Copies page `old` to page `new` and overwrites the cells by the committed settings of the

@@ -10,4 +10,4 @@ use Rattle.model.specs.Calls.{heldIn, goneIn, lacksIn}
 -- the last tests of a call that appends n tail records to row r
 abbrev pub appendTests : Shape → View → ℕ → ℕ → ℕ → List Test
 appendTests S v t r n =
-    Refusal.Held when heldIn S v t r ∷ Refusal.Gone when goneIn S v r ∷ Refusal.Tail when lacksIn S v r n ∷ []
+    Refusal.Held when heldIn S v t r ∷ Refusal.Gone when goneIn S v t r ∷ Refusal.Tail when lacksIn S v r n ∷ []

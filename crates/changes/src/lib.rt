@@ -63,7 +63,7 @@ fn append_tests(
     if held(mem, s, t, row) {
         return Tested::Failed(Refusal::Held);
     }
-    if gone(mem, s, row) {
+    if gone(mem, s, t, row) {
         return Tested::Failed(Refusal::Gone);
     }
     if lacks_records(mem, s, g, n) {

@@ -1,5 +1,4 @@
 -- Lemmas of the conditions.
 pub mod Masks
 pub mod Opens
-pub mod Rows
-pub mod Tails
+pub mod Records

@@ -1,23 +1,27 @@
 -- The forward pass of a merge, turn by turn, and that the page it writes is not the page it copies.
 use Prim.Native.Nat.{ℕ, zero, suc, _+_, _-_, _*_, _%_, _≤_, _<_}
-use mathlib.Core.Path.{_≡_, refl, ap, sym, _∙_}
+use mathlib.Core.Path.{_≡_, refl, ap, sym, _∙_, subst}
 use mathlib.Core.Logic.{_⊎_, inl, inr}
-use mathlib.Core.Bool.{Bool, true, false, cond}
+use mathlib.Core.Bool.{Bool, true, false, not, cond}
 use mathlib.Core.List.{List, [], _∷_}
 use native.Mathlib.Omega.{arith}
 use native.Mathlib.Numerals.{add-one}
-use lib.Dec.{eqb, ltb}
+use lib.Dec.{T, T-not, eqb, ltb, lt→ltb}
 use lib.ListN.{length, getD, set}
-use borrow.Author.Tests.{eqb-true, ltb-true, ltb-false}
+use borrow.Author.Tests.{ltb-true, ltb-false, lt-ltb, le-ltb, eq-eqb, ne-eqb}
 use Rattle.terms.specs.Measures.{Shape, rangeRows}
+use Rattle.loops.specs.declared.Found.{Found}
 use Rattle.loops.specs.Search.{region, firstAt}
 use Rattle.loops.specs.Change.{copied}
 use Rattle.layout.specs.declared.Sizes.{Sizes}
 use Rattle.layout.specs.declared.Region.{Region}
 use Rattle.layout.specs.View.{View, renew, put, copy}
 use Rattle.terms.specs.Places.{place}
-use Rattle.model.specs.Stored.{slot, recordIn, valueIn, pageIn, currentIn, pagesOf, within, freePage, firstFrom, nextWord}
-use Rattle.model.specs.Writing.{applies, applied, newestOf, freeIn, mergedIn}
+use Rattle.model.specs.Stored.{slot, recordIn, valueIn, pageIn, currentIn, placesOf, pagesOf, within, freePage, firstFrom, nextWord}
+use Rattle.model.specs.Writing.{applies, applied, newestOf, namedIn, strayIn, freeIn, mergedIn}
+use Rattle.model.proofs.Free.{free-unnamed}
+use Rattle.history.proofs.Lists.{both, eqb-equal}
+use Rattle.rows.proofs.Indices.{place-in}
 use Rattle.layout.specs.Sizes.{Proper}
 use Rattle.model.specs.Asked.{shapeIn}
 use Rattle.settling.specs.Steps.{foundAt}
@@ -131,22 +135,6 @@ apart a b d = go (ltb a b) refl
     go false e = let h : b ≤ a = ltb-false a b e in let k : b < a = omega (arith, d) in inr (omega arith)
 
 -- ---- the free page
-first-passes : (f : ℕ → Bool) (n i : ℕ) → firstFrom f n i < i + n → f (firstFrom f n i) ≡ true
-first-passes f zero i h = absurd (omega arith)
-first-passes f (suc n) i h = go (f i) refl (first-passes f n (suc i)) h
-  where
-    go : (b : Bool) → f i ≡ b → (firstFrom f n (suc i) < suc i + n → f (firstFrom f n (suc i)) ≡ true)
-        → cond b i (firstFrom f n (suc i)) < i + suc n → f (cond b i (firstFrom f n (suc i))) ≡ true
-    go true e ih k = e
-    go false e ih k = ih (omega arith)
-
-pub free-state : (S : Shape) (v : View) (p : ℕ) → p ≡ freeIn S v → p < pagesOf S → getD (v Region.PageState) p 0 ≡ 0
-unfolding freeIn pageIn
-free-state S v p e h =
-    let f : ℕ → Bool = λ q. freePage (getD (v Region.PageState) q 0) in
-    let k : firstFrom f (pagesOf S) 0 < 0 + pagesOf S = omega (arith, e) in
-    eqb-true (getD (v Region.PageState) p 0) 0 (ap f e ∙ first-passes f (pagesOf S) 0 k)
-
 -- the search over numbers is the search over a list
 pub first-list : (key : ℕ) (l : List ℕ) (n : ℕ) → length l ≡ n → firstFrom (λ p. eqb (getD l p 0) key) n 0 ≡ place (λ x. eqb x key) l
 first-list key l n e = ap (λ (k : ℕ). firstFrom (λ p. eqb (getD l p 0) key) k 0) (sym e) ∙ count l
@@ -165,13 +153,64 @@ first-list key l n e = ap (λ (k : ℕ). firstFrom (λ p. eqb (getD l p 0) key) 
     count (x ∷ l) =
         rw (shifted (λ p. eqb (getD (x ∷ l) p 0) key) (λ p. eqb (getD l p 0) key) (λ p. refl) (length l) 0, count l)
 
-pub free-found : (s : Sizes) (v : View) → Proper s → length (v Region.PageState) ≡ s .pages
-    → firstAt 0 0 (region (v Region.PageState) 0 (s .pages)) ≡ foundAt (s .pages) (freeIn (shapeIn s) v)
-unfolding freeIn pageIn
-free-found s v p l =
-    let q : s .pages ≡ pagesOf (shapeIn s) = omega (arith, p .pages-are, p .places-are) in
-    find-place 0 (v Region.PageState) (s .pages) l
-    ∙ ap (foundAt (s .pages)) (sym (first-list 0 (v Region.PageState) (s .pages) l) ∙ ap (λ (n : ℕ). firstFrom (λ p. eqb (getD (v Region.PageState) p 0) 0) n 0) q)
+free-first : (s : Sizes) (v : View) → length (v Region.PageState) ≡ s .pages
+    → firstAt 0 0 (region (v Region.PageState) 0 (s .pages)) ≡ foundAt (s .pages) (firstFrom (λ p. freePage ((pageIn v p) .state)) (s .pages) 0)
+unfolding pageIn
+free-first s v l = find-place 0 (v Region.PageState) (s .pages) l ∙ ap (foundAt (s .pages)) (sym (first-list 0 (v Region.PageState) (s .pages) l))
+
+module _ (s : Sizes) (v : View) (p : Proper s) (long : length (v Region.PageState) ≡ s .pages) where
+  abbrev first : ℕ
+  first = firstFrom (λ p. freePage ((pageIn v p) .state)) (s .pages) 0
+
+  abbrev second : ℕ
+  second = firstFrom (strayIn (shapeIn s) v) (s .pages) 0
+
+  free-both : freeIn (shapeIn s) v ≡ cond (ltb first (s .pages)) first second
+  unfolding freeIn
+  free-both = let q : s .pages ≡ pagesOf (shapeIn s) = omega (arith, p .pages-are, p .places-are) in rw q
+
+  pub free-here : (j : ℕ) → firstAt 0 0 (region (v Region.PageState) 0 (s .pages)) ≡ Found.At j → Found.At j ≡ foundAt (s .pages) (freeIn (shapeIn s) v)
+  free-here j e = rw free-both (go (ltb first (s .pages)) refl (sym (free-first s v long) ∙ e))
+    where
+      go : (b : Bool) → ltb first (s .pages) ≡ b → cond b (Found.At first) Found.Nothing ≡ Found.At j → Found.At j ≡ foundAt (s .pages) (cond b first second)
+      go true q f = rw q (sym f)
+      go false q f = let z : _≡_ {A = ℕ} 0 1 = cc in absurd (omega arith)
+
+  pub free-stray : (r : Found) → firstAt 0 0 (region (v Region.PageState) 0 (s .pages)) ≡ Found.Nothing → r ≡ foundAt (s .pages) second → r ≡ foundAt (s .pages) (freeIn (shapeIn s) v)
+  free-stray r e h = h ∙ rw free-both (go (ltb first (s .pages)) (sym (free-first s v long) ∙ e))
+    where
+      go : (b : Bool) → cond b (Found.At first) Found.Nothing ≡ Found.Nothing → foundAt (s .pages) second ≡ foundAt (s .pages) (cond b first second)
+      go true f = let z : _≡_ {A = ℕ} 0 1 = cc in absurd (omega arith)
+      go false f = refl
+
+-- ---- the search for a stray page, turn by turn
+module _ (f : ℕ → Bool) (n p : ℕ) (h : p < n) where
+  step : firstFrom f (n - p) p ≡ cond (f p) p (firstFrom f (n - (p + 1)) (p + 1))
+  step = let e : n - p ≡ suc (n - (p + 1)) = omega arith in let q : suc p ≡ p + 1 = omega arith in rw (e, q)
+
+  pub stray-here : (x : ℕ) (b : Bool) → x ≡ firstFrom f (n - p) p → b ≡ f p → b ≡ true → Found.At p ≡ foundAt n x
+  stray-here x b e q t = let z : x ≡ p = e ∙ step ∙ rw (← q, t) in rw (z, lt-ltb p n h)
+
+  pub stray-later : (x : ℕ) (b : Bool) → x ≡ firstFrom f (n - p) p → b ≡ f p → b ≡ false → x ≡ firstFrom f (n - (p + 1)) (p + 1)
+  stray-later x b e q t = e ∙ step ∙ rw (← q, t)
+
+pub stray-none : (f : ℕ → Bool) (n p x : ℕ) → x ≡ firstFrom f (n - p) p → p ≤ n → n ≤ p → Found.Nothing ≡ foundAt n x
+stray-none f n p x e h k = let z : n - p ≡ 0 = omega arith in let y : x ≡ p = e ∙ rw z in rw (y, le-ltb p n k)
+
+-- a page's words tell whether it is stray
+module _ (S : Shape) (v : View) (p state : ℕ) (e : state ≡ getD (v Region.PageState) p 0) where
+  pub stray-not : (state ≡ 1 → ⊥) → false ≡ strayIn S v p
+  unfolding strayIn pageIn
+  stray-not n = rw (← e, ne-eqb state 1 n)
+
+  module _ (s1 : state ≡ 1) (at : ℕ) (w : at ≡ getD (v Region.PagePlace) p 0) where
+    pub stray-high : placesOf S ≤ at → true ≡ strayIn S v p
+    unfolding strayIn namedIn pageIn
+    stray-high h = rw (← e, eq-eqb state 1 s1, ← w, le-ltb at (placesOf S) h)
+
+    pub stray-other : (page : ℕ) → at < placesOf S → page ≡ getD (v Region.Current) at 0 → not (eqb page p) ≡ strayIn S v p
+    unfolding strayIn namedIn pageIn
+    stray-other page h q = rw (← e, eq-eqb state 1 s1, ← w, lt-ltb at (placesOf S) h, ← q)
 
 -- ---- the whole merge, as the code has it: a copy of page `old` takes the records after `low`, and is put in its place
 pub merged-is : (S : Shape) (g c n p old low newest m latest : ℕ) (v x y z w : View) → p ≡ freeIn S v → old ≡ getD (v Region.Current) (g * S .columns + c) 0
@@ -182,15 +221,18 @@ unfolding mergedIn pageReplaced pagePut pageIn currentIn
 merged-is S g c n p old low newest m latest v x y z w e f h k l q r t u s =
     rw (s, u, t ∙ merged-cells S g c old p low (n - low) v x q, r ∙ merged-newest S g c old p low (n - low) newest v x q, l, k, h, f, ← e)
 
--- the current page is not the free one
+-- the current page is not the free one: its place names it
 pub not-free : (s : Sizes) (v : View) (g c n p old : ℕ) → Proper s → Mergeable s v g c n p → old ≡ getD (v Region.Current) (g * s .columns + c) 0
     → old ≡ p → ⊥
-unfolding pageIn currentIn
+unfolding namedIn
 not-free s v g c n p old w m e q =
-    let k : p < pagesOf (shapeIn s) = omega (arith, w .pages-are, w .places-are, m .page-below) in
-    let free : getD (v Region.PageState) p 0 ≡ 0 = free-state (shapeIn s) v p (m .free) k in
-    let used : getD (v Region.PageState) old 0 ≡ 1 = ap (λ (i : ℕ). getD (v Region.PageState) i 0) e ∙ m .current in
-    omega (arith, free, used, ap (λ (i : ℕ). getD (v Region.PageState) i 0) q)
+    let S : Shape = shapeIn s in
+    let i : ℕ = g * s .columns + c in
+    let k : p < pagesOf S = omega (arith, w .pages-are, w .places-are, m .page-below) in
+    let b : i < placesOf S = omega (arith, w .places-are, place-in s w g c (m .range-below) (m .column-below)) in
+    let at : (pageIn v old) .place ≡ i = rw (← e) at (m .placed .place i b) in
+    T-not (namedIn S v (freeIn S v)) (free-unnamed S v (m .placed) (omega (arith, m .free)))
+    (subst (λ (x : ℕ). T (namedIn S v x)) (q ∙ m .free) (both (ltb ((pageIn v old) .place) (placesOf S)) (eqb (getD (v Region.Current) ((pageIn v old) .place) 0) old) (lt→ltb ((pageIn v old) .place) (placesOf S) (omega (arith, at))) (eqb-equal (getD (v Region.Current) ((pageIn v old) .place) 0) old (ap (λ (j : ℕ). getD (v Region.Current) j 0) at ∙ sym e))))
 
 -- and its lineage is at most n
 pub reaches : (s : Sizes) (v : View) (g c n p old low : ℕ) → Mergeable s v g c n p → old ≡ getD (v Region.Current) (g * s .columns + c) 0

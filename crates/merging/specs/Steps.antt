@@ -13,7 +13,7 @@ use Rattle.layout.specs.View.{View, renew, put}
 use Rattle.layout.specs.Regions.{mergesAt}
 use Rattle.model.specs.Stored.{recordIn, pageIn, valueIn, currentIn, within, asFree, asCurrent, asWaiting, waitingPage}
 use Rattle.model.specs.Writing.{applies, applied, freeIn}
-use Rattle.model.specs.Asked.{shapeIn}
+use Rattle.model.specs.Asked.{shapeIn, Placed}
 
 -- ---- merge
 -- the record at slot k, a committed setting of column c, goes into page p
@@ -52,7 +52,7 @@ pub record Mergeable (s : Sizes) (v : View) (g c n p : ℕ) : Type 0 where
   pub to : n ≤ s .capacity
   pub free : p ≡ freeIn (shapeIn s) v
   pub page-below : p < s .pages
-  pub current : (pageIn v (currentIn (shapeIn s) v g c)) .state ≡ asCurrent
+  pub placed : Placed (shapeIn s) v
 
 -- ---- release
 -- the least of the first n numbers of a list, or the highest word

@@ -25,8 +25,8 @@ ghost use Rattle.layout.specs.declared.Region.{Region};
 ghost use Rattle.terms.specs.declared.Place.{Place};
 ghost use Rattle.layout.specs.Regions.{need};
 ghost use Rattle.layout.specs.View.{view, put};
-ghost use Rattle.model.specs.Stored.{recordIn, pagesOf, countBelow};
-ghost use Rattle.model.specs.Writing.{applies, newestOf, freeIn, mergedIn, releasable, releasedIn};
+ghost use Rattle.model.specs.Stored.{recordIn, pagesOf, countBelow, firstFrom};
+ghost use Rattle.model.specs.Writing.{applies, newestOf, strayIn, freeIn, mergedIn, releasable, releasedIn};
 ghost use Rattle.scans.specs.Places.{openCount};
 ghost use Rattle.scans.specs.Table.{tableOf};
 ghost use Rattle.layout.specs.Sizes.{Proper};
@@ -46,13 +46,49 @@ const COMMITTED: u32 = 1;
 
 // ---- merge
 
-// The first free page.
+// Whether a page says that it is current and its place does not name it.
+fn is_stray(mem: &[u8], s: Sizes, p: usize) -> bool
+    requires { ⌜ need s * 4 ≤ length (now mem) ⌝ }
+    requires { ⌜ Proper s × (p < s .pages) ⌝ }
+    ensures { λ r. ⌜ r ≡ strayIn (shapeIn s) (view s (words (now (mem .entry)))) p ⌝ }
+{
+    if read(mem, s, Region::PageState, p) != CURRENT {
+        return false;
+    }
+    let place = read(mem, s, Region::PagePlace, p) as usize;
+    if place >= s.places {
+        return true;
+    }
+    read(mem, s, Region::Current, place) as usize != p
+}
+
+// The first stray page. No call leaves one, so that only a memory from elsewhere has any.
+fn stray_page(mem: &[u8], s: Sizes) -> Found
+    requires { ⌜ need s * 4 ≤ length (now mem) ⌝ }
+    requires { ⌜ Proper s ⌝ }
+    ensures { λ r. ⌜ r ≡ foundAt (s .pages) (firstFrom (strayIn (shapeIn s) (view s (words (now (mem .entry))))) (s .pages) 0) ⌝ }
+{
+    let pages = s.pages;
+    let mut p = 0;
+    while p < pages {
+        if is_stray(mem, s, p) {
+            return Found::At(p);
+        }
+        p += 1;
+    }
+    Found::Nothing
+}
+
+// The first page that says it is free, else the first stray one.
 pub fn free_page(mem: &[u8], s: Sizes) -> Found
     requires { ⌜ need s * 4 ≤ length (now mem) ⌝ }
     requires { ⌜ Proper s ⌝ }
     ensures { λ r. ⌜ r ≡ foundAt (s .pages) (freeIn (shapeIn s) (view s (words (now (mem .entry))))) ⌝ }
 {
-    find_in(mem, s, Region::PageState, 0, s.pages, 0)
+    let Found::At(page) = find_in(mem, s, Region::PageState, 0, s.pages, 0) else {
+        return stray_page(mem, s);
+    };
+    Found::At(page)
 }
 
 // Whether the record at a slot is a committed setting of column c.

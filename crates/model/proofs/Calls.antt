@@ -131,7 +131,7 @@ module _ (S : Shape) (v : View) (ps : List Place) (h : History) (o : Represents 
 
   no-page-is : leb (pagesOf S) (freeIn S v) ≡ noPage S h
   unfolding noPage
-  no-page-is = free-is S v (h .merges) (o .pool)
+  no-page-is = free-is S v ps h o k
 
   pub tests-agree : (c : Call) → Agree (testsIn S v ps c) (tests S h c)
   unfolding testsIn tests H.allActive H.allGiven H.allRunning
@@ -141,12 +141,12 @@ module _ (S : Shape) (v : View) (ps : List Place) (h : History) (o : Represents 
   tests-agree (update t r m vs) =
       test (open-is t) (λ p. test (given-is r) (λ u. test refl (λ n.
       test (held-is S v ps h o k r (given-lt r u) t) (λ f.
-      test (gone-is S v ps h o k r (given-lt r u) t (is-active h t p) f) (λ q.
+      test (gone-is S v ps h o k r (given-lt r u) t) (λ q.
       test (lacks-is r _ _ (given-lt r u) (wanted-is S v ps h o k r m (given-lt r u) n t vs)) (λ z. done))))))
   tests-agree (delete t r) =
       test (open-is t) (λ p. test (given-is r) (λ u.
       test (held-is S v ps h o k r (given-lt r u) t) (λ f.
-      test (gone-is S v ps h o k r (given-lt r u) t (is-active h t p) f) (λ q.
+      test (gone-is S v ps h o k r (given-lt r u) t) (λ q.
       test (lacks-is r 1 1 (given-lt r u) refl) (λ z. done)))))
   tests-agree (commit t s) = test (open-is t) (λ p. test (not-later-is s) (λ q. done))
   tests-agree (abort t) = test (open-is t) (λ p. done)
@@ -161,7 +161,7 @@ module _ (S : Shape) (v : View) (ps : List Place) (h : History) (o : Represents 
   tests-agree (merge g c n) =
       test refl (λ p. test refl (λ q.
       test (reach-is g c n (range-lt g p) (column-lt c q)) (λ z.
-      test (open-among-is S v ps h o g c n (range-lt g p) (column-lt c q) (within-reach h g c n z .0) (within-reach h g c n z .1)) (λ w.
+      test (open-among-is S v ps h o k g n (range-lt g p) (within-reach h g c n z .1)) (λ w.
       test no-page-is (λ y. done)))))
   tests-agree release = done
   tests-agree (pageCell c r) = test refl (λ p. test (given-is r) (λ q. done))

@@ -1,25 +1,31 @@
--- A row's newest record, reached by the row's link, tells whether the row is held, gone or ended; and a reader sees a row exactly as in the history.
-use mathlib.Core.Path.{_≡_, refl, sym, _∙_, ap}
+-- Whether a row is held or gone, told by its records, and whether it is ended, told by its newest one, are as in the history; so a reader sees a row as there.
+use mathlib.Core.Path.{_≡_, refl, sym, _∙_, ap, ap₂}
 use mathlib.Core.Logic.{_≢_}
-use mathlib.Core.Bool.{Bool, false, not, _&&_, _||_, or-false}
+use mathlib.Core.Bool.{Bool, true, false, not, _&&_, _||_, or-false}
 use mathlib.Core.List.{List}
 use Prim.Native.Nat.{ℕ, zero, suc, _+_, _*_, _-_, _<_}
 use native.Mathlib.Omega.{arith}
-use lib.Dec.{T, leb, eqb, eqb·suc-zero}
+use native.Mathlib.Nat.{le-refl}
+use lib.Dec.{leb, eqb, eqb·suc-zero, le→leb}
 use lib.ListN.{length, getD}
+use lib.Seq.{take-length}
 use Rattle.terms.specs.Measures.{Shape}
-use Rattle.history.specs.History.{History, Record, State, unknown, active, aborted, committed, Content, original, setting, ending, isActive, committedBy, stateOf, rowAt, ends, rangeOf, recordsOf, seenAt, seenBy, visible, activeOther, held, gone}
-use Rattle.history.proofs.Lists.{clash, eqb-other}
+use Rattle.history.specs.History.{History, Record, State, unknown, active, aborted, committed, Content, original, setting, ending, committedBy, stateOf, rowAt, ends, rangeOf, recordsOf, seenAt, seenBy, ended, visible, activeOther, held, gone}
+use Rattle.history.proofs.Lists.{clash, is-true, eqb-other}
 use Rattle.history.specs.Latest.{stampOf}
-use Rattle.history.proofs.States.{isGiven, isAborted}
-use Rattle.history.proofs.Order.{placed-at}
+use Rattle.history.proofs.States.{Stamped}
+use Rattle.history.proofs.Steps.{anyOfRow}
+use Rattle.history.proofs.Ranges.{any-range}
 use Rattle.history.proofs.Links.{noRecord, lastOf, last-of-row}
-use Rattle.history.proofs.Newest.{recordIs, newestIs, held-newest, ended-newest, gone-newest}
+use Rattle.history.proofs.Newest.{recordIs, newestIs, ended-newest}
 use Rattle.layout.specs.View.{View}
+use Rattle.layout.specs.declared.Region.the-variants.{Opens}
 use Rattle.terms.specs.declared.Place.{Place}
-use Rattle.model.specs.Stored.{RecordWords, rowIn, recordIn, slot, openState, abortedState, deleteKind}
+use Rattle.model.specs.Stored.{RecordWords, rowIn, recordIn, slot, committedState, deleteKind, anyBelow}
 use Rattle.model.specs.Reading.{sees, seesRecord, headIn, hasRecord, visibleIn}
-use Rattle.model.specs.Calls.{heldIn, goneIn}
+use Rattle.model.specs.Calls.{openOther, standsFor, anyRecord, heldIn, goneIn}
+use Rattle.model.proofs.Lists.{any-below}
+use Rattle.model.proofs.Transactions.{opens-is}
 use Rattle.model.proofs.Represents.{stateWord, RowIs, ContentIs, TailOf, Represents, Known}
 
 pub slot-is : (S : Shape) (g k : ℕ) → slot S g (suc k) ≡ g * S .capacity + k
@@ -31,23 +37,16 @@ unfolding rangeOf
 in-range k r b = omega (arith, k .past .limits .rows)
 
 -- ---- words of states and kinds
-pub open-word : (s : State) → openState (stateWord s) ≡ isActive s
-unfolding isActive
-open-word unknown = refl
-open-word active = refl
-open-word aborted = refl
-open-word (committed s) = refl
-
-aborted-word : (s : State) → T (isGiven s) → abortedState (stateWord s) ≡ isAborted s
-aborted-word active g = refl
-aborted-word aborted g = refl
-aborted-word (committed s) g = refl
-
 delete-word : (C : ℕ) (y : Content) (kind mask : ℕ) (value : ℕ → ℕ) → ContentIs C y kind mask value → deleteKind kind ≡ ends y
 unfolding ends
 delete-word C (original cs vs) kind mask value o = rw (o .0)
 delete-word C (setting m vs) kind mask value o = rw (o .0)
 delete-word C ending kind mask value o = rw o
+
+not-and-not : (a b : Bool) → not (a && not b) ≡ (not a || b)
+not-and-not true true = refl
+not-and-not true false = refl
+not-and-not false b = refl
 
 -- ---- a reader, by the words and by the history
 unfoldable pub SeesAs : History → ℕ → ℕ → (ℕ → Bool) → Type 0
@@ -105,32 +104,55 @@ module _ (S : Shape) (v : View) (ps : List Place) (h : History) (o : Represents 
       go zero e = refl
       go (suc i) e = rw (eqb·suc-zero i, slot-is S (rangeOf r) i) (same i (last-of-row recs r (length recs) i e .0))
 
+  -- a test of all used records of the row
+  records-are : (F : RecordWords → Bool) (f : Record → Bool) → ((i : ℕ) → i < length recs → F (recordIn v (base + i)) ≡ f (getD recs i noRecord))
+      → anyRecord S v r F ≡ anyOfRow r f (h .tail)
+  records-are F f same =
+      ap (anyBelow (λ i. eqb ((recordIn v (base + i)) .row) r && F (recordIn v (base + i)))) (tail .used-all)
+      ∙ any-below recs noRecord _ (λ x. eqb (x .row) r && f x) (length recs) (le-refl _) (λ i u. ap₂ (λ (n : ℕ) (b : Bool). eqb n r && b) (tail .each i u .row) (same i u))
+      ∙ ap (anyOfRow r f) (take-length recs)
+      ∙ any-range h r f
+
+  other-is : (t n : ℕ) → openOther v t n ≡ activeOther h t n
+  unfolding openOther activeOther stateOf
+  other-is t n = ap (λ (b : Bool). b && not (eqb n t)) (opens-is (h .transactions) (v Opens) (o .opens) n)
+
   pub held-is : (t : ℕ) → heldIn S v t r ≡ held h t r
-  unfolding heldIn activeOther
+  unfolding heldIn held
   held-is t =
+      rw (
+        row .transaction,
+        other-is t ((rowAt h r) .inserter),
+        records-are (λ y. openOther v t (y .transaction)) (λ x. activeOther h t (x .transaction)) (λ i u. rw (tail .each i u .transaction) (other-is t _)),
+      )
+
+  -- who stands for the caller: itself and what is committed
+  stands-is : (t n : ℕ) → standsFor t n (stateWord (stateOf h n)) ≡ seenBy h t n
+  unfolding seenBy seenAt committedBy Stamped
+  stands-is t n = ap (λ (b : Bool). eqb n t || b) (go (stateOf h n) refl)
+    where
+      go : (s : State) → stateOf h n ≡ s → committedState (stateWord s) ≡ committedBy (h .last) s
+      go unknown e = refl
+      go active e = refl
+      go aborted e = refl
+      go (committed s) e = sym (is-true _ (le→leb s (h .last) (k .past .order .stamps n s e)))
+
+  pub gone-is : (t : ℕ) → goneIn S v t r ≡ gone h t r
+  unfolding goneIn gone visible ended
+  gone-is t =
       rw (
         row .state,
         row .transaction,
-        open-word (stateOf h ((rowAt h r) .inserter)),
-        head-is (λ y. openState (y .state) && not (eqb (y .transaction) t)) (λ x. activeOther h t (x .transaction))
-            (λ i u. rw (tail .each i u .state, tail .each i u .transaction, open-word (stateOf h ((getD recs i noRecord) .transaction)))),
-      )
-      (sym (held-newest h t r (k .past .order)))
-
-  pub gone-is : (t : ℕ) → stateOf h t ≡ active → T (not (held h t r)) → goneIn S v r ≡ gone h t r
-  unfolding goneIn
-  gone-is t a n =
-      rw (
-        row .state,
-        aborted-word (stateOf h ((rowAt h r) .inserter)) (k .past .order .inserters r b),
-        head-is (λ y. deleteKind (y .kind) && not (abortedState (y .state))) (λ x. ends (x .content) && not (isAborted (stateOf h (x .transaction))))
+        stands-is t ((rowAt h r) .inserter),
+        records-are (λ y. deleteKind (y .kind) && standsFor t (y .transaction) (y .state)) (λ x. ends (x .content) && seenBy h t (x .transaction))
             (λ i u. rw (
               delete-word (S .columns) ((getD recs i noRecord) .content) _ _ _ (tail .each i u .content),
               tail .each i u .state,
-              aborted-word (stateOf h ((getD recs i noRecord) .transaction)) (placed-at h (rangeOf r) (k .past .order) i noRecord u .giver),
+              tail .each i u .transaction,
+              stands-is t ((getD recs i noRecord) .transaction),
             )),
       )
-      (sym (gone-newest h t r (k .past .order) a b n))
+      (sym (not-and-not (seenBy h t ((rowAt h r) .inserter)) _))
 
   pub visible-is : (t me : ℕ) (f : ℕ → Bool) → SeesAs h t me f → visibleIn S v t me r ≡ visible f h r
   unfolding visibleIn visible SeesAs

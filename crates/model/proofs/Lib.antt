@@ -17,6 +17,7 @@ pub mod Update
 pub mod Scans
 pub mod Merge
 pub mod ScanPages
+pub mod Free
 pub mod Merged
 pub mod Release
 pub mod Calls

@@ -2,7 +2,7 @@
 -- the index of a part in a region of equal parts. Nothing here speaks of the store.
 use mathlib.Core.Path.{_≡_, refl, sym, _∙_, ap, fun-ext}
 use mathlib.Core.Logic.{_≢_}
-use mathlib.Core.Bool.{Bool, true, false, not, cond, _&&_, _||_, and-false, and-true}
+use mathlib.Core.Bool.{Bool, true, false, not, cond, _&&_, _||_, and-false, and-true, or-false}
 use mathlib.Core.List.{List, [], _∷_, _++_}
 use Prim.Native.Nat.{ℕ, zero, suc, _+_, _*_, _≤_, _<_, zero-le}
 use native.Mathlib.Omega.{arith}
@@ -16,7 +16,7 @@ use Rattle.history.specs.History.{any, count}
 pub use Rattle.history.proofs.Lists.{one}
 use Rattle.history.proofs.Lists.{by-cases, by-test, cond-suc, any-append, is-true, refuted, eqb-equal, eqb-same, eqb-other}
 use Rattle.terms.specs.Places.{place}
-use Rattle.model.specs.Stored.{firstFrom, countBelow}
+use Rattle.model.specs.Stored.{firstFrom, anyBelow, countBelow}
 
 pub true-false : true ≡ false → ⊥
 true-false e = let z : _≡_ {A = ℕ} 0 1 = cc in omega arith
@@ -110,6 +110,13 @@ module _ {A : Type 0} where
 
   pub take-next : (l : List A) (n : ℕ) (d : A) → n < length l → (f : A → Bool) → any f (take (suc n) l) ≡ (any f (take n l) || (f (getD l n d) || false))
   take-next l n d b f = rw (take-suc l n d b, any-append)
+
+  -- a test of the first n by their index
+  pub any-below : (l : List A) (d : A) (F : ℕ → Bool) (f : A → Bool) (n : ℕ) → n ≤ length l → ((i : ℕ) → i < n → F i ≡ f (getD l i d)) → anyBelow F n ≡ any f (take n l)
+  unfolding anyBelow
+  any-below l d F f zero b e = refl
+  any-below l d F f (suc n) b e =
+      rw (take-next l n d b f, or-false (f (getD l n d)), any-below l d F f n (omega arith) (λ i u. e i (omega arith)), e n (omega arith))
 
   -- ---- the place that is found
   pub place-lt : (f : A → Bool) (l : List A) → T (any f l) → place f l < length l

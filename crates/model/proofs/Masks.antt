@@ -75,13 +75,13 @@ bit-odd n e =
     go (suc zero) b e = clash (cc)
     go (suc (suc k)) b e = absurd (omega arith)
 
-below-bits : (k n : ℕ) → n < 2 ^ k → ((c : ℕ) → c < k → bit n c ≡ false) → n ≡ 0
+pub below-bits : (k n : ℕ) → n < 2 ^ k → ((c : ℕ) → c < k → bit n c ≡ false) → n ≡ 0
 below-bits zero n b f = omega arith
 below-bits (suc k) n b f =
     let h : n / 2 ≡ 0 = below-bits k (n / 2) (omega (arith, pow-suc 2 k)) (λ c u. bit-half n c ∙ f (suc c) (omega arith)) in
     omega (arith, bit-odd n (f 0 (omega arith)))
 
-below-power : (n : ℕ) → n < 2 ^ n
+pub below-power : (n : ℕ) → n < 2 ^ n
 below-power zero = omega arith
 below-power (suc n) = omega (arith, pow-suc 2 n, below-power n)
 

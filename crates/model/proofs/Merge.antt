@@ -2,7 +2,7 @@
 -- they found before.
 use mathlib.Core.Path.{_≡_, refl, sym, _∙_, ap}
 use mathlib.Core.Logic.{_≢_, _⊎_, inl, inr}
-use mathlib.Core.Bool.{Bool, true, false, cond, _&&_, _||_, and-false, or-false}
+use mathlib.Core.Bool.{Bool, true, false, cond, _&&_, and-false}
 use mathlib.Core.List.{List}
 use Prim.Native.Nat.{ℕ, zero, suc, _+_, _*_, _-_, _^_, _≤_, _<_, zero-le}
 use native.Mathlib.Omega.{arith}
@@ -14,7 +14,7 @@ use lib.Seq.{getD-set-same, getD-set-other, take-suc}
 use mir.Syntax.{w32}
 use mir.Val.{toZ}
 use Rattle.terms.specs.Measures.{Shape, rangeRows}
-use Rattle.history.specs.History.{History, Record, State, unknown, active, aborted, committed, Content, original, setting, ending, any, isActive, isCommitted, stateOf, bit, sets, newValue, inserted, versionIn, lastSetting, rangeOf, recordsOf}
+use Rattle.history.specs.History.{History, Record, State, unknown, active, aborted, committed, Content, original, setting, ending, isCommitted, stateOf, bit, sets, newValue, inserted, versionIn, lastSetting, rangeOf, recordsOf}
 use Rattle.history.specs.Lists.{All, nil, cons}
 use Rattle.history.proofs.Lists.{by-cases, by-test, all-append, all-map, all-at, eqb-other}
 use Rattle.history.specs.Latest.{stampOf}
@@ -27,11 +27,11 @@ use Rattle.loops.proofs.Change.{set-fit}
 use Rattle.layout.specs.View.{View}
 use Rattle.layout.specs.declared.Region.the-variants.{TailValues, TailStamp}
 use Rattle.model.specs.Stored.{recordIn, valueIn, slot, within, committedState, settingKind}
-use Rattle.model.specs.Writing.{applies, applied, newestOf, anyOpen}
-use Rattle.model.proofs.Lists.{take-next, is-equal}
+use Rattle.model.specs.Writing.{applies, applied, newestOf}
+use Rattle.model.proofs.Lists.{is-equal}
 use Rattle.model.proofs.Represents.{stateWord, ContentIs, RecordIs, TailOf, NotAfter}
 use Rattle.model.proofs.Holding.{same-row}
-use Rattle.model.proofs.Heads.{slot-is, open-word}
+use Rattle.model.proofs.Heads.{slot-is}
 
 committed-word : (s : State) → committedState (stateWord s) ≡ isCommitted s
 unfolding isCommitted
@@ -189,13 +189,3 @@ module _ (S : Shape) (v : View) (h : History) (g c p low : ℕ) (inside : c < S 
       stamp-last active f = zero-le
       stamp-last aborted f = zero-le
       stamp-last (committed a) f = f a refl
-
-  -- ---- test 17 looks at the records above the lineage only
-  pub any-open-is : any (λ (y : Record). isActive (stateOf h (y .transaction))) (take low recs) ≡ false → (k : ℕ) → low + k ≤ length recs
-      → anyOpen S v g low k ≡ any (λ (y : Record). isActive (stateOf h (y .transaction))) (take (low + k) recs)
-  unfolding anyOpen
-  any-open-is base zero b = rw add-zero (sym base)
-  any-open-is base (suc k) b =
-      let u : low + k < length recs = omega arith in
-      rw (take-at k, take-next recs (low + k) noRecord u (λ (y : Record). isActive (stateOf h (y .transaction))), any-open-is base k (omega arith), record-at k u .state, open-word (stateOf h ((rec k) .transaction)))
-      (ap (λ (z : Bool). any (λ (y : Record). isActive (stateOf h (y .transaction))) (take (low + k) recs) || z) (sym (or-false (isActive (stateOf h ((rec k) .transaction))))))

@@ -1,24 +1,24 @@
 -- Merge, the whole: the page taken, the page replaced, and what every other part sees of it.
 use mathlib.Core.Path.{_≡_, refl, sym, _∙_, ap}
 use mathlib.Core.Logic.{_≢_, _⊎_, inl, inr}
-use mathlib.Core.Bool.{Bool, true, false, not, cond, _&&_}
+use mathlib.Core.Bool.{Bool, true, false, cond, _&&_, and-true}
 use mathlib.Core.List.{List, [], _∷_, _++_}
-use Prim.Native.Nat.{ℕ, zero, suc, _+_, _*_, _-_, _%_, _^_, _≤_, _<_}
+use Prim.Native.Nat.{ℕ, zero, suc, _+_, _*_, _-_, _/_, _%_, _^_, _≤_, _<_}
 use native.Mathlib.Omega.{arith}
-use native.Mathlib.Nat.{mul-le-mul, mod-eq-of-lt, mul-comm}
+use native.Mathlib.Nat.{mul-le-mul, mod-lt, mod-eq-of-lt, div-add-mod', div-lt-iff-lt-mul, mul-comm}
 use native.Mathlib.Decide.{ℕ-discrete, decLt}
-use lib.Dec.{not-T, nleb→lt, T, leb, ltb, eqb, eqb→eq, leb→le, le→leb, ltb→lt, lt→ltb}
+use lib.Dec.{not-T, nleb→lt, T, leb, ltb, eqb, leb→le, ltb→lt, lt→ltb}
 use lib.ListN.{length, getD, take, length-append}
 use lib.Seq.{lt-length-set, getD-set-same, getD-set-other}
 use lib.IntN.{ℤ}
 use mir.Syntax.{w32}
 use mir.Val.{toZ}
 use Rattle.terms.specs.Measures.{Shape, rangeRows}
-use Rattle.history.specs.History.{merge, History, Record, State, committed, Merge, Scan, any, isActive, isCommitted, stateOf, rowAt, rangeOf, recordsOf, mergedThrough, anyActive, waitingPages, scanAt, inserted, lastSetting, withMerges, cellThrough, aborted}
-use Rattle.history.proofs.Lists.{by-cases, all-map, any-none, is-true, eqb-other, eqb-equal}
+use Rattle.history.specs.History.{merge, History, Record, Merge, Scan, isActive, isCommitted, stateOf, rowAt, rangeOf, recordsOf, mergedThrough, anyActive, waitingPages, scanAt, inserted, lastSetting, withMerges, cellThrough}
+use Rattle.history.proofs.Lists.{by-cases, is-true, eqb-other}
 use Rattle.history.proofs.Steps.{Mergeable, Step}
-use Rattle.history.proofs.States.{isClosed}
 use Rattle.history.proofs.Timely.{Timely}
+use Rattle.history.proofs.Links.{noRecord}
 use Rattle.history.proofs.Pages.{merge-through, lineage-step, lineage-stays}
 use Rattle.history.proofs.Merges.{merges-most, merged-page}
 use Rattle.loops.specs.Change.{copied}
@@ -27,19 +27,22 @@ use Rattle.layout.specs.View.{View, renew, put, mergesMade}
 use Rattle.layout.specs.Regions.{len, mergesAt}
 use Rattle.layout.specs.Sizes.{sizesOf}
 use Rattle.layout.specs.declared.Region.{Region}
-use Rattle.layout.specs.declared.Region.the-variants.{Header, Current, PageState, PagePlace, PageMade, PageReplaced, PageLineage, PageNewest, Cells, TailValues, TailStamp}
+use Rattle.layout.specs.declared.Region.the-variants.{Header, Opens, Current, PageState, PagePlace, PageMade, PageReplaced, PageLineage, PageNewest, Cells, TailValues, TailStamp}
 use Rattle.terms.specs.declared.Place.{Place}
 use Rattle.model.specs.Stored.{PageWords, rowIn, recordIn, valueIn, pageIn, cellIn, currentIn, placeOf, placesOf, pagesOf, within, nextWord, freePage, currentPage, waitingPage, asCurrent, asWaiting, countBelow}
 use Rattle.model.specs.Reading.{wasCurrent, scanPage}
-use Rattle.model.specs.Writing.{applied, newestOf, freeIn, mergedIn}
+use Rattle.model.specs.Writing.{applied, newestOf, strayIn, freeIn, mergedIn}
+use Rattle.model.specs.Asked.{Placed}
 use Rattle.model.specs.Calls.{openAmongIn}
-use Rattle.model.proofs.Lists.{one, count-from, from-snoc, first-is, first-only, first-ext, first-none, below-change, below-three, part-in, same-part, is-equal, same-truth}
-use Rattle.model.proofs.Represents.{Holds, everyRow, CurrentOf, CurrentsAre, WaitingIs, WaitingAre, madeIn, PoolIs, ScanPageIs, ScanPagesAre, Represents, Known, Whole}
+use Rattle.model.proofs.Lists.{one, any-below, count-from, from-snoc, first-only, first-ext, below-ext, below-change, below-three, part-in, same-part, is-equal}
+use Rattle.model.proofs.Represents.{Holds, everyRow, CurrentIs, CurrentOf, CurrentsAre, WaitingIs, WaitingAre, madeIn, PoolIs, ScanPageIs, ScanPagesAre, Represents, Known, Whole}
 use Rattle.model.proofs.Holding.{holds-step, holds-cells, same-rows}
 use Rattle.model.proofs.Steady.{current-step, current-cells, waiting-step, scan-cells, scan-page-step}
 use Rattle.model.proofs.Views.{renew-whole, put-whole, header-put, header-same}
 use Rattle.model.proofs.Insert.{current-apart}
-use Rattle.model.proofs.Merge.{applied-length, applied-fit, applied-outside, applied-is, newest-is, newest-fit, newest-last, any-open-is}
+use Rattle.model.proofs.Merge.{applied-length, applied-fit, applied-outside, applied-is, newest-is, newest-fit, newest-last}
+use Rattle.model.proofs.Transactions.{opens-is}
+use Rattle.model.proofs.Free.{page-count, free-none, found-free}
 use Rattle.model.proofs.Scans.{scan-current}
 use Rattle.model.proofs.ScanPages.{WasCurrent, was-current, is-current, unfound, unfound-state, search-same, search, search-is, found-page, Cases, scan-cases, scan-page-same}
 
@@ -61,46 +64,57 @@ holds-words {h} {c = c} e f o =
     }
 
 -- ---- the pool
-states-three : (w : ℕ) → one (freePage w) + one (currentPage w) + one (waitingPage w && true) ≡ 1
+states-three : (w : ℕ) → one (freePage w) + one (currentPage w) + one (waitingPage w) ≡ 1
 states-three zero = refl
 states-three (suc zero) = refl
 states-three (suc (suc w)) =
     rw (eqb-other (suc (suc w)) 0 (λ e. omega arith), eqb-other (suc (suc w)) 1 (λ e. omega arith), is-true (ltb 1 (suc (suc w))) (lt→ltb 1 (suc (suc w)) (omega arith)))
 
--- test 18
-pub free-is : (S : Shape) (v : View) (ms : List Merge) → PoolIs S ms (pageIn v) → leb (pagesOf S) (freeIn S v) ≡ leb (S .spares) (waitingPages ms)
-unfolding freeIn waitingPages
-free-is S v ms o =
-    let state : ℕ → ℕ = λ p. (pageIn v p) .state in
-    let free = countBelow (λ p. freePage (state p)) (pagesOf S) in
-    let e : free + placesOf S + waitingPages ms ≡ pagesOf S =
-    omega (
-      arith,
-      below-three (λ p. freePage (state p)) (λ p. currentPage (state p)) (λ p. waitingPage (state p) && true) (pagesOf S) (λ p. states-three (state p)),
-      o .current,
-      o .waiting (λ i. true),
-      count-from (λ m. m .waiting) 1 ms,
-    ) in
-    first-none (λ p. freePage (state p)) (pagesOf S)
-    ∙ same-truth (eqb free 0) (leb (S .spares) (waitingPages ms)) (λ t. le→leb (S .spares) (waitingPages ms) (omega (arith, eqb→eq free 0 t)))
-    (λ t. eqb-equal free 0 (omega (arith, leb→le (S .spares) (waitingPages ms) t)))
+-- a place is that of a range and a column
+pub place-parts : (S : Shape) → 1 ≤ S .columns → (i : ℕ) → i < placesOf S → (i / S .columns < S .ranges) × (i % S .columns < S .columns) × (placeOf S (i / S .columns) (i % S .columns) ≡ i)
+place-parts S some i b =
+    let c : i < S .ranges * S .columns = omega (arith, mul-comm (S .columns) (S .ranges)) in
+    ((div-lt-iff-lt-mul {k = S .columns} {x = i} {y = S .ranges} some) .1 c, mod-lt i some, div-add-mod' i (S .columns))
 
--- test 17
-pub open-among-is : (S : Shape) (v : View) (ps : List Place) (h : History) → Represents S v ps h → (g c n : ℕ) → g < S .ranges → c < S .columns → mergedThrough h g c < n → n ≤ length (recordsOf h g)
-    → openAmongIn S v g c n ≡ anyActive h g n
-unfolding openAmongIn anyActive
-open-among-is S v ps h o g c n a b above used =
-    let x : CurrentOf S h v g c = o .currents g c a b in
-    let low : ℕ = (pageIn v (currentIn S v g c)) .lineage in
-    let e : low + (n - low) ≡ n = omega (arith, x .lineage) in
-    any-open-is S v h g c 0 low b (o .tails g a)
-    (any-none (λ (y : Record). isActive (stateOf h (y .transaction))) (all-map (λ (y : Record) q. shut (stateOf h (y .transaction)) q) (x .holds .through .closed-all)))
-    (n - low) (omega (arith, e))
-    ∙ ap (λ (j : ℕ). any (λ (y : Record). isActive (stateOf h (y .transaction))) (take j (recordsOf h g))) e
-  where
-    shut : (s : State) → T (isClosed s) → T (not (isActive s))
-    shut aborted q = unfold isActive in tt
-    shut (committed s) q = unfold isActive in tt
+module _ (S : Shape) (v : View) (ps : List Place) (h : History) (o : Represents S v ps h) (k : Known S h) where
+  -- the page that place i names
+  named : (i : ℕ) → i < placesOf S → CurrentIs S h (i / S .columns) (i % S .columns) (getD (v Current) i 0) (pageIn v (getD (v Current) i 0)) (cellIn v (getD (v Current) i 0))
+  unfolding currentIn
+  named i b =
+      let t = place-parts S (k .small .some-column) i b in
+      rw (t .2) at (o .currents (i / S .columns) (i % S .columns) (t .0) (t .1))
+
+  placed : Placed S v
+  placed = record {
+    inside = λ i b. named i b .inside;
+    state = λ i b. named i b .state;
+    place = λ i b. named i b .place ∙ place-parts S (k .small .some-column) i b .2;
+  }
+
+  waiting-is : countBelow (λ p. waitingPage ((pageIn v p) .state)) (pagesOf S) ≡ waitingPages (h .merges)
+  unfolding waitingPages
+  waiting-is = below-ext _ _ (pagesOf S) (λ p b. sym (and-true (waitingPage ((pageIn v p) .state)))) ∙ o .pool .waiting (λ i. true) ∙ sym (count-from (λ m. m .waiting) 1 (h .merges))
+
+  -- as many pages are current as there are places, so that none is stray
+  no-stray : countBelow (strayIn S v) (pagesOf S) ≡ 0
+  no-stray =
+      omega (
+        arith,
+        below-three (λ p. freePage ((pageIn v p) .state)) (λ p. currentPage ((pageIn v p) .state)) (λ p. waitingPage ((pageIn v p) .state)) (pagesOf S) (λ p. states-three ((pageIn v p) .state)),
+        o .pool .current,
+        page-count S v placed,
+      )
+
+  -- test 18
+  pub free-is : leb (pagesOf S) (freeIn S v) ≡ leb (S .spares) (waitingPages (h .merges))
+  free-is = free-none S v placed ∙ ap (leb (S .spares)) waiting-is
+
+  -- test 17
+  pub open-among-is : (g n : ℕ) → g < S .ranges → n ≤ length (recordsOf h g) → openAmongIn S v g n ≡ anyActive h g n
+  unfolding openAmongIn anyActive stateOf
+  open-among-is g n a b =
+      any-below (recordsOf h g) noRecord _ (λ (y : Record). isActive (stateOf h (y .transaction))) n b
+      (λ i u. rw (o .tails g a .each i (omega arith) .transaction) (opens-is (h .transactions) (v Opens) (o .opens) _))
 
 -- the merges' counter is far from going round
 merges-few : {S : Shape} {h : History} → Known S h → suc (length (h .merges)) < 2 ^ 32
@@ -112,7 +126,7 @@ merges-few {S} {h} k =
 module _ (S : Shape) (v : View) (ps : List Place) (h : History) (o : Represents S v ps h) (k : Known S h) (g c n : ℕ) (ok : Mergeable S h g c n) where
   room : freeIn S v < pagesOf S
   room = nleb→lt (pagesOf S) (freeIn S v)
-      (rw (free-is S v (h .merges) (o .pool)) (not-T (leb (S .spares) (waitingPages (h .merges))) (λ t. omega (arith, leb→le (S .spares) (waitingPages (h .merges)) t, ok .spare))))
+      (rw (free-is S v ps h o k) (not-T (leb (S .spares) (waitingPages (h .merges))) (λ t. omega (arith, leb→le (S .spares) (waitingPages (h .merges)) t, ok .spare))))
 
   abbrev new : Merge
   new = record { range = g; column = c; through = n; waiting = true }
@@ -148,8 +162,7 @@ module _ (S : Shape) (v : View) (ps : List Place) (h : History) (o : Represents 
   low-to = omega (arith, now .lineage)
 
   free-state : (pageIn v p) .state ≡ 0
-  unfolding freeIn
-  free-state = eqb→eq _ 0 (first-is (λ q. freePage ((pageIn v q) .state)) (pagesOf S) 0 (omega (arith, room)))
+  free-state = found-free S v (placed S v ps h o k) (no-stray S v ps h o k) room
 
   not-free : (q : ℕ) → 0 < (pageIn v q) .state → q ≢ p
   not-free q b e = omega (arith, free-state, ap (λ (i : ℕ). (pageIn v i) .state) e)

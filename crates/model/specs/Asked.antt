@@ -9,7 +9,7 @@ use Rattle.layout.specs.declared.Region.{Region}
 use Rattle.layout.specs.View.{View, rowsGiven, usedIn}
 use Rattle.history.specs.History.{rangeOf}
 use Rattle.terms.specs.Places.{place}
-use Rattle.model.specs.Stored.{slot, openPlace}
+use Rattle.model.specs.Stored.{slot, openPlace, pageIn, placesOf, pagesOf, asCurrent}
 
 -- the shape that sizes were made of
 abbrev pub shapeIn : Sizes → Shape
@@ -31,6 +31,12 @@ pub record Linked (s : Sizes) (v : View) : Type 0 where
 -- Each current page is one of the pool.
 abbrev pub Pooled : Sizes → View → Type 0
 Pooled s v = (i : ℕ) → i < s .places → getD (v Region.Current) i 0 < s .pages
+
+-- Each place names a page of the pool that is current and of that place: so no two places name one page.
+pub record Placed (S : Shape) (v : View) : Type 0 where
+  pub inside : (i : ℕ) → i < placesOf S → getD (v Region.Current) i 0 < pagesOf S
+  pub state : (i : ℕ) → i < placesOf S → (pageIn v (getD (v Region.Current) i 0)) .state ≡ asCurrent
+  pub place : (i : ℕ) → i < placesOf S → (pageIn v (getD (v Region.Current) i 0)) .place ≡ i
 
 -- j is the first free place for an open transaction
 pub record FreeAt (v : View) (j : ℕ) : Type 0 where

@@ -3,7 +3,7 @@
 -- which every call makes first, is not here: it is the same for all.
 use mathlib.Core.Bool.{Bool, not, _&&_, _||_}
 use mathlib.Core.List.{List, [], _∷_}
-use Prim.Native.Nat.{ℕ, _+_, _*_, _-_, _^_, _<_}
+use Prim.Native.Nat.{ℕ, _+_, _*_, _^_, _<_}
 use lib.Dec.{leb, ltb, eqb}
 use lib.ListN.{set}
 use lib.IntN.{ℤ}
@@ -20,9 +20,9 @@ use Rattle.layout.specs.declared.Region.the-variants.{Header, Opens}
 use Rattle.terms.specs.declared.Place.{Place}
 use Rattle.terms.specs.Places.{freePlace, place, bears, isScan}
 use Rattle.layout.specs.Regions.{scansAt}
-use Rattle.model.specs.Stored.{rowIn, recordIn, slot, valueIn, openPlace, pageIn, currentIn, cellIn, within, openState, abortedState, deleteKind, scanPlace, pagesOf, countBelow, wordLimit}
-use Rattle.model.specs.Reading.{headIn, hasRecord, readIn, readCurrent, ownChanges, scanPage, sumIn, sees, visibleIn, answersFor, walk, belowLineage, wordIn, wasCurrent, tally}
-use Rattle.model.specs.Writing.{made, blank, noted, settled, freed, nextSlot, appended, filledIn, newBitsIn, originalAppended, settingAppended, applies, applied, newestOf, begun, committedIn, abortedIn, insertedAt, insertedIn, updatedIn, deletedIn, mergedIn, releasedIn, releasable, recordsWanted, anyOpen, freeIn}
+use Rattle.model.specs.Stored.{RecordWords, rowIn, recordIn, slot, valueIn, openPlace, pageIn, currentIn, cellIn, within, committedState, deleteKind, scanPlace, pagesOf, anyBelow, countBelow, wordLimit}
+use Rattle.model.specs.Reading.{headIn, readIn, readCurrent, ownChanges, scanPage, sumIn, sees, visibleIn, answersFor, walk, belowLineage, wordIn, wasCurrent, tally}
+use Rattle.model.specs.Writing.{made, blank, noted, settled, freed, nextSlot, appended, filledIn, newBitsIn, originalAppended, settingAppended, applies, applied, newestOf, begun, committedIn, abortedIn, insertedAt, insertedIn, updatedIn, deletedIn, mergedIn, releasedIn, releasable, recordsWanted, namedIn, strayIn, freeIn}
 
 -- ---- the conditions of "What a refused call returns", read in the memory
 -- 3
@@ -37,19 +37,31 @@ noScanIn ps k = not (any (isScan k) ps)
 unfoldable pub notGivenIn : View → ℕ → Bool
 notGivenIn v r = leb (rowsGiven v) r
 
--- 9: the inserter and the newest record tell it, as only the transaction that holds a row adds records to it
-unfoldable pub heldIn : Shape → View → ℕ → ℕ → Bool
-heldIn S v t r =
-    let x = rowIn v r in
-    let y = headIn S v r in
-    (openState (x .state) && not (eqb (x .transaction) t)) || (hasRecord v r && (openState (y .state) && not (eqb (y .transaction) t)))
+-- Open is a number that stands in the list of open numbers, whatever state words say.
+abbrev pub openIn : View → ℕ → Bool
+openIn v t = any (bears t) (v Opens)
 
--- 10, for a row that is not held: an aborted delete ends nothing
-unfoldable pub goneIn : Shape → View → ℕ → Bool
-goneIn S v r =
-    let x = rowIn v r in
-    let y = headIn S v r in
-    abortedState (x .state) || (hasRecord v r && (deleteKind (y .kind) && not (abortedState (y .state))))
+-- one of the used records of row r passes: of those of its range that name it
+abbrev pub anyRecord : Shape → View → ℕ → (RecordWords → Bool) → Bool
+anyRecord S v r f =
+    anyBelow (λ i. eqb ((recordIn v (rangeOf r * S .capacity + i)) .row) r && f (recordIn v (rangeOf r * S .capacity + i))) (usedIn v (rangeOf r))
+
+-- 9: the row's inserter, or the transaction of one of its records, is open and not the caller
+unfoldable pub openOther : View → ℕ → ℕ → Bool
+openOther v t k = openIn v k && not (eqb k t)
+
+unfoldable pub heldIn : Shape → View → ℕ → ℕ → Bool
+heldIn S v t r = openOther v t ((rowIn v r) .transaction) || anyRecord S v r (λ x. openOther v t (x .transaction))
+
+-- 10, for a row that is not held, so that what is not the caller's is committed or aborted: it is aborted unless its state word says committed. The row's
+-- insert is aborted, or one of its records is a delete that is not.
+abbrev pub standsFor : ℕ → ℕ → ℕ → Bool
+standsFor t transaction state = eqb transaction t || committedState state
+
+unfoldable pub goneIn : Shape → View → ℕ → ℕ → Bool
+goneIn S v t r =
+    not (standsFor t ((rowIn v r) .transaction) ((rowIn v r) .state))
+    || anyRecord S v r (λ x. deleteKind (x .kind) && standsFor t (x .transaction) (x .state))
 
 -- 12
 unfoldable pub lacksIn : Shape → View → ℕ → ℕ → Bool
@@ -66,11 +78,9 @@ laterIn v s = ltb (lastStamp v) s
 unfoldable pub outOfReachIn : Shape → View → ℕ → ℕ → ℕ → Bool
 outOfReachIn S v g c n = leb n ((pageIn v (currentIn S v g c)) .lineage) || ltb (usedIn v g) n
 
--- 17: records up to the lineage were settled when they were merged
-unfoldable pub openAmongIn : Shape → View → ℕ → ℕ → ℕ → Bool
-openAmongIn S v g c n =
-    let low = (pageIn v (currentIn S v g c)) .lineage in
-    anyOpen S v g low (n - low)
+-- 17: one of the records 1 to n
+unfoldable pub openAmongIn : Shape → View → ℕ → ℕ → Bool
+openAmongIn S v g n = anyBelow (λ i. openIn v ((recordIn v (g * S .capacity + i)) .transaction)) n
 
 -- ---- the tests: "Tests run in this order."
 unfoldable pub testsIn : Shape → View → List Place → Call → List Test
@@ -83,14 +93,14 @@ testsIn S v ps (update t r m vs) =
     ∷ Refusal.Row when notGivenIn v r
     ∷ Refusal.Mask when badMask S m
     ∷ Refusal.Held when heldIn S v t r
-    ∷ Refusal.Gone when goneIn S v r
+    ∷ Refusal.Gone when goneIn S v t r
     ∷ Refusal.Tail when lacksIn S v r (recordsWanted v r m)
     ∷ []
 testsIn S v ps (delete t r) =
     Refusal.Transaction when notOpenIn v t
     ∷ Refusal.Row when notGivenIn v r
     ∷ Refusal.Held when heldIn S v t r
-    ∷ Refusal.Gone when goneIn S v r
+    ∷ Refusal.Gone when goneIn S v t r
     ∷ Refusal.Tail when lacksIn S v r 1
     ∷ []
 testsIn S v ps (commit t s) = Refusal.Transaction when notOpenIn v t ∷ Refusal.Time when notLaterIn v s ∷ []
@@ -113,7 +123,7 @@ testsIn S v ps (merge g c n) =
     Refusal.Range when noRange S g
     ∷ Refusal.Column when noColumn S c
     ∷ Refusal.Reach when outOfReachIn S v g c n
-    ∷ Refusal.Open when openAmongIn S v g c n
+    ∷ Refusal.Open when openAmongIn S v g n
     ∷ Refusal.NoPage when leb (pagesOf S) (freeIn S v)
     ∷ []
 testsIn S v ps release = []
@@ -245,5 +255,5 @@ Typed (lineage g c) = Word g × Word c
 
 -- One name for what a list of calls unfolds to, for a proof's `unfolding` line.
 unfoldable pub execution : Unit {0}
-unfolding put renew changed rowIn recordIn pageIn slot valueIn currentIn cellIn openPlace scanPlace sees headIn visibleIn answersFor walk belowLineage wordIn readIn readCurrent ownChanges wasCurrent scanPage tally sumIn begun noted settled freed committedIn abortedIn insertedAt insertedIn nextSlot appended filledIn newBitsIn recordsWanted originalAppended settingAppended updatedIn deletedIn applies applied newestOf anyOpen freeIn mergedIn releasable releasedIn blank made notOpenIn noScanIn notGivenIn heldIn goneIn lacksIn notLaterIn laterIn outOfReachIn openAmongIn testsIn replyIn actIn placesAfter viewIf placesIf say viewNext placesNext sayAll verdict answerIf
+unfolding put renew changed anyBelow rowIn recordIn pageIn slot valueIn currentIn cellIn openPlace scanPlace sees headIn visibleIn answersFor walk belowLineage wordIn readIn readCurrent ownChanges wasCurrent scanPage tally sumIn begun noted settled freed committedIn abortedIn insertedAt insertedIn nextSlot appended filledIn newBitsIn recordsWanted originalAppended settingAppended updatedIn deletedIn applies applied newestOf namedIn strayIn freeIn mergedIn releasable releasedIn blank made notOpenIn noScanIn notGivenIn openOther heldIn goneIn lacksIn notLaterIn laterIn outOfReachIn openAmongIn testsIn replyIn actIn placesAfter viewIf placesIf say viewNext placesNext sayAll verdict answerIf
 execution = tt

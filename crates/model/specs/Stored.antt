@@ -1,6 +1,6 @@
 -- How a view of the memory is read: the header's words, one row, one tail record, one page, and what the words for states and kinds mean.
 -- Where a word can hold more than the store writes, the tests here say what every other value counts as; so each call answers for every memory.
-use mathlib.Core.Bool.{Bool, cond}
+use mathlib.Core.Bool.{Bool, false, cond, _||_}
 use mathlib.Core.List.{List}
 use Prim.Native.Nat.{ℕ, zero, suc, _+_, _*_, _-_, _%_, _^_}
 use lib.Dec.{ltb, eqb}
@@ -44,9 +44,6 @@ openState w = eqb w 0
 
 abbrev pub committedState : ℕ → Bool
 committedState w = eqb w 1
-
-abbrev pub abortedState : ℕ → Bool
-abortedState w = ltb 1 w
 
 abbrev pub asOriginal : ℕ
 asOriginal = 0
@@ -170,6 +167,11 @@ cellIn v p i = getD (v Cells) (p * rangeRows + i) 0
 abbrev pub firstFrom : (ℕ → Bool) → ℕ → ℕ → ℕ
 firstFrom f zero i = i
 firstFrom f (suc n) i = cond (f i) i (firstFrom f n (suc i))
+
+-- whether one of the numbers below n passes
+unfoldable pub anyBelow : (ℕ → Bool) → ℕ → Bool
+anyBelow f zero = false
+anyBelow f (suc n) = anyBelow f n || f n
 
 -- how many of the numbers below n pass
 abbrev pub countBelow : (ℕ → Bool) → ℕ → ℕ

@@ -1,5 +1,5 @@
 -- What the accepted calls write. Each is a few puts, or one pass that writes one region.
-use mathlib.Core.Bool.{Bool, false, not, cond, _&&_, _||_}
+use mathlib.Core.Bool.{Bool, not, cond, _&&_}
 use mathlib.Core.List.{List}
 use Prim.Native.Nat.{ℕ, zero, suc, _+_, _*_, _-_}
 use lib.Dec.{ltb, eqb}
@@ -17,7 +17,7 @@ use Rattle.layout.specs.declared.Region.the-variants.{Header, Opens, RowTransac
 use Rattle.terms.specs.declared.Place.{Place}
 use Rattle.layout.specs.Sizes.{sizesOf}
 use Rattle.terms.specs.Places.{place}
-use Rattle.model.specs.Stored.{RecordWords, rowIn, recordIn, pageIn, slot, valueIn, currentIn, placeOf, placesOf, pagesOf, cellIn, within, nextWord, asOpen, asCommitted, asAborted, asOriginal, asSetting, asDelete, asFree, asCurrent, asWaiting, committedState, settingKind, freePage, waitingPage, firstFrom, openPlace}
+use Rattle.model.specs.Stored.{RecordWords, rowIn, recordIn, pageIn, slot, valueIn, currentIn, placeOf, placesOf, pagesOf, cellIn, within, nextWord, asOpen, asCommitted, asAborted, asOriginal, asSetting, asDelete, asFree, asCurrent, asWaiting, committedState, settingKind, freePage, currentPage, waitingPage, firstFrom, openPlace}
 
 -- ---- open transactions
 -- begin: the first free place takes the next number, with nothing noted
@@ -152,14 +152,19 @@ newestOf S v g c low (suc n) stamp =
     let done = newestOf S v g c low n stamp in
     cond (applies c x && ltb done (x .stamp)) (x .stamp) done
 
--- whether one of the n records after `low` belongs to an open transaction
-unfoldable pub anyOpen : Shape → View → ℕ → ℕ → ℕ → Bool
-anyOpen S v g low zero = false
-anyOpen S v g low (suc n) = anyOpen S v g low n || eqb ((recordIn v (slot S g (suc (low + n)))) .state) asOpen
+-- "Free pages are the spares less those waiting": a page is free that neither waits nor is the one that its place names.
+unfoldable pub namedIn : Shape → View → ℕ → Bool
+namedIn S v p = ltb ((pageIn v p) .place) (placesOf S) && eqb (getD (v Current) ((pageIn v p) .place) 0) p
 
--- the first free page, else the number of pages
+-- a free page whose state still says current: no call leaves one
+unfoldable pub strayIn : Shape → View → ℕ → Bool
+strayIn S v p = currentPage ((pageIn v p) .state) && not (namedIn S v p)
+
+-- the first free page whose state says so, else the first stray one, else the number of pages
 unfoldable pub freeIn : Shape → View → ℕ
-freeIn S v = firstFrom (λ p. freePage ((pageIn v p) .state)) (pagesOf S) 0
+freeIn S v =
+    let p = firstFrom (λ p. freePage ((pageIn v p) .state)) (pagesOf S) 0 in
+    cond (ltb p (pagesOf S)) p (firstFrom (strayIn S v) (pagesOf S) 0)
 
 unfoldable pub mergedIn : Shape → ℕ → ℕ → ℕ → View → View
 mergedIn S g c n v =

@@ -5,3 +5,4 @@ pub mod Stored
 pub mod Same
 pub mod Demands
 pub mod Refused
+pub mod Stated

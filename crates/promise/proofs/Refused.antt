@@ -61,7 +61,7 @@ read-not : (b : Bool) (z : ℤ) → isRefused (cond b (Answer.Value z) Answer.No
 read-not true z = refl
 read-not false z = refl
 
-not-refused : (S : Shape) (v : View) (ps : List Place) (c : Call) → isRefused (replyIn S v ps c) ≡ false
+pub not-refused : (S : Shape) (v : View) (ps : List Place) (c : Call) → isRefused (replyIn S v ps c) ≡ false
 unfolding replyIn readCurrent readIn sumIn
 not-refused S v ps begin = refl
 not-refused S v ps (insert t vs) = refl
@@ -82,7 +82,7 @@ not-refused S v ps (pageCell c r) = refl
 not-refused S v ps (lineage g c) = refl
 
 -- so an answer that is a refusal is the verdict's
-refused-by : (S : Shape) (v : View) (ps : List Place) (c : Call) (w : Verdict) {n : Refusal} → answerIf w (replyIn S v ps c) ≡ Answer.Refused n → w ≡ refuse n
+pub refused-by : (S : Shape) (v : View) (ps : List Place) (c : Call) (w : Verdict) {n : Refusal} → answerIf w (replyIn S v ps c) ≡ Answer.Refused n → w ≡ refuse n
 unfolding answerIf
 refused-by S v ps c accept e = absurd (true-false (sym (ap isRefused e) ∙ not-refused S v ps c))
 refused-by S v ps c (refuse r) e = cc

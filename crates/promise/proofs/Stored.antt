@@ -5,7 +5,7 @@ use mathlib.Core.Logic.{_≢_}
 use mathlib.Core.Bool.{Bool, true, false, not}
 use mathlib.Core.List.{List, [], _∷_}
 use native.Mathlib.Omega.{arith}
-use native.Mathlib.Nat.{mod-lt, div-add-mod', div-lt-iff-lt-mul, mul-comm, le-refl}
+use native.Mathlib.Nat.{le-refl}
 use native.Mathlib.Decide.{decLt, ℕ-discrete}
 use lib.Dec.{T, eqb, lt→ltb}
 use lib.ListN.{length, getD, List·getD-eq-default}
@@ -28,9 +28,9 @@ use Rattle.facts.specs.Facts.{inUse, factsHold}
 use Rattle.facts.proofs.Ready.{Stored}
 use Rattle.facts.proofs.Usable.{Linked, Usable}
 use Rattle.terms.specs.Places.{bears, place, freePlace}
-use Rattle.model.specs.Stored.{rowIn, recordIn, valueIn, pageIn, cellIn, currentIn, placeOf, placesOf, pagesOf, currentPage}
+use Rattle.model.specs.Stored.{rowIn, recordIn, valueIn, pageIn, cellIn, currentIn, placesOf, pagesOf, currentPage}
 use Rattle.model.proofs.Book.{live-inside, Kind, Book, book-is, book-found, book-only}
-use Rattle.model.proofs.Merged.{place-mod}
+use Rattle.model.proofs.Merged.{place-mod, place-parts}
 use Rattle.model.proofs.Heads.{in-range}
 use Rattle.model.proofs.Scans.{scanKind, scan-count}
 use Rattle.model.proofs.Transactions.{openKind}
@@ -85,13 +85,6 @@ module _ {P A : Type 0} (K : Kind P A) (ts : List A) (l : List P) (o : Book K ts
 opened-count : (ps : List Place) → openCount ps ≡ count (λ p. not (eqb (p .number) 0)) ps
 opened-count [] = refl
 opened-count (p ∷ ps) = cond-ap length (not (eqb (p .number) 0)) (p ∷ opened ps) (opened ps) ∙ rw (opened-count ps)
-
--- ---- places of pages
--- the range and the column of a place
-place-parts : (S : Shape) → 1 ≤ S .columns → (i : ℕ) → i < placesOf S → (i / S .columns < S .ranges) × (i % S .columns < S .columns) × (placeOf S (i / S .columns) (i % S .columns) ≡ i)
-place-parts S some i b =
-    let c : i < S .ranges * S .columns = omega (arith, mul-comm (S .columns) (S .ranges)) in
-    ((div-lt-iff-lt-mul {k = S .columns} {x = i} {y = S .ranges} some) .1 c, mod-lt i some, div-add-mod' i (S .columns))
 
 -- ---- the facts, part by part
 

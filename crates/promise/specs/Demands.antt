@@ -1,5 +1,5 @@
--- The three demands of document 00, stated of the bytes that the calls leave and of the answers that they give. proofs/Refused.antt proves
--- those of demand 1, proofs/Demands.antt the others.
+-- The three demands of document 00, stated of the bytes that the calls leave and of the answers that they give; demand 1's conditions are in Stated.
+-- proofs/Refused.antt and proofs/Stated.antt prove those of demand 1, proofs/Demands.antt the others.
 -- What a call answers and leaves is in Promise, which the contracts of the calls cite, and what a making answers and leaves is `made`, which the contract of
 -- `make` cites. The plain history is History; what is committed, and what a page holds, is said in the Claims of the history and of the model.
 -- A memory is any list of numbers here, so that every list of bytes is one.
@@ -59,8 +59,8 @@ unfoldable pub storeList : Shape → List ℕ → List Place → List Call → L
 storeList S m ps cs = listLeft (memoryMade S m ps) (madeList ps) cs
 
 -- ---- demand 1, for any numbers over any memory and any list
--- "refused with its number from document 01, on the stated condition only": 2 for a memory or list that is not usable, and for nothing else. The other
--- numbers stand with their conditions in the model's `testsIn`.
+-- "refused with its number from document 01, on the stated condition only": 2 for a memory or list that is not usable, and for nothing else. `RefusedOn`
+-- (Stated) says it of the other numbers.
 unfoldable pub RefusedMemory : Type 0
 RefusedMemory =
     (m : List ℕ) (ps : List Place) (c : Call)

@@ -1,17 +1,19 @@
 -- What the tests of a merge tell of its verdict, and what a merge may rely on once they are passed.
-use Prim.Native.Nat.{ℕ, _+_, _*_, _-_, _≤_, _<_}
+use Prim.Native.Nat.{ℕ, _-_, _≤_, _<_}
 use mathlib.Core.Path.{_≡_, refl}
 use mathlib.Core.Bool.{Bool, true, false, cond, _||_}
 use mathlib.Core.List.{List, []}
 use native.Mathlib.Omega.{arith}
 use native.Mathlib.Nat.{min-le-left}
 use lib.Dec.{leb, ltb}
+use lib.ListN.{getD}
 use borrow.Author.Tests.{leb-false, ltb-true, ltb-false, le-leb, lt-leb, lt-ltb, le-ltb}
 use Rattle.terms.specs.Measures.{mostScans}
 use Rattle.terms.specs.declared.Place.{Place}
 use Rattle.words.specs.Words.{words}
 use Rattle.loops.specs.declared.Found.{Found}
 use Rattle.layout.specs.declared.Sizes.{Sizes}
+use Rattle.layout.specs.declared.Region.{Region}
 use Rattle.layout.specs.View.{View, view, usedIn}
 use Rattle.scans.specs.declared.Scans.{Scans}
 use Rattle.scans.specs.Places.{openCount}
@@ -22,16 +24,14 @@ use Rattle.facts.specs.Facts.{pagesPlaced, pagePlaced}
 use Rattle.facts.specs.Tests.{MemoryFacts}
 use Rattle.facts.proofs.Each.{each-tells}
 use Rattle.facts.proofs.Usable.{placed-tells}
-use Rattle.model.specs.Stored.{pageIn, currentIn, pagesOf}
+use Rattle.model.specs.Stored.{pageIn, currentIn, placesOf, pagesOf}
 use Rattle.model.specs.Writing.{freeIn}
 use Rattle.model.specs.Calls.{testsIn, outOfReachIn}
 use Rattle.layout.specs.Sizes.{Proper}
-use Rattle.model.specs.Asked.{shapeIn, Linked}
-use Rattle.rows.proofs.Indices.{place-in}
+use Rattle.model.specs.Asked.{shapeIn, Linked, Placed}
 use Rattle.settling.specs.Steps.{foundAt}
 use Rattle.merging.specs.Steps.{Mergeable}
 use Rattle.entry.proofs.Fitted.{column-tells, range-tells}
-use Rattle.upkeep.specs.Lists.{Currents}
 use Rattle.history.proofs.Lists.{is-false}
 
 -- ---- the first free page
@@ -75,17 +75,27 @@ module _ (v : View) (g low n used : ℕ) (e : used ≡ usedIn v g) where
   in-reach l h = rw (← e, lt-leb n low l, le-ltb used n h)
 
 -- ---- what a merge relies on
-pub current-states : (s : Sizes) (m : List ℕ) → Proper s → MemoryFacts s (view s (words m)) → Currents s (view s (words m))
-unfolding pageIn currentIn pagesPlaced
-current-states s m p f g c h l =
-    let v = view s (words m) in
-    placed-tells s v (g * s .columns + c) (each-tells (pagePlaced s v) (s .places) (f .placed) (g * s .columns + c) (place-in s p g c h l)) .1
+pub all-placed : (s : Sizes) (m : List ℕ) → Proper s → MemoryFacts s (view s (words m)) → Placed (shapeIn s) (view s (words m))
+unfolding pageIn pagesPlaced
+all-placed s m p f =
+    record {
+      inside = λ i b. omega (arith, pages s v p, each i b .0);
+      state = λ i b. each i b .1;
+      place = λ i b. each i b .2;
+    }
+  where
+    v : View
+    v = view s (words m)
+
+    each : (i : ℕ) → i < placesOf (shapeIn s)
+        → (getD (v Region.Current) i 0 < s .pages) × (getD (v Region.PageState) (getD (v Region.Current) i 0) 0 ≡ 1) × (getD (v Region.PagePlace) (getD (v Region.Current) i 0) 0 ≡ i)
+    each i b = let c : i < s .places = omega (arith, p .places-are) in placed-tells s v i (each-tells (pagePlaced s v) (s .places) (f .placed) i c)
 
 or-off : (a b : Bool) → (a || b) ≡ false → (a ≡ false) × (b ≡ false)
 or-off true b e = let z : _≡_ {A = ℕ} 0 1 = cc in absurd (omega arith)
 or-off false b e = (refl, e)
 
-pub mergeable : (s : Sizes) (v : View) (g c n page : ℕ) → Linked s v → Currents s v
+pub mergeable : (s : Sizes) (v : View) (g c n page : ℕ) → Linked s v → Placed (shapeIn s) v
     → verdict (testsIn (shapeIn s) v [] (Call.merge g c n)) ≡ accept → page ≡ freeIn (shapeIn s) v → page < s .pages → Mergeable s v g c n page
 unfolding testsIn outOfReachIn
 mergeable s v g c n page l k e q h =
@@ -101,7 +111,7 @@ mergeable s v g c n page l k e q h =
       to = omega (arith, ltb-false (usedIn v g) n (r .1), l .used-few g gb);
       free = q;
       page-below = h;
-      current = k g c gb cb;
+      placed = k;
     }
 
 -- ---- a table of a list has at most as many entries as it has room for

@@ -1,6 +1,6 @@
--- What the calls that open and close a scan promise: beside the answer and the memory, the one place of the list that they change; and what a merge relies on
--- of the current pages.
-use Prim.Native.Nat.{ℕ, _-_, _<_}
+-- What the calls that open and close a scan promise: beside the answer and the memory, the one place of the list that they change; and the last tests of a
+-- merge.
+use Prim.Native.Nat.{ℕ, _<_}
 use mathlib.Core.Path.{_≡_}
 use mathlib.Core.Bool.{_||_}
 use mathlib.Core.List.{List, [], _∷_}
@@ -9,14 +9,13 @@ use lib.ListN.{set}
 use Rattle.terms.specs.Measures.{Shape, mostNumbers}
 use Rattle.terms.specs.declared.Place.{Place}
 use Rattle.terms.specs.declared.Refusal.{Refusal}
-use Rattle.layout.specs.declared.Sizes.{Sizes}
 use Rattle.layout.specs.View.{View, scansGiven, usedIn}
 use Rattle.history.specs.History.{Call, Test, _when_}
 use Rattle.scans.specs.declared.Scans.{Scans}
 use Rattle.scans.specs.Table.{tableOf}
-use Rattle.model.specs.Stored.{pageIn, currentIn, pagesOf, asCurrent}
-use Rattle.model.specs.Writing.{anyOpen, freeIn}
-use Rattle.model.specs.Asked.{shapeIn}
+use Rattle.model.specs.Stored.{pagesOf}
+use Rattle.model.specs.Writing.{freeIn}
+use Rattle.model.specs.Calls.{openAmongIn}
 use Rattle.lending.specs.declared.Tested.{Tested}
 use Rattle.promise.specs.Promise.{answerOf, memoryAfter, listAfter}
 use Rattle.upkeep.specs.declared.Listed.{Listed}
@@ -27,15 +26,11 @@ Lists m t c r m′ =
     (ps : List Place) → t ≡ tableOf ps
     → (r .answer ≡ answerOf m ps c) × (m′ ≡ memoryAfter m ps c) × (set ps (r .place) (r .entry) ≡ listAfter m ps c)
 
--- the current page of each range and column says that it is current
-abbrev pub Currents : Sizes → View → Type 0
-Currents s v = (g c : ℕ) → g < s .ranges → c < s .columns → (pageIn v (currentIn (shapeIn s) v g c)) .state ≡ asCurrent
-
 -- the last tests of a merge of range g through record n, into a column whose current page has the lineage `low`
 abbrev pub reachTests : Shape → View → ℕ → ℕ → ℕ → List Test
 reachTests S v g low n =
     Refusal.Reach when (leb n low || ltb (usedIn v g) n)
-    ∷ Refusal.Open when anyOpen S v g low (n - low)
+    ∷ Refusal.Open when openAmongIn S v g n
     ∷ Refusal.NoPage when leb (pagesOf S) (freeIn S v)
     ∷ []
 

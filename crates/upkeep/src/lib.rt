@@ -42,10 +42,10 @@ ghost use Rattle.model.specs.Stored.{pageIn, currentIn};
 ghost use Rattle.model.specs.Writing.{freeIn};
 ghost use Rattle.model.specs.Calls.{testsIn};
 ghost use Rattle.layout.specs.Sizes.{Proper};
-ghost use Rattle.model.specs.Asked.{shapeIn, Linked, Pooled};
+ghost use Rattle.model.specs.Asked.{shapeIn, Linked, Pooled, Placed};
 ghost use Rattle.promise.specs.Promise.{Leaves};
 ghost use Rattle.lending.specs.Carried.{tested, Below, Carries, CarriesBy};
-ghost use Rattle.upkeep.specs.Lists.{Lists, Currents, reachTests, Gives};
+ghost use Rattle.upkeep.specs.Lists.{Lists, reachTests, Gives};
 
 // What a call on the scan list leaves: its answer, and the place of the list that becomes `entry`. A place past the list's end changes nothing.
 pub struct Listed {
@@ -70,7 +70,7 @@ fn current_lineage(mem: &[u8], s: Sizes, g: usize, c: usize) -> Tail
     Tail(read(mem, s, Region::PageLineage, page))
 }
 
-// The last tests of a merge of column c of range g: whether `through` is in reach, no record to be merged is open, and a page is free.
+// The last tests of a merge of column c of range g: whether `through` is in reach, no record up to it is open, and a page is free.
 fn reach_tests(mem: &[u8], s: Sizes, g: usize, low: Tail, through: Tail) -> Tested
     requires { ⌜ need s * 4 ≤ length (now mem) ⌝ }
     requires { ⌜ Proper s × Linked s (view s (words (now mem))) ⌝ }
@@ -84,7 +84,7 @@ fn reach_tests(mem: &[u8], s: Sizes, g: usize, low: Tail, through: Tail) -> Test
     if through.0 > read(mem, s, Region::Used, g) {
         return Tested::Failed(Refusal::Reach);
     }
-    if any_open(mem, s, g, low, through) {
+    if any_open(mem, s, g, through) {
         return Tested::Failed(Refusal::Open);
     }
     let Found::At(page) = free_page(mem, s) else {
@@ -112,7 +112,7 @@ fn merge_tests(mem: &[u8], s: Sizes, range: u32, column: u32, through: Tail) -> 
 
 fn merge_in(mem: &mut [u8], s: Sizes, range: u32, column: u32, through: Tail) -> Answer
     requires { ⌜ need s * 4 ≤ length (now mem) ⌝ }
-    requires { ⌜ Proper s × Linked s (view s (words (now mem))) × Pooled s (view s (words (now mem))) × Currents s (view s (words (now mem))) ⌝ }
+    requires { ⌜ Proper s × Linked s (view s (words (now mem))) × Pooled s (view s (words (now mem))) × Placed (shapeIn s) (view s (words (now mem))) ⌝ }
     ensures { λ r. ⌜ Carries s (view s (words (now (mem .entry)))) (Call.merge range column (through .0)) r (view s (words (now (mem .exit)))) ⌝ }
 {
     match merge_tests(mem, s, range, column, through) {

@@ -1,38 +1,34 @@
 -- `conditions::held` meets its contract.
-use mathlib.Core.Path.{sym, _∙_}
+use Prim.Native.Nat.{_+_, _*_, _≤_, _<_}
 use native.Mathlib.Omega.{arith}
-use Rattle.conditions.proofs.Rows.{held-insert, held-none, held-head}
 use borrow.Author.Needs.{needs}
+use Rattle.words.specs.Words.{words}
+use Rattle.words.proofs.Words.{length-words}
+use Rattle.layout.specs.declared.Region.the-variants.{Opens}
+use Rattle.layout.specs.View.{view, usedIn}
+use Rattle.layout.proofs.View.{view-long}
+use Rattle.conditions.proofs.Records.{held-insert, held-records, stretch-of}
 use Rattle.conditions.proofs.held.Statement.{statement}
 use Rattle.conditions.proofs.held.Tie as tie
 
-returns : tie.Need-returns
-returns c =
-    let call = c .before in
-    let second = call .before in
-    held-insert _ _ _ _ (second .before .read .ensures) _ _ (second .read2 .ensures) (sym (call .open-elsewhere .ensures) ∙ c .if1 .taken)
+-- the used records of the row's range
+inside : (c : tie.After-range-of) → let a = c .before .before .before .before .before .before .args in
+    (c .range-of .result < a .s .ranges) × (c .range-of .result * a .s .capacity + usedIn (view (a .s) (words (a .mem .now))) (c .range-of .result) ≤ a .s .slots) × (a .s .slots ≤ 8192)
+inside c =
+    let pre = c .before .before .before .before .before .before .pre in
+    stretch-of _ _ _ _ (pre .1 .0) (pre .1 .1 .0) (pre .1 .1 .1) (c .range-of .ensures)
 
 returns-2 : tie.Need-returns-2
 returns-2 c =
-    let find = c .before .before in
-    let test = find .before in
-    let call = test .before in
-    let second = call .before in
-    held-none _ _ _ _ (second .before .read .ensures) _ _ (second .read2 .ensures) (sym (call .open-elsewhere .ensures) ∙ test .if1 .left)
-    (sym (find .head .ensures .0) ∙ c .enum-told .given .1)
-
-returns-3 : tie.Need-returns-3
-returns-3 c =
-    let setter = c .before in
-    let newest = setter .before in
-    let at = newest .before .before in
-    let find = at .before .before in
-    let test = find .before in
-    let call = test .before in
-    let second = call .before in
-    held-head _ _ _ _ (second .before .read .ensures) _ _ (second .read2 .ensures) _ _ _ _
-    (sym (call .open-elsewhere .ensures) ∙ test .if1 .left) (sym (find .head .ensures .0) ∙ at .at .given .1) (newest .read3 .ensures)
-    (setter .read4 .ensures) (c .open-elsewhere2 .ensures)
+    let used = c .before .before in
+    let range = used .before in
+    let test = range .before in
+    let other = test .before in
+    let one = other .before in
+    let start = one .before .before .before in
+    held-records _ _ _ _ _ (one .read .ensures) _ _ _ _
+    (view-long (start .args .s) (words (start .args .mem .now)) (omega (arith, length-words (start .args .mem .now))) Opens)
+    (range .range-of .ensures) (used .read2 .ensures) (other .open-other .ensures) (test .if1 .left) (c .records-held .ensures)
 
 pub held-spec : {M : Type 1} → statement M
 held-spec =
@@ -41,13 +37,10 @@ held-spec =
     (λ c. search needs)
     (λ c κs. search needs)
     (λ c κs. search needs)
+    (λ c. held-insert _ _ _ _ _ (c .before .before .read .ensures) _ (c .before .open-other .ensures) (c .if1 .taken))
     (λ c κs. search needs)
-    returns
-    (λ c κs. search needs)
+    (λ c κs. (omega arith, inside c .0))
     (λ c. search needs)
-    (λ c. search needs)
-    returns-2
-    (λ c κs. (omega arith, rw (c .before .at .given .1) at (c .before .before .before .head .ensures .1)))
-    (λ c κs. (omega arith, rw (c .before .before .at .given .1) at (c .before .before .before .before .head .ensures .1)))
-    (λ c κs. search needs)
-    returns-3)
+    (λ c. omega (arith, inside (c .before .before)))
+    (λ c κs. (omega arith, (omega (arith, inside (c .before .before), c .before .read2 .ensures), inside (c .before .before) .2)))
+    returns-2)

@@ -2,7 +2,7 @@
 use native.Mathlib.Omega.{arith}
 use borrow.Author.Needs.{needs}
 use Rattle.lending.proofs.Lent.{lent-by, unfit-leaves, part-in, part-long, part-seen, part-room, part-linked, part-pooled, lent-leaves}
-use Rattle.upkeep.proofs.Tests.{current-states}
+use Rattle.upkeep.proofs.Tests.{all-placed}
 use Rattle.upkeep.proofs.merge.Statement.{statement}
 use Rattle.upkeep.proofs.merge.Tie as tie
 
@@ -20,7 +20,7 @@ merge-spec =
     (λ c κs.
     let l = lent-by _ _ _ _ _ (c .before .before .s .given .1) (c .before .before .before .before .lend .ensures) in
     let p = l .fitted .proper in
-    (part-room l, (p, part-linked l, part-pooled l, rw (part-seen l) (current-states _ _ p (l .passed .facts)))))
+    (part-room l, (p, part-linked l, part-pooled l, rw (part-seen l) (all-placed _ _ p (l .passed .facts)))))
     (λ c. search needs)
     (λ c.
     lent-leaves (lent-by _ _ _ _ _ (c .before .before .before .before .before .s .given .1) (c .before .before .before .before .before .before .before .lend .ensures)) _ _ _ (λ ps q k. c .before .before .merge-in .ensures ps)

@@ -2,7 +2,7 @@
 use borrow.Author.Needs.{needs}
 use mathlib.Core.Path.{sym, _∙_}
 use Rattle.history.specs.History.{verdict}
-use Rattle.model.specs.Calls.{testsIn, outOfReachIn, openAmongIn}
+use Rattle.model.specs.Calls.{testsIn, outOfReachIn}
 use Rattle.entry.proofs.Fitted.{column-tells, range-tells}
 use Rattle.lending.specs.Carried.{tested}
 use Rattle.upkeep.proofs.merge_tests.Statement.{statement}
@@ -27,7 +27,7 @@ reach-tests-requires c κs =
     (start .pre .0, ((start .pre .1 .0, start .pre .1 .1), range-tells (start .args .s) _ (sym (c .before .before .before .before .no-range .ensures) ∙ c .before .before .before .if1 .left)))
 
 returns-3 : tie.Need-returns-3
-unfolding testsIn verdict outOfReachIn openAmongIn
+unfolding testsIn verdict outOfReachIn
 returns-3 c =
     (rw (← c .before .before .before .before .before .no-range .ensures, c .before .before .before .before .if1 .left, ← c .before .before .before .no-column .ensures, c .before .before .if2 .left, ← c .before .current-lineage .ensures) (c .reach-tests .ensures .0), c .reach-tests .ensures .1)
 

@@ -19,7 +19,7 @@ returns-2 c = (rw (too-high _ _ _ _ _ (c .before .before .read .ensures) (c .bef
 any-open-requires : tie.Need-any-open-requires
 any-open-requires c κs =
     let start = c .before .before .before .before .before .before .before in
-    (start .pre .0, (start .pre .1 .0 .0, (start .pre .1 .1, omega (arith, c .before .before .before .if1 .left), omega (arith, c .if2 .left, c .before .before .read .ensures, start .pre .1 .0 .1 .used-few _ (start .pre .1 .1)))))
+    (start .pre .0, (start .pre .1 .0 .0, (start .pre .1 .1, omega (arith, c .if2 .left, c .before .before .read .ensures, start .pre .1 .0 .1 .used-few _ (start .pre .1 .1)))))
 
 returns-3 : tie.Need-returns-3
 unfolding verdict tested

@@ -1,0 +1,102 @@
+//! Refusals 9, 10, 17 and 18 on memories that no call made: each follows document 01's words, whatever
+//! links, lineages and state words say.
+
+use checks::defined::Defined;
+#[cfg(feature = "library")]
+use checks::library::Library;
+use checks::memory::{put_word, Layout, Region, Scan};
+use checks::plain::Plain;
+use checks::{facts, Store};
+use reference::{Answer, Call, Shape};
+
+const SHAPE: Shape = Shape { columns: 1, ranges: 1, tail: 4, spares: 1 };
+
+#[cfg(feature = "library")]
+fn library() -> Vec<Box<dyn Store>> {
+    vec![Box::new(Library)]
+}
+
+#[cfg(not(feature = "library"))]
+fn library() -> Vec<Box<dyn Store>> {
+    Vec::new()
+}
+
+/// Each store gives this answer to `call`, after `calls` and the words put.
+fn answers(calls: &[Call], put: &[(Region, usize, u32)], call: Call, wanted: Answer) {
+    let rust: Vec<Box<dyn Store>> = vec![Box::new(Plain::<0>), Box::new(Defined)];
+    for store in rust.into_iter().chain(library()) {
+        let layout = Layout::of(&SHAPE);
+        let (mut memory, mut list) = (vec![0; layout.need()], vec![Scan::FREE; 16]);
+        assert_eq!(store.make(&mut memory, &mut list, &SHAPE), Answer::Done);
+        for call in calls {
+            let answer = store.call(&mut memory, &mut list, call);
+            assert!(!matches!(answer, Answer::Refused(_)), "{call:?}: {answer:?}");
+        }
+        for (region, at, word) in put {
+            put_word(&mut memory, layout.base(*region) + at, *word);
+        }
+        assert_eq!(facts::failing(&memory, &list), None);
+        assert_eq!(store.call(&mut memory, &mut list, &call), wanted);
+    }
+}
+
+fn update(transaction: u32) -> Call {
+    Call::Update { transaction, row: 0, mask: 1, values: vec![7] }
+}
+
+/// Row 0 of transaction 1 and two records of transaction 2, both committed.
+fn settled() -> Vec<Call> {
+    vec![
+        Call::Begin,
+        Call::Insert { transaction: 1, values: vec![5] },
+        Call::Commit { transaction: 1, stamp: 10 },
+        Call::Begin,
+        update(2),
+        Call::Commit { transaction: 2, stamp: 20 },
+        Call::Begin,
+        Call::Begin,
+    ]
+}
+
+#[test]
+fn an_older_record_of_an_open_transaction_holds_the_row() {
+    answers(&settled(), &[(Region::TailTransaction, 0, 4)], update(3), Answer::Refused(9));
+    answers(&settled(), &[(Region::TailTransaction, 0, 3)], update(3), Answer::Number(3));
+}
+
+/// Transaction 1 is not open, so that it holds nothing. It is not committed either: its insert is
+/// aborted.
+#[test]
+fn a_state_word_alone_holds_nothing() {
+    answers(&settled(), &[(Region::RowState, 0, 0)], update(3), Answer::Refused(10));
+    answers(&settled(), &[(Region::TailState, 1, 0)], update(3), Answer::Number(3));
+}
+
+#[test]
+fn a_committed_delete_below_another_record_ends_the_row() {
+    let put = [(Region::TailKind, 0, 2), (Region::TailState, 1, 2)];
+    answers(&settled(), &put, update(3), Answer::Refused(10));
+    let aborted = [(Region::TailKind, 0, 2), (Region::TailState, 0, 2)];
+    answers(&settled(), &aborted, update(3), Answer::Number(3));
+}
+
+#[test]
+fn an_open_record_below_the_lineage_bars_a_merge() {
+    let mut calls = settled();
+    calls.push(Call::Merge { range: 0, column: 0, through: 1 });
+    let merge = Call::Merge { range: 0, column: 0, through: 2 };
+    answers(&calls, &[(Region::TailTransaction, 0, 4)], merge, Answer::Refused(17));
+}
+
+#[test]
+fn a_page_that_no_place_names_is_free() {
+    let merge = Call::Merge { range: 0, column: 0, through: 2 };
+    answers(&settled(), &[(Region::PageState, 1, 1)], merge.clone(), Answer::Done);
+    answers(
+        &settled(),
+        &[(Region::PageState, 1, 1), (Region::PagePlace, 1, 9)],
+        merge.clone(),
+        Answer::Done,
+    );
+    answers(&settled(), &[(Region::PageState, 1, 2)], merge, Answer::Refused(18));
+}

@@ -1,0 +1,342 @@
+-- Demand 1 holds as Stated says it: on a usable memory a call is refused with a number exactly if that number's condition is the first of the call's list that
+-- applies, and accepted exactly if none applies. Test by test, the model's Bools say what the conditions say, given that those before do not apply.
+use mathlib.Core.Path.{_≡_, refl, ap, sym, _∙_, subst}
+use mathlib.Core.Logic.{_≢_, _⊎_, inl, inr, ⊎-elim, _↔_}
+use mathlib.Core.Bool.{Bool, true, false, not, cond, _&&_, _||_}
+use mathlib.Core.List.{List, [], _∷_}
+use Prim.Native.Nat.{ℕ, zero, suc, _+_, _*_, _-_, _/_, _^_, _≤_, _<_}
+use native.Mathlib.Omega.{arith}
+use native.Mathlib.Nat.{div-eq-sub-div}
+use native.Mathlib.Decide.{ℕ-discrete}
+use lib.Dec.{T, T-not, not-T, leb, ltb, eqb, eqb→eq, leb→le, le→leb, ltb→lt, lt→ltb}
+use lib.ListN.{length, getD}
+use lib.Pow.{pow-pos, shr-shr}
+use Rattle.terms.specs.Measures.{Shape, mostTransactions}
+use Rattle.terms.specs.Places.{freePlace, bears, isScan, place}
+use Rattle.terms.specs.Refusals.{isRefused}
+use Rattle.terms.specs.declared.Answer.{Answer}
+use Rattle.terms.specs.declared.Place.{Place}
+use Rattle.terms.specs.declared.Refusal.{Refusal}
+use Rattle.words.specs.Words.{words}
+use Rattle.words.proofs.Words.{length-words}
+use Rattle.layout.specs.Sizes.{sizesOf, Proper}
+use Rattle.layout.specs.View.{View, view, rowsGiven, lastStamp, usedIn}
+use Rattle.layout.proofs.View.{view-long}
+use Rattle.layout.proofs.Limits.{proper}
+use Rattle.layout.specs.declared.Region.the-variants.{Opens}
+use Rattle.history.specs.History.{Call, begin, insert, update, delete, commit, abort, latest, readAt, ownRead, openScan, scanRead, sum, close, merge, release, pageCell, lineage, Test, _when_, any, Verdict, accept, refuse, verdict, answerIf, bit, rangeOf, badMask, noColumn, noRange}
+use Rattle.history.proofs.Lists.{by-cases, by-test, clash, is-true, is-false, refuted, both, parts, or-left, or-right, or-cases, eqb-equal, place-any}
+use Rattle.history.proofs.Masks.{bit-low}
+use Rattle.facts.specs.Usable.{storedShape, storedSizes}
+use Rattle.facts.proofs.Usable.{Usable, usable-tells}
+use Rattle.model.specs.Stored.{RecordWords, rowIn, recordIn, pageIn, slot, pagesOf, anyBelow, committedState, deleteKind}
+use Rattle.model.specs.Asked.{Placed}
+use Rattle.model.specs.Writing.{newBitsIn, recordsWanted, freeIn}
+use Rattle.model.specs.Calls.{openIn, openOther, standsFor, anyRecord, notOpenIn, noScanIn, notGivenIn, heldIn, goneIn, lacksIn, notLaterIn, laterIn, outOfReachIn, openAmongIn, testsIn, replyIn, say}
+use Rattle.model.proofs.Lists.{place-lt, place-is, true-false}
+use Rattle.model.proofs.Heads.{slot-is}
+use Rattle.model.proofs.Insert.{bit-none}
+use Rattle.model.proofs.Masks.{bit-new, no-bits, below-bits, below-power}
+use Rattle.model.proofs.Free.{free-none}
+use Rattle.promise.specs.Promise.{storeView, answerOf}
+use Rattle.promise.specs.Stated.{Open, ScanOpen, Committed, Aborted, RecordUpTo, RecordOf, Touched, WrongMask, Held, Gone, Lacks, LacksWanted, AllOpen, OutOfReach, OpenUpTo, NoneFree, Clause, _on_, stated, First, NoneApplies, RefusedOn}
+use Rattle.promise.proofs.Refused.{refused-by, not-refused}
+
+-- ---- tests that say what clauses say, as far as they are run
+data Meets : List Test → List Clause → Type 1 where
+  done : Meets [] []
+  test : {n : Refusal} {b : Bool} {P : Type 0} {ts : List Test} {cs : List Clause} → T b ↔ P → (¬ P → Meets ts cs) → Meets (n when b ∷ ts) (n on P ∷ cs)
+
+meets-first : {ts : List Test} {cs : List Clause} → Meets ts cs → (n : Refusal) → (verdict ts ≡ refuse n) ↔ First cs n
+unfolding verdict
+meets-first done n = (λ e. clash (cc), λ f. absurd f)
+meets-first (test {n = x} {b} {P} {ts} {cs} e f) n = go b e (λ p. meets-first (f p) n)
+  where
+    go : (b : Bool) → T b ↔ P → (¬ P → (verdict ts ≡ refuse n) ↔ First cs n) → (cond b (refuse x) (verdict ts) ≡ refuse n) ↔ First (x on P ∷ cs) n
+    go true e ih = (λ q. inl (e .0 tt, cc), ⊎-elim (λ q. ap refuse (q .1)) (λ q. absurd (q .0 (e .0 tt))))
+    go false e ih = (λ q. inr (e .1, ih (e .1) .0 q), ⊎-elim (λ q. absurd (e .1 (q .0))) (λ q. ih (e .1) .1 (q .1)))
+
+meets-none : {ts : List Test} {cs : List Clause} → Meets ts cs → (verdict ts ≡ accept) ↔ NoneApplies cs
+unfolding verdict
+meets-none done = (λ e. tt, λ f. refl)
+meets-none (test {n = x} {b} {P} {ts} {cs} e f) = go b e (λ p. meets-none (f p))
+  where
+    go : (b : Bool) → T b ↔ P → (¬ P → (verdict ts ≡ accept) ↔ NoneApplies cs) → (cond b (refuse x) (verdict ts) ≡ accept) ↔ NoneApplies (x on P ∷ cs)
+    go true e ih = (λ q. clash (cc), λ q. absurd (q .0 (e .0 tt)))
+    go false e ih = (λ q. (e .1, ih (e .1) .0 q), λ q. ih (e .1) .1 (q .1))
+
+-- ---- Bools and what they say
+le-test : (a b : ℕ) → T (leb a b) ↔ (a ≤ b)
+le-test a b = (leb→le a b, le→leb a b)
+
+lt-test : (a b : ℕ) → T (ltb a b) ↔ (a < b)
+lt-test a b = (ltb→lt a b, lt→ltb a b)
+
+eq-test : (a b : ℕ) → T (eqb a b) ↔ (a ≡ b)
+eq-test a b = (eqb→eq a b, eqb-equal a b)
+
+same-test : (b : Bool) → T b ↔ T b
+same-test b = (λ t. t, λ t. t)
+
+module _ {P : Type 0} where
+  not-test : (b : Bool) → T b ↔ P → T (not b) ↔ (¬ P)
+  not-test b e = (λ t p. T-not b t (e .1 p), λ n. not-T b (λ t. n (e .0 t)))
+
+  or-test : (a b : Bool) {Q : Type 0} → T a ↔ P → T b ↔ Q → T (a || b) ↔ (P ⊎ Q)
+  or-test a b e f = (λ t. or-cases a b t (λ x. inl (e .0 x)) (λ x. inr (f .0 x)), ⊎-elim (λ p. or-left a b (e .1 p)) (λ q. or-right a b (f .1 q)))
+
+  and-test : (a b : Bool) {Q : Type 0} → T a ↔ P → (P → T b ↔ Q) → T (a && b) ↔ (P × Q)
+  and-test a b e f = (λ t. let z = parts a b t in (e .0 (z .0), f (e .0 (z .0)) .0 (z .1)), λ q. both a b (e .1 (q .0)) (f (q .0) .1 (q .1)))
+
+below-test : (f : ℕ → Bool) (n : ℕ) → T (anyBelow f n) ↔ ((i : ℕ) × (i < n) × T (f i))
+unfolding anyBelow
+below-test f zero = (λ t. absurd t, λ q. absurd (omega (arith, q .1)))
+below-test f (suc n) = (
+  λ t. or-cases (anyBelow f n) (f n) t (λ u. let q = below-test f n .0 u in (q .0, omega (arith, q .1), q .2)) (λ u. (n, omega arith, u)),
+  λ q. by-cases (ℕ-discrete (q .0) n) (λ e. or-right (anyBelow f n) (f n) (rw e at (q .2)))
+      (λ d. or-left (anyBelow f n) (f n) (below-test f n .1 (q .0, omega (arith, q .1), q .2))),
+)
+
+-- a number in a list of places
+module _ {A : Type 0} (number : A → ℕ) (l : List A) (d : A) where
+  list-test : (t : ℕ) → T (any (λ p. bears t (number p)) l) ↔ ((t ≢ 0) × ((j : ℕ) × (j < length l) × (number (getD l j d) ≡ t)))
+  list-test t = (
+    λ b.
+        let f : A → Bool = λ p. bears t (number p) in
+        let j = place f l in
+        let q = parts (not (eqb (number (getD l j d)) 0)) (eqb (number (getD l j d)) t) (place-is f l d b) in
+        let e = eqb→eq (number (getD l j d)) t (q .1) in
+        (λ z. T-not (eqb (number (getD l j d)) 0) (q .0) (eqb-equal (number (getD l j d)) 0 (e ∙ z)), (j, place-lt f l b, e)),
+    λ q. place-any (λ p. bears t (number p)) l d (q .1 .0) (q .1 .1)
+        (both (not (eqb (number (getD l (q .1 .0) d)) 0)) (eqb (number (getD l (q .1 .0) d)) t)
+        (not-T (eqb (number (getD l (q .1 .0) d)) 0) (λ z. q .0 (sym (q .1 .2) ∙ eqb→eq (number (getD l (q .1 .0) d)) 0 z))) (eqb-equal (number (getD l (q .1 .0) d)) t (q .1 .2))),
+  )
+
+-- ---- bits
+some-bit : (n : ℕ) → n ≢ 0 → (c : ℕ) × T (bit n c)
+some-bit n z =
+    by-test (λ b. anyBelow (bit n) n ≡ b → (c : ℕ) × T (bit n c)) (anyBelow (bit n) n)
+    (λ _ e. let q = below-test (bit n) n .0 (rw e tt) in (q .0, q .2))
+    (λ _ e. absurd (z (below-bits n n (below-power n) (λ c b. refuted (bit n c) (λ t. true-false (sym (is-true _ (below-test (bit n) n .1 (c, b, t))) ∙ e)))))) refl
+
+mask-test : (S : Shape) (m : ℕ) → T (badMask S m) ↔ WrongMask S m
+unfolding badMask bit
+mask-test S m = (
+  λ t. or-cases (eqb m 0) (leb (2 ^ S .columns) m) t (λ u. inl (λ c. rw (eqb→eq m 0 u) (bit-none c))) (λ u. inr (high (leb→le (2 ^ S .columns) m u))),
+  ⊎-elim (λ f. or-left (eqb m 0) _ (eqb-equal m 0 (no-bits m f)))
+      (λ q. by-test (λ b. T b) (badMask S m) (λ _. tt) (λ n. absurd (omega (arith, bit-low S m (q .0) n (q .2), q .1)))),
+)
+  where
+    high : 2 ^ S .columns ≤ m → (c : ℕ) × (S .columns ≤ c) × T (bit m c)
+    high h =
+        let some : 0 < 2 ^ S .columns = pow-pos (S .columns) in
+        let q = some-bit (m / 2 ^ S .columns) (λ e. omega (arith, div-eq-sub-div {m = 2 ^ S .columns} {n = m} some h)) in
+        (S .columns + q .0, omega arith, rw (shr-shr m (S .columns) (q .0)) at (q .1))
+
+-- ---- the conditions
+module _ (S : Shape) (v : View) (ps : List Place) (long : length (v Opens) ≡ mostTransactions) (pool : Placed S v) where
+  open-test : (t : ℕ) → T (openIn v t) ↔ Open v t
+  open-test t = rw long at (list-test (λ k. k) (v Opens) 0 t)
+
+  scan-test : (k : ℕ) → T (any (isScan k) ps) ↔ ScanOpen ps k
+  scan-test k = list-test (λ (p : Place). p .number) ps freePlace k
+
+  records-test : (g n : ℕ) (f : RecordWords → Bool) (P : RecordWords → Type 0)
+      → ((k : ℕ) → 1 ≤ k → k ≤ n → T (f (recordIn v (slot S g k))) ↔ P (recordIn v (slot S g k)))
+      → T (anyBelow (λ i. f (recordIn v (g * S .capacity + i))) n) ↔ RecordUpTo S v g n P
+  records-test g n f P e = (
+    λ t.
+        let q = below-test (λ i. f (recordIn v (g * S .capacity + i))) n .0 t in
+        (suc (q .0), omega arith, omega (arith, q .1), e (suc (q .0)) (omega arith) (omega (arith, q .1)) .0 (rw (slot-is S g (q .0)) (q .2))),
+    λ q. below-test (λ i. f (recordIn v (g * S .capacity + i))) n .1 (back (q .0) (q .1) (q .2) (q .3)),
+  )
+    where
+      back : (k : ℕ) → 1 ≤ k → k ≤ n → P (recordIn v (slot S g k)) → (i : ℕ) × (i < n) × T (f (recordIn v (g * S .capacity + i)))
+      back zero a b p = absurd (omega arith)
+      back (suc i) a b p = (i, omega arith, rw (slot-is S g i) at (e (suc i) a b .1 p))
+
+  row-test : (r : ℕ) (f : RecordWords → Bool) (P : RecordWords → Type 0)
+      → ((k : ℕ) → 1 ≤ k → k ≤ usedIn v (rangeOf r) → (recordIn v (slot S (rangeOf r) k)) .row ≡ r → T (f (recordIn v (slot S (rangeOf r) k))) ↔ P (recordIn v (slot S (rangeOf r) k)))
+      → T (anyRecord S v r f) ↔ RecordOf S v r P
+  row-test r f P e =
+      records-test (rangeOf r) (usedIn v (rangeOf r)) (λ x. eqb (x .row) r && f x) (λ x. (x .row ≡ r) × P x)
+      (λ k a b. and-test (eqb ((recordIn v (slot S (rangeOf r) k)) .row) r) _ (eq-test _ r) (e k a b))
+
+  other-test : (t k : ℕ) → T (openOther v t k) ↔ (Open v k × (k ≢ t))
+  unfolding openOther
+  other-test t k = and-test (openIn v k) (not (eqb k t)) (open-test k) (λ _. not-test (eqb k t) (eq-test k t))
+
+  -- the inserter and the records apart
+  abbrev Holds : ℕ → ℕ → Type 0
+  Holds t r = (Open v ((rowIn v r) .transaction) × ((rowIn v r) .transaction ≢ t)) ⊎ RecordOf S v r (λ x. Open v (x .transaction) × (x .transaction ≢ t))
+
+  held-test : (t r : ℕ) → T (heldIn S v t r) ↔ Held S v t r
+  unfolding heldIn
+  held-test t r =
+      let e = or-test (openOther v t ((rowIn v r) .transaction)) (anyRecord S v r (λ x. openOther v t (x .transaction))) (other-test t _)
+      (row-test r (λ x. openOther v t (x .transaction)) (λ x. Open v (x .transaction) × (x .transaction ≢ t)) (λ k a b q. other-test t _)) in
+      (λ b. to (e .0 b), λ q. e .1 (from (q .0) (q .1) (q .2) (q .3)))
+    where
+      to : Holds t r → Held S v t r
+      to (inl q) = ((rowIn v r) .transaction, q .0, q .1, inl refl)
+      to (inr q) = ((recordIn v (slot S (rangeOf r) (q .0))) .transaction, q .3 .1 .0, q .3 .1 .1, inr (q .0, q .1, q .2, (q .3 .0, refl)))
+
+      from : (k : ℕ) → Open v k → k ≢ t → Touched S v k r → Holds t r
+      from k o n (inl e) = inl (rw e o, λ z. n (sym e ∙ z))
+      from k o n (inr q) = inr (q .0, q .1, q .2, (q .3 .0, (subst (Open v) (sym (q .3 .1)) o, λ z. n (sym (q .3 .1) ∙ z))))
+
+  -- what touches a row that is not held is the caller's or not open
+  stands-test : (t k state : ℕ) → (k ≢ t → ¬ Open v k) → T (standsFor t k state) ↔ (Committed v k state ⊎ (k ≡ t))
+  stands-test t k state free = (
+    λ b. by-cases (ℕ-discrete k t) (λ e. inr e) (λ n. inl (free n, or-cases (eqb k t) (committedState state) b (λ u. absurd (n (eqb→eq k t u))) (eqb→eq state 1))),
+    ⊎-elim (λ q. or-right (eqb k t) (committedState state) (eqb-equal state 1 (q .1))) (λ e. or-left (eqb k t) (committedState state) (eqb-equal k t e)),
+  )
+
+  gone-test : (t r : ℕ) → Open v t → ¬ Held S v t r → T (goneIn S v t r) ↔ Gone S v t r
+  unfolding goneIn
+  gone-test t r o free =
+      let e = or-test (not (standsFor t ((rowIn v r) .transaction) ((rowIn v r) .state))) (anyRecord S v r (λ x. deleteKind (x .kind) && standsFor t (x .transaction) (x .state)))
+      (insert-aborted)
+      (row-test r (λ x. deleteKind (x .kind) && standsFor t (x .transaction) (x .state))
+      (λ x. T (deleteKind (x .kind)) × (Committed v (x .transaction) (x .state) ⊎ (x .transaction ≡ t)))
+      (λ k a b q. and-test (deleteKind ((recordIn v (slot S (rangeOf r) k)) .kind)) _ (same-test (deleteKind ((recordIn v (slot S (rangeOf r) k)) .kind)))
+      (λ _. stands-test t _ _ (λ n p. free (_, p, n, inr (k, a, b, (q, refl))))))) in
+      (λ b. (free, ⊎-elim (λ q. inr q) (λ q. inl q) (e .0 b)), λ q. e .1 (⊎-elim (λ p. inr p) (λ p. inl p) (q .1)))
+    where
+      row-stands : T (standsFor t ((rowIn v r) .transaction) ((rowIn v r) .state)) ↔ (Committed v ((rowIn v r) .transaction) ((rowIn v r) .state) ⊎ ((rowIn v r) .transaction ≡ t))
+      row-stands = stands-test t ((rowIn v r) .transaction) ((rowIn v r) .state) (λ n p. free ((rowIn v r) .transaction, p, n, inl refl))
+
+      insert-aborted : T (not (standsFor t ((rowIn v r) .transaction) ((rowIn v r) .state))) ↔ Aborted v ((rowIn v r) .transaction) ((rowIn v r) .state)
+      insert-aborted =
+          let e = not-test (standsFor t ((rowIn v r) .transaction) ((rowIn v r) .state)) row-stands in (
+            λ b. let not-open : ¬ Open v ((rowIn v r) .transaction) = λ p. free ((rowIn v r) .transaction, p, (λ z. e .0 b (inr z)), inl refl) in
+                (not-open, λ z. e .0 b (inl (not-open, z))),
+            λ q. e .1 (⊎-elim (λ p. q .1 (p .1)) (λ z. q .0 (rw z o))),
+          )
+
+  lacks-test : (r n : ℕ) → T (lacksIn S v r n) ↔ Lacks S v r n
+  unfolding lacksIn
+  lacks-test r n = lt-test _ _
+
+  wanted-test : (r m : ℕ) → T (lacksIn S v r (recordsWanted v r m)) ↔ LacksWanted S v r m
+  unfolding recordsWanted newBitsIn
+  wanted-test r m =
+      by-test (λ b. T (lacksIn S v r (cond b 1 2)) ↔ LacksWanted S v r m) (eqb (newBitsIn v r m) 0)
+      (λ b. (λ t. inl (lacks-test r 1 .0 t), ⊎-elim (lacks-test r 1 .1) (λ q. absurd (none (eqb→eq (newBitsIn v r m) 0 b) (q .0 .0) (q .0 .1) (q .0 .2)))))
+      (λ b. (
+        λ t. inr (new (λ z. T-not (eqb (newBitsIn v r m) 0) b (eqb-equal (newBitsIn v r m) 0 z)), lacks-test r 2 .0 t),
+        ⊎-elim (λ q. lacks-test r 2 .1 (omega arith)) (λ q. lacks-test r 2 .1 (q .1)),
+      ))
+    where
+      none : newBitsIn v r m ≡ 0 → (c : ℕ) → T (bit m c) → bit ((rowIn v r) .mask) c ≡ false → ⊥
+      none z c a b = true-false (sym (bit-new m ((rowIn v r) .mask) c ∙ rw (is-true (bit m c) a, b)) ∙ ap (λ (k : ℕ). bit k c) z ∙ bit-none c)
+
+      new : newBitsIn v r m ≢ 0 → (c : ℕ) × T (bit m c) × (bit ((rowIn v r) .mask) c ≡ false)
+      new z =
+          let q = some-bit (newBitsIn v r m) z in
+          let p = parts (bit m (q .0)) (not (bit ((rowIn v r) .mask) (q .0))) (rw (bit-new m ((rowIn v r) .mask) (q .0)) at (q .1)) in
+          (q .0, p .0, is-false _ (p .1))
+
+  busy-test : T (not (any (λ k. eqb k 0) (v Opens))) ↔ AllOpen v
+  busy-test = (
+    λ t j b e. T-not (any (λ k. eqb k 0) (v Opens)) t (place-any (λ k. eqb k 0) (v Opens) 0 j (omega arith) (eqb-equal _ 0 e)),
+    λ f. not-T (any (λ k. eqb k 0) (v Opens)) (λ t. f (place (λ k. eqb k 0) (v Opens)) (omega (arith, place-lt (λ k. eqb k 0) (v Opens) t)) (eqb→eq _ 0 (place-is (λ k. eqb k 0) (v Opens) 0 t))),
+  )
+
+  reach-test : (g c n : ℕ) → T (outOfReachIn S v g c n) ↔ OutOfReach S v g c n
+  unfolding outOfReachIn
+  reach-test g c n = or-test (leb n _) (ltb (usedIn v g) n) (le-test n _) (lt-test _ n)
+
+  among-test : (g n : ℕ) → T (openAmongIn S v g n) ↔ OpenUpTo S v g n
+  unfolding openAmongIn
+  among-test g n = records-test g n (λ x. openIn v (x .transaction)) (λ x. Open v (x .transaction)) (λ k a b. open-test _)
+
+  free-test : T (leb (pagesOf S) (freeIn S v)) ↔ NoneFree S v
+  free-test = rw (free-none S v pool) (le-test _ _)
+
+  closed-test : (t : ℕ) → T (notOpenIn v t) ↔ (¬ Open v t)
+  unfolding notOpenIn
+  closed-test t = not-test (openIn v t) (open-test t)
+
+  no-scan-test : (k : ℕ) → T (noScanIn ps k) ↔ (¬ ScanOpen ps k)
+  unfolding noScanIn
+  no-scan-test k = not-test (any (isScan k) ps) (scan-test k)
+
+  given-test : (r : ℕ) → T (notGivenIn v r) ↔ (rowsGiven v ≤ r)
+  unfolding notGivenIn
+  given-test r = le-test _ r
+
+  column-test : (c : ℕ) → T (noColumn S c) ↔ (S .columns ≤ c)
+  unfolding noColumn
+  column-test c = le-test _ c
+
+  range-test : (g : ℕ) → T (noRange S g) ↔ (S .ranges ≤ g)
+  unfolding noRange
+  range-test g = le-test _ g
+
+  later-test : (s : ℕ) → T (laterIn v s) ↔ (lastStamp v < s)
+  unfolding laterIn
+  later-test s = lt-test _ s
+
+  not-later-test : (s : ℕ) → T (notLaterIn v s) ↔ (s ≤ lastStamp v)
+  unfolding notLaterIn
+  not-later-test s = le-test s _
+
+  -- an open transaction, of one that is not shown to be closed
+  is-open : (t : ℕ) → ¬ (¬ Open v t) → Open v t
+  is-open t n = open-test t .0 (by-test (λ b. T b) (openIn v t) (λ _. tt) (λ z. n (λ p. T-not (openIn v t) z (open-test t .1 p))))
+
+  meets : (c : Call) → Meets (testsIn S v ps c) (stated S v ps c)
+  unfolding testsIn stated
+  meets begin = test (le-test _ _) (λ _. test busy-test (λ _. done))
+  meets (insert t vs) = test (closed-test t) (λ _. test (le-test _ _) (λ _. done))
+  meets (update t r m vs) =
+      test (closed-test t) (λ o. test (given-test r) (λ _. test (mask-test S m) (λ _.
+      test (held-test t r) (λ h. test (gone-test t r (is-open t o) h) (λ _. test (wanted-test r m) (λ _. done))))))
+  meets (delete t r) =
+      test (closed-test t) (λ o. test (given-test r) (λ _.
+      test (held-test t r) (λ h. test (gone-test t r (is-open t o) h) (λ _. test (lacks-test r 1) (λ _. done)))))
+  meets (commit t s) = test (closed-test t) (λ _. test (not-later-test s) (λ _. done))
+  meets (abort t) = test (closed-test t) (λ _. done)
+  meets (latest r c) = test (given-test r) (λ _. test (column-test c) (λ _. done))
+  meets (readAt s r c) = test (later-test s) (λ _. test (given-test r) (λ _. test (column-test c) (λ _. done)))
+  meets (ownRead t r c) = test (closed-test t) (λ _. test (given-test r) (λ _. test (column-test c) (λ _. done)))
+  meets (openScan s) = test (later-test s) (λ _. test (le-test _ _) (λ _. test (le-test _ _) (λ _. done)))
+  meets (scanRead k r c) = test (no-scan-test k) (λ _. test (given-test r) (λ _. test (column-test c) (λ _. done)))
+  meets (sum k c) = test (no-scan-test k) (λ _. test (column-test c) (λ _. done))
+  meets (close k) = test (no-scan-test k) (λ _. done)
+  meets (merge g c n) =
+      test (range-test g) (λ _. test (column-test c) (λ _. test (reach-test g c n) (λ _. test (among-test g n) (λ _. test free-test (λ _. done)))))
+  meets release = done
+  meets (pageCell c r) = test (column-test c) (λ _. test (given-test r) (λ _. done))
+  meets (lineage g c) = test (range-test g) (λ _. test (column-test c) (λ _. done))
+
+-- ---- of a usable memory
+is-accept : (w : Verdict) (a : Answer) → isRefused (answerIf w a) ≡ false → w ≡ accept
+unfolding answerIf
+is-accept accept a e = refl
+is-accept (refuse n) a e = absurd (true-false e)
+
+placed : (S : Shape) (v : View) (ps : List Place) → Proper (sizesOf S) → Usable (sizesOf S) v ps → Placed S v
+unfolding pageIn
+placed S v ps z u = record {
+  inside = λ i b. omega (arith, u .current-in i (omega (arith, z .places-are)), z .pages-are, z .places-are);
+  state = λ i b. u .current-state i (omega (arith, z .places-are));
+  place = λ i b. u .current-place i (omega (arith, z .places-are));
+}
+
+pub refused-on : RefusedOn
+unfolding RefusedOn answerOf say storedSizes
+refused-on m ps c u =
+    let S : Shape = storedShape (words m) in
+    let v : View = storeView m in
+    let t = usable-tells m ps u in
+    let z : Proper (sizesOf S) = proper S (t .within) in
+    let long : length (v Opens) ≡ mostTransactions = unfold storeView in (view-long (sizesOf S) (words m) (omega (arith, length-words m, t .room)) Opens) in
+    let pool : Placed S v = unfold storeView in (placed S (view (sizesOf S) (words m)) ps z (t .facts)) in
+    let e = meets S v ps long pool c in
+    rw u
+    ((
+      λ n. (λ q. meets-first e n .0 (refused-by S v ps c _ q), λ q. ap (λ (w : Verdict). answerIf w (replyIn S v ps c)) (meets-first e n .1 q) ∙ unfold answerIf in refl),
+      (λ q. meets-none e .0 (is-accept _ _ q), λ q. ap (λ (w : Verdict). isRefused (answerIf w (replyIn S v ps c))) (meets-none e .1 q) ∙ unfold answerIf in (not-refused S v ps c)),
+    ))

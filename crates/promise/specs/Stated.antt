@@ -1,0 +1,160 @@
+-- Document 01's table "What a refused call returns", said of what a lent memory and a lent scan list hold, in that table's words and in the order of "Tests run
+-- in this order". Nothing here cites the model's tests, the code or the history: a condition speaks of the words of the memory and the places of the list.
+-- Two words are settled here. Open is what stands in the list of open numbers, and nothing else: state words do not make a number open. What is not open is
+-- committed where its state word says so, and aborted otherwise.
+use mathlib.Core.Path.{_≡_}
+use mathlib.Core.Logic.{_≢_, _⊎_, _↔_}
+use mathlib.Core.Bool.{true, false, not}
+use mathlib.Core.List.{List, [], _∷_}
+use Prim.Native.Nat.{ℕ, _+_, _*_, _≤_, _<_}
+use lib.Dec.{T, eqb}
+use lib.ListN.{length, getD}
+use Rattle.terms.specs.Measures.{Shape, rangeRows, mostTransactions, mostScans, mostNumbers}
+use Rattle.terms.specs.Places.{freePlace}
+use Rattle.terms.specs.Refusals.{isRefused}
+use Rattle.terms.specs.declared.Answer.{Answer}
+use Rattle.terms.specs.declared.Place.{Place}
+use Rattle.terms.specs.declared.Refusal.{Refusal}
+use Rattle.words.specs.Words.{words}
+use Rattle.layout.specs.View.{View, rowsGiven, transactionsGiven, scansGiven, lastStamp, usedIn}
+use Rattle.layout.specs.declared.Region.the-variants.{Opens}
+use Rattle.history.specs.History.{Call, begin, insert, update, delete, commit, abort, latest, readAt, ownRead, openScan, scanRead, sum, close, merge, release, pageCell, lineage, bit, count, rangeOf}
+use Rattle.facts.specs.Usable.{storedShape, usable}
+use Rattle.model.specs.Stored.{RecordWords, rowIn, recordIn, pageIn, slot, currentIn, pagesOf, countBelow, asCommitted, deleteKind, waitingPage}
+use Rattle.promise.specs.Promise.{storeView, answerOf}
+
+-- ---- what the memory holds
+-- transaction t is open; number 0 marks a free place
+abbrev pub Open : View → ℕ → Type 0
+Open v t = (t ≢ 0) × ((j : ℕ) × (j < mostTransactions) × (getD (v Opens) j 0 ≡ t))
+
+abbrev pub ScanOpen : List Place → ℕ → Type 0
+ScanOpen ps k = (k ≢ 0) × ((j : ℕ) × (j < length ps) × (getD ps j freePlace .number ≡ k))
+
+-- what transaction t made, with this state word, is committed or aborted
+abbrev pub Committed : View → ℕ → ℕ → Type 0
+Committed v t state = ¬ Open v t × (state ≡ asCommitted)
+
+abbrev pub Aborted : View → ℕ → ℕ → Type 0
+Aborted v t state = ¬ Open v t × (state ≢ asCommitted)
+
+-- one of the records 1 to n of range g
+abbrev pub RecordUpTo : Shape → View → ℕ → ℕ → (RecordWords → Type 0) → Type 0
+RecordUpTo S v g n P = (k : ℕ) × (1 ≤ k) × (k ≤ n) × P (recordIn v (slot S g k))
+
+-- one of the used records of row r
+abbrev pub RecordOf : Shape → View → ℕ → (RecordWords → Type 0) → Type 0
+RecordOf S v r P = RecordUpTo S v (rangeOf r) (usedIn v (rangeOf r)) (λ x. (x .row ≡ r) × P x)
+
+-- transaction t inserted, updated or deleted row r
+abbrev pub Touched : Shape → View → ℕ → ℕ → Type 0
+Touched S v t r = ((rowIn v r) .transaction ≡ t) ⊎ RecordOf S v r (λ x. x .transaction ≡ t)
+
+-- ---- the conditions that take more than a comparison
+-- 8: "no bit, or a bit at or above the column count"
+abbrev pub WrongMask : Shape → ℕ → Type 0
+WrongMask S m = ((c : ℕ) → bit m c ≡ false) ⊎ ((c : ℕ) × (S .columns ≤ c) × T (bit m c))
+
+-- 9: "another open transaction inserted, updated or deleted the row"
+abbrev pub Held : Shape → View → ℕ → ℕ → Type 0
+Held S v t r = (k : ℕ) × Open v k × (k ≢ t) × Touched S v k r
+
+-- 10: "not held, and the row is deleted or its insert aborted, in the caller's own view": deleted by what is committed or by the caller
+abbrev pub Gone : Shape → View → ℕ → ℕ → Type 0
+Gone S v t r =
+    ¬ Held S v t r
+    × (RecordOf S v r (λ x. T (deleteKind (x .kind)) × (Committed v (x .transaction) (x .state) ⊎ (x .transaction ≡ t))) ⊎ Aborted v ((rowIn v r) .transaction) ((rowIn v r) .state))
+
+-- 12: "the range lacks the one or two records wanted". Two are wanted for a column that the row's mask does not note as set.
+abbrev pub Lacks : Shape → View → ℕ → ℕ → Type 0
+Lacks S v r n = S .capacity < usedIn v (rangeOf r) + n
+
+abbrev pub LacksWanted : Shape → View → ℕ → ℕ → Type 0
+LacksWanted S v r m = Lacks S v r 1 ⊎ (((c : ℕ) × T (bit m c) × (bit ((rowIn v r) .mask) c ≡ false)) × Lacks S v r 2)
+
+-- 14: "8 transactions, or 16 scans, open"
+abbrev pub AllOpen : View → Type 0
+AllOpen v = (j : ℕ) → j < mostTransactions → getD (v Opens) j 0 ≢ 0
+
+abbrev pub ScansOpen : List Place → ℕ
+ScansOpen ps = count (λ p. not (eqb (p .number) 0)) ps
+
+-- 16: "merge not above what the page holds, or above the records used"
+abbrev pub OutOfReach : Shape → View → ℕ → ℕ → ℕ → Type 0
+OutOfReach S v g c n = (n ≤ (pageIn v (currentIn S v g c)) .lineage) ⊎ (usedIn v g < n)
+
+-- 17: "a record up to n belongs to an open transaction"
+abbrev pub OpenUpTo : Shape → View → ℕ → ℕ → Type 0
+OpenUpTo S v g n = RecordUpTo S v g n (λ x. Open v (x .transaction))
+
+-- 18: "no free page", where "free pages are the spares less those waiting"
+abbrev pub NoneFree : Shape → View → Type 0
+NoneFree S v = S .spares ≤ countBelow (λ p. waitingPage ((pageIn v p) .state)) (pagesOf S)
+
+-- ---- each call's conditions, in the order of its tests
+pub record Clause : Type 1 where
+  pub refusal : Refusal
+  pub applies : Type 0
+
+infix 68 _on_
+abbrev pub _on_ : Refusal → Type 0 → Clause
+n on P = record { refusal = n; applies = P }
+
+unfoldable pub stated : Shape → View → List Place → Call → List Clause
+stated S v ps begin = Refusal.Number on (mostNumbers ≤ transactionsGiven v) ∷ Refusal.Busy on AllOpen v ∷ []
+stated S v ps (insert t vs) = Refusal.Transaction on (¬ Open v t) ∷ Refusal.Full on (S .ranges * rangeRows ≤ rowsGiven v) ∷ []
+stated S v ps (update t r m vs) =
+    Refusal.Transaction on (¬ Open v t)
+    ∷ Refusal.Row on (rowsGiven v ≤ r)
+    ∷ Refusal.Mask on WrongMask S m
+    ∷ Refusal.Held on Held S v t r
+    ∷ Refusal.Gone on Gone S v t r
+    ∷ Refusal.Tail on LacksWanted S v r m
+    ∷ []
+stated S v ps (delete t r) =
+    Refusal.Transaction on (¬ Open v t)
+    ∷ Refusal.Row on (rowsGiven v ≤ r)
+    ∷ Refusal.Held on Held S v t r
+    ∷ Refusal.Gone on Gone S v t r
+    ∷ Refusal.Tail on Lacks S v r 1
+    ∷ []
+stated S v ps (commit t s) = Refusal.Transaction on (¬ Open v t) ∷ Refusal.Time on (s ≤ lastStamp v) ∷ []
+stated S v ps (abort t) = Refusal.Transaction on (¬ Open v t) ∷ []
+stated S v ps (latest r c) = Refusal.Row on (rowsGiven v ≤ r) ∷ Refusal.Column on (S .columns ≤ c) ∷ []
+stated S v ps (readAt s r c) =
+    Refusal.Time on (lastStamp v < s) ∷ Refusal.Row on (rowsGiven v ≤ r) ∷ Refusal.Column on (S .columns ≤ c) ∷ []
+stated S v ps (ownRead t r c) =
+    Refusal.Transaction on (¬ Open v t) ∷ Refusal.Row on (rowsGiven v ≤ r) ∷ Refusal.Column on (S .columns ≤ c) ∷ []
+stated S v ps (openScan s) =
+    Refusal.Time on (lastStamp v < s) ∷ Refusal.Number on (mostNumbers ≤ scansGiven v) ∷ Refusal.Busy on (mostScans ≤ ScansOpen ps) ∷ []
+stated S v ps (scanRead k r c) =
+    Refusal.Scan on (¬ ScanOpen ps k) ∷ Refusal.Row on (rowsGiven v ≤ r) ∷ Refusal.Column on (S .columns ≤ c) ∷ []
+stated S v ps (sum k c) = Refusal.Scan on (¬ ScanOpen ps k) ∷ Refusal.Column on (S .columns ≤ c) ∷ []
+stated S v ps (close k) = Refusal.Scan on (¬ ScanOpen ps k) ∷ []
+stated S v ps (merge g c n) =
+    Refusal.Range on (S .ranges ≤ g)
+    ∷ Refusal.Column on (S .columns ≤ c)
+    ∷ Refusal.Reach on OutOfReach S v g c n
+    ∷ Refusal.Open on OpenUpTo S v g n
+    ∷ Refusal.NoPage on NoneFree S v
+    ∷ []
+stated S v ps release = []
+stated S v ps (pageCell c r) = Refusal.Column on (S .columns ≤ c) ∷ Refusal.Row on (rowsGiven v ≤ r) ∷ []
+stated S v ps (lineage g c) = Refusal.Range on (S .ranges ≤ g) ∷ Refusal.Column on (S .columns ≤ c) ∷ []
+
+-- the first condition that applies is n's
+abbrev pub First : List Clause → Refusal → Type 0
+First [] n = ⊥
+First (x ∷ xs) n = (x .applies × (x .refusal ≡ n)) ⊎ (¬ x .applies × First xs n)
+
+-- none applies
+abbrev pub NoneApplies : List Clause → Type 0
+NoneApplies [] = Unit {0}
+NoneApplies (x ∷ xs) = ¬ x .applies × NoneApplies xs
+
+-- ---- demand 1, "refused with its number from document 01, on the stated condition only": of every usable memory and list, whoever wrote it, and every call
+unfoldable pub RefusedOn : Type 0
+RefusedOn =
+    (m : List ℕ) (ps : List Place) (c : Call) → usable m ps ≡ true
+    → ((n : Refusal) → (answerOf m ps c ≡ Answer.Refused n) ↔ First (stated (storedShape (words m)) (storeView m) ps c) n)
+    × ((isRefused (answerOf m ps c) ≡ false) ↔ NoneApplies (stated (storedShape (words m)) (storeView m) ps c))

@@ -7,7 +7,7 @@ use lib.ListN.{length, length-drop}
 use Rattle.commands.specs.declared.Chosen.{Chosen}
 use Rattle.commands.specs.Commands.{Item, chosen, width, itemAt, behind, items}
 
-behind-shorter : (columns : ℕ) (k : Chosen) (bs : List ℕ) → length (behind columns k bs) ≤ length bs
+pub behind-shorter : (columns : ℕ) (k : Chosen) (bs : List ℕ) → length (behind columns k bs) ≤ length bs
 unfolding behind
 behind-shorter columns (Chosen.Known f) bs = omega (arith, length-drop (width columns f) bs)
 behind-shorter columns (Chosen.Refused r) bs = omega arith

@@ -1,2 +1,2 @@
--- What a turn of the program leaves.
-pub mod Answered
+-- How a run of the program ends.
+pub mod Ending

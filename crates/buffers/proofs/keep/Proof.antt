@@ -1,15 +1,16 @@
 -- `buffers::keep` meets its contract. The invariant: the first i bytes of the line stand behind what was there.
-use Prim.Native.Nat.{_-_, _≤_}
-use mathlib.Core.Path.{_≡_, refl}
+use Prim.Native.Nat.{_+_, _-_, _≤_}
+use mathlib.Core.Path.{_≡_, refl, sym}
+use mathlib.Core.List.{_++_, append-nil}
 use native.Mathlib.Omega.{arith}
-use lib.ListN.{length, length-set}
-use Rattle.buffers.specs.Buffers.{Kept}
-use Rattle.buffers.proofs.Buffers.{keep-none, keep-next}
+use native.Mathlib.Nat.{add-zero}
+use lib.ListN.{length, take, length-set}
+use Rattle.buffers.proofs.Buffers.{keep-next}
 use Rattle.buffers.proofs.keep.Statement.{statement}
 use Rattle.buffers.proofs.keep.Tie as tie
 
 abbrev Inv-loop : tie.InvT-loop
-Inv-loop lines₀ at line n i₀ lines i = (i ≤ n) × (length lines ≡ length lines₀) × Kept lines₀ lines at line i
+Inv-loop lines₀ at line n i₀ lines i = (i ≤ n) × (length lines ≡ length lines₀) × (take (at + i) lines ≡ take at lines₀ ++ take i line)
 
 abbrev μ-loop : tie.MeasureT-loop
 μ-loop lines₀ at line n i₀ lines i = n - i
@@ -19,7 +20,7 @@ loop-again c =
     let loop = c .before .before .loop in (
       omega arith,
       simp length-set (loop .inv .1),
-      keep-next _ (loop .lines) _ _ (loop .i) _ (loop .inv .2) refl (omega arith),
+      keep-next _ (loop .lines) _ _ (loop .i) _ (loop .inv .2) refl (omega arith) (omega arith),
     )
 
 returns : tie.Need-returns Inv-loop μ-loop
@@ -33,7 +34,7 @@ keep-spec =
     (tie.spec
     Inv-loop
     μ-loop
-    (λ c. (omega arith, refl, keep-none _ _ _))
+    (λ c. (omega arith, refl, rw add-zero (sym (append-nil _))))
     (λ c. omega arith)
     (λ c. omega arith)
     (λ c. omega arith)

@@ -1,2 +1,0 @@
--- What the buffers hold.
-pub mod Buffers

@@ -1,0 +1,35 @@
+-- A turn's line behind the others.
+use Prim.Native.Nat.{ℕ, _+_, _≤_}
+use mathlib.Core.Path.{_≡_, ap, _∙_}
+use mathlib.Core.List.{List, _++_}
+use native.Mathlib.Omega.{arith}
+use lib.ListN.{length, take, drop}
+use lib.Seq.{take-append-seam, sets, sets-eq, length-sets}
+use Rattle.output.specs.Steps.{Step}
+use Rattle.turns.specs.declared.Outcome.{Outcome}
+use Rattle.turns.specs.Turns.{Store, Turned}
+use Rattle.rounds.specs.declared.Progress.{Progress}
+use Rattle.rounds.specs.Due.{Answered}
+
+-- the line is at the front of its buffer
+front : (old line : List ℕ) → length line ≤ length old → take (length line) (sets old 0 line) ≡ line
+front old line h =
+    let fits : 0 + length line ≤ length old = omega arith in
+    rw (sets-eq line old 0 fits) (take-append-seam line (drop (0 + length line) old))
+
+module _ (s : Step Store) (x : Store) (buffer after : List ℕ) (t : Outcome) (size : length buffer ≡ 64) (d : Turned s buffer after t x) where
+  pub long : t .length ≤ length after
+  long = rw (d .rendered .bytes, length-sets buffer 0 (s .line), size) (d .rendered .fits)
+
+  pub answered : (old new : List ℕ) (p q : Progress) → take (p .written + t .length) new ≡ take (p .written) old ++ take (t .length) after
+      → q .written ≡ p .written + t .length → q .on ≡ t .on → Answered s x old new p q
+  answered old new p q k w o =
+      let count = d .rendered .count in
+      let fits = d .rendered .fits in
+      let line : take (t .length) after ≡ s .line = rw (count, d .rendered .bytes) (front buffer (s .line) (omega arith)) in
+      record {
+        kept = ap (λ (n : ℕ). take n new) w ∙ k ∙ ap (λ (l : List ℕ). take (p .written) old ++ l) line;
+        grown = omega arith;
+        goes = o ∙ d .goes;
+        left = d .left;
+      }

@@ -1,0 +1,129 @@
+-- The loop over the commands: what holds before each, and what is answered where it stops.
+use Prim.Native.Nat.{ℕ, _+_, _-_, _*_, _≤_, _<_}
+use mathlib.Core.Path.{_≡_, ap, _∙_}
+use mathlib.Core.Bool.{Bool, true, false, not}
+use mathlib.Core.List.{List, []}
+use native.Mathlib.Omega.{arith}
+use native.Mathlib.Nat.{add-zero}
+use lib.ListN.{length, getD, take, drop, length-drop}
+use lib.Seq.{slice, getD-drop, length-take-le}
+use Rattle.commands.specs.Commands.{shapeBytes}
+use Rattle.output.specs.Steps.{step}
+use Rattle.turns.specs.Turns.{Store, storeMachine, firstStep, columnsFrom, capped}
+use Rattle.rounds.specs.declared.Progress.{Progress}
+use Rattle.rounds.specs.declared.Course.{Course}
+use Rattle.rounds.specs.Due.{flow, Moved, wanted, NoCommand, Found, Answered, ShapeIn, Walked, Begun, Took, Round, flowOf, Rounded}
+use Rattle.rounds.proofs.Due.{never, moved-none, moved-then, step-moved, shape-moved, stop-moved}
+
+-- From p to q commands are answered, and the lines have room for as many more as there are bytes.
+pub record Going (last : Bool) (p q : Progress) (x y : Store) (bs old new : List ℕ) : Type 0 where
+  pub moved : Moved last (flow p) x (drop (p .taken) bs) (take (p .written) old) (flow q) y (drop (q .taken) bs) (take (q .written) new)
+  pub started : q .started ≡ true
+  pub inside : q .taken ≤ length bs
+  pub room : q .written + 64 * length bs ≤ length new + 64 * q .taken
+
+pub going-none : (last : Bool) (p : Progress) (x : Store) (bs old : List ℕ)
+    → (p .started ≡ true) × (p .taken ≤ length bs) × (p .written + 64 * length bs ≤ length old + 64 * p .taken) → Going last p p x x bs old old
+going-none last p x bs old h = record { moved = moved-none last (flow p) x (drop (p .taken) bs) (take (p .written) old); started = h .0; inside = h .1; room = h .2 }
+
+module _ (last : Bool) (p q : Progress) (x y : Store) (bs old new : List ℕ) (g : Going last p q x y bs old new) where
+  pub going-next : (r : Progress) (z : Store) (new′ : List ℕ) (end : ℕ) → q .on ≡ true → Found last (q .columns) bs (q .taken) end → (end ≡ q .taken → ⊥)
+      → Answered (step storeMachine (capped (q .columns)) y (getD bs (q .taken) 0) (take (end - (q .taken + 1)) (drop (q .taken + 1) bs))) z new new′ q r
+      × (r .taken ≡ end) × (r .started ≡ true) × (r .columns ≡ q .columns) → length new′ ≡ length new → Going last p r x z bs old new′
+  going-next r z new′ end on f n a same =
+      let there = f .order in
+      let less : q .taken < end = omega arith in
+      let one : Moved last (flow q) y (drop (q .taken) bs) (take (q .written) new) (flow r) z (drop end bs) (take (r .written) new′)
+      = step-moved last (flow q) (flow r) y z bs (take (q .written) new) (take (r .written) new′) (q .taken) end on (g .started) (f .command less)
+      (a .0 .goes, a .0 .left, a .0 .kept) (a .2) (a .3) in
+      record {
+        moved = rw (a .1) (moved-then (g .moved) one);
+        started = a .2;
+        inside = rw (a .1) (f .inside);
+        room = omega (arith, a .0 .grown, a .1, g .room);
+      }
+
+  pub going-fits : (end : ℕ) → Found last (q .columns) bs (q .taken) end → (end ≡ q .taken → ⊥)
+      → (q .taken < end) × (end ≤ length bs) × (q .written + 64 ≤ length new)
+  going-fits end f n =
+      let less : q .taken < end = omega (arith, f .order) in
+      (less, f .inside, omega (arith, f .inside, g .room))
+
+  pub walked-off : q .on ≡ false → Walked last p q x y bs old new
+  walked-off e =
+      record { moved = g .moved; ends = λ l. e; waits = λ t. absurd (never t e); few = λ t. absurd (never t e); inside = g .inside; fits = omega (arith, g .inside, g .room) }
+
+  pub walked-stop : (r : Progress) → q .on ≡ true → NoCommand last (q .columns) bs (q .taken)
+      → (r .on ≡ not last) × (r .started ≡ true) × (r .columns ≡ q .columns) × (r .taken ≡ q .taken) × (r .written ≡ q .written)
+      → Walked last p r x y bs old new
+  unfolding wanted
+  walked-stop r on c e =
+      let size = length-drop (q .taken) bs in
+      let byte : getD (drop (q .taken) bs) 0 0 ≡ getD bs (q .taken) 0 = getD-drop (q .taken) bs 0 0 ∙ ap (λ (n : ℕ). getD bs n 0) (add-zero (q .taken)) in
+      record {
+        moved = rw (e .3, e .4) (moved-then (g .moved) (stop-moved last (flow q) (flow r) y bs (take (q .written) new) (q .taken) on (g .started) c (e .0) (e .1) (e .2)));
+        ends = λ l. e .0 ∙ ap not l;
+        waits = λ t. rw (e .1, e .2, e .3, byte) (omega (arith, c .short, g .inside));
+        few = λ t. rw (e .3) (omega (arith, c .few));
+        inside = omega (arith, e .3, g .inside);
+        fits = omega (arith, e .4, g .inside, g .room);
+      }
+
+-- ---- the shape, and then the commands
+pub begun-same : (last : Bool) (p q : Progress) (x : Store) (bs new : List ℕ) → 64 * length bs + 64 ≤ length new
+    → (q .on ≡ p .on) × (q .started ≡ p .started) × (q .columns ≡ p .columns) × (q .taken ≡ 0) × (q .written ≡ 0)
+    → (q .started ≡ false → last ≡ true → q .on ≡ false) → (q .started ≡ false → q .on ≡ true → length bs < shapeBytes) → Begun last p q x x bs new
+begun-same last p q x bs new h e n f =
+    record {
+      moved = rw (e .0, e .1, e .2, e .3, e .4) (moved-none last (flow p) x bs []);
+      inside = omega (arith, e .3);
+      room = omega (arith, e .3, e .4);
+      ends = n;
+      few = λ a b. rw (e .3) (f a b);
+    }
+
+pub begun-shape : (last : Bool) (p q r : Progress) (x y : Store) (bs old new : List ℕ) (end : ℕ) → 64 * length bs + 64 ≤ length old → length new ≡ length old
+    → p .on ≡ true → p .started ≡ false → ShapeIn last bs end → r .written ≡ 0
+    → Answered (firstStep x (take end bs)) y old new r q × (q .taken ≡ end) × (q .started ≡ true) × (q .columns ≡ columnsFrom (take end bs)) → end ≤ length bs
+    → Begun last p q x y bs new
+begun-shape last p q r x y bs old new end h same on off s z a l =
+    let none : take (r .written) old ≡ [] = rw z in
+    record {
+      moved = rw (a .1) (shape-moved last (flow p) (flow q) x y bs (take (q .written) new) end on off s (a .0 .goes, a .0 .left, rw none at (a .0 .kept)) (a .2) (a .3));
+      inside = omega (arith, a .1);
+      room = omega (arith, a .0 .grown);
+      ends = λ e. absurd (never (a .2) e);
+      few = λ e. absurd (never (a .2) e);
+    }
+
+pub took-none : (last : Bool) (p q : Progress) (x y : Store) (bs new : List ℕ) → Begun last p q x y bs new → q .started ≡ false → Took last p q x y bs new
+unfolding wanted
+took-none last p q x y bs new b e =
+    record {
+      round = record { moved = b .moved; ends = b .ends e; waits = λ t. rw e (b .few e t); few = λ t. omega (arith, b .few e t) };
+      inside = b .inside;
+      fits = omega (arith, b .inside, b .room);
+    }
+
+pub took : (last : Bool) (p q r : Progress) (x y z : Store) (bs old new : List ℕ) → Begun last p q x y bs old → Walked last q r y z bs old new
+    → Took last p r x z bs new
+took last p q r x y z bs old new b w =
+    record {
+      round = record { moved = moved-then (b .moved) (w .moved); ends = w .ends; waits = w .waits; few = w .few };
+      inside = w .inside;
+      fits = w .fits;
+    }
+
+-- ---- the buffers: what is left moves to the front
+pub rounded : (c d : Course) (p q : Progress) (x y : Store) (old new lines : List ℕ) → c .held ≤ length old → flow p ≡ flowOf c → flow q ≡ flowOf d
+    → Took (c .last) p q x y (take (c .held) old) lines
+    → take (c .held - q .taken) new ≡ slice (q .taken) (q .taken + (c .held - q .taken)) old → length new ≡ length old
+    → (d .held ≡ c .held - q .taken) × (d .written ≡ q .written) × (d .last ≡ c .last) → Rounded c d x y old new lines
+rounded c d p q x y old new lines h e f t m same g =
+    let size : length (take (c .held) old) ≡ c .held = length-take-le (c .held) old h in
+    let taken = t .inside in
+    let end : q .taken + (c .held - q .taken) ≡ c .held = omega arith in
+    let left : take (d .held) new ≡ drop (q .taken) (take (c .held) old) = rw (g .0) m ∙ ap (λ (n : ℕ). slice (q .taken) n old) end in
+    let r : Round (c .last) (flowOf c) x (take (c .held) old) (flowOf d) y (take (d .held) new) (take (d .written) lines) = rw (left, g .1, ← e, ← f) (t .round) in
+    let there : length (take (d .held) new) ≡ d .held = length-take-le (d .held) new (omega (arith, g .0)) in
+    record { round = r; last = g .2; inside = omega (arith, g .0); room = λ o. omega (arith, r .few o); fits = omega (arith, g .1, t .fits) }

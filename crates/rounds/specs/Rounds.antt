@@ -1,0 +1,48 @@
+-- An input that comes in pieces: however it is cut, all that is written is what must be written for all of it. proofs/Rounds.antt proves it.
+use Prim.Native.Nat.{ℕ, _≤_}
+use mathlib.Core.Path.{_≡_}
+use mathlib.Core.Bool.{true, false}
+use mathlib.Core.List.{List, [], _∷_, _++_}
+use lib.ListN.{length, take}
+use Rattle.terms.specs.Measures.{mostScans}
+use Rattle.words.specs.Words.{Bytes}
+use Rattle.layout.specs.Sizes.{bytesNeeded}
+use Rattle.output.specs.Output.{output}
+use Rattle.turns.specs.Turns.{Store}
+use Rattle.turns.specs.Gatebook.{largest}
+use Rattle.rounds.specs.declared.Course.{Course}
+use Rattle.rounds.specs.Due.{Flow, flowOf, Moved, Round}
+
+-- the program as it begins
+abbrev pub opening : Flow
+opening = record { on = true; started = false; columns = 0 }
+
+-- the pieces, one after another
+unfoldable pub together : List (List ℕ) → List ℕ
+together [] = []
+together (p ∷ ps) = p ++ together ps
+
+-- Rounds from f and x, with the bytes in `held` carried over: each piece comes behind what the round before left, and behind the last piece the end of the input.
+-- The last argument is all that they write.
+pub data Rounds : Flow → Store → List ℕ → List (List ℕ) → List ℕ → Type 0 where
+  ended : {f : Flow} {x : Store} {held : List ℕ} {ps : List (List ℕ)} → f .on ≡ false → Rounds f x held ps []
+  finish : {f f′ : Flow} {x x′ : Store} {held left lines : List ℕ} → Round true f x held f′ x′ left lines → Rounds f x held [] lines
+  piece : {f f′ : Flow} {x x′ : Store} {held p left lines more : List ℕ} {ps : List (List ℕ)} → Round false f x (held ++ p) f′ x′ left lines
+      → Rounds f′ x′ left ps more → Rounds f x held (p ∷ ps) (lines ++ more)
+
+unfoldable pub RoundsWrite : Type 0
+RoundsWrite =
+    (x : Store) (ps : List (List ℕ)) (lines : List ℕ) → Bytes (together ps) → bytesNeeded largest ≤ length (x .memory) → mostScans ≤ length (x .list)
+    → Rounds opening x [] ps lines → lines ≡ output (together ps)
+
+-- The program's own rounds: from the opening and the store x₀ it came to c and x, with bytes received and lines sent.
+pub record Ran (x₀ : Store) (c : Course) (x : Store) (input : List ℕ) : Type 0 where
+  pub received : List ℕ
+  pub sent : List ℕ
+  pub moved : Moved (c .last) opening x₀ received [] (flowOf c) x (take (c .held) input) sent
+
+-- Once it has ended, the lines sent are those of the bytes received, whatever else the input holds.
+unfoldable pub RanWrites : Type 0
+RanWrites =
+    (x₀ : Store) (c : Course) (x : Store) (input rest : List ℕ) (r : Ran x₀ c x input) → Bytes (r .received ++ rest) → bytesNeeded largest ≤ length (x₀ .memory)
+    → mostScans ≤ length (x₀ .list) → c .on ≡ false → (c .last ≡ true → rest ≡ []) → r .sent ≡ output (r .received ++ rest)

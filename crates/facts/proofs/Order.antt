@@ -10,32 +10,34 @@ use Rattle.scans.specs.Places.{everyOpen, differ}
 use Rattle.layout.specs.declared.Sizes.{Sizes}
 use Rattle.layout.specs.declared.Region.the-variants.{Opens, RowTransaction, RowStamp, TailTransaction, TailStamp, PageReplaced, PageNewest}
 use Rattle.layout.specs.View.{View, rowsGiven, transactionsGiven, scansGiven, lastStamp, mergesMade}
-use Rattle.facts.specs.Facts.{each, inUse, waiting, rowsBetween, rowLinked, rangeNamesRows, rangeBetween, rangeLinked, pageAtMost, storedWithin, countsWithin, recordsNameRows, numbersGiven, linksHold, stampsWithin, mergesWithin, openDiffer, pagesPlaced, lineagesWithin, factsHold}
-use Rattle.facts.specs.Tests.{MemoryFacts, rangeHolds, rowsHold, pagesHold, opensHold, scansHold}
+use Rattle.facts.specs.Facts.{each, rowsBetween, rowLinked, rangeNamesRows, rangeBetween, rangeLinked, currentAtMost, waitingAtMost, currentLineage, waitingLineage, pagePlaced, storedWithin, countsWithin, recordsNameRows, numbersGiven, linksHold, stampsWithin, mergesWithin, openDiffer, pagesPlaced, lineagesWithin, factsHold}
+use Rattle.facts.specs.Tests.{MemoryFacts, rangeHolds, rowsHold, currentHolds, pagesHold, opensHold, scansHold}
 use Rattle.facts.proofs.Each.{each-both}
 
-regroup : (k n rt tt op sn rl tl rs ts pn ss sm pr od sd pl li : Bool)
-    → (k && (n && ((rt && (tt && (op && sn))) && ((rl && tl) && ((rs && (ts && (pn && ss))) && ((sm && pr) && ((od && sd) && (pl && li))))))))
-    ≡ (k && ((n && (tt && (tl && ts))) && ((rt && (rl && rs)) && ((pn && (pr && (pl && li))) && ((op && od) && (sn && (ss && (sm && sd))))))))
-regroup false n rt tt op sn rl tl rs ts pn ss sm pr od sd pl li = refl
-regroup true false rt tt op sn rl tl rs ts pn ss sm pr od sd pl li = refl
-regroup true true false tt op sn rl tl rs ts pn ss sm pr od sd pl li = simp and-false
-regroup true true true false op sn rl tl rs ts pn ss sm pr od sd pl li = simp and-false
-regroup true true true true false sn rl tl rs ts pn ss sm pr od sd pl li = simp and-false
-regroup true true true true true false rl tl rs ts pn ss sm pr od sd pl li = simp and-false
-regroup true true true true true true false tl rs ts pn ss sm pr od sd pl li = simp and-false
-regroup true true true true true true true false rs ts pn ss sm pr od sd pl li = simp and-false
-regroup true true true true true true true true false ts pn ss sm pr od sd pl li = simp and-false
-regroup true true true true true true true true true false pn ss sm pr od sd pl li = simp and-false
-regroup true true true true true true true true true true false ss sm pr od sd pl li = simp and-false
-regroup true true true true true true true true true true true false sm pr od sd pl li = simp and-false
-regroup true true true true true true true true true true true true false pr od sd pl li = simp and-false
-regroup true true true true true true true true true true true true true false od sd pl li = simp and-false
-regroup true true true true true true true true true true true true true true false sd pl li = simp and-false
-regroup true true true true true true true true true true true true true true true false pl li = simp and-false
-regroup true true true true true true true true true true true true true true true true false li = simp and-false
-regroup true true true true true true true true true true true true true true true true true false = simp and-false
-regroup true true true true true true true true true true true true true true true true true true = refl
+regroup : (k n rt tt op sn rl tl rs ts cn wn ss sm pr od sd pl cl wl : Bool)
+    → (k && (n && ((rt && (tt && (op && sn))) && ((rl && tl) && ((rs && (ts && ((cn && wn) && ss))) && ((sm && pr) && ((od && sd) && (pl && (cl && wl)))))))))
+    ≡ (k && ((n && (tt && (tl && ts))) && ((rt && (rl && rs)) && (((pl && (cn && cl)) && (wn && (pr && wl))) && ((op && od) && (sn && (ss && (sm && sd))))))))
+regroup false n rt tt op sn rl tl rs ts cn wn ss sm pr od sd pl cl wl = refl
+regroup true false rt tt op sn rl tl rs ts cn wn ss sm pr od sd pl cl wl = refl
+regroup true true false tt op sn rl tl rs ts cn wn ss sm pr od sd pl cl wl = simp and-false
+regroup true true true false op sn rl tl rs ts cn wn ss sm pr od sd pl cl wl = simp and-false
+regroup true true true true false sn rl tl rs ts cn wn ss sm pr od sd pl cl wl = simp and-false
+regroup true true true true true false rl tl rs ts cn wn ss sm pr od sd pl cl wl = simp and-false
+regroup true true true true true true false tl rs ts cn wn ss sm pr od sd pl cl wl = simp and-false
+regroup true true true true true true true false rs ts cn wn ss sm pr od sd pl cl wl = simp and-false
+regroup true true true true true true true true false ts cn wn ss sm pr od sd pl cl wl = simp and-false
+regroup true true true true true true true true true false cn wn ss sm pr od sd pl cl wl = simp and-false
+regroup true true true true true true true true true true false wn ss sm pr od sd pl cl wl = simp and-false
+regroup true true true true true true true true true true true false ss sm pr od sd pl cl wl = simp and-false
+regroup true true true true true true true true true true true true false sm pr od sd pl cl wl = simp and-false
+regroup true true true true true true true true true true true true true false pr od sd pl cl wl = simp and-false
+regroup true true true true true true true true true true true true true true false od sd pl cl wl = simp and-false
+regroup true true true true true true true true true true true true true true true false sd pl cl wl = simp and-false
+regroup true true true true true true true true true true true true true true true true false pl cl wl = simp and-false
+regroup true true true true true true true true true true true true true true true true true false cl wl = simp and-false
+regroup true true true true true true true true true true true true true true true true true true false wl = simp and-false
+regroup true true true true true true true true true true true true true true true true true true true false = simp and-false
+regroup true true true true true true true true true true true true true true true true true true true true = refl
 
 -- the records of all ranges, fact by fact
 pub ranges-are : (s : Sizes) (v : View) → each (s .ranges) (rangeHolds s v)
@@ -52,11 +54,20 @@ ranges-are s v =
     each-both a (λ g. b g && (c g && d g)) n
     ∙ ap (λ (x : Bool). each n a && x) (each-both b (λ g. c g && d g) n ∙ ap (λ (x : Bool). each n b && x) (each-both c d n))
 
+-- the current pages, fact by fact
+currents-are : (s : Sizes) (v : View) → each (s .places) (currentHolds s v)
+    ≡ (pagesPlaced s v && (each (s .places) (currentAtMost v PageNewest (lastStamp v)) && each (s .places) (currentLineage s v)))
+unfolding currentHolds pagesPlaced
+currents-are s v =
+    let stamp = currentAtMost v PageNewest (lastStamp v) in
+    let line = currentLineage s v in
+    each-both (pagePlaced s v) (λ i. stamp i && line i) (s .places) ∙ ap (λ (x : Bool). each (s .places) (pagePlaced s v) && x) (each-both stamp line (s .places))
+
 pub facts-are : (s : Sizes) (v : View) (ps : List Place)
     → factsHold s v ps ≡ (countsWithin s v ps && (each (s .ranges) (rangeHolds s v) && (rowsHold s v && (pagesHold s v && (opensHold v && scansHold v ps)))))
-unfolding factsHold numbersGiven linksHold stampsWithin mergesWithin openDiffer rowsHold pagesHold opensHold scansHold
+unfolding factsHold numbersGiven linksHold stampsWithin mergesWithin openDiffer lineagesWithin rowsHold pagesHold opensHold scansHold
 facts-are s v ps =
-    rw (ranges-are s v)
+    rw (ranges-are s v, currents-are s v)
     (regroup
     (countsWithin s v ps)
     (recordsNameRows s v)
@@ -68,14 +79,16 @@ facts-are s v ps =
     (each (s .ranges) (rangeLinked s v))
     (rowsBetween v RowStamp 0 (lastStamp v))
     (each (s .ranges) (rangeBetween s v TailStamp 0 (lastStamp v)))
-    (each (s .pages) (pageAtMost v inUse PageNewest (lastStamp v)))
+    (each (s .places) (currentAtMost v PageNewest (lastStamp v)))
+    (each (s .pages) (waitingAtMost v PageNewest (lastStamp v)))
     (everyOpen (λ p. leb (p .stamp) (lastStamp v)) ps)
     (everyOpen (λ p. leb (p .merges) (mergesMade v)) ps)
-    (each (s .pages) (pageAtMost v waiting PageReplaced (mergesMade v)))
+    (each (s .pages) (waitingAtMost v PageReplaced (mergesMade v)))
     (differ (v Opens))
     (differ (map (λ p. p .number) ps))
     (pagesPlaced s v)
-    (lineagesWithin s v))
+    (each (s .places) (currentLineage s v))
+    (each (s .pages) (waitingLineage s v)))
 
 -- the facts that speak of the memory alone
 pub memory-facts : (s : Sizes) (v : View) → storedWithin s v ≡ true → each (s .ranges) (rangeHolds s v) ≡ true → rowsHold s v ≡ true → pagesHold s v ≡ true
@@ -91,8 +104,6 @@ memory-facts s v counts records rows pages =
     let row-links = each (rowsGiven v) (rowLinked s v) in
     let row-stamps = rowsBetween v RowStamp 0 (lastStamp v) in
     let c = and-true row-links row-stamps (and-true (rowsBetween v RowTransaction 1 (transactionsGiven v)) (row-links && row-stamps) rows .1) in
-    let placed = pagesPlaced s v && lineagesWithin s v in
-    let merges = each (s .pages) (pageAtMost v waiting PageReplaced (mergesMade v)) in
-    let d = and-true merges placed (and-true (each (s .pages) (pageAtMost v inUse PageNewest (lastStamp v))) (merges && placed) pages .1) in
-    let e = and-true (pagesPlaced s v) (lineagesWithin s v) (d .1) in
-    record { counts = counts; links = rw (c .0, b .0); placed = e .0; lineages = e .1 }
+    let d = and-true (each (s .places) (currentHolds s v)) _ pages in
+    let e = and-true (pagesPlaced s v) _ (sym (currents-are s v) ∙ d .0) in
+    record { counts = counts; links = rw (c .0, b .0); placed = e .0 }

@@ -24,7 +24,7 @@ use Rattle.layout.specs.View.{View, view, rowsGiven, transactionsGiven, scansGi
 use Rattle.layout.proofs.View.{Long, view-long}
 use Rattle.terms.specs.Places.{freePlace}
 use Rattle.scans.specs.Places.{openCount, everyOpen, among, differ}
-use Rattle.facts.specs.Facts.{firstSlot, each, rowsBetween, rangeBetween, pageAtMost, inUse, waiting, countsWithin, rowNamed, rangeNamesRows, recordsNameRows, numbersGiven, linkHolds, rowLinked, recordLinked, rangeLinked, linksHold, stampsWithin, mergesWithin, openDiffer, pagePlaced, pagesPlaced, pageRange, lineageWithin, lineagesWithin, factsHold}
+use Rattle.facts.specs.Facts.{firstSlot, each, rowsBetween, rangeBetween, currentAtMost, waiting, waitingAtMost, countsWithin, rowNamed, rangeNamesRows, recordsNameRows, numbersGiven, linkHolds, rowLinked, recordLinked, rangeLinked, linksHold, stampsWithin, mergesWithin, openDiffer, pagePlaced, pagesPlaced, pageRange, currentLineage, waitingLineage, lineagesWithin, factsHold}
 use Rattle.facts.specs.Usable.{storedShape, storedSizes, measuresBytes, usable}
 use Rattle.layout.specs.Sizes.{Proper}
 use Rattle.facts.proofs.Each.{each-tells}
@@ -52,16 +52,18 @@ pub record Usable (s : Sizes) (v : View) (ps : List Place) : Type 0 where
       → Linked s v g i (getD (v TailRow) (firstSlot s g + i) 0) (getD (v TailLink) (firstSlot s g + i) 0)
   pub row-stamps : (r : ℕ) → r < rowsGiven v → getD (v RowStamp) r 0 ≤ lastStamp v
   pub record-stamps : (g i : ℕ) → g < s .ranges → i < usedIn v g → getD (v TailStamp) (firstSlot s g + i) 0 ≤ lastStamp v
-  pub page-stamps : (p : ℕ) → p < s .pages → inUse ≤ getD (v PageState) p 0 → getD (v PageNewest) p 0 ≤ lastStamp v
+  pub current-stamps : (i : ℕ) → i < s .places → getD (v PageNewest) (getD (v Current) i 0) 0 ≤ lastStamp v
+  pub waiting-stamps : (p : ℕ) → p < s .pages → waiting ≤ getD (v PageState) p 0 → getD (v PageNewest) p 0 ≤ lastStamp v
   pub scan-stamps : (j : ℕ) → getD ps j freePlace .number ≢ 0 → getD ps j freePlace .stamp ≤ lastStamp v
   pub scan-merges : (j : ℕ) → getD ps j freePlace .number ≢ 0 → getD ps j freePlace .merges ≤ mergesMade v
-  pub page-merges : (p : ℕ) → p < s .pages → waiting ≤ getD (v PageState) p 0 → getD (v PageReplaced) p 0 ≤ mergesMade v
+  pub waiting-merges : (p : ℕ) → p < s .pages → waiting ≤ getD (v PageState) p 0 → getD (v PageReplaced) p 0 ≤ mergesMade v
   pub open-differ : (i j : ℕ) → i < j → getD (v Opens) i 0 ≡ getD (v Opens) j 0 → getD (v Opens) i 0 ≡ 0
   pub scans-differ : (i j : ℕ) → i < j → getD ps i freePlace .number ≡ getD ps j freePlace .number → getD ps i freePlace .number ≡ 0
   pub current-in : (i : ℕ) → i < s .places → getD (v Current) i 0 < s .pages
   pub current-state : (i : ℕ) → i < s .places → getD (v PageState) (getD (v Current) i 0) 0 ≡ 1
   pub current-place : (i : ℕ) → i < s .places → getD (v PagePlace) (getD (v Current) i 0) 0 ≡ i
-  pub lineages : (p : ℕ) → p < s .pages → inUse ≤ getD (v PageState) p 0 → getD (v PageLineage) p 0 ≤ usedIn v (pageRange s v p)
+  pub current-lineages : (i : ℕ) → i < s .places → getD (v PageLineage) (getD (v Current) i 0) 0 ≤ usedIn v (i / s .columns)
+  pub waiting-lineages : (p : ℕ) → p < s .pages → waiting ≤ getD (v PageState) p 0 → getD (v PageLineage) p 0 ≤ usedIn v (pageRange s v p)
 
 -- ---- the tests of one index, taken apart
 
@@ -78,9 +80,13 @@ link-tells s v g most r link e = go (eqb link 0) refl
         let a = and-true _ _ (or-right (eqb link 0) _ q e) in
         record { low = leb-true link most (a .0); same = λ n. eqb-true _ r (a .1) }
 
-page-tells : (v : View) (least : ℕ) (k : Region) (most p : ℕ) → pageAtMost v least k most p ≡ true → least ≤ getD (v PageState) p 0 → getD (v k) p 0 ≤ most
-unfolding pageAtMost
-page-tells v least k most p e h = leb-true (getD (v k) p 0) most (or-right (ltb (getD (v PageState) p 0) least) _ (le-ltb _ least h) e)
+current-tells : (v : View) (k : Region) (most i : ℕ) → currentAtMost v k most i ≡ true → getD (v k) (getD (v Current) i 0) 0 ≤ most
+unfolding currentAtMost
+current-tells v k most i e = leb-true _ most e
+
+waiting-tells : (v : View) (k : Region) (most p : ℕ) → waitingAtMost v k most p ≡ true → waiting ≤ getD (v PageState) p 0 → getD (v k) p 0 ≤ most
+unfolding waitingAtMost
+waiting-tells v k most p e h = leb-true (getD (v k) p 0) most (or-right (ltb (getD (v PageState) p 0) waiting) _ (le-ltb _ waiting h) e)
 
 pub placed-tells : (s : Sizes) (v : View) (i : ℕ) → pagePlaced s v i ≡ true
     → (getD (v Current) i 0 < s .pages) × (getD (v PageState) (getD (v Current) i 0) 0 ≡ 1) × (getD (v PagePlace) (getD (v Current) i 0) 0 ≡ i)
@@ -159,7 +165,7 @@ module _ (s : Sizes) (v : View) (ps : List Place) (z : Proper s) (long : Long s 
       stretch-tells s v long k (firstSlot s g) (usedIn v g) low high (omega (arith, range-in s g z h, c .records-to g)) (each-tells (rangeBetween s v k low high) (s .ranges) e g h) i j
 
   pub facts-tell : factsHold s v ps ≡ true → Usable s v ps
-  unfolding factsHold countsWithin recordsNameRows rangeNamesRows rowNamed numbersGiven linksHold rowLinked rangeLinked recordLinked stampsWithin mergesWithin openDiffer pagesPlaced lineagesWithin lineageWithin
+  unfolding factsHold countsWithin recordsNameRows rangeNamesRows rowNamed numbersGiven linksHold rowLinked rangeLinked recordLinked stampsWithin mergesWithin openDiffer pagesPlaced lineagesWithin currentLineage waitingLineage
   facts-tell e =
       let a1 = and-true _ _ e in
       let a2 = and-true _ _ (a1 .1) in
@@ -178,8 +184,10 @@ module _ (s : Sizes) (v : View) (ps : List Place) (z : Proper s) (long : Long s 
       let t1 = and-true _ _ (a5 .0) in
       let t2 = and-true _ _ (t1 .1) in
       let t3 = and-true _ _ (t2 .1) in
+      let t4 = and-true _ _ (t3 .0) in
       let m = and-true _ _ (a6 .0) in
       let d = and-true _ _ (a7 .0) in
+      let g = and-true _ _ (a8 .1) in
       record {
         counts = c;
         open-few = leb-true (openCount ps) mostScans (c1 .1);
@@ -192,16 +200,18 @@ module _ (s : Sizes) (v : View) (ps : List Place) (z : Proper s) (long : Long s 
         record-links = λ g i h j. link-tells s v g i _ _ (each-tells (recordLinked s v g) (usedIn v g) (each-tells (rangeLinked s v) (s .ranges) (l .1) g h) i j);
         row-stamps = λ r h. (rows-tell RowStamp 0 (lastStamp v) c refl (t1 .0) r h) .1;
         record-stamps = λ g i h j. (records-tell TailStamp 0 (lastStamp v) c refl (t2 .0) g i h j) .1;
-        page-stamps = λ p h. page-tells v inUse PageNewest (lastStamp v) p (each-tells (pageAtMost v inUse PageNewest (lastStamp v)) (s .pages) (t3 .0) p h);
+        current-stamps = λ i h. current-tells v PageNewest (lastStamp v) i (each-tells (currentAtMost v PageNewest (lastStamp v)) (s .places) (t4 .0) i h);
+        waiting-stamps = λ p h. waiting-tells v PageNewest (lastStamp v) p (each-tells (waitingAtMost v PageNewest (lastStamp v)) (s .pages) (t4 .1) p h);
         scan-stamps = λ j n. leb-true _ (lastStamp v) (every-tells (λ p. leb (p .stamp) (lastStamp v)) ps (t3 .1) j n);
         scan-merges = λ j n. leb-true _ (mergesMade v) (every-tells (λ p. leb (p .merges) (mergesMade v)) ps (m .0) j n);
-        page-merges = λ p h. page-tells v waiting PageReplaced (mergesMade v) p (each-tells (pageAtMost v waiting PageReplaced (mergesMade v)) (s .pages) (m .1) p h);
+        waiting-merges = λ p h. waiting-tells v PageReplaced (mergesMade v) p (each-tells (waitingAtMost v PageReplaced (mergesMade v)) (s .pages) (m .1) p h);
         open-differ = differ-tells (v Opens) (d .0);
         scans-differ = λ i j h q. sym (numbers-at ps i) ∙ differ-tells (map (λ p. p .number) ps) (d .1) i j h (numbers-at ps i ∙ q ∙ sym (numbers-at ps j));
         current-in = λ i h. (placed-tells s v i (each-tells (pagePlaced s v) (s .places) (a8 .0) i h)) .0;
         current-state = λ i h. (placed-tells s v i (each-tells (pagePlaced s v) (s .places) (a8 .0) i h)) .1;
         current-place = λ i h. (placed-tells s v i (each-tells (pagePlaced s v) (s .places) (a8 .0) i h)) .2;
-        lineages = λ p h q. leb-true _ _ (or-right (ltb (getD (v PageState) p 0) inUse) _ (le-ltb _ inUse q) (each-tells (lineageWithin s v) (s .pages) (a8 .1) p h));
+        current-lineages = λ i h. current-tells v PageLineage _ i (each-tells (currentLineage s v) (s .places) (g .0) i h);
+        waiting-lineages = λ p h. waiting-tells v PageLineage _ p (each-tells (waitingLineage s v) (s .pages) (g .1) p h);
       }
 
 -- ---- and of a memory

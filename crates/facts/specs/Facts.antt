@@ -1,7 +1,7 @@
 -- The stored facts: document 01, "The stored facts are these: ..". One definition for each clause of that sentence, in its order and under its words, over
 -- the view of a memory and the list of open scans. A call answers 2 where one of them fails, and on nothing else: they speak of given rows, used tail
 -- records, current and waiting pages and open places alone, and what stands elsewhere may be anything.
--- What a word counts as that no fact governs: a page's state 0 is free, 1 is current, any other waits; its place is taken modulo columns × ranges.
+-- What a word counts as that no fact governs: the place of a waiting page is taken modulo columns × ranges.
 use Prim.Native.Nat.{ℕ, zero, suc, _+_, _*_, _-_, _/_, _%_}
 use mathlib.Core.Bool.{Bool, true, _&&_, _||_}
 use mathlib.Core.List.{List, map}
@@ -36,16 +36,19 @@ rowsBetween v k low high = allBetween low high (region (v k) 0 (rowsGiven v))
 unfoldable pub rangeBetween : Sizes → View → Region → ℕ → ℕ → ℕ → Bool
 rangeBetween s v k low high g = allBetween low high (region (v k) (firstSlot s g) (usedIn v g))
 
--- word k of page p is at most a number, unless the page's state is below one that counts
-unfoldable pub pageAtMost : View → ℕ → Region → ℕ → ℕ → Bool
-pageAtMost v least k most p = ltb (getD (v PageState) p 0) least || leb (getD (v k) p 0) most
+-- ---- current and waiting pages. A page is current if a place names it, and it waits if its state is 2 or more. Any other page is free, whatever its words say.
 
--- the states from which on a page is in use, and from which on it waits
-abbrev pub inUse : ℕ
-inUse = 1
+-- word k of the page that place i names is at most a number
+unfoldable pub currentAtMost : View → Region → ℕ → ℕ → Bool
+currentAtMost v k most i = leb (getD (v k) (getD (v Current) i 0) 0) most
 
+-- the state from which on a page waits
 abbrev pub waiting : ℕ
 waiting = 2
+
+-- word k of page p is at most a number, if the page waits
+unfoldable pub waitingAtMost : View → Region → ℕ → ℕ → Bool
+waitingAtMost v k most p = ltb (getD (v PageState) p 0) waiting || leb (getD (v k) p 0) most
 
 -- ---- "the stored measures lie within their limits and counts within the measures"
 -- (the measures are tested before there is a view: Usable)
@@ -98,20 +101,21 @@ unfoldable pub stampsWithin : Sizes → View → List Place → Bool
 stampsWithin s v ps =
     rowsBetween v RowStamp 0 (lastStamp v)
     && (each (s .ranges) (rangeBetween s v TailStamp 0 (lastStamp v))
-    && (each (s .pages) (pageAtMost v inUse PageNewest (lastStamp v)) && everyOpen (λ p. leb (p .stamp) (lastStamp v)) ps))
+    && ((each (s .places) (currentAtMost v PageNewest (lastStamp v)) && each (s .pages) (waitingAtMost v PageNewest (lastStamp v)))
+    && everyOpen (λ p. leb (p .stamp) (lastStamp v)) ps))
 
 -- ---- "no scan's or waiting page's merge count exceeds the merges made"
 unfoldable pub mergesWithin : Sizes → View → List Place → Bool
 mergesWithin s v ps =
-    everyOpen (λ p. leb (p .merges) (mergesMade v)) ps && each (s .pages) (pageAtMost v waiting PageReplaced (mergesMade v))
+    everyOpen (λ p. leb (p .merges) (mergesMade v)) ps && each (s .pages) (waitingAtMost v PageReplaced (mergesMade v))
 
 -- ---- "open numbers differ, each within its own series"
 unfoldable pub openDiffer : View → List Place → Bool
 openDiffer v ps = differ (v Opens) && differ (map (λ p. p .number) ps)
 
 -- ---- "current, waiting and free pages are distinct and in the pool"
--- A page's state says which of the three it is, so they are distinct. A current page has the place whose current page it is, so that no two places
--- have one page; and it is in the pool.
+-- The page that a place names is in the pool, and its own words say that it is current and of that place: so it does not wait, and no two places name one page.
+-- Free pages are those that are neither named nor waiting.
 unfoldable pub pagePlaced : Sizes → View → ℕ → Bool
 pagePlaced s v i =
     let p = getD (v Current) i 0 in ltb p (s .pages) && (eqb (getD (v PageState) p 0) 1 && eqb (getD (v PagePlace) p 0) i)
@@ -123,11 +127,14 @@ pagesPlaced s v = each (s .places) (pagePlaced s v)
 abbrev pub pageRange : Sizes → View → ℕ → ℕ
 pageRange s v p = getD (v PagePlace) p 0 % s .places / s .columns
 
-unfoldable pub lineageWithin : Sizes → View → ℕ → Bool
-lineageWithin s v p = ltb (getD (v PageState) p 0) inUse || leb (getD (v PageLineage) p 0) (usedIn v (pageRange s v p))
+unfoldable pub currentLineage : Sizes → View → ℕ → Bool
+currentLineage s v i = currentAtMost v PageLineage (usedIn v (i / s .columns)) i
+
+unfoldable pub waitingLineage : Sizes → View → ℕ → Bool
+waitingLineage s v p = waitingAtMost v PageLineage (usedIn v (pageRange s v p)) p
 
 unfoldable pub lineagesWithin : Sizes → View → Bool
-lineagesWithin s v = each (s .pages) (lineageWithin s v)
+lineagesWithin s v = each (s .places) (currentLineage s v) && each (s .pages) (waitingLineage s v)
 
 -- ---- all of them, in that order
 unfoldable pub factsHold : Sizes → View → List Place → Bool

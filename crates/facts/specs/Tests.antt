@@ -18,7 +18,7 @@ use Rattle.facts.specs.declared.Checked.{Checked}
 use Rattle.facts.specs.declared.Checked.the-variants.{Fit, Unfit}
 use Rattle.facts.specs.Usable.{storedShape, storedSizes}
 use Rattle.scans.specs.Places.{everyOpen, differ}
-use Rattle.facts.specs.Facts.{storedWithin, linksHold, pagesPlaced, lineagesWithin, each, inUse, waiting, rowLinked, rowsBetween, rangeBetween, rangeNamesRows, rangeLinked, pageAtMost}
+use Rattle.facts.specs.Facts.{storedWithin, linksHold, pagesPlaced, each, rowLinked, rowsBetween, rangeBetween, rangeNamesRows, rangeLinked, pagePlaced, currentAtMost, currentLineage, waitingAtMost, waitingLineage}
 
 -- a memory in which every access to what is given and used lies within it: the counts of rows and of records are within the sizes
 pub record Ready (s : Sizes) (m : List ℕ) : Type 0 where
@@ -32,7 +32,6 @@ pub record MemoryFacts (s : Sizes) (v : View) : Type 0 where
   pub counts : storedWithin s v ≡ true
   pub links : linksHold s v ≡ true
   pub placed : pagesPlaced s v ≡ true
-  pub lineages : lineagesWithin s v ≡ true
 
 -- What holds of a memory that passed, whatever table it came with, even one that stands for no list: every access of a call rests on this.
 pub record Passed (s : Sizes) (m : List ℕ) : Type 0 where
@@ -58,11 +57,16 @@ unfoldable pub rowsHold : Sizes → View → Bool
 rowsHold s v =
     rowsBetween v RowTransaction 1 (transactionsGiven v) && (each (rowsGiven v) (rowLinked s v) && rowsBetween v RowStamp 0 (lastStamp v))
 
--- the pages
+-- the page that place i names
+unfoldable pub currentHolds : Sizes → View → ℕ → Bool
+currentHolds s v i = pagePlaced s v i && (currentAtMost v PageNewest (lastStamp v) i && currentLineage s v i)
+
+-- the current pages, then the waiting ones
 unfoldable pub pagesHold : Sizes → View → Bool
 pagesHold s v =
-    each (s .pages) (pageAtMost v inUse PageNewest (lastStamp v))
-    && (each (s .pages) (pageAtMost v waiting PageReplaced (mergesMade v)) && (pagesPlaced s v && lineagesWithin s v))
+    each (s .places) (currentHolds s v)
+    && (each (s .pages) (waitingAtMost v PageNewest (lastStamp v))
+    && (each (s .pages) (waitingAtMost v PageReplaced (mergesMade v)) && each (s .pages) (waitingLineage s v)))
 
 -- the open transactions
 unfoldable pub opensHold : View → Bool

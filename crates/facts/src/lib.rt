@@ -33,13 +33,13 @@ ghost use Rattle.terms.specs.Measures.{mostScans};
 ghost use Rattle.words.specs.Words.{words};
 ghost use Rattle.layout.specs.Regions.{need, len};
 ghost use Rattle.layout.specs.declared.Region.the-variants.{Opens};
-ghost use Rattle.layout.specs.View.{view, rowsGiven, usedIn};
+ghost use Rattle.layout.specs.View.{view, rowsGiven, lastStamp, usedIn};
 ghost use Rattle.scans.specs.Places.{openCount};
 ghost use Rattle.scans.specs.Table.{tableOf};
-ghost use Rattle.facts.specs.Facts.{firstSlot, each, rowsBetween, rangeBetween, rangeNamesRows, linkHolds, rowLinked, recordLinked, rangeLinked, pageAtMost, pagePlaced, pagesPlaced, lineageWithin, lineagesWithin, storedWithin, factsHold};
+ghost use Rattle.facts.specs.Facts.{firstSlot, each, rowsBetween, rangeBetween, rangeNamesRows, linkHolds, rowLinked, recordLinked, rangeLinked, waitingAtMost, waitingLineage, storedWithin, factsHold};
 ghost use Rattle.facts.specs.Usable.{checked};
 ghost use Rattle.layout.specs.Sizes.{Proper};
-ghost use Rattle.facts.specs.Tests.{Ready, MemoryFacts, Safe, rangeHolds, rowsHold, pagesHold, opensHold, scansHold};
+ghost use Rattle.facts.specs.Tests.{Ready, MemoryFacts, Safe, rangeHolds, rowsHold, currentHolds, pagesHold, opensHold, scansHold};
 
 // What the test finds: the sizes of the store, or that the memory is not usable.
 pub enum Checked {
@@ -246,69 +246,6 @@ fn rows_hold(mem: &[u8], s: Sizes) -> bool
 
 // ---- the pages
 
-// Whether word k of a page is at most a number, unless the page's state is below one that counts. Both words are read, so that the loop vectorises.
-fn page_at_most(mem: &[u8], s: Sizes, least: u32, k: Region, most: u32, p: usize) -> bool
-    requires { ⌜ Ready s (now mem) ⌝ }
-    requires { ⌜ (p < s .pages) × (len s k ≡ s .pages) ⌝ }
-    ensures { λ r. ⌜ r ≡ pageAtMost (view s (words (now (mem .entry)))) least k most p ⌝ }
-{
-    let state = read(mem, s, Region::PageState, p);
-    let word = read(mem, s, k, p);
-    either(state < least, word <= most)
-}
-
-fn pages_at_most(mem: &[u8], s: Sizes, least: u32, k: Region, most: u32) -> bool
-    requires { ⌜ Ready s (now mem) ⌝ }
-    requires { ⌜ len s k ≡ s .pages ⌝ }
-    ensures { λ r. ⌜ r ≡ each (s .pages) (pageAtMost (view s (words (now (mem .entry)))) least k most) ⌝ }
-{
-    let n = s.pages;
-    let mut ok = true;
-    let mut p = 0;
-    while p < n {
-        ok = both(ok, page_at_most(mem, s, least, k, most, p));
-        p += 1;
-    }
-    ok
-}
-
-// Whether place i has a page of the pool that is current and says so of that place.
-fn page_placed(mem: &[u8], s: Sizes, i: usize) -> bool
-    requires { ⌜ Ready s (now mem) ⌝ }
-    requires { ⌜ i < s .places ⌝ }
-    ensures { λ r. ⌜ r ≡ pagePlaced s (view s (words (now (mem .entry)))) i ⌝ }
-{
-    let p = read(mem, s, Region::Current, i) as usize;
-    if p >= s.pages {
-        return false;
-    }
-    let state = read(mem, s, Region::PageState, p);
-    let place = read(mem, s, Region::PagePlace, p);
-    both(state == PAGE_CURRENT, place as usize == i)
-}
-
-fn pages_placed(mem: &[u8], s: Sizes) -> bool
-    requires { ⌜ Ready s (now mem) ⌝ }
-    ensures { λ r. ⌜ r ≡ pagesPlaced s (view s (words (now (mem .entry)))) ⌝ }
-{
-    let n = s.places;
-    let mut ok = true;
-    let mut i = 0;
-    while i < n {
-        ok = both(ok, page_placed(mem, s, i));
-        i += 1;
-    }
-    ok
-}
-
-// A word modulo the places. A division only where it is needed: a place that the store has written is below them.
-fn modulo_places(word: u32, places: u32) -> u32
-    requires { ⌜ 1 ≤ places ⌝ }
-    ensures { λ r. ⌜ r ≡ word % places ⌝ }
-{
-    if word < places { word } else { word % places }
-}
-
 // What a place is multiplied by in place of a division by the columns, and shifted by 16 bits.
 fn inverse_of(columns: usize) -> u32
     requires { ⌜ (1 ≤ columns) × (columns ≤ 16) ⌝ }
@@ -325,12 +262,81 @@ fn range_of_place(place: u32, inverse: u32) -> usize
     (place * inverse / 65536) as usize
 }
 
-fn lineage_within(mem: &[u8], s: Sizes, inverse: u32, p: usize) -> bool
+// Whether place i names a page of the pool that is current and says so of that place, whose newest stamp and lineage are within theirs.
+fn current_holds(mem: &[u8], s: Sizes, inverse: u32, last: u32, i: usize) -> bool
+    requires { ⌜ Ready s (now mem) ⌝ }
+    requires { ⌜ (i < s .places) × (inverse ≡ 65536 / s .columns + 1) × (inverse ≤ 65537) × (last ≡ lastStamp (view s (words (now mem)))) ⌝ }
+    ensures { λ r. ⌜ r ≡ currentHolds s (view s (words (now (mem .entry)))) i ⌝ }
+{
+    let p = read(mem, s, Region::Current, i) as usize;
+    if p >= s.pages {
+        return false;
+    }
+    let state = read(mem, s, Region::PageState, p);
+    let place = read(mem, s, Region::PagePlace, p);
+    let newest = read(mem, s, Region::PageNewest, p);
+    let lineage = read(mem, s, Region::PageLineage, p);
+    let most = read(mem, s, Region::Used, range_of_place(i as u32, inverse));
+    let placed = both(state == PAGE_CURRENT, place as usize == i);
+    both(placed, both(newest <= last, lineage <= most))
+}
+
+fn currents_hold(mem: &[u8], s: Sizes) -> bool
+    requires { ⌜ Ready s (now mem) ⌝ }
+    ensures { λ r. ⌜ r ≡ each (s .places) (currentHolds s (view s (words (now (mem .entry))))) ⌝ }
+{
+    let inverse = inverse_of(s.columns);
+    let last = read(mem, s, Region::Header, HEADER_STAMP);
+    let n = s.places;
+    let mut ok = true;
+    let mut i = 0;
+    while i < n {
+        ok = both(ok, current_holds(mem, s, inverse, last, i));
+        i += 1;
+    }
+    ok
+}
+
+// Whether word k of a page is at most a number, if the page waits. Both words are read, so that the loop vectorises.
+fn waiting_at_most(mem: &[u8], s: Sizes, k: Region, most: u32, p: usize) -> bool
+    requires { ⌜ Ready s (now mem) ⌝ }
+    requires { ⌜ (p < s .pages) × (len s k ≡ s .pages) ⌝ }
+    ensures { λ r. ⌜ r ≡ waitingAtMost (view s (words (now (mem .entry)))) k most p ⌝ }
+{
+    let state = read(mem, s, Region::PageState, p);
+    let word = read(mem, s, k, p);
+    either(state < PAGE_WAITING, word <= most)
+}
+
+fn all_waiting_at_most(mem: &[u8], s: Sizes, k: Region, most: u32) -> bool
+    requires { ⌜ Ready s (now mem) ⌝ }
+    requires { ⌜ len s k ≡ s .pages ⌝ }
+    ensures { λ r. ⌜ r ≡ each (s .pages) (waitingAtMost (view s (words (now (mem .entry)))) k most) ⌝ }
+{
+    let n = s.pages;
+    let mut ok = true;
+    let mut p = 0;
+    while p < n {
+        ok = both(ok, waiting_at_most(mem, s, k, most, p));
+        p += 1;
+    }
+    ok
+}
+
+// A word modulo the places. A division only where it is needed: a place that the store has written is below them.
+fn modulo_places(word: u32, places: u32) -> u32
+    requires { ⌜ 1 ≤ places ⌝ }
+    ensures { λ r. ⌜ r ≡ word % places ⌝ }
+{
+    if word < places { word } else { word % places }
+}
+
+fn waiting_lineage(mem: &[u8], s: Sizes, inverse: u32, p: usize) -> bool
     requires { ⌜ Ready s (now mem) ⌝ }
     requires { ⌜ (p < s .pages) × (inverse ≡ 65536 / s .columns + 1) × (inverse ≤ 65537) ⌝ }
-    ensures { λ r. ⌜ r ≡ lineageWithin s (view s (words (now (mem .entry)))) p ⌝ }
+    ensures { λ r. ⌜ r ≡ waitingLineage s (view s (words (now (mem .entry)))) p ⌝ }
 {
-    if read(mem, s, Region::PageState, p) < PAGE_CURRENT {
+    if read(mem, s, Region::PageState, p) < PAGE_WAITING {
         return true;
     }
     let place = modulo_places(read(mem, s, Region::PagePlace, p), s.places as u32);
@@ -338,16 +344,16 @@ fn lineage_within(mem: &[u8], s: Sizes, inverse: u32, p: usize) -> bool
     read(mem, s, Region::PageLineage, p) <= most
 }
 
-fn lineages_within(mem: &[u8], s: Sizes) -> bool
+fn waiting_lineages(mem: &[u8], s: Sizes) -> bool
     requires { ⌜ Ready s (now mem) ⌝ }
-    ensures { λ r. ⌜ r ≡ lineagesWithin s (view s (words (now (mem .entry)))) ⌝ }
+    ensures { λ r. ⌜ r ≡ each (s .pages) (waitingLineage s (view s (words (now (mem .entry))))) ⌝ }
 {
     let inverse = inverse_of(s.columns);
     let n = s.pages;
     let mut ok = true;
     let mut p = 0;
     while p < n {
-        ok = both(ok, lineage_within(mem, s, inverse, p));
+        ok = both(ok, waiting_lineage(mem, s, inverse, p));
         p += 1;
     }
     ok
@@ -360,11 +366,11 @@ fn pages_hold(mem: &[u8], s: Sizes) -> bool
 {
     let last = read(mem, s, Region::Header, HEADER_STAMP);
     let made = read(mem, s, Region::Header, HEADER_MERGES);
-    let stamps = pages_at_most(mem, s, PAGE_CURRENT, Region::PageNewest, last);
-    let merges = pages_at_most(mem, s, PAGE_WAITING, Region::PageReplaced, made);
-    let placed = pages_placed(mem, s);
-    let lineages = lineages_within(mem, s);
-    both(stamps, both(merges, both(placed, lineages)))
+    let currents = currents_hold(mem, s);
+    let stamps = all_waiting_at_most(mem, s, Region::PageNewest, last);
+    let merges = all_waiting_at_most(mem, s, Region::PageReplaced, made);
+    let lineages = waiting_lineages(mem, s);
+    both(currents, both(stamps, both(merges, lineages)))
 }
 
 // ---- the open transactions and scans

@@ -1,6 +1,5 @@
 -- The demands, proved of lent bytes: a store that calls made is usable, so what the calls promise is what the model says.
 pub mod Tests
-pub mod Pool
 pub mod Stored
 pub mod Same
 pub mod Demands

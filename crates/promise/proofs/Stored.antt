@@ -11,7 +11,7 @@ use lib.Dec.{T, eqb, lt→ltb}
 use lib.ListN.{length, getD, List·getD-eq-default}
 use Rattle.terms.specs.Measures.{Shape, rangeRows, withinLimits}
 use Rattle.terms.specs.declared.Place.{Place}
-use Rattle.layout.specs.declared.Region.the-variants.{Opens, TailRow, Used, Current, PageState}
+use Rattle.layout.specs.declared.Region.the-variants.{Opens, TailRow, Used, Current}
 use Rattle.layout.specs.View.{View, rowsGiven, transactionsGiven, lastStamp, mergesMade, usedIn}
 use Rattle.layout.specs.Sizes.{sizesOf}
 use Rattle.layout.proofs.Limits.{proper}
@@ -24,11 +24,11 @@ use Rattle.history.proofs.Ranges.{records-range}
 use Rattle.history.proofs.Timely.{Timely}
 use Rattle.history.proofs.Links.{noRecord, lastOf, last-of-row}
 use Rattle.scans.specs.Places.{opened, openCount}
-use Rattle.facts.specs.Facts.{inUse, factsHold}
+use Rattle.facts.specs.Facts.{waiting, factsHold}
 use Rattle.facts.proofs.Ready.{Stored}
 use Rattle.facts.proofs.Usable.{Linked, Usable}
 use Rattle.terms.specs.Places.{bears, place, freePlace}
-use Rattle.model.specs.Stored.{rowIn, recordIn, valueIn, pageIn, cellIn, currentIn, placesOf, pagesOf, currentPage}
+use Rattle.model.specs.Stored.{rowIn, recordIn, valueIn, pageIn, cellIn, currentIn, placesOf, pagesOf}
 use Rattle.model.proofs.Book.{live-inside, Kind, Book, book-is, book-found, book-only}
 use Rattle.model.proofs.Merged.{place-mod, place-parts}
 use Rattle.model.proofs.Heads.{in-range}
@@ -36,7 +36,6 @@ use Rattle.model.proofs.Scans.{scanKind, scan-count}
 use Rattle.model.proofs.Transactions.{openKind}
 use Rattle.model.proofs.Represents.{RecordIs, CurrentIs, WaitingIs, madeIn, Represents, Known}
 use Rattle.promise.proofs.Tests.{facts-hold}
-use Rattle.promise.proofs.Pool.{all-taken}
 
 -- ---- numbers from 1, and places that bear them
 
@@ -167,33 +166,18 @@ module _ (S : Shape) (v : View) (ps : List Place) (h : History) (o : Represents 
   page-place : (i : ℕ) → i < placesOf S → (pageIn v (pageAt i)) .place ≡ i
   page-place i b = page-current i b .place ∙ place-parts S (k .small .some-column) i b .2
 
-  -- a page in use is the current page of a place, or waits
-  page-cases : (A : ℕ → Type 0) (p : ℕ) → p < pagesOf S → 1 ≤ (pageIn v p) .state → ((i : ℕ) → i < placesOf S → A (pageAt i)) → (WaitingIs S h (madeIn S v) (pageIn v p) → A p) → A p
-  page-cases A p b u f g =
-      by-cases (ℕ-discrete ((pageIn v p) .state) 1) (λ e. let r = found e in rw (← r .2) (f (r .0) (r .1))) (λ n. g (o .waits p b (lt→ltb 1 ((pageIn v p) .state) (omega arith))))
-    where
-      found : (pageIn v p) .state ≡ 1 → (i : ℕ) × (i < placesOf S) × (pageAt i ≡ p)
-      found e =
-          all-taken (λ q. currentPage ((pageIn v q) .state)) (pagesOf S) pageAt (placesOf S) (λ i c. page-current i c .inside)
-          (λ i c. eqb-equal _ 1 (page-current i c .state))
-          (λ i j c d q. omega (arith, page-place i (omega arith), page-place j d, ap (λ (r : ℕ). (pageIn v r) .place) q)) (o .pool .current) p b (eqb-equal _ 1 e)
+  waits-at : (p : ℕ) → p < pagesOf S → waiting ≤ (pageIn v p) .state → WaitingIs S h (madeIn S v) (pageIn v p)
+  waits-at p b u = o .waits p b (lt→ltb 1 ((pageIn v p) .state) u)
 
-  page-stamps : (p : ℕ) → p < pagesOf S → inUse ≤ (pageIn v p) .state → (pageIn v p) .newest ≤ lastStamp v
-  page-stamps p b u =
-      page-cases (λ q. (pageIn v q) .newest ≤ lastStamp v) p b u (λ i c. omega (arith, page-current i c .holds .stamped, o .header .last-stamp))
-      (λ w. omega (arith, w .stamped, o .header .last-stamp))
+  -- a lineage within the records of range g is within those used
+  lineage-used : (n g : ℕ) → g < S .ranges → n ≤ length (recordsOf h g) → n ≤ usedIn v g
+  lineage-used n g b l = omega (arith, o .tails g b .used-all)
 
-  page-lineages : (p : ℕ) → p < pagesOf S → inUse ≤ (pageIn v p) .state → (pageIn v p) .lineage ≤ usedIn v ((pageIn v p) .place % placesOf S / S .columns)
-  page-lineages p b u =
-      page-cases (λ q. (pageIn v q) .lineage ≤ usedIn v ((pageIn v q) .place % placesOf S / S .columns)) p b u
-      (λ i c. within (pageAt i) i c (page-place i c) (page-current i c .holds .through .within))
-      (λ w. let t = place-parts S (k .small .some-column) ((pageIn v p) .place) (w .place) in within p _ (w .place) refl (w .reach _ _ (t .0) (t .1) (sym (t .2))))
-    where
-      -- a lineage within the records of the place's range
-      within : (q i : ℕ) → i < placesOf S → (pageIn v q) .place ≡ i → (pageIn v q) .lineage ≤ length (recordsOf h (i / S .columns))
-          → (pageIn v q) .lineage ≤ usedIn v ((pageIn v q) .place % placesOf S / S .columns)
-      within q i c e l =
-          rw (ap (λ (x : ℕ). x % placesOf S / S .columns) e, place-mod S i c) (omega (arith, o .tails (i / S .columns) (place-parts S (k .small .some-column) i c .0) .used-all))
+  waiting-lineages : (p : ℕ) → p < pagesOf S → waiting ≤ (pageIn v p) .state → (pageIn v p) .lineage ≤ usedIn v ((pageIn v p) .place % placesOf S / S .columns)
+  waiting-lineages p b u =
+      let w = waits-at p b u in
+      let t = place-parts S (k .small .some-column) ((pageIn v p) .place) (w .place) in
+      rw (place-mod S ((pageIn v p) .place) (w .place)) (lineage-used _ _ (t .0) (w .reach _ _ (t .0) (t .1) (sym (t .2))))
 
   -- ---- all together
   pub represented-usable : Usable (sizesOf S) v ps
@@ -211,16 +195,18 @@ module _ (S : Shape) (v : View) (ps : List Place) (h : History) (o : Represents 
         record-links = λ g i a b. linked g _ i _ a (omega arith) (o .tails g a .links i (used-few g i a b) ∙ ap (λ (r : ℕ). lastOf (recordsOf h g) r i) (sym (record-row g i a b)));
         row-stamps = λ r b. rw (o .rows r (row-is r b) .stamp) (stamp-within _);
         record-stamps = λ g i a b. rw (record-is g i a b .stamp) (stamp-within _);
-        page-stamps = page-stamps;
+        current-stamps = λ i b. omega (arith, page-current i b .holds .stamped, o .header .last-stamp);
+        waiting-stamps = λ p b u. omega (arith, waits-at p b u .stamped, o .header .last-stamp);
         scan-stamps = scan-stamps;
         scan-merges = scan-merges;
-        page-merges = λ p b u. omega (arith, o .waits p b (lt→ltb 1 (getD (v PageState) p 0) u) .replaced-by, o .header .merges-made);
+        waiting-merges = λ p b u. omega (arith, waits-at p b u .replaced-by, o .header .merges-made);
         open-differ = numbers-apart openKind (h .transactions) (v Opens) (o .opens);
         scans-differ = numbers-apart scanKind (h .scans) ps (o .scans .same);
         current-in = λ i b. page-current i b .inside;
         current-state = λ i b. page-current i b .state;
         current-place = page-place;
-        lineages = page-lineages;
+        current-lineages = λ i b. lineage-used _ _ (place-parts S (k .small .some-column) i b .0) (page-current i b .holds .through .within);
+        waiting-lineages = waiting-lineages;
       }
 
   pub represented-facts : withinLimits S ≡ true → factsHold (sizesOf S) v ps ≡ true

@@ -15,13 +15,13 @@ use Rattle.loops.specs.Search.{region, allBetween}
 use Rattle.loops.proofs.Region.{region-at, region-length}
 use Rattle.layout.specs.declared.Sizes.{Sizes}
 use Rattle.layout.specs.declared.Region.{Region}
-use Rattle.layout.specs.declared.Region.the-variants.{Opens, RowTransaction, RowStamp, TailTransaction, TailStamp, Used, PageState, PageReplaced, PageNewest}
+use Rattle.layout.specs.declared.Region.the-variants.{Opens, RowTransaction, RowStamp, TailTransaction, TailStamp, Used, PageState, PageReplaced, PageLineage, PageNewest}
 use Rattle.layout.specs.Regions.{len}
 use Rattle.layout.specs.View.{View, rowsGiven, transactionsGiven, scansGiven, lastStamp, mergesMade, usedIn}
 use Rattle.layout.proofs.View.{Long}
 use Rattle.terms.specs.Places.{freePlace}
 use Rattle.scans.specs.Places.{everyOpen, among, differ}
-use Rattle.facts.specs.Facts.{firstSlot, each, rowsBetween, rangeBetween, pageAtMost, inUse, waiting, storedWithin, countsWithin, rowNamed, rangeNamesRows, recordsNameRows, numbersGiven, linkHolds, rowLinked, recordLinked, rangeLinked, linksHold, stampsWithin, mergesWithin, openDiffer, pagePlaced, pagesPlaced, lineageWithin, lineagesWithin, factsHold}
+use Rattle.facts.specs.Facts.{firstSlot, each, rowsBetween, rangeBetween, currentAtMost, waiting, waitingAtMost, storedWithin, countsWithin, rowNamed, rangeNamesRows, recordsNameRows, numbersGiven, linkHolds, rowLinked, recordLinked, rangeLinked, linksHold, stampsWithin, mergesWithin, openDiffer, pagePlaced, pagesPlaced, currentLineage, waitingLineage, lineagesWithin, factsHold}
 use Rattle.layout.specs.Sizes.{Proper}
 use Rattle.facts.proofs.Each.{each-true}
 use Rattle.facts.proofs.Within.{range-in}
@@ -65,10 +65,10 @@ unfolding linkHolds
 link-holds s v g most r link l =
     either (eqb link 0) _ (λ e. both (le-leb link most (l .low)) (eq-eqb _ r (l .same (eqb-false link 0 e))))
 
-page-holds : (v : View) (least : ℕ) (k : Region) (most p : ℕ) → (least ≤ getD (v PageState) p 0 → getD (v k) p 0 ≤ most) → pageAtMost v least k most p ≡ true
-unfolding pageAtMost
-page-holds v least k most p f =
-    either (ltb (getD (v PageState) p 0) least) _ (λ e. le-leb (getD (v k) p 0) most (f (ltb-false (getD (v PageState) p 0) least e)))
+waiting-holds : (v : View) (k : Region) (most p : ℕ) → (waiting ≤ getD (v PageState) p 0 → getD (v k) p 0 ≤ most) → waitingAtMost v k most p ≡ true
+unfolding waitingAtMost
+waiting-holds v k most p f =
+    either (ltb (getD (v PageState) p 0) waiting) _ (λ e. le-leb (getD (v k) p 0) most (f (ltb-false (getD (v PageState) p 0) waiting e)))
 
 -- ---- all clauses
 
@@ -123,18 +123,20 @@ module _ (s : Sizes) (v : View) (ps : List Place) (z : Proper s) (long : Long s 
       (λ g h. each-true (recordLinked s v g) (usedIn v g) (λ i j. link-holds s v g i _ _ (u .record-links g i h j))))
 
   stamps : stampsWithin s v ps ≡ true
-  unfolding stampsWithin
+  unfolding stampsWithin currentAtMost
   stamps =
       both (rows-between RowStamp 0 (lastStamp v) refl (λ r h. (omega arith, u .row-stamps r h)))
       (both (records-between TailStamp 0 (lastStamp v) refl (λ g i h j. (omega arith, u .record-stamps g i h j)))
-      (both (each-true (pageAtMost v inUse PageNewest (lastStamp v)) (s .pages) (λ p h. page-holds v inUse PageNewest (lastStamp v) p (u .page-stamps p h)))
+      (both
+      (both (each-true (currentAtMost v PageNewest (lastStamp v)) (s .places) (λ i h. le-leb _ _ (u .current-stamps i h)))
+      (each-true (waitingAtMost v PageNewest (lastStamp v)) (s .pages) (λ p h. waiting-holds v PageNewest (lastStamp v) p (u .waiting-stamps p h))))
       (every-open (λ p. leb (p .stamp) (lastStamp v)) ps (λ j n. le-leb _ _ (u .scan-stamps j n)))))
 
   merges : mergesWithin s v ps ≡ true
   unfolding mergesWithin
   merges =
       both (every-open (λ p. leb (p .merges) (mergesMade v)) ps (λ j n. le-leb _ _ (u .scan-merges j n)))
-      (each-true (pageAtMost v waiting PageReplaced (mergesMade v)) (s .pages) (λ p h. page-holds v waiting PageReplaced (mergesMade v) p (u .page-merges p h)))
+      (each-true (waitingAtMost v PageReplaced (mergesMade v)) (s .pages) (λ p h. waiting-holds v PageReplaced (mergesMade v) p (u .waiting-merges p h)))
 
   opens-differ : openDiffer v ps ≡ true
   unfolding openDiffer
@@ -150,10 +152,10 @@ module _ (s : Sizes) (v : View) (ps : List Place) (z : Proper s) (long : Long s 
       (λ i h. both (lt-ltb _ _ (u .current-in i h)) (both (eq-eqb _ 1 (u .current-state i h)) (eq-eqb _ i (u .current-place i h))))
 
   lineages : lineagesWithin s v ≡ true
-  unfolding lineagesWithin lineageWithin
+  unfolding lineagesWithin currentLineage waitingLineage currentAtMost
   lineages =
-      each-true (lineageWithin s v) (s .pages)
-      (λ p h. either (ltb (getD (v PageState) p 0) inUse) _ (λ e. le-leb _ _ (u .lineages p h (ltb-false (getD (v PageState) p 0) inUse e))))
+      both (each-true (currentLineage s v) (s .places) (λ i h. le-leb _ _ (u .current-lineages i h)))
+      (each-true (waitingLineage s v) (s .pages) (λ p h. waiting-holds v PageLineage _ p (u .waiting-lineages p h)))
 
   pub facts-hold : factsHold s v ps ≡ true
   unfolding factsHold

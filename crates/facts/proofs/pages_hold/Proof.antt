@@ -18,4 +18,12 @@ pages-hold-spec =
     (λ c κs. search needs)
     (λ c κs. search needs)
     (λ c κs. search needs)
-    (λ c. rw (c .both3 .ensures, c .before .both2 .ensures, c .before .before .both .ensures, c .before .before .before .lineages-within .ensures, c .before .before .before .before .pages-placed .ensures, c .before .before .before .before .before .pages-at-most2 .ensures, c .before .before .before .before .before .before .pages-at-most .ensures, c .before .before .before .before .before .before .before .read2 .ensures, c .before .before .before .before .before .before .before .before .read .ensures)))
+    (λ c.
+    let two = c .before in
+    let one = two .before in
+    let lineages = one .before in
+    let merges = lineages .before in
+    let stamps = merges .before in
+    let currents = stamps .before in
+    let made = currents .before in
+    rw (c .both3 .ensures, two .both2 .ensures, one .both .ensures, lineages .waiting-lineages .ensures, merges .all-waiting-at-most2 .ensures, stamps .all-waiting-at-most .ensures, currents .currents-hold .ensures, made .read2 .ensures, made .before .read .ensures)))

@@ -1,18 +1,19 @@
--- `facts::lineage_within` meets its contract.
+-- `facts::waiting_lineage` meets its contract.
 use native.Mathlib.Omega.{arith}
+use native.Mathlib.Nat.{mod-lt}
 use borrow.Author.Needs.{needs}
 use Prim.Native.Nat.{ℕ, _/_, _%_}
 use mathlib.Core.Path.{_≡_, ap, _∙_}
 use borrow.Author.Tests.{lt-ltb, le-ltb}
 use Rattle.words.specs.Words.{words}
 use Rattle.layout.specs.View.{view}
-use Rattle.facts.specs.Facts.{pageRange, lineageWithin}
+use Rattle.facts.specs.Facts.{pageRange, waitingAtMost, waitingLineage}
 use Rattle.facts.proofs.Within.{place-range, place-few, places-some}
-use Rattle.facts.proofs.lineage_within.Statement.{statement}
-use Rattle.facts.proofs.lineage_within.Tie as tie
+use Rattle.facts.proofs.waiting_lineage.Statement.{statement}
+use Rattle.facts.proofs.waiting_lineage.Tie as tie
 
 returns : tie.Need-returns
-unfolding lineageWithin
+unfolding waitingLineage waitingAtMost
 returns c = rw (← c .before .read .ensures, lt-ltb _ _ (c .if1 .taken))
 
 modulo-places-requires : tie.Need-modulo-places-requires
@@ -23,7 +24,7 @@ modulo-places-requires c κs =
 range-of-place-requires : tie.Need-range-of-place-requires
 range-of-place-requires c κs =
     let s = c .before .before .before .before .before .before in
-    (rw (c .modulo-places .ensures) (place-few (s .args .s) _ (s .pre .0 .proper)), s .pre .1 .2)
+    (rw (c .modulo-places .ensures) (place-few (s .args .s) _ (s .pre .0 .proper) (mod-lt _ (places-some (s .args .s) (s .pre .0 .proper)))), s .pre .1 .2)
 
 abbrev start : tie.After-range-of-place → tie.Start
 start c = c .before .before .before .before .before .before .before
@@ -37,10 +38,10 @@ range-is c =
     ∙ ap (λ (x : ℕ). x / z .columns) (c .before .modulo-places .ensures ∙ ap (λ (x : ℕ). x % z .places) (c .before .before .before .read2 .ensures))
 
 read-requires-3 : tie.Need-read-requires-3
-read-requires-3 c κs = (start c .pre .0 .room, rw (range-is c) (place-range (start c .args .s) _ (start c .pre .0 .proper)))
+read-requires-3 c κs = (start c .pre .0 .room, rw (range-is c) (place-range (start c .args .s) _ (start c .pre .0 .proper) (mod-lt _ (places-some (start c .args .s) (start c .pre .0 .proper)))))
 
 returns-2 : tie.Need-returns-2
-unfolding lineageWithin
+unfolding waitingLineage waitingAtMost
 returns-2 c =
     let three = c .before in
     let range = three .before in
@@ -48,8 +49,8 @@ returns-2 c =
     let one = two .before in
     rw (← one .before .read .ensures, le-ltb _ _ (one .if1 .left), c .read4 .ensures, three .read3 .ensures, range-is range)
 
-pub lineage-within-spec : {M : Type 1} → statement M
-lineage-within-spec =
+pub waiting-lineage-spec : {M : Type 1} → statement M
+waiting-lineage-spec =
     tie.close
     (tie.spec
     (λ c κs. search needs)

@@ -1,21 +1,21 @@
--- `facts::pages_at_most` meets its contract. The invariant: the flag is that of the pages below p.
+-- `facts::all_waiting_at_most` meets its contract. The invariant: the flag is that of the pages below p.
 use borrow.Author.Needs.{needs}
 use Prim.Native.Nat.{_-_}
 use Rattle.words.specs.Words.{words}
 use Rattle.layout.specs.View.{view}
-use Rattle.facts.specs.Facts.{pageAtMost}
+use Rattle.facts.specs.Facts.{waitingAtMost}
 use Rattle.facts.proofs.Each.{Flagged, flag-raised, flag-next, flag-all}
-use Rattle.facts.proofs.pages_at_most.Statement.{statement}
-use Rattle.facts.proofs.pages_at_most.Tie as tie
+use Rattle.facts.proofs.all_waiting_at_most.Statement.{statement}
+use Rattle.facts.proofs.all_waiting_at_most.Tie as tie
 
 abbrev Inv-loop : tie.InvT-loop
-Inv-loop mem s least k most n ok₀ p₀ ok p = Flagged n (pageAtMost (view s (words mem)) least k most) ok p
+Inv-loop mem s k most n ok₀ p₀ ok p = Flagged n (waitingAtMost (view s (words mem)) k most) ok p
 
 abbrev μ-loop : tie.MeasureT-loop
-μ-loop mem s least k most n ok₀ p₀ ok p = n - p
+μ-loop mem s k most n ok₀ p₀ ok p = n - p
 
-pub pages-at-most-spec : {M : Type 1} → statement M
-pages-at-most-spec =
+pub all-waiting-at-most-spec : {M : Type 1} → statement M
+all-waiting-at-most-spec =
     tie.close
     (tie.spec
     Inv-loop
@@ -27,5 +27,5 @@ pages-at-most-spec =
     (λ c. search needs)
     (λ c.
     let b = c .before .before .before .loop in
-    flag-next _ _ _ (b .p) (b .inv) _ _ (c .before .before .loop-test .taken) (c .before .page-at-most .ensures) (c .both .ensures))
+    flag-next _ _ _ (b .p) (b .inv) _ _ (c .before .before .loop-test .taken) (c .before .waiting-at-most .ensures) (c .both .ensures))
     (λ c. flag-all _ _ _ (c .before .loop .p) (c .before .loop .inv) (c .loop-test .left)))

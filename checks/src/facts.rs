@@ -103,9 +103,8 @@ const FACTS: [Fact; 22] = [
         s.scans.iter().all(|scan| scan.merges <= s.header(header::MERGES_MADE))
     }),
     ("a waiting page's merge is among those made", |s| {
-        let waiting = |at: &usize| s.get(Region::PageState, *at) > page::CURRENT;
         let made = s.header(header::MERGES_MADE);
-        s.kept_pages().filter(waiting).all(|at| s.get(Region::PageReplaced, at) <= made)
+        s.kept_pages().filter(|at| s.waits(*at)).all(|at| s.get(Region::PageReplaced, at) <= made)
     }),
     // "open numbers differ, each within its own series"
     ("open transactions differ", |s| differ(&s.open())),
@@ -186,9 +185,17 @@ impl Stored<'_> {
         self.records().map(|(range, number)| self.layout.slot(range, number as usize))
     }
 
-    /// The pages marked current or waiting.
+    /// The current and the waiting pages: those that a place names, and those marked as waiting.
+    /// Any other page is free, whatever it says.
     fn kept_pages(&self) -> impl Iterator<Item = usize> + '_ {
-        (0..self.layout.pages).filter(|at| self.get(Region::PageState, *at) != page::FREE)
+        let named = |at: &usize| {
+            (0..self.layout.places).any(|place| self.get(Region::Current, place) as usize == *at)
+        };
+        (0..self.layout.pages).filter(move |at| named(at) || self.waits(*at))
+    }
+
+    fn waits(&self, at: usize) -> bool {
+        self.get(Region::PageState, at) > page::CURRENT
     }
 
     /// The numbers of the open transactions.

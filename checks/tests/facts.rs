@@ -3,7 +3,7 @@
 use std::collections::BTreeSet;
 
 use checks::damage::{flip, good, SMALL};
-use checks::memory::{header, put_word, word, Layout, Region, Scan, SCAN_WORDS, WORD};
+use checks::memory::{header, page, put_word, word, Layout, Region, Scan, SCAN_WORDS, WORD};
 use checks::plain::{sound, Plain};
 use checks::unmade::{any_lent, passing};
 use checks::{damage, facts, Store};
@@ -123,6 +123,10 @@ fn unused_words_may_hold_anything() {
     for (region, at) in unused {
         put_word(&mut memory, layout.base(region) + at, u32::MAX);
     }
+    assert_eq!(facts::failing(&memory, &list), None);
+    assert!(sound(&memory, &list).is_some());
+    // A page that says it is current and that no place names is free all the same.
+    put_word(&mut memory, layout.base(Region::PageState) + layout.places, page::CURRENT);
     assert_eq!(facts::failing(&memory, &list), None);
     assert!(sound(&memory, &list).is_some());
 }

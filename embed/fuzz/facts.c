@@ -65,17 +65,23 @@ static const char *failing_row(const struct layout *l, const uint8_t *mem, uint3
     return NULL;
 }
 
+/* A current page, which a place names, or a waiting one. */
 static const char *failing_page(const struct layout *l, const uint8_t *mem, uint32_t page) {
-    uint32_t state = get(l, mem, PAGE_STATE, page), range = get(l, mem, PAGE_PLACE, page) % l->places / l->columns;
-    if (state == PAGE_FREE)
-        return NULL;
+    uint32_t range = get(l, mem, PAGE_PLACE, page) % l->places / l->columns;
     if (get(l, mem, PAGE_NEWEST, page) > word_at(mem, LAST_STAMP))
         return "a page's newest stamp is not after the last commit's";
-    if (state != PAGE_CURRENT && get(l, mem, PAGE_REPLACED, page) > word_at(mem, MERGES_MADE))
-        return "a waiting page's merge is among those made";
     if (get(l, mem, PAGE_LINEAGE, page) > get(l, mem, USED, range))
         return "a page's lineage is not above the records used";
     return NULL;
+}
+
+static const char *failing_waiting(const struct layout *l, const uint8_t *mem, uint32_t page) {
+    uint32_t state = get(l, mem, PAGE_STATE, page);
+    if (state == PAGE_FREE || state == PAGE_CURRENT)
+        return NULL;
+    if (get(l, mem, PAGE_REPLACED, page) > word_at(mem, MERGES_MADE))
+        return "a waiting page's merge is among those made";
+    return failing_page(l, mem, page);
 }
 
 static const char *failing_scan(const uint8_t *mem, const deskrook_scan *scans, size_t at) {
@@ -141,12 +147,14 @@ static const char *failing_word(const struct layout *l, const uint8_t *mem) {
     for (uint32_t row = 0; fact == NULL && row < word_at(mem, ROWS_GIVEN); row++)
         fact = failing_row(l, mem, row);
     for (uint32_t page = 0; fact == NULL && page < l->pages; page++)
-        fact = failing_page(l, mem, page);
+        fact = failing_waiting(l, mem, page);
     /* Each place's page is in the pool, is marked current and names its place, so no other place has it. */
     for (uint32_t place = 0; fact == NULL && place < l->places; place++) {
         uint32_t page = get(l, mem, CURRENT, place);
         if (page >= l->pages || get(l, mem, PAGE_STATE, page) != PAGE_CURRENT || get(l, mem, PAGE_PLACE, page) != place)
             fact = "a current page is in the pool, marked and of its place";
+        else
+            fact = failing_page(l, mem, page);
     }
     return fact;
 }

@@ -95,16 +95,24 @@ impl<'m> Facts<'m> {
         true
     }
 
-    /// The page of each place is in the pool, marked current, and names its place.
+    /// The page of each place is in the pool, marked current, and names its place; its stamp and
+    /// its lineage are within theirs.
     fn current_pages(&self) -> bool {
         let states = self.run(Region::PageState, 0, self.layout.pages);
         let owners = self.run(Region::PagePlace, 0, self.layout.pages);
-        let current = words(self.run(Region::Current, 0, self.layout.places));
-        current.enumerate().all(|(place, at)| {
-            let at = at as usize;
-            at < self.layout.pages
-                && word(states, at) == page::CURRENT
-                && word(owners, at) as usize == place
+        let lineages = self.run(Region::PageLineage, 0, self.layout.pages);
+        let newest = self.run(Region::PageNewest, 0, self.layout.pages);
+        let columns = self.layout.columns;
+        let mut current = words(self.run(Region::Current, 0, self.layout.places));
+        self.used.iter().take(self.layout.ranges).enumerate().all(|(range, used)| {
+            current.by_ref().take(columns).enumerate().all(|(column, at)| {
+                let at = at as usize;
+                at < self.layout.pages
+                    && word(states, at) == page::CURRENT
+                    && word(owners, at) as usize == range * columns + column
+                    && word(newest, at) <= self.last
+                    && word(lineages, at) <= *used
+            })
         })
     }
 
@@ -183,7 +191,7 @@ impl<'m> Facts<'m> {
         !bad
     }
 
-    /// The pages marked current or waiting.
+    /// The pages marked as waiting.
     fn pages(&self) -> bool {
         // The records used of each place's range, so that no page needs a division.
         let mut most = [0; MOST_COLUMNS * MOST_RANGES];
@@ -201,14 +209,12 @@ impl<'m> Facts<'m> {
         let all = states.zip(owners).zip(replaced).zip(lineages).zip(newest);
         let mut bad = false;
         for ((((state, owner), replaced), lineage), newest) in all {
-            if state == page::FREE {
+            if state < page::WAITING {
                 continue;
             }
             let owner = owner as usize;
             let place = if owner < most.len() { owner } else { owner % most.len() };
-            bad |= newest > self.last
-                || (state >= page::WAITING && replaced > self.merges)
-                || lineage > most[place];
+            bad |= newest > self.last || replaced > self.merges || lineage > most[place];
         }
         !bad
     }

@@ -57,8 +57,8 @@ abbrev pub orElse : Walk → (ℕ → ℕ) → ℕ
 orElse (Walk.Found w) f = w
 orElse (Walk.Stopped k) f = f k
 
--- At the page's lineage: the cell, unless the page holds a setting later than the stamp; then further down, and the cell if no record answers (its
--- column's original lies above the lineage, so that no setting of this row is in the page).
+-- At the page's lineage: the cell, unless the page holds a setting later than the stamp; then further down. In a store that calls made a record answers there:
+-- the column's original is not above the lineage, or the walk had stopped at it. In other memories the cell answers where none does.
 unfoldable pub belowLineage : Shape → View → ℕ → ℕ → ℕ → ℕ → PageWords → ℕ → ℕ → ℕ
 belowLineage S v g c t me page cell k =
     let deeper = orElse (walk S v g c t me 0 k k) (λ j. cell) in

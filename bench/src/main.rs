@@ -67,7 +67,9 @@ fn main() {
     #[cfg(feature = "library")]
     interfaces::measure(&mut report);
     #[cfg(feature = "sqlite")]
-    sqlite::measure(&stores, &mut report);
+    let beside = sqlite::measure(&stores, &mut report);
+    #[cfg(not(feature = "sqlite"))]
+    let beside = [];
     print!("{report}");
     if let Some(folder) = folder {
         let write = |name: &str, text: &str| {
@@ -78,7 +80,7 @@ fn main() {
             }
         };
         write("BENCHMARK.md", &report.to_string());
-        write("benchmark.svg", &plot::page(&ratios, &curves));
+        write("benchmark.svg", &plot::page(&ratios, &curves, &beside));
     }
 }
 

@@ -1,136 +1,310 @@
-//! The plot: the ratio of each call at each shape, and how the cost grows, as one SVG.
+//! The plot: the ratio of each call at each shape, how the cost grows, and SQLite beside the stores, as
+//! one SVG. It has a ground of its own, and its colours follow a light or dark page.
 
 use reference::text;
 
 use crate::calls::Ratios;
 use crate::growth::Curve;
-use crate::named;
+use crate::{named, LARGEST};
 
-const WIDTH: f64 = 960.0;
+const WIDTH: f64 = 900.0;
+/// Where the panels begin and end, and where one begins whose rows have names.
 const LEFT: f64 = 70.0;
-const RIGHT: f64 = 190.0;
-const PANEL: f64 = 300.0;
-const COLOURS: [&str; 8] =
-    ["#555555", "#1b6ca8", "#c8553d", "#2a9d5c", "#8d5fb0", "#b8860b", "#d6336c", "#0b7285"];
+const RIGHT: f64 = 720.0;
+const LEFT_OF_NAMED: f64 = 290.0;
+/// The height of a panel, and where each begins.
+const PANEL: f64 = 260.0;
+const TOPS: [f64; 3] = [50.0, 460.0, 820.0];
+/// What is under a panel for ticks and a title.
+const FOOT: f64 = 56.0;
+/// At most so many steps are on an axis.
+const STEPS: f64 = 8.0;
 /// Where a call may be at most, and where it is as quick as the plain store.
 const TARGET: f64 = 1.2;
 const EVEN: f64 = 1.0;
+const STYLE: &str = "  <style>
+    .ground { fill: #ffffff }
+    text { font: 12px 'DejaVu Sans', Helvetica, Arial, sans-serif; fill: #1a1a1a }
+    .head { font-weight: bold }
+    .mid { text-anchor: middle }
+    .end { text-anchor: end }
+    .axis { fill: none; stroke: #333333 }
+    .grid { stroke: #dddddd }
+    .level { stroke: #777777 }
+    .target { stroke: #b00020; stroke-dasharray: 6 3 }
+    .dots { stroke: currentColor; stroke-width: 7; stroke-linecap: round; stroke-opacity: 0.75 }
+    .curve { fill: none; stroke: currentColor; stroke-width: 1.6 }
+    .plain { stroke-dasharray: 5 3 }
+    .c0 { color: #666666 }
+    .c1 { color: #0072b2 }
+    .c2 { color: #d55e00 }
+    .c3 { color: #009e73 }
+    .c4 { color: #b0609a }
+    @media (prefers-color-scheme: dark) {
+      .ground { fill: #16181c }
+      text { fill: #e6e6e6 }
+      .axis { stroke: #cccccc }
+      .grid { stroke: #3a3d44 }
+      .level { stroke: #999999 }
+      .target { stroke: #ff7a85 }
+      .c0 { color: #aaaaaa }
+      .c1 { color: #56b4e9 }
+      .c2 { color: #f08c3a }
+      .c3 { color: #2fc89b }
+      .c4 { color: #e5a3c8 }
+    }
+  </style>
+";
 
-/// A rectangle of the page with a scale on each side.
-struct Panel {
-    top: f64,
-    most_x: f64,
-    most_y: f64,
+/// What SQLite and the stores took for the same: a name and nanoseconds for each.
+#[cfg_attr(not(feature = "sqlite"), allow(dead_code))]
+pub struct Beside {
+    pub name: String,
+    pub times: Vec<(&'static str, f64)>,
 }
 
-impl Panel {
-    fn x(&self, x: f64) -> f64 {
-        LEFT + x / self.most_x * (WIDTH - LEFT - RIGHT)
+/// The whole plot; without SQLite's figures it has no panel of them.
+pub fn page(ratios: &[Ratios], curves: &[Curve], beside: &[Beside]) -> String {
+    let mut panels = vec![ratio_panel(ratios, TOPS[0]), growth_panel(curves, TOPS[1])];
+    if !beside.is_empty() {
+        panels.push(beside_panel(beside, TOPS[2]));
     }
-
-    fn y(&self, y: f64) -> f64 {
-        self.top + PANEL - y / self.most_y * PANEL
-    }
-
-    fn frame(&self, title: &str) -> String {
-        let (top, bottom, right) = (self.top, self.top + PANEL, WIDTH - RIGHT);
-        format!(
-            "<text x='{LEFT}' y='{}' font-weight='bold'>{title}</text>\n<path d='M{LEFT} {top}V{bottom}H{right}' fill='none' stroke='black'/>\n",
-            top - 12.0
-        )
-    }
-
-    fn tick_y(&self, y: f64, label: &str) -> String {
-        let at = self.y(y);
-        format!(
-            "<path d='M{LEFT} {at:.1}H{}' stroke='#dddddd'/>\n<text x='{}' y='{:.1}' text-anchor='end'>{label}</text>\n",
-            WIDTH - RIGHT,
-            LEFT - 6.0,
-            at + 4.0
-        )
-    }
-
-    fn key(&self, place: usize, colour: &str, label: &str) -> String {
-        let (x, y) = (WIDTH - RIGHT + 16.0, self.top + 12.0 + place as f64 * 18.0);
-        format!(
-            "<circle cx='{x}' cy='{y}' r='4' fill='{colour}'/>\n<text x='{}' y='{}'>{label}</text>\n",
-            x + 10.0,
-            y + 4.0
-        )
-    }
-}
-
-/// The whole plot.
-pub fn page(ratios: &[Ratios], curves: &[Curve]) -> String {
-    let (first, second) = (40.0, 40.0 + PANEL + 150.0);
-    let height = second + PANEL + 60.0;
+    let height = TOPS[panels.len() - 1] + PANEL + FOOT;
     format!(
-        "<svg xmlns='http://www.w3.org/2000/svg' viewBox='0 0 {WIDTH} {height}' font-family='sans-serif' font-size='12'>\n<rect width='{WIDTH}' height='{height}' fill='white'/>\n{}{}</svg>\n",
-        ratio_panel(ratios, first),
-        growth_panel(curves, second)
+        "<svg xmlns='http://www.w3.org/2000/svg' width='{WIDTH}' height='{height}' viewBox='0 0 {WIDTH} {height}' role='img'>
+  <title>The figures of docs/BENCHMARK.md</title>
+  <desc>The ratio of each call to the plain page store, how the time of a call grows, and SQLite beside the stores.</desc>
+{STYLE}  <rect class='ground' width='{WIDTH}' height='{height}'/>
+{}</svg>
+",
+        panels.concat()
     )
 }
 
 fn ratio_panel(ratios: &[Ratios], top: f64) -> String {
     let all = ratios.iter().flat_map(|ratios| ratios.calls.iter().flatten());
-    let most = all.fold(1.5f64, |most, ratio| most.max(*ratio));
-    let names = text::NAMES.len();
-    let panel = Panel { top, most_x: names as f64, most_y: most * 1.05 };
-    let mut svg = panel.frame(
-        "Ratio of each call to the plain page store: empty, half and full from left to right",
-    );
-    let mut step = 0.0;
-    while step < panel.most_y {
-        svg += &panel.tick_y(step, &format!("{step:.1}"));
-        step += 0.2;
+    let ticks = ticks(all.fold(TARGET * 1.1, |most, ratio| most.max(*ratio)));
+    let x = Scale { least: 0.0, most: text::NAMES.len() as f64, from: LEFT, to: RIGHT };
+    let panel = Panel { x, y: upward(top, &ticks) };
+    let mut svg = panel.title_y("times the plain store’s time");
+    svg += &panel.title_x(74.0, "for each call from left to right: empty, half, full");
+    for (value, label) in &ticks {
+        svg += &panel.tick_y(*value, "grid", label);
     }
-    for (level, colour) in [(EVEN, "#888888"), (TARGET, "#d6336c")] {
-        let y = panel.y(level);
-        svg += &format!("<path d='M{LEFT} {y:.1}H{}' stroke='{colour}'/>\n", WIDTH - RIGHT);
+    for (level, class, label) in
+        [(EVEN, "level", "as the plain store"), (TARGET, "target", "target")]
+    {
+        svg += &panel.tick_y(level, class, "");
+        svg += &words(RIGHT + 8.0, panel.y.at(level) + 4.0, "", label);
     }
     for (place, name) in text::NAMES.iter().enumerate() {
-        let (x, y) = (panel.x(place as f64 + 0.5), top + PANEL + 14.0);
-        svg += &format!("<text x='{x:.1}' y='{y}' text-anchor='end' transform='rotate(-45 {x:.1} {y})'>{name}</text>\n");
-    }
-    for (at, ratios) in ratios.iter().enumerate() {
-        let colour = COLOURS[at + 1];
-        svg += &panel.key(at, colour, &named(&ratios.shape));
-        for (call, fillings) in ratios.calls.iter().enumerate() {
-            for (filling, ratio) in fillings.iter().enumerate() {
-                let x = panel.x(call as f64 + 0.2 + filling as f64 * 0.3);
-                svg += &format!(
-                    "<circle cx='{x:.1}' cy='{:.1}' r='3' fill='{colour}' fill-opacity='0.7'/>\n",
-                    panel.y(*ratio)
-                );
-            }
+        let (x, y) = (tenth(panel.x.at(place as f64 + 0.5) + 4.0), top + PANEL + 12.0);
+        svg += &format!(
+            "  <text x='{x}' y='{y}' class='end' transform='rotate(-45 {x} {y})'>{name}</text>\n"
+        );
+        if place > 0 {
+            svg += &panel.line_x(place as f64);
         }
     }
-    svg + &panel.key(ratios.len() + 1, "#d6336c", &format!("target {TARGET}"))
+    svg += &panel.frame("Each call of the library beside the plain page store, by shape: columns, ranges, tail records, spares");
+    let mut keys = Vec::new();
+    for (place, ratios) in ratios.iter().enumerate() {
+        let class = format!("dots c{}", place + 1);
+        let mut dots = Vec::new();
+        for (call, fillings) in ratios.calls.iter().enumerate() {
+            for (filling, ratio) in fillings.iter().enumerate() {
+                let share = (filling as f64 + 0.5) / fillings.len() as f64;
+                dots.push((call as f64 + share, *ratio));
+            }
+        }
+        svg += &panel.dots(&class, &dots);
+        keys.push((class, named(&ratios.shape)));
+    }
+    svg + &panel.keys(&keys)
 }
 
 fn growth_panel(curves: &[Curve], top: f64) -> String {
     let points = || curves.iter().flat_map(|curve| &curve.points);
-    let most_x = points().fold(0f64, |most, (words, _)| most.max(*words));
-    let most_y = points().fold(0f64, |most, (_, time)| most.max(*time));
-    let panel = Panel { top, most_x, most_y: most_y * 1.05 };
-    let mut svg = panel.frame("Microseconds of a call by used words, largest shape");
-    for step in 0..=5 {
-        let time = most_y * f64::from(step) / 5.0;
-        svg += &panel.tick_y(time, &format!("{:.1}", time / 1000.0));
-        let words = most_x * f64::from(step) / 5.0;
-        let (x, y) = (panel.x(words), top + PANEL + 18.0);
-        svg += &format!("<text x='{x:.1}' y='{y}' text-anchor='middle'>{words:.0}</text>\n");
+    let ticks_x = ticks(points().fold(0f64, |most, (words, _)| most.max(*words)) / 1000.0);
+    let ticks_y = ticks(points().fold(0f64, |most, (_, time)| most.max(*time)) / 1000.0);
+    let x = Scale { least: 0.0, most: last(&ticks_x), from: LEFT, to: RIGHT };
+    let panel = Panel { x, y: upward(top, &ticks_y) };
+    let mut svg = panel.title_y("microseconds of a call");
+    svg += &panel.title_x(38.0, "words used, in thousands");
+    for (value, label) in &ticks_y {
+        svg += &panel.tick_y(*value, "grid", label);
     }
-    for (place, curve) in curves.iter().enumerate() {
-        let colour = COLOURS[place % COLOURS.len()];
+    for (value, label) in &ticks_x {
+        svg += &panel.tick_x(*value, label);
+    }
+    let shape = named(&LARGEST);
+    svg += &panel.frame(&format!("How the time of a call grows with what is used, shape {shape}"));
+    let mut keys = Vec::new();
+    let mut calls = Vec::new();
+    for curve in curves {
+        // One colour for a call, dashed for the plain store: "latest, plain".
+        let (call, store) = curve.name.split_once(", ").unwrap_or((&curve.name, ""));
+        if !calls.contains(&call) {
+            calls.push(call);
+        }
+        let class = format!("curve c{} {store}", calls.len() - 1).trim_end().to_string();
         let points: Vec<String> = (curve.points.iter())
-            .map(|(words, time)| format!("{:.1},{:.1}", panel.x(*words), panel.y(*time)))
+            .map(|(words, time)| (panel.x.at(words / 1000.0), panel.y.at(time / 1000.0)))
+            .map(|(x, y)| format!("{},{}", tenth(x), tenth(y)))
             .collect();
-        svg += &format!(
-            "<polyline points='{}' fill='none' stroke='{colour}' stroke-width='1.5'/>\n",
-            points.join(" ")
-        );
-        svg += &panel.key(place, colour, &curve.name);
+        svg += &format!("  <polyline class='{class}' points='{}'/>\n", points.join(" "));
+        keys.push((class, curve.name.clone()));
     }
-    svg
+    svg + &panel.keys(&keys)
+}
+
+/// A row for each thing that is done. The times span powers of ten, so the scale is logarithmic.
+fn beside_panel(beside: &[Beside], top: f64) -> String {
+    let power = |time: f64| (time / 1000.0).log10();
+    let powers = || beside.iter().flat_map(|row| row.times.iter().map(|(_, time)| power(*time)));
+    let least = powers().fold(f64::INFINITY, f64::min).floor();
+    let most = powers().fold(least + 1.0, f64::max).ceil();
+    let x = Scale { least, most, from: LEFT_OF_NAMED, to: RIGHT };
+    let y = Scale { least: 0.0, most: beside.len() as f64, from: top, to: top + PANEL };
+    let panel = Panel { x, y };
+    let mut svg = panel.title_x(38.0, "microseconds, each line ten times the one before");
+    for tick in least as i32..=most as i32 {
+        svg += &panel.tick_x(f64::from(tick), &10f64.powi(tick).to_string());
+    }
+    for (place, row) in beside.iter().enumerate() {
+        let y = place as f64;
+        svg += &panel.tick_y(y, "grid", "");
+        svg += &words(LEFT_OF_NAMED - 8.0, panel.y.at(y + 0.5) + 4.0, "end", &row.name);
+    }
+    svg += &panel.frame("SQLite, in memory, beside full stores");
+    let mut keys = Vec::new();
+    let names: Vec<&str> = beside[0].times.iter().map(|(name, _)| *name).collect();
+    for (place, name) in names.iter().enumerate() {
+        // SQLite orange, the plain store grey, the library blue.
+        let class = format!("dots c{}", (place + 2) % 3);
+        // One under the other, so that equal times do not hide each other.
+        let share = (place as f64 + 1.0) / (names.len() as f64 + 1.0);
+        let dots: Vec<(f64, f64)> = (beside.iter().enumerate())
+            .map(|(row, beside)| (power(beside.times[place].1), row as f64 + share))
+            .collect();
+        svg += &panel.dots(&class, &dots);
+        keys.push((class, name.to_string()));
+    }
+    svg + &panel.keys(&keys)
+}
+
+/// One side of a panel: which values it shows, and between which places of the page.
+struct Scale {
+    least: f64,
+    most: f64,
+    from: f64,
+    to: f64,
+}
+
+impl Scale {
+    fn at(&self, value: f64) -> f64 {
+        self.from + (value - self.least) / (self.most - self.least) * (self.to - self.from)
+    }
+}
+
+/// The scale of a panel's height, from 0 up to the last tick.
+fn upward(top: f64, ticks: &[(f64, String)]) -> Scale {
+    Scale { least: 0.0, most: last(ticks), from: top + PANEL, to: top }
+}
+
+/// A rectangle of the page with a scale on each side.
+struct Panel {
+    x: Scale,
+    y: Scale,
+}
+
+impl Panel {
+    fn top(&self) -> f64 {
+        self.y.from.min(self.y.to)
+    }
+
+    /// The axes and the panel's title, over the lines of the ticks.
+    fn frame(&self, title: &str) -> String {
+        let (left, top) = (self.x.from, self.top());
+        let bottom = top + PANEL;
+        let frame = format!("  <path class='axis' d='M{left} {top}V{bottom}H{RIGHT}'/>\n");
+        words(20.0, top - 20.0, "head", title) + &frame
+    }
+
+    fn title_x(&self, below: f64, title: &str) -> String {
+        words((self.x.from + RIGHT) / 2.0, self.top() + PANEL + below, "mid", title)
+    }
+
+    fn title_y(&self, title: &str) -> String {
+        let (x, y) = (28.0, self.top() + PANEL / 2.0);
+        format!(
+            "  <text x='{x}' y='{y}' class='mid' transform='rotate(-90 {x} {y})'>{title}</text>\n"
+        )
+    }
+
+    fn tick_y(&self, value: f64, class: &str, label: &str) -> String {
+        let (left, y) = (self.x.from, tenth(self.y.at(value)));
+        let line = format!("  <path class='{class}' d='M{left} {y}H{RIGHT}'/>\n");
+        line + &words(left - 8.0, y + 4.0, "end", label)
+    }
+
+    fn line_x(&self, value: f64) -> String {
+        let (x, top) = (tenth(self.x.at(value)), self.top());
+        format!("  <path class='grid' d='M{x} {top}V{}'/>\n", top + PANEL)
+    }
+
+    fn tick_x(&self, value: f64, label: &str) -> String {
+        self.line_x(value) + &words(self.x.at(value), self.top() + PANEL + 18.0, "mid", label)
+    }
+
+    /// Dots as one path: each is a line of no length with round ends.
+    fn dots(&self, class: &str, dots: &[(f64, f64)]) -> String {
+        let dot =
+            |(x, y): &(f64, f64)| format!("M{} {}h0", tenth(self.x.at(*x)), tenth(self.y.at(*y)));
+        let dots: Vec<String> = dots.iter().map(dot).collect();
+        let lines: Vec<String> = dots.chunks(6).map(|line| line.join(" ")).collect();
+        format!("  <path class='{class}' d='{}'/>\n", lines.join("\n    "))
+    }
+
+    /// What each class of dots or curves stands for, beside the panel's lower end.
+    fn keys(&self, keys: &[(String, String)]) -> String {
+        let mut svg = String::new();
+        for ((class, label), above) in keys.iter().zip((0..keys.len()).rev()) {
+            let (x, y) = (RIGHT + 14.0, self.top() + PANEL - 8.0 - above as f64 * 18.0);
+            let (x, length) = if class.starts_with("dots") { (x + 8.0, 0.0) } else { (x, 16.0) };
+            svg += &format!("  <path class='{class}' d='M{x} {y}h{length}'/>\n");
+            svg += &words(RIGHT + 38.0, y + 4.0, "", label);
+        }
+        svg
+    }
+}
+
+/// Round ticks from 0 to at least `most`: steps of 1, 2 or 5 times a power of ten.
+fn ticks(most: f64) -> Vec<(f64, String)> {
+    let power = 10f64.powf((most / STEPS).log10().floor());
+    let steps = [1.0, 2.0, 5.0].map(|times| times * power);
+    let step = steps.into_iter().find(|step| most / step <= STEPS).unwrap_or(10.0 * power);
+    let decimals = usize::from(step < 1.0);
+    let last = (most / step).ceil() as u32;
+    (0..=last)
+        .map(|tick| f64::from(tick) * step)
+        .map(|value| (value, format!("{value:.decimals$}")))
+        .collect()
+}
+
+fn last(ticks: &[(f64, String)]) -> f64 {
+    ticks.last().map_or(1.0, |(value, _)| *value)
+}
+
+fn words(x: f64, y: f64, class: &str, words: &str) -> String {
+    if words.is_empty() {
+        return String::new();
+    }
+    let class = if class.is_empty() { String::new() } else { format!(" class='{class}'") };
+    format!("  <text x='{}' y='{}'{class}>{words}</text>\n", tenth(x), tenth(y))
+}
+
+/// A place of the page, to a tenth.
+fn tenth(place: f64) -> f64 {
+    (place * 10.0).round() / 10.0
 }

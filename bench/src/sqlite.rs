@@ -10,6 +10,7 @@ use std::time::Instant;
 use reference::{Answer, Call};
 
 use crate::filled::Filled;
+use crate::plot::Beside;
 use crate::report::{ns, Report};
 use crate::{named, time, Named, LARGEST, PROGRAM};
 
@@ -106,7 +107,7 @@ impl Drop for Statement {
     }
 }
 
-pub fn measure(stores: &[Named], report: &mut Report) {
+pub fn measure(stores: &[Named], report: &mut Report) -> Vec<Beside> {
     // SAFETY: the text that SQLite gives ends with 0 and stays.
     let version = unsafe { CStr::from_ptr(sqlite3_libversion()) }.to_string_lossy();
     let note = format!("SQLite {version}, in memory, the same versions in one table with the key (column, row, stamp), statements prepared: nanoseconds, and how many times the store's they are. Update and commit is begin, update, commit; SQLite's is BEGIN, INSERT, COMMIT.");
@@ -115,20 +116,25 @@ pub fn measure(stores: &[Named], report: &mut Report) {
     for (name, _) in stores {
         heads.extend([name.to_string(), "ratio".to_string()]);
     }
-    let mut rows = Vec::new();
+    let (mut rows, mut beside) = (Vec::new(), Vec::new());
     for shape in [PROGRAM, LARGEST] {
         let filled = Filled::new(shape, 100);
         for (name, sqlite, calls) in kinds(&filled) {
             let calls: Vec<&Call> = calls.iter().collect();
             let times = time::rounds(stores, |store| time::calls(store, &filled, &calls));
-            let mut row = vec![format!("{name}, {}", named(&shape)), ns(sqlite)];
-            for time in times {
+            let name = format!("{name}, {}", named(&shape));
+            let mut row = vec![name.clone(), ns(sqlite)];
+            let mut of_each = vec![("SQLite", sqlite)];
+            for ((store, _), time) in stores.iter().zip(times) {
                 row.extend([ns(time), format!("{:.2}", sqlite / time)]);
+                of_each.push((*store, time));
             }
             rows.push(row);
+            beside.push(Beside { name, times: of_each });
         }
     }
     report.table(&heads, &rows);
+    beside
 }
 
 /// What is compared: a name, SQLite's time, and the store's calls.

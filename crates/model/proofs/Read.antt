@@ -67,7 +67,7 @@ module _ (S : Shape) (v : View) (h : History) (i : InOrder h) (g r c t me : ℕ)
   abbrev step : ℕ → ℕ → ℕ → Walk
   step low n k = walk S v g c t me low n k
 
-  walk-stop : (low n k : ℕ) → k ≤ low → step low n k ≡ Walk.Stopped k
+  walk-stop : (low n k : ℕ) → k ≤ low → step low n k ≡ Walk.Stopped (record { 0 = k })
   unfolding walk
   walk-stop low zero k b = refl
   walk-stop low (suc n) k b = rw (is-true (leb k low) (le→leb k low b))

@@ -47,15 +47,15 @@ answersFor t me c x = bit (x .mask) c && (originalKind (x .kind) || (settingKind
 
 -- From record k of range g back along the links, while the record's number is above `low`. The links are lower numbers, so k steps are enough.
 unfoldable pub walk : Shape → View → ℕ → ℕ → ℕ → ℕ → ℕ → ℕ → ℕ → Walk
-walk S v g c t me low zero k = Walk.Stopped k
+walk S v g c t me low zero k = Walk.Stopped (record { 0 = k })
 walk S v g c t me low (suc n) k =
     let x = recordIn v (slot S g k) in
     let further = walk S v g c t me low n (x .link) in
-    cond (leb k low) (Walk.Stopped k) (cond (answersFor t me c x) (Walk.Found (valueIn S v (slot S g k) c)) further)
+    cond (leb k low) (Walk.Stopped (record { 0 = k })) (cond (answersFor t me c x) (Walk.Found (valueIn S v (slot S g k) c)) further)
 
 abbrev pub orElse : Walk → (ℕ → ℕ) → ℕ
 orElse (Walk.Found w) f = w
-orElse (Walk.Stopped k) f = f k
+orElse (Walk.Stopped k) f = f (k .0)
 
 -- At the page's lineage: the cell, unless the page holds a setting later than the stamp; then further down. In a store that calls made a record answers there:
 -- the column's original is not above the lineage, or the walk had stopped at it. In other memories the cell answers where none does.

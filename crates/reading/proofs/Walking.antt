@@ -12,6 +12,7 @@ use Rattle.layout.specs.declared.Region.the-variants.{TailLink, RowMask, RowLin
 use Rattle.layout.specs.View.{View, usedIn}
 use Rattle.model.specs.declared.Walk.{Walk}
 use Rattle.terms.specs.Measures.{Shape}
+use Rattle.terms.specs.declared.Tail.{Tail}
 use Rattle.history.specs.History.{bit, rangeOf}
 use Rattle.model.specs.Stored.{rowIn, recordIn, pageIn, slot, valueIn, cellIn, within}
 use Rattle.model.specs.Reading.{answersFor, walk, belowLineage, wordIn}
@@ -23,7 +24,7 @@ module _ (s : Sizes) (v : View) (linked : Linked s v) (g c t me low : ℕ) (h : 
   abbrev turn : ℕ → Walk → Walk
   turn k further =
       let at = slot (shapeIn s) g k in
-      cond (leb k low) (Walk.Stopped k) (cond (answersFor t me c (recordIn v at)) (Walk.Found (valueIn (shapeIn s) v at c)) further)
+      cond (leb k low) (Walk.Stopped (record { 0 = k })) (cond (answersFor t me c (recordIn v at)) (Walk.Found (valueIn (shapeIn s) v at c)) further)
 
   -- more steps than the number change nothing
   steps : (n m k : ℕ) → k ≤ n → k ≤ m → k ≤ usedIn v g
@@ -39,7 +40,7 @@ module _ (s : Sizes) (v : View) (linked : Linked s v) (g c t me low : ℕ) (h : 
       let lower : link < k = linked .links-lower g k h (omega arith) l in
       ap (turn k) (steps n m link (omega arith) (omega arith) (omega arith))
 
-  pub walk-stop : (k : ℕ) → k ≤ low → walk (shapeIn s) v g c t me low k k ≡ Walk.Stopped k
+  pub walk-stop : (k : ℕ) → k ≤ low → walk (shapeIn s) v g c t me low k k ≡ Walk.Stopped (record { 0 = k })
   unfolding walk
   walk-stop zero l = refl
   walk-stop (suc j) l = rw (le-leb (suc j) low l)
@@ -72,7 +73,7 @@ module _ (S : Shape) (v : View) (c t me p : ℕ) where
     unfolding belowLineage pageIn
     below-found w l q = rw (← e, lt-leb newest t l, q)
 
-    pub below-none : (j : ℕ) → t < newest → walk S v g c t me 0 k k ≡ Walk.Stopped j → cell ≡ belowLineage S v g c t me (pageIn v p) cell k
+    pub below-none : (j : Tail) → t < newest → walk S v g c t me 0 k k ≡ Walk.Stopped j → cell ≡ belowLineage S v g c t me (pageIn v p) cell k
     unfolding belowLineage pageIn
     below-none j l q = rw (← e, lt-leb newest t l, q)
 
@@ -88,9 +89,9 @@ module _ (S : Shape) (v : View) (c t me p : ℕ) where
       unfolding wordIn rowIn pageIn
       word-found w e = rw (← m, b, ← i, ← l, ← n, e)
 
-      pub word-below : (cell k w : ℕ) → walk S v g c t me lineage link link ≡ Walk.Stopped k → cell ≡ cellIn v p (within r)
-          → w ≡ belowLineage S v g c t me (pageIn v p) cell k → w ≡ wordIn S v t me p r c
+      pub word-below : (cell w : ℕ) (k : Tail) → walk S v g c t me lineage link link ≡ Walk.Stopped k → cell ≡ cellIn v p (within r)
+          → w ≡ belowLineage S v g c t me (pageIn v p) cell (k .0) → w ≡ wordIn S v t me p r c
       unfolding wordIn rowIn pageIn
-      word-below cell k w e q d =
+      word-below cell w k e q d =
           let e′ : walk S v g c t me (getD (v PageLineage) p 0) link link ≡ Walk.Stopped k = rw n at e in
           rw (← m, b, ← i, ← l, e′, ← q) d

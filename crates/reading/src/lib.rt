@@ -73,7 +73,7 @@ pub fn walk(mem: &[u8], s: Sizes, who: Reader, g: usize, c: u32, low: Tail, from
         }
         k = read(mem, s, Region::TailLink, at);
     }
-    Walk::Stopped(k)
+    Walk::Stopped(Tail(k))
 }
 
 // The word of a row in a page.
@@ -124,11 +124,11 @@ pub fn word_of(mem: &[u8], s: Sizes, who: Reader, page: usize, row: Row, c: u32)
     let i = row.0 as usize;
     if has_bit(read(mem, s, Region::RowMask, i), c) {
         let g = range_of(row);
-        let lineage = read(mem, s, Region::PageLineage, page);
-        let link = read(mem, s, Region::RowLink, i);
-        return match walk(mem, s, who, g, c, Tail(lineage), Tail(link)) {
+        let lineage = Tail(read(mem, s, Region::PageLineage, page));
+        let link = Tail(read(mem, s, Region::RowLink, i));
+        return match walk(mem, s, who, g, c, lineage, link) {
             Walk::Found(w) => w,
-            Walk::Stopped(k) => below_lineage(mem, s, who, g, c, page, at, Tail(k)),
+            Walk::Stopped(k) => below_lineage(mem, s, who, g, c, page, at, k),
         };
     }
     at

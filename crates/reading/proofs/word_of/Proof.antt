@@ -35,7 +35,7 @@ below-lineage-requires c κs =
     let start = link .before .before .before .before .before .before .before .before .before in
     let pre = start .pre .1 in
     let near = reach link in
-    let lower : c .before .k .given .0 .0 ≤ link .read3 .result = rw (c .before .k .given .1) at (call .walk .ensures .1) in
+    let lower : c .before .k .given .0 .0 .0 ≤ link .read3 .result = rw (c .before .k .given .1) at (call .walk .ensures .1) in
     (start .pre .0, (pre .0, (pre .1 .0, (pre .1 .1 .0, near .0, pre .1 .1 .1, omega (arith, near .1)))))
 
 returns : tie.Need-returns

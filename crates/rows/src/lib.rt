@@ -37,13 +37,12 @@ pub fn has_bit(mask: u32, c: u32) -> bool
 }
 
 // Whether the reader sees a row or record of this state, stamp and transaction.
-pub fn sees(who: Reader, state: u32, stamp: u32, transaction: u32) -> bool
-    ensures { λ r. ⌜ r ≡ sees (who .stamp .0) (who .me .0) state stamp transaction ⌝ }
+pub fn sees(who: Reader, state: u32, stamp: Stamp, transaction: Transaction) -> bool
+    ensures { λ r. ⌜ r ≡ sees (who .stamp .0) (who .me .0) state (stamp .0) (transaction .0) ⌝ }
 {
-    let last = who.stamp.0;
     let me = who.me.0;
     if state == 1 {
-        return stamp <= last;
+        return stamp.0 <= who.stamp.0;
     }
     if state != 0 {
         return false;
@@ -51,7 +50,7 @@ pub fn sees(who: Reader, state: u32, stamp: u32, transaction: u32) -> bool
     if me == 0 {
         return false;
     }
-    transaction == me
+    transaction.0 == me
 }
 
 // Whether the reader sees the insert of a row.
@@ -62,8 +61,8 @@ pub fn sees_row(mem: &[u8], s: Sizes, who: Reader, row: Row) -> bool
 {
     let i = row.0 as usize;
     let state = read(mem, s, Region::RowState, i);
-    let stamp = read(mem, s, Region::RowStamp, i);
-    let transaction = read(mem, s, Region::RowTransaction, i);
+    let stamp = Stamp(read(mem, s, Region::RowStamp, i));
+    let transaction = Transaction(read(mem, s, Region::RowTransaction, i));
     sees(who, state, stamp, transaction)
 }
 
@@ -74,8 +73,8 @@ pub fn sees_record(mem: &[u8], s: Sizes, who: Reader, slot: usize) -> bool
     ensures { λ r. ⌜ r ≡ seesRecord (who .stamp .0) (who .me .0) (recordIn (view s (words (now (mem .entry)))) slot) ⌝ }
 {
     let state = read(mem, s, Region::TailState, slot);
-    let stamp = read(mem, s, Region::TailStamp, slot);
-    let transaction = read(mem, s, Region::TailTransaction, slot);
+    let stamp = Stamp(read(mem, s, Region::TailStamp, slot));
+    let transaction = Transaction(read(mem, s, Region::TailTransaction, slot));
     sees(who, state, stamp, transaction)
 }
 

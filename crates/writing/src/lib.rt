@@ -35,16 +35,17 @@ const DELETE: u32 = 2;
 // ---- insert
 
 // The words of a row that transaction t inserts.
-fn put_row(mem: &mut [u8], s: Sizes, t: u32, row: usize)
+fn put_row(mem: &mut [u8], s: Sizes, t: Transaction, row: Row)
     requires { ⌜ need s * 4 ≤ length (now mem) ⌝ }
-    requires { ⌜ row < s .rows ⌝ }
-    ensures { λ _. ⌜ view s (words (now (mem .exit))) ≡ rowPut t row (view s (words (now (mem .entry)))) ⌝ }
+    requires { ⌜ row .0 < s .rows ⌝ }
+    ensures { λ _. ⌜ view s (words (now (mem .exit))) ≡ rowPut (t .0) (row .0) (view s (words (now (mem .entry)))) ⌝ }
 {
-    write(mem, s, Region::RowTransaction, row, t);
-    write(mem, s, Region::RowState, row, 0);
-    write(mem, s, Region::RowStamp, row, 0);
-    write(mem, s, Region::RowLink, row, 0);
-    write(mem, s, Region::RowMask, row, 0);
+    let i = row.0 as usize;
+    write(mem, s, Region::RowTransaction, i, t.0);
+    write(mem, s, Region::RowState, i, 0);
+    write(mem, s, Region::RowStamp, i, 0);
+    write(mem, s, Region::RowLink, i, 0);
+    write(mem, s, Region::RowMask, i, 0);
 }
 
 // The value of a column into a place of a range's current page.
@@ -80,13 +81,13 @@ pub fn insert(mem: &mut [u8], s: Sizes, at: usize, t: Transaction, vs: [i32; 16]
     requires { ⌜ OpenAt (view s (words (now mem))) (t .0) at × (rowsGiven (view s (words (now mem))) < s .rows) ⌝ }
     ensures { λ r. ⌜ (r .0 ≡ rowsGiven (view s (words (now (mem .entry))))) × (view s (words (now (mem .exit))) ≡ insertedIn (shapeIn s) (t .0) vs (view s (words (now (mem .entry))))) ⌝ }
 {
-    let r = read(mem, s, Region::Header, HEADER_ROWS);
-    let row = r as usize;
-    put_row(mem, s, t.0, row);
-    put_cells(mem, s, row / RANGE_ROWS, row % RANGE_ROWS, vs);
-    write(mem, s, Region::Header, HEADER_ROWS, r + 1);
+    let row = Row(read(mem, s, Region::Header, HEADER_ROWS));
+    put_row(mem, s, t, row);
+    let r = row.0 as usize;
+    put_cells(mem, s, r / RANGE_ROWS, r % RANGE_ROWS, vs);
+    write(mem, s, Region::Header, HEADER_ROWS, row.0 + 1);
     note(mem, s, at);
-    Row(r)
+    row
 }
 
 // ---- update and delete
@@ -96,36 +97,36 @@ fn put_record(
     mem: &mut [u8],
     s: Sizes,
     slot: usize,
-    t: u32,
-    row: u32,
+    t: Transaction,
+    row: Row,
     kind: u32,
     mask: u32,
-    link: u32,
+    link: Tail,
 )
     requires { ⌜ need s * 4 ≤ length (now mem) ⌝ }
     requires { ⌜ slot < s .slots ⌝ }
-    ensures { λ _. ⌜ view s (words (now (mem .exit))) ≡ recordPut slot t row kind mask link (view s (words (now (mem .entry)))) ⌝ }
+    ensures { λ _. ⌜ view s (words (now (mem .exit))) ≡ recordPut slot (t .0) (row .0) kind mask (link .0) (view s (words (now (mem .entry)))) ⌝ }
 {
-    write(mem, s, Region::TailTransaction, slot, t);
-    write(mem, s, Region::TailRow, slot, row);
+    write(mem, s, Region::TailTransaction, slot, t.0);
+    write(mem, s, Region::TailRow, slot, row.0);
     write(mem, s, Region::TailKind, slot, kind);
     write(mem, s, Region::TailMask, slot, mask);
-    write(mem, s, Region::TailLink, slot, link);
+    write(mem, s, Region::TailLink, slot, link.0);
     write(mem, s, Region::TailState, slot, 0);
     write(mem, s, Region::TailStamp, slot, 0);
 }
 
 // One tail record more for a row, of open transaction t: it links to the row's newest one and is the row's newest now.
-fn append(mem: &mut [u8], s: Sizes, t: u32, row: u32, kind: u32, mask: u32)
+fn append(mem: &mut [u8], s: Sizes, t: Transaction, row: Row, kind: u32, mask: u32)
     requires { ⌜ need s * 4 ≤ length (now mem) ⌝ }
     requires { ⌜ Proper s ⌝ }
-    requires { ⌜ Room s (view s (words (now mem))) row 1 ⌝ }
-    ensures { λ _. ⌜ view s (words (now (mem .exit))) ≡ appended (shapeIn s) t row kind mask (view s (words (now (mem .entry)))) ⌝ }
+    requires { ⌜ Room s (view s (words (now mem))) (row .0) 1 ⌝ }
+    ensures { λ _. ⌜ view s (words (now (mem .exit))) ≡ appended (shapeIn s) (t .0) (row .0) kind mask (view s (words (now (mem .entry)))) ⌝ }
 {
-    let r = row as usize;
+    let r = row.0 as usize;
     let g = r / RANGE_ROWS;
     let used = read(mem, s, Region::Used, g);
-    let link = read(mem, s, Region::RowLink, r);
+    let link = Tail(read(mem, s, Region::RowLink, r));
     let slot = g * s.capacity + used as usize;
     put_record(mem, s, slot, t, row, kind, mask, link);
     write(mem, s, Region::Used, g, used + 1);
@@ -188,26 +189,26 @@ fn fill_values(mem: &mut [u8], s: Sizes, g: usize, vs: [i32; 16])
 }
 
 // The record of a row's original values, for the columns of the mask `fresh`.
-fn append_original(mem: &mut [u8], s: Sizes, t: u32, row: u32, fresh: u32)
+fn append_original(mem: &mut [u8], s: Sizes, t: Transaction, row: Row, fresh: u32)
     requires { ⌜ need s * 4 ≤ length (now mem) ⌝ }
     requires { ⌜ Proper s × Pooled s (view s (words (now mem))) ⌝ }
-    requires { ⌜ Room s (view s (words (now mem))) row 1 ⌝ }
-    ensures { λ _. ⌜ view s (words (now (mem .exit))) ≡ originalPut (shapeIn s) t row fresh (view s (words (now (mem .entry)))) ⌝ }
+    requires { ⌜ Room s (view s (words (now mem))) (row .0) 1 ⌝ }
+    ensures { λ _. ⌜ view s (words (now (mem .exit))) ≡ originalPut (shapeIn s) (t .0) (row .0) fresh (view s (words (now (mem .entry)))) ⌝ }
 {
     append(mem, s, t, row, ORIGINAL, fresh);
-    let r = row as usize;
+    let r = row.0 as usize;
     fill_cells(mem, s, r / RANGE_ROWS, r % RANGE_ROWS);
 }
 
 // The record of a call's values, for the columns of its mask.
-fn append_setting(mem: &mut [u8], s: Sizes, t: u32, row: u32, mask: u32, vs: [i32; 16])
+fn append_setting(mem: &mut [u8], s: Sizes, t: Transaction, row: Row, mask: u32, vs: [i32; 16])
     requires { ⌜ need s * 4 ≤ length (now mem) ⌝ }
     requires { ⌜ Proper s ⌝ }
-    requires { ⌜ Room s (view s (words (now mem))) row 1 ⌝ }
-    ensures { λ _. ⌜ view s (words (now (mem .exit))) ≡ settingAppended (shapeIn s) t row mask vs (view s (words (now (mem .entry)))) ⌝ }
+    requires { ⌜ Room s (view s (words (now mem))) (row .0) 1 ⌝ }
+    ensures { λ _. ⌜ view s (words (now (mem .exit))) ≡ settingAppended (shapeIn s) (t .0) (row .0) mask vs (view s (words (now (mem .entry)))) ⌝ }
 {
     append(mem, s, t, row, SETTING, mask);
-    fill_values(mem, s, row as usize / RANGE_ROWS, vs);
+    fill_values(mem, s, row.0 as usize / RANGE_ROWS, vs);
 }
 
 // The columns of a mask that no update has set.
@@ -228,13 +229,13 @@ pub fn records_wanted(mem: &[u8], s: Sizes, row: Row, mask: u32) -> u32
 }
 
 // The records of an update, two where it sets a column for the first time.
-fn append_records(mem: &mut [u8], s: Sizes, t: u32, row: u32, mask: u32, vs: [i32; 16])
+fn append_records(mem: &mut [u8], s: Sizes, t: Transaction, row: Row, mask: u32, vs: [i32; 16])
     requires { ⌜ need s * 4 ≤ length (now mem) ⌝ }
     requires { ⌜ Proper s × Pooled s (view s (words (now mem))) ⌝ }
-    requires { ⌜ Room s (view s (words (now mem))) row (recordsWanted (view s (words (now mem))) row mask) ⌝ }
-    ensures { λ _. ⌜ view s (words (now (mem .exit))) ≡ recordsPut (shapeIn s) t row mask vs (view s (words (now (mem .entry)))) ⌝ }
+    requires { ⌜ Room s (view s (words (now mem))) (row .0) (recordsWanted (view s (words (now mem))) (row .0) mask) ⌝ }
+    ensures { λ _. ⌜ view s (words (now (mem .exit))) ≡ recordsPut (shapeIn s) (t .0) (row .0) mask vs (view s (words (now (mem .entry)))) ⌝ }
 {
-    let fresh = new_bits(mask, read(mem, s, Region::RowMask, row as usize));
+    let fresh = new_bits(mask, read(mem, s, Region::RowMask, row.0 as usize));
     if fresh != 0 {
         append_original(mem, s, t, row, fresh);
         append_setting(mem, s, t, row, mask, vs);
@@ -262,7 +263,7 @@ pub fn update(
     let used = read(mem, s, Region::Used, r / RANGE_ROWS);
     let wanted = records_wanted(mem, s, row, mask);
     let old = read(mem, s, Region::RowMask, r);
-    append_records(mem, s, t.0, row.0, mask, vs);
+    append_records(mem, s, t, row, mask, vs);
     write(mem, s, Region::RowMask, r, mask | old);
     note(mem, s, at);
     Tail(used + wanted)
@@ -276,7 +277,7 @@ pub fn delete(mem: &mut [u8], s: Sizes, at: usize, t: Transaction, row: Row) -> 
     ensures { λ r. ⌜ (r .0 ≡ usedIn (view s (words (now (mem .entry)))) (rangeOf (row .0)) + 1) × (view s (words (now (mem .exit))) ≡ deletedIn (shapeIn s) (t .0) (row .0) (view s (words (now (mem .entry))))) ⌝ }
 {
     let used = read(mem, s, Region::Used, row.0 as usize / RANGE_ROWS);
-    append(mem, s, t.0, row.0, DELETE, 0);
+    append(mem, s, t, row, DELETE, 0);
     note(mem, s, at);
     Tail(used + 1)
 }

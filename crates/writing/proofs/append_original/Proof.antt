@@ -14,16 +14,16 @@ use Rattle.writing.proofs.append_original.Tie as tie
 fill-cells-requires : tie.Need-fill-cells-requires
 unfolding appended put renew
 fill-cells-requires c κs =
-    let start = c .before .before .before .before .before .before in
+    let start = c .before .before .before .before .before .before .before in
     let p = start .pre .1 .0 in
     let n = appended-newest _ _ _ _ _ _ (p .0) (start .pre .1 .1) (used-long _ _ (start .pre .0)) in
-    (omega arith, ((p .0, rw (c .before .before .before .append .ensures) (p .1)), (rw (c .before .before .before .append .ensures) n, omega arith)))
+    (omega arith, ((p .0, rw (c .before .before .before .before .append .ensures) (p .1)), (rw (c .before .before .before .before .append .ensures) n, omega arith)))
 
 returns : tie.Need-returns
 unfolding originalPut cellWords cellIn currentIn appended put renew rangeOf
 returns c =
-    let start = c .before .before .before .before .before .before .before .before .before in
-    rw (c .before .before .fill-cells .ensures, c .before .before .before .before .before .before .append .ensures)
+    let start = c .before .before .before .before .before .before .before .before .before .before in
+    rw (c .before .before .fill-cells .ensures, c .before .before .before .before .before .before .before .append .ensures)
     (appended-filled _ _ _ _ _ _ _ (start .pre .1 .0 .0) (start .pre .1 .1) (used-long _ _ (start .pre .0)))
 
 pub append-original-spec : {M : Type 1} → statement M
@@ -31,6 +31,7 @@ append-original-spec =
     tie.close
     (tie.spec
     (λ c κs. search needs)
+    (λ c. search needs)
     fill-cells-requires
     (λ c. search needs)
     returns)

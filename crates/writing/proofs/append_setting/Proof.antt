@@ -9,15 +9,15 @@ use Rattle.writing.proofs.append_setting.Tie as tie
 
 fill-values-requires : tie.Need-fill-values-requires
 fill-values-requires c κs =
-    let start = c .before .before .before .before .before .before in
+    let start = c .before .before .before .before .before .before .before in
     let n = appended-newest _ _ _ _ _ _ (start .pre .1 .0) (start .pre .1 .1) (used-long _ _ (start .pre .0)) in
-    (omega arith, (start .pre .1 .0, rw (c .before .before .before .append .ensures) n))
+    (omega arith, (start .pre .1 .0, rw (c .before .before .before .before .append .ensures) n))
 
 returns : tie.Need-returns
 unfolding settingAppended rangeOf
 returns c =
-    let start = c .before .before .before .before .before .before .before .before .before in
-    rw (c .before .before .fill-values .ensures, c .before .before .before .before .before .before .append .ensures)
+    let start = c .before .before .before .before .before .before .before .before .before .before in
+    rw (c .before .before .fill-values .ensures, c .before .before .before .before .before .before .before .append .ensures)
     (appended-filled _ _ _ _ _ _ _ (start .pre .1 .0) (start .pre .1 .1) (used-long _ _ (start .pre .0)))
 
 pub append-setting-spec : {M : Type 1} → statement M
@@ -25,6 +25,7 @@ append-setting-spec =
     tie.close
     (tie.spec
     (λ c κs. search needs)
+    (λ c. search needs)
     fill-values-requires
     (λ c. search needs)
     returns)

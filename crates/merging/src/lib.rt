@@ -13,6 +13,8 @@ use regions::write;
 use rows::has_bit;
 use scans::Scans;
 use terms::Place;
+use terms::Row;
+use terms::Stamp;
 use terms::Tail;
 ghost use mathlib.Core.Path.{_≡_};
 ghost use mathlib.Core.Bool.{_&&_, not, cond};
@@ -106,28 +108,28 @@ fn is_applied(mem: &[u8], s: Sizes, slot: usize, c: u32) -> bool
 }
 
 // The later of two stamps.
-fn later(a: u32, b: u32) -> u32
-    ensures { λ r. ⌜ r ≡ cond (ltb a b) b a ⌝ }
+fn later(a: Stamp, b: Stamp) -> Stamp
+    ensures { λ r. ⌜ r .0 ≡ cond (ltb (a .0) (b .0)) (b .0) (a .0) ⌝ }
 {
-    if a < b { b } else { a }
+    if a.0 < b.0 { b } else { a }
 }
 
 // The record at a slot goes into a page, if it is a committed setting of column c; the answer is the latest stamp with it.
-fn apply_one(mem: &mut [u8], s: Sizes, slot: usize, c: usize, page: usize, newest: u32) -> u32
+fn apply_one(mem: &mut [u8], s: Sizes, slot: usize, c: usize, page: usize, newest: Stamp) -> Stamp
     requires { ⌜ need s * 4 ≤ length (now mem) ⌝ }
     requires { ⌜ Proper s ⌝ }
     requires { ⌜ (slot < s .slots) × (c < s .columns) × (page < s .pages) ⌝ }
-    ensures { λ r. ⌜ (r ≡ laterOne slot c (view s (words (now (mem .entry)))) newest) × (view s (words (now (mem .exit))) ≡ appliedOne (shapeIn s) slot c page (view s (words (now (mem .entry))))) ⌝ }
+    ensures { λ r. ⌜ (r .0 ≡ laterOne slot c (view s (words (now (mem .entry)))) (newest .0)) × (view s (words (now (mem .exit))) ≡ appliedOne (shapeIn s) slot c page (view s (words (now (mem .entry))))) ⌝ }
 {
     if is_applied(mem, s, slot, c as u32) {
-        let stamp = read(mem, s, Region::TailStamp, slot);
-        let row = read(mem, s, Region::TailRow, slot) as usize;
+        let stamp = Stamp(read(mem, s, Region::TailStamp, slot));
+        let row = Row(read(mem, s, Region::TailRow, slot));
         let w = read(mem, s, Region::TailValues, slot * s.columns + c);
         write(
             mem,
             s,
             Region::Cells,
-            page * RANGE_ROWS + row % RANGE_ROWS,
+            page * RANGE_ROWS + row.0 as usize % RANGE_ROWS,
             w,
         );
         return later(newest, stamp);
@@ -142,16 +144,17 @@ fn apply(
     g: usize,
     c: usize,
     page: usize,
-    low: usize,
+    low: Tail,
     n: usize,
-    newest: u32,
-) -> u32
+    newest: Stamp,
+) -> Stamp
     requires { ⌜ need s * 4 ≤ length (now mem) ⌝ }
     requires { ⌜ Proper s ⌝ }
-    requires { ⌜ (g < s .ranges) × (c < s .columns) × (page < s .pages) × (low + n ≤ s .capacity) ⌝ }
-    ensures { λ r. ⌜ (r ≡ newestOf (shapeIn s) (view s (words (now (mem .entry)))) g c low n newest) × (view s (words (now (mem .exit))) ≡ appliedAll (shapeIn s) g c page low n (view s (words (now (mem .entry))))) ⌝ }
+    requires { ⌜ (g < s .ranges) × (c < s .columns) × (page < s .pages) × (low .0 + n ≤ s .capacity) ⌝ }
+    ensures { λ r. ⌜ (r .0 ≡ newestOf (shapeIn s) (view s (words (now (mem .entry)))) g c (low .0) n (newest .0)) × (view s (words (now (mem .exit))) ≡ appliedAll (shapeIn s) g c page (low .0) n (view s (words (now (mem .entry))))) ⌝ }
 {
-    let first = g * s.capacity + low;
+    let merged = low.0 as usize;
+    let first = g * s.capacity + merged;
     let mut latest = newest;
     let mut i = 0;
     while i < n {
@@ -162,16 +165,16 @@ fn apply(
 }
 
 // The words of a page that merge m makes current.
-fn put_page(mem: &mut [u8], s: Sizes, page: usize, place: u32, m: u32, lineage: u32, newest: u32)
+fn put_page(mem: &mut [u8], s: Sizes, page: usize, place: u32, m: u32, lineage: Tail, newest: Stamp)
     requires { ⌜ need s * 4 ≤ length (now mem) ⌝ }
     requires { ⌜ page < s .pages ⌝ }
-    ensures { λ _. ⌜ view s (words (now (mem .exit))) ≡ pagePut page place m lineage newest (view s (words (now (mem .entry)))) ⌝ }
+    ensures { λ _. ⌜ view s (words (now (mem .exit))) ≡ pagePut page place m (lineage .0) (newest .0) (view s (words (now (mem .entry)))) ⌝ }
 {
     write(mem, s, Region::PageState, page, CURRENT);
     write(mem, s, Region::PagePlace, page, place);
     write(mem, s, Region::PageMade, page, m);
-    write(mem, s, Region::PageLineage, page, lineage);
-    write(mem, s, Region::PageNewest, page, newest);
+    write(mem, s, Region::PageLineage, page, lineage.0);
+    write(mem, s, Region::PageNewest, page, newest.0);
 }
 
 // A page takes the place of page `old`, which waits from merge m on.
@@ -196,14 +199,13 @@ pub fn merge(mem: &mut [u8], s: Sizes, g: usize, c: usize, n: Tail, page: usize)
     let place = g * s.columns + c;
     let seen: &[u8] = mem;
     let old = read(seen, s, Region::Current, place) as usize;
-    let low = read(seen, s, Region::PageLineage, old);
-    let newest = read(seen, s, Region::PageNewest, old);
+    let low = Tail(read(seen, s, Region::PageLineage, old));
+    let newest = Stamp(read(seen, s, Region::PageNewest, old));
     let m = next_word(read(seen, s, Region::Header, HEADER_MERGES));
     let cells = page * RANGE_ROWS;
     copy_in(mem, s, Region::Cells, old * RANGE_ROWS, RANGE_ROWS, cells);
-    let first = low as usize;
-    let latest = apply(mem, s, g, c, page, first, n.0 as usize - first, newest);
-    put_page(mem, s, page, place as u32, m, n.0, latest);
+    let latest = apply(mem, s, g, c, page, low, (n.0 - low.0) as usize, newest);
+    put_page(mem, s, page, place as u32, m, n, latest);
     replace_page(mem, s, old, page as u32, place, m);
 }
 

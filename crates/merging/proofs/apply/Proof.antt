@@ -15,12 +15,12 @@ use Rattle.merging.proofs.apply.Statement.{statement}
 use Rattle.merging.proofs.apply.Tie as tie
 
 abbrev Inv-loop : tie.InvT-loop
-Inv-loop mem₀ s g c page low n newest first latest₀ i₀ mem latest i =
-    (i ≤ n) × (length mem ≡ length mem₀) × (latest ≡ newestOf (shapeIn s) (view s (words mem₀)) g c low i newest)
+Inv-loop mem₀ s g c page n low first newest i₀ mem latest i =
+    (i ≤ n) × (length mem ≡ length mem₀) × (latest .0 ≡ newestOf (shapeIn s) (view s (words mem₀)) g c low i (newest .0))
     × (view s (words mem) ≡ appliedAll (shapeIn s) g c page low i (view s (words mem₀)))
 
 abbrev μ-loop : tie.MeasureT-loop
-μ-loop mem₀ s g c page low n newest first latest₀ i₀ mem latest i = n - i
+μ-loop mem₀ s g c page n low first newest i₀ mem latest i = n - i
 
 -- the records of the range lie among the slots
 inside : (c : tie.Start Inv-loop μ-loop) → let a = c .args in (a .g * a .s .capacity + a .s .capacity ≤ a .s .slots) × (a .s .slots ≤ need (a .s))
@@ -28,7 +28,7 @@ inside c = let a = c .args in (tail-in (a .s) (c .pre .1 .0) (a .g) (c .pre .1 .
 
 apply-one-requires : tie.Need-apply-one-requires Inv-loop μ-loop
 apply-one-requires c κs =
-    let start = c .before .before .before .before .before in
+    let start = c .before .before .before .before .before .before in
     (omega arith, (start .pre .1 .0, (omega (arith, inside start), start .pre .1 .1 .1, start .pre .1 .1 .2)))
 
 loop-again : tie.Need-loop-again Inv-loop μ-loop
@@ -46,10 +46,11 @@ apply-spec =
     (tie.spec
     Inv-loop
     μ-loop
-    (λ c. omega (arith, inside (c .before .before)))
-    (λ c. omega (arith, inside (c .before .before)))
+    (λ c. omega arith)
+    (λ c. omega (arith, inside (c .before .before .before)))
+    (λ c. omega (arith, inside (c .before .before .before)))
     (λ c. (omega arith, omega arith, newest-none _ _ _ _ _ _, applied-none _ _ _ _ _ _))
-    (λ c. omega (arith, inside (c .before .before .before .before .before)))
+    (λ c. omega (arith, inside (c .before .before .before .before .before .before)))
     apply-one-requires
     (λ c. omega arith)
     (λ c. omega arith)

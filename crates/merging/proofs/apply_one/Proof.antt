@@ -25,9 +25,9 @@ inside c =
 
 returns : tie.Need-returns
 returns c =
-    let e = sym (c .before .before .before .before .before .before .before .before .before .before .before .before .before .is-applied .ensures) ∙ c .before .before .before .before .before .before .before .before .before .before .before .before .if1 .taken in (
-      rw (c .later .ensures, c .before .before .before .before .before .before .before .before .before .before .read .ensures) (sym (one-later _ _ _ _ e)),
-      rw (c .before .before .before .write .ensures, c .before .before .before .before .before .read3 .ensures, c .before .before .before .before .before .before .before .before .read2 .ensures) (sym (one-applied _ _ _ _ _ e)),
+    let e = sym (c .before .before .before .before .before .before .before .before .before .before .before .before .before .before .is-applied .ensures) ∙ c .before .before .before .before .before .before .before .before .before .before .before .before .before .if1 .taken in (
+      rw (c .later .ensures, c .before .before .before .before .before .before .before .before .before .before .before .read .ensures) (sym (one-later _ _ _ _ e)),
+      rw (c .before .before .before .write .ensures, c .before .before .before .before .before .before .read3 .ensures, c .before .before .before .before .before .before .before .before .before .read2 .ensures) (sym (one-applied _ _ _ _ _ e)),
     )
 
 returns-2 : tie.Need-returns-2
@@ -41,13 +41,13 @@ apply-one-spec =
     (λ c κs. let pre = c .before .before .pre in (pre .0, (pre .1 .1 .0, omega (arith, pre .1 .0 .columns-to))))
     (λ c κs. search needs)
     (λ c κs. search needs)
-    (λ c. search needs)
     (λ c. inside (c .before .before .before .before .before .before .before .before .before .before) .1)
     (λ c. inside (c .before .before .before .before .before .before .before .before .before .before) .2)
     (λ c κs. (c .before .before .before .before .before .before .before .before .before .before .pre .0, inside (c .before .before .before .before .before .before .before .before .before .before) .3))
     (λ c. inside (c .before .before .before .before .before .before .before .before .before .before .before .before) .4)
-    (λ c. inside (c .before .before .before .before .before .before .before .before .before .before .before .before) .5 _ .0)
-    (λ c κs. (c .before .before .before .before .before .before .before .before .before .before .before .before .pre .0, inside (c .before .before .before .before .before .before .before .before .before .before .before .before) .5 _ .1))
+    (λ c. search needs)
+    (λ c. inside (c .before .before .before .before .before .before .before .before .before .before .before .before .before) .5 _ .0)
+    (λ c κs. (c .before .before .before .before .before .before .before .before .before .before .before .before .before .pre .0, inside (c .before .before .before .before .before .before .before .before .before .before .before .before .before) .5 _ .1))
     (λ c κs. search needs)
     (λ c. search needs)
     returns

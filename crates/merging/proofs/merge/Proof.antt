@@ -44,16 +44,16 @@ copy-in-requires c κs =
 
 apply-requires : tie.Need-apply-requires
 apply-requires c κs =
-    let start = c .before .before .before .before .before .before .before .before .before .before .before .before .before .before in
+    let start = c .before .before .before .before .before .before .before .before .before .before .before .before .before .before .before in
     let m = start .pre .1 .1 in
-    (omega arith, (start .pre .1 .0 .0, (m .range-below, m .column-below, m .page-below, omega (arith, reach (c .before .before .before .before .before .before .before .before .before), m .to))))
+    (omega arith, (start .pre .1 .0 .0, (m .range-below, m .column-below, m .page-below, omega (arith, reach (c .before .before .before .before .before .before .before .before .before .before), m .to))))
 
 returns : tie.Need-returns
 returns c =
-    let read = c .before .before .before .before .before .before .before .before .before .before .before .before .before .before .before .before .before .before .before .before .before in
+    let read = c .before .before .before .before .before .before .before .before .before .before .before .before .before .before .before .before .before .before .before .before .before .before in
     let apply = c .before .before .before .before .before .before .before .before .before .before .apply .ensures in
-    merged-is _ _ _ _ _ _ _ _ _ _ _ _ _ _ _ (read .before .before .before .before .pre .1 .1 .free) (read .read .ensures) (c .before .before .before .before .before .before .before .before .before .before .before .before .before .before .before .before .before .before .before .before .read2 .ensures) (c .before .before .before .before .before .before .before .before .before .before .before .before .before .before .before .before .before .before .before .read3 .ensures) (rw (c .before .before .before .before .before .before .before .before .before .before .before .before .before .before .before .before .before .before .read4 .ensures) at (c .before .before .before .before .before .before .before .before .before .before .before .before .before .before .before .before .before .next-word .ensures))
-    (c .before .before .before .before .before .before .before .before .before .before .before .before .before .before .before .copy-in .ensures) (apply .0) (apply .1) (c .before .before .before .before .before .before .put-page .ensures) (c .before .before .replace-page .ensures)
+    merged-is _ _ _ _ _ _ _ _ _ _ _ _ _ _ _ (read .before .before .before .before .pre .1 .1 .free) (read .read .ensures) (c .before .before .before .before .before .before .before .before .before .before .before .before .before .before .before .before .before .before .before .before .before .read2 .ensures) (c .before .before .before .before .before .before .before .before .before .before .before .before .before .before .before .before .before .before .before .before .read3 .ensures) (rw (c .before .before .before .before .before .before .before .before .before .before .before .before .before .before .before .before .before .before .before .read4 .ensures) at (c .before .before .before .before .before .before .before .before .before .before .before .before .before .before .before .before .before .before .next-word .ensures))
+    (c .before .before .before .before .before .before .before .before .before .before .before .before .before .before .before .before .copy-in .ensures) (apply .0) (apply .1) (c .before .before .before .before .before .before .put-page .ensures) (c .before .before .replace-page .ensures)
 
 pub merge-spec : {M : Type 1} → statement M
 merge-spec =
@@ -70,13 +70,12 @@ merge-spec =
     (λ c. inside (c .before .before .before .before .before .before .before .before) .4)
     (λ c. search needs)
     copy-in-requires
+    (λ c. reach (c .before .before .before .before .before .before .before .before .before .before))
     (λ c. search needs)
-    (λ c. search needs)
-    (λ c. reach (c .before .before .before .before .before .before .before .before .before))
     apply-requires
-    (λ c. inside (c .before .before .before .before .before .before .before .before .before .before .before .before .before .before .before .before .before .before) .3)
-    (λ c κs. (omega arith, c .before .before .before .before .before .before .before .before .before .before .before .before .before .before .before .before .before .before .pre .1 .1 .page-below))
-    (λ c. inside (c .before .before .before .before .before .before .before .before .before .before .before .before .before .before .before .before .before .before .before .before .before .before) .5)
-    (λ c κs. (omega (arith, c .before .before .before .before .before .before .before .before .before .before .before .before .before .before .before .before .before .before .before .before .before .before .pre .0), (pool (c .before .before .before .before .before .before .before .before .before .before .before .before .before .before .before .before .before .before), inside (c .before .before .before .before .before .before .before .before .before .before .before .before .before .before .before .before .before .before .before .before .before .before) .0)))
+    (λ c. inside (c .before .before .before .before .before .before .before .before .before .before .before .before .before .before .before .before .before .before .before) .3)
+    (λ c κs. (omega arith, c .before .before .before .before .before .before .before .before .before .before .before .before .before .before .before .before .before .before .before .pre .1 .1 .page-below))
+    (λ c. inside (c .before .before .before .before .before .before .before .before .before .before .before .before .before .before .before .before .before .before .before .before .before .before .before) .5)
+    (λ c κs. (omega (arith, c .before .before .before .before .before .before .before .before .before .before .before .before .before .before .before .before .before .before .before .before .before .before .before .pre .0), (pool (c .before .before .before .before .before .before .before .before .before .before .before .before .before .before .before .before .before .before .before), inside (c .before .before .before .before .before .before .before .before .before .before .before .before .before .before .before .before .before .before .before .before .before .before .before) .0)))
     (λ c. search needs)
     returns)

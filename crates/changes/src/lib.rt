@@ -174,7 +174,7 @@ fn commit_in(mem: &mut [u8], s: Sizes, t: Transaction, stamp: Stamp) -> Answer
     if not_later(mem, s, stamp) {
         return Answer::Refused(Refusal::Time);
     }
-    settling::commit(mem, s, at, t, stamp);
+    settling::commit(mem, s, at, stamp);
     Answer::Done
 }
 
@@ -186,7 +186,7 @@ fn abort_in(mem: &mut [u8], s: Sizes, t: Transaction) -> Answer
     let Found::At(at) = open_place(mem, s, t) else {
         return Answer::Refused(Refusal::Transaction);
     };
-    settling::abort(mem, s, at, t);
+    settling::abort(mem, s, at);
     Answer::Done
 }
 

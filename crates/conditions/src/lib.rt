@@ -4,7 +4,7 @@ use layout::MOST_TRANSACTIONS;
 use layout::Region;
 use layout::Sizes;
 use loops::Found;
-use pending::Pending;
+use pending::pending_at;
 use regions::find_in;
 use regions::read;
 use rows::range_of;
@@ -13,7 +13,7 @@ use terms::Tail;
 use terms::Transaction;
 ghost use mathlib.Core.Path.{_≡_};
 ghost use mathlib.Core.Bool.{_&&_, _||_};
-ghost use Prim.Native.Nat.{_+_, _*_, _^_, _≤_, _<_};
+ghost use Prim.Native.Nat.{ℕ, _+_, _*_, _^_, _≤_, _<_};
 ghost use lib.Dec.{eqb, leb, ltb};
 ghost use lib.ListN.{length, getD};
 ghost use Rattle.terms.specs.Measures.{mostTransactions};
@@ -44,17 +44,13 @@ pub fn open_place(mem: &[u8], s: Sizes, t: Transaction) -> Found
     find_in(mem, s, Region::Opens, 0, MOST_TRANSACTIONS, number)
 }
 
-// Whose own changes an own read of transaction t, open at `place`, adds: its record tells. With nothing noted there are none, and it is the latest read.
-pub fn own_changes(mem: &[u8], s: Sizes, place: usize, t: Transaction) -> Transaction
+// Whose own changes an own read of the transaction open at `place` adds: its record tells. With nothing noted there are none, and it is the latest read.
+pub fn own_changes(mem: &[u8], s: Sizes, place: usize) -> Transaction
     requires { ⌜ need s * 4 ≤ length (now mem) ⌝ }
-    requires { ⌜ (place ≡ openPlace (view s (words (now mem))) (t .0)) × (place < mostTransactions) ⌝ }
-    ensures { λ r. ⌜ r .0 ≡ ownChanges (view s (words (now (mem .entry)))) (t .0) ⌝ }
+    requires { ⌜ place < mostTransactions ⌝ }
+    ensures { λ r. ⌜ ((t : ℕ) → place ≡ openPlace (view s (words (now (mem .entry)))) t → r .0 ≡ ownChanges (view s (words (now (mem .entry)))) t) ⌝ }
 {
-    let p = Pending {
-        number: t.0,
-        changes: read(mem, s, Region::Changes, place),
-    };
-    p.owner()
+    pending_at(mem, s, place).owner()
 }
 
 // One of two flags is up.

@@ -113,7 +113,7 @@ fn own_read_in(mem: &[u8], s: Sizes, transaction: Transaction, row: Row, column:
     };
     let who = Reader {
         stamp: last_stamp(mem, s),
-        me: own_changes(mem, s, place, transaction),
+        me: own_changes(mem, s, place),
     };
     read_latest_page(mem, s, who, row, column)
 }

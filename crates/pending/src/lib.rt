@@ -1,5 +1,6 @@
 // The record of an open transaction, by value: its number, and how many changes it has noted. Begin makes it, insert, update and delete note a change
-// in it, commit and abort hand it back; the own read asks it whose pending changes count. In the memory it is one word of Opens and one of Changes.
+// in it, commit and abort take it back and settle what bears the number that it hands back; the own read asks it whose pending changes count. In the memory
+// it is one word of Opens and one of Changes.
 use layout::Region;
 use layout::Sizes;
 use regions::read;
@@ -12,10 +13,10 @@ ghost use Rattle.words.specs.Words.{words};
 ghost use Rattle.layout.specs.Regions.{need};
 ghost use Rattle.layout.specs.View.{view};
 ghost use Rattle.model.specs.Stored.{nextWord};
-ghost use Rattle.pending.specs.Pending.{fresh, oneMore, handedBack, owner, pendingAt, kept};
+ghost use Rattle.pending.specs.Pending.{fresh, oneMore, handedBack, owner, freeRecord, pendingAt, kept};
 
 pub struct Pending {
-    pub number: u32,
+    pub number: Transaction,
     pub changes: u32,
 }
 
@@ -29,10 +30,10 @@ pub fn next_word(n: u32) -> u32
 impl Pending {
     // A transaction that has changed nothing.
     pub fn begin(t: Transaction) -> Pending
-        ensures { λ r. ⌜ r ≡ fresh (t .0) ⌝ }
+        ensures { λ r. ⌜ r ≡ fresh t ⌝ }
     {
         Pending {
-            number: t.0,
+            number: t,
             changes: 0,
         }
     }
@@ -41,31 +42,36 @@ impl Pending {
     pub fn note(self) -> Pending
         ensures { λ r. ⌜ r ≡ oneMore self ⌝ }
     {
+        let t = self.number;
         Pending {
-            number: self.number,
+            number: t,
             changes: next_word(self.changes),
         }
     }
 
-    // The record of a free place, which the transaction leaves.
-    pub fn hand_back(self) -> Pending
-        ensures { λ r. ⌜ r ≡ handedBack ⌝ }
+    // The transaction that it was begun for.
+    pub fn hand_back(self) -> Transaction
+        ensures { λ r. ⌜ r ≡ handedBack self ⌝ }
     {
-        Pending {
-            number: 0,
-            changes: 0,
-        }
+        self.number
     }
 
     // Whose pending changes an own read adds: with nothing noted, nobody's.
     pub fn owner(self) -> Transaction
         ensures { λ r. ⌜ r .0 ≡ owner self ⌝ }
     {
-        if self.changes == 0 {
-            Transaction(0)
-        } else {
-            Transaction(self.number)
-        }
+        let t = self.number;
+        if self.changes == 0 { Transaction(0) } else { t }
+    }
+}
+
+// The record of a free place.
+pub fn free_record() -> Pending
+    ensures { λ r. ⌜ r ≡ freeRecord ⌝ }
+{
+    Pending {
+        number: Transaction(0),
+        changes: 0,
     }
 }
 
@@ -76,7 +82,7 @@ pub fn pending_at(mem: &[u8], s: Sizes, place: usize) -> Pending
     ensures { λ r. ⌜ r ≡ pendingAt (view s (words (now (mem .entry)))) place ⌝ }
 {
     Pending {
-        number: read(mem, s, Region::Opens, place),
+        number: Transaction(read(mem, s, Region::Opens, place)),
         changes: read(mem, s, Region::Changes, place),
     }
 }
@@ -87,6 +93,6 @@ pub fn keep(mem: &mut [u8], s: Sizes, place: usize, p: Pending)
     requires { ⌜ place < 8 ⌝ }
     ensures { λ _. ⌜ view s (words (now (mem .exit))) ≡ kept place p (view s (words (now (mem .entry)))) ⌝ }
 {
-    write(mem, s, Region::Opens, place, p.number);
+    write(mem, s, Region::Opens, place, p.number.0);
     write(mem, s, Region::Changes, place, p.changes);
 }

@@ -9,6 +9,7 @@ use layout::Region;
 use layout::Sizes;
 use loops::Found;
 use pending::Pending;
+use pending::free_record;
 use pending::keep;
 use pending::pending_at;
 use regions::find_in;
@@ -18,7 +19,7 @@ use regions::write;
 use terms::Stamp;
 use terms::Transaction;
 ghost use mathlib.Core.Path.{_≡_};
-ghost use Prim.Native.Nat.{_+_, _*_, _≤_, _<_};
+ghost use Prim.Native.Nat.{ℕ, _+_, _*_, _≤_, _<_};
 ghost use lib.Dec.{eqb};
 ghost use lib.ListN.{length};
 ghost use Rattle.words.specs.Words.{words};
@@ -68,28 +69,28 @@ pub fn note(mem: &mut [u8], s: Sizes, at: usize)
 }
 
 // w in region k for the used records of range g that bear transaction t. A range that has none is passed over.
-fn mark_tail(mem: &mut [u8], s: Sizes, t: u32, k: Region, w: u32, g: usize)
+fn mark_tail(mem: &mut [u8], s: Sizes, t: Transaction, k: Region, w: u32, g: usize)
     requires { ⌜ need s * 4 ≤ length (now mem) ⌝ }
     requires { ⌜ Proper s ⌝ }
     requires { ⌜ (g < s .ranges) × (usedIn (view s (words (now mem))) g ≤ s .capacity) ⌝ }
     requires { ⌜ (len s k ≡ s .slots) × (index Region.TailTransaction ≡ index k → ⊥) ⌝ }
-    ensures { λ _. ⌜ view s (words (now (mem .exit))) ≡ tailMarked (shapeIn s) t k w g (view s (words (now (mem .entry)))) ⌝ }
+    ensures { λ _. ⌜ view s (words (now (mem .exit))) ≡ tailMarked (shapeIn s) (t .0) k w g (view s (words (now (mem .entry)))) ⌝ }
 {
     let used = read(mem, s, Region::Used, g) as usize;
     if used == 0 {
         return;
     }
     let first = g * s.capacity;
-    mark_in(mem, s, Region::TailTransaction, t, k, first, used, w);
+    mark_in(mem, s, Region::TailTransaction, t.0, k, first, used, w);
 }
 
 // The same for every range.
-fn mark_tails(mem: &mut [u8], s: Sizes, t: u32, k: Region, w: u32)
+fn mark_tails(mem: &mut [u8], s: Sizes, t: Transaction, k: Region, w: u32)
     requires { ⌜ need s * 4 ≤ length (now mem) ⌝ }
     requires { ⌜ Proper s ⌝ }
     requires { ⌜ Counted s (view s (words (now mem))) ⌝ }
     requires { ⌜ (len s k ≡ s .slots) × (index Region.TailTransaction ≡ index k → ⊥) × (index k ≡ index Region.Used → ⊥) ⌝ }
-    ensures { λ _. ⌜ view s (words (now (mem .exit))) ≡ tailsMarked (shapeIn s) t k w (view s (words (now (mem .entry)))) ⌝ }
+    ensures { λ _. ⌜ view s (words (now (mem .exit))) ≡ tailsMarked (shapeIn s) (t .0) k w (view s (words (now (mem .entry)))) ⌝ }
 {
     let ranges = s.ranges;
     let mut g = 0;
@@ -100,18 +101,18 @@ fn mark_tails(mem: &mut [u8], s: Sizes, t: u32, k: Region, w: u32)
 }
 
 // Every given row and used record of a transaction gets a state and a stamp.
-fn settle(mem: &mut [u8], s: Sizes, t: u32, state: u32, stamp: u32)
+fn settle(mem: &mut [u8], s: Sizes, t: Transaction, state: u32, stamp: Stamp)
     requires { ⌜ need s * 4 ≤ length (now mem) ⌝ }
     requires { ⌜ Proper s ⌝ }
     requires { ⌜ Counted s (view s (words (now mem))) ⌝ }
-    ensures { λ _. ⌜ view s (words (now (mem .exit))) ≡ settled (shapeIn s) t state stamp (view s (words (now (mem .entry)))) ⌝ }
+    ensures { λ _. ⌜ view s (words (now (mem .exit))) ≡ settled (shapeIn s) (t .0) state (stamp .0) (view s (words (now (mem .entry)))) ⌝ }
 {
     let given = read(mem, s, Region::Header, HEADER_ROWS) as usize;
     mark_in(
         mem,
         s,
         Region::RowTransaction,
-        t,
+        t.0,
         Region::RowState,
         0,
         given,
@@ -121,47 +122,39 @@ fn settle(mem: &mut [u8], s: Sizes, t: u32, state: u32, stamp: u32)
         mem,
         s,
         Region::RowTransaction,
-        t,
+        t.0,
         Region::RowStamp,
         0,
         given,
-        stamp,
+        stamp.0,
     );
     mark_tails(mem, s, t, Region::TailState, state);
-    mark_tails(mem, s, t, Region::TailStamp, stamp);
+    mark_tails(mem, s, t, Region::TailStamp, stamp.0);
 }
 
-// The open transaction at a place hands it back.
-fn free(mem: &mut [u8], s: Sizes, at: usize)
-    requires { ⌜ need s * 4 ≤ length (now mem) ⌝ }
-    requires { ⌜ at < 8 ⌝ }
-    ensures { λ _. ⌜ view s (words (now (mem .exit))) ≡ put Region.Changes at 0 (put Region.Opens at 0 (view s (words (now (mem .entry))))) ⌝ }
-{
-    let p = pending_at(mem, s, at).hand_back();
-    keep(mem, s, at, p);
-}
-
-// What open transaction t, whose place is `at`, has written is committed at a stamp.
-pub fn commit(mem: &mut [u8], s: Sizes, at: usize, t: Transaction, stamp: Stamp)
+// The open transaction at a place is handed back: what it has written is committed at a stamp, and its place is free.
+pub fn commit(mem: &mut [u8], s: Sizes, at: usize, stamp: Stamp)
     requires { ⌜ need s * 4 ≤ length (now mem) ⌝ }
     requires { ⌜ Proper s ⌝ }
-    requires { ⌜ Counted s (view s (words (now mem))) × OpenAt (view s (words (now mem))) (t .0) at ⌝ }
-    ensures { λ _. ⌜ view s (words (now (mem .exit))) ≡ committedIn (shapeIn s) (t .0) (stamp .0) (view s (words (now (mem .entry)))) ⌝ }
+    requires { ⌜ Counted s (view s (words (now mem))) × (at < 8) ⌝ }
+    ensures { λ _. ⌜ ((t : ℕ) → OpenAt (view s (words (now (mem .entry)))) t at → view s (words (now (mem .exit))) ≡ committedIn (shapeIn s) t (stamp .0) (view s (words (now (mem .entry))))) ⌝ }
 {
-    settle(mem, s, t.0, COMMITTED, stamp.0);
-    free(mem, s, at);
+    let t = pending_at(mem, s, at).hand_back();
+    settle(mem, s, t, COMMITTED, stamp);
+    keep(mem, s, at, free_record());
     write(mem, s, Region::Header, HEADER_STAMP, stamp.0);
 }
 
-// What it has written is aborted.
-pub fn abort(mem: &mut [u8], s: Sizes, at: usize, t: Transaction)
+// It is handed back: what it has written is aborted, and its place is free.
+pub fn abort(mem: &mut [u8], s: Sizes, at: usize)
     requires { ⌜ need s * 4 ≤ length (now mem) ⌝ }
     requires { ⌜ Proper s ⌝ }
-    requires { ⌜ Counted s (view s (words (now mem))) × OpenAt (view s (words (now mem))) (t .0) at ⌝ }
-    ensures { λ _. ⌜ view s (words (now (mem .exit))) ≡ abortedIn (shapeIn s) (t .0) (view s (words (now (mem .entry)))) ⌝ }
+    requires { ⌜ Counted s (view s (words (now mem))) × (at < 8) ⌝ }
+    ensures { λ _. ⌜ ((t : ℕ) → OpenAt (view s (words (now (mem .entry)))) t at → view s (words (now (mem .exit))) ≡ abortedIn (shapeIn s) t (view s (words (now (mem .entry))))) ⌝ }
 {
-    settle(mem, s, t.0, ABORTED, 0);
-    free(mem, s, at);
+    let t = pending_at(mem, s, at).hand_back();
+    settle(mem, s, t, ABORTED, Stamp(0));
+    keep(mem, s, at, free_record());
 }
 
 // A scan gets the next number; its place in the scan list is not written here.

@@ -16,15 +16,16 @@ returns c = λ ps. refused _ _ ps _ Refusal.Transaction (rw (not-open _ _ (sym (
 
 abort-requires : tie.Need-abort-requires
 abort-requires c κs =
-    let start = c .before .before .before .before .before .before .before in
-    let o = open-there _ _ _ (sym (c .before .before .before .before .open-place .ensures .0) ∙ c .before .before .at .given .1) in
-    (start .pre .0, (start .pre .1 .0, (counted _ _ (start .pre .1 .1), record { low = rw (c .before .before .at .given .1) at (c .before .before .before .before .open-place .ensures .1); found = o .1 })))
+    let found = c .before .before in
+    let start = found .before .before .before .before .before in
+    (start .pre .0, (start .pre .1 .0, (counted _ _ (start .pre .1 .1), rw (found .at .given .1) at (found .before .before .open-place .ensures .1))))
 
 returns-2 : tie.Need-returns-2
 unfolding testsIn verdict replyIn actIn
 returns-2 c =
-    let o = open-there _ _ _ (sym (c .before .before .before .before .before .before .before .open-place .ensures .0) ∙ c .before .before .before .before .before .at .given .1) in
-    λ ps. accepted _ _ ps _ _ _ (rw (o .0)) refl (c .before .before .abort .ensures)
+    let found = c .before .before .before .before .before in
+    let o = open-there _ _ _ (sym (found .before .before .open-place .ensures .0) ∙ found .at .given .1) in
+    λ ps. accepted _ _ ps _ _ _ (rw (o .0)) refl (c .before .before .abort .ensures _ (record { low = rw (found .at .given .1) at (found .before .before .open-place .ensures .1); found = o .1 }))
 
 pub abort-in-spec : {M : Type 1} → statement M
 abort-in-spec =

@@ -22,15 +22,16 @@ returns-2 c =
 
 commit-requires : tie.Need-commit-requires
 commit-requires c κs =
-    let start = c .before .before .before .before .before .before .before .before .before .before in
-    let o = open-there _ _ _ (sym (c .before .before .before .before .before .before .before .open-place .ensures .0) ∙ c .before .before .before .before .before .at .given .1) in
-    (start .pre .0, (start .pre .1 .0, (counted _ _ (start .pre .1 .1), record { low = rw (c .before .before .before .before .before .at .given .1) at (c .before .before .before .before .before .before .before .open-place .ensures .1); found = o .1 })))
+    let found = c .before .before .before .before .before in
+    let start = found .before .before .before .before .before in
+    (start .pre .0, (start .pre .1 .0, (counted _ _ (start .pre .1 .1), rw (found .at .given .1) at (found .before .before .open-place .ensures .1))))
 
 returns-3 : tie.Need-returns-3
 unfolding testsIn verdict replyIn actIn
 returns-3 c =
-    let o = open-there _ _ _ (sym (c .before .before .before .before .before .before .before .before .before .before .open-place .ensures .0) ∙ c .before .before .before .before .before .before .before .before .at .given .1) in
-    λ ps. accepted _ _ ps _ _ _ (rw (o .0, ← c .before .before .before .before .before .not-later .ensures, c .before .before .before .before .if1 .left)) refl (c .before .before .commit .ensures)
+    let found = c .before .before .before .before .before .before .before .before in
+    let o = open-there _ _ _ (sym (found .before .before .open-place .ensures .0) ∙ found .at .given .1) in
+    λ ps. accepted _ _ ps _ _ _ (rw (o .0, ← c .before .before .before .before .before .not-later .ensures, c .before .before .before .before .if1 .left)) refl (c .before .before .commit .ensures _ (record { low = rw (found .at .given .1) at (found .before .before .open-place .ensures .1); found = o .1 }))
 
 pub commit-in-spec : {M : Type 1} → statement M
 commit-in-spec =

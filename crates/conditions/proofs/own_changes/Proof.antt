@@ -1,6 +1,6 @@
--- `conditions::own_changes` meets its contract: the record's `owner` is the definition, with the word of the place that was found.
-use mathlib.Core.Path.{_∙_}
+-- `conditions::own_changes` meets its contract: the record at the place is that of the transaction, and its `owner` is the definition.
 use Rattle.model.specs.Reading.{ownChanges}
+use Rattle.pending.proofs.Number.{number-there}
 use borrow.Author.Needs.{needs}
 use Rattle.conditions.proofs.own_changes.Statement.{statement}
 use Rattle.conditions.proofs.own_changes.Tie as tie
@@ -8,8 +8,9 @@ use Rattle.conditions.proofs.own_changes.Tie as tie
 returns : tie.Need-returns
 unfolding ownChanges
 returns c =
-    let start = c .before .before .before in
-    c .owner .ensures ∙ rw (← start .pre .1 .0, ← c .before .read .ensures)
+    let asked = c .before in
+    let start = asked .before .before in
+    λ t e. rw (c .owner .ensures, asked .pending-at .ensures, number-there _ _ t _ (start .pre .0) (record { low = start .pre .1; found = e }), e)
 
 pub own-changes-spec : {M : Type 1} → statement M
 own-changes-spec = tie.close (tie.spec (λ c κs. search needs) (λ c κs. search needs) returns)

@@ -15,13 +15,8 @@ returns c =
 own-changes-requires : tie.Need-own-changes-requires
 own-changes-requires c κs =
     let found = c .before .before in
-    let call = found .before .before in (
-      call .before .before .pre .room,
-      (
-        open-there _ _ _ (sym (call .open-place .ensures .0) ∙ found .place .given .1) .1,
-        rw (found .place .given .1) at (call .open-place .ensures .1),
-      ),
-    )
+    let call = found .before .before in
+    (call .before .before .pre .room, rw (found .place .given .1) at (call .open-place .ensures .1))
 
 returns-2 : tie.Need-returns-2
 unfolding SaysAlways
@@ -29,8 +24,8 @@ returns-2 c =
     let own = c .before in
     let last = own .before in
     let found = last .before .before in
-    let open-at = sym (found .before .before .open-place .ensures .0) ∙ found .place .given .1 in
-    λ ps. c .read-latest-page .ensures ∙ rw (own .own-changes .ensures, last .last-stamp .ensures) (says-own _ _ ps _ _ _ (open-there _ _ _ open-at .0))
+    let o = open-there _ _ _ (sym (found .before .before .open-place .ensures .0) ∙ found .place .given .1) in
+    λ ps. c .read-latest-page .ensures ∙ rw (own .own-changes .ensures _ (o .1), last .last-stamp .ensures) (says-own _ _ ps _ _ _ (o .0))
 
 pub own-read-in-spec : {M : Type 1} → statement M
 own-read-in-spec =

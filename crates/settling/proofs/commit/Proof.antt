@@ -1,21 +1,30 @@
--- `settling::commit` meets its contract.
+-- `settling::commit` meets its contract: the number that the record hands back is that of the transaction open at the place.
 use borrow.Author.Needs.{needs}
 use Rattle.layout.specs.View.{renew}
 use Rattle.model.specs.Stored.{openPlace}
 use Rattle.model.specs.Writing.{settled, freed, committedIn}
+use Rattle.pending.specs.Pending.{kept}
+use Rattle.pending.proofs.Number.{number-there}
 use Rattle.settling.proofs.commit.Statement.{statement}
 use Rattle.settling.proofs.commit.Tie as tie
 
 returns : tie.Need-returns
-unfolding committedIn freed settled openPlace renew
+unfolding committedIn freed settled openPlace renew kept
 returns c =
-    let start = c .before .before .before .before .before .before .before .before .before .before .before .before .before in
-    rw (c .before .before .write .ensures, c .before .before .before .before .before .before .free .ensures, c .before .before .before .before .before .before .before .before .before .before .settle .ensures, start .pre .1 .1 .1 .found)
+    let keeping = c .before .before .before .before .before .before in
+    let settling = keeping .before .before .before .before .before in
+    let handing = settling .before .before in
+    let asked = handing .before in
+    let start = asked .before .before .before in
+    λ t o. rw (c .before .before .write .ensures, keeping .keep .ensures, keeping .before .free-record .ensures, settling .settle .ensures, handing .hand-back .ensures, asked .pending-at .ensures, number-there _ _ t _ (start .pre .0) o, o .found)
 
 pub commit-spec : {M : Type 1} → statement M
 commit-spec =
     tie.close
     (tie.spec
+    (λ c κs. search needs)
+    (λ c κs. search needs)
+    (λ c κs. search needs)
     (λ c κs. search needs)
     (λ c κs. search needs)
     (λ c κs. search needs)

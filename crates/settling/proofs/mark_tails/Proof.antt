@@ -13,7 +13,7 @@ use Rattle.settling.proofs.mark_tails.Tie as tie
 
 abbrev Inv-loop : tie.InvT-loop
 Inv-loop mem₀ s t k w ranges g₀ mem g =
-    (g ≤ ranges) × (length mem ≡ length mem₀) × (view s (words mem) ≡ marksTo (shapeIn s) t k w (view s (words mem₀)) g)
+    (g ≤ ranges) × (length mem ≡ length mem₀) × (view s (words mem) ≡ marksTo (shapeIn s) (t .0) k w (view s (words mem₀)) g)
 
 abbrev μ-loop : tie.MeasureT-loop
 μ-loop mem₀ s t k w ranges g₀ mem g = ranges - g
@@ -26,7 +26,7 @@ mark-tail-requires c κs =
     let start = c .before .before .before .before in
     let a = start .args in
     let g = c .before .before .loop .g in
-    let e = marks-used (shapeIn (a .s)) (a .t) (a .k) (a .w) _ _ g g (start .pre .1 .1 .1 .2) (c .before .before .loop .inv .2) in
+    let e = marks-used (shapeIn (a .s)) (a .t .0) (a .k) (a .w) _ _ g g (start .pre .1 .1 .1 .2) (c .before .before .loop .inv .2) in
     (omega arith, (start .pre .1 .0, ((omega arith, omega (arith, e, start .pre .1 .1 .0 .records-used g (omega arith))), (start .pre .1 .1 .1 .0, start .pre .1 .1 .1 .1))))
 
 loop-again : tie.Need-loop-again Inv-loop μ-loop

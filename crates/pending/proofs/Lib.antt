@@ -1,0 +1,2 @@
+-- The record of an open transaction bears its number.
+pub mod Number

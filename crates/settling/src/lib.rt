@@ -52,10 +52,10 @@ pub fn begin(mem: &mut [u8], s: Sizes, free: usize) -> Transaction
     requires { ⌜ transactionsGiven (view s (words (now mem))) < 65535 ⌝ }
     ensures { λ r. ⌜ (r .0 ≡ transactionsGiven (view s (words (now (mem .entry)))) + 1) × (view s (words (now (mem .exit))) ≡ begun (view s (words (now (mem .entry))))) ⌝ }
 {
-    let n = read(mem, s, Region::Header, HEADER_TRANSACTIONS) + 1;
-    keep(mem, s, free, Pending::begin(Transaction(n)));
-    write(mem, s, Region::Header, HEADER_TRANSACTIONS, n);
-    Transaction(n)
+    let t = Transaction(read(mem, s, Region::Header, HEADER_TRANSACTIONS) + 1);
+    keep(mem, s, free, Pending::begin(t));
+    write(mem, s, Region::Header, HEADER_TRANSACTIONS, t.0);
+    t
 }
 
 // The open transaction at a place notes a change.

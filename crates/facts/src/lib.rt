@@ -22,6 +22,8 @@ use scans::MOST_SCANS;
 use scans::Scans;
 use scans::all_differ;
 use scans::at_most;
+use terms::Row;
+use terms::Tail;
 use words::get;
 ghost use mathlib.Core.Path.{_≡_};
 ghost use mathlib.Core.Bool.{_&&_, _||_, not, true};
@@ -116,24 +118,25 @@ fn records_named(mem: &[u8], s: Sizes, g: usize) -> bool
 }
 
 // Whether a link of a row, in range g, is 0 or a record of that row up to number `most`. A record is looked up only where its number is not above that.
-fn link_holds(mem: &[u8], s: Sizes, g: usize, most: u32, row: u32, link: u32) -> bool
+fn link_holds(mem: &[u8], s: Sizes, g: usize, most: Tail, row: Row, link: Tail) -> bool
     requires { ⌜ Ready s (now mem) ⌝ }
-    requires { ⌜ (g < s .ranges) × (most ≤ s .capacity) ⌝ }
-    ensures { λ r. ⌜ r ≡ linkHolds s (view s (words (now (mem .entry)))) g most row link ⌝ }
+    requires { ⌜ (g < s .ranges) × (most .0 ≤ s .capacity) ⌝ }
+    ensures { λ r. ⌜ r ≡ linkHolds s (view s (words (now (mem .entry)))) g (most .0) (row .0) (link .0) ⌝ }
 {
-    if link == 0 {
+    let number = link.0;
+    if number == 0 {
         return true;
     }
-    if link > most {
+    if number > most.0 {
         return false;
     }
-    read(
+    let named = read(
         mem,
         s,
         Region::TailRow,
-        first_slot(s, g) + (link as usize - 1),
-    )
-        == row
+        first_slot(s, g) + (number as usize - 1),
+    );
+    named == row.0
 }
 
 fn record_linked(mem: &[u8], s: Sizes, g: usize, i: usize) -> bool
@@ -142,9 +145,9 @@ fn record_linked(mem: &[u8], s: Sizes, g: usize, i: usize) -> bool
     ensures { λ r. ⌜ r ≡ recordLinked s (view s (words (now (mem .entry)))) g i ⌝ }
 {
     let slot = first_slot(s, g) + i;
-    let row = read(mem, s, Region::TailRow, slot);
-    let link = read(mem, s, Region::TailLink, slot);
-    link_holds(mem, s, g, i as u32, row, link)
+    let row = Row(read(mem, s, Region::TailRow, slot));
+    let link = Tail(read(mem, s, Region::TailLink, slot));
+    link_holds(mem, s, g, Tail(i as u32), row, link)
 }
 
 // Whether the link of each used record of range g holds. In this loop and the others here one flag is carried to the end.
@@ -211,9 +214,9 @@ fn row_linked(mem: &[u8], s: Sizes, r: usize) -> bool
     ensures { λ b. ⌜ b ≡ rowLinked s (view s (words (now (mem .entry)))) r ⌝ }
 {
     let g = r / RANGE_ROWS;
-    let most = read(mem, s, Region::Used, g);
-    let link = read(mem, s, Region::RowLink, r);
-    link_holds(mem, s, g, most, r as u32, link)
+    let most = Tail(read(mem, s, Region::Used, g));
+    let link = Tail(read(mem, s, Region::RowLink, r));
+    link_holds(mem, s, g, most, Row(r as u32), link)
 }
 
 // Whether the link of each given row holds.

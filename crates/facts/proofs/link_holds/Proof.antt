@@ -13,18 +13,18 @@ returns c = rw (eq-eqb _ _ (c .if1 .taken))
 
 returns-2 : tie.Need-returns-2
 unfolding linkHolds
-returns-2 c = rw (ne-eqb _ _ (c .before .if1 .left), lt-leb _ _ (c .if2 .taken))
+returns-2 c = rw (ne-eqb _ _ (c .before .before .if1 .left), lt-leb _ _ (c .if2 .taken))
 
 add-read : tie.Need-add-read
 add-read c =
-    let s = c .before .before .before .before in
+    let s = c .before .before .before .before .before in
     omega (arith, slots-few (s .args .s) (s .pre .0 .proper))
 
 returns-3 : tie.Need-returns-3
 unfolding linkHolds
 returns-3 c =
-    let two = c .before .before in
-    rw (ne-eqb _ _ (two .before .if1 .left), le-leb _ _ (two .if2 .left), c .read .ensures, c .before .first-slot .ensures .0)
+    let two = c .before .before .before in
+    rw (ne-eqb _ _ (two .before .before .if1 .left), le-leb _ _ (two .if2 .left), c .before .read .ensures, c .before .before .first-slot .ensures .0)
 
 pub link-holds-spec : {M : Type 1} → statement M
 link-holds-spec =
@@ -33,6 +33,7 @@ link-holds-spec =
     returns
     returns-2
     (λ c κs. search needs)
+    (λ c. search needs)
     (λ c. search needs)
     add-read
     (λ c κs. search needs)

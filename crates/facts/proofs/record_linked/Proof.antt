@@ -22,9 +22,6 @@ read-requires c κs = omega (arith, inside (c .before .before))
 read-requires-2 : tie.Need-read-requires-2
 read-requires-2 c κs = omega (arith, inside (c .before .before .before))
 
-cast-link-holds : tie.Need-cast-link-holds
-cast-link-holds c = omega (arith, inside (c .before .before .before .before), c .before .before .before .before .pre .0 .proper .capacity-to)
-
 link-holds-requires : tie.Need-link-holds-requires
 link-holds-requires c κs =
     let s = c .before .before .before .before in
@@ -43,6 +40,6 @@ record-linked-spec =
     add-slot
     read-requires
     read-requires-2
-    cast-link-holds
+    (λ c. omega (arith, inside (c .before .before .before .before), c .before .before .before .before .pre .0 .proper .capacity-to))
     link-holds-requires
     returns)

@@ -73,13 +73,13 @@ static inline int32_t deskrook_value(deskrook_reply reply) {
 
 /* ---- a store's shape ---- */
 
-/* The bytes that a shape needs: columns 1 to 16, ranges 1 to 16 of 64 rows each, tail 1 to 512 records for each range, spares 0 to 256 pages.
+/* The bytes that a shape needs: columns 1 to 16, ranges 1 to 16 of 64 rows each, capacity 1 to 512 tail records for each range, spares 0 to 256 pages.
  * first: the bytes. Refusals: SHAPE. */
-deskrook_reply deskrook_need(uint32_t columns, uint32_t ranges, uint32_t tail, uint32_t spares);
+deskrook_reply deskrook_need(uint32_t columns, uint32_t ranges, uint32_t capacity, uint32_t spares);
 
 /* Makes an empty store of a shape, whatever memory and list held before, and frees every place of the list. Bytes past those needed stay as they are.
  * Refusals: SHAPE, MEMORY (too few bytes or places). */
-deskrook_reply deskrook_make(uint8_t *mem, size_t mem_length, deskrook_scan *scans, size_t scans_length, uint32_t columns, uint32_t ranges, uint32_t tail,
+deskrook_reply deskrook_make(uint8_t *mem, size_t mem_length, deskrook_scan *scans, size_t scans_length, uint32_t columns, uint32_t ranges, uint32_t capacity,
                              uint32_t spares);
 
 /* Whether memory and list are usable, which every call on a store asks first. Refusals: MEMORY. */

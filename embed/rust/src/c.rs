@@ -42,11 +42,11 @@ macro_rules! lent {
 }
 
 extern "C" {
-    pub fn deskrook_need(columns: u32, ranges: u32, tail: u32, spares: u32) -> Reply;
+    pub fn deskrook_need(columns: u32, ranges: u32, capacity: u32, spares: u32) -> Reply;
 }
 
 lent! {
-    mut mut deskrook_make(columns: u32, ranges: u32, tail: u32, spares: u32);
+    mut mut deskrook_make(columns: u32, ranges: u32, capacity: u32, spares: u32);
     const const deskrook_check();
     mut const deskrook_begin();
     mut const deskrook_insert(transaction: u32, values: *const i32, values_length: usize);

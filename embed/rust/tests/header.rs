@@ -1,9 +1,9 @@
-//! The declarations here beside those of the C header: the same refusals and the same functions.
+//! The refusals here beside those of the C header. That the functions are the same shows in checks/,
+//! which compares both with the exports (tests/declared.rs).
 
 use deskrook::{c, Refusal, PLACES};
 
 const HEADER: &str = include_str!("../../c/deskrook.h");
-const DECLARED: &str = include_str!("../src/c.rs");
 
 /// The header's result numbers, each with its name in lower case and without underscores.
 fn results() -> Vec<(String, u32)> {
@@ -26,21 +26,4 @@ fn the_refusals_have_the_headers_names_and_numbers() {
     expected.push(("none".to_string(), c::NONE));
     assert_eq!(results(), expected);
     assert!(HEADER.contains(&format!("#define DESKROOK_SCANS {PLACES}\n")));
-}
-
-/// The names after `mark` that are followed by a parenthesis, in order.
-fn functions(text: &str, mark: &str) -> Vec<String> {
-    let declared = text.match_indices(mark).map(|(at, _)| &text[at + mark.len() - 9..]);
-    let names = declared.filter_map(|text| {
-        let (name, _) = text.split_once('(')?;
-        name.chars().all(|letter| letter.is_ascii_lowercase() || letter == '_').then_some(name)
-    });
-    names.map(str::to_string).collect()
-}
-
-#[test]
-fn the_functions_are_the_headers() {
-    let header = functions(HEADER, "\ndeskrook_reply deskrook_");
-    assert_eq!(header.len(), 20);
-    assert_eq!(functions(DECLARED, " deskrook_"), header);
 }

@@ -1,18 +1,26 @@
-//! What must hold of every call on bytes that no call made: 2 exactly where a stored fact fails, no
-//! byte changed by a refused call, and an answer always.
+//! What must hold of every call on bytes that no call made: 2 exactly where a stored fact fails, any
+//! other refusal exactly where document 01's words give it, no byte changed by a refused call, and an
+//! answer always.
 
 use reference::random::Random;
 use reference::{generate, trace, Answer, Call, Shape};
 
 use crate::agree::{made, Watched};
-use crate::facts;
+use crate::facts::{self, Stored};
 use crate::memory::{header, list_word, word, Layout, Scan, SCANS, SCAN_WORDS, WORD};
 use crate::operands::{call_for, COMMANDS};
+use crate::shortcuts::{self, Differing, Differs};
+use crate::stated;
 use crate::store::Store;
-use crate::unmade::any_lent;
+use crate::unmade::{any_lent, disturbed, small_shape};
 
 /// The shape whose every byte is damaged in turn.
 pub const SMALL: Shape = Shape { columns: 2, ranges: 2, tail: 4, spares: 2 };
+
+/// Random memories, and disturbed ones, for each seed.
+const MEMORIES: u64 = 4000;
+/// How often a store is disturbed, each time further.
+const TIMES: u64 = 10;
 
 /// What a run came to.
 #[derive(Clone, Copy, Debug, Default, PartialEq, Eq)]
@@ -21,6 +29,7 @@ pub struct Tally {
     pub failing: u64,
     pub calls: u64,
     pub accepted: u64,
+    pub differing: Differing,
 }
 
 impl Tally {
@@ -29,16 +38,19 @@ impl Tally {
         self.failing += other.failing;
         self.calls += other.calls;
         self.accepted += other.accepted;
+        self.differing.add(other.differing);
     }
 }
 
-/// Every byte of the good stores of so many seeds, and as many times a thousand random memories.
+/// For each of so many seeds every byte of a good store, random memories, and stores with words
+/// changed that the facts leave free.
 pub fn run(store: &dyn Store, first: u64, count: u64) -> Result<Tally, String> {
     let mut tally = Tally::default();
     for seed in first..first.saturating_add(count) {
         let named = |difference| format!("seed {seed}: {difference}");
         tally.add(every_byte(store, seed).map_err(named)?);
-        tally.add(random_memories(store, seed, 1000).map_err(named)?);
+        tally.add(random_memories(store, seed, MEMORIES).map_err(named)?);
+        tally.add(disturbed_stores(store, seed, MEMORIES).map_err(named)?);
     }
     Ok(tally)
 }
@@ -75,9 +87,20 @@ pub fn flip(list: &mut [Scan], at: usize, bits: u8) {
 
 /// A store of the small shape after a random list of calls.
 pub fn good(store: &dyn Store, seed: u64, random: &mut Random) -> Result<Watched, String> {
-    let (mut watched, _) = made(store, &SMALL, random)?;
     let count = 100 + random.below(200) as usize;
-    for call in generate::calls(seed, SMALL, count) {
+    grown(store, seed, &SMALL, count, random)
+}
+
+/// A store of a shape after so many random calls.
+fn grown(
+    store: &dyn Store,
+    seed: u64,
+    shape: &Shape,
+    count: usize,
+    random: &mut Random,
+) -> Result<Watched, String> {
+    let (mut watched, _) = made(store, shape, random)?;
+    for call in generate::calls(seed, *shape, count) {
         store.call(watched.memory.get_mut(), watched.scans.get_mut(), &call);
     }
     watched.keep();
@@ -96,19 +119,61 @@ pub fn random_memories(store: &dyn Store, seed: u64, count: u64) -> Result<Tally
     Ok(tally)
 }
 
+/// Stores after random calls, with words changed that the facts leave free.
+pub fn disturbed_stores(store: &dyn Store, seed: u64, count: u64) -> Result<Tally, String> {
+    let mut random = Random::new(seed ^ 0x6672_6565_0000_0000);
+    let mut tally = Tally::default();
+    for place in 0..count / TIMES {
+        let (shape, calls) = (small_shape(&mut random), random.between(20, 200) as usize);
+        let mut watched = grown(store, random.word(), &shape, calls, &mut random)?;
+        for _ in 0..TIMES {
+            if !disturbed(watched.memory.get_mut(), &mut random) {
+                continue;
+            }
+            watched.keep();
+            let counted = every_call(store, &mut watched, &mut random);
+            tally.add(counted.map_err(|error| format!("disturbed store {place}: {error}"))?);
+        }
+    }
+    Ok(tally)
+}
+
+/// The refusal that is due to a call. Where it is not that of a shortcut, this is noted.
+pub fn due(
+    usable: &Result<Stored, &'static str>,
+    call: &Call,
+    differs: &mut Differs,
+) -> Option<u8> {
+    let Ok(stored) = usable else {
+        return Some(2);
+    };
+    let due = stated::refusal(stored, call);
+    shortcuts::note(differs, stored, call, due);
+    due
+}
+
 /// Each of the calls on the same bytes.
 fn every_call(
     store: &dyn Store,
     watched: &mut Watched,
     random: &mut Random,
 ) -> Result<Tally, String> {
-    let failing = facts::failing(watched.memory.get(), watched.scans.get());
+    let (memory, list) = (watched.memory.get(), watched.scans.get());
+    let usable = facts::usable(memory, list);
+    let failing = usable.as_ref().err().copied();
     let mut tally =
         Tally { memories: 1, failing: u64::from(failing.is_some()), ..Tally::default() };
+    let mut differs = Differs::default();
+    let mut calls = Vec::new();
     for byte in COMMANDS {
-        let call = call_for(byte, watched.memory.get(), watched.scans.get(), random);
+        let call = call_for(byte, memory, list, random);
+        let due = due(&usable, &call, &mut differs);
+        calls.push((call, due));
+    }
+    tally.differing.count(differs);
+    for (call, due) in calls {
         let answer = store.call(watched.memory.get_mut(), watched.scans.get_mut(), &call);
-        judge(watched, &call, &answer, failing)
+        judge(watched, &call, &answer, due, failing)
             .map_err(|error| format!("{}: {error}", trace::call_words(&call)))?;
         tally.calls += 1;
         tally.accepted += u64::from(!answer.is_refused());
@@ -169,16 +234,13 @@ fn judge(
     watched: &Watched,
     call: &Call,
     answer: &Answer,
+    due: Option<u8>,
     failing: Option<&str>,
 ) -> Result<(), String> {
-    match (failing, answer) {
-        (None, Answer::Refused(2)) => return Err("answer 2 where no fact fails".to_string()),
-        (Some(_), Answer::Refused(2)) | (None, _) => {}
-        (Some(fact), _) => {
-            let answer = trace::answer_words(answer);
-            return Err(format!("answer {answer} where '{fact}' fails"));
-        }
-    }
+    stated::judge(due, answer).map_err(|error| match failing {
+        Some(fact) => format!("{error}: '{fact}' fails"),
+        None => error,
+    })?;
     if answer.is_refused() {
         return watched.unchanged();
     }

@@ -5,12 +5,18 @@
 use crate::memory::{header, page, word, Layout, Region, Scan};
 use crate::memory::{NUMBERS, OPENS, ROWS, SCANS};
 
+/// What is stored, or the name of the first fact that fails.
+pub fn usable<'m>(memory: &'m [u8], list: &[Scan]) -> Result<Stored<'m>, &'static str> {
+    let stored = Stored::of(memory, list)?;
+    match FACTS.iter().find(|fact| !(fact.1)(&stored)) {
+        Some(fact) => Err(fact.0),
+        None => Ok(stored),
+    }
+}
+
 /// The name of the first fact that fails.
 pub fn failing(memory: &[u8], list: &[Scan]) -> Option<&'static str> {
-    match Stored::of(memory, list) {
-        Err(name) => Some(name),
-        Ok(stored) => FACTS.iter().find(|fact| !(fact.1)(&stored)).map(|fact| fact.0),
-    }
+    usable(memory, list).err()
 }
 
 /// The names of all facts that fail.
@@ -81,7 +87,7 @@ const FACTS: [Fact; 22] = [
     }),
     ("a record's link is 0 or a lower record of its row", |s| {
         s.records().all(|(range, number)| {
-            let link = s.get(Region::TailLink, s.layout.slot(range, number as usize));
+            let link = s.of_record(Region::TailLink, range, number);
             link == 0 || (link < number && s.row_of(range, link) == s.row_of(range, number))
         })
     }),
@@ -132,11 +138,11 @@ const FACTS: [Fact; 22] = [
 ];
 
 /// Bytes that are long enough for the measures they say.
-struct Stored<'m> {
+pub struct Stored<'m> {
     memory: &'m [u8],
-    layout: Layout,
+    pub layout: Layout,
     /// The open scans.
-    scans: Vec<Scan>,
+    pub scans: Vec<Scan>,
 }
 
 impl Stored<'_> {
@@ -152,12 +158,12 @@ impl Stored<'_> {
         Ok(Stored { memory, layout, scans })
     }
 
-    fn get(&self, region: Region, i: usize) -> u32 {
+    pub fn get(&self, region: Region, i: usize) -> u32 {
         assert!(i < self.layout.length(region), "{region:?} has no word {i}");
         word(self.memory, self.layout.base(region) + i)
     }
 
-    fn header(&self, i: usize) -> u32 {
+    pub fn header(&self, i: usize) -> u32 {
         self.get(Region::Header, i)
     }
 
@@ -172,7 +178,7 @@ impl Stored<'_> {
         0..self.layout.rows.min(self.header(header::ROWS_GIVEN) as usize)
     }
 
-    fn used(&self, range: usize) -> u32 {
+    pub fn used(&self, range: usize) -> u32 {
         self.get(Region::Used, range).min(self.layout.capacity as u32)
     }
 
@@ -199,7 +205,7 @@ impl Stored<'_> {
     }
 
     /// The numbers of the open transactions.
-    fn open(&self) -> Vec<u32> {
+    pub fn open(&self) -> Vec<u32> {
         let all = (0..OPENS).map(|place| self.get(Region::Opens, place));
         all.filter(|number| *number != 0).collect()
     }
@@ -208,9 +214,14 @@ impl Stored<'_> {
         (1..=self.header(header::TRANSACTIONS_GIVEN)).contains(&transaction)
     }
 
+    /// A word of a record of a range.
+    pub fn of_record(&self, region: Region, range: usize, number: u32) -> u32 {
+        self.get(region, self.layout.slot(range, number as usize))
+    }
+
     /// The row that a record of a range names.
-    fn row_of(&self, range: usize, number: u32) -> u32 {
-        self.get(Region::TailRow, self.layout.slot(range, number as usize))
+    pub fn row_of(&self, range: usize, number: u32) -> u32 {
+        self.of_record(Region::TailRow, range, number)
     }
 }
 

@@ -1,6 +1,6 @@
 //! Checks of the store over its bytes and answers: the layout of the lent memory, an independent
-//! reading of the stored facts, a plain page store in Rust, the compiled library, and the
-//! comparisons of these with each other and with the second program's plain history.
+//! reading of the stored facts and of the refusals, a plain page store in Rust, the compiled library,
+//! and the comparisons of these with each other and with the second program's plain history.
 
 pub mod agree;
 pub mod command_line;
@@ -15,6 +15,8 @@ pub mod memory;
 pub mod operands;
 pub mod plain;
 pub mod same;
+pub mod shortcuts;
+pub mod stated;
 pub mod store;
 pub mod unmade;
 

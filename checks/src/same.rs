@@ -1,16 +1,20 @@
 //! Two stores on the same layout, call for call: the same answers, and the same bytes of memory
-//! and list after each call.
+//! and list after each call. On memories that no call made the refusals are also those of document
+//! 01's words.
 
 use reference::random::Random;
 use reference::{trace, Answer, Call, Shape};
 
 use crate::agree;
-use crate::damage::good;
+use crate::damage::{due, good};
+use crate::facts;
 use crate::lent::Lent;
 use crate::memory::{Layout, Scan, REGIONS, SCANS, WORD};
 use crate::operands::{call_for, COMMANDS};
-use crate::store::Store;
-use crate::unmade::any_lent;
+use crate::shortcuts::{Differing, Differs};
+use crate::stated;
+use crate::store::{writes, Store};
+use crate::unmade::{any_lent, disturbed};
 
 /// What a run came to.
 #[derive(Clone, Copy, Debug, Default, PartialEq, Eq)]
@@ -18,6 +22,7 @@ pub struct Tally {
     pub lists: u64,
     pub calls: u64,
     pub accepted: u64,
+    pub differing: Differing,
 }
 
 /// Calls made one after the other on a memory that no call made.
@@ -41,6 +46,11 @@ pub fn run(one: &dyn Store, other: &dyn Store, first: u64, count: u64) -> Result
             let (memory, scans) = any_lent(&mut random);
             Pair::of(one, other, memory, scans).steps(&mut random, &mut tally).map_err(named)?;
         }
+        let mut free = good(one, seed, &mut random).map_err(named)?;
+        disturbed(free.memory.get_mut(), &mut random);
+        Pair::of(one, other, free.memory, free.scans)
+            .steps(&mut random, &mut tally)
+            .map_err(named)?;
         let mut damaged = good(one, seed, &mut random).map_err(named)?;
         for _ in 0..random.between(1, 4) {
             let at = random.below(damaged.memory.get().len() as u32) as usize;
@@ -95,25 +105,38 @@ impl<'s> Pair<'s> {
         Ok(pair)
     }
 
+    /// Calls on memory that no call made, which stays such memory.
     fn steps(&mut self, random: &mut Random, tally: &mut Tally) -> Result<(), String> {
         tally.lists += 1;
+        let mut differs = Differs::default();
         for _ in 0..STEPS {
             let byte = random.between(u32::from(*COMMANDS.start()), u32::from(*COMMANDS.end()));
             let (memory, list) = (self.memory[0].get(), self.scans[0].get());
             let call = call_for(byte as u8, memory, list, random);
-            self.call(&call, tally)?;
+            let due = due(&facts::usable(memory, list), &call, &mut differs);
+            let answer = self.call(&call, tally)?;
+            stated::judge(due, &answer)
+                .map_err(|error| format!("{}: {error}", trace::call_words(&call)))?;
+            // A memory counts once, and an accepted call that writes makes another one.
+            if !answer.is_refused() && writes(&call) {
+                tally.differing.count(differs);
+                differs = Differs::default();
+            }
         }
+        tally.differing.count(differs);
         Ok(())
     }
 
-    fn call(&mut self, call: &Call, tally: &mut Tally) -> Result<(), String> {
+    fn call(&mut self, call: &Call, tally: &mut Tally) -> Result<Answer, String> {
         let [first, second] = &mut self.memory;
         let [list, other_list] = &mut self.scans;
         let first = self.one.call(first.get_mut(), list.get_mut(), call);
         let second = self.other.call(second.get_mut(), other_list.get_mut(), call);
         tally.calls += 1;
         tally.accepted += u64::from(!first.is_refused());
-        self.alike(&first, &second).map_err(|error| format!("{}: {error}", trace::call_words(call)))
+        self.alike(&first, &second)
+            .map_err(|error| format!("{}: {error}", trace::call_words(call)))?;
+        Ok(first)
     }
 
     fn alike(&self, first: &Answer, second: &Answer) -> Result<(), String> {

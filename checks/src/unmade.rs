@@ -1,5 +1,6 @@
 //! Random memories and scan lists that no call made: anything, words of which every stored fact
-//! holds, and such words with a few of them changed.
+//! holds, such words with a few of them changed, and stores in which words are changed that the facts
+//! leave free.
 
 use reference::random::Random;
 use reference::Shape;
@@ -91,7 +92,8 @@ fn anything<T: Content>(most: u32, blank: T, random: &mut Random) -> Vec<T> {
     all
 }
 
-fn small_shape(random: &mut Random) -> Shape {
+/// A shape of which there is little memory.
+pub fn small_shape(random: &mut Random) -> Shape {
     Shape {
         columns: random.between(1, 4),
         ranges: random.between(1, 3),
@@ -133,6 +135,18 @@ pub fn passing(random: &mut Random) -> (Vec<u8>, Vec<Scan>) {
     (builder.bytes, list)
 }
 
+/// Changes words that the facts leave free, in a memory whose facts hold. Whether there is a change.
+pub fn disturbed(memory: &mut [u8], random: &mut Random) -> bool {
+    let count = random.between(1, 6);
+    let mut builder = Builder::of(memory, random);
+    for _ in 0..count {
+        builder.disturb();
+    }
+    let changed = memory != builder.bytes;
+    memory.copy_from_slice(&builder.bytes);
+    changed
+}
+
 /// Writes words that pass the facts into random bytes.
 struct Builder<'r> {
     bytes: Vec<u8>,
@@ -144,7 +158,12 @@ struct Builder<'r> {
     last: u32,
     merges: u32,
     open: Vec<u32>,
+    /// How many of a hundred rows and records bear an open transaction, at least.
+    share: u32,
 }
+
+/// Shares of which each memory has one: a merge wants records that no open transaction made.
+const SHARES: [u32; 3] = [0, 10, 50];
 
 impl Builder<'_> {
     fn new<'r>(shape: &Shape, random: &'r mut Random) -> Builder<'r> {
@@ -166,8 +185,90 @@ impl Builder<'_> {
         put_word(&mut bytes, header::SCANS_GIVEN, scans);
         put_word(&mut bytes, header::LAST_STAMP, last);
         put_word(&mut bytes, header::MERGES_MADE, merges);
-        let open = Vec::new();
-        Builder { bytes, layout, random, rows, transactions, scans, last, merges, open }
+        let (open, share) = (Vec::new(), random.pick(&SHARES));
+        Builder { bytes, layout, random, rows, transactions, scans, last, merges, open, share }
+    }
+
+    /// With the words that a memory has, whose facts hold.
+    fn of<'r>(memory: &[u8], random: &'r mut Random) -> Builder<'r> {
+        let layout = Layout::stored(memory).expect("the measures lie within their limits");
+        let header = |i| word(memory, i);
+        let opens = (0..OPENS).map(|place| word(memory, layout.base(Region::Opens) + place));
+        Builder {
+            bytes: memory.to_vec(),
+            layout,
+            share: random.pick(&SHARES),
+            random,
+            rows: header(header::ROWS_GIVEN),
+            transactions: header(header::TRANSACTIONS_GIVEN),
+            scans: header(header::SCANS_GIVEN),
+            last: header(header::LAST_STAMP),
+            merges: header(header::MERGES_MADE),
+            open: opens.filter(|number| *number != 0).collect(),
+        }
+    }
+
+    /// Another word in the place of one that the facts leave free.
+    fn disturb(&mut self) {
+        match self.random.below(9) {
+            0 => self.other_open(),
+            1 | 2 => self.other_page(),
+            3 => self.other_lineage(),
+            _ => self.other_record(),
+        }
+    }
+
+    /// Another number, or none, in a place of the open transactions.
+    fn other_open(&mut self) {
+        let place = self.random.below(OPENS as u32) as usize;
+        let number = self.up_to(self.transactions);
+        let number = if self.open.contains(&number) { 0 } else { number };
+        let old = self.get(Region::Opens, place);
+        self.put(Region::Opens, place, number);
+        self.open.retain(|open| *open != old);
+        if number != 0 {
+            self.open.push(number);
+        }
+    }
+
+    /// Another state and place of a page that is not current.
+    fn other_page(&mut self) {
+        let at = self.random.below(self.layout.pages as u32) as usize;
+        let mut current = (0..self.layout.places).map(|place| self.get(Region::Current, place));
+        if !current.any(|page| page as usize == at) {
+            let (state, least) = (self.code(), self.random.below(2));
+            let place = self.random.below(self.layout.places as u32);
+            self.page(at, state.max(least), place);
+        }
+    }
+
+    fn other_lineage(&mut self) {
+        let place = self.random.below(self.layout.places as u32) as usize;
+        let used = self.get(Region::Used, place / self.layout.columns);
+        let (at, lineage) = (self.get(Region::Current, place), self.up_to(used));
+        self.put(Region::PageLineage, at as usize, lineage);
+    }
+
+    /// Another word of a used record, or of the row that it names.
+    fn other_record(&mut self) {
+        let range = self.random.below(self.layout.ranges as u32) as usize;
+        let used = self.get(Region::Used, range);
+        if used == 0 {
+            return;
+        }
+        let number = 1 + self.random.below(used);
+        let slot = self.layout.slot(range, number as usize);
+        let row = self.get(Region::TailRow, slot);
+        let (region, at, word) = match self.random.below(7) {
+            0 => (Region::RowLink, row as usize, self.linked(range, row, used)),
+            1 => (Region::RowTransaction, row as usize, self.transaction()),
+            2 => (Region::RowState, row as usize, self.code()),
+            3 => (Region::TailLink, slot, self.linked(range, row, number - 1)),
+            4 => (Region::TailTransaction, slot, self.transaction()),
+            5 => (Region::TailState, slot, self.code()),
+            _ => (Region::TailKind, slot, self.code()),
+        };
+        self.put(region, at, word);
     }
 
     fn put(&mut self, region: Region, i: usize, word: u32) {
@@ -201,13 +302,14 @@ impl Builder<'_> {
         }
     }
 
-    /// A transaction to bear: often an open one.
+    /// A transaction to bear.
     fn transaction(&mut self) -> u32 {
-        if !self.open.is_empty() && self.random.percent(50) {
-            self.random.pick(&self.open)
-        } else {
-            self.up_to(self.transactions - 1) + 1
+        if !self.open.is_empty() && self.random.percent(self.share) {
+            return self.random.pick(&self.open);
         }
+        let (one, other) = (self.up_to(self.transactions - 1), self.up_to(self.transactions - 1));
+        // Rather one that is not open, where the other is.
+        1 + if self.open.contains(&(one + 1)) { other } else { one }
     }
 
     fn opens(&mut self) {
@@ -277,8 +379,10 @@ impl Builder<'_> {
     }
 
     fn pages(&mut self) {
+        // In some memories no page says that it is free.
+        let least = self.random.below(2);
         for at in 0..self.layout.pages {
-            let state = self.code();
+            let state = self.code().max(least);
             let place = if self.random.percent(70) {
                 self.random.below(self.layout.places as u32)
             } else {

@@ -1,4 +1,4 @@
-//! The stored facts, and answer 2 on memories that no call made.
+//! The stored facts, and the refusals on memories that no call made.
 
 use std::collections::BTreeSet;
 
@@ -11,9 +11,12 @@ use reference::random::Random;
 use reference::{Answer, Call};
 
 #[test]
-fn two_is_answered_where_a_fact_fails_and_nowhere_else() {
+fn refusals_are_those_of_the_facts_and_of_the_words() {
     let tally = damage::run(&Plain::<0>, 0, 2).expect("no difference");
     assert!(tally.failing > 1000 && tally.accepted > 100_000, "{tally:?}");
+    let differing = &tally.differing;
+    let each = [differing.by_9, differing.by_10, differing.by_17, differing.by_18];
+    assert!(each.iter().all(|count| *count > 200), "{tally:?}");
 }
 
 /// For each fact there are bytes of which no other fact fails: a store that forgets any one of them

@@ -1,4 +1,5 @@
-//! The compiled library against the plain history, the stored facts and the plain page store.
+//! The compiled library against the plain history, the stored facts, document 01's words and the plain
+//! page store.
 //! Longer runs: the binaries with the stores `library` and `wrapper`.
 #![cfg(feature = "library")]
 
@@ -12,7 +13,7 @@ fn answers_are_those_of_the_plain_history() {
 }
 
 #[test]
-fn two_is_answered_where_a_fact_fails_and_nowhere_else() {
+fn refusals_are_those_of_the_facts_and_of_the_words() {
     damage::run(&Library, 0, 1).expect("no difference");
 }
 

@@ -1,12 +1,13 @@
-//! Refusals 9, 10, 17 and 18 on memories that no call made: each follows document 01's words, whatever
-//! links, lineages and state words say.
+//! Refusals on memories that no call made: each follows document 01's words, whatever links, lineages
+//! and state words say. Known memories for 9, 10, 17 and 18, and stores that take a shortcut to one of
+//! them, which are told apart.
 
 use checks::defined::Defined;
 #[cfg(feature = "library")]
 use checks::library::Library;
 use checks::memory::{put_word, Layout, Region, Scan};
 use checks::plain::Plain;
-use checks::{facts, Store};
+use checks::{agree, damage, facts, same, shortcuts, stated, Store};
 use reference::{Answer, Call, Shape};
 
 const SHAPE: Shape = Shape { columns: 1, ranges: 1, tail: 4, spares: 1 };
@@ -35,7 +36,8 @@ fn answers(calls: &[Call], put: &[(Region, usize, u32)], call: Call, wanted: Ans
         for (region, at, word) in put {
             put_word(&mut memory, layout.base(*region) + at, *word);
         }
-        assert_eq!(facts::failing(&memory, &list), None);
+        let stored = facts::usable(&memory, &list).expect("no fact fails");
+        assert_eq!(stated::judge(stated::refusal(&stored, &call), &wanted), Ok(()));
         assert_eq!(store.call(&mut memory, &mut list, &call), wanted);
     }
 }
@@ -99,4 +101,53 @@ fn a_page_that_no_place_names_is_free() {
         Answer::Done,
     );
     answers(&settled(), &[(Region::PageState, 1, 2)], merge, Answer::Refused(18));
+}
+
+/// The plain page store with one of the conditions by its shortcut.
+struct Shortcut(u8);
+
+impl Store for Shortcut {
+    fn need(&self, shape: &Shape) -> Result<usize, u8> {
+        Plain::<0>.need(shape)
+    }
+
+    fn make(&self, memory: &mut [u8], scans: &mut [Scan], shape: &Shape) -> Answer {
+        Plain::<0>.make(memory, scans, shape)
+    }
+
+    fn call(&self, memory: &mut [u8], scans: &mut [Scan], call: &Call) -> Answer {
+        let refused = match facts::usable(memory, scans) {
+            Err(_) => Some(2),
+            Ok(stored) => shortcuts::refusal(&stored, call, self.0),
+        };
+        match refused.map(Answer::Refused) {
+            Some(answer) => answer,
+            None => match Plain::<0>.call(memory, scans, call) {
+                Answer::Refused(_) => Answer::Done,
+                answer => answer,
+            },
+        }
+    }
+}
+
+fn by_the_words(difference: Result<impl Sized, String>) -> bool {
+    difference.is_err_and(|difference| difference.contains("by document 01's words"))
+}
+
+#[test]
+fn a_shortcut_is_told_apart() {
+    for number in shortcuts::NUMBERS {
+        let store = Shortcut(number);
+        assert!(by_the_words(damage::random_memories(&store, 0, 4000)), "{number}: random");
+        assert!(by_the_words(damage::disturbed_stores(&store, 0, 4000)), "{number}: disturbed");
+        assert!(by_the_words(same::run(&store, &store, 0, 400)), "{number}: same");
+    }
+}
+
+/// In stores that calls alone have written a shortcut gives the same answers.
+#[test]
+fn a_shortcut_is_right_after_calls_alone() {
+    for number in shortcuts::NUMBERS {
+        agree::run(&Shortcut(number), 0, 200).expect("no difference");
+    }
 }

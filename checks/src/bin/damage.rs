@@ -1,5 +1,6 @@
-//! A store's answer 2 against the stored facts on damaged and random bytes: for each of COUNT
-//! seeds every byte of a good store and a thousand random memories. `damage FIRST COUNT [STORE]`.
+//! A store's refusals against the stored facts and document 01's words on bytes that no call made: for
+//! each of COUNT seeds every byte of a good store, random memories, and stores with words changed that
+//! the facts leave free. `damage FIRST COUNT [STORE]`.
 
 use std::process::ExitCode;
 

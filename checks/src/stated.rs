@@ -1,0 +1,189 @@
+//! The refusals by document 01's words: its table "What a refused call returns" and its paragraph
+//! "Tests run in this order", read of the words of a usable memory, whoever wrote them. Written from
+//! these two alone, to judge a store's refusals, so it is plain rather than quick.
+//!
+//! Two words are settled: open is a number in the list of open numbers, whatever state words say; and
+//! what is not open is committed where its state word says so, and aborted otherwise.
+
+use reference::{trace, Answer, Call};
+
+use crate::facts::Stored;
+use crate::memory::{header, kind, page, state, Region, NUMBERS, OPENS, ROWS, SCANS};
+
+/// The numbers of a call. What a call does not have is 0, and no test of it looks there.
+#[derive(Clone, Copy, Default)]
+pub struct Numbers {
+    pub transaction: u32,
+    pub scan: u32,
+    pub row: u32,
+    pub column: u32,
+    pub range: u32,
+    pub mask: u16,
+    pub stamp: u32,
+    pub through: u32,
+}
+
+/// A call's tests after 2, in their order, and its numbers.
+pub fn tests(call: &Call) -> (&'static [u8], Numbers) {
+    let none = Numbers::default();
+    match *call {
+        Call::Begin => (&[15, 14], none),
+        Call::Insert { transaction, .. } => (&[3, 11], Numbers { transaction, ..none }),
+        Call::Update { transaction, row, mask, .. } => {
+            (&[3, 5, 8, 9, 10, 12], Numbers { transaction, row, mask, ..none })
+        }
+        Call::Delete { transaction, row } => {
+            (&[3, 5, 9, 10, 12], Numbers { transaction, row, ..none })
+        }
+        Call::Commit { transaction, stamp } => (&[3, 13], Numbers { transaction, stamp, ..none }),
+        Call::Abort { transaction } => (&[3], Numbers { transaction, ..none }),
+        Call::Latest { row, column } => (&[5, 6], Numbers { row, column, ..none }),
+        Call::ReadAt { stamp, row, column } => {
+            (&[13, 5, 6], Numbers { stamp, row, column, ..none })
+        }
+        Call::OwnRead { transaction, row, column } => {
+            (&[3, 5, 6], Numbers { transaction, row, column, ..none })
+        }
+        Call::OpenScan { stamp } => (&[13, 15, 14], Numbers { stamp, ..none }),
+        Call::ScanRead { scan, row, column } => (&[4, 5, 6], Numbers { scan, row, column, ..none }),
+        Call::Sum { scan, column } => (&[4, 6], Numbers { scan, column, ..none }),
+        Call::Close { scan } => (&[4], Numbers { scan, ..none }),
+        Call::Merge { range, column, through } => {
+            (&[7, 6, 16, 17, 18], Numbers { range, column, through, ..none })
+        }
+        Call::Release => (&[], none),
+        Call::PageCell { column, row } => (&[6, 5], Numbers { column, row, ..none }),
+        Call::Lineage { range, column } => (&[7, 6], Numbers { range, column, ..none }),
+    }
+}
+
+/// The number that the call is refused with: the first whose condition applies.
+pub fn refusal(stored: &Stored, call: &Call) -> Option<u8> {
+    let (tests, numbers) = tests(call);
+    tests.iter().copied().find(|number| applies(stored, *number, call, &numbers))
+}
+
+/// Whether an answer is refused with the number that is due, or accepted where none is.
+pub fn judge(due: Option<u8>, answer: &Answer) -> Result<(), String> {
+    let refused = match answer {
+        Answer::Refused(number) => Some(*number),
+        _ => None,
+    };
+    if refused == due {
+        return Ok(());
+    }
+    let (answer, due) = (trace::answer_words(answer), due.map(Answer::Refused));
+    let due = due.map_or("an accepted call".to_string(), |due| trace::answer_words(&due));
+    Err(format!("answer {answer}, by document 01's words {due} is due"))
+}
+
+/// Whether a number's condition applies to a call of which the tests before it have passed.
+pub fn applies(s: &Stored, number: u8, call: &Call, n: &Numbers) -> bool {
+    match number {
+        // "the number is not open"
+        3 => !s.open().contains(&n.transaction),
+        4 => !s.scans.iter().any(|scan| scan.number == n.scan),
+        // "row number not yet given"
+        5 => n.row >= s.header(header::ROWS_GIVEN),
+        // "not below the column count", "not below the range count"
+        6 => n.column >= s.header(header::COLUMNS),
+        7 => n.range >= s.header(header::RANGES),
+        // "no bit, or a bit at or above the column count"
+        8 => {
+            let bits: Vec<u32> = (0..16).filter(|bit| n.mask >> bit & 1 == 1).collect();
+            bits.is_empty() || bits.iter().any(|bit| *bit >= s.header(header::COLUMNS))
+        }
+        9 => held(s, n),
+        10 => !held(s, n) && (deleted(s, n) || insert_aborted(s, n)),
+        // "all rows given"
+        11 => s.header(header::ROWS_GIVEN) as usize >= s.layout.rows,
+        // "the range lacks the one or two records wanted"
+        12 => s.used(range_of(n)) + wanted(s, call, n) > s.header(header::CAPACITY),
+        // "a commit not later than the last (0 in a new store), or a read or scan later than the
+        // last"
+        13 => match call {
+            Call::Commit { .. } => n.stamp <= s.header(header::LAST_STAMP),
+            _ => n.stamp > s.header(header::LAST_STAMP),
+        },
+        // "8 transactions, or 16 scans, open"
+        14 => match call {
+            Call::Begin => s.open().len() >= OPENS,
+            _ => s.scans.len() >= SCANS,
+        },
+        // "65,535 numbers given"
+        15 => match call {
+            Call::Begin => s.header(header::TRANSACTIONS_GIVEN) >= NUMBERS,
+            _ => s.header(header::SCANS_GIVEN) >= NUMBERS,
+        },
+        // "merge not above what the page holds, or above the records used"
+        16 => n.through <= lineage(s, n) || n.through > s.used(n.range as usize),
+        // "a record up to n belongs to an open transaction"
+        17 => (1..=n.through).any(|record| {
+            s.open().contains(&s.of_record(Region::TailTransaction, n.range as usize, record))
+        }),
+        // "no free page"; "Free pages are the spares less those waiting"
+        18 => s.header(header::SPARES) as usize <= waiting(s),
+        _ => unreachable!("{number} is no number of a call on a store"),
+    }
+}
+
+fn range_of(n: &Numbers) -> usize {
+    n.row as usize / ROWS
+}
+
+/// A word of the row.
+fn row(s: &Stored, region: Region, n: &Numbers) -> u32 {
+    s.get(region, n.row as usize)
+}
+
+/// The used records that name the row.
+fn records<'s>(s: &'s Stored, n: &'s Numbers) -> impl Iterator<Item = u32> + 's {
+    let range = range_of(n);
+    (1..=s.used(range)).filter(move |record| s.row_of(range, *record) == n.row)
+}
+
+/// "another open transaction inserted, updated or deleted the row"
+fn held(s: &Stored, n: &Numbers) -> bool {
+    s.open().into_iter().filter(|other| *other != n.transaction).any(|other| {
+        row(s, Region::RowTransaction, n) == other
+            || records(s, n)
+                .any(|record| s.of_record(Region::TailTransaction, range_of(n), record) == other)
+    })
+}
+
+/// "the row is deleted .., in the caller's own view": by what is committed, or by the caller.
+fn deleted(s: &Stored, n: &Numbers) -> bool {
+    let of = |region, record| s.of_record(region, range_of(n), record);
+    records(s, n).filter(|record| of(Region::TailKind, *record) >= kind::DELETE).any(|record| {
+        let by = of(Region::TailTransaction, record);
+        let settled = !s.open().contains(&by);
+        by == n.transaction || (settled && of(Region::TailState, record) == state::COMMITTED)
+    })
+}
+
+/// ".. or its insert aborted"
+fn insert_aborted(s: &Stored, n: &Numbers) -> bool {
+    let settled = !s.open().contains(&row(s, Region::RowTransaction, n));
+    settled && row(s, Region::RowState, n) != state::COMMITTED
+}
+
+/// Two records for an update of a column "that no earlier accepted update of that row has set", which
+/// the row's mask notes, else one.
+fn wanted(s: &Stored, call: &Call, n: &Numbers) -> u32 {
+    let set = row(s, Region::RowMask, n);
+    let new = (0..16).any(|bit| n.mask >> bit & 1 == 1 && set >> bit & 1 == 0);
+    match call {
+        Call::Update { .. } if new => 2,
+        _ => 1,
+    }
+}
+
+/// What the current page of the range and column holds.
+pub fn lineage(s: &Stored, n: &Numbers) -> u32 {
+    let place = s.layout.place(n.range as usize, n.column as usize);
+    s.get(Region::PageLineage, s.get(Region::Current, place) as usize)
+}
+
+fn waiting(s: &Stored) -> usize {
+    (0..s.layout.pages).filter(|at| s.get(Region::PageState, *at) >= page::WAITING).count()
+}

@@ -270,13 +270,19 @@ fn the_declarations_are_those_of_the_exports() {
     compare(&texts()).expect("no difference");
 }
 
-/// With the text `old`, which stands there, replaced at its first place, a difference is found.
-fn told_apart(of: fn(&mut Texts) -> &mut String, old: &str, new: &str) {
+/// What is found with the text `old`, which stands there, replaced at its first place.
+fn found(of: fn(&mut Texts) -> &mut String, old: &str, new: &str) -> String {
     let mut edited = texts();
     let text = of(&mut edited);
     assert!(text.contains(old), "no '{old}'");
     *text = text.replacen(old, new, 1);
-    assert!(compare(&edited).is_err(), "'{new}' in the place of '{old}' is not told apart");
+    compare(&edited).err().unwrap_or_default()
+}
+
+/// A difference, and not a text that cannot be read.
+fn told_apart(of: fn(&mut Texts) -> &mut String, old: &str, new: &str) {
+    let found = found(of, old, new);
+    assert!(found.contains(" in the exports, "), "'{new}' in the place of '{old}': '{found}'");
 }
 
 #[test]
@@ -319,7 +325,11 @@ fn a_function_too_many_or_under_another_name_is_told_apart() {
     told_apart(|t| &mut t.declared, " deskrook_sum(", " deskrook_total(");
     let more = "deskrook_reply deskrook_more(uint32_t n);\n#ifdef __cplusplus\n}";
     told_apart(|t| &mut t.header, "#ifdef __cplusplus\n}", more);
-    told_apart(|t| &mut t.declared, "lent! {", "extern \"C\" { pub fn deskrook_more(); } lent! {");
+    told_apart(
+        |t| &mut t.declared,
+        "lent! {",
+        "extern \"C\" { pub fn deskrook_more() -> Reply; } lent! {",
+    );
     let more = "mut const deskrook_more();\n    mut const deskrook_begin();";
     told_apart(|t| &mut t.declared, "mut const deskrook_begin();", more);
 }
@@ -345,10 +355,17 @@ fn another_struct_is_told_apart() {
         "uint32_t number;\n    uint32_t stamp;\n",
         "uint32_t stamp;\n    uint32_t number;\n",
     );
-    told_apart(|t| &mut t.store, "pub number: u32", "pub stamp: u32");
+    let number = "    /// The scan's number; 0 marks a free place.\n    pub number: u32,\n";
+    let stamp = "    /// The stamp that it was opened with.\n    pub stamp: u32,\n";
+    told_apart(|t| &mut t.store, &(number.to_owned() + stamp), &(stamp.to_owned() + number));
     told_apart(|t| &mut t.replies, "pub sum: i64", "pub sum: i32");
     told_apart(|t| &mut t.header, "int64_t sum", "int32_t sum");
     told_apart(|t| &mut t.declared, "pub sum: i64", "pub sum: i32");
-    told_apart(|t| &mut t.terms, "#[repr(C)]\npub struct Place", "pub struct Place");
-    told_apart(|t| &mut t.declared, "#[repr(C)]\n", "");
+}
+
+#[test]
+fn a_struct_that_may_lie_otherwise_is_told_apart() {
+    let place = found(|t| &mut t.terms, "#[repr(C)]\npub struct Place", "pub struct Place");
+    let reply = found(|t| &mut t.declared, "#[repr(C)]\n", "");
+    assert!([place, reply].iter().all(|found| found.contains("is not laid as C lays it")));
 }

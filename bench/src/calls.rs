@@ -1,5 +1,7 @@
-//! Each call at a shape, empty, half and full.
+//! Each call at a shape, empty, half and full; and update, delete and merge with eight transactions
+//! open.
 
+use checks::memory::OPENS;
 use reference::{text, Call, Shape};
 
 use crate::filled::Filled;
@@ -11,14 +13,37 @@ const FILLINGS: [(&str, u32); 3] = [("empty", 0), ("half", 50), ("full", 100)];
 /// How often all calls of a shape are measured: a stretch of seconds in which the machine is slow meets a call once.
 const PASSES: usize = 4;
 
-/// The ratios of a shape: for each call, one for each filling.
+/// A call that is timed, by its byte, and the transactions that are open beside the caller.
+struct Timed {
+    byte: u8,
+    others: u32,
+}
+
+/// Each call; and where every place of an open transaction is taken, those whose tests look through
+/// all of them.
+fn timed() -> impl Iterator<Item = Timed> {
+    let alone = (1..=text::NAMES.len() as u8).map(|byte| Timed { byte, others: 0 });
+    alone.chain([0x03, 0x04, 0x0E].map(|byte| Timed { byte, others: OPENS as u32 - 1 }))
+}
+
+impl Timed {
+    fn name(&self) -> String {
+        let name = text::NAMES[usize::from(self.byte) - 1];
+        match self.others {
+            0 => name.to_string(),
+            others => format!("{name}, {} open", others + 1),
+        }
+    }
+}
+
+/// The ratios of a shape: for each call that is timed its name, and one for each filling.
 pub struct Ratios {
     pub shape: Shape,
-    pub calls: Vec<[f64; FILLINGS.len()]>,
+    pub calls: Vec<(String, [f64; FILLINGS.len()])>,
 }
 
 pub fn measure(stores: &[Named], shape: Shape, report: &mut Report) -> Ratios {
-    report.heading(&format!("Each call at shape {}", named(&shape)), "Nanoseconds of a call, and how many times the plain store's they are. Empty is one row with one setting; full leaves room for one row and one record.");
+    report.heading(&format!("Each call at shape {}", named(&shape)), "Nanoseconds of a call, and how many times the plain store's they are. Empty is one row with one setting; full leaves room for one row and one record. With eight open the seven others have set rows of their own where there is room.");
     let mut heads = vec!["call".to_string()];
     for (filling, _) in FILLINGS {
         heads.push(format!("{filling}: {}", stores[0].0));
@@ -27,24 +52,23 @@ pub fn measure(stores: &[Named], shape: Shape, report: &mut Report) -> Ratios {
             heads.push("ratio".to_string());
         }
     }
-    let filled = FILLINGS.map(|(_, percent)| Filled::new(shape, percent));
-    let mut least =
-        vec![vec![vec![f64::INFINITY; stores.len()]; FILLINGS.len()]; text::NAMES.len()];
+    let prepared: Vec<_> =
+        timed().map(|call| FILLINGS.map(|(_, percent)| prepared(shape, percent, &call))).collect();
+    let mut least = vec![vec![vec![f64::INFINITY; stores.len()]; FILLINGS.len()]; prepared.len()];
     for _ in 0..PASSES {
-        for (of_call, byte) in least.iter_mut().zip(1..) {
-            for (times, filled) in of_call.iter_mut().zip(&filled) {
-                let (filled, call) = prepared(filled, byte);
+        for (of_call, prepared) in least.iter_mut().zip(&prepared) {
+            for (times, (filled, call)) in of_call.iter_mut().zip(prepared) {
                 time::lesser(
                     times,
-                    &time::rounds(stores, |store| time::calls(store, &filled, &[&call])),
+                    &time::rounds(stores, |store| time::calls(store, filled, &[call])),
                 );
             }
         }
     }
     let mut ratios = Ratios { shape, calls: Vec::new() };
     let mut rows = Vec::new();
-    for (name, of_call) in text::NAMES.iter().zip(&least) {
-        let mut row = vec![name.to_string()];
+    for (call, of_call) in timed().zip(&least) {
+        let mut row = vec![call.name()];
         let mut of_fillings = [1.0; FILLINGS.len()];
         for (times, ratio) in of_call.iter().zip(&mut of_fillings) {
             row.push(ns(times[0]));
@@ -55,20 +79,20 @@ pub fn measure(stores: &[Named], shape: Shape, report: &mut Report) -> Ratios {
             }
         }
         rows.push(row);
-        ratios.calls.push(of_fillings);
+        ratios.calls.push((call.name(), of_fillings));
     }
     report.table(&heads, &rows);
     ratios
 }
 
 /// A call that is accepted, with the store in which it is timed.
-fn prepared(filled: &Filled, byte: u8) -> (Filled, Call) {
-    let mut filled = filled.clone();
+fn prepared(shape: Shape, percent: u32, timed: &Timed) -> (Filled, Call) {
+    let mut filled = Filled::crowded(shape, percent, timed.others);
     let (transaction, scan, last) = (filled.open, filled.scan, filled.last);
     let (row, column) = (filled.rows / 2, 0);
     let values = vec![1; filled.shape.columns as usize];
     let merge = Call::Merge { range: 0, column, through: filled.settled };
-    let call = match byte {
+    let call = match timed.byte {
         0x01 => Call::Begin,
         0x02 => Call::Insert { transaction, values },
         0x03 => Call::Update { transaction, row: 0, mask: 1, values },

@@ -42,6 +42,11 @@ impl Filled {
     /// but always a row with a setting, and always room for one row and one record more. One
     /// transaction is open, with one setting of row 0, and one scan.
     pub fn new(shape: Shape, percent: u32) -> Filled {
+        Filled::crowded(shape, percent, 0)
+    }
+
+    /// The same with so many other transactions open beside it.
+    pub fn crowded(shape: Shape, percent: u32, others: u32) -> Filled {
         let layout = Layout::of(&shape);
         let (memory, scans) = (vec![0; layout.need()], vec![Scan::FREE; SCANS]);
         let rows = (shape.rows() * percent / 100).clamp(1, shape.rows() - 1);
@@ -50,9 +55,12 @@ impl Filled {
         let made = Plain::<0>.make(&mut filled.memory, &mut filled.scans, &shape);
         assert_eq!(made, Answer::Done);
         filled.insert_rows();
-        // Two places less: one for the open transaction, one for the call that is timed.
+        // Two places less: one for the open transaction, one for the call that is timed. And where
+        // there is room, one for each of the others and one that the last of them looks for.
+        let kept = 2 + if others == 0 { 0 } else { others + 1 };
+        let most = shape.tail.saturating_sub(kept).max(2);
         let ranges = rows.div_ceil(ROWS as u32);
-        let records = (layout.slots as u32 * percent / 100 / ranges).clamp(2, shape.tail - 2);
+        let records = (layout.slots as u32 * percent / 100 / ranges).clamp(2, most);
         for range in 0..ranges {
             filled.update_rows(range, records);
         }
@@ -60,8 +68,26 @@ impl Filled {
         filled.open = filled.number(&Call::Begin);
         let values = vec![7; shape.columns as usize];
         filled.number(&Call::Update { transaction: filled.open, row: 0, mask: 1, values });
+        for row in 1..=others {
+            filled.open_beside(row);
+        }
         filled.scan = filled.number(&Call::OpenScan { stamp: filled.last });
         filled
+    }
+
+    /// One open transaction more, with a row of its own in range 0: this one, or a new one where it
+    /// is not given yet. It sets the row while there are three places: the first setting of a row
+    /// takes two records, and one is for the call that is timed.
+    fn open_beside(&mut self, row: u32) {
+        let transaction = self.number(&Call::Begin);
+        let values = vec![9; self.shape.columns as usize];
+        if row == self.rows {
+            self.number(&Call::Insert { transaction, values: values.clone() });
+            self.rows += 1;
+        }
+        if self.used(0) + 3 <= self.shape.tail {
+            self.number(&Call::Update { transaction, row, mask: 1, values });
+        }
     }
 
     pub fn call(&mut self, call: &Call) -> Answer {

@@ -1,8 +1,6 @@
 //! The plot: the ratio of each call at each shape, how the cost grows, and SQLite beside the stores, as
 //! one SVG. It has a ground of its own, and its colours follow a light or dark page.
 
-use reference::text;
-
 use crate::calls::Ratios;
 use crate::growth::Curve;
 use crate::{named, LARGEST};
@@ -82,9 +80,10 @@ pub fn page(ratios: &[Ratios], curves: &[Curve], beside: &[Beside]) -> String {
 }
 
 fn ratio_panel(ratios: &[Ratios], top: f64) -> String {
-    let all = ratios.iter().flat_map(|ratios| ratios.calls.iter().flatten());
+    let all = ratios.iter().flat_map(|ratios| ratios.calls.iter().flat_map(|(_, of)| of));
     let ticks = ticks(all.fold(TARGET * 1.1, |most, ratio| most.max(*ratio)));
-    let x = Scale { least: 0.0, most: text::NAMES.len() as f64, from: LEFT, to: RIGHT };
+    let calls = ratios.first().map_or(&[][..], |ratios| &ratios.calls);
+    let x = Scale { least: 0.0, most: calls.len() as f64, from: LEFT, to: RIGHT };
     let panel = Panel { x, y: upward(top, &ticks) };
     let mut svg = panel.title_y("times the plain store’s time");
     svg += &panel.title_x(74.0, "for each call from left to right: empty, half, full");
@@ -97,7 +96,7 @@ fn ratio_panel(ratios: &[Ratios], top: f64) -> String {
         svg += &panel.tick_y(level, class, "");
         svg += &words(RIGHT + 8.0, panel.y.at(level) + 4.0, "", label);
     }
-    for (place, name) in text::NAMES.iter().enumerate() {
+    for (place, (name, _)) in calls.iter().enumerate() {
         let (x, y) = (tenth(panel.x.at(place as f64 + 0.5) + 4.0), top + PANEL + 12.0);
         svg += &format!(
             "  <text x='{x}' y='{y}' class='end' transform='rotate(-45 {x} {y})'>{name}</text>\n"
@@ -111,7 +110,7 @@ fn ratio_panel(ratios: &[Ratios], top: f64) -> String {
     for (place, ratios) in ratios.iter().enumerate() {
         let class = format!("dots c{}", place + 1);
         let mut dots = Vec::new();
-        for (call, fillings) in ratios.calls.iter().enumerate() {
+        for (call, (_, fillings)) in ratios.calls.iter().enumerate() {
             for (filling, ratio) in fillings.iter().enumerate() {
                 let share = (filling as f64 + 0.5) / fillings.len() as f64;
                 dots.push((call as f64 + share, *ratio));

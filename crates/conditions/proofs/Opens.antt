@@ -28,7 +28,7 @@ use Rattle.rows.specs.Finders.{Inside}
 use Rattle.rows.proofs.Cases.{found-at, found-nothing}
 use Rattle.conditions.specs.Opens.{openAt}
 
-none-bears : (l : List ℕ) → any (bears 0) l ≡ false
+pub none-bears : (l : List ℕ) → any (bears 0) l ≡ false
 none-bears [] = refl
 none-bears (x ∷ l) = rw (not-and-self (eqb x 0)) (none-bears l)
 
@@ -37,7 +37,7 @@ unfolding openAt notOpenIn
 open-none s ws t e = rw (e, none-bears (view s ws Opens))
 
 module _ (t : ℕ) (h : t ≡ 0 → ⊥) where
-  bears-is : (x : ℕ) → bears t x ≡ eqb x t
+  pub bears-is : (x : ℕ) → bears t x ≡ eqb x t
   bears-is x = go (eqb x t) refl
     where
       go : (b : Bool) → eqb x t ≡ b → (not (eqb x 0) && b) ≡ b

@@ -23,13 +23,16 @@ ghost use Rattle.layout.specs.Regions.{need};
 ghost use Rattle.layout.specs.View.{view, rowsGiven, usedIn};
 ghost use Rattle.model.specs.Stored.{deleteKind, openPlace, anyBelow};
 ghost use Rattle.model.specs.Reading.{ownChanges};
-ghost use Rattle.model.specs.Calls.{openOther, standsFor, heldIn, goneIn, openAmongIn};
+ghost use Rattle.model.specs.Calls.{openIn, openOther, standsFor, heldIn, goneIn, openAmongIn};
 ghost use Rattle.layout.specs.Sizes.{Proper};
 ghost use Rattle.model.specs.Asked.{shapeIn};
 ghost use Rattle.model.specs.Asked.{Linked};
 ghost use Rattle.rows.specs.Finders.{Inside};
 ghost use Rattle.conditions.specs.Opens.{openAt};
-ghost use Rattle.conditions.specs.Records.{isOf, holder, isEnd, maker};
+ghost use Rattle.conditions.specs.Records.{isOther, holdsAt, deletesAt, endsAt};
+
+// From so many records on a loop that vectorises is quicker than one with an early exit.
+const MANY: usize = 8;
 
 // The place of an open transaction. Number 0 marks a free place, so that it is never found.
 pub fn open_place(mem: &[u8], s: Sizes, t: Transaction) -> Found
@@ -76,62 +79,63 @@ fn open_other(mem: &[u8], s: Sizes, t: Transaction, k: Transaction) -> bool
     true
 }
 
-// Whether a record of row `named` and transaction `setter` is one of row `row` and transaction k.
-fn is_of(named: u32, row: u32, setter: u32, k: u32) -> bool
-    ensures { λ r. ⌜ r ≡ (eqb named row && eqb setter k) ⌝ }
-{
-    if named == row { setter == k } else { false }
-}
-
-// Whether one of n records from slot `at` on is of this row and transaction k. One flag is carried to the end: a loop with an early exit does not vectorise.
-fn set_by(mem: &[u8], s: Sizes, row: Row, k: u32, at: usize, n: usize) -> bool
-    requires { ⌜ need s * 4 ≤ length (now mem) ⌝ }
-    requires { ⌜ (at + n ≤ s .slots) × (s .slots ≤ 8192) ⌝ }
-    ensures { λ r. ⌜ r ≡ anyBelow (isOf (view s (words (now (mem .entry)))) (row .0) k at) n ⌝ }
-{
-    let r = row.0;
-    let mut flag = false;
-    let mut i = 0;
-    while i < n {
-        let named = read(mem, s, Region::TailRow, at + i);
-        let setter = read(mem, s, Region::TailTransaction, at + i);
-        flag = either(flag, is_of(named, r, setter, k));
-        i += 1;
-    }
-    flag
-}
-
-// Whether the number k of an open place is another's than t's and one of n records from slot `at` on is of it and of the row.
-fn holds(mem: &[u8], s: Sizes, t: Transaction, row: Row, at: usize, n: usize, k: u32) -> bool
-    requires { ⌜ need s * 4 ≤ length (now mem) ⌝ }
-    requires { ⌜ (at + n ≤ s .slots) × (s .slots ≤ 8192) ⌝ }
-    ensures { λ r. ⌜ r ≡ holder (view s (words (now (mem .entry)))) (t .0) (row .0) at n k ⌝ }
+// Whether a word of the list of open numbers is another's than t's. Number 0 marks a free place.
+fn is_other(t: Transaction, k: Transaction) -> bool
+    ensures { λ r. ⌜ r ≡ isOther (t .0) (k .0) ⌝ }
 {
     let me = t.0;
-    if k == 0 {
-        return false;
-    }
-    if k == me {
-        return false;
-    }
-    set_by(mem, s, row, k, at, n)
+    let number = k.0;
+    if number == 0 { false } else { number != me }
 }
 
-// Whether another open transaction than t made one of n records from slot `at` on that name the row. There are few open numbers, and most often none is
-// another's: so each of them looks through the records, and not each record through the numbers.
+// Whether a transaction other than t is open.
+fn others_open(mem: &[u8], s: Sizes, t: Transaction) -> bool
+    requires { ⌜ need s * 4 ≤ length (now mem) ⌝ }
+    ensures { λ r. ⌜ r ≡ anyBelow (λ j. isOther (t .0) (getD (view s (words (now (mem .entry))) Region.Opens) j 0)) mostTransactions ⌝ }
+{
+    let mut j = 0;
+    while j < MOST_TRANSACTIONS {
+        if is_other(t, Transaction(read(mem, s, Region::Opens, j))) {
+            return true;
+        }
+        j += 1;
+    }
+    false
+}
+
+// Whether the record at a slot is of the row and of an open transaction other than t.
+fn holds(mem: &[u8], s: Sizes, t: Transaction, row: Row, slot: usize) -> bool
+    requires { ⌜ need s * 4 ≤ length (now mem) ⌝ }
+    requires { ⌜ slot < s .slots ⌝ }
+    ensures { λ r. ⌜ r ≡ holdsAt (view s (words (now (mem .entry)))) (t .0) (row .0) slot ⌝ }
+{
+    let r = row.0;
+    let named = read(mem, s, Region::TailRow, slot);
+    if named != r {
+        return false;
+    }
+    let setter = Transaction(read(mem, s, Region::TailTransaction, slot));
+    open_other(mem, s, t, setter)
+}
+
+// Whether another open transaction than t made one of n records from slot `at` on that name the row. Most often no other is open; else each record is asked
+// for its row first, and few are the row's.
 fn records_held(mem: &[u8], s: Sizes, t: Transaction, row: Row, at: usize, n: usize) -> bool
     requires { ⌜ need s * 4 ≤ length (now mem) ⌝ }
     requires { ⌜ (at + n ≤ s .slots) × (s .slots ≤ 8192) ⌝ }
-    ensures { λ r. ⌜ r ≡ anyBelow (λ j. holder (view s (words (now (mem .entry)))) (t .0) (row .0) at n (getD (view s (words (now (mem .entry))) Region.Opens) j 0)) mostTransactions ⌝ }
+    ensures { λ r. ⌜ r ≡ anyBelow (λ i. holdsAt (view s (words (now (mem .entry)))) (t .0) (row .0) (at + i)) n ⌝ }
 {
-    let mut flag = false;
-    let mut j = 0;
-    while j < MOST_TRANSACTIONS {
-        let k = read(mem, s, Region::Opens, j);
-        flag = either(flag, holds(mem, s, t, row, at, n, k));
-        j += 1;
+    if !others_open(mem, s, t) {
+        return false;
     }
-    flag
+    let mut i = 0;
+    while i < n {
+        if holds(mem, s, t, row, at + i) {
+            return true;
+        }
+        i += 1;
+    }
+    false
 }
 
 // Whether another open transaction than t inserted, updated or deleted the row.
@@ -151,42 +155,78 @@ pub fn held(mem: &[u8], s: Sizes, t: Transaction, row: Row) -> bool
     records_held(mem, s, t, row, g * s.capacity, n)
 }
 
-// Whether what this transaction made, with this state, stands for t: it is t's own or committed.
-fn stands_for(t: u32, transaction: u32, state: u32) -> bool
-    ensures { λ r. ⌜ r ≡ standsFor t transaction state ⌝ }
-{
-    if transaction == t { true } else { state == 1 }
-}
-
-// Whether a record of row `named` and this kind, that stands or not, ends row `row`.
-fn ends(named: u32, row: u32, kind: u32, stands: bool) -> bool
-    ensures { λ r. ⌜ r ≡ (eqb named row && (deleteKind kind && stands)) ⌝ }
-{
-    if named != row {
-        return false;
-    }
-    if kind > 1 { stands } else { false }
-}
-
-// Whether one of n records from slot `at` on ends the row in t's view. There is no branch and no early exit, so that the loop vectorises.
-fn ended(mem: &[u8], s: Sizes, t: Transaction, row: Row, at: usize, n: usize) -> bool
-    requires { ⌜ need s * 4 ≤ length (now mem) ⌝ }
-    requires { ⌜ (at + n ≤ s .slots) × (s .slots ≤ 8192) ⌝ }
-    ensures { λ r. ⌜ r ≡ anyBelow (isEnd (view s (words (now (mem .entry)))) (t .0) (row .0) at) n ⌝ }
+// Whether what a transaction made, with this state, stands for t: it is t's own or committed.
+fn stands_for(t: Transaction, maker: Transaction, state: u32) -> bool
+    ensures { λ r. ⌜ r ≡ standsFor (t .0) (maker .0) state ⌝ }
 {
     let me = t.0;
-    let r = row.0;
+    let number = maker.0;
+    if number == me { true } else { state == 1 }
+}
+
+// Whether a record of row `named` and this kind is a delete of row `row`.
+fn is_delete(named: Row, row: Row, kind: u32) -> bool
+    ensures { λ r. ⌜ r ≡ (eqb (named .0) (row .0) && deleteKind kind) ⌝ }
+{
+    let a = named.0;
+    let b = row.0;
+    if a == b { kind > 1 } else { false }
+}
+
+// Whether one of n records from slot `at` on is a delete of the row, whoever made it. One flag is carried to the end: a loop with an early exit does not
+// vectorise.
+fn any_delete(mem: &[u8], s: Sizes, row: Row, at: usize, n: usize) -> bool
+    requires { ⌜ need s * 4 ≤ length (now mem) ⌝ }
+    requires { ⌜ (at + n ≤ s .slots) × (s .slots ≤ 8192) ⌝ }
+    ensures { λ r. ⌜ r ≡ anyBelow (λ i. deletesAt (view s (words (now (mem .entry)))) (row .0) (at + i)) n ⌝ }
+{
     let mut flag = false;
     let mut i = 0;
     while i < n {
-        let named = read(mem, s, Region::TailRow, at + i);
+        let named = Row(read(mem, s, Region::TailRow, at + i));
         let kind = read(mem, s, Region::TailKind, at + i);
-        let setter = read(mem, s, Region::TailTransaction, at + i);
-        let state = read(mem, s, Region::TailState, at + i);
-        flag = either(flag, ends(named, r, kind, stands_for(me, setter, state)));
+        flag = either(flag, is_delete(named, row, kind));
         i += 1;
     }
     flag
+}
+
+// Whether the record at a slot ends the row in t's view.
+fn ends(mem: &[u8], s: Sizes, t: Transaction, row: Row, slot: usize) -> bool
+    requires { ⌜ need s * 4 ≤ length (now mem) ⌝ }
+    requires { ⌜ slot < s .slots ⌝ }
+    ensures { λ r. ⌜ r ≡ endsAt (view s (words (now (mem .entry)))) (t .0) (row .0) slot ⌝ }
+{
+    let named = Row(read(mem, s, Region::TailRow, slot));
+    let kind = read(mem, s, Region::TailKind, slot);
+    if is_delete(named, row, kind) {
+        let maker = Transaction(read(mem, s, Region::TailTransaction, slot));
+        let state = read(mem, s, Region::TailState, slot);
+        return stands_for(t, maker, state);
+    }
+    false
+}
+
+// Whether one of n records from slot `at` on ends the row in t's view. Most often none is a delete of the row at all, which a look through many records tells
+// sooner than asking them one by one.
+fn ended(mem: &[u8], s: Sizes, t: Transaction, row: Row, at: usize, n: usize) -> bool
+    requires { ⌜ need s * 4 ≤ length (now mem) ⌝ }
+    requires { ⌜ (at + n ≤ s .slots) × (s .slots ≤ 8192) ⌝ }
+    ensures { λ r. ⌜ r ≡ anyBelow (λ i. endsAt (view s (words (now (mem .entry)))) (t .0) (row .0) (at + i)) n ⌝ }
+{
+    if n >= MANY {
+        if !any_delete(mem, s, row, at, n) {
+            return false;
+        }
+    }
+    let mut i = 0;
+    while i < n {
+        if ends(mem, s, t, row, at + i) {
+            return true;
+        }
+        i += 1;
+    }
+    false
 }
 
 // Whether the row is deleted or its insert aborted, in t's own view, for a row that is not held.
@@ -198,9 +238,9 @@ pub fn gone(mem: &[u8], s: Sizes, t: Transaction, row: Row) -> bool
     ensures { λ r. ⌜ r ≡ goneIn (shapeIn s) (view s (words (now (mem .entry)))) (t .0) (row .0) ⌝ }
 {
     let i = row.0 as usize;
-    let inserter = read(mem, s, Region::RowTransaction, i);
+    let inserter = Transaction(read(mem, s, Region::RowTransaction, i));
     let state = read(mem, s, Region::RowState, i);
-    if !stands_for(t.0, inserter, state) {
+    if !stands_for(t, inserter, state) {
         return true;
     }
     let g = range_of(row);
@@ -229,22 +269,23 @@ pub fn lacks_records(mem: &[u8], s: Sizes, g: usize, n: u32) -> bool
     used + n as usize > s.capacity
 }
 
-// Whether k is not 0 and one of n records from slot `at` on is of transaction k.
-fn made_by(mem: &[u8], s: Sizes, at: usize, n: usize, k: u32) -> bool
+// Whether transaction k is open, as `open_place` finds it. Every place is looked at, with no early exit, so that a loop over records that asks it vectorises.
+fn is_open(mem: &[u8], s: Sizes, k: Transaction) -> bool
     requires { ⌜ need s * 4 ≤ length (now mem) ⌝ }
-    requires { ⌜ at + n ≤ s .slots ⌝ }
-    ensures { λ r. ⌜ r ≡ maker (view s (words (now (mem .entry)))) at n k ⌝ }
+    ensures { λ r. ⌜ r ≡ openIn (view s (words (now (mem .entry)))) (k .0) ⌝ }
 {
-    if k == 0 {
-        return false;
+    let number = k.0;
+    let mut flag = false;
+    let mut j = 0;
+    while j < MOST_TRANSACTIONS {
+        let word = read(mem, s, Region::Opens, j);
+        flag = either(flag, word == number);
+        j += 1;
     }
-    let Found::At(place) = find_in(mem, s, Region::TailTransaction, at, n, k) else {
-        return false;
-    };
-    true
+    if number == 0 { false } else { flag }
 }
 
-// Whether a tail record of range g up to `through` belongs to an open transaction: one of the open numbers is found among theirs.
+// Whether one of the tail records 1 to `through` of range g belongs to an open transaction. As in `is_open` there is no early exit.
 pub fn any_open(mem: &[u8], s: Sizes, g: usize, through: Tail) -> bool
     requires { ⌜ need s * 4 ≤ length (now mem) ⌝ }
     requires { ⌜ Proper s ⌝ }
@@ -254,11 +295,11 @@ pub fn any_open(mem: &[u8], s: Sizes, g: usize, through: Tail) -> bool
     let n = through.0 as usize;
     let at = g * s.capacity;
     let mut flag = false;
-    let mut j = 0;
-    while j < MOST_TRANSACTIONS {
-        let k = read(mem, s, Region::Opens, j);
-        flag = either(flag, made_by(mem, s, at, n, k));
-        j += 1;
+    let mut k = 0;
+    while k < n {
+        let maker = Transaction(read(mem, s, Region::TailTransaction, at + k));
+        flag = either(flag, is_open(mem, s, maker));
+        k += 1;
     }
     flag
 }

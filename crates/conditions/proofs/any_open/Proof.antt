@@ -1,28 +1,25 @@
--- `conditions::any_open` meets its contract: after j turns the flag tells of the first j numbers.
+-- `conditions::any_open` meets its contract: after k turns the flag tells of the first k records.
 use Prim.Native.Nat.{_+_, _*_, _-_, _≤_}
-use mathlib.Core.Path.{_≡_}
+use mathlib.Core.Path.{_≡_, _∙_}
 use native.Mathlib.Omega.{arith}
 use borrow.Author.Needs.{needs}
 use lib.ListN.{getD}
-use Rattle.terms.specs.Measures.{mostTransactions}
 use Rattle.words.specs.Words.{words}
-use Rattle.words.proofs.Words.{length-words}
-use Rattle.layout.specs.declared.Region.the-variants.{Opens}
+use Rattle.layout.specs.declared.Region.the-variants.{TailTransaction}
 use Rattle.layout.specs.View.{view}
-use Rattle.layout.proofs.View.{view-long}
 use Rattle.model.specs.Stored.{anyBelow}
+use Rattle.model.specs.Calls.{openIn}
 use Rattle.rows.proofs.Indices.{slots-few, stretch-in}
-use Rattle.conditions.specs.Records.{maker}
-use Rattle.conditions.proofs.Records.{maker-turn, no-turn, turned, among-is}
+use Rattle.conditions.proofs.Records.{no-turn, one-turn, turned, among-is}
 use Rattle.conditions.proofs.any_open.Statement.{statement}
 use Rattle.conditions.proofs.any_open.Tie as tie
 
 abbrev Inv-loop : tie.InvT-loop
-Inv-loop mem s g n at flag₀ j₀ flag j =
-    (j ≤ mostTransactions) × (flag ≡ anyBelow (λ i. maker (view s (words mem)) at n (getD (view s (words mem) Opens) i 0)) j)
+Inv-loop mem s g n at flag₀ k₀ flag k =
+    (k ≤ n) × (flag ≡ anyBelow (λ i. openIn (view s (words mem)) (getD (view s (words mem) TailTransaction) (at + i) 0)) k)
 
 abbrev μ-loop : tie.MeasureT-loop
-μ-loop mem s g n at flag₀ j₀ flag j = mostTransactions - j
+μ-loop mem s g n at flag₀ k₀ flag k = n - k
 
 inside : (c : tie.Start Inv-loop μ-loop) → let a = c .args in
     (a .g * a .s .capacity + a .through .0 ≤ a .s .slots) × (a .s .slots ≤ 8192)
@@ -32,16 +29,9 @@ inside c =
 
 loop-again : tie.Need-loop-again Inv-loop μ-loop
 loop-again c =
-    let made = c .before in
-    let one = made .before in
-    let b = one .before .before in
-    (omega arith, maker-turn _ _ _ _ _ _ _ _ (one .read .ensures) (b .loop .inv .1) (made .made-by .ensures) (c .either .ensures))
-
-returns : tie.Need-returns Inv-loop μ-loop
-returns c =
-    let start = c .before .before .before .before .before in
-    among-is _ _ _ _ _ (view-long (start .args .s) (words (start .args .mem .now)) (omega (arith, length-words (start .args .mem .now))) Opens)
-    (turned _ _ _ _ (c .before .loop .inv .1) (omega arith) (omega arith))
+    let open′ = c .before in
+    let one = open′ .before in
+    (omega arith, one-turn _ _ _ _ _ (one .before .before .loop .inv .1) (open′ .is-open .ensures ∙ rw (one .read .ensures)) (c .either .ensures))
 
 pub any-open-spec : {M : Type 1} → statement M
 any-open-spec =
@@ -52,10 +42,11 @@ any-open-spec =
     (λ c. search needs)
     (λ c. omega (arith, inside (c .before .before .before)))
     (λ c. (omega arith, no-turn _))
-    (λ c κs. (omega arith, omega arith))
-    (λ c κs. (omega arith, omega (arith, inside (c .before .before .before .before .before .before))))
+    (λ c. omega (arith, inside (c .before .before .before .before .before)))
+    (λ c κs. (omega arith, omega (arith, inside (c .before .before .before .before .before))))
+    (λ c κs. search needs)
     (λ c κs. search needs)
     (λ c. omega arith)
     (λ c. omega arith)
     loop-again
-    returns)
+    (λ c. among-is _ _ _ _ _ (turned _ _ _ _ (c .before .loop .inv .1) (omega arith) (omega arith))))

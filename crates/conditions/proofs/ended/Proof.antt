@@ -1,35 +1,31 @@
--- `conditions::ended` meets its contract: after i turns the flag tells of the first i records.
-use Prim.Native.Nat.{_-_, _≤_}
-use mathlib.Core.Path.{_≡_}
+-- `conditions::ended` meets its contract: none of the first i records passes.
+use Prim.Native.Nat.{_+_, _-_, _≤_}
+use mathlib.Core.Path.{_≡_, sym}
+use mathlib.Core.Bool.{false}
 use native.Mathlib.Omega.{arith}
 use borrow.Author.Needs.{needs}
 use Rattle.words.specs.Words.{words}
 use Rattle.layout.specs.View.{view}
 use Rattle.model.specs.Stored.{anyBelow}
-use Rattle.conditions.specs.Records.{isEnd}
-use Rattle.conditions.proofs.Records.{end-turn, no-turn, turned}
+use Rattle.conditions.specs.Records.{endsAt}
+use Rattle.conditions.proofs.Records.{no-turn, one-turn, turned, found, none-ends}
 use Rattle.conditions.proofs.ended.Statement.{statement}
 use Rattle.conditions.proofs.ended.Tie as tie
 
 abbrev Inv-loop : tie.InvT-loop
-Inv-loop mem s at n me r flag₀ i₀ flag i = (i ≤ n) × (flag ≡ anyBelow (isEnd (view s (words mem)) me r at) i)
+Inv-loop mem s t row at n i₀ i = (i ≤ n) × (false ≡ anyBelow (λ j. endsAt (view s (words mem)) (t .0) (row .0) (at + j)) i)
 
 abbrev μ-loop : tie.MeasureT-loop
-μ-loop mem s at n me r flag₀ i₀ flag i = n - i
+μ-loop mem s t row at n i₀ i = n - i
+
+returns : tie.Need-returns Inv-loop μ-loop
+returns c = none-ends _ _ _ _ _ _ (c .before .any-delete .ensures) (c .if2 .taken)
+
+returns-2 : tie.Need-returns-2 Inv-loop μ-loop
+returns-2 c = found _ _ (c .before .before .before .loop .i) _ (omega arith) (c .before .ends .ensures) (c .if3 .taken)
 
 loop-again : tie.Need-loop-again Inv-loop μ-loop
-loop-again c =
-    let end = c .before in
-    let stands = end .before in
-    let four = stands .before in
-    let three = four .before in
-    let two = three .before in
-    let one = two .before in
-    let b = one .before .before in (
-      omega arith,
-      end-turn _ _ _ _ _ _ _ _ _ _ _ _ _ (b .loop .inv .1) (one .read .ensures) (two .read2 .ensures) (three .read3 .ensures) (four .read4 .ensures)
-          (stands .stands-for .ensures) (end .ends .ensures) (c .either .ensures),
-    )
+loop-again c = (omega arith, one-turn _ _ _ _ _ (c .before .before .before .loop .inv .1) (c .before .ends .ensures) (sym (c .if3 .left)))
 
 pub ended-spec : {M : Type 1} → statement M
 ended-spec =
@@ -37,18 +33,12 @@ ended-spec =
     (tie.spec
     Inv-loop
     μ-loop
+    (λ c κs. search needs)
+    returns
     (λ c. (omega arith, no-turn _))
     (λ c. omega arith)
     (λ c κs. (omega arith, omega arith))
-    (λ c. omega arith)
-    (λ c κs. (omega arith, omega arith))
-    (λ c. omega arith)
-    (λ c κs. (omega arith, omega arith))
-    (λ c. omega arith)
-    (λ c κs. (omega arith, omega arith))
-    (λ c κs. search needs)
-    (λ c κs. search needs)
-    (λ c κs. search needs)
+    returns-2
     (λ c. omega arith)
     (λ c. omega arith)
     loop-again

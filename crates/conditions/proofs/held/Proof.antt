@@ -3,10 +3,7 @@ use Prim.Native.Nat.{_+_, _*_, _≤_, _<_}
 use native.Mathlib.Omega.{arith}
 use borrow.Author.Needs.{needs}
 use Rattle.words.specs.Words.{words}
-use Rattle.words.proofs.Words.{length-words}
-use Rattle.layout.specs.declared.Region.the-variants.{Opens}
 use Rattle.layout.specs.View.{view, usedIn}
-use Rattle.layout.proofs.View.{view-long}
 use Rattle.conditions.proofs.Records.{held-insert, held-records, stretch-of}
 use Rattle.conditions.proofs.held.Statement.{statement}
 use Rattle.conditions.proofs.held.Tie as tie
@@ -24,11 +21,8 @@ returns-2 c =
     let range = used .before in
     let test = range .before in
     let other = test .before in
-    let one = other .before in
-    let start = one .before .before .before in
-    held-records _ _ _ _ _ (one .read .ensures) _ _ _ _
-    (view-long (start .args .s) (words (start .args .mem .now)) (omega (arith, length-words (start .args .mem .now))) Opens)
-    (range .range-of .ensures) (used .read2 .ensures) (other .open-other .ensures) (test .if1 .left) (c .records-held .ensures)
+    held-records _ _ _ _ _ (other .before .read .ensures) _ (other .open-other .ensures) _ _ _
+    (range .range-of .ensures) (used .read2 .ensures) (test .if1 .left) (c .records-held .ensures)
 
 pub held-spec : {M : Type 1} → statement M
 held-spec =

@@ -1,32 +1,37 @@
--- `conditions::records_held` meets its contract: after j turns the flag tells of the first j numbers.
-use Prim.Native.Nat.{_-_, _≤_}
-use mathlib.Core.Path.{_≡_}
+-- `conditions::records_held` meets its contract: none of the first i records passes.
+use Prim.Native.Nat.{_+_, _-_, _≤_}
+use mathlib.Core.Path.{_≡_, sym}
+use mathlib.Core.Bool.{false}
 use native.Mathlib.Omega.{arith}
 use borrow.Author.Needs.{needs}
-use lib.ListN.{getD}
-use Rattle.terms.specs.Measures.{mostTransactions}
 use Rattle.words.specs.Words.{words}
+use Rattle.words.proofs.Words.{length-words}
 use Rattle.layout.specs.declared.Region.the-variants.{Opens}
 use Rattle.layout.specs.View.{view}
+use Rattle.layout.proofs.View.{view-long}
 use Rattle.model.specs.Stored.{anyBelow}
-use Rattle.conditions.specs.Records.{holder}
-use Rattle.conditions.proofs.Records.{holder-turn, no-turn, turned}
+use Rattle.conditions.specs.Records.{holdsAt}
+use Rattle.conditions.proofs.Records.{no-turn, one-turn, turned, found, none-held}
 use Rattle.conditions.proofs.records_held.Statement.{statement}
 use Rattle.conditions.proofs.records_held.Tie as tie
 
 abbrev Inv-loop : tie.InvT-loop
-Inv-loop mem s t row at n flag₀ j₀ flag j =
-    (j ≤ mostTransactions) × (flag ≡ anyBelow (λ i. holder (view s (words mem)) (t .0) (row .0) at n (getD (view s (words mem) Opens) i 0)) j)
+Inv-loop mem s t row at n i₀ i = (i ≤ n) × (false ≡ anyBelow (λ j. holdsAt (view s (words mem)) (t .0) (row .0) (at + j)) i)
 
 abbrev μ-loop : tie.MeasureT-loop
-μ-loop mem s t row at n flag₀ j₀ flag j = mostTransactions - j
+μ-loop mem s t row at n i₀ i = n - i
+
+returns : tie.Need-returns Inv-loop μ-loop
+returns c =
+    let start = c .before .before .before in
+    none-held _ _ _ _ _ _ (view-long (start .args .s) (words (start .args .mem .now)) (omega (arith, length-words (start .args .mem .now))) Opens)
+    (c .before .others-open .ensures) (c .if1 .taken)
+
+returns-2 : tie.Need-returns-2 Inv-loop μ-loop
+returns-2 c = found _ _ (c .before .before .before .loop .i) _ (omega arith) (c .before .holds .ensures) (c .if2 .taken)
 
 loop-again : tie.Need-loop-again Inv-loop μ-loop
-loop-again c =
-    let holds = c .before in
-    let one = holds .before in
-    let b = one .before .before in
-    (omega arith, holder-turn _ _ _ _ _ _ _ _ (one .read .ensures) _ _ (b .loop .inv .1) (holds .holds .ensures) (c .either .ensures))
+loop-again c = (omega arith, one-turn _ _ _ _ _ (c .before .before .before .loop .inv .1) (c .before .holds .ensures) (sym (c .if2 .left)))
 
 pub records-held-spec : {M : Type 1} → statement M
 records-held-spec =
@@ -34,10 +39,12 @@ records-held-spec =
     (tie.spec
     Inv-loop
     μ-loop
+    (λ c κs. search needs)
+    returns
     (λ c. (omega arith, no-turn _))
+    (λ c. omega arith)
     (λ c κs. (omega arith, omega arith))
-    (λ c κs. search needs)
-    (λ c κs. search needs)
+    returns-2
     (λ c. omega arith)
     (λ c. omega arith)
     loop-again

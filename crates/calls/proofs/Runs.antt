@@ -2,6 +2,7 @@
 use Prim.Native.Nat.{ℕ, _<_}
 use mathlib.Core.Path.{_≡_, refl, sym, subst, ap, _∙_}
 use mathlib.Core.Bool.{true, false, cond}
+use mathlib.Core.Logic.{inl}
 use mathlib.Core.List.{List}
 use native.Mathlib.Nat.{le-refl}
 use native.Mathlib.Omega.{arith}
@@ -10,6 +11,7 @@ use lib.Seq.{set-out}
 use Rattle.terms.specs.Measures.{mostScans}
 use Rattle.terms.specs.declared.Answer.{Answer}
 use Rattle.terms.specs.declared.Place.{Place}
+use Rattle.terms.specs.declared.Refusal.{Refusal}
 use Rattle.words.specs.Words.{words}
 use Rattle.layout.specs.View.{View}
 use Rattle.terms.specs.Places.{freePlace}
@@ -19,9 +21,11 @@ use Rattle.history.proofs.Lists.{is-true, refuted}
 use Rattle.history.specs.History.{Call, Verdict, accept, refuse}
 use Rattle.model.specs.Calls.{placesAfter, placesIf, placesNext}
 use Rattle.promise.specs.Promise.{storeView, listAfter, answersOf}
-use Rattle.promise.specs.Demands.{Demand3, RefusedKeeps, RefusedMemory, storeAnswers}
+use Rattle.promise.specs.Demands.{Demand3, RefusedKeeps, Refuses, storeAnswers}
+use Rattle.promise.specs.Stated.{conditions}
 use Rattle.promise.proofs.Demands.{demand3}
-use Rattle.promise.proofs.Refused.{refused-keeps, refused-memory}
+use Rattle.promise.proofs.Refused.{refused-keeps}
+use Rattle.promise.proofs.Stated.{refuses}
 use Rattle.lent.specs.Lent.{isAccepted, freedIf}
 use Rattle.calls.specs.Serves.{Serves, Makes}
 use Rattle.calls.specs.Runs.{Run, ends, goes, LentAnswers, LentKept, MakingFrees, OnePlace, ShortRefused}
@@ -95,5 +99,5 @@ short-unusable : (m : List ℕ) (ps : List Place) → length ps < mostScans → 
 short-unusable m ps k = refuted (usable m ps) (λ t. omega (arith, usable-tells m ps (is-true (usable m ps) t) .places))
 
 pub short-refused : ShortRefused
-unfolding ShortRefused Serves RefusedMemory
-short-refused m m′ ps ps′ c r k s = s .0 ∙ refused-memory m ps c .0 (short-unusable m ps k)
+unfolding ShortRefused Serves Refuses conditions
+short-refused m m′ ps ps′ c r k s = s .0 ∙ refuses m ps c .0 Refusal.Memory .1 (inl (short-unusable m ps k, refl))

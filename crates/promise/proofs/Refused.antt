@@ -1,12 +1,10 @@
--- Demand 1 holds: 2 is answered exactly where memory and list are not usable, and a refused call leaves every byte and every place as it was. Both speak of
--- any memory and list, also of those that no call made.
+-- A refused call leaves every byte and every place as it was: of any memory and list, also of those that no call made.
 use mathlib.Core.Path.{_≡_, refl, ap, sym, _∙_}
 use mathlib.Core.Bool.{Bool, true, false, cond}
-use mathlib.Core.List.{List, [], _∷_}
-use lib.Dec.{T, eqb}
+use mathlib.Core.List.{List}
 use lib.IntN.{ℤ}
 use Rattle.terms.specs.Measures.{Shape}
-use Rattle.terms.specs.Refusals.{refusalNumber, isRefused}
+use Rattle.terms.specs.Refusals.{isRefused}
 use Rattle.terms.specs.declared.Answer.{Answer}
 use Rattle.terms.specs.declared.Place.{Place}
 use Rattle.terms.specs.declared.Refusal.{Refusal}
@@ -14,47 +12,15 @@ use Rattle.words.specs.Words.{words}
 use Rattle.layout.specs.declared.Sizes.{Sizes}
 use Rattle.layout.specs.View.{View, lay}
 use Rattle.layout.proofs.Lay.{lay-view}
-use Rattle.history.specs.History.{Call, begin, insert, update, delete, commit, abort, latest, readAt, ownRead, openScan, scanRead, sum, close, merge, release, pageCell, lineage, Test, any, verdict, Verdict, accept, refuse, answerIf}
-use Rattle.history.proofs.Lists.{clash, by-test, is-true, or-left, or-right, eqb-equal}
+use Rattle.history.specs.History.{Call, begin, insert, update, delete, commit, abort, latest, readAt, ownRead, openScan, scanRead, sum, close, merge, release, pageCell, lineage, Verdict, accept, refuse, answerIf}
+use Rattle.history.proofs.Lists.{by-test, is-true}
 use Rattle.facts.specs.Usable.{storedShape, storedSizes, usable}
 use Rattle.facts.proofs.Usable.{usable-tells}
 use Rattle.model.specs.Reading.{readIn, readCurrent, sumIn, visibleIn}
-use Rattle.model.specs.Calls.{testsIn, replyIn, viewIf, placesIf, say, viewNext, placesNext}
+use Rattle.model.specs.Calls.{replyIn, viewIf, placesIf, say, viewNext, placesNext}
 use Rattle.model.proofs.Lists.{true-false}
 use Rattle.promise.specs.Promise.{storeView, answerOf, memoryAfter, listAfter}
-use Rattle.promise.specs.Demands.{RefusedMemory, RefusedKeeps}
-
--- a refusal is that of one of the tests
-abbrev refusesWith : Refusal → Test → Bool
-refusesWith r t = eqb (refusalNumber (t .refusal)) (refusalNumber r)
-
-refusal-among : (ts : List Test) (r : Refusal) → verdict ts ≡ refuse r → T (any (refusesWith r) ts)
-unfolding verdict
-refusal-among [] r e = clash (cc)
-refusal-among (t ∷ ts) r e =
-    elim (t .fails) as (λ b. cond b (refuse (t .refusal)) (verdict ts) ≡ refuse r → T (any (refusesWith r) (t ∷ ts)))
-    [ true ↦ λ q. let own : t .refusal ≡ r = cc in or-left (refusesWith r t) _ (eqb-equal _ _ (ap refusalNumber own)) | false ↦ λ q. or-right (refusesWith r t) _ (refusal-among ts r q) ] e
-
--- no call's tests have the number 2
-never-memory : (S : Shape) (v : View) (ps : List Place) (c : Call) → any (refusesWith Refusal.Memory) (testsIn S v ps c) ≡ false
-unfolding testsIn
-never-memory S v ps begin = refl
-never-memory S v ps (insert t vs) = refl
-never-memory S v ps (update t r m vs) = refl
-never-memory S v ps (delete t r) = refl
-never-memory S v ps (commit t s) = refl
-never-memory S v ps (abort t) = refl
-never-memory S v ps (latest r c) = refl
-never-memory S v ps (readAt s r c) = refl
-never-memory S v ps (ownRead t r c) = refl
-never-memory S v ps (openScan s) = refl
-never-memory S v ps (scanRead k r c) = refl
-never-memory S v ps (sum k c) = refl
-never-memory S v ps (close k) = refl
-never-memory S v ps (merge g c n) = refl
-never-memory S v ps release = refl
-never-memory S v ps (pageCell c r) = refl
-never-memory S v ps (lineage g c) = refl
+use Rattle.promise.specs.Demands.{RefusedKeeps}
 
 -- no accepted call answers a refusal
 read-not : (b : Bool) (z : ℤ) → isRefused (cond b (Answer.Value z) Answer.None) ≡ false
@@ -98,20 +64,6 @@ refused-keeps m ps c n b =
 
     s : Sizes
     s = storedSizes (words m)
-
-    v : View
-    v = storeView m
-
-pub refused-memory : RefusedMemory
-unfolding RefusedMemory answerOf say
-refused-memory m ps c = (
-  λ u. rw u,
-  elim (usable m ps) as (λ u. cond u (say S v ps c) (Answer.Refused Refusal.Memory) ≡ Answer.Refused Refusal.Memory → u ≡ false)
-      [ true ↦ λ e. absurd (rw (never-memory S v ps c) at (refusal-among (testsIn S v ps c) Refusal.Memory (refused-by S v ps c _ e))) | false ↦ λ e. refl ],
-)
-  where
-    S : Shape
-    S = storedShape (words m)
 
     v : View
     v = storeView m

@@ -1,14 +1,14 @@
--- Demand 1 holds as Stated says it: on a usable memory a call is refused with a number exactly if that number's condition is the first of the call's list that
--- applies, and accepted exactly if none applies. Test by test, the model's Bools say what the conditions say, given that those before do not apply.
+-- A call is refused with a number exactly if that number's condition is the first of the call's list that applies, and accepted exactly if none applies. On a
+-- usable memory the model's Bools say, test by test, what the conditions say, given that those before do not apply.
 use mathlib.Core.Path.{_≡_, refl, ap, sym, _∙_, subst}
 use mathlib.Core.Logic.{_≢_, _⊎_, inl, inr, ⊎-elim, _↔_}
-use mathlib.Core.Bool.{Bool, true, false, not, cond, _&&_, _||_}
+use mathlib.Core.Bool.{Bool, true, false, not, cond, _&&_, _||_, and-true}
 use mathlib.Core.List.{List, [], _∷_}
 use Prim.Native.Nat.{ℕ, zero, suc, _+_, _*_, _-_, _/_, _^_, _≤_, _<_}
 use native.Mathlib.Omega.{arith}
 use native.Mathlib.Nat.{div-eq-sub-div}
 use native.Mathlib.Decide.{ℕ-discrete}
-use lib.Dec.{T, T-not, not-T, leb, ltb, eqb, eqb→eq, leb→le, le→leb, ltb→lt, lt→ltb}
+use lib.Dec.{T, T-not, not-T, leb, ltb, eqb, eqb→eq, leb→le, le→leb, ltb→lt, lt→ltb, nltb→le}
 use lib.ListN.{length, getD}
 use lib.Pow.{pow-pos, shr-shr}
 use Rattle.terms.specs.Measures.{Shape, mostTransactions}
@@ -24,22 +24,23 @@ use Rattle.layout.specs.View.{View, view, rowsGiven, lastStamp, usedIn}
 use Rattle.layout.proofs.View.{view-long}
 use Rattle.layout.proofs.Limits.{proper}
 use Rattle.layout.specs.declared.Region.the-variants.{Opens}
-use Rattle.history.specs.History.{Call, begin, insert, update, delete, commit, abort, latest, readAt, ownRead, openScan, scanRead, sum, close, merge, release, pageCell, lineage, Test, _when_, any, Verdict, accept, refuse, verdict, answerIf, bit, rangeOf, badMask, noColumn, noRange}
+use Rattle.history.specs.History.{Call, begin, insert, update, delete, commit, abort, latest, readAt, ownRead, openScan, scanRead, sum, close, merge, release, pageCell, lineage, Test, _when_, any, count, Verdict, accept, refuse, verdict, answerIf, bit, rangeOf, badMask, noColumn, noRange}
 use Rattle.history.proofs.Lists.{by-cases, by-test, clash, is-true, is-false, refuted, both, parts, or-left, or-right, or-cases, eqb-equal, place-any}
 use Rattle.history.proofs.Masks.{bit-low}
-use Rattle.facts.specs.Usable.{storedShape, storedSizes}
+use Rattle.facts.specs.Usable.{storedShape, storedSizes, usable}
 use Rattle.facts.proofs.Usable.{Usable, usable-tells}
 use Rattle.model.specs.Stored.{RecordWords, rowIn, recordIn, pageIn, slot, pagesOf, anyBelow, committedState, deleteKind}
 use Rattle.model.specs.Asked.{Placed}
 use Rattle.model.specs.Writing.{newBitsIn, recordsWanted, freeIn}
 use Rattle.model.specs.Calls.{openIn, openOther, standsFor, anyRecord, notOpenIn, noScanIn, notGivenIn, heldIn, goneIn, lacksIn, notLaterIn, laterIn, outOfReachIn, openAmongIn, testsIn, replyIn, say}
-use Rattle.model.proofs.Lists.{place-lt, place-is, true-false}
+use Rattle.model.proofs.Lists.{place-lt, place-is, true-false, any-count, count-rest}
 use Rattle.model.proofs.Heads.{slot-is}
 use Rattle.model.proofs.Insert.{bit-none}
 use Rattle.model.proofs.Masks.{bit-new, no-bits, below-bits, below-power}
 use Rattle.model.proofs.Free.{free-none}
 use Rattle.promise.specs.Promise.{storeView, answerOf}
-use Rattle.promise.specs.Stated.{Open, ScanOpen, Committed, Aborted, RecordUpTo, RecordOf, Touched, WrongMask, Held, Gone, Lacks, LacksWanted, AllOpen, OutOfReach, OpenUpTo, NoneFree, Clause, _on_, stated, First, NoneApplies, RefusedOn}
+use Rattle.promise.specs.Stated.{Open, ScanOpen, Committed, Aborted, RecordUpTo, RecordOf, Touched, WrongMask, Held, Gone, Lacks, LacksWanted, transactionsOpen, OutOfReach, OpenUpTo, NoneFree, Clause, _on_, stated, conditions, First, NoneApplies}
+use Rattle.promise.specs.Demands.{Refuses}
 use Rattle.promise.proofs.Refused.{refused-by, not-refused}
 
 -- ---- tests that say what clauses say, as far as they are run
@@ -237,11 +238,11 @@ module _ (S : Shape) (v : View) (ps : List Place) (long : length (v Opens) ≡ m
           let p = parts (bit m (q .0)) (not (bit ((rowIn v r) .mask) (q .0))) (rw (bit-new m ((rowIn v r) .mask) (q .0)) at (q .1)) in
           (q .0, p .0, is-false _ (p .1))
 
-  busy-test : T (not (any (λ k. eqb k 0) (v Opens))) ↔ AllOpen v
-  busy-test = (
-    λ t j b e. T-not (any (λ k. eqb k 0) (v Opens)) t (place-any (λ k. eqb k 0) (v Opens) 0 j (omega arith) (eqb-equal _ 0 e)),
-    λ f. not-T (any (λ k. eqb k 0) (v Opens)) (λ t. f (place (λ k. eqb k 0) (v Opens)) (omega (arith, place-lt (λ k. eqb k 0) (v Opens) t)) (eqb→eq _ 0 (place-is (λ k. eqb k 0) (v Opens) 0 t))),
-  )
+  busy-test : T (not (any (λ k. eqb k 0) (v Opens))) ↔ (mostTransactions ≤ transactionsOpen v)
+  busy-test =
+      let none = count (λ k. eqb k 0) (v Opens) in
+      let all : none + transactionsOpen v ≡ length (v Opens) = simp and-true at (count-rest (λ k. eqb k 0) (v Opens)) in
+      rw (any-count (λ k. eqb k 0) (v Opens)) (λ t. omega (arith, nltb→le 0 none t), λ b. not-T (ltb 0 none) (λ t. omega (arith, ltb→lt 0 none t)))
 
   reach-test : (g c n : ℕ) → T (outOfReachIn S v g c n) ↔ OutOfReach S v g c n
   unfolding outOfReachIn
@@ -325,18 +326,38 @@ placed S v ps z u = record {
   place = λ i b. u .current-place i (omega (arith, z .places-are));
 }
 
-pub refused-on : RefusedOn
-unfolding RefusedOn answerOf say storedSizes
-refused-on m ps c u =
+on-usable : (m : List ℕ) (ps : List Place) (c : Call) → usable m ps ≡ true → Meets (testsIn (storedShape (words m)) (storeView m) ps c) (stated (storedShape (words m)) (storeView m) ps c)
+unfolding storedSizes storeView
+on-usable m ps c u =
     let S : Shape = storedShape (words m) in
-    let v : View = storeView m in
+    let v : View = view (sizesOf S) (words m) in
     let t = usable-tells m ps u in
-    let z : Proper (sizesOf S) = proper S (t .within) in
-    let long : length (v Opens) ≡ mostTransactions = unfold storeView in (view-long (sizesOf S) (words m) (omega (arith, length-words m, t .room)) Opens) in
-    let pool : Placed S v = unfold storeView in (placed S (view (sizesOf S) (words m)) ps z (t .facts)) in
-    let e = meets S v ps long pool c in
-    rw u
-    ((
-      λ n. (λ q. meets-first e n .0 (refused-by S v ps c _ q), λ q. ap (λ (w : Verdict). answerIf w (replyIn S v ps c)) (meets-first e n .1 q) ∙ unfold answerIf in refl),
-      (λ q. meets-none e .0 (is-accept _ _ q), λ q. ap (λ (w : Verdict). isRefused (answerIf w (replyIn S v ps c))) (meets-none e .1 q) ∙ unfold answerIf in (not-refused S v ps c)),
-    ))
+    meets S v ps (view-long (sizesOf S) (words m) (omega (arith, length-words m, t .room)) Opens) (placed S v ps (proper S (t .within)) (t .facts)) c
+
+pub refuses : Refuses
+unfolding Refuses conditions answerOf say
+refuses m ps c = go (usable m ps) (on-usable m ps c)
+  where
+    S : Shape
+    S = storedShape (words m)
+
+    v : View
+    v = storeView m
+
+    said : Bool → Answer
+    said u = cond u (answerIf (verdict (testsIn S v ps c)) (replyIn S v ps c)) (Answer.Refused Refusal.Memory)
+
+    clauses : Bool → List Clause
+    clauses u = Refusal.Memory on (u ≡ false) ∷ stated S v ps c
+
+    go : (u : Bool) → (u ≡ true → Meets (testsIn S v ps c) (stated S v ps c))
+        → ((n : Refusal) → (said u ≡ Answer.Refused n) ↔ First (clauses u) n) × ((isRefused (said u) ≡ false) ↔ NoneApplies (clauses u))
+    go true f =
+        let e = f refl in (
+          λ n. (
+            λ q. inr (true-false, meets-first e n .0 (refused-by S v ps c _ q)),
+            ⊎-elim (λ q. absurd (true-false (q .0))) (λ q. rw (meets-first e n .1 (q .1)) (unfold answerIf in refl)),
+          ),
+          (λ q. (true-false, meets-none e .0 (is-accept _ _ q)), λ q. rw (meets-none e .1 (q .1)) (unfold answerIf in (not-refused S v ps c))),
+        )
+    go false f = (λ n. (λ q. inl (refl, cc), ⊎-elim (λ q. ap Answer.Refused (q .1)) (λ q. absurd (q .0 refl))), (λ q. absurd (true-false q), λ q. absurd (q .0 refl)))

@@ -1,9 +1,10 @@
--- The three demands of document 00, stated of the bytes that the calls leave and of the answers that they give; demand 1's conditions are in Stated.
+-- The three demands of document 00, stated of the bytes that the calls leave and of the answers that they give; the conditions of the refusals are in Stated.
 -- proofs/Refused.antt and proofs/Stated.antt prove those of demand 1, proofs/Demands.antt the others.
 -- What a call answers and leaves is in Promise, which the contracts of the calls cite, and what a making answers and leaves is `made`, which the contract of
 -- `make` cites. The plain history is History; what is committed, and what a page holds, is said in the Claims of the history and of the model.
 -- A memory is any list of numbers here, so that every list of bytes is one.
 use mathlib.Core.Path.{_≡_}
+use mathlib.Core.Logic.{_↔_}
 use mathlib.Core.Bool.{false, not}
 use mathlib.Core.List.{List, [], _∷_}
 use Prim.Native.Nat.{ℕ, suc, _≤_, _<_}
@@ -19,11 +20,11 @@ use Rattle.history.specs.History.{Call, openScan, start, answers, run, tests, v
 use Rattle.terms.specs.Refusals.{isRefused}
 use Rattle.history.specs.Claims.{strike, plainAnswers, Reads, historyBefore, callAt}
 use Rattle.history.specs.Lists.{All}
-use Rattle.facts.specs.Usable.{usable}
 use Rattle.making.specs.Made.{made, madeList}
 use Rattle.model.specs.Calls.{Typed}
 use Rattle.model.specs.Claims.{historyAfter, lastCommitted, PageHolds, PageKept}
 use Rattle.promise.specs.Promise.{storeView, answerOf, memoryAfter, listAfter, answersOf}
+use Rattle.promise.specs.Stated.{First, NoneApplies, conditions}
 
 -- ---- "The list starts from what an accepted making left, whatever memory and scan list held before": m and ps are what they held
 abbrev pub Accepted : Shape → List ℕ → List Place → Type 0
@@ -59,12 +60,13 @@ unfoldable pub storeList : Shape → List ℕ → List Place → List Call → L
 storeList S m ps cs = listLeft (memoryMade S m ps) (madeList ps) cs
 
 -- ---- demand 1, for any numbers over any memory and any list
--- "refused with its number from document 01, on the stated condition only": 2 for a memory or list that is not usable, and for nothing else. `RefusedOn`
--- (Stated) says it of the other numbers.
-unfoldable pub RefusedMemory : Type 0
-RefusedMemory =
+-- "refused with its number from document 01, on the stated condition only": a call answers n exactly if n's condition is the first of the call's that applies,
+-- and is accepted exactly if none does
+unfoldable pub Refuses : Type 0
+Refuses =
     (m : List ℕ) (ps : List Place) (c : Call)
-    → (usable m ps ≡ false → answerOf m ps c ≡ Answer.Refused Refusal.Memory) × (answerOf m ps c ≡ Answer.Refused Refusal.Memory → usable m ps ≡ false)
+    → ((n : Refusal) → (answerOf m ps c ≡ Answer.Refused n) ↔ First (conditions m ps c) n)
+    × ((isRefused (answerOf m ps c) ≡ false) ↔ NoneApplies (conditions m ps c))
 
 -- "and changes no byte"
 unfoldable pub RefusedKeeps : Type 0

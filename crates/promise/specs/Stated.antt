@@ -1,18 +1,16 @@
 -- Document 01's table "What a refused call returns", said of what a lent memory and a lent scan list hold, in that table's words and in the order of "Tests run
--- in this order". Nothing here cites the model's tests, the code or the history: a condition speaks of the words of the memory and the places of the list.
--- Two words are settled here. Open is what stands in the list of open numbers, and nothing else: state words do not make a number open. What is not open is
--- committed where its state word says so, and aborted otherwise.
+-- in this order". Nothing here cites a test of the model, of the history or of the code: a condition speaks of the words of the memory and the places of the list.
+-- `Refuses` (Demands) says that a call answers by these conditions. Two words are settled here. Open is what stands in the list of open numbers, and nothing
+-- else: state words do not make a number open. What is not open is committed where its state word says so, and aborted otherwise.
 use mathlib.Core.Path.{_≡_}
-use mathlib.Core.Logic.{_≢_, _⊎_, _↔_}
-use mathlib.Core.Bool.{true, false, not}
+use mathlib.Core.Logic.{_≢_, _⊎_}
+use mathlib.Core.Bool.{false, not}
 use mathlib.Core.List.{List, [], _∷_}
 use Prim.Native.Nat.{ℕ, _+_, _*_, _≤_, _<_}
 use lib.Dec.{T, eqb}
 use lib.ListN.{length, getD}
 use Rattle.terms.specs.Measures.{Shape, rangeRows, mostTransactions, mostScans, mostNumbers}
 use Rattle.terms.specs.Places.{freePlace}
-use Rattle.terms.specs.Refusals.{isRefused}
-use Rattle.terms.specs.declared.Answer.{Answer}
 use Rattle.terms.specs.declared.Place.{Place}
 use Rattle.terms.specs.declared.Refusal.{Refusal}
 use Rattle.words.specs.Words.{words}
@@ -21,7 +19,7 @@ use Rattle.layout.specs.declared.Region.the-variants.{Opens}
 use Rattle.history.specs.History.{Call, begin, insert, update, delete, commit, abort, latest, readAt, ownRead, openScan, scanRead, sum, close, merge, release, pageCell, lineage, bit, count, rangeOf}
 use Rattle.facts.specs.Usable.{storedShape, usable}
 use Rattle.model.specs.Stored.{RecordWords, rowIn, recordIn, pageIn, slot, currentIn, pagesOf, countBelow, asCommitted, deleteKind, waitingPage}
-use Rattle.promise.specs.Promise.{storeView, answerOf}
+use Rattle.promise.specs.Promise.{storeView}
 
 -- ---- what the memory holds
 -- transaction t is open; number 0 marks a free place
@@ -65,7 +63,8 @@ Gone S v t r =
     ¬ Held S v t r
     × (RecordOf S v r (λ x. T (deleteKind (x .kind)) × (Committed v (x .transaction) (x .state) ⊎ (x .transaction ≡ t))) ⊎ Aborted v ((rowIn v r) .transaction) ((rowIn v r) .state))
 
--- 12: "the range lacks the one or two records wanted". Two are wanted for a column that the row's mask does not note as set.
+-- 12: "the range lacks the one or two records wanted". Two are wanted for a column that the row's mask does not note as set: the mask is the store's own record
+-- of the columns that an accepted update of the row has set, aborted ones included.
 abbrev pub Lacks : Shape → View → ℕ → ℕ → Type 0
 Lacks S v r n = S .capacity < usedIn v (rangeOf r) + n
 
@@ -73,11 +72,11 @@ abbrev pub LacksWanted : Shape → View → ℕ → ℕ → Type 0
 LacksWanted S v r m = Lacks S v r 1 ⊎ (((c : ℕ) × T (bit m c) × (bit ((rowIn v r) .mask) c ≡ false)) × Lacks S v r 2)
 
 -- 14: "8 transactions, or 16 scans, open"
-abbrev pub AllOpen : View → Type 0
-AllOpen v = (j : ℕ) → j < mostTransactions → getD (v Opens) j 0 ≢ 0
+abbrev pub transactionsOpen : View → ℕ
+transactionsOpen v = count (λ t. not (eqb t 0)) (v Opens)
 
-abbrev pub ScansOpen : List Place → ℕ
-ScansOpen ps = count (λ p. not (eqb (p .number) 0)) ps
+abbrev pub scansOpen : List Place → ℕ
+scansOpen ps = count (λ p. not (eqb (p .number) 0)) ps
 
 -- 16: "merge not above what the page holds, or above the records used"
 abbrev pub OutOfReach : Shape → View → ℕ → ℕ → ℕ → Type 0
@@ -101,7 +100,7 @@ abbrev pub _on_ : Refusal → Type 0 → Clause
 n on P = record { refusal = n; applies = P }
 
 unfoldable pub stated : Shape → View → List Place → Call → List Clause
-stated S v ps begin = Refusal.Number on (mostNumbers ≤ transactionsGiven v) ∷ Refusal.Busy on AllOpen v ∷ []
+stated S v ps begin = Refusal.Number on (mostNumbers ≤ transactionsGiven v) ∷ Refusal.Busy on (mostTransactions ≤ transactionsOpen v) ∷ []
 stated S v ps (insert t vs) = Refusal.Transaction on (¬ Open v t) ∷ Refusal.Full on (S .ranges * rangeRows ≤ rowsGiven v) ∷ []
 stated S v ps (update t r m vs) =
     Refusal.Transaction on (¬ Open v t)
@@ -126,7 +125,7 @@ stated S v ps (readAt s r c) =
 stated S v ps (ownRead t r c) =
     Refusal.Transaction on (¬ Open v t) ∷ Refusal.Row on (rowsGiven v ≤ r) ∷ Refusal.Column on (S .columns ≤ c) ∷ []
 stated S v ps (openScan s) =
-    Refusal.Time on (lastStamp v < s) ∷ Refusal.Number on (mostNumbers ≤ scansGiven v) ∷ Refusal.Busy on (mostScans ≤ ScansOpen ps) ∷ []
+    Refusal.Time on (lastStamp v < s) ∷ Refusal.Number on (mostNumbers ≤ scansGiven v) ∷ Refusal.Busy on (mostScans ≤ scansOpen ps) ∷ []
 stated S v ps (scanRead k r c) =
     Refusal.Scan on (¬ ScanOpen ps k) ∷ Refusal.Row on (rowsGiven v ≤ r) ∷ Refusal.Column on (S .columns ≤ c) ∷ []
 stated S v ps (sum k c) = Refusal.Scan on (¬ ScanOpen ps k) ∷ Refusal.Column on (S .columns ≤ c) ∷ []
@@ -142,6 +141,10 @@ stated S v ps release = []
 stated S v ps (pageCell c r) = Refusal.Column on (S .columns ≤ c) ∷ Refusal.Row on (rowsGiven v ≤ r) ∷ []
 stated S v ps (lineage g c) = Refusal.Range on (S .ranges ≤ g) ∷ Refusal.Column on (S .columns ≤ c) ∷ []
 
+-- "Every call on a store tests 2 first"
+unfoldable pub conditions : List ℕ → List Place → Call → List Clause
+conditions m ps c = Refusal.Memory on (usable m ps ≡ false) ∷ stated (storedShape (words m)) (storeView m) ps c
+
 -- the first condition that applies is n's
 abbrev pub First : List Clause → Refusal → Type 0
 First [] n = ⊥
@@ -151,10 +154,3 @@ First (x ∷ xs) n = (x .applies × (x .refusal ≡ n)) ⊎ (¬ x .applies × Fi
 abbrev pub NoneApplies : List Clause → Type 0
 NoneApplies [] = Unit {0}
 NoneApplies (x ∷ xs) = ¬ x .applies × NoneApplies xs
-
--- ---- demand 1, "refused with its number from document 01, on the stated condition only": of every usable memory and list, whoever wrote it, and every call
-unfoldable pub RefusedOn : Type 0
-RefusedOn =
-    (m : List ℕ) (ps : List Place) (c : Call) → usable m ps ≡ true
-    → ((n : Refusal) → (answerOf m ps c ≡ Answer.Refused n) ↔ First (stated (storedShape (words m)) (storeView m) ps c) n)
-    × ((isRefused (answerOf m ps c) ≡ false) ↔ NoneApplies (stated (storedShape (words m)) (storeView m) ps c))

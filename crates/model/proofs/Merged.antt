@@ -78,13 +78,13 @@ place-parts S some i b =
 
 module _ (S : Shape) (v : View) (ps : List Place) (h : History) (o : Represents S v ps h) (k : Known S h) where
   -- the page that place i names
-  named : (i : ℕ) → i < placesOf S → CurrentIs S h (i / S .columns) (i % S .columns) (getD (v Current) i 0) (pageIn v (getD (v Current) i 0)) (cellIn v (getD (v Current) i 0))
+  pub named : (i : ℕ) → i < placesOf S → CurrentIs S h (i / S .columns) (i % S .columns) (getD (v Current) i 0) (pageIn v (getD (v Current) i 0)) (cellIn v (getD (v Current) i 0))
   unfolding currentIn
   named i b =
       let t = place-parts S (k .small .some-column) i b in
       rw (t .2) at (o .currents (i / S .columns) (i % S .columns) (t .0) (t .1))
 
-  placed : Placed S v
+  pub placed : Placed S v
   placed = record {
     inside = λ i b. named i b .inside;
     state = λ i b. named i b .state;

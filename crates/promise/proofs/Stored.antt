@@ -11,7 +11,7 @@ use lib.Dec.{T, eqb, lt→ltb}
 use lib.ListN.{length, getD, List·getD-eq-default}
 use Rattle.terms.specs.Measures.{Shape, rangeRows, withinLimits}
 use Rattle.terms.specs.declared.Place.{Place}
-use Rattle.layout.specs.declared.Region.the-variants.{Opens, TailRow, Used, Current}
+use Rattle.layout.specs.declared.Region.the-variants.{Opens, TailRow, Used}
 use Rattle.layout.specs.View.{View, rowsGiven, transactionsGiven, lastStamp, mergesMade, usedIn}
 use Rattle.layout.specs.Sizes.{sizesOf}
 use Rattle.layout.proofs.Limits.{proper}
@@ -28,13 +28,13 @@ use Rattle.facts.specs.Facts.{waiting, factsHold}
 use Rattle.facts.proofs.Ready.{Stored}
 use Rattle.facts.proofs.Usable.{Linked, Usable}
 use Rattle.terms.specs.Places.{bears, place, freePlace}
-use Rattle.model.specs.Stored.{rowIn, recordIn, valueIn, pageIn, cellIn, currentIn, placesOf, pagesOf}
+use Rattle.model.specs.Stored.{rowIn, recordIn, valueIn, pageIn, placesOf, pagesOf}
 use Rattle.model.proofs.Book.{live-inside, Kind, Book, book-is, book-found, book-only}
-use Rattle.model.proofs.Merged.{place-mod, place-parts}
+use Rattle.model.proofs.Merged.{place-mod, place-parts, named, placed}
 use Rattle.model.proofs.Heads.{in-range}
 use Rattle.model.proofs.Scans.{scanKind, scan-count}
 use Rattle.model.proofs.Transactions.{openKind}
-use Rattle.model.proofs.Represents.{RecordIs, CurrentIs, WaitingIs, madeIn, Represents, Known}
+use Rattle.model.proofs.Represents.{RecordIs, WaitingIs, madeIn, Represents, Known}
 use Rattle.promise.proofs.Tests.{facts-hold}
 
 -- ---- numbers from 1, and places that bear them
@@ -152,20 +152,6 @@ module _ (S : Shape) (v : View) (ps : List Place) (h : History) (o : Represents 
       )
 
   -- ---- pages
-  pageAt : ℕ → ℕ
-  pageAt i = getD (v Current) i 0
-
-  -- the page of a place, by its range and column
-  page-current : (i : ℕ) → i < placesOf S
-      → CurrentIs S h (i / S .columns) (i % S .columns) (pageAt i) (pageIn v (pageAt i)) (cellIn v (pageAt i))
-  unfolding currentIn pageAt
-  page-current i b =
-      let t = place-parts S (k .small .some-column) i b in
-      rw (t .2) at (o .currents (i / S .columns) (i % S .columns) (t .0) (t .1))
-
-  page-place : (i : ℕ) → i < placesOf S → (pageIn v (pageAt i)) .place ≡ i
-  page-place i b = page-current i b .place ∙ place-parts S (k .small .some-column) i b .2
-
   waits-at : (p : ℕ) → p < pagesOf S → waiting ≤ (pageIn v p) .state → WaitingIs S h (madeIn S v) (pageIn v p)
   waits-at p b u = o .waits p b (lt→ltb 1 ((pageIn v p) .state) u)
 
@@ -181,7 +167,7 @@ module _ (S : Shape) (v : View) (ps : List Place) (h : History) (o : Represents 
 
   -- ---- all together
   pub represented-usable : Usable (sizesOf S) v ps
-  unfolding rowIn recordIn pageIn rangeOf pageAt
+  unfolding rowIn recordIn pageIn rangeOf
   represented-usable =
       record {
         counts = stored;
@@ -195,17 +181,17 @@ module _ (S : Shape) (v : View) (ps : List Place) (h : History) (o : Represents 
         record-links = λ g i a b. linked g _ i _ a (omega arith) (o .tails g a .links i (used-few g i a b) ∙ ap (λ (r : ℕ). lastOf (recordsOf h g) r i) (sym (record-row g i a b)));
         row-stamps = λ r b. rw (o .rows r (row-is r b) .stamp) (stamp-within _);
         record-stamps = λ g i a b. rw (record-is g i a b .stamp) (stamp-within _);
-        current-stamps = λ i b. omega (arith, page-current i b .holds .stamped, o .header .last-stamp);
+        current-stamps = λ i b. omega (arith, named S v ps h o k i b .holds .stamped, o .header .last-stamp);
         waiting-stamps = λ p b u. omega (arith, waits-at p b u .stamped, o .header .last-stamp);
         scan-stamps = scan-stamps;
         scan-merges = scan-merges;
         waiting-merges = λ p b u. omega (arith, waits-at p b u .replaced-by, o .header .merges-made);
         open-differ = numbers-apart openKind (h .transactions) (v Opens) (o .opens);
         scans-differ = numbers-apart scanKind (h .scans) ps (o .scans .same);
-        current-in = λ i b. page-current i b .inside;
-        current-state = λ i b. page-current i b .state;
-        current-place = page-place;
-        current-lineages = λ i b. lineage-used _ _ (place-parts S (k .small .some-column) i b .0) (page-current i b .holds .through .within);
+        current-in = λ i b. named S v ps h o k i b .inside;
+        current-state = λ i b. named S v ps h o k i b .state;
+        current-place = placed S v ps h o k .place;
+        current-lineages = λ i b. lineage-used _ _ (place-parts S (k .small .some-column) i b .0) (named S v ps h o k i b .holds .through .within);
         waiting-lineages = waiting-lineages;
       }
 

@@ -1,6 +1,5 @@
 -- Demand 2 holds: what is read and what the pages hold follows from the relation, which every list of calls keeps.
 use mathlib.Core.Path.{_≡_, refl, sym, _∙_, ap}
-use mathlib.Core.Bool.{cond}
 use mathlib.Core.List.{List}
 use Prim.Native.Nat.{ℕ, suc, _+_, _*_, _^_, _≤_, _<_}
 use native.Mathlib.Omega.{arith}
@@ -11,13 +10,11 @@ use mir.Syntax.{w32}
 use mir.Val.{toZ, ofZ}
 use mir.ValLaws.{ofZ-toZ}
 use Rattle.terms.specs.Measures.{Shape, rangeRows, mostScans, withinLimits}
-use Rattle.terms.specs.declared.Answer.{Answer}
-use Rattle.history.specs.History.{Call, openScan, effect, nextIf, tests, verdict, Verdict, accept, refuse, Scan, withScans, History, Version, start, next, run, seenAt, rowAt, inserted, visible, versionOf, read, rangeOf, mergedThrough, scanAt, cellThrough}
+use Rattle.history.specs.History.{Call, openScan, effect, nextIf, tests, verdict, Verdict, accept, refuse, Scan, withScans, History, start, next, run, seenAt, rangeOf, mergedThrough, scanAt, cellThrough}
 use Rattle.history.specs.Lists.{All, nil, cons}
-use Rattle.history.proofs.Lists.{by-test, parts, nth-last}
+use Rattle.history.proofs.Lists.{nth-last}
 use Rattle.history.proofs.Steps.{noScan}
-use Rattle.history.specs.Latest.{latestSetting}
-use Rattle.history.proofs.Latest.{latest-stamp}
+use Rattle.history.proofs.Latest.{read-committed, cell-taken}
 use Rattle.history.proofs.Past.{past-start}
 use Rattle.layout.specs.View.{View, put, renew}
 use Rattle.layout.specs.declared.Region.the-variants.{Cells}
@@ -27,7 +24,7 @@ use Rattle.model.specs.Stored.{pageIn, cellIn, currentIn, within}
 use Rattle.model.specs.Writing.{made}
 use Rattle.model.specs.Reading.{scanPage, wasCurrent}
 use Rattle.model.specs.Calls.{testsIn, actIn, viewIf, Typed, viewNext, placesNext, viewAfter, listAfter}
-use Rattle.model.specs.Claims.{storeAfter, historyAfter, lastCommitted, Reads, PageHolds, PagesHold, PageKept, ScansKeep}
+use Rattle.model.specs.Claims.{storeAfter, historyAfter, Reads, PageHolds, PagesHold, PageKept, ScansKeep}
 use Rattle.model.proofs.Represents.{CurrentOf, Represents, Known}
 use Rattle.model.proofs.Holding.{cell-absent}
 use Rattle.model.proofs.Heads.{sees-at}
@@ -51,22 +48,12 @@ represented S t n enough ys =
     represents-after S (made S) (replicate n freePlace) start (made-represents S (small-shape S t) n enough) record { small = small-shape S t; past = past-start S } ys
 
 -- ---- reads
-read-committed : {S : Shape} {h : History} → Known S h → (t r c : ℕ) → read (seenAt h t) h r c ≡ lastCommitted h t r c
-unfolding read lastCommitted
-read-committed {h = h} k t r c =
-    by-test (λ b. cond b (Answer.Value (versionOf (seenAt h t) h r c .value)) Answer.None ≡ cond b (Answer.Value (latestSetting h t r c (inserted h r c) (h .tail) .value)) Answer.None)
-    (visible (seenAt h t) h r)
-    (λ z. ap (λ (y : Version). Answer.Value (y .value)) (sym (latest-stamp h t r c (k .past .order) (seen z)))) (λ _. refl)
-  where
-    seen : T (visible (seenAt h t) h r) → T (seenAt h t ((rowAt h r) .inserter))
-    seen z = unfold visible in (parts (seenAt h t ((rowAt h r) .inserter)) _ z .0)
-
 pub reads : Reads
 unfolding Reads
 reads S l n enough cs ys t r c b d =
     let q = represented S l n enough ys in
     current-read S (storeAfter S n cs) _ (historyAfter S cs) (q .0) (q .1) t 0 r c (seenAt (historyAfter S cs) t) (sees-at (historyAfter S cs) t) b d
-    ∙ read-committed (q .1) t r c
+    ∙ read-committed (historyAfter S cs) (q .1 .past .order) t r c
 
 -- ---- pages
 zero-word : (w : ℕ) → w < 2 ^ 32 → toZ w32 w ≡ pos 0 → w ≡ 0
@@ -79,8 +66,8 @@ row-of g i b = (omega arith, omega arith)
 page-holds : (S : Shape) (v : View) (ps : List Place) (h : History) → Represents S v ps h → Known S h → (g c : ℕ) → g < S .ranges → c < S .columns → PageHolds S v h g c
 page-holds S v ps h o k g c a b = record {
   taken = x .lineage;
-  every-row = every;
-  never-inserted = λ i u n. zero-word (cellIn v (currentIn S v g c) i) (fits i) (every i u ∙ cell-absent h c (g * rangeRows + i) (mergedThrough h g c) (k .past .order) n);
+  every-row = λ i u. held i u ∙ cell-taken h (k .past .order) c (g * rangeRows + i) (mergedThrough h g c);
+  never-inserted = λ i u n. zero-word (cellIn v (currentIn S v g c) i) (fits i) (held i u ∙ cell-absent h c (g * rangeRows + i) (mergedThrough h g c) (k .past .order) n);
 }
   where
     x : CurrentOf S h v g c
@@ -89,8 +76,8 @@ page-holds S v ps h o k g c a b = record {
     fits : (i : ℕ) → cellIn v (currentIn S v g c) i < 2 ^ 32
     fits i = unfold cellIn in (o .whole .fits Cells (currentIn S v g c * rangeRows + i))
 
-    every : (i : ℕ) → i < rangeRows → toZ w32 (cellIn v (currentIn S v g c) i) ≡ cellThrough h c (g * rangeRows + i) (mergedThrough h g c)
-    every i u =
+    held : (i : ℕ) → i < rangeRows → toZ w32 (cellIn v (currentIn S v g c) i) ≡ cellThrough h c (g * rangeRows + i) (mergedThrough h g c)
+    held i u =
         ap (λ (j : ℕ). toZ w32 (cellIn v (currentIn S v g c) j)) (sym (row-of g i u .1)) ∙ x .holds .cells (g * rangeRows + i) (row-of g i u .0) tt
         ∙ ap (cellThrough h c (g * rangeRows + i)) (x .lineage)
 

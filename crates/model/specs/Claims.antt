@@ -1,8 +1,7 @@
--- Demand 2, stated of a store just made on which calls alone have worked: `Reads` and `ScanReads` are its first sentence, `PagesHold` its second; `ScansKeep` is
--- document 01's sentence on the pages of open scans. The history after the same
--- calls says what was committed; the store's words say what is read and what the pages hold. proofs/Claims.antt proves them.
+-- Demand 2, stated of a store just made on which calls alone have worked: `Reads` is its first sentence, `PagesHold` its second; `ScansKeep` is document 01's
+-- sentence on the pages of open scans. The history after the same calls says what was committed, by its stamps (`lastCommitted` and `lastTaken`, the history's
+-- Latest); the store's words say what is read and what the pages hold. proofs/Claims.antt proves them.
 use mathlib.Core.Path.{_≡_}
-use mathlib.Core.Bool.{cond}
 use mathlib.Core.List.{List, _∷_}
 use Prim.Native.Nat.{ℕ, suc, _+_, _*_, _≤_, _<_}
 use lib.Dec.{T}
@@ -10,10 +9,9 @@ use lib.ListN.{length, replicate}
 use mir.Syntax.{w32}
 use mir.Val.{toZ}
 use Rattle.terms.specs.Measures.{Shape, rangeRows, mostScans, withinLimits}
-use Rattle.terms.specs.declared.Answer.{Answer}
-use Rattle.history.specs.History.{Call, openScan, History, start, run, tests, verdict, accept, seenAt, inserted, visible, mergedThrough, scanAt, rangeOf, cellThrough}
+use Rattle.history.specs.History.{Call, openScan, History, start, run, tests, verdict, accept, mergedThrough, scanAt, rangeOf}
 use Rattle.history.specs.Lists.{All}
-use Rattle.history.specs.Latest.{latestSetting}
+use Rattle.history.specs.Latest.{lastCommitted, lastTaken}
 use Rattle.layout.specs.View.{View}
 use Rattle.terms.specs.Places.{freePlace}
 use Rattle.model.specs.Stored.{pageIn, cellIn, currentIn, within}
@@ -28,11 +26,6 @@ storeAfter S n cs = viewAfter S (made S) (replicate n freePlace) cs
 unfoldable pub historyAfter : Shape → List Call → History
 historyAfter S cs = run S start cs
 
--- "the value last committed for that row and column at or before the stamp read": of the settings committed at or before t the one with the latest stamp,
--- else the inserted value; none for a row that was not inserted by t or ended by t
-unfoldable pub lastCommitted : History → ℕ → ℕ → ℕ → Answer
-lastCommitted h t r c = cond (visible (seenAt h t) h r) (Answer.Value (latestSetting h t r c (inserted h r c) (h .tail) .value)) Answer.None
-
 -- "each read gives the value last committed for that row and column at or before the stamp read"
 unfoldable pub Reads : Type 0
 Reads =
@@ -43,7 +36,7 @@ Reads =
 -- value it was inserted with, or 0 if that row was never inserted". The records taken in are those up to the page's lineage.
 pub record PageHolds (S : Shape) (v : View) (h : History) (g c : ℕ) : Type 0 where
   pub taken : (pageIn v (currentIn S v g c)) .lineage ≡ mergedThrough h g c
-  pub every-row : (i : ℕ) → i < rangeRows → toZ w32 (cellIn v (currentIn S v g c) i) ≡ cellThrough h c (g * rangeRows + i) (mergedThrough h g c)
+  pub every-row : (i : ℕ) → i < rangeRows → toZ w32 (cellIn v (currentIn S v g c) i) ≡ lastTaken h c (g * rangeRows + i) (mergedThrough h g c)
   pub never-inserted : (i : ℕ) → i < rangeRows → length (h .rows) ≤ g * rangeRows + i → cellIn v (currentIn S v g c) i ≡ 0
 
 unfoldable pub PagesHold : Type 0

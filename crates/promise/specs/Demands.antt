@@ -1,7 +1,7 @@
 -- The three demands of document 00, stated of the bytes that the calls leave and of the answers that they give; the conditions of the refusals are in Stated.
 -- proofs/Refused.antt and proofs/Stated.antt prove those of demand 1, proofs/Demands.antt the others.
 -- What a call answers and leaves is in Promise, which the contracts of the calls cite, and what a making answers and leaves is `made`, which the contract of
--- `make` cites. The plain history is History; what is committed, and what a page holds, is said in the Claims of the history and of the model.
+-- `make` cites. The plain history is History; what is committed is said in the history's Latest, and what a page holds in the model's Claims.
 -- A memory is any list of numbers here, so that every list of bytes is one.
 use mathlib.Core.Path.{_≡_}
 use mathlib.Core.Logic.{_↔_}
@@ -20,9 +20,10 @@ use Rattle.history.specs.History.{Call, openScan, start, answers, run, tests, v
 use Rattle.terms.specs.Refusals.{isRefused}
 use Rattle.history.specs.Claims.{strike, plainAnswers, Reads, historyBefore, callAt}
 use Rattle.history.specs.Lists.{All}
+use Rattle.history.specs.Latest.{lastCommitted}
 use Rattle.making.specs.Made.{made, madeList}
 use Rattle.model.specs.Calls.{Typed}
-use Rattle.model.specs.Claims.{historyAfter, lastCommitted, PageHolds, PageKept}
+use Rattle.model.specs.Claims.{historyAfter, PageHolds, PageKept}
 use Rattle.promise.specs.Promise.{storeView, answerOf, memoryAfter, listAfter, answersOf}
 use Rattle.promise.specs.Stated.{First, NoneApplies, conditions}
 

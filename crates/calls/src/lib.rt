@@ -17,7 +17,7 @@ ghost use Prim.Native.Nat.{_<_};
 ghost use mathlib.Core.Path.{_≡_};
 ghost use lib.IntN.{pos};
 ghost use lib.ListN.{getD};
-ghost use Rattle.layout.specs.Sizes.{shapeOf, bytesAnswer};
+ghost use Rattle.layout.specs.Sizes.{shapeOf, BytesTold};
 ghost use Rattle.history.specs.History.{Call};
 ghost use Rattle.promise.specs.Promise.{Leaves};
 ghost use Rattle.calls.specs.Serves.{Serves, Makes, sixteen};
@@ -68,9 +68,9 @@ fn update_values(
 
 // ---- a store
 
-// The bytes that a store of a shape needs.
+// The bytes that a store of a shape needs, within document 01's bound.
 pub fn bytes_needed(columns: u32, ranges: u32, capacity: u32, spares: u32) -> Answer
-    ensures { λ r. ⌜ r ≡ bytesAnswer (shapeOf columns ranges capacity spares) ⌝ }
+    ensures { λ r. ⌜ BytesTold (shapeOf columns ranges capacity spares) r ⌝ }
 {
     layout::bytes_needed(columns, ranges, capacity, spares)
 }

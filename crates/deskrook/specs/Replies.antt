@@ -1,10 +1,11 @@
 -- What the exports promise: as the calls do, with the answer as C takes it.
-use Prim.Native.Nat.{ℕ}
+use Prim.Native.Nat.{ℕ, _≤_}
 use mathlib.Core.Path.{_≡_}
 use mathlib.Core.List.{List}
 use lib.ListN.{length}
 use Rattle.terms.specs.Measures.{Shape}
 use Rattle.terms.specs.declared.Place.{Place}
+use Rattle.layout.specs.Sizes.{sizesOf, bytesAllowed, bytesAnswer}
 use Rattle.making.specs.Made.{made}
 use Rattle.history.specs.History.{Call}
 use Rattle.promise.specs.Promise.{answerOf, memoryAfter, listAfter}
@@ -17,3 +18,7 @@ Replies m ps c r m′ ps′ = (r ≡ replyOf (answerOf m ps c)) × (m′ ≡ mem
 
 unfoldable pub RepliesMade : List ℕ → List Place → Shape → Reply → List ℕ → List Place → Type 0
 RepliesMade m ps S r m′ ps′ = (r ≡ replyOf (made S (length ps) m .0)) × (m′ ≡ made S (length ps) m .1) × (ps′ ≡ freedIf (isAccepted (made S (length ps) m .0)) ps)
+
+-- the bytes that a shape needs, within document 01's bound
+unfoldable pub RepliesBytes : Shape → Reply → Type 0
+RepliesBytes p r = (r ≡ replyOf (bytesAnswer p)) × (r .result ≡ 0 → r .first ≤ bytesAllowed (sizesOf p))

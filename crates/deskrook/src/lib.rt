@@ -27,11 +27,11 @@ use replies::sum_reply;
 use replies::update_reply;
 use terms::Place;
 ghost use mathlib.Core.Path.{_≡_};
-ghost use Rattle.layout.specs.Sizes.{shapeOf, bytesAnswer};
+ghost use Rattle.layout.specs.Sizes.{shapeOf};
 ghost use Rattle.history.specs.History.{Call};
 ghost use Rattle.calls.specs.Serves.{sixteen};
 ghost use Rattle.replies.specs.Replies.{replyOf, usability};
-ghost use Rattle.deskrook.specs.Replies.{Replies, RepliesMade};
+ghost use Rattle.deskrook.specs.Replies.{Replies, RepliesMade, RepliesBytes};
 
 // A transaction is opened; the answer is its number.
 #[no_mangle]
@@ -254,10 +254,10 @@ pub extern "C" fn deskrook_make(
     encode(answer)
 }
 
-// The bytes that a store of a shape needs.
+// The bytes that a store of a shape needs, within document 01's bound.
 #[no_mangle]
 pub extern "C" fn deskrook_need(columns: u32, ranges: u32, capacity: u32, spares: u32) -> Reply
-    ensures { λ r. ⌜ r ≡ replyOf (bytesAnswer (shapeOf columns ranges capacity spares)) ⌝ }
+    ensures { λ r. ⌜ RepliesBytes (shapeOf columns ranges capacity spares) r ⌝ }
 {
     encode(layout::bytes_needed(columns, ranges, capacity, spares))
 }

@@ -1,13 +1,15 @@
 -- What the limits of a shape say of its sizes: the words needed fit every sum of the code, and the bytes needed are within document 01's bound.
 use Prim.Native.Nat.{ℕ, _+_, _*_, _^_, _≤_, _<_}
-use mathlib.Core.Path.{_≡_, refl}
-use mathlib.Core.Bool.{true}
+use mathlib.Core.Path.{_≡_, refl, sym, _∙_}
+use mathlib.Core.Bool.{true, false, cond}
 use native.Mathlib.Omega.{arith}
 use native.Mathlib.Nat.{mul-le-mul, add-mul, mul-assoc, mul-comm}
 use Rattle.terms.specs.Measures.{Shape, withinLimits, mostColumns, mostRanges, mostRecords, mostSpares}
+use Rattle.terms.specs.declared.Answer.{Answer}
+use Rattle.terms.specs.declared.Refusal.{Refusal}
 use Rattle.loops.proofs.Search.{and-true, between-tells}
 use Rattle.layout.specs.Regions.{need}
-use Rattle.layout.specs.Sizes.{Proper, sizesOf, bytesNeeded, bytesAllowed}
+use Rattle.layout.specs.Sizes.{Proper, sizesOf, bytesNeeded, bytesAllowed, bytesAnswer, BytesTold}
 
 pub proper : (p : Shape) → withinLimits p ≡ true → Proper (sizesOf p)
 unfolding withinLimits
@@ -50,3 +52,11 @@ bytes-allowed p =
     let t : ℕ = p .ranges * p .capacity in
     let e : (64 + 4 * p .columns) * t ≡ 64 * t + 4 * (t * p .columns) = rw (add-mul 64 (4 * p .columns) t, mul-assoc 4 (p .columns) t, mul-comm (p .columns) t) in
     omega arith
+
+pub bytes-told : (p : Shape) {r : Answer} → r ≡ bytesAnswer p → BytesTold p r
+unfolding BytesTold bytesAnswer
+bytes-told p {r} a = (
+  a,
+  λ n q. elim (withinLimits p) as (λ b. cond b (Answer.Number (bytesNeeded p)) (Answer.Refused Refusal.Shape) ≡ Answer.Number n → n ≤ bytesAllowed (sizesOf p))
+      [ true ↦ λ e. let m : bytesNeeded p ≡ n = cc in omega (arith, bytes-allowed p) | false ↦ λ e. let z : _≡_ {A = ℕ} 0 1 = cc in omega arith ] (sym a ∙ q),
+)

@@ -49,3 +49,7 @@ bytesAllowed s = 4096 + 320 * s .pages + 64 * s .rows + (64 + 4 * s .columns) * 
 
 unfoldable pub bytesAnswer : Shape → Answer
 bytesAnswer p = cond (withinLimits p) (Answer.Number (bytesNeeded p)) (Answer.Refused Refusal.Shape)
+
+-- what the call that answers the bytes needed promises: the answer, and that the bytes answered are within the bound
+unfoldable pub BytesTold : Shape → Answer → Type 0
+BytesTold p r = (r ≡ bytesAnswer p) × ((n : ℕ) → r ≡ Answer.Number n → n ≤ bytesAllowed (sizesOf p))

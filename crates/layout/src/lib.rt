@@ -9,7 +9,7 @@ ghost use Prim.Native.Nat.{_+_, _*_, _^_, _≤_, _<_};
 ghost use Rattle.terms.specs.Measures.{withinLimits};
 ghost use Rattle.layout.specs.Cut.{startFrom, endFrom};
 ghost use Rattle.layout.specs.Regions.{index, lens, base, need};
-ghost use Rattle.layout.specs.Sizes.{shapeOf, sizesOf, bytesAnswer};
+ghost use Rattle.layout.specs.Sizes.{shapeOf, sizesOf, BytesTold};
 
 // The regions in the order in which they lie. A new one comes last, so that the others stay where they are.
 pub enum Region {
@@ -219,9 +219,9 @@ pub fn words_needed(s: Sizes) -> usize
     start(s, Region::Changes) + MOST_TRANSACTIONS
 }
 
-// The bytes that a shape needs.
+// The bytes that a shape needs, within document 01's bound.
 pub fn bytes_needed(columns: u32, ranges: u32, capacity: u32, spares: u32) -> Answer
-    ensures { λ r. ⌜ r ≡ bytesAnswer (shapeOf columns ranges capacity spares) ⌝ }
+    ensures { λ r. ⌜ BytesTold (shapeOf columns ranges capacity spares) r ⌝ }
 {
     if within_limits(columns, ranges, capacity, spares) {
         let s = sizes_of(columns, ranges, capacity, spares);

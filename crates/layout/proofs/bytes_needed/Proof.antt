@@ -7,7 +7,7 @@ use borrow.Author.Needs.{needs}
 use Rattle.terms.specs.Measures.{withinLimits}
 use Rattle.layout.specs.Regions.{need}
 use Rattle.layout.specs.Sizes.{shapeOf, bytesNeeded, bytesAnswer}
-use Rattle.layout.proofs.Limits.{need-small}
+use Rattle.layout.proofs.Limits.{need-small, bytes-told}
 use Rattle.layout.proofs.bytes_needed.Statement.{statement}
 use Rattle.layout.proofs.bytes_needed.Tie as tie
 
@@ -18,12 +18,10 @@ small : (c : tie.After-sizes-of) → need (c .sizes-of .result) < 2 ^ 24
 small c = rw (c .sizes-of .ensures) (need-small _ (within (c .before)))
 
 returns : tie.Need-returns
-unfolding bytesAnswer bytesNeeded
-returns c = rw (within (c .before .before), c .words-needed .ensures, c .before .sizes-of .ensures)
+returns c = bytes-told _ (unfold bytesAnswer bytesNeeded in (rw (within (c .before .before), c .words-needed .ensures, c .before .sizes-of .ensures)))
 
 returns-2 : tie.Need-returns-2
-unfolding bytesAnswer
-returns-2 c = rw (← c .before .within-limits .ensures, c .if1 .left)
+returns-2 c = bytes-told _ (unfold bytesAnswer in (rw (← c .before .within-limits .ensures, c .if1 .left)))
 
 pub bytes-needed-spec : {M : Type 1} → statement M
 bytes-needed-spec =

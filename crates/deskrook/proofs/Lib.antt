@@ -1,0 +1,3 @@
+-- What follows from the exports' promises.
+pub mod Results
+pub mod Runs

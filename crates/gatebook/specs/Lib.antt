@@ -1,2 +1,2 @@
--- How a run of the program ends.
-pub mod Ending
+-- The program's reads, rounds and writes, and how a run ends.
+pub mod Course

@@ -1,39 +1,34 @@
 // The program `gatebook`: it reads the shape and commands from standard input and writes a line for each to standard output. It reads what there is, has it
 // answered, and writes the lines before it reads again, so that neither the input nor the output has to fit a buffer.
-use rounds::Course;
-use rounds::goes_on;
-use rounds::opening;
-use rounds::receive;
-use rounds::round;
-use rounds::send;
+mod course;
+
+use course::Course;
+use course::goes_on;
+use course::opening;
+use course::receive;
+use course::round;
+use course::send;
 use turns::lent_list;
 use turns::lent_memory;
-ghost use Prim.Native.Nat.{_+_, _*_, _≤_};
+ghost use Prim.Native.Nat.{_≤_};
 ghost use lib.ListN.{length};
 ghost use mathlib.Core.Path.{_≡_};
 ghost use Rattle.turns.specs.Turns.{storeIn};
-ghost use Rattle.gatebook.specs.Ending.{Ended};
+ghost use Rattle.rounds.specs.Due.{commandBytes, roomFor};
+ghost use Rattle.gatebook.specs.Course.{mostBytes, Ended};
 
-// How a run ended, and the number of its rounds.
-struct Ending {
-    course: Course,
-    rounds: u64,
-}
-
-// Rounds until the program ends. They are counted, since every loop must be proved to end and nothing says that the input does; no run comes to the last number.
-fn run(mem: &mut [u8], scans: &mut [u8], input: &mut [u8], lines: &mut [u8]) -> Ending
-    requires { ⌜ (77 ≤ length (now input)) × (64 * length (now input) + 64 ≤ length (now lines)) ⌝ }
+// Rounds until the program ends.
+fn run(mem: &mut [u8], scans: &mut [u8], input: &mut [u8], lines: &mut [u8]) -> Course
+    requires { ⌜ (commandBytes ≤ length (now input)) × (roomFor (length (now input)) ≤ length (now lines)) × (length (now lines) ≤ mostBytes) ⌝ }
     ensures { λ r. ⌜ Ended (storeIn (now (mem .entry)) (now (scans .entry))) r (storeIn (now (mem .exit)) (now (scans .exit))) (now (input .exit)) ⌝ }
 {
     let mut c = opening();
-    let mut rounds = 0;
-    while goes_on(c) && rounds < u64::MAX {
+    while goes_on(c) {
         let r = receive(input, c);
         let a = round(mem, scans, input, lines, r);
         c = send(lines, a);
-        rounds += 1;
     }
-    Ending { course: c, rounds }
+    c
 }
 
 // The lines of as many commands as these bytes can hold fit the buffer of lines.

@@ -9,7 +9,7 @@ use Rattle.output.specs.Steps.{Step}
 use Rattle.turns.specs.declared.Outcome.{Outcome}
 use Rattle.turns.specs.Turns.{Store, Turned}
 use Rattle.rounds.specs.declared.Progress.{Progress}
-use Rattle.rounds.specs.Due.{Answered}
+use Rattle.rounds.specs.Due.{lineBytes, Answered}
 
 -- the line is at the front of its buffer
 front : (old line : List ℕ) → length line ≤ length old → take (length line) (sets old 0 line) ≡ line
@@ -17,7 +17,7 @@ front old line h =
     let fits : 0 + length line ≤ length old = omega arith in
     rw (sets-eq line old 0 fits) (take-append-seam line (drop (0 + length line) old))
 
-module _ (s : Step Store) (x : Store) (buffer after : List ℕ) (t : Outcome) (size : length buffer ≡ 64) (d : Turned s buffer after t x) where
+module _ (s : Step Store) (x : Store) (buffer after : List ℕ) (t : Outcome) (size : length buffer ≡ lineBytes) (d : Turned s buffer after t x) where
   pub long : t .length ≤ length after
   long = rw (d .rendered .bytes, length-sets buffer 0 (s .line), size) (d .rendered .fits)
 

@@ -1,18 +1,17 @@
 -- The loop over the commands: what holds before each, and what is answered where it stops.
 use Prim.Native.Nat.{ℕ, _+_, _-_, _*_, _≤_, _<_}
-use mathlib.Core.Path.{_≡_, ap, _∙_}
+use mathlib.Core.Path.{_≡_, refl, ap, _∙_}
 use mathlib.Core.Bool.{Bool, true, false, not}
 use mathlib.Core.List.{List, []}
 use native.Mathlib.Omega.{arith}
 use native.Mathlib.Nat.{add-zero}
 use lib.ListN.{length, getD, take, drop, length-drop}
-use lib.Seq.{slice, getD-drop, length-take-le}
+use lib.Seq.{getD-drop}
 use Rattle.commands.specs.Commands.{shapeBytes}
 use Rattle.output.specs.Steps.{step}
 use Rattle.turns.specs.Turns.{Store, storeMachine, firstStep, columnsFrom, capped}
 use Rattle.rounds.specs.declared.Progress.{Progress}
-use Rattle.rounds.specs.declared.Course.{Course}
-use Rattle.rounds.specs.Due.{flow, Moved, wanted, NoCommand, Found, Answered, ShapeIn, Walked, Begun, Took, Round, flowOf, Rounded}
+use Rattle.rounds.specs.Due.{lineBytes, roomFor, Flow, flow, Moved, wanted, NoCommand, Found, Answered, ShapeIn, Walked, Begun, Took}
 use Rattle.rounds.proofs.Due.{never, moved-none, moved-then, step-moved, shape-moved, stop-moved}
 
 -- From p to q commands are answered, and the lines have room for as many more as there are bytes.
@@ -20,10 +19,10 @@ pub record Going (last : Bool) (p q : Progress) (x y : Store) (bs old new : List
   pub moved : Moved last (flow p) x (drop (p .taken) bs) (take (p .written) old) (flow q) y (drop (q .taken) bs) (take (q .written) new)
   pub started : q .started ≡ true
   pub inside : q .taken ≤ length bs
-  pub room : q .written + 64 * length bs ≤ length new + 64 * q .taken
+  pub room : q .written + lineBytes * length bs ≤ length new + lineBytes * q .taken
 
 pub going-none : (last : Bool) (p : Progress) (x : Store) (bs old : List ℕ)
-    → (p .started ≡ true) × (p .taken ≤ length bs) × (p .written + 64 * length bs ≤ length old + 64 * p .taken) → Going last p p x x bs old old
+    → (p .started ≡ true) × (p .taken ≤ length bs) × (p .written + lineBytes * length bs ≤ length old + lineBytes * p .taken) → Going last p p x x bs old old
 going-none last p x bs old h = record { moved = moved-none last (flow p) x (drop (p .taken) bs) (take (p .written) old); started = h .0; inside = h .1; room = h .2 }
 
 module _ (last : Bool) (p q : Progress) (x y : Store) (bs old new : List ℕ) (g : Going last p q x y bs old new) where
@@ -44,7 +43,7 @@ module _ (last : Bool) (p q : Progress) (x y : Store) (bs old new : List ℕ) (g
       }
 
   pub going-fits : (end : ℕ) → Found last (q .columns) bs (q .taken) end → (end ≡ q .taken → ⊥)
-      → (q .taken < end) × (end ≤ length bs) × (q .written + 64 ≤ length new)
+      → (q .taken < end) × (end ≤ length bs) × (q .written + lineBytes ≤ length new)
   going-fits end f n =
       let less : q .taken < end = omega (arith, f .order) in
       (less, f .inside, omega (arith, f .inside, g .room))
@@ -70,24 +69,23 @@ module _ (last : Bool) (p q : Progress) (x y : Store) (bs old new : List ℕ) (g
       }
 
 -- ---- the shape, and then the commands
-pub begun-same : (last : Bool) (p q : Progress) (x : Store) (bs new : List ℕ) → 64 * length bs + 64 ≤ length new
-    → (q .on ≡ p .on) × (q .started ≡ p .started) × (q .columns ≡ p .columns) × (q .taken ≡ 0) × (q .written ≡ 0)
-    → (q .started ≡ false → last ≡ true → q .on ≡ false) → (q .started ≡ false → q .on ≡ true → length bs < shapeBytes) → Begun last p q x x bs new
-begun-same last p q x bs new h e n f =
+pub begun-same : (last : Bool) (p : Progress) (x : Store) (bs new : List ℕ) → (p .taken ≡ 0) × (p .written ≡ 0) × (roomFor (length bs) ≤ length new)
+    → (p .started ≡ false → last ≡ true → p .on ≡ false) → (p .started ≡ false → p .on ≡ true → length bs < shapeBytes) → Begun last (flow p) p x x bs new
+begun-same last p x bs new h n f =
     record {
-      moved = rw (e .0, e .1, e .2, e .3, e .4) (moved-none last (flow p) x bs []);
-      inside = omega (arith, e .3);
-      room = omega (arith, e .3, e .4);
+      moved = rw (h .0, h .1) (moved-none last (flow p) x bs []);
+      inside = omega (arith, h .0);
+      room = omega (arith, h .0, h .1, h .2);
       ends = n;
-      few = λ a b. rw (e .3) (f a b);
+      few = λ a b. rw (h .0) (f a b);
     }
 
-pub begun-shape : (last : Bool) (p q r : Progress) (x y : Store) (bs old new : List ℕ) (end : ℕ) → 64 * length bs + 64 ≤ length old → length new ≡ length old
-    → p .on ≡ true → p .started ≡ false → ShapeIn last bs end → r .written ≡ 0
-    → Answered (firstStep x (take end bs)) y old new r q × (q .taken ≡ end) × (q .started ≡ true) × (q .columns ≡ columnsFrom (take end bs)) → end ≤ length bs
-    → Begun last p q x y bs new
-begun-shape last p q r x y bs old new end h same on off s z a l =
-    let none : take (r .written) old ≡ [] = rw z in
+pub begun-shape : (last : Bool) (p q : Progress) (x y : Store) (bs old new : List ℕ) (end : ℕ) → p .written ≡ 0 → roomFor (length bs) ≤ length old
+    → length new ≡ length old → p .on ≡ true → p .started ≡ false → ShapeIn last bs end
+    → Answered (firstStep x (take end bs)) y old new p q × (q .taken ≡ end) × (q .started ≡ true) × (q .columns ≡ columnsFrom (take end bs)) → end ≤ length bs
+    → Begun last (flow p) q x y bs new
+begun-shape last p q x y bs old new end z h same on off s a l =
+    let none : take (p .written) old ≡ [] = rw z in
     record {
       moved = rw (a .1) (shape-moved last (flow p) (flow q) x y bs (take (q .written) new) end on off s (a .0 .goes, a .0 .left, rw none at (a .0 .kept)) (a .2) (a .3));
       inside = omega (arith, a .1);
@@ -96,34 +94,28 @@ begun-shape last p q r x y bs old new end h same on off s z a l =
       few = λ e. absurd (never (a .2) e);
     }
 
-pub took-none : (last : Bool) (p q : Progress) (x y : Store) (bs new : List ℕ) → Begun last p q x y bs new → q .started ≡ false → Took last p q x y bs new
-unfolding wanted
-took-none last p q x y bs new b e =
-    record {
-      round = record { moved = b .moved; ends = b .ends e; waits = λ t. rw e (b .few e t); few = λ t. omega (arith, b .few e t) };
-      inside = b .inside;
-      fits = omega (arith, b .inside, b .room);
-    }
+-- without room
+pub took-nothing : (last : Bool) (f : Flow) (q : Progress) (x : Store) (bs new : List ℕ) → length new < roomFor (length bs)
+    → (flow q ≡ f) × (q .taken ≡ 0) × (q .written ≡ 0) → Took last f q x x bs new
+took-nothing last f q x bs new h e =
+    record { round = λ r. absurd (omega arith); full = λ r. (e .0, refl, e .1, e .2); inside = omega (arith, e .1); fits = omega (arith, e .2) }
 
-pub took : (last : Bool) (p q r : Progress) (x y z : Store) (bs old new : List ℕ) → Begun last p q x y bs old → Walked last q r y z bs old new
-    → Took last p r x z bs new
-took last p q r x y z bs old new b w =
-    record {
-      round = record { moved = moved-then (b .moved) (w .moved); ends = w .ends; waits = w .waits; few = w .few };
-      inside = w .inside;
-      fits = w .fits;
-    }
+module _ (last : Bool) (f : Flow) (q : Progress) (x y : Store) (bs old : List ℕ) (h : roomFor (length bs) ≤ length old) (b : Begun last f q x y bs old) where
+  pub took-none : q .started ≡ false → Took last f q x y bs old
+  unfolding wanted
+  took-none e =
+      record {
+        round = λ r. record { moved = b .moved; ends = b .ends e; waits = λ t. rw e (b .few e t); few = λ t. omega (arith, b .few e t) };
+        full = λ r. absurd (omega arith);
+        inside = b .inside;
+        fits = omega (arith, b .inside, b .room);
+      }
 
--- ---- the buffers: what is left moves to the front
-pub rounded : (c d : Course) (p q : Progress) (x y : Store) (old new lines : List ℕ) → c .held ≤ length old → flow p ≡ flowOf c → flow q ≡ flowOf d
-    → Took (c .last) p q x y (take (c .held) old) lines
-    → take (c .held - q .taken) new ≡ slice (q .taken) (q .taken + (c .held - q .taken)) old → length new ≡ length old
-    → (d .held ≡ c .held - q .taken) × (d .written ≡ q .written) × (d .last ≡ c .last) → Rounded c d x y old new lines
-rounded c d p q x y old new lines h e f t m same g =
-    let size : length (take (c .held) old) ≡ c .held = length-take-le (c .held) old h in
-    let taken = t .inside in
-    let end : q .taken + (c .held - q .taken) ≡ c .held = omega arith in
-    let left : take (d .held) new ≡ drop (q .taken) (take (c .held) old) = rw (g .0) m ∙ ap (λ (n : ℕ). slice (q .taken) n old) end in
-    let r : Round (c .last) (flowOf c) x (take (c .held) old) (flowOf d) y (take (d .held) new) (take (d .written) lines) = rw (left, g .1, ← e, ← f) (t .round) in
-    let there : length (take (d .held) new) ≡ d .held = length-take-le (d .held) new (omega (arith, g .0)) in
-    record { round = r; last = g .2; inside = omega (arith, g .0); room = λ o. omega (arith, r .few o); fits = omega (arith, g .1, t .fits) }
+  pub took : (r : Progress) (z : Store) (new : List ℕ) → length new ≡ length old → Walked last q r y z bs old new → Took last f r x z bs new
+  took r z new same w =
+      record {
+        round = λ t. record { moved = moved-then (b .moved) (w .moved); ends = w .ends; waits = w .waits; few = w .few };
+        full = λ t. absurd (omega arith);
+        inside = w .inside;
+        fits = w .fits;
+      }

@@ -3,15 +3,27 @@ use Prim.Native.Nat.{ℕ, _+_, _*_, _≤_, _<_, min}
 use mathlib.Core.Path.{_≡_}
 use mathlib.Core.Bool.{Bool, true, false, cond}
 use mathlib.Core.List.{List, [], _++_}
-use lib.Dec.{eqb}
 use lib.ListN.{length, getD, take, drop}
 use Rattle.commands.specs.Commands.{chosen, shapeBytes}
 use Rattle.output.specs.Steps.{Step, steps}
 use Rattle.turns.specs.Turns.{Store, storeMachine, capped, operandWidth}
 use Rattle.turns.specs.Gatebook.{gatebook}
 use Rattle.rounds.specs.declared.Progress.{Progress}
-use Rattle.rounds.specs.declared.Course.{Course}
 
+-- ---- widths
+-- the buffer of one line
+abbrev pub lineBytes : ℕ
+lineBytes = 64
+
+-- no command has more bytes
+abbrev pub commandBytes : ℕ
+commandBytes = 77
+
+-- room for the lines of n bytes: a line for each, and one where the input ends before the shape
+abbrev pub roomFor : ℕ → ℕ
+roomFor n = lineBytes * n + lineBytes
+
+-- ---- what is due
 -- How the program stands: whether it goes on, whether the shape is answered, and its columns.
 pub record Flow : Type 0 where
   pub on : Bool
@@ -35,12 +47,12 @@ unfoldable pub wanted : Flow → List ℕ → ℕ
 wanted f bs = cond (f .started) (1 + operandWidth (capped (f .columns)) (chosen (getD bs 0 0))) shapeBytes
 
 -- A round over the bytes bs: bs′ are left and `lines` is written. All that can be answered is answered: with the last bytes the program ends, and else those that
--- are left are fewer than the next line wants, which are at most 77.
+-- are left are fewer than the next line wants, and than the longest command has.
 pub record Round (last : Bool) (f : Flow) (x : Store) (bs : List ℕ) (f′ : Flow) (x′ : Store) (bs′ lines : List ℕ) : Type 0 where
   pub moved : Moved last f x bs [] f′ x′ bs′ lines
   pub ends : last ≡ true → f′ .on ≡ false
   pub waits : f′ .on ≡ true → length bs′ < wanted f′ bs′
-  pub few : f′ .on ≡ true → length bs′ < 77
+  pub few : f′ .on ≡ true → length bs′ < commandBytes
 
 -- ---- the shape
 -- The shape stands in the first `end` bytes: it is whole, or the input ends in it.
@@ -62,7 +74,7 @@ pub record CommandIn (last : Bool) (columns : ℕ) (bs : List ℕ) (at end : ℕ
 -- No command to answer stands at `at`.
 pub record NoCommand (last : Bool) (columns : ℕ) (bs : List ℕ) (at : ℕ) : Type 0 where
   pub short : length bs < endAt columns bs at
-  pub few : length bs < at + 77
+  pub few : length bs < at + commandBytes
   pub none : last ≡ true → at ≡ length bs
 
 -- what the search for a command's end answers
@@ -75,7 +87,7 @@ pub record Found (last : Bool) (columns : ℕ) (bs : List ℕ) (at r : ℕ) : Ty
 -- The line of a step stands behind the lines, and the store is as the step leaves it.
 pub record Answered (s : Step Store) (x : Store) (old new : List ℕ) (p q : Progress) : Type 0 where
   pub kept : take (q .written) new ≡ take (p .written) old ++ s .line
-  pub grown : q .written ≤ p .written + 64
+  pub grown : q .written ≤ p .written + lineBytes
   pub goes : q .on ≡ s .on
   pub left : x ≡ s .state
 
@@ -84,53 +96,22 @@ pub record Walked (last : Bool) (p q : Progress) (x y : Store) (bs old new : Lis
   pub moved : Moved last (flow p) x (drop (p .taken) bs) (take (p .written) old) (flow q) y (drop (q .taken) bs) (take (q .written) new)
   pub ends : last ≡ true → q .on ≡ false
   pub waits : q .on ≡ true → length (drop (q .taken) bs) < wanted (flow q) (drop (q .taken) bs)
-  pub few : q .on ≡ true → length (drop (q .taken) bs) < 77
+  pub few : q .on ≡ true → length (drop (q .taken) bs) < commandBytes
   pub inside : q .taken ≤ length bs
   pub fits : q .written ≤ length new
 
 -- The shape is answered, or it was, or it is not yet whole.
-pub record Begun (last : Bool) (p q : Progress) (x y : Store) (bs new : List ℕ) : Type 0 where
-  pub moved : Moved last (flow p) x bs [] (flow q) y (drop (q .taken) bs) (take (q .written) new)
+pub record Begun (last : Bool) (f : Flow) (q : Progress) (x y : Store) (bs new : List ℕ) : Type 0 where
+  pub moved : Moved last f x bs [] (flow q) y (drop (q .taken) bs) (take (q .written) new)
   pub inside : q .taken ≤ length bs
-  pub room : q .written + 64 * length bs ≤ length new + 64 * q .taken
+  pub room : q .written + lineBytes * length bs ≤ length new + lineBytes * q .taken
   pub ends : q .started ≡ false → last ≡ true → q .on ≡ false
   pub few : q .started ≡ false → q .on ≡ true → length (drop (q .taken) bs) < shapeBytes
 
--- All the bytes at hand are answered.
-pub record Took (last : Bool) (p q : Progress) (x y : Store) (bs new : List ℕ) : Type 0 where
-  pub round : Round last (flow p) x bs (flow q) y (drop (q .taken) bs) (take (q .written) new)
+-- What `answer` promises. Where the buffer has room for the lines of the bytes at hand, there is a round over them, and else nothing is taken or written and all is as it
+-- was. What the buffer holds behind the lines is left free.
+pub record Took (last : Bool) (f : Flow) (q : Progress) (x y : Store) (bs new : List ℕ) : Type 0 where
+  pub round : roomFor (length bs) ≤ length new → Round last f x bs (flow q) y (drop (q .taken) bs) (take (q .written) new)
+  pub full : length new < roomFor (length bs) → (flow q ≡ f) × (y ≡ x) × (q .taken ≡ 0) × (q .written ≡ 0)
   pub inside : q .taken ≤ length bs
   pub fits : q .written ≤ length new
-
--- ---- the buffers of the program
-abbrev pub flowOf : Course → Flow
-flowOf c = record { on = c .on; started = c .started; columns = c .columns }
-
--- More input stands behind the bytes that are held, and where none came it was the last.
-pub record Received (c d : Course) (old new : List ℕ) : Type 0 where
-  pub held : take (c .held) new ≡ take (c .held) old
-  pub more : c .held ≤ d .held
-  pub inside : d .held ≤ length new
-  pub last : d .last ≡ eqb (d .held) (c .held)
-  pub flow : flowOf d ≡ flowOf c
-  pub written : d .written ≡ c .written
-
--- A round over the bytes that are held, in the buffers: what it leaves stands at the front.
-pub record Rounded (c d : Course) (x y : Store) (old new lines : List ℕ) : Type 0 where
-  pub round : Round (c .last) (flowOf c) x (take (c .held) old) (flowOf d) y (take (d .held) new) (take (d .written) lines)
-  pub last : d .last ≡ c .last
-  pub inside : d .held ≤ length new
-  pub room : d .on ≡ true → d .held < 77
-  pub fits : d .written ≤ length lines
-
--- The lines are written: nothing waits to be written, and all else is as it was. Where they could not be written, that is noted.
-pub record Sent (c d : Course) : Type 0 where
-  pub flow : flowOf d ≡ flowOf c
-  pub held : d .held ≡ c .held
-  pub last : d .last ≡ c .last
-  pub written : d .written ≡ 0
-
--- whether there is another round
-pub record Goes (c : Course) (r : Bool) : Type 0 where
-  pub yes : r ≡ true → c .on ≡ true
-  pub no : r ≡ false → c .failed ≡ false → c .on ≡ false

@@ -3,15 +3,14 @@ use Prim.Native.Nat.{ℕ, _≤_}
 use mathlib.Core.Path.{_≡_}
 use mathlib.Core.Bool.{true, false}
 use mathlib.Core.List.{List, [], _∷_, _++_}
-use lib.ListN.{length, take}
+use lib.ListN.{length}
 use Rattle.terms.specs.Measures.{mostScans}
 use Rattle.words.specs.Words.{Bytes}
 use Rattle.layout.specs.Sizes.{bytesNeeded}
 use Rattle.output.specs.Output.{output}
 use Rattle.turns.specs.Turns.{Store}
 use Rattle.turns.specs.Gatebook.{largest}
-use Rattle.rounds.specs.declared.Course.{Course}
-use Rattle.rounds.specs.Due.{Flow, flowOf, Moved, Round}
+use Rattle.rounds.specs.Due.{Flow, Round}
 
 -- the program as it begins
 abbrev pub opening : Flow
@@ -34,15 +33,3 @@ unfoldable pub RoundsWrite : Type 0
 RoundsWrite =
     (x : Store) (ps : List (List ℕ)) (lines : List ℕ) → Bytes (together ps) → bytesNeeded largest ≤ length (x .memory) → mostScans ≤ length (x .list)
     → Rounds opening x [] ps lines → lines ≡ output (together ps)
-
--- The program's own rounds: from the opening and the store x₀ it came to c and x, with bytes received and lines sent.
-pub record Ran (x₀ : Store) (c : Course) (x : Store) (input : List ℕ) : Type 0 where
-  pub received : List ℕ
-  pub sent : List ℕ
-  pub moved : Moved (c .last) opening x₀ received [] (flowOf c) x (take (c .held) input) sent
-
--- Once it has ended, the lines sent are those of the bytes received, whatever else the input holds.
-unfoldable pub RanWrites : Type 0
-RanWrites =
-    (x₀ : Store) (c : Course) (x : Store) (input rest : List ℕ) (r : Ran x₀ c x input) → Bytes (r .received ++ rest) → bytesNeeded largest ≤ length (x₀ .memory)
-    → mostScans ≤ length (x₀ .list) → c .on ≡ false → (c .last ≡ true → rest ≡ []) → r .sent ≡ output (r .received ++ rest)

@@ -27,7 +27,7 @@ ghost use Rattle.output.specs.Steps.{step};
 ghost use Rattle.turns.specs.Gatebook.{largest};
 ghost use Rattle.turns.specs.Turns.{storeIn, storeMachine, makingAnswer, madeStore, firstAnswer, firstStore, firstStep, columnsFrom, capped as cappedAt, operandWidth, Does, Turned};
 
-const SHAPE_BYTES: usize = 6;
+pub const SHAPE_BYTES: usize = 6;
 
 const MOST_COLUMNS: usize = 16;
 

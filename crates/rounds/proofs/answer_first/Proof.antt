@@ -1,11 +1,12 @@
 -- `rounds::answer_first` meets its contract.
 use mathlib.Core.Logic.{⊎-elim}
 use Prim.Native.Nat.{_≤_}
-use mathlib.Core.Path.{_≡_, refl}
+use mathlib.Core.Path.{_≡_}
 use mathlib.Core.Bool.{true, false}
 use native.Mathlib.Omega.{arith}
 use lib.ListN.{length}
 use borrow.Author.Tests.{not-true, not-false}
+use Rattle.commands.specs.Commands.{shapeBytes}
 use Rattle.rounds.proofs.Due.{never}
 use Rattle.rounds.proofs.Going.{begun-same, begun-shape}
 use borrow.Author.Needs.{needs}
@@ -16,33 +17,32 @@ returns : tie.Need-returns
 returns c =
     let start = c .before .before .before .before .before in
     let e : start .args .p .started ≡ true = c .if1 .taken in
-    begun-same _ (start .args .p) _ _ _ _ (start .pre) (refl, refl, refl, refl, refl) (λ n. absurd (never e n)) (λ n. absurd (never e n))
+    begun-same _ (start .args .p) _ _ _ (start .pre) (λ n. absurd (never e n)) (λ n. absurd (never e n))
 
 returns-2 : tie.Need-returns-2
 returns-2 c =
     let start = c .before .before .before .before .before .before .before in
     let e : start .args .p .on ≡ false = not-true _ (c .if2 .taken) in
-    begun-same _ (start .args .p) _ _ _ _ (start .pre) (refl, refl, refl, refl, refl) (λ n l. e) (λ n t. absurd (never t e))
+    begun-same _ (start .args .p) _ _ _ (start .pre) (λ n l. e) (λ n t. absurd (never t e))
 
 returns-3 : tie.Need-returns-3
 returns-3 c =
     let start = c .before .before .before .before .before .before .before .before .before in
     let e : start .args .last ≡ false = not-true _ (c .if4 .taken) in
-    begun-same _ (start .args .p) _ _ _ _ (start .pre) (refl, refl, refl, refl, refl) (λ n l. absurd (never l e)) (λ n t. c .before .if3 .taken)
+    begun-same _ (start .args .p) _ _ _ (start .pre) (λ n l. absurd (never l e)) (λ n t. c .before .if3 .taken)
 
 returns-4 : tie.Need-returns-4
 returns-4 c =
     let a = c .before .before .before .before .before .before in
-    let k = a .answer-shape .kept in
     let z = a .before .before in
     let j = z .before .before .before in
     let o = j .before in
     let i = o .before .before in
     let start = i .before .before .before .before .before in
-    let whole : start .args .last ≡ false → 6 ≤ length (start .args .bytes .now) = λ f.
+    let whole : start .args .last ≡ false → shapeBytes ≤ length (start .args .bytes .now) = λ f.
     ⊎-elim (λ w. absurd (never (not-false _ (w .1 .left)) f)) (λ w. w .left) (j .if3 .came) in
-    begun-shape _ (start .args .p) _ _ _ _ _ _ _ _ (start .pre) (omega arith) (not-false _ (o .if2 .left)) (i .if1 .left)
-    (record { ends = z .shape-end .ensures .0; whole = whole }) refl (a .answer-shape .ensures) (z .shape-end .ensures .1)
+    begun-shape _ (start .args .p) _ _ _ _ _ _ _ (start .pre .1) (start .pre .2) (omega arith) (not-false _ (o .if2 .left)) (i .if1 .left)
+    (record { ends = z .shape-end .ensures .0; whole = whole }) (a .answer-shape .ensures) (z .shape-end .ensures .1)
 
 pub answer-first-spec : {M : Type 1} → statement M
 answer-first-spec =

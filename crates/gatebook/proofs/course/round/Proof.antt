@@ -1,20 +1,14 @@
--- `rounds::round` meets its contract: what is left moves to the front.
+-- `gatebook::course::round` meets its contract: what is left moves to the front.
 use mathlib.Core.Path.{refl, sym}
 use native.Mathlib.Omega.{arith}
 use lib.Seq.{length-take-le}
-use Rattle.rounds.proofs.Going.{rounded}
+use Rattle.gatebook.proofs.Ran.{rounded}
 use borrow.Author.Needs.{needs}
-use Rattle.rounds.proofs.round.Statement.{statement}
-use Rattle.rounds.proofs.round.Tie as tie
+use Rattle.gatebook.proofs.course.round.Statement.{statement}
+use Rattle.gatebook.proofs.course.round.Tie as tie
 
 slice-aggregate-answer : tie.Need-slice-aggregate-answer
 slice-aggregate-answer c = sym (length-take-le _ _ (c .before .before .before .before .before .before .before .pre .1))
-
-answer-requires : tie.Need-answer-requires
-answer-requires c κs =
-    let start = c .before .before .before .before .before .before .before .before in
-    let size = length-take-le (start .args .c .held) (start .args .input .now) (start .pre .1) in
-    omega (arith, start .pre .1, start .pre .2)
 
 sub-left : tie.Need-sub-left
 sub-left c =
@@ -35,7 +29,7 @@ returns c =
     let m = c .before .before .move-down in
     let a = c .before .before .before .before .before .before .before .before .before .before in
     let start = a .before .before .before .before .before .before .before .before .before in
-    rounded (start .args .c) _ _ (a .answer .result) _ _ _ _ _ (start .pre .1) refl refl (a .answer .ensures) (m .ensures) (omega (arith, m .kept)) (refl, refl, refl)
+    rounded (start .args .c) _ (a .answer .result) _ _ _ _ _ (start .pre .1) (omega (arith, start .pre .2, a .answer .kept)) refl (a .answer .ensures) (m .ensures) (omega (arith, m .kept)) (refl, refl, refl, refl, refl)
 
 pub round-spec : {M : Type 1} → statement M
 round-spec =
@@ -43,7 +37,7 @@ round-spec =
     (tie.spec
     (λ c. search needs)
     slice-aggregate-answer
-    answer-requires
+    (λ c κs. search needs)
     sub-left
     move-down-requires
     (λ c. search needs)

@@ -1,0 +1,2 @@
+-- The program's rounds one after another.
+pub mod Ran

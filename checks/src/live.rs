@@ -13,6 +13,52 @@ use reference::random::Random;
 /// A program that reads a stream from standard input and writes lines: its path and words.
 pub type Program = [String];
 
+/// Which streams are compared.
+#[derive(Clone, Copy, Debug)]
+pub enum Streams {
+    /// Random ones, mostly of a hundred or two of commands.
+    Random,
+    /// Of over 100,000 bytes each.
+    Long,
+    /// Shorter ones at the same shape, the largest that gatebook lends memory for.
+    Largest,
+}
+
+impl Streams {
+    pub fn of(word: &str) -> Option<Streams> {
+        match word {
+            "random" => Some(Streams::Random),
+            "long" => Some(Streams::Long),
+            "largest" => Some(Streams::Largest),
+            _ => None,
+        }
+    }
+
+    /// The whole commands of a seed's stream at the largest shape.
+    fn commands(self, seed: u64) -> Option<usize> {
+        match self {
+            Streams::Random => None,
+            Streams::Long => Some(18_000 + (seed % 4_000) as usize),
+            Streams::Largest => Some(100 + (seed % 900) as usize),
+        }
+    }
+
+    pub fn stream(self, seed: u64) -> Vec<u8> {
+        match self.commands(seed) {
+            Some(commands) => generate::largest(seed, commands),
+            None => generate::stream(seed),
+        }
+    }
+
+    /// The words by which the second program writes a seed's stream.
+    fn words(self, seed: u64) -> String {
+        match self.commands(seed) {
+            Some(commands) => format!("generate {seed} {commands}"),
+            None => format!("generate {seed}"),
+        }
+    }
+}
+
 /// What was compared.
 #[derive(Clone, Copy, Debug, Default)]
 pub struct Tally {
@@ -53,6 +99,7 @@ pub enum Failure {
 /// streams. What was compared up to then stands in the tally, also where a difference ends it.
 pub fn compare(
     programs: [&Program; 2],
+    streams: Streams,
     first: u64,
     time: Duration,
     most: u64,
@@ -64,7 +111,7 @@ pub fn compare(
             break;
         }
         let seed = first.wrapping_add(place);
-        let stream = generate::stream(seed);
+        let stream = streams.stream(seed);
         let mut outputs = [Vec::new(), Vec::new()];
         for ((program, output), time) in programs.iter().zip(&mut outputs).zip(&mut tally.times) {
             let started = Instant::now();
@@ -78,7 +125,7 @@ pub fn compare(
         // The first line is that of the shape.
         tally.commands += left.iter().filter(|byte| **byte == b'\n').count().max(1) as u64 - 1;
         if left != right {
-            return Err(Failure::Difference(difference(seed, left, right)));
+            return Err(Failure::Difference(difference(&streams.words(seed), left, right)));
         }
     }
     Ok(())
@@ -124,7 +171,7 @@ fn feed(mut input: impl Write, stream: &[u8], seed: u64) -> io::Result<()> {
 }
 
 /// Says where two outputs part.
-fn difference(seed: u64, left: &[u8], right: &[u8]) -> String {
+fn difference(stream: &str, left: &[u8], right: &[u8]) -> String {
     let text = |bytes: &[u8]| -> Vec<String> {
         String::from_utf8_lossy(bytes).split_inclusive('\n').map(String::from).collect()
     };
@@ -134,5 +181,5 @@ fn difference(seed: u64, left: &[u8], right: &[u8]) -> String {
         Some(line) => format!("{line:?}"),
         None => "nothing".to_string(),
     };
-    format!("seed {seed}, line {}: {} beside {}", place + 1, line(&left), line(&right))
+    format!("{stream}, line {}: {} beside {}", place + 1, line(&left), line(&right))
 }

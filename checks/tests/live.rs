@@ -2,12 +2,13 @@
 
 use std::time::Duration;
 
-use checks::live::{compare, Failure, Tally};
+use checks::live::{compare, Failure, Streams, Tally};
 
 fn compared(left: &[&str], right: &[&str], time: Duration) -> (Result<(), Failure>, Tally) {
     let words = |program: &[&str]| program.iter().map(|word| word.to_string()).collect::<Vec<_>>();
     let mut tally = Tally::default();
-    let result = compare([&words(left), &words(right)], 0, time, 24, &mut tally);
+    let programs = [&words(left)[..], &words(right)[..]];
+    let result = compare(programs, Streams::Random, 0, time, 24, &mut tally);
     (result, tally)
 }
 
@@ -26,9 +27,17 @@ fn equal_programs_do_not_differ() {
 fn a_difference_is_said_with_its_seed_and_line() {
     let (result, tally) = compared(&["cat"], &["true"], LONG);
     let Err(Failure::Difference(difference)) = result else { panic!("{result:?}") };
-    assert!(difference.starts_with("seed 0, line 1: "), "{difference}");
+    assert!(difference.starts_with("generate 0, line 1: "), "{difference}");
     assert!(difference.ends_with(" beside nothing"), "{difference}");
     assert_eq!(tally.streams, 1);
+}
+
+#[test]
+fn streams_are_long_or_at_the_largest_shape() {
+    for seed in 0..24 {
+        assert!(Streams::Long.stream(seed).len() > 100_000);
+        assert_eq!(Streams::Largest.stream(seed)[..6], [4, 4, 64, 0, 16, 0]);
+    }
 }
 
 #[test]

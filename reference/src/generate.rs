@@ -9,6 +9,7 @@ pub use self::workload::COUNT as WORKLOADS;
 use crate::call::{Call, Shape};
 use crate::command;
 use crate::history::{NUMBERS, OPEN_SCANS, OPEN_TRANSACTIONS};
+use crate::program::LENT;
 use crate::random::Random;
 
 /// A list of so many calls for a store of any shape within the limits. Every number fits the
@@ -116,6 +117,20 @@ pub fn stream(seed: u64) -> Vec<u8> {
         }
         _ => {}
     }
+    bytes
+}
+
+/// A stream for gatebook at the largest shape that it lends memory for: so many commands, and one
+/// more that is cut.
+pub fn largest(seed: u64, commands: usize) -> Vec<u8> {
+    let random = Random::new(seed ^ 0x6C61_7267_6573_7400);
+    let mut generator = Generator::new(random, workload::of(seed), LENT, commands, false);
+    let mut bytes = bytes_of(&LENT, &generator.take(commands));
+    let update = generator.candidate(0x03);
+    let whole = bytes.len();
+    command::write(&mut bytes, &update, LENT.columns as usize);
+    let width = (bytes.len() - whole) as u32;
+    bytes.truncate(whole + generator.random.between(1, width - 1) as usize);
     bytes
 }
 

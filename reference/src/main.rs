@@ -12,6 +12,7 @@ reference run                  command bytes on standard input, answer lines on 
 reference encode               readable lines to command bytes
 reference decode               command bytes to readable lines
 reference generate SEED        a random stream of command bytes
+reference generate SEED N      the same at the largest shape: N commands, and one that is cut
 reference trace SEED CALLS     a random run, each call with its answer
 reference pack [short]         the packed streams of crate replay; short: no number series
 reference replay               a pack on standard input, the lines of its streams on standard output
@@ -19,8 +20,8 @@ reference survey FIRST COUNT   what the streams of COUNT seeds from FIRST on mee
 reference help                 this text
 ";
 
-/// The longest run that trace writes.
-const TRACE_CALLS: u64 = 1_000_000;
+/// The most calls of a run that is generated.
+const MOST_CALLS: u64 = 1_000_000;
 
 /// Why the program ends without having done its work.
 enum Failure {
@@ -73,13 +74,10 @@ fn perform(words: &[String], output: &mut impl Write) -> Result<(), Failure> {
             output.write_all(text::decode(&bytes).as_bytes())?;
         }
         ["generate", seed] => output.write_all(&generate::stream(number(seed)?))?,
-        ["trace", seed, calls] => {
-            let calls = number(calls)?;
-            if calls > TRACE_CALLS {
-                return Err(Failure::Usage(format!("CALLS is at most {TRACE_CALLS}")));
-            }
-            trace::write(number(seed)?, calls as usize, output)?;
+        ["generate", seed, count] => {
+            output.write_all(&generate::largest(number(seed)?, calls(count)?))?;
         }
+        ["trace", seed, count] => trace::write(number(seed)?, calls(count)?, output)?,
         ["pack"] => output.write_all(&pack::write(&pack::all()))?,
         ["pack", "short"] => output.write_all(&pack::write(&pack::short()))?,
         ["replay"] => {
@@ -98,6 +96,16 @@ fn perform(words: &[String], output: &mut impl Write) -> Result<(), Failure> {
         }
     }
     Ok(())
+}
+
+/// A number of calls.
+fn calls(word: &str) -> Result<usize, Failure> {
+    match number(word)? {
+        count if count > MOST_CALLS => {
+            Err(Failure::Usage(format!("a number of calls is at most {MOST_CALLS}")))
+        }
+        count => Ok(count as usize),
+    }
 }
 
 fn number(word: &str) -> Result<u64, Failure> {

@@ -21,7 +21,7 @@ use Rattle.output.specs.Steps.{Machine, Step, operandsOf, answerTo, stateAfter,
 use Rattle.output.proofs.Steps.{steps-none}
 use Rattle.turns.specs.Turns.{Store, storeMachine, firstAnswer, firstStore, firstStep, columnsFrom, capped, operandWidth}
 use Rattle.turns.specs.Gatebook.{gatebook}
-use Rattle.rounds.specs.Due.{Flow, due, Moved, endAt, CommandIn, NoCommand, ShapeIn}
+use Rattle.rounds.specs.Due.{Flow, due, Moved, endAt, stepAt, CommandIn, NoCommand, ShapeIn}
 
 -- ---- a byte that is no command ends the program
 abbrev ends : Chosen → Bool
@@ -116,10 +116,10 @@ never p q = let z : _≡_ {A = ℕ} 0 1 = cc in omega arith
 
 -- a command from `at` to `end`
 whole-due : (columns : ℕ) (x : Store) (bs rest : List ℕ) (at end : ℕ) → at < length bs → end ≡ endAt columns bs at → end ≤ length bs
-    → let s = step storeMachine (capped columns) x (getD bs at 0) (take (end - (at + 1)) (drop (at + 1) bs)) in
+    → let s = stepAt columns x bs at end in
     steps (length (drop at bs ++ rest)) storeMachine (capped columns) x (drop at bs ++ rest)
     ≡ s .line ++ cond (s .on) (steps (length (drop end bs ++ rest)) storeMachine (capped columns) (s .state) (drop end bs ++ rest)) []
-unfolding steps
+unfolding steps stepAt
 whole-due columns x bs rest at end h e l =
     let byte : ℕ = getD bs at 0 in
     let w : ℕ = operandWidth (capped columns) (chosen byte) in
@@ -132,10 +132,10 @@ whole-due columns x bs rest at end h e l =
     (whole-step storeMachine (capped columns) x byte (chosen byte) (drop (suc at) bs) rest (chosen-ends byte) enough)
 
 cut-due : (columns : ℕ) (x : Store) (bs : List ℕ) (at : ℕ) → at < length bs → length bs < endAt columns bs at
-    → let s = step storeMachine (capped columns) x (getD bs at 0) (take (length bs - (at + 1)) (drop (at + 1) bs)) in
+    → let s = stepAt columns x bs at (length bs) in
     steps (length (drop at bs)) storeMachine (capped columns) x (drop at bs)
     ≡ s .line ++ cond (s .on) (steps 0 storeMachine (capped columns) (s .state) []) []
-unfolding steps
+unfolding steps stepAt
 cut-due columns x bs at h l =
     let byte : ℕ = getD bs at 0 in
     let one : at + 1 ≡ suc at = omega arith in
@@ -159,13 +159,13 @@ only-last false rest h n = absurd (n refl)
 -- a step of the program
 pub step-moved : (last : Bool) (f g : Flow) (x y : Store) (bs before after : List ℕ) (at end : ℕ) → f .on ≡ true → f .started ≡ true
     → CommandIn last (f .columns) bs at end
-    → (let s = step storeMachine (capped (f .columns)) x (getD bs at 0) (take (end - (at + 1)) (drop (at + 1) bs)) in
+    → (let s = stepAt (f .columns) x bs at end in
     (g .on ≡ s .on) × (y ≡ s .state) × (after ≡ before ++ s .line))
     → g .started ≡ true → g .columns ≡ f .columns → Moved last f x (drop at bs) before g y (drop end bs) after
 step-moved last f g x y bs before after at end on started c e started′ same = record { same = go }
   where
     s : Step Store
-    s = step storeMachine (capped (f .columns)) x (getD bs at 0) (take (end - (at + 1)) (drop (at + 1) bs))
+    s = stepAt (f .columns) x bs at end
 
     due-f : (l : List ℕ) → due f x l ≡ steps (length l) storeMachine (capped (f .columns)) x l
     due-f l = due-commands f x l started ∙ rw on

@@ -8,10 +8,9 @@ use native.Mathlib.Nat.{add-zero}
 use lib.ListN.{length, getD, take, drop, length-drop}
 use lib.Seq.{getD-drop}
 use Rattle.commands.specs.Commands.{shapeBytes}
-use Rattle.output.specs.Steps.{step}
-use Rattle.turns.specs.Turns.{Store, storeMachine, firstStep, columnsFrom, capped}
+use Rattle.turns.specs.Turns.{Store, firstStep, columnsFrom}
 use Rattle.rounds.specs.declared.Progress.{Progress}
-use Rattle.rounds.specs.Due.{lineBytes, roomFor, Flow, flow, Moved, wanted, NoCommand, Found, Answered, ShapeIn, Walked, Begun, Took}
+use Rattle.rounds.specs.Due.{lineBytes, roomFor, Flow, flow, Moved, wanted, stepAt, NoCommand, Found, Answered, ShapeIn, Walked, Begun, Took}
 use Rattle.rounds.proofs.Due.{never, moved-none, moved-then, step-moved, shape-moved, stop-moved}
 
 -- From p to q commands are answered, and the lines have room for as many more as there are bytes.
@@ -27,7 +26,7 @@ going-none last p x bs old h = record { moved = moved-none last (flow p) x (drop
 
 module _ (last : Bool) (p q : Progress) (x y : Store) (bs old new : List ℕ) (g : Going last p q x y bs old new) where
   pub going-next : (r : Progress) (z : Store) (new′ : List ℕ) (end : ℕ) → q .on ≡ true → Found last (q .columns) bs (q .taken) end → (end ≡ q .taken → ⊥)
-      → Answered (step storeMachine (capped (q .columns)) y (getD bs (q .taken) 0) (take (end - (q .taken + 1)) (drop (q .taken + 1) bs))) z new new′ q r
+      → Answered (stepAt (q .columns) y bs (q .taken) end) z new new′ q r
       × (r .taken ≡ end) × (r .started ≡ true) × (r .columns ≡ q .columns) → length new′ ≡ length new → Going last p r x z bs old new′
   going-next r z new′ end on f n a same =
       let there = f .order in

@@ -1,11 +1,11 @@
 -- What is still to be written, for every state of the program and every input to come.
-use Prim.Native.Nat.{ℕ, _+_, _*_, _≤_, _<_, min}
+use Prim.Native.Nat.{ℕ, _+_, _-_, _*_, _≤_, _<_, min}
 use mathlib.Core.Path.{_≡_}
 use mathlib.Core.Bool.{Bool, true, false, cond}
 use mathlib.Core.List.{List, [], _++_}
 use lib.ListN.{length, getD, take, drop}
 use Rattle.commands.specs.Commands.{chosen, shapeBytes}
-use Rattle.output.specs.Steps.{Step, steps}
+use Rattle.output.specs.Steps.{Step, step, steps}
 use Rattle.turns.specs.Turns.{Store, storeMachine, capped, operandWidth}
 use Rattle.turns.specs.Gatebook.{gatebook}
 use Rattle.rounds.specs.declared.Progress.{Progress}
@@ -64,6 +64,10 @@ pub record ShapeIn (last : Bool) (bs : List ℕ) (end : ℕ) : Type 0 where
 -- where the command at a place ends, if it is whole
 abbrev pub endAt : ℕ → List ℕ → ℕ → ℕ
 endAt columns bs at = at + (1 + operandWidth (capped columns) (chosen (getD bs at 0)))
+
+-- the step of the bytes from `at` to `end`: a command byte and its operands
+unfoldable pub stepAt : ℕ → Store → List ℕ → ℕ → ℕ → Step Store
+stepAt columns x bs at end = step storeMachine (capped columns) x (getD bs at 0) (take (end - (at + 1)) (drop (at + 1) bs))
 
 -- A command stands from `at` to `end`: it is whole, or it is the last and cut.
 pub record CommandIn (last : Bool) (columns : ℕ) (bs : List ℕ) (at end : ℕ) : Type 0 where

@@ -7,12 +7,11 @@ use turns::start;
 use turns::turn;
 ghost use mathlib.Core.Path.{_≡_};
 ghost use mathlib.Core.Bool.{true};
-ghost use Prim.Native.Nat.{_+_, _-_, _*_, _≤_, _<_, min};
-ghost use lib.ListN.{length, getD, take, drop};
+ghost use Prim.Native.Nat.{_+_, _*_, _≤_, _<_, min};
+ghost use lib.ListN.{length, take};
 ghost use Rattle.commands.specs.Commands.{shapeBytes};
-ghost use Rattle.output.specs.Steps.{step};
-ghost use Rattle.turns.specs.Turns.{storeIn, storeMachine, firstStep, columnsFrom, capped};
-ghost use Rattle.rounds.specs.Due.{lineBytes, roomFor, flow, Found, Answered, Walked, Begun, Took};
+ghost use Rattle.turns.specs.Turns.{storeIn, firstStep, columnsFrom};
+ghost use Rattle.rounds.specs.Due.{lineBytes, roomFor, flow, stepAt, Found, Answered, Walked, Begun, Took};
 
 const LINE_BYTES: usize = 64;
 
@@ -53,7 +52,7 @@ fn answer_command(
     p: Progress,
 ) -> Progress
     requires { ⌜ (p .taken < end) × (end ≤ length (now bytes)) × (p .written + lineBytes ≤ length (now lines)) ⌝ }
-    ensures { λ r. ⌜ Answered (step storeMachine (capped (p .columns)) (storeIn (now (mem .entry)) (now (scans .entry))) (getD (now (bytes .entry)) (p .taken) 0) (take (end - (p .taken + 1)) (drop (p .taken + 1) (now (bytes .entry))))) (storeIn (now (mem .exit)) (now (scans .exit))) (now (lines .entry)) (now (lines .exit)) p r × (r .taken ≡ end) × (r .started ≡ true) × (r .columns ≡ p .columns) ⌝ }
+    ensures { λ r. ⌜ Answered (stepAt (p .columns) (storeIn (now (mem .entry)) (now (scans .entry))) (now (bytes .entry)) (p .taken) end) (storeIn (now (mem .exit)) (now (scans .exit))) (now (lines .entry)) (now (lines .exit)) p r × (r .taken ≡ end) × (r .started ≡ true) × (r .columns ≡ p .columns) ⌝ }
 {
     let at = p.taken;
     let columns = p.columns;

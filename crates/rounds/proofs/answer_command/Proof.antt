@@ -1,5 +1,6 @@
 -- `rounds::answer_command` meets its contract.
 use mathlib.Core.Path.{refl}
+use Rattle.rounds.specs.Due.{stepAt}
 use Rattle.rounds.proofs.Answered.{long, answered}
 use borrow.Author.Needs.{needs}
 use Rattle.rounds.proofs.answer_command.Statement.{statement}
@@ -11,6 +12,7 @@ keep-requires c κs =
     (search needs, t .ensures .rendered .fits, long _ _ _ (t .last .1 .1 .1 .1 .1 .0) (t .result) refl (t .ensures))
 
 returns : tie.Need-returns
+unfolding stepAt
 returns c =
     let k = c .before .before .keep in
     let t = c .before .before .before .before .before .before .before .before .before .turn in

@@ -8,3 +8,4 @@ pub mod Parts
 pub mod Ready
 pub mod Answers
 pub mod Usable
+pub mod Waiting

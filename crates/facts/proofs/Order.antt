@@ -11,7 +11,7 @@ use Rattle.layout.specs.declared.Sizes.{Sizes}
 use Rattle.layout.specs.declared.Region.the-variants.{Opens, RowTransaction, RowStamp, TailTransaction, TailStamp, PageReplaced, PageNewest}
 use Rattle.layout.specs.View.{View, rowsGiven, transactionsGiven, scansGiven, lastStamp, mergesMade}
 use Rattle.facts.specs.Facts.{each, rowsBetween, rowLinked, rangeNamesRows, rangeBetween, rangeLinked, currentAtMost, waitingAtMost, currentLineage, waitingLineage, pagePlaced, storedWithin, countsWithin, recordsNameRows, numbersGiven, linksHold, stampsWithin, mergesWithin, openDiffer, pagesPlaced, lineagesWithin, factsHold}
-use Rattle.facts.specs.Tests.{MemoryFacts, rangeHolds, rowsHold, currentHolds, pagesHold, opensHold, scansHold}
+use Rattle.facts.specs.Tests.{MemoryFacts, rangeHolds, rowsHold, currentHolds, waitingHold, pagesHold, opensHold, scansHold}
 use Rattle.facts.proofs.Each.{each-both}
 
 regroup : (k n rt tt op sn rl tl rs ts cn wn ss sm pr od sd pl cl wl : Bool)
@@ -65,7 +65,7 @@ currents-are s v =
 
 pub facts-are : (s : Sizes) (v : View) (ps : List Place)
     → factsHold s v ps ≡ (countsWithin s v ps && (each (s .ranges) (rangeHolds s v) && (rowsHold s v && (pagesHold s v && (opensHold v && scansHold v ps)))))
-unfolding factsHold numbersGiven linksHold stampsWithin mergesWithin openDiffer lineagesWithin rowsHold pagesHold opensHold scansHold
+unfolding factsHold numbersGiven linksHold stampsWithin mergesWithin openDiffer lineagesWithin rowsHold waitingHold pagesHold opensHold scansHold
 facts-are s v ps =
     rw (ranges-are s v, currents-are s v)
     (regroup

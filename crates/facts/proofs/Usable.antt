@@ -143,7 +143,7 @@ numbers-at ps j = List·getD-map (λ p. p .number) ps j freePlace
 
 -- a bounded stretch of a region, word by word
 module _ (s : Sizes) (v : View) (long : Long s v) (k : Region) (at n low high : ℕ) (inside : at + n ≤ len s k) where
-  stretch-tells : allBetween low high (region (v k) at n) ≡ true → (i : ℕ) → i < n → (low ≤ getD (v k) (at + i) 0) × (getD (v k) (at + i) 0 ≤ high)
+  pub stretch-tells : allBetween low high (region (v k) at n) ≡ true → (i : ℕ) → i < n → (low ≤ getD (v k) (at + i) 0) × (getD (v k) (at + i) 0 ≤ high)
   stretch-tells e i h =
       let l : at + n ≤ length (v k) = omega (arith, long k) in
       let t = all-tells low high (region (v k) at n) e i (omega (arith, region-length (v k) at n l)) in

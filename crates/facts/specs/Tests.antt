@@ -61,12 +61,14 @@ rowsHold s v =
 unfoldable pub currentHolds : Sizes → View → ℕ → Bool
 currentHolds s v i = pagePlaced s v i && (currentAtMost v PageNewest (lastStamp v) i && currentLineage s v i)
 
--- the current pages, then the waiting ones
+-- the waiting pages
+unfoldable pub waitingHold : Sizes → View → Bool
+waitingHold s v =
+    each (s .pages) (waitingAtMost v PageNewest (lastStamp v))
+    && (each (s .pages) (waitingAtMost v PageReplaced (mergesMade v)) && each (s .pages) (waitingLineage s v))
+
 unfoldable pub pagesHold : Sizes → View → Bool
-pagesHold s v =
-    each (s .places) (currentHolds s v)
-    && (each (s .pages) (waitingAtMost v PageNewest (lastStamp v))
-    && (each (s .pages) (waitingAtMost v PageReplaced (mergesMade v)) && each (s .pages) (waitingLineage s v)))
+pagesHold s v = each (s .places) (currentHolds s v) && waitingHold s v
 
 -- the open transactions
 unfoldable pub opensHold : View → Bool

@@ -41,7 +41,7 @@ ghost use Rattle.scans.specs.Table.{tableOf};
 ghost use Rattle.facts.specs.Facts.{firstSlot, each, rowsBetween, rangeBetween, rangeNamesRows, linkHolds, rowLinked, recordLinked, rangeLinked, waitingAtMost, waitingLineage, storedWithin, factsHold};
 ghost use Rattle.facts.specs.Usable.{checked};
 ghost use Rattle.layout.specs.Sizes.{Proper};
-ghost use Rattle.facts.specs.Tests.{Ready, MemoryFacts, Safe, rangeHolds, rowsHold, currentHolds, pagesHold, opensHold, scansHold};
+ghost use Rattle.facts.specs.Tests.{Ready, MemoryFacts, Safe, rangeHolds, rowsHold, currentHolds, waitingHold, pagesHold, opensHold, scansHold};
 
 // What the test finds: the sizes of the store, or that the memory is not usable.
 pub enum Checked {
@@ -362,18 +362,30 @@ fn waiting_lineages(mem: &[u8], s: Sizes) -> bool
     ok
 }
 
+// The facts of the waiting pages. Often none waits, which one look at the states tells.
+fn waiting_hold(mem: &[u8], s: Sizes) -> bool
+    requires { ⌜ Ready s (now mem) ⌝ }
+    ensures { λ r. ⌜ r ≡ waitingHold s (view s (words (now (mem .entry)))) ⌝ }
+{
+    if between_in(mem, s, Region::PageState, 0, s.pages, 0, PAGE_CURRENT) {
+        return true;
+    }
+    let last = read(mem, s, Region::Header, HEADER_STAMP);
+    let made = read(mem, s, Region::Header, HEADER_MERGES);
+    let stamps = all_waiting_at_most(mem, s, Region::PageNewest, last);
+    let merges = all_waiting_at_most(mem, s, Region::PageReplaced, made);
+    let lineages = waiting_lineages(mem, s);
+    both(stamps, both(merges, lineages))
+}
+
 // The facts of the pages.
 fn pages_hold(mem: &[u8], s: Sizes) -> bool
     requires { ⌜ Ready s (now mem) ⌝ }
     ensures { λ r. ⌜ r ≡ pagesHold s (view s (words (now (mem .entry)))) ⌝ }
 {
-    let last = read(mem, s, Region::Header, HEADER_STAMP);
-    let made = read(mem, s, Region::Header, HEADER_MERGES);
     let currents = currents_hold(mem, s);
-    let stamps = all_waiting_at_most(mem, s, Region::PageNewest, last);
-    let merges = all_waiting_at_most(mem, s, Region::PageReplaced, made);
-    let lineages = waiting_lineages(mem, s);
-    both(currents, both(stamps, both(merges, lineages)))
+    let waiting = waiting_hold(mem, s);
+    both(currents, waiting)
 }
 
 // ---- the open transactions and scans

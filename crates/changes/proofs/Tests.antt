@@ -17,74 +17,58 @@ use Rattle.layout.specs.declared.Region.{Region}
 use Rattle.layout.specs.Regions.{need}
 use Rattle.layout.specs.View.{View, view, rowsGiven, usedIn}
 use Rattle.layout.proofs.View.{view-long}
-use Rattle.history.specs.History.{Call, Test, _when_, accept, verdict, any, rangeOf}
-use Rattle.history.proofs.Accepted.{passed}
+use Rattle.history.specs.History.{Test, _when_, refuse, verdict, any, rangeOf}
 use Rattle.terms.specs.Places.{place}
-use Rattle.model.specs.Stored.{openPlace}
-use Rattle.model.specs.Writing.{recordsWanted}
-use Rattle.model.specs.Calls.{notOpenIn, notGivenIn, lacksIn, testsIn}
+use Rattle.rows.specs.Finders.{Inside}
+use Rattle.model.specs.Calls.{notOpenIn, notGivenIn, lacksIn}
 use Rattle.layout.specs.Sizes.{Proper}
-use Rattle.model.specs.Asked.{shapeIn, Counted, Linked, FreeAt}
+use Rattle.model.specs.Asked.{shapeIn, Counted, Linked, FreeAt, OpenAt}
 use Rattle.settling.specs.Steps.{foundAt}
 use Rattle.writing.specs.Steps.{Room}
 use Rattle.conditions.specs.Opens.{openAt}
 use Rattle.conditions.proofs.Opens.{open-there, not-open}
 use Rattle.entry.specs.Given.{rangeGiven}
 use Rattle.entry.proofs.Fitted.{given-tells, row-given, row-missing}
-use Rattle.lending.specs.declared.Tested.{Tested}
-use Rattle.lending.specs.Carried.{tested}
-use Rattle.history.proofs.Lists.{is-false}
 
 -- ---- the first two tests of a call that names a transaction and a row, by what their finders answer
 -- Transaction t is open at j, and row r is one of range g.
-pub record RowFound (v : View) (t r j g : ℕ) : Type 0 where
+pub record OpenThere (v : View) (t j : ℕ) : Type 0 where
   pub begun : notOpenIn v t ≡ false
-  pub place-is : j ≡ openPlace v t
+  pub open-at : OpenAt v t j
+
+pub record RowFound (v : View) (t r j g : ℕ) : Type 0 where
+  pub opened : OpenThere v t j
   pub given : notGivenIn v r ≡ false
   pub below : r < rowsGiven v
   pub range-is : g ≡ rangeOf r
 
 module _ (v : View) (t : ℕ) (f : Found) (e : f ≡ openAt v t) where
-  pub fails-open : (ts : List Test) (at : ℕ) → f ≡ Found.Nothing
-      → Tested.Failed Refusal.Transaction ≡ tested (verdict (Refusal.Transaction when notOpenIn v t ∷ ts)) at
-  unfolding verdict tested
-  fails-open ts at q = rw (not-open v t (sym e ∙ q))
+  pub fails-open : (ts : List Test) → f ≡ Found.Nothing → verdict (Refusal.Transaction when notOpenIn v t ∷ ts) ≡ refuse Refusal.Transaction
+  unfolding verdict
+  fails-open ts q = rw (not-open v t (sym e ∙ q))
+
+  pub is-open : (j : ℕ) → Inside f mostTransactions → f ≡ Found.At j → OpenThere v t j
+  is-open j h q = let o = open-there v t j (sym e ∙ q) in record { begun = o .0; open-at = record { low = rw q at h; found = o .1 } }
 
   module _ (r : ℕ) (h : Found) (k : h ≡ rangeGiven v r) (j : ℕ) (q : f ≡ Found.At j) where
-    pub fails-given : (ts : List Test) (at : ℕ) → h ≡ Found.Nothing
-        → Tested.Failed Refusal.Row ≡ tested (verdict (Refusal.Transaction when notOpenIn v t ∷ Refusal.Row when notGivenIn v r ∷ ts)) at
-    unfolding verdict tested
-    fails-given ts at n = rw (open-there v t j (sym e ∙ q) .0, row-missing v r (sym k ∙ n))
+    pub fails-given : (ts : List Test) → h ≡ Found.Nothing
+        → verdict (Refusal.Transaction when notOpenIn v t ∷ Refusal.Row when notGivenIn v r ∷ ts) ≡ refuse Refusal.Row
+    unfolding verdict
+    fails-given ts n = rw (open-there v t j (sym e ∙ q) .0, row-missing v r (sym k ∙ n))
 
-    pub row-found : (g : ℕ) → h ≡ Found.At g → RowFound v t r j g
-    row-found g n =
-        let o = open-there v t j (sym e ∙ q) in
+    pub row-found : (g : ℕ) → Inside f mostTransactions → h ≡ Found.At g → RowFound v t r j g
+    row-found g l n =
         let w = row-given v r g (sym k ∙ n) in
-        record { begun = o .0; place-is = o .1; given = w .0; below = given-tells v r (w .0); range-is = w .1 }
+        record { opened = is-open j l q; given = w .0; below = given-tells v r (w .0); range-is = w .1 }
 
 -- ---- what passed tests say
-module _ (s : Sizes) (v : View) (l : Linked s v) (r n : ℕ) where
-  room : notGivenIn v r ≡ false → lacksIn (shapeIn s) v r n ≡ false → Room s v r n
-  unfolding lacksIn rangeOf
-  room g k =
-      record {
-        row-below = omega (arith, l .rows-few, given-tells v r g);
-        left = ltb-false (s .capacity) (usedIn v (r / 64) + n) k;
-      }
-
-module _ (s : Sizes) (v : View) (l : Linked s v) (t r : ℕ) where
-  pub delete-room : verdict (testsIn (shapeIn s) v [] (Call.delete t r)) ≡ accept → Room s v r 1
-  unfolding testsIn
-  delete-room e =
-      let p = passed (testsIn (shapeIn s) v [] (Call.delete t r)) e in
-      room s v l r 1 (is-false (notGivenIn v r) (p .1 .0)) (is-false (lacksIn (shapeIn s) v r 1) (p .1 .1 .1 .1 .0))
-
-  pub update-room : (mask : ℕ) → verdict (testsIn (shapeIn s) v [] (Call.update t r mask [])) ≡ accept → Room s v r (recordsWanted v r mask)
-  unfolding testsIn
-  update-room mask e =
-      let p = passed (testsIn (shapeIn s) v [] (Call.update t r mask [])) e in
-      room s v l r (recordsWanted v r mask) (is-false (notGivenIn v r) (p .1 .0))
-      (is-false (lacksIn (shapeIn s) v r (recordsWanted v r mask)) (p .1 .1 .1 .1 .1 .0))
+pub room : (s : Sizes) (v : View) (l : Linked s v) (r n : ℕ) → r < rowsGiven v → lacksIn (shapeIn s) v r n ≡ false → Room s v r n
+unfolding lacksIn rangeOf
+room s v l r n g k =
+    record {
+      row-below = omega (arith, l .rows-few);
+      left = ltb-false (s .capacity) (usedIn v (r / 64) + n) k;
+    }
 
 -- the range g of row r lacks n tail records
 pub lacks-is : (s : Sizes) (v : View) (r g n : ℕ) → g ≡ rangeOf r → lacksIn (shapeIn s) v r n ≡ ltb (s .capacity) (usedIn v g + n)

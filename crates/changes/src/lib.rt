@@ -1,19 +1,19 @@
-// The calls that change transactions and rows, over a lent memory and the table of the scan list: begin, insert, update, delete, commit, abort. A call tests the
-// stored facts, lends the needed bytes to the function that runs the call's own tests in document 01's order, and only then writes.
+// The calls that change transactions and rows, over a lent memory and the table of the scan list: begin, insert, update, delete, commit, abort. Each call is the
+// test of memory and list, the call's own tests in document 01's order, and then the function that writes, over the needed bytes.
 use conditions::bad_mask;
 use conditions::gone;
 use conditions::held;
 use conditions::lacks_records;
 use conditions::open_place;
+use entry::Entry;
+use entry::Tested;
+use entry::enter;
 use entry::given_range;
 use entry::not_later;
 use layout::HEADER_ROWS;
 use layout::HEADER_TRANSACTIONS;
 use layout::Region;
 use layout::Sizes;
-use lending::Part;
-use lending::Tested;
-use lending::lend;
 use loops::Found;
 use regions::read;
 use scans::Scans;
@@ -25,25 +25,86 @@ use terms::Stamp;
 use terms::Transaction;
 use writing::records_wanted;
 ghost use mathlib.Core.Path.{_≡_};
-ghost use mathlib.Core.List.{[]};
-ghost use Prim.Native.Nat.{_*_, _≤_, _<_};
-ghost use lib.ListN.{length};
+ghost use mathlib.Core.List.{List};
+ghost use lib.IntN.{ℤ};
+ghost use Prim.Native.Nat.{_<_};
+ghost use Rattle.terms.specs.Measures.{mostNumbers};
 ghost use Rattle.words.specs.Words.{words};
-ghost use Rattle.layout.specs.Regions.{need};
-ghost use Rattle.layout.specs.View.{view, rowsGiven};
+ghost use Rattle.layout.specs.View.{view, rowsGiven, transactionsGiven};
 ghost use Rattle.history.specs.History.{Call, verdict, rangeOf};
-ghost use Rattle.model.specs.Stored.{openPlace};
-ghost use Rattle.model.specs.Calls.{testsIn};
-ghost use Rattle.layout.specs.Sizes.{Proper};
-ghost use Rattle.model.specs.Asked.{shapeIn, Linked, Pooled};
-ghost use Rattle.promise.specs.Promise.{Leaves};
-ghost use Rattle.lending.specs.Carried.{tested, Below, Carries};
+ghost use Rattle.model.specs.Writing.{recordsWanted};
+ghost use Rattle.model.specs.Asked.{shapeIn, FreeAt, OpenAt};
+ghost use Rattle.writing.specs.Steps.{Room};
+ghost use Rattle.promise.specs.Promise.{ServesBy, kept};
+ghost use Rattle.entry.specs.Entered.{Fitted};
+ghost use Rattle.entry.specs.Tested.{Says, Finds, Tests};
 ghost use Rattle.changes.specs.Steps.{appendTests};
 
 // The most transaction numbers that a store gives.
 const MOST_NUMBERS: u32 = 65535;
 
-// ---- the tests
+// ---- begin
+
+// The tests of begin; where they are passed, the first free place of the open transactions.
+fn begin_tests(mem: &[u8], s: Sizes) -> Tested
+    requires { ⌜ Fitted s (now mem) ⌝ }
+    ensures { λ r. ⌜ Tests s (now (mem .entry)) Call.begin r ⌝ }
+    ensures { λ r. ⌜ Finds r (λ at. FreeAt (view s (words (now (mem .entry)))) at × (transactionsGiven (view s (words (now (mem .entry)))) < mostNumbers)) ⌝ }
+{
+    if read(mem, s, Region::Header, HEADER_TRANSACTIONS) >= MOST_NUMBERS {
+        return Tested::Failed(Refusal::Number);
+    }
+    let Found::At(free) = free_place(mem, s) else {
+        return Tested::Failed(Refusal::Busy);
+    };
+    Tested::Passed(free)
+}
+
+// A transaction is opened; the answer is its number.
+pub fn begin(mem: &mut [u8], scans: Scans) -> Answer
+    ensures { λ r. ⌜ ServesBy scans (now (mem .entry)) Call.begin r (now (mem .exit)) kept ⌝ }
+{
+    let Entry::Fit(s, n) = enter(mem, scans) else {
+        return Answer::Refused(Refusal::Memory);
+    };
+    match begin_tests(mem, s) {
+        Tested::Failed(x) => Answer::Refused(x),
+        Tested::Passed(free) => Answer::Number(settling::begin(&mut mem[..n], s, free).0),
+    }
+}
+
+// ---- insert
+
+fn insert_tests(mem: &[u8], s: Sizes, t: Transaction) -> Tested
+    requires { ⌜ Fitted s (now mem) ⌝ }
+    ensures { λ r. ⌜ ((vs : List ℤ) → Tests s (now (mem .entry)) (Call.insert (t .0) vs) r) ⌝ }
+    ensures { λ r. ⌜ Finds r (λ at. OpenAt (view s (words (now (mem .entry)))) (t .0) at × (rowsGiven (view s (words (now (mem .entry)))) < s .rows)) ⌝ }
+{
+    let Found::At(at) = open_place(mem, s, t) else {
+        return Tested::Failed(Refusal::Transaction);
+    };
+    if read(mem, s, Region::Header, HEADER_ROWS) as usize >= s.rows {
+        return Tested::Failed(Refusal::Full);
+    }
+    Tested::Passed(at)
+}
+
+// A row with a value for each column; the answer is its number. Values past the column count are not looked at.
+pub fn insert(mem: &mut [u8], scans: Scans, transaction: Transaction, values: [i32; 16]) -> Answer
+    ensures { λ r. ⌜ ServesBy scans (now (mem .entry)) (Call.insert (transaction .0) values) r (now (mem .exit)) kept ⌝ }
+{
+    let Entry::Fit(s, n) = enter(mem, scans) else {
+        return Answer::Refused(Refusal::Memory);
+    };
+    match insert_tests(mem, s, transaction) {
+        Tested::Failed(x) => Answer::Refused(x),
+        Tested::Passed(at) => Answer::Number(
+            writing::insert(&mut mem[..n], s, at, transaction, values).0,
+        ),
+    }
+}
+
+// ---- update and delete
 
 // The last tests of a call that appends n tail records to a row: whether it is held, gone, or its range g lacks them. `at` is the transaction's place.
 fn append_tests(
@@ -55,10 +116,10 @@ fn append_tests(
     g: usize,
     n: u32,
 ) -> Tested
-    requires { ⌜ need s * 4 ≤ length (now mem) ⌝ }
-    requires { ⌜ Proper s × Linked s (view s (words (now mem))) ⌝ }
-    requires { ⌜ (row .0 < rowsGiven (view s (words (now mem)))) × (g ≡ rangeOf (row .0)) ⌝ }
-    ensures { λ r. ⌜ r ≡ tested (verdict (appendTests (shapeIn s) (view s (words (now (mem .entry)))) (t .0) (row .0) n)) at ⌝ }
+    requires { ⌜ Fitted s (now mem) ⌝ }
+    requires { ⌜ OpenAt (view s (words (now mem))) (t .0) at × (row .0 < rowsGiven (view s (words (now mem)))) × (g ≡ rangeOf (row .0)) ⌝ }
+    ensures { λ r. ⌜ Says r (verdict (appendTests (shapeIn s) (view s (words (now (mem .entry)))) (t .0) (row .0) n)) ⌝ }
+    ensures { λ r. ⌜ Finds r (λ j. OpenAt (view s (words (now (mem .entry)))) (t .0) j × Room s (view s (words (now (mem .entry)))) (row .0) n) ⌝ }
 {
     if held(mem, s, t, row) {
         return Tested::Failed(Refusal::Held);
@@ -73,10 +134,9 @@ fn append_tests(
 }
 
 fn update_tests(mem: &[u8], s: Sizes, t: Transaction, row: Row, mask: u32) -> Tested
-    requires { ⌜ need s * 4 ≤ length (now mem) ⌝ }
-    requires { ⌜ Proper s × Linked s (view s (words (now mem))) ⌝ }
-    ensures { λ r. ⌜ r ≡ tested (verdict (testsIn (shapeIn s) (view s (words (now (mem .entry)))) [] (Call.update (t .0) (row .0) mask []))) (openPlace (view s (words (now (mem .entry)))) (t .0)) ⌝ }
-    ensures { λ r. ⌜ Below r 8 ⌝ }
+    requires { ⌜ Fitted s (now mem) ⌝ }
+    ensures { λ r. ⌜ ((vs : List ℤ) → Tests s (now (mem .entry)) (Call.update (t .0) (row .0) mask vs) r) ⌝ }
+    ensures { λ r. ⌜ Finds r (λ at. OpenAt (view s (words (now (mem .entry)))) (t .0) at × Room s (view s (words (now (mem .entry)))) (row .0) (recordsWanted (view s (words (now (mem .entry)))) (row .0) mask)) ⌝ }
 {
     let Found::At(at) = open_place(mem, s, t) else {
         return Tested::Failed(Refusal::Transaction);
@@ -90,11 +150,33 @@ fn update_tests(mem: &[u8], s: Sizes, t: Transaction, row: Row, mask: u32) -> Te
     append_tests(mem, s, at, t, row, g, records_wanted(mem, s, row, mask))
 }
 
+// The columns of a mask are set in a row; the answer is the last tail record's number.
+pub fn update(
+    mem: &mut [u8],
+    scans: Scans,
+    transaction: Transaction,
+    row: Row,
+    mask: u16,
+    values: [i32; 16],
+) -> Answer
+    ensures { λ r. ⌜ ServesBy scans (now (mem .entry)) (Call.update (transaction .0) (row .0) mask values) r (now (mem .exit)) kept ⌝ }
+{
+    let Entry::Fit(s, n) = enter(mem, scans) else {
+        return Answer::Refused(Refusal::Memory);
+    };
+    let m = mask as u32;
+    match update_tests(mem, s, transaction, row, m) {
+        Tested::Failed(x) => Answer::Refused(x),
+        Tested::Passed(at) => Answer::Number(
+            writing::update(&mut mem[..n], s, at, transaction, row, m, values).0,
+        ),
+    }
+}
+
 fn delete_tests(mem: &[u8], s: Sizes, t: Transaction, row: Row) -> Tested
-    requires { ⌜ need s * 4 ≤ length (now mem) ⌝ }
-    requires { ⌜ Proper s × Linked s (view s (words (now mem))) ⌝ }
-    ensures { λ r. ⌜ r ≡ tested (verdict (testsIn (shapeIn s) (view s (words (now (mem .entry)))) [] (Call.delete (t .0) (row .0)))) (openPlace (view s (words (now (mem .entry)))) (t .0)) ⌝ }
-    ensures { λ r. ⌜ Below r 8 ⌝ }
+    requires { ⌜ Fitted s (now mem) ⌝ }
+    ensures { λ r. ⌜ Tests s (now (mem .entry)) (Call.delete (t .0) (row .0)) r ⌝ }
+    ensures { λ r. ⌜ Finds r (λ at. OpenAt (view s (words (now (mem .entry)))) (t .0) at × Room s (view s (words (now (mem .entry)))) (row .0) 1) ⌝ }
 {
     let Found::At(at) = open_place(mem, s, t) else {
         return Tested::Failed(Refusal::Transaction);
@@ -105,156 +187,76 @@ fn delete_tests(mem: &[u8], s: Sizes, t: Transaction, row: Row) -> Tested
     append_tests(mem, s, at, t, row, g, 1)
 }
 
-// ---- the calls over the needed bytes
-
-fn begin_in(mem: &mut [u8], s: Sizes) -> Answer
-    requires { ⌜ need s * 4 ≤ length (now mem) ⌝ }
-    ensures { λ r. ⌜ Carries s (view s (words (now (mem .entry)))) Call.begin r (view s (words (now (mem .exit)))) ⌝ }
-{
-    if read(mem, s, Region::Header, HEADER_TRANSACTIONS) >= MOST_NUMBERS {
-        return Answer::Refused(Refusal::Number);
-    }
-    let Found::At(free) = free_place(mem, s) else {
-        return Answer::Refused(Refusal::Busy);
-    };
-    Answer::Number(settling::begin(mem, s, free).0)
-}
-
-fn insert_in(mem: &mut [u8], s: Sizes, t: Transaction, values: [i32; 16]) -> Answer
-    requires { ⌜ need s * 4 ≤ length (now mem) ⌝ }
-    requires { ⌜ Proper s × Pooled s (view s (words (now mem))) ⌝ }
-    ensures { λ r. ⌜ Carries s (view s (words (now (mem .entry)))) (Call.insert (t .0) values) r (view s (words (now (mem .exit)))) ⌝ }
-{
-    let Found::At(at) = open_place(mem, s, t) else {
-        return Answer::Refused(Refusal::Transaction);
-    };
-    if read(mem, s, Region::Header, HEADER_ROWS) as usize >= s.rows {
-        return Answer::Refused(Refusal::Full);
-    }
-    Answer::Number(writing::insert(mem, s, at, t, values).0)
-}
-
-fn update_in(
-    mem: &mut [u8],
-    s: Sizes,
-    t: Transaction,
-    row: Row,
-    mask: u32,
-    values: [i32; 16],
-) -> Answer
-    requires { ⌜ need s * 4 ≤ length (now mem) ⌝ }
-    requires { ⌜ Proper s × Linked s (view s (words (now mem))) × Pooled s (view s (words (now mem))) ⌝ }
-    ensures { λ r. ⌜ Carries s (view s (words (now (mem .entry)))) (Call.update (t .0) (row .0) mask values) r (view s (words (now (mem .exit)))) ⌝ }
-{
-    match update_tests(mem, s, t, row, mask) {
-        Tested::Failed(x) => Answer::Refused(x),
-        Tested::Passed(at) => Answer::Number(writing::update(mem, s, at, t, row, mask, values).0),
-    }
-}
-
-fn delete_in(mem: &mut [u8], s: Sizes, t: Transaction, row: Row) -> Answer
-    requires { ⌜ need s * 4 ≤ length (now mem) ⌝ }
-    requires { ⌜ Proper s × Linked s (view s (words (now mem))) ⌝ }
-    ensures { λ r. ⌜ Carries s (view s (words (now (mem .entry)))) (Call.delete (t .0) (row .0)) r (view s (words (now (mem .exit)))) ⌝ }
-{
-    match delete_tests(mem, s, t, row) {
-        Tested::Failed(x) => Answer::Refused(x),
-        Tested::Passed(at) => Answer::Number(writing::delete(mem, s, at, t, row).0),
-    }
-}
-
-fn commit_in(mem: &mut [u8], s: Sizes, t: Transaction, stamp: Stamp) -> Answer
-    requires { ⌜ need s * 4 ≤ length (now mem) ⌝ }
-    requires { ⌜ Proper s × Linked s (view s (words (now mem))) ⌝ }
-    ensures { λ r. ⌜ Carries s (view s (words (now (mem .entry)))) (Call.commit (t .0) (stamp .0)) r (view s (words (now (mem .exit)))) ⌝ }
-{
-    let Found::At(at) = open_place(mem, s, t) else {
-        return Answer::Refused(Refusal::Transaction);
-    };
-    if not_later(mem, s, stamp) {
-        return Answer::Refused(Refusal::Time);
-    }
-    settling::commit(mem, s, at, stamp);
-    Answer::Done
-}
-
-fn abort_in(mem: &mut [u8], s: Sizes, t: Transaction) -> Answer
-    requires { ⌜ need s * 4 ≤ length (now mem) ⌝ }
-    requires { ⌜ Proper s × Linked s (view s (words (now mem))) ⌝ }
-    ensures { λ r. ⌜ Carries s (view s (words (now (mem .entry)))) (Call.abort (t .0)) r (view s (words (now (mem .exit)))) ⌝ }
-{
-    let Found::At(at) = open_place(mem, s, t) else {
-        return Answer::Refused(Refusal::Transaction);
-    };
-    settling::abort(mem, s, at);
-    Answer::Done
-}
-
-// ---- the calls
-
-// A transaction is opened; the answer is its number.
-pub fn begin(mem: &mut [u8], scans: Scans) -> Answer
-    ensures { λ r. ⌜ Leaves (now (mem .entry)) scans Call.begin r (now (mem .exit)) ⌝ }
-{
-    let Part::Lent(s, n) = lend(mem, scans) else {
-        return Answer::Refused(Refusal::Memory);
-    };
-    begin_in(&mut mem[..n], s)
-}
-
-// A row with a value for each column; the answer is its number. Values past the column count are not looked at.
-pub fn insert(mem: &mut [u8], scans: Scans, transaction: Transaction, values: [i32; 16]) -> Answer
-    ensures { λ r. ⌜ Leaves (now (mem .entry)) scans (Call.insert (transaction .0) values) r (now (mem .exit)) ⌝ }
-{
-    let Part::Lent(s, n) = lend(mem, scans) else {
-        return Answer::Refused(Refusal::Memory);
-    };
-    insert_in(&mut mem[..n], s, transaction, values)
-}
-
-// The columns of a mask are set in a row; the answer is the last tail record's number.
-pub fn update(
-    mem: &mut [u8],
-    scans: Scans,
-    transaction: Transaction,
-    row: Row,
-    mask: u16,
-    values: [i32; 16],
-) -> Answer
-    ensures { λ r. ⌜ Leaves (now (mem .entry)) scans (Call.update (transaction .0) (row .0) mask values) r (now (mem .exit)) ⌝ }
-{
-    let Part::Lent(s, n) = lend(mem, scans) else {
-        return Answer::Refused(Refusal::Memory);
-    };
-    update_in(&mut mem[..n], s, transaction, row, mask as u32, values)
-}
-
 // A row is deleted; the answer is the tail record's number.
 pub fn delete(mem: &mut [u8], scans: Scans, transaction: Transaction, row: Row) -> Answer
-    ensures { λ r. ⌜ Leaves (now (mem .entry)) scans (Call.delete (transaction .0) (row .0)) r (now (mem .exit)) ⌝ }
+    ensures { λ r. ⌜ ServesBy scans (now (mem .entry)) (Call.delete (transaction .0) (row .0)) r (now (mem .exit)) kept ⌝ }
 {
-    let Part::Lent(s, n) = lend(mem, scans) else {
+    let Entry::Fit(s, n) = enter(mem, scans) else {
         return Answer::Refused(Refusal::Memory);
     };
-    delete_in(&mut mem[..n], s, transaction, row)
+    match delete_tests(mem, s, transaction, row) {
+        Tested::Failed(x) => Answer::Refused(x),
+        Tested::Passed(at) => Answer::Number(
+            writing::delete(&mut mem[..n], s, at, transaction, row).0,
+        ),
+    }
+}
+
+// ---- commit and abort
+
+fn commit_tests(mem: &[u8], s: Sizes, t: Transaction, stamp: Stamp) -> Tested
+    requires { ⌜ Fitted s (now mem) ⌝ }
+    ensures { λ r. ⌜ Tests s (now (mem .entry)) (Call.commit (t .0) (stamp .0)) r ⌝ }
+    ensures { λ r. ⌜ Finds r (OpenAt (view s (words (now (mem .entry)))) (t .0)) ⌝ }
+{
+    let Found::At(at) = open_place(mem, s, t) else {
+        return Tested::Failed(Refusal::Transaction);
+    };
+    if not_later(mem, s, stamp) {
+        return Tested::Failed(Refusal::Time);
+    }
+    Tested::Passed(at)
 }
 
 // What a transaction has changed holds from a stamp on.
 pub fn commit(mem: &mut [u8], scans: Scans, transaction: Transaction, stamp: Stamp) -> Answer
-    ensures { λ r. ⌜ Leaves (now (mem .entry)) scans (Call.commit (transaction .0) (stamp .0)) r (now (mem .exit)) ⌝ }
+    ensures { λ r. ⌜ ServesBy scans (now (mem .entry)) (Call.commit (transaction .0) (stamp .0)) r (now (mem .exit)) kept ⌝ }
 {
-    let Part::Lent(s, n) = lend(mem, scans) else {
+    let Entry::Fit(s, n) = enter(mem, scans) else {
         return Answer::Refused(Refusal::Memory);
     };
-    commit_in(&mut mem[..n], s, transaction, stamp)
+    match commit_tests(mem, s, transaction, stamp) {
+        Tested::Failed(x) => Answer::Refused(x),
+        Tested::Passed(at) => {
+            settling::commit(&mut mem[..n], s, at, stamp);
+            Answer::Done
+        }
+    }
+}
+
+fn abort_tests(mem: &[u8], s: Sizes, t: Transaction) -> Tested
+    requires { ⌜ Fitted s (now mem) ⌝ }
+    ensures { λ r. ⌜ Tests s (now (mem .entry)) (Call.abort (t .0)) r ⌝ }
+    ensures { λ r. ⌜ Finds r (OpenAt (view s (words (now (mem .entry)))) (t .0)) ⌝ }
+{
+    let Found::At(at) = open_place(mem, s, t) else {
+        return Tested::Failed(Refusal::Transaction);
+    };
+    Tested::Passed(at)
 }
 
 // What a transaction has changed is as if it had not been.
 pub fn abort(mem: &mut [u8], scans: Scans, transaction: Transaction) -> Answer
-    ensures { λ r. ⌜ Leaves (now (mem .entry)) scans (Call.abort (transaction .0)) r (now (mem .exit)) ⌝ }
+    ensures { λ r. ⌜ ServesBy scans (now (mem .entry)) (Call.abort (transaction .0)) r (now (mem .exit)) kept ⌝ }
 {
-    let Part::Lent(s, n) = lend(mem, scans) else {
+    let Entry::Fit(s, n) = enter(mem, scans) else {
         return Answer::Refused(Refusal::Memory);
     };
-    abort_in(&mut mem[..n], s, transaction)
+    match abort_tests(mem, s, transaction) {
+        Tested::Failed(x) => Answer::Refused(x),
+        Tested::Passed(at) => {
+            settling::abort(&mut mem[..n], s, at);
+            Answer::Done
+        }
+    }
 }

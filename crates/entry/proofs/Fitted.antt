@@ -18,17 +18,15 @@ use Rattle.loops.specs.declared.Found.{Found}
 use Rattle.history.specs.History.{rangeOf, noColumn, noRange}
 use Rattle.facts.specs.Facts.{linksHold, rowLinked, rangeLinked, recordLinked, pagesPlaced, pagePlaced}
 use Rattle.facts.specs.Usable.{storedShape, storedSizes}
-use Rattle.facts.specs.declared.Checked.{Checked}
-use Rattle.facts.specs.declared.Checked.the-variants.{Fit}
-use Rattle.facts.specs.Tests.{MemoryFacts, Passed, Safe}
+use Rattle.facts.specs.Tests.{MemoryFacts, Passed}
 use Rattle.facts.proofs.Each.{each-tells}
 use Rattle.facts.proofs.Ready.{stored}
 use Rattle.facts.proofs.Usable.{link-tells, placed-tells}
-use Rattle.model.specs.Stored.{slot}
+use Rattle.model.specs.Stored.{slot, pageIn, placesOf}
 use Rattle.model.specs.Calls.{notGivenIn}
-use Rattle.model.specs.Asked.{shapeIn, Linked}
+use Rattle.model.specs.Asked.{shapeIn, Linked, Placed}
 use Rattle.rows.proofs.Cases.{found-at, found-nothing}
-use Rattle.entry.specs.Fitted.{Fitted}
+use Rattle.entry.specs.Entered.{Fitted}
 use Rattle.entry.specs.Given.{rangeGiven}
 
 module _ (s : Sizes) (v : View) (proper : Proper s) (facts : MemoryFacts s v) where
@@ -53,6 +51,16 @@ module _ (s : Sizes) (v : View) (proper : Proper s) (facts : MemoryFacts s v) wh
   unfolding pagesPlaced
   at-place i h = placed-tells s v i (each-tells (pagePlaced s v) (s .places) (facts .placed) i h)
 
+  placed-of : Placed (shapeIn s) v
+  unfolding pageIn
+  placed-of =
+      let here : (i : ℕ) → i < placesOf (shapeIn s) → i < s .places = λ i b. omega (arith, proper .places-are) in
+      record {
+        inside = λ i b. omega (arith, proper .pages-are, proper .places-are, at-place i (here i b) .0);
+        state = λ i b. at-place i (here i b) .1;
+        place = λ i b. at-place i (here i b) .2;
+      }
+
 pub fit-tells : (s : Sizes) (m : List ℕ) → Passed s m → Fitted s m
 unfolding storedSizes
 fit-tells s m x =
@@ -65,6 +73,7 @@ fit-tells s m x =
       proper = proper;
       linked = linked-of s v proper (x .facts);
       pooled = λ i h. (at-place s v proper (x .facts) i h) .0;
+      placed = placed-of s v proper (x .facts);
       transactions-to = k .transactions-to;
       scans-to = k .scans-to;
     }
@@ -90,8 +99,3 @@ column-tells s c e = leb-false (s .columns) c e
 pub range-tells : (s : Sizes) (g : ℕ) → noRange (shapeIn s) g ≡ false → g < s .ranges
 unfolding noRange
 range-tells s g e = leb-false (s .ranges) g e
-
--- ---- what the answer of `facts::check` gives
-
-pub fitted : (f : Checked) (s : Sizes) (m : List ℕ) → f ≡ Fit s → Safe f m → Fitted s m
-fitted f s m e x = fit-tells s m (rw e at x)

@@ -1,4 +1,4 @@
--- From the test of the memory to what the calls rely on, and from the model's answer to the promised one.
+-- From the test of the memory to what the calls rely on, and from the answers of the tests to what a call promises.
 pub mod Fitted
-pub mod Promised
 pub mod Scans
+pub mod Served

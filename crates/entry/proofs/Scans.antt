@@ -1,5 +1,5 @@
 -- The search of a scan in the table, in the model's terms: whether the scan is open, where it stands in the list, and its entry.
-use Prim.Native.Nat.{ℕ, suc, _≤_}
+use Prim.Native.Nat.{ℕ, suc, _≤_, _<_}
 use mathlib.Core.Path.{_≡_, refl, ap, sym, _∙_}
 use mathlib.Core.Bool.{Bool, true, false, cond, _||_}
 use mathlib.Core.List.{List, [], _∷_}
@@ -10,8 +10,11 @@ use borrow.Author.Tests.{eq-eqb}
 use Rattle.terms.specs.Measures.{mostScans}
 use Rattle.terms.specs.declared.Place.{Place}
 use Rattle.loops.specs.declared.Found.the-variants.{At, Nothing}
+use Rattle.loops.specs.declared.Found.{Found}
 use Rattle.loops.specs.Search.{firstAt}
+use Rattle.loops.proofs.Search.{first-at}
 use Rattle.history.specs.History.{any}
+use Rattle.scans.specs.declared.Scans.{Scans}
 use Rattle.scans.specs.Places.{openCount}
 use Rattle.scans.specs.Table.{tableOf, findIn}
 use Rattle.scans.proofs.Answers.{table-finds, table-lacks}
@@ -81,3 +84,19 @@ module _ (k : ℕ) where
     pub scan-number : (j : ℕ) → findIn (tableOf ps) k ≡ At j → k ≡ scanPlace ps k .number
     unfolding scanPlace
     scan-number j e = sym (table-finds ps few k j e .number-is)
+
+-- ---- a table and the list that it stands for
+
+module _ (t : Scans) where
+  -- a scan is found in the one as in the other
+  pub in-table : (ps : List Place) → t ≡ tableOf ps → (k : ℕ) (f : Found) → findIn t k ≡ f → findIn (tableOf ps) k ≡ f
+  in-table ps q k f g = ap (λ (x : Scans). findIn x k) (sym q) ∙ g
+
+  -- a scan that was found is an entry of the table
+  pub entry-in : (k j : ℕ) → findIn t k ≡ At j → j < length (t .numbers)
+  unfolding findIn
+  entry-in k j e = go (eqb k 0) e
+    where
+      go : (b : Bool) → cond b Nothing (firstAt k 0 (t .numbers)) ≡ At j → j < length (t .numbers)
+      go true q = let z : _≡_ {A = ℕ} 0 1 = cc in absurd (omega arith)
+      go false q = first-at k j (t .numbers) q .0

@@ -1,3 +1,4 @@
--- What a memory that passed the test gives a call.
-pub mod Fitted
+-- What every call begins with: what a memory that passed the test gives, and what a call's own tests tell.
+pub mod Entered
 pub mod Given
+pub mod Tested

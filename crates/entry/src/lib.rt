@@ -1,12 +1,17 @@
-// What every call begins with. The test of the lent memory tells all that the functions behind it ask for (specs/, proofs/); the conditions here are those of
-// document 01, "What a refused call returns", that look at the header and the measures alone.
+// What every call begins with: the test of the lent memory and of the scan list, and what the call's own tests find. The conditions here are those of document
+// 01, "What a refused call returns", that look at the header and the measures alone. What follows for a whole call is in specs/ and proofs/.
+use facts::Checked;
+use facts::check;
 use layout::HEADER_ROWS;
 use layout::HEADER_STAMP;
 use layout::Region;
 use layout::Sizes;
+use layout::words_needed;
 use loops::Found;
 use regions::read;
 use rows::range_of;
+use scans::Scans;
+use terms::Refusal;
 use terms::Row;
 use terms::Stamp;
 ghost use mathlib.Core.Path.{_≡_};
@@ -18,7 +23,30 @@ ghost use Rattle.layout.specs.View.{view, lastStamp};
 ghost use Rattle.history.specs.History.{noColumn, noRange};
 ghost use Rattle.model.specs.Calls.{notLaterIn, laterIn};
 ghost use Rattle.model.specs.Asked.{shapeIn};
+ghost use Rattle.entry.specs.Entered.{Enters};
 ghost use Rattle.entry.specs.Given.{rangeGiven};
+
+// What the test of the lent memory and scan list finds: the store's sizes and the number of bytes that they need, or that the memory is not usable.
+pub enum Entry {
+    Fit(Sizes, usize),
+    Unfit,
+}
+
+// What the tests of a call find: the index that it goes by (of a transaction, a free page, a range), or why the call is refused.
+pub enum Tested {
+    Passed(usize),
+    Failed(Refusal),
+}
+
+// The test of a memory and of the scan list that a table stands for.
+pub fn enter(mem: &[u8], t: Scans) -> Entry
+    ensures { λ r. ⌜ Enters r (now (mem .entry)) t ⌝ }
+{
+    let Checked::Fit(s) = check(mem, t) else {
+        return Entry::Unfit;
+    };
+    Entry::Fit(s, words_needed(s) * 4)
+}
 
 // The stamp of the last commit.
 pub fn last_stamp(mem: &[u8], s: Sizes) -> Stamp

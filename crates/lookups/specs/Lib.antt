@@ -1,2 +1,2 @@
--- What the functions behind the reading calls answer.
+-- What the tests of the reading calls share and find.
 pub mod Lookups

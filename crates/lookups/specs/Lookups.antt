@@ -1,52 +1,35 @@
--- What the functions behind the reading calls answer: the tests that several calls share, and the entry of a scan.
-use Prim.Native.Nat.{ℕ, _≤_}
+-- What the tests of the reading calls share and find.
+use Prim.Native.Nat.{ℕ, _≤_, _<_}
 use mathlib.Core.Path.{_≡_}
-use mathlib.Core.Bool.{cond}
 use mathlib.Core.List.{List, [], _∷_}
 use Rattle.terms.specs.Measures.{Shape, mostScans}
 use Rattle.terms.specs.declared.Place.{Place}
 use Rattle.terms.specs.declared.Refusal.{Refusal}
-use Rattle.terms.specs.declared.Answer.{Answer}
-use Rattle.words.specs.Words.{words}
+use Rattle.loops.specs.declared.Found.{Found}
 use Rattle.layout.specs.declared.Sizes.{Sizes}
-use Rattle.layout.specs.View.{View, view}
-use Rattle.history.specs.History.{Call, _when_, verdict, answerIf, noColumn, rangeOf}
+use Rattle.layout.specs.View.{View, rowsGiven}
+use Rattle.history.specs.History.{Test, _when_, noColumn, rangeOf}
 use Rattle.scans.specs.declared.Scans.{Scans}
 use Rattle.scans.specs.Places.{openCount}
-use Rattle.scans.specs.Table.{tableOf}
+use Rattle.scans.specs.Table.{tableOf, findIn}
 use Rattle.model.specs.Stored.{scanPlace}
-use Rattle.model.specs.Reading.{readIn, scanPage, sumIn}
-use Rattle.model.specs.Calls.{notGivenIn, noScanIn, say}
-use Rattle.model.specs.Asked.{shapeIn}
-use Rattle.lookups.specs.declared.Scan.{Scan}
+use Rattle.model.specs.Calls.{notGivenIn}
 
--- a row and then a column are tested, and if both pass the answer is a
-unfoldable pub afterRow : Shape → View → ℕ → ℕ → Answer → Answer
-afterRow S v r c a = answerIf (verdict (Refusal.Row when notGivenIn v r ∷ Refusal.Column when noColumn S c ∷ [])) a
+-- a row and then a column are there
+abbrev pub rowTests : Shape → View → ℕ → ℕ → List Test
+rowTests S v r c = Refusal.Row when notGivenIn v r ∷ Refusal.Column when noColumn S c ∷ []
 
-unfoldable pub afterColumn : Shape → ℕ → Answer → Answer
-afterColumn S c a = answerIf (verdict (Refusal.Column when noColumn S c ∷ [])) a
+-- row r is given, and column c is one of the store's
+pub record CellThere (s : Sizes) (v : View) (r c : ℕ) : Type 0 where
+  pub given : r < rowsGiven v
+  pub range-below : rangeOf r < s .ranges
+  pub column-below : c < s .columns
 
--- what the scan at place p reads of a row and column, and what it sums of a column
-unfoldable pub scanReads : Shape → View → ℕ → ℕ → Place → Answer
-scanReads S v r c p = afterRow S v r c (readIn S v (p .stamp) 0 (scanPage S v (p .merges) (rangeOf r) c) r c)
+-- entry j of the table is that of scan k
+pub record ScanAt (t : Scans) (k j : ℕ) : Type 0 where
+  pub below : j < mostScans
+  pub found : findIn t k ≡ Found.At j
 
-unfoldable pub scanSums : Shape → View → ℕ → Place → Answer
-scanSums S v c p = afterColumn S c (sumIn S v p c)
-
--- the answer by the entry of a scan
-unfoldable pub scanAnswer : Scan → (Place → Answer) → Answer
-scanAnswer (Scan.Running p) f = f p
-scanAnswer Scan.Missing f = Answer.Refused Refusal.Scan
-
--- scan k of a list
-unfoldable pub scanIn : List Place → ℕ → Scan
-scanIn ps k = cond (noScanIn ps k) Scan.Missing (Scan.Running (scanPlace ps k))
-
--- what is found in a table is what stands in every list that it stands for and that a usable store may have
-unfoldable pub Finds : Scans → ℕ → Scan → Type 0
-Finds t k r = (ps : List Place) → t ≡ tableOf ps → openCount ps ≤ mostScans → r ≡ scanIn ps k
-
--- answer r is the model's, whatever the scan list
-unfoldable pub SaysAlways : Sizes → List ℕ → Call → Answer → Type 0
-SaysAlways s m c r = (ps : List Place) → r ≡ say (shapeIn s) (view s (words m)) ps c
+-- p is the place of scan k in every list that the table stands for and that a usable store may have, if entry j is that of scan k
+abbrev pub IsScan : Scans → ℕ → ℕ → Place → Type 0
+IsScan t k j p = findIn t k ≡ Found.At j → (ps : List Place) → t ≡ tableOf ps → openCount ps ≤ mostScans → p ≡ scanPlace ps k

@@ -1,14 +1,15 @@
-// The calls that only read, over the lent memory and the table of the lent scan list: latest, read at, own read, scan read, sum, page cell and lineage.
-// None asks anything of its caller: the memory is tested first, and a function that is handed a fitted memory makes the call's tests in document 01's order.
+// The calls that only read, over the lent memory and the table of the lent scan list: latest, read at, own read, scan read, sum, page cell and lineage. Each call is
+// the test of memory and list, the call's own tests in document 01's order, and then the function that reads.
 use conditions::open_place;
 use conditions::own_changes;
+use entry::Entry;
+use entry::Tested;
+use entry::enter;
 use entry::given_range;
 use entry::last_stamp;
 use entry::later;
 use entry::no_column;
 use entry::no_range;
-use facts::Checked;
-use facts::check;
 use layout::Region;
 use layout::Sizes;
 use loops::Found;
@@ -18,6 +19,7 @@ use reading::read_current;
 use reading::read_row;
 use regions::read;
 use rows::Reader;
+use rows::range_of;
 use scans::Scans;
 use scans::find_scan;
 use summing::scan_page;
@@ -30,231 +32,259 @@ use terms::Stamp;
 use terms::Transaction;
 use words::of_word;
 ghost use mathlib.Core.Path.{_≡_};
+ghost use mathlib.Core.List.{List};
+ghost use Prim.Native.Nat.{ℕ, _<_};
+ghost use Rattle.terms.specs.Measures.{mostScans};
 ghost use Rattle.words.specs.Words.{words};
 ghost use Rattle.layout.specs.View.{view};
-ghost use Rattle.history.specs.History.{latest, readAt, ownRead, scanRead, sum, pageCell, lineage};
-ghost use Rattle.model.specs.Asked.{shapeIn};
-ghost use Rattle.model.specs.Reading.{readCurrent};
-ghost use Rattle.promise.specs.Promise.{Answers};
-ghost use Rattle.entry.specs.Fitted.{Fitted};
-ghost use Rattle.lookups.specs.Lookups.{afterRow, scanReads, scanSums, scanAnswer, Finds, SaysAlways};
+ghost use Rattle.history.specs.History.{Call, verdict, rangeOf};
+ghost use Rattle.model.specs.Asked.{shapeIn, OpenAt};
+ghost use Rattle.promise.specs.Promise.{ServesBy, kept};
+ghost use Rattle.entry.specs.Entered.{Fitted};
+ghost use Rattle.entry.specs.Tested.{Says, Finds, Tests, TestsBy};
+ghost use Rattle.lookups.specs.Lookups.{rowTests, CellThere, ScanAt, IsScan};
 
-// A scan by its number: its entry, or that no open scan bears it.
-pub enum Scan {
-    Running(Place),
-    Missing,
-}
+// ---- latest, read at, own read
 
-// What a reader reads on the current page, once the row and the column are there.
-fn read_latest_page(mem: &[u8], s: Sizes, who: Reader, row: Row, column: u32) -> Answer
+// The tests of a row and a column, which several calls share; where they are passed, the row's range.
+fn row_tests(mem: &[u8], s: Sizes, row: Row, column: u32) -> Tested
     requires { ⌜ Fitted s (now mem) ⌝ }
-    ensures { λ r. ⌜ r ≡ afterRow (shapeIn s) (view s (words (now (mem .entry)))) (row .0) column (readCurrent (shapeIn s) (view s (words (now (mem .entry)))) (who .stamp .0) (who .me .0) (row .0) column) ⌝ }
+    ensures { λ r. ⌜ Says r (verdict (rowTests (shapeIn s) (view s (words (now (mem .entry)))) (row .0) column)) ⌝ }
+    ensures { λ r. ⌜ Finds r (λ g. CellThere s (view s (words (now (mem .entry)))) (row .0) column) ⌝ }
 {
-    let Found::At(_) = given_range(mem, s, row) else {
-        return Answer::Refused(Refusal::Row);
+    let Found::At(g) = given_range(mem, s, row) else {
+        return Tested::Failed(Refusal::Row);
     };
     if no_column(s, column) {
-        return Answer::Refused(Refusal::Column);
+        return Tested::Failed(Refusal::Column);
     }
-    read_current(mem, s, who, row, column)
-}
-
-fn latest_in(mem: &[u8], s: Sizes, row: Row, column: u32) -> Answer
-    requires { ⌜ Fitted s (now mem) ⌝ }
-    ensures { λ r. ⌜ SaysAlways s (now (mem .entry)) (latest (row .0) column) r ⌝ }
-{
-    let who = Reader {
-        stamp: last_stamp(mem, s),
-        me: Transaction(0),
-    };
-    read_latest_page(mem, s, who, row, column)
+    Tested::Passed(g)
 }
 
 // The value of a row and column by the last commit.
 pub fn latest(mem: &[u8], t: Scans, row: Row, column: u32) -> Answer
-    ensures { λ r. ⌜ Answers (now (mem .entry)) t (latest (row .0) column) r ⌝ }
+    ensures { λ r. ⌜ ServesBy t (now (mem .entry)) (Call.latest (row .0) column) r (now (mem .entry)) kept ⌝ }
 {
-    let Checked::Fit(s) = check(mem, t) else {
+    let Entry::Fit(s, _) = enter(mem, t) else {
         return Answer::Refused(Refusal::Memory);
     };
-    latest_in(mem, s, row, column)
+    match row_tests(mem, s, row, column) {
+        Tested::Failed(x) => Answer::Refused(x),
+        Tested::Passed(_) => {
+            let who = Reader {
+                stamp: last_stamp(mem, s),
+                me: Transaction(0),
+            };
+            read_current(mem, s, who, row, column)
+        }
+    }
 }
 
-fn read_at_in(mem: &[u8], s: Sizes, stamp: Stamp, row: Row, column: u32) -> Answer
+fn read_at_tests(mem: &[u8], s: Sizes, stamp: Stamp, row: Row, column: u32) -> Tested
     requires { ⌜ Fitted s (now mem) ⌝ }
-    ensures { λ r. ⌜ SaysAlways s (now (mem .entry)) (readAt (stamp .0) (row .0) column) r ⌝ }
+    ensures { λ r. ⌜ Tests s (now (mem .entry)) (Call.readAt (stamp .0) (row .0) column) r ⌝ }
+    ensures { λ r. ⌜ Finds r (λ g. CellThere s (view s (words (now (mem .entry)))) (row .0) column) ⌝ }
 {
     if later(mem, s, stamp) {
-        return Answer::Refused(Refusal::Time);
+        return Tested::Failed(Refusal::Time);
     }
-    let who = Reader {
-        stamp: stamp,
-        me: Transaction(0),
-    };
-    read_latest_page(mem, s, who, row, column)
+    row_tests(mem, s, row, column)
 }
 
 // The value of a row and column at a stamp.
 pub fn read_at(mem: &[u8], t: Scans, stamp: Stamp, row: Row, column: u32) -> Answer
-    ensures { λ r. ⌜ Answers (now (mem .entry)) t (readAt (stamp .0) (row .0) column) r ⌝ }
+    ensures { λ r. ⌜ ServesBy t (now (mem .entry)) (Call.readAt (stamp .0) (row .0) column) r (now (mem .entry)) kept ⌝ }
 {
-    let Checked::Fit(s) = check(mem, t) else {
+    let Entry::Fit(s, _) = enter(mem, t) else {
         return Answer::Refused(Refusal::Memory);
     };
-    read_at_in(mem, s, stamp, row, column)
+    match read_at_tests(mem, s, stamp, row, column) {
+        Tested::Failed(x) => Answer::Refused(x),
+        Tested::Passed(_) => {
+            let who = Reader {
+                stamp: stamp,
+                me: Transaction(0),
+            };
+            read_current(mem, s, who, row, column)
+        }
+    }
 }
 
-fn own_read_in(mem: &[u8], s: Sizes, transaction: Transaction, row: Row, column: u32) -> Answer
+// The tests of own read; where they are passed, the place of the transaction.
+fn own_read_tests(mem: &[u8], s: Sizes, transaction: Transaction, row: Row, column: u32) -> Tested
     requires { ⌜ Fitted s (now mem) ⌝ }
-    ensures { λ r. ⌜ SaysAlways s (now (mem .entry)) (ownRead (transaction .0) (row .0) column) r ⌝ }
+    ensures { λ r. ⌜ Tests s (now (mem .entry)) (Call.ownRead (transaction .0) (row .0) column) r ⌝ }
+    ensures { λ r. ⌜ Finds r (λ at. OpenAt (view s (words (now (mem .entry)))) (transaction .0) at × CellThere s (view s (words (now (mem .entry)))) (row .0) column) ⌝ }
 {
-    let Found::At(place) = open_place(mem, s, transaction) else {
-        return Answer::Refused(Refusal::Transaction);
+    let Found::At(at) = open_place(mem, s, transaction) else {
+        return Tested::Failed(Refusal::Transaction);
     };
-    let who = Reader {
-        stamp: last_stamp(mem, s),
-        me: own_changes(mem, s, place),
-    };
-    read_latest_page(mem, s, who, row, column)
+    match row_tests(mem, s, row, column) {
+        Tested::Failed(x) => Tested::Failed(x),
+        Tested::Passed(_) => Tested::Passed(at),
+    }
 }
 
 // The value of a row and column for an open transaction, its own changes among what it sees.
 pub fn own_read(mem: &[u8], t: Scans, transaction: Transaction, row: Row, column: u32) -> Answer
-    ensures { λ r. ⌜ Answers (now (mem .entry)) t (ownRead (transaction .0) (row .0) column) r ⌝ }
+    ensures { λ r. ⌜ ServesBy t (now (mem .entry)) (Call.ownRead (transaction .0) (row .0) column) r (now (mem .entry)) kept ⌝ }
 {
-    let Checked::Fit(s) = check(mem, t) else {
+    let Entry::Fit(s, _) = enter(mem, t) else {
         return Answer::Refused(Refusal::Memory);
     };
-    own_read_in(mem, s, transaction, row, column)
+    match own_read_tests(mem, s, transaction, row, column) {
+        Tested::Failed(x) => Answer::Refused(x),
+        Tested::Passed(at) => {
+            let who = Reader {
+                stamp: last_stamp(mem, s),
+                me: own_changes(mem, s, at),
+            };
+            read_current(mem, s, who, row, column)
+        }
+    }
 }
 
-// The open scan of a number, as the table has it.
-fn scan_of(t: Scans, scan: u32) -> Scan
-    ensures { λ r. ⌜ Finds t scan r ⌝ }
+// ---- scan read and sum
+
+// The open scan at entry j of the table.
+fn scan_at(t: Scans, j: usize, scan: u32) -> Place
+    requires { ⌜ j < mostScans ⌝ }
+    ensures { λ r. ⌜ IsScan t scan j r ⌝ }
 {
-    let Found::At(j) = find_scan(t, scan) else {
-        return Scan::Missing;
-    };
     let stamps = t.stamps;
     let merges = t.merges;
-    Scan::Running(Place {
+    Place {
         number: scan,
         stamp: stamps[j],
         merges: merges[j],
-    })
-}
-
-// What a scan reads on the page that was current at its opening, once the row and the column are there.
-fn read_old_page(mem: &[u8], s: Sizes, scan: Place, row: Row, column: u32) -> Answer
-    requires { ⌜ Fitted s (now mem) ⌝ }
-    ensures { λ r. ⌜ r ≡ scanReads (shapeIn s) (view s (words (now (mem .entry)))) (row .0) column scan ⌝ }
-{
-    let Found::At(g) = given_range(mem, s, row) else {
-        return Answer::Refused(Refusal::Row);
-    };
-    if no_column(s, column) {
-        return Answer::Refused(Refusal::Column);
     }
-    let merges = scan.merges;
-    let page = scan_page(mem, s, merges, g, column);
-    let who = Reader {
-        stamp: Stamp(scan.stamp),
-        me: Transaction(0),
-    };
-    read_row(mem, s, who, page, row, column)
 }
 
-fn scan_read_in(mem: &[u8], s: Sizes, found: Scan, row: Row, column: u32) -> Answer
+// The tests of scan read; where they are passed, the scan's entry in the table.
+fn scan_read_tests(mem: &[u8], s: Sizes, t: Scans, scan: u32, row: Row, column: u32) -> Tested
     requires { ⌜ Fitted s (now mem) ⌝ }
-    ensures { λ r. ⌜ r ≡ scanAnswer found (scanReads (shapeIn s) (view s (words (now (mem .entry)))) (row .0) column) ⌝ }
+    ensures { λ r. ⌜ TestsBy t s (now (mem .entry)) (Call.scanRead scan (row .0) column) r ⌝ }
+    ensures { λ r. ⌜ Finds r (λ j. ScanAt t scan j × CellThere s (view s (words (now (mem .entry)))) (row .0) column) ⌝ }
 {
-    let Scan::Running(scan) = found else {
-        return Answer::Refused(Refusal::Scan);
+    let Found::At(j) = find_scan(t, scan) else {
+        return Tested::Failed(Refusal::Scan);
     };
-    read_old_page(mem, s, scan, row, column)
+    match row_tests(mem, s, row, column) {
+        Tested::Failed(x) => Tested::Failed(x),
+        Tested::Passed(_) => Tested::Passed(j),
+    }
 }
 
-// The value of a row and column for an open scan.
+// The value of a row and column for an open scan, on the page that was current at its opening.
 pub fn scan_read(mem: &[u8], t: Scans, scan: u32, row: Row, column: u32) -> Answer
-    ensures { λ r. ⌜ Answers (now (mem .entry)) t (scanRead scan (row .0) column) r ⌝ }
+    ensures { λ r. ⌜ ServesBy t (now (mem .entry)) (Call.scanRead scan (row .0) column) r (now (mem .entry)) kept ⌝ }
 {
-    let Checked::Fit(s) = check(mem, t) else {
+    let Entry::Fit(s, _) = enter(mem, t) else {
         return Answer::Refused(Refusal::Memory);
     };
-    scan_read_in(mem, s, scan_of(t, scan), row, column)
+    match scan_read_tests(mem, s, t, scan, row, column) {
+        Tested::Failed(x) => Answer::Refused(x),
+        Tested::Passed(j) => {
+            let found = scan_at(t, j, scan);
+            let page = scan_page(mem, s, found.merges, range_of(row), column);
+            let who = Reader {
+                stamp: Stamp(found.stamp),
+                me: Transaction(0),
+            };
+            read_row(mem, s, who, page, row, column)
+        }
+    }
 }
 
-fn sum_in(mem: &[u8], s: Sizes, found: Scan, column: u32) -> Answer
-    requires { ⌜ Fitted s (now mem) ⌝ }
-    ensures { λ r. ⌜ r ≡ scanAnswer found (scanSums (shapeIn s) (view s (words (now (mem .entry)))) column) ⌝ }
+// The tests of sum; where they are passed, the scan's entry in the table.
+fn sum_tests(s: Sizes, t: Scans, scan: u32, column: u32) -> Tested
+    ensures { λ r. ⌜ ((m : List ℕ) → TestsBy t s m (Call.sum scan column) r) ⌝ }
+    ensures { λ r. ⌜ Finds r (λ j. ScanAt t scan j × (column < s .columns)) ⌝ }
 {
-    let Scan::Running(scan) = found else {
-        return Answer::Refused(Refusal::Scan);
+    let Found::At(j) = find_scan(t, scan) else {
+        return Tested::Failed(Refusal::Scan);
     };
     if no_column(s, column) {
-        return Answer::Refused(Refusal::Column);
+        return Tested::Failed(Refusal::Column);
     }
-    sum_rows(mem, s, scan, column)
+    Tested::Passed(j)
 }
 
 // The count of the rows that an open scan sees, and the sum of their values of a column.
 pub fn sum(mem: &[u8], t: Scans, scan: u32, column: u32) -> Answer
-    ensures { λ r. ⌜ Answers (now (mem .entry)) t (sum scan column) r ⌝ }
+    ensures { λ r. ⌜ ServesBy t (now (mem .entry)) (Call.sum scan column) r (now (mem .entry)) kept ⌝ }
 {
-    let Checked::Fit(s) = check(mem, t) else {
+    let Entry::Fit(s, _) = enter(mem, t) else {
         return Answer::Refused(Refusal::Memory);
     };
-    sum_in(mem, s, scan_of(t, scan), column)
+    match sum_tests(s, t, scan, column) {
+        Tested::Failed(x) => Answer::Refused(x),
+        Tested::Passed(j) => sum_rows(mem, s, scan_at(t, j, scan), column),
+    }
 }
 
-fn page_cell_in(mem: &[u8], s: Sizes, column: u32, row: Row) -> Answer
+// ---- page cell and lineage
+
+// The tests of page cell; where they are passed, the row's range.
+fn page_cell_tests(mem: &[u8], s: Sizes, column: u32, row: Row) -> Tested
     requires { ⌜ Fitted s (now mem) ⌝ }
-    ensures { λ r. ⌜ SaysAlways s (now (mem .entry)) (pageCell column (row .0)) r ⌝ }
+    ensures { λ r. ⌜ Tests s (now (mem .entry)) (Call.pageCell column (row .0)) r ⌝ }
+    ensures { λ r. ⌜ Finds r (λ g. (g ≡ rangeOf (row .0)) × CellThere s (view s (words (now (mem .entry)))) (row .0) column) ⌝ }
 {
     if no_column(s, column) {
-        return Answer::Refused(Refusal::Column);
+        return Tested::Failed(Refusal::Column);
     }
     let Found::At(g) = given_range(mem, s, row) else {
-        return Answer::Refused(Refusal::Row);
+        return Tested::Failed(Refusal::Row);
     };
-    let page = current_page(mem, s, g, column);
-    Answer::Value(of_word(cell(mem, s, page, row)))
+    Tested::Passed(g)
 }
 
 // What the current page of a column holds for a row.
 pub fn page_cell(mem: &[u8], t: Scans, column: u32, row: Row) -> Answer
-    ensures { λ r. ⌜ Answers (now (mem .entry)) t (pageCell column (row .0)) r ⌝ }
+    ensures { λ r. ⌜ ServesBy t (now (mem .entry)) (Call.pageCell column (row .0)) r (now (mem .entry)) kept ⌝ }
 {
-    let Checked::Fit(s) = check(mem, t) else {
+    let Entry::Fit(s, _) = enter(mem, t) else {
         return Answer::Refused(Refusal::Memory);
     };
-    page_cell_in(mem, s, column, row)
+    match page_cell_tests(mem, s, column, row) {
+        Tested::Failed(x) => Answer::Refused(x),
+        Tested::Passed(g) => {
+            let page = current_page(mem, s, g, column);
+            Answer::Value(of_word(cell(mem, s, page, row)))
+        }
+    }
 }
 
-fn lineage_in(mem: &[u8], s: Sizes, range: u32, column: u32) -> Answer
-    requires { ⌜ Fitted s (now mem) ⌝ }
-    ensures { λ r. ⌜ SaysAlways s (now (mem .entry)) (lineage range column) r ⌝ }
+// The tests of lineage; where they are passed, the range.
+fn lineage_tests(s: Sizes, range: u32, column: u32) -> Tested
+    ensures { λ r. ⌜ ((m : List ℕ) → Tests s m (Call.lineage range column) r) ⌝ }
+    ensures { λ r. ⌜ Finds r (λ g. (g ≡ range) × (g < s .ranges) × (column < s .columns)) ⌝ }
 {
     if no_range(s, range) {
-        return Answer::Refused(Refusal::Range);
+        return Tested::Failed(Refusal::Range);
     }
     if no_column(s, column) {
-        return Answer::Refused(Refusal::Column);
+        return Tested::Failed(Refusal::Column);
     }
-    let g = range as usize;
-    let page = current_page(mem, s, g, column);
-    Answer::Lineage(
-        read(mem, s, Region::PageLineage, page),
-        read(mem, s, Region::Used, g),
-    )
+    Tested::Passed(range as usize)
 }
 
 // The record through which the current page of a range and column is merged, and the records used of the range.
 pub fn lineage(mem: &[u8], t: Scans, range: u32, column: u32) -> Answer
-    ensures { λ r. ⌜ Answers (now (mem .entry)) t (lineage range column) r ⌝ }
+    ensures { λ r. ⌜ ServesBy t (now (mem .entry)) (Call.lineage range column) r (now (mem .entry)) kept ⌝ }
 {
-    let Checked::Fit(s) = check(mem, t) else {
+    let Entry::Fit(s, _) = enter(mem, t) else {
         return Answer::Refused(Refusal::Memory);
     };
-    lineage_in(mem, s, range, column)
+    match lineage_tests(s, range, column) {
+        Tested::Failed(x) => Answer::Refused(x),
+        Tested::Passed(g) => {
+            let page = current_page(mem, s, g, column);
+            Answer::Lineage(
+                read(mem, s, Region::PageLineage, page),
+                read(mem, s, Region::Used, g),
+            )
+        }
+    }
 }

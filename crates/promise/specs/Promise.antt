@@ -34,11 +34,16 @@ unfoldable pub answersOf : List ℕ → List Place → List Call → List Answer
 answersOf m ps [] = []
 answersOf m ps (c ∷ cs) = answerOf m ps c ∷ answersOf (memoryAfter m ps c) (listAfter m ps c) cs
 
--- ---- the contracts. The code takes the scan list as a table of it, by value; what a call promises holds for every list that the table stands for.
--- a call that only reads answers
-unfoldable pub Answers : List ℕ → Scans → Call → Answer → Type 0
-Answers m t c r = (ps : List Place) → t ≡ tableOf ps → r ≡ answerOf m ps c
+-- ---- what a call promises
+-- a call over the memory m and the list ps answers r, and leaves the memory m′ and the list ps′
+unfoldable pub Serves : List ℕ → List Place → Call → Answer → List ℕ → List Place → Type 0
+Serves m ps c r m′ ps′ = (r ≡ answerOf m ps c) × (m′ ≡ memoryAfter m ps c) × (ps′ ≡ listAfter m ps c)
 
--- a call that leaves the list as it is answers and leaves a memory
-unfoldable pub Leaves : List ℕ → Scans → Call → Answer → List ℕ → Type 0
-Leaves m t c r m′ = (ps : List Place) → t ≡ tableOf ps → (r ≡ answerOf m ps c) × (m′ ≡ memoryAfter m ps c)
+-- The code behind a call takes the scan list as a table of it, by value: it serves the call for every list that the table stands for, and `next` is what becomes
+-- of that list.
+unfoldable pub ServesBy : Scans → List ℕ → Call → Answer → List ℕ → (List Place → List Place) → Type 0
+ServesBy t m c r m′ next = (ps : List Place) → t ≡ tableOf ps → Serves m ps c r m′ (next ps)
+
+-- a list that is left as it is
+abbrev pub kept : List Place → List Place
+kept ps = ps

@@ -74,46 +74,6 @@ module _ (v : View) (g low n used : ℕ) (e : used ≡ usedIn v g) where
   pub in-reach : low < n → n ≤ used → (leb n low || ltb (usedIn v g) n) ≡ false
   in-reach l h = rw (← e, lt-leb n low l, le-ltb used n h)
 
--- ---- what a merge relies on
-pub all-placed : (s : Sizes) (m : List ℕ) → Proper s → MemoryFacts s (view s (words m)) → Placed (shapeIn s) (view s (words m))
-unfolding pageIn pagesPlaced
-all-placed s m p f =
-    record {
-      inside = λ i b. omega (arith, pages s v p, each i b .0);
-      state = λ i b. each i b .1;
-      place = λ i b. each i b .2;
-    }
-  where
-    v : View
-    v = view s (words m)
-
-    each : (i : ℕ) → i < placesOf (shapeIn s)
-        → (getD (v Region.Current) i 0 < s .pages) × (getD (v Region.PageState) (getD (v Region.Current) i 0) 0 ≡ 1) × (getD (v Region.PagePlace) (getD (v Region.Current) i 0) 0 ≡ i)
-    each i b = let c : i < s .places = omega (arith, p .places-are) in placed-tells s v i (each-tells (pagePlaced s v) (s .places) (f .placed) i c)
-
-or-off : (a b : Bool) → (a || b) ≡ false → (a ≡ false) × (b ≡ false)
-or-off true b e = let z : _≡_ {A = ℕ} 0 1 = cc in absurd (omega arith)
-or-off false b e = (refl, e)
-
-pub mergeable : (s : Sizes) (v : View) (g c n page : ℕ) → Linked s v → Placed (shapeIn s) v
-    → verdict (testsIn (shapeIn s) v [] (Call.merge g c n)) ≡ accept → page ≡ freeIn (shapeIn s) v → page < s .pages → Mergeable s v g c n page
-unfolding testsIn outOfReachIn
-mergeable s v g c n page l k e q h =
-    let p = passed (testsIn (shapeIn s) v [] (Call.merge g c n)) e in
-    let low : ℕ = (pageIn v (currentIn (shapeIn s) v g c)) .lineage in
-    let gb = range-tells s g (is-false (noRange (shapeIn s) g) (p .0)) in
-    let cb = column-tells s c (is-false (noColumn (shapeIn s) c) (p .1 .0)) in
-    let r = or-off (leb n low) (ltb (usedIn v g) n) (is-false (leb n low || ltb (usedIn v g) n) (p .1 .1 .0)) in
-    record {
-      range-below = gb;
-      column-below = cb;
-      from = omega (arith, leb-false n low (r .0));
-      to = omega (arith, ltb-false (usedIn v g) n (r .1), l .used-few g gb);
-      free = q;
-      page-below = h;
-      placed = k;
-    }
-
 -- ---- a table of a list has at most as many entries as it has room for
 pub table-few : (t : Scans) (ps : List Place) → t ≡ tableOf ps → t .count ≤ mostScans
 unfolding tableOf

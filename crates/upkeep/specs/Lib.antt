@@ -1,2 +1,2 @@
--- What the calls on the scan list promise, and what a merge relies on.
+-- What the calls on the scan list leave of it, and the last tests of a merge.
 pub mod Lists

@@ -1,19 +1,17 @@
-// The calls that keep the store in order, over a lent memory and the table of the scan list: merge, release, open scan, close scan. A call tests the stored
-// facts, runs its own tests in document 01's order, and only then writes. The scan list itself is not lent here: open and close answer the one place of
+// The calls that keep the store in order, over a lent memory and the table of the scan list: merge, release, open scan, close scan. Each call is the test of memory
+// and list, the call's own tests in document 01's order, and then what it writes. The scan list itself is not lent here: open and close answer the one place of
 // it that changes, and what stands there then.
 use conditions::any_open;
+use entry::Entry;
+use entry::Tested;
+use entry::enter;
 use entry::later;
 use entry::no_column;
 use entry::no_range;
-use facts::Checked;
-use facts::check;
 use layout::HEADER_MERGES;
 use layout::HEADER_SCANS;
 use layout::Region;
 use layout::Sizes;
-use lending::Part;
-use lending::Tested;
-use lending::lend;
 use loops::Found;
 use merging::free_page;
 use regions::read;
@@ -26,26 +24,23 @@ use terms::Refusal;
 use terms::Stamp;
 use terms::Tail;
 ghost use mathlib.Core.Path.{_≡_};
-ghost use mathlib.Core.List.{List, []};
-ghost use Prim.Native.Nat.{_*_, _≤_, _<_};
-ghost use lib.ListN.{length};
-ghost use Rattle.terms.specs.Measures.{mostScans};
-ghost use Rattle.terms.specs.declared.Place.{Place};
+ghost use mathlib.Core.List.{List};
+ghost use Prim.Native.Nat.{ℕ, _<_};
+ghost use Rattle.terms.specs.Measures.{mostNumbers, mostScans};
 ghost use Rattle.terms.specs.declared.Answer.{Answer};
 ghost use Rattle.words.specs.Words.{words};
-ghost use Rattle.layout.specs.Regions.{need};
-ghost use Rattle.layout.specs.View.{view};
-ghost use Rattle.scans.specs.Places.{openCount};
-ghost use Rattle.scans.specs.Table.{tableOf};
+ghost use Rattle.loops.specs.declared.Found.{Found};
+ghost use Rattle.layout.specs.declared.Sizes.{Sizes};
+ghost use Rattle.layout.specs.View.{view, scansGiven};
+ghost use Rattle.scans.specs.Table.{findIn};
 ghost use Rattle.history.specs.History.{Call, verdict};
 ghost use Rattle.model.specs.Stored.{pageIn, currentIn};
-ghost use Rattle.model.specs.Writing.{freeIn};
-ghost use Rattle.model.specs.Calls.{testsIn};
-ghost use Rattle.layout.specs.Sizes.{Proper};
-ghost use Rattle.model.specs.Asked.{shapeIn, Linked, Pooled, Placed};
-ghost use Rattle.promise.specs.Promise.{Leaves};
-ghost use Rattle.lending.specs.Carried.{tested, Below, Carries, CarriesBy};
-ghost use Rattle.upkeep.specs.Lists.{Lists, reachTests, Gives};
+ghost use Rattle.model.specs.Asked.{shapeIn};
+ghost use Rattle.merging.specs.Steps.{Mergeable};
+ghost use Rattle.promise.specs.Promise.{ServesBy, kept};
+ghost use Rattle.entry.specs.Entered.{Fitted};
+ghost use Rattle.entry.specs.Tested.{Says, Finds, Tests, TestsBy};
+ghost use Rattle.upkeep.specs.Lists.{changedAt, reachTests};
 
 // What a call on the scan list leaves: its answer, and the place of the list that becomes `entry`. A place past the list's end changes nothing.
 pub struct Listed {
@@ -61,8 +56,7 @@ const MOST_NUMBERS: u32 = 65535;
 
 // The lineage of the current page of a range and column.
 fn current_lineage(mem: &[u8], s: Sizes, g: usize, c: usize) -> Tail
-    requires { ⌜ need s * 4 ≤ length (now mem) ⌝ }
-    requires { ⌜ Proper s × Pooled s (view s (words (now mem))) ⌝ }
+    requires { ⌜ Fitted s (now mem) ⌝ }
     requires { ⌜ (g < s .ranges) × (c < s .columns) ⌝ }
     ensures { λ r. ⌜ r .0 ≡ (pageIn (view s (words (now (mem .entry)))) (currentIn (shapeIn s) (view s (words (now (mem .entry)))) g c)) .lineage ⌝ }
 {
@@ -70,13 +64,14 @@ fn current_lineage(mem: &[u8], s: Sizes, g: usize, c: usize) -> Tail
     Tail(read(mem, s, Region::PageLineage, page))
 }
 
-// The last tests of a merge of column c of range g: whether `through` is in reach, no record up to it is open, and a page is free.
-fn reach_tests(mem: &[u8], s: Sizes, g: usize, low: Tail, through: Tail) -> Tested
-    requires { ⌜ need s * 4 ≤ length (now mem) ⌝ }
-    requires { ⌜ Proper s × Linked s (view s (words (now mem))) ⌝ }
-    requires { ⌜ g < s .ranges ⌝ }
-    ensures { λ r. ⌜ r ≡ tested (verdict (reachTests (shapeIn s) (view s (words (now (mem .entry)))) g (low .0) (through .0))) (freeIn (shapeIn s) (view s (words (now (mem .entry))))) ⌝ }
-    ensures { λ r. ⌜ Below r (s .pages) ⌝ }
+// The last tests of a merge of column c of range g, whose current page has the lineage `low`: whether `through` is in reach, no record up to it is open, and a page
+// is free.
+fn reach_tests(mem: &[u8], s: Sizes, g: usize, c: usize, low: Tail, through: Tail) -> Tested
+    requires { ⌜ Fitted s (now mem) ⌝ }
+    requires { ⌜ (g < s .ranges) × (c < s .columns) ⌝ }
+    requires { ⌜ low .0 ≡ (pageIn (view s (words (now mem))) (currentIn (shapeIn s) (view s (words (now mem))) g c)) .lineage ⌝ }
+    ensures { λ r. ⌜ Says r (verdict (reachTests (shapeIn s) (view s (words (now (mem .entry)))) g (low .0) (through .0))) ⌝ }
+    ensures { λ r. ⌜ Finds r (Mergeable s (view s (words (now (mem .entry)))) g c (through .0)) ⌝ }
 {
     if through.0 <= low.0 {
         return Tested::Failed(Refusal::Reach);
@@ -93,11 +88,11 @@ fn reach_tests(mem: &[u8], s: Sizes, g: usize, low: Tail, through: Tail) -> Test
     Tested::Passed(page)
 }
 
+// The tests of merge; where they are passed, a free page.
 fn merge_tests(mem: &[u8], s: Sizes, range: u32, column: u32, through: Tail) -> Tested
-    requires { ⌜ need s * 4 ≤ length (now mem) ⌝ }
-    requires { ⌜ Proper s × Linked s (view s (words (now mem))) × Pooled s (view s (words (now mem))) ⌝ }
-    ensures { λ r. ⌜ r ≡ tested (verdict (testsIn (shapeIn s) (view s (words (now (mem .entry)))) [] (Call.merge range column (through .0)))) (freeIn (shapeIn s) (view s (words (now (mem .entry))))) ⌝ }
-    ensures { λ r. ⌜ Below r (s .pages) ⌝ }
+    requires { ⌜ Fitted s (now mem) ⌝ }
+    ensures { λ r. ⌜ Tests s (now (mem .entry)) (Call.merge range column (through .0)) r ⌝ }
+    ensures { λ r. ⌜ Finds r (Mergeable s (view s (words (now (mem .entry)))) range column (through .0)) ⌝ }
 {
     if no_range(s, range) {
         return Tested::Failed(Refusal::Range);
@@ -106,55 +101,40 @@ fn merge_tests(mem: &[u8], s: Sizes, range: u32, column: u32, through: Tail) -> 
         return Tested::Failed(Refusal::Column);
     }
     let g = range as usize;
-    let low = current_lineage(mem, s, g, column as usize);
-    reach_tests(mem, s, g, low, through)
+    let c = column as usize;
+    let low = current_lineage(mem, s, g, c);
+    reach_tests(mem, s, g, c, low, through)
 }
 
-fn merge_in(mem: &mut [u8], s: Sizes, range: u32, column: u32, through: Tail) -> Answer
-    requires { ⌜ need s * 4 ≤ length (now mem) ⌝ }
-    requires { ⌜ Proper s × Linked s (view s (words (now mem))) × Pooled s (view s (words (now mem))) × Placed (shapeIn s) (view s (words (now mem))) ⌝ }
-    ensures { λ r. ⌜ Carries s (view s (words (now (mem .entry)))) (Call.merge range column (through .0)) r (view s (words (now (mem .exit)))) ⌝ }
+// The tail records of a range up to a number go into a new page of a column.
+pub fn merge(mem: &mut [u8], scans: Scans, range: u32, column: u32, through: Tail) -> Answer
+    ensures { λ r. ⌜ ServesBy scans (now (mem .entry)) (Call.merge range column (through .0)) r (now (mem .exit)) kept ⌝ }
 {
+    let Entry::Fit(s, n) = enter(mem, scans) else {
+        return Answer::Refused(Refusal::Memory);
+    };
     match merge_tests(mem, s, range, column, through) {
         Tested::Failed(x) => Answer::Refused(x),
         Tested::Passed(page) => {
-            merging::merge(mem, s, range as usize, column as usize, through, page);
+            merging::merge(&mut mem[..n], s, range as usize, column as usize, through, page);
             Answer::Done
         }
     }
 }
 
-// The tail records of a range up to a number go into a new page of a column.
-pub fn merge(mem: &mut [u8], scans: Scans, range: u32, column: u32, through: Tail) -> Answer
-    ensures { λ r. ⌜ Leaves (now (mem .entry)) scans (Call.merge range column (through .0)) r (now (mem .exit)) ⌝ }
-{
-    let Part::Lent(s, n) = lend(mem, scans) else {
-        return Answer::Refused(Refusal::Memory);
-    };
-    merge_in(&mut mem[..n], s, range, column, through)
-}
-
 // ---- release
-
-fn release_in(mem: &mut [u8], s: Sizes, scans: Scans) -> Answer
-    requires { ⌜ need s * 4 ≤ length (now mem) ⌝ }
-    requires { ⌜ Proper s × (scans .count ≤ 16) ⌝ }
-    ensures { λ r. ⌜ CarriesBy scans s (view s (words (now (mem .entry)))) Call.release r (view s (words (now (mem .exit)))) ⌝ }
-{
-    Answer::Number(merging::release(mem, s, scans))
-}
 
 // Every waiting page that no open scan needs is free again; the answer is how many. A table of more entries than it has room for stands for no list.
 pub fn release(mem: &mut [u8], scans: Scans) -> Answer
-    ensures { λ r. ⌜ Leaves (now (mem .entry)) scans Call.release r (now (mem .exit)) ⌝ }
+    ensures { λ r. ⌜ ServesBy scans (now (mem .entry)) Call.release r (now (mem .exit)) kept ⌝ }
 {
     if scans.count > MOST_SCANS {
         return Answer::Refused(Refusal::Memory);
     }
-    let Part::Lent(s, n) = lend(mem, scans) else {
+    let Entry::Fit(s, n) = enter(mem, scans) else {
         return Answer::Refused(Refusal::Memory);
     };
-    release_in(&mut mem[..n], s, scans)
+    Answer::Number(merging::release(&mut mem[..n], s, scans))
 }
 
 // ---- open and close
@@ -176,9 +156,9 @@ fn unlisted(scans: Scans, why: Refusal) -> Listed
 
 // The tests of open scan; where they are passed, the scan's place is the list's first free one.
 fn open_tests(mem: &[u8], s: Sizes, scans: Scans, stamp: Stamp) -> Tested
-    requires { ⌜ need s * 4 ≤ length (now mem) ⌝ }
-    ensures { λ r. ⌜ ((ps : List Place) → scans ≡ tableOf ps → openCount ps ≤ mostScans → r ≡ tested (verdict (testsIn (shapeIn s) (view s (words (now (mem .entry)))) ps (Call.openScan (stamp .0)))) (scans .free)) ⌝ }
-    ensures { λ r. ⌜ Gives r (view s (words (now (mem .entry)))) ⌝ }
+    requires { ⌜ Fitted s (now mem) ⌝ }
+    ensures { λ r. ⌜ TestsBy scans s (now (mem .entry)) (Call.openScan (stamp .0)) r ⌝ }
+    ensures { λ r. ⌜ Finds r (λ j. (j ≡ scans .free) × (scansGiven (view s (words (now (mem .entry)))) < mostNumbers)) ⌝ }
 {
     if later(mem, s, stamp) {
         return Tested::Failed(Refusal::Time);
@@ -194,9 +174,9 @@ fn open_tests(mem: &[u8], s: Sizes, scans: Scans, stamp: Stamp) -> Tested
 
 // A scan is opened at a stamp; the answer is its number.
 pub fn open_scan(mem: &mut [u8], scans: Scans, stamp: Stamp) -> Listed
-    ensures { λ r. ⌜ Lists (now (mem .entry)) scans (Call.openScan (stamp .0)) r (now (mem .exit)) ⌝ }
+    ensures { λ r. ⌜ ServesBy scans (now (mem .entry)) (Call.openScan (stamp .0)) (r .answer) (now (mem .exit)) (changedAt r) ⌝ }
 {
-    let Part::Lent(s, n) = lend(mem, scans) else {
+    let Entry::Fit(s, n) = enter(mem, scans) else {
         return unlisted(scans, Refusal::Memory);
     };
     match open_tests(mem, s, scans, stamp) {
@@ -217,24 +197,37 @@ pub fn open_scan(mem: &mut [u8], scans: Scans, stamp: Stamp) -> Listed
     }
 }
 
+// The test of close; where it is passed, the scan's entry in the table.
+fn close_tests(scans: Scans, scan: u32) -> Tested
+    ensures { λ r. ⌜ ((s : Sizes) (m : List ℕ) → TestsBy scans s m (Call.close scan) r) ⌝ }
+    ensures { λ r. ⌜ Finds r (λ j. (j < mostScans) × (findIn scans scan ≡ Found.At j)) ⌝ }
+{
+    let Found::At(i) = find_scan(scans, scan) else {
+        return Tested::Failed(Refusal::Scan);
+    };
+    Tested::Passed(i)
+}
+
 // A scan is closed: its place is free again.
 pub fn close_scan(mem: &[u8], scans: Scans, scan: u32) -> Listed
-    ensures { λ r. ⌜ Lists (now (mem .entry)) scans (Call.close scan) r (now (mem .entry)) ⌝ }
+    ensures { λ r. ⌜ ServesBy scans (now (mem .entry)) (Call.close scan) (r .answer) (now (mem .entry)) (changedAt r) ⌝ }
 {
-    let Checked::Fit(s) = check(mem, scans) else {
+    let Entry::Fit(_, _) = enter(mem, scans) else {
         return unlisted(scans, Refusal::Memory);
     };
-    let Found::At(i) = find_scan(scans, scan) else {
-        return unlisted(scans, Refusal::Scan);
-    };
-    let places = scans.places;
-    Listed {
-        answer: Answer::Done,
-        place: places[i],
-        entry: Place {
-            number: 0,
-            stamp: 0,
-            merges: 0,
-        },
+    match close_tests(scans, scan) {
+        Tested::Failed(x) => unlisted(scans, x),
+        Tested::Passed(i) => {
+            let places = scans.places;
+            Listed {
+                answer: Answer::Done,
+                place: places[i],
+                entry: Place {
+                    number: 0,
+                    stamp: 0,
+                    merges: 0,
+                },
+            }
+        }
     }
 }

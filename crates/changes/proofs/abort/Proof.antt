@@ -1,9 +1,47 @@
--- `changes::abort` meets its contract: `lent-leaves` carries what the function over the lent part ensures to the whole memory.
+-- `changes::abort` meets its contract: the tests tell what the writing asks for.
 use native.Mathlib.Omega.{arith}
 use borrow.Author.Needs.{needs}
-use Rattle.lending.proofs.Lent.{lent-by, unfit-leaves, part-in, part-long, part-room, part-linked, lent-leaves}
+use mathlib.Core.Path.{refl}
+use Rattle.model.specs.Calls.{replyIn, actIn, placesAfter}
+use Rattle.promise.specs.Promise.{kept}
+use Rattle.entry.specs.Entered.{Entered}
+use Rattle.entry.proofs.Served.{entered, part-in, part-long, part-seen, part-fitted, by-any, unfit-serves, failed-serves, write-serves}
+use Rattle.changes.proofs.Tests.{counted}
 use Rattle.changes.proofs.abort.Statement.{statement}
 use Rattle.changes.proofs.abort.Tie as tie
+
+-- memory and list passed the test
+fit : (c : tie.After-known-told)
+    → let start = c .before .before .before .before .before .before in
+    Entered (c .before .s .given .0 .0) (c .before .s .given .0 .1 .0) (start .args .mem .now) (start .args .scans)
+fit c = entered _ _ _ _ _ (c .before .s .given .1) (c .before .before .before .enter .ensures)
+
+abort-requires : tie.Need-abort-requires
+abort-requires c κs =
+    let passed = c .before .before in
+    let tests = passed .before .before in
+    let e = fit (tests .before .before) in
+    let f = part-fitted e in
+    let k = rw (passed .at .given .1) at (tests .abort-tests .ensures .1) in
+    (f .room, (f .proper, (counted _ _ (f .linked), k .low)))
+
+returns-2 : tie.Need-returns-2
+returns-2 c =
+    let tests = c .before .before .before in
+    let known = tests .before .before in
+    failed-serves (fit known) _ _ _ (c .before .x .given .1) (by-any (fit known) _ _ (tests .abort-tests .ensures .0))
+    (λ k. omega (arith, known .before .before .before .before .before .slice-known .given k))
+
+returns-3 : tie.Need-returns-3
+unfolding replyIn actIn placesAfter
+returns-3 c =
+    let act = c .before .before in
+    let passed = act .before .before .before in
+    let tests = passed .before .before in
+    let e = fit (tests .before .before) in
+    let k = rw (passed .at .given .1) at (tests .abort-tests .ensures .1) in
+    write-serves e _ _ _ (passed .at .given .1) (by-any e _ _ (tests .abort-tests .ensures .0)) _ _ kept (act .abort .kept .0)
+    (λ k. omega (arith, c .slice-known2 .given k)) (λ ps q few. (refl, act .abort .ensures _ (rw (part-seen e) k), refl))
 
 pub abort-spec : {M : Type 1} → statement M
 abort-spec =
@@ -13,11 +51,14 @@ abort-spec =
     (λ c. search needs)
     (λ c. search needs)
     (λ c. search needs)
-    (λ c. unfit-leaves _ _ _ _ (c .enum-told .given .1) (c .before .before .lend .ensures))
-    (λ c. part-in (lent-by _ _ _ _ _ (c .before .s .given .1) (c .before .before .before .lend .ensures)))
-    (λ c. part-long (lent-by _ _ _ _ _ (c .before .before .s .given .1) (c .before .before .before .before .lend .ensures)))
-    (λ c κs. let l = lent-by _ _ _ _ _ (c .before .before .s .given .1) (c .before .before .before .before .lend .ensures) in (part-room l, (l .fitted .proper, part-linked l)))
+    (λ c. unfit-serves _ _ _ _ (c .enum-told .given .1) (c .before .before .enter .ensures))
+    (λ c κs. fit (c .before) .fitted)
     (λ c. search needs)
-    (λ c.
-    lent-leaves (lent-by _ _ _ _ _ (c .before .before .before .before .before .s .given .1) (c .before .before .before .before .before .before .before .lend .ensures)) _ _ _ (λ ps q k. c .before .before .abort-in .ensures ps)
-    (c .before .before .abort-in .kept .0) (λ k. omega (arith, c .slice-known2 .given k))))
+    (λ c. search needs)
+    (λ c. part-in (fit (c .before .before .before .before .before)))
+    (λ c. part-long (fit (c .before .before .before .before .before .before)))
+    abort-requires
+    (λ c. search needs)
+    returns-2
+    (λ c. search needs)
+    returns-3)

@@ -1,40 +1,46 @@
 -- `changes::append_tests` meets its contract: each answer follows from the tests that led to it.
 use borrow.Author.Needs.{needs}
-use Rattle.history.specs.History.{verdict}
+use mathlib.Core.Path.{sym, _∙_}
+use Rattle.words.specs.Words.{words}
+use Rattle.layout.specs.View.{view}
 use Rattle.rows.proofs.Indices.{row-in}
-use Rattle.lending.specs.Carried.{tested}
-use Rattle.changes.proofs.Tests.{lacks-is}
+use Rattle.history.specs.History.{verdict}
+use Rattle.changes.proofs.Tests.{lacks-is, room}
 use Rattle.changes.proofs.append_tests.Statement.{statement}
 use Rattle.changes.proofs.append_tests.Tie as tie
 
 returns : tie.Need-returns
-unfolding verdict tested
-returns c = rw (← c .before .held .ensures, c .if1 .taken)
+unfolding verdict
+returns c = (rw (← c .before .held .ensures, c .if1 .taken), tt)
 
 returns-2 : tie.Need-returns-2
-unfolding verdict tested
-returns-2 c = rw (← c .before .before .before .held .ensures, c .before .before .if1 .left, ← c .before .gone .ensures, c .if2 .taken)
+unfolding verdict
+returns-2 c =
+    let held = c .before .before in
+    (rw (← held .before .held .ensures, held .if1 .left, ← c .before .gone .ensures, c .if2 .taken), tt)
 
 lacks-records-requires : tie.Need-lacks-records-requires
 lacks-records-requires c κs =
-    let pre = c .before .before .before .before .before .pre in
-    (pre .0, rw (pre .1 .1 .1) (row-in _ (pre .1 .0 .0) _ (pre .1 .0 .1) _ (pre .1 .1 .0) .1))
+    let start = c .before .before .before .before .before in
+    let fit = start .pre .0 in
+    (fit .room, rw (start .pre .1 .2) (row-in _ (fit .proper) _ (fit .linked) _ (start .pre .1 .1) .1))
 
 returns-3 : tie.Need-returns-3
-unfolding verdict tested
+unfolding verdict
 returns-3 c =
     let gone = c .before .before in
     let held = gone .before .before in
     let start = held .before .before .before in
-    rw (← held .before .held .ensures, held .if1 .left, ← gone .before .gone .ensures, gone .if2 .left, lacks-is (start .args .s) _ _ _ _ (start .pre .1 .1 .1), ← c .before .lacks-records .ensures, c .if3 .taken)
+    (rw (← held .before .held .ensures, held .if1 .left, ← gone .before .gone .ensures, gone .if2 .left, lacks-is _ _ _ _ _ (start .pre .1 .2), ← c .before .lacks-records .ensures, c .if3 .taken), tt)
 
 returns-4 : tie.Need-returns-4
-unfolding verdict tested
+unfolding verdict
 returns-4 c =
     let gone = c .before .before in
     let held = gone .before .before in
     let start = held .before .before .before in
-    rw (← held .before .held .ensures, held .if1 .left, ← gone .before .gone .ensures, gone .if2 .left, lacks-is (start .args .s) _ _ _ _ (start .pre .1 .1 .1), ← c .before .lacks-records .ensures, c .if3 .left)
+    let enough = lacks-is (start .args .s) (view (start .args .s) (words (start .args .mem .now))) (start .args .row .0) _ (start .args .n) (start .pre .1 .2) ∙ sym (c .before .lacks-records .ensures) ∙ c .if3 .left in
+    (rw (← held .before .held .ensures, held .if1 .left, ← gone .before .gone .ensures, gone .if2 .left, enough), (start .pre .1 .0, room _ _ (start .pre .0 .linked) _ _ (start .pre .1 .1) enough))
 
 pub append-tests-spec : {M : Type 1} → statement M
 append-tests-spec =

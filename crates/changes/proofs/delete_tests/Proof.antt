@@ -1,45 +1,59 @@
 -- `changes::delete_tests` meets its contract: each answer follows from the tests that led to it.
 use borrow.Author.Needs.{needs}
+use Rattle.words.specs.Words.{words}
+use Rattle.layout.specs.View.{view}
 use Rattle.history.specs.History.{verdict}
 use Rattle.model.specs.Calls.{testsIn}
-use Rattle.lending.proofs.Ends.{below-tested}
-use Rattle.changes.proofs.Tests.{fails-open, fails-given, row-found}
+use Rattle.entry.specs.Tested.{Tests}
+use Rattle.changes.proofs.Tests.{RowFound, fails-open, fails-given, row-found}
 use Rattle.changes.proofs.delete_tests.Statement.{statement}
 use Rattle.changes.proofs.delete_tests.Tie as tie
 
+-- the transaction and the row that the finders found
+there : (c : tie.After-g)
+    → let found = c .before .before .before .before in
+    let a = found .before .before .before .before .args in
+    RowFound (view (a .s) (words (a .mem .now))) (a .t .0) (a .row .0) (found .at .given .0 .0) (c .g .given .0 .0)
+there c =
+    let found = c .before .before .before .before in
+    let look = found .before .before .open-place in
+    row-found _ _ _ (look .ensures .0) _ _ (c .before .before .given-range .ensures) _ (found .at .given .1) _ (look .ensures .1) (c .g .given .1)
+
+returns : tie.Need-returns
+unfolding Tests testsIn
+returns c = (λ ps. fails-open _ _ _ (c .before .before .open-place .ensures .0) _ (c .enum-told .given .1), tt)
+
+returns-2 : tie.Need-returns-2
+unfolding Tests testsIn
+returns-2 c =
+    let row = c .before .before in
+    let found = row .before .before in
+    (λ ps. fails-given _ _ _ (found .before .before .open-place .ensures .0) _ _ (row .given-range .ensures) _ (found .at .given .1) _ (c .enum-told2 .given .1), tt)
+
 append-tests-requires : tie.Need-append-tests-requires
 append-tests-requires c κs =
-    let row = c .before in
-    let found = row .before .before .before .before in
-    let place = found .before .before .open-place in
-    let r = row-found _ _ _ (place .ensures .0) _ _ (row .before .before .given-range .ensures) _ (found .at .given .1) _ (row .g .given .1) in
-    let start = found .before .before .before .before in
-    (start .pre .0, (start .pre .1, (r .below, r .range-is)))
+    let g = c .before in
+    let start = g .before .before .before .before .before .before .before .before in
+    (start .pre, (there g .opened .open-at, there g .below, there g .range-is))
 
-returns : tie.Need-returns-3
-unfolding testsIn verdict
-returns c =
-    let row = c .before .before in
-    let found = row .before .before .before .before in
-    let place = found .before .before .open-place in
-    let r = row-found _ _ _ (place .ensures .0) _ _ (row .before .before .given-range .ensures) _ (found .at .given .1) _ (row .g .given .1) in
-    (rw (r .begun, r .given, ← r .place-is) (c .append-tests .ensures), below-tested _ _ 8 _ (c .append-tests .ensures) (rw (found .at .given .1) at (place .ensures .1)))
+returns-3 : tie.Need-returns-3
+unfolding Tests testsIn verdict
+returns-3 c =
+    let r = there (c .before .before) in
+    let last = c .append-tests .ensures in
+    (λ ps. rw (r .opened .begun, r .given) (last .0), last .1)
 
 pub delete-tests-spec : {M : Type 1} → statement M
-unfolding testsIn
 delete-tests-spec =
     tie.close
     (tie.spec
     (λ c κs. search needs)
     (λ c. search needs)
     (λ c. search needs)
-    (λ c. (fails-open _ _ _ (c .before .before .open-place .ensures .0) _ _ (c .enum-told .given .1), tt))
+    returns
     (λ c κs. search needs)
     (λ c. search needs)
     (λ c. search needs)
-    (λ c.
-    let row = c .before .before in
-    let found = row .before .before in
-    (fails-given _ _ _ (found .before .before .open-place .ensures .0) _ _ (row .given-range .ensures) _ (found .at .given .1) _ _ (c .enum-told2 .given .1), tt))
+    returns-2
     append-tests-requires
-    returns)
+    returns-3)

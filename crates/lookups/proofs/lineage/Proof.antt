@@ -1,23 +1,56 @@
--- `lookups::lineage` meets its contract.
-use mathlib.Core.Path.{sym, _∙_}
-use Rattle.entry.proofs.Fitted.{fitted}
-use Rattle.entry.proofs.Promised.{answers-unfit, answers-fit}
-use Rattle.lookups.proofs.Answers.{says-always}
+-- `lookups::lineage` meets its contract: the tests tell what the reading asks for.
+use native.Mathlib.Omega.{arith}
 use borrow.Author.Needs.{needs}
+use mathlib.Core.Path.{refl}
+use Rattle.model.specs.Stored.{pageIn}
+use Rattle.model.specs.Calls.{replyIn, actIn, placesAfter}
+use Rattle.promise.specs.Promise.{kept}
+use Rattle.entry.specs.Entered.{Entered}
+use Rattle.entry.proofs.Served.{entered, by-any, unfit-serves, failed-serves, read-serves}
 use Rattle.lookups.proofs.lineage.Statement.{statement}
 use Rattle.lookups.proofs.lineage.Tie as tie
 
-returns : tie.Need-returns
-returns c = answers-unfit _ _ _ (λ ps q. sym (c .enum-told .given .1) ∙ c .before .before .check .ensures .0 ps q)
-
-lineage-in-requires : tie.Need-lineage-in-requires
-lineage-in-requires c κs = fitted _ _ _ (c .before .s .given .1) (c .before .before .before .check .ensures .1)
+-- memory and list passed the test
+fit : (c : tie.After-known-told)
+    → let start = c .before .before .before .before .before in
+    Entered (c .before .s .given .0 .0) (c .before .s .given .0 .1 .0) (start .args .mem .now) (start .args .t)
+fit c = entered _ _ _ _ _ (c .before .s .given .1) (c .before .before .before .enter .ensures)
 
 returns-2 : tie.Need-returns-2
 returns-2 c =
-    let fit = c .before .before in
-    answers-fit _ _ _ _ (λ ps q. sym (fit .s .given .1) ∙ fit .before .before .check .ensures .0 ps q) _
-    (says-always _ _ _ _ _ (c .lineage-in .ensures))
+    let tests = c .before .before .before in
+    let known = tests .before in
+    failed-serves (fit known) _ _ _ (c .before .x .given .1) (by-any (fit known) _ _ (tests .lineage-tests .ensures .0 _))
+    (λ k. omega (arith, known .before .before .before .before .shared-slice-known .given k))
+
+current-page-requires : tie.Need-current-page-requires
+current-page-requires c κs =
+    let passed = c .before in
+    let tests = passed .before .before in
+    let f = fit (tests .before) .fitted in
+    let k = rw (passed .g .given .1) at (tests .lineage-tests .ensures .1) in
+    (f .room, (f .proper, (f .pooled, (k .1, k .2))))
+
+read-requires : tie.Need-read-requires
+read-requires c κs = (fit (c .before .before .before .before .before) .fitted .room, c .current-page .ensures .1)
+
+read-requires-2 : tie.Need-read-requires-2
+read-requires-2 c κs =
+    let passed = c .before .before .before in
+    let tests = passed .before .before in
+    let k = rw (passed .g .given .1) at (tests .lineage-tests .ensures .1) in
+    (fit (tests .before) .fitted .room, k .1)
+
+returns-3 : tie.Need-returns-3
+unfolding replyIn actIn placesAfter pageIn
+returns-3 c =
+    let page = c .before .before in
+    let passed = page .before .before in
+    let tests = passed .before .before in
+    let known = tests .before in
+    let k = rw (passed .g .given .1) at (tests .lineage-tests .ensures .1) in
+    read-serves (fit known) _ _ _ (passed .g .given .1) (by-any (fit known) _ _ (tests .lineage-tests .ensures .0 _)) _ kept (λ k. omega (arith, known .before .before .before .before .shared-slice-known .given k))
+    (λ ps q few. (rw (c .read2 .ensures, c .before .read .ensures, page .current-page .ensures .0, k .0), refl, refl))
 
 pub lineage-spec : {M : Type 1} → statement M
 lineage-spec =
@@ -26,6 +59,12 @@ lineage-spec =
     (λ c κs. search needs)
     (λ c. search needs)
     (λ c. search needs)
-    returns
-    lineage-in-requires
-    returns-2)
+    (λ c. unfit-serves _ _ _ _ (c .enum-told .given .1) (c .before .before .enter .ensures))
+    (λ c κs. search needs)
+    (λ c. search needs)
+    (λ c. search needs)
+    current-page-requires
+    read-requires
+    read-requires-2
+    returns-2
+    returns-3)

@@ -1,23 +1,53 @@
--- `lookups::page_cell` meets its contract.
-use mathlib.Core.Path.{sym, _∙_}
-use Rattle.entry.proofs.Fitted.{fitted}
-use Rattle.entry.proofs.Promised.{answers-unfit, answers-fit}
-use Rattle.lookups.proofs.Answers.{says-always}
+-- `lookups::page_cell` meets its contract: the tests tell what the reading asks for.
+use native.Mathlib.Omega.{arith}
 use borrow.Author.Needs.{needs}
+use mathlib.Core.Path.{refl, ap, _∙_}
+use mir.Syntax.{w32}
+use mir.Val.{toZ}
+use mir.ValLaws.{toZ-ofZ}
+use Rattle.terms.specs.declared.Answer.{Answer}
+use Rattle.model.specs.Calls.{replyIn, actIn, placesAfter}
+use Rattle.promise.specs.Promise.{kept}
+use Rattle.entry.specs.Entered.{Entered}
+use Rattle.entry.proofs.Served.{entered, by-any, unfit-serves, failed-serves, read-serves}
 use Rattle.lookups.proofs.page_cell.Statement.{statement}
 use Rattle.lookups.proofs.page_cell.Tie as tie
 
-returns : tie.Need-returns
-returns c = answers-unfit _ _ _ (λ ps q. sym (c .enum-told .given .1) ∙ c .before .before .check .ensures .0 ps q)
-
-page-cell-in-requires : tie.Need-page-cell-in-requires
-page-cell-in-requires c κs = fitted _ _ _ (c .before .s .given .1) (c .before .before .before .check .ensures .1)
+-- memory and list passed the test
+fit : (c : tie.After-known-told)
+    → let start = c .before .before .before .before .before in
+    Entered (c .before .s .given .0 .0) (c .before .s .given .0 .1 .0) (start .args .mem .now) (start .args .t)
+fit c = entered _ _ _ _ _ (c .before .s .given .1) (c .before .before .before .enter .ensures)
 
 returns-2 : tie.Need-returns-2
 returns-2 c =
-    let fit = c .before .before in
-    answers-fit _ _ _ _ (λ ps q. sym (fit .s .given .1) ∙ fit .before .before .check .ensures .0 ps q) _
-    (says-always _ _ _ _ _ (c .page-cell-in .ensures))
+    let tests = c .before .before .before in
+    let known = tests .before in
+    failed-serves (fit known) _ _ _ (c .before .x .given .1) (by-any (fit known) _ _ (tests .page-cell-tests .ensures .0))
+    (λ k. omega (arith, known .before .before .before .before .shared-slice-known .given k))
+
+current-page-requires : tie.Need-current-page-requires
+current-page-requires c κs =
+    let passed = c .before in
+    let tests = passed .before .before in
+    let f = fit (tests .before) .fitted in
+    let k = rw (passed .g .given .1) at (tests .page-cell-tests .ensures .1) in
+    (f .room, (f .proper, (f .pooled, (rw (k .0) (k .1 .range-below), k .1 .column-below))))
+
+cell-requires : tie.Need-cell-requires
+cell-requires c κs =
+    let f = fit (c .before .before .before .before .before) .fitted in (f .room, (f .proper, c .current-page .ensures .1))
+
+returns-3 : tie.Need-returns-3
+unfolding replyIn actIn placesAfter
+returns-3 c =
+    let page = c .before .before in
+    let passed = page .before .before in
+    let tests = passed .before .before in
+    let known = tests .before in
+    let k = rw (passed .g .given .1) at (tests .page-cell-tests .ensures .1) in
+    read-serves (fit known) _ _ _ (passed .g .given .1) (by-any (fit known) _ _ (tests .page-cell-tests .ensures .0)) _ kept (λ k. omega (arith, known .before .before .before .before .shared-slice-known .given k))
+    (λ ps q few. (ap Answer.Value (toZ-ofZ w32 (c .of-word .result) record { sfits = c .of-word .ok } ∙ c .of-word .ensures ∙ ap (toZ w32) (c .before .cell .ensures)) ∙ rw (page .current-page .ensures .0, k .0), refl, refl))
 
 pub page-cell-spec : {M : Type 1} → statement M
 page-cell-spec =
@@ -26,6 +56,12 @@ page-cell-spec =
     (λ c κs. search needs)
     (λ c. search needs)
     (λ c. search needs)
-    returns
-    page-cell-in-requires
-    returns-2)
+    (λ c. unfit-serves _ _ _ _ (c .enum-told .given .1) (c .before .before .enter .ensures))
+    (λ c κs. fit c .fitted)
+    (λ c. search needs)
+    (λ c. search needs)
+    current-page-requires
+    cell-requires
+    (λ c κs. search needs)
+    returns-2
+    returns-3)

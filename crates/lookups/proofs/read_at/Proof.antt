@@ -1,23 +1,42 @@
--- `lookups::read_at` meets its contract.
-use mathlib.Core.Path.{sym, _∙_}
-use Rattle.entry.proofs.Fitted.{fitted}
-use Rattle.entry.proofs.Promised.{answers-unfit, answers-fit}
-use Rattle.lookups.proofs.Answers.{says-always}
+-- `lookups::read_at` meets its contract: the tests tell what the reading asks for.
+use native.Mathlib.Omega.{arith}
 use borrow.Author.Needs.{needs}
+use mathlib.Core.Path.{refl}
+use Rattle.model.specs.Calls.{replyIn, actIn, placesAfter}
+use Rattle.promise.specs.Promise.{kept}
+use Rattle.entry.specs.Entered.{Entered}
+use Rattle.entry.proofs.Served.{entered, by-any, unfit-serves, failed-serves, read-serves}
 use Rattle.lookups.proofs.read_at.Statement.{statement}
 use Rattle.lookups.proofs.read_at.Tie as tie
 
-returns : tie.Need-returns
-returns c = answers-unfit _ _ _ (λ ps q. sym (c .enum-told .given .1) ∙ c .before .before .check .ensures .0 ps q)
-
-read-at-in-requires : tie.Need-read-at-in-requires
-read-at-in-requires c κs = fitted _ _ _ (c .before .s .given .1) (c .before .before .before .check .ensures .1)
+-- memory and list passed the test
+fit : (c : tie.After-known-told)
+    → let start = c .before .before .before .before .before in
+    Entered (c .before .s .given .0 .0) (c .before .s .given .0 .1 .0) (start .args .mem .now) (start .args .t)
+fit c = entered _ _ _ _ _ (c .before .s .given .1) (c .before .before .before .enter .ensures)
 
 returns-2 : tie.Need-returns-2
 returns-2 c =
-    let fit = c .before .before in
-    answers-fit _ _ _ _ (λ ps q. sym (fit .s .given .1) ∙ fit .before .before .check .ensures .0 ps q) _
-    (says-always _ _ _ _ _ (c .read-at-in .ensures))
+    let tests = c .before .before .before in
+    let known = tests .before in
+    failed-serves (fit known) _ _ _ (c .before .x .given .1) (by-any (fit known) _ _ (tests .read-at-tests .ensures .0))
+    (λ k. omega (arith, known .before .before .before .before .shared-slice-known .given k))
+
+read-current-requires : tie.Need-read-current-requires
+read-current-requires c κs =
+    let tests = c .before .before in
+    let f = fit (tests .before) .fitted in
+    let k = rw (c .enum-told2 .given .1) at (tests .read-at-tests .ensures .1) in
+    (f .room, (f .proper, ((f .linked, f .pooled), (k .column-below, k .given))))
+
+returns-3 : tie.Need-returns-3
+unfolding replyIn actIn placesAfter
+returns-3 c =
+    let passed = c .before in
+    let tests = passed .before .before in
+    let known = tests .before in
+    read-serves (fit known) _ _ _ (passed .enum-told2 .given .1) (by-any (fit known) _ _ (tests .read-at-tests .ensures .0)) _ kept
+    (λ k. omega (arith, known .before .before .before .before .shared-slice-known .given k)) (λ ps q few. (c .read-current .ensures, refl, refl))
 
 pub read-at-spec : {M : Type 1} → statement M
 read-at-spec =
@@ -26,6 +45,10 @@ read-at-spec =
     (λ c κs. search needs)
     (λ c. search needs)
     (λ c. search needs)
-    returns
-    read-at-in-requires
-    returns-2)
+    (λ c. unfit-serves _ _ _ _ (c .enum-told .given .1) (c .before .before .enter .ensures))
+    (λ c κs. fit c .fitted)
+    (λ c. search needs)
+    (λ c. search needs)
+    read-current-requires
+    returns-2
+    returns-3)

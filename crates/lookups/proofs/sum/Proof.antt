@@ -1,23 +1,49 @@
--- `lookups::sum` meets its contract.
-use mathlib.Core.Path.{sym, _∙_}
-use Rattle.entry.proofs.Fitted.{fitted}
-use Rattle.entry.proofs.Promised.{answers-unfit, answers-fit}
-use Rattle.lookups.proofs.Answers.{says-by-scan, says-sum}
+-- `lookups::sum` meets its contract: the tests tell what the reading asks for.
+use native.Mathlib.Omega.{arith}
 use borrow.Author.Needs.{needs}
+use mathlib.Core.Path.{refl, _∙_}
+use Rattle.model.specs.Calls.{replyIn, actIn, placesAfter}
+use Rattle.promise.specs.Promise.{kept}
+use Rattle.entry.specs.Entered.{Entered}
+use Rattle.entry.proofs.Served.{entered, unfit-serves, failed-serves, read-serves}
 use Rattle.lookups.proofs.sum.Statement.{statement}
 use Rattle.lookups.proofs.sum.Tie as tie
 
-returns : tie.Need-returns
-returns c = answers-unfit _ _ _ (λ ps q. sym (c .enum-told .given .1) ∙ c .before .before .check .ensures .0 ps q)
-
-sum-in-requires : tie.Need-sum-in-requires
-sum-in-requires c κs = fitted _ _ _ (c .before .before .s .given .1) (c .before .before .before .before .check .ensures .1)
+-- memory and list passed the test
+fit : (c : tie.After-known-told)
+    → let start = c .before .before .before .before .before in
+    Entered (c .before .s .given .0 .0) (c .before .s .given .0 .1 .0) (start .args .mem .now) (start .args .t)
+fit c = entered _ _ _ _ _ (c .before .s .given .1) (c .before .before .before .enter .ensures)
 
 returns-2 : tie.Need-returns-2
 returns-2 c =
-    let fit = c .before .before .before in
-    answers-fit _ _ _ _ (λ ps q. sym (fit .s .given .1) ∙ fit .before .before .check .ensures .0 ps q) _
-    (says-by-scan _ _ _ _ _ _ _ _ (c .before .scan-of .ensures) (c .sum-in .ensures) (λ ps. says-sum _ _ ps _ _))
+    let tests = c .before .before .before in
+    let known = tests .before in
+    failed-serves (fit known) _ _ _ (c .before .x .given .1) (tests .sum-tests .ensures .0 _)
+    (λ k. omega (arith, known .before .before .before .before .shared-slice-known .given k))
+
+scan-at-requires : tie.Need-scan-at-requires
+scan-at-requires c κs =
+    let passed = c .before in (rw (passed .j .given .1) at (passed .before .before .sum-tests .ensures .1)) .0 .below
+
+sum-rows-requires : tie.Need-sum-rows-requires
+sum-rows-requires c κs =
+    let passed = c .before .before in
+    let tests = passed .before .before in
+    let f = fit (tests .before) .fitted in
+    let k = rw (passed .j .given .1) at (tests .sum-tests .ensures .1) in
+    (f .room, (f .proper, ((f .linked, f .pooled), k .1)))
+
+returns-3 : tie.Need-returns-3
+unfolding replyIn actIn placesAfter
+returns-3 c =
+    let scan = c .before in
+    let passed = scan .before .before in
+    let tests = passed .before .before in
+    let known = tests .before in
+    let k = rw (passed .j .given .1) at (tests .sum-tests .ensures .1) in
+    read-serves (fit known) _ _ _ (passed .j .given .1) (tests .sum-tests .ensures .0 _) _ kept
+    (λ k. omega (arith, known .before .before .before .before .shared-slice-known .given k)) (λ ps q few. (c .sum-rows .ensures ∙ rw (scan .scan-at .ensures (k .0 .found) ps q few), refl, refl))
 
 pub sum-spec : {M : Type 1} → statement M
 sum-spec =
@@ -26,7 +52,11 @@ sum-spec =
     (λ c κs. search needs)
     (λ c. search needs)
     (λ c. search needs)
-    returns
+    (λ c. unfit-serves _ _ _ _ (c .enum-told .given .1) (c .before .before .enter .ensures))
     (λ c κs. search needs)
-    sum-in-requires
-    returns-2)
+    (λ c. search needs)
+    (λ c. search needs)
+    scan-at-requires
+    sum-rows-requires
+    returns-2
+    returns-3)

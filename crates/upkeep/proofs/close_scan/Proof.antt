@@ -2,42 +2,46 @@
 use native.Mathlib.Omega.{arith}
 use borrow.Author.Needs.{needs}
 use Prim.Native.Nat.{_<_}
-use mathlib.Core.Path.{_≡_, refl, sym, _∙_}
-use lib.ListN.{length}
-use Rattle.entry.specs.Fitted.{Fitted}
-use Rattle.entry.proofs.Fitted.{fitted}
-use Rattle.upkeep.specs.Lists.{Lists}
-use Rattle.upkeep.proofs.Listing.{entry-in, unfit, not-closed, closed}
+use mathlib.Core.Path.{refl}
+use Rattle.terms.specs.Measures.{mostScans}
+use Rattle.model.specs.Calls.{replyIn, actIn}
+use Rattle.entry.specs.Entered.{Entered}
+use Rattle.entry.proofs.Served.{entered, unfit-serves, failed-serves, read-serves}
+use Rattle.upkeep.proofs.Listing.{unlisted-serves, closed-list}
 use Rattle.upkeep.proofs.close_scan.Statement.{statement}
 use Rattle.upkeep.proofs.close_scan.Tie as tie
 
-returns : tie.Need-returns
-unfolding Lists
-returns c =
-    λ ps q. unfit _ _ ps q _ _ (c .unlisted .ensures) (sym (c .before .enum-told .given .1) ∙ c .before .before .before .check .ensures .0 ps q)
+-- memory and list passed the test
+fit : (c : tie.After-enum-told)
+    → let start = c .before .before .before .before in
+    Entered (c .enum-told .given .0 .0) (c .enum-told .given .0 .1 .0) (start .args .mem .now) (start .args .scans)
+fit c = entered _ _ _ _ _ (c .enum-told .given .1) (c .before .before .enter .ensures)
 
-fit : (c : tie.After-known-told) → Fitted (c .before .s .given .0 .0) (c .before .before .before .before .before .args .mem .now)
-fit c = fitted _ _ _ (c .before .s .given .1) (c .before .before .before .check .ensures .1)
+returns : tie.Need-returns
+returns c = unlisted-serves _ _ _ _ _ (c .unlisted .ensures) (unfit-serves _ _ _ _ (c .before .enum-told2 .given .1) (c .before .before .before .enter .ensures))
 
 returns-2 : tie.Need-returns-2
-unfolding Lists
 returns-2 c =
-    λ ps q.
-    not-closed _ _ ps q _ _ (sym (c .before .before .before .before .before .s .given .1) ∙ c .before .before .before .before .before .before .before .check .ensures .0 ps q) _ (λ k. omega (arith, c .before .before .before .before .before .before .before .before .shared-slice-known .given k)) (fit (c .before .before .before .before) .room) (c .unlisted2 .ensures)
-    (sym (c .before .before .before .find-scan .ensures) ∙ c .before .enum-told2 .given .1)
-
--- the entry that was found is one of the table
-inside : (c : tie.After-places) → c .before .before .i .given .0 .0 < 16
-inside c =
-    let n : length (c .before .before .before .before .before .before .before .before .before .before .args .scans .numbers) ≡ 16 = search needs in
-    omega (arith, entry-in _ _ _ (sym (c .before .before .before .before .find-scan .ensures) ∙ c .before .before .i .given .1))
+    let tests = c .before .before .before .before in
+    let known = tests .before in
+    unlisted-serves _ _ _ _ _ (c .unlisted2 .ensures)
+    (failed-serves (fit known) _ _ _ (c .before .before .x .given .1) (tests .close-tests .ensures .0 _ _)
+    (λ k. omega (arith, known .before .before .before .shared-slice-known .given k)))
 
 returns-3 : tie.Need-returns-3
-unfolding Lists
+unfolding replyIn actIn
 returns-3 c =
-    λ ps q.
-    closed _ _ ps q _ _ (sym (c .before .before .before .before .before .before .s .given .1) ∙ c .before .before .before .before .before .before .before .before .check .ensures .0 ps q) _ (λ k. omega (arith, c .before .before .before .before .before .before .before .before .before .shared-slice-known .given k)) (fit (c .before .before .before .before .before) .room) _
-    (sym (c .before .before .before .before .find-scan .ensures) ∙ c .before .before .i .given .1) refl refl refl
+    let passed = c .before .before in
+    let tests = passed .before .before in
+    let known = tests .before in
+    let found = rw (passed .i .given .1) at (tests .close-tests .ensures .1) in
+    read-serves (fit known) _ _ _ (passed .i .given .1) (tests .close-tests .ensures .0 _ _) _ _
+    (λ k. omega (arith, known .before .before .before .shared-slice-known .given k))
+    (λ ps q few. (refl, refl, closed-list _ ps q _ _ _ few (found .1)))
+
+-- the entry that was found is one of the table
+inside : (c : tie.After-places) → let passed = c .before .before in passed .i .given .0 .0 < mostScans
+inside c = let passed = c .before .before in (rw (passed .i .given .1) at (passed .before .before .close-tests .ensures .1)) .0
 
 pub close-scan-spec : {M : Type 1} → statement M
 close-scan-spec =
@@ -50,9 +54,9 @@ close-scan-spec =
     returns
     (λ c κs. search needs)
     (λ c. search needs)
-    (λ c. search needs)
     (λ c κs. search needs)
+    (λ c. search needs)
+    (λ c. omega (arith, inside c))
+    (λ c. omega (arith, inside c))
     returns-2
-    (λ c. omega (arith, inside c))
-    (λ c. omega (arith, inside c))
     returns-3)

@@ -10,11 +10,11 @@ use Rattle.upkeep.proofs.current_lineage.Tie as tie
 -- the place of the range and column is there
 inside : (c : tie.Start) → let a = c .args in (a .g * a .s .columns + a .c < a .s .places) × (a .s .places ≤ 256)
 inside c =
-    let p = c .pre .1 .0 .0 in (place-in _ p _ _ (c .pre .1 .1 .0) (c .pre .1 .1 .1), places-few _ p .0)
+    let p = c .pre .0 .proper in (place-in _ p _ _ (c .pre .1 .0) (c .pre .1 .1), places-few _ p .0)
 
 read-requires-2 : tie.Need-read-requires-2
 read-requires-2 c κs =
-    let start = c .before .before .before in (start .pre .0, rw (c .read .ensures) (start .pre .1 .0 .1 _ (inside start .0)))
+    let start = c .before .before .before in (start .pre .0 .room, rw (c .read .ensures) (start .pre .0 .pooled _ (inside start .0)))
 
 returns : tie.Need-returns
 unfolding pageIn currentIn
@@ -26,7 +26,7 @@ current-lineage-spec =
     (tie.spec
     (λ c. omega (arith, inside (c .before .before)))
     (λ c. omega (arith, inside (c .before .before)))
-    (λ c κs. (c .before .before .pre .0, inside (c .before .before) .0))
+    (λ c κs. (c .before .before .pre .0 .room, inside (c .before .before) .0))
     (λ c. search needs)
     read-requires-2
     returns)

@@ -1,44 +1,64 @@
 -- `upkeep::reach_tests` meets its contract: each answer follows from the tests that led to it.
 use native.Mathlib.Omega.{arith}
 use borrow.Author.Needs.{needs}
-use mathlib.Core.Path.{refl, sym, _∙_}
+use mathlib.Core.Bool.{false}
+use mathlib.Core.Path.{_≡_, refl, sym, _∙_}
 use Rattle.history.specs.History.{verdict}
-use Rattle.lending.specs.Carried.{tested}
 use Rattle.upkeep.proofs.Tests.{no-page, page-free, too-low, too-high, in-reach}
 use Rattle.upkeep.proofs.reach_tests.Statement.{statement}
 use Rattle.upkeep.proofs.reach_tests.Tie as tie
 
 returns : tie.Need-returns
-unfolding verdict tested
+unfolding verdict
 returns c = (rw (too-low _ _ _ _ _ refl (c .if1 .taken)), tt)
 
 returns-2 : tie.Need-returns-2
-unfolding verdict tested
+unfolding verdict
 returns-2 c = (rw (too-high _ _ _ _ _ (c .before .before .read .ensures) (c .before .before .before .if1 .left) (c .if2 .taken)), tt)
 
 any-open-requires : tie.Need-any-open-requires
 any-open-requires c κs =
     let start = c .before .before .before .before .before .before .before in
-    (start .pre .0, (start .pre .1 .0 .0, (start .pre .1 .1, omega (arith, c .if2 .left, c .before .before .read .ensures, start .pre .1 .0 .1 .used-few _ (start .pre .1 .1)))))
+    let fit = start .pre .0 in
+    (fit .room, (fit .proper, (start .pre .1 .0 .0, omega (arith, c .if2 .left, c .before .before .read .ensures, fit .linked .used-few _ (start .pre .1 .0 .0)))))
 
 returns-3 : tie.Need-returns-3
-unfolding verdict tested
+unfolding verdict
 returns-3 c =
-    (rw (in-reach _ _ _ _ _ (c .before .before .before .before .read .ensures) (c .before .before .before .before .before .if1 .left) (c .before .before .if2 .left), ← c .before .any-open .ensures, c .if3 .taken), tt)
+    let reach = c .before .before in
+    let used = reach .before .before in
+    (rw (in-reach _ _ _ _ _ (used .read .ensures) (used .before .if1 .left) (reach .if2 .left), ← c .before .any-open .ensures, c .if3 .taken), tt)
 
 returns-4 : tie.Need-returns-4
-unfolding verdict tested
+unfolding verdict
 returns-4 c =
-    let start = c .before .before .before .before .before .before .before .before .before .before .before .before in
-    let none = no-page _ _ (start .pre .1 .0 .0) (sym (c .before .before .free-page .ensures) ∙ c .enum-told .given .1) in
-    (rw (in-reach _ _ _ _ _ (c .before .before .before .before .before .before .before .read .ensures) (c .before .before .before .before .before .before .before .before .if1 .left) (c .before .before .before .before .before .if2 .left), ← c .before .before .before .before .any-open .ensures, c .before .before .before .if3 .left, none), tt)
+    let none = c .before .before .before in
+    let reach = none .before .before in
+    let used = reach .before .before in
+    let fit = used .before .before .before .before .before .pre .0 in
+    (rw (in-reach _ _ _ _ _ (used .read .ensures) (used .before .if1 .left) (reach .if2 .left), ← none .before .any-open .ensures, none .if3 .left, no-page _ _ (fit .proper) (sym (c .before .before .free-page .ensures) ∙ c .enum-told .given .1)), tt)
 
 returns-5 : tie.Need-returns-5
-unfolding verdict tested
+unfolding verdict
 returns-5 c =
-    let start = c .before .before .before .before .before .before .before .before .before .before .before .before .before in
-    let page = page-free _ _ (start .pre .1 .0 .0) _ (sym (c .before .before .before .free-page .ensures) ∙ c .before .page .given .1) in
-    (rw (in-reach _ _ _ _ _ (c .before .before .before .before .before .before .before .before .read .ensures) (c .before .before .before .before .before .before .before .before .before .if1 .left) (c .before .before .before .before .before .before .if2 .left), ← c .before .before .before .before .before .any-open .ensures, c .before .before .before .before .if3 .left, page .0, page .1), page .2)
+    let look = c .before .before .before in
+    let none = look .before in
+    let reach = none .before .before in
+    let used = reach .before .before in
+    let start = used .before .before .before .before .before in
+    let fit = start .pre .0 in
+    let page = page-free _ _ (fit .proper) _ (sym (look .free-page .ensures) ∙ c .before .page .given .1) in (
+      rw (in-reach _ _ _ _ _ (used .read .ensures) (used .before .if1 .left) (reach .if2 .left), ← none .before .any-open .ensures, none .if3 .left, page .0),
+      record {
+        range-below = start .pre .1 .0 .0;
+        column-below = start .pre .1 .0 .1;
+        from = omega (arith, start .pre .1 .1, used .before .if1 .left);
+        to = omega (arith, reach .if2 .left, used .read .ensures, fit .linked .used-few _ (start .pre .1 .0 .0));
+        free = page .1;
+        page-below = page .2;
+        placed = fit .placed;
+      },
+    )
 
 pub reach-tests-spec : {M : Type 1} → statement M
 reach-tests-spec =

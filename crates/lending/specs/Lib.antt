@@ -1,3 +1,0 @@
--- What a call over the needed bytes promises, and what its tests answer.
-pub mod Carried
-pub mod Part

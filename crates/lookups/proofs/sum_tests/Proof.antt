@@ -1,0 +1,50 @@
+-- `lookups::sum_tests` meets its contract: each answer follows from the tests that led to it.
+use borrow.Author.Needs.{needs}
+use mathlib.Core.Path.{_≡_, sym, _∙_}
+use lib.ListN.{length}
+use Rattle.history.specs.History.{verdict}
+use Rattle.loops.specs.declared.Found.{Found}
+use Rattle.scans.specs.Table.{findIn}
+use Rattle.model.specs.Calls.{testsIn}
+use Rattle.entry.specs.Tested.{TestsBy}
+use Rattle.entry.proofs.Scans.{scan-lacks, scan-open, in-table}
+use Rattle.entry.proofs.Fitted.{column-tells}
+use Rattle.lookups.specs.Lookups.{ScanAt}
+use Rattle.lookups.proofs.Answers.{found-scan}
+use Rattle.lookups.proofs.sum_tests.Statement.{statement}
+use Rattle.lookups.proofs.sum_tests.Tie as tie
+
+-- the scan that was found
+there : (c : tie.After-j) → let start = c .before .before .before in ScanAt (start .args .t) (start .args .scan) (c .j .given .0 .0)
+there c =
+    let start = c .before .before .before in
+    let n : length (start .args .t .numbers) ≡ 16 = search needs in
+    found-scan _ _ _ n (sym (c .before .before .find-scan .ensures) ∙ c .j .given .1)
+
+returns : tie.Need-returns
+unfolding TestsBy testsIn verdict
+returns c = (λ m ps q few. rw (scan-lacks _ ps few (in-table _ ps q _ _ (sym (c .before .before .find-scan .ensures) ∙ c .enum-told .given .1))), tt)
+
+returns-2 : tie.Need-returns-2
+unfolding TestsBy testsIn verdict
+returns-2 c =
+    let s = there (c .before .before .before) in
+    (λ m ps q few. rw (scan-open _ ps few _ (in-table _ ps q _ _ (s .found)), ← c .before .no-column .ensures, c .if1 .taken), tt)
+
+returns-3 : tie.Need-returns-3
+unfolding TestsBy testsIn verdict
+returns-3 c =
+    let s = there (c .before .before .before) in
+    (λ m ps q few. rw (scan-open _ ps few _ (in-table _ ps q _ _ (s .found)), ← c .before .no-column .ensures, c .if1 .left), (s, column-tells (c .before .before .before .before .before .before .args .s) _ (sym (c .before .no-column .ensures) ∙ c .if1 .left)))
+
+pub sum-tests-spec : {M : Type 1} → statement M
+sum-tests-spec =
+    tie.close
+    (tie.spec
+    (λ c κs. search needs)
+    (λ c. search needs)
+    (λ c. search needs)
+    returns
+    (λ c κs. search needs)
+    returns-2
+    returns-3)

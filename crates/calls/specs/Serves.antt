@@ -1,6 +1,5 @@
--- What the public calls promise, for every memory, every scan list and every number: the answer, the memory and the list are those that the definitions of
--- crates/promise/specs/Promise.antt give. The demands are stated over the same definitions, so a list of these calls, each lent what the last one left, answers as
--- `answersOf` says, and the theorems of crates/promise speak of it.
+-- What making a store promises, for every memory, every scan list and every number, and the values that a call takes of those lent. What the calls on a store promise
+-- is `Serves` (crates/promise/specs/Promise.antt).
 use Prim.Native.Nat.{ℕ}
 use mathlib.Core.Path.{_≡_}
 use mathlib.Core.List.{List, _++_}
@@ -10,14 +9,7 @@ use Rattle.terms.specs.Measures.{Shape, mostColumns}
 use Rattle.terms.specs.declared.Answer.{Answer}
 use Rattle.terms.specs.declared.Place.{Place}
 use Rattle.making.specs.Made.{made}
-use Rattle.history.specs.History.{Call}
-use Rattle.promise.specs.Promise.{answerOf, memoryAfter, listAfter}
 use Rattle.lent.specs.Lent.{isAccepted, freedIf}
-
--- ---- a call over the memory m and the list ps answers r, and leaves the memory m′ and the list ps′
-
-unfoldable pub Serves : List ℕ → List Place → Call → Answer → List ℕ → List Place → Type 0
-Serves m ps c r m′ ps′ = (r ≡ answerOf m ps c) × (m′ ≡ memoryAfter m ps c) × (ps′ ≡ listAfter m ps c)
 
 -- a store of the shape S is to be made: the list is freed if it is
 unfoldable pub Makes : List ℕ → List Place → Shape → Answer → List ℕ → List Place → Type 0

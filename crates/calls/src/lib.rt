@@ -19,8 +19,8 @@ ghost use lib.IntN.{pos};
 ghost use lib.ListN.{getD};
 ghost use Rattle.layout.specs.Sizes.{shapeOf, BytesTold};
 ghost use Rattle.history.specs.History.{Call};
-ghost use Rattle.promise.specs.Promise.{Leaves};
-ghost use Rattle.calls.specs.Serves.{Serves, Makes, sixteen};
+ghost use Rattle.promise.specs.Promise.{Serves, ServesBy, kept};
+ghost use Rattle.calls.specs.Serves.{Makes, sixteen};
 
 // ---- the values lent with a call
 
@@ -46,7 +46,7 @@ pub fn take_sixteen(values: &[i32]) -> [i32; 16]
 }
 
 fn insert_values(mem: &mut [u8], t: Scans, transaction: Transaction, values: &[i32]) -> Answer
-    ensures { λ r. ⌜ Leaves (now (mem .entry)) t (Call.insert (transaction .0) (sixteen (now (values .entry)))) r (now (mem .exit)) ⌝ }
+    ensures { λ r. ⌜ ServesBy t (now (mem .entry)) (Call.insert (transaction .0) (sixteen (now (values .entry)))) r (now (mem .exit)) kept ⌝ }
 {
     let taken = take_sixteen(values);
     changes::insert(mem, t, transaction, taken)
@@ -60,7 +60,7 @@ fn update_values(
     mask: u16,
     values: &[i32],
 ) -> Answer
-    ensures { λ r. ⌜ Leaves (now (mem .entry)) t (Call.update (transaction .0) (row .0) mask (sixteen (now (values .entry)))) r (now (mem .exit)) ⌝ }
+    ensures { λ r. ⌜ ServesBy t (now (mem .entry)) (Call.update (transaction .0) (row .0) mask (sixteen (now (values .entry)))) r (now (mem .exit)) kept ⌝ }
 {
     let taken = take_sixteen(values);
     changes::update(mem, t, transaction, row, mask, taken)

@@ -22,7 +22,7 @@ use Rattle.history.specs.History.{latest, readAt, ownRead, scanRead, sum, pageC
 use Rattle.scans.specs.declared.Scans.{Scans}
 use Rattle.scans.specs.Table.{tableOf, findIn}
 use Rattle.model.specs.Stored.{scanPlace, cellIn, currentIn, within, pageIn}
-use Rattle.model.specs.Reading.{readCurrent, ownChanges}
+use Rattle.model.specs.Reading.{reader, readCurrent, ownChanges}
 use Rattle.model.specs.Calls.{notGivenIn, notOpenIn, noScanIn, laterIn, testsIn, replyIn, say}
 use Rattle.model.specs.Asked.{shapeIn}
 use Rattle.entry.specs.Fitted.{Says}
@@ -57,7 +57,7 @@ module _ (S : Shape) (c : ℕ) (a : Answer) where
 -- ---- the calls
 
 module _ (S : Shape) (v : View) (ps : List Place) where
-  pub says-latest : (r c : ℕ) → afterRow S v r c (readCurrent S v (lastStamp v) 0 r c) ≡ say S v ps (latest r c)
+  pub says-latest : (r c : ℕ) → afterRow S v r c (readCurrent S v (reader (lastStamp v) 0) r c) ≡ say S v ps (latest r c)
   unfolding say testsIn replyIn afterRow verdict answerIf
   says-latest r c = refl
 
@@ -65,7 +65,7 @@ module _ (S : Shape) (v : View) (ps : List Place) where
   unfolding say testsIn replyIn verdict answerIf
   says-later t r c e = rw e
 
-  pub says-at : (t r c : ℕ) → laterIn v t ≡ false → afterRow S v r c (readCurrent S v t 0 r c) ≡ say S v ps (readAt t r c)
+  pub says-at : (t r c : ℕ) → laterIn v t ≡ false → afterRow S v r c (readCurrent S v (reader t 0) r c) ≡ say S v ps (readAt t r c)
   unfolding say testsIn replyIn afterRow verdict answerIf
   says-at t r c e = rw e
 
@@ -74,7 +74,7 @@ module _ (S : Shape) (v : View) (ps : List Place) where
   says-not-open t r c e = rw e
 
   pub says-own : (t r c : ℕ) → notOpenIn v t ≡ false
-      → afterRow S v r c (readCurrent S v (lastStamp v) (ownChanges v t) r c) ≡ say S v ps (ownRead t r c)
+      → afterRow S v r c (readCurrent S v (reader (lastStamp v) (ownChanges v t)) r c) ≡ say S v ps (ownRead t r c)
   unfolding say testsIn replyIn afterRow verdict answerIf
   says-own t r c e = rw e
 

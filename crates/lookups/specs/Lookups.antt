@@ -15,7 +15,7 @@ use Rattle.scans.specs.declared.Scans.{Scans}
 use Rattle.scans.specs.Places.{openCount}
 use Rattle.scans.specs.Table.{tableOf}
 use Rattle.model.specs.Stored.{scanPlace}
-use Rattle.model.specs.Reading.{readIn, scanPage, sumIn}
+use Rattle.model.specs.Reading.{reader, readIn, scanPage, sumIn}
 use Rattle.model.specs.Calls.{notGivenIn, noScanIn, say}
 use Rattle.model.specs.Asked.{shapeIn}
 use Rattle.lookups.specs.declared.Scan.{Scan}
@@ -29,7 +29,7 @@ afterColumn S c a = answerIf (verdict (Refusal.Column when noColumn S c ∷ []))
 
 -- what the scan at place p reads of a row and column, and what it sums of a column
 unfoldable pub scanReads : Shape → View → ℕ → ℕ → Place → Answer
-scanReads S v r c p = afterRow S v r c (readIn S v (p .stamp) 0 (scanPage S v (p .merges) (rangeOf r) c) r c)
+scanReads S v r c p = afterRow S v r c (readIn S v (reader (p .stamp) 0) (scanPage S v (p .merges) (rangeOf r) c) r c)
 
 unfoldable pub scanSums : Shape → View → ℕ → Place → Answer
 scanSums S v c p = afterColumn S c (sumIn S v p c)

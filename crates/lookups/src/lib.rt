@@ -12,12 +12,12 @@ use facts::check;
 use layout::Region;
 use layout::Sizes;
 use loops::Found;
+use model::Reader;
 use reading::cell;
 use reading::current_page;
 use reading::read_current;
 use reading::read_row;
 use regions::read;
-use rows::Reader;
 use scans::Scans;
 use scans::find_scan;
 use summing::scan_page;
@@ -48,7 +48,7 @@ pub enum Scan {
 // What a reader reads on the current page, once the row and the column are there.
 fn read_latest_page(mem: &[u8], s: Sizes, who: Reader, row: Row, column: u32) -> Answer
     requires { ⌜ Fitted s (now mem) ⌝ }
-    ensures { λ r. ⌜ r ≡ afterRow (shapeIn s) (view s (words (now (mem .entry)))) (row .0) column (readCurrent (shapeIn s) (view s (words (now (mem .entry)))) (who .stamp .0) (who .me .0) (row .0) column) ⌝ }
+    ensures { λ r. ⌜ r ≡ afterRow (shapeIn s) (view s (words (now (mem .entry)))) (row .0) column (readCurrent (shapeIn s) (view s (words (now (mem .entry)))) who (row .0) column) ⌝ }
 {
     let Found::At(_) = given_range(mem, s, row) else {
         return Answer::Refused(Refusal::Row);

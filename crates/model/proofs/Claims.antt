@@ -22,7 +22,7 @@ use Rattle.terms.specs.declared.Place.{Place}
 use Rattle.terms.specs.Places.{freePlace}
 use Rattle.model.specs.Stored.{pageIn, cellIn, currentIn, within}
 use Rattle.model.specs.Writing.{made}
-use Rattle.model.specs.Reading.{scanPage, wasCurrent}
+use Rattle.model.specs.Reading.{reader, scanPage, wasCurrent}
 use Rattle.model.specs.Calls.{testsIn, actIn, viewIf, Typed, viewNext, placesNext, viewAfter, listAfter}
 use Rattle.model.specs.Claims.{storeAfter, historyAfter, Reads, PageHolds, PagesHold, PageKept, ScansKeep}
 use Rattle.model.proofs.Represents.{CurrentOf, Represents, Known}
@@ -52,7 +52,7 @@ pub reads : Reads
 unfolding Reads
 reads S l n enough cs ys t r c b d =
     let q = represented S l n enough ys in
-    current-read S (storeAfter S n cs) _ (historyAfter S cs) (q .0) (q .1) t 0 r c (seenAt (historyAfter S cs) t) (sees-at (historyAfter S cs) t) b d
+    current-read S (storeAfter S n cs) _ (historyAfter S cs) (q .0) (q .1) (reader t 0) r c (seenAt (historyAfter S cs) t) (sees-at (historyAfter S cs) t) b d
     ∙ read-committed (historyAfter S cs) (q .1 .past .order) t r c
 
 -- ---- pages

@@ -21,7 +21,7 @@ use Rattle.terms.specs.declared.Place.{Place}
 use Rattle.terms.specs.Places.{freePlace, place, bears, isScan}
 use Rattle.layout.specs.Regions.{scansAt}
 use Rattle.model.specs.Stored.{RecordWords, rowIn, recordIn, slot, valueIn, openPlace, pageIn, currentIn, cellIn, within, committedState, deleteKind, scanPlace, pagesOf, anyBelow, countBelow, wordLimit}
-use Rattle.model.specs.Reading.{headIn, readIn, readCurrent, ownChanges, scanPage, sumIn, sees, visibleIn, answersFor, walk, belowLineage, wordIn, wasCurrent, tally}
+use Rattle.model.specs.Reading.{reader, headIn, readIn, readCurrent, ownChanges, scanPage, sumIn, sees, visibleIn, answersFor, walk, belowLineage, wordIn, wasCurrent, tally}
 use Rattle.model.specs.Writing.{made, blank, noted, settled, freed, nextSlot, appended, filledIn, newBitsIn, originalAppended, settingAppended, applies, applied, newestOf, begun, committedIn, abortedIn, insertedAt, insertedIn, updatedIn, deletedIn, mergedIn, releasedIn, releasable, recordsWanted, namedIn, strayIn, freeIn}
 
 -- ---- the conditions of "What a refused call returns", read in the memory
@@ -138,13 +138,13 @@ replyIn S v ps (update t r m vs) = Answer.Number (usedIn v (rangeOf r) + records
 replyIn S v ps (delete t r) = Answer.Number (usedIn v (rangeOf r) + 1)
 replyIn S v ps (commit t s) = Answer.Done
 replyIn S v ps (abort t) = Answer.Done
-replyIn S v ps (latest r c) = readCurrent S v (lastStamp v) 0 r c
-replyIn S v ps (readAt s r c) = readCurrent S v s 0 r c
-replyIn S v ps (ownRead t r c) = readCurrent S v (lastStamp v) (ownChanges v t) r c
+replyIn S v ps (latest r c) = readCurrent S v (reader (lastStamp v) 0) r c
+replyIn S v ps (readAt s r c) = readCurrent S v (reader s 0) r c
+replyIn S v ps (ownRead t r c) = readCurrent S v (reader (lastStamp v) (ownChanges v t)) r c
 replyIn S v ps (openScan s) = Answer.Number (scansGiven v + 1)
 replyIn S v ps (scanRead k r c) =
     let s = scanPlace ps k in
-    readIn S v (s .stamp) 0 (scanPage S v (s .merges) (rangeOf r) c) r c
+    readIn S v (reader (s .stamp) 0) (scanPage S v (s .merges) (rangeOf r) c) r c
 replyIn S v ps (sum k c) = sumIn S v (scanPlace ps k) c
 replyIn S v ps (close k) = Answer.Done
 replyIn S v ps (merge g c n) = Answer.Done

@@ -25,6 +25,7 @@ use Rattle.making.specs.Made.{made, madeView, madeList}
 use Rattle.making.proofs.Answers.{laid as making-laid}
 use Rattle.terms.specs.Places.{freePlace}
 use Rattle.model.specs.Writing.{made as modelMade}
+use Rattle.model.specs.Reading.{reader}
 use Rattle.model.specs.Calls.{Typed, viewNext, viewAfter, listAfter as modelList}
 use Rattle.model.specs.Claims.{storeAfter, historyAfter}
 use Rattle.model.proofs.Heads.{sees-at}
@@ -175,7 +176,7 @@ reads-committed S m ps a cs ys x t r c y q n =
     let u = enough S m ps a in
     let o = represented S (rw (u .within) tt) (length ps) (u .places) ys in
     e ∙ read-answers S h q w
-    ∙ sym (current-read S (storeAfter S (length ps) cs) _ h (o .0) (o .1) t 0 r c (seenAt h t) (sees-at h t) (b .0) (b .1))
+    ∙ sym (current-read S (storeAfter S (length ps) cs) _ h (o .0) (o .1) (reader t 0) r c (seenAt h t) (sees-at h t) (b .0) (b .1))
     ∙ reads S (rw (u .within) tt) (length ps) (u .places) cs ys t r c (b .0) (b .1)
 
 pub pages-committed : PagesCommitted

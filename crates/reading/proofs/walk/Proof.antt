@@ -14,9 +14,7 @@ use Rattle.reading.proofs.walk.Tie as tie
 abbrev Inv-loop : tie.InvT-loop
 Inv-loop mem s who g c last k₀ k =
     let m = view s (words mem) in
-    let t = who .stamp .0 in
-    let me = who .me .0 in
-    (k ≤ k₀) × (R.walk (shapeIn s) m g c t me last k₀ k₀ ≡ R.walk (shapeIn s) m g c t me last k k)
+    (k ≤ k₀) × (R.walk (shapeIn s) m who g c last k₀ k₀ ≡ R.walk (shapeIn s) m who g c last k k)
 
 abbrev μ-loop : tie.MeasureT-loop
 μ-loop mem s who g c last k₀ k = k
@@ -33,16 +31,13 @@ slot-of-requires c κs =
 answers-for-requires : tie.Need-answers-for-requires Inv-loop μ-loop
 answers-for-requires c κs = (omega arith, (omega arith, omega arith))
 
-value-requires : tie.Need-value-requires Inv-loop μ-loop
-value-requires c κs = (omega arith, (c .before .before .before .before .before .before .pre .1 .0, (omega arith, omega arith)))
-
 returns : tie.Need-returns Inv-loop μ-loop
 returns c =
-    let asked = c .before .before in
+    let asked = c .before in
     let at = asked .before in
     let head = at .before .before in
     let pre = head .before .before .pre .1 .1 in
-    (sym (head .loop .inv .1 ∙ walk-hit _ _ (pre .0) _ _ _ _ _ (pre .1 .0) _ _ _ (at .slot-of .ensures .0) (sym (c .before .if1 .taken) ∙ asked .answers-for .ensures) (c .value .ensures) (at .before .loop-test .taken)), tt)
+    (sym (head .loop .inv .1 ∙ walk-hit _ _ (pre .0) _ _ _ _ (pre .1 .0) _ _ (at .slot-of .ensures .0) (sym (c .if1 .taken) ∙ asked .answers-for .ensures) (at .before .loop-test .taken)), at .slot-of .ensures .1)
 
 read-requires : tie.Need-read-requires Inv-loop μ-loop
 read-requires c κs = (omega arith, omega arith)
@@ -52,17 +47,15 @@ on : (c : tie.After-read Inv-loop μ-loop) → let head = c .before .before .bef
     let a = head .before .before .args in
     let k = head .loop .k in
     let m = view (a .s) (words (now (a .mem))) in
-    let t = a .who .stamp .0 in
-    let me = a .who .me .0 in
     (c .read .result < k)
-    × (R.walk (shapeIn (a .s)) m (a .g) (a .c) t me (a .low .0) k k
-    ≡ R.walk (shapeIn (a .s)) m (a .g) (a .c) t me (a .low .0) (c .read .result) (c .read .result))
+    × (R.walk (shapeIn (a .s)) m (a .who) (a .g) (a .c) (a .low .0) k k
+    ≡ R.walk (shapeIn (a .s)) m (a .who) (a .g) (a .c) (a .low .0) (c .read .result) (c .read .result))
 on c =
     let asked = c .before .before in
     let at = asked .before in
     let head = at .before .before in
     let pre = head .before .before .pre .1 .1 in
-    walk-on _ _ (pre .0) _ _ _ _ _ (pre .1 .0) _ _ _ (at .slot-of .ensures .0) (sym (c .before .if1 .left) ∙ asked .answers-for .ensures)
+    walk-on _ _ (pre .0) _ _ _ _ (pre .1 .0) _ _ _ (at .slot-of .ensures .0) (sym (c .before .if1 .left) ∙ asked .answers-for .ensures)
     (c .read .ensures) (at .before .loop-test .taken) (omega arith)
 
 loop-less : tie.Need-loop-less Inv-loop μ-loop
@@ -75,7 +68,7 @@ returns-2 : tie.Need-returns-2 Inv-loop μ-loop
 returns-2 c =
     let head = c .before in
     let pre = head .before .before .pre .1 .1 in
-    (sym (head .loop .inv .1 ∙ walk-stop _ _ (pre .0) _ _ _ _ _ (pre .1 .0) _ (c .loop-test .left)), head .loop .inv .0)
+    (sym (head .loop .inv .1 ∙ walk-stop _ _ (pre .0) _ _ _ _ (pre .1 .0) _ (c .loop-test .left)), head .loop .inv .0)
 
 pub walk-spec : {M : Type 1} → statement M
 walk-spec =
@@ -86,7 +79,6 @@ walk-spec =
     loop-holds
     slot-of-requires
     answers-for-requires
-    value-requires
     returns
     read-requires
     loop-less

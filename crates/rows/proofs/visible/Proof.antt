@@ -9,13 +9,13 @@ use Rattle.rows.proofs.visible.Statement.{statement}
 use Rattle.rows.proofs.visible.Tie as tie
 
 returns : tie.Need-returns
-returns c = unseen-row _ _ _ _ _ (sym (c .before .sees-row .ensures) ∙ not-true _ (c .if1 .taken))
+returns c = unseen-row _ _ _ _ (sym (c .before .sees-row .ensures) ∙ not-true _ (c .if1 .taken))
 
 returns-2 : tie.Need-returns-2
 returns-2 c =
     let call = c .before .before in
     let test = call .before in
-    row-alone _ _ _ _ _ (sym (test .before .sees-row .ensures) ∙ not-false _ (test .if1 .left))
+    row-alone _ _ _ _ (sym (test .before .sees-row .ensures) ∙ not-false _ (test .if1 .left))
     (sym (call .head .ensures .0) ∙ c .enum-told .given .1)
 
 -- the record that was found lies among the slots
@@ -30,7 +30,7 @@ returns-3 c =
     let at = c .before .before .before in
     let call = at .before .before in
     let test = call .before in
-    row-kept _ _ _ _ _ _ _ (sym (test .before .sees-row .ensures) ∙ not-false _ (test .if1 .left))
+    row-kept _ _ _ _ _ _ (sym (test .before .sees-row .ensures) ∙ not-false _ (test .if1 .left))
     (sym (call .head .ensures .0) ∙ at .at .given .1) (c .before .read .ensures) (c .if2 .taken)
 
 sees-record-requires : tie.Need-sees-record-requires
@@ -42,7 +42,7 @@ returns-4 c =
     let at = kind .before .before in
     let call = at .before .before in
     let test = call .before in
-    row-deleted _ _ _ _ _ _ _ _ (sym (test .before .sees-row .ensures) ∙ not-false _ (test .if1 .left))
+    row-deleted _ _ _ _ _ _ _ (sym (test .before .sees-row .ensures) ∙ not-false _ (test .if1 .left))
     (sym (call .head .ensures .0) ∙ at .at .given .1) (kind .read .ensures) (c .before .if2 .left) (c .sees-record .ensures)
 
 pub visible-spec : {M : Type 1} → statement M

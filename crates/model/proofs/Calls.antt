@@ -19,7 +19,8 @@ use Rattle.history.specs.History as H
 use Rattle.history.specs.History.{Call, begin, insert, update, delete, commit, abort, latest, readAt, ownRead, openScan, scanRead, sum, close, merge, release, pageCell, lineage, History, Record, active, Test, _when_, Verdict, accept, refuse, verdict, tests, reply, effect, answer, next, answerIf, nextIf, any, keep, count, upTo, total, stateOf, rowAt, rangeOf, recordsOf, seenAt, seenBy, ended, visible, versionOf, read, scanAt, inserted, lastSetting, cellValue, notActive, notRunning, notGiven, noColumn, noRange, lacksRecords, notLater, later, outOfReach, noPage, cellThrough}
 use Rattle.history.proofs.Lists.{by-test, all-map, all-at, keep-append, any-agree, not-not, parts, eqb-other}
 use Rattle.history.proofs.Accepted.{Passed, passed}
-use Rattle.history.proofs.Steps.{mergeable, is-active, within-reach, step, by-update, by-delete, made-new}
+use Rattle.history.proofs.Steps.{mergeable, is-active, within-reach, step, made-new}
+use Rattle.history.specs.Steps.{by-update, by-delete}
 use Rattle.history.proofs.Ranges.{last-agree}
 use Rattle.history.proofs.Pages.{cell-is}
 use Rattle.history.proofs.Past.{past-next}
@@ -32,7 +33,7 @@ use Rattle.model.specs.declared.Reader.{Reader}
 use Rattle.model.specs.Reading.{reader, readIn, readCurrent, ownChanges, wordIn, scanPage, Tally, tally, sumIn}
 use Rattle.model.specs.Writing.{freeIn}
 use Rattle.model.specs.Calls.{testsIn, replyIn, actIn, placesAfter, viewIf, placesIf, say, viewNext, placesNext, notOpenIn, noScanIn, notGivenIn, lacksIn, notLaterIn, laterIn, outOfReachIn, Typed}
-use Rattle.model.proofs.Represents.{everyRow, CurrentOf, Unchanged, scanAs, Represents, Known}
+use Rattle.model.specs.Represents.{everyRow, CurrentOf, Unchanged, scanAs, Represents, Known, StepKept}
 use Rattle.model.proofs.Transactions.{opens-is, opens-full, open-there, active-some, begin-kept, commit-kept, abort-kept}
 use Rattle.model.proofs.Insert.{insert-kept}
 use Rattle.model.proofs.Heads.{in-range, SeesAs, sees-at, sees-own, held-is, gone-is, visible-is}
@@ -314,16 +315,14 @@ module _ (S : Shape) (v : View) (ps : List Place) (h : History) (o : Represents 
   act-kept (lineage g c) y p = o
 
 -- ---- one call
-pub known-next : {S : Shape} {h : History} (c : Call) → Known S h → Known S (next S h c)
-known-next c k = record { small = k .small; past = past-next c (k .past) }
-
-pub one-call : (S : Shape) (v : View) (ps : List Place) (h : History) (c : Call) → Typed c → Represents S v ps h → Known S h
-    → (say S v ps c ≡ answer S h c) × Represents S (viewNext S v ps c) (placesNext S v ps c) (next S h c)
+pub one-call : StepKept
 unfolding say viewNext placesNext answer next
-one-call S v ps h c y o k = (
-  ap (λ (w : Verdict). answerIf w (replyIn S v ps c)) same ∙ answers (verdict (tests S h c)) refl,
-  rw same (kept (verdict (tests S h c)) refl),
-)
+one-call S v ps h c y o k =
+    record {
+      answered = ap (λ (w : Verdict). answerIf w (replyIn S v ps c)) same ∙ answers (verdict (tests S h c)) refl;
+      shown = rw same (kept (verdict (tests S h c)) refl);
+      known = record { small = k .small; past = past-next c (k .past) };
+    }
   where
     same : verdict (testsIn S v ps c) ≡ verdict (tests S h c)
     same = agree-verdict (tests-agree S v ps h o k c)

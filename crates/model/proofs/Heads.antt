@@ -13,10 +13,10 @@ use Rattle.terms.specs.Measures.{Shape}
 use Rattle.history.specs.History.{History, Record, State, unknown, active, aborted, committed, Content, original, setting, ending, committedBy, stateOf, rowAt, ends, rangeOf, recordsOf, seenAt, seenBy, ended, visible, activeOther, held, gone}
 use Rattle.history.proofs.Lists.{clash, is-true, eqb-other}
 use Rattle.history.specs.Latest.{stampOf}
-use Rattle.history.proofs.States.{Stamped}
-use Rattle.history.proofs.Steps.{anyOfRow}
+use Rattle.history.specs.Invariants.{Stamped}
+use Rattle.history.specs.Records.{anyOfRow, noRecord, lastOf}
 use Rattle.history.proofs.Ranges.{any-range}
-use Rattle.history.proofs.Links.{noRecord, lastOf, last-of-row}
+use Rattle.history.proofs.Links.{last-of-row}
 use Rattle.history.proofs.Newest.{recordIs, newestIs, ended-newest}
 use Rattle.layout.specs.View.{View}
 use Rattle.layout.specs.declared.Region.the-variants.{Opens}
@@ -27,7 +27,7 @@ use Rattle.model.specs.Reading.{reader, sees, seesRecord, headIn, hasRec
 use Rattle.model.specs.Calls.{openOther, standsFor, anyRecord, heldIn, goneIn}
 use Rattle.model.proofs.Lists.{any-below}
 use Rattle.model.proofs.Transactions.{opens-is}
-use Rattle.model.proofs.Represents.{stateWord, RowIs, ContentIs, TailOf, Represents, Known}
+use Rattle.model.specs.Represents.{stateWord, RowIs, ContentIs, TailOf, Represents, Known}
 
 pub slot-is : (S : Shape) (g k : ℕ) → slot S g (suc k) ≡ g * S .capacity + k
 unfolding slot

@@ -15,13 +15,13 @@ use mir.Val.{toZ}
 use Rattle.terms.specs.Measures.{Shape}
 use Rattle.terms.specs.declared.Answer.{Answer}
 use Rattle.history.specs.History.{History, Record, Version, State, aborted, committed, Content, original, setting, ending, any, isCommitted, stateOf, bit, sets, newValue, insertedValue, inserted, versionIn, lastSetting, rangeOf, recordsOf, visible, versionOf, read, cellThrough}
-use Rattle.history.proofs.Lists.{among, by-test, parts, all-map₂, is-true, refuted, any-none, all-take, not-any}
-use Rattle.history.proofs.Steps.{isOriginal, wasSet, hasOriginal}
+use Rattle.history.proofs.Lists.{by-test, parts, all-map₂, is-true, refuted, any-none, all-take, not-any}
+use Rattle.history.specs.Records.{among, isOriginal, wasSet, hasOriginal, noRecord, lastOf}
 use Rattle.history.specs.Latest.{stampOf}
-use Rattle.history.proofs.States.{isClosed}
-use Rattle.history.proofs.Order.{InOrder, placed-at}
+use Rattle.history.specs.Invariants.{isClosed, InOrder}
+use Rattle.history.proofs.Order.{placed-at}
 use Rattle.history.proofs.Ranges.{version-range, last-next, last-agree, last-unset}
-use Rattle.history.proofs.Links.{noRecord, lastOf, last-of-row}
+use Rattle.history.proofs.Links.{last-of-row}
 use Rattle.history.proofs.Endings.{original-reads, originals-of}
 use Rattle.layout.specs.View.{View}
 use Rattle.terms.specs.declared.Place.{Place}
@@ -30,7 +30,7 @@ use Rattle.model.specs.declared.Walk.{Walk}
 use Rattle.model.specs.Stored.{PageWords, rowIn, recordIn, valueIn, pageIn, cellIn, within, originalKind, settingKind}
 use Rattle.model.specs.Reading.{sees, answersFor, walk, orElse, belowLineage, wordIn, readIn}
 use Rattle.model.proofs.Lists.{true-false, take-next}
-use Rattle.model.proofs.Represents.{stateWord, ContentIs, RecordIs, TailOf, Holds, Represents, Known}
+use Rattle.model.specs.Represents.{stateWord, ContentIs, RecordIs, TailOf, Holds, Represents, Known}
 use Rattle.model.proofs.Heads.{slot-is, in-range, SeesAs, visible-is}
 
 -- ---- one record

@@ -108,7 +108,7 @@ record Left (m : List ℕ) (ps : List Place) (S : Shape) (h : History) (cs : Lis
 view-next : {m : List ℕ} {ps : List Place} {S : Shape} {h : History} → Same m ps S h → (c : Call) → Typed c
     → view (sizesOf S) (words (memoryAfter m ps c)) ≡ viewNext S (view (sizesOf S) (words m)) ps c
 view-next {m} {ps} {S} {h} o c y =
-    let whole = (one-call S (view (sizesOf S) (words m)) ps h c y (o .shown) (o .known) .1) .whole in
+    let whole = (one-call S (view (sizesOf S) (words m)) ps h c y (o .shown) (o .known) .shown) .whole in
     rw (memory-is o c) (view-lay (sizesOf S) (viewNext S (view (sizesOf S) (words m)) ps c) m (whole .long) (whole .fits))
 
 calls-left : {m : List ℕ} {ps : List Place} {S : Shape} {h : History} → Same m ps S h → {cs : List Call} → All Typed cs → Left m ps S h cs

@@ -1,9 +1,13 @@
 // The word of a row and column for a reader: in a page, in the tail records above the page's lineage, and further down only where the page is newer
 // than the reader's stamp. Each function answers by the model's definition of the same meaning.
+pub mod pages;
+
 use layout::Region;
 use layout::Sizes;
 use model::Reader;
 use model::Walk;
+use pages::cell;
+use pages::current_page;
 use regions::read;
 use rows::has_bit;
 use rows::range_of;
@@ -20,7 +24,7 @@ ghost use lib.ListN.{length};
 ghost use Rattle.words.specs.Words.{words};
 ghost use Rattle.layout.specs.Regions.{need};
 ghost use Rattle.layout.specs.View.{view, rowsGiven, usedIn};
-ghost use Rattle.model.specs.Stored.{recordIn, pageIn, valueIn, cellIn, within, currentIn};
+ghost use Rattle.model.specs.Stored.{recordIn, pageIn, valueIn};
 ghost use Rattle.model.specs.Reading.{answersFor, walk, belowLineage, wordIn, readIn, readCurrent};
 ghost use Rattle.layout.specs.Sizes.{Proper};
 ghost use Rattle.model.specs.Asked.{shapeIn};
@@ -74,16 +78,6 @@ pub fn walk(mem: &[u8], s: Sizes, who: Reader, g: usize, c: u32, low: Tail, from
         k = read(mem, s, Region::TailLink, at);
     }
     Walk::Stopped(Tail(k))
-}
-
-// The word of a row in a page.
-pub fn cell(mem: &[u8], s: Sizes, page: usize, row: Row) -> u32
-    requires { ⌜ need s * 4 ≤ length (now mem) ⌝ }
-    requires { ⌜ Proper s ⌝ }
-    requires { ⌜ page < s .pages ⌝ }
-    ensures { λ r. ⌜ r ≡ cellIn (view s (words (now (mem .entry)))) page (within (row .0)) ⌝ }
-{
-    read(mem, s, Region::Cells, page * 64 + (row.0 % 64) as usize)
 }
 
 // The word for a walk that stopped at record k, at the page's lineage: the cell, unless the page holds a setting later than the reader's stamp.
@@ -146,17 +140,6 @@ pub fn read_row(mem: &[u8], s: Sizes, who: Reader, page: usize, row: Row, c: u32
         return Answer::Value(of_word(word_of(mem, s, who, page, row, c)));
     }
     Answer::None
-}
-
-// The current page of range g and column c.
-pub fn current_page(mem: &[u8], s: Sizes, g: usize, c: u32) -> usize
-    requires { ⌜ need s * 4 ≤ length (now mem) ⌝ }
-    requires { ⌜ Proper s ⌝ }
-    requires { ⌜ Pooled s (view s (words (now mem))) ⌝ }
-    requires { ⌜ (g < s .ranges) × (c < s .columns) ⌝ }
-    ensures { λ r. ⌜ (r ≡ currentIn (shapeIn s) (view s (words (now (mem .entry)))) g c) × (r < s .pages) ⌝ }
-{
-    read(mem, s, Region::Current, g * s.columns + c as usize) as usize
 }
 
 // What the reader reads of a row and column on the current page.

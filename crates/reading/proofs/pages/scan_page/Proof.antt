@@ -1,11 +1,11 @@
--- `summing::scan_page` meets its contract.
+-- `reading::pages::scan_page` meets its contract.
 use mathlib.Core.Path.{sym, _∙_}
 use native.Mathlib.Omega.{arith}
 use Rattle.rows.proofs.Indices.{places-few, place-in}
-use Rattle.summing.proofs.Pages.{scan-current, scan-old, scan-none}
+use Rattle.reading.proofs.ScanPages.{scan-current, scan-old, scan-none}
 use borrow.Author.Needs.{needs}
-use Rattle.summing.proofs.scan_page.Statement.{statement}
-use Rattle.summing.proofs.scan_page.Tie as tie
+use Rattle.reading.proofs.pages.scan_page.Statement.{statement}
+use Rattle.reading.proofs.pages.scan_page.Tie as tie
 
 returns : tie.Need-returns
 returns c =

@@ -1,11 +1,11 @@
--- `reading::current_page` meets its contract.
+-- `reading::pages::current_page` meets its contract.
 use Prim.Native.Nat.{_+_, _*_, _≤_, _<_}
 use native.Mathlib.Omega.{arith}
 use Rattle.model.specs.Stored.{currentIn}
 use Rattle.rows.proofs.Indices.{places-few, place-in}
 use borrow.Author.Needs.{needs}
-use Rattle.reading.proofs.current_page.Statement.{statement}
-use Rattle.reading.proofs.current_page.Tie as tie
+use Rattle.reading.proofs.pages.current_page.Statement.{statement}
+use Rattle.reading.proofs.pages.current_page.Tie as tie
 
 inside : (c : tie.Start) → let a = c .args in (a .g * a .s .columns + a .c < a .s .places) × (a .s .places ≤ 256)
 inside c =

@@ -1,4 +1,4 @@
--- `summing::old_page` meets its contract.
+-- `reading::pages::old_page` meets its contract.
 use Prim.Native.Nat.{_-_, _≤_}
 use mathlib.Core.Path.{_≡_, sym, _∙_}
 use native.Mathlib.Omega.{arith}
@@ -8,9 +8,9 @@ use Rattle.layout.specs.View.{view}
 use Rattle.model.specs.Stored.{firstFrom}
 use Rattle.model.specs.Reading.{wasCurrent}
 use Rattle.model.specs.Asked.{shapeIn}
-use Rattle.summing.proofs.Pages.{first-here, first-on, first-end, old-found, old-none}
-use Rattle.summing.proofs.old_page.Statement.{statement}
-use Rattle.summing.proofs.old_page.Tie as tie
+use Rattle.reading.proofs.ScanPages.{first-here, first-on, first-end, old-found, old-none}
+use Rattle.reading.proofs.pages.old_page.Statement.{statement}
+use Rattle.reading.proofs.pages.old_page.Tie as tie
 
 abbrev Inv-loop : tie.InvT-loop
 Inv-loop mem s merges place n p₀ p =

@@ -1,9 +1,9 @@
--- `summing::was_current` meets its contract.
+-- `reading::pages::was_current` meets its contract.
 use native.Mathlib.Omega.{arith}
-use Rattle.summing.proofs.Pages.{places-some, not-waiting, elsewhere, made-later, made-before}
+use Rattle.reading.proofs.ScanPages.{places-some, not-waiting, elsewhere, made-later, made-before}
 use borrow.Author.Needs.{needs}
-use Rattle.summing.proofs.was_current.Statement.{statement}
-use Rattle.summing.proofs.was_current.Tie as tie
+use Rattle.reading.proofs.pages.was_current.Statement.{statement}
+use Rattle.reading.proofs.pages.was_current.Tie as tie
 
 returns : tie.Need-returns
 returns c = not-waiting _ (c .before .before .before .pre .1 .0) _ _ _ _ _ (c .before .read .ensures) (c .if1 .taken)

@@ -1,8 +1,7 @@
 -- `reading::walk` meets its contract.
-use Prim.Native.Nat.{_≤_, _<_}
+use Prim.Native.Nat.{_≤_}
 use mathlib.Core.Path.{_≡_, refl, sym, _∙_}
 use native.Mathlib.Omega.{arith}
-use denote.Ref.{now}
 use Rattle.words.specs.Words.{words}
 use Rattle.layout.specs.View.{view}
 use Rattle.model.specs.Reading as R
@@ -24,7 +23,7 @@ loop-holds c = (omega arith, refl)
 
 slot-of-requires : tie.Need-slot-of-requires Inv-loop μ-loop
 slot-of-requires c κs =
-    let start = c .before .before .before in
+    let start : tie.Start Inv-loop μ-loop = search in
     let pre = start .pre .1 .1 in
     (start .pre .1 .0, (pre .1 .0, omega arith, omega (arith, pre .0 .used-few _ (pre .1 .0))))
 
@@ -33,41 +32,42 @@ answers-for-requires c κs = (omega arith, (omega arith, omega arith))
 
 returns : tie.Need-returns Inv-loop μ-loop
 returns c =
-    let asked = c .before in
-    let at = asked .before in
-    let head = at .before .before in
-    let pre = head .before .before .pre .1 .1 in
-    (sym (head .loop .inv .1 ∙ walk-hit _ _ (pre .0) _ _ _ _ (pre .1 .0) _ _ (at .slot-of .ensures .0) (sym (c .if1 .taken) ∙ asked .answers-for .ensures) (at .before .loop-test .taken)), at .slot-of .ensures .1)
+    let start : tie.Start Inv-loop μ-loop = search in
+    let head : tie.At-loop Inv-loop μ-loop = search in
+    let above : tie.In-loop Inv-loop μ-loop = search in
+    let at : tie.After-slot-of Inv-loop μ-loop = search in
+    let pre = start .pre .1 .1 in
+    (sym (head .loop .inv .1 ∙ walk-hit _ _ (pre .0) _ _ _ _ (pre .1 .0) _ _ (at .slot-of .ensures .0) (sym (c .if1 .taken) ∙ c .before .answers-for .ensures) (above .loop-test .taken)), at .slot-of .ensures .1)
 
 read-requires : tie.Need-read-requires Inv-loop μ-loop
 read-requires c κs = (omega arith, omega arith)
 
 -- the link that was read is lower, and the walk goes on from it
-on : (c : tie.After-read Inv-loop μ-loop) → let head = c .before .before .before .before .before in
-    let a = head .before .before .args in
-    let k = head .loop .k in
-    let m = view (a .s) (words (now (a .mem))) in
-    (c .read .result < k)
-    × (R.walk (shapeIn (a .s)) m (a .who) (a .g) (a .c) (a .low .0) k k
-    ≡ R.walk (shapeIn (a .s)) m (a .who) (a .g) (a .c) (a .low .0) (c .read .result) (c .read .result))
-on c =
-    let asked = c .before .before in
-    let at = asked .before in
-    let head = at .before .before in
-    let pre = head .before .before .pre .1 .1 in
-    walk-on _ _ (pre .0) _ _ _ _ (pre .1 .0) _ _ _ (at .slot-of .ensures .0) (sym (c .before .if1 .left) ∙ asked .answers-for .ensures)
-    (c .read .ensures) (at .before .loop-test .taken) (omega arith)
-
 loop-less : tie.Need-loop-less Inv-loop μ-loop
-loop-less c = omega (arith, on c .0)
+loop-less c =
+    let start : tie.Start Inv-loop μ-loop = search in
+    let above : tie.In-loop Inv-loop μ-loop = search in
+    let at : tie.After-slot-of Inv-loop μ-loop = search in
+    let asked : tie.After-answers-for Inv-loop μ-loop = search in
+    let pre = start .pre .1 .1 in
+    omega (arith, walk-on _ _ (pre .0) _ _ _ _ (pre .1 .0) _ _ _ (at .slot-of .ensures .0) (sym (c .before .if1 .left) ∙ asked .answers-for .ensures) (c .read .ensures) (above .loop-test .taken) (omega arith) .0)
 
 loop-again : tie.Need-loop-again Inv-loop μ-loop
-loop-again c = (omega (arith, on c .0), c .before .before .before .before .before .loop .inv .1 ∙ on c .1)
+loop-again c =
+    let start : tie.Start Inv-loop μ-loop = search in
+    let head : tie.At-loop Inv-loop μ-loop = search in
+    let above : tie.In-loop Inv-loop μ-loop = search in
+    let at : tie.After-slot-of Inv-loop μ-loop = search in
+    let asked : tie.After-answers-for Inv-loop μ-loop = search in
+    let pre = start .pre .1 .1 in
+    let on = walk-on _ _ (pre .0) _ _ _ _ (pre .1 .0) _ _ _ (at .slot-of .ensures .0) (sym (c .before .if1 .left) ∙ asked .answers-for .ensures) (c .read .ensures) (above .loop-test .taken) (omega arith) in
+    (omega (arith, on .0), head .loop .inv .1 ∙ on .1)
 
 returns-2 : tie.Need-returns-2 Inv-loop μ-loop
 returns-2 c =
+    let start : tie.Start Inv-loop μ-loop = search in
     let head = c .before in
-    let pre = head .before .before .pre .1 .1 in
+    let pre = start .pre .1 .1 in
     (sym (head .loop .inv .1 ∙ walk-stop _ _ (pre .0) _ _ _ _ (pre .1 .0) _ (c .loop-test .left)), head .loop .inv .0)
 
 pub walk-spec : {M : Type 1} → statement M

@@ -14,11 +14,12 @@ use borrow.Author.Needs.{needs}
 use Rattle.reading.proofs.word_of.Statement.{statement}
 use Rattle.reading.proofs.word_of.Tie as tie
 
+-- where the row's link was read: the function's start, and the row's range
 abbrev start : tie.After-read3 → tie.Start
-start c = search needs
+start c = search
 
 abbrev range : tie.After-read3 → tie.After-range-of
-range c = search needs
+range c = search
 
 -- the row's range is one of the store's, and its link one of the records used
 reach : (c : tie.After-read3) → let a = start c .args in
@@ -39,24 +40,24 @@ word : (c : tie.After-walk) → let a = start (c .before) .args in
     ≡ orElse (c .walk .result) (λ i. valueIn (shapeIn (a .s)) m i (a .c))
     (belowLineage (shapeIn (a .s)) m (a .who) (range (c .before) .range-of .result) (a .c) (pageIn m (a .page)) (cellIn m (a .page) (within (a .row .0))))
 word c =
-    let mask : tie.After-read = search needs in
-    let test : tie.After-has-bit = search needs in
-    let set : tie.Then1 = search needs in
-    let lineage : tie.After-read2 = search needs in
+    let mask : tie.After-read = search in
+    let test : tie.After-has-bit = search in
+    let set : tie.Then1 = search in
+    let lineage : tie.After-read2 = search in
     word-walked _ _ _ _ _ _ _ (mask .read .ensures) _ _ _ _ (sym (test .has-bit .ensures) ∙ set .if1 .taken) (range (c .before) .range-of .ensures) (c .before .read3 .ensures)
     (lineage .read2 .ensures) (c .walk .ensures .0)
 
 value-requires : tie.Need-value-requires
 value-requires c κs =
-    let call : tie.After-walk = search needs in
-    let found : tie.After-i = search needs in
+    let call : tie.After-walk = search in
+    let found : tie.After-i = search in
     let pre = start (call .before) .pre in
     (pre .0, (pre .1 .0, (rw (found .i .given .1) at (call .walk .ensures .1), pre .1 .1 .1 .1)))
 
 below-lineage-requires : tie.Need-below-lineage-requires
 below-lineage-requires c κs =
-    let call : tie.After-walk = search needs in
-    let stopped : tie.After-k = search needs in
+    let call : tie.After-walk = search in
+    let stopped : tie.After-k = search in
     let link = call .before in
     let pre = start link .pre .1 in
     let near = reach link in
@@ -65,22 +66,22 @@ below-lineage-requires c κs =
 
 returns : tie.Need-returns
 returns c =
-    let call : tie.After-walk = search needs in
-    let found : tie.After-i = search needs in
+    let call : tie.After-walk = search in
+    let found : tie.After-i = search in
     rw (word call, found .i .given .1) (c .value .ensures)
 
 returns-2 : tie.Need-returns-2
 returns-2 c =
-    let call : tie.After-walk = search needs in
-    let stopped : tie.After-k = search needs in
-    let page : tie.After-cell = search needs in
+    let call : tie.After-walk = search in
+    let stopped : tie.After-k = search in
+    let page : tie.After-cell = search in
     rw (word call, stopped .k .given .1, ← page .cell .ensures) (c .below-lineage .ensures)
 
 returns-3 : tie.Need-returns-3
 returns-3 c =
-    let mask : tie.After-read = search needs in
-    let test : tie.After-has-bit = search needs in
-    let page : tie.After-cell = search needs in
+    let mask : tie.After-read = search in
+    let test : tie.After-has-bit = search in
+    let page : tie.After-cell = search in
     word-alone _ _ _ _ _ _ _ (mask .read .ensures) _ (sym (test .has-bit .ensures) ∙ c .if1 .left) (page .cell .ensures)
 
 pub word-of-spec : {M : Type 1} → statement M

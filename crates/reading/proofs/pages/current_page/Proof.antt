@@ -15,15 +15,15 @@ inside c =
 returns : tie.Need-returns
 unfolding currentIn
 returns c =
-    let start = c .before .before .before in
+    let start : tie.Start = search in
     (c .read .ensures, rw (c .read .ensures) (start .pre .1 .1 .0 _ (inside start .0)))
 
 pub current-page-spec : {M : Type 1} → statement M
 current-page-spec =
     tie.close
     (tie.spec
-    (λ c. omega (arith, inside (c .before .before)))
-    (λ c. omega (arith, inside (c .before .before)))
-    (λ c κs. (search needs, omega (arith, inside (c .before .before))))
+    (λ c. omega (arith, inside search))
+    (λ c. omega (arith, inside search))
+    (λ c κs. (search needs, omega (arith, inside search)))
     (λ c. search needs)
     returns)

@@ -20,8 +20,8 @@ use Rattle.layout.specs.declared.Sizes.{Sizes}
 use Rattle.layout.specs.declared.Region.{Region}
 use Rattle.layout.specs.declared.Region.the-variants.{Opens, RowTransaction, RowStamp, RowLink, TailTransaction, TailRow, TailLink, TailStamp, Current, PageState, PagePlace, PageReplaced, PageLineage, PageNewest}
 use Rattle.layout.specs.Regions.{len, need}
-use Rattle.layout.specs.View.{View, view, rowsGiven, transactionsGiven, scansGiven, lastStamp, mergesMade, usedIn}
-use Rattle.layout.proofs.View.{Long, view-long}
+use Rattle.layout.specs.View.{View, view, rowsGiven, transactionsGiven, scansGiven, lastStamp, mergesMade, usedIn, Long}
+use Rattle.layout.proofs.View.{view-long}
 use Rattle.terms.specs.Places.{freePlace}
 use Rattle.scans.specs.Places.{openCount, everyOpen, among, differ}
 use Rattle.facts.specs.Facts.{firstSlot, each, rowsBetween, rangeBetween, currentAtMost, waiting, waitingAtMost, countsWithin, rowNamed, rangeNamesRows, recordsNameRows, numbersGiven, linkHolds, rowLinked, recordLinked, rangeLinked, linksHold, stampsWithin, mergesWithin, openDiffer, pagePlaced, pagesPlaced, pageRange, currentLineage, waitingLineage, lineagesWithin, factsHold}

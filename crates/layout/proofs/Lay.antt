@@ -6,15 +6,15 @@ use mathlib.Core.List.{List, [], _∷_, map, _++_}
 use native.Mathlib.Omega.{arith}
 use lib.ListN.{length, getD, take, drop, take-append-drop}
 use lib.Seq.{take-all, take-take, length-take-le}
-use Rattle.words.specs.Words.{words, Bytes}
-use Rattle.words.proofs.Words.{Fit, words-bytes, bytes-words, words-take, words-fit, front-bytes, append-fit, take-fit, drop-fit}
+use Rattle.words.specs.Words.{words, Bytes, Fit}
+use Rattle.words.proofs.Words.{words-bytes, bytes-words, words-take, words-fit, front-bytes, append-fit, take-fit, drop-fit}
 use Rattle.layout.specs.declared.Sizes.{Sizes}
 use Rattle.layout.specs.declared.Region.{Region}
 use Rattle.layout.specs.Cut.{join}
 use Rattle.layout.specs.Regions.{index, lens, all, len, base, need}
-use Rattle.layout.specs.View.{View, view, lay}
+use Rattle.layout.specs.View.{View, view, lay, Long, Fits}
 use Rattle.layout.proofs.Cut.{piece, piece-join}
-use Rattle.layout.proofs.View.{base-in, view-join, Long, Fits}
+use Rattle.layout.proofs.View.{base-in, view-join}
 
 -- ---- laying what was seen
 

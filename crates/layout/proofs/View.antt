@@ -10,14 +10,13 @@ use lib.ListN.{length, getD, set, take}
 use borrow.Author.Tests.{eq-eqb, ne-eqb, eqb-true}
 use Rattle.loops.specs.Search.{region}
 use Rattle.loops.specs.Change.{changed, copied, marked}
-use Rattle.words.proofs.Words.{Fit}
 use Rattle.loops.proofs.Region.{region-at, region-length, region-put, region-before, region-after, region-region}
 use Rattle.loops.proofs.Change.{changed-apart, changed-inside, changed-same}
 use Rattle.layout.specs.declared.Sizes.{Sizes}
 use Rattle.layout.specs.declared.Region.{Region}
 use Rattle.layout.specs.Cut.{join}
 use Rattle.layout.specs.Regions.{index, lens, all, len, base, need}
-use Rattle.layout.specs.View.{View, view, renew, put, fill, number, copy, mark}
+use Rattle.layout.specs.View.{View, view, renew, put, fill, number, copy, mark, Long}
 use Rattle.layout.proofs.Cut.{within, sides, inside, join-pieces}
 
 pub base-in : (s : Sizes) (k : Region) → base s k + len s k ≤ need s
@@ -126,14 +125,6 @@ renew-there k j l m h = rw (ne-eqb (index k) (index j) h)
 pub view-join : (s : Sizes) (ws : List ℕ) → join (map (view s ws) all) ≡ take (need s) ws
 unfolding base view need
 view-join s ws = join-pieces 0 (lens s) ws
-
--- ---- a view that a memory can have: each list as long as the sizes say, each word below 2 ^ 32
-
-abbrev pub Long : Sizes → View → Type 0
-Long s m = (k : Region) → length (m k) ≡ len s k
-
-abbrev pub Fits : View → Type 0
-Fits m = (k : Region) → Fit (m k)
 
 pub view-long : (s : Sizes) (ws : List ℕ) → need s ≤ length ws → Long s (view s ws)
 unfolding view

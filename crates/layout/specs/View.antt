@@ -1,11 +1,12 @@
 -- The view of a memory: one list of words for each region. What a call writes is a function from view to view, made of those here,
 -- and `lay` writes a view over the bytes that a shape needs.
 use Prim.Native.Nat.{ℕ, _+_, _*_}
+use mathlib.Core.Path.{_≡_}
 use mathlib.Core.Bool.{cond}
 use mathlib.Core.List.{List, map, _++_}
 use lib.Dec.{eqb}
-use lib.ListN.{getD, set, drop}
-use Rattle.words.specs.Words.{bytes}
+use lib.ListN.{length, getD, set, drop}
+use Rattle.words.specs.Words.{Fit, bytes}
 use Rattle.loops.specs.Search.{region}
 use Rattle.loops.specs.Change.{filled, numbered, copied, marked}
 use Rattle.layout.specs.declared.Sizes.{Sizes}
@@ -68,3 +69,10 @@ mergesMade v = getD (v Header) mergesAt 0
 -- the records used of range g
 abbrev pub usedIn : View → ℕ → ℕ
 usedIn v g = getD (v Used) g 0
+
+-- a view that a memory can have: each list as long as the sizes say, each word below 2 ^ 32
+abbrev pub Long : Sizes → View → Type 0
+Long s m = (k : Region) → length (m k) ≡ len s k
+
+abbrev pub Fits : View → Type 0
+Fits m = (k : Region) → Fit (m k)

@@ -13,7 +13,7 @@ use lib.ListN.{length, getD, set, replicate, length-set}
 use lib.Seq.{getD-set-same, getD-set-other}
 use Rattle.loops.specs.Change.{changed, copied, marked}
 use Rattle.loops.specs.Search.{region}
-use Rattle.words.proofs.Words.{Fit}
+use Rattle.words.specs.Words.{Fit}
 use Rattle.loops.proofs.Region.{region-at, region-put, region-before, region-after}
 
 module _ (f : ℕ → ℕ → ℕ) (at : ℕ) (l : List ℕ) where

@@ -13,7 +13,8 @@ use lib.Seq.{getD-set-same, getD-set-other, getD-append-seam}
 use Rattle.terms.specs.Measures.{Shape, rangeRows}
 use Rattle.history.specs.History.{Record, State, Content, original, setting, ending, rangeOf}
 use Rattle.history.proofs.Lists.{by-cases, eqb-same, eqb-other}
-use Rattle.history.proofs.Links.{noRecord, lastOf, last-of-append}
+use Rattle.history.proofs.Links.{last-of-append}
+use Rattle.history.specs.Records.{noRecord, lastOf}
 use Rattle.loops.proofs.Change.{changed-length, changed-outside, changed-at, changed-fit}
 use Rattle.layout.specs.View.{View, renew, put, usedIn}
 use Rattle.layout.specs.Regions.{len}
@@ -23,7 +24,7 @@ use Rattle.layout.specs.declared.Region.the-variants.{RowLink, TailTransaction,
 use Rattle.model.specs.Stored.{RecordWords, rowIn, recordIn, valueIn, slot, asOpen}
 use Rattle.model.specs.Writing.{nextSlot, appended, filledIn}
 use Rattle.model.proofs.Lists.{part-in, same-part}
-use Rattle.model.proofs.Represents.{ContentIs, RecordIs, TailIs, TailsFor, Whole}
+use Rattle.model.specs.Represents.{ContentIs, RecordIs, TailIs, TailsFor, Whole}
 use Rattle.model.proofs.Views.{renew-whole, put-whole}
 use Rattle.model.proofs.Heads.{slot-is}
 

@@ -11,7 +11,8 @@ use lib.ListN.{length, getD, set}
 use Rattle.history.specs.History.{any, count, nth, change}
 use Rattle.history.proofs.Lists.{by-cases, cond-suc, eqb-same, is-true, eqb-other}
 use Rattle.terms.specs.Places.{place, bears}
-use Rattle.model.proofs.Lists.{one, countFrom, count-set, any-count, count-rest, count-from, from-snoc, from-set, from-none, from-at, place-lt, place-is, count-pos}
+use Rattle.model.proofs.Lists.{one, count-set, any-count, count-rest, count-from, from-snoc, from-set, from-none, from-at, place-lt, place-is, count-pos}
+use Rattle.model.specs.Represents.{countFrom}
 
 one-pos : (b : Bool) → ltb 0 (one b) ≡ b
 one-pos true = refl

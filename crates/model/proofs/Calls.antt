@@ -19,7 +19,8 @@ use Rattle.history.specs.History as H
 use Rattle.history.specs.History.{Call, begin, insert, update, delete, commit, abort, latest, readAt, ownRead, openScan, scanRead, sum, close, merge, release, pageCell, lineage, History, Record, active, Test, _when_, Verdict, accept, refuse, verdict, tests, reply, effect, answer, next, answerIf, nextIf, any, keep, count, upTo, total, stateOf, rowAt, rangeOf, recordsOf, seenAt, seenBy, ended, visible, versionOf, read, scanAt, inserted, lastSetting, cellValue, notActive, notRunning, notGiven, noColumn, noRange, lacksRecords, notLater, later, outOfReach, noPage, cellThrough}
 use Rattle.history.proofs.Lists.{by-test, all-map, all-at, keep-append, any-agree, not-not, parts, eqb-other}
 use Rattle.history.proofs.Accepted.{Passed, passed}
-use Rattle.history.proofs.Steps.{mergeable, is-active, within-reach, step, by-update, by-delete, made-new}
+use Rattle.history.proofs.Steps.{mergeable, is-active, within-reach, step, made-new}
+use Rattle.history.specs.Steps.{by-update, by-delete}
 use Rattle.history.proofs.Ranges.{last-agree}
 use Rattle.history.proofs.Pages.{cell-is}
 use Rattle.history.proofs.Past.{past-next}
@@ -28,10 +29,11 @@ use Rattle.layout.specs.declared.Region.the-variants.{Opens, Changes}
 use Rattle.terms.specs.declared.Place.{Place}
 use Rattle.terms.specs.Places.{bears, place}
 use Rattle.model.specs.Stored.{cellIn, currentIn, within, openPlace, scanPlace, pagesOf}
-use Rattle.model.specs.Reading.{readIn, readCurrent, ownChanges, wordIn, scanPage, Tally, tally, sumIn}
+use Rattle.model.specs.declared.Reader.{Reader}
+use Rattle.model.specs.Reading.{reader, readIn, readCurrent, ownChanges, wordIn, scanPage, Tally, tally, sumIn}
 use Rattle.model.specs.Writing.{freeIn}
 use Rattle.model.specs.Calls.{testsIn, replyIn, actIn, placesAfter, viewIf, placesIf, say, viewNext, placesNext, notOpenIn, noScanIn, notGivenIn, lacksIn, notLaterIn, laterIn, outOfReachIn, Typed}
-use Rattle.model.proofs.Represents.{everyRow, CurrentOf, Unchanged, scanAs, Represents, Known}
+use Rattle.model.specs.Represents.{everyRow, CurrentOf, Unchanged, scanAs, Represents, Known, StepKept}
 use Rattle.model.proofs.Transactions.{opens-is, opens-full, open-there, active-some, begin-kept, commit-kept, abort-kept}
 use Rattle.model.proofs.Insert.{insert-kept}
 use Rattle.model.proofs.Heads.{in-range, SeesAs, sees-at, sees-own, held-is, gone-is, visible-is}
@@ -168,17 +170,17 @@ module _ (S : Shape) (v : View) (ps : List Place) (h : History) (o : Represents 
   tests-agree (lineage g c) = test refl (λ p. test refl (λ q. done))
 
   -- ---- the answers
-  pub current-read : (t me r c : ℕ) (f : ℕ → Bool) → SeesAs h t me f → r < length (h .rows) → c < S .columns → readCurrent S v t me r c ≡ read f h r c
+  pub current-read : (who : Reader) (r c : ℕ) (f : ℕ → Bool) → SeesAs h who f → r < length (h .rows) → c < S .columns → readCurrent S v who r c ≡ read f h r c
   unfolding readCurrent
-  current-read t me r c f w b d =
-      read-is S v ps h o k t me f w r b c d (currentIn S v (rangeOf r) c) everyRow (o .currents (rangeOf r) c (in-range k r b) d .holds) (λ z. tt)
+  current-read who r c f w b d =
+      read-is S v ps h o k who f w r b c d (currentIn S v (rangeOf r) c) everyRow (o .currents (rangeOf r) c (in-range k r b) d .holds) (λ z. tt)
 
-  own-read : (t r c : ℕ) → stateOf h t ≡ active → r < length (h .rows) → c < S .columns → readCurrent S v (lastStamp v) (ownChanges v t) r c ≡ read (seenBy h t) h r c
+  own-read : (t r c : ℕ) → stateOf h t ≡ active → r < length (h .rows) → c < S .columns → readCurrent S v (reader (lastStamp v) (ownChanges v t)) r c ≡ read (seenBy h t) h r c
   unfolding ownChanges openPlace
-  own-read t r c a b d = ap (λ (s : ℕ). readCurrent S v s (cond (eqb noted 0) 0 t) r c) (o .header .last-stamp) ∙
-      by-test (λ z. readCurrent S v (h .last) (cond z 0 t) r c ≡ read (seenBy h t) h r c) (eqb noted 0)
-      (λ z. current-read (h .last) 0 r c (seenAt h (h .last)) (sees-at h (h .last)) b d ∙ own-latest h t r c b (unchanged (eqb→eq noted 0 z)))
-      (λ _. current-read (h .last) t r c (seenBy h t) (sees-own h t a) b d)
+  own-read t r c a b d = ap (λ (s : ℕ). readCurrent S v (reader s (cond (eqb noted 0) 0 t)) r c) (o .header .last-stamp) ∙
+      by-test (λ z. readCurrent S v (reader (h .last) (cond z 0 t)) r c ≡ read (seenBy h t) h r c) (eqb noted 0)
+      (λ z. current-read (reader (h .last) 0) r c (seenAt h (h .last)) (sees-at h (h .last)) b d ∙ own-latest h t r c b (unchanged (eqb→eq noted 0 z)))
+      (λ _. current-read (reader (h .last) t) r c (seenBy h t) (sees-own h t a) b d)
     where
       j : ℕ
       j = place (bears t) (v Opens)
@@ -204,9 +206,9 @@ module _ (S : Shape) (v : View) (ps : List Place) (h : History) (o : Represents 
   seen-row s r z = parts (seenAt h s ((rowAt h r) .inserter)) _ z .0
 
   pub scan-read : (i r c : ℕ) → T (scanAt h i .running) → r < length (h .rows) → c < S .columns
-      → readIn S v (scanAt h i .stamp) 0 (scanPage S v (scanAt h i .before) (rangeOf r) c) r c ≡ read (seenAt h (scanAt h i .stamp)) h r c
+      → readIn S v (reader (scanAt h i .stamp) 0) (scanPage S v (scanAt h i .before) (rangeOf r) c) r c ≡ read (seenAt h (scanAt h i .stamp)) h r c
   scan-read i r c t b d =
-      read-is S v ps h o k (scanAt h i .stamp) 0 _ (sees-at h (scanAt h i .stamp)) r b c d _ _ (o .scanPages i t (rangeOf r) c (in-range k r b) d .holds) (seen-row (scanAt h i .stamp) r)
+      read-is S v ps h o k (reader (scanAt h i .stamp) 0) _ (sees-at h (scanAt h i .stamp)) r b c d _ _ (o .scanPages i t (rangeOf r) c (in-range k r b) d .holds) (seen-row (scanAt h i .stamp) r)
 
   tally-is : (i c : ℕ) → T (scanAt h i .running) → c < S .columns → (n : ℕ) → n ≤ length (h .rows)
       → tally S v (scanAs i (scanAt h i)) c n ≡ tallied h (seenAt h (scanAt h i .stamp)) c n
@@ -217,7 +219,7 @@ module _ (S : Shape) (v : View) (ps : List Place) (h : History) (o : Represents 
         keep-append (visible f h) (upTo n) (n ∷ []),
         length-append rows (keep (visible f h) (n ∷ [])),
         total-append value rows (keep (visible f h) (n ∷ [])),
-        visible-is S v ps h o k n b (scanAt h i .stamp) 0 f (sees-at h (scanAt h i .stamp)),
+        visible-is S v ps h o k n b (reader (scanAt h i .stamp) 0) f (sees-at h (scanAt h i .stamp)),
         tally-is i c t d n (omega arith),
       )
       (by-test (λ z. _≡_ {A = Tally} (cond z record { count = suc (length rows); total = total value rows +ℤ toZ w32 word } record { count = length rows; total = total value rows })
@@ -235,10 +237,10 @@ module _ (S : Shape) (v : View) (ps : List Place) (h : History) (o : Represents 
       rows = keep (visible f h) (upTo n)
 
       word : ℕ
-      word = wordIn S v (scanAt h i .stamp) 0 (scanPage S v (scanAt h i .before) (rangeOf n) c) n c
+      word = wordIn S v (reader (scanAt h i .stamp) 0) (scanPage S v (scanAt h i .before) (rangeOf n) c) n c
 
       same : T (visible f h n) → toZ w32 word ≡ value n
-      same z = word-is S v ps h o k (scanAt h i .stamp) 0 f (sees-at h (scanAt h i .stamp)) n b c d _ _ (o .scanPages i t (rangeOf n) c (in-range k n b) d .holds) (seen-row (scanAt h i .stamp) n z)
+      same z = word-is S v ps h o k (reader (scanAt h i .stamp) 0) f (sees-at h (scanAt h i .stamp)) n b c d _ _ (o .scanPages i t (rangeOf n) c (in-range k n b) d .holds) (seen-row (scanAt h i .stamp) n z)
 
   sum-same : (i c : ℕ) → T (scanAt h i .running) → c < S .columns → sumIn S v (scanPlace ps i) c ≡ H.sumOf (seenAt h (scanAt h i .stamp)) h c
   unfolding sumIn H.sumOf H.rowsSeen
@@ -265,12 +267,12 @@ module _ (S : Shape) (v : View) (ps : List Place) (h : History) (o : Represents 
   reply-same (commit t s) p = refl
   reply-same (abort t) p = refl
   reply-same (latest r c) p =
-      ap (λ (s : ℕ). readCurrent S v s 0 r c) (o .header .last-stamp) ∙ current-read (h .last) 0 r c (seenAt h (h .last)) (sees-at h (h .last)) (given-lt r (p .0)) (column-lt c (p .1 .0))
-  reply-same (readAt s r c) p = current-read s 0 r c (seenAt h s) (sees-at h s) (given-lt r (p .1 .0)) (column-lt c (p .1 .1 .0))
+      ap (λ (s : ℕ). readCurrent S v (reader s 0) r c) (o .header .last-stamp) ∙ current-read (reader (h .last) 0) r c (seenAt h (h .last)) (sees-at h (h .last)) (given-lt r (p .0)) (column-lt c (p .1 .0))
+  reply-same (readAt s r c) p = current-read (reader s 0) r c (seenAt h s) (sees-at h s) (given-lt r (p .1 .0)) (column-lt c (p .1 .1 .0))
   reply-same (ownRead t r c) p = own-read t r c (is-active h t (p .0)) (given-lt r (p .1 .0)) (column-lt c (p .1 .1 .0))
   reply-same (openScan s) p = ap Answer.Number (plus-one _ _ (o .header .scans-given))
   reply-same (scanRead i r c) p =
-      ap (λ (s : Place). readIn S v (s .stamp) 0 (scanPage S v (s .merges) (rangeOf r) c) r c) (found i (running-of i (p .0)))
+      ap (λ (s : Place). readIn S v (reader (s .stamp) 0) (scanPage S v (s .merges) (rangeOf r) c) r c) (found i (running-of i (p .0)))
       ∙ scan-read i r c (running-of i (p .0)) (given-lt r (p .1 .0)) (column-lt c (p .1 .1 .0))
   reply-same (sum i c) p = sum-same i c (running-of i (p .0)) (column-lt c (p .1 .0))
   reply-same (close i) p = refl
@@ -313,16 +315,14 @@ module _ (S : Shape) (v : View) (ps : List Place) (h : History) (o : Represents 
   act-kept (lineage g c) y p = o
 
 -- ---- one call
-pub known-next : {S : Shape} {h : History} (c : Call) → Known S h → Known S (next S h c)
-known-next c k = record { small = k .small; past = past-next c (k .past) }
-
-pub one-call : (S : Shape) (v : View) (ps : List Place) (h : History) (c : Call) → Typed c → Represents S v ps h → Known S h
-    → (say S v ps c ≡ answer S h c) × Represents S (viewNext S v ps c) (placesNext S v ps c) (next S h c)
+pub one-call : StepKept
 unfolding say viewNext placesNext answer next
-one-call S v ps h c y o k = (
-  ap (λ (w : Verdict). answerIf w (replyIn S v ps c)) same ∙ answers (verdict (tests S h c)) refl,
-  rw same (kept (verdict (tests S h c)) refl),
-)
+one-call S v ps h c y o k =
+    record {
+      answered = ap (λ (w : Verdict). answerIf w (replyIn S v ps c)) same ∙ answers (verdict (tests S h c)) refl;
+      shown = rw same (kept (verdict (tests S h c)) refl);
+      known = record { small = k .small; past = past-next c (k .past) };
+    }
   where
     same : verdict (testsIn S v ps c) ≡ verdict (tests S h c)
     same = agree-verdict (tests-agree S v ps h o k c)

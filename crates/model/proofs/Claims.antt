@@ -22,13 +22,13 @@ use Rattle.terms.specs.declared.Place.{Place}
 use Rattle.terms.specs.Places.{freePlace}
 use Rattle.model.specs.Stored.{pageIn, cellIn, currentIn, within}
 use Rattle.model.specs.Writing.{made}
-use Rattle.model.specs.Reading.{scanPage, wasCurrent}
+use Rattle.model.specs.Reading.{reader, scanPage, wasCurrent}
 use Rattle.model.specs.Calls.{testsIn, actIn, viewIf, Typed, viewNext, placesNext, viewAfter, listAfter}
 use Rattle.model.specs.Claims.{storeAfter, historyAfter, Reads, PageHolds, PagesHold, PageKept, ScansKeep}
-use Rattle.model.proofs.Represents.{CurrentOf, Represents, Known}
+use Rattle.model.specs.Represents.{CurrentOf, Represents, Known}
 use Rattle.model.proofs.Holding.{cell-absent}
 use Rattle.model.proofs.Heads.{sees-at}
-use Rattle.model.proofs.Calls.{current-read, known-next, one-call}
+use Rattle.model.proofs.Calls.{current-read, one-call}
 use Rattle.model.proofs.Scans.{scan-current}
 use Rattle.model.proofs.Openings.{SamePage, same-after, scan-later}
 use Rattle.model.proofs.Made.{small-shape, made-represents}
@@ -39,7 +39,8 @@ pub represents-after : (S : Shape) (v : View) (ps : List Place) (h : History) �
 unfolding viewAfter listAfter run
 represents-after S v ps h o k nil = (o, k)
 represents-after S v ps h o k (cons {x = c} {l = cs} y ys) =
-    represents-after S (viewNext S v ps c) (placesNext S v ps c) (next S h c) (one-call S v ps h c y o k .1) (known-next c k) ys
+    let one = one-call S v ps h c y o k in
+    represents-after S (viewNext S v ps c) (placesNext S v ps c) (next S h c) (one .shown) (one .known) ys
 
 pub represented : (S : Shape) → T (withinLimits S) → (n : ℕ) → mostScans ≤ n → {cs : List Call} → All Typed cs
     → Represents S (storeAfter S n cs) (listAfter S (made S) (replicate n freePlace) cs) (historyAfter S cs) × Known S (historyAfter S cs)
@@ -52,7 +53,7 @@ pub reads : Reads
 unfolding Reads
 reads S l n enough cs ys t r c b d =
     let q = represented S l n enough ys in
-    current-read S (storeAfter S n cs) _ (historyAfter S cs) (q .0) (q .1) t 0 r c (seenAt (historyAfter S cs) t) (sees-at (historyAfter S cs) t) b d
+    current-read S (storeAfter S n cs) _ (historyAfter S cs) (q .0) (q .1) (reader t 0) r c (seenAt (historyAfter S cs) t) (sees-at (historyAfter S cs) t) b d
     ∙ read-committed (historyAfter S cs) (q .1 .past .order) t r c
 
 -- ---- pages
@@ -134,7 +135,7 @@ pages-kept S v ps h o k s cs y ys e t g c bg bc =
     new = scan-opened S h s e
 
     same : SamePage S v₁ v₂ (scanAt h₁ i .before) (length (h₁ .rows)) g c
-    same = same-after S v₁ (placesNext S v ps (openScan s)) h₁ (one-call S v ps h (openScan s) y o k .1) (known-next (openScan s) k) i (new .1) ys t g c bg bc
+    same = let one = one-call S v ps h (openScan s) y o k in same-after S v₁ (placesNext S v ps (openScan s)) h₁ (one .shown) (one .known) i (new .1) ys t g c bg bc
 
     before-is : scanAt (run S h₁ cs) i .before ≡ length (h .merges)
     before-is = ap (λ (x : Scan). x .before) (scan-later S h₁ cs i (new .1) t) ∙ new .0

@@ -13,20 +13,21 @@ use Rattle.terms.specs.Measures.{Shape}
 use Rattle.history.specs.History.{History, Record, State, unknown, active, aborted, committed, Content, original, setting, ending, committedBy, stateOf, rowAt, ends, rangeOf, recordsOf, seenAt, seenBy, ended, visible, activeOther, held, gone}
 use Rattle.history.proofs.Lists.{clash, is-true, eqb-other}
 use Rattle.history.specs.Latest.{stampOf}
-use Rattle.history.proofs.States.{Stamped}
-use Rattle.history.proofs.Steps.{anyOfRow}
+use Rattle.history.specs.Invariants.{Stamped}
+use Rattle.history.specs.Records.{anyOfRow, noRecord, lastOf}
 use Rattle.history.proofs.Ranges.{any-range}
-use Rattle.history.proofs.Links.{noRecord, lastOf, last-of-row}
+use Rattle.history.proofs.Links.{last-of-row}
 use Rattle.history.proofs.Newest.{recordIs, newestIs, ended-newest}
 use Rattle.layout.specs.View.{View}
 use Rattle.layout.specs.declared.Region.the-variants.{Opens}
 use Rattle.terms.specs.declared.Place.{Place}
+use Rattle.model.specs.declared.Reader.{Reader}
 use Rattle.model.specs.Stored.{RecordWords, rowIn, recordIn, slot, committedState, deleteKind, anyBelow}
-use Rattle.model.specs.Reading.{sees, seesRecord, headIn, hasRecord, visibleIn}
+use Rattle.model.specs.Reading.{reader, sees, seesRecord, headIn, hasRecord, visibleIn}
 use Rattle.model.specs.Calls.{openOther, standsFor, anyRecord, heldIn, goneIn}
 use Rattle.model.proofs.Lists.{any-below}
 use Rattle.model.proofs.Transactions.{opens-is}
-use Rattle.model.proofs.Represents.{stateWord, RowIs, ContentIs, TailOf, Represents, Known}
+use Rattle.model.specs.Represents.{stateWord, RowIs, ContentIs, TailOf, Represents, Known}
 
 pub slot-is : (S : Shape) (g k : ℕ) → slot S g (suc k) ≡ g * S .capacity + k
 unfolding slot
@@ -49,20 +50,20 @@ not-and-not true false = refl
 not-and-not false b = refl
 
 -- ---- a reader, by the words and by the history
-unfoldable pub SeesAs : History → ℕ → ℕ → (ℕ → Bool) → Type 0
-SeesAs h t me f = (k : ℕ) → sees t me (stateWord (stateOf h k)) (stampOf (stateOf h k)) k ≡ f k
+unfoldable pub SeesAs : History → Reader → (ℕ → Bool) → Type 0
+SeesAs h who f = (k : ℕ) → sees who (stateWord (stateOf h k)) (stampOf (stateOf h k)) k ≡ f k
 
-pub sees-at : (h : History) (t : ℕ) → SeesAs h t 0 (seenAt h t)
+pub sees-at : (h : History) (t : ℕ) → SeesAs h (reader t 0) (seenAt h t)
 unfolding SeesAs sees seenAt committedBy
 sees-at h t k = go (stateOf h k)
   where
-    go : (s : State) → sees t 0 (stateWord s) (stampOf s) k ≡ committedBy t s
+    go : (s : State) → sees (reader t 0) (stateWord s) (stampOf s) k ≡ committedBy t s
     go unknown = refl
     go active = refl
     go aborted = refl
     go (committed s) = or-false (leb s t)
 
-pub sees-own : (h : History) (me : ℕ) → stateOf h me ≡ active → SeesAs h (h .last) me (seenBy h me)
+pub sees-own : (h : History) (me : ℕ) → stateOf h me ≡ active → SeesAs h (reader (h .last) me) (seenBy h me)
 unfolding SeesAs sees seenBy seenAt committedBy stateOf
 sees-own h zero a k = clash (cc)
 sees-own h (suc me) a k = go (stateOf h k) refl
@@ -70,15 +71,15 @@ sees-own h (suc me) a k = go (stateOf h k) refl
     not-me : (s : State) → stateOf h k ≡ s → s ≢ active → eqb k (suc me) ≡ false
     not-me s e f = eqb-other k (suc me) (λ q. f (sym e ∙ ap (stateOf h) q ∙ a))
 
-    go : (s : State) → stateOf h k ≡ s → sees (h .last) (suc me) (stateWord s) (stampOf s) k ≡ (eqb k (suc me) || committedBy (h .last) s)
+    go : (s : State) → stateOf h k ≡ s → sees (reader (h .last) (suc me)) (stateWord s) (stampOf s) k ≡ (eqb k (suc me) || committedBy (h .last) s)
     go unknown e = rw (not-me unknown e (λ z. clash (cc)))
     go active e = rw (eqb·suc-zero me) (sym (or-false (eqb k (suc me))))
     go aborted e = rw (not-me aborted e (λ z. clash (cc)))
     go (committed s) e = rw (not-me (committed s) e (λ z. clash (cc))) (or-false (leb s (h .last)))
 
-pub sees-not-aborted : (h : History) (t me : ℕ) (f : ℕ → Bool) → SeesAs h t me f → (k : ℕ) → stateOf h k ≡ aborted → f k ≡ false
+pub sees-not-aborted : (h : History) (who : Reader) (f : ℕ → Bool) → SeesAs h who f → (k : ℕ) → stateOf h k ≡ aborted → f k ≡ false
 unfolding SeesAs sees
-sees-not-aborted h t me f w k e = sym (w k) ∙ rw e
+sees-not-aborted h who f w k e = sym (w k) ∙ rw e
 
 module _ (S : Shape) (v : View) (ps : List Place) (h : History) (o : Represents S v ps h) (k : Known S h) (r : ℕ) (b : r < length (h .rows)) where
   abbrev recs : List Record
@@ -154,15 +155,15 @@ module _ (S : Shape) (v : View) (ps : List Place) (h : History) (o : Represents 
       )
       (sym (not-and-not (seenBy h t ((rowAt h r) .inserter)) _))
 
-  pub visible-is : (t me : ℕ) (f : ℕ → Bool) → SeesAs h t me f → visibleIn S v t me r ≡ visible f h r
+  pub visible-is : (who : Reader) (f : ℕ → Bool) → SeesAs h who f → visibleIn S v who r ≡ visible f h r
   unfolding visibleIn visible SeesAs
-  visible-is t me f w =
+  visible-is who f w =
       rw (
         row .state,
         row .stamp,
         row .transaction,
         w ((rowAt h r) .inserter),
-        head-is (λ y. deleteKind (y .kind) && seesRecord t me y) (λ x. ends (x .content) && f (x .transaction))
+        head-is (λ y. deleteKind (y .kind) && seesRecord who y) (λ x. ends (x .content) && f (x .transaction))
             (λ i u. rw (
               delete-word (S .columns) ((getD recs i noRecord) .content) _ _ _ (tail .each i u .content),
               tail .each i u .state,
@@ -170,5 +171,5 @@ module _ (S : Shape) (v : View) (ps : List Place) (h : History) (o : Represents 
               tail .each i u .transaction,
               w ((getD recs i noRecord) .transaction),
             )),
-        ended-newest h f r (k .past .order) (sees-not-aborted h t me f w),
+        ended-newest h f r (k .past .order) (sees-not-aborted h who f w),
       )

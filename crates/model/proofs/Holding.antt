@@ -16,14 +16,15 @@ use Rattle.terms.specs.Measures.{Shape, rangeRows}
 use Rattle.history.specs.History.{Call, History, Row, Record, Scan, Merge, Version, isCommitted, stateOf, rowAt, scanAt, stopped, insertedValue, inserted, lastSetting, rangeOf, recordsOf, withRows, withTail, withTransactions, withScans, withMerges, cellThrough}
 use Rattle.history.specs.Lists.{All}
 use Rattle.history.proofs.Lists.{by-cases, all-map, all-map₂, all-keep, all-take, keep-append, length-change, eqb-other}
-use Rattle.history.proofs.Steps.{NewScans, scanOpened, scanClosed, NewMerges, merged, released, Step, nothing, newStates, rowGiven, recordsMade, newScans, newMerges}
+use Rattle.history.specs.Steps.{NewScans, scanOpened, scanClosed, NewMerges, merged, released, Step, nothing, newStates, rowGiven, recordsMade, newScans, newMerges}
 use Rattle.history.proofs.States.{states-last}
 use Rattle.history.proofs.Ranges.{last-unfound}
 use Rattle.history.proofs.Merges.{length-released}
-use Rattle.history.proofs.Order.{InOrder, order-step}
-use Rattle.history.proofs.Pages.{Through, through-step, Settled, settled-step, cell-stays}
+use Rattle.history.proofs.Order.{order-step}
+use Rattle.history.specs.Invariants.{InOrder, Through}
+use Rattle.history.proofs.Pages.{through-step, Settled, settled-step, cell-stays}
 use Rattle.model.specs.Stored.{PageWords, within}
-use Rattle.model.proofs.Represents.{Holds, NotAfter, everyRow}
+use Rattle.model.specs.Represents.{Holds, NotAfter, everyRow}
 
 -- ---- a row that was not given has no records, and 0 in every cell
 pub last-other : (sees : ℕ → Bool) (r c : ℕ) (v : Version) {l : List Record} → All (λ (x : Record). x .row ≢ r) l → lastSetting sees r c v l ≡ v

@@ -19,12 +19,12 @@ use Rattle.terms.specs.Measures.{Shape, rangeRows}
 use Rattle.history.specs.History.{insert, History, Row, Record, active, stateOf, rowAt, bit, sets, rangeOf, recordsOf, mergedThrough, scanAt, seenAt, withRows}
 use Rattle.history.specs.Lists.{All, nil, cons}
 use Rattle.history.proofs.Lists.{by-cases, all-append, all-map, all-at, any-none, eqb-other}
-use Rattle.history.proofs.Steps.{Step, wasSet}
+use Rattle.history.specs.Steps.{Step}
+use Rattle.history.specs.Records.{wasSet, noRecord, lastOf}
 use Rattle.history.specs.Latest.{stampOf}
 use Rattle.history.proofs.States.{active-unseen}
-use Rattle.history.proofs.Timely.{Timely}
-use Rattle.history.proofs.Links.{noRecord, lastOf}
-use Rattle.words.proofs.Words.{Fit}
+use Rattle.history.specs.Invariants.{Timely}
+use Rattle.words.specs.Words.{Fit}
 use Rattle.loops.proofs.Change.{set-fit}
 use Rattle.layout.specs.View.{View, renew, put}
 use Rattle.layout.specs.declared.Region.the-variants.{Header, Opens, RowTransaction, RowState, RowStamp, RowLink, RowMask, Current, Cells, Changes}
@@ -35,7 +35,7 @@ use Rattle.model.specs.Stored.{rowIn, recordIn, valueIn, pageIn, cellIn,
 use Rattle.model.specs.Reading.{scanPage, wasCurrent}
 use Rattle.model.specs.Writing.{noted, putCells, insertedAt, insertedIn}
 use Rattle.model.proofs.Lists.{same-part}
-use Rattle.model.proofs.Represents.{stateWord, RowsAre, Holds, everyRow, CurrentIs, CurrentOf, CurrentsAre, ScanPageOf, ScanPagesAre, NotesAre, Represents, Known, Whole}
+use Rattle.model.specs.Represents.{stateWord, RowsAre, Holds, everyRow, CurrentIs, CurrentOf, CurrentsAre, ScanPageOf, ScanPagesAre, NotesAre, Represents, Known, Whole}
 use Rattle.model.proofs.Holding.{same-row, withRow, row-new, row-old, rows-more, not-given, other-row, holds-step, holds-cells, holds-insert}
 use Rattle.model.proofs.Steady.{waiting-step, scan-cells, scan-page-step}
 use Rattle.model.proofs.Views.{renew-whole, put-whole, header-put, header-same}

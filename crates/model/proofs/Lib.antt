@@ -1,7 +1,6 @@
--- That the store answers as the plain history does: Represents is the relation that every call keeps (Calls), and Claims says what follows.
+-- That the store answers as the plain history does: every call keeps the relation of specs/Represents (Calls), and Claims says what follows.
 pub mod Lists
 pub mod Book
-pub mod Represents
 pub mod Holding
 pub mod Steady
 pub mod Views

@@ -17,6 +17,7 @@ pub use Rattle.history.proofs.Lists.{one}
 use Rattle.history.proofs.Lists.{by-cases, by-test, cond-suc, any-append, is-true, refuted, eqb-equal, eqb-same, eqb-other}
 use Rattle.terms.specs.Places.{place}
 use Rattle.model.specs.Stored.{firstFrom, anyBelow, countBelow}
+use Rattle.model.specs.Represents.{countFrom}
 
 pub true-false : true ≡ false → ⊥
 true-false e = let z : _≡_ {A = ℕ} 0 1 = cc in omega arith
@@ -32,11 +33,6 @@ same-truth false false f g = refl
 
 -- ---- counts
 module _ {A : Type 0} where
-  -- of a list whose first place has the number i
-  abbrev pub countFrom : (ℕ → A → Bool) → ℕ → List A → ℕ
-  countFrom p i [] = 0
-  countFrom p i (x ∷ l) = cond (p i x) (suc (countFrom p (suc i) l)) (countFrom p (suc i) l)
-
   pub any-count : (f : A → Bool) (l : List A) → any f l ≡ ltb 0 (count f l)
   any-count f [] = refl
   any-count f (x ∷ l) = rw (any-count f l)

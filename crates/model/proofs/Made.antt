@@ -12,12 +12,12 @@ use lib.ListN.{length, getD, replicate, length-replicate}
 use mir.Syntax.{w32}
 use mir.Val.{toZ}
 use Rattle.terms.specs.Measures.{Shape, rangeRows, mostScans, mostColumns, mostRanges, mostRecords, mostSpares, between, withinLimits}
-use Rattle.history.specs.History.{Call, History, start, answers, answer, next, count, rowAt, insertedValue, inserted, lastSetting, recordsOf, lastThrough, mergedThrough, scanAt, cellThrough}
+use Rattle.history.specs.History.{Call, History, start, answers, next, count, rowAt, insertedValue, inserted, lastSetting, recordsOf, lastThrough, mergedThrough, scanAt, cellThrough}
 use Rattle.history.specs.Lists.{All, nil, cons}
 use Rattle.history.proofs.Lists.{by-cases, parts}
 use Rattle.history.proofs.Past.{past-start}
 use Rattle.loops.specs.Change.{numbered}
-use Rattle.words.proofs.Words.{Fit}
+use Rattle.words.specs.Words.{Fit}
 use Rattle.loops.proofs.Change.{changed-length, changed-outside, changed-fit, zeros}
 use Rattle.layout.specs.Regions.{len}
 use Rattle.layout.specs.View.{View, renew, put}
@@ -28,12 +28,12 @@ use Rattle.layout.specs.Sizes.{sizesOf}
 use Rattle.terms.specs.Places.{freePlace}
 use Rattle.model.specs.Stored.{pageIn, cellIn, currentIn, placeOf, placesOf, pagesOf, within, waitingPage, currentPage, asCurrent, countBelow}
 use Rattle.model.specs.Writing.{blank, made}
-use Rattle.model.specs.Calls.{Typed, say, viewNext, placesNext, sayAll}
+use Rattle.model.specs.Calls.{Typed, viewNext, placesNext, sayAll}
 use Rattle.model.proofs.Lists.{below-all, below-none}
-use Rattle.model.proofs.Represents.{Holds, everyRow, CurrentsAre, PoolIs, Represents, Small, Known, Whole}
+use Rattle.model.specs.Represents.{Holds, everyRow, CurrentsAre, PoolIs, Represents, Small, Known, Whole}
 use Rattle.model.proofs.Views.{renew-whole, put-whole, changed-start}
 use Rattle.model.proofs.Merged.{place-in}
-use Rattle.model.proofs.Calls.{known-next, one-call}
+use Rattle.model.proofs.Calls.{one-call}
 
 -- ---- a stretch from the start
 none-counted : {A : Type 0} (f : A → Bool) (n : ℕ) (x : A) → f x ≡ false → count f (replicate n x) ≡ 0
@@ -177,8 +177,8 @@ simulated-from : (S : Shape) (v : View) (ps : List Place) (h : History) → Repr
 unfolding sayAll answers
 simulated-from S v ps h o k nil = refl
 simulated-from S v ps h o k (cons {x = c} {l = cs} y ys) =
-    let one : (say S v ps c ≡ answer S h c) × Represents S (viewNext S v ps c) (placesNext S v ps c) (next S h c) = one-call S v ps h c y o k in
-    rw (one .0, simulated-from S (viewNext S v ps c) (placesNext S v ps c) (next S h c) (one .1) (known-next c k) ys)
+    let one = one-call S v ps h c y o k in
+    rw (one .answered, simulated-from S (viewNext S v ps c) (placesNext S v ps c) (next S h c) (one .shown) (one .known) ys)
 
 -- The store, from a making with any scan list of at least 16 places, answers every list of calls as the plain history does.
 pub simulated : (S : Shape) → T (withinLimits S) → (n : ℕ) → mostScans ≤ n → (cs : List Call) → All Typed cs

@@ -18,18 +18,17 @@ use Rattle.history.specs.History.{History, Record, State, unknown, active, abor
 use Rattle.history.specs.Lists.{All, nil, cons}
 use Rattle.history.proofs.Lists.{by-cases, by-test, all-append, all-map, all-at, eqb-other}
 use Rattle.history.specs.Latest.{stampOf}
-use Rattle.history.proofs.States.{Stamped}
-use Rattle.history.proofs.Order.{InOrder}
+use Rattle.history.specs.Invariants.{Stamped, InOrder}
 use Rattle.history.proofs.Ranges.{last-next, records-range}
-use Rattle.history.proofs.Links.{noRecord}
-use Rattle.words.proofs.Words.{Fit}
+use Rattle.history.specs.Records.{noRecord}
+use Rattle.words.specs.Words.{Fit}
 use Rattle.loops.proofs.Change.{set-fit}
 use Rattle.layout.specs.View.{View}
 use Rattle.layout.specs.declared.Region.the-variants.{TailValues, TailStamp}
 use Rattle.model.specs.Stored.{recordIn, valueIn, slot, within, committedState, settingKind}
 use Rattle.model.specs.Writing.{applies, applied, newestOf}
 use Rattle.model.proofs.Lists.{is-equal}
-use Rattle.model.proofs.Represents.{stateWord, ContentIs, RecordIs, TailOf, NotAfter}
+use Rattle.model.specs.Represents.{stateWord, ContentIs, RecordIs, TailOf, NotAfter}
 use Rattle.model.proofs.Holding.{same-row}
 use Rattle.model.proofs.Heads.{slot-is}
 

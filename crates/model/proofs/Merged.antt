@@ -16,9 +16,9 @@ use mir.Val.{toZ}
 use Rattle.terms.specs.Measures.{Shape, rangeRows}
 use Rattle.history.specs.History.{merge, History, Record, Merge, Scan, isActive, isCommitted, stateOf, rowAt, rangeOf, recordsOf, mergedThrough, anyActive, waitingPages, scanAt, inserted, lastSetting, withMerges, cellThrough}
 use Rattle.history.proofs.Lists.{by-cases, is-true, eqb-other}
-use Rattle.history.proofs.Steps.{Mergeable, Step}
-use Rattle.history.proofs.Timely.{Timely}
-use Rattle.history.proofs.Links.{noRecord}
+use Rattle.history.specs.Steps.{Mergeable, Step}
+use Rattle.history.specs.Invariants.{Timely}
+use Rattle.history.specs.Records.{noRecord}
 use Rattle.history.proofs.Pages.{merge-through, lineage-step, lineage-stays}
 use Rattle.history.proofs.Merges.{merges-most, merged-page}
 use Rattle.loops.specs.Change.{copied}
@@ -35,7 +35,7 @@ use Rattle.model.specs.Writing.{applied, newestOf, strayIn, freeIn, merg
 use Rattle.model.specs.Asked.{Placed}
 use Rattle.model.specs.Calls.{openAmongIn}
 use Rattle.model.proofs.Lists.{one, any-below, count-from, from-snoc, first-only, first-ext, below-ext, below-change, below-three, part-in, same-part, is-equal}
-use Rattle.model.proofs.Represents.{Holds, everyRow, CurrentIs, CurrentOf, CurrentsAre, WaitingIs, WaitingAre, madeIn, PoolIs, ScanPageIs, ScanPagesAre, Represents, Known, Whole}
+use Rattle.model.specs.Represents.{Holds, everyRow, CurrentIs, CurrentOf, CurrentsAre, WaitingIs, WaitingAre, madeIn, PoolIs, ScanPageIs, ScanPagesAre, Represents, Known, Whole}
 use Rattle.model.proofs.Holding.{holds-step, holds-cells, same-rows}
 use Rattle.model.proofs.Steady.{current-step, current-cells, waiting-step, scan-cells, scan-page-step}
 use Rattle.model.proofs.Views.{renew-whole, put-whole, header-put, header-same}

@@ -14,10 +14,11 @@ use Rattle.terms.specs.Measures.{Shape, mostTransactions}
 use Rattle.history.specs.History.{History, Row, Record, State, unknown, active, nth, keep, rangeOf, recordsOf}
 use Rattle.history.specs.Lists.{All, nil, cons}
 use Rattle.history.proofs.Lists.{clash, by-cases, all-map, eqb-same}
-use Rattle.history.proofs.Merges.{sumBelow, sum-more, sum-most}
+use Rattle.history.proofs.Merges.{sum-more, sum-most}
+use Rattle.history.specs.Invariants.{sumBelow}
 use Rattle.terms.specs.Places.{bears, place}
 use Rattle.model.specs.Stored.{nextWord}
-use Rattle.model.proofs.Represents.{OpensAre, Unchanged, NotedIs, NotesAre, Known}
+use Rattle.model.specs.Represents.{OpensAre, Unchanged, NotedIs, NotesAre, Known}
 use Rattle.model.proofs.Transactions.{open-there, other-place}
 
 -- ---- all tail records together

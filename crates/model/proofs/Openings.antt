@@ -15,7 +15,8 @@ use Rattle.history.specs.History.{Call, begin, insert, update, delete, commit, 
 use Rattle.history.specs.Lists.{All, nil, cons}
 use Rattle.history.proofs.Lists.{nth-before}
 use Rattle.history.proofs.Accepted.{Passed, passed}
-use Rattle.history.proofs.Steps.{Mergeable, mergeable, is-active, scanOpened, scanClosed, Step, nothing, newStates, rowGiven, recordsMade, newScans, newMerges, next-step}
+use Rattle.history.proofs.Steps.{mergeable, is-active, next-step}
+use Rattle.history.specs.Steps.{Mergeable, scanOpened, scanClosed, Step, nothing, newStates, rowGiven, recordsMade, newScans, newMerges}
 use Rattle.layout.specs.View.{View, renew, put}
 use Rattle.layout.specs.declared.Region.the-variants.{RowMask}
 use Rattle.terms.specs.declared.Place.{Place}
@@ -23,13 +24,13 @@ use Rattle.model.specs.Stored.{rowIn, pageIn, cellIn, currentIn, within,
 use Rattle.model.specs.Reading.{scanPage, wasCurrent}
 use Rattle.model.specs.Writing.{begun, noted, settled, freed, committedIn, abortedIn, insertedAt, insertedIn, appended, filledIn, newBitsIn, originalAppended, settingAppended, updatedIn, deletedIn, mergedIn, releasedIn}
 use Rattle.model.specs.Calls.{Typed, actIn, viewIf, viewNext, placesNext, viewAfter}
-use Rattle.model.proofs.Represents.{ScanPageOf, Represents, Known}
+use Rattle.model.specs.Represents.{ScanPageOf, Represents, Known}
 use Rattle.model.proofs.Insert.{cell-kept, scan-apart}
 use Rattle.model.proofs.Merged.{scan-same, scan-not-free, cells-other}
 use Rattle.model.proofs.Holding.{grown}
 use Rattle.model.proofs.Steady.{still-running}
 use Rattle.model.proofs.Release.{scan-page-kept}
-use Rattle.model.proofs.Calls.{agree-verdict, tests-agree, known-next, one-call}
+use Rattle.model.proofs.Calls.{agree-verdict, tests-agree, one-call}
 
 -- The scan that had m merges made before it finds the same page in w as in v, and the page's cells of the first n rows are the same.
 pub record SamePage (S : Shape) (v w : View) (m n g c : ℕ) : Type 0 where
@@ -132,11 +133,12 @@ unfolding run viewAfter
 same-after S v ps h o k i b nil t g c bg bc = unmoved S v _ _ g c
 same-after S v ps h o k i b (cons {x = x} {l = cs} y ys) t g c bg bc =
     let s = next-step S h x in
+    let one = one-call S v ps h x y o k in
     let later : T (scanAt (next S h x) i .running) = rw (scan-later S (next S h x) cs i (le-trans b (grown s .scans)) t) at t in
     let e : scanAt (next S h x) i ≡ scanAt h i = scan-before s i b later in
     let first : SamePage S v (viewNext S v ps x) (scanAt h i .before) (length (h .rows)) g c = next-same S v ps h o k i (rw e at later) g c bg bc x y in
     let rest : SamePage S (viewNext S v ps x) (viewAfter S (viewNext S v ps x) (placesNext S v ps x) cs) (scanAt h i .before) (length ((next S h x) .rows)) g c =
-    rw e at (same-after S (viewNext S v ps x) (placesNext S v ps x) (next S h x) (one-call S v ps h x y o k .1) (known-next x k) i (le-trans b (grown s .scans)) ys t g c bg bc) in
+    rw e at (same-after S (viewNext S v ps x) (placesNext S v ps x) (next S h x) (one .shown) (one .known) i (le-trans b (grown s .scans)) ys t g c bg bc) in
     record {
       page = rest .page ∙ first .page;
       cells = λ r u f. (rw (first .page) at (rest .cells r (le-trans u (grown s .rows)) f)) ∙ first .cells r u f;

@@ -16,36 +16,42 @@ use Rattle.terms.specs.Measures.{Shape}
 use Rattle.terms.specs.declared.Answer.{Answer}
 use Rattle.history.specs.History.{History, Record, Version, State, aborted, committed, Content, original, setting, ending, any, isCommitted, stateOf, bit, sets, newValue, insertedValue, inserted, versionIn, lastSetting, rangeOf, recordsOf, visible, versionOf, read, cellThrough}
 use Rattle.history.proofs.Lists.{by-test, parts, all-map₂, is-true, refuted, any-none, all-take, not-any}
-use Rattle.history.proofs.Steps.{isOriginal, wasSet, hasOriginal}
+use Rattle.history.specs.Records.{among, isOriginal, wasSet, hasOriginal, noRecord, lastOf}
 use Rattle.history.specs.Latest.{stampOf}
-use Rattle.history.proofs.States.{isClosed}
-use Rattle.history.proofs.Order.{InOrder, placed-at}
+use Rattle.history.specs.Invariants.{isClosed, InOrder}
+use Rattle.history.proofs.Order.{placed-at}
 use Rattle.history.proofs.Ranges.{version-range, last-next, last-agree, last-unset}
-use Rattle.history.proofs.Links.{noRecord, lastOf, last-of-row}
+use Rattle.history.proofs.Links.{last-of-row}
 use Rattle.history.proofs.Endings.{original-reads, originals-of}
 use Rattle.layout.specs.View.{View}
 use Rattle.terms.specs.declared.Place.{Place}
+use Rattle.model.specs.declared.Reader.{Reader}
 use Rattle.model.specs.declared.Walk.{Walk}
 use Rattle.model.specs.Stored.{PageWords, rowIn, recordIn, valueIn, pageIn, cellIn, within, originalKind, settingKind}
 use Rattle.model.specs.Reading.{sees, answersFor, walk, orElse, belowLineage, wordIn, readIn}
 use Rattle.model.proofs.Lists.{true-false, take-next}
-use Rattle.model.proofs.Represents.{stateWord, ContentIs, RecordIs, TailOf, Holds, Represents, Known}
+use Rattle.model.specs.Represents.{stateWord, ContentIs, RecordIs, TailOf, Holds, Represents, Known}
 use Rattle.model.proofs.Heads.{slot-is, in-range, SeesAs, visible-is}
 
 -- ---- one record
--- `ins` is the inserted value, which a record of original values holds
-record-answers : (C c : ℕ) → c < C → (ins : ℤ) (y : Content) (kind mask : ℕ) (value : ℕ → ℕ) (b : Bool) (further : Walk) (rest : ℕ → ℕ) → ContentIs C y kind mask value
-    → ((cs : List ℕ) (vs : List ℤ) → y ≡ original cs vs → getD vs c (pos 0) ≡ ins)
-    → toZ w32 (orElse (cond (bit mask c && (originalKind kind || (settingKind kind && b))) (Walk.Found (value c)) further) rest)
-    ≡ cond (sets c y && b) (newValue c y) (cond (isOriginal c y) ins (toZ w32 (orElse further rest)))
-unfolding sets newValue isOriginal
-record-answers C c d ins (original cs vs) kind mask value b further rest o e = rw (o .0, and-true (bit mask c), ← (o .1 c))
-    (by-test (λ a. toZ w32 (orElse (cond a (Walk.Found (value c)) further) rest) ≡ cond a ins (toZ w32 (orElse further rest))) (bit mask c)
-    (λ t. o .2 c d t ∙ e cs vs refl) (λ _. refl))
-record-answers C c d ins (setting m vs) kind mask value b further rest o e = rw (o .0, o .1)
-    (by-test (λ z. toZ w32 (orElse (cond z (Walk.Found (value c)) further) rest) ≡ cond z (getD vs c (pos 0)) (toZ w32 (orElse further rest))) (bit m c && b)
-    (λ t. o .2 c d (parts (bit m c) b t .0)) (λ _. refl))
-record-answers C c d ins ending kind mask value b further rest o e = rw (o, and-false (bit mask c))
+-- `found` is what is read of it: of a seen setting `new`, of a record of original values `ins`
+record-answers : {A : Type 0} (C c : ℕ) (y : Content) (kind mask : ℕ) (value : ℕ → ℕ) (b : Bool) (found new ins further : A) → ContentIs C y kind mask value
+    → (T (sets c y && b) → found ≡ new) → (T (isOriginal c y) → found ≡ ins)
+    → cond (bit mask c && (originalKind kind || (settingKind kind && b))) found further ≡ cond (sets c y && b) new (cond (isOriginal c y) ins further)
+unfolding sets isOriginal
+record-answers C c (original cs vs) kind mask value b found new ins further o e f =
+    rw (o .0, and-true (bit mask c), o .1 c) (by-test (λ a. cond a found further ≡ cond a ins further) (among c cs) f (λ _. refl))
+record-answers C c (setting m vs) kind mask value b found new ins further o e f =
+    rw (o .0, o .1) (by-test (λ a. cond a found further ≡ cond a new further) (bit m c && b) e (λ _. refl))
+record-answers C c ending kind mask value b found new ins further o e f = rw (o, and-false (bit mask c))
+
+found-or : {A : Type 0} (b : Bool) (i : ℕ) (w : Walk) (at rest : ℕ → A) → orElse (cond b (Walk.Found i) w) at rest ≡ cond b (at i) (orElse w at rest)
+found-or true i w at rest = refl
+found-or false i w at rest = refl
+
+or-map : {A B : Type 0} (g : A → B) (w : Walk) (at rest : ℕ → A) → g (orElse w at rest) ≡ orElse w (λ i. g (at i)) (λ k. g (rest k))
+or-map g (Walk.Found i) at rest = refl
+or-map g (Walk.Stopped k) at rest = refl
 
 last-le : (l : List Record) (r n : ℕ) → lastOf l r n ≤ n
 last-le l r n = go (lastOf l r n) refl
@@ -55,8 +61,9 @@ last-le l r n = go (lastOf l r n) refl
     go (suc k) e = last-of-row l r n k e .0
 
 -- ---- the walk
-module _ (S : Shape) (v : View) (h : History) (i : InOrder h) (g r c t me : ℕ) (f : ℕ → Bool) (w : SeesAs h t me f) (here : rangeOf r ≡ g) (inside : c < S .columns)
-    (o : TailOf S (stateOf h) (recordsOf h g) v g) where
+-- `at` is what is read of the slot found, `of` the same of the version that the history finds: they agree on each seen setting of row and column, and on its original.
+module _ (S : Shape) (v : View) (h : History) (i : InOrder h) (g r c : ℕ) (who : Reader) (f : ℕ → Bool) (w : SeesAs h who f) (here : rangeOf r ≡ g)
+    (o : TailOf S (stateOf h) (recordsOf h g) v g) {A : Type 0} (at : ℕ → A) (of : Version → A) where
   abbrev recs : List Record
   recs = recordsOf h g
 
@@ -65,94 +72,105 @@ module _ (S : Shape) (v : View) (h : History) (i : InOrder h) (g r c t me : ℕ)
   seenTo n = lastSetting f r c (inserted h r c) (take n (recordsOf h g))
 
   abbrev step : ℕ → ℕ → ℕ → Walk
-  step low n k = walk S v g c t me low n k
+  step low n k = walk S v who g c low n k
+
+  -- record k of the range is the row's and passes
+  abbrev OfRow : (Record → Bool) → ℕ → Type 0
+  OfRow q k = (k < length recs) × ((getD recs k noRecord) .row ≡ r) × T (q (getD recs k noRecord))
 
   walk-stop : (low n k : ℕ) → k ≤ low → step low n k ≡ Walk.Stopped (record { 0 = k })
   unfolding walk
   walk-stop low zero k b = refl
   walk-stop low (suc n) k b = rw (is-true (leb k low) (le→leb k low b))
 
-  original-value : (k : ℕ) → k < length recs → (getD recs k noRecord) .row ≡ r → (cs : List ℕ) (vs : List ℤ) → (getD recs k noRecord) .content ≡ original cs vs
-      → getD vs c (pos 0) ≡ insertedValue h r c
-  unfolding insertedValue
-  original-value k b e cs vs q = rw (placed-at h g i k noRecord b .values cs vs q, e)
+  module _ (setting-at : (k : ℕ) → OfRow (λ x. sets c (x .content) && f (x .transaction)) k → at (g * S .capacity + k) ≡ of (versionIn c (getD recs k noRecord)))
+      (original-at : (k : ℕ) → OfRow (λ x. isOriginal c (x .content)) k → at (g * S .capacity + k) ≡ of (inserted h r c)) where
+    walk-go : (low n k : ℕ) (rest : ℕ → A) → low ≤ k → k < length recs → (getD recs k noRecord) .row ≡ r
+        → orElse (step low (suc n) (suc k)) at rest
+        ≡ cond (sets c ((getD recs k noRecord) .content) && f ((getD recs k noRecord) .transaction)) (of (versionIn c (getD recs k noRecord)))
+        (cond (isOriginal c ((getD recs k noRecord) .content)) (of (inserted h r c)) (orElse (step low n (lastOf recs r k)) at rest))
+    unfolding walk answersFor SeesAs
+    walk-go low n k rest b u e =
+        let x : RecordIs (S .columns) (stateOf h) (getD recs k noRecord) (recordIn v (g * S .capacity + k)) (valueIn S v (g * S .capacity + k)) = o .each k u in
+        rw (refuted (leb (suc k) low) (λ z. omega (arith, leb→le (suc k) low z)), slot-is S g k, x .state, x .stamp, x .transaction, w ((getD recs k noRecord) .transaction), o .links k u, e, found-or)
+        (record-answers (S .columns) c ((getD recs k noRecord) .content) _ _ _ (f ((getD recs k noRecord) .transaction)) _ _ _ _ (x .content)
+        (λ q. setting-at k (u, e, q)) (λ q. original-at k (u, e, q)))
 
-  walk-go : (low n k : ℕ) (rest : ℕ → ℕ) → low ≤ k → k < length recs → (getD recs k noRecord) .row ≡ r
-      → toZ w32 (orElse (step low (suc n) (suc k)) rest)
-      ≡ cond (sets c ((getD recs k noRecord) .content) && f ((getD recs k noRecord) .transaction)) (newValue c ((getD recs k noRecord) .content))
-      (cond (isOriginal c ((getD recs k noRecord) .content)) (insertedValue h r c) (toZ w32 (orElse (step low n (lastOf recs r k)) rest)))
-  unfolding walk answersFor SeesAs
-  walk-go low n k rest b u e =
-      let x : RecordIs (S .columns) (stateOf h) (getD recs k noRecord) (recordIn v (g * S .capacity + k)) (valueIn S v (g * S .capacity + k)) = o .each k u in
-      rw (refuted (leb (suc k) low) (λ z. omega (arith, leb→le (suc k) low z)), slot-is S g k, x .state, x .stamp, x .transaction, w ((getD recs k noRecord) .transaction), o .links k u, e)
-      (record-answers (S .columns) c inside (insertedValue h r c) ((getD recs k noRecord) .content) _ _ (valueIn S v (g * S .capacity + k)) (f ((getD recs k noRecord) .transaction)) (step low n (lastOf recs r k)) rest (x .content)
-      (original-value k u e))
+    -- from the row's last record among the first n, down to `low`
+    pub walk-is : (low : ℕ) (rest : ℕ → A) (n fuel : ℕ) → low ≤ n → n ≤ length recs → lastOf recs r n ≤ fuel
+        → (hasOriginal (take n recs) r c ≡ hasOriginal (take low recs) r c → rest (lastOf recs r low) ≡ of (seenTo low))
+        → orElse (step low fuel (lastOf recs r n)) at rest ≡ of (seenTo n)
+    unfolding lastOf hasOriginal
+    walk-is low rest zero fuel a b d z =
+        let e : low ≡ 0 = omega arith in
+        rw (walk-stop low fuel 0 zero-le) (rw e at (z (rw e refl)))
+    walk-is low rest (suc n) fuel a b d z =
+        go (ℕ-discrete low (suc n)) fuel d (λ (fuel : ℕ) u q z. walk-is low rest n fuel u (omega arith) q z)
+      where
+        x : Record
+        x = getD recs n noRecord
 
-  -- from the row's last record among the first n, down to `low`
-  pub walk-is : (low : ℕ) (rest : ℕ → ℕ) (n fuel : ℕ) → low ≤ n → n ≤ length recs → lastOf recs r n ≤ fuel
-      → (hasOriginal (take n recs) r c ≡ hasOriginal (take low recs) r c → toZ w32 (rest (lastOf recs r low)) ≡ seenTo low .value)
-      → toZ w32 (orElse (step low fuel (lastOf recs r n)) rest) ≡ seenTo n .value
-  unfolding lastOf hasOriginal
-  walk-is low rest zero fuel a b d z =
-      let e : low ≡ 0 = omega arith in
-      rw (walk-stop low fuel 0 zero-le) (rw e at (z (rw e refl)))
-  walk-is low rest (suc n) fuel a b d z =
-      go (ℕ-discrete low (suc n)) fuel d (λ (fuel : ℕ) u q z. walk-is low rest n fuel u (omega arith) q z)
-    where
-      x : Record
-      x = getD recs n noRecord
+        original-here : Record → Bool
+        original-here y = eqb (y .row) r && isOriginal c (y .content)
 
-      original-here : Record → Bool
-      original-here y = eqb (y .row) r && isOriginal c (y .content)
+        AtLow : ℕ → Type 0
+        AtLow n = hasOriginal (take n recs) r c ≡ hasOriginal (take low recs) r c → rest (lastOf recs r low) ≡ of (seenTo low)
 
-      Before : Type 0
-      Before = (fuel : ℕ) → low ≤ n → lastOf recs r n ≤ fuel
-          → (hasOriginal (take n recs) r c ≡ hasOriginal (take low recs) r c → toZ w32 (rest (lastOf recs r low)) ≡ seenTo low .value)
-          → toZ w32 (orElse (step low fuel (lastOf recs r n)) rest) ≡ seenTo n .value
+        Before : Type 0
+        Before = (fuel : ℕ) → low ≤ n → lastOf recs r n ≤ fuel → AtLow n → orElse (step low fuel (lastOf recs r n)) at rest ≡ of (seenTo n)
 
-      down : original-here x ≡ false → hasOriginal (take n recs) r c ≡ hasOriginal (take low recs) r c → toZ w32 (rest (lastOf recs r low)) ≡ seenTo low .value
-      down q e = z (take-next recs n noRecord b original-here ∙ rw q (or-false (any original-here (take n recs))) ∙ e)
+        down : original-here x ≡ false → AtLow n
+        down q e = z (take-next recs n noRecord b original-here ∙ rw q (or-false (any original-here (take n recs))) ∙ e)
 
-      pick : (s q : Bool) (new ins next : ℤ) (y old : Version) → y .value ≡ new → (T q → ins ≡ old .value) → (q ≡ false → next ≡ old .value)
-          → cond s new (cond q ins next) ≡ cond s y old .value
-      pick true q new ins next y old e f g = sym e
-      pick false true new ins next y old e f g = f tt
-      pick false false new ins next y old e f g = g refl
+        pick : (s q : Bool) (next : A) (y i old : Version) → (T q → of i ≡ of old) → (q ≡ false → next ≡ of old) → cond s (of y) (cond q (of i) next) ≡ of (cond s y old)
+        pick true q next y i old f g = refl
+        pick false true next y i old f g = f tt
+        pick false false next y i old f g = g refl
 
-      -- the row of record n
-      at-record : (fuel : ℕ) → low ≤ n → Before → (p : Bool) → eqb (x .row) r ≡ p → cond p (suc n) (lastOf recs r n) ≤ fuel
-          → toZ w32 (orElse (step low fuel (cond p (suc n) (lastOf recs r n))) rest) ≡ cond (p && (sets c (x .content) && f (x .transaction))) (versionIn c x) (seenTo n) .value
-      at-record zero u before true e d = absurd (not-suc-le-zero d)
-      at-record (suc fuel) u before true e d =
-          let e′ : x .row ≡ r = eqb→eq (x .row) r (rw e tt) in
-          walk-go low fuel n rest u b e′
-          ∙ pick (sets c (x .content) && f (x .transaction)) (isOriginal c (x .content)) _ _ _ (versionIn c x) (seenTo n) (unfold versionIn in refl)
-          (λ q. sym (ap (λ (y : Version). y .value) (original-reads h g i f r c n (inserted h r c) b e′ q) ∙ (unfold inserted in refl)))
-          (λ q. before fuel u (omega (arith, last-le recs r n)) (down (rw e q)))
-      at-record fuel u before false e d = before fuel u d (down (rw e refl))
+        -- the row of record n
+        at-record : (fuel : ℕ) → low ≤ n → Before → (p : Bool) → eqb (x .row) r ≡ p → cond p (suc n) (lastOf recs r n) ≤ fuel
+            → orElse (step low fuel (cond p (suc n) (lastOf recs r n))) at rest ≡ of (cond (p && (sets c (x .content) && f (x .transaction))) (versionIn c x) (seenTo n))
+        at-record zero u before true e d = absurd (not-suc-le-zero d)
+        at-record (suc fuel) u before true e d =
+            let e′ : x .row ≡ r = eqb→eq (x .row) r (rw e tt) in
+            walk-go low fuel n rest u b e′
+            ∙ pick (sets c (x .content) && f (x .transaction)) (isOriginal c (x .content)) _ (versionIn c x) (inserted h r c) (seenTo n)
+            (λ q. sym (ap of (original-reads h g i f r c n (inserted h r c) b e′ q)))
+            (λ q. before fuel u (omega (arith, last-le recs r n)) (down (rw e q)))
+        at-record fuel u before false e d = before fuel u d (down (rw e refl))
 
-      go : Dec (low ≡ suc n) → (fuel : ℕ) → lastOf recs r (suc n) ≤ fuel → Before → toZ w32 (orElse (step low fuel (lastOf recs r (suc n))) rest) ≡ seenTo (suc n) .value
-      go (yes e) fuel d before = rw (walk-stop low fuel (lastOf recs r (suc n)) (rw e (last-le recs r (suc n)))) (rw e at (z (rw e refl)))
-      go (no q) fuel d before =
-          at-record fuel (omega (arith, q)) before (eqb (x .row) r) refl d ∙ ap (λ (y : Version). y .value) (sym (last-next f r c (inserted h r c) recs n noRecord b))
+        go : Dec (low ≡ suc n) → (fuel : ℕ) → lastOf recs r (suc n) ≤ fuel → Before → orElse (step low fuel (lastOf recs r (suc n))) at rest ≡ of (seenTo (suc n))
+        go (yes e) fuel d before = rw (walk-stop low fuel (lastOf recs r (suc n)) (rw e (last-le recs r (suc n)))) (rw e at (z (rw e refl)))
+        go (no q) fuel d before =
+            at-record fuel (omega (arith, q)) before (eqb (x .row) r) refl d ∙ ap of (sym (last-next f r c (inserted h r c) recs n noRecord b))
+
+-- ---- the value of a record
+setting-value : (C c : ℕ) → c < C → (y : Content) (kind mask : ℕ) (value : ℕ → ℕ) → ContentIs C y kind mask value → T (sets c y) → toZ w32 (value c) ≡ newValue c y
+unfolding sets newValue
+setting-value C c d (setting m vs) kind mask value o t = o .2 c d t
+
+original-value : (C c : ℕ) → c < C → (ins : ℤ) (y : Content) (kind mask : ℕ) (value : ℕ → ℕ) → ContentIs C y kind mask value
+    → ((cs : List ℕ) (vs : List ℤ) → y ≡ original cs vs → getD vs c (pos 0) ≡ ins) → T (isOriginal c y) → toZ w32 (value c) ≡ ins
+unfolding isOriginal
+original-value C c d ins (original cs vs) kind mask value o e t = o .2 c d (rw (o .1 c) t) ∙ e cs vs refl
 
 -- ---- a row and column on a page
 -- what a page that is not newer than the stamp holds is seen
-page-seen : (h : History) (t me n : ℕ) (f : ℕ → Bool) → SeesAs h t me f → n ≤ t → (k : ℕ) → T (isClosed (stateOf h k)) → ((s : ℕ) → stateOf h k ≡ committed s → s ≤ n)
+page-seen : (h : History) (who : Reader) (n : ℕ) (f : ℕ → Bool) → SeesAs h who f → n ≤ who .stamp .0 → (k : ℕ) → T (isClosed (stateOf h k)) → ((s : ℕ) → stateOf h k ≡ committed s → s ≤ n)
     → isCommitted (stateOf h k) ≡ f k
 unfolding SeesAs sees isCommitted
-page-seen h t me n f w b k p u = go (stateOf h k) p u ∙ w k
+page-seen h who n f w b k p u = go (stateOf h k) p u ∙ w k
   where
-    go : (s : State) → T (isClosed s) → ((a : ℕ) → s ≡ committed a → a ≤ n) → isCommitted s ≡ sees t me (stateWord s) (stampOf s) k
+    go : (s : State) → T (isClosed s) → ((a : ℕ) → s ≡ committed a → a ≤ n) → isCommitted s ≡ sees who (stateWord s) (stampOf s) k
     go aborted p u = refl
-    go (committed s) p u = sym (or-false (leb s t) ∙ is-true (leb s t) (le→leb s t (le-trans (u s refl) b)))
+    go (committed s) p u = sym (or-false (leb s (who .stamp .0)) ∙ is-true (leb s (who .stamp .0)) (le→leb s (who .stamp .0) (le-trans (u s refl) b)))
 
 pub unset-take : (l : List Record) (r c n : ℕ) → wasSet l r c ≡ false → wasSet (take n l) r c ≡ false
 unfolding wasSet
 unset-take l r c n e =
     any-none (λ (x : Record). eqb (x .row) r && sets c (x .content)) (all-take n (not-any (λ (x : Record). eqb (x .row) r && sets c (x .content)) l (rw e tt)))
 
-module _ (S : Shape) (v : View) (ps : List Place) (h : History) (o : Represents S v ps h) (k : Known S h) (t me : ℕ) (f : ℕ → Bool) (w : SeesAs h t me f) (r : ℕ)
+module _ (S : Shape) (v : View) (ps : List Place) (h : History) (o : Represents S v ps h) (k : Known S h) (who : Reader) (f : ℕ → Bool) (w : SeesAs h who f) (r : ℕ)
     (b : r < length (h .rows)) (c : ℕ) (inside : c < S .columns) (p : ℕ) (Q : ℕ → Type 0) (held : Holds h (rangeOf r) c Q (pageIn v p) (cellIn v p)) where
   abbrev g : ℕ
   g = rangeOf r
@@ -169,29 +187,45 @@ module _ (S : Shape) (v : View) (ps : List Place) (h : History) (o : Represents 
   lok : TailOf S (stateOf h) (recordsOf h (rangeOf r)) v (rangeOf r)
   lok = o .tails (rangeOf r) (in-range k r b)
 
+  -- the walk, read for the value
+  original-there : (i : ℕ) → i < length list → (getD list i noRecord) .row ≡ r → (cs : List ℕ) (vs : List ℤ) → (getD list i noRecord) .content ≡ original cs vs
+      → getD vs c (pos 0) ≡ insertedValue h r c
+  unfolding insertedValue
+  original-there i u e cs vs q = rw (placed-at h g (k .past .order) i noRecord u .values cs vs q, e)
+
+  walk-value : (low : ℕ) (rest : ℕ → ℕ) (n : ℕ) → low ≤ n → n ≤ length list
+      → (hasOriginal (take n list) r c ≡ hasOriginal (take low list) r c → toZ w32 (rest (lastOf list r low)) ≡ lastSetting f r c (inserted h r c) (take low list) .value)
+      → toZ w32 (orElse (walk S v who g c low (lastOf list r n) (lastOf list r n)) (λ i. valueIn S v i c) rest) ≡ lastSetting f r c (inserted h r c) (take n list) .value
+  walk-value low rest n a d z =
+      or-map (toZ w32) (walk S v who g c low (lastOf list r n) (lastOf list r n)) (λ i. valueIn S v i c) rest
+      ∙ walk-is S v h (k .past .order) g r c who f w refl lok (λ i. toZ w32 (valueIn S v i c)) (λ y. y .value)
+      (λ i u. setting-value (S .columns) c inside _ _ _ _ (lok .each i (u .0) .content) (parts (sets c ((getD list i noRecord) .content)) _ (u .2) .0) ∙ (unfold versionIn in refl))
+      (λ i u. original-value (S .columns) c inside (insertedValue h r c) _ _ _ _ (lok .each i (u .0) .content) (original-there i (u .0) (u .1)) (u .2) ∙ (unfold inserted in refl))
+      low (λ j. toZ w32 (rest j)) n (lastOf list r n) a d (le-refl _) z
+
   cell-is : Q r → toZ w32 cell ≡ lastSetting (λ k. isCommitted (stateOf h k)) r c (inserted h r c) (take (page .lineage) list) .value
   unfolding cellThrough
   cell-is q = held .cells r refl q
 
   -- a page that is not newer than the stamp
-  cell-seen : Q r → page .newest ≤ t → toZ w32 cell ≡ lastSetting f r c (inserted h r c) (take (page .lineage) list) .value
+  cell-seen : Q r → page .newest ≤ who .stamp .0 → toZ w32 cell ≡ lastSetting f r c (inserted h r c) (take (page .lineage) list) .value
   cell-seen q n =
       cell-is q
       ∙ ap (λ (y : Version). y .value)
       (last-agree (λ k. isCommitted (stateOf h k)) r c f (inserted h r c)
-      (all-map₂ (λ (y : Record) a d s. page-seen h t me (page .newest) f w n (y .transaction) a (d s)) (held .through .closed-all) (held .newest)))
+      (all-map₂ (λ (y : Record) a d s. page-seen h who (page .newest) f w n (y .transaction) a (d s)) (held .through .closed-all) (held .newest)))
 
   has-original : wasSet list r c ≡ true → hasOriginal list r c ≡ true
   has-original e = sym (originals-of h r c (k .past .order) (omega (arith, k .small .columns)) refl) ∙ e
 
   at-lineage : Q r → wasSet list r c ≡ true → hasOriginal (take (length list) list) r c ≡ hasOriginal (take (page .lineage) list) r c
-      → toZ w32 (belowLineage S v g c t me page cell (lastOf list r (page .lineage))) ≡ lastSetting f r c (inserted h r c) (take (page .lineage) list) .value
+      → toZ w32 (belowLineage S v who g c page cell (lastOf list r (page .lineage))) ≡ lastSetting f r c (inserted h r c) (take (page .lineage) list) .value
   unfolding belowLineage
   at-lineage q s e =
-      by-test (λ a. toZ w32 (cond a cell (orElse (walk S v g c t me 0 (lastOf list r (page .lineage)) (lastOf list r (page .lineage))) (λ j. cell)))
-      ≡ lastSetting f r c (inserted h r c) (take (page .lineage) list) .value) (leb (page .newest) t)
-      (λ n. cell-seen q (leb→le (page .newest) t n))
-      (λ _. walk-is S v h (k .past .order) g r c t me f w refl inside lok 0 (λ j. cell) (page .lineage) (lastOf list r (page .lineage)) zero-le (held .through .within) (le-refl _)
+      by-test (λ a. toZ w32 (cond a cell (orElse (walk S v who g c 0 (lastOf list r (page .lineage)) (lastOf list r (page .lineage))) (λ i. valueIn S v i c) (λ j. cell)))
+      ≡ lastSetting f r c (inserted h r c) (take (page .lineage) list) .value) (leb (page .newest) (who .stamp .0))
+      (λ n. cell-seen q (leb→le (page .newest) (who .stamp .0) n))
+      (λ _. walk-value 0 (λ j. cell) (page .lineage) zero-le (held .through .within)
       (λ z. absurd (true-false (sym all-there ∙ z ∙ none-below))))
     where
       all-there : hasOriginal (take (page .lineage) list) r c ≡ true
@@ -200,24 +234,24 @@ module _ (S : Shape) (v : View) (ps : List Place) (h : History) (o : Represents 
       none-below : hasOriginal (take 0 list) r c ≡ false
       none-below = unfold hasOriginal in refl
 
-  pub word-is : Q r → toZ w32 (wordIn S v t me p r c) ≡ versionOf f h r c .value
+  pub word-is : Q r → toZ w32 (wordIn S v who p r c) ≡ versionOf f h r c .value
   unfolding wordIn
   word-is q = go (bit ((rowIn v r) .mask) c) (o .rows r b .mask c) ∙ ap (λ (y : Version). y .value) (version-range h f r c)
     where
       go : (a : Bool) → a ≡ wasSet list r c
-          → toZ w32 (cond a (orElse (walk S v g c t me (page .lineage) ((rowIn v r) .link) ((rowIn v r) .link)) (belowLineage S v g c t me page cell)) cell)
+          → toZ w32 (cond a (orElse (walk S v who g c (page .lineage) ((rowIn v r) .link) ((rowIn v r) .link)) (λ i. valueIn S v i c) (belowLineage S v who g c page cell)) cell)
           ≡ lastSetting f r c (inserted h r c) list .value
       go true e =
-          ap (λ (l : ℕ). toZ w32 (orElse (walk S v g c t me (page .lineage) l l) (belowLineage S v g c t me page cell))) (o .rows r b .link)
-          ∙ walk-is S v h (k .past .order) g r c t me f w refl inside lok (page .lineage) (belowLineage S v g c t me page cell) (length list) (lastOf list r (length list)) (held .through .within) (le-refl _) (le-refl _)
+          ap (λ (l : ℕ). toZ w32 (orElse (walk S v who g c (page .lineage) l l) (λ i. valueIn S v i c) (belowLineage S v who g c page cell))) (o .rows r b .link)
+          ∙ walk-value (page .lineage) (belowLineage S v who g c page cell) (length list) (held .through .within) (le-refl _)
           (at-lineage q (sym e))
           ∙ ap (λ (l : List Record). lastSetting f r c (inserted h r c) l .value) (take-length list)
       go false e =
           cell-is q
           ∙ ap (λ (y : Version). y .value) (last-unset _ r c (inserted h r c) (take (page .lineage) list) (unset-take list r c (page .lineage) (sym e)) ∙ sym (last-unset f r c (inserted h r c) list (sym e)))
 
-  pub read-is : (T (visible f h r) → Q r) → readIn S v t me p r c ≡ read f h r c
+  pub read-is : (T (visible f h r) → Q r) → readIn S v who p r c ≡ read f h r c
   unfolding readIn read
-  read-is q = rw (visible-is S v ps h o k r b t me f w)
-      (by-test (λ a. cond a (Answer.Value (toZ w32 (wordIn S v t me p r c))) Answer.None ≡ cond a (Answer.Value (versionOf f h r c .value)) Answer.None) (visible f h r)
+  read-is q = rw (visible-is S v ps h o k r b who f w)
+      (by-test (λ a. cond a (Answer.Value (toZ w32 (wordIn S v who p r c))) Answer.None ≡ cond a (Answer.Value (versionOf f h r c .value)) Answer.None) (visible f h r)
       (λ z. ap Answer.Value (word-is (q z))) (λ _. refl))

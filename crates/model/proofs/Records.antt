@@ -16,9 +16,11 @@ use Rattle.history.specs.History.{delete, History, Record, active, Content, end
 use Rattle.history.specs.Latest.{stampOf}
 use Rattle.history.specs.Lists.{All, nil}
 use Rattle.history.proofs.Lists.{by-cases, eqb-same, all-map, all-at, all-append, any-append, eqb-other, by-test}
-use Rattle.history.proofs.Steps.{Step, New, wasSet}
+use Rattle.history.proofs.Steps.{New}
+use Rattle.history.specs.Steps.{Step}
+use Rattle.history.specs.Records.{wasSet, noRecord, lastOf}
 use Rattle.history.proofs.Ranges.{records-made}
-use Rattle.history.proofs.Links.{noRecord, lastOf, last-of-append}
+use Rattle.history.proofs.Links.{last-of-append}
 use Rattle.layout.specs.View.{View, renew, put, usedIn}
 use Rattle.layout.specs.declared.Region.the-variants.{Opens, Changes, RowLink}
 use Rattle.terms.specs.declared.Place.{Place}
@@ -26,7 +28,7 @@ use Rattle.terms.specs.Places.{bears, place}
 use Rattle.model.specs.Stored.{RowWords, RecordWords, rowIn, recordIn, valueIn, pageIn, cellIn, currentIn, openPlace, nextWord, asOpen, asDelete}
 use Rattle.model.specs.Reading.{scanPage, wasCurrent}
 use Rattle.model.specs.Writing.{noted, nextSlot, appended, filledIn, deletedIn}
-use Rattle.model.proofs.Represents.{stateWord, RowIs, RowsAre, ContentIs, RecordIs, TailsFor, TailsAre, NotesAre, Represents, Known, Whole}
+use Rattle.model.specs.Represents.{stateWord, RowIs, RowsAre, ContentIs, RecordIs, TailsFor, TailsAre, NotesAre, Represents, Known, Whole}
 use Rattle.model.proofs.Steady.{currents-stay, waits-stay, scan-stays}
 use Rattle.model.proofs.Views.{put-whole}
 use Rattle.model.proofs.Notes.{notes-more, few-changes, active-given}

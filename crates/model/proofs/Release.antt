@@ -11,8 +11,8 @@ use lib.ListN.{length}
 use Rattle.terms.specs.Measures.{Shape}
 use Rattle.history.specs.History.{release, History, Scan, Merge, any, nth, stateOf, rowAt, recordsOf, mergedThrough, scanAt, neededBy, afterRelease, releasedCount, withMerges}
 use Rattle.history.proofs.Lists.{place-any, clash, refuted, parts, both}
-use Rattle.history.proofs.Steps.{Step}
-use Rattle.history.proofs.Timely.{Timely}
+use Rattle.history.specs.Steps.{Step}
+use Rattle.history.specs.Invariants.{Timely}
 use Rattle.history.proofs.Merges.{length-released}
 use Rattle.history.proofs.Pages.{lineage-step, lineage-stays}
 use Rattle.loops.proofs.Change.{changed-length, changed-fit}
@@ -22,8 +22,8 @@ use Rattle.terms.specs.declared.Place.{Place}
 use Rattle.model.specs.Stored.{rowIn, recordIn, valueIn, pageIn, cellIn, currentIn, placeOf, pagesOf, asFree, currentPage, waitingPage, countBelow}
 use Rattle.model.specs.Reading.{wasCurrent, scanPage}
 use Rattle.model.specs.Writing.{neededIn, releasable, releasedIn}
-use Rattle.model.proofs.Lists.{true-false, countFrom, any-count, from-count, count-ext, first-ext, below-ext, same-truth}
-use Rattle.model.proofs.Represents.{CurrentOf, CurrentsAre, WaitingIs, WaitingAre, PoolIs, ScanPageIs, ScanPagesAre, ScansAre, madeIn, Represents, Known, Whole}
+use Rattle.model.proofs.Lists.{true-false, any-count, from-count, count-ext, first-ext, below-ext, same-truth}
+use Rattle.model.specs.Represents.{CurrentOf, CurrentsAre, WaitingIs, WaitingAre, PoolIs, ScanPageIs, ScanPagesAre, ScansAre, madeIn, Represents, Known, Whole, countFrom}
 use Rattle.model.proofs.Steady.{current-step, waiting-step, scan-page-step}
 use Rattle.model.proofs.Views.{renew-whole, changed-start, header-same}
 use Rattle.model.proofs.Scans.{scan-current}

@@ -11,7 +11,7 @@ use Rattle.layout.specs.View.{View}
 use Rattle.model.specs.Stored.{PageWords, pageIn, currentIn, placeOf, placesOf, pagesOf, waitingPage, firstFrom}
 use Rattle.model.specs.Reading.{wasCurrent, scanPage}
 use Rattle.model.proofs.Lists.{first-is}
-use Rattle.model.proofs.Represents.{madeIn}
+use Rattle.model.specs.Represents.{madeIn}
 
 -- what the search asks of a page
 pub record WasCurrent (S : Shape) (m place : ℕ) (x : PageWords) : Type 0 where

@@ -12,7 +12,8 @@ use lib.ListN.{length, set, length-append, length-set}
 use Rattle.terms.specs.Measures.{Shape, mostScans, mostNumbers}
 use Rattle.history.specs.History.{openScan, close, History, Scan, any, count, nth, change, stateOf, rowAt, recordsOf, scanAt, stopped, withScans}
 use Rattle.history.proofs.Lists.{is-true, by-cases, length-change, nth-last, nth-before}
-use Rattle.history.proofs.Steps.{noScan, Step}
+use Rattle.history.proofs.Steps.{noScan}
+use Rattle.history.specs.Steps.{Step}
 use Rattle.layout.specs.View.{View, renew, put, scansGiven, mergesMade}
 use Rattle.layout.specs.declared.Region.the-variants.{Header}
 use Rattle.terms.specs.declared.Place.{Place}
@@ -22,7 +23,7 @@ use Rattle.model.specs.Stored.{rowIn, recordIn, valueIn, pageIn, cellIn,
 use Rattle.model.specs.Reading.{scanPage, wasCurrent}
 use Rattle.model.proofs.Lists.{any-count}
 use Rattle.model.proofs.Book.{Kind, book-is, book-room, book-count, book-add, book-drop, book-found}
-use Rattle.model.proofs.Represents.{CurrentOf, ScanPageOf, ScanPagesAre, ScansAre, scanAs, Represents, Known}
+use Rattle.model.specs.Represents.{CurrentOf, ScanPageOf, ScanPagesAre, ScansAre, scanAs, Represents, Known}
 use Rattle.model.proofs.Holding.{holds-step, same-rows}
 use Rattle.model.proofs.Steady.{still-running, currents-stay, waits-stay, scan-stays}
 use Rattle.model.proofs.Views.{put-whole, header-put, header-same}

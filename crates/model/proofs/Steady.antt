@@ -12,14 +12,14 @@ use Rattle.terms.specs.Measures.{Shape}
 use Rattle.history.specs.History as H
 use Rattle.history.specs.History.{Call, History, Row, Scan, nth, change, committedBy, stateOf, rowAt, rangeOf, mergedThrough, seenAt, scanAt, stopped, withRows, withTail, withTransactions, withScans, withMerges}
 use Rattle.history.proofs.Lists.{by-cases, nth-other, nth-changed}
-use Rattle.history.proofs.Steps.{noScan, running-known, Step, nothing, newStates, rowGiven, recordsMade, newScans, newMerges}
+use Rattle.history.proofs.Steps.{noScan, running-known}
+use Rattle.history.specs.Steps.{Step, nothing, newStates, rowGiven, recordsMade, newScans, newMerges}
 use Rattle.history.proofs.States.{active-unseen, seen-moved}
-use Rattle.history.proofs.Order.{InOrder}
-use Rattle.history.proofs.Timely.{Timely}
+use Rattle.history.specs.Invariants.{InOrder, Timely}
 use Rattle.layout.specs.View.{View}
 use Rattle.terms.specs.declared.Place.{Place}
 use Rattle.model.specs.Stored.{PageWords, within}
-use Rattle.model.proofs.Represents.{CurrentIs, CurrentsAre, WaitingIs, WaitingAre, ScanPageIs, ScanPageOf, Represents, Known}
+use Rattle.model.specs.Represents.{CurrentIs, CurrentsAre, WaitingIs, WaitingAre, ScanPageIs, ScanPageOf, Represents, Known}
 use Rattle.model.proofs.Holding.{grown, holds-step, holds-cells, same-rows, withRow, row-new, row-old, rows-more}
 
 -- ---- the pages

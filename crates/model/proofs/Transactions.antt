@@ -13,14 +13,15 @@ use lib.Seq.{getD-set-same, getD-set-other, take-length}
 use Rattle.terms.specs.Measures.{Shape, rangeRows, mostTransactions, mostNumbers}
 use Rattle.history.specs.History.{begin, commit, abort, History, Row, Record, State, unknown, active, aborted, committed, any, count, nth, change, isActive, stateOf, rowAt, rangeOf, recordsOf, scanAt, withTransactions}
 use Rattle.history.proofs.Lists.{by-cases, all-below, nth-beyond, clash, all-map, eqb-other, eqb-equal, nth-changed, nth-other, length-change, parts, both}
-use Rattle.history.proofs.Steps.{Step, Closing, by-commit, by-abort}
+use Rattle.history.specs.Steps.{Step, Closing, by-commit, by-abort}
 use Rattle.history.specs.Latest.{stampOf}
 use Rattle.history.proofs.States.{given-known, state-began}
 use Rattle.history.proofs.Limits.{closing-inactive}
-use Rattle.history.proofs.Order.{InOrder, placed-at}
-use Rattle.history.proofs.Links.{noRecord}
+use Rattle.history.proofs.Order.{placed-at}
+use Rattle.history.specs.Invariants.{InOrder}
+use Rattle.history.specs.Records.{noRecord}
 use Rattle.loops.specs.Change.{marked}
-use Rattle.words.proofs.Words.{Fit}
+use Rattle.words.specs.Words.{Fit}
 use Rattle.loops.proofs.Change.{changed-length, changed-outside, changed-at, changed-fit}
 use Rattle.layout.specs.View.{View, renew, put, rowsGiven, transactionsGiven, usedIn}
 use Rattle.layout.specs.declared.Region.the-variants.{Header, Opens, RowTransaction, RowState, RowStamp, TailTransaction, TailState, TailStamp, Used, Changes}
@@ -32,7 +33,7 @@ use Rattle.model.specs.Reading.{scanPage, wasCurrent}
 use Rattle.model.specs.Writing.{begun, markTails, settled, freed, committedIn, abortedIn}
 use Rattle.model.proofs.Lists.{same-truth, any-count, place-lt, place-is, part-in, is-equal}
 use Rattle.model.proofs.Book.{Kind, book-is, book-room, book-add, book-drop, book-only}
-use Rattle.model.proofs.Represents.{stateWord, RowIs, RecordIs, TailOf, RowsAre, TailsAre, OpensAre, Unchanged, NotesAre, Represents, Known, Whole}
+use Rattle.model.specs.Represents.{stateWord, RowIs, RecordIs, TailOf, RowsAre, TailsAre, OpensAre, Unchanged, NotesAre, Represents, Known, Whole}
 use Rattle.model.proofs.Views.{renew-whole, put-whole, changed-start, header-put, header-same}
 use Rattle.model.proofs.Steady.{currents-stay, waits-stay, scan-stays}
 

@@ -15,8 +15,10 @@ use mir.ValLaws.{toZ-ofZ, ofZ-fits}
 use Rattle.terms.specs.Measures.{Shape, rangeRows, mostColumns}
 use Rattle.history.specs.History.{update, History, Record, Version, active, original, setting, isCommitted, upTo, stateOf, rowAt, insertedValue, inserted, bit, sets, rangeOf, recordsOf, badMask, newColumns, originalRecords, updateRecords, withTail, cellThrough, scanAt}
 use Rattle.history.specs.Lists.{All}
-use Rattle.history.proofs.Lists.{eqb-same, is-true, is-false, refuted, parts, among, among-upTo}
-use Rattle.history.proofs.Steps.{Step, New, wasSet, new-columns}
+use Rattle.history.proofs.Lists.{eqb-same, is-true, is-false, refuted, parts, among-upTo}
+use Rattle.history.specs.Records.{among, wasSet}
+use Rattle.history.proofs.Steps.{New, new-columns}
+use Rattle.history.specs.Steps.{Step}
 use Rattle.history.proofs.Masks.{bit-low}
 use Rattle.history.proofs.Ranges.{last-unset}
 use Rattle.history.proofs.Endings.{set-range}
@@ -27,7 +29,7 @@ use Rattle.model.specs.Stored.{rowIn, recordIn, valueIn, pageIn, cellIn,
 use Rattle.model.specs.Reading.{scanPage, wasCurrent}
 use Rattle.model.specs.Writing.{noted, appended, filledIn, newBitsIn, recordsWanted, originalAppended, originalWord, settingAppended, updatedIn}
 use Rattle.model.proofs.Lists.{true-false, is-equal}
-use Rattle.model.proofs.Represents.{RowsAre, ContentIs, Represents, Known, Whole}
+use Rattle.model.specs.Represents.{RowsAre, ContentIs, Represents, Known, Whole}
 use Rattle.model.proofs.Views.{put-whole}
 use Rattle.model.proofs.Insert.{bit-none, value-fits}
 use Rattle.model.proofs.Heads.{in-range}

@@ -10,7 +10,7 @@ use lib.Dec.{eqb}
 use lib.ListN.{length, getD, set, length-set}
 use Rattle.terms.specs.Measures.{Shape}
 use lib.Seq.{getD-set-same, getD-set-other}
-use Rattle.words.proofs.Words.{Fit}
+use Rattle.words.specs.Words.{Fit}
 use Rattle.loops.specs.Change.{changed}
 use Rattle.loops.proofs.Change.{changed-at, set-fit}
 use Rattle.layout.specs.Regions.{index, len}
@@ -19,7 +19,7 @@ use Rattle.layout.proofs.View.{renew-long}
 use Rattle.layout.specs.declared.Region.{Region}
 use Rattle.layout.specs.Sizes.{sizesOf}
 use Rattle.history.proofs.Lists.{by-cases, eqb-same, eqb-other}
-use Rattle.model.proofs.Represents.{Whole, HeaderIs}
+use Rattle.model.specs.Represents.{Whole, HeaderIs}
 
 pub renew-whole : {S : Shape} {v : View} (k : Region) (l : List ℕ) → length l ≡ len (sizesOf S) k → Fit l → Whole S v → Whole S (renew k l v)
 renew-whole {S} {v} k l e f o = record {

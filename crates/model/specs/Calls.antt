@@ -14,15 +14,14 @@ use Rattle.terms.specs.declared.Refusal.{Refusal}
 use Rattle.terms.specs.declared.Answer.{Answer}
 use Rattle.history.specs.History.{Call, begin, insert, update, delete, commit, abort, latest, readAt, ownRead, openScan, scanRead, sum, close, merge, release, pageCell, lineage, Test, _when_, verdict, Verdict, accept, refuse, answerIf, any, count, noColumn, noRange, badMask, rangeOf}
 use Rattle.history.specs.Lists.{All}
-use Rattle.loops.specs.Change.{changed}
-use Rattle.layout.specs.View.{View, put, renew, rowsGiven, transactionsGiven, scansGiven, lastStamp, mergesMade, usedIn}
+use Rattle.layout.specs.View.{View, put, rowsGiven, transactionsGiven, scansGiven, lastStamp, mergesMade, usedIn}
 use Rattle.layout.specs.declared.Region.the-variants.{Header, Opens}
 use Rattle.terms.specs.declared.Place.{Place}
 use Rattle.terms.specs.Places.{freePlace, place, bears, isScan}
 use Rattle.layout.specs.Regions.{scansAt}
-use Rattle.model.specs.Stored.{RecordWords, rowIn, recordIn, slot, valueIn, openPlace, pageIn, currentIn, cellIn, within, committedState, deleteKind, scanPlace, pagesOf, anyBelow, countBelow, wordLimit}
-use Rattle.model.specs.Reading.{headIn, readIn, readCurrent, ownChanges, scanPage, sumIn, sees, visibleIn, answersFor, walk, belowLineage, wordIn, wasCurrent, tally}
-use Rattle.model.specs.Writing.{made, blank, noted, settled, freed, nextSlot, appended, filledIn, newBitsIn, originalAppended, settingAppended, applies, applied, newestOf, begun, committedIn, abortedIn, insertedAt, insertedIn, updatedIn, deletedIn, mergedIn, releasedIn, releasable, recordsWanted, namedIn, strayIn, freeIn}
+use Rattle.model.specs.Stored.{RecordWords, rowIn, recordIn, pageIn, currentIn, cellIn, within, committedState, deleteKind, scanPlace, pagesOf, anyBelow, countBelow, wordLimit}
+use Rattle.model.specs.Reading.{reader, readIn, readCurrent, ownChanges, scanPage, sumIn}
+use Rattle.model.specs.Writing.{begun, committedIn, abortedIn, insertedIn, updatedIn, deletedIn, mergedIn, releasedIn, releasable, recordsWanted, freeIn}
 
 -- ---- the conditions of "What a refused call returns", read in the memory
 -- 3
@@ -138,13 +137,13 @@ replyIn S v ps (update t r m vs) = Answer.Number (usedIn v (rangeOf r) + records
 replyIn S v ps (delete t r) = Answer.Number (usedIn v (rangeOf r) + 1)
 replyIn S v ps (commit t s) = Answer.Done
 replyIn S v ps (abort t) = Answer.Done
-replyIn S v ps (latest r c) = readCurrent S v (lastStamp v) 0 r c
-replyIn S v ps (readAt s r c) = readCurrent S v s 0 r c
-replyIn S v ps (ownRead t r c) = readCurrent S v (lastStamp v) (ownChanges v t) r c
+replyIn S v ps (latest r c) = readCurrent S v (reader (lastStamp v) 0) r c
+replyIn S v ps (readAt s r c) = readCurrent S v (reader s 0) r c
+replyIn S v ps (ownRead t r c) = readCurrent S v (reader (lastStamp v) (ownChanges v t)) r c
 replyIn S v ps (openScan s) = Answer.Number (scansGiven v + 1)
 replyIn S v ps (scanRead k r c) =
     let s = scanPlace ps k in
-    readIn S v (s .stamp) 0 (scanPage S v (s .merges) (rangeOf r) c) r c
+    readIn S v (reader (s .stamp) 0) (scanPage S v (s .merges) (rangeOf r) c) r c
 replyIn S v ps (sum k c) = sumIn S v (scanPlace ps k) c
 replyIn S v ps (close k) = Answer.Done
 replyIn S v ps (merge g c n) = Answer.Done
@@ -252,8 +251,3 @@ Typed (merge g c n) = Word g × Word c × Word n
 Typed release = Unit {0}
 Typed (pageCell c r) = Word c × Word r
 Typed (lineage g c) = Word g × Word c
-
--- One name for what a list of calls unfolds to, for a proof's `unfolding` line.
-unfoldable pub execution : Unit {0}
-unfolding put renew changed anyBelow rowIn recordIn pageIn slot valueIn currentIn cellIn openPlace scanPlace sees headIn visibleIn answersFor walk belowLineage wordIn readIn readCurrent ownChanges wasCurrent scanPage tally sumIn begun noted settled freed committedIn abortedIn insertedAt insertedIn nextSlot appended filledIn newBitsIn recordsWanted originalAppended settingAppended updatedIn deletedIn applies applied newestOf namedIn strayIn freeIn mergedIn releasable releasedIn blank made notOpenIn noScanIn notGivenIn openOther heldIn goneIn lacksIn notLaterIn laterIn outOfReachIn openAmongIn testsIn replyIn actIn placesAfter viewIf placesIf say viewNext placesNext sayAll verdict answerIf
-execution = tt

@@ -15,7 +15,7 @@ use Rattle.history.specs.Latest.{lastCommitted, lastTaken}
 use Rattle.layout.specs.View.{View}
 use Rattle.terms.specs.Places.{freePlace}
 use Rattle.model.specs.Stored.{pageIn, cellIn, currentIn, within}
-use Rattle.model.specs.Reading.{readCurrent, scanPage}
+use Rattle.model.specs.Reading.{reader, readCurrent, scanPage}
 use Rattle.model.specs.Writing.{made}
 use Rattle.model.specs.Calls.{Typed, viewAfter, listAfter}
 
@@ -30,7 +30,7 @@ historyAfter S cs = run S start cs
 unfoldable pub Reads : Type 0
 Reads =
     (S : Shape) → T (withinLimits S) → (n : ℕ) → mostScans ≤ n → (cs : List Call) → All Typed cs → (t r c : ℕ)
-    → r < length ((historyAfter S cs) .rows) → c < S .columns → readCurrent S (storeAfter S n cs) t 0 r c ≡ lastCommitted (historyAfter S cs) t r c
+    → r < length ((historyAfter S cs) .rows) → c < S .columns → readCurrent S (storeAfter S n cs) (reader t 0) r c ≡ lastCommitted (historyAfter S cs) t r c
 
 -- "each merged page, while current, holds, for every row, the last committed setting among the tail records it has taken in, and for a row with none the
 -- value it was inserted with, or 0 if that row was never inserted". The records taken in are those up to the page's lineage.

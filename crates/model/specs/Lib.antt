@@ -1,4 +1,5 @@
--- The store as definitions over a view of the memory: how it is read, how it is written, the calls, what is claimed of them, and what the code asks.
+-- The store as definitions over a view of the memory: how it is read, how it is written, the calls, what is claimed of them, and what the
+-- code asks. Represents is the relation between memory and history that every call keeps; Unfolding is for proofs alone.
 pub mod Stored
 pub mod Reading
 pub mod Writing
@@ -6,3 +7,5 @@ pub mod Calls
 pub mod Claims
 pub mod Table
 pub mod Asked
+pub mod Represents
+pub mod Unfolding

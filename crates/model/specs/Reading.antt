@@ -14,18 +14,24 @@ use Rattle.history.specs.History.{bit, rangeOf}
 use Rattle.layout.specs.View.{View, rowsGiven}
 use Rattle.layout.specs.declared.Region.the-variants.{Changes}
 use Rattle.terms.specs.declared.Place.{Place}
+use Rattle.model.specs.declared.Reader.{Reader}
 use Rattle.model.specs.declared.Walk.{Walk}
 use Rattle.model.specs.Stored.{RowWords, RecordWords, PageWords, rowIn, recordIn, pageIn, slot, valueIn, currentIn, placeOf, placesOf, pagesOf, cellIn, within, openState, committedState, originalKind, settingKind, deleteKind, waitingPage, firstFrom, openPlace}
 
--- Who sees a row or record in state `state`: t is the reader's stamp, me the transaction whose own changes count (0: none).
-unfoldable pub sees : ℕ → ℕ → ℕ → ℕ → ℕ → Bool
-sees t me state stamp transaction = (committedState state && leb stamp t) || (openState state && (not (eqb me 0) && eqb transaction me))
+-- a reader by its stamp and the transaction whose own changes count (0: none)
+abbrev pub reader : ℕ → ℕ → Reader
+reader t me = record { stamp = record { 0 = t }; me = record { 0 = me } }
 
-abbrev pub seesRow : ℕ → ℕ → RowWords → Bool
-seesRow t me x = sees t me (x .state) (x .stamp) (x .transaction)
+-- Who sees a row or record in state `state`.
+unfoldable pub sees : Reader → ℕ → ℕ → ℕ → Bool
+sees who state stamp transaction =
+    (committedState state && leb stamp (who .stamp .0)) || (openState state && (not (eqb (who .me .0) 0) && eqb transaction (who .me .0)))
 
-abbrev pub seesRecord : ℕ → ℕ → RecordWords → Bool
-seesRecord t me x = sees t me (x .state) (x .stamp) (x .transaction)
+abbrev pub seesRow : Reader → RowWords → Bool
+seesRow who x = sees who (x .state) (x .stamp) (x .transaction)
+
+abbrev pub seesRecord : Reader → RecordWords → Bool
+seesRecord who x = sees who (x .state) (x .stamp) (x .transaction)
 
 -- ---- the newest record of a row tells whether the row is ended: a delete that is not aborted is the last record of its row
 unfoldable pub headIn : Shape → View → ℕ → RecordWords
@@ -34,54 +40,55 @@ headIn S v r = recordIn v (slot S (rangeOf r) ((rowIn v r) .link))
 abbrev pub hasRecord : View → ℕ → Bool
 hasRecord v r = not (eqb ((rowIn v r) .link) 0)
 
-unfoldable pub visibleIn : Shape → View → ℕ → ℕ → ℕ → Bool
-visibleIn S v t me r =
+unfoldable pub visibleIn : Shape → View → Reader → ℕ → Bool
+visibleIn S v who r =
     let x = rowIn v r in
     let y = headIn S v r in
-    seesRow t me x && not (hasRecord v r && (deleteKind (y .kind) && seesRecord t me y))
+    seesRow who x && not (hasRecord v r && (deleteKind (y .kind) && seesRecord who y))
 
 -- ---- the value
 -- A record answers for column c if it is a seen setting of c, or holds the original value of c: no setting of c lies below its original.
-unfoldable pub answersFor : ℕ → ℕ → ℕ → RecordWords → Bool
-answersFor t me c x = bit (x .mask) c && (originalKind (x .kind) || (settingKind (x .kind) && seesRecord t me x))
+unfoldable pub answersFor : Reader → ℕ → RecordWords → Bool
+answersFor who c x = bit (x .mask) c && (originalKind (x .kind) || (settingKind (x .kind) && seesRecord who x))
 
 -- From record k of range g back along the links, while the record's number is above `low`. The links are lower numbers, so k steps are enough.
-unfoldable pub walk : Shape → View → ℕ → ℕ → ℕ → ℕ → ℕ → ℕ → ℕ → Walk
-walk S v g c t me low zero k = Walk.Stopped (record { 0 = k })
-walk S v g c t me low (suc n) k =
+unfoldable pub walk : Shape → View → Reader → ℕ → ℕ → ℕ → ℕ → ℕ → Walk
+walk S v who g c low zero k = Walk.Stopped (record { 0 = k })
+walk S v who g c low (suc n) k =
     let x = recordIn v (slot S g k) in
-    let further = walk S v g c t me low n (x .link) in
-    cond (leb k low) (Walk.Stopped (record { 0 = k })) (cond (answersFor t me c x) (Walk.Found (valueIn S v (slot S g k) c)) further)
+    let further = walk S v who g c low n (x .link) in
+    cond (leb k low) (Walk.Stopped (record { 0 = k })) (cond (answersFor who c x) (Walk.Found (slot S g k)) further)
 
-abbrev pub orElse : Walk → (ℕ → ℕ) → ℕ
-orElse (Walk.Found w) f = w
-orElse (Walk.Stopped k) f = f (k .0)
+-- what is read of the slot found, or else of the record at which the walk stopped
+abbrev pub orElse : {A : Type 0} → Walk → (ℕ → A) → (ℕ → A) → A
+orElse (Walk.Found i) at rest = at i
+orElse (Walk.Stopped k) at rest = rest (k .0)
 
 -- At the page's lineage: the cell, unless the page holds a setting later than the stamp; then further down. In a store that calls made a record answers there:
 -- the column's original is not above the lineage, or the walk had stopped at it. In other memories the cell answers where none does.
-unfoldable pub belowLineage : Shape → View → ℕ → ℕ → ℕ → ℕ → PageWords → ℕ → ℕ → ℕ
-belowLineage S v g c t me page cell k =
-    let deeper = orElse (walk S v g c t me 0 k k) (λ j. cell) in
-    cond (leb (page .newest) t) cell deeper
+unfoldable pub belowLineage : Shape → View → Reader → ℕ → ℕ → PageWords → ℕ → ℕ → ℕ
+belowLineage S v who g c page cell k =
+    let deeper = orElse (walk S v who g c 0 k k) (λ i. valueIn S v i c) (λ j. cell) in
+    cond (leb (page .newest) (who .stamp .0)) cell deeper
 
 -- the word of row r and column c, on page p. A column that no update has set is in the page alone.
-unfoldable pub wordIn : Shape → View → ℕ → ℕ → ℕ → ℕ → ℕ → ℕ
-wordIn S v t me p r c =
+unfoldable pub wordIn : Shape → View → Reader → ℕ → ℕ → ℕ → ℕ
+wordIn S v who p r c =
     let x = rowIn v r in
     let g = rangeOf r in
     let page = pageIn v p in
     let cell = cellIn v p (within r) in
-    let found = orElse (walk S v g c t me (page .lineage) (x .link) (x .link)) (belowLineage S v g c t me page cell) in
+    let found = orElse (walk S v who g c (page .lineage) (x .link) (x .link)) (λ i. valueIn S v i c) (belowLineage S v who g c page cell) in
     cond (bit (x .mask) c) found cell
 
-unfoldable pub readIn : Shape → View → ℕ → ℕ → ℕ → ℕ → ℕ → Answer
-readIn S v t me p r c =
-    let w = wordIn S v t me p r c in
-    cond (visibleIn S v t me r) (Answer.Value (toZ w32 w)) Answer.None
+unfoldable pub readIn : Shape → View → Reader → ℕ → ℕ → ℕ → Answer
+readIn S v who p r c =
+    let w = wordIn S v who p r c in
+    cond (visibleIn S v who r) (Answer.Value (toZ w32 w)) Answer.None
 
 -- the read of the current page
-unfoldable pub readCurrent : Shape → View → ℕ → ℕ → ℕ → ℕ → Answer
-readCurrent S v t me r c = readIn S v t me (currentIn S v (rangeOf r) c) r c
+unfoldable pub readCurrent : Shape → View → Reader → ℕ → ℕ → Answer
+readCurrent S v who r c = readIn S v who (currentIn S v (rangeOf r) c) r c
 
 -- Whose own changes an own read of transaction t adds: with nothing noted there are none, and it is the latest read.
 unfoldable pub ownChanges : View → ℕ → ℕ
@@ -111,9 +118,9 @@ unfoldable pub tally : Shape → View → Place → ℕ → ℕ → Tally
 tally S v s c zero = record { count = 0; total = pos 0 }
 tally S v s c (suc r) =
     let before = tally S v s c r in
-    let w = wordIn S v (s .stamp) 0 (scanPage S v (s .merges) (rangeOf r) c) r c in
+    let w = wordIn S v (reader (s .stamp) 0) (scanPage S v (s .merges) (rangeOf r) c) r c in
     let more : Tally = record { count = suc (before .count); total = before .total +ℤ toZ w32 w } in
-    cond (visibleIn S v (s .stamp) 0 r) more before
+    cond (visibleIn S v (reader (s .stamp) 0) r) more before
 
 unfoldable pub sumIn : Shape → View → Place → ℕ → Answer
 sumIn S v s c =

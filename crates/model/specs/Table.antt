@@ -4,11 +4,12 @@ use mathlib.Core.List.{List, map}
 use lib.ListN.{replicate}
 use Rattle.terms.specs.Measures.{mostScans}
 use Rattle.terms.specs.declared.Answer.{Answer}
-use Rattle.history.specs.History.{definitions}
+use Rattle.history.specs.Unfolding.{definitions}
 use Rattle.history.specs.Table.{Case, table, wanted}
 use Rattle.terms.specs.Places.{freePlace}
 use Rattle.model.specs.Writing.{made}
-use Rattle.model.specs.Calls.{sayAll, execution}
+use Rattle.model.specs.Calls.{sayAll}
+use Rattle.model.specs.Unfolding.{execution}
 
 abbrev pub givenByStore : List Case → List (List Answer)
 givenByStore = map (λ p. sayAll (p .shape) (made (p .shape)) (replicate mostScans freePlace) (map (λ l. l .call) (p .lines)))

@@ -1,13 +1,21 @@
 // The store as definitions over a view of its memory (specs/), and the proof that it answers as the plain history does (proofs/).
-// The code has the two types from here, so that its contracts can cite the definitions as they stand.
+// The code has its types from here, so that its contracts can cite the definitions as they stand.
 use terms::Place;
+use terms::Stamp;
 use terms::Tail;
+use terms::Transaction;
 ghost use mathlib.Core.Path.{_≡_};
 ghost use Rattle.terms.specs.Places.{freePlace};
 
-// How a walk along a row's tail records ends: with the word of a record that answers, or at a record number that is not above the limit of the walk.
+// A reader: it sees what was committed at or before its stamp, and what transaction `me` has changed so far (number 0: no such changes).
+pub struct Reader {
+    pub stamp: Stamp,
+    pub me: Transaction,
+}
+
+// How a walk along a row's tail records ends: at the slot of a record that answers, or at a record number that is not above the limit of the walk.
 pub enum Walk {
-    Found(u32),
+    Found(usize),
     Stopped(Tail),
 }
 

@@ -1,7 +1,7 @@
 -- The worked example of document 01, and inputs that end in other ways, by computation.
 use mathlib.Core.Path.{_≡_, refl}
 use mathlib.Core.List.{[], _∷_, _++_}
-use Rattle.history.specs.History.{execution}
+use Rattle.history.specs.Unfolding.{execution}
 use Rattle.decimal.specs.Decimal.{text}
 use Rattle.lines.specs.Lines.{printing}
 use Rattle.commands.specs.Commands.{reading}

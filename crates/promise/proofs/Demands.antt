@@ -25,6 +25,7 @@ use Rattle.making.specs.Made.{made, madeView, madeList}
 use Rattle.making.proofs.Answers.{laid as making-laid}
 use Rattle.terms.specs.Places.{freePlace}
 use Rattle.model.specs.Writing.{made as modelMade}
+use Rattle.model.specs.Reading.{reader}
 use Rattle.model.specs.Calls.{Typed, viewNext, viewAfter, listAfter as modelList}
 use Rattle.model.specs.Claims.{storeAfter, historyAfter}
 use Rattle.model.proofs.Heads.{sees-at}
@@ -107,7 +108,7 @@ record Left (m : List ℕ) (ps : List Place) (S : Shape) (h : History) (cs : Lis
 view-next : {m : List ℕ} {ps : List Place} {S : Shape} {h : History} → Same m ps S h → (c : Call) → Typed c
     → view (sizesOf S) (words (memoryAfter m ps c)) ≡ viewNext S (view (sizesOf S) (words m)) ps c
 view-next {m} {ps} {S} {h} o c y =
-    let whole = (one-call S (view (sizesOf S) (words m)) ps h c y (o .shown) (o .known) .1) .whole in
+    let whole = (one-call S (view (sizesOf S) (words m)) ps h c y (o .shown) (o .known) .shown) .whole in
     rw (memory-is o c) (view-lay (sizesOf S) (viewNext S (view (sizesOf S) (words m)) ps c) m (whole .long) (whole .fits))
 
 calls-left : {m : List ℕ} {ps : List Place} {S : Shape} {h : History} → Same m ps S h → {cs : List Call} → All Typed cs → Left m ps S h cs
@@ -175,7 +176,7 @@ reads-committed S m ps a cs ys x t r c y q n =
     let u = enough S m ps a in
     let o = represented S (rw (u .within) tt) (length ps) (u .places) ys in
     e ∙ read-answers S h q w
-    ∙ sym (current-read S (storeAfter S (length ps) cs) _ h (o .0) (o .1) t 0 r c (seenAt h t) (sees-at h t) (b .0) (b .1))
+    ∙ sym (current-read S (storeAfter S (length ps) cs) _ h (o .0) (o .1) (reader t 0) r c (seenAt h t) (sees-at h t) (b .0) (b .1))
     ∙ reads S (rw (u .within) tt) (length ps) (u .places) cs ys t r c (b .0) (b .1)
 
 pub pages-committed : PagesCommitted

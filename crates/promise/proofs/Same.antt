@@ -17,9 +17,9 @@ use Rattle.layout.specs.declared.Region.the-variants.{Header}
 use Rattle.layout.specs.Cut.{join, endFrom}
 use Rattle.layout.specs.Regions.{all, lens, need, base}
 use Rattle.layout.specs.Sizes.{sizesOf, bytesNeeded}
-use Rattle.layout.specs.View.{View, view, renew, put, fill, number, lay}
+use Rattle.layout.specs.View.{View, view, renew, put, fill, number, lay, Long}
 use Rattle.layout.proofs.Cut.{join-length}
-use Rattle.layout.proofs.View.{Long, view-at}
+use Rattle.layout.proofs.View.{view-at}
 use Rattle.layout.proofs.Lay.{view-lay}
 use Rattle.history.specs.History.{Call, History, start, answer, answers, next}
 use Rattle.history.specs.Lists.{All, nil, cons}
@@ -28,8 +28,8 @@ use Rattle.facts.specs.Usable.{measuresBytes, storedShape, storedSizes, usable}
 use Rattle.making.specs.Made.{blankView, placedView, madeView, madeList}
 use Rattle.model.specs.Writing.{blank, made}
 use Rattle.model.specs.Calls.{Typed, say, viewNext, placesNext}
-use Rattle.model.proofs.Represents.{Represents, Known}
-use Rattle.model.proofs.Calls.{known-next, one-call}
+use Rattle.model.specs.Represents.{Represents, Known}
+use Rattle.model.proofs.Calls.{one-call}
 use Rattle.model.proofs.Made.{small-shape, made-represents}
 use Rattle.promise.specs.Promise.{storeView, answerOf, memoryAfter, listAfter, answersOf}
 use Rattle.promise.proofs.Stored.{represented-facts}
@@ -128,8 +128,8 @@ module _ {m : List ℕ} {ps : List Place} {S : Shape} {h : History} (o : Same m 
   pub same-call : (c : Call) → Typed c → (answerOf m ps c ≡ answer S h c) × Same (memoryAfter m ps c) (listAfter m ps c) S (next S h c)
   same-call c y =
       let one = one-call S seen ps h c y (o .shown) (o .known) in (
-        answer-is c ∙ one .0,
-        rw (memory-is c, list-is c) (laid S (viewNext S seen ps c) m (placesNext S seen ps c) (next S h c) (o .within) (o .room) (known-next c (o .known)) (one .1)),
+        answer-is c ∙ one .answered,
+        rw (memory-is c, list-is c) (laid S (viewNext S seen ps c) m (placesNext S seen ps c) (next S h c) (o .within) (o .room) (one .known) (one .shown)),
       )
 
 -- every list of calls

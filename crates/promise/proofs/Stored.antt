@@ -18,11 +18,11 @@ use Rattle.layout.proofs.Limits.{proper}
 use Rattle.history.specs.History.{History, unknown, active, aborted, committed, count, nth, stateOf, rowAt, rangeOf, recordsOf, scanAt}
 use Rattle.history.proofs.Lists.{all-at, by-cases, cond-ap, eqb-other, eqb-equal, place-any}
 use Rattle.history.specs.Latest.{stampOf}
-use Rattle.history.proofs.States.{isGiven, Stamped}
-use Rattle.history.proofs.Order.{Placed, placed-at}
+use Rattle.history.specs.Invariants.{isGiven, Stamped, Placed, Timely}
+use Rattle.history.proofs.Order.{placed-at}
 use Rattle.history.proofs.Ranges.{records-range}
-use Rattle.history.proofs.Timely.{Timely}
-use Rattle.history.proofs.Links.{noRecord, lastOf, last-of-row}
+use Rattle.history.proofs.Links.{last-of-row}
+use Rattle.history.specs.Records.{noRecord, lastOf}
 use Rattle.scans.specs.Places.{opened, openCount}
 use Rattle.facts.specs.Facts.{waiting, factsHold}
 use Rattle.facts.proofs.Ready.{Stored}
@@ -34,7 +34,7 @@ use Rattle.model.proofs.Merged.{place-mod, place-parts, named, placed}
 use Rattle.model.proofs.Heads.{in-range}
 use Rattle.model.proofs.Scans.{scanKind, scan-count}
 use Rattle.model.proofs.Transactions.{openKind}
-use Rattle.model.proofs.Represents.{RecordIs, WaitingIs, madeIn, Represents, Known}
+use Rattle.model.specs.Represents.{RecordIs, WaitingIs, madeIn, Represents, Known}
 use Rattle.promise.proofs.Tests.{facts-hold}
 
 -- ---- numbers from 1, and places that bear them

@@ -17,8 +17,7 @@ use Rattle.layout.specs.declared.Sizes.{Sizes}
 use Rattle.layout.specs.declared.Region.{Region}
 use Rattle.layout.specs.declared.Region.the-variants.{Opens, RowTransaction, RowStamp, TailTransaction, TailStamp, Used, PageState, PageReplaced, PageLineage, PageNewest}
 use Rattle.layout.specs.Regions.{len}
-use Rattle.layout.specs.View.{View, rowsGiven, transactionsGiven, scansGiven, lastStamp, mergesMade, usedIn}
-use Rattle.layout.proofs.View.{Long}
+use Rattle.layout.specs.View.{View, rowsGiven, transactionsGiven, scansGiven, lastStamp, mergesMade, usedIn, Long}
 use Rattle.terms.specs.Places.{freePlace}
 use Rattle.scans.specs.Places.{everyOpen, among, differ}
 use Rattle.facts.specs.Facts.{firstSlot, each, rowsBetween, rangeBetween, currentAtMost, waiting, waitingAtMost, storedWithin, countsWithin, rowNamed, rangeNamesRows, recordsNameRows, numbersGiven, linkHolds, rowLinked, recordLinked, rangeLinked, linksHold, stampsWithin, mergesWithin, openDiffer, pagePlaced, pagesPlaced, currentLineage, waitingLineage, lineagesWithin, factsHold}

@@ -1,3 +1,4 @@
--- Lemmas of the walk and of the word that it finds.
+-- Lemmas of the walk, of the word that it finds, and of a scan's page.
 pub mod Answering
 pub mod Walking
+pub mod ScanPages

@@ -1,10 +1,14 @@
 // The word of a row and column for a reader: in a page, in the tail records above the page's lineage, and further down only where the page is newer
 // than the reader's stamp. Each function answers by the model's definition of the same meaning.
+pub mod pages;
+
 use layout::Region;
 use layout::Sizes;
+use model::Reader;
 use model::Walk;
+use pages::cell;
+use pages::current_page;
 use regions::read;
-use rows::Reader;
 use rows::has_bit;
 use rows::range_of;
 use rows::sees_record;
@@ -20,7 +24,7 @@ ghost use lib.ListN.{length};
 ghost use Rattle.words.specs.Words.{words};
 ghost use Rattle.layout.specs.Regions.{need};
 ghost use Rattle.layout.specs.View.{view, rowsGiven, usedIn};
-ghost use Rattle.model.specs.Stored.{recordIn, pageIn, valueIn, cellIn, within, currentIn};
+ghost use Rattle.model.specs.Stored.{recordIn, pageIn, valueIn};
 ghost use Rattle.model.specs.Reading.{answersFor, walk, belowLineage, wordIn, readIn, readCurrent};
 ghost use Rattle.layout.specs.Sizes.{Proper};
 ghost use Rattle.model.specs.Asked.{shapeIn};
@@ -41,7 +45,7 @@ pub fn value(mem: &[u8], s: Sizes, at: usize, c: u32) -> u32
 pub fn answers_for(mem: &[u8], s: Sizes, who: Reader, at: usize, c: u32) -> bool
     requires { ⌜ need s * 4 ≤ length (now mem) ⌝ }
     requires { ⌜ (at < s .slots) × (c < 32) ⌝ }
-    ensures { λ r. ⌜ r ≡ answersFor (who .stamp .0) (who .me .0) c (recordIn (view s (words (now (mem .entry)))) at) ⌝ }
+    ensures { λ r. ⌜ r ≡ answersFor who c (recordIn (view s (words (now (mem .entry)))) at) ⌝ }
 {
     if has_bit(read(mem, s, Region::TailMask, at), c) {
         let kind = read(mem, s, Region::TailKind, at);
@@ -55,35 +59,25 @@ pub fn answers_for(mem: &[u8], s: Sizes, who: Reader, at: usize, c: u32) -> bool
     false
 }
 
-// From record `from` of range g back along the links, while the record's number is above `low`: the word of the first that answers for column c.
+// From record `from` of range g back along the links, while the record's number is above `low`, to the first that answers for column c.
 pub fn walk(mem: &[u8], s: Sizes, who: Reader, g: usize, c: u32, low: Tail, from: Tail) -> Walk
     requires { ⌜ need s * 4 ≤ length (now mem) ⌝ }
     requires { ⌜ Proper s ⌝ }
     requires { ⌜ Linked s (view s (words (now mem))) ⌝ }
     requires { ⌜ (g < s .ranges) × (c < s .columns) × (from .0 ≤ usedIn (view s (words (now mem))) g) ⌝ }
-    ensures { λ r. ⌜ r ≡ walk (shapeIn s) (view s (words (now (mem .entry)))) g c (who .stamp .0) (who .me .0) (low .0) (from .0) (from .0) ⌝ }
-    ensures { λ r. ⌜ Reached r (from .0) ⌝ }
+    ensures { λ r. ⌜ r ≡ walk (shapeIn s) (view s (words (now (mem .entry)))) who g c (low .0) (from .0) (from .0) ⌝ }
+    ensures { λ r. ⌜ Reached r (s .slots) (from .0) ⌝ }
 {
     let last = low.0;
     let mut k = from.0;
     while k > last {
         let at = slot_of(s, g, Tail(k));
         if answers_for(mem, s, who, at, c) {
-            return Walk::Found(value(mem, s, at, c));
+            return Walk::Found(at);
         }
         k = read(mem, s, Region::TailLink, at);
     }
     Walk::Stopped(Tail(k))
-}
-
-// The word of a row in a page.
-pub fn cell(mem: &[u8], s: Sizes, page: usize, row: Row) -> u32
-    requires { ⌜ need s * 4 ≤ length (now mem) ⌝ }
-    requires { ⌜ Proper s ⌝ }
-    requires { ⌜ page < s .pages ⌝ }
-    ensures { λ r. ⌜ r ≡ cellIn (view s (words (now (mem .entry)))) page (within (row .0)) ⌝ }
-{
-    read(mem, s, Region::Cells, page * 64 + (row.0 % 64) as usize)
 }
 
 // The word for a walk that stopped at record k, at the page's lineage: the cell, unless the page holds a setting later than the reader's stamp.
@@ -101,15 +95,15 @@ fn below_lineage(
     requires { ⌜ Proper s ⌝ }
     requires { ⌜ Linked s (view s (words (now mem))) ⌝ }
     requires { ⌜ (page < s .pages) × (g < s .ranges) × (c < s .columns) × (k .0 ≤ usedIn (view s (words (now mem))) g) ⌝ }
-    ensures { λ r. ⌜ r ≡ belowLineage (shapeIn s) (view s (words (now (mem .entry)))) g c (who .stamp .0) (who .me .0) (pageIn (view s (words (now (mem .entry)))) page) cell (k .0) ⌝ }
+    ensures { λ r. ⌜ r ≡ belowLineage (shapeIn s) (view s (words (now (mem .entry)))) who g c (pageIn (view s (words (now (mem .entry)))) page) cell (k .0) ⌝ }
 {
     if read(mem, s, Region::PageNewest, page) <= who.stamp.0 {
         return cell;
     }
-    let Walk::Found(w) = walk(mem, s, who, g, c, Tail(0), k) else {
+    let Walk::Found(at) = walk(mem, s, who, g, c, Tail(0), k) else {
         return cell;
     };
-    w
+    value(mem, s, at, c)
 }
 
 // The word of a row and column on a page. A column that no update has set is in the page alone.
@@ -118,7 +112,7 @@ pub fn word_of(mem: &[u8], s: Sizes, who: Reader, page: usize, row: Row, c: u32)
     requires { ⌜ Proper s ⌝ }
     requires { ⌜ Linked s (view s (words (now mem))) ⌝ }
     requires { ⌜ (page < s .pages) × (c < s .columns) × (row .0 < rowsGiven (view s (words (now mem)))) ⌝ }
-    ensures { λ r. ⌜ r ≡ wordIn (shapeIn s) (view s (words (now (mem .entry)))) (who .stamp .0) (who .me .0) page (row .0) c ⌝ }
+    ensures { λ r. ⌜ r ≡ wordIn (shapeIn s) (view s (words (now (mem .entry)))) who page (row .0) c ⌝ }
 {
     let at = cell(mem, s, page, row);
     let i = row.0 as usize;
@@ -127,7 +121,7 @@ pub fn word_of(mem: &[u8], s: Sizes, who: Reader, page: usize, row: Row, c: u32)
         let lineage = Tail(read(mem, s, Region::PageLineage, page));
         let link = Tail(read(mem, s, Region::RowLink, i));
         return match walk(mem, s, who, g, c, lineage, link) {
-            Walk::Found(w) => w,
+            Walk::Found(i) => value(mem, s, i, c),
             Walk::Stopped(k) => below_lineage(mem, s, who, g, c, page, at, k),
         };
     }
@@ -140,23 +134,12 @@ pub fn read_row(mem: &[u8], s: Sizes, who: Reader, page: usize, row: Row, c: u32
     requires { ⌜ Proper s ⌝ }
     requires { ⌜ Linked s (view s (words (now mem))) ⌝ }
     requires { ⌜ (page < s .pages) × (c < s .columns) × (row .0 < rowsGiven (view s (words (now mem)))) ⌝ }
-    ensures { λ r. ⌜ r ≡ readIn (shapeIn s) (view s (words (now (mem .entry)))) (who .stamp .0) (who .me .0) page (row .0) c ⌝ }
+    ensures { λ r. ⌜ r ≡ readIn (shapeIn s) (view s (words (now (mem .entry)))) who page (row .0) c ⌝ }
 {
     if visible(mem, s, who, row) {
         return Answer::Value(of_word(word_of(mem, s, who, page, row, c)));
     }
     Answer::None
-}
-
-// The current page of range g and column c.
-pub fn current_page(mem: &[u8], s: Sizes, g: usize, c: u32) -> usize
-    requires { ⌜ need s * 4 ≤ length (now mem) ⌝ }
-    requires { ⌜ Proper s ⌝ }
-    requires { ⌜ Pooled s (view s (words (now mem))) ⌝ }
-    requires { ⌜ (g < s .ranges) × (c < s .columns) ⌝ }
-    ensures { λ r. ⌜ (r ≡ currentIn (shapeIn s) (view s (words (now (mem .entry)))) g c) × (r < s .pages) ⌝ }
-{
-    read(mem, s, Region::Current, g * s.columns + c as usize) as usize
 }
 
 // What the reader reads of a row and column on the current page.
@@ -165,7 +148,7 @@ pub fn read_current(mem: &[u8], s: Sizes, who: Reader, row: Row, c: u32) -> Answ
     requires { ⌜ Proper s ⌝ }
     requires { ⌜ Linked s (view s (words (now mem))) × Pooled s (view s (words (now mem))) ⌝ }
     requires { ⌜ (c < s .columns) × (row .0 < rowsGiven (view s (words (now mem)))) ⌝ }
-    ensures { λ r. ⌜ r ≡ readCurrent (shapeIn s) (view s (words (now (mem .entry)))) (who .stamp .0) (who .me .0) (row .0) c ⌝ }
+    ensures { λ r. ⌜ r ≡ readCurrent (shapeIn s) (view s (words (now (mem .entry)))) who (row .0) c ⌝ }
 {
     let page = current_page(mem, s, range_of(row), c);
     read_row(mem, s, who, page, row, c)

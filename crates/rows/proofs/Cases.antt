@@ -11,26 +11,27 @@ use Rattle.loops.specs.declared.Found.{Found}
 use Rattle.layout.specs.declared.Region.the-variants.{TailKind}
 use Rattle.layout.specs.View.{View}
 use Rattle.history.specs.History.{rangeOf}
+use Rattle.model.specs.declared.Reader.{Reader}
 use Rattle.model.specs.Stored.{rowIn, recordIn, slot}
 use Rattle.model.specs.Reading.{sees, seesRow, seesRecord, hasRecord, headIn, visibleIn}
 use Rattle.rows.specs.Finders.{headAt}
 
-module _ (t me state stamp transaction : ℕ) where
-  pub sees-committed : state ≡ 1 → leb stamp t ≡ sees t me state stamp transaction
+module _ (who : Reader) (state stamp transaction : ℕ) where
+  pub sees-committed : state ≡ 1 → leb stamp (who .stamp .0) ≡ sees who state stamp transaction
   unfolding sees
-  sees-committed e = rw e (sym (or-false (leb stamp t)))
+  sees-committed e = rw e (sym (or-false (leb stamp (who .stamp .0))))
 
-  pub sees-ended : (state ≡ 1 → ⊥) → (state ≡ 0 → ⊥) → false ≡ sees t me state stamp transaction
+  pub sees-ended : (state ≡ 1 → ⊥) → (state ≡ 0 → ⊥) → false ≡ sees who state stamp transaction
   unfolding sees
   sees-ended h k = rw (ne-eqb state 1 h, ne-eqb state 0 k)
 
-  pub sees-none : state ≡ 0 → me ≡ 0 → false ≡ sees t me state stamp transaction
+  pub sees-none : state ≡ 0 → who .me .0 ≡ 0 → false ≡ sees who state stamp transaction
   unfolding sees
   sees-none e q = rw (e, q)
 
-  pub sees-own : state ≡ 0 → (me ≡ 0 → ⊥) → eqb transaction me ≡ sees t me state stamp transaction
+  pub sees-own : state ≡ 0 → (who .me .0 ≡ 0 → ⊥) → eqb transaction (who .me .0) ≡ sees who state stamp transaction
   unfolding sees
-  sees-own e h = rw (e, ne-eqb me 0 h)
+  sees-own e h = rw (e, ne-eqb (who .me .0) 0 h)
 
 -- ---- what a finder tells whose answer hangs on one test
 module _ (b : Bool) (j : ℕ) where
@@ -68,25 +69,25 @@ module _ (S : Shape) (v : View) (r : ℕ) where
       go true q f = let z : _≡_ {A = ℕ} 0 1 = cc in absurd (omega arith)
       go false q f = q
 
-  module _ (t me : ℕ) where
-    pub unseen-row : seesRow t me (rowIn v r) ≡ false → false ≡ visibleIn S v t me r
+  module _ (who : Reader) where
+    pub unseen-row : seesRow who (rowIn v r) ≡ false → false ≡ visibleIn S v who r
     unfolding visibleIn
     unseen-row h = rw h
 
-    pub row-alone : seesRow t me (rowIn v r) ≡ true → headAt S v r ≡ Found.Nothing → true ≡ visibleIn S v t me r
+    pub row-alone : seesRow who (rowIn v r) ≡ true → headAt S v r ≡ Found.Nothing → true ≡ visibleIn S v who r
     unfolding visibleIn
     row-alone h e = rw (h, head-none e)
 
-    pub row-kept : (at kind : ℕ) → seesRow t me (rowIn v r) ≡ true → headAt S v r ≡ Found.At at → kind ≡ getD (v TailKind) at 0 → kind < 2
-        → true ≡ visibleIn S v t me r
+    pub row-kept : (at kind : ℕ) → seesRow who (rowIn v r) ≡ true → headAt S v r ≡ Found.At at → kind ≡ getD (v TailKind) at 0 → kind < 2
+        → true ≡ visibleIn S v who r
     unfolding visibleIn recordIn
     row-kept at kind h e k l =
         let d = head-there at e in
         let no : ltb 1 (getD (v TailKind) at 0) ≡ false = le-ltb 1 (getD (v TailKind) at 0) (omega arith) in
         rw (h, d .0, d .1, no)
 
-    pub row-deleted : (at kind : ℕ) (seen : Bool) → seesRow t me (rowIn v r) ≡ true → headAt S v r ≡ Found.At at
-        → kind ≡ getD (v TailKind) at 0 → 2 ≤ kind → seen ≡ seesRecord t me (recordIn v at) → not seen ≡ visibleIn S v t me r
+    pub row-deleted : (at kind : ℕ) (seen : Bool) → seesRow who (rowIn v r) ≡ true → headAt S v r ≡ Found.At at
+        → kind ≡ getD (v TailKind) at 0 → 2 ≤ kind → seen ≡ seesRecord who (recordIn v at) → not seen ≡ visibleIn S v who r
     unfolding visibleIn recordIn
     row-deleted at kind seen h e k l q =
         let d = head-there at e in

@@ -1,5 +1,6 @@
 -- That an index lies in its region: the products of the sizes.
 use Prim.Native.Nat.{ℕ, _+_, _*_, _-_, _≤_, _<_}
+use mathlib.Core.Path.{_≡_}
 use native.Mathlib.Omega.{arith}
 use native.Mathlib.Nat.{mul-le-mul, mul-le-mul-right, suc-mul, mul-comm}
 use lib.ListN.{getD}
@@ -50,3 +51,7 @@ module _ (s : Sizes) (proper : Proper s) where
   row-in v linked r h =
       let l : r < s .rows = omega (arith, linked .rows-few) in
       (l, range-in r l, linked .rows-linked r h, linked .used-few (rangeOf r) (range-in r l))
+
+  -- its range and its newest record as they were read
+  pub row-reach : (v : View) → Linked s v → (r g link : ℕ) → r < rowsGiven v → g ≡ rangeOf r → link ≡ getD (v RowLink) r 0 → (g < s .ranges) × (link ≤ usedIn v g)
+  row-reach v linked r g link h e l = let inside = row-in v linked r h in (rw e (inside .1), rw (e, l) (inside .2))

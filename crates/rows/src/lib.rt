@@ -3,6 +3,7 @@
 use layout::Region;
 use layout::Sizes;
 use loops::Found;
+use model::Reader;
 use regions::read;
 use terms::Row;
 use terms::Stamp;
@@ -22,12 +23,6 @@ ghost use Rattle.model.specs.Asked.{shapeIn};
 ghost use Rattle.model.specs.Asked.{Linked};
 ghost use Rattle.rows.specs.Finders.{headAt, Inside};
 
-// A reader: it sees what was committed at or before its stamp, and what transaction `me` has changed so far (number 0: no such changes).
-pub struct Reader {
-    pub stamp: Stamp,
-    pub me: Transaction,
-}
-
 // Whether a mask has column c.
 pub fn has_bit(mask: u32, c: u32) -> bool
     requires { ⌜ c < 32 ⌝ }
@@ -38,7 +33,7 @@ pub fn has_bit(mask: u32, c: u32) -> bool
 
 // Whether the reader sees a row or record of this state, stamp and transaction.
 pub fn sees(who: Reader, state: u32, stamp: Stamp, transaction: Transaction) -> bool
-    ensures { λ r. ⌜ r ≡ sees (who .stamp .0) (who .me .0) state (stamp .0) (transaction .0) ⌝ }
+    ensures { λ r. ⌜ r ≡ sees who state (stamp .0) (transaction .0) ⌝ }
 {
     let me = who.me.0;
     if state == 1 {
@@ -57,7 +52,7 @@ pub fn sees(who: Reader, state: u32, stamp: Stamp, transaction: Transaction) -> 
 pub fn sees_row(mem: &[u8], s: Sizes, who: Reader, row: Row) -> bool
     requires { ⌜ need s * 4 ≤ length (now mem) ⌝ }
     requires { ⌜ row .0 < s .rows ⌝ }
-    ensures { λ r. ⌜ r ≡ seesRow (who .stamp .0) (who .me .0) (rowIn (view s (words (now (mem .entry)))) (row .0)) ⌝ }
+    ensures { λ r. ⌜ r ≡ seesRow who (rowIn (view s (words (now (mem .entry)))) (row .0)) ⌝ }
 {
     let i = row.0 as usize;
     let state = read(mem, s, Region::RowState, i);
@@ -70,7 +65,7 @@ pub fn sees_row(mem: &[u8], s: Sizes, who: Reader, row: Row) -> bool
 pub fn sees_record(mem: &[u8], s: Sizes, who: Reader, slot: usize) -> bool
     requires { ⌜ need s * 4 ≤ length (now mem) ⌝ }
     requires { ⌜ slot < s .slots ⌝ }
-    ensures { λ r. ⌜ r ≡ seesRecord (who .stamp .0) (who .me .0) (recordIn (view s (words (now (mem .entry)))) slot) ⌝ }
+    ensures { λ r. ⌜ r ≡ seesRecord who (recordIn (view s (words (now (mem .entry)))) slot) ⌝ }
 {
     let state = read(mem, s, Region::TailState, slot);
     let stamp = Stamp(read(mem, s, Region::TailStamp, slot));
@@ -116,7 +111,7 @@ pub fn visible(mem: &[u8], s: Sizes, who: Reader, row: Row) -> bool
     requires { ⌜ Proper s ⌝ }
     requires { ⌜ Linked s (view s (words (now mem))) ⌝ }
     requires { ⌜ row .0 < rowsGiven (view s (words (now mem))) ⌝ }
-    ensures { λ r. ⌜ r ≡ visibleIn (shapeIn s) (view s (words (now (mem .entry)))) (who .stamp .0) (who .me .0) (row .0) ⌝ }
+    ensures { λ r. ⌜ r ≡ visibleIn (shapeIn s) (view s (words (now (mem .entry)))) who (row .0) ⌝ }
 {
     if !sees_row(mem, s, who, row) {
         return false;

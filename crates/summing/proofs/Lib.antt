@@ -1,4 +1,3 @@
--- Lemmas of a scan's pages and of its sum.
-pub mod Pages
+-- Lemmas of a scan's sum.
 pub mod Signed
 pub mod Sums

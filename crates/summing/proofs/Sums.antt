@@ -14,7 +14,7 @@ use Rattle.layout.specs.View.{View, rowsGiven}
 use Rattle.history.specs.History.{rangeOf}
 use Rattle.terms.specs.declared.Place.{Place}
 use Rattle.model.specs.Reading as R
-use Rattle.model.specs.Reading.{wordIn, visibleIn, scanPage, tally, sumIn}
+use Rattle.model.specs.Reading.{reader, wordIn, visibleIn, scanPage, tally, sumIn}
 use Rattle.summing.specs.declared.Tally.{Tally}
 use Rattle.summing.specs.Sums.{Tallied}
 use Rattle.summing.proofs.Signed.{sum-size, word-size, size-fits}
@@ -26,7 +26,7 @@ one-range from to r a b c = omega arith
 
 module _ (S : Shape) (v : View) (scan : Place) (c : ℕ) where
   abbrev value : ℕ → ℤ
-  value r = toZ w32 (wordIn S v (scan .stamp) 0 (scanPage S v (scan .merges) (rangeOf r) c) r c)
+  value r = toZ w32 (wordIn S v (reader (scan .stamp) 0) (scanPage S v (scan .merges) (rangeOf r) c) r c)
 
   abbrev before : ℕ → R.Tally
   before r = tally S v scan c r
@@ -37,12 +37,12 @@ module _ (S : Shape) (v : View) (scan : Place) (c : ℕ) where
   pub tally-bound : (n : ℕ) → (tally S v scan c n .count ≤ n) × (natAbs (tally S v scan c n .total) ≤ n * 2147483648)
   unfolding tally
   tally-bound zero = (omega arith, omega arith)
-  tally-bound (suc r) = go (visibleIn S v (scan .stamp) 0 r) (tally-bound r)
+  tally-bound (suc r) = go (visibleIn S v (reader (scan .stamp) 0) r) (tally-bound r)
     where
       go : (b : Bool) → (before r .count ≤ r) × (natAbs (before r .total) ≤ r * 2147483648)
           → (cond b (more r) (before r) .count ≤ suc r) × (natAbs (cond b (more r) (before r) .total) ≤ suc r * 2147483648)
       go true h =
-          (omega (arith, h .0), omega (arith, h .1, sum-size (before r .total) (value r), word-size (wordIn S v (scan .stamp) 0 (scanPage S v (scan .merges) (rangeOf r) c) r c)))
+          (omega (arith, h .0), omega (arith, h .1, sum-size (before r .total) (value r), word-size (wordIn S v (reader (scan .stamp) 0) (scanPage S v (scan .merges) (rangeOf r) c) r c)))
       go false h = (omega (arith, h .0), omega (arith, h .1))
 
   pub none-tallied : Tallied S v scan c 0 record { count = 0; total = pos 0 }
@@ -62,12 +62,12 @@ module _ (S : Shape) (v : View) (scan : Place) (c : ℕ) where
     unfolding sumIn
     sum-is e l = rw (tallied-kept l, h .count-is, h .total-is, e)
 
-    pub row-unseen : false ≡ visibleIn S v (scan .stamp) 0 r → Tallied S v scan c (r + 1) t
+    pub row-unseen : false ≡ visibleIn S v (reader (scan .stamp) 0) r → Tallied S v scan c (r + 1) t
     unfolding tally
     row-unseen u = rw add-one record { count-is = rw (← u) (h .count-is); total-is = rw (← u) (h .total-is) }
 
-    pub row-seen : (t′ : Tally) (page w : ℕ) → true ≡ visibleIn S v (scan .stamp) 0 r → page ≡ scanPage S v (scan .merges) (rangeOf r) c
-        → w ≡ wordIn S v (scan .stamp) 0 page r c → t′ .count ≡ t .count + 1 → t′ .total ≡ t .total +ℤ toZ w32 w
+    pub row-seen : (t′ : Tally) (page w : ℕ) → true ≡ visibleIn S v (reader (scan .stamp) 0) r → page ≡ scanPage S v (scan .merges) (rangeOf r) c
+        → w ≡ wordIn S v (reader (scan .stamp) 0) page r c → t′ .count ≡ t .count + 1 → t′ .total ≡ t .total +ℤ toZ w32 w
         → Tallied S v scan c (r + 1) t′
     unfolding tally
     row-seen t′ page w u p q a b =

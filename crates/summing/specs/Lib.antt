@@ -1,2 +1,2 @@
--- What the summing code's finder and its running tally are.
+-- What the summing code's running tally is.
 pub mod Sums

@@ -1,12 +1,11 @@
-// A scan's pages and its sum. The sum finds the page of each range once and goes over the range's rows on it; the definition goes row by row.
+// A scan's sum. It finds the page of each range once and goes over the range's rows on it; the definition goes row by row.
 use layout::HEADER_ROWS;
 use layout::Region;
 use layout::Sizes;
-use loops::Found;
-use reading::current_page;
+use model::Reader;
+use reading::pages::scan_page;
 use reading::word_of;
 use regions::read;
-use rows::Reader;
 use rows::range_of;
 use rows::visible;
 use terms::Answer;
@@ -23,68 +22,11 @@ ghost use Rattle.words.specs.Words.{words};
 ghost use Rattle.layout.specs.Regions.{need};
 ghost use Rattle.layout.specs.View.{view, rowsGiven};
 ghost use Rattle.history.specs.History.{rangeOf};
-ghost use Rattle.model.specs.Reading.{wasCurrent, scanPage, sumIn};
+ghost use Rattle.model.specs.Reading.{scanPage, sumIn};
 ghost use Rattle.layout.specs.Sizes.{Proper};
 ghost use Rattle.model.specs.Asked.{shapeIn};
 ghost use Rattle.model.specs.Asked.{Linked, Pooled};
-ghost use Rattle.rows.specs.Finders.{Inside};
-ghost use Rattle.summing.specs.Sums.{oldPage, Tallied};
-
-// Whether page p waits, is of this place, and was current after the first `merges` merges.
-fn was_current(mem: &[u8], s: Sizes, merges: u32, place: usize, p: usize) -> bool
-    requires { ⌜ need s * 4 ≤ length (now mem) ⌝ }
-    requires { ⌜ Proper s ⌝ }
-    requires { ⌜ p < s .pages ⌝ }
-    ensures { λ r. ⌜ r ≡ wasCurrent (shapeIn s) (view s (words (now (mem .entry)))) merges place p ⌝ }
-{
-    if read(mem, s, Region::PageState, p) < 2 {
-        return false;
-    }
-    if read(mem, s, Region::PagePlace, p) as usize % s.places != place {
-        return false;
-    }
-    if read(mem, s, Region::PageMade, p) > merges {
-        return false;
-    }
-    merges < read(mem, s, Region::PageReplaced, p)
-}
-
-// The first waiting page of a place that was current after the first `merges` merges.
-fn old_page(mem: &[u8], s: Sizes, merges: u32, place: usize) -> Found
-    requires { ⌜ need s * 4 ≤ length (now mem) ⌝ }
-    requires { ⌜ Proper s ⌝ }
-    ensures { λ r. ⌜ r ≡ oldPage (shapeIn s) (view s (words (now (mem .entry)))) merges place ⌝ }
-    ensures { λ r. ⌜ Inside r (s .pages) ⌝ }
-{
-    let n = s.pages;
-    let mut p = 0;
-    while p < n {
-        if was_current(mem, s, merges, place, p) {
-            return Found::At(p);
-        }
-        p += 1;
-    }
-    Found::Nothing
-}
-
-// The page of range g and column c that was current after the first `merges` merges.
-pub fn scan_page(mem: &[u8], s: Sizes, merges: u32, g: usize, c: u32) -> usize
-    requires { ⌜ need s * 4 ≤ length (now mem) ⌝ }
-    requires { ⌜ Proper s ⌝ }
-    requires { ⌜ Pooled s (view s (words (now mem))) ⌝ }
-    requires { ⌜ (g < s .ranges) × (c < s .columns) ⌝ }
-    ensures { λ r. ⌜ (r ≡ scanPage (shapeIn s) (view s (words (now (mem .entry)))) merges g c) × (r < s .pages) ⌝ }
-{
-    let current = current_page(mem, s, g, c);
-    if read(mem, s, Region::PageMade, current) <= merges {
-        return current;
-    }
-    let place = g * s.columns + c as usize;
-    let Found::At(p) = old_page(mem, s, merges, place) else {
-        return current;
-    };
-    p
-}
+ghost use Rattle.summing.specs.Sums.{Tallied};
 
 // The rows seen so far, and the sum of their values.
 pub struct Tally {

@@ -20,11 +20,10 @@ abbrev μ-loop : tie.MeasureT-loop
 loop-again : tie.Need-loop-again Inv-loop μ-loop
 unfolding deletesAt
 loop-again c =
-    let delete = c .before in
-    let two = delete .before in
-    let one = two .before in
-    let b = one .before .before in
-    (omega arith, one-turn _ _ _ _ _ (b .loop .inv .1) (delete .is-delete .ensures ∙ rw (one .read .ensures, two .read2 .ensures)) (c .either .ensures))
+    let head : tie.At-loop Inv-loop μ-loop = search in
+    let row : tie.After-read Inv-loop μ-loop = search in
+    let kind : tie.After-read2 Inv-loop μ-loop = search in
+    (omega arith, one-turn _ _ _ _ _ (head .loop .inv .1) (c .before .is-delete .ensures ∙ rw (row .read .ensures, kind .read2 .ensures)) (c .either .ensures))
 
 pub any-delete-spec : {M : Type 1} → statement M
 any-delete-spec =

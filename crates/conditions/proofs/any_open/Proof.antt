@@ -29,9 +29,9 @@ inside c =
 
 loop-again : tie.Need-loop-again Inv-loop μ-loop
 loop-again c =
-    let open′ = c .before in
-    let one = open′ .before in
-    (omega arith, one-turn _ _ _ _ _ (one .before .before .loop .inv .1) (open′ .is-open .ensures ∙ rw (one .read .ensures)) (c .either .ensures))
+    let head : tie.At-loop Inv-loop μ-loop = search in
+    let maker : tie.After-read Inv-loop μ-loop = search in
+    (omega arith, one-turn _ _ _ _ _ (head .loop .inv .1) (c .before .is-open .ensures ∙ rw (maker .read .ensures)) (c .either .ensures))
 
 pub any-open-spec : {M : Type 1} → statement M
 any-open-spec =
@@ -40,10 +40,10 @@ any-open-spec =
     Inv-loop
     μ-loop
     (λ c. search needs)
-    (λ c. omega (arith, inside (c .before .before .before)))
+    (λ c. omega (arith, inside search))
     (λ c. (omega arith, no-turn _))
-    (λ c. omega (arith, inside (c .before .before .before .before .before)))
-    (λ c κs. (omega arith, omega (arith, inside (c .before .before .before .before .before))))
+    (λ c. omega (arith, inside search))
+    (λ c κs. (omega arith, omega (arith, inside search)))
     (λ c κs. search needs)
     (λ c κs. search needs)
     (λ c. omega arith)

@@ -22,10 +22,10 @@ returns : tie.Need-returns Inv-loop μ-loop
 returns c = none-ends _ _ _ _ _ _ (c .before .any-delete .ensures) (c .if2 .taken)
 
 returns-2 : tie.Need-returns-2 Inv-loop μ-loop
-returns-2 c = found _ _ (c .before .before .before .loop .i) _ (omega arith) (c .before .ends .ensures) (c .if3 .taken)
+returns-2 c = let head : tie.At-loop Inv-loop μ-loop = search in found _ _ (head .loop .i) _ (omega arith) (c .before .ends .ensures) (c .if3 .taken)
 
 loop-again : tie.Need-loop-again Inv-loop μ-loop
-loop-again c = (omega arith, one-turn _ _ _ _ _ (c .before .before .before .loop .inv .1) (c .before .ends .ensures) (sym (c .if3 .left)))
+loop-again c = let head : tie.At-loop Inv-loop μ-loop = search in (omega arith, one-turn _ _ _ _ _ (head .loop .inv .1) (c .before .ends .ensures) (sym (c .if3 .left)))
 
 pub ended-spec : {M : Type 1} → statement M
 ended-spec =

@@ -6,19 +6,20 @@ use Rattle.conditions.proofs.ends.Tie as tie
 
 returns : tie.Need-returns
 returns c =
-    let four = c .before in
-    let three = four .before in
-    let test = three .before in
-    let delete = test .before in
-    let two = delete .before in
-    ends-by _ _ _ _ _ _ _ (two .before .read .ensures) (two .read2 .ensures) (delete .is-delete .ensures) _ _ _ (test .if1 .taken)
-    (three .read3 .ensures) (four .read4 .ensures) (c .stands-for .ensures)
+    let row : tie.After-read = search in
+    let kind : tie.After-read2 = search in
+    let test : tie.After-is-delete = search in
+    let delete : tie.Then1 = search in
+    let maker : tie.After-read3 = search in
+    let state : tie.After-read4 = search in
+    ends-by _ _ _ _ _ _ _ (row .read .ensures) (kind .read2 .ensures) (test .is-delete .ensures) _ _ _ (delete .if1 .taken)
+    (maker .read3 .ensures) (state .read4 .ensures) (c .stands-for .ensures)
 
 returns-2 : tie.Need-returns-2
 returns-2 c =
-    let delete = c .before in
-    let two = delete .before in
-    ends-not _ _ _ _ _ _ _ (two .before .read .ensures) (two .read2 .ensures) (delete .is-delete .ensures) (c .if1 .left)
+    let row : tie.After-read = search in
+    let kind : tie.After-read2 = search in
+    ends-not _ _ _ _ _ _ _ (row .read .ensures) (kind .read2 .ensures) (c .before .is-delete .ensures) (c .if1 .left)
 
 pub ends-spec : {M : Type 1} → statement M
 ends-spec =

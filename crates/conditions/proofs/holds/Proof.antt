@@ -13,9 +13,10 @@ returns c = rw (← c .before .read .ensures, ne-eqb _ _ (c .if1 .taken))
 returns-2 : tie.Need-returns-2
 unfolding holdsAt
 returns-2 c =
-    let two = c .before in
-    let test = two .before in
-    c .open-other .ensures ∙ rw (two .read2 .ensures, ← test .before .read .ensures, eq-eqb _ _ (test .if1 .left))
+    let row : tie.After-read = search in
+    let same : tie.Else1 = search in
+    let maker : tie.After-read2 = search in
+    c .open-other .ensures ∙ rw (maker .read2 .ensures, ← row .read .ensures, eq-eqb _ _ (same .if1 .left))
 
 pub holds-spec : {M : Type 1} → statement M
 holds-spec = tie.close (tie.spec (λ c κs. search needs) returns (λ c κs. search needs) (λ c κs. search needs) returns-2)

@@ -24,23 +24,22 @@ abbrev μ-loop : tie.MeasureT-loop
 
 loop-again : tie.Need-loop-again Inv-loop μ-loop
 loop-again c =
-    let one = c .before in
-    let b = one .before .before in
-    (omega arith, one-turn _ _ _ _ _ (b .loop .inv .1) (rw (one .read .ensures)) (c .either .ensures))
+    let head : tie.At-loop Inv-loop μ-loop = search in
+    (omega arith, one-turn _ _ _ _ _ (head .loop .inv .1) (rw (c .before .read .ensures)) (c .either .ensures))
 
 returns : tie.Need-returns Inv-loop μ-loop
 returns c =
-    let start = c .before .before .before .before in
+    let start : tie.Start Inv-loop μ-loop = search in
     open-zero (view (start .args .s) (words (start .args .mem .now))) _ (c .if1 .taken)
 
 returns-2 : tie.Need-returns-2 Inv-loop μ-loop
 returns-2 c =
-    let loop = c .before .before in
-    let start = loop .before .before in
+    let start : tie.Start Inv-loop μ-loop = search in
+    let head : tie.At-loop Inv-loop μ-loop = search in
     open-is (view (start .args .s) (words (start .args .mem .now))) _ _
     (view-long (start .args .s) (words (start .args .mem .now)) (omega (arith, length-words (start .args .mem .now))) Opens)
     (c .if1 .left)
-    (turned _ _ _ _ (loop .loop .inv .1) (omega arith) (omega arith))
+    (turned _ _ _ _ (head .loop .inv .1) (omega arith) (omega arith))
 
 pub is-open-spec : {M : Type 1} → statement M
 is-open-spec =

@@ -5,6 +5,13 @@ use Rattle.conditions.proofs.Records.{other-self, other-closed, other-o
 use Rattle.conditions.proofs.open_other.Statement.{statement}
 use Rattle.conditions.proofs.open_other.Tie as tie
 
+returns-3 : tie.Need-returns-3
+returns-3 c =
+    let other : tie.Else1 = search in
+    let call : tie.After-open-place = search in
+    let found : tie.After-place = search in
+    other-open _ _ _ _ (other .if1 .left) (sym (call .open-place .ensures .0) ∙ found .place .given .1)
+
 pub open-other-spec : {M : Type 1} → statement M
 open-other-spec =
     tie.close
@@ -13,5 +20,5 @@ open-other-spec =
     (λ c κs. search needs)
     (λ c. search needs)
     (λ c. search needs)
-    (λ c. other-closed _ _ _ (sym (c .before .before .open-place .ensures .0) ∙ c .enum-told .given .1))
-    (λ c. other-open _ _ _ _ (c .before .before .before .before .if1 .left) (sym (c .before .before .before .open-place .ensures .0) ∙ c .before .place .given .1)))
+    (λ c. let call : tie.After-open-place = search in other-closed _ _ _ (sym (call .open-place .ensures .0) ∙ c .enum-told .given .1))
+    returns-3)

@@ -9,7 +9,7 @@ returns c = (open-none _ _ _ (c .if1 .taken), tt)
 
 returns-2 : tie.Need-returns-2
 returns-2 c =
-    let start = c .before .before .before in
+    let start : tie.Start = search in
     let found = open-found _ (c .before .if1 .left) _ _ _ (start .pre) (c .find-in .ensures) in
     (found .0, found .1)
 

@@ -23,15 +23,15 @@ abbrev μ-loop : tie.MeasureT-loop
 
 returns : tie.Need-returns Inv-loop μ-loop
 returns c =
-    let other = c .before in
-    let one = other .before in
-    found _ _ (one .before .before .loop .j) _ (omega arith) (other .is-other .ensures ∙ rw (one .read .ensures)) (c .if1 .taken)
+    let head : tie.At-loop Inv-loop μ-loop = search in
+    let one : tie.After-read Inv-loop μ-loop = search in
+    found _ _ (head .loop .j) _ (omega arith) (c .before .is-other .ensures ∙ rw (one .read .ensures)) (c .if1 .taken)
 
 loop-again : tie.Need-loop-again Inv-loop μ-loop
 loop-again c =
-    let other = c .before in
-    let one = other .before in
-    (omega arith, one-turn _ _ _ _ _ (one .before .before .loop .inv .1) (other .is-other .ensures ∙ rw (one .read .ensures)) (sym (c .if1 .left)))
+    let head : tie.At-loop Inv-loop μ-loop = search in
+    let one : tie.After-read Inv-loop μ-loop = search in
+    (omega arith, one-turn _ _ _ _ _ (head .loop .inv .1) (c .before .is-other .ensures ∙ rw (one .read .ensures)) (sym (c .if1 .left)))
 
 pub others-open-spec : {M : Type 1} → statement M
 others-open-spec =

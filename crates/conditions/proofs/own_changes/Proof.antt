@@ -9,7 +9,7 @@ returns : tie.Need-returns
 unfolding ownChanges
 returns c =
     let asked = c .before in
-    let start = asked .before .before in
+    let start : tie.Start = search in
     λ t e. rw (c .owner .ensures, asked .pending-at .ensures, number-there _ _ t _ (start .pre .0) (record { low = start .pre .1; found = e }), e)
 
 pub own-changes-spec : {M : Type 1} → statement M

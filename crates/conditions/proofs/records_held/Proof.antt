@@ -23,15 +23,15 @@ abbrev μ-loop : tie.MeasureT-loop
 
 returns : tie.Need-returns Inv-loop μ-loop
 returns c =
-    let start = c .before .before .before in
+    let start : tie.Start Inv-loop μ-loop = search in
     none-held _ _ _ _ _ _ (view-long (start .args .s) (words (start .args .mem .now)) (omega (arith, length-words (start .args .mem .now))) Opens)
     (c .before .others-open .ensures) (c .if1 .taken)
 
 returns-2 : tie.Need-returns-2 Inv-loop μ-loop
-returns-2 c = found _ _ (c .before .before .before .loop .i) _ (omega arith) (c .before .holds .ensures) (c .if2 .taken)
+returns-2 c = let head : tie.At-loop Inv-loop μ-loop = search in found _ _ (head .loop .i) _ (omega arith) (c .before .holds .ensures) (c .if2 .taken)
 
 loop-again : tie.Need-loop-again Inv-loop μ-loop
-loop-again c = (omega arith, one-turn _ _ _ _ _ (c .before .before .before .loop .inv .1) (c .before .holds .ensures) (sym (c .if2 .left)))
+loop-again c = let head : tie.At-loop Inv-loop μ-loop = search in (omega arith, one-turn _ _ _ _ _ (head .loop .inv .1) (c .before .holds .ensures) (sym (c .if2 .left)))
 
 pub records-held-spec : {M : Type 1} → statement M
 records-held-spec =

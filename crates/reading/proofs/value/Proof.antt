@@ -20,7 +20,7 @@ pub value-spec : {M : Type 1} → statement M
 value-spec =
     tie.close
     (tie.spec
-    (λ c. omega (arith, inside (c .before .before)))
-    (λ c. omega (arith, inside (c .before .before)))
-    (λ c κs. (search needs, omega (arith, inside (c .before .before))))
+    (λ c. omega (arith, inside search))
+    (λ c. omega (arith, inside search))
+    (λ c κs. (search needs, omega (arith, inside search)))
     returns)

@@ -14,7 +14,7 @@ returns c = (rw (← c .before .read .ensures, eq-eqb _ _ (c .if1 .taken)), tt)
 
 slot-of-requires : tie.Need-slot-of-requires
 slot-of-requires c κs =
-    let start = c .before .before .before .before .before in
+    let start : tie.Start = search in
     let proper = start .pre .1 .0 in
     let inside = row-in _ proper _ (start .pre .1 .1 .0) _ (start .pre .1 .1 .1) in
     (proper, (omega (arith, inside), omega arith, omega (arith, inside)))
@@ -22,8 +22,9 @@ slot-of-requires c κs =
 returns-2 : tie.Need-returns-2
 unfolding headAt rowIn
 returns-2 c =
-    let test = c .before .before in
-    (rw (← test .before .read .ensures, ne-eqb _ _ (test .if1 .left), c .slot-of .ensures .0, c .before .range-of .ensures), c .slot-of .ensures .1)
+    let link : tie.After-read = search in
+    let some : tie.Else1 = search in
+    (rw (← link .read .ensures, ne-eqb _ _ (some .if1 .left), c .slot-of .ensures .0, c .before .range-of .ensures), c .slot-of .ensures .1)
 
 pub head-spec : {M : Type 1} → statement M
 head-spec =

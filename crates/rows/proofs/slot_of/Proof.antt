@@ -16,14 +16,14 @@ inside c =
 
 returns : tie.Need-returns
 unfolding slot
-returns c = (refl, inside (c .before .before) .0)
+returns c = (refl, inside (search) .0)
 
 pub slot-of-spec : {M : Type 1} → statement M
 slot-of-spec =
     tie.close
     (tie.spec
-    (λ c. omega (arith, inside (c .before)))
+    (λ c. omega (arith, inside search))
     (λ c. search needs)
     (λ c. search needs)
-    (λ c. omega (arith, inside (c .before .before)))
+    (λ c. omega (arith, inside search))
     returns)

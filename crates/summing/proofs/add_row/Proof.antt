@@ -14,29 +14,31 @@ few c = omega (arith, c .pre .1 .0 .rows-are, c .pre .1 .0 .ranges-to, c .pre .1
 
 add-t13 : tie.Need-add-t13
 add-t13 c =
-    let start = c .before .before .before .before .before .before in
+    let start : tie.Start = search in
     record { fits = omega (arith, tallied-small _ _ _ _ _ _ (start .pre .1 .1 .1 .1 .1) (few start) .0) }
 
 plus-requires : tie.Need-plus-requires
 plus-requires c κs =
-    let start = c .before .before .before .before .before .before .before in
+    let start : tie.Start = search in
     let tallied = start .pre .1 .1 .1 .1 .1 in
     rw (tallied-kept _ _ _ _ _ _ tallied (few start)) (omega (arith, tallied-small _ _ _ _ _ _ tallied (few start) .1))
 
 returns : tie.Need-returns
 returns c =
-    let word = c .before .before .before in
-    let test = word .before .before in
-    let start = test .before .before .before in
+    let start : tie.Start = search in
+    let test : tie.After-visible = search in
+    let seen : tie.Then1 = search in
+    let word : tie.After-word-of = search in
+    let value : tie.After-of-word = search in
     let pre = start .pre .1 .1 .1 .1 in
-    row-seen _ _ _ _ _ _ (pre .1) _ _ _ (sym (test .if1 .taken) ∙ test .before .visible .ensures) (pre .0) (word .before .word-of .ensures) refl
+    row-seen _ _ _ _ _ _ (pre .1) _ _ _ (sym (seen .if1 .taken) ∙ test .visible .ensures) (pre .0) (word .word-of .ensures) refl
     (toZ-ofZ w64 (c .plus .result) record { sfits = c .plus .ok }
     ∙ c .plus .ensures
-    ∙ rw (tallied-kept _ _ _ _ _ _ (pre .1) (few start), toZ-ofZ w32 (word .of-word .result) record { sfits = word .of-word .ok }, word .of-word .ensures))
+    ∙ rw (tallied-kept _ _ _ _ _ _ (pre .1) (few start), toZ-ofZ w32 (value .of-word .result) record { sfits = value .of-word .ok }, value .of-word .ensures))
 
 returns-2 : tie.Need-returns-2
 returns-2 c =
-    let start = c .before .before .before in
+    let start : tie.Start = search in
     row-unseen _ _ _ _ _ _ (start .pre .1 .1 .1 .1 .1) (sym (c .if1 .left) ∙ c .before .visible .ensures)
 
 pub add-row-spec : {M : Type 1} → statement M

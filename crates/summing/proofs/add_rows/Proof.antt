@@ -22,8 +22,8 @@ loop-holds c = (omega arith, omega arith, c .before .pre .1 .1 .1 .1 .1 .1)
 
 add-row-requires : tie.Need-add-row-requires Inv-loop μ-loop
 add-row-requires c κs =
+    let start : tie.Start Inv-loop μ-loop = search in
     let head = c .before in
-    let start = head .before .before in
     let pre = start .pre .1 in
     let more = pre .1 .1 .1 in
     let same = one-range (start .args .from) (start .args .to) (head .loop .row) (head .loop .inv .0) (c .loop-test .taken) (more .0 .1) in
@@ -31,8 +31,9 @@ add-row-requires c κs =
 
 returns : tie.Need-returns Inv-loop μ-loop
 returns c =
+    let start : tie.Start Inv-loop μ-loop = search in
     let head = c .before in
-    let end : head .loop .row ≡ head .before .before .args .to = omega arith in
+    let end : head .loop .row ≡ start .args .to = omega arith in
     rw end at (head .loop .inv .2)
 
 pub add-rows-spec : {M : Type 1} → statement M

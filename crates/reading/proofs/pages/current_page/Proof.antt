@@ -1,11 +1,11 @@
--- `reading::current_page` meets its contract.
+-- `reading::pages::current_page` meets its contract.
 use Prim.Native.Nat.{_+_, _*_, _≤_, _<_}
 use native.Mathlib.Omega.{arith}
 use Rattle.model.specs.Stored.{currentIn}
 use Rattle.rows.proofs.Indices.{places-few, place-in}
 use borrow.Author.Needs.{needs}
-use Rattle.reading.proofs.current_page.Statement.{statement}
-use Rattle.reading.proofs.current_page.Tie as tie
+use Rattle.reading.proofs.pages.current_page.Statement.{statement}
+use Rattle.reading.proofs.pages.current_page.Tie as tie
 
 inside : (c : tie.Start) → let a = c .args in (a .g * a .s .columns + a .c < a .s .places) × (a .s .places ≤ 256)
 inside c =
@@ -15,15 +15,15 @@ inside c =
 returns : tie.Need-returns
 unfolding currentIn
 returns c =
-    let start = c .before .before .before in
+    let start : tie.Start = search in
     (c .read .ensures, rw (c .read .ensures) (start .pre .1 .1 .0 _ (inside start .0)))
 
 pub current-page-spec : {M : Type 1} → statement M
 current-page-spec =
     tie.close
     (tie.spec
-    (λ c. omega (arith, inside (c .before .before)))
-    (λ c. omega (arith, inside (c .before .before)))
-    (λ c κs. (search needs, omega (arith, inside (c .before .before))))
+    (λ c. omega (arith, inside search))
+    (λ c. omega (arith, inside search))
+    (λ c κs. (search needs, omega (arith, inside search)))
     (λ c. search needs)
     returns)

@@ -1,4 +1,4 @@
--- `summing::old_page` meets its contract.
+-- `reading::pages::old_page` meets its contract.
 use Prim.Native.Nat.{_-_, _≤_}
 use mathlib.Core.Path.{_≡_, sym, _∙_}
 use native.Mathlib.Omega.{arith}
@@ -8,9 +8,9 @@ use Rattle.layout.specs.View.{view}
 use Rattle.model.specs.Stored.{firstFrom}
 use Rattle.model.specs.Reading.{wasCurrent}
 use Rattle.model.specs.Asked.{shapeIn}
-use Rattle.summing.proofs.Pages.{first-here, first-on, first-end, old-found, old-none}
-use Rattle.summing.proofs.old_page.Statement.{statement}
-use Rattle.summing.proofs.old_page.Tie as tie
+use Rattle.reading.proofs.ScanPages.{first-here, first-on, first-end, old-found, old-none}
+use Rattle.reading.proofs.pages.old_page.Statement.{statement}
+use Rattle.reading.proofs.pages.old_page.Tie as tie
 
 abbrev Inv-loop : tie.InvT-loop
 Inv-loop mem s merges place n p₀ p =
@@ -24,29 +24,27 @@ loop-holds : tie.Need-loop-holds Inv-loop μ-loop
 loop-holds c = (omega arith, simp sub-zero)
 
 was-current-requires : tie.Need-was-current-requires Inv-loop μ-loop
-was-current-requires c κs = (omega arith, (c .before .before .before .pre .1, omega arith))
+was-current-requires c κs = let start : tie.Start Inv-loop μ-loop = search in (omega arith, (start .pre .1, omega arith))
 
 returns : tie.Need-returns Inv-loop μ-loop
 returns c =
-    let asked = c .before in
-    let head = asked .before .before in
-    let test = asked .before .loop-test .taken in (
-      old-found _ (head .before .before .pre .1) _ _ _ _
-          (head .loop .inv .1 ∙ first-here _ _ _ test (sym (c .if1 .taken) ∙ asked .was-current .ensures))
-          test,
-      test,
-    )
+    let start : tie.Start Inv-loop μ-loop = search in
+    let head : tie.At-loop Inv-loop μ-loop = search in
+    let left : tie.In-loop Inv-loop μ-loop = search in
+    let test = left .loop-test .taken in
+    (old-found _ (start .pre .1) _ _ _ _ (head .loop .inv .1 ∙ first-here _ _ _ test (sym (c .if1 .taken) ∙ c .before .was-current .ensures)) test, test)
 
 loop-again : tie.Need-loop-again Inv-loop μ-loop
 loop-again c =
-    let asked = c .before in
-    let head = asked .before .before in
-    (omega arith, head .loop .inv .1 ∙ first-on _ _ _ (asked .before .loop-test .taken) (sym (c .if1 .left) ∙ asked .was-current .ensures))
+    let head : tie.At-loop Inv-loop μ-loop = search in
+    let left : tie.In-loop Inv-loop μ-loop = search in
+    (omega arith, head .loop .inv .1 ∙ first-on _ _ _ (left .loop-test .taken) (sym (c .if1 .left) ∙ c .before .was-current .ensures))
 
 returns-2 : tie.Need-returns-2 Inv-loop μ-loop
 returns-2 c =
+    let start : tie.Start Inv-loop μ-loop = search in
     let head = c .before in
-    (old-none _ (head .before .before .pre .1) _ _ _ (head .loop .inv .1 ∙ first-end _ _ _ (head .loop .inv .0) (c .loop-test .left)), tt)
+    (old-none _ (start .pre .1) _ _ _ (head .loop .inv .1 ∙ first-end _ _ _ (head .loop .inv .0) (c .loop-test .left)), tt)
 
 pub old-page-spec : {M : Type 1} → statement M
 old-page-spec =

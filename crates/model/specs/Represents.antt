@@ -1,35 +1,30 @@
 -- The relation between the store's memory and scan list and the plain history: what each word means. Each part speaks of the lists or accessors that it
--- needs and of the parts of the history that it needs, so that a call that leaves those leaves the part as it stands.
+-- needs and of the parts of the history that it needs, so that a call that leaves those leaves the part as it stands. `StepKept` says that every call keeps it; proofs/ has a
+-- file for each family of calls, and Calls joins them.
 use mathlib.Core.Path.{_≡_}
 use mathlib.Core.Logic.{_≢_}
-use mathlib.Core.Bool.{Bool, not, _&&_}
-use mathlib.Core.List.{List}
-use Prim.Native.Nat.{ℕ, _+_, _*_, _≤_, _<_}
+use mathlib.Core.Bool.{Bool, not, cond, _&&_}
+use mathlib.Core.List.{List, [], _∷_}
+use Prim.Native.Nat.{ℕ, suc, _+_, _*_, _≤_, _<_}
 use lib.Dec.{T, eqb}
 use lib.ListN.{length, getD, take}
 use lib.IntN.{pos}
 use mir.Syntax.{w32}
 use mir.Val.{toZ}
 use Rattle.terms.specs.Measures.{Shape, mostColumns, mostRanges, mostRecords, mostSpares, mostTransactions, mostScans}
-use Rattle.history.specs.History.{History, Row, Record, State, unknown, active, aborted, committed, Content, original, setting, ending, Scan, Merge, isActive, stateOf, rowAt, bit, sets, rangeOf, recordsOf, mergedThrough, scanAt, seenAt, cellThrough, count}
+use Rattle.history.specs.History.{History, Row, Record, State, unknown, active, aborted, committed, Content, original, setting, ending, Scan, Merge, isActive, stateOf, rowAt, bit, sets, rangeOf, recordsOf, mergedThrough, scanAt, seenAt, cellThrough, count, Call, answer, next}
 use Rattle.history.specs.Lists.{All}
-use Rattle.history.proofs.Lists.{among}
-use Rattle.history.proofs.Steps.{wasSet}
+use Rattle.history.specs.Records.{among, wasSet, noRecord, lastOf}
 use Rattle.history.specs.Latest.{stampOf}
-use Rattle.history.proofs.Past.{Past}
-use Rattle.history.proofs.Pages.{Through}
-use Rattle.history.proofs.Links.{noRecord, lastOf}
-use Rattle.words.proofs.Words.{Fit}
-use Rattle.layout.specs.View.{View, usedIn}
-use Rattle.layout.proofs.View.{Long}
-use Rattle.layout.specs.declared.Region.{Region}
+use Rattle.history.specs.Invariants.{Through, Past}
+use Rattle.layout.specs.View.{View, usedIn, Long, Fits}
 use Rattle.layout.specs.declared.Region.the-variants.{Opens, Changes}
 use Rattle.terms.specs.declared.Place.{Place}
 use Rattle.layout.specs.Sizes.{sizesOf}
 use Rattle.layout.specs.Regions.{rowsAt, transactionsAt, scansAt, stampAt, mergesAt}
 use Rattle.model.specs.Stored.{RowWords, RecordWords, PageWords, rowIn, recordIn, pageIn, valueIn, currentIn, cellIn, within, placeOf, placesOf, pagesOf, headerIn, asOpen, asCommitted, asAborted, asOriginal, asSetting, asDelete, asCurrent, currentPage, waitingPage, countBelow}
 use Rattle.model.specs.Reading.{scanPage}
-use Rattle.model.proofs.Lists.{countFrom}
+use Rattle.model.specs.Calls.{Typed, say, viewNext, placesNext}
 
 -- ---- rows and tail records
 -- A number that was not given has no row and no record; its word does not matter.
@@ -128,6 +123,11 @@ madeIn S v g c = (pageIn v (currentIn S v g c)) .made
 abbrev pub WaitingAre : Shape → History → View → Type 0
 WaitingAre S h v = (p : ℕ) → p < pagesOf S → T (waitingPage ((pageIn v p) .state)) → WaitingIs S h (madeIn S v) (pageIn v p)
 
+-- how many elements of a list pass, with their numbers; the first has the number i
+abbrev pub countFrom : {A : Type 0} → (ℕ → A → Bool) → ℕ → List A → ℕ
+countFrom p i [] = 0
+countFrom p i (x ∷ l) = cond (p i x) (suc (countFrom p (suc i) l)) (countFrom p (suc i) l)
+
 -- how many pages are current, and which merges' pages wait: equal counts for every test of the merge's number
 pub record PoolIs (S : Shape) (merges : List Merge) (page : ℕ → PageWords) : Type 0 where
   pub current : countBelow (λ p. currentPage ((page p) .state)) (pagesOf S) ≡ placesOf S
@@ -191,7 +191,7 @@ HeaderFor S h v = HeaderIs S (length (h .rows)) (length (h .transactions)) (leng
 -- every region has its length, and every word fits 32 bits
 pub record Whole (S : Shape) (v : View) : Type 0 where
   pub long : Long (sizesOf S) v
-  pub fits : (k : Region) → Fit (v k)
+  pub fits : Fits v
 
 pub record Represents (S : Shape) (v : View) (ps : List Place) (h : History) : Type 0 where
   pub header : HeaderFor S h v
@@ -219,3 +219,12 @@ pub record Small (S : Shape) : Type 0 where
 pub record Known (S : Shape) (h : History) : Type 0 where
   pub small : Small S
   pub past : Past S h
+
+-- ---- one call on a store that represents a history: it answers as the history does, and what it leaves represents the next history
+pub record SameCall (S : Shape) (v : View) (ps : List Place) (h : History) (c : Call) : Type 0 where
+  pub answered : say S v ps c ≡ answer S h c
+  pub shown : Represents S (viewNext S v ps c) (placesNext S v ps c) (next S h c)
+  pub known : Known S (next S h c)
+
+abbrev pub StepKept : Type 0
+StepKept = (S : Shape) (v : View) (ps : List Place) (h : History) (c : Call) → Typed c → Represents S v ps h → Known S h → SameCall S v ps h c

@@ -1,10 +1,10 @@
--- `reading::cell` meets its contract.
+-- `reading::pages::cell` meets its contract.
 use native.Mathlib.Omega.{arith}
 use Rattle.model.specs.Stored.{cellIn}
 use Rattle.rows.proofs.Indices.{places-few}
 use borrow.Author.Needs.{needs}
-use Rattle.reading.proofs.cell.Statement.{statement}
-use Rattle.reading.proofs.cell.Tie as tie
+use Rattle.reading.proofs.pages.cell.Statement.{statement}
+use Rattle.reading.proofs.pages.cell.Tie as tie
 
 returns : tie.Need-returns
 unfolding cellIn

@@ -16,7 +16,7 @@ use Rattle.model.specs.Stored.{pageIn, firstFrom, pagesOf, placeOf, currentIn}
 use Rattle.model.specs.Reading.{wasCurrent, scanPage}
 use Rattle.layout.specs.Sizes.{Proper}
 use Rattle.model.specs.Asked.{shapeIn}
-use Rattle.summing.specs.Sums.{oldPage}
+use Rattle.reading.specs.ScanPages.{oldPage}
 
 -- ---- one page
 module _ (s : Sizes) (proper : Proper s) where

@@ -16,9 +16,6 @@ use Rattle.layout.specs.View.{lay}
 use Rattle.making.specs.Made.{madeView, made}
 use Rattle.history.specs.History.{Call}
 use Rattle.history.specs.Claims.{isPlain, kind, strike, plainAnswers}
-use Rattle.promise.specs.Promise.{answerOf}
-use Rattle.promise.specs.Demands.{Refuses}
-use Rattle.promise.proofs.Stated.{refuses}
 use Rattle.calls.specs.Serves.{Serves, Makes}
 use Rattle.calls.specs.Runs.{Run, ends, goes, ReadAmong, LentRefused, LentKept, MakingKept, LentReads, LentPages, LentAnswers, LentStriking, LentStability}
 use Rattle.calls.proofs.Runs.{lent-refused, lent-kept, making-kept, lent-reads, lent-pages, lent-answers, lent-striking, lent-stability}

@@ -11,7 +11,6 @@ use Rattle.terms.specs.Refusals.{refusalNumber}
 use Rattle.terms.specs.declared.Answer.{Answer}
 use Rattle.terms.specs.declared.Place.{Place}
 use Rattle.terms.specs.declared.Refusal.{Refusal}
-use Rattle.layout.specs.Sizes.{BytesTold}
 use Rattle.facts.specs.Usable.{usable}
 use Rattle.history.specs.History.{Call}
 use Rattle.calls.specs.Serves.{Serves, Makes}

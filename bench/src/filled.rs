@@ -58,7 +58,7 @@ impl Filled {
         // Two places less: one for the open transaction, one for the call that is timed. And where
         // there is room, one for each of the others and one that the last of them looks for.
         let kept = 2 + if others == 0 { 0 } else { others + 1 };
-        let most = shape.tail.saturating_sub(kept).max(2);
+        let most = shape.capacity.saturating_sub(kept).max(2);
         let ranges = rows.div_ceil(ROWS as u32);
         let records = (layout.slots as u32 * percent / 100 / ranges).clamp(2, most);
         for range in 0..ranges {
@@ -85,7 +85,7 @@ impl Filled {
             self.number(&Call::Insert { transaction, values: values.clone() });
             self.rows += 1;
         }
-        if self.used(0) + 3 <= self.shape.tail {
+        if self.used(0) + 3 <= self.shape.capacity {
             self.number(&Call::Update { transaction, row, mask: 1, values });
         }
     }

@@ -25,10 +25,10 @@ use reference::Shape;
 
 /// The worked example's shape, the program's, a middle one and the largest.
 const SHAPES: [Shape; 4] = [
-    Shape { columns: 2, ranges: 1, tail: 4, spares: 1 },
-    Shape { columns: 4, ranges: 4, tail: 64, spares: 16 },
-    Shape { columns: 8, ranges: 8, tail: 256, spares: 64 },
-    Shape { columns: 16, ranges: 16, tail: 512, spares: 256 },
+    Shape { columns: 2, ranges: 1, capacity: 4, spares: 1 },
+    Shape { columns: 4, ranges: 4, capacity: 64, spares: 16 },
+    Shape { columns: 8, ranges: 8, capacity: 256, spares: 64 },
+    Shape { columns: 16, ranges: 16, capacity: 512, spares: 256 },
 ];
 #[cfg(feature = "sqlite")]
 const PROGRAM: Shape = SHAPES[1];
@@ -85,6 +85,6 @@ fn main() {
 }
 
 fn named(shape: &Shape) -> String {
-    let Shape { columns, ranges, tail, spares } = shape;
-    format!("{columns}, {ranges}, {tail}, {spares}")
+    let Shape { columns, ranges, capacity, spares } = shape;
+    format!("{columns}, {ranges}, {capacity}, {spares}")
 }

@@ -18,7 +18,7 @@ pub struct Tally {
     pub largest: u64,
 }
 
-pub const LARGEST: Shape = Shape { columns: 16, ranges: 16, tail: 512, spares: 256 };
+pub const LARGEST: Shape = Shape { columns: 16, ranges: 16, capacity: 512, spares: 256 };
 
 /// The shape and calls of a seed. Every 512th list is a long one on the largest shape, every 64th
 /// one has 700 calls; the greater numbers of calls fill rows and tails, and a few lists are long
@@ -235,8 +235,8 @@ fn refused_makings(
     outside[1].columns = 17;
     outside[2].ranges = 0;
     outside[3].ranges = 17;
-    outside[4].tail = 0;
-    outside[5].tail = 513;
+    outside[4].capacity = 0;
+    outside[5].capacity = 513;
     outside[6].spares = 257;
     for shape in &outside {
         if store.need(shape) != Err(1) {

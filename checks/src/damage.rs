@@ -15,7 +15,7 @@ use crate::store::Store;
 use crate::unmade::{any_lent, disturbed, small_shape};
 
 /// The shape whose every byte is damaged in turn.
-pub const SMALL: Shape = Shape { columns: 2, ranges: 2, tail: 4, spares: 2 };
+pub const SMALL: Shape = Shape { columns: 2, ranges: 2, capacity: 4, spares: 2 };
 
 /// Random memories, and disturbed ones, for each seed.
 const MEMORIES: u64 = 4000;
@@ -200,7 +200,7 @@ fn any_shape(random: &mut Random) -> Shape {
         1 => 0,
         _ => random.between(1, most),
     };
-    Shape { columns: measure(4), ranges: measure(2), tail: measure(8), spares: measure(5) }
+    Shape { columns: measure(4), ranges: measure(2), capacity: measure(8), spares: measure(5) }
 }
 
 /// Making looks at the measures and at the lengths alone, and the need at the measures.

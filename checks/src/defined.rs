@@ -39,7 +39,7 @@ impl Store for Defined {
         }
         view.put(Region::Header, 0, shape.columns);
         view.put(Region::Header, 1, shape.ranges);
-        view.put(Region::Header, 2, shape.tail);
+        view.put(Region::Header, 2, shape.capacity);
         view.put(Region::Header, 3, shape.spares);
         for place in 0..layout.places {
             view.put(Region::Current, place, place as u32);

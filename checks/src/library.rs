@@ -17,9 +17,9 @@ pub struct Wrapper;
 
 impl Store for Library {
     fn need(&self, shape: &Shape) -> Result<usize, u8> {
-        let Shape { columns, ranges, tail, spares } = *shape;
+        let Shape { columns, ranges, capacity, spares } = *shape;
         // SAFETY: it takes numbers alone.
-        let reply = unsafe { c::deskrook_need(columns, ranges, tail, spares) };
+        let reply = unsafe { c::deskrook_bytes_needed(columns, ranges, capacity, spares) };
         let (answer, fields) = match reply.result {
             c::OK => (Ok(reply.first as usize), (reply.first, 0, 0)),
             number => (Err(refusal(number)), (0, 0, 0)),
@@ -29,12 +29,12 @@ impl Store for Library {
     }
 
     fn make(&self, memory: &mut [u8], scans: &mut [Scan], shape: &Shape) -> Answer {
-        let Shape { columns, ranges, tail, spares } = *shape;
+        let Shape { columns, ranges, capacity, spares } = *shape;
         let (mem, bytes) = (memory.as_mut_ptr(), memory.len());
         let (list, places) = (scans.as_mut_ptr().cast(), scans.len());
         // SAFETY: pointers and lengths are those of two slices borrowed for the call alone.
         let reply =
-            unsafe { c::deskrook_make(mem, bytes, list, places, columns, ranges, tail, spares) };
+            unsafe { c::deskrook_make(mem, bytes, list, places, columns, ranges, capacity, spares) };
         filled(&reply, (0, 0, 0));
         match reply.result {
             c::OK => Answer::Done,
@@ -168,8 +168,8 @@ impl Store for Wrapper {
 }
 
 fn shaped(shape: &Shape) -> deskrook::Shape {
-    let Shape { columns, ranges, tail, spares } = *shape;
-    deskrook::Shape { columns, ranges, tail, spares }
+    let Shape { columns, ranges, capacity, spares } = *shape;
+    deskrook::Shape { columns, ranges, capacity, spares }
 }
 
 /// The list in the crate's type.

@@ -102,7 +102,7 @@ impl Layout {
     pub fn of(shape: &Shape) -> Layout {
         debug_assert!(shape.within_limits());
         let (columns, ranges) = (shape.columns as usize, shape.ranges as usize);
-        let capacity = shape.tail as usize;
+        let capacity = shape.capacity as usize;
         let rows = ranges * ROWS;
         let slots = ranges * capacity;
         let places = columns * ranges;
@@ -149,7 +149,7 @@ impl Layout {
         let shape = Shape {
             columns: word(memory, header::COLUMNS),
             ranges: word(memory, header::RANGES),
-            tail: word(memory, header::CAPACITY),
+            capacity: word(memory, header::CAPACITY),
             spares: word(memory, header::SPARES),
         };
         shape.within_limits().then(|| Layout::of(&shape))

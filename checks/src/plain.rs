@@ -65,7 +65,7 @@ fn make(memory: &mut [u8], scans: &mut [Scan], shape: &Shape) -> Outcome {
     scans.fill(Scan::FREE);
     put_word(memory, header::COLUMNS, shape.columns);
     put_word(memory, header::RANGES, shape.ranges);
-    put_word(memory, header::CAPACITY, shape.tail);
+    put_word(memory, header::CAPACITY, shape.capacity);
     put_word(memory, header::SPARES, shape.spares);
     for place in 0..layout.places {
         put_word(memory, layout.base(Region::Current) + place, place as u32);

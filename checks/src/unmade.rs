@@ -97,7 +97,7 @@ pub fn small_shape(random: &mut Random) -> Shape {
     Shape {
         columns: random.between(1, 4),
         ranges: random.between(1, 3),
-        tail: random.between(1, 8),
+        capacity: random.between(1, 8),
         spares: random.below(5),
     }
 }
@@ -117,7 +117,7 @@ fn measured(random: &mut Random) -> Vec<u8> {
 fn put_measures(bytes: &mut [u8], shape: &Shape) {
     put_word(bytes, header::COLUMNS, shape.columns);
     put_word(bytes, header::RANGES, shape.ranges);
-    put_word(bytes, header::CAPACITY, shape.tail);
+    put_word(bytes, header::CAPACITY, shape.capacity);
     put_word(bytes, header::SPARES, shape.spares);
 }
 

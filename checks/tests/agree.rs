@@ -18,7 +18,7 @@ fn bytes_are_those_of_the_definitions() {
     assert!(tally.accepted * 10 > tally.calls * 4, "{tally:?}");
 }
 
-const SMALLEST: Shape = Shape { columns: 1, ranges: 1, tail: 1, spares: 0 };
+const SMALLEST: Shape = Shape { columns: 1, ranges: 1, capacity: 1, spares: 0 };
 
 /// 65,535 numbers, the last ones left open, and then 15 before 14.
 #[test]

@@ -17,6 +17,12 @@ const TYPES: [[&str; 3]; 8] = [
     ["Reply", "deskrook_reply", "Reply"],
 ];
 
+/// The structs of one `u32` that tell a number's kind apart in Rattle. In C's calling convention on
+/// x86-64 a struct of at most 16 bytes that lies as C lays it is passed as its parts are, so one of a
+/// single number is passed as that number, in a register or on the stack, and C and Rust declare the
+/// number.
+const NUMBERS: [&str; 4] = ["Row", "Tail", "Transaction", "Stamp"];
+
 /// Languages by their places in a line of `TYPES`.
 const RATTLE: usize = 0;
 const C: usize = 1;
@@ -47,7 +53,7 @@ fn texts() -> Texts {
     Texts {
         exports: include_str!("../../crates/deskrook/src/lib.rt").to_string(),
         terms: include_str!("../../crates/terms/src/lib.rt").to_string(),
-        replies: include_str!("../../crates/replies/src/lib.rt").to_string(),
+        replies: include_str!("../../crates/deskrook/src/reply.rt").to_string(),
         header: include_str!("../../embed/c/deskrook.h").to_string(),
         declared: include_str!("../../embed/rust/src/c.rs").to_string(),
         store: include_str!("../../embed/rust/src/store.rs").to_string(),
@@ -130,7 +136,7 @@ fn exported(texts: &Texts) -> Result<Interface, String> {
         let (name, rest) = cut(export, "(")?;
         let (parameters, rest) = cut(rest, ") -> ")?;
         let (result, _) = cut(rest, " ")?;
-        let parameters = list(parameters, slice_or_number)?.concat();
+        let parameters = list(parameters, |one| slice_or_number(&texts.terms, one))?.concat();
         add(&mut interface, name, parameters, typed(RATTLE, result)?)?;
     }
     for (text, name) in [(&texts.terms, "Place"), (&texts.replies, "Reply")] {
@@ -139,11 +145,22 @@ fn exported(texts: &Texts) -> Result<Interface, String> {
     Ok(interface)
 }
 
+/// A struct of `NUMBERS` passes as the number that it holds, if it is laid as C lays it.
+fn number<'t>(terms: &str, kind: &'t str) -> Result<&'t str, String> {
+    if !NUMBERS.contains(&kind) {
+        return Ok(kind);
+    }
+    match plain(terms).contains(&format!("#[repr(C)] pub struct {kind}(pub u32);")) {
+        true => Ok("u32"),
+        false => Err(format!("{kind}, one u32, is not laid as C lays it")),
+    }
+}
+
 /// A slice passes as a pointer and a length.
-fn slice_or_number(parameter: &str) -> Result<Vec<Named>, String> {
+fn slice_or_number(terms: &str, parameter: &str) -> Result<Vec<Named>, String> {
     let (name, kind) = cut(parameter, ": ")?;
     let (pointer, slice) = match kind.strip_prefix('&') {
-        None => return Ok(vec![(name.to_string(), typed(RATTLE, kind)?)]),
+        None => return Ok(vec![(name.to_string(), typed(RATTLE, number(terms, kind)?)?)]),
         Some(slice) => match slice.strip_prefix("mut ") {
             None => ("*const", slice),
             Some(slice) => ("*mut", slice),
@@ -336,7 +353,7 @@ fn a_function_too_many_or_under_another_name_is_told_apart() {
 
 #[test]
 fn parameters_in_another_order_are_told_apart() {
-    told_apart(|t| &mut t.exports, "column: u32, row: u32", "row: u32, column: u32");
+    told_apart(|t| &mut t.exports, "column: u32, row: Row", "row: Row, column: u32");
     told_apart(|t| &mut t.header, "uint32_t column, uint32_t row", "uint32_t row, uint32_t column");
     told_apart(|t| &mut t.declared, "column: u32, row: u32", "row: u32, column: u32");
 }
@@ -367,5 +384,8 @@ fn another_struct_is_told_apart() {
 fn a_struct_that_may_lie_otherwise_is_told_apart() {
     let place = found(|t| &mut t.terms, "#[repr(C)]\npub struct Place", "pub struct Place");
     let reply = found(|t| &mut t.declared, "#[repr(C)]\n", "");
-    assert!([place, reply].iter().all(|found| found.contains("is not laid as C lays it")));
+    let row = found(|t| &mut t.terms, "#[repr(C)]\npub struct Row", "pub struct Row");
+    let tail = found(|t| &mut t.terms, "pub struct Tail(pub u32)", "pub struct Tail(pub u16)");
+    let all = [place, reply, row, tail];
+    assert!(all.iter().all(|found| found.contains("is not laid as C lays it")));
 }

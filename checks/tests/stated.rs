@@ -10,7 +10,7 @@ use checks::plain::Plain;
 use checks::{agree, damage, facts, same, shortcuts, stated, Store};
 use reference::{Answer, Call, Shape};
 
-const SHAPE: Shape = Shape { columns: 1, ranges: 1, tail: 4, spares: 1 };
+const SHAPE: Shape = Shape { columns: 1, ranges: 1, capacity: 4, spares: 1 };
 
 #[cfg(feature = "library")]
 fn library() -> Vec<Box<dyn Store>> {

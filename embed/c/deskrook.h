@@ -4,7 +4,7 @@
  * memcpy and memset: a store is the memory and the scan list that its calls are lent. Two stores never meet, and calls on different stores may run at the same time.
  *
  * LENDING. Every call on a store takes
- *   mem, mem_length      the memory: bytes at any address, at least as many as deskrook_need answers;
+ *   mem, mem_length      the memory: bytes at any address, at least as many as deskrook_bytes_needed answers;
  *   scans, scans_length  the list of open scans: an array of at least DESKROOK_SCANS places.
  * The pointers are not null, also where the length is 0. Memory, list and values do not overlap. Lend the same memory and list to every call on a store, and
  * write to neither in between. A call that meets other bytes than the last one left, even random ones, still answers, touches nothing outside what it was
@@ -75,7 +75,7 @@ static inline int32_t deskrook_value(deskrook_reply reply) {
 
 /* The bytes that a shape needs: columns 1 to 16, ranges 1 to 16 of 64 rows each, capacity 1 to 512 tail records for each range, spares 0 to 256 pages.
  * first: the bytes. Refusals: SHAPE. */
-deskrook_reply deskrook_need(uint32_t columns, uint32_t ranges, uint32_t capacity, uint32_t spares);
+deskrook_reply deskrook_bytes_needed(uint32_t columns, uint32_t ranges, uint32_t capacity, uint32_t spares);
 
 /* Makes an empty store of a shape, whatever memory and list held before, and frees every place of the list. Bytes past those needed stay as they are.
  * Refusals: SHAPE, MEMORY (too few bytes or places). */

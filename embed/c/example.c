@@ -23,8 +23,8 @@ static void show(const char *name, deskrook_reply reply, const char *fields) {
 
 int main(void) {
     /* Two columns, one range of 64 rows, four tail records, one spare page. */
-    const uint32_t columns = 2, ranges = 1, tail = 4, spares = 1;
-    deskrook_reply need = deskrook_need(columns, ranges, tail, spares);
+    const uint32_t columns = 2, ranges = 1, capacity = 4, spares = 1;
+    deskrook_reply need = deskrook_bytes_needed(columns, ranges, capacity, spares);
     if (need.result != DESKROOK_OK)
         return EXIT_FAILURE;
 
@@ -36,7 +36,7 @@ int main(void) {
     if (mem == NULL)
         return EXIT_FAILURE;
 
-    show("shape", deskrook_make(mem, length, scans, places, columns, ranges, tail, spares), "");
+    show("shape", deskrook_make(mem, length, scans, places, columns, ranges, capacity, spares), "");
 
     deskrook_reply begun = deskrook_begin(mem, length, scans, places);
     show("01", begun, "n");

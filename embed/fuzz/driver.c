@@ -262,7 +262,7 @@ static deskrook_reply make_call(enum call call, const uint32_t numbers[4]) {
     case LINEAGE: return deskrook_lineage(m, n, s, k, a, b);
     case CHECK: return deskrook_check(m, n, s, k);
     case MAKE: return deskrook_make(m, n, s, k, a, b, c, d);
-    case NEED: return deskrook_need(a, b, c, d);
+    case NEED: return deskrook_bytes_needed(a, b, c, d);
     default: abort();
     }
 }

@@ -8,7 +8,7 @@ pub const RANGE_ROWS: u32 = 64;
 pub struct Shape {
     pub columns: u32,
     pub ranges: u32,
-    pub tail: u32,
+    pub capacity: u32,
     pub spares: u32,
 }
 
@@ -18,7 +18,7 @@ impl Shape {
     pub fn within_limits(&self) -> bool {
         (1..=16).contains(&self.columns)
             && (1..=16).contains(&self.ranges)
-            && (1..=512).contains(&self.tail)
+            && (1..=512).contains(&self.capacity)
             && self.spares <= 256
     }
 

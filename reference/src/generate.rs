@@ -36,7 +36,7 @@ pub fn shape(seed: u64) -> Shape {
     Shape {
         columns: measure(1, 4, 16),
         ranges: measure(1, 2, 16),
-        tail: measure(1, 16, 512),
+        capacity: measure(1, 16, 512),
         spares: measure(0, 4, 256),
     }
 }
@@ -59,7 +59,7 @@ pub fn stream(seed: u64) -> Vec<u8> {
     let shape = Shape {
         columns: random.between(workload.columns.0, workload.columns.1),
         ranges: random.between(workload.ranges.0, workload.ranges.1),
-        tail: random.between(workload.tail.0, workload.tail.1),
+        capacity: random.between(workload.capacity.0, workload.capacity.1),
         spares: random.between(workload.spares.0, workload.spares.1),
     };
     let count =
@@ -138,12 +138,12 @@ fn shape_bytes(shape: &Shape) -> Vec<u8> {
     let mut bytes = Vec::new();
     command::put(&mut bytes, 1, i64::from(shape.columns));
     command::put(&mut bytes, 1, i64::from(shape.ranges));
-    command::put(&mut bytes, 2, i64::from(shape.tail));
+    command::put(&mut bytes, 2, i64::from(shape.capacity));
     command::put(&mut bytes, 2, i64::from(shape.spares));
     bytes
 }
 
-const SMALLEST: Shape = Shape { columns: 1, ranges: 1, tail: 1, spares: 0 };
+const SMALLEST: Shape = Shape { columns: 1, ranges: 1, capacity: 1, spares: 0 };
 
 /// Every transaction number given, the last eight left open; then begins that are refused.
 fn transactions_run_out() -> Vec<u8> {

@@ -8,9 +8,9 @@ use crate::history::History;
 
 /// "`gatebook` lends memory for 4 columns, 4 ranges, 64 tail records, 16 spares and answers 1
 /// above that."
-pub const LENT: Shape = Shape { columns: 4, ranges: 4, tail: 64, spares: 16 };
+pub const LENT: Shape = Shape { columns: 4, ranges: 4, capacity: 64, spares: 16 };
 
-/// The bytes of a shape: columns (1), ranges (1), tail (2), spares (2).
+/// The bytes of a shape: columns (1), ranges (1), capacity (2), spares (2).
 pub const SHAPE_BYTES: usize = 6;
 
 /// Reads a shape and commands, and writes a line for each.
@@ -71,7 +71,7 @@ pub fn shape(bytes: &[u8; SHAPE_BYTES]) -> Shape {
     Shape {
         columns: u32::from(bytes[0]),
         ranges: u32::from(bytes[1]),
-        tail: two(2),
+        capacity: two(2),
         spares: two(4),
     }
 }
@@ -80,7 +80,7 @@ pub fn shape(bytes: &[u8; SHAPE_BYTES]) -> Shape {
 fn within_lent(shape: &Shape) -> bool {
     shape.columns <= LENT.columns
         && shape.ranges <= LENT.ranges
-        && shape.tail <= LENT.tail
+        && shape.capacity <= LENT.capacity
         && shape.spares <= LENT.spares
 }
 

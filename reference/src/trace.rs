@@ -2,7 +2,7 @@
 //! and single spaces between words:
 //!
 //! ```text
-//! run    = "shape" columns ranges tail spares LF { call "=>" answer LF }
+//! run    = "shape" columns ranges capacity spares LF { call "=>" answer LF }
 //! call   = "begin" | "insert" T value* | "update" T row mask value* | "delete" T row
 //!        | "commit" T stamp | "abort" T | "latest" row column | "read-at" stamp row column
 //!        | "own-read" T row column | "open-scan" stamp | "scan-read" scan row column
@@ -27,7 +27,7 @@ use crate::text::NAMES;
 pub fn write(seed: u64, calls: usize, output: &mut impl Write) -> io::Result<()> {
     let shape = generate::shape(seed);
     let mut history = History::new(shape);
-    writeln!(output, "shape {} {} {} {}", shape.columns, shape.ranges, shape.tail, shape.spares)?;
+    writeln!(output, "shape {} {} {} {}", shape.columns, shape.ranges, shape.capacity, shape.spares)?;
     for call in generate::calls(seed, shape, calls) {
         let answer = history.call(&call);
         writeln!(output, "{} => {}", call_words(&call), answer_words(&answer))?;

@@ -16,7 +16,7 @@ use versions::Versions;
 fn lists() -> impl Iterator<Item = (Shape, Vec<Call>)> {
     (0..360).map(|seed| {
         let shape = match seed % 3 {
-            0 => Shape { columns: 2, ranges: 3, tail: 20, spares: 2 },
+            0 => Shape { columns: 2, ranges: 3, capacity: 20, spares: 2 },
             _ => generate::shape(seed),
         };
         (shape, generate::calls(seed, shape, 220))
@@ -158,8 +158,8 @@ fn streams_meet_every_refusal_but_2_and_accept_most_calls() {
 
 #[test]
 fn lists_can_be_had_for_the_greatest_and_the_smallest_shape() {
-    for (columns, ranges, tail, spares) in [(16, 16, 512, 256), (1, 1, 1, 0)] {
-        let shape = Shape { columns, ranges, tail, spares };
+    for (columns, ranges, capacity, spares) in [(16, 16, 512, 256), (1, 1, 1, 0)] {
+        let shape = Shape { columns, ranges, capacity, spares };
         for seed in 0..12 {
             let calls = generate::calls(seed, shape, 300);
             assert_eq!(calls, generate::calls(seed, shape, 300), "the same for the same seed");
@@ -173,7 +173,7 @@ fn lists_can_be_had_for_the_greatest_and_the_smallest_shape() {
 
 #[test]
 fn wide_numbers_are_refused_like_others() {
-    let shape = Shape { columns: 3, ranges: 1, tail: 30, spares: 3 };
+    let shape = Shape { columns: 3, ranges: 1, capacity: 30, spares: 3 };
     let mut wide = 0;
     for seed in 0..24 {
         let calls = generate::wide_calls(seed, shape, 300);
@@ -189,7 +189,7 @@ fn wide_numbers_are_refused_like_others() {
 
 #[test]
 fn missing_values_are_0_and_further_ones_ignored() {
-    let mut history = History::new(Shape { columns: 2, ranges: 1, tail: 4, spares: 0 });
+    let mut history = History::new(Shape { columns: 2, ranges: 1, capacity: 4, spares: 0 });
     history.call(&Call::Begin);
     history.call(&Call::Insert { transaction: 1, values: vec![] });
     history.call(&Call::Insert { transaction: 1, values: vec![1, 2, 3] });

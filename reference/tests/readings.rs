@@ -5,8 +5,8 @@ mod common;
 use common::script;
 
 /// Two columns; row 0 inserted with 5 and 50 and committed at 10.
-fn one_row(tail: u32, spares: u32, rest: &str) {
-    script(&format!("shape 2 1 {tail} {spares}\nbegin\ninsert 1 5 50\ncommit 1 10\n{rest}"));
+fn one_row(capacity: u32, spares: u32, rest: &str) {
+    script(&format!("shape 2 1 {capacity} {spares}\nbegin\ninsert 1 5 50\ncommit 1 10\n{rest}"));
 }
 
 #[test]

@@ -23,7 +23,7 @@ fn decoding_then_encoding_gives_the_same_bytes() {
 fn encoding_then_decoding_gives_the_lines_in_their_usual_form() {
     let given = "# a comment
 
-        shape  3 1 4 1   # columns ranges tail spares
+        shape  3 1 4 1   # columns ranges capacity spares
         begin
         insert 1  1200 -30 +7
         update 1 0 mask 0b101 1 2 3

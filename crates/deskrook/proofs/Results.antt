@@ -10,7 +10,7 @@ use Rattle.terms.specs.declared.Answer.{Answer}
 use Rattle.terms.specs.declared.Refusal.{Refusal}
 use Rattle.history.proofs.Lists.{by-test, clash}
 use Rattle.model.proofs.Lists.{true-false}
-use Rattle.replies.specs.Replies.{replyOf}
+use Rattle.deskrook.specs.Replies.{replyOf}
 use Rattle.deskrook.specs.Runs.{AcceptedReply}
 
 -- the refusal of a number, in the order of document 01's table; Done for every other number

@@ -16,36 +16,29 @@ use Rattle.layout.specs.View.{lay}
 use Rattle.making.specs.Made.{madeView, made}
 use Rattle.history.specs.History.{Call}
 use Rattle.history.specs.Claims.{isPlain, kind, strike, plainAnswers}
-use Rattle.promise.specs.Promise.{answerOf}
-use Rattle.promise.specs.Demands.{Refuses}
-use Rattle.promise.proofs.Stated.{refuses}
 use Rattle.calls.specs.Serves.{Serves, Makes}
-use Rattle.calls.specs.Runs.{Run, ends, goes, ReadAmong, LentKept, MakingKept, LentReads, LentPages, LentAnswers, LentStriking, LentStability}
-use Rattle.calls.proofs.Runs.{lent-kept, making-kept, lent-reads, lent-pages, lent-answers, lent-striking, lent-stability}
-use Rattle.replies.specs.declared.Reply.{Reply}
-use Rattle.replies.specs.Replies.{replyOf}
+use Rattle.calls.specs.Runs.{Run, ends, goes, ReadAmong, LentRefused, LentKept, MakingKept, LentReads, LentPages, LentAnswers, LentStriking, LentStability}
+use Rattle.calls.proofs.Runs.{lent-refused, lent-kept, making-kept, lent-reads, lent-pages, lent-answers, lent-striking, lent-stability}
+use Rattle.deskrook.specs.declared.reply.Reply.{Reply}
+use Rattle.deskrook.specs.Replies.{replyOf}
 use Rattle.deskrook.specs.Replies.{Replies, RepliesMade}
 use Rattle.deskrook.specs.Runs.{AcceptedReply, replyAt, ReadReplied, ExportRefused, ExportKept, ExportMakingKept, ExportReads, ExportPages, ExportAnswers, ExportStriking, ExportStability}
 use Rattle.deskrook.proofs.Results.{refused-result, accepted-result}
 
 -- ---- what the calls promise of the same memory and list
-as-call : (m m′ : List ℕ) (ps ps′ : List Place) (c : Call) (r : Reply) → Replies m ps c r m′ ps′ → Serves m ps c (answerOf m ps c) m′ ps′ × (r ≡ replyOf (answerOf m ps c))
-unfolding Replies Serves
-as-call m m′ ps ps′ c r s = ((refl, s .1, s .2), s .0)
-
 as-calls : {m m′ : List ℕ} {ps ps′ : List Place} {cs : List Call} {rs : List Reply} → Run Replies m ps cs rs m′ ps′
     → (as′ : List Answer) × Run Serves m ps cs as′ m′ ps′ × (rs ≡ map replyOf as′)
+unfolding Replies
 as-calls ends = ([], ends, refl)
-as-calls (goes {m = m} {m′ = m′} {ps = ps} {ps′ = ps′} {c = c} {r = r} {rs = rs} s q) =
-    let a = as-call m m′ ps ps′ c r s in
+as-calls (goes {rs = rs} s q) =
     let l = as-calls q in
-    (answerOf m ps c ∷ l .0, goes (a .0) (l .1), ap (λ (x : Reply). x ∷ rs) (a .1) ∙ ap (λ (x : List Reply). replyOf (answerOf m ps c) ∷ x) (l .2))
+    (s .0 ∷ l .0, goes (s .1) (l .1), ap (λ (x : Reply). x ∷ rs) (s .2) ∙ ap (λ (x : List Reply). replyOf (s .0) ∷ x) (l .2))
 
 -- a making that replies 0 is done
 as-done : (S : Shape) (m m′ : List ℕ) (ps ps′ : List Place) (z : Reply) → RepliesMade m ps S z m′ ps′ → z .result ≡ 0 → Makes m ps S Answer.Done m′ ps′
 unfolding RepliesMade Makes made
-as-done S m m′ ps ps′ z h e =
-    (sym (go (withinLimits S) (leb (bytesNeeded S) (length m) && leb mostScans (length ps)) (lay (sizesOf S) (madeView S) m) (ap (λ (r : Reply). r .result) (sym (h .0)) ∙ e)), h .1, h .2)
+as-done S m m′ ps ps′ z (a, h, f) e =
+    (sym (go (withinLimits S) (leb (bytesNeeded S) (length m) && leb mostScans (length ps)) (lay (sizesOf S) (madeView S) m) (ap (λ (x : Answer). (replyOf x) .result) (sym (h .0)) ∙ ap (λ (r : Reply). r .result) (sym f) ∙ e)), h .1, h .2)
   where
     answered : Bool → Bool → List ℕ → Answer × List ℕ
     answered a b l = cond a (cond b (Answer.Done, l) (Answer.Refused Refusal.Memory, m)) (Answer.Refused Refusal.Shape, m)
@@ -57,38 +50,32 @@ as-done S m m′ ps ps′ z h e =
 
 -- ---- demand 1
 pub export-refused : ExportRefused
-unfolding ExportRefused Refuses
-export-refused m m′ ps ps′ c r s =
-    let a = answerOf m ps c in
-    let k = refuses m ps c in
-    rw (as-call m m′ ps ps′ c r s .1)
+unfolding ExportRefused LentRefused Replies
+export-refused m m′ ps ps′ c r (a, s, e) =
+    let k = lent-refused m m′ ps ps′ c a s in
+    rw e
     ((
       λ n. (λ e. k .0 n .0 (refused-result a n e), λ f. ap (λ (x : Answer). (replyOf x) .result) (k .0 n .1 f)),
       (λ g. k .1 .0 (accepted-result a .0 g), λ f. accepted-result a .1 (k .1 .1 f)),
     ))
 
 pub export-kept : ExportKept
-unfolding ExportKept LentKept
-export-kept m m′ ps ps′ c r n b s e =
-    let a = as-call m m′ ps ps′ c r s in
-    lent-kept m m′ ps ps′ c n b (rw (refused-result (answerOf m ps c) n (ap (λ (x : Reply). x .result) (sym (a .1)) ∙ e)) at (a .0))
+unfolding ExportKept LentKept Replies
+export-kept m m′ ps ps′ c r n b (a, s, f) e = lent-kept m m′ ps ps′ c n b (rw (refused-result a n (ap (λ (x : Reply). x .result) (sym f) ∙ e)) at s)
 
 pub export-making-kept : ExportMakingKept
-unfolding ExportMakingKept MakingKept RepliesMade Makes
-export-making-kept S m m′ ps ps′ r n h e =
-    making-kept S m m′ ps ps′ n (sym (refused-result (made S (length ps) m .0) n (ap (λ (x : Reply). x .result) (sym (h .0)) ∙ e)), h .1, h .2)
+unfolding ExportMakingKept MakingKept RepliesMade
+export-making-kept S m m′ ps ps′ r n (a, s, f) e = making-kept S m m′ ps ps′ n (rw (refused-result a n (ap (λ (x : Reply). x .result) (sym f) ∙ e)) at s)
 
 -- ---- demand 2
 not-refused : (a : Answer) → AcceptedReply (replyOf a) → T (not (isRefused a))
 not-refused a g = rw (accepted-result a .0 g) tt
 
 pub export-reads : ExportReads
-unfolding ExportReads LentReads
-export-reads S m₀ m m′ ps₀ ps ps′ z cs rs h e ys q x t r c a m″ ps″ y w s g =
+unfolding ExportReads LentReads Replies
+export-reads S m₀ m m′ ps₀ ps ps′ z cs rs h e ys q x t r c a m″ ps″ y w (b, s, f) g =
     let l = as-calls q in
-    let k = as-call m′ m″ ps′ ps″ x a s in
-    k .1
-    ∙ ap replyOf (lent-reads S m₀ m m′ ps₀ ps ps′ cs (l .0) (as-done S m₀ m ps₀ ps z h e) ys (l .1) x t r c (answerOf m′ ps′ x) m″ ps″ y w (k .0) (not-refused (answerOf m′ ps′ x) (rw (k .1) at g)))
+    f ∙ ap replyOf (lent-reads S m₀ m m′ ps₀ ps ps′ cs (l .0) (as-done S m₀ m ps₀ ps z h e) ys (l .1) x t r c b m″ ps″ y w s (not-refused b (rw f at g)))
 
 pub export-pages : ExportPages
 unfolding ExportPages LentPages

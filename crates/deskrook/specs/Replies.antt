@@ -1,24 +1,40 @@
--- What the exports promise: as the calls do, with the answer as C takes it.
-use Prim.Native.Nat.{ℕ, _≤_}
+-- The answer as C takes it, and what the exports promise: what the calls do, of an answer whose form in C is the reply.
+use Prim.Native.Nat.{ℕ}
 use mathlib.Core.Path.{_≡_}
+use mathlib.Core.Bool.{cond}
 use mathlib.Core.List.{List}
-use lib.ListN.{length}
+use lib.IntN.{pos}
+use mir.Syntax.{w32}
+use mir.Val.{ofZ}
 use Rattle.terms.specs.Measures.{Shape}
+use Rattle.terms.specs.Refusals.{refusalNumber}
+use Rattle.terms.specs.declared.Answer.{Answer}
 use Rattle.terms.specs.declared.Place.{Place}
-use Rattle.layout.specs.Sizes.{sizesOf, bytesAllowed, bytesAnswer}
-use Rattle.making.specs.Made.{made}
+use Rattle.terms.specs.declared.Refusal.{Refusal}
+use Rattle.facts.specs.Usable.{usable}
 use Rattle.history.specs.History.{Call}
-use Rattle.promise.specs.Promise.{answerOf, memoryAfter, listAfter}
-use Rattle.lent.specs.Lent.{isAccepted, freedIf}
-use Rattle.replies.specs.declared.Reply.{Reply}
-use Rattle.replies.specs.Replies.{replyOf}
+use Rattle.calls.specs.Serves.{Serves, Makes}
+use Rattle.deskrook.specs.declared.reply.Reply.{Reply}
+
+abbrev pub replyOf : Answer → Reply
+replyOf (Answer.Refused r) = record { result = refusalNumber r; first = 0; second = 0; sum = pos 0 }
+replyOf Answer.Done = record { result = 0; first = 0; second = 0; sum = pos 0 }
+replyOf (Answer.Number n) = record { result = 0; first = n; second = 0; sum = pos 0 }
+replyOf (Answer.Value v) = record { result = 0; first = ofZ w32 v; second = 0; sum = pos 0 }
+replyOf Answer.None = record { result = 32; first = 0; second = 0; sum = pos 0 }
+replyOf (Answer.Sum n v) = record { result = 0; first = n; second = 0; sum = v }
+replyOf (Answer.Lineage n m) = record { result = 0; first = n; second = m; sum = pos 0 }
+
+-- the reply is that of an answer of which P holds
+abbrev pub Replied : (Answer → Type 0) → Reply → Type 0
+Replied P r = (a : Answer) × P a × (r ≡ replyOf a)
 
 unfoldable pub Replies : List ℕ → List Place → Call → Reply → List ℕ → List Place → Type 0
-Replies m ps c r m′ ps′ = (r ≡ replyOf (answerOf m ps c)) × (m′ ≡ memoryAfter m ps c) × (ps′ ≡ listAfter m ps c)
+Replies m ps c r m′ ps′ = Replied (λ a. Serves m ps c a m′ ps′) r
 
 unfoldable pub RepliesMade : List ℕ → List Place → Shape → Reply → List ℕ → List Place → Type 0
-RepliesMade m ps S r m′ ps′ = (r ≡ replyOf (made S (length ps) m .0)) × (m′ ≡ made S (length ps) m .1) × (ps′ ≡ freedIf (isAccepted (made S (length ps) m .0)) ps)
+RepliesMade m ps S r m′ ps′ = Replied (λ a. Makes m ps S a m′ ps′) r
 
--- the bytes that a shape needs, within document 01's bound
-unfoldable pub RepliesBytes : Shape → Reply → Type 0
-RepliesBytes p r = (r ≡ replyOf (bytesAnswer p)) × (r .result ≡ 0 → r .first ≤ bytesAllowed (sizesOf p))
+-- whether memory and list are usable, as an answer
+unfoldable pub usability : List ℕ → List Place → Answer
+usability m ps = cond (usable m ps) Answer.Done (Answer.Refused Refusal.Memory)

@@ -20,8 +20,8 @@ use Rattle.model.specs.Claims.{historyAfter, PageHolds}
 use Rattle.promise.specs.Promise.{storeView}
 use Rattle.promise.specs.Stated.{conditions, First, NoneApplies}
 use Rattle.calls.specs.Runs.{Run}
-use Rattle.replies.specs.declared.Reply.{Reply}
-use Rattle.replies.specs.Replies.{replyOf}
+use Rattle.deskrook.specs.declared.reply.Reply.{Reply}
+use Rattle.deskrook.specs.Replies.{replyOf}
 use Rattle.deskrook.specs.Replies.{Replies, RepliesMade}
 
 -- a reply that is no refusal: its result is 0, or 32 for none

@@ -30,7 +30,7 @@ use borrow.Fn.Frame.{EnvOf, rowsFrom, from, from-suc, get-from, hd′, tl′}
 use borrow.Fn.Enter.{tysP, rowsInP, rowsRetP, partsP, Fixs, anyG}
 use borrow.Fn.Args.{ArgsT, opsV, outsM, outsU, backM, updM, argsV, Has}
 use borrow.Fn.Result.{resPart}
-use borrow.Fn.Call.{SubOK}
+use borrow.Fn.Call.{SubOK, sub-id}
 use borrow.Fn.Plain.{Known, t-call-plain}
 use borrow.Fn.Leases.{leases}
 use Rattle.lent.proofs.Tokens.{up, up-suc, Below, ins, del, opened, opens, shuts, HandsOn}
@@ -413,9 +413,6 @@ module _ {c d o l : ℕ} (fs : List (Further c d o l)) (i : ℕ) where
     abbrev made : Made (backM ks (Γ .locals) af)
     made κs u ws base acc = updM κs ks (Γ .locals) af u (first-left ks (Γ .locals) af g κs u ws) base acc
 
-    abbrev pub parts : (τ : Ty) → BothM (Mo Γ) (Mo (After τ L₂ (backM ks (Γ .locals) af)))
-    parts τ = Parts τ L₂ (outsU ks (Γ .locals) af) (backM ks (Γ .locals) af) made
-
     module _ {M : Type 1} (𝓤 : URA M) (H : Heap 𝓤) (A : Atoms 𝓤) (W : Given 𝓤 H A) (𝓣 : Tables 𝓤 H) (k : Name) (E : Env 𝓤 H) where
       abbrev ty-of : List Entry → Ty
       ty-of L′ = spotOf 𝓤 H E (getRow nd L′ .0) .0
@@ -431,3 +428,19 @@ module _ {c d o l : ℕ} (fs : List (Further c d o l)) (i : ℕ) where
           subst Wanted (all-ops ks (Γ .locals) af g)
           (all-still ks (Γ .locals) af g (λ L′ U B X. Goes (opsV (all-args ks) (Γ .locals) ar) L′ U B X → Wanted (opsV (all-args ks) (Γ .locals) ar)) (λ s. s)
           (λ tr de. t-call-plain 𝓤 H A W 𝓣 (up d l) (all-args ks) r (λ κs a. Unit {0}) Q k known E σ Γ ar nd βs sb ha tr ht de))
+
+-- the same where the further arguments' rows are those of the table from the n-th on, once the first arguments have gone out: `as-rows` and `as-lent` say so, by computation
+module _ {c d o l : ℕ} (fs : List (Further c d o l)) (i n : ℕ) (ks : List (PK (up d l))) (r : RK (up d l)) (Q : Out (up d l) (all-args fs i ks) r) (Γ : Cx) (af : ArgsT ks (Γ .locals))
+    (as-rows : (St (outsM ks (Γ .locals) af) → St (past n (outsM ks (Γ .locals) af))) → St (outsM ks (Γ .locals) af) → St (rowsFrom i (rows fs))) (nd : ℕ) (βs : List ℕ) where
+  abbrev L : List Entry
+  L = outsM ks (Γ .locals) af
+
+  abbrev them : St L → St (rowsFrom i (rows fs))
+  them = as-rows (pastU n L)
+
+  module _ {M : Type 1} (𝓤 : URA M) (H : Heap 𝓤) (A : Atoms 𝓤) (W : Given 𝓤 H A) (𝓣 : Tables 𝓤 H) (k : Name) (E : Env 𝓤 H) where
+    pub t-hands : Known 𝓤 H A W 𝓣 (up d l) (all-args fs i ks) r (λ κs a. Unit {0}) Q k → (Lends 𝓤 H A E L (past n L) (pastU n L) → Lends 𝓤 H A E L (rowsFrom i (rows fs)) them) → Spots 𝓤 H E i fs → HandsOn c d o l βs
+        → (Has 𝓤 H A E (up d l) βs (λ pos β. β) (handeds fs) L (names i fs L them) → Has 𝓤 H A E (up d l) βs (λ pos β. β) (all-args fs i ks) (Γ .locals) (all-names fs i ks (Γ .locals) af them))
+        → HasH (up d l) βs (Γ .slots) → Wanted fs i ks r Q Γ af them nd βs 𝓤 H A W 𝓣 k E (ops-then fs i ks (Γ .locals) af (ats i fs))
+    t-hands known as-lent sp ok first ht =
+        t-call-further fs i ks r Q Γ af them nd βs 𝓤 H A W 𝓣 k E known (λ pos β. β) (sub-id 𝓤 H A W (Γ .slots)) (first (has-all 𝓤 H A E βs (λ pos β. β) i fs L them (as-lent (lends-past 𝓤 H A E n L)) sp ok)) ht

@@ -7,5 +7,6 @@ pub mod Steps
 pub mod Tokens
 pub mod Further
 pub mod Hands
+pub mod Chain
 pub mod Known
 pub mod laws

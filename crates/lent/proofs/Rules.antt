@@ -22,7 +22,7 @@ pub use borrow.Table.Referent.{rtF, fInt}
 pub use borrow.Table.Typed.{Typed, Outs, TF, Tf, Mo, Both, Asks, Gives, both, ask, give, pass, atRet, atNext, atExit, withNext, wantNext, inBlock₀, inBlock, inLoop₀, LoopBy, t-return, t-skip, t-exit, t-seq, t-block, t-loop-by, s-typed, s-seq, g-pre, g-post}
 pub use borrow.Rule.Scalar.{n-room, g-room, n-use, t-use, k-op2, t-op2, t-cond, Φcond, oAt, oInt, oFld, oUnit, reads-sc, holds-sc, room-sc}
 pub use borrow.Rule.Lifetime.{g-begin, g-end, g-forget}
-pub use borrow.Rule.Slice.Know.{k-shs-known, g-shs-known}
+pub use borrow.Rule.Slice.Know.{g-shs-known}
 pub use borrow.Rule.Slice.Shared.{reads-sslice, room-sslice, lenV}
 pub use borrow.Rule.Slice.Mut.{mslice, msleft, reads-mslice}
 pub use borrow.Rule.Slice.Relend.{mslice-owed, msptr, ssptr, asMut, asShr, k-sl-relend, t-sl-relend, k-sl-aggregate, t-sl-aggregate, reads-owed-len, k-back-sl, g-back-sl}

@@ -25,7 +25,7 @@ fn value(value: &Option<i32>) -> String {
 }
 
 fn main() -> Result<(), Refusal> {
-    let shape = Shape { columns: 2, ranges: 1, tail: 4, spares: 1 };
+    let shape = Shape { columns: 2, ranges: 1, capacity: 4, spares: 1 };
     let mut memory = vec![0; shape.bytes()?];
     let mut scans = [Scan::FREE; PLACES];
     let mut store = Store::make(&mut memory, &mut scans, shape)?;

@@ -42,7 +42,7 @@ macro_rules! lent {
 }
 
 extern "C" {
-    pub fn deskrook_need(columns: u32, ranges: u32, capacity: u32, spares: u32) -> Reply;
+    pub fn deskrook_bytes_needed(columns: u32, ranges: u32, capacity: u32, spares: u32) -> Reply;
 }
 
 lent! {

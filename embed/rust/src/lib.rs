@@ -10,7 +10,7 @@
 //! use deskrook::{Mask, Scan, Shape, Stamp, Store, PLACES};
 //!
 //! # fn main() -> Result<(), deskrook::Refusal> {
-//! let shape = Shape { columns: 2, ranges: 1, tail: 4, spares: 1 };
+//! let shape = Shape { columns: 2, ranges: 1, capacity: 4, spares: 1 };
 //! let mut memory = vec![0; shape.bytes()?];
 //! let mut scans = [Scan::FREE; PLACES];
 //! let mut store = Store::make(&mut memory, &mut scans, shape)?;
@@ -40,7 +40,7 @@
 //! use deskrook::{Refusal, Row, Scan, Shape, Store, PLACES};
 //!
 //! # fn main() -> Result<(), Refusal> {
-//! let shape = Shape { columns: 2, ranges: 1, tail: 4, spares: 0 };
+//! let shape = Shape { columns: 2, ranges: 1, capacity: 4, spares: 0 };
 //! let mut memory = vec![0; shape.bytes()?];
 //! let mut scans = [Scan::FREE; PLACES];
 //! let store = Store::make(&mut memory, &mut scans, shape)?;

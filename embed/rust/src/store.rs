@@ -30,8 +30,8 @@ pub struct Shape {
     pub columns: u32,
     /// 1 to 16, of 64 rows each.
     pub ranges: u32,
-    /// 1 to 512 tail records for each range.
-    pub tail: u32,
+    /// 1 to 512 capacity records for each range.
+    pub capacity: u32,
     /// 0 to 256 spare pages.
     pub spares: u32,
 }
@@ -41,7 +41,7 @@ impl Shape {
     ///
     /// ```
     /// use deskrook::{Refusal, Shape};
-    /// let shape = Shape { columns: 2, ranges: 1, tail: 4, spares: 1 };
+    /// let shape = Shape { columns: 2, ranges: 1, capacity: 4, spares: 1 };
     /// assert!(shape.bytes().is_ok());
     /// assert_eq!(Shape { columns: 17, ..shape }.bytes(), Err(Refusal::Shape));
     /// ```
@@ -51,7 +51,7 @@ impl Shape {
     /// [`Refusal::Shape`].
     pub fn bytes(&self) -> Result<usize, Refusal> {
         // SAFETY: it takes numbers alone.
-        let reply = unsafe { c::deskrook_need(self.columns, self.ranges, self.tail, self.spares) };
+        let reply = unsafe { c::deskrook_bytes_needed(self.columns, self.ranges, self.capacity, self.spares) };
         Ok(accepted(reply)?.first as usize)
     }
 }
@@ -119,7 +119,7 @@ impl<'a> Store<'a> {
     ///
     /// ```
     /// use deskrook::{Refusal, Scan, Shape, Store, PLACES};
-    /// let shape = Shape { columns: 2, ranges: 1, tail: 4, spares: 1 };
+    /// let shape = Shape { columns: 2, ranges: 1, capacity: 4, spares: 1 };
     /// let (mut memory, mut scans) = ([0; 100], [Scan::FREE; PLACES]);
     /// let refused = Store::make(&mut memory, &mut scans, shape);
     /// assert_eq!(refused.err(), Some(Refusal::Memory));
@@ -133,9 +133,9 @@ impl<'a> Store<'a> {
         scans: &'a mut [Scan],
         shape: Shape,
     ) -> Result<Store<'a>, Refusal> {
-        let Shape { columns, ranges, tail, spares } = shape;
+        let Shape { columns, ranges, capacity, spares } = shape;
         let store = Store { memory, scans };
-        accepted(call!(mut store, deskrook_make, columns, ranges, tail, spares))?;
+        accepted(call!(mut store, deskrook_make, columns, ranges, capacity, spares))?;
         Ok(store)
     }
 
@@ -146,7 +146,7 @@ impl<'a> Store<'a> {
     /// use deskrook::{Refusal, Scan, Shape, Store, PLACES};
     ///
     /// # fn main() -> Result<(), Refusal> {
-    /// let shape = Shape { columns: 1, ranges: 1, tail: 1, spares: 0 };
+    /// let shape = Shape { columns: 1, ranges: 1, capacity: 1, spares: 0 };
     /// let (mut memory, mut scans) = (vec![0; shape.bytes()?], [Scan::FREE; PLACES]);
     /// assert_eq!(Store::lent(&mut memory, &mut scans).begin(), Err(Refusal::Memory));
     /// Store::make(&mut memory, &mut scans, shape)?;
@@ -222,7 +222,7 @@ impl<'a> Store<'a> {
     /// use deskrook::{Refusal, Scan, Shape, Stamp, Store, PLACES};
     ///
     /// # fn main() -> Result<(), Refusal> {
-    /// # let shape = Shape { columns: 1, ranges: 1, tail: 1, spares: 0 };
+    /// # let shape = Shape { columns: 1, ranges: 1, capacity: 1, spares: 0 };
     /// # let (mut memory, mut scans) = (vec![0; shape.bytes()?], [Scan::FREE; PLACES]);
     /// # let mut store = Store::make(&mut memory, &mut scans, shape)?;
     /// let transaction = store.begin()?;
@@ -287,7 +287,7 @@ impl<'a> Store<'a> {
     /// use deskrook::{Mask, Scan, Shape, Stamp, Store, Sum, PLACES};
     ///
     /// # fn main() -> Result<(), deskrook::Refusal> {
-    /// # let shape = Shape { columns: 1, ranges: 1, tail: 4, spares: 1 };
+    /// # let shape = Shape { columns: 1, ranges: 1, capacity: 4, spares: 1 };
     /// # let (mut memory, mut scans) = (vec![0; shape.bytes()?], [Scan::FREE; PLACES]);
     /// # let mut store = Store::make(&mut memory, &mut scans, shape)?;
     /// let transaction = store.begin()?;

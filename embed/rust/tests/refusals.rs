@@ -4,7 +4,7 @@ use deskrook::{
     Mask, Refusal, Row, Scan, ScanNumber, Shape, Stamp, Store, Tail, Transaction, PLACES,
 };
 
-const SHAPE: Shape = Shape { columns: 2, ranges: 1, tail: 4, spares: 1 };
+const SHAPE: Shape = Shape { columns: 2, ranges: 1, capacity: 4, spares: 1 };
 
 /// A store's bytes and list, to lend.
 #[derive(Clone, PartialEq, Debug)]
@@ -53,7 +53,7 @@ fn updated() -> (Lent, Transaction) {
 fn making() {
     let mut lent = Lent::made(SHAPE);
     let before = lent.clone();
-    let shape = Shape { tail: 513, ..SHAPE };
+    let shape = Shape { capacity: 513, ..SHAPE };
     let made = Store::make(&mut lent.memory, &mut lent.scans, shape);
     assert_eq!(made.err(), Some(Refusal::Shape));
     let short = lent.memory.len() - 1;

@@ -7,7 +7,7 @@ pub struct Workload {
     /// The least and greatest measure of a stream's shape.
     pub columns: (u32, u32),
     pub ranges: (u32, u32),
-    pub tail: (u32, u32),
+    pub capacity: (u32, u32),
     pub spares: (u32, u32),
     /// The share of the rows inserted before other calls become frequent, in percent.
     pub early_rows: u32,
@@ -19,7 +19,7 @@ const EVEN: Workload = Workload {
     weights: [8, 8, 16, 2, 8, 3, 5, 6, 5, 4, 6, 4, 3, 6, 3, 5, 3],
     columns: (1, 4),
     ranges: (1, 2),
-    tail: (8, 64),
+    capacity: (8, 64),
     spares: (0, 8),
     early_rows: 0,
     step: 3,
@@ -29,7 +29,7 @@ const SMALL_TAIL: Workload = Workload {
     weights: [8, 8, 20, 5, 8, 4, 5, 6, 5, 2, 3, 2, 2, 6, 4, 5, 4],
     columns: (1, 3),
     ranges: (1, 1),
-    tail: (1, 8),
+    capacity: (1, 8),
     ..EVEN
 };
 
@@ -41,7 +41,7 @@ const MANY_SCANS: Workload = Workload {
 
 const MANY_ABORTS: Workload = Workload {
     weights: [12, 8, 18, 4, 4, 10, 5, 6, 5, 3, 4, 3, 3, 7, 3, 6, 3],
-    tail: (24, 64),
+    capacity: (24, 64),
     ..EVEN
 };
 
@@ -49,7 +49,7 @@ const MANY_MERGES: Workload = Workload {
     weights: [9, 4, 22, 1, 11, 2, 4, 6, 2, 4, 6, 3, 4, 20, 6, 8, 5],
     columns: (1, 3),
     ranges: (1, 1),
-    tail: (32, 64),
+    capacity: (32, 64),
     spares: (0, 4),
     ..EVEN
 };
@@ -71,7 +71,7 @@ const SEVERAL_RANGES: Workload = Workload {
     weights: [8, 3, 24, 2, 9, 3, 5, 6, 5, 4, 6, 4, 3, 14, 4, 8, 5],
     columns: (1, 2),
     ranges: (2, 4),
-    tail: (1, 24),
+    capacity: (1, 24),
     early_rows: 80,
     ..EVEN
 };

@@ -163,6 +163,6 @@ impl History {
     /// 12 "the range lacks the one or two records wanted"
     fn test_tail(&self, row: u32, wanted: u32) -> Result<(), u8> {
         let used = self.used(row / RANGE_ROWS);
-        require(used + wanted <= self.shape.tail, 12)
+        require(used + wanted <= self.shape.capacity, 12)
     }
 }

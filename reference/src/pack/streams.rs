@@ -101,8 +101,8 @@ impl Pack {
             [0, 0, 0, 0],
             [255, 255, 65_535, 65_535],
         ];
-        for [columns, ranges, tail, spares] in shapes {
-            let line = format!("shape {columns} {ranges} {tail} {spares}");
+        for [columns, ranges, capacity, spares] in shapes {
+            let line = format!("shape {columns} {ranges} {capacity} {spares}");
             let bytes =
                 text::encode(&format!("{line}\nbegin\nrelease")).expect("the line is right");
             self.whole(&line, Kind::Commands, &bytes);

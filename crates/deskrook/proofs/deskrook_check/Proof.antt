@@ -6,11 +6,11 @@ use borrow.Fn.World.{World}
 use Rattle.terms.specs.declared.Place.{Place}
 use Rattle.scans.specs.Table.{tableOf}
 use Rattle.lent.proofs.laws.read as law
-use Rattle.replies.proofs.check_reply.Symbol as core
-use Rattle.replies.proofs.check_reply.Met as core-thm
-use Rattle.replies.proofs.check_reply.Reads as core-reads
-use Rattle.replies.specs.Replies.{replyOf, usability}
-use Rattle.replies.proofs.Types.{reply}
+use Rattle.deskrook.proofs.reply.check_reply.Symbol as core
+use Rattle.deskrook.proofs.reply.check_reply.Met as core-thm
+use Rattle.deskrook.proofs.reply.check_reply.Reads as core-reads
+use Rattle.deskrook.specs.Replies.{replyOf, usability}
+use Rattle.deskrook.proofs.Exported.{reply}
 use Rattle.deskrook.proofs.deskrook_check.Key as key
 use Rattle.deskrook.proofs.deskrook_check.Statement.{statement}
 use Rattle.deskrook.proofs.deskrook_check.Code as code
@@ -22,4 +22,4 @@ deskrook-check-spec {M} 𝓤 H 𝓜 𝓖 𝓡 =
     law.meets 0 core.name reply [] (λ m t _ z. (ps : List Place) → t ≡ tableOf ps → z ≡ replyOf (usability m ps)) (λ m l _ z. z ≡ replyOf (usability m l))
     (λ m l _ t z b e h. h l e)
     w code.env key.name (code.unfolded 𝓤 H 𝓜 𝓡) code.calls-lent·table
-    (core-reads.known w code.env core.name core.routine code.calls-replies·check-reply (core-thm.met 𝓤 H 𝓜 𝓖 𝓡))
+    (core-reads.known w code.env core.name core.routine code.calls-deskrook·reply·check-reply (core-thm.met 𝓤 H 𝓜 𝓖 𝓡))

@@ -1,32 +1,25 @@
--- `deskrook::deskrook_insert` meets its contract, by the law of its arguments.
-use mathlib.Core.Path.{refl}
+-- `deskrook::deskrook_insert` meets its contract: it hands on to the call and turns the answer.
 use mathlib.Core.List.{[], _∷_}
 use mir.Syntax.{w32}
 use denote.Signed.{SInt}
 use contract.Running.{tablesOf}
 use borrow.Fn.World.{World}
 use Rattle.history.specs.History.{Call}
-use Rattle.model.specs.Calls.{placesAfter}
 use Rattle.lent.proofs.Further.{value, shared}
-use Rattle.lent.proofs.laws.write as law
-use Rattle.replies.proofs.insert_reply.Symbol as core
-use Rattle.replies.proofs.insert_reply.Met as core-thm
-use Rattle.replies.proofs.insert_reply.Reads as core-reads
-use Rattle.calls.specs.Serves.{sixteen}
-use Rattle.replies.specs.Replies.{EncodesLeft, replyOf}
+use Rattle.lent.proofs.laws.handed.{memory}
+use Rattle.calls.specs.Serves.{Serves, sixteen}
+use Rattle.calls.proofs.Types.{transaction}
+use Rattle.calls.proofs.insert.Symbol as call
+use Rattle.calls.proofs.insert.Met as call-thm
 use Rattle.deskrook.specs.Replies.{Replies}
-use Rattle.calls.proofs.Served.{changed}
-use Rattle.calls.proofs.Types.{u32}
-use Rattle.replies.proofs.Types.{reply}
+use Rattle.deskrook.proofs.Exported.{exported}
 use Rattle.deskrook.proofs.deskrook_insert.Key as key
 use Rattle.deskrook.proofs.deskrook_insert.Statement.{statement}
 use Rattle.deskrook.proofs.deskrook_insert.Code as code
 
 pub deskrook-insert-spec : {M : Type 1} → statement M
-unfolding code.routine tablesOf placesAfter Replies EncodesLeft
+unfolding code.routine tablesOf Replies
 deskrook-insert-spec {M} 𝓤 H 𝓜 𝓖 𝓡 =
     let w : World = record { M = M; 𝓤 = 𝓤; H = H; 𝓜 = 𝓜; 𝓖 = 𝓖; 𝓡 = 𝓡 } in
-    law.meets 1 core.name reply (value u32 ∷ shared (SInt w32) 0 tt ∷ []) (λ m t (x, (y, _)) z m′. EncodesLeft m t (Call.insert x (sixteen y)) z m′) (λ m l (x, (y, _)) z m′. Replies m l (Call.insert x (sixteen y)) z m′ l)
-    (λ m l (x, (y, _)) t z m′. changed replyOf (Call.insert x (sixteen y)) (λ v ps. refl) m t z m′ l)
-    w code.env key.name (code.unfolded 𝓤 H 𝓜 𝓡) code.calls-lent·table
-    (core-reads.known w code.env core.name core.routine code.calls-replies·insert-reply (core-thm.met 𝓤 H 𝓜 𝓖 𝓡))
+    exported memory 1 (value transaction ∷ shared (SInt w32) 0 tt ∷ []) (λ m q (x, (y, _)). Serves m q (Call.insert (x .0) (sixteen y))) w code.env key.name call.name call.routine
+    (code.unfolded 𝓤 H 𝓜 𝓡) code.calls-calls·insert (call-thm.met 𝓤 H 𝓜 𝓖 𝓡) code.calls-deskrook·reply·encode

@@ -1,28 +1,16 @@
--- `deskrook::deskrook_make` meets its contract, by the law of its arguments.
-use mathlib.Core.Path.{_≡_}
+-- `deskrook::deskrook_make` meets its contract: it hands on to the call and turns the answer.
 use mathlib.Core.List.{[], _∷_}
-use lib.ListN.{length}
 use contract.Running.{tablesOf}
 use borrow.Fn.World.{World}
 use Rattle.layout.specs.Sizes.{shapeOf}
-use Rattle.making.specs.Made.{made}
-use Rattle.lent.specs.Lent.{isAccepted, freedIf}
-use Rattle.lent.proofs.Known.{len-known, made-known}
 use Rattle.lent.proofs.Further.{value}
-use Rattle.lent.proofs.laws.list as law
-use Rattle.lent.proofs.len_of.Symbol as len-of
-use Rattle.lent.proofs.free_made.Symbol as free-made
-use Rattle.making.proofs.make.Symbol as core
-use Rattle.making.proofs.make.Met as core-thm
-use Rattle.making.proofs.make.Reads as core-reads
-use Rattle.replies.proofs.encode.Symbol as last
-use Rattle.replies.proofs.encode.Met as last-thm
-use Rattle.replies.proofs.encode.Reads as last-reads
-use Rattle.replies.specs.Replies.{replyOf}
+use Rattle.lent.proofs.laws.handed.{both}
+use Rattle.calls.specs.Serves.{Makes}
+use Rattle.calls.proofs.Types.{u32}
+use Rattle.calls.proofs.make.Symbol as call
+use Rattle.calls.proofs.make.Met as call-thm
 use Rattle.deskrook.specs.Replies.{RepliesMade}
-use Rattle.calls.proofs.Served.{made-so}
-use Rattle.calls.proofs.Types as type
-use Rattle.replies.proofs.Types.{reply}
+use Rattle.deskrook.proofs.Exported.{exported}
 use Rattle.deskrook.proofs.deskrook_make.Key as key
 use Rattle.deskrook.proofs.deskrook_make.Statement.{statement}
 use Rattle.deskrook.proofs.deskrook_make.Code as code
@@ -31,12 +19,5 @@ pub deskrook-make-spec : {M : Type 1} → statement M
 unfolding code.routine tablesOf RepliesMade
 deskrook-make-spec {M} 𝓤 H 𝓜 𝓖 𝓡 =
     let w : World = record { M = M; 𝓤 = 𝓤; H = H; 𝓜 = 𝓜; 𝓖 = 𝓖; 𝓡 = 𝓡 } in
-    law.meets 0 len-of.name core.name free-made.name last.name type.usize type.answer reply (value type.u32 ∷ value type.u32 ∷ value type.u32 ∷ value type.u32 ∷ [])
-    (λ l n. n ≡ length l) (λ m n (a, (b, (c, (d, _)))) x m′. (x, m′) ≡ made (shapeOf a b c d) n m) (λ l x l′. l′ ≡ freedIf (isAccepted x) l) (λ x z. z ≡ replyOf x)
-    (λ m l (a, (b, (c, (d, _)))) z m′ l′. RepliesMade m l (shapeOf a b c d) z m′ l′)
-    (λ m l (a, (b, (c, (d, _)))) n x z m′ l′. made-so replyOf (shapeOf a b c d) m n x z m′ l l′)
-    w code.env key.name (code.unfolded 𝓤 H 𝓜 𝓡)
-    (len-known w code.env code.calls-lent·len-of)
-    (core-reads.known w code.env core.name core.routine code.calls-making·make (core-thm.met 𝓤 H 𝓜 𝓖 𝓡))
-    (made-known w code.env code.calls-lent·free-made)
-    (last-reads.known w code.env last.name last.routine code.calls-replies·encode (last-thm.met 𝓤 H 𝓜 𝓖 𝓡))
+    exported both 0 (value u32 ∷ value u32 ∷ value u32 ∷ value u32 ∷ []) (λ m q (a, (b, (c, (d, _)))). Makes m q (shapeOf a b c d)) w code.env key.name call.name call.routine
+    (code.unfolded 𝓤 H 𝓜 𝓡) code.calls-calls·make (call-thm.met 𝓤 H 𝓜 𝓖 𝓡) code.calls-deskrook·reply·encode

@@ -1,27 +1,21 @@
--- `deskrook::deskrook_release` meets its contract, by the law of its arguments.
-use mathlib.Core.Path.{refl}
+-- `deskrook::deskrook_release` meets its contract: it hands on to the call and turns the answer.
 use mathlib.Core.List.{[]}
 use contract.Running.{tablesOf}
 use borrow.Fn.World.{World}
 use Rattle.history.specs.History.{Call}
-use Rattle.model.specs.Calls.{placesAfter}
-use Rattle.lent.proofs.laws.write as law
-use Rattle.replies.proofs.release_reply.Symbol as core
-use Rattle.replies.proofs.release_reply.Met as core-thm
-use Rattle.replies.proofs.release_reply.Reads as core-reads
-use Rattle.replies.specs.Replies.{EncodesLeft, replyOf}
+use Rattle.lent.proofs.laws.handed.{memory}
+use Rattle.calls.specs.Serves.{Serves}
+use Rattle.calls.proofs.release.Symbol as call
+use Rattle.calls.proofs.release.Met as call-thm
 use Rattle.deskrook.specs.Replies.{Replies}
-use Rattle.calls.proofs.Served.{changed}
-use Rattle.replies.proofs.Types.{reply}
+use Rattle.deskrook.proofs.Exported.{exported}
 use Rattle.deskrook.proofs.deskrook_release.Key as key
 use Rattle.deskrook.proofs.deskrook_release.Statement.{statement}
 use Rattle.deskrook.proofs.deskrook_release.Code as code
 
 pub deskrook-release-spec : {M : Type 1} → statement M
-unfolding code.routine tablesOf placesAfter Replies EncodesLeft
+unfolding code.routine tablesOf Replies
 deskrook-release-spec {M} 𝓤 H 𝓜 𝓖 𝓡 =
     let w : World = record { M = M; 𝓤 = 𝓤; H = H; 𝓜 = 𝓜; 𝓖 = 𝓖; 𝓡 = 𝓡 } in
-    law.meets 0 core.name reply [] (λ m t _ z m′. EncodesLeft m t Call.release z m′) (λ m l _ z m′. Replies m l Call.release z m′ l)
-    (λ m l _ t z m′. changed replyOf Call.release (λ v ps. refl) m t z m′ l)
-    w code.env key.name (code.unfolded 𝓤 H 𝓜 𝓡) code.calls-lent·table
-    (core-reads.known w code.env core.name core.routine code.calls-replies·release-reply (core-thm.met 𝓤 H 𝓜 𝓖 𝓡))
+    exported memory 0 [] (λ m q _. Serves m q Call.release) w code.env key.name call.name call.routine
+    (code.unfolded 𝓤 H 𝓜 𝓡) code.calls-calls·release (call-thm.met 𝓤 H 𝓜 𝓖 𝓡) code.calls-deskrook·reply·encode

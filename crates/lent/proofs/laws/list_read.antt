@@ -11,19 +11,19 @@ use mathlib.Core.Path.{_≡_, ap, subst, _∙_}
 use prog.Routine as routine
 use prog.Wp.{Closed, spotOf}
 use base.Logic.{ent, id⊢}
-use borrow.Fn.Frame.{rowsFrom, from}
-use borrow.Fn.Function.{Γin, Γret, Δret}
-use borrow.Fn.Leases.{leases}
+use borrow.Fn.Frame.{from}
+use borrow.Fn.Function.{Γin, Δret}
 use borrow.Table.Row.{Entry, Rho, St, tl}
 use borrow.Table.Own.{own}
 use contract.Running.{tables, givenOf}
 use borrow.Fn.Written.{Holds}
-use Rattle.lent.proofs.Rules.{refl, List, [], _∷_, ℕ, URA, some, Ty, Body, tyInt, tyUnit, named, imm, mut, w8, w64, copy, place, field, deref, seq, call, return, assign, addrOf, aggregate, Name, Heap, Tables, Env, Atoms, Given, Lfts, Shares, now, sliceTy, Row, Cx, Life, lease, off, alive, dead, sUnit, sslice, any-gone, sc-here, room-gone, as-is, fInt, Typed, Outs, TF, Both, Asks, Gives, both, ask, give, pass, atRet, t-return, s-seq, g-pre, n-room, g-room, oFld, room-sc, g-begin, g-end, g-forget, k-shs-known, g-shs-known, reads-sslice, room-sslice, lenV, mslice, msleft, reads-mslice, mslice-owed, msptr, ssptr, asMut, asShr, k-sl-relend, t-sl-relend, k-sl-aggregate, t-sl-aggregate, reads-owed-len, k-back-sl, g-back-sl, mslice-owedS, k-sl-reshare, t-sl-reshare, reads-owedS-len, n-back-sl-shr, g-back-sl-shr, pShrS, spares-sslice, pMutS, fix-len, EnvOf, tysP, PK, Out, rUnit, tyR, callB, sub-id, Known, t-call-plain, t-fn-plain, fnOf, Over, World, Place, byte, entry, bytes, places, list-read, list-again, at, none-asked}
+use Rattle.lent.proofs.Rules.{refl, List, [], _∷_, ℕ, URA, some, Ty, Body, tyUnit, named, imm, mut, w8, copy, place, field, deref, seq, call, return, assign, addrOf, aggregate, Name, Heap, Tables, Env, Atoms, Given, Lfts, Shares, now, sliceTy, Row, Cx, Life, lease, sUnit, sslice, room-gone, as-is, fInt, Outs, g-room, room-sc, g-shs-known, reads-sslice, mslice, reads-mslice, pShrS, spares-sslice, pMutS, fix-len, EnvOf, tysP, PK, Out, rUnit, tyR, sub-id, Known, t-call-plain, t-fn-plain, fnOf, Over, World, Place, byte, entry, bytes, places, list-read, list-again, at, none-asked}
 use Rattle.lent.proofs.Plain.{Plain, type, full, gone, arg, res, copied, room}
 use Rattle.lent.proofs.Types.{p}
 use Rattle.lent.proofs.Further.{Further}
-use Rattle.lent.proofs.Hands.{heres, handeds, rows, beyond, ats, Vals, see-all, sees-all, pastU, layU, liftU, lays, lifts, parts, t-call-further, has-all, lends-past, spots, spot-free, nth, Nth, sees-shown, shown-see, fixes, fresh-all}
+use Rattle.lent.proofs.Hands.{heres, handeds, beyond, ats, Vals, see-all, sees-all, lays, lifts, t-hands, spots, spot-free, nth, Nth, sees-shown, shown-see, fixes, fresh-all}
 use Rattle.lent.proofs.Tokens.{up, ins, del, ups, lent-on}
+use Rattle.lent.proofs.Chain.{Rest, step, quiet, returns, lend, back, share, unshare}
 use Rattle.lent.proofs.Written as written
 
 module _ (l : ℕ) (load core store last : Name) (t d r : Plain) (fs : List (Further 2 1 2 l)) where
@@ -101,154 +101,11 @@ module _ (l : ℕ) (load core store last : Name) (t d r : Plain) (fs : List (Fur
       abbrev F : Row → List Entry
       F l0 = (0, l0) ∷ memory ∷ (2, ours) ∷ []
 
-      abbrev no-rp : Row
-      no-rp = any-gone list-read
-
-      abbrev no-rs : Row
-      no-rs = any-gone (sliceTy list-read)
-
-      abbrev no-u : Row
-      no-u = any-gone tyUnit
-
-      abbrev no-kp : Row
-      no-kp = any-gone list-again
-
-      abbrev no-ks : Row
-      no-ks = any-gone (sliceTy list-again)
-
-      -- the locals before and after the further arguments, whose rows stand last, and the slots
-      abbrev G : Row → Row → Row → Row → Row → Row → Row → Row → Row → Life → Life → Life → Cx
-      G l0 l2 t0 t1 t2 t3 t4 t5 t6 s1 s2 s3 =
-          record {
-            locals = (0, l0) ∷ memory ∷ (2, l2) ∷ (T 0, t0) ∷ (T 1, t1) ∷ (T 2, t2) ∷ (T 3, t3) ∷ (T 4, t4) ∷ (T 5, t5) ∷ (T 6, t6) ∷ rowsFrom 3 (rows fs);
-            slots = life-m ∷ s1 ∷ s2 ∷ s3 ∷ leases l (κs .1 .1) (qs .1 .1) 0;
-          }
-
-      abbrev G0 : Cx
-      G0 = G (gone r) ours (gone t) (gone d) no-rp no-rs no-u no-kp no-ks life-l off off
-
-      abbrev G1 : Cx
-      G1 = G (gone r) ours (gone t) (gone d) no-rp no-rs no-u no-kp no-ks life-l off off
-
-      abbrev G2 : Cx
-      G2 = G (gone r) ours (gone t) (gone d) no-rp no-rs no-u no-kp no-ks life-l alive off
-
-      abbrev G3 : Cx
-      G3 = G (gone r) (mslice-owedS entry own-l 1 2 life-l) (gone t) (gone d) (ssptr entry list-read 2) no-rs no-u no-kp no-ks off alive off
-
-      abbrev G4 : Cx
-      G4 = G (gone r) (mslice-owedS entry own-l 1 2 life-l) (gone t) (gone d) no-rp (sslice entry list-read 2) no-u no-kp no-ks off alive off
-
-      abbrev G5 : Cx
-      G5 = G (gone r) (mslice-owedS entry own-l 1 2 life-l) (full t) (gone d) no-rp (sslice entry list-read 2) no-u no-kp no-ks off alive off
-
-      abbrev G6 : Cx
-      G6 = G (gone r) (mslice-owedS entry own-l 1 2 life-l) (full t) (gone d) no-rp no-rs no-u no-kp no-ks off alive off
-
-      abbrev G7 : Cx
-      G7 = G (gone r) (mslice-owedS entry own-l 1 2 life-l) (full t) (gone d) no-rp no-rs no-u no-kp no-ks off dead off
-
-      abbrev G8 : Cx
-      G8 = G (gone r) ours (full t) (gone d) no-rp no-rs no-u no-kp no-ks life-l dead off
-
-      abbrev G9 : Cx
-      G9 = G (gone r) ours (full t) (gone d) no-rp no-rs no-u no-kp no-ks life-l off off
-
-      abbrev G10 : Cx
-      G10 = G (gone r) ours (full t) (full d) no-rp no-rs no-u no-kp no-ks life-l off off
-
-      abbrev G11 : Cx
-      G11 = G (gone r) ours (gone t) (full d) no-rp no-rs no-u no-kp no-ks life-l off off
-
-      abbrev G12 : Cx
-      G12 = G (gone r) ours (gone t) (full d) no-rp no-rs no-u no-kp no-ks life-l off alive
-
-      abbrev G13 : Cx
-      G13 = G (gone r) (mslice-owed entry own-l 1 3 life-l) (gone t) (full d) no-rp no-rs no-u (msptr entry list-again 3) no-ks off off alive
-
-      abbrev G14 : Cx
-      G14 = G (gone r) (mslice-owed entry own-l 1 3 life-l) (gone t) (full d) no-rp no-rs no-u no-kp (mslice entry list-again 3) off off alive
-
-      abbrev G15 : Cx
-      G15 = G (gone r) (mslice-owed entry own-l 1 3 life-l) (gone t) (full d) no-rp no-rs (sc-here sUnit) no-kp (msleft entry list-again) off off alive
-
-      abbrev G16 : Cx
-      G16 = G (gone r) (mslice-owed entry own-l 1 3 life-l) (gone t) (full d) no-rp no-rs no-u no-kp (msleft entry list-again) off off alive
-
-      abbrev G17 : Cx
-      G17 = G (gone r) (mslice-owed entry own-l 1 3 life-l) (gone t) (full d) no-rp no-rs no-u no-kp (msleft entry list-again) off off dead
-
-      abbrev G18 : Cx
-      G18 = G (gone r) ours (gone t) (full d) no-rp no-rs no-u no-kp no-ks life-l off dead
-
-      abbrev G19 : Cx
-      G19 = G (gone r) ours (gone t) (full d) no-rp no-rs no-u no-kp no-ks life-l off off
-
-      abbrev G20 : Cx
-      G20 = G (full r) ours (gone t) (full d) no-rp no-rs no-u no-kp no-ks life-l off off
-
-      abbrev G21 : Cx
-      G21 = G (full r) ours (gone t) (gone d) no-rp no-rs no-u no-kp no-ks life-l off off
-
       abbrev Γ : Cx
       Γ = Γin (up 2 l) ps (res r) xs 0 κs qs
 
-      abbrev Γ′ : Cx
-      Γ′ = Γret (up 2 l) ps (res r) xs 0 κs qs
-
       abbrev Δ : Outs
       Δ = Δret (up 2 l) ps (res r) xs 0 κs qs
-
-      abbrev s-known : Gives G0 G1
-      s-known = k-shs-known (fInt w8) G0 1 0 (bytes (named 0) imm) life-m 0 (λ x. x)
-
-      abbrev s-lend-read : Gives G2 G3
-      s-lend-read = k-sl-reshare entry G2 2 5 1 2 own-l list-read life-l (λ x. x)
-
-      abbrev s-join-read : Asks G3 G4
-      s-join-read = k-sl-aggregate entry (asShr entry) G3 5 6 2 list-read list-read (λ x. x) (oFld 2 (field 1 ∷ []) (tyInt w64) 8 (λ v. lenV (v .0)))
-
-      abbrev s-load : Both G4 G5
-      s-load = callB ps-load (res t) (none-asked ps-load) Q-load G4 (record { pos = 6; ty = list-read; ref = λ x. x }, tt) 3 (2 ∷ []) (type t)
-
-      abbrev s-core : Both G9 G10
-      s-core = parts fs 3 (pShrS byte 0 tt ∷ arg t ∷ []) (res d) Q-core G9 (record { pos = 1; ty = (bytes (named 0) imm); ref = λ x. x }, (record { pos = 3; st = []; d = 0; at = λ x. x }, tt)) (pastU 10 (G9 .locals)) 4 βs (type d)
-
-      abbrev s-lend-keep : Gives G12 G13
-      s-lend-keep = k-sl-relend entry G12 2 8 1 3 own-l list-again life-l (λ x. x)
-
-      abbrev s-join-keep : Asks G13 G14
-      s-join-keep = k-sl-aggregate entry (asMut entry) G13 8 9 3 list-again list-again (λ x. x) (oFld 2 (field 1 ∷ []) (tyInt w64) 8 (λ v. lenV (v .0)))
-
-      abbrev s-store : Both G14 G15
-      s-store = callB ps-store rUnit (none-asked ps-store) Q-store G14 (record { pos = 9; ty = list-again; ref = λ x. x }, (record { pos = 4; st = []; d = 0; at = λ x. x }, tt)) 7 (3 ∷ []) tyUnit
-
-      abbrev s-back-keep : Both G17 G18
-      s-back-keep = k-back-sl entry G17 9 2 1 3 own-l list-again life-l (λ x. x) (λ x. x)
-
-      abbrev s-last : Both G19 G20
-      s-last = callB ps-last (res r) (none-asked ps-last) Q-last G19 (record { pos = 4; st = []; d = 0; at = λ x. x }, tt) 0 ([]) (type r)
-
-      abbrev Φ : TF Γ Δ
-      Φ Ψ =
-          pass Γ G0 (layU κs (F (gone r)) 3 fs xs)
-          (give s-known
-          (give s-lend-read
-          (ask s-join-read
-          (both s-load
-          (pass G5 G6 (n-room G5 6 (sliceTy list-read))
-          (pass G7 G8 (n-back-sl-shr entry G7 2 1 2 own-l life-l (λ x. x))
-          (both s-core
-          (pass G10 G11 (n-room G10 3 (type t))
-          (give s-lend-keep
-          (ask s-join-keep
-          (both s-store
-          (pass G15 G16 (n-room G15 7 tyUnit)
-          (both s-back-keep
-          (both s-last
-          (pass G20 G21 (n-room G20 4 (type d))
-          (pass G21 Γ′ (liftU κs (F (full r)) 3 fs xs)
-          (atRet Δ Ψ)))))))))))))))))
 
       module _ {M : Type 1} (𝓤 : URA M) (H : Heap 𝓤) (A : Atoms 𝓤) (W : Given 𝓤 H A) (𝓣 : Tables 𝓤 H) (k-load : Known 𝓤 H A W 𝓣 1 ps-load (res t) (none-asked ps-load) Q-load load) (k-core : Known 𝓤 H A W 𝓣 (up 1 l) ps-core (res d) (none-asked ps-core) Q-core core) (k-store : Known 𝓤 H A W 𝓣 1 ps-store rUnit (none-asked ps-store) Q-store store) (k-last : Known 𝓤 H A W 𝓣 0 ps-last (res r) (none-asked ps-last) Q-last last) (bs : List ℕ) where
         abbrev E : Env 𝓤 H
@@ -269,34 +126,25 @@ module _ (l : ℕ) (load core store last : Name) (t d r : Plain) (fs : List (Fur
         unfolding own
         front-out ρ u = id⊢ 𝓤 (own 𝓤 H A E ρ (F (full r)) u)
 
-        typed : Typed 𝓤 H A 𝓣 E Γ body Δ Φ
-        typed =
-            g-pre 𝓤 H A W 𝓣 E Γ G0 _ Δ (pass Γ G0 (layU κs (F (gone r)) 3 fs xs)) _ (lays 𝓤 H A E W κs qs (F (gone r)) 3 fs xs front-in)
-            (g-pre 𝓤 H A W 𝓣 E G0 G1 _ Δ (give s-known) _ (g-shs-known 𝓤 H A W (fInt w8) E G0 1 0 (bytes (named 0) imm) life-m 0 (λ x. x) (record { fits = lit< tt }) (as-is 𝓤 H A (sslice byte (bytes (named 0) imm) 0)) refl tt)
-            (g-pre 𝓤 H A W 𝓣 E G1 G2 _ Δ (λ Ψ. Ψ) _ (g-begin 𝓤 H A W E G1 2 (tt, (tt, (tt, (tt, (tt, (tt, (tt, (tt, (tt, (tt, fresh-all 2 tt 3 fs)))))))))))
-            (s-seq 𝓤 H A W 𝓣 E G2 G3 _ _ Δ (give s-lend-read) _ (t-sl-reshare 𝓤 H A W E entry 𝓣 G2 2 5 1 2 own-l list-read life-l 0 (λ x. x) (as-is 𝓤 H A (mslice entry own-l 1)) (room-gone 𝓤 H A list-read) refl tt refl refl (spot 2 tt) (λ b o. tt))
-            (s-seq 𝓤 H A W 𝓣 E G3 G4 _ _ Δ (ask s-join-read) _ (t-sl-aggregate 𝓤 H A W E entry 𝓣 (asShr entry) G3 5 6 2 list-read list-read (λ x. x) (oFld 2 (field 1 ∷ []) (tyInt w64) 8 (λ v. lenV (v .0))) (as-is 𝓤 H A (ssptr entry list-read 2)) (room-gone 𝓤 H A (sliceTy list-read)) (reads-owedS-len 𝓤 H A W entry own-l 1 2 life-l 8 refl, refl) (spot 2 tt) (spot 3 tt) (λ b o k. tt))
-            (s-seq 𝓤 H A W 𝓣 E G4 G5 _ _ Δ (both s-load) _ (t-call-plain 𝓤 H A W 𝓣 1 ps-load (res t) (none-asked ps-load) Q-load load k-load E (λ pos β. β) G4 (record { pos = 6; ty = list-read; ref = λ x. x }, tt) 3 (2 ∷ []) (sub-id 𝓤 H A W (G4 .slots)) (spares-sslice 𝓤 H A W entry list-read 2, reads-sslice 𝓤 H A W entry list-read 2, spot 3 tt, tt) (room-gone 𝓤 H A (type t)) (tt, tt) (spot 0 tt))
-            (g-pre 𝓤 H A W 𝓣 E G5 G6 _ Δ (pass G5 G6 (n-room G5 6 (sliceTy list-read))) _ (g-room 𝓤 H A W E G5 6 (sliceTy list-read) (room-sslice 𝓤 H A W entry list-read 2))
-            (g-pre 𝓤 H A W 𝓣 E G6 G7 _ Δ (λ Ψ. Ψ) _ (g-end 𝓤 H A W E G6 2 refl)
-            (g-pre 𝓤 H A W 𝓣 E G7 G8 _ Δ (pass G7 G8 (n-back-sl-shr entry G7 2 1 2 own-l life-l (λ x. x))) _ (g-back-sl-shr 𝓤 H A W E entry G7 2 1 2 own-l life-l (λ x. x) (as-is 𝓤 H A (mslice-owedS entry own-l 1 2 life-l)) refl refl)
-            (g-pre 𝓤 H A W 𝓣 E G8 G9 _ Δ (λ Ψ. Ψ) _ (g-forget 𝓤 H A W E G8 2 dead refl)
-            (s-seq 𝓤 H A W 𝓣 E G9 G10 _ _ Δ (both s-core) _ (t-call-further fs 3 (pShrS byte 0 tt ∷ arg t ∷ []) (res d) Q-core G9 (record { pos = 1; ty = (bytes (named 0) imm); ref = λ x. x }, (record { pos = 3; st = []; d = 0; at = λ x. x }, tt)) (pastU 10 (G9 .locals)) 4 βs 𝓤 H A W 𝓣 core E k-core (λ pos β. β) (sub-id 𝓤 H A W (G9 .slots))
-            (spares-sslice 𝓤 H A W byte (bytes (named 0) imm) 0, reads-sslice 𝓤 H A W byte (bytes (named 0) imm) 0, refl, ((copied t 𝓤 H A W, ap (λ (τ : Ty). some (τ, zero)) (spot 0 tt)), has-all 𝓤 H A E βs (λ pos β. β) 3 fs (G9 .locals) (pastU 10 (G9 .locals)) (lends-past 𝓤 H A E 10 (G9 .locals)) (spots 𝓤 H A E 3 fs xs (tl (tl (tl bs))) here) refl))
+        abbrev rest : Rest 𝓤 H A W 𝓣 E Δ Γ
+        rest =
+            quiet (lays 𝓤 H A E W κs qs (F (gone r)) 3 fs xs front-in)
+            (quiet (g-shs-known 𝓤 H A W (fInt w8) E _ 1 0 (bytes (named 0) imm) life-m 0 (λ x. x) (record { fits = lit< tt }) (as-is 𝓤 H A (sslice byte (bytes (named 0) imm) 0)) refl tt)
+            (share entry (named 1) 1 2 life-l 2 5 6 2 (T 2) (T 3) (tt, (tt, (tt, (tt, (tt, (tt, (tt, (tt, (tt, (tt, fresh-all 2 tt 3 fs)))))))))) (λ x. x) refl (spot 2 tt) (spot 3 tt)
+            (step (t-call-plain 𝓤 H A W 𝓣 1 ps-load (res t) (none-asked ps-load) Q-load load k-load E (λ pos β. β) _ (record { pos = 6; ty = list-read; ref = λ x. x }, tt) 3 (2 ∷ []) (sub-id 𝓤 H A W _) (spares-sslice 𝓤 H A W entry list-read 2, reads-sslice 𝓤 H A W entry list-read 2, spot 3 tt, tt) (room-gone 𝓤 H A (type t)) (tt, tt) (spot 0 tt))
+            (unshare entry (named 1) 1 2 life-l 6 2 (λ x. x)
+            (step (t-hands fs 3 10 (pShrS byte 0 tt ∷ arg t ∷ []) (res d) Q-core _ (record { pos = 1; ty = (bytes (named 0) imm); ref = λ x. x }, (record { pos = 3; st = []; d = 0; at = λ x. x }, tt)) (λ u. u) 4 βs 𝓤 H A W 𝓣 core E k-core (λ u. u) (spots 𝓤 H A E 3 fs xs (tl (tl (tl bs))) here) refl
+            (λ further. (spares-sslice 𝓤 H A W byte (bytes (named 0) imm) 0, reads-sslice 𝓤 H A W byte (bytes (named 0) imm) 0, refl, ((copied t 𝓤 H A W, ap (λ (τ : Ty). some (τ, zero)) (spot 0 tt)), further)))
             (tt, lent-on (_ ∷ _ ∷ _ ∷ _ ∷ []) l (κs .1 .1) (qs .1 .1)) (room-gone 𝓤 H A (type d)) (spot 1 tt))
-            (g-pre 𝓤 H A W 𝓣 E G10 G11 _ Δ (pass G10 G11 (n-room G10 3 (type t))) _ (g-room 𝓤 H A W E G10 3 (type t) (room t 𝓤 H A W))
-            (g-pre 𝓤 H A W 𝓣 E G11 G12 _ Δ (λ Ψ. Ψ) _ (g-begin 𝓤 H A W E G11 3 (tt, (tt, (tt, (tt, (tt, (tt, (tt, (tt, (tt, (tt, fresh-all 3 tt 3 fs)))))))))))
-            (s-seq 𝓤 H A W 𝓣 E G12 G13 _ _ Δ (give s-lend-keep) _ (t-sl-relend 𝓤 H A W E entry 𝓣 G12 2 8 1 3 own-l list-again life-l 0 (λ x. x) (as-is 𝓤 H A (mslice entry own-l 1)) (room-gone 𝓤 H A list-again) refl tt refl refl (spot 5 tt) (λ b o. tt))
-            (s-seq 𝓤 H A W 𝓣 E G13 G14 _ _ Δ (ask s-join-keep) _ (t-sl-aggregate 𝓤 H A W E entry 𝓣 (asMut entry) G13 8 9 3 list-again list-again (λ x. x) (oFld 2 (field 1 ∷ []) (tyInt w64) 8 (λ v. lenV (v .0))) (as-is 𝓤 H A (msptr entry list-again 3)) (room-gone 𝓤 H A (sliceTy list-again)) (reads-owed-len 𝓤 H A W entry own-l 1 3 life-l 8 refl, refl) (spot 5 tt) (spot 6 tt) (λ b o k. tt))
-            (s-seq 𝓤 H A W 𝓣 E G14 G15 _ _ Δ (both s-store) _ (t-call-plain 𝓤 H A W 𝓣 1 ps-store rUnit (none-asked ps-store) Q-store store k-store E (λ pos β. β) G14 (record { pos = 9; ty = list-again; ref = λ x. x }, (record { pos = 4; st = []; d = 0; at = λ x. x }, tt)) 7 (3 ∷ []) (sub-id 𝓤 H A W (G14 .slots)) (as-is 𝓤 H A (mslice entry list-again 3), reads-mslice 𝓤 H A W entry list-again 3, spot 6 tt, ((copied d 𝓤 H A W, ap (λ (τ : Ty). some (τ, zero)) (spot 1 tt)), tt)) (room-gone 𝓤 H A tyUnit) (tt, tt) (spot 4 tt))
-            (g-pre 𝓤 H A W 𝓣 E G15 G16 _ Δ (pass G15 G16 (n-room G15 7 tyUnit)) _ (g-room 𝓤 H A W E G15 7 tyUnit (room-sc 𝓤 H A W sUnit))
-            (g-pre 𝓤 H A W 𝓣 E G16 G17 _ Δ (λ Ψ. Ψ) _ (g-end 𝓤 H A W E G16 3 refl)
-            (g-pre 𝓤 H A W 𝓣 E G17 G18 _ Δ (both s-back-keep) _ (g-back-sl 𝓤 H A W E entry G17 9 2 1 3 own-l list-again life-l (λ x. x) (λ x. x) (as-is 𝓤 H A (msleft entry list-again)) (as-is 𝓤 H A (mslice-owed entry own-l 1 3 life-l)) refl refl)
-            (g-pre 𝓤 H A W 𝓣 E G18 G19 _ Δ (λ Ψ. Ψ) _ (g-forget 𝓤 H A W E G18 3 dead refl)
-            (s-seq 𝓤 H A W 𝓣 E G19 G20 _ _ Δ (both s-last) _ (t-call-plain 𝓤 H A W 𝓣 0 ps-last (res r) (none-asked ps-last) Q-last last k-last E (λ pos β. β) G19 (record { pos = 4; st = []; d = 0; at = λ x. x }, tt) 0 ([]) (sub-id 𝓤 H A W (G19 .slots)) ((copied d 𝓤 H A W, ap (λ (τ : Ty). some (τ, zero)) (spot 1 tt)), tt) (room-gone 𝓤 H A (type r)) tt refl)
-            (g-pre 𝓤 H A W 𝓣 E G20 G21 _ Δ (pass G20 G21 (n-room G20 4 (type d))) _ (g-room 𝓤 H A W E G20 4 (type d) (room d 𝓤 H A W))
-            (g-pre 𝓤 H A W 𝓣 E G21 Γ′ _ Δ (pass G21 Γ′ (liftU κs (F (full r)) 3 fs xs)) _ (lifts 𝓤 H A E W κs qs (F (full r)) 3 fs xs front-out)
-            (t-return 𝓤 H A W 𝓣 E Δ tt)))))))))))))))))))))))
+            (quiet (g-room 𝓤 H A W E _ 3 (type t) (room t 𝓤 H A W))
+            (lend entry (named 1) 1 3 life-l 2 8 9 2 (T 5) (T 6) (tt, (tt, (tt, (tt, (tt, (tt, (tt, (tt, (tt, (tt, fresh-all 3 tt 3 fs)))))))))) (λ x. x) refl (spot 5 tt) (spot 6 tt)
+            (step (t-call-plain 𝓤 H A W 𝓣 1 ps-store rUnit (none-asked ps-store) Q-store store k-store E (λ pos β. β) _ (record { pos = 9; ty = list-again; ref = λ x. x }, (record { pos = 4; st = []; d = 0; at = λ x. x }, tt)) 7 (3 ∷ []) (sub-id 𝓤 H A W _) (as-is 𝓤 H A (mslice entry list-again 3), reads-mslice 𝓤 H A W entry list-again 3, spot 6 tt, ((copied d 𝓤 H A W, ap (λ (τ : Ty). some (τ, zero)) (spot 1 tt)), tt)) (room-gone 𝓤 H A tyUnit) (tt, tt) (spot 4 tt))
+            (quiet (g-room 𝓤 H A W E _ 7 tyUnit (room-sc 𝓤 H A W sUnit))
+            (back entry (named 1) 1 3 life-l 9 2 (λ x. x)
+            (step (t-call-plain 𝓤 H A W 𝓣 0 ps-last (res r) (none-asked ps-last) Q-last last k-last E (λ pos β. β) _ (record { pos = 4; st = []; d = 0; at = λ x. x }, tt) 0 ([]) (sub-id 𝓤 H A W _) ((copied d 𝓤 H A W, ap (λ (τ : Ty). some (τ, zero)) (spot 1 tt)), tt) (room-gone 𝓤 H A (type r)) tt refl)
+            (quiet (g-room 𝓤 H A W E _ 4 (type d) (room d 𝓤 H A W))
+            (quiet (lifts 𝓤 H A E W κs qs (F (full r)) 3 fs xs front-out)
+            (returns tt))))))))))))))
 
     module _ (ends : (m : List ℕ) (q : List Place) (x : Vals fs) (u : t .ty .Denot) (c : d .ty .Denot) (z : r .ty .Denot) (q′ : List Place)
         → Bytes m → loaded q u → cpost m u x c → spost q c q′ → lpost c z → post m q x z q′) where
@@ -311,8 +159,8 @@ module _ (l : ℕ) (load core store last : Name) (t d r : Plain) (fs : List (Fur
           let W : Given (w .𝓤) (w .H) (w .𝓖 .A) = givenOf (w .𝓤) (w .H) (w .𝓜) (w .𝓖) in
           let 𝓣 : Tables (w .𝓤) (w .H) = Over (w .𝓤) (w .H) (w .𝓜) (w .𝓖) (w .𝓡) γ in
           written.close-free (up 2 l) ps (res r) Q-call w γ k _ closed
-          (t-fn-plain (w .𝓤) (w .H) (w .𝓖 .A) W 𝓣 (up 2 l) ps (res r) xs 0 [] body (λ κs qs bs. Φ κs qs)
-          (λ κs qs bs bd. typed κs qs (w .𝓤) (w .H) (w .𝓖 .A) W 𝓣 k-load k-core k-store k-last bs) (none-asked ps) Q-call
+          (t-fn-plain (w .𝓤) (w .H) (w .𝓖 .A) W 𝓣 (up 2 l) ps (res r) xs 0 [] body (λ κs qs bs. rest κs qs (w .𝓤) (w .H) (w .𝓖 .A) W 𝓣 k-load k-core k-store k-last bs .means)
+          (λ κs qs bs bd. rest κs qs (w .𝓤) (w .H) (w .𝓖 .A) W 𝓣 k-load k-core k-store k-last bs .typed) (none-asked ps) Q-call
           (λ κs qs a good pre bs. λ known. λ lent. (
             refl,
             (

@@ -12,8 +12,8 @@ use prog.Routine as routine
 use prog.Wp.{Closed, spotOf}
 use contract.Running.{tables, givenOf}
 use borrow.Fn.Written.{Holds}
-use borrow.Fn.Frame.{rowsFrom, from}
-use borrow.Fn.Function.{Γin, Γret, Δret}
+use borrow.Fn.Frame.{from}
+use borrow.Fn.Function.{Γin, Δret}
 use base.Logic.{ent, id⊢}
 use borrow.Table.Row.{Entry, Rho, St, tl}
 use borrow.Table.Own.{own}
@@ -21,12 +21,13 @@ use Rattle.scans.specs.declared.Scans.{Scans}
 use Rattle.scans.specs.Table.{tableOf}
 use Rattle.lent.proofs.table.Symbol as table
 use Rattle.lent.proofs.table.Met as table-thm
-use Rattle.lent.proofs.Rules.{_≡_, refl, List, [], _∷_, ℕ, URA, some, Ty, Body, named, imm, w8, place, seq, call, return, Name, Heap, Tables, Env, Atoms, Given, Lfts, Shares, now, Row, Cx, Life, lease, sslice, room-gone, as-is, fInt, Typed, Outs, TF, Both, Gives, both, give, pass, atRet, t-return, s-seq, g-pre, n-room, g-room, k-shs-known, g-shs-known, reads-sslice, pShrS, spares-sslice, EnvOf, tysP, PK, Out, tyR, callB, sub-id, Known, t-call-plain, t-fn-plain, fnOf, Over, World, Place, byte, entry, bytes, places, at, none-asked}
+use Rattle.lent.proofs.Rules.{_≡_, refl, List, [], _∷_, ℕ, URA, some, Ty, Body, named, imm, w8, place, seq, call, return, Name, Heap, Tables, Env, Atoms, Given, Lfts, Shares, now, Row, Cx, lease, sslice, room-gone, as-is, fInt, Outs, g-room, g-shs-known, reads-sslice, pShrS, spares-sslice, EnvOf, tysP, PK, Out, tyR, sub-id, Known, t-call-plain, t-fn-plain, fnOf, Over, World, Place, byte, entry, bytes, places, at, none-asked}
 use Rattle.lent.proofs.Plain.{Plain, type, full, gone, arg, res, copied, room}
 use Rattle.lent.proofs.Types.{t}
 use Rattle.lent.proofs.Further.{Further}
-use Rattle.lent.proofs.Hands.{heres, handeds, rows, beyond, ats, Vals, see-all, sees-all, pastU, layU, liftU, lays, lifts, parts, t-call-further, has-all, lends-past, spots, spot-free, sees-shown, shown-see, fixes}
-use Rattle.lent.proofs.Tokens.{up, ins, del, opened, ups, lent-on}
+use Rattle.lent.proofs.Hands.{heres, handeds, beyond, ats, Vals, see-all, sees-all, lays, lifts, t-hands, spots, spot-free, sees-shown, shown-see, fixes}
+use Rattle.lent.proofs.Tokens.{up, ins, del, ups, lent-on}
+use Rattle.lent.proofs.Chain.{Rest, step, quiet, returns}
 use Rattle.lent.proofs.Written as written
 
 module _ (l : ℕ) (core : Name) (r : Plain) (fs : List (Further 2 1 0 l)) where
@@ -62,61 +63,20 @@ module _ (l : ℕ) (core : Name) (r : Plain) (fs : List (Further 2 1 0 l)) where
     Q-call κs a z e = post (now (a .0)) (now (a .1 .0)) (see-all κs fs (a .1 .1)) z
 
     module _ (κs : Lfts (up 2 l)) (qs : Shares (up 2 l)) where
-      abbrev S : List Life
-      S = opened 2 0 l κs qs
-
       abbrev memory : Entry
       memory = (1, sslice byte (bytes (named 0) imm) 0)
 
       abbrev list : Entry
       list = (2, sslice entry (places (named 1) imm) 1)
 
-      -- the two locals whose content changes
-      abbrev G : Row → Row → Cx
-      G l0 lt = record { locals = (0, l0) ∷ memory ∷ list ∷ (beyond 3 fs, lt) ∷ rowsFrom 3 (rows fs); slots = S }
-
       abbrev F : Row → List Entry
       F l0 = (0, l0) ∷ memory ∷ list ∷ []
-
-      abbrev G0 : Cx
-      G0 = G (gone r) (gone t)
-
-      abbrev G1 : Cx
-      G1 = G (gone r) (full t)
-
-      abbrev G2 : Cx
-      G2 = G (full r) (full t)
-
-      abbrev G3 : Cx
-      G3 = G (full r) (gone t)
 
       abbrev Γ : Cx
       Γ = Γin (up 2 l) ps (res r) xs 0 κs qs
 
       abbrev Δ : Outs
       Δ = Δret (up 2 l) ps (res r) xs 0 κs qs
-
-      abbrev Γ′ : Cx
-      Γ′ = Γret (up 2 l) ps (res r) xs 0 κs qs
-
-      abbrev s-known : Gives G0 G0
-      s-known = k-shs-known (fInt w8) G0 1 0 (bytes (named 0) imm) (lease (κs .0) (qs .0)) 0 (λ x. x)
-
-      abbrev s-load : Both G0 G1
-      s-load = callB ps-load (res t) (none-asked ps-load) Q-load G0 (record { pos = 2; ty = (places (named 1) imm); ref = λ x. x }, tt) 3 (1 ∷ []) (type t)
-
-      abbrev s-core : Both G1 G2
-      s-core = parts fs 3 (pShrS byte 0 tt ∷ arg t ∷ []) (res r) Q-core G1 (record { pos = 1; ty = (bytes (named 0) imm); ref = λ x. x }, (record { pos = 3; st = []; d = 0; at = λ x. x }, tt)) (pastU 4 (G1 .locals)) 0 βs (type r)
-
-      abbrev Φ : TF Γ Δ
-      Φ Ψ =
-          pass Γ G0 (layU κs (F (gone r)) 3 fs xs)
-          (give s-known
-          (both s-load
-          (both s-core
-          (pass G2 G3 (n-room G2 3 (type t))
-          (pass G3 Γ′ (liftU κs (F (full r)) 3 fs xs)
-          (atRet Δ Ψ))))))
 
       module _ {M : Type 1} (𝓤 : URA M) (H : Heap 𝓤) (A : Atoms 𝓤) (W : Given 𝓤 H A) (𝓣 : Tables 𝓤 H) (k-load : Known 𝓤 H A W 𝓣 1 ps-load (res t) (none-asked ps-load) Q-load table.name) (k-core : Known 𝓤 H A W 𝓣 (up 1 l) ps-core (res r) (none-asked ps-core) Q-core core) (bs : List ℕ) where
         abbrev E : Env 𝓤 H
@@ -137,17 +97,17 @@ module _ (l : ℕ) (core : Name) (r : Plain) (fs : List (Further 2 1 0 l)) where
         unfolding own
         front-out ρ u = id⊢ 𝓤 (own 𝓤 H A E ρ (F (full r)) u)
 
-        typed : Typed 𝓤 H A 𝓣 E Γ body Δ Φ
-        typed =
-            g-pre 𝓤 H A W 𝓣 E Γ G0 _ Δ (pass Γ G0 (layU κs (F (gone r)) 3 fs xs)) _ (lays 𝓤 H A E W κs qs (F (gone r)) 3 fs xs front-in)
-            (g-pre 𝓤 H A W 𝓣 E G0 G0 _ Δ (give s-known) _ (g-shs-known 𝓤 H A W (fInt w8) E G0 1 0 (bytes (named 0) imm) (lease (κs .0) (qs .0)) 0 (λ x. x) (record { fits = lit< tt }) (as-is 𝓤 H A (sslice byte (bytes (named 0) imm) 0)) refl tt)
-            (s-seq 𝓤 H A W 𝓣 E G0 G1 _ _ Δ (both s-load) _ (t-call-plain 𝓤 H A W 𝓣 1 ps-load (res t) (none-asked ps-load) Q-load table.name k-load E (λ pos β. β) G0 (record { pos = 2; ty = (places (named 1) imm); ref = λ x. x }, tt) 3 (1 ∷ []) (sub-id 𝓤 H A W (G0 .slots)) (spares-sslice 𝓤 H A W entry (places (named 1) imm) 1, reads-sslice 𝓤 H A W entry (places (named 1) imm) 1, refl, tt) (room-gone 𝓤 H A (type t)) (tt, tt) spot-t)
-            (s-seq 𝓤 H A W 𝓣 E G1 G2 _ _ Δ (both s-core) _ (t-call-further fs 3 (pShrS byte 0 tt ∷ arg t ∷ []) (res r) Q-core G1 (record { pos = 1; ty = (bytes (named 0) imm); ref = λ x. x }, (record { pos = 3; st = []; d = 0; at = λ x. x }, tt)) (pastU 4 (G1 .locals)) 0 βs 𝓤 H A W 𝓣 core E k-core (λ pos β. β) (sub-id 𝓤 H A W S)
-            (spares-sslice 𝓤 H A W byte (bytes (named 0) imm) 0, reads-sslice 𝓤 H A W byte (bytes (named 0) imm) 0, refl, ((copied t 𝓤 H A W, ap (λ (τ : Ty). some (τ, zero)) spot-t), has-all 𝓤 H A E βs (λ pos β. β) 3 fs (G1 .locals) (pastU 4 (G1 .locals)) (lends-past 𝓤 H A E 4 (G1 .locals)) (spots 𝓤 H A E 3 fs xs (tl (tl (tl bs))) here) refl))
+        abbrev rest : Rest 𝓤 H A W 𝓣 E Δ Γ
+        rest =
+            quiet (lays 𝓤 H A E W κs qs (F (gone r)) 3 fs xs front-in)
+            (quiet (g-shs-known 𝓤 H A W (fInt w8) E _ 1 0 (bytes (named 0) imm) (lease (κs .0) (qs .0)) 0 (λ x. x) (record { fits = lit< tt }) (as-is 𝓤 H A (sslice byte (bytes (named 0) imm) 0)) refl tt)
+            (step (t-call-plain 𝓤 H A W 𝓣 1 ps-load (res t) (none-asked ps-load) Q-load table.name k-load E (λ pos β. β) _ (record { pos = 2; ty = (places (named 1) imm); ref = λ x. x }, tt) 3 (1 ∷ []) (sub-id 𝓤 H A W _) (spares-sslice 𝓤 H A W entry (places (named 1) imm) 1, reads-sslice 𝓤 H A W entry (places (named 1) imm) 1, refl, tt) (room-gone 𝓤 H A (type t)) (tt, tt) spot-t)
+            (step (t-hands fs 3 4 (pShrS byte 0 tt ∷ arg t ∷ []) (res r) Q-core _ (record { pos = 1; ty = (bytes (named 0) imm); ref = λ x. x }, (record { pos = 3; st = []; d = 0; at = λ x. x }, tt)) (λ u. u) 0 βs 𝓤 H A W 𝓣 core E k-core (λ u. u) (spots 𝓤 H A E 3 fs xs (tl (tl (tl bs))) here) refl
+            (λ further. (spares-sslice 𝓤 H A W byte (bytes (named 0) imm) 0, reads-sslice 𝓤 H A W byte (bytes (named 0) imm) 0, refl, ((copied t 𝓤 H A W, ap (λ (τ : Ty). some (τ, zero)) spot-t), further)))
             (tt, lent-on (_ ∷ _ ∷ []) l (κs .1 .1) (qs .1 .1)) (room-gone 𝓤 H A (type r)) refl)
-            (g-pre 𝓤 H A W 𝓣 E G2 G3 _ Δ (pass G2 G3 (n-room G2 3 (type t))) _ (g-room 𝓤 H A W E G2 3 (type t) (room t 𝓤 H A W))
-            (g-pre 𝓤 H A W 𝓣 E G3 Γ′ _ Δ (pass G3 Γ′ (liftU κs (F (full r)) 3 fs xs)) _ (lifts 𝓤 H A E W κs qs (F (full r)) 3 fs xs front-out)
-            (t-return 𝓤 H A W 𝓣 E Δ tt))))))
+            (quiet (g-room 𝓤 H A W E _ 3 (type t) (room t 𝓤 H A W))
+            (quiet (lifts 𝓤 H A E W κs qs (F (full r)) 3 fs xs front-out)
+            (returns tt))))))
 
     module _ (ends : (m : List ℕ) (p : List Place) (x : Vals fs) (u : Scans) (z : r .ty .Denot) → Bytes m → u ≡ tableOf p → cpost m u x z → post m p x z) where
       pub meets : (w : World) (γ : routine.Env) (k : Name)
@@ -158,9 +118,10 @@ module _ (l : ℕ) (core : Name) (r : Plain) (fs : List (Further 2 1 0 l)) where
       meets w γ k closed k-load k-core =
           let W : Given (w .𝓤) (w .H) (w .𝓖 .A) = givenOf (w .𝓤) (w .H) (w .𝓜) (w .𝓖) in
           let 𝓣 : Tables (w .𝓤) (w .H) = Over (w .𝓤) (w .H) (w .𝓜) (w .𝓖) (w .𝓡) γ in
+          let k-table : Known (w .𝓤) (w .H) (w .𝓖 .A) W 𝓣 1 ps-load (res t) (none-asked ps-load) Q-load table.name = written.known-free 1 ps-load (res t) Q-load w γ table.name table.routine k-load (table-thm.met (w .𝓤) (w .H) (w .𝓜) (w .𝓖) (w .𝓡)) in
           written.close-free (up 2 l) ps (res r) Q-call w γ k _ closed
-          (t-fn-plain (w .𝓤) (w .H) (w .𝓖 .A) W 𝓣 (up 2 l) ps (res r) xs 0 [] body (λ κs qs bs. Φ κs qs)
-          (λ κs qs bs bd. typed κs qs (w .𝓤) (w .H) (w .𝓖 .A) W 𝓣 (written.known-free 1 ps-load (res t) Q-load w γ table.name table.routine k-load (table-thm.met (w .𝓤) (w .H) (w .𝓜) (w .𝓖) (w .𝓡))) k-core bs) (none-asked ps) Q-call
+          (t-fn-plain (w .𝓤) (w .H) (w .𝓖 .A) W 𝓣 (up 2 l) ps (res r) xs 0 [] body (λ κs qs bs. rest κs qs (w .𝓤) (w .H) (w .𝓖 .A) W 𝓣 k-table k-core bs .means)
+          (λ κs qs bs bd. rest κs qs (w .𝓤) (w .H) (w .𝓖 .A) W 𝓣 k-table k-core bs .typed) (none-asked ps) Q-call
           (λ κs qs a good pre bs. λ known. (
             λ κ. tt,
             λ g-load. (

@@ -9,22 +9,22 @@ use prog.Routine as routine
 use prog.Wp.{Closed, spotOf}
 use contract.Running.{tables, givenOf}
 use borrow.Fn.Written.{Holds}
-use borrow.Fn.Frame.{rowsFrom, from}
-use borrow.Fn.Function.{Γin, Γret, Δret}
-use borrow.Fn.Leases.{leases}
+use borrow.Fn.Frame.{from}
+use borrow.Fn.Function.{Γin, Δret}
 use base.Logic.{ent, id⊢}
-use borrow.Table.Row.{Entry, Rho, St, tl, out}
+use borrow.Table.Row.{Entry, Rho, St, tl}
 use borrow.Table.Own.{own}
 use Rattle.scans.specs.declared.Scans.{Scans}
 use Rattle.scans.specs.Table.{tableOf}
 use Rattle.lent.proofs.table.Symbol as table
 use Rattle.lent.proofs.table.Met as table-thm
-use Rattle.lent.proofs.Rules.{_≡_, refl, List, [], _∷_, ℕ, URA, some, Ty, Body, tyInt, named, imm, mut, w8, w64, copy, place, field, deref, seq, call, return, assign, addrOf, aggregate, Name, Heap, Tables, Env, Atoms, Given, Lfts, Shares, now, sliceTy, Row, Cx, Life, lease, off, alive, dead, sslice, any-gone, room-gone, as-is, Typed, Outs, TF, Both, Asks, Gives, both, ask, give, pass, atRet, t-return, s-seq, g-pre, n-room, g-room, oFld, g-begin, g-end, g-forget, reads-sslice, lenV, mslice, msleft, reads-mslice, mslice-owed, msptr, asMut, k-sl-relend, t-sl-relend, k-sl-aggregate, t-sl-aggregate, reads-owed-len, k-back-sl, g-back-sl, pShrS, spares-sslice, pMutS, fix-len, EnvOf, tysP, PK, Out, tyR, callB, sub-id, Known, t-call-plain, t-fn-plain, fnOf, Over, World, Place, byte, entry, bytes, places, memory-again, at, none-asked}
+use Rattle.lent.proofs.Rules.{_≡_, refl, List, [], _∷_, ℕ, URA, some, Ty, Body, tyInt, named, imm, mut, w8, copy, place, field, deref, seq, call, return, assign, addrOf, aggregate, Name, Heap, Tables, Env, Atoms, Given, Lfts, Shares, now, sliceTy, Row, Cx, Life, lease, sslice, room-gone, as-is, Outs, g-room, reads-sslice, mslice, reads-mslice, pShrS, spares-sslice, pMutS, fix-len, EnvOf, tysP, PK, Out, tyR, sub-id, Known, t-call-plain, t-fn-plain, fnOf, Over, World, Place, byte, entry, bytes, places, memory-again, at, none-asked}
 use Rattle.lent.proofs.Plain.{Plain, type, full, gone, arg, res, copied, room}
 use Rattle.lent.proofs.Types.{t}
 use Rattle.lent.proofs.Further.{Further}
-use Rattle.lent.proofs.Hands.{heres, handeds, rows, beyond, ats, Vals, see-all, sees-all, pastU, layU, liftU, lays, lifts, parts, t-call-further, has-all, lends-past, spots, spot-free, nth, Nth, sees-shown, shown-see, fixes, fresh-all}
+use Rattle.lent.proofs.Hands.{heres, handeds, beyond, ats, Vals, see-all, sees-all, lays, lifts, t-hands, spots, spot-free, nth, Nth, sees-shown, shown-see, fixes, fresh-all}
 use Rattle.lent.proofs.Tokens.{up, ins, del, ups, lent-on}
+use Rattle.lent.proofs.Chain.{Rest, step, quiet, returns, lend, back}
 use Rattle.lent.proofs.Written as written
 
 module _ (l : ℕ) (core : Name) (r : Plain) (fs : List (Further 2 1 1 l)) where
@@ -78,91 +78,11 @@ module _ (l : ℕ) (core : Name) (r : Plain) (fs : List (Further 2 1 1 l)) where
       abbrev F : Row → List Entry
       F l0 = (0, l0) ∷ (1, mslice byte own-m 0) ∷ list ∷ []
 
-      -- the locals and the slots whose content changes
-      abbrev G : Row → Row → Row → Row → Row → Life → Life → Cx
-      G l0 l1 lt lp ls s0 s2 =
-          record {
-            locals = (0, l0) ∷ (1, l1) ∷ list ∷ (T, lt) ∷ (suc T, lp) ∷ (suc (suc T), ls) ∷ rowsFrom 3 (rows fs);
-            slots = s0 ∷ lease (κs .1 .0) (qs .1 .0) ∷ s2 ∷ leases l (κs .1 .1) (qs .1 .1) 0;
-          }
-
-      abbrev mine : Row
-      mine = mslice byte own-m 0
-
-      abbrev owed : Row
-      owed = mslice-owed byte own-m 0 2 life-m
-
-      abbrev no-ptr : Row
-      no-ptr = any-gone memory-again
-
-      abbrev no-slice : Row
-      no-slice = any-gone (sliceTy memory-again)
-
-      abbrev G0 : Cx
-      G0 = G (gone r) mine (gone t) no-ptr no-slice life-m off
-
-      abbrev G1 : Cx
-      G1 = G (gone r) mine (full t) no-ptr no-slice life-m off
-
-      abbrev G2 : Cx
-      G2 = G (gone r) mine (full t) no-ptr no-slice life-m alive
-
-      abbrev G3 : Cx
-      G3 = G (gone r) owed (full t) (msptr byte memory-again 2) no-slice off alive
-
-      abbrev G4 : Cx
-      G4 = G (gone r) owed (full t) no-ptr (mslice byte memory-again 2) off alive
-
-      abbrev G5 : Cx
-      G5 = G (full r) owed (full t) no-ptr (msleft byte memory-again) off alive
-
-      abbrev G6 : Cx
-      G6 = G (full r) owed (gone t) no-ptr (msleft byte memory-again) off alive
-
-      abbrev G7 : Cx
-      G7 = G (full r) owed (gone t) no-ptr (msleft byte memory-again) off dead
-
-      abbrev G8 : Cx
-      G8 = G (full r) mine (gone t) no-ptr no-slice life-m dead
-
-      abbrev G9 : Cx
-      G9 = G (full r) mine (gone t) no-ptr no-slice life-m off
-
       abbrev Γ : Cx
       Γ = Γin (up 2 l) ps (res r) xs 0 κs qs
 
-      abbrev Γ′ : Cx
-      Γ′ = Γret (up 2 l) ps (res r) xs 0 κs qs
-
       abbrev Δ : Outs
       Δ = Δret (up 2 l) ps (res r) xs 0 κs qs
-
-      abbrev s-load : Both G0 G1
-      s-load = callB ps-load (res t) (none-asked ps-load) Q-load G0 (record { pos = 2; ty = (places (named 1) imm); ref = λ x. x }, tt) 3 (1 ∷ []) (type t)
-
-      abbrev s-lend : Gives G2 G3
-      s-lend = k-sl-relend byte G2 1 4 0 2 own-m memory-again life-m (λ x. x)
-
-      abbrev s-join : Asks G3 G4
-      s-join = k-sl-aggregate byte (asMut byte) G3 4 5 2 memory-again memory-again (λ x. x) (oFld 1 (field 1 ∷ []) (tyInt w64) 8 (λ v. lenV (v .0)))
-
-      abbrev s-core : Both G4 G5
-      s-core = parts fs 3 (pMutS byte 0 tt ∷ arg t ∷ []) (res r) Q-core G4 (record { pos = 5; ty = memory-again; ref = λ x. x }, (record { pos = 3; st = []; d = 0; at = λ x. x }, tt)) (pastU 6 (out 5 (G4 .locals))) 0 βs (type r)
-
-      abbrev s-back : Both G7 G8
-      s-back = k-back-sl byte G7 5 1 0 2 own-m memory-again life-m (λ x. x) (λ x. x)
-
-      abbrev Φ : TF Γ Δ
-      Φ Ψ =
-          pass Γ G0 (layU κs (F (gone r)) 3 fs xs)
-          (both s-load
-          (give s-lend
-          (ask s-join
-          (both s-core
-          (pass G5 G6 (n-room G5 3 (type t))
-          (both s-back
-          (pass G9 Γ′ (liftU κs (F (full r)) 3 fs xs)
-          (atRet Δ Ψ))))))))
 
       module _ {M : Type 1} (𝓤 : URA M) (H : Heap 𝓤) (A : Atoms 𝓤) (W : Given 𝓤 H A) (𝓣 : Tables 𝓤 H) (k-load : Known 𝓤 H A W 𝓣 1 ps-load (res t) (none-asked ps-load) Q-load table.name) (k-core : Known 𝓤 H A W 𝓣 (up 1 l) ps-core (res r) (none-asked ps-core) Q-core core) (bs : List ℕ) where
         abbrev E : Env 𝓤 H
@@ -183,22 +103,18 @@ module _ (l : ℕ) (core : Name) (r : Plain) (fs : List (Further 2 1 1 l)) where
         unfolding own
         front-out ρ u = id⊢ 𝓤 (own 𝓤 H A E ρ (F (full r)) u)
 
-        typed : Typed 𝓤 H A 𝓣 E Γ body Δ Φ
-        typed =
-            g-pre 𝓤 H A W 𝓣 E Γ G0 _ Δ (pass Γ G0 (layU κs (F (gone r)) 3 fs xs)) _ (lays 𝓤 H A E W κs qs (F (gone r)) 3 fs xs front-in)
-            (s-seq 𝓤 H A W 𝓣 E G0 G1 _ _ Δ (both s-load) _ (t-call-plain 𝓤 H A W 𝓣 1 ps-load (res t) (none-asked ps-load) Q-load table.name k-load E (λ pos β. β) G0 (record { pos = 2; ty = (places (named 1) imm); ref = λ x. x }, tt) 3 (1 ∷ []) (sub-id 𝓤 H A W (G0 .slots)) (spares-sslice 𝓤 H A W entry (places (named 1) imm) 1, reads-sslice 𝓤 H A W entry (places (named 1) imm) 1, refl, tt) (room-gone 𝓤 H A (type t)) (tt, tt) (spot 0 tt))
-            (g-pre 𝓤 H A W 𝓣 E G1 G2 _ Δ (λ Ψ. Ψ) _ (g-begin 𝓤 H A W E G1 2 (tt, (tt, (tt, (tt, (tt, (tt, fresh-all 2 tt 3 fs)))))))
-            (s-seq 𝓤 H A W 𝓣 E G2 G3 _ _ Δ (give s-lend) _ (t-sl-relend 𝓤 H A W E byte 𝓣 G2 1 4 0 2 own-m memory-again life-m 0 (λ x. x) (as-is 𝓤 H A mine) (room-gone 𝓤 H A memory-again) refl tt refl refl (spot 1 tt) (λ b o. tt))
-            (s-seq 𝓤 H A W 𝓣 E G3 G4 _ _ Δ (ask s-join) _ (t-sl-aggregate 𝓤 H A W E byte 𝓣 (asMut byte) G3 4 5 2 memory-again memory-again (λ x. x) (oFld 1 (field 1 ∷ []) (tyInt w64) 8 (λ v. lenV (v .0))) (as-is 𝓤 H A (msptr byte memory-again 2)) (room-gone 𝓤 H A (sliceTy memory-again)) (reads-owed-len 𝓤 H A W byte own-m 0 2 life-m 8 refl, refl) (spot 1 tt) (spot 2 tt) (λ b o k. tt))
-            (s-seq 𝓤 H A W 𝓣 E G4 G5 _ _ Δ (both s-core) _ (t-call-further fs 3 (pMutS byte 0 tt ∷ arg t ∷ []) (res r) Q-core G4 (record { pos = 5; ty = memory-again; ref = λ x. x }, (record { pos = 3; st = []; d = 0; at = λ x. x }, tt)) (pastU 6 (out 5 (G4 .locals))) 0 βs 𝓤 H A W 𝓣 core E k-core (λ pos β. β) (sub-id 𝓤 H A W (G4 .slots))
-            (as-is 𝓤 H A (mslice byte memory-again 2), reads-mslice 𝓤 H A W byte memory-again 2, spot 2 tt, ((copied t 𝓤 H A W, ap (λ (τ : Ty). some (τ, zero)) (spot 0 tt)), has-all 𝓤 H A E βs (λ pos β. β) 3 fs (out 5 (G4 .locals)) (pastU 6 (out 5 (G4 .locals))) (lends-past 𝓤 H A E 6 (out 5 (G4 .locals))) (spots 𝓤 H A E 3 fs xs (tl (tl (tl bs))) here) refl))
+        abbrev rest : Rest 𝓤 H A W 𝓣 E Δ Γ
+        rest =
+            quiet (lays 𝓤 H A E W κs qs (F (gone r)) 3 fs xs front-in)
+            (step (t-call-plain 𝓤 H A W 𝓣 1 ps-load (res t) (none-asked ps-load) Q-load table.name k-load E (λ pos β. β) _ (record { pos = 2; ty = (places (named 1) imm); ref = λ x. x }, tt) 3 (1 ∷ []) (sub-id 𝓤 H A W _) (spares-sslice 𝓤 H A W entry (places (named 1) imm) 1, reads-sslice 𝓤 H A W entry (places (named 1) imm) 1, refl, tt) (room-gone 𝓤 H A (type t)) (tt, tt) (spot 0 tt))
+            (lend byte (named 0) 0 2 life-m 1 4 5 1 (up 1 T) (up 2 T) (tt, (tt, (tt, (tt, (tt, (tt, fresh-all 2 tt 3 fs)))))) (λ x. x) refl (spot 1 tt) (spot 2 tt)
+            (step (t-hands fs 3 6 (pMutS byte 0 tt ∷ arg t ∷ []) (res r) Q-core _ (record { pos = 5; ty = memory-again; ref = λ x. x }, (record { pos = 3; st = []; d = 0; at = λ x. x }, tt)) (λ u. u) 0 βs 𝓤 H A W 𝓣 core E k-core (λ u. u) (spots 𝓤 H A E 3 fs xs (tl (tl (tl bs))) here) refl
+            (λ further. (as-is 𝓤 H A (mslice byte memory-again 2), reads-mslice 𝓤 H A W byte memory-again 2, spot 2 tt, ((copied t 𝓤 H A W, ap (λ (τ : Ty). some (τ, zero)) (spot 0 tt)), further)))
             (tt, lent-on (_ ∷ _ ∷ _ ∷ []) l (κs .1 .1) (qs .1 .1)) (room-gone 𝓤 H A (type r)) refl)
-            (g-pre 𝓤 H A W 𝓣 E G5 G6 _ Δ (pass G5 G6 (n-room G5 3 (type t))) _ (g-room 𝓤 H A W E G5 3 (type t) (room t 𝓤 H A W))
-            (g-pre 𝓤 H A W 𝓣 E G6 G7 _ Δ (λ Ψ. Ψ) _ (g-end 𝓤 H A W E G6 2 refl)
-            (g-pre 𝓤 H A W 𝓣 E G7 G8 _ Δ (both s-back) _ (g-back-sl 𝓤 H A W E byte G7 5 1 0 2 own-m memory-again life-m (λ x. x) (λ x. x) (as-is 𝓤 H A (msleft byte memory-again)) (as-is 𝓤 H A owed) refl refl)
-            (g-pre 𝓤 H A W 𝓣 E G8 G9 _ Δ (λ Ψ. Ψ) _ (g-forget 𝓤 H A W E G8 2 dead refl)
-            (g-pre 𝓤 H A W 𝓣 E G9 Γ′ _ Δ (pass G9 Γ′ (liftU κs (F (full r)) 3 fs xs)) _ (lifts 𝓤 H A E W κs qs (F (full r)) 3 fs xs front-out)
-            (t-return 𝓤 H A W 𝓣 E Δ tt)))))))))))
+            (quiet (g-room 𝓤 H A W E _ 3 (type t) (room t 𝓤 H A W))
+            (back byte (named 0) 0 2 life-m 5 1 (λ x. x)
+            (quiet (lifts 𝓤 H A E W κs qs (F (full r)) 3 fs xs front-out)
+            (returns tt)))))))
 
     module _ (ends : (m : List ℕ) (p : List Place) (x : Vals fs) (u : Scans) (z : r .ty .Denot) (m′ : List ℕ) → u ≡ tableOf p → cpost m u x z m′ → post m p x z m′) where
       pub meets : (w : World) (γ : routine.Env) (k : Name)
@@ -209,9 +125,10 @@ module _ (l : ℕ) (core : Name) (r : Plain) (fs : List (Further 2 1 1 l)) where
       meets w γ k closed k-load k-core =
           let W : Given (w .𝓤) (w .H) (w .𝓖 .A) = givenOf (w .𝓤) (w .H) (w .𝓜) (w .𝓖) in
           let 𝓣 : Tables (w .𝓤) (w .H) = Over (w .𝓤) (w .H) (w .𝓜) (w .𝓖) (w .𝓡) γ in
+          let k-table : Known (w .𝓤) (w .H) (w .𝓖 .A) W 𝓣 1 ps-load (res t) (none-asked ps-load) Q-load table.name = written.known-free 1 ps-load (res t) Q-load w γ table.name table.routine k-load (table-thm.met (w .𝓤) (w .H) (w .𝓜) (w .𝓖) (w .𝓡)) in
           written.close-free (up 2 l) ps (res r) Q-call w γ k _ closed
-          (t-fn-plain (w .𝓤) (w .H) (w .𝓖 .A) W 𝓣 (up 2 l) ps (res r) xs 0 [] body (λ κs qs bs. Φ κs qs)
-          (λ κs qs bs bd. typed κs qs (w .𝓤) (w .H) (w .𝓖 .A) W 𝓣 (written.known-free 1 ps-load (res t) Q-load w γ table.name table.routine k-load (table-thm.met (w .𝓤) (w .H) (w .𝓜) (w .𝓖) (w .𝓡))) k-core bs) (none-asked ps) Q-call
+          (t-fn-plain (w .𝓤) (w .H) (w .𝓖 .A) W 𝓣 (up 2 l) ps (res r) xs 0 [] body (λ κs qs bs. rest κs qs (w .𝓤) (w .H) (w .𝓖 .A) W 𝓣 k-table k-core bs .means)
+          (λ κs qs bs bd. rest κs qs (w .𝓤) (w .H) (w .𝓖 .A) W 𝓣 k-table k-core bs .typed) (none-asked ps) Q-call
           (λ κs qs a good pre bs. (
             λ κ. tt,
             λ g-load. λ lent. (

@@ -1,9 +1,9 @@
--- `replies::encode` meets its contract: in each arm the case is known, and the definition computes.
+-- `deskrook::reply::encode` meets its contract: in each arm the case is known, and the definition computes.
 use mir.Syntax.{w32, w64}
 use mir.ValLaws.{toZ-ofZ}
 use borrow.Author.Needs.{needs}
-use Rattle.replies.proofs.encode.Statement.{statement}
-use Rattle.replies.proofs.encode.Tie as tie
+use Rattle.deskrook.proofs.reply.encode.Statement.{statement}
+use Rattle.deskrook.proofs.reply.encode.Tie as tie
 
 pub encode-spec : {M : Type 1} → statement M
 encode-spec =

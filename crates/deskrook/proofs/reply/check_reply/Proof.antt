@@ -1,10 +1,10 @@
--- `replies::check_reply` meets its contract.
+-- `deskrook::reply::check_reply` meets its contract.
 use borrow.Author.Needs.{needs}
 use mathlib.Core.Path.{sym, ap, _∙_}
-use Rattle.replies.specs.Replies.{replyOf}
-use Rattle.replies.proofs.Tested.{tested}
-use Rattle.replies.proofs.check_reply.Statement.{statement}
-use Rattle.replies.proofs.check_reply.Tie as tie
+use Rattle.deskrook.specs.Replies.{replyOf}
+use Rattle.deskrook.proofs.Tested.{tested}
+use Rattle.deskrook.proofs.reply.check_reply.Statement.{statement}
+use Rattle.deskrook.proofs.reply.check_reply.Tie as tie
 
 returns : tie.Need-returns
 returns c ps e = c .encode .ensures ∙ ap replyOf (tested _ ps _ (sym (c .before .enum-told .given .1) ∙ c .before .before .before .check .ensures .0 ps e))

@@ -10,7 +10,7 @@ use Rattle.words.specs.Words.{words}
 use Rattle.facts.specs.declared.Checked.{Checked}
 use Rattle.facts.specs.declared.Checked.the-variants.{Fit, Unfit}
 use Rattle.facts.specs.Usable.{storedSizes, usable, checked}
-use Rattle.replies.specs.Replies.{usability}
+use Rattle.deskrook.specs.Replies.{usability}
 
 abbrev pub passed : Checked → Answer
 passed (Fit s) = Answer.Done

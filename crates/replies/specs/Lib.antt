@@ -1,2 +1,0 @@
--- The answer as C takes it, and what the exports' cores promise.
-pub mod Replies

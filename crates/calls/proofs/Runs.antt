@@ -22,15 +22,15 @@ use Rattle.facts.proofs.Usable.{usable-tells}
 use Rattle.history.proofs.Lists.{is-true, refuted, clash}
 use Rattle.history.specs.History.{Call, Verdict, accept, refuse}
 use Rattle.model.specs.Calls.{placesAfter, placesIf, placesNext}
-use Rattle.promise.specs.Promise.{storeView, answerOf, listAfter, answersOf, Serves}
+use Rattle.promise.specs.Promise.{storeView, answerOf, listAfter, answersOf, Serves, Makes}
 use Rattle.promise.specs.Demands.{Accepted, memoryLeft, listLeft, storeAnswers, storeMemory, storeList, storeAnswerAt, ReadIn, Refuses, RefusedKeeps, ReadsCommitted, PagesCommitted, Demand3, StrikingStore, StabilityStore}
 use Rattle.promise.specs.Stated.{conditions}
 use Rattle.promise.proofs.Demands.{demand3, reads-committed, pages-committed, striking-store, stability-store}
 use Rattle.promise.proofs.Refused.{refused-keeps}
 use Rattle.promise.proofs.Stated.{refuses}
 use Rattle.making.specs.Made.{madeView, made}
-use Rattle.lent.specs.Lent.{isAccepted, freedIf}
-use Rattle.calls.specs.Serves.{Makes}
+use Rattle.terms.specs.Refusals.{isAccepted}
+use Rattle.scans.specs.Places.{freedIf}
 use Rattle.calls.specs.Runs.{Run, ends, goes, ReadAmong, LentRefused, LentKept, MakingKept, LentReads, LentPages, LentAnswers, LentStriking, LentStability, MakingFrees, OnePlace, ShortRefused}
 
 -- ---- what a run answers and leaves

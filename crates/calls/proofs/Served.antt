@@ -13,7 +13,8 @@ use Rattle.making.specs.Made.{made}
 use Rattle.promise.specs.Promise.{Serves, ServesBy}
 use Rattle.upkeep.specs.declared.Listed.{Listed}
 use Rattle.upkeep.specs.Lists.{changedAt}
-use Rattle.lent.specs.Lent.{isAccepted, freedIf}
+use Rattle.terms.specs.Refusals.{isAccepted}
+use Rattle.scans.specs.Places.{freedIf}
 
 -- it changes a place of the list, and answers as the core does
 pub listed : (c : Call) (m : List ℕ) (t : Scans) (x : Listed) (z : Answer) (m′ : List ℕ) (ps ps′ : List Place) → t ≡ tableOf ps

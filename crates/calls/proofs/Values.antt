@@ -7,7 +7,7 @@ use lib.IntN.{ℤ, pos}
 use lib.ListN.{length, getD, set, take, replicate, List·getD-append, getD-replicate, length-append}
 use lib.Seq.{getD-take, getD-append-add, take-suc, take-suc-set, take-all, length-take-le}
 use Rattle.terms.specs.Measures.{mostColumns}
-use Rattle.calls.specs.Serves.{sixteen}
+use Rattle.calls.specs.Values.{sixteen}
 
 abbrev zeros : List ℤ
 zeros = replicate mostColumns (pos 0)

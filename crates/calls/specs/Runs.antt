@@ -20,9 +20,8 @@ use Rattle.history.specs.Latest.{lastCommitted}
 use Rattle.history.specs.Lists.{All}
 use Rattle.model.specs.Calls.{Typed}
 use Rattle.model.specs.Claims.{historyAfter, PageHolds}
-use Rattle.promise.specs.Promise.{storeView, Serves}
+use Rattle.promise.specs.Promise.{storeView, Serves, Makes}
 use Rattle.promise.specs.Stated.{conditions, First, NoneApplies}
-use Rattle.calls.specs.Serves.{Makes}
 
 -- A run: calls over one memory and one list, "each lent the same memory and scan list, whole, as the last one left them", with their answers and what the last
 -- one left. What one call promises is `serves`: of these calls it is `Serves`.

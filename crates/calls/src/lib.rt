@@ -19,8 +19,8 @@ ghost use lib.IntN.{pos};
 ghost use lib.ListN.{getD};
 ghost use Rattle.layout.specs.Sizes.{shapeOf, BytesTold};
 ghost use Rattle.history.specs.History.{Call};
-ghost use Rattle.promise.specs.Promise.{Serves, ServesBy, kept};
-ghost use Rattle.calls.specs.Serves.{Makes, sixteen};
+ghost use Rattle.promise.specs.Promise.{Serves, ServesBy, kept, Makes};
+ghost use Rattle.calls.specs.Values.{sixteen};
 
 // ---- the values lent with a call
 

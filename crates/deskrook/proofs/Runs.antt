@@ -16,12 +16,11 @@ use Rattle.layout.specs.View.{lay}
 use Rattle.making.specs.Made.{madeView, made}
 use Rattle.history.specs.History.{Call}
 use Rattle.history.specs.Claims.{isPlain, kind, strike, plainAnswers}
-use Rattle.calls.specs.Serves.{Serves, Makes}
+use Rattle.promise.specs.Promise.{Serves, Makes}
 use Rattle.calls.specs.Runs.{Run, ends, goes, ReadAmong, LentRefused, LentKept, MakingKept, LentReads, LentPages, LentAnswers, LentStriking, LentStability}
 use Rattle.calls.proofs.Runs.{lent-refused, lent-kept, making-kept, lent-reads, lent-pages, lent-answers, lent-striking, lent-stability}
 use Rattle.deskrook.specs.declared.reply.Reply.{Reply}
-use Rattle.deskrook.specs.Replies.{replyOf}
-use Rattle.deskrook.specs.Replies.{Replies, RepliesMade}
+use Rattle.deskrook.specs.Replies.{replyOf, Replies, RepliesMade}
 use Rattle.deskrook.specs.Runs.{AcceptedReply, replyAt, ReadReplied, ExportRefused, ExportKept, ExportMakingKept, ExportReads, ExportPages, ExportAnswers, ExportStriking, ExportStability}
 use Rattle.deskrook.proofs.Results.{refused-result, accepted-result}
 

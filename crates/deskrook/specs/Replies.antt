@@ -13,7 +13,7 @@ use Rattle.terms.specs.declared.Place.{Place}
 use Rattle.terms.specs.declared.Refusal.{Refusal}
 use Rattle.facts.specs.Usable.{usable}
 use Rattle.history.specs.History.{Call}
-use Rattle.calls.specs.Serves.{Serves, Makes}
+use Rattle.promise.specs.Promise.{Serves, Makes}
 use Rattle.deskrook.specs.declared.reply.Reply.{Reply}
 
 abbrev pub replyOf : Answer → Reply

@@ -14,7 +14,7 @@ use terms::Transaction;
 ghost use mathlib.Core.Path.{_≡_};
 ghost use Rattle.layout.specs.Sizes.{shapeOf, BytesTold};
 ghost use Rattle.history.specs.History.{Call};
-ghost use Rattle.calls.specs.Serves.{sixteen};
+ghost use Rattle.calls.specs.Values.{sixteen};
 ghost use Rattle.deskrook.specs.Replies.{replyOf, usability, Replied, Replies, RepliesMade};
 
 // A transaction is opened; the answer is its number.

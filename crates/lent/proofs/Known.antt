@@ -4,7 +4,8 @@ use mir.Syntax.{w64}
 use prog.Routine as routine
 use contract.Running.{givenOf}
 use Rattle.scans.specs.Table.{tableOf}
-use Rattle.lent.specs.Lent.{isAccepted, freedIf}
+use Rattle.terms.specs.Refusals.{isAccepted}
+use Rattle.scans.specs.Places.{freedIf}
 use Rattle.lent.proofs.Rules.{_≡_, List, [], _∷_, now, PK, Out, rUnit, pShrS, pMutS, entry, Known, Over, World}
 use Rattle.lent.proofs.Plain.{arg, res, number}
 use Rattle.lent.proofs.Types.{t, d, answer}

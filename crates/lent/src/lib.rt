@@ -12,9 +12,9 @@ ghost use mathlib.Core.Path.{_≡_};
 ghost use Prim.Native.Nat.{_<_};
 ghost use lib.ListN.{length, getD, set};
 ghost use Rattle.terms.specs.Places.{freePlace};
-ghost use Rattle.scans.specs.Places.{allFreed};
+ghost use Rattle.scans.specs.Places.{allFreed, freedIf};
 ghost use Rattle.scans.specs.Table.{tableOf};
-ghost use Rattle.lent.specs.Lent.{isAccepted, freedIf};
+ghost use Rattle.terms.specs.Refusals.{isAccepted};
 
 // The record of a free place.
 fn free_place() -> Place

@@ -5,6 +5,9 @@ use mathlib.Core.Bool.{cond}
 use mathlib.Core.List.{List, [], _∷_}
 use mathlib.Core.Path.{_≡_}
 use Prim.Native.Nat.{ℕ}
+use lib.ListN.{length}
+use Rattle.terms.specs.Measures.{Shape}
+use Rattle.terms.specs.Refusals.{isAccepted}
 use Rattle.terms.specs.declared.Place.{Place}
 use Rattle.terms.specs.declared.Refusal.{Refusal}
 use Rattle.terms.specs.declared.Answer.{Answer}
@@ -12,7 +15,9 @@ use Rattle.words.specs.Words.{words}
 use Rattle.layout.specs.View.{View, view, lay}
 use Rattle.history.specs.History.{Call}
 use Rattle.scans.specs.declared.Scans.{Scans}
+use Rattle.scans.specs.Places.{freedIf}
 use Rattle.scans.specs.Table.{tableOf}
+use Rattle.making.specs.Made.{made}
 use Rattle.facts.specs.Usable.{storedShape, storedSizes, usable}
 use Rattle.model.specs.Calls.{say, viewNext, placesNext}
 
@@ -47,3 +52,7 @@ ServesBy t m c r m′ next = (ps : List Place) → t ≡ tableOf ps → Serves m
 -- a list that is left as it is
 abbrev pub kept : List Place → List Place
 kept ps = ps
+
+-- a store of the shape S is to be made in them: the list is freed if it is
+unfoldable pub Makes : List ℕ → List Place → Shape → Answer → List ℕ → List Place → Type 0
+Makes m ps S r m′ ps′ = (r ≡ made S (length ps) m .0) × (m′ ≡ made S (length ps) m .1) × (ps′ ≡ freedIf (isAccepted (made S (length ps) m .0)) ps)

@@ -12,12 +12,12 @@ use Rattle.scans.specs.declared.Scans.{Scans}
 use Rattle.scans.specs.Table.{tableOf}
 use Rattle.making.specs.Made.{made}
 use Rattle.history.specs.History.{Call}
-use Rattle.promise.specs.Promise.{Answers, Leaves}
+use Rattle.promise.specs.Promise.{Answers, Leaves, Serves, Makes}
 use Rattle.upkeep.specs.declared.Listed.{Listed}
 use Rattle.upkeep.specs.Lists.{Lists}
 use Rattle.commands.specs.declared.Request.{Request}
-use Rattle.lent.specs.Lent.{isAccepted, freedIf}
-use Rattle.calls.specs.Serves.{Serves, Makes}
+use Rattle.terms.specs.Refusals.{isAccepted}
+use Rattle.scans.specs.Places.{freedIf}
 use Rattle.calls.proofs.Served.{Reads, KeepsList, memory-kept, list-kept}
 use Rattle.requests.specs.Asked.{asked}
 

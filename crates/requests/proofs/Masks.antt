@@ -17,8 +17,7 @@ use Rattle.layout.proofs.Limits.{proper}
 use Rattle.facts.specs.Usable.{storedShape, storedSizes, usable}
 use Rattle.history.specs.History.{update, Verdict, refuse, verdict, answerIf, badMask}
 use Rattle.model.specs.Calls.{notOpenIn, notGivenIn, testsIn, replyIn, actIn, placesAfter, viewIf, say, viewNext}
-use Rattle.promise.specs.Promise.{storeView, answerOf, memoryAfter}
-use Rattle.calls.specs.Serves.{Serves}
+use Rattle.promise.specs.Promise.{storeView, answerOf, memoryAfter, Serves}
 use Rattle.facts.proofs.Usable.{usable-tells}
 use native.Mathlib.Nat.{pow-le-pow-right}
 use Rattle.calls.proofs.Served.{list-kept}

@@ -24,8 +24,7 @@ use Rattle.commands.specs.declared.Kind.{Kind}
 use Rattle.commands.specs.declared.Request.{Request}
 use Rattle.commands.specs.Commands.{callOf}
 use Rattle.commands.specs.Decoded.{callIn, ZerosPast}
-use Rattle.promise.specs.Promise.{storeView, answerOf, memoryAfter, listAfter}
-use Rattle.calls.specs.Serves.{Serves}
+use Rattle.promise.specs.Promise.{storeView, answerOf, memoryAfter, listAfter, Serves}
 use Rattle.requests.specs.Asked.{asked}
 
 abbrev Agree : List ℤ → List ℤ → Type 0

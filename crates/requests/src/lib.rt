@@ -37,7 +37,7 @@ ghost use Rattle.packed.specs.Packed.{placesOf};
 ghost use Rattle.scans.specs.Table.{tableOf};
 ghost use Rattle.layout.specs.Sizes.{shapeOf};
 ghost use Rattle.history.specs.History.{Call};
-ghost use Rattle.calls.specs.Serves.{Serves, Makes};
+ghost use Rattle.promise.specs.Promise.{Serves, Makes};
 ghost use Rattle.requests.specs.Asked.{asked};
 
 // A store is made, and with it every place of the list becomes free.

@@ -46,3 +46,7 @@ differ (x ∷ l) = (eqb x 0 || not (among x l)) && differ l
 -- as many places, each free
 abbrev pub allFreed : List Place → List Place
 allFreed ps = replicate (length ps) freePlace
+
+-- the places of a list, all freed if a store was made
+abbrev pub freedIf : Bool → List Place → List Place
+freedIf b ps = cond b (allFreed ps) ps

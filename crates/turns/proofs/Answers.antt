@@ -18,7 +18,7 @@ use Rattle.commands.specs.Commands.{width, callFrom, shapeBytes, shapeFrom, Nar
 use Rattle.commands.specs.Decoded.{callIn, ZerosPast}
 use Rattle.output.specs.Output.{lent, goesOn}
 use Rattle.output.specs.Steps.{answerTo, stateAfter, Step}
-use Rattle.calls.specs.Serves.{Serves, Makes}
+use Rattle.promise.specs.Promise.{Serves, Makes}
 use Rattle.requests.specs.Asked.{asked}
 use Rattle.requests.proofs.Values.{served-call}
 use Rattle.turns.specs.Turns.{Store, makingAnswer, madeStore, firstAnswer, firstStore, columnsFrom, operandWidth, Does, Turned}

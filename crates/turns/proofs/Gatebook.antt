@@ -27,7 +27,8 @@ use Rattle.output.proofs.Steps.{lent-within, written-is-output}
 use Rattle.promise.specs.Promise.{answersOf}
 use Rattle.promise.specs.Demands.{Accepted, memoryMade, storeAnswers, MakingAccepted, Demand3}
 use Rattle.promise.proofs.Demands.{making-accepted, demand3}
-use Rattle.lent.specs.Lent.{isAccepted, freedIf}
+use Rattle.terms.specs.Refusals.{isAccepted}
+use Rattle.scans.specs.Places.{freedIf}
 use Rattle.turns.specs.Turns.{Store, storeMachine, makingAnswer, madeStore, firstAnswer, firstStore, columnsFrom, capped}
 use Rattle.turns.specs.Gatebook.{gatebook, largest, GatebookWrites}
 use Rattle.turns.proofs.Typed.{bytes-drop}

@@ -20,7 +20,8 @@ use Rattle.commands.specs.Commands.{width, shapeBytes, shapeFrom}
 use Rattle.output.specs.Output.{lent, goesOn}
 use Rattle.output.specs.Steps.{Machine, Step, answerTo, stateAfter}
 use Rattle.promise.specs.Promise.{answerOf, memoryAfter, listAfter}
-use Rattle.lent.specs.Lent.{isAccepted, freedIf}
+use Rattle.terms.specs.Refusals.{isAccepted}
+use Rattle.scans.specs.Places.{freedIf}
 use Rattle.turns.specs.declared.Outcome.{Outcome}
 
 -- ---- a store: the lent memory and the lent scan list

@@ -11,7 +11,7 @@ use Rattle.lent.proofs.laws.write as law
 use Rattle.calls.proofs.insert_values.Symbol as core
 use Rattle.calls.proofs.insert_values.Met as core-thm
 use Rattle.calls.proofs.insert_values.Reads as core-reads
-use Rattle.calls.specs.Serves.{sixteen}
+use Rattle.calls.specs.Values.{sixteen}
 use Rattle.calls.proofs.Types.{answer, transaction}
 use Rattle.calls.proofs.insert.Key as key
 use Rattle.calls.proofs.insert.Statement.{statement}

@@ -6,7 +6,8 @@ use contract.Running.{tablesOf}
 use borrow.Fn.World.{World}
 use Rattle.layout.specs.Sizes.{shapeOf}
 use Rattle.making.specs.Made.{made}
-use Rattle.lent.specs.Lent.{isAccepted, freedIf}
+use Rattle.terms.specs.Refusals.{isAccepted}
+use Rattle.scans.specs.Places.{freedIf}
 use Rattle.lent.proofs.Known.{len-known, made-known}
 use Rattle.lent.proofs.Further.{value}
 use Rattle.lent.proofs.laws.list as law
@@ -18,7 +19,7 @@ use Rattle.making.proofs.make.Reads as core-reads
 use Rattle.calls.proofs.told.Symbol as last
 use Rattle.calls.proofs.told.Met as last-thm
 use Rattle.calls.proofs.told.Reads as last-reads
-use Rattle.calls.specs.Serves.{Makes}
+use Rattle.promise.specs.Promise.{Makes}
 use Rattle.calls.proofs.Served.{made-so}
 use Rattle.calls.proofs.Types as type
 use Rattle.calls.proofs.make.Key as key

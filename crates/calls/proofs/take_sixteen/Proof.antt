@@ -5,7 +5,7 @@ use mathlib.Core.Path.{_≡_, refl, _∙_}
 use mir.Syntax.{w32}
 use mir.ValLaws.{toZ-ofZ}
 use lib.ListN.{length, take, length-set}
-use Rattle.calls.specs.Serves.{sixteen}
+use Rattle.calls.specs.Values.{sixteen}
 use Rattle.calls.proofs.Values.{sixteen-length, next-value, all-values}
 use Rattle.calls.proofs.take_sixteen.Statement.{statement}
 use Rattle.calls.proofs.take_sixteen.Tie as tie

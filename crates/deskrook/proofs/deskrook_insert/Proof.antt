@@ -7,7 +7,8 @@ use borrow.Fn.World.{World}
 use Rattle.history.specs.History.{Call}
 use Rattle.lent.proofs.Further.{value, shared}
 use Rattle.lent.proofs.laws.handed.{memory}
-use Rattle.calls.specs.Serves.{Serves, sixteen}
+use Rattle.promise.specs.Promise.{Serves}
+use Rattle.calls.specs.Values.{sixteen}
 use Rattle.calls.proofs.Types.{transaction}
 use Rattle.calls.proofs.insert.Symbol as call
 use Rattle.calls.proofs.insert.Met as call-thm

@@ -5,7 +5,7 @@ use borrow.Fn.World.{World}
 use Rattle.history.specs.History.{Call}
 use Rattle.lent.proofs.Further.{value}
 use Rattle.lent.proofs.laws.handed.{neither}
-use Rattle.calls.specs.Serves.{Serves}
+use Rattle.promise.specs.Promise.{Serves}
 use Rattle.calls.proofs.Types.{row, u32}
 use Rattle.calls.proofs.latest.Symbol as call
 use Rattle.calls.proofs.latest.Met as call-thm

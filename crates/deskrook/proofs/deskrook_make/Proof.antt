@@ -5,7 +5,7 @@ use borrow.Fn.World.{World}
 use Rattle.layout.specs.Sizes.{shapeOf}
 use Rattle.lent.proofs.Further.{value}
 use Rattle.lent.proofs.laws.handed.{both}
-use Rattle.calls.specs.Serves.{Makes}
+use Rattle.promise.specs.Promise.{Makes}
 use Rattle.calls.proofs.Types.{u32}
 use Rattle.calls.proofs.make.Symbol as call
 use Rattle.calls.proofs.make.Met as call-thm

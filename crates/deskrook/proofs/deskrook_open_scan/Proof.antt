@@ -5,7 +5,7 @@ use borrow.Fn.World.{World}
 use Rattle.history.specs.History.{Call}
 use Rattle.lent.proofs.Further.{value}
 use Rattle.lent.proofs.laws.handed.{both}
-use Rattle.calls.specs.Serves.{Serves}
+use Rattle.promise.specs.Promise.{Serves}
 use Rattle.calls.proofs.Types.{stamp}
 use Rattle.calls.proofs.open_scan.Symbol as call
 use Rattle.calls.proofs.open_scan.Met as call-thm

@@ -7,7 +7,8 @@ use borrow.Fn.World.{World}
 use Rattle.history.specs.History.{Call}
 use Rattle.lent.proofs.Further.{value, shared}
 use Rattle.lent.proofs.laws.handed.{memory}
-use Rattle.calls.specs.Serves.{Serves, sixteen}
+use Rattle.promise.specs.Promise.{Serves}
+use Rattle.calls.specs.Values.{sixteen}
 use Rattle.calls.proofs.Types.{row, transaction, u16}
 use Rattle.calls.proofs.update.Symbol as call
 use Rattle.calls.proofs.update.Met as call-thm

@@ -3,8 +3,8 @@
 use mathlib.Core.Path.{sym, ap, _∙_}
 use mathlib.Core.Bool.{Bool}
 use contract.Running.{tablesOf, givenOf}
-use Rattle.scans.specs.Places.{allFreed}
-use Rattle.lent.specs.Lent.{isAccepted, freedIf}
+use Rattle.scans.specs.Places.{allFreed, freedIf}
+use Rattle.terms.specs.Refusals.{isAccepted}
 use Rattle.lent.proofs.Rules.{_≡_, refl, List, [], _∷_, ℕ, URA, some, none, Ty, Body, tyInt, tyBool, tyUnit, named, mut, w64, place, field, seq, call, return, assign, rvOpd, cond, skip, opdUnit, valueLocal, Home, Heap, Tables, Env, Atoms, Given, Lfts, Shares, now, sliceTy, Row, Cx, Life, lease, off, alive, dead, valS, sBool, sUnit, any-gone, sc-here, room-gone, as-is, Typed, Outs, TF, Tf, Both, Asks, Gives, both, ask, give, pass, atRet, atNext, withNext, wantNext, t-return, t-skip, t-seq, s-typed, s-seq, g-pre, g-post, n-room, g-room, n-use, t-use, t-cond, Φcond, oFld, oUnit, reads-sc, holds-sc, room-sc, g-begin, g-end, g-forget, lenV, mslice, msleft, reads-mslice, mslice-owed, msptr, asMut, k-sl-relend, t-sl-relend, k-sl-aggregate, t-sl-aggregate, reads-owed-len, k-back-sl, g-back-sl, pMutS, fix-len, EnvOf, tysP, PK, Out, rBool, rUnit, tyR, callB, sub-id, Known, t-call-plain, t-fn-plain, Over, World, entry, places, flag, no-flag, none-asked, list-again, at, points, joins}
 use Rattle.lent.proofs.Plain.{type, full, gone, arg, copied, room}
 use Rattle.lent.proofs.Types.{answer}

@@ -11,8 +11,7 @@ use Rattle.history.specs.History.{Call, update}
 use Rattle.scans.specs.declared.Scans.{Scans}
 use Rattle.terms.specs.declared.Answer.{Answer}
 use Rattle.model.specs.Calls.{actIn, placesAfter}
-use Rattle.promise.specs.Promise.{Answers, Leaves}
-use Rattle.calls.specs.Serves.{Serves}
+use Rattle.promise.specs.Promise.{Answers, Leaves, Serves}
 use Rattle.calls.proofs.Served.{Reads, KeepsList}
 use Rattle.commands.specs.declared.Kind.{Kind}
 use Rattle.commands.specs.declared.Request.{Request}

@@ -10,9 +10,10 @@ use Rattle.calls.proofs.insert_values.Tie as tie
 
 returns : tie.Need-returns
 returns c =
-    let s = c .before .before .before .before .before .before in
+    let take-sixteen : tie.After-take-sixteen = search in
+    let s : tie.Start = search in
     subst (λ (vs : List ℤ). ServesBy (s .args .t) (s .args .mem .now) (Call.insert (s .args .transaction .0) vs) (c .before .before .insert .result) (c .before .before .insert .last .0) kept)
-    (c .before .before .before .before .take-sixteen .ensures) (c .before .before .insert .ensures)
+    (take-sixteen .take-sixteen .ensures) (c .before .before .insert .ensures)
 
 pub insert-values-spec : {M : Type 1} → statement M
 insert-values-spec = tie.close (tie.spec (λ c κs. search needs) (λ c κs. search needs) (λ c. search needs) returns)

@@ -19,8 +19,9 @@ abbrev μ-loop : tie.MeasureT-loop
 
 loop-again : tie.Need-loop-again Inv-loop μ-loop
 loop-again c =
+    let start : tie.Start Inv-loop μ-loop = search in
     let loop = c .before .before .loop in
-    let m = c .before .before .before .args .values .now in
+    let m = start .args .values .now in
     let e = toZ-ofZ w32 (c .value-at .result) record { sfits = c .value-at .ok } in (
       omega arith,
       length-set (loop .taken) (loop .i) _ ∙ loop .inv .1,

@@ -11,7 +11,7 @@ use Rattle.calls.proofs.value_at.Tie as tie
 
 returns : tie.Need-returns
 returns c =
-    let start = c .before .before in
+    let start : tie.Start = search in
     let vs = start .args .values .now in
     toZ-ofZ w32 (getD vs (start .args .i) (pos 0)) (record { sfits = c .result .given }) ∙ sym (value-in vs (start .args .i) (start .pre) (c .before .if1 .taken))
 

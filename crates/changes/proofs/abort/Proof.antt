@@ -14,31 +14,36 @@ use Rattle.changes.proofs.abort.Tie as tie
 fit : (c : tie.After-known-told)
     → let start = c .before .before .before .before .before .before in
     Entered (c .before .s .given .0 .0) (c .before .s .given .0 .1 .0) (start .args .mem .now) (start .args .scans)
-fit c = entered _ _ _ _ _ (c .before .s .given .1) (c .before .before .before .enter .ensures)
+fit c =
+    let enter : tie.After-enter = search in
+    entered _ _ _ _ _ (c .before .s .given .1) (enter .enter .ensures)
 
 abort-requires : tie.Need-abort-requires
 abort-requires c κs =
-    let passed = c .before .before in
-    let tests = passed .before .before in
-    let e = fit (tests .before .before) in
+    let known-told : tie.After-known-told = search in
+    let passed : tie.After-at = search in
+    let tests : tie.After-abort-tests = search in
+    let e = fit known-told in
     let f = part-fitted e in
     let k = rw (passed .at .given .1) at (tests .abort-tests .ensures .1) in
     (f .room, (f .proper, (counted _ _ (f .linked), k .low)))
 
 returns-2 : tie.Need-returns-2
 returns-2 c =
-    let tests = c .before .before .before in
-    let known = tests .before .before in
+    let slice-known : tie.After-slice-known = search in
+    let tests : tie.After-abort-tests = search in
+    let known : tie.After-known-told = search in
     failed-serves (fit known) _ _ _ (c .before .x .given .1) (by-any (fit known) _ _ (tests .abort-tests .ensures .0))
-    (λ k. omega (arith, known .before .before .before .before .before .slice-known .given k))
+    (λ k. omega (arith, slice-known .slice-known .given k))
 
 returns-3 : tie.Need-returns-3
 unfolding replyIn actIn placesAfter
 returns-3 c =
-    let act = c .before .before in
-    let passed = act .before .before .before in
-    let tests = passed .before .before in
-    let e = fit (tests .before .before) in
+    let known-told : tie.After-known-told = search in
+    let act : tie.After-abort = search in
+    let passed : tie.After-at = search in
+    let tests : tie.After-abort-tests = search in
+    let e = fit known-told in
     let k = rw (passed .at .given .1) at (tests .abort-tests .ensures .1) in
     write-serves e _ _ _ (passed .at .given .1) (by-any e _ _ (tests .abort-tests .ensures .0)) _ _ kept (act .abort .kept .0)
     (λ k. omega (arith, c .slice-known2 .given k)) (λ ps q few. (refl, act .abort .ensures _ (rw (part-seen e) k), refl))
@@ -55,8 +60,8 @@ abort-spec =
     (λ c κs. fit (c .before) .fitted)
     (λ c. search needs)
     (λ c. search needs)
-    (λ c. part-in (fit (c .before .before .before .before .before)))
-    (λ c. part-long (fit (c .before .before .before .before .before .before)))
+    (λ c. let abort-tests-arg : tie.After-abort-tests-arg = search in part-in (fit (abort-tests-arg .before)))
+    (λ c. let abort-tests-arg : tie.After-abort-tests-arg = search in part-long (fit (abort-tests-arg .before)))
     abort-requires
     (λ c. search needs)
     returns-2

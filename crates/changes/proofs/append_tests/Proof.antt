@@ -16,29 +16,29 @@ returns c = (rw (← c .before .held .ensures, c .if1 .taken), tt)
 returns-2 : tie.Need-returns-2
 unfolding verdict
 returns-2 c =
-    let held = c .before .before in
+    let held : tie.Else1 = search in
     (rw (← held .before .held .ensures, held .if1 .left, ← c .before .gone .ensures, c .if2 .taken), tt)
 
 lacks-records-requires : tie.Need-lacks-records-requires
 lacks-records-requires c κs =
-    let start = c .before .before .before .before .before in
+    let start : tie.Start = search in
     let fit = start .pre .0 in
     (fit .room, rw (start .pre .1 .2) (row-in _ (fit .proper) _ (fit .linked) _ (start .pre .1 .1) .1))
 
 returns-3 : tie.Need-returns-3
 unfolding verdict
 returns-3 c =
-    let gone = c .before .before in
-    let held = gone .before .before in
-    let start = held .before .before .before in
+    let gone : tie.Else2 = search in
+    let held : tie.Else1 = search in
+    let start : tie.Start = search in
     (rw (← held .before .held .ensures, held .if1 .left, ← gone .before .gone .ensures, gone .if2 .left, lacks-is _ _ _ _ _ (start .pre .1 .2), ← c .before .lacks-records .ensures, c .if3 .taken), tt)
 
 returns-4 : tie.Need-returns-4
 unfolding verdict
 returns-4 c =
-    let gone = c .before .before in
-    let held = gone .before .before in
-    let start = held .before .before .before in
+    let gone : tie.Else2 = search in
+    let held : tie.Else1 = search in
+    let start : tie.Start = search in
     let enough = lacks-is (start .args .s) (view (start .args .s) (words (start .args .mem .now))) (start .args .row .0) _ (start .args .n) (start .pre .1 .2) ∙ sym (c .before .lacks-records .ensures) ∙ c .if3 .left in
     (rw (← held .before .held .ensures, held .if1 .left, ← gone .before .gone .ensures, gone .if2 .left, enough), (start .pre .1 .0, room _ _ (start .pre .0 .linked) _ _ (start .pre .1 .1) enough))
 

@@ -20,12 +20,15 @@ returns c = (λ ps. fails-open _ _ _ (c .before .before .open-place .ensures .0)
 
 returns-2 : tie.Need-returns-2
 unfolding Tests testsIn verdict
-returns-2 c = (λ ps. rw (there (c .before .before .before) .begun, ← c .before .not-later .ensures, c .if1 .taken), tt)
+returns-2 c =
+    let at-place : tie.After-at = search in
+    (λ ps. rw (there at-place .begun, ← c .before .not-later .ensures, c .if1 .taken), tt)
 
 returns-3 : tie.Need-returns-3
 unfolding Tests testsIn verdict
 returns-3 c =
-    let o = there (c .before .before .before) in (λ ps. rw (o .begun, ← c .before .not-later .ensures, c .if1 .left), o .open-at)
+    let at-place : tie.After-at = search in
+    let o = there at-place in (λ ps. rw (o .begun, ← c .before .not-later .ensures, c .if1 .left), o .open-at)
 
 pub commit-tests-spec : {M : Type 1} → statement M
 commit-tests-spec =

@@ -21,16 +21,18 @@ returns c = (λ vs ps. fails-open _ _ _ (c .before .before .open-place .ensures 
 returns-2 : tie.Need-returns-2
 unfolding Tests testsIn verdict
 returns-2 c =
-    let rows = c .before .before in
-    let start = rows .before .before .before .before .before .before in
-    (λ vs ps. rw (there (rows .before .before) .begun, full _ _ _ (start .pre .proper) (rows .read .ensures) (c .if1 .taken)), tt)
+    let at-place : tie.After-at = search in
+    let rows : tie.After-read = search in
+    let start : tie.Start = search in
+    (λ vs ps. rw (there at-place .begun, full _ _ _ (start .pre .proper) (rows .read .ensures) (c .if1 .taken)), tt)
 
 returns-3 : tie.Need-returns-3
 unfolding Tests testsIn verdict
 returns-3 c =
-    let rows = c .before .before in
-    let start = rows .before .before .before .before .before .before in
-    let o = there (rows .before .before) in
+    let at-place : tie.After-at = search in
+    let rows : tie.After-read = search in
+    let start : tie.Start = search in
+    let o = there at-place in
     (λ vs ps. rw (o .begun, not-full _ _ _ (start .pre .proper) (rows .read .ensures) (c .if1 .left)), (o .open-at, omega (arith, rows .read .ensures, c .if1 .left)))
 
 pub insert-tests-spec : {M : Type 1} → statement M

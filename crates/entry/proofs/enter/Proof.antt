@@ -12,11 +12,13 @@ returns : tie.Need-returns
 returns c = λ ps q. not-usable _ ps (sym (c .enum-told .given .1) ∙ c .before .before .check .ensures .0 ps q)
 
 fit : (c : tie.After-known-told) → Fitted (c .before .s .given .0 .0) (c .before .before .before .before .before .args .mem .now)
-fit c = fit-tells _ _ (rw (c .before .s .given .1) at (c .before .before .before .check .ensures .1))
+fit c =
+    let check : tie.After-check = search in
+    fit-tells _ _ (rw (c .before .s .given .1) at (check .check .ensures .1))
 
 returns-2 : tie.Need-returns-2
 returns-2 c =
-    let known = c .before .before in
+    let known : tie.After-s = search in
     record {
       bytes = omega (arith, c .words-needed .ensures);
       fitted = fit (c .before);

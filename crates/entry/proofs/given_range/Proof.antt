@@ -14,7 +14,9 @@ returns c = rw (← c .before .before .read .ensures, le-leb _ _ (c .if1 .taken)
 
 returns-2 : tie.Need-returns-2
 unfolding rangeGiven notGivenIn
-returns-2 c = rw (← c .before .before .before .read .ensures, lt-leb _ _ (c .before .if1 .left)) (ap Found.At (c .range-of .ensures))
+returns-2 c =
+    let read : tie.After-read = search in
+    rw (← read .read .ensures, lt-leb _ _ (c .before .if1 .left)) (ap Found.At (c .range-of .ensures))
 
 pub given-range-spec : {M : Type 1} → statement M
 given-range-spec =

@@ -15,13 +15,13 @@ returns c = (λ m ps. rw (← c .before .no-range .ensures, c .if1 .taken), tt)
 returns-2 : tie.Need-returns-2
 unfolding Tests testsIn verdict
 returns-2 c =
-    let range = c .before .before in
+    let range : tie.Else1 = search in
     (λ m ps. rw (← range .before .no-range .ensures, range .if1 .left, ← c .before .no-column .ensures, c .if2 .taken), tt)
 
 returns-3 : tie.Need-returns-3
 unfolding Tests testsIn verdict
 returns-3 c =
-    let range = c .before .before in
+    let range : tie.Else1 = search in
     let s = range .before .before .args .s in
     (λ m ps. rw (← range .before .no-range .ensures, range .if1 .left, ← c .before .no-column .ensures, c .if2 .left), (refl, range-tells s _ (sym (range .before .no-range .ensures) ∙ range .if1 .left), column-tells s _ (sym (c .before .no-column .ensures) ∙ c .if2 .left)))
 

@@ -15,8 +15,8 @@ returns c = (λ ps. rw (not-open _ _ (sym (c .before .before .open-place .ensure
 returns-2 : tie.Need-returns-2
 unfolding Tests testsIn verdict
 returns-2 c =
-    let tests = c .before .before .before in
-    let found = tests .before .before in
+    let tests : tie.After-row-tests = search in
+    let found : tie.After-at = search in
     let o = open-there _ _ _ (sym (found .before .before .open-place .ensures .0) ∙ found .at .given .1) in
     let k = rw (c .before .x .given .1) at (tests .row-tests .ensures .0) in
     (λ ps. rw (o .0) k, tt)
@@ -24,8 +24,8 @@ returns-2 c =
 returns-3 : tie.Need-returns-3
 unfolding Tests testsIn verdict
 returns-3 c =
-    let tests = c .before .before in
-    let found = tests .before .before in
+    let tests : tie.After-row-tests = search in
+    let found : tie.After-at = search in
     let look = found .before .before .open-place in
     let o = open-there _ _ _ (sym (look .ensures .0) ∙ found .at .given .1) in
     let k = rw (c .enum-told2 .given .1) at (tests .row-tests .ensures) in

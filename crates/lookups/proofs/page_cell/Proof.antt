@@ -17,36 +17,41 @@ use Rattle.lookups.proofs.page_cell.Tie as tie
 fit : (c : tie.After-known-told)
     → let start = c .before .before .before .before .before in
     Entered (c .before .s .given .0 .0) (c .before .s .given .0 .1 .0) (start .args .mem .now) (start .args .t)
-fit c = entered _ _ _ _ _ (c .before .s .given .1) (c .before .before .before .enter .ensures)
+fit c =
+    let enter : tie.After-enter = search in
+    entered _ _ _ _ _ (c .before .s .given .1) (enter .enter .ensures)
 
 returns-2 : tie.Need-returns-2
 returns-2 c =
-    let tests = c .before .before .before in
+    let shared-slice-known : tie.After-shared-slice-known = search in
+    let tests : tie.After-page-cell-tests = search in
     let known = tests .before in
     failed-serves (fit known) _ _ _ (c .before .x .given .1) (by-any (fit known) _ _ (tests .page-cell-tests .ensures .0))
-    (λ k. omega (arith, known .before .before .before .before .shared-slice-known .given k))
+    (λ k. omega (arith, shared-slice-known .shared-slice-known .given k))
 
 current-page-requires : tie.Need-current-page-requires
 current-page-requires c κs =
     let passed = c .before in
-    let tests = passed .before .before in
+    let tests : tie.After-page-cell-tests = search in
     let f = fit (tests .before) .fitted in
     let k = rw (passed .g .given .1) at (tests .page-cell-tests .ensures .1) in
     (f .room, (f .proper, (f .pooled, (rw (k .0) (k .1 .range-below), k .1 .column-below))))
 
 cell-requires : tie.Need-cell-requires
 cell-requires c κs =
-    let f = fit (c .before .before .before .before .before) .fitted in (f .room, (f .proper, c .current-page .ensures .1))
+    let page-cell-tests : tie.After-page-cell-tests = search in
+    let f = fit (page-cell-tests .before) .fitted in (f .room, (f .proper, c .current-page .ensures .1))
 
 returns-3 : tie.Need-returns-3
 unfolding replyIn actIn placesAfter
 returns-3 c =
-    let page = c .before .before in
-    let passed = page .before .before in
-    let tests = passed .before .before in
+    let shared-slice-known : tie.After-shared-slice-known = search in
+    let page : tie.After-current-page = search in
+    let passed : tie.After-g = search in
+    let tests : tie.After-page-cell-tests = search in
     let known = tests .before in
     let k = rw (passed .g .given .1) at (tests .page-cell-tests .ensures .1) in
-    read-serves (fit known) _ _ _ (passed .g .given .1) (by-any (fit known) _ _ (tests .page-cell-tests .ensures .0)) _ kept (λ k. omega (arith, known .before .before .before .before .shared-slice-known .given k))
+    read-serves (fit known) _ _ _ (passed .g .given .1) (by-any (fit known) _ _ (tests .page-cell-tests .ensures .0)) _ kept (λ k. omega (arith, shared-slice-known .shared-slice-known .given k))
     (λ ps q few. (ap Answer.Value (toZ-ofZ w32 (c .of-word .result) record { sfits = c .of-word .ok } ∙ c .of-word .ensures ∙ ap (toZ w32) (c .before .cell .ensures)) ∙ rw (page .current-page .ensures .0, k .0), refl, refl))
 
 pub page-cell-spec : {M : Type 1} → statement M

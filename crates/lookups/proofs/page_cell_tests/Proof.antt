@@ -16,16 +16,17 @@ returns c = (λ ps. rw (← c .before .no-column .ensures, c .if1 .taken), tt)
 returns-2 : tie.Need-returns-2
 unfolding Tests testsIn verdict
 returns-2 c =
-    let row = c .before .before in
+    let row : tie.After-given-range = search in
     let column = row .before in
     (λ ps. rw (← column .before .no-column .ensures, column .if1 .left, row-missing _ _ (sym (row .given-range .ensures) ∙ c .enum-told .given .1)), tt)
 
 returns-3 : tie.Need-returns-3
 unfolding Tests testsIn verdict
 returns-3 c =
-    let row = c .before .before .before in
+    let start : tie.Start = search in
+    let row : tie.After-given-range = search in
     let column = row .before in
-    let fit = column .before .before .before .pre in
+    let fit = start .pre in
     let given = row-given _ _ _ (sym (row .given-range .ensures) ∙ c .before .g .given .1) in
     (λ ps. rw (← column .before .no-column .ensures, column .if1 .left, given .0), (given .1, cell-there _ _ _ _ (fit .proper) (fit .linked) (given .0) (sym (column .before .no-column .ensures) ∙ column .if1 .left)))
 

@@ -17,4 +17,4 @@ returns-2 c =
 
 pub read-at-tests-spec : {M : Type 1} → statement M
 read-at-tests-spec =
-    tie.close (tie.spec (λ c κs. search needs) returns (λ c κs. c .before .before .before .pre) returns-2)
+    tie.close (tie.spec (λ c κs. search needs) returns (λ c κs. let start : tie.Start = search in start .pre) returns-2)

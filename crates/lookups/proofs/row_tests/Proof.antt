@@ -14,15 +14,16 @@ returns c = (rw (row-missing _ _ (sym (c .before .before .given-range .ensures) 
 returns-2 : tie.Need-returns-2
 unfolding verdict
 returns-2 c =
-    let found = c .before .before .before in
+    let found : tie.After-g = search in
     let given = row-given _ _ _ (sym (found .before .before .given-range .ensures) ∙ found .g .given .1) in
     (rw (given .0, ← c .before .no-column .ensures, c .if1 .taken), tt)
 
 returns-3 : tie.Need-returns-3
 unfolding verdict
 returns-3 c =
-    let found = c .before .before .before in
-    let fit = found .before .before .before .before .pre in
+    let start : tie.Start = search in
+    let found : tie.After-g = search in
+    let fit = start .pre in
     let given = row-given _ _ _ (sym (found .before .before .given-range .ensures) ∙ found .g .given .1) in
     (rw (given .0, ← c .before .no-column .ensures, c .if1 .left), cell-there _ _ _ _ (fit .proper) (fit .linked) (given .0) (sym (c .before .no-column .ensures) ∙ c .if1 .left))
 

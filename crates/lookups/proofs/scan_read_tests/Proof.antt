@@ -16,7 +16,7 @@ use Rattle.lookups.proofs.scan_read_tests.Tie as tie
 -- the scan that was found
 there : (c : tie.After-j) → let start = c .before .before .before .before in ScanAt (start .args .t) (start .args .scan) (c .j .given .0 .0)
 there c =
-    let start = c .before .before .before .before in
+    let start : tie.Start = search in
     let n : length (start .args .t .numbers) ≡ 16 = search needs in
     found-scan _ _ _ n (sym (c .before .before .find-scan .ensures) ∙ c .j .given .1)
 
@@ -27,16 +27,18 @@ returns c = (λ ps q few. rw (scan-lacks _ ps few (in-table _ ps q _ _ (sym (c .
 returns-2 : tie.Need-returns-2
 unfolding TestsBy testsIn verdict
 returns-2 c =
-    let tests = c .before .before .before in
-    let s = there (tests .before .before) in
+    let j : tie.After-j = search in
+    let tests : tie.After-row-tests = search in
+    let s = there j in
     let k = rw (c .before .x .given .1) at (tests .row-tests .ensures .0) in
     (λ ps q few. rw (scan-open _ ps few _ (in-table _ ps q _ _ (s .found))) k, tt)
 
 returns-3 : tie.Need-returns-3
 unfolding TestsBy testsIn verdict
 returns-3 c =
-    let tests = c .before .before in
-    let s = there (tests .before .before) in
+    let j : tie.After-j = search in
+    let tests : tie.After-row-tests = search in
+    let s = there j in
     let k = rw (c .enum-told2 .given .1) at (tests .row-tests .ensures) in
     (λ ps q few. rw (scan-open _ ps few _ (in-table _ ps q _ _ (s .found))) (k .0), (s, k .1))
 

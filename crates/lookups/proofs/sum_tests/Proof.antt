@@ -17,7 +17,7 @@ use Rattle.lookups.proofs.sum_tests.Tie as tie
 -- the scan that was found
 there : (c : tie.After-j) → let start = c .before .before .before in ScanAt (start .args .t) (start .args .scan) (c .j .given .0 .0)
 there c =
-    let start = c .before .before .before in
+    let start : tie.Start = search in
     let n : length (start .args .t .numbers) ≡ 16 = search needs in
     found-scan _ _ _ n (sym (c .before .before .find-scan .ensures) ∙ c .j .given .1)
 
@@ -28,14 +28,17 @@ returns c = (λ m ps q few. rw (scan-lacks _ ps few (in-table _ ps q _ _ (sym (c
 returns-2 : tie.Need-returns-2
 unfolding TestsBy testsIn verdict
 returns-2 c =
-    let s = there (c .before .before .before) in
+    let j : tie.After-j = search in
+    let s = there j in
     (λ m ps q few. rw (scan-open _ ps few _ (in-table _ ps q _ _ (s .found)), ← c .before .no-column .ensures, c .if1 .taken), tt)
 
 returns-3 : tie.Need-returns-3
 unfolding TestsBy testsIn verdict
 returns-3 c =
-    let s = there (c .before .before .before) in
-    (λ m ps q few. rw (scan-open _ ps few _ (in-table _ ps q _ _ (s .found)), ← c .before .no-column .ensures, c .if1 .left), (s, column-tells (c .before .before .before .before .before .before .args .s) _ (sym (c .before .no-column .ensures) ∙ c .if1 .left)))
+    let start : tie.Start = search in
+    let j : tie.After-j = search in
+    let s = there j in
+    (λ m ps q few. rw (scan-open _ ps few _ (in-table _ ps q _ _ (s .found)), ← c .before .no-column .ensures, c .if1 .left), (s, column-tells (start .args .s) _ (sym (c .before .no-column .ensures) ∙ c .if1 .left)))
 
 pub sum-tests-spec : {M : Type 1} → statement M
 sum-tests-spec =

@@ -18,30 +18,34 @@ fit : (c : tie.After-enum-told)
 fit c = entered _ _ _ _ _ (c .enum-told .given .1) (c .before .before .enter .ensures)
 
 returns : tie.Need-returns
-returns c = unlisted-serves _ _ _ _ _ (c .unlisted .ensures) (unfit-serves _ _ _ _ (c .before .enum-told2 .given .1) (c .before .before .before .enter .ensures))
+returns c =
+    let enter : tie.After-enter = search in
+    unlisted-serves _ _ _ _ _ (c .unlisted .ensures) (unfit-serves _ _ _ _ (c .before .enum-told2 .given .1) (enter .enter .ensures))
 
 returns-2 : tie.Need-returns-2
 returns-2 c =
-    let tests = c .before .before .before .before in
+    let shared-slice-known : tie.After-shared-slice-known = search in
+    let tests : tie.After-close-tests = search in
     let known = tests .before in
     unlisted-serves _ _ _ _ _ (c .unlisted2 .ensures)
     (failed-serves (fit known) _ _ _ (c .before .before .x .given .1) (tests .close-tests .ensures .0 _ _)
-    (λ k. omega (arith, known .before .before .before .shared-slice-known .given k)))
+    (λ k. omega (arith, shared-slice-known .shared-slice-known .given k)))
 
 returns-3 : tie.Need-returns-3
 unfolding replyIn actIn
 returns-3 c =
-    let passed = c .before .before in
-    let tests = passed .before .before in
+    let shared-slice-known : tie.After-shared-slice-known = search in
+    let passed : tie.After-i = search in
+    let tests : tie.After-close-tests = search in
     let known = tests .before in
     let found = rw (passed .i .given .1) at (tests .close-tests .ensures .1) in
     read-serves (fit known) _ _ _ (passed .i .given .1) (tests .close-tests .ensures .0 _ _) _ _
-    (λ k. omega (arith, known .before .before .before .shared-slice-known .given k))
+    (λ k. omega (arith, shared-slice-known .shared-slice-known .given k))
     (λ ps q few. (refl, refl, closed-list _ ps q _ _ _ few (found .1)))
 
 -- the entry that was found is one of the table
 inside : (c : tie.After-places) → let passed = c .before .before in passed .i .given .0 .0 < mostScans
-inside c = let passed = c .before .before in (rw (passed .i .given .1) at (passed .before .before .close-tests .ensures .1)) .0
+inside c = let passed : tie.After-i = search in (rw (passed .i .given .1) at (passed .before .before .close-tests .ensures .1)) .0
 
 pub close-scan-spec : {M : Type 1} → statement M
 close-scan-spec =

@@ -20,7 +20,7 @@ returns c = (λ s m ps q few. rw (scan-lacks _ ps few (in-table _ ps q _ _ (sym 
 returns-2 : tie.Need-returns-2
 unfolding TestsBy testsIn verdict
 returns-2 c =
-    let look = c .before .before .before in
+    let look : tie.After-find-scan = search in
     let start = look .before in
     let n : length (start .args .scans .numbers) ≡ 16 = search needs in
     let found : findIn (start .args .scans) (start .args .scan) ≡ Found.At (c .before .i .given .0 .0) = sym (look .find-scan .ensures) ∙ c .before .i .given .1 in

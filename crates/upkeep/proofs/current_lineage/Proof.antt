@@ -14,7 +14,7 @@ inside c =
 
 read-requires-2 : tie.Need-read-requires-2
 read-requires-2 c κs =
-    let start = c .before .before .before in (start .pre .0 .room, rw (c .read .ensures) (start .pre .0 .pooled _ (inside start .0)))
+    let start : tie.Start = search in (start .pre .0 .room, rw (c .read .ensures) (start .pre .0 .pooled _ (inside start .0)))
 
 returns : tie.Need-returns
 unfolding pageIn currentIn
@@ -24,9 +24,9 @@ pub current-lineage-spec : {M : Type 1} → statement M
 current-lineage-spec =
     tie.close
     (tie.spec
-    (λ c. omega (arith, inside (c .before .before)))
-    (λ c. omega (arith, inside (c .before .before)))
-    (λ c κs. (c .before .before .pre .0 .room, inside (c .before .before) .0))
+    (λ c. let start : tie.Start = search in omega (arith, inside start))
+    (λ c. let start : tie.Start = search in omega (arith, inside start))
+    (λ c κs. let start : tie.Start = search in (c .before .before .pre .0 .room, inside start .0))
     (λ c. search needs)
     read-requires-2
     returns)

@@ -16,7 +16,7 @@ returns c = (λ ps. rw (← c .before .no-range .ensures, c .if1 .taken), tt)
 returns-2 : tie.Need-returns-2
 unfolding Tests testsIn verdict
 returns-2 c =
-    let range = c .before .before in
+    let range : tie.Else1 = search in
     (λ ps. rw (← range .before .no-range .ensures, range .if1 .left, ← c .before .no-column .ensures, c .if2 .taken), tt)
 
 -- range and column are there
@@ -24,8 +24,8 @@ inside : (c : tie.Else2)
     → let start = c .before .before .before .before .before in
     (start .args .range < start .args .s .ranges) × (start .args .column < start .args .s .columns)
 inside c =
-    let range = c .before .before in
-    let start = range .before .before .before in
+    let range : tie.Else1 = search in
+    let start : tie.Start = search in
     (range-tells (start .args .s) _ (sym (range .before .no-range .ensures) ∙ range .if1 .left), column-tells (start .args .s) _ (sym (c .before .no-column .ensures) ∙ c .if2 .left))
 
 returns-3 : tie.Need-returns-3
@@ -33,7 +33,7 @@ unfolding Tests testsIn verdict outOfReachIn
 returns-3 c =
     let low = c .before in
     let column = low .before in
-    let range = column .before .before in
+    let range : tie.Else1 = search in
     (λ ps. rw (← range .before .no-range .ensures, range .if1 .left, ← column .before .no-column .ensures, column .if2 .left, ← low .current-lineage .ensures) (c .reach-tests .ensures .0), c .reach-tests .ensures .1)
 
 pub merge-tests-spec : {M : Type 1} → statement M
@@ -44,6 +44,6 @@ merge-tests-spec =
     returns
     (λ c κs. search needs)
     returns-2
-    (λ c κs. (c .before .before .before .before .before .pre, inside c))
-    (λ c κs. (c .before .before .before .before .before .before .pre, (inside (c .before), c .current-lineage .ensures)))
+    (λ c κs. let start : tie.Start = search in (start .pre, inside c))
+    (λ c κs. let start : tie.Start = search in (start .pre, (inside (c .before), c .current-lineage .ensures)))
     returns-3)

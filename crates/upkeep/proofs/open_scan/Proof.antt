@@ -14,35 +14,42 @@ use Rattle.upkeep.proofs.open_scan.Tie as tie
 fit : (c : tie.After-known-told)
     → let start = c .before .before .before .before .before .before in
     Entered (c .before .s .given .0 .0) (c .before .s .given .0 .1 .0) (start .args .mem .now) (start .args .scans)
-fit c = entered _ _ _ _ _ (c .before .s .given .1) (c .before .before .before .enter .ensures)
+fit c =
+    let enter : tie.After-enter = search in
+    entered _ _ _ _ _ (c .before .s .given .1) (enter .enter .ensures)
 
 returns : tie.Need-returns
-returns c = unlisted-serves _ _ _ _ _ (c .unlisted .ensures) (unfit-serves _ _ _ _ (c .before .enum-told .given .1) (c .before .before .before .enter .ensures))
+returns c =
+    let enter : tie.After-enter = search in
+    unlisted-serves _ _ _ _ _ (c .unlisted .ensures) (unfit-serves _ _ _ _ (c .before .enum-told .given .1) (enter .enter .ensures))
 
 give-scan-requires : tie.Need-give-scan-requires
 give-scan-requires c κs =
-    let passed = c .before .before .before .before in
-    let tests = passed .before .before in
-    let e = fit (tests .before .before) in
+    let known-told : tie.After-known-told = search in
+    let passed : tie.After-place = search in
+    let tests : tie.After-open-tests = search in
+    let e = fit known-told in
     let k = rw (passed .place .given .1) at (tests .open-tests .ensures .1) in
     (part-fitted e .room, rw (part-seen e) (k .1))
 
 returns-2 : tie.Need-returns-2
 returns-2 c =
-    let tests = c .before .before .before .before in
-    let known = tests .before .before in
+    let slice-known : tie.After-slice-known = search in
+    let tests : tie.After-open-tests = search in
+    let known : tie.After-known-told = search in
     unlisted-serves _ _ _ _ _ (c .unlisted2 .ensures)
     (failed-serves (fit known) _ _ _ (c .before .before .x .given .1) (tests .open-tests .ensures .0)
-    (λ k. omega (arith, known .before .before .before .before .before .slice-known .given k)))
+    (λ k. omega (arith, slice-known .slice-known .given k)))
 
 returns-3 : tie.Need-returns-3
 unfolding replyIn actIn
 returns-3 c =
-    let act = c .before .before in
-    let read = act .before .before in
-    let passed = read .before .before .before in
-    let tests = passed .before .before in
-    let e = fit (tests .before .before) in
+    let known-told : tie.After-known-told = search in
+    let act : tie.After-give-scan = search in
+    let read : tie.After-read = search in
+    let passed : tie.After-place = search in
+    let tests : tie.After-open-tests = search in
+    let e = fit known-told in
     let k = rw (passed .place .given .1) at (tests .open-tests .ensures .1) in
     write-serves e _ _ _ (passed .place .given .1) (tests .open-tests .ensures .0) _ _ _ (act .give-scan .kept .0)
     (λ k. omega (arith, c .slice-known2 .given k))
@@ -62,9 +69,9 @@ open-scan-spec =
     (λ c. search needs)
     (λ c κs. search needs)
     (λ c. search needs)
-    (λ c κs. (fit (c .before .before .before .before .before .before) .fitted .room, omega arith))
-    (λ c. part-in (fit (c .before .before .before .before .before .before .before)))
-    (λ c. part-long (fit (c .before .before .before .before .before .before .before .before)))
+    (λ c κs. let open-tests-arg : tie.After-open-tests-arg = search in (fit (open-tests-arg .before) .fitted .room, omega arith))
+    (λ c. let open-tests-arg : tie.After-open-tests-arg = search in part-in (fit (open-tests-arg .before)))
+    (λ c. let open-tests-arg : tie.After-open-tests-arg = search in part-long (fit (open-tests-arg .before)))
     give-scan-requires
     (λ c. search needs)
     returns-2

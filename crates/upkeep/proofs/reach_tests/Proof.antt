@@ -14,38 +14,41 @@ returns c = (rw (too-low _ _ _ _ _ refl (c .if1 .taken)), tt)
 
 returns-2 : tie.Need-returns-2
 unfolding verdict
-returns-2 c = (rw (too-high _ _ _ _ _ (c .before .before .read .ensures) (c .before .before .before .if1 .left) (c .if2 .taken)), tt)
+returns-2 c =
+    let if1 : tie.Else1 = search in
+    (rw (too-high _ _ _ _ _ (c .before .before .read .ensures) (if1 .if1 .left) (c .if2 .taken)), tt)
 
 any-open-requires : tie.Need-any-open-requires
 any-open-requires c κs =
-    let start = c .before .before .before .before .before .before .before in
+    let start : tie.Start = search in
     let fit = start .pre .0 in
     (fit .room, (fit .proper, (start .pre .1 .0 .0, omega (arith, c .if2 .left, c .before .before .read .ensures, fit .linked .used-few _ (start .pre .1 .0 .0)))))
 
 returns-3 : tie.Need-returns-3
 unfolding verdict
 returns-3 c =
-    let reach = c .before .before in
-    let used = reach .before .before in
+    let reach : tie.Else2 = search in
+    let used : tie.After-read = search in
     (rw (in-reach _ _ _ _ _ (used .read .ensures) (used .before .if1 .left) (reach .if2 .left), ← c .before .any-open .ensures, c .if3 .taken), tt)
 
 returns-4 : tie.Need-returns-4
 unfolding verdict
 returns-4 c =
-    let none = c .before .before .before in
-    let reach = none .before .before in
-    let used = reach .before .before in
-    let fit = used .before .before .before .before .before .pre .0 in
+    let start : tie.Start = search in
+    let none : tie.Else3 = search in
+    let reach : tie.Else2 = search in
+    let used : tie.After-read = search in
+    let fit = start .pre .0 in
     (rw (in-reach _ _ _ _ _ (used .read .ensures) (used .before .if1 .left) (reach .if2 .left), ← none .before .any-open .ensures, none .if3 .left, no-page _ _ (fit .proper) (sym (c .before .before .free-page .ensures) ∙ c .enum-told .given .1)), tt)
 
 returns-5 : tie.Need-returns-5
 unfolding verdict
 returns-5 c =
-    let look = c .before .before .before in
+    let look : tie.After-free-page = search in
     let none = look .before in
-    let reach = none .before .before in
-    let used = reach .before .before in
-    let start = used .before .before .before .before .before in
+    let reach : tie.Else2 = search in
+    let used : tie.After-read = search in
+    let start : tie.Start = search in
     let fit = start .pre .0 in
     let page = page-free _ _ (fit .proper) _ (sym (look .free-page .ensures) ∙ c .before .page .given .1) in (
       rw (in-reach _ _ _ _ _ (used .read .ensures) (used .before .if1 .left) (reach .if2 .left), ← none .before .any-open .ensures, none .if3 .left, page .0),

@@ -18,7 +18,9 @@ use Rattle.upkeep.proofs.release.Tie as tie
 fit : (c : tie.After-known-told)
     → let start = c .before .before .before .before .before .before .before .before in
     Entered (c .before .s .given .0 .0) (c .before .s .given .0 .1 .0) (start .args .mem .now) (start .args .scans)
-fit c = entered _ _ _ _ _ (c .before .s .given .1) (c .before .before .before .enter .ensures)
+fit c =
+    let enter : tie.After-enter = search in
+    entered _ _ _ _ _ (c .before .s .given .1) (enter .enter .ensures)
 
 -- no list has such a table
 returns : tie.Need-returns
@@ -27,13 +29,15 @@ returns c = λ ps q. absurd (omega (arith, table-few _ ps q, c .if1 .taken))
 
 release-requires : tie.Need-release-requires
 release-requires c κs =
-    let f = part-fitted (fit (c .before)) in (f .room, (f .proper, omega (arith, c .before .before .before .before .before .before .if1 .left)))
+    let if1 : tie.Else1 = search in
+    let f = part-fitted (fit (c .before)) in (f .room, (f .proper, omega (arith, if1 .if1 .left)))
 
 returns-3 : tie.Need-returns-3
 unfolding TestsBy testsIn verdict replyIn actIn placesAfter
 returns-3 c =
-    let act = c .before .before in
-    write-serves (fit (act .before .before)) _ (Tested.Passed 0) _ refl (λ ps q few. refl) _ _ kept (act .release .kept .0)
+    let known-told : tie.After-known-told = search in
+    let act : tie.After-release = search in
+    write-serves (fit known-told) _ (Tested.Passed 0) _ refl (λ ps q few. refl) _ _ kept (act .release .kept .0)
     (λ k. omega (arith, c .slice-known2 .given k)) (λ ps q few. let z = act .release .ensures ps q few in (ap Answer.Number (z .0), z .1, refl))
 
 pub release-spec : {M : Type 1} → statement M

@@ -88,17 +88,17 @@ module _ (v : View) (t k : ℕ) where
   unfolding openOther
   other-self e = rw (eq-eqb k t e) (sym (and-false (openIn v k)))
 
-  pub other-closed : openAt v k ≡ Found.Nothing → false ≡ openOther v t k
+  pub other-closed : (f : Found) → f ≡ openAt v k → f ≡ Found.Nothing → false ≡ openOther v t k
   unfolding notOpenIn openOther
-  other-closed e = rw (not-off (openIn v k) (not-open v k e))
+  other-closed f e q = rw (not-off (openIn v k) (not-open v k (sym e ∙ q)))
     where
       not-off : (b : Bool) → not b ≡ true → b ≡ false
       not-off true q = sym q
       not-off false q = refl
 
-  pub other-open : (j : ℕ) → (k ≡ t → ⊥) → openAt v k ≡ Found.At j → true ≡ openOther v t k
+  pub other-open : (f : Found) (j : ℕ) → (k ≡ t → ⊥) → f ≡ openAt v k → f ≡ Found.At j → true ≡ openOther v t k
   unfolding notOpenIn openOther
-  other-open j n e = rw (ne-eqb k t n, not-on (openIn v k) (open-there v k j e .0))
+  other-open f j n e q = rw (ne-eqb k t n, not-on (openIn v k) (open-there v k j (sym e ∙ q) .0))
     where
       not-on : (b : Bool) → not b ≡ false → b ≡ true
       not-on true q = refl

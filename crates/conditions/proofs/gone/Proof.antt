@@ -15,28 +15,11 @@ inside : (c : tie.Start) (g : ℕ) → g ≡ rangeOf (c .args .row .0) → let a
     (g < a .s .ranges) × (g * a .s .capacity + usedIn (view (a .s) (words (a .mem .now))) g ≤ a .s .slots) × (a .s .slots ≤ 8192)
 inside c g e = stretch-of _ _ _ _ (c .pre .1 .0) (c .pre .1 .1 .0) (c .pre .1 .1 .1) e
 
-returns : tie.Need-returns
-returns c =
-    let inserter : tie.After-read = search in
-    let state : tie.After-read2 = search in
-    gone-insert _ _ _ _ _ _ _ (inserter .read .ensures) (state .read2 .ensures) (c .before .stands-for .ensures) (c .if1 .taken)
-
 ended-requires : tie.Need-ended-requires
 ended-requires c κs =
     let range : tie.After-range-of = search in
     let near = inside (search) _ (range .range-of .ensures) in
     (omega arith, (omega (arith, near, c .before .read3 .ensures), near .2))
-
-returns-2 : tie.Need-returns-2
-returns-2 c =
-    let inserter : tie.After-read = search in
-    let state : tie.After-read2 = search in
-    let stands : tie.After-stands-for = search in
-    let there : tie.Else1 = search in
-    let range : tie.After-range-of = search in
-    let used : tie.After-read3 = search in
-    gone-records _ _ _ _ _ _ _ (inserter .read .ensures) (state .read2 .ensures) (stands .stands-for .ensures) _ _ _ (there .if1 .left)
-    (range .range-of .ensures) (used .read3 .ensures) (c .ended .ensures)
 
 pub gone-spec : {M : Type 1} → statement M
 gone-spec =
@@ -46,10 +29,10 @@ gone-spec =
     (λ c κs. search needs)
     (λ c κs. search needs)
     (λ c κs. search needs)
-    returns
+    (λ c. search gone-insert)
     (λ c κs. search needs)
     (λ c κs. (omega arith, inside (search) _ (c .range-of .ensures) .0))
     (λ c. search needs)
     (λ c. let range : tie.After-range-of = search in omega (arith, inside (search) _ (range .range-of .ensures)))
     ended-requires
-    returns-2)
+    (λ c. search gone-records))

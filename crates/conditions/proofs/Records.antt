@@ -11,6 +11,8 @@ use lib.Dec.{T, eqb, eqb→eq}
 use lib.ListN.{length, getD}
 use lib.Seq.{take-length}
 use borrow.Author.Tests.{eq-eqb, ne-eqb}
+use mir.Syntax.{w64}
+use mir.Val.{Fits}
 use Rattle.terms.specs.Measures.{Shape, mostTransactions}
 use Rattle.terms.specs.Places.{bears, place}
 use Rattle.loops.specs.declared.Found.{Found}
@@ -88,17 +90,17 @@ module _ (v : View) (t k : ℕ) where
   unfolding openOther
   other-self e = rw (eq-eqb k t e) (sym (and-false (openIn v k)))
 
-  pub other-closed : openAt v k ≡ Found.Nothing → false ≡ openOther v t k
+  pub other-closed : (f : Found) → f ≡ openAt v k → f ≡ Found.Nothing → false ≡ openOther v t k
   unfolding notOpenIn openOther
-  other-closed e = rw (not-off (openIn v k) (not-open v k e))
+  other-closed f e q = rw (not-off (openIn v k) (not-open v k (sym e ∙ q)))
     where
       not-off : (b : Bool) → not b ≡ true → b ≡ false
       not-off true q = sym q
       not-off false q = refl
 
-  pub other-open : (j : ℕ) → (k ≡ t → ⊥) → openAt v k ≡ Found.At j → true ≡ openOther v t k
+  pub other-open : (f : Found) (j : ℕ) → (k ≡ t → ⊥) → f ≡ openAt v k → f ≡ Found.At j → true ≡ openOther v t k
   unfolding notOpenIn openOther
-  other-open j n e = rw (ne-eqb k t n, not-on (openIn v k) (open-there v k j e .0))
+  other-open f j n e q = rw (ne-eqb k t n, not-on (openIn v k) (open-there v k j (sym e ∙ q) .0))
     where
       not-on : (b : Bool) → not b ≡ false → b ≡ true
       not-on true q = refl
@@ -186,9 +188,10 @@ pub among-is : (S : Shape) (v : View) (g n : ℕ) (flag : Bool) → flag ≡ any
 unfolding openAmongIn recordIn
 among-is S v g n flag e = e
 
--- where the used records of a given row's range lie
-pub stretch-of : (s : Sizes) (v : View) (r g : ℕ) → Proper s → Linked s v → r < rowsGiven v → g ≡ rangeOf r
-    → (g < s .ranges) × (g * s .capacity + usedIn v g ≤ s .slots) × (s .slots ≤ 8192)
-stretch-of s v r g p l b e =
-    let w = row-in s p v l r b in
-    rw e (w .1, stretch-in s p (rangeOf r) (usedIn v (rangeOf r)) (w .1) (w .3), slots-few s p)
+-- where the used records of a given row's range g lie
+module _ (s : Sizes) (p : Proper s) (v : View) (l : Linked s v) (r g : ℕ) (b : r < rowsGiven v) (e : g ≡ rangeOf r) where
+  pub stretch-used : (n : ℕ) → n ≡ usedIn v g → g * s .capacity + n ≤ s .slots
+  stretch-used n q = rw (q, e) (let w = row-in s p v l r b in stretch-in s p (rangeOf r) (usedIn v (rangeOf r)) (w .1) (w .3))
+
+  pub stretch-fits : Fits w64 (g * s .capacity)
+  stretch-fits = record { fits = omega (arith, stretch-used (usedIn v g) refl, slots-few s p) }

@@ -11,22 +11,20 @@ use Rattle.model.specs.declared.Reader.{Reader}
 use Rattle.model.specs.Stored.{recordIn}
 use Rattle.model.specs.Reading.{seesRecord, answersFor}
 
-module _ (v : View) (who : Reader) (c at : ℕ) where
-  pub answers-not : (mask : ℕ) → mask ≡ getD (v TailMask) at 0 → bit mask c ≡ false → false ≡ answersFor who c (recordIn v at)
+module _ (v : View) (who : Reader) (c at mask : ℕ) (x : Bool) (e : mask ≡ getD (v TailMask) at 0) (b : x ≡ bit mask c) where
+  pub answers-not : x ≡ false → false ≡ answersFor who c (recordIn v at)
   unfolding answersFor recordIn
-  answers-not mask e h = rw (← e, h)
+  answers-not h = rw (← e, ← b, h)
 
-  pub answers-original : (mask kind : ℕ) → mask ≡ getD (v TailMask) at 0 → bit mask c ≡ true → kind ≡ getD (v TailKind) at 0 → kind ≡ 0
-      → true ≡ answersFor who c (recordIn v at)
-  unfolding answersFor recordIn
-  answers-original mask kind e h k z = rw (← e, h, ← k, z)
+  module _ (kind : ℕ) (h : x ≡ true) (k : kind ≡ getD (v TailKind) at 0) where
+    pub answers-original : kind ≡ 0 → true ≡ answersFor who c (recordIn v at)
+    unfolding answersFor recordIn
+    answers-original z = rw (← e, ← b, h, ← k, z)
 
-  pub answers-setting : (mask kind : ℕ) (seen : Bool) → mask ≡ getD (v TailMask) at 0 → bit mask c ≡ true → kind ≡ getD (v TailKind) at 0
-      → kind ≡ 1 → seen ≡ seesRecord who (recordIn v at) → seen ≡ answersFor who c (recordIn v at)
-  unfolding answersFor recordIn
-  answers-setting mask kind seen e h k z q = rw (← e, h, ← k, z) q
+    pub answers-setting : (seen : Bool) → kind ≡ 1 → seen ≡ seesRecord who (recordIn v at) → seen ≡ answersFor who c (recordIn v at)
+    unfolding answersFor recordIn
+    answers-setting seen z q = rw (← e, ← b, h, ← k, z) q
 
-  pub answers-delete : (mask kind : ℕ) → mask ≡ getD (v TailMask) at 0 → bit mask c ≡ true → kind ≡ getD (v TailKind) at 0
-      → (kind ≡ 0 → ⊥) → (kind ≡ 1 → ⊥) → false ≡ answersFor who c (recordIn v at)
-  unfolding answersFor recordIn
-  answers-delete mask kind e h k z o = rw (← e, h, ← k, ne-eqb kind 0 z, ne-eqb kind 1 o)
+    pub answers-delete : (kind ≡ 0 → ⊥) → (kind ≡ 1 → ⊥) → false ≡ answersFor who c (recordIn v at)
+    unfolding answersFor recordIn
+    answers-delete z o = rw (← e, ← b, h, ← k, ne-eqb kind 0 z, ne-eqb kind 1 o)

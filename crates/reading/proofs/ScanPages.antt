@@ -1,6 +1,6 @@
 -- The ways through the tests of a page, the search for the first page that passes, and how it gives a scan's page.
 use Prim.Native.Nat.{ℕ, suc, _+_, _-_, _%_, _≤_, _<_}
-use mathlib.Core.Path.{_≡_, refl}
+use mathlib.Core.Path.{_≡_, refl, sym, _∙_}
 use mathlib.Core.Bool.{Bool, true, false, cond}
 use native.Mathlib.Omega.{arith}
 use native.Mathlib.Nat.{mul-le-mul}
@@ -46,30 +46,33 @@ module _ (s : Sizes) (proper : Proper s) where
         made-before replaced l r =
             rw (← e, lt-ltb 1 state h, ← q, ← proper .places-are, eq-eqb (at % s .places) place i, ← b, le-leb made m l, ← r)
 
--- ---- the search: what is left of it at turn i has the answer of all
-module _ (f : ℕ → Bool) (n i : ℕ) (l : i < n) where
-  pub first-here : true ≡ f i → firstFrom f (n - i) i ≡ i
-  first-here h = let e : n - i ≡ suc (n - suc i) = omega arith in rw (e, ← h)
+-- ---- the search for the first page that passes, which has come to page i: what is left of it has the answer of all
+module _ (s : Sizes) (proper : Proper s) (v : View) (m place i : ℕ) where
+  abbrev passes : ℕ → Bool
+  passes = wasCurrent (shapeIn s) v m place
 
-  pub first-on : false ≡ f i → firstFrom f (n - i) i ≡ firstFrom f (n - (i + 1)) (i + 1)
-  first-on h =
-      let e : n - i ≡ suc (n - (i + 1)) = omega arith in
-      let one : suc i ≡ i + 1 = omega arith in
-      rw (e, ← h, one)
+  module _ (x : Bool) (on : firstFrom (wasCurrent (shapeIn s) v m place) (s .pages) 0 ≡ firstFrom (wasCurrent (shapeIn s) v m place) (s .pages - i) i) (l : i < s .pages)
+      (a : x ≡ wasCurrent (shapeIn s) v m place i) where
+    pub old-found : x ≡ true → Found.At i ≡ oldPage (shapeIn s) v m place
+    unfolding oldPage
+    old-found y =
+        let e : s .pages - i ≡ suc (s .pages - suc i) = omega arith in
+        let first : firstFrom passes (s .pages) 0 ≡ i = on ∙ rw (e, ← a, y) in
+        rw (pages-are s proper, first, lt-ltb i (s .pages) l)
 
-pub first-end : (f : ℕ → Bool) (n i : ℕ) → i ≤ n → n ≤ i → firstFrom f (n - i) i ≡ n
-first-end f n i h k = let e : n - i ≡ 0 = omega arith in let q : i ≡ n = omega arith in rw (e, q)
+    pub old-on : x ≡ false → firstFrom passes (s .pages) 0 ≡ firstFrom passes (s .pages - (i + 1)) (i + 1)
+    old-on y =
+        let e : s .pages - i ≡ suc (s .pages - (i + 1)) = omega arith in
+        let one : suc i ≡ i + 1 = omega arith in
+        on ∙ rw (e, ← a, y, one)
 
--- ---- the answer of the search, and the scan's page
-module _ (s : Sizes) (proper : Proper s) (v : View) (m place : ℕ) where
-  pub old-found : (i : ℕ) → firstFrom (wasCurrent (shapeIn s) v m place) (s .pages) 0 ≡ i → i < s .pages
-      → Found.At i ≡ oldPage (shapeIn s) v m place
+  pub old-none : firstFrom passes (s .pages) 0 ≡ firstFrom passes (s .pages - i) i → i ≤ s .pages → s .pages ≤ i → Found.Nothing ≡ oldPage (shapeIn s) v m place
   unfolding oldPage
-  old-found i e l = rw (pages-are s proper, e, lt-ltb i (s .pages) l)
-
-  pub old-none : firstFrom (wasCurrent (shapeIn s) v m place) (s .pages) 0 ≡ s .pages → Found.Nothing ≡ oldPage (shapeIn s) v m place
-  unfolding oldPage
-  old-none e = rw (pages-are s proper, e, le-ltb (s .pages) (s .pages) (omega arith))
+  old-none on h k =
+      let e : s .pages - i ≡ 0 = omega arith in
+      let q : i ≡ s .pages = omega arith in
+      let first : firstFrom passes (s .pages) 0 ≡ s .pages = on ∙ rw (e, q) in
+      rw (pages-are s proper, first, le-ltb (s .pages) (s .pages) (omega arith))
 
 -- what the search for the page of a range and column gives
 abbrev old : Shape → View → ℕ → ℕ → ℕ → ℕ
@@ -80,17 +83,17 @@ module _ (S : Shape) (v : View) (m g c current made : ℕ) (e : current ≡ curr
   unfolding scanPage pageIn
   scan-current l = rw (← e, ← b, le-leb made m l)
 
-  pub scan-old : (p : ℕ) → m < made → oldPage S v m (placeOf S g c) ≡ Found.At p → p ≡ scanPage S v m g c
+  pub scan-old : (found : Found) (p : ℕ) → m < made → found ≡ oldPage S v m (placeOf S g c) → found ≡ Found.At p → p ≡ scanPage S v m g c
   unfolding scanPage pageIn oldPage
-  scan-old p l q = rw (← e, ← b, lt-leb made m l) (go (ltb (old S v m g c) (pagesOf S)) q)
+  scan-old found p l f q = rw (← e, ← b, lt-leb made m l) (go (ltb (old S v m g c) (pagesOf S)) (sym f ∙ q))
     where
       go : (x : Bool) → cond x (Found.At (old S v m g c)) Found.Nothing ≡ Found.At p → p ≡ cond x (old S v m g c) current
       go true f = cc
       go false f = let z : _≡_ {A = ℕ} 0 1 = cc in absurd (omega arith)
 
-  pub scan-none : m < made → oldPage S v m (placeOf S g c) ≡ Found.Nothing → current ≡ scanPage S v m g c
+  pub scan-none : (found : Found) → m < made → found ≡ oldPage S v m (placeOf S g c) → found ≡ Found.Nothing → current ≡ scanPage S v m g c
   unfolding scanPage pageIn oldPage
-  scan-none l q = rw (← e, ← b, lt-leb made m l) (go (ltb (old S v m g c) (pagesOf S)) q)
+  scan-none found l f q = rw (← e, ← b, lt-leb made m l) (go (ltb (old S v m g c) (pagesOf S)) (sym f ∙ q))
     where
       go : (x : Bool) → cond x (Found.At (old S v m g c)) Found.Nothing ≡ Found.Nothing → current ≡ cond x (old S v m g c) current
       go true f = let z : _≡_ {A = ℕ} 0 1 = cc in absurd (omega arith)

@@ -1,8 +1,8 @@
 -- The steps of a walk along the links: each turn either answers, stops, or goes on from a lower record, and a walk needs no more steps than the number
 -- that it is at. Then the ways in which a walk's end gives the word of a row and column.
 use Prim.Native.Nat.{ℕ, zero, suc, _≤_, _<_}
-use mathlib.Core.Path.{_≡_, refl, ap}
-use mathlib.Core.Bool.{true, false, cond}
+use mathlib.Core.Path.{_≡_, refl, sym, _∙_, ap}
+use mathlib.Core.Bool.{Bool, true, false, cond}
 use native.Mathlib.Omega.{arith}
 use lib.Dec.{leb}
 use lib.ListN.{getD}
@@ -16,9 +16,10 @@ use Rattle.terms.specs.Measures.{Shape}
 use Rattle.terms.specs.declared.Tail.{Tail}
 use Rattle.history.specs.History.{bit, rangeOf}
 use Rattle.model.specs.Stored.{rowIn, recordIn, pageIn, slot, valueIn, cellIn, within}
-use Rattle.model.specs.Reading.{answersFor, walk, orElse, belowLineage, wordIn}
+use Rattle.model.specs.Reading.{answersFor, walk, belowLineage, wordIn}
 use Rattle.model.specs.Asked.{shapeIn}
 use Rattle.model.specs.Asked.{Linked}
+use Rattle.reading.specs.Reached.{Reached}
 
 module _ (s : Sizes) (v : View) (linked : Linked s v) (who : Reader) (g c low : ℕ) (h : g < s .ranges) where
   -- one turn: what is done at record k, with what is found from its link on
@@ -41,26 +42,30 @@ module _ (s : Sizes) (v : View) (linked : Linked s v) (who : Reader) (g c low : 
       let lower : link < k = linked .links-lower g k h (omega arith) l in
       ap (turn k) (steps n m link (omega arith) (omega arith) (omega arith))
 
-  pub walk-stop : (k : ℕ) → k ≤ low → walk (shapeIn s) v who g c low k k ≡ Walk.Stopped (record { 0 = k })
+  -- the walk from record `from` has come to record k
+  pub walk-stop : (from k : ℕ) → walk (shapeIn s) v who g c low from from ≡ walk (shapeIn s) v who g c low k k → k ≤ low
+      → Walk.Stopped (record { 0 = k }) ≡ walk (shapeIn s) v who g c low from from
   unfolding walk
-  walk-stop zero l = refl
-  walk-stop (suc j) l = rw (le-leb (suc j) low l)
+  walk-stop from zero on l = sym on
+  walk-stop from (suc j) on l = sym (on ∙ rw (le-leb (suc j) low l))
 
-  pub walk-hit : (k at : ℕ) → at ≡ slot (shapeIn s) g k → true ≡ answersFor who c (recordIn v at) → low < k → walk (shapeIn s) v who g c low k k ≡ Walk.Found at
+  pub walk-hit : (from k at : ℕ) (answers : Bool) → walk (shapeIn s) v who g c low from from ≡ walk (shapeIn s) v who g c low k k → low < k
+      → at ≡ slot (shapeIn s) g k → answers ≡ answersFor who c (recordIn v at) → answers ≡ true → Walk.Found at ≡ walk (shapeIn s) v who g c low from from
   unfolding walk
-  walk-hit zero at e a l = absurd (omega arith)
-  walk-hit (suc j) at e a l = rw (lt-leb (suc j) low l, ← e, ← a)
+  walk-hit from zero at answers on l e a y = absurd (omega arith)
+  walk-hit from (suc j) at answers on l e a y = sym (on ∙ rw (lt-leb (suc j) low l, ← e, ← a, y))
 
-  pub walk-on : (k at link : ℕ) → at ≡ slot (shapeIn s) g k → false ≡ answersFor who c (recordIn v at) → link ≡ getD (v TailLink) at 0
-      → low < k → k ≤ usedIn v g
-      → (link < k) × (walk (shapeIn s) v who g c low k k ≡ walk (shapeIn s) v who g c low link link)
+  pub link-lower : (from k at link : ℕ) → low < k → k ≤ from → from ≤ usedIn v g → at ≡ slot (shapeIn s) g k → link ≡ getD (v TailLink) at 0 → link < k
+  link-lower from k at link l u b e q = rw (q, e) (linked .links-lower g k h (omega arith) (omega arith))
+
+  pub walk-on : (from k at link : ℕ) (answers : Bool) → walk (shapeIn s) v who g c low from from ≡ walk (shapeIn s) v who g c low k k → low < k
+      → k ≤ from → from ≤ usedIn v g → at ≡ slot (shapeIn s) g k → answers ≡ answersFor who c (recordIn v at) → answers ≡ false → link ≡ getD (v TailLink) at 0
+      → walk (shapeIn s) v who g c low from from ≡ walk (shapeIn s) v who g c low link link
   unfolding walk recordIn
-  walk-on zero at link e a q l u = absurd (omega arith)
-  walk-on (suc j) at link e a q l u =
-      let k = suc j in
-      let lower : getD (v TailLink) (slot (shapeIn s) g k) 0 < k = linked .links-lower g k h (omega arith) u in
-      let lower′ : link < k = rw (q, e) lower in
-      (lower′, rw (lt-leb k low l, ← e, ← a, ← q) (steps j link link (omega arith) (omega arith) (omega arith)))
+  walk-on from zero at link answers on l u b e a y q = absurd (omega arith)
+  walk-on from (suc j) at link answers on l u b e a y q =
+      let lower : link < suc j = link-lower from (suc j) at link l u b e q in
+      on ∙ rw (lt-leb (suc j) low l, ← e, ← a, y, ← q) (steps j link link (omega arith) (omega arith) (omega arith))
 
 module _ (S : Shape) (v : View) (who : Reader) (c p : ℕ) where
   -- ---- at the lineage of page p
@@ -69,22 +74,37 @@ module _ (S : Shape) (v : View) (who : Reader) (c p : ℕ) where
     unfolding belowLineage pageIn
     below-old l = rw (← e, le-leb newest (who .stamp .0) l)
 
-    pub below-found : (i w : ℕ) → who .stamp .0 < newest → walk S v who g c 0 k k ≡ Walk.Found i → w ≡ valueIn S v i c → w ≡ belowLineage S v who g c (pageIn v p) cell k
-    unfolding belowLineage pageIn
-    below-found i w l q d = rw (← e, lt-leb newest (who .stamp .0) l, q) d
+    module _ (w : Walk) (l : who .stamp .0 < newest) (q : w ≡ walk S v who g c 0 k k) where
+      pub below-found : (i word : ℕ) → w ≡ Walk.Found i → word ≡ valueIn S v i c → word ≡ belowLineage S v who g c (pageIn v p) cell k
+      unfolding belowLineage pageIn
+      below-found i word f d = rw (← e, lt-leb newest (who .stamp .0) l, ← q, f) d
 
-    pub below-none : (j : Tail) → who .stamp .0 < newest → walk S v who g c 0 k k ≡ Walk.Stopped j → cell ≡ belowLineage S v who g c (pageIn v p) cell k
-    unfolding belowLineage pageIn
-    below-none j l q = rw (← e, lt-leb newest (who .stamp .0) l, q)
+      pub below-none : (j : Tail) → w ≡ Walk.Stopped j → cell ≡ belowLineage S v who g c (pageIn v p) cell k
+      unfolding belowLineage pageIn
+      below-none j f = rw (← e, lt-leb newest (who .stamp .0) l, ← q, f)
 
   -- ---- the word of row r
-  module _ (r mask : ℕ) (m : mask ≡ getD (v RowMask) r 0) where
-    pub word-alone : (cell : ℕ) → bit mask c ≡ false → cell ≡ cellIn v p (within r) → cell ≡ wordIn S v who p r c
+  module _ (r mask : ℕ) (m : mask ≡ getD (v RowMask) r 0) (has : Bool) (b : has ≡ bit mask c) where
+    pub word-alone : (cell : ℕ) → has ≡ false → cell ≡ cellIn v p (within r) → cell ≡ wordIn S v who p r c
     unfolding wordIn rowIn
-    word-alone cell b e = rw (← m, b) e
+    word-alone cell f e = rw (← m, ← b, f) e
 
-    pub word-walked : (g link lineage : ℕ) (w : Walk) → bit mask c ≡ true → g ≡ rangeOf r → link ≡ getD (v RowLink) r 0 → lineage ≡ getD (v PageLineage) p 0
-        → w ≡ walk S v who g c lineage link link
-        → wordIn S v who p r c ≡ orElse w (λ i. valueIn S v i c) (belowLineage S v who g c (pageIn v p) (cellIn v p (within r)))
-    unfolding wordIn rowIn pageIn
-    word-walked g link lineage w b i l n e = rw (← m, b, ← i, ← l, ← n, e)
+    module _ (g link lineage : ℕ) (w : Walk) (t : has ≡ true) (i : g ≡ rangeOf r) (l : link ≡ getD (v RowLink) r 0) (n : lineage ≡ getD (v PageLineage) p 0)
+        (q : w ≡ walk S v who g c lineage link link) where
+      pub word-found : (j word : ℕ) → w ≡ Walk.Found j → word ≡ valueIn S v j c → word ≡ wordIn S v who p r c
+      unfolding wordIn rowIn pageIn
+      word-found j word f d = rw (← m, ← b, t, ← i, ← l, ← n, ← q, f) d
+
+      pub word-below : (cell word : ℕ) (k : Tail) → w ≡ Walk.Stopped k → cell ≡ cellIn v p (within r)
+          → word ≡ belowLineage S v who g c (pageIn v p) cell (k .0) → word ≡ wordIn S v who p r c
+      unfolding wordIn rowIn pageIn
+      word-below cell word k f e d =
+          let stopped : walk S v who g c (getD (v PageLineage) p 0) link link ≡ Walk.Stopped k = rw n at (sym q ∙ f) in
+          rw (← m, ← b, t, ← i, ← l, stopped, ← e) d
+
+-- ---- how far a walk went
+pub reached-slot : (w : Walk) (i slots n : ℕ) → w ≡ Walk.Found i → Reached w slots n → i < slots
+reached-slot w i slots n e h = rw e at h
+
+pub reached-record : (w : Walk) (k : Tail) (slots n used : ℕ) → w ≡ Walk.Stopped k → Reached w slots n → n ≤ used → k .0 ≤ used
+reached-record w k slots n used e h b = let lower : k .0 ≤ n = rw e at h in omega arith

@@ -1,20 +1,20 @@
 -- The answers of a few tests, one lemma for each way through the code.
 use Prim.Native.Nat.{ℕ, _≤_, _<_}
-use mathlib.Core.Path.{_≡_, refl, sym, ap}
+use mathlib.Core.Path.{_≡_, refl, sym, _∙_, ap}
 use mathlib.Core.Bool.{Bool, true, false, not, cond, or-false}
 use native.Mathlib.Omega.{arith}
 use lib.Dec.{leb, ltb, eqb}
 use lib.ListN.{getD}
-use borrow.Author.Tests.{ne-eqb, lt-ltb, le-ltb}
+use borrow.Author.Tests.{eq-eqb, ne-eqb, lt-ltb, le-ltb, not-true, not-false}
 use Rattle.terms.specs.Measures.{Shape}
 use Rattle.loops.specs.declared.Found.{Found}
-use Rattle.layout.specs.declared.Region.the-variants.{TailKind}
+use Rattle.layout.specs.declared.Region.the-variants.{TailKind, RowLink}
 use Rattle.layout.specs.View.{View}
 use Rattle.history.specs.History.{rangeOf}
 use Rattle.model.specs.declared.Reader.{Reader}
 use Rattle.model.specs.Stored.{rowIn, recordIn, slot}
 use Rattle.model.specs.Reading.{sees, seesRow, seesRecord, hasRecord, headIn, visibleIn}
-use Rattle.rows.specs.Finders.{headAt}
+use Rattle.rows.specs.Finders.{headAt, Inside}
 
 module _ (who : Reader) (state stamp transaction : ℕ) where
   pub sees-committed : state ≡ 1 → leb stamp (who .stamp .0) ≡ sees who state stamp transaction
@@ -49,6 +49,9 @@ module _ (b : Bool) (j : ℕ) where
       go true q f = q
       go false q f = let z : _≡_ {A = ℕ} 0 1 = cc in absurd (omega arith)
 
+pub found-inside : (f : Found) (i n : ℕ) → f ≡ Found.At i → Inside f n → i < n
+found-inside f i n e h = rw e at h
+
 -- ---- what the finder of a row's newest record tells
 module _ (S : Shape) (v : View) (r : ℕ) where
   pub head-there : (at : ℕ) → headAt S v r ≡ Found.At at → (hasRecord v r ≡ true) × (headIn S v r ≡ recordIn v at)
@@ -69,27 +72,36 @@ module _ (S : Shape) (v : View) (r : ℕ) where
       go true q f = let z : _≡_ {A = ℕ} 0 1 = cc in absurd (omega arith)
       go false q f = q
 
-  module _ (who : Reader) where
-    pub unseen-row : seesRow who (rowIn v r) ≡ false → false ≡ visibleIn S v who r
+  module _ (link : ℕ) (l : link ≡ getD (v RowLink) r 0) where
+    pub head-empty : link ≡ 0 → Found.Nothing ≡ headAt S v r
+    unfolding headAt rowIn
+    head-empty e = rw (← l, eq-eqb link 0 e)
+
+    pub head-found : (g at : ℕ) → (link ≡ 0 → ⊥) → g ≡ rangeOf r → at ≡ slot S g link → Found.At at ≡ headAt S v r
+    unfolding headAt rowIn
+    head-found g at n i e = rw (← l, ne-eqb link 0 n, ← i, e)
+
+  module _ (who : Reader) (row : Bool) (e : row ≡ seesRow who (rowIn v r)) where
+    pub unseen-row : not row ≡ true → false ≡ visibleIn S v who r
     unfolding visibleIn
-    unseen-row h = rw h
+    unseen-row h = rw (← e, not-true row h)
 
-    pub row-alone : seesRow who (rowIn v r) ≡ true → headAt S v r ≡ Found.Nothing → true ≡ visibleIn S v who r
-    unfolding visibleIn
-    row-alone h e = rw (h, head-none e)
+    module _ (head : Found) (h : not row ≡ false) (f : head ≡ headAt S v r) where
+      pub row-alone : head ≡ Found.Nothing → true ≡ visibleIn S v who r
+      unfolding visibleIn
+      row-alone q = rw (← e, not-false row h, head-none (sym f ∙ q))
 
-    pub row-kept : (at kind : ℕ) → seesRow who (rowIn v r) ≡ true → headAt S v r ≡ Found.At at → kind ≡ getD (v TailKind) at 0 → kind < 2
-        → true ≡ visibleIn S v who r
-    unfolding visibleIn recordIn
-    row-kept at kind h e k l =
-        let d = head-there at e in
-        let no : ltb 1 (getD (v TailKind) at 0) ≡ false = le-ltb 1 (getD (v TailKind) at 0) (omega arith) in
-        rw (h, d .0, d .1, no)
+      module _ (at kind : ℕ) (q : head ≡ Found.At at) (k : kind ≡ getD (v TailKind) at 0) where
+        pub row-kept : kind < 2 → true ≡ visibleIn S v who r
+        unfolding visibleIn recordIn
+        row-kept l =
+            let d = head-there at (sym f ∙ q) in
+            let no : ltb 1 (getD (v TailKind) at 0) ≡ false = le-ltb 1 (getD (v TailKind) at 0) (omega arith) in
+            rw (← e, not-false row h, d .0, d .1, no)
 
-    pub row-deleted : (at kind : ℕ) (seen : Bool) → seesRow who (rowIn v r) ≡ true → headAt S v r ≡ Found.At at
-        → kind ≡ getD (v TailKind) at 0 → 2 ≤ kind → seen ≡ seesRecord who (recordIn v at) → not seen ≡ visibleIn S v who r
-    unfolding visibleIn recordIn
-    row-deleted at kind seen h e k l q =
-        let d = head-there at e in
-        let yes : ltb 1 (getD (v TailKind) at 0) ≡ true = lt-ltb 1 (getD (v TailKind) at 0) (omega arith) in
-        rw (h, d .0, d .1, yes, q)
+        pub row-deleted : (seen : Bool) → 2 ≤ kind → seen ≡ seesRecord who (recordIn v at) → not seen ≡ visibleIn S v who r
+        unfolding visibleIn recordIn
+        row-deleted seen l w =
+            let d = head-there at (sym f ∙ q) in
+            let yes : ltb 1 (getD (v TailKind) at 0) ≡ true = lt-ltb 1 (getD (v TailKind) at 0) (omega arith) in
+            rw (← e, not-false row h, d .0, d .1, yes, w)

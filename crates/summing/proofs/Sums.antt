@@ -62,17 +62,17 @@ module _ (S : Shape) (v : View) (scan : Place) (c : ℕ) where
     unfolding sumIn
     sum-is e l = rw (tallied-kept l, h .count-is, h .total-is, e)
 
-    pub row-unseen : false ≡ visibleIn S v (reader (scan .stamp) 0) r → Tallied S v scan c (r + 1) t
+    pub row-unseen : (seen : Bool) → seen ≡ visibleIn S v (reader (scan .stamp) 0) r → seen ≡ false → Tallied S v scan c (r + 1) t
     unfolding tally
-    row-unseen u = rw add-one record { count-is = rw (← u) (h .count-is); total-is = rw (← u) (h .total-is) }
+    row-unseen seen u f = rw add-one record { count-is = rw (← u, f) (h .count-is); total-is = rw (← u, f) (h .total-is) }
 
-    pub row-seen : (t′ : Tally) (page w : ℕ) → true ≡ visibleIn S v (reader (scan .stamp) 0) r → page ≡ scanPage S v (scan .merges) (rangeOf r) c
+    pub row-seen : (t′ : Tally) (page w : ℕ) (seen : Bool) → seen ≡ visibleIn S v (reader (scan .stamp) 0) r → seen ≡ true → page ≡ scanPage S v (scan .merges) (rangeOf r) c
         → w ≡ wordIn S v (reader (scan .stamp) 0) page r c → t′ .count ≡ t .count + 1 → t′ .total ≡ t .total +ℤ toZ w32 w
         → Tallied S v scan c (r + 1) t′
     unfolding tally
-    row-seen t′ page w u p q a b =
+    row-seen t′ page w seen u y p q a b =
         rw add-one
         record {
-          count-is = a ∙ add-one (t .count) ∙ rw (← u) (ap suc (h .count-is));
-          total-is = b ∙ rw (← u, ← p, ← q, h .total-is);
+          count-is = a ∙ add-one (t .count) ∙ rw (← u, y) (ap suc (h .count-is));
+          total-is = b ∙ rw (← u, y, ← p, ← q, h .total-is);
         }

@@ -18,9 +18,6 @@ Inv-loop mem s t row at n i₀ i = (i ≤ n) × (false ≡ anyBelow (λ j. endsA
 abbrev μ-loop : tie.MeasureT-loop
 μ-loop mem s t row at n i₀ i = n - i
 
-returns : tie.Need-returns Inv-loop μ-loop
-returns c = none-ends _ _ _ _ _ _ (c .before .any-delete .ensures) (c .if2 .taken)
-
 returns-2 : tie.Need-returns-2 Inv-loop μ-loop
 returns-2 c = let head : tie.At-loop Inv-loop μ-loop = search in found _ _ (head .loop .i) _ (omega arith) (c .before .ends .ensures) (c .if3 .taken)
 
@@ -34,7 +31,7 @@ ended-spec =
     Inv-loop
     μ-loop
     (λ c κs. search needs)
-    returns
+    (λ c. none-ends _ _ _ _ _ _ (c .before .any-delete .ensures) (c .if2 .taken))
     (λ c. (omega arith, no-turn _))
     (λ c. omega arith)
     (λ c κs. (omega arith, omega arith))

@@ -1,6 +1,6 @@
 -- `summing::add_row` meets its contract.
 use Prim.Native.Nat.{_≤_}
-use mathlib.Core.Path.{refl, sym, _∙_}
+use mathlib.Core.Path.{refl, _∙_}
 use native.Mathlib.Omega.{arith}
 use mir.Syntax.{w32, w64}
 use mir.ValLaws.{toZ-ofZ}
@@ -31,15 +31,10 @@ returns c =
     let word : tie.After-word-of = search in
     let value : tie.After-of-word = search in
     let pre = start .pre .1 .1 .1 .1 in
-    row-seen _ _ _ _ _ _ (pre .1) _ _ _ (sym (seen .if1 .taken) ∙ test .visible .ensures) (pre .0) (word .word-of .ensures) refl
+    row-seen _ _ _ _ _ _ (pre .1) _ _ _ _ (test .visible .ensures) (seen .if1 .taken) (pre .0) (word .word-of .ensures) refl
     (toZ-ofZ w64 (c .plus .result) record { sfits = c .plus .ok }
     ∙ c .plus .ensures
     ∙ rw (tallied-kept _ _ _ _ _ _ (pre .1) (few start), toZ-ofZ w32 (value .of-word .result) record { sfits = value .of-word .ok }, value .of-word .ensures))
-
-returns-2 : tie.Need-returns-2
-returns-2 c =
-    let start : tie.Start = search in
-    row-unseen _ _ _ _ _ _ (start .pre .1 .1 .1 .1 .1) (sym (c .if1 .left) ∙ c .before .visible .ensures)
 
 pub add-row-spec : {M : Type 1} → statement M
 add-row-spec =
@@ -51,4 +46,4 @@ add-row-spec =
     add-t13
     plus-requires
     returns
-    returns-2)
+    (λ c. search row-unseen))

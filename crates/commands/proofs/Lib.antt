@@ -1,5 +1,5 @@
 -- Laws of the commands and of their operands.
 pub mod Table
-pub mod Operands
+pub mod Bytes
 pub mod Items
 pub mod Parts

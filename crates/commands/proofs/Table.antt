@@ -1,32 +1,20 @@
--- The table of commands at a byte that is known, and past its end.
+-- The table of commands: at a byte that is known, past its end, and what holds of each of its widths.
 use Prim.Native.Nat.{ℕ, zero, suc, _<_}
-use mathlib.Core.Path.{_≡_, ap, sym, _∙_, subst}
-use mathlib.Core.Bool.{Bool, _&&_}
+use mathlib.Core.Path.{_≡_, ap, sym, _∙_}
+use mathlib.Core.Bool.{Bool, true, _&&_}
+use mathlib.Core.List.{List, [], _∷_}
 use native.Mathlib.Omega.{arith}
 use lib.Dec.{T, leb, leb→le}
-use lib.ListN.{List·getD-eq-default}
+use lib.ListN.{getD, List·getD-eq-default}
 use Rattle.terms.specs.declared.Refusal.{Refusal}
 use Rattle.commands.specs.declared.Form.{Form}
 use Rattle.commands.specs.declared.Chosen.{Chosen}
-use Rattle.commands.specs.Commands.{Narrow, chosen, commands}
+use Rattle.commands.specs.Commands.{operandBytes, Narrow, widthsOf, chosen, commands}
+use Rattle.history.specs.Lists.{All, nil, cons}
 use Rattle.history.proofs.Lists.{parts}
 
-abbrev pub narrow : Form → Bool
-narrow f = leb (f .first) 4 && (leb (f .second) 4 && leb (f .third) 4)
-
-narrow-tells : (f : Form) → T (narrow f) → Narrow (Chosen.Known f)
-narrow-tells f t =
-    let p = parts (leb (f .first) 4) (leb (f .second) 4 && leb (f .third) 4) t in
-    let q = parts (leb (f .second) 4) (leb (f .third) 4) (p .1) in
-    (leb→le (f .first) 4 (p .0), leb→le (f .second) 4 (q .0), leb→le (f .third) 4 (q .1))
-
-pub known : {byte i : ℕ} {r : Chosen} {f : Form} → byte ≡ i → r ≡ Chosen.Known f → chosen i ≡ Chosen.Known f → T (narrow f)
-    → (r ≡ chosen byte) × Narrow r
-known {f = f} e p q t = (p ∙ sym q ∙ ap chosen (sym e), subst Narrow (sym p) (narrow-tells f t))
-
-pub refused : {byte i : ℕ} {why : Refusal} → byte ≡ i → chosen i ≡ Chosen.Refused why
-    → (Chosen.Refused why ≡ chosen byte) × Narrow (Chosen.Refused why)
-refused e q = (sym q ∙ ap chosen (sym e), tt)
+pub known : {byte i : ℕ} {r k : Chosen} → byte ≡ i → r ≡ k → k ≡ chosen i → r ≡ chosen byte
+known e p q = p ∙ q ∙ ap chosen (sym e)
 
 -- x is none of 1 to n
 abbrev pub NoneTo : ℕ → ℕ → Type 0
@@ -38,9 +26,49 @@ above zero x h r = h
 above (suc n) x h r = let l = above n x h (r .0) in let d = r .1 in omega arith
 
 -- a byte that is none of those that have a command
-pub past : (byte : ℕ) → NoneTo 17 byte × (byte ≡ 0 → ⊥) → (Chosen.Refused Refusal.Command ≡ chosen byte) × Narrow (Chosen.Refused Refusal.Command)
+pub past : (byte : ℕ) → NoneTo 17 byte × (byte ≡ 0 → ⊥) → Chosen.Refused Refusal.Command ≡ chosen byte
 unfolding chosen commands
 past byte r =
     let z = r .1 in
     let h : 17 < byte = above 17 byte (omega arith) (r .0) in
-    (sym (List·getD-eq-default commands (Chosen.Refused Refusal.Command) h), tt)
+    sym (List·getD-eq-default commands (Chosen.Refused Refusal.Command) h)
+
+-- ---- what holds of each entry, and of no command, holds of every byte
+pub chosen-each : (P : Chosen → Type 0) → All P commands → P (Chosen.Refused Refusal.Command) → (byte : ℕ) → P (chosen byte)
+unfolding chosen
+chosen-each P a r byte = go commands a byte
+  where
+    go : (ks : List Chosen) → All P ks → (i : ℕ) → P (getD ks i (Chosen.Refused Refusal.Command))
+    go [] a i = r
+    go (k ∷ ks) (cons p ps) zero = p
+    go (k ∷ ks) (cons p ps) (suc i) = go ks ps i
+
+-- where it is a computed test
+abbrev pub allPass : (Chosen → Bool) → List Chosen → Bool
+allPass test [] = true
+allPass test (k ∷ ks) = test k && allPass test ks
+
+pub chosen-passes : (test : Chosen → Bool) → T (allPass test commands) → T (test (Chosen.Refused Refusal.Command)) → (byte : ℕ) → T (test (chosen byte))
+chosen-passes test t r byte = chosen-each (λ k. T (test k)) (go commands t) r byte
+  where
+    go : (ks : List Chosen) → T (allPass test ks) → All (λ k. T (test k)) ks
+    go [] t = nil
+    go (k ∷ ks) t = cons (parts (test k) (allPass test ks) t .0) (go ks (parts (test k) (allPass test ks) t .1))
+
+-- ---- every operand of a command is narrow
+abbrev narrow : List ℕ → Bool
+narrow [] = true
+narrow (w ∷ ws) = leb w operandBytes && narrow ws
+
+narrow-tells : (ws : List ℕ) → T (narrow ws) → Narrow ws
+narrow-tells [] t i = omega arith
+narrow-tells (w ∷ ws) t zero = leb→le w operandBytes (parts (leb w operandBytes) (narrow ws) t .0)
+narrow-tells (w ∷ ws) t (suc i) = narrow-tells ws (parts (leb w operandBytes) (narrow ws) t .1) i
+
+abbrev narrowForm : Chosen → Bool
+narrowForm (Chosen.Known f) = narrow (widthsOf f)
+narrowForm (Chosen.Refused r) = true
+
+pub chosen-narrow : (byte : ℕ) (f : Form) → chosen byte ≡ Chosen.Known f → Narrow (widthsOf f)
+unfolding commands
+chosen-narrow byte f e = narrow-tells (widthsOf f) (rw e at (chosen-passes narrowForm tt tt byte))

@@ -1,7 +1,7 @@
 -- What the bytes that `gatebook` reads mean: document 01, "Commands". "The program `gatebook` reads standard input: columns (1 byte), ranges (1), tail (2),
 -- spares (2), then commands. A command is one byte with operands of fixed widths, little-endian, chosen by its value in hexadecimal". Every definition here
 -- is executable.
-use mathlib.Core.Bool.{true, false, cond}
+use mathlib.Core.Bool.{Bool, true, false, cond}
 use mathlib.Core.List.{List, [], _∷_, map}
 use Prim.Native.Nat.{ℕ, zero, suc, _+_, _*_, _≤_}
 use lib.Dec.{leb}
@@ -10,81 +10,121 @@ use lib.Seq.{slice}
 use lib.IntN.{ℤ}
 use mir.Syntax.{w32}
 use mir.Val.{toZ}
-use Rattle.terms.specs.Measures.{Shape}
+use Rattle.terms.specs.Measures.{Shape, mostColumns}
 use Rattle.terms.specs.declared.Refusal.{Refusal}
 use Rattle.words.specs.Words.{words}
 use Rattle.history.specs.History.{Call, begin, insert, update, delete, commit, abort, latest, readAt, ownRead, openScan, scanRead, sum, close, merge, release, pageCell, lineage}
+use Rattle.commands.specs.declared.Read.{Read}
+use Rattle.commands.specs.declared.Write.{Write}
 use Rattle.commands.specs.declared.Kind.{Kind}
 use Rattle.commands.specs.declared.Form.{Form}
 use Rattle.commands.specs.declared.Chosen.{Chosen}
 
--- ---- the commands
-abbrev pub numbers : Kind → ℕ → ℕ → ℕ → Chosen
-numbers k a b c = Chosen.Known (record { kind = k; first = a; second = b; third = c; values = false })
+-- ---- widths
+-- The most operands of a command, and the most bytes of one.
+abbrev pub mostOperands : ℕ
+mostOperands = 5
 
-abbrev pub numbersAndValues : Kind → ℕ → ℕ → ℕ → Chosen
-numbersAndValues k a b c = Chosen.Known (record { kind = k; first = a; second = b; third = c; values = true })
+abbrev pub operandBytes : ℕ
+operandBytes = 4
+
+-- the bytes of a column's value
+abbrev pub valueBytes : ℕ
+valueBytes = 4
+
+-- the most bytes behind a command byte, and of a command
+abbrev pub operandsBytes : ℕ
+operandsBytes = mostOperands * operandBytes + valueBytes * mostColumns
+
+abbrev pub commandBytes : ℕ
+commandBytes = 1 + operandsBytes
+
+-- ---- the commands
+-- the form of a call with operands of the given widths, and of none past them
+abbrev pub formOf : Kind → List ℕ → Bool → Form
+formOf k ws vs = record {
+  kind = k;
+  first = getD ws 0 0;
+  second = getD ws 1 0;
+  third = getD ws 2 0;
+  fourth = getD ws 3 0;
+  fifth = getD ws 4 0;
+  values = vs;
+}
+
+abbrev pub widthsOf : Form → List ℕ
+widthsOf f = f .first ∷ f .second ∷ f .third ∷ f .fourth ∷ f .fifth ∷ []
+
+abbrev pub numbers : Kind → List ℕ → Chosen
+numbers k ws = Chosen.Known (formOf k ws false)
+
+abbrev pub numbersAndValues : Kind → List ℕ → Chosen
+numbersAndValues k ws = Chosen.Known (formOf k ws true)
 
 -- Each command byte from 00 on: the call, the widths of its operands in bytes, and whether every column's value follows.
 unfoldable pub commands : List Chosen
 commands =
     Chosen.Refused Refusal.Command
     -- 01 begin
-    ∷ numbers Kind.Begin 0 0 0
+    ∷ numbers (Kind.Write Write.Begin) []
     -- 02 insert: transaction (2), every column's value (4 each)
-    ∷ numbersAndValues Kind.Insert 2 0 0
+    ∷ numbersAndValues (Kind.Write Write.Insert) (2 ∷ [])
     -- 03 update: transaction (2), row (2), mask (2), every column's value, unmasked ones ignored
-    ∷ numbersAndValues Kind.Update 2 2 2
+    ∷ numbersAndValues (Kind.Write Write.Update) (2 ∷ 2 ∷ 2 ∷ [])
     -- 04 delete: transaction, row
-    ∷ numbers Kind.Delete 2 2 0
+    ∷ numbers (Kind.Write Write.Delete) (2 ∷ 2 ∷ [])
     -- 05 commit: transaction, stamp (4)
-    ∷ numbers Kind.Commit 2 4 0
+    ∷ numbers (Kind.Write Write.Commit) (2 ∷ 4 ∷ [])
     -- 06 abort: transaction
-    ∷ numbers Kind.Abort 2 0 0
+    ∷ numbers (Kind.Write Write.Abort) (2 ∷ [])
     -- 07 latest: row, column (1)
-    ∷ numbers Kind.Latest 2 1 0
+    ∷ numbers (Kind.Read Read.Latest) (2 ∷ 1 ∷ [])
     -- 08 read at: stamp, row, column
-    ∷ numbers Kind.ReadAt 4 2 1
+    ∷ numbers (Kind.Read Read.ReadAt) (4 ∷ 2 ∷ 1 ∷ [])
     -- 09 own read: transaction, row, column
-    ∷ numbers Kind.OwnRead 2 2 1
+    ∷ numbers (Kind.Read Read.OwnRead) (2 ∷ 2 ∷ 1 ∷ [])
     -- 0A open scan: stamp
-    ∷ numbers Kind.OpenScan 4 0 0
+    ∷ numbers Kind.OpenScan (4 ∷ [])
     -- 0B scan read: scan (2), row, column
-    ∷ numbers Kind.ScanRead 2 2 1
+    ∷ numbers (Kind.Read Read.ScanRead) (2 ∷ 2 ∷ 1 ∷ [])
     -- 0C sum: scan, column
-    ∷ numbers Kind.Sum 2 1 0
+    ∷ numbers (Kind.Read Read.Sum) (2 ∷ 1 ∷ [])
     -- 0D close: scan
-    ∷ numbers Kind.Close 2 0 0
+    ∷ numbers Kind.Close (2 ∷ [])
     -- 0E merge: range (1), column, through (2)
-    ∷ numbers Kind.Merge 1 1 2
+    ∷ numbers (Kind.Write Write.Merge) (1 ∷ 1 ∷ 2 ∷ [])
     -- 0F release
-    ∷ numbers Kind.Release 0 0 0
+    ∷ numbers (Kind.Write Write.Release) []
     -- 10 page cell: column, row
-    ∷ numbers Kind.PageCell 1 2 0
+    ∷ numbers (Kind.Read Read.PageCell) (1 ∷ 2 ∷ [])
     -- 11 lineage: range, column
-    ∷ numbers Kind.Lineage 1 1 0
+    ∷ numbers (Kind.Read Read.Lineage) (1 ∷ 1 ∷ [])
     ∷ []
 
 -- "19 Command: unknown command byte"
 unfoldable pub chosen : ℕ → Chosen
 chosen byte = getD commands byte (Chosen.Refused Refusal.Command)
 
--- Each number has at most four bytes.
-abbrev pub Narrow : Chosen → Type 0
-Narrow (Chosen.Known f) = (f .first ≤ 4) × (f .second ≤ 4) × (f .third ≤ 4)
-Narrow (Chosen.Refused r) = Unit {0}
+-- Each operand has at most so many bytes.
+abbrev pub Narrow : List ℕ → Type 0
+Narrow ws = (i : ℕ) → getD ws i 0 ≤ operandBytes
 
 -- what the code that decodes asks of a form and the columns
 abbrev pub Small : ℕ → Form → Type 0
-Small columns f = (f .first ≤ 4) × (f .second ≤ 4) × (f .third ≤ 4) × (columns ≤ 16)
+Small columns f = Narrow (widthsOf f) × (columns ≤ mostColumns)
 
 -- how many values follow the numbers: "every column's value"
 abbrev pub valueCount : ℕ → Form → ℕ
 valueCount columns f = cond (f .values) columns 0
 
--- the operands' width
+-- the bytes of operands of the given widths
+abbrev pub total : List ℕ → ℕ
+total [] = 0
+total (w ∷ ws) = w + total ws
+
+-- the bytes behind a command byte
 abbrev pub width : ℕ → Form → ℕ
-width columns f = f .first + f .second + f .third + 4 * valueCount columns f
+width columns f = total (widthsOf f) + valueBytes * valueCount columns f
 
 -- ---- numbers in bytes
 -- the lowest byte comes first
@@ -96,38 +136,53 @@ littleEndian (b ∷ bs) = b + 256 * littleEndian bs
 unfoldable pub operand : ℕ → ℕ → List ℕ → ℕ
 operand at n bs = littleEndian (slice at (at + n) bs)
 
+-- the operands of the given widths, one behind the other from `at`
+unfoldable pub operands : ℕ → List ℕ → List ℕ → List ℕ
+operands at [] bs = []
+operands at (w ∷ ws) bs = operand at w bs ∷ operands (at + w) ws bs
+
 -- the first n signed values of 32 bits
 unfoldable pub values : ℕ → List ℕ → List ℤ
 values n bs = map (toZ w32) (take n (words bs))
 
 -- ---- the call
-unfoldable pub callOf : Kind → ℕ → ℕ → ℕ → List ℤ → Call
-callOf Kind.Begin a b c vs = begin
-callOf Kind.Insert a b c vs = insert a vs
-callOf Kind.Update a b c vs = update a b c vs
-callOf Kind.Delete a b c vs = delete a b
-callOf Kind.Commit a b c vs = commit a b
-callOf Kind.Abort a b c vs = abort a
-callOf Kind.Latest a b c vs = latest a b
-callOf Kind.ReadAt a b c vs = readAt a b c
-callOf Kind.OwnRead a b c vs = ownRead a b c
-callOf Kind.OpenScan a b c vs = openScan a
-callOf Kind.ScanRead a b c vs = scanRead a b c
-callOf Kind.Sum a b c vs = sum a b
-callOf Kind.Close a b c vs = close a
-callOf Kind.Merge a b c vs = merge a b c
-callOf Kind.Release a b c vs = release
-callOf Kind.PageCell a b c vs = pageCell a b
-callOf Kind.Lineage a b c vs = lineage a b
+abbrev pub first : List ℕ → ℕ
+first ns = getD ns 0 0
+
+abbrev pub second : List ℕ → ℕ
+second ns = getD ns 1 0
+
+abbrev pub third : List ℕ → ℕ
+third ns = getD ns 2 0
+
+unfoldable pub readOf : Read → List ℕ → Call
+readOf Read.Latest ns = latest (first ns) (second ns)
+readOf Read.ReadAt ns = readAt (first ns) (second ns) (third ns)
+readOf Read.OwnRead ns = ownRead (first ns) (second ns) (third ns)
+readOf Read.ScanRead ns = scanRead (first ns) (second ns) (third ns)
+readOf Read.Sum ns = sum (first ns) (second ns)
+readOf Read.PageCell ns = pageCell (first ns) (second ns)
+readOf Read.Lineage ns = lineage (first ns) (second ns)
+
+unfoldable pub writeOf : Write → List ℕ → List ℤ → Call
+writeOf Write.Begin ns vs = begin
+writeOf Write.Insert ns vs = insert (first ns) vs
+writeOf Write.Update ns vs = update (first ns) (second ns) (third ns) vs
+writeOf Write.Delete ns vs = delete (first ns) (second ns)
+writeOf Write.Commit ns vs = commit (first ns) (second ns)
+writeOf Write.Abort ns vs = abort (first ns)
+writeOf Write.Merge ns vs = merge (first ns) (second ns) (third ns)
+writeOf Write.Release ns vs = release
+
+unfoldable pub callOf : Kind → List ℕ → List ℤ → Call
+callOf (Kind.Read k) ns vs = readOf k ns
+callOf (Kind.Write k) ns vs = writeOf k ns vs
+callOf Kind.OpenScan ns vs = openScan (first ns)
+callOf Kind.Close ns vs = close (first ns)
 
 -- the call of a command whose operands are at the front of bs
 unfoldable pub callFrom : ℕ → Form → List ℕ → Call
-callFrom columns f bs =
-    callOf (f .kind)
-    (operand 0 (f .first) bs)
-    (operand (f .first) (f .second) bs)
-    (operand (f .first + f .second) (f .third) bs)
-    (values (valueCount columns f) (drop (f .first + f .second + f .third) bs))
+callFrom columns f bs = callOf (f .kind) (operands 0 (widthsOf f) bs) (values (valueCount columns f) (drop (total (widthsOf f)) bs))
 
 -- ---- the input as a whole
 -- A command with its call, or a command byte that is refused: 19 for an unknown one, 20 where the input ends inside its operands. A refused one is the last
@@ -170,8 +225,3 @@ parse bs =
     cond (leb shapeBytes (length bs))
     (script (shapeFrom bs) (items (length bs) (shapeFrom bs .columns) (drop shapeBytes bs)))
     cutShape
-
--- One name for what all of these unfold to, for a proof's `unfolding` line.
-unfoldable pub reading : Unit {0}
-unfolding words commands chosen littleEndian operand values callOf callFrom itemAt behind items shapeFrom parse
-reading = tt

@@ -14,7 +14,7 @@ abbrev pub measured : Measures → Shape
 measured m = record { columns = m .columns; ranges = m .ranges; capacity = m .capacity; spares = m .spares }
 
 abbrev pub callIn : Request → Call
-callIn r = callOf (r .kind) (r .first) (r .second) (r .third) (take (r .count) (r .values))
+callIn r = callOf (r .kind) (r .operands) (take (r .count) (r .values))
 
 -- the places of a request's array past its values hold 0
 abbrev pub ZerosPast : ℕ → List ℤ → Type 0

@@ -6,36 +6,60 @@ ghost use mathlib.Core.Path.{_≡_};
 ghost use mathlib.Core.Bool.{true, false, cond};
 ghost use Prim.Native.Nat.{_+_, _*_, _≤_, _<_};
 ghost use lib.ListN.{length, take};
-ghost use Rattle.commands.specs.Commands.{Narrow, Small, chosen, width as widthOf, operand, values as valuesOf, callFrom, shapeBytes, shapeFrom};
+ghost use Rattle.terms.specs.Measures.{mostColumns};
+ghost use Rattle.commands.specs.Commands.{mostOperands, operandBytes, valueBytes, Narrow, Small, formOf, widthsOf, chosen, total as totalOf, width as widthOf, operand, operands as operandsOf, values as valuesOf, callFrom, shapeBytes, shapeFrom};
 ghost use Rattle.commands.specs.Decoded.{measured, callIn, ZerosPast};
 
-// The calls, in the order of their command bytes.
-pub enum Kind {
+// The calls that only read.
+pub enum Read {
+    Latest,
+    ReadAt,
+    OwnRead,
+    ScanRead,
+    Sum,
+    PageCell,
+    Lineage,
+}
+
+// Those that change the memory and leave the scan list.
+pub enum Write {
     Begin,
     Insert,
     Update,
     Delete,
     Commit,
     Abort,
-    Latest,
-    ReadAt,
-    OwnRead,
-    OpenScan,
-    ScanRead,
-    Sum,
-    Close,
     Merge,
     Release,
-    PageCell,
-    Lineage,
 }
 
-// A command's call and the widths of its operands in bytes: up to three numbers, 0 for one that the call has not, and whether every column's value follows.
+// All calls: these, and the two that change the list.
+pub enum Kind {
+    Read(Read),
+    Write(Write),
+    OpenScan,
+    Close,
+}
+
+// The most operands of a command, and the bytes of a value.
+pub const MOST_OPERANDS: usize = 5;
+
+const VALUE_BYTES: usize = 4;
+
+// The most columns of a shape, and the bytes that a shape is read from.
+pub const MOST_COLUMNS: usize = 16;
+
+pub const SHAPE_BYTES: usize = 6;
+
+// A command's call and the widths of its operands in bytes, 0 for one that the call has not, and whether every column's value follows. The widths are no array, since
+// `Chosen` holds a form.
 pub struct Form {
     pub kind: Kind,
     pub first: usize,
     pub second: usize,
     pub third: usize,
+    pub fourth: usize,
+    pub fifth: usize,
     pub values: bool,
 }
 
@@ -45,52 +69,54 @@ pub enum Chosen {
     Refused(Refusal),
 }
 
-fn numbers(kind: Kind, first: usize, second: usize, third: usize) -> Chosen
-    ensures { λ r. ⌜ r ≡ Chosen.Known (record { kind = kind; first = first; second = second; third = third; values = false }) ⌝ }
+fn known(kind: Kind, widths: [usize; MOST_OPERANDS], values: bool) -> Chosen
+    ensures { λ r. ⌜ r ≡ Chosen.Known (formOf kind widths values) ⌝ }
 {
     Chosen::Known(Form {
         kind,
-        first,
-        second,
-        third,
-        values: false,
+        first: widths[0],
+        second: widths[1],
+        third: widths[2],
+        fourth: widths[3],
+        fifth: widths[4],
+        values,
     })
 }
 
-fn numbers_and_values(kind: Kind, first: usize, second: usize, third: usize) -> Chosen
-    ensures { λ r. ⌜ r ≡ Chosen.Known (record { kind = kind; first = first; second = second; third = third; values = true }) ⌝ }
+fn numbers(kind: Kind, widths: [usize; MOST_OPERANDS]) -> Chosen
+    ensures { λ r. ⌜ r ≡ Chosen.Known (formOf kind widths false) ⌝ }
 {
-    Chosen::Known(Form {
-        kind,
-        first,
-        second,
-        third,
-        values: true,
-    })
+    known(kind, widths, false)
+}
+
+fn numbers_and_values(kind: Kind, widths: [usize; MOST_OPERANDS]) -> Chosen
+    ensures { λ r. ⌜ r ≡ Chosen.Known (formOf kind widths true) ⌝ }
+{
+    known(kind, widths, true)
 }
 
 // The call of a command byte, and the widths of its operands.
 pub fn choose(byte: u8) -> Chosen
-    ensures { λ r. ⌜ (r ≡ chosen byte) × Narrow r ⌝ }
+    ensures { λ r. ⌜ r ≡ chosen byte ⌝ }
 {
     match byte {
-        0x01 => numbers(Kind::Begin, 0, 0, 0),
-        0x02 => numbers_and_values(Kind::Insert, 2, 0, 0),
-        0x03 => numbers_and_values(Kind::Update, 2, 2, 2),
-        0x04 => numbers(Kind::Delete, 2, 2, 0),
-        0x05 => numbers(Kind::Commit, 2, 4, 0),
-        0x06 => numbers(Kind::Abort, 2, 0, 0),
-        0x07 => numbers(Kind::Latest, 2, 1, 0),
-        0x08 => numbers(Kind::ReadAt, 4, 2, 1),
-        0x09 => numbers(Kind::OwnRead, 2, 2, 1),
-        0x0a => numbers(Kind::OpenScan, 4, 0, 0),
-        0x0b => numbers(Kind::ScanRead, 2, 2, 1),
-        0x0c => numbers(Kind::Sum, 2, 1, 0),
-        0x0d => numbers(Kind::Close, 2, 0, 0),
-        0x0e => numbers(Kind::Merge, 1, 1, 2),
-        0x0f => numbers(Kind::Release, 0, 0, 0),
-        0x10 => numbers(Kind::PageCell, 1, 2, 0),
-        0x11 => numbers(Kind::Lineage, 1, 1, 0),
+        0x01 => numbers(Kind::Write(Write::Begin), [0, 0, 0, 0, 0]),
+        0x02 => numbers_and_values(Kind::Write(Write::Insert), [2, 0, 0, 0, 0]),
+        0x03 => numbers_and_values(Kind::Write(Write::Update), [2, 2, 2, 0, 0]),
+        0x04 => numbers(Kind::Write(Write::Delete), [2, 2, 0, 0, 0]),
+        0x05 => numbers(Kind::Write(Write::Commit), [2, 4, 0, 0, 0]),
+        0x06 => numbers(Kind::Write(Write::Abort), [2, 0, 0, 0, 0]),
+        0x07 => numbers(Kind::Read(Read::Latest), [2, 1, 0, 0, 0]),
+        0x08 => numbers(Kind::Read(Read::ReadAt), [4, 2, 1, 0, 0]),
+        0x09 => numbers(Kind::Read(Read::OwnRead), [2, 2, 1, 0, 0]),
+        0x0a => numbers(Kind::OpenScan, [4, 0, 0, 0, 0]),
+        0x0b => numbers(Kind::Read(Read::ScanRead), [2, 2, 1, 0, 0]),
+        0x0c => numbers(Kind::Read(Read::Sum), [2, 1, 0, 0, 0]),
+        0x0d => numbers(Kind::Close, [2, 0, 0, 0, 0]),
+        0x0e => numbers(Kind::Write(Write::Merge), [1, 1, 2, 0, 0]),
+        0x0f => numbers(Kind::Write(Write::Release), [0, 0, 0, 0, 0]),
+        0x10 => numbers(Kind::Read(Read::PageCell), [1, 2, 0, 0, 0]),
+        0x11 => numbers(Kind::Read(Read::Lineage), [1, 1, 0, 0, 0]),
         0x00 | 0x12..=0xff => Chosen::Refused(Refusal::Command),
     }
 }
@@ -102,13 +128,33 @@ fn value_count(values: bool, columns: usize) -> usize
     if values { columns } else { 0 }
 }
 
-// The width of a command's operands.
+fn widths(form: Form) -> [usize; MOST_OPERANDS]
+    ensures { λ r. ⌜ r ≡ widthsOf form ⌝ }
+{
+    [form.first, form.second, form.third, form.fourth, form.fifth]
+}
+
+// The bytes of a command's operands before the values.
+fn total(widths: [usize; MOST_OPERANDS]) -> usize
+    requires { ⌜ Narrow widths ⌝ }
+    ensures { λ r. ⌜ (r ≡ totalOf widths) × (r ≤ mostOperands * operandBytes) ⌝ }
+{
+    let mut total = 0;
+    let mut i = 0;
+    while i < MOST_OPERANDS {
+        total += widths[i];
+        i += 1;
+    }
+    total
+}
+
+// The bytes of a command behind its command byte.
 pub fn width(form: Form, columns: usize) -> usize
     requires { ⌜ Small columns form ⌝ }
     ensures { λ r. ⌜ r ≡ widthOf columns form ⌝ }
 {
     let count = value_count(form.values, columns);
-    form.first + form.second + form.third + 4 * count
+    total(widths(form)) + VALUE_BYTES * count
 }
 
 // Apart from `number`, since a cast of a parameter has nothing to show.
@@ -120,7 +166,7 @@ fn wide(b: u8) -> u32
 
 // The number in the n bytes from `at`, the lowest byte first: the highest is taken up first.
 fn number(bytes: &[u8], at: usize, n: usize) -> u32
-    requires { ⌜ (at + n ≤ length (now bytes)) × (n ≤ 4) ⌝ }
+    requires { ⌜ (at + n ≤ length (now bytes)) × (n ≤ operandBytes) ⌝ }
     ensures { λ r. ⌜ r ≡ operand at n (now (bytes .entry)) ⌝ }
 {
     let mut total = 0;
@@ -132,12 +178,29 @@ fn number(bytes: &[u8], at: usize, n: usize) -> u32
     total
 }
 
+// The operands in the bytes, one behind the other.
+fn operands(widths: [usize; MOST_OPERANDS], bytes: &[u8]) -> [u32; MOST_OPERANDS]
+    requires { ⌜ Narrow widths × (totalOf widths ≤ length (now bytes)) ⌝ }
+    ensures { λ r. ⌜ r ≡ operandsOf 0 widths (now (bytes .entry)) ⌝ }
+{
+    let mut out = [0u32; MOST_OPERANDS];
+    let mut at = 0;
+    let mut i = 0;
+    while i < MOST_OPERANDS {
+        let n = widths[i];
+        out[i] = number(bytes, at, n);
+        at += n;
+        i += 1;
+    }
+    out
+}
+
 // The first n values of the bytes. The other places of the array hold 0.
-fn values(bytes: &[u8], n: usize) -> [i32; 16]
-    requires { ⌜ (n * 4 ≤ length (now bytes)) × (n ≤ 16) ⌝ }
+fn values(bytes: &[u8], n: usize) -> [i32; MOST_COLUMNS]
+    requires { ⌜ (n * valueBytes ≤ length (now bytes)) × (n ≤ mostColumns) ⌝ }
     ensures { λ r. ⌜ (take n r ≡ valuesOf n (now (bytes .entry))) × ZerosPast n r ⌝ }
 {
-    let mut out = [0i32; 16];
+    let mut out = [0i32; MOST_COLUMNS];
     let mut i = 0;
     while i < n {
         out[i] = of_word(get(bytes, i));
@@ -146,35 +209,28 @@ fn values(bytes: &[u8], n: usize) -> [i32; 16]
     out
 }
 
-// A call as the operands give it: its numbers in the order of the command, 0 for one that it has not, and the first `count` of `values`.
+// A call as the bytes give it: its operands in the order of the command, 0 for one that it has not, and the first `count` of `values`.
 pub struct Request {
     pub kind: Kind,
-    pub first: u32,
-    pub second: u32,
-    pub third: u32,
+    pub operands: [u32; MOST_OPERANDS],
     pub count: usize,
-    pub values: [i32; 16],
+    pub values: [i32; MOST_COLUMNS],
 }
 
 // The call of a command, from the bytes behind its command byte.
-pub fn decode(form: Form, columns: usize, operands: &[u8]) -> Request
-    requires { ⌜ Small columns form × (widthOf columns form ≤ length (now operands)) ⌝ }
-    ensures { λ r. ⌜ (callIn r ≡ callFrom columns form (now (operands .entry))) × ZerosPast (r .count) (r .values) ⌝ }
+pub fn decode(form: Form, columns: usize, bytes: &[u8]) -> Request
+    requires { ⌜ Small columns form × (widthOf columns form ≤ length (now bytes)) ⌝ }
+    ensures { λ r. ⌜ (callIn r ≡ callFrom columns form (now (bytes .entry))) × ZerosPast (r .count) (r .values) ⌝ }
 {
     let kind = form.kind;
-    let second_at = form.first;
-    let third_at = second_at + form.second;
-    let values_at = third_at + form.third;
+    let widths = widths(form);
     let count = value_count(form.values, columns);
-    let first = number(operands, 0, form.first);
-    let second = number(operands, second_at, form.second);
-    let third = number(operands, third_at, form.third);
-    let values = values(&operands[values_at..], count);
+    let values_at = total(widths);
+    let operands = operands(widths, bytes);
+    let values = values(&bytes[values_at..], count);
     Request {
         kind,
-        first,
-        second,
-        third,
+        operands,
         count,
         values,
     }
@@ -188,7 +244,7 @@ pub struct Measures {
     pub spares: u32,
 }
 
-// The shape, from its six bytes.
+// The shape, from its bytes.
 pub fn decode_shape(bytes: &[u8]) -> Measures
     requires { ⌜ shapeBytes ≤ length (now bytes) ⌝ }
     ensures { λ r. ⌜ measured r ≡ shapeFrom (now (bytes .entry)) ⌝ }

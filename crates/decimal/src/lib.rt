@@ -4,7 +4,15 @@ ghost use Prim.Native.Nat.{_+_, _≤_, _<_};
 ghost use lib.ListN.{length, drop};
 ghost use lib.IntN.{natAbs};
 ghost use Rattle.decimal.specs.Decimal.{decimal, signed, field, digit as digitOf};
-ghost use Rattle.decimal.specs.Written.{Written};
+ghost use Rattle.decimal.specs.Written.{lineBytes, mostDigits, signedBytes, naturalField, integerField, Written};
+
+// The buffer of a line.
+pub const LINE_BYTES: usize = 64;
+
+// The digits of the greatest number of 64 bits.
+const MOST_DIGITS: usize = 20;
+
+const LAST_DIGIT: usize = MOST_DIGITS - 1;
 
 // The character of a digit below 16.
 pub fn digit(d: u64) -> u8
@@ -15,8 +23,8 @@ pub fn digit(d: u64) -> u8
 }
 
 // The bytes of s from `at` on. It answers the place behind them, as each function below does that writes into the buffer.
-pub fn put(out: &mut [u8; 64], at: usize, s: &[u8]) -> usize
-    requires { ⌜ at + length (now s) ≤ 64 ⌝ }
+pub fn put(out: &mut [u8; LINE_BYTES], at: usize, s: &[u8]) -> usize
+    requires { ⌜ at + length (now s) ≤ lineBytes ⌝ }
     ensures { λ r. ⌜ Written (now (out .entry)) (now (out .exit)) at (now (s .entry)) r ⌝ }
 {
     let mut i = 0;
@@ -29,15 +37,15 @@ pub fn put(out: &mut [u8; 64], at: usize, s: &[u8]) -> usize
 
 // A number in decimal: the characters of `digits` from `from` on. They are found from the last to the first, so that they stand at the end of the array.
 struct Decimal {
-    digits: [u8; 20],
+    digits: [u8; MOST_DIGITS],
     from: usize,
 }
 
 fn in_decimal(n: u64) -> Decimal
-    ensures { λ r. ⌜ (drop (r .from) (r .digits) ≡ decimal n) × (r .from ≤ 20) × (length (r .digits) ≡ 20) ⌝ }
+    ensures { λ r. ⌜ (drop (r .from) (r .digits) ≡ decimal n) × (r .from ≤ mostDigits) × (length (r .digits) ≡ mostDigits) ⌝ }
 {
-    let mut digits = [0u8; 20];
-    let mut from = 19;
+    let mut digits = [0u8; MOST_DIGITS];
+    let mut from = LAST_DIGIT;
     digits[from] = digit(n % 10);
     let mut rest = n / 10;
     while rest > 0 {
@@ -48,9 +56,9 @@ fn in_decimal(n: u64) -> Decimal
     Decimal { digits, from }
 }
 
-fn put_decimal(out: &mut [u8; 64], at: usize, n: u64) -> usize
-    requires { ⌜ at + 20 ≤ 64 ⌝ }
-    ensures { λ r. ⌜ Written (now (out .entry)) (now (out .exit)) at (decimal n) r × (r ≤ at + 20) ⌝ }
+fn put_decimal(out: &mut [u8; LINE_BYTES], at: usize, n: u64) -> usize
+    requires { ⌜ at + mostDigits ≤ lineBytes ⌝ }
+    ensures { λ r. ⌜ Written (now (out .entry)) (now (out .exit)) at (decimal n) r × (r ≤ at + mostDigits) ⌝ }
 {
     let d = in_decimal(n);
     let from = d.from;
@@ -69,9 +77,9 @@ fn magnitude(z: i64) -> u64
     }
 }
 
-fn put_signed(out: &mut [u8; 64], at: usize, z: i64) -> usize
-    requires { ⌜ at + 21 ≤ 64 ⌝ }
-    ensures { λ r. ⌜ Written (now (out .entry)) (now (out .exit)) at (signed z) r × (r ≤ at + 21) ⌝ }
+fn put_signed(out: &mut [u8; LINE_BYTES], at: usize, z: i64) -> usize
+    requires { ⌜ at + signedBytes ≤ lineBytes ⌝ }
+    ensures { λ r. ⌜ Written (now (out .entry)) (now (out .exit)) at (signed z) r × (r ≤ at + signedBytes) ⌝ }
 {
     let n = magnitude(z);
     if z >= 0 {
@@ -83,17 +91,17 @@ fn put_signed(out: &mut [u8; 64], at: usize, z: i64) -> usize
 }
 
 // One more field: a space, and a number.
-pub fn put_natural(out: &mut [u8; 64], at: usize, n: u32) -> usize
-    requires { ⌜ at + 21 ≤ 64 ⌝ }
-    ensures { λ r. ⌜ Written (now (out .entry)) (now (out .exit)) at (field (decimal n)) r × (r ≤ at + 21) ⌝ }
+pub fn put_natural(out: &mut [u8; LINE_BYTES], at: usize, n: u32) -> usize
+    requires { ⌜ at + naturalField ≤ lineBytes ⌝ }
+    ensures { λ r. ⌜ Written (now (out .entry)) (now (out .exit)) at (field (decimal n)) r × (r ≤ at + naturalField) ⌝ }
 {
     let next = put(out, at, b" ");
     put_decimal(out, next, n as u64)
 }
 
-pub fn put_integer(out: &mut [u8; 64], at: usize, z: i64) -> usize
-    requires { ⌜ at + 22 ≤ 64 ⌝ }
-    ensures { λ r. ⌜ Written (now (out .entry)) (now (out .exit)) at (field (signed z)) r × (r ≤ at + 22) ⌝ }
+pub fn put_integer(out: &mut [u8; LINE_BYTES], at: usize, z: i64) -> usize
+    requires { ⌜ at + integerField ≤ lineBytes ⌝ }
+    ensures { λ r. ⌜ Written (now (out .entry)) (now (out .exit)) at (field (signed z)) r × (r ≤ at + integerField) ⌝ }
 {
     let next = put(out, at, b" ");
     put_signed(out, next, z)

@@ -7,7 +7,7 @@ use mathlib.Core.List.{List, [], _++_, append-nil, append-assoc}
 use native.Mathlib.Omega.{arith}
 use lib.ListN.{length, take, drop, take-append-drop, length-append, length-drop}
 use lib.Seq.{slice, take-take, length-take-le}
-use Rattle.turns.specs.Turns.{Store}
+use Rattle.turns.specs.Store.{Store}
 use Rattle.turns.specs.Gatebook.{GatebookWrites}
 use Rattle.turns.proofs.Gatebook.{gatebook-writes}
 use Rattle.rounds.specs.declared.Progress.{Progress}

@@ -1,5 +1,5 @@
 -- What a read, a round and a write do with the program's course, how a run ends, and the claim over the bytes that it received. proofs/Ran.antt proves it.
-use Prim.Native.Nat.{ℕ, _+_, _≤_, _<_}
+use Prim.Native.Nat.{ℕ, _+_, _-_, _/_, _^_, _≤_, _<_}
 use mathlib.Core.Path.{_≡_}
 use mathlib.Core.Bool.{Bool, true, false, not, _&&_}
 use mathlib.Core.List.{List, [], _++_}
@@ -8,16 +8,25 @@ use lib.ListN.{length, take}
 use Rattle.terms.specs.Measures.{mostScans}
 use Rattle.words.specs.Words.{Bytes}
 use Rattle.layout.specs.Sizes.{bytesNeeded}
+use Rattle.decimal.specs.Written.{lineBytes}
 use Rattle.output.specs.Output.{output}
-use Rattle.turns.specs.Turns.{Store}
+use Rattle.turns.specs.Store.{Store}
 use Rattle.turns.specs.Gatebook.{largest}
-use Rattle.rounds.specs.Due.{Flow, commandBytes, Moved, Round}
+use Rattle.commands.specs.Commands.{commandBytes}
+use Rattle.rounds.specs.Due.{Flow, Moved, Round}
 use Rattle.rounds.specs.Rounds.{opening}
 use Rattle.gatebook.specs.declared.course.Course.{Course}
 
+-- The buffers: as many bytes of input as have their lines in the buffer of lines.
+abbrev pub linesBytes : ℕ
+linesBytes = 65536
+
+abbrev pub inputBytes : ℕ
+inputBytes = linesBytes / lineBytes - 1
+
 -- 2^63, to which no run comes
 abbrev pub mostBytes : ℕ
-mostBytes = 9223372036854775808
+mostBytes = 2 ^ 63
 
 -- Whether there is another round. The program ends by itself only where it has read or written the most bytes, or where a write failed.
 abbrev pub goes : Course → Bool

@@ -1,8 +1,8 @@
 // The program with its buffers: a read, a round and a write, and whether there is another. Its fields are private, so that the loop can only hand on what it was
 // handed.
-use buffers::move_down;
-use buffers::read_behind;
-use buffers::write_lines;
+use crate::buffers::move_down;
+use crate::buffers::read_behind;
+use crate::buffers::write_lines;
 use rounds::Progress;
 use rounds::answer;
 ghost use mathlib.Core.Path.{_≡_};

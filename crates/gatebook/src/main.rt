@@ -1,5 +1,6 @@
 // The program `gatebook`: it reads the shape and commands from standard input and writes a line for each to standard output. It reads what there is, has it
 // answered, and writes the lines before it reads again, so that neither the input nor the output has to fit a buffer.
+mod buffers;
 mod course;
 
 use course::Course;
@@ -8,14 +9,16 @@ use course::opening;
 use course::receive;
 use course::round;
 use course::send;
+use decimal::LINE_BYTES;
 use turns::lent_list;
 use turns::lent_memory;
 ghost use Prim.Native.Nat.{_≤_};
 ghost use lib.ListN.{length};
 ghost use mathlib.Core.Path.{_≡_};
 ghost use Rattle.turns.specs.Turns.{storeIn};
-ghost use Rattle.rounds.specs.Due.{commandBytes, roomFor};
-ghost use Rattle.gatebook.specs.Course.{mostBytes, Ended};
+ghost use Rattle.commands.specs.Commands.{commandBytes};
+ghost use Rattle.rounds.specs.Due.{roomFor};
+ghost use Rattle.gatebook.specs.Course.{inputBytes, mostBytes, Ended};
 
 // Rounds until the program ends.
 fn run(mem: &mut [u8], scans: &mut [u8], input: &mut [u8], lines: &mut [u8]) -> Course
@@ -31,11 +34,15 @@ fn run(mem: &mut [u8], scans: &mut [u8], input: &mut [u8], lines: &mut [u8]) -> 
     c
 }
 
-// The lines of as many commands as these bytes can hold fit the buffer of lines.
-fn input_buffer() -> [u8; 1023]
-    ensures { λ r. ⌜ 1023 ≡ length r ⌝ }
+// The buffer of lines is `io::large_buffer`; the lines of as many commands as the input buffer can hold fit it.
+const LINES_BYTES: usize = 65536;
+
+const INPUT_BYTES: usize = LINES_BYTES / LINE_BYTES - 1;
+
+fn input_buffer() -> [u8; INPUT_BYTES]
+    ensures { λ r. ⌜ inputBytes ≡ length r ⌝ }
 {
-    [0; 1023]
+    [0; INPUT_BYTES]
 }
 
 fn main() {

@@ -5,10 +5,10 @@ use mathlib.Core.List.{List, _++_}
 use native.Mathlib.Omega.{arith}
 use lib.ListN.{length, drop}
 use lib.Seq.{sets-eq}
-use Rattle.decimal.specs.Written.{Written}
+use Rattle.decimal.specs.Written.{lineBytes, Written}
 use Rattle.lines.specs.Written.{Rendered}
 
-pub rendered : {old new s : List ℕ} {n : ℕ} → Written old new 0 s n → n ≤ 64 → Rendered old new s n
+pub rendered : {old new s : List ℕ} {n : ℕ} → Written old new 0 s n → n ≤ lineBytes → Rendered old new s n
 rendered w h = record { bytes = w .bytes; count = omega (arith, w .place); fits = h }
 
 -- the buffer as a whole

@@ -4,7 +4,7 @@ use mathlib.Core.List.{List, [], _∷_, _++_}
 use Prim.Native.Nat.{ℕ, _/_, _%_}
 use Rattle.terms.specs.Refusals.{refusalNumber}
 use Rattle.terms.specs.declared.Answer.{Answer}
-use Rattle.decimal.specs.Decimal.{text, digit, digits, decimal, signed, field}
+use Rattle.decimal.specs.Decimal.{text, digit, decimal, signed, field}
 
 -- "the command byte in two hexadecimal capitals"
 unfoldable pub capitals : ℕ → List ℕ
@@ -27,8 +27,3 @@ line b a = capitals b ++ outcome a ++ text "\n"
 
 unfoldable pub shapeLine : Answer → List ℕ
 shapeLine a = text "shape" ++ outcome a ++ text "\n"
-
--- One name for what all of these unfold to, for a proof's `unfolding` line.
-unfoldable pub printing : Unit {0}
-unfolding digits decimal signed capitals outcome line shapeLine
-printing = tt

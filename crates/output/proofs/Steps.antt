@@ -15,8 +15,9 @@ use Rattle.lines.specs.Lines.{line, shapeLine}
 use Rattle.commands.specs.declared.Chosen.{Chosen}
 use Rattle.commands.specs.Commands.{chosen, width, callFrom, Item, itemAt, behind, items, script, cutShape, parse, shapeBytes, shapeFrom}
 use Rattle.commands.proofs.Parts.{whole, call-part}
-use Rattle.output.specs.Output.{lent, shapeAnswer, goesOn, calls, linesOf, outputOf, output}
-use Rattle.output.specs.Steps.{Machine, historyOf, operandsOf, answerTo, stateAfter, steps, linesFrom, written}
+use Rattle.output.specs.Output.{lentColumns, lentRanges, lentRecords, lentSpares, lent, shapeAnswer, goesOn, calls, linesOf, outputOf, output}
+use Rattle.output.specs.Machine.{Machine, historyOf}
+use Rattle.output.specs.Steps.{operandsOf, answerTo, stateAfter, steps, linesFrom, written}
 use Rattle.loops.proofs.Search.{and-true}
 
 -- ---- no answer of the plain history ends the program
@@ -166,11 +167,11 @@ wider low high more n h e =
 pub lent-within : (s : Shape) → lent s ≡ true → withinLimits s ≡ true
 unfolding lent withinLimits
 lent-within s e =
-    let p = and-true (between 1 4 (s .columns) && between 1 4 (s .ranges) && between 1 64 (s .capacity)) (between 0 16 (s .spares)) e in
-    let q = and-true (between 1 4 (s .columns) && between 1 4 (s .ranges)) (between 1 64 (s .capacity)) (p .0) in
-    let r = and-true (between 1 4 (s .columns)) (between 1 4 (s .ranges)) (q .0) in
-    let columns = wider 1 4 mostColumns (s .columns) (omega arith) (r .0) in
-    let ranges = wider 1 4 mostRanges (s .ranges) (omega arith) (r .1) in
-    let records = wider 1 64 mostRecords (s .capacity) (omega arith) (q .1) in
-    let spares = wider 0 16 mostSpares (s .spares) (omega arith) (p .1) in
+    let p = and-true _ _ e in
+    let q = and-true _ _ (p .0) in
+    let r = and-true _ _ (q .0) in
+    let columns = wider 1 lentColumns mostColumns (s .columns) (omega arith) (r .0) in
+    let ranges = wider 1 lentRanges mostRanges (s .ranges) (omega arith) (r .1) in
+    let records = wider 1 lentRecords mostRecords (s .capacity) (omega arith) (q .1) in
+    let spares = wider 0 lentSpares mostSpares (s .spares) (omega arith) (p .1) in
     rw (columns, ranges, records, spares)

@@ -1,4 +1,5 @@
--- What gatebook must write for any input, at once and step by step, and the worked example.
+-- What gatebook must write for any input, at once and step by step, what answers its calls, and the worked example.
 pub mod Output
+pub mod Machine
 pub mod Steps
 pub mod Example

@@ -13,8 +13,21 @@ use Rattle.commands.specs.Commands.{Item, command, refused, Script, cutShape, s
 
 -- "`gatebook` lends memory for 4 columns, 4 ranges, 64 tail records, 16 spares and answers 1 above that." Each of these is within the limits of a shape, so
 -- that a shape outside the limits is answered 1 as well (proofs/Steps.antt, `lent-within`).
+abbrev pub lentColumns : ℕ
+lentColumns = 4
+
+abbrev pub lentRanges : ℕ
+lentRanges = 4
+
+abbrev pub lentRecords : ℕ
+lentRecords = 64
+
+abbrev pub lentSpares : ℕ
+lentSpares = 16
+
 unfoldable pub lent : Shape → Bool
-lent s = between 1 4 (s .columns) && between 1 4 (s .ranges) && between 1 64 (s .capacity) && between 0 16 (s .spares)
+lent s =
+    between 1 lentColumns (s .columns) && between 1 lentRanges (s .ranges) && between 1 lentRecords (s .capacity) && between 0 lentSpares (s .spares)
 
 -- what the shape is answered
 unfoldable pub shapeAnswer : Shape → Answer
@@ -51,8 +64,3 @@ outputOf (script s is) =
 -- "empty input prints "shape no 20". Input that ends between commands adds no line."
 unfoldable pub output : List ℕ → List ℕ
 output bs = outputOf (parse bs)
-
--- One name for what all of these unfold to, for a proof's `unfolding` line.
-unfoldable pub writing : Unit {0}
-unfolding lent shapeAnswer goesOn calls linesOf outputOf output
-writing = tt

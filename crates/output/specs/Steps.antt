@@ -1,4 +1,4 @@
--- The same output as a program gives it that reads as it goes: the six bytes of the shape, then a command byte and its operands, an answer and its line,
+-- The same output as a program gives it that reads as it goes: the bytes of the shape, then a command byte and its operands, an answer and its line,
 -- until an answer after which it ends or the end of the input. What answers the calls is a parameter here: the plain history, or a store.
 -- proofs/Steps.antt has the theorem that with the plain history this is `output`.
 use mathlib.Core.Bool.{Bool, cond}
@@ -6,22 +6,14 @@ use mathlib.Core.List.{List, [], _∷_, _++_}
 use Prim.Native.Nat.{ℕ, zero, suc}
 use lib.Dec.{leb}
 use lib.ListN.{length, take, drop}
-use Rattle.terms.specs.Measures.{Shape}
 use Rattle.terms.specs.declared.Refusal.{Refusal}
 use Rattle.terms.specs.declared.Answer.{Answer}
-use Rattle.history.specs.History.{Call, History, start, answer, next}
+use Rattle.history.specs.History.{start}
 use Rattle.lines.specs.Lines.{line, shapeLine}
 use Rattle.commands.specs.declared.Chosen.{Chosen}
 use Rattle.commands.specs.Commands.{chosen, width, callFrom, behind, shapeBytes, shapeFrom}
 use Rattle.output.specs.Output.{shapeAnswer, goesOn}
-
--- What answers calls: in each state an answer to a call, and the state after it.
-pub record Machine (State : Type 0) : Type 0 where
-  pub answer : State → Call → Answer
-  pub next : State → Call → State
-
-abbrev pub historyOf : Shape → Machine History
-historyOf s = record { answer = answer s; next = next s }
+use Rattle.output.specs.Machine.{Machine, historyOf}
 
 -- the bytes that are read behind a command byte: its operands, or as many as there are
 unfoldable pub operandsOf : ℕ → Chosen → List ℕ → List ℕ

@@ -7,14 +7,23 @@ ghost use mathlib.Core.Path.{_≡_};
 ghost use Rattle.commands.specs.Decoded.{measured};
 ghost use Rattle.output.specs.Output.{goesOn, lent};
 
+// The largest shape that memory is lent for.
+const LENT_COLUMNS: u32 = 4;
+
+const LENT_RANGES: u32 = 4;
+
+const LENT_RECORDS: u32 = 64;
+
+const LENT_SPARES: u32 = 16;
+
 // "`gatebook` lends memory for 4 columns, 4 ranges, 64 tail records, 16 spares and answers 1 above that."
 pub fn lends(m: Measures) -> bool
     ensures { λ r. ⌜ r ≡ lent (measured m) ⌝ }
 {
-    let columns = and_between(true, 1, 4, m.columns);
-    let ranges = and_between(columns, 1, 4, m.ranges);
-    let capacity = and_between(ranges, 1, 64, m.capacity);
-    and_between(capacity, 0, 16, m.spares)
+    let columns = and_between(true, 1, LENT_COLUMNS, m.columns);
+    let ranges = and_between(columns, 1, LENT_RANGES, m.ranges);
+    let capacity = and_between(ranges, 1, LENT_RECORDS, m.capacity);
+    and_between(capacity, 0, LENT_SPARES, m.spares)
 }
 
 // "It goes on after 2 to 18 and ends after the others."

@@ -1,7 +1,10 @@
 // Runs packed streams of commands through gatebook's library and writes their lines. Each stream's store is made anew in the memory that the stream before it
 // left. The pack is read from standard input; reference/src/pack.rs describes it, and the second program writes it and the lines that are expected.
+use decimal::LINE_BYTES;
 use libc::STDIN_FILENO;
 use libc::STDOUT_FILENO;
+use turns::LIST_BYTES;
+use turns::MEMORY_BYTES;
 use turns::columns_of;
 use turns::operand_width;
 use turns::start;
@@ -10,12 +13,10 @@ ghost use Prim.Native.Nat.{_+_, _≤_, _<_};
 ghost use lib.ListN.{length};
 ghost use mathlib.Core.Path.{_≡_};
 ghost use Rattle.io.specs.Counts.{Counts};
+ghost use Rattle.turns.specs.Gatebook.{memoryBytes, listBytes};
+ghost use Rattle.replay.specs.Pack.{packBytes, headBytes};
 
-// The bytes that gatebook lends, and those of 16 places of the scan list. They begin with other values than zeros.
-const MEMORY: usize = 25552;
-
-const LIST: usize = 192;
-
+// What the lent bytes begin with, other than zeros.
 const DIRT: u8 = 0xa5;
 
 // The most bytes of a pack, and the bytes before those that a record holds.
@@ -116,12 +117,12 @@ fn write(line: &[u8], n: usize) {
 }
 
 // Callers have an array that a callee filled, and by this type need not show its length.
-fn write_line(line: &[u8; 64], n: usize) {
+fn write_line(line: &[u8; LINE_BYTES], n: usize) {
     write(line, n);
 }
 
 // A line is written, or folded into the number and the hash. `on` is whether the stream goes on after it.
-fn put_line(line: &[u8; 64], n: usize, on: bool, folded: bool, c: Course) -> Course {
+fn put_line(line: &[u8; LINE_BYTES], n: usize, on: bool, folded: bool, c: Course) -> Course {
     if !folded {
         write(line, n);
         return Course {
@@ -150,7 +151,7 @@ fn answer(
     folded: bool,
     c: Course,
 ) -> Course {
-    let mut line = [0u8; 64];
+    let mut line = [0u8; LINE_BYTES];
     let t = turn(mem, scans, c.columns, byte, operands, &mut line);
     put_line(&line, t.length, t.on, folded, c)
 }
@@ -243,7 +244,7 @@ fn put_title(title: &[u8]) -> Course {
 
 // The shape's line, and the store.
 fn begin(mem: &mut [u8], scans: &mut [u8], shape: &[u8]) -> Course {
-    let mut line = [0u8; 64];
+    let mut line = [0u8; LINE_BYTES];
     let t = start(mem, scans, shape, &mut line);
     write_line(&line, t.length);
     Course {
@@ -306,7 +307,7 @@ fn run_record(
 
 // The record at a place of the pack.
 fn take_record(mem: &mut [u8], scans: &mut [u8], pack: &mut [u8], at: usize, c: Course) -> Step
-    requires { ⌜ at + 9 ≤ length (now pack) ⌝ }
+    requires { ⌜ at + headBytes ≤ length (now pack) ⌝ }
     ensures { λ r. ⌜ (at < r .at) × (r .at ≤ length (now (pack .entry))) ⌝ }
 {
     let kind = pack[at];
@@ -346,20 +347,20 @@ fn run_all(mem: &mut [u8], scans: &mut [u8], pack: &mut [u8]) {
 }
 
 // What is lent, of which only the length matters.
-fn lent_memory() -> [u8; MEMORY]
-    ensures { λ r. ⌜ 25552 ≡ length r ⌝ }
+fn lent_memory() -> [u8; MEMORY_BYTES]
+    ensures { λ r. ⌜ memoryBytes ≡ length r ⌝ }
 {
-    [DIRT; MEMORY]
+    [DIRT; MEMORY_BYTES]
 }
 
-fn lent_list() -> [u8; LIST]
-    ensures { λ r. ⌜ 192 ≡ length r ⌝ }
+fn lent_list() -> [u8; LIST_BYTES]
+    ensures { λ r. ⌜ listBytes ≡ length r ⌝ }
 {
-    [DIRT; LIST]
+    [DIRT; LIST_BYTES]
 }
 
 fn pack_buffer() -> [u8; PACK]
-    ensures { λ r. ⌜ 262144 ≡ length r ⌝ }
+    ensures { λ r. ⌜ packBytes ≡ length r ⌝ }
 {
     [0; PACK]
 }

@@ -1,48 +1,60 @@
 -- What is due for each kind of call: one that changes no memory, one that changes no list, and one that changes one place of the list.
 use Prim.Native.Nat.{ℕ}
-use mathlib.Core.Path.{_≡_, sym, ap, subst, _∙_}
+use mathlib.Core.Path.{_≡_, ap, _∙_}
 use mathlib.Core.Bool.{Bool}
 use mathlib.Core.List.{List}
 use lib.ListN.{length, set}
 use Rattle.terms.specs.Measures.{Shape}
 use Rattle.terms.specs.declared.Answer.{Answer}
 use Rattle.terms.specs.declared.Place.{Place}
-use Rattle.words.specs.Words.{Bytes}
 use Rattle.scans.specs.declared.Scans.{Scans}
 use Rattle.scans.specs.Table.{tableOf}
 use Rattle.making.specs.Made.{made}
-use Rattle.history.specs.History.{Call}
-use Rattle.promise.specs.Promise.{Answers, Leaves, Serves, Makes}
+use Rattle.history.specs.History.{Call, openScan, close}
+use Rattle.promise.specs.Promise.{Serves, Makes, ServesBy, kept}
 use Rattle.upkeep.specs.declared.Listed.{Listed}
-use Rattle.upkeep.specs.Lists.{Lists}
+use Rattle.upkeep.specs.Lists.{changedAt}
+use Rattle.commands.specs.declared.Read.{Read}
+use Rattle.commands.specs.declared.Write.{Write}
+use Rattle.commands.specs.declared.Kind.{Kind}
 use Rattle.commands.specs.declared.Request.{Request}
+use Rattle.commands.specs.Commands.{first, readOf, writeOf, callOf}
 use Rattle.terms.specs.Refusals.{isAccepted}
 use Rattle.scans.specs.Places.{freedIf}
-use Rattle.calls.proofs.Served.{Reads, KeepsList, memory-kept, list-kept}
 use Rattle.requests.specs.Asked.{asked}
 
 -- ---- a call is served
 
-pub looked : (m : List ℕ) (t : Scans) (x : Call) (r : Answer) → Bytes m → Reads x → KeepsList x → Answers m t x r
-    → (ps : List Place) → t ≡ tableOf ps → Serves m ps x r m ps
-unfolding Serves Answers
-looked m t x r b q k h ps e = (h ps e, memory-kept m ps x b q, list-kept m ps x k)
+-- what is due for a call is due for a request that asks for it
+asks : (m : List ℕ) (ps : List Place) (q : Request) (k : Kind) (r : Answer) (m′ : List ℕ) (ps′ : List Place)
+    → q .kind ≡ k → Serves m ps (callOf k (q .operands) (q .values)) r m′ ps′ → Serves m ps (asked q) r m′ ps′
+asks m ps q k r m′ ps′ e h = rw e h
 
-pub changed : (m : List ℕ) (t : Scans) (x : Call) (r : Answer) (m′ : List ℕ) → KeepsList x → Leaves m t x r m′
-    → (ps : List Place) → t ≡ tableOf ps → Serves m ps x r m′ ps
-unfolding Serves Leaves
-changed m t x r m′ k h ps e = (h ps e .0, h ps e .1, list-kept m ps x k)
+module _ (m : List ℕ) (t : Scans) (ps : List Place) (q : Request) (z : t ≡ tableOf ps) where
+  pub read-served : (k : Read) (r : Answer) → q .kind ≡ Kind.Read k → ServesBy t m (readOf k (q .operands)) r m kept → Serves m ps (asked q) r m ps
+  unfolding ServesBy callOf
+  read-served k r e h = asks m ps q (Kind.Read k) r m ps e (h ps z)
+
+  pub write-served : (k : Write) (r : Answer) (m′ : List ℕ) → q .kind ≡ Kind.Write k → ServesBy t m (writeOf k (q .operands) (q .values)) r m′ kept
+      → Serves m ps (asked q) r m′ ps
+  unfolding ServesBy callOf
+  write-served k r m′ e h = asks m ps q (Kind.Write k) r m′ ps e (h ps z)
+
+  pub open-served : (r : Answer) (m′ : List ℕ) (ps′ : List Place) → q .kind ≡ Kind.OpenScan
+      → (t ≡ tableOf ps → Serves m ps (openScan (first (q .operands))) r m′ ps′) → Serves m ps (asked q) r m′ ps′
+  unfolding callOf
+  open-served r m′ ps′ e h = asks m ps q Kind.OpenScan r m′ ps′ e (h z)
+
+  pub close-served : (r : Answer) (m′ : List ℕ) (ps′ : List Place) → q .kind ≡ Kind.Close
+      → (t ≡ tableOf ps → Serves m ps (close (first (q .operands))) r m′ ps′) → Serves m ps (asked q) r m′ ps′
+  unfolding callOf
+  close-served r m′ ps′ e h = asks m ps q Kind.Close r m′ ps′ e (h z)
 
 -- a call that changes one place of the list, which is written back
-pub listed : (m : List ℕ) (t : Scans) (x : Call) (r : Listed) (m′ : List ℕ) (ps ps′ : List Place) → Lists m t x r m′ → ps′ ≡ set ps (r .place) (r .entry)
-    → t ≡ tableOf ps → Serves m ps x (r .answer) m′ ps′
-unfolding Serves Lists
-listed m t x r m′ ps ps′ h e z = (h ps z .0, h ps z .1, e ∙ h ps z .2)
-
--- what is due for a call is due for a request that asks for it
-pub asks : (m : List ℕ) (ps : List Place) (q : Request) (x : Call) (r : Answer) (m′ : List ℕ) (ps′ : List Place)
-    → asked q ≡ x → Serves m ps x r m′ ps′ → Serves m ps (asked q) r m′ ps′
-asks m ps q x r m′ ps′ e h = subst (λ (y : Call). Serves m ps y r m′ ps′) (sym e) h
+pub listed : (m : List ℕ) (t : Scans) (x : Call) (r : Listed) (m′ : List ℕ) (ps ps′ : List Place) → ServesBy t m x (r .answer) m′ (changedAt r)
+    → ps′ ≡ set ps (r .place) (r .entry) → t ≡ tableOf ps → Serves m ps x (r .answer) m′ ps′
+unfolding ServesBy
+listed m t x r m′ ps ps′ h e z = rw e (h ps z)
 
 -- ---- a store is made
 

@@ -1,4 +1,5 @@
 -- Laws that the functions of this crate rest on.
+pub mod Places
 pub mod Arms
 pub mod Masks
 pub mod Values

@@ -1,26 +1,27 @@
 -- A mask of more than 16 bits has a bit at or above the columns: it is refused as the mask 0 is, at the same test.
 use Prim.Native.Nat.{ℕ, _≤_, _<_, _^_}
 use native.Mathlib.Omega.{arith}
-use mathlib.Core.Path.{_≡_, refl, ap, sym, subst, _∙_}
+use mathlib.Core.Path.{_≡_, refl, ap, sym, _∙_}
 use mathlib.Core.Bool.{Bool, true, false, cond}
 use mathlib.Core.List.{List}
 use lib.Dec.{ltb}
 use lib.IntN.{ℤ}
 use borrow.Author.Tests.{ltb-true, le-leb, ne-eqb}
-use Rattle.terms.specs.Measures.{Shape}
+use Rattle.terms.specs.Measures.{Shape, mostColumns}
 use Rattle.terms.specs.declared.Answer.{Answer}
 use Rattle.terms.specs.declared.Place.{Place}
 use Rattle.terms.specs.declared.Refusal.{Refusal}
 use Rattle.words.specs.Words.{words}
+use Rattle.scans.specs.declared.Scans.{Scans}
 use Rattle.layout.specs.View.{View, lay}
 use Rattle.layout.proofs.Limits.{proper}
 use Rattle.facts.specs.Usable.{storedShape, storedSizes, usable}
 use Rattle.history.specs.History.{update, Verdict, refuse, verdict, answerIf, badMask}
-use Rattle.model.specs.Calls.{notOpenIn, notGivenIn, testsIn, replyIn, actIn, placesAfter, viewIf, say, viewNext}
-use Rattle.promise.specs.Promise.{storeView, answerOf, memoryAfter, Serves}
+use Rattle.model.specs.Calls.{notOpenIn, notGivenIn, testsIn, replyIn, actIn, viewIf, say, viewNext}
+use Rattle.promise.specs.Promise.{storeView, answerOf, memoryAfter, listAfter, Serves, ServesBy, kept}
+use Rattle.requests.specs.Asked.{mostMask}
 use Rattle.facts.proofs.Usable.{usable-tells}
 use native.Mathlib.Nat.{pow-le-pow-right}
-use Rattle.calls.proofs.Served.{list-kept}
 
 -- ---- what an update with a refused mask answers and leaves, by the two tests before the mask's
 
@@ -60,11 +61,11 @@ module _ (S : Shape) (v : View) (ps : List Place) (a b : ℕ) (vs : List ℤ) wh
 
 -- ---- on a lent memory
 
-wide-bad : (m : List ℕ) (ps : List Place) (c : ℕ) → usable m ps ≡ true → 65535 < c → badMask (storedShape (words m)) c ≡ true
+wide-bad : (m : List ℕ) (ps : List Place) (c : ℕ) → usable m ps ≡ true → mostMask < c → badMask (storedShape (words m)) c ≡ true
 unfolding badMask
 wide-bad m ps c u h =
     let l = proper (storedShape (words m)) (usable-tells m ps u .within) in
-    let p : 2 ^ (storedShape (words m)) .columns ≤ 2 ^ 16 = pow-le-pow-right (omega arith) (l .columns-to) in
+    let p : 2 ^ (storedShape (words m)) .columns ≤ 2 ^ mostColumns = pow-le-pow-right (omega arith) (l .columns-to) in
     let q : 2 ^ (storedShape (words m)) .columns ≤ c = omega arith in
     rw (ne-eqb c 0 (λ e. omega arith), le-leb _ c q)
 
@@ -72,7 +73,7 @@ none-bad : (S : Shape) → badMask S 0 ≡ true
 unfolding badMask
 none-bad S = refl
 
-module _ (m : List ℕ) (ps : List Place) (a b c : ℕ) (vs : List ℤ) (h : 65535 < c) where
+module _ (m : List ℕ) (ps : List Place) (a b c : ℕ) (vs : List ℤ) (h : mostMask < c) where
   answer-wide : answerOf m ps (update a b 0 vs) ≡ answerOf m ps (update a b c vs)
   unfolding answerOf
   answer-wide = go (usable m ps) refl
@@ -97,15 +98,29 @@ module _ (m : List ℕ) (ps : List Place) (a b c : ℕ) (vs : List ℤ) (h : 655
       go true u = ap (λ (v : View). lay (storedSizes (words m)) v m) (view-bad S (storeView m) ps a b vs 0 c (none-bad S) (wide-bad m ps c u h))
       go false u = refl
 
--- What is due for the mask n that the code takes is due for the operand c.
-pub masked : (m : List ℕ) (ps : List Place) (a b c n : ℕ) (vs : List ℤ) (r : Answer) (m′ : List ℕ) → n ≡ cond (ltb 65535 c) 0 c
-    → Serves m ps (update a b n vs) r m′ ps → Serves m ps (update a b c vs) r m′ ps
-unfolding Serves placesAfter
-masked m ps a b c n vs r m′ z s = go (ltb 65535 c) refl z
+  list-wide : listAfter m ps (update a b 0 vs) ≡ listAfter m ps (update a b c vs)
+  unfolding listAfter placesNext placesAfter
+  list-wide = go (usable m ps)
+    where
+      same : (w : Verdict) → placesIf w ps ps ≡ ps
+      unfolding placesIf
+      same accept = refl
+      same (refuse n) = refl
+
+      go : (f : Bool) → cond f (placesIf (verdict (testsIn (storedShape (words m)) (storeView m) ps (update a b 0 vs))) ps ps) ps
+          ≡ cond f (placesIf (verdict (testsIn (storedShape (words m)) (storeView m) ps (update a b c vs))) ps ps) ps
+      go true = same _ ∙ sym (same _)
+      go false = refl
+
+-- What is left for the mask n that the code takes is left for the operand c.
+pub masked : (m : List ℕ) (t : Scans) (a b c n : ℕ) (vs : List ℤ) (r : Answer) (m′ : List ℕ) → n ≡ cond (ltb mostMask c) 0 c
+    → ServesBy t m (update a b n vs) r m′ kept → ServesBy t m (update a b c vs) r m′ kept
+unfolding ServesBy Serves
+masked m t a b c n vs r m′ z s = go (ltb mostMask c) refl z
   where
-    go : (f : Bool) → ltb 65535 c ≡ f → n ≡ cond f 0 c → Serves m ps (update a b c vs) r m′ ps
-    go true e q =
-        let h = ltb-true 65535 c e in
-        let w : Serves m ps (update a b 0 vs) r m′ ps = subst (λ (k : ℕ). Serves m ps (update a b k vs) r m′ ps) q s in
-        (w .0 ∙ answer-wide m ps a b c vs h, w .1 ∙ memory-wide m ps a b c vs h, list-kept m ps (update a b c vs) (λ v qs. refl))
-    go false e q = subst (λ (k : ℕ). Serves m ps (update a b k vs) r m′ ps) q s
+    go : (f : Bool) → ltb mostMask c ≡ f → n ≡ cond f 0 c → ServesBy t m (update a b c vs) r m′ kept
+    go true e q = λ ps p.
+        let h = ltb-true mostMask c e in
+        let w : ServesBy t m (update a b 0 vs) r m′ kept = rw q at s in
+        (w ps p .0 ∙ answer-wide m ps a b c vs h, w ps p .1 ∙ memory-wide m ps a b c vs h, w ps p .2 ∙ list-wide m ps a b c vs h)
+    go false e q = rw q at s

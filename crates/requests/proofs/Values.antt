@@ -20,9 +20,10 @@ use Rattle.history.specs.History.{Call, insert, update, rangeOf}
 use Rattle.model.specs.Stored.{asSetting}
 use Rattle.model.specs.Writing.{putCells, insertedAt, insertedIn, settingAppended, originalAppended, updatedIn, filledIn, nextSlot, appended}
 use Rattle.model.specs.Calls.{testsIn, replyIn, actIn, placesAfter, say, viewNext, placesNext}
+use Rattle.commands.specs.declared.Write.{Write}
 use Rattle.commands.specs.declared.Kind.{Kind}
 use Rattle.commands.specs.declared.Request.{Request}
-use Rattle.commands.specs.Commands.{callOf}
+use Rattle.commands.specs.Commands.{first, second, third, writeOf, callOf}
 use Rattle.commands.specs.Decoded.{callIn, ZerosPast}
 use Rattle.promise.specs.Promise.{storeView, answerOf, memoryAfter, listAfter, Serves}
 use Rattle.requests.specs.Asked.{asked}
@@ -66,28 +67,23 @@ served-alike m ps x y r m′ ps′ t a k l w =
     )
 
 -- What is due for a call with one list of values is due for it with another that agrees.
-served-values : (m : List ℕ) (ps : List Place) (k : Kind) (a b c : ℕ) (vs us : List ℤ) (r : Answer) (m′ : List ℕ) (ps′ : List Place) → Agree vs us
-    → Serves m ps (callOf k a b c vs) r m′ ps′ → Serves m ps (callOf k a b c us) r m′ ps′
-unfolding callOf testsIn replyIn actIn placesAfter
-served-values m ps Kind.Begin a b c vs us r m′ ps′ e w = w
-served-values m ps Kind.Insert a b c vs us r m′ ps′ e w =
-    served-alike m ps (insert a vs) (insert a us) r m′ ps′ (λ S v. refl) (λ S v. refl) (λ S v. inserted-agree vs us e S a v) (λ v. refl) w
-served-values m ps Kind.Update a b c vs us r m′ ps′ e w =
-    served-alike m ps (update a b c vs) (update a b c us) r m′ ps′ (λ S v. refl) (λ S v. refl) (λ S v. updated-agree vs us e S a b c v) (λ v. refl) w
-served-values m ps Kind.Delete a b c vs us r m′ ps′ e w = w
-served-values m ps Kind.Commit a b c vs us r m′ ps′ e w = w
-served-values m ps Kind.Abort a b c vs us r m′ ps′ e w = w
-served-values m ps Kind.Latest a b c vs us r m′ ps′ e w = w
-served-values m ps Kind.ReadAt a b c vs us r m′ ps′ e w = w
-served-values m ps Kind.OwnRead a b c vs us r m′ ps′ e w = w
-served-values m ps Kind.OpenScan a b c vs us r m′ ps′ e w = w
-served-values m ps Kind.ScanRead a b c vs us r m′ ps′ e w = w
-served-values m ps Kind.Sum a b c vs us r m′ ps′ e w = w
-served-values m ps Kind.Close a b c vs us r m′ ps′ e w = w
-served-values m ps Kind.Merge a b c vs us r m′ ps′ e w = w
-served-values m ps Kind.Release a b c vs us r m′ ps′ e w = w
-served-values m ps Kind.PageCell a b c vs us r m′ ps′ e w = w
-served-values m ps Kind.Lineage a b c vs us r m′ ps′ e w = w
+served-values : (m : List ℕ) (ps : List Place) (k : Kind) (ns : List ℕ) (vs us : List ℤ) (r : Answer) (m′ : List ℕ) (ps′ : List Place) → Agree vs us
+    → Serves m ps (callOf k ns vs) r m′ ps′ → Serves m ps (callOf k ns us) r m′ ps′
+unfolding callOf writeOf testsIn replyIn actIn placesAfter
+served-values m ps (Kind.Read k) ns vs us r m′ ps′ e w = w
+served-values m ps (Kind.Write Write.Begin) ns vs us r m′ ps′ e w = w
+served-values m ps (Kind.Write Write.Insert) ns vs us r m′ ps′ e w =
+    served-alike m ps (insert (first ns) vs) (insert (first ns) us) r m′ ps′ (λ S v. refl) (λ S v. refl) (λ S v. inserted-agree vs us e S (first ns) v) (λ v. refl) w
+served-values m ps (Kind.Write Write.Update) ns vs us r m′ ps′ e w =
+    served-alike m ps (update (first ns) (second ns) (third ns) vs) (update (first ns) (second ns) (third ns) us) r m′ ps′ (λ S v. refl) (λ S v. refl)
+    (λ S v. updated-agree vs us e S (first ns) (second ns) (third ns) v) (λ v. refl) w
+served-values m ps (Kind.Write Write.Delete) ns vs us r m′ ps′ e w = w
+served-values m ps (Kind.Write Write.Commit) ns vs us r m′ ps′ e w = w
+served-values m ps (Kind.Write Write.Abort) ns vs us r m′ ps′ e w = w
+served-values m ps (Kind.Write Write.Merge) ns vs us r m′ ps′ e w = w
+served-values m ps (Kind.Write Write.Release) ns vs us r m′ ps′ e w = w
+served-values m ps Kind.OpenScan ns vs us r m′ ps′ e w = w
+served-values m ps Kind.Close ns vs us r m′ ps′ e w = w
 
 -- The first n values agree with all where those past them are 0.
 zeros-agree : (vs : List ℤ) (n : ℕ) → ZerosPast n vs → Agree vs (take n vs)
@@ -104,4 +100,4 @@ zeros-agree vs n z c = go (decLe n c)
 pub served-call : (m : List ℕ) (ps : List Place) (q : Request) (r : Answer) (m′ : List ℕ) (ps′ : List Place) → ZerosPast (q .count) (q .values)
     → Serves m ps (asked q) r m′ ps′ → Serves m ps (callIn q) r m′ ps′
 served-call m ps q r m′ ps′ z w =
-    served-values m ps (q .kind) (q .first) (q .second) (q .third) (q .values) (take (q .count) (q .values)) r m′ ps′ (zeros-agree (q .values) (q .count) z) w
+    served-values m ps (q .kind) (q .operands) (q .values) (take (q .count) (q .values)) r m′ ps′ (zeros-agree (q .values) (q .count) z) w

@@ -1,2 +1,3 @@
--- What a request asks for.
+-- The scan list in bytes, and what a request asks for.
+pub mod Packed
 pub mod Asked

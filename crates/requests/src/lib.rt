@@ -1,4 +1,6 @@
 // One call on a store, asked for by a request: the seventeen calls behind one function, with the scan list as bytes.
+pub mod packed;
+
 use changes::abort;
 use changes::begin;
 use changes::commit;
@@ -6,7 +8,11 @@ use changes::delete;
 use changes::insert;
 use changes::update;
 use commands::Kind;
+use commands::MOST_COLUMNS;
+use commands::MOST_OPERANDS;
+use commands::Read;
 use commands::Request;
+use commands::Write;
 use lent::accepted;
 use lookups::latest;
 use lookups::lineage;
@@ -33,12 +39,13 @@ ghost use mathlib.Core.Path.{_≡_};
 ghost use mathlib.Core.Bool.{cond};
 ghost use lib.Dec.{ltb};
 ghost use Rattle.words.specs.Words.{words};
-ghost use Rattle.packed.specs.Packed.{placesOf};
+ghost use Rattle.requests.specs.Packed.{placesOf};
 ghost use Rattle.scans.specs.Table.{tableOf};
 ghost use Rattle.layout.specs.Sizes.{shapeOf};
 ghost use Rattle.history.specs.History.{Call};
-ghost use Rattle.promise.specs.Promise.{Serves, Makes};
-ghost use Rattle.requests.specs.Asked.{asked};
+ghost use Rattle.commands.specs.Commands.{readOf, writeOf};
+ghost use Rattle.promise.specs.Promise.{Serves, ServesBy, Makes, kept};
+ghost use Rattle.requests.specs.Asked.{mostMask, asked};
 
 // A store is made, and with it every place of the list becomes free.
 pub fn make_store(
@@ -57,16 +64,6 @@ pub fn make_store(
         free_all(scans);
     }
     answer
-}
-
-// The mask that an operand stands for. One of more than 16 bits is refused as the mask 0 is, at the same test.
-fn mask_of(c: u32) -> u16
-    ensures { λ r. ⌜ r ≡ cond (ltb 65535 c) 0 c ⌝ }
-{
-    if c > 65535 {
-        return 0;
-    }
-    c as u16
 }
 
 // The two calls that change the list: the place that changed is written back.
@@ -92,33 +89,74 @@ fn close_listed(mem: &[u8], scans: &mut [u8], t: Scans, a: u32) -> Answer
     answer
 }
 
+// The mask of every column that a store can have.
+const MOST_MASK: u32 = 65535;
+
+// The mask that an operand stands for. One of more bits is refused as the mask 0 is, at the same test.
+fn mask_of(c: u32) -> u16
+    ensures { λ r. ⌜ r ≡ cond (ltb mostMask c) 0 c ⌝ }
+{
+    if c > MOST_MASK {
+        return 0;
+    }
+    c as u16
+}
+
+// A call that only reads.
+fn look(mem: &[u8], t: Scans, kind: Read, operands: [u32; MOST_OPERANDS]) -> Answer
+    ensures { λ r. ⌜ ServesBy t (now (mem .entry)) (readOf kind operands) r (now (mem .entry)) kept ⌝ }
+{
+    let a = operands[0];
+    let b = operands[1];
+    let c = operands[2];
+    match kind {
+        Read::Latest => latest(mem, t, Row(a), b),
+        Read::ReadAt => read_at(mem, t, Stamp(a), Row(b), c),
+        Read::OwnRead => own_read(mem, t, Transaction(a), Row(b), c),
+        Read::ScanRead => scan_read(mem, t, a, Row(b), c),
+        Read::Sum => sum(mem, t, a, b),
+        Read::PageCell => page_cell(mem, t, a, Row(b)),
+        Read::Lineage => lineage(mem, t, a, b),
+    }
+}
+
+// One that changes the memory and leaves the list.
+fn change(
+    mem: &mut [u8],
+    t: Scans,
+    kind: Write,
+    operands: [u32; MOST_OPERANDS],
+    values: [i32; MOST_COLUMNS],
+) -> Answer
+    ensures { λ r. ⌜ ServesBy t (now (mem .entry)) (writeOf kind operands values) r (now (mem .exit)) kept ⌝ }
+{
+    let a = operands[0];
+    let b = operands[1];
+    let c = operands[2];
+    match kind {
+        Write::Begin => begin(mem, t),
+        Write::Insert => insert(mem, t, Transaction(a), values),
+        Write::Update => update(mem, t, Transaction(a), Row(b), mask_of(c), values),
+        Write::Delete => delete(mem, t, Transaction(a), Row(b)),
+        Write::Commit => commit(mem, t, Transaction(a), Stamp(b)),
+        Write::Abort => abort(mem, t, Transaction(a)),
+        Write::Merge => merge(mem, t, a, b, Tail(c)),
+        Write::Release => release(mem, t),
+    }
+}
+
 // The answer to a request.
 pub fn call(mem: &mut [u8], scans: &mut [u8], request: Request) -> Answer
     ensures { λ r. ⌜ Serves (now (mem .entry)) (placesOf (words (now (scans .entry)))) (asked request) r (now (mem .exit)) (placesOf (words (now (scans .exit)))) ⌝ }
 {
     let t = table(scans);
     let kind = request.kind;
-    let a = request.first;
-    let b = request.second;
-    let c = request.third;
+    let operands = request.operands;
     let values = request.values;
     match kind {
-        Kind::Begin => begin(mem, t),
-        Kind::Insert => insert(mem, t, Transaction(a), values),
-        Kind::Update => update(mem, t, Transaction(a), Row(b), mask_of(c), values),
-        Kind::Delete => delete(mem, t, Transaction(a), Row(b)),
-        Kind::Commit => commit(mem, t, Transaction(a), Stamp(b)),
-        Kind::Abort => abort(mem, t, Transaction(a)),
-        Kind::Latest => latest(mem, t, Row(a), b),
-        Kind::ReadAt => read_at(mem, t, Stamp(a), Row(b), c),
-        Kind::OwnRead => own_read(mem, t, Transaction(a), Row(b), c),
-        Kind::OpenScan => open_listed(mem, scans, t, a),
-        Kind::ScanRead => scan_read(mem, t, a, Row(b), c),
-        Kind::Sum => sum(mem, t, a, b),
-        Kind::Close => close_listed(mem, scans, t, a),
-        Kind::Merge => merge(mem, t, a, b, Tail(c)),
-        Kind::Release => release(mem, t),
-        Kind::PageCell => page_cell(mem, t, a, Row(b)),
-        Kind::Lineage => lineage(mem, t, a, b),
+        Kind::Read(read) => look(mem, t, read, operands),
+        Kind::Write(write) => change(mem, t, write, operands, values),
+        Kind::OpenScan => open_listed(mem, scans, t, operands[0]),
+        Kind::Close => close_listed(mem, scans, t, operands[0]),
     }
 }

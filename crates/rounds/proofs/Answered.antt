@@ -1,15 +1,25 @@
 -- A turn's line behind the others.
-use Prim.Native.Nat.{ℕ, _+_, _≤_}
+use Prim.Native.Nat.{ℕ, suc, _+_, _≤_, _<_}
 use mathlib.Core.Path.{_≡_, ap, _∙_}
-use mathlib.Core.List.{List, _++_}
+use mathlib.Core.List.{List, _++_, append-assoc}
 use native.Mathlib.Omega.{arith}
-use lib.ListN.{length, take, drop}
-use lib.Seq.{take-append-seam, sets, sets-eq, length-sets}
+use lib.ListN.{length, getD, set, take, drop}
+use lib.Seq.{take-suc, take-suc-set, take-append-seam, sets, sets-eq, length-sets}
 use Rattle.output.specs.Steps.{Step}
 use Rattle.turns.specs.declared.Outcome.{Outcome}
-use Rattle.turns.specs.Turns.{Store, Turned}
+use Rattle.turns.specs.Store.{Store}
+use Rattle.turns.specs.Turns.{Turned}
 use Rattle.rounds.specs.declared.Progress.{Progress}
-use Rattle.rounds.specs.Due.{lineBytes, Answered}
+use Rattle.decimal.specs.Written.{lineBytes}
+use Rattle.rounds.specs.Due.{Answered}
+
+-- one byte more of it
+pub keep-next : (old lines line : List ℕ) (at i v : ℕ) → take (at + i) lines ≡ take at old ++ take i line → v ≡ getD line i 0 → at + i < length lines
+    → i < length line → take (at + (i + 1)) (set lines (at + i) v) ≡ take at old ++ take (i + 1) line
+keep-next old lines line at i v e q h l =
+    let next : i + 1 ≡ suc i = omega arith in
+    let one : at + (i + 1) ≡ suc (at + i) = omega arith in
+    rw (one, next, take-suc-set lines (at + i) v h, take-suc line i 0 l, e, q, append-assoc)
 
 -- the line is at the front of its buffer
 front : (old line : List ℕ) → length line ≤ length old → take (length line) (sets old 0 line) ≡ line

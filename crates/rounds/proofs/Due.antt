@@ -1,25 +1,26 @@
 -- Laws of what is due: nothing once the program has ended; a line and what is due behind it, for the shape and for a command.
 use Prim.Native.Nat.{ℕ, zero, suc, _+_, _-_, _≤_, _<_}
 use mathlib.Core.Path.{_≡_, refl, ap, sym, _∙_}
-use mathlib.Core.Bool.{Bool, true, false, not, cond, _&&_}
+use mathlib.Core.Bool.{Bool, true, false, not, cond}
 use mathlib.Core.List.{List, [], _∷_, _++_, append-nil, append-assoc}
 use native.Mathlib.Omega.{arith}
 use native.Mathlib.Decide.{decLe}
+use lib.Dec.{T}
 use lib.ListN.{length, getD, take, drop, length-append, length-drop, drop-of-length-le}
 use lib.Seq.{take-all, take-append-le, drop-append-le, drop-cons, drop-drop, drop-length}
-use borrow.Author.Tests.{not-true}
 use Rattle.terms.specs.declared.Answer.{Answer}
-use Rattle.terms.specs.declared.Refusal.{Refusal}
-use Rattle.loops.proofs.Search.{and-true}
-use Rattle.history.proofs.Lists.{by-cases}
+use Rattle.history.proofs.Lists.{by-cases, is-false}
 use Rattle.lines.specs.Lines.{line, shapeLine}
 use Rattle.commands.specs.declared.Chosen.{Chosen}
 use Rattle.commands.specs.Commands.{commands, chosen, width, behind, shapeBytes}
 use Rattle.commands.proofs.Items.{behind-shorter}
+use Rattle.commands.proofs.Table.{chosen-passes}
 use Rattle.output.specs.Output.{goesOn}
-use Rattle.output.specs.Steps.{Machine, Step, operandsOf, answerTo, stateAfter, step, steps, linesFrom}
+use Rattle.output.specs.Machine.{Machine}
+use Rattle.output.specs.Steps.{Step, operandsOf, answerTo, stateAfter, step, steps, linesFrom}
 use Rattle.output.proofs.Steps.{steps-none}
-use Rattle.turns.specs.Turns.{Store, storeMachine, firstAnswer, firstStore, firstStep, columnsFrom, capped, operandWidth}
+use Rattle.turns.specs.Store.{Store, storeMachine}
+use Rattle.turns.specs.Turns.{firstAnswer, firstStore, firstStep, columnsFrom, capped, operandWidth}
 use Rattle.turns.specs.Gatebook.{gatebook}
 use Rattle.rounds.specs.Due.{Flow, due, Moved, endAt, stepAt, CommandIn, NoCommand, ShapeIn}
 
@@ -28,23 +29,9 @@ abbrev ends : Chosen → Bool
 ends (Chosen.Known f) = true
 ends (Chosen.Refused r) = not (goesOn (Answer.Refused r))
 
-abbrev allEnd : List Chosen → Bool
-allEnd [] = true
-allEnd (k ∷ ks) = ends k && allEnd ks
-
-all-end : allEnd commands ≡ true
+chosen-ends : (byte : ℕ) → T (ends (chosen byte))
 unfolding commands goesOn
-all-end = refl
-
-ends-at : (ks : List Chosen) → allEnd ks ≡ true → (i : ℕ) → ends (getD ks i (Chosen.Refused Refusal.Command)) ≡ true
-unfolding goesOn
-ends-at [] a i = refl
-ends-at (k ∷ ks) a zero = and-true (ends k) (allEnd ks) a .0
-ends-at (k ∷ ks) a (suc i) = ends-at ks (and-true (ends k) (allEnd ks) a .1) i
-
-chosen-ends : (byte : ℕ) → ends (chosen byte) ≡ true
-unfolding chosen
-chosen-ends byte = ends-at commands all-end byte
+chosen-ends byte = chosen-passes ends tt tt byte
 
 -- ---- the steps
 module _ {State : Type 0} (m : Machine State) (columns : ℕ) where
@@ -68,7 +55,7 @@ module _ {State : Type 0} (m : Machine State) (columns : ℕ) where
   lineThen x byte k os most left =
       line byte (answerTo m columns x k os) ++ cond (goesOn (answerTo m columns x k os)) (steps most m columns (stateAfter m columns x k os) left) []
 
-  whole-step : (x : State) (byte : ℕ) (k : Chosen) (tail rest : List ℕ) → ends k ≡ true → operandWidth columns k ≤ length tail
+  whole-step : (x : State) (byte : ℕ) (k : Chosen) (tail rest : List ℕ) → T (ends k) → operandWidth columns k ≤ length tail
       → lineThen x byte k (operandsOf columns k (tail ++ rest)) (length (tail ++ rest)) (behind columns k (tail ++ rest))
       ≡ lineThen x byte k (take (operandWidth columns k) tail) (length (drop (operandWidth columns k) tail ++ rest)) (drop (operandWidth columns k) tail ++ rest)
   unfolding operandsOf behind operandWidth answerTo
@@ -78,7 +65,7 @@ module _ {State : Type 0} (m : Machine State) (columns : ℕ) where
       (ap (λ (l : List ℕ). line byte (answerTo m columns x (Chosen.Known f) (take w tail)) ++ cond (goesOn (answerTo m columns x (Chosen.Known f) (take w tail))) l [])
       (all-steps (length (tail ++ rest)) (length (drop w tail ++ rest)) (stateAfter m columns x (Chosen.Known f) (take w tail)) (drop w tail ++ rest)
       (omega (arith, length-append (drop w tail) rest, length-append tail rest, length-drop w tail)) (omega arith)))
-  whole-step x byte (Chosen.Refused r) tail rest e h = rw (not-true (goesOn (Answer.Refused r)) e)
+  whole-step x byte (Chosen.Refused r) tail rest e h = rw (is-false (goesOn (Answer.Refused r)) e)
 
   cut-step : (x : State) (byte : ℕ) (k : Chosen) (tail : List ℕ) → length tail < operandWidth columns k
       → lineThen x byte k (operandsOf columns k tail) (length tail) (behind columns k tail) ≡ lineThen x byte k tail 0 []
@@ -200,22 +187,22 @@ shape-moved last f g x y bs after end on started c e started′ same = record { 
     go rest h =
         by-cases (decLe shapeBytes (length bs))
         (λ l.
-        let six : end ≡ 6 = omega (arith, c .ends) in
+        let whole : end ≡ shapeBytes = omega (arith, c .ends) in
         joined s f g x y (columnsFrom (take end bs)) (bs ++ rest) (drop end bs ++ rest) [] after
         (due-shape f x (bs ++ rest) on started
-        ∙ rw (six, take-append-le 6 bs rest l, drop-append-le 6 bs rest l)
-        (ap (λ (l : List ℕ). shapeLine (firstAnswer x (take 6 bs)) ++ cond (goesOn (firstAnswer x (take 6 bs))) l [])
-        (all-steps storeMachine (capped (columnsFrom (take 6 bs))) (length (bs ++ rest)) (length (drop 6 bs ++ rest)) (firstStore x (take 6 bs)) (drop 6 bs ++ rest)
-        (omega (arith, length-append (drop 6 bs) rest, length-append bs rest, length-drop 6 bs)) (omega arith))))
+        ∙ rw (whole, take-append-le shapeBytes bs rest l, drop-append-le shapeBytes bs rest l)
+        (ap (λ (l : List ℕ). shapeLine (firstAnswer x (take shapeBytes bs)) ++ cond (goesOn (firstAnswer x (take shapeBytes bs))) l [])
+        (all-steps storeMachine (capped (columnsFrom (take shapeBytes bs))) (length (bs ++ rest)) (length (drop shapeBytes bs ++ rest)) (firstStore x (take shapeBytes bs)) (drop shapeBytes bs ++ rest)
+        (omega (arith, length-append (drop shapeBytes bs) rest, length-append bs rest, length-drop shapeBytes bs)) (omega arith))))
         e started′ same)
         (λ n.
         let nothing : rest ≡ [] = only-last last rest h (λ q. n (c .whole q)) in
         let short : length bs ≤ end = omega (arith, c .ends) in
         let none : drop end bs ≡ [] = drop-of-length-le bs short in
         let all : take end bs ≡ bs = take-all end bs short in
-        let few : length bs ≤ 6 = omega arith in
-        let all′ : take 6 bs ≡ bs = take-all 6 bs few in
-        let none′ : drop 6 bs ≡ [] = drop-of-length-le bs few in
+        let few : length bs ≤ shapeBytes = omega arith in
+        let all′ : take shapeBytes bs ≡ bs = take-all shapeBytes bs few in
+        let none′ : drop shapeBytes bs ≡ [] = drop-of-length-le bs few in
         rw (nothing, none, append-nil bs)
         (joined s f g x y (columnsFrom (take end bs)) bs [] [] after
         (due-shape f x bs on started

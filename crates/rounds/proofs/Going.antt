@@ -8,9 +8,11 @@ use native.Mathlib.Nat.{add-zero}
 use lib.ListN.{length, getD, take, drop, length-drop}
 use lib.Seq.{getD-drop}
 use Rattle.commands.specs.Commands.{shapeBytes}
-use Rattle.turns.specs.Turns.{Store, firstStep, columnsFrom}
+use Rattle.turns.specs.Store.{Store}
+use Rattle.turns.specs.Turns.{firstStep, columnsFrom}
 use Rattle.rounds.specs.declared.Progress.{Progress}
-use Rattle.rounds.specs.Due.{lineBytes, roomFor, Flow, flow, Moved, wanted, stepAt, NoCommand, Found, Answered, ShapeIn, Walked, Begun, Took}
+use Rattle.decimal.specs.Written.{lineBytes}
+use Rattle.rounds.specs.Due.{roomFor, Flow, flow, Moved, wanted, stepAt, NoCommand, Found, Answered, ShapeIn, Walked, Begun, Took}
 use Rattle.rounds.proofs.Due.{never, moved-none, moved-then, step-moved, shape-moved, stop-moved}
 
 -- From p to q commands are answered, and the lines have room for as many more as there are bytes.

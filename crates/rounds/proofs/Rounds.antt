@@ -2,7 +2,7 @@
 use Prim.Native.Nat.{ℕ}
 use mathlib.Core.Path.{_≡_, refl, ap, sym, _∙_}
 use mathlib.Core.List.{List, [], _++_, append-nil, append-assoc}
-use Rattle.turns.specs.Turns.{Store}
+use Rattle.turns.specs.Store.{Store}
 use Rattle.turns.specs.Gatebook.{GatebookWrites}
 use Rattle.turns.proofs.Gatebook.{gatebook-writes}
 use Rattle.rounds.specs.Due.{Flow, due}

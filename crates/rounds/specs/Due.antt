@@ -4,20 +4,13 @@ use mathlib.Core.Path.{_≡_}
 use mathlib.Core.Bool.{Bool, true, false, cond}
 use mathlib.Core.List.{List, [], _++_}
 use lib.ListN.{length, getD, take, drop}
-use Rattle.commands.specs.Commands.{chosen, shapeBytes}
+use Rattle.decimal.specs.Written.{lineBytes}
+use Rattle.commands.specs.Commands.{commandBytes, chosen, shapeBytes}
 use Rattle.output.specs.Steps.{Step, step, steps}
-use Rattle.turns.specs.Turns.{Store, storeMachine, capped, operandWidth}
+use Rattle.turns.specs.Store.{Store, storeMachine}
+use Rattle.turns.specs.Turns.{capped, operandWidth}
 use Rattle.turns.specs.Gatebook.{gatebook}
 use Rattle.rounds.specs.declared.Progress.{Progress}
-
--- ---- widths
--- the buffer of one line
-abbrev pub lineBytes : ℕ
-lineBytes = 64
-
--- no command has more bytes
-abbrev pub commandBytes : ℕ
-commandBytes = 77
 
 -- room for the lines of n bytes: a line for each, and one where the input ends before the shape
 abbrev pub roomFor : ℕ → ℕ

@@ -8,7 +8,7 @@ use Rattle.terms.specs.Measures.{mostScans}
 use Rattle.words.specs.Words.{Bytes}
 use Rattle.layout.specs.Sizes.{bytesNeeded}
 use Rattle.output.specs.Output.{output}
-use Rattle.turns.specs.Turns.{Store}
+use Rattle.turns.specs.Store.{Store}
 use Rattle.turns.specs.Gatebook.{largest}
 use Rattle.rounds.specs.Due.{Flow, Round}
 

@@ -1,19 +1,19 @@
 // What `gatebook` does between a read and a write, over plain bytes.
-use buffers::keep;
-use turns::SHAPE_BYTES;
+use commands::SHAPE_BYTES;
+use decimal::LINE_BYTES;
 use turns::columns_of;
 use turns::operand_width;
 use turns::start;
 use turns::turn;
 ghost use mathlib.Core.Path.{_≡_};
 ghost use mathlib.Core.Bool.{true};
+ghost use mathlib.Core.List.{_++_};
 ghost use Prim.Native.Nat.{_+_, _*_, _≤_, _<_, min};
 ghost use lib.ListN.{length, take};
+ghost use Rattle.decimal.specs.Written.{lineBytes};
 ghost use Rattle.commands.specs.Commands.{shapeBytes};
 ghost use Rattle.turns.specs.Turns.{storeIn, firstStep, columnsFrom};
-ghost use Rattle.rounds.specs.Due.{lineBytes, roomFor, flow, stepAt, Found, Answered, Walked, Begun, Took};
-
-const LINE_BYTES: usize = 64;
+ghost use Rattle.rounds.specs.Due.{roomFor, flow, stepAt, Found, Answered, Walked, Begun, Took};
 
 // How the program stands: whether it goes on, whether the shape is answered, and its columns; and of the bytes and the lines at hand, how many are taken and
 // how many are written.
@@ -23,6 +23,18 @@ pub struct Progress {
     pub columns: usize,
     pub taken: usize,
     pub written: usize,
+}
+
+// The first n bytes of a line go behind the first `at` bytes of the buffer of lines.
+fn keep(lines: &mut [u8], at: usize, line: &[u8; LINE_BYTES], n: usize)
+    requires { ⌜ (at + n ≤ length (now lines)) × (n ≤ lineBytes) × (n ≤ length (now line)) ⌝ }
+    ensures { λ _. ⌜ take (at + n) (now (lines .exit)) ≡ take at (now (lines .entry)) ++ take n (now (line .entry)) ⌝ }
+{
+    let mut i = 0;
+    while i < n {
+        lines[at + i] = line[i];
+        i += 1;
+    }
 }
 
 // Where the command at a place ends: behind its operands, or with the input. It answers the place itself where the input ends there, or where the command is

@@ -6,7 +6,7 @@ use mathlib.Core.Bool.{Bool, true, false, cond}
 use mathlib.Core.List.{List}
 use lib.ListN.{length}
 use borrow.Author.Tests.{le-leb, lt-leb}
-use Rattle.terms.specs.Measures.{Shape}
+use Rattle.terms.specs.Measures.{Shape, mostColumns}
 use Rattle.terms.specs.declared.Answer.{Answer}
 use Rattle.terms.specs.declared.Place.{Place}
 use Rattle.terms.specs.declared.Refusal.{Refusal}
@@ -14,14 +14,17 @@ use Rattle.lines.specs.Written.{Rendered}
 use Rattle.commands.specs.declared.Form.{Form}
 use Rattle.commands.specs.declared.Chosen.{Chosen}
 use Rattle.commands.specs.declared.Request.{Request}
-use Rattle.commands.specs.Commands.{width, callFrom, shapeBytes, shapeFrom, Narrow, Small}
+use Rattle.commands.specs.Commands.{valueBytes, operandsBytes, total, widthsOf, chosen, width, callFrom, shapeBytes, shapeFrom, Small}
+use Rattle.commands.proofs.Table.{chosen-narrow}
+use Rattle.commands.proofs.Bytes.{total-most}
 use Rattle.commands.specs.Decoded.{callIn, ZerosPast}
 use Rattle.output.specs.Output.{lent, goesOn}
 use Rattle.output.specs.Steps.{answerTo, stateAfter, Step}
 use Rattle.promise.specs.Promise.{Serves, Makes}
 use Rattle.requests.specs.Asked.{asked}
 use Rattle.requests.proofs.Values.{served-call}
-use Rattle.turns.specs.Turns.{Store, makingAnswer, madeStore, firstAnswer, firstStore, columnsFrom, operandWidth, Does, Turned}
+use Rattle.turns.specs.Store.{Store}
+use Rattle.turns.specs.Turns.{makingAnswer, madeStore, firstAnswer, firstStore, columnsFrom, operandWidth, Does, Turned}
 
 -- ---- the shape
 pub not-lent : (x : Store) (S : Shape) → lent S ≡ false → (Answer.Refused Refusal.Shape ≡ makingAnswer x S) × (x ≡ madeStore x S)
@@ -61,13 +64,13 @@ pub width-refused : (columns : ℕ) (k : Chosen) (r : Refusal) → k ≡ Chosen.
 unfolding operandWidth
 width-refused columns k r e = sym (ap (operandWidth columns) e)
 
-pub narrow : (k : Chosen) (f : Form) (columns : ℕ) → k ≡ Chosen.Known f → Narrow k → columns ≤ 16 → Small columns f
-narrow k f columns e n h = let m : Narrow (Chosen.Known f) = rw e at n in (m .0, m .1, m .2, h)
+pub small : (byte columns : ℕ) (f : Form) → chosen byte ≡ Chosen.Known f → columns ≤ mostColumns → Small columns f
+small byte columns f e h = (chosen-narrow byte f e, h)
 
--- the most bytes of operands: three numbers of four bytes and 16 values
-pub width-most : (columns : ℕ) (f : Form) → Small columns f → width columns f ≤ 76
+pub width-most : (columns : ℕ) (f : Form) → Small columns f → width columns f ≤ operandsBytes
 width-most columns f h =
-    elim (f .values) as (λ b. f .first + f .second + f .third + 4 * cond b columns 0 ≤ 76) [ true ↦ omega (arith, h .0, h .1, h .2, h .3) | false ↦ omega (arith, h .0, h .1, h .2) ]
+    let operands = total-most (widthsOf f) (h .0) in
+    elim (f .values) as (λ b. total (widthsOf f) + valueBytes * cond b columns 0 ≤ operandsBytes) [ true ↦ omega (arith, h .1) | false ↦ omega arith ]
 
 -- ---- a command
 pub form-cut : (x : Store) (columns : ℕ) (f : Form) (os : List ℕ) → length os < width columns f

@@ -2,7 +2,7 @@
 use Prim.Native.Nat.{ℕ, _*_, _≤_}
 use mathlib.Core.Path.{_≡_, refl, ap, sym, _∙_}
 use mathlib.Core.Bool.{Bool, true, false, cond}
-use mathlib.Core.List.{List, [], _∷_, _++_}
+use mathlib.Core.List.{List, [], _++_}
 use native.Mathlib.Omega.{arith}
 use native.Mathlib.Nat.{mul-le-mul}
 use lib.Dec.{leb}
@@ -10,36 +10,38 @@ use lib.ListN.{length, drop}
 use borrow.Author.Tests.{lt-ltb}
 use Rattle.terms.specs.Measures.{Shape, mostScans, mostColumns}
 use Rattle.terms.specs.declared.Answer.{Answer}
-use Rattle.terms.specs.declared.Place.{Place}
 use Rattle.terms.specs.declared.Refusal.{Refusal}
 use Rattle.words.specs.Words.{Bytes}
 use Rattle.loops.proofs.Search.{and-true, between-tells}
 use Rattle.layout.specs.Regions.{need}
 use Rattle.layout.specs.Sizes.{bytesNeeded}
 use Rattle.making.specs.Made.{made, madeList}
-use Rattle.history.specs.History.{Call, History, start, answers}
+use Rattle.history.specs.History.{start}
 use Rattle.lines.specs.Lines.{shapeLine}
 use Rattle.commands.specs.Commands.{shapeBytes, shapeFrom}
 use Rattle.commands.proofs.Parts.{whole, shape-part}
-use Rattle.output.specs.Output.{lent, shapeAnswer, goesOn}
-use Rattle.output.specs.Steps.{historyOf, steps, linesFrom, written}
+use Rattle.output.specs.Output.{lentColumns, lentRanges, lentRecords, lentSpares, lent, shapeAnswer, goesOn}
+use Rattle.output.specs.Machine.{historyOf, Alike}
+use Rattle.output.specs.Steps.{steps, linesFrom, written}
 use Rattle.output.proofs.Steps.{lent-within, written-is-output}
-use Rattle.promise.specs.Promise.{answersOf}
+use Rattle.output.proofs.Alike.{history-answers}
+use Rattle.output.proofs.Typed.{bytes-drop}
+use Rattle.output.proofs.StepsAlike.{steps-alike}
 use Rattle.promise.specs.Demands.{Accepted, memoryMade, storeAnswers, MakingAccepted, Demand3}
 use Rattle.promise.proofs.Demands.{making-accepted, demand3}
 use Rattle.terms.specs.Refusals.{isAccepted}
 use Rattle.scans.specs.Places.{freedIf}
-use Rattle.turns.specs.Turns.{Store, storeMachine, makingAnswer, madeStore, firstAnswer, firstStore, columnsFrom, capped}
+use Rattle.turns.specs.Store.{Store, storeMachine}
+use Rattle.turns.specs.Turns.{makingAnswer, madeStore, firstAnswer, firstStore, columnsFrom, capped}
 use Rattle.turns.specs.Gatebook.{gatebook, largest, GatebookWrites}
-use Rattle.turns.proofs.Typed.{bytes-drop}
-use Rattle.turns.proofs.Alike.{answersFrom, Alike, steps-alike}
+use Rattle.turns.proofs.Store.{store-answers}
 
 -- ---- what is lent is enough
 pub record LentTo (S : Shape) : Type 0 where
-  pub columns : S .columns ≤ 4
-  pub ranges : S .ranges ≤ 4
-  pub capacity : S .capacity ≤ 64
-  pub spares : S .spares ≤ 16
+  pub columns : S .columns ≤ lentColumns
+  pub ranges : S .ranges ≤ lentRanges
+  pub capacity : S .capacity ≤ lentRecords
+  pub spares : S .spares ≤ lentSpares
 
 lent-to : (S : Shape) → lent S ≡ true → LentTo S
 unfolding lent
@@ -48,10 +50,10 @@ lent-to S e =
     let b = and-true _ _ (a .0) in
     let c = and-true _ _ (b .0) in
     record {
-      columns = between-tells 1 4 (S .columns) (c .0) .1;
-      ranges = between-tells 1 4 (S .ranges) (c .1) .1;
-      capacity = between-tells 1 64 (S .capacity) (b .1) .1;
-      spares = between-tells 0 16 (S .spares) (a .1) .1;
+      columns = between-tells 1 lentColumns (S .columns) (c .0) .1;
+      ranges = between-tells 1 lentRanges (S .ranges) (c .1) .1;
+      capacity = between-tells 1 lentRecords (S .capacity) (b .1) .1;
+      spares = between-tells 0 lentSpares (S .spares) (a .1) .1;
     }
 
 -- no shape that memory is lent for needs more bytes than the largest
@@ -59,9 +61,9 @@ pub enough : (S : Shape) → lent S ≡ true → bytesNeeded S ≤ bytesNeeded l
 unfolding bytesNeeded need
 enough S e =
     let l = lent-to S e in
-    let a : S .ranges * S .capacity ≤ 4 * 64 = mul-le-mul (l .ranges) (l .capacity) in
-    let b : S .ranges * S .capacity * S .columns ≤ 4 * 64 * 4 = mul-le-mul a (l .columns) in
-    let d : S .columns * S .ranges ≤ 4 * 4 = mul-le-mul (l .columns) (l .ranges) in
+    let a : S .ranges * S .capacity ≤ lentRanges * lentRecords = mul-le-mul (l .ranges) (l .capacity) in
+    let b : S .ranges * S .capacity * S .columns ≤ lentRanges * lentRecords * lentColumns = mul-le-mul a (l .columns) in
+    let d : S .columns * S .ranges ≤ lentColumns * lentRanges = mul-le-mul (l .columns) (l .ranges) in
     omega arith
 
 accepted : (x : Store) (S : Shape) → lent S ≡ true → bytesNeeded largest ≤ length (x .memory) → mostScans ≤ length (x .list) → Accepted S (x .memory) (x .list)
@@ -71,16 +73,6 @@ accepted x S e h k =
     making-accepted S (x .memory) (x .list) (rw (lent-within S e) tt) l k
 
 -- ---- the store answers as the plain history
-store-answers : (m : List ℕ) (ps : List Place) (cs : List Call) → answersFrom storeMachine record { memory = m; list = ps } cs ≡ answersOf m ps cs
-unfolding answersFrom answersOf
-store-answers m ps [] = refl
-store-answers m ps (c ∷ cs) = ap (λ (l : List Answer). storeMachine .answer record { memory = m; list = ps } c ∷ l) (store-answers _ _ cs)
-
-history-answers : (S : Shape) (h : History) (cs : List Call) → answersFrom (historyOf S) h cs ≡ answers S h cs
-unfolding answersFrom answers
-history-answers S h [] = refl
-history-answers S h (c ∷ cs) = ap (λ (l : List Answer). historyOf S .answer h c ∷ l) (history-answers S (historyOf S .next h c) cs)
-
 store-alike : (x : Store) (S : Shape) → Accepted S (x .memory) (x .list)
     → Alike storeMachine (historyOf S) record { memory = memoryMade S (x .memory) (x .list); list = madeList (x .list) } start
 unfolding Demand3 storeAnswers

@@ -1,5 +1,5 @@
 -- What `gatebook` writes, and the claim that it is what it must write. proofs/Gatebook.antt proves it.
-use Prim.Native.Nat.{ℕ, _≤_}
+use Prim.Native.Nat.{ℕ, _*_, _≤_}
 use mathlib.Core.Path.{_≡_}
 use mathlib.Core.List.{List}
 use lib.ListN.{length, take}
@@ -7,9 +7,11 @@ use Rattle.terms.specs.Measures.{Shape, mostScans}
 use Rattle.words.specs.Words.{Bytes}
 use Rattle.layout.specs.Sizes.{shapeOf, bytesNeeded}
 use Rattle.commands.specs.Commands.{shapeBytes}
-use Rattle.output.specs.Output.{output}
+use Rattle.output.specs.Output.{lentColumns, lentRanges, lentRecords, lentSpares, output}
 use Rattle.output.specs.Steps.{linesFrom}
-use Rattle.turns.specs.Turns.{Store, storeMachine, firstAnswer, firstStore, columnsFrom, capped}
+use Rattle.requests.specs.Packed.{placeBytes}
+use Rattle.turns.specs.Store.{Store, storeMachine}
+use Rattle.turns.specs.Turns.{firstAnswer, firstStore, columnsFrom, capped}
 
 -- All that is written for the input bs by the turns that the code makes, in the memory and scan list x: the shape's, and then a command's after another.
 unfoldable pub gatebook : Store → List ℕ → List ℕ
@@ -18,7 +20,14 @@ gatebook x bs =
 
 -- the largest shape that memory is lent for
 abbrev pub largest : Shape
-largest = shapeOf 4 4 64 16
+largest = shapeOf lentColumns lentRanges lentRecords lentSpares
+
+-- the bytes that are lent: that many for the largest shape (proofs/lent_memory), and a place for each scan that can be open
+abbrev pub memoryBytes : ℕ
+memoryBytes = 25552
+
+abbrev pub listBytes : ℕ
+listBytes = placeBytes * mostScans
 
 -- For every input, whatever the memory and the list held before, the bytes written are those that document 01 asks for: the lines of the plain history's
 -- answers to the commands.

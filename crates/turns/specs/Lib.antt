@@ -1,3 +1,4 @@
--- What a turn of `gatebook` does, and what its turns write for any input.
+-- A store as what answers calls, what a turn of `gatebook` does, and what its turns write for any input.
+pub mod Store
 pub mod Turns
 pub mod Gatebook

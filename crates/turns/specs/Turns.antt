@@ -8,37 +8,24 @@ use lib.Dec.{leb, ltb}
 use lib.ListN.{length}
 use Rattle.terms.specs.Measures.{Shape, mostColumns}
 use Rattle.terms.specs.declared.Answer.{Answer}
-use Rattle.terms.specs.declared.Place.{Place}
 use Rattle.terms.specs.declared.Refusal.{Refusal}
 use Rattle.words.specs.Words.{words}
-use Rattle.packed.specs.Packed.{placesOf}
+use Rattle.requests.specs.Packed.{placesOf}
 use Rattle.making.specs.Made.{made}
 use Rattle.lines.specs.Lines.{shapeLine}
 use Rattle.lines.specs.Written.{Rendered}
 use Rattle.commands.specs.declared.Chosen.{Chosen}
 use Rattle.commands.specs.Commands.{width, shapeBytes, shapeFrom}
 use Rattle.output.specs.Output.{lent, goesOn}
-use Rattle.output.specs.Steps.{Machine, Step, answerTo, stateAfter}
-use Rattle.promise.specs.Promise.{answerOf, memoryAfter, listAfter}
+use Rattle.output.specs.Steps.{Step, answerTo, stateAfter}
 use Rattle.terms.specs.Refusals.{isAccepted}
 use Rattle.scans.specs.Places.{freedIf}
+use Rattle.turns.specs.Store.{Store, storeMachine}
 use Rattle.turns.specs.declared.Outcome.{Outcome}
 
--- ---- a store: the lent memory and the lent scan list
-pub record Store : Type 0 where
-  pub memory : List ℕ
-  pub list : List Place
-
--- with the list as bytes
+-- the lent memory and scan list, with the list as bytes
 abbrev pub storeIn : List ℕ → List ℕ → Store
 storeIn m l = record { memory = m; list = placesOf (words l) }
-
--- It answers calls as the promise of the calls has it.
-abbrev pub storeMachine : Machine Store
-storeMachine = record {
-  answer = λ x c. answerOf (x .memory) (x .list) c;
-  next = λ x c. record { memory = memoryAfter (x .memory) (x .list) c; list = listAfter (x .memory) (x .list) c };
-}
 
 -- ---- the shape's turn, over the bytes bs
 -- a store of shape S is made where memory is lent for it
@@ -79,7 +66,7 @@ operandWidth columns (Chosen.Refused r) = 0
 unfoldable pub Does : Store → ℕ → Chosen → List ℕ → Answer → Store → Type 0
 Does x columns k os r x′ = (r ≡ answerTo storeMachine columns x k os) × (x′ ≡ stateAfter storeMachine columns x k os)
 
--- A buffer of 64 bytes that was `old` starts with the line of a step, the turn tells the line's length and whether the program goes on, and the store is as
+-- The buffer of a line that was `old` starts with the line of a step, the turn tells the line's length and whether the program goes on, and the store is as
 -- the step leaves it.
 pub record Turned (s : Step Store) (old new : List ℕ) (t : Outcome) (x : Store) : Type 0 where
   pub rendered : Rendered old new (s .line) (t .length)

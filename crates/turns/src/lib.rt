@@ -1,47 +1,53 @@
 // What `gatebook` does between reading and writing: the answer to the shape, and the answer to one command, as lines in a buffer that is lent.
 use commands::Chosen;
 use commands::Form;
+use commands::MOST_COLUMNS;
 use commands::Measures;
+use commands::SHAPE_BYTES;
 use commands::choose;
 use commands::decode;
 use commands::decode_shape;
 use commands::width;
+use decimal::LINE_BYTES;
 use lines::render_line;
 use lines::render_shape;
 use output::goes_on;
 use output::lends;
 use requests::call;
 use requests::make_store;
+use requests::packed::PLACE_BYTES;
+use scans::MOST_SCANS;
 use terms::Answer;
 use terms::Refusal;
 ghost use mathlib.Core.Path.{_≡_};
 ghost use Prim.Native.Nat.{_≤_};
 ghost use lib.ListN.{length};
-ghost use Rattle.terms.specs.Measures.{mostScans};
+ghost use Rattle.terms.specs.Measures.{mostColumns, mostScans};
 ghost use Rattle.words.specs.Words.{words};
 ghost use Rattle.layout.specs.Sizes.{bytesNeeded};
-ghost use Rattle.packed.specs.Packed.{placesOf};
-ghost use Rattle.commands.specs.Commands.{Small, chosen};
+ghost use Rattle.requests.specs.Packed.{placesOf};
+ghost use Rattle.commands.specs.Commands.{operandsBytes, Small, chosen};
 ghost use Rattle.commands.specs.Decoded.{measured};
 ghost use Rattle.output.specs.Steps.{step};
 ghost use Rattle.turns.specs.Gatebook.{largest};
-ghost use Rattle.turns.specs.Turns.{storeIn, storeMachine, makingAnswer, madeStore, firstAnswer, firstStore, firstStep, columnsFrom, capped as cappedAt, operandWidth, Does, Turned};
+ghost use Rattle.turns.specs.Store.{storeMachine};
+ghost use Rattle.turns.specs.Turns.{storeIn, makingAnswer, madeStore, firstAnswer, firstStore, firstStep, columnsFrom, capped as cappedAt, operandWidth, Does, Turned};
 
-pub const SHAPE_BYTES: usize = 6;
+// Memory for the largest shape that memory is lent for, and a scan list with a place for each scan that can be open.
+pub const MEMORY_BYTES: usize = 25552;
 
-const MOST_COLUMNS: usize = 16;
+pub const LIST_BYTES: usize = PLACE_BYTES * MOST_SCANS;
 
-// Memory for the largest shape that memory is lent for, and a scan list of 16 places.
-pub fn lent_memory() -> [u8; 25552]
+pub fn lent_memory() -> [u8; MEMORY_BYTES]
     ensures { λ r. ⌜ length r ≡ bytesNeeded largest ⌝ }
 {
-    [0; 25552]
+    [0; MEMORY_BYTES]
 }
 
-pub fn lent_list() -> [u8; 192]
+pub fn lent_list() -> [u8; LIST_BYTES]
     ensures { λ r. ⌜ length (placesOf (words r)) ≡ mostScans ⌝ }
 {
-    [0; 192]
+    [0; LIST_BYTES]
 }
 
 // A line and what comes after it: the line's length, and whether the program goes on.
@@ -71,7 +77,7 @@ fn answer_to_shape(mem: &mut [u8], scans: &mut [u8], bytes: &[u8]) -> Answer
 }
 
 // The first turn: the bytes of the shape, as many as there are, and its line.
-pub fn start(mem: &mut [u8], scans: &mut [u8], bytes: &[u8], out: &mut [u8; 64]) -> Outcome
+pub fn start(mem: &mut [u8], scans: &mut [u8], bytes: &[u8], out: &mut [u8; LINE_BYTES]) -> Outcome
     ensures { λ r. ⌜ Turned (firstStep (storeIn (now (mem .entry)) (now (scans .entry))) (now (bytes .entry))) (now (out .entry)) (now (out .exit)) r (storeIn (now (mem .exit)) (now (scans .exit))) ⌝ }
 {
     let answer = answer_to_shape(mem, scans, bytes);
@@ -94,7 +100,7 @@ pub fn columns_of(bytes: &[u8]) -> usize
 
 // A number of columns above the most counts as the most.
 fn capped(columns: usize) -> usize
-    ensures { λ r. ⌜ (r ≡ cappedAt columns) × (r ≤ 16) ⌝ }
+    ensures { λ r. ⌜ (r ≡ cappedAt columns) × (r ≤ mostColumns) ⌝ }
 {
     if columns < MOST_COLUMNS {
         columns
@@ -105,7 +111,7 @@ fn capped(columns: usize) -> usize
 
 // How many bytes of operands are to be read behind a command byte.
 pub fn operand_width(byte: u8, columns: usize) -> usize
-    ensures { λ r. ⌜ (r ≡ operandWidth (cappedAt columns) (chosen byte)) × (r ≤ 76) ⌝ }
+    ensures { λ r. ⌜ (r ≡ operandWidth (cappedAt columns) (chosen byte)) × (r ≤ operandsBytes) ⌝ }
 {
     let chosen = choose(byte);
     match chosen {
@@ -155,7 +161,7 @@ pub fn turn(
     columns: usize,
     byte: u8,
     operands: &[u8],
-    out: &mut [u8; 64],
+    out: &mut [u8; LINE_BYTES],
 ) -> Outcome
     ensures { λ r. ⌜ Turned (step storeMachine (cappedAt columns) (storeIn (now (mem .entry)) (now (scans .entry))) byte (now (operands .entry))) (now (out .entry)) (now (out .exit)) r (storeIn (now (mem .exit)) (now (scans .exit))) ⌝ }
 {

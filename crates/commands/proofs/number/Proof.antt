@@ -6,7 +6,7 @@ use native.Mathlib.Nat.{add-zero}
 use borrow.Author.Needs.{needs}
 use lib.Seq.{slice}
 use Rattle.commands.specs.Commands.{littleEndian, operand}
-use Rattle.commands.proofs.Operands.{none-yet, turn, room}
+use Rattle.commands.proofs.Bytes.{none-yet, turn, room}
 use Rattle.commands.proofs.number.Statement.{statement}
 use Rattle.commands.proofs.number.Tie as tie
 

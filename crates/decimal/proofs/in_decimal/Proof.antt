@@ -1,16 +1,17 @@
 -- `decimal::in_decimal` meets its contract. The invariant: the digits of what is left and those that are stored are the number's, and the places that are left are enough.
-use Prim.Native.Nat.{_/_, _≤_, _<_, _^_}
+use Prim.Native.Nat.{_/_, _<_, _^_}
 use mathlib.Core.Path.{_≡_, refl, ap, _∙_}
 use mathlib.Core.List.{[], _∷_, _++_}
 use native.Mathlib.Omega.{arith}
 use lib.ListN.{length, drop, length-set}
 use Rattle.decimal.specs.Decimal.{decimal, digits}
+use Rattle.decimal.specs.Written.{mostDigits}
 use Rattle.decimal.proofs.Digits.{front, decimal-last, turn, some-left}
 use Rattle.decimal.proofs.in_decimal.Statement.{statement}
 use Rattle.decimal.proofs.in_decimal.Tie as tie
 
 abbrev Inv-loop : tie.InvT-loop
-Inv-loop n digits₀ from₀ rest₀ digits from rest = (from ≤ 19) × (rest < 10 ^ from) × (front rest ++ drop from digits ≡ decimal n) × (length digits ≡ 20)
+Inv-loop n digits₀ from₀ rest₀ digits from rest = (from < mostDigits) × (rest < 10 ^ from) × (front rest ++ drop from digits ≡ decimal n) × (length digits ≡ mostDigits)
 
 abbrev μ-loop : tie.MeasureT-loop
 μ-loop n digits₀ from₀ rest₀ digits from rest = rest

@@ -2,6 +2,7 @@
 use native.Mathlib.Omega.{arith}
 use borrow.Author.Needs.{needs}
 use lib.ListN.{length-drop}
+use Rattle.decimal.specs.Written.{mostDigits}
 use Rattle.decimal.proofs.Pieces.{rest-of}
 use Rattle.decimal.proofs.put_decimal.Statement.{statement}
 use Rattle.decimal.proofs.put_decimal.Tie as tie
@@ -9,7 +10,7 @@ use Rattle.decimal.proofs.put_decimal.Tie as tie
 returns : tie.Need-returns
 returns c =
     let d = c .before .before .before .before .before .in-decimal in
-    let w = rw (rest-of 20 (d .result .digits) (d .result .from) (d .ensures .2)) at (c .put .ensures) in
+    let w = rw (rest-of mostDigits (d .result .digits) (d .result .from) (d .ensures .2)) at (c .put .ensures) in
     (rw (d .ensures .0) at w, omega (arith, w .place, length-drop (d .result .from) (d .result .digits), d .ensures .2))
 
 pub put-decimal-spec : {M : Type 1} → statement M

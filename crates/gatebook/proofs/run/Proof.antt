@@ -10,8 +10,10 @@ use lib.ListN.{length}
 use borrow.Author.Needs.{needs}
 use borrow.Author.Tests.{ltb-true, eqb-false}
 use Rattle.loops.proofs.Search.{and-true}
-use Rattle.turns.specs.Turns.{Store, storeIn}
-use Rattle.rounds.specs.Due.{Flow, commandBytes}
+use Rattle.turns.specs.Store.{Store}
+use Rattle.turns.specs.Turns.{storeIn}
+use Rattle.commands.specs.Commands.{commandBytes}
+use Rattle.rounds.specs.Due.{Flow}
 use Rattle.rounds.proofs.Due.{never}
 use Rattle.gatebook.specs.declared.course.Course.{Course}
 use Rattle.gatebook.specs.Course.{mostBytes, goes, Received, Rounded, Sent, Ran}

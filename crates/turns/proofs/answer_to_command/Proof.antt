@@ -1,25 +1,26 @@
 -- `turns::answer_to_command` meets its contract.
 use borrow.Author.Needs.{needs}
-use mathlib.Core.Path.{sym, _∙_}
-use Rattle.turns.proofs.Answers.{narrow, known-does, refused-does}
+use mathlib.Core.Path.{_≡_, sym, _∙_}
+use Rattle.commands.specs.declared.Chosen.{Chosen}
+use Rattle.commands.specs.Commands.{chosen}
+use Rattle.turns.proofs.Answers.{small, known-does, refused-does}
 use Rattle.turns.proofs.answer_to_command.Statement.{statement}
 use Rattle.turns.proofs.answer_to_command.Tie as tie
 
-answer-to-form-requires : tie.Need-answer-to-form-requires
-answer-to-form-requires c κs =
-    let k = c .before .before .before .before in
-    narrow _ _ _ (k .chosen .given .1) (k .before .before .choose .ensures .1) (c .capped .ensures .1)
+known : (c : tie.After-chosen) → chosen (c .before .before .before .before .before .before .args .byte) ≡ Chosen.Known (c .chosen .given .0 .0)
+known c = sym (c .before .before .choose .ensures) ∙ c .chosen .given .1
 
 returns : tie.Need-returns
 returns c =
-    let z = c .before .before .before .before in
-    let k = z .before .before .before .before .before in
-    known-does _ _ (z .before .capped .result) _ (k .chosen .given .0 .0) _ _ _ (sym (k .before .before .choose .ensures .0) ∙ k .chosen .given .1) (z .before .capped .ensures .0) (z .answer-to-form .ensures)
+    let form = c .before .before .before .before in
+    let capped = form .before in
+    let k = capped .before .before .before .before in
+    known-does _ _ (capped .capped .result) _ (k .chosen .given .0 .0) _ _ _ (known k) (capped .capped .ensures .0) (form .answer-to-form .ensures)
 
 returns-2 : tie.Need-returns-2
 returns-2 c =
     let k = c .before in
-    refused-does _ _ _ _ (k .chosen2 .given .0 .0) (sym (k .before .before .choose .ensures .0) ∙ k .chosen2 .given .1)
+    refused-does _ _ _ _ (k .chosen2 .given .0 .0) (sym (k .before .before .choose .ensures) ∙ k .chosen2 .given .1)
 
 pub answer-to-command-spec : {M : Type 1} → statement M
 answer-to-command-spec =
@@ -28,7 +29,7 @@ answer-to-command-spec =
     (λ c κs. search needs)
     (λ c. search needs)
     (λ c κs. search needs)
-    answer-to-form-requires
+    (λ c κs. small _ _ _ (known (c .before .before .before .before)) (c .capped .ensures .1))
     (λ c. search needs)
     (λ c. search needs)
     (λ c. search needs)

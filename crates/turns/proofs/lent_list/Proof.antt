@@ -1,7 +1,7 @@
 -- `turns::lent_list` meets its contract, by computation.
 use mathlib.Core.Path.{refl}
 use Rattle.words.specs.Words.{words}
-use Rattle.packed.specs.Packed.{placesOf}
+use Rattle.requests.specs.Packed.{placesOf}
 use Rattle.turns.proofs.lent_list.Statement.{statement}
 use Rattle.turns.proofs.lent_list.Tie as tie
 

@@ -1,2 +1,0 @@
--- Laws of the buffers.
-pub mod Buffers

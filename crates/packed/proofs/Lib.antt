@@ -1,2 +1,0 @@
--- Laws of the scan list in bytes.
-pub mod Places

@@ -1,2 +1,0 @@
--- The scan list in bytes.
-pub mod Packed

@@ -1,0 +1,2 @@
+-- The widths of a pack.
+pub mod Pack

@@ -1,0 +1,40 @@
+-- `requests::packed::place_put` meets its contract.
+use mathlib.Core.Path.{sym}
+use native.Mathlib.Omega.{arith}
+use borrow.Author.Needs.{needs}
+use lib.Seq.{set-out}
+use Rattle.words.specs.Words.{words}
+use Rattle.words.proofs.Words.{length-words}
+use Rattle.requests.specs.Packed.{placesOf}
+use Rattle.requests.proofs.Places.{places-put, length-places}
+use Rattle.requests.proofs.packed.place_put.Statement.{statement}
+use Rattle.requests.proofs.packed.place_put.Tie as tie
+
+returns : tie.Need-returns
+returns c =
+    let three = c .before .before in
+    let two = three .before .before .before .before in
+    let one = two .before .before .before .before in
+    let a = one .before .before .before .before .args in
+    rw (three .put3 .ensures, two .put2 .ensures, one .put .ensures)
+    (places-put (words (a .list .now)) (a .i) _ _ _ (omega (arith, length-words (a .list .now))))
+
+returns-2 : tie.Need-returns-2
+returns-2 c =
+    let a = c .before .before .args in
+    let ws = words (a .list .now) in
+    sym (set-out (placesOf ws) (a .i) (a .p) (omega (arith, length-words (a .list .now), length-places ws)))
+
+pub place-put-spec : {M : Type 1} → statement M
+place-put-spec =
+    tie.close
+    (tie.spec
+    (λ c. search needs)
+    (λ c κs. search needs)
+    (λ c. search needs)
+    (λ c κs. search needs)
+    (λ c. search needs)
+    (λ c κs. search needs)
+    (λ c. search needs)
+    returns
+    returns-2)

@@ -1,0 +1,56 @@
+-- `requests::packed::table` meets its contract. The invariant: the loop's table has the first i places.
+use Prim.Native.Nat.{_-_}
+use mathlib.Core.Path.{sym, _∙_}
+use mathlib.Core.Logic.{⊎-elim}
+use native.Mathlib.Omega.{arith}
+use borrow.Author.Needs.{needs}
+use Rattle.words.specs.Words.{words}
+use Rattle.words.proofs.Words.{length-words}
+use Rattle.scans.proofs.Table.{Entered, none-entered, open-entered, free-entered, all-entered}
+use Rattle.requests.specs.Packed.{placesOf}
+use Rattle.requests.proofs.Places.{length-places}
+use Rattle.requests.proofs.packed.table.Statement.{statement}
+use Rattle.requests.proofs.packed.table.Tie as tie
+
+abbrev Inv-loop : tie.InvT-loop
+Inv-loop list n t₀ i₀ t i = Entered (placesOf (words list)) n t i
+
+abbrev μ-loop : tie.MeasureT-loop
+μ-loop list n t₀ i₀ t i = n - i
+
+loop-holds : tie.Need-loop-holds Inv-loop μ-loop
+loop-holds c =
+    let l = c .before .before .args .list .now in
+    none-entered (placesOf (words l)) _ _ (omega (arith, length-words l, length-places (words l))) (c .blank .ensures)
+
+enter-requires : tie.Need-enter-requires Inv-loop μ-loop
+enter-requires c κs = (omega arith, sym (c .before .is-open .ensures) ∙ c .if1 .taken)
+
+loop-again : tie.Need-loop-again Inv-loop μ-loop
+loop-again c =
+    let o = c .before .before .before .before .loop in
+    let p = c .before .before .place-at in
+    ⊎-elim
+    (λ w. open-entered _ _ (o .t) _ (o .i) (p .result) (o .inv) (omega arith) (p .ensures) (w .2 ∙ w .1 .ensures))
+    (λ w. rw (w .1) (free-entered _ _ (o .t) (o .i) (p .result) (o .inv) (omega arith) (p .ensures) (sym (c .before .is-open .ensures) ∙ w .0 .left)))
+    (c .if1 .came)
+
+returns : tie.Need-returns Inv-loop μ-loop
+returns c = c .set-length .ensures ∙ all-entered _ _ _ _ (c .before .before .loop .inv) (omega arith)
+
+pub table-spec : {M : Type 1} → statement M
+table-spec =
+    tie.close
+    (tie.spec
+    Inv-loop
+    μ-loop
+    (λ c κs. search needs)
+    loop-holds
+    (λ c κs. search needs)
+    (λ c κs. search needs)
+    enter-requires
+    (λ c. search needs)
+    (λ c. search needs)
+    loop-again
+    (λ c κs. search needs)
+    returns)

@@ -11,6 +11,8 @@ use lib.Dec.{T, eqb, eqb→eq}
 use lib.ListN.{length, getD}
 use lib.Seq.{take-length}
 use borrow.Author.Tests.{eq-eqb, ne-eqb}
+use mir.Syntax.{w64}
+use mir.Val.{Fits}
 use Rattle.terms.specs.Measures.{Shape, mostTransactions}
 use Rattle.terms.specs.Places.{bears, place}
 use Rattle.loops.specs.declared.Found.{Found}
@@ -186,9 +188,10 @@ pub among-is : (S : Shape) (v : View) (g n : ℕ) (flag : Bool) → flag ≡ any
 unfolding openAmongIn recordIn
 among-is S v g n flag e = e
 
--- where the used records of a given row's range lie
-pub stretch-of : (s : Sizes) (v : View) (r g : ℕ) → Proper s → Linked s v → r < rowsGiven v → g ≡ rangeOf r
-    → (g < s .ranges) × (g * s .capacity + usedIn v g ≤ s .slots) × (s .slots ≤ 8192)
-stretch-of s v r g p l b e =
-    let w = row-in s p v l r b in
-    rw e (w .1, stretch-in s p (rangeOf r) (usedIn v (rangeOf r)) (w .1) (w .3), slots-few s p)
+-- where the used records of a given row's range g lie
+module _ (s : Sizes) (p : Proper s) (v : View) (l : Linked s v) (r g : ℕ) (b : r < rowsGiven v) (e : g ≡ rangeOf r) where
+  pub stretch-used : (n : ℕ) → n ≡ usedIn v g → g * s .capacity + n ≤ s .slots
+  stretch-used n q = rw (q, e) (let w = row-in s p v l r b in stretch-in s p (rangeOf r) (usedIn v (rangeOf r)) (w .1) (w .3))
+
+  pub stretch-fits : Fits w64 (g * s .capacity)
+  stretch-fits = record { fits = omega (arith, stretch-used (usedIn v g) refl, slots-few s p) }

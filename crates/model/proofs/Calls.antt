@@ -262,24 +262,24 @@ module _ (S : Shape) (v : View) (ps : List Place) (h : History) (o : Represents 
   reply-same begin p = ap Answer.Number (plus-one _ _ (o .header .transactions-given))
   reply-same (insert t vs) p = ap Answer.Number (o .header .rows-given)
   reply-same (update t r m vs) p =
-      ap₂ (λ (x y : ℕ). Answer.Number (x + y)) (used-is r (given-lt r (p .1 .0))) (wanted-is S v ps h o k r m (given-lt r (p .1 .0)) (p .1 .1 .0) t vs)
-  reply-same (delete t r) p = ap (λ (x : ℕ). Answer.Number (x + 1)) (used-is r (given-lt r (p .1 .0)))
+      ap₂ (λ (x y : ℕ). Answer.Number (x + y)) (used-is r (given-lt r (search))) (wanted-is S v ps h o k r m (given-lt r (search)) (search) t vs)
+  reply-same (delete t r) p = ap (λ (x : ℕ). Answer.Number (x + 1)) (used-is r (given-lt r (search)))
   reply-same (commit t s) p = refl
   reply-same (abort t) p = refl
   reply-same (latest r c) p =
-      ap (λ (s : ℕ). readCurrent S v (reader s 0) r c) (o .header .last-stamp) ∙ current-read (reader (h .last) 0) r c (seenAt h (h .last)) (sees-at h (h .last)) (given-lt r (p .0)) (column-lt c (p .1 .0))
-  reply-same (readAt s r c) p = current-read (reader s 0) r c (seenAt h s) (sees-at h s) (given-lt r (p .1 .0)) (column-lt c (p .1 .1 .0))
-  reply-same (ownRead t r c) p = own-read t r c (is-active h t (p .0)) (given-lt r (p .1 .0)) (column-lt c (p .1 .1 .0))
+      ap (λ (s : ℕ). readCurrent S v (reader s 0) r c) (o .header .last-stamp) ∙ current-read (reader (h .last) 0) r c (seenAt h (h .last)) (sees-at h (h .last)) (given-lt r (search)) (column-lt c (search))
+  reply-same (readAt s r c) p = current-read (reader s 0) r c (seenAt h s) (sees-at h s) (given-lt r (search)) (column-lt c (search))
+  reply-same (ownRead t r c) p = own-read t r c (is-active h t (search)) (given-lt r (search)) (column-lt c (search))
   reply-same (openScan s) p = ap Answer.Number (plus-one _ _ (o .header .scans-given))
   reply-same (scanRead i r c) p =
-      ap (λ (s : Place). readIn S v (reader (s .stamp) 0) (scanPage S v (s .merges) (rangeOf r) c) r c) (found i (running-of i (p .0)))
-      ∙ scan-read i r c (running-of i (p .0)) (given-lt r (p .1 .0)) (column-lt c (p .1 .1 .0))
-  reply-same (sum i c) p = sum-same i c (running-of i (p .0)) (column-lt c (p .1 .0))
+      ap (λ (s : Place). readIn S v (reader (s .stamp) 0) (scanPage S v (s .merges) (rangeOf r) c) r c) (found i (running-of i (search)))
+      ∙ scan-read i r c (running-of i (search)) (given-lt r (search)) (column-lt c (search))
+  reply-same (sum i c) p = sum-same i c (running-of i (search)) (column-lt c (search))
   reply-same (close i) p = refl
   reply-same (merge g c n) p = refl
   reply-same release p = ap Answer.Number (release-count S v ps h o)
-  reply-same (pageCell c r) p = ap Answer.Value (cell-same c r (column-lt c (p .0)) (given-lt r (p .1 .0)))
-  reply-same (lineage g c) p = ap₂ Answer.Lineage (o .currents g c (range-lt g (p .0)) (column-lt c (p .1 .0)) .lineage) (o .tails g (range-lt g (p .0)) .used-all)
+  reply-same (pageCell c r) p = ap Answer.Value (cell-same c r (column-lt c (search)) (given-lt r (search)))
+  reply-same (lineage g c) p = ap₂ Answer.Lineage (o .currents g c (range-lt g (search)) (column-lt c (search)) .lineage) (o .tails g (range-lt g (search)) .used-all)
 
   -- ---- what a call leaves
   free-place : T (not (H.allActive h)) → T (any (λ i. eqb i 0) (v Opens))
@@ -292,23 +292,23 @@ module _ (S : Shape) (v : View) (ps : List Place) (h : History) (o : Represents 
 
   pub act-kept : (c : Call) → Typed c → Passed (tests S h c) → Represents S (actIn S v ps c) (placesAfter v ps c) (effect S h c)
   unfolding actIn placesAfter effect tests H.allGiven notLater H.allRunning later
-  act-kept begin y p = begin-kept S v ps h o k (free-place (p .1 .0)) (step S h begin p) (nleb→lt mostNumbers (length (h .transactions)) (p .0))
-  act-kept (insert t vs) y p = insert-kept S v ps h o k t vs (is-active h t (p .0)) (nleb→lt (S .ranges * rangeRows) (length (h .rows)) (p .1 .0)) (y .1) (step S h (insert t vs) p)
+  act-kept begin y p = begin-kept S v ps h o k (free-place (search)) (step S h begin p) (nleb→lt mostNumbers (length (h .transactions)) (search))
+  act-kept (insert t vs) y p = insert-kept S v ps h o k t vs (is-active h t (search)) (nleb→lt (S .ranges * rangeRows) (length (h .rows)) (search)) (y .1) (step S h (insert t vs) p)
   act-kept (update t r m vs) y p =
-      update-kept S v ps h o k t r m vs (is-active h t (p .0)) (given-lt r (p .1 .0)) (p .1 .1 .0) (y .2) (y .3) (capacity-of r _ (p .1 .1 .1 .1 .1 .0)) (step S h (update t r m vs) p)
-      (made-new {S = S} (by-update m vs (p .1 .1 .0)))
+      update-kept S v ps h o k t r m vs (is-active h t (search)) (given-lt r (search)) (search) (y .2) (y .3) (capacity-of r _ (search)) (step S h (update t r m vs) p)
+      (made-new {S = S} (by-update m vs (search)))
   act-kept (delete t r) y p =
-      delete-kept S v ps h o k t r (is-active h t (p .0)) (given-lt r (p .1 .0)) (capacity-of r 1 (p .1 .1 .1 .1 .0)) (step S h (delete t r) p) (made-new {S = S} by-delete)
-  act-kept (commit t s) y p = commit-kept S v ps h o k t s (is-active h t (p .0)) (nleb→lt s (h .last) (p .1 .0)) (y .1) (step S h (commit t s) p)
-  act-kept (abort t) y p = abort-kept S v ps h o k t (is-active h t (p .0)) (step S h (abort t) p)
+      delete-kept S v ps h o k t r (is-active h t (search)) (given-lt r (search)) (capacity-of r 1 (search)) (step S h (delete t r) p) (made-new {S = S} by-delete)
+  act-kept (commit t s) y p = commit-kept S v ps h o k t s (is-active h t (search)) (nleb→lt s (h .last) (search)) (y .1) (step S h (commit t s) p)
+  act-kept (abort t) y p = abort-kept S v ps h o k t (is-active h t (search)) (step S h (abort t) p)
   act-kept (latest r c) y p = o
   act-kept (readAt s r c) y p = o
   act-kept (ownRead t r c) y p = o
   act-kept (openScan s) y p =
-      open-kept S v ps h o k s (nleb→lt mostScans (count (λ s. s .running) (h .scans)) (p .1 .1 .0)) (nleb→lt mostNumbers (length (h .scans)) (p .1 .0)) (step S h (openScan s) p)
+      open-kept S v ps h o k s (nleb→lt mostScans (count (λ s. s .running) (h .scans)) (search)) (nleb→lt mostNumbers (length (h .scans)) (search)) (step S h (openScan s) p)
   act-kept (scanRead i r c) y p = o
   act-kept (sum i c) y p = o
-  act-kept (close i) y p = close-kept S v ps h o k i (running-of i (p .0)) (step S h (close i) p)
+  act-kept (close i) y p = close-kept S v ps h o k i (running-of i (search)) (step S h (close i) p)
   act-kept (merge g c n) y p = merge-kept S v ps h o k g c n (mergeable S h g c n p) (step S h (merge g c n) p)
   act-kept release y p = release-kept S v ps h o k (step S h release p)
   act-kept (pageCell c r) y p = o

@@ -52,6 +52,10 @@ module _ (s : Sizes) (proper : Proper s) where
       let l : r < s .rows = omega (arith, linked .rows-few) in
       (l, range-in r l, linked .rows-linked r h, linked .used-few (rangeOf r) (range-in r l))
 
-  -- its range and its newest record as they were read
-  pub row-reach : (v : View) → Linked s v → (r g link : ℕ) → r < rowsGiven v → g ≡ rangeOf r → link ≡ getD (v RowLink) r 0 → (g < s .ranges) × (link ≤ usedIn v g)
-  row-reach v linked r g link h e l = let inside = row-in v linked r h in (rw e (inside .1), rw (e, l) (inside .2))
+  -- its range g and its newest record as they were read
+  module _ (v : View) (linked : Linked s v) (r g : ℕ) (h : r < rowsGiven v) (e : g ≡ rangeOf r) where
+    pub row-range : g < s .ranges
+    row-range = rw e (row-in v linked r h .1)
+
+    pub row-link : (link : ℕ) → link ≡ getD (v RowLink) r 0 → link ≤ usedIn v g
+    row-link link l = rw (e, l) (row-in v linked r h .2)

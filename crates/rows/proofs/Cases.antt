@@ -8,7 +8,7 @@ use lib.ListN.{getD}
 use borrow.Author.Tests.{eq-eqb, ne-eqb, lt-ltb, le-ltb, not-true, not-false}
 use Rattle.terms.specs.Measures.{Shape}
 use Rattle.loops.specs.declared.Found.{Found}
-use Rattle.layout.specs.declared.Region.the-variants.{TailKind, RowLink}
+use Rattle.layout.specs.declared.Region.the-variants.{RowTransaction, RowState, RowStamp, RowLink, TailTransaction, TailKind, TailState, TailStamp}
 use Rattle.layout.specs.View.{View}
 use Rattle.history.specs.History.{rangeOf}
 use Rattle.model.specs.declared.Reader.{Reader}
@@ -32,6 +32,16 @@ module _ (who : Reader) (state stamp transaction : ℕ) where
   pub sees-own : state ≡ 0 → (who .me .0 ≡ 0 → ⊥) → eqb transaction (who .me .0) ≡ sees who state stamp transaction
   unfolding sees
   sees-own e h = rw (e, ne-eqb (who .me .0) 0 h)
+
+-- the row or record i, word by word
+module _ (v : View) (who : Reader) (i state stamp transaction : ℕ) (x : Bool) (e : x ≡ sees who state stamp transaction) where
+  pub row-sees : state ≡ getD (v RowState) i 0 → stamp ≡ getD (v RowStamp) i 0 → transaction ≡ getD (v RowTransaction) i 0 → x ≡ seesRow who (rowIn v i)
+  unfolding rowIn
+  row-sees a b c = e ∙ rw (a, b, c)
+
+  pub record-sees : state ≡ getD (v TailState) i 0 → stamp ≡ getD (v TailStamp) i 0 → transaction ≡ getD (v TailTransaction) i 0 → x ≡ seesRecord who (recordIn v i)
+  unfolding recordIn
+  record-sees a b c = e ∙ rw (a, b, c)
 
 -- ---- what a finder tells whose answer hangs on one test
 module _ (b : Bool) (j : ℕ) where

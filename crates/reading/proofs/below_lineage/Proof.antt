@@ -14,5 +14,5 @@ below-lineage-spec =
     (λ c. search needs)
     (λ c. search needs)
     (λ c. search below-none)
-    (λ c κs. search (needs, reached-slot))
+    (λ c κs. (search, (search, (search reached-slot, search))))
     (λ c. search below-found))

@@ -7,7 +7,9 @@ use Rattle.reading.proofs.read_current.Tie as tie
 
 returns : tie.Need-returns
 unfolding readCurrent
-returns c = rw (c .read-row .ensures, c .before .current-page .ensures .0, c .before .before .range-of .ensures)
+returns c =
+    let range : tie.After-range-of = search in
+    rw (c .read-row .ensures, c .before .current-page .ensures .0, range .range-of .ensures)
 
 pub read-current-spec : {M : Type 1} → statement M
 read-current-spec =

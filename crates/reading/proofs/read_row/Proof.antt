@@ -12,8 +12,9 @@ use Rattle.reading.proofs.read_row.Tie as tie
 returns : tie.Need-returns
 unfolding readIn
 returns c =
-    let test = c .before .before in
-    rw (← test .before .visible .ensures, test .if1 .taken)
+    let test : tie.After-visible = search in
+    let seen : tie.Then1 = search in
+    rw (← test .visible .ensures, seen .if1 .taken)
     (ap Answer.Value (toZ-ofZ w32 (c .of-word .result) record { sfits = c .of-word .ok } ∙ c .of-word .ensures ∙ ap (toZ w32) (c .before .word-of .ensures)))
 
 returns-2 : tie.Need-returns-2

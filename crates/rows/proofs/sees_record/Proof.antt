@@ -1,12 +1,8 @@
 -- `rows::sees_record` meets its contract.
-use Rattle.model.specs.Stored.{recordIn}
+use Rattle.rows.proofs.Cases.{record-sees}
 use borrow.Author.Needs.{needs}
 use Rattle.rows.proofs.sees_record.Statement.{statement}
 use Rattle.rows.proofs.sees_record.Tie as tie
-
-returns : tie.Need-returns
-unfolding recordIn
-returns c = cc
 
 pub sees-record-spec : {M : Type 1} → statement M
 sees-record-spec =
@@ -16,4 +12,4 @@ sees-record-spec =
     (λ c κs. search needs)
     (λ c κs. search needs)
     (λ c κs. search needs)
-    returns)
+    (λ c. search record-sees))

@@ -1,12 +1,8 @@
 -- `rows::sees_row` meets its contract.
-use Rattle.model.specs.Stored.{rowIn}
+use Rattle.rows.proofs.Cases.{row-sees}
 use borrow.Author.Needs.{needs}
 use Rattle.rows.proofs.sees_row.Statement.{statement}
 use Rattle.rows.proofs.sees_row.Tie as tie
-
-returns : tie.Need-returns
-unfolding rowIn
-returns c = cc
 
 pub sees-row-spec : {M : Type 1} → statement M
 sees-row-spec =
@@ -17,4 +13,4 @@ sees-row-spec =
     (λ c κs. search needs)
     (λ c κs. search needs)
     (λ c κs. search needs)
-    returns)
+    (λ c. search row-sees))

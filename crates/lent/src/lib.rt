@@ -77,14 +77,22 @@ fn entry_of(listed: Listed) -> Place
     p
 }
 
-// The place that a call names becomes what it says: a scan is added or dropped. A place past the end is not there, and nothing is stored.
-pub fn keep(list: &mut [Place], listed: Listed)
-    ensures { λ _. ⌜ now (list .exit) ≡ set (now (list .entry)) (listed .place) (listed .entry) ⌝ }
+fn answer_of(listed: Listed) -> Answer
+    ensures { λ r. ⌜ r ≡ listed .answer ⌝ }
+{
+    let a = listed.answer;
+    a
+}
+
+// The place that a call names becomes what it says: a scan is added or dropped. A place past the end is not there, and nothing is stored. Gives the call's answer back.
+pub fn keep(list: &mut [Place], listed: Listed) -> Answer
+    ensures { λ r. ⌜ (r ≡ listed .answer) × (now (list .exit) ≡ set (now (list .entry)) (listed .place) (listed .entry)) ⌝ }
 {
     let i = place_of(listed);
     if i < len_of(list) {
         put_place(list, i, entry_of(listed));
     }
+    answer_of(listed)
 }
 
 // Every place becomes free, however many there are.
@@ -114,11 +122,12 @@ pub fn accepted(answer: Answer) -> bool
     }
 }
 
-// The list of a store that was to be made: every place becomes free, unless the making was refused.
-pub fn free_made(list: &mut [Place], answer: Answer)
-    ensures { λ _. ⌜ now (list .exit) ≡ freedIf (isAccepted answer) (now (list .entry)) ⌝ }
+// The list of a store that was to be made: every place becomes free, unless the making was refused. Gives the making's answer back.
+pub fn free_made(list: &mut [Place], answer: Answer) -> Answer
+    ensures { λ r. ⌜ (r ≡ answer) × (now (list .exit) ≡ freedIf (isAccepted answer) (now (list .entry))) ⌝ }
 {
     if accepted(answer) {
         free_all(list);
     }
+    answer
 }

@@ -138,7 +138,7 @@ module _ {M : Type 1} {𝓤 : URA M} {H : Heap 𝓤} {A : Atoms 𝓤} {W : Given
         → Rest 𝓤 H A W 𝓣 E Δ (AfterAgg R (asMut R) (AfterLend R (Begun Γ β) nm np α β (ref R κ) (again R) l) np ns β (again R) (again R)) → Rest 𝓤 H A W 𝓣 E Δ Γ
     lend {Γ} nm np ns m p s fresh asked em ep es r =
         let h : Lends-at 𝓤 H A E R κ α β l (again R) (msptr R (again R) β) (Begun Γ β) (AfterLend R (Begun Γ β) nm np α β (ref R κ) (again R) l) nm np ns =
-            asked ((λ x. x, as-is 𝓤 H A (mslice R (ref R κ) α)), room-gone 𝓤 H A (again R), refl, tt, em, ep, (λ x. x, as-is 𝓤 H A (msptr R (again R) β)), room-gone 𝓤 H A (sliceTy (again R)), (λ v. lenV (v .0), reads-owed-len 𝓤 H A W R (ref R κ) α β l 8 refl), ep, es, em) in
+        asked ((λ x. x, as-is 𝓤 H A (mslice R (ref R κ) α)), room-gone 𝓤 H A (again R), refl, tt, em, ep, (λ x. x, as-is 𝓤 H A (msptr R (again R) β)), room-gone 𝓤 H A (sliceTy (again R)), (λ v. lenV (v .0), reads-owed-len 𝓤 H A W R (ref R κ) α β l 8 refl), ep, es, em) in
         quiet (g-begin 𝓤 H A W E Γ β fresh)
         (step (t-sl-relend 𝓤 H A W E R 𝓣 (Begun Γ β) nm np α β (ref R κ) (again R) l 0 (h .0 .0) (h .0 .1) (h .1) (h .2) (h .3) (ap (λ (τ : Ty). fieldOf τ 0) (h .4)) refl (h .5) (λ b o. tt))
         (step (t-sl-aggregate 𝓤 H A W E R 𝓣 (asMut R) (AfterLend R (Begun Γ β) nm np α β (ref R κ) (again R) l) np ns β (again R) (again R) (h .6 .0) (oFld nm (field 1 ∷ []) (tyInt w64) 8 (h .8 .0)) (h .6 .1) (h .7) (h .8 .1, ap (λ (τ : Ty). endOf τ zero (field 1 ∷ [])) (h .11)) (h .9) (h .10) (λ b o k. tt)) r))
@@ -149,7 +149,7 @@ module _ {M : Type 1} {𝓤 : URA M} {H : Heap 𝓤} {A : Atoms 𝓤} {W : Given
         → Rest 𝓤 H A W 𝓣 E Δ (AfterAgg R (asShr R) (AfterReshare R (Begun Γ β) nm np α β (ref R κ) (read R) l) np ns β (read R) (read R)) → Rest 𝓤 H A W 𝓣 E Δ Γ
     share {Γ} nm np ns m p s fresh asked em ep es r =
         let h : Lends-at 𝓤 H A E R κ α β l (read R) (ssptr R (read R) β) (Begun Γ β) (AfterReshare R (Begun Γ β) nm np α β (ref R κ) (read R) l) nm np ns =
-            asked ((λ x. x, as-is 𝓤 H A (mslice R (ref R κ) α)), room-gone 𝓤 H A (read R), refl, tt, em, ep, (λ x. x, as-is 𝓤 H A (ssptr R (read R) β)), room-gone 𝓤 H A (sliceTy (read R)), (λ v. lenV (v .0), reads-owedS-len 𝓤 H A W R (ref R κ) α β l 8 refl), ep, es, em) in
+        asked ((λ x. x, as-is 𝓤 H A (mslice R (ref R κ) α)), room-gone 𝓤 H A (read R), refl, tt, em, ep, (λ x. x, as-is 𝓤 H A (ssptr R (read R) β)), room-gone 𝓤 H A (sliceTy (read R)), (λ v. lenV (v .0), reads-owedS-len 𝓤 H A W R (ref R κ) α β l 8 refl), ep, es, em) in
         quiet (g-begin 𝓤 H A W E Γ β fresh)
         (step (t-sl-reshare 𝓤 H A W E R 𝓣 (Begun Γ β) nm np α β (ref R κ) (read R) l 0 (h .0 .0) (h .0 .1) (h .1) (h .2) (h .3) (ap (λ (τ : Ty). fieldOf τ 0) (h .4)) refl (h .5) (λ b o. tt))
         (step (t-sl-aggregate 𝓤 H A W E R 𝓣 (asShr R) (AfterReshare R (Begun Γ β) nm np α β (ref R κ) (read R) l) np ns β (read R) (read R) (h .6 .0) (oFld nm (field 1 ∷ []) (tyInt w64) 8 (h .8 .0)) (h .6 .1) (h .7) (h .8 .1, ap (λ (τ : Ty). endOf τ zero (field 1 ∷ [])) (h .11)) (h .9) (h .10) (λ b o k. tt)) r))
@@ -201,4 +201,3 @@ module _ {M : Type 1} {𝓤 : URA M} {H : Heap 𝓤} {A : Atoms 𝓤} {E : Env �
         (also (g-end 𝓤 H A W E (Dropped W R κ α β l Γ ns) β (asked (used-shared W R κ α β l) .2))
         (also (g-back-sl-shr 𝓤 H A W E R (Ended (Dropped W R κ α β l Γ ns) β) nm α β (ref R κ) l (asked (used-shared W R κ α β l) .1 .0) (asked (used-shared W R κ α β l) .1 .1) (asked (used-shared W R κ α β l) .3) (asked (used-shared W R κ α β l) .4))
         (g-forget 𝓤 H A W E (AfterBackShr R (Ended (Dropped W R κ α β l Γ ns) β) nm α β (ref R κ) l) β dead (asked (used-shared W R κ α β l) .5))))
-

@@ -144,7 +144,6 @@ module _ (l : ℕ) (core last : Name) (d r : Plain) where
             (quiet (g-room 𝓤 H A W (E neither fs bs) _ 3 (type d) (room d 𝓤 H A W))
             (quiet (lifts 𝓤 H A (E neither fs bs) W κs qs (F neither (full r)) 3 fs (xs neither) (front-out neither (E neither fs bs)))
             (returns tt)))))
-
         rest memory fs cpost k-core =
             quiet (lays 𝓤 H A (E memory fs bs) W κs qs (F memory (gone r)) 3 fs (xs memory) (front-in memory (E memory fs bs)))
             (lend byte (named 0) 0 2 (lease (κs .0) (qs .0)) 1 4 5 1 (up 1 (beyond 3 fs)) (up 2 (beyond 3 fs)) (tt, (tt, (tt, (tt, (tt, (tt, fresh-all 2 tt 3 fs)))))) (λ x. x) refl (spot memory fs bs 1 tt) (spot memory fs bs 2 tt)
@@ -155,7 +154,6 @@ module _ (l : ℕ) (core last : Name) (d r : Plain) where
             (quiet (g-room 𝓤 H A W (E memory fs bs) _ 3 (type d) (room d 𝓤 H A W))
             (quiet (lifts 𝓤 H A (E memory fs bs) W κs qs (F memory (full r)) 3 fs (xs memory) (front-out memory (E memory fs bs)))
             (returns tt)))))))
-
         rest list fs cpost k-core =
             quiet (lays 𝓤 H A (E list fs bs) W κs qs (F list (gone r)) 3 fs (xs list) (front-in list (E list fs bs)))
             (lend entry (named 1) 1 2 (lease (κs .1 .0) (qs .1 .0)) 2 4 5 2 (up 1 (beyond 3 fs)) (up 2 (beyond 3 fs)) (tt, (tt, (tt, (tt, (tt, (tt, fresh-all 2 tt 3 fs)))))) (λ x. x) refl (spot list fs bs 1 tt) (spot list fs bs 2 tt)
@@ -166,7 +164,6 @@ module _ (l : ℕ) (core last : Name) (d r : Plain) where
             (quiet (g-room 𝓤 H A W (E list fs bs) _ 3 (type d) (room d 𝓤 H A W))
             (quiet (lifts 𝓤 H A (E list fs bs) W κs qs (F list (full r)) 3 fs (xs list) (front-out list (E list fs bs)))
             (returns tt)))))))
-
         rest both fs cpost k-core =
             quiet (lays 𝓤 H A (E both fs bs) W κs qs (F both (gone r)) 3 fs (xs both) (front-in both (E both fs bs)))
             (lend byte (named 0) 0 2 (lease (κs .0) (qs .0)) 1 4 5 1 (up 1 (beyond 3 fs)) (up 2 (beyond 3 fs)) (tt, (tt, (tt, (tt, (tt, (tt, (tt, (tt, fresh-all 2 tt 3 fs)))))))) (λ x. x) refl (spot both fs bs 1 tt) (spot both fs bs 2 tt)

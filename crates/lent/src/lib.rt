@@ -1,5 +1,6 @@
 // The lent list of open scans, a slice of small records. Three functions reach into it, and each is proved by a walk of its MIR, by hand: `len_of`,
 // `place_at`, `put_place`. The others hand the list on to those: `table` finds the open scans, `keep` adds or drops one, `free_all` and `free_made` drop all.
+use model::free_place;
 use scans::Scans;
 use scans::blank;
 use scans::enter;
@@ -15,17 +16,6 @@ ghost use Rattle.terms.specs.Places.{freePlace};
 ghost use Rattle.scans.specs.Places.{allFreed};
 ghost use Rattle.scans.specs.Table.{tableOf};
 ghost use Rattle.lent.specs.Lent.{isAccepted, freedIf};
-
-// The record of a free place.
-fn free_place() -> Place
-    ensures { λ r. ⌜ r ≡ freePlace ⌝ }
-{
-    Place {
-        number: 0,
-        stamp: 0,
-        merges: 0,
-    }
-}
 
 pub fn len_of(list: &[Place]) -> usize
     ensures { λ r. ⌜ r ≡ length (now (list .entry)) ⌝ }

@@ -17,9 +17,9 @@ use Rattle.lent.proofs.Steps.{Freed, none-freed, one-freed, all-freed}
 use Rattle.lent.proofs.Types.{p as P}
 use Rattle.lent.proofs.len_of.Symbol as len-of
 use Rattle.lent.proofs.len_of.Met as len-of-thm
-use Rattle.lent.proofs.free_place.Symbol as free-place
-use Rattle.lent.proofs.free_place.Met as free-place-thm
-use Rattle.lent.proofs.free_place.Reads as free-place-reads
+use Rattle.model.proofs.free_place.Symbol as free-place
+use Rattle.model.proofs.free_place.Met as free-place-thm
+use Rattle.model.proofs.free_place.Reads as free-place-reads
 use Rattle.lent.proofs.put_place.Symbol as put-place
 use Rattle.lent.proofs.put_place.Met as put-place-thm
 use Rattle.lent.proofs.free_all.Key as key
@@ -148,7 +148,7 @@ free-all-spec {M} 𝓤 H 𝓜 𝓖 𝓡 =
     let W : Given 𝓤 H (𝓖 .A) = givenOf 𝓤 H 𝓜 𝓖 in
     let 𝓣 : Tables 𝓤 H = Over 𝓤 H 𝓜 𝓖 𝓡 code.env in
     let k-len : Known 𝓤 H (𝓖 .A) W 𝓣 1 ps-len (rNum w64) (none-asked ps-len) Q-len len-of.name = written.known-free 1 ps-len (rNum w64) Q-len w code.env len-of.name len-of.routine code.calls-lent·len-of (len-of-thm.met 𝓤 H 𝓜 𝓖 𝓡) in
-    let k-free : Known 𝓤 H (𝓖 .A) W 𝓣 0 ps-free (res P) (none-asked ps-free) Q-free free-place.name = free-place-reads.known w code.env free-place.name free-place.routine code.calls-lent·free-place (free-place-thm.met 𝓤 H 𝓜 𝓖 𝓡) in
+    let k-free : Known 𝓤 H (𝓖 .A) W 𝓣 0 ps-free (res P) (none-asked ps-free) Q-free free-place.name = free-place-reads.known w code.env free-place.name free-place.routine code.calls-model·free-place (free-place-thm.met 𝓤 H 𝓜 𝓖 𝓡) in
     let k-put : Known 𝓤 H (𝓖 .A) W 𝓣 1 ps-put rUnit P-put Q-put put-place.name = written.known 1 ps-put rUnit Q-put P-put w code.env put-place.name put-place.routine code.calls-lent·put-place (put-place-thm.met 𝓤 H 𝓜 𝓖 𝓡) in
     written.close-free 1 ps rUnit Q w code.env key.name code.function (code.unfolded 𝓤 H 𝓜 𝓡)
     (t-fn-plain 𝓤 H (𝓖 .A) W 𝓣 1 ps rUnit xs 2 hs body (λ κs qs bs. rest κs qs 𝓤 H (𝓖 .A) W 𝓣 k-len k-free k-put bs .means) (λ κs qs bs bd. rest κs qs 𝓤 H (𝓖 .A) W 𝓣 k-len k-free k-put bs .typed) (none-asked ps) Q

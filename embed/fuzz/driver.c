@@ -189,7 +189,7 @@ enum call {
     LINEAGE,
     CHECK,
     MAKE,
-    NEED,
+    BYTES_NEEDED,
     CALLS
 };
 
@@ -223,7 +223,7 @@ static const struct {
     [LINEAGE] = {"lineage", "gc", HAS_FIRST | HAS_SECOND, MAY(7) | MAY(6)},
     [CHECK] = {"check", "", 0, 0},
     [MAKE] = {"make", "nnnn", WRITES_MEMORY | WRITES_LIST, MAY(1)},
-    [NEED] = {"need", "nnnn", HAS_FIRST, MAY(1)},
+    [BYTES_NEEDED] = {"bytes_needed", "nnnn", HAS_FIRST, MAY(1)},
 };
 
 /* Lends values for an insert or update, as many as any shape has columns or any number of them. */
@@ -262,7 +262,7 @@ static deskrook_reply make_call(enum call call, const uint32_t numbers[4]) {
     case LINEAGE: return deskrook_lineage(m, n, s, k, a, b);
     case CHECK: return deskrook_check(m, n, s, k);
     case MAKE: return deskrook_make(m, n, s, k, a, b, c, d);
-    case NEED: return deskrook_bytes_needed(a, b, c, d);
+    case BYTES_NEEDED: return deskrook_bytes_needed(a, b, c, d);
     default: abort();
     }
 }
@@ -337,11 +337,11 @@ static void call_and_judge(enum call call, struct input *in) {
         fail(name, "no such result");
     ways[call * 64 + result] = 1;
 
-    if (call == MAKE || call == NEED) {
+    if (call == MAKE || call == BYTES_NEEDED) {
         uint32_t need = 0;
         if (result != due(call, numbers, &need))
             fail(name, "another result is due");
-        if (call == NEED && reply.first != need)
+        if (call == BYTES_NEEDED && reply.first != need)
             fail(name, "another need is due");
     } else if (fact != NULL) {
         if (result != DESKROOK_MEMORY)
@@ -362,7 +362,7 @@ static void call_and_judge(enum call call, struct input *in) {
     look_around(name, &values);
     if (changed(&values))
         fail(name, "a value changed");
-    if (ok && call != NEED)
+    if (ok && call != BYTES_NEEDED)
         judge_accepted(call);
     else if (changed(&memory) || changed(&list))
         fail(name, "a byte changed, though nothing was to be done");

@@ -1,15 +1,16 @@
--- The demands of the lent memory and list themselves, from those stated of definitions.
+-- The demands of the lent memory and list themselves, from those stated of definitions, for every form in which a caller is told an answer (`Faithful`).
 use Prim.Native.Nat.{ℕ, _<_}
 use mathlib.Core.Path.{_≡_, refl, sym, subst, ap, _∙_}
 use mathlib.Core.Bool.{Bool, true, false, cond, _&&_}
-use mathlib.Core.Logic.{inl}
-use mathlib.Core.List.{List}
+use mathlib.Core.Logic.{inl, _↔_}
+use mathlib.Core.List.{List, [], _∷_, map}
 use native.Mathlib.Nat.{le-refl}
 use native.Mathlib.Omega.{arith}
 use lib.Dec.{leb}
-use lib.ListN.{length, set}
+use lib.ListN.{length, set, List·getD-map}
 use lib.Seq.{set-out}
 use Rattle.terms.specs.Measures.{Shape, withinLimits, mostScans}
+use Rattle.terms.specs.Refusals.{isRefused, isAccepted}
 use Rattle.terms.specs.declared.Answer.{Answer}
 use Rattle.terms.specs.declared.Place.{Place}
 use Rattle.terms.specs.declared.Refusal.{Refusal}
@@ -21,6 +22,7 @@ use Rattle.facts.specs.Usable.{storedShape, usable}
 use Rattle.facts.proofs.Usable.{usable-tells}
 use Rattle.history.proofs.Lists.{is-true, refuted, clash}
 use Rattle.history.specs.History.{Call, Verdict, accept, refuse}
+use Rattle.history.specs.Claims.{isPlain, kind, strike, plainAnswers}
 use Rattle.model.specs.Calls.{placesAfter, placesIf, placesNext}
 use Rattle.promise.specs.Promise.{storeView, answerOf, listAfter, answersOf, Serves, Makes}
 use Rattle.promise.specs.Demands.{Accepted, memoryLeft, listLeft, storeAnswers, storeMemory, storeList, storeAnswerAt, ReadIn, Refuses, RefusedKeeps, ReadsCommitted, PagesCommitted, Demand3, StrikingStore, StabilityStore}
@@ -29,9 +31,8 @@ use Rattle.promise.proofs.Demands.{demand3, reads-committed, pages-committed, s
 use Rattle.promise.proofs.Refused.{refused-keeps}
 use Rattle.promise.proofs.Stated.{refuses}
 use Rattle.making.specs.Made.{madeView, made}
-use Rattle.terms.specs.Refusals.{isAccepted}
 use Rattle.scans.specs.Places.{freedIf}
-use Rattle.calls.specs.Runs.{Run, ends, goes, ReadAmong, LentRefused, LentKept, MakingKept, LentReads, LentPages, LentAnswers, LentStriking, LentStability, MakingFrees, OnePlace, ShortRefused}
+use Rattle.calls.specs.Runs.{Run, ends, goes, Face, ReadAmong, toldAt, RefusedSo, RefusedKept, UnmadeKept, ReadsSo, PagesSo, AnswersSo, StruckSame, ReadsStable, calls, LentRefused, LentKept, MakingKept, LentReads, LentPages, LentAnswers, LentStriking, LentStability, MakingFrees, OnePlace, ShortRefused}
 
 -- ---- what a run answers and leaves
 run-left : {m m′ : List ℕ} {ps ps′ : List Place} {cs : List Call} {rs : List Answer} → Run Serves m ps cs rs m′ ps′
@@ -53,62 +54,166 @@ store-left S m₀ ps₀ {m} {ps = ps} h q =
     let l = rw (h .1, making-frees S m₀ m ps₀ ps h) at (run-left q) in
     (sym (h .0), l .0, l .1, l .2)
 
--- ---- demand 1
+-- ---- a making answers done, or a refusal that leaves all as it was
+answered : List ℕ → Bool → Bool → List ℕ → Answer × List ℕ
+answered m a b l = cond a (cond b (Answer.Done, l) (Answer.Refused Refusal.Memory, m)) (Answer.Refused Refusal.Shape, m)
+
+unmade-same : (m : List ℕ) (a b : Bool) (l : List ℕ) (n : Refusal) → answered m a b l .0 ≡ Answer.Refused n → answered m a b l .1 ≡ m
+unfolding answered
+unmade-same m true true l n e = clash (cc)
+unmade-same m true false l n e = refl
+unmade-same m false b l n e = refl
+
+made-done : (m : List ℕ) (a b : Bool) (l : List ℕ) → isRefused (answered m a b l .0) ≡ false → answered m a b l .0 ≡ Answer.Done
+unfolding answered
+made-done m true true l e = refl
+made-done m true false l e = clash (cc)
+made-done m false b l e = clash (cc)
+
+-- ---- a form that tells the answer of a call, and of a making
+pub record Faithful (F : Face) : Type 0 where
+  pub served : {m m′ : List ℕ} {ps ps′ : List Place} {c : Call} {r : F .Told} → F .serves m ps c r m′ ps′ → (a : Answer) × Serves m ps c a m′ ps′ × (r ≡ F .tells a)
+  pub making : {m m′ : List ℕ} {ps ps′ : List Place} {S : Shape} {r : F .Told} → F .makes m ps S r m′ ps′ → (a : Answer) × Makes m ps S a m′ ps′ × (r ≡ F .tells a)
+  pub refusing : (a : Answer) (n : Refusal) → F .Refuses (F .tells a) n ↔ (a ≡ Answer.Refused n)
+  pub accepting : (a : Answer) → F .Accepts (F .tells a) ↔ (isRefused a ≡ false)
+
+plain-map : {R : Type 0} (f : Answer → R) (cs : List Call) (l : List Answer) → plainAnswers cs (map f l) ≡ map f (plainAnswers cs l)
+unfolding plainAnswers
+plain-map f [] l = refl
+plain-map f (c ∷ cs) [] = refl
+plain-map f (c ∷ cs) (a ∷ l) =
+    rw (plain-map f cs l)
+    (elim (isPlain (kind c)) as (λ b. cond b (f a ∷ map f (plainAnswers cs l)) (map f (plainAnswers cs l)) ≡ map f (cond b (a ∷ plainAnswers cs l) (plainAnswers cs l)))
+    [ true ↦ refl | false ↦ refl ])
+
+module _ (F : Face) (ok : Faithful F) where
+  is-refusal : (r : F .Told) (a : Answer) (n : Refusal) → r ≡ F .tells a → F .Refuses r n → a ≡ Answer.Refused n
+  is-refusal r a n e h = ok .refusing a n .0 (subst (λ (x : F .Told). F .Refuses x n) e h)
+
+  not-refused : (r : F .Told) (a : Answer) → r ≡ F .tells a → F .Accepts r → isRefused a ≡ false
+  not-refused r a e h = ok .accepting a .0 (subst (F .Accepts) e h)
+
+  as-answers : {m m′ : List ℕ} {ps ps′ : List Place} {cs : List Call} {rs : List (F .Told)} → Run (F .serves) m ps cs rs m′ ps′
+      → (as′ : List Answer) × Run Serves m ps cs as′ m′ ps′ × (rs ≡ map (F .tells) as′)
+  as-answers ends = ([], ends, refl)
+  as-answers (goes {rs = rs} s q) =
+      let x = ok .served s in
+      let l = as-answers q in
+      (x .0 ∷ l .0, goes (x .1) (l .1), ap (λ (y : F .Told). y ∷ rs) (x .2) ∙ ap (λ (y : List (F .Told)). F .tells (x .0) ∷ y) (l .2))
+
+  stored : (S : Shape) (m₀ : List ℕ) (ps₀ : List Place) {m m′ : List ℕ} {ps ps′ : List Place} {z : F .Told} {cs : List Call} {rs : List (F .Told)}
+      → F .makes m₀ ps₀ S z m ps → F .Accepts z → Run (F .serves) m ps cs rs m′ ps′
+      → Accepted S m₀ ps₀ × (rs ≡ map (F .tells) (storeAnswers S m₀ ps₀ cs)) × (m′ ≡ storeMemory S m₀ ps₀ cs) × (ps′ ≡ storeList S m₀ ps₀ cs)
+  unfolding Makes made answered
+  stored S m₀ ps₀ {z = z} h g q =
+      let x = ok .making h in
+      let done : made S (length ps₀) m₀ .0 ≡ Answer.Done =
+      made-done m₀ (withinLimits S) (leb (bytesNeeded S) (length m₀) && leb mostScans (length ps₀)) (lay (sizesOf S) (madeView S) m₀) (ap isRefused (sym (x .1 .0)) ∙ not-refused z (x .0) (x .2) g) in
+      let l = as-answers q in
+      let k = store-left S m₀ ps₀ (sym done, x .1 .1, x .1 .2) (l .1) in
+      (k .0, l .2 ∙ ap (map (F .tells)) (k .1), k .2, k .3)
+
+  -- ---- demand 1
+  pub refused-so : RefusedSo F
+  unfolding RefusedSo Serves Refuses
+  refused-so m m′ ps ps′ c r s =
+      let x = ok .served s in
+      let k = refuses m ps c in
+      let e : r ≡ F .tells (answerOf m ps c) = x .2 ∙ ap (F .tells) (x .1 .0) in
+      rw e
+      ((
+        λ n. (λ h. k .0 n .0 (ok .refusing (answerOf m ps c) n .0 h), λ h. ok .refusing (answerOf m ps c) n .1 (k .0 n .1 h)),
+        (λ h. k .1 .0 (ok .accepting (answerOf m ps c) .0 h), λ h. ok .accepting (answerOf m ps c) .1 (k .1 .1 h)),
+      ))
+
+  pub refused-kept : RefusedKept F
+  unfolding RefusedKept Serves RefusedKeeps
+  refused-kept m m′ ps ps′ c r n b s h =
+      let x = ok .served s in
+      let k = refused-keeps m ps c n b (sym (x .1 .0) ∙ is-refusal r (x .0) n (x .2) h) in
+      (x .1 .1 ∙ k .0, x .1 .2 ∙ k .1)
+
+  pub unmade-kept : UnmadeKept F
+  unfolding UnmadeKept Makes made answered
+  unmade-kept S m m′ ps ps′ r n s h =
+      let x = ok .making s in
+      let e : made S (length ps) m .0 ≡ Answer.Refused n = sym (x .1 .0) ∙ is-refusal r (x .0) n (x .2) h in
+      (x .1 .1 ∙ unmade-same m (withinLimits S) (leb (bytesNeeded S) (length m) && leb mostScans (length ps)) (lay (sizesOf S) (madeView S) m) n e, x .1 .2 ∙ ap (λ (y : Answer). freedIf (isAccepted y) ps) e)
+
+  -- ---- demand 2
+  pub reads-so : ReadsSo F
+  unfolding ReadsSo Serves ReadsCommitted
+  reads-so S m₀ m m′ ps₀ ps ps′ z cs rs h g ys q x t r c a m″ ps″ y w s k =
+      let l = stored S m₀ ps₀ h g q in
+      let b = ok .served s in
+      let e : b .0 ≡ answerOf (storeMemory S m₀ ps₀ cs) (storeList S m₀ ps₀ cs) x =
+      b .1 .0 ∙ ap (λ (u : List ℕ). answerOf u ps′ x) (l .2) ∙ ap (λ (u : List Place). answerOf (storeMemory S m₀ ps₀ cs) u x) (l .3) in
+      let n : isRefused (answerOf (storeMemory S m₀ ps₀ cs) (storeList S m₀ ps₀ cs) x) ≡ false = ap isRefused (sym e) ∙ not-refused a (b .0) (b .2) k in
+      b .2 ∙ ap (F .tells) (e ∙ reads-committed S m₀ ps₀ (l .0) cs ys x t r c y w (rw n tt))
+
+  pub pages-so : PagesSo F
+  unfolding PagesSo PagesCommitted
+  pages-so S m₀ m m′ ps₀ ps ps′ z cs rs h g ys q i c b d =
+      let l = stored S m₀ ps₀ h g q in
+      rw (l .2) (pages-committed S m₀ ps₀ (l .0) cs ys i c b d)
+
+  -- ---- demand 3
+  pub answers-so : AnswersSo F
+  unfolding AnswersSo Demand3
+  answers-so S m₀ m m′ ps₀ ps ps′ z cs rs h g ys q =
+      let l = stored S m₀ ps₀ h g q in
+      l .1 ∙ ap (map (F .tells)) (demand3 S m₀ ps₀ (l .0) cs ys)
+
+  pub struck-same : StruckSame F
+  unfolding StruckSame StrikingStore
+  struck-same S m₀ m m′ ps₀ ps ps′ z cs rs h g ys q rs′ m″ ps″ p =
+      let l = stored S m₀ ps₀ h g q in
+      let k = stored S m₀ ps₀ h g p in
+      rw (l .1, k .1, plain-map (F .tells) cs (storeAnswers S m₀ ps₀ cs), plain-map (F .tells) (strike cs) (storeAnswers S m₀ ps₀ (strike cs))) (ap (map (F .tells)) (striking-store S m₀ ps₀ (l .0) cs ys))
+
+  pub reads-stable : ReadsStable F
+  unfolding ReadsStable StabilityStore storeAnswerAt
+  reads-stable S m₀ m m′ ps₀ ps ps′ z cs rs h g ys q i j t r c x y =
+      at i ∙ ap (F .tells) (stability-store S m₀ ps₀ (l .0) cs ys i j t r c (read-in i x) (read-in j y)) ∙ sym (at j)
+    where
+      l : Accepted S m₀ ps₀ × (rs ≡ map (F .tells) (storeAnswers S m₀ ps₀ cs)) × (m′ ≡ storeMemory S m₀ ps₀ cs) × (ps′ ≡ storeList S m₀ ps₀ cs)
+      l = stored S m₀ ps₀ h g q
+
+      at : (k : ℕ) → toldAt F rs k ≡ F .tells (storeAnswerAt S m₀ ps₀ cs k)
+      at k = ap (λ (u : List (F .Told)). toldAt F u k) (l .1) ∙ List·getD-map (F .tells) (storeAnswers S m₀ ps₀ cs) k Answer.Done
+
+      read-in : (k : ℕ) → ReadAmong F S cs rs k t r c → ReadIn S m₀ ps₀ cs k t r c
+      read-in k u =
+          let n : isRefused (storeAnswerAt S m₀ ps₀ cs k) ≡ false = not-refused (toldAt F rs k) (storeAnswerAt S m₀ ps₀ cs k) (at k) (u .2) in
+          record { inside = u .0; reads = u .1; accepted = rw n tt }
+
+-- ---- of the calls
+faithful : Faithful calls
+faithful = record { served = λ {r = r} s. (r, s, refl); making = λ {r = r} s. (r, s, refl); refusing = λ a n. (λ e. e, λ e. e); accepting = λ a. (λ e. e, λ e. e) }
+
 pub lent-refused : LentRefused
-unfolding LentRefused Serves Refuses
-lent-refused m m′ ps ps′ c r s = rw (s .0) (refuses m ps c)
+lent-refused = refused-so calls faithful
 
 pub lent-kept : LentKept
-unfolding LentKept Serves RefusedKeeps
-lent-kept m m′ ps ps′ c n b s =
-    let k = refused-keeps m ps c n b (sym (s .0)) in
-    (s .1 ∙ k .0, s .2 ∙ k .1)
+lent-kept = refused-kept calls faithful
 
 pub making-kept : MakingKept
-unfolding MakingKept Makes made
-making-kept S m m′ ps ps′ n h = (h .1 ∙ go (withinLimits S) (leb (bytesNeeded S) (length m) && leb mostScans (length ps)) (lay (sizesOf S) (madeView S) m) (sym (h .0)), h .2 ∙ ap (λ (x : Answer). freedIf (isAccepted x) ps) (sym (h .0)))
-  where
-    answered : Bool → Bool → List ℕ → Answer × List ℕ
-    answered a b l = cond a (cond b (Answer.Done, l) (Answer.Refused Refusal.Memory, m)) (Answer.Refused Refusal.Shape, m)
+making-kept = unmade-kept calls faithful
 
-    go : (a b : Bool) (l : List ℕ) → answered a b l .0 ≡ Answer.Refused n → answered a b l .1 ≡ m
-    go true true l e = clash (cc)
-    go true false l e = refl
-    go false b l e = refl
-
--- ---- demand 2
 pub lent-reads : LentReads
-unfolding LentReads Serves ReadsCommitted
-lent-reads S m₀ m m′ ps₀ ps ps′ cs rs h ys q x t r c a m″ ps″ y w s n =
-    let l = store-left S m₀ ps₀ h q in
-    let e : a ≡ answerOf (storeMemory S m₀ ps₀ cs) (storeList S m₀ ps₀ cs) x = rw (l .2, l .3) at (s .0) in
-    e ∙ reads-committed S m₀ ps₀ (l .0) cs ys x t r c y w (rw e at n)
+lent-reads = reads-so calls faithful
 
 pub lent-pages : LentPages
-unfolding LentPages PagesCommitted
-lent-pages S m₀ m m′ ps₀ ps ps′ cs rs h ys q g c b d =
-    let l = store-left S m₀ ps₀ h q in
-    rw (l .2) (pages-committed S m₀ ps₀ (l .0) cs ys g c b d)
+lent-pages = pages-so calls faithful
 
--- ---- demand 3
 pub lent-answers : LentAnswers
-unfolding LentAnswers Demand3
-lent-answers S m₀ m m′ ps₀ ps ps′ cs rs h ys q =
-    let l = store-left S m₀ ps₀ h q in
-    l .1 ∙ demand3 S m₀ ps₀ (l .0) cs ys
+lent-answers = answers-so calls faithful
 
 pub lent-striking : LentStriking
-unfolding LentStriking StrikingStore
-lent-striking S m₀ m m′ ps₀ ps ps′ cs rs h ys q rs′ m″ ps″ p =
-    let l = store-left S m₀ ps₀ h q in
-    rw (l .1, store-left S m₀ ps₀ h p .1) (striking-store S m₀ ps₀ (l .0) cs ys)
+lent-striking = struck-same calls faithful
 
 pub lent-stability : LentStability
-unfolding LentStability StabilityStore storeAnswerAt
-lent-stability S m₀ m m′ ps₀ ps ps′ cs rs h ys q i j t r c x y =
-    let l = store-left S m₀ ps₀ h q in
-    let read-in : (k : ℕ) → ReadAmong S cs rs k t r c → ReadIn S m₀ ps₀ cs k t r c = λ k z. record { inside = z .0; reads = z .1; accepted = rw (l .1) at (z .2) } in
-    rw (l .1) (stability-store S m₀ ps₀ (l .0) cs ys i j t r c (read-in i x) (read-in j y))
+lent-stability = reads-stable calls faithful
 
 -- ---- at most one place
 

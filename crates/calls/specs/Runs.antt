@@ -1,11 +1,10 @@
--- The demands of the lent memory and list themselves: what follows from the calls' promises alone, whatever program made the calls. proofs/Runs.antt proves them.
--- The exports have the same (crates/deskrook/specs/Runs.antt).
+-- The demands of the lent memory and list themselves: what follows from promises alone, whatever program made the calls. They are said once, of any form in which a
+-- caller is told the answer (`Face`): the calls tell it as it is, and the exports as a reply (crates/deskrook/specs/Runs.antt). proofs/Runs.antt proves them.
 use Prim.Native.Nat.{ℕ, _<_}
 use mathlib.Core.Path.{_≡_}
 use mathlib.Core.Logic.{_↔_}
-use mathlib.Core.Bool.{false, not}
-use mathlib.Core.List.{List, [], _∷_}
-use lib.Dec.{T}
+use mathlib.Core.Bool.{false}
+use mathlib.Core.List.{List, [], _∷_, map}
 use lib.ListN.{length, getD, set}
 use Rattle.terms.specs.Measures.{Shape, mostScans}
 use Rattle.terms.specs.Refusals.{isRefused}
@@ -30,63 +29,101 @@ pub data Run {R : Type 0} (serves : List ℕ → List Place → Call → R → L
   goes : {m m′ m″ : List ℕ} {ps ps′ ps″ : List Place} {c : Call} {r : R} {cs : List Call} {rs : List R}
       → serves m ps c r m′ ps′ → Run serves m′ ps′ cs rs m″ ps″ → Run serves m ps (c ∷ cs) (r ∷ rs) m″ ps″
 
--- a claim for every run after an accepted making, whatever memory and list held before: of the shape, the memory and list made, the calls, their answers, and
--- the memory and list left
-abbrev pub EveryRun : (Shape → List ℕ → List Place → List Call → List Answer → List ℕ → List Place → Type 0) → Type 0
-EveryRun P =
-    (S : Shape) (m₀ m m′ : List ℕ) (ps₀ ps ps′ : List Place) (cs : List Call) (rs : List Answer)
-    → Makes m₀ ps₀ S Answer.Done m ps → All Typed cs → Run Serves m ps cs rs m′ ps′ → P S m ps cs rs m′ ps′
+-- the form in which a caller is told: an answer in it, when it says a refusal and when none, and what a call and a making promise
+pub record Face : Type 1 where
+  pub Told : Type 0
+  pub tells : Answer → Told
+  pub Refuses : Told → Refusal → Type 0
+  pub Accepts : Told → Type 0
+  pub serves : List ℕ → List Place → Call → Told → List ℕ → List Place → Type 0
+  pub makes : List ℕ → List Place → Shape → Told → List ℕ → List Place → Type 0
 
--- ---- demand 1
--- a call is refused on the stated condition only
-unfoldable pub LentRefused : Type 0
-LentRefused =
-    (m m′ : List ℕ) (ps ps′ : List Place) (c : Call) (r : Answer) → Serves m ps c r m′ ps′
-    → ((n : Refusal) → (r ≡ Answer.Refused n) ↔ First (conditions m ps c) n) × ((isRefused r ≡ false) ↔ NoneApplies (conditions m ps c))
+module _ (F : Face) where
+  -- a claim for every run after an accepted making, whatever memory and list held before: of the shape, the memory and list made, the calls, what they told, and the
+  -- memory and list left
+  abbrev pub EveryRun : (Shape → List ℕ → List Place → List Call → List (F .Told) → List ℕ → List Place → Type 0) → Type 0
+  EveryRun P =
+      (S : Shape) (m₀ m m′ : List ℕ) (ps₀ ps ps′ : List Place) (z : F .Told) (cs : List Call) (rs : List (F .Told))
+      → F .makes m₀ ps₀ S z m ps → F .Accepts z → All Typed cs → Run (F .serves) m ps cs rs m′ ps′ → P S m ps cs rs m′ ps′
 
--- a refused call changes no byte of the memory and no place of the list, and a refused making neither
-unfoldable pub LentKept : Type 0
-LentKept =
-    (m m′ : List ℕ) (ps ps′ : List Place) (c : Call) (n : Refusal)
-    → Bytes m → Serves m ps c (Answer.Refused n) m′ ps′ → (m′ ≡ m) × (ps′ ≡ ps)
+  -- ---- demand 1
+  -- a call is refused on the stated condition only
+  unfoldable pub RefusedSo : Type 0
+  RefusedSo =
+      (m m′ : List ℕ) (ps ps′ : List Place) (c : Call) (r : F .Told) → F .serves m ps c r m′ ps′
+      → ((n : Refusal) → F .Refuses r n ↔ First (conditions m ps c) n) × (F .Accepts r ↔ NoneApplies (conditions m ps c))
 
-unfoldable pub MakingKept : Type 0
-MakingKept = (S : Shape) (m m′ : List ℕ) (ps ps′ : List Place) (n : Refusal) → Makes m ps S (Answer.Refused n) m′ ps′ → (m′ ≡ m) × (ps′ ≡ ps)
+  -- a refused call changes no byte of the memory and no place of the list, and a refused making neither
+  unfoldable pub RefusedKept : Type 0
+  RefusedKept =
+      (m m′ : List ℕ) (ps ps′ : List Place) (c : Call) (r : F .Told) (n : Refusal)
+      → Bytes m → F .serves m ps c r m′ ps′ → F .Refuses r n → (m′ ≡ m) × (ps′ ≡ ps)
 
--- ---- demand 2
--- a read after a run that is not refused answers the value last committed at or before the stamp read
-unfoldable pub LentReads : Type 0
-LentReads =
-    EveryRun
-    (λ S m ps cs rs m′ ps′.
-    (x : Call) (t r c : ℕ) (a : Answer) (m″ : List ℕ) (ps″ : List Place) → Typed x → Reads (historyAfter S cs) x t r c → Serves m′ ps′ x a m″ ps″
-    → T (not (isRefused a)) → a ≡ lastCommitted (historyAfter S cs) t r c)
+  unfoldable pub UnmadeKept : Type 0
+  UnmadeKept = (S : Shape) (m m′ : List ℕ) (ps ps′ : List Place) (r : F .Told) (n : Refusal) → F .makes m ps S r m′ ps′ → F .Refuses r n → (m′ ≡ m) × (ps′ ≡ ps)
 
--- each current page of the memory that a run leaves holds what was committed last
-unfoldable pub LentPages : Type 0
-LentPages = EveryRun (λ S m ps cs rs m′ ps′. (g c : ℕ) → g < S .ranges → c < S .columns → PageHolds S (storeView m′) (historyAfter S cs) g c)
+  -- ---- demand 2
+  -- a read after a run that is not refused answers the value last committed at or before the stamp read
+  unfoldable pub ReadsSo : Type 0
+  ReadsSo =
+      EveryRun
+      (λ S m ps cs rs m′ ps′.
+      (x : Call) (t r c : ℕ) (a : F .Told) (m″ : List ℕ) (ps″ : List Place) → Typed x → Reads (historyAfter S cs) x t r c → F .serves m′ ps′ x a m″ ps″
+      → F .Accepts a → a ≡ F .tells (lastCommitted (historyAfter S cs) t r c))
 
--- ---- demand 3
--- a run answers as the plain history does
-unfoldable pub LentAnswers : Type 0
-LentAnswers = EveryRun (λ S m ps cs rs m′ ps′. rs ≡ answers S start cs)
+  -- each current page of the memory that a run leaves holds what was committed last
+  unfoldable pub PagesSo : Type 0
+  PagesSo = EveryRun (λ S m ps cs rs m′ ps′. (g c : ℕ) → g < S .ranges → c < S .columns → PageHolds S (storeView m′) (historyAfter S cs) g c)
 
--- a run of the calls without merges and releases, from the same making, gives the plain calls the same answers
-unfoldable pub LentStriking : Type 0
-LentStriking =
-    EveryRun
-    (λ S m ps cs rs m′ ps′.
-    (rs′ : List Answer) (m″ : List ℕ) (ps″ : List Place) → Run Serves m ps (strike cs) rs′ m″ ps″ → plainAnswers cs rs ≡ plainAnswers (strike cs) rs′)
+  -- ---- demand 3
+  -- a run answers as the plain history does
+  unfoldable pub AnswersSo : Type 0
+  AnswersSo = EveryRun (λ S m ps cs rs m′ ps′. rs ≡ map (F .tells) (answers S start cs))
 
--- any two reads of a run for one stamp, row and column that are not refused answer the same
-abbrev pub ReadAmong : Shape → List Call → List Answer → ℕ → (stamp row column : ℕ) → Type 0
-ReadAmong S cs rs i t r c = (i < length cs) × Reads (historyBefore S cs i) (callAt cs i) t r c × T (not (isRefused (getD rs i Answer.Done)))
+  -- a run of the calls without merges and releases, from the same making, gives the plain calls the same answers
+  unfoldable pub StruckSame : Type 0
+  StruckSame =
+      EveryRun
+      (λ S m ps cs rs m′ ps′.
+      (rs′ : List (F .Told)) (m″ : List ℕ) (ps″ : List Place) → Run (F .serves) m ps (strike cs) rs′ m″ ps″ → plainAnswers cs rs ≡ plainAnswers (strike cs) rs′)
 
-unfoldable pub LentStability : Type 0
-LentStability =
-    EveryRun
-    (λ S m ps cs rs m′ ps′.
-    (i j t r c : ℕ) → ReadAmong S cs rs i t r c → ReadAmong S cs rs j t r c → getD rs i Answer.Done ≡ getD rs j Answer.Done)
+  -- any two reads of a run for one stamp, row and column that are not refused answer the same
+  abbrev pub toldAt : List (F .Told) → ℕ → F .Told
+  toldAt rs i = getD rs i (F .tells Answer.Done)
+
+  abbrev pub ReadAmong : Shape → List Call → List (F .Told) → ℕ → (stamp row column : ℕ) → Type 0
+  ReadAmong S cs rs i t r c = (i < length cs) × Reads (historyBefore S cs i) (callAt cs i) t r c × F .Accepts (toldAt rs i)
+
+  unfoldable pub ReadsStable : Type 0
+  ReadsStable = EveryRun (λ S m ps cs rs m′ ps′. (i j t r c : ℕ) → ReadAmong S cs rs i t r c → ReadAmong S cs rs j t r c → toldAt rs i ≡ toldAt rs j)
+
+-- ---- of the calls
+abbrev pub calls : Face
+calls = record { Told = Answer; tells = λ a. a; Refuses = λ r n. r ≡ Answer.Refused n; Accepts = λ r. isRefused r ≡ false; serves = Serves; makes = Makes }
+
+abbrev pub LentRefused : Type 0
+LentRefused = RefusedSo calls
+
+abbrev pub LentKept : Type 0
+LentKept = RefusedKept calls
+
+abbrev pub MakingKept : Type 0
+MakingKept = UnmadeKept calls
+
+abbrev pub LentReads : Type 0
+LentReads = ReadsSo calls
+
+abbrev pub LentPages : Type 0
+LentPages = PagesSo calls
+
+abbrev pub LentAnswers : Type 0
+LentAnswers = AnswersSo calls
+
+abbrev pub LentStriking : Type 0
+LentStriking = StruckSame calls
+
+abbrev pub LentStability : Type 0
+LentStability = ReadsStable calls
 
 -- ---- the list
 -- an accepted making frees every place; every other call changes at most one

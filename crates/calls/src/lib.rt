@@ -12,7 +12,6 @@ use terms::Row;
 use terms::Stamp;
 use terms::Tail;
 use terms::Transaction;
-use upkeep::Listed;
 ghost use Prim.Native.Nat.{_<_};
 ghost use mathlib.Core.Path.{_≡_};
 ghost use lib.IntN.{pos};
@@ -75,13 +74,6 @@ pub fn bytes_needed(columns: u32, ranges: u32, capacity: u32, spares: u32) -> An
     layout::bytes_needed(columns, ranges, capacity, spares)
 }
 
-// The answer as it is: the law by which `make` is proved ends with a function of what was decided.
-fn told(answer: Answer) -> Answer
-    ensures { λ r. ⌜ r ≡ answer ⌝ }
-{
-    answer
-}
-
 // A store of a shape is made in the memory, and every place of the list is free.
 pub fn make(
     mem: &mut [u8],
@@ -95,8 +87,7 @@ pub fn make(
 {
     let n = len_of(scans);
     let answer = making::make(mem, n, columns, ranges, capacity, spares);
-    free_made(scans, answer);
-    told(answer)
+    free_made(scans, answer)
 }
 
 // ---- the calls on it
@@ -234,21 +225,13 @@ pub fn lineage(mem: &[u8], scans: &[Place], range: u32, column: u32) -> Answer
     lookups::lineage(mem, t, range, column)
 }
 
-fn answer_of(listed: Listed) -> Answer
-    ensures { λ r. ⌜ r ≡ listed .answer ⌝ }
-{
-    let a = listed.answer;
-    a
-}
-
 // A scan is opened at a stamp; the answer is its number.
 pub fn open_scan(mem: &mut [u8], scans: &mut [Place], stamp: Stamp) -> Answer
     ensures { λ r. ⌜ Serves (now (mem .entry)) (now (scans .entry)) (Call.openScan (stamp .0)) r (now (mem .exit)) (now (scans .exit)) ⌝ }
 {
     let t = table(scans);
     let listed = upkeep::open_scan(mem, t, stamp);
-    keep(scans, listed);
-    answer_of(listed)
+    keep(scans, listed)
 }
 
 // A scan is closed: its place is free again.
@@ -257,6 +240,5 @@ pub fn close_scan(mem: &[u8], scans: &mut [Place], scan: u32) -> Answer
 {
     let t = table(scans);
     let listed = upkeep::close_scan(mem, t, scan);
-    keep(scans, listed);
-    answer_of(listed)
+    keep(scans, listed)
 }

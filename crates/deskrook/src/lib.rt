@@ -2,6 +2,7 @@
 // needs, and a test of memory and list. Numbers are plain, and the answer is a `Reply`. A slice passes as a pointer and a length (of the list: in places), a
 // number as itself, and the reply by value. Nothing is asked of the numbers, the bytes or the list.
 mod reply;
+
 use lent::table;
 use reply::Reply;
 use reply::check_reply;

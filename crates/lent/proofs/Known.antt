@@ -6,7 +6,7 @@ use contract.Running.{givenOf}
 use Rattle.scans.specs.Table.{tableOf}
 use Rattle.terms.specs.Refusals.{isAccepted}
 use Rattle.scans.specs.Places.{freedIf}
-use Rattle.lent.proofs.Rules.{_≡_, List, [], _∷_, now, PK, Out, rUnit, pShrS, pMutS, entry, Known, Over, World}
+use Rattle.lent.proofs.Rules.{_≡_, List, [], _∷_, now, PK, Out, pShrS, pMutS, entry, Known, Over, World}
 use Rattle.lent.proofs.Plain.{arg, res, number}
 use Rattle.lent.proofs.Types.{t, d, answer}
 use Rattle.lent.proofs.Written as written
@@ -34,11 +34,11 @@ Q-len κs a z e = z ≡ length (now (a .0))
 abbrev Q-table : Out 1 list (res t)
 Q-table κs a z e = z ≡ tableOf (now (a .0))
 
-abbrev Q-keep : Out 1 kept rUnit
-Q-keep κs a z e = now (e .0) ≡ set (now (a .0)) (a .1 .0 .place) (a .1 .0 .entry)
+abbrev Q-keep : Out 1 kept (res answer)
+Q-keep κs a z e = (z ≡ a .1 .0 .answer) × (now (e .0) ≡ set (now (a .0)) (a .1 .0 .place) (a .1 .0 .entry))
 
-abbrev Q-made : Out 1 made rUnit
-Q-made κs a z e = now (e .0) ≡ freedIf (isAccepted (a .1 .0)) (now (a .0))
+abbrev Q-made : Out 1 made (res answer)
+Q-made κs a z e = (z ≡ a .1 .0) × (now (e .0) ≡ freedIf (isAccepted (a .1 .0)) (now (a .0)))
 
 module _ (w : World) (γ : routine.Env) where
   pub len-known : γ len-of.name ≡ len-of.routine → Known (w .𝓤) (w .H) (w .𝓖 .A) (givenOf (w .𝓤) (w .H) (w .𝓜) (w .𝓖)) (Over (w .𝓤) (w .H) (w .𝓜) (w .𝓖) (w .𝓡) γ) 1 list (res (number w64)) (λ κs a. Unit {0}) Q-len len-of.name
@@ -47,8 +47,8 @@ module _ (w : World) (γ : routine.Env) where
   pub table-known : γ table.name ≡ table.routine → Known (w .𝓤) (w .H) (w .𝓖 .A) (givenOf (w .𝓤) (w .H) (w .𝓜) (w .𝓖)) (Over (w .𝓤) (w .H) (w .𝓜) (w .𝓖) (w .𝓡) γ) 1 list (res t) (λ κs a. Unit {0}) Q-table table.name
   table-known e = written.known-free 1 list (res t) Q-table w γ table.name table.routine e (table-thm.met (w .𝓤) (w .H) (w .𝓜) (w .𝓖) (w .𝓡))
 
-  pub keep-known : γ keep.name ≡ keep.routine → Known (w .𝓤) (w .H) (w .𝓖 .A) (givenOf (w .𝓤) (w .H) (w .𝓜) (w .𝓖)) (Over (w .𝓤) (w .H) (w .𝓜) (w .𝓖) (w .𝓡) γ) 1 kept rUnit (λ κs a. Unit {0}) Q-keep keep.name
-  keep-known e = written.known-free 1 kept rUnit Q-keep w γ keep.name keep.routine e (keep-thm.met (w .𝓤) (w .H) (w .𝓜) (w .𝓖) (w .𝓡))
+  pub keep-known : γ keep.name ≡ keep.routine → Known (w .𝓤) (w .H) (w .𝓖 .A) (givenOf (w .𝓤) (w .H) (w .𝓜) (w .𝓖)) (Over (w .𝓤) (w .H) (w .𝓜) (w .𝓖) (w .𝓡) γ) 1 kept (res answer) (λ κs a. Unit {0}) Q-keep keep.name
+  keep-known e = written.known-free 1 kept (res answer) Q-keep w γ keep.name keep.routine e (keep-thm.met (w .𝓤) (w .H) (w .𝓜) (w .𝓖) (w .𝓡))
 
-  pub made-known : γ free-made.name ≡ free-made.routine → Known (w .𝓤) (w .H) (w .𝓖 .A) (givenOf (w .𝓤) (w .H) (w .𝓜) (w .𝓖)) (Over (w .𝓤) (w .H) (w .𝓜) (w .𝓖) (w .𝓡) γ) 1 made rUnit (λ κs a. Unit {0}) Q-made free-made.name
-  made-known e = written.known-free 1 made rUnit Q-made w γ free-made.name free-made.routine e (free-made-thm.met (w .𝓤) (w .H) (w .𝓜) (w .𝓖) (w .𝓡))
+  pub made-known : γ free-made.name ≡ free-made.routine → Known (w .𝓤) (w .H) (w .𝓖 .A) (givenOf (w .𝓤) (w .H) (w .𝓜) (w .𝓖)) (Over (w .𝓤) (w .H) (w .𝓜) (w .𝓖) (w .𝓡) γ) 1 made (res answer) (λ κs a. Unit {0}) Q-made free-made.name
+  made-known e = written.known-free 1 made (res answer) Q-made w γ free-made.name free-made.routine e (free-made-thm.met (w .𝓤) (w .H) (w .𝓜) (w .𝓖) (w .𝓡))

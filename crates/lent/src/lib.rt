@@ -1,5 +1,6 @@
 // The lent list of open scans, a slice of small records. Three functions reach into it, and each is proved by a walk of its MIR, by hand: `len_of`,
 // `place_at`, `put_place`. The others hand the list on to those: `table` finds the open scans, `keep` adds or drops one, `free_all` and `free_made` drop all.
+use model::free_place;
 use scans::Scans;
 use scans::blank;
 use scans::enter;
@@ -15,17 +16,6 @@ ghost use Rattle.terms.specs.Places.{freePlace};
 ghost use Rattle.scans.specs.Places.{allFreed, freedIf};
 ghost use Rattle.scans.specs.Table.{tableOf};
 ghost use Rattle.terms.specs.Refusals.{isAccepted};
-
-// The record of a free place.
-fn free_place() -> Place
-    ensures { λ r. ⌜ r ≡ freePlace ⌝ }
-{
-    Place {
-        number: 0,
-        stamp: 0,
-        merges: 0,
-    }
-}
 
 pub fn len_of(list: &[Place]) -> usize
     ensures { λ r. ⌜ r ≡ length (now (list .entry)) ⌝ }
@@ -77,14 +67,22 @@ fn entry_of(listed: Listed) -> Place
     p
 }
 
-// The place that a call names becomes what it says: a scan is added or dropped. A place past the end is not there, and nothing is stored.
-pub fn keep(list: &mut [Place], listed: Listed)
-    ensures { λ _. ⌜ now (list .exit) ≡ set (now (list .entry)) (listed .place) (listed .entry) ⌝ }
+fn answer_of(listed: Listed) -> Answer
+    ensures { λ r. ⌜ r ≡ listed .answer ⌝ }
+{
+    let a = listed.answer;
+    a
+}
+
+// The place that a call names becomes what it says: a scan is added or dropped. A place past the end is not there, and nothing is stored. Gives the call's answer back.
+pub fn keep(list: &mut [Place], listed: Listed) -> Answer
+    ensures { λ r. ⌜ (r ≡ listed .answer) × (now (list .exit) ≡ set (now (list .entry)) (listed .place) (listed .entry)) ⌝ }
 {
     let i = place_of(listed);
     if i < len_of(list) {
         put_place(list, i, entry_of(listed));
     }
+    answer_of(listed)
 }
 
 // Every place becomes free, however many there are.
@@ -114,11 +112,12 @@ pub fn accepted(answer: Answer) -> bool
     }
 }
 
-// The list of a store that was to be made: every place becomes free, unless the making was refused.
-pub fn free_made(list: &mut [Place], answer: Answer)
-    ensures { λ _. ⌜ now (list .exit) ≡ freedIf (isAccepted answer) (now (list .entry)) ⌝ }
+// The list of a store that was to be made: every place becomes free, unless the making was refused. Gives the making's answer back.
+pub fn free_made(list: &mut [Place], answer: Answer) -> Answer
+    ensures { λ r. ⌜ (r ≡ answer) × (now (list .exit) ≡ freedIf (isAccepted answer) (now (list .entry))) ⌝ }
 {
     if accepted(answer) {
         free_all(list);
     }
+    answer
 }

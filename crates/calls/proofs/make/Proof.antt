@@ -16,9 +16,6 @@ use Rattle.lent.proofs.free_made.Symbol as free-made
 use Rattle.making.proofs.make.Symbol as core
 use Rattle.making.proofs.make.Met as core-thm
 use Rattle.making.proofs.make.Reads as core-reads
-use Rattle.calls.proofs.told.Symbol as last
-use Rattle.calls.proofs.told.Met as last-thm
-use Rattle.calls.proofs.told.Reads as last-reads
 use Rattle.promise.specs.Promise.{Makes}
 use Rattle.calls.proofs.Served.{made-so}
 use Rattle.calls.proofs.Types as type
@@ -30,12 +27,11 @@ pub make-spec : {M : Type 1} → statement M
 unfolding code.routine tablesOf Makes
 make-spec {M} 𝓤 H 𝓜 𝓖 𝓡 =
     let w : World = record { M = M; 𝓤 = 𝓤; H = H; 𝓜 = 𝓜; 𝓖 = 𝓖; 𝓡 = 𝓡 } in
-    law.meets 0 len-of.name core.name free-made.name last.name type.usize type.answer type.answer (value type.u32 ∷ value type.u32 ∷ value type.u32 ∷ value type.u32 ∷ [])
-    (λ l n. n ≡ length l) (λ m n (a, (b, (c, (d, _)))) x m′. (x, m′) ≡ made (shapeOf a b c d) n m) (λ l x l′. l′ ≡ freedIf (isAccepted x) l) (λ x z. z ≡ x)
+    law.meets 0 len-of.name core.name free-made.name type.usize type.answer type.answer (value type.u32 ∷ value type.u32 ∷ value type.u32 ∷ value type.u32 ∷ [])
+    (λ l n. n ≡ length l) (λ m n (a, (b, (c, (d, _)))) x m′. (x, m′) ≡ made (shapeOf a b c d) n m) (λ l x z l′. (z ≡ x) × (l′ ≡ freedIf (isAccepted x) l))
     (λ m l (a, (b, (c, (d, _)))) z m′ l′. Makes m l (shapeOf a b c d) z m′ l′)
-    (λ m l (a, (b, (c, (d, _)))) n x z m′ l′. made-so (λ y. y) (shapeOf a b c d) m n x z m′ l l′)
+    (λ m l (a, (b, (c, (d, _)))) n x z m′ l′ e h k. made-so (λ y. y) (shapeOf a b c d) m n x z m′ l l′ e h (k .1) (k .0))
     w code.env key.name (code.unfolded 𝓤 H 𝓜 𝓡)
     (len-known w code.env code.calls-lent·len-of)
     (core-reads.known w code.env core.name core.routine code.calls-making·make (core-thm.met 𝓤 H 𝓜 𝓖 𝓡))
     (made-known w code.env code.calls-lent·free-made)
-    (last-reads.known w code.env last.name last.routine code.calls-calls·told (last-thm.met 𝓤 H 𝓜 𝓖 𝓡))

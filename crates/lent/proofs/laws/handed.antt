@@ -144,37 +144,34 @@ module _ (l : ℕ) (core last : Name) (d r : Plain) where
             (quiet (g-room 𝓤 H A W (E neither fs bs) _ 3 (type d) (room d 𝓤 H A W))
             (quiet (lifts 𝓤 H A (E neither fs bs) W κs qs (F neither (full r)) 3 fs (xs neither) (front-out neither (E neither fs bs)))
             (returns tt)))))
-
         rest memory fs cpost k-core =
             quiet (lays 𝓤 H A (E memory fs bs) W κs qs (F memory (gone r)) 3 fs (xs memory) (front-in memory (E memory fs bs)))
             (lend byte (named 0) 0 2 (lease (κs .0) (qs .0)) 1 4 5 1 (up 1 (beyond 3 fs)) (up 2 (beyond 3 fs)) (tt, (tt, (tt, (tt, (tt, (tt, fresh-all 2 tt 3 fs)))))) (λ x. x) refl (spot memory fs bs 1 tt) (spot memory fs bs 2 tt)
             (step (t-hands fs 3 6 (lent memory []) (res d) (Q-core memory fs cpost) _ (record { pos = 5; ty = memory-again; ref = λ x. x }, (record { pos = 2; ty = places (named 1) imm; ref = λ x. x }, tt)) (λ u. u) 3 (2 ∷ 1 ∷ ups 3 l) 𝓤 H A W 𝓣 core (E memory fs bs) k-core (λ u. u) (spots 𝓤 H A (E memory fs bs) 3 fs (xs memory) (tl (tl (tl bs))) (here memory fs bs)) refl
             (λ further. (as-is 𝓤 H A (mslice byte memory-again 2), reads-mslice 𝓤 H A W byte memory-again 2, spot memory fs bs 2 tt, (spares-sslice 𝓤 H A W entry (places (named 1) imm) 1, reads-sslice 𝓤 H A W entry (places (named 1) imm) 1, refl, further))) (tt, (tt, lent-on (_ ∷ _ ∷ _ ∷ []) l (κs .1 .1) (qs .1 .1))) (room-gone 𝓤 H A (type d)) (spot memory fs bs 0 tt))
-            (back byte (named 0) 0 2 (lease (κs .0) (qs .0)) 5 1 (λ x. x)
+            (quiet (back W byte (named 0) 0 2 (lease (κs .0) (qs .0)) 5 1 (λ x. x))
             (step (t-call-plain 𝓤 H A W 𝓣 0 ps-last (res r) (none-asked ps-last) Q-last last k-last (E memory fs bs) (λ pos β. β) _ (record { pos = 3; st = []; d = 0; at = λ x. x }, tt) 0 [] (sub-id 𝓤 H A W _) ((copied d 𝓤 H A W, ap (λ (τ : Ty). some (τ, zero)) (spot memory fs bs 0 tt)), tt) (room-gone 𝓤 H A (type r)) tt refl)
             (quiet (g-room 𝓤 H A W (E memory fs bs) _ 3 (type d) (room d 𝓤 H A W))
             (quiet (lifts 𝓤 H A (E memory fs bs) W κs qs (F memory (full r)) 3 fs (xs memory) (front-out memory (E memory fs bs)))
             (returns tt)))))))
-
         rest list fs cpost k-core =
             quiet (lays 𝓤 H A (E list fs bs) W κs qs (F list (gone r)) 3 fs (xs list) (front-in list (E list fs bs)))
             (lend entry (named 1) 1 2 (lease (κs .1 .0) (qs .1 .0)) 2 4 5 2 (up 1 (beyond 3 fs)) (up 2 (beyond 3 fs)) (tt, (tt, (tt, (tt, (tt, (tt, fresh-all 2 tt 3 fs)))))) (λ x. x) refl (spot list fs bs 1 tt) (spot list fs bs 2 tt)
             (step (t-hands fs 3 6 (lent list []) (res d) (Q-core list fs cpost) _ (record { pos = 1; ty = bytes (named 0) imm; ref = λ x. x }, (record { pos = 5; ty = list-again; ref = λ x. x }, tt)) (λ u. u) 3 (0 ∷ 2 ∷ ups 3 l) 𝓤 H A W 𝓣 core (E list fs bs) k-core (λ u. u) (spots 𝓤 H A (E list fs bs) 3 fs (xs list) (tl (tl (tl bs))) (here list fs bs)) refl
             (λ further. (spares-sslice 𝓤 H A W byte (bytes (named 0) imm) 0, reads-sslice 𝓤 H A W byte (bytes (named 0) imm) 0, refl, (as-is 𝓤 H A (mslice entry list-again 2), reads-mslice 𝓤 H A W entry list-again 2, spot list fs bs 2 tt, further))) (tt, (tt, lent-on (_ ∷ _ ∷ _ ∷ []) l (κs .1 .1) (qs .1 .1))) (room-gone 𝓤 H A (type d)) (spot list fs bs 0 tt))
-            (back entry (named 1) 1 2 (lease (κs .1 .0) (qs .1 .0)) 5 2 (λ x. x)
+            (quiet (back W entry (named 1) 1 2 (lease (κs .1 .0) (qs .1 .0)) 5 2 (λ x. x))
             (step (t-call-plain 𝓤 H A W 𝓣 0 ps-last (res r) (none-asked ps-last) Q-last last k-last (E list fs bs) (λ pos β. β) _ (record { pos = 3; st = []; d = 0; at = λ x. x }, tt) 0 [] (sub-id 𝓤 H A W _) ((copied d 𝓤 H A W, ap (λ (τ : Ty). some (τ, zero)) (spot list fs bs 0 tt)), tt) (room-gone 𝓤 H A (type r)) tt refl)
             (quiet (g-room 𝓤 H A W (E list fs bs) _ 3 (type d) (room d 𝓤 H A W))
             (quiet (lifts 𝓤 H A (E list fs bs) W κs qs (F list (full r)) 3 fs (xs list) (front-out list (E list fs bs)))
             (returns tt)))))))
-
         rest both fs cpost k-core =
             quiet (lays 𝓤 H A (E both fs bs) W κs qs (F both (gone r)) 3 fs (xs both) (front-in both (E both fs bs)))
             (lend byte (named 0) 0 2 (lease (κs .0) (qs .0)) 1 4 5 1 (up 1 (beyond 3 fs)) (up 2 (beyond 3 fs)) (tt, (tt, (tt, (tt, (tt, (tt, (tt, (tt, fresh-all 2 tt 3 fs)))))))) (λ x. x) refl (spot both fs bs 1 tt) (spot both fs bs 2 tt)
             (lend entry (named 1) 1 3 (lease (κs .1 .0) (qs .1 .0)) 2 6 7 2 (up 3 (beyond 3 fs)) (up 4 (beyond 3 fs)) (tt, ((tt, tt), (tt, (tt, (tt, (tt, (tt, (tt, fresh-all 3 tt 3 fs)))))))) (λ x. x) refl (spot both fs bs 3 tt) (spot both fs bs 4 tt)
             (step (t-hands fs 3 8 (lent both []) (res d) (Q-core both fs cpost) _ (record { pos = 5; ty = memory-again; ref = λ x. x }, (record { pos = 7; ty = list-again; ref = λ x. x }, tt)) (λ u. u) 3 (2 ∷ 3 ∷ ups 4 l) 𝓤 H A W 𝓣 core (E both fs bs) k-core (λ u. u) (spots 𝓤 H A (E both fs bs) 3 fs (xs both) (tl (tl (tl bs))) (here both fs bs)) refl
             (λ further. (as-is 𝓤 H A (mslice byte memory-again 2), reads-mslice 𝓤 H A W byte memory-again 2, spot both fs bs 2 tt, (as-is 𝓤 H A (mslice entry list-again 3), reads-mslice 𝓤 H A W entry list-again 3, spot both fs bs 4 tt, further))) (tt, (tt, lent-on (_ ∷ _ ∷ _ ∷ _ ∷ []) l (κs .1 .1) (qs .1 .1))) (room-gone 𝓤 H A (type d)) (spot both fs bs 0 tt))
-            (back entry (named 1) 1 3 (lease (κs .1 .0) (qs .1 .0)) 7 2 (λ x. x)
-            (back byte (named 0) 0 2 (lease (κs .0) (qs .0)) 5 1 (λ x. x)
+            (quiet (back W entry (named 1) 1 3 (lease (κs .1 .0) (qs .1 .0)) 7 2 (λ x. x))
+            (quiet (back W byte (named 0) 0 2 (lease (κs .0) (qs .0)) 5 1 (λ x. x))
             (step (t-call-plain 𝓤 H A W 𝓣 0 ps-last (res r) (none-asked ps-last) Q-last last k-last (E both fs bs) (λ pos β. β) _ (record { pos = 3; st = []; d = 0; at = λ x. x }, tt) 0 [] (sub-id 𝓤 H A W _) ((copied d 𝓤 H A W, ap (λ (τ : Ty). some (τ, zero)) (spot both fs bs 0 tt)), tt) (room-gone 𝓤 H A (type r)) tt refl)
             (quiet (g-room 𝓤 H A W (E both fs bs) _ 3 (type d) (room d 𝓤 H A W))
             (quiet (lifts 𝓤 H A (E both fs bs) W κs qs (F both (full r)) 3 fs (xs both) (front-out both (E both fs bs)))

@@ -112,7 +112,7 @@ module _ (l : ℕ) (core : Name) (r : Plain) (fs : List (Further 2 1 1 l)) where
             (λ further. (as-is 𝓤 H A (mslice byte memory-again 2), reads-mslice 𝓤 H A W byte memory-again 2, spot 2 tt, ((copied t 𝓤 H A W, ap (λ (τ : Ty). some (τ, zero)) (spot 0 tt)), further)))
             (tt, lent-on (_ ∷ _ ∷ _ ∷ []) l (κs .1 .1) (qs .1 .1)) (room-gone 𝓤 H A (type r)) refl)
             (quiet (g-room 𝓤 H A W E _ 3 (type t) (room t 𝓤 H A W))
-            (back byte (named 0) 0 2 life-m 5 1 (λ x. x)
+            (quiet (back W byte (named 0) 0 2 life-m 5 1 (λ x. x))
             (quiet (lifts 𝓤 H A E W κs qs (F (full r)) 3 fs xs front-out)
             (returns tt)))))))
 

@@ -25,7 +25,7 @@ use Rattle.model.specs.Writing.{recordsWanted}
 use Rattle.model.specs.Calls.{notOpenIn, notGivenIn, lacksIn, testsIn}
 use Rattle.layout.specs.Sizes.{Proper}
 use Rattle.model.specs.Asked.{shapeIn, Counted, Linked, FreeAt}
-use Rattle.settling.specs.Steps.{foundAt}
+use Rattle.loops.specs.Search.{foundAt}
 use Rattle.writing.specs.Steps.{Room}
 use Rattle.conditions.specs.Opens.{openAt}
 use Rattle.conditions.proofs.Opens.{open-there, not-open}
@@ -69,7 +69,7 @@ module _ (s : Sizes) (v : View) (l : Linked s v) (r n : ℕ) where
   room g k =
       record {
         row-below = omega (arith, l .rows-few, given-tells v r g);
-        left = ltb-false (s .capacity) (usedIn v (r / 64) + n) k;
+        left = ltb-false (s .capacity) (usedIn v (r / rangeRows) + n) k;
       }
 
 module _ (s : Sizes) (v : View) (l : Linked s v) (t r : ℕ) where

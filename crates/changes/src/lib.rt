@@ -17,17 +17,20 @@ use lending::lend;
 use loops::Found;
 use regions::read;
 use scans::Scans;
-use settling::free_place;
 use terms::Answer;
 use terms::Refusal;
 use terms::Row;
 use terms::Stamp;
 use terms::Transaction;
+use terms::limits::MOST_COLUMNS;
+use terms::limits::MOST_NUMBERS;
+use transactions::free_place;
 use writing::records_wanted;
 ghost use mathlib.Core.Path.{_≡_};
 ghost use mathlib.Core.List.{[]};
 ghost use Prim.Native.Nat.{_*_, _≤_, _<_};
 ghost use lib.ListN.{length};
+ghost use Rattle.terms.specs.Measures.{mostTransactions};
 ghost use Rattle.words.specs.Words.{words};
 ghost use Rattle.layout.specs.Regions.{need};
 ghost use Rattle.layout.specs.View.{view, rowsGiven};
@@ -39,9 +42,6 @@ ghost use Rattle.model.specs.Asked.{shapeIn, Linked, Pooled};
 ghost use Rattle.promise.specs.Promise.{Leaves};
 ghost use Rattle.lending.specs.Carried.{tested, Below, Carries};
 ghost use Rattle.changes.specs.Steps.{appendTests};
-
-// The most transaction numbers that a store gives.
-const MOST_NUMBERS: u32 = 65535;
 
 // ---- the tests
 
@@ -76,7 +76,7 @@ fn update_tests(mem: &[u8], s: Sizes, t: Transaction, row: Row, mask: u32) -> Te
     requires { ⌜ need s * 4 ≤ length (now mem) ⌝ }
     requires { ⌜ Proper s × Linked s (view s (words (now mem))) ⌝ }
     ensures { λ r. ⌜ r ≡ tested (verdict (testsIn (shapeIn s) (view s (words (now (mem .entry)))) [] (Call.update (t .0) (row .0) mask []))) (openPlace (view s (words (now (mem .entry)))) (t .0)) ⌝ }
-    ensures { λ r. ⌜ Below r 8 ⌝ }
+    ensures { λ r. ⌜ Below r mostTransactions ⌝ }
 {
     let Found::At(at) = open_place(mem, s, t) else {
         return Tested::Failed(Refusal::Transaction);
@@ -94,7 +94,7 @@ fn delete_tests(mem: &[u8], s: Sizes, t: Transaction, row: Row) -> Tested
     requires { ⌜ need s * 4 ≤ length (now mem) ⌝ }
     requires { ⌜ Proper s × Linked s (view s (words (now mem))) ⌝ }
     ensures { λ r. ⌜ r ≡ tested (verdict (testsIn (shapeIn s) (view s (words (now (mem .entry)))) [] (Call.delete (t .0) (row .0)))) (openPlace (view s (words (now (mem .entry)))) (t .0)) ⌝ }
-    ensures { λ r. ⌜ Below r 8 ⌝ }
+    ensures { λ r. ⌜ Below r mostTransactions ⌝ }
 {
     let Found::At(at) = open_place(mem, s, t) else {
         return Tested::Failed(Refusal::Transaction);
@@ -117,10 +117,10 @@ fn begin_in(mem: &mut [u8], s: Sizes) -> Answer
     let Found::At(free) = free_place(mem, s) else {
         return Answer::Refused(Refusal::Busy);
     };
-    Answer::Number(settling::begin(mem, s, free).0)
+    Answer::Number(transactions::begin(mem, s, free).0)
 }
 
-fn insert_in(mem: &mut [u8], s: Sizes, t: Transaction, values: [i32; 16]) -> Answer
+fn insert_in(mem: &mut [u8], s: Sizes, t: Transaction, values: [i32; MOST_COLUMNS]) -> Answer
     requires { ⌜ need s * 4 ≤ length (now mem) ⌝ }
     requires { ⌜ Proper s × Pooled s (view s (words (now mem))) ⌝ }
     ensures { λ r. ⌜ Carries s (view s (words (now (mem .entry)))) (Call.insert (t .0) values) r (view s (words (now (mem .exit)))) ⌝ }
@@ -140,7 +140,7 @@ fn update_in(
     t: Transaction,
     row: Row,
     mask: u32,
-    values: [i32; 16],
+    values: [i32; MOST_COLUMNS],
 ) -> Answer
     requires { ⌜ need s * 4 ≤ length (now mem) ⌝ }
     requires { ⌜ Proper s × Linked s (view s (words (now mem))) × Pooled s (view s (words (now mem))) ⌝ }
@@ -174,7 +174,7 @@ fn commit_in(mem: &mut [u8], s: Sizes, t: Transaction, stamp: Stamp) -> Answer
     if not_later(mem, s, stamp) {
         return Answer::Refused(Refusal::Time);
     }
-    settling::commit(mem, s, at, stamp);
+    transactions::commit(mem, s, at, stamp);
     Answer::Done
 }
 
@@ -186,7 +186,7 @@ fn abort_in(mem: &mut [u8], s: Sizes, t: Transaction) -> Answer
     let Found::At(at) = open_place(mem, s, t) else {
         return Answer::Refused(Refusal::Transaction);
     };
-    settling::abort(mem, s, at);
+    transactions::abort(mem, s, at);
     Answer::Done
 }
 
@@ -203,7 +203,12 @@ pub fn begin(mem: &mut [u8], scans: Scans) -> Answer
 }
 
 // A row with a value for each column; the answer is its number. Values past the column count are not looked at.
-pub fn insert(mem: &mut [u8], scans: Scans, transaction: Transaction, values: [i32; 16]) -> Answer
+pub fn insert(
+    mem: &mut [u8],
+    scans: Scans,
+    transaction: Transaction,
+    values: [i32; MOST_COLUMNS],
+) -> Answer
     ensures { λ r. ⌜ Leaves (now (mem .entry)) scans (Call.insert (transaction .0) values) r (now (mem .exit)) ⌝ }
 {
     let Part::Lent(s, n) = lend(mem, scans) else {
@@ -219,7 +224,7 @@ pub fn update(
     transaction: Transaction,
     row: Row,
     mask: u16,
-    values: [i32; 16],
+    values: [i32; MOST_COLUMNS],
 ) -> Answer
     ensures { λ r. ⌜ Leaves (now (mem .entry)) scans (Call.update (transaction .0) (row .0) mask values) r (now (mem .exit)) ⌝ }
 {

@@ -10,7 +10,7 @@ use lib.Seq.{slice}
 use lib.IntN.{ℤ}
 use mir.Syntax.{w32}
 use mir.Val.{toZ}
-use Rattle.terms.specs.Measures.{Shape}
+use Rattle.terms.specs.Measures.{Shape, mostColumns}
 use Rattle.terms.specs.declared.Refusal.{Refusal}
 use Rattle.words.specs.Words.{words}
 use Rattle.history.specs.History.{Call, begin, insert, update, delete, commit, abort, latest, readAt, ownRead, openScan, scanRead, sum, close, merge, release, pageCell, lineage}
@@ -76,7 +76,7 @@ Narrow (Chosen.Refused r) = Unit {0}
 
 -- what the code that decodes asks of a form and the columns
 abbrev pub Small : ℕ → Form → Type 0
-Small columns f = (f .first ≤ 4) × (f .second ≤ 4) × (f .third ≤ 4) × (columns ≤ 16)
+Small columns f = (f .first ≤ 4) × (f .second ≤ 4) × (f .third ≤ 4) × (columns ≤ mostColumns)
 
 -- how many values follow the numbers: "every column's value"
 abbrev pub valueCount : ℕ → Form → ℕ

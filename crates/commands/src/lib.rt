@@ -1,11 +1,13 @@
 // What the bytes that `gatebook` reads mean: the shape, the widths of a command's operands, and the call with its numbers.
 use terms::Refusal;
+use terms::limits::MOST_COLUMNS;
 use words::get;
 use words::of_word;
 ghost use mathlib.Core.Path.{_≡_};
 ghost use mathlib.Core.Bool.{true, false, cond};
 ghost use Prim.Native.Nat.{_+_, _*_, _≤_, _<_};
 ghost use lib.ListN.{length, take};
+ghost use Rattle.terms.specs.Measures.{mostColumns};
 ghost use Rattle.commands.specs.Commands.{Narrow, Small, chosen, width as widthOf, operand, values as valuesOf, callFrom, shapeBytes, shapeFrom};
 ghost use Rattle.commands.specs.Decoded.{measured, callIn, ZerosPast};
 
@@ -133,11 +135,11 @@ fn number(bytes: &[u8], at: usize, n: usize) -> u32
 }
 
 // The first n values of the bytes. The other places of the array hold 0.
-fn values(bytes: &[u8], n: usize) -> [i32; 16]
-    requires { ⌜ (n * 4 ≤ length (now bytes)) × (n ≤ 16) ⌝ }
+fn values(bytes: &[u8], n: usize) -> [i32; MOST_COLUMNS]
+    requires { ⌜ (n * 4 ≤ length (now bytes)) × (n ≤ mostColumns) ⌝ }
     ensures { λ r. ⌜ (take n r ≡ valuesOf n (now (bytes .entry))) × ZerosPast n r ⌝ }
 {
-    let mut out = [0i32; 16];
+    let mut out = [0i32; MOST_COLUMNS];
     let mut i = 0;
     while i < n {
         out[i] = of_word(get(bytes, i));
@@ -153,7 +155,7 @@ pub struct Request {
     pub second: u32,
     pub third: u32,
     pub count: usize,
-    pub values: [i32; 16],
+    pub values: [i32; MOST_COLUMNS],
 }
 
 // The call of a command, from the bytes behind its command byte.

@@ -6,6 +6,7 @@ use mathlib.Core.List.{List, [], _∷_, map}
 use native.Mathlib.Omega.{arith}
 use lib.Dec.{T, leb}
 use lib.ListN.{length, getD, List·getD-map}
+use Rattle.model.specs.Writing.{made as madeView}
 use Rattle.terms.specs.Measures.{Shape, withinLimits, mostScans}
 use Rattle.terms.specs.Refusals.{isRefused}
 use Rattle.terms.specs.declared.Answer.{Answer}
@@ -13,7 +14,7 @@ use Rattle.terms.specs.declared.Place.{Place}
 use Rattle.terms.specs.declared.Refusal.{Refusal}
 use Rattle.layout.specs.Sizes.{sizesOf, bytesNeeded}
 use Rattle.layout.specs.View.{lay}
-use Rattle.making.specs.Made.{madeView, made}
+use Rattle.making.specs.Made.{made}
 use Rattle.history.specs.History.{Call}
 use Rattle.history.specs.Claims.{isPlain, kind, strike, plainAnswers}
 use Rattle.promise.specs.Promise.{answerOf}

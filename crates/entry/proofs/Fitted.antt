@@ -1,16 +1,17 @@
 -- A memory that passed the test is fitted.
-use Prim.Native.Nat.{ℕ, _-_, _^_, _<_}
+use Prim.Native.Nat.{ℕ, _-_, _<_}
 use mathlib.Core.Path.{_≡_, sym, subst}
 use mathlib.Core.Bool.{true, false}
 use mathlib.Core.List.{List}
 use native.Mathlib.Omega.{arith}
 use lib.ListN.{getD}
 use borrow.Author.Tests.{leb-false}
+use Rattle.pages.specs.Checked.{Safe}
 use Rattle.words.specs.Words.{words}
 use Rattle.layout.specs.declared.Sizes.{Sizes}
 use Rattle.layout.specs.declared.Region.the-variants.{Current, PageState, PagePlace}
-use Rattle.layout.specs.Regions.{need}
-use Rattle.layout.specs.Sizes.{Proper}
+use Rattle.layout.specs.Regions.{need, slot}
+use Rattle.layout.specs.Sizes.{Proper, tooManyWords}
 use Rattle.layout.specs.View.{View, view, rowsGiven, usedIn}
 use Rattle.layout.proofs.Limits.{need-small, proper as proper-of}
 use Rattle.loops.proofs.Search.{and-true}
@@ -18,13 +19,12 @@ use Rattle.loops.specs.declared.Found.{Found}
 use Rattle.history.specs.History.{rangeOf, noColumn, noRange}
 use Rattle.facts.specs.Facts.{linksHold, rowLinked, rangeLinked, recordLinked, pagesPlaced, pagePlaced}
 use Rattle.facts.specs.Usable.{storedShape, storedSizes}
-use Rattle.facts.specs.declared.Checked.{Checked}
-use Rattle.facts.specs.declared.Checked.the-variants.{Fit}
-use Rattle.facts.specs.Tests.{MemoryFacts, Passed, Safe}
+use Rattle.pages.specs.declared.check.Checked.{Checked}
+use Rattle.pages.specs.declared.check.Checked.the-variants.{Fit}
+use Rattle.facts.specs.Tests.{MemoryFacts, Passed}
 use Rattle.facts.proofs.Each.{each-tells}
 use Rattle.facts.proofs.Ready.{stored}
 use Rattle.facts.proofs.Usable.{link-tells, placed-tells}
-use Rattle.model.specs.Stored.{slot}
 use Rattle.model.specs.Calls.{notGivenIn}
 use Rattle.model.specs.Asked.{shapeIn, Linked}
 use Rattle.rows.proofs.Cases.{found-at, found-nothing}
@@ -61,7 +61,7 @@ fit-tells s m x =
     let k = stored s v (x .facts .counts) in
     record {
       room = x .room;
-      small = subst (λ z. need z < 2 ^ 24) (sym (x .sizes-are)) (need-small (storedShape (words m)) (x .within));
+      small = subst (λ z. need z < tooManyWords) (sym (x .sizes-are)) (need-small (storedShape (words m)) (x .within));
       proper = proper;
       linked = linked-of s v proper (x .facts);
       pooled = λ i h. (at-place s v proper (x .facts) i h) .0;
@@ -91,7 +91,7 @@ pub range-tells : (s : Sizes) (g : ℕ) → noRange (shapeIn s) g ≡ false → 
 unfolding noRange
 range-tells s g e = leb-false (s .ranges) g e
 
--- ---- what the answer of `facts::check` gives
+-- ---- what the answer of `pages::check::check` gives
 
 pub fitted : (f : Checked) (s : Sizes) (m : List ℕ) → f ≡ Fit s → Safe f m → Fitted s m
 fitted f s m e x = fit-tells s m (rw e at x)

@@ -5,6 +5,7 @@ use mathlib.Core.Path.{_≡_, refl, _∙_}
 use mathlib.Core.Bool.{Bool, true, false, cond}
 use mathlib.Core.List.{List}
 use native.Mathlib.Omega.{arith}
+use Rattle.pages.specs.Checked.{checked}
 use Rattle.terms.specs.Measures.{mostScans}
 use Rattle.terms.specs.declared.Place.{Place}
 use Rattle.terms.specs.declared.Refusal.{Refusal}
@@ -16,8 +17,8 @@ use Rattle.history.specs.History.{Call}
 use Rattle.scans.specs.declared.Scans.{Scans}
 use Rattle.scans.specs.Places.{openCount}
 use Rattle.scans.specs.Table.{tableOf}
-use Rattle.facts.specs.declared.Checked.the-variants.{Fit, Unfit}
-use Rattle.facts.specs.Usable.{storedShape, storedSizes, usable, checked}
+use Rattle.pages.specs.declared.check.Checked.the-variants.{Fit, Unfit}
+use Rattle.facts.specs.Usable.{storedShape, storedSizes, usable}
 use Rattle.facts.proofs.Usable.{UsableMemory, usable-tells}
 use Rattle.model.specs.Calls.{say, viewNext, placesNext}
 use Rattle.promise.specs.Promise.{storeView, answerOf, memoryAfter, listAfter, Answers, Leaves}

@@ -1,5 +1,5 @@
 -- What a call may rely on once a memory has passed the test of the stored facts: all that the functions over the memory ask for, by name.
-use Prim.Native.Nat.{ℕ, _*_, _^_, _≤_, _<_}
+use Prim.Native.Nat.{ℕ, _*_, _≤_, _<_}
 use mathlib.Core.Path.{_≡_}
 use mathlib.Core.List.{List}
 use lib.ListN.{length}
@@ -15,12 +15,12 @@ use Rattle.scans.specs.Places.{openCount}
 use Rattle.scans.specs.Table.{tableOf}
 use Rattle.history.specs.History.{Call}
 use Rattle.model.specs.Calls.{say}
-use Rattle.layout.specs.Sizes.{Proper}
+use Rattle.layout.specs.Sizes.{Proper, tooManyWords}
 use Rattle.model.specs.Asked.{shapeIn, Linked, Pooled}
 
 pub record Fitted (s : Sizes) (m : List ℕ) : Type 0 where
   pub room : need s * 4 ≤ length m
-  pub small : need s < 2 ^ 24
+  pub small : need s < tooManyWords
   pub proper : Proper s
   pub linked : Linked s (view s (words m))
   pub pooled : Pooled s (view s (words m))

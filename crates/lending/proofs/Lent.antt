@@ -5,6 +5,7 @@ use mathlib.Core.List.{List, _++_}
 use native.Mathlib.Omega.{arith}
 use lib.ListN.{length, take, drop}
 use lib.Seq.{length-take-le}
+use Rattle.pages.specs.Checked.{checked}
 use Rattle.terms.specs.declared.Place.{Place}
 use Rattle.terms.specs.declared.Refusal.{Refusal}
 use Rattle.terms.specs.declared.Answer.{Answer}
@@ -16,8 +17,7 @@ use Rattle.layout.proofs.Lay.{view-part, lent}
 use Rattle.history.specs.History.{Call}
 use Rattle.scans.specs.declared.Scans.{Scans}
 use Rattle.scans.specs.Table.{tableOf}
-use Rattle.facts.specs.declared.Checked.the-variants.{Unfit}
-use Rattle.facts.specs.Usable.{checked}
+use Rattle.pages.specs.declared.check.Checked.the-variants.{Unfit}
 use Rattle.model.specs.Calls.{say, viewNext}
 use Rattle.model.specs.Asked.{shapeIn, Linked, Pooled}
 use Rattle.promise.specs.Promise.{Leaves}

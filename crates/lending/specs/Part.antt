@@ -2,13 +2,13 @@
 use Prim.Native.Nat.{ℕ, _*_}
 use mathlib.Core.Path.{_≡_}
 use mathlib.Core.List.{List}
+use Rattle.pages.specs.Checked.{checked}
 use Rattle.terms.specs.declared.Place.{Place}
 use Rattle.layout.specs.declared.Sizes.{Sizes}
 use Rattle.layout.specs.Regions.{need}
 use Rattle.scans.specs.declared.Scans.{Scans}
 use Rattle.scans.specs.Table.{tableOf}
-use Rattle.facts.specs.declared.Checked.the-variants.{Fit, Unfit}
-use Rattle.facts.specs.Usable.{checked}
+use Rattle.pages.specs.declared.check.Checked.the-variants.{Fit, Unfit}
 use Rattle.facts.specs.Tests.{Passed}
 use Rattle.entry.specs.Fitted.{Fitted}
 use Rattle.lending.specs.declared.Part.{Part}

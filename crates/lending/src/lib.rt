@@ -1,9 +1,9 @@
 // What the calls that write share: the part of the memory that they lend to the function that carries them out, the answer of their tests, and (specs/,
 // proofs/) the way from that part to the whole memory.
-use facts::Checked;
-use facts::check;
 use layout::Sizes;
 use layout::words_needed;
+use pages::check::Checked;
+use pages::check::check;
 use scans::Scans;
 use terms::Refusal;
 ghost use Rattle.lending.specs.Part.{Lends};

@@ -15,14 +15,14 @@ use Rattle.terms.specs.declared.Answer.{Answer}
 use Rattle.history.specs.History.{Call, begin, insert, update, delete, commit, abort, latest, readAt, ownRead, openScan, scanRead, sum, close, merge, release, pageCell, lineage, Test, _when_, verdict, Verdict, accept, refuse, answerIf, any, count, noColumn, noRange, badMask, rangeOf}
 use Rattle.history.specs.Lists.{All}
 use Rattle.loops.specs.Change.{changed}
-use Rattle.layout.specs.View.{View, put, renew, rowsGiven, transactionsGiven, scansGiven, lastStamp, mergesMade, usedIn}
+use Rattle.layout.specs.View.{View, put, renew, rowsGiven, transactionsGiven, scansGiven, lastStamp, mergesMade, usedIn, blank}
 use Rattle.layout.specs.declared.Region.the-variants.{Header, Opens}
 use Rattle.terms.specs.declared.Place.{Place}
 use Rattle.terms.specs.Places.{freePlace, place, bears, isScan}
-use Rattle.layout.specs.Regions.{scansAt}
-use Rattle.model.specs.Stored.{RecordWords, rowIn, recordIn, slot, valueIn, openPlace, pageIn, currentIn, cellIn, within, committedState, deleteKind, scanPlace, pagesOf, anyBelow, countBelow, wordLimit}
+use Rattle.layout.specs.Regions.{scansAt, slot}
+use Rattle.model.specs.Stored.{RecordWords, rowIn, recordIn, valueIn, openPlace, pageIn, currentIn, cellIn, within, committedState, deleteKind, scanPlace, pagesOf, anyBelow, countBelow, wordLimit}
 use Rattle.model.specs.Reading.{headIn, readIn, readCurrent, ownChanges, scanPage, sumIn, sees, visibleIn, answersFor, walk, belowLineage, wordIn, wasCurrent, tally}
-use Rattle.model.specs.Writing.{made, blank, noted, settled, freed, nextSlot, appended, filledIn, newBitsIn, originalAppended, settingAppended, applies, applied, newestOf, begun, committedIn, abortedIn, insertedAt, insertedIn, updatedIn, deletedIn, mergedIn, releasedIn, releasable, recordsWanted, namedIn, strayIn, freeIn}
+use Rattle.model.specs.Writing.{made, noted, settled, freed, nextSlot, appended, filledIn, newBitsIn, originalAppended, settingAppended, applies, applied, newestOf, begun, committedIn, abortedIn, insertedAt, insertedIn, updatedIn, deletedIn, mergedIn, releasedIn, releasable, recordsWanted, namedIn, strayIn, freeIn}
 
 -- ---- the conditions of "What a refused call returns", read in the memory
 -- 3

@@ -15,7 +15,8 @@ use Rattle.layout.specs.View.{View, rowsGiven}
 use Rattle.layout.specs.declared.Region.the-variants.{Changes}
 use Rattle.terms.specs.declared.Place.{Place}
 use Rattle.model.specs.declared.Walk.{Walk}
-use Rattle.model.specs.Stored.{RowWords, RecordWords, PageWords, rowIn, recordIn, pageIn, slot, valueIn, currentIn, placeOf, placesOf, pagesOf, cellIn, within, openState, committedState, originalKind, settingKind, deleteKind, waitingPage, firstFrom, openPlace}
+use Rattle.model.specs.Stored.{RowWords, RecordWords, PageWords, rowIn, recordIn, pageIn, valueIn, currentIn, placeOf, placesOf, pagesOf, cellIn, within, openState, committedState, originalKind, settingKind, deleteKind, waitingPage, firstFrom, openPlace}
+use Rattle.layout.specs.Regions.{slot}
 
 -- Who sees a row or record in state `state`: t is the reader's stamp, me the transaction whose own changes count (0: none).
 unfoldable pub sees : ℕ → ℕ → ℕ → ℕ → ℕ → Bool

@@ -2,6 +2,8 @@
 // than the reader's stamp. Each function answers by the model's definition of the same meaning.
 use layout::Region;
 use layout::Sizes;
+use layout::codes::ORIGINAL;
+use layout::codes::SETTING;
 use model::Walk;
 use regions::read;
 use rows::Reader;
@@ -13,6 +15,7 @@ use rows::visible;
 use terms::Answer;
 use terms::Row;
 use terms::Tail;
+use terms::limits::RANGE_ROWS;
 use words::of_word;
 ghost use mathlib.Core.Path.{_≡_};
 ghost use Prim.Native.Nat.{_*_, _≤_, _<_};
@@ -45,10 +48,10 @@ pub fn answers_for(mem: &[u8], s: Sizes, who: Reader, at: usize, c: u32) -> bool
 {
     if has_bit(read(mem, s, Region::TailMask, at), c) {
         let kind = read(mem, s, Region::TailKind, at);
-        if kind == 0 {
+        if kind == ORIGINAL {
             return true;
         }
-        if kind == 1 {
+        if kind == SETTING {
             return sees_record(mem, s, who, at);
         }
     }
@@ -83,7 +86,12 @@ pub fn cell(mem: &[u8], s: Sizes, page: usize, row: Row) -> u32
     requires { ⌜ page < s .pages ⌝ }
     ensures { λ r. ⌜ r ≡ cellIn (view s (words (now (mem .entry)))) page (within (row .0)) ⌝ }
 {
-    read(mem, s, Region::Cells, page * 64 + (row.0 % 64) as usize)
+    read(
+        mem,
+        s,
+        Region::Cells,
+        page * RANGE_ROWS + row.0 as usize % RANGE_ROWS,
+    )
 }
 
 // The word for a walk that stopped at record k, at the page's lineage: the cell, unless the page holds a setting later than the reader's stamp.

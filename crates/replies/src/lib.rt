@@ -1,7 +1,7 @@
 // The calls with plain numbers and the answer as C takes it, by the table of the scan list: what the exports of the crate deskrook stand on.
 use calls::take_sixteen;
-use facts::Checked;
-use facts::check;
+use pages::check::Checked;
+use pages::check::check;
 use scans::Scans;
 use terms::Answer;
 use terms::Refusal;

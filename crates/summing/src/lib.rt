@@ -2,6 +2,7 @@
 use layout::HEADER_ROWS;
 use layout::Region;
 use layout::Sizes;
+use layout::codes::PAGE_WAITING;
 use loops::Found;
 use reading::current_page;
 use reading::word_of;
@@ -14,11 +15,13 @@ use terms::Place;
 use terms::Row;
 use terms::Stamp;
 use terms::Transaction;
+use terms::limits::RANGE_ROWS;
 use words::of_word;
 ghost use mathlib.Core.Path.{_≡_};
 ghost use Prim.Native.Nat.{_+_, _*_, _/_, _^_, _≤_, _<_};
 ghost use lib.IntN.{natAbs, _+ℤ_};
 ghost use lib.ListN.{length};
+ghost use Rattle.terms.specs.Measures.{mostRows, rangeRows};
 ghost use Rattle.words.specs.Words.{words};
 ghost use Rattle.layout.specs.Regions.{need};
 ghost use Rattle.layout.specs.View.{view, rowsGiven};
@@ -37,7 +40,7 @@ fn was_current(mem: &[u8], s: Sizes, merges: u32, place: usize, p: usize) -> boo
     requires { ⌜ p < s .pages ⌝ }
     ensures { λ r. ⌜ r ≡ wasCurrent (shapeIn s) (view s (words (now (mem .entry)))) merges place p ⌝ }
 {
-    if read(mem, s, Region::PageState, p) < 2 {
+    if read(mem, s, Region::PageState, p) < PAGE_WAITING {
         return false;
     }
     if read(mem, s, Region::PagePlace, p) as usize % s.places != place {
@@ -139,7 +142,7 @@ fn add_rows(
     requires { ⌜ Proper s ⌝ }
     requires { ⌜ Linked s (view s (words (now mem))) ⌝ }
     requires { ⌜ (page < s .pages) × (c < s .columns) × (to ≤ rowsGiven (view s (words (now mem)))) ⌝ }
-    requires { ⌜ (from ≤ to) × (to ≤ (from / 64 + 1) * 64) ⌝ }
+    requires { ⌜ (from ≤ to) × (to ≤ (from / rangeRows + 1) * rangeRows) ⌝ }
     requires { ⌜ page ≡ scanPage (shapeIn s) (view s (words (now mem))) (scan .merges) (rangeOf from) c ⌝ }
     requires { ⌜ Tallied (shapeIn s) (view s (words (now mem))) scan c from t ⌝ }
     ensures { λ r. ⌜ Tallied (shapeIn s) (view s (words (now (mem .entry)))) scan c to r ⌝ }
@@ -155,10 +158,11 @@ fn add_rows(
 
 // The first row after `from` of another range, or the number of rows given where that is less.
 fn range_end(from: u32, given: u32) -> u32
-    requires { ⌜ (from < given) × (given ≤ 1024) ⌝ }
-    ensures { λ r. ⌜ (from < r) × (r ≤ given) × (r ≤ (from / 64 + 1) * 64) ⌝ }
+    requires { ⌜ (from < given) × (given ≤ mostRows) ⌝ }
+    ensures { λ r. ⌜ (from < r) × (r ≤ given) × (r ≤ (from / rangeRows + 1) * rangeRows) ⌝ }
 {
-    let end = (from / 64 + 1) * 64;
+    let rows = RANGE_ROWS as u32;
+    let end = (from / rows + 1) * rows;
     if end < given { end } else { given }
 }
 

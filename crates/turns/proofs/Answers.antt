@@ -6,7 +6,7 @@ use mathlib.Core.Bool.{Bool, true, false, cond}
 use mathlib.Core.List.{List}
 use lib.ListN.{length}
 use borrow.Author.Tests.{le-leb, lt-leb}
-use Rattle.terms.specs.Measures.{Shape}
+use Rattle.terms.specs.Measures.{Shape, mostColumns}
 use Rattle.terms.specs.declared.Answer.{Answer}
 use Rattle.terms.specs.declared.Place.{Place}
 use Rattle.terms.specs.declared.Refusal.{Refusal}
@@ -61,7 +61,7 @@ pub width-refused : (columns : ℕ) (k : Chosen) (r : Refusal) → k ≡ Chosen.
 unfolding operandWidth
 width-refused columns k r e = sym (ap (operandWidth columns) e)
 
-pub narrow : (k : Chosen) (f : Form) (columns : ℕ) → k ≡ Chosen.Known f → Narrow k → columns ≤ 16 → Small columns f
+pub narrow : (k : Chosen) (f : Form) (columns : ℕ) → k ≡ Chosen.Known f → Narrow k → columns ≤ mostColumns → Small columns f
 narrow k f columns e n h = let m : Narrow (Chosen.Known f) = rw e at n in (m .0, m .1, m .2, h)
 
 -- the most bytes of operands: three numbers of four bytes and 16 values

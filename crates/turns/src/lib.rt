@@ -14,10 +14,11 @@ use requests::call;
 use requests::make_store;
 use terms::Answer;
 use terms::Refusal;
+use terms::limits::MOST_COLUMNS;
 ghost use mathlib.Core.Path.{_≡_};
 ghost use Prim.Native.Nat.{_≤_};
 ghost use lib.ListN.{length};
-ghost use Rattle.terms.specs.Measures.{mostScans};
+ghost use Rattle.terms.specs.Measures.{mostScans, mostColumns};
 ghost use Rattle.words.specs.Words.{words};
 ghost use Rattle.layout.specs.Sizes.{bytesNeeded};
 ghost use Rattle.packed.specs.Packed.{placesOf};
@@ -28,8 +29,6 @@ ghost use Rattle.turns.specs.Gatebook.{largest};
 ghost use Rattle.turns.specs.Turns.{storeIn, storeMachine, makingAnswer, madeStore, firstAnswer, firstStore, firstStep, columnsFrom, capped as cappedAt, operandWidth, Does, Turned};
 
 pub const SHAPE_BYTES: usize = 6;
-
-const MOST_COLUMNS: usize = 16;
 
 // Memory for the largest shape that memory is lent for, and a scan list of 16 places.
 pub fn lent_memory() -> [u8; 25552]
@@ -94,7 +93,7 @@ pub fn columns_of(bytes: &[u8]) -> usize
 
 // A number of columns above the most counts as the most.
 fn capped(columns: usize) -> usize
-    ensures { λ r. ⌜ (r ≡ cappedAt columns) × (r ≤ 16) ⌝ }
+    ensures { λ r. ⌜ (r ≡ cappedAt columns) × (r ≤ mostColumns) ⌝ }
 {
     if columns < MOST_COLUMNS {
         columns

@@ -8,6 +8,7 @@ use lib.Dec.{eqb, leb}
 use lib.ListN.{length, getD, set}
 use lib.Seq.{set-out}
 use borrow.Author.Tests.{le-leb, lt-leb}
+use Rattle.pages.specs.Checked.{checked}
 use Rattle.terms.specs.Measures.{mostScans}
 use Rattle.terms.specs.declared.Place.{Place}
 use Rattle.terms.specs.declared.Refusal.{Refusal}
@@ -28,8 +29,7 @@ use Rattle.scans.specs.Places.{openCount, opened}
 use Rattle.scans.specs.Table.{tableOf, findIn}
 use Rattle.scans.proofs.Table.{table-length}
 use Rattle.scans.proofs.Answers.{table-count}
-use Rattle.facts.specs.declared.Checked.the-variants.{Fit, Unfit}
-use Rattle.facts.specs.Usable.{checked}
+use Rattle.pages.specs.declared.check.Checked.the-variants.{Fit, Unfit}
 use Rattle.terms.specs.Places.{place, freePlace, isScan}
 use Rattle.model.specs.Calls.{testsIn, replyIn, actIn, placesIf, placesNext, placesAfter, viewNext}
 use Rattle.model.specs.Asked.{shapeIn}

@@ -5,8 +5,6 @@ use conditions::any_open;
 use entry::later;
 use entry::no_column;
 use entry::no_range;
-use facts::Checked;
-use facts::check;
 use layout::HEADER_MERGES;
 use layout::HEADER_SCANS;
 use layout::Region;
@@ -16,8 +14,10 @@ use lending::Tested;
 use lending::lend;
 use loops::Found;
 use merging::free_page;
+use pages::check::Checked;
+use pages::check::check;
 use regions::read;
-use scans::MOST_SCANS;
+use regions::write;
 use scans::Scans;
 use scans::find_scan;
 use terms::Answer;
@@ -25,16 +25,19 @@ use terms::Place;
 use terms::Refusal;
 use terms::Stamp;
 use terms::Tail;
+use terms::limits::MOST_NUMBERS;
+use terms::limits::MOST_SCANS;
 ghost use mathlib.Core.Path.{_≡_};
 ghost use mathlib.Core.List.{List, []};
-ghost use Prim.Native.Nat.{_*_, _≤_, _<_};
+ghost use Prim.Native.Nat.{_*_, _≤_, _<_, _+_};
 ghost use lib.ListN.{length};
-ghost use Rattle.terms.specs.Measures.{mostScans};
+ghost use Rattle.layout.specs.declared.Region.{Region};
+ghost use Rattle.terms.specs.Measures.{mostScans, mostNumbers};
 ghost use Rattle.terms.specs.declared.Place.{Place};
 ghost use Rattle.terms.specs.declared.Answer.{Answer};
 ghost use Rattle.words.specs.Words.{words};
-ghost use Rattle.layout.specs.Regions.{need};
-ghost use Rattle.layout.specs.View.{view};
+ghost use Rattle.layout.specs.Regions.{need, scansAt};
+ghost use Rattle.layout.specs.View.{view, put, scansGiven};
 ghost use Rattle.scans.specs.Places.{openCount};
 ghost use Rattle.scans.specs.Table.{tableOf};
 ghost use Rattle.history.specs.History.{Call, verdict};
@@ -53,9 +56,6 @@ pub struct Listed {
     pub place: usize,
     pub entry: Place,
 }
-
-// The most scan numbers that a store gives.
-const MOST_NUMBERS: u32 = 65535;
 
 // ---- merge
 
@@ -138,7 +138,7 @@ pub fn merge(mem: &mut [u8], scans: Scans, range: u32, column: u32, through: Tai
 
 fn release_in(mem: &mut [u8], s: Sizes, scans: Scans) -> Answer
     requires { ⌜ need s * 4 ≤ length (now mem) ⌝ }
-    requires { ⌜ Proper s × (scans .count ≤ 16) ⌝ }
+    requires { ⌜ Proper s × (scans .count ≤ mostScans) ⌝ }
     ensures { λ r. ⌜ CarriesBy scans s (view s (words (now (mem .entry)))) Call.release r (view s (words (now (mem .exit)))) ⌝ }
 {
     Answer::Number(merging::release(mem, s, scans))
@@ -192,6 +192,17 @@ fn open_tests(mem: &[u8], s: Sizes, scans: Scans, stamp: Stamp) -> Tested
     Tested::Passed(scans.free)
 }
 
+// A scan gets the next number; its place in the scan list is not written here.
+fn give_scan(mem: &mut [u8], s: Sizes) -> u32
+    requires { ⌜ need s * 4 ≤ length (now mem) ⌝ }
+    requires { ⌜ scansGiven (view s (words (now mem))) < mostNumbers ⌝ }
+    ensures { λ r. ⌜ (r ≡ scansGiven (view s (words (now (mem .entry)))) + 1) × (view s (words (now (mem .exit))) ≡ put Region.Header scansAt (scansGiven (view s (words (now (mem .entry)))) + 1) (view s (words (now (mem .entry))))) ⌝ }
+{
+    let n = read(mem, s, Region::Header, HEADER_SCANS) + 1;
+    write(mem, s, Region::Header, HEADER_SCANS, n);
+    n
+}
+
 // A scan is opened at a stamp; the answer is its number.
 pub fn open_scan(mem: &mut [u8], scans: Scans, stamp: Stamp) -> Listed
     ensures { λ r. ⌜ Lists (now (mem .entry)) scans (Call.openScan (stamp .0)) r (now (mem .exit)) ⌝ }
@@ -203,7 +214,7 @@ pub fn open_scan(mem: &mut [u8], scans: Scans, stamp: Stamp) -> Listed
         Tested::Failed(x) => unlisted(scans, x),
         Tested::Passed(place) => {
             let merges = read(mem, s, Region::Header, HEADER_MERGES);
-            let number = settling::give_scan(&mut mem[..n], s);
+            let number = give_scan(&mut mem[..n], s);
             Listed {
                 answer: Answer::Number(number),
                 place: place,

@@ -1,5 +1,6 @@
 -- `changes::delete_tests` meets its contract: each answer follows from the tests that led to it.
 use borrow.Author.Needs.{needs}
+use Rattle.terms.specs.Measures.{mostTransactions}
 use Rattle.history.specs.History.{verdict}
 use Rattle.model.specs.Calls.{testsIn}
 use Rattle.lending.proofs.Ends.{below-tested}
@@ -23,7 +24,7 @@ returns c =
     let found = row .before .before .before .before in
     let place = found .before .before .open-place in
     let r = row-found _ _ _ (place .ensures .0) _ _ (row .before .before .given-range .ensures) _ (found .at .given .1) _ (row .g .given .1) in
-    (rw (r .begun, r .given, ← r .place-is) (c .append-tests .ensures), below-tested _ _ 8 _ (c .append-tests .ensures) (rw (found .at .given .1) at (place .ensures .1)))
+    (rw (r .begun, r .given, ← r .place-is) (c .append-tests .ensures), below-tested _ _ mostTransactions _ (c .append-tests .ensures) (rw (found .at .given .1) at (place .ensures .1)))
 
 pub delete-tests-spec : {M : Type 1} → statement M
 unfolding testsIn

@@ -1,6 +1,7 @@
 -- `changes::update_tests` meets its contract: each answer follows from the tests that led to it.
 use native.Mathlib.Omega.{arith}
 use borrow.Author.Needs.{needs}
+use Rattle.terms.specs.Measures.{mostTransactions}
 use Rattle.words.specs.Words.{words}
 use Rattle.layout.specs.View.{view}
 use Rattle.history.specs.History.{verdict, badMask}
@@ -37,7 +38,7 @@ returns-4 c =
     let g = mask .before .before .before in
     let found = g .before .before .before .before in
     let r = there g in
-    (rw (r .begun, r .given, ← mask .before .bad-mask .ensures, mask .if1 .left, ← r .place-is, ← c .before .records-wanted .ensures) (c .append-tests .ensures), below-tested _ _ 8 _ (c .append-tests .ensures) (rw (found .at .given .1) at (found .before .before .open-place .ensures .1)))
+    (rw (r .begun, r .given, ← mask .before .bad-mask .ensures, mask .if1 .left, ← r .place-is, ← c .before .records-wanted .ensures) (c .append-tests .ensures), below-tested _ _ mostTransactions _ (c .append-tests .ensures) (rw (found .at .given .1) at (found .before .before .open-place .ensures .1)))
 
 pub update-tests-spec : {M : Type 1} → statement M
 unfolding testsIn

@@ -6,6 +6,7 @@ use mir.Syntax.{w32}
 use mir.ValLaws.{toZ-ofZ}
 use borrow.Author.Needs.{needs}
 use lib.ListN.{length, take, length-set}
+use Rattle.terms.specs.Measures.{mostColumns}
 use Rattle.commands.specs.Commands.{values}
 use Rattle.commands.specs.Decoded.{ZerosPast}
 use Rattle.commands.proofs.Operands.{value-next, zeros-at, zeros-next}
@@ -13,14 +14,14 @@ use Rattle.commands.proofs.values.Statement.{statement}
 use Rattle.commands.proofs.values.Tie as tie
 
 abbrev Inv-loop : tie.InvT-loop
-Inv-loop bytes n out₀ i₀ out i = (i ≤ n) × (take i out ≡ values i bytes) × (length out ≡ 16) × ZerosPast i out
+Inv-loop bytes n out₀ i₀ out i = (i ≤ n) × (take i out ≡ values i bytes) × (length out ≡ mostColumns) × ZerosPast i out
 
 abbrev μ-loop : tie.MeasureT-loop
 μ-loop bytes n out₀ i₀ out i = n - i
 
 loop-holds : tie.Need-loop-holds Inv-loop μ-loop
 unfolding values
-loop-holds c = (omega arith, refl, refl, λ k h. zeros-at 16 k)
+loop-holds c = (omega arith, refl, refl, λ k h. zeros-at mostColumns k)
 
 loop-again : tie.Need-loop-again Inv-loop μ-loop
 loop-again c =

@@ -3,6 +3,7 @@ use Prim.Native.Nat.{_<_}
 use mathlib.Core.Path.{_≡_, refl, sym, _∙_}
 use native.Mathlib.Omega.{arith}
 use lib.ListN.{length}
+use Rattle.terms.specs.Measures.{mostScans}
 use Rattle.lookups.proofs.Answers.{scan-missing, scan-running, entry-in}
 use borrow.Author.Needs.{needs}
 use Rattle.lookups.proofs.scan_of.Statement.{statement}
@@ -12,10 +13,10 @@ returns : tie.Need-returns
 returns c = scan-missing _ _ (sym (c .before .before .find-scan .ensures) ∙ c .enum-told .given .1)
 
 -- the entry that was found is one of the table
-inside : (c : tie.After-j) → c .j .given .0 .0 < 16
+inside : (c : tie.After-j) → c .j .given .0 .0 < mostScans
 inside c =
     let call = c .before .before in
-    let n : length (call .before .args .t .numbers) ≡ 16 = search needs in
+    let n : length (call .before .args .t .numbers) ≡ mostScans = search needs in
     omega (arith, entry-in _ _ _ (sym (call .find-scan .ensures) ∙ c .j .given .1))
 
 returns-2 : tie.Need-returns-2

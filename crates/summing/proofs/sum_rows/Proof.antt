@@ -2,6 +2,7 @@
 use Prim.Native.Nat.{_-_, _≤_, _<_}
 use mathlib.Core.Path.{_≡_, _∙_}
 use native.Mathlib.Omega.{arith}
+use Rattle.terms.specs.Measures.{mostRows}
 use Rattle.words.specs.Words.{words}
 use Rattle.layout.specs.View.{view}
 use Rattle.model.specs.Asked.{shapeIn}
@@ -19,7 +20,7 @@ abbrev μ-loop : tie.MeasureT-loop
 μ-loop mem s scan c given merges sum₀ from₀ sum from = given - from
 
 -- the rows given are at most all the rows that there are
-few : (c : tie.After-read Inv-loop μ-loop) → let s = c .before .before .args .s in (c .read .result ≤ s .rows) × (c .read .result ≤ 1024)
+few : (c : tie.After-read Inv-loop μ-loop) → let s = c .before .before .args .s in (c .read .result ≤ s .rows) × (c .read .result ≤ mostRows)
 few c =
     let pre = c .before .before .pre .1 in
     let rows : c .read .result ≤ c .before .before .args .s .rows = rw (c .read .ensures) (pre .1 .0 .0 .rows-few) in

@@ -4,6 +4,7 @@ use borrow.Author.Needs.{needs}
 use Prim.Native.Nat.{_<_}
 use mathlib.Core.Path.{_≡_, refl, sym, _∙_}
 use lib.ListN.{length}
+use Rattle.terms.specs.Measures.{mostScans}
 use Rattle.entry.specs.Fitted.{Fitted}
 use Rattle.entry.proofs.Fitted.{fitted}
 use Rattle.upkeep.specs.Lists.{Lists}
@@ -27,9 +28,9 @@ returns-2 c =
     (sym (c .before .before .before .find-scan .ensures) ∙ c .before .enum-told2 .given .1)
 
 -- the entry that was found is one of the table
-inside : (c : tie.After-places) → c .before .before .i .given .0 .0 < 16
+inside : (c : tie.After-places) → c .before .before .i .given .0 .0 < mostScans
 inside c =
-    let n : length (c .before .before .before .before .before .before .before .before .before .before .args .scans .numbers) ≡ 16 = search needs in
+    let n : length (c .before .before .before .before .before .before .before .before .before .before .args .scans .numbers) ≡ mostScans = search needs in
     omega (arith, entry-in _ _ _ (sym (c .before .before .before .before .find-scan .ensures) ∙ c .before .before .i .given .1))
 
 returns-3 : tie.Need-returns-3

@@ -9,6 +9,7 @@ use native.Mathlib.Omega.{arith}
 use lib.Dec.{leb}
 use lib.ListN.{length, set, List·getD-map}
 use lib.Seq.{set-out}
+use Rattle.model.specs.Writing.{made as madeView}
 use Rattle.terms.specs.Measures.{Shape, withinLimits, mostScans}
 use Rattle.terms.specs.Refusals.{isRefused, isAccepted}
 use Rattle.terms.specs.declared.Answer.{Answer}
@@ -30,7 +31,7 @@ use Rattle.promise.specs.Stated.{conditions}
 use Rattle.promise.proofs.Demands.{demand3, reads-committed, pages-committed, striking-store, stability-store}
 use Rattle.promise.proofs.Refused.{refused-keeps}
 use Rattle.promise.proofs.Stated.{refuses}
-use Rattle.making.specs.Made.{madeView, made}
+use Rattle.making.specs.Made.{made}
 use Rattle.scans.specs.Places.{freedIf}
 use Rattle.calls.specs.Runs.{Run, ends, goes, Face, ReadAmong, toldAt, RefusedSo, RefusedKept, UnmadeKept, ReadsSo, PagesSo, AnswersSo, StruckSame, ReadsStable, calls, LentRefused, LentKept, MakingKept, LentReads, LentPages, LentAnswers, LentStriking, LentStability, MakingFrees, OnePlace, ShortRefused}
 

@@ -1,11 +1,11 @@
 -- The values lent with a call, one by one: those that were lent, then zeros.
-use Prim.Native.Nat.{ℕ, suc, _+_, _-_, _<_, _≤_}
+use Prim.Native.Nat.{ℕ, _+_, _-_, _<_, _≤_}
 use mathlib.Core.Path.{_≡_, sym, ap, _∙_}
 use mathlib.Core.List.{List, _++_}
 use native.Mathlib.Omega.{arith}
 use lib.IntN.{ℤ, pos}
-use lib.ListN.{length, getD, set, take, replicate, List·getD-append, getD-replicate, length-append}
-use lib.Seq.{getD-take, getD-append-add, take-suc, take-suc-set, take-all, length-take-le}
+use lib.ListN.{length, getD, replicate, List·getD-append, getD-replicate, length-append}
+use lib.Seq.{getD-take, getD-append-add, length-take-le}
 use Rattle.terms.specs.Measures.{mostColumns}
 use Rattle.calls.specs.Values.{sixteen}
 
@@ -31,13 +31,3 @@ unfolding sixteen
 sixteen-length vs =
     let e : length (vs ++ zeros) ≡ length vs + mostColumns = length-append vs zeros in
     length-take-le mostColumns (vs ++ zeros) (omega (arith, e))
-
--- a turn of the loop that takes them, and its end
-pub next-value : (l vs : List ℤ) (i : ℕ) (x : ℤ) → x ≡ getD vs i (pos 0) → take i l ≡ take i vs → i < length l → i < length vs
-    → take (i + 1) (set l i x) ≡ take (i + 1) vs
-next-value l vs i x e q h k =
-    let one : i + 1 ≡ suc i = omega arith in
-    rw (one, take-suc-set l i x h, take-suc vs i (pos 0) k, q, e)
-
-pub all-values : (l vs : List ℤ) (n : ℕ) → length l ≡ n → length vs ≡ n → take n l ≡ take n vs → l ≡ vs
-all-values l vs n h k e = sym (take-all n l (omega arith)) ∙ e ∙ take-all n vs (omega arith)

@@ -12,10 +12,12 @@ use terms::Row;
 use terms::Stamp;
 use terms::Tail;
 use terms::Transaction;
+use terms::limits::MOST_COLUMNS;
 ghost use Prim.Native.Nat.{_<_};
 ghost use mathlib.Core.Path.{_≡_};
 ghost use lib.IntN.{pos};
 ghost use lib.ListN.{getD};
+ghost use Rattle.terms.specs.Measures.{mostColumns};
 ghost use Rattle.layout.specs.Sizes.{shapeOf, BytesTold};
 ghost use Rattle.history.specs.History.{Call};
 ghost use Rattle.promise.specs.Promise.{Serves, ServesBy, kept, Makes};
@@ -25,19 +27,19 @@ ghost use Rattle.calls.specs.Values.{sixteen};
 
 // Value i of those lent, 0 where there are fewer.
 fn value_at(values: &[i32], i: usize) -> i32
-    requires { ⌜ i < 16 ⌝ }
+    requires { ⌜ i < mostColumns ⌝ }
     ensures { λ r. ⌜ r ≡ getD (sixteen (now (values .entry))) i (pos 0) ⌝ }
 {
     if i < values.len() { values[i] } else { 0 }
 }
 
 // The 16 values that a call takes of those lent.
-pub fn take_sixteen(values: &[i32]) -> [i32; 16]
+pub fn take_sixteen(values: &[i32]) -> [i32; MOST_COLUMNS]
     ensures { λ r. ⌜ r ≡ sixteen (now (values .entry)) ⌝ }
 {
-    let mut taken = [0; 16];
+    let mut taken = [0; MOST_COLUMNS];
     let mut i = 0;
-    while i < 16 {
+    while i < MOST_COLUMNS {
         taken[i] = value_at(values, i);
         i += 1;
     }

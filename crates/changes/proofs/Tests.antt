@@ -23,7 +23,9 @@ use Rattle.rows.specs.Finders.{Inside}
 use Rattle.model.specs.Calls.{notOpenIn, notGivenIn, lacksIn}
 use Rattle.layout.specs.Sizes.{Proper}
 use Rattle.model.specs.Asked.{shapeIn, Counted, Linked, FreeAt, OpenAt}
-use Rattle.settling.specs.Steps.{foundAt}
+use Rattle.transactions.specs.Steps.{foundAt}
+use Rattle.model.specs.Asked.{shapeIn, Counted, Linked, FreeAt}
+use Rattle.loops.specs.Search.{foundAt}
 use Rattle.writing.specs.Steps.{Room}
 use Rattle.conditions.specs.Opens.{openAt}
 use Rattle.conditions.proofs.Opens.{open-there, not-open}
@@ -67,7 +69,7 @@ unfolding lacksIn rangeOf
 room s v l r n g k =
     record {
       row-below = omega (arith, l .rows-few);
-      left = ltb-false (s .capacity) (usedIn v (r / 64) + n) k;
+      left = ltb-false (s .capacity) (usedIn v (r / rangeRows) + n) k;
     }
 
 -- the range g of row r lacks n tail records

@@ -17,18 +17,24 @@ use layout::Sizes;
 use loops::Found;
 use regions::read;
 use scans::Scans;
-use settling::free_place;
 use terms::Answer;
 use terms::Refusal;
 use terms::Row;
 use terms::Stamp;
 use terms::Transaction;
+use terms::limits::MOST_COLUMNS;
+use terms::limits::MOST_NUMBERS;
+use transactions::free_place;
 use writing::records_wanted;
 ghost use mathlib.Core.Path.{_≡_};
 ghost use mathlib.Core.List.{List};
 ghost use lib.IntN.{ℤ};
 ghost use Prim.Native.Nat.{_<_};
 ghost use Rattle.terms.specs.Measures.{mostNumbers};
+ghost use mathlib.Core.List.{[]};
+ghost use Prim.Native.Nat.{_*_, _≤_, _<_};
+ghost use lib.ListN.{length};
+ghost use Rattle.terms.specs.Measures.{mostTransactions};
 ghost use Rattle.words.specs.Words.{words};
 ghost use Rattle.layout.specs.View.{view, rowsGiven, transactionsGiven};
 ghost use Rattle.history.specs.History.{Call, verdict, rangeOf};
@@ -39,9 +45,6 @@ ghost use Rattle.promise.specs.Promise.{ServesBy, kept};
 ghost use Rattle.entry.specs.Entered.{Fitted};
 ghost use Rattle.entry.specs.Tested.{Says, Finds, Tests};
 ghost use Rattle.changes.specs.Steps.{appendTests};
-
-// The most transaction numbers that a store gives.
-const MOST_NUMBERS: u32 = 65535;
 
 // ---- begin
 
@@ -69,7 +72,7 @@ pub fn begin(mem: &mut [u8], scans: Scans) -> Answer
     };
     match begin_tests(mem, s) {
         Tested::Failed(x) => Answer::Refused(x),
-        Tested::Passed(free) => Answer::Number(settling::begin(&mut mem[..n], s, free).0),
+        Tested::Passed(free) => Answer::Number(transactions::begin(&mut mem[..n], s, free).0),
     }
 }
 
@@ -90,7 +93,7 @@ fn insert_tests(mem: &[u8], s: Sizes, t: Transaction) -> Tested
 }
 
 // A row with a value for each column; the answer is its number. Values past the column count are not looked at.
-pub fn insert(mem: &mut [u8], scans: Scans, transaction: Transaction, values: [i32; 16]) -> Answer
+pub fn insert(mem: &mut [u8], scans: Scans, transaction: Transaction, values: [i32; MOST_COLUMNS]) -> Answer
     ensures { λ r. ⌜ ServesBy scans (now (mem .entry)) (Call.insert (transaction .0) values) r (now (mem .exit)) kept ⌝ }
 {
     let Entry::Fit(s, n) = enter(mem, scans) else {
@@ -157,7 +160,7 @@ pub fn update(
     transaction: Transaction,
     row: Row,
     mask: u16,
-    values: [i32; 16],
+    values: [i32; MOST_COLUMNS],
 ) -> Answer
     ensures { λ r. ⌜ ServesBy scans (now (mem .entry)) (Call.update (transaction .0) (row .0) mask values) r (now (mem .exit)) kept ⌝ }
 {
@@ -228,7 +231,7 @@ pub fn commit(mem: &mut [u8], scans: Scans, transaction: Transaction, stamp: Sta
     match commit_tests(mem, s, transaction, stamp) {
         Tested::Failed(x) => Answer::Refused(x),
         Tested::Passed(at) => {
-            settling::commit(&mut mem[..n], s, at, stamp);
+            transactions::commit(&mut mem[..n], s, at, stamp);
             Answer::Done
         }
     }
@@ -255,7 +258,7 @@ pub fn abort(mem: &mut [u8], scans: Scans, transaction: Transaction) -> Answer
     match abort_tests(mem, s, transaction) {
         Tested::Failed(x) => Answer::Refused(x),
         Tested::Passed(at) => {
-            settling::abort(&mut mem[..n], s, at);
+            transactions::abort(&mut mem[..n], s, at);
             Answer::Done
         }
     }

@@ -1,5 +1,6 @@
 // What the bytes that `gatebook` reads mean: the shape, the widths of a command's operands, and the call with its numbers.
 use terms::Refusal;
+use terms::limits::MOST_COLUMNS;
 use words::get;
 use words::of_word;
 ghost use mathlib.Core.Path.{_≡_};
@@ -8,6 +9,7 @@ ghost use Prim.Native.Nat.{_+_, _*_, _≤_, _<_};
 ghost use lib.ListN.{length, take};
 ghost use Rattle.terms.specs.Measures.{mostColumns};
 ghost use Rattle.commands.specs.Commands.{mostOperands, operandBytes, valueBytes, Narrow, Small, formOf, widthsOf, chosen, total as totalOf, width as widthOf, operand, operands as operandsOf, values as valuesOf, callFrom, shapeBytes, shapeFrom};
+ghost use Rattle.commands.specs.Commands.{Narrow, Small, chosen, width as widthOf, operand, values as valuesOf, callFrom, shapeBytes, shapeFrom};
 ghost use Rattle.commands.specs.Decoded.{measured, callIn, ZerosPast};
 
 // The calls that only read.

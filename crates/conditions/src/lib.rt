@@ -1,22 +1,24 @@
 // The conditions of document 01, "What a refused call returns", that look into open transactions, rows and tail records; and whose own changes a read
 // adds. Each answers by the model's definition of the same meaning.
-use layout::MOST_TRANSACTIONS;
 use layout::Region;
 use layout::Sizes;
+use layout::codes::COMMITTED;
+use layout::codes::SETTING;
 use loops::Found;
-use pending::pending_at;
 use regions::find_in;
 use regions::read;
 use rows::range_of;
 use terms::Row;
 use terms::Tail;
 use terms::Transaction;
+use terms::limits::MOST_TRANSACTIONS;
+use transactions::pending::pending_at;
 ghost use mathlib.Core.Path.{_≡_};
 ghost use mathlib.Core.Bool.{_&&_, _||_};
 ghost use Prim.Native.Nat.{ℕ, _+_, _*_, _^_, _≤_, _<_};
 ghost use lib.Dec.{eqb, leb, ltb};
 ghost use lib.ListN.{length, getD};
-ghost use Rattle.terms.specs.Measures.{mostTransactions};
+ghost use Rattle.terms.specs.Measures.{mostColumns, mostTransactions};
 ghost use Rattle.words.specs.Words.{words};
 ghost use Rattle.layout.specs.declared.Region.{Region};
 ghost use Rattle.layout.specs.Regions.{need};
@@ -161,7 +163,11 @@ fn stands_for(t: Transaction, maker: Transaction, state: u32) -> bool
 {
     let me = t.0;
     let number = maker.0;
-    if number == me { true } else { state == 1 }
+    if number == me {
+        true
+    } else {
+        state == COMMITTED
+    }
 }
 
 // Whether a record of row `named` and this kind is a delete of row `row`.
@@ -170,7 +176,7 @@ fn is_delete(named: Row, row: Row, kind: u32) -> bool
 {
     let a = named.0;
     let b = row.0;
-    if a == b { kind > 1 } else { false }
+    if a == b { kind > SETTING } else { false }
 }
 
 // Whether one of n records from slot `at` on is a delete of the row, whoever made it. One flag is carried to the end: a loop with an early exit does not
@@ -250,7 +256,7 @@ pub fn gone(mem: &[u8], s: Sizes, t: Transaction, row: Row) -> bool
 
 // Whether a mask has no bit, or one at or above the column count.
 pub fn bad_mask(columns: usize, mask: u32) -> bool
-    requires { ⌜ columns ≤ 16 ⌝ }
+    requires { ⌜ columns ≤ mostColumns ⌝ }
     ensures { λ r. ⌜ r ≡ (eqb mask 0 || leb (2 ^ columns) mask) ⌝ }
 {
     if mask == 0 {

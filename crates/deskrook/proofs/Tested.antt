@@ -3,13 +3,14 @@ use Prim.Native.Nat.{ℕ}
 use mathlib.Core.Path.{_≡_, refl, ap, _∙_}
 use mathlib.Core.Bool.{Bool, true, false, cond}
 use mathlib.Core.List.{List}
+use Rattle.pages.specs.Checked.{checked}
 use Rattle.terms.specs.declared.Answer.{Answer}
 use Rattle.terms.specs.declared.Place.{Place}
 use Rattle.terms.specs.declared.Refusal.{Refusal}
 use Rattle.words.specs.Words.{words}
 use Rattle.facts.specs.declared.Checked.{Checked}
 use Rattle.facts.specs.declared.Checked.the-variants.{Fit, Unfit}
-use Rattle.facts.specs.Usable.{storedSizes, usable, checked}
+use Rattle.facts.specs.Usable.{storedSizes, usable}
 use Rattle.deskrook.specs.Replies.{usability}
 
 abbrev pub passed : Checked → Answer

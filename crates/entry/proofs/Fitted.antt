@@ -1,5 +1,5 @@
 -- A memory that passed the test is fitted.
-use Prim.Native.Nat.{ℕ, _-_, _^_, _<_}
+use Prim.Native.Nat.{ℕ, _-_, _<_}
 use mathlib.Core.Path.{_≡_, sym, subst}
 use mathlib.Core.Bool.{true, false}
 use mathlib.Core.List.{List}
@@ -9,8 +9,8 @@ use borrow.Author.Tests.{leb-false}
 use Rattle.words.specs.Words.{words}
 use Rattle.layout.specs.declared.Sizes.{Sizes}
 use Rattle.layout.specs.declared.Region.the-variants.{Current, PageState, PagePlace}
-use Rattle.layout.specs.Regions.{need}
-use Rattle.layout.specs.Sizes.{Proper}
+use Rattle.layout.specs.Regions.{need, slot}
+use Rattle.layout.specs.Sizes.{Proper, tooManyWords}
 use Rattle.layout.specs.View.{View, view, rowsGiven, usedIn}
 use Rattle.layout.proofs.Limits.{need-small, proper as proper-of}
 use Rattle.loops.proofs.Search.{and-true}
@@ -22,7 +22,7 @@ use Rattle.facts.specs.Tests.{MemoryFacts, Passed}
 use Rattle.facts.proofs.Each.{each-tells}
 use Rattle.facts.proofs.Ready.{stored}
 use Rattle.facts.proofs.Usable.{link-tells, placed-tells}
-use Rattle.model.specs.Stored.{slot, pageIn, placesOf}
+use Rattle.model.specs.Stored.{pageIn, placesOf}
 use Rattle.model.specs.Calls.{notGivenIn}
 use Rattle.model.specs.Asked.{shapeIn, Linked, Placed}
 use Rattle.rows.proofs.Cases.{found-at, found-nothing}
@@ -69,7 +69,7 @@ fit-tells s m x =
     let k = stored s v (x .facts .counts) in
     record {
       room = x .room;
-      small = subst (λ z. need z < 2 ^ 24) (sym (x .sizes-are)) (need-small (storedShape (words m)) (x .within));
+      small = subst (λ z. need z < tooManyWords) (sym (x .sizes-are)) (need-small (storedShape (words m)) (x .within));
       proper = proper;
       linked = linked-of s v proper (x .facts);
       pooled = λ i h. (at-place s v proper (x .facts) i h) .0;

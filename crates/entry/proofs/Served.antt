@@ -20,9 +20,9 @@ use Rattle.history.specs.History.{Call, accept, refuse, verdict, answerIf}
 use Rattle.scans.specs.declared.Scans.{Scans}
 use Rattle.scans.specs.Places.{openCount}
 use Rattle.scans.specs.Table.{tableOf}
-use Rattle.facts.specs.declared.Checked.{Checked}
-use Rattle.facts.specs.declared.Checked.the-variants.{Fit, Unfit}
-use Rattle.facts.specs.Usable.{storedShape, storedSizes, usable, checked}
+use Rattle.pages.specs.declared.check.Checked.the-variants.{Fit, Unfit}
+use Rattle.facts.specs.Usable.{storedShape, storedSizes, usable}
+use Rattle.pages.specs.Checked.{checked}
 use Rattle.facts.proofs.Usable.{usable-tells}
 use Rattle.model.specs.Calls.{testsIn, replyIn, actIn, placesAfter, say, viewIf, viewNext, placesIf, placesNext}
 use Rattle.model.specs.Asked.{shapeIn}

@@ -1,5 +1,5 @@
 -- What a call may rely on once memory and scan list have passed the test of the stored facts: all that the functions over the memory ask for, by name.
-use Prim.Native.Nat.{ℕ, _*_, _^_, _≤_, _<_}
+use Prim.Native.Nat.{ℕ, _*_, _≤_, _<_}
 use mathlib.Core.Path.{_≡_}
 use mathlib.Core.Bool.{true, false}
 use mathlib.Core.List.{List}
@@ -9,7 +9,7 @@ use Rattle.terms.specs.declared.Place.{Place}
 use Rattle.words.specs.Words.{words}
 use Rattle.layout.specs.declared.Sizes.{Sizes}
 use Rattle.layout.specs.Regions.{need}
-use Rattle.layout.specs.Sizes.{Proper}
+use Rattle.layout.specs.Sizes.{Proper, tooManyWords}
 use Rattle.layout.specs.View.{view, transactionsGiven, scansGiven}
 use Rattle.scans.specs.declared.Scans.{Scans}
 use Rattle.scans.specs.Places.{openCount}
@@ -21,7 +21,7 @@ use Rattle.entry.specs.declared.Entry.{Entry}
 -- the memory m holds a store of sizes s in order
 pub record Fitted (s : Sizes) (m : List ℕ) : Type 0 where
   pub room : need s * 4 ≤ length m
-  pub small : need s < 2 ^ 24
+  pub small : need s < tooManyWords
   pub proper : Proper s
   pub linked : Linked s (view s (words m))
   pub pooled : Pooled s (view s (words m))

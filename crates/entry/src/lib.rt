@@ -1,13 +1,13 @@
 // What every call begins with: the test of the lent memory and of the scan list, and what the call's own tests find. The conditions here are those of document
 // 01, "What a refused call returns", that look at the header and the measures alone. What follows for a whole call is in specs/ and proofs/.
-use facts::Checked;
-use facts::check;
 use layout::HEADER_ROWS;
 use layout::HEADER_STAMP;
 use layout::Region;
 use layout::Sizes;
 use layout::words_needed;
 use loops::Found;
+use pages::check::Checked;
+use pages::check::check;
 use regions::read;
 use rows::range_of;
 use scans::Scans;

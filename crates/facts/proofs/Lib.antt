@@ -1,11 +1,6 @@
--- Laws of the stored facts, for the proofs of this crate and of those above it.
-pub mod Within
+-- Laws of the stored facts, for the proofs of the crates that test them and of those above.
 pub mod Each
-pub mod Names
-pub mod Inverse
 pub mod Order
 pub mod Parts
 pub mod Ready
-pub mod Answers
 pub mod Usable
-pub mod Waiting

@@ -1,15 +1,15 @@
 -- The parts of a fact as the code has them, and as the fact says them: a whole region, the entries of the table of open scans, the open transactions.
-use Prim.Native.Nat.{ℕ, _+_, _*_, _≤_}
+use Prim.Native.Nat.{ℕ, _*_, _≤_}
 use mathlib.Core.Path.{_≡_, refl}
 use mathlib.Core.Bool.{Bool, true, false, not}
-use mathlib.Core.List.{List, [], _∷_, _++_, map}
+use mathlib.Core.List.{List, map}
 use native.Mathlib.Omega.{arith}
 use native.Mathlib.Nat.{zero-add}
 use lib.Dec.{leb, ltb}
-use lib.ListN.{length, getD, take}
+use lib.ListN.{length, take}
 use lib.Seq.{take-all}
 use borrow.Author.Tests.{lt-ltb, le-ltb, leb-true, leb-false}
-use Rattle.terms.specs.Measures.{mostScans}
+use Rattle.terms.specs.Measures.{mostScans, mostTransactions}
 use Rattle.terms.specs.declared.Place.{Place}
 use Rattle.words.specs.Words.{words}
 use Rattle.words.proofs.Words.{length-words}
@@ -31,22 +31,7 @@ whole s m k n h e =
     let l : length (view s (words m) k) ≡ len s k = view-long s (words m) (omega (arith, length-words m)) k in
     rw (zero-add n) (take-all n (view s (words m) k) (omega arith))
 
--- the eight open places, read one by one, and zeros
-pub eight : (l zs : List ℕ) (a b c d e f g h : ℕ) → length l ≡ 8
-    → a ≡ getD l 0 0 → b ≡ getD l 1 0 → c ≡ getD l 2 0 → d ≡ getD l 3 0 → e ≡ getD l 4 0 → f ≡ getD l 5 0 → g ≡ getD l 6 0 → h ≡ getD l 7 0
-    → a ∷ b ∷ c ∷ d ∷ e ∷ f ∷ g ∷ h ∷ zs ≡ l ++ zs
-eight [] zs a b c d e f g h n p q r t u v w y = absurd (omega arith)
-eight (x1 ∷ []) zs a b c d e f g h n p q r t u v w y = absurd (omega arith)
-eight (x1 ∷ x2 ∷ []) zs a b c d e f g h n p q r t u v w y = absurd (omega arith)
-eight (x1 ∷ x2 ∷ x3 ∷ []) zs a b c d e f g h n p q r t u v w y = absurd (omega arith)
-eight (x1 ∷ x2 ∷ x3 ∷ x4 ∷ []) zs a b c d e f g h n p q r t u v w y = absurd (omega arith)
-eight (x1 ∷ x2 ∷ x3 ∷ x4 ∷ x5 ∷ []) zs a b c d e f g h n p q r t u v w y = absurd (omega arith)
-eight (x1 ∷ x2 ∷ x3 ∷ x4 ∷ x5 ∷ x6 ∷ []) zs a b c d e f g h n p q r t u v w y = absurd (omega arith)
-eight (x1 ∷ x2 ∷ x3 ∷ x4 ∷ x5 ∷ x6 ∷ x7 ∷ []) zs a b c d e f g h n p q r t u v w y = absurd (omega arith)
-eight (x1 ∷ x2 ∷ x3 ∷ x4 ∷ x5 ∷ x6 ∷ x7 ∷ x8 ∷ []) zs a b c d e f g h n p q r t u v w y = rw (p, q, r, t, u, v, w, y)
-eight (x1 ∷ x2 ∷ x3 ∷ x4 ∷ x5 ∷ x6 ∷ x7 ∷ x8 ∷ x9 ∷ l) zs a b c d e f g h n p q r t u v w y = absurd (omega arith)
-
-pub opens-length : (s : Sizes) (m : List ℕ) → need s * 4 ≤ length m → length (view s (words m) Opens) ≡ 8
+pub opens-length : (s : Sizes) (m : List ℕ) → need s * 4 ≤ length m → length (view s (words m) Opens) ≡ mostTransactions
 opens-length s m h = view-long s (words m) (omega (arith, length-words m)) Opens
 
 -- ---- what the table's entries say of the list
@@ -63,7 +48,7 @@ module _ (t : Scans) (ps : List Place) (same : t ≡ tableOf ps) where
   unfolding tableOf
   more-told = rw same (few-told ps)
 
-  pub count-told : t .count ≤ 16
+  pub count-told : t .count ≤ mostScans
   unfolding tableOf
   count-told = rw same (omega arith)
 

@@ -9,6 +9,7 @@ use native.Mathlib.Nat.{zero-add}
 use lib.Dec.{leb, ltb, eqb}
 use lib.ListN.{length, getD, List·getD-map}
 use borrow.Author.Tests.{leb-true, ltb-true, eqb-true, eqb-false, ne-eqb, le-ltb}
+use Rattle.layout.specs.Codes.{asWaiting}
 use Rattle.terms.specs.Measures.{withinLimits, mostScans, rangeRows}
 use Rattle.terms.specs.declared.Place.{Place}
 use Rattle.words.specs.Words.{words}
@@ -19,51 +20,51 @@ use Rattle.loops.proofs.Region.{region-at, region-length}
 use Rattle.layout.specs.declared.Sizes.{Sizes}
 use Rattle.layout.specs.declared.Region.{Region}
 use Rattle.layout.specs.declared.Region.the-variants.{Opens, RowTransaction, RowStamp, RowLink, TailTransaction, TailRow, TailLink, TailStamp, Current, PageState, PagePlace, PageReplaced, PageLineage, PageNewest}
-use Rattle.layout.specs.Regions.{len, need}
+use Rattle.layout.specs.Regions.{len, need, firstSlot}
 use Rattle.layout.specs.View.{View, view, rowsGiven, transactionsGiven, scansGiven, lastStamp, mergesMade, usedIn, Long}
 use Rattle.layout.proofs.View.{view-long}
 use Rattle.terms.specs.Places.{freePlace}
 use Rattle.scans.specs.Places.{openCount, everyOpen, among, differ}
-use Rattle.facts.specs.Facts.{firstSlot, each, rowsBetween, rangeBetween, currentAtMost, waiting, waitingAtMost, countsWithin, rowNamed, rangeNamesRows, recordsNameRows, numbersGiven, linkHolds, rowLinked, recordLinked, rangeLinked, linksHold, stampsWithin, mergesWithin, openDiffer, pagePlaced, pagesPlaced, pageRange, currentLineage, waitingLineage, lineagesWithin, factsHold}
+use Rattle.facts.specs.Facts.{each, rowsBetween, rangeBetween, currentAtMost, waitingAtMost, countsWithin, rowNamed, rangeNamesRows, recordsNameRows, numbersGiven, linkHolds, rowLinked, recordLinked, rangeLinked, linksHold, stampsWithin, mergesWithin, openDiffer, pagePlaced, pagesPlaced, pageRange, currentLineage, waitingLineage, lineagesWithin, factsHold}
 use Rattle.facts.specs.Usable.{storedShape, storedSizes, measuresBytes, usable}
 use Rattle.layout.specs.Sizes.{Proper}
 use Rattle.facts.proofs.Each.{each-tells}
 use Rattle.layout.proofs.Limits.{proper}
 use Rattle.facts.proofs.Ready.{Stored, stored, at-most}
-use Rattle.facts.proofs.Within.{range-in}
+use Rattle.layout.proofs.Indices.{tail-in}
 
 -- a link, in range g, of row r: at most `most`, and if it is not 0 its record is of that row
 pub record Linked (s : Sizes) (v : View) (g most r link : ℕ) : Type 0 where
   pub low : link ≤ most
-  pub same : link ≢ 0 → getD (v TailRow) (firstSlot s g + (link - 1)) 0 ≡ r
+  pub same : link ≢ 0 → getD (v TailRow) (firstSlot (s .capacity) g + (link - 1)) 0 ≡ r
 
 pub record Usable (s : Sizes) (v : View) (ps : List Place) : Type 0 where
   pub counts : Stored s v
   pub open-few : openCount ps ≤ mostScans
   pub named : (g i : ℕ) → g < s .ranges → i < usedIn v g
-      → (getD (v TailRow) (firstSlot s g + i) 0 < rowsGiven v) × (getD (v TailRow) (firstSlot s g + i) 0 / rangeRows ≡ g)
+      → (getD (v TailRow) (firstSlot (s .capacity) g + i) 0 < rowsGiven v) × (getD (v TailRow) (firstSlot (s .capacity) g + i) 0 / rangeRows ≡ g)
   pub row-numbers : (r : ℕ) → r < rowsGiven v → (1 ≤ getD (v RowTransaction) r 0) × (getD (v RowTransaction) r 0 ≤ transactionsGiven v)
   pub record-numbers : (g i : ℕ) → g < s .ranges → i < usedIn v g
-      → (1 ≤ getD (v TailTransaction) (firstSlot s g + i) 0) × (getD (v TailTransaction) (firstSlot s g + i) 0 ≤ transactionsGiven v)
+      → (1 ≤ getD (v TailTransaction) (firstSlot (s .capacity) g + i) 0) × (getD (v TailTransaction) (firstSlot (s .capacity) g + i) 0 ≤ transactionsGiven v)
   pub open-numbers : (j : ℕ) → getD (v Opens) j 0 ≤ transactionsGiven v
   pub scan-numbers : (j : ℕ) → getD ps j freePlace .number ≤ scansGiven v
   pub row-links : (r : ℕ) → r < rowsGiven v → Linked s v (r / rangeRows) (usedIn v (r / rangeRows)) r (getD (v RowLink) r 0)
   pub record-links : (g i : ℕ) → g < s .ranges → i < usedIn v g
-      → Linked s v g i (getD (v TailRow) (firstSlot s g + i) 0) (getD (v TailLink) (firstSlot s g + i) 0)
+      → Linked s v g i (getD (v TailRow) (firstSlot (s .capacity) g + i) 0) (getD (v TailLink) (firstSlot (s .capacity) g + i) 0)
   pub row-stamps : (r : ℕ) → r < rowsGiven v → getD (v RowStamp) r 0 ≤ lastStamp v
-  pub record-stamps : (g i : ℕ) → g < s .ranges → i < usedIn v g → getD (v TailStamp) (firstSlot s g + i) 0 ≤ lastStamp v
+  pub record-stamps : (g i : ℕ) → g < s .ranges → i < usedIn v g → getD (v TailStamp) (firstSlot (s .capacity) g + i) 0 ≤ lastStamp v
   pub current-stamps : (i : ℕ) → i < s .places → getD (v PageNewest) (getD (v Current) i 0) 0 ≤ lastStamp v
-  pub waiting-stamps : (p : ℕ) → p < s .pages → waiting ≤ getD (v PageState) p 0 → getD (v PageNewest) p 0 ≤ lastStamp v
+  pub waiting-stamps : (p : ℕ) → p < s .pages → asWaiting ≤ getD (v PageState) p 0 → getD (v PageNewest) p 0 ≤ lastStamp v
   pub scan-stamps : (j : ℕ) → getD ps j freePlace .number ≢ 0 → getD ps j freePlace .stamp ≤ lastStamp v
   pub scan-merges : (j : ℕ) → getD ps j freePlace .number ≢ 0 → getD ps j freePlace .merges ≤ mergesMade v
-  pub waiting-merges : (p : ℕ) → p < s .pages → waiting ≤ getD (v PageState) p 0 → getD (v PageReplaced) p 0 ≤ mergesMade v
+  pub waiting-merges : (p : ℕ) → p < s .pages → asWaiting ≤ getD (v PageState) p 0 → getD (v PageReplaced) p 0 ≤ mergesMade v
   pub open-differ : (i j : ℕ) → i < j → getD (v Opens) i 0 ≡ getD (v Opens) j 0 → getD (v Opens) i 0 ≡ 0
   pub scans-differ : (i j : ℕ) → i < j → getD ps i freePlace .number ≡ getD ps j freePlace .number → getD ps i freePlace .number ≡ 0
   pub current-in : (i : ℕ) → i < s .places → getD (v Current) i 0 < s .pages
   pub current-state : (i : ℕ) → i < s .places → getD (v PageState) (getD (v Current) i 0) 0 ≡ 1
   pub current-place : (i : ℕ) → i < s .places → getD (v PagePlace) (getD (v Current) i 0) 0 ≡ i
   pub current-lineages : (i : ℕ) → i < s .places → getD (v PageLineage) (getD (v Current) i 0) 0 ≤ usedIn v (i / s .columns)
-  pub waiting-lineages : (p : ℕ) → p < s .pages → waiting ≤ getD (v PageState) p 0 → getD (v PageLineage) p 0 ≤ usedIn v (pageRange s v p)
+  pub waiting-lineages : (p : ℕ) → p < s .pages → asWaiting ≤ getD (v PageState) p 0 → getD (v PageLineage) p 0 ≤ usedIn v (pageRange s v p)
 
 -- ---- the tests of one index, taken apart
 
@@ -84,9 +85,9 @@ current-tells : (v : View) (k : Region) (most i : ℕ) → currentAtMost v k mos
 unfolding currentAtMost
 current-tells v k most i e = leb-true _ most e
 
-waiting-tells : (v : View) (k : Region) (most p : ℕ) → waitingAtMost v k most p ≡ true → waiting ≤ getD (v PageState) p 0 → getD (v k) p 0 ≤ most
+waiting-tells : (v : View) (k : Region) (most p : ℕ) → waitingAtMost v k most p ≡ true → asWaiting ≤ getD (v PageState) p 0 → getD (v k) p 0 ≤ most
 unfolding waitingAtMost
-waiting-tells v k most p e h = leb-true (getD (v k) p 0) most (or-right (ltb (getD (v PageState) p 0) waiting) _ (le-ltb _ waiting h) e)
+waiting-tells v k most p e h = leb-true (getD (v k) p 0) most (or-right (ltb (getD (v PageState) p 0) asWaiting) _ (le-ltb _ asWaiting h) e)
 
 pub placed-tells : (s : Sizes) (v : View) (i : ℕ) → pagePlaced s v i ≡ true
     → (getD (v Current) i 0 < s .pages) × (getD (v PageState) (getD (v Current) i 0) 0 ≡ 1) × (getD (v PagePlace) (getD (v Current) i 0) 0 ≡ i)
@@ -159,10 +160,10 @@ module _ (s : Sizes) (v : View) (ps : List Place) (z : Proper s) (long : Long s 
   rows-tell k low high c l e r h = rw (zero-add r) at (stretch-tells s v long k 0 (rowsGiven v) low high (omega (arith, c .rows-to)) e r h)
 
   records-tell : (k : Region) (low high : ℕ) → Stored s v → len s k ≡ s .slots → each (s .ranges) (rangeBetween s v k low high) ≡ true
-      → (g i : ℕ) → g < s .ranges → i < usedIn v g → (low ≤ getD (v k) (firstSlot s g + i) 0) × (getD (v k) (firstSlot s g + i) 0 ≤ high)
+      → (g i : ℕ) → g < s .ranges → i < usedIn v g → (low ≤ getD (v k) (firstSlot (s .capacity) g + i) 0) × (getD (v k) (firstSlot (s .capacity) g + i) 0 ≤ high)
   unfolding rangeBetween
   records-tell k low high c l e g i h j =
-      stretch-tells s v long k (firstSlot s g) (usedIn v g) low high (omega (arith, range-in s g z h, c .records-to g)) (each-tells (rangeBetween s v k low high) (s .ranges) e g h) i j
+      stretch-tells s v long k (firstSlot (s .capacity) g) (usedIn v g) low high (omega (arith, tail-in s z g h, c .records-to g)) (each-tells (rangeBetween s v k low high) (s .ranges) e g h) i j
 
   pub facts-tell : factsHold s v ps ≡ true → Usable s v ps
   unfolding factsHold countsWithin recordsNameRows rangeNamesRows rowNamed numbersGiven linksHold rowLinked rangeLinked recordLinked stampsWithin mergesWithin openDiffer pagesPlaced lineagesWithin currentLineage waitingLineage

@@ -2,11 +2,13 @@
 -- the view of a memory and the list of open scans. A call answers 2 where one of them fails, and on nothing else: they speak of given rows, used tail
 -- records, current and waiting pages and open places alone, and what stands elsewhere may be anything.
 -- What a word counts as that no fact governs: the place of a waiting page is taken modulo columns × ranges.
-use Prim.Native.Nat.{ℕ, zero, suc, _+_, _*_, _-_, _/_, _%_}
+use Prim.Native.Nat.{ℕ, zero, suc, _+_, _-_, _/_, _%_}
 use mathlib.Core.Bool.{Bool, true, _&&_, _||_}
 use mathlib.Core.List.{List, map}
 use lib.Dec.{eqb, leb, ltb}
 use lib.ListN.{getD}
+use Rattle.layout.specs.Regions.{firstSlot}
+use Rattle.layout.specs.Codes.{asCurrent, asWaiting}
 use Rattle.terms.specs.Measures.{rangeRows, mostNumbers, mostScans}
 use Rattle.terms.specs.declared.Place.{Place}
 use Rattle.loops.specs.Search.{region, allBetween}
@@ -15,12 +17,6 @@ use Rattle.layout.specs.declared.Region.{Region}
 use Rattle.layout.specs.declared.Region.the-variants.{Opens, RowTransaction, RowStamp, RowLink, TailTransaction, TailRow, TailLink, TailStamp, Used, Current, PageState, PagePlace, PageReplaced, PageLineage, PageNewest}
 use Rattle.layout.specs.View.{View, rowsGiven, transactionsGiven, scansGiven, lastStamp, mergesMade, usedIn}
 use Rattle.scans.specs.Places.{openCount, everyOpen, differ}
-
--- ---- tail records
-
--- where the first record of range g lies; record k, counted from 1, lies k - 1 after it
-abbrev pub firstSlot : Sizes → ℕ → ℕ
-firstSlot s g = g * s .capacity
 
 -- ---- for all
 
@@ -34,21 +30,17 @@ unfoldable pub rowsBetween : View → Region → ℕ → ℕ → Bool
 rowsBetween v k low high = allBetween low high (region (v k) 0 (rowsGiven v))
 
 unfoldable pub rangeBetween : Sizes → View → Region → ℕ → ℕ → ℕ → Bool
-rangeBetween s v k low high g = allBetween low high (region (v k) (firstSlot s g) (usedIn v g))
+rangeBetween s v k low high g = allBetween low high (region (v k) (firstSlot (s .capacity) g) (usedIn v g))
 
--- ---- current and waiting pages. A page is current if a place names it, and it waits if its state is 2 or more. Any other page is free, whatever its words say.
+-- ---- current and waiting pages. A page is current if a place names it, and it waits if its state is that of a waiting page or above. Any other page is free, whatever its words say.
 
 -- word k of the page that place i names is at most a number
 unfoldable pub currentAtMost : View → Region → ℕ → ℕ → Bool
 currentAtMost v k most i = leb (getD (v k) (getD (v Current) i 0) 0) most
 
--- the state from which on a page waits
-abbrev pub waiting : ℕ
-waiting = 2
-
 -- word k of page p is at most a number, if the page waits
 unfoldable pub waitingAtMost : View → Region → ℕ → ℕ → Bool
-waitingAtMost v k most p = ltb (getD (v PageState) p 0) waiting || leb (getD (v k) p 0) most
+waitingAtMost v k most p = ltb (getD (v PageState) p 0) asWaiting || leb (getD (v k) p 0) most
 
 -- ---- "the stored measures lie within their limits and counts within the measures"
 -- (the measures are tested before there is a view: Usable)
@@ -62,7 +54,7 @@ countsWithin s v ps = storedWithin s v && leb (openCount ps) mostScans
 
 -- ---- "a used tail record names a given row of its range"
 unfoldable pub rowNamed : Sizes → View → ℕ → ℕ → Bool
-rowNamed s v g i = let r = getD (v TailRow) (firstSlot s g + i) 0 in ltb r (rowsGiven v) && eqb (r / rangeRows) g
+rowNamed s v g i = let r = getD (v TailRow) (firstSlot (s .capacity) g + i) 0 in ltb r (rowsGiven v) && eqb (r / rangeRows) g
 
 unfoldable pub rangeNamesRows : Sizes → View → ℕ → Bool
 rangeNamesRows s v g = each (usedIn v g) (rowNamed s v g)
@@ -80,7 +72,7 @@ numbersGiven s v ps =
 -- ---- "a link of a row or tail record is 0 or a used record of the same row, and of a tail record a lower one"
 -- link of row r, in range g: at most the number `most`
 unfoldable pub linkHolds : Sizes → View → ℕ → ℕ → ℕ → ℕ → Bool
-linkHolds s v g most r link = eqb link 0 || (leb link most && eqb (getD (v TailRow) (firstSlot s g + (link - 1)) 0) r)
+linkHolds s v g most r link = eqb link 0 || (leb link most && eqb (getD (v TailRow) (firstSlot (s .capacity) g + (link - 1)) 0) r)
 
 unfoldable pub rowLinked : Sizes → View → ℕ → Bool
 rowLinked s v r = linkHolds s v (r / rangeRows) (usedIn v (r / rangeRows)) r (getD (v RowLink) r 0)
@@ -88,7 +80,7 @@ rowLinked s v r = linkHolds s v (r / rangeRows) (usedIn v (r / rangeRows)) r (ge
 -- the record after i others: lower numbers are those up to i
 unfoldable pub recordLinked : Sizes → View → ℕ → ℕ → Bool
 recordLinked s v g i =
-    linkHolds s v g i (getD (v TailRow) (firstSlot s g + i) 0) (getD (v TailLink) (firstSlot s g + i) 0)
+    linkHolds s v g i (getD (v TailRow) (firstSlot (s .capacity) g + i) 0) (getD (v TailLink) (firstSlot (s .capacity) g + i) 0)
 
 unfoldable pub rangeLinked : Sizes → View → ℕ → Bool
 rangeLinked s v g = each (usedIn v g) (recordLinked s v g)
@@ -118,7 +110,7 @@ openDiffer v ps = differ (v Opens) && differ (map (λ p. p .number) ps)
 -- Free pages are those that are neither named nor waiting.
 unfoldable pub pagePlaced : Sizes → View → ℕ → Bool
 pagePlaced s v i =
-    let p = getD (v Current) i 0 in ltb p (s .pages) && (eqb (getD (v PageState) p 0) 1 && eqb (getD (v PagePlace) p 0) i)
+    let p = getD (v Current) i 0 in ltb p (s .pages) && (eqb (getD (v PageState) p 0) asCurrent && eqb (getD (v PagePlace) p 0) i)
 
 unfoldable pub pagesPlaced : Sizes → View → Bool
 pagesPlaced s v = each (s .places) (pagePlaced s v)

@@ -14,8 +14,6 @@ use Rattle.words.specs.Words.{words}
 use Rattle.loops.specs.Search.{allBetween}
 use Rattle.layout.specs.Regions.{need}
 use Rattle.layout.specs.View.{View, view, rowsGiven, transactionsGiven, scansGiven, lastStamp, mergesMade, usedIn}
-use Rattle.facts.specs.declared.Checked.{Checked}
-use Rattle.facts.specs.declared.Checked.the-variants.{Fit, Unfit}
 use Rattle.facts.specs.Usable.{storedShape, storedSizes}
 use Rattle.scans.specs.Places.{everyOpen, differ}
 use Rattle.facts.specs.Facts.{storedWithin, linksHold, pagesPlaced, each, rowLinked, rowsBetween, rangeBetween, rangeNamesRows, rangeLinked, pagePlaced, currentAtMost, currentLineage, waitingAtMost, waitingLineage}
@@ -39,10 +37,6 @@ pub record Passed (s : Sizes) (m : List ℕ) : Type 0 where
   pub within : withinLimits (storedShape (words m)) ≡ true
   pub room : need s * 4 ≤ length m
   pub facts : MemoryFacts s (view s (words m))
-
-abbrev pub Safe : Checked → List ℕ → Type 0
-Safe (Fit s) m = Passed s m
-Safe Unfit m = Unit {0}
 
 -- ---- the facts by what they speak of
 

@@ -2,7 +2,7 @@
 -- under 16 places, or a stored fact fails". The shape is read from the memory, so its measures are tested before anything is computed from them, and a
 -- memory that is too short to hold them is too short.
 use Prim.Native.Nat.{ℕ, _*_}
-use mathlib.Core.Bool.{Bool, cond, _&&_}
+use mathlib.Core.Bool.{Bool, _&&_}
 use mathlib.Core.List.{List}
 use lib.Dec.{leb}
 use lib.ListN.{length, getD}
@@ -14,8 +14,6 @@ use Rattle.layout.specs.Regions.{need, columnsAt, rangesAt, capacityAt, sparesA
 use Rattle.layout.specs.Sizes.{shapeOf, sizesOf}
 use Rattle.layout.specs.View.{view}
 use Rattle.facts.specs.Facts.{factsHold}
-use Rattle.facts.specs.declared.Checked.{Checked}
-use Rattle.facts.specs.declared.Checked.the-variants.{Fit, Unfit}
 
 -- the bytes of the four measures
 abbrev pub measuresBytes : ℕ
@@ -33,6 +31,3 @@ usable m ps =
     && (withinLimits (storedShape (words m))
     && (leb (need (storedSizes (words m)) * 4) (length m)
     && (leb mostScans (length ps) && factsHold (storedSizes (words m)) (view (storedSizes (words m)) (words m)) ps)))
-
-unfoldable pub checked : List ℕ → List Place → Checked
-checked m ps = cond (usable m ps) (Fit (storedSizes (words m))) Unfit

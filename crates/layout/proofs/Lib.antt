@@ -3,3 +3,5 @@ pub mod Cut
 pub mod View
 pub mod Lay
 pub mod Limits
+pub mod Renewed
+pub mod Indices

@@ -1,15 +1,15 @@
 -- What the limits of a shape say of its sizes: the words needed fit every sum of the code, and the bytes needed are within document 01's bound.
-use Prim.Native.Nat.{ℕ, _+_, _*_, _^_, _≤_, _<_}
+use Prim.Native.Nat.{ℕ, _+_, _*_, _≤_, _<_}
 use mathlib.Core.Path.{_≡_, refl, sym, _∙_}
 use mathlib.Core.Bool.{true, false, cond}
 use native.Mathlib.Omega.{arith}
 use native.Mathlib.Nat.{mul-le-mul, add-mul, mul-assoc, mul-comm}
-use Rattle.terms.specs.Measures.{Shape, withinLimits, mostColumns, mostRanges, mostRecords, mostSpares}
+use Rattle.terms.specs.Measures.{Shape, withinLimits, mostColumns, mostRanges, mostRecords, mostSpares, mostPlaces}
 use Rattle.terms.specs.declared.Answer.{Answer}
 use Rattle.terms.specs.declared.Refusal.{Refusal}
 use Rattle.loops.proofs.Search.{and-true, between-tells}
 use Rattle.layout.specs.Regions.{need}
-use Rattle.layout.specs.Sizes.{Proper, sizesOf, bytesNeeded, bytesAllowed, bytesAnswer, BytesTold}
+use Rattle.layout.specs.Sizes.{Proper, sizesOf, bytesNeeded, bytesAllowed, bytesAnswer, BytesTold, tooManyWords}
 
 pub proper : (p : Shape) → withinLimits p ≡ true → Proper (sizesOf p)
 unfolding withinLimits
@@ -20,7 +20,7 @@ proper p e =
     let q = between-tells 1 mostColumns (p .columns) (a .0) in
     let r = between-tells 1 mostRanges (p .ranges) (b .0) in
     let x = between-tells 0 mostSpares (p .spares) (c .1) in
-    let d : p .columns * p .ranges ≤ 16 * 16 = mul-le-mul (q .1) (r .1) in
+    let d : p .columns * p .ranges ≤ mostPlaces = mul-le-mul (q .1) (r .1) in
     record {
       rows-are = refl;
       slots-are = refl;
@@ -36,13 +36,13 @@ proper p e =
       pages-to = omega (arith, x .1);
     }
 
-pub need-small : (p : Shape) → withinLimits p ≡ true → need (sizesOf p) < 2 ^ 24
+pub need-small : (p : Shape) → withinLimits p ≡ true → need (sizesOf p) < tooManyWords
 unfolding need
 need-small p e =
     let l = proper p e in
-    let a : p .ranges * p .capacity ≤ 16 * 512 = mul-le-mul (l .ranges-to) (l .capacity-to) in
-    let b : p .ranges * p .capacity * p .columns ≤ 16 * 512 * 16 = mul-le-mul a (l .columns-to) in
-    let d : p .columns * p .ranges ≤ 16 * 16 = mul-le-mul (l .columns-to) (l .ranges-to) in
+    let a : p .ranges * p .capacity ≤ mostRanges * mostRecords = mul-le-mul (l .ranges-to) (l .capacity-to) in
+    let b : p .ranges * p .capacity * p .columns ≤ mostRanges * mostRecords * mostColumns = mul-le-mul a (l .columns-to) in
+    let d : p .columns * p .ranges ≤ mostPlaces = mul-le-mul (l .columns-to) (l .ranges-to) in
     omega arith
 
 -- document 01, "Measures": at most 4,096 bytes, and 320 for each page, 64 for each row, 64 + 4 columns for each tail record

@@ -1,9 +1,9 @@
 -- The table of regions: the number, the length and the order of each, and what follows of it: where each starts, and the words needed.
 -- A new region is a line at the end of each of `index`, `lens` and `all`, a case of the code's `Region` and a line of its `start` and `words_needed` (src/lib.rt).
-use Prim.Native.Nat.{ℕ, _*_}
+use Prim.Native.Nat.{ℕ, _+_, _*_, _-_}
 use mathlib.Core.List.{List, [], _∷_}
 use lib.ListN.{getD}
-use Rattle.terms.specs.Measures.{rangeRows, mostTransactions}
+use Rattle.terms.specs.Measures.{Shape, rangeRows, mostTransactions}
 use Rattle.layout.specs.declared.Sizes.{Sizes}
 use Rattle.layout.specs.declared.Region.{Region}
 use Rattle.layout.specs.Cut.{startFrom, endFrom}
@@ -75,6 +75,15 @@ base s k = startFrom 0 (lens s) (index k)
 -- the words that all the regions take
 unfoldable pub need : Sizes → ℕ
 need s = endFrom 0 (lens s)
+
+-- ---- the words of a tail record
+-- where the first record of range g lies, with room for so many records in each range
+abbrev pub firstSlot : ℕ → ℕ → ℕ
+firstSlot capacity g = g * capacity
+
+-- A tail record is reached through `slot` alone: k counts from 1 in its range.
+unfoldable pub slot : Shape → ℕ → ℕ → ℕ
+slot S g k = firstSlot (S .capacity) g + (k - 1)
 
 -- ---- the words of the header
 

@@ -1,8 +1,8 @@
 -- The sizes that a shape makes, and the bytes that it needs.
-use Prim.Native.Nat.{ℕ, _+_, _*_, _≤_}
+use Prim.Native.Nat.{ℕ, _+_, _*_, _^_, _≤_}
 use mathlib.Core.Path.{_≡_}
 use mathlib.Core.Bool.{cond}
-use Rattle.terms.specs.Measures.{Shape, rangeRows, mostColumns, mostRanges, mostRecords, mostSpares, withinLimits}
+use Rattle.terms.specs.Measures.{Shape, rangeRows, mostColumns, mostRanges, mostRecords, mostSpares, withinLimits, mostPages}
 use Rattle.terms.specs.declared.Answer.{Answer}
 use Rattle.terms.specs.declared.Refusal.{Refusal}
 use Rattle.layout.specs.declared.Sizes.{Sizes}
@@ -38,7 +38,11 @@ pub record Proper (s : Sizes) : Type 0 where
   pub ranges-to : s .ranges ≤ mostRanges
   pub capacity-to : s .capacity ≤ mostRecords
   pub spares-to : s .spares ≤ mostSpares
-  pub pages-to : s .pages ≤ 512
+  pub pages-to : s .pages ≤ mostPages
+
+-- more words than a shape within the limits needs, and few enough that their bytes can be counted in one word
+abbrev pub tooManyWords : ℕ
+tooManyWords = 2 ^ 24
 
 unfoldable pub bytesNeeded : Shape → ℕ
 bytesNeeded p = need (sizesOf p) * 4

@@ -5,7 +5,7 @@ use mathlib.Core.Path.{_≡_}
 use mathlib.Core.Bool.{cond}
 use mathlib.Core.List.{List, map, _++_}
 use lib.Dec.{eqb}
-use lib.ListN.{length, getD, set, drop}
+use lib.ListN.{length, getD, set, drop, replicate}
 use Rattle.words.specs.Words.{Fit, bytes}
 use Rattle.loops.specs.Search.{region}
 use Rattle.loops.specs.Change.{filled, numbered, copied, marked}
@@ -20,6 +20,10 @@ View = Region → List ℕ
 
 unfoldable pub view : Sizes → List ℕ → View
 view s ws k = region ws (base s k) (len s k)
+
+-- every word 0
+unfoldable pub blank : Sizes → View
+blank s k = replicate (len s k) 0
 
 -- another list for region k
 unfoldable pub renew : Region → List ℕ → View → View

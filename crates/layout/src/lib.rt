@@ -1,12 +1,20 @@
 // The store's memory: where each field of a shape lies among the words, and how many bytes a shape needs.
 // Each field is a region of words, one after the other; what a call writes is said of the view, one list of words for each region.
+pub mod codes;
+
 use loops::and_between;
 use terms::Answer;
 use terms::Refusal;
+use terms::limits::MOST_COLUMNS;
+use terms::limits::MOST_RANGES;
+use terms::limits::MOST_RECORDS;
+use terms::limits::MOST_SPARES;
+use terms::limits::MOST_TRANSACTIONS;
+use terms::limits::RANGE_ROWS;
 ghost use mathlib.Core.Path.{_≡_};
 ghost use mathlib.Core.Bool.{true};
 ghost use Prim.Native.Nat.{_+_, _*_, _^_, _≤_, _<_};
-ghost use Rattle.terms.specs.Measures.{withinLimits};
+ghost use Rattle.terms.specs.Measures.{withinLimits, mostRanges, mostRecords};
 ghost use Rattle.layout.specs.Cut.{startFrom, endFrom};
 ghost use Rattle.layout.specs.Regions.{index, lens, base, need};
 ghost use Rattle.layout.specs.Sizes.{shapeOf, sizesOf, BytesTold};
@@ -37,7 +45,7 @@ pub enum Region {
     Used,
     // the current page of each range and column, at range * columns + column
     Current,
-    // 0 a free page, 1 a current one, else one that waits
+    // whether a page is free, current or waiting; codes.rt has the numbers
     PageState,
     // range * columns + column of a page
     PagePlace,
@@ -46,7 +54,7 @@ pub enum Region {
     PageReplaced,
     PageLineage,
     PageNewest,
-    // 64 words for each page
+    // RANGE_ROWS words for each page
     Cells,
     // how many changes each open transaction has made, place by place as in Opens
     Changes,
@@ -73,19 +81,6 @@ pub const HEADER_STAMP: usize = 7;
 
 pub const HEADER_MERGES: usize = 8;
 
-// The limits of a shape.
-pub const MOST_COLUMNS: u32 = 16;
-
-pub const MOST_RANGES: u32 = 16;
-
-pub const MOST_RECORDS: u32 = 512;
-
-pub const MOST_SPARES: u32 = 256;
-
-pub const RANGE_ROWS: usize = 64;
-
-pub const MOST_TRANSACTIONS: usize = 8;
-
 // Where the rows' regions begin, in every shape.
 const ROWS_FROM: usize = HEADER_WORDS + MOST_TRANSACTIONS;
 
@@ -104,8 +99,8 @@ pub struct Sizes {
 
 // A product, with a bound that is linear in one factor.
 fn times(a: usize, b: usize) -> usize
-    requires { ⌜ (a < 4294967296) × (b < 65536) ⌝ }
-    ensures { λ r. ⌜ (r ≡ a * b) × (r ≤ 65535 * a) ⌝ }
+    requires { ⌜ (a ≤ mostRanges * mostRecords) × (b ≤ mostRecords) ⌝ }
+    ensures { λ r. ⌜ (r ≡ a * b) × (r ≤ mostRecords * a) ⌝ }
 {
     a * b
 }
@@ -114,7 +109,7 @@ fn times(a: usize, b: usize) -> usize
 pub fn within_limits(columns: u32, ranges: u32, capacity: u32, spares: u32) -> bool
     ensures { λ r. ⌜ r ≡ withinLimits (shapeOf columns ranges capacity spares) ⌝ }
 {
-    let c = and_between(true, 1, MOST_COLUMNS, columns);
+    let c = and_between(true, 1, MOST_COLUMNS as u32, columns);
     let r = and_between(c, 1, MOST_RANGES, ranges);
     let t = and_between(r, 1, MOST_RECORDS, capacity);
     and_between(t, 0, MOST_SPARES, spares)
@@ -199,7 +194,7 @@ fn start(s: Sizes, k: Region) -> usize
         Region::PageLineage => page_lineage,
         Region::PageNewest => page_newest,
         Region::Cells => cells,
-        Region::Changes => cells + pages * 64,
+        Region::Changes => cells + pages * RANGE_ROWS,
     }
 }
 

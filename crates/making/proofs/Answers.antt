@@ -5,13 +5,14 @@ use mathlib.Core.Bool.{true, false}
 use mathlib.Core.List.{List}
 use lib.ListN.{length}
 use borrow.Author.Tests.{le-leb, lt-leb}
+use Rattle.model.specs.Writing.{made as madeView}
 use Rattle.terms.specs.Measures.{Shape, withinLimits, mostScans}
 use Rattle.terms.specs.declared.Answer.{Answer}
 use Rattle.terms.specs.declared.Refusal.{Refusal}
 use Rattle.layout.specs.Regions.{need}
 use Rattle.layout.specs.Sizes.{sizesOf, bytesNeeded}
 use Rattle.layout.specs.View.{lay}
-use Rattle.making.specs.Made.{madeView, made}
+use Rattle.making.specs.Made.{made}
 
 module _ (p : Shape) (places : ℕ) (m : List ℕ) where
   pub out-of-limits : withinLimits p ≡ false → (Answer.Refused Refusal.Shape, m) ≡ made p places m

@@ -10,16 +10,15 @@ use Rattle.loops.specs.Change.{filled}
 use Rattle.loops.proofs.Change.{changed-length, changed-at}
 use Rattle.layout.specs.declared.Sizes.{Sizes}
 use Rattle.layout.specs.Regions.{len, base, need}
-use Rattle.layout.specs.View.{view}
+use Rattle.layout.specs.View.{view, blank}
 use Rattle.layout.proofs.View.{view-long, view-at, in-need}
-use Rattle.making.specs.Made.{blankView}
 
 module _ (s : Sizes) (ws : List ℕ) (room : need s ≤ length ws) where
   zeroed : (j : ℕ) → j < need s → getD (filled 0 (need s) 0 ws) j 0 ≡ 0
   zeroed j h = rw (zero-add j) at (changed-at (λ i x. 0) 0 ws (need s) j (omega arith) h)
 
-  pub blank-filled : view s (filled 0 (need s) 0 ws) ≡ blankView s
-  unfolding blankView
+  pub blank-filled : view s (filled 0 (need s) 0 ws) ≡ blank s
+  unfolding blank
   blank-filled =
       fun-ext
       (λ k.

@@ -1,33 +1,26 @@
--- A store just made, and the answer of the call that makes one: document 01, "making one tests 1 and then both lengths", and looks at no content. The lent
--- scan list is made free place by place: `allFreed` of the scan list's definitions is what it becomes.
+-- The answer of the call that makes a store, and the memory and scan list that it leaves: document 01, "making one tests 1 and then both lengths", and looks at
+-- no content. What the view of a store just made holds is the model's `made`. The lent scan list is made free place by place: `allFreed` of the scan list's
+-- definitions is what it becomes.
 use Prim.Native.Nat.{ℕ}
 use mathlib.Core.Bool.{cond, _&&_}
 use mathlib.Core.List.{List}
 use lib.Dec.{leb}
-use lib.ListN.{length, replicate}
+use lib.ListN.{length}
+use Rattle.model.specs.Writing.{made as madeView}
+use Rattle.layout.specs.Codes.{asCurrent}
 use Rattle.terms.specs.Measures.{Shape, withinLimits, mostScans}
 use Rattle.terms.specs.declared.Answer.{Answer}
 use Rattle.terms.specs.declared.Place.{Place}
 use Rattle.terms.specs.declared.Refusal.{Refusal}
 use Rattle.layout.specs.declared.Sizes.{Sizes}
-use Rattle.layout.specs.declared.Region.the-variants.{Header, Current, PageState, PagePlace}
-use Rattle.layout.specs.Regions.{len, columnsAt, rangesAt, capacityAt, sparesAt}
+use Rattle.layout.specs.declared.Region.the-variants.{Current, PageState, PagePlace}
 use Rattle.layout.specs.Sizes.{sizesOf, bytesNeeded}
-use Rattle.layout.specs.View.{View, put, fill, number, lay}
+use Rattle.layout.specs.View.{View, fill, number, lay, blank}
 use Rattle.scans.specs.Places.{allFreed}
-
--- every word 0
-unfoldable pub blankView : Sizes → View
-blankView s k = replicate (len s k) 0
 
 -- the first page is current for the first place, the second for the second, and so on
 unfoldable pub placedView : Sizes → View
-placedView s = number Current 0 (s .places) (number PagePlace 0 (s .places) (fill PageState 0 (s .places) 1 (blankView s)))
-
-unfoldable pub madeView : Shape → View
-madeView p =
-    put Header columnsAt (p .columns)
-    (put Header rangesAt (p .ranges) (put Header capacityAt (p .capacity) (put Header sparesAt (p .spares) (placedView (sizesOf p)))))
+placedView s = number Current 0 (s .places) (number PagePlace 0 (s .places) (fill PageState 0 (s .places) asCurrent (blank s)))
 
 -- the answer for a scan list of so many places, and the memory afterwards
 unfoldable pub made : Shape → ℕ → List ℕ → Answer × List ℕ

@@ -6,6 +6,7 @@ use layout::HEADER_RANGES;
 use layout::HEADER_SPARES;
 use layout::Region;
 use layout::Sizes;
+use layout::codes::PAGE_CURRENT;
 use layout::sizes_of;
 use layout::within_limits;
 use layout::words_needed;
@@ -13,25 +14,25 @@ use loops::fill;
 use regions::count_in;
 use regions::fill_in;
 use regions::write;
-use scans::MOST_SCANS;
 use terms::Answer;
 use terms::Refusal;
+use terms::limits::MOST_SCANS;
 ghost use mathlib.Core.Path.{_≡_};
-ghost use Prim.Native.Nat.{_*_, _≤_, _<_, _^_};
+ghost use Prim.Native.Nat.{_*_, _≤_, _<_};
 ghost use lib.ListN.{length};
+ghost use Rattle.terms.specs.Measures.{mostPages};
+ghost use Rattle.model.specs.Writing.{made as madeView};
 ghost use Rattle.words.specs.Words.{words};
 ghost use Rattle.layout.specs.Regions.{need, columnsAt, rangesAt, capacityAt, sparesAt};
 ghost use Rattle.layout.specs.declared.Region.the-variants.{Header};
-ghost use Rattle.layout.specs.Sizes.{shapeOf, sizesOf};
-ghost use Rattle.layout.specs.View.{view, put};
-ghost use Rattle.making.specs.Made.{blankView, placedView, madeView, made};
-
-const PAGE_CURRENT: u32 = 1;
+ghost use Rattle.layout.specs.Sizes.{shapeOf, sizesOf, tooManyWords};
+ghost use Rattle.layout.specs.View.{view, put, blank};
+ghost use Rattle.making.specs.Made.{placedView, made};
 
 // Every word that the sizes need becomes 0.
 fn clear(mem: &mut [u8], s: Sizes)
-    requires { ⌜ (need s * 4 ≤ length (now mem)) × (need s < 2 ^ 24) ⌝ }
-    ensures { λ _. ⌜ view s (words (now (mem .exit))) ≡ blankView s ⌝ }
+    requires { ⌜ (need s * 4 ≤ length (now mem)) × (need s < tooManyWords) ⌝ }
+    ensures { λ _. ⌜ view s (words (now (mem .exit))) ≡ blank s ⌝ }
 {
     let n = words_needed(s);
     fill(mem, 0, n, 0);
@@ -39,8 +40,8 @@ fn clear(mem: &mut [u8], s: Sizes)
 
 // The first pages become current, one for each place.
 fn place_pages(mem: &mut [u8], s: Sizes)
-    requires { ⌜ (need s * 4 ≤ length (now mem)) × (s .places ≤ s .pages) × (s .pages < 2 ^ 24) ⌝ }
-    requires { ⌜ view s (words (now mem)) ≡ blankView s ⌝ }
+    requires { ⌜ (need s * 4 ≤ length (now mem)) × (s .places ≤ s .pages) × (s .pages ≤ mostPages) ⌝ }
+    requires { ⌜ view s (words (now mem)) ≡ blank s ⌝ }
     ensures { λ _. ⌜ view s (words (now (mem .exit))) ≡ placedView s ⌝ }
 {
     let n = s.places;
@@ -61,8 +62,8 @@ fn put_measures(mem: &mut [u8], s: Sizes, columns: u32, ranges: u32, capacity: u
 
 // The needed part of a memory, made.
 fn lay_out(mem: &mut [u8], s: Sizes, columns: u32, ranges: u32, capacity: u32, spares: u32)
-    requires { ⌜ (need s * 4 ≤ length (now mem)) × (need s < 2 ^ 24) ⌝ }
-    requires { ⌜ (s ≡ sizesOf (shapeOf columns ranges capacity spares)) × (s .places ≤ s .pages) × (s .pages < 2 ^ 24) ⌝ }
+    requires { ⌜ (need s * 4 ≤ length (now mem)) × (need s < tooManyWords) ⌝ }
+    requires { ⌜ (s ≡ sizesOf (shapeOf columns ranges capacity spares)) × (s .places ≤ s .pages) × (s .pages ≤ mostPages) ⌝ }
     ensures { λ _. ⌜ view s (words (now (mem .exit))) ≡ madeView (shapeOf columns ranges capacity spares) ⌝ }
 {
     clear(mem, s);

@@ -10,12 +10,14 @@ use lib.Dec.{ltb, leb}
 use lib.ListN.{length, getD, take, length-take, length-append, length-replicate}
 use lib.Seq.{take-suc}
 use borrow.Author.Tests.{lt-ltb, le-ltb, ltb-true, ltb-false, leb-true, leb-false}
+use Rattle.terms.specs.Measures.{mostScans}
 use Rattle.terms.specs.declared.Place.{Place}
 use Rattle.loops.proofs.Change.{changed-outside}
 use Rattle.layout.specs.declared.Sizes.{Sizes}
 use Rattle.layout.specs.declared.Region.{Region}
 use Rattle.layout.specs.View.{View, renew, put}
-use Rattle.model.specs.Stored.{pageIn, pagesOf, countBelow, asFree}
+use Rattle.model.specs.Stored.{pageIn, pagesOf, countBelow}
+use Rattle.layout.specs.Codes.{asFree}
 use Rattle.model.specs.Writing.{neededIn, releasable, releasedIn}
 use Rattle.scans.specs.declared.Scans.{Scans}
 use Rattle.scans.specs.Places.{openCount, someOpen}
@@ -23,7 +25,7 @@ use Rattle.scans.specs.Table.{tableOf, anyBelow}
 use Rattle.scans.proofs.Answers.{table-before}
 use Rattle.layout.specs.Sizes.{Proper}
 use Rattle.model.specs.Asked.{shapeIn}
-use Rattle.settling.proofs.Views.{change-none, change-next}
+use Rattle.layout.proofs.Renewed.{change-none, change-next}
 use Rattle.merging.specs.Steps.{leastOf, spare, sparesFreed}
 
 -- ---- the test of one page
@@ -131,7 +133,7 @@ unfolding tableOf
 table-room ps = simp (length-take, length-append, length-replicate) (omega arith)
 
 -- the least of a table's merges tells whether a scan needs what merge m replaced
-pub needed-least : (ps : List Place) (t : Scans) → t ≡ tableOf ps → openCount ps ≤ 16 → (m : ℕ) → m < 2 ^ 32
+pub needed-least : (ps : List Place) (t : Scans) → t ≡ tableOf ps → openCount ps ≤ mostScans → (m : ℕ) → m < 2 ^ 32
     → ltb (leastOf (t .merges) (t .count)) m ≡ neededIn ps m
 needed-least ps t e h m k =
     ap (λ (t : Scans). ltb (leastOf (t .merges) (t .count)) m) e

@@ -17,16 +17,17 @@ use Rattle.layout.specs.declared.Sizes.{Sizes}
 use Rattle.layout.specs.declared.Region.{Region}
 use Rattle.layout.specs.View.{View, renew, put, copy}
 use Rattle.terms.specs.Places.{place}
-use Rattle.model.specs.Stored.{slot, recordIn, valueIn, pageIn, currentIn, placesOf, pagesOf, within, freePage, firstFrom, nextWord}
+use Rattle.model.specs.Stored.{recordIn, valueIn, pageIn, currentIn, placesOf, pagesOf, within, freePage, firstFrom, nextWord}
+use Rattle.layout.specs.Regions.{mergesAt, slot}
 use Rattle.model.specs.Writing.{applies, applied, newestOf, namedIn, strayIn, freeIn, mergedIn}
 use Rattle.model.proofs.Free.{free-unnamed}
 use Rattle.history.proofs.Lists.{both, eqb-equal}
 use Rattle.rows.proofs.Indices.{place-in}
 use Rattle.layout.specs.Sizes.{Proper}
 use Rattle.model.specs.Asked.{shapeIn}
-use Rattle.settling.specs.Steps.{foundAt}
-use Rattle.settling.proofs.Places.{find-place}
-use Rattle.settling.proofs.Views.{renew-none, renew-again, put-renew}
+use Rattle.loops.specs.Search.{foundAt}
+use Rattle.loops.proofs.Places.{find-place}
+use Rattle.layout.proofs.Renewed.{renew-none, renew-again, put-renew}
 use Rattle.merging.specs.Steps.{appliedOne, laterOne, appliedAll, pagePut, pageReplaced, Mergeable}
 
 -- ---- the pass looks at no cell
@@ -88,7 +89,7 @@ pass-end S g c p low stamp v x r i n e q h m = let z : i ≡ n = omega arith in 
 -- ---- one record: it applies or not
 module _ (k c : ℕ) (v : View) where
   pub one-applied : (S : Shape) (p : ℕ) → applies c (recordIn v k) ≡ true
-      → appliedOne S k c p v ≡ put Region.Cells (p * 64 + getD (v Region.TailRow) k 0 % 64) (getD (v Region.TailValues) (k * S .columns + c) 0) v
+      → appliedOne S k c p v ≡ put Region.Cells (p * rangeRows + getD (v Region.TailRow) k 0 % rangeRows) (getD (v Region.TailValues) (k * S .columns + c) 0) v
   unfolding appliedOne recordIn valueIn
   one-applied S p e = rw e
 
@@ -111,26 +112,26 @@ copy-here : (S : Shape) (g c p low n : ℕ) (v : View) (l : List ℕ)
 unfolding renew
 copy-here S g c p low n v l = refl
 
-merged-cells : (S : Shape) (g c old p low n : ℕ) (v x : View) → x ≡ copy Region.Cells (old * 64) 64 (p * 64) v
-    → appliedAll S g c p low n x ≡ renew Region.Cells (applied S v g c p low n (copied (v Region.Cells) (old * 64) 64 (p * 64) (v Region.Cells))) v
+merged-cells : (S : Shape) (g c old p low n : ℕ) (v x : View) → x ≡ copy Region.Cells (old * rangeRows) rangeRows (p * rangeRows) v
+    → appliedAll S g c p low n x ≡ renew Region.Cells (applied S v g c p low n (copied (v Region.Cells) (old * rangeRows) rangeRows (p * rangeRows) (v Region.Cells))) v
 unfolding appliedAll copy
 merged-cells S g c old p low n v x e =
-    let l : List ℕ = copied (v Region.Cells) (old * 64) 64 (p * 64) (v Region.Cells) in
+    let l : List ℕ = copied (v Region.Cells) (old * rangeRows) rangeRows (p * rangeRows) (v Region.Cells) in
     rw e
     (ap (λ (y : List ℕ). renew Region.Cells y (renew Region.Cells l v)) (applied-blind S v l g c p low n (renew Region.Cells l v Region.Cells))
     ∙ renew-again Region.Cells l (applied S v g c p low n (renew Region.Cells l v Region.Cells)) v
     ∙ copy-here S g c p low n v l)
 
-merged-newest : (S : Shape) (g c old p low n stamp : ℕ) (v x : View) → x ≡ copy Region.Cells (old * 64) 64 (p * 64) v
+merged-newest : (S : Shape) (g c old p low n stamp : ℕ) (v x : View) → x ≡ copy Region.Cells (old * rangeRows) rangeRows (p * rangeRows) v
     → newestOf S x g c low n stamp ≡ newestOf S v g c low n stamp
 unfolding copy
 merged-newest S g c old p low n stamp v x e = rw e (newest-blind S v _ g c low n stamp)
 
 -- two pages that are not one do not overlap
-pub apart : (a b : ℕ) → (a ≡ b → ⊥) → (a * 64 + 64 ≤ b * 64) ⊎ (b * 64 + 64 ≤ a * 64)
+pub apart : (a b : ℕ) → (a ≡ b → ⊥) → (a * rangeRows + rangeRows ≤ b * rangeRows) ⊎ (b * rangeRows + rangeRows ≤ a * rangeRows)
 apart a b d = go (ltb a b) refl
   where
-    go : (t : Bool) → ltb a b ≡ t → (a * 64 + 64 ≤ b * 64) ⊎ (b * 64 + 64 ≤ a * 64)
+    go : (t : Bool) → ltb a b ≡ t → (a * rangeRows + rangeRows ≤ b * rangeRows) ⊎ (b * rangeRows + rangeRows ≤ a * rangeRows)
     go true e = let h : a < b = ltb-true a b e in inl (omega arith)
     go false e = let h : b ≤ a = ltb-false a b e in let k : b < a = omega (arith, d) in inr (omega arith)
 
@@ -214,8 +215,8 @@ module _ (S : Shape) (v : View) (p state : ℕ) (e : state ≡ getD (v Region.Pa
 
 -- ---- the whole merge, as the code has it: a copy of page `old` takes the records after `low`, and is put in its place
 pub merged-is : (S : Shape) (g c n p old low newest m latest : ℕ) (v x y z w : View) → p ≡ freeIn S v → old ≡ getD (v Region.Current) (g * S .columns + c) 0
-    → low ≡ getD (v Region.PageLineage) old 0 → newest ≡ getD (v Region.PageNewest) old 0 → m ≡ nextWord (getD (v Region.Header) 8 0)
-    → x ≡ copy Region.Cells (old * 64) 64 (p * 64) v → latest ≡ newestOf S x g c low (n - low) newest → y ≡ appliedAll S g c p low (n - low) x
+    → low ≡ getD (v Region.PageLineage) old 0 → newest ≡ getD (v Region.PageNewest) old 0 → m ≡ nextWord (getD (v Region.Header) mergesAt 0)
+    → x ≡ copy Region.Cells (old * rangeRows) rangeRows (p * rangeRows) v → latest ≡ newestOf S x g c low (n - low) newest → y ≡ appliedAll S g c p low (n - low) x
     → z ≡ pagePut p (g * S .columns + c) m n latest y → w ≡ pageReplaced old p (g * S .columns + c) m z → w ≡ mergedIn S g c n v
 unfolding mergedIn pageReplaced pagePut pageIn currentIn
 merged-is S g c n p old low newest m latest v x y z w e f h k l q r t u s =

@@ -11,7 +11,8 @@ use Rattle.layout.specs.declared.Sizes.{Sizes}
 use Rattle.layout.specs.declared.Region.{Region}
 use Rattle.layout.specs.View.{View, renew, put}
 use Rattle.layout.specs.Regions.{mergesAt}
-use Rattle.model.specs.Stored.{recordIn, pageIn, valueIn, currentIn, within, asFree, asCurrent, asWaiting, waitingPage}
+use Rattle.model.specs.Stored.{recordIn, pageIn, valueIn, currentIn, within, waitingPage}
+use Rattle.layout.specs.Codes.{asFree, asCurrent, asWaiting}
 use Rattle.model.specs.Writing.{applies, applied, freeIn}
 use Rattle.model.specs.Asked.{shapeIn, Placed}
 

@@ -1,11 +1,14 @@
 // What merge and release write, over the lent bytes. Nothing here tests whether a call may be carried out: a call has done that before, and hands on what
 // its tests have shown. Each contract cites the model's definition of the memory that is left.
 use layout::HEADER_MERGES;
-use layout::RANGE_ROWS;
 use layout::Region;
 use layout::Sizes;
+use layout::codes::COMMITTED;
+use layout::codes::PAGE_CURRENT;
+use layout::codes::PAGE_FREE;
+use layout::codes::PAGE_WAITING;
+use layout::codes::SETTING;
 use loops::Found;
-use pending::next_word;
 use regions::copy_in;
 use regions::find_in;
 use regions::read;
@@ -16,35 +19,30 @@ use terms::Place;
 use terms::Row;
 use terms::Stamp;
 use terms::Tail;
+use terms::limits::MOST_SCANS;
+use terms::limits::RANGE_ROWS;
+use transactions::pending::next_word;
 ghost use mathlib.Core.Path.{_≡_};
 ghost use mathlib.Core.Bool.{_&&_, not, cond};
 ghost use mathlib.Core.List.{List};
 ghost use Prim.Native.Nat.{_+_, _*_, _≤_, _<_};
 ghost use lib.Dec.{ltb};
 ghost use lib.ListN.{length, getD};
+ghost use Rattle.layout.specs.Codes.{asFree};
+ghost use Rattle.terms.specs.Measures.{mostScans};
 ghost use Rattle.words.specs.Words.{words};
 ghost use Rattle.layout.specs.declared.Region.{Region};
 ghost use Rattle.terms.specs.declared.Place.{Place};
 ghost use Rattle.layout.specs.Regions.{need};
 ghost use Rattle.layout.specs.View.{view, put};
-ghost use Rattle.model.specs.Stored.{recordIn, pagesOf, countBelow, firstFrom};
+ghost use Rattle.model.specs.Stored.{recordIn, pagesOf, countBelow, firstFrom, waitingPage};
 ghost use Rattle.model.specs.Writing.{applies, newestOf, strayIn, freeIn, mergedIn, releasable, releasedIn};
 ghost use Rattle.scans.specs.Places.{openCount};
 ghost use Rattle.scans.specs.Table.{tableOf};
 ghost use Rattle.layout.specs.Sizes.{Proper};
 ghost use Rattle.model.specs.Asked.{shapeIn, Pooled};
-ghost use Rattle.settling.specs.Steps.{foundAt};
+ghost use Rattle.loops.specs.Search.{foundAt};
 ghost use Rattle.merging.specs.Steps.{appliedOne, laterOne, appliedAll, pagePut, pageReplaced, Mergeable, leastOf, spare, sparesFreed};
-
-// The states of a page, as stored. A free page has the state 0.
-const CURRENT: u32 = 1;
-
-const WAITING: u32 = 2;
-
-// The kind of a setting and the state of what is committed, as stored.
-const SETTING: u32 = 1;
-
-const COMMITTED: u32 = 1;
 
 // ---- merge
 
@@ -54,7 +52,7 @@ fn is_stray(mem: &[u8], s: Sizes, p: usize) -> bool
     requires { ⌜ Proper s × (p < s .pages) ⌝ }
     ensures { λ r. ⌜ r ≡ strayIn (shapeIn s) (view s (words (now (mem .entry)))) p ⌝ }
 {
-    if read(mem, s, Region::PageState, p) != CURRENT {
+    if read(mem, s, Region::PageState, p) != PAGE_CURRENT {
         return false;
     }
     let place = read(mem, s, Region::PagePlace, p) as usize;
@@ -87,7 +85,7 @@ pub fn free_page(mem: &[u8], s: Sizes) -> Found
     requires { ⌜ Proper s ⌝ }
     ensures { λ r. ⌜ r ≡ foundAt (s .pages) (freeIn (shapeIn s) (view s (words (now (mem .entry))))) ⌝ }
 {
-    let Found::At(page) = find_in(mem, s, Region::PageState, 0, s.pages, 0) else {
+    let Found::At(page) = find_in(mem, s, Region::PageState, 0, s.pages, PAGE_FREE) else {
         return stray_page(mem, s);
     };
     Found::At(page)
@@ -170,7 +168,7 @@ fn put_page(mem: &mut [u8], s: Sizes, page: usize, place: u32, m: u32, lineage: 
     requires { ⌜ page < s .pages ⌝ }
     ensures { λ _. ⌜ view s (words (now (mem .exit))) ≡ pagePut page place m (lineage .0) (newest .0) (view s (words (now (mem .entry)))) ⌝ }
 {
-    write(mem, s, Region::PageState, page, CURRENT);
+    write(mem, s, Region::PageState, page, PAGE_CURRENT);
     write(mem, s, Region::PagePlace, page, place);
     write(mem, s, Region::PageMade, page, m);
     write(mem, s, Region::PageLineage, page, lineage.0);
@@ -183,7 +181,7 @@ fn replace_page(mem: &mut [u8], s: Sizes, old: usize, page: u32, place: usize, m
     requires { ⌜ (old < s .pages) × (place < s .places) ⌝ }
     ensures { λ _. ⌜ view s (words (now (mem .exit))) ≡ pageReplaced old page place m (view s (words (now (mem .entry)))) ⌝ }
 {
-    write(mem, s, Region::PageState, old, WAITING);
+    write(mem, s, Region::PageState, old, PAGE_WAITING);
     write(mem, s, Region::PageReplaced, old, m);
     write(mem, s, Region::Current, place, page);
     write(mem, s, Region::Header, HEADER_MERGES, m);
@@ -212,8 +210,8 @@ pub fn merge(mem: &mut [u8], s: Sizes, g: usize, c: usize, n: Tail, page: usize)
 // ---- release
 
 // The least of the first n entries, or the highest word where there is none.
-fn least(entries: [u32; 16], n: usize) -> u32
-    requires { ⌜ n ≤ 16 ⌝ }
+fn least(entries: [u32; MOST_SCANS], n: usize) -> u32
+    requires { ⌜ n ≤ mostScans ⌝ }
     ensures { λ r. ⌜ r ≡ leastOf entries n ⌝ }
 {
     let mut r = 0xffff_ffff;
@@ -234,16 +232,20 @@ fn lesser(a: u32, b: u32) -> u32
 
 // Whether a page waits that no scan needs.
 fn is_spare(state: u32, replaced: u32, least: u32) -> bool
-    ensures { λ r. ⌜ r ≡ (ltb 1 state && not (ltb least replaced)) ⌝ }
+    ensures { λ r. ⌜ r ≡ (waitingPage state && not (ltb least replaced)) ⌝ }
 {
-    if state > 1 { replaced <= least } else { false }
+    if state > PAGE_CURRENT {
+        replaced <= least
+    } else {
+        false
+    }
 }
 
 // The state of a page that is freed or not.
 fn state_after(freed: bool, state: u32) -> u32
-    ensures { λ r. ⌜ r ≡ cond freed 0 state ⌝ }
+    ensures { λ r. ⌜ r ≡ cond freed asFree state ⌝ }
 {
-    if freed { 0 } else { state }
+    if freed { PAGE_FREE } else { state }
 }
 
 // One more where a page is freed.
@@ -258,7 +260,7 @@ fn count_after(freed: bool, n: u32) -> u32
 fn free_one(mem: &mut [u8], s: Sizes, least: u32, p: usize, n: u32) -> u32
     requires { ⌜ need s * 4 ≤ length (now mem) ⌝ }
     requires { ⌜ (p < s .pages) × (n < 4294967295) ⌝ }
-    ensures { λ r. ⌜ (r ≡ cond (spare least (view s (words (now (mem .entry)))) p) (n + 1) n) × (view s (words (now (mem .exit))) ≡ put Region.PageState p (cond (spare least (view s (words (now (mem .entry)))) p) 0 (getD (view s (words (now (mem .entry))) Region.PageState) p 0)) (view s (words (now (mem .entry))))) ⌝ }
+    ensures { λ r. ⌜ (r ≡ cond (spare least (view s (words (now (mem .entry)))) p) (n + 1) n) × (view s (words (now (mem .exit))) ≡ put Region.PageState p (cond (spare least (view s (words (now (mem .entry)))) p) asFree (getD (view s (words (now (mem .entry))) Region.PageState) p 0)) (view s (words (now (mem .entry))))) ⌝ }
 {
     let state = read(mem, s, Region::PageState, p);
     let freed = is_spare(state, read(mem, s, Region::PageReplaced, p), least);
@@ -286,8 +288,8 @@ fn free_pages(mem: &mut [u8], s: Sizes, least: u32) -> u32
 // scan list.
 pub fn release(mem: &mut [u8], s: Sizes, scans: Scans) -> u32
     requires { ⌜ need s * 4 ≤ length (now mem) ⌝ }
-    requires { ⌜ Proper s × (scans .count ≤ 16) ⌝ }
-    ensures { λ r. ⌜ ((ps : List Place) → scans ≡ tableOf ps → openCount ps ≤ 16 → (r ≡ countBelow (releasable ps (view s (words (now (mem .entry))))) (pagesOf (shapeIn s))) × (view s (words (now (mem .exit))) ≡ releasedIn (shapeIn s) ps (view s (words (now (mem .entry)))))) ⌝ }
+    requires { ⌜ Proper s × (scans .count ≤ mostScans) ⌝ }
+    ensures { λ r. ⌜ ((ps : List Place) → scans ≡ tableOf ps → openCount ps ≤ mostScans → (r ≡ countBelow (releasable ps (view s (words (now (mem .entry))))) (pagesOf (shapeIn s))) × (view s (words (now (mem .exit))) ≡ releasedIn (shapeIn s) ps (view s (words (now (mem .entry)))))) ⌝ }
 {
     let entries = scans.merges;
     let n = scans.count;

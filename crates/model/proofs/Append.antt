@@ -17,11 +17,12 @@ use Rattle.history.proofs.Links.{last-of-append}
 use Rattle.history.specs.Records.{noRecord, lastOf}
 use Rattle.loops.proofs.Change.{changed-length, changed-outside, changed-at, changed-fit}
 use Rattle.layout.specs.View.{View, renew, put, usedIn}
-use Rattle.layout.specs.Regions.{len}
+use Rattle.layout.specs.Regions.{len, slot}
 use Rattle.layout.specs.Sizes.{sizesOf}
 use Rattle.layout.specs.declared.Region.{Region}
 use Rattle.layout.specs.declared.Region.the-variants.{RowLink, TailTransaction, TailRow, TailKind, TailMask, TailLink, TailState, TailStamp, TailValues, Used}
-use Rattle.model.specs.Stored.{RecordWords, rowIn, recordIn, valueIn, slot, asOpen}
+use Rattle.model.specs.Stored.{RecordWords, rowIn, recordIn, valueIn}
+use Rattle.layout.specs.Codes.{asOpen}
 use Rattle.model.specs.Writing.{nextSlot, appended, filledIn}
 use Rattle.model.proofs.Lists.{part-in, same-part}
 use Rattle.model.specs.Represents.{ContentIs, RecordIs, TailIs, TailsFor, Whole}

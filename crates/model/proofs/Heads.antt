@@ -22,8 +22,9 @@ use Rattle.layout.specs.View.{View}
 use Rattle.layout.specs.declared.Region.the-variants.{Opens}
 use Rattle.terms.specs.declared.Place.{Place}
 use Rattle.model.specs.declared.Reader.{Reader}
-use Rattle.model.specs.Stored.{RecordWords, rowIn, recordIn, slot, committedState, deleteKind, anyBelow}
+use Rattle.model.specs.Stored.{RecordWords, rowIn, recordIn, committedState, deleteKind, anyBelow}
 use Rattle.model.specs.Reading.{reader, sees, seesRecord, headIn, hasRecord, visibleIn}
+use Rattle.layout.specs.Regions.{slot}
 use Rattle.model.specs.Calls.{openOther, standsFor, anyRecord, heldIn, goneIn}
 use Rattle.model.proofs.Lists.{any-below}
 use Rattle.model.proofs.Transactions.{opens-is}

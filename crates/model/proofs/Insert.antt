@@ -31,7 +31,8 @@ use Rattle.layout.specs.declared.Region.the-variants.{Header, Opens, RowTransac
 use Rattle.terms.specs.declared.Place.{Place}
 use Rattle.terms.specs.Places.{bears, place}
 use Rattle.layout.specs.Regions.{rowsAt}
-use Rattle.model.specs.Stored.{rowIn, recordIn, valueIn, pageIn, cellIn, currentIn, placeOf, within, openPlace, nextWord, asOpen}
+use Rattle.model.specs.Stored.{rowIn, recordIn, valueIn, pageIn, cellIn, currentIn, placeOf, within, openPlace, nextWord}
+use Rattle.layout.specs.Codes.{asOpen}
 use Rattle.model.specs.Reading.{scanPage, wasCurrent}
 use Rattle.model.specs.Writing.{noted, putCells, insertedAt, insertedIn}
 use Rattle.model.proofs.Lists.{same-part}

@@ -11,7 +11,7 @@ use lib.Dec.{T, leb, eqb, leb→le}
 use lib.ListN.{length, getD, replicate, length-replicate}
 use mir.Syntax.{w32}
 use mir.Val.{toZ}
-use Rattle.terms.specs.Measures.{Shape, rangeRows, mostScans, mostColumns, mostRanges, mostRecords, mostSpares, between, withinLimits}
+use Rattle.terms.specs.Measures.{Shape, rangeRows, mostScans, mostColumns, mostRanges, mostRecords, mostSpares, between, withinLimits, mostTransactions, mostPlaces}
 use Rattle.history.specs.History.{Call, History, start, answers, next, count, rowAt, insertedValue, inserted, lastSetting, recordsOf, lastThrough, mergedThrough, scanAt, cellThrough}
 use Rattle.history.specs.Lists.{All, nil, cons}
 use Rattle.history.proofs.Lists.{by-cases, parts}
@@ -20,15 +20,16 @@ use Rattle.loops.specs.Change.{numbered}
 use Rattle.words.specs.Words.{Fit}
 use Rattle.loops.proofs.Change.{changed-length, changed-outside, changed-fit, zeros}
 use Rattle.layout.specs.Regions.{len}
-use Rattle.layout.specs.View.{View, renew, put}
+use Rattle.layout.specs.View.{View, blank, renew, put}
 use Rattle.layout.specs.declared.Region.{Region}
 use Rattle.layout.specs.declared.Region.the-variants.{Header, Opens, Current, PageState, PagePlace}
 use Rattle.terms.specs.declared.Place.{Place}
 use Rattle.layout.specs.Sizes.{sizesOf}
 use Rattle.terms.specs.Places.{freePlace}
-use Rattle.model.specs.Stored.{pageIn, cellIn, currentIn, placeOf, placesOf, pagesOf, within, waitingPage, currentPage, asCurrent, countBelow}
-use Rattle.model.specs.Writing.{blank, made}
+use Rattle.model.specs.Stored.{pageIn, cellIn, currentIn, placeOf, placesOf, pagesOf, within, waitingPage, currentPage, countBelow}
+use Rattle.model.specs.Writing.{made}
 use Rattle.model.specs.Calls.{Typed, viewNext, placesNext, sayAll}
+use Rattle.layout.specs.Codes.{asCurrent}
 use Rattle.model.proofs.Lists.{below-all, below-none}
 use Rattle.model.specs.Represents.{Holds, everyRow, CurrentsAre, PoolIs, Represents, Small, Known, Whole}
 use Rattle.model.proofs.Views.{renew-whole, put-whole, changed-start}
@@ -66,7 +67,7 @@ small-shape S t =
     bounds a b n t = let p = parts (leb a n) _ t in (leb→le a n (p .0), leb→le n b (p .1))
 
 module _ (S : Shape) (small : Small S) where
-  few-places : placesOf S ≤ 16 * 16
+  few-places : placesOf S ≤ mostPlaces
   few-places = mul-le-mul (small .columns) (small .ranges)
 
   -- ---- the words of the pages
@@ -98,7 +99,7 @@ module _ (S : Shape) (small : Small S) where
 
   cells-made : (p i : ℕ) → cellIn (made S) p i ≡ 0
   unfolding made blank put renew cellIn
-  cells-made p i = zeros (pagesOf S * 64) (p * rangeRows + i)
+  cells-made p i = zeros (pagesOf S * rangeRows) (p * rangeRows + i)
 
   currents-made : CurrentsAre S start (made S)
   currents-made g c a b =
@@ -124,11 +125,11 @@ module _ (S : Shape) (small : Small S) where
         waiting = λ q. below-none (λ p. waitingPage ((pageIn (made S) p) .state) && q ((pageIn (made S) p) .replaced)) (pagesOf S) (λ p b. ap (λ (w : Bool). w && q ((pageIn (made S) p) .replaced)) (state-not-waiting p));
       }
 
-  blank-whole : Whole S (blank S)
+  blank-whole : Whole S (blank (sizesOf S))
   unfolding blank
   blank-whole = record { long = λ k. length-replicate (len (sizesOf S) k) 0; fits = λ k i. rw (zeros (len (sizesOf S) k) i) (omega arith) }
 
-  blank-long : (k : Region) → length (blank S k) ≡ len (sizesOf S) k
+  blank-long : (k : Region) → length (blank (sizesOf S) k) ≡ len (sizesOf S) k
   blank-long k = blank-whole .long k
 
   number-fit : (l : List ℕ) → Fit l → Fit (numbered 0 (placesOf S) l)
@@ -141,10 +142,10 @@ module _ (S : Shape) (small : Small S) where
       (put-whole Header 1 (S .ranges) (omega (arith, small .ranges))
       (put-whole Header 2 (S .capacity) (omega (arith, small .capacity))
       (put-whole Header 3 (S .spares) (omega (arith, small .spares))
-      (renew-whole Current _ (changed-length (λ i x. i) 0 (blank S Current) (placesOf S) ∙ blank-long Current) (number-fit (blank S Current) (blank-whole .fits Current))
-      (renew-whole PagePlace _ (changed-length (λ i x. i) 0 (blank S PagePlace) (placesOf S) ∙ blank-long PagePlace) (number-fit (blank S PagePlace) (blank-whole .fits PagePlace))
-      (renew-whole PageState _ (changed-length (λ i x. asCurrent) 0 (blank S PageState) (placesOf S) ∙ blank-long PageState)
-      (changed-fit (λ i x. asCurrent) 0 (placesOf S) (blank S PageState) (λ i x a b. omega arith) (blank-whole .fits PageState)) blank-whole))))))
+      (renew-whole Current _ (changed-length (λ i x. i) 0 (blank (sizesOf S) Current) (placesOf S) ∙ blank-long Current) (number-fit (blank (sizesOf S) Current) (blank-whole .fits Current))
+      (renew-whole PagePlace _ (changed-length (λ i x. i) 0 (blank (sizesOf S) PagePlace) (placesOf S) ∙ blank-long PagePlace) (number-fit (blank (sizesOf S) PagePlace) (blank-whole .fits PagePlace))
+      (renew-whole PageState _ (changed-length (λ i x. asCurrent) 0 (blank (sizesOf S) PageState) (placesOf S) ∙ blank-long PageState)
+      (changed-fit (λ i x. asCurrent) 0 (placesOf S) (blank (sizesOf S) PageState) (λ i x a b. omega arith) (blank-whole .fits PageState)) blank-whole))))))
 
   pub made-represents : (n : ℕ) → mostScans ≤ n → Represents S (made S) (replicate n freePlace) start
   made-represents n enough =
@@ -163,7 +164,7 @@ module _ (S : Shape) (small : Small S) where
       }
     where
       no-open : (j : ℕ) → getD (made S Opens) j 0 ≡ 0
-      no-open j = unfold made blank put renew in (zeros 8 j)
+      no-open j = unfold made blank put renew in (zeros mostTransactions j)
 
       no-rows : (r : ℕ) → r < length (start .rows) → ⊥
       no-rows r b = unfold start in (not-suc-le-zero b)

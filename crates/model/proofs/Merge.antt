@@ -25,7 +25,8 @@ use Rattle.words.specs.Words.{Fit}
 use Rattle.loops.proofs.Change.{set-fit}
 use Rattle.layout.specs.View.{View}
 use Rattle.layout.specs.declared.Region.the-variants.{TailValues, TailStamp}
-use Rattle.model.specs.Stored.{recordIn, valueIn, slot, within, committedState, settingKind}
+use Rattle.model.specs.Stored.{recordIn, valueIn, within, committedState, settingKind}
+use Rattle.layout.specs.Regions.{slot}
 use Rattle.model.specs.Writing.{applies, applied, newestOf}
 use Rattle.model.proofs.Lists.{is-equal}
 use Rattle.model.specs.Represents.{stateWord, ContentIs, RecordIs, TailOf, NotAfter}

@@ -13,7 +13,7 @@ use lib.Seq.{lt-length-set, getD-set-same, getD-set-other}
 use lib.IntN.{ℤ}
 use mir.Syntax.{w32}
 use mir.Val.{toZ}
-use Rattle.terms.specs.Measures.{Shape, rangeRows}
+use Rattle.terms.specs.Measures.{Shape, rangeRows, mostColumns, mostRanges, mostRecords, mostPages}
 use Rattle.history.specs.History.{merge, History, Record, Merge, Scan, isActive, isCommitted, stateOf, rowAt, rangeOf, recordsOf, mergedThrough, anyActive, waitingPages, scanAt, inserted, lastSetting, withMerges, cellThrough}
 use Rattle.history.proofs.Lists.{by-cases, is-true, eqb-other}
 use Rattle.history.specs.Steps.{Mergeable, Step}
@@ -29,7 +29,8 @@ use Rattle.layout.specs.Sizes.{sizesOf}
 use Rattle.layout.specs.declared.Region.{Region}
 use Rattle.layout.specs.declared.Region.the-variants.{Header, Opens, Current, PageState, PagePlace, PageMade, PageReplaced, PageLineage, PageNewest, Cells, TailValues, TailStamp}
 use Rattle.terms.specs.declared.Place.{Place}
-use Rattle.model.specs.Stored.{PageWords, rowIn, recordIn, valueIn, pageIn, cellIn, currentIn, placeOf, placesOf, pagesOf, within, nextWord, freePage, currentPage, waitingPage, asCurrent, asWaiting, countBelow}
+use Rattle.model.specs.Stored.{PageWords, rowIn, recordIn, valueIn, pageIn, cellIn, currentIn, placeOf, placesOf, pagesOf, within, nextWord, freePage, currentPage, waitingPage, countBelow}
+use Rattle.layout.specs.Codes.{asCurrent, asWaiting}
 use Rattle.model.specs.Reading.{wasCurrent, scanPage}
 use Rattle.model.specs.Writing.{applied, newestOf, strayIn, freeIn, mergedIn}
 use Rattle.model.specs.Asked.{Placed}
@@ -119,8 +120,8 @@ module _ (S : Shape) (v : View) (ps : List Place) (h : History) (o : Represents 
 -- the merges' counter is far from going round
 merges-few : {S : Shape} {h : History} → Known S h → suc (length (h .merges)) < 2 ^ 32
 merges-few {S} {h} k =
-    let a : S .columns * S .capacity ≤ 16 * 512 = mul-le-mul (k .small .columns) (k .small .capacity) in
-    let b : S .ranges * (S .columns * S .capacity) ≤ 16 * (16 * 512) = mul-le-mul (k .small .ranges) a in
+    let a : S .columns * S .capacity ≤ mostColumns * mostRecords = mul-le-mul (k .small .columns) (k .small .capacity) in
+    let b : S .ranges * (S .columns * S .capacity) ≤ mostRanges * (mostColumns * mostRecords) = mul-le-mul (k .small .ranges) a in
     omega (arith, merges-most S h (k .past .merges) (k .past .pages) (k .past .limits))
 
 module _ (S : Shape) (v : View) (ps : List Place) (h : History) (o : Represents S v ps h) (k : Known S h) (g c n : ℕ) (ok : Mergeable S h g c n) where
@@ -431,7 +432,7 @@ module _ (S : Shape) (v : View) (ps : List Place) (h : History) (o : Represents 
   unfolding mergedIn
   merge-whole =
       let fit : m < 2 ^ 32 = omega (arith, m-is, merges-few k) in
-      let pages : pagesOf S ≤ 16 * 16 + 256 = omega (arith, mul-le-mul (k .small .columns) (k .small .ranges), k .small .spares) in
+      let pages : pagesOf S ≤ mostPages = omega (arith, mul-le-mul (k .small .columns) (k .small .ranges), k .small .spares) in
       let spot : placeOf S g c < 2 ^ 32 = omega (arith, place-in S g c (ok .range-in) (ok .column-in)) in
       put-whole Header mergesAt m fit
       (put-whole Current (placeOf S g c) p (omega (arith, room))

@@ -10,7 +10,7 @@ use native.Mathlib.Decide.{ℕ-discrete}
 use lib.Dec.{eqb}
 use lib.ListN.{length, getD, set}
 use lib.Seq.{getD-set-same, getD-set-other}
-use Rattle.terms.specs.Measures.{Shape, mostTransactions}
+use Rattle.terms.specs.Measures.{Shape, mostRanges, mostRecords, mostTransactions}
 use Rattle.history.specs.History.{History, Row, Record, State, unknown, active, nth, keep, rangeOf, recordsOf}
 use Rattle.history.specs.Lists.{All, nil, cons}
 use Rattle.history.proofs.Lists.{clash, by-cases, all-map, eqb-same}
@@ -46,7 +46,7 @@ tail-bound {S} {h} k =
 -- rows and records are far from 2 ^ 32
 pub few-changes : {S : Shape} {h : History} → Known S h → length (h .rows) + length (h .tail) < 2 ^ 31
 few-changes {S} {h} k =
-    let a : S .ranges * S .capacity ≤ 16 * 512 = mul-le-mul (k .small .ranges) (k .small .capacity) in
+    let a : S .ranges * S .capacity ≤ mostRanges * mostRecords = mul-le-mul (k .small .ranges) (k .small .capacity) in
     omega (arith, k .past .limits .rows, tail-bound k, k .small .ranges)
 
 -- an active transaction's number is among those given

@@ -19,7 +19,8 @@ use Rattle.loops.proofs.Change.{changed-length, changed-fit}
 use Rattle.layout.specs.View.{View, renew}
 use Rattle.layout.specs.declared.Region.the-variants.{PageState}
 use Rattle.terms.specs.declared.Place.{Place}
-use Rattle.model.specs.Stored.{rowIn, recordIn, valueIn, pageIn, cellIn, currentIn, placeOf, pagesOf, asFree, currentPage, waitingPage, countBelow}
+use Rattle.model.specs.Stored.{rowIn, recordIn, valueIn, pageIn, cellIn, currentIn, placeOf, pagesOf, currentPage, waitingPage, countBelow}
+use Rattle.layout.specs.Codes.{asFree}
 use Rattle.model.specs.Reading.{wasCurrent, scanPage}
 use Rattle.model.specs.Writing.{neededIn, releasable, releasedIn}
 use Rattle.model.proofs.Lists.{true-false, any-count, from-count, count-ext, first-ext, below-ext, same-truth}

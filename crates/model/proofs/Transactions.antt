@@ -28,7 +28,8 @@ use Rattle.layout.specs.declared.Region.the-variants.{Header, Opens, RowTransac
 use Rattle.terms.specs.declared.Place.{Place}
 use Rattle.terms.specs.Places.{bears, place}
 use Rattle.layout.specs.Regions.{transactionsAt, stampAt}
-use Rattle.model.specs.Stored.{RowWords, RecordWords, rowIn, recordIn, valueIn, pageIn, cellIn, currentIn, openPlace, asAborted, asCommitted}
+use Rattle.model.specs.Stored.{RowWords, RecordWords, rowIn, recordIn, valueIn, pageIn, cellIn, currentIn, openPlace}
+use Rattle.layout.specs.Codes.{asAborted, asCommitted}
 use Rattle.model.specs.Reading.{scanPage, wasCurrent}
 use Rattle.model.specs.Writing.{begun, markTails, settled, freed, committedIn, abortedIn}
 use Rattle.model.proofs.Lists.{same-truth, any-count, place-lt, place-is, part-in, is-equal}

@@ -9,7 +9,9 @@ use Rattle.layout.specs.declared.Region.{Region}
 use Rattle.layout.specs.View.{View, rowsGiven, usedIn}
 use Rattle.history.specs.History.{rangeOf}
 use Rattle.terms.specs.Places.{place}
-use Rattle.model.specs.Stored.{slot, openPlace, pageIn, placesOf, pagesOf, asCurrent}
+use Rattle.model.specs.Stored.{openPlace, pageIn, placesOf, pagesOf}
+use Rattle.layout.specs.Codes.{asCurrent}
+use Rattle.layout.specs.Regions.{slot}
 
 -- the shape that sizes were made of
 abbrev pub shapeIn : Sizes → Shape

@@ -16,7 +16,8 @@ use Rattle.layout.specs.declared.Region.the-variants.{Changes}
 use Rattle.terms.specs.declared.Place.{Place}
 use Rattle.model.specs.declared.Reader.{Reader}
 use Rattle.model.specs.declared.Walk.{Walk}
-use Rattle.model.specs.Stored.{RowWords, RecordWords, PageWords, rowIn, recordIn, pageIn, slot, valueIn, currentIn, placeOf, placesOf, pagesOf, cellIn, within, openState, committedState, originalKind, settingKind, deleteKind, waitingPage, firstFrom, openPlace}
+use Rattle.model.specs.Stored.{RowWords, RecordWords, PageWords, rowIn, recordIn, pageIn, valueIn, currentIn, placeOf, placesOf, pagesOf, cellIn, within, openState, committedState, originalKind, settingKind, deleteKind, waitingPage, firstFrom, openPlace}
+use Rattle.layout.specs.Regions.{slot}
 
 -- a reader by its stamp and the transaction whose own changes count (0: none)
 abbrev pub reader : ℕ → ℕ → Reader

@@ -22,7 +22,8 @@ use Rattle.layout.specs.declared.Region.the-variants.{Opens, Changes}
 use Rattle.terms.specs.declared.Place.{Place}
 use Rattle.layout.specs.Sizes.{sizesOf}
 use Rattle.layout.specs.Regions.{rowsAt, transactionsAt, scansAt, stampAt, mergesAt}
-use Rattle.model.specs.Stored.{RowWords, RecordWords, PageWords, rowIn, recordIn, pageIn, valueIn, currentIn, cellIn, within, placeOf, placesOf, pagesOf, headerIn, asOpen, asCommitted, asAborted, asOriginal, asSetting, asDelete, asCurrent, currentPage, waitingPage, countBelow}
+use Rattle.model.specs.Stored.{RowWords, RecordWords, PageWords, rowIn, recordIn, pageIn, valueIn, currentIn, cellIn, within, placeOf, placesOf, pagesOf, headerIn, currentPage, waitingPage, countBelow}
+use Rattle.layout.specs.Codes.{asOpen, asCommitted, asAborted, asOriginal, asSetting, asDelete, asCurrent}
 use Rattle.model.specs.Reading.{scanPage}
 use Rattle.model.specs.Calls.{Typed, say, viewNext, placesNext}
 

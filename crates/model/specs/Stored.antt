@@ -2,10 +2,11 @@
 -- Where a word can hold more than the store writes, the tests here say what every other value counts as; so each call answers for every memory.
 use mathlib.Core.Bool.{Bool, false, cond, _||_}
 use mathlib.Core.List.{List}
-use Prim.Native.Nat.{ℕ, zero, suc, _+_, _*_, _-_, _%_, _^_}
+use Prim.Native.Nat.{ℕ, zero, suc, _+_, _*_, _%_, _^_}
 use lib.Dec.{ltb, eqb}
 use lib.ListN.{getD}
 use Rattle.terms.specs.Measures.{Shape, rangeRows}
+use Rattle.layout.specs.Codes.{asOpen, asCommitted, asOriginal, asSetting, asFree, asCurrent}
 use Rattle.layout.specs.View.{View}
 use Rattle.layout.specs.declared.Region.the-variants.{Header, Opens, RowTransaction, RowState, RowStamp, RowLink, RowMask, TailTransaction, TailRow, TailKind, TailMask, TailLink, TailState, TailStamp, TailValues, Current, PageState, PagePlace, PageMade, PageReplaced, PageLineage, PageNewest, Cells}
 use Rattle.terms.specs.declared.Place.{Place}
@@ -29,57 +30,30 @@ wordLimit = 2 ^ 32
 abbrev pub nextWord : ℕ → ℕ
 nextWord n = (n + 1) % wordLimit
 
--- ---- what a word means. States and kinds: 2 is written for the third case, and any other number is read as it.
-abbrev pub asOpen : ℕ
-asOpen = 0
-
-abbrev pub asCommitted : ℕ
-asCommitted = 1
-
-abbrev pub asAborted : ℕ
-asAborted = 2
-
+-- ---- what a word means. Of states and kinds, any number above the first two is read as the third.
 abbrev pub openState : ℕ → Bool
-openState w = eqb w 0
+openState w = eqb w asOpen
 
 abbrev pub committedState : ℕ → Bool
-committedState w = eqb w 1
-
-abbrev pub asOriginal : ℕ
-asOriginal = 0
-
-abbrev pub asSetting : ℕ
-asSetting = 1
-
-abbrev pub asDelete : ℕ
-asDelete = 2
+committedState w = eqb w asCommitted
 
 abbrev pub originalKind : ℕ → Bool
-originalKind w = eqb w 0
+originalKind w = eqb w asOriginal
 
 abbrev pub settingKind : ℕ → Bool
-settingKind w = eqb w 1
+settingKind w = eqb w asSetting
 
 abbrev pub deleteKind : ℕ → Bool
-deleteKind w = ltb 1 w
-
-abbrev pub asFree : ℕ
-asFree = 0
-
-abbrev pub asCurrent : ℕ
-asCurrent = 1
-
-abbrev pub asWaiting : ℕ
-asWaiting = 2
+deleteKind w = ltb asSetting w
 
 abbrev pub freePage : ℕ → Bool
-freePage w = eqb w 0
+freePage w = eqb w asFree
 
 abbrev pub currentPage : ℕ → Bool
-currentPage w = eqb w 1
+currentPage w = eqb w asCurrent
 
 abbrev pub waitingPage : ℕ → Bool
-waitingPage w = ltb 1 w
+waitingPage w = ltb asCurrent w
 
 -- ---- one row, one record, one page: all words of one index
 pub record RowWords : Type 0 where
@@ -140,10 +114,7 @@ pageIn v p =
       newest = getD (v PageNewest) p 0;
     }
 
--- ---- indices. A tail record is reached through `slot` alone: k counts from 1 in its range.
-unfoldable pub slot : Shape → ℕ → ℕ → ℕ
-slot S g k = g * S .capacity + (k - 1)
-
+-- ---- indices
 -- the word of column c in the record at slot s
 unfoldable pub valueIn : Shape → View → ℕ → ℕ → ℕ
 valueIn S v s c = getD (v TailValues) (s * S .columns + c) 0

@@ -1,10 +1,11 @@
 -- One name for what a list of calls unfolds to, for a proof's `unfolding` line. Nothing here needs to be believed: a name says nothing, and opens what it lists.
 use Rattle.history.specs.History.{verdict, answerIf}
 use Rattle.loops.specs.Change.{changed}
-use Rattle.layout.specs.View.{put, renew}
-use Rattle.model.specs.Stored.{anyBelow, rowIn, recordIn, pageIn, slot, valueIn, currentIn, cellIn, openPlace, scanPlace}
+use Rattle.layout.specs.View.{put, renew, blank}
+use Rattle.model.specs.Stored.{anyBelow, rowIn, recordIn, pageIn, valueIn, currentIn, cellIn, openPlace, scanPlace}
+use Rattle.layout.specs.Regions.{slot}
 use Rattle.model.specs.Reading.{sees, headIn, visibleIn, answersFor, walk, belowLineage, wordIn, readIn, readCurrent, ownChanges, wasCurrent, scanPage, tally, sumIn}
-use Rattle.model.specs.Writing.{begun, noted, settled, freed, committedIn, abortedIn, insertedAt, insertedIn, nextSlot, appended, filledIn, newBitsIn, recordsWanted, originalAppended, settingAppended, updatedIn, deletedIn, applies, applied, newestOf, namedIn, strayIn, freeIn, mergedIn, releasable, releasedIn, blank, made}
+use Rattle.model.specs.Writing.{begun, noted, settled, freed, committedIn, abortedIn, insertedAt, insertedIn, nextSlot, appended, filledIn, newBitsIn, recordsWanted, originalAppended, settingAppended, updatedIn, deletedIn, applies, applied, newestOf, namedIn, strayIn, freeIn, mergedIn, releasable, releasedIn, made}
 use Rattle.model.specs.Calls.{notOpenIn, noScanIn, notGivenIn, openOther, heldIn, goneIn, lacksIn, notLaterIn, laterIn, outOfReachIn, openAmongIn, testsIn, replyIn, actIn, placesAfter, viewIf, placesIf, say, viewNext, placesNext, sayAll}
 
 unfoldable pub execution : Unit {0}

@@ -3,7 +3,7 @@ use mathlib.Core.Bool.{Bool, not, cond, _&&_}
 use mathlib.Core.List.{List}
 use Prim.Native.Nat.{ℕ, zero, suc, _+_, _*_, _-_}
 use lib.Dec.{ltb, eqb}
-use lib.ListN.{getD, set, replicate}
+use lib.ListN.{getD, set}
 use lib.IntN.{ℤ, pos}
 use lib.Bits.{bitOr, bitXor}
 use mir.Syntax.{w32}
@@ -11,13 +11,14 @@ use mir.Val.{ofZ}
 use Rattle.terms.specs.Measures.{Shape, rangeRows}
 use Rattle.history.specs.History.{any, bit, rangeOf}
 use Rattle.loops.specs.Change.{changed, filled, numbered, copied, marked}
-use Rattle.layout.specs.Regions.{len, rowsAt, transactionsAt, stampAt, mergesAt}
-use Rattle.layout.specs.View.{View, renew, put, rowsGiven, transactionsGiven, mergesMade, usedIn}
+use Rattle.layout.specs.Regions.{columnsAt, rangesAt, capacityAt, sparesAt, rowsAt, transactionsAt, stampAt, mergesAt, firstSlot, slot}
+use Rattle.layout.specs.View.{View, blank, renew, put, rowsGiven, transactionsGiven, mergesMade, usedIn}
 use Rattle.layout.specs.declared.Region.the-variants.{Header, Opens, RowTransaction, RowState, RowStamp, RowLink, RowMask, TailTransaction, TailRow, TailKind, TailMask, TailLink, TailState, TailStamp, TailValues, Used, Current, PageState, PagePlace, PageMade, PageReplaced, PageLineage, PageNewest, Cells, Changes}
 use Rattle.terms.specs.declared.Place.{Place}
 use Rattle.layout.specs.Sizes.{sizesOf}
 use Rattle.terms.specs.Places.{place}
-use Rattle.model.specs.Stored.{RecordWords, rowIn, recordIn, pageIn, slot, valueIn, currentIn, placeOf, placesOf, pagesOf, cellIn, within, nextWord, asOpen, asCommitted, asAborted, asOriginal, asSetting, asDelete, asFree, asCurrent, asWaiting, committedState, settingKind, freePage, currentPage, waitingPage, firstFrom, openPlace}
+use Rattle.model.specs.Stored.{RecordWords, rowIn, recordIn, pageIn, valueIn, currentIn, placeOf, placesOf, pagesOf, cellIn, within, nextWord, committedState, settingKind, freePage, currentPage, waitingPage, firstFrom, openPlace}
+use Rattle.layout.specs.Codes.{asOpen, asCommitted, asAborted, asOriginal, asSetting, asDelete, asFree, asCurrent, asWaiting}
 
 -- ---- open transactions
 -- begin: the first free place takes the next number, with nothing noted
@@ -37,7 +38,7 @@ noted t v =
 abbrev pub markTails : Shape → List ℕ → List ℕ → ℕ → ℕ → ℕ → List ℕ → List ℕ
 markTails S used ks t w zero l = l
 markTails S used ks t w (suc g) l =
-    marked ks (g * S .capacity) (getD used g 0) t (g * S .capacity) w (markTails S used ks t w g l)
+    marked ks (firstSlot (S .capacity) g) (getD used g 0) t (firstSlot (S .capacity) g) w (markTails S used ks t w g l)
 
 -- commit and abort: every given row and used record that bears t gets the state and the stamp
 unfoldable pub settled : Shape → ℕ → ℕ → ℕ → View → View
@@ -198,15 +199,12 @@ unfoldable pub releasedIn : Shape → List Place → View → View
 releasedIn S ps v = renew PageState (changed (λ p w. cond (releasable ps v p) asFree w) 0 (pagesOf S) (v PageState)) v
 
 -- ---- making: every word is 0 but the measures, the current pages and their places
-unfoldable pub blank : Shape → View
-blank S k = replicate (len (sizesOf S) k) 0
-
 unfoldable pub made : Shape → View
 made S =
-    put Header 0 (S .columns)
-    (put Header 1 (S .ranges)
-    (put Header 2 (S .capacity)
-    (put Header 3 (S .spares)
-    (renew Current (numbered 0 (placesOf S) (blank S Current))
-    (renew PagePlace (numbered 0 (placesOf S) (blank S PagePlace))
-    (renew PageState (filled 0 (placesOf S) asCurrent (blank S PageState)) (blank S)))))))
+    put Header columnsAt (S .columns)
+    (put Header rangesAt (S .ranges)
+    (put Header capacityAt (S .capacity)
+    (put Header sparesAt (S .spares)
+    (renew Current (numbered 0 (placesOf S) (blank (sizesOf S) Current))
+    (renew PagePlace (numbered 0 (placesOf S) (blank (sizesOf S) PagePlace))
+    (renew PageState (filled 0 (placesOf S) asCurrent (blank (sizesOf S) PageState)) (blank (sizesOf S))))))))

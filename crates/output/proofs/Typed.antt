@@ -9,8 +9,8 @@ use lib.Seq.{getD-drop}
 use mir.Syntax.{w32}
 use mir.Val.{toZ, SFits}
 use mir.ValLaws.{toZ-fits}
-use Rattle.words.specs.Words.{words, Bytes}
-use Rattle.words.proofs.Words.{Fit, words-fit, take-fit, front-bytes}
+use Rattle.words.specs.Words.{words, Bytes, Fit}
+use Rattle.words.proofs.Words.{words-fit, take-fit, front-bytes}
 use Rattle.history.specs.Lists.{All}
 use Rattle.model.specs.Calls.{Typed, Values}
 use Rattle.commands.specs.declared.Form.{Form}

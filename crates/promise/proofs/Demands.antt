@@ -5,6 +5,7 @@ use mathlib.Core.Bool.{Bool, true, false, cond, _&&_}
 use mathlib.Core.List.{List}
 use lib.Dec.{T, leb, leb→le, nleb→lt}
 use lib.ListN.{length, replicate}
+use Rattle.model.specs.Writing.{made as madeView}
 use Rattle.terms.specs.Measures.{Shape, withinLimits, mostScans}
 use Rattle.terms.specs.declared.Answer.{Answer}
 use Rattle.terms.specs.declared.Place.{Place}
@@ -21,10 +22,9 @@ use Rattle.history.proofs.Accepted.{Passed, passed}
 use Rattle.history.proofs.Striking.{striking}
 use Rattle.history.proofs.Stability.{stability, accepted}
 use Rattle.facts.specs.Usable.{usable}
-use Rattle.making.specs.Made.{made, madeView, madeList}
+use Rattle.making.specs.Made.{made, madeList}
 use Rattle.making.proofs.Answers.{laid as making-laid}
 use Rattle.terms.specs.Places.{freePlace}
-use Rattle.model.specs.Writing.{made as modelMade}
 use Rattle.model.specs.Reading.{reader}
 use Rattle.model.specs.Calls.{Typed, viewNext, viewAfter, listAfter as modelList}
 use Rattle.model.specs.Claims.{storeAfter, historyAfter}
@@ -34,7 +34,7 @@ use Rattle.model.proofs.Made.{small-shape, made-represents}
 use Rattle.model.proofs.Claims.{represented, reads, pages-hold, scans-keep}
 use Rattle.promise.specs.Promise.{storeView, answerOf, memoryAfter}
 use Rattle.promise.specs.Demands.{Accepted, memoryMade, storeAnswers, memoryLeft, listLeft, storeMemory, storeList, MakingAccepted, ReadsCommitted, PagesCommitted, ScansKept, Demand3, StrikingStore, storeAnswerAt, ReadIn, StabilityStore}
-use Rattle.promise.proofs.Same.{Same, made-same, made-starts, same-usable, view-is, memory-is, list-is, same-call, same-answers}
+use Rattle.promise.proofs.Same.{Same, made-starts, same-usable, view-is, memory-is, list-is, same-call, same-answers}
 
 -- ---- an accepted making: its measures are within their limits, and memory and list are long enough
 record Enough (S : Shape) (m : List ℕ) (ps : List Place) : Type 0 where
@@ -120,11 +120,11 @@ calls-left o (cons {x = c} y ys) =
 
 -- from a making: the view is that of the model
 module _ (S : Shape) (m : List ℕ) (ps : List Place) (a : Accepted S m ps) {cs : List Call} (ys : All Typed cs) where
-  view-made : view (sizesOf S) (words (memoryMade S m ps)) ≡ modelMade S
+  view-made : view (sizesOf S) (words (memoryMade S m ps)) ≡ madeView S
   view-made =
       let e = enough S m ps a in
       let whole = made-represents S (small-shape S (rw (e .within) tt)) (length ps) (e .places) .whole in
-      rw (e .left, ← made-same S) (view-lay (sizesOf S) (modelMade S) m (whole .long) (whole .fits))
+      rw (e .left) (view-lay (sizesOf S) (madeView S) m (whole .long) (whole .fits))
 
   left : Left (memoryMade S m ps) (madeList ps) S start cs
   left = calls-left (from-making S m ps a) ys
@@ -138,7 +138,7 @@ module _ (S : Shape) (m : List ℕ) (ps : List Place) (a : Accepted S m ps) {cs 
   unfolding storeMemory storeAfter
   words-left = left .shown ∙ ap (λ (v : View). viewAfter S v (madeList ps) cs) view-made
 
-  list-left : storeList S m ps cs ≡ modelList S (modelMade S) (replicate (length ps) freePlace) cs
+  list-left : storeList S m ps cs ≡ modelList S (madeView S) (replicate (length ps) freePlace) cs
   unfolding storeList
   list-left = left .list ∙ ap (λ (v : View). modelList S v (madeList ps) cs) view-made
 
@@ -148,7 +148,7 @@ module _ (S : Shape) (m : List ℕ) (ps : List Place) (a : Accepted S m ps) {cs 
   -- and after further calls
   view-later : {ds : List Call} → All Typed ds
       → storeView (memoryLeft (storeMemory S m ps cs) (storeList S m ps cs) ds)
-      ≡ viewAfter S (storeAfter S (length ps) cs) (modelList S (modelMade S) (replicate (length ps) freePlace) cs) ds
+      ≡ viewAfter S (storeAfter S (length ps) cs) (modelList S (madeView S) (replicate (length ps) freePlace) cs) ds
   view-later zs = let l = calls-left store-same zs in view-is (l .same) ∙ l .shown ∙ rw (words-left, list-left)
 
 -- ---- demand 2

@@ -15,9 +15,9 @@ use Rattle.layout.specs.declared.Sizes.{Sizes}
 use Rattle.layout.specs.declared.Region.{Region}
 use Rattle.layout.specs.declared.Region.the-variants.{Header}
 use Rattle.layout.specs.Cut.{join, endFrom}
-use Rattle.layout.specs.Regions.{all, lens, need, base}
+use Rattle.layout.specs.Regions.{all, lens, need, base, headerWords}
 use Rattle.layout.specs.Sizes.{sizesOf, bytesNeeded}
-use Rattle.layout.specs.View.{View, view, renew, put, fill, number, lay, Long}
+use Rattle.layout.specs.View.{View, view, lay, Long}
 use Rattle.layout.proofs.Cut.{join-length}
 use Rattle.layout.proofs.View.{view-at}
 use Rattle.layout.proofs.Lay.{view-lay}
@@ -25,8 +25,8 @@ use Rattle.history.specs.History.{Call, History, start, answer, answers, next}
 use Rattle.history.specs.Lists.{All, nil, cons}
 use Rattle.history.proofs.Past.{past-start}
 use Rattle.facts.specs.Usable.{measuresBytes, storedShape, storedSizes, usable}
-use Rattle.making.specs.Made.{blankView, placedView, madeView, madeList}
-use Rattle.model.specs.Writing.{blank, made}
+use Rattle.making.specs.Made.{madeList}
+use Rattle.model.specs.Writing.{made as madeView}
 use Rattle.model.specs.Calls.{Typed, say, viewNext, placesNext}
 use Rattle.model.specs.Represents.{Represents, Known}
 use Rattle.model.proofs.Calls.{one-call}
@@ -62,20 +62,16 @@ laid S v m ps h w b k o =
     }
 
 -- ---- making
-pub made-same : (S : Shape) → made S ≡ madeView S
-unfolding made madeView placedView blank blankView put fill number renew
-made-same S = refl
-
 pub made-starts : (S : Shape) (m : List ℕ) (ps : List Place) → withinLimits S ≡ true → bytesNeeded S ≤ length m → mostScans ≤ length ps
     → Same (lay (sizesOf S) (madeView S) m) (madeList ps) S start
 made-starts S m ps w b n =
     let small = small-shape S (rw w tt) in
     laid S (madeView S) m (madeList ps) start w b record { small = small; past = past-start S }
-    (rw (← made-same S) (made-represents S small (length ps) n))
+    (made-represents S small (length ps) n)
 
 -- ---- a memory that represents a history
 module _ {m : List ℕ} {ps : List Place} {S : Shape} {h : History} (o : Same m ps S h) where
-  header-at : (i : ℕ) → i < 16 → getD (words m) i 0 ≡ getD (view (sizesOf S) (words m) Header) i 0
+  header-at : (i : ℕ) → i < headerWords → getD (words m) i 0 ≡ getD (view (sizesOf S) (words m) Header) i 0
   unfolding base
   header-at i b = sym (rw (zero-add i) at (view-at (sizesOf S) (words m) Header i b))
 

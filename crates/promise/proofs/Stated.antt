@@ -29,7 +29,8 @@ use Rattle.history.proofs.Lists.{by-cases, by-test, clash, is-true, is-false, r
 use Rattle.history.proofs.Masks.{bit-low}
 use Rattle.facts.specs.Usable.{storedShape, storedSizes, usable}
 use Rattle.facts.proofs.Usable.{Usable, usable-tells}
-use Rattle.model.specs.Stored.{RecordWords, rowIn, recordIn, pageIn, slot, pagesOf, anyBelow, committedState, deleteKind}
+use Rattle.model.specs.Stored.{RecordWords, rowIn, recordIn, pageIn, pagesOf, anyBelow, committedState, deleteKind}
+use Rattle.layout.specs.Regions.{slot}
 use Rattle.model.specs.Asked.{Placed}
 use Rattle.model.specs.Writing.{newBitsIn, recordsWanted, freeIn}
 use Rattle.model.specs.Calls.{openIn, openOther, standsFor, anyRecord, notOpenIn, noScanIn, notGivenIn, heldIn, goneIn, lacksIn, notLaterIn, laterIn, outOfReachIn, openAmongIn, testsIn, replyIn, say}

@@ -9,6 +9,7 @@ use native.Mathlib.Nat.{le-refl}
 use native.Mathlib.Decide.{decLt, ℕ-discrete}
 use lib.Dec.{T, eqb, lt→ltb}
 use lib.ListN.{length, getD, List·getD-eq-default}
+use Rattle.layout.specs.Codes.{asWaiting}
 use Rattle.terms.specs.Measures.{Shape, rangeRows, withinLimits}
 use Rattle.terms.specs.declared.Place.{Place}
 use Rattle.layout.specs.declared.Region.the-variants.{Opens, TailRow, Used}
@@ -24,7 +25,7 @@ use Rattle.history.proofs.Ranges.{records-range}
 use Rattle.history.proofs.Links.{last-of-row}
 use Rattle.history.specs.Records.{noRecord, lastOf}
 use Rattle.scans.specs.Places.{opened, openCount}
-use Rattle.facts.specs.Facts.{waiting, factsHold}
+use Rattle.facts.specs.Facts.{factsHold}
 use Rattle.facts.proofs.Ready.{Stored}
 use Rattle.facts.proofs.Usable.{Linked, Usable}
 use Rattle.terms.specs.Places.{bears, place, freePlace}
@@ -152,14 +153,14 @@ module _ (S : Shape) (v : View) (ps : List Place) (h : History) (o : Represents 
       )
 
   -- ---- pages
-  waits-at : (p : ℕ) → p < pagesOf S → waiting ≤ (pageIn v p) .state → WaitingIs S h (madeIn S v) (pageIn v p)
+  waits-at : (p : ℕ) → p < pagesOf S → asWaiting ≤ (pageIn v p) .state → WaitingIs S h (madeIn S v) (pageIn v p)
   waits-at p b u = o .waits p b (lt→ltb 1 ((pageIn v p) .state) u)
 
   -- a lineage within the records of range g is within those used
   lineage-used : (n g : ℕ) → g < S .ranges → n ≤ length (recordsOf h g) → n ≤ usedIn v g
   lineage-used n g b l = omega (arith, o .tails g b .used-all)
 
-  waiting-lineages : (p : ℕ) → p < pagesOf S → waiting ≤ (pageIn v p) .state → (pageIn v p) .lineage ≤ usedIn v ((pageIn v p) .place % placesOf S / S .columns)
+  waiting-lineages : (p : ℕ) → p < pagesOf S → asWaiting ≤ (pageIn v p) .state → (pageIn v p) .lineage ≤ usedIn v ((pageIn v p) .place % placesOf S / S .columns)
   waiting-lineages p b u =
       let w = waits-at p b u in
       let t = place-parts S (k .small .some-column) ((pageIn v p) .place) (w .place) in

@@ -9,6 +9,7 @@ use native.Mathlib.Nat.{zero-add}
 use lib.Dec.{leb, ltb, eqb}
 use lib.ListN.{length, getD}
 use borrow.Author.Tests.{ltb-false, eqb-false, eq-eqb, ne-eqb, le-leb, lt-ltb}
+use Rattle.layout.specs.Codes.{asWaiting}
 use Rattle.terms.specs.declared.Place.{Place}
 use Rattle.history.proofs.Lists.{by-test, is-false}
 use Rattle.loops.specs.Search.{region, allBetween}
@@ -16,14 +17,14 @@ use Rattle.loops.proofs.Region.{region-at, region-length}
 use Rattle.layout.specs.declared.Sizes.{Sizes}
 use Rattle.layout.specs.declared.Region.{Region}
 use Rattle.layout.specs.declared.Region.the-variants.{Opens, RowTransaction, RowStamp, TailTransaction, TailStamp, Used, PageState, PageReplaced, PageLineage, PageNewest}
-use Rattle.layout.specs.Regions.{len}
+use Rattle.layout.specs.Regions.{len, firstSlot}
 use Rattle.layout.specs.View.{View, rowsGiven, transactionsGiven, scansGiven, lastStamp, mergesMade, usedIn, Long}
 use Rattle.terms.specs.Places.{freePlace}
 use Rattle.scans.specs.Places.{everyOpen, among, differ}
-use Rattle.facts.specs.Facts.{firstSlot, each, rowsBetween, rangeBetween, currentAtMost, waiting, waitingAtMost, storedWithin, countsWithin, rowNamed, rangeNamesRows, recordsNameRows, numbersGiven, linkHolds, rowLinked, recordLinked, rangeLinked, linksHold, stampsWithin, mergesWithin, openDiffer, pagePlaced, pagesPlaced, currentLineage, waitingLineage, lineagesWithin, factsHold}
+use Rattle.facts.specs.Facts.{each, rowsBetween, rangeBetween, currentAtMost, waitingAtMost, storedWithin, countsWithin, rowNamed, rangeNamesRows, recordsNameRows, numbersGiven, linkHolds, rowLinked, recordLinked, rangeLinked, linksHold, stampsWithin, mergesWithin, openDiffer, pagePlaced, pagesPlaced, currentLineage, waitingLineage, lineagesWithin, factsHold}
 use Rattle.layout.specs.Sizes.{Proper}
 use Rattle.facts.proofs.Each.{each-true}
-use Rattle.facts.proofs.Within.{range-in}
+use Rattle.layout.proofs.Indices.{tail-in}
 use Rattle.facts.proofs.Usable.{Linked, Usable, numbers-at}
 
 -- ---- one list, one test
@@ -64,10 +65,10 @@ unfolding linkHolds
 link-holds s v g most r link l =
     either (eqb link 0) _ (λ e. both (le-leb link most (l .low)) (eq-eqb _ r (l .same (eqb-false link 0 e))))
 
-waiting-holds : (v : View) (k : Region) (most p : ℕ) → (waiting ≤ getD (v PageState) p 0 → getD (v k) p 0 ≤ most) → waitingAtMost v k most p ≡ true
+waiting-holds : (v : View) (k : Region) (most p : ℕ) → (asWaiting ≤ getD (v PageState) p 0 → getD (v k) p 0 ≤ most) → waitingAtMost v k most p ≡ true
 unfolding waitingAtMost
 waiting-holds v k most p f =
-    either (ltb (getD (v PageState) p 0) waiting) _ (λ e. le-leb (getD (v k) p 0) most (f (ltb-false (getD (v PageState) p 0) waiting e)))
+    either (ltb (getD (v PageState) p 0) asWaiting) _ (λ e. le-leb (getD (v k) p 0) most (f (ltb-false (getD (v PageState) p 0) asWaiting e)))
 
 -- ---- all clauses
 
@@ -84,12 +85,12 @@ module _ (s : Sizes) (v : View) (ps : List Place) (z : Proper s) (long : Long s 
   rows-between k low high l f = stretch k 0 (rowsGiven v) low high (omega (arith, u .counts .rows-to)) (λ i h. rw (zero-add i) (f i h))
 
   records-between : (k : Region) (low high : ℕ) → len s k ≡ s .slots
-      → ((g i : ℕ) → g < s .ranges → i < usedIn v g → (low ≤ getD (v k) (firstSlot s g + i) 0) × (getD (v k) (firstSlot s g + i) 0 ≤ high))
+      → ((g i : ℕ) → g < s .ranges → i < usedIn v g → (low ≤ getD (v k) (firstSlot (s .capacity) g + i) 0) × (getD (v k) (firstSlot (s .capacity) g + i) 0 ≤ high))
       → each (s .ranges) (rangeBetween s v k low high) ≡ true
   unfolding rangeBetween
   records-between k low high l f =
       each-true (rangeBetween s v k low high) (s .ranges)
-      (λ g h. stretch k (firstSlot s g) (usedIn v g) low high (omega (arith, range-in s g z h, u .counts .records-to g)) (λ i j. f g i h j))
+      (λ g h. stretch k (firstSlot (s .capacity) g) (usedIn v g) low high (omega (arith, tail-in s z g h, u .counts .records-to g)) (λ i j. f g i h j))
 
   counts : countsWithin s v ps ≡ true
   unfolding countsWithin storedWithin

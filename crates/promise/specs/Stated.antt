@@ -18,7 +18,9 @@ use Rattle.layout.specs.View.{View, rowsGiven, transactionsGiven, scansGiven, l
 use Rattle.layout.specs.declared.Region.the-variants.{Opens}
 use Rattle.history.specs.History.{Call, begin, insert, update, delete, commit, abort, latest, readAt, ownRead, openScan, scanRead, sum, close, merge, release, pageCell, lineage, bit, count, rangeOf}
 use Rattle.facts.specs.Usable.{storedShape, usable}
-use Rattle.model.specs.Stored.{RecordWords, rowIn, recordIn, pageIn, slot, currentIn, pagesOf, countBelow, asCommitted, deleteKind, waitingPage}
+use Rattle.model.specs.Stored.{RecordWords, rowIn, recordIn, pageIn, currentIn, pagesOf, countBelow, deleteKind, waitingPage}
+use Rattle.layout.specs.Codes.{asCommitted}
+use Rattle.layout.specs.Regions.{slot}
 use Rattle.promise.specs.Promise.{storeView}
 
 -- ---- what the memory holds

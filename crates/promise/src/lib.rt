@@ -1,4 +1,5 @@
 // What the calls promise (specs/), and the theorems over every list of calls (proofs/). A crate needs one function.
+use terms::limits::MOST_SCANS;
 ghost use mathlib.Core.Path.{_≡_};
 ghost use Rattle.terms.specs.Measures.{mostScans};
 
@@ -6,5 +7,5 @@ ghost use Rattle.terms.specs.Measures.{mostScans};
 pub fn fewest_places() -> usize
     ensures { λ r. ⌜ r ≡ mostScans ⌝ }
 {
-    16
+    MOST_SCANS
 }

@@ -11,6 +11,7 @@ use Rattle.terms.specs.Measures.{Shape}
 use Rattle.loops.specs.declared.Found.{Found}
 use Rattle.layout.specs.declared.Sizes.{Sizes}
 use Rattle.layout.specs.declared.Region.the-variants.{PageState, PagePlace, PageMade, PageReplaced}
+use Rattle.layout.specs.Codes.{asWaiting}
 use Rattle.layout.specs.View.{View}
 use Rattle.model.specs.Stored.{pageIn, firstFrom, pagesOf, placeOf, currentIn}
 use Rattle.model.specs.Reading.{wasCurrent, scanPage}
@@ -27,7 +28,7 @@ module _ (s : Sizes) (proper : Proper s) where
   pages-are = omega (arith, proper .places-are, proper .pages-are)
 
   module _ (v : View) (m place p state : ℕ) (e : state ≡ getD (v PageState) p 0) where
-    pub not-waiting : state < 2 → false ≡ wasCurrent (shapeIn s) v m place p
+    pub not-waiting : state < asWaiting → false ≡ wasCurrent (shapeIn s) v m place p
     unfolding wasCurrent pageIn
     not-waiting h = rw (← e, le-ltb 1 state (omega arith))
 

@@ -15,7 +15,8 @@ use Rattle.model.specs.declared.Walk.{Walk}
 use Rattle.terms.specs.Measures.{Shape}
 use Rattle.terms.specs.declared.Tail.{Tail}
 use Rattle.history.specs.History.{bit, rangeOf}
-use Rattle.model.specs.Stored.{rowIn, recordIn, pageIn, slot, valueIn, cellIn, within}
+use Rattle.model.specs.Stored.{rowIn, recordIn, pageIn, valueIn, cellIn, within}
+use Rattle.layout.specs.Regions.{slot}
 use Rattle.model.specs.Reading.{answersFor, walk, belowLineage, wordIn}
 use Rattle.model.specs.Asked.{shapeIn}
 use Rattle.model.specs.Asked.{Linked}

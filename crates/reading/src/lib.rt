@@ -5,6 +5,8 @@ pub mod pages;
 use layout::Region;
 use layout::Sizes;
 use model::Reader;
+use layout::codes::ORIGINAL;
+use layout::codes::SETTING;
 use model::Walk;
 use pages::cell;
 use pages::current_page;
@@ -17,6 +19,7 @@ use rows::visible;
 use terms::Answer;
 use terms::Row;
 use terms::Tail;
+use terms::limits::RANGE_ROWS;
 use words::of_word;
 ghost use mathlib.Core.Path.{_≡_};
 ghost use Prim.Native.Nat.{_*_, _≤_, _<_};
@@ -49,10 +52,10 @@ pub fn answers_for(mem: &[u8], s: Sizes, who: Reader, at: usize, c: u32) -> bool
 {
     if has_bit(read(mem, s, Region::TailMask, at), c) {
         let kind = read(mem, s, Region::TailKind, at);
-        if kind == 0 {
+        if kind == ORIGINAL {
             return true;
         }
-        if kind == 1 {
+        if kind == SETTING {
             return sees_record(mem, s, who, at);
         }
     }

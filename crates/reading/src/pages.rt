@@ -2,9 +2,11 @@
 // definition of the same meaning.
 use layout::Region;
 use layout::Sizes;
+use layout::codes::PAGE_WAITING;
 use loops::Found;
 use regions::read;
 use terms::Row;
+use terms::limits::RANGE_ROWS;
 ghost use mathlib.Core.Path.{_≡_};
 ghost use Prim.Native.Nat.{_*_, _≤_, _<_};
 ghost use lib.ListN.{length};
@@ -25,7 +27,12 @@ pub fn cell(mem: &[u8], s: Sizes, page: usize, row: Row) -> u32
     requires { ⌜ page < s .pages ⌝ }
     ensures { λ r. ⌜ r ≡ cellIn (view s (words (now (mem .entry)))) page (within (row .0)) ⌝ }
 {
-    read(mem, s, Region::Cells, page * 64 + (row.0 % 64) as usize)
+    read(
+        mem,
+        s,
+        Region::Cells,
+        page * RANGE_ROWS + row.0 as usize % RANGE_ROWS,
+    )
 }
 
 // The current page of range g and column c.
@@ -46,7 +53,7 @@ fn was_current(mem: &[u8], s: Sizes, merges: u32, place: usize, p: usize) -> boo
     requires { ⌜ p < s .pages ⌝ }
     ensures { λ r. ⌜ r ≡ wasCurrent (shapeIn s) (view s (words (now (mem .entry)))) merges place p ⌝ }
 {
-    if read(mem, s, Region::PageState, p) < 2 {
+    if read(mem, s, Region::PageState, p) < PAGE_WAITING {
         return false;
     }
     if read(mem, s, Region::PagePlace, p) as usize % s.places != place {

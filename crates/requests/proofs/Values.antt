@@ -17,7 +17,7 @@ use Rattle.layout.specs.View.{View}
 use Rattle.layout.specs.declared.Region.the-variants.{Current}
 use Rattle.facts.specs.Usable.{storedShape}
 use Rattle.history.specs.History.{Call, insert, update, rangeOf}
-use Rattle.model.specs.Stored.{asSetting}
+use Rattle.layout.specs.Codes.{asSetting}
 use Rattle.model.specs.Writing.{putCells, insertedAt, insertedIn, settingAppended, originalAppended, updatedIn, filledIn, nextSlot, appended}
 use Rattle.model.specs.Calls.{testsIn, replyIn, actIn, placesAfter, say, viewNext, placesNext}
 use Rattle.commands.specs.declared.Write.{Write}

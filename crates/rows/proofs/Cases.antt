@@ -12,7 +12,8 @@ use Rattle.layout.specs.declared.Region.the-variants.{RowTransaction, RowState,
 use Rattle.layout.specs.View.{View}
 use Rattle.history.specs.History.{rangeOf}
 use Rattle.model.specs.declared.Reader.{Reader}
-use Rattle.model.specs.Stored.{rowIn, recordIn, slot}
+use Rattle.model.specs.Stored.{rowIn, recordIn}
+use Rattle.layout.specs.Regions.{slot}
 use Rattle.model.specs.Reading.{sees, seesRow, seesRecord, hasRecord, headIn, visibleIn}
 use Rattle.rows.specs.Finders.{headAt, Inside}
 

@@ -4,6 +4,7 @@ use mathlib.Core.Path.{_≡_}
 use native.Mathlib.Omega.{arith}
 use native.Mathlib.Nat.{mul-le-mul, mul-le-mul-right, suc-mul, mul-comm}
 use lib.ListN.{getD}
+use Rattle.terms.specs.Measures.{mostPlaces, mostPages}
 use Rattle.layout.specs.declared.Sizes.{Sizes}
 use Rattle.layout.specs.declared.Region.the-variants.{RowLink}
 use Rattle.layout.specs.View.{View, rowsGiven, usedIn}
@@ -26,9 +27,9 @@ module _ (s : Sizes) (proper : Proper s) where
   pub stretch-in : (g n : ℕ) → g < s .ranges → n ≤ s .capacity → g * s .capacity + n ≤ s .slots
   stretch-in g n h l = omega (arith, proper .slots-are, mul-le-mul-right (s .capacity) h, suc-mul g (s .capacity))
 
-  pub places-few : (s .places ≤ 256) × (s .pages ≤ 512)
+  pub places-few : (s .places ≤ mostPlaces) × (s .pages ≤ mostPages)
   places-few =
-      let few : s .places ≤ 256 = omega (arith, proper .places-are, mul-le-mul (proper .columns-to) (proper .ranges-to)) in
+      let few : s .places ≤ mostPlaces = omega (arith, proper .places-are, mul-le-mul (proper .columns-to) (proper .ranges-to)) in
       (few, omega (arith, proper .pages-are, proper .spares-to))
 
   pub values-few : s .values ≤ 131072

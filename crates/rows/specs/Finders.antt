@@ -5,7 +5,8 @@ use Rattle.terms.specs.Measures.{Shape}
 use Rattle.loops.specs.declared.Found.{Found}
 use Rattle.layout.specs.View.{View}
 use Rattle.history.specs.History.{rangeOf}
-use Rattle.model.specs.Stored.{rowIn, slot}
+use Rattle.model.specs.Stored.{rowIn}
+use Rattle.layout.specs.Regions.{slot}
 use Rattle.model.specs.Reading.{hasRecord}
 
 -- where the newest record of row r lies

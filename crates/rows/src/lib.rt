@@ -2,6 +2,9 @@
 // Each function answers by the model's definition of the same meaning.
 use layout::Region;
 use layout::Sizes;
+use layout::codes::COMMITTED;
+use layout::codes::DELETE;
+use layout::codes::OPEN;
 use loops::Found;
 use model::Reader;
 use regions::read;
@@ -9,14 +12,15 @@ use terms::Row;
 use terms::Stamp;
 use terms::Tail;
 use terms::Transaction;
+use terms::limits::RANGE_ROWS;
 ghost use mathlib.Core.Path.{_≡_};
 ghost use Prim.Native.Nat.{_*_, _≤_, _<_};
 ghost use lib.ListN.{length};
 ghost use Rattle.words.specs.Words.{words};
-ghost use Rattle.layout.specs.Regions.{need};
+ghost use Rattle.layout.specs.Regions.{need, slot};
 ghost use Rattle.layout.specs.View.{view, rowsGiven};
 ghost use Rattle.history.specs.History.{bit, rangeOf};
-ghost use Rattle.model.specs.Stored.{rowIn, recordIn, slot};
+ghost use Rattle.model.specs.Stored.{rowIn, recordIn};
 ghost use Rattle.model.specs.Reading.{sees, seesRow, seesRecord, visibleIn};
 ghost use Rattle.layout.specs.Sizes.{Proper};
 ghost use Rattle.model.specs.Asked.{shapeIn};
@@ -36,10 +40,10 @@ pub fn sees(who: Reader, state: u32, stamp: Stamp, transaction: Transaction) -> 
     ensures { λ r. ⌜ r ≡ sees who state (stamp .0) (transaction .0) ⌝ }
 {
     let me = who.me.0;
-    if state == 1 {
+    if state == COMMITTED {
         return stamp.0 <= who.stamp.0;
     }
-    if state != 0 {
+    if state != OPEN {
         return false;
     }
     if me == 0 {
@@ -77,7 +81,7 @@ pub fn sees_record(mem: &[u8], s: Sizes, who: Reader, slot: usize) -> bool
 pub fn range_of(row: Row) -> usize
     ensures { λ r. ⌜ r ≡ rangeOf (row .0) ⌝ }
 {
-    (row.0 / 64) as usize
+    row.0 as usize / RANGE_ROWS
 }
 
 // Where tail record k of range g lies.
@@ -119,7 +123,7 @@ pub fn visible(mem: &[u8], s: Sizes, who: Reader, row: Row) -> bool
     let Found::At(at) = head(mem, s, row) else {
         return true;
     };
-    if read(mem, s, Region::TailKind, at) < 2 {
+    if read(mem, s, Region::TailKind, at) < DELETE {
         return true;
     }
     !sees_record(mem, s, who, at)

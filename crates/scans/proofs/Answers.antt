@@ -1,4 +1,4 @@
--- What the table of a list tells, where at most 16 scans are open: each question has the answer that the list itself gives.
+-- What the table of a list tells, where at most `mostScans` are open: each question has the answer that the list itself gives.
 use Prim.Native.Nat.{ℕ, zero, suc, _+_, _-_, _≤_, _<_}
 use mathlib.Core.Path.{_≡_, refl, ap, sym, _∙_}
 use mathlib.Core.Bool.{Bool, true, false, not, cond, _&&_, _||_}

@@ -1,4 +1,4 @@
--- The table of a list of places: it grows place by place as the list does, and for a list with at most 16 open scans it answers as the list does.
+-- The table of a list of places: it grows place by place as the list does, and for a list with at most `mostScans` open scans it answers as the list does.
 use Prim.Native.Nat.{ℕ, suc, _+_, _-_, _≤_, _<_, min}
 use mathlib.Core.Path.{_≡_, refl, ap, sym, _∙_}
 use mathlib.Core.Bool.{Bool, true, false, cond}
@@ -51,7 +51,7 @@ free-snoc (q ∷ ps) p =
 -- entries of a list that grows: it has room, or it has none
 entries-snoc : (l : List ℕ) (x : ℕ) → length l < mostScans → entries (l ++ x ∷ []) ≡ set (entries l) (length l) x
 entries-snoc l x h =
-    let zs : List ℕ = replicate 15 0 in
+    let zs : List ℕ = replicate (mostScans - 1) 0 in
     let m : List ℕ = l ++ x ∷ zs in
     let e : (l ++ x ∷ []) ++ replicate mostScans 0 ≡ m ++ 0 ∷ [] = append-assoc l (x ∷ []) (replicate mostScans 0) ∙ sym (append-assoc l (x ∷ zs) (0 ∷ [])) in
     let k : mostScans ≤ length m = omega (arith, length-append l (x ∷ zs)) in

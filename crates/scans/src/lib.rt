@@ -1,10 +1,11 @@
-// The lent list of open scans as a table: how long it is, its open scans with their places, and its first free place. At most 16 scans are open in a
-// usable store, so a table of 16 holds all that a call asks of a list of any length. Definitions and laws speak of the list of places. A table is made
+// The lent list of open scans as a table: how long it is, its open scans with their places, and its first free place. At most MOST_SCANS are open
+// in a usable store, so a table of so many holds all that a call asks of a list of any length. Definitions and laws speak of the list of places. A table is made
 // place by place, by `enter`, for a list lent as records (crates/lent) and for one in bytes (crates/packed).
 
 use loops::Found;
 use loops::and_between;
 use terms::Place;
+use terms::limits::MOST_SCANS;
 ghost use mathlib.Core.Path.{_≡_};
 ghost use mathlib.Core.Bool.{_||_, not, cond, true};
 ghost use mathlib.Core.List.{[]};
@@ -15,21 +16,19 @@ ghost use Rattle.loops.specs.Search.{allBetween};
 ghost use Rattle.scans.specs.Places.{isOpen, among, differ};
 ghost use Rattle.scans.specs.Table.{tableOf, noted, ofLength, findIn};
 
-pub const MOST_SCANS: usize = 16;
-
 // What a call wants to know of the list. Entries at and past `count` are 0.
 pub struct Scans {
     // how many places were lent
     pub length: usize,
-    // the open scans among them, at most 16: how many, and of each its number, stamp and merges and its place in the list
+    // the open scans among them, at most MOST_SCANS: how many, and of each its number, stamp and merges and its place in the list
     pub count: usize,
-    pub numbers: [u32; 16],
-    pub stamps: [u32; 16],
-    pub merges: [u32; 16],
-    pub places: [usize; 16],
+    pub numbers: [u32; MOST_SCANS],
+    pub stamps: [u32; MOST_SCANS],
+    pub merges: [u32; MOST_SCANS],
+    pub places: [usize; MOST_SCANS],
     // the first free place, or the length where there is none
     pub free: usize,
-    // whether more than 16 scans are open
+    // whether more than MOST_SCANS are open
     pub more: bool,
 }
 
@@ -48,10 +47,10 @@ pub fn blank() -> Scans
     Scans {
         length: 0,
         count: 0,
-        numbers: [0; 16],
-        stamps: [0; 16],
-        merges: [0; 16],
-        places: [0; 16],
+        numbers: [0; MOST_SCANS],
+        stamps: [0; MOST_SCANS],
+        merges: [0; MOST_SCANS],
+        places: [0; MOST_SCANS],
         free: 0,
         more: false,
     }
@@ -111,7 +110,7 @@ pub fn find_scan(t: Scans, number: u32) -> Found
 }
 
 // Whether each entry is at most a bound. Unused entries are 0, so all are looked at, and one flag is carried to the end: so the loop vectorises.
-pub fn at_most(entries: [u32; 16], bound: u32) -> bool
+pub fn at_most(entries: [u32; MOST_SCANS], bound: u32) -> bool
     ensures { λ r. ⌜ r ≡ allBetween 0 bound entries ⌝ }
 {
     let mut ok = true;
@@ -124,9 +123,9 @@ pub fn at_most(entries: [u32; 16], bound: u32) -> bool
 }
 
 // Whether entry i is 0 or stands in no later one of the first n entries.
-fn differs(entries: [u32; 16], n: usize, i: usize) -> bool
-    requires { ⌜ (i < n) × (n ≤ 16) ⌝ }
-    ensures { λ r. ⌜ r ≡ (eqb (getD (take n entries) i 0) 0 || not (among (getD (take n entries) i 0) (drop (i + 1) (take n entries)))) ⌝ }
+fn differs(entries: &[u32], n: usize, i: usize) -> bool
+    requires { ⌜ (i < n) × (n ≤ length (now entries)) ⌝ }
+    ensures { λ r. ⌜ r ≡ (eqb (getD (take n (now (entries .entry))) i 0) 0 || not (among (getD (take n (now (entries .entry))) i 0) (drop (i + 1) (take n (now (entries .entry)))))) ⌝ }
 {
     let x = entries[i];
     if x == 0 {
@@ -143,9 +142,9 @@ fn differs(entries: [u32; 16], n: usize, i: usize) -> bool
 }
 
 // Whether those of the first n entries that are not 0 differ from each other.
-pub fn all_differ(entries: [u32; 16], n: usize) -> bool
-    requires { ⌜ n ≤ 16 ⌝ }
-    ensures { λ r. ⌜ r ≡ differ (take n entries) ⌝ }
+pub fn all_differ(entries: &[u32], n: usize) -> bool
+    requires { ⌜ n ≤ length (now entries) ⌝ }
+    ensures { λ r. ⌜ r ≡ differ (take n (now (entries .entry))) ⌝ }
 {
     let mut i = 0;
     while i < n {

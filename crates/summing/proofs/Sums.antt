@@ -8,7 +8,7 @@ use lib.IntN.{ℤ, pos, natAbs, _+ℤ_}
 use mir.Syntax.{w32, w64}
 use mir.Val.{ofZ, toZ}
 use mir.ValLaws.{toZ-ofZ}
-use Rattle.terms.specs.Measures.{Shape}
+use Rattle.terms.specs.Measures.{Shape, mostRows, rangeRows}
 use Rattle.terms.specs.declared.Answer.{Answer}
 use Rattle.layout.specs.View.{View, rowsGiven}
 use Rattle.history.specs.History.{rangeOf}
@@ -20,7 +20,7 @@ use Rattle.summing.specs.Sums.{Tallied}
 use Rattle.summing.proofs.Signed.{sum-size, word-size, size-fits}
 
 -- rows of one range, from `from` up to `to`
-pub one-range : (from to r : ℕ) → from ≤ r → r < to → to ≤ (from / 64 + 1) * 64 → rangeOf r ≡ rangeOf from
+pub one-range : (from to r : ℕ) → from ≤ r → r < to → to ≤ (from / rangeRows + 1) * rangeRows → rangeOf r ≡ rangeOf from
 unfolding rangeOf
 one-range from to r a b c = omega arith
 
@@ -51,14 +51,14 @@ module _ (S : Shape) (v : View) (scan : Place) (c : ℕ) where
 
   module _ (r : ℕ) (t : Tally) (h : Tallied S v scan c r t) where
     -- of at most all the rows that there are it is small, and the code keeps its total whole
-    pub tallied-small : r ≤ 1024 → (t .count ≤ 1024) × (natAbs (t .total) ≤ 2 ^ 41)
+    pub tallied-small : r ≤ mostRows → (t .count ≤ mostRows) × (natAbs (t .total) ≤ 2 ^ 41)
     tallied-small l =
         let bound = tally-bound r in (omega (arith, h .count-is, bound .0), omega (arith, ap natAbs (h .total-is), bound .1))
 
-    pub tallied-kept : r ≤ 1024 → toZ w64 (ofZ w64 (t .total)) ≡ t .total
+    pub tallied-kept : r ≤ mostRows → toZ w64 (ofZ w64 (t .total)) ≡ t .total
     tallied-kept l = toZ-ofZ w64 (t .total) (size-fits (t .total) (omega (arith, tallied-small l .1)))
 
-    pub sum-is : r ≡ rowsGiven v → r ≤ 1024 → Answer.Sum (t .count) (toZ w64 (ofZ w64 (t .total))) ≡ sumIn S v scan c
+    pub sum-is : r ≡ rowsGiven v → r ≤ mostRows → Answer.Sum (t .count) (toZ w64 (ofZ w64 (t .total))) ≡ sumIn S v scan c
     unfolding sumIn
     sum-is e l = rw (tallied-kept l, h .count-is, h .total-is, e)
 

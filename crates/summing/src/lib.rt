@@ -4,6 +4,9 @@ use layout::Region;
 use layout::Sizes;
 use model::Reader;
 use reading::pages::scan_page;
+use layout::codes::PAGE_WAITING;
+use loops::Found;
+use reading::current_page;
 use reading::word_of;
 use regions::read;
 use rows::range_of;
@@ -13,11 +16,13 @@ use terms::Place;
 use terms::Row;
 use terms::Stamp;
 use terms::Transaction;
+use terms::limits::RANGE_ROWS;
 use words::of_word;
 ghost use mathlib.Core.Path.{_≡_};
 ghost use Prim.Native.Nat.{_+_, _*_, _/_, _^_, _≤_, _<_};
 ghost use lib.IntN.{natAbs, _+ℤ_};
 ghost use lib.ListN.{length};
+ghost use Rattle.terms.specs.Measures.{mostRows, rangeRows};
 ghost use Rattle.words.specs.Words.{words};
 ghost use Rattle.layout.specs.Regions.{need};
 ghost use Rattle.layout.specs.View.{view, rowsGiven};
@@ -81,7 +86,7 @@ fn add_rows(
     requires { ⌜ Proper s ⌝ }
     requires { ⌜ Linked s (view s (words (now mem))) ⌝ }
     requires { ⌜ (page < s .pages) × (c < s .columns) × (to ≤ rowsGiven (view s (words (now mem)))) ⌝ }
-    requires { ⌜ (from ≤ to) × (to ≤ (from / 64 + 1) * 64) ⌝ }
+    requires { ⌜ (from ≤ to) × (to ≤ (from / rangeRows + 1) * rangeRows) ⌝ }
     requires { ⌜ page ≡ scanPage (shapeIn s) (view s (words (now mem))) (scan .merges) (rangeOf from) c ⌝ }
     requires { ⌜ Tallied (shapeIn s) (view s (words (now mem))) scan c from t ⌝ }
     ensures { λ r. ⌜ Tallied (shapeIn s) (view s (words (now (mem .entry)))) scan c to r ⌝ }
@@ -97,10 +102,11 @@ fn add_rows(
 
 // The first row after `from` of another range, or the number of rows given where that is less.
 fn range_end(from: u32, given: u32) -> u32
-    requires { ⌜ (from < given) × (given ≤ 1024) ⌝ }
-    ensures { λ r. ⌜ (from < r) × (r ≤ given) × (r ≤ (from / 64 + 1) * 64) ⌝ }
+    requires { ⌜ (from < given) × (given ≤ mostRows) ⌝ }
+    ensures { λ r. ⌜ (from < r) × (r ≤ given) × (r ≤ (from / rangeRows + 1) * rangeRows) ⌝ }
 {
-    let end = (from / 64 + 1) * 64;
+    let rows = RANGE_ROWS as u32;
+    let end = (from / rows + 1) * rows;
     if end < given { end } else { given }
 }
 

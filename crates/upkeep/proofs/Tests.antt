@@ -29,7 +29,7 @@ use Rattle.model.specs.Writing.{freeIn}
 use Rattle.model.specs.Calls.{testsIn, outOfReachIn}
 use Rattle.layout.specs.Sizes.{Proper}
 use Rattle.model.specs.Asked.{shapeIn, Linked, Placed}
-use Rattle.settling.specs.Steps.{foundAt}
+use Rattle.loops.specs.Search.{foundAt}
 use Rattle.merging.specs.Steps.{Mergeable}
 use Rattle.entry.proofs.Fitted.{column-tells, range-tells}
 use Rattle.history.proofs.Lists.{is-false}

@@ -14,8 +14,10 @@ use layout::Region;
 use layout::Sizes;
 use loops::Found;
 use merging::free_page;
+use pages::check::Checked;
+use pages::check::check;
 use regions::read;
-use scans::MOST_SCANS;
+use regions::write;
 use scans::Scans;
 use scans::find_scan;
 use terms::Answer;
@@ -23,6 +25,8 @@ use terms::Place;
 use terms::Refusal;
 use terms::Stamp;
 use terms::Tail;
+use terms::limits::MOST_NUMBERS;
+use terms::limits::MOST_SCANS;
 ghost use mathlib.Core.Path.{_≡_};
 ghost use mathlib.Core.List.{List};
 ghost use Prim.Native.Nat.{ℕ, _<_};
@@ -33,6 +37,18 @@ ghost use Rattle.loops.specs.declared.Found.{Found};
 ghost use Rattle.layout.specs.declared.Sizes.{Sizes};
 ghost use Rattle.layout.specs.View.{view, scansGiven};
 ghost use Rattle.scans.specs.Table.{findIn};
+ghost use mathlib.Core.List.{List, []};
+ghost use Prim.Native.Nat.{_*_, _≤_, _<_, _+_};
+ghost use lib.ListN.{length};
+ghost use Rattle.layout.specs.declared.Region.{Region};
+ghost use Rattle.terms.specs.Measures.{mostScans, mostNumbers};
+ghost use Rattle.terms.specs.declared.Place.{Place};
+ghost use Rattle.terms.specs.declared.Answer.{Answer};
+ghost use Rattle.words.specs.Words.{words};
+ghost use Rattle.layout.specs.Regions.{need, scansAt};
+ghost use Rattle.layout.specs.View.{view, put, scansGiven};
+ghost use Rattle.scans.specs.Places.{openCount};
+ghost use Rattle.scans.specs.Table.{tableOf};
 ghost use Rattle.history.specs.History.{Call, verdict};
 ghost use Rattle.model.specs.Stored.{pageIn, currentIn};
 ghost use Rattle.model.specs.Asked.{shapeIn};
@@ -48,9 +64,6 @@ pub struct Listed {
     pub place: usize,
     pub entry: Place,
 }
-
-// The most scan numbers that a store gives.
-const MOST_NUMBERS: u32 = 65535;
 
 // ---- merge
 
@@ -172,6 +185,17 @@ fn open_tests(mem: &[u8], s: Sizes, scans: Scans, stamp: Stamp) -> Tested
     Tested::Passed(scans.free)
 }
 
+// A scan gets the next number; its place in the scan list is not written here.
+fn give_scan(mem: &mut [u8], s: Sizes) -> u32
+    requires { ⌜ need s * 4 ≤ length (now mem) ⌝ }
+    requires { ⌜ scansGiven (view s (words (now mem))) < mostNumbers ⌝ }
+    ensures { λ r. ⌜ (r ≡ scansGiven (view s (words (now (mem .entry)))) + 1) × (view s (words (now (mem .exit))) ≡ put Region.Header scansAt (scansGiven (view s (words (now (mem .entry)))) + 1) (view s (words (now (mem .entry))))) ⌝ }
+{
+    let n = read(mem, s, Region::Header, HEADER_SCANS) + 1;
+    write(mem, s, Region::Header, HEADER_SCANS, n);
+    n
+}
+
 // A scan is opened at a stamp; the answer is its number.
 pub fn open_scan(mem: &mut [u8], scans: Scans, stamp: Stamp) -> Listed
     ensures { λ r. ⌜ ServesBy scans (now (mem .entry)) (Call.openScan (stamp .0)) (r .answer) (now (mem .exit)) (changedAt r) ⌝ }
@@ -183,7 +207,7 @@ pub fn open_scan(mem: &mut [u8], scans: Scans, stamp: Stamp) -> Listed
         Tested::Failed(x) => unlisted(scans, x),
         Tested::Passed(place) => {
             let merges = read(mem, s, Region::Header, HEADER_MERGES);
-            let number = settling::give_scan(&mut mem[..n], s);
+            let number = give_scan(&mut mem[..n], s);
             Listed {
                 answer: Answer::Number(number),
                 place: place,

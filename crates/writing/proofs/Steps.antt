@@ -15,23 +15,24 @@ use mir.Syntax.{w32}
 use mir.Val.{ofZ, toZ, hbits}
 use mir.ValLaws.{toZ-ofZ}
 use lib.Signed.{mag}
-use Rattle.terms.specs.Measures.{Shape}
+use Rattle.terms.specs.Measures.{Shape, rangeRows}
 use Rattle.history.specs.History.{rangeOf}
 use Rattle.layout.specs.declared.Sizes.{Sizes}
 use Rattle.layout.specs.declared.Region.{Region}
 use Rattle.words.specs.Words.{words}
 use Rattle.loops.specs.Change.{changed}
 use Rattle.words.proofs.Words.{length-words}
-use Rattle.layout.specs.Regions.{need, rowsAt}
+use Rattle.layout.specs.Regions.{need, rowsAt, slot}
 use Rattle.layout.specs.View.{View, view, renew, put, rowsGiven, usedIn}
 use Rattle.layout.proofs.View.{view-long}
-use Rattle.model.specs.Stored.{openPlace, slot, rowIn, cellIn, currentIn, asOriginal, asDelete}
+use Rattle.model.specs.Stored.{openPlace, rowIn, cellIn, currentIn}
+use Rattle.layout.specs.Codes.{asOriginal, asDelete}
 use Rattle.model.specs.Writing.{noted, putCells, nextSlot, appended, filledIn, newBits, newBitsIn, recordsWanted, originalAppended, settingAppended, updatedIn, insertedIn, insertedAt, deletedIn}
 use Rattle.layout.specs.Sizes.{Proper}
 use Rattle.model.specs.Asked.{shapeIn, OpenAt}
-use Rattle.settling.specs.Steps.{notedAt}
-use Rattle.settling.proofs.Views.{renew-none, turn-put, change-none, change-next}
-use Rattle.settling.proofs.Indices.{range-in}
+use Rattle.transactions.specs.Steps.{notedAt}
+use Rattle.layout.proofs.Renewed.{renew-none, turn-put, change-none, change-next}
+use Rattle.layout.proofs.Indices.{range-in}
 use Rattle.writing.specs.Steps.{rowPut, cellsPut, recordPut, cellWords, newestFilled, originalPut, recordsPut, Room, Newest}
 
 -- a note at the place of t, after a step that left the open transactions as they were
@@ -54,7 +55,7 @@ module _ (S : Shape) (g i : ℕ) (vs : List ℤ) (v : View) where
   cells-current x c e = ap (λ (y : View). y Region.Current) e
 
   pub cells-next : (x x′ : View) (c w : ℕ) → x ≡ cellsTo c → w ≡ ofZ w32 (getD vs c (pos 0))
-      → x′ ≡ put Region.Cells (getD (x Region.Current) (g * S .columns + c) 0 * 64 + i) w x → x′ ≡ cellsTo (c + 1)
+      → x′ ≡ put Region.Cells (getD (x Region.Current) (g * S .columns + c) 0 * rangeRows + i) w x → x′ ≡ cellsTo (c + 1)
   unfolding cellsTo
   cells-next x x′ c w e q p =
       turn-put Region.Cells (putCells S (v Region.Current) g i vs c (v Region.Cells)) v x x′ _ w e p
@@ -75,42 +76,42 @@ pub used-long : (s : Sizes) (m : List ℕ) → need s * 4 ≤ length m → lengt
 used-long s m h = view-long s (words m) (omega (arith, length-words m)) Region.Used
 
 -- the words that are put, one after the other
-pub appended-is : (S : Shape) (t r kind mask u link : ℕ) (v x y z : View) → u ≡ getD (v Region.Used) (r / 64) 0 → link ≡ getD (v Region.RowLink) r 0
-    → x ≡ recordPut (r / 64 * S .capacity + u) t r kind mask link v → y ≡ put Region.Used (r / 64) (u + 1) x → z ≡ put Region.RowLink r (u + 1) y
+pub appended-is : (S : Shape) (t r kind mask u link : ℕ) (v x y z : View) → u ≡ getD (v Region.Used) (r / rangeRows) 0 → link ≡ getD (v Region.RowLink) r 0
+    → x ≡ recordPut (r / rangeRows * S .capacity + u) t r kind mask link v → y ≡ put Region.Used (r / rangeRows) (u + 1) x → z ≡ put Region.RowLink r (u + 1) y
     → z ≡ appended S t r kind mask v
 unfolding appended nextSlot recordPut slot rangeOf rowIn
 appended-is S t r kind mask u link v x y z e f a b c =
-    let q : getD (v Region.Used) (r / 64) 0 + 1 - 1 ≡ getD (v Region.Used) (r / 64) 0 = omega arith in
+    let q : getD (v Region.Used) (r / rangeRows) 0 + 1 - 1 ≡ getD (v Region.Used) (r / rangeRows) 0 = omega arith in
     rw (c, b, a, f, e, q)
 
 pub appended-newest : (s : Sizes) (t r kind mask : ℕ) (v : View) → Proper s → Room s v r 1 → length (v Region.Used) ≡ s .ranges
-    → Newest s (appended (shapeIn s) t r kind mask v) (r / 64)
+    → Newest s (appended (shapeIn s) t r kind mask v) (r / rangeRows)
 unfolding rangeOf
 appended-newest s t r kind mask v p o l =
-    let g : r / 64 < s .ranges = range-in s p r (o .row-below) in
+    let g : r / rangeRows < s .ranges = range-in s p r (o .row-below) in
     let e = appended-used (shapeIn s) t r kind mask v (omega arith) in
     record { range-below = g; some = omega (arith, e); most = omega (arith, e, o .left) }
 
 -- so that filling the newest record fills the appended one
 pub appended-filled : (s : Sizes) (t r kind mask : ℕ) (f : ℕ → ℕ) (v : View) → Proper s → Room s v r 1 → length (v Region.Used) ≡ s .ranges
-    → newestFilled (shapeIn s) (r / 64) f (appended (shapeIn s) t r kind mask v)
-    ≡ filledIn (shapeIn s) (nextSlot (shapeIn s) v (r / 64)) f (appended (shapeIn s) t r kind mask v)
+    → newestFilled (shapeIn s) (r / rangeRows) f (appended (shapeIn s) t r kind mask v)
+    ≡ filledIn (shapeIn s) (nextSlot (shapeIn s) v (r / rangeRows)) f (appended (shapeIn s) t r kind mask v)
 unfolding newestFilled nextSlot rangeOf
 appended-filled s t r kind mask f v p o l =
-    let g : r / 64 < s .ranges = range-in s p r (o .row-below) in
-    ap (λ (k : ℕ). filledIn (shapeIn s) (slot (shapeIn s) (r / 64) k) f (appended (shapeIn s) t r kind mask v))
+    let g : r / rangeRows < s .ranges = range-in s p r (o .row-below) in
+    ap (λ (k : ℕ). filledIn (shapeIn s) (slot (shapeIn s) (r / rangeRows) k) f (appended (shapeIn s) t r kind mask v))
     (appended-used (shapeIn s) t r kind mask v (omega arith))
 
 -- after the record of the original values
-pub original-used : (S : Shape) (t r fresh : ℕ) (v : View) → r / 64 < length (v Region.Used)
-    → usedIn (originalPut S t r fresh v) (r / 64) ≡ usedIn v (r / 64) + 1
+pub original-used : (S : Shape) (t r fresh : ℕ) (v : View) → r / rangeRows < length (v Region.Used)
+    → usedIn (originalPut S t r fresh v) (r / rangeRows) ≡ usedIn v (r / rangeRows) + 1
 unfolding originalPut filledIn rangeOf renew
 original-used S t r fresh v h = appended-used S t r asOriginal fresh v h
 
 pub original-room : (s : Sizes) (t r fresh : ℕ) (v : View) → Proper s → Room s v r 2 → length (v Region.Used) ≡ s .ranges
     → Room s (originalPut (shapeIn s) t r fresh v) r 1
 original-room s t r fresh v p o l =
-    let g : r / 64 < s .ranges = range-in s p r (o .row-below) in
+    let g : r / rangeRows < s .ranges = range-in s p r (o .row-below) in
     let e = original-used (shapeIn s) t r fresh v (omega arith) in
     record { row-below = o .row-below; left = omega (arith, e, o .left) }
 
@@ -154,7 +155,7 @@ module _ (S : Shape) (f : ℕ → ℕ) (at : ℕ) (v : View) where
 
 -- the word that a turn reads in a current page
 pub fills-cell : (S : Shape) (g i at : ℕ) (v x : View) (c w : ℕ) → x ≡ fillsTo S (cellWords S v g i) at v c
-    → w ≡ getD (x Region.Cells) (getD (x Region.Current) (g * S .columns + c) 0 * 64 + i) 0 → w ≡ cellWords S v g i c
+    → w ≡ getD (x Region.Cells) (getD (x Region.Current) (g * S .columns + c) 0 * rangeRows + i) 0 → w ≡ cellWords S v g i c
 unfolding cellWords cellIn currentIn
 fills-cell S g i at v x c w e q =
     q ∙ rw (fills-current S (cellWords S v g i) at v x c e, fills-cells S (cellWords S v g i) at v x c e)
@@ -189,7 +190,7 @@ module _ (S : Shape) (t j : ℕ) (v : View) (o : OpenAt v t j) where
   unfolding updatedIn recordsPut rowIn put renew
   updated-is r mask old vs x y z e a b c = rw (c, b, a, e) (noted-at v _ t j o (records-opens S t r mask vs v))
 
-  pub inserted-is : (n : ℕ) (vs : List ℤ) (w x y z : View) → n ≡ rowsGiven v → w ≡ rowPut t n v → x ≡ cellsPut S (n / 64) (n % 64) vs w
+  pub inserted-is : (n : ℕ) (vs : List ℤ) (w x y z : View) → n ≡ rowsGiven v → w ≡ rowPut t n v → x ≡ cellsPut S (n / rangeRows) (n % rangeRows) vs w
       → y ≡ put Region.Header rowsAt (n + 1) x → z ≡ notedAt j y → z ≡ insertedIn S t vs v
   unfolding insertedIn insertedAt cellsPut rowPut rangeOf put renew
   inserted-is n vs w x y z e a b c d = rw (d, c, b, a, e) (noted-at v _ t j o refl)

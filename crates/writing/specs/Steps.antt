@@ -12,7 +12,9 @@ use Rattle.history.specs.History.{rangeOf}
 use Rattle.layout.specs.declared.Sizes.{Sizes}
 use Rattle.layout.specs.declared.Region.{Region}
 use Rattle.layout.specs.View.{View, renew, put, usedIn}
-use Rattle.model.specs.Stored.{asOpen, asOriginal, within, slot, cellIn, currentIn}
+use Rattle.model.specs.Stored.{within, cellIn, currentIn}
+use Rattle.layout.specs.Codes.{asOpen, asOriginal}
+use Rattle.layout.specs.Regions.{slot}
 use Rattle.model.specs.Writing.{putCells, nextSlot, appended, filledIn, newBitsIn, originalAppended, settingAppended}
 
 -- the words of row r, inserted by transaction t and not yet changed

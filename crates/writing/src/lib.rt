@@ -1,36 +1,34 @@
 // What insert, update and delete write, over the lent bytes. Nothing here tests whether a call may be carried out: a call has done that before, and hands on
 // what its tests have shown. Each contract cites the model's definition of the memory that is left.
 use layout::HEADER_ROWS;
-use layout::RANGE_ROWS;
 use layout::Region;
 use layout::Sizes;
+use layout::codes::DELETE;
+use layout::codes::OPEN;
+use layout::codes::ORIGINAL;
+use layout::codes::SETTING;
 use regions::read;
 use regions::write;
-use settling::note;
 use terms::Row;
 use terms::Tail;
 use terms::Transaction;
+use terms::limits::MOST_COLUMNS;
+use terms::limits::RANGE_ROWS;
+use transactions::note;
 use words::to_word;
 ghost use mathlib.Core.Path.{_≡_};
 ghost use Prim.Native.Nat.{_+_, _*_, _≤_, _<_};
 ghost use lib.ListN.{length, getD};
+ghost use Rattle.terms.specs.Measures.{rangeRows};
 ghost use Rattle.words.specs.Words.{words};
 ghost use Rattle.history.specs.History.{rangeOf};
-ghost use Rattle.layout.specs.Regions.{need};
+ghost use Rattle.layout.specs.Regions.{need, slot};
 ghost use Rattle.layout.specs.declared.Region.{Region};
 ghost use Rattle.layout.specs.View.{view, put, rowsGiven, usedIn};
-ghost use Rattle.model.specs.Stored.{slot};
 ghost use Rattle.model.specs.Writing.{insertedIn, appended, newBits, recordsWanted, settingAppended, updatedIn, deletedIn};
 ghost use Rattle.layout.specs.Sizes.{Proper};
 ghost use Rattle.model.specs.Asked.{shapeIn, Pooled, OpenAt};
 ghost use Rattle.writing.specs.Steps.{rowPut, cellsPut, recordPut, cellWords, valueWords, newestFilled, originalPut, recordsPut, Room, Newest};
-
-// The kinds of tail records, as stored.
-const ORIGINAL: u32 = 0;
-
-const SETTING: u32 = 1;
-
-const DELETE: u32 = 2;
 
 // ---- insert
 
@@ -42,7 +40,7 @@ fn put_row(mem: &mut [u8], s: Sizes, t: Transaction, row: Row)
 {
     let i = row.0 as usize;
     write(mem, s, Region::RowTransaction, i, t.0);
-    write(mem, s, Region::RowState, i, 0);
+    write(mem, s, Region::RowState, i, OPEN);
     write(mem, s, Region::RowStamp, i, 0);
     write(mem, s, Region::RowLink, i, 0);
     write(mem, s, Region::RowMask, i, 0);
@@ -51,18 +49,18 @@ fn put_row(mem: &mut [u8], s: Sizes, t: Transaction, row: Row)
 // The value of a column into a place of a range's current page.
 fn put_cell(mem: &mut [u8], s: Sizes, place: usize, i: usize, w: u32)
     requires { ⌜ need s * 4 ≤ length (now mem) ⌝ }
-    requires { ⌜ (place < s .places) × (i < 64) × (getD (view s (words (now mem)) Region.Current) place 0 < s .pages) ⌝ }
-    ensures { λ _. ⌜ view s (words (now (mem .exit))) ≡ put Region.Cells (getD (view s (words (now (mem .entry))) Region.Current) place 0 * 64 + i) w (view s (words (now (mem .entry)))) ⌝ }
+    requires { ⌜ (place < s .places) × (i < rangeRows) × (getD (view s (words (now mem)) Region.Current) place 0 < s .pages) ⌝ }
+    ensures { λ _. ⌜ view s (words (now (mem .exit))) ≡ put Region.Cells (getD (view s (words (now (mem .entry))) Region.Current) place 0 * rangeRows + i) w (view s (words (now (mem .entry)))) ⌝ }
 {
     let page = read(mem, s, Region::Current, place) as usize;
     write(mem, s, Region::Cells, page * RANGE_ROWS + i, w);
 }
 
 // The values of a row into place i of the current pages of range g.
-fn put_cells(mem: &mut [u8], s: Sizes, g: usize, i: usize, vs: [i32; 16])
+fn put_cells(mem: &mut [u8], s: Sizes, g: usize, i: usize, vs: [i32; MOST_COLUMNS])
     requires { ⌜ need s * 4 ≤ length (now mem) ⌝ }
     requires { ⌜ Proper s × Pooled s (view s (words (now mem))) ⌝ }
-    requires { ⌜ (g < s .ranges) × (i < 64) ⌝ }
+    requires { ⌜ (g < s .ranges) × (i < rangeRows) ⌝ }
     ensures { λ _. ⌜ view s (words (now (mem .exit))) ≡ cellsPut (shapeIn s) g i vs (view s (words (now (mem .entry)))) ⌝ }
 {
     let columns = s.columns;
@@ -75,7 +73,7 @@ fn put_cells(mem: &mut [u8], s: Sizes, g: usize, i: usize, vs: [i32; 16])
 }
 
 // A new row of open transaction t, whose place is `at`: the next number, and a value for each column.
-pub fn insert(mem: &mut [u8], s: Sizes, at: usize, t: Transaction, vs: [i32; 16]) -> Row
+pub fn insert(mem: &mut [u8], s: Sizes, at: usize, t: Transaction, vs: [i32; MOST_COLUMNS]) -> Row
     requires { ⌜ need s * 4 ≤ length (now mem) ⌝ }
     requires { ⌜ Proper s × Pooled s (view s (words (now mem))) ⌝ }
     requires { ⌜ OpenAt (view s (words (now mem))) (t .0) at × (rowsGiven (view s (words (now mem))) < s .rows) ⌝ }
@@ -112,7 +110,7 @@ fn put_record(
     write(mem, s, Region::TailKind, slot, kind);
     write(mem, s, Region::TailMask, slot, mask);
     write(mem, s, Region::TailLink, slot, link.0);
-    write(mem, s, Region::TailState, slot, 0);
+    write(mem, s, Region::TailState, slot, OPEN);
     write(mem, s, Region::TailStamp, slot, 0);
 }
 
@@ -147,8 +145,8 @@ fn newest_values(mem: &[u8], s: Sizes, g: usize) -> usize
 // The word of a column in place i of a range's current page.
 fn cell_word(mem: &[u8], s: Sizes, place: usize, i: usize) -> u32
     requires { ⌜ need s * 4 ≤ length (now mem) ⌝ }
-    requires { ⌜ (place < s .places) × (i < 64) × (getD (view s (words (now mem)) Region.Current) place 0 < s .pages) ⌝ }
-    ensures { λ r. ⌜ r ≡ getD (view s (words (now (mem .entry))) Region.Cells) (getD (view s (words (now (mem .entry))) Region.Current) place 0 * 64 + i) 0 ⌝ }
+    requires { ⌜ (place < s .places) × (i < rangeRows) × (getD (view s (words (now mem)) Region.Current) place 0 < s .pages) ⌝ }
+    ensures { λ r. ⌜ r ≡ getD (view s (words (now (mem .entry))) Region.Cells) (getD (view s (words (now (mem .entry))) Region.Current) place 0 * rangeRows + i) 0 ⌝ }
 {
     let page = read(mem, s, Region::Current, place) as usize;
     read(mem, s, Region::Cells, page * RANGE_ROWS + i)
@@ -158,7 +156,7 @@ fn cell_word(mem: &[u8], s: Sizes, place: usize, i: usize) -> u32
 fn fill_cells(mem: &mut [u8], s: Sizes, g: usize, i: usize)
     requires { ⌜ need s * 4 ≤ length (now mem) ⌝ }
     requires { ⌜ Proper s × Pooled s (view s (words (now mem))) ⌝ }
-    requires { ⌜ Newest s (view s (words (now mem))) g × (i < 64) ⌝ }
+    requires { ⌜ Newest s (view s (words (now mem))) g × (i < rangeRows) ⌝ }
     ensures { λ _. ⌜ view s (words (now (mem .exit))) ≡ newestFilled (shapeIn s) g (cellWords (shapeIn s) (view s (words (now (mem .entry)))) g i) (view s (words (now (mem .entry)))) ⌝ }
 {
     let columns = s.columns;
@@ -173,7 +171,7 @@ fn fill_cells(mem: &mut [u8], s: Sizes, g: usize, i: usize)
 }
 
 // The newest record of range g holds a call's values.
-fn fill_values(mem: &mut [u8], s: Sizes, g: usize, vs: [i32; 16])
+fn fill_values(mem: &mut [u8], s: Sizes, g: usize, vs: [i32; MOST_COLUMNS])
     requires { ⌜ need s * 4 ≤ length (now mem) ⌝ }
     requires { ⌜ Proper s ⌝ }
     requires { ⌜ Newest s (view s (words (now mem))) g ⌝ }
@@ -201,7 +199,14 @@ fn append_original(mem: &mut [u8], s: Sizes, t: Transaction, row: Row, fresh: u3
 }
 
 // The record of a call's values, for the columns of its mask.
-fn append_setting(mem: &mut [u8], s: Sizes, t: Transaction, row: Row, mask: u32, vs: [i32; 16])
+fn append_setting(
+    mem: &mut [u8],
+    s: Sizes,
+    t: Transaction,
+    row: Row,
+    mask: u32,
+    vs: [i32; MOST_COLUMNS],
+)
     requires { ⌜ need s * 4 ≤ length (now mem) ⌝ }
     requires { ⌜ Proper s ⌝ }
     requires { ⌜ Room s (view s (words (now mem))) (row .0) 1 ⌝ }
@@ -229,7 +234,14 @@ pub fn records_wanted(mem: &[u8], s: Sizes, row: Row, mask: u32) -> u32
 }
 
 // The records of an update, two where it sets a column for the first time.
-fn append_records(mem: &mut [u8], s: Sizes, t: Transaction, row: Row, mask: u32, vs: [i32; 16])
+fn append_records(
+    mem: &mut [u8],
+    s: Sizes,
+    t: Transaction,
+    row: Row,
+    mask: u32,
+    vs: [i32; MOST_COLUMNS],
+)
     requires { ⌜ need s * 4 ≤ length (now mem) ⌝ }
     requires { ⌜ Proper s × Pooled s (view s (words (now mem))) ⌝ }
     requires { ⌜ Room s (view s (words (now mem))) (row .0) (recordsWanted (view s (words (now mem))) (row .0) mask) ⌝ }
@@ -252,7 +264,7 @@ pub fn update(
     t: Transaction,
     row: Row,
     mask: u32,
-    vs: [i32; 16],
+    vs: [i32; MOST_COLUMNS],
 ) -> Tail
     requires { ⌜ need s * 4 ≤ length (now mem) ⌝ }
     requires { ⌜ Proper s × Pooled s (view s (words (now mem))) ⌝ }

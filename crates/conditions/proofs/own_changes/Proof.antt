@@ -1,6 +1,6 @@
 -- `conditions::own_changes` meets its contract: the record at the place is that of the transaction, and its `owner` is the definition.
 use Rattle.model.specs.Reading.{ownChanges}
-use Rattle.pending.proofs.Number.{number-there}
+use Rattle.transactions.proofs.Number.{number-there}
 use borrow.Author.Needs.{needs}
 use Rattle.conditions.proofs.own_changes.Statement.{statement}
 use Rattle.conditions.proofs.own_changes.Tie as tie

@@ -1,8 +1,9 @@
 -- `facts::opens_hold` meets its contract.
 use borrow.Author.Needs.{needs}
 use mathlib.Core.Path.{refl}
-use lib.ListN.{replicate}
-use lib.Seq.{take-at}
+use native.Mathlib.Omega.{arith}
+use lib.Seq.{take-all}
+use Rattle.terms.specs.Measures.{mostTransactions}
 use Rattle.words.specs.Words.{words}
 use Rattle.layout.specs.View.{view}
 use Rattle.layout.specs.declared.Region.the-variants.{Opens}
@@ -15,13 +16,14 @@ returns : tie.Need-returns
 unfolding opensHold
 returns c =
     let differ = c .before in
-    let opens = differ .before in
+    let opens = differ .before .before in
     let numbers = opens .before in
     let given = numbers .before in
-    let s = given .before .before in
-    let m = s .args .mem .now in
-    let o = view (s .args .s) (words m) Opens in
-    rw (c .both .ensures, differ .all-differ .ensures, opens .opens-of .ensures, take-at o (replicate 8 0) 8 (opens-length (s .args .s) m (s .pre)), numbers .between-in .ensures, given .read .ensures, whole (s .args .s) m Opens 8 (s .pre) refl)
+    let start = given .before .before in
+    let s = start .args .s in
+    let m = start .args .mem .now in
+    let long = opens-length s m (start .pre) in
+    rw (c .both .ensures, differ .all-differ .ensures, opens .opens-of .ensures, take-all mostTransactions (view s (words m) Opens) (omega arith), numbers .between-in .ensures, given .read .ensures, whole s m Opens mostTransactions (start .pre) refl)
 
 pub opens-hold-spec : {M : Type 1} → statement M
 opens-hold-spec =
@@ -30,6 +32,7 @@ opens-hold-spec =
     (λ c κs. search needs)
     (λ c κs. search needs)
     (λ c κs. search needs)
+    (λ c. search needs)
     (λ c κs. search needs)
     (λ c κs. search needs)
     returns)

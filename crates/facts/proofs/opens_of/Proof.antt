@@ -1,35 +1,52 @@
--- `facts::opens_of` meets its contract.
+-- `facts::opens_of` meets its contract: after i turns the first i numbers are read.
+use Prim.Native.Nat.{_≤_, _-_}
+use mathlib.Core.Path.{_≡_, refl, _∙_}
+use native.Mathlib.Omega.{arith}
+use lib.ListN.{length, take, length-set}
 use borrow.Author.Needs.{needs}
+use Rattle.terms.specs.Measures.{mostTransactions}
 use Rattle.words.specs.Words.{words}
+use Rattle.loops.proofs.Taken.{take-next, take-whole}
 use Rattle.layout.specs.View.{view}
 use Rattle.layout.specs.declared.Region.the-variants.{Opens}
-use lib.ListN.{replicate}
-use Rattle.facts.proofs.Parts.{eight, opens-length}
+use Rattle.facts.proofs.Parts.{opens-length}
 use Rattle.facts.proofs.opens_of.Statement.{statement}
 use Rattle.facts.proofs.opens_of.Tie as tie
 
-returns : tie.Need-returns
+abbrev Inv-loop : tie.InvT-loop
+Inv-loop mem s opens₀ i₀ opens i = (i ≤ mostTransactions) × (length opens ≡ mostTransactions) × (take i opens ≡ take i (view s (words mem) Opens))
+
+abbrev μ-loop : tie.MeasureT-loop
+μ-loop mem s opens₀ i₀ opens i = mostTransactions - i
+
+-- as many words as there are places
+long : (c : tie.Start Inv-loop μ-loop) → length (view (c .args .s) (words (c .args .mem .now)) Opens) ≡ mostTransactions
+long c = opens-length (c .args .s) (c .args .mem .now) (c .pre)
+
+loop-again : tie.Need-loop-again Inv-loop μ-loop
+loop-again c =
+    let head = c .before .before in
+    let loop = head .loop in
+    let n = long (head .before .before) in
+    (omega arith, length-set (loop .opens) (loop .i) _ ∙ loop .inv .1, take-next 0 (loop .opens) _ (loop .i) _ (c .read .ensures) (loop .inv .2) (omega arith) (omega arith))
+
+returns : tie.Need-returns Inv-loop μ-loop
 returns c =
-    let r7 = c .before in
-    let r6 = r7 .before in
-    let r5 = r6 .before in
-    let r4 = r5 .before in
-    let r3 = r4 .before in
-    let r2 = r3 .before in
-    let r1 = r2 .before in
-    let s = r1 .before .before in
-    eight (view (s .args .s) (words (s .args .mem .now)) Opens) (replicate 8 0) _ _ _ _ _ _ _ _ (opens-length (s .args .s) (s .args .mem .now) (s .pre)) (r1 .read .ensures) (r2 .read2 .ensures) (r3 .read3 .ensures) (r4 .read4 .ensures) (r5 .read5 .ensures) (r6 .read6 .ensures) (r7 .read7 .ensures) (c .read8 .ensures)
+    let loop = c .before .loop in
+    let all : loop .i ≡ mostTransactions = omega arith in
+    take-whole (loop .opens) _ mostTransactions (loop .inv .1) (long (c .before .before .before)) (rw all at (loop .inv .2))
 
 pub opens-of-spec : {M : Type 1} → statement M
 opens-of-spec =
     tie.close
     (tie.spec
+    Inv-loop
+    μ-loop
+    (λ c. (omega arith, refl, refl))
     (λ c κs. search needs)
-    (λ c κs. search needs)
-    (λ c κs. search needs)
-    (λ c κs. search needs)
-    (λ c κs. search needs)
-    (λ c κs. search needs)
-    (λ c κs. search needs)
-    (λ c κs. search needs)
+    (λ c. search needs)
+    (λ c. search needs)
+    (λ c. search needs)
+    (λ c. search needs)
+    loop-again
     returns)

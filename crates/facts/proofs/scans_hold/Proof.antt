@@ -12,7 +12,7 @@ returns c =
     let one = two .before in
     let differ = one .before in
     let entries = differ .before in
-    let merges = entries .before in
+    let merges = entries .before .before in
     let stamps = merges .before in
     let numbers = stamps .before in
     let made = numbers .before .before .before .before in
@@ -34,6 +34,7 @@ scans-hold-spec =
     (λ c κs. search needs)
     (λ c κs. search needs)
     (λ c κs. search needs)
+    (λ c. search needs)
     (λ c κs. search needs)
     (λ c κs. search needs)
     (λ c κs. search needs)

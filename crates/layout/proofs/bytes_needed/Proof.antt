@@ -1,12 +1,12 @@
 -- `layout::bytes_needed` meets its contract: within the limits the need is small, so that it fits a word.
-use Prim.Native.Nat.{_<_, _^_}
+use Prim.Native.Nat.{_<_}
 use mathlib.Core.Path.{_≡_, sym, _∙_}
 use mathlib.Core.Bool.{true}
 use native.Mathlib.Omega.{arith}
 use borrow.Author.Needs.{needs}
 use Rattle.terms.specs.Measures.{withinLimits}
 use Rattle.layout.specs.Regions.{need}
-use Rattle.layout.specs.Sizes.{shapeOf, bytesNeeded, bytesAnswer}
+use Rattle.layout.specs.Sizes.{shapeOf, bytesNeeded, bytesAnswer, tooManyWords}
 use Rattle.layout.proofs.Limits.{need-small, bytes-told}
 use Rattle.layout.proofs.bytes_needed.Statement.{statement}
 use Rattle.layout.proofs.bytes_needed.Tie as tie
@@ -14,7 +14,7 @@ use Rattle.layout.proofs.bytes_needed.Tie as tie
 within : (c : tie.Then1) → withinLimits (shapeOf (c .before .before .args .columns) (c .before .before .args .ranges) (c .before .before .args .capacity) (c .before .before .args .spares)) ≡ true
 within c = sym (c .before .within-limits .ensures) ∙ c .if1 .taken
 
-small : (c : tie.After-sizes-of) → need (c .sizes-of .result) < 2 ^ 24
+small : (c : tie.After-sizes-of) → need (c .sizes-of .result) < tooManyWords
 small c = rw (c .sizes-of .ensures) (need-small _ (within (c .before)))
 
 returns : tie.Need-returns

@@ -10,4 +10,4 @@ unfolding withinLimits
 returns c = rw (c .and-between4 .ensures, c .before .and-between3 .ensures, c .before .before .and-between2 .ensures, c .before .before .before .and-between .ensures) (simp and-assoc)
 
 pub within-limits-spec : {M : Type 1} → statement M
-within-limits-spec = tie.close (tie.spec (λ c κs. search needs) (λ c κs. search needs) (λ c κs. search needs) (λ c κs. search needs) returns)
+within-limits-spec = tie.close (tie.spec (λ c. search needs) (λ c κs. search needs) (λ c κs. search needs) (λ c κs. search needs) (λ c κs. search needs) returns)

@@ -2,6 +2,7 @@
 use borrow.Author.Needs.{needs}
 use mathlib.Core.Path.{_≡_, sym, _∙_}
 use lib.ListN.{length}
+use Rattle.terms.specs.Measures.{mostScans}
 use Rattle.history.specs.History.{verdict}
 use Rattle.loops.specs.declared.Found.{Found}
 use Rattle.scans.specs.Table.{findIn}
@@ -17,7 +18,7 @@ use Rattle.lookups.proofs.scan_read_tests.Tie as tie
 there : (c : tie.After-j) → let start = c .before .before .before .before in ScanAt (start .args .t) (start .args .scan) (c .j .given .0 .0)
 there c =
     let start : tie.Start = search in
-    let n : length (start .args .t .numbers) ≡ 16 = search needs in
+    let n : length (start .args .t .numbers) ≡ mostScans = search needs in
     found-scan _ _ _ n (sym (c .before .before .find-scan .ensures) ∙ c .j .given .1)
 
 returns : tie.Need-returns

@@ -1,18 +1,18 @@
 -- `making::make` meets its contract. Each answer follows from the tests that led to it; `lent` carries the part that was lent to the whole memory.
 use native.Mathlib.Omega.{arith}
 use borrow.Author.Needs.{needs}
-use Prim.Native.Nat.{_*_, _^_, _≤_, _<_}
+use Prim.Native.Nat.{_*_, _≤_, _<_}
 use mathlib.Core.Path.{_≡_, sym, _∙_}
 use mathlib.Core.Bool.{true}
 use lib.ListN.{length, take}
 use lib.Seq.{length-take-le}
 use borrow.Author.Tests.{not-true, not-false}
+use Rattle.model.specs.Writing.{made as madeView}
 use Rattle.terms.specs.Measures.{Shape, withinLimits}
 use Rattle.layout.specs.Regions.{need}
-use Rattle.layout.specs.Sizes.{shapeOf, sizesOf, Proper}
+use Rattle.layout.specs.Sizes.{shapeOf, sizesOf, Proper, tooManyWords}
 use Rattle.layout.proofs.Lay.{lent}
 use Rattle.layout.proofs.Limits.{need-small, proper}
-use Rattle.making.specs.Made.{madeView}
 use Rattle.making.proofs.Answers.{out-of-limits, no-room, few-places, laid}
 use Rattle.making.proofs.make.Statement.{statement}
 use Rattle.making.proofs.make.Tie as tie
@@ -20,35 +20,39 @@ use Rattle.making.proofs.make.Tie as tie
 abbrev shape : tie.Start → Shape
 shape c = shapeOf (c .args .columns) (c .args .ranges) (c .args .capacity) (c .args .spares)
 
-within : (c : tie.Else1) → withinLimits (shape (c .before .before .before)) ≡ true
+-- where the function begins, from the branch of a shape within the limits
+abbrev start : tie.Else1 → tie.Start
+start c = c .before .before .before
+
+within : (c : tie.Else1) → withinLimits (shape (start c)) ≡ true
 within c = sym (c .before .within-limits .ensures) ∙ not-false (c .before .within-limits .result) (c .if1 .left)
 
-small : (c : tie.After-sizes-of) → need (c .sizes-of .result) < 2 ^ 24
-small c = rw (c .sizes-of .ensures) (need-small (shape (c .before .before .before .before)) (within (c .before)))
+small : (c : tie.After-sizes-of) → need (c .sizes-of .result) < tooManyWords
+small c = rw (c .sizes-of .ensures) (need-small (shape (start (c .before))) (within (c .before)))
 
 -- the bytes needed, as the test of the length has them
-bytes : (c : tie.After-words-needed) → c .words-needed .result * 4 ≡ need (sizesOf (shape (c .before .before .before .before .before))) * 4
+bytes : (c : tie.After-words-needed) → c .words-needed .result * 4 ≡ need (sizesOf (shape (start (c .before .before)))) * 4
 bytes c = rw (c .words-needed .ensures, c .before .sizes-of .ensures)
 
 returns : tie.Need-returns
 returns c = out-of-limits (shape (c .before .before .before)) _ _ (sym (c .before .within-limits .ensures) ∙ not-true (c .before .within-limits .result) (c .if1 .taken))
 
 returns-2 : tie.Need-returns-2
-returns-2 c = no-room (shape (c .before .before .before .before .before .before)) _ _ (within (c .before .before .before)) (rw (bytes (c .before)) at (c .if2 .taken))
+returns-2 c = no-room (shape (start (c .before .before .before))) _ _ (within (c .before .before .before)) (rw (bytes (c .before)) at (c .if2 .taken))
 
 returns-3 : tie.Need-returns-3
-returns-3 c = few-places (shape (c .before .before .before .before .before .before .before)) _ _ (within (c .before .before .before .before)) (rw (bytes (c .before .before)) at (c .before .if2 .left)) (c .if3 .taken)
+returns-3 c = few-places (shape (start (c .before .before .before .before))) _ _ (within (c .before .before .before .before)) (rw (bytes (c .before .before)) at (c .before .if2 .left)) (c .if3 .taken)
 
 -- the part is as long as it is to be
-part : (c : tie.Else2) → length (take (c .before .words-needed .result * 4) (c .before .before .before .before .before .before .args .mem .now)) ≡ c .before .words-needed .result * 4
-part c = length-take-le (c .before .words-needed .result * 4) (c .before .before .before .before .before .before .args .mem .now) (c .if2 .left)
+part : (c : tie.Else2) → length (take (c .before .words-needed .result * 4) (start (c .before .before .before) .args .mem .now)) ≡ c .before .words-needed .result * 4
+part c = length-take-le (c .before .words-needed .result * 4) (start (c .before .before .before) .args .mem .now) (c .if2 .left)
 
 lay-out-requires : tie.Need-lay-out-requires
 lay-out-requires c κs =
     let n = c .before .before .before in
     let z = n .before in
     let w = within (z .before) in
-    let k : Proper (z .sizes-of .result) = rw (z .sizes-of .ensures) (proper (shape (z .before .before .before .before)) w) in
+    let k : Proper (z .sizes-of .result) = rw (z .sizes-of .ensures) (proper (shape (start (z .before))) w) in
     ((omega (arith, part (c .before .before), n .words-needed .ensures), small z), (z .sizes-of .ensures, omega (arith, k .pages-are), omega (arith, k .pages-to)))
 
 returns-4 : tie.Need-returns-4
@@ -56,11 +60,10 @@ returns-4 c =
     let call = c .before .before in
     let n = call .before .before .before .before in
     let z = n .before in
-    let start = z .before .before .before .before in
-    let m = start .args .mem .now in
-    let v = madeView (shape start) in
+    let m = start (z .before) .args .mem .now in
+    let v = madeView (shape (start (z .before))) in
     let room : need (z .sizes-of .result) * 4 ≤ length m = rw (n .words-needed .ensures) at (call .before .before .before .if2 .left) in
-    laid (shape start) _ m (within (z .before)) (rw (z .sizes-of .ensures) at room) (call .before .before .if3 .left) _
+    laid (shape (start (z .before))) _ m (within (z .before)) (rw (z .sizes-of .ensures) at room) (call .before .before .if3 .left) _
     (rw (z .sizes-of .ensures)
     at
     (lent (z .sizes-of .result) (n .words-needed .result * 4) m (call .lay-out .last .0) (λ u. v) (call .lay-out .ensures) (call .lay-out .kept .0)

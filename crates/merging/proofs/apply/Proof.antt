@@ -8,7 +8,7 @@ use Rattle.layout.specs.Regions.{need}
 use Rattle.layout.specs.View.{view}
 use Rattle.model.specs.Writing.{newestOf}
 use Rattle.model.specs.Asked.{shapeIn}
-use Rattle.settling.proofs.Indices.{tail-in, sizes-need}
+use Rattle.layout.proofs.Indices.{tail-in, sizes-need}
 use Rattle.merging.specs.Steps.{appliedAll}
 use Rattle.merging.proofs.Pass.{applied-none, applied-next, newest-none, newest-next, pass-end}
 use Rattle.merging.proofs.apply.Statement.{statement}
@@ -22,19 +22,24 @@ Inv-loop mem₀ s g c page n low first newest i₀ mem latest i =
 abbrev μ-loop : tie.MeasureT-loop
 μ-loop mem₀ s g c page n low first newest i₀ mem latest i = n - i
 
+-- where the function begins
+abbrev start : tie.At-loop Inv-loop μ-loop → tie.Start Inv-loop μ-loop
+start c = c .before .before .before .before
+
 -- the records of the range lie among the slots
 inside : (c : tie.Start Inv-loop μ-loop) → let a = c .args in (a .g * a .s .capacity + a .s .capacity ≤ a .s .slots) × (a .s .slots ≤ need (a .s))
 inside c = let a = c .args in (tail-in (a .s) (c .pre .1 .0) (a .g) (c .pre .1 .1 .0), omega (arith, sizes-need (a .s)))
 
 apply-one-requires : tie.Need-apply-one-requires Inv-loop μ-loop
 apply-one-requires c κs =
-    let start = c .before .before .before .before .before .before in
-    (omega arith, (start .pre .1 .0, (omega (arith, inside start), start .pre .1 .1 .1, start .pre .1 .1 .2)))
+    let s = start (c .before .before) in
+    (omega arith, (s .pre .1 .0, (omega (arith, inside s), s .pre .1 .1 .1, s .pre .1 .1 .2)))
 
 loop-again : tie.Need-loop-again Inv-loop μ-loop
 loop-again c =
-    let inv = c .before .before .before .before .before .loop .inv in
-    let done = c .before .before .apply-one .ensures in
+    let applied = c .before .before in
+    let done = applied .apply-one .ensures in
+    let inv = applied .before .before .before .loop .inv in
     (omega arith, omega arith, newest-next _ _ _ _ _ _ _ _ _ _ _ (inv .3) (inv .2) (done .0), applied-next _ _ _ _ _ _ _ _ _ (inv .3) (done .1))
 
 returns : tie.Need-returns Inv-loop μ-loop
@@ -50,7 +55,7 @@ apply-spec =
     (λ c. omega (arith, inside (c .before .before .before)))
     (λ c. omega (arith, inside (c .before .before .before)))
     (λ c. (omega arith, omega arith, newest-none _ _ _ _ _ _, applied-none _ _ _ _ _ _))
-    (λ c. omega (arith, inside (c .before .before .before .before .before .before)))
+    (λ c. omega (arith, inside (start (c .before .before))))
     apply-one-requires
     (λ c. omega arith)
     (λ c. omega arith)

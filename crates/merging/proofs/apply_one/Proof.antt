@@ -5,6 +5,7 @@ use Prim.Native.Nat.{ℕ, _+_, _*_, _%_, _<_}
 use mir.Syntax.{w32, w64}
 use mir.Val.{Fits}
 use mathlib.Core.Path.{sym, _∙_}
+use Rattle.terms.specs.Measures.{rangeRows}
 use Rattle.rows.proofs.Indices.{places-few, values-few, value-in}
 use Rattle.merging.proofs.Pass.{one-applied, one-later, one-skipped, one-kept}
 use Rattle.merging.proofs.apply_one.Statement.{statement}
@@ -14,8 +15,8 @@ use Rattle.merging.proofs.apply_one.Tie as tie
 inside : (c : tie.Start)
     → let a = c .args in
     let at = a .slot * a .s .columns in
-    Fits w32 (a .c) × Fits w64 at × Fits w64 (at + a .c) × (at + a .c < a .s .values) × Fits w64 (a .page * 64)
-    × ((r : ℕ) → Fits w64 (a .page * 64 + r % 64) × (a .page * 64 + r % 64 < a .s .pages * 64))
+    Fits w32 (a .c) × Fits w64 at × Fits w64 (at + a .c) × (at + a .c < a .s .values) × Fits w64 (a .page * rangeRows)
+    × ((r : ℕ) → Fits w64 (a .page * rangeRows + r % rangeRows) × (a .page * rangeRows + r % rangeRows < a .s .pages * rangeRows))
 inside c =
     let p = c .pre .1 .0 in
     let i = value-in _ p _ _ (c .pre .1 .1 .0) (c .pre .1 .1 .1) in
@@ -23,11 +24,26 @@ inside c =
     let pages = places-few _ p .1 in
     (omega (arith, p .columns-to), omega arith, omega arith, i, omega arith, λ r. (omega arith, omega arith))
 
+-- where the function begins, and the branch from the place where the value is read
+abbrev start : tie.Then1 → tie.Start
+start c = let applied = c .before in applied .before .before .before
+
+abbrev branch : tie.After-struct-known → tie.Then1
+branch c = let row = c .before .before in row .before .before .before .before
+
+-- the place where the value is read, from that where it is written
+abbrev value : tie.After-struct-known2 → tie.After-struct-known
+value c = c .before .before .before
+
 returns : tie.Need-returns
 returns c =
-    let e = sym (c .before .before .before .before .before .before .before .before .before .before .before .before .before .before .is-applied .ensures) ∙ c .before .before .before .before .before .before .before .before .before .before .before .before .before .if1 .taken in (
-      rw (c .later .ensures, c .before .before .before .before .before .before .before .before .before .before .before .read .ensures) (sym (one-later _ _ _ _ e)),
-      rw (c .before .before .before .write .ensures, c .before .before .before .before .before .before .read3 .ensures, c .before .before .before .before .before .before .before .before .before .read2 .ensures) (sym (one-applied _ _ _ _ _ e)),
+    let wrote = c .before .before .before in
+    let at = value (wrote .before) in
+    let row = at .before .before in
+    let taken = branch at in
+    let e = sym (taken .before .is-applied .ensures) ∙ taken .if1 .taken in (
+      rw (c .later .ensures, row .before .before .read .ensures) (sym (one-later _ _ _ _ e)),
+      rw (wrote .write .ensures, wrote .before .before .before .read3 .ensures, row .read2 .ensures) (sym (one-applied _ _ _ _ _ e)),
     )
 
 returns-2 : tie.Need-returns-2
@@ -41,13 +57,13 @@ apply-one-spec =
     (λ c κs. let pre = c .before .before .pre in (pre .0, (pre .1 .1 .0, omega (arith, pre .1 .0 .columns-to))))
     (λ c κs. search needs)
     (λ c κs. search needs)
-    (λ c. inside (c .before .before .before .before .before .before .before .before .before .before) .1)
-    (λ c. inside (c .before .before .before .before .before .before .before .before .before .before) .2)
-    (λ c κs. (c .before .before .before .before .before .before .before .before .before .before .pre .0, inside (c .before .before .before .before .before .before .before .before .before .before) .3))
-    (λ c. inside (c .before .before .before .before .before .before .before .before .before .before .before .before) .4)
+    (λ c. inside (start (branch c)) .1)
+    (λ c. inside (start (branch c)) .2)
+    (λ c κs. let s = start (branch c) in (s .pre .0, inside s .3))
+    (λ c. inside (start (branch (c .before .before))) .4)
     (λ c. search needs)
-    (λ c. inside (c .before .before .before .before .before .before .before .before .before .before .before .before .before) .5 _ .0)
-    (λ c κs. (c .before .before .before .before .before .before .before .before .before .before .before .before .before .pre .0, inside (c .before .before .before .before .before .before .before .before .before .before .before .before .before) .5 _ .1))
+    (λ c. inside (start (branch (value c))) .5 _ .0)
+    (λ c κs. let s = start (branch (value c)) in (s .pre .0, inside s .5 _ .1))
     (λ c κs. search needs)
     (λ c. search needs)
     returns

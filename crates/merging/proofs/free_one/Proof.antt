@@ -8,7 +8,11 @@ use Rattle.merging.proofs.free_one.Tie as tie
 returns : tie.Need-returns
 unfolding spare
 returns c =
-    rw (c .count-after .ensures, c .before .before .before .write .ensures, c .before .before .before .before .state-after .ensures, c .before .before .before .before .before .before .is-spare .ensures, c .before .before .before .before .before .before .before .read2 .ensures, c .before .before .before .before .before .before .before .before .before .read .ensures) (refl, refl)
+    let wrote = c .before .before .before in
+    let state = wrote .before in
+    let freed = state .before .before in
+    let replaced = freed .before in
+    rw (c .count-after .ensures, wrote .write .ensures, state .state-after .ensures, freed .is-spare .ensures, replaced .read2 .ensures, replaced .before .before .read .ensures) (refl, refl)
 
 pub free-one-spec : {M : Type 1} → statement M
 free-one-spec =

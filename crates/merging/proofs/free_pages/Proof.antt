@@ -30,8 +30,9 @@ free-one-requires c κs =
 
 loop-again : tie.Need-loop-again Inv-loop μ-loop
 loop-again c =
-    let inv = c .before .before .before .before .before .loop .inv in
-    let done = c .before .before .free-one .ensures in
+    let freed = c .before .before in
+    let done = freed .free-one .ensures in
+    let inv = freed .before .before .before .loop .inv in
     (omega arith, omega arith, count-next _ _ _ _ _ _ (inv .3) (inv .2) (done .0), freed-next _ _ _ _ _ (inv .3) (done .1))
 
 returns : tie.Need-returns Inv-loop μ-loop

@@ -9,11 +9,16 @@ use Rattle.merging.proofs.is_applied.Tie as tie
 returns : tie.Need-returns
 unfolding applies recordIn
 returns c =
-    rw (← c .before .before .before .before .before .read .ensures, ← c .before .before .before .before .has-bit .ensures, c .before .before .before .if1 .taken, ← c .before .before .read2 .ensures, eq-eqb _ _ (c .before .if2 .taken), ← c .read3 .ensures)
+    let kind = c .before .before in
+    let bit = kind .before .before in
+    rw (← bit .before .read .ensures, ← bit .has-bit .ensures, kind .before .if1 .taken, ← kind .read2 .ensures, eq-eqb _ _ (c .before .if2 .taken), ← c .read3 .ensures)
 
 returns-2 : tie.Need-returns-2
 unfolding applies recordIn
-returns-2 c = rw (← c .before .before .before .before .read .ensures, ← c .before .before .before .has-bit .ensures, c .before .before .if1 .taken, ← c .before .read2 .ensures, ne-eqb _ _ (c .if2 .left))
+returns-2 c =
+    let kind = c .before in
+    let bit = kind .before .before in
+    rw (← bit .before .read .ensures, ← bit .has-bit .ensures, kind .before .if1 .taken, ← kind .read2 .ensures, ne-eqb _ _ (c .if2 .left))
 
 returns-3 : tie.Need-returns-3
 unfolding applies recordIn

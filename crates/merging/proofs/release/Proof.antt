@@ -15,13 +15,16 @@ use Rattle.merging.proofs.release.Tie as tie
 returns : tie.Need-returns
 returns c =
     λ ps e h.
-    let start = c .before .before .before .before .before .before .before in
+    let freed = c .before .before in
+    let few-merges = freed .before .before in
+    let known = few-merges .before .before in
+    let start = known .before in
     let a = start .args in
-    let few = c .before .before .before .before .least .result in
+    let few = few-merges .least .result in
     let v = view (a .s) (words (a .mem .now)) in
-    let fits : (p : ℕ) → getD (v Region.PageReplaced) p 0 < 2 ^ 32 = view-fits (a .s) (a .mem .now) (λ k. omega (arith, c .before .before .before .before .before .before .slice-known .given k)) Region.PageReplaced in
-    let q = spare-is ps few v (λ m k. rw (c .before .before .before .before .least .ensures) (needed-least ps (a .scans) e h m k)) fits in
-    (c .before .before .free-pages .ensures .0 ∙ counted-is (a .s) ps few v (start .pre .1 .0) q, c .before .before .free-pages .ensures .1 ∙ freed-is (a .s) ps few v (start .pre .1 .0) q)
+    let fits : (p : ℕ) → getD (v Region.PageReplaced) p 0 < 2 ^ 32 = view-fits (a .s) (a .mem .now) (λ k. omega (arith, known .slice-known .given k)) Region.PageReplaced in
+    let q = spare-is ps few v (λ m k. rw (few-merges .least .ensures) (needed-least ps (a .scans) e h m k)) fits in
+    (freed .free-pages .ensures .0 ∙ counted-is (a .s) ps few v (start .pre .1 .0) q, freed .free-pages .ensures .1 ∙ freed-is (a .s) ps few v (start .pre .1 .0) q)
 
 pub release-spec : {M : Type 1} → statement M
 release-spec =

@@ -24,9 +24,10 @@ mark-requires c κs =
 returns : tie.Need-returns
 returns c =
     let call = c .before .before in
-    let start = call .before .before .before .before .before in
-    let h = start .pre .1 in
-    rw (call .mark .ensures, call .before .base2 .ensures, call .before .before .base .ensures) (view-mark _ _ _ _ _ (h .1) _ _ _ (h .0))
+    let second = call .before in
+    let first = second .before in
+    let h = first .before .before .before .pre .1 in
+    rw (call .mark .ensures, second .base2 .ensures, first .base .ensures) (view-mark _ _ _ _ _ (h .1) _ _ _ (h .0))
 
 pub mark-in-spec : {M : Type 1} → statement M
 mark-in-spec =

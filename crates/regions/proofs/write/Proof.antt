@@ -22,7 +22,7 @@ put-requires c κs = omega (arith, inside (c .before .before .before))
 returns : tie.Need-returns
 returns c =
     let put = c .before .before in
-    rw (put .put .ensures, put .before .base .ensures) (view-put _ _ _ _ _ (c .before .before .before .before .before .before .pre .1))
+    rw (put .put .ensures, put .before .base .ensures) (view-put _ _ _ _ _ (put .before .before .before .before .pre .1))
 
 pub write-spec : {M : Type 1} → statement M
 write-spec = tie.close (tie.spec base-requires add-put put-requires (λ c. search needs) returns)

@@ -2,7 +2,7 @@
 use Prim.Native.Nat.{_≤_, _-_}
 use mathlib.Core.Path.{_≡_, refl, sym, _∙_}
 use native.Mathlib.Omega.{arith}
-use lib.ListN.{length, take, drop}
+use lib.ListN.{take, drop}
 use lib.Seq.{length-take-le}
 use borrow.Author.Needs.{needs}
 use borrow.Author.Tests.{not-true, not-false}
@@ -20,23 +20,20 @@ abbrev μ-loop : tie.MeasureT-loop
 returns : tie.Need-returns Inv-loop μ-loop
 returns c =
     let b = c .before .before .before in
-    let a = b .before .args in
-    let l : length (a .entries) ≡ 16 = search needs in
-    sym (b .loop .inv .1 ∙ rw (left-next (take (a .n) (a .entries)) (b .loop .i) (omega (arith, length-take-le (a .n) (a .entries) (omega arith))), ← c .before .differs .ensures, not-true (c .before .differs .result) (c .if1 .taken)))
+    let a = b .before .before .args in
+    sym (b .loop .inv .1 ∙ rw (left-next (take (a .n) (a .entries .now)) (b .loop .i) (omega (arith, length-take-le (a .n) (a .entries .now) (omega arith))), ← c .before .differs .ensures, not-true (c .before .differs .result) (c .if1 .taken)))
 
 loop-again : tie.Need-loop-again Inv-loop μ-loop
 loop-again c =
     let b = c .before .before .before in
-    let a = b .before .args in
-    let l : length (a .entries) ≡ 16 = search needs in
-    (omega arith, b .loop .inv .1 ∙ rw (left-next (take (a .n) (a .entries)) (b .loop .i) (omega (arith, length-take-le (a .n) (a .entries) (omega arith))), ← c .before .differs .ensures, not-false (c .before .differs .result) (c .if1 .left)))
+    let a = b .before .before .args in
+    (omega arith, b .loop .inv .1 ∙ rw (left-next (take (a .n) (a .entries .now)) (b .loop .i) (omega (arith, length-take-le (a .n) (a .entries .now) (omega arith))), ← c .before .differs .ensures, not-false (c .before .differs .result) (c .if1 .left)))
 
 returns-2 : tie.Need-returns-2 Inv-loop μ-loop
 returns-2 c =
     let b = c .before in
-    let a = b .before .args in
-    let l : length (a .entries) ≡ 16 = search needs in
-    sym (b .loop .inv .1 ∙ rw (first-none (a .n) (a .entries) (b .loop .i) (omega arith) (omega arith)))
+    let a = b .before .before .args in
+    sym (b .loop .inv .1 ∙ rw (first-none (a .n) (a .entries .now) (b .loop .i) (omega arith) (omega arith)))
 
 pub all-differ-spec : {M : Type 1} → statement M
 all-differ-spec =

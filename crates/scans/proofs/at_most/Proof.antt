@@ -5,6 +5,7 @@ use mathlib.Core.Bool.{_&&_, and-assoc}
 use native.Mathlib.Omega.{arith}
 use lib.ListN.{length, drop}
 use borrow.Author.Needs.{needs}
+use Rattle.terms.specs.Measures.{mostScans}
 use Rattle.loops.specs.Search.{allBetween}
 use Rattle.loops.proofs.Search.{and-end}
 use Rattle.scans.proofs.Entries.{left-next, left-none}
@@ -12,23 +13,23 @@ use Rattle.scans.proofs.at_most.Statement.{statement}
 use Rattle.scans.proofs.at_most.Tie as tie
 
 abbrev Inv-loop : tie.InvT-loop
-Inv-loop bound entries ok₀ i₀ ok i = (i ≤ 16) × (allBetween 0 bound entries ≡ (ok && allBetween 0 bound (drop i entries)))
+Inv-loop bound entries ok₀ i₀ ok i = (i ≤ mostScans) × (allBetween 0 bound entries ≡ (ok && allBetween 0 bound (drop i entries)))
 
 abbrev μ-loop : tie.MeasureT-loop
-μ-loop bound entries ok₀ i₀ ok i = 16 - i
+μ-loop bound entries ok₀ i₀ ok i = mostScans - i
 
 loop-again : tie.Need-loop-again Inv-loop μ-loop
 loop-again c =
     let b = c .before .before in
     let l = b .before .args .t1 in
-    let n : length l ≡ 16 = search needs in
+    let n : length l ≡ mostScans = search needs in
     (omega arith, b .loop .inv .1 ∙ rw (left-next l (b .loop .i) (omega arith), c .and-between .ensures) (sym (and-assoc (b .loop .ok) _ _)))
 
 returns : tie.Need-returns Inv-loop μ-loop
 returns c =
     let b = c .before in
     let l = b .before .args .t1 in
-    let n : length l ≡ 16 = search needs in
+    let n : length l ≡ mostScans = search needs in
     sym (b .loop .inv .1 ∙ rw (left-none l (b .loop .i) (omega arith)) (and-end (b .loop .ok)))
 
 pub at-most-spec : {M : Type 1} → statement M

@@ -4,12 +4,13 @@ use mathlib.Core.Path.{refl, _∙_}
 use native.Mathlib.Omega.{arith}
 use mir.Syntax.{w32, w64}
 use mir.ValLaws.{toZ-ofZ}
+use Rattle.terms.specs.Measures.{mostRows}
 use Rattle.summing.proofs.Sums.{tallied-small, tallied-kept, row-unseen, row-seen}
 use borrow.Author.Needs.{needs}
 use Rattle.summing.proofs.add_row.Statement.{statement}
 use Rattle.summing.proofs.add_row.Tie as tie
 
-few : (c : tie.Start) → c .args .row .0 ≤ 1024
+few : (c : tie.Start) → c .args .row .0 ≤ mostRows
 few c = omega (arith, c .pre .1 .0 .rows-are, c .pre .1 .0 .ranges-to, c .pre .1 .1 .0 .rows-few)
 
 add-t13 : tie.Need-add-t13

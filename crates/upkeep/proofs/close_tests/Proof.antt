@@ -4,6 +4,7 @@ use borrow.Author.Needs.{needs}
 
 use mathlib.Core.Path.{_≡_, sym, _∙_}
 use lib.ListN.{length}
+use Rattle.terms.specs.Measures.{mostScans}
 use Rattle.loops.specs.declared.Found.{Found}
 use Rattle.history.specs.History.{verdict}
 use Rattle.model.specs.Calls.{testsIn}
@@ -22,7 +23,7 @@ unfolding TestsBy testsIn verdict
 returns-2 c =
     let look : tie.After-find-scan = search in
     let start = look .before in
-    let n : length (start .args .scans .numbers) ≡ 16 = search needs in
+    let n : length (start .args .scans .numbers) ≡ mostScans = search needs in
     let found : findIn (start .args .scans) (start .args .scan) ≡ Found.At (c .before .i .given .0 .0) = sym (look .find-scan .ensures) ∙ c .before .i .given .1 in
     (λ s m ps q few. rw (scan-open _ ps few _ (in-table _ ps q _ _ found)), (omega (arith, entry-in _ _ _ found), found))
 

@@ -10,39 +10,53 @@ use Rattle.writing.proofs.Steps.{used-long, fresh-is, wanted-one, wante
 use Rattle.writing.proofs.append_records.Statement.{statement}
 use Rattle.writing.proofs.append_records.Tie as tie
 
-fresh : (c : tie.After-new-bits) → c .new-bits .result ≡ newBitsIn (view (c .before .before .before .before .before .args .s) (words (c .before .before .before .before .before .args .mem .now))) (c .before .before .before .before .before .args .row .0) (c .before .before .before .before .before .args .mask)
+-- where the function begins, and the original's record from the place before the setting's
+abbrev start : tie.After-new-bits → tie.Start
+start c = let read = c .before in read .before .before .before .before
+
+abbrev original : tie.After-append-setting-arg → tie.After-append-original
+original c = c .before .before .before
+
+fresh : (c : tie.After-new-bits) → let a = start c .args in c .new-bits .result ≡ newBitsIn (view (a .s) (words (a .mem .now))) (a .row .0) (a .mask)
 fresh c = fresh-is _ _ _ _ _ (c .before .read .ensures) (c .new-bits .ensures)
 
 -- room for two records where there is a fresh column, for one where there is none
-two : (c : tie.Then1) → let a = c .before .before .before .before .before .before .args in Room (a .s) (view (a .s) (words (a .mem .now))) (a .row .0) 2
+two : (c : tie.Then1) → let a = start (c .before) .args in Room (a .s) (view (a .s) (words (a .mem .now))) (a .row .0) 2
 two c =
-    let o = c .before .before .before .before .before .before .pre .1 .1 in
+    let o = start (c .before) .pre .1 .1 in
     let w = wanted-two _ _ _ _ (fresh (c .before)) (c .if1 .taken) in
     record { row-below = o .row-below; left = omega (arith, w, o .left) }
 
-one : (c : tie.Else1) → let a = c .before .before .before .before .before .before .args in Room (a .s) (view (a .s) (words (a .mem .now))) (a .row .0) 1
+one : (c : tie.Else1) → let a = start (c .before) .args in Room (a .s) (view (a .s) (words (a .mem .now))) (a .row .0) 1
 one c =
-    let o = c .before .before .before .before .before .before .pre .1 .1 in
+    let o = start (c .before) .pre .1 .1 in
     let w = wanted-one _ _ _ _ (fresh (c .before)) (c .if1 .left) in
     record { row-below = o .row-below; left = omega (arith, w, o .left) }
 
 append-original-requires : tie.Need-append-original-requires
 append-original-requires c κs =
     let o = two (c .before) in
-    (omega arith, (c .before .before .before .before .before .before .before .pre .1 .0, record { row-below = o .row-below; left = omega (arith, o .left) }))
+    (omega arith, (start (c .before .before) .pre .1 .0, record { row-below = o .row-below; left = omega (arith, o .left) }))
 
 append-setting-requires : tie.Need-append-setting-requires
 append-setting-requires c κs =
-    let start = c .before .before .before .before .before .before .before .before .before .before .before in
-    let p = start .pre .1 .0 .0 in
-    (omega arith, (p, rw (c .before .before .before .append-original .ensures) (original-room _ _ _ _ _ p (two (c .before .before .before .before .before)) (used-long _ _ (start .pre .0)))))
+    let branch = original c .before .before in
+    let s = start (branch .before) in
+    let p = s .pre .1 .0 .0 in
+    (omega arith, (p, rw (original c .append-original .ensures) (original-room _ _ _ _ _ p (two branch) (used-long _ _ (s .pre .0)))))
 
 returns : tie.Need-returns
 returns c =
-    rw (c .before .before .append-setting .ensures, c .before .before .before .before .before .before .append-original .ensures) (records-two _ _ _ _ (fresh (c .before .before .before .before .before .before .before .before .before)) _ _ _ (c .before .before .before .before .before .before .before .before .if1 .taken))
+    let setting = c .before .before in
+    let first = original (setting .before) in
+    let branch = first .before .before in
+    rw (setting .append-setting .ensures, first .append-original .ensures) (records-two _ _ _ _ (fresh (branch .before)) _ _ _ (branch .if1 .taken))
 
 returns-2 : tie.Need-returns-2
-returns-2 c = c .before .before .append-setting2 .ensures ∙ records-one _ _ _ _ (fresh (c .before .before .before .before .before)) _ _ _ (c .before .before .before .before .if1 .left)
+returns-2 c =
+    let setting = c .before .before in
+    let branch = setting .before .before in
+    setting .append-setting2 .ensures ∙ records-one _ _ _ _ (fresh (branch .before)) _ _ _ (branch .if1 .left)
 
 pub append-records-spec : {M : Type 1} → statement M
 append-records-spec =
@@ -55,6 +69,6 @@ append-records-spec =
     append-setting-requires
     (λ c. search needs)
     returns
-    (λ c κs. (omega arith, (c .before .before .before .before .before .before .before .pre .1 .0 .0, one (c .before))))
+    (λ c κs. (omega arith, (start (c .before .before) .pre .1 .0 .0, one (c .before))))
     (λ c. search needs)
     returns-2)

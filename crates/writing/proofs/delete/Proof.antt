@@ -3,15 +3,17 @@ use native.Mathlib.Omega.{arith}
 use borrow.Author.Needs.{needs}
 use Rattle.history.specs.History.{rangeOf}
 use Rattle.writing.proofs.Steps.{deleted-is}
-use Rattle.settling.proofs.Indices.{range-in}
+use Rattle.layout.proofs.Indices.{range-in}
 use Rattle.writing.proofs.delete.Statement.{statement}
 use Rattle.writing.proofs.delete.Tie as tie
 
 returns : tie.Need-returns
 unfolding rangeOf
 returns c =
-    let used = c .before .before .before .before .before .before .before .before in
-    (rw (used .read .ensures), deleted-is _ _ _ _ (used .before .before .before .before .pre .1 .1 .0) _ _ _ (c .before .before .before .before .before .before .append .ensures) (c .before .before .note .ensures))
+    let noted = c .before .before in
+    let appended = noted .before .before .before .before in
+    let used = appended .before .before in
+    (rw (used .read .ensures), deleted-is _ _ _ _ (used .before .before .before .before .pre .1 .1 .0) _ _ _ (appended .append .ensures) (noted .note .ensures))
 
 pub delete-spec : {M : Type 1} → statement M
 delete-spec =

@@ -8,7 +8,7 @@ use Rattle.words.specs.Words.{words}
 use Rattle.layout.specs.Regions.{need}
 use Rattle.layout.specs.View.{view}
 use Rattle.model.specs.Asked.{shapeIn}
-use Rattle.settling.proofs.Indices.{places-in, sizes-need}
+use Rattle.layout.proofs.Indices.{places-in, sizes-need}
 use Rattle.writing.specs.Steps.{cellWords}
 use Rattle.writing.proofs.Steps.{fillsTo, fills-none, fills-next, fills-all, fills-current, fills-cell}
 use Rattle.writing.proofs.fill_cells.Statement.{statement}
@@ -21,20 +21,30 @@ Inv-loop mem₀ s g i columns to first c₀ mem c =
 abbrev μ-loop : tie.MeasureT-loop
 μ-loop mem₀ s g i columns to first c₀ mem c = columns - c
 
+-- where the function begins, and the loop's head from the place where a turn writes
+abbrev start : tie.At-loop Inv-loop μ-loop → tie.Start Inv-loop μ-loop
+start c = c .before .before .before .before
+
+abbrev head : tie.After-write-arg Inv-loop μ-loop → tie.At-loop Inv-loop μ-loop
+head c = c .before .before .before .before
+
 -- the range's current pages lie among the places
 inside : (c : tie.Start Inv-loop μ-loop) → let a = c .args in (a .g * a .s .columns + a .s .columns ≤ a .s .places) × (a .s .places + a .s .values ≤ need (a .s))
 inside c = let a = c .args in (places-in (a .s) (c .pre .1 .0 .0) (a .g) (c .pre .1 .1 .0 .range-below), omega (arith, sizes-need (a .s)))
 
 cell-word-requires : tie.Need-cell-word-requires Inv-loop μ-loop
 cell-word-requires c κs =
-    let start = c .before .before .before .before .before .before in
-    let e = fills-current _ _ _ _ _ _ (c .before .before .loop .inv .2) in
-    (omega arith, (omega (arith, inside start), start .pre .1 .1 .1, rw e (start .pre .1 .0 .1 _ (omega (arith, inside start)))))
+    let turn = c .before .before in
+    let s = start turn in
+    let e = fills-current _ _ _ _ _ _ (turn .loop .inv .2) in
+    (omega arith, (omega (arith, inside s), s .pre .1 .1 .1, rw e (s .pre .1 .0 .1 _ (omega (arith, inside s)))))
 
 loop-again : tie.Need-loop-again Inv-loop μ-loop
 loop-again c =
-    let e = c .before .before .before .before .before .before .before .loop .inv .2 in
-    (omega arith, omega arith, fills-next _ _ _ _ _ _ _ _ e (fills-cell _ _ _ _ _ _ _ _ e (c .before .before .before .before .cell-word .ensures)) (c .before .before .write .ensures))
+    let wrote = c .before .before in
+    let at = wrote .before in
+    let e = head at .loop .inv .2 in
+    (omega arith, omega arith, fills-next _ _ _ _ _ _ _ _ e (fills-cell _ _ _ _ _ _ _ _ e (at .before .cell-word .ensures)) (wrote .write .ensures))
 
 returns : tie.Need-returns Inv-loop μ-loop
 returns c = fills-all _ _ _ _ _ _ _ (c .before .before .newest-values .ensures .0) (c .before .loop .inv .2) (omega arith) (omega arith)
@@ -48,9 +58,9 @@ fill-cells-spec =
     (λ c κs. search needs)
     (λ c. omega (arith, inside (c .before .before .before)))
     (λ c. (omega arith, omega arith, fills-none _ _ _ _))
-    (λ c. omega (arith, inside (c .before .before .before .before .before .before)))
+    (λ c. omega (arith, inside (start (c .before .before))))
     cell-word-requires
-    (λ c. omega (arith, inside (c .before .before .before .before .before .before .before .before)))
+    (λ c. omega (arith, inside (start (head c))))
     (λ c κs. omega arith)
     (λ c. omega arith)
     (λ c. omega arith)

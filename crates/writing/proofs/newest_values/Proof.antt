@@ -2,9 +2,8 @@
 use native.Mathlib.Omega.{arith}
 use borrow.Author.Needs.{needs}
 use Prim.Native.Nat.{_+_, _*_, _-_, _≤_}
-use Rattle.layout.specs.Regions.{need}
-use Rattle.model.specs.Stored.{slot}
-use Rattle.settling.proofs.Indices.{tail-in, values-in, sizes-need}
+use Rattle.layout.specs.Regions.{need, slot}
+use Rattle.layout.proofs.Indices.{tail-in, values-in, sizes-need}
 use Rattle.writing.proofs.newest_values.Statement.{statement}
 use Rattle.writing.proofs.newest_values.Tie as tie
 

@@ -5,11 +5,12 @@ use Prim.Native.Nat.{_+_, _*_, _-_, _≤_}
 use mathlib.Core.Path.{_≡_}
 use lib.IntN.{pos}
 use lib.ListN.{length, getD}
+use Rattle.terms.specs.Measures.{mostColumns}
 use Rattle.words.specs.Words.{words}
 use Rattle.layout.specs.Regions.{need}
 use Rattle.layout.specs.View.{view}
 use Rattle.model.specs.Asked.{shapeIn}
-use Rattle.settling.proofs.Indices.{places-in, sizes-need}
+use Rattle.layout.proofs.Indices.{places-in, sizes-need}
 use Rattle.writing.proofs.Steps.{cellsTo, cells-none, cells-current, cells-next, cells-all, word-of}
 use Rattle.writing.proofs.put_cells.Statement.{statement}
 use Rattle.writing.proofs.put_cells.Tie as tie
@@ -21,20 +22,26 @@ Inv-loop mem₀ s g i vs columns first c₀ mem c =
 abbrev μ-loop : tie.MeasureT-loop
 μ-loop mem₀ s g i vs columns first c₀ mem c = columns - c
 
+-- the loop's head from the place where a turn has its word
+abbrev head : tie.After-to-word Inv-loop μ-loop → tie.At-loop Inv-loop μ-loop
+head c = c .before .before .before .before
+
 -- the range's current pages lie among the places
-inside : (c : tie.Start Inv-loop μ-loop) → let a = c .args in (a .g * a .s .columns + a .s .columns ≤ a .s .places) × (a .s .places ≤ need (a .s)) × (a .s .columns ≤ 16)
+inside : (c : tie.Start Inv-loop μ-loop) → let a = c .args in (a .g * a .s .columns + a .s .columns ≤ a .s .places) × (a .s .places ≤ need (a .s)) × (a .s .columns ≤ mostColumns)
 inside c = let a = c .args in (places-in (a .s) (c .pre .1 .0 .0) (a .g) (c .pre .1 .1 .0), omega (arith, sizes-need (a .s)), c .pre .1 .0 .0 .columns-to)
 
 put-cell-requires : tie.Need-put-cell-requires Inv-loop μ-loop
 put-cell-requires c κs =
-    let start = c .before .before .before .before .before .before in
-    let k = c .before .before .before .before .loop .c in
-    let e = cells-current _ _ _ _ _ _ _ (c .before .before .before .before .loop .inv .2) in
+    let start = head c .before .before in
+    let e = cells-current _ _ _ _ _ _ _ (head c .loop .inv .2) in
     (omega arith, (omega (arith, inside start), start .pre .1 .1 .1, rw e (start .pre .1 .0 .1 _ (omega (arith, inside start)))))
 
 loop-again : tie.Need-loop-again Inv-loop μ-loop
 loop-again c =
-    (omega arith, omega arith, cells-next _ _ _ _ _ _ _ _ _ (c .before .before .before .before .before .before .before .loop .inv .2) (word-of (getD (c .before .before .before .before .before .before .before .before .before .args .t5) (c .before .before .before .before .before .before .before .loop .c) (pos 0)) _ (c .before .before .before .to-word .ensures) (c .before .before .before .before .to-word-arg .given)) (c .before .before .put-cell .ensures))
+    let put = c .before .before in
+    let word = put .before in
+    let turn = head word .loop in
+    (omega arith, omega arith, cells-next _ _ _ _ _ _ _ _ _ (turn .inv .2) (word-of (getD (head word .before .before .args .t5) (turn .c) (pos 0)) _ (word .to-word .ensures) (word .before .to-word-arg .given)) (put .put-cell .ensures))
 
 returns : tie.Need-returns Inv-loop μ-loop
 returns c = cells-all _ _ _ _ _ _ _ (c .before .loop .inv .2) (omega arith) (omega arith)

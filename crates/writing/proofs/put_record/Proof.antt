@@ -7,7 +7,14 @@ use Rattle.writing.proofs.put_record.Tie as tie
 returns : tie.Need-returns
 unfolding recordPut
 returns c =
-    rw (c .before .before .write7 .ensures, c .before .before .before .before .before .before .write6 .ensures, c .before .before .before .before .before .before .before .before .before .before .write5 .ensures, c .before .before .before .before .before .before .before .before .before .before .before .before .before .before .write4 .ensures, c .before .before .before .before .before .before .before .before .before .before .before .before .before .before .before .before .before .before .write3 .ensures, c .before .before .before .before .before .before .before .before .before .before .before .before .before .before .before .before .before .before .before .before .before .before .write2 .ensures, c .before .before .before .before .before .before .before .before .before .before .before .before .before .before .before .before .before .before .before .before .before .before .before .before .before .before .write .ensures)
+    let write7 = c .before .before in
+    let write6 = write7 .before .before .before .before in
+    let write5 = write6 .before .before .before .before in
+    let write4 = write5 .before .before .before .before in
+    let write3 = write4 .before .before .before .before in
+    let write2 = write3 .before .before .before .before in
+    let write = write2 .before .before .before .before in
+    rw (write7 .write7 .ensures, write6 .write6 .ensures, write5 .write5 .ensures, write4 .write4 .ensures, write3 .write3 .ensures, write2 .write2 .ensures, write .write .ensures)
 
 pub put-record-spec : {M : Type 1} → statement M
 put-record-spec =

@@ -6,7 +6,13 @@ use Rattle.writing.proofs.put_row.Tie as tie
 
 returns : tie.Need-returns
 unfolding rowPut
-returns c = rw (c .before .before .write5 .ensures, c .before .before .before .before .before .before .write4 .ensures, c .before .before .before .before .before .before .before .before .before .before .write3 .ensures, c .before .before .before .before .before .before .before .before .before .before .before .before .before .before .write2 .ensures, c .before .before .before .before .before .before .before .before .before .before .before .before .before .before .before .before .before .before .write .ensures)
+returns c =
+    let write5 = c .before .before in
+    let write4 = write5 .before .before .before .before in
+    let write3 = write4 .before .before .before .before in
+    let write2 = write3 .before .before .before .before in
+    let write = write2 .before .before .before .before in
+    rw (write5 .write5 .ensures, write4 .write4 .ensures, write3 .write3 .ensures, write2 .write2 .ensures, write .write .ensures)
 
 pub put-row-spec : {M : Type 1} → statement M
 put-row-spec =

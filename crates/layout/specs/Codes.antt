@@ -1,0 +1,33 @@
+-- The numbers that stand for states and kinds in the memory. The code has them as constants (src/codes.rt). Where a word can hold more than the store writes,
+-- the model says what every other number counts as.
+use Prim.Native.Nat.{ℕ}
+
+-- ---- the state of a row or a tail record: that of its transaction
+abbrev pub asOpen : ℕ
+asOpen = 0
+
+abbrev pub asCommitted : ℕ
+asCommitted = 1
+
+abbrev pub asAborted : ℕ
+asAborted = 2
+
+-- ---- the kind of a tail record
+abbrev pub asOriginal : ℕ
+asOriginal = 0
+
+abbrev pub asSetting : ℕ
+asSetting = 1
+
+abbrev pub asDelete : ℕ
+asDelete = 2
+
+-- ---- the state of a page
+abbrev pub asFree : ℕ
+asFree = 0
+
+abbrev pub asCurrent : ℕ
+asCurrent = 1
+
+abbrev pub asWaiting : ℕ
+asWaiting = 2

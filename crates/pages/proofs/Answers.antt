@@ -1,0 +1,96 @@
+-- The answers of `measure` and of `check`, test by test.
+use Prim.Native.Nat.{ℕ, _*_, _≤_, _<_}
+use mathlib.Core.Path.{_≡_, refl, ap}
+use mathlib.Core.Bool.{Bool, true, false, cond, _&&_, and-assoc}
+use mathlib.Core.List.{List}
+use native.Mathlib.Omega.{arith}
+use lib.Dec.{leb}
+use lib.ListN.{length, getD}
+use borrow.Author.Tests.{leb-true, le-leb, lt-leb}
+use Rattle.terms.specs.Measures.{withinLimits, mostScans}
+use Rattle.terms.specs.declared.Place.{Place}
+use Rattle.words.specs.Words.{words}
+use Rattle.loops.proofs.Search.{and-true}
+use Rattle.layout.specs.declared.Sizes.{Sizes}
+use Rattle.layout.specs.Regions.{need, columnsAt, rangesAt, capacityAt, sparesAt}
+use Rattle.layout.specs.Sizes.{shapeOf}
+use Rattle.layout.specs.View.{view}
+use Rattle.facts.specs.Facts.{factsHold}
+use Rattle.facts.specs.Usable.{measuresBytes, storedShape, storedSizes, usable}
+use Rattle.pages.specs.declared.check.Checked.the-variants.{Fit, Unfit}
+use Rattle.pages.specs.Checked.{roomy, measured, checked}
+
+-- ---- the measures
+module _ (m : List ℕ) where
+  pub shape-stored : (a b c d : ℕ) → a ≡ getD (words m) columnsAt 0 → b ≡ getD (words m) rangesAt 0 → c ≡ getD (words m) capacityAt 0 → d ≡ getD (words m) sparesAt 0
+      → shapeOf a b c d ≡ storedShape (words m)
+  unfolding storedShape
+  shape-stored a b c d e f g h = rw (e, f, g, h)
+
+  pub too-short : length m < measuresBytes → Unfit ≡ measured m
+  unfolding measured roomy
+  too-short h = rw (lt-leb measuresBytes (length m) h)
+
+  module _ (h : measuresBytes ≤ length m) where
+    pub out-of-limits : withinLimits (storedShape (words m)) ≡ false → Unfit ≡ measured m
+    unfolding measured roomy
+    out-of-limits l = rw (le-leb measuresBytes (length m) h, l)
+
+    module _ (l : withinLimits (storedShape (words m)) ≡ true) where
+      pub no-room : length m < need (storedSizes (words m)) * 4 → Unfit ≡ measured m
+      unfolding measured roomy
+      no-room n = rw (le-leb measuresBytes (length m) h, l, lt-leb (need (storedSizes (words m)) * 4) (length m) n)
+
+      pub fit : (s : Sizes) → s ≡ storedSizes (words m) → need (storedSizes (words m)) * 4 ≤ length m → Fit s ≡ measured m
+      unfolding measured roomy
+      fit s e n = rw (le-leb measuresBytes (length m) h, l, le-leb (need (storedSizes (words m)) * 4) (length m) n) (ap Fit e)
+
+-- ---- the scan list and the facts
+-- what is known of a memory whose measures passed
+pub record Measured (m : List ℕ) (s : Sizes) : Type 0 where
+  pub sizes-are : s ≡ storedSizes (words m)
+  pub within : withinLimits (storedShape (words m)) ≡ true
+  pub room : need s * 4 ≤ length m
+
+usable-is : (m : List ℕ) (ps : List Place) → usable m ps
+    ≡ (roomy m && (leb mostScans (length ps) && factsHold (storedSizes (words m)) (view (storedSizes (words m)) (words m)) ps))
+unfolding usable roomy
+usable-is m ps = simp and-assoc
+
+is-fit : (m : List ℕ) (s : Sizes) → measured m ≡ Fit s → (roomy m ≡ true) × (s ≡ storedSizes (words m))
+unfolding measured
+is-fit m s = go (roomy m)
+  where
+    go : (b : Bool) → cond b (Fit (storedSizes (words m))) Unfit ≡ Fit s → (b ≡ true) × (s ≡ storedSizes (words m))
+    go true e = (refl, cc)
+    go false e = let z : _≡_ {A = ℕ} 0 1 = cc in absurd (omega arith)
+
+is-unfit : (m : List ℕ) → measured m ≡ Unfit → roomy m ≡ false
+unfolding measured
+is-unfit m = go (roomy m)
+  where
+    go : (b : Bool) → cond b (Fit (storedSizes (words m))) Unfit ≡ Unfit → b ≡ false
+    go true e = let z : _≡_ {A = ℕ} 0 1 = cc in absurd (omega arith)
+    go false e = refl
+
+pub measured-tells : (m : List ℕ) (s : Sizes) → measured m ≡ Fit s → Measured m s
+unfolding roomy
+measured-tells m s e =
+    let f = is-fit m s e in
+    let a = and-true (leb measuresBytes (length m)) _ (f .0) in
+    let b = and-true (withinLimits (storedShape (words m))) _ (a .1) in
+    record { sizes-are = f .1; within = b .0; room = rw (f .1) (leb-true (need (storedSizes (words m)) * 4) (length m) (b .1)) }
+
+module _ (m : List ℕ) (ps : List Place) where
+  pub unmeasured : measured m ≡ Unfit → Unfit ≡ checked m ps
+  unfolding checked
+  unmeasured e = rw (usable-is m ps, is-unfit m e)
+
+  module _ (s : Sizes) (e : measured m ≡ Fit s) where
+    pub few-places : length ps < mostScans → Unfit ≡ checked m ps
+    unfolding checked
+    few-places k = rw (usable-is m ps, is-fit m s e .0, lt-leb mostScans (length ps) k)
+
+    pub by-facts : mostScans ≤ length ps → checked m ps ≡ cond (factsHold s (view s (words m)) ps) (Fit s) Unfit
+    unfolding checked
+    by-facts k = rw (usable-is m ps, is-fit m s e .0, is-fit m s e .1, le-leb mostScans (length ps) k)

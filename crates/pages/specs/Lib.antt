@@ -1,0 +1,2 @@
+-- What the test of a lent memory answers.
+pub mod Checked

@@ -1,0 +1,167 @@
+// The test of the stored facts of the current and the waiting pages, and with it that of all stored facts (check.rt).
+pub mod check;
+
+use facts::both;
+use layout::HEADER_MERGES;
+use layout::HEADER_STAMP;
+use layout::Region;
+use layout::Sizes;
+use layout::codes::PAGE_CURRENT;
+use layout::codes::PAGE_WAITING;
+use regions::between_in;
+use regions::read;
+ghost use mathlib.Core.Path.{_≡_};
+ghost use mathlib.Core.Bool.{_||_};
+ghost use Prim.Native.Nat.{ℕ, _+_, _/_, _%_, _≤_, _<_};
+ghost use Rattle.terms.specs.Measures.{mostColumns, mostPlaces};
+ghost use Rattle.words.specs.Words.{words};
+ghost use Rattle.layout.specs.Regions.{len};
+ghost use Rattle.layout.specs.View.{view, lastStamp};
+ghost use Rattle.facts.specs.Facts.{each, waitingAtMost, waitingLineage};
+ghost use Rattle.facts.specs.Tests.{Ready, currentHolds, waitingHold, pagesHold};
+
+// One of two flags at least, with no way out early.
+fn either(a: bool, b: bool) -> bool
+    ensures { λ r. ⌜ r ≡ (a || b) ⌝ }
+{
+    if a { true } else { b }
+}
+
+// What a place is multiplied by in place of a division by the columns, and shifted by 16 bits.
+fn inverse_of(columns: usize) -> u32
+    requires { ⌜ (1 ≤ columns) × (columns ≤ mostColumns) ⌝ }
+    ensures { λ r. ⌜ (r ≡ 65536 / columns + 1) × (r ≤ 65537) ⌝ }
+{
+    65536 / columns as u32 + 1
+}
+
+// The range of a place, by the inverse of the columns.
+fn range_of_place(place: u32, inverse: u32) -> usize
+    requires { ⌜ (place < mostPlaces) × (inverse ≤ 65537) ⌝ }
+    ensures { λ r. ⌜ ((c : ℕ) → 1 ≤ c → c ≤ mostColumns → inverse ≡ 65536 / c + 1 → r ≡ place / c) ⌝ }
+{
+    (place * inverse / 65536) as usize
+}
+
+// Whether place i names a page of the pool that is current and says so of that place, whose newest stamp and lineage are within theirs.
+fn current_holds(mem: &[u8], s: Sizes, inverse: u32, last: u32, i: usize) -> bool
+    requires { ⌜ Ready s (now mem) ⌝ }
+    requires { ⌜ (i < s .places) × (inverse ≡ 65536 / s .columns + 1) × (inverse ≤ 65537) × (last ≡ lastStamp (view s (words (now mem)))) ⌝ }
+    ensures { λ r. ⌜ r ≡ currentHolds s (view s (words (now (mem .entry)))) i ⌝ }
+{
+    let p = read(mem, s, Region::Current, i) as usize;
+    if p >= s.pages {
+        return false;
+    }
+    let state = read(mem, s, Region::PageState, p);
+    let place = read(mem, s, Region::PagePlace, p);
+    let newest = read(mem, s, Region::PageNewest, p);
+    let lineage = read(mem, s, Region::PageLineage, p);
+    let most = read(mem, s, Region::Used, range_of_place(i as u32, inverse));
+    let placed = both(state == PAGE_CURRENT, place as usize == i);
+    both(placed, both(newest <= last, lineage <= most))
+}
+
+fn currents_hold(mem: &[u8], s: Sizes) -> bool
+    requires { ⌜ Ready s (now mem) ⌝ }
+    ensures { λ r. ⌜ r ≡ each (s .places) (currentHolds s (view s (words (now (mem .entry))))) ⌝ }
+{
+    let inverse = inverse_of(s.columns);
+    let last = read(mem, s, Region::Header, HEADER_STAMP);
+    let n = s.places;
+    let mut ok = true;
+    let mut i = 0;
+    while i < n {
+        ok = both(ok, current_holds(mem, s, inverse, last, i));
+        i += 1;
+    }
+    ok
+}
+
+// Whether word k of a page is at most a number, if the page waits. Both words are read, so that the loop vectorises.
+fn waiting_at_most(mem: &[u8], s: Sizes, k: Region, most: u32, p: usize) -> bool
+    requires { ⌜ Ready s (now mem) ⌝ }
+    requires { ⌜ (p < s .pages) × (len s k ≡ s .pages) ⌝ }
+    ensures { λ r. ⌜ r ≡ waitingAtMost (view s (words (now (mem .entry)))) k most p ⌝ }
+{
+    let state = read(mem, s, Region::PageState, p);
+    let word = read(mem, s, k, p);
+    either(state < PAGE_WAITING, word <= most)
+}
+
+fn all_waiting_at_most(mem: &[u8], s: Sizes, k: Region, most: u32) -> bool
+    requires { ⌜ Ready s (now mem) ⌝ }
+    requires { ⌜ len s k ≡ s .pages ⌝ }
+    ensures { λ r. ⌜ r ≡ each (s .pages) (waitingAtMost (view s (words (now (mem .entry)))) k most) ⌝ }
+{
+    let n = s.pages;
+    let mut ok = true;
+    let mut p = 0;
+    while p < n {
+        ok = both(ok, waiting_at_most(mem, s, k, most, p));
+        p += 1;
+    }
+    ok
+}
+
+// A word modulo the places. A division only where it is needed: a place that the store has written is below them.
+fn modulo_places(word: u32, places: u32) -> u32
+    requires { ⌜ 1 ≤ places ⌝ }
+    ensures { λ r. ⌜ (r ≡ word % places) × (r < places) ⌝ }
+{
+    if word < places { word } else { word % places }
+}
+
+fn waiting_lineage(mem: &[u8], s: Sizes, inverse: u32, p: usize) -> bool
+    requires { ⌜ Ready s (now mem) ⌝ }
+    requires { ⌜ (p < s .pages) × (inverse ≡ 65536 / s .columns + 1) × (inverse ≤ 65537) ⌝ }
+    ensures { λ r. ⌜ r ≡ waitingLineage s (view s (words (now (mem .entry)))) p ⌝ }
+{
+    if read(mem, s, Region::PageState, p) < PAGE_WAITING {
+        return true;
+    }
+    let place = modulo_places(read(mem, s, Region::PagePlace, p), s.places as u32);
+    let most = read(mem, s, Region::Used, range_of_place(place, inverse));
+    read(mem, s, Region::PageLineage, p) <= most
+}
+
+fn waiting_lineages(mem: &[u8], s: Sizes) -> bool
+    requires { ⌜ Ready s (now mem) ⌝ }
+    ensures { λ r. ⌜ r ≡ each (s .pages) (waitingLineage s (view s (words (now (mem .entry))))) ⌝ }
+{
+    let inverse = inverse_of(s.columns);
+    let n = s.pages;
+    let mut ok = true;
+    let mut p = 0;
+    while p < n {
+        ok = both(ok, waiting_lineage(mem, s, inverse, p));
+        p += 1;
+    }
+    ok
+}
+
+// The facts of the waiting pages. Often none waits, which one look at the states tells.
+fn waiting_hold(mem: &[u8], s: Sizes) -> bool
+    requires { ⌜ Ready s (now mem) ⌝ }
+    ensures { λ r. ⌜ r ≡ waitingHold s (view s (words (now (mem .entry)))) ⌝ }
+{
+    if between_in(mem, s, Region::PageState, 0, s.pages, 0, PAGE_CURRENT) {
+        return true;
+    }
+    let last = read(mem, s, Region::Header, HEADER_STAMP);
+    let made = read(mem, s, Region::Header, HEADER_MERGES);
+    let stamps = all_waiting_at_most(mem, s, Region::PageNewest, last);
+    let merges = all_waiting_at_most(mem, s, Region::PageReplaced, made);
+    let lineages = waiting_lineages(mem, s);
+    both(stamps, both(merges, lineages))
+}
+
+// The facts of the pages.
+pub fn pages_hold(mem: &[u8], s: Sizes) -> bool
+    requires { ⌜ Ready s (now mem) ⌝ }
+    ensures { λ r. ⌜ r ≡ pagesHold s (view s (words (now (mem .entry)))) ⌝ }
+{
+    let currents = currents_hold(mem, s);
+    let waiting = waiting_hold(mem, s);
+    both(currents, waiting)
+}

@@ -1,2 +1,0 @@
--- The record of an open transaction bears its number.
-pub mod Number

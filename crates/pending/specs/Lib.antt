@@ -1,2 +1,0 @@
--- The record of an open transaction.
-pub mod Pending

@@ -1,0 +1,2 @@
+-- Laws of the rows that a range's records may name.
+pub mod Names

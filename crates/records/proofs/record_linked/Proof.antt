@@ -1,0 +1,45 @@
+-- `records::record_linked` meets its contract.
+use Prim.Native.Nat.{_≤_, _<_}
+use native.Mathlib.Omega.{arith}
+use borrow.Author.Needs.{needs}
+use Rattle.facts.specs.Facts.{recordLinked}
+use Rattle.layout.proofs.Indices.{slots-few}
+use Rattle.records.proofs.record_linked.Statement.{statement}
+use Rattle.records.proofs.record_linked.Tie as tie
+
+-- where the record lies
+inside : (c : tie.Start) → (c .args .i < c .args .s .capacity) × (c .args .s .slots ≤ 8192)
+inside c =
+    let a = c .args in
+    (omega (arith, c .pre .0 .records-in (a .g)), slots-few (a .s) (c .pre .0 .proper))
+
+add-slot : tie.Need-add-slot
+add-slot c = omega (arith, inside (c .before .before))
+
+read-requires : tie.Need-read-requires
+read-requires c κs = omega (arith, inside (c .before .before))
+
+read-requires-2 : tie.Need-read-requires-2
+read-requires-2 c κs = omega (arith, inside (c .before .before .before))
+
+link-holds-requires : tie.Need-link-holds-requires
+link-holds-requires c κs =
+    let s = c .before .before .before .before in
+    (s .pre .0, (s .pre .1 .0, omega (arith, inside s)))
+
+returns : tie.Need-returns
+unfolding recordLinked
+returns c =
+    rw (c .link-holds .ensures, c .before .read2 .ensures, c .before .before .read .ensures, c .before .before .before .first-slot .ensures .0)
+
+pub record-linked-spec : {M : Type 1} → statement M
+record-linked-spec =
+    tie.close
+    (tie.spec
+    (λ c κs. search needs)
+    add-slot
+    read-requires
+    read-requires-2
+    (λ c. omega (arith, inside (c .before .before .before .before), c .before .before .before .before .pre .0 .proper .capacity-to))
+    link-holds-requires
+    returns)

@@ -1,0 +1,28 @@
+-- `records::row_linked` meets its contract.
+use Prim.Native.Nat.{_/_}
+use native.Mathlib.Omega.{arith}
+use borrow.Author.Needs.{needs}
+use Rattle.terms.specs.Measures.{rangeRows}
+use Rattle.facts.specs.Facts.{rowLinked}
+use Rattle.records.proofs.row_linked.Statement.{statement}
+use Rattle.records.proofs.row_linked.Tie as tie
+
+link-holds-requires : tie.Need-link-holds-requires
+link-holds-requires c κs =
+    let s = c .before .before .before in
+    let g = s .args .r / rangeRows in
+    (s .pre .0, (omega (arith, s .pre .0 .proper .rows-are), rw (c .before .read .ensures) (s .pre .0 .records-in g)))
+
+returns : tie.Need-returns
+unfolding rowLinked
+returns c = rw (c .link-holds .ensures, c .before .read2 .ensures, c .before .before .read .ensures)
+
+pub row-linked-spec : {M : Type 1} → statement M
+row-linked-spec =
+    tie.close
+    (tie.spec
+    (λ c κs. search needs)
+    (λ c κs. search needs)
+    (λ c. search needs)
+    link-holds-requires
+    returns)

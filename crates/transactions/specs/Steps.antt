@@ -1,0 +1,20 @@
+-- The steps between the model's definitions and the code's functions: each function writes what one of these says.
+use Prim.Native.Nat.{ℕ}
+use lib.ListN.{getD}
+use Rattle.layout.specs.Regions.{firstSlot}
+use Rattle.terms.specs.Measures.{Shape}
+use Rattle.layout.specs.declared.Region.{Region}
+use Rattle.layout.specs.View.{View, renew, put, mark, usedIn}
+use Rattle.model.specs.Stored.{nextWord}
+use Rattle.model.specs.Writing.{markTails}
+
+-- a change is noted at place j of the open transactions
+unfoldable pub notedAt : ℕ → View → View
+notedAt j v = put Region.Changes j (nextWord (getD (v Region.Changes) j 0)) v
+
+-- the used records of range g that bear transaction t get w in region k; and those of every range
+unfoldable pub tailMarked : Shape → ℕ → Region → ℕ → ℕ → View → View
+tailMarked S t k w g v = mark Region.TailTransaction t k (firstSlot (S .capacity) g) (usedIn v g) w v
+
+unfoldable pub tailsMarked : Shape → ℕ → Region → ℕ → View → View
+tailsMarked S t k w v = renew k (markTails S (v Region.Used) (v Region.TailTransaction) t w (S .ranges) (v k)) v

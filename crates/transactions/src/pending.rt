@@ -1,0 +1,99 @@
+// The record of an open transaction, by value: its number, and how many changes it has noted. Begin makes it, insert, update and delete note a change
+// in it, commit and abort take it back and settle what bears the number that it hands back; the own read asks it whose pending changes count. In the memory
+// it is one word of Opens and one of Changes.
+use layout::Region;
+use layout::Sizes;
+use regions::read;
+use regions::write;
+use terms::Transaction;
+ghost use mathlib.Core.Path.{_≡_};
+ghost use Prim.Native.Nat.{_*_, _≤_, _<_};
+ghost use lib.ListN.{length};
+ghost use Rattle.terms.specs.Measures.{mostTransactions};
+ghost use Rattle.words.specs.Words.{words};
+ghost use Rattle.layout.specs.Regions.{need};
+ghost use Rattle.layout.specs.View.{view};
+ghost use Rattle.model.specs.Stored.{nextWord};
+ghost use Rattle.transactions.specs.Pending.{fresh, oneMore, handedBack, owner, freeRecord, pendingAt, kept};
+
+pub struct Pending {
+    pub number: Transaction,
+    pub changes: u32,
+}
+
+// The number after n. The highest goes round, so that every memory has an answer.
+pub fn next_word(n: u32) -> u32
+    ensures { λ r. ⌜ r ≡ nextWord n ⌝ }
+{
+    if n == 0xffff_ffff { 0 } else { n + 1 }
+}
+
+impl Pending {
+    // A transaction that has changed nothing.
+    pub fn begin(t: Transaction) -> Pending
+        ensures { λ r. ⌜ r ≡ fresh t ⌝ }
+    {
+        Pending {
+            number: t,
+            changes: 0,
+        }
+    }
+
+    // One change more.
+    pub fn note(self) -> Pending
+        ensures { λ r. ⌜ r ≡ oneMore self ⌝ }
+    {
+        let t = self.number;
+        Pending {
+            number: t,
+            changes: next_word(self.changes),
+        }
+    }
+
+    // The transaction that it was begun for.
+    pub fn hand_back(self) -> Transaction
+        ensures { λ r. ⌜ r ≡ handedBack self ⌝ }
+    {
+        self.number
+    }
+
+    // Whose pending changes an own read adds: with nothing noted, nobody's.
+    pub fn owner(self) -> Transaction
+        ensures { λ r. ⌜ r .0 ≡ owner self ⌝ }
+    {
+        let t = self.number;
+        if self.changes == 0 { Transaction(0) } else { t }
+    }
+}
+
+// The record of a free place.
+pub fn free_record() -> Pending
+    ensures { λ r. ⌜ r ≡ freeRecord ⌝ }
+{
+    Pending {
+        number: Transaction(0),
+        changes: 0,
+    }
+}
+
+// The record at a place of Opens.
+pub fn pending_at(mem: &[u8], s: Sizes, place: usize) -> Pending
+    requires { ⌜ need s * 4 ≤ length (now mem) ⌝ }
+    requires { ⌜ place < mostTransactions ⌝ }
+    ensures { λ r. ⌜ r ≡ pendingAt (view s (words (now (mem .entry)))) place ⌝ }
+{
+    Pending {
+        number: Transaction(read(mem, s, Region::Opens, place)),
+        changes: read(mem, s, Region::Changes, place),
+    }
+}
+
+// A record into a place of Opens.
+pub fn keep(mem: &mut [u8], s: Sizes, place: usize, p: Pending)
+    requires { ⌜ need s * 4 ≤ length (now mem) ⌝ }
+    requires { ⌜ place < mostTransactions ⌝ }
+    ensures { λ _. ⌜ view s (words (now (mem .exit))) ≡ kept place p (view s (words (now (mem .entry)))) ⌝ }
+{
+    write(mem, s, Region::Opens, place, p.number.0);
+    write(mem, s, Region::Changes, place, p.changes);
+}

@@ -25,8 +25,8 @@ use Rattle.history.proofs.Lists.{is-true, refuted, clash}
 use Rattle.history.specs.History.{Call, Verdict, accept, refuse}
 use Rattle.history.specs.Claims.{isPlain, kind, strike, plainAnswers}
 use Rattle.model.specs.Calls.{placesAfter, placesIf, placesNext}
-use Rattle.promise.specs.Promise.{storeView, answerOf, listAfter, answersOf, Serves, Makes}
-use Rattle.promise.specs.Demands.{Accepted, memoryLeft, listLeft, storeAnswers, storeMemory, storeList, storeAnswerAt, ReadIn, Refuses, RefusedKeeps, ReadsCommitted, PagesCommitted, Demand3, StrikingStore, StabilityStore}
+use Rattle.promise.specs.Promise.{storeView, answerOf, listAfter, answersOf, Serves, Makes, lend, left}
+use Rattle.promise.specs.Demands.{Accepted, storeAnswers, storeLeft, storeAnswerAt, ReadIn, Refuses, RefusedKeeps, ReadsCommitted, PagesCommitted, Demand3, StrikingStore, StabilityStore}
 use Rattle.promise.specs.Stated.{conditions}
 use Rattle.promise.proofs.Demands.{demand3, reads-committed, pages-committed, striking-store, stability-store}
 use Rattle.promise.proofs.Refused.{refused-keeps}
@@ -37,8 +37,8 @@ use Rattle.calls.specs.Runs.{Run, ends, goes, Face, ReadAmong, toldAt, R
 
 -- ---- what a run answers and leaves
 run-left : {m m′ : List ℕ} {ps ps′ : List Place} {cs : List Call} {rs : List Answer} → Run Serves m ps cs rs m′ ps′
-    → (rs ≡ answersOf m ps cs) × (m′ ≡ memoryLeft m ps cs) × (ps′ ≡ listLeft m ps cs)
-unfolding Serves answersOf memoryLeft listLeft
+    → (rs ≡ answersOf (lend m ps) cs) × (m′ ≡ left (lend m ps) cs .memory) × (ps′ ≡ left (lend m ps) cs .list)
+unfolding Serves answersOf left
 run-left ends = (refl, refl, refl)
 run-left (goes s q) = let l = run-left q in rw (← s .0, ← s .1, ← s .2) (rw (l .0), l .1, l .2)
 
@@ -49,8 +49,8 @@ making-frees S m m′ ps ps′ h = h .2 ∙ ap (λ (x : Answer). freedIf (isAcce
 -- after an accepted making: what the demands are stated of
 store-left : (S : Shape) (m₀ : List ℕ) (ps₀ : List Place) {m m′ : List ℕ} {ps ps′ : List Place} {cs : List Call} {rs : List Answer}
     → Makes m₀ ps₀ S Answer.Done m ps → Run Serves m ps cs rs m′ ps′
-    → Accepted S m₀ ps₀ × (rs ≡ storeAnswers S m₀ ps₀ cs) × (m′ ≡ storeMemory S m₀ ps₀ cs) × (ps′ ≡ storeList S m₀ ps₀ cs)
-unfolding Makes MakingFrees storeAnswers storeMemory storeList
+    → Accepted S m₀ ps₀ × (rs ≡ storeAnswers S m₀ ps₀ cs) × (m′ ≡ storeLeft S m₀ ps₀ cs .memory) × (ps′ ≡ storeLeft S m₀ ps₀ cs .list)
+unfolding Makes MakingFrees storeAnswers storeLeft
 store-left S m₀ ps₀ {m} {ps = ps} h q =
     let l = rw (h .1, making-frees S m₀ m ps₀ ps h) at (run-left q) in
     (sym (h .0), l .0, l .1, l .2)
@@ -104,7 +104,7 @@ module _ (F : Face) (ok : Faithful F) where
 
   stored : (S : Shape) (m₀ : List ℕ) (ps₀ : List Place) {m m′ : List ℕ} {ps ps′ : List Place} {z : F .Told} {cs : List Call} {rs : List (F .Told)}
       → F .makes m₀ ps₀ S z m ps → F .Accepts z → Run (F .serves) m ps cs rs m′ ps′
-      → Accepted S m₀ ps₀ × (rs ≡ map (F .tells) (storeAnswers S m₀ ps₀ cs)) × (m′ ≡ storeMemory S m₀ ps₀ cs) × (ps′ ≡ storeList S m₀ ps₀ cs)
+      → Accepted S m₀ ps₀ × (rs ≡ map (F .tells) (storeAnswers S m₀ ps₀ cs)) × (m′ ≡ storeLeft S m₀ ps₀ cs .memory) × (ps′ ≡ storeLeft S m₀ ps₀ cs .list)
   unfolding Makes made answered
   stored S m₀ ps₀ {z = z} h g q =
       let x = ok .making h in
@@ -120,11 +120,11 @@ module _ (F : Face) (ok : Faithful F) where
   refused-so m m′ ps ps′ c r s =
       let x = ok .served s in
       let k = refuses m ps c in
-      let e : r ≡ F .tells (answerOf m ps c) = x .2 ∙ ap (F .tells) (x .1 .0) in
+      let e : r ≡ F .tells (answerOf (lend m ps) c) = x .2 ∙ ap (F .tells) (x .1 .0) in
       rw e
       ((
-        λ n. (λ h. k .0 n .0 (ok .refusing (answerOf m ps c) n .0 h), λ h. ok .refusing (answerOf m ps c) n .1 (k .0 n .1 h)),
-        (λ h. k .1 .0 (ok .accepting (answerOf m ps c) .0 h), λ h. ok .accepting (answerOf m ps c) .1 (k .1 .1 h)),
+        λ n. (λ h. k .0 n .0 (ok .refusing (answerOf (lend m ps) c) n .0 h), λ h. ok .refusing (answerOf (lend m ps) c) n .1 (k .0 n .1 h)),
+        (λ h. k .1 .0 (ok .accepting (answerOf (lend m ps) c) .0 h), λ h. ok .accepting (answerOf (lend m ps) c) .1 (k .1 .1 h)),
       ))
 
   pub refused-kept : RefusedKept F
@@ -147,9 +147,9 @@ module _ (F : Face) (ok : Faithful F) where
   reads-so S m₀ m m′ ps₀ ps ps′ z cs rs h g ys q x t r c a m″ ps″ y w s k =
       let l = stored S m₀ ps₀ h g q in
       let b = ok .served s in
-      let e : b .0 ≡ answerOf (storeMemory S m₀ ps₀ cs) (storeList S m₀ ps₀ cs) x =
-      b .1 .0 ∙ ap (λ (u : List ℕ). answerOf u ps′ x) (l .2) ∙ ap (λ (u : List Place). answerOf (storeMemory S m₀ ps₀ cs) u x) (l .3) in
-      let n : isRefused (answerOf (storeMemory S m₀ ps₀ cs) (storeList S m₀ ps₀ cs) x) ≡ false = ap isRefused (sym e) ∙ not-refused a (b .0) (b .2) k in
+      let e : b .0 ≡ answerOf (storeLeft S m₀ ps₀ cs) x =
+      b .1 .0 ∙ ap (λ (u : List ℕ). answerOf (lend u ps′) x) (l .2) ∙ ap (λ (u : List Place). answerOf (lend (storeLeft S m₀ ps₀ cs .memory) u) x) (l .3) in
+      let n : isRefused (answerOf (storeLeft S m₀ ps₀ cs) x) ≡ false = ap isRefused (sym e) ∙ not-refused a (b .0) (b .2) k in
       b .2 ∙ ap (F .tells) (e ∙ reads-committed S m₀ ps₀ (l .0) cs ys x t r c y w (rw n tt))
 
   pub pages-so : PagesSo F
@@ -177,7 +177,7 @@ module _ (F : Face) (ok : Faithful F) where
   reads-stable S m₀ m m′ ps₀ ps ps′ z cs rs h g ys q i j t r c x y =
       at i ∙ ap (F .tells) (stability-store S m₀ ps₀ (l .0) cs ys i j t r c (read-in i x) (read-in j y)) ∙ sym (at j)
     where
-      l : Accepted S m₀ ps₀ × (rs ≡ map (F .tells) (storeAnswers S m₀ ps₀ cs)) × (m′ ≡ storeMemory S m₀ ps₀ cs) × (ps′ ≡ storeList S m₀ ps₀ cs)
+      l : Accepted S m₀ ps₀ × (rs ≡ map (F .tells) (storeAnswers S m₀ ps₀ cs)) × (m′ ≡ storeLeft S m₀ ps₀ cs .memory) × (ps′ ≡ storeLeft S m₀ ps₀ cs .list)
       l = stored S m₀ ps₀ h g q
 
       at : (k : ℕ) → toldAt F rs k ≡ F .tells (storeAnswerAt S m₀ ps₀ cs k)
@@ -250,7 +250,7 @@ unfolding placesIf
 if-changed accept ps ps′ h = h
 if-changed (refuse n) ps ps′ h = none-changed ps
 
-list-changed : (m : List ℕ) (ps : List Place) (c : Call) → Changed ps (listAfter m ps c)
+list-changed : (m : List ℕ) (ps : List Place) (c : Call) → Changed ps (listAfter (lend m ps) c)
 unfolding listAfter placesNext
 list-changed m ps c =
     elim (usable m ps) as (λ b. Changed ps (cond b (placesNext (storedShape (words m)) (storeView m) ps c) ps))

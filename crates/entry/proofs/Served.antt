@@ -1,6 +1,6 @@
 -- The ways in which a call ends, each as one law from what the tests told to what the call promises: the memory is not usable, a test failed, the call only
 -- reads, or it was lent the needed bytes and wrote them.
-use Prim.Native.Nat.{ℕ, _*_, _≤_}
+use Prim.Native.Nat.{ℕ, _≤_}
 use mathlib.Core.Path.{_≡_, refl, ap, sym, _∙_}
 use mathlib.Core.Bool.{Bool, true, false, cond}
 use mathlib.Core.List.{List, _++_}
@@ -13,7 +13,6 @@ use Rattle.terms.specs.declared.Refusal.{Refusal}
 use Rattle.terms.specs.declared.Answer.{Answer}
 use Rattle.words.specs.Words.{words, Bytes}
 use Rattle.layout.specs.declared.Sizes.{Sizes}
-use Rattle.layout.specs.Regions.{need}
 use Rattle.layout.specs.View.{View, view, lay}
 use Rattle.layout.proofs.Lay.{lay-view, view-part, lent}
 use Rattle.history.specs.History.{Call, accept, refuse, verdict, answerIf}
@@ -26,7 +25,7 @@ use Rattle.pages.specs.Checked.{checked}
 use Rattle.facts.proofs.Usable.{usable-tells}
 use Rattle.model.specs.Calls.{testsIn, replyIn, actIn, placesAfter, say, viewIf, viewNext, placesIf, placesNext}
 use Rattle.model.specs.Asked.{shapeIn}
-use Rattle.promise.specs.Promise.{storeView, answerOf, memoryAfter, listAfter, Serves, ServesBy, kept}
+use Rattle.promise.specs.Promise.{storeView, answerOf, memoryAfter, listAfter, Serves, ServesBy, kept, lend}
 use Rattle.entry.specs.declared.Entry.{Entry}
 use Rattle.entry.specs.declared.Tested.{Tested}
 use Rattle.entry.specs.Entered.{Fitted, Listed, Entered, Enters}
@@ -100,15 +99,15 @@ module _ {s : Sizes} {n : ℕ} {m : List ℕ} {t : Scans} (e : Entered s n m t) 
 
   -- what the definitions give is what the call answers and leaves
   module _ (ps : List Place) (h : Listed s m ps) where
-    answer-is : say (shapeIn s) (view s (words m)) ps c ≡ answerOf m ps c
+    answer-is : say (shapeIn s) (view s (words m)) ps c ≡ answerOf (lend m ps) c
     unfolding answerOf storeView storedSizes storedShape
     answer-is = rw (h .passed, h .sizes-are)
 
-    memory-is : lay s (viewNext (shapeIn s) (view s (words m)) ps c) m ≡ memoryAfter m ps c
+    memory-is : lay s (viewNext (shapeIn s) (view s (words m)) ps c) m ≡ memoryAfter (lend m ps) c
     unfolding memoryAfter storeView storedSizes storedShape
     memory-is = rw (h .passed, h .sizes-are)
 
-    list-is : placesNext (shapeIn s) (view s (words m)) ps c ≡ listAfter m ps c
+    list-is : placesNext (shapeIn s) (view s (words m)) ps c ≡ listAfter (lend m ps) c
     unfolding listAfter storeView storedSizes storedShape
     list-is = rw (h .passed, h .sizes-are)
 

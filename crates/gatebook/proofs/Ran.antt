@@ -7,7 +7,7 @@ use mathlib.Core.List.{List, [], _++_, append-nil, append-assoc}
 use native.Mathlib.Omega.{arith}
 use lib.ListN.{length, take, drop, take-append-drop, length-append, length-drop}
 use lib.Seq.{slice, take-take, length-take-le}
-use Rattle.turns.specs.Store.{Store}
+use Rattle.promise.specs.Promise.{Lent}
 use Rattle.turns.specs.Gatebook.{GatebookWrites}
 use Rattle.turns.proofs.Gatebook.{gatebook-writes}
 use Rattle.rounds.specs.declared.Progress.{Progress}
@@ -18,7 +18,7 @@ use Rattle.gatebook.specs.declared.course.Course.{Course}
 use Rattle.gatebook.specs.Course.{flowOf, Opened, Received, Rounded, Sent, Ran, RanWrites}
 
 -- ---- one round: what is left moves to the front
-pub rounded : (c d : Course) (q : Progress) (x y : Store) (old new lines : List ℕ) → c .held ≤ length old → roomFor (length old) ≤ length lines → flow q ≡ flowOf d
+pub rounded : (c d : Course) (q : Progress) (x y : Lent) (old new lines : List ℕ) → c .held ≤ length old → roomFor (length old) ≤ length lines → flow q ≡ flowOf d
     → Took (c .last) (flowOf c) q x y (take (c .held) old) lines
     → take (c .held - q .taken) new ≡ slice (q .taken) (q .taken + (c .held - q .taken)) old → length new ≡ length old
     → (d .held ≡ c .held - q .taken) × (d .written ≡ q .written) × (d .last ≡ c .last) × (d .read ≡ c .read) × (d .sent ≡ c .sent)
@@ -34,7 +34,7 @@ rounded c d q x y old new lines h room f t m same g =
     record { round = r; last = g .2; inside = omega (arith, g .0); room = λ o. omega (arith, r .few o); fits = omega (arith, g .1, t .fits); read = g .3; sent = g .4 }
 
 -- ---- all rounds
-pub ran-none : (x : Store) (c : Course) (input : List ℕ) → Opened c → Ran x c x input
+pub ran-none : (x : Lent) (c : Course) (input : List ℕ) → Opened c → Ran x c x input
 ran-none x c input o =
     record { received = []; lines = []; moved = rw (o .flow, o .held) (moved-none (c .last) opening x [] []); read = sym (o .read); sent = sym (o .sent) }
 
@@ -43,7 +43,7 @@ behind-held c d old new r =
     sym (take-append-drop (c .held) (take (d .held) new))
     ∙ ap (λ (l : List ℕ). l ++ slice (c .held) (d .held) new) (take-take (c .held) (d .held) new (r .more) ∙ r .held)
 
-pub ran-next : (x₀ x y : Store) (c r a d : Course) (i j k lines : List ℕ) → Ran x₀ c x i → c .last ≡ false → Received c r i j → Rounded r a x y j k lines → Sent a d
+pub ran-next : (x₀ x y : Lent) (c r a d : Course) (i j k lines : List ℕ) → Ran x₀ c x i → c .last ≡ false → Received c r i j → Rounded r a x y j k lines → Sent a d
     → Ran x₀ d y k
 ran-next x₀ x y c r a d i j k lines n off v w s =
     record { received = n .received ++ piece; lines = n .lines ++ take (a .written) lines; moved = record { same = go }; read = came; sent = went }

@@ -10,7 +10,7 @@ use Rattle.words.specs.Words.{Bytes}
 use Rattle.layout.specs.Sizes.{bytesNeeded}
 use Rattle.decimal.specs.Written.{lineBytes}
 use Rattle.output.specs.Output.{output}
-use Rattle.turns.specs.Store.{Store}
+use Rattle.promise.specs.Promise.{Lent}
 use Rattle.turns.specs.Gatebook.{largest}
 use Rattle.commands.specs.Commands.{commandBytes}
 use Rattle.rounds.specs.Due.{Flow, Moved, Round}
@@ -55,7 +55,7 @@ pub record Received (c d : Course) (old new : List ℕ) : Type 0 where
   pub sent : d .sent ≡ c .sent
 
 -- A round over the bytes that are held, in the buffers: what it leaves stands at the front.
-pub record Rounded (c d : Course) (x y : Store) (old new lines : List ℕ) : Type 0 where
+pub record Rounded (c d : Course) (x y : Lent) (old new lines : List ℕ) : Type 0 where
   pub round : Round (c .last) (flowOf c) x (take (c .held) old) (flowOf d) y (take (d .held) new) (take (d .written) lines)
   pub last : d .last ≡ c .last
   pub inside : d .held ≤ length new
@@ -74,7 +74,7 @@ pub record Sent (c d : Course) : Type 0 where
   pub sent : d .sent ≡ c .sent + c .written
 
 -- The program's own rounds: from the opening and the store x₀ it came to c and x, with bytes received and lines sent, as many as were read and written.
-pub record Ran (x₀ : Store) (c : Course) (x : Store) (input : List ℕ) : Type 0 where
+pub record Ran (x₀ : Lent) (c : Course) (x : Lent) (input : List ℕ) : Type 0 where
   pub received : List ℕ
   pub lines : List ℕ
   pub moved : Moved (c .last) opening x₀ received [] (flowOf c) x (take (c .held) input) lines
@@ -82,7 +82,7 @@ pub record Ran (x₀ : Store) (c : Course) (x : Store) (input : List ℕ) : Type
   pub sent : length lines ≡ c .sent
 
 -- The rounds follow each other, all lines are handed to the system, and there is no reason for another round.
-pub record Ended (x₀ : Store) (c : Course) (x : Store) (input : List ℕ) : Type 0 where
+pub record Ended (x₀ : Lent) (c : Course) (x : Lent) (input : List ℕ) : Type 0 where
   pub ran : Ran x₀ c x input
   pub written : c .written ≡ 0
   pub stops : goes c ≡ false
@@ -90,5 +90,5 @@ pub record Ended (x₀ : Store) (c : Course) (x : Store) (input : List ℕ) : Ty
 -- Once the program has ended, the lines sent are those of the bytes received, whatever else the input holds.
 unfoldable pub RanWrites : Type 0
 RanWrites =
-    (x₀ : Store) (c : Course) (x : Store) (input rest : List ℕ) (r : Ran x₀ c x input) → Bytes (r .received ++ rest) → bytesNeeded largest ≤ length (x₀ .memory)
+    (x₀ : Lent) (c : Course) (x : Lent) (input rest : List ℕ) (r : Ran x₀ c x input) → Bytes (r .received ++ rest) → bytesNeeded largest ≤ length (x₀ .memory)
     → mostScans ≤ length (x₀ .list) → c .on ≡ false → (c .last ≡ true → rest ≡ []) → r .lines ≡ output (r .received ++ rest)

@@ -9,3 +9,4 @@ pub mod Table
 pub mod Asked
 pub mod Represents
 pub mod Unfolding
+pub mod Machine

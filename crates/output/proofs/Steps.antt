@@ -16,7 +16,7 @@ use Rattle.commands.specs.declared.Chosen.{Chosen}
 use Rattle.commands.specs.Commands.{chosen, width, callFrom, Item, itemAt, behind, items, script, cutShape, parse, shapeBytes, shapeFrom}
 use Rattle.commands.proofs.Parts.{whole, call-part}
 use Rattle.output.specs.Output.{lentColumns, lentRanges, lentRecords, lentSpares, lent, shapeAnswer, goesOn, calls, linesOf, outputOf, output}
-use Rattle.output.specs.Machine.{Machine, historyOf}
+use Rattle.model.specs.Machine.{Machine, historyOf}
 use Rattle.output.specs.Steps.{operandsOf, answerTo, stateAfter, steps, linesFrom, written}
 use Rattle.loops.proofs.Search.{and-true}
 

@@ -14,9 +14,9 @@ use Rattle.lines.specs.Lines.{line}
 use Rattle.commands.specs.declared.Chosen.{Chosen}
 use Rattle.commands.specs.Commands.{chosen, width, callFrom, behind}
 use Rattle.output.specs.Output.{goesOn}
-use Rattle.output.specs.Machine.{Machine, Alike}
+use Rattle.model.specs.Machine.{Machine, Alike}
 use Rattle.output.specs.Steps.{operandsOf, answerTo, stateAfter, steps}
-use Rattle.output.proofs.Alike.{alike-now, alike-next}
+use Rattle.model.proofs.Alike.{alike-now, alike-next}
 use Rattle.output.proofs.Typed.{typed, bytes-take, bytes-drop}
 
 module _ {A B : Type 0} (m : Machine A) (n : Machine B) where

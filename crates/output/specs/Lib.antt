@@ -1,5 +1,4 @@
 -- What gatebook must write for any input, at once and step by step, what answers its calls, and the worked example.
 pub mod Output
-pub mod Machine
 pub mod Steps
 pub mod Example

@@ -13,7 +13,7 @@ use Rattle.lines.specs.Lines.{line, shapeLine}
 use Rattle.commands.specs.declared.Chosen.{Chosen}
 use Rattle.commands.specs.Commands.{chosen, width, callFrom, behind, shapeBytes, shapeFrom}
 use Rattle.output.specs.Output.{shapeAnswer, goesOn}
-use Rattle.output.specs.Machine.{Machine, historyOf}
+use Rattle.model.specs.Machine.{Machine, historyOf}
 
 -- the bytes that are read behind a command byte: its operands, or as many as there are
 unfoldable pub operandsOf : ℕ → Chosen → List ℕ → List ℕ

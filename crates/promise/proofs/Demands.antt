@@ -32,8 +32,8 @@ use Rattle.model.proofs.Heads.{sees-at}
 use Rattle.model.proofs.Calls.{current-read, one-call}
 use Rattle.model.proofs.Made.{small-shape, made-represents}
 use Rattle.model.proofs.Claims.{represented, reads, pages-hold, scans-keep}
-use Rattle.promise.specs.Promise.{storeView, answerOf, memoryAfter}
-use Rattle.promise.specs.Demands.{Accepted, memoryMade, storeAnswers, memoryLeft, listLeft, storeMemory, storeList, MakingAccepted, ReadsCommitted, PagesCommitted, ScansKept, Demand3, StrikingStore, storeAnswerAt, ReadIn, StabilityStore}
+use Rattle.promise.specs.Promise.{storeView, answerOf, memoryAfter, lend, left}
+use Rattle.promise.specs.Demands.{Accepted, memoryMade, storeAnswers, storeLeft, MakingAccepted, ReadsCommitted, PagesCommitted, ScansKept, Demand3, StrikingStore, storeAnswerAt, ReadIn, StabilityStore}
 use Rattle.promise.proofs.Same.{Same, made-starts, same-usable, view-is, memory-is, list-is, same-call, same-answers}
 
 -- ---- an accepted making: its measures are within their limits, and memory and list are long enough
@@ -41,7 +41,7 @@ record Enough (S : Shape) (m : List ℕ) (ps : List Place) : Type 0 where
   within : withinLimits S ≡ true
   room : bytesNeeded S ≤ length m
   places : mostScans ≤ length ps
-  left : memoryMade S m ps ≡ lay (sizesOf S) (madeView S) m
+  laid : memoryMade S m ps ≡ lay (sizesOf S) (madeView S) m
 
 -- `made` answers Done where both of its tests pass
 both-passed : (b c : Bool) (l k : List ℕ) → cond {A = Answer × List ℕ} b (cond c (Answer.Done, l) (Answer.Refused Refusal.Memory, k)) (Answer.Refused Refusal.Shape, k) .0 ≡ Answer.Done → T b × T c
@@ -61,7 +61,7 @@ enough S m ps a =
       within = within;
       room = room;
       places = places;
-      left = sym (ap (λ (w : Answer × List ℕ). w .1) (making-laid S (length ps) m within room places (lay (sizesOf S) (madeView S) m) refl));
+      laid = sym (ap (λ (w : Answer × List ℕ). w .1) (making-laid S (length ps) m within room places (lay (sizesOf S) (madeView S) m) refl));
     }
 
 pub making-accepted : MakingAccepted
@@ -71,7 +71,7 @@ making-accepted S m ps t b n =
 
 -- what it left represents the empty history
 from-making : (S : Shape) (m : List ℕ) (ps : List Place) → Accepted S m ps → Same (memoryMade S m ps) (madeList ps) S start
-from-making S m ps a = let e = enough S m ps a in rw (e .left) (made-starts S m ps (e .within) (e .room) (e .places))
+from-making S m ps a = let e = enough S m ps a in rw (e .laid) (made-starts S m ps (e .within) (e .room) (e .places))
 
 -- and is usable, with a scan list whose places were all freed
 pub made-then-usable : (p : Shape) (m : List ℕ) (qs : List Place) → made p (length qs) m .0 ≡ Answer.Done → usable (made p (length qs) m .1) (madeList qs) ≡ true
@@ -101,18 +101,18 @@ stability-store S m ps a cs ys i j t r c x y =
 
 -- ---- the memory and the list after a list of calls
 record Left (m : List ℕ) (ps : List Place) (S : Shape) (h : History) (cs : List Call) : Type 0 where
-  same : Same (memoryLeft m ps cs) (listLeft m ps cs) S (run S h cs)
-  shown : view (sizesOf S) (words (memoryLeft m ps cs)) ≡ viewAfter S (view (sizesOf S) (words m)) ps cs
-  list : listLeft m ps cs ≡ modelList S (view (sizesOf S) (words m)) ps cs
+  same : Same (left (lend m ps) cs .memory) (left (lend m ps) cs .list) S (run S h cs)
+  shown : view (sizesOf S) (words (left (lend m ps) cs .memory)) ≡ viewAfter S (view (sizesOf S) (words m)) ps cs
+  list : left (lend m ps) cs .list ≡ modelList S (view (sizesOf S) (words m)) ps cs
 
 view-next : {m : List ℕ} {ps : List Place} {S : Shape} {h : History} → Same m ps S h → (c : Call) → Typed c
-    → view (sizesOf S) (words (memoryAfter m ps c)) ≡ viewNext S (view (sizesOf S) (words m)) ps c
+    → view (sizesOf S) (words (memoryAfter (lend m ps) c)) ≡ viewNext S (view (sizesOf S) (words m)) ps c
 view-next {m} {ps} {S} {h} o c y =
     let whole = (one-call S (view (sizesOf S) (words m)) ps h c y (o .shown) (o .known) .shown) .whole in
     rw (memory-is o c) (view-lay (sizesOf S) (viewNext S (view (sizesOf S) (words m)) ps c) m (whole .long) (whole .fits))
 
 calls-left : {m : List ℕ} {ps : List Place} {S : Shape} {h : History} → Same m ps S h → {cs : List Call} → All Typed cs → Left m ps S h cs
-unfolding memoryLeft listLeft run viewAfter modelList
+unfolding left run viewAfter modelList
 calls-left o nil = record { same = o; shown = refl; list = refl }
 calls-left o (cons {x = c} y ys) =
     let l = calls-left (same-call o c y .1) ys in
@@ -124,30 +124,30 @@ module _ (S : Shape) (m : List ℕ) (ps : List Place) (a : Accepted S m ps) {cs 
   view-made =
       let e = enough S m ps a in
       let whole = made-represents S (small-shape S (rw (e .within) tt)) (length ps) (e .places) .whole in
-      rw (e .left) (view-lay (sizesOf S) (madeView S) m (whole .long) (whole .fits))
+      rw (e .laid) (view-lay (sizesOf S) (madeView S) m (whole .long) (whole .fits))
 
-  left : Left (memoryMade S m ps) (madeList ps) S start cs
-  left = calls-left (from-making S m ps a) ys
+  from-made : Left (memoryMade S m ps) (madeList ps) S start cs
+  from-made = calls-left (from-making S m ps a) ys
 
   -- the store's memory and list, as the demands name them
-  store-same : Same (storeMemory S m ps cs) (storeList S m ps cs) S (historyAfter S cs)
-  unfolding storeMemory storeList historyAfter
-  store-same = left .same
+  store-same : Same (storeLeft S m ps cs .memory) (storeLeft S m ps cs .list) S (historyAfter S cs)
+  unfolding storeLeft historyAfter
+  store-same = from-made .same
 
-  words-left : view (sizesOf S) (words (storeMemory S m ps cs)) ≡ storeAfter S (length ps) cs
-  unfolding storeMemory storeAfter
-  words-left = left .shown ∙ ap (λ (v : View). viewAfter S v (madeList ps) cs) view-made
+  words-left : view (sizesOf S) (words (storeLeft S m ps cs .memory)) ≡ storeAfter S (length ps) cs
+  unfolding storeLeft storeAfter
+  words-left = from-made .shown ∙ ap (λ (v : View). viewAfter S v (madeList ps) cs) view-made
 
-  list-left : storeList S m ps cs ≡ modelList S (madeView S) (replicate (length ps) freePlace) cs
-  unfolding storeList
-  list-left = left .list ∙ ap (λ (v : View). modelList S v (madeList ps) cs) view-made
+  list-left : storeLeft S m ps cs .list ≡ modelList S (madeView S) (replicate (length ps) freePlace) cs
+  unfolding storeLeft
+  list-left = from-made .list ∙ ap (λ (v : View). modelList S v (madeList ps) cs) view-made
 
-  pub view-left : storeView (storeMemory S m ps cs) ≡ storeAfter S (length ps) cs
+  pub view-left : storeView (storeLeft S m ps cs .memory) ≡ storeAfter S (length ps) cs
   view-left = view-is store-same ∙ words-left
 
   -- and after further calls
   view-later : {ds : List Call} → All Typed ds
-      → storeView (memoryLeft (storeMemory S m ps cs) (storeList S m ps cs) ds)
+      → storeView (left (storeLeft S m ps cs) ds .memory)
       ≡ viewAfter S (storeAfter S (length ps) cs) (modelList S (madeView S) (replicate (length ps) freePlace) cs) ds
   view-later zs = let l = calls-left store-same zs in view-is (l .same) ∙ l .shown ∙ rw (words-left, list-left)
 
@@ -169,7 +169,7 @@ pub reads-committed : ReadsCommitted
 unfolding ReadsCommitted Rattle.model.specs.Claims.Reads
 reads-committed S m ps a cs ys x t r c y q n =
     let h = historyAfter S cs in
-    let e : answerOf (storeMemory S m ps cs) (storeList S m ps cs) x ≡ answer S h x =
+    let e : answerOf (storeLeft S m ps cs) x ≡ answer S h x =
     same-call (store-same S m ps a ys) x y .0 in
     let w : verdict (tests S h x) ≡ accept = accepted S h x (rw e at n) in
     let b = read-inside S h q (passed (tests S h x) w) in

@@ -31,7 +31,7 @@ use Rattle.model.specs.Calls.{Typed, say, viewNext, placesNext}
 use Rattle.model.specs.Represents.{Represents, Known}
 use Rattle.model.proofs.Calls.{one-call}
 use Rattle.model.proofs.Made.{small-shape, made-represents}
-use Rattle.promise.specs.Promise.{storeView, answerOf, memoryAfter, listAfter, answersOf}
+use Rattle.promise.specs.Promise.{storeView, answerOf, memoryAfter, listAfter, answersOf, lend}
 use Rattle.promise.proofs.Stored.{represented-facts}
 
 -- The view by the shape represents the history, and there are the bytes for it. That the memory says this shape, and that it is usable, follows.
@@ -108,20 +108,20 @@ module _ {m : List ℕ} {ps : List Place} {S : Shape} {h : History} (o : Same m 
   by-usable : {A : Type 0} (f : Shape → View → A) (z : A) → cond (usable m ps) (f (storedShape (words m)) (storeView m)) z ≡ f S seen
   by-usable f z = rw (same-usable, shape-said, view-is)
 
-  pub answer-is : (c : Call) → answerOf m ps c ≡ say S seen ps c
+  pub answer-is : (c : Call) → answerOf (lend m ps) c ≡ say S seen ps c
   unfolding answerOf
   answer-is c = by-usable (λ p v. say p v ps c) _
 
-  pub memory-is : (c : Call) → memoryAfter m ps c ≡ lay (sizesOf S) (viewNext S seen ps c) m
+  pub memory-is : (c : Call) → memoryAfter (lend m ps) c ≡ lay (sizesOf S) (viewNext S seen ps c) m
   unfolding memoryAfter storedSizes
   memory-is c = by-usable (λ p v. lay (sizesOf p) (viewNext p v ps c) m) _
 
-  pub list-is : (c : Call) → listAfter m ps c ≡ placesNext S seen ps c
+  pub list-is : (c : Call) → listAfter (lend m ps) c ≡ placesNext S seen ps c
   unfolding listAfter
   list-is c = by-usable (λ p v. placesNext p v ps c) _
 
   -- one call: it answers as the history does, and what it leaves represents the history after it
-  pub same-call : (c : Call) → Typed c → (answerOf m ps c ≡ answer S h c) × Same (memoryAfter m ps c) (listAfter m ps c) S (next S h c)
+  pub same-call : (c : Call) → Typed c → (answerOf (lend m ps) c ≡ answer S h c) × Same (memoryAfter (lend m ps) c) (listAfter (lend m ps) c) S (next S h c)
   same-call c y =
       let one = one-call S seen ps h c y (o .shown) (o .known) in (
         answer-is c ∙ one .answered,
@@ -129,7 +129,7 @@ module _ {m : List ℕ} {ps : List Place} {S : Shape} {h : History} (o : Same m 
       )
 
 -- every list of calls
-pub same-answers : {m : List ℕ} {ps : List Place} {S : Shape} {h : History} → Same m ps S h → {cs : List Call} → All Typed cs → answersOf m ps cs ≡ answers S h cs
+pub same-answers : {m : List ℕ} {ps : List Place} {S : Shape} {h : History} → Same m ps S h → {cs : List Call} → All Typed cs → answersOf (lend m ps) cs ≡ answers S h cs
 unfolding answersOf answers
 same-answers o nil = refl
 same-answers o (cons {x = c} y ys) = let one = same-call o c y in rw (one .0, same-answers (one .1) ys)

@@ -6,7 +6,7 @@
 use mathlib.Core.Path.{_≡_}
 use mathlib.Core.Logic.{_↔_}
 use mathlib.Core.Bool.{false, not}
-use mathlib.Core.List.{List, [], _∷_}
+use mathlib.Core.List.{List, _∷_}
 use Prim.Native.Nat.{ℕ, suc, _≤_, _<_}
 use lib.Dec.{T}
 use lib.ListN.{length, getD}
@@ -24,7 +24,7 @@ use Rattle.history.specs.Latest.{lastCommitted}
 use Rattle.making.specs.Made.{made, madeList}
 use Rattle.model.specs.Calls.{Typed}
 use Rattle.model.specs.Claims.{historyAfter, PageHolds, PageKept}
-use Rattle.promise.specs.Promise.{storeView, answerOf, memoryAfter, listAfter, answersOf}
+use Rattle.promise.specs.Promise.{storeView, Lent, answerOf, memoryAfter, listAfter, answersOf, lend, left}
 use Rattle.promise.specs.Stated.{First, NoneApplies, conditions}
 
 -- ---- "The list starts from what an accepted making left, whatever memory and scan list held before": m and ps are what they held
@@ -42,23 +42,12 @@ MakingAccepted = (S : Shape) (m : List ℕ) (ps : List Place) → T (withinLimit
 abbrev pub Every : (Shape → List ℕ → List Place → List Call → Type 0) → Type 0
 Every P = (S : Shape) (m : List ℕ) (ps : List Place) → Accepted S m ps → (cs : List Call) → All Typed cs → P S m ps cs
 
--- the answers of the store to a list of calls, and the memory and the scan list after it
+-- the answers of the store to a list of calls, and what it leaves of memory and list
 unfoldable pub storeAnswers : Shape → List ℕ → List Place → List Call → List Answer
-storeAnswers S m ps cs = answersOf (memoryMade S m ps) (madeList ps) cs
+storeAnswers S m ps cs = answersOf (lend (memoryMade S m ps) (madeList ps)) cs
 
-unfoldable pub memoryLeft : List ℕ → List Place → List Call → List ℕ
-memoryLeft m ps [] = m
-memoryLeft m ps (c ∷ cs) = memoryLeft (memoryAfter m ps c) (listAfter m ps c) cs
-
-unfoldable pub listLeft : List ℕ → List Place → List Call → List Place
-listLeft m ps [] = ps
-listLeft m ps (c ∷ cs) = listLeft (memoryAfter m ps c) (listAfter m ps c) cs
-
-unfoldable pub storeMemory : Shape → List ℕ → List Place → List Call → List ℕ
-storeMemory S m ps cs = memoryLeft (memoryMade S m ps) (madeList ps) cs
-
-unfoldable pub storeList : Shape → List ℕ → List Place → List Call → List Place
-storeList S m ps cs = listLeft (memoryMade S m ps) (madeList ps) cs
+unfoldable pub storeLeft : Shape → List ℕ → List Place → List Call → Lent
+storeLeft S m ps cs = left (lend (memoryMade S m ps) (madeList ps)) cs
 
 -- ---- demand 1, for any numbers over any memory and any list
 -- "refused with its number from document 01, on the stated condition only": a call answers n exactly if n's condition is the first of the call's that applies,
@@ -66,14 +55,14 @@ storeList S m ps cs = listLeft (memoryMade S m ps) (madeList ps) cs
 unfoldable pub Refuses : Type 0
 Refuses =
     (m : List ℕ) (ps : List Place) (c : Call)
-    → ((n : Refusal) → (answerOf m ps c ≡ Answer.Refused n) ↔ First (conditions m ps c) n)
-    × ((isRefused (answerOf m ps c) ≡ false) ↔ NoneApplies (conditions m ps c))
+    → ((n : Refusal) → (answerOf (lend m ps) c ≡ Answer.Refused n) ↔ First (conditions m ps c) n)
+    × ((isRefused (answerOf (lend m ps) c) ≡ false) ↔ NoneApplies (conditions m ps c))
 
 -- "and changes no byte"
 unfoldable pub RefusedKeeps : Type 0
 RefusedKeeps =
-    (m : List ℕ) (ps : List Place) (c : Call) (n : Refusal) → Bytes m → answerOf m ps c ≡ Answer.Refused n
-    → (memoryAfter m ps c ≡ m) × (listAfter m ps c ≡ ps)
+    (m : List ℕ) (ps : List Place) (c : Call) (n : Refusal) → Bytes m → answerOf (lend m ps) c ≡ Answer.Refused n
+    → (memoryAfter (lend m ps) c ≡ m) × (listAfter (lend m ps) c ≡ ps)
 
 -- ---- demand 2
 -- "each read gives the value last committed for that row and column at or before the stamp read": a latest read, a read at and a scan read that is not
@@ -82,8 +71,8 @@ unfoldable pub ReadsCommitted : Type 0
 ReadsCommitted =
     Every
     (λ S m ps cs.
-    (x : Call) (t r c : ℕ) → Typed x → Reads (historyAfter S cs) x t r c → T (not (isRefused (answerOf (storeMemory S m ps cs) (storeList S m ps cs) x)))
-    → answerOf (storeMemory S m ps cs) (storeList S m ps cs) x ≡ lastCommitted (historyAfter S cs) t r c)
+    (x : Call) (t r c : ℕ) → Typed x → Reads (historyAfter S cs) x t r c → T (not (isRefused (answerOf (storeLeft S m ps cs) x)))
+    → answerOf (storeLeft S m ps cs) x ≡ lastCommitted (historyAfter S cs) t r c)
 
 -- "each merged page, while current, holds, for every row, the last committed setting among the tail records it has taken in, and for a row with none the
 -- value it was inserted with, or 0 if that row was never inserted"
@@ -91,7 +80,7 @@ unfoldable pub PagesCommitted : Type 0
 PagesCommitted =
     Every
     (λ S m ps cs.
-    (g c : ℕ) → g < S .ranges → c < S .columns → PageHolds S (storeView (storeMemory S m ps cs)) (historyAfter S cs) g c)
+    (g c : ℕ) → g < S .ranges → c < S .columns → PageHolds S (storeView (storeLeft S m ps cs .memory)) (historyAfter S cs) g c)
 
 -- document 01, "An open scan reads the pages that were current at its opening": whatever is called while it is open
 unfoldable pub ScansKept : Type 0
@@ -100,8 +89,8 @@ ScansKept =
     (λ S m ps cs.
     (s : ℕ) (later : List Call) → All Typed (openScan s ∷ later) → verdict (tests S (historyAfter S cs) (openScan s)) ≡ accept
     → T (scanAt (run S (historyAfter S cs) (openScan s ∷ later)) (suc (length ((historyAfter S cs) .scans))) .running) → (g c : ℕ) → g < S .ranges → c < S .columns
-    → PageKept S (storeView (storeMemory S m ps cs))
-    (storeView (memoryLeft (storeMemory S m ps cs) (storeList S m ps cs) (openScan s ∷ later)))
+    → PageKept S (storeView (storeLeft S m ps cs .memory))
+    (storeView (left (storeLeft S m ps cs) (openScan s ∷ later) .memory))
     (run S (historyAfter S cs) (openScan s ∷ later)) (suc (length ((historyAfter S cs) .scans))) g c (length ((historyAfter S cs) .rows)))
 
 -- ---- demand 3

@@ -20,29 +20,53 @@ use Rattle.scans.specs.Table.{tableOf}
 use Rattle.making.specs.Made.{made}
 use Rattle.facts.specs.Usable.{storedShape, storedSizes, usable}
 use Rattle.model.specs.Calls.{say, viewNext, placesNext}
+use Rattle.model.specs.Machine.{Machine}
 
 -- the view of a memory by the shape that it holds
 unfoldable pub storeView : List ℕ → View
 storeView m = view (storedSizes (words m)) (words m)
 
-unfoldable pub answerOf : List ℕ → List Place → Call → Answer
-answerOf m ps c = cond (usable m ps) (say (storedShape (words m)) (storeView m) ps c) (Answer.Refused Refusal.Memory)
+-- ---- what is lent to a call: the memory, and the list of open scans
+pub record Lent : Type 0 where
+  pub memory : List ℕ
+  pub list : List Place
 
-unfoldable pub memoryAfter : List ℕ → List Place → Call → List ℕ
-memoryAfter m ps c = cond (usable m ps) (lay (storedSizes (words m)) (viewNext (storedShape (words m)) (storeView m) ps c) m) m
+abbrev pub lend : List ℕ → List Place → Lent
+lend m ps = record { memory = m; list = ps }
 
-unfoldable pub listAfter : List ℕ → List Place → Call → List Place
-listAfter m ps c = cond (usable m ps) (placesNext (storedShape (words m)) (storeView m) ps c) ps
+-- ---- what a call answers, and what it leaves of the memory and of the list
+unfoldable pub answerOf : Lent → Call → Answer
+answerOf x c =
+    cond (usable (x .memory) (x .list)) (say (storedShape (words (x .memory))) (storeView (x .memory)) (x .list) c) (Answer.Refused Refusal.Memory)
 
--- a list of calls: each is lent the memory and the list as the last one left them
-unfoldable pub answersOf : List ℕ → List Place → List Call → List Answer
-answersOf m ps [] = []
-answersOf m ps (c ∷ cs) = answerOf m ps c ∷ answersOf (memoryAfter m ps c) (listAfter m ps c) cs
+unfoldable pub memoryAfter : Lent → Call → List ℕ
+memoryAfter x c =
+    cond (usable (x .memory) (x .list)) (lay (storedSizes (words (x .memory))) (viewNext (storedShape (words (x .memory))) (storeView (x .memory)) (x .list) c) (x .memory))
+    (x .memory)
+
+unfoldable pub listAfter : Lent → Call → List Place
+listAfter x c = cond (usable (x .memory) (x .list)) (placesNext (storedShape (words (x .memory))) (storeView (x .memory)) (x .list) c) (x .list)
+
+abbrev pub leftBy : Lent → Call → Lent
+leftBy x c = record { memory = memoryAfter x c; list = listAfter x c }
+
+-- ---- a list of calls: each is lent what the last one left
+unfoldable pub answersOf : Lent → List Call → List Answer
+answersOf x [] = []
+answersOf x (c ∷ cs) = answerOf x c ∷ answersOf (leftBy x c) cs
+
+unfoldable pub left : Lent → List Call → Lent
+left x [] = x
+left x (c ∷ cs) = left (leftBy x c) cs
+
+-- It answers calls as a machine does.
+abbrev pub lentMachine : Machine Lent
+lentMachine = record { answer = answerOf; next = leftBy }
 
 -- ---- what a call promises
 -- a call over the memory m and the list ps answers r, and leaves the memory m′ and the list ps′
 unfoldable pub Serves : List ℕ → List Place → Call → Answer → List ℕ → List Place → Type 0
-Serves m ps c r m′ ps′ = (r ≡ answerOf m ps c) × (m′ ≡ memoryAfter m ps c) × (ps′ ≡ listAfter m ps c)
+Serves m ps c r m′ ps′ = (r ≡ answerOf (lend m ps) c) × (m′ ≡ memoryAfter (lend m ps) c) × (ps′ ≡ listAfter (lend m ps) c)
 
 -- The code behind a call takes the scan list as a table of it, by value: it serves the call for every list that the table stands for, and `next` is what becomes
 -- of that list.

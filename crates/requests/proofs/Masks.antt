@@ -18,7 +18,7 @@ use Rattle.layout.proofs.Limits.{proper}
 use Rattle.facts.specs.Usable.{storedShape, storedSizes, usable}
 use Rattle.history.specs.History.{update, Verdict, refuse, verdict, answerIf, badMask}
 use Rattle.model.specs.Calls.{notOpenIn, notGivenIn, testsIn, replyIn, actIn, viewIf, say, viewNext}
-use Rattle.promise.specs.Promise.{storeView, answerOf, memoryAfter, listAfter, Serves, ServesBy, kept}
+use Rattle.promise.specs.Promise.{storeView, answerOf, memoryAfter, listAfter, Serves, ServesBy, kept, lend}
 use Rattle.requests.specs.Asked.{mostMask}
 use Rattle.facts.proofs.Usable.{usable-tells}
 use native.Mathlib.Nat.{pow-le-pow-right}
@@ -74,7 +74,7 @@ unfolding badMask
 none-bad S = refl
 
 module _ (m : List ℕ) (ps : List Place) (a b c : ℕ) (vs : List ℤ) (h : mostMask < c) where
-  answer-wide : answerOf m ps (update a b 0 vs) ≡ answerOf m ps (update a b c vs)
+  answer-wide : answerOf (lend m ps) (update a b 0 vs) ≡ answerOf (lend m ps) (update a b c vs)
   unfolding answerOf
   answer-wide = go (usable m ps) refl
     where
@@ -86,7 +86,7 @@ module _ (m : List ℕ) (ps : List Place) (a b c : ℕ) (vs : List ℤ) (h : mos
       go true u = say-bad S (storeView m) ps a b vs 0 c (none-bad S) (wide-bad m ps c u h)
       go false u = refl
 
-  memory-wide : memoryAfter m ps (update a b 0 vs) ≡ memoryAfter m ps (update a b c vs)
+  memory-wide : memoryAfter (lend m ps) (update a b 0 vs) ≡ memoryAfter (lend m ps) (update a b c vs)
   unfolding memoryAfter
   memory-wide = go (usable m ps) refl
     where
@@ -98,7 +98,7 @@ module _ (m : List ℕ) (ps : List Place) (a b c : ℕ) (vs : List ℤ) (h : mos
       go true u = ap (λ (v : View). lay (storedSizes (words m)) v m) (view-bad S (storeView m) ps a b vs 0 c (none-bad S) (wide-bad m ps c u h))
       go false u = refl
 
-  list-wide : listAfter m ps (update a b 0 vs) ≡ listAfter m ps (update a b c vs)
+  list-wide : listAfter (lend m ps) (update a b 0 vs) ≡ listAfter (lend m ps) (update a b c vs)
   unfolding listAfter placesNext placesAfter
   list-wide = go (usable m ps)
     where

@@ -7,7 +7,7 @@ use lib.ListN.{length, getD, set, take, drop}
 use lib.Seq.{take-suc, take-suc-set, take-append-seam, sets, sets-eq, length-sets}
 use Rattle.output.specs.Steps.{Step}
 use Rattle.turns.specs.declared.Outcome.{Outcome}
-use Rattle.turns.specs.Store.{Store}
+use Rattle.promise.specs.Promise.{Lent}
 use Rattle.turns.specs.Turns.{Turned}
 use Rattle.rounds.specs.declared.Progress.{Progress}
 use Rattle.decimal.specs.Written.{lineBytes}
@@ -27,7 +27,7 @@ front old line h =
     let fits : 0 + length line ≤ length old = omega arith in
     rw (sets-eq line old 0 fits) (take-append-seam line (drop (0 + length line) old))
 
-module _ (s : Step Store) (x : Store) (buffer after : List ℕ) (t : Outcome) (size : length buffer ≡ lineBytes) (d : Turned s buffer after t x) where
+module _ (s : Step Lent) (x : Lent) (buffer after : List ℕ) (t : Outcome) (size : length buffer ≡ lineBytes) (d : Turned s buffer after t x) where
   pub long : t .length ≤ length after
   long = rw (d .rendered .bytes, length-sets buffer 0 (s .line), size) (d .rendered .fits)
 

@@ -16,10 +16,10 @@ use Rattle.commands.specs.Commands.{commands, chosen, width, behind, shapeBytes
 use Rattle.commands.proofs.Items.{behind-shorter}
 use Rattle.commands.proofs.Table.{chosen-passes}
 use Rattle.output.specs.Output.{goesOn}
-use Rattle.output.specs.Machine.{Machine}
+use Rattle.model.specs.Machine.{Machine}
 use Rattle.output.specs.Steps.{Step, operandsOf, answerTo, stateAfter, step, steps, linesFrom}
 use Rattle.output.proofs.Steps.{steps-none}
-use Rattle.turns.specs.Store.{Store, storeMachine}
+use Rattle.promise.specs.Promise.{Lent, lentMachine}
 use Rattle.turns.specs.Turns.{firstAnswer, firstStore, firstStep, columnsFrom, capped, operandWidth}
 use Rattle.turns.specs.Gatebook.{gatebook}
 use Rattle.rounds.specs.Due.{Flow, due, Moved, endAt, stepAt, CommandIn, NoCommand, ShapeIn}
@@ -79,22 +79,22 @@ module _ {State : Type 0} (m : Machine State) (columns : ℕ) where
   cut-step x byte (Chosen.Refused r) tail h = absurd (omega arith)
 
 -- ---- what is due
-pub due-off : (f : Flow) (x : Store) (bs : List ℕ) → f .on ≡ false → due f x bs ≡ []
+pub due-off : (f : Flow) (x : Lent) (bs : List ℕ) → f .on ≡ false → due f x bs ≡ []
 unfolding due
 due-off f x bs e = rw e
 
-due-commands : (f : Flow) (x : Store) (bs : List ℕ) → f .started ≡ true → due f x bs ≡ cond (f .on) (steps (length bs) storeMachine (capped (f .columns)) x bs) []
+due-commands : (f : Flow) (x : Lent) (bs : List ℕ) → f .started ≡ true → due f x bs ≡ cond (f .on) (steps (length bs) lentMachine (capped (f .columns)) x bs) []
 unfolding due
 due-commands f x bs e = rw e
 
-due-shape : (f : Flow) (x : Store) (bs : List ℕ) → f .on ≡ true → f .started ≡ false → due f x bs ≡ gatebook x bs
+due-shape : (f : Flow) (x : Lent) (bs : List ℕ) → f .on ≡ true → f .started ≡ false → due f x bs ≡ gatebook x bs
 unfolding due
 due-shape f x bs e q = rw (e, q)
 
-pub moved-none : (last : Bool) (f : Flow) (x : Store) (bs before : List ℕ) → Moved last f x bs before f x bs before
+pub moved-none : (last : Bool) (f : Flow) (x : Lent) (bs before : List ℕ) → Moved last f x bs before f x bs before
 moved-none last f x bs before = record { same = λ rest h. refl }
 
-pub moved-then : {last : Bool} {f g h : Flow} {x y z : Store} {bs cs ds before between after : List ℕ} → Moved last f x bs before g y cs between
+pub moved-then : {last : Bool} {f g h : Flow} {x y z : Lent} {bs cs ds before between after : List ℕ} → Moved last f x bs before g y cs between
     → Moved last g y cs between h z ds after → Moved last f x bs before h z ds after
 moved-then p q = record { same = λ rest l. p .same rest l ∙ q .same rest l }
 
@@ -102,10 +102,10 @@ pub never : {b : Bool} → b ≡ true → b ≡ false → ⊥
 never p q = let z : _≡_ {A = ℕ} 0 1 = cc in omega arith
 
 -- a command from `at` to `end`
-whole-due : (columns : ℕ) (x : Store) (bs rest : List ℕ) (at end : ℕ) → at < length bs → end ≡ endAt columns bs at → end ≤ length bs
+whole-due : (columns : ℕ) (x : Lent) (bs rest : List ℕ) (at end : ℕ) → at < length bs → end ≡ endAt columns bs at → end ≤ length bs
     → let s = stepAt columns x bs at end in
-    steps (length (drop at bs ++ rest)) storeMachine (capped columns) x (drop at bs ++ rest)
-    ≡ s .line ++ cond (s .on) (steps (length (drop end bs ++ rest)) storeMachine (capped columns) (s .state) (drop end bs ++ rest)) []
+    steps (length (drop at bs ++ rest)) lentMachine (capped columns) x (drop at bs ++ rest)
+    ≡ s .line ++ cond (s .on) (steps (length (drop end bs ++ rest)) lentMachine (capped columns) (s .state) (drop end bs ++ rest)) []
 unfolding steps stepAt
 whole-due columns x bs rest at end h e l =
     let byte : ℕ = getD bs at 0 in
@@ -116,23 +116,23 @@ whole-due columns x bs rest at end h e l =
     let left : drop w (drop (suc at) bs) ≡ drop end bs = drop-drop w (suc at) bs ∙ ap (λ (n : ℕ). drop n bs) there in
     let enough : w ≤ length (drop (suc at) bs) = omega (arith, length-drop (suc at) bs) in
     rw (drop-cons bs at 0 h, one, wide, ← left)
-    (whole-step storeMachine (capped columns) x byte (chosen byte) (drop (suc at) bs) rest (chosen-ends byte) enough)
+    (whole-step lentMachine (capped columns) x byte (chosen byte) (drop (suc at) bs) rest (chosen-ends byte) enough)
 
-cut-due : (columns : ℕ) (x : Store) (bs : List ℕ) (at : ℕ) → at < length bs → length bs < endAt columns bs at
+cut-due : (columns : ℕ) (x : Lent) (bs : List ℕ) (at : ℕ) → at < length bs → length bs < endAt columns bs at
     → let s = stepAt columns x bs at (length bs) in
-    steps (length (drop at bs)) storeMachine (capped columns) x (drop at bs)
-    ≡ s .line ++ cond (s .on) (steps 0 storeMachine (capped columns) (s .state) []) []
+    steps (length (drop at bs)) lentMachine (capped columns) x (drop at bs)
+    ≡ s .line ++ cond (s .on) (steps 0 lentMachine (capped columns) (s .state) []) []
 unfolding steps stepAt
 cut-due columns x bs at h l =
     let byte : ℕ = getD bs at 0 in
     let one : at + 1 ≡ suc at = omega arith in
     let size = length-drop (suc at) bs in
     let all : take (length bs - suc at) (drop (suc at) bs) ≡ drop (suc at) bs = take-all (length bs - suc at) (drop (suc at) bs) (omega arith) in
-    rw (drop-cons bs at 0 h, one, all) (cut-step storeMachine (capped columns) x byte (chosen byte) (drop (suc at) bs) (omega arith))
+    rw (drop-cons bs at 0 h, one, all) (cut-step lentMachine (capped columns) x byte (chosen byte) (drop (suc at) bs) (omega arith))
 
 -- what is due is the line of a step and what is due behind it
-joined : (s : Step Store) (f g : Flow) (x y : Store) (columns : ℕ) (bs left before after : List ℕ)
-    → due f x bs ≡ s .line ++ cond (s .on) (steps (length left) storeMachine (capped columns) (s .state) left) []
+joined : (s : Step Lent) (f g : Flow) (x y : Lent) (columns : ℕ) (bs left before after : List ℕ)
+    → due f x bs ≡ s .line ++ cond (s .on) (steps (length left) lentMachine (capped columns) (s .state) left) []
     → (g .on ≡ s .on) × (y ≡ s .state) × (after ≡ before ++ s .line) → g .started ≡ true → g .columns ≡ columns
     → before ++ due f x bs ≡ after ++ due g y left
 joined s f g x y columns bs left before after d e started same =
@@ -144,17 +144,17 @@ only-last true rest h n = h refl
 only-last false rest h n = absurd (n refl)
 
 -- a step of the program
-pub step-moved : (last : Bool) (f g : Flow) (x y : Store) (bs before after : List ℕ) (at end : ℕ) → f .on ≡ true → f .started ≡ true
+pub step-moved : (last : Bool) (f g : Flow) (x y : Lent) (bs before after : List ℕ) (at end : ℕ) → f .on ≡ true → f .started ≡ true
     → CommandIn last (f .columns) bs at end
     → (let s = stepAt (f .columns) x bs at end in
     (g .on ≡ s .on) × (y ≡ s .state) × (after ≡ before ++ s .line))
     → g .started ≡ true → g .columns ≡ f .columns → Moved last f x (drop at bs) before g y (drop end bs) after
 step-moved last f g x y bs before after at end on started c e started′ same = record { same = go }
   where
-    s : Step Store
+    s : Step Lent
     s = stepAt (f .columns) x bs at end
 
-    due-f : (l : List ℕ) → due f x l ≡ steps (length l) storeMachine (capped (f .columns)) x l
+    due-f : (l : List ℕ) → due f x l ≡ steps (length l) lentMachine (capped (f .columns)) x l
     due-f l = due-commands f x l started ∙ rw on
 
     go : (rest : List ℕ) → (last ≡ true → rest ≡ []) → before ++ due f x (drop at bs ++ rest) ≡ after ++ due g y (drop end bs ++ rest)
@@ -174,13 +174,13 @@ step-moved last f g x y bs before after at end on started c e started′ same = 
         (due-f (drop at bs) ∙ rw all (cut-due (f .columns) x bs at (c .some) (omega arith))) e started′ same))
 
 -- the shape's
-pub shape-moved : (last : Bool) (f g : Flow) (x y : Store) (bs after : List ℕ) (end : ℕ) → f .on ≡ true → f .started ≡ false → ShapeIn last bs end
+pub shape-moved : (last : Bool) (f g : Flow) (x y : Lent) (bs after : List ℕ) (end : ℕ) → f .on ≡ true → f .started ≡ false → ShapeIn last bs end
     → (g .on ≡ firstStep x (take end bs) .on) × (y ≡ firstStep x (take end bs) .state) × (after ≡ firstStep x (take end bs) .line)
     → g .started ≡ true → g .columns ≡ columnsFrom (take end bs) → Moved last f x bs [] g y (drop end bs) after
 unfolding gatebook linesFrom
 shape-moved last f g x y bs after end on started c e started′ same = record { same = go }
   where
-    s : Step Store
+    s : Step Lent
     s = firstStep x (take end bs)
 
     go : (rest : List ℕ) → (last ≡ true → rest ≡ []) → due f x (bs ++ rest) ≡ after ++ due g y (drop end bs ++ rest)
@@ -192,7 +192,7 @@ shape-moved last f g x y bs after end on started c e started′ same = record { 
         (due-shape f x (bs ++ rest) on started
         ∙ rw (whole, take-append-le shapeBytes bs rest l, drop-append-le shapeBytes bs rest l)
         (ap (λ (l : List ℕ). shapeLine (firstAnswer x (take shapeBytes bs)) ++ cond (goesOn (firstAnswer x (take shapeBytes bs))) l [])
-        (all-steps storeMachine (capped (columnsFrom (take shapeBytes bs))) (length (bs ++ rest)) (length (drop shapeBytes bs ++ rest)) (firstStore x (take shapeBytes bs)) (drop shapeBytes bs ++ rest)
+        (all-steps lentMachine (capped (columnsFrom (take shapeBytes bs))) (length (bs ++ rest)) (length (drop shapeBytes bs ++ rest)) (firstStore x (take shapeBytes bs)) (drop shapeBytes bs ++ rest)
         (omega (arith, length-append (drop shapeBytes bs) rest, length-append bs rest, length-drop shapeBytes bs)) (omega arith))))
         e started′ same)
         (λ n.
@@ -206,16 +206,16 @@ shape-moved last f g x y bs after end on started c e started′ same = record { 
         rw (nothing, none, append-nil bs)
         (joined s f g x y (columnsFrom (take end bs)) bs [] [] after
         (due-shape f x bs on started
-        ∙ rw (all, all′, none′, steps-none (length bs) storeMachine (capped (columnsFrom bs)) (firstStore x bs), steps-none 0 storeMachine (capped (columnsFrom bs)) (firstStore x bs)))
+        ∙ rw (all, all′, none′, steps-none (length bs) lentMachine (capped (columnsFrom bs)) (firstStore x bs), steps-none 0 lentMachine (capped (columnsFrom bs)) (firstStore x bs)))
         e started′ same))
 
 -- where no command is left, the program ends with the input
-pub stop-moved : (last : Bool) (f g : Flow) (x : Store) (bs before : List ℕ) (at : ℕ) → f .on ≡ true → f .started ≡ true → NoCommand last (f .columns) bs at
+pub stop-moved : (last : Bool) (f g : Flow) (x : Lent) (bs before : List ℕ) (at : ℕ) → f .on ≡ true → f .started ≡ true → NoCommand last (f .columns) bs at
     → g .on ≡ not last → g .started ≡ true → g .columns ≡ f .columns → Moved last f x (drop at bs) before g x (drop at bs) before
 stop-moved true f g x bs before at on started c off started′ same = record {
   same = λ rest h.
       let none : drop at bs ≡ [] = rw (c .none refl) (drop-length bs) in
-      rw (h refl, none, due-off g x [] off, due-commands f x [] started, on, steps-none 0 storeMachine (capped (f .columns)) x);
+      rw (h refl, none, due-off g x [] off, due-commands f x [] started, on, steps-none 0 lentMachine (capped (f .columns)) x);
 }
 stop-moved false f g x bs before at on started c off started′ same = record {
   same = λ rest h.

@@ -8,7 +8,7 @@ use native.Mathlib.Nat.{add-zero}
 use lib.ListN.{length, getD, take, drop, length-drop}
 use lib.Seq.{getD-drop}
 use Rattle.commands.specs.Commands.{shapeBytes}
-use Rattle.turns.specs.Store.{Store}
+use Rattle.promise.specs.Promise.{Lent}
 use Rattle.turns.specs.Turns.{firstStep, columnsFrom}
 use Rattle.rounds.specs.declared.Progress.{Progress}
 use Rattle.decimal.specs.Written.{lineBytes}
@@ -16,18 +16,18 @@ use Rattle.rounds.specs.Due.{roomFor, Flow, flow, Moved, wanted, stepAt,
 use Rattle.rounds.proofs.Due.{never, moved-none, moved-then, step-moved, shape-moved, stop-moved}
 
 -- From p to q commands are answered, and the lines have room for as many more as there are bytes.
-pub record Going (last : Bool) (p q : Progress) (x y : Store) (bs old new : List ℕ) : Type 0 where
+pub record Going (last : Bool) (p q : Progress) (x y : Lent) (bs old new : List ℕ) : Type 0 where
   pub moved : Moved last (flow p) x (drop (p .taken) bs) (take (p .written) old) (flow q) y (drop (q .taken) bs) (take (q .written) new)
   pub started : q .started ≡ true
   pub inside : q .taken ≤ length bs
   pub room : q .written + lineBytes * length bs ≤ length new + lineBytes * q .taken
 
-pub going-none : (last : Bool) (p : Progress) (x : Store) (bs old : List ℕ)
+pub going-none : (last : Bool) (p : Progress) (x : Lent) (bs old : List ℕ)
     → (p .started ≡ true) × (p .taken ≤ length bs) × (p .written + lineBytes * length bs ≤ length old + lineBytes * p .taken) → Going last p p x x bs old old
 going-none last p x bs old h = record { moved = moved-none last (flow p) x (drop (p .taken) bs) (take (p .written) old); started = h .0; inside = h .1; room = h .2 }
 
-module _ (last : Bool) (p q : Progress) (x y : Store) (bs old new : List ℕ) (g : Going last p q x y bs old new) where
-  pub going-next : (r : Progress) (z : Store) (new′ : List ℕ) (end : ℕ) → q .on ≡ true → Found last (q .columns) bs (q .taken) end → (end ≡ q .taken → ⊥)
+module _ (last : Bool) (p q : Progress) (x y : Lent) (bs old new : List ℕ) (g : Going last p q x y bs old new) where
+  pub going-next : (r : Progress) (z : Lent) (new′ : List ℕ) (end : ℕ) → q .on ≡ true → Found last (q .columns) bs (q .taken) end → (end ≡ q .taken → ⊥)
       → Answered (stepAt (q .columns) y bs (q .taken) end) z new new′ q r
       × (r .taken ≡ end) × (r .started ≡ true) × (r .columns ≡ q .columns) → length new′ ≡ length new → Going last p r x z bs old new′
   going-next r z new′ end on f n a same =
@@ -70,7 +70,7 @@ module _ (last : Bool) (p q : Progress) (x y : Store) (bs old new : List ℕ) (g
       }
 
 -- ---- the shape, and then the commands
-pub begun-same : (last : Bool) (p : Progress) (x : Store) (bs new : List ℕ) → (p .taken ≡ 0) × (p .written ≡ 0) × (roomFor (length bs) ≤ length new)
+pub begun-same : (last : Bool) (p : Progress) (x : Lent) (bs new : List ℕ) → (p .taken ≡ 0) × (p .written ≡ 0) × (roomFor (length bs) ≤ length new)
     → (p .started ≡ false → last ≡ true → p .on ≡ false) → (p .started ≡ false → p .on ≡ true → length bs < shapeBytes) → Begun last (flow p) p x x bs new
 begun-same last p x bs new h n f =
     record {
@@ -81,7 +81,7 @@ begun-same last p x bs new h n f =
       few = λ a b. rw (h .0) (f a b);
     }
 
-pub begun-shape : (last : Bool) (p q : Progress) (x y : Store) (bs old new : List ℕ) (end : ℕ) → p .written ≡ 0 → roomFor (length bs) ≤ length old
+pub begun-shape : (last : Bool) (p q : Progress) (x y : Lent) (bs old new : List ℕ) (end : ℕ) → p .written ≡ 0 → roomFor (length bs) ≤ length old
     → length new ≡ length old → p .on ≡ true → p .started ≡ false → ShapeIn last bs end
     → Answered (firstStep x (take end bs)) y old new p q × (q .taken ≡ end) × (q .started ≡ true) × (q .columns ≡ columnsFrom (take end bs)) → end ≤ length bs
     → Begun last (flow p) q x y bs new
@@ -96,12 +96,12 @@ begun-shape last p q x y bs old new end z h same on off s a l =
     }
 
 -- without room
-pub took-nothing : (last : Bool) (f : Flow) (q : Progress) (x : Store) (bs new : List ℕ) → length new < roomFor (length bs)
+pub took-nothing : (last : Bool) (f : Flow) (q : Progress) (x : Lent) (bs new : List ℕ) → length new < roomFor (length bs)
     → (flow q ≡ f) × (q .taken ≡ 0) × (q .written ≡ 0) → Took last f q x x bs new
 took-nothing last f q x bs new h e =
     record { round = λ r. absurd (omega arith); full = λ r. (e .0, refl, e .1, e .2); inside = omega (arith, e .1); fits = omega (arith, e .2) }
 
-module _ (last : Bool) (f : Flow) (q : Progress) (x y : Store) (bs old : List ℕ) (h : roomFor (length bs) ≤ length old) (b : Begun last f q x y bs old) where
+module _ (last : Bool) (f : Flow) (q : Progress) (x y : Lent) (bs old : List ℕ) (h : roomFor (length bs) ≤ length old) (b : Begun last f q x y bs old) where
   pub took-none : q .started ≡ false → Took last f q x y bs old
   unfolding wanted
   took-none e =
@@ -112,7 +112,7 @@ module _ (last : Bool) (f : Flow) (q : Progress) (x y : Store) (bs old : List �
         fits = omega (arith, b .inside, b .room);
       }
 
-  pub took : (r : Progress) (z : Store) (new : List ℕ) → length new ≡ length old → Walked last q r y z bs old new → Took last f r x z bs new
+  pub took : (r : Progress) (z : Lent) (new : List ℕ) → length new ≡ length old → Walked last q r y z bs old new → Took last f r x z bs new
   took r z new same w =
       record {
         round = λ t. record { moved = moved-then (b .moved) (w .moved); ends = w .ends; waits = w .waits; few = w .few };

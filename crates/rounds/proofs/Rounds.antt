@@ -2,14 +2,14 @@
 use Prim.Native.Nat.{ℕ}
 use mathlib.Core.Path.{_≡_, refl, ap, sym, _∙_}
 use mathlib.Core.List.{List, [], _++_, append-nil, append-assoc}
-use Rattle.turns.specs.Store.{Store}
+use Rattle.promise.specs.Promise.{Lent}
 use Rattle.turns.specs.Gatebook.{GatebookWrites}
 use Rattle.turns.proofs.Gatebook.{gatebook-writes}
 use Rattle.rounds.specs.Due.{Flow, due}
 use Rattle.rounds.specs.Rounds.{together, Rounds, RoundsWrite}
 use Rattle.rounds.proofs.Due.{never, due-off}
 
-rounds-due : {f : Flow} {x : Store} {held lines : List ℕ} {ps : List (List ℕ)} → Rounds f x held ps lines → lines ≡ due f x (held ++ together ps)
+rounds-due : {f : Flow} {x : Lent} {held lines : List ℕ} {ps : List (List ℕ)} → Rounds f x held ps lines → lines ≡ due f x (held ++ together ps)
 unfolding together
 rounds-due {f} {x} {held} {ps = ps} (Rounds.ended e) = sym (due-off f x (held ++ together ps) e)
 rounds-due (Rounds.finish {f} {f′} {x} {x′} {held} {left} {lines} r) =

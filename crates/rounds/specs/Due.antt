@@ -7,7 +7,7 @@ use lib.ListN.{length, getD, take, drop}
 use Rattle.decimal.specs.Written.{lineBytes}
 use Rattle.commands.specs.Commands.{commandBytes, chosen, shapeBytes}
 use Rattle.output.specs.Steps.{Step, step, steps}
-use Rattle.turns.specs.Store.{Store, storeMachine}
+use Rattle.promise.specs.Promise.{Lent, lentMachine}
 use Rattle.turns.specs.Turns.{capped, operandWidth}
 use Rattle.turns.specs.Gatebook.{gatebook}
 use Rattle.rounds.specs.declared.Progress.{Progress}
@@ -27,12 +27,12 @@ abbrev pub flow : Progress → Flow
 flow p = record { on = p .on; started = p .started; columns = p .columns }
 
 -- All that is still to be written for the input bs.
-unfoldable pub due : Flow → Store → List ℕ → List ℕ
-due f x bs = cond (f .on) (cond (f .started) (steps (length bs) storeMachine (capped (f .columns)) x bs) (gatebook x bs)) []
+unfoldable pub due : Flow → Lent → List ℕ → List ℕ
+due f x bs = cond (f .on) (cond (f .started) (steps (length bs) lentMachine (capped (f .columns)) x bs) (gatebook x bs)) []
 
 -- The program came from f and x, with the bytes bs at hand and `before` written, to f′ and x′, with the bytes bs′ left and `after` written: whatever comes
 -- behind the bytes, what is written and what is due are together the same. Behind the last bytes nothing comes.
-pub record Moved (last : Bool) (f : Flow) (x : Store) (bs before : List ℕ) (f′ : Flow) (x′ : Store) (bs′ after : List ℕ) : Type 0 where
+pub record Moved (last : Bool) (f : Flow) (x : Lent) (bs before : List ℕ) (f′ : Flow) (x′ : Lent) (bs′ after : List ℕ) : Type 0 where
   pub same : (rest : List ℕ) → (last ≡ true → rest ≡ []) → before ++ due f x (bs ++ rest) ≡ after ++ due f′ x′ (bs′ ++ rest)
 
 -- how many bytes the next line wants
@@ -41,7 +41,7 @@ wanted f bs = cond (f .started) (1 + operandWidth (capped (f .columns)) (chosen 
 
 -- A round over the bytes bs: bs′ are left and `lines` is written. All that can be answered is answered: with the last bytes the program ends, and else those that
 -- are left are fewer than the next line wants, and than the longest command has.
-pub record Round (last : Bool) (f : Flow) (x : Store) (bs : List ℕ) (f′ : Flow) (x′ : Store) (bs′ lines : List ℕ) : Type 0 where
+pub record Round (last : Bool) (f : Flow) (x : Lent) (bs : List ℕ) (f′ : Flow) (x′ : Lent) (bs′ lines : List ℕ) : Type 0 where
   pub moved : Moved last f x bs [] f′ x′ bs′ lines
   pub ends : last ≡ true → f′ .on ≡ false
   pub waits : f′ .on ≡ true → length bs′ < wanted f′ bs′
@@ -59,8 +59,8 @@ abbrev pub endAt : ℕ → List ℕ → ℕ → ℕ
 endAt columns bs at = at + (1 + operandWidth (capped columns) (chosen (getD bs at 0)))
 
 -- the step of the bytes from `at` to `end`: a command byte and its operands
-unfoldable pub stepAt : ℕ → Store → List ℕ → ℕ → ℕ → Step Store
-stepAt columns x bs at end = step storeMachine (capped columns) x (getD bs at 0) (take (end - (at + 1)) (drop (at + 1) bs))
+unfoldable pub stepAt : ℕ → Lent → List ℕ → ℕ → ℕ → Step Lent
+stepAt columns x bs at end = step lentMachine (capped columns) x (getD bs at 0) (take (end - (at + 1)) (drop (at + 1) bs))
 
 -- A command stands from `at` to `end`: it is whole, or it is the last and cut.
 pub record CommandIn (last : Bool) (columns : ℕ) (bs : List ℕ) (at end : ℕ) : Type 0 where
@@ -82,14 +82,14 @@ pub record Found (last : Bool) (columns : ℕ) (bs : List ℕ) (at r : ℕ) : Ty
   pub inside : r ≤ length bs
 
 -- The line of a step stands behind the lines, and the store is as the step leaves it.
-pub record Answered (s : Step Store) (x : Store) (old new : List ℕ) (p q : Progress) : Type 0 where
+pub record Answered (s : Step Lent) (x : Lent) (old new : List ℕ) (p q : Progress) : Type 0 where
   pub kept : take (q .written) new ≡ take (p .written) old ++ s .line
   pub grown : q .written ≤ p .written + lineBytes
   pub goes : q .on ≡ s .on
   pub left : x ≡ s .state
 
 -- The commands from one place on are answered: `Round` from p to q, in the buffers.
-pub record Walked (last : Bool) (p q : Progress) (x y : Store) (bs old new : List ℕ) : Type 0 where
+pub record Walked (last : Bool) (p q : Progress) (x y : Lent) (bs old new : List ℕ) : Type 0 where
   pub moved : Moved last (flow p) x (drop (p .taken) bs) (take (p .written) old) (flow q) y (drop (q .taken) bs) (take (q .written) new)
   pub ends : last ≡ true → q .on ≡ false
   pub waits : q .on ≡ true → length (drop (q .taken) bs) < wanted (flow q) (drop (q .taken) bs)
@@ -98,7 +98,7 @@ pub record Walked (last : Bool) (p q : Progress) (x y : Store) (bs old new : Lis
   pub fits : q .written ≤ length new
 
 -- The shape is answered, or it was, or it is not yet whole.
-pub record Begun (last : Bool) (f : Flow) (q : Progress) (x y : Store) (bs new : List ℕ) : Type 0 where
+pub record Begun (last : Bool) (f : Flow) (q : Progress) (x y : Lent) (bs new : List ℕ) : Type 0 where
   pub moved : Moved last f x bs [] (flow q) y (drop (q .taken) bs) (take (q .written) new)
   pub inside : q .taken ≤ length bs
   pub room : q .written + lineBytes * length bs ≤ length new + lineBytes * q .taken
@@ -107,7 +107,7 @@ pub record Begun (last : Bool) (f : Flow) (q : Progress) (x y : Store) (bs new :
 
 -- What `answer` promises. Where the buffer has room for the lines of the bytes at hand, there is a round over them, and else nothing is taken or written and all is as it
 -- was. What the buffer holds behind the lines is left free.
-pub record Took (last : Bool) (f : Flow) (q : Progress) (x y : Store) (bs new : List ℕ) : Type 0 where
+pub record Took (last : Bool) (f : Flow) (q : Progress) (x y : Lent) (bs new : List ℕ) : Type 0 where
   pub round : roomFor (length bs) ≤ length new → Round last f x bs (flow q) y (drop (q .taken) bs) (take (q .written) new)
   pub full : length new < roomFor (length bs) → (flow q ≡ f) × (y ≡ x) × (q .taken ≡ 0) × (q .written ≡ 0)
   pub inside : q .taken ≤ length bs

@@ -20,27 +20,26 @@ use Rattle.commands.proofs.Bytes.{total-most}
 use Rattle.commands.specs.Decoded.{callIn, ZerosPast}
 use Rattle.output.specs.Output.{lent, goesOn}
 use Rattle.output.specs.Steps.{answerTo, stateAfter, Step}
-use Rattle.promise.specs.Promise.{Serves, Makes}
+use Rattle.promise.specs.Promise.{Serves, Makes, Lent}
 use Rattle.requests.specs.Asked.{asked}
 use Rattle.requests.proofs.Values.{served-call}
-use Rattle.turns.specs.Store.{Store}
 use Rattle.turns.specs.Turns.{makingAnswer, madeStore, firstAnswer, firstStore, columnsFrom, operandWidth, Does, Turned}
 
 -- ---- the shape
-pub not-lent : (x : Store) (S : Shape) → lent S ≡ false → (Answer.Refused Refusal.Shape ≡ makingAnswer x S) × (x ≡ madeStore x S)
+pub not-lent : (x : Lent) (S : Shape) → lent S ≡ false → (Answer.Refused Refusal.Shape ≡ makingAnswer x S) × (x ≡ madeStore x S)
 unfolding makingAnswer madeStore
 not-lent x S e = (rw e, rw e)
 
-pub lent-made : (x : Store) (S : Shape) (r : Answer) (m′ : List ℕ) (ps′ : List Place) → lent S ≡ true → Makes (x .memory) (x .list) S r m′ ps′
-    → (r ≡ makingAnswer x S) × (_≡_ {A = Store} record { memory = m′; list = ps′ } (madeStore x S))
+pub lent-made : (x : Lent) (S : Shape) (r : Answer) (m′ : List ℕ) (ps′ : List Place) → lent S ≡ true → Makes (x .memory) (x .list) S r m′ ps′
+    → (r ≡ makingAnswer x S) × (_≡_ {A = Lent} record { memory = m′; list = ps′ } (madeStore x S))
 unfolding makingAnswer madeStore Makes
 lent-made x S r m′ ps′ e h = (rw e (h .0), rw (e, h .1, h .2))
 
-pub shape-cut : (x : Store) (bs : List ℕ) → length bs < shapeBytes → (Answer.Refused Refusal.Cut ≡ firstAnswer x bs) × (x ≡ firstStore x bs)
+pub shape-cut : (x : Lent) (bs : List ℕ) → length bs < shapeBytes → (Answer.Refused Refusal.Cut ≡ firstAnswer x bs) × (x ≡ firstStore x bs)
 unfolding firstAnswer firstStore
 shape-cut x bs h = let e = lt-leb shapeBytes (length bs) h in (rw e, rw e)
 
-pub shape-whole : (x : Store) (bs : List ℕ) (S : Shape) (r : Answer) (x′ : Store) → shapeBytes ≤ length bs → S ≡ shapeFrom bs
+pub shape-whole : (x : Lent) (bs : List ℕ) (S : Shape) (r : Answer) (x′ : Lent) → shapeBytes ≤ length bs → S ≡ shapeFrom bs
     → (r ≡ makingAnswer x S) × (x′ ≡ madeStore x S) → (r ≡ firstAnswer x bs) × (x′ ≡ firstStore x bs)
 unfolding firstAnswer firstStore
 shape-whole x bs S r x′ h q p =
@@ -73,12 +72,12 @@ width-most columns f h =
     elim (f .values) as (λ b. total (widthsOf f) + valueBytes * cond b columns 0 ≤ operandsBytes) [ true ↦ omega (arith, h .1) | false ↦ omega arith ]
 
 -- ---- a command
-pub form-cut : (x : Store) (columns : ℕ) (f : Form) (os : List ℕ) → length os < width columns f
+pub form-cut : (x : Lent) (columns : ℕ) (f : Form) (os : List ℕ) → length os < width columns f
     → Does x columns (Chosen.Known f) os (Answer.Refused Refusal.Cut) x
 unfolding Does answerTo stateAfter
 form-cut x columns f os h = let e = lt-leb (width columns f) (length os) h in (rw e, rw e)
 
-pub form-called : (x : Store) (columns : ℕ) (f : Form) (os : List ℕ) (q : Request) (r : Answer) (m′ : List ℕ) (ps′ : List Place) → width columns f ≤ length os
+pub form-called : (x : Lent) (columns : ℕ) (f : Form) (os : List ℕ) (q : Request) (r : Answer) (m′ : List ℕ) (ps′ : List Place) → width columns f ≤ length os
     → (callIn q ≡ callFrom columns f os) × ZerosPast (q .count) (q .values) → Serves (x .memory) (x .list) (asked q) r m′ ps′
     → Does x columns (Chosen.Known f) os r (record { memory = m′; list = ps′ })
 unfolding Does answerTo stateAfter Serves
@@ -87,16 +86,16 @@ form-called x columns f os q r m′ ps′ h p w =
     let s = served-call (x .memory) (x .list) q r m′ ps′ (p .1) w in (rw (e, ← p .0) (s .0), rw (e, ← p .0, s .1, s .2))
 
 -- what is due for the form of a command byte is due for the byte
-pub known-does : (x : Store) (columns n : ℕ) (k : Chosen) (f : Form) (os : List ℕ) (r : Answer) (x′ : Store) → k ≡ Chosen.Known f → n ≡ columns
+pub known-does : (x : Lent) (columns n : ℕ) (k : Chosen) (f : Form) (os : List ℕ) (r : Answer) (x′ : Lent) → k ≡ Chosen.Known f → n ≡ columns
     → Does x n (Chosen.Known f) os r x′ → Does x columns k os r x′
 known-does x columns n k f os r x′ e q d = rw (e, ← q) d
 
-pub refused-does : (x : Store) (columns : ℕ) (k : Chosen) (os : List ℕ) (r : Refusal) → k ≡ Chosen.Refused r → Does x columns k os (Answer.Refused r) x
+pub refused-does : (x : Lent) (columns : ℕ) (k : Chosen) (os : List ℕ) (r : Refusal) → k ≡ Chosen.Refused r → Does x columns k os (Answer.Refused r) x
 unfolding Does answerTo stateAfter
 refused-does x columns k os r e = (rw e, rw e)
 
 -- ---- a turn
-pub turned : (s : Step Store) (f : Answer → List ℕ) (old new : List ℕ) (n : ℕ) (b : Bool) (a a′ : Answer) (x : Store)
+pub turned : (s : Step Lent) (f : Answer → List ℕ) (old new : List ℕ) (n : ℕ) (b : Bool) (a a′ : Answer) (x : Lent)
     → s .line ≡ f a → s .on ≡ goesOn a → a′ ≡ a → Rendered old new (f a′) n → b ≡ goesOn a′ → x ≡ s .state
     → Turned s old new record { length = n; on = b } x
 turned s f old new n b a a′ x l o e h g q =

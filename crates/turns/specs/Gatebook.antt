@@ -10,13 +10,13 @@ use Rattle.commands.specs.Commands.{shapeBytes}
 use Rattle.output.specs.Output.{lentColumns, lentRanges, lentRecords, lentSpares, output}
 use Rattle.output.specs.Steps.{linesFrom}
 use Rattle.requests.specs.Packed.{placeBytes}
-use Rattle.turns.specs.Store.{Store, storeMachine}
+use Rattle.promise.specs.Promise.{Lent, lentMachine}
 use Rattle.turns.specs.Turns.{firstAnswer, firstStore, columnsFrom, capped}
 
 -- All that is written for the input bs by the turns that the code makes, in the memory and scan list x: the shape's, and then a command's after another.
-unfoldable pub gatebook : Store → List ℕ → List ℕ
+unfoldable pub gatebook : Lent → List ℕ → List ℕ
 gatebook x bs =
-    linesFrom (firstAnswer x (take shapeBytes bs)) storeMachine (capped (columnsFrom (take shapeBytes bs))) (firstStore x (take shapeBytes bs)) bs
+    linesFrom (firstAnswer x (take shapeBytes bs)) lentMachine (capped (columnsFrom (take shapeBytes bs))) (firstStore x (take shapeBytes bs)) bs
 
 -- the largest shape that memory is lent for
 abbrev pub largest : Shape
@@ -33,4 +33,4 @@ listBytes = placeBytes * mostScans
 -- answers to the commands.
 unfoldable pub GatebookWrites : Type 0
 GatebookWrites =
-    (x : Store) (bs : List ℕ) → Bytes bs → bytesNeeded largest ≤ length (x .memory) → mostScans ≤ length (x .list) → gatebook x bs ≡ output bs
+    (x : Lent) (bs : List ℕ) → Bytes bs → bytesNeeded largest ≤ length (x .memory) → mostScans ≤ length (x .list) → gatebook x bs ≡ output bs

@@ -1,4 +1,3 @@
--- A store as what answers calls, what a turn of `gatebook` does, and what its turns write for any input.
-pub mod Store
+-- What a turn of `gatebook` does, and what its turns write for any input.
 pub mod Turns
 pub mod Gatebook

@@ -20,31 +20,31 @@ use Rattle.output.specs.Output.{lent, goesOn}
 use Rattle.output.specs.Steps.{Step, answerTo, stateAfter}
 use Rattle.terms.specs.Refusals.{isAccepted}
 use Rattle.scans.specs.Places.{freedIf}
-use Rattle.turns.specs.Store.{Store, storeMachine}
+use Rattle.promise.specs.Promise.{Lent, lentMachine}
 use Rattle.turns.specs.declared.Outcome.{Outcome}
 
 -- the lent memory and scan list, with the list as bytes
-abbrev pub storeIn : List ℕ → List ℕ → Store
+abbrev pub storeIn : List ℕ → List ℕ → Lent
 storeIn m l = record { memory = m; list = placesOf (words l) }
 
 -- ---- the shape's turn, over the bytes bs
 -- a store of shape S is made where memory is lent for it
-unfoldable pub makingAnswer : Store → Shape → Answer
+unfoldable pub makingAnswer : Lent → Shape → Answer
 makingAnswer x S = cond (lent S) (made S (length (x .list)) (x .memory) .0) (Answer.Refused Refusal.Shape)
 
-unfoldable pub madeStore : Store → Shape → Store
+unfoldable pub madeStore : Lent → Shape → Lent
 madeStore x S =
     cond (lent S)
     record { memory = made S (length (x .list)) (x .memory) .1; list = freedIf (isAccepted (made S (length (x .list)) (x .memory) .0)) (x .list) }
     x
 
-unfoldable pub firstAnswer : Store → List ℕ → Answer
+unfoldable pub firstAnswer : Lent → List ℕ → Answer
 firstAnswer x bs = cond (leb shapeBytes (length bs)) (makingAnswer x (shapeFrom bs)) (Answer.Refused Refusal.Cut)
 
-unfoldable pub firstStore : Store → List ℕ → Store
+unfoldable pub firstStore : Lent → List ℕ → Lent
 firstStore x bs = cond (leb shapeBytes (length bs)) (madeStore x (shapeFrom bs)) x
 
-abbrev pub firstStep : Store → List ℕ → Step Store
+abbrev pub firstStep : Lent → List ℕ → Step Lent
 firstStep x bs = record { line = shapeLine (firstAnswer x bs); on = goesOn (firstAnswer x bs); state = firstStore x bs }
 
 -- the number of columns by which the commands are read, 0 for a cut shape
@@ -63,12 +63,12 @@ operandWidth columns (Chosen.Refused r) = 0
 
 -- ---- what the code promises
 -- an answer, and the store after it
-unfoldable pub Does : Store → ℕ → Chosen → List ℕ → Answer → Store → Type 0
-Does x columns k os r x′ = (r ≡ answerTo storeMachine columns x k os) × (x′ ≡ stateAfter storeMachine columns x k os)
+unfoldable pub Does : Lent → ℕ → Chosen → List ℕ → Answer → Lent → Type 0
+Does x columns k os r x′ = (r ≡ answerTo lentMachine columns x k os) × (x′ ≡ stateAfter lentMachine columns x k os)
 
 -- The buffer of a line that was `old` starts with the line of a step, the turn tells the line's length and whether the program goes on, and the store is as
 -- the step leaves it.
-pub record Turned (s : Step Store) (old new : List ℕ) (t : Outcome) (x : Store) : Type 0 where
+pub record Turned (s : Step Lent) (old new : List ℕ) (t : Outcome) (x : Lent) : Type 0 where
   pub rendered : Rendered old new (s .line) (t .length)
   pub goes : t .on ≡ s .on
   pub left : x ≡ s .state

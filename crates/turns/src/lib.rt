@@ -24,7 +24,6 @@ ghost use mathlib.Core.Path.{_≡_};
 ghost use Prim.Native.Nat.{_≤_};
 ghost use lib.ListN.{length};
 ghost use Rattle.terms.specs.Measures.{mostColumns, mostScans};
-ghost use Rattle.terms.specs.Measures.{mostScans, mostColumns};
 ghost use Rattle.words.specs.Words.{words};
 ghost use Rattle.layout.specs.Sizes.{bytesNeeded};
 ghost use Rattle.requests.specs.Packed.{placesOf};
@@ -32,7 +31,7 @@ ghost use Rattle.commands.specs.Commands.{operandsBytes, Small, chosen};
 ghost use Rattle.commands.specs.Decoded.{measured};
 ghost use Rattle.output.specs.Steps.{step};
 ghost use Rattle.turns.specs.Gatebook.{largest};
-ghost use Rattle.turns.specs.Store.{storeMachine};
+ghost use Rattle.promise.specs.Promise.{lentMachine};
 ghost use Rattle.turns.specs.Turns.{storeIn, makingAnswer, madeStore, firstAnswer, firstStore, firstStep, columnsFrom, capped as cappedAt, operandWidth, Does, Turned};
 
 // Memory for the largest shape that memory is lent for, and a scan list with a place for each scan that can be open.
@@ -165,7 +164,7 @@ pub fn turn(
     operands: &[u8],
     out: &mut [u8; LINE_BYTES],
 ) -> Outcome
-    ensures { λ r. ⌜ Turned (step storeMachine (cappedAt columns) (storeIn (now (mem .entry)) (now (scans .entry))) byte (now (operands .entry))) (now (out .entry)) (now (out .exit)) r (storeIn (now (mem .exit)) (now (scans .exit))) ⌝ }
+    ensures { λ r. ⌜ Turned (step lentMachine (cappedAt columns) (storeIn (now (mem .entry)) (now (scans .entry))) byte (now (operands .entry))) (now (out .entry)) (now (out .exit)) r (storeIn (now (mem .exit)) (now (scans .exit))) ⌝ }
 {
     let answer = answer_to_command(mem, scans, columns, byte, operands);
     let length = render_line(out, byte, answer);

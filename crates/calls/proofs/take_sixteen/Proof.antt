@@ -10,6 +10,7 @@ use Rattle.calls.proofs.Values.{sixteen-length}
 use lib.IntN.{pos}
 use Rattle.loops.proofs.Taken.{take-next, take-whole}
 use Rattle.terms.specs.Measures.{mostColumns}
+use Rattle.calls.proofs.take_sixteen.Statement.{statement}
 use Rattle.calls.proofs.take_sixteen.Tie as tie
 
 abbrev Inv-loop : tie.InvT-loop

@@ -10,7 +10,7 @@ use lib.ListN.{length}
 use borrow.Author.Needs.{needs}
 use borrow.Author.Tests.{ltb-true, eqb-false}
 use Rattle.loops.proofs.Search.{and-true}
-use Rattle.turns.specs.Store.{Store}
+use Rattle.promise.specs.Promise.{Lent}
 use Rattle.turns.specs.Turns.{storeIn}
 use Rattle.commands.specs.Commands.{commandBytes}
 use Rattle.rounds.specs.Due.{Flow}
@@ -50,7 +50,7 @@ less a b true h k = let l = k refl in omega arith
 less a b false h k = omega arith
 
 -- a read, a round and a write: if the program still goes on, what is left is short and not the last, and something was read
-module _ {c r a d : Course} {x y : Store} {i j k lines : List ℕ} (v : Received c r i j) (w : Rounded r a x y j k lines) (s : Sent a d) (on : d .on ≡ true) where
+module _ {c r a d : Course} {x y : Lent} {i j k lines : List ℕ} (v : Received c r i j) (w : Rounded r a x y j k lines) (s : Sent a d) (on : d .on ≡ true) where
   went-on : a .on ≡ true
   went-on = sym (ap (λ (f : Flow). f .on) (s .flow)) ∙ on
 

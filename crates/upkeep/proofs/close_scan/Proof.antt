@@ -8,6 +8,7 @@ use Rattle.model.specs.Calls.{replyIn, actIn}
 use Rattle.entry.specs.Entered.{Entered}
 use Rattle.entry.proofs.Served.{entered, unfit-serves, failed-serves, read-serves}
 use Rattle.upkeep.proofs.Listing.{unlisted-serves, closed-list}
+use Rattle.upkeep.proofs.close_scan.Statement.{statement}
 use Rattle.upkeep.proofs.close_scan.Tie as tie
 
 -- memory and list passed the test

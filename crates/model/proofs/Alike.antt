@@ -5,8 +5,8 @@ use Rattle.terms.specs.Measures.{Shape}
 use Rattle.terms.specs.declared.Answer.{Answer}
 use Rattle.history.specs.History.{Call, History, answers}
 use Rattle.history.specs.Lists.{All}
 use Rattle.model.specs.Calls.{Typed}
-use Rattle.output.specs.Machine.{Machine, historyOf, answersFrom, Alike}
+use Rattle.model.specs.Machine.{Machine, historyOf, answersFrom, Alike}
 
 module _ {A B : Type 0} (m : Machine A) (n : Machine B) (x : A) (y : B) (c : Call) (a : Alike m n x y) (t : Typed c) where
   pub alike-now : m .answer x c ≡ n .answer y c

@@ -34,7 +34,6 @@ use denote.Triple.Walked.{says, Stays, stay-none-slice, walkOf, goes-none-slice,
 use denote.Exit.{yes}
 use Rattle.terms.specs.declared.Place.{Place}
 use Rattle.terms.proofs.Place as T
-use Rattle.lent.proofs.len_of.Statement.{statement}
 use Rattle.lent.proofs.len_of.Key.{name as #lent·len-of}
 use Rattle.lent.proofs.len_of as f
 use Rattle.lent.proofs.len_of.Statement as stated

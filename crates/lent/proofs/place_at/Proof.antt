@@ -41,7 +41,6 @@ use Rattle.terms.specs.declared.Place.{Place}
 use Rattle.terms.specs.Places.{freePlace}
 use Rattle.terms.proofs.Place as T
 use Rattle.terms.proofs.Place.Laws as T′
-use Rattle.lent.proofs.place_at.Statement.{statement}
 use Rattle.lent.proofs.place_at.Key.{name as #lent·place-at}
 use Rattle.lent.proofs.place_at as f
 use Rattle.lent.proofs.place_at.Statement as stated

@@ -43,7 +43,6 @@ use Rattle.terms.specs.declared.Place.{Place}
 use Rattle.terms.specs.Places.{freePlace}
 use Rattle.terms.proofs.Place as T
 use Rattle.terms.proofs.Place.Laws as T′
-use Rattle.lent.proofs.put_place.Statement.{statement}
 use Rattle.lent.proofs.put_place.Key.{name as #lent·put-place}
 use Rattle.lent.proofs.put_place as f
 use Rattle.lent.proofs.put_place.Statement as stated

@@ -1,8 +1,7 @@
 -- What the tests of the reading calls tell, and the scan that an entry of the table stands for.
-use Prim.Native.Nat.{ℕ, _<_}
-use mathlib.Core.Path.{_≡_, ap, sym, _∙_}
+use Prim.Native.Nat.{ℕ}
+use mathlib.Core.Path.{_≡_, ap, _∙_}
 use mathlib.Core.Bool.{false}
-use mathlib.Core.List.{List}
 use native.Mathlib.Omega.{arith}
 use lib.ListN.{length, getD}
 use Rattle.terms.specs.Measures.{mostScans}
@@ -13,7 +12,7 @@ use Rattle.layout.specs.Sizes.{Proper}
 use Rattle.layout.specs.View.{View}
 use Rattle.history.specs.History.{noColumn}
 use Rattle.scans.specs.declared.Scans.{Scans}
-use Rattle.scans.specs.Table.{tableOf, findIn}
+use Rattle.scans.specs.Table.{findIn}
 use Rattle.model.specs.Stored.{scanPlace}
 use Rattle.model.specs.Calls.{notGivenIn}
 use Rattle.model.specs.Asked.{shapeIn, Linked}

@@ -37,15 +37,21 @@ lend m ps = record { memory = m; list = ps }
 -- ---- what a call answers, and what it leaves of the memory and of the list
 unfoldable pub answerOf : Lent → Call → Answer
 answerOf x c =
-    cond (usable (x .memory) (x .list)) (say (storedShape (words (x .memory))) (storeView (x .memory)) (x .list) c) (Answer.Refused Refusal.Memory)
+    let m = x .memory in
+    let ps = x .list in
+    cond (usable m ps) (say (storedShape (words m)) (storeView m) ps c) (Answer.Refused Refusal.Memory)
 
 unfoldable pub memoryAfter : Lent → Call → List ℕ
 memoryAfter x c =
-    cond (usable (x .memory) (x .list)) (lay (storedSizes (words (x .memory))) (viewNext (storedShape (words (x .memory))) (storeView (x .memory)) (x .list) c) (x .memory))
-    (x .memory)
+    let m = x .memory in
+    let ps = x .list in
+    cond (usable m ps) (lay (storedSizes (words m)) (viewNext (storedShape (words m)) (storeView m) ps c) m) m
 
 unfoldable pub listAfter : Lent → Call → List Place
-listAfter x c = cond (usable (x .memory) (x .list)) (placesNext (storedShape (words (x .memory))) (storeView (x .memory)) (x .list) c) (x .list)
+listAfter x c =
+    let m = x .memory in
+    let ps = x .list in
+    cond (usable m ps) (placesNext (storedShape (words m)) (storeView m) ps c) ps
 
 abbrev pub leftBy : Lent → Call → Lent
 leftBy x c = record { memory = memoryAfter x c; list = listAfter x c }

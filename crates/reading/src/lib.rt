@@ -19,7 +19,6 @@ use rows::visible;
 use terms::Answer;
 use terms::Row;
 use terms::Tail;
-use terms::limits::RANGE_ROWS;
 use words::of_word;
 ghost use mathlib.Core.Path.{_≡_};
 ghost use Prim.Native.Nat.{_*_, _≤_, _<_};

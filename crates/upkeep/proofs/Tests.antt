@@ -2,37 +2,24 @@
 use Prim.Native.Nat.{ℕ, _-_, _≤_, _<_}
 use mathlib.Core.Path.{_≡_, refl}
 use mathlib.Core.Bool.{Bool, true, false, cond, _||_}
-use mathlib.Core.List.{List, []}
+use mathlib.Core.List.{List}
 use native.Mathlib.Omega.{arith}
 use native.Mathlib.Nat.{min-le-left}
 use lib.Dec.{leb, ltb}
-use lib.ListN.{getD}
-use borrow.Author.Tests.{leb-false, ltb-true, ltb-false, le-leb, lt-leb, lt-ltb, le-ltb}
+use borrow.Author.Tests.{ltb-true, ltb-false, le-leb, lt-leb, lt-ltb, le-ltb}
 use Rattle.terms.specs.Measures.{mostScans}
 use Rattle.terms.specs.declared.Place.{Place}
-use Rattle.words.specs.Words.{words}
 use Rattle.loops.specs.declared.Found.{Found}
 use Rattle.layout.specs.declared.Sizes.{Sizes}
-use Rattle.layout.specs.declared.Region.{Region}
-use Rattle.layout.specs.View.{View, view, usedIn}
+use Rattle.layout.specs.View.{View, usedIn}
 use Rattle.scans.specs.declared.Scans.{Scans}
 use Rattle.scans.specs.Places.{openCount}
 use Rattle.scans.specs.Table.{tableOf}
-use Rattle.history.specs.History.{Call, accept, verdict, noColumn, noRange}
-use Rattle.history.proofs.Accepted.{passed}
-use Rattle.facts.specs.Facts.{pagesPlaced, pagePlaced}
-use Rattle.facts.specs.Tests.{MemoryFacts}
-use Rattle.facts.proofs.Each.{each-tells}
-use Rattle.facts.proofs.Usable.{placed-tells}
-use Rattle.model.specs.Stored.{pageIn, currentIn, placesOf, pagesOf}
+use Rattle.model.specs.Stored.{pagesOf}
 use Rattle.model.specs.Writing.{freeIn}
-use Rattle.model.specs.Calls.{testsIn, outOfReachIn}
 use Rattle.layout.specs.Sizes.{Proper}
-use Rattle.model.specs.Asked.{shapeIn, Linked, Placed}
+use Rattle.model.specs.Asked.{shapeIn}
 use Rattle.loops.specs.Search.{foundAt}
-use Rattle.merging.specs.Steps.{Mergeable}
-use Rattle.entry.proofs.Fitted.{column-tells, range-tells}
-use Rattle.history.proofs.Lists.{is-false}
 
 -- ---- the first free page
 found-here : (n i j : ℕ) → foundAt n i ≡ Found.At j → (i < n) × (j ≡ i)

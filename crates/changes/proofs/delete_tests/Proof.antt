@@ -2,7 +2,6 @@
 use borrow.Author.Needs.{needs}
 use Rattle.words.specs.Words.{words}
 use Rattle.layout.specs.View.{view}
-use Rattle.terms.specs.Measures.{mostTransactions}
 use Rattle.history.specs.History.{verdict}
 use Rattle.model.specs.Calls.{testsIn}
 use Rattle.entry.specs.Tested.{Tests}

@@ -1,7 +1,6 @@
 -- `changes::update_tests` meets its contract: each answer follows from the tests that led to it.
 use native.Mathlib.Omega.{arith}
 use borrow.Author.Needs.{needs}
-use Rattle.terms.specs.Measures.{mostTransactions}
 use Rattle.words.specs.Words.{words}
 use Rattle.layout.specs.View.{view}
 use Rattle.history.specs.History.{verdict, badMask}

@@ -4,8 +4,6 @@ use mathlib.Core.Path.{_≡_, sym, _∙_}
 use lib.ListN.{length}
 use Rattle.terms.specs.Measures.{mostScans}
 use Rattle.history.specs.History.{verdict}
-use Rattle.loops.specs.declared.Found.{Found}
-use Rattle.scans.specs.Table.{findIn}
 use Rattle.model.specs.Calls.{testsIn}
 use Rattle.entry.specs.Tested.{TestsBy}
 use Rattle.entry.proofs.Scans.{scan-lacks, scan-open, in-table}

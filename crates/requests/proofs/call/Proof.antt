@@ -1,11 +1,10 @@
 -- `requests::call` meets its contract: each arm's call is one of those that its kind stands for.
 use Prim.Native.Nat.{ℕ}
-use native.Mathlib.Omega.{arith}
 use mathlib.Core.Path.{_≡_}
 use mathlib.Core.List.{List}
 use borrow.Author.Needs.{needs}
 use Rattle.terms.specs.declared.Place.{Place}
-use Rattle.words.specs.Words.{words, Bytes}
+use Rattle.words.specs.Words.{words}
 use Rattle.scans.specs.declared.Scans.{Scans}
 use Rattle.scans.specs.Table.{tableOf}
 use Rattle.commands.specs.declared.Request.{Request}

@@ -2,7 +2,6 @@
 use Prim.Native.Nat.{ℕ, _-_, _≤_, _<_}
 use mathlib.Core.Path.{_≡_, _∙_}
 use native.Mathlib.Omega.{arith}
-use Rattle.terms.specs.Measures.{mostRows}
 use Rattle.words.specs.Words.{words}
 use Rattle.layout.specs.View.{view, rowsGiven}
 use Rattle.model.specs.Asked.{shapeIn}

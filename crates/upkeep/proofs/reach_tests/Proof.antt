@@ -1,8 +1,7 @@
 -- `upkeep::reach_tests` meets its contract: each answer follows from the tests that led to it.
 use native.Mathlib.Omega.{arith}
 use borrow.Author.Needs.{needs}
-use mathlib.Core.Bool.{false}
-use mathlib.Core.Path.{_≡_, refl, sym, _∙_}
+use mathlib.Core.Path.{refl, sym, _∙_}
 use Rattle.history.specs.History.{verdict}
 use Rattle.upkeep.proofs.Tests.{no-page, page-free, too-low, too-high, in-reach}
 use Rattle.upkeep.proofs.reach_tests.Statement.{statement}

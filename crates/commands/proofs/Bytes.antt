@@ -69,13 +69,17 @@ operands-next ws bs out i at n e p q h l =
 
 pub total-most : (ws : List ℕ) → Narrow ws → total ws ≤ length ws * operandBytes
 total-most [] h = omega arith
-total-most (w ∷ ws) h = omega (arith, h 0, total-most ws (λ i. h (suc i)))
+total-most (w ∷ ws) h = omega (arith, total-most ws (h .1))
 
-pub total-part : (ws : List ℕ) (i : ℕ) → total (take i ws) + getD ws i 0 ≤ total ws
-total-part [] zero = omega arith
-total-part [] (suc i) = omega arith
-total-part (w ∷ ws) zero = omega arith
-total-part (w ∷ ws) (suc i) = omega (arith, total-part ws i)
+-- an operand lies within them all, and is narrow
+abbrev pub OperandIn : List ℕ → ℕ → Type 0
+OperandIn ws i = (total (take i ws) + getD ws i 0 ≤ total ws) × (getD ws i 0 ≤ operandBytes)
+
+pub operand-in : (ws : List ℕ) (i : ℕ) → Narrow ws → OperandIn ws i
+operand-in [] zero h = (omega arith, omega arith)
+operand-in [] (suc i) h = (omega arith, omega arith)
+operand-in (w ∷ ws) zero h = (omega arith, h .0)
+operand-in (w ∷ ws) (suc i) h = let p = operand-in ws i (h .1) in (omega arith, p .1)
 
 -- ---- values
 pub value-next : (bytes : List ℕ) (out : List ℤ) (i w : ℕ) (v : ℤ) → take i out ≡ values i bytes → w ≡ getD (words bytes) i 0 → v ≡ toZ w32 w

@@ -61,9 +61,8 @@ narrow [] = true
 narrow (w ∷ ws) = leb w operandBytes && narrow ws
 
 narrow-tells : (ws : List ℕ) → T (narrow ws) → Narrow ws
-narrow-tells [] t i = omega arith
-narrow-tells (w ∷ ws) t zero = leb→le w operandBytes (parts (leb w operandBytes) (narrow ws) t .0)
-narrow-tells (w ∷ ws) t (suc i) = narrow-tells ws (parts (leb w operandBytes) (narrow ws) t .1) i
+narrow-tells [] t = tt
+narrow-tells (w ∷ ws) t = let p = parts (leb w operandBytes) (narrow ws) t in (leb→le w operandBytes (p .0), narrow-tells ws (p .1))
 
 abbrev narrowForm : Chosen → Bool
 narrowForm (Chosen.Known f) = narrow (widthsOf f)

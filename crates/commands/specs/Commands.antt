@@ -107,7 +107,8 @@ chosen byte = getD commands byte (Chosen.Refused Refusal.Command)
 
 -- Each operand has at most so many bytes.
 abbrev pub Narrow : List ℕ → Type 0
-Narrow ws = (i : ℕ) → getD ws i 0 ≤ operandBytes
+Narrow [] = Unit {0}
+Narrow (w ∷ ws) = (w ≤ operandBytes) × Narrow ws
 
 -- what the code that decodes asks of a form and the columns
 abbrev pub Small : ℕ → Form → Type 0

@@ -130,24 +130,12 @@ fn value_count(values: bool, columns: usize) -> usize
     if values { columns } else { 0 }
 }
 
-fn widths(form: Form) -> [usize; MOST_OPERANDS]
-    ensures { λ r. ⌜ r ≡ widthsOf form ⌝ }
+// The bytes of a command's operands before its values.
+fn total(form: Form) -> usize
+    requires { ⌜ Narrow (widthsOf form) ⌝ }
+    ensures { λ r. ⌜ (r ≡ totalOf (widthsOf form)) × (r ≤ mostOperands * operandBytes) ⌝ }
 {
-    [form.first, form.second, form.third, form.fourth, form.fifth]
-}
-
-// The bytes of a command's operands before the values.
-fn total(widths: [usize; MOST_OPERANDS]) -> usize
-    requires { ⌜ Narrow widths ⌝ }
-    ensures { λ r. ⌜ (r ≡ totalOf widths) × (r ≤ mostOperands * operandBytes) ⌝ }
-{
-    let mut total = 0;
-    let mut i = 0;
-    while i < MOST_OPERANDS {
-        total += widths[i];
-        i += 1;
-    }
-    total
+    form.first + form.second + form.third + form.fourth + form.fifth
 }
 
 // The bytes of a command behind its command byte.
@@ -156,7 +144,7 @@ pub fn width(form: Form, columns: usize) -> usize
     ensures { λ r. ⌜ r ≡ widthOf columns form ⌝ }
 {
     let count = value_count(form.values, columns);
-    total(widths(form)) + VALUE_BYTES * count
+    total(form) + VALUE_BYTES * count
 }
 
 // Apart from `number`, since a cast of a parameter has nothing to show.
@@ -181,10 +169,11 @@ fn number(bytes: &[u8], at: usize, n: usize) -> u32
 }
 
 // The operands in the bytes, one behind the other.
-fn operands(widths: [usize; MOST_OPERANDS], bytes: &[u8]) -> [u32; MOST_OPERANDS]
-    requires { ⌜ Narrow widths × (totalOf widths ≤ length (now bytes)) ⌝ }
-    ensures { λ r. ⌜ r ≡ operandsOf 0 widths (now (bytes .entry)) ⌝ }
+fn operands(form: Form, bytes: &[u8]) -> [u32; MOST_OPERANDS]
+    requires { ⌜ Narrow (widthsOf form) × (totalOf (widthsOf form) ≤ length (now bytes)) ⌝ }
+    ensures { λ r. ⌜ r ≡ operandsOf 0 (widthsOf form) (now (bytes .entry)) ⌝ }
 {
+    let widths = [form.first, form.second, form.third, form.fourth, form.fifth];
     let mut out = [0u32; MOST_OPERANDS];
     let mut at = 0;
     let mut i = 0;
@@ -225,10 +214,9 @@ pub fn decode(form: Form, columns: usize, bytes: &[u8]) -> Request
     ensures { λ r. ⌜ (callIn r ≡ callFrom columns form (now (bytes .entry))) × ZerosPast (r .count) (r .values) ⌝ }
 {
     let kind = form.kind;
-    let widths = widths(form);
     let count = value_count(form.values, columns);
-    let values_at = total(widths);
-    let operands = operands(widths, bytes);
+    let values_at = total(form);
+    let operands = operands(form, bytes);
     let values = values(&bytes[values_at..], count);
     Request {
         kind,

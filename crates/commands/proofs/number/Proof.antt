@@ -35,7 +35,7 @@ add-total c =
 loop-again : tie.Need-loop-again Inv-loop μ-loop
 loop-again c =
     let head = c .before .before .before in
-    let start = c .before .before .before .before .before in
+    let start = head .before .before in
     let i = head .loop .i in
     let t = turn (start .args .bytes .now) (start .args .at) (start .args .n) i (head .loop .total) (c .wide .result)
     (head .loop .inv .1) (c .wide .ensures .0) (head .loop .inv .2) (c .wide .ensures .1) (omega arith) (omega arith) (omega arith) in

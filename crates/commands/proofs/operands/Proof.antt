@@ -1,11 +1,12 @@
 -- `commands::operands` meets its contract. The invariant: the first i places hold the first i operands, and the next begins behind them.
-use Prim.Native.Nat.{_+_, _-_, _≤_}
+use Prim.Native.Nat.{_-_, _≤_}
 use mathlib.Core.Path.{_≡_, refl}
 use native.Mathlib.Omega.{arith}
-use lib.ListN.{take, length, getD, length-set}
+use lib.ListN.{take, length, length-set}
 use lib.Seq.{take-all}
-use Rattle.commands.specs.Commands.{mostOperands, operandBytes, total, operands}
-use Rattle.commands.proofs.Bytes.{total-next, total-part, operands-next}
+use Rattle.commands.specs.declared.Form.{Form}
+use Rattle.commands.specs.Commands.{mostOperands, widthsOf, total, operands}
+use Rattle.commands.proofs.Bytes.{total-next, OperandIn, operand-in, operands-next}
 use Rattle.commands.proofs.operands.Statement.{statement}
 use Rattle.commands.proofs.operands.Tie as tie
 
@@ -16,29 +17,27 @@ Inv-loop bytes widths out₀ at₀ i₀ out at i =
 abbrev μ-loop : tie.MeasureT-loop
 μ-loop bytes widths out₀ at₀ i₀ out at i = mostOperands - i
 
--- the next operand is narrow and lies in the bytes
-inside : (c : tie.At-loop Inv-loop μ-loop)
-    → (c .loop .at + getD (c .before .before .args .t1) (c .loop .i) 0 ≤ length (c .before .before .args .bytes .now)) × (getD (c .before .before .args .t1) (c .loop .i) 0 ≤ operandBytes)
-inside c =
-    let start = c .before .before in
-    let part = total-part (start .args .t1) (c .loop .i) in
-    (omega arith, start .pre .0 (c .loop .i))
+abbrev form : tie.At-loop Inv-loop μ-loop → Form
+form c = c .before .before .args .form
+
+-- the next operand is narrow, and within them all
+inside : (c : tie.At-loop Inv-loop μ-loop) → OperandIn (widthsOf (form c)) (c .loop .i)
+inside c = operand-in (widthsOf (form c)) (c .loop .i) (c .before .before .pre .0)
 
 loop-again : tie.Need-loop-again Inv-loop μ-loop
 loop-again c =
     let head = c .before .before in
-    let start = head .before .before in
-    let next = total-next (start .args .t1) (head .loop .i) in (
+    let next = total-next (widthsOf (form head)) (head .loop .i) in (
       omega arith,
       omega arith,
       simp length-set (head .loop .inv .2),
-      operands-next _ _ _ (head .loop .i) _ _ (head .loop .inv .3) (head .loop .inv .1) (c .number .ensures) (omega arith) (omega arith),
+      operands-next (widthsOf (form head)) _ _ (head .loop .i) _ _ (head .loop .inv .3) (head .loop .inv .1) (c .number .ensures) (omega arith) (omega arith),
     )
 
 returns : tie.Need-returns Inv-loop μ-loop
 returns c =
     let head = c .before in
-    let widths = take-all (head .loop .i) (head .before .before .args .t1) (omega arith) in
+    let widths = take-all (head .loop .i) (widthsOf (form head)) (omega arith) in
     let all = take-all (head .loop .i) (head .loop .out) (omega arith) in
     rw (widths, all) at (head .loop .inv .3)
 
@@ -52,7 +51,7 @@ operands-spec =
     (λ c. (omega arith, refl, refl, refl))
     (λ c. omega arith)
     (λ c. omega arith)
-    (λ c κs. inside (c .before))
+    (λ c κs. let next = inside (c .before) in omega arith)
     (λ c. omega arith)
     (λ c. omega arith)
     (λ c. omega (arith, inside (c .before .before)))

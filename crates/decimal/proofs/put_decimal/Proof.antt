@@ -9,7 +9,8 @@ use Rattle.decimal.proofs.put_decimal.Tie as tie
 
 returns : tie.Need-returns
 returns c =
-    let d = c .before .before .before .before .before .in-decimal in
+    let part = c .before .before in
+    let d = part .before .before .before .in-decimal in
     let w = rw (rest-of mostDigits (d .result .digits) (d .result .from) (d .ensures .2)) at (c .put .ensures) in
     (rw (d .ensures .0) at w, omega (arith, w .place, length-drop (d .result .from) (d .result .digits), d .ensures .2))
 

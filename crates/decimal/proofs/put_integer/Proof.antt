@@ -9,8 +9,9 @@ use Rattle.decimal.proofs.put_integer.Tie as tie
 
 returns : tie.Need-returns
 returns c =
-    let w = c .before .before .put .ensures in
-    (joined w (rw (toZ-ofZ w64 _ (c .before .before .before .before .before .fits .z)) at (c .put-signed .ensures .0)), omega (arith, w .place))
+    let space = c .before .before in
+    let start = space .before .before .before in
+    (joined (space .put .ensures) (rw (toZ-ofZ w64 _ (start .fits .z)) at (c .put-signed .ensures .0)), omega (arith, space .put .ensures .place))
 
 pub put-integer-spec : {M : Type 1} → statement M
 put-integer-spec =

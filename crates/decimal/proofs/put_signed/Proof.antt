@@ -8,15 +8,17 @@ use Rattle.decimal.proofs.put_signed.Tie as tie
 
 returns : tie.Need-returns
 returns c =
-    let z = c .before .before .before .before in
-    (rw (c .before .before .before .magnitude .ensures, signed-itself (z .args .z) (z .fits .z) (c .before .before .if1 .taken)) at (c .put-decimal .ensures .0), omega arith)
+    let test = c .before .before in
+    let m = test .before in
+    (rw (m .magnitude .ensures, signed-itself (m .before .args .z) (m .before .fits .z) (test .if1 .taken)) at (c .put-decimal .ensures .0), omega arith)
 
 returns-2 : tie.Need-returns-2
 returns-2 c =
-    let z = c .before .before .before .before .before .before .before in (
-      rw (c .before .before .before .before .before .before .magnitude .ensures, signed-below (z .args .z) (z .fits .z) (c .before .before .before .before .before .if1 .left))
-          at (joined (c .before .before .put .ensures) (c .put-decimal2 .ensures .0)),
-      omega (arith, c .before .before .put .ensures .place),
+    let sign = c .before .before in
+    let test = sign .before .before .before in
+    let m = test .before in (
+      rw (m .magnitude .ensures, signed-below (m .before .args .z) (m .before .fits .z) (test .if1 .left)) at (joined (sign .put .ensures) (c .put-decimal2 .ensures .0)),
+      omega (arith, sign .put .ensures .place),
     )
 
 pub put-signed-spec : {M : Type 1} → statement M

@@ -34,7 +34,10 @@ abbrev μ-loop : tie.MeasureT-loop
 μ-loop mem₀ scans₀ input₀ lines₀ c₀ mem scans input lines c = cond (c .on) (top - c .read) 0
 
 -- what another round says
-going : (c : Course) → goes c ≡ true → (c .read < mostBytes) × (c .sent < mostBytes) × (c .on ≡ true)
+abbrev Goes : Course → Type 0
+Goes c = (c .read < mostBytes) × (c .sent < mostBytes) × (c .on ≡ true)
+
+going : (c : Course) → goes c ≡ true → Goes c
 going c e =
     let a = and-true (not (c .failed) && ltb (c .read) mostBytes && ltb (c .sent) mostBytes) (c .on) e in
     let b = and-true (not (c .failed) && ltb (c .read) mostBytes) (ltb (c .sent) mostBytes) (a .0) in
@@ -65,6 +68,25 @@ module _ {c r a d : Course} {x y : Lent} {i j k lines : List ℕ} (v : Received 
       let other : r .held ≡ c .held → ⊥ = eqb-false (r .held) (c .held) (sym (v .last) ∙ not-ended) in
       omega (arith, v .more, v .read, w .read, s .read)
 
+-- the places of a turn of the loop: the round, the read, the test, the head, and the start
+abbrev rounded : tie.After-send-arg Inv-loop μ-loop → tie.After-round Inv-loop μ-loop
+rounded c = c .before .before .before .before .before .before .before .before .before
+
+abbrev received : tie.After-round-arg4 Inv-loop μ-loop → tie.After-receive Inv-loop μ-loop
+received c = c .before .before .before .before .before .before
+
+abbrev tested : tie.After-receive-arg Inv-loop μ-loop → tie.Then1 Inv-loop μ-loop
+tested c = c .before
+
+abbrev head : tie.Then1 Inv-loop μ-loop → tie.At-loop Inv-loop μ-loop
+head c = c .before .before
+
+abbrev start : tie.At-loop Inv-loop μ-loop → tie.Start Inv-loop μ-loop
+start c = c .before .before .before .before .before .before
+
+on : (c : tie.Then1 Inv-loop μ-loop) → Goes (head c .loop .c)
+on c = going (head c .loop .c) (sym (c .before .goes-on .ensures) ∙ c .if1 .taken)
+
 loop-holds : tie.Need-loop-holds Inv-loop μ-loop
 loop-holds c =
     let o = c .opening .ensures in
@@ -72,58 +94,53 @@ loop-holds c =
 
 receive-requires : tie.Need-receive-requires Inv-loop μ-loop
 receive-requires c κs =
-    let g = c .before .before in
-    let l = g .before in
-    let start = l .before .before .before .before .before .before in
-    let o = going (l .loop .c) (sym (g .goes-on .ensures) ∙ c .before .if1 .taken) in
+    let o = on (tested c) in
+    let l = head (tested c) in
+    let s = start l .pre in
     let few = l .loop .inv .5 (o .2) .0 in
-    (omega (arith, few, l .loop .inv .2, start .pre .0), o .0, omega (arith, l .loop .inv .2, start .pre .1, start .pre .2))
+    (omega (arith, few, l .loop .inv .2, s .0), o .0, omega (arith, l .loop .inv .2, s .1, s .2))
 
 round-requires : tie.Need-round-requires Inv-loop μ-loop
 round-requires c κs =
-    let r = c .before .before .before .before .before .before in
-    let l = r .before .before .before .before in
-    let start = l .before .before .before .before .before .before in
+    let r = received c in
+    let l = head (tested (r .before)) in
+    let s = start l .pre in
     let k = r .receive .kept in
-    (r .receive .ensures .written ∙ l .loop .inv .4, r .receive .ensures .inside, omega (arith, l .loop .inv .2, l .loop .inv .3, start .pre .1))
+    (r .receive .ensures .written ∙ l .loop .inv .4, r .receive .ensures .inside, omega (arith, l .loop .inv .2, l .loop .inv .3, s .1))
 
 send-requires : tie.Need-send-requires Inv-loop μ-loop
 send-requires c κs =
-    let a = c .before .before .before .before .before .before .before .before .before in
-    let r = a .before .before .before .before .before .before .before in
-    let g = r .before .before .before in
-    let l = g .before in
-    let start = l .before .before .before .before .before .before in
+    let a = rounded c in
+    let r = received (a .before) in
+    let t = tested (r .before) in
+    let l = head t in
+    let s = start l .pre in
     let k = a .round .kept in
-    let o = going (l .loop .c) (sym (g .goes-on .ensures) ∙ r .before .before .if1 .taken) in
-    (a .round .ensures .fits, omega (arith, o .1, r .receive .ensures .sent, a .round .ensures .sent), omega (arith, l .loop .inv .3, start .pre .2))
+    (a .round .ensures .fits, omega (arith, on t .1, r .receive .ensures .sent, a .round .ensures .sent), omega (arith, l .loop .inv .3, s .2))
 
 loop-less : tie.Need-loop-less Inv-loop μ-loop
 loop-less c =
-    let a = c .before .before .before .before .before .before .before .before .before .before in
-    let r = a .before .before .before .before .before .before .before in
-    let g = r .before .before .before in
-    let l = g .before in
-    let o = going (l .loop .c) (sym (g .goes-on .ensures) ∙ r .before .before .if1 .taken) in
-    rw (o .2) (less (l .loop .c .read) (c .send .result .read) (c .send .result .on) (o .0) (λ e. read-more (r .receive .ensures) (a .round .ensures) (c .send .ensures) e))
+    let a = rounded (c .before) in
+    let r = received (a .before) in
+    let t = tested (r .before) in
+    rw (on t .2) (less (head t .loop .c .read) (c .send .result .read) (c .send .result .on) (on t .0) (λ e. read-more (r .receive .ensures) (a .round .ensures) (c .send .ensures) e))
 
 loop-again : tie.Need-loop-again Inv-loop μ-loop
 loop-again c =
-    let a = c .before .before .before .before .before .before .before .before .before .before in
-    let r = a .before .before .before .before .before .before .before in
-    let g = r .before .before .before in
-    let l = g .before in
+    let a = rounded (c .before) in
+    let r = received (a .before) in
+    let t = tested (r .before) in
+    let l = head t .loop in
     let k = a .round .kept in
     let j = r .receive .kept in
-    let s = c .send .ensures in
-    let o = going (l .loop .c) (sym (g .goes-on .ensures) ∙ r .before .before .if1 .taken) in (
-      omega (arith, l .loop .inv .0),
-      omega (arith, l .loop .inv .1),
-      omega (arith, l .loop .inv .2),
-      omega (arith, l .loop .inv .3),
+    let s = c .send .ensures in (
+      omega (arith, l .inv .0),
+      omega (arith, l .inv .1),
+      omega (arith, l .inv .2),
+      omega (arith, l .inv .3),
       s .written,
       λ e. goes-with (r .receive .ensures) (a .round .ensures) s e,
-      ran-next _ _ _ (l .loop .c) (r .receive .result) (a .round .result) (c .send .result) _ _ _ _ (l .loop .inv .6) (l .loop .inv .5 (o .2) .1) (r .receive .ensures) (a .round .ensures) s,
+      ran-next _ _ _ (l .c) (r .receive .result) (a .round .result) (c .send .result) _ _ _ _ (l .inv .6) (l .inv .5 (on t .2) .1) (r .receive .ensures) (a .round .ensures) s,
     )
 
 returns : tie.Need-returns Inv-loop μ-loop
@@ -145,8 +162,8 @@ run-spec =
     send-requires
     loop-less
     loop-again
-    (λ c. c .before .before .loop .inv .0)
-    (λ c. c .before .before .loop .inv .1)
-    (λ c. c .before .before .loop .inv .2)
-    (λ c. c .before .before .loop .inv .3)
+    (λ c. omega arith)
+    (λ c. omega arith)
+    (λ c. omega arith)
+    (λ c. omega arith)
     returns)

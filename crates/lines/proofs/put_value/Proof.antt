@@ -12,10 +12,10 @@ use Rattle.lines.proofs.put_value.Tie as tie
 returns : tie.Need-returns
 unfolding outcome
 returns c =
-    let w = c .before .before .put .ensures in
-    let fits = c .before .before .before .before .before .fits .v in
+    let ok = c .before .before in
+    let fits = ok .before .before .before .fits .v in
     let value = rw (toZ-ofZ w32 _ fits, toZ-ofZ w64 _ (wide _ fits)) at (c .put-integer .ensures .0) in
-    (joined w value, omega (arith, w .place))
+    (joined (ok .put .ensures) value, omega (arith, ok .put .ensures .place))
 
 pub put-value-spec : {M : Type 1} → statement M
 put-value-spec =

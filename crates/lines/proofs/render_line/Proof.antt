@@ -10,9 +10,11 @@ use Rattle.lines.proofs.render_line.Tie as tie
 returns : tie.Need-returns
 unfolding line capitals
 returns c =
-    let start = rw (c .before .before .before .before .before .before .before .before .before .digit .ensures, c .before .before .before .before .before .before .before .before .digit2 .ensures) at (c .before .before .before .before .before .put .ensures) in
-    let o = c .before .before .before .put-outcome .ensures in
-    rendered (joined start (joined (o .0) (c .put2 .ensures)))
+    let said = c .before .before .before in
+    let byte = said .before .before in
+    let second = byte .before .before .before in
+    let start = rw (second .before .digit .ensures, second .digit2 .ensures) at (byte .put .ensures) in
+    rendered (joined start (joined (said .put-outcome .ensures .0) (c .put2 .ensures)))
     (omega (arith, start .place, c .put2 .ensures .place))
 
 pub render-line-spec : {M : Type 1} → statement M

@@ -10,9 +10,9 @@ use Rattle.lines.proofs.render_shape.Tie as tie
 returns : tie.Need-returns
 unfolding shapeLine
 returns c =
-    let start = c .before .before .before .before .before .put .ensures in
-    let o = c .before .before .before .put-outcome .ensures in
-    rendered (joined start (joined (o .0) (c .put2 .ensures)))
+    let said = c .before .before .before in
+    let start = said .before .before .put .ensures in
+    rendered (joined start (joined (said .put-outcome .ensures .0) (c .put2 .ensures)))
     (omega (arith, start .place, c .put2 .ensures .place))
 
 pub render-shape-spec : {M : Type 1} → statement M

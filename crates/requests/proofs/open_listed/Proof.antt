@@ -7,7 +7,8 @@ use Rattle.requests.proofs.open_listed.Tie as tie
 returns : tie.Need-returns
 returns c =
     let put = c .before .before in
-    let call = put .before .before .before .before .before in
+    let entry = put .before .before in
+    let call = entry .before .before .before in
     λ z. listed _ _ _ (call .open-scan .result) _ _ _ (call .open-scan .ensures) (put .place-put .ensures) z
 
 pub open-listed-spec : {M : Type 1} → statement M

@@ -15,66 +15,47 @@ Inv-loop mem₀ scans₀ bytes last lines₀ p₀ mem scans lines p =
 abbrev μ-loop : tie.MeasureT-loop
 μ-loop mem₀ scans₀ bytes last lines₀ p₀ mem scans lines p = length bytes - p .taken
 
-loop-holds : tie.Need-loop-holds Inv-loop μ-loop
-loop-holds c = (refl, refl, refl, going-none _ _ _ _ _ (c .before .before .before .before .pre))
+-- the places of the loop's head, of the command's end and of its turn
+abbrev head : tie.After-command-end Inv-loop μ-loop → tie.At-loop Inv-loop μ-loop
+head c = c .before .before
 
-command-end-requires : tie.Need-command-end-requires Inv-loop μ-loop
-command-end-requires c κs = c .before .loop .inv .3 .inside
+abbrev ended : tie.After-answer-command Inv-loop μ-loop → tie.Else1 Inv-loop μ-loop
+ended c = c .before .before .before .before
 
-same-length : tie.Need-same-length Inv-loop μ-loop
-same-length c = c .before .before .before .loop .inv .0
-
-same-length-2 : tie.Need-same-length-2 Inv-loop μ-loop
-same-length-2 c = c .before .before .before .loop .inv .1
-
-same-length-3 : tie.Need-same-length-3 Inv-loop μ-loop
-same-length-3 c = c .before .before .before .loop .inv .2
+abbrev answered : tie.After-slice-known6 Inv-loop μ-loop → tie.After-answer-command Inv-loop μ-loop
+answered c = c .before .before .before .before .before .before
 
 returns : tie.Need-returns Inv-loop μ-loop
 returns c =
     let e = c .before in
-    let l = e .before .before .loop in
+    let l = head e .loop in
     walked-stop _ _ (l .p) _ _ _ _ _ (l .inv .3) _ (e .before .loop-test .taken) (e .command-end .ensures .nothing (c .if1 .taken)) (refl, refl, refl, refl, refl)
 
 answer-command-requires : tie.Need-answer-command-requires Inv-loop μ-loop
 answer-command-requires c κs =
-    let e = c .before .before .before .before in
-    let l = e .before .before .loop in
-    going-fits _ _ (l .p) _ _ _ _ _ (l .inv .3) _ (e .command-end .ensures) (c .before .before .before .if1 .left)
+    let i = c .before .before .before in
+    let l = head (i .before) .loop in
+    going-fits _ _ (l .p) _ _ _ _ _ (l .inv .3) _ (i .before .command-end .ensures) (i .if1 .left)
 
 loop-less : tie.Need-loop-less Inv-loop μ-loop
 loop-less c =
-    let a = c .before .before .before .before .before .before in
-    let i = a .before .before .before .before in
-    let e = i .before in
-    let l = e .before .before .loop in
-    let f = going-fits _ _ (l .p) _ _ _ _ _ (l .inv .3) _ (e .command-end .ensures) (i .if1 .left) in
+    let a = answered c in
+    let e = ended a .before in
+    let l = head e .loop in
+    let f = going-fits _ _ (l .p) _ _ _ _ _ (l .inv .3) _ (e .command-end .ensures) (ended a .if1 .left) in
     omega (arith, f .0, f .1, a .answer-command .ensures .1)
 
 loop-again : tie.Need-loop-again Inv-loop μ-loop
 loop-again c =
-    let a = c .before .before .before .before .before .before in
-    let i = a .before .before .before .before in
-    let e = i .before in
-    let l = e .before .before .loop in
+    let a = answered c in
+    let e = ended a .before in
+    let l = head e .loop in
     let k = a .answer-command .kept in (
       omega (arith, l .inv .0),
       omega (arith, l .inv .1),
       omega (arith, l .inv .2),
-      going-next _ _ (l .p) _ _ _ _ _ (l .inv .3) (a .answer-command .result) _ _ _ (e .before .loop-test .taken) (e .command-end .ensures) (i .if1 .left) (a .answer-command .ensures) (omega arith),
+      going-next _ _ (l .p) _ _ _ _ _ (l .inv .3) (a .answer-command .result) _ _ _ (e .before .loop-test .taken) (e .command-end .ensures) (ended a .if1 .left) (a .answer-command .ensures) (omega arith),
     )
-
-same-length-4 : tie.Need-same-length-4 Inv-loop μ-loop
-same-length-4 c = c .before .loop .inv .0
-
-same-length-5 : tie.Need-same-length-5 Inv-loop μ-loop
-same-length-5 c = c .before .loop .inv .1
-
-same-length-6 : tie.Need-same-length-6 Inv-loop μ-loop
-same-length-6 c = c .before .loop .inv .2
-
-returns-2 : tie.Need-returns-2 Inv-loop μ-loop
-returns-2 c = walked-off _ _ (c .before .loop .p) _ _ _ _ _ (c .before .loop .inv .3) (c .loop-test .left)
 
 pub answer-commands-spec : {M : Type 1} → statement M
 answer-commands-spec =
@@ -82,16 +63,16 @@ answer-commands-spec =
     (tie.spec
     Inv-loop
     μ-loop
-    loop-holds
-    command-end-requires
-    same-length
-    same-length-2
-    same-length-3
+    (λ c. (refl, refl, refl, going-none _ _ _ _ _ (c .before .before .before .before .pre)))
+    (λ c κs. c .before .loop .inv .3 .inside)
+    (λ c. omega arith)
+    (λ c. omega arith)
+    (λ c. omega arith)
     returns
     answer-command-requires
     loop-less
     loop-again
-    same-length-4
-    same-length-5
-    same-length-6
-    returns-2)
+    (λ c. omega arith)
+    (λ c. omega arith)
+    (λ c. omega arith)
+    (λ c. walked-off _ _ (c .before .loop .p) _ _ _ _ _ (c .before .loop .inv .3) (c .loop-test .left)))

@@ -1,6 +1,4 @@
 -- `rounds::command_end` meets its contract.
-use mathlib.Core.Path.{_≡_}
-use mathlib.Core.Bool.{true, false}
 use native.Mathlib.Omega.{arith}
 use Rattle.rounds.proofs.Due.{never}
 use borrow.Author.Needs.{needs}
@@ -9,10 +7,9 @@ use Rattle.rounds.proofs.command_end.Tie as tie
 
 returns-3 : tie.Need-returns-3
 returns-3 c =
-    let t : c .before .before .before .before .before .before .args .last ≡ true = c .if3 .taken in
     let w = c .before .before .operand-width .ensures .0 in
     record {
-      command = λ h. record { some = omega arith; ends = omega (arith, w); whole = λ e. absurd (never t e) };
+      command = λ h. record { some = omega arith; ends = omega (arith, w); whole = λ e. absurd (never (c .if3 .taken) e) };
       nothing = λ h. absurd (omega arith);
       order = omega arith;
       inside = omega arith;
@@ -20,11 +17,10 @@ returns-3 c =
 
 returns-4 : tie.Need-returns-4
 returns-4 c =
-    let t : c .before .before .before .before .before .before .args .last ≡ false = c .if3 .left in
     let w = c .before .before .operand-width .ensures .0 in
     record {
       command = λ h. absurd (omega arith);
-      nothing = λ h. record { short = omega (arith, w); few = omega (arith, w); none = λ e. absurd (never e t) };
+      nothing = λ h. record { short = omega (arith, w); few = omega (arith, w); none = λ e. absurd (never e (c .if3 .left)) };
       order = omega arith;
       inside = omega arith;
     }

@@ -7,7 +7,10 @@ use Rattle.turns.proofs.Answers.{small, known-does, refused-does}
 use Rattle.turns.proofs.answer_to_command.Statement.{statement}
 use Rattle.turns.proofs.answer_to_command.Tie as tie
 
-known : (c : tie.After-chosen) → chosen (c .before .before .before .before .before .before .args .byte) ≡ Chosen.Known (c .chosen .given .0 .0)
+abbrev start : tie.After-chosen → tie.Start
+start c = c .before .before .before .before .before .before
+
+known : (c : tie.After-chosen) → chosen (start c .args .byte) ≡ Chosen.Known (c .chosen .given .0 .0)
 known c = sym (c .before .before .choose .ensures) ∙ c .chosen .given .1
 
 returns : tie.Need-returns

@@ -48,9 +48,6 @@ pub const MOST_OPERANDS: usize = 5;
 
 const VALUE_BYTES: usize = 4;
 
-// The most columns of a shape, and the bytes that a shape is read from.
-pub const MOST_COLUMNS: usize = 16;
-
 pub const SHAPE_BYTES: usize = 6;
 
 // A command's call and the widths of its operands in bytes, 0 for one that the call has not, and whether every column's value follows. The widths are no array, since

@@ -1,7 +1,6 @@
 // What `gatebook` does between reading and writing: the answer to the shape, and the answer to one command, as lines in a buffer that is lent.
 use commands::Chosen;
 use commands::Form;
-use commands::MOST_COLUMNS;
 use commands::Measures;
 use commands::SHAPE_BYTES;
 use commands::choose;

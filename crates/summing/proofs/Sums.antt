@@ -6,7 +6,7 @@ use native.Mathlib.Omega.{arith}
 use native.Mathlib.Numerals.{add-one}
 use lib.IntN.{ℤ, pos, natAbs, _+ℤ_}
 use mir.Syntax.{w32, w64}
-use mir.Val.{Fits, SFits, ofZ, toZ}
+use mir.Val.{SFits, ofZ, toZ}
 use mir.ValLaws.{toZ-ofZ}
 use Rattle.terms.specs.Measures.{Shape}
 use Rattle.terms.specs.declared.Answer.{Answer}
@@ -86,8 +86,8 @@ module _ (S : Shape) (v : View) (scan : Place) (c : ℕ) where
     row-unseen seen u f = rw add-one record { count-is = rw (← u, f) (h .count-is); total-is = rw (← u, f) (h .total-is) }
 
     module _ (few : r ≤ 1024) where
-      pub count-fits : Fits w32 (t .count + 1)
-      count-fits = record { fits = omega (arith, tallied-small few .0) }
+      pub count-few : t .count ≤ 1024
+      count-few = tallied-small few .0
 
       pub total-small : natAbs (toZ w64 (ofZ w64 (t .total))) ≤ 2 ^ 62
       total-small = rw (tallied-kept few) (omega (arith, tallied-small few .1))

@@ -6,13 +6,17 @@ use native.Mathlib.Omega.{arith}
 use native.Mathlib.Numerals.{add-one}
 use lib.IntN.{ℤ, pos, natAbs, _+ℤ_}
 use mir.Syntax.{w32, w64}
-use mir.Val.{ofZ, toZ}
+use mir.Val.{SFits, ofZ, toZ}
 use mir.ValLaws.{toZ-ofZ}
-use Rattle.terms.specs.Measures.{Shape, mostRows, rangeRows}
+use Rattle.terms.specs.Measures.{mostRows, Shape}
 use Rattle.terms.specs.declared.Answer.{Answer}
 use Rattle.layout.specs.View.{View, rowsGiven}
 use Rattle.history.specs.History.{rangeOf}
 use Rattle.terms.specs.declared.Place.{Place}
+use Rattle.layout.specs.declared.Sizes.{Sizes}
+use Rattle.layout.specs.Sizes.{Proper}
+use Rattle.model.specs.Asked.{Linked}
+use Rattle.rows.proofs.Indices.{range-in}
 use Rattle.model.specs.Reading as R
 use Rattle.model.specs.Reading.{reader, wordIn, visibleIn, scanPage, tally, sumIn}
 use Rattle.summing.specs.declared.Tally.{Tally}
@@ -20,9 +24,24 @@ use Rattle.summing.specs.Sums.{Tallied}
 use Rattle.summing.proofs.Signed.{sum-size, word-size, size-fits}
 
 -- rows of one range, from `from` up to `to`
-pub one-range : (from to r : ℕ) → from ≤ r → r < to → to ≤ (from / rangeRows + 1) * rangeRows → rangeOf r ≡ rangeOf from
+pub one-range : (from to r : ℕ) → from ≤ r → r < to → to ≤ (from / 64 + 1) * 64 → rangeOf r ≡ rangeOf from
 unfolding rangeOf
 one-range from to r a b c = omega arith
+
+-- a range's page, by the range's number as it was computed
+pub page-of : (S : Shape) (v : View) (m r c page g : ℕ) → page ≡ scanPage S v m g c → g ≡ rangeOf r → page ≡ scanPage S v m (rangeOf r) c
+page-of S v m r c page g e i = rw (← i) e
+
+-- the rows given, of which there are n, are at most all the rows that there are
+module _ (s : Sizes) (proper : Proper s) (v : View) (linked : Linked s v) (n : ℕ) (e : n ≡ rowsGiven v) where
+  pub given-few : n ≤ mostRows
+  given-few = omega (arith, proper .rows-are, proper .ranges-to, linked .rows-few)
+
+  pub row-few : (r : ℕ) → r < n → r ≤ mostRows
+  row-few r l = omega (arith, given-few)
+
+  pub given-range : (r g : ℕ) → r < n → g ≡ rangeOf r → g < s .ranges
+  given-range r g l i = rw i (range-in s proper r (omega (arith, linked .rows-few)))
 
 module _ (S : Shape) (v : View) (scan : Place) (c : ℕ) where
   abbrev value : ℕ → ℤ
@@ -58,21 +77,29 @@ module _ (S : Shape) (v : View) (scan : Place) (c : ℕ) where
     pub tallied-kept : r ≤ mostRows → toZ w64 (ofZ w64 (t .total)) ≡ t .total
     tallied-kept l = toZ-ofZ w64 (t .total) (size-fits (t .total) (omega (arith, tallied-small l .1)))
 
-    pub sum-is : r ≡ rowsGiven v → r ≤ mostRows → Answer.Sum (t .count) (toZ w64 (ofZ w64 (t .total))) ≡ sumIn S v scan c
+    pub sum-is : (n : ℕ) → n ≡ rowsGiven v → r ≤ n → n ≤ r → n ≤ mostRows → Answer.Sum (t .count) (toZ w64 (ofZ w64 (t .total))) ≡ sumIn S v scan c
     unfolding sumIn
-    sum-is e l = rw (tallied-kept l, h .count-is, h .total-is, e)
+    sum-is n e a b l = let all : r ≡ n = omega arith in rw (tallied-kept (omega arith), h .count-is, h .total-is, all, e)
 
     pub row-unseen : (seen : Bool) → seen ≡ visibleIn S v (reader (scan .stamp) 0) r → seen ≡ false → Tallied S v scan c (r + 1) t
     unfolding tally
     row-unseen seen u f = rw add-one record { count-is = rw (← u, f) (h .count-is); total-is = rw (← u, f) (h .total-is) }
 
-    pub row-seen : (t′ : Tally) (page w : ℕ) (seen : Bool) → seen ≡ visibleIn S v (reader (scan .stamp) 0) r → seen ≡ true → page ≡ scanPage S v (scan .merges) (rangeOf r) c
-        → w ≡ wordIn S v (reader (scan .stamp) 0) page r c → t′ .count ≡ t .count + 1 → t′ .total ≡ t .total +ℤ toZ w32 w
-        → Tallied S v scan c (r + 1) t′
-    unfolding tally
-    row-seen t′ page w seen u y p q a b =
-        rw add-one
-        record {
-          count-is = a ∙ add-one (t .count) ∙ rw (← u, y) (ap suc (h .count-is));
-          total-is = b ∙ rw (← u, y, ← p, ← q, h .total-is);
-        }
+    module _ (few : r ≤ mostRows) where
+      pub count-few : t .count ≤ mostRows
+      count-few = tallied-small few .0
+
+      pub total-small : natAbs (toZ w64 (ofZ w64 (t .total))) ≤ 2 ^ 62
+      total-small = rw (tallied-kept few) (omega (arith, tallied-small few .1))
+
+      pub row-seen : (page word : ℕ) (value total : ℤ) (seen : Bool) → seen ≡ visibleIn S v (reader (scan .stamp) 0) r → seen ≡ true
+          → page ≡ scanPage S v (scan .merges) (rangeOf r) c → word ≡ wordIn S v (reader (scan .stamp) 0) page r c
+          → SFits w32 value → value ≡ toZ w32 word → SFits w64 total → total ≡ toZ w64 (ofZ w64 (t .total)) +ℤ toZ w32 (ofZ w32 value)
+          → Tallied S v scan c (r + 1) record { count = t .count + 1; total = toZ w64 (ofZ w64 total) }
+      unfolding tally
+      row-seen page word value total seen u y p q f a g b =
+          rw (add-one r)
+          record {
+            count-is = add-one (t .count) ∙ rw (← u, y) (ap suc (h .count-is));
+            total-is = toZ-ofZ w64 total g ∙ b ∙ rw (tallied-kept few, toZ-ofZ w32 value f, a, ← u, y, ← p, ← q, h .total-is);
+          }

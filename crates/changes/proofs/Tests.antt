@@ -23,7 +23,6 @@ use Rattle.rows.specs.Finders.{Inside}
 use Rattle.model.specs.Calls.{notOpenIn, notGivenIn, lacksIn}
 use Rattle.layout.specs.Sizes.{Proper}
 use Rattle.model.specs.Asked.{shapeIn, Counted, Linked, FreeAt, OpenAt}
-use Rattle.transactions.specs.Steps.{foundAt}
 use Rattle.model.specs.Asked.{shapeIn, Counted, Linked, FreeAt}
 use Rattle.loops.specs.Search.{foundAt}
 use Rattle.writing.specs.Steps.{Room}

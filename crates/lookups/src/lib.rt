@@ -17,8 +17,6 @@ use model::Reader;
 use reading::pages::cell;
 use reading::pages::current_page;
 use reading::pages::scan_page;
-use reading::cell;
-use reading::current_page;
 use reading::read_current;
 use reading::read_row;
 use regions::read;

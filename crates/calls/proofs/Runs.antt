@@ -13,18 +13,18 @@ use Rattle.model.specs.Writing.{made as madeView}
 use Rattle.terms.specs.Measures.{Shape, withinLimits, mostScans}
 use Rattle.terms.specs.Refusals.{isRefused, isAccepted}
 use Rattle.terms.specs.declared.Answer.{Answer}
-use Rattle.terms.specs.declared.Place.{Place}
+use Rattle.terms.specs.declared.ScanEntry.{ScanEntry}
 use Rattle.terms.specs.declared.Refusal.{Refusal}
 use Rattle.words.specs.Words.{words}
 use Rattle.layout.specs.Sizes.{sizesOf, bytesNeeded}
 use Rattle.layout.specs.View.{View, lay}
-use Rattle.terms.specs.Places.{freePlace}
+use Rattle.terms.specs.Places.{freeEntry}
 use Rattle.facts.specs.Usable.{storedShape, usable}
 use Rattle.facts.proofs.Usable.{usable-tells}
 use Rattle.history.proofs.Lists.{is-true, refuted, clash}
 use Rattle.history.specs.History.{Call, Verdict, accept, refuse}
 use Rattle.history.specs.Claims.{isPlain, kind, strike, plainAnswers}
-use Rattle.model.specs.Calls.{placesAfter, placesIf, placesNext}
+use Rattle.model.specs.Calls.{entriesAfter, entriesIf, entriesNext}
 use Rattle.promise.specs.Promise.{storeView, answerOf, listAfter, answersOf, Serves, Makes, lend, left}
 use Rattle.promise.specs.Demands.{Accepted, storeAnswers, storeLeft, storeAnswerAt, ReadIn, Refuses, RefusedKeeps, ReadsCommitted, PagesCommitted, Demand3, StrikingStore, StabilityStore}
 use Rattle.promise.specs.Stated.{conditions}
@@ -36,7 +36,7 @@ use Rattle.scans.specs.Places.{freedIf}
 use Rattle.calls.specs.Runs.{Run, ends, goes, Face, ReadAmong, toldAt, RefusedSo, RefusedKept, UnmadeKept, ReadsSo, PagesSo, AnswersSo, StruckSame, ReadsStable, calls, LentRefused, LentKept, MakingKept, LentReads, LentPages, LentAnswers, LentStriking, LentStability, MakingFrees, OnePlace, ShortRefused}
 
 -- ---- what a run answers and leaves
-run-left : {m m′ : List ℕ} {ps ps′ : List Place} {cs : List Call} {rs : List Answer} → Run Serves m ps cs rs m′ ps′
+run-left : {m m′ : List ℕ} {ps ps′ : List ScanEntry} {cs : List Call} {rs : List Answer} → Run Serves m ps cs rs m′ ps′
     → (rs ≡ answersOf (lend m ps) cs) × (m′ ≡ left (lend m ps) cs .memory) × (ps′ ≡ left (lend m ps) cs .list)
 unfolding Serves answersOf left
 run-left ends = (refl, refl, refl)
@@ -47,7 +47,7 @@ unfolding MakingFrees Makes
 making-frees S m m′ ps ps′ h = h .2 ∙ ap (λ (x : Answer). freedIf (isAccepted x) ps) (sym (h .0))
 
 -- after an accepted making: what the demands are stated of
-store-left : (S : Shape) (m₀ : List ℕ) (ps₀ : List Place) {m m′ : List ℕ} {ps ps′ : List Place} {cs : List Call} {rs : List Answer}
+store-left : (S : Shape) (m₀ : List ℕ) (ps₀ : List ScanEntry) {m m′ : List ℕ} {ps ps′ : List ScanEntry} {cs : List Call} {rs : List Answer}
     → Makes m₀ ps₀ S Answer.Done m ps → Run Serves m ps cs rs m′ ps′
     → Accepted S m₀ ps₀ × (rs ≡ storeAnswers S m₀ ps₀ cs) × (m′ ≡ storeLeft S m₀ ps₀ cs .memory) × (ps′ ≡ storeLeft S m₀ ps₀ cs .list)
 unfolding Makes MakingFrees storeAnswers storeLeft
@@ -73,8 +73,8 @@ made-done m false b l e = clash (cc)
 
 -- ---- a form that tells the answer of a call, and of a making
 pub record Faithful (F : Face) : Type 0 where
-  pub served : {m m′ : List ℕ} {ps ps′ : List Place} {c : Call} {r : F .Told} → F .serves m ps c r m′ ps′ → (a : Answer) × Serves m ps c a m′ ps′ × (r ≡ F .tells a)
-  pub making : {m m′ : List ℕ} {ps ps′ : List Place} {S : Shape} {r : F .Told} → F .makes m ps S r m′ ps′ → (a : Answer) × Makes m ps S a m′ ps′ × (r ≡ F .tells a)
+  pub served : {m m′ : List ℕ} {ps ps′ : List ScanEntry} {c : Call} {r : F .Told} → F .serves m ps c r m′ ps′ → (a : Answer) × Serves m ps c a m′ ps′ × (r ≡ F .tells a)
+  pub making : {m m′ : List ℕ} {ps ps′ : List ScanEntry} {S : Shape} {r : F .Told} → F .makes m ps S r m′ ps′ → (a : Answer) × Makes m ps S a m′ ps′ × (r ≡ F .tells a)
   pub refusing : (a : Answer) (n : Refusal) → F .Refuses (F .tells a) n ↔ (a ≡ Answer.Refused n)
   pub accepting : (a : Answer) → F .Accepts (F .tells a) ↔ (isRefused a ≡ false)
 
@@ -94,7 +94,7 @@ module _ (F : Face) (ok : Faithful F) where
   not-refused : (r : F .Told) (a : Answer) → r ≡ F .tells a → F .Accepts r → isRefused a ≡ false
   not-refused r a e h = ok .accepting a .0 (subst (F .Accepts) e h)
 
-  as-answers : {m m′ : List ℕ} {ps ps′ : List Place} {cs : List Call} {rs : List (F .Told)} → Run (F .serves) m ps cs rs m′ ps′
+  as-answers : {m m′ : List ℕ} {ps ps′ : List ScanEntry} {cs : List Call} {rs : List (F .Told)} → Run (F .serves) m ps cs rs m′ ps′
       → (as′ : List Answer) × Run Serves m ps cs as′ m′ ps′ × (rs ≡ map (F .tells) as′)
   as-answers ends = ([], ends, refl)
   as-answers (goes {rs = rs} s q) =
@@ -102,7 +102,7 @@ module _ (F : Face) (ok : Faithful F) where
       let l = as-answers q in
       (x .0 ∷ l .0, goes (x .1) (l .1), ap (λ (y : F .Told). y ∷ rs) (x .2) ∙ ap (λ (y : List (F .Told)). F .tells (x .0) ∷ y) (l .2))
 
-  stored : (S : Shape) (m₀ : List ℕ) (ps₀ : List Place) {m m′ : List ℕ} {ps ps′ : List Place} {z : F .Told} {cs : List Call} {rs : List (F .Told)}
+  stored : (S : Shape) (m₀ : List ℕ) (ps₀ : List ScanEntry) {m m′ : List ℕ} {ps ps′ : List ScanEntry} {z : F .Told} {cs : List Call} {rs : List (F .Told)}
       → F .makes m₀ ps₀ S z m ps → F .Accepts z → Run (F .serves) m ps cs rs m′ ps′
       → Accepted S m₀ ps₀ × (rs ≡ map (F .tells) (storeAnswers S m₀ ps₀ cs)) × (m′ ≡ storeLeft S m₀ ps₀ cs .memory) × (ps′ ≡ storeLeft S m₀ ps₀ cs .list)
   unfolding Makes made answered
@@ -148,7 +148,7 @@ module _ (F : Face) (ok : Faithful F) where
       let l = stored S m₀ ps₀ h g q in
       let b = ok .served s in
       let e : b .0 ≡ answerOf (storeLeft S m₀ ps₀ cs) x =
-      b .1 .0 ∙ ap (λ (u : List ℕ). answerOf (lend u ps′) x) (l .2) ∙ ap (λ (u : List Place). answerOf (lend (storeLeft S m₀ ps₀ cs .memory) u) x) (l .3) in
+      b .1 .0 ∙ ap (λ (u : List ℕ). answerOf (lend u ps′) x) (l .2) ∙ ap (λ (u : List ScanEntry). answerOf (lend (storeLeft S m₀ ps₀ cs .memory) u) x) (l .3) in
       let n : isRefused (answerOf (storeLeft S m₀ ps₀ cs) x) ≡ false = ap isRefused (sym e) ∙ not-refused a (b .0) (b .2) k in
       b .2 ∙ ap (F .tells) (e ∙ reads-committed S m₀ ps₀ (l .0) cs ys x t r c y w (rw n tt))
 
@@ -218,15 +218,15 @@ lent-stability = reads-stable calls faithful
 
 -- ---- at most one place
 
-Changed : List Place → List Place → Type 0
-Changed ps ps′ = (i : ℕ) × (p : Place) × (ps′ ≡ set ps i p)
+Changed : List ScanEntry → List ScanEntry → Type 0
+Changed ps ps′ = (i : ℕ) × (p : ScanEntry) × (ps′ ≡ set ps i p)
 
-none-changed : (ps : List Place) → Changed ps ps
+none-changed : (ps : List ScanEntry) → Changed ps ps
 unfolding Changed
-none-changed ps = (length ps, freePlace, sym (set-out ps (length ps) freePlace (le-refl (length ps))))
+none-changed ps = (length ps, freeEntry, sym (set-out ps (length ps) freeEntry (le-refl (length ps))))
 
-after-changed : (v : View) (ps : List Place) (c : Call) → Changed ps (placesAfter v ps c)
-unfolding Changed placesAfter
+after-changed : (v : View) (ps : List ScanEntry) (c : Call) → Changed ps (entriesAfter v ps c)
+unfolding Changed entriesAfter
 after-changed v ps Call.begin = none-changed ps
 after-changed v ps (Call.insert t vs) = none-changed ps
 after-changed v ps (Call.update t r m vs) = none-changed ps
@@ -245,15 +245,15 @@ after-changed v ps Call.release = none-changed ps
 after-changed v ps (Call.pageCell c r) = none-changed ps
 after-changed v ps (Call.lineage g c) = none-changed ps
 
-if-changed : (w : Verdict) (ps ps′ : List Place) → Changed ps ps′ → Changed ps (placesIf w ps ps′)
-unfolding placesIf
+if-changed : (w : Verdict) (ps ps′ : List ScanEntry) → Changed ps ps′ → Changed ps (entriesIf w ps ps′)
+unfolding entriesIf
 if-changed accept ps ps′ h = h
 if-changed (refuse n) ps ps′ h = none-changed ps
 
-list-changed : (m : List ℕ) (ps : List Place) (c : Call) → Changed ps (listAfter (lend m ps) c)
-unfolding listAfter placesNext
+list-changed : (m : List ℕ) (ps : List ScanEntry) (c : Call) → Changed ps (listAfter (lend m ps) c)
+unfolding listAfter entriesNext
 list-changed m ps c =
-    elim (usable m ps) as (λ b. Changed ps (cond b (placesNext (storedShape (words m)) (storeView m) ps c) ps))
+    elim (usable m ps) as (λ b. Changed ps (cond b (entriesNext (storedShape (words m)) (storeView m) ps c) ps))
     [ true ↦ if-changed _ ps _ (after-changed (storeView m) ps c) | false ↦ none-changed ps ]
 
 pub one-place : OnePlace
@@ -262,7 +262,7 @@ one-place m m′ ps ps′ c r s = subst (Changed ps) (sym (s .2)) (list-changed 
 
 -- ---- a short list
 
-short-unusable : (m : List ℕ) (ps : List Place) → length ps < mostScans → usable m ps ≡ false
+short-unusable : (m : List ℕ) (ps : List ScanEntry) → length ps < mostScans → usable m ps ≡ false
 short-unusable m ps k = refuted (usable m ps) (λ t. omega (arith, usable-tells m ps (is-true (usable m ps) t) .places))
 
 pub short-refused : ShortRefused

@@ -9,7 +9,7 @@ use lib.ListN.{length, getD, set}
 use Rattle.terms.specs.Measures.{Shape, mostScans}
 use Rattle.terms.specs.Refusals.{isRefused}
 use Rattle.terms.specs.declared.Answer.{Answer}
-use Rattle.terms.specs.declared.Place.{Place}
+use Rattle.terms.specs.declared.ScanEntry.{ScanEntry}
 use Rattle.terms.specs.declared.Refusal.{Refusal}
 use Rattle.words.specs.Words.{Bytes}
 use Rattle.scans.specs.Places.{allFreed}
@@ -24,9 +24,9 @@ use Rattle.promise.specs.Stated.{conditions, First, NoneApplies}
 
 -- A run: calls over one memory and one list, "each lent the same memory and scan list, whole, as the last one left them", with their answers and what the last
 -- one left. What one call promises is `serves`: of these calls it is `Serves`.
-pub data Run {R : Type 0} (serves : List ℕ → List Place → Call → R → List ℕ → List Place → Type 0) : List ℕ → List Place → List Call → List R → List ℕ → List Place → Type 0 where
-  ends : {m : List ℕ} {ps : List Place} → Run serves m ps [] [] m ps
-  goes : {m m′ m″ : List ℕ} {ps ps′ ps″ : List Place} {c : Call} {r : R} {cs : List Call} {rs : List R}
+pub data Run {R : Type 0} (serves : List ℕ → List ScanEntry → Call → R → List ℕ → List ScanEntry → Type 0) : List ℕ → List ScanEntry → List Call → List R → List ℕ → List ScanEntry → Type 0 where
+  ends : {m : List ℕ} {ps : List ScanEntry} → Run serves m ps [] [] m ps
+  goes : {m m′ m″ : List ℕ} {ps ps′ ps″ : List ScanEntry} {c : Call} {r : R} {cs : List Call} {rs : List R}
       → serves m ps c r m′ ps′ → Run serves m′ ps′ cs rs m″ ps″ → Run serves m ps (c ∷ cs) (r ∷ rs) m″ ps″
 
 -- the form in which a caller is told: an answer in it, when it says a refusal and when none, and what a call and a making promise
@@ -35,32 +35,32 @@ pub record Face : Type 1 where
   pub tells : Answer → Told
   pub Refuses : Told → Refusal → Type 0
   pub Accepts : Told → Type 0
-  pub serves : List ℕ → List Place → Call → Told → List ℕ → List Place → Type 0
-  pub makes : List ℕ → List Place → Shape → Told → List ℕ → List Place → Type 0
+  pub serves : List ℕ → List ScanEntry → Call → Told → List ℕ → List ScanEntry → Type 0
+  pub makes : List ℕ → List ScanEntry → Shape → Told → List ℕ → List ScanEntry → Type 0
 
 module _ (F : Face) where
   -- a claim for every run after an accepted making, whatever memory and list held before: of the shape, the memory and list made, the calls, what they told, and the
   -- memory and list left
-  abbrev pub EveryRun : (Shape → List ℕ → List Place → List Call → List (F .Told) → List ℕ → List Place → Type 0) → Type 0
+  abbrev pub EveryRun : (Shape → List ℕ → List ScanEntry → List Call → List (F .Told) → List ℕ → List ScanEntry → Type 0) → Type 0
   EveryRun P =
-      (S : Shape) (m₀ m m′ : List ℕ) (ps₀ ps ps′ : List Place) (z : F .Told) (cs : List Call) (rs : List (F .Told))
+      (S : Shape) (m₀ m m′ : List ℕ) (ps₀ ps ps′ : List ScanEntry) (z : F .Told) (cs : List Call) (rs : List (F .Told))
       → F .makes m₀ ps₀ S z m ps → F .Accepts z → All Typed cs → Run (F .serves) m ps cs rs m′ ps′ → P S m ps cs rs m′ ps′
 
   -- ---- demand 1
   -- a call is refused on the stated condition only
   unfoldable pub RefusedSo : Type 0
   RefusedSo =
-      (m m′ : List ℕ) (ps ps′ : List Place) (c : Call) (r : F .Told) → F .serves m ps c r m′ ps′
+      (m m′ : List ℕ) (ps ps′ : List ScanEntry) (c : Call) (r : F .Told) → F .serves m ps c r m′ ps′
       → ((n : Refusal) → F .Refuses r n ↔ First (conditions m ps c) n) × (F .Accepts r ↔ NoneApplies (conditions m ps c))
 
   -- a refused call changes no byte of the memory and no place of the list, and a refused making neither
   unfoldable pub RefusedKept : Type 0
   RefusedKept =
-      (m m′ : List ℕ) (ps ps′ : List Place) (c : Call) (r : F .Told) (n : Refusal)
+      (m m′ : List ℕ) (ps ps′ : List ScanEntry) (c : Call) (r : F .Told) (n : Refusal)
       → Bytes m → F .serves m ps c r m′ ps′ → F .Refuses r n → (m′ ≡ m) × (ps′ ≡ ps)
 
   unfoldable pub UnmadeKept : Type 0
-  UnmadeKept = (S : Shape) (m m′ : List ℕ) (ps ps′ : List Place) (r : F .Told) (n : Refusal) → F .makes m ps S r m′ ps′ → F .Refuses r n → (m′ ≡ m) × (ps′ ≡ ps)
+  UnmadeKept = (S : Shape) (m m′ : List ℕ) (ps ps′ : List ScanEntry) (r : F .Told) (n : Refusal) → F .makes m ps S r m′ ps′ → F .Refuses r n → (m′ ≡ m) × (ps′ ≡ ps)
 
   -- ---- demand 2
   -- a read after a run that is not refused answers the value last committed at or before the stamp read
@@ -68,7 +68,7 @@ module _ (F : Face) where
   ReadsSo =
       EveryRun
       (λ S m ps cs rs m′ ps′.
-      (x : Call) (t r c : ℕ) (a : F .Told) (m″ : List ℕ) (ps″ : List Place) → Typed x → Reads (historyAfter S cs) x t r c → F .serves m′ ps′ x a m″ ps″
+      (x : Call) (t r c : ℕ) (a : F .Told) (m″ : List ℕ) (ps″ : List ScanEntry) → Typed x → Reads (historyAfter S cs) x t r c → F .serves m′ ps′ x a m″ ps″
       → F .Accepts a → a ≡ F .tells (lastCommitted (historyAfter S cs) t r c))
 
   -- each current page of the memory that a run leaves holds what was committed last
@@ -85,7 +85,7 @@ module _ (F : Face) where
   StruckSame =
       EveryRun
       (λ S m ps cs rs m′ ps′.
-      (rs′ : List (F .Told)) (m″ : List ℕ) (ps″ : List Place) → Run (F .serves) m ps (strike cs) rs′ m″ ps″ → plainAnswers cs rs ≡ plainAnswers (strike cs) rs′)
+      (rs′ : List (F .Told)) (m″ : List ℕ) (ps″ : List ScanEntry) → Run (F .serves) m ps (strike cs) rs′ m″ ps″ → plainAnswers cs rs ≡ plainAnswers (strike cs) rs′)
 
   -- any two reads of a run for one stamp, row and column that are not refused answer the same
   abbrev pub toldAt : List (F .Told) → ℕ → F .Told
@@ -128,12 +128,12 @@ LentStability = ReadsStable calls
 -- ---- the list
 -- an accepted making frees every place; every other call changes at most one
 unfoldable pub MakingFrees : Type 0
-MakingFrees = (S : Shape) (m m′ : List ℕ) (ps ps′ : List Place) → Makes m ps S Answer.Done m′ ps′ → ps′ ≡ allFreed ps
+MakingFrees = (S : Shape) (m m′ : List ℕ) (ps ps′ : List ScanEntry) → Makes m ps S Answer.Done m′ ps′ → ps′ ≡ allFreed ps
 
 unfoldable pub OnePlace : Type 0
-OnePlace = (m m′ : List ℕ) (ps ps′ : List Place) (c : Call) (r : Answer) → Serves m ps c r m′ ps′ → (i : ℕ) × (p : Place) × (ps′ ≡ set ps i p)
+OnePlace = (m m′ : List ℕ) (ps ps′ : List ScanEntry) (c : Call) (r : Answer) → Serves m ps c r m′ ps′ → (i : ℕ) × (p : ScanEntry) × (ps′ ≡ set ps i p)
 
 -- a list under 16 places is refused with 2, whatever the memory
 unfoldable pub ShortRefused : Type 0
 ShortRefused =
-    (m m′ : List ℕ) (ps ps′ : List Place) (c : Call) (r : Answer) → length ps < mostScans → Serves m ps c r m′ ps′ → r ≡ Answer.Refused Refusal.Memory
+    (m m′ : List ℕ) (ps ps′ : List ScanEntry) (c : Call) (r : Answer) → length ps < mostScans → Serves m ps c r m′ ps′ → r ≡ Answer.Refused Refusal.Memory

@@ -5,5 +5,5 @@ use lib.ListN.{take, replicate}
 use Rattle.terms.specs.Measures.{mostColumns}
 
 -- as many as a store may have columns: 0 where fewer are lent
-unfoldable pub sixteen : List ℤ → List ℤ
-sixteen vs = take mostColumns (vs ++ replicate mostColumns (pos 0))
+unfoldable pub padded : List ℤ → List ℤ
+padded vs = take mostColumns (vs ++ replicate mostColumns (pos 0))

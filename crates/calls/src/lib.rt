@@ -7,8 +7,8 @@ use lent::len_of;
 use lent::table;
 use scans::Scans;
 use terms::Answer;
-use terms::Place;
 use terms::Row;
+use terms::ScanEntry;
 use terms::Stamp;
 use terms::Tail;
 use terms::Transaction;
@@ -21,21 +21,21 @@ ghost use Rattle.terms.specs.Measures.{mostColumns};
 ghost use Rattle.layout.specs.Sizes.{shapeOf, BytesTold};
 ghost use Rattle.history.specs.History.{Call};
 ghost use Rattle.promise.specs.Promise.{Serves, ServesBy, kept, Makes};
-ghost use Rattle.calls.specs.Values.{sixteen};
+ghost use Rattle.calls.specs.Values.{padded};
 
 // ---- the values lent with a call
 
 // Value i of those lent, 0 where there are fewer.
 fn value_at(values: &[i32], i: usize) -> i32
     requires { ⌜ i < mostColumns ⌝ }
-    ensures { λ r. ⌜ r ≡ getD (sixteen (now (values .entry))) i (pos 0) ⌝ }
+    ensures { λ r. ⌜ r ≡ getD (padded (now (values .entry))) i (pos 0) ⌝ }
 {
     if i < values.len() { values[i] } else { 0 }
 }
 
 // The 16 values that a call takes of those lent.
-pub fn take_sixteen(values: &[i32]) -> [i32; MOST_COLUMNS]
-    ensures { λ r. ⌜ r ≡ sixteen (now (values .entry)) ⌝ }
+pub fn pad_values(values: &[i32]) -> [i32; MOST_COLUMNS]
+    ensures { λ r. ⌜ r ≡ padded (now (values .entry)) ⌝ }
 {
     let mut taken = [0; MOST_COLUMNS];
     let mut i = 0;
@@ -47,9 +47,9 @@ pub fn take_sixteen(values: &[i32]) -> [i32; MOST_COLUMNS]
 }
 
 fn insert_values(mem: &mut [u8], t: Scans, transaction: Transaction, values: &[i32]) -> Answer
-    ensures { λ r. ⌜ ServesBy t (now (mem .entry)) (Call.insert (transaction .0) (sixteen (now (values .entry)))) r (now (mem .exit)) kept ⌝ }
+    ensures { λ r. ⌜ ServesBy t (now (mem .entry)) (Call.insert (transaction .0) (padded (now (values .entry)))) r (now (mem .exit)) kept ⌝ }
 {
-    let taken = take_sixteen(values);
+    let taken = pad_values(values);
     changes::insert(mem, t, transaction, taken)
 }
 
@@ -61,9 +61,9 @@ fn update_values(
     mask: u16,
     values: &[i32],
 ) -> Answer
-    ensures { λ r. ⌜ ServesBy t (now (mem .entry)) (Call.update (transaction .0) (row .0) mask (sixteen (now (values .entry)))) r (now (mem .exit)) kept ⌝ }
+    ensures { λ r. ⌜ ServesBy t (now (mem .entry)) (Call.update (transaction .0) (row .0) mask (padded (now (values .entry)))) r (now (mem .exit)) kept ⌝ }
 {
-    let taken = take_sixteen(values);
+    let taken = pad_values(values);
     changes::update(mem, t, transaction, row, mask, taken)
 }
 
@@ -79,7 +79,7 @@ pub fn bytes_needed(columns: u32, ranges: u32, capacity: u32, spares: u32) -> An
 // A store of a shape is made in the memory, and every place of the list is free.
 pub fn make(
     mem: &mut [u8],
-    scans: &mut [Place],
+    scans: &mut [ScanEntry],
     columns: u32,
     ranges: u32,
     capacity: u32,
@@ -95,7 +95,7 @@ pub fn make(
 // ---- the calls on it
 
 // A transaction is opened; the answer is its number.
-pub fn begin(mem: &mut [u8], scans: &[Place]) -> Answer
+pub fn begin(mem: &mut [u8], scans: &[ScanEntry]) -> Answer
     ensures { λ r. ⌜ Serves (now (mem .entry)) (now (scans .entry)) Call.begin r (now (mem .exit)) (now (scans .entry)) ⌝ }
 {
     let t = table(scans);
@@ -103,8 +103,13 @@ pub fn begin(mem: &mut [u8], scans: &[Place]) -> Answer
 }
 
 // A row with a value for each column; the answer is its number. Values past the column count are not looked at; where fewer are lent, the others are 0.
-pub fn insert(mem: &mut [u8], scans: &[Place], transaction: Transaction, values: &[i32]) -> Answer
-    ensures { λ r. ⌜ Serves (now (mem .entry)) (now (scans .entry)) (Call.insert (transaction .0) (sixteen (now (values .entry)))) r (now (mem .exit)) (now (scans .entry)) ⌝ }
+pub fn insert(
+    mem: &mut [u8],
+    scans: &[ScanEntry],
+    transaction: Transaction,
+    values: &[i32],
+) -> Answer
+    ensures { λ r. ⌜ Serves (now (mem .entry)) (now (scans .entry)) (Call.insert (transaction .0) (padded (now (values .entry)))) r (now (mem .exit)) (now (scans .entry)) ⌝ }
 {
     let t = table(scans);
     insert_values(mem, t, transaction, values)
@@ -113,20 +118,20 @@ pub fn insert(mem: &mut [u8], scans: &[Place], transaction: Transaction, values:
 // The columns of a mask are set in a row, bit k for column k; the answer is the last tail record's number.
 pub fn update(
     mem: &mut [u8],
-    scans: &[Place],
+    scans: &[ScanEntry],
     transaction: Transaction,
     row: Row,
     mask: u16,
     values: &[i32],
 ) -> Answer
-    ensures { λ r. ⌜ Serves (now (mem .entry)) (now (scans .entry)) (Call.update (transaction .0) (row .0) mask (sixteen (now (values .entry)))) r (now (mem .exit)) (now (scans .entry)) ⌝ }
+    ensures { λ r. ⌜ Serves (now (mem .entry)) (now (scans .entry)) (Call.update (transaction .0) (row .0) mask (padded (now (values .entry)))) r (now (mem .exit)) (now (scans .entry)) ⌝ }
 {
     let t = table(scans);
     update_values(mem, t, transaction, row, mask, values)
 }
 
 // A row is deleted; the answer is the tail record's number.
-pub fn delete(mem: &mut [u8], scans: &[Place], transaction: Transaction, row: Row) -> Answer
+pub fn delete(mem: &mut [u8], scans: &[ScanEntry], transaction: Transaction, row: Row) -> Answer
     ensures { λ r. ⌜ Serves (now (mem .entry)) (now (scans .entry)) (Call.delete (transaction .0) (row .0)) r (now (mem .exit)) (now (scans .entry)) ⌝ }
 {
     let t = table(scans);
@@ -134,7 +139,7 @@ pub fn delete(mem: &mut [u8], scans: &[Place], transaction: Transaction, row: Ro
 }
 
 // What a transaction has changed holds from a stamp on.
-pub fn commit(mem: &mut [u8], scans: &[Place], transaction: Transaction, stamp: Stamp) -> Answer
+pub fn commit(mem: &mut [u8], scans: &[ScanEntry], transaction: Transaction, stamp: Stamp) -> Answer
     ensures { λ r. ⌜ Serves (now (mem .entry)) (now (scans .entry)) (Call.commit (transaction .0) (stamp .0)) r (now (mem .exit)) (now (scans .entry)) ⌝ }
 {
     let t = table(scans);
@@ -142,7 +147,7 @@ pub fn commit(mem: &mut [u8], scans: &[Place], transaction: Transaction, stamp: 
 }
 
 // What a transaction has changed is as if it had not been.
-pub fn abort(mem: &mut [u8], scans: &[Place], transaction: Transaction) -> Answer
+pub fn abort(mem: &mut [u8], scans: &[ScanEntry], transaction: Transaction) -> Answer
     ensures { λ r. ⌜ Serves (now (mem .entry)) (now (scans .entry)) (Call.abort (transaction .0)) r (now (mem .exit)) (now (scans .entry)) ⌝ }
 {
     let t = table(scans);
@@ -150,7 +155,7 @@ pub fn abort(mem: &mut [u8], scans: &[Place], transaction: Transaction) -> Answe
 }
 
 // The tail records of a range up to a number go into a new page of a column.
-pub fn merge(mem: &mut [u8], scans: &[Place], range: u32, column: u32, through: Tail) -> Answer
+pub fn merge(mem: &mut [u8], scans: &[ScanEntry], range: u32, column: u32, through: Tail) -> Answer
     ensures { λ r. ⌜ Serves (now (mem .entry)) (now (scans .entry)) (Call.merge range column (through .0)) r (now (mem .exit)) (now (scans .entry)) ⌝ }
 {
     let t = table(scans);
@@ -158,7 +163,7 @@ pub fn merge(mem: &mut [u8], scans: &[Place], range: u32, column: u32, through: 
 }
 
 // Every waiting page that no open scan needs is free again; the answer is how many.
-pub fn release(mem: &mut [u8], scans: &[Place]) -> Answer
+pub fn release(mem: &mut [u8], scans: &[ScanEntry]) -> Answer
     ensures { λ r. ⌜ Serves (now (mem .entry)) (now (scans .entry)) Call.release r (now (mem .exit)) (now (scans .entry)) ⌝ }
 {
     let t = table(scans);
@@ -166,7 +171,7 @@ pub fn release(mem: &mut [u8], scans: &[Place]) -> Answer
 }
 
 // The value of a row and column by the last commit.
-pub fn latest(mem: &[u8], scans: &[Place], row: Row, column: u32) -> Answer
+pub fn latest(mem: &[u8], scans: &[ScanEntry], row: Row, column: u32) -> Answer
     ensures { λ r. ⌜ Serves (now (mem .entry)) (now (scans .entry)) (Call.latest (row .0) column) r (now (mem .entry)) (now (scans .entry)) ⌝ }
 {
     let t = table(scans);
@@ -174,7 +179,7 @@ pub fn latest(mem: &[u8], scans: &[Place], row: Row, column: u32) -> Answer
 }
 
 // The value of a row and column at a stamp.
-pub fn read_at(mem: &[u8], scans: &[Place], stamp: Stamp, row: Row, column: u32) -> Answer
+pub fn read_at(mem: &[u8], scans: &[ScanEntry], stamp: Stamp, row: Row, column: u32) -> Answer
     ensures { λ r. ⌜ Serves (now (mem .entry)) (now (scans .entry)) (Call.readAt (stamp .0) (row .0) column) r (now (mem .entry)) (now (scans .entry)) ⌝ }
 {
     let t = table(scans);
@@ -184,7 +189,7 @@ pub fn read_at(mem: &[u8], scans: &[Place], stamp: Stamp, row: Row, column: u32)
 // The value of a row and column for an open transaction, its own changes among what it sees.
 pub fn own_read(
     mem: &[u8],
-    scans: &[Place],
+    scans: &[ScanEntry],
     transaction: Transaction,
     row: Row,
     column: u32,
@@ -196,7 +201,7 @@ pub fn own_read(
 }
 
 // The value of a row and column for an open scan.
-pub fn scan_read(mem: &[u8], scans: &[Place], scan: u32, row: Row, column: u32) -> Answer
+pub fn scan_read(mem: &[u8], scans: &[ScanEntry], scan: u32, row: Row, column: u32) -> Answer
     ensures { λ r. ⌜ Serves (now (mem .entry)) (now (scans .entry)) (Call.scanRead scan (row .0) column) r (now (mem .entry)) (now (scans .entry)) ⌝ }
 {
     let t = table(scans);
@@ -204,7 +209,7 @@ pub fn scan_read(mem: &[u8], scans: &[Place], scan: u32, row: Row, column: u32) 
 }
 
 // The count of the rows that an open scan sees, and the sum of their values of a column.
-pub fn sum(mem: &[u8], scans: &[Place], scan: u32, column: u32) -> Answer
+pub fn sum(mem: &[u8], scans: &[ScanEntry], scan: u32, column: u32) -> Answer
     ensures { λ r. ⌜ Serves (now (mem .entry)) (now (scans .entry)) (Call.sum scan column) r (now (mem .entry)) (now (scans .entry)) ⌝ }
 {
     let t = table(scans);
@@ -212,7 +217,7 @@ pub fn sum(mem: &[u8], scans: &[Place], scan: u32, column: u32) -> Answer
 }
 
 // What the current page of a column holds for a row.
-pub fn page_cell(mem: &[u8], scans: &[Place], column: u32, row: Row) -> Answer
+pub fn page_cell(mem: &[u8], scans: &[ScanEntry], column: u32, row: Row) -> Answer
     ensures { λ r. ⌜ Serves (now (mem .entry)) (now (scans .entry)) (Call.pageCell column (row .0)) r (now (mem .entry)) (now (scans .entry)) ⌝ }
 {
     let t = table(scans);
@@ -220,7 +225,7 @@ pub fn page_cell(mem: &[u8], scans: &[Place], column: u32, row: Row) -> Answer
 }
 
 // The record through which the current page of a range and column is merged, and the records used of the range.
-pub fn lineage(mem: &[u8], scans: &[Place], range: u32, column: u32) -> Answer
+pub fn lineage(mem: &[u8], scans: &[ScanEntry], range: u32, column: u32) -> Answer
     ensures { λ r. ⌜ Serves (now (mem .entry)) (now (scans .entry)) (Call.lineage range column) r (now (mem .entry)) (now (scans .entry)) ⌝ }
 {
     let t = table(scans);
@@ -228,7 +233,7 @@ pub fn lineage(mem: &[u8], scans: &[Place], range: u32, column: u32) -> Answer
 }
 
 // A scan is opened at a stamp; the answer is its number.
-pub fn open_scan(mem: &mut [u8], scans: &mut [Place], stamp: Stamp) -> Answer
+pub fn open_scan(mem: &mut [u8], scans: &mut [ScanEntry], stamp: Stamp) -> Answer
     ensures { λ r. ⌜ Serves (now (mem .entry)) (now (scans .entry)) (Call.openScan (stamp .0)) r (now (mem .exit)) (now (scans .exit)) ⌝ }
 {
     let t = table(scans);
@@ -237,7 +242,7 @@ pub fn open_scan(mem: &mut [u8], scans: &mut [Place], stamp: Stamp) -> Answer
 }
 
 // A scan is closed: its place is free again.
-pub fn close_scan(mem: &[u8], scans: &mut [Place], scan: u32) -> Answer
+pub fn close_scan(mem: &[u8], scans: &mut [ScanEntry], scan: u32) -> Answer
     ensures { λ r. ⌜ Serves (now (mem .entry)) (now (scans .entry)) (Call.close scan) r (now (mem .entry)) (now (scans .exit)) ⌝ }
 {
     let t = table(scans);

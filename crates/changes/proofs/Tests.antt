@@ -14,8 +14,7 @@ use Rattle.layout.specs.declared.Sizes.{Sizes}
 use Rattle.words.specs.Words.{words}
 use Rattle.words.proofs.Words.{length-words}
 use Rattle.layout.specs.declared.Region.{Region}
-use Rattle.layout.specs.Regions.{need}
-use Rattle.layout.specs.View.{View, view, rowsGiven, usedIn}
+use Rattle.layout.specs.View.{View, rowsGiven, usedIn, viewOf, Suffices}
 use Rattle.layout.proofs.View.{view-long}
 use Rattle.history.specs.History.{Test, _when_, refuse, verdict, any, rangeOf}
 use Rattle.terms.specs.Places.{place}
@@ -23,7 +22,6 @@ use Rattle.rows.specs.Finders.{Inside}
 use Rattle.model.specs.Calls.{notOpenIn, notGivenIn, lacksIn}
 use Rattle.layout.specs.Sizes.{Proper}
 use Rattle.model.specs.Asked.{shapeIn, Counted, Linked, FreeAt, OpenAt}
-use Rattle.model.specs.Asked.{shapeIn, Counted, Linked, FreeAt}
 use Rattle.loops.specs.Search.{foundAt}
 use Rattle.writing.specs.Steps.{Room}
 use Rattle.conditions.specs.Opens.{openAt}
@@ -88,7 +86,7 @@ pub counted : (s : Sizes) (v : View) → Linked s v → Counted s v
 counted s v l = record { rows-given = l .rows-few; records-used = l .used-few }
 
 -- ---- the places of the open transactions: one is free, or none
-opens-long : (s : Sizes) (m : List ℕ) → need s * 4 ≤ length m → length (view s (words m) Region.Opens) ≡ mostTransactions
+opens-long : (s : Sizes) (m : List ℕ) → Suffices s m → length (viewOf s m Region.Opens) ≡ mostTransactions
 opens-long s m h = view-long s (words m) (omega (arith, length-words m)) Region.Opens
 
 any-place : (f : ℕ → Bool) (l : List ℕ) → any f l ≡ ltb (place f l) (length l)
@@ -99,9 +97,9 @@ any-place f (x ∷ l) = go (f x) (any-place f l)
     go true ih = sym (lt-ltb 0 (suc (length l)) (omega arith))
     go false ih = ih ∙ sym (leb·suc-suc (suc (place f l)) (length l))
 
-module _ (s : Sizes) (m : List ℕ) (h : need s * 4 ≤ length m) where
+module _ (s : Sizes) (m : List ℕ) (h : Suffices s m) where
   abbrev opens : List ℕ
-  opens = view s (words m) Region.Opens
+  opens = viewOf s m Region.Opens
 
   abbrev free : ℕ → Bool
   free k = eqb k 0
@@ -116,11 +114,11 @@ module _ (s : Sizes) (m : List ℕ) (h : need s * 4 ≤ length m) where
       go true q = let z : _≡_ {A = ℕ} 0 1 = cc in absurd (omega arith)
       go false q = refl
 
-  pub first-free : (j : ℕ) → foundAt mostTransactions (place free opens) ≡ Found.At j → (not (any free opens) ≡ false) × FreeAt (view s (words m)) j
+  pub first-free : (j : ℕ) → foundAt mostTransactions (place free opens) ≡ Found.At j → (not (any free opens) ≡ false) × FreeAt (viewOf s m) j
   first-free j e = rw any-free (go (ltb (place free opens) mostTransactions) refl e)
     where
       go : (b : Bool) → ltb (place free opens) mostTransactions ≡ b
-          → cond b (Found.At (place free opens)) Found.Nothing ≡ Found.At j → (not b ≡ false) × FreeAt (view s (words m)) j
+          → cond b (Found.At (place free opens)) Found.Nothing ≡ Found.At j → (not b ≡ false) × FreeAt (viewOf s m) j
       go true q f =
           let w : place free opens ≡ j = cc in
           (refl, record { low = omega (arith, ltb-true (place free opens) mostTransactions q); first = sym w })

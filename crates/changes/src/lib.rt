@@ -24,16 +24,14 @@ use terms::Stamp;
 use terms::Transaction;
 use terms::limits::MOST_COLUMNS;
 use terms::limits::MOST_NUMBERS;
-use transactions::free_place;
+use transactions::free_index;
 use writing::records_wanted;
 ghost use mathlib.Core.Path.{_≡_};
 ghost use mathlib.Core.List.{List};
 ghost use lib.IntN.{ℤ};
 ghost use Prim.Native.Nat.{_<_};
 ghost use Rattle.terms.specs.Measures.{mostNumbers};
-ghost use Prim.Native.Nat.{_<_};
-ghost use Rattle.words.specs.Words.{words};
-ghost use Rattle.layout.specs.View.{view, rowsGiven, transactionsGiven};
+ghost use Rattle.layout.specs.View.{rowsGiven, transactionsGiven, viewOf};
 ghost use Rattle.history.specs.History.{Call, verdict, rangeOf};
 ghost use Rattle.model.specs.Writing.{recordsWanted};
 ghost use Rattle.model.specs.Asked.{shapeIn, FreeAt, OpenAt};
@@ -49,12 +47,12 @@ ghost use Rattle.changes.specs.Steps.{appendTests};
 fn begin_tests(mem: &[u8], s: Sizes) -> Tested
     requires { ⌜ Fitted s (now mem) ⌝ }
     ensures { λ r. ⌜ Tests s (now (mem .entry)) Call.begin r ⌝ }
-    ensures { λ r. ⌜ Finds r (λ at. FreeAt (view s (words (now (mem .entry)))) at × (transactionsGiven (view s (words (now (mem .entry)))) < mostNumbers)) ⌝ }
+    ensures { λ r. ⌜ Finds r (λ at. FreeAt (viewOf s (now (mem .entry))) at × (transactionsGiven (viewOf s (now (mem .entry))) < mostNumbers)) ⌝ }
 {
     if read(mem, s, Region::Header, HEADER_TRANSACTIONS) >= MOST_NUMBERS {
         return Tested::Failed(Refusal::Number);
     }
-    let Found::At(free) = free_place(mem, s) else {
+    let Found::At(free) = free_index(mem, s) else {
         return Tested::Failed(Refusal::Busy);
     };
     Tested::Passed(free)
@@ -78,7 +76,7 @@ pub fn begin(mem: &mut [u8], scans: Scans) -> Answer
 fn insert_tests(mem: &[u8], s: Sizes, t: Transaction) -> Tested
     requires { ⌜ Fitted s (now mem) ⌝ }
     ensures { λ r. ⌜ ((vs : List ℤ) → Tests s (now (mem .entry)) (Call.insert (t .0) vs) r) ⌝ }
-    ensures { λ r. ⌜ Finds r (λ at. OpenAt (view s (words (now (mem .entry)))) (t .0) at × (rowsGiven (view s (words (now (mem .entry)))) < s .rows)) ⌝ }
+    ensures { λ r. ⌜ Finds r (λ at. OpenAt (viewOf s (now (mem .entry))) (t .0) at × (rowsGiven (viewOf s (now (mem .entry))) < s .rows)) ⌝ }
 {
     let Found::At(at) = open_place(mem, s, t) else {
         return Tested::Failed(Refusal::Transaction);
@@ -90,7 +88,12 @@ fn insert_tests(mem: &[u8], s: Sizes, t: Transaction) -> Tested
 }
 
 // A row with a value for each column; the answer is its number. Values past the column count are not looked at.
-pub fn insert(mem: &mut [u8], scans: Scans, transaction: Transaction, values: [i32; MOST_COLUMNS]) -> Answer
+pub fn insert(
+    mem: &mut [u8],
+    scans: Scans,
+    transaction: Transaction,
+    values: [i32; MOST_COLUMNS],
+) -> Answer
     ensures { λ r. ⌜ ServesBy scans (now (mem .entry)) (Call.insert (transaction .0) values) r (now (mem .exit)) kept ⌝ }
 {
     let Entry::Fit(s, n) = enter(mem, scans) else {
@@ -117,9 +120,9 @@ fn append_tests(
     n: u32,
 ) -> Tested
     requires { ⌜ Fitted s (now mem) ⌝ }
-    requires { ⌜ OpenAt (view s (words (now mem))) (t .0) at × (row .0 < rowsGiven (view s (words (now mem)))) × (g ≡ rangeOf (row .0)) ⌝ }
-    ensures { λ r. ⌜ Says r (verdict (appendTests (shapeIn s) (view s (words (now (mem .entry)))) (t .0) (row .0) n)) ⌝ }
-    ensures { λ r. ⌜ Finds r (λ j. OpenAt (view s (words (now (mem .entry)))) (t .0) j × Room s (view s (words (now (mem .entry)))) (row .0) n) ⌝ }
+    requires { ⌜ OpenAt (viewOf s (now mem)) (t .0) at × (row .0 < rowsGiven (viewOf s (now mem))) × (g ≡ rangeOf (row .0)) ⌝ }
+    ensures { λ r. ⌜ Says r (verdict (appendTests (shapeIn s) (viewOf s (now (mem .entry))) (t .0) (row .0) n)) ⌝ }
+    ensures { λ r. ⌜ Finds r (λ j. OpenAt (viewOf s (now (mem .entry))) (t .0) j × Room s (viewOf s (now (mem .entry))) (row .0) n) ⌝ }
 {
     if held(mem, s, t, row) {
         return Tested::Failed(Refusal::Held);
@@ -136,7 +139,7 @@ fn append_tests(
 fn update_tests(mem: &[u8], s: Sizes, t: Transaction, row: Row, mask: u32) -> Tested
     requires { ⌜ Fitted s (now mem) ⌝ }
     ensures { λ r. ⌜ ((vs : List ℤ) → Tests s (now (mem .entry)) (Call.update (t .0) (row .0) mask vs) r) ⌝ }
-    ensures { λ r. ⌜ Finds r (λ at. OpenAt (view s (words (now (mem .entry)))) (t .0) at × Room s (view s (words (now (mem .entry)))) (row .0) (recordsWanted (view s (words (now (mem .entry)))) (row .0) mask)) ⌝ }
+    ensures { λ r. ⌜ Finds r (λ at. OpenAt (viewOf s (now (mem .entry))) (t .0) at × Room s (viewOf s (now (mem .entry))) (row .0) (recordsWanted (viewOf s (now (mem .entry))) (row .0) mask)) ⌝ }
 {
     let Found::At(at) = open_place(mem, s, t) else {
         return Tested::Failed(Refusal::Transaction);
@@ -176,7 +179,7 @@ pub fn update(
 fn delete_tests(mem: &[u8], s: Sizes, t: Transaction, row: Row) -> Tested
     requires { ⌜ Fitted s (now mem) ⌝ }
     ensures { λ r. ⌜ Tests s (now (mem .entry)) (Call.delete (t .0) (row .0)) r ⌝ }
-    ensures { λ r. ⌜ Finds r (λ at. OpenAt (view s (words (now (mem .entry)))) (t .0) at × Room s (view s (words (now (mem .entry)))) (row .0) 1) ⌝ }
+    ensures { λ r. ⌜ Finds r (λ at. OpenAt (viewOf s (now (mem .entry))) (t .0) at × Room s (viewOf s (now (mem .entry))) (row .0) 1) ⌝ }
 {
     let Found::At(at) = open_place(mem, s, t) else {
         return Tested::Failed(Refusal::Transaction);
@@ -207,7 +210,7 @@ pub fn delete(mem: &mut [u8], scans: Scans, transaction: Transaction, row: Row) 
 fn commit_tests(mem: &[u8], s: Sizes, t: Transaction, stamp: Stamp) -> Tested
     requires { ⌜ Fitted s (now mem) ⌝ }
     ensures { λ r. ⌜ Tests s (now (mem .entry)) (Call.commit (t .0) (stamp .0)) r ⌝ }
-    ensures { λ r. ⌜ Finds r (OpenAt (view s (words (now (mem .entry)))) (t .0)) ⌝ }
+    ensures { λ r. ⌜ Finds r (OpenAt (viewOf s (now (mem .entry))) (t .0)) ⌝ }
 {
     let Found::At(at) = open_place(mem, s, t) else {
         return Tested::Failed(Refusal::Transaction);
@@ -237,7 +240,7 @@ pub fn commit(mem: &mut [u8], scans: Scans, transaction: Transaction, stamp: Sta
 fn abort_tests(mem: &[u8], s: Sizes, t: Transaction) -> Tested
     requires { ⌜ Fitted s (now mem) ⌝ }
     ensures { λ r. ⌜ Tests s (now (mem .entry)) (Call.abort (t .0)) r ⌝ }
-    ensures { λ r. ⌜ Finds r (OpenAt (view s (words (now (mem .entry)))) (t .0)) ⌝ }
+    ensures { λ r. ⌜ Finds r (OpenAt (viewOf s (now (mem .entry))) (t .0)) ⌝ }
 {
     let Found::At(at) = open_place(mem, s, t) else {
         return Tested::Failed(Refusal::Transaction);

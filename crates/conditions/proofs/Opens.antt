@@ -1,5 +1,5 @@
 -- The search among the open places: the first place of a number other than 0 is the place of that transaction.
-use Prim.Native.Nat.{ℕ, suc, _+_, _*_, _≤_}
+use Prim.Native.Nat.{ℕ, suc, _+_}
 use mathlib.Core.Path.{_≡_, refl, sym, _∙_, ap}
 use mathlib.Core.Bool.{Bool, true, false, not, cond, _&&_, _||_, not-and-self, and-false}
 use mathlib.Core.List.{List, [], _∷_}
@@ -17,8 +17,7 @@ use Rattle.words.proofs.Words.{length-words}
 use Rattle.loops.proofs.Search.{first-at}
 use Rattle.layout.specs.declared.Sizes.{Sizes}
 use Rattle.layout.specs.declared.Region.the-variants.{Opens}
-use Rattle.layout.specs.Regions.{need}
-use Rattle.layout.specs.View.{View, view}
+use Rattle.layout.specs.View.{View, view, viewOf, Suffices}
 use Rattle.layout.proofs.View.{view-long}
 use Rattle.history.specs.History.{any}
 use Rattle.terms.specs.Places.{bears, place}
@@ -54,21 +53,21 @@ module _ (t : ℕ) (h : t ≡ 0 → ⊥) where
       go true ih = ap Found.At (sym (add-zero i))
       go false ih = let e : i + suc (place (bears t) l) ≡ i + 1 + place (bears t) l = omega arith in rw e ih
 
-  pub open-found : (s : Sizes) (m : List ℕ) (r : Found) → need s * 4 ≤ length m
-      → r ≡ firstAt t 0 (region (view s (words m) Opens) 0 mostTransactions)
-      → (r ≡ openAt (view s (words m)) t) × Inside r mostTransactions
+  pub open-found : (s : Sizes) (m : List ℕ) (r : Found) → Suffices s m
+      → r ≡ firstAt t 0 (region (viewOf s m Opens) 0 mostTransactions)
+      → (r ≡ openAt (viewOf s m) t) × Inside r mostTransactions
   unfolding openAt notOpenIn openPlace
   open-found s m r l e =
-      let opens = view s (words m) Opens in
+      let opens = viewOf s m Opens in
       let long : length opens ≡ mostTransactions = view-long s (words m) (omega (arith, length-words m)) Opens in
       let whole : region opens 0 mostTransactions ≡ opens = take-all mostTransactions opens (omega arith) in
       let e′ : r ≡ firstAt t 0 opens = rw whole at e in
       (e′ ∙ first-bears 0 opens ∙ rw (zero-add (place (bears t) opens)), inside r e′)
     where
-      inside : (f : Found) → f ≡ firstAt t 0 (view s (words m) Opens) → Inside f mostTransactions
+      inside : (f : Found) → f ≡ firstAt t 0 (viewOf s m Opens) → Inside f mostTransactions
       inside (Found.At j) q =
-          let long : length (view s (words m) Opens) ≡ mostTransactions = view-long s (words m) (omega (arith, length-words m)) Opens in
-          omega (arith, first-at t j (view s (words m) Opens) (sym q) .0)
+          let long : length (viewOf s m Opens) ≡ mostTransactions = view-long s (words m) (omega (arith, length-words m)) Opens in
+          omega (arith, first-at t j (viewOf s m Opens) (sym q) .0)
       inside Found.Nothing q = tt
 
 -- ---- what the finder tells

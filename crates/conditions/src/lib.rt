@@ -17,18 +17,15 @@ ghost use mathlib.Core.Path.{_≡_};
 ghost use mathlib.Core.Bool.{_&&_, _||_};
 ghost use Prim.Native.Nat.{ℕ, _+_, _*_, _^_, _≤_, _<_};
 ghost use lib.Dec.{eqb, leb, ltb};
-ghost use lib.ListN.{length, getD};
+ghost use lib.ListN.{getD};
 ghost use Rattle.terms.specs.Measures.{mostColumns, mostTransactions};
-ghost use Rattle.words.specs.Words.{words};
 ghost use Rattle.layout.specs.declared.Region.{Region};
-ghost use Rattle.layout.specs.Regions.{need};
-ghost use Rattle.layout.specs.View.{view, rowsGiven, usedIn};
+ghost use Rattle.layout.specs.View.{rowsGiven, usedIn, viewOf, Suffices};
 ghost use Rattle.model.specs.Stored.{deleteKind, openPlace, anyBelow};
 ghost use Rattle.model.specs.Reading.{ownChanges};
 ghost use Rattle.model.specs.Calls.{openIn, openOther, standsFor, heldIn, goneIn, openAmongIn};
 ghost use Rattle.layout.specs.Sizes.{Proper};
-ghost use Rattle.model.specs.Asked.{shapeIn};
-ghost use Rattle.model.specs.Asked.{Linked};
+ghost use Rattle.model.specs.Asked.{shapeIn, Linked};
 ghost use Rattle.rows.specs.Finders.{Inside};
 ghost use Rattle.conditions.specs.Opens.{openAt};
 ghost use Rattle.conditions.specs.Records.{isOther, holdsAt, deletesAt, endsAt};
@@ -38,8 +35,8 @@ const MANY: usize = 8;
 
 // The place of an open transaction. Number 0 marks a free place, so that it is never found.
 pub fn open_place(mem: &[u8], s: Sizes, t: Transaction) -> Found
-    requires { ⌜ need s * 4 ≤ length (now mem) ⌝ }
-    ensures { λ r. ⌜ r ≡ openAt (view s (words (now (mem .entry)))) (t .0) ⌝ }
+    requires { ⌜ Suffices s (now mem) ⌝ }
+    ensures { λ r. ⌜ r ≡ openAt (viewOf s (now (mem .entry))) (t .0) ⌝ }
     ensures { λ r. ⌜ Inside r mostTransactions ⌝ }
 {
     let number = t.0;
@@ -51,9 +48,9 @@ pub fn open_place(mem: &[u8], s: Sizes, t: Transaction) -> Found
 
 // Whose own changes an own read of the transaction open at `place` adds: its record tells. With nothing noted there are none, and it is the latest read.
 pub fn own_changes(mem: &[u8], s: Sizes, place: usize) -> Transaction
-    requires { ⌜ need s * 4 ≤ length (now mem) ⌝ }
+    requires { ⌜ Suffices s (now mem) ⌝ }
     requires { ⌜ place < mostTransactions ⌝ }
-    ensures { λ r. ⌜ ((t : ℕ) → place ≡ openPlace (view s (words (now (mem .entry)))) t → r .0 ≡ ownChanges (view s (words (now (mem .entry)))) t) ⌝ }
+    ensures { λ r. ⌜ ((t : ℕ) → place ≡ openPlace (viewOf s (now (mem .entry))) t → r .0 ≡ ownChanges (viewOf s (now (mem .entry))) t) ⌝ }
 {
     pending_at(mem, s, place).owner()
 }
@@ -67,8 +64,8 @@ fn either(a: bool, b: bool) -> bool
 
 // Whether transaction k is open and not t.
 fn open_other(mem: &[u8], s: Sizes, t: Transaction, k: Transaction) -> bool
-    requires { ⌜ need s * 4 ≤ length (now mem) ⌝ }
-    ensures { λ r. ⌜ r ≡ openOther (view s (words (now (mem .entry)))) (t .0) (k .0) ⌝ }
+    requires { ⌜ Suffices s (now mem) ⌝ }
+    ensures { λ r. ⌜ r ≡ openOther (viewOf s (now (mem .entry))) (t .0) (k .0) ⌝ }
 {
     let me = t.0;
     let number = k.0;
@@ -92,8 +89,8 @@ fn is_other(t: Transaction, k: Transaction) -> bool
 
 // Whether a transaction other than t is open.
 fn others_open(mem: &[u8], s: Sizes, t: Transaction) -> bool
-    requires { ⌜ need s * 4 ≤ length (now mem) ⌝ }
-    ensures { λ r. ⌜ r ≡ anyBelow (λ j. isOther (t .0) (getD (view s (words (now (mem .entry))) Region.Opens) j 0)) mostTransactions ⌝ }
+    requires { ⌜ Suffices s (now mem) ⌝ }
+    ensures { λ r. ⌜ r ≡ anyBelow (λ j. isOther (t .0) (getD (viewOf s (now (mem .entry)) Region.Opens) j 0)) mostTransactions ⌝ }
 {
     let mut j = 0;
     while j < MOST_TRANSACTIONS {
@@ -107,9 +104,9 @@ fn others_open(mem: &[u8], s: Sizes, t: Transaction) -> bool
 
 // Whether the record at a slot is of the row and of an open transaction other than t.
 fn holds(mem: &[u8], s: Sizes, t: Transaction, row: Row, slot: usize) -> bool
-    requires { ⌜ need s * 4 ≤ length (now mem) ⌝ }
+    requires { ⌜ Suffices s (now mem) ⌝ }
     requires { ⌜ slot < s .slots ⌝ }
-    ensures { λ r. ⌜ r ≡ holdsAt (view s (words (now (mem .entry)))) (t .0) (row .0) slot ⌝ }
+    ensures { λ r. ⌜ r ≡ holdsAt (viewOf s (now (mem .entry))) (t .0) (row .0) slot ⌝ }
 {
     let r = row.0;
     let named = read(mem, s, Region::TailRow, slot);
@@ -123,9 +120,9 @@ fn holds(mem: &[u8], s: Sizes, t: Transaction, row: Row, slot: usize) -> bool
 // Whether another open transaction than t made one of n records from slot `at` on that name the row. Most often no other is open; else each record is asked
 // for its row first, and few are the row's.
 fn records_held(mem: &[u8], s: Sizes, t: Transaction, row: Row, at: usize, n: usize) -> bool
-    requires { ⌜ need s * 4 ≤ length (now mem) ⌝ }
+    requires { ⌜ Suffices s (now mem) ⌝ }
     requires { ⌜ (at + n ≤ s .slots) × (s .slots ≤ 8192) ⌝ }
-    ensures { λ r. ⌜ r ≡ anyBelow (λ i. holdsAt (view s (words (now (mem .entry)))) (t .0) (row .0) (at + i)) n ⌝ }
+    ensures { λ r. ⌜ r ≡ anyBelow (λ i. holdsAt (viewOf s (now (mem .entry))) (t .0) (row .0) (at + i)) n ⌝ }
 {
     if !others_open(mem, s, t) {
         return false;
@@ -142,11 +139,11 @@ fn records_held(mem: &[u8], s: Sizes, t: Transaction, row: Row, at: usize, n: us
 
 // Whether another open transaction than t inserted, updated or deleted the row.
 pub fn held(mem: &[u8], s: Sizes, t: Transaction, row: Row) -> bool
-    requires { ⌜ need s * 4 ≤ length (now mem) ⌝ }
+    requires { ⌜ Suffices s (now mem) ⌝ }
     requires { ⌜ Proper s ⌝ }
-    requires { ⌜ Linked s (view s (words (now mem))) ⌝ }
-    requires { ⌜ row .0 < rowsGiven (view s (words (now mem))) ⌝ }
-    ensures { λ r. ⌜ r ≡ heldIn (shapeIn s) (view s (words (now (mem .entry)))) (t .0) (row .0) ⌝ }
+    requires { ⌜ Linked s (viewOf s (now mem)) ⌝ }
+    requires { ⌜ row .0 < rowsGiven (viewOf s (now mem)) ⌝ }
+    ensures { λ r. ⌜ r ≡ heldIn (shapeIn s) (viewOf s (now (mem .entry))) (t .0) (row .0) ⌝ }
 {
     let inserter = Transaction(read(mem, s, Region::RowTransaction, row.0 as usize));
     if open_other(mem, s, t, inserter) {
@@ -182,9 +179,9 @@ fn is_delete(named: Row, row: Row, kind: u32) -> bool
 // Whether one of n records from slot `at` on is a delete of the row, whoever made it. One flag is carried to the end: a loop with an early exit does not
 // vectorise.
 fn any_delete(mem: &[u8], s: Sizes, row: Row, at: usize, n: usize) -> bool
-    requires { ⌜ need s * 4 ≤ length (now mem) ⌝ }
+    requires { ⌜ Suffices s (now mem) ⌝ }
     requires { ⌜ (at + n ≤ s .slots) × (s .slots ≤ 8192) ⌝ }
-    ensures { λ r. ⌜ r ≡ anyBelow (λ i. deletesAt (view s (words (now (mem .entry)))) (row .0) (at + i)) n ⌝ }
+    ensures { λ r. ⌜ r ≡ anyBelow (λ i. deletesAt (viewOf s (now (mem .entry))) (row .0) (at + i)) n ⌝ }
 {
     let mut flag = false;
     let mut i = 0;
@@ -199,9 +196,9 @@ fn any_delete(mem: &[u8], s: Sizes, row: Row, at: usize, n: usize) -> bool
 
 // Whether the record at a slot ends the row in t's view.
 fn ends(mem: &[u8], s: Sizes, t: Transaction, row: Row, slot: usize) -> bool
-    requires { ⌜ need s * 4 ≤ length (now mem) ⌝ }
+    requires { ⌜ Suffices s (now mem) ⌝ }
     requires { ⌜ slot < s .slots ⌝ }
-    ensures { λ r. ⌜ r ≡ endsAt (view s (words (now (mem .entry)))) (t .0) (row .0) slot ⌝ }
+    ensures { λ r. ⌜ r ≡ endsAt (viewOf s (now (mem .entry))) (t .0) (row .0) slot ⌝ }
 {
     let named = Row(read(mem, s, Region::TailRow, slot));
     let kind = read(mem, s, Region::TailKind, slot);
@@ -216,9 +213,9 @@ fn ends(mem: &[u8], s: Sizes, t: Transaction, row: Row, slot: usize) -> bool
 // Whether one of n records from slot `at` on ends the row in t's view. Most often none is a delete of the row at all, which a look through many records tells
 // sooner than asking them one by one.
 fn ended(mem: &[u8], s: Sizes, t: Transaction, row: Row, at: usize, n: usize) -> bool
-    requires { ⌜ need s * 4 ≤ length (now mem) ⌝ }
+    requires { ⌜ Suffices s (now mem) ⌝ }
     requires { ⌜ (at + n ≤ s .slots) × (s .slots ≤ 8192) ⌝ }
-    ensures { λ r. ⌜ r ≡ anyBelow (λ i. endsAt (view s (words (now (mem .entry)))) (t .0) (row .0) (at + i)) n ⌝ }
+    ensures { λ r. ⌜ r ≡ anyBelow (λ i. endsAt (viewOf s (now (mem .entry))) (t .0) (row .0) (at + i)) n ⌝ }
 {
     if n >= MANY {
         if !any_delete(mem, s, row, at, n) {
@@ -237,11 +234,11 @@ fn ended(mem: &[u8], s: Sizes, t: Transaction, row: Row, at: usize, n: usize) ->
 
 // Whether the row is deleted or its insert aborted, in t's own view, for a row that is not held.
 pub fn gone(mem: &[u8], s: Sizes, t: Transaction, row: Row) -> bool
-    requires { ⌜ need s * 4 ≤ length (now mem) ⌝ }
+    requires { ⌜ Suffices s (now mem) ⌝ }
     requires { ⌜ Proper s ⌝ }
-    requires { ⌜ Linked s (view s (words (now mem))) ⌝ }
-    requires { ⌜ row .0 < rowsGiven (view s (words (now mem))) ⌝ }
-    ensures { λ r. ⌜ r ≡ goneIn (shapeIn s) (view s (words (now (mem .entry)))) (t .0) (row .0) ⌝ }
+    requires { ⌜ Linked s (viewOf s (now mem)) ⌝ }
+    requires { ⌜ row .0 < rowsGiven (viewOf s (now mem)) ⌝ }
+    ensures { λ r. ⌜ r ≡ goneIn (shapeIn s) (viewOf s (now (mem .entry))) (t .0) (row .0) ⌝ }
 {
     let i = row.0 as usize;
     let inserter = Transaction(read(mem, s, Region::RowTransaction, i));
@@ -267,9 +264,9 @@ pub fn bad_mask(columns: usize, mask: u32) -> bool
 
 // Whether the range g lacks n more tail records.
 pub fn lacks_records(mem: &[u8], s: Sizes, g: usize, n: u32) -> bool
-    requires { ⌜ need s * 4 ≤ length (now mem) ⌝ }
+    requires { ⌜ Suffices s (now mem) ⌝ }
     requires { ⌜ g < s .ranges ⌝ }
-    ensures { λ r. ⌜ r ≡ ltb (s .capacity) (usedIn (view s (words (now (mem .entry)))) g + n) ⌝ }
+    ensures { λ r. ⌜ r ≡ ltb (s .capacity) (usedIn (viewOf s (now (mem .entry))) g + n) ⌝ }
 {
     let used = read(mem, s, Region::Used, g) as usize;
     used + n as usize > s.capacity
@@ -277,8 +274,8 @@ pub fn lacks_records(mem: &[u8], s: Sizes, g: usize, n: u32) -> bool
 
 // Whether transaction k is open, as `open_place` finds it. Every place is looked at, with no early exit, so that a loop over records that asks it vectorises.
 fn is_open(mem: &[u8], s: Sizes, k: Transaction) -> bool
-    requires { ⌜ need s * 4 ≤ length (now mem) ⌝ }
-    ensures { λ r. ⌜ r ≡ openIn (view s (words (now (mem .entry)))) (k .0) ⌝ }
+    requires { ⌜ Suffices s (now mem) ⌝ }
+    ensures { λ r. ⌜ r ≡ openIn (viewOf s (now (mem .entry))) (k .0) ⌝ }
 {
     let number = k.0;
     let mut flag = false;
@@ -293,10 +290,10 @@ fn is_open(mem: &[u8], s: Sizes, k: Transaction) -> bool
 
 // Whether one of the tail records 1 to `through` of range g belongs to an open transaction. As in `is_open` there is no early exit.
 pub fn any_open(mem: &[u8], s: Sizes, g: usize, through: Tail) -> bool
-    requires { ⌜ need s * 4 ≤ length (now mem) ⌝ }
+    requires { ⌜ Suffices s (now mem) ⌝ }
     requires { ⌜ Proper s ⌝ }
     requires { ⌜ (g < s .ranges) × (through .0 ≤ s .capacity) ⌝ }
-    ensures { λ r. ⌜ r ≡ openAmongIn (shapeIn s) (view s (words (now (mem .entry)))) g (through .0) ⌝ }
+    ensures { λ r. ⌜ r ≡ openAmongIn (shapeIn s) (viewOf s (now (mem .entry))) g (through .0) ⌝ }
 {
     let n = through.0 as usize;
     let at = g * s.capacity;

@@ -9,7 +9,7 @@ use borrow.Fn.Function.{fnOf}
 use borrow.Fn.World.{World}
 use borrow.Fn.Written.{Holds}
 use Rattle.terms.specs.declared.Answer.{Answer}
-use Rattle.terms.specs.declared.Place.{Place}
+use Rattle.terms.specs.declared.ScanEntry.{ScanEntry}
 use Rattle.lent.proofs.Plain.{Plain, struct-of, res}
 use Rattle.lent.proofs.Further.{Further}
 use Rattle.lent.proofs.Hands.{Vals}
@@ -31,7 +31,7 @@ reply = struct-of Reply-type.the-type Reply-laws.the-laws Reply-laws.the-copy Re
 abbrev encoded : Answer → Reply → Type 0
 encoded a r = r ≡ replyOf a
 
-module _ (way : law.Way) (l : ℕ) (fs : List (Further 2 2 (law.loans way) l)) (promised : List ℕ → List Place → Vals fs → Answer → List ℕ → List Place → Type 0) (w : World) (γ : Env) (k call : Name) (ρ : Routine) where
+module _ (way : law.Way) (l : ℕ) (fs : List (Further 2 2 (law.loans way) l)) (promised : List ℕ → List ScanEntry → Vals fs → Answer → List ℕ → List ScanEntry → Type 0) (w : World) (γ : Env) (k call : Name) (ρ : Routine) where
   pub exported : Closed (w .𝓤) (w .H) (tables (w .𝓤) (w .H) (w .𝓜) (w .𝓡) γ .C) (tables (w .𝓤) (w .H) (w .𝓜) (w .𝓡) γ .Λ) k (fnOf (up 2 l) (law.ps l call encode.name answer reply way fs) (res reply) (law.xs l call encode.name answer reply way) 0 [] (law.body l call encode.name answer reply way fs))
       → γ call ≡ ρ
       → Holds (up 2 l) (law.ps-core l call encode.name answer reply way fs) (res answer) (Unit {0}) (written.free (up 2 l) (law.ps-core l call encode.name answer reply way fs) (res answer) (law.Q-core l call encode.name answer reply way fs promised)) (written.ens (up 2 l) (law.ps-core l call encode.name answer reply way fs) (res answer) (law.Q-core l call encode.name answer reply way fs promised)) w (w .𝓡 .run ρ)

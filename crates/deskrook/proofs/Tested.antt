@@ -5,7 +5,7 @@ use mathlib.Core.Bool.{Bool, true, false, cond}
 use mathlib.Core.List.{List}
 use Rattle.pages.specs.Checked.{checked}
 use Rattle.terms.specs.declared.Answer.{Answer}
-use Rattle.terms.specs.declared.Place.{Place}
+use Rattle.terms.specs.declared.ScanEntry.{ScanEntry}
 use Rattle.terms.specs.declared.Refusal.{Refusal}
 use Rattle.words.specs.Words.{words}
 use Rattle.facts.specs.declared.Checked.{Checked}
@@ -17,7 +17,7 @@ abbrev pub passed : Checked → Answer
 passed (Fit s) = Answer.Done
 passed Unfit = Answer.Refused Refusal.Memory
 
-pub tested : (m : List ℕ) (ps : List Place) (x : Checked) → x ≡ checked m ps → passed x ≡ usability m ps
+pub tested : (m : List ℕ) (ps : List ScanEntry) (x : Checked) → x ≡ checked m ps → passed x ≡ usability m ps
 unfolding usability checked
 tested m ps x e = ap passed e ∙ go (usable m ps)
   where

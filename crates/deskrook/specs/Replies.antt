@@ -9,7 +9,7 @@ use mir.Val.{ofZ}
 use Rattle.terms.specs.Measures.{Shape}
 use Rattle.terms.specs.Refusals.{refusalNumber}
 use Rattle.terms.specs.declared.Answer.{Answer}
-use Rattle.terms.specs.declared.Place.{Place}
+use Rattle.terms.specs.declared.ScanEntry.{ScanEntry}
 use Rattle.terms.specs.declared.Refusal.{Refusal}
 use Rattle.facts.specs.Usable.{usable}
 use Rattle.history.specs.History.{Call}
@@ -29,12 +29,12 @@ replyOf (Answer.Lineage n m) = record { result = 0; first = n; second = m; sum =
 abbrev pub Replied : (Answer → Type 0) → Reply → Type 0
 Replied P r = (a : Answer) × P a × (r ≡ replyOf a)
 
-unfoldable pub Replies : List ℕ → List Place → Call → Reply → List ℕ → List Place → Type 0
+unfoldable pub Replies : List ℕ → List ScanEntry → Call → Reply → List ℕ → List ScanEntry → Type 0
 Replies m ps c r m′ ps′ = Replied (λ a. Serves m ps c a m′ ps′) r
 
-unfoldable pub RepliesMade : List ℕ → List Place → Shape → Reply → List ℕ → List Place → Type 0
+unfoldable pub RepliesMade : List ℕ → List ScanEntry → Shape → Reply → List ℕ → List ScanEntry → Type 0
 RepliesMade m ps S r m′ ps′ = Replied (λ a. Makes m ps S a m′ ps′) r
 
 -- whether memory and list are usable, as an answer
-unfoldable pub usability : List ℕ → List Place → Answer
+unfoldable pub usability : List ℕ → List ScanEntry → Answer
 usability m ps = cond (usable m ps) Answer.Done (Answer.Refused Refusal.Memory)

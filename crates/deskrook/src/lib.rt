@@ -7,20 +7,20 @@ use lent::table;
 use reply::Reply;
 use reply::check_reply;
 use reply::encode;
-use terms::Place;
 use terms::Row;
+use terms::ScanEntry;
 use terms::Stamp;
 use terms::Tail;
 use terms::Transaction;
 ghost use mathlib.Core.Path.{_≡_};
 ghost use Rattle.layout.specs.Sizes.{shapeOf, BytesTold};
 ghost use Rattle.history.specs.History.{Call};
-ghost use Rattle.calls.specs.Values.{sixteen};
+ghost use Rattle.calls.specs.Values.{padded};
 ghost use Rattle.deskrook.specs.Replies.{replyOf, usability, Replied, Replies, RepliesMade};
 
 // A transaction is opened; the answer is its number.
 #[no_mangle]
-pub extern "C" fn deskrook_begin(mem: &mut [u8], scans: &[Place]) -> Reply
+pub extern "C" fn deskrook_begin(mem: &mut [u8], scans: &[ScanEntry]) -> Reply
     ensures { λ r. ⌜ Replies (now (mem .entry)) (now (scans .entry)) Call.begin r (now (mem .exit)) (now (scans .entry)) ⌝ }
 {
     encode(calls::begin(mem, scans))
@@ -30,11 +30,11 @@ pub extern "C" fn deskrook_begin(mem: &mut [u8], scans: &[Place]) -> Reply
 #[no_mangle]
 pub extern "C" fn deskrook_insert(
     mem: &mut [u8],
-    scans: &[Place],
+    scans: &[ScanEntry],
     transaction: Transaction,
     values: &[i32],
 ) -> Reply
-    ensures { λ r. ⌜ Replies (now (mem .entry)) (now (scans .entry)) (Call.insert (transaction .0) (sixteen (now (values .entry)))) r (now (mem .exit)) (now (scans .entry)) ⌝ }
+    ensures { λ r. ⌜ Replies (now (mem .entry)) (now (scans .entry)) (Call.insert (transaction .0) (padded (now (values .entry)))) r (now (mem .exit)) (now (scans .entry)) ⌝ }
 {
     encode(calls::insert(mem, scans, transaction, values))
 }
@@ -43,13 +43,13 @@ pub extern "C" fn deskrook_insert(
 #[no_mangle]
 pub extern "C" fn deskrook_update(
     mem: &mut [u8],
-    scans: &[Place],
+    scans: &[ScanEntry],
     transaction: Transaction,
     row: Row,
     mask: u16,
     values: &[i32],
 ) -> Reply
-    ensures { λ r. ⌜ Replies (now (mem .entry)) (now (scans .entry)) (Call.update (transaction .0) (row .0) mask (sixteen (now (values .entry)))) r (now (mem .exit)) (now (scans .entry)) ⌝ }
+    ensures { λ r. ⌜ Replies (now (mem .entry)) (now (scans .entry)) (Call.update (transaction .0) (row .0) mask (padded (now (values .entry)))) r (now (mem .exit)) (now (scans .entry)) ⌝ }
 {
     encode(calls::update(mem, scans, transaction, row, mask, values))
 }
@@ -58,7 +58,7 @@ pub extern "C" fn deskrook_update(
 #[no_mangle]
 pub extern "C" fn deskrook_delete(
     mem: &mut [u8],
-    scans: &[Place],
+    scans: &[ScanEntry],
     transaction: Transaction,
     row: Row,
 ) -> Reply
@@ -71,7 +71,7 @@ pub extern "C" fn deskrook_delete(
 #[no_mangle]
 pub extern "C" fn deskrook_commit(
     mem: &mut [u8],
-    scans: &[Place],
+    scans: &[ScanEntry],
     transaction: Transaction,
     stamp: Stamp,
 ) -> Reply
@@ -82,7 +82,11 @@ pub extern "C" fn deskrook_commit(
 
 // What a transaction has changed is as if it had not been.
 #[no_mangle]
-pub extern "C" fn deskrook_abort(mem: &mut [u8], scans: &[Place], transaction: Transaction) -> Reply
+pub extern "C" fn deskrook_abort(
+    mem: &mut [u8],
+    scans: &[ScanEntry],
+    transaction: Transaction,
+) -> Reply
     ensures { λ r. ⌜ Replies (now (mem .entry)) (now (scans .entry)) (Call.abort (transaction .0)) r (now (mem .exit)) (now (scans .entry)) ⌝ }
 {
     encode(calls::abort(mem, scans, transaction))
@@ -92,7 +96,7 @@ pub extern "C" fn deskrook_abort(mem: &mut [u8], scans: &[Place], transaction: T
 #[no_mangle]
 pub extern "C" fn deskrook_merge(
     mem: &mut [u8],
-    scans: &[Place],
+    scans: &[ScanEntry],
     range: u32,
     column: u32,
     through: Tail,
@@ -104,7 +108,7 @@ pub extern "C" fn deskrook_merge(
 
 // Every waiting page that no open scan needs is free again; the answer is how many.
 #[no_mangle]
-pub extern "C" fn deskrook_release(mem: &mut [u8], scans: &[Place]) -> Reply
+pub extern "C" fn deskrook_release(mem: &mut [u8], scans: &[ScanEntry]) -> Reply
     ensures { λ r. ⌜ Replies (now (mem .entry)) (now (scans .entry)) Call.release r (now (mem .exit)) (now (scans .entry)) ⌝ }
 {
     encode(calls::release(mem, scans))
@@ -112,7 +116,7 @@ pub extern "C" fn deskrook_release(mem: &mut [u8], scans: &[Place]) -> Reply
 
 // The value of a row and column by the last commit.
 #[no_mangle]
-pub extern "C" fn deskrook_latest(mem: &[u8], scans: &[Place], row: Row, column: u32) -> Reply
+pub extern "C" fn deskrook_latest(mem: &[u8], scans: &[ScanEntry], row: Row, column: u32) -> Reply
     ensures { λ r. ⌜ Replies (now (mem .entry)) (now (scans .entry)) (Call.latest (row .0) column) r (now (mem .entry)) (now (scans .entry)) ⌝ }
 {
     encode(calls::latest(mem, scans, row, column))
@@ -122,7 +126,7 @@ pub extern "C" fn deskrook_latest(mem: &[u8], scans: &[Place], row: Row, column:
 #[no_mangle]
 pub extern "C" fn deskrook_read_at(
     mem: &[u8],
-    scans: &[Place],
+    scans: &[ScanEntry],
     stamp: Stamp,
     row: Row,
     column: u32,
@@ -136,7 +140,7 @@ pub extern "C" fn deskrook_read_at(
 #[no_mangle]
 pub extern "C" fn deskrook_own_read(
     mem: &[u8],
-    scans: &[Place],
+    scans: &[ScanEntry],
     transaction: Transaction,
     row: Row,
     column: u32,
@@ -150,7 +154,7 @@ pub extern "C" fn deskrook_own_read(
 #[no_mangle]
 pub extern "C" fn deskrook_scan_read(
     mem: &[u8],
-    scans: &[Place],
+    scans: &[ScanEntry],
     scan: u32,
     row: Row,
     column: u32,
@@ -162,7 +166,7 @@ pub extern "C" fn deskrook_scan_read(
 
 // The count of the rows that an open scan sees, and the sum of their values of a column.
 #[no_mangle]
-pub extern "C" fn deskrook_sum(mem: &[u8], scans: &[Place], scan: u32, column: u32) -> Reply
+pub extern "C" fn deskrook_sum(mem: &[u8], scans: &[ScanEntry], scan: u32, column: u32) -> Reply
     ensures { λ r. ⌜ Replies (now (mem .entry)) (now (scans .entry)) (Call.sum scan column) r (now (mem .entry)) (now (scans .entry)) ⌝ }
 {
     encode(calls::sum(mem, scans, scan, column))
@@ -170,7 +174,12 @@ pub extern "C" fn deskrook_sum(mem: &[u8], scans: &[Place], scan: u32, column: u
 
 // What the current page of a column holds for a row.
 #[no_mangle]
-pub extern "C" fn deskrook_page_cell(mem: &[u8], scans: &[Place], column: u32, row: Row) -> Reply
+pub extern "C" fn deskrook_page_cell(
+    mem: &[u8],
+    scans: &[ScanEntry],
+    column: u32,
+    row: Row,
+) -> Reply
     ensures { λ r. ⌜ Replies (now (mem .entry)) (now (scans .entry)) (Call.pageCell column (row .0)) r (now (mem .entry)) (now (scans .entry)) ⌝ }
 {
     encode(calls::page_cell(mem, scans, column, row))
@@ -178,7 +187,12 @@ pub extern "C" fn deskrook_page_cell(mem: &[u8], scans: &[Place], column: u32, r
 
 // The record through which the current page of a range and column is merged, and the records used of the range.
 #[no_mangle]
-pub extern "C" fn deskrook_lineage(mem: &[u8], scans: &[Place], range: u32, column: u32) -> Reply
+pub extern "C" fn deskrook_lineage(
+    mem: &[u8],
+    scans: &[ScanEntry],
+    range: u32,
+    column: u32,
+) -> Reply
     ensures { λ r. ⌜ Replies (now (mem .entry)) (now (scans .entry)) (Call.lineage range column) r (now (mem .entry)) (now (scans .entry)) ⌝ }
 {
     encode(calls::lineage(mem, scans, range, column))
@@ -186,7 +200,7 @@ pub extern "C" fn deskrook_lineage(mem: &[u8], scans: &[Place], range: u32, colu
 
 // A scan is opened at a stamp; the answer is its number.
 #[no_mangle]
-pub extern "C" fn deskrook_open_scan(mem: &mut [u8], scans: &mut [Place], stamp: Stamp) -> Reply
+pub extern "C" fn deskrook_open_scan(mem: &mut [u8], scans: &mut [ScanEntry], stamp: Stamp) -> Reply
     ensures { λ r. ⌜ Replies (now (mem .entry)) (now (scans .entry)) (Call.openScan (stamp .0)) r (now (mem .exit)) (now (scans .exit)) ⌝ }
 {
     encode(calls::open_scan(mem, scans, stamp))
@@ -194,7 +208,7 @@ pub extern "C" fn deskrook_open_scan(mem: &mut [u8], scans: &mut [Place], stamp:
 
 // A scan is closed: its place is free again.
 #[no_mangle]
-pub extern "C" fn deskrook_close_scan(mem: &[u8], scans: &mut [Place], scan: u32) -> Reply
+pub extern "C" fn deskrook_close_scan(mem: &[u8], scans: &mut [ScanEntry], scan: u32) -> Reply
     ensures { λ r. ⌜ Replies (now (mem .entry)) (now (scans .entry)) (Call.close scan) r (now (mem .entry)) (now (scans .exit)) ⌝ }
 {
     encode(calls::close_scan(mem, scans, scan))
@@ -204,7 +218,7 @@ pub extern "C" fn deskrook_close_scan(mem: &[u8], scans: &mut [Place], scan: u32
 #[no_mangle]
 pub extern "C" fn deskrook_make(
     mem: &mut [u8],
-    scans: &mut [Place],
+    scans: &mut [ScanEntry],
     columns: u32,
     ranges: u32,
     capacity: u32,
@@ -230,7 +244,7 @@ pub extern "C" fn deskrook_bytes_needed(
 
 // Whether memory and list are usable: 2 where a call on them would be refused so.
 #[no_mangle]
-pub extern "C" fn deskrook_check(mem: &[u8], scans: &[Place]) -> Reply
+pub extern "C" fn deskrook_check(mem: &[u8], scans: &[ScanEntry]) -> Reply
     ensures { λ r. ⌜ r ≡ replyOf (usability (now (mem .entry)) (now (scans .entry))) ⌝ }
 {
     let t = table(scans);

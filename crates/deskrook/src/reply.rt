@@ -8,7 +8,7 @@ use terms::number;
 use words::to_word;
 ghost use mathlib.Core.Path.{_≡_};
 ghost use mathlib.Core.List.{List};
-ghost use Rattle.terms.specs.declared.Place.{Place};
+ghost use Rattle.terms.specs.declared.ScanEntry.{ScanEntry};
 ghost use Rattle.scans.specs.Table.{tableOf};
 ghost use Rattle.deskrook.specs.Replies.{replyOf, usability};
 
@@ -74,7 +74,7 @@ pub fn encode(answer: Answer) -> Reply
 }
 
 pub fn check_reply(mem: &[u8], t: Scans) -> Reply
-    ensures { λ r. ⌜ ((ps : List Place) → t ≡ tableOf ps → r ≡ replyOf (usability (now (mem .entry)) ps)) ⌝ }
+    ensures { λ r. ⌜ ((ps : List ScanEntry) → t ≡ tableOf ps → r ≡ replyOf (usability (now (mem .entry)) ps)) ⌝ }
 {
     match check(mem, t) {
         Checked::Fit(_) => encode(Answer::Done),

@@ -11,7 +11,7 @@ use Rattle.layout.specs.declared.Sizes.{Sizes}
 use Rattle.layout.specs.declared.Region.the-variants.{Current, PageState, PagePlace}
 use Rattle.layout.specs.Regions.{need, slot}
 use Rattle.layout.specs.Sizes.{Proper, tooManyWords}
-use Rattle.layout.specs.View.{View, view, rowsGiven, usedIn}
+use Rattle.layout.specs.View.{View, rowsGiven, usedIn, viewOf}
 use Rattle.layout.proofs.Limits.{need-small, proper as proper-of}
 use Rattle.loops.proofs.Search.{and-true}
 use Rattle.loops.specs.declared.Found.{Found}
@@ -64,7 +64,7 @@ module _ (s : Sizes) (v : View) (proper : Proper s) (facts : MemoryFacts s v) wh
 pub fit-tells : (s : Sizes) (m : List ℕ) → Passed s m → Fitted s m
 unfolding storedSizes
 fit-tells s m x =
-    let v = view s (words m) in
+    let v = viewOf s m in
     let proper : Proper s = subst Proper (sym (x .sizes-are)) (proper-of (storedShape (words m)) (x .within)) in
     let k = stored s v (x .facts .counts) in
     record {

@@ -8,7 +8,7 @@ use lib.Dec.{eqb}
 use lib.ListN.{length, getD}
 use borrow.Author.Tests.{eq-eqb}
 use Rattle.terms.specs.Measures.{mostScans}
-use Rattle.terms.specs.declared.Place.{Place}
+use Rattle.terms.specs.declared.ScanEntry.{ScanEntry}
 use Rattle.loops.specs.declared.Found.the-variants.{At, Nothing}
 use Rattle.loops.specs.declared.Found.{Found}
 use Rattle.loops.specs.Search.{firstAt}
@@ -18,14 +18,14 @@ use Rattle.scans.specs.declared.Scans.{Scans}
 use Rattle.scans.specs.Places.{openCount}
 use Rattle.scans.specs.Table.{tableOf, findIn}
 use Rattle.scans.proofs.Answers.{table-finds, table-lacks}
-use Rattle.terms.specs.Places.{freePlace, place, bears, isScan}
-use Rattle.model.specs.Stored.{scanPlace}
+use Rattle.terms.specs.Places.{freeEntry, place, bears, isScan}
+use Rattle.model.specs.Stored.{scanEntry}
 use Rattle.model.specs.Calls.{noScanIn}
 
 -- ---- the first that passes
 
-module _ (f : Place → Bool) where
-  none-passes : (ps : List Place) → place f ps ≡ length ps → any f ps ≡ false
+module _ (f : ScanEntry → Bool) where
+  none-passes : (ps : List ScanEntry) → place f ps ≡ length ps → any f ps ≡ false
   none-passes [] e = refl
   none-passes (p ∷ ps) e = go (f p) (none-passes ps) e
     where
@@ -33,12 +33,12 @@ module _ (f : Place → Bool) where
       go true ih q = absurd (omega (arith, q))
       go false ih q = ih (omega (arith, q))
 
-  one-passes : (ps : List Place) → f freePlace ≡ false → f (getD ps (place f ps) freePlace) ≡ true → any f ps ≡ true
+  one-passes : (ps : List ScanEntry) → f freeEntry ≡ false → f (getD ps (place f ps) freeEntry) ≡ true → any f ps ≡ true
   one-passes [] e q = sym e ∙ q
   one-passes (p ∷ ps) e q = go (f p) refl (one-passes ps e) q
     where
-      go : (b : Bool) → f p ≡ b → (f (getD ps (place f ps) freePlace) ≡ true → any f ps ≡ true)
-          → f (getD (p ∷ ps) (cond b 0 (suc (place f ps))) freePlace) ≡ true → (b || any f ps) ≡ true
+      go : (b : Bool) → f p ≡ b → (f (getD ps (place f ps) freeEntry) ≡ true → any f ps ≡ true)
+          → f (getD (p ∷ ps) (cond b 0 (suc (place f ps))) freeEntry) ≡ true → (b || any f ps) ≡ true
       go true h ih r = refl
       go false h ih r = ih r
 
@@ -46,7 +46,7 @@ module _ (f : Place → Bool) where
 
 module _ (k : ℕ) where
   -- what is found has a number
-  numbered : (ps : List Place) (j : ℕ) → findIn (tableOf ps) k ≡ At j → eqb k 0 ≡ false
+  numbered : (ps : List ScanEntry) (j : ℕ) → findIn (tableOf ps) k ≡ At j → eqb k 0 ≡ false
   unfolding findIn
   numbered ps j e = go (eqb k 0) e
     where
@@ -57,7 +57,7 @@ module _ (k : ℕ) where
       go true q = absurd (clash q)
       go false q = refl
 
-  module _ (ps : List Place) (few : openCount ps ≤ mostScans) where
+  module _ (ps : List ScanEntry) (few : openCount ps ≤ mostScans) where
     pub scan-lacks : findIn (tableOf ps) k ≡ Nothing → noScanIn ps k ≡ true
     unfolding noScanIn
     scan-lacks e = rw (none-passes (isScan k) ps (table-lacks ps few k e))
@@ -66,30 +66,30 @@ module _ (k : ℕ) where
     unfolding noScanIn
     scan-open j e =
         let t = table-finds ps few k j e in
-        let b : isScan k (getD ps (place (isScan k) ps) freePlace) ≡ true = ap (bears k) (t .number-is) ∙ rw (numbered ps j e, eq-eqb k k refl) in
+        let b : isScan k (getD ps (place (isScan k) ps) freeEntry) ≡ true = ap (bears k) (t .number-is) ∙ rw (numbered ps j e, eq-eqb k k refl) in
         rw (one-passes (isScan k) ps refl b)
 
     pub scan-at : (j : ℕ) → findIn (tableOf ps) k ≡ At j → place (isScan k) ps ≡ getD (tableOf ps .places) j 0
     scan-at j e = sym (table-finds ps few k j e .place-is)
 
     -- the scan's stamp and merges, as the table has them
-    pub scan-stamp : (j : ℕ) → findIn (tableOf ps) k ≡ At j → getD (tableOf ps .stamps) j 0 ≡ scanPlace ps k .stamp
-    unfolding scanPlace
+    pub scan-stamp : (j : ℕ) → findIn (tableOf ps) k ≡ At j → getD (tableOf ps .stamps) j 0 ≡ scanEntry ps k .stamp
+    unfolding scanEntry
     scan-stamp j e = table-finds ps few k j e .stamp-is
 
-    pub scan-merges : (j : ℕ) → findIn (tableOf ps) k ≡ At j → getD (tableOf ps .merges) j 0 ≡ scanPlace ps k .merges
-    unfolding scanPlace
+    pub scan-merges : (j : ℕ) → findIn (tableOf ps) k ≡ At j → getD (tableOf ps .merges) j 0 ≡ scanEntry ps k .merges
+    unfolding scanEntry
     scan-merges j e = table-finds ps few k j e .merges-is
 
-    pub scan-number : (j : ℕ) → findIn (tableOf ps) k ≡ At j → k ≡ scanPlace ps k .number
-    unfolding scanPlace
+    pub scan-number : (j : ℕ) → findIn (tableOf ps) k ≡ At j → k ≡ scanEntry ps k .number
+    unfolding scanEntry
     scan-number j e = sym (table-finds ps few k j e .number-is)
 
 -- ---- a table and the list that it stands for
 
 module _ (t : Scans) where
   -- a scan is found in the one as in the other
-  pub in-table : (ps : List Place) → t ≡ tableOf ps → (k : ℕ) (f : Found) → findIn t k ≡ f → findIn (tableOf ps) k ≡ f
+  pub in-table : (ps : List ScanEntry) → t ≡ tableOf ps → (k : ℕ) (f : Found) → findIn t k ≡ f → findIn (tableOf ps) k ≡ f
   in-table ps q k f g = ap (λ (x : Scans). findIn x k) (sym q) ∙ g
 
   -- a scan that was found is an entry of the table

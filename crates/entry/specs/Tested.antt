@@ -3,10 +3,9 @@ use Prim.Native.Nat.{ℕ, _≤_}
 use mathlib.Core.Path.{_≡_}
 use mathlib.Core.List.{List}
 use Rattle.terms.specs.Measures.{mostScans}
-use Rattle.terms.specs.declared.Place.{Place}
-use Rattle.words.specs.Words.{words}
+use Rattle.terms.specs.declared.ScanEntry.{ScanEntry}
 use Rattle.layout.specs.declared.Sizes.{Sizes}
-use Rattle.layout.specs.View.{view}
+use Rattle.layout.specs.View.{viewOf}
 use Rattle.history.specs.History.{Call, Verdict, accept, refuse, verdict}
 use Rattle.scans.specs.declared.Scans.{Scans}
 use Rattle.scans.specs.Places.{openCount}
@@ -27,8 +26,8 @@ Finds (Tested.Failed x) P = Unit {0}
 
 -- the tests of call c on the memory m, whatever the scan list
 unfoldable pub Tests : Sizes → List ℕ → Call → Tested → Type 0
-Tests s m c r = (ps : List Place) → Says r (verdict (testsIn (shapeIn s) (view s (words m)) ps c))
+Tests s m c r = (ps : List ScanEntry) → Says r (verdict (testsIn (shapeIn s) (viewOf s m) ps c))
 
 -- and by every scan list that a table stands for, and that a usable store may have
 unfoldable pub TestsBy : Scans → Sizes → List ℕ → Call → Tested → Type 0
-TestsBy t s m c r = (ps : List Place) → t ≡ tableOf ps → openCount ps ≤ mostScans → Says r (verdict (testsIn (shapeIn s) (view s (words m)) ps c))
+TestsBy t s m c r = (ps : List ScanEntry) → t ≡ tableOf ps → openCount ps ≤ mostScans → Says r (verdict (testsIn (shapeIn s) (viewOf s m) ps c))

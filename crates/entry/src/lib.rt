@@ -15,11 +15,8 @@ use terms::Refusal;
 use terms::Row;
 use terms::Stamp;
 ghost use mathlib.Core.Path.{_≡_};
-ghost use Prim.Native.Nat.{_*_, _≤_};
-ghost use lib.ListN.{length};
-ghost use Rattle.words.specs.Words.{words};
-ghost use Rattle.layout.specs.Regions.{need};
-ghost use Rattle.layout.specs.View.{view, lastStamp};
+ghost use Prim.Native.Nat.{_*_};
+ghost use Rattle.layout.specs.View.{lastStamp, viewOf, Suffices};
 ghost use Rattle.history.specs.History.{noColumn, noRange};
 ghost use Rattle.model.specs.Calls.{notLaterIn, laterIn};
 ghost use Rattle.model.specs.Asked.{shapeIn};
@@ -50,16 +47,16 @@ pub fn enter(mem: &[u8], t: Scans) -> Entry
 
 // The stamp of the last commit.
 pub fn last_stamp(mem: &[u8], s: Sizes) -> Stamp
-    requires { ⌜ need s * 4 ≤ length (now mem) ⌝ }
-    ensures { λ r. ⌜ r .0 ≡ lastStamp (view s (words (now (mem .entry)))) ⌝ }
+    requires { ⌜ Suffices s (now mem) ⌝ }
+    ensures { λ r. ⌜ r .0 ≡ lastStamp (viewOf s (now (mem .entry))) ⌝ }
 {
     Stamp(read(mem, s, Region::Header, HEADER_STAMP))
 }
 
 // The range of a row, or nothing where the row's number is not yet given: 5.
 pub fn given_range(mem: &[u8], s: Sizes, row: Row) -> Found
-    requires { ⌜ need s * 4 ≤ length (now mem) ⌝ }
-    ensures { λ r. ⌜ r ≡ rangeGiven (view s (words (now (mem .entry)))) (row .0) ⌝ }
+    requires { ⌜ Suffices s (now mem) ⌝ }
+    ensures { λ r. ⌜ r ≡ rangeGiven (viewOf s (now (mem .entry))) (row .0) ⌝ }
 {
     if read(mem, s, Region::Header, HEADER_ROWS) <= row.0 {
         return Found::Nothing;
@@ -83,16 +80,16 @@ pub fn no_range(s: Sizes, range: u32) -> bool
 
 // 13, for a commit: not later than the last.
 pub fn not_later(mem: &[u8], s: Sizes, stamp: Stamp) -> bool
-    requires { ⌜ need s * 4 ≤ length (now mem) ⌝ }
-    ensures { λ r. ⌜ r ≡ notLaterIn (view s (words (now (mem .entry)))) (stamp .0) ⌝ }
+    requires { ⌜ Suffices s (now mem) ⌝ }
+    ensures { λ r. ⌜ r ≡ notLaterIn (viewOf s (now (mem .entry))) (stamp .0) ⌝ }
 {
     stamp.0 <= read(mem, s, Region::Header, HEADER_STAMP)
 }
 
 // 13, for a read or a scan: later than the last commit.
 pub fn later(mem: &[u8], s: Sizes, stamp: Stamp) -> bool
-    requires { ⌜ need s * 4 ≤ length (now mem) ⌝ }
-    ensures { λ r. ⌜ r ≡ laterIn (view s (words (now (mem .entry)))) (stamp .0) ⌝ }
+    requires { ⌜ Suffices s (now mem) ⌝ }
+    ensures { λ r. ⌜ r ≡ laterIn (viewOf s (now (mem .entry))) (stamp .0) ⌝ }
 {
     read(mem, s, Region::Header, HEADER_STAMP) < stamp.0
 }

@@ -3,7 +3,7 @@ use mathlib.Core.Path.{_≡_, refl, ap, sym, _∙_}
 use mathlib.Core.Bool.{Bool, true, false, _&&_}
 use mathlib.Core.List.{List, map}
 use lib.Dec.{leb}
-use Rattle.terms.specs.declared.Place.{Place}
+use Rattle.terms.specs.declared.ScanEntry.{ScanEntry}
 use Rattle.loops.specs.Search.{allBetween}
 use Rattle.loops.proofs.Search.{and-true, and-false}
 use Rattle.scans.specs.Places.{everyOpen, differ}
@@ -63,7 +63,7 @@ currents-are s v =
     let line = currentLineage s v in
     each-both (pagePlaced s v) (λ i. stamp i && line i) (s .places) ∙ ap (λ (x : Bool). each (s .places) (pagePlaced s v) && x) (each-both stamp line (s .places))
 
-pub facts-are : (s : Sizes) (v : View) (ps : List Place)
+pub facts-are : (s : Sizes) (v : View) (ps : List ScanEntry)
     → factsHold s v ps ≡ (countsWithin s v ps && (each (s .ranges) (rangeHolds s v) && (rowsHold s v && (pagesHold s v && (opensHold v && scansHold v ps)))))
 unfolding factsHold numbersGiven linksHold stampsWithin mergesWithin openDiffer lineagesWithin rowsHold waitingHold pagesHold opensHold scansHold
 facts-are s v ps =

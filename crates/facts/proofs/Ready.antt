@@ -1,5 +1,5 @@
 -- What the tests that come first tell: sizes within the limits, and counts within the sizes.
-use Prim.Native.Nat.{ℕ, _*_, _≤_}
+use Prim.Native.Nat.{ℕ, _≤_}
 use mathlib.Core.Path.{_≡_, refl, ap, sym, _∙_}
 use mathlib.Core.Bool.{Bool, true, false, not, _&&_}
 use mathlib.Core.List.{List}
@@ -8,15 +8,13 @@ use lib.Dec.{ltb}
 use lib.ListN.{length, getD, List·getD-eq-default}
 use borrow.Author.Tests.{leb-true, ltb-true, ltb-false}
 use Rattle.terms.specs.Measures.{mostScans, mostNumbers}
-use Rattle.terms.specs.declared.Place.{Place}
-use Rattle.words.specs.Words.{words}
+use Rattle.terms.specs.declared.ScanEntry.{ScanEntry}
 use Rattle.loops.specs.Search.{allBetween}
 use Rattle.loops.proofs.Search.{and-true, all-tells}
 use Rattle.layout.specs.declared.Sizes.{Sizes}
 use Rattle.layout.specs.declared.Region.the-variants.{Used}
-use Rattle.layout.specs.Regions.{need}
 use Rattle.layout.specs.Sizes.{Proper}
-use Rattle.layout.specs.View.{View, view, rowsGiven, transactionsGiven, scansGiven, usedIn}
+use Rattle.layout.specs.View.{View, rowsGiven, transactionsGiven, scansGiven, usedIn, viewOf, Suffices}
 use Rattle.scans.specs.declared.Scans.{Scans}
 use Rattle.scans.specs.Places.{openCount}
 use Rattle.scans.specs.Table.{tableOf}
@@ -53,16 +51,16 @@ stored s v e =
     }
 
 -- the flag of the counts, raised
-module _ (s : Sizes) (m : List ℕ) (t : Scans) (r : Bool) (flag : r ≡ (storedWithin s (view s (words m)) && not (t .more))) where
-  pub ready : need s * 4 ≤ length m → Proper s → r ≡ true → Ready s m
+module _ (s : Sizes) (m : List ℕ) (t : Scans) (r : Bool) (flag : r ≡ (storedWithin s (viewOf s m) && not (t .more))) where
+  pub ready : Suffices s m → Proper s → r ≡ true → Ready s m
   ready h z e =
-      let k = stored s (view s (words m)) (and-true _ _ (sym flag ∙ e) .0) in
+      let k = stored s (viewOf s m) (and-true _ _ (sym flag ∙ e) .0) in
       record { room = h; proper = z; rows-in = k .rows-to; records-in = k .records-to }
 
-  pub few : (ps : List Place) → t ≡ tableOf ps → r ≡ true → openCount ps ≤ mostScans
+  pub few : (ps : List ScanEntry) → t ≡ tableOf ps → r ≡ true → openCount ps ≤ mostScans
   few ps q e =
-      leb-true (openCount ps) mostScans (sym (more-told t ps q) ∙ and-true (storedWithin s (view s (words m))) (not (t .more)) (sym flag ∙ e) .1)
+      leb-true (openCount ps) mostScans (sym (more-told t ps q) ∙ and-true (storedWithin s (viewOf s m)) (not (t .more)) (sym flag ∙ e) .1)
 
-  pub counts-are : (ps : List Place) → t ≡ tableOf ps → countsWithin s (view s (words m)) ps ≡ r
+  pub counts-are : (ps : List ScanEntry) → t ≡ tableOf ps → countsWithin s (viewOf s m) ps ≡ r
   unfolding countsWithin
-  counts-are ps q = ap (λ (b : Bool). storedWithin s (view s (words m)) && b) (sym (more-told t ps q)) ∙ sym flag
+  counts-are ps q = ap (λ (b : Bool). storedWithin s (viewOf s m) && b) (sym (more-told t ps q)) ∙ sym flag

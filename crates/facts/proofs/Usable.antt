@@ -11,7 +11,7 @@ use lib.ListN.{length, getD, List·getD-map}
 use borrow.Author.Tests.{leb-true, ltb-true, eqb-true, eqb-false, ne-eqb, le-ltb}
 use Rattle.layout.specs.Codes.{asWaiting}
 use Rattle.terms.specs.Measures.{withinLimits, mostScans, rangeRows}
-use Rattle.terms.specs.declared.Place.{Place}
+use Rattle.terms.specs.declared.ScanEntry.{ScanEntry}
 use Rattle.words.specs.Words.{words}
 use Rattle.words.proofs.Words.{length-words}
 use Rattle.loops.specs.Search.{region, allBetween}
@@ -21,9 +21,9 @@ use Rattle.layout.specs.declared.Sizes.{Sizes}
 use Rattle.layout.specs.declared.Region.{Region}
 use Rattle.layout.specs.declared.Region.the-variants.{Opens, RowTransaction, RowStamp, RowLink, TailTransaction, TailRow, TailLink, TailStamp, Current, PageState, PagePlace, PageReplaced, PageLineage, PageNewest}
 use Rattle.layout.specs.Regions.{len, need, firstSlot}
-use Rattle.layout.specs.View.{View, view, rowsGiven, transactionsGiven, scansGiven, lastStamp, mergesMade, usedIn, Long}
+use Rattle.layout.specs.View.{View, rowsGiven, transactionsGiven, scansGiven, lastStamp, mergesMade, usedIn, Long, viewOf, Suffices}
 use Rattle.layout.proofs.View.{view-long}
-use Rattle.terms.specs.Places.{freePlace}
+use Rattle.terms.specs.Places.{freeEntry}
 use Rattle.scans.specs.Places.{openCount, everyOpen, among, differ}
 use Rattle.facts.specs.Facts.{each, rowsBetween, rangeBetween, currentAtMost, waitingAtMost, countsWithin, rowNamed, rangeNamesRows, recordsNameRows, numbersGiven, linkHolds, rowLinked, recordLinked, rangeLinked, linksHold, stampsWithin, mergesWithin, openDiffer, pagePlaced, pagesPlaced, pageRange, currentLineage, waitingLineage, lineagesWithin, factsHold}
 use Rattle.facts.specs.Usable.{storedShape, storedSizes, measuresBytes, usable}
@@ -38,7 +38,7 @@ pub record Linked (s : Sizes) (v : View) (g most r link : ℕ) : Type 0 where
   pub low : link ≤ most
   pub same : link ≢ 0 → getD (v TailRow) (firstSlot (s .capacity) g + (link - 1)) 0 ≡ r
 
-pub record Usable (s : Sizes) (v : View) (ps : List Place) : Type 0 where
+pub record Usable (s : Sizes) (v : View) (ps : List ScanEntry) : Type 0 where
   pub counts : Stored s v
   pub open-few : openCount ps ≤ mostScans
   pub named : (g i : ℕ) → g < s .ranges → i < usedIn v g
@@ -47,7 +47,7 @@ pub record Usable (s : Sizes) (v : View) (ps : List Place) : Type 0 where
   pub record-numbers : (g i : ℕ) → g < s .ranges → i < usedIn v g
       → (1 ≤ getD (v TailTransaction) (firstSlot (s .capacity) g + i) 0) × (getD (v TailTransaction) (firstSlot (s .capacity) g + i) 0 ≤ transactionsGiven v)
   pub open-numbers : (j : ℕ) → getD (v Opens) j 0 ≤ transactionsGiven v
-  pub scan-numbers : (j : ℕ) → getD ps j freePlace .number ≤ scansGiven v
+  pub scan-numbers : (j : ℕ) → getD ps j freeEntry .number ≤ scansGiven v
   pub row-links : (r : ℕ) → r < rowsGiven v → Linked s v (r / rangeRows) (usedIn v (r / rangeRows)) r (getD (v RowLink) r 0)
   pub record-links : (g i : ℕ) → g < s .ranges → i < usedIn v g
       → Linked s v g i (getD (v TailRow) (firstSlot (s .capacity) g + i) 0) (getD (v TailLink) (firstSlot (s .capacity) g + i) 0)
@@ -55,11 +55,11 @@ pub record Usable (s : Sizes) (v : View) (ps : List Place) : Type 0 where
   pub record-stamps : (g i : ℕ) → g < s .ranges → i < usedIn v g → getD (v TailStamp) (firstSlot (s .capacity) g + i) 0 ≤ lastStamp v
   pub current-stamps : (i : ℕ) → i < s .places → getD (v PageNewest) (getD (v Current) i 0) 0 ≤ lastStamp v
   pub waiting-stamps : (p : ℕ) → p < s .pages → asWaiting ≤ getD (v PageState) p 0 → getD (v PageNewest) p 0 ≤ lastStamp v
-  pub scan-stamps : (j : ℕ) → getD ps j freePlace .number ≢ 0 → getD ps j freePlace .stamp ≤ lastStamp v
-  pub scan-merges : (j : ℕ) → getD ps j freePlace .number ≢ 0 → getD ps j freePlace .merges ≤ mergesMade v
+  pub scan-stamps : (j : ℕ) → getD ps j freeEntry .number ≢ 0 → getD ps j freeEntry .stamp ≤ lastStamp v
+  pub scan-merges : (j : ℕ) → getD ps j freeEntry .number ≢ 0 → getD ps j freeEntry .merges ≤ mergesMade v
   pub waiting-merges : (p : ℕ) → p < s .pages → asWaiting ≤ getD (v PageState) p 0 → getD (v PageReplaced) p 0 ≤ mergesMade v
   pub open-differ : (i j : ℕ) → i < j → getD (v Opens) i 0 ≡ getD (v Opens) j 0 → getD (v Opens) i 0 ≡ 0
-  pub scans-differ : (i j : ℕ) → i < j → getD ps i freePlace .number ≡ getD ps j freePlace .number → getD ps i freePlace .number ≡ 0
+  pub scans-differ : (i j : ℕ) → i < j → getD ps i freeEntry .number ≡ getD ps j freeEntry .number → getD ps i freeEntry .number ≡ 0
   pub current-in : (i : ℕ) → i < s .places → getD (v Current) i 0 < s .pages
   pub current-state : (i : ℕ) → i < s .places → getD (v PageState) (getD (v Current) i 0) 0 ≡ 1
   pub current-place : (i : ℕ) → i < s .places → getD (v PagePlace) (getD (v Current) i 0) 0 ≡ i
@@ -96,7 +96,7 @@ placed-tells s v i e =
     let a = and-true _ _ e in
     let b = and-true _ _ (a .1) in (ltb-true _ (s .pages) (a .0), eqb-true _ 1 (b .0), eqb-true _ i (b .1))
 
-every-tells : (f : Place → Bool) (ps : List Place) → everyOpen f ps ≡ true → (j : ℕ) → getD ps j freePlace .number ≢ 0 → f (getD ps j freePlace) ≡ true
+every-tells : (f : ScanEntry → Bool) (ps : List ScanEntry) → everyOpen f ps ≡ true → (j : ℕ) → getD ps j freeEntry .number ≢ 0 → f (getD ps j freeEntry) ≡ true
 every-tells f [] e j n = absurd (n refl)
 every-tells f (p ∷ ps) e zero n =
     let a = and-true (not (not (eqb (p .number) 0)) || f p) (everyOpen f ps) e in
@@ -105,13 +105,13 @@ every-tells f (p ∷ ps) e (suc j) n =
     every-tells f ps (and-true (not (not (eqb (p .number) 0)) || f p) (everyOpen f ps) e .1) j n
 
 -- a free place has the number 0, so of the numbers all places may speak
-numbers-tell : (ps : List Place) (b : ℕ) → everyOpen (λ p. leb (p .number) b) ps ≡ true → (j : ℕ) → getD ps j freePlace .number ≤ b
-numbers-tell ps b e j = go (eqb (getD ps j freePlace .number) 0) refl
+numbers-tell : (ps : List ScanEntry) (b : ℕ) → everyOpen (λ p. leb (p .number) b) ps ≡ true → (j : ℕ) → getD ps j freeEntry .number ≤ b
+numbers-tell ps b e j = go (eqb (getD ps j freeEntry .number) 0) refl
   where
-    go : (t : Bool) → eqb (getD ps j freePlace .number) 0 ≡ t → getD ps j freePlace .number ≤ b
-    go true q = let z = eqb-true (getD ps j freePlace .number) 0 q in omega arith
+    go : (t : Bool) → eqb (getD ps j freeEntry .number) 0 ≡ t → getD ps j freeEntry .number ≤ b
+    go true q = let z = eqb-true (getD ps j freeEntry .number) 0 q in omega arith
     go false q =
-        leb-true (getD ps j freePlace .number) b (every-tells (λ p. leb (p .number) b) ps e j (eqb-false (getD ps j freePlace .number) 0 q))
+        leb-true (getD ps j freeEntry .number) b (every-tells (λ p. leb (p .number) b) ps e j (eqb-false (getD ps j freeEntry .number) 0 q))
 
 -- a number that is not 0 stands once
 among-tells : (x : ℕ) (l : List ℕ) (j : ℕ) → not (among x l) ≡ true → x ≡ getD l j 0 → x ≢ 0 → ⊥
@@ -139,8 +139,8 @@ differ-tells (x ∷ l) e zero (suc j) h q = go (eqb x 0) refl
         absurd
         (among-tells x l j (or-right (eqb x 0) (not (among x l)) p (and-true (eqb x 0 || not (among x l)) (differ l) e .0)) q (eqb-false x 0 p))
 
-pub numbers-at : (ps : List Place) (j : ℕ) → getD (map (λ p. p .number) ps) j 0 ≡ getD ps j freePlace .number
-numbers-at ps j = List·getD-map (λ p. p .number) ps j freePlace
+pub numbers-at : (ps : List ScanEntry) (j : ℕ) → getD (map (λ p. p .number) ps) j 0 ≡ getD ps j freeEntry .number
+numbers-at ps j = List·getD-map (λ p. p .number) ps j freeEntry
 
 -- a bounded stretch of a region, word by word
 module _ (s : Sizes) (v : View) (long : Long s v) (k : Region) (at n low high : ℕ) (inside : at + n ≤ len s k) where
@@ -152,7 +152,7 @@ module _ (s : Sizes) (v : View) (long : Long s v) (k : Region) (at n low high : 
 
 -- ---- all clauses
 
-module _ (s : Sizes) (v : View) (ps : List Place) (z : Proper s) (long : Long s v) where
+module _ (s : Sizes) (v : View) (ps : List ScanEntry) (z : Proper s) (long : Long s v) where
   -- words of the given rows, and of the used records
   rows-tell : (k : Region) (low high : ℕ) → Stored s v → len s k ≡ s .rows → rowsBetween v k low high ≡ true
       → (r : ℕ) → r < rowsGiven v → (low ≤ getD (v k) r 0) × (getD (v k) r 0 ≤ high)
@@ -217,13 +217,13 @@ module _ (s : Sizes) (v : View) (ps : List Place) (z : Proper s) (long : Long s 
 
 -- ---- and of a memory
 
-pub record UsableMemory (m : List ℕ) (ps : List Place) : Type 0 where
+pub record UsableMemory (m : List ℕ) (ps : List ScanEntry) : Type 0 where
   pub within : withinLimits (storedShape (words m)) ≡ true
-  pub room : need (storedSizes (words m)) * 4 ≤ length m
+  pub room : Suffices (storedSizes (words m)) m
   pub places : mostScans ≤ length ps
-  pub facts : Usable (storedSizes (words m)) (view (storedSizes (words m)) (words m)) ps
+  pub facts : Usable (storedSizes (words m)) (viewOf (storedSizes (words m)) m) ps
 
-pub usable-tells : (m : List ℕ) (ps : List Place) → usable m ps ≡ true → UsableMemory m ps
+pub usable-tells : (m : List ℕ) (ps : List ScanEntry) → usable m ps ≡ true → UsableMemory m ps
 unfolding usable storedSizes
 usable-tells m ps e =
     let s = storedSizes (words m) in
@@ -231,10 +231,10 @@ usable-tells m ps e =
     let b = and-true _ _ (a .1) in
     let c = and-true _ _ (b .1) in
     let d = and-true _ _ (c .1) in
-    let r : need s * 4 ≤ length m = leb-true (need s * 4) (length m) (c .0) in
+    let r : Suffices s m = leb-true (need s * 4) (length m) (c .0) in
     record {
       within = b .0;
       room = r;
       places = leb-true mostScans (length ps) (d .0);
-      facts = facts-tell s (view s (words m)) ps (proper (storedShape (words m)) (b .0)) (view-long s (words m) (omega (arith, length-words m))) (d .1);
+      facts = facts-tell s (viewOf s m) ps (proper (storedShape (words m)) (b .0)) (view-long s (words m) (omega (arith, length-words m))) (d .1);
     }

@@ -10,7 +10,7 @@ use lib.ListN.{getD}
 use Rattle.layout.specs.Regions.{firstSlot}
 use Rattle.layout.specs.Codes.{asCurrent, asWaiting}
 use Rattle.terms.specs.Measures.{rangeRows, mostNumbers, mostScans}
-use Rattle.terms.specs.declared.Place.{Place}
+use Rattle.terms.specs.declared.ScanEntry.{ScanEntry}
 use Rattle.loops.specs.Search.{region, allBetween}
 use Rattle.layout.specs.declared.Sizes.{Sizes}
 use Rattle.layout.specs.declared.Region.{Region}
@@ -49,7 +49,7 @@ storedWithin s v =
     leb (rowsGiven v) (s .rows)
     && (allBetween 0 (s .capacity) (v Used) && (leb (transactionsGiven v) mostNumbers && leb (scansGiven v) mostNumbers))
 
-unfoldable pub countsWithin : Sizes → View → List Place → Bool
+unfoldable pub countsWithin : Sizes → View → List ScanEntry → Bool
 countsWithin s v ps = storedWithin s v && leb (openCount ps) mostScans
 
 -- ---- "a used tail record names a given row of its range"
@@ -63,7 +63,7 @@ unfoldable pub recordsNameRows : Sizes → View → Bool
 recordsNameRows s v = each (s .ranges) (rangeNamesRows s v)
 
 -- ---- "open and recorded numbers are among those given"
-unfoldable pub numbersGiven : Sizes → View → List Place → Bool
+unfoldable pub numbersGiven : Sizes → View → List ScanEntry → Bool
 numbersGiven s v ps =
     rowsBetween v RowTransaction 1 (transactionsGiven v)
     && (each (s .ranges) (rangeBetween s v TailTransaction 1 (transactionsGiven v))
@@ -89,7 +89,7 @@ unfoldable pub linksHold : Sizes → View → Bool
 linksHold s v = each (rowsGiven v) (rowLinked s v) && each (s .ranges) (rangeLinked s v)
 
 -- ---- "no recorded stamp, an open scan's included, exceeds the last commit's"
-unfoldable pub stampsWithin : Sizes → View → List Place → Bool
+unfoldable pub stampsWithin : Sizes → View → List ScanEntry → Bool
 stampsWithin s v ps =
     rowsBetween v RowStamp 0 (lastStamp v)
     && (each (s .ranges) (rangeBetween s v TailStamp 0 (lastStamp v))
@@ -97,12 +97,12 @@ stampsWithin s v ps =
     && everyOpen (λ p. leb (p .stamp) (lastStamp v)) ps))
 
 -- ---- "no scan's or waiting page's merge count exceeds the merges made"
-unfoldable pub mergesWithin : Sizes → View → List Place → Bool
+unfoldable pub mergesWithin : Sizes → View → List ScanEntry → Bool
 mergesWithin s v ps =
     everyOpen (λ p. leb (p .merges) (mergesMade v)) ps && each (s .pages) (waitingAtMost v PageReplaced (mergesMade v))
 
 -- ---- "open numbers differ, each within its own series"
-unfoldable pub openDiffer : View → List Place → Bool
+unfoldable pub openDiffer : View → List ScanEntry → Bool
 openDiffer v ps = differ (v Opens) && differ (map (λ p. p .number) ps)
 
 -- ---- "current, waiting and free pages are distinct and in the pool"
@@ -129,7 +129,7 @@ unfoldable pub lineagesWithin : Sizes → View → Bool
 lineagesWithin s v = each (s .places) (currentLineage s v) && each (s .pages) (waitingLineage s v)
 
 -- ---- all of them, in that order
-unfoldable pub factsHold : Sizes → View → List Place → Bool
+unfoldable pub factsHold : Sizes → View → List ScanEntry → Bool
 factsHold s v ps =
     countsWithin s v ps
     && (recordsNameRows s v

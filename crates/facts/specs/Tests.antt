@@ -1,29 +1,27 @@
 -- What the functions that test the facts cite in their contracts beside the facts: counts that are within the sizes, and the facts in the order in which the memory is gone through. Nothing here is needed to read the facts.
-use Prim.Native.Nat.{ℕ, _*_, _≤_}
+use Prim.Native.Nat.{ℕ, _≤_}
 use mathlib.Core.Path.{_≡_}
 use mathlib.Core.Bool.{Bool, true, _&&_}
 use mathlib.Core.List.{List, map}
 use lib.Dec.{leb}
-use lib.ListN.{length}
 use Rattle.layout.specs.declared.Sizes.{Sizes}
 use Rattle.layout.specs.Sizes.{Proper}
 use Rattle.layout.specs.declared.Region.the-variants.{Opens, RowTransaction, RowStamp, TailTransaction, TailStamp, PageReplaced, PageNewest}
 use Rattle.terms.specs.Measures.{withinLimits}
-use Rattle.terms.specs.declared.Place.{Place}
+use Rattle.terms.specs.declared.ScanEntry.{ScanEntry}
 use Rattle.words.specs.Words.{words}
 use Rattle.loops.specs.Search.{allBetween}
-use Rattle.layout.specs.Regions.{need}
-use Rattle.layout.specs.View.{View, view, rowsGiven, transactionsGiven, scansGiven, lastStamp, mergesMade, usedIn}
+use Rattle.layout.specs.View.{View, rowsGiven, transactionsGiven, scansGiven, lastStamp, mergesMade, usedIn, viewOf, Suffices}
 use Rattle.facts.specs.Usable.{storedShape, storedSizes}
 use Rattle.scans.specs.Places.{everyOpen, differ}
 use Rattle.facts.specs.Facts.{storedWithin, linksHold, pagesPlaced, each, rowLinked, rowsBetween, rangeBetween, rangeNamesRows, rangeLinked, pagePlaced, currentAtMost, currentLineage, waitingAtMost, waitingLineage}
 
 -- a memory in which every access to what is given and used lies within it: the counts of rows and of records are within the sizes
 pub record Ready (s : Sizes) (m : List ℕ) : Type 0 where
-  pub room : need s * 4 ≤ length m
+  pub room : Suffices s m
   pub proper : Proper s
-  pub rows-in : rowsGiven (view s (words m)) ≤ s .rows
-  pub records-in : (g : ℕ) → usedIn (view s (words m)) g ≤ s .capacity
+  pub rows-in : rowsGiven (viewOf s m) ≤ s .rows
+  pub records-in : (g : ℕ) → usedIn (viewOf s m) g ≤ s .capacity
 
 -- The facts that speak of the memory alone.
 pub record MemoryFacts (s : Sizes) (v : View) : Type 0 where
@@ -35,8 +33,8 @@ pub record MemoryFacts (s : Sizes) (v : View) : Type 0 where
 pub record Passed (s : Sizes) (m : List ℕ) : Type 0 where
   pub sizes-are : s ≡ storedSizes (words m)
   pub within : withinLimits (storedShape (words m)) ≡ true
-  pub room : need s * 4 ≤ length m
-  pub facts : MemoryFacts s (view s (words m))
+  pub room : Suffices s m
+  pub facts : MemoryFacts s (viewOf s m)
 
 -- ---- the facts by what they speak of
 
@@ -69,7 +67,7 @@ unfoldable pub opensHold : View → Bool
 opensHold v = allBetween 0 (transactionsGiven v) (v Opens) && differ (v Opens)
 
 -- the open scans
-unfoldable pub scansHold : View → List Place → Bool
+unfoldable pub scansHold : View → List ScanEntry → Bool
 scansHold v ps =
     everyOpen (λ p. leb (p .number) (scansGiven v)) ps
     && (everyOpen (λ p. leb (p .stamp) (lastStamp v)) ps

@@ -7,12 +7,12 @@ use mathlib.Core.List.{List}
 use lib.Dec.{leb}
 use lib.ListN.{length, getD}
 use Rattle.terms.specs.Measures.{Shape, withinLimits, mostScans}
-use Rattle.terms.specs.declared.Place.{Place}
+use Rattle.terms.specs.declared.ScanEntry.{ScanEntry}
 use Rattle.words.specs.Words.{words}
 use Rattle.layout.specs.declared.Sizes.{Sizes}
 use Rattle.layout.specs.Regions.{need, columnsAt, rangesAt, capacityAt, sparesAt}
 use Rattle.layout.specs.Sizes.{shapeOf, sizesOf}
-use Rattle.layout.specs.View.{view}
+use Rattle.layout.specs.View.{viewOf}
 use Rattle.facts.specs.Facts.{factsHold}
 
 -- the bytes of the four measures
@@ -25,9 +25,9 @@ storedShape ws = shapeOf (getD ws columnsAt 0) (getD ws rangesAt 0) (getD ws cap
 unfoldable pub storedSizes : List ℕ → Sizes
 storedSizes ws = sizesOf (storedShape ws)
 
-unfoldable pub usable : List ℕ → List Place → Bool
+unfoldable pub usable : List ℕ → List ScanEntry → Bool
 usable m ps =
     leb measuresBytes (length m)
     && (withinLimits (storedShape (words m))
     && (leb (need (storedSizes (words m)) * 4) (length m)
-    && (leb mostScans (length ps) && factsHold (storedSizes (words m)) (view (storedSizes (words m)) (words m)) ps)))
+    && (leb mostScans (length ps) && factsHold (storedSizes (words m)) (viewOf (storedSizes (words m)) m) ps)))

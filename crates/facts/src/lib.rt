@@ -18,15 +18,13 @@ use terms::limits::MOST_TRANSACTIONS;
 ghost use mathlib.Core.Path.{_≡_};
 ghost use mathlib.Core.Bool.{_&&_, not};
 ghost use mathlib.Core.List.{List};
-ghost use Prim.Native.Nat.{_*_, _≤_};
+ghost use Prim.Native.Nat.{_≤_};
 ghost use lib.ListN.{length};
-ghost use Rattle.terms.specs.declared.Place.{Place};
+ghost use Rattle.terms.specs.declared.ScanEntry.{ScanEntry};
 ghost use Rattle.terms.specs.Measures.{mostScans};
-ghost use Rattle.words.specs.Words.{words};
-ghost use Rattle.layout.specs.Regions.{need};
 ghost use Rattle.layout.specs.Sizes.{Proper};
 ghost use Rattle.layout.specs.declared.Region.the-variants.{Opens};
-ghost use Rattle.layout.specs.View.{view};
+ghost use Rattle.layout.specs.View.{viewOf, Suffices};
 ghost use Rattle.scans.specs.Places.{openCount};
 ghost use Rattle.scans.specs.Table.{tableOf};
 ghost use Rattle.facts.specs.Facts.{storedWithin};
@@ -43,8 +41,8 @@ pub fn both(a: bool, b: bool) -> bool
 
 // Whether the counts of the memory are within the measures, and no more scans are open than may be.
 pub fn counts_within(mem: &[u8], s: Sizes, t: Scans) -> bool
-    requires { ⌜ (need s * 4 ≤ length (now mem)) × Proper s ⌝ }
-    ensures { λ r. ⌜ r ≡ (storedWithin s (view s (words (now (mem .entry)))) && not (t .more)) ⌝ }
+    requires { ⌜ (Suffices s (now mem)) × Proper s ⌝ }
+    ensures { λ r. ⌜ r ≡ (storedWithin s (viewOf s (now (mem .entry))) && not (t .more)) ⌝ }
 {
     let rows = read(mem, s, Region::Header, HEADER_ROWS) as usize <= s.rows;
     let used = between_in(mem, s, Region::Used, 0, s.ranges, 0, s.capacity as u32);
@@ -57,8 +55,8 @@ pub fn counts_within(mem: &[u8], s: Sizes, t: Scans) -> bool
 
 // The numbers of the open transactions.
 fn opens_of(mem: &[u8], s: Sizes) -> [u32; MOST_TRANSACTIONS]
-    requires { ⌜ need s * 4 ≤ length (now mem) ⌝ }
-    ensures { λ r. ⌜ r ≡ view s (words (now (mem .entry))) Opens ⌝ }
+    requires { ⌜ Suffices s (now mem) ⌝ }
+    ensures { λ r. ⌜ r ≡ viewOf s (now (mem .entry)) Opens ⌝ }
 {
     let mut opens = [0; MOST_TRANSACTIONS];
     let mut i = 0;
@@ -71,8 +69,8 @@ fn opens_of(mem: &[u8], s: Sizes) -> [u32; MOST_TRANSACTIONS]
 
 // The facts of the open transactions.
 pub fn opens_hold(mem: &[u8], s: Sizes) -> bool
-    requires { ⌜ need s * 4 ≤ length (now mem) ⌝ }
-    ensures { λ r. ⌜ r ≡ opensHold (view s (words (now (mem .entry)))) ⌝ }
+    requires { ⌜ Suffices s (now mem) ⌝ }
+    ensures { λ r. ⌜ r ≡ opensHold (viewOf s (now (mem .entry))) ⌝ }
 {
     let given = read(mem, s, Region::Header, HEADER_TRANSACTIONS);
     let numbers = between_in(mem, s, Region::Opens, 0, MOST_TRANSACTIONS, 0, given);
@@ -93,8 +91,8 @@ fn entries_used(t: Scans) -> usize
 
 // The facts of the open scans.
 pub fn scans_hold(mem: &[u8], s: Sizes, t: Scans) -> bool
-    requires { ⌜ need s * 4 ≤ length (now mem) ⌝ }
-    ensures { λ r. ⌜ ((ps : List Place) → t ≡ tableOf ps → openCount ps ≤ mostScans → r ≡ scansHold (view s (words (now (mem .entry)))) ps) ⌝ }
+    requires { ⌜ Suffices s (now mem) ⌝ }
+    ensures { λ r. ⌜ ((ps : List ScanEntry) → t ≡ tableOf ps → openCount ps ≤ mostScans → r ≡ scansHold (viewOf s (now (mem .entry))) ps) ⌝ }
 {
     let given = read(mem, s, Region::Header, HEADER_SCANS);
     let last = read(mem, s, Region::Header, HEADER_STAMP);

@@ -25,6 +25,14 @@ view s ws k = region ws (base s k) (len s k)
 unfoldable pub blank : Sizes → View
 blank s k = replicate (len s k) 0
 
+-- the view of a lent memory
+abbrev pub viewOf : Sizes → List ℕ → View
+viewOf s m = view s (words m)
+
+-- the memory m has the bytes that the sizes s need
+abbrev pub Suffices : Sizes → List ℕ → Type 0
+Suffices s m = need s * 4 ≤ length m
+
 -- another list for region k
 unfoldable pub renew : Region → List ℕ → View → View
 renew k l m j = cond (eqb (index k) (index j)) l (m j)

@@ -35,7 +35,7 @@ abbrev Q-table : Out 1 list (res t)
 Q-table κs a z e = z ≡ tableOf (now (a .0))
 
 abbrev Q-keep : Out 1 kept (res answer)
-Q-keep κs a z e = (z ≡ a .1 .0 .answer) × (now (e .0) ≡ set (now (a .0)) (a .1 .0 .place) (a .1 .0 .entry))
+Q-keep κs a z e = (z ≡ a .1 .0 .answer) × (now (e .0) ≡ set (now (a .0)) (a .1 .0 .index) (a .1 .0 .entry))
 
 abbrev Q-made : Out 1 made (res answer)
 Q-made κs a z e = (z ≡ a .1 .0) × (now (e .0) ≡ freedIf (isAccepted (a .1 .0)) (now (a .0)))

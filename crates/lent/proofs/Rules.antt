@@ -35,10 +35,10 @@ pub use borrow.Fn.Function.{fnOf}
 pub use borrow.Fn.Plain.{Known, t-call-plain, t-fn-plain}
 pub use borrow.Fn.Run.{Over}
 pub use borrow.Fn.World.{World}
-pub use Rattle.terms.specs.declared.Place.{Place}
+pub use Rattle.terms.specs.declared.ScanEntry.{ScanEntry}
 use denote.Memory.{pointee}
 use mir.Syntax.{Lifetime, Mutability}
-use Rattle.terms.proofs.Place as P
+use Rattle.terms.proofs.ScanEntry as P
 use Rattle.lent.proofs.Plain.{type}
 use Rattle.lent.proofs.Types.{p}
 

@@ -1,36 +1,36 @@
 // The lent list of open scans, a slice of small records. Three functions reach into it, and each is proved by a walk of its MIR, by hand: `len_of`,
-// `place_at`, `put_place`. The others hand the list on to those: `table` finds the open scans, `keep` adds or drops one, `free_all` and `free_made` drop all.
-use model::free_place;
+// `entry_at`, `put_entry`. The others hand the list on to those: `table` finds the open scans, `keep` adds or drops one, `free_all` and `free_made` drop all.
+use model::free_entry;
 use scans::Scans;
 use scans::blank;
 use scans::enter;
 use scans::is_open;
 use scans::set_length;
 use terms::Answer;
-use terms::Place;
-use upkeep::Listed;
+use terms::ScanEntry;
+use upkeep::ListChange;
 ghost use mathlib.Core.Path.{_≡_};
 ghost use Prim.Native.Nat.{_<_};
 ghost use lib.ListN.{length, getD, set};
-ghost use Rattle.terms.specs.Places.{freePlace};
+ghost use Rattle.terms.specs.Places.{freeEntry};
 ghost use Rattle.scans.specs.Places.{allFreed, freedIf};
 ghost use Rattle.scans.specs.Table.{tableOf};
 ghost use Rattle.terms.specs.Refusals.{isAccepted};
 
-pub fn len_of(list: &[Place]) -> usize
+pub fn len_of(list: &[ScanEntry]) -> usize
     ensures { λ r. ⌜ r ≡ length (now (list .entry)) ⌝ }
 {
     list.len()
 }
 
-pub fn place_at(list: &[Place], i: usize) -> Place
+pub fn entry_at(list: &[ScanEntry], i: usize) -> ScanEntry
     requires { ⌜ i < length (now list) ⌝ }
-    ensures { λ r. ⌜ r ≡ getD (now (list .entry)) i freePlace ⌝ }
+    ensures { λ r. ⌜ r ≡ getD (now (list .entry)) i freeEntry ⌝ }
 {
     list[i]
 }
 
-pub fn put_place(list: &mut [Place], i: usize, p: Place)
+pub fn put_entry(list: &mut [ScanEntry], i: usize, p: ScanEntry)
     requires { ⌜ i < length (now list) ⌝ }
     ensures { λ _. ⌜ now (list .exit) ≡ set (now (list .entry)) i p ⌝ }
 {
@@ -38,14 +38,14 @@ pub fn put_place(list: &mut [Place], i: usize, p: Place)
 }
 
 // The table of the list, of any length.
-pub fn table(list: &[Place]) -> Scans
+pub fn table(list: &[ScanEntry]) -> Scans
     ensures { λ r. ⌜ r ≡ tableOf (now (list .entry)) ⌝ }
 {
     let n = len_of(list);
     let mut t = blank();
     let mut i = 0;
     while i < n {
-        let p = place_at(list, i);
+        let p = entry_at(list, i);
         if is_open(p) {
             t = enter(t, i, p);
         }
@@ -54,20 +54,20 @@ pub fn table(list: &[Place]) -> Scans
     set_length(t, n)
 }
 
-fn place_of(listed: Listed) -> usize
-    ensures { λ r. ⌜ r ≡ listed .place ⌝ }
+fn place_of(listed: ListChange) -> usize
+    ensures { λ r. ⌜ r ≡ listed .index ⌝ }
 {
-    listed.place
+    listed.index
 }
 
-fn entry_of(listed: Listed) -> Place
+fn entry_of(listed: ListChange) -> ScanEntry
     ensures { λ r. ⌜ r ≡ listed .entry ⌝ }
 {
     let p = listed.entry;
     p
 }
 
-fn answer_of(listed: Listed) -> Answer
+fn answer_of(listed: ListChange) -> Answer
     ensures { λ r. ⌜ r ≡ listed .answer ⌝ }
 {
     let a = listed.answer;
@@ -75,24 +75,24 @@ fn answer_of(listed: Listed) -> Answer
 }
 
 // The place that a call names becomes what it says: a scan is added or dropped. A place past the end is not there, and nothing is stored. Gives the call's answer back.
-pub fn keep(list: &mut [Place], listed: Listed) -> Answer
-    ensures { λ r. ⌜ (r ≡ listed .answer) × (now (list .exit) ≡ set (now (list .entry)) (listed .place) (listed .entry)) ⌝ }
+pub fn keep(list: &mut [ScanEntry], listed: ListChange) -> Answer
+    ensures { λ r. ⌜ (r ≡ listed .answer) × (now (list .exit) ≡ set (now (list .entry)) (listed .index) (listed .entry)) ⌝ }
 {
     let i = place_of(listed);
     if i < len_of(list) {
-        put_place(list, i, entry_of(listed));
+        put_entry(list, i, entry_of(listed));
     }
     answer_of(listed)
 }
 
 // Every place becomes free, however many there are.
-pub fn free_all(list: &mut [Place])
+pub fn free_all(list: &mut [ScanEntry])
     ensures { λ _. ⌜ now (list .exit) ≡ allFreed (now (list .entry)) ⌝ }
 {
     let n = len_of(list);
     let mut i = 0;
     while i < n {
-        put_place(list, i, free_place());
+        put_entry(list, i, free_entry());
         i += 1;
     }
 }
@@ -113,7 +113,7 @@ pub fn accepted(answer: Answer) -> bool
 }
 
 // The list of a store that was to be made: every place becomes free, unless the making was refused. Gives the making's answer back.
-pub fn free_made(list: &mut [Place], answer: Answer) -> Answer
+pub fn free_made(list: &mut [ScanEntry], answer: Answer) -> Answer
     ensures { λ r. ⌜ (r ≡ answer) × (now (list .exit) ≡ freedIf (isAccepted answer) (now (list .entry))) ⌝ }
 {
     if accepted(answer) {

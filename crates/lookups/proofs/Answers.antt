@@ -5,7 +5,7 @@ use mathlib.Core.Bool.{false}
 use native.Mathlib.Omega.{arith}
 use lib.ListN.{length, getD}
 use Rattle.terms.specs.Measures.{mostScans}
-use Rattle.terms.specs.declared.Place.{Place}
+use Rattle.terms.specs.declared.ScanEntry.{ScanEntry}
 use Rattle.loops.specs.declared.Found.{Found}
 use Rattle.layout.specs.declared.Sizes.{Sizes}
 use Rattle.layout.specs.Sizes.{Proper}
@@ -13,7 +13,7 @@ use Rattle.layout.specs.View.{View}
 use Rattle.history.specs.History.{noColumn}
 use Rattle.scans.specs.declared.Scans.{Scans}
 use Rattle.scans.specs.Table.{findIn}
-use Rattle.model.specs.Stored.{scanPlace}
+use Rattle.model.specs.Stored.{scanEntry}
 use Rattle.model.specs.Calls.{notGivenIn}
 use Rattle.model.specs.Asked.{shapeIn, Linked}
 use Rattle.rows.proofs.Indices.{row-in}
@@ -32,10 +32,10 @@ pub is-scan : (t : Scans) (k j x y : ℕ) → x ≡ getD (t .stamps) j 0 → y �
     → IsScan t k j record { number = k; stamp = x; merges = y }
 is-scan t k j x y p q = λ e ps same few.
     let f = in-table t ps same k (Found.At j) e in
-    let a : k ≡ scanPlace ps k .number = scan-number k ps few j f in
-    let b : x ≡ scanPlace ps k .stamp = p ∙ ap (λ (u : Scans). getD (u .stamps) j 0) same ∙ scan-stamp k ps few j f in
-    let d : y ≡ scanPlace ps k .merges = q ∙ ap (λ (u : Scans). getD (u .merges) j 0) same ∙ scan-merges k ps few j f in
-    whole k x y (scanPlace ps k) a b d
+    let a : k ≡ scanEntry ps k .number = scan-number k ps few j f in
+    let b : x ≡ scanEntry ps k .stamp = p ∙ ap (λ (u : Scans). getD (u .stamps) j 0) same ∙ scan-stamp k ps few j f in
+    let d : y ≡ scanEntry ps k .merges = q ∙ ap (λ (u : Scans). getD (u .merges) j 0) same ∙ scan-merges k ps few j f in
+    whole k x y (scanEntry ps k) a b d
   where
-    whole : (n x y : ℕ) (p : Place) → n ≡ p .number → x ≡ p .stamp → y ≡ p .merges → _≡_ {A = Place} record { number = n; stamp = x; merges = y } p
+    whole : (n x y : ℕ) (p : ScanEntry) → n ≡ p .number → x ≡ p .stamp → y ≡ p .merges → _≡_ {A = ScanEntry} record { number = n; stamp = x; merges = y } p
     whole n x y p a b d = rw (a, b, d)

@@ -3,7 +3,7 @@ use Prim.Native.Nat.{ℕ, _≤_, _<_}
 use mathlib.Core.Path.{_≡_}
 use mathlib.Core.List.{List, [], _∷_}
 use Rattle.terms.specs.Measures.{Shape, mostScans}
-use Rattle.terms.specs.declared.Place.{Place}
+use Rattle.terms.specs.declared.ScanEntry.{ScanEntry}
 use Rattle.terms.specs.declared.Refusal.{Refusal}
 use Rattle.loops.specs.declared.Found.{Found}
 use Rattle.layout.specs.declared.Sizes.{Sizes}
@@ -12,7 +12,7 @@ use Rattle.history.specs.History.{Test, _when_, noColumn, rangeOf}
 use Rattle.scans.specs.declared.Scans.{Scans}
 use Rattle.scans.specs.Places.{openCount}
 use Rattle.scans.specs.Table.{tableOf, findIn}
-use Rattle.model.specs.Stored.{scanPlace}
+use Rattle.model.specs.Stored.{scanEntry}
 use Rattle.model.specs.Calls.{notGivenIn}
 
 -- a row and then a column are there
@@ -31,5 +31,5 @@ pub record ScanAt (t : Scans) (k j : ℕ) : Type 0 where
   pub found : findIn t k ≡ Found.At j
 
 -- p is the place of scan k in every list that the table stands for and that a usable store may have, if entry j is that of scan k
-abbrev pub IsScan : Scans → ℕ → ℕ → Place → Type 0
-IsScan t k j p = findIn t k ≡ Found.At j → (ps : List Place) → t ≡ tableOf ps → openCount ps ≤ mostScans → p ≡ scanPlace ps k
+abbrev pub IsScan : Scans → ℕ → ℕ → ScanEntry → Type 0
+IsScan t k j p = findIn t k ≡ Found.At j → (ps : List ScanEntry) → t ≡ tableOf ps → openCount ps ≤ mostScans → p ≡ scanEntry ps k

@@ -17,17 +17,17 @@ use model::Reader;
 use reading::pages::cell;
 use reading::pages::current_page;
 use reading::pages::scan_page;
+use reading::read_cell;
 use reading::read_current;
-use reading::read_row;
 use regions::read;
 use rows::range_of;
 use scans::Scans;
 use scans::find_scan;
 use summing::sum_rows;
 use terms::Answer;
-use terms::Place;
 use terms::Refusal;
 use terms::Row;
+use terms::ScanEntry;
 use terms::Stamp;
 use terms::Transaction;
 use words::of_word;
@@ -35,8 +35,7 @@ ghost use mathlib.Core.Path.{_≡_};
 ghost use mathlib.Core.List.{List};
 ghost use Prim.Native.Nat.{ℕ, _<_};
 ghost use Rattle.terms.specs.Measures.{mostScans};
-ghost use Rattle.words.specs.Words.{words};
-ghost use Rattle.layout.specs.View.{view};
+ghost use Rattle.layout.specs.View.{viewOf};
 ghost use Rattle.history.specs.History.{Call, verdict, rangeOf};
 ghost use Rattle.model.specs.Asked.{shapeIn, OpenAt};
 ghost use Rattle.promise.specs.Promise.{ServesBy, kept};
@@ -49,8 +48,8 @@ ghost use Rattle.lookups.specs.Lookups.{rowTests, CellThere, ScanAt, IsS
 // The tests of a row and a column, which several calls share; where they are passed, the row's range.
 fn row_tests(mem: &[u8], s: Sizes, row: Row, column: u32) -> Tested
     requires { ⌜ Fitted s (now mem) ⌝ }
-    ensures { λ r. ⌜ Says r (verdict (rowTests (shapeIn s) (view s (words (now (mem .entry)))) (row .0) column)) ⌝ }
-    ensures { λ r. ⌜ Finds r (λ g. CellThere s (view s (words (now (mem .entry)))) (row .0) column) ⌝ }
+    ensures { λ r. ⌜ Says r (verdict (rowTests (shapeIn s) (viewOf s (now (mem .entry))) (row .0) column)) ⌝ }
+    ensures { λ r. ⌜ Finds r (λ g. CellThere s (viewOf s (now (mem .entry))) (row .0) column) ⌝ }
 {
     let Found::At(g) = given_range(mem, s, row) else {
         return Tested::Failed(Refusal::Row);
@@ -83,7 +82,7 @@ pub fn latest(mem: &[u8], t: Scans, row: Row, column: u32) -> Answer
 fn read_at_tests(mem: &[u8], s: Sizes, stamp: Stamp, row: Row, column: u32) -> Tested
     requires { ⌜ Fitted s (now mem) ⌝ }
     ensures { λ r. ⌜ Tests s (now (mem .entry)) (Call.readAt (stamp .0) (row .0) column) r ⌝ }
-    ensures { λ r. ⌜ Finds r (λ g. CellThere s (view s (words (now (mem .entry)))) (row .0) column) ⌝ }
+    ensures { λ r. ⌜ Finds r (λ g. CellThere s (viewOf s (now (mem .entry))) (row .0) column) ⌝ }
 {
     if later(mem, s, stamp) {
         return Tested::Failed(Refusal::Time);
@@ -114,7 +113,7 @@ pub fn read_at(mem: &[u8], t: Scans, stamp: Stamp, row: Row, column: u32) -> Ans
 fn own_read_tests(mem: &[u8], s: Sizes, transaction: Transaction, row: Row, column: u32) -> Tested
     requires { ⌜ Fitted s (now mem) ⌝ }
     ensures { λ r. ⌜ Tests s (now (mem .entry)) (Call.ownRead (transaction .0) (row .0) column) r ⌝ }
-    ensures { λ r. ⌜ Finds r (λ at. OpenAt (view s (words (now (mem .entry)))) (transaction .0) at × CellThere s (view s (words (now (mem .entry)))) (row .0) column) ⌝ }
+    ensures { λ r. ⌜ Finds r (λ at. OpenAt (viewOf s (now (mem .entry))) (transaction .0) at × CellThere s (viewOf s (now (mem .entry))) (row .0) column) ⌝ }
 {
     let Found::At(at) = open_place(mem, s, transaction) else {
         return Tested::Failed(Refusal::Transaction);
@@ -147,13 +146,13 @@ pub fn own_read(mem: &[u8], t: Scans, transaction: Transaction, row: Row, column
 // ---- scan read and sum
 
 // The open scan at entry j of the table.
-fn scan_at(t: Scans, j: usize, scan: u32) -> Place
+fn scan_at(t: Scans, j: usize, scan: u32) -> ScanEntry
     requires { ⌜ j < mostScans ⌝ }
     ensures { λ r. ⌜ IsScan t scan j r ⌝ }
 {
     let stamps = t.stamps;
     let merges = t.merges;
-    Place {
+    ScanEntry {
         number: scan,
         stamp: stamps[j],
         merges: merges[j],
@@ -164,7 +163,7 @@ fn scan_at(t: Scans, j: usize, scan: u32) -> Place
 fn scan_read_tests(mem: &[u8], s: Sizes, t: Scans, scan: u32, row: Row, column: u32) -> Tested
     requires { ⌜ Fitted s (now mem) ⌝ }
     ensures { λ r. ⌜ TestsBy t s (now (mem .entry)) (Call.scanRead scan (row .0) column) r ⌝ }
-    ensures { λ r. ⌜ Finds r (λ j. ScanAt t scan j × CellThere s (view s (words (now (mem .entry)))) (row .0) column) ⌝ }
+    ensures { λ r. ⌜ Finds r (λ j. ScanAt t scan j × CellThere s (viewOf s (now (mem .entry))) (row .0) column) ⌝ }
 {
     let Found::At(j) = find_scan(t, scan) else {
         return Tested::Failed(Refusal::Scan);
@@ -191,7 +190,7 @@ pub fn scan_read(mem: &[u8], t: Scans, scan: u32, row: Row, column: u32) -> Answ
                 stamp: Stamp(found.stamp),
                 me: Transaction(0),
             };
-            read_row(mem, s, who, page, row, column)
+            read_cell(mem, s, who, page, row, column)
         }
     }
 }
@@ -229,7 +228,7 @@ pub fn sum(mem: &[u8], t: Scans, scan: u32, column: u32) -> Answer
 fn page_cell_tests(mem: &[u8], s: Sizes, column: u32, row: Row) -> Tested
     requires { ⌜ Fitted s (now mem) ⌝ }
     ensures { λ r. ⌜ Tests s (now (mem .entry)) (Call.pageCell column (row .0)) r ⌝ }
-    ensures { λ r. ⌜ Finds r (λ g. (g ≡ rangeOf (row .0)) × CellThere s (view s (words (now (mem .entry)))) (row .0) column) ⌝ }
+    ensures { λ r. ⌜ Finds r (λ g. (g ≡ rangeOf (row .0)) × CellThere s (viewOf s (now (mem .entry))) (row .0) column) ⌝ }
 {
     if no_column(s, column) {
         return Tested::Failed(Refusal::Column);

@@ -11,7 +11,7 @@ use Rattle.terms.specs.declared.Answer.{Answer}
 use Rattle.terms.specs.declared.Refusal.{Refusal}
 use Rattle.layout.specs.Regions.{need}
 use Rattle.layout.specs.Sizes.{sizesOf, bytesNeeded}
-use Rattle.layout.specs.View.{lay}
+use Rattle.layout.specs.View.{lay, Suffices}
 use Rattle.making.specs.Made.{made}
 
 module _ (p : Shape) (places : ℕ) (m : List ℕ) where
@@ -23,11 +23,11 @@ module _ (p : Shape) (places : ℕ) (m : List ℕ) where
   unfolding made bytesNeeded
   no-room e h = rw (e, lt-leb (need (sizesOf p) * 4) (length m) h)
 
-  pub few-places : withinLimits p ≡ true → need (sizesOf p) * 4 ≤ length m → places < mostScans → (Answer.Refused Refusal.Memory, m) ≡ made p places m
+  pub few-places : withinLimits p ≡ true → Suffices (sizesOf p) m → places < mostScans → (Answer.Refused Refusal.Memory, m) ≡ made p places m
   unfolding made bytesNeeded
   few-places e h k = rw (e, le-leb (need (sizesOf p) * 4) (length m) h, lt-leb mostScans places k)
 
-  pub laid : withinLimits p ≡ true → need (sizesOf p) * 4 ≤ length m → mostScans ≤ places → (m′ : List ℕ) → m′ ≡ lay (sizesOf p) (madeView p) m
+  pub laid : withinLimits p ≡ true → Suffices (sizesOf p) m → mostScans ≤ places → (m′ : List ℕ) → m′ ≡ lay (sizesOf p) (madeView p) m
       → (Answer.Done, m′) ≡ made p places m
   unfolding made bytesNeeded
   laid e h k m′ q = rw (e, le-leb (need (sizesOf p) * 4) (length m) h, le-leb mostScans places k, q)

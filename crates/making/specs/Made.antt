@@ -10,7 +10,7 @@ use Rattle.model.specs.Writing.{made as madeView}
 use Rattle.layout.specs.Codes.{asCurrent}
 use Rattle.terms.specs.Measures.{Shape, withinLimits, mostScans}
 use Rattle.terms.specs.declared.Answer.{Answer}
-use Rattle.terms.specs.declared.Place.{Place}
+use Rattle.terms.specs.declared.ScanEntry.{ScanEntry}
 use Rattle.terms.specs.declared.Refusal.{Refusal}
 use Rattle.layout.specs.declared.Sizes.{Sizes}
 use Rattle.layout.specs.declared.Region.the-variants.{Current, PageState, PagePlace}
@@ -30,5 +30,5 @@ made p places m =
     (Answer.Refused Refusal.Shape, m)
 
 -- and the scan list
-abbrev pub madeList : List Place → List Place
+abbrev pub madeList : List ScanEntry → List ScanEntry
 madeList = allFreed

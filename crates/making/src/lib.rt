@@ -22,17 +22,16 @@ ghost use Prim.Native.Nat.{_*_, _≤_, _<_};
 ghost use lib.ListN.{length};
 ghost use Rattle.terms.specs.Measures.{mostPages};
 ghost use Rattle.model.specs.Writing.{made as madeView};
-ghost use Rattle.words.specs.Words.{words};
 ghost use Rattle.layout.specs.Regions.{need, columnsAt, rangesAt, capacityAt, sparesAt};
 ghost use Rattle.layout.specs.declared.Region.the-variants.{Header};
 ghost use Rattle.layout.specs.Sizes.{shapeOf, sizesOf, tooManyWords};
-ghost use Rattle.layout.specs.View.{view, put, blank};
+ghost use Rattle.layout.specs.View.{put, blank, viewOf, Suffices};
 ghost use Rattle.making.specs.Made.{placedView, made};
 
 // Every word that the sizes need becomes 0.
 fn clear(mem: &mut [u8], s: Sizes)
-    requires { ⌜ (need s * 4 ≤ length (now mem)) × (need s < tooManyWords) ⌝ }
-    ensures { λ _. ⌜ view s (words (now (mem .exit))) ≡ blank s ⌝ }
+    requires { ⌜ (Suffices s (now mem)) × (need s < tooManyWords) ⌝ }
+    ensures { λ _. ⌜ viewOf s (now (mem .exit)) ≡ blank s ⌝ }
 {
     let n = words_needed(s);
     fill(mem, 0, n, 0);
@@ -40,9 +39,9 @@ fn clear(mem: &mut [u8], s: Sizes)
 
 // The first pages become current, one for each place.
 fn place_pages(mem: &mut [u8], s: Sizes)
-    requires { ⌜ (need s * 4 ≤ length (now mem)) × (s .places ≤ s .pages) × (s .pages ≤ mostPages) ⌝ }
-    requires { ⌜ view s (words (now mem)) ≡ blank s ⌝ }
-    ensures { λ _. ⌜ view s (words (now (mem .exit))) ≡ placedView s ⌝ }
+    requires { ⌜ (Suffices s (now mem)) × (s .places ≤ s .pages) × (s .pages ≤ mostPages) ⌝ }
+    requires { ⌜ viewOf s (now mem) ≡ blank s ⌝ }
+    ensures { λ _. ⌜ viewOf s (now (mem .exit)) ≡ placedView s ⌝ }
 {
     let n = s.places;
     fill_in(mem, s, Region::PageState, 0, n, PAGE_CURRENT);
@@ -51,8 +50,8 @@ fn place_pages(mem: &mut [u8], s: Sizes)
 }
 
 fn put_measures(mem: &mut [u8], s: Sizes, columns: u32, ranges: u32, capacity: u32, spares: u32)
-    requires { ⌜ need s * 4 ≤ length (now mem) ⌝ }
-    ensures { λ _. ⌜ view s (words (now (mem .exit))) ≡ put Header columnsAt columns (put Header rangesAt ranges (put Header capacityAt capacity (put Header sparesAt spares (view s (words (now (mem .entry))))))) ⌝ }
+    requires { ⌜ Suffices s (now mem) ⌝ }
+    ensures { λ _. ⌜ viewOf s (now (mem .exit)) ≡ put Header columnsAt columns (put Header rangesAt ranges (put Header capacityAt capacity (put Header sparesAt spares (viewOf s (now (mem .entry)))))) ⌝ }
 {
     write(mem, s, Region::Header, HEADER_SPARES, spares);
     write(mem, s, Region::Header, HEADER_CAPACITY, capacity);
@@ -62,9 +61,9 @@ fn put_measures(mem: &mut [u8], s: Sizes, columns: u32, ranges: u32, capacity: u
 
 // The needed part of a memory, made.
 fn lay_out(mem: &mut [u8], s: Sizes, columns: u32, ranges: u32, capacity: u32, spares: u32)
-    requires { ⌜ (need s * 4 ≤ length (now mem)) × (need s < tooManyWords) ⌝ }
+    requires { ⌜ (Suffices s (now mem)) × (need s < tooManyWords) ⌝ }
     requires { ⌜ (s ≡ sizesOf (shapeOf columns ranges capacity spares)) × (s .places ≤ s .pages) × (s .pages ≤ mostPages) ⌝ }
-    ensures { λ _. ⌜ view s (words (now (mem .exit))) ≡ madeView (shapeOf columns ranges capacity spares) ⌝ }
+    ensures { λ _. ⌜ viewOf s (now (mem .exit)) ≡ madeView (shapeOf columns ranges capacity spares) ⌝ }
 {
     clear(mem, s);
     place_pages(mem, s);

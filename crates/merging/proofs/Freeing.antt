@@ -11,7 +11,7 @@ use lib.ListN.{length, getD, take, length-take, length-append, length-replicate}
 use lib.Seq.{take-suc}
 use borrow.Author.Tests.{lt-ltb, le-ltb, ltb-true, ltb-false, leb-true, leb-false}
 use Rattle.terms.specs.Measures.{mostScans}
-use Rattle.terms.specs.declared.Place.{Place}
+use Rattle.terms.specs.declared.ScanEntry.{ScanEntry}
 use Rattle.loops.proofs.Change.{changed-outside}
 use Rattle.layout.specs.declared.Sizes.{Sizes}
 use Rattle.layout.specs.declared.Region.{Region}
@@ -26,7 +26,7 @@ use Rattle.scans.proofs.Answers.{table-before}
 use Rattle.layout.specs.Sizes.{Proper}
 use Rattle.model.specs.Asked.{shapeIn}
 use Rattle.layout.proofs.Renewed.{change-none, change-next}
-use Rattle.merging.specs.Steps.{leastOf, spare, sparesFreed}
+use Rattle.merging.specs.Steps.{leastOf, freeable, freeablesFreed}
 
 -- ---- the test of one page
 pub at-most : (a b : ℕ) → leb a b ≡ not (ltb b a)
@@ -79,61 +79,61 @@ least-tells l (suc n) m h k =
 
 -- ---- the loop
 module _ (least : ℕ) (v : View) where
-  pub freed-none : v ≡ sparesFreed least 0 v
-  unfolding sparesFreed
-  freed-none = change-none Region.PageState (λ p w. cond (spare least v p) asFree w) 0 v
+  pub freed-none : v ≡ freeablesFreed least 0 v
+  unfolding freeablesFreed
+  freed-none = change-none Region.PageState (λ p w. cond (freeable least v p) asFree w) 0 v
 
   -- the words of page p are as they were when its turn comes
-  pub spare-same : (x : View) (p : ℕ) → x ≡ sparesFreed least p v → spare least x p ≡ spare least v p
-  unfolding sparesFreed spare renew
+  pub spare-same : (x : View) (p : ℕ) → x ≡ freeablesFreed least p v → freeable least x p ≡ freeable least v p
+  unfolding freeablesFreed freeable renew
   spare-same x p e =
-      let w = changed-outside (λ p w. cond (spare least v p) asFree w) 0 (v Region.PageState) p p (inr (omega arith)) in
+      let w = changed-outside (λ p w. cond (freeable least v p) asFree w) 0 (v Region.PageState) p p (inr (omega arith)) in
       rw (e, w)
 
-  pub state-same : (x : View) (p : ℕ) → x ≡ sparesFreed least p v → getD (x Region.PageState) p 0 ≡ getD (v Region.PageState) p 0
-  unfolding sparesFreed renew
+  pub state-same : (x : View) (p : ℕ) → x ≡ freeablesFreed least p v → getD (x Region.PageState) p 0 ≡ getD (v Region.PageState) p 0
+  unfolding freeablesFreed renew
   state-same x p e =
-      let w = changed-outside (λ p w. cond (spare least v p) asFree w) 0 (v Region.PageState) p p (inr (omega arith)) in
+      let w = changed-outside (λ p w. cond (freeable least v p) asFree w) 0 (v Region.PageState) p p (inr (omega arith)) in
       rw (e, w)
 
-  turn : (x x′ : View) (p : ℕ) → x ≡ sparesFreed least p v → x′ ≡ put Region.PageState p (cond (spare least v p) 0 (getD (v Region.PageState) p 0)) x
-      → 0 + p ≡ p → x′ ≡ sparesFreed least (p + 1) v
-  unfolding sparesFreed
+  turn : (x x′ : View) (p : ℕ) → x ≡ freeablesFreed least p v → x′ ≡ put Region.PageState p (cond (freeable least v p) 0 (getD (v Region.PageState) p 0)) x
+      → 0 + p ≡ p → x′ ≡ freeablesFreed least (p + 1) v
+  unfolding freeablesFreed
   turn x x′ p e w z =
-      change-next Region.PageState (λ p w. cond (spare least v p) asFree w) 0 v x x′ p (cond (spare least v p) 0 (getD (v Region.PageState) p 0)) e (rw z) (rw z w)
+      change-next Region.PageState (λ p w. cond (freeable least v p) asFree w) 0 v x x′ p (cond (freeable least v p) 0 (getD (v Region.PageState) p 0)) e (rw z) (rw z w)
 
-  pub freed-next : (x x′ : View) (p : ℕ) → x ≡ sparesFreed least p v
-      → x′ ≡ put Region.PageState p (cond (spare least x p) 0 (getD (x Region.PageState) p 0)) x → x′ ≡ sparesFreed least (p + 1) v
+  pub freed-next : (x x′ : View) (p : ℕ) → x ≡ freeablesFreed least p v
+      → x′ ≡ put Region.PageState p (cond (freeable least x p) 0 (getD (x Region.PageState) p 0)) x → x′ ≡ freeablesFreed least (p + 1) v
   freed-next x x′ p e q = turn x x′ p e (q ∙ rw (spare-same x p e, state-same x p e)) (omega arith)
 
-  pub count-next : (x : View) (p n n′ : ℕ) → x ≡ sparesFreed least p v → n ≡ countBelow (spare least v) p
-      → n′ ≡ cond (spare least x p) (n + 1) n → n′ ≡ countBelow (spare least v) (p + 1)
+  pub count-next : (x : View) (p n n′ : ℕ) → x ≡ freeablesFreed least p v → n ≡ countBelow (freeable least v) p
+      → n′ ≡ cond (freeable least x p) (n + 1) n → n′ ≡ countBelow (freeable least v) (p + 1)
   count-next x p n n′ e c q = q ∙ rw (spare-same x p e, c, add-one, add-one)
 
-  pub count-most : (n : ℕ) → countBelow (spare least v) n ≤ n
+  pub count-most : (n : ℕ) → countBelow (freeable least v) n ≤ n
   count-most zero = omega arith
-  count-most (suc n) = go (spare least v n) (count-most n)
+  count-most (suc n) = go (freeable least v n) (count-most n)
     where
-      go : (b : Bool) → countBelow (spare least v) n ≤ n
-          → cond b (suc (countBelow (spare least v) n)) (countBelow (spare least v) n) ≤ suc n
+      go : (b : Bool) → countBelow (freeable least v) n ≤ n
+          → cond b (suc (countBelow (freeable least v) n)) (countBelow (freeable least v) n) ≤ suc n
       go true h = omega arith
       go false h = omega arith
 
-  pub freed-end : (n : ℕ) (x : View) (c p : ℕ) → x ≡ sparesFreed least p v → c ≡ countBelow (spare least v) p → p ≤ n → n ≤ p
-      → (c ≡ countBelow (spare least v) n) × (x ≡ sparesFreed least n v)
+  pub freed-end : (n : ℕ) (x : View) (c p : ℕ) → x ≡ freeablesFreed least p v → c ≡ countBelow (freeable least v) p → p ≤ n → n ≤ p
+      → (c ≡ countBelow (freeable least v) n) × (x ≡ freeablesFreed least n v)
   freed-end n x c p e k h m = let q : p ≡ n = omega arith in (k ∙ rw q, e ∙ rw q)
 
 -- ---- what the scan list says
-needed-some : (m : ℕ) (ps : List Place) → neededIn ps m ≡ someOpen (λ p. ltb (p .merges) m) ps
+needed-some : (m : ℕ) (ps : List ScanEntry) → neededIn ps m ≡ someOpen (λ p. ltb (p .merges) m) ps
 needed-some m [] = refl
 needed-some m (p ∷ ps) = rw (needed-some m ps)
 
-table-room : (ps : List Place) → tableOf ps .count ≤ length (tableOf ps .merges)
+table-room : (ps : List ScanEntry) → tableOf ps .count ≤ length (tableOf ps .merges)
 unfolding tableOf
 table-room ps = simp (length-take, length-append, length-replicate) (omega arith)
 
 -- the least of a table's merges tells whether a scan needs what merge m replaced
-pub needed-least : (ps : List Place) (t : Scans) → t ≡ tableOf ps → openCount ps ≤ mostScans → (m : ℕ) → m < 2 ^ 32
+pub needed-least : (ps : List ScanEntry) (t : Scans) → t ≡ tableOf ps → openCount ps ≤ mostScans → (m : ℕ) → m < 2 ^ 32
     → ltb (leastOf (t .merges) (t .count)) m ≡ neededIn ps m
 needed-least ps t e h m k =
     ap (λ (t : Scans). ltb (leastOf (t .merges) (t .count)) m) e
@@ -141,17 +141,17 @@ needed-least ps t e h m k =
     ∙ table-before ps h m
     ∙ sym (needed-some m ps)
 
--- a page is spare exactly if it may be released
-pub spare-is : (ps : List Place) (least : ℕ) (v : View) → ((m : ℕ) → m < 2 ^ 32 → ltb least m ≡ neededIn ps m)
-    → ((p : ℕ) → getD (v Region.PageReplaced) p 0 < 2 ^ 32) → spare least v ≡ releasable ps v
-unfolding spare releasable pageIn
+-- a page is freeable exactly if it may be released
+pub spare-is : (ps : List ScanEntry) (least : ℕ) (v : View) → ((m : ℕ) → m < 2 ^ 32 → ltb least m ≡ neededIn ps m)
+    → ((p : ℕ) → getD (v Region.PageReplaced) p 0 < 2 ^ 32) → freeable least v ≡ releasable ps v
+unfolding freeable releasable pageIn
 spare-is ps least v e f = fun-ext (λ p. rw (e (getD (v Region.PageReplaced) p 0) (f p)))
 
-pub freed-is : (s : Sizes) (ps : List Place) (least : ℕ) (v : View) → Proper s → spare least v ≡ releasable ps v
-    → sparesFreed least (s .pages) v ≡ releasedIn (shapeIn s) ps v
-unfolding sparesFreed releasedIn
+pub freed-is : (s : Sizes) (ps : List ScanEntry) (least : ℕ) (v : View) → Proper s → freeable least v ≡ releasable ps v
+    → freeablesFreed least (s .pages) v ≡ releasedIn (shapeIn s) ps v
+unfolding freeablesFreed releasedIn
 freed-is s ps least v p e = let q : s .pages ≡ pagesOf (shapeIn s) = omega (arith, p .pages-are, p .places-are) in rw (e, q)
 
-pub counted-is : (s : Sizes) (ps : List Place) (least : ℕ) (v : View) → Proper s → spare least v ≡ releasable ps v
-    → countBelow (spare least v) (s .pages) ≡ countBelow (releasable ps v) (pagesOf (shapeIn s))
+pub counted-is : (s : Sizes) (ps : List ScanEntry) (least : ℕ) (v : View) → Proper s → freeable least v ≡ releasable ps v
+    → countBelow (freeable least v) (s .pages) ≡ countBelow (releasable ps v) (pagesOf (shapeIn s))
 counted-is s ps least v p e = let q : s .pages ≡ pagesOf (shapeIn s) = omega (arith, p .pages-are, p .places-are) in rw (e, q)

@@ -62,8 +62,8 @@ leastOf l zero = 4294967295
 leastOf l (suc n) = cond (ltb (getD l n 0) (leastOf l n)) (getD l n 0) (leastOf l n)
 
 -- Page p waits, and no scan needs it: `least` are the fewest merges that were made before an open scan.
-unfoldable pub spare : ℕ → View → ℕ → Bool
-spare least v p = waitingPage (getD (v Region.PageState) p 0) && not (ltb least (getD (v Region.PageReplaced) p 0))
+unfoldable pub freeable : ℕ → View → ℕ → Bool
+freeable least v p = waitingPage (getD (v Region.PageState) p 0) && not (ltb least (getD (v Region.PageReplaced) p 0))
 
-unfoldable pub sparesFreed : ℕ → ℕ → View → View
-sparesFreed least n v = renew Region.PageState (changed (λ p w. cond (spare least v p) asFree w) 0 n (v Region.PageState)) v
+unfoldable pub freeablesFreed : ℕ → ℕ → View → View
+freeablesFreed least n v = renew Region.PageState (changed (λ p w. cond (freeable least v p) asFree w) 0 n (v Region.PageState)) v

@@ -15,8 +15,8 @@ use regions::read;
 use regions::write;
 use rows::has_bit;
 use scans::Scans;
-use terms::Place;
 use terms::Row;
+use terms::ScanEntry;
 use terms::Stamp;
 use terms::Tail;
 use terms::limits::MOST_SCANS;
@@ -27,14 +27,12 @@ ghost use mathlib.Core.Bool.{_&&_, not, cond};
 ghost use mathlib.Core.List.{List};
 ghost use Prim.Native.Nat.{_+_, _*_, _≤_, _<_};
 ghost use lib.Dec.{ltb};
-ghost use lib.ListN.{length, getD};
+ghost use lib.ListN.{getD};
 ghost use Rattle.layout.specs.Codes.{asFree};
 ghost use Rattle.terms.specs.Measures.{mostScans};
-ghost use Rattle.words.specs.Words.{words};
 ghost use Rattle.layout.specs.declared.Region.{Region};
-ghost use Rattle.terms.specs.declared.Place.{Place};
-ghost use Rattle.layout.specs.Regions.{need};
-ghost use Rattle.layout.specs.View.{view, put};
+ghost use Rattle.terms.specs.declared.ScanEntry.{ScanEntry};
+ghost use Rattle.layout.specs.View.{put, viewOf, Suffices};
 ghost use Rattle.model.specs.Stored.{recordIn, pagesOf, countBelow, firstFrom, waitingPage};
 ghost use Rattle.model.specs.Writing.{applies, newestOf, strayIn, freeIn, mergedIn, releasable, releasedIn};
 ghost use Rattle.scans.specs.Places.{openCount};
@@ -42,15 +40,15 @@ ghost use Rattle.scans.specs.Table.{tableOf};
 ghost use Rattle.layout.specs.Sizes.{Proper};
 ghost use Rattle.model.specs.Asked.{shapeIn, Pooled};
 ghost use Rattle.loops.specs.Search.{foundAt};
-ghost use Rattle.merging.specs.Steps.{appliedOne, laterOne, appliedAll, pagePut, pageReplaced, Mergeable, leastOf, spare, sparesFreed};
+ghost use Rattle.merging.specs.Steps.{appliedOne, laterOne, appliedAll, pagePut, pageReplaced, Mergeable, leastOf, freeable, freeablesFreed};
 
 // ---- merge
 
 // Whether a page says that it is current and its place does not name it.
 fn is_stray(mem: &[u8], s: Sizes, p: usize) -> bool
-    requires { ⌜ need s * 4 ≤ length (now mem) ⌝ }
+    requires { ⌜ Suffices s (now mem) ⌝ }
     requires { ⌜ Proper s × (p < s .pages) ⌝ }
-    ensures { λ r. ⌜ r ≡ strayIn (shapeIn s) (view s (words (now (mem .entry)))) p ⌝ }
+    ensures { λ r. ⌜ r ≡ strayIn (shapeIn s) (viewOf s (now (mem .entry))) p ⌝ }
 {
     if read(mem, s, Region::PageState, p) != PAGE_CURRENT {
         return false;
@@ -64,9 +62,9 @@ fn is_stray(mem: &[u8], s: Sizes, p: usize) -> bool
 
 // The first stray page. No call leaves one, so that only a memory from elsewhere has any.
 fn stray_page(mem: &[u8], s: Sizes) -> Found
-    requires { ⌜ need s * 4 ≤ length (now mem) ⌝ }
+    requires { ⌜ Suffices s (now mem) ⌝ }
     requires { ⌜ Proper s ⌝ }
-    ensures { λ r. ⌜ r ≡ foundAt (s .pages) (firstFrom (strayIn (shapeIn s) (view s (words (now (mem .entry))))) (s .pages) 0) ⌝ }
+    ensures { λ r. ⌜ r ≡ foundAt (s .pages) (firstFrom (strayIn (shapeIn s) (viewOf s (now (mem .entry)))) (s .pages) 0) ⌝ }
 {
     let pages = s.pages;
     let mut p = 0;
@@ -81,9 +79,9 @@ fn stray_page(mem: &[u8], s: Sizes) -> Found
 
 // The first page that says it is free, else the first stray one.
 pub fn free_page(mem: &[u8], s: Sizes) -> Found
-    requires { ⌜ need s * 4 ≤ length (now mem) ⌝ }
+    requires { ⌜ Suffices s (now mem) ⌝ }
     requires { ⌜ Proper s ⌝ }
-    ensures { λ r. ⌜ r ≡ foundAt (s .pages) (freeIn (shapeIn s) (view s (words (now (mem .entry))))) ⌝ }
+    ensures { λ r. ⌜ r ≡ foundAt (s .pages) (freeIn (shapeIn s) (viewOf s (now (mem .entry)))) ⌝ }
 {
     let Found::At(page) = find_in(mem, s, Region::PageState, 0, s.pages, PAGE_FREE) else {
         return stray_page(mem, s);
@@ -93,9 +91,9 @@ pub fn free_page(mem: &[u8], s: Sizes) -> Found
 
 // Whether the record at a slot is a committed setting of column c.
 fn is_applied(mem: &[u8], s: Sizes, slot: usize, c: u32) -> bool
-    requires { ⌜ need s * 4 ≤ length (now mem) ⌝ }
+    requires { ⌜ Suffices s (now mem) ⌝ }
     requires { ⌜ (slot < s .slots) × (c < 32) ⌝ }
-    ensures { λ r. ⌜ r ≡ applies c (recordIn (view s (words (now (mem .entry)))) slot) ⌝ }
+    ensures { λ r. ⌜ r ≡ applies c (recordIn (viewOf s (now (mem .entry))) slot) ⌝ }
 {
     if has_bit(read(mem, s, Region::TailMask, slot), c) {
         if read(mem, s, Region::TailKind, slot) == SETTING {
@@ -114,10 +112,10 @@ fn later(a: Stamp, b: Stamp) -> Stamp
 
 // The record at a slot goes into a page, if it is a committed setting of column c; the answer is the latest stamp with it.
 fn apply_one(mem: &mut [u8], s: Sizes, slot: usize, c: usize, page: usize, newest: Stamp) -> Stamp
-    requires { ⌜ need s * 4 ≤ length (now mem) ⌝ }
+    requires { ⌜ Suffices s (now mem) ⌝ }
     requires { ⌜ Proper s ⌝ }
     requires { ⌜ (slot < s .slots) × (c < s .columns) × (page < s .pages) ⌝ }
-    ensures { λ r. ⌜ (r .0 ≡ laterOne slot c (view s (words (now (mem .entry)))) (newest .0)) × (view s (words (now (mem .exit))) ≡ appliedOne (shapeIn s) slot c page (view s (words (now (mem .entry))))) ⌝ }
+    ensures { λ r. ⌜ (r .0 ≡ laterOne slot c (viewOf s (now (mem .entry))) (newest .0)) × (viewOf s (now (mem .exit)) ≡ appliedOne (shapeIn s) slot c page (viewOf s (now (mem .entry)))) ⌝ }
 {
     if is_applied(mem, s, slot, c as u32) {
         let stamp = Stamp(read(mem, s, Region::TailStamp, slot));
@@ -146,10 +144,10 @@ fn apply(
     n: usize,
     newest: Stamp,
 ) -> Stamp
-    requires { ⌜ need s * 4 ≤ length (now mem) ⌝ }
+    requires { ⌜ Suffices s (now mem) ⌝ }
     requires { ⌜ Proper s ⌝ }
     requires { ⌜ (g < s .ranges) × (c < s .columns) × (page < s .pages) × (low .0 + n ≤ s .capacity) ⌝ }
-    ensures { λ r. ⌜ (r .0 ≡ newestOf (shapeIn s) (view s (words (now (mem .entry)))) g c (low .0) n (newest .0)) × (view s (words (now (mem .exit))) ≡ appliedAll (shapeIn s) g c page (low .0) n (view s (words (now (mem .entry))))) ⌝ }
+    ensures { λ r. ⌜ (r .0 ≡ newestOf (shapeIn s) (viewOf s (now (mem .entry))) g c (low .0) n (newest .0)) × (viewOf s (now (mem .exit)) ≡ appliedAll (shapeIn s) g c page (low .0) n (viewOf s (now (mem .entry)))) ⌝ }
 {
     let merged = low.0 as usize;
     let first = g * s.capacity + merged;
@@ -164,9 +162,9 @@ fn apply(
 
 // The words of a page that merge m makes current.
 fn put_page(mem: &mut [u8], s: Sizes, page: usize, place: u32, m: u32, lineage: Tail, newest: Stamp)
-    requires { ⌜ need s * 4 ≤ length (now mem) ⌝ }
+    requires { ⌜ Suffices s (now mem) ⌝ }
     requires { ⌜ page < s .pages ⌝ }
-    ensures { λ _. ⌜ view s (words (now (mem .exit))) ≡ pagePut page place m (lineage .0) (newest .0) (view s (words (now (mem .entry)))) ⌝ }
+    ensures { λ _. ⌜ viewOf s (now (mem .exit)) ≡ pagePut page place m (lineage .0) (newest .0) (viewOf s (now (mem .entry))) ⌝ }
 {
     write(mem, s, Region::PageState, page, PAGE_CURRENT);
     write(mem, s, Region::PagePlace, page, place);
@@ -177,9 +175,9 @@ fn put_page(mem: &mut [u8], s: Sizes, page: usize, place: u32, m: u32, lineage: 
 
 // A page takes the place of page `old`, which waits from merge m on.
 fn replace_page(mem: &mut [u8], s: Sizes, old: usize, page: u32, place: usize, m: u32)
-    requires { ⌜ need s * 4 ≤ length (now mem) ⌝ }
+    requires { ⌜ Suffices s (now mem) ⌝ }
     requires { ⌜ (old < s .pages) × (place < s .places) ⌝ }
-    ensures { λ _. ⌜ view s (words (now (mem .exit))) ≡ pageReplaced old page place m (view s (words (now (mem .entry)))) ⌝ }
+    ensures { λ _. ⌜ viewOf s (now (mem .exit)) ≡ pageReplaced old page place m (viewOf s (now (mem .entry))) ⌝ }
 {
     write(mem, s, Region::PageState, old, PAGE_WAITING);
     write(mem, s, Region::PageReplaced, old, m);
@@ -189,10 +187,10 @@ fn replace_page(mem: &mut [u8], s: Sizes, old: usize, page: u32, place: usize, m
 
 // Column c of range g is merged through tail record n: a copy of its page, in a free page, takes the records after the page's lineage.
 pub fn merge(mem: &mut [u8], s: Sizes, g: usize, c: usize, n: Tail, page: usize)
-    requires { ⌜ need s * 4 ≤ length (now mem) ⌝ }
-    requires { ⌜ Proper s × Pooled s (view s (words (now mem))) ⌝ }
-    requires { ⌜ Mergeable s (view s (words (now mem))) g c (n .0) page ⌝ }
-    ensures { λ _. ⌜ view s (words (now (mem .exit))) ≡ mergedIn (shapeIn s) g c (n .0) (view s (words (now (mem .entry)))) ⌝ }
+    requires { ⌜ Suffices s (now mem) ⌝ }
+    requires { ⌜ Proper s × Pooled s (viewOf s (now mem)) ⌝ }
+    requires { ⌜ Mergeable s (viewOf s (now mem)) g c (n .0) page ⌝ }
+    ensures { λ _. ⌜ viewOf s (now (mem .exit)) ≡ mergedIn (shapeIn s) g c (n .0) (viewOf s (now (mem .entry))) ⌝ }
 {
     let place = g * s.columns + c;
     let seen: &[u8] = mem;
@@ -231,7 +229,7 @@ fn lesser(a: u32, b: u32) -> u32
 }
 
 // Whether a page waits that no scan needs.
-fn is_spare(state: u32, replaced: u32, least: u32) -> bool
+fn is_freeable(state: u32, replaced: u32, least: u32) -> bool
     ensures { λ r. ⌜ r ≡ (waitingPage state && not (ltb least replaced)) ⌝ }
 {
     if state > PAGE_CURRENT {
@@ -258,21 +256,21 @@ fn count_after(freed: bool, n: u32) -> u32
 
 // A page is freed if it waits and no scan needs it; the answer is the count with it. Each turn stores, so that there is no branch.
 fn free_one(mem: &mut [u8], s: Sizes, least: u32, p: usize, n: u32) -> u32
-    requires { ⌜ need s * 4 ≤ length (now mem) ⌝ }
+    requires { ⌜ Suffices s (now mem) ⌝ }
     requires { ⌜ (p < s .pages) × (n < 4294967295) ⌝ }
-    ensures { λ r. ⌜ (r ≡ cond (spare least (view s (words (now (mem .entry)))) p) (n + 1) n) × (view s (words (now (mem .exit))) ≡ put Region.PageState p (cond (spare least (view s (words (now (mem .entry)))) p) asFree (getD (view s (words (now (mem .entry))) Region.PageState) p 0)) (view s (words (now (mem .entry))))) ⌝ }
+    ensures { λ r. ⌜ (r ≡ cond (freeable least (viewOf s (now (mem .entry))) p) (n + 1) n) × (viewOf s (now (mem .exit)) ≡ put Region.PageState p (cond (freeable least (viewOf s (now (mem .entry))) p) asFree (getD (viewOf s (now (mem .entry)) Region.PageState) p 0)) (viewOf s (now (mem .entry)))) ⌝ }
 {
     let state = read(mem, s, Region::PageState, p);
-    let freed = is_spare(state, read(mem, s, Region::PageReplaced, p), least);
+    let freed = is_freeable(state, read(mem, s, Region::PageReplaced, p), least);
     write(mem, s, Region::PageState, p, state_after(freed, state));
     count_after(freed, n)
 }
 
 // Every waiting page that no scan needs is freed; the answer is how many.
 fn free_pages(mem: &mut [u8], s: Sizes, least: u32) -> u32
-    requires { ⌜ need s * 4 ≤ length (now mem) ⌝ }
+    requires { ⌜ Suffices s (now mem) ⌝ }
     requires { ⌜ Proper s ⌝ }
-    ensures { λ r. ⌜ (r ≡ countBelow (spare least (view s (words (now (mem .entry))))) (s .pages)) × (view s (words (now (mem .exit))) ≡ sparesFreed least (s .pages) (view s (words (now (mem .entry))))) ⌝ }
+    ensures { λ r. ⌜ (r ≡ countBelow (freeable least (viewOf s (now (mem .entry)))) (s .pages)) × (viewOf s (now (mem .exit)) ≡ freeablesFreed least (s .pages) (viewOf s (now (mem .entry)))) ⌝ }
 {
     let pages = s.pages;
     let mut n = 0;
@@ -287,9 +285,9 @@ fn free_pages(mem: &mut [u8], s: Sizes, least: u32) -> u32
 // Every waiting page is freed, unless a scan that is open was opened before the merge that replaced it; the answer is how many. `scans` is the table of the
 // scan list.
 pub fn release(mem: &mut [u8], s: Sizes, scans: Scans) -> u32
-    requires { ⌜ need s * 4 ≤ length (now mem) ⌝ }
+    requires { ⌜ Suffices s (now mem) ⌝ }
     requires { ⌜ Proper s × (scans .count ≤ mostScans) ⌝ }
-    ensures { λ r. ⌜ ((ps : List Place) → scans ≡ tableOf ps → openCount ps ≤ mostScans → (r ≡ countBelow (releasable ps (view s (words (now (mem .entry))))) (pagesOf (shapeIn s))) × (view s (words (now (mem .exit))) ≡ releasedIn (shapeIn s) ps (view s (words (now (mem .entry)))))) ⌝ }
+    ensures { λ r. ⌜ ((ps : List ScanEntry) → scans ≡ tableOf ps → openCount ps ≤ mostScans → (r ≡ countBelow (releasable ps (viewOf s (now (mem .entry)))) (pagesOf (shapeIn s))) × (viewOf s (now (mem .exit)) ≡ releasedIn (shapeIn s) ps (viewOf s (now (mem .entry))))) ⌝ }
 {
     let entries = scans.merges;
     let n = scans.count;

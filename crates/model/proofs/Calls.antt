@@ -26,13 +26,13 @@ use Rattle.history.proofs.Pages.{cell-is}
 use Rattle.history.proofs.Past.{past-next}
 use Rattle.layout.specs.View.{View, rowsGiven, lastStamp, usedIn}
 use Rattle.layout.specs.declared.Region.the-variants.{Opens, Changes}
-use Rattle.terms.specs.declared.Place.{Place}
+use Rattle.terms.specs.declared.ScanEntry.{ScanEntry}
 use Rattle.terms.specs.Places.{bears, place}
-use Rattle.model.specs.Stored.{cellIn, currentIn, within, openPlace, scanPlace, pagesOf}
+use Rattle.model.specs.Stored.{cellIn, currentIn, within, openPlace, scanEntry, pagesOf}
 use Rattle.model.specs.declared.Reader.{Reader}
 use Rattle.model.specs.Reading.{reader, readIn, readCurrent, ownChanges, wordIn, scanPage, Tally, tally, sumIn}
 use Rattle.model.specs.Writing.{freeIn}
-use Rattle.model.specs.Calls.{testsIn, replyIn, actIn, placesAfter, viewIf, placesIf, say, viewNext, placesNext, notOpenIn, noScanIn, notGivenIn, lacksIn, notLaterIn, laterIn, outOfReachIn, Typed}
+use Rattle.model.specs.Calls.{testsIn, replyIn, actIn, entriesAfter, viewIf, entriesIf, say, viewNext, entriesNext, notOpenIn, noScanIn, notGivenIn, lacksIn, notLaterIn, laterIn, outOfReachIn, Typed}
 use Rattle.model.specs.Represents.{everyRow, CurrentOf, Unchanged, scanAs, Represents, Known, StepKept}
 use Rattle.model.proofs.Transactions.{opens-is, opens-full, open-there, active-some, begin-kept, commit-kept, abort-kept}
 use Rattle.model.proofs.Insert.{insert-kept}
@@ -82,7 +82,7 @@ total-append f (x ∷ l) m = ap (λ (z : ℤ). f x +ℤ z) (total-append f l m) 
 abbrev tallied : History → (ℕ → Bool) → ℕ → ℕ → Tally
 tallied h f c n = record { count = length (keep (visible f h) (upTo n)); total = total (λ r. versionOf f h r c .value) (keep (visible f h) (upTo n)) }
 
-module _ (S : Shape) (v : View) (ps : List Place) (h : History) (o : Represents S v ps h) (k : Known S h) where
+module _ (S : Shape) (v : View) (ps : List ScanEntry) (h : History) (o : Represents S v ps h) (k : Known S h) where
   -- ---- the conditions, one for one
   open-is : (t : ℕ) → notOpenIn v t ≡ notActive h t
   unfolding notOpenIn notActive stateOf
@@ -197,7 +197,7 @@ module _ (S : Shape) (v : View) (ps : List Place) (h : History) (o : Represents 
       unchanged : noted ≡ 0 → Unchanged (h .rows) (h .tail) t
       unchanged e = rw (here .1) at (o .notes j (omega (arith, here .0, o .whole .long Opens)) not-zero .none e)
 
-  found : (i : ℕ) → T (scanAt h i .running) → scanPlace ps i ≡ scanAs i (scanAt h i)
+  found : (i : ℕ) → T (scanAt h i .running) → scanEntry ps i ≡ scanAs i (scanAt h i)
   unfolding scanAt
   found i t = scan-found (h .scans) ps (o .scans) i t
 
@@ -242,10 +242,10 @@ module _ (S : Shape) (v : View) (ps : List Place) (h : History) (o : Represents 
       same : T (visible f h n) → toZ w32 word ≡ value n
       same z = word-is S v ps h o k (reader (scanAt h i .stamp) 0) f (sees-at h (scanAt h i .stamp)) n b c d _ _ (o .scanPages i t (rangeOf n) c (in-range k n b) d .holds) (seen-row (scanAt h i .stamp) n z)
 
-  sum-same : (i c : ℕ) → T (scanAt h i .running) → c < S .columns → sumIn S v (scanPlace ps i) c ≡ H.sumOf (seenAt h (scanAt h i .stamp)) h c
+  sum-same : (i c : ℕ) → T (scanAt h i .running) → c < S .columns → sumIn S v (scanEntry ps i) c ≡ H.sumOf (seenAt h (scanAt h i .stamp)) h c
   unfolding sumIn H.sumOf H.rowsSeen
   sum-same i c t d =
-      ap (λ (s : Place). Answer.Sum (tally S v s c (rowsGiven v) .count) (tally S v s c (rowsGiven v) .total)) (found i t)
+      ap (λ (s : ScanEntry). Answer.Sum (tally S v s c (rowsGiven v) .count) (tally S v s c (rowsGiven v) .total)) (found i t)
       ∙ ap (λ (n : ℕ). Answer.Sum (tally S v (scanAs i (scanAt h i)) c n .count) (tally S v (scanAs i (scanAt h i)) c n .total)) (o .header .rows-given)
       ∙ ap (λ (x : Tally). Answer.Sum (x .count) (x .total)) (tally-is i c t d (length (h .rows)) (le-refl _))
 
@@ -272,7 +272,7 @@ module _ (S : Shape) (v : View) (ps : List Place) (h : History) (o : Represents 
   reply-same (ownRead t r c) p = own-read t r c (is-active h t (search)) (given-lt r (search)) (column-lt c (search))
   reply-same (openScan s) p = ap Answer.Number (plus-one _ _ (o .header .scans-given))
   reply-same (scanRead i r c) p =
-      ap (λ (s : Place). readIn S v (reader (s .stamp) 0) (scanPage S v (s .merges) (rangeOf r) c) r c) (found i (running-of i (search)))
+      ap (λ (s : ScanEntry). readIn S v (reader (s .stamp) 0) (scanPage S v (s .merges) (rangeOf r) c) r c) (found i (running-of i (search)))
       ∙ scan-read i r c (running-of i (search)) (given-lt r (search)) (column-lt c (search))
   reply-same (sum i c) p = sum-same i c (running-of i (search)) (column-lt c (search))
   reply-same (close i) p = refl
@@ -290,8 +290,8 @@ module _ (S : Shape) (v : View) (ps : List Place) (h : History) (o : Represents 
   unfolding lacksRecords
   capacity-of r n q = nltb→le (S .capacity) (length (recordsOf h (rangeOf r)) + n) q
 
-  pub act-kept : (c : Call) → Typed c → Passed (tests S h c) → Represents S (actIn S v ps c) (placesAfter v ps c) (effect S h c)
-  unfolding actIn placesAfter effect tests H.allGiven notLater H.allRunning later
+  pub act-kept : (c : Call) → Typed c → Passed (tests S h c) → Represents S (actIn S v ps c) (entriesAfter v ps c) (effect S h c)
+  unfolding actIn entriesAfter effect tests H.allGiven notLater H.allRunning later
   act-kept begin y p = begin-kept S v ps h o k (free-place (search)) (step S h begin p) (nleb→lt mostNumbers (length (h .transactions)) (search))
   act-kept (insert t vs) y p = insert-kept S v ps h o k t vs (is-active h t (search)) (nleb→lt (S .ranges * rangeRows) (length (h .rows)) (search)) (y .1) (step S h (insert t vs) p)
   act-kept (update t r m vs) y p =
@@ -316,7 +316,7 @@ module _ (S : Shape) (v : View) (ps : List Place) (h : History) (o : Represents 
 
 -- ---- one call
 pub one-call : StepKept
-unfolding say viewNext placesNext answer next
+unfolding say viewNext entriesNext answer next
 one-call S v ps h c y o k =
     record {
       answered = ap (λ (w : Verdict). answerIf w (replyIn S v ps c)) same ∙ answers (verdict (tests S h c)) refl;
@@ -331,6 +331,6 @@ one-call S v ps h c y o k =
     answers accept e = ap (answerIf accept) (reply-same S v ps h o k c (passed (tests S h c) e))
     answers (refuse n) e = unfold answerIf in refl
 
-    kept : (w : Verdict) → verdict (tests S h c) ≡ w → Represents S (viewIf w v (actIn S v ps c)) (placesIf w ps (placesAfter v ps c)) (nextIf w h (effect S h c))
-    kept accept e = unfold viewIf placesIf nextIf in (act-kept S v ps h o k c y (passed (tests S h c) e))
-    kept (refuse n) e = unfold viewIf placesIf nextIf in o
+    kept : (w : Verdict) → verdict (tests S h c) ≡ w → Represents S (viewIf w v (actIn S v ps c)) (entriesIf w ps (entriesAfter v ps c)) (nextIf w h (effect S h c))
+    kept accept e = unfold viewIf entriesIf nextIf in (act-kept S v ps h o k c y (passed (tests S h c) e))
+    kept (refuse n) e = unfold viewIf entriesIf nextIf in o

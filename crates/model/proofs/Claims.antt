@@ -18,12 +18,12 @@ use Rattle.history.proofs.Latest.{read-committed, cell-taken}
 use Rattle.history.proofs.Past.{past-start}
 use Rattle.layout.specs.View.{View, put, renew}
 use Rattle.layout.specs.declared.Region.the-variants.{Cells}
-use Rattle.terms.specs.declared.Place.{Place}
-use Rattle.terms.specs.Places.{freePlace}
+use Rattle.terms.specs.declared.ScanEntry.{ScanEntry}
+use Rattle.terms.specs.Places.{freeEntry}
 use Rattle.model.specs.Stored.{pageIn, cellIn, currentIn, within}
 use Rattle.model.specs.Writing.{made}
 use Rattle.model.specs.Reading.{reader, scanPage, wasCurrent}
-use Rattle.model.specs.Calls.{testsIn, actIn, viewIf, Typed, viewNext, placesNext, viewAfter, listAfter}
+use Rattle.model.specs.Calls.{testsIn, actIn, viewIf, Typed, viewNext, entriesNext, viewAfter, listAfter}
 use Rattle.model.specs.Claims.{storeAfter, historyAfter, Reads, PageHolds, PagesHold, PageKept, ScansKeep}
 use Rattle.model.specs.Represents.{CurrentOf, Represents, Known}
 use Rattle.model.proofs.Holding.{cell-absent}
@@ -34,19 +34,19 @@ use Rattle.model.proofs.Openings.{SamePage, same-after, scan-later}
 use Rattle.model.proofs.Made.{small-shape, made-represents}
 
 -- ---- the relation after a list of calls
-pub represents-after : (S : Shape) (v : View) (ps : List Place) (h : History) → Represents S v ps h → Known S h → {cs : List Call} → All Typed cs
+pub represents-after : (S : Shape) (v : View) (ps : List ScanEntry) (h : History) → Represents S v ps h → Known S h → {cs : List Call} → All Typed cs
     → Represents S (viewAfter S v ps cs) (listAfter S v ps cs) (run S h cs) × Known S (run S h cs)
 unfolding viewAfter listAfter run
 represents-after S v ps h o k nil = (o, k)
 represents-after S v ps h o k (cons {x = c} {l = cs} y ys) =
     let one = one-call S v ps h c y o k in
-    represents-after S (viewNext S v ps c) (placesNext S v ps c) (next S h c) (one .shown) (one .known) ys
+    represents-after S (viewNext S v ps c) (entriesNext S v ps c) (next S h c) (one .shown) (one .known) ys
 
 pub represented : (S : Shape) → T (withinLimits S) → (n : ℕ) → mostScans ≤ n → {cs : List Call} → All Typed cs
-    → Represents S (storeAfter S n cs) (listAfter S (made S) (replicate n freePlace) cs) (historyAfter S cs) × Known S (historyAfter S cs)
+    → Represents S (storeAfter S n cs) (listAfter S (made S) (replicate n freeEntry) cs) (historyAfter S cs) × Known S (historyAfter S cs)
 unfolding storeAfter historyAfter
 represented S t n enough ys =
-    represents-after S (made S) (replicate n freePlace) start (made-represents S (small-shape S t) n enough) record { small = small-shape S t; past = past-start S } ys
+    represents-after S (made S) (replicate n freeEntry) start (made-represents S (small-shape S t) n enough) record { small = small-shape S t; past = past-start S } ys
 
 -- ---- reads
 pub reads : Reads
@@ -64,7 +64,7 @@ row-of : (g i : ℕ) → i < rangeRows → (rangeOf (g * rangeRows + i) ≡ g) �
 unfolding rangeOf
 row-of g i b = (omega arith, omega arith)
 
-page-holds : (S : Shape) (v : View) (ps : List Place) (h : History) → Represents S v ps h → Known S h → (g c : ℕ) → g < S .ranges → c < S .columns → PageHolds S v h g c
+page-holds : (S : Shape) (v : View) (ps : List ScanEntry) (h : History) → Represents S v ps h → Known S h → (g c : ℕ) → g < S .ranges → c < S .columns → PageHolds S v h g c
 page-holds S v ps h o k g c a b = record {
   taken = x .lineage;
   every-row = λ i u. held i u ∙ cell-taken h (k .past .order) c (g * rangeRows + i) (mergedThrough h g c);
@@ -100,7 +100,7 @@ unfolding next nextIf effect withScans scanAt
 scan-opened S h s e = rw e (ap (λ (x : Scan). x .before) (nth-last noScan (h .scans) _), simp length-append (omega arith), refl)
 
 -- opening a scan changes no page
-opened-same : (S : Shape) (v : View) (ps : List Place) (s m g c : ℕ) → (scanPage S (viewNext S v ps (openScan s)) m g c ≡ scanPage S v m g c) × ((q i : ℕ) → cellIn (viewNext S v ps (openScan s)) q i ≡ cellIn v q i)
+opened-same : (S : Shape) (v : View) (ps : List ScanEntry) (s m g c : ℕ) → (scanPage S (viewNext S v ps (openScan s)) m g c ≡ scanPage S v m g c) × ((q i : ℕ) → cellIn (viewNext S v ps (openScan s)) q i ≡ cellIn v q i)
 unfolding viewNext
 opened-same S v ps s m g c = go (verdict (testsIn S v ps (openScan s)))
   where
@@ -108,9 +108,9 @@ opened-same S v ps s m g c = go (verdict (testsIn S v ps (openScan s)))
     go accept = unfold viewIf actIn put renew scanPage wasCurrent currentIn pageIn cellIn in (refl, λ q i. refl)
     go (refuse n) = unfold viewIf in (refl, λ q i. refl)
 
-pages-kept : (S : Shape) (v : View) (ps : List Place) (h : History) → Represents S v ps h → Known S h → (s : ℕ) (cs : List Call) → Typed (openScan s) → All Typed cs → verdict (tests S h (openScan s)) ≡ accept
+pages-kept : (S : Shape) (v : View) (ps : List ScanEntry) (h : History) → Represents S v ps h → Known S h → (s : ℕ) (cs : List Call) → Typed (openScan s) → All Typed cs → verdict (tests S h (openScan s)) ≡ accept
     → T (scanAt (run S (next S h (openScan s)) cs) (suc (length (h .scans))) .running) → (g c : ℕ) → g < S .ranges → c < S .columns
-    → PageKept S v (viewAfter S (viewNext S v ps (openScan s)) (placesNext S v ps (openScan s)) cs) (run S (next S h (openScan s)) cs) (suc (length (h .scans))) g c (length (h .rows))
+    → PageKept S v (viewAfter S (viewNext S v ps (openScan s)) (entriesNext S v ps (openScan s)) cs) (run S (next S h (openScan s)) cs) (suc (length (h .scans))) g c (length (h .rows))
 pages-kept S v ps h o k s cs y ys e t g c bg bc =
     record {
       page = ap (λ (j : ℕ). scanPage S v₂ j g c) before-is ∙ (rw (new .0) at (same .page)) ∙ first;
@@ -129,13 +129,13 @@ pages-kept S v ps h o k s cs y ys e t g c bg bc =
     v₁ = viewNext S v ps (openScan s)
 
     v₂ : View
-    v₂ = viewAfter S (viewNext S v ps (openScan s)) (placesNext S v ps (openScan s)) cs
+    v₂ = viewAfter S (viewNext S v ps (openScan s)) (entriesNext S v ps (openScan s)) cs
 
     new : Opened h (next S h (openScan s))
     new = scan-opened S h s e
 
     same : SamePage S v₁ v₂ (scanAt h₁ i .before) (length (h₁ .rows)) g c
-    same = let one = one-call S v ps h (openScan s) y o k in same-after S v₁ (placesNext S v ps (openScan s)) h₁ (one .shown) (one .known) i (new .1) ys t g c bg bc
+    same = let one = one-call S v ps h (openScan s) y o k in same-after S v₁ (entriesNext S v ps (openScan s)) h₁ (one .shown) (one .known) i (new .1) ys t g c bg bc
 
     before-is : scanAt (run S h₁ cs) i .before ≡ length (h .merges)
     before-is = ap (λ (x : Scan). x .before) (scan-later S h₁ cs i (new .1) t) ∙ new .0

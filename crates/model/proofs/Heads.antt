@@ -20,7 +20,7 @@ use Rattle.history.proofs.Links.{last-of-row}
 use Rattle.history.proofs.Newest.{recordIs, newestIs, ended-newest}
 use Rattle.layout.specs.View.{View}
 use Rattle.layout.specs.declared.Region.the-variants.{Opens}
-use Rattle.terms.specs.declared.Place.{Place}
+use Rattle.terms.specs.declared.ScanEntry.{ScanEntry}
 use Rattle.model.specs.declared.Reader.{Reader}
 use Rattle.model.specs.Stored.{RecordWords, rowIn, recordIn, committedState, deleteKind, anyBelow}
 use Rattle.model.specs.Reading.{reader, sees, seesRecord, headIn, hasRecord, visibleIn}
@@ -82,7 +82,7 @@ pub sees-not-aborted : (h : History) (who : Reader) (f : ℕ → Bool) → SeesA
 unfolding SeesAs sees
 sees-not-aborted h who f w k e = sym (w k) ∙ rw e
 
-module _ (S : Shape) (v : View) (ps : List Place) (h : History) (o : Represents S v ps h) (k : Known S h) (r : ℕ) (b : r < length (h .rows)) where
+module _ (S : Shape) (v : View) (ps : List ScanEntry) (h : History) (o : Represents S v ps h) (k : Known S h) (r : ℕ) (b : r < length (h .rows)) where
   abbrev recs : List Record
   recs = recordsOf h (rangeOf r)
 

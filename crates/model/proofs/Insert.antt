@@ -28,7 +28,7 @@ use Rattle.words.specs.Words.{Fit}
 use Rattle.loops.proofs.Change.{set-fit}
 use Rattle.layout.specs.View.{View, renew, put}
 use Rattle.layout.specs.declared.Region.the-variants.{Header, Opens, RowTransaction, RowState, RowStamp, RowLink, RowMask, Current, Cells, Changes}
-use Rattle.terms.specs.declared.Place.{Place}
+use Rattle.terms.specs.declared.ScanEntry.{ScanEntry}
 use Rattle.terms.specs.Places.{bears, place}
 use Rattle.layout.specs.Regions.{rowsAt}
 use Rattle.model.specs.Stored.{rowIn, recordIn, valueIn, pageIn, cellIn, currentIn, placeOf, within, openPlace, nextWord}
@@ -94,7 +94,7 @@ pub current-apart : (S : Shape) (v : View) (h : History) → CurrentsAre S h v �
 current-apart S v h o g c g′ c′ a b a′ b′ e =
     same-part (S .columns) g g′ c c′ b b′ (sym (o g c a b .place) ∙ ap (λ (p : ℕ). (pageIn v p) .place) e ∙ o g′ c′ a′ b′ .place)
 
-module _ (S : Shape) (v : View) (ps : List Place) (h : History) (o : Represents S v ps h) (k : Known S h) (t : ℕ) (vs : List ℤ) (a : stateOf h t ≡ active)
+module _ (S : Shape) (v : View) (ps : List ScanEntry) (h : History) (o : Represents S v ps h) (k : Known S h) (t : ℕ) (vs : List ℤ) (a : stateOf h t ≡ active)
     (room : length (h .rows) < S .ranges * rangeRows) (typed : All (SFits w32) vs) where
   abbrev row : Row
   row = record { inserter = t; values = vs }

@@ -23,12 +23,12 @@ use Rattle.layout.specs.Regions.{len}
 use Rattle.layout.specs.View.{View, blank, renew, put}
 use Rattle.layout.specs.declared.Region.{Region}
 use Rattle.layout.specs.declared.Region.the-variants.{Header, Opens, Current, PageState, PagePlace}
-use Rattle.terms.specs.declared.Place.{Place}
+use Rattle.terms.specs.declared.ScanEntry.{ScanEntry}
 use Rattle.layout.specs.Sizes.{sizesOf}
-use Rattle.terms.specs.Places.{freePlace}
+use Rattle.terms.specs.Places.{freeEntry}
 use Rattle.model.specs.Stored.{pageIn, cellIn, currentIn, placeOf, placesOf, pagesOf, within, waitingPage, currentPage, countBelow}
 use Rattle.model.specs.Writing.{made}
-use Rattle.model.specs.Calls.{Typed, viewNext, placesNext, sayAll}
+use Rattle.model.specs.Calls.{Typed, viewNext, entriesNext, sayAll}
 use Rattle.layout.specs.Codes.{asCurrent}
 use Rattle.model.proofs.Lists.{below-all, below-none}
 use Rattle.model.specs.Represents.{Holds, everyRow, CurrentsAre, PoolIs, Represents, Small, Known, Whole}
@@ -147,7 +147,7 @@ module _ (S : Shape) (small : Small S) where
       (renew-whole PageState _ (changed-length (λ i x. asCurrent) 0 (blank (sizesOf S) PageState) (placesOf S) ∙ blank-long PageState)
       (changed-fit (λ i x. asCurrent) 0 (placesOf S) (blank (sizesOf S) PageState) (λ i x a b. omega arith) (blank-whole .fits PageState)) blank-whole))))))
 
-  pub made-represents : (n : ℕ) → mostScans ≤ n → Represents S (made S) (replicate n freePlace) start
+  pub made-represents : (n : ℕ) → mostScans ≤ n → Represents S (made S) (replicate n freeEntry) start
   made-represents n enough =
       record {
         header = unfold made blank put renew start in record { columns = refl; ranges = refl; capacity = refl; spares = refl; rows-given = refl; transactions-given = refl; scans-given = refl; last-stamp = refl; merges-made = refl };
@@ -158,7 +158,7 @@ module _ (S : Shape) (small : Small S) where
         currents = currents-made;
         waits = λ p b t. absurd (rw (state-not-waiting p) at t);
         pool = unfold start in pool-made;
-        scans = unfold start in record { room = rw length-replicate enough; same = λ q. none-counted (λ p. not (eqb (p .number) 0) && q p) n freePlace refl };
+        scans = unfold start in record { room = rw length-replicate enough; same = λ q. none-counted (λ p. not (eqb (p .number) 0) && q p) n freeEntry refl };
         scanPages = λ k t. absurd (no-scan k t);
         whole = made-whole;
       }
@@ -174,15 +174,15 @@ module _ (S : Shape) (small : Small S) where
       no-scan (suc k) t = unfold scanAt start in t
 
 -- ---- every list of calls
-simulated-from : (S : Shape) (v : View) (ps : List Place) (h : History) → Represents S v ps h → Known S h → {cs : List Call} → All Typed cs → sayAll S v ps cs ≡ answers S h cs
+simulated-from : (S : Shape) (v : View) (ps : List ScanEntry) (h : History) → Represents S v ps h → Known S h → {cs : List Call} → All Typed cs → sayAll S v ps cs ≡ answers S h cs
 unfolding sayAll answers
 simulated-from S v ps h o k nil = refl
 simulated-from S v ps h o k (cons {x = c} {l = cs} y ys) =
     let one = one-call S v ps h c y o k in
-    rw (one .answered, simulated-from S (viewNext S v ps c) (placesNext S v ps c) (next S h c) (one .shown) (one .known) ys)
+    rw (one .answered, simulated-from S (viewNext S v ps c) (entriesNext S v ps c) (next S h c) (one .shown) (one .known) ys)
 
 -- The store, from a making with any scan list of at least 16 places, answers every list of calls as the plain history does.
 pub simulated : (S : Shape) → T (withinLimits S) → (n : ℕ) → mostScans ≤ n → (cs : List Call) → All Typed cs
-    → sayAll S (made S) (replicate n freePlace) cs ≡ answers S start cs
+    → sayAll S (made S) (replicate n freeEntry) cs ≡ answers S start cs
 simulated S t n enough cs ys =
-    simulated-from S (made S) (replicate n freePlace) start (made-represents S (small-shape S t) n enough) record { small = small-shape S t; past = past-start S } ys
+    simulated-from S (made S) (replicate n freeEntry) start (made-represents S (small-shape S t) n enough) record { small = small-shape S t; past = past-start S } ys

@@ -28,7 +28,7 @@ use Rattle.layout.specs.Regions.{len, mergesAt}
 use Rattle.layout.specs.Sizes.{sizesOf}
 use Rattle.layout.specs.declared.Region.{Region}
 use Rattle.layout.specs.declared.Region.the-variants.{Header, Opens, Current, PageState, PagePlace, PageMade, PageReplaced, PageLineage, PageNewest, Cells, TailValues, TailStamp}
-use Rattle.terms.specs.declared.Place.{Place}
+use Rattle.terms.specs.declared.ScanEntry.{ScanEntry}
 use Rattle.model.specs.Stored.{PageWords, rowIn, recordIn, valueIn, pageIn, cellIn, currentIn, placeOf, placesOf, pagesOf, within, nextWord, freePage, currentPage, waitingPage, countBelow}
 use Rattle.layout.specs.Codes.{asCurrent, asWaiting}
 use Rattle.model.specs.Reading.{wasCurrent, scanPage}
@@ -77,7 +77,7 @@ place-parts S some i b =
     let c : i < S .ranges * S .columns = omega (arith, mul-comm (S .columns) (S .ranges)) in
     ((div-lt-iff-lt-mul {k = S .columns} {x = i} {y = S .ranges} some) .1 c, mod-lt i some, div-add-mod' i (S .columns))
 
-module _ (S : Shape) (v : View) (ps : List Place) (h : History) (o : Represents S v ps h) (k : Known S h) where
+module _ (S : Shape) (v : View) (ps : List ScanEntry) (h : History) (o : Represents S v ps h) (k : Known S h) where
   -- the page that place i names
   pub named : (i : ℕ) → i < placesOf S → CurrentIs S h (i / S .columns) (i % S .columns) (getD (v Current) i 0) (pageIn v (getD (v Current) i 0)) (cellIn v (getD (v Current) i 0))
   unfolding currentIn
@@ -124,7 +124,7 @@ merges-few {S} {h} k =
     let b : S .ranges * (S .columns * S .capacity) ≤ mostRanges * (mostColumns * mostRecords) = mul-le-mul (k .small .ranges) a in
     omega (arith, merges-most S h (k .past .merges) (k .past .pages) (k .past .limits))
 
-module _ (S : Shape) (v : View) (ps : List Place) (h : History) (o : Represents S v ps h) (k : Known S h) (g c n : ℕ) (ok : Mergeable S h g c n) where
+module _ (S : Shape) (v : View) (ps : List ScanEntry) (h : History) (o : Represents S v ps h) (k : Known S h) (g c n : ℕ) (ok : Mergeable S h g c n) where
   room : freeIn S v < pagesOf S
   room = nleb→lt (pagesOf S) (freeIn S v)
       (rw (free-is S v ps h o k) (not-T (leb (S .spares) (waitingPages (h .merges))) (λ t. omega (arith, leb→le (S .spares) (waitingPages (h .merges)) t, ok .spare))))

@@ -19,11 +19,11 @@ use Rattle.history.proofs.Steps.{mergeable, is-active, next-step}
 use Rattle.history.specs.Steps.{Mergeable, scanOpened, scanClosed, Step, nothing, newStates, rowGiven, recordsMade, newScans, newMerges}
 use Rattle.layout.specs.View.{View, renew, put}
 use Rattle.layout.specs.declared.Region.the-variants.{RowMask}
-use Rattle.terms.specs.declared.Place.{Place}
+use Rattle.terms.specs.declared.ScanEntry.{ScanEntry}
 use Rattle.model.specs.Stored.{rowIn, pageIn, cellIn, currentIn, within, openPlace}
 use Rattle.model.specs.Reading.{scanPage, wasCurrent}
 use Rattle.model.specs.Writing.{begun, noted, settled, freed, committedIn, abortedIn, insertedAt, insertedIn, appended, filledIn, newBitsIn, originalAppended, settingAppended, updatedIn, deletedIn, mergedIn, releasedIn}
-use Rattle.model.specs.Calls.{Typed, actIn, viewIf, viewNext, placesNext, viewAfter}
+use Rattle.model.specs.Calls.{Typed, actIn, viewIf, viewNext, entriesNext, viewAfter}
 use Rattle.model.specs.Represents.{ScanPageOf, Represents, Known}
 use Rattle.model.proofs.Insert.{cell-kept, scan-apart}
 use Rattle.model.proofs.Merged.{scan-same, scan-not-free, cells-other}
@@ -40,7 +40,7 @@ pub record SamePage (S : Shape) (v w : View) (m n g c : ℕ) : Type 0 where
 unmoved : (S : Shape) (v : View) (m n g c : ℕ) → SamePage S v v m n g c
 unmoved S v m n g c = record { page = refl; cells = λ r b e. refl }
 
-module _ (S : Shape) (v : View) (ps : List Place) (h : History) (o : Represents S v ps h) (k : Known S h) (i : ℕ) (run : T (scanAt h i .running)) (g c : ℕ) (bg : g < S .ranges) (bc : c < S .columns) where
+module _ (S : Shape) (v : View) (ps : List ScanEntry) (h : History) (o : Represents S v ps h) (k : Known S h) (i : ℕ) (run : T (scanAt h i .running)) (g c : ℕ) (bg : g < S .ranges) (bc : c < S .columns) where
   abbrev Same : View → Type 0
   Same w = SamePage S v w (scanAt h i .before) (length (h .rows)) g c
 
@@ -127,7 +127,7 @@ scan-later S h (x ∷ cs) i b t =
     let e = scan-later S (next S h x) cs i (le-trans b (grown s .scans)) t in
     e ∙ scan-before s i b (rw e at t)
 
-pub same-after : (S : Shape) (v : View) (ps : List Place) (h : History) → Represents S v ps h → Known S h → (i : ℕ) → i ≤ length (h .scans) → {cs : List Call} → All Typed cs → T (scanAt (run S h cs) i .running)
+pub same-after : (S : Shape) (v : View) (ps : List ScanEntry) (h : History) → Represents S v ps h → Known S h → (i : ℕ) → i ≤ length (h .scans) → {cs : List Call} → All Typed cs → T (scanAt (run S h cs) i .running)
     → (g c : ℕ) → g < S .ranges → c < S .columns → SamePage S v (viewAfter S v ps cs) (scanAt h i .before) (length (h .rows)) g c
 unfolding run viewAfter
 same-after S v ps h o k i b nil t g c bg bc = unmoved S v _ _ g c
@@ -137,8 +137,8 @@ same-after S v ps h o k i b (cons {x = x} {l = cs} y ys) t g c bg bc =
     let later : T (scanAt (next S h x) i .running) = rw (scan-later S (next S h x) cs i (le-trans b (grown s .scans)) t) at t in
     let e : scanAt (next S h x) i ≡ scanAt h i = scan-before s i b later in
     let first : SamePage S v (viewNext S v ps x) (scanAt h i .before) (length (h .rows)) g c = next-same S v ps h o k i (rw e at later) g c bg bc x y in
-    let rest : SamePage S (viewNext S v ps x) (viewAfter S (viewNext S v ps x) (placesNext S v ps x) cs) (scanAt h i .before) (length ((next S h x) .rows)) g c =
-    rw e at (same-after S (viewNext S v ps x) (placesNext S v ps x) (next S h x) (one .shown) (one .known) i (le-trans b (grown s .scans)) ys t g c bg bc) in
+    let rest : SamePage S (viewNext S v ps x) (viewAfter S (viewNext S v ps x) (entriesNext S v ps x) cs) (scanAt h i .before) (length ((next S h x) .rows)) g c =
+    rw e at (same-after S (viewNext S v ps x) (entriesNext S v ps x) (next S h x) (one .shown) (one .known) i (le-trans b (grown s .scans)) ys t g c bg bc) in
     record {
       page = rest .page ∙ first .page;
       cells = λ r u f. (rw (first .page) at (rest .cells r (le-trans u (grown s .rows)) f)) ∙ first .cells r u f;

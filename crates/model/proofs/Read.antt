@@ -24,7 +24,7 @@ use Rattle.history.proofs.Ranges.{version-range, last-next, last-agree, last-un
 use Rattle.history.proofs.Links.{last-of-row}
 use Rattle.history.proofs.Endings.{original-reads, originals-of}
 use Rattle.layout.specs.View.{View}
-use Rattle.terms.specs.declared.Place.{Place}
+use Rattle.terms.specs.declared.ScanEntry.{ScanEntry}
 use Rattle.model.specs.declared.Reader.{Reader}
 use Rattle.model.specs.declared.Walk.{Walk}
 use Rattle.model.specs.Stored.{PageWords, rowIn, recordIn, valueIn, pageIn, cellIn, within, originalKind, settingKind}
@@ -170,7 +170,7 @@ unfolding wasSet
 unset-take l r c n e =
     any-none (λ (x : Record). eqb (x .row) r && sets c (x .content)) (all-take n (not-any (λ (x : Record). eqb (x .row) r && sets c (x .content)) l (rw e tt)))
 
-module _ (S : Shape) (v : View) (ps : List Place) (h : History) (o : Represents S v ps h) (k : Known S h) (who : Reader) (f : ℕ → Bool) (w : SeesAs h who f) (r : ℕ)
+module _ (S : Shape) (v : View) (ps : List ScanEntry) (h : History) (o : Represents S v ps h) (k : Known S h) (who : Reader) (f : ℕ → Bool) (w : SeesAs h who f) (r : ℕ)
     (b : r < length (h .rows)) (c : ℕ) (inside : c < S .columns) (p : ℕ) (Q : ℕ → Type 0) (held : Holds h (rangeOf r) c Q (pageIn v p) (cellIn v p)) where
   abbrev g : ℕ
   g = rangeOf r

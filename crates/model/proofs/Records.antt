@@ -23,7 +23,7 @@ use Rattle.history.proofs.Ranges.{records-made}
 use Rattle.history.proofs.Links.{last-of-append}
 use Rattle.layout.specs.View.{View, renew, put, usedIn}
 use Rattle.layout.specs.declared.Region.the-variants.{Opens, Changes, RowLink}
-use Rattle.terms.specs.declared.Place.{Place}
+use Rattle.terms.specs.declared.ScanEntry.{ScanEntry}
 use Rattle.terms.specs.Places.{bears, place}
 use Rattle.model.specs.Stored.{RowWords, RecordWords, rowIn, recordIn, valueIn, pageIn, cellIn, currentIn, openPlace, nextWord}
 use Rattle.layout.specs.Codes.{asOpen, asDelete}
@@ -75,7 +75,7 @@ set-append : (l m : List Record) (r c : ℕ) → wasSet (l ++ m) r c ≡ (wasSet
 unfolding wasSet
 set-append l m r c = any-append (λ x. eqb (x .row) r && sets c (x .content)) l m
 
-module _ (S : Shape) (v : View) (ps : List Place) (h : History) (o : Represents S v ps h) (k : Known S h) (t r : ℕ) (a : stateOf h t ≡ active) (b : r < length (h .rows)) (ms : List Record)
+module _ (S : Shape) (v : View) (ps : List ScanEntry) (h : History) (o : Represents S v ps h) (k : Known S h) (t r : ℕ) (a : stateOf h t ≡ active) (b : r < length (h .rows)) (ms : List Record)
     (new : All (New h t r) ms) where
   abbrev h′ : History
   h′ = withTail h (h .tail ++ ms)
@@ -134,7 +134,7 @@ pub number-fits : {S : Shape} {h : History} → Known S h → (t : ℕ) → stat
 unfolding stateOf
 number-fits {h = h} k t a = omega (arith, active-given (h .transactions) t a, k .past .limits .transactions)
 
-pub none-made : (S : Shape) (v : View) (ps : List Place) (h : History) → Represents S v ps h → (r : ℕ) → r < length (h .rows) → Extended S h v r [] v
+pub none-made : (S : Shape) (v : View) (ps : List ScanEntry) (h : History) → Represents S v ps h → (r : ℕ) → r < length (h .rows) → Extended S h v r [] v
 unfolding rowIn
 none-made S v ps h o r b = record {
   whole = o .whole;
@@ -249,7 +249,7 @@ module _ {S : Shape} {h : History} {v : View} {r : ℕ} {ms : List Record} {u : 
           new-link (E .tails))
 
 -- ---- delete
-pub delete-kept : (S : Shape) (v : View) (ps : List Place) (h : History) → Represents S v ps h → Known S h → (t r : ℕ) → stateOf h t ≡ active → r < length (h .rows)
+pub delete-kept : (S : Shape) (v : View) (ps : List ScanEntry) (h : History) → Represents S v ps h → Known S h → (t r : ℕ) → stateOf h t ≡ active → r < length (h .rows)
     → length (recordsOf h (rangeOf r)) + 1 ≤ S .capacity → Step S h (delete t r) (withTail h (h .tail ++ deleteRecords t r)) → All (New h t r) (deleteRecords t r)
     → Represents S (deletedIn S t r v) ps (withTail h (h .tail ++ deleteRecords t r))
 unfolding deletedIn noted openPlace put renew withTail deleteRecords recordIn valueIn pageIn cellIn currentIn scanPage wasCurrent appended stateOf rowAt scanAt

@@ -18,7 +18,7 @@ use Rattle.history.proofs.Pages.{lineage-step, lineage-stays}
 use Rattle.loops.proofs.Change.{changed-length, changed-fit}
 use Rattle.layout.specs.View.{View, renew}
 use Rattle.layout.specs.declared.Region.the-variants.{PageState}
-use Rattle.terms.specs.declared.Place.{Place}
+use Rattle.terms.specs.declared.ScanEntry.{ScanEntry}
 use Rattle.model.specs.Stored.{rowIn, recordIn, valueIn, pageIn, cellIn, currentIn, placeOf, pagesOf, currentPage, waitingPage, countBelow}
 use Rattle.layout.specs.Codes.{asFree}
 use Rattle.model.specs.Reading.{wasCurrent, scanPage}
@@ -32,7 +32,7 @@ use Rattle.model.proofs.ScanPages.{WasCurrent, unfound, unfound-state, 
 use Rattle.model.proofs.Book.{live-inside}
 
 -- ---- the scans that need a page
-pub needed-is : (ss : List Scan) (ps : List Place) → ScansAre ss ps → (i : ℕ) → neededIn ps (suc i) ≡ neededBy ss i
+pub needed-is : (ss : List Scan) (ps : List ScanEntry) → ScansAre ss ps → (i : ℕ) → neededIn ps (suc i) ≡ neededBy ss i
 unfolding neededBy
 needed-is ss ps o i =
     any-count (λ p. not (eqb (p .number) 0) && ltb (p .merges) (suc i)) ps
@@ -44,7 +44,7 @@ needed-is ss ps o i =
     ∙ sym (any-count (λ s. s .running && leb (s .before) i) ss)
 
 -- the merges that still wait, and those whose pages are freed
-still-waiting : (ss : List Scan) (ps : List Place) → ScansAre ss ps → (q : ℕ → Bool) (i : ℕ) (ms : List Merge)
+still-waiting : (ss : List Scan) (ps : List ScanEntry) → ScansAre ss ps → (q : ℕ → Bool) (i : ℕ) (ms : List Merge)
     → countFrom (λ j m. m .waiting && (q j && neededIn ps j)) (suc i) ms ≡ countFrom (λ j m. m .waiting && q j) (suc i) (afterRelease ss i ms)
 unfolding afterRelease
 still-waiting ss ps o q i [] = refl
@@ -54,7 +54,7 @@ still-waiting ss ps o q i (m ∷ ms) =
     (λ (b : Bool). cond b (suc (countFrom (λ j m. m .waiting && q j) (suc (suc i)) (afterRelease ss (suc i) ms))) (countFrom (λ j m. m .waiting && q j) (suc (suc i)) (afterRelease ss (suc i) ms)))
     (ap (λ (b : Bool). m .waiting && b) (and-comm (q (suc i)) (neededBy ss i)) ∙ sym (and-assoc (m .waiting) (neededBy ss i) (q (suc i)))))
 
-freed-count : (ss : List Scan) (ps : List Place) → ScansAre ss ps → (i : ℕ) (ms : List Merge)
+freed-count : (ss : List Scan) (ps : List ScanEntry) → ScansAre ss ps → (i : ℕ) (ms : List Merge)
     → countFrom (λ j m. m .waiting && not (neededIn ps j)) (suc i) ms ≡ releasedCount ss i ms
 unfolding releasedCount
 freed-count ss ps o i [] = refl
@@ -65,11 +65,11 @@ any-nth f l zero d e t = absurd (rw e at t)
 any-nth f l (suc k) d e t = place-any f l d k (live-inside f l k d e t) t
 
 -- ---- the answer
-pub release-count : (S : Shape) (v : View) (ps : List Place) (h : History) → Represents S v ps h → countBelow (releasable ps v) (pagesOf S) ≡ releasedCount (h .scans) 0 (h .merges)
+pub release-count : (S : Shape) (v : View) (ps : List ScanEntry) (h : History) → Represents S v ps h → countBelow (releasable ps v) (pagesOf S) ≡ releasedCount (h .scans) 0 (h .merges)
 unfolding releasable
 release-count S v ps h o = o .pool .waiting (λ i. not (neededIn ps i)) ∙ freed-count (h .scans) ps (o .scans) 0 (h .merges)
 
-module _ (S : Shape) (v : View) (ps : List Place) (h : History) (o : Represents S v ps h) (k : Known S h) where
+module _ (S : Shape) (v : View) (ps : List ScanEntry) (h : History) (o : Represents S v ps h) (k : Known S h) where
   abbrev h′ : History
   h′ = withMerges h (afterRelease (h .scans) 0 (h .merges))
 

@@ -16,10 +16,10 @@ use Rattle.history.proofs.Steps.{noScan}
 use Rattle.history.specs.Steps.{Step}
 use Rattle.layout.specs.View.{View, renew, put, scansGiven, mergesMade}
 use Rattle.layout.specs.declared.Region.the-variants.{Header}
-use Rattle.terms.specs.declared.Place.{Place}
-use Rattle.terms.specs.Places.{place, freePlace, isScan}
+use Rattle.terms.specs.declared.ScanEntry.{ScanEntry}
+use Rattle.terms.specs.Places.{place, freeEntry, isScan}
 use Rattle.layout.specs.Regions.{scansAt}
-use Rattle.model.specs.Stored.{rowIn, recordIn, valueIn, pageIn, cellIn, currentIn, scanPlace}
+use Rattle.model.specs.Stored.{rowIn, recordIn, valueIn, pageIn, cellIn, currentIn, scanEntry}
 use Rattle.model.specs.Reading.{scanPage, wasCurrent}
 use Rattle.model.proofs.Lists.{any-count}
 use Rattle.model.proofs.Book.{Kind, book-is, book-room, book-count, book-add, book-drop, book-found}
@@ -29,27 +29,27 @@ use Rattle.model.proofs.Steady.{still-running, currents-stay, waits-sta
 use Rattle.model.proofs.Views.{put-whole, header-put, header-same}
 
 -- ---- the places of scans are a book
-pub same-place : (p q : Place) → ((f : Place → ℕ) → f p ≡ f q) → p ≡ q
+pub same-place : (p q : ScanEntry) → ((f : ScanEntry → ℕ) → f p ≡ f q) → p ≡ q
 same-place p q f = λ i. record { number = f (λ z. z .number) i; stamp = f (λ z. z .stamp) i; merges = f (λ z. z .merges) i }
 
-abbrev pub scanKind : Kind Place Scan
+abbrev pub scanKind : Kind ScanEntry Scan
 scanKind =
-    record { number = λ p. p .number; live = λ s. s .running; as′ = scanAs; as-number = λ i s. refl; free = freePlace; free-number = refl; none = noScan; none-live = refl; tells = same-place }
+    record { number = λ p. p .number; live = λ s. s .running; as′ = scanAs; as-number = λ i s. refl; free = freeEntry; free-number = refl; none = noScan; none-live = refl; tells = same-place }
 
-pub scan-is : (ss : List Scan) (l : List Place) → ScansAre ss l → (k : ℕ) → any (isScan k) l ≡ (nth ss k noScan) .running
+pub scan-is : (ss : List Scan) (l : List ScanEntry) → ScansAre ss l → (k : ℕ) → any (isScan k) l ≡ (nth ss k noScan) .running
 scan-is ss l o k = book-is scanKind ss l (o .same) k
 
-pub scan-count : (ss : List Scan) (l : List Place) → ScansAre ss l → count (λ p. not (eqb (p .number) 0)) l ≡ count (λ s. s .running) ss
+pub scan-count : (ss : List Scan) (l : List ScanEntry) → ScansAre ss l → count (λ p. not (eqb (p .number) 0)) l ≡ count (λ s. s .running) ss
 scan-count ss l o =
-    ap (λ (f : Place → Bool). count f l) (fun-ext (λ p. sym (and-true (not (eqb (p .number) 0)))))
+    ap (λ (f : ScanEntry → Bool). count f l) (fun-ext (λ p. sym (and-true (not (eqb (p .number) 0)))))
     ∙ book-count scanKind ss l (o .same)
 
-pub scan-found : (ss : List Scan) (l : List Place) → ScansAre ss l → (k : ℕ) → T ((nth ss k noScan) .running) → scanPlace l k ≡ scanAs k (nth ss k noScan)
-unfolding scanPlace
+pub scan-found : (ss : List Scan) (l : List ScanEntry) → ScansAre ss l → (k : ℕ) → T ((nth ss k noScan) .running) → scanEntry l k ≡ scanAs k (nth ss k noScan)
+unfolding scanEntry
 scan-found ss l o k t =
     same-place _ _ (book-found scanKind ss l (o .same) k t)
 
-scans-add : (ss : List Scan) (l : List Place) (s : Scan) → ScansAre ss l → T (s .running) → count (λ s. s .running) ss < mostScans
+scans-add : (ss : List Scan) (l : List ScanEntry) (s : Scan) → ScansAre ss l → T (s .running) → count (λ s. s .running) ss < mostScans
     → ScansAre (ss ++ s ∷ []) (set l (place (λ p. eqb (p .number) 0) l) (scanAs (suc (length ss)) s))
 scans-add ss l s o t b =
     record {
@@ -60,8 +60,8 @@ scans-add ss l s o t b =
           (omega (arith, o .room, book-room scanKind ss l (o .same)))));
     }
 
-scans-drop : (ss : List Scan) (l : List Place) (k : ℕ) (s : Scan) → ScansAre ss l → T ((nth ss k noScan) .running) → s .running ≡ false
-    → ScansAre (change ss k s) (set l (place (isScan k) l) freePlace)
+scans-drop : (ss : List Scan) (l : List ScanEntry) (k : ℕ) (s : Scan) → ScansAre ss l → T ((nth ss k noScan) .running) → s .running ≡ false
+    → ScansAre (change ss k s) (set l (place (isScan k) l) freeEntry)
 scans-drop ss l k s o t n =
     record {
       room = rw length-set (o .room);
@@ -74,7 +74,7 @@ unfolding scanPage
 scan-current S v m g c b = rw (is-true (leb ((pageIn v (currentIn S v g c)) .made) m) (le→leb _ m b))
 
 -- ---- open scan
-module _ (S : Shape) (v : View) (ps : List Place) (h : History) (o : Represents S v ps h) (k : Known S h) (s : ℕ) (room : count (λ s. s .running) (h .scans) < mostScans)
+module _ (S : Shape) (v : View) (ps : List ScanEntry) (h : History) (o : Represents S v ps h) (k : Known S h) (s : ℕ) (room : count (λ s. s .running) (h .scans) < mostScans)
     (few : length (h .scans) < mostNumbers) where
   abbrev new : Scan
   new = record { running = true; stamp = s; before = length (h .merges) }
@@ -127,7 +127,7 @@ module _ (S : Shape) (v : View) (ps : List Place) (h : History) (o : Represents 
       e = omega (arith, o .header .scans-given)
 
 -- ---- close
-module _ (S : Shape) (v : View) (ps : List Place) (h : History) (o : Represents S v ps h) (k : Known S h) (i : ℕ) (run : T (scanAt h i .running)) where
+module _ (S : Shape) (v : View) (ps : List ScanEntry) (h : History) (o : Represents S v ps h) (k : Known S h) (i : ℕ) (run : T (scanAt h i .running)) where
   abbrev ended : List Scan
   ended = change (h .scans) i (stopped (scanAt h i))
 
@@ -135,7 +135,7 @@ module _ (S : Shape) (v : View) (ps : List Place) (h : History) (o : Represents 
   unfolding scanAt withScans
   close-pages step j t = scan-stays o k step refl j (still-running (h .scans) i j run t) t
 
-  pub close-kept : Step S h (close i) (withScans h ended) → Represents S v (set ps (place (isScan i) ps) freePlace) (withScans h ended)
+  pub close-kept : Step S h (close i) (withScans h ended) → Represents S v (set ps (place (isScan i) ps) freeEntry) (withScans h ended)
   unfolding withScans rowIn recordIn valueIn stateOf rowAt recordsOf
   close-kept step =
       record {

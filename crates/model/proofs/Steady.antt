@@ -17,7 +17,7 @@ use Rattle.history.specs.Steps.{Step, nothing, newStates, rowGiven, recordsMade
 use Rattle.history.proofs.States.{active-unseen, seen-moved}
 use Rattle.history.specs.Invariants.{InOrder, Timely}
 use Rattle.layout.specs.View.{View}
-use Rattle.terms.specs.declared.Place.{Place}
+use Rattle.terms.specs.declared.ScanEntry.{ScanEntry}
 use Rattle.model.specs.Stored.{PageWords, within}
 use Rattle.model.specs.Represents.{CurrentIs, CurrentsAre, WaitingIs, WaitingAre, ScanPageIs, ScanPageOf, Represents, Known}
 use Rattle.model.proofs.Holding.{grown, holds-step, holds-cells, same-rows, withRow, row-new, row-old, rows-more}
@@ -103,7 +103,7 @@ unfolding stopped
 still-running l k i run t = by-cases (ℕ-discrete i k) (λ e. absurd (rw (e, nth-changed noScan l k (stopped (nth l k noScan)) (running-known l k run)) at t)) (nth-other noScan l k _ i)
 
 -- ---- a step that makes no merge, in a memory whose pages stay
-module _ {S : Shape} {v : View} {ps : List Place} {h h′ : History} {y : Call} (o : Represents S v ps h) (k : Known S h) (step : Step S h y h′) (same : h′ .merges ≡ h .merges) where
+module _ {S : Shape} {v : View} {ps : List ScanEntry} {h h′ : History} {y : Call} (o : Represents S v ps h) (k : Known S h) (step : Step S h y h′) (same : h′ .merges ≡ h .merges) where
   pub currents-stay : length (h .rows) ≡ length (h′ .rows) → CurrentsAre S h′ v
   unfolding mergedThrough
   currents-stay e g c a b = current-step (k .past .order) step e (ap (H.lastThrough g c 0) same) (o .currents g c a b)

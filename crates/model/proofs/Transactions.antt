@@ -25,7 +25,7 @@ use Rattle.words.specs.Words.{Fit}
 use Rattle.loops.proofs.Change.{changed-length, changed-outside, changed-at, changed-fit}
 use Rattle.layout.specs.View.{View, renew, put, rowsGiven, transactionsGiven, usedIn}
 use Rattle.layout.specs.declared.Region.the-variants.{Header, Opens, RowTransaction, RowState, RowStamp, TailTransaction, TailState, TailStamp, Used, Changes}
-use Rattle.terms.specs.declared.Place.{Place}
+use Rattle.terms.specs.declared.ScanEntry.{ScanEntry}
 use Rattle.terms.specs.Places.{bears, place}
 use Rattle.layout.specs.Regions.{transactionsAt, stampAt}
 use Rattle.model.specs.Stored.{RowWords, RecordWords, rowIn, recordIn, valueIn, pageIn, cellIn, currentIn, openPlace}
@@ -125,7 +125,7 @@ notes-set rows tail l notes j t b c u o k d = by-cases (ℕ-discrete k j)
     (λ e. rw (e, getD-set-same l j t 0 b, getD-set-same notes j 0 0 c) (λ n. record { bound = zero-le; none = λ _. u n }))
     (λ f. rw (getD-set-other l j k t 0 f, getD-set-other notes j k 0 0 f) (o k d))
 
-module _ (S : Shape) (v : View) (ps : List Place) (h : History) (o : Represents S v ps h) (k : Known S h) where
+module _ (S : Shape) (v : View) (ps : List ScanEntry) (h : History) (o : Represents S v ps h) (k : Known S h) where
   abbrev begunHistory : History
   begunHistory = withTransactions h (h .transactions ++ active ∷ []) (h .last)
 
@@ -232,7 +232,7 @@ closed-is f ts t x k a = by-cases (ℕ-discrete k t)
     (λ e. rw (is-equal k t e, e, nth-changed unknown ts t x (λ u. clash (cc))))
     (λ n. rw (eqb-other k t n, nth-other unknown ts t x k n))
 
-module _ (S : Shape) (v : View) (ps : List Place) (h : History) (o : Represents S v ps h) (k : Known S h) (t : ℕ) (x : State) (s : ℕ) (a : stateOf h t ≡ active) (c : Closing h x s) where
+module _ (S : Shape) (v : View) (ps : List ScanEntry) (h : History) (o : Represents S v ps h) (k : Known S h) (t : ℕ) (x : State) (s : ℕ) (a : stateOf h t ≡ active) (c : Closing h x s) where
   abbrev closedHistory : History
   closedHistory = withTransactions h (change (h .transactions) t x) s
 
@@ -298,7 +298,7 @@ module _ (S : Shape) (v : View) (ps : List Place) (h : History) (o : Represents 
       let inside = open-there (h .transactions) (v Opens) (o .opens) t a .0 in
       notes-set (h .rows) (h .tail) (v Opens) (v Changes) (place (bears t) (v Opens)) 0 inside (omega (arith, o .whole .long Opens, o .whole .long Changes)) (λ f. absurd (f refl)) (o .notes)
 
-pub abort-kept : (S : Shape) (v : View) (ps : List Place) (h : History) → Represents S v ps h → Known S h → (t : ℕ) → stateOf h t ≡ active
+pub abort-kept : (S : Shape) (v : View) (ps : List ScanEntry) (h : History) → Represents S v ps h → Known S h → (t : ℕ) → stateOf h t ≡ active
     → Step S h (abort t) (withTransactions h (change (h .transactions) t aborted) (h .last))
     → Represents S (abortedIn S t v) ps (withTransactions h (change (h .transactions) t aborted) (h .last))
 unfolding abortedIn freed openPlace settled put renew withTransactions rowIn recordIn valueIn pageIn cellIn currentIn scanPage wasCurrent scanAt
@@ -320,7 +320,7 @@ abort-kept S v ps h o k t a step =
     abort-whole : (S : Shape) (v : View) (t : ℕ) → Whole S v → Whole S (abortedIn S t v)
     abort-whole S v t w = put-whole Changes _ 0 (omega arith) (put-whole Opens _ 0 (omega arith) (settled-whole t asAborted 0 (omega arith) (omega arith) w))
 
-pub commit-kept : (S : Shape) (v : View) (ps : List Place) (h : History) → Represents S v ps h → Known S h → (t s : ℕ) → stateOf h t ≡ active → h .last < s → s < 2 ^ 32
+pub commit-kept : (S : Shape) (v : View) (ps : List ScanEntry) (h : History) → Represents S v ps h → Known S h → (t s : ℕ) → stateOf h t ≡ active → h .last < s → s < 2 ^ 32
     → Step S h (commit t s) (withTransactions h (change (h .transactions) t (committed s)) s)
     → Represents S (committedIn S t s v) ps (withTransactions h (change (h .transactions) t (committed s)) s)
 unfolding committedIn freed openPlace settled put renew withTransactions rowIn recordIn valueIn pageIn cellIn currentIn scanPage wasCurrent scanAt

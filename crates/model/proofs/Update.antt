@@ -24,7 +24,7 @@ use Rattle.history.proofs.Ranges.{last-unset}
 use Rattle.history.proofs.Endings.{set-range}
 use Rattle.layout.specs.View.{View, renew, put}
 use Rattle.layout.specs.declared.Region.the-variants.{RowMask, Cells, Changes}
-use Rattle.terms.specs.declared.Place.{Place}
+use Rattle.terms.specs.declared.ScanEntry.{ScanEntry}
 use Rattle.model.specs.Stored.{rowIn, recordIn, valueIn, pageIn, cellIn, currentIn, openPlace}
 use Rattle.layout.specs.Codes.{asOriginal, asSetting}
 use Rattle.model.specs.Reading.{scanPage, wasCurrent}
@@ -40,7 +40,7 @@ use Rattle.model.proofs.Steady.{currents-stay, waits-stay, scan-stays}
 use Rattle.model.proofs.Records.{tails-are, made-rows, made-notes, Extended, none-made, extend}
 
 -- ---- the columns that are set for the first time
-module _ (S : Shape) (v : View) (ps : List Place) (h : History) (o : Represents S v ps h) (k : Known S h) (r m : ℕ) (b : r < length (h .rows)) (good : T (not (badMask S m))) where
+module _ (S : Shape) (v : View) (ps : List ScanEntry) (h : History) (o : Represents S v ps h) (k : Known S h) (r m : ℕ) (b : r < length (h .rows)) (good : T (not (badMask S m))) where
   abbrev isNew : ℕ → Bool
   isNew c = bit m c && not (wasSet (h .tail) r c)
 
@@ -102,7 +102,7 @@ masks-fit S v r m w b =
     let e : bitOr m old < 2 ^ 32 = or-lt 32 m old d c in
     (xor-lt 32 (bitOr m old) old e c, e)
 
-module _ (S : Shape) (v : View) (ps : List Place) (h : History) (o : Represents S v ps h) (k : Known S h) (t r m : ℕ) (vs : List ℤ) (a : stateOf h t ≡ active) (b : r < length (h .rows))
+module _ (S : Shape) (v : View) (ps : List ScanEntry) (h : History) (o : Represents S v ps h) (k : Known S h) (t r m : ℕ) (vs : List ℤ) (a : stateOf h t ≡ active) (b : r < length (h .rows))
     (good : T (not (badMask S m))) (mask : m < 2 ^ mostColumns) (typed : All (SFits w32) vs) where
   abbrev y : Record
   y = record { transaction = t; row = r; content = setting m vs }

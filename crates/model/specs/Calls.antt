@@ -1,5 +1,5 @@
 -- The calls on a store, as the plain history has them: `testsIn` are a call's refusals in the stated order, `replyIn` what it answers if none applies, `actIn` and
--- `placesAfter` the memory and the scan list that it leaves then. All four are total and look at the memory alone. The test of the stored facts,
+-- `entriesAfter` the memory and the scan list that it leaves then. All four are total and look at the memory alone. The test of the stored facts,
 -- which every call makes first, is not here: it is the same for all.
 use mathlib.Core.Bool.{Bool, not, _&&_, _||_}
 use mathlib.Core.List.{List, [], _∷_}
@@ -16,10 +16,10 @@ use Rattle.history.specs.History.{Call, begin, insert, update, delete, commit, 
 use Rattle.history.specs.Lists.{All}
 use Rattle.layout.specs.View.{View, put, rowsGiven, transactionsGiven, scansGiven, lastStamp, mergesMade, usedIn}
 use Rattle.layout.specs.declared.Region.the-variants.{Header, Opens}
-use Rattle.terms.specs.declared.Place.{Place}
-use Rattle.terms.specs.Places.{freePlace, place, bears, isScan}
+use Rattle.terms.specs.declared.ScanEntry.{ScanEntry}
+use Rattle.terms.specs.Places.{freeEntry, place, bears, isScan}
 use Rattle.layout.specs.Regions.{scansAt}
-use Rattle.model.specs.Stored.{RecordWords, rowIn, recordIn, pageIn, currentIn, cellIn, within, committedState, deleteKind, scanPlace, pagesOf, anyBelow, countBelow, wordLimit}
+use Rattle.model.specs.Stored.{RecordWords, rowIn, recordIn, pageIn, currentIn, cellIn, within, committedState, deleteKind, scanEntry, pagesOf, anyBelow, countBelow, wordLimit}
 use Rattle.model.specs.Reading.{reader, readIn, readCurrent, ownChanges, scanPage, sumIn}
 use Rattle.model.specs.Writing.{begun, committedIn, abortedIn, insertedIn, updatedIn, deletedIn, mergedIn, releasedIn, releasable, recordsWanted, freeIn}
 
@@ -29,7 +29,7 @@ unfoldable pub notOpenIn : View → ℕ → Bool
 notOpenIn v t = not (any (bears t) (v Opens))
 
 -- 4
-unfoldable pub noScanIn : List Place → ℕ → Bool
+unfoldable pub noScanIn : List ScanEntry → ℕ → Bool
 noScanIn ps k = not (any (isScan k) ps)
 
 -- 5
@@ -82,7 +82,7 @@ unfoldable pub openAmongIn : Shape → View → ℕ → ℕ → Bool
 openAmongIn S v g n = anyBelow (λ i. openIn v ((recordIn v (g * S .capacity + i)) .transaction)) n
 
 -- ---- the tests: "Tests run in this order."
-unfoldable pub testsIn : Shape → View → List Place → Call → List Test
+unfoldable pub testsIn : Shape → View → List ScanEntry → Call → List Test
 testsIn S v ps begin =
     Refusal.Number when leb mostNumbers (transactionsGiven v) ∷ Refusal.Busy when not (any (λ k. eqb k 0) (v Opens)) ∷ []
 testsIn S v ps (insert t vs) =
@@ -130,7 +130,7 @@ testsIn S v ps (pageCell c r) = Refusal.Column when noColumn S c ∷ Refusal.Row
 testsIn S v ps (lineage g c) = Refusal.Range when noRange S g ∷ Refusal.Column when noColumn S c ∷ []
 
 -- ---- what an accepted call answers
-unfoldable pub replyIn : Shape → View → List Place → Call → Answer
+unfoldable pub replyIn : Shape → View → List ScanEntry → Call → Answer
 replyIn S v ps begin = Answer.Number (transactionsGiven v + 1)
 replyIn S v ps (insert t vs) = Answer.Number (rowsGiven v)
 replyIn S v ps (update t r m vs) = Answer.Number (usedIn v (rangeOf r) + recordsWanted v r m)
@@ -142,9 +142,9 @@ replyIn S v ps (readAt s r c) = readCurrent S v (reader s 0) r c
 replyIn S v ps (ownRead t r c) = readCurrent S v (reader (lastStamp v) (ownChanges v t)) r c
 replyIn S v ps (openScan s) = Answer.Number (scansGiven v + 1)
 replyIn S v ps (scanRead k r c) =
-    let s = scanPlace ps k in
+    let s = scanEntry ps k in
     readIn S v (reader (s .stamp) 0) (scanPage S v (s .merges) (rangeOf r) c) r c
-replyIn S v ps (sum k c) = sumIn S v (scanPlace ps k) c
+replyIn S v ps (sum k c) = sumIn S v (scanEntry ps k) c
 replyIn S v ps (close k) = Answer.Done
 replyIn S v ps (merge g c n) = Answer.Done
 replyIn S v ps release = Answer.Number (countBelow (releasable ps v) (pagesOf S))
@@ -152,7 +152,7 @@ replyIn S v ps (pageCell c r) = Answer.Value (toZ w32 (cellIn v (currentIn S v (
 replyIn S v ps (lineage g c) = Answer.Lineage ((pageIn v (currentIn S v g c)) .lineage) (usedIn v g)
 
 -- ---- the memory that an accepted call leaves
-unfoldable pub actIn : Shape → View → List Place → Call → View
+unfoldable pub actIn : Shape → View → List ScanEntry → Call → View
 actIn S v ps begin = begun v
 actIn S v ps (insert t vs) = insertedIn S t vs v
 actIn S v ps (update t r m vs) = updatedIn S t r m vs v
@@ -172,56 +172,56 @@ actIn S v ps (pageCell c r) = v
 actIn S v ps (lineage g c) = v
 
 -- ---- and the scan list: an opened scan takes the first free place, a closed one leaves a free place
-unfoldable pub placesAfter : View → List Place → Call → List Place
-placesAfter v ps begin = ps
-placesAfter v ps (insert t vs) = ps
-placesAfter v ps (update t r m vs) = ps
-placesAfter v ps (delete t r) = ps
-placesAfter v ps (commit t s) = ps
-placesAfter v ps (abort t) = ps
-placesAfter v ps (latest r c) = ps
-placesAfter v ps (readAt s r c) = ps
-placesAfter v ps (ownRead t r c) = ps
-placesAfter v ps (openScan s) =
+unfoldable pub entriesAfter : View → List ScanEntry → Call → List ScanEntry
+entriesAfter v ps begin = ps
+entriesAfter v ps (insert t vs) = ps
+entriesAfter v ps (update t r m vs) = ps
+entriesAfter v ps (delete t r) = ps
+entriesAfter v ps (commit t s) = ps
+entriesAfter v ps (abort t) = ps
+entriesAfter v ps (latest r c) = ps
+entriesAfter v ps (readAt s r c) = ps
+entriesAfter v ps (ownRead t r c) = ps
+entriesAfter v ps (openScan s) =
     set ps (place (λ p. eqb (p .number) 0) ps) record { number = scansGiven v + 1; stamp = s; merges = mergesMade v }
-placesAfter v ps (scanRead k r c) = ps
-placesAfter v ps (sum k c) = ps
-placesAfter v ps (close k) = set ps (place (isScan k) ps) freePlace
-placesAfter v ps (merge g c n) = ps
-placesAfter v ps release = ps
-placesAfter v ps (pageCell c r) = ps
-placesAfter v ps (lineage g c) = ps
+entriesAfter v ps (scanRead k r c) = ps
+entriesAfter v ps (sum k c) = ps
+entriesAfter v ps (close k) = set ps (place (isScan k) ps) freeEntry
+entriesAfter v ps (merge g c n) = ps
+entriesAfter v ps release = ps
+entriesAfter v ps (pageCell c r) = ps
+entriesAfter v ps (lineage g c) = ps
 
 -- ---- a call, and a list of calls
 unfoldable pub viewIf : Verdict → View → View → View
 viewIf accept v v′ = v′
 viewIf (refuse n) v v′ = v
 
-unfoldable pub placesIf : Verdict → List Place → List Place → List Place
-placesIf accept ps ps′ = ps′
-placesIf (refuse n) ps ps′ = ps
+unfoldable pub entriesIf : Verdict → List ScanEntry → List ScanEntry → List ScanEntry
+entriesIf accept ps ps′ = ps′
+entriesIf (refuse n) ps ps′ = ps
 
-unfoldable pub say : Shape → View → List Place → Call → Answer
+unfoldable pub say : Shape → View → List ScanEntry → Call → Answer
 say S v ps c = answerIf (verdict (testsIn S v ps c)) (replyIn S v ps c)
 
-unfoldable pub viewNext : Shape → View → List Place → Call → View
+unfoldable pub viewNext : Shape → View → List ScanEntry → Call → View
 viewNext S v ps c = viewIf (verdict (testsIn S v ps c)) v (actIn S v ps c)
 
-unfoldable pub placesNext : Shape → View → List Place → Call → List Place
-placesNext S v ps c = placesIf (verdict (testsIn S v ps c)) ps (placesAfter v ps c)
+unfoldable pub entriesNext : Shape → View → List ScanEntry → Call → List ScanEntry
+entriesNext S v ps c = entriesIf (verdict (testsIn S v ps c)) ps (entriesAfter v ps c)
 
-unfoldable pub sayAll : Shape → View → List Place → List Call → List Answer
+unfoldable pub sayAll : Shape → View → List ScanEntry → List Call → List Answer
 sayAll S v ps [] = []
-sayAll S v ps (c ∷ cs) = say S v ps c ∷ sayAll S (viewNext S v ps c) (placesNext S v ps c) cs
+sayAll S v ps (c ∷ cs) = say S v ps c ∷ sayAll S (viewNext S v ps c) (entriesNext S v ps c) cs
 
 -- the memory and the scan list after a list of calls
-unfoldable pub viewAfter : Shape → View → List Place → List Call → View
+unfoldable pub viewAfter : Shape → View → List ScanEntry → List Call → View
 viewAfter S v ps [] = v
-viewAfter S v ps (c ∷ cs) = viewAfter S (viewNext S v ps c) (placesNext S v ps c) cs
+viewAfter S v ps (c ∷ cs) = viewAfter S (viewNext S v ps c) (entriesNext S v ps c) cs
 
-unfoldable pub listAfter : Shape → View → List Place → List Call → List Place
+unfoldable pub listAfter : Shape → View → List ScanEntry → List Call → List ScanEntry
 listAfter S v ps [] = ps
-listAfter S v ps (c ∷ cs) = listAfter S (viewNext S v ps c) (placesNext S v ps c) cs
+listAfter S v ps (c ∷ cs) = listAfter S (viewNext S v ps c) (entriesNext S v ps c) cs
 
 -- ---- the numbers fit the call's types
 abbrev pub Word : ℕ → Type 0

@@ -13,7 +13,7 @@ use Rattle.history.specs.History.{Call, openScan, History, start, run, tests, v
 use Rattle.history.specs.Lists.{All}
 use Rattle.history.specs.Latest.{lastCommitted, lastTaken}
 use Rattle.layout.specs.View.{View}
-use Rattle.terms.specs.Places.{freePlace}
+use Rattle.terms.specs.Places.{freeEntry}
 use Rattle.model.specs.Stored.{pageIn, cellIn, currentIn, within}
 use Rattle.model.specs.Reading.{reader, readCurrent, scanPage}
 use Rattle.model.specs.Writing.{made}
@@ -21,7 +21,7 @@ use Rattle.model.specs.Calls.{Typed, viewAfter, listAfter}
 
 -- a store made with n places for scans, after a list of calls; and the history after them
 unfoldable pub storeAfter : Shape → ℕ → List Call → View
-storeAfter S n cs = viewAfter S (made S) (replicate n freePlace) cs
+storeAfter S n cs = viewAfter S (made S) (replicate n freeEntry) cs
 
 unfoldable pub historyAfter : Shape → List Call → History
 historyAfter S cs = run S start cs
@@ -56,5 +56,5 @@ ScansKeep =
     (S : Shape) → T (withinLimits S) → (n : ℕ) → mostScans ≤ n → (before after : List Call) (s : ℕ) → All Typed before → All Typed (openScan s ∷ after)
     → verdict (tests S (historyAfter S before) (openScan s)) ≡ accept
     → T (scanAt (run S (historyAfter S before) (openScan s ∷ after)) (suc (length ((historyAfter S before) .scans))) .running) → (g c : ℕ) → g < S .ranges → c < S .columns
-    → PageKept S (storeAfter S n before) (viewAfter S (storeAfter S n before) (listAfter S (made S) (replicate n freePlace) before) (openScan s ∷ after))
+    → PageKept S (storeAfter S n before) (viewAfter S (storeAfter S n before) (listAfter S (made S) (replicate n freeEntry) before) (openScan s ∷ after))
     (run S (historyAfter S before) (openScan s ∷ after)) (suc (length ((historyAfter S before) .scans))) g c (length ((historyAfter S before) .rows))

@@ -13,7 +13,7 @@ use Rattle.terms.specs.declared.Answer.{Answer}
 use Rattle.history.specs.History.{bit, rangeOf}
 use Rattle.layout.specs.View.{View, rowsGiven}
 use Rattle.layout.specs.declared.Region.the-variants.{Changes}
-use Rattle.terms.specs.declared.Place.{Place}
+use Rattle.terms.specs.declared.ScanEntry.{ScanEntry}
 use Rattle.model.specs.declared.Reader.{Reader}
 use Rattle.model.specs.declared.Walk.{Walk}
 use Rattle.model.specs.Stored.{RowWords, RecordWords, PageWords, rowIn, recordIn, pageIn, valueIn, currentIn, placeOf, placesOf, pagesOf, cellIn, within, openState, committedState, originalKind, settingKind, deleteKind, waitingPage, firstFrom, openPlace}
@@ -115,7 +115,7 @@ pub record Tally : Type 0 where
   pub count : ℕ
   pub total : ℤ
 
-unfoldable pub tally : Shape → View → Place → ℕ → ℕ → Tally
+unfoldable pub tally : Shape → View → ScanEntry → ℕ → ℕ → Tally
 tally S v s c zero = record { count = 0; total = pos 0 }
 tally S v s c (suc r) =
     let before = tally S v s c r in
@@ -123,7 +123,7 @@ tally S v s c (suc r) =
     let more : Tally = record { count = suc (before .count); total = before .total +ℤ toZ w32 w } in
     cond (visibleIn S v (reader (s .stamp) 0) r) more before
 
-unfoldable pub sumIn : Shape → View → Place → ℕ → Answer
+unfoldable pub sumIn : Shape → View → ScanEntry → ℕ → Answer
 sumIn S v s c =
     let t = tally S v s c (rowsGiven v) in
     Answer.Sum (t .count) (t .total)

@@ -19,13 +19,13 @@ use Rattle.history.specs.Latest.{stampOf}
 use Rattle.history.specs.Invariants.{Through, Past}
 use Rattle.layout.specs.View.{View, usedIn, Long, Fits}
 use Rattle.layout.specs.declared.Region.the-variants.{Opens, Changes}
-use Rattle.terms.specs.declared.Place.{Place}
+use Rattle.terms.specs.declared.ScanEntry.{ScanEntry}
 use Rattle.layout.specs.Sizes.{sizesOf}
 use Rattle.layout.specs.Regions.{rowsAt, transactionsAt, scansAt, stampAt, mergesAt}
 use Rattle.model.specs.Stored.{RowWords, RecordWords, PageWords, rowIn, recordIn, pageIn, valueIn, currentIn, cellIn, within, placeOf, placesOf, pagesOf, headerIn, currentPage, waitingPage, countBelow}
 use Rattle.layout.specs.Codes.{asOpen, asCommitted, asAborted, asOriginal, asSetting, asDelete, asCurrent}
 use Rattle.model.specs.Reading.{scanPage}
-use Rattle.model.specs.Calls.{Typed, say, viewNext, placesNext}
+use Rattle.model.specs.Calls.{Typed, say, viewNext, entriesNext}
 
 -- ---- rows and tail records
 -- A number that was not given has no row and no record; its word does not matter.
@@ -139,12 +139,12 @@ pub record PoolIs (S : Shape) (merges : List Merge) (page : ℕ → PageWords) :
 abbrev pub OpensAre : List State → List ℕ → Type 0
 OpensAre ts l = (q : ℕ → Bool) → count (λ k. not (eqb k 0) && q k) l ≡ countFrom (λ i s. isActive s && q i) 1 ts
 
-abbrev pub scanAs : ℕ → Scan → Place
+abbrev pub scanAs : ℕ → Scan → ScanEntry
 scanAs i s = record { number = i; stamp = s .stamp; merges = s .before }
 
-pub record ScansAre (ss : List Scan) (l : List Place) : Type 0 where
+pub record ScansAre (ss : List Scan) (l : List ScanEntry) : Type 0 where
   pub room : mostScans ≤ length l
-  pub same : (q : Place → Bool)
+  pub same : (q : ScanEntry → Bool)
       → count (λ p. not (eqb (p .number) 0) && q p) l ≡ countFrom (λ i s. s .running && q (scanAs i s)) 1 ss
 
 -- transaction t has made no row and no record
@@ -194,7 +194,7 @@ pub record Whole (S : Shape) (v : View) : Type 0 where
   pub long : Long (sizesOf S) v
   pub fits : Fits v
 
-pub record Represents (S : Shape) (v : View) (ps : List Place) (h : History) : Type 0 where
+pub record Represents (S : Shape) (v : View) (ps : List ScanEntry) (h : History) : Type 0 where
   pub header : HeaderFor S h v
   pub opens : OpensAre (h .transactions) (v Opens)
   pub notes : NotesAre (h .rows) (h .tail) (v Opens) (v Changes)
@@ -222,10 +222,10 @@ pub record Known (S : Shape) (h : History) : Type 0 where
   pub past : Past S h
 
 -- ---- one call on a store that represents a history: it answers as the history does, and what it leaves represents the next history
-pub record SameCall (S : Shape) (v : View) (ps : List Place) (h : History) (c : Call) : Type 0 where
+pub record SameCall (S : Shape) (v : View) (ps : List ScanEntry) (h : History) (c : Call) : Type 0 where
   pub answered : say S v ps c ≡ answer S h c
-  pub shown : Represents S (viewNext S v ps c) (placesNext S v ps c) (next S h c)
+  pub shown : Represents S (viewNext S v ps c) (entriesNext S v ps c) (next S h c)
   pub known : Known S (next S h c)
 
 abbrev pub StepKept : Type 0
-StepKept = (S : Shape) (v : View) (ps : List Place) (h : History) (c : Call) → Typed c → Represents S v ps h → Known S h → SameCall S v ps h c
+StepKept = (S : Shape) (v : View) (ps : List ScanEntry) (h : History) (c : Call) → Typed c → Represents S v ps h → Known S h → SameCall S v ps h c

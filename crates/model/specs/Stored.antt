@@ -9,8 +9,8 @@ use Rattle.terms.specs.Measures.{Shape, rangeRows}
 use Rattle.layout.specs.Codes.{asOpen, asCommitted, asOriginal, asSetting, asFree, asCurrent}
 use Rattle.layout.specs.View.{View}
 use Rattle.layout.specs.declared.Region.the-variants.{Header, Opens, RowTransaction, RowState, RowStamp, RowLink, RowMask, TailTransaction, TailRow, TailKind, TailMask, TailLink, TailState, TailStamp, TailValues, Current, PageState, PagePlace, PageMade, PageReplaced, PageLineage, PageNewest, Cells}
-use Rattle.terms.specs.declared.Place.{Place}
-use Rattle.terms.specs.Places.{freePlace, place, bears, isScan}
+use Rattle.terms.specs.declared.ScanEntry.{ScanEntry}
+use Rattle.terms.specs.Places.{freeEntry, place, bears, isScan}
 
 -- ---- sizes that a shape makes
 abbrev pub placesOf : Shape → ℕ
@@ -154,5 +154,5 @@ unfoldable pub openPlace : View → ℕ → ℕ
 openPlace v t = place (bears t) (v Opens)
 
 -- the place of open scan k
-unfoldable pub scanPlace : List Place → ℕ → Place
-scanPlace ps k = getD ps (place (isScan k) ps) freePlace
+unfoldable pub scanEntry : List ScanEntry → ℕ → ScanEntry
+scanEntry ps k = getD ps (place (isScan k) ps) freeEntry

@@ -14,7 +14,7 @@ use Rattle.loops.specs.Change.{changed, filled, numbered, copied, marked}
 use Rattle.layout.specs.Regions.{columnsAt, rangesAt, capacityAt, sparesAt, rowsAt, transactionsAt, stampAt, mergesAt, firstSlot, slot}
 use Rattle.layout.specs.View.{View, blank, renew, put, rowsGiven, transactionsGiven, mergesMade, usedIn}
 use Rattle.layout.specs.declared.Region.the-variants.{Header, Opens, RowTransaction, RowState, RowStamp, RowLink, RowMask, TailTransaction, TailRow, TailKind, TailMask, TailLink, TailState, TailStamp, TailValues, Used, Current, PageState, PagePlace, PageMade, PageReplaced, PageLineage, PageNewest, Cells, Changes}
-use Rattle.terms.specs.declared.Place.{Place}
+use Rattle.terms.specs.declared.ScanEntry.{ScanEntry}
 use Rattle.layout.specs.Sizes.{sizesOf}
 use Rattle.terms.specs.Places.{place}
 use Rattle.model.specs.Stored.{RecordWords, rowIn, recordIn, pageIn, valueIn, currentIn, placeOf, placesOf, pagesOf, cellIn, within, nextWord, committedState, settingKind, freePage, currentPage, waitingPage, firstFrom, openPlace}
@@ -187,15 +187,15 @@ mergedIn S g c n v =
 
 -- ---- release
 -- A scan that was opened before merge m needs the page that m replaced.
-abbrev pub neededIn : List Place → ℕ → Bool
+abbrev pub neededIn : List ScanEntry → ℕ → Bool
 neededIn ps m = any (λ s. not (eqb (s .number) 0) && ltb (s .merges) m) ps
 
-unfoldable pub releasable : List Place → View → ℕ → Bool
+unfoldable pub releasable : List ScanEntry → View → ℕ → Bool
 releasable ps v p =
     let x = pageIn v p in
     waitingPage (x .state) && not (neededIn ps (x .replaced))
 
-unfoldable pub releasedIn : Shape → List Place → View → View
+unfoldable pub releasedIn : Shape → List ScanEntry → View → View
 releasedIn S ps v = renew PageState (changed (λ p w. cond (releasable ps v p) asFree w) 0 (pagesOf S) (v PageState)) v
 
 -- ---- making: every word is 0 but the measures, the current pages and their places

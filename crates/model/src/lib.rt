@@ -1,11 +1,11 @@
 // The store as definitions over a view of its memory (specs/), and the proof that it answers as the plain history does (proofs/).
 // The code has its types from here, so that its contracts can cite the definitions as they stand.
-use terms::Place;
+use terms::ScanEntry;
 use terms::Stamp;
 use terms::Tail;
 use terms::Transaction;
 ghost use mathlib.Core.Path.{_≡_};
-ghost use Rattle.terms.specs.Places.{freePlace};
+ghost use Rattle.terms.specs.Places.{freeEntry};
 
 // A reader: it sees what was committed at or before its stamp, and what transaction `me` has changed so far (number 0: no such changes).
 pub struct Reader {
@@ -19,10 +19,10 @@ pub enum Walk {
     Stopped(Tail),
 }
 
-pub fn free_place() -> Place
-    ensures { λ r. ⌜ r ≡ freePlace ⌝ }
+pub fn free_entry() -> ScanEntry
+    ensures { λ r. ⌜ r ≡ freeEntry ⌝ }
 {
-    Place {
+    ScanEntry {
         number: 0,
         stamp: 0,
         merges: 0,

@@ -8,13 +8,13 @@ use lib.Dec.{leb}
 use lib.ListN.{length, getD}
 use borrow.Author.Tests.{leb-true, le-leb, lt-leb}
 use Rattle.terms.specs.Measures.{withinLimits, mostScans}
-use Rattle.terms.specs.declared.Place.{Place}
+use Rattle.terms.specs.declared.ScanEntry.{ScanEntry}
 use Rattle.words.specs.Words.{words}
 use Rattle.loops.proofs.Search.{and-true}
 use Rattle.layout.specs.declared.Sizes.{Sizes}
 use Rattle.layout.specs.Regions.{need, columnsAt, rangesAt, capacityAt, sparesAt}
 use Rattle.layout.specs.Sizes.{shapeOf}
-use Rattle.layout.specs.View.{view}
+use Rattle.layout.specs.View.{viewOf, Suffices}
 use Rattle.facts.specs.Facts.{factsHold}
 use Rattle.facts.specs.Usable.{measuresBytes, storedShape, storedSizes, usable}
 use Rattle.pages.specs.declared.check.Checked.the-variants.{Fit, Unfit}
@@ -41,7 +41,7 @@ module _ (m : List ℕ) where
       unfolding measured roomy
       no-room n = rw (le-leb measuresBytes (length m) h, l, lt-leb (need (storedSizes (words m)) * 4) (length m) n)
 
-      pub fit : (s : Sizes) → s ≡ storedSizes (words m) → need (storedSizes (words m)) * 4 ≤ length m → Fit s ≡ measured m
+      pub fit : (s : Sizes) → s ≡ storedSizes (words m) → Suffices (storedSizes (words m)) m → Fit s ≡ measured m
       unfolding measured roomy
       fit s e n = rw (le-leb measuresBytes (length m) h, l, le-leb (need (storedSizes (words m)) * 4) (length m) n) (ap Fit e)
 
@@ -50,10 +50,10 @@ module _ (m : List ℕ) where
 pub record Measured (m : List ℕ) (s : Sizes) : Type 0 where
   pub sizes-are : s ≡ storedSizes (words m)
   pub within : withinLimits (storedShape (words m)) ≡ true
-  pub room : need s * 4 ≤ length m
+  pub room : Suffices s m
 
-usable-is : (m : List ℕ) (ps : List Place) → usable m ps
-    ≡ (roomy m && (leb mostScans (length ps) && factsHold (storedSizes (words m)) (view (storedSizes (words m)) (words m)) ps))
+usable-is : (m : List ℕ) (ps : List ScanEntry) → usable m ps
+    ≡ (roomy m && (leb mostScans (length ps) && factsHold (storedSizes (words m)) (viewOf (storedSizes (words m)) m) ps))
 unfolding usable roomy
 usable-is m ps = simp and-assoc
 
@@ -81,7 +81,7 @@ measured-tells m s e =
     let b = and-true (withinLimits (storedShape (words m))) _ (a .1) in
     record { sizes-are = f .1; within = b .0; room = rw (f .1) (leb-true (need (storedSizes (words m)) * 4) (length m) (b .1)) }
 
-module _ (m : List ℕ) (ps : List Place) where
+module _ (m : List ℕ) (ps : List ScanEntry) where
   pub unmeasured : measured m ≡ Unfit → Unfit ≡ checked m ps
   unfolding checked
   unmeasured e = rw (usable-is m ps, is-unfit m e)
@@ -91,6 +91,6 @@ module _ (m : List ℕ) (ps : List Place) where
     unfolding checked
     few-places k = rw (usable-is m ps, is-fit m s e .0, lt-leb mostScans (length ps) k)
 
-    pub by-facts : mostScans ≤ length ps → checked m ps ≡ cond (factsHold s (view s (words m)) ps) (Fit s) Unfit
+    pub by-facts : mostScans ≤ length ps → checked m ps ≡ cond (factsHold s (viewOf s m) ps) (Fit s) Unfit
     unfolding checked
     by-facts k = rw (usable-is m ps, is-fit m s e .0, is-fit m s e .1, le-leb mostScans (length ps) k)

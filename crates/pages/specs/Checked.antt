@@ -5,7 +5,7 @@ use Prim.Native.Nat.{ℕ, _*_}
 use lib.Dec.{leb}
 use lib.ListN.{length}
 use Rattle.terms.specs.Measures.{withinLimits}
-use Rattle.terms.specs.declared.Place.{Place}
+use Rattle.terms.specs.declared.ScanEntry.{ScanEntry}
 use Rattle.words.specs.Words.{words}
 use Rattle.layout.specs.Regions.{need}
 use Rattle.facts.specs.Usable.{measuresBytes, storedShape, storedSizes, usable}
@@ -20,7 +20,7 @@ roomy m = leb measuresBytes (length m) && (withinLimits (storedShape (words m)) 
 unfoldable pub measured : List ℕ → Checked
 measured m = cond (roomy m) (Fit (storedSizes (words m))) Unfit
 
-unfoldable pub checked : List ℕ → List Place → Checked
+unfoldable pub checked : List ℕ → List ScanEntry → Checked
 checked m ps = cond (usable m ps) (Fit (storedSizes (words m))) Unfit
 
 abbrev pub Safe : Checked → List ℕ → Type 0

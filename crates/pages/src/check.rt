@@ -21,13 +21,11 @@ use words::get;
 ghost use mathlib.Core.Path.{_≡_};
 ghost use mathlib.Core.Bool.{true};
 ghost use mathlib.Core.List.{List};
-ghost use Prim.Native.Nat.{_*_, _≤_};
+ghost use Prim.Native.Nat.{_*_};
 ghost use lib.ListN.{length};
-ghost use Rattle.terms.specs.declared.Place.{Place};
-ghost use Rattle.words.specs.Words.{words};
-ghost use Rattle.layout.specs.Regions.{need};
+ghost use Rattle.terms.specs.declared.ScanEntry.{ScanEntry};
 ghost use Rattle.layout.specs.Sizes.{Proper};
-ghost use Rattle.layout.specs.View.{view};
+ghost use Rattle.layout.specs.View.{viewOf, Suffices};
 ghost use Rattle.scans.specs.Table.{tableOf};
 ghost use Rattle.facts.specs.Facts.{factsHold};
 ghost use Rattle.facts.specs.Tests.{MemoryFacts};
@@ -43,9 +41,9 @@ const MEASURES_BYTES: usize = 16;
 
 // Whether every stored fact holds. The counts come first, since every later test looks at what they say is given and used.
 fn facts_hold(mem: &[u8], s: Sizes, t: Scans) -> bool
-    requires { ⌜ (need s * 4 ≤ length (now mem)) × Proper s ⌝ }
-    ensures { λ r. ⌜ ((ps : List Place) → t ≡ tableOf ps → r ≡ factsHold s (view s (words (now (mem .entry)))) ps) ⌝ }
-    ensures { λ r. ⌜ (r ≡ true → MemoryFacts s (view s (words (now (mem .entry))))) ⌝ }
+    requires { ⌜ (Suffices s (now mem)) × Proper s ⌝ }
+    ensures { λ r. ⌜ ((ps : List ScanEntry) → t ≡ tableOf ps → r ≡ factsHold s (viewOf s (now (mem .entry))) ps) ⌝ }
+    ensures { λ r. ⌜ (r ≡ true → MemoryFacts s (viewOf s (now (mem .entry)))) ⌝ }
 {
     if counts_within(mem, s, t) {
         let records = ranges_hold(mem, s);
@@ -82,7 +80,7 @@ fn measure(mem: &[u8]) -> Checked
 
 // Whether a memory is usable with the scan list that a table stands for, and its sizes.
 pub fn check(mem: &[u8], t: Scans) -> Checked
-    ensures { λ r. ⌜ ((ps : List Place) → t ≡ tableOf ps → r ≡ checked (now (mem .entry)) ps) ⌝ }
+    ensures { λ r. ⌜ ((ps : List ScanEntry) → t ≡ tableOf ps → r ≡ checked (now (mem .entry)) ps) ⌝ }
     ensures { λ r. ⌜ Safe r (now (mem .entry)) ⌝ }
 {
     let Checked::Fit(s) = measure(mem) else {

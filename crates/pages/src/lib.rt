@@ -14,9 +14,8 @@ ghost use mathlib.Core.Path.{_≡_};
 ghost use mathlib.Core.Bool.{_||_};
 ghost use Prim.Native.Nat.{ℕ, _+_, _/_, _%_, _≤_, _<_};
 ghost use Rattle.terms.specs.Measures.{mostColumns, mostPlaces};
-ghost use Rattle.words.specs.Words.{words};
 ghost use Rattle.layout.specs.Regions.{len};
-ghost use Rattle.layout.specs.View.{view, lastStamp};
+ghost use Rattle.layout.specs.View.{lastStamp, viewOf};
 ghost use Rattle.facts.specs.Facts.{each, waitingAtMost, waitingLineage};
 ghost use Rattle.facts.specs.Tests.{Ready, currentHolds, waitingHold, pagesHold};
 
@@ -46,8 +45,8 @@ fn range_of_place(place: u32, inverse: u32) -> usize
 // Whether place i names a page of the pool that is current and says so of that place, whose newest stamp and lineage are within theirs.
 fn current_holds(mem: &[u8], s: Sizes, inverse: u32, last: u32, i: usize) -> bool
     requires { ⌜ Ready s (now mem) ⌝ }
-    requires { ⌜ (i < s .places) × (inverse ≡ 65536 / s .columns + 1) × (inverse ≤ 65537) × (last ≡ lastStamp (view s (words (now mem)))) ⌝ }
-    ensures { λ r. ⌜ r ≡ currentHolds s (view s (words (now (mem .entry)))) i ⌝ }
+    requires { ⌜ (i < s .places) × (inverse ≡ 65536 / s .columns + 1) × (inverse ≤ 65537) × (last ≡ lastStamp (viewOf s (now mem))) ⌝ }
+    ensures { λ r. ⌜ r ≡ currentHolds s (viewOf s (now (mem .entry))) i ⌝ }
 {
     let p = read(mem, s, Region::Current, i) as usize;
     if p >= s.pages {
@@ -64,7 +63,7 @@ fn current_holds(mem: &[u8], s: Sizes, inverse: u32, last: u32, i: usize) -> boo
 
 fn currents_hold(mem: &[u8], s: Sizes) -> bool
     requires { ⌜ Ready s (now mem) ⌝ }
-    ensures { λ r. ⌜ r ≡ each (s .places) (currentHolds s (view s (words (now (mem .entry))))) ⌝ }
+    ensures { λ r. ⌜ r ≡ each (s .places) (currentHolds s (viewOf s (now (mem .entry)))) ⌝ }
 {
     let inverse = inverse_of(s.columns);
     let last = read(mem, s, Region::Header, HEADER_STAMP);
@@ -82,7 +81,7 @@ fn currents_hold(mem: &[u8], s: Sizes) -> bool
 fn waiting_at_most(mem: &[u8], s: Sizes, k: Region, most: u32, p: usize) -> bool
     requires { ⌜ Ready s (now mem) ⌝ }
     requires { ⌜ (p < s .pages) × (len s k ≡ s .pages) ⌝ }
-    ensures { λ r. ⌜ r ≡ waitingAtMost (view s (words (now (mem .entry)))) k most p ⌝ }
+    ensures { λ r. ⌜ r ≡ waitingAtMost (viewOf s (now (mem .entry))) k most p ⌝ }
 {
     let state = read(mem, s, Region::PageState, p);
     let word = read(mem, s, k, p);
@@ -92,7 +91,7 @@ fn waiting_at_most(mem: &[u8], s: Sizes, k: Region, most: u32, p: usize) -> bool
 fn all_waiting_at_most(mem: &[u8], s: Sizes, k: Region, most: u32) -> bool
     requires { ⌜ Ready s (now mem) ⌝ }
     requires { ⌜ len s k ≡ s .pages ⌝ }
-    ensures { λ r. ⌜ r ≡ each (s .pages) (waitingAtMost (view s (words (now (mem .entry)))) k most) ⌝ }
+    ensures { λ r. ⌜ r ≡ each (s .pages) (waitingAtMost (viewOf s (now (mem .entry))) k most) ⌝ }
 {
     let n = s.pages;
     let mut ok = true;
@@ -115,7 +114,7 @@ fn modulo_places(word: u32, places: u32) -> u32
 fn waiting_lineage(mem: &[u8], s: Sizes, inverse: u32, p: usize) -> bool
     requires { ⌜ Ready s (now mem) ⌝ }
     requires { ⌜ (p < s .pages) × (inverse ≡ 65536 / s .columns + 1) × (inverse ≤ 65537) ⌝ }
-    ensures { λ r. ⌜ r ≡ waitingLineage s (view s (words (now (mem .entry)))) p ⌝ }
+    ensures { λ r. ⌜ r ≡ waitingLineage s (viewOf s (now (mem .entry))) p ⌝ }
 {
     if read(mem, s, Region::PageState, p) < PAGE_WAITING {
         return true;
@@ -127,7 +126,7 @@ fn waiting_lineage(mem: &[u8], s: Sizes, inverse: u32, p: usize) -> bool
 
 fn waiting_lineages(mem: &[u8], s: Sizes) -> bool
     requires { ⌜ Ready s (now mem) ⌝ }
-    ensures { λ r. ⌜ r ≡ each (s .pages) (waitingLineage s (view s (words (now (mem .entry))))) ⌝ }
+    ensures { λ r. ⌜ r ≡ each (s .pages) (waitingLineage s (viewOf s (now (mem .entry)))) ⌝ }
 {
     let inverse = inverse_of(s.columns);
     let n = s.pages;
@@ -143,7 +142,7 @@ fn waiting_lineages(mem: &[u8], s: Sizes) -> bool
 // The facts of the waiting pages. Often none waits, which one look at the states tells.
 fn waiting_hold(mem: &[u8], s: Sizes) -> bool
     requires { ⌜ Ready s (now mem) ⌝ }
-    ensures { λ r. ⌜ r ≡ waitingHold s (view s (words (now (mem .entry)))) ⌝ }
+    ensures { λ r. ⌜ r ≡ waitingHold s (viewOf s (now (mem .entry))) ⌝ }
 {
     if between_in(mem, s, Region::PageState, 0, s.pages, 0, PAGE_CURRENT) {
         return true;
@@ -159,7 +158,7 @@ fn waiting_hold(mem: &[u8], s: Sizes) -> bool
 // The facts of the pages.
 pub fn pages_hold(mem: &[u8], s: Sizes) -> bool
     requires { ⌜ Ready s (now mem) ⌝ }
-    ensures { λ r. ⌜ r ≡ pagesHold s (view s (words (now (mem .entry)))) ⌝ }
+    ensures { λ r. ⌜ r ≡ pagesHold s (viewOf s (now (mem .entry))) ⌝ }
 {
     let currents = currents_hold(mem, s);
     let waiting = waiting_hold(mem, s);

@@ -8,11 +8,10 @@ use lib.ListN.{length, replicate}
 use Rattle.model.specs.Writing.{made as madeView}
 use Rattle.terms.specs.Measures.{Shape, withinLimits, mostScans}
 use Rattle.terms.specs.declared.Answer.{Answer}
-use Rattle.terms.specs.declared.Place.{Place}
+use Rattle.terms.specs.declared.ScanEntry.{ScanEntry}
 use Rattle.terms.specs.declared.Refusal.{Refusal}
-use Rattle.words.specs.Words.{words}
 use Rattle.layout.specs.Sizes.{sizesOf, bytesNeeded}
-use Rattle.layout.specs.View.{View, view, lay}
+use Rattle.layout.specs.View.{View, lay, viewOf}
 use Rattle.layout.proofs.Lay.{view-lay}
 use Rattle.history.specs.History.{Call, History, start, answer, run, tests, reply, verdict, accept, answerIf, read, seenAt, notGiven, noColumn}
 use Rattle.history.specs.Claims.{strike, Reads, latest-reads, at-reads, scan-reads, answerAt, ReadAt, Striking, Stability}
@@ -24,7 +23,7 @@ use Rattle.history.proofs.Stability.{stability, accepted}
 use Rattle.facts.specs.Usable.{usable}
 use Rattle.making.specs.Made.{made, madeList}
 use Rattle.making.proofs.Answers.{laid as making-laid}
-use Rattle.terms.specs.Places.{freePlace}
+use Rattle.terms.specs.Places.{freeEntry}
 use Rattle.model.specs.Reading.{reader}
 use Rattle.model.specs.Calls.{Typed, viewNext, viewAfter, listAfter as modelList}
 use Rattle.model.specs.Claims.{storeAfter, historyAfter}
@@ -37,7 +36,7 @@ use Rattle.promise.specs.Demands.{Accepted, memoryMade, storeAnswers, st
 use Rattle.promise.proofs.Same.{Same, made-starts, same-usable, view-is, memory-is, list-is, same-call, same-answers}
 
 -- ---- an accepted making: its measures are within their limits, and memory and list are long enough
-record Enough (S : Shape) (m : List ℕ) (ps : List Place) : Type 0 where
+record Enough (S : Shape) (m : List ℕ) (ps : List ScanEntry) : Type 0 where
   within : withinLimits S ≡ true
   room : bytesNeeded S ≤ length m
   places : mostScans ≤ length ps
@@ -49,7 +48,7 @@ both-passed true true l k e = (tt, tt)
 both-passed true false l k e = clash (cc)
 both-passed false c l k e = clash (cc)
 
-enough : (S : Shape) (m : List ℕ) (ps : List Place) → Accepted S m ps → Enough S m ps
+enough : (S : Shape) (m : List ℕ) (ps : List ScanEntry) → Accepted S m ps → Enough S m ps
 unfolding made bytesNeeded
 enough S m ps a =
     let t = both-passed (withinLimits S) (leb (bytesNeeded S) (length m) && leb mostScans (length ps)) (lay (sizesOf S) (madeView S) m) m a in
@@ -70,11 +69,11 @@ making-accepted S m ps t b n =
     sym (ap (λ (w : Answer × List ℕ). w .0) (making-laid S (length ps) m (is-true (withinLimits S) t) b n (lay (sizesOf S) (madeView S) m) refl))
 
 -- what it left represents the empty history
-from-making : (S : Shape) (m : List ℕ) (ps : List Place) → Accepted S m ps → Same (memoryMade S m ps) (madeList ps) S start
+from-making : (S : Shape) (m : List ℕ) (ps : List ScanEntry) → Accepted S m ps → Same (memoryMade S m ps) (madeList ps) S start
 from-making S m ps a = let e = enough S m ps a in rw (e .laid) (made-starts S m ps (e .within) (e .room) (e .places))
 
 -- and is usable, with a scan list whose places were all freed
-pub made-then-usable : (p : Shape) (m : List ℕ) (qs : List Place) → made p (length qs) m .0 ≡ Answer.Done → usable (made p (length qs) m .1) (madeList qs) ≡ true
+pub made-then-usable : (p : Shape) (m : List ℕ) (qs : List ScanEntry) → made p (length qs) m .0 ≡ Answer.Done → usable (made p (length qs) m .1) (madeList qs) ≡ true
 made-then-usable p m qs e = same-usable (from-making p m qs e)
 
 -- ---- demand 3
@@ -88,7 +87,7 @@ striking-store S m ps a cs ys =
     rw (demand3 S m ps a cs ys, demand3 S m ps a (strike cs) (all-keep _ ys)) (striking S cs)
 
 -- a read of the store's list is one of the history's
-read-in : (S : Shape) (m : List ℕ) (ps : List Place) → Accepted S m ps → (cs : List Call) → All Typed cs → (i t r c : ℕ) → ReadIn S m ps cs i t r c → ReadAt S cs i t r c
+read-in : (S : Shape) (m : List ℕ) (ps : List ScanEntry) → Accepted S m ps → (cs : List Call) → All Typed cs → (i t r c : ℕ) → ReadIn S m ps cs i t r c → ReadAt S cs i t r c
 unfolding Demand3 storeAnswerAt answerAt
 read-in S m ps a cs ys i t r c x =
     record { inside = x .inside; reads = x .reads; accepted = rw (demand3 S m ps a cs ys) at (x .accepted) }
@@ -100,18 +99,18 @@ stability-store S m ps a cs ys i j t r c x y =
     (stability S cs i j t r c (read-in S m ps a cs ys i t r c x) (read-in S m ps a cs ys j t r c y))
 
 -- ---- the memory and the list after a list of calls
-record Left (m : List ℕ) (ps : List Place) (S : Shape) (h : History) (cs : List Call) : Type 0 where
+record Left (m : List ℕ) (ps : List ScanEntry) (S : Shape) (h : History) (cs : List Call) : Type 0 where
   same : Same (left (lend m ps) cs .memory) (left (lend m ps) cs .list) S (run S h cs)
-  shown : view (sizesOf S) (words (left (lend m ps) cs .memory)) ≡ viewAfter S (view (sizesOf S) (words m)) ps cs
-  list : left (lend m ps) cs .list ≡ modelList S (view (sizesOf S) (words m)) ps cs
+  shown : viewOf (sizesOf S) (left (lend m ps) cs .memory) ≡ viewAfter S (viewOf (sizesOf S) m) ps cs
+  list : left (lend m ps) cs .list ≡ modelList S (viewOf (sizesOf S) m) ps cs
 
-view-next : {m : List ℕ} {ps : List Place} {S : Shape} {h : History} → Same m ps S h → (c : Call) → Typed c
-    → view (sizesOf S) (words (memoryAfter (lend m ps) c)) ≡ viewNext S (view (sizesOf S) (words m)) ps c
+view-next : {m : List ℕ} {ps : List ScanEntry} {S : Shape} {h : History} → Same m ps S h → (c : Call) → Typed c
+    → viewOf (sizesOf S) (memoryAfter (lend m ps) c) ≡ viewNext S (viewOf (sizesOf S) m) ps c
 view-next {m} {ps} {S} {h} o c y =
-    let whole = (one-call S (view (sizesOf S) (words m)) ps h c y (o .shown) (o .known) .shown) .whole in
-    rw (memory-is o c) (view-lay (sizesOf S) (viewNext S (view (sizesOf S) (words m)) ps c) m (whole .long) (whole .fits))
+    let whole = (one-call S (viewOf (sizesOf S) m) ps h c y (o .shown) (o .known) .shown) .whole in
+    rw (memory-is o c) (view-lay (sizesOf S) (viewNext S (viewOf (sizesOf S) m) ps c) m (whole .long) (whole .fits))
 
-calls-left : {m : List ℕ} {ps : List Place} {S : Shape} {h : History} → Same m ps S h → {cs : List Call} → All Typed cs → Left m ps S h cs
+calls-left : {m : List ℕ} {ps : List ScanEntry} {S : Shape} {h : History} → Same m ps S h → {cs : List Call} → All Typed cs → Left m ps S h cs
 unfolding left run viewAfter modelList
 calls-left o nil = record { same = o; shown = refl; list = refl }
 calls-left o (cons {x = c} y ys) =
@@ -119,8 +118,8 @@ calls-left o (cons {x = c} y ys) =
     record { same = l .same; shown = rw (← view-next o c y, ← list-is o c) (l .shown); list = rw (← view-next o c y, ← list-is o c) (l .list) }
 
 -- from a making: the view is that of the model
-module _ (S : Shape) (m : List ℕ) (ps : List Place) (a : Accepted S m ps) {cs : List Call} (ys : All Typed cs) where
-  view-made : view (sizesOf S) (words (memoryMade S m ps)) ≡ madeView S
+module _ (S : Shape) (m : List ℕ) (ps : List ScanEntry) (a : Accepted S m ps) {cs : List Call} (ys : All Typed cs) where
+  view-made : viewOf (sizesOf S) (memoryMade S m ps) ≡ madeView S
   view-made =
       let e = enough S m ps a in
       let whole = made-represents S (small-shape S (rw (e .within) tt)) (length ps) (e .places) .whole in
@@ -134,11 +133,11 @@ module _ (S : Shape) (m : List ℕ) (ps : List Place) (a : Accepted S m ps) {cs 
   unfolding storeLeft historyAfter
   store-same = from-made .same
 
-  words-left : view (sizesOf S) (words (storeLeft S m ps cs .memory)) ≡ storeAfter S (length ps) cs
+  words-left : viewOf (sizesOf S) (storeLeft S m ps cs .memory) ≡ storeAfter S (length ps) cs
   unfolding storeLeft storeAfter
   words-left = from-made .shown ∙ ap (λ (v : View). viewAfter S v (madeList ps) cs) view-made
 
-  list-left : storeLeft S m ps cs .list ≡ modelList S (madeView S) (replicate (length ps) freePlace) cs
+  list-left : storeLeft S m ps cs .list ≡ modelList S (madeView S) (replicate (length ps) freeEntry) cs
   unfolding storeLeft
   list-left = from-made .list ∙ ap (λ (v : View). modelList S v (madeList ps) cs) view-made
 
@@ -148,7 +147,7 @@ module _ (S : Shape) (m : List ℕ) (ps : List Place) (a : Accepted S m ps) {cs 
   -- and after further calls
   view-later : {ds : List Call} → All Typed ds
       → storeView (left (storeLeft S m ps cs) ds .memory)
-      ≡ viewAfter S (storeAfter S (length ps) cs) (modelList S (madeView S) (replicate (length ps) freePlace) cs) ds
+      ≡ viewAfter S (storeAfter S (length ps) cs) (modelList S (madeView S) (replicate (length ps) freeEntry) cs) ds
   view-later zs = let l = calls-left store-same zs in view-is (l .same) ∙ l .shown ∙ rw (words-left, list-left)
 
 -- ---- demand 2

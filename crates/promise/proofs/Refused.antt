@@ -6,7 +6,7 @@ use lib.IntN.{ℤ}
 use Rattle.terms.specs.Measures.{Shape}
 use Rattle.terms.specs.Refusals.{isRefused}
 use Rattle.terms.specs.declared.Answer.{Answer}
-use Rattle.terms.specs.declared.Place.{Place}
+use Rattle.terms.specs.declared.ScanEntry.{ScanEntry}
 use Rattle.terms.specs.declared.Refusal.{Refusal}
 use Rattle.words.specs.Words.{words}
 use Rattle.layout.specs.declared.Sizes.{Sizes}
@@ -17,7 +17,7 @@ use Rattle.history.proofs.Lists.{by-test, is-true}
 use Rattle.facts.specs.Usable.{storedShape, storedSizes, usable}
 use Rattle.facts.proofs.Usable.{usable-tells}
 use Rattle.model.specs.Reading.{readIn, readCurrent, sumIn, visibleIn}
-use Rattle.model.specs.Calls.{replyIn, viewIf, placesIf, say, viewNext, placesNext}
+use Rattle.model.specs.Calls.{replyIn, viewIf, entriesIf, say, viewNext, entriesNext}
 use Rattle.model.proofs.Lists.{true-false}
 use Rattle.promise.specs.Promise.{storeView, answerOf, memoryAfter, listAfter}
 use Rattle.promise.specs.Demands.{RefusedKeeps}
@@ -27,7 +27,7 @@ read-not : (b : Bool) (z : ℤ) → isRefused (cond b (Answer.Value z) Answer.No
 read-not true z = refl
 read-not false z = refl
 
-pub not-refused : (S : Shape) (v : View) (ps : List Place) (c : Call) → isRefused (replyIn S v ps c) ≡ false
+pub not-refused : (S : Shape) (v : View) (ps : List ScanEntry) (c : Call) → isRefused (replyIn S v ps c) ≡ false
 unfolding replyIn readCurrent readIn sumIn
 not-refused S v ps begin = refl
 not-refused S v ps (insert t vs) = refl
@@ -48,15 +48,15 @@ not-refused S v ps (pageCell c r) = refl
 not-refused S v ps (lineage g c) = refl
 
 -- so an answer that is a refusal is the verdict's
-pub refused-by : (S : Shape) (v : View) (ps : List Place) (c : Call) (w : Verdict) {n : Refusal} → answerIf w (replyIn S v ps c) ≡ Answer.Refused n → w ≡ refuse n
+pub refused-by : (S : Shape) (v : View) (ps : List ScanEntry) (c : Call) (w : Verdict) {n : Refusal} → answerIf w (replyIn S v ps c) ≡ Answer.Refused n → w ≡ refuse n
 unfolding answerIf
 refused-by S v ps c accept e = absurd (true-false (sym (ap isRefused e) ∙ not-refused S v ps c))
 refused-by S v ps c (refuse r) e = cc
 
 pub refused-keeps : RefusedKeeps
-unfolding RefusedKeeps answerOf memoryAfter listAfter say viewNext placesNext viewIf placesIf storeView
+unfolding RefusedKeeps answerOf memoryAfter listAfter say viewNext entriesNext viewIf entriesIf storeView
 refused-keeps m ps c n b =
-    by-test (λ u. cond u (say S v ps c) (Answer.Refused Refusal.Memory) ≡ Answer.Refused n → (cond u (lay s (viewNext S v ps c) m) m ≡ m) × (cond u (placesNext S v ps c) ps ≡ ps)) (usable m ps)
+    by-test (λ u. cond u (say S v ps c) (Answer.Refused Refusal.Memory) ≡ Answer.Refused n → (cond u (lay s (viewNext S v ps c) m) m ≡ m) × (cond u (entriesNext S v ps c) ps ≡ ps)) (usable m ps)
     (λ t e. rw (refused-by S v ps c _ e) (lay-view s m b (usable-tells m ps (is-true (usable m ps) t) .room), refl)) (λ _ e. (refl, refl))
   where
     S : Shape

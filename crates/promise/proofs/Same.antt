@@ -8,7 +8,7 @@ use native.Mathlib.Nat.{zero-add}
 use lib.ListN.{length, getD, drop, length-append, length-drop}
 use borrow.Author.Tests.{le-leb}
 use Rattle.terms.specs.Measures.{Shape, withinLimits, mostScans}
-use Rattle.terms.specs.declared.Place.{Place}
+use Rattle.terms.specs.declared.ScanEntry.{ScanEntry}
 use Rattle.words.specs.Words.{words, bytes}
 use Rattle.words.proofs.Words.{length-bytes}
 use Rattle.layout.specs.declared.Sizes.{Sizes}
@@ -17,7 +17,7 @@ use Rattle.layout.specs.declared.Region.the-variants.{Header}
 use Rattle.layout.specs.Cut.{join, endFrom}
 use Rattle.layout.specs.Regions.{all, lens, need, base, headerWords}
 use Rattle.layout.specs.Sizes.{sizesOf, bytesNeeded}
-use Rattle.layout.specs.View.{View, view, lay, Long}
+use Rattle.layout.specs.View.{View, lay, Long, viewOf, Suffices}
 use Rattle.layout.proofs.Cut.{join-length}
 use Rattle.layout.proofs.View.{view-at}
 use Rattle.layout.proofs.Lay.{view-lay}
@@ -27,7 +27,7 @@ use Rattle.history.proofs.Past.{past-start}
 use Rattle.facts.specs.Usable.{measuresBytes, storedShape, storedSizes, usable}
 use Rattle.making.specs.Made.{madeList}
 use Rattle.model.specs.Writing.{made as madeView}
-use Rattle.model.specs.Calls.{Typed, say, viewNext, placesNext}
+use Rattle.model.specs.Calls.{Typed, say, viewNext, entriesNext}
 use Rattle.model.specs.Represents.{Represents, Known}
 use Rattle.model.proofs.Calls.{one-call}
 use Rattle.model.proofs.Made.{small-shape, made-represents}
@@ -35,14 +35,14 @@ use Rattle.promise.specs.Promise.{storeView, answerOf, memoryAfter, list
 use Rattle.promise.proofs.Stored.{represented-facts}
 
 -- The view by the shape represents the history, and there are the bytes for it. That the memory says this shape, and that it is usable, follows.
-pub record Same (m : List ℕ) (ps : List Place) (S : Shape) (h : History) : Type 0 where
+pub record Same (m : List ℕ) (ps : List ScanEntry) (S : Shape) (h : History) : Type 0 where
   pub within : withinLimits S ≡ true
   pub room : bytesNeeded S ≤ length m
   pub known : Known S h
-  pub shown : Represents S (view (sizesOf S) (words m)) ps h
+  pub shown : Represents S (viewOf (sizesOf S) m) ps h
 
 -- ---- what is laid is as long as it was
-pub lay-length : (s : Sizes) (v : View) (m : List ℕ) → Long s v → need s * 4 ≤ length m → length (lay s v m) ≡ length m
+pub lay-length : (s : Sizes) (v : View) (m : List ℕ) → Long s v → Suffices s m → length (lay s v m) ≡ length m
 unfolding lay need
 lay-length s v m long room =
     let j : 0 + length (join (map v all)) ≡ endFrom 0 (lens s) = join-length 0 (map v all) ∙ ap (λ (f : Region → ℕ). endFrom 0 (map f all)) (fun-ext long) in
@@ -50,7 +50,7 @@ lay-length s v m long room =
     ∙ omega (arith, length-bytes (join (map v all)), length-drop (endFrom 0 (lens s) * 4) m)
 
 -- a view that represents a history, laid over a memory, is that memory's view
-pub laid : (S : Shape) (v : View) (m : List ℕ) (ps : List Place) (h : History) → withinLimits S ≡ true → bytesNeeded S ≤ length m → Known S h → Represents S v ps h
+pub laid : (S : Shape) (v : View) (m : List ℕ) (ps : List ScanEntry) (h : History) → withinLimits S ≡ true → bytesNeeded S ≤ length m → Known S h → Represents S v ps h
     → Same (lay (sizesOf S) v m) ps S h
 unfolding bytesNeeded
 laid S v m ps h w b k o =
@@ -62,7 +62,7 @@ laid S v m ps h w b k o =
     }
 
 -- ---- making
-pub made-starts : (S : Shape) (m : List ℕ) (ps : List Place) → withinLimits S ≡ true → bytesNeeded S ≤ length m → mostScans ≤ length ps
+pub made-starts : (S : Shape) (m : List ℕ) (ps : List ScanEntry) → withinLimits S ≡ true → bytesNeeded S ≤ length m → mostScans ≤ length ps
     → Same (lay (sizesOf S) (madeView S) m) (madeList ps) S start
 made-starts S m ps w b n =
     let small = small-shape S (rw w tt) in
@@ -70,8 +70,8 @@ made-starts S m ps w b n =
     (made-represents S small (length ps) n)
 
 -- ---- a memory that represents a history
-module _ {m : List ℕ} {ps : List Place} {S : Shape} {h : History} (o : Same m ps S h) where
-  header-at : (i : ℕ) → i < headerWords → getD (words m) i 0 ≡ getD (view (sizesOf S) (words m) Header) i 0
+module _ {m : List ℕ} {ps : List ScanEntry} {S : Shape} {h : History} (o : Same m ps S h) where
+  header-at : (i : ℕ) → i < headerWords → getD (words m) i 0 ≡ getD (viewOf (sizesOf S) m Header) i 0
   unfolding base
   header-at i b = sym (rw (zero-add i) at (view-at (sizesOf S) (words m) Header i b))
 
@@ -95,10 +95,10 @@ module _ {m : List ℕ} {ps : List Place} {S : Shape} {h : History} (o : Same m 
         le-leb (need (sizesOf S) * 4) (length m) (o .room),
         le-leb mostScans (length ps) (o .shown .scans .room),
       )
-      (represented-facts S (view (sizesOf S) (words m)) ps h (o .shown) (o .known) (o .within))
+      (represented-facts S (viewOf (sizesOf S) m) ps h (o .shown) (o .known) (o .within))
 
   abbrev seen : View
-  seen = view (sizesOf S) (words m)
+  seen = viewOf (sizesOf S) m
 
   pub view-is : storeView m ≡ seen
   unfolding storeView storedSizes
@@ -116,20 +116,20 @@ module _ {m : List ℕ} {ps : List Place} {S : Shape} {h : History} (o : Same m 
   unfolding memoryAfter storedSizes
   memory-is c = by-usable (λ p v. lay (sizesOf p) (viewNext p v ps c) m) _
 
-  pub list-is : (c : Call) → listAfter (lend m ps) c ≡ placesNext S seen ps c
+  pub list-is : (c : Call) → listAfter (lend m ps) c ≡ entriesNext S seen ps c
   unfolding listAfter
-  list-is c = by-usable (λ p v. placesNext p v ps c) _
+  list-is c = by-usable (λ p v. entriesNext p v ps c) _
 
   -- one call: it answers as the history does, and what it leaves represents the history after it
   pub same-call : (c : Call) → Typed c → (answerOf (lend m ps) c ≡ answer S h c) × Same (memoryAfter (lend m ps) c) (listAfter (lend m ps) c) S (next S h c)
   same-call c y =
       let one = one-call S seen ps h c y (o .shown) (o .known) in (
         answer-is c ∙ one .answered,
-        rw (memory-is c, list-is c) (laid S (viewNext S seen ps c) m (placesNext S seen ps c) (next S h c) (o .within) (o .room) (one .known) (one .shown)),
+        rw (memory-is c, list-is c) (laid S (viewNext S seen ps c) m (entriesNext S seen ps c) (next S h c) (o .within) (o .room) (one .known) (one .shown)),
       )
 
 -- every list of calls
-pub same-answers : {m : List ℕ} {ps : List Place} {S : Shape} {h : History} → Same m ps S h → {cs : List Call} → All Typed cs → answersOf (lend m ps) cs ≡ answers S h cs
+pub same-answers : {m : List ℕ} {ps : List ScanEntry} {S : Shape} {h : History} → Same m ps S h → {cs : List Call} → All Typed cs → answersOf (lend m ps) cs ≡ answers S h cs
 unfolding answersOf answers
 same-answers o nil = refl
 same-answers o (cons {x = c} y ys) = let one = same-call o c y in rw (one .0, same-answers (one .1) ys)

@@ -12,15 +12,15 @@ use lib.Dec.{T, T-not, not-T, leb, ltb, eqb, eqb→eq, leb→le, le→leb, ltb�
 use lib.ListN.{length, getD}
 use lib.Pow.{pow-pos, shr-shr}
 use Rattle.terms.specs.Measures.{Shape, mostTransactions}
-use Rattle.terms.specs.Places.{freePlace, bears, isScan, place}
+use Rattle.terms.specs.Places.{freeEntry, bears, isScan, place}
 use Rattle.terms.specs.Refusals.{isRefused}
 use Rattle.terms.specs.declared.Answer.{Answer}
-use Rattle.terms.specs.declared.Place.{Place}
+use Rattle.terms.specs.declared.ScanEntry.{ScanEntry}
 use Rattle.terms.specs.declared.Refusal.{Refusal}
 use Rattle.words.specs.Words.{words}
 use Rattle.words.proofs.Words.{length-words}
 use Rattle.layout.specs.Sizes.{sizesOf, Proper}
-use Rattle.layout.specs.View.{View, view, rowsGiven, lastStamp, usedIn}
+use Rattle.layout.specs.View.{View, rowsGiven, lastStamp, usedIn, viewOf}
 use Rattle.layout.proofs.View.{view-long}
 use Rattle.layout.proofs.Limits.{proper}
 use Rattle.layout.specs.declared.Region.the-variants.{Opens}
@@ -136,12 +136,12 @@ mask-test S m = (
         (S .columns + q .0, omega arith, rw (shr-shr m (S .columns) (q .0)) at (q .1))
 
 -- ---- the conditions
-module _ (S : Shape) (v : View) (ps : List Place) (long : length (v Opens) ≡ mostTransactions) (pool : Placed S v) where
+module _ (S : Shape) (v : View) (ps : List ScanEntry) (long : length (v Opens) ≡ mostTransactions) (pool : Placed S v) where
   open-test : (t : ℕ) → T (openIn v t) ↔ Open v t
   open-test t = rw long at (list-test (λ k. k) (v Opens) 0 t)
 
   scan-test : (k : ℕ) → T (any (isScan k) ps) ↔ ScanOpen ps k
-  scan-test k = list-test (λ (p : Place). p .number) ps freePlace k
+  scan-test k = list-test (λ (p : ScanEntry). p .number) ps freeEntry k
 
   records-test : (g n : ℕ) (f : RecordWords → Bool) (P : RecordWords → Type 0)
       → ((k : ℕ) → 1 ≤ k → k ≤ n → T (f (recordIn v (slot S g k))) ↔ P (recordIn v (slot S g k)))
@@ -319,7 +319,7 @@ unfolding answerIf
 is-accept accept a e = refl
 is-accept (refuse n) a e = absurd (true-false e)
 
-placed : (S : Shape) (v : View) (ps : List Place) → Proper (sizesOf S) → Usable (sizesOf S) v ps → Placed S v
+placed : (S : Shape) (v : View) (ps : List ScanEntry) → Proper (sizesOf S) → Usable (sizesOf S) v ps → Placed S v
 unfolding pageIn
 placed S v ps z u = record {
   inside = λ i b. omega (arith, u .current-in i (omega (arith, z .places-are)), z .pages-are, z .places-are);
@@ -327,11 +327,11 @@ placed S v ps z u = record {
   place = λ i b. u .current-place i (omega (arith, z .places-are));
 }
 
-on-usable : (m : List ℕ) (ps : List Place) (c : Call) → usable m ps ≡ true → Meets (testsIn (storedShape (words m)) (storeView m) ps c) (stated (storedShape (words m)) (storeView m) ps c)
+on-usable : (m : List ℕ) (ps : List ScanEntry) (c : Call) → usable m ps ≡ true → Meets (testsIn (storedShape (words m)) (storeView m) ps c) (stated (storedShape (words m)) (storeView m) ps c)
 unfolding storedSizes storeView
 on-usable m ps c u =
     let S : Shape = storedShape (words m) in
-    let v : View = view (sizesOf S) (words m) in
+    let v : View = viewOf (sizesOf S) m in
     let t = usable-tells m ps u in
     meets S v ps (view-long (sizesOf S) (words m) (omega (arith, length-words m, t .room)) Opens) (placed S v ps (proper S (t .within)) (t .facts)) c
 

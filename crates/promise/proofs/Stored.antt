@@ -11,7 +11,7 @@ use lib.Dec.{T, eqb, lt→ltb}
 use lib.ListN.{length, getD, List·getD-eq-default}
 use Rattle.layout.specs.Codes.{asWaiting}
 use Rattle.terms.specs.Measures.{Shape, rangeRows, withinLimits}
-use Rattle.terms.specs.declared.Place.{Place}
+use Rattle.terms.specs.declared.ScanEntry.{ScanEntry}
 use Rattle.layout.specs.declared.Region.the-variants.{Opens, TailRow, Used}
 use Rattle.layout.specs.View.{View, rowsGiven, transactionsGiven, lastStamp, mergesMade, usedIn}
 use Rattle.layout.specs.Sizes.{sizesOf}
@@ -28,7 +28,7 @@ use Rattle.scans.specs.Places.{opened, openCount}
 use Rattle.facts.specs.Facts.{factsHold}
 use Rattle.facts.proofs.Ready.{Stored}
 use Rattle.facts.proofs.Usable.{Linked, Usable}
-use Rattle.terms.specs.Places.{bears, place, freePlace}
+use Rattle.terms.specs.Places.{bears, place, freeEntry}
 use Rattle.model.specs.Stored.{rowIn, recordIn, valueIn, pageIn, placesOf, pagesOf}
 use Rattle.model.proofs.Book.{live-inside, Kind, Book, book-is, book-found, book-only}
 use Rattle.model.proofs.Merged.{place-mod, place-parts, named, placed}
@@ -82,13 +82,13 @@ module _ {P A : Type 0} (K : Kind P A) (ts : List A) (l : List P) (o : Book K ts
           by-cases (decLt j own) (λ p. absurd (n (numbers-apart j own p (sym own-number))))
           (λ p. by-cases (decLt own j) (λ q. absurd (n (sym own-number ∙ numbers-apart own j q own-number))) (λ q. omega arith))
 
-opened-count : (ps : List Place) → openCount ps ≡ count (λ p. not (eqb (p .number) 0)) ps
+opened-count : (ps : List ScanEntry) → openCount ps ≡ count (λ p. not (eqb (p .number) 0)) ps
 opened-count [] = refl
 opened-count (p ∷ ps) = cond-ap length (not (eqb (p .number) 0)) (p ∷ opened ps) (opened ps) ∙ rw (opened-count ps)
 
 -- ---- the facts, part by part
 
-module _ (S : Shape) (v : View) (ps : List Place) (h : History) (o : Represents S v ps h) (k : Known S h) where
+module _ (S : Shape) (v : View) (ps : List ScanEntry) (h : History) (o : Represents S v ps h) (k : Known S h) where
   -- used records are those of the history
   used-few : (g i : ℕ) → g < S .ranges → i < usedIn v g → i < length (recordsOf h g)
   used-few g i a b = omega (arith, o .tails g a .used-all)
@@ -137,18 +137,18 @@ module _ (S : Shape) (v : View) (ps : List Place) (h : History) (o : Represents 
       record { low = omega (arith, t .0); same = λ f. rw q (record-row g i a (omega (arith, t .0)) ∙ t .1) }
 
   -- ---- open scans
-  scan-stamps : (j : ℕ) → getD ps j freePlace .number ≢ 0 → getD ps j freePlace .stamp ≤ lastStamp v
+  scan-stamps : (j : ℕ) → getD ps j freeEntry .number ≢ 0 → getD ps j freeEntry .stamp ≤ lastStamp v
   unfolding Timely scanAt
   scan-stamps j n =
-      omega (arith, ap (λ (p : Place). p .stamp) (place-is scanKind (h .scans) ps (o .scans .same) j n), k .past .timely (getD ps j freePlace .number), o .header .last-stamp)
+      omega (arith, ap (λ (p : ScanEntry). p .stamp) (place-is scanKind (h .scans) ps (o .scans .same) j n), k .past .timely (getD ps j freeEntry .number), o .header .last-stamp)
 
-  scan-merges : (j : ℕ) → getD ps j freePlace .number ≢ 0 → getD ps j freePlace .merges ≤ mergesMade v
+  scan-merges : (j : ℕ) → getD ps j freeEntry .number ≢ 0 → getD ps j freeEntry .merges ≤ mergesMade v
   unfolding scanAt
   scan-merges j n =
       omega (
         arith,
-        ap (λ (p : Place). p .merges) (place-is scanKind (h .scans) ps (o .scans .same) j n),
-        o .scanPages (getD ps j freePlace .number) (number-live scanKind (h .scans) ps (o .scans .same) j n) 0 0 (k .small .some-range) (k .small .some-column) .early,
+        ap (λ (p : ScanEntry). p .merges) (place-is scanKind (h .scans) ps (o .scans .same) j n),
+        o .scanPages (getD ps j freeEntry .number) (number-live scanKind (h .scans) ps (o .scans .same) j n) 0 0 (k .small .some-range) (k .small .some-column) .early,
         o .header .merges-made,
       )
 

@@ -10,7 +10,7 @@ use lib.Dec.{leb, ltb, eqb}
 use lib.ListN.{length, getD}
 use borrow.Author.Tests.{ltb-false, eqb-false, eq-eqb, ne-eqb, le-leb, lt-ltb}
 use Rattle.layout.specs.Codes.{asWaiting}
-use Rattle.terms.specs.declared.Place.{Place}
+use Rattle.terms.specs.declared.ScanEntry.{ScanEntry}
 use Rattle.history.proofs.Lists.{by-test, is-false}
 use Rattle.loops.specs.Search.{region, allBetween}
 use Rattle.loops.proofs.Region.{region-at, region-length}
@@ -19,7 +19,7 @@ use Rattle.layout.specs.declared.Region.{Region}
 use Rattle.layout.specs.declared.Region.the-variants.{Opens, RowTransaction, RowStamp, TailTransaction, TailStamp, Used, PageState, PageReplaced, PageLineage, PageNewest}
 use Rattle.layout.specs.Regions.{len, firstSlot}
 use Rattle.layout.specs.View.{View, rowsGiven, transactionsGiven, scansGiven, lastStamp, mergesMade, usedIn, Long}
-use Rattle.terms.specs.Places.{freePlace}
+use Rattle.terms.specs.Places.{freeEntry}
 use Rattle.scans.specs.Places.{everyOpen, among, differ}
 use Rattle.facts.specs.Facts.{each, rowsBetween, rangeBetween, currentAtMost, waitingAtMost, storedWithin, countsWithin, rowNamed, rangeNamesRows, recordsNameRows, numbersGiven, linkHolds, rowLinked, recordLinked, rangeLinked, linksHold, stampsWithin, mergesWithin, openDiffer, pagePlaced, pagesPlaced, currentLineage, waitingLineage, lineagesWithin, factsHold}
 use Rattle.layout.specs.Sizes.{Proper}
@@ -42,7 +42,7 @@ all-between low high (x ∷ l) f =
     let a = f 0 (omega arith) in
     rw (le-leb low x (a .0), le-leb x high (a .1)) (all-between low high l (λ i h. f (suc i) (omega arith)))
 
-every-open : (f : Place → Bool) (ps : List Place) → ((j : ℕ) → getD ps j freePlace .number ≢ 0 → f (getD ps j freePlace) ≡ true) → everyOpen f ps ≡ true
+every-open : (f : ScanEntry → Bool) (ps : List ScanEntry) → ((j : ℕ) → getD ps j freeEntry .number ≢ 0 → f (getD ps j freeEntry) ≡ true) → everyOpen f ps ≡ true
 every-open f [] h = refl
 every-open f (p ∷ ps) h =
     both (by-test (λ b. (not (not b) || f p) ≡ true) (eqb (p .number) 0) (λ _. refl) (λ t. h 0 (eqb-false (p .number) 0 (is-false _ t)))) (every-open f ps (λ j. h (suc j)))
@@ -72,7 +72,7 @@ waiting-holds v k most p f =
 
 -- ---- all clauses
 
-module _ (s : Sizes) (v : View) (ps : List Place) (z : Proper s) (long : Long s v) (u : Usable s v ps) where
+module _ (s : Sizes) (v : View) (ps : List ScanEntry) (z : Proper s) (long : Long s v) (u : Usable s v ps) where
   stretch : (k : Region) (at n low high : ℕ) → at + n ≤ len s k → ((i : ℕ) → i < n → (low ≤ getD (v k) (at + i) 0) × (getD (v k) (at + i) 0 ≤ high))
       → allBetween low high (region (v k) at n) ≡ true
   stretch k at n low high b f =

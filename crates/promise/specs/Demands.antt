@@ -12,7 +12,7 @@ use lib.Dec.{T}
 use lib.ListN.{length, getD}
 use Rattle.terms.specs.Measures.{Shape, withinLimits, mostScans}
 use Rattle.terms.specs.declared.Answer.{Answer}
-use Rattle.terms.specs.declared.Place.{Place}
+use Rattle.terms.specs.declared.ScanEntry.{ScanEntry}
 use Rattle.terms.specs.declared.Refusal.{Refusal}
 use Rattle.words.specs.Words.{Bytes}
 use Rattle.layout.specs.Sizes.{bytesNeeded}
@@ -28,25 +28,25 @@ use Rattle.promise.specs.Promise.{storeView, Lent, answerOf, memoryAfter
 use Rattle.promise.specs.Stated.{First, NoneApplies, conditions}
 
 -- ---- "The list starts from what an accepted making left, whatever memory and scan list held before": m and ps are what they held
-abbrev pub Accepted : Shape → List ℕ → List Place → Type 0
+abbrev pub Accepted : Shape → List ℕ → List ScanEntry → Type 0
 Accepted S m ps = made S (length ps) m .0 ≡ Answer.Done
 
-abbrev pub memoryMade : Shape → List ℕ → List Place → List ℕ
+abbrev pub memoryMade : Shape → List ℕ → List ScanEntry → List ℕ
 memoryMade S m ps = made S (length ps) m .1
 
 -- Every shape within the limits, memory of the bytes needed and list of 16 places is accepted, so that the claims below speak of all of them.
 unfoldable pub MakingAccepted : Type 0
-MakingAccepted = (S : Shape) (m : List ℕ) (ps : List Place) → T (withinLimits S) → bytesNeeded S ≤ length m → mostScans ≤ length ps → Accepted S m ps
+MakingAccepted = (S : Shape) (m : List ℕ) (ps : List ScanEntry) → T (withinLimits S) → bytesNeeded S ≤ length m → mostScans ≤ length ps → Accepted S m ps
 
 -- a claim for every accepted making and every list of calls whose numbers fit the types of the operands
-abbrev pub Every : (Shape → List ℕ → List Place → List Call → Type 0) → Type 0
-Every P = (S : Shape) (m : List ℕ) (ps : List Place) → Accepted S m ps → (cs : List Call) → All Typed cs → P S m ps cs
+abbrev pub Every : (Shape → List ℕ → List ScanEntry → List Call → Type 0) → Type 0
+Every P = (S : Shape) (m : List ℕ) (ps : List ScanEntry) → Accepted S m ps → (cs : List Call) → All Typed cs → P S m ps cs
 
 -- the answers of the store to a list of calls, and what it leaves of memory and list
-unfoldable pub storeAnswers : Shape → List ℕ → List Place → List Call → List Answer
+unfoldable pub storeAnswers : Shape → List ℕ → List ScanEntry → List Call → List Answer
 storeAnswers S m ps cs = answersOf (lend (memoryMade S m ps) (madeList ps)) cs
 
-unfoldable pub storeLeft : Shape → List ℕ → List Place → List Call → Lent
+unfoldable pub storeLeft : Shape → List ℕ → List ScanEntry → List Call → Lent
 storeLeft S m ps cs = left (lend (memoryMade S m ps) (madeList ps)) cs
 
 -- ---- demand 1, for any numbers over any memory and any list
@@ -54,14 +54,14 @@ storeLeft S m ps cs = left (lend (memoryMade S m ps) (madeList ps)) cs
 -- and is accepted exactly if none does
 unfoldable pub Refuses : Type 0
 Refuses =
-    (m : List ℕ) (ps : List Place) (c : Call)
+    (m : List ℕ) (ps : List ScanEntry) (c : Call)
     → ((n : Refusal) → (answerOf (lend m ps) c ≡ Answer.Refused n) ↔ First (conditions m ps c) n)
     × ((isRefused (answerOf (lend m ps) c) ≡ false) ↔ NoneApplies (conditions m ps c))
 
 -- "and changes no byte"
 unfoldable pub RefusedKeeps : Type 0
 RefusedKeeps =
-    (m : List ℕ) (ps : List Place) (c : Call) (n : Refusal) → Bytes m → answerOf (lend m ps) c ≡ Answer.Refused n
+    (m : List ℕ) (ps : List ScanEntry) (c : Call) (n : Refusal) → Bytes m → answerOf (lend m ps) c ≡ Answer.Refused n
     → (memoryAfter (lend m ps) c ≡ m) × (listAfter (lend m ps) c ≡ ps)
 
 -- ---- demand 2
@@ -104,10 +104,10 @@ StrikingStore = Every (λ S m ps cs. plainAnswers cs (storeAnswers S m ps cs) �
 
 -- "Whatever is called between, a value or an absence read for a stamp is read the same ever after for that stamp, row and column": any two reads in the
 -- list for one stamp, row and column that are not refused
-unfoldable pub storeAnswerAt : Shape → List ℕ → List Place → List Call → ℕ → Answer
+unfoldable pub storeAnswerAt : Shape → List ℕ → List ScanEntry → List Call → ℕ → Answer
 storeAnswerAt S m ps cs i = getD (storeAnswers S m ps cs) i Answer.Done
 
-pub record ReadIn (S : Shape) (m : List ℕ) (ps : List Place) (cs : List Call) (i t r c : ℕ) : Type 0 where
+pub record ReadIn (S : Shape) (m : List ℕ) (ps : List ScanEntry) (cs : List Call) (i t r c : ℕ) : Type 0 where
   pub inside : i < length cs
   pub reads : Reads (historyBefore S cs i) (callAt cs i) t r c
   pub accepted : T (not (isRefused (storeAnswerAt S m ps cs i)))

@@ -8,30 +8,30 @@ use Prim.Native.Nat.{ℕ}
 use lib.ListN.{length}
 use Rattle.terms.specs.Measures.{Shape}
 use Rattle.terms.specs.Refusals.{isAccepted}
-use Rattle.terms.specs.declared.Place.{Place}
+use Rattle.terms.specs.declared.ScanEntry.{ScanEntry}
 use Rattle.terms.specs.declared.Refusal.{Refusal}
 use Rattle.terms.specs.declared.Answer.{Answer}
 use Rattle.words.specs.Words.{words}
-use Rattle.layout.specs.View.{View, view, lay}
+use Rattle.layout.specs.View.{View, lay, viewOf}
 use Rattle.history.specs.History.{Call}
 use Rattle.scans.specs.declared.Scans.{Scans}
 use Rattle.scans.specs.Places.{freedIf}
 use Rattle.scans.specs.Table.{tableOf}
 use Rattle.making.specs.Made.{made}
 use Rattle.facts.specs.Usable.{storedShape, storedSizes, usable}
-use Rattle.model.specs.Calls.{say, viewNext, placesNext}
+use Rattle.model.specs.Calls.{say, viewNext, entriesNext}
 use Rattle.model.specs.Machine.{Machine}
 
 -- the view of a memory by the shape that it holds
 unfoldable pub storeView : List ℕ → View
-storeView m = view (storedSizes (words m)) (words m)
+storeView m = viewOf (storedSizes (words m)) m
 
 -- ---- what is lent to a call: the memory, and the list of open scans
 pub record Lent : Type 0 where
   pub memory : List ℕ
-  pub list : List Place
+  pub list : List ScanEntry
 
-abbrev pub lend : List ℕ → List Place → Lent
+abbrev pub lend : List ℕ → List ScanEntry → Lent
 lend m ps = record { memory = m; list = ps }
 
 -- ---- what a call answers, and what it leaves of the memory and of the list
@@ -47,11 +47,11 @@ memoryAfter x c =
     let ps = x .list in
     cond (usable m ps) (lay (storedSizes (words m)) (viewNext (storedShape (words m)) (storeView m) ps c) m) m
 
-unfoldable pub listAfter : Lent → Call → List Place
+unfoldable pub listAfter : Lent → Call → List ScanEntry
 listAfter x c =
     let m = x .memory in
     let ps = x .list in
-    cond (usable m ps) (placesNext (storedShape (words m)) (storeView m) ps c) ps
+    cond (usable m ps) (entriesNext (storedShape (words m)) (storeView m) ps c) ps
 
 abbrev pub leftBy : Lent → Call → Lent
 leftBy x c = record { memory = memoryAfter x c; list = listAfter x c }
@@ -71,18 +71,18 @@ lentMachine = record { answer = answerOf; next = leftBy }
 
 -- ---- what a call promises
 -- a call over the memory m and the list ps answers r, and leaves the memory m′ and the list ps′
-unfoldable pub Serves : List ℕ → List Place → Call → Answer → List ℕ → List Place → Type 0
+unfoldable pub Serves : List ℕ → List ScanEntry → Call → Answer → List ℕ → List ScanEntry → Type 0
 Serves m ps c r m′ ps′ = (r ≡ answerOf (lend m ps) c) × (m′ ≡ memoryAfter (lend m ps) c) × (ps′ ≡ listAfter (lend m ps) c)
 
 -- The code behind a call takes the scan list as a table of it, by value: it serves the call for every list that the table stands for, and `next` is what becomes
 -- of that list.
-unfoldable pub ServesBy : Scans → List ℕ → Call → Answer → List ℕ → (List Place → List Place) → Type 0
-ServesBy t m c r m′ next = (ps : List Place) → t ≡ tableOf ps → Serves m ps c r m′ (next ps)
+unfoldable pub ServesBy : Scans → List ℕ → Call → Answer → List ℕ → (List ScanEntry → List ScanEntry) → Type 0
+ServesBy t m c r m′ next = (ps : List ScanEntry) → t ≡ tableOf ps → Serves m ps c r m′ (next ps)
 
 -- a list that is left as it is
-abbrev pub kept : List Place → List Place
+abbrev pub kept : List ScanEntry → List ScanEntry
 kept ps = ps
 
 -- a store of the shape S is to be made in them: the list is freed if it is
-unfoldable pub Makes : List ℕ → List Place → Shape → Answer → List ℕ → List Place → Type 0
+unfoldable pub Makes : List ℕ → List ScanEntry → Shape → Answer → List ℕ → List ScanEntry → Type 0
 Makes m ps S r m′ ps′ = (r ≡ made S (length ps) m .0) × (m′ ≡ made S (length ps) m .1) × (ps′ ≡ freedIf (isAccepted (made S (length ps) m .0)) ps)

@@ -10,8 +10,8 @@ use Prim.Native.Nat.{ℕ, _+_, _*_, _≤_, _<_}
 use lib.Dec.{T, eqb}
 use lib.ListN.{length, getD}
 use Rattle.terms.specs.Measures.{Shape, rangeRows, mostTransactions, mostScans, mostNumbers}
-use Rattle.terms.specs.Places.{freePlace}
-use Rattle.terms.specs.declared.Place.{Place}
+use Rattle.terms.specs.Places.{freeEntry}
+use Rattle.terms.specs.declared.ScanEntry.{ScanEntry}
 use Rattle.terms.specs.declared.Refusal.{Refusal}
 use Rattle.words.specs.Words.{words}
 use Rattle.layout.specs.View.{View, rowsGiven, transactionsGiven, scansGiven, lastStamp, usedIn}
@@ -28,8 +28,8 @@ use Rattle.promise.specs.Promise.{storeView}
 abbrev pub Open : View → ℕ → Type 0
 Open v t = (t ≢ 0) × ((j : ℕ) × (j < mostTransactions) × (getD (v Opens) j 0 ≡ t))
 
-abbrev pub ScanOpen : List Place → ℕ → Type 0
-ScanOpen ps k = (k ≢ 0) × ((j : ℕ) × (j < length ps) × (getD ps j freePlace .number ≡ k))
+abbrev pub ScanOpen : List ScanEntry → ℕ → Type 0
+ScanOpen ps k = (k ≢ 0) × ((j : ℕ) × (j < length ps) × (getD ps j freeEntry .number ≡ k))
 
 -- what transaction t made, with this state word, is committed or aborted
 abbrev pub Committed : View → ℕ → ℕ → Type 0
@@ -77,7 +77,7 @@ LacksWanted S v r m = Lacks S v r 1 ⊎ (((c : ℕ) × T (bit m c) × (bit ((row
 abbrev pub transactionsOpen : View → ℕ
 transactionsOpen v = count (λ t. not (eqb t 0)) (v Opens)
 
-abbrev pub scansOpen : List Place → ℕ
+abbrev pub scansOpen : List ScanEntry → ℕ
 scansOpen ps = count (λ p. not (eqb (p .number) 0)) ps
 
 -- 16: "merge not above what the page holds, or above the records used"
@@ -101,7 +101,7 @@ infix 68 _on_
 abbrev pub _on_ : Refusal → Type 0 → Clause
 n on P = record { refusal = n; applies = P }
 
-unfoldable pub stated : Shape → View → List Place → Call → List Clause
+unfoldable pub stated : Shape → View → List ScanEntry → Call → List Clause
 stated S v ps begin = Refusal.Number on (mostNumbers ≤ transactionsGiven v) ∷ Refusal.Busy on (mostTransactions ≤ transactionsOpen v) ∷ []
 stated S v ps (insert t vs) = Refusal.Transaction on (¬ Open v t) ∷ Refusal.Full on (S .ranges * rangeRows ≤ rowsGiven v) ∷ []
 stated S v ps (update t r m vs) =
@@ -144,7 +144,7 @@ stated S v ps (pageCell c r) = Refusal.Column on (S .columns ≤ c) ∷ Refusal.
 stated S v ps (lineage g c) = Refusal.Range on (S .ranges ≤ g) ∷ Refusal.Column on (S .columns ≤ c) ∷ []
 
 -- "Every call on a store tests 2 first"
-unfoldable pub conditions : List ℕ → List Place → Call → List Clause
+unfoldable pub conditions : List ℕ → List ScanEntry → Call → List Clause
 conditions m ps c = Refusal.Memory on (usable m ps ≡ false) ∷ stated (storedShape (words m)) (storeView m) ps c
 
 -- the first condition that applies is n's

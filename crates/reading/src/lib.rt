@@ -4,9 +4,9 @@ pub mod pages;
 
 use layout::Region;
 use layout::Sizes;
-use model::Reader;
 use layout::codes::ORIGINAL;
 use layout::codes::SETTING;
+use model::Reader;
 use model::Walk;
 use pages::cell;
 use pages::current_page;
@@ -22,32 +22,28 @@ use terms::Tail;
 use words::of_word;
 ghost use mathlib.Core.Path.{_≡_};
 ghost use Prim.Native.Nat.{_*_, _≤_, _<_};
-ghost use lib.ListN.{length};
-ghost use Rattle.words.specs.Words.{words};
-ghost use Rattle.layout.specs.Regions.{need};
-ghost use Rattle.layout.specs.View.{view, rowsGiven, usedIn};
+ghost use Rattle.layout.specs.View.{rowsGiven, usedIn, viewOf, Suffices};
 ghost use Rattle.model.specs.Stored.{recordIn, pageIn, valueIn};
 ghost use Rattle.model.specs.Reading.{answersFor, walk, belowLineage, wordIn, readIn, readCurrent};
 ghost use Rattle.layout.specs.Sizes.{Proper};
-ghost use Rattle.model.specs.Asked.{shapeIn};
-ghost use Rattle.model.specs.Asked.{Linked, Pooled};
+ghost use Rattle.model.specs.Asked.{shapeIn, Linked, Pooled};
 ghost use Rattle.reading.specs.Reached.{Reached};
 
 // The word of column c in the tail record at a slot.
 pub fn value(mem: &[u8], s: Sizes, at: usize, c: u32) -> u32
-    requires { ⌜ need s * 4 ≤ length (now mem) ⌝ }
+    requires { ⌜ Suffices s (now mem) ⌝ }
     requires { ⌜ Proper s ⌝ }
     requires { ⌜ (at < s .slots) × (c < s .columns) ⌝ }
-    ensures { λ r. ⌜ r ≡ valueIn (shapeIn s) (view s (words (now (mem .entry)))) at c ⌝ }
+    ensures { λ r. ⌜ r ≡ valueIn (shapeIn s) (viewOf s (now (mem .entry))) at c ⌝ }
 {
     read(mem, s, Region::TailValues, at * s.columns + c as usize)
 }
 
 // Whether the tail record at a slot answers for column c: it holds the original value, or is a setting that the reader sees.
 pub fn answers_for(mem: &[u8], s: Sizes, who: Reader, at: usize, c: u32) -> bool
-    requires { ⌜ need s * 4 ≤ length (now mem) ⌝ }
+    requires { ⌜ Suffices s (now mem) ⌝ }
     requires { ⌜ (at < s .slots) × (c < 32) ⌝ }
-    ensures { λ r. ⌜ r ≡ answersFor who c (recordIn (view s (words (now (mem .entry)))) at) ⌝ }
+    ensures { λ r. ⌜ r ≡ answersFor who c (recordIn (viewOf s (now (mem .entry))) at) ⌝ }
 {
     if has_bit(read(mem, s, Region::TailMask, at), c) {
         let kind = read(mem, s, Region::TailKind, at);
@@ -63,11 +59,11 @@ pub fn answers_for(mem: &[u8], s: Sizes, who: Reader, at: usize, c: u32) -> bool
 
 // From record `from` of range g back along the links, while the record's number is above `low`, to the first that answers for column c.
 pub fn walk(mem: &[u8], s: Sizes, who: Reader, g: usize, c: u32, low: Tail, from: Tail) -> Walk
-    requires { ⌜ need s * 4 ≤ length (now mem) ⌝ }
+    requires { ⌜ Suffices s (now mem) ⌝ }
     requires { ⌜ Proper s ⌝ }
-    requires { ⌜ Linked s (view s (words (now mem))) ⌝ }
-    requires { ⌜ (g < s .ranges) × (c < s .columns) × (from .0 ≤ usedIn (view s (words (now mem))) g) ⌝ }
-    ensures { λ r. ⌜ r ≡ walk (shapeIn s) (view s (words (now (mem .entry)))) who g c (low .0) (from .0) (from .0) ⌝ }
+    requires { ⌜ Linked s (viewOf s (now mem)) ⌝ }
+    requires { ⌜ (g < s .ranges) × (c < s .columns) × (from .0 ≤ usedIn (viewOf s (now mem)) g) ⌝ }
+    ensures { λ r. ⌜ r ≡ walk (shapeIn s) (viewOf s (now (mem .entry))) who g c (low .0) (from .0) (from .0) ⌝ }
     ensures { λ r. ⌜ Reached r (s .slots) (from .0) ⌝ }
 {
     let last = low.0;
@@ -93,11 +89,11 @@ fn below_lineage(
     cell: u32,
     k: Tail,
 ) -> u32
-    requires { ⌜ need s * 4 ≤ length (now mem) ⌝ }
+    requires { ⌜ Suffices s (now mem) ⌝ }
     requires { ⌜ Proper s ⌝ }
-    requires { ⌜ Linked s (view s (words (now mem))) ⌝ }
-    requires { ⌜ (page < s .pages) × (g < s .ranges) × (c < s .columns) × (k .0 ≤ usedIn (view s (words (now mem))) g) ⌝ }
-    ensures { λ r. ⌜ r ≡ belowLineage (shapeIn s) (view s (words (now (mem .entry)))) who g c (pageIn (view s (words (now (mem .entry)))) page) cell (k .0) ⌝ }
+    requires { ⌜ Linked s (viewOf s (now mem)) ⌝ }
+    requires { ⌜ (page < s .pages) × (g < s .ranges) × (c < s .columns) × (k .0 ≤ usedIn (viewOf s (now mem)) g) ⌝ }
+    ensures { λ r. ⌜ r ≡ belowLineage (shapeIn s) (viewOf s (now (mem .entry))) who g c (pageIn (viewOf s (now (mem .entry))) page) cell (k .0) ⌝ }
 {
     if read(mem, s, Region::PageNewest, page) <= who.stamp.0 {
         return cell;
@@ -110,11 +106,11 @@ fn below_lineage(
 
 // The word of a row and column on a page. A column that no update has set is in the page alone.
 pub fn word_of(mem: &[u8], s: Sizes, who: Reader, page: usize, row: Row, c: u32) -> u32
-    requires { ⌜ need s * 4 ≤ length (now mem) ⌝ }
+    requires { ⌜ Suffices s (now mem) ⌝ }
     requires { ⌜ Proper s ⌝ }
-    requires { ⌜ Linked s (view s (words (now mem))) ⌝ }
-    requires { ⌜ (page < s .pages) × (c < s .columns) × (row .0 < rowsGiven (view s (words (now mem)))) ⌝ }
-    ensures { λ r. ⌜ r ≡ wordIn (shapeIn s) (view s (words (now (mem .entry)))) who page (row .0) c ⌝ }
+    requires { ⌜ Linked s (viewOf s (now mem)) ⌝ }
+    requires { ⌜ (page < s .pages) × (c < s .columns) × (row .0 < rowsGiven (viewOf s (now mem))) ⌝ }
+    ensures { λ r. ⌜ r ≡ wordIn (shapeIn s) (viewOf s (now (mem .entry))) who page (row .0) c ⌝ }
 {
     let at = cell(mem, s, page, row);
     let i = row.0 as usize;
@@ -131,12 +127,12 @@ pub fn word_of(mem: &[u8], s: Sizes, who: Reader, page: usize, row: Row, c: u32)
 }
 
 // What the reader reads of a row and column on a page.
-pub fn read_row(mem: &[u8], s: Sizes, who: Reader, page: usize, row: Row, c: u32) -> Answer
-    requires { ⌜ need s * 4 ≤ length (now mem) ⌝ }
+pub fn read_cell(mem: &[u8], s: Sizes, who: Reader, page: usize, row: Row, c: u32) -> Answer
+    requires { ⌜ Suffices s (now mem) ⌝ }
     requires { ⌜ Proper s ⌝ }
-    requires { ⌜ Linked s (view s (words (now mem))) ⌝ }
-    requires { ⌜ (page < s .pages) × (c < s .columns) × (row .0 < rowsGiven (view s (words (now mem)))) ⌝ }
-    ensures { λ r. ⌜ r ≡ readIn (shapeIn s) (view s (words (now (mem .entry)))) who page (row .0) c ⌝ }
+    requires { ⌜ Linked s (viewOf s (now mem)) ⌝ }
+    requires { ⌜ (page < s .pages) × (c < s .columns) × (row .0 < rowsGiven (viewOf s (now mem))) ⌝ }
+    ensures { λ r. ⌜ r ≡ readIn (shapeIn s) (viewOf s (now (mem .entry))) who page (row .0) c ⌝ }
 {
     if visible(mem, s, who, row) {
         return Answer::Value(of_word(word_of(mem, s, who, page, row, c)));
@@ -146,12 +142,12 @@ pub fn read_row(mem: &[u8], s: Sizes, who: Reader, page: usize, row: Row, c: u32
 
 // What the reader reads of a row and column on the current page.
 pub fn read_current(mem: &[u8], s: Sizes, who: Reader, row: Row, c: u32) -> Answer
-    requires { ⌜ need s * 4 ≤ length (now mem) ⌝ }
+    requires { ⌜ Suffices s (now mem) ⌝ }
     requires { ⌜ Proper s ⌝ }
-    requires { ⌜ Linked s (view s (words (now mem))) × Pooled s (view s (words (now mem))) ⌝ }
-    requires { ⌜ (c < s .columns) × (row .0 < rowsGiven (view s (words (now mem)))) ⌝ }
-    ensures { λ r. ⌜ r ≡ readCurrent (shapeIn s) (view s (words (now (mem .entry)))) who (row .0) c ⌝ }
+    requires { ⌜ Linked s (viewOf s (now mem)) × Pooled s (viewOf s (now mem)) ⌝ }
+    requires { ⌜ (c < s .columns) × (row .0 < rowsGiven (viewOf s (now mem))) ⌝ }
+    ensures { λ r. ⌜ r ≡ readCurrent (shapeIn s) (viewOf s (now (mem .entry))) who (row .0) c ⌝ }
 {
     let page = current_page(mem, s, range_of(row), c);
-    read_row(mem, s, who, page, row, c)
+    read_cell(mem, s, who, page, row, c)
 }

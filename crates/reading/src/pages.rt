@@ -8,12 +8,9 @@ use regions::read;
 use terms::Row;
 use terms::limits::RANGE_ROWS;
 ghost use mathlib.Core.Path.{_≡_};
-ghost use Prim.Native.Nat.{_*_, _≤_, _<_};
-ghost use lib.ListN.{length};
-ghost use Rattle.words.specs.Words.{words};
-ghost use Rattle.layout.specs.Regions.{need};
+ghost use Prim.Native.Nat.{_*_, _<_};
 ghost use Rattle.layout.specs.Sizes.{Proper};
-ghost use Rattle.layout.specs.View.{view};
+ghost use Rattle.layout.specs.View.{viewOf, Suffices};
 ghost use Rattle.model.specs.Stored.{cellIn, within, currentIn};
 ghost use Rattle.model.specs.Reading.{wasCurrent, scanPage};
 ghost use Rattle.model.specs.Asked.{shapeIn, Pooled};
@@ -22,10 +19,10 @@ ghost use Rattle.reading.specs.ScanPages.{oldPage};
 
 // The word of a row in a page.
 pub fn cell(mem: &[u8], s: Sizes, page: usize, row: Row) -> u32
-    requires { ⌜ need s * 4 ≤ length (now mem) ⌝ }
+    requires { ⌜ Suffices s (now mem) ⌝ }
     requires { ⌜ Proper s ⌝ }
     requires { ⌜ page < s .pages ⌝ }
-    ensures { λ r. ⌜ r ≡ cellIn (view s (words (now (mem .entry)))) page (within (row .0)) ⌝ }
+    ensures { λ r. ⌜ r ≡ cellIn (viewOf s (now (mem .entry))) page (within (row .0)) ⌝ }
 {
     read(
         mem,
@@ -37,21 +34,21 @@ pub fn cell(mem: &[u8], s: Sizes, page: usize, row: Row) -> u32
 
 // The current page of range g and column c.
 pub fn current_page(mem: &[u8], s: Sizes, g: usize, c: u32) -> usize
-    requires { ⌜ need s * 4 ≤ length (now mem) ⌝ }
+    requires { ⌜ Suffices s (now mem) ⌝ }
     requires { ⌜ Proper s ⌝ }
-    requires { ⌜ Pooled s (view s (words (now mem))) ⌝ }
+    requires { ⌜ Pooled s (viewOf s (now mem)) ⌝ }
     requires { ⌜ (g < s .ranges) × (c < s .columns) ⌝ }
-    ensures { λ r. ⌜ (r ≡ currentIn (shapeIn s) (view s (words (now (mem .entry)))) g c) × (r < s .pages) ⌝ }
+    ensures { λ r. ⌜ (r ≡ currentIn (shapeIn s) (viewOf s (now (mem .entry))) g c) × (r < s .pages) ⌝ }
 {
     read(mem, s, Region::Current, g * s.columns + c as usize) as usize
 }
 
 // Whether page p waits, is of this place, and was current after the first `merges` merges.
 fn was_current(mem: &[u8], s: Sizes, merges: u32, place: usize, p: usize) -> bool
-    requires { ⌜ need s * 4 ≤ length (now mem) ⌝ }
+    requires { ⌜ Suffices s (now mem) ⌝ }
     requires { ⌜ Proper s ⌝ }
     requires { ⌜ p < s .pages ⌝ }
-    ensures { λ r. ⌜ r ≡ wasCurrent (shapeIn s) (view s (words (now (mem .entry)))) merges place p ⌝ }
+    ensures { λ r. ⌜ r ≡ wasCurrent (shapeIn s) (viewOf s (now (mem .entry))) merges place p ⌝ }
 {
     if read(mem, s, Region::PageState, p) < PAGE_WAITING {
         return false;
@@ -67,9 +64,9 @@ fn was_current(mem: &[u8], s: Sizes, merges: u32, place: usize, p: usize) -> boo
 
 // The first waiting page of a place that was current after the first `merges` merges.
 fn old_page(mem: &[u8], s: Sizes, merges: u32, place: usize) -> Found
-    requires { ⌜ need s * 4 ≤ length (now mem) ⌝ }
+    requires { ⌜ Suffices s (now mem) ⌝ }
     requires { ⌜ Proper s ⌝ }
-    ensures { λ r. ⌜ r ≡ oldPage (shapeIn s) (view s (words (now (mem .entry)))) merges place ⌝ }
+    ensures { λ r. ⌜ r ≡ oldPage (shapeIn s) (viewOf s (now (mem .entry))) merges place ⌝ }
     ensures { λ r. ⌜ Inside r (s .pages) ⌝ }
 {
     let n = s.pages;
@@ -85,11 +82,11 @@ fn old_page(mem: &[u8], s: Sizes, merges: u32, place: usize) -> Found
 
 // The page of range g and column c that was current after the first `merges` merges.
 pub fn scan_page(mem: &[u8], s: Sizes, merges: u32, g: usize, c: u32) -> usize
-    requires { ⌜ need s * 4 ≤ length (now mem) ⌝ }
+    requires { ⌜ Suffices s (now mem) ⌝ }
     requires { ⌜ Proper s ⌝ }
-    requires { ⌜ Pooled s (view s (words (now mem))) ⌝ }
+    requires { ⌜ Pooled s (viewOf s (now mem)) ⌝ }
     requires { ⌜ (g < s .ranges) × (c < s .columns) ⌝ }
-    ensures { λ r. ⌜ (r ≡ scanPage (shapeIn s) (view s (words (now (mem .entry)))) merges g c) × (r < s .pages) ⌝ }
+    ensures { λ r. ⌜ (r ≡ scanPage (shapeIn s) (viewOf s (now (mem .entry))) merges g c) × (r < s .pages) ⌝ }
 {
     let current = current_page(mem, s, g, c);
     if read(mem, s, Region::PageMade, current) <= merges {

@@ -14,10 +14,9 @@ use terms::limits::RANGE_ROWS;
 ghost use mathlib.Core.Path.{_≡_};
 ghost use Prim.Native.Nat.{_+_, _≤_, _<_, min};
 ghost use Rattle.terms.specs.Measures.{mostRows, rangeRows};
-ghost use Rattle.words.specs.Words.{words};
 ghost use Rattle.layout.specs.Regions.{len, firstSlot};
 ghost use Rattle.layout.specs.Sizes.{Proper};
-ghost use Rattle.layout.specs.View.{view, rowsGiven, usedIn};
+ghost use Rattle.layout.specs.View.{rowsGiven, usedIn, viewOf};
 ghost use Rattle.facts.specs.Facts.{each, rowsBetween, rangeBetween, rangeNamesRows, linkHolds, rowLinked, recordLinked, rangeLinked};
 ghost use Rattle.facts.specs.Tests.{Ready, rangeHolds, rowsHold};
 
@@ -35,7 +34,7 @@ fn first_slot(s: Sizes, g: usize) -> usize
 fn records_between(mem: &[u8], s: Sizes, k: Region, low: u32, high: u32, g: usize) -> bool
     requires { ⌜ Ready s (now mem) ⌝ }
     requires { ⌜ (g < s .ranges) × (len s k ≡ s .slots) ⌝ }
-    ensures { λ r. ⌜ r ≡ rangeBetween s (view s (words (now (mem .entry)))) k low high g ⌝ }
+    ensures { λ r. ⌜ r ≡ rangeBetween s (viewOf s (now (mem .entry))) k low high g ⌝ }
 {
     let n = read(mem, s, Region::Used, g) as usize;
     between_in(mem, s, k, first_slot(s, g), n, low, high)
@@ -54,7 +53,7 @@ fn last_row(first: u32, given: u32) -> u32
 fn records_named(mem: &[u8], s: Sizes, g: usize) -> bool
     requires { ⌜ Ready s (now mem) ⌝ }
     requires { ⌜ g < s .ranges ⌝ }
-    ensures { λ r. ⌜ r ≡ rangeNamesRows s (view s (words (now (mem .entry)))) g ⌝ }
+    ensures { λ r. ⌜ r ≡ rangeNamesRows s (viewOf s (now (mem .entry))) g ⌝ }
 {
     let given = read(mem, s, Region::Header, HEADER_ROWS);
     let first = (g * RANGE_ROWS) as u32;
@@ -68,7 +67,7 @@ fn records_named(mem: &[u8], s: Sizes, g: usize) -> bool
 fn link_holds(mem: &[u8], s: Sizes, g: usize, most: Tail, row: Row, link: Tail) -> bool
     requires { ⌜ Ready s (now mem) ⌝ }
     requires { ⌜ (g < s .ranges) × (most .0 ≤ s .capacity) ⌝ }
-    ensures { λ r. ⌜ r ≡ linkHolds s (view s (words (now (mem .entry)))) g (most .0) (row .0) (link .0) ⌝ }
+    ensures { λ r. ⌜ r ≡ linkHolds s (viewOf s (now (mem .entry))) g (most .0) (row .0) (link .0) ⌝ }
 {
     let number = link.0;
     if number == 0 {
@@ -88,8 +87,8 @@ fn link_holds(mem: &[u8], s: Sizes, g: usize, most: Tail, row: Row, link: Tail) 
 
 fn record_linked(mem: &[u8], s: Sizes, g: usize, i: usize) -> bool
     requires { ⌜ Ready s (now mem) ⌝ }
-    requires { ⌜ (g < s .ranges) × (i < usedIn (view s (words (now mem))) g) ⌝ }
-    ensures { λ r. ⌜ r ≡ recordLinked s (view s (words (now (mem .entry)))) g i ⌝ }
+    requires { ⌜ (g < s .ranges) × (i < usedIn (viewOf s (now mem)) g) ⌝ }
+    ensures { λ r. ⌜ r ≡ recordLinked s (viewOf s (now (mem .entry))) g i ⌝ }
 {
     let slot = first_slot(s, g) + i;
     let row = Row(read(mem, s, Region::TailRow, slot));
@@ -101,7 +100,7 @@ fn record_linked(mem: &[u8], s: Sizes, g: usize, i: usize) -> bool
 fn records_linked(mem: &[u8], s: Sizes, g: usize) -> bool
     requires { ⌜ Ready s (now mem) ⌝ }
     requires { ⌜ g < s .ranges ⌝ }
-    ensures { λ r. ⌜ r ≡ rangeLinked s (view s (words (now (mem .entry)))) g ⌝ }
+    ensures { λ r. ⌜ r ≡ rangeLinked s (viewOf s (now (mem .entry))) g ⌝ }
 {
     let n = read(mem, s, Region::Used, g) as usize;
     let mut ok = true;
@@ -117,7 +116,7 @@ fn records_linked(mem: &[u8], s: Sizes, g: usize) -> bool
 fn range_holds(mem: &[u8], s: Sizes, g: usize) -> bool
     requires { ⌜ Ready s (now mem) ⌝ }
     requires { ⌜ g < s .ranges ⌝ }
-    ensures { λ r. ⌜ r ≡ rangeHolds s (view s (words (now (mem .entry)))) g ⌝ }
+    ensures { λ r. ⌜ r ≡ rangeHolds s (viewOf s (now (mem .entry))) g ⌝ }
 {
     let given = read(mem, s, Region::Header, HEADER_TRANSACTIONS);
     let last = read(mem, s, Region::Header, HEADER_STAMP);
@@ -131,7 +130,7 @@ fn range_holds(mem: &[u8], s: Sizes, g: usize) -> bool
 // The facts of the used records, range by range.
 pub fn ranges_hold(mem: &[u8], s: Sizes) -> bool
     requires { ⌜ Ready s (now mem) ⌝ }
-    ensures { λ r. ⌜ r ≡ each (s .ranges) (rangeHolds s (view s (words (now (mem .entry))))) ⌝ }
+    ensures { λ r. ⌜ r ≡ each (s .ranges) (rangeHolds s (viewOf s (now (mem .entry)))) ⌝ }
 {
     let n = s.ranges;
     let mut ok = true;
@@ -149,7 +148,7 @@ pub fn ranges_hold(mem: &[u8], s: Sizes) -> bool
 fn rows_between(mem: &[u8], s: Sizes, k: Region, low: u32, high: u32) -> bool
     requires { ⌜ Ready s (now mem) ⌝ }
     requires { ⌜ len s k ≡ s .rows ⌝ }
-    ensures { λ r. ⌜ r ≡ rowsBetween (view s (words (now (mem .entry)))) k low high ⌝ }
+    ensures { λ r. ⌜ r ≡ rowsBetween (viewOf s (now (mem .entry))) k low high ⌝ }
 {
     let given = read(mem, s, Region::Header, HEADER_ROWS) as usize;
     between_in(mem, s, k, 0, given, low, high)
@@ -157,8 +156,8 @@ fn rows_between(mem: &[u8], s: Sizes, k: Region, low: u32, high: u32) -> bool
 
 fn row_linked(mem: &[u8], s: Sizes, r: usize) -> bool
     requires { ⌜ Ready s (now mem) ⌝ }
-    requires { ⌜ r < rowsGiven (view s (words (now mem))) ⌝ }
-    ensures { λ b. ⌜ b ≡ rowLinked s (view s (words (now (mem .entry)))) r ⌝ }
+    requires { ⌜ r < rowsGiven (viewOf s (now mem)) ⌝ }
+    ensures { λ b. ⌜ b ≡ rowLinked s (viewOf s (now (mem .entry))) r ⌝ }
 {
     let g = r / RANGE_ROWS;
     let most = Tail(read(mem, s, Region::Used, g));
@@ -169,7 +168,7 @@ fn row_linked(mem: &[u8], s: Sizes, r: usize) -> bool
 // Whether the link of each given row holds.
 fn rows_linked(mem: &[u8], s: Sizes) -> bool
     requires { ⌜ Ready s (now mem) ⌝ }
-    ensures { λ r. ⌜ r ≡ each (rowsGiven (view s (words (now (mem .entry))))) (rowLinked s (view s (words (now (mem .entry))))) ⌝ }
+    ensures { λ r. ⌜ r ≡ each (rowsGiven (viewOf s (now (mem .entry)))) (rowLinked s (viewOf s (now (mem .entry)))) ⌝ }
 {
     let n = read(mem, s, Region::Header, HEADER_ROWS) as usize;
     let mut ok = true;
@@ -184,7 +183,7 @@ fn rows_linked(mem: &[u8], s: Sizes) -> bool
 // The facts of the given rows.
 pub fn rows_hold(mem: &[u8], s: Sizes) -> bool
     requires { ⌜ Ready s (now mem) ⌝ }
-    ensures { λ r. ⌜ r ≡ rowsHold s (view s (words (now (mem .entry)))) ⌝ }
+    ensures { λ r. ⌜ r ≡ rowsHold s (viewOf s (now (mem .entry))) ⌝ }
 {
     let given = read(mem, s, Region::Header, HEADER_TRANSACTIONS);
     let last = read(mem, s, Region::Header, HEADER_STAMP);

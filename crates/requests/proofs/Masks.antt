@@ -9,7 +9,7 @@ use lib.IntN.{ℤ}
 use borrow.Author.Tests.{ltb-true, le-leb, ne-eqb}
 use Rattle.terms.specs.Measures.{Shape, mostColumns}
 use Rattle.terms.specs.declared.Answer.{Answer}
-use Rattle.terms.specs.declared.Place.{Place}
+use Rattle.terms.specs.declared.ScanEntry.{ScanEntry}
 use Rattle.terms.specs.declared.Refusal.{Refusal}
 use Rattle.words.specs.Words.{words}
 use Rattle.scans.specs.declared.Scans.{Scans}
@@ -40,7 +40,7 @@ same-view true q v x y = refl
 same-view false true v x y = refl
 same-view false false v x y = refl
 
-module _ (S : Shape) (v : View) (ps : List Place) (a b : ℕ) (vs : List ℤ) where
+module _ (S : Shape) (v : View) (ps : List ScanEntry) (a b : ℕ) (vs : List ℤ) where
   bad-mask : (c : ℕ) → badMask S c ≡ true → verdict (testsIn S v ps (update a b c vs)) ≡ stopped (notOpenIn v a) (notGivenIn v b)
   unfolding verdict testsIn
   bad-mask c e = rw e
@@ -61,7 +61,7 @@ module _ (S : Shape) (v : View) (ps : List Place) (a b : ℕ) (vs : List ℤ) wh
 
 -- ---- on a lent memory
 
-wide-bad : (m : List ℕ) (ps : List Place) (c : ℕ) → usable m ps ≡ true → mostMask < c → badMask (storedShape (words m)) c ≡ true
+wide-bad : (m : List ℕ) (ps : List ScanEntry) (c : ℕ) → usable m ps ≡ true → mostMask < c → badMask (storedShape (words m)) c ≡ true
 unfolding badMask
 wide-bad m ps c u h =
     let l = proper (storedShape (words m)) (usable-tells m ps u .within) in
@@ -73,7 +73,7 @@ none-bad : (S : Shape) → badMask S 0 ≡ true
 unfolding badMask
 none-bad S = refl
 
-module _ (m : List ℕ) (ps : List Place) (a b c : ℕ) (vs : List ℤ) (h : mostMask < c) where
+module _ (m : List ℕ) (ps : List ScanEntry) (a b c : ℕ) (vs : List ℤ) (h : mostMask < c) where
   answer-wide : answerOf (lend m ps) (update a b 0 vs) ≡ answerOf (lend m ps) (update a b c vs)
   unfolding answerOf
   answer-wide = go (usable m ps) refl
@@ -99,16 +99,16 @@ module _ (m : List ℕ) (ps : List Place) (a b c : ℕ) (vs : List ℤ) (h : mos
       go false u = refl
 
   list-wide : listAfter (lend m ps) (update a b 0 vs) ≡ listAfter (lend m ps) (update a b c vs)
-  unfolding listAfter placesNext placesAfter
+  unfolding listAfter entriesNext entriesAfter
   list-wide = go (usable m ps)
     where
-      same : (w : Verdict) → placesIf w ps ps ≡ ps
-      unfolding placesIf
+      same : (w : Verdict) → entriesIf w ps ps ≡ ps
+      unfolding entriesIf
       same accept = refl
       same (refuse n) = refl
 
-      go : (f : Bool) → cond f (placesIf (verdict (testsIn (storedShape (words m)) (storeView m) ps (update a b 0 vs))) ps ps) ps
-          ≡ cond f (placesIf (verdict (testsIn (storedShape (words m)) (storeView m) ps (update a b c vs))) ps ps) ps
+      go : (f : Bool) → cond f (entriesIf (verdict (testsIn (storedShape (words m)) (storeView m) ps (update a b 0 vs))) ps ps) ps
+          ≡ cond f (entriesIf (verdict (testsIn (storedShape (words m)) (storeView m) ps (update a b c vs))) ps ps) ps
       go true = same _ ∙ sym (same _)
       go false = refl
 

@@ -11,7 +11,7 @@ use mir.Syntax.{w32}
 use mir.Val.{ofZ}
 use Rattle.terms.specs.Measures.{Shape}
 use Rattle.terms.specs.declared.Answer.{Answer}
-use Rattle.terms.specs.declared.Place.{Place}
+use Rattle.terms.specs.declared.ScanEntry.{ScanEntry}
 use Rattle.words.specs.Words.{words}
 use Rattle.layout.specs.View.{View}
 use Rattle.layout.specs.declared.Region.the-variants.{Current}
@@ -19,7 +19,7 @@ use Rattle.facts.specs.Usable.{storedShape}
 use Rattle.history.specs.History.{Call, insert, update, rangeOf}
 use Rattle.layout.specs.Codes.{asSetting}
 use Rattle.model.specs.Writing.{putCells, insertedAt, insertedIn, settingAppended, originalAppended, updatedIn, filledIn, nextSlot, appended}
-use Rattle.model.specs.Calls.{testsIn, replyIn, actIn, placesAfter, say, viewNext, placesNext}
+use Rattle.model.specs.Calls.{testsIn, replyIn, actIn, entriesAfter, say, viewNext, entriesNext}
 use Rattle.commands.specs.declared.Write.{Write}
 use Rattle.commands.specs.declared.Kind.{Kind}
 use Rattle.commands.specs.declared.Request.{Request}
@@ -51,13 +51,13 @@ module _ (vs us : List ℤ) (e : Agree vs us) (S : Shape) where
   updated-agree t r mask v = rw (setting-agree t r mask (originalAppended S t r mask v), setting-agree t r mask v)
 
 -- a call whose tests and answer do not look at its values, on a lent memory
-served-alike : (m : List ℕ) (ps : List Place) (x y : Call) (r : Answer) (m′ : List ℕ) (ps′ : List Place)
+served-alike : (m : List ℕ) (ps : List ScanEntry) (x y : Call) (r : Answer) (m′ : List ℕ) (ps′ : List ScanEntry)
     → ((S : Shape) (v : View) → testsIn S v ps x ≡ testsIn S v ps y)
     → ((S : Shape) (v : View) → replyIn S v ps x ≡ replyIn S v ps y)
     → ((S : Shape) (v : View) → actIn S v ps x ≡ actIn S v ps y)
-    → ((v : View) → placesAfter v ps x ≡ placesAfter v ps y)
+    → ((v : View) → entriesAfter v ps x ≡ entriesAfter v ps y)
     → Serves m ps x r m′ ps′ → Serves m ps y r m′ ps′
-unfolding Serves answerOf memoryAfter listAfter say viewNext placesNext
+unfolding Serves answerOf memoryAfter listAfter say viewNext entriesNext
 served-alike m ps x y r m′ ps′ t a k l w =
     let S = storedShape (words m) in
     let v = storeView m in (
@@ -67,9 +67,9 @@ served-alike m ps x y r m′ ps′ t a k l w =
     )
 
 -- What is due for a call with one list of values is due for it with another that agrees.
-served-values : (m : List ℕ) (ps : List Place) (k : Kind) (ns : List ℕ) (vs us : List ℤ) (r : Answer) (m′ : List ℕ) (ps′ : List Place) → Agree vs us
+served-values : (m : List ℕ) (ps : List ScanEntry) (k : Kind) (ns : List ℕ) (vs us : List ℤ) (r : Answer) (m′ : List ℕ) (ps′ : List ScanEntry) → Agree vs us
     → Serves m ps (callOf k ns vs) r m′ ps′ → Serves m ps (callOf k ns us) r m′ ps′
-unfolding callOf writeOf testsIn replyIn actIn placesAfter
+unfolding callOf writeOf testsIn replyIn actIn entriesAfter
 served-values m ps (Kind.Read k) ns vs us r m′ ps′ e w = w
 served-values m ps (Kind.Write Write.Begin) ns vs us r m′ ps′ e w = w
 served-values m ps (Kind.Write Write.Insert) ns vs us r m′ ps′ e w =
@@ -97,7 +97,7 @@ zeros-agree vs n z c = go (decLe n c)
     go (no l) = sym (getD-take n vs c (pos 0) (omega arith))
 
 -- What is due for all the values of a request is due for the call that it stands for.
-pub served-call : (m : List ℕ) (ps : List Place) (q : Request) (r : Answer) (m′ : List ℕ) (ps′ : List Place) → ZerosPast (q .count) (q .values)
+pub served-call : (m : List ℕ) (ps : List ScanEntry) (q : Request) (r : Answer) (m′ : List ℕ) (ps′ : List ScanEntry) → ZerosPast (q .count) (q .values)
     → Serves m ps (asked q) r m′ ps′ → Serves m ps (callIn q) r m′ ps′
 served-call m ps q r m′ ps′ z w =
     served-values m ps (q .kind) (q .operands) (q .values) (take (q .count) (q .values)) r m′ ps′ (zeros-agree (q .values) (q .count) z) w

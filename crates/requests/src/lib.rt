@@ -22,7 +22,7 @@ use lookups::scan_read;
 use lookups::sum;
 use making::make;
 use packed::free_all;
-use packed::place_put;
+use packed::put_entry;
 use packed::table;
 use scans::Scans;
 use terms::Answer;
@@ -39,7 +39,7 @@ ghost use mathlib.Core.Path.{_≡_};
 ghost use mathlib.Core.Bool.{cond};
 ghost use lib.Dec.{ltb};
 ghost use Rattle.words.specs.Words.{words};
-ghost use Rattle.requests.specs.Packed.{placesOf};
+ghost use Rattle.requests.specs.Packed.{entriesOf};
 ghost use Rattle.scans.specs.Table.{tableOf};
 ghost use Rattle.layout.specs.Sizes.{shapeOf};
 ghost use Rattle.history.specs.History.{Call};
@@ -56,7 +56,7 @@ pub fn make_store(
     capacity: u32,
     spares: u32,
 ) -> Answer
-    ensures { λ r. ⌜ Makes (now (mem .entry)) (placesOf (words (now (scans .entry)))) (shapeOf columns ranges capacity spares) r (now (mem .exit)) (placesOf (words (now (scans .exit)))) ⌝ }
+    ensures { λ r. ⌜ Makes (now (mem .entry)) (entriesOf (words (now (scans .entry)))) (shapeOf columns ranges capacity spares) r (now (mem .exit)) (entriesOf (words (now (scans .exit)))) ⌝ }
 {
     let t = table(scans);
     let answer = make(mem, t.length, columns, ranges, capacity, spares);
@@ -68,24 +68,24 @@ pub fn make_store(
 
 // The two calls that change the list: the place that changed is written back.
 fn open_listed(mem: &mut [u8], scans: &mut [u8], t: Scans, a: u32) -> Answer
-    ensures { λ r. ⌜ (t ≡ tableOf (placesOf (words (now (scans .entry)))) → Serves (now (mem .entry)) (placesOf (words (now (scans .entry)))) (Call.openScan a) r (now (mem .exit)) (placesOf (words (now (scans .exit))))) ⌝ }
+    ensures { λ r. ⌜ (t ≡ tableOf (entriesOf (words (now (scans .entry)))) → Serves (now (mem .entry)) (entriesOf (words (now (scans .entry)))) (Call.openScan a) r (now (mem .exit)) (entriesOf (words (now (scans .exit))))) ⌝ }
 {
     let listed = open_scan(mem, t, Stamp(a));
     let answer = listed.answer;
     let entry = listed.entry;
-    let place = listed.place;
-    place_put(scans, place, entry);
+    let place = listed.index;
+    put_entry(scans, place, entry);
     answer
 }
 
 fn close_listed(mem: &[u8], scans: &mut [u8], t: Scans, a: u32) -> Answer
-    ensures { λ r. ⌜ (t ≡ tableOf (placesOf (words (now (scans .entry)))) → Serves (now (mem .entry)) (placesOf (words (now (scans .entry)))) (Call.close a) r (now (mem .entry)) (placesOf (words (now (scans .exit))))) ⌝ }
+    ensures { λ r. ⌜ (t ≡ tableOf (entriesOf (words (now (scans .entry)))) → Serves (now (mem .entry)) (entriesOf (words (now (scans .entry)))) (Call.close a) r (now (mem .entry)) (entriesOf (words (now (scans .exit))))) ⌝ }
 {
     let listed = close_scan(mem, t, a);
     let answer = listed.answer;
     let entry = listed.entry;
-    let place = listed.place;
-    place_put(scans, place, entry);
+    let place = listed.index;
+    put_entry(scans, place, entry);
     answer
 }
 
@@ -147,7 +147,7 @@ fn change(
 
 // The answer to a request.
 pub fn call(mem: &mut [u8], scans: &mut [u8], request: Request) -> Answer
-    ensures { λ r. ⌜ Serves (now (mem .entry)) (placesOf (words (now (scans .entry)))) (asked request) r (now (mem .exit)) (placesOf (words (now (scans .exit)))) ⌝ }
+    ensures { λ r. ⌜ Serves (now (mem .entry)) (entriesOf (words (now (scans .entry)))) (asked request) r (now (mem .exit)) (entriesOf (words (now (scans .exit)))) ⌝ }
 {
     let t = table(scans);
     let kind = request.kind;

@@ -5,29 +5,29 @@ use scans::blank;
 use scans::enter;
 use scans::is_open;
 use scans::set_length;
-use terms::Place;
+use terms::ScanEntry;
 use words::get;
 use words::put;
 ghost use mathlib.Core.Path.{_≡_};
 ghost use Prim.Native.Nat.{_/_, _<_};
 ghost use lib.ListN.{length, getD, set};
-ghost use Rattle.terms.specs.Places.{freePlace};
+ghost use Rattle.terms.specs.Places.{freeEntry};
 ghost use Rattle.words.specs.Words.{words};
 ghost use Rattle.scans.specs.Places.{allFreed};
 ghost use Rattle.scans.specs.Table.{tableOf};
-ghost use Rattle.requests.specs.Packed.{placeBytes, placesOf};
+ghost use Rattle.requests.specs.Packed.{entryBytes, entriesOf};
 
 // The words of a place, and its bytes, four to a word.
 const PLACE_WORDS: usize = 3;
 
-pub const PLACE_BYTES: usize = 4 * PLACE_WORDS;
+pub const ENTRY_BYTES: usize = 4 * PLACE_WORDS;
 
-fn place_at(list: &[u8], i: usize) -> Place
-    requires { ⌜ i < length (now list) / placeBytes ⌝ }
-    ensures { λ r. ⌜ r ≡ getD (placesOf (words (now (list .entry)))) i freePlace ⌝ }
+fn entry_at(list: &[u8], i: usize) -> ScanEntry
+    requires { ⌜ i < length (now list) / entryBytes ⌝ }
+    ensures { λ r. ⌜ r ≡ getD (entriesOf (words (now (list .entry)))) i freeEntry ⌝ }
 {
     let w = i * PLACE_WORDS;
-    Place {
+    ScanEntry {
         number: get(list, w),
         stamp: get(list, w + 1),
         merges: get(list, w + 2),
@@ -36,13 +36,13 @@ fn place_at(list: &[u8], i: usize) -> Place
 
 // The table of the list. A rest of fewer bytes than a place has belongs to no place.
 pub fn table(list: &[u8]) -> Scans
-    ensures { λ r. ⌜ r ≡ tableOf (placesOf (words (now (list .entry)))) ⌝ }
+    ensures { λ r. ⌜ r ≡ tableOf (entriesOf (words (now (list .entry)))) ⌝ }
 {
-    let n = list.len() / PLACE_BYTES;
+    let n = list.len() / ENTRY_BYTES;
     let mut t = blank();
     let mut i = 0;
     while i < n {
-        let p = place_at(list, i);
+        let p = entry_at(list, i);
         if is_open(p) {
             t = enter(t, i, p);
         }
@@ -51,11 +51,11 @@ pub fn table(list: &[u8]) -> Scans
     set_length(t, n)
 }
 
-// Place i becomes p; a place past the end is not there, and nothing is written.
-pub fn place_put(list: &mut [u8], i: usize, p: Place)
-    ensures { λ _. ⌜ placesOf (words (now (list .exit))) ≡ set (placesOf (words (now (list .entry)))) i p ⌝ }
+// ScanEntry i becomes p; a place past the end is not there, and nothing is written.
+pub fn put_entry(list: &mut [u8], i: usize, p: ScanEntry)
+    ensures { λ _. ⌜ entriesOf (words (now (list .exit))) ≡ set (entriesOf (words (now (list .entry)))) i p ⌝ }
 {
-    if i < list.len() / PLACE_BYTES {
+    if i < list.len() / ENTRY_BYTES {
         let w = i * PLACE_WORDS;
         put(list, w, p.number);
         put(list, w + 1, p.stamp);
@@ -65,8 +65,8 @@ pub fn place_put(list: &mut [u8], i: usize, p: Place)
 
 // Every place becomes free, however many there are.
 pub fn free_all(list: &mut [u8])
-    ensures { λ _. ⌜ placesOf (words (now (list .exit))) ≡ allFreed (placesOf (words (now (list .entry)))) ⌝ }
+    ensures { λ _. ⌜ entriesOf (words (now (list .exit))) ≡ allFreed (entriesOf (words (now (list .entry)))) ⌝ }
 {
-    let n = list.len() / PLACE_BYTES * PLACE_WORDS;
+    let n = list.len() / ENTRY_BYTES * PLACE_WORDS;
     fill(list, 0, n, 0);
 }

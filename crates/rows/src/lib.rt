@@ -15,16 +15,13 @@ use terms::Transaction;
 use terms::limits::RANGE_ROWS;
 ghost use mathlib.Core.Path.{_≡_};
 ghost use Prim.Native.Nat.{_*_, _≤_, _<_};
-ghost use lib.ListN.{length};
-ghost use Rattle.words.specs.Words.{words};
-ghost use Rattle.layout.specs.Regions.{need, slot};
-ghost use Rattle.layout.specs.View.{view, rowsGiven};
+ghost use Rattle.layout.specs.Regions.{slot};
+ghost use Rattle.layout.specs.View.{rowsGiven, viewOf, Suffices};
 ghost use Rattle.history.specs.History.{bit, rangeOf};
 ghost use Rattle.model.specs.Stored.{rowIn, recordIn};
 ghost use Rattle.model.specs.Reading.{sees, seesRow, seesRecord, visibleIn};
 ghost use Rattle.layout.specs.Sizes.{Proper};
-ghost use Rattle.model.specs.Asked.{shapeIn};
-ghost use Rattle.model.specs.Asked.{Linked};
+ghost use Rattle.model.specs.Asked.{shapeIn, Linked};
 ghost use Rattle.rows.specs.Finders.{headAt, Inside};
 
 // Whether a mask has column c.
@@ -54,9 +51,9 @@ pub fn sees(who: Reader, state: u32, stamp: Stamp, transaction: Transaction) -> 
 
 // Whether the reader sees the insert of a row.
 pub fn sees_row(mem: &[u8], s: Sizes, who: Reader, row: Row) -> bool
-    requires { ⌜ need s * 4 ≤ length (now mem) ⌝ }
+    requires { ⌜ Suffices s (now mem) ⌝ }
     requires { ⌜ row .0 < s .rows ⌝ }
-    ensures { λ r. ⌜ r ≡ seesRow who (rowIn (view s (words (now (mem .entry)))) (row .0)) ⌝ }
+    ensures { λ r. ⌜ r ≡ seesRow who (rowIn (viewOf s (now (mem .entry))) (row .0)) ⌝ }
 {
     let i = row.0 as usize;
     let state = read(mem, s, Region::RowState, i);
@@ -67,9 +64,9 @@ pub fn sees_row(mem: &[u8], s: Sizes, who: Reader, row: Row) -> bool
 
 // Whether the reader sees the tail record at a slot.
 pub fn sees_record(mem: &[u8], s: Sizes, who: Reader, slot: usize) -> bool
-    requires { ⌜ need s * 4 ≤ length (now mem) ⌝ }
+    requires { ⌜ Suffices s (now mem) ⌝ }
     requires { ⌜ slot < s .slots ⌝ }
-    ensures { λ r. ⌜ r ≡ seesRecord who (recordIn (view s (words (now (mem .entry)))) slot) ⌝ }
+    ensures { λ r. ⌜ r ≡ seesRecord who (recordIn (viewOf s (now (mem .entry))) slot) ⌝ }
 {
     let state = read(mem, s, Region::TailState, slot);
     let stamp = Stamp(read(mem, s, Region::TailStamp, slot));
@@ -95,11 +92,11 @@ pub fn slot_of(s: Sizes, g: usize, k: Tail) -> usize
 
 // Where the newest tail record of a row lies.
 pub fn head(mem: &[u8], s: Sizes, row: Row) -> Found
-    requires { ⌜ need s * 4 ≤ length (now mem) ⌝ }
+    requires { ⌜ Suffices s (now mem) ⌝ }
     requires { ⌜ Proper s ⌝ }
-    requires { ⌜ Linked s (view s (words (now mem))) ⌝ }
-    requires { ⌜ row .0 < rowsGiven (view s (words (now mem))) ⌝ }
-    ensures { λ r. ⌜ r ≡ headAt (shapeIn s) (view s (words (now (mem .entry)))) (row .0) ⌝ }
+    requires { ⌜ Linked s (viewOf s (now mem)) ⌝ }
+    requires { ⌜ row .0 < rowsGiven (viewOf s (now mem)) ⌝ }
+    ensures { λ r. ⌜ r ≡ headAt (shapeIn s) (viewOf s (now (mem .entry))) (row .0) ⌝ }
     ensures { λ r. ⌜ Inside r (s .slots) ⌝ }
 {
     let link = read(mem, s, Region::RowLink, row.0 as usize);
@@ -111,11 +108,11 @@ pub fn head(mem: &[u8], s: Sizes, row: Row) -> Found
 
 // Whether the row is there for the reader: its insert is seen, and no delete of it. The newest record tells of a delete, which is the last of its row.
 pub fn visible(mem: &[u8], s: Sizes, who: Reader, row: Row) -> bool
-    requires { ⌜ need s * 4 ≤ length (now mem) ⌝ }
+    requires { ⌜ Suffices s (now mem) ⌝ }
     requires { ⌜ Proper s ⌝ }
-    requires { ⌜ Linked s (view s (words (now mem))) ⌝ }
-    requires { ⌜ row .0 < rowsGiven (view s (words (now mem))) ⌝ }
-    ensures { λ r. ⌜ r ≡ visibleIn (shapeIn s) (view s (words (now (mem .entry)))) who (row .0) ⌝ }
+    requires { ⌜ Linked s (viewOf s (now mem)) ⌝ }
+    requires { ⌜ row .0 < rowsGiven (viewOf s (now mem)) ⌝ }
+    ensures { λ r. ⌜ r ≡ visibleIn (shapeIn s) (viewOf s (now (mem .entry))) who (row .0) ⌝ }
 {
     if !sees_row(mem, s, who, row) {
         return false;

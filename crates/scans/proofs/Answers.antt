@@ -9,12 +9,12 @@ use lib.ListN.{length, getD, take, replicate, length-replicate, length-map, List
 use lib.Seq.{take-append-add, take-at}
 use borrow.Author.Tests.{ne-eqb, eqb-true, eqb-false}
 use Rattle.terms.specs.Measures.{mostScans}
-use Rattle.terms.specs.declared.Place.{Place}
+use Rattle.terms.specs.declared.ScanEntry.{ScanEntry}
 use Rattle.loops.specs.declared.Found.{Found}
 use Rattle.loops.specs.declared.Found.the-variants.{At, Nothing}
 use Rattle.loops.specs.Search.{allBetween, firstAt}
 use Rattle.loops.proofs.Search.{first-in, first-at}
-use Rattle.terms.specs.Places.{freePlace, isScan, place}
+use Rattle.terms.specs.Places.{freeEntry, isScan, place}
 use Rattle.scans.specs.Places.{opened, openedAt, openCount, everyOpen, someOpen, among, differ}
 use Rattle.scans.specs.Table.{entries, tableOf, findIn, anyBelow}
 use Rattle.scans.proofs.Table.{at-length}
@@ -40,25 +40,25 @@ between-zeros b n (x ∷ l) = rw (between-zeros b n l)
 
 -- ---- and the list itself has its open scans, with free places among them
 
-every-opened : (f : Place → ℕ) (b : ℕ) (ps : List Place) → allBetween 0 b (map f (opened ps)) ≡ everyOpen (λ p. leb (f p) b) ps
+every-opened : (f : ScanEntry → ℕ) (b : ℕ) (ps : List ScanEntry) → allBetween 0 b (map f (opened ps)) ≡ everyOpen (λ p. leb (f p) b) ps
 every-opened f b [] = refl
 every-opened f b (p ∷ ps) =
     elim (eqb (p .number) 0) as (λ o. allBetween 0 b (map f (cond (not o) (p ∷ opened ps) (opened ps))) ≡ ((not (not o) || leb (f p) b) && everyOpen (λ p. leb (f p) b) ps))
     [ true ↦ every-opened f b ps | false ↦ rw (leb·zero (f p), every-opened f b ps) ]
 
-some-opened : (m : ℕ) (ps : List Place) → anyBelow m (map (λ p. p .merges) (opened ps)) ≡ someOpen (λ p. ltb (p .merges) m) ps
+some-opened : (m : ℕ) (ps : List ScanEntry) → anyBelow m (map (λ p. p .merges) (opened ps)) ≡ someOpen (λ p. ltb (p .merges) m) ps
 some-opened m [] = refl
 some-opened m (p ∷ ps) =
     elim (eqb (p .number) 0) as (λ o. anyBelow m (map (λ p. p .merges) (cond (not o) (p ∷ opened ps) (opened ps))) ≡ ((not o && ltb (p .merges) m) || someOpen (λ p. ltb (p .merges) m) ps))
     [ true ↦ some-opened m ps | false ↦ rw (some-opened m ps) ]
 
-among-opened : (x : ℕ) (ps : List Place) → eqb x 0 ≡ false → among x (map (λ p. p .number) (opened ps)) ≡ among x (map (λ p. p .number) ps)
+among-opened : (x : ℕ) (ps : List ScanEntry) → eqb x 0 ≡ false → among x (map (λ p. p .number) (opened ps)) ≡ among x (map (λ p. p .number) ps)
 among-opened x [] e = refl
 among-opened x (p ∷ ps) e =
     elim (eqb (p .number) 0) as (λ o. eqb (p .number) 0 ≡ o → among x (map (λ p. p .number) (cond (not o) (p ∷ opened ps) (opened ps))) ≡ (eqb (p .number) x || among x (map (λ p. p .number) ps)))
     [ true ↦ λ q. rw (ne-eqb (p .number) x (λ r. eqb-false x 0 e (sym r ∙ eqb-true (p .number) 0 q))) (among-opened x ps e) | false ↦ λ q. rw (among-opened x ps e) ] refl
 
-differ-opened : (ps : List Place) → differ (map (λ p. p .number) (opened ps)) ≡ differ (map (λ p. p .number) ps)
+differ-opened : (ps : List ScanEntry) → differ (map (λ p. p .number) (opened ps)) ≡ differ (map (λ p. p .number) ps)
 differ-opened [] = refl
 differ-opened (p ∷ ps) =
     elim (eqb (p .number) 0) as (λ o. eqb (p .number) 0 ≡ o → differ (map (λ p. p .number) (cond (not o) (p ∷ opened ps) (opened ps))) ≡ ((o || not (among (p .number) (map (λ p. p .number) ps))) && differ (map (λ p. p .number) ps)))
@@ -72,14 +72,14 @@ zeros-none k c (suc n) e = rw (ne-eqb 0 k (λ q. eqb-false k 0 e (sym q))) (zero
 
 -- entry j of the open scans is the first place of the list that bears k
 module _ (k n : ℕ) (nonzero : eqb k 0 ≡ false) where
-  abbrev searched : ℕ → List Place → Found
+  abbrev searched : ℕ → List ScanEntry → Found
   searched c ps = firstAt k c (map (λ p. p .number) (opened ps) ++ replicate n 0)
 
   -- the place of k in a list that starts at place d, and its entry j
-  abbrev Entry : ℕ → List Place → ℕ → Type 0
-  Entry d ps j = (place (isScan k) ps + d ≡ getD (openedAt d ps) j 0) × (getD ps (place (isScan k) ps) freePlace ≡ getD (opened ps) j freePlace) × (j < openCount ps)
+  abbrev Entry : ℕ → List ScanEntry → ℕ → Type 0
+  Entry d ps j = (place (isScan k) ps + d ≡ getD (openedAt d ps) j 0) × (getD ps (place (isScan k) ps) freeEntry ≡ getD (opened ps) j freeEntry) × (j < openCount ps)
 
-  found-place : (ps : List Place) (c d j : ℕ) → searched c ps ≡ At (c + j) → Entry d ps j
+  found-place : (ps : List ScanEntry) (c d j : ℕ) → searched c ps ≡ At (c + j) → Entry d ps j
   found-place [] c d j e = let z : _≡_ {A = ℕ} 0 1 = cc (zeros-none k c n nonzero) in absurd (omega arith)
   found-place (p ∷ ps) c d j e = go (eqb (p .number) 0) refl (eqb (p .number) k) refl (found-place ps) j e
     where
@@ -96,7 +96,7 @@ module _ (k n : ℕ) (nonzero : eqb k 0 ≡ false) where
           rw (o, q) (let t = later (c + 1) (suc d) i ((rw (o, q) at f) ∙ ap At (omega arith)) in (omega (arith, t .0), t .1, omega (arith, t .2)))
 
   -- and where none is found no place of the list bears k
-  found-none : (ps : List Place) (c : ℕ) → searched c ps ≡ Nothing → place (isScan k) ps ≡ length ps
+  found-none : (ps : List ScanEntry) (c : ℕ) → searched c ps ≡ Nothing → place (isScan k) ps ≡ length ps
   found-none [] c e = refl
   found-none (p ∷ ps) c e = go (eqb (p .number) 0) refl (eqb (p .number) k) refl (found-none ps)
     where
@@ -107,7 +107,7 @@ module _ (k n : ℕ) (nonzero : eqb k 0 ≡ false) where
       go false o false q later = rw (o, q) (ap suc (later (c + 1) (rw (o, q) at e)))
 
 -- no place bears 0
-none-zero : (ps : List Place) → place (isScan 0) ps ≡ length ps
+none-zero : (ps : List ScanEntry) → place (isScan 0) ps ≡ length ps
 none-zero [] = refl
 none-zero (p ∷ ps) =
     elim (eqb (p .number) 0) as (λ b. cond (not b && b) 0 (suc (place (isScan 0) ps)) ≡ suc (length ps)) [ true ↦ ap suc (none-zero ps) | false ↦ ap suc (none-zero ps) ]
@@ -115,21 +115,21 @@ none-zero (p ∷ ps) =
 -- ---- the answers of a table
 
 -- scan k stands at entry j of the table
-pub record Located (ps : List Place) (k j : ℕ) : Type 0 where
+pub record Located (ps : List ScanEntry) (k j : ℕ) : Type 0 where
   pub entry : j < openCount ps
-  pub number-is : getD ps (place (isScan k) ps) freePlace .number ≡ k
+  pub number-is : getD ps (place (isScan k) ps) freeEntry .number ≡ k
   pub place-is : getD (tableOf ps .places) j 0 ≡ place (isScan k) ps
-  pub stamp-is : getD (tableOf ps .stamps) j 0 ≡ getD ps (place (isScan k) ps) freePlace .stamp
-  pub merges-is : getD (tableOf ps .merges) j 0 ≡ getD ps (place (isScan k) ps) freePlace .merges
+  pub stamp-is : getD (tableOf ps .stamps) j 0 ≡ getD ps (place (isScan k) ps) freeEntry .stamp
+  pub merges-is : getD (tableOf ps .merges) j 0 ≡ getD ps (place (isScan k) ps) freeEntry .merges
 
-module _ (ps : List Place) (few : openCount ps ≤ mostScans) where
-  field-entries : (f : Place → ℕ) → entries (map f (opened ps)) ≡ map f (opened ps) ++ replicate (mostScans - openCount ps) 0
+module _ (ps : List ScanEntry) (few : openCount ps ≤ mostScans) where
+  field-entries : (f : ScanEntry → ℕ) → entries (map f (opened ps)) ≡ map f (opened ps) ++ replicate (mostScans - openCount ps) 0
   field-entries f = let e : length (map f (opened ps)) ≡ openCount ps = length-map (opened ps) f in rw (← e) (entries-are (map f (opened ps)) (omega arith))
 
-  field-at : (f : Place → ℕ) (j : ℕ) → f freePlace ≡ 0 → j < openCount ps → getD (entries (map f (opened ps))) j 0 ≡ f (getD (opened ps) j freePlace)
+  field-at : (f : ScanEntry → ℕ) (j : ℕ) → f freeEntry ≡ 0 → j < openCount ps → getD (entries (map f (opened ps))) j 0 ≡ f (getD (opened ps) j freeEntry)
   field-at f j z h =
       let e : length (map f (opened ps)) ≡ openCount ps = length-map (opened ps) f in
-      rw (field-entries f) (List·getD-append (map f (opened ps)) _ 0 j (omega arith) ∙ ap (λ (d : ℕ). getD (map f (opened ps)) j d) (sym z) ∙ List·getD-map f (opened ps) j freePlace)
+      rw (field-entries f) (List·getD-append (map f (opened ps)) _ 0 j (omega arith) ∙ ap (λ (d : ℕ). getD (map f (opened ps)) j d) (sym z) ∙ List·getD-map f (opened ps) j freeEntry)
 
   places-at : (j : ℕ) → j < openCount ps → getD (entries (openedAt 0 ps)) j 0 ≡ getD (openedAt 0 ps) j 0
   places-at j h =
@@ -140,10 +140,10 @@ module _ (ps : List Place) (few : openCount ps ≤ mostScans) where
   unfolding tableOf
   table-count = omega arith
 
-  pub table-at-most : (f : Place → ℕ) (b : ℕ) → allBetween 0 b (entries (map f (opened ps))) ≡ everyOpen (λ p. leb (f p) b) ps
+  pub table-at-most : (f : ScanEntry → ℕ) (b : ℕ) → allBetween 0 b (entries (map f (opened ps))) ≡ everyOpen (λ p. leb (f p) b) ps
   table-at-most f b = rw (field-entries f) (between-zeros b (mostScans - openCount ps) (map f (opened ps)) ∙ every-opened f b ps)
 
-  field-taken : (f : Place → ℕ) → take (tableOf ps .count) (entries (map f (opened ps))) ≡ map f (opened ps)
+  field-taken : (f : ScanEntry → ℕ) → take (tableOf ps .count) (entries (map f (opened ps))) ≡ map f (opened ps)
   field-taken f = rw (table-count, field-entries f) (take-at (map f (opened ps)) _ (openCount ps) (length-map (opened ps) f))
 
   pub table-differ : differ (take (tableOf ps .count) (tableOf ps .numbers)) ≡ differ (map (λ p. p .number) ps)
@@ -163,10 +163,10 @@ module _ (ps : List Place) (few : openCount ps ≤ mostScans) where
             let t = found-place k (mostScans - openCount ps) q ps 0 0 j ((rw (field-entries (λ p. p .number)) at f) ∙ ap At (omega arith)) in
             record {
               entry = t .2;
-              number-is = ap (λ (p : Place). p .number) (t .1) ∙ sym (field-at (λ p. p .number) j refl (t .2)) ∙ first-at k j (tableOf ps .numbers) f .1;
+              number-is = ap (λ (p : ScanEntry). p .number) (t .1) ∙ sym (field-at (λ p. p .number) j refl (t .2)) ∙ first-at k j (tableOf ps .numbers) f .1;
               place-is = places-at j (t .2) ∙ omega (arith, t .0);
-              stamp-is = field-at (λ p. p .stamp) j refl (t .2) ∙ ap (λ (p : Place). p .stamp) (sym (t .1));
-              merges-is = field-at (λ p. p .merges) j refl (t .2) ∙ ap (λ (p : Place). p .merges) (sym (t .1));
+              stamp-is = field-at (λ p. p .stamp) j refl (t .2) ∙ ap (λ (p : ScanEntry). p .stamp) (sym (t .1));
+              merges-is = field-at (λ p. p .merges) j refl (t .2) ∙ ap (λ (p : ScanEntry). p .merges) (sym (t .1));
             }
       ] refl e
 

@@ -11,21 +11,21 @@ use lib.ListN.{length, getD, set, take, replicate, length-append, length-map}
 use lib.Seq.{take-append-le, take-set-lt, set-append-seam, take-suc, take-all, length-take-le}
 use borrow.Author.Tests.{not-false, lt-ltb, le-ltb, ne-eqb, ltb-true, ltb-false, eqb-true}
 use Rattle.terms.specs.Measures.{mostScans}
-use Rattle.terms.specs.declared.Place.{Place}
+use Rattle.terms.specs.declared.ScanEntry.{ScanEntry}
 use Rattle.scans.specs.declared.Scans.{Scans}
-use Rattle.terms.specs.Places.{freePlace}
+use Rattle.terms.specs.Places.{freeEntry}
 use Rattle.scans.specs.Places.{isOpen, opened, openedAt, openCount, firstFree}
 use Rattle.scans.specs.Table.{entries, tableOf, noted, ofLength}
 
 -- ---- one place more
 
-opened-snoc : (ps : List Place) (p : Place) → opened (ps ++ p ∷ []) ≡ opened ps ++ cond (isOpen p) (p ∷ []) []
+opened-snoc : (ps : List ScanEntry) (p : ScanEntry) → opened (ps ++ p ∷ []) ≡ opened ps ++ cond (isOpen p) (p ∷ []) []
 opened-snoc [] p = refl
 opened-snoc (q ∷ ps) p =
     elim (isOpen q) as (λ b. cond b (q ∷ opened (ps ++ p ∷ [])) (opened (ps ++ p ∷ [])) ≡ cond b (q ∷ opened ps) (opened ps) ++ cond (isOpen p) (p ∷ []) [])
     [ true ↦ rw (opened-snoc ps p) | false ↦ opened-snoc ps p ]
 
-openedAt-snoc : (k : ℕ) (ps : List Place) (p : Place) → openedAt k (ps ++ p ∷ []) ≡ openedAt k ps ++ cond (isOpen p) ((k + length ps) ∷ []) []
+openedAt-snoc : (k : ℕ) (ps : List ScanEntry) (p : ScanEntry) → openedAt k (ps ++ p ∷ []) ≡ openedAt k ps ++ cond (isOpen p) ((k + length ps) ∷ []) []
 openedAt-snoc k [] p = rw (add-zero k)
 openedAt-snoc k (q ∷ ps) p =
     let e : suc k + length ps ≡ k + suc (length ps) = omega arith in
@@ -33,7 +33,7 @@ openedAt-snoc k (q ∷ ps) p =
     (elim (isOpen q) as (λ b. let l = openedAt (suc k) ps in let m = cond (isOpen p) ((k + suc (length ps)) ∷ []) [] in cond b (k ∷ l ++ m) (l ++ m) ≡ cond b (k ∷ l) l ++ m)
     [ true ↦ refl | false ↦ refl ])
 
-free-snoc : (ps : List Place) (p : Place) → firstFree (ps ++ p ∷ []) ≡ cond (eqb (firstFree ps) (length ps)) (cond (eqb (p .number) 0) (length ps) (length ps + 1)) (firstFree ps)
+free-snoc : (ps : List ScanEntry) (p : ScanEntry) → firstFree (ps ++ p ∷ []) ≡ cond (eqb (firstFree ps) (length ps)) (cond (eqb (p .number) 0) (length ps) (length ps + 1)) (firstFree ps)
 free-snoc [] p = refl
 free-snoc (q ∷ ps) p =
     let n = length ps in
@@ -68,13 +68,13 @@ entries-full l x h =
 
 -- ---- the table grows as the list does
 
-pub at-length : (k : ℕ) (qs : List Place) → length (openedAt k qs) ≡ openCount qs
+pub at-length : (k : ℕ) (qs : List ScanEntry) → length (openedAt k qs) ≡ openCount qs
 at-length k [] = refl
 at-length k (q ∷ qs) =
     elim (isOpen q) as (λ b. length (cond b (k ∷ openedAt (suc k) qs) (openedAt (suc k) qs)) ≡ length (cond b (q ∷ opened qs) (opened qs)))
     [ true ↦ ap suc (at-length (suc k) qs) | false ↦ at-length (suc k) qs ]
 
-pub noted-table : (ps : List Place) (p : Place) → noted (tableOf ps) p ≡ tableOf (ps ++ p ∷ [])
+pub noted-table : (ps : List ScanEntry) (p : ScanEntry) → noted (tableOf ps) p ≡ tableOf (ps ++ p ∷ [])
 unfolding noted tableOf
 noted-table ps p = go (eqb (p .number) 0) refl (ltb n mostScans) refl
   where
@@ -110,36 +110,36 @@ noted-table ps p = go (eqb (p .number) 0) refl (ltb n mostScans) refl
         (simp map-append
         (rw (full (map (λ q. q .number) (opened ps)) (p .number) (length-map (opened ps) _) h, full (map (λ q. q .stamp) (opened ps)) (p .stamp) (length-map (opened ps) _) h, full (map (λ q. q .merges) (opened ps)) (p .merges) (length-map (opened ps) _) h, full (openedAt 0 ps) (length ps) (at-length 0 ps) h, lt-ltb mostScans (n + 1) (omega arith))))
 
-pub table-length : (t : Scans) (ps : List Place) → t ≡ tableOf ps → t .length ≡ length ps
+pub table-length : (t : Scans) (ps : List ScanEntry) → t ≡ tableOf ps → t .length ≡ length ps
 unfolding tableOf
 table-length t ps e = ap (λ (u : Scans). u .length) e
 
 -- one turn of the loop that makes a table
-table-next : (ps : List Place) (t r : Scans) (p : Place) (i : ℕ) → t ≡ tableOf (take i ps) → p ≡ getD ps i freePlace → r ≡ noted t p → i < length ps
+table-next : (ps : List ScanEntry) (t r : Scans) (p : ScanEntry) (i : ℕ) → t ≡ tableOf (take i ps) → p ≡ getD ps i freeEntry → r ≡ noted t p → i < length ps
     → r ≡ tableOf (take (i + 1) ps)
-table-next ps t r p i e q n h = n ∙ rw (e, q, add-one) (noted-table (take i ps) (getD ps i freePlace) ∙ ap tableOf (sym (take-suc ps i freePlace h)))
+table-next ps t r p i e q n h = n ∙ rw (e, q, add-one) (noted-table (take i ps) (getD ps i freeEntry) ∙ ap tableOf (sym (take-suc ps i freeEntry h)))
 
 -- ---- a loop that makes a table place by place
 
 -- t has the first i of the n places of l: but for its length it is their table
-pub record Entered (l : List Place) (n : ℕ) (t : Scans) (i : ℕ) : Type 0 where
+pub record Entered (l : List ScanEntry) (n : ℕ) (t : Scans) (i : ℕ) : Type 0 where
   pub within : i ≤ n
   pub whole : n ≡ length l
   pub table : ofLength i t ≡ tableOf (take i l)
 
-pub none-entered : (l : List Place) (n : ℕ) (t : Scans) → n ≡ length l → t ≡ tableOf [] → Entered l n t 0
+pub none-entered : (l : List ScanEntry) (n : ℕ) (t : Scans) → n ≡ length l → t ≡ tableOf [] → Entered l n t 0
 unfolding tableOf
 none-entered l n t e f = record { within = omega arith; whole = e; table = ap (ofLength 0) f }
 
-own-length : (l : List Place) (t : Scans) (i : ℕ) → i ≤ length l → t ≡ tableOf (take i l) → ofLength i t ≡ t
+own-length : (l : List ScanEntry) (t : Scans) (i : ℕ) → i ≤ length l → t ≡ tableOf (take i l) → ofLength i t ≡ t
 own-length l t i k e = ap (λ n. ofLength n t) (sym (table-length t (take i l) e ∙ length-take-le i l k))
 
-pub open-entered : (l : List Place) (n : ℕ) (t r : Scans) (i : ℕ) (p : Place) → Entered l n t i → i < n → p ≡ getD l i freePlace → r ≡ noted (ofLength i t) p → Entered l n r (i + 1)
+pub open-entered : (l : List ScanEntry) (n : ℕ) (t r : Scans) (i : ℕ) (p : ScanEntry) → Entered l n t i → i < n → p ≡ getD l i freeEntry → r ≡ noted (ofLength i t) p → Entered l n r (i + 1)
 open-entered l n t r i p g k e f =
     let e = table-next l (ofLength i t) r p i (g .table) e f (omega (arith, g .whole)) in
     record { within = omega arith; whole = g .whole; table = own-length l r (i + 1) (omega (arith, g .whole)) e ∙ e }
 
-pub free-entered : (l : List Place) (n : ℕ) (t : Scans) (i : ℕ) (p : Place) → Entered l n t i → i < n → p ≡ getD l i freePlace → isOpen p ≡ false → Entered l n t (i + 1)
+pub free-entered : (l : List ScanEntry) (n : ℕ) (t : Scans) (i : ℕ) (p : ScanEntry) → Entered l n t i → i < n → p ≡ getD l i freeEntry → isOpen p ≡ false → Entered l n t (i + 1)
 unfolding noted
 free-entered l n t i p g k e f =
     record {
@@ -148,5 +148,5 @@ free-entered l n t i p g k e f =
       table = table-next l (ofLength i t) (ofLength (i + 1) t) p i (g .table) e (sym (rw (not-false (eqb (p .number) 0) f))) (omega (arith, g .whole));
     }
 
-pub all-entered : (l : List Place) (n : ℕ) (t : Scans) (i : ℕ) → Entered l n t i → n ≤ i → ofLength n t ≡ tableOf l
+pub all-entered : (l : List ScanEntry) (n : ℕ) (t : Scans) (i : ℕ) → Entered l n t i → n ≤ i → ofLength n t ≡ tableOf l
 all-entered l n t i g k = ap (λ j. ofLength j t) (omega (arith, g .within)) ∙ g .table ∙ ap tableOf (take-all i l (omega (arith, g .whole)))

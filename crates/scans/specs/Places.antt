@@ -4,33 +4,33 @@ use mathlib.Core.Bool.{Bool, true, false, not, cond, _&&_, _||_}
 use mathlib.Core.List.{List, [], _∷_}
 use lib.Dec.{eqb}
 use lib.ListN.{length, replicate}
-use Rattle.terms.specs.declared.Place.{Place}
-use Rattle.terms.specs.Places.{freePlace, place}
+use Rattle.terms.specs.declared.ScanEntry.{ScanEntry}
+use Rattle.terms.specs.Places.{freeEntry, place}
 
-abbrev pub isOpen : Place → Bool
+abbrev pub isOpen : ScanEntry → Bool
 isOpen p = not (eqb (p .number) 0)
 
-abbrev pub firstFree : List Place → ℕ
+abbrev pub firstFree : List ScanEntry → ℕ
 firstFree ps = place (λ p. eqb (p .number) 0) ps
 
 -- the open scans, in the order of the list, and their places, the first of the list being number k
-abbrev pub opened : List Place → List Place
+abbrev pub opened : List ScanEntry → List ScanEntry
 opened [] = []
 opened (p ∷ ps) = cond (isOpen p) (p ∷ opened ps) (opened ps)
 
-abbrev pub openedAt : ℕ → List Place → List ℕ
+abbrev pub openedAt : ℕ → List ScanEntry → List ℕ
 openedAt k [] = []
 openedAt k (p ∷ ps) = cond (isOpen p) (k ∷ openedAt (suc k) ps) (openedAt (suc k) ps)
 
-abbrev pub openCount : List Place → ℕ
+abbrev pub openCount : List ScanEntry → ℕ
 openCount ps = length (opened ps)
 
 -- whether each, or some, open scan passes a test
-abbrev pub everyOpen : (Place → Bool) → List Place → Bool
+abbrev pub everyOpen : (ScanEntry → Bool) → List ScanEntry → Bool
 everyOpen f [] = true
 everyOpen f (p ∷ ps) = (not (isOpen p) || f p) && everyOpen f ps
 
-abbrev pub someOpen : (Place → Bool) → List Place → Bool
+abbrev pub someOpen : (ScanEntry → Bool) → List ScanEntry → Bool
 someOpen f [] = false
 someOpen f (p ∷ ps) = (isOpen p && f p) || someOpen f ps
 
@@ -44,9 +44,9 @@ differ [] = true
 differ (x ∷ l) = (eqb x 0 || not (among x l)) && differ l
 
 -- as many places, each free
-abbrev pub allFreed : List Place → List Place
-allFreed ps = replicate (length ps) freePlace
+abbrev pub allFreed : List ScanEntry → List ScanEntry
+allFreed ps = replicate (length ps) freeEntry
 
 -- the places of a list, all freed if a store was made
-abbrev pub freedIf : Bool → List Place → List Place
+abbrev pub freedIf : Bool → List ScanEntry → List ScanEntry
 freedIf b ps = cond b (allFreed ps) ps

@@ -5,7 +5,7 @@ use mathlib.Core.List.{List, [], _∷_, _++_, map}
 use lib.Dec.{eqb, ltb}
 use lib.ListN.{length, set, take, replicate}
 use Rattle.terms.specs.Measures.{mostScans}
-use Rattle.terms.specs.declared.Place.{Place}
+use Rattle.terms.specs.declared.ScanEntry.{ScanEntry}
 use Rattle.loops.specs.declared.Found.{Found}
 use Rattle.loops.specs.declared.Found.the-variants.{Nothing}
 use Rattle.loops.specs.Search.{firstAt}
@@ -16,7 +16,7 @@ use Rattle.scans.specs.Places.{opened, openedAt, openCount, firstFree}
 abbrev pub entries : List ℕ → List ℕ
 entries l = take mostScans (l ++ replicate mostScans 0)
 
-unfoldable pub tableOf : List Place → Scans
+unfoldable pub tableOf : List ScanEntry → Scans
 tableOf ps =
     record {
       length = length ps;
@@ -44,7 +44,7 @@ ofLength n t =
     }
 
 -- the table with the next place of the list: a free one, an open one that has room, and one past the last entry
-unfoldable pub noted : Scans → Place → Scans
+unfoldable pub noted : Scans → ScanEntry → Scans
 noted t p =
     let free = cond (eqb (t .free) (t .length)) (t .length + 1) (t .free) in
     let n = t .count in

@@ -4,7 +4,7 @@
 
 use loops::Found;
 use loops::and_between;
-use terms::Place;
+use terms::ScanEntry;
 use terms::limits::MOST_SCANS;
 ghost use mathlib.Core.Path.{_≡_};
 ghost use mathlib.Core.Bool.{_||_, not, cond, true};
@@ -56,14 +56,14 @@ pub fn blank() -> Scans
     }
 }
 
-pub fn is_open(p: Place) -> bool
+pub fn is_open(p: ScanEntry) -> bool
     ensures { λ r. ⌜ r ≡ isOpen p ⌝ }
 {
     p.number != 0
 }
 
 // The table of the first i places, with place i, an open one. What t has as its length is not looked at: free places are passed over without it.
-pub fn enter(t: Scans, i: usize, p: Place) -> Scans
+pub fn enter(t: Scans, i: usize, p: ScanEntry) -> Scans
     requires { ⌜ (i < 4611686018427387904) × (isOpen p ≡ true) ⌝ }
     ensures { λ r. ⌜ r ≡ noted (ofLength i t) p ⌝ }
 {

@@ -12,7 +12,7 @@ use Rattle.terms.specs.Measures.{mostRows, Shape}
 use Rattle.terms.specs.declared.Answer.{Answer}
 use Rattle.layout.specs.View.{View, rowsGiven}
 use Rattle.history.specs.History.{rangeOf}
-use Rattle.terms.specs.declared.Place.{Place}
+use Rattle.terms.specs.declared.ScanEntry.{ScanEntry}
 use Rattle.layout.specs.declared.Sizes.{Sizes}
 use Rattle.layout.specs.Sizes.{Proper}
 use Rattle.model.specs.Asked.{Linked}
@@ -43,7 +43,7 @@ module _ (s : Sizes) (proper : Proper s) (v : View) (linked : Linked s v) (n : �
   pub given-range : (r g : ℕ) → r < n → g ≡ rangeOf r → g < s .ranges
   given-range r g l i = rw i (range-in s proper r (omega (arith, linked .rows-few)))
 
-module _ (S : Shape) (v : View) (scan : Place) (c : ℕ) where
+module _ (S : Shape) (v : View) (scan : ScanEntry) (c : ℕ) where
   abbrev value : ℕ → ℤ
   value r = toZ w32 (wordIn S v (reader (scan .stamp) 0) (scanPage S v (scan .merges) (rangeOf r) c) r c)
 

@@ -9,8 +9,8 @@ use regions::read;
 use rows::range_of;
 use rows::visible;
 use terms::Answer;
-use terms::Place;
 use terms::Row;
+use terms::ScanEntry;
 use terms::Stamp;
 use terms::Transaction;
 use terms::limits::RANGE_ROWS;
@@ -18,16 +18,12 @@ use words::of_word;
 ghost use mathlib.Core.Path.{_≡_};
 ghost use Prim.Native.Nat.{_+_, _*_, _/_, _^_, _≤_, _<_};
 ghost use lib.IntN.{natAbs, _+ℤ_};
-ghost use lib.ListN.{length};
 ghost use Rattle.terms.specs.Measures.{mostRows, rangeRows};
-ghost use Rattle.words.specs.Words.{words};
-ghost use Rattle.layout.specs.Regions.{need};
-ghost use Rattle.layout.specs.View.{view, rowsGiven};
+ghost use Rattle.layout.specs.View.{rowsGiven, viewOf, Suffices};
 ghost use Rattle.history.specs.History.{rangeOf};
 ghost use Rattle.model.specs.Reading.{scanPage, sumIn};
 ghost use Rattle.layout.specs.Sizes.{Proper};
-ghost use Rattle.model.specs.Asked.{shapeIn};
-ghost use Rattle.model.specs.Asked.{Linked, Pooled};
+ghost use Rattle.model.specs.Asked.{shapeIn, Linked, Pooled};
 ghost use Rattle.summing.specs.Sums.{Tallied};
 
 // The rows seen so far, and the sum of their values.
@@ -45,14 +41,14 @@ fn plus(total: i64, w: i32) -> i64
 }
 
 // The tally with one row more, on the page of its range.
-fn add_row(mem: &[u8], s: Sizes, scan: Place, page: usize, row: Row, c: u32, t: Tally) -> Tally
-    requires { ⌜ need s * 4 ≤ length (now mem) ⌝ }
+fn add_row(mem: &[u8], s: Sizes, scan: ScanEntry, page: usize, row: Row, c: u32, t: Tally) -> Tally
+    requires { ⌜ Suffices s (now mem) ⌝ }
     requires { ⌜ Proper s ⌝ }
-    requires { ⌜ Linked s (view s (words (now mem))) ⌝ }
-    requires { ⌜ (page < s .pages) × (c < s .columns) × (row .0 < rowsGiven (view s (words (now mem)))) ⌝ }
-    requires { ⌜ page ≡ scanPage (shapeIn s) (view s (words (now mem))) (scan .merges) (rangeOf (row .0)) c ⌝ }
-    requires { ⌜ Tallied (shapeIn s) (view s (words (now mem))) scan c (row .0) t ⌝ }
-    ensures { λ r. ⌜ Tallied (shapeIn s) (view s (words (now (mem .entry)))) scan c (row .0 + 1) r ⌝ }
+    requires { ⌜ Linked s (viewOf s (now mem)) ⌝ }
+    requires { ⌜ (page < s .pages) × (c < s .columns) × (row .0 < rowsGiven (viewOf s (now mem))) ⌝ }
+    requires { ⌜ page ≡ scanPage (shapeIn s) (viewOf s (now mem)) (scan .merges) (rangeOf (row .0)) c ⌝ }
+    requires { ⌜ Tallied (shapeIn s) (viewOf s (now mem)) scan c (row .0) t ⌝ }
+    ensures { λ r. ⌜ Tallied (shapeIn s) (viewOf s (now (mem .entry))) scan c (row .0 + 1) r ⌝ }
 {
     let who = Reader {
         stamp: Stamp(scan.stamp),
@@ -72,21 +68,21 @@ fn add_row(mem: &[u8], s: Sizes, scan: Place, page: usize, row: Row, c: u32, t: 
 fn add_rows(
     mem: &[u8],
     s: Sizes,
-    scan: Place,
+    scan: ScanEntry,
     page: usize,
     c: u32,
     from: u32,
     to: u32,
     t: Tally,
 ) -> Tally
-    requires { ⌜ need s * 4 ≤ length (now mem) ⌝ }
+    requires { ⌜ Suffices s (now mem) ⌝ }
     requires { ⌜ Proper s ⌝ }
-    requires { ⌜ Linked s (view s (words (now mem))) ⌝ }
-    requires { ⌜ (page < s .pages) × (c < s .columns) × (to ≤ rowsGiven (view s (words (now mem)))) ⌝ }
+    requires { ⌜ Linked s (viewOf s (now mem)) ⌝ }
+    requires { ⌜ (page < s .pages) × (c < s .columns) × (to ≤ rowsGiven (viewOf s (now mem))) ⌝ }
     requires { ⌜ (from ≤ to) × (to ≤ (from / rangeRows + 1) * rangeRows) ⌝ }
-    requires { ⌜ page ≡ scanPage (shapeIn s) (view s (words (now mem))) (scan .merges) (rangeOf from) c ⌝ }
-    requires { ⌜ Tallied (shapeIn s) (view s (words (now mem))) scan c from t ⌝ }
-    ensures { λ r. ⌜ Tallied (shapeIn s) (view s (words (now (mem .entry)))) scan c to r ⌝ }
+    requires { ⌜ page ≡ scanPage (shapeIn s) (viewOf s (now mem)) (scan .merges) (rangeOf from) c ⌝ }
+    requires { ⌜ Tallied (shapeIn s) (viewOf s (now mem)) scan c from t ⌝ }
+    ensures { λ r. ⌜ Tallied (shapeIn s) (viewOf s (now (mem .entry))) scan c to r ⌝ }
 {
     let mut sum = t;
     let mut row = from;
@@ -108,12 +104,12 @@ fn range_end(from: u32, given: u32) -> u32
 }
 
 // A scan's sum of column c: the count of the rows seen and the sum of their values.
-pub fn sum_rows(mem: &[u8], s: Sizes, scan: Place, c: u32) -> Answer
-    requires { ⌜ need s * 4 ≤ length (now mem) ⌝ }
+pub fn sum_rows(mem: &[u8], s: Sizes, scan: ScanEntry, c: u32) -> Answer
+    requires { ⌜ Suffices s (now mem) ⌝ }
     requires { ⌜ Proper s ⌝ }
-    requires { ⌜ Linked s (view s (words (now mem))) × Pooled s (view s (words (now mem))) ⌝ }
+    requires { ⌜ Linked s (viewOf s (now mem)) × Pooled s (viewOf s (now mem)) ⌝ }
     requires { ⌜ c < s .columns ⌝ }
-    ensures { λ r. ⌜ r ≡ sumIn (shapeIn s) (view s (words (now (mem .entry)))) scan c ⌝ }
+    ensures { λ r. ⌜ r ≡ sumIn (shapeIn s) (viewOf s (now (mem .entry))) scan c ⌝ }
 {
     let given = read(mem, s, Region::Header, HEADER_ROWS);
     let merges = scan.merges;

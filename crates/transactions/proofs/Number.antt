@@ -1,5 +1,5 @@
 -- The number in the place of an open transaction is the transaction's own.
-use Prim.Native.Nat.{ℕ, suc, _*_, _≤_, _<_}
+use Prim.Native.Nat.{ℕ, suc, _<_}
 use mathlib.Core.Path.{_≡_, refl}
 use mathlib.Core.Bool.{Bool, true, false, not, cond, _&&_}
 use mathlib.Core.List.{List, [], _∷_}
@@ -13,8 +13,7 @@ use Rattle.words.specs.Words.{words}
 use Rattle.words.proofs.Words.{length-words}
 use Rattle.layout.specs.declared.Sizes.{Sizes}
 use Rattle.layout.specs.declared.Region.the-variants.{Opens}
-use Rattle.layout.specs.Regions.{need}
-use Rattle.layout.specs.View.{view}
+use Rattle.layout.specs.View.{viewOf, Suffices}
 use Rattle.layout.proofs.View.{view-long}
 use Rattle.model.specs.Stored.{openPlace}
 use Rattle.model.specs.Asked.{OpenAt}
@@ -33,10 +32,10 @@ number-in t (x ∷ l) h = go (bears t x) refl (number-in t l) h
     go true q further h = eqb-true x t (second (not (eqb x 0)) (eqb x t) q)
     go false q further h = further (omega arith)
 
-pub number-there : (s : Sizes) (m : List ℕ) (t j : ℕ) → need s * 4 ≤ length m → OpenAt (view s (words m)) t j → getD (view s (words m) Opens) j 0 ≡ t
+pub number-there : (s : Sizes) (m : List ℕ) (t j : ℕ) → Suffices s m → OpenAt (viewOf s m) t j → getD (viewOf s m Opens) j 0 ≡ t
 unfolding openPlace
 number-there s m t j l o =
-    let opens = view s (words m) Opens in
+    let opens = viewOf s m Opens in
     let long : length opens ≡ mostTransactions = view-long s (words m) (omega (arith, length-words m)) Opens in
     let low : place (bears t) opens < length opens = rw (long, ← o .found) (o .low) in
     rw (o .found) (number-in t opens low)

@@ -25,13 +25,11 @@ use terms::limits::MOST_TRANSACTIONS;
 ghost use mathlib.Core.Path.{_≡_};
 ghost use Prim.Native.Nat.{ℕ, _+_, _*_, _≤_, _<_};
 ghost use lib.Dec.{eqb};
-ghost use lib.ListN.{length};
 ghost use Rattle.terms.specs.Measures.{mostTransactions, mostNumbers};
 ghost use Rattle.loops.specs.Search.{foundAt};
-ghost use Rattle.words.specs.Words.{words};
 ghost use Rattle.layout.specs.declared.Region.{Region};
-ghost use Rattle.layout.specs.Regions.{index, len, need};
-ghost use Rattle.layout.specs.View.{view, transactionsGiven, usedIn};
+ghost use Rattle.layout.specs.Regions.{index, len};
+ghost use Rattle.layout.specs.View.{transactionsGiven, usedIn, viewOf, Suffices};
 ghost use Rattle.terms.specs.Places.{place};
 ghost use Rattle.model.specs.Writing.{begun, settled, committedIn, abortedIn};
 ghost use Rattle.layout.specs.Sizes.{Proper};
@@ -39,19 +37,19 @@ ghost use Rattle.model.specs.Asked.{shapeIn, Counted, FreeAt, OpenAt};
 ghost use Rattle.transactions.specs.Steps.{notedAt, tailMarked, tailsMarked};
 
 // The first free place for an open transaction.
-pub fn free_place(mem: &[u8], s: Sizes) -> Found
-    requires { ⌜ need s * 4 ≤ length (now mem) ⌝ }
-    ensures { λ r. ⌜ r ≡ foundAt mostTransactions (place (λ k. eqb k 0) (view s (words (now (mem .entry))) Region.Opens)) ⌝ }
+pub fn free_index(mem: &[u8], s: Sizes) -> Found
+    requires { ⌜ Suffices s (now mem) ⌝ }
+    ensures { λ r. ⌜ r ≡ foundAt mostTransactions (place (λ k. eqb k 0) (viewOf s (now (mem .entry)) Region.Opens)) ⌝ }
 {
     find_in(mem, s, Region::Opens, 0, MOST_TRANSACTIONS, 0)
 }
 
 // A new transaction takes a free place, and gets the next number.
 pub fn begin(mem: &mut [u8], s: Sizes, free: usize) -> Transaction
-    requires { ⌜ need s * 4 ≤ length (now mem) ⌝ }
-    requires { ⌜ FreeAt (view s (words (now mem))) free ⌝ }
-    requires { ⌜ transactionsGiven (view s (words (now mem))) < mostNumbers ⌝ }
-    ensures { λ r. ⌜ (r .0 ≡ transactionsGiven (view s (words (now (mem .entry)))) + 1) × (view s (words (now (mem .exit))) ≡ begun (view s (words (now (mem .entry))))) ⌝ }
+    requires { ⌜ Suffices s (now mem) ⌝ }
+    requires { ⌜ FreeAt (viewOf s (now mem)) free ⌝ }
+    requires { ⌜ transactionsGiven (viewOf s (now mem)) < mostNumbers ⌝ }
+    ensures { λ r. ⌜ (r .0 ≡ transactionsGiven (viewOf s (now (mem .entry))) + 1) × (viewOf s (now (mem .exit)) ≡ begun (viewOf s (now (mem .entry)))) ⌝ }
 {
     let t = Transaction(read(mem, s, Region::Header, HEADER_TRANSACTIONS) + 1);
     keep(mem, s, free, Pending::begin(t));
@@ -61,9 +59,9 @@ pub fn begin(mem: &mut [u8], s: Sizes, free: usize) -> Transaction
 
 // The open transaction at a place notes a change.
 pub fn note(mem: &mut [u8], s: Sizes, at: usize)
-    requires { ⌜ need s * 4 ≤ length (now mem) ⌝ }
+    requires { ⌜ Suffices s (now mem) ⌝ }
     requires { ⌜ at < mostTransactions ⌝ }
-    ensures { λ _. ⌜ view s (words (now (mem .exit))) ≡ notedAt at (view s (words (now (mem .entry)))) ⌝ }
+    ensures { λ _. ⌜ viewOf s (now (mem .exit)) ≡ notedAt at (viewOf s (now (mem .entry))) ⌝ }
 {
     let p = pending_at(mem, s, at).note();
     write(mem, s, Region::Changes, at, p.changes);
@@ -71,11 +69,11 @@ pub fn note(mem: &mut [u8], s: Sizes, at: usize)
 
 // w in region k for the used records of range g that bear transaction t. A range that has none is passed over.
 fn mark_tail(mem: &mut [u8], s: Sizes, t: Transaction, k: Region, w: u32, g: usize)
-    requires { ⌜ need s * 4 ≤ length (now mem) ⌝ }
+    requires { ⌜ Suffices s (now mem) ⌝ }
     requires { ⌜ Proper s ⌝ }
-    requires { ⌜ (g < s .ranges) × (usedIn (view s (words (now mem))) g ≤ s .capacity) ⌝ }
+    requires { ⌜ (g < s .ranges) × (usedIn (viewOf s (now mem)) g ≤ s .capacity) ⌝ }
     requires { ⌜ (len s k ≡ s .slots) × (index Region.TailTransaction ≡ index k → ⊥) ⌝ }
-    ensures { λ _. ⌜ view s (words (now (mem .exit))) ≡ tailMarked (shapeIn s) (t .0) k w g (view s (words (now (mem .entry)))) ⌝ }
+    ensures { λ _. ⌜ viewOf s (now (mem .exit)) ≡ tailMarked (shapeIn s) (t .0) k w g (viewOf s (now (mem .entry))) ⌝ }
 {
     let used = read(mem, s, Region::Used, g) as usize;
     if used == 0 {
@@ -87,11 +85,11 @@ fn mark_tail(mem: &mut [u8], s: Sizes, t: Transaction, k: Region, w: u32, g: usi
 
 // The same for every range.
 fn mark_tails(mem: &mut [u8], s: Sizes, t: Transaction, k: Region, w: u32)
-    requires { ⌜ need s * 4 ≤ length (now mem) ⌝ }
+    requires { ⌜ Suffices s (now mem) ⌝ }
     requires { ⌜ Proper s ⌝ }
-    requires { ⌜ Counted s (view s (words (now mem))) ⌝ }
+    requires { ⌜ Counted s (viewOf s (now mem)) ⌝ }
     requires { ⌜ (len s k ≡ s .slots) × (index Region.TailTransaction ≡ index k → ⊥) × (index k ≡ index Region.Used → ⊥) ⌝ }
-    ensures { λ _. ⌜ view s (words (now (mem .exit))) ≡ tailsMarked (shapeIn s) (t .0) k w (view s (words (now (mem .entry)))) ⌝ }
+    ensures { λ _. ⌜ viewOf s (now (mem .exit)) ≡ tailsMarked (shapeIn s) (t .0) k w (viewOf s (now (mem .entry))) ⌝ }
 {
     let ranges = s.ranges;
     let mut g = 0;
@@ -103,10 +101,10 @@ fn mark_tails(mem: &mut [u8], s: Sizes, t: Transaction, k: Region, w: u32)
 
 // Every given row and used record of a transaction gets a state and a stamp.
 fn settle(mem: &mut [u8], s: Sizes, t: Transaction, state: u32, stamp: Stamp)
-    requires { ⌜ need s * 4 ≤ length (now mem) ⌝ }
+    requires { ⌜ Suffices s (now mem) ⌝ }
     requires { ⌜ Proper s ⌝ }
-    requires { ⌜ Counted s (view s (words (now mem))) ⌝ }
-    ensures { λ _. ⌜ view s (words (now (mem .exit))) ≡ settled (shapeIn s) (t .0) state (stamp .0) (view s (words (now (mem .entry)))) ⌝ }
+    requires { ⌜ Counted s (viewOf s (now mem)) ⌝ }
+    ensures { λ _. ⌜ viewOf s (now (mem .exit)) ≡ settled (shapeIn s) (t .0) state (stamp .0) (viewOf s (now (mem .entry))) ⌝ }
 {
     let given = read(mem, s, Region::Header, HEADER_ROWS) as usize;
     mark_in(
@@ -135,10 +133,10 @@ fn settle(mem: &mut [u8], s: Sizes, t: Transaction, state: u32, stamp: Stamp)
 
 // The open transaction at a place is handed back: what it has written is committed at a stamp, and its place is free.
 pub fn commit(mem: &mut [u8], s: Sizes, at: usize, stamp: Stamp)
-    requires { ⌜ need s * 4 ≤ length (now mem) ⌝ }
+    requires { ⌜ Suffices s (now mem) ⌝ }
     requires { ⌜ Proper s ⌝ }
-    requires { ⌜ Counted s (view s (words (now mem))) × (at < mostTransactions) ⌝ }
-    ensures { λ _. ⌜ ((t : ℕ) → OpenAt (view s (words (now (mem .entry)))) t at → view s (words (now (mem .exit))) ≡ committedIn (shapeIn s) t (stamp .0) (view s (words (now (mem .entry))))) ⌝ }
+    requires { ⌜ Counted s (viewOf s (now mem)) × (at < mostTransactions) ⌝ }
+    ensures { λ _. ⌜ ((t : ℕ) → OpenAt (viewOf s (now (mem .entry))) t at → viewOf s (now (mem .exit)) ≡ committedIn (shapeIn s) t (stamp .0) (viewOf s (now (mem .entry)))) ⌝ }
 {
     let t = pending_at(mem, s, at).hand_back();
     settle(mem, s, t, COMMITTED, stamp);
@@ -148,10 +146,10 @@ pub fn commit(mem: &mut [u8], s: Sizes, at: usize, stamp: Stamp)
 
 // It is handed back: what it has written is aborted, and its place is free.
 pub fn abort(mem: &mut [u8], s: Sizes, at: usize)
-    requires { ⌜ need s * 4 ≤ length (now mem) ⌝ }
+    requires { ⌜ Suffices s (now mem) ⌝ }
     requires { ⌜ Proper s ⌝ }
-    requires { ⌜ Counted s (view s (words (now mem))) × (at < mostTransactions) ⌝ }
-    ensures { λ _. ⌜ ((t : ℕ) → OpenAt (view s (words (now (mem .entry)))) t at → view s (words (now (mem .exit))) ≡ abortedIn (shapeIn s) t (view s (words (now (mem .entry))))) ⌝ }
+    requires { ⌜ Counted s (viewOf s (now mem)) × (at < mostTransactions) ⌝ }
+    ensures { λ _. ⌜ ((t : ℕ) → OpenAt (viewOf s (now (mem .entry))) t at → viewOf s (now (mem .exit)) ≡ abortedIn (shapeIn s) t (viewOf s (now (mem .entry)))) ⌝ }
 {
     let t = pending_at(mem, s, at).hand_back();
     settle(mem, s, t, ABORTED, Stamp(0));

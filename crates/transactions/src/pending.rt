@@ -7,12 +7,9 @@ use regions::read;
 use regions::write;
 use terms::Transaction;
 ghost use mathlib.Core.Path.{_≡_};
-ghost use Prim.Native.Nat.{_*_, _≤_, _<_};
-ghost use lib.ListN.{length};
+ghost use Prim.Native.Nat.{_<_};
 ghost use Rattle.terms.specs.Measures.{mostTransactions};
-ghost use Rattle.words.specs.Words.{words};
-ghost use Rattle.layout.specs.Regions.{need};
-ghost use Rattle.layout.specs.View.{view};
+ghost use Rattle.layout.specs.View.{viewOf, Suffices};
 ghost use Rattle.model.specs.Stored.{nextWord};
 ghost use Rattle.transactions.specs.Pending.{fresh, oneMore, handedBack, owner, freeRecord, pendingAt, kept};
 
@@ -78,9 +75,9 @@ pub fn free_record() -> Pending
 
 // The record at a place of Opens.
 pub fn pending_at(mem: &[u8], s: Sizes, place: usize) -> Pending
-    requires { ⌜ need s * 4 ≤ length (now mem) ⌝ }
+    requires { ⌜ Suffices s (now mem) ⌝ }
     requires { ⌜ place < mostTransactions ⌝ }
-    ensures { λ r. ⌜ r ≡ pendingAt (view s (words (now (mem .entry)))) place ⌝ }
+    ensures { λ r. ⌜ r ≡ pendingAt (viewOf s (now (mem .entry))) place ⌝ }
 {
     Pending {
         number: Transaction(read(mem, s, Region::Opens, place)),
@@ -90,9 +87,9 @@ pub fn pending_at(mem: &[u8], s: Sizes, place: usize) -> Pending
 
 // A record into a place of Opens.
 pub fn keep(mem: &mut [u8], s: Sizes, place: usize, p: Pending)
-    requires { ⌜ need s * 4 ≤ length (now mem) ⌝ }
+    requires { ⌜ Suffices s (now mem) ⌝ }
     requires { ⌜ place < mostTransactions ⌝ }
-    ensures { λ _. ⌜ view s (words (now (mem .exit))) ≡ kept place p (view s (words (now (mem .entry)))) ⌝ }
+    ensures { λ _. ⌜ viewOf s (now (mem .exit)) ≡ kept place p (viewOf s (now (mem .entry))) ⌝ }
 {
     write(mem, s, Region::Opens, place, p.number.0);
     write(mem, s, Region::Changes, place, p.changes);

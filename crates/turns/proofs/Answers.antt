@@ -8,7 +8,7 @@ use lib.ListN.{length}
 use borrow.Author.Tests.{le-leb, lt-leb}
 use Rattle.terms.specs.Measures.{Shape, mostColumns}
 use Rattle.terms.specs.declared.Answer.{Answer}
-use Rattle.terms.specs.declared.Place.{Place}
+use Rattle.terms.specs.declared.ScanEntry.{ScanEntry}
 use Rattle.terms.specs.declared.Refusal.{Refusal}
 use Rattle.lines.specs.Written.{Rendered}
 use Rattle.commands.specs.declared.Form.{Form}
@@ -30,7 +30,7 @@ pub not-lent : (x : Lent) (S : Shape) → lent S ≡ false → (Answer.Refused R
 unfolding makingAnswer madeStore
 not-lent x S e = (rw e, rw e)
 
-pub lent-made : (x : Lent) (S : Shape) (r : Answer) (m′ : List ℕ) (ps′ : List Place) → lent S ≡ true → Makes (x .memory) (x .list) S r m′ ps′
+pub lent-made : (x : Lent) (S : Shape) (r : Answer) (m′ : List ℕ) (ps′ : List ScanEntry) → lent S ≡ true → Makes (x .memory) (x .list) S r m′ ps′
     → (r ≡ makingAnswer x S) × (_≡_ {A = Lent} record { memory = m′; list = ps′ } (madeStore x S))
 unfolding makingAnswer madeStore Makes
 lent-made x S r m′ ps′ e h = (rw e (h .0), rw (e, h .1, h .2))
@@ -77,7 +77,7 @@ pub form-cut : (x : Lent) (columns : ℕ) (f : Form) (os : List ℕ) → length 
 unfolding Does answerTo stateAfter
 form-cut x columns f os h = let e = lt-leb (width columns f) (length os) h in (rw e, rw e)
 
-pub form-called : (x : Lent) (columns : ℕ) (f : Form) (os : List ℕ) (q : Request) (r : Answer) (m′ : List ℕ) (ps′ : List Place) → width columns f ≤ length os
+pub form-called : (x : Lent) (columns : ℕ) (f : Form) (os : List ℕ) (q : Request) (r : Answer) (m′ : List ℕ) (ps′ : List ScanEntry) → width columns f ≤ length os
     → (callIn q ≡ callFrom columns f os) × ZerosPast (q .count) (q .values) → Serves (x .memory) (x .list) (asked q) r m′ ps′
     → Does x columns (Chosen.Known f) os r (record { memory = m′; list = ps′ })
 unfolding Does answerTo stateAfter Serves

@@ -9,7 +9,7 @@ use Rattle.layout.specs.Sizes.{shapeOf, bytesNeeded}
 use Rattle.commands.specs.Commands.{shapeBytes}
 use Rattle.output.specs.Output.{lentColumns, lentRanges, lentRecords, lentSpares, output}
 use Rattle.output.specs.Steps.{linesFrom}
-use Rattle.requests.specs.Packed.{placeBytes}
+use Rattle.requests.specs.Packed.{entryBytes}
 use Rattle.promise.specs.Promise.{Lent, lentMachine}
 use Rattle.turns.specs.Turns.{firstAnswer, firstStore, columnsFrom, capped}
 
@@ -27,7 +27,7 @@ abbrev pub memoryBytes : ℕ
 memoryBytes = 25552
 
 abbrev pub listBytes : ℕ
-listBytes = placeBytes * mostScans
+listBytes = entryBytes * mostScans
 
 -- For every input, whatever the memory and the list held before, the bytes written are those that document 01 asks for: the lines of the plain history's
 -- answers to the commands.

@@ -10,7 +10,7 @@ use Rattle.terms.specs.Measures.{Shape, mostColumns}
 use Rattle.terms.specs.declared.Answer.{Answer}
 use Rattle.terms.specs.declared.Refusal.{Refusal}
 use Rattle.words.specs.Words.{words}
-use Rattle.requests.specs.Packed.{placesOf}
+use Rattle.requests.specs.Packed.{entriesOf}
 use Rattle.making.specs.Made.{made}
 use Rattle.lines.specs.Lines.{shapeLine}
 use Rattle.lines.specs.Written.{Rendered}
@@ -25,7 +25,7 @@ use Rattle.turns.specs.declared.Outcome.{Outcome}
 
 -- the lent memory and scan list, with the list as bytes
 abbrev pub storeIn : List ℕ → List ℕ → Lent
-storeIn m l = record { memory = m; list = placesOf (words l) }
+storeIn m l = record { memory = m; list = entriesOf (words l) }
 
 -- ---- the shape's turn, over the bytes bs
 -- a store of shape S is made where memory is lent for it

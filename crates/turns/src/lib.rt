@@ -14,7 +14,7 @@ use output::goes_on;
 use output::lends;
 use requests::call;
 use requests::make_store;
-use requests::packed::PLACE_BYTES;
+use requests::packed::ENTRY_BYTES;
 use scans::MOST_SCANS;
 use terms::Answer;
 use terms::Refusal;
@@ -25,7 +25,7 @@ ghost use lib.ListN.{length};
 ghost use Rattle.terms.specs.Measures.{mostColumns, mostScans};
 ghost use Rattle.words.specs.Words.{words};
 ghost use Rattle.layout.specs.Sizes.{bytesNeeded};
-ghost use Rattle.requests.specs.Packed.{placesOf};
+ghost use Rattle.requests.specs.Packed.{entriesOf};
 ghost use Rattle.commands.specs.Commands.{operandsBytes, Small, chosen};
 ghost use Rattle.commands.specs.Decoded.{measured};
 ghost use Rattle.output.specs.Steps.{step};
@@ -36,7 +36,7 @@ ghost use Rattle.turns.specs.Turns.{storeIn, makingAnswer, madeStore, fi
 // Memory for the largest shape that memory is lent for, and a scan list with a place for each scan that can be open.
 pub const MEMORY_BYTES: usize = 25552;
 
-pub const LIST_BYTES: usize = PLACE_BYTES * MOST_SCANS;
+pub const LIST_BYTES: usize = ENTRY_BYTES * MOST_SCANS;
 
 pub fn lent_memory() -> [u8; MEMORY_BYTES]
     ensures { λ r. ⌜ length r ≡ bytesNeeded largest ⌝ }
@@ -45,7 +45,7 @@ pub fn lent_memory() -> [u8; MEMORY_BYTES]
 }
 
 pub fn lent_list() -> [u8; LIST_BYTES]
-    ensures { λ r. ⌜ length (placesOf (words r)) ≡ mostScans ⌝ }
+    ensures { λ r. ⌜ length (entriesOf (words r)) ≡ mostScans ⌝ }
 {
     [0; LIST_BYTES]
 }

@@ -9,9 +9,9 @@ use lib.ListN.{length, getD, set}
 use lib.Seq.{set-out}
 use borrow.Author.Tests.{le-leb, lt-leb}
 use Rattle.terms.specs.Measures.{mostScans}
-use Rattle.terms.specs.declared.Place.{Place}
+use Rattle.terms.specs.declared.ScanEntry.{ScanEntry}
 use Rattle.terms.specs.declared.Answer.{Answer}
-use Rattle.terms.specs.Places.{place, freePlace, isScan}
+use Rattle.terms.specs.Places.{place, freeEntry, isScan}
 use Rattle.loops.specs.declared.Found.the-variants.{At}
 use Rattle.layout.specs.View.{View, scansGiven, mergesMade}
 use Rattle.history.specs.History.{Call, count}
@@ -20,15 +20,15 @@ use Rattle.scans.specs.Places.{openCount, opened}
 use Rattle.scans.specs.Table.{tableOf, findIn}
 use Rattle.scans.proofs.Table.{table-length}
 use Rattle.scans.proofs.Answers.{table-count}
-use Rattle.model.specs.Calls.{placesAfter}
+use Rattle.model.specs.Calls.{entriesAfter}
 use Rattle.promise.specs.Promise.{Serves, ServesBy, kept}
 use Rattle.entry.proofs.Scans.{in-table, scan-at}
-use Rattle.upkeep.specs.declared.Listed.{Listed}
+use Rattle.upkeep.specs.declared.ListChange.{ListChange}
 use Rattle.upkeep.specs.Lists.{changedAt}
 
 -- ---- the list
 -- the open places, counted
-open-count : (ps : List Place) → count (λ p. not (eqb (p .number) 0)) ps ≡ openCount ps
+open-count : (ps : List ScanEntry) → count (λ p. not (eqb (p .number) 0)) ps ≡ openCount ps
 open-count [] = refl
 open-count (p ∷ ps) = go (not (eqb (p .number) 0)) (open-count ps)
   where
@@ -37,7 +37,7 @@ open-count (p ∷ ps) = go (not (eqb (p .number) 0)) (open-count ps)
     go true ih = ap suc ih
     go false ih = ih
 
-module _ (t : Scans) (ps : List Place) (q : t ≡ tableOf ps) where
+module _ (t : Scans) (ps : List ScanEntry) (q : t ≡ tableOf ps) where
   counted : openCount ps ≤ mostScans → t .count ≡ count (λ p. not (eqb (p .number) 0)) ps
   counted few = ap (λ (x : Scans). x .count) q ∙ table-count ps few ∙ sym (open-count ps)
 
@@ -53,23 +53,23 @@ module _ (t : Scans) (ps : List Place) (q : t ≡ tableOf ps) where
 
 -- ---- what a call leaves
 -- a refused one names a place past the end, and so leaves the list
-pub unlisted-serves : (t : Scans) (m : List ℕ) (c : Call) (a : Answer) (r : Listed) → (r .answer ≡ a) × (r .place ≡ t .length) → ServesBy t m c a m kept
+pub unlisted-serves : (t : Scans) (m : List ℕ) (c : Call) (a : Answer) (r : ListChange) → (r .answer ≡ a) × (r .index ≡ t .length) → ServesBy t m c a m kept
     → ServesBy t m c (r .answer) m (changedAt r)
 unfolding ServesBy Serves
 unlisted-serves t m c a r u h = λ ps q.
     let z = h ps q in
-    let l : set ps (r .place) (r .entry) ≡ ps = set-out ps (r .place) (r .entry) (omega (arith, u .1, table-length t ps q)) in (u .0 ∙ z .0, z .1, l ∙ z .2)
+    let l : set ps (r .index) (r .entry) ≡ ps = set-out ps (r .index) (r .entry) (omega (arith, u .1, table-length t ps q)) in (u .0 ∙ z .0, z .1, l ∙ z .2)
 
-module _ (t : Scans) (ps : List Place) (q : t ≡ tableOf ps) (v : View) where
+module _ (t : Scans) (ps : List ScanEntry) (q : t ≡ tableOf ps) (v : View) where
   -- an opened scan stands in the first free place
-  pub opened-list : (stamp i : ℕ) (p : Place) → i ≡ t .free → p ≡ record { number = scansGiven v + 1; stamp = stamp; merges = mergesMade v }
-      → set ps i p ≡ placesAfter v ps (Call.openScan stamp)
-  unfolding placesAfter
+  pub opened-list : (stamp i : ℕ) (p : ScanEntry) → i ≡ t .free → p ≡ record { number = scansGiven v + 1; stamp = stamp; merges = mergesMade v }
+      → set ps i p ≡ entriesAfter v ps (Call.openScan stamp)
+  unfolding entriesAfter
   opened-list stamp i p e y = rw (e ∙ free-is t ps q, y)
 
   -- a closed one leaves its place free
-  pub closed-list : (k j : ℕ) → openCount ps ≤ mostScans → findIn t k ≡ At j → set ps (getD (t .places) j 0) freePlace ≡ placesAfter v ps (Call.close k)
-  unfolding placesAfter
+  pub closed-list : (k j : ℕ) → openCount ps ≤ mostScans → findIn t k ≡ At j → set ps (getD (t .places) j 0) freeEntry ≡ entriesAfter v ps (Call.close k)
+  unfolding entriesAfter
   closed-list k j few g =
       let i : getD (t .places) j 0 ≡ place (isScan k) ps = ap (λ (x : Scans). getD (x .places) j 0) q ∙ sym (scan-at k ps few j (in-table t ps q k (At j) g)) in
       rw i

@@ -8,7 +8,7 @@ use native.Mathlib.Nat.{min-le-left}
 use lib.Dec.{leb, ltb}
 use borrow.Author.Tests.{ltb-true, ltb-false, le-leb, lt-leb, lt-ltb, le-ltb}
 use Rattle.terms.specs.Measures.{mostScans}
-use Rattle.terms.specs.declared.Place.{Place}
+use Rattle.terms.specs.declared.ScanEntry.{ScanEntry}
 use Rattle.loops.specs.declared.Found.{Found}
 use Rattle.layout.specs.declared.Sizes.{Sizes}
 use Rattle.layout.specs.View.{View, usedIn}
@@ -62,6 +62,6 @@ module _ (v : View) (g low n used : ℕ) (e : used ≡ usedIn v g) where
   in-reach l h = rw (← e, lt-leb n low l, le-ltb used n h)
 
 -- ---- a table of a list has at most as many entries as it has room for
-pub table-few : (t : Scans) (ps : List Place) → t ≡ tableOf ps → t .count ≤ mostScans
+pub table-few : (t : Scans) (ps : List ScanEntry) → t ≡ tableOf ps → t .count ≤ mostScans
 unfolding tableOf
 table-few t ps e = rw e (min-le-left mostScans (openCount ps))

@@ -5,18 +5,18 @@ use mathlib.Core.List.{List, [], _∷_}
 use lib.Dec.{leb, ltb}
 use lib.ListN.{set}
 use Rattle.terms.specs.Measures.{Shape}
-use Rattle.terms.specs.declared.Place.{Place}
+use Rattle.terms.specs.declared.ScanEntry.{ScanEntry}
 use Rattle.terms.specs.declared.Refusal.{Refusal}
 use Rattle.layout.specs.View.{View, usedIn}
 use Rattle.history.specs.History.{Test, _when_}
 use Rattle.model.specs.Stored.{pagesOf}
 use Rattle.model.specs.Writing.{freeIn}
 use Rattle.model.specs.Calls.{openAmongIn}
-use Rattle.upkeep.specs.declared.Listed.{Listed}
+use Rattle.upkeep.specs.declared.ListChange.{ListChange}
 
 -- a list with the one place changed that a call names; where that is past the end, none is
-abbrev pub changedAt : Listed → List Place → List Place
-changedAt r ps = set ps (r .place) (r .entry)
+abbrev pub changedAt : ListChange → List ScanEntry → List ScanEntry
+changedAt r ps = set ps (r .index) (r .entry)
 
 -- the last tests of a merge of range g through record n, into a column whose current page has the lineage `low`
 abbrev pub reachTests : Shape → View → ℕ → ℕ → ℕ → List Test

@@ -19,32 +19,25 @@ use regions::write;
 use scans::Scans;
 use scans::find_scan;
 use terms::Answer;
-use terms::Place;
 use terms::Refusal;
+use terms::ScanEntry;
 use terms::Stamp;
 use terms::Tail;
 use terms::limits::MOST_NUMBERS;
 use terms::limits::MOST_SCANS;
 ghost use mathlib.Core.Path.{_≡_};
 ghost use mathlib.Core.List.{List};
-ghost use Prim.Native.Nat.{ℕ, _<_};
+ghost use Prim.Native.Nat.{ℕ, _<_, _*_, _+_};
 ghost use Rattle.terms.specs.Measures.{mostNumbers, mostScans};
 ghost use Rattle.terms.specs.declared.Answer.{Answer};
-ghost use Rattle.words.specs.Words.{words};
 ghost use Rattle.loops.specs.declared.Found.{Found};
 ghost use Rattle.layout.specs.declared.Sizes.{Sizes};
-ghost use Rattle.layout.specs.View.{view, scansGiven};
+ghost use Rattle.layout.specs.View.{scansGiven, viewOf, Suffices, put};
 ghost use Rattle.scans.specs.Table.{findIn};
-ghost use mathlib.Core.List.{List};
-ghost use Prim.Native.Nat.{_*_, _≤_, _<_, _+_};
 ghost use lib.ListN.{length};
 ghost use Rattle.layout.specs.declared.Region.{Region};
-ghost use Rattle.terms.specs.Measures.{mostScans, mostNumbers};
-ghost use Rattle.terms.specs.declared.Place.{Place};
-ghost use Rattle.terms.specs.declared.Answer.{Answer};
-ghost use Rattle.words.specs.Words.{words};
-ghost use Rattle.layout.specs.Regions.{need, scansAt};
-ghost use Rattle.layout.specs.View.{view, put, scansGiven};
+ghost use Rattle.terms.specs.declared.ScanEntry.{ScanEntry};
+ghost use Rattle.layout.specs.Regions.{scansAt};
 ghost use Rattle.history.specs.History.{Call, verdict};
 ghost use Rattle.model.specs.Stored.{pageIn, currentIn};
 ghost use Rattle.model.specs.Asked.{shapeIn};
@@ -55,10 +48,10 @@ ghost use Rattle.entry.specs.Tested.{Says, Finds, Tests, TestsBy};
 ghost use Rattle.upkeep.specs.Lists.{changedAt, reachTests};
 
 // What a call on the scan list leaves: its answer, and the place of the list that becomes `entry`. A place past the list's end changes nothing.
-pub struct Listed {
+pub struct ListChange {
     pub answer: Answer,
-    pub place: usize,
-    pub entry: Place,
+    pub index: usize,
+    pub entry: ScanEntry,
 }
 
 // ---- merge
@@ -67,7 +60,7 @@ pub struct Listed {
 fn current_lineage(mem: &[u8], s: Sizes, g: usize, c: usize) -> Tail
     requires { ⌜ Fitted s (now mem) ⌝ }
     requires { ⌜ (g < s .ranges) × (c < s .columns) ⌝ }
-    ensures { λ r. ⌜ r .0 ≡ (pageIn (view s (words (now (mem .entry)))) (currentIn (shapeIn s) (view s (words (now (mem .entry)))) g c)) .lineage ⌝ }
+    ensures { λ r. ⌜ r .0 ≡ (pageIn (viewOf s (now (mem .entry))) (currentIn (shapeIn s) (viewOf s (now (mem .entry))) g c)) .lineage ⌝ }
 {
     let page = read(mem, s, Region::Current, g * s.columns + c) as usize;
     Tail(read(mem, s, Region::PageLineage, page))
@@ -78,9 +71,9 @@ fn current_lineage(mem: &[u8], s: Sizes, g: usize, c: usize) -> Tail
 fn reach_tests(mem: &[u8], s: Sizes, g: usize, c: usize, low: Tail, through: Tail) -> Tested
     requires { ⌜ Fitted s (now mem) ⌝ }
     requires { ⌜ (g < s .ranges) × (c < s .columns) ⌝ }
-    requires { ⌜ low .0 ≡ (pageIn (view s (words (now mem))) (currentIn (shapeIn s) (view s (words (now mem))) g c)) .lineage ⌝ }
-    ensures { λ r. ⌜ Says r (verdict (reachTests (shapeIn s) (view s (words (now (mem .entry)))) g (low .0) (through .0))) ⌝ }
-    ensures { λ r. ⌜ Finds r (Mergeable s (view s (words (now (mem .entry)))) g c (through .0)) ⌝ }
+    requires { ⌜ low .0 ≡ (pageIn (viewOf s (now mem)) (currentIn (shapeIn s) (viewOf s (now mem)) g c)) .lineage ⌝ }
+    ensures { λ r. ⌜ Says r (verdict (reachTests (shapeIn s) (viewOf s (now (mem .entry))) g (low .0) (through .0))) ⌝ }
+    ensures { λ r. ⌜ Finds r (Mergeable s (viewOf s (now (mem .entry))) g c (through .0)) ⌝ }
 {
     if through.0 <= low.0 {
         return Tested::Failed(Refusal::Reach);
@@ -101,7 +94,7 @@ fn reach_tests(mem: &[u8], s: Sizes, g: usize, c: usize, low: Tail, through: Tai
 fn merge_tests(mem: &[u8], s: Sizes, range: u32, column: u32, through: Tail) -> Tested
     requires { ⌜ Fitted s (now mem) ⌝ }
     ensures { λ r. ⌜ Tests s (now (mem .entry)) (Call.merge range column (through .0)) r ⌝ }
-    ensures { λ r. ⌜ Finds r (Mergeable s (view s (words (now (mem .entry)))) range column (through .0)) ⌝ }
+    ensures { λ r. ⌜ Finds r (Mergeable s (viewOf s (now (mem .entry))) range column (through .0)) ⌝ }
 {
     if no_range(s, range) {
         return Tested::Failed(Refusal::Range);
@@ -125,7 +118,14 @@ pub fn merge(mem: &mut [u8], scans: Scans, range: u32, column: u32, through: Tai
     match merge_tests(mem, s, range, column, through) {
         Tested::Failed(x) => Answer::Refused(x),
         Tested::Passed(page) => {
-            merging::merge(&mut mem[..n], s, range as usize, column as usize, through, page);
+            merging::merge(
+                &mut mem[..n],
+                s,
+                range as usize,
+                column as usize,
+                through,
+                page,
+            );
             Answer::Done
         }
     }
@@ -149,13 +149,13 @@ pub fn release(mem: &mut [u8], scans: Scans) -> Answer
 // ---- open and close
 
 // A call that was refused changes no place of the list.
-fn unlisted(scans: Scans, why: Refusal) -> Listed
-    ensures { λ r. ⌜ (r .answer ≡ Answer.Refused why) × (r .place ≡ scans .length) ⌝ }
+fn unlisted(scans: Scans, why: Refusal) -> ListChange
+    ensures { λ r. ⌜ (r .answer ≡ Answer.Refused why) × (r .index ≡ scans .length) ⌝ }
 {
-    Listed {
+    ListChange {
         answer: Answer::Refused(why),
-        place: scans.length,
-        entry: Place {
+        index: scans.length,
+        entry: ScanEntry {
             number: 0,
             stamp: 0,
             merges: 0,
@@ -167,7 +167,7 @@ fn unlisted(scans: Scans, why: Refusal) -> Listed
 fn open_tests(mem: &[u8], s: Sizes, scans: Scans, stamp: Stamp) -> Tested
     requires { ⌜ Fitted s (now mem) ⌝ }
     ensures { λ r. ⌜ TestsBy scans s (now (mem .entry)) (Call.openScan (stamp .0)) r ⌝ }
-    ensures { λ r. ⌜ Finds r (λ j. (j ≡ scans .free) × (scansGiven (view s (words (now (mem .entry)))) < mostNumbers)) ⌝ }
+    ensures { λ r. ⌜ Finds r (λ j. (j ≡ scans .free) × (scansGiven (viewOf s (now (mem .entry))) < mostNumbers)) ⌝ }
 {
     if later(mem, s, stamp) {
         return Tested::Failed(Refusal::Time);
@@ -183,9 +183,9 @@ fn open_tests(mem: &[u8], s: Sizes, scans: Scans, stamp: Stamp) -> Tested
 
 // A scan gets the next number; its place in the scan list is not written here.
 fn give_scan(mem: &mut [u8], s: Sizes) -> u32
-    requires { ⌜ need s * 4 ≤ length (now mem) ⌝ }
-    requires { ⌜ scansGiven (view s (words (now mem))) < mostNumbers ⌝ }
-    ensures { λ r. ⌜ (r ≡ scansGiven (view s (words (now (mem .entry)))) + 1) × (view s (words (now (mem .exit))) ≡ put Region.Header scansAt (scansGiven (view s (words (now (mem .entry)))) + 1) (view s (words (now (mem .entry))))) ⌝ }
+    requires { ⌜ Suffices s (now mem) ⌝ }
+    requires { ⌜ scansGiven (viewOf s (now mem)) < mostNumbers ⌝ }
+    ensures { λ r. ⌜ (r ≡ scansGiven (viewOf s (now (mem .entry))) + 1) × (viewOf s (now (mem .exit)) ≡ put Region.Header scansAt (scansGiven (viewOf s (now (mem .entry))) + 1) (viewOf s (now (mem .entry)))) ⌝ }
 {
     let n = read(mem, s, Region::Header, HEADER_SCANS) + 1;
     write(mem, s, Region::Header, HEADER_SCANS, n);
@@ -193,7 +193,7 @@ fn give_scan(mem: &mut [u8], s: Sizes) -> u32
 }
 
 // A scan is opened at a stamp; the answer is its number.
-pub fn open_scan(mem: &mut [u8], scans: Scans, stamp: Stamp) -> Listed
+pub fn open_scan(mem: &mut [u8], scans: Scans, stamp: Stamp) -> ListChange
     ensures { λ r. ⌜ ServesBy scans (now (mem .entry)) (Call.openScan (stamp .0)) (r .answer) (now (mem .exit)) (changedAt r) ⌝ }
 {
     let Entry::Fit(s, n) = enter(mem, scans) else {
@@ -201,13 +201,13 @@ pub fn open_scan(mem: &mut [u8], scans: Scans, stamp: Stamp) -> Listed
     };
     match open_tests(mem, s, scans, stamp) {
         Tested::Failed(x) => unlisted(scans, x),
-        Tested::Passed(place) => {
+        Tested::Passed(index) => {
             let merges = read(mem, s, Region::Header, HEADER_MERGES);
             let number = give_scan(&mut mem[..n], s);
-            Listed {
+            ListChange {
                 answer: Answer::Number(number),
-                place: place,
-                entry: Place {
+                index: index,
+                entry: ScanEntry {
                     number: number,
                     stamp: stamp.0,
                     merges: merges,
@@ -229,7 +229,7 @@ fn close_tests(scans: Scans, scan: u32) -> Tested
 }
 
 // A scan is closed: its place is free again.
-pub fn close_scan(mem: &[u8], scans: Scans, scan: u32) -> Listed
+pub fn close_scan(mem: &[u8], scans: Scans, scan: u32) -> ListChange
     ensures { λ r. ⌜ ServesBy scans (now (mem .entry)) (Call.close scan) (r .answer) (now (mem .entry)) (changedAt r) ⌝ }
 {
     let Entry::Fit(_, _) = enter(mem, scans) else {
@@ -239,10 +239,10 @@ pub fn close_scan(mem: &[u8], scans: Scans, scan: u32) -> Listed
         Tested::Failed(x) => unlisted(scans, x),
         Tested::Passed(i) => {
             let places = scans.places;
-            Listed {
+            ListChange {
                 answer: Answer::Done,
-                place: places[i],
-                entry: Place {
+                index: places[i],
+                entry: ScanEntry {
                     number: 0,
                     stamp: 0,
                     merges: 0,

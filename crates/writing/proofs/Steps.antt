@@ -22,8 +22,8 @@ use Rattle.layout.specs.declared.Region.{Region}
 use Rattle.words.specs.Words.{words}
 use Rattle.loops.specs.Change.{changed}
 use Rattle.words.proofs.Words.{length-words}
-use Rattle.layout.specs.Regions.{need, rowsAt, slot}
-use Rattle.layout.specs.View.{View, view, renew, put, rowsGiven, usedIn}
+use Rattle.layout.specs.Regions.{rowsAt, slot}
+use Rattle.layout.specs.View.{View, renew, put, rowsGiven, usedIn, viewOf, Suffices}
 use Rattle.layout.proofs.View.{view-long}
 use Rattle.model.specs.Stored.{openPlace, rowIn, cellIn, currentIn}
 use Rattle.layout.specs.Codes.{asOriginal, asDelete}
@@ -72,7 +72,7 @@ unfolding appended put renew
 appended-used S t r kind mask v h = getD-set-same (v Region.Used) (rangeOf r) _ 0 h
 
 -- the count of records of each range is there
-pub used-long : (s : Sizes) (m : List ℕ) → need s * 4 ≤ length m → length (view s (words m) Region.Used) ≡ s .ranges
+pub used-long : (s : Sizes) (m : List ℕ) → Suffices s m → length (viewOf s m Region.Used) ≡ s .ranges
 used-long s m h = view-long s (words m) (omega (arith, length-words m)) Region.Used
 
 -- the words that are put, one after the other

@@ -18,13 +18,12 @@ use transactions::note;
 use words::to_word;
 ghost use mathlib.Core.Path.{_≡_};
 ghost use Prim.Native.Nat.{_+_, _*_, _≤_, _<_};
-ghost use lib.ListN.{length, getD};
+ghost use lib.ListN.{getD};
 ghost use Rattle.terms.specs.Measures.{rangeRows};
-ghost use Rattle.words.specs.Words.{words};
 ghost use Rattle.history.specs.History.{rangeOf};
-ghost use Rattle.layout.specs.Regions.{need, slot};
+ghost use Rattle.layout.specs.Regions.{slot};
 ghost use Rattle.layout.specs.declared.Region.{Region};
-ghost use Rattle.layout.specs.View.{view, put, rowsGiven, usedIn};
+ghost use Rattle.layout.specs.View.{put, rowsGiven, usedIn, viewOf, Suffices};
 ghost use Rattle.model.specs.Writing.{insertedIn, appended, newBits, recordsWanted, settingAppended, updatedIn, deletedIn};
 ghost use Rattle.layout.specs.Sizes.{Proper};
 ghost use Rattle.model.specs.Asked.{shapeIn, Pooled, OpenAt};
@@ -34,9 +33,9 @@ ghost use Rattle.writing.specs.Steps.{rowPut, cellsPut, recordPut, cellW
 
 // The words of a row that transaction t inserts.
 fn put_row(mem: &mut [u8], s: Sizes, t: Transaction, row: Row)
-    requires { ⌜ need s * 4 ≤ length (now mem) ⌝ }
+    requires { ⌜ Suffices s (now mem) ⌝ }
     requires { ⌜ row .0 < s .rows ⌝ }
-    ensures { λ _. ⌜ view s (words (now (mem .exit))) ≡ rowPut (t .0) (row .0) (view s (words (now (mem .entry)))) ⌝ }
+    ensures { λ _. ⌜ viewOf s (now (mem .exit)) ≡ rowPut (t .0) (row .0) (viewOf s (now (mem .entry))) ⌝ }
 {
     let i = row.0 as usize;
     write(mem, s, Region::RowTransaction, i, t.0);
@@ -48,9 +47,9 @@ fn put_row(mem: &mut [u8], s: Sizes, t: Transaction, row: Row)
 
 // The value of a column into a place of a range's current page.
 fn put_cell(mem: &mut [u8], s: Sizes, place: usize, i: usize, w: u32)
-    requires { ⌜ need s * 4 ≤ length (now mem) ⌝ }
-    requires { ⌜ (place < s .places) × (i < rangeRows) × (getD (view s (words (now mem)) Region.Current) place 0 < s .pages) ⌝ }
-    ensures { λ _. ⌜ view s (words (now (mem .exit))) ≡ put Region.Cells (getD (view s (words (now (mem .entry))) Region.Current) place 0 * rangeRows + i) w (view s (words (now (mem .entry)))) ⌝ }
+    requires { ⌜ Suffices s (now mem) ⌝ }
+    requires { ⌜ (place < s .places) × (i < rangeRows) × (getD (viewOf s (now mem) Region.Current) place 0 < s .pages) ⌝ }
+    ensures { λ _. ⌜ viewOf s (now (mem .exit)) ≡ put Region.Cells (getD (viewOf s (now (mem .entry)) Region.Current) place 0 * rangeRows + i) w (viewOf s (now (mem .entry))) ⌝ }
 {
     let page = read(mem, s, Region::Current, place) as usize;
     write(mem, s, Region::Cells, page * RANGE_ROWS + i, w);
@@ -58,10 +57,10 @@ fn put_cell(mem: &mut [u8], s: Sizes, place: usize, i: usize, w: u32)
 
 // The values of a row into place i of the current pages of range g.
 fn put_cells(mem: &mut [u8], s: Sizes, g: usize, i: usize, vs: [i32; MOST_COLUMNS])
-    requires { ⌜ need s * 4 ≤ length (now mem) ⌝ }
-    requires { ⌜ Proper s × Pooled s (view s (words (now mem))) ⌝ }
+    requires { ⌜ Suffices s (now mem) ⌝ }
+    requires { ⌜ Proper s × Pooled s (viewOf s (now mem)) ⌝ }
     requires { ⌜ (g < s .ranges) × (i < rangeRows) ⌝ }
-    ensures { λ _. ⌜ view s (words (now (mem .exit))) ≡ cellsPut (shapeIn s) g i vs (view s (words (now (mem .entry)))) ⌝ }
+    ensures { λ _. ⌜ viewOf s (now (mem .exit)) ≡ cellsPut (shapeIn s) g i vs (viewOf s (now (mem .entry))) ⌝ }
 {
     let columns = s.columns;
     let first = g * columns;
@@ -74,10 +73,10 @@ fn put_cells(mem: &mut [u8], s: Sizes, g: usize, i: usize, vs: [i32; MOST_COLUMN
 
 // A new row of open transaction t, whose place is `at`: the next number, and a value for each column.
 pub fn insert(mem: &mut [u8], s: Sizes, at: usize, t: Transaction, vs: [i32; MOST_COLUMNS]) -> Row
-    requires { ⌜ need s * 4 ≤ length (now mem) ⌝ }
-    requires { ⌜ Proper s × Pooled s (view s (words (now mem))) ⌝ }
-    requires { ⌜ OpenAt (view s (words (now mem))) (t .0) at × (rowsGiven (view s (words (now mem))) < s .rows) ⌝ }
-    ensures { λ r. ⌜ (r .0 ≡ rowsGiven (view s (words (now (mem .entry))))) × (view s (words (now (mem .exit))) ≡ insertedIn (shapeIn s) (t .0) vs (view s (words (now (mem .entry))))) ⌝ }
+    requires { ⌜ Suffices s (now mem) ⌝ }
+    requires { ⌜ Proper s × Pooled s (viewOf s (now mem)) ⌝ }
+    requires { ⌜ OpenAt (viewOf s (now mem)) (t .0) at × (rowsGiven (viewOf s (now mem)) < s .rows) ⌝ }
+    ensures { λ r. ⌜ (r .0 ≡ rowsGiven (viewOf s (now (mem .entry)))) × (viewOf s (now (mem .exit)) ≡ insertedIn (shapeIn s) (t .0) vs (viewOf s (now (mem .entry)))) ⌝ }
 {
     let row = Row(read(mem, s, Region::Header, HEADER_ROWS));
     put_row(mem, s, t, row);
@@ -101,9 +100,9 @@ fn put_record(
     mask: u32,
     link: Tail,
 )
-    requires { ⌜ need s * 4 ≤ length (now mem) ⌝ }
+    requires { ⌜ Suffices s (now mem) ⌝ }
     requires { ⌜ slot < s .slots ⌝ }
-    ensures { λ _. ⌜ view s (words (now (mem .exit))) ≡ recordPut slot (t .0) (row .0) kind mask (link .0) (view s (words (now (mem .entry)))) ⌝ }
+    ensures { λ _. ⌜ viewOf s (now (mem .exit)) ≡ recordPut slot (t .0) (row .0) kind mask (link .0) (viewOf s (now (mem .entry))) ⌝ }
 {
     write(mem, s, Region::TailTransaction, slot, t.0);
     write(mem, s, Region::TailRow, slot, row.0);
@@ -116,10 +115,10 @@ fn put_record(
 
 // One tail record more for a row, of open transaction t: it links to the row's newest one and is the row's newest now.
 fn append(mem: &mut [u8], s: Sizes, t: Transaction, row: Row, kind: u32, mask: u32)
-    requires { ⌜ need s * 4 ≤ length (now mem) ⌝ }
+    requires { ⌜ Suffices s (now mem) ⌝ }
     requires { ⌜ Proper s ⌝ }
-    requires { ⌜ Room s (view s (words (now mem))) (row .0) 1 ⌝ }
-    ensures { λ _. ⌜ view s (words (now (mem .exit))) ≡ appended (shapeIn s) (t .0) (row .0) kind mask (view s (words (now (mem .entry)))) ⌝ }
+    requires { ⌜ Room s (viewOf s (now mem)) (row .0) 1 ⌝ }
+    ensures { λ _. ⌜ viewOf s (now (mem .exit)) ≡ appended (shapeIn s) (t .0) (row .0) kind mask (viewOf s (now (mem .entry))) ⌝ }
 {
     let r = row.0 as usize;
     let g = r / RANGE_ROWS;
@@ -133,10 +132,10 @@ fn append(mem: &mut [u8], s: Sizes, t: Transaction, row: Row, kind: u32, mask: u
 
 // Where the values of the newest record of range g start.
 fn newest_values(mem: &[u8], s: Sizes, g: usize) -> usize
-    requires { ⌜ need s * 4 ≤ length (now mem) ⌝ }
+    requires { ⌜ Suffices s (now mem) ⌝ }
     requires { ⌜ Proper s ⌝ }
-    requires { ⌜ Newest s (view s (words (now mem))) g ⌝ }
-    ensures { λ r. ⌜ (r ≡ slot (shapeIn s) g (usedIn (view s (words (now (mem .entry)))) g) * s .columns) × (r + s .columns ≤ s .values) ⌝ }
+    requires { ⌜ Newest s (viewOf s (now mem)) g ⌝ }
+    ensures { λ r. ⌜ (r ≡ slot (shapeIn s) g (usedIn (viewOf s (now (mem .entry))) g) * s .columns) × (r + s .columns ≤ s .values) ⌝ }
 {
     let used = read(mem, s, Region::Used, g) as usize;
     (g * s.capacity + (used - 1)) * s.columns
@@ -144,9 +143,9 @@ fn newest_values(mem: &[u8], s: Sizes, g: usize) -> usize
 
 // The word of a column in place i of a range's current page.
 fn cell_word(mem: &[u8], s: Sizes, place: usize, i: usize) -> u32
-    requires { ⌜ need s * 4 ≤ length (now mem) ⌝ }
-    requires { ⌜ (place < s .places) × (i < rangeRows) × (getD (view s (words (now mem)) Region.Current) place 0 < s .pages) ⌝ }
-    ensures { λ r. ⌜ r ≡ getD (view s (words (now (mem .entry))) Region.Cells) (getD (view s (words (now (mem .entry))) Region.Current) place 0 * rangeRows + i) 0 ⌝ }
+    requires { ⌜ Suffices s (now mem) ⌝ }
+    requires { ⌜ (place < s .places) × (i < rangeRows) × (getD (viewOf s (now mem) Region.Current) place 0 < s .pages) ⌝ }
+    ensures { λ r. ⌜ r ≡ getD (viewOf s (now (mem .entry)) Region.Cells) (getD (viewOf s (now (mem .entry)) Region.Current) place 0 * rangeRows + i) 0 ⌝ }
 {
     let page = read(mem, s, Region::Current, place) as usize;
     read(mem, s, Region::Cells, page * RANGE_ROWS + i)
@@ -154,10 +153,10 @@ fn cell_word(mem: &[u8], s: Sizes, place: usize, i: usize) -> u32
 
 // The newest record of range g holds the words of place i of the range's current pages.
 fn fill_cells(mem: &mut [u8], s: Sizes, g: usize, i: usize)
-    requires { ⌜ need s * 4 ≤ length (now mem) ⌝ }
-    requires { ⌜ Proper s × Pooled s (view s (words (now mem))) ⌝ }
-    requires { ⌜ Newest s (view s (words (now mem))) g × (i < rangeRows) ⌝ }
-    ensures { λ _. ⌜ view s (words (now (mem .exit))) ≡ newestFilled (shapeIn s) g (cellWords (shapeIn s) (view s (words (now (mem .entry)))) g i) (view s (words (now (mem .entry)))) ⌝ }
+    requires { ⌜ Suffices s (now mem) ⌝ }
+    requires { ⌜ Proper s × Pooled s (viewOf s (now mem)) ⌝ }
+    requires { ⌜ Newest s (viewOf s (now mem)) g × (i < rangeRows) ⌝ }
+    ensures { λ _. ⌜ viewOf s (now (mem .exit)) ≡ newestFilled (shapeIn s) g (cellWords (shapeIn s) (viewOf s (now (mem .entry))) g i) (viewOf s (now (mem .entry))) ⌝ }
 {
     let columns = s.columns;
     let to = newest_values(mem, s, g);
@@ -172,10 +171,10 @@ fn fill_cells(mem: &mut [u8], s: Sizes, g: usize, i: usize)
 
 // The newest record of range g holds a call's values.
 fn fill_values(mem: &mut [u8], s: Sizes, g: usize, vs: [i32; MOST_COLUMNS])
-    requires { ⌜ need s * 4 ≤ length (now mem) ⌝ }
+    requires { ⌜ Suffices s (now mem) ⌝ }
     requires { ⌜ Proper s ⌝ }
-    requires { ⌜ Newest s (view s (words (now mem))) g ⌝ }
-    ensures { λ _. ⌜ view s (words (now (mem .exit))) ≡ newestFilled (shapeIn s) g (valueWords vs) (view s (words (now (mem .entry)))) ⌝ }
+    requires { ⌜ Newest s (viewOf s (now mem)) g ⌝ }
+    ensures { λ _. ⌜ viewOf s (now (mem .exit)) ≡ newestFilled (shapeIn s) g (valueWords vs) (viewOf s (now (mem .entry))) ⌝ }
 {
     let columns = s.columns;
     let to = newest_values(mem, s, g);
@@ -188,10 +187,10 @@ fn fill_values(mem: &mut [u8], s: Sizes, g: usize, vs: [i32; MOST_COLUMNS])
 
 // The record of a row's original values, for the columns of the mask `fresh`.
 fn append_original(mem: &mut [u8], s: Sizes, t: Transaction, row: Row, fresh: u32)
-    requires { ⌜ need s * 4 ≤ length (now mem) ⌝ }
-    requires { ⌜ Proper s × Pooled s (view s (words (now mem))) ⌝ }
-    requires { ⌜ Room s (view s (words (now mem))) (row .0) 1 ⌝ }
-    ensures { λ _. ⌜ view s (words (now (mem .exit))) ≡ originalPut (shapeIn s) (t .0) (row .0) fresh (view s (words (now (mem .entry)))) ⌝ }
+    requires { ⌜ Suffices s (now mem) ⌝ }
+    requires { ⌜ Proper s × Pooled s (viewOf s (now mem)) ⌝ }
+    requires { ⌜ Room s (viewOf s (now mem)) (row .0) 1 ⌝ }
+    ensures { λ _. ⌜ viewOf s (now (mem .exit)) ≡ originalPut (shapeIn s) (t .0) (row .0) fresh (viewOf s (now (mem .entry))) ⌝ }
 {
     append(mem, s, t, row, ORIGINAL, fresh);
     let r = row.0 as usize;
@@ -207,10 +206,10 @@ fn append_setting(
     mask: u32,
     vs: [i32; MOST_COLUMNS],
 )
-    requires { ⌜ need s * 4 ≤ length (now mem) ⌝ }
+    requires { ⌜ Suffices s (now mem) ⌝ }
     requires { ⌜ Proper s ⌝ }
-    requires { ⌜ Room s (view s (words (now mem))) (row .0) 1 ⌝ }
-    ensures { λ _. ⌜ view s (words (now (mem .exit))) ≡ settingAppended (shapeIn s) (t .0) (row .0) mask vs (view s (words (now (mem .entry)))) ⌝ }
+    requires { ⌜ Room s (viewOf s (now mem)) (row .0) 1 ⌝ }
+    ensures { λ _. ⌜ viewOf s (now (mem .exit)) ≡ settingAppended (shapeIn s) (t .0) (row .0) mask vs (viewOf s (now (mem .entry))) ⌝ }
 {
     append(mem, s, t, row, SETTING, mask);
     fill_values(mem, s, row.0 as usize / RANGE_ROWS, vs);
@@ -225,9 +224,9 @@ pub fn new_bits(mask: u32, old: u32) -> u32
 
 // The tail records that an update of a row takes.
 pub fn records_wanted(mem: &[u8], s: Sizes, row: Row, mask: u32) -> u32
-    requires { ⌜ need s * 4 ≤ length (now mem) ⌝ }
+    requires { ⌜ Suffices s (now mem) ⌝ }
     requires { ⌜ row .0 < s .rows ⌝ }
-    ensures { λ r. ⌜ r ≡ recordsWanted (view s (words (now (mem .entry)))) (row .0) mask ⌝ }
+    ensures { λ r. ⌜ r ≡ recordsWanted (viewOf s (now (mem .entry))) (row .0) mask ⌝ }
 {
     let old = read(mem, s, Region::RowMask, row.0 as usize);
     if new_bits(mask, old) == 0 { 1 } else { 2 }
@@ -242,10 +241,10 @@ fn append_records(
     mask: u32,
     vs: [i32; MOST_COLUMNS],
 )
-    requires { ⌜ need s * 4 ≤ length (now mem) ⌝ }
-    requires { ⌜ Proper s × Pooled s (view s (words (now mem))) ⌝ }
-    requires { ⌜ Room s (view s (words (now mem))) (row .0) (recordsWanted (view s (words (now mem))) (row .0) mask) ⌝ }
-    ensures { λ _. ⌜ view s (words (now (mem .exit))) ≡ recordsPut (shapeIn s) (t .0) (row .0) mask vs (view s (words (now (mem .entry)))) ⌝ }
+    requires { ⌜ Suffices s (now mem) ⌝ }
+    requires { ⌜ Proper s × Pooled s (viewOf s (now mem)) ⌝ }
+    requires { ⌜ Room s (viewOf s (now mem)) (row .0) (recordsWanted (viewOf s (now mem)) (row .0) mask) ⌝ }
+    ensures { λ _. ⌜ viewOf s (now (mem .exit)) ≡ recordsPut (shapeIn s) (t .0) (row .0) mask vs (viewOf s (now (mem .entry))) ⌝ }
 {
     let fresh = new_bits(mask, read(mem, s, Region::RowMask, row.0 as usize));
     if fresh != 0 {
@@ -266,10 +265,10 @@ pub fn update(
     mask: u32,
     vs: [i32; MOST_COLUMNS],
 ) -> Tail
-    requires { ⌜ need s * 4 ≤ length (now mem) ⌝ }
-    requires { ⌜ Proper s × Pooled s (view s (words (now mem))) ⌝ }
-    requires { ⌜ OpenAt (view s (words (now mem))) (t .0) at × Room s (view s (words (now mem))) (row .0) (recordsWanted (view s (words (now mem))) (row .0) mask) ⌝ }
-    ensures { λ r. ⌜ (r .0 ≡ usedIn (view s (words (now (mem .entry)))) (rangeOf (row .0)) + recordsWanted (view s (words (now (mem .entry)))) (row .0) mask) × (view s (words (now (mem .exit))) ≡ updatedIn (shapeIn s) (t .0) (row .0) mask vs (view s (words (now (mem .entry))))) ⌝ }
+    requires { ⌜ Suffices s (now mem) ⌝ }
+    requires { ⌜ Proper s × Pooled s (viewOf s (now mem)) ⌝ }
+    requires { ⌜ OpenAt (viewOf s (now mem)) (t .0) at × Room s (viewOf s (now mem)) (row .0) (recordsWanted (viewOf s (now mem)) (row .0) mask) ⌝ }
+    ensures { λ r. ⌜ (r .0 ≡ usedIn (viewOf s (now (mem .entry))) (rangeOf (row .0)) + recordsWanted (viewOf s (now (mem .entry))) (row .0) mask) × (viewOf s (now (mem .exit)) ≡ updatedIn (shapeIn s) (t .0) (row .0) mask vs (viewOf s (now (mem .entry)))) ⌝ }
 {
     let r = row.0 as usize;
     let used = read(mem, s, Region::Used, r / RANGE_ROWS);
@@ -283,10 +282,10 @@ pub fn update(
 
 // Open transaction t, whose place is `at`, deletes a row.
 pub fn delete(mem: &mut [u8], s: Sizes, at: usize, t: Transaction, row: Row) -> Tail
-    requires { ⌜ need s * 4 ≤ length (now mem) ⌝ }
+    requires { ⌜ Suffices s (now mem) ⌝ }
     requires { ⌜ Proper s ⌝ }
-    requires { ⌜ OpenAt (view s (words (now mem))) (t .0) at × Room s (view s (words (now mem))) (row .0) 1 ⌝ }
-    ensures { λ r. ⌜ (r .0 ≡ usedIn (view s (words (now (mem .entry)))) (rangeOf (row .0)) + 1) × (view s (words (now (mem .exit))) ≡ deletedIn (shapeIn s) (t .0) (row .0) (view s (words (now (mem .entry))))) ⌝ }
+    requires { ⌜ OpenAt (viewOf s (now mem)) (t .0) at × Room s (viewOf s (now mem)) (row .0) 1 ⌝ }
+    ensures { λ r. ⌜ (r .0 ≡ usedIn (viewOf s (now (mem .entry))) (rangeOf (row .0)) + 1) × (viewOf s (now (mem .exit)) ≡ deletedIn (shapeIn s) (t .0) (row .0) (viewOf s (now (mem .entry)))) ⌝ }
 {
     let used = read(mem, s, Region::Used, row.0 as usize / RANGE_ROWS);
     append(mem, s, t, row, DELETE, 0);

@@ -27,7 +27,7 @@ unfolding code.routine tablesOf
 close-scan-spec {M} 𝓤 H 𝓜 𝓖 𝓡 =
     let w : World = record { M = M; 𝓤 = 𝓤; H = H; 𝓜 = 𝓜; 𝓖 = 𝓖; 𝓡 = 𝓡 } in
     law.meets 0 table.name core.name keep.name type.table type.listed type.answer (value type.u32 ∷ [])
-    (λ l t. t ≡ tableOf l) (λ m t (x, _) c. ServesBy t m (Call.close x) (c .answer) m (changedAt c)) (λ l c z l′. (z ≡ c .answer) × (l′ ≡ set l (c .place) (c .entry)))
+    (λ l t. t ≡ tableOf l) (λ m t (x, _) c. ServesBy t m (Call.close x) (c .answer) m (changedAt c)) (λ l c z l′. (z ≡ c .answer) × (l′ ≡ set l (c .index) (c .entry)))
     (λ m l (x, _) z l′. Serves m l (Call.close x) z m l′)
     (λ m l (x, _) t c z l′ b e h k. listed (Call.close x) m t c z m l l′ e h (k .1) (k .0))
     w code.env key.name (code.unfolded 𝓤 H 𝓜 𝓡)

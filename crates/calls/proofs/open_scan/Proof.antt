@@ -27,7 +27,7 @@ unfolding code.routine tablesOf
 open-scan-spec {M} 𝓤 H 𝓜 𝓖 𝓡 =
     let w : World = record { M = M; 𝓤 = 𝓤; H = H; 𝓜 = 𝓜; 𝓖 = 𝓖; 𝓡 = 𝓡 } in
     law.meets 0 table.name core.name keep.name type.table type.listed type.answer (value type.stamp ∷ [])
-    (λ l t. t ≡ tableOf l) (λ m t (x, _) c m′. ServesBy t m (Call.openScan (x .0)) (c .answer) m′ (changedAt c)) (λ l c z l′. (z ≡ c .answer) × (l′ ≡ set l (c .place) (c .entry)))
+    (λ l t. t ≡ tableOf l) (λ m t (x, _) c m′. ServesBy t m (Call.openScan (x .0)) (c .answer) m′ (changedAt c)) (λ l c z l′. (z ≡ c .answer) × (l′ ≡ set l (c .index) (c .entry)))
     (λ m l (x, _) z m′ l′. Serves m l (Call.openScan (x .0)) z m′ l′)
     (λ m l (x, _) t c z m′ l′ e h k. listed (Call.openScan (x .0)) m t c z m′ l l′ e h (k .1) (k .0))
     w code.env key.name (code.unfolded 𝓤 H 𝓜 𝓡)

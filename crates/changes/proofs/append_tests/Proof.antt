@@ -1,8 +1,7 @@
 -- `changes::append_tests` meets its contract: each answer follows from the tests that led to it.
 use borrow.Author.Needs.{needs}
 use mathlib.Core.Path.{sym, _∙_}
-use Rattle.words.specs.Words.{words}
-use Rattle.layout.specs.View.{view}
+use Rattle.layout.specs.View.{viewOf}
 use Rattle.rows.proofs.Indices.{row-in}
 use Rattle.history.specs.History.{verdict}
 use Rattle.changes.proofs.Tests.{lacks-is, room}
@@ -39,7 +38,7 @@ returns-4 c =
     let gone : tie.Else2 = search in
     let held : tie.Else1 = search in
     let start : tie.Start = search in
-    let enough = lacks-is (start .args .s) (view (start .args .s) (words (start .args .mem .now))) (start .args .row .0) _ (start .args .n) (start .pre .1 .2) ∙ sym (c .before .lacks-records .ensures) ∙ c .if3 .left in
+    let enough = lacks-is (start .args .s) (viewOf (start .args .s) (start .args .mem .now)) (start .args .row .0) _ (start .args .n) (start .pre .1 .2) ∙ sym (c .before .lacks-records .ensures) ∙ c .if3 .left in
     (rw (← held .before .held .ensures, held .if1 .left, ← gone .before .gone .ensures, gone .if2 .left, enough), (start .pre .1 .0, room _ _ (start .pre .0 .linked) _ _ (start .pre .1 .1) enough))
 
 pub append-tests-spec : {M : Type 1} → statement M

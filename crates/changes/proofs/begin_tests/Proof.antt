@@ -18,18 +18,18 @@ returns-2 : tie.Need-returns-2
 unfolding Tests testsIn verdict
 returns-2 c =
     let start : tie.Start = search in
-    let look : tie.After-free-place = search in
+    let look : tie.After-free-index = search in
     let number = look .before in
-    let full = no-free _ _ (start .pre .room) (sym (look .free-place .ensures) ∙ c .enum-told .given .1) in
+    let full = no-free _ _ (start .pre .room) (sym (look .free-index .ensures) ∙ c .enum-told .given .1) in
     (λ ps. rw (← number .before .read .ensures, lt-leb _ _ (number .if1 .left), full), tt)
 
 returns-3 : tie.Need-returns-3
 unfolding Tests testsIn verdict
 returns-3 c =
     let start : tie.Start = search in
-    let look : tie.After-free-place = search in
+    let look : tie.After-free-index = search in
     let number = look .before in
-    let free = first-free _ _ (start .pre .room) _ (sym (look .free-place .ensures) ∙ c .before .free .given .1) in
+    let free = first-free _ _ (start .pre .room) _ (sym (look .free-index .ensures) ∙ c .before .free .given .1) in
     (λ ps. rw (← number .before .read .ensures, lt-leb _ _ (number .if1 .left), free .0), (free .1, omega (arith, number .before .read .ensures, number .if1 .left)))
 
 pub begin-tests-spec : {M : Type 1} → statement M

@@ -3,15 +3,14 @@ use native.Mathlib.Omega.{arith}
 use borrow.Author.Needs.{needs}
 use Rattle.history.specs.History.{verdict}
 use Rattle.model.specs.Calls.{testsIn}
-use Rattle.words.specs.Words.{words}
-use Rattle.layout.specs.View.{view}
+use Rattle.layout.specs.View.{viewOf}
 use Rattle.entry.specs.Tested.{Tests}
 use Rattle.changes.proofs.Tests.{OpenThere, fails-open, is-open, full, not-full}
 use Rattle.changes.proofs.insert_tests.Statement.{statement}
 use Rattle.changes.proofs.insert_tests.Tie as tie
 
 -- the transaction that the finder found
-there : (c : tie.After-at) → let start = c .before .before .before .before in OpenThere (view (start .args .s) (words (start .args .mem .now))) (start .args .t .0) (c .at .given .0 .0)
+there : (c : tie.After-at) → let start = c .before .before .before .before in OpenThere (viewOf (start .args .s) (start .args .mem .now)) (start .args .t .0) (c .at .given .0 .0)
 there c = is-open _ _ _ (c .before .before .open-place .ensures .0) _ (c .before .before .open-place .ensures .1) (c .at .given .1)
 
 returns : tie.Need-returns

@@ -3,7 +3,7 @@ use native.Mathlib.Omega.{arith}
 use borrow.Author.Needs.{needs}
 use mathlib.Core.Path.{refl, ap}
 use Rattle.terms.specs.declared.Answer.{Answer}
-use Rattle.model.specs.Calls.{replyIn, actIn, placesAfter}
+use Rattle.model.specs.Calls.{replyIn, actIn, entriesAfter}
 use Rattle.promise.specs.Promise.{kept}
 use Rattle.entry.specs.Entered.{Entered}
 use Rattle.entry.proofs.Served.{entered, part-in, part-long, part-seen, part-fitted, by-any, unfit-serves, failed-serves, write-serves}
@@ -37,7 +37,7 @@ returns-2 c =
     (λ k. omega (arith, slice-known .slice-known .given k))
 
 returns-3 : tie.Need-returns-3
-unfolding replyIn actIn placesAfter
+unfolding replyIn actIn entriesAfter
 returns-3 c =
     let known-told : tie.After-known-told = search in
     let act : tie.After-update = search in

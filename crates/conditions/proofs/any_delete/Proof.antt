@@ -3,8 +3,7 @@ use Prim.Native.Nat.{_+_, _-_, _≤_}
 use mathlib.Core.Path.{_≡_, _∙_}
 use native.Mathlib.Omega.{arith}
 use borrow.Author.Needs.{needs}
-use Rattle.words.specs.Words.{words}
-use Rattle.layout.specs.View.{view}
+use Rattle.layout.specs.View.{viewOf}
 use Rattle.model.specs.Stored.{anyBelow}
 use Rattle.conditions.specs.Records.{deletesAt}
 use Rattle.conditions.proofs.Records.{no-turn, one-turn, turned}
@@ -12,7 +11,7 @@ use Rattle.conditions.proofs.any_delete.Statement.{statement}
 use Rattle.conditions.proofs.any_delete.Tie as tie
 
 abbrev Inv-loop : tie.InvT-loop
-Inv-loop mem s row at n flag₀ i₀ flag i = (i ≤ n) × (flag ≡ anyBelow (λ j. deletesAt (view s (words mem)) (row .0) (at + j)) i)
+Inv-loop mem s row at n flag₀ i₀ flag i = (i ≤ n) × (flag ≡ anyBelow (λ j. deletesAt (viewOf s mem) (row .0) (at + j)) i)
 
 abbrev μ-loop : tie.MeasureT-loop
 μ-loop mem s row at n flag₀ i₀ flag i = n - i

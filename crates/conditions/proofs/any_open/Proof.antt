@@ -4,9 +4,8 @@ use mathlib.Core.Path.{_≡_, _∙_}
 use native.Mathlib.Omega.{arith}
 use borrow.Author.Needs.{needs}
 use lib.ListN.{getD}
-use Rattle.words.specs.Words.{words}
 use Rattle.layout.specs.declared.Region.the-variants.{TailTransaction}
-use Rattle.layout.specs.View.{view}
+use Rattle.layout.specs.View.{viewOf}
 use Rattle.model.specs.Stored.{anyBelow}
 use Rattle.model.specs.Calls.{openIn}
 use Rattle.rows.proofs.Indices.{slots-few, stretch-in}
@@ -16,7 +15,7 @@ use Rattle.conditions.proofs.any_open.Tie as tie
 
 abbrev Inv-loop : tie.InvT-loop
 Inv-loop mem s g n at flag₀ k₀ flag k =
-    (k ≤ n) × (flag ≡ anyBelow (λ i. openIn (view s (words mem)) (getD (view s (words mem) TailTransaction) (at + i) 0)) k)
+    (k ≤ n) × (flag ≡ anyBelow (λ i. openIn (viewOf s mem) (getD (viewOf s mem TailTransaction) (at + i) 0)) k)
 
 abbrev μ-loop : tie.MeasureT-loop
 μ-loop mem s g n at flag₀ k₀ flag k = n - k

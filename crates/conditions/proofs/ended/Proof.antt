@@ -4,8 +4,7 @@ use mathlib.Core.Path.{_≡_, sym}
 use mathlib.Core.Bool.{false}
 use native.Mathlib.Omega.{arith}
 use borrow.Author.Needs.{needs}
-use Rattle.words.specs.Words.{words}
-use Rattle.layout.specs.View.{view}
+use Rattle.layout.specs.View.{viewOf}
 use Rattle.model.specs.Stored.{anyBelow}
 use Rattle.conditions.specs.Records.{endsAt}
 use Rattle.conditions.proofs.Records.{no-turn, one-turn, turned, found, none-ends}
@@ -13,7 +12,7 @@ use Rattle.conditions.proofs.ended.Statement.{statement}
 use Rattle.conditions.proofs.ended.Tie as tie
 
 abbrev Inv-loop : tie.InvT-loop
-Inv-loop mem s t row at n i₀ i = (i ≤ n) × (false ≡ anyBelow (λ j. endsAt (view s (words mem)) (t .0) (row .0) (at + j)) i)
+Inv-loop mem s t row at n i₀ i = (i ≤ n) × (false ≡ anyBelow (λ j. endsAt (viewOf s mem) (t .0) (row .0) (at + j)) i)
 
 abbrev μ-loop : tie.MeasureT-loop
 μ-loop mem s t row at n i₀ i = n - i

@@ -9,7 +9,7 @@ use Rattle.terms.specs.Measures.{mostTransactions}
 use Rattle.words.specs.Words.{words}
 use Rattle.words.proofs.Words.{length-words}
 use Rattle.layout.specs.declared.Region.the-variants.{Opens}
-use Rattle.layout.specs.View.{view}
+use Rattle.layout.specs.View.{viewOf}
 use Rattle.layout.proofs.View.{view-long}
 use Rattle.model.specs.Stored.{anyBelow}
 use Rattle.conditions.proofs.Records.{no-turn, one-turn, turned, open-is, open-zero}
@@ -17,7 +17,7 @@ use Rattle.conditions.proofs.is_open.Statement.{statement}
 use Rattle.conditions.proofs.is_open.Tie as tie
 
 abbrev Inv-loop : tie.InvT-loop
-Inv-loop mem s number flag₀ j₀ flag j = (j ≤ mostTransactions) × (flag ≡ anyBelow (λ i. eqb (getD (view s (words mem) Opens) i 0) number) j)
+Inv-loop mem s number flag₀ j₀ flag j = (j ≤ mostTransactions) × (flag ≡ anyBelow (λ i. eqb (getD (viewOf s mem Opens) i 0) number) j)
 
 abbrev μ-loop : tie.MeasureT-loop
 μ-loop mem s number flag₀ j₀ flag j = mostTransactions - j
@@ -30,13 +30,13 @@ loop-again c =
 returns : tie.Need-returns Inv-loop μ-loop
 returns c =
     let start : tie.Start Inv-loop μ-loop = search in
-    open-zero (view (start .args .s) (words (start .args .mem .now))) _ (c .if1 .taken)
+    open-zero (viewOf (start .args .s) (start .args .mem .now)) _ (c .if1 .taken)
 
 returns-2 : tie.Need-returns-2 Inv-loop μ-loop
 returns-2 c =
     let start : tie.Start Inv-loop μ-loop = search in
     let head : tie.At-loop Inv-loop μ-loop = search in
-    open-is (view (start .args .s) (words (start .args .mem .now))) _ _
+    open-is (viewOf (start .args .s) (start .args .mem .now)) _ _
     (view-long (start .args .s) (words (start .args .mem .now)) (omega (arith, length-words (start .args .mem .now))) Opens)
     (c .if1 .left)
     (turned _ _ _ _ (head .loop .inv .1) (omega arith) (omega arith))

@@ -6,9 +6,8 @@ use native.Mathlib.Omega.{arith}
 use borrow.Author.Needs.{needs}
 use lib.ListN.{getD}
 use Rattle.terms.specs.Measures.{mostTransactions}
-use Rattle.words.specs.Words.{words}
 use Rattle.layout.specs.declared.Region.the-variants.{Opens}
-use Rattle.layout.specs.View.{view}
+use Rattle.layout.specs.View.{viewOf}
 use Rattle.model.specs.Stored.{anyBelow}
 use Rattle.conditions.specs.Records.{isOther}
 use Rattle.conditions.proofs.Records.{no-turn, one-turn, turned, found}
@@ -16,7 +15,7 @@ use Rattle.conditions.proofs.others_open.Statement.{statement}
 use Rattle.conditions.proofs.others_open.Tie as tie
 
 abbrev Inv-loop : tie.InvT-loop
-Inv-loop mem s t j₀ j = (j ≤ mostTransactions) × (false ≡ anyBelow (λ i. isOther (t .0) (getD (view s (words mem) Opens) i 0)) j)
+Inv-loop mem s t j₀ j = (j ≤ mostTransactions) × (false ≡ anyBelow (λ i. isOther (t .0) (getD (viewOf s mem Opens) i 0)) j)
 
 abbrev μ-loop : tie.MeasureT-loop
 μ-loop mem s t j₀ j = mostTransactions - j

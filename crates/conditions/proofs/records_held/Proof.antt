@@ -7,7 +7,7 @@ use borrow.Author.Needs.{needs}
 use Rattle.words.specs.Words.{words}
 use Rattle.words.proofs.Words.{length-words}
 use Rattle.layout.specs.declared.Region.the-variants.{Opens}
-use Rattle.layout.specs.View.{view}
+use Rattle.layout.specs.View.{viewOf}
 use Rattle.layout.proofs.View.{view-long}
 use Rattle.model.specs.Stored.{anyBelow}
 use Rattle.conditions.specs.Records.{holdsAt}
@@ -16,7 +16,7 @@ use Rattle.conditions.proofs.records_held.Statement.{statement}
 use Rattle.conditions.proofs.records_held.Tie as tie
 
 abbrev Inv-loop : tie.InvT-loop
-Inv-loop mem s t row at n i₀ i = (i ≤ n) × (false ≡ anyBelow (λ j. holdsAt (view s (words mem)) (t .0) (row .0) (at + j)) i)
+Inv-loop mem s t row at n i₀ i = (i ≤ n) × (false ≡ anyBelow (λ j. holdsAt (viewOf s mem) (t .0) (row .0) (at + j)) i)
 
 abbrev μ-loop : tie.MeasureT-loop
 μ-loop mem s t row at n i₀ i = n - i

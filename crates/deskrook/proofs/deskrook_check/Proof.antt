@@ -3,7 +3,7 @@ use mathlib.Core.Path.{_≡_}
 use mathlib.Core.List.{List, []}
 use contract.Running.{tablesOf}
 use borrow.Fn.World.{World}
-use Rattle.terms.specs.declared.Place.{Place}
+use Rattle.terms.specs.declared.ScanEntry.{ScanEntry}
 use Rattle.scans.specs.Table.{tableOf}
 use Rattle.lent.proofs.laws.read as law
 use Rattle.deskrook.proofs.reply.check_reply.Symbol as core
@@ -19,7 +19,7 @@ pub deskrook-check-spec : {M : Type 1} → statement M
 unfolding code.routine tablesOf
 deskrook-check-spec {M} 𝓤 H 𝓜 𝓖 𝓡 =
     let w : World = record { M = M; 𝓤 = 𝓤; H = H; 𝓜 = 𝓜; 𝓖 = 𝓖; 𝓡 = 𝓡 } in
-    law.meets 0 core.name reply [] (λ m t _ z. (ps : List Place) → t ≡ tableOf ps → z ≡ replyOf (usability m ps)) (λ m l _ z. z ≡ replyOf (usability m l))
+    law.meets 0 core.name reply [] (λ m t _ z. (ps : List ScanEntry) → t ≡ tableOf ps → z ≡ replyOf (usability m ps)) (λ m l _ z. z ≡ replyOf (usability m l))
     (λ m l _ t z b e h. h l e)
     w code.env key.name (code.unfolded 𝓤 H 𝓜 𝓡) code.calls-lent·table
     (core-reads.known w code.env core.name core.routine code.calls-deskrook·reply·check-reply (core-thm.met 𝓤 H 𝓜 𝓖 𝓡))

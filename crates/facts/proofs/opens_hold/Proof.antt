@@ -4,8 +4,7 @@ use mathlib.Core.Path.{refl}
 use native.Mathlib.Omega.{arith}
 use lib.Seq.{take-all}
 use Rattle.terms.specs.Measures.{mostTransactions}
-use Rattle.words.specs.Words.{words}
-use Rattle.layout.specs.View.{view}
+use Rattle.layout.specs.View.{viewOf}
 use Rattle.layout.specs.declared.Region.the-variants.{Opens}
 use Rattle.facts.specs.Tests.{opensHold}
 use Rattle.facts.proofs.Parts.{whole, opens-length}
@@ -23,7 +22,7 @@ returns c =
     let s = start .args .s in
     let m = start .args .mem .now in
     let long = opens-length s m (start .pre) in
-    rw (c .both .ensures, differ .all-differ .ensures, opens .opens-of .ensures, take-all mostTransactions (view s (words m) Opens) (omega arith), numbers .between-in .ensures, given .read .ensures, whole s m Opens mostTransactions (start .pre) refl)
+    rw (c .both .ensures, differ .all-differ .ensures, opens .opens-of .ensures, take-all mostTransactions (viewOf s m Opens) (omega arith), numbers .between-in .ensures, given .read .ensures, whole s m Opens mostTransactions (start .pre) refl)
 
 pub opens-hold-spec : {M : Type 1} → statement M
 opens-hold-spec =

@@ -5,22 +5,21 @@ use native.Mathlib.Omega.{arith}
 use lib.ListN.{length, take, length-set}
 use borrow.Author.Needs.{needs}
 use Rattle.terms.specs.Measures.{mostTransactions}
-use Rattle.words.specs.Words.{words}
 use Rattle.loops.proofs.Taken.{take-next, take-whole}
-use Rattle.layout.specs.View.{view}
+use Rattle.layout.specs.View.{viewOf}
 use Rattle.layout.specs.declared.Region.the-variants.{Opens}
 use Rattle.facts.proofs.Parts.{opens-length}
 use Rattle.facts.proofs.opens_of.Statement.{statement}
 use Rattle.facts.proofs.opens_of.Tie as tie
 
 abbrev Inv-loop : tie.InvT-loop
-Inv-loop mem s opens₀ i₀ opens i = (i ≤ mostTransactions) × (length opens ≡ mostTransactions) × (take i opens ≡ take i (view s (words mem) Opens))
+Inv-loop mem s opens₀ i₀ opens i = (i ≤ mostTransactions) × (length opens ≡ mostTransactions) × (take i opens ≡ take i (viewOf s mem Opens))
 
 abbrev μ-loop : tie.MeasureT-loop
 μ-loop mem s opens₀ i₀ opens i = mostTransactions - i
 
 -- as many words as there are places
-long : (c : tie.Start Inv-loop μ-loop) → length (view (c .args .s) (words (c .args .mem .now)) Opens) ≡ mostTransactions
+long : (c : tie.Start Inv-loop μ-loop) → length (viewOf (c .args .s) (c .args .mem .now) Opens) ≡ mostTransactions
 long c = opens-length (c .args .s) (c .args .mem .now) (c .pre)
 
 loop-again : tie.Need-loop-again Inv-loop μ-loop

@@ -7,9 +7,9 @@ use borrow.Author.Tests.{ltb-true, ltb-false}
 use lib.ListN.{length, set as put}
 use contract.Running.{tablesOf, givenOf}
 use borrow.Fn.Function.{Γin, Δret}
-use Rattle.terms.specs.Places.{freePlace}
+use Rattle.terms.specs.Places.{freeEntry}
 use Rattle.scans.specs.Places.{allFreed}
-use Rattle.lent.proofs.Rules.{_≡_, refl, List, [], _∷_, ℕ, URA, Ty, Body, tyInt, tyBool, tyUnit, named, mut, w64, place, seq, call, return, assign, rvOpd, op2, lt, add, unsigned, int, cond, skip, exit, loop, block, opdUnit, valueLocal, Home, Heap, Tables, Env, Atoms, Given, Lfts, Shares, now, sliceTy, Row, Cx, Life, lease, off, get, set, valS, sInt, sBool, sUnit, any-gone, sc-here, room-gone, as-is, Mo, g-room, t-use, t-op2, oAt, oInt, oUnit, reads-sc, holds-sc, room-sc, reads-sslice, mslice, reads-mslice, vAt, pShrS, spares-sslice, pMutS, fix-len, EnvOf, tysP, PK, In, Out, pNum, rNum, rUnit, tyR, sub-id, Known, t-call-plain, t-fn-plain, Over, World, Place, entry, places, num, flag, no-flag, none-asked, list-read, list-again, at, points, joins}
+use Rattle.lent.proofs.Rules.{_≡_, refl, List, [], _∷_, ℕ, URA, Ty, Body, tyInt, tyBool, tyUnit, named, mut, w64, place, seq, call, return, assign, rvOpd, op2, lt, add, unsigned, int, cond, skip, exit, loop, block, opdUnit, valueLocal, Home, Heap, Tables, Env, Atoms, Given, Lfts, Shares, now, sliceTy, Row, Cx, Life, lease, off, get, set, valS, sInt, sBool, sUnit, any-gone, sc-here, room-gone, as-is, Mo, g-room, t-use, t-op2, oAt, oInt, oUnit, reads-sc, holds-sc, room-sc, reads-sslice, mslice, reads-mslice, vAt, pShrS, spares-sslice, pMutS, fix-len, EnvOf, tysP, PK, In, Out, pNum, rNum, rUnit, tyR, sub-id, Known, t-call-plain, t-fn-plain, Over, World, ScanEntry, entry, places, num, flag, no-flag, none-asked, list-read, list-again, at, points, joins}
 use Rattle.lent.proofs.Plain.{type, gone, arg, res, copied, room}
 use Rattle.lent.proofs.Chain.{Rest, step, quiet, returns, then, tests, skips, leaves, falls, loops, lend, back, share, unshare}
 use Rattle.lent.proofs.Written as written
@@ -17,11 +17,11 @@ use Rattle.lent.proofs.Steps.{Freed, none-freed, one-freed, all-freed}
 use Rattle.lent.proofs.Types.{p as P}
 use Rattle.lent.proofs.len_of.Symbol as len-of
 use Rattle.lent.proofs.len_of.Met as len-of-thm
-use Rattle.model.proofs.free_place.Symbol as free-place
-use Rattle.model.proofs.free_place.Met as free-place-thm
-use Rattle.model.proofs.free_place.Reads as free-place-reads
-use Rattle.lent.proofs.put_place.Symbol as put-place
-use Rattle.lent.proofs.put_place.Met as put-place-thm
+use Rattle.model.proofs.free_entry.Symbol as free-place
+use Rattle.model.proofs.free_entry.Met as free-place-thm
+use Rattle.model.proofs.free_entry.Reads as free-place-reads
+use Rattle.lent.proofs.put_entry.Symbol as put-place
+use Rattle.lent.proofs.put_entry.Met as put-entry-thm
 use Rattle.lent.proofs.free_all.Key as key
 use Rattle.lent.proofs.free_all.Statement.{statement}
 use Rattle.lent.proofs.free_all.Code as code
@@ -47,7 +47,7 @@ abbrev Q-len : Out 1 ps-len (rNum w64)
 Q-len κs a z e = z ≡ length (now (a .0))
 
 abbrev Q-free : Out 0 ps-free (res P)
-Q-free κs a z e = z ≡ freePlace
+Q-free κs a z e = z ≡ freeEntry
 
 abbrev P-put : In 1 ps-put
 P-put κs a = a .1 .0 < length (now (a .0))
@@ -102,14 +102,14 @@ module _ (κs : Lfts 1) (qs : Shares 1) where
       }
 
   -- what a turn may change: the list and the place's number
-  abbrev writes : List Place × ℕ → Mo G → Mo G
+  abbrev writes : List ScanEntry × ℕ → Mo G → Mo G
   writes vs u =
       set 3 (3, num) (vs .1) (G .locals) (set 1 (1, whole) (record { ptr = get 1 (G .locals) u .ptr; name = get 1 (G .locals) u .name; now = vs .0 }) (G .locals) u)
 
-  abbrev Inv : Mo G → List Place × ℕ → Type 0
+  abbrev Inv : Mo G → List ScanEntry × ℕ → Type 0
   Inv u vs = Freed (get 1 (G .locals) u .now) (vs .0) (get 2 (G .locals) u) (vs .1)
 
-  abbrev left : Mo G → List Place × ℕ → ℕ
+  abbrev left : Mo G → List ScanEntry × ℕ → ℕ
   left u vs = get 2 (G .locals) u - vs .1
 
   module _ {M : Type 1} (𝓤 : URA M) (H : Heap 𝓤) (A : Atoms 𝓤) (W : Given 𝓤 H A) (𝓣 : Tables 𝓤 H) (k-len : Known 𝓤 H A W 𝓣 1 ps-len (rNum w64) (none-asked ps-len) Q-len len-of.name)
@@ -148,8 +148,8 @@ free-all-spec {M} 𝓤 H 𝓜 𝓖 𝓡 =
     let W : Given 𝓤 H (𝓖 .A) = givenOf 𝓤 H 𝓜 𝓖 in
     let 𝓣 : Tables 𝓤 H = Over 𝓤 H 𝓜 𝓖 𝓡 code.env in
     let k-len : Known 𝓤 H (𝓖 .A) W 𝓣 1 ps-len (rNum w64) (none-asked ps-len) Q-len len-of.name = written.known-free 1 ps-len (rNum w64) Q-len w code.env len-of.name len-of.routine code.calls-lent·len-of (len-of-thm.met 𝓤 H 𝓜 𝓖 𝓡) in
-    let k-free : Known 𝓤 H (𝓖 .A) W 𝓣 0 ps-free (res P) (none-asked ps-free) Q-free free-place.name = free-place-reads.known w code.env free-place.name free-place.routine code.calls-model·free-place (free-place-thm.met 𝓤 H 𝓜 𝓖 𝓡) in
-    let k-put : Known 𝓤 H (𝓖 .A) W 𝓣 1 ps-put rUnit P-put Q-put put-place.name = written.known 1 ps-put rUnit Q-put P-put w code.env put-place.name put-place.routine code.calls-lent·put-place (put-place-thm.met 𝓤 H 𝓜 𝓖 𝓡) in
+    let k-free : Known 𝓤 H (𝓖 .A) W 𝓣 0 ps-free (res P) (none-asked ps-free) Q-free free-place.name = free-place-reads.known w code.env free-place.name free-place.routine code.calls-model·free-entry (free-place-thm.met 𝓤 H 𝓜 𝓖 𝓡) in
+    let k-put : Known 𝓤 H (𝓖 .A) W 𝓣 1 ps-put rUnit P-put Q-put put-place.name = written.known 1 ps-put rUnit Q-put P-put w code.env put-place.name put-place.routine code.calls-lent·put-entry (put-entry-thm.met 𝓤 H 𝓜 𝓖 𝓡) in
     written.close-free 1 ps rUnit Q w code.env key.name code.function (code.unfolded 𝓤 H 𝓜 𝓡)
     (t-fn-plain 𝓤 H (𝓖 .A) W 𝓣 1 ps rUnit xs 2 hs body (λ κs qs bs. rest κs qs 𝓤 H (𝓖 .A) W 𝓣 k-len k-free k-put bs .means) (λ κs qs bs bd. rest κs qs 𝓤 H (𝓖 .A) W 𝓣 k-len k-free k-put bs .typed) (none-asked ps) Q
     (λ κs qs a good pre bs. λ g₀. (

@@ -8,8 +8,8 @@ use lib.ListN.{length, set as put}
 use lib.Seq.{set-out}
 use contract.Running.{tablesOf, givenOf}
 use borrow.Fn.Function.{Γin, Δret}
-use Rattle.upkeep.specs.declared.Listed.{Listed}
-use Rattle.lent.proofs.Rules.{_≡_, refl, List, [], _∷_, ℕ, URA, Ty, Body, tyInt, tyBool, tyUnit, named, w64, place, seq, call, return, assign, op2, lt, unsigned, cond, skip, valueLocal, Home, Heap, Tables, Env, Atoms, Given, Lfts, Shares, now, sliceTy, Life, lease, valS, sInt, sBool, sUnit, room-gone, as-is, g-room, t-op2, oAt, reads-sc, holds-sc, room-sc, reads-sslice, mslice, reads-mslice, vAt, pShrS, spares-sslice, pMutS, fix-len, EnvOf, tysP, PK, In, Out, pNum, rNum, rUnit, tyR, sub-id, Known, t-call-plain, t-fn-plain, Over, World, Place, entry, flag, none-asked, list-read, list-again, at, points, joins}
+use Rattle.upkeep.specs.declared.ListChange.{ListChange}
+use Rattle.lent.proofs.Rules.{_≡_, refl, List, [], _∷_, ℕ, URA, Ty, Body, tyInt, tyBool, tyUnit, named, w64, place, seq, call, return, assign, op2, lt, unsigned, cond, skip, valueLocal, Home, Heap, Tables, Env, Atoms, Given, Lfts, Shares, now, sliceTy, Life, lease, valS, sInt, sBool, sUnit, room-gone, as-is, g-room, t-op2, oAt, reads-sc, holds-sc, room-sc, reads-sslice, mslice, reads-mslice, vAt, pShrS, spares-sslice, pMutS, fix-len, EnvOf, tysP, PK, In, Out, pNum, rNum, rUnit, tyR, sub-id, Known, t-call-plain, t-fn-plain, Over, World, ScanEntry, entry, flag, none-asked, list-read, list-again, at, points, joins}
 use Rattle.lent.proofs.Plain.{type, arg, res, copied, room}
 use Rattle.lent.proofs.Types.{p, d, answer}
 use Rattle.lent.proofs.Chain.{Rest, step, quiet, returns, then, tests, lastly, skips, lend, also, back, share, unshare}
@@ -25,8 +25,8 @@ use Rattle.lent.proofs.answer_of.Met as answer-of-thm
 use Rattle.lent.proofs.answer_of.Reads as answer-of-reads
 use Rattle.lent.proofs.len_of.Symbol as len-of
 use Rattle.lent.proofs.len_of.Met as len-of-thm
-use Rattle.lent.proofs.put_place.Symbol as put-place
-use Rattle.lent.proofs.put_place.Met as put-place-thm
+use Rattle.lent.proofs.put_entry.Symbol as put-place
+use Rattle.lent.proofs.put_entry.Met as put-entry-thm
 use Rattle.lent.proofs.keep.Key as key
 use Rattle.lent.proofs.keep.Statement.{statement}
 use Rattle.lent.proofs.keep.Code as code
@@ -46,10 +46,10 @@ abbrev ps-put : List (PK 1)
 ps-put = pMutS entry 0 tt ∷ pNum w64 ∷ arg p ∷ []
 
 abbrev Q : Out 1 ps (res answer)
-Q κs a z e = (z ≡ a .1 .0 .answer) × (now (e .0) ≡ put (now (a .0)) (a .1 .0 .place) (a .1 .0 .entry))
+Q κs a z e = (z ≡ a .1 .0 .answer) × (now (e .0) ≡ put (now (a .0)) (a .1 .0 .index) (a .1 .0 .entry))
 
 abbrev Q-place : Out 0 ps-of (rNum w64)
-Q-place κs a z e = z ≡ a .0 .place
+Q-place κs a z e = z ≡ a .0 .index
 
 abbrev Q-entry : Out 0 ps-of (res p)
 Q-entry κs a z e = z ≡ a .0 .entry
@@ -122,11 +122,11 @@ module _ (κs : Lfts 1) (qs : Shares 1) {M : Type 1} (𝓤 : URA M) (H : Heap �
       (returns tt))))))))))
 
 -- ---- the facts
-kept : (l l′ : List Place) (i : ℕ) (e : Place) (c : Listed) → i ≡ c .place → e ≡ c .entry → l′ ≡ put l i e → l′ ≡ put l (c .place) (c .entry)
-kept l l′ i e c h k f = f ∙ ap (λ (j : ℕ). put l j e) h ∙ ap (put l (c .place)) k
+kept : (l l′ : List ScanEntry) (i : ℕ) (e : ScanEntry) (c : ListChange) → i ≡ c .index → e ≡ c .entry → l′ ≡ put l i e → l′ ≡ put l (c .index) (c .entry)
+kept l l′ i e c h k f = f ∙ ap (λ (j : ℕ). put l j e) h ∙ ap (put l (c .index)) k
 
-past : (l : List Place) (i n : ℕ) (c : Listed) → i ≡ c .place → n ≡ length l → n ≤ i → l ≡ put l (c .place) (c .entry)
-past l i n c h e k = sym (set-out l (c .place) (c .entry) (omega (arith, h, e)))
+past : (l : List ScanEntry) (i n : ℕ) (c : ListChange) → i ≡ c .index → n ≡ length l → n ≤ i → l ≡ put l (c .index) (c .entry)
+past l i n c h e k = sym (set-out l (c .index) (c .entry) (omega (arith, h, e)))
 
 pub keep-spec : {M : Type 1} → statement M
 unfolding code.routine tablesOf
@@ -138,7 +138,7 @@ keep-spec {M} 𝓤 H 𝓜 𝓖 𝓡 =
     let k-entry : Known 𝓤 H (𝓖 .A) W 𝓣 0 ps-of (res p) (none-asked ps-of) Q-entry entry-of.name = entry-of-reads.known w code.env entry-of.name entry-of.routine code.calls-lent·entry-of (entry-of-thm.met 𝓤 H 𝓜 𝓖 𝓡) in
     let k-answer : Known 𝓤 H (𝓖 .A) W 𝓣 0 ps-of (res answer) (none-asked ps-of) Q-answer answer-of.name = answer-of-reads.known w code.env answer-of.name answer-of.routine code.calls-lent·answer-of (answer-of-thm.met 𝓤 H 𝓜 𝓖 𝓡) in
     let k-len : Known 𝓤 H (𝓖 .A) W 𝓣 1 ps-len (rNum w64) (none-asked ps-len) Q-len len-of.name = written.known-free 1 ps-len (rNum w64) Q-len w code.env len-of.name len-of.routine code.calls-lent·len-of (len-of-thm.met 𝓤 H 𝓜 𝓖 𝓡) in
-    let k-put : Known 𝓤 H (𝓖 .A) W 𝓣 1 ps-put rUnit P-put Q-put put-place.name = written.known 1 ps-put rUnit Q-put P-put w code.env put-place.name put-place.routine code.calls-lent·put-place (put-place-thm.met 𝓤 H 𝓜 𝓖 𝓡) in
+    let k-put : Known 𝓤 H (𝓖 .A) W 𝓣 1 ps-put rUnit P-put Q-put put-place.name = written.known 1 ps-put rUnit Q-put P-put w code.env put-place.name put-place.routine code.calls-lent·put-entry (put-entry-thm.met 𝓤 H 𝓜 𝓖 𝓡) in
     written.close-free 1 ps (res answer) Q w code.env key.name code.function (code.unfolded 𝓤 H 𝓜 𝓡)
     (t-fn-plain 𝓤 H (𝓖 .A) W 𝓣 1 ps (res answer) xs 2 hs body (λ κs qs bs. rest κs qs 𝓤 H (𝓖 .A) W 𝓣 k-place k-entry k-answer k-len k-put bs .means) (λ κs qs bs bd. rest κs qs 𝓤 H (𝓖 .A) W 𝓣 k-place k-entry k-answer k-len k-put bs .typed) (none-asked ps) Q
     (λ κs qs a good pre bs. (

@@ -18,7 +18,7 @@ use borrow.Table.Typed.{Typed}
 use base.Logic.{ent, id⊢}
 use borrow.Table.Row.{Entry, Rho, St, tl}
 use borrow.Table.Own.{own}
-use Rattle.lent.proofs.Rules.{refl, List, [], _∷_, ℕ, URA, some, Ty, Body, tyInt, named, imm, mut, w8, copy, place, field, deref, seq, call, return, assign, addrOf, aggregate, Name, Heap, Tables, Env, Atoms, Given, Lfts, Shares, now, sliceTy, Row, lease, sslice, room-gone, as-is, t-call-plain, g-room, reads-sslice, mslice, reads-mslice, pShrS, spares-sslice, pMutS, fix-len, EnvOf, tysP, PK, Out, tyR, sub-id, Known, t-fn-plain, fnOf, Over, World, Place, byte, entry, bytes, places, memory-again, list-again, at, none-asked}
+use Rattle.lent.proofs.Rules.{refl, List, [], _∷_, ℕ, URA, some, Ty, Body, tyInt, named, imm, mut, w8, copy, place, field, deref, seq, call, return, assign, addrOf, aggregate, Name, Heap, Tables, Env, Atoms, Given, Lfts, Shares, now, sliceTy, Row, lease, sslice, room-gone, as-is, t-call-plain, g-room, reads-sslice, mslice, reads-mslice, pShrS, spares-sslice, pMutS, fix-len, EnvOf, tysP, PK, Out, tyR, sub-id, Known, t-fn-plain, fnOf, Over, World, ScanEntry, byte, entry, bytes, places, memory-again, list-again, at, none-asked}
 use Rattle.lent.proofs.Plain.{Plain, type, full, gone, arg, res, copied, room}
 use Rattle.lent.proofs.Types.{p}
 use Rattle.lent.proofs.Further.{Further}
@@ -77,7 +77,7 @@ module _ (l : ℕ) (core last : Name) (d r : Plain) where
   body both fs = lends (tyInt w8) 1 (up 1 (beyond 3 fs)) (lends (type p) 2 (up 3 (beyond 3 fs)) (calls fs (up 2 (beyond 3 fs)) (up 4 (beyond 3 fs))))
 
   abbrev Call : (w : Way) → List (Further 2 2 (loans w) l) → Type 1
-  Call w fs = List ℕ → List Place → Vals fs → d .ty .Denot → List ℕ → List Place → Type 0
+  Call w fs = List ℕ → List ScanEntry → Vals fs → d .ty .Denot → List ℕ → List ScanEntry → Type 0
 
   abbrev pub Q-core : (w : Way) (fs : List (Further 2 2 (loans w) l)) → Call w fs → Out (up 2 l) (ps-core w fs) (res d)
   Q-core neither fs cpost κs a z e = cpost (now (a .0)) (now (a .1 .0)) (sees-all κs fs (a .1 .1)) z (now (a .0)) (now (a .1 .0))
@@ -89,7 +89,7 @@ module _ (l : ℕ) (core last : Name) (d r : Plain) where
     abbrev pub Q-last : Out 0 ps-last (res r)
     Q-last κs a z e = lpost (a .0) z
 
-    abbrev Post : (w : Way) (fs : List (Further 2 2 (loans w) l)) → Call w fs → List ℕ → List Place → Vals fs → r .ty .Denot → List ℕ → List Place → Type 0
+    abbrev Post : (w : Way) (fs : List (Further 2 2 (loans w) l)) → Call w fs → List ℕ → List ScanEntry → Vals fs → r .ty .Denot → List ℕ → List ScanEntry → Type 0
     Post w fs cpost m q x z m′ q′ = (y : d .ty .Denot) × cpost m q x y m′ q′ × lpost y z
 
     abbrev pub Q-call : (w : Way) (fs : List (Further 2 2 (loans w) l)) → Call w fs → Out (up 2 l) (ps w fs) (res r)

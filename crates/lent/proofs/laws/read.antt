@@ -21,7 +21,7 @@ use Rattle.scans.specs.declared.Scans.{Scans}
 use Rattle.scans.specs.Table.{tableOf}
 use Rattle.lent.proofs.table.Symbol as table
 use Rattle.lent.proofs.table.Met as table-thm
-use Rattle.lent.proofs.Rules.{_≡_, refl, List, [], _∷_, ℕ, URA, some, Ty, Body, named, imm, w8, place, seq, call, return, Name, Heap, Tables, Env, Atoms, Given, Lfts, Shares, now, Row, Cx, lease, sslice, room-gone, as-is, fInt, Outs, g-room, g-shs-known, reads-sslice, pShrS, spares-sslice, EnvOf, tysP, PK, Out, tyR, sub-id, Known, t-call-plain, t-fn-plain, fnOf, Over, World, Place, byte, entry, bytes, places, at, none-asked}
+use Rattle.lent.proofs.Rules.{_≡_, refl, List, [], _∷_, ℕ, URA, some, Ty, Body, named, imm, w8, place, seq, call, return, Name, Heap, Tables, Env, Atoms, Given, Lfts, Shares, now, Row, Cx, lease, sslice, room-gone, as-is, fInt, Outs, g-room, g-shs-known, reads-sslice, pShrS, spares-sslice, EnvOf, tysP, PK, Out, tyR, sub-id, Known, t-call-plain, t-fn-plain, fnOf, Over, World, ScanEntry, byte, entry, bytes, places, at, none-asked}
 use Rattle.lent.proofs.Plain.{Plain, type, full, gone, arg, res, copied, room}
 use Rattle.lent.proofs.Types.{t}
 use Rattle.lent.proofs.Further.{Further}
@@ -52,7 +52,7 @@ module _ (l : ℕ) (core : Name) (r : Plain) (fs : List (Further 2 1 0 l)) where
   abbrev βs : List ℕ
   βs = 0 ∷ ups 2 l
 
-  module _ (cpost : List ℕ → Scans → Vals fs → r .ty .Denot → Type 0) (post : List ℕ → List Place → Vals fs → r .ty .Denot → Type 0) where
+  module _ (cpost : List ℕ → Scans → Vals fs → r .ty .Denot → Type 0) (post : List ℕ → List ScanEntry → Vals fs → r .ty .Denot → Type 0) where
     abbrev pub Q-load : Out 1 ps-load (res t)
     Q-load κs a z e = z ≡ tableOf (now (a .0))
 
@@ -109,7 +109,7 @@ module _ (l : ℕ) (core : Name) (r : Plain) (fs : List (Further 2 1 0 l)) where
             (quiet (lifts 𝓤 H A E W κs qs (F (full r)) 3 fs xs front-out)
             (returns tt))))))
 
-    module _ (ends : (m : List ℕ) (p : List Place) (x : Vals fs) (u : Scans) (z : r .ty .Denot) → Bytes m → u ≡ tableOf p → cpost m u x z → post m p x z) where
+    module _ (ends : (m : List ℕ) (p : List ScanEntry) (x : Vals fs) (u : Scans) (z : r .ty .Denot) → Bytes m → u ≡ tableOf p → cpost m u x z → post m p x z) where
       pub meets : (w : World) (γ : routine.Env) (k : Name)
           → Closed (w .𝓤) (w .H) (tables (w .𝓤) (w .H) (w .𝓜) (w .𝓡) γ .C) (tables (w .𝓤) (w .H) (w .𝓜) (w .𝓡) γ .Λ) k (fnOf (up 2 l) ps (res r) xs 0 [] body)
           → γ table.name ≡ table.routine

@@ -32,8 +32,8 @@ use denote.Triple.Spec.{Meets, tripleOf}
 use denote.Triple.Table.{entered}
 use denote.Triple.Walked.{says, Stays, stay-none-slice, walkOf, goes-none-slice, Walks, ends-at, walked, walk-meets}
 use denote.Exit.{yes}
-use Rattle.terms.specs.declared.Place.{Place}
-use Rattle.terms.proofs.Place as T
+use Rattle.terms.specs.declared.ScanEntry.{ScanEntry}
+use Rattle.terms.proofs.ScanEntry as T
 use Rattle.lent.proofs.len_of.Key.{name as #lent·len-of}
 use Rattle.lent.proofs.len_of as f
 use Rattle.lent.proofs.len_of.Statement as stated
@@ -42,7 +42,7 @@ use Rattle.lent.proofs.len_of.Code as code
 abbrev stayed : Stays (f.ended .signature .params) (f.ended .kept)
 stayed = (stay-none-slice (0 ∷ []) tt (plain (λ _. T.the-row)) yes, tt)
 
-module _ {M : Type 1} (𝓤 : URA M) (H : Heap 𝓤) (A : Atoms 𝓤) (W : Given 𝓤 H A) (mem : Memory → SProp 𝓤) (run : Routine → Fun 𝓤) (κ : Lft) (q : Share) (s : RefT (List Place)) where
+module _ {M : Type 1} (𝓤 : URA M) (H : Heap 𝓤) (A : Atoms 𝓤) (W : Given 𝓤 H A) (mem : Memory → SProp 𝓤) (run : Routine → Fun 𝓤) (κ : Lft) (q : Share) (s : RefT (List ScanEntry)) where
   abbrev v : Val
   v = sliceVal (s .ptr) (length (s .now))
 

@@ -9,7 +9,7 @@ use lib.ListN.{length, getD}
 use contract.Running.{tablesOf, givenOf}
 use borrow.Fn.Function.{Γin, Δret}
 use Rattle.scans.specs.declared.Scans.{Scans}
-use Rattle.terms.specs.Places.{freePlace}
+use Rattle.terms.specs.Places.{freeEntry}
 use Rattle.scans.specs.Places.{isOpen}
 use Rattle.scans.specs.Table.{tableOf, noted, ofLength}
 use Rattle.lent.proofs.Rules.{_≡_, refl, List, [], _∷_, ℕ, URA, Ty, Body, tyInt, tyBool, named, imm, w64, place, seq, call, return, assign, rvOpd, op2, lt, add, unsigned, int, cond, skip, exit, loop, block, valueLocal, Home, Heap, Tables, Env, Atoms, Given, Lfts, Shares, now, Cx, lease, get, set, valS, sInt, sBool, sslice, room-gone, Mo, g-room, t-use, t-op2, oAt, oInt, reads-sc, holds-sc, room-sc, reads-sslice, vAt, pShrS, spares-sslice, EnvOf, tysP, PK, In, Out, pNum, rNum, rBool, tyR, sub-id, Known, t-call-plain, t-fn-plain, Over, World, entry, places, none-asked, num, flag, no-flag, at}
@@ -20,8 +20,8 @@ use Rattle.scans.proofs.Table.{Entered, none-entered, open-entered, free-entere
 use Rattle.lent.proofs.Types.{p as P, t as T}
 use Rattle.lent.proofs.len_of.Symbol as len-of
 use Rattle.lent.proofs.len_of.Met as len-of-thm
-use Rattle.lent.proofs.place_at.Symbol as place-at
-use Rattle.lent.proofs.place_at.Met as place-at-thm
+use Rattle.lent.proofs.entry_at.Symbol as place-at
+use Rattle.lent.proofs.entry_at.Met as place-at-thm
 use Rattle.scans.proofs.blank.Symbol as blank
 use Rattle.scans.proofs.blank.Met as blank-thm
 use Rattle.scans.proofs.blank.Reads as blank-reads
@@ -68,7 +68,7 @@ abbrev P-at : In 1 ps-at
 P-at κs a = a .1 .0 < length (now (a .0))
 
 abbrev Q-at : Out 1 ps-at (res P)
-Q-at κs a z e = z ≡ getD (now (a .0)) (a .1 .0) freePlace
+Q-at κs a z e = z ≡ getD (now (a .0)) (a .1 .0) freeEntry
 
 abbrev Q-open : Out 0 ps-open rBool
 Q-open κs a z e = z ≡ isOpen (a .0)
@@ -173,7 +173,7 @@ table-spec {M} 𝓤 H 𝓜 𝓖 𝓡 =
     let 𝓣 : Tables 𝓤 H = Over 𝓤 H 𝓜 𝓖 𝓡 code.env in
     let k-len : Known 𝓤 H (𝓖 .A) W 𝓣 1 ps (rNum w64) (none-asked ps) Q-len len-of.name = written.known-free 1 ps (rNum w64) Q-len w code.env len-of.name len-of.routine code.calls-lent·len-of (len-of-thm.met 𝓤 H 𝓜 𝓖 𝓡) in
     let k-blank : Known 𝓤 H (𝓖 .A) W 𝓣 0 ps-blank (res T) (none-asked ps-blank) Q-blank blank.name = blank-reads.known w code.env blank.name blank.routine code.calls-scans·blank (blank-thm.met 𝓤 H 𝓜 𝓖 𝓡) in
-    let k-at : Known 𝓤 H (𝓖 .A) W 𝓣 1 ps-at (res P) P-at Q-at place-at.name = written.known 1 ps-at (res P) Q-at P-at w code.env place-at.name place-at.routine code.calls-lent·place-at (place-at-thm.met 𝓤 H 𝓜 𝓖 𝓡) in
+    let k-at : Known 𝓤 H (𝓖 .A) W 𝓣 1 ps-at (res P) P-at Q-at place-at.name = written.known 1 ps-at (res P) Q-at P-at w code.env place-at.name place-at.routine code.calls-lent·entry-at (place-at-thm.met 𝓤 H 𝓜 𝓖 𝓡) in
     let k-open : Known 𝓤 H (𝓖 .A) W 𝓣 0 ps-open rBool (none-asked ps-open) Q-open is-open.name = is-open-reads.known w code.env is-open.name is-open.routine code.calls-scans·is-open (is-open-thm.met 𝓤 H 𝓜 𝓖 𝓡) in
     let k-enter : Known 𝓤 H (𝓖 .A) W 𝓣 0 ps-enter (res T) P-enter Q-enter enter.name = enter-reads.known w code.env enter.name enter.routine code.calls-scans·enter (enter-thm.met 𝓤 H 𝓜 𝓖 𝓡) in
     let k-length : Known 𝓤 H (𝓖 .A) W 𝓣 0 ps-length (res T) (none-asked ps-length) Q-length set-length.name = set-length-reads.known w code.env set-length.name set-length.routine code.calls-scans·set-length (set-length-thm.met 𝓤 H 𝓜 𝓖 𝓡) in

@@ -2,7 +2,7 @@
 use native.Mathlib.Omega.{arith}
 use borrow.Author.Needs.{needs}
 use mathlib.Core.Path.{refl, _∙_}
-use Rattle.model.specs.Calls.{testsIn, replyIn, actIn, placesAfter}
+use Rattle.model.specs.Calls.{testsIn, replyIn, actIn, entriesAfter}
 use Rattle.promise.specs.Promise.{kept}
 use Rattle.entry.specs.Entered.{Entered}
 use Rattle.entry.specs.Tested.{TestsBy}
@@ -36,7 +36,7 @@ read-current-requires c κs =
     (f .room, (f .proper, ((f .linked, f .pooled), (k .column-below, k .given))))
 
 returns-3 : tie.Need-returns-3
-unfolding TestsBy testsIn replyIn actIn placesAfter
+unfolding TestsBy testsIn replyIn actIn entriesAfter
 returns-3 c =
     let shared-slice-known : tie.After-shared-slice-known = search in
     let stamp = c .before in

@@ -3,7 +3,7 @@ use native.Mathlib.Omega.{arith}
 use borrow.Author.Needs.{needs}
 use mathlib.Core.Path.{refl}
 use Rattle.model.specs.Stored.{pageIn}
-use Rattle.model.specs.Calls.{replyIn, actIn, placesAfter}
+use Rattle.model.specs.Calls.{replyIn, actIn, entriesAfter}
 use Rattle.promise.specs.Promise.{kept}
 use Rattle.entry.specs.Entered.{Entered}
 use Rattle.entry.proofs.Served.{entered, by-any, unfit-serves, failed-serves, read-serves}
@@ -47,7 +47,7 @@ read-requires-2 c κs =
     (fit (tests .before) .fitted .room, k .1)
 
 returns-3 : tie.Need-returns-3
-unfolding replyIn actIn placesAfter pageIn
+unfolding replyIn actIn entriesAfter pageIn
 returns-3 c =
     let shared-slice-known : tie.After-shared-slice-known = search in
     let page : tie.After-current-page = search in

@@ -2,7 +2,7 @@
 use native.Mathlib.Omega.{arith}
 use borrow.Author.Needs.{needs}
 use mathlib.Core.Path.{refl, _∙_}
-use Rattle.model.specs.Calls.{replyIn, actIn, placesAfter}
+use Rattle.model.specs.Calls.{replyIn, actIn, entriesAfter}
 use Rattle.promise.specs.Promise.{kept}
 use Rattle.entry.specs.Entered.{Entered}
 use Rattle.entry.proofs.Served.{entered, by-any, unfit-serves, failed-serves, read-serves}
@@ -41,7 +41,7 @@ read-current-requires c κs =
     (f .room, (f .proper, ((f .linked, f .pooled), (k .1 .column-below, k .1 .given))))
 
 returns-3 : tie.Need-returns-3
-unfolding replyIn actIn placesAfter
+unfolding replyIn actIn entriesAfter
 returns-3 c =
     let shared-slice-known : tie.After-shared-slice-known = search in
     let own = c .before in

@@ -6,7 +6,7 @@ use mir.Syntax.{w32}
 use mir.Val.{toZ}
 use mir.ValLaws.{toZ-ofZ}
 use Rattle.terms.specs.declared.Answer.{Answer}
-use Rattle.model.specs.Calls.{replyIn, actIn, placesAfter}
+use Rattle.model.specs.Calls.{replyIn, actIn, entriesAfter}
 use Rattle.promise.specs.Promise.{kept}
 use Rattle.entry.specs.Entered.{Entered}
 use Rattle.entry.proofs.Served.{entered, by-any, unfit-serves, failed-serves, read-serves}
@@ -43,7 +43,7 @@ cell-requires c κs =
     let f = fit (page-cell-tests .before) .fitted in (f .room, (f .proper, c .current-page .ensures .1))
 
 returns-3 : tie.Need-returns-3
-unfolding replyIn actIn placesAfter
+unfolding replyIn actIn entriesAfter
 returns-3 c =
     let shared-slice-known : tie.After-shared-slice-known = search in
     let page : tie.After-current-page = search in

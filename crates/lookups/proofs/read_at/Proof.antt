@@ -2,7 +2,7 @@
 use native.Mathlib.Omega.{arith}
 use borrow.Author.Needs.{needs}
 use mathlib.Core.Path.{refl}
-use Rattle.model.specs.Calls.{replyIn, actIn, placesAfter}
+use Rattle.model.specs.Calls.{replyIn, actIn, entriesAfter}
 use Rattle.promise.specs.Promise.{kept}
 use Rattle.entry.specs.Entered.{Entered}
 use Rattle.entry.proofs.Served.{entered, by-any, unfit-serves, failed-serves, read-serves}
@@ -33,7 +33,7 @@ read-current-requires c κs =
     (f .room, (f .proper, ((f .linked, f .pooled), (k .column-below, k .given))))
 
 returns-3 : tie.Need-returns-3
-unfolding replyIn actIn placesAfter
+unfolding replyIn actIn entriesAfter
 returns-3 c =
     let shared-slice-known : tie.After-shared-slice-known = search in
     let passed = c .before in

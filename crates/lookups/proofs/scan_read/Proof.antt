@@ -2,7 +2,7 @@
 use native.Mathlib.Omega.{arith}
 use borrow.Author.Needs.{needs}
 use mathlib.Core.Path.{refl, _∙_}
-use Rattle.model.specs.Calls.{replyIn, actIn, placesAfter}
+use Rattle.model.specs.Calls.{replyIn, actIn, entriesAfter}
 use Rattle.promise.specs.Promise.{kept}
 use Rattle.entry.specs.Entered.{Entered}
 use Rattle.entry.proofs.Served.{entered, unfit-serves, failed-serves, read-serves}
@@ -37,8 +37,8 @@ scan-page-requires c κs =
     let k = rw (passed .j .given .1) at (tests .scan-read-tests .ensures .1) in
     (f .room, (f .proper, (f .pooled, (rw (c .range-of .ensures) (k .1 .range-below), k .1 .column-below))))
 
-read-row-requires : tie.Need-read-row-requires
-read-row-requires c κs =
+read-cell-requires : tie.Need-read-cell-requires
+read-cell-requires c κs =
     let passed : tie.After-j = search in
     let tests : tie.After-scan-read-tests = search in
     let f = fit (tests .before) .fitted in
@@ -46,7 +46,7 @@ read-row-requires c κs =
     (f .room, (f .proper, (f .linked, (c .scan-page .ensures .1, k .1 .column-below, k .1 .given))))
 
 returns-3 : tie.Need-returns-3
-unfolding replyIn actIn placesAfter
+unfolding replyIn actIn entriesAfter
 returns-3 c =
     let shared-slice-known : tie.After-shared-slice-known = search in
     let page = c .before in
@@ -57,7 +57,7 @@ returns-3 c =
     let known = tests .before in
     let k = rw (passed .j .given .1) at (tests .scan-read-tests .ensures .1) in
     read-serves (fit known) _ _ _ (passed .j .given .1) (tests .scan-read-tests .ensures .0) _ kept
-    (λ k. omega (arith, shared-slice-known .shared-slice-known .given k)) (λ ps q few. (c .read-row .ensures ∙ rw (page .scan-page .ensures .0, range .range-of .ensures, scan .scan-at .ensures (k .0 .found) ps q few), refl, refl))
+    (λ k. omega (arith, shared-slice-known .shared-slice-known .given k)) (λ ps q few. (c .read-cell .ensures ∙ rw (page .scan-page .ensures .0, range .range-of .ensures, scan .scan-at .ensures (k .0 .found) ps q few), refl, refl))
 
 pub scan-read-spec : {M : Type 1} → statement M
 scan-read-spec =
@@ -73,6 +73,6 @@ scan-read-spec =
     scan-at-requires
     (λ c κs. search needs)
     scan-page-requires
-    read-row-requires
+    read-cell-requires
     returns-2
     returns-3)

@@ -1,7 +1,7 @@
 -- `making::make` meets its contract. Each answer follows from the tests that led to it; `lent` carries the part that was lent to the whole memory.
 use native.Mathlib.Omega.{arith}
 use borrow.Author.Needs.{needs}
-use Prim.Native.Nat.{_*_, _≤_, _<_}
+use Prim.Native.Nat.{_*_, _<_}
 use mathlib.Core.Path.{_≡_, sym, _∙_}
 use mathlib.Core.Bool.{true}
 use lib.ListN.{length, take}
@@ -16,6 +16,7 @@ use Rattle.layout.proofs.Limits.{need-small, proper}
 use Rattle.making.proofs.Answers.{out-of-limits, no-room, few-places, laid}
 use Rattle.making.proofs.make.Statement.{statement}
 use Rattle.making.proofs.make.Tie as tie
+use Rattle.layout.specs.View.{Suffices}
 
 abbrev shape : tie.Start → Shape
 shape c = shapeOf (c .args .columns) (c .args .ranges) (c .args .capacity) (c .args .spares)
@@ -62,7 +63,7 @@ returns-4 c =
     let z = n .before in
     let m = start (z .before) .args .mem .now in
     let v = madeView (shape (start (z .before))) in
-    let room : need (z .sizes-of .result) * 4 ≤ length m = rw (n .words-needed .ensures) at (call .before .before .before .if2 .left) in
+    let room : Suffices (z .sizes-of .result) m = rw (n .words-needed .ensures) at (call .before .before .before .if2 .left) in
     laid (shape (start (z .before))) _ m (within (z .before)) (rw (z .sizes-of .ensures) at room) (call .before .before .if3 .left) _
     (rw (z .sizes-of .ensures)
     at

@@ -3,9 +3,8 @@ use native.Mathlib.Omega.{arith}
 use Prim.Native.Nat.{_+_, _*_, _-_, _≤_}
 use mathlib.Core.Path.{_≡_}
 use lib.ListN.{length}
-use Rattle.words.specs.Words.{words}
 use Rattle.layout.specs.Regions.{need}
-use Rattle.layout.specs.View.{view}
+use Rattle.layout.specs.View.{viewOf}
 use Rattle.model.specs.Writing.{newestOf}
 use Rattle.model.specs.Asked.{shapeIn}
 use Rattle.layout.proofs.Indices.{tail-in, sizes-need}
@@ -16,8 +15,8 @@ use Rattle.merging.proofs.apply.Tie as tie
 
 abbrev Inv-loop : tie.InvT-loop
 Inv-loop mem₀ s g c page n low first newest i₀ mem latest i =
-    (i ≤ n) × (length mem ≡ length mem₀) × (latest .0 ≡ newestOf (shapeIn s) (view s (words mem₀)) g c low i (newest .0))
-    × (view s (words mem) ≡ appliedAll (shapeIn s) g c page low i (view s (words mem₀)))
+    (i ≤ n) × (length mem ≡ length mem₀) × (latest .0 ≡ newestOf (shapeIn s) (viewOf s mem₀) g c low i (newest .0))
+    × (viewOf s mem ≡ appliedAll (shapeIn s) g c page low i (viewOf s mem₀))
 
 abbrev μ-loop : tie.MeasureT-loop
 μ-loop mem₀ s g c page n low first newest i₀ mem latest i = n - i

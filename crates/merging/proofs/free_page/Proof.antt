@@ -8,7 +8,7 @@ use Rattle.words.specs.Words.{words}
 use Rattle.words.proofs.Words.{length-words}
 use Rattle.layout.specs.declared.Region.{Region}
 use Rattle.layout.specs.Regions.{need}
-use Rattle.layout.specs.View.{view}
+use Rattle.layout.specs.View.{viewOf}
 use Rattle.layout.proofs.View.{view-long}
 use Rattle.merging.proofs.Pass.{free-here, free-stray}
 use Rattle.merging.proofs.free_page.Statement.{statement}
@@ -21,7 +21,7 @@ returns c =
     let s = start .args .s in
     let m = start .args .mem .now in
     let h : need s ≤ length (words m) = omega (arith, length-words m) in
-    free-stray s (view s (words m)) (start .pre .1) (view-long s (words m) h Region.PageState) _ (sym (find .find-in .ensures) ∙ c .before .enum-told .given .1) (c .stray-page .ensures)
+    free-stray s (viewOf s m) (start .pre .1) (view-long s (words m) h Region.PageState) _ (sym (find .find-in .ensures) ∙ c .before .enum-told .given .1) (c .stray-page .ensures)
 
 returns-2 : tie.Need-returns-2
 returns-2 c =
@@ -30,7 +30,7 @@ returns-2 c =
     let s = start .args .s in
     let m = start .args .mem .now in
     let h : need s ≤ length (words m) = omega (arith, length-words m) in
-    free-here s (view s (words m)) (start .pre .1) (view-long s (words m) h Region.PageState) _ (sym (find .find-in .ensures) ∙ c .before .page .given .1)
+    free-here s (viewOf s m) (start .pre .1) (view-long s (words m) h Region.PageState) _ (sym (find .find-in .ensures) ∙ c .before .page .given .1)
 
 pub free-page-spec : {M : Type 1} → statement M
 free-page-spec =

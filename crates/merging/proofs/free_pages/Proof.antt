@@ -3,10 +3,9 @@ use native.Mathlib.Omega.{arith}
 use Prim.Native.Nat.{_-_, _≤_}
 use mathlib.Core.Path.{_≡_, refl}
 use lib.ListN.{length}
-use Rattle.words.specs.Words.{words}
-use Rattle.layout.specs.View.{view}
+use Rattle.layout.specs.View.{viewOf}
 use Rattle.model.specs.Stored.{countBelow}
-use Rattle.merging.specs.Steps.{spare, sparesFreed}
+use Rattle.merging.specs.Steps.{freeable, freeablesFreed}
 use Rattle.rows.proofs.Indices.{places-few}
 use Rattle.merging.proofs.Freeing.{freed-none, freed-next, freed-end, count-next, count-most}
 use Rattle.merging.proofs.free_pages.Statement.{statement}
@@ -14,8 +13,8 @@ use Rattle.merging.proofs.free_pages.Tie as tie
 
 abbrev Inv-loop : tie.InvT-loop
 Inv-loop mem₀ s least pages n₀ p₀ mem n p =
-    (p ≤ pages) × (length mem ≡ length mem₀) × (n ≡ countBelow (spare least (view s (words mem₀))) p)
-    × (view s (words mem) ≡ sparesFreed least p (view s (words mem₀)))
+    (p ≤ pages) × (length mem ≡ length mem₀) × (n ≡ countBelow (freeable least (viewOf s mem₀)) p)
+    × (viewOf s mem ≡ freeablesFreed least p (viewOf s mem₀))
 
 abbrev μ-loop : tie.MeasureT-loop
 μ-loop mem₀ s least pages n₀ p₀ mem n p = pages - p
@@ -25,7 +24,7 @@ free-one-requires c κs =
     let start = c .before .before .before .before in
     let a = start .args in
     let here = c .before .before .loop in
-    let few = count-most (a .least) (view (a .s) (words (a .mem .now))) (here .p) in
+    let few = count-most (a .least) (viewOf (a .s) (a .mem .now)) (here .p) in
     (omega arith, (omega arith, omega (arith, few, here .inv .2, places-few _ (start .pre .1) .1)))
 
 loop-again : tie.Need-loop-again Inv-loop μ-loop

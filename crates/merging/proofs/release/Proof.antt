@@ -4,9 +4,8 @@ use borrow.Author.Needs.{needs}
 use Prim.Native.Nat.{ℕ, _^_, _<_}
 use mathlib.Core.Path.{_∙_}
 use lib.ListN.{getD}
-use Rattle.words.specs.Words.{words}
 use Rattle.layout.specs.declared.Region.{Region}
-use Rattle.layout.specs.View.{view}
+use Rattle.layout.specs.View.{viewOf}
 use Rattle.layout.proofs.Lay.{view-fits}
 use Rattle.merging.proofs.Freeing.{needed-least, spare-is, freed-is, counted-is}
 use Rattle.merging.proofs.release.Statement.{statement}
@@ -21,7 +20,7 @@ returns c =
     let start = known .before in
     let a = start .args in
     let few = few-merges .least .result in
-    let v = view (a .s) (words (a .mem .now)) in
+    let v = viewOf (a .s) (a .mem .now) in
     let fits : (p : ℕ) → getD (v Region.PageReplaced) p 0 < 2 ^ 32 = view-fits (a .s) (a .mem .now) (λ k. omega (arith, known .slice-known .given k)) Region.PageReplaced in
     let q = spare-is ps few v (λ m k. rw (few-merges .least .ensures) (needed-least ps (a .scans) e h m k)) fits in
     (freed .free-pages .ensures .0 ∙ counted-is (a .s) ps few v (start .pre .1 .0) q, freed .free-pages .ensures .1 ∙ freed-is (a .s) ps few v (start .pre .1 .0) q)

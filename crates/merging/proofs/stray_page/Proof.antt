@@ -4,8 +4,7 @@ use mathlib.Core.Path.{_≡_}
 use native.Mathlib.Omega.{arith}
 use native.Mathlib.Nat.{sub-zero}
 use borrow.Author.Needs.{needs}
-use Rattle.words.specs.Words.{words}
-use Rattle.layout.specs.View.{view}
+use Rattle.layout.specs.View.{viewOf}
 use Rattle.model.specs.Asked.{shapeIn}
 use Rattle.model.specs.Stored.{firstFrom}
 use Rattle.model.specs.Writing.{strayIn}
@@ -15,7 +14,7 @@ use Rattle.merging.proofs.stray_page.Tie as tie
 
 abbrev Inv-loop : tie.InvT-loop
 Inv-loop mem s pages p₀ p =
-    (p ≤ pages) × (firstFrom (strayIn (shapeIn s) (view s (words mem))) pages 0 ≡ firstFrom (strayIn (shapeIn s) (view s (words mem))) (pages - p) p)
+    (p ≤ pages) × (firstFrom (strayIn (shapeIn s) (viewOf s mem)) pages 0 ≡ firstFrom (strayIn (shapeIn s) (viewOf s mem)) (pages - p) p)
 
 abbrev μ-loop : tie.MeasureT-loop
 μ-loop mem s pages p₀ p = pages - p

@@ -1,15 +1,14 @@
 -- `pages::all_waiting_at_most` meets its contract. The invariant: the flag is that of the pages below p.
 use borrow.Author.Needs.{needs}
 use Prim.Native.Nat.{_-_}
-use Rattle.words.specs.Words.{words}
-use Rattle.layout.specs.View.{view}
+use Rattle.layout.specs.View.{viewOf}
 use Rattle.facts.specs.Facts.{waitingAtMost}
 use Rattle.facts.proofs.Each.{Flagged, flag-raised, flag-next, flag-all}
 use Rattle.pages.proofs.all_waiting_at_most.Statement.{statement}
 use Rattle.pages.proofs.all_waiting_at_most.Tie as tie
 
 abbrev Inv-loop : tie.InvT-loop
-Inv-loop mem s k most n ok₀ p₀ ok p = Flagged n (waitingAtMost (view s (words mem)) k most) ok p
+Inv-loop mem s k most n ok₀ p₀ ok p = Flagged n (waitingAtMost (viewOf s mem) k most) ok p
 
 abbrev μ-loop : tie.MeasureT-loop
 μ-loop mem s k most n ok₀ p₀ ok p = n - p

@@ -7,8 +7,7 @@ use lib.Dec.{eqb, leb}
 use borrow.Author.Needs.{needs}
 use borrow.Author.Tests.{lt-ltb, le-ltb}
 use Rattle.terms.specs.Measures.{mostPlaces}
-use Rattle.words.specs.Words.{words}
-use Rattle.layout.specs.View.{view, usedIn}
+use Rattle.layout.specs.View.{usedIn, viewOf}
 use Rattle.facts.specs.Facts.{pagePlaced, currentAtMost, currentLineage}
 use Rattle.facts.specs.Tests.{currentHolds}
 use Rattle.layout.proofs.Indices.{place-range, places-few}
@@ -56,7 +55,7 @@ returns-2 c =
     let state = place .before in
     let inside = state .before in
     let s = start lineage in
-    let v = view (s .args .s) (words (s .args .mem .now)) in
+    let v = viewOf (s .args .s) (s .args .mem .now) in
     rw (← inside .before .before .read .ensures, lt-ltb _ _ (inside .if1 .left))
     (c .both3 .ensures
     ∙ together (one .both .ensures ∙ together (ap (λ (w : ℕ). eqb w 1) (state .read2 .ensures)) (ap (λ (w : ℕ). eqb w (s .args .i)) (place .read3 .ensures)))

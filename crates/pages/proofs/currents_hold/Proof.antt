@@ -1,15 +1,14 @@
 -- `pages::currents_hold` meets its contract. The invariant: the flag is that of the places below i.
 use borrow.Author.Needs.{needs}
 use Prim.Native.Nat.{_-_}
-use Rattle.words.specs.Words.{words}
-use Rattle.layout.specs.View.{view}
+use Rattle.layout.specs.View.{viewOf}
 use Rattle.facts.specs.Tests.{currentHolds}
 use Rattle.facts.proofs.Each.{Flagged, flag-raised, flag-next, flag-all}
 use Rattle.pages.proofs.currents_hold.Statement.{statement}
 use Rattle.pages.proofs.currents_hold.Tie as tie
 
 abbrev Inv-loop : tie.InvT-loop
-Inv-loop mem s inverse last n ok₀ i₀ ok i = Flagged n (currentHolds s (view s (words mem))) ok i
+Inv-loop mem s inverse last n ok₀ i₀ ok i = Flagged n (currentHolds s (viewOf s mem)) ok i
 
 abbrev μ-loop : tie.MeasureT-loop
 μ-loop mem s inverse last n ok₀ i₀ ok i = n - i

@@ -4,8 +4,7 @@ use borrow.Author.Needs.{needs}
 use Prim.Native.Nat.{ℕ, _/_, _%_}
 use mathlib.Core.Path.{_≡_, ap, _∙_}
 use borrow.Author.Tests.{lt-ltb, le-ltb}
-use Rattle.words.specs.Words.{words}
-use Rattle.layout.specs.View.{view}
+use Rattle.layout.specs.View.{viewOf}
 use Rattle.facts.specs.Facts.{pageRange, waitingAtMost, waitingLineage}
 use Rattle.layout.proofs.Indices.{place-range, places-few, places-some}
 use Rattle.pages.proofs.waiting_lineage.Statement.{statement}
@@ -28,7 +27,7 @@ range-of-place-requires c κs =
     (omega (arith, places-few (s .args .s) (s .pre .0 .proper), c .modulo-places .ensures .1), s .pre .1 .2)
 
 -- the range of the page's place
-range-is : (c : tie.After-range-of-place) → let a = start (c .before .before) .args in c .range-of-place .result ≡ pageRange (a .s) (view (a .s) (words (a .mem .now))) (a .p)
+range-is : (c : tie.After-range-of-place) → let a = start (c .before .before) .args in c .range-of-place .result ≡ pageRange (a .s) (viewOf (a .s) (a .mem .now)) (a .p)
 range-is c =
     let place = c .before in
     let s = start (place .before) in

@@ -1,15 +1,14 @@
 -- `pages::waiting_lineages` meets its contract. The invariant: the flag is that of the pages below p.
 use borrow.Author.Needs.{needs}
 use Prim.Native.Nat.{_-_}
-use Rattle.words.specs.Words.{words}
-use Rattle.layout.specs.View.{view}
+use Rattle.layout.specs.View.{viewOf}
 use Rattle.facts.specs.Facts.{waitingLineage}
 use Rattle.facts.proofs.Each.{Flagged, flag-raised, flag-next, flag-all}
 use Rattle.pages.proofs.waiting_lineages.Statement.{statement}
 use Rattle.pages.proofs.waiting_lineages.Tie as tie
 
 abbrev Inv-loop : tie.InvT-loop
-Inv-loop mem s inverse n ok₀ p₀ ok p = Flagged n (waitingLineage s (view s (words mem))) ok p
+Inv-loop mem s inverse n ok₀ p₀ ok p = Flagged n (waitingLineage s (viewOf s mem)) ok p
 
 abbrev μ-loop : tie.MeasureT-loop
 μ-loop mem s inverse n ok₀ p₀ ok p = n - p

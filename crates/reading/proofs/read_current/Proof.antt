@@ -9,7 +9,7 @@ returns : tie.Need-returns
 unfolding readCurrent
 returns c =
     let range : tie.After-range-of = search in
-    rw (c .read-row .ensures, c .before .current-page .ensures .0, range .range-of .ensures)
+    rw (c .read-cell .ensures, c .before .current-page .ensures .0, range .range-of .ensures)
 
 pub read-current-spec : {M : Type 1} → statement M
 read-current-spec =

@@ -2,8 +2,7 @@
 use Prim.Native.Nat.{_≤_, _<_}
 use mathlib.Core.Path.{_≡_, refl}
 use native.Mathlib.Omega.{arith}
-use Rattle.words.specs.Words.{words}
-use Rattle.layout.specs.View.{view}
+use Rattle.layout.specs.View.{viewOf}
 use Rattle.model.specs.Reading as R
 use Rattle.model.specs.Asked.{shapeIn}
 use Rattle.reading.proofs.Walking.{walk-stop, walk-hit, link-lower, walk-on}
@@ -12,7 +11,7 @@ use Rattle.reading.proofs.walk.Tie as tie
 
 abbrev Inv-loop : tie.InvT-loop
 Inv-loop mem s who g c last k₀ k =
-    let m = view s (words mem) in
+    let m = viewOf s mem in
     (k ≤ k₀) × (R.walk (shapeIn s) m who g c last k₀ k₀ ≡ R.walk (shapeIn s) m who g c last k k)
 
 abbrev μ-loop : tie.MeasureT-loop

@@ -1,15 +1,14 @@
 -- `records::ranges_hold` meets its contract. The invariant: the flag is that of the ranges below g.
 use borrow.Author.Needs.{needs}
 use Prim.Native.Nat.{_-_}
-use Rattle.words.specs.Words.{words}
-use Rattle.layout.specs.View.{view}
+use Rattle.layout.specs.View.{viewOf}
 use Rattle.facts.specs.Tests.{rangeHolds}
 use Rattle.facts.proofs.Each.{Flagged, flag-raised, flag-next, flag-all}
 use Rattle.records.proofs.ranges_hold.Statement.{statement}
 use Rattle.records.proofs.ranges_hold.Tie as tie
 
 abbrev Inv-loop : tie.InvT-loop
-Inv-loop mem s n ok₀ g₀ ok g = Flagged n (rangeHolds s (view s (words mem))) ok g
+Inv-loop mem s n ok₀ g₀ ok g = Flagged n (rangeHolds s (viewOf s mem)) ok g
 
 abbrev μ-loop : tie.MeasureT-loop
 μ-loop mem s n ok₀ g₀ ok g = n - g

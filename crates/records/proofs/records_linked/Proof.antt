@@ -1,15 +1,14 @@
 -- `records::records_linked` meets its contract. The invariant: the flag is that of the records below i.
 use borrow.Author.Needs.{needs}
 use Prim.Native.Nat.{_-_}
-use Rattle.words.specs.Words.{words}
-use Rattle.layout.specs.View.{view}
+use Rattle.layout.specs.View.{viewOf}
 use Rattle.facts.specs.Facts.{recordLinked, rangeLinked}
 use Rattle.facts.proofs.Each.{Flagged, flag-raised, flag-next, flag-all}
 use Rattle.records.proofs.records_linked.Statement.{statement}
 use Rattle.records.proofs.records_linked.Tie as tie
 
 abbrev Inv-loop : tie.InvT-loop
-Inv-loop mem s g n ok₀ i₀ ok i = Flagged n (recordLinked s (view s (words mem)) g) ok i
+Inv-loop mem s g n ok₀ i₀ ok i = Flagged n (recordLinked s (viewOf s mem) g) ok i
 
 abbrev μ-loop : tie.MeasureT-loop
 μ-loop mem s g n ok₀ i₀ ok i = n - i

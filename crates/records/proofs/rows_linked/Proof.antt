@@ -1,15 +1,14 @@
 -- `records::rows_linked` meets its contract. The invariant: the flag is that of the rows below r.
 use borrow.Author.Needs.{needs}
 use Prim.Native.Nat.{_-_}
-use Rattle.words.specs.Words.{words}
-use Rattle.layout.specs.View.{view}
+use Rattle.layout.specs.View.{viewOf}
 use Rattle.facts.specs.Facts.{rowLinked}
 use Rattle.facts.proofs.Each.{Flagged, flag-raised, flag-next, flag-all}
 use Rattle.records.proofs.rows_linked.Statement.{statement}
 use Rattle.records.proofs.rows_linked.Tie as tie
 
 abbrev Inv-loop : tie.InvT-loop
-Inv-loop mem s n ok₀ r₀ ok r = Flagged n (rowLinked s (view s (words mem))) ok r
+Inv-loop mem s n ok₀ r₀ ok r = Flagged n (rowLinked s (viewOf s mem)) ok r
 
 abbrev μ-loop : tie.MeasureT-loop
 μ-loop mem s n ok₀ r₀ ok r = n - r

@@ -3,12 +3,12 @@ use Prim.Native.Nat.{ℕ}
 use mathlib.Core.Path.{_≡_}
 use mathlib.Core.List.{List}
 use borrow.Author.Needs.{needs}
-use Rattle.terms.specs.declared.Place.{Place}
+use Rattle.terms.specs.declared.ScanEntry.{ScanEntry}
 use Rattle.words.specs.Words.{words}
 use Rattle.scans.specs.declared.Scans.{Scans}
 use Rattle.scans.specs.Table.{tableOf}
 use Rattle.commands.specs.declared.Request.{Request}
-use Rattle.requests.specs.Packed.{placesOf}
+use Rattle.requests.specs.Packed.{entriesOf}
 use Rattle.requests.proofs.Arms.{read-served, write-served, open-served, close-served}
 use Rattle.requests.proofs.call.Statement.{statement}
 use Rattle.requests.proofs.call.Tie as tie
@@ -23,8 +23,8 @@ start u = tabled u .before .before .before .before
 abbrev mem : tie.After-values → List ℕ
 mem u = start u .args .mem .now
 
-abbrev list : tie.After-values → List Place
-list u = placesOf (words (start u .args .scans .now))
+abbrev list : tie.After-values → List ScanEntry
+list u = entriesOf (words (start u .args .scans .now))
 
 abbrev request : tie.After-values → Request
 request u = start u .args .request

@@ -8,7 +8,7 @@ returns : tie.Need-returns
 returns c =
     let put = c .before .before in
     let call = put .before .before .before in
-    λ z. listed _ _ _ (call .close-scan .result) _ _ _ (call .close-scan .ensures) (put .place-put .ensures) z
+    λ z. listed _ _ _ (call .close-scan .result) _ _ _ (call .close-scan .ensures) (put .put-entry .ensures) z
 
 pub close-listed-spec : {M : Type 1} → statement M
 close-listed-spec = tie.close (tie.spec (λ c κs. search needs) (λ c κs. search needs) (λ c. search needs) returns)

@@ -9,7 +9,7 @@ returns c =
     let put = c .before .before in
     let entry = put .before .before in
     let call = entry .before .before .before in
-    λ z. listed _ _ _ (call .open-scan .result) _ _ _ (call .open-scan .ensures) (put .place-put .ensures) z
+    λ z. listed _ _ _ (call .open-scan .result) _ _ _ (call .open-scan .ensures) (put .put-entry .ensures) z
 
 pub open-listed-spec : {M : Type 1} → statement M
 open-listed-spec = tie.close (tie.spec (λ c κs. search needs) (λ c κs. search needs) (λ c. search needs) (λ c. search needs) returns)

@@ -2,8 +2,7 @@
 use Prim.Native.Nat.{_-_, _≤_}
 use mathlib.Core.Path.{_≡_}
 use native.Mathlib.Omega.{arith}
-use Rattle.words.specs.Words.{words}
-use Rattle.layout.specs.View.{view}
+use Rattle.layout.specs.View.{viewOf}
 use Rattle.model.specs.Asked.{shapeIn}
 use Rattle.summing.specs.Sums.{Tallied}
 use Rattle.summing.proofs.Sums.{one-range}
@@ -12,7 +11,7 @@ use Rattle.summing.proofs.add_rows.Tie as tie
 
 abbrev Inv-loop : tie.InvT-loop
 Inv-loop mem s scan page c from to sum₀ row₀ sum row =
-    (from ≤ row) × (row ≤ to) × Tallied (shapeIn s) (view s (words mem)) scan c row sum
+    (from ≤ row) × (row ≤ to) × Tallied (shapeIn s) (viewOf s mem) scan c row sum
 
 abbrev μ-loop : tie.MeasureT-loop
 μ-loop mem s scan page c from to sum₀ row₀ sum row = to - row

@@ -1,8 +1,7 @@
 -- `summing::sum_rows` meets its contract.
 use Prim.Native.Nat.{_-_, _≤_}
 use native.Mathlib.Omega.{arith}
-use Rattle.words.specs.Words.{words}
-use Rattle.layout.specs.View.{view}
+use Rattle.layout.specs.View.{viewOf}
 use Rattle.model.specs.Asked.{shapeIn}
 use Rattle.summing.specs.Sums.{Tallied}
 use Rattle.summing.proofs.Sums.{page-of, given-few, given-range, none-tallied, sum-is}
@@ -11,7 +10,7 @@ use Rattle.summing.proofs.sum_rows.Statement.{statement}
 use Rattle.summing.proofs.sum_rows.Tie as tie
 
 abbrev Inv-loop : tie.InvT-loop
-Inv-loop mem s scan c given merges sum₀ from₀ sum from = (from ≤ given) × Tallied (shapeIn s) (view s (words mem)) scan c from sum
+Inv-loop mem s scan c given merges sum₀ from₀ sum from = (from ≤ given) × Tallied (shapeIn s) (viewOf s mem) scan c from sum
 
 abbrev μ-loop : tie.MeasureT-loop
 μ-loop mem s scan c given merges sum₀ from₀ sum from = given - from

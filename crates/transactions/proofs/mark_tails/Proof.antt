@@ -1,19 +1,17 @@
 -- `transactions::mark_tails` meets its contract.
 use native.Mathlib.Omega.{arith}
 use Prim.Native.Nat.{_-_, _≤_}
-use mathlib.Core.Path.{_≡_}
+use mathlib.Core.Path.{_≡_, sym}
 use lib.ListN.{length}
-use Rattle.words.specs.Words.{words}
-use Rattle.layout.specs.View.{view}
+use Rattle.layout.specs.View.{viewOf}
 use Rattle.model.specs.Asked.{shapeIn}
 use Rattle.transactions.proofs.Tails.{marksTo, marks-none, marks-used, marks-next, marks-all}
-use mathlib.Core.Path.{sym}
 use Rattle.transactions.proofs.mark_tails.Statement.{statement}
 use Rattle.transactions.proofs.mark_tails.Tie as tie
 
 abbrev Inv-loop : tie.InvT-loop
 Inv-loop mem₀ s t k w ranges g₀ mem g =
-    (g ≤ ranges) × (length mem ≡ length mem₀) × (view s (words mem) ≡ marksTo (shapeIn s) (t .0) k w (view s (words mem₀)) g)
+    (g ≤ ranges) × (length mem ≡ length mem₀) × (viewOf s mem ≡ marksTo (shapeIn s) (t .0) k w (viewOf s mem₀) g)
 
 abbrev μ-loop : tie.MeasureT-loop
 μ-loop mem₀ s t k w ranges g₀ mem g = ranges - g

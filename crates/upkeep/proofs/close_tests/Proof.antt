@@ -1,7 +1,6 @@
 -- `upkeep::close_tests` meets its contract: each answer follows from the search that led to it.
 use native.Mathlib.Omega.{arith}
 use borrow.Author.Needs.{needs}
-
 use mathlib.Core.Path.{_≡_, sym, _∙_}
 use lib.ListN.{length}
 use Rattle.terms.specs.Measures.{mostScans}

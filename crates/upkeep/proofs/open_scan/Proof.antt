@@ -26,10 +26,10 @@ returns c =
 give-scan-requires : tie.Need-give-scan-requires
 give-scan-requires c κs =
     let known-told : tie.After-known-told = search in
-    let passed : tie.After-place = search in
+    let passed : tie.After-index = search in
     let tests : tie.After-open-tests = search in
     let e = fit known-told in
-    let k = rw (passed .place .given .1) at (tests .open-tests .ensures .1) in
+    let k = rw (passed .index .given .1) at (tests .open-tests .ensures .1) in
     (part-fitted e .room, rw (part-seen e) (k .1))
 
 returns-2 : tie.Need-returns-2
@@ -47,11 +47,11 @@ returns-3 c =
     let known-told : tie.After-known-told = search in
     let act : tie.After-give-scan = search in
     let read : tie.After-read = search in
-    let passed : tie.After-place = search in
+    let passed : tie.After-index = search in
     let tests : tie.After-open-tests = search in
     let e = fit known-told in
-    let k = rw (passed .place .given .1) at (tests .open-tests .ensures .1) in
-    write-serves e _ _ _ (passed .place .given .1) (tests .open-tests .ensures .0) _ _ _ (act .give-scan .kept .0)
+    let k = rw (passed .index .given .1) at (tests .open-tests .ensures .1) in
+    write-serves e _ _ _ (passed .index .given .1) (tests .open-tests .ensures .0) _ _ _ (act .give-scan .kept .0)
     (λ k. omega (arith, c .slice-known2 .given k))
     (λ ps q few. (ap Answer.Number (act .give-scan .ensures .0), act .give-scan .ensures .1, opened-list _ ps q _ _ _ _ (k .0) (rw (act .give-scan .ensures .0, read .read .ensures, part-seen e))))
 

@@ -4,7 +4,7 @@ use borrow.Author.Needs.{needs}
 use mathlib.Core.Path.{refl, ap}
 use Rattle.terms.specs.declared.Answer.{Answer}
 use Rattle.history.specs.History.{verdict}
-use Rattle.model.specs.Calls.{testsIn, replyIn, actIn, placesAfter}
+use Rattle.model.specs.Calls.{testsIn, replyIn, actIn, entriesAfter}
 use Rattle.promise.specs.Promise.{ServesBy, kept}
 use Rattle.entry.specs.declared.Tested.{Tested}
 use Rattle.entry.specs.Entered.{Entered}
@@ -33,7 +33,7 @@ release-requires c κs =
     let f = part-fitted (fit (c .before)) in (f .room, (f .proper, omega (arith, if1 .if1 .left)))
 
 returns-3 : tie.Need-returns-3
-unfolding TestsBy testsIn verdict replyIn actIn placesAfter
+unfolding TestsBy testsIn verdict replyIn actIn entriesAfter
 returns-3 c =
     let known-told : tie.After-known-told = search in
     let act : tie.After-release = search in

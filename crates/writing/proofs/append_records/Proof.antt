@@ -2,8 +2,7 @@
 use native.Mathlib.Omega.{arith}
 use borrow.Author.Needs.{needs}
 use mathlib.Core.Path.{_≡_, _∙_}
-use Rattle.words.specs.Words.{words}
-use Rattle.layout.specs.View.{view}
+use Rattle.layout.specs.View.{viewOf}
 use Rattle.model.specs.Writing.{newBitsIn}
 use Rattle.writing.specs.Steps.{Room}
 use Rattle.writing.proofs.Steps.{used-long, fresh-is, wanted-one, wanted-two, records-one, records-two, original-room}
@@ -17,17 +16,17 @@ start c = let read = c .before in read .before .before .before .before
 abbrev original : tie.After-append-setting-arg → tie.After-append-original
 original c = c .before .before .before
 
-fresh : (c : tie.After-new-bits) → let a = start c .args in c .new-bits .result ≡ newBitsIn (view (a .s) (words (a .mem .now))) (a .row .0) (a .mask)
+fresh : (c : tie.After-new-bits) → let a = start c .args in c .new-bits .result ≡ newBitsIn (viewOf (a .s) (a .mem .now)) (a .row .0) (a .mask)
 fresh c = fresh-is _ _ _ _ _ (c .before .read .ensures) (c .new-bits .ensures)
 
 -- room for two records where there is a fresh column, for one where there is none
-two : (c : tie.Then1) → let a = start (c .before) .args in Room (a .s) (view (a .s) (words (a .mem .now))) (a .row .0) 2
+two : (c : tie.Then1) → let a = start (c .before) .args in Room (a .s) (viewOf (a .s) (a .mem .now)) (a .row .0) 2
 two c =
     let o = start (c .before) .pre .1 .1 in
     let w = wanted-two _ _ _ _ (fresh (c .before)) (c .if1 .taken) in
     record { row-below = o .row-below; left = omega (arith, w, o .left) }
 
-one : (c : tie.Else1) → let a = start (c .before) .args in Room (a .s) (view (a .s) (words (a .mem .now))) (a .row .0) 1
+one : (c : tie.Else1) → let a = start (c .before) .args in Room (a .s) (viewOf (a .s) (a .mem .now)) (a .row .0) 1
 one c =
     let o = start (c .before) .pre .1 .1 in
     let w = wanted-one _ _ _ _ (fresh (c .before)) (c .if1 .left) in

@@ -4,9 +4,8 @@ use borrow.Author.Needs.{needs}
 use Prim.Native.Nat.{_+_, _*_, _-_, _≤_}
 use mathlib.Core.Path.{_≡_}
 use lib.ListN.{length}
-use Rattle.words.specs.Words.{words}
 use Rattle.layout.specs.Regions.{need}
-use Rattle.layout.specs.View.{view}
+use Rattle.layout.specs.View.{viewOf}
 use Rattle.model.specs.Asked.{shapeIn}
 use Rattle.layout.proofs.Indices.{places-in, sizes-need}
 use Rattle.writing.specs.Steps.{cellWords}
@@ -16,7 +15,7 @@ use Rattle.writing.proofs.fill_cells.Tie as tie
 
 abbrev Inv-loop : tie.InvT-loop
 Inv-loop mem₀ s g i columns to first c₀ mem c =
-    (c ≤ columns) × (length mem ≡ length mem₀) × (view s (words mem) ≡ fillsTo (shapeIn s) (cellWords (shapeIn s) (view s (words mem₀)) g i) to (view s (words mem₀)) c)
+    (c ≤ columns) × (length mem ≡ length mem₀) × (viewOf s mem ≡ fillsTo (shapeIn s) (cellWords (shapeIn s) (viewOf s mem₀) g i) to (viewOf s mem₀) c)
 
 abbrev μ-loop : tie.MeasureT-loop
 μ-loop mem₀ s g i columns to first c₀ mem c = columns - c

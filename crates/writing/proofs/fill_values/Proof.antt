@@ -6,9 +6,8 @@ use mathlib.Core.Path.{_≡_}
 use lib.IntN.{pos}
 use lib.ListN.{length, getD}
 use Rattle.terms.specs.Measures.{mostColumns}
-use Rattle.words.specs.Words.{words}
 use Rattle.layout.specs.Regions.{need}
-use Rattle.layout.specs.View.{view}
+use Rattle.layout.specs.View.{viewOf}
 use Rattle.model.specs.Asked.{shapeIn}
 use Rattle.layout.proofs.Indices.{sizes-need}
 use Rattle.writing.specs.Steps.{valueWords}
@@ -18,7 +17,7 @@ use Rattle.writing.proofs.fill_values.Tie as tie
 
 abbrev Inv-loop : tie.InvT-loop
 Inv-loop mem₀ s g vs columns to c₀ mem c =
-    (c ≤ columns) × (length mem ≡ length mem₀) × (view s (words mem) ≡ fillsTo (shapeIn s) (valueWords vs) to (view s (words mem₀)) c)
+    (c ≤ columns) × (length mem ≡ length mem₀) × (viewOf s mem ≡ fillsTo (shapeIn s) (valueWords vs) to (viewOf s mem₀) c)
 
 abbrev μ-loop : tie.MeasureT-loop
 μ-loop mem₀ s g vs columns to c₀ mem c = columns - c

@@ -6,9 +6,8 @@ use mathlib.Core.Path.{_≡_}
 use lib.IntN.{pos}
 use lib.ListN.{length, getD}
 use Rattle.terms.specs.Measures.{mostColumns}
-use Rattle.words.specs.Words.{words}
 use Rattle.layout.specs.Regions.{need}
-use Rattle.layout.specs.View.{view}
+use Rattle.layout.specs.View.{viewOf}
 use Rattle.model.specs.Asked.{shapeIn}
 use Rattle.layout.proofs.Indices.{places-in, sizes-need}
 use Rattle.writing.proofs.Steps.{cellsTo, cells-none, cells-current, cells-next, cells-all, word-of}
@@ -17,7 +16,7 @@ use Rattle.writing.proofs.put_cells.Tie as tie
 
 abbrev Inv-loop : tie.InvT-loop
 Inv-loop mem₀ s g i vs columns first c₀ mem c =
-    (c ≤ columns) × (length mem ≡ length mem₀) × (view s (words mem) ≡ cellsTo (shapeIn s) g i vs (view s (words mem₀)) c)
+    (c ≤ columns) × (length mem ≡ length mem₀) × (viewOf s mem ≡ cellsTo (shapeIn s) g i vs (viewOf s mem₀) c)
 
 abbrev μ-loop : tie.MeasureT-loop
 μ-loop mem₀ s g i vs columns first c₀ mem c = columns - c

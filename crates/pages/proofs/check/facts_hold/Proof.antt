@@ -4,8 +4,7 @@ use mathlib.Core.Bool.{true, false}
 use Prim.Native.Nat.{ℕ}
 use native.Mathlib.Omega.{arith}
 use borrow.Author.Needs.{needs}
-use Rattle.words.specs.Words.{words}
-use Rattle.layout.specs.View.{view}
+use Rattle.layout.specs.View.{viewOf}
 use Rattle.loops.proofs.Search.{and-true}
 use Rattle.facts.specs.Facts.{factsHold}
 use Rattle.facts.specs.Tests.{Ready}
@@ -36,7 +35,7 @@ returns c =
     let counts = records .before in
     let s = counts .before .before .before in
     let z = s .args .s in
-    let v = view z (words (s .args .mem .now)) in
+    let v = viewOf z (s .args .mem .now) in
     let flag = counts .before .counts-within .ensures in (
       λ ps e.
           let k = few z (s .args .mem .now) (s .args .t) _ flag ps e (counts .if1 .taken) in

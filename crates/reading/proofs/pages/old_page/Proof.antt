@@ -3,8 +3,7 @@ use Prim.Native.Nat.{_-_, _≤_}
 use mathlib.Core.Path.{_≡_}
 use native.Mathlib.Omega.{arith}
 use native.Mathlib.Nat.{sub-zero}
-use Rattle.words.specs.Words.{words}
-use Rattle.layout.specs.View.{view}
+use Rattle.layout.specs.View.{viewOf}
 use Rattle.model.specs.Stored.{firstFrom}
 use Rattle.model.specs.Reading.{wasCurrent}
 use Rattle.model.specs.Asked.{shapeIn}
@@ -15,7 +14,7 @@ use Rattle.reading.proofs.pages.old_page.Tie as tie
 
 abbrev Inv-loop : tie.InvT-loop
 Inv-loop mem s merges place n p₀ p =
-    let f = wasCurrent (shapeIn s) (view s (words mem)) merges place in
+    let f = wasCurrent (shapeIn s) (viewOf s mem) merges place in
     (p ≤ n) × (firstFrom f n 0 ≡ firstFrom f (n - p) p)
 
 abbrev μ-loop : tie.MeasureT-loop

@@ -7,13 +7,13 @@ use borrow.Author.Needs.{needs}
 use Rattle.words.specs.Words.{words}
 use Rattle.words.proofs.Words.{length-words}
 use Rattle.scans.proofs.Table.{Entered, none-entered, open-entered, free-entered, all-entered}
-use Rattle.requests.specs.Packed.{placesOf}
+use Rattle.requests.specs.Packed.{entriesOf}
 use Rattle.requests.proofs.Places.{length-places}
 use Rattle.requests.proofs.packed.table.Statement.{statement}
 use Rattle.requests.proofs.packed.table.Tie as tie
 
 abbrev Inv-loop : tie.InvT-loop
-Inv-loop list n t₀ i₀ t i = Entered (placesOf (words list)) n t i
+Inv-loop list n t₀ i₀ t i = Entered (entriesOf (words list)) n t i
 
 abbrev μ-loop : tie.MeasureT-loop
 μ-loop list n t₀ i₀ t i = n - i
@@ -21,7 +21,7 @@ abbrev μ-loop : tie.MeasureT-loop
 loop-holds : tie.Need-loop-holds Inv-loop μ-loop
 loop-holds c =
     let l = c .before .before .args .list .now in
-    none-entered (placesOf (words l)) _ _ (omega (arith, length-words l, length-places (words l))) (c .blank .ensures)
+    none-entered (entriesOf (words l)) _ _ (omega (arith, length-words l, length-places (words l))) (c .blank .ensures)
 
 enter-requires : tie.Need-enter-requires Inv-loop μ-loop
 enter-requires c κs = (omega arith, sym (c .before .is-open .ensures) ∙ c .if1 .taken)
@@ -29,7 +29,7 @@ enter-requires c κs = (omega arith, sym (c .before .is-open .ensures) ∙ c .if
 loop-again : tie.Need-loop-again Inv-loop μ-loop
 loop-again c =
     let o = c .before .before .before .before .loop in
-    let p = c .before .before .place-at in
+    let p = c .before .before .entry-at in
     ⊎-elim
     (λ w. open-entered _ _ (o .t) _ (o .i) (p .result) (o .inv) (omega arith) (p .ensures) (w .2 ∙ w .1 .ensures))
     (λ w. rw (w .1) (free-entered _ _ (o .t) (o .i) (p .result) (o .inv) (omega arith) (p .ensures) (sym (c .before .is-open .ensures) ∙ w .0 .left)))

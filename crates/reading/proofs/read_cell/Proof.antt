@@ -1,4 +1,4 @@
--- `reading::read_row` meets its contract.
+-- `reading::read_cell` meets its contract.
 use mathlib.Core.Path.{ap, _∙_}
 use mir.Syntax.{w32}
 use mir.Val.{toZ}
@@ -6,8 +6,8 @@ use mir.ValLaws.{toZ-ofZ}
 use Rattle.terms.specs.declared.Answer.{Answer}
 use Rattle.model.specs.Reading.{readIn}
 use borrow.Author.Needs.{needs}
-use Rattle.reading.proofs.read_row.Statement.{statement}
-use Rattle.reading.proofs.read_row.Tie as tie
+use Rattle.reading.proofs.read_cell.Statement.{statement}
+use Rattle.reading.proofs.read_cell.Tie as tie
 
 returns : tie.Need-returns
 unfolding readIn
@@ -21,8 +21,8 @@ returns-2 : tie.Need-returns-2
 unfolding readIn
 returns-2 c = rw (← c .before .visible .ensures, c .if1 .left)
 
-pub read-row-spec : {M : Type 1} → statement M
-read-row-spec =
+pub read-cell-spec : {M : Type 1} → statement M
+read-cell-spec =
     tie.close
     (tie.spec
     (λ c κs. search needs)

@@ -1,4 +1,4 @@
--- `lent::place_at` meets its contract: a walk of its MIR, by hand. The place of `list[i]` is 12 * i past the pointer, and the record is read there, whole.
+-- `lent::entry_at` meets its contract: a walk of its MIR, by hand. The place of `list[i]` is 12 * i past the pointer, and the record is read there, whole.
 -- Assumes nothing.
 use mathlib.Core.Path.{refl, sym}
 use Prim.Native.Nat.{ℕ, _<_, _*_, _^_}
@@ -37,27 +37,27 @@ use denote.Triple.Spec.{Meets, tripleOf}
 use denote.Triple.Table.{entered}
 use denote.Triple.Walked.{says, needs, Stays, stay-none, stay-none-slice, walkOf, goes-none, goes-none-slice, Walks, ends-at, walked, walk-meets}
 use denote.Exit.{yes}
-use Rattle.terms.specs.declared.Place.{Place}
-use Rattle.terms.specs.Places.{freePlace}
-use Rattle.terms.proofs.Place as T
-use Rattle.terms.proofs.Place.Laws as T′
-use Rattle.lent.proofs.place_at.Key.{name as #lent·place-at}
-use Rattle.lent.proofs.place_at as f
-use Rattle.lent.proofs.place_at.Statement as stated
-use Rattle.lent.proofs.place_at.Code as code
+use Rattle.terms.specs.declared.ScanEntry.{ScanEntry}
+use Rattle.terms.specs.Places.{freeEntry}
+use Rattle.terms.proofs.ScanEntry as T
+use Rattle.terms.proofs.ScanEntry.Laws as T′
+use Rattle.lent.proofs.entry_at.Key.{name as #lent·entry-at}
+use Rattle.lent.proofs.entry_at as f
+use Rattle.lent.proofs.entry_at.Statement as stated
+use Rattle.lent.proofs.entry_at.Code as code
 
 abbrev stayed : Stays (f.ended .signature .params) (f.ended .kept)
 stayed = (stay-none-slice (0 ∷ []) tt (plain (λ _. T.the-row)) yes, (stay-none (λ _. usize) yes, tt))
 
-module _ {M : Type 1} (𝓤 : URA M) (H : Heap 𝓤) (A : Atoms 𝓤) (W : Given 𝓤 H A) (mem : Memory → SProp 𝓤) (run : Routine → Fun 𝓤) (κ : Lft) (q : Share) (b o : ℕ) (γ : GName) (ys : List Place) (i : ℕ) where
-  abbrev s : RefT (List Place)
+module _ {M : Type 1} (𝓤 : URA M) (H : Heap 𝓤) (A : Atoms 𝓤) (W : Given 𝓤 H A) (mem : Memory → SProp 𝓤) (run : Routine → Fun 𝓤) (κ : Lft) (q : Share) (b o : ℕ) (γ : GName) (ys : List ScanEntry) (i : ℕ) where
+  abbrev s : RefT (List ScanEntry)
   s = record { ptr = (b, o); name = γ; now = ys }
 
   abbrev v : Val
   v = sliceVal (b, o) (length ys)
 
-  abbrev elem : Place
-  elem = getD ys i freePlace
+  abbrev elem : ScanEntry
+  elem = getD ys i freeEntry
 
   abbrev mach : Val
   mach = T′.lowered elem
@@ -91,13 +91,13 @@ module _ {M : Type 1} (𝓤 : URA M) (H : Heap 𝓤) (A : Atoms 𝓤) (W : Given
         rewrite ! 2 (λ (p : ℕ). ‵ (fat fullShare tyPtr l₄ 0 (vptr b p))) (sym (place-is 12 o i)) refl $
         move ! (13 ∷ []) $ fsplit ! $ fsplit ! $ move ! (1 ∷ []) $ fsplit ! $ move ! (16 ∷ []) $ split ! $ move ! (3 ∷ 0 ∷ []) $
         looks-slice ! tt T.the-row (Is T.the-row) (shows 𝓤 H A T.the-row) (LL.vals T.the-type T′.the-laws) (LL.tells T.the-type T′.the-laws) (LL.copy T.the-type T′.the-copy 𝓤 H A W) ys b o (λ q′.
-        elem-out ! T.the-row (Is T.the-row) (shows 𝓤 H A T.the-row) (LL.vals T.the-type T′.the-laws) (LL.tells T.the-type T′.the-laws) q′ ys i freePlace b o l (λ g.
+        elem-out ! T.the-row (Is T.the-row) (shows 𝓤 H A T.the-row) (LL.vals T.the-type T′.the-laws) (LL.tells T.the-type T′.the-laws) q′ ys i freeEntry b o l (λ g.
         use1 W (‵ (fat q′ T′.mir b (place 12 o i) mach)) (W .laws .raw-at q′ T′.mir b (place 12 o i) mach) $
         -- [list[i]; what it owns; the others; what shuts; the fractured borrow; true; res; list's fact; i's; _5; …; _4; …; _3; …; _2; …; _1; …; _0; …]
         assigns ! (of-opd ! (load ! (from ! (hop ! (look ! 11 refl) (stop !))) (look ! 0 refl))) (from ! (stop !)) (init ! 9 refl (LL.lawful T.the-type T′.the-laws 𝓤 H A W .typed elem _ g .0)) $
         assigns ! (of-opd ! (load ! (from ! (stop !)) (look ! 9 refl))) (from ! (stop !)) (init ! 19 refl (LL.lawful T.the-type T′.the-laws 𝓤 H A W .typed elem _ g .0)) $
         use1 W (‵ (cellAt q′ (T.the-row .mir) (mach ∷ []) b (place 12 o i))) (W .laws .at-raw q′ T′.mir b (place 12 o i) mach) $
-        elem-back ! T.the-row q′ ys i freePlace (mach ∷ []) b o l $ shuts-slice ! tt T.the-row q′ ys b o $
+        elem-back ! T.the-row q′ ys i freeEntry (mach ∷ []) b o l $ shuts-slice ! tt T.the-row q′ ys b o $
         returns ! (look ! 16 refl) $ forget ! 6 refl $ forget ! 8 refl $ forget ! 10 refl $ forget ! 12 refl $ forget ! 14 refl $ forget ! 16 refl $
         move ! (16 ∷ 17 ∷ []) $ free1 ! $ move ! (14 ∷ 15 ∷ []) $ free1 ! $ move ! (12 ∷ 13 ∷ []) $ free1 ! $ move ! (10 ∷ 11 ∷ []) $ free1 ! $ move ! (8 ∷ 9 ∷ []) $ free1 ! $ move ! (6 ∷ 7 ∷ []) $ free1 ! $ free0 ! $
         move ! (3 ∷ 1 ∷ []) $ fjoin ! $ move ! (3 ∷ 0 ∷ []) $ fjoin ! $ move ! (3 ∷ []) $ fsplit ! $ keep ! (3 ∷ 2 ∷ 0 ∷ []) $ by ! (exits g)))))))))
@@ -113,9 +113,9 @@ place-at-meets : {M : Type 1} (𝓤 : URA M) (H : Heap 𝓤) (A : Atoms 𝓤) �
 place-at-meets 𝓤 H A W mem run 𝓣 = walk-meets 𝓤 H A f.ended stayed W (goes-none-slice 𝓤 H A W 1 (0 ∷ []) tt (plain (λ _. T.the-row)) yes, (goes-none 𝓤 H A W 1 (λ _. usize) yes (λ κs x f. refl), tt)) (f.clauses 𝓤 H A mem run)
     (WpFn 𝓤 H (𝓣 .C) (𝓣 .Λ) code.function) (WpFn-mono 𝓤 H (W .laws) 𝓣 code.function) (place-at-walks 𝓤 H A W mem run (𝓣 .C) (𝓣 .Λ))
 
-pub place-at-spec : {M : Type 1} → stated.statement M
+pub entry-at-spec : {M : Type 1} → stated.statement M
 unfolding code.routine tablesOf
-place-at-spec 𝓤 H 𝓜 𝓖 𝓡 =
+entry-at-spec 𝓤 H 𝓜 𝓖 𝓡 =
     entered 𝓤 H (tripleOf 𝓤 H (𝓖 .A) f.signature (f.spec 𝓤 H (𝓖 .A) (𝓜 .mem) (𝓡 .run)))
-    (tables 𝓤 H 𝓜 𝓡 code.env .C) (tables 𝓤 H 𝓜 𝓡 code.env .Λ) #lent·place-at code.function (code.unfolded 𝓤 H 𝓜 𝓡)
+    (tables 𝓤 H 𝓜 𝓡 code.env .C) (tables 𝓤 H 𝓜 𝓡 code.env .Λ) #lent·entry-at code.function (code.unfolded 𝓤 H 𝓜 𝓡)
     (place-at-meets 𝓤 H (𝓖 .A) (givenOf 𝓤 H 𝓜 𝓖) (𝓜 .mem) (𝓡 .run) (tablesOf 𝓤 H 𝓜 (tables 𝓤 H 𝓜 𝓡 code.env)))

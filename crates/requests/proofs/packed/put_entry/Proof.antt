@@ -1,14 +1,14 @@
--- `requests::packed::place_put` meets its contract.
+-- `requests::packed::put_entry` meets its contract.
 use mathlib.Core.Path.{sym}
 use native.Mathlib.Omega.{arith}
 use borrow.Author.Needs.{needs}
 use lib.Seq.{set-out}
 use Rattle.words.specs.Words.{words}
 use Rattle.words.proofs.Words.{length-words}
-use Rattle.requests.specs.Packed.{placesOf}
+use Rattle.requests.specs.Packed.{entriesOf}
 use Rattle.requests.proofs.Places.{places-put, length-places}
-use Rattle.requests.proofs.packed.place_put.Statement.{statement}
-use Rattle.requests.proofs.packed.place_put.Tie as tie
+use Rattle.requests.proofs.packed.put_entry.Statement.{statement}
+use Rattle.requests.proofs.packed.put_entry.Tie as tie
 
 returns : tie.Need-returns
 returns c =
@@ -23,10 +23,10 @@ returns-2 : tie.Need-returns-2
 returns-2 c =
     let a = c .before .before .args in
     let ws = words (a .list .now) in
-    sym (set-out (placesOf ws) (a .i) (a .p) (omega (arith, length-words (a .list .now), length-places ws)))
+    sym (set-out (entriesOf ws) (a .i) (a .p) (omega (arith, length-words (a .list .now), length-places ws)))
 
-pub place-put-spec : {M : Type 1} → statement M
-place-put-spec =
+pub put-entry-spec : {M : Type 1} → statement M
+put-entry-spec =
     tie.close
     (tie.spec
     (λ c. search needs)

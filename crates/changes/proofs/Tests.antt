@@ -17,7 +17,7 @@ use Rattle.layout.specs.declared.Region.{Region}
 use Rattle.layout.specs.View.{View, rowsGiven, usedIn, viewOf, Suffices}
 use Rattle.layout.proofs.View.{view-long}
 use Rattle.history.specs.History.{Test, _when_, refuse, verdict, any, rangeOf}
-use Rattle.terms.specs.Places.{place}
+use Rattle.terms.specs.Places.{firstIndex}
 use Rattle.rows.specs.Finders.{Inside}
 use Rattle.model.specs.Calls.{notOpenIn, notGivenIn, lacksIn}
 use Rattle.layout.specs.Sizes.{Proper}
@@ -89,13 +89,13 @@ counted s v l = record { rows-given = l .rows-few; records-used = l .used-few }
 opens-long : (s : Sizes) (m : List ℕ) → Suffices s m → length (viewOf s m Region.Opens) ≡ mostTransactions
 opens-long s m h = view-long s (words m) (omega (arith, length-words m)) Region.Opens
 
-any-place : (f : ℕ → Bool) (l : List ℕ) → any f l ≡ ltb (place f l) (length l)
+any-place : (f : ℕ → Bool) (l : List ℕ) → any f l ≡ ltb (firstIndex f l) (length l)
 any-place f [] = refl
 any-place f (x ∷ l) = go (f x) (any-place f l)
   where
-    go : (b : Bool) → any f l ≡ ltb (place f l) (length l) → (b || any f l) ≡ ltb (cond b 0 (suc (place f l))) (suc (length l))
+    go : (b : Bool) → any f l ≡ ltb (firstIndex f l) (length l) → (b || any f l) ≡ ltb (cond b 0 (suc (firstIndex f l))) (suc (length l))
     go true ih = sym (lt-ltb 0 (suc (length l)) (omega arith))
-    go false ih = ih ∙ sym (leb·suc-suc (suc (place f l)) (length l))
+    go false ih = ih ∙ sym (leb·suc-suc (suc (firstIndex f l)) (length l))
 
 module _ (s : Sizes) (m : List ℕ) (h : Suffices s m) where
   abbrev opens : List ℕ
@@ -104,22 +104,22 @@ module _ (s : Sizes) (m : List ℕ) (h : Suffices s m) where
   abbrev free : ℕ → Bool
   free k = eqb k 0
 
-  any-free : any free opens ≡ ltb (place free opens) mostTransactions
-  any-free = any-place free opens ∙ ap (ltb (place free opens)) (opens-long s m h)
+  any-free : any free opens ≡ ltb (firstIndex free opens) mostTransactions
+  any-free = any-place free opens ∙ ap (ltb (firstIndex free opens)) (opens-long s m h)
 
-  pub no-free : foundAt mostTransactions (place free opens) ≡ Found.Nothing → not (any free opens) ≡ true
-  no-free e = rw any-free (go (ltb (place free opens) mostTransactions) e)
+  pub no-free : foundAt mostTransactions (firstIndex free opens) ≡ Found.Nothing → not (any free opens) ≡ true
+  no-free e = rw any-free (go (ltb (firstIndex free opens) mostTransactions) e)
     where
-      go : (b : Bool) → cond b (Found.At (place free opens)) Found.Nothing ≡ Found.Nothing → not b ≡ true
+      go : (b : Bool) → cond b (Found.At (firstIndex free opens)) Found.Nothing ≡ Found.Nothing → not b ≡ true
       go true q = let z : _≡_ {A = ℕ} 0 1 = cc in absurd (omega arith)
       go false q = refl
 
-  pub first-free : (j : ℕ) → foundAt mostTransactions (place free opens) ≡ Found.At j → (not (any free opens) ≡ false) × FreeAt (viewOf s m) j
-  first-free j e = rw any-free (go (ltb (place free opens) mostTransactions) refl e)
+  pub first-free : (j : ℕ) → foundAt mostTransactions (firstIndex free opens) ≡ Found.At j → (not (any free opens) ≡ false) × FreeAt (viewOf s m) j
+  first-free j e = rw any-free (go (ltb (firstIndex free opens) mostTransactions) refl e)
     where
-      go : (b : Bool) → ltb (place free opens) mostTransactions ≡ b
-          → cond b (Found.At (place free opens)) Found.Nothing ≡ Found.At j → (not b ≡ false) × FreeAt (viewOf s m) j
+      go : (b : Bool) → ltb (firstIndex free opens) mostTransactions ≡ b
+          → cond b (Found.At (firstIndex free opens)) Found.Nothing ≡ Found.At j → (not b ≡ false) × FreeAt (viewOf s m) j
       go true q f =
-          let w : place free opens ≡ j = cc in
-          (refl, record { low = omega (arith, ltb-true (place free opens) mostTransactions q); first = sym w })
+          let w : firstIndex free opens ≡ j = cc in
+          (refl, record { low = omega (arith, ltb-true (firstIndex free opens) mostTransactions q); first = sym w })
       go false q f = let z : _≡_ {A = ℕ} 0 1 = cc in absurd (omega arith)

@@ -4,7 +4,7 @@ use conditions::bad_mask;
 use conditions::gone;
 use conditions::held;
 use conditions::lacks_records;
-use conditions::open_place;
+use conditions::open_index;
 use entry::Entry;
 use entry::Tested;
 use entry::enter;
@@ -78,7 +78,7 @@ fn insert_tests(mem: &[u8], s: Sizes, t: Transaction) -> Tested
     ensures { λ r. ⌜ ((vs : List ℤ) → Tests s (now (mem .entry)) (Call.insert (t .0) vs) r) ⌝ }
     ensures { λ r. ⌜ Finds r (λ at. OpenAt (viewOf s (now (mem .entry))) (t .0) at × (rowsGiven (viewOf s (now (mem .entry))) < s .rows)) ⌝ }
 {
-    let Found::At(at) = open_place(mem, s, t) else {
+    let Found::At(at) = open_index(mem, s, t) else {
         return Tested::Failed(Refusal::Transaction);
     };
     if read(mem, s, Region::Header, HEADER_ROWS) as usize >= s.rows {
@@ -141,7 +141,7 @@ fn update_tests(mem: &[u8], s: Sizes, t: Transaction, row: Row, mask: u32) -> Te
     ensures { λ r. ⌜ ((vs : List ℤ) → Tests s (now (mem .entry)) (Call.update (t .0) (row .0) mask vs) r) ⌝ }
     ensures { λ r. ⌜ Finds r (λ at. OpenAt (viewOf s (now (mem .entry))) (t .0) at × Room s (viewOf s (now (mem .entry))) (row .0) (recordsWanted (viewOf s (now (mem .entry))) (row .0) mask)) ⌝ }
 {
-    let Found::At(at) = open_place(mem, s, t) else {
+    let Found::At(at) = open_index(mem, s, t) else {
         return Tested::Failed(Refusal::Transaction);
     };
     let Found::At(g) = given_range(mem, s, row) else {
@@ -181,7 +181,7 @@ fn delete_tests(mem: &[u8], s: Sizes, t: Transaction, row: Row) -> Tested
     ensures { λ r. ⌜ Tests s (now (mem .entry)) (Call.delete (t .0) (row .0)) r ⌝ }
     ensures { λ r. ⌜ Finds r (λ at. OpenAt (viewOf s (now (mem .entry))) (t .0) at × Room s (viewOf s (now (mem .entry))) (row .0) 1) ⌝ }
 {
-    let Found::At(at) = open_place(mem, s, t) else {
+    let Found::At(at) = open_index(mem, s, t) else {
         return Tested::Failed(Refusal::Transaction);
     };
     let Found::At(g) = given_range(mem, s, row) else {
@@ -212,7 +212,7 @@ fn commit_tests(mem: &[u8], s: Sizes, t: Transaction, stamp: Stamp) -> Tested
     ensures { λ r. ⌜ Tests s (now (mem .entry)) (Call.commit (t .0) (stamp .0)) r ⌝ }
     ensures { λ r. ⌜ Finds r (OpenAt (viewOf s (now (mem .entry))) (t .0)) ⌝ }
 {
-    let Found::At(at) = open_place(mem, s, t) else {
+    let Found::At(at) = open_index(mem, s, t) else {
         return Tested::Failed(Refusal::Transaction);
     };
     if not_later(mem, s, stamp) {
@@ -242,7 +242,7 @@ fn abort_tests(mem: &[u8], s: Sizes, t: Transaction) -> Tested
     ensures { λ r. ⌜ Tests s (now (mem .entry)) (Call.abort (t .0)) r ⌝ }
     ensures { λ r. ⌜ Finds r (OpenAt (viewOf s (now (mem .entry))) (t .0)) ⌝ }
 {
-    let Found::At(at) = open_place(mem, s, t) else {
+    let Found::At(at) = open_index(mem, s, t) else {
         return Tested::Failed(Refusal::Transaction);
     };
     Tested::Passed(at)

@@ -20,8 +20,8 @@ use Rattle.layout.specs.declared.Region.the-variants.{Opens}
 use Rattle.layout.specs.View.{View, view, viewOf, Suffices}
 use Rattle.layout.proofs.View.{view-long}
 use Rattle.history.specs.History.{any}
-use Rattle.terms.specs.Places.{bears, place}
-use Rattle.model.specs.Stored.{openPlace}
+use Rattle.terms.specs.Places.{bears, firstIndex}
+use Rattle.model.specs.Stored.{openIndex}
 use Rattle.model.specs.Calls.{notOpenIn}
 use Rattle.rows.specs.Finders.{Inside}
 use Rattle.rows.proofs.Cases.{found-at, found-nothing}
@@ -43,26 +43,26 @@ module _ (t : ℕ) (h : t ≡ 0 → ⊥) where
       go true q = let e = eqb-true x t q in rw (ne-eqb x 0 (λ z. h (sym e ∙ z)))
       go false q = and-false (not (eqb x 0))
 
-  first-bears : (i : ℕ) (l : List ℕ) → firstAt t i l ≡ cond (not (any (bears t) l)) Found.Nothing (Found.At (i + place (bears t) l))
+  first-bears : (i : ℕ) (l : List ℕ) → firstAt t i l ≡ cond (not (any (bears t) l)) Found.Nothing (Found.At (i + firstIndex (bears t) l))
   first-bears i [] = refl
   first-bears i (x ∷ l) = rw (bears-is x) (go (eqb x t) (first-bears (i + 1) l))
     where
-      go : (b : Bool) → firstAt t (i + 1) l ≡ cond (not (any (bears t) l)) Found.Nothing (Found.At (i + 1 + place (bears t) l))
+      go : (b : Bool) → firstAt t (i + 1) l ≡ cond (not (any (bears t) l)) Found.Nothing (Found.At (i + 1 + firstIndex (bears t) l))
           → cond b (Found.At i) (firstAt t (i + 1) l)
-          ≡ cond (not (b || any (bears t) l)) Found.Nothing (Found.At (i + cond b 0 (suc (place (bears t) l))))
+          ≡ cond (not (b || any (bears t) l)) Found.Nothing (Found.At (i + cond b 0 (suc (firstIndex (bears t) l))))
       go true ih = ap Found.At (sym (add-zero i))
-      go false ih = let e : i + suc (place (bears t) l) ≡ i + 1 + place (bears t) l = omega arith in rw e ih
+      go false ih = let e : i + suc (firstIndex (bears t) l) ≡ i + 1 + firstIndex (bears t) l = omega arith in rw e ih
 
   pub open-found : (s : Sizes) (m : List ℕ) (r : Found) → Suffices s m
       → r ≡ firstAt t 0 (region (viewOf s m Opens) 0 mostTransactions)
       → (r ≡ openAt (viewOf s m) t) × Inside r mostTransactions
-  unfolding openAt notOpenIn openPlace
+  unfolding openAt notOpenIn openIndex
   open-found s m r l e =
       let opens = viewOf s m Opens in
       let long : length opens ≡ mostTransactions = view-long s (words m) (omega (arith, length-words m)) Opens in
       let whole : region opens 0 mostTransactions ≡ opens = take-all mostTransactions opens (omega arith) in
       let e′ : r ≡ firstAt t 0 opens = rw whole at e in
-      (e′ ∙ first-bears 0 opens ∙ rw (zero-add (place (bears t) opens)), inside r e′)
+      (e′ ∙ first-bears 0 opens ∙ rw (zero-add (firstIndex (bears t) opens)), inside r e′)
     where
       inside : (f : Found) → f ≡ firstAt t 0 (viewOf s m Opens) → Inside f mostTransactions
       inside (Found.At j) q =
@@ -72,10 +72,10 @@ module _ (t : ℕ) (h : t ≡ 0 → ⊥) where
 
 -- ---- what the finder tells
 module _ (v : View) (t : ℕ) where
-  pub open-there : (j : ℕ) → openAt v t ≡ Found.At j → (notOpenIn v t ≡ false) × (j ≡ openPlace v t)
+  pub open-there : (j : ℕ) → openAt v t ≡ Found.At j → (notOpenIn v t ≡ false) × (j ≡ openIndex v t)
   unfolding openAt
-  open-there j e = found-at (notOpenIn v t) (openPlace v t) j e
+  open-there j e = found-at (notOpenIn v t) (openIndex v t) j e
 
   pub not-open : openAt v t ≡ Found.Nothing → notOpenIn v t ≡ true
   unfolding openAt
-  not-open e = found-nothing (notOpenIn v t) (openPlace v t) e
+  not-open e = found-nothing (notOpenIn v t) (openIndex v t) e

@@ -14,7 +14,7 @@ use borrow.Author.Tests.{eq-eqb, ne-eqb}
 use mir.Syntax.{w64}
 use mir.Val.{Fits}
 use Rattle.terms.specs.Measures.{Shape, mostTransactions}
-use Rattle.terms.specs.Places.{bears, place}
+use Rattle.terms.specs.Places.{bears, firstIndex}
 use Rattle.loops.specs.declared.Found.{Found}
 use Rattle.layout.specs.declared.Region.the-variants.{Opens, RowTransaction, RowState, TailRow, TailTransaction, TailKind, TailState}
 use Rattle.layout.specs.declared.Sizes.{Sizes}
@@ -122,7 +122,7 @@ none-held v t r at n flag l e f =
     none : (k : ℕ) → T (openOther v t k) → ⊥
     none k u =
         let w = parts (openIn v k) (not (eqb k t)) u in
-        let p = place (bears k) (v Opens) in
+        let p = firstIndex (bears k) (v Opens) in
         off flag f (rw (e ∙ any-places (isOther t) (v Opens) mostTransactions l)
         (place-any (isOther t) (v Opens) 0 p (place-lt (bears k) (v Opens) (w .0)) (other k (getD (v Opens) p 0) (w .1) (place-is (bears k) (v Opens) 0 (w .0)))))
 

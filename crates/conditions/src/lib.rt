@@ -21,7 +21,7 @@ ghost use lib.ListN.{getD};
 ghost use Rattle.terms.specs.Measures.{mostColumns, mostTransactions};
 ghost use Rattle.layout.specs.declared.Region.{Region};
 ghost use Rattle.layout.specs.View.{rowsGiven, usedIn, viewOf, Suffices};
-ghost use Rattle.model.specs.Stored.{deleteKind, openPlace, anyBelow};
+ghost use Rattle.model.specs.Stored.{deleteKind, openIndex, anyBelow};
 ghost use Rattle.model.specs.Reading.{ownChanges};
 ghost use Rattle.model.specs.Calls.{openIn, openOther, standsFor, heldIn, goneIn, openAmongIn};
 ghost use Rattle.layout.specs.Sizes.{Proper};
@@ -34,7 +34,7 @@ ghost use Rattle.conditions.specs.Records.{isOther, holdsAt, deletesAt, 
 const MANY: usize = 8;
 
 // The place of an open transaction. Number 0 marks a free place, so that it is never found.
-pub fn open_place(mem: &[u8], s: Sizes, t: Transaction) -> Found
+pub fn open_index(mem: &[u8], s: Sizes, t: Transaction) -> Found
     requires { ⌜ Suffices s (now mem) ⌝ }
     ensures { λ r. ⌜ r ≡ openAt (viewOf s (now (mem .entry))) (t .0) ⌝ }
     ensures { λ r. ⌜ Inside r mostTransactions ⌝ }
@@ -47,12 +47,12 @@ pub fn open_place(mem: &[u8], s: Sizes, t: Transaction) -> Found
 }
 
 // Whose own changes an own read of the transaction open at `place` adds: its record tells. With nothing noted there are none, and it is the latest read.
-pub fn own_changes(mem: &[u8], s: Sizes, place: usize) -> Transaction
+pub fn own_changes(mem: &[u8], s: Sizes, index: usize) -> Transaction
     requires { ⌜ Suffices s (now mem) ⌝ }
-    requires { ⌜ place < mostTransactions ⌝ }
-    ensures { λ r. ⌜ ((t : ℕ) → place ≡ openPlace (viewOf s (now (mem .entry))) t → r .0 ≡ ownChanges (viewOf s (now (mem .entry))) t) ⌝ }
+    requires { ⌜ index < mostTransactions ⌝ }
+    ensures { λ r. ⌜ ((t : ℕ) → index ≡ openIndex (viewOf s (now (mem .entry))) t → r .0 ≡ ownChanges (viewOf s (now (mem .entry))) t) ⌝ }
 {
-    pending_at(mem, s, place).owner()
+    pending_at(mem, s, index).owner()
 }
 
 // One of two flags is up.
@@ -72,7 +72,7 @@ fn open_other(mem: &[u8], s: Sizes, t: Transaction, k: Transaction) -> bool
     if number == me {
         return false;
     }
-    let Found::At(place) = open_place(mem, s, k) else {
+    let Found::At(index) = open_index(mem, s, k) else {
         return false;
     };
     true
@@ -272,7 +272,7 @@ pub fn lacks_records(mem: &[u8], s: Sizes, g: usize, n: u32) -> bool
     used + n as usize > s.capacity
 }
 
-// Whether transaction k is open, as `open_place` finds it. Every place is looked at, with no early exit, so that a loop over records that asks it vectorises.
+// Whether transaction k is open, as `open_index` finds it. Every place is looked at, with no early exit, so that a loop over records that asks it vectorises.
 fn is_open(mem: &[u8], s: Sizes, k: Transaction) -> bool
     requires { ⌜ Suffices s (now mem) ⌝ }
     ensures { λ r. ⌜ r ≡ openIn (viewOf s (now (mem .entry))) (k .0) ⌝ }

@@ -8,7 +8,7 @@ use lib.ListN.{getD}
 use borrow.Author.Tests.{leb-false}
 use Rattle.words.specs.Words.{words}
 use Rattle.layout.specs.declared.Sizes.{Sizes}
-use Rattle.layout.specs.declared.Region.the-variants.{Current, PageState, PagePlace}
+use Rattle.layout.specs.declared.Region.the-variants.{Current, PageState, PageChunk}
 use Rattle.layout.specs.Regions.{need, slot}
 use Rattle.layout.specs.Sizes.{Proper, tooManyWords}
 use Rattle.layout.specs.View.{View, rowsGiven, usedIn, viewOf}
@@ -22,7 +22,7 @@ use Rattle.facts.specs.Tests.{MemoryFacts, Passed}
 use Rattle.facts.proofs.Each.{each-tells}
 use Rattle.facts.proofs.Ready.{stored}
 use Rattle.facts.proofs.Usable.{link-tells, placed-tells}
-use Rattle.model.specs.Stored.{pageIn, placesOf}
+use Rattle.model.specs.Stored.{pageIn, chunksOf}
 use Rattle.model.specs.Calls.{notGivenIn}
 use Rattle.model.specs.Asked.{shapeIn, Linked, Placed}
 use Rattle.rows.proofs.Cases.{found-at, found-nothing}
@@ -46,19 +46,19 @@ module _ (s : Sizes) (v : View) (proper : Proper s) (facts : MemoryFacts s v) wh
       }
 
   -- what is placed at place i
-  at-place : (i : ℕ) → i < s .places
-      → (getD (v Current) i 0 < s .pages) × (getD (v PageState) (getD (v Current) i 0) 0 ≡ 1) × (getD (v PagePlace) (getD (v Current) i 0) 0 ≡ i)
+  at-chunk : (i : ℕ) → i < s .chunks
+      → (getD (v Current) i 0 < s .pages) × (getD (v PageState) (getD (v Current) i 0) 0 ≡ 1) × (getD (v PageChunk) (getD (v Current) i 0) 0 ≡ i)
   unfolding pagesPlaced
-  at-place i h = placed-tells s v i (each-tells (pagePlaced s v) (s .places) (facts .placed) i h)
+  at-chunk i h = placed-tells s v i (each-tells (pagePlaced s v) (s .chunks) (facts .placed) i h)
 
   placed-of : Placed (shapeIn s) v
   unfolding pageIn
   placed-of =
-      let here : (i : ℕ) → i < placesOf (shapeIn s) → i < s .places = λ i b. omega (arith, proper .places-are) in
+      let here : (i : ℕ) → i < chunksOf (shapeIn s) → i < s .chunks = λ i b. omega (arith, proper .chunks-are) in
       record {
-        inside = λ i b. omega (arith, proper .pages-are, proper .places-are, at-place i (here i b) .0);
-        state = λ i b. at-place i (here i b) .1;
-        place = λ i b. at-place i (here i b) .2;
+        inside = λ i b. omega (arith, proper .pages-are, proper .chunks-are, at-chunk i (here i b) .0);
+        state = λ i b. at-chunk i (here i b) .1;
+        chunk = λ i b. at-chunk i (here i b) .2;
       }
 
 pub fit-tells : (s : Sizes) (m : List ℕ) → Passed s m → Fitted s m
@@ -72,7 +72,7 @@ fit-tells s m x =
       small = subst (λ z. need z < tooManyWords) (sym (x .sizes-are)) (need-small (storedShape (words m)) (x .within));
       proper = proper;
       linked = linked-of s v proper (x .facts);
-      pooled = λ i h. (at-place s v proper (x .facts) i h) .0;
+      pooled = λ i h. (at-chunk s v proper (x .facts) i h) .0;
       placed = placed-of s v proper (x .facts);
       transactions-to = k .transactions-to;
       scans-to = k .scans-to;

@@ -18,27 +18,27 @@ use Rattle.scans.specs.declared.Scans.{Scans}
 use Rattle.scans.specs.Places.{openCount}
 use Rattle.scans.specs.Table.{tableOf, findIn}
 use Rattle.scans.proofs.Answers.{table-finds, table-lacks}
-use Rattle.terms.specs.Places.{freeEntry, place, bears, isScan}
+use Rattle.terms.specs.Places.{freeEntry, firstIndex, bears, isScan}
 use Rattle.model.specs.Stored.{scanEntry}
 use Rattle.model.specs.Calls.{noScanIn}
 
 -- ---- the first that passes
 
 module _ (f : ScanEntry → Bool) where
-  none-passes : (ps : List ScanEntry) → place f ps ≡ length ps → any f ps ≡ false
+  none-passes : (ps : List ScanEntry) → firstIndex f ps ≡ length ps → any f ps ≡ false
   none-passes [] e = refl
   none-passes (p ∷ ps) e = go (f p) (none-passes ps) e
     where
-      go : (b : Bool) → (place f ps ≡ length ps → any f ps ≡ false) → cond b 0 (suc (place f ps)) ≡ suc (length ps) → (b || any f ps) ≡ false
+      go : (b : Bool) → (firstIndex f ps ≡ length ps → any f ps ≡ false) → cond b 0 (suc (firstIndex f ps)) ≡ suc (length ps) → (b || any f ps) ≡ false
       go true ih q = absurd (omega (arith, q))
       go false ih q = ih (omega (arith, q))
 
-  one-passes : (ps : List ScanEntry) → f freeEntry ≡ false → f (getD ps (place f ps) freeEntry) ≡ true → any f ps ≡ true
+  one-passes : (ps : List ScanEntry) → f freeEntry ≡ false → f (getD ps (firstIndex f ps) freeEntry) ≡ true → any f ps ≡ true
   one-passes [] e q = sym e ∙ q
   one-passes (p ∷ ps) e q = go (f p) refl (one-passes ps e) q
     where
-      go : (b : Bool) → f p ≡ b → (f (getD ps (place f ps) freeEntry) ≡ true → any f ps ≡ true)
-          → f (getD (p ∷ ps) (cond b 0 (suc (place f ps))) freeEntry) ≡ true → (b || any f ps) ≡ true
+      go : (b : Bool) → f p ≡ b → (f (getD ps (firstIndex f ps) freeEntry) ≡ true → any f ps ≡ true)
+          → f (getD (p ∷ ps) (cond b 0 (suc (firstIndex f ps))) freeEntry) ≡ true → (b || any f ps) ≡ true
       go true h ih r = refl
       go false h ih r = ih r
 
@@ -66,10 +66,10 @@ module _ (k : ℕ) where
     unfolding noScanIn
     scan-open j e =
         let t = table-finds ps few k j e in
-        let b : isScan k (getD ps (place (isScan k) ps) freeEntry) ≡ true = ap (bears k) (t .number-is) ∙ rw (numbered ps j e, eq-eqb k k refl) in
+        let b : isScan k (getD ps (firstIndex (isScan k) ps) freeEntry) ≡ true = ap (bears k) (t .number-is) ∙ rw (numbered ps j e, eq-eqb k k refl) in
         rw (one-passes (isScan k) ps refl b)
 
-    pub scan-at : (j : ℕ) → findIn (tableOf ps) k ≡ At j → place (isScan k) ps ≡ getD (tableOf ps .places) j 0
+    pub scan-at : (j : ℕ) → findIn (tableOf ps) k ≡ At j → firstIndex (isScan k) ps ≡ getD (tableOf ps .chunks) j 0
     scan-at j e = sym (table-finds ps few k j e .place-is)
 
     -- the scan's stamp and merges, as the table has them

@@ -55,13 +55,13 @@ ranges-are s v =
     ∙ ap (λ (x : Bool). each n a && x) (each-both b (λ g. c g && d g) n ∙ ap (λ (x : Bool). each n b && x) (each-both c d n))
 
 -- the current pages, fact by fact
-currents-are : (s : Sizes) (v : View) → each (s .places) (currentHolds s v)
-    ≡ (pagesPlaced s v && (each (s .places) (currentAtMost v PageNewest (lastStamp v)) && each (s .places) (currentLineage s v)))
+currents-are : (s : Sizes) (v : View) → each (s .chunks) (currentHolds s v)
+    ≡ (pagesPlaced s v && (each (s .chunks) (currentAtMost v PageNewest (lastStamp v)) && each (s .chunks) (currentLineage s v)))
 unfolding currentHolds pagesPlaced
 currents-are s v =
     let stamp = currentAtMost v PageNewest (lastStamp v) in
     let line = currentLineage s v in
-    each-both (pagePlaced s v) (λ i. stamp i && line i) (s .places) ∙ ap (λ (x : Bool). each (s .places) (pagePlaced s v) && x) (each-both stamp line (s .places))
+    each-both (pagePlaced s v) (λ i. stamp i && line i) (s .chunks) ∙ ap (λ (x : Bool). each (s .chunks) (pagePlaced s v) && x) (each-both stamp line (s .chunks))
 
 pub facts-are : (s : Sizes) (v : View) (ps : List ScanEntry)
     → factsHold s v ps ≡ (countsWithin s v ps && (each (s .ranges) (rangeHolds s v) && (rowsHold s v && (pagesHold s v && (opensHold v && scansHold v ps)))))
@@ -79,7 +79,7 @@ facts-are s v ps =
     (each (s .ranges) (rangeLinked s v))
     (rowsBetween v RowStamp 0 (lastStamp v))
     (each (s .ranges) (rangeBetween s v TailStamp 0 (lastStamp v)))
-    (each (s .places) (currentAtMost v PageNewest (lastStamp v)))
+    (each (s .chunks) (currentAtMost v PageNewest (lastStamp v)))
     (each (s .pages) (waitingAtMost v PageNewest (lastStamp v)))
     (everyOpen (λ p. leb (p .stamp) (lastStamp v)) ps)
     (everyOpen (λ p. leb (p .merges) (mergesMade v)) ps)
@@ -87,7 +87,7 @@ facts-are s v ps =
     (differ (v Opens))
     (differ (map (λ p. p .number) ps))
     (pagesPlaced s v)
-    (each (s .places) (currentLineage s v))
+    (each (s .chunks) (currentLineage s v))
     (each (s .pages) (waitingLineage s v)))
 
 -- the facts that speak of the memory alone
@@ -104,6 +104,6 @@ memory-facts s v counts records rows pages =
     let row-links = each (rowsGiven v) (rowLinked s v) in
     let row-stamps = rowsBetween v RowStamp 0 (lastStamp v) in
     let c = and-true row-links row-stamps (and-true (rowsBetween v RowTransaction 1 (transactionsGiven v)) (row-links && row-stamps) rows .1) in
-    let d = and-true (each (s .places) (currentHolds s v)) _ pages in
+    let d = and-true (each (s .chunks) (currentHolds s v)) _ pages in
     let e = and-true (pagesPlaced s v) _ (sym (currents-are s v) ∙ d .0) in
     record { counts = counts; links = rw (c .0, b .0); placed = e .0 }

@@ -19,7 +19,7 @@ use Rattle.loops.proofs.Search.{and-true, all-tells}
 use Rattle.loops.proofs.Region.{region-at, region-length}
 use Rattle.layout.specs.declared.Sizes.{Sizes}
 use Rattle.layout.specs.declared.Region.{Region}
-use Rattle.layout.specs.declared.Region.the-variants.{Opens, RowTransaction, RowStamp, RowLink, TailTransaction, TailRow, TailLink, TailStamp, Current, PageState, PagePlace, PageReplaced, PageLineage, PageNewest}
+use Rattle.layout.specs.declared.Region.the-variants.{Opens, RowTransaction, RowStamp, RowLink, TailTransaction, TailRow, TailLink, TailStamp, Current, PageState, PageChunk, PageReplaced, PageLineage, PageNewest}
 use Rattle.layout.specs.Regions.{len, need, firstSlot}
 use Rattle.layout.specs.View.{View, rowsGiven, transactionsGiven, scansGiven, lastStamp, mergesMade, usedIn, Long, viewOf, Suffices}
 use Rattle.layout.proofs.View.{view-long}
@@ -53,17 +53,17 @@ pub record Usable (s : Sizes) (v : View) (ps : List ScanEntry) : Type 0 where
       → Linked s v g i (getD (v TailRow) (firstSlot (s .capacity) g + i) 0) (getD (v TailLink) (firstSlot (s .capacity) g + i) 0)
   pub row-stamps : (r : ℕ) → r < rowsGiven v → getD (v RowStamp) r 0 ≤ lastStamp v
   pub record-stamps : (g i : ℕ) → g < s .ranges → i < usedIn v g → getD (v TailStamp) (firstSlot (s .capacity) g + i) 0 ≤ lastStamp v
-  pub current-stamps : (i : ℕ) → i < s .places → getD (v PageNewest) (getD (v Current) i 0) 0 ≤ lastStamp v
+  pub current-stamps : (i : ℕ) → i < s .chunks → getD (v PageNewest) (getD (v Current) i 0) 0 ≤ lastStamp v
   pub waiting-stamps : (p : ℕ) → p < s .pages → asWaiting ≤ getD (v PageState) p 0 → getD (v PageNewest) p 0 ≤ lastStamp v
   pub scan-stamps : (j : ℕ) → getD ps j freeEntry .number ≢ 0 → getD ps j freeEntry .stamp ≤ lastStamp v
   pub scan-merges : (j : ℕ) → getD ps j freeEntry .number ≢ 0 → getD ps j freeEntry .merges ≤ mergesMade v
   pub waiting-merges : (p : ℕ) → p < s .pages → asWaiting ≤ getD (v PageState) p 0 → getD (v PageReplaced) p 0 ≤ mergesMade v
   pub open-differ : (i j : ℕ) → i < j → getD (v Opens) i 0 ≡ getD (v Opens) j 0 → getD (v Opens) i 0 ≡ 0
   pub scans-differ : (i j : ℕ) → i < j → getD ps i freeEntry .number ≡ getD ps j freeEntry .number → getD ps i freeEntry .number ≡ 0
-  pub current-in : (i : ℕ) → i < s .places → getD (v Current) i 0 < s .pages
-  pub current-state : (i : ℕ) → i < s .places → getD (v PageState) (getD (v Current) i 0) 0 ≡ 1
-  pub current-place : (i : ℕ) → i < s .places → getD (v PagePlace) (getD (v Current) i 0) 0 ≡ i
-  pub current-lineages : (i : ℕ) → i < s .places → getD (v PageLineage) (getD (v Current) i 0) 0 ≤ usedIn v (i / s .columns)
+  pub current-in : (i : ℕ) → i < s .chunks → getD (v Current) i 0 < s .pages
+  pub current-state : (i : ℕ) → i < s .chunks → getD (v PageState) (getD (v Current) i 0) 0 ≡ 1
+  pub current-chunk : (i : ℕ) → i < s .chunks → getD (v PageChunk) (getD (v Current) i 0) 0 ≡ i
+  pub current-lineages : (i : ℕ) → i < s .chunks → getD (v PageLineage) (getD (v Current) i 0) 0 ≤ usedIn v (i / s .columns)
   pub waiting-lineages : (p : ℕ) → p < s .pages → asWaiting ≤ getD (v PageState) p 0 → getD (v PageLineage) p 0 ≤ usedIn v (pageRange s v p)
 
 -- ---- the tests of one index, taken apart
@@ -90,7 +90,7 @@ unfolding waitingAtMost
 waiting-tells v k most p e h = leb-true (getD (v k) p 0) most (or-right (ltb (getD (v PageState) p 0) asWaiting) _ (le-ltb _ asWaiting h) e)
 
 pub placed-tells : (s : Sizes) (v : View) (i : ℕ) → pagePlaced s v i ≡ true
-    → (getD (v Current) i 0 < s .pages) × (getD (v PageState) (getD (v Current) i 0) 0 ≡ 1) × (getD (v PagePlace) (getD (v Current) i 0) 0 ≡ i)
+    → (getD (v Current) i 0 < s .pages) × (getD (v PageState) (getD (v Current) i 0) 0 ≡ 1) × (getD (v PageChunk) (getD (v Current) i 0) 0 ≡ i)
 unfolding pagePlaced
 placed-tells s v i e =
     let a = and-true _ _ e in
@@ -201,17 +201,17 @@ module _ (s : Sizes) (v : View) (ps : List ScanEntry) (z : Proper s) (long : Lon
         record-links = λ g i h j. link-tells s v g i _ _ (each-tells (recordLinked s v g) (usedIn v g) (each-tells (rangeLinked s v) (s .ranges) (l .1) g h) i j);
         row-stamps = λ r h. (rows-tell RowStamp 0 (lastStamp v) c refl (t1 .0) r h) .1;
         record-stamps = λ g i h j. (records-tell TailStamp 0 (lastStamp v) c refl (t2 .0) g i h j) .1;
-        current-stamps = λ i h. current-tells v PageNewest (lastStamp v) i (each-tells (currentAtMost v PageNewest (lastStamp v)) (s .places) (t4 .0) i h);
+        current-stamps = λ i h. current-tells v PageNewest (lastStamp v) i (each-tells (currentAtMost v PageNewest (lastStamp v)) (s .chunks) (t4 .0) i h);
         waiting-stamps = λ p h. waiting-tells v PageNewest (lastStamp v) p (each-tells (waitingAtMost v PageNewest (lastStamp v)) (s .pages) (t4 .1) p h);
         scan-stamps = λ j n. leb-true _ (lastStamp v) (every-tells (λ p. leb (p .stamp) (lastStamp v)) ps (t3 .1) j n);
         scan-merges = λ j n. leb-true _ (mergesMade v) (every-tells (λ p. leb (p .merges) (mergesMade v)) ps (m .0) j n);
         waiting-merges = λ p h. waiting-tells v PageReplaced (mergesMade v) p (each-tells (waitingAtMost v PageReplaced (mergesMade v)) (s .pages) (m .1) p h);
         open-differ = differ-tells (v Opens) (d .0);
         scans-differ = λ i j h q. sym (numbers-at ps i) ∙ differ-tells (map (λ p. p .number) ps) (d .1) i j h (numbers-at ps i ∙ q ∙ sym (numbers-at ps j));
-        current-in = λ i h. (placed-tells s v i (each-tells (pagePlaced s v) (s .places) (a8 .0) i h)) .0;
-        current-state = λ i h. (placed-tells s v i (each-tells (pagePlaced s v) (s .places) (a8 .0) i h)) .1;
-        current-place = λ i h. (placed-tells s v i (each-tells (pagePlaced s v) (s .places) (a8 .0) i h)) .2;
-        current-lineages = λ i h. current-tells v PageLineage _ i (each-tells (currentLineage s v) (s .places) (g .0) i h);
+        current-in = λ i h. (placed-tells s v i (each-tells (pagePlaced s v) (s .chunks) (a8 .0) i h)) .0;
+        current-state = λ i h. (placed-tells s v i (each-tells (pagePlaced s v) (s .chunks) (a8 .0) i h)) .1;
+        current-chunk = λ i h. (placed-tells s v i (each-tells (pagePlaced s v) (s .chunks) (a8 .0) i h)) .2;
+        current-lineages = λ i h. current-tells v PageLineage _ i (each-tells (currentLineage s v) (s .chunks) (g .0) i h);
         waiting-lineages = λ p h. waiting-tells v PageLineage _ p (each-tells (waitingLineage s v) (s .pages) (g .1) p h);
       }
 

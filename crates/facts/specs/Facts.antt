@@ -14,7 +14,7 @@ use Rattle.terms.specs.declared.ScanEntry.{ScanEntry}
 use Rattle.loops.specs.Search.{region, allBetween}
 use Rattle.layout.specs.declared.Sizes.{Sizes}
 use Rattle.layout.specs.declared.Region.{Region}
-use Rattle.layout.specs.declared.Region.the-variants.{Opens, RowTransaction, RowStamp, RowLink, TailTransaction, TailRow, TailLink, TailStamp, Used, Current, PageState, PagePlace, PageReplaced, PageLineage, PageNewest}
+use Rattle.layout.specs.declared.Region.the-variants.{Opens, RowTransaction, RowStamp, RowLink, TailTransaction, TailRow, TailLink, TailStamp, Used, Current, PageState, PageChunk, PageReplaced, PageLineage, PageNewest}
 use Rattle.layout.specs.View.{View, rowsGiven, transactionsGiven, scansGiven, lastStamp, mergesMade, usedIn}
 use Rattle.scans.specs.Places.{openCount, everyOpen, differ}
 
@@ -93,7 +93,7 @@ unfoldable pub stampsWithin : Sizes → View → List ScanEntry → Bool
 stampsWithin s v ps =
     rowsBetween v RowStamp 0 (lastStamp v)
     && (each (s .ranges) (rangeBetween s v TailStamp 0 (lastStamp v))
-    && ((each (s .places) (currentAtMost v PageNewest (lastStamp v)) && each (s .pages) (waitingAtMost v PageNewest (lastStamp v)))
+    && ((each (s .chunks) (currentAtMost v PageNewest (lastStamp v)) && each (s .pages) (waitingAtMost v PageNewest (lastStamp v)))
     && everyOpen (λ p. leb (p .stamp) (lastStamp v)) ps))
 
 -- ---- "no scan's or waiting page's merge count exceeds the merges made"
@@ -110,14 +110,14 @@ openDiffer v ps = differ (v Opens) && differ (map (λ p. p .number) ps)
 -- Free pages are those that are neither named nor waiting.
 unfoldable pub pagePlaced : Sizes → View → ℕ → Bool
 pagePlaced s v i =
-    let p = getD (v Current) i 0 in ltb p (s .pages) && (eqb (getD (v PageState) p 0) asCurrent && eqb (getD (v PagePlace) p 0) i)
+    let p = getD (v Current) i 0 in ltb p (s .pages) && (eqb (getD (v PageState) p 0) asCurrent && eqb (getD (v PageChunk) p 0) i)
 
 unfoldable pub pagesPlaced : Sizes → View → Bool
-pagesPlaced s v = each (s .places) (pagePlaced s v)
+pagesPlaced s v = each (s .chunks) (pagePlaced s v)
 
 -- ---- "a page's lineage is not above the records used"
 abbrev pub pageRange : Sizes → View → ℕ → ℕ
-pageRange s v p = getD (v PagePlace) p 0 % s .places / s .columns
+pageRange s v p = getD (v PageChunk) p 0 % s .chunks / s .columns
 
 unfoldable pub currentLineage : Sizes → View → ℕ → Bool
 currentLineage s v i = currentAtMost v PageLineage (usedIn v (i / s .columns)) i
@@ -126,7 +126,7 @@ unfoldable pub waitingLineage : Sizes → View → ℕ → Bool
 waitingLineage s v p = waitingAtMost v PageLineage (usedIn v (pageRange s v p)) p
 
 unfoldable pub lineagesWithin : Sizes → View → Bool
-lineagesWithin s v = each (s .places) (currentLineage s v) && each (s .pages) (waitingLineage s v)
+lineagesWithin s v = each (s .chunks) (currentLineage s v) && each (s .pages) (waitingLineage s v)
 
 -- ---- all of them, in that order
 unfoldable pub factsHold : Sizes → View → List ScanEntry → Bool

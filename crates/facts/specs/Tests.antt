@@ -60,7 +60,7 @@ waitingHold s v =
     && (each (s .pages) (waitingAtMost v PageReplaced (mergesMade v)) && each (s .pages) (waitingLineage s v))
 
 unfoldable pub pagesHold : Sizes → View → Bool
-pagesHold s v = each (s .places) (currentHolds s v) && waitingHold s v
+pagesHold s v = each (s .chunks) (currentHolds s v) && waitingHold s v
 
 -- the open transactions
 unfoldable pub opensHold : View → Bool

@@ -2,7 +2,7 @@
 use Prim.Native.Nat.{ℕ, _+_, _*_, _/_, _≤_, _<_}
 use native.Mathlib.Omega.{arith}
 use native.Mathlib.Nat.{mul-le-mul, mul-le-mul-right, suc-mul, mul-comm, div-lt-iff-lt-mul}
-use Rattle.terms.specs.Measures.{rangeRows, mostRanges, mostRecords, mostPlaces}
+use Rattle.terms.specs.Measures.{rangeRows, mostRanges, mostRecords, mostChunks}
 use Rattle.layout.specs.declared.Sizes.{Sizes}
 use Rattle.layout.specs.Regions.{need}
 use Rattle.layout.specs.Sizes.{Proper}
@@ -21,8 +21,8 @@ module _ (s : Sizes) (p : Proper s) where
   values-in k h = omega (arith, p .values-are, block-in k (s .slots) (s .columns) h)
 
   -- the current pages of a range
-  pub places-in : (g : ℕ) → g < s .ranges → g * s .columns + s .columns ≤ s .places
-  places-in g h = omega (arith, p .places-are, mul-comm (s .columns) (s .ranges), block-in g (s .ranges) (s .columns) h)
+  pub chunks-in : (g : ℕ) → g < s .ranges → g * s .columns + s .columns ≤ s .chunks
+  chunks-in g h = omega (arith, p .chunks-are, mul-comm (s .columns) (s .ranges), block-in g (s .ranges) (s .columns) h)
 
   -- the range of a row
   pub range-in : (r : ℕ) → r < s .rows → r / rangeRows < s .ranges
@@ -31,19 +31,19 @@ module _ (s : Sizes) (p : Proper s) where
   pub slots-few : s .slots ≤ mostRanges * mostRecords
   slots-few = omega (arith, p .slots-are, mul-le-mul (p .ranges-to) (p .capacity-to))
 
-  pub places-some : 1 ≤ s .places
-  places-some = omega (arith, p .places-are, mul-le-mul (p .columns-from) (p .ranges-from))
+  pub chunks-some : 1 ≤ s .chunks
+  chunks-some = omega (arith, p .chunks-are, mul-le-mul (p .columns-from) (p .ranges-from))
 
-  pub places-few : s .places ≤ mostPlaces
-  places-few = omega (arith, p .places-are, mul-le-mul (p .columns-to) (p .ranges-to))
+  pub chunks-few : s .chunks ≤ mostChunks
+  chunks-few = omega (arith, p .chunks-are, mul-le-mul (p .columns-to) (p .ranges-to))
 
   -- the range of a place
-  pub place-range : (i : ℕ) → i < s .places → i / s .columns < s .ranges
-  place-range i b =
-      let c : i < s .ranges * s .columns = omega (arith, p .places-are, mul-comm (s .columns) (s .ranges)) in
+  pub chunk-range : (i : ℕ) → i < s .chunks → i / s .columns < s .ranges
+  chunk-range i b =
+      let c : i < s .ranges * s .columns = omega (arith, p .chunks-are, mul-comm (s .columns) (s .ranges)) in
       (div-lt-iff-lt-mul {k = s .columns} {x = i} {y = s .ranges} (p .columns-from)) .1 c
 
 -- the regions whose lengths are not fixed are among the words needed
-pub sizes-need : (s : Sizes) → s .rows + s .slots + s .values + s .ranges + s .places + s .pages * rangeRows ≤ need s
+pub sizes-need : (s : Sizes) → s .rows + s .slots + s .values + s .ranges + s .chunks + s .pages * rangeRows ≤ need s
 unfolding need
 sizes-need s = omega arith

@@ -4,7 +4,7 @@ use mathlib.Core.Path.{_≡_, refl, sym, _∙_}
 use mathlib.Core.Bool.{true, false, cond}
 use native.Mathlib.Omega.{arith}
 use native.Mathlib.Nat.{mul-le-mul, add-mul, mul-assoc, mul-comm}
-use Rattle.terms.specs.Measures.{Shape, withinLimits, mostColumns, mostRanges, mostRecords, mostSpares, mostPlaces}
+use Rattle.terms.specs.Measures.{Shape, withinLimits, mostColumns, mostRanges, mostRecords, mostSpares, mostChunks}
 use Rattle.terms.specs.declared.Answer.{Answer}
 use Rattle.terms.specs.declared.Refusal.{Refusal}
 use Rattle.loops.proofs.Search.{and-true, between-tells}
@@ -20,12 +20,12 @@ proper p e =
     let q = between-tells 1 mostColumns (p .columns) (a .0) in
     let r = between-tells 1 mostRanges (p .ranges) (b .0) in
     let x = between-tells 0 mostSpares (p .spares) (c .1) in
-    let d : p .columns * p .ranges ≤ mostPlaces = mul-le-mul (q .1) (r .1) in
+    let d : p .columns * p .ranges ≤ mostChunks = mul-le-mul (q .1) (r .1) in
     record {
       rows-are = refl;
       slots-are = refl;
       values-are = refl;
-      places-are = refl;
+      chunks-are = refl;
       pages-are = refl;
       columns-from = q .0;
       columns-to = q .1;
@@ -42,7 +42,7 @@ need-small p e =
     let l = proper p e in
     let a : p .ranges * p .capacity ≤ mostRanges * mostRecords = mul-le-mul (l .ranges-to) (l .capacity-to) in
     let b : p .ranges * p .capacity * p .columns ≤ mostRanges * mostRecords * mostColumns = mul-le-mul a (l .columns-to) in
-    let d : p .columns * p .ranges ≤ mostPlaces = mul-le-mul (l .columns-to) (l .ranges-to) in
+    let d : p .columns * p .ranges ≤ mostChunks = mul-le-mul (l .columns-to) (l .ranges-to) in
     omega arith
 
 -- document 01, "Measures": at most 4,096 bytes, and 320 for each page, 64 for each row, 64 + 4 columns for each tail record

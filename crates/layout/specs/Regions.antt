@@ -27,7 +27,7 @@ index Region.TailValues = 14
 index Region.Used = 15
 index Region.Current = 16
 index Region.PageState = 17
-index Region.PagePlace = 18
+index Region.PageChunk = 18
 index Region.PageMade = 19
 index Region.PageReplaced = 20
 index Region.PageLineage = 21
@@ -46,7 +46,7 @@ lens s =
     ∷ s .slots ∷ s .slots ∷ s .slots ∷ s .slots ∷ s .slots ∷ s .slots ∷ s .slots
     ∷ s .values
     ∷ s .ranges
-    ∷ s .places
+    ∷ s .chunks
     ∷ s .pages ∷ s .pages ∷ s .pages ∷ s .pages ∷ s .pages ∷ s .pages
     ∷ s .pages * rangeRows
     ∷ mostTransactions
@@ -61,7 +61,7 @@ all =
     ∷ Region.TailValues
     ∷ Region.Used
     ∷ Region.Current
-    ∷ Region.PageState ∷ Region.PagePlace ∷ Region.PageMade ∷ Region.PageReplaced ∷ Region.PageLineage ∷ Region.PageNewest
+    ∷ Region.PageState ∷ Region.PageChunk ∷ Region.PageMade ∷ Region.PageReplaced ∷ Region.PageLineage ∷ Region.PageNewest
     ∷ Region.Cells
     ∷ Region.Changes
     ∷ []

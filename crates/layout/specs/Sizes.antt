@@ -21,7 +21,7 @@ sizesOf p =
       rows = p .ranges * rangeRows;
       slots = p .ranges * p .capacity;
       values = p .ranges * p .capacity * p .columns;
-      places = p .columns * p .ranges;
+      chunks = p .columns * p .ranges;
       pages = p .columns * p .ranges + p .spares;
     }
 
@@ -30,8 +30,8 @@ pub record Proper (s : Sizes) : Type 0 where
   pub rows-are : s .rows ≡ s .ranges * rangeRows
   pub slots-are : s .slots ≡ s .ranges * s .capacity
   pub values-are : s .values ≡ s .slots * s .columns
-  pub places-are : s .places ≡ s .columns * s .ranges
-  pub pages-are : s .pages ≡ s .places + s .spares
+  pub chunks-are : s .chunks ≡ s .columns * s .ranges
+  pub pages-are : s .pages ≡ s .chunks + s .spares
   pub columns-from : 1 ≤ s .columns
   pub columns-to : s .columns ≤ mostColumns
   pub ranges-from : 1 ≤ s .ranges

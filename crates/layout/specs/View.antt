@@ -1,12 +1,12 @@
 -- The view of a memory: one list of words for each region. What a call writes is a function from view to view, made of those here,
 -- and `lay` writes a view over the bytes that a shape needs.
-use Prim.Native.Nat.{ℕ, _+_, _*_}
+use Prim.Native.Nat.{ℕ, _+_, _*_, _≤_}
 use mathlib.Core.Path.{_≡_}
 use mathlib.Core.Bool.{cond}
 use mathlib.Core.List.{List, map, _++_}
 use lib.Dec.{eqb}
 use lib.ListN.{length, getD, set, drop, replicate}
-use Rattle.words.specs.Words.{Fit, bytes}
+use Rattle.words.specs.Words.{Fit, words, bytes}
 use Rattle.loops.specs.Search.{region}
 use Rattle.loops.specs.Change.{filled, numbered, copied, marked}
 use Rattle.layout.specs.declared.Sizes.{Sizes}

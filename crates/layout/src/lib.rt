@@ -48,7 +48,7 @@ pub enum Region {
     // whether a page is free, current or waiting; codes.rt has the numbers
     PageState,
     // range * columns + column of a page
-    PagePlace,
+    PageChunk,
     // the merge that made a page, 0 for one made with the store, and the merge that replaced it
     PageMade,
     PageReplaced,
@@ -93,7 +93,7 @@ pub struct Sizes {
     pub rows: usize,
     pub slots: usize,
     pub values: usize,
-    pub places: usize,
+    pub chunks: usize,
     pub pages: usize,
 }
 
@@ -125,7 +125,7 @@ pub fn sizes_of(columns: u32, ranges: u32, capacity: u32, spares: u32) -> Sizes
     let t = capacity as usize;
     let x = spares as usize;
     let slots = times(r, t);
-    let places = times(c, r);
+    let chunks = times(c, r);
     Sizes {
         columns: c,
         ranges: r,
@@ -134,8 +134,8 @@ pub fn sizes_of(columns: u32, ranges: u32, capacity: u32, spares: u32) -> Sizes
         rows: r * RANGE_ROWS,
         slots: slots,
         values: times(slots, c),
-        places: places,
-        pages: places + x,
+        chunks: places,
+        pages: chunks + x,
     }
 }
 
@@ -162,9 +162,9 @@ fn start(s: Sizes, k: Region) -> usize
     let values = tail_stamp + slots;
     let used = values + s.values;
     let current = used + s.ranges;
-    let page = current + s.places;
-    let page_place = page + pages;
-    let page_made = page_place + pages;
+    let page = current + s.chunks;
+    let page_chunk = page + pages;
+    let page_made = page_chunk + pages;
     let page_replaced = page_made + pages;
     let page_lineage = page_replaced + pages;
     let page_newest = page_lineage + pages;
@@ -188,7 +188,7 @@ fn start(s: Sizes, k: Region) -> usize
         Region::Used => used,
         Region::Current => current,
         Region::PageState => page,
-        Region::PagePlace => page_place,
+        Region::PageChunk => page_chunk,
         Region::PageMade => page_made,
         Region::PageReplaced => page_replaced,
         Region::PageLineage => page_lineage,

@@ -1,6 +1,6 @@
 // The calls that only read, over the lent memory and the table of the lent scan list: latest, read at, own read, scan read, sum, page cell and lineage. Each call is
 // the test of memory and list, the call's own tests in document 01's order, and then the function that reads.
-use conditions::open_place;
+use conditions::open_index;
 use conditions::own_changes;
 use entry::Entry;
 use entry::Tested;
@@ -115,7 +115,7 @@ fn own_read_tests(mem: &[u8], s: Sizes, transaction: Transaction, row: Row, colu
     ensures { λ r. ⌜ Tests s (now (mem .entry)) (Call.ownRead (transaction .0) (row .0) column) r ⌝ }
     ensures { λ r. ⌜ Finds r (λ at. OpenAt (viewOf s (now (mem .entry))) (transaction .0) at × CellThere s (viewOf s (now (mem .entry))) (row .0) column) ⌝ }
 {
-    let Found::At(at) = open_place(mem, s, transaction) else {
+    let Found::At(at) = open_index(mem, s, transaction) else {
         return Tested::Failed(Refusal::Transaction);
     };
     match row_tests(mem, s, row, column) {

@@ -23,9 +23,9 @@ module _ (p : Shape) (places : ℕ) (m : List ℕ) where
   unfolding made bytesNeeded
   no-room e h = rw (e, lt-leb (need (sizesOf p) * 4) (length m) h)
 
-  pub few-places : withinLimits p ≡ true → Suffices (sizesOf p) m → places < mostScans → (Answer.Refused Refusal.Memory, m) ≡ made p places m
+  pub few-chunks : withinLimits p ≡ true → Suffices (sizesOf p) m → places < mostScans → (Answer.Refused Refusal.Memory, m) ≡ made p places m
   unfolding made bytesNeeded
-  few-places e h k = rw (e, le-leb (need (sizesOf p) * 4) (length m) h, lt-leb mostScans places k)
+  few-chunks e h k = rw (e, le-leb (need (sizesOf p) * 4) (length m) h, lt-leb mostScans places k)
 
   pub laid : withinLimits p ≡ true → Suffices (sizesOf p) m → mostScans ≤ places → (m′ : List ℕ) → m′ ≡ lay (sizesOf p) (madeView p) m
       → (Answer.Done, m′) ≡ made p places m

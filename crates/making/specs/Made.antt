@@ -13,14 +13,14 @@ use Rattle.terms.specs.declared.Answer.{Answer}
 use Rattle.terms.specs.declared.ScanEntry.{ScanEntry}
 use Rattle.terms.specs.declared.Refusal.{Refusal}
 use Rattle.layout.specs.declared.Sizes.{Sizes}
-use Rattle.layout.specs.declared.Region.the-variants.{Current, PageState, PagePlace}
+use Rattle.layout.specs.declared.Region.the-variants.{Current, PageState, PageChunk}
 use Rattle.layout.specs.Sizes.{sizesOf, bytesNeeded}
 use Rattle.layout.specs.View.{View, fill, number, lay, blank}
 use Rattle.scans.specs.Places.{allFreed}
 
 -- the first page is current for the first place, the second for the second, and so on
 unfoldable pub placedView : Sizes → View
-placedView s = number Current 0 (s .places) (number PagePlace 0 (s .places) (fill PageState 0 (s .places) asCurrent (blank s)))
+placedView s = number Current 0 (s .chunks) (number PageChunk 0 (s .chunks) (fill PageState 0 (s .chunks) asCurrent (blank s)))
 
 -- the answer for a scan list of so many places, and the memory afterwards
 unfoldable pub made : Shape → ℕ → List ℕ → Answer × List ℕ

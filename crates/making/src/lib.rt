@@ -39,13 +39,13 @@ fn clear(mem: &mut [u8], s: Sizes)
 
 // The first pages become current, one for each place.
 fn place_pages(mem: &mut [u8], s: Sizes)
-    requires { ⌜ (Suffices s (now mem)) × (s .places ≤ s .pages) × (s .pages ≤ mostPages) ⌝ }
+    requires { ⌜ (Suffices s (now mem)) × (s .chunks ≤ s .pages) × (s .pages ≤ mostPages) ⌝ }
     requires { ⌜ viewOf s (now mem) ≡ blank s ⌝ }
     ensures { λ _. ⌜ viewOf s (now (mem .exit)) ≡ placedView s ⌝ }
 {
-    let n = s.places;
+    let n = s.chunks;
     fill_in(mem, s, Region::PageState, 0, n, PAGE_CURRENT);
-    count_in(mem, s, Region::PagePlace, 0, n);
+    count_in(mem, s, Region::PageChunk, 0, n);
     count_in(mem, s, Region::Current, 0, n);
 }
 
@@ -62,7 +62,7 @@ fn put_measures(mem: &mut [u8], s: Sizes, columns: u32, ranges: u32, capacity: u
 // The needed part of a memory, made.
 fn lay_out(mem: &mut [u8], s: Sizes, columns: u32, ranges: u32, capacity: u32, spares: u32)
     requires { ⌜ (Suffices s (now mem)) × (need s < tooManyWords) ⌝ }
-    requires { ⌜ (s ≡ sizesOf (shapeOf columns ranges capacity spares)) × (s .places ≤ s .pages) × (s .pages ≤ mostPages) ⌝ }
+    requires { ⌜ (s ≡ sizesOf (shapeOf columns ranges capacity spares)) × (s .chunks ≤ s .pages) × (s .pages ≤ mostPages) ⌝ }
     ensures { λ _. ⌜ viewOf s (now (mem .exit)) ≡ madeView (shapeOf columns ranges capacity spares) ⌝ }
 {
     clear(mem, s);

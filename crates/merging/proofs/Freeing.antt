@@ -150,8 +150,8 @@ spare-is ps least v e f = fun-ext (λ p. rw (e (getD (v Region.PageReplaced) p 0
 pub freed-is : (s : Sizes) (ps : List ScanEntry) (least : ℕ) (v : View) → Proper s → freeable least v ≡ releasable ps v
     → freeablesFreed least (s .pages) v ≡ releasedIn (shapeIn s) ps v
 unfolding freeablesFreed releasedIn
-freed-is s ps least v p e = let q : s .pages ≡ pagesOf (shapeIn s) = omega (arith, p .pages-are, p .places-are) in rw (e, q)
+freed-is s ps least v p e = let q : s .pages ≡ pagesOf (shapeIn s) = omega (arith, p .pages-are, p .chunks-are) in rw (e, q)
 
 pub counted-is : (s : Sizes) (ps : List ScanEntry) (least : ℕ) (v : View) → Proper s → freeable least v ≡ releasable ps v
     → countBelow (freeable least v) (s .pages) ≡ countBelow (releasable ps v) (pagesOf (shapeIn s))
-counted-is s ps least v p e = let q : s .pages ≡ pagesOf (shapeIn s) = omega (arith, p .pages-are, p .places-are) in rw (e, q)
+counted-is s ps least v p e = let q : s .pages ≡ pagesOf (shapeIn s) = omega (arith, p .pages-are, p .chunks-are) in rw (e, q)

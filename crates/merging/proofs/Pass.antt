@@ -16,13 +16,13 @@ use Rattle.loops.specs.Change.{copied}
 use Rattle.layout.specs.declared.Sizes.{Sizes}
 use Rattle.layout.specs.declared.Region.{Region}
 use Rattle.layout.specs.View.{View, renew, put, copy}
-use Rattle.terms.specs.Places.{place}
-use Rattle.model.specs.Stored.{recordIn, valueIn, pageIn, currentIn, placesOf, pagesOf, within, freePage, firstFrom, nextWord}
+use Rattle.terms.specs.Places.{firstIndex}
+use Rattle.model.specs.Stored.{recordIn, valueIn, pageIn, currentIn, chunksOf, pagesOf, within, freePage, firstFrom, nextWord}
 use Rattle.layout.specs.Regions.{mergesAt, slot}
 use Rattle.model.specs.Writing.{applies, applied, newestOf, namedIn, strayIn, freeIn, mergedIn}
 use Rattle.model.proofs.Free.{free-unnamed}
 use Rattle.history.proofs.Lists.{both, eqb-equal}
-use Rattle.rows.proofs.Indices.{place-in}
+use Rattle.rows.proofs.Indices.{chunk-in}
 use Rattle.layout.specs.Sizes.{Proper}
 use Rattle.model.specs.Asked.{shapeIn}
 use Rattle.loops.specs.Search.{foundAt}
@@ -137,7 +137,7 @@ apart a b d = go (ltb a b) refl
 
 -- ---- the free page
 -- the search over numbers is the search over a list
-pub first-list : (key : ℕ) (l : List ℕ) (n : ℕ) → length l ≡ n → firstFrom (λ p. eqb (getD l p 0) key) n 0 ≡ place (λ x. eqb x key) l
+pub first-list : (key : ℕ) (l : List ℕ) (n : ℕ) → length l ≡ n → firstFrom (λ p. eqb (getD l p 0) key) n 0 ≡ firstIndex (λ x. eqb x key) l
 first-list key l n e = ap (λ (k : ℕ). firstFrom (λ p. eqb (getD l p 0) key) k 0) (sym e) ∙ count l
   where
     -- from i on, with i words before
@@ -149,7 +149,7 @@ first-list key l n e = ap (λ (k : ℕ). firstFrom (λ p. eqb (getD l p 0) key) 
         split true = refl
         split false = refl
 
-    count : (l : List ℕ) → firstFrom (λ p. eqb (getD l p 0) key) (length l) 0 ≡ place (λ x. eqb x key) l
+    count : (l : List ℕ) → firstFrom (λ p. eqb (getD l p 0) key) (length l) 0 ≡ firstIndex (λ x. eqb x key) l
     count [] = refl
     count (x ∷ l) =
         rw (shifted (λ p. eqb (getD (x ∷ l) p 0) key) (λ p. eqb (getD l p 0) key) (λ p. refl) (length l) 0, count l)
@@ -168,7 +168,7 @@ module _ (s : Sizes) (v : View) (p : Proper s) (long : length (v Region.PageStat
 
   free-both : freeIn (shapeIn s) v ≡ cond (ltb first (s .pages)) first second
   unfolding freeIn
-  free-both = let q : s .pages ≡ pagesOf (shapeIn s) = omega (arith, p .pages-are, p .places-are) in rw q
+  free-both = let q : s .pages ≡ pagesOf (shapeIn s) = omega (arith, p .pages-are, p .chunks-are) in rw q
 
   pub free-here : (j : ℕ) → firstAt 0 0 (region (v Region.PageState) 0 (s .pages)) ≡ Found.At j → Found.At j ≡ foundAt (s .pages) (freeIn (shapeIn s) v)
   free-here j e = rw free-both (go (ltb first (s .pages)) refl (sym (free-first s v long) ∙ e))
@@ -204,14 +204,14 @@ module _ (S : Shape) (v : View) (p state : ℕ) (e : state ≡ getD (v Region.Pa
   unfolding strayIn pageIn
   stray-not n = rw (← e, ne-eqb state 1 n)
 
-  module _ (s1 : state ≡ 1) (at : ℕ) (w : at ≡ getD (v Region.PagePlace) p 0) where
-    pub stray-high : placesOf S ≤ at → true ≡ strayIn S v p
+  module _ (s1 : state ≡ 1) (at : ℕ) (w : at ≡ getD (v Region.PageChunk) p 0) where
+    pub stray-high : chunksOf S ≤ at → true ≡ strayIn S v p
     unfolding strayIn namedIn pageIn
-    stray-high h = rw (← e, eq-eqb state 1 s1, ← w, le-ltb at (placesOf S) h)
+    stray-high h = rw (← e, eq-eqb state 1 s1, ← w, le-ltb at (chunksOf S) h)
 
-    pub stray-other : (page : ℕ) → at < placesOf S → page ≡ getD (v Region.Current) at 0 → not (eqb page p) ≡ strayIn S v p
+    pub stray-other : (page : ℕ) → at < chunksOf S → page ≡ getD (v Region.Current) at 0 → not (eqb page p) ≡ strayIn S v p
     unfolding strayIn namedIn pageIn
-    stray-other page h q = rw (← e, eq-eqb state 1 s1, ← w, lt-ltb at (placesOf S) h, ← q)
+    stray-other page h q = rw (← e, eq-eqb state 1 s1, ← w, lt-ltb at (chunksOf S) h, ← q)
 
 -- ---- the whole merge, as the code has it: a copy of page `old` takes the records after `low`, and is put in its place
 pub merged-is : (S : Shape) (g c n p old low newest m latest : ℕ) (v x y z w : View) → p ≡ freeIn S v → old ≡ getD (v Region.Current) (g * S .columns + c) 0
@@ -229,11 +229,11 @@ unfolding namedIn
 not-free s v g c n p old w m e q =
     let S : Shape = shapeIn s in
     let i : ℕ = g * s .columns + c in
-    let k : p < pagesOf S = omega (arith, w .pages-are, w .places-are, m .page-below) in
-    let b : i < placesOf S = omega (arith, w .places-are, place-in s w g c (m .range-below) (m .column-below)) in
-    let at : (pageIn v old) .place ≡ i = rw (← e) at (m .placed .place i b) in
+    let k : p < pagesOf S = omega (arith, w .pages-are, w .chunks-are, m .page-below) in
+    let b : i < chunksOf S = omega (arith, w .chunks-are, chunk-in s w g c (m .range-below) (m .column-below)) in
+    let at : (pageIn v old) .chunk ≡ i = rw (← e) at (m .placed .chunk i b) in
     T-not (namedIn S v (freeIn S v)) (free-unnamed S v (m .placed) (omega (arith, m .free)))
-    (subst (λ (x : ℕ). T (namedIn S v x)) (q ∙ m .free) (both (ltb ((pageIn v old) .place) (placesOf S)) (eqb (getD (v Region.Current) ((pageIn v old) .place) 0) old) (lt→ltb ((pageIn v old) .place) (placesOf S) (omega (arith, at))) (eqb-equal (getD (v Region.Current) ((pageIn v old) .place) 0) old (ap (λ (j : ℕ). getD (v Region.Current) j 0) at ∙ sym e))))
+    (subst (λ (x : ℕ). T (namedIn S v x)) (q ∙ m .free) (both (ltb ((pageIn v old) .chunk) (chunksOf S)) (eqb (getD (v Region.Current) ((pageIn v old) .chunk) 0) old) (lt→ltb ((pageIn v old) .chunk) (chunksOf S) (omega (arith, at))) (eqb-equal (getD (v Region.Current) ((pageIn v old) .chunk) 0) old (ap (λ (j : ℕ). getD (v Region.Current) j 0) at ∙ sym e))))
 
 -- and its lineage is at most n
 pub reaches : (s : Sizes) (v : View) (g c n p old low : ℕ) → Mergeable s v g c n p → old ≡ getD (v Region.Current) (g * s .columns + c) 0

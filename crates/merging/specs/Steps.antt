@@ -35,15 +35,15 @@ appliedAll S g c p low n v = renew Region.Cells (applied S v g c p low n (v Regi
 
 -- the words of page p, made current by merge m
 unfoldable pub pagePut : ℕ → ℕ → ℕ → ℕ → ℕ → View → View
-pagePut p place m lineage newest v =
+pagePut p chunk m lineage newest v =
     put Region.PageNewest p newest
-    (put Region.PageLineage p lineage (put Region.PageMade p m (put Region.PagePlace p place (put Region.PageState p asCurrent v))))
+    (put Region.PageLineage p lineage (put Region.PageMade p m (put Region.PageChunk p chunk (put Region.PageState p asCurrent v))))
 
 -- page p takes the place of page `old`, which waits
 unfoldable pub pageReplaced : ℕ → ℕ → ℕ → ℕ → View → View
-pageReplaced old p place m v =
+pageReplaced old p chunk m v =
     put Region.Header mergesAt m
-    (put Region.Current place p (put Region.PageReplaced old m (put Region.PageState old asWaiting v)))
+    (put Region.Current chunk p (put Region.PageReplaced old m (put Region.PageState old asWaiting v)))
 
 -- What a merge of column c of range g through record n into page p asks of the memory: its tests have shown it, but for the last, which is a stored fact.
 pub record Mergeable (s : Sizes) (v : View) (g c n p : ℕ) : Type 0 where

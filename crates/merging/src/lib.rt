@@ -53,11 +53,11 @@ fn is_stray(mem: &[u8], s: Sizes, p: usize) -> bool
     if read(mem, s, Region::PageState, p) != PAGE_CURRENT {
         return false;
     }
-    let place = read(mem, s, Region::PagePlace, p) as usize;
-    if place >= s.places {
+    let chunk = read(mem, s, Region::PageChunk, p) as usize;
+    if chunk >= s.chunks {
         return true;
     }
-    read(mem, s, Region::Current, place) as usize != p
+    read(mem, s, Region::Current, chunk) as usize != p
 }
 
 // The first stray page. No call leaves one, so that only a memory from elsewhere has any.
@@ -161,27 +161,27 @@ fn apply(
 }
 
 // The words of a page that merge m makes current.
-fn put_page(mem: &mut [u8], s: Sizes, page: usize, place: u32, m: u32, lineage: Tail, newest: Stamp)
+fn put_page(mem: &mut [u8], s: Sizes, page: usize, chunk: u32, m: u32, lineage: Tail, newest: Stamp)
     requires { ⌜ Suffices s (now mem) ⌝ }
     requires { ⌜ page < s .pages ⌝ }
-    ensures { λ _. ⌜ viewOf s (now (mem .exit)) ≡ pagePut page place m (lineage .0) (newest .0) (viewOf s (now (mem .entry))) ⌝ }
+    ensures { λ _. ⌜ viewOf s (now (mem .exit)) ≡ pagePut page chunk m (lineage .0) (newest .0) (viewOf s (now (mem .entry))) ⌝ }
 {
     write(mem, s, Region::PageState, page, PAGE_CURRENT);
-    write(mem, s, Region::PagePlace, page, place);
+    write(mem, s, Region::PageChunk, page, chunk);
     write(mem, s, Region::PageMade, page, m);
     write(mem, s, Region::PageLineage, page, lineage.0);
     write(mem, s, Region::PageNewest, page, newest.0);
 }
 
 // A page takes the place of page `old`, which waits from merge m on.
-fn replace_page(mem: &mut [u8], s: Sizes, old: usize, page: u32, place: usize, m: u32)
+fn replace_page(mem: &mut [u8], s: Sizes, old: usize, page: u32, chunk: usize, m: u32)
     requires { ⌜ Suffices s (now mem) ⌝ }
-    requires { ⌜ (old < s .pages) × (place < s .places) ⌝ }
-    ensures { λ _. ⌜ viewOf s (now (mem .exit)) ≡ pageReplaced old page place m (viewOf s (now (mem .entry))) ⌝ }
+    requires { ⌜ (old < s .pages) × (chunk < s .chunks) ⌝ }
+    ensures { λ _. ⌜ viewOf s (now (mem .exit)) ≡ pageReplaced old page chunk m (viewOf s (now (mem .entry))) ⌝ }
 {
     write(mem, s, Region::PageState, old, PAGE_WAITING);
     write(mem, s, Region::PageReplaced, old, m);
-    write(mem, s, Region::Current, place, page);
+    write(mem, s, Region::Current, chunk, page);
     write(mem, s, Region::Header, HEADER_MERGES, m);
 }
 
@@ -192,17 +192,17 @@ pub fn merge(mem: &mut [u8], s: Sizes, g: usize, c: usize, n: Tail, page: usize)
     requires { ⌜ Mergeable s (viewOf s (now mem)) g c (n .0) page ⌝ }
     ensures { λ _. ⌜ viewOf s (now (mem .exit)) ≡ mergedIn (shapeIn s) g c (n .0) (viewOf s (now (mem .entry))) ⌝ }
 {
-    let place = g * s.columns + c;
+    let chunk = g * s.columns + c;
     let seen: &[u8] = mem;
-    let old = read(seen, s, Region::Current, place) as usize;
+    let old = read(seen, s, Region::Current, chunk) as usize;
     let low = Tail(read(seen, s, Region::PageLineage, old));
     let newest = Stamp(read(seen, s, Region::PageNewest, old));
     let m = next_word(read(seen, s, Region::Header, HEADER_MERGES));
     let cells = page * RANGE_ROWS;
     copy_in(mem, s, Region::Cells, old * RANGE_ROWS, RANGE_ROWS, cells);
     let latest = apply(mem, s, g, c, page, low, (n.0 - low.0) as usize, newest);
-    put_page(mem, s, page, place as u32, m, n, latest);
-    replace_page(mem, s, old, page as u32, place, m);
+    put_page(mem, s, page, chunk as u32, m, n, latest);
+    replace_page(mem, s, old, page as u32, chunk, m);
 }
 
 // ---- release

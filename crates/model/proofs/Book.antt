@@ -10,7 +10,7 @@ use lib.Dec.{T, ltb, eqb, eqb·suc-zero}
 use lib.ListN.{length, getD, set}
 use Rattle.history.specs.History.{any, count, nth, change}
 use Rattle.history.proofs.Lists.{by-cases, cond-suc, eqb-same, is-true, eqb-other}
-use Rattle.terms.specs.Places.{place, bears}
+use Rattle.terms.specs.Places.{firstIndex, bears}
 use Rattle.model.proofs.Lists.{one, count-set, any-count, count-rest, count-from, from-snoc, from-set, from-none, from-at, place-lt, place-is, count-pos}
 use Rattle.model.specs.Represents.{countFrom}
 
@@ -81,9 +81,9 @@ module _ {P A : Type 0} (K : Kind P A) where
   book-room ts l o = rw (← (book-count ts l o)) (count-rest (λ p. eqb (K.number p) 0) l)
 
   pub book-add : (ts : List A) (l : List P) → Book ts l → (s : A) → T (K.live s) → T (any (λ p. eqb (K.number p) 0) l)
-      → Book (ts ++ s ∷ []) (set l (place (λ p. eqb (K.number p) 0) l) (K.as′ (suc (length ts)) s))
+      → Book (ts ++ s ∷ []) (set l (firstIndex (λ p. eqb (K.number p) 0) l) (K.as′ (suc (length ts)) s))
   book-add ts l o s v a q =
-      let i : ℕ = place (λ p. eqb (K.number p) 0) l in
+      let i : ℕ = firstIndex (λ p. eqb (K.number p) 0) l in
       let b : i < length l = place-lt (λ p. eqb (K.number p) 0) l a in
       let x : P = K.as′ (suc (length ts)) s in
       let e1 : one (not (eqb (K.number (getD l i K.free)) 0) && q (getD l i K.free)) ≡ 0 =
@@ -103,9 +103,9 @@ module _ {P A : Type 0} (K : Kind P A) where
 
   -- what was found under a number
   pub book-found : (ts : List A) (l : List P) → Book ts l → (t : ℕ) → T (K.live (nth ts t K.none)) → (f : P → ℕ)
-      → f (getD l (place (bearing t) l) K.free) ≡ f (K.as′ t (nth ts t K.none))
+      → f (getD l (firstIndex (bearing t) l) K.free) ≡ f (K.as′ t (nth ts t K.none))
   book-found ts l o t v f =
-      let p : P = getD l (place (bearing t) l) K.free in
+      let p : P = getD l (firstIndex (bearing t) l) K.free in
       let w : ℕ = f (K.as′ t (nth ts t K.none)) in
       let a : T (any (bearing t) l) = rw (book-is ts l o t) v in
       let g : P → Bool = λ p. not (eqb (K.number p) 0) && (not (eqb (f p) w) && eqb (K.number p) t) in
@@ -113,7 +113,7 @@ module _ {P A : Type 0} (K : Kind P A) where
       book-at ts l o t (λ p. not (eqb (f p) w))
       ∙ one-zero (K.live (nth ts t K.none) && not (eqb w w)) (rw (eqb-same w, and-false (K.live (nth ts t K.none)))) in
       by-cases (ℕ-discrete (f p) w) (λ q. q)
-      (λ n. absurd (omega (arith, e, count-pos g l (place (bearing t) l) K.free (place-lt (bearing t) l a) (rw (eqb-other (f p) w n) (place-is (bearing t) l K.free a)))))
+      (λ n. absurd (omega (arith, e, count-pos g l (firstIndex (bearing t) l) K.free (place-lt (bearing t) l a) (rw (eqb-other (f p) w n) (place-is (bearing t) l K.free a)))))
 
   -- no other place bears the number
   pub book-only : (ts : List A) (l : List P) → Book ts l → (t i j : ℕ) → i < j → j < length l → T (bearing t (getD l i K.free))
@@ -128,11 +128,11 @@ module _ {P A : Type 0} (K : Kind P A) where
       twice g (x ∷ l) (suc i) (suc j) a b p q = omega (arith, cond-suc (g x) (count g l), twice g l i j (omega arith) (omega arith) p q)
 
   pub book-drop : (ts : List A) (l : List P) → Book ts l → (t : ℕ) → T (K.live (nth ts t K.none)) → (s : A) → K.live s ≡ false
-      → Book (change ts t s) (set l (place (bearing t) l) K.free)
+      → Book (change ts t s) (set l (firstIndex (bearing t) l) K.free)
   book-drop ts l o zero v s n q = absurd (rw K.none-live at v)
   book-drop ts l o (suc t) v s n q =
       let a : T (any (bearing (suc t)) l) = rw (book-is ts l o (suc t)) v in
-      let i : ℕ = place (bearing (suc t)) l in
+      let i : ℕ = firstIndex (bearing (suc t)) l in
       let b : i < length l = place-lt (bearing (suc t)) l a in
       let y : A = getD ts t K.none in
       let x : P = K.as′ (suc t) y in

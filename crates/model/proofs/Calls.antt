@@ -27,8 +27,8 @@ use Rattle.history.proofs.Past.{past-next}
 use Rattle.layout.specs.View.{View, rowsGiven, lastStamp, usedIn}
 use Rattle.layout.specs.declared.Region.the-variants.{Opens, Changes}
 use Rattle.terms.specs.declared.ScanEntry.{ScanEntry}
-use Rattle.terms.specs.Places.{bears, place}
-use Rattle.model.specs.Stored.{cellIn, currentIn, within, openPlace, scanEntry, pagesOf}
+use Rattle.terms.specs.Places.{bears, firstIndex}
+use Rattle.model.specs.Stored.{cellIn, currentIn, within, openIndex, scanEntry, pagesOf}
 use Rattle.model.specs.declared.Reader.{Reader}
 use Rattle.model.specs.Reading.{reader, readIn, readCurrent, ownChanges, wordIn, scanPage, Tally, tally, sumIn}
 use Rattle.model.specs.Writing.{freeIn}
@@ -176,14 +176,14 @@ module _ (S : Shape) (v : View) (ps : List ScanEntry) (h : History) (o : Represe
       read-is S v ps h o k who f w r b c d (currentIn S v (rangeOf r) c) everyRow (o .currents (rangeOf r) c (in-range k r b) d .holds) (λ z. tt)
 
   own-read : (t r c : ℕ) → stateOf h t ≡ active → r < length (h .rows) → c < S .columns → readCurrent S v (reader (lastStamp v) (ownChanges v t)) r c ≡ read (seenBy h t) h r c
-  unfolding ownChanges openPlace
+  unfolding ownChanges openIndex
   own-read t r c a b d = ap (λ (s : ℕ). readCurrent S v (reader s (cond (eqb noted 0) 0 t)) r c) (o .header .last-stamp) ∙
       by-test (λ z. readCurrent S v (reader (h .last) (cond z 0 t)) r c ≡ read (seenBy h t) h r c) (eqb noted 0)
       (λ z. current-read (reader (h .last) 0) r c (seenAt h (h .last)) (sees-at h (h .last)) b d ∙ own-latest h t r c b (unchanged (eqb→eq noted 0 z)))
       (λ _. current-read (reader (h .last) t) r c (seenBy h t) (sees-own h t a) b d)
     where
       j : ℕ
-      j = place (bears t) (v Opens)
+      j = firstIndex (bears t) (v Opens)
 
       noted : ℕ
       noted = getD (v Changes) j 0

@@ -11,7 +11,7 @@ use Rattle.terms.specs.Measures.{Shape}
 use Rattle.history.proofs.Lists.{by-cases, by-test, is-true, refuted, both, parts, cond-suc, eqb-equal, eqb-other}
 use Rattle.layout.specs.View.{View}
 use Rattle.layout.specs.declared.Region.the-variants.{Current}
-use Rattle.model.specs.Stored.{pageIn, placesOf, pagesOf, freePage, currentPage, waitingPage, countBelow, firstFrom}
+use Rattle.model.specs.Stored.{pageIn, chunksOf, pagesOf, freePage, currentPage, waitingPage, countBelow, firstFrom}
 use Rattle.model.specs.Asked.{Placed}
 use Rattle.model.specs.Writing.{namedIn, strayIn, freeIn}
 use Rattle.model.proofs.Lists.{one, below-none, below-pos, below-change, first-is, first-none, same-truth}
@@ -35,14 +35,14 @@ module _ (S : Shape) (v : View) (o : Placed S v) where
   cur i = getD (v Current) i 0
 
   abbrev at : ℕ → ℕ
-  at p = (pageIn v p) .place
+  at p = (pageIn v p) .chunk
 
   -- the page that one of the first k places names
   abbrev among : ℕ → ℕ → Bool
   among k p = ltb (at p) k && eqb (cur (at p)) p
 
   -- the places name as many pages as there are places
-  named-first : (k : ℕ) → k ≤ placesOf S → countBelow (among k) (pagesOf S) ≡ k
+  named-first : (k : ℕ) → k ≤ chunksOf S → countBelow (among k) (pagesOf S) ≡ k
   named-first zero b = below-none (among 0) (pagesOf S) (λ p q. refuted (among 0 p) (λ t. omega (arith, ltb→lt (at p) 0 (parts (ltb (at p) 0) (eqb (cur (at p)) p) t .0))))
   named-first (suc k) b =
       omega (
@@ -60,20 +60,20 @@ module _ (S : Shape) (v : View) (o : Placed S v) where
           both (ltb (at p) k) (eqb (cur (at p)) p) (lt→ltb (at p) k (by-cases (ℕ-discrete (at p) k) (λ e. absurd (n (sym (eqb→eq (cur (at p)) p (z .1)) ∙ ap cur e))) (λ f. omega (arith, ltb→lt (at p) (suc k) (z .0))))) (z .1))
 
       old : among k (cur k) ≡ false
-      old = refuted (among k (cur k)) (λ t. omega (arith, o .place k b, ltb→lt (at (cur k)) k (parts (ltb (at (cur k)) k) (eqb (cur (at (cur k))) (cur k)) t .0)))
+      old = refuted (among k (cur k)) (λ t. omega (arith, o .chunk k b, ltb→lt (at (cur k)) k (parts (ltb (at (cur k)) k) (eqb (cur (at (cur k))) (cur k)) t .0)))
 
       new : among (suc k) (cur k) ≡ true
-      new = is-true (among (suc k) (cur k)) (both (ltb (at (cur k)) (suc k)) (eqb (cur (at (cur k))) (cur k)) (lt→ltb (at (cur k)) (suc k) (omega (arith, o .place k b))) (eqb-equal (cur (at (cur k))) (cur k) (ap cur (o .place k b))))
+      new = is-true (among (suc k) (cur k)) (both (ltb (at (cur k)) (suc k)) (eqb (cur (at (cur k))) (cur k)) (lt→ltb (at (cur k)) (suc k) (omega (arith, o .chunk k b))) (eqb-equal (cur (at (cur k))) (cur k) (ap cur (o .chunk k b))))
 
-  pub named-count : countBelow (namedIn S v) (pagesOf S) ≡ placesOf S
+  pub named-count : countBelow (namedIn S v) (pagesOf S) ≡ chunksOf S
   unfolding namedIn
-  named-count = named-first (placesOf S) (omega arith)
+  named-count = named-first (chunksOf S) (omega arith)
 
   pub named-state : (p : ℕ) → T (namedIn S v p) → (pageIn v p) .state ≡ 1
   unfolding namedIn
   named-state p t =
-      let z = parts (ltb (at p) (placesOf S)) _ t in
-      ap (λ (q : ℕ). (pageIn v q) .state) (sym (eqb→eq (cur (at p)) p (z .1))) ∙ o .state (at p) (ltb→lt (at p) (placesOf S) (z .0))
+      let z = parts (ltb (at p) (chunksOf S)) _ t in
+      ap (λ (q : ℕ). (pageIn v q) .state) (sym (eqb→eq (cur (at p)) p (z .1))) ∙ o .state (at p) (ltb→lt (at p) (chunksOf S) (z .0))
 
   -- a page is free by its state, stray, named by its place or waiting
   each-one : (p : ℕ) → one (freePage ((pageIn v p) .state)) + one (strayIn S v p) + one (namedIn S v p) + one (waitingPage ((pageIn v p) .state)) ≡ 1

@@ -29,9 +29,9 @@ use Rattle.loops.proofs.Change.{set-fit}
 use Rattle.layout.specs.View.{View, renew, put}
 use Rattle.layout.specs.declared.Region.the-variants.{Header, Opens, RowTransaction, RowState, RowStamp, RowLink, RowMask, Current, Cells, Changes}
 use Rattle.terms.specs.declared.ScanEntry.{ScanEntry}
-use Rattle.terms.specs.Places.{bears, place}
+use Rattle.terms.specs.Places.{bears, firstIndex}
 use Rattle.layout.specs.Regions.{rowsAt}
-use Rattle.model.specs.Stored.{rowIn, recordIn, valueIn, pageIn, cellIn, currentIn, placeOf, within, openPlace, nextWord}
+use Rattle.model.specs.Stored.{rowIn, recordIn, valueIn, pageIn, cellIn, currentIn, chunkOf, within, openIndex, nextWord}
 use Rattle.layout.specs.Codes.{asOpen}
 use Rattle.model.specs.Reading.{scanPage, wasCurrent}
 use Rattle.model.specs.Writing.{noted, putCells, insertedAt, insertedIn}
@@ -59,7 +59,7 @@ never-set l r c a = any-none (λ (x : Record). eqb (x .row) r && sets c (x .cont
 -- ---- the cells that are written
 module _ (S : Shape) (current : List ℕ) (g i : ℕ) (vs : List ℤ) (cells : List ℕ) where
   abbrev page : ℕ → ℕ
-  page c = getD current (placeOf S g c) 0
+  page c = getD current (chunkOf S g c) 0
 
   cells-length : (n : ℕ) → length (putCells S current g i vs n cells) ≡ length cells
   cells-length zero = refl
@@ -92,7 +92,7 @@ value-fits (x ∷ vs) (cons p ps) (suc c) = value-fits vs ps c
 pub current-apart : (S : Shape) (v : View) (h : History) → CurrentsAre S h v → (g c g′ c′ : ℕ) → g < S .ranges → c < S .columns → g′ < S .ranges → c′ < S .columns
     → currentIn S v g c ≡ currentIn S v g′ c′ → (g ≡ g′) × (c ≡ c′)
 current-apart S v h o g c g′ c′ a b a′ b′ e =
-    same-part (S .columns) g g′ c c′ b b′ (sym (o g c a b .place) ∙ ap (λ (p : ℕ). (pageIn v p) .place) e ∙ o g′ c′ a′ b′ .place)
+    same-part (S .columns) g g′ c c′ b b′ (sym (o g c a b .chunk) ∙ ap (λ (p : ℕ). (pageIn v p) .chunk) e ∙ o g′ c′ a′ b′ .chunk)
 
 module _ (S : Shape) (v : View) (ps : List ScanEntry) (h : History) (o : Represents S v ps h) (k : Known S h) (t : ℕ) (vs : List ℤ) (a : stateOf h t ≡ active)
     (room : length (h .rows) < S .ranges * rangeRows) (typed : All (SFits w32) vs) where
@@ -116,7 +116,7 @@ module _ (S : Shape) (v : View) (ps : List ScanEntry) (h : History) (o : Represe
   inside = omega arith
 
   insert-rows : RowsAre h′ v′
-  unfolding insertedAt noted openPlace put renew rowIn stateOf recordsOf withRows
+  unfolding insertedAt noted openIndex put renew rowIn stateOf recordsOf withRows
   insert-rows i b = by-cases (ℕ-discrete i r)
       (λ e. rw (e, row-new h row)
       record {
@@ -149,7 +149,7 @@ module _ (S : Shape) (v : View) (ps : List ScanEntry) (h : History) (o : Represe
       ∙ toZ-ofZ w32 (getD vs c (pos 0)) (value-fits vs typed c)
 
   insert-currents : Step S h (insert t vs) h′ → CurrentsAre S h′ v′
-  unfolding insertedAt noted openPlace put renew pageIn cellIn currentIn mergedThrough
+  unfolding insertedAt noted openIndex put renew pageIn cellIn currentIn mergedThrough
   insert-currents step g c b d = by-cases (ℕ-discrete (rangeOf r) g)
       (λ e. packed (holds-insert row g c (pageIn v p) (k .past .order) step e
       (subst (λ (z : ℕ). toZ w32 (getD cells′ (currentIn S v z c * rangeRows + within r) 0) ≡ getD vs c (pos 0)) e (cell-written c d)) (λ i u f. cell-kept p i u (λ c′ w z. f)) (x .holds)))
@@ -168,26 +168,26 @@ module _ (S : Shape) (v : View) (ps : List ScanEntry) (h : History) (o : Represe
 
       packed : Holds h′ g c everyRow (pageIn v p) cell → CurrentIs S h′ g c p (pageIn v p) cell
       packed q =
-          record { inside = x .inside; state = x .state; place = x .place; made = unfold withRows in x .made; lineage = unfold withRows in x .lineage; holds = q }
+          record { inside = x .inside; state = x .state; chunk = x .chunk; made = unfold withRows in x .made; lineage = unfold withRows in x .lineage; holds = q }
 
   -- a page of this place that is a current page of the new row's range has another place in it for each row given before
-  pub scan-apart : (g c p : ℕ) → c < S .columns → (pageIn v p) .place ≡ placeOf S g c → (j : ℕ) → rangeOf j ≡ g → j ≢ r → (c′ : ℕ) → c′ < S .columns → p ≡ currentIn S v (rangeOf r) c′
+  pub scan-apart : (g c p : ℕ) → c < S .columns → (pageIn v p) .chunk ≡ chunkOf S g c → (j : ℕ) → rangeOf j ≡ g → j ≢ r → (c′ : ℕ) → c′ < S .columns → p ≡ currentIn S v (rangeOf r) c′
       → within j ≢ within r
   scan-apart g c p d pl j e f c′ w z u =
-      f (same-row j r (e ∙ same-part (S .columns) g (rangeOf r) c c′ d w (sym pl ∙ ap (λ (p : ℕ). (pageIn v p) .place) z ∙ o .currents (rangeOf r) c′ inside w .place) .0) u)
+      f (same-row j r (e ∙ same-part (S .columns) g (rangeOf r) c c′ d w (sym pl ∙ ap (λ (p : ℕ). (pageIn v p) .chunk) z ∙ o .currents (rangeOf r) c′ inside w .chunk) .0) u)
 
   insert-scans : Step S h (insert t vs) h′ → ScanPagesAre S h′ v′
-  unfolding insertedAt noted openPlace put renew pageIn cellIn currentIn scanPage wasCurrent scanAt Timely withRows
+  unfolding insertedAt noted openIndex put renew pageIn cellIn currentIn scanPage wasCurrent scanAt Timely withRows
   insert-scans step i run g c b d =
       let p : ℕ = scanPage S v (scanAt h i .before) g c in
       let x : ScanPageOf S h v (scanAt h i) g c = o .scanPages i (unfold withRows in run) g c b d in
-      scan-cells (λ j e q. cell-kept p (within j) (omega arith) (scan-apart g c p d (x .place) j e (seen j q))) (scan-page-step (k .past .order) step (k .past .timely i) x)
+      scan-cells (λ j e q. cell-kept p (within j) (omega arith) (scan-apart g c p d (x .chunk) j e (seen j q))) (scan-page-step (k .past .order) step (k .past .timely i) x)
     where
       -- a row that the scan sees is not the new one, which is open
       seen : (j : ℕ) → T (seenAt h′ (scanAt h i .stamp) ((rowAt h′ j) .inserter)) → j ≢ r
       seen j q e = rw (e, row-new h row, active-unseen h′ (scanAt h i .stamp) t (unfold stateOf withRows in a)) at q
 
-  insert-notes : NotesAre (h .rows ++ row ∷ []) (h .tail) (v Opens) (set (v Changes) (place (bears t) (v Opens)) (nextWord (getD (v Changes) (place (bears t) (v Opens)) 0)))
+  insert-notes : NotesAre (h .rows ++ row ∷ []) (h .tail) (v Opens) (set (v Changes) (firstIndex (bears t) (v Opens)) (nextWord (getD (v Changes) (firstIndex (bears t) (v Opens)) 0)))
   unfolding stateOf
   insert-notes =
       notes-more (h .rows) (h .rows ++ row ∷ []) (h .tail) (h .tail) (h .transactions) (v Opens) (v Changes) t (o .whole .long Opens) (o .whole .long Changes) (few-changes k)
@@ -204,7 +204,7 @@ module _ (S : Shape) (v : View) (ps : List ScanEntry) (h : History) (o : Represe
       (put-whole RowMask r 0 (omega arith) (put-whole RowLink r 0 (omega arith) (put-whole RowStamp r 0 (omega arith) (put-whole RowState r 0 (omega arith) (put-whole RowTransaction r t number (o .whole))))))))
 
   insert-at : Step S h (insert t vs) h′ → Represents S v′ ps h′
-  unfolding insertedAt noted openPlace put renew withRows recordIn valueIn pageIn stateOf recordsOf currentIn
+  unfolding insertedAt noted openIndex put renew withRows recordIn valueIn pageIn stateOf recordsOf currentIn
   insert-at step =
       record {
         header = header-same (sym (simp length-append (omega arith))) refl refl refl (header-put (v Header) 4 (r + 1) (omega (arith, o .whole .long Header)) (omega arith) (o .header));

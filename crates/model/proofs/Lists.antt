@@ -15,7 +15,7 @@ use lib.Seq.{take-suc}
 use Rattle.history.specs.History.{any, count}
 pub use Rattle.history.proofs.Lists.{one}
 use Rattle.history.proofs.Lists.{by-cases, by-test, cond-suc, any-append, is-true, refuted, eqb-equal, eqb-same, eqb-other}
-use Rattle.terms.specs.Places.{place}
+use Rattle.terms.specs.Places.{firstIndex}
 use Rattle.model.specs.Stored.{firstFrom, anyBelow, countBelow}
 use Rattle.model.specs.Represents.{countFrom}
 
@@ -115,13 +115,13 @@ module _ {A : Type 0} where
       rw (take-next l n d b f, or-false (f (getD l n d)), any-below l d F f n (omega arith) (λ i u. e i (omega arith)), e n (omega arith))
 
   -- ---- the place that is found
-  pub place-lt : (f : A → Bool) (l : List A) → T (any f l) → place f l < length l
+  pub place-lt : (f : A → Bool) (l : List A) → T (any f l) → firstIndex f l < length l
   place-lt f [] = λ t. absurd t
-  place-lt f (x ∷ l) = by-test (λ b. T (b || any f l) → cond b 0 (suc (place f l)) < suc (length l)) (f x) (λ _ u. omega arith) (λ _ u. omega (arith, place-lt f l u))
+  place-lt f (x ∷ l) = by-test (λ b. T (b || any f l) → cond b 0 (suc (firstIndex f l)) < suc (length l)) (f x) (λ _ u. omega arith) (λ _ u. omega (arith, place-lt f l u))
 
-  pub place-is : (f : A → Bool) (l : List A) (d : A) → T (any f l) → T (f (getD l (place f l) d))
+  pub place-is : (f : A → Bool) (l : List A) (d : A) → T (any f l) → T (f (getD l (firstIndex f l) d))
   place-is f [] d = λ t. absurd t
-  place-is f (x ∷ l) d = by-test (λ b. T (b || any f l) → T (f (getD (x ∷ l) (cond b 0 (suc (place f l))) d))) (f x) (λ t _. t) (λ _ u. place-is f l d u)
+  place-is f (x ∷ l) d = by-test (λ b. T (b || any f l) → T (f (getD (x ∷ l) (cond b 0 (suc (firstIndex f l))) d))) (f x) (λ t _. t) (λ _ u. place-is f l d u)
 
 -- ---- the first number that passes
 module _ (f : ℕ → Bool) where

@@ -11,7 +11,7 @@ use lib.Dec.{T, leb, eqb, leb→le}
 use lib.ListN.{length, getD, replicate, length-replicate}
 use mir.Syntax.{w32}
 use mir.Val.{toZ}
-use Rattle.terms.specs.Measures.{Shape, rangeRows, mostScans, mostColumns, mostRanges, mostRecords, mostSpares, between, withinLimits, mostTransactions, mostPlaces}
+use Rattle.terms.specs.Measures.{Shape, rangeRows, mostScans, mostColumns, mostRanges, mostRecords, mostSpares, between, withinLimits, mostTransactions, mostChunks}
 use Rattle.history.specs.History.{Call, History, start, answers, next, count, rowAt, insertedValue, inserted, lastSetting, recordsOf, lastThrough, mergedThrough, scanAt, cellThrough}
 use Rattle.history.specs.Lists.{All, nil, cons}
 use Rattle.history.proofs.Lists.{by-cases, parts}
@@ -22,18 +22,18 @@ use Rattle.loops.proofs.Change.{changed-length, changed-outside, changed-fit, z
 use Rattle.layout.specs.Regions.{len}
 use Rattle.layout.specs.View.{View, blank, renew, put}
 use Rattle.layout.specs.declared.Region.{Region}
-use Rattle.layout.specs.declared.Region.the-variants.{Header, Opens, Current, PageState, PagePlace}
+use Rattle.layout.specs.declared.Region.the-variants.{Header, Opens, Current, PageState, PageChunk}
 use Rattle.terms.specs.declared.ScanEntry.{ScanEntry}
 use Rattle.layout.specs.Sizes.{sizesOf}
 use Rattle.terms.specs.Places.{freeEntry}
-use Rattle.model.specs.Stored.{pageIn, cellIn, currentIn, placeOf, placesOf, pagesOf, within, waitingPage, currentPage, countBelow}
+use Rattle.model.specs.Stored.{pageIn, cellIn, currentIn, chunkOf, chunksOf, pagesOf, within, waitingPage, currentPage, countBelow}
 use Rattle.model.specs.Writing.{made}
 use Rattle.model.specs.Calls.{Typed, viewNext, entriesNext, sayAll}
 use Rattle.layout.specs.Codes.{asCurrent}
 use Rattle.model.proofs.Lists.{below-all, below-none}
 use Rattle.model.specs.Represents.{Holds, everyRow, CurrentsAre, PoolIs, Represents, Small, Known, Whole}
 use Rattle.model.proofs.Views.{renew-whole, put-whole, changed-start}
-use Rattle.model.proofs.Merged.{place-in}
+use Rattle.model.proofs.Merged.{chunk-in}
 use Rattle.model.proofs.Calls.{one-call}
 
 -- ---- a stretch from the start
@@ -67,27 +67,27 @@ small-shape S t =
     bounds a b n t = let p = parts (leb a n) _ t in (leb→le a n (p .0), leb→le n b (p .1))
 
 module _ (S : Shape) (small : Small S) where
-  few-places : placesOf S ≤ mostPlaces
-  few-places = mul-le-mul (small .columns) (small .ranges)
+  few-chunks : chunksOf S ≤ mostChunks
+  few-chunks = mul-le-mul (small .columns) (small .ranges)
 
   -- ---- the words of the pages
-  state-first : (p : ℕ) → p < placesOf S → (pageIn (made S) p) .state ≡ asCurrent
+  state-first : (p : ℕ) → p < chunksOf S → (pageIn (made S) p) .state ≡ asCurrent
   unfolding made blank put renew pageIn
-  state-first p b = changed-start (λ i x. asCurrent) (placesOf S) (replicate (pagesOf S) 0) p (rw length-replicate (omega arith)) b
+  state-first p b = changed-start (λ i x. asCurrent) (chunksOf S) (replicate (pagesOf S) 0) p (rw length-replicate (omega arith)) b
 
-  state-rest : (p : ℕ) → placesOf S ≤ p → (pageIn (made S) p) .state ≡ 0
+  state-rest : (p : ℕ) → chunksOf S ≤ p → (pageIn (made S) p) .state ≡ 0
   unfolding made blank put renew pageIn
-  state-rest p b = changed-outside (λ i x. asCurrent) 0 (replicate (pagesOf S) 0) (placesOf S) p (inr (omega arith)) ∙ zeros (pagesOf S) p
+  state-rest p b = changed-outside (λ i x. asCurrent) 0 (replicate (pagesOf S) 0) (chunksOf S) p (inr (omega arith)) ∙ zeros (pagesOf S) p
 
-  page-made : (p : ℕ) → p < placesOf S → pageIn (made S) p ≡ record { state = asCurrent; place = p; made = 0; replaced = 0; lineage = 0; newest = 0 }
+  page-made : (p : ℕ) → p < chunksOf S → pageIn (made S) p ≡ record { state = asCurrent; chunk = p; made = 0; replaced = 0; lineage = 0; newest = 0 }
   unfolding made blank put renew pageIn
-  page-made p b = let room : placesOf S ≤ length {A = ℕ} (replicate (pagesOf S) 0) = rw length-replicate (omega arith) in simp (changed-start, zeros)
+  page-made p b = let room : chunksOf S ≤ length {A = ℕ} (replicate (pagesOf S) 0) = rw length-replicate (omega arith) in simp (changed-start, zeros)
 
-  current-made : (g c : ℕ) → g < S .ranges → c < S .columns → currentIn S (made S) g c ≡ placeOf S g c
+  current-made : (g c : ℕ) → g < S .ranges → c < S .columns → currentIn S (made S) g c ≡ chunkOf S g c
   unfolding made blank put renew currentIn
-  current-made g c a b = changed-start (λ i x. i) (placesOf S) (replicate (placesOf S) 0) (placeOf S g c) (rw length-replicate (le-refl _)) (place-in S g c a b)
+  current-made g c a b = changed-start (λ i x. i) (chunksOf S) (replicate (chunksOf S) 0) (chunkOf S g c) (rw length-replicate (le-refl _)) (chunk-in S g c a b)
 
-  holds-made : (g c : ℕ) (cell : ℕ → ℕ) → ((i : ℕ) → cell i ≡ 0) → (p : ℕ) → Holds start g c everyRow record { state = asCurrent; place = p; made = 0; replaced = 0; lineage = 0; newest = 0 } cell
+  holds-made : (g c : ℕ) (cell : ℕ → ℕ) → ((i : ℕ) → cell i ≡ 0) → (p : ℕ) → Holds start g c everyRow record { state = asCurrent; chunk = p; made = 0; replaced = 0; lineage = 0; newest = 0 } cell
   unfolding start cellThrough recordsOf lastSetting inserted insertedValue rowAt
   holds-made g c cell z p =
       record {
@@ -103,25 +103,25 @@ module _ (S : Shape) (small : Small S) where
 
   currents-made : CurrentsAre S start (made S)
   currents-made g c a b =
-      rw (current-made g c a b, page-made (placeOf S g c) (place-in S g c a b))
+      rw (current-made g c a b, page-made (chunkOf S g c) (chunk-in S g c a b))
       record {
-        inside = omega (arith, place-in S g c a b);
+        inside = omega (arith, chunk-in S g c a b);
         state = refl;
-        place = refl;
+        chunk = refl;
         made = zero-le;
         lineage = unfold mergedThrough lastThrough start in refl;
-        holds = holds-made g c (cellIn (made S) (placeOf S g c)) (cells-made (placeOf S g c)) (placeOf S g c);
+        holds = holds-made g c (cellIn (made S) (chunkOf S g c)) (cells-made (chunkOf S g c)) (chunkOf S g c);
       }
 
   state-not-waiting : (p : ℕ) → waitingPage ((pageIn (made S) p) .state) ≡ false
-  state-not-waiting p = by-cases (decLt p (placesOf S)) (λ b. ap waitingPage (state-first p b)) (λ b. ap waitingPage (state-rest p (omega arith)))
+  state-not-waiting p = by-cases (decLt p (chunksOf S)) (λ b. ap waitingPage (state-first p b)) (λ b. ap waitingPage (state-rest p (omega arith)))
 
   pool-made : PoolIs S [] (pageIn (made S))
   pool-made =
       record {
         current =
-            below-start (λ p. currentPage ((pageIn (made S) p) .state)) (placesOf S) (pagesOf S) (omega arith) (λ p a b. ap currentPage (state-rest p a))
-            ∙ below-all (λ p. currentPage ((pageIn (made S) p) .state)) (placesOf S) (λ p b. ap currentPage (state-first p b));
+            below-start (λ p. currentPage ((pageIn (made S) p) .state)) (chunksOf S) (pagesOf S) (omega arith) (λ p a b. ap currentPage (state-rest p a))
+            ∙ below-all (λ p. currentPage ((pageIn (made S) p) .state)) (chunksOf S) (λ p b. ap currentPage (state-first p b));
         waiting = λ q. below-none (λ p. waitingPage ((pageIn (made S) p) .state) && q ((pageIn (made S) p) .replaced)) (pagesOf S) (λ p b. ap (λ (w : Bool). w && q ((pageIn (made S) p) .replaced)) (state-not-waiting p));
       }
 
@@ -132,8 +132,8 @@ module _ (S : Shape) (small : Small S) where
   blank-long : (k : Region) → length (blank (sizesOf S) k) ≡ len (sizesOf S) k
   blank-long k = blank-whole .long k
 
-  number-fit : (l : List ℕ) → Fit l → Fit (numbered 0 (placesOf S) l)
-  number-fit l f = changed-fit (λ i x. i) 0 (placesOf S) l (λ i x a b. omega (arith, few-places)) f
+  number-fit : (l : List ℕ) → Fit l → Fit (numbered 0 (chunksOf S) l)
+  number-fit l f = changed-fit (λ i x. i) 0 (chunksOf S) l (λ i x a b. omega (arith, few-chunks)) f
 
   made-whole : Whole S (made S)
   unfolding made
@@ -142,10 +142,10 @@ module _ (S : Shape) (small : Small S) where
       (put-whole Header 1 (S .ranges) (omega (arith, small .ranges))
       (put-whole Header 2 (S .capacity) (omega (arith, small .capacity))
       (put-whole Header 3 (S .spares) (omega (arith, small .spares))
-      (renew-whole Current _ (changed-length (λ i x. i) 0 (blank (sizesOf S) Current) (placesOf S) ∙ blank-long Current) (number-fit (blank (sizesOf S) Current) (blank-whole .fits Current))
-      (renew-whole PagePlace _ (changed-length (λ i x. i) 0 (blank (sizesOf S) PagePlace) (placesOf S) ∙ blank-long PagePlace) (number-fit (blank (sizesOf S) PagePlace) (blank-whole .fits PagePlace))
-      (renew-whole PageState _ (changed-length (λ i x. asCurrent) 0 (blank (sizesOf S) PageState) (placesOf S) ∙ blank-long PageState)
-      (changed-fit (λ i x. asCurrent) 0 (placesOf S) (blank (sizesOf S) PageState) (λ i x a b. omega arith) (blank-whole .fits PageState)) blank-whole))))))
+      (renew-whole Current _ (changed-length (λ i x. i) 0 (blank (sizesOf S) Current) (chunksOf S) ∙ blank-long Current) (number-fit (blank (sizesOf S) Current) (blank-whole .fits Current))
+      (renew-whole PageChunk _ (changed-length (λ i x. i) 0 (blank (sizesOf S) PageChunk) (chunksOf S) ∙ blank-long PageChunk) (number-fit (blank (sizesOf S) PageChunk) (blank-whole .fits PageChunk))
+      (renew-whole PageState _ (changed-length (λ i x. asCurrent) 0 (blank (sizesOf S) PageState) (chunksOf S) ∙ blank-long PageState)
+      (changed-fit (λ i x. asCurrent) 0 (chunksOf S) (blank (sizesOf S) PageState) (λ i x a b. omega arith) (blank-whole .fits PageState)) blank-whole))))))
 
   pub made-represents : (n : ℕ) → mostScans ≤ n → Represents S (made S) (replicate n freeEntry) start
   made-represents n enough =

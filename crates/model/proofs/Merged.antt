@@ -27,9 +27,9 @@ use Rattle.layout.specs.View.{View, renew, put, mergesMade}
 use Rattle.layout.specs.Regions.{len, mergesAt}
 use Rattle.layout.specs.Sizes.{sizesOf}
 use Rattle.layout.specs.declared.Region.{Region}
-use Rattle.layout.specs.declared.Region.the-variants.{Header, Opens, Current, PageState, PagePlace, PageMade, PageReplaced, PageLineage, PageNewest, Cells, TailValues, TailStamp}
+use Rattle.layout.specs.declared.Region.the-variants.{Header, Opens, Current, PageState, PageChunk, PageMade, PageReplaced, PageLineage, PageNewest, Cells, TailValues, TailStamp}
 use Rattle.terms.specs.declared.ScanEntry.{ScanEntry}
-use Rattle.model.specs.Stored.{PageWords, rowIn, recordIn, valueIn, pageIn, cellIn, currentIn, placeOf, placesOf, pagesOf, within, nextWord, freePage, currentPage, waitingPage, countBelow}
+use Rattle.model.specs.Stored.{PageWords, rowIn, recordIn, valueIn, pageIn, cellIn, currentIn, chunkOf, chunksOf, pagesOf, within, nextWord, freePage, currentPage, waitingPage, countBelow}
 use Rattle.layout.specs.Codes.{asCurrent, asWaiting}
 use Rattle.model.specs.Reading.{wasCurrent, scanPage}
 use Rattle.model.specs.Writing.{applied, newestOf, strayIn, freeIn, mergedIn}
@@ -48,10 +48,10 @@ use Rattle.model.proofs.Scans.{scan-current}
 use Rattle.model.proofs.ScanPages.{WasCurrent, was-current, is-current, unfound, unfound-state, search-same, search, search-is, found-page, Cases, scan-cases, scan-page-same}
 
 -- a place is below the number of places
-pub place-in : (S : Shape) (g c : ℕ) → g < S .ranges → c < S .columns → placeOf S g c < placesOf S
-place-in S g c a b = omega (arith, part-in (S .ranges) (S .columns) g c a b, mul-comm (S .ranges) (S .columns))
+pub chunk-in : (S : Shape) (g c : ℕ) → g < S .ranges → c < S .columns → chunkOf S g c < chunksOf S
+chunk-in S g c a b = omega (arith, part-in (S .ranges) (S .columns) g c a b, mul-comm (S .ranges) (S .columns))
 
-pub place-mod : (S : Shape) (n : ℕ) → n < placesOf S → n % placesOf S ≡ n
+pub place-mod : (S : Shape) (n : ℕ) → n < chunksOf S → n % chunksOf S ≡ n
 place-mod S n b = mod-eq-of-lt b
 
 -- ---- only lineage and newest matter
@@ -72,24 +72,24 @@ states-three (suc (suc w)) =
     rw (eqb-other (suc (suc w)) 0 (λ e. omega arith), eqb-other (suc (suc w)) 1 (λ e. omega arith), is-true (ltb 1 (suc (suc w))) (lt→ltb 1 (suc (suc w)) (omega arith)))
 
 -- a place is that of a range and a column
-pub place-parts : (S : Shape) → 1 ≤ S .columns → (i : ℕ) → i < placesOf S → (i / S .columns < S .ranges) × (i % S .columns < S .columns) × (placeOf S (i / S .columns) (i % S .columns) ≡ i)
-place-parts S some i b =
+pub chunk-parts : (S : Shape) → 1 ≤ S .columns → (i : ℕ) → i < chunksOf S → (i / S .columns < S .ranges) × (i % S .columns < S .columns) × (chunkOf S (i / S .columns) (i % S .columns) ≡ i)
+chunk-parts S some i b =
     let c : i < S .ranges * S .columns = omega (arith, mul-comm (S .columns) (S .ranges)) in
     ((div-lt-iff-lt-mul {k = S .columns} {x = i} {y = S .ranges} some) .1 c, mod-lt i some, div-add-mod' i (S .columns))
 
 module _ (S : Shape) (v : View) (ps : List ScanEntry) (h : History) (o : Represents S v ps h) (k : Known S h) where
   -- the page that place i names
-  pub named : (i : ℕ) → i < placesOf S → CurrentIs S h (i / S .columns) (i % S .columns) (getD (v Current) i 0) (pageIn v (getD (v Current) i 0)) (cellIn v (getD (v Current) i 0))
+  pub named : (i : ℕ) → i < chunksOf S → CurrentIs S h (i / S .columns) (i % S .columns) (getD (v Current) i 0) (pageIn v (getD (v Current) i 0)) (cellIn v (getD (v Current) i 0))
   unfolding currentIn
   named i b =
-      let t = place-parts S (k .small .some-column) i b in
+      let t = chunk-parts S (k .small .some-column) i b in
       rw (t .2) at (o .currents (i / S .columns) (i % S .columns) (t .0) (t .1))
 
   pub placed : Placed S v
   placed = record {
     inside = λ i b. named i b .inside;
     state = λ i b. named i b .state;
-    place = λ i b. named i b .place ∙ place-parts S (k .small .some-column) i b .2;
+    chunk = λ i b. named i b .chunk ∙ chunk-parts S (k .small .some-column) i b .2;
   }
 
   waiting-is : countBelow (λ p. waitingPage ((pageIn v p) .state)) (pagesOf S) ≡ waitingPages (h .merges)
@@ -179,14 +179,14 @@ module _ (S : Shape) (v : View) (ps : List ScanEntry) (h : History) (o : Represe
   in-page : (q : ℕ) → q < pagesOf S → (r : Region) → len (sizesOf S) r ≡ pagesOf S → q < length (v r)
   in-page q b r e = omega (arith, o .whole .long r, e)
 
-  page-free : pageIn v′ p ≡ record { state = asCurrent; place = placeOf S g c; made = m; replaced = (pageIn v p) .replaced; lineage = n; newest = late }
+  page-free : pageIn v′ p ≡ record { state = asCurrent; chunk = chunkOf S g c; made = m; replaced = (pageIn v p) .replaced; lineage = n; newest = late }
   unfolding mergedIn put renew pageIn
   page-free = let f : p ≢ old = λ e. old-not-free (sym e) in simp (getD-set-same, getD-set-other, in-page p room)
 
   page-old : pageIn v′ old
       ≡ record {
         state = asWaiting;
-        place = (pageIn v old) .place;
+        chunk = (pageIn v old) .chunk;
         made = (pageIn v old) .made;
         replaced = m;
         lineage = (pageIn v old) .lineage;
@@ -201,17 +201,17 @@ module _ (S : Shape) (v : View) (ps : List ScanEntry) (h : History) (o : Represe
 
   current-here : currentIn S v′ g c ≡ p
   unfolding mergedIn put renew currentIn
-  current-here = getD-set-same (v Current) (placeOf S g c) p 0 (omega (arith, o .whole .long Current, place-in S g c (ok .range-in) (ok .column-in)))
+  current-here = getD-set-same (v Current) (chunkOf S g c) p 0 (omega (arith, o .whole .long Current, chunk-in S g c (ok .range-in) (ok .column-in)))
 
-  current-there : (a b : ℕ) → placeOf S a b ≢ placeOf S g c → currentIn S v′ a b ≡ currentIn S v a b
+  current-there : (a b : ℕ) → chunkOf S a b ≢ chunkOf S g c → currentIn S v′ a b ≡ currentIn S v a b
   unfolding mergedIn put renew currentIn
-  current-there a b f = getD-set-other (v Current) (placeOf S g c) (placeOf S a b) p 0 f
+  current-there a b f = getD-set-other (v Current) (chunkOf S g c) (chunkOf S a b) p 0 f
 
   -- another current page is neither of the two
-  current-not-old : (a b : ℕ) → a < S .ranges → b < S .columns → placeOf S a b ≢ placeOf S g c → currentIn S v a b ≢ old
+  current-not-old : (a b : ℕ) → a < S .ranges → b < S .columns → chunkOf S a b ≢ chunkOf S g c → currentIn S v a b ≢ old
   current-not-old a b u w f e =
       let q : (a ≡ g) × (b ≡ c) = current-apart S v h (o .currents) a b g c u w (ok .range-in) (ok .column-in) e in
-      f (ap (λ (i : ℕ). placeOf S i b) (q .0) ∙ ap (placeOf S g) (q .1))
+      f (ap (λ (i : ℕ). chunkOf S i b) (q .0) ∙ ap (chunkOf S g) (q .1))
 
   current-not-free : (a b : ℕ) → a < S .ranges → b < S .columns → currentIn S v a b ≢ p
   current-not-free a b u w = not-free (currentIn S v a b) (omega (arith, o .currents a b u w .state))
@@ -232,7 +232,7 @@ module _ (S : Shape) (v : View) (ps : List ScanEntry) (h : History) (o : Represe
       ∙ changed-outside (λ i x. getD (v Cells) (old * rangeRows + i) 0) (p * rangeRows) (v Cells) rangeRows (q * rangeRows + i) d
 
   -- ---- what the new page holds
-  new-holds : Holds h g c everyRow record { state = asCurrent; place = placeOf S g c; made = m; replaced = (pageIn v p) .replaced; lineage = n; newest = late } (cellIn v′ p)
+  new-holds : Holds h g c everyRow record { state = asCurrent; chunk = chunkOf S g c; made = m; replaced = (pageIn v p) .replaced; lineage = n; newest = late } (cellIn v′ p)
   new-holds =
       record {
         through = merge-through (k .past .order) (ok .used) (ok .shut);
@@ -255,7 +255,7 @@ module _ (S : Shape) (v : View) (ps : List ScanEntry) (h : History) (o : Represe
           ∙ ap (last r g) low-to ∙ ap (λ (a : ℕ). last r a n) (sym e)))
 
   -- ---- the current pages
-  through-there : Step S h (merge g c n) h′ → (a b : ℕ) → placeOf S a b ≢ placeOf S g c → mergedThrough h′ a b ≡ mergedThrough h a b
+  through-there : Step S h (merge g c n) h′ → (a b : ℕ) → chunkOf S a b ≢ chunkOf S g c → mergedThrough h′ a b ≡ mergedThrough h a b
   through-there step a b f = lineage-stays (lineage-step a b step) (λ j e. f (cc))
 
   more-merges : length ((h′) .merges) ≡ suc (length (h .merges))
@@ -267,13 +267,13 @@ module _ (S : Shape) (v : View) (ps : List ScanEntry) (h : History) (o : Represe
   rows-same = refl
 
   merge-currents : Step S h (merge g c n) h′ → CurrentsAre S h′ v′
-  merge-currents step a b u w = by-cases (ℕ-discrete (placeOf S a b) (placeOf S g c))
+  merge-currents step a b u w = by-cases (ℕ-discrete (chunkOf S a b) (chunkOf S g c))
       (λ e. let q : (a ≡ g) × (b ≡ c) = same-part (S .columns) a g b c w (ok .column-in) e in
       rw (q .0, q .1, current-here, page-free)
       record {
         inside = room;
         state = refl;
-        place = refl;
+        chunk = refl;
         made = omega (arith, m-is, more-merges);
         lineage = sym (merged-page h g c n);
         holds = holds-step (k .past .order) step g c _ (λ r e u. (tt, same-rows (length (h .rows)) (length ((h′) .rows)) r rows-same)) new-holds;
@@ -286,12 +286,12 @@ module _ (S : Shape) (v : View) (ps : List ScanEntry) (h : History) (o : Represe
   made-here : madeIn S v′ g c ≡ m
   made-here = ap (λ (i : ℕ). (pageIn v′ i) .made) current-here ∙ ap (λ (x : PageWords). x .made) page-free
 
-  made-there : (a b : ℕ) → a < S .ranges → b < S .columns → placeOf S a b ≢ placeOf S g c → madeIn S v′ a b ≡ madeIn S v a b
+  made-there : (a b : ℕ) → a < S .ranges → b < S .columns → chunkOf S a b ≢ chunkOf S g c → madeIn S v′ a b ≡ madeIn S v a b
   made-there a b u w f =
       ap (λ (i : ℕ). (pageIn v′ i) .made) (current-there a b f) ∙ ap (λ (x : PageWords). x .made) (page-other (currentIn S v a b) (current-not-free a b u w) (current-not-old a b u w f))
 
   made-later : (a b : ℕ) → a < S .ranges → b < S .columns → madeIn S v a b ≤ madeIn S v′ a b
-  made-later a b u w = by-cases (ℕ-discrete (placeOf S a b) (placeOf S g c))
+  made-later a b u w = by-cases (ℕ-discrete (chunkOf S a b) (chunkOf S g c))
       (λ e. let q : (a ≡ g) × (b ≡ c) = same-part (S .columns) a g b c w (ok .column-in) e in rw (q .0, q .1) (omega (arith, now .made, m-is, made-here)))
       (λ f. omega (arith, made-there a b u w f))
 
@@ -300,11 +300,11 @@ module _ (S : Shape) (v : View) (ps : List ScanEntry) (h : History) (o : Represe
       (λ _ t. absurd (rw page-free at t))
       (λ _ _. rw page-old
       record {
-        place = rw (now .place) (place-in S g c (ok .range-in) (ok .column-in));
+        chunk = rw (now .chunk) (chunk-in S g c (ok .range-in) (ok .column-in));
         rises = omega (arith, now .made, m-is);
         replaced-by = omega (arith, m-is, more-merges);
-        early = λ a b u w z. let s : (a ≡ g) × (b ≡ c) = same-part (S .columns) a g b c w (ok .column-in) (sym z ∙ now .place) in rw (s .0, s .1) (omega (arith, made-here));
-        reach = λ a b u w z. rw (same-part (S .columns) a g b c w (ok .column-in) (sym z ∙ now .place) .0) (unfold recordsOf withMerges in (now .holds .through .within));
+        early = λ a b u w z. let s : (a ≡ g) × (b ≡ c) = same-part (S .columns) a g b c w (ok .column-in) (sym z ∙ now .chunk) in rw (s .0, s .1) (omega (arith, made-here));
+        reach = λ a b u w z. rw (same-part (S .columns) a g b c w (ok .column-in) (sym z ∙ now .chunk) .0) (unfold recordsOf withMerges in (now .holds .through .within));
         stamped = unfold withMerges in (now .holds .stamped);
       })
       (λ q f e b t. rw (page-other q f e) (waiting-step step made-later (o .waits q b (rw (page-other q f e) at t))))
@@ -359,33 +359,33 @@ module _ (S : Shape) (v : View) (ps : List ScanEntry) (h : History) (o : Represe
   new-unfound : (b pl : ℕ) → wasCurrent S v′ b pl p ≡ false
   new-unfound b pl = unfound-state S v′ b pl p (omega (arith, ap (λ (z : PageWords). z .state) page-free))
 
-  old-place : (pageIn v′ old) .place % placesOf S ≡ placeOf S g c
-  old-place = ap (λ (z : PageWords). z .place % placesOf S) page-old ∙ ap (λ (i : ℕ). i % placesOf S) (now .place) ∙ place-mod S (placeOf S g c) (place-in S g c (ok .range-in) (ok .column-in))
+  old-place : (pageIn v′ old) .chunk % chunksOf S ≡ chunkOf S g c
+  old-place = ap (λ (z : PageWords). z .chunk % chunksOf S) page-old ∙ ap (λ (i : ℕ). i % chunksOf S) (now .chunk) ∙ place-mod S (chunkOf S g c) (chunk-in S g c (ok .range-in) (ok .column-in))
 
   -- where the replaced page does not pass, the search is as it was
-  search-stays : (b a d : ℕ) → wasCurrent S v′ b (placeOf S a d) old ≡ false → search S v′ b a d ≡ search S v b a d
-  search-stays b a d e = first-ext _ _ (pagesOf S) 0 (λ q _ _. each-page (λ q. wasCurrent S v′ b (placeOf S a d) q ≡ wasCurrent S v b (placeOf S a d) q)
-      (new-unfound b (placeOf S a d) ∙ sym (unfound-state S v b (placeOf S a d) p (omega (arith, free-state))))
-      (e ∙ sym (unfound-state S v b (placeOf S a d) old (omega (arith, now .state))))
-      (λ q z y. search-same S v v′ b (placeOf S a d) q (page-other q z y)) q)
+  search-stays : (b a d : ℕ) → wasCurrent S v′ b (chunkOf S a d) old ≡ false → search S v′ b a d ≡ search S v b a d
+  search-stays b a d e = first-ext _ _ (pagesOf S) 0 (λ q _ _. each-page (λ q. wasCurrent S v′ b (chunkOf S a d) q ≡ wasCurrent S v b (chunkOf S a d) q)
+      (new-unfound b (chunkOf S a d) ∙ sym (unfound-state S v b (chunkOf S a d) p (omega (arith, free-state))))
+      (e ∙ sym (unfound-state S v b (chunkOf S a d) old (omega (arith, now .state))))
+      (λ q z y. search-same S v v′ b (chunkOf S a d) q (page-other q z y)) q)
 
   -- the page was current when the scan was opened: the search finds it now
   search-finds : (b : ℕ) → b ≤ length (h .merges) → (pageIn v old) .made ≤ b → search S v′ b g c ≡ old
   search-finds b early before =
-      first-only (wasCurrent S v′ b (placeOf S g c)) (pagesOf S) old (now .inside)
-      (is-current S v′ b (placeOf S g c) old
+      first-only (wasCurrent S v′ b (chunkOf S g c)) (pagesOf S) old (now .inside)
+      (is-current S v′ b (chunkOf S g c) old
       record {
         waits = lt→ltb 1 ((pageIn v′ old) .state) (omega (arith, ap (λ (z : PageWords). z .state) page-old));
         place-is = old-place;
         before = omega (arith, ap (λ (z : PageWords). z .made) page-old);
         after = omega (arith, ap (λ (z : PageWords). z .replaced) page-old, m-is);
       })
-      (each-page (λ q. q < pagesOf S → T (wasCurrent S v′ b (placeOf S g c) q) → q ≡ old)
-      (λ _ t. absurd (rw (new-unfound b (placeOf S g c)) at t))
+      (each-page (λ q. q < pagesOf S → T (wasCurrent S v′ b (chunkOf S g c) q) → q ≡ old)
+      (λ _ t. absurd (rw (new-unfound b (chunkOf S g c)) at t))
       (λ _ _. refl)
-      (λ q z y u t. let x : WasCurrent S b (placeOf S g c) (pageIn v q) = was-current S v b (placeOf S g c) q (rw (search-same S v v′ b (placeOf S g c) q (page-other q z y)) at t) in
+      (λ q z y u t. let x : WasCurrent S b (chunkOf S g c) (pageIn v q) = was-current S v b (chunkOf S g c) q (rw (search-same S v v′ b (chunkOf S g c) q (page-other q z y)) at t) in
       let w : WaitingIs S h (madeIn S v) (pageIn v q) = o .waits q u (x .waits) in
-      absurd (omega (arith, x .after, w .early g c (ok .range-in) (ok .column-in) (sym (place-mod S ((pageIn v q) .place) (w .place)) ∙ x .place-is)))))
+      absurd (omega (arith, x .after, w .early g c (ok .range-in) (ok .column-in) (sym (place-mod S ((pageIn v q) .chunk) (w .chunk)) ∙ x .place-is)))))
 
   -- the page of a scan of this place
   scan-here : (b : ℕ) → b ≤ length (h .merges) → Cases S v b g c → scanPage S v′ b g c ≡ scanPage S v b g c
@@ -393,13 +393,13 @@ module _ (S : Shape) (v : View) (ps : List ScanEntry) (h : History) (o : Represe
       let z = search-finds b early x in
       found-page S v′ b g c (omega (arith, made-here, m-is)) (omega (arith, now .inside)) ∙ z ∙ sym (scan-current S v b g c x)
   scan-here b early (inr x) =
-      let z = search-stays b g c (unfound S v′ b (placeOf S g c) old (λ t. omega (arith, t .before, ap (λ (z : PageWords). z .made) page-old, x .0))) in
+      let z = search-stays b g c (unfound S v′ b (chunkOf S g c) old (λ t. omega (arith, t .before, ap (λ (z : PageWords). z .made) page-old, x .0))) in
       found-page S v′ b g c (omega (arith, made-here, m-is)) (omega (arith, x .1)) ∙ z ∙ sym (found-page S v b g c (x .0) (x .1))
 
   pub scan-same : (b a d : ℕ) → a < S .ranges → d < S .columns → b ≤ length (h .merges) → (pageIn v (scanPage S v b a d)) .made ≤ b → scanPage S v′ b a d ≡ scanPage S v b a d
-  scan-same b a d u w early before = by-cases (ℕ-discrete (placeOf S a d) (placeOf S g c))
+  scan-same b a d u w early before = by-cases (ℕ-discrete (chunkOf S a d) (chunkOf S g c))
       (λ e. let q : (a ≡ g) × (d ≡ c) = same-part (S .columns) a g d c w (ok .column-in) e in rw (q .0, q .1) (scan-here b early (rw (q .0, q .1) at (scan-cases S v b a d before))))
-      (λ f. scan-page-same S v v′ b a d (current-there a d f) (made-there a d u w f) (search-stays b a d (unfound S v′ b (placeOf S a d) old (λ t. f (sym (sym old-place ∙ t .place-is))))))
+      (λ f. scan-page-same S v v′ b a d (current-there a d f) (made-there a d u w f) (search-stays b a d (unfound S v′ b (chunkOf S a d) old (λ t. f (sym (sym old-place ∙ t .place-is))))))
 
   -- a running scan's page is not the page taken
   pub scan-not-free : (b a d : ℕ) → a < S .ranges → d < S .columns → (pageIn v (scanPage S v b a d)) .made ≤ b → scanPage S v b a d ≢ p
@@ -424,7 +424,7 @@ module _ (S : Shape) (v : View) (ps : List ScanEntry) (h : History) (o : Represe
       kept s a d = each-page (λ q. q ≢ p → ScanPageIs S h′ s a d q (pageIn v q) (cellIn v q) → ScanPageIs S h′ s a d q (pageIn v′ q) (cellIn v′ q))
           (λ f. absurd (f refl))
           (λ f y. rw page-old
-          record { inside = y .inside; early = y .early; place = y .place; made = y .made; holds = holds-words refl refl (holds-cells (λ r e t. cells-other old (within r) f (omega arith)) (y .holds)) })
+          record { inside = y .inside; early = y .early; chunk = y .chunk; made = y .made; holds = holds-words refl refl (holds-cells (λ r e t. cells-other old (within r) f (omega arith)) (y .holds)) })
           (λ q f z _ y. rw (page-other q f z) (scan-cells (λ r e t. cells-other q (within r) f (omega arith)) y))
 
   -- ---- the whole
@@ -433,15 +433,15 @@ module _ (S : Shape) (v : View) (ps : List ScanEntry) (h : History) (o : Represe
   merge-whole =
       let fit : m < 2 ^ 32 = omega (arith, m-is, merges-few k) in
       let pages : pagesOf S ≤ mostPages = omega (arith, mul-le-mul (k .small .columns) (k .small .ranges), k .small .spares) in
-      let spot : placeOf S g c < 2 ^ 32 = omega (arith, place-in S g c (ok .range-in) (ok .column-in)) in
+      let spot : chunkOf S g c < 2 ^ 32 = omega (arith, chunk-in S g c (ok .range-in) (ok .column-in)) in
       put-whole Header mergesAt m fit
-      (put-whole Current (placeOf S g c) p (omega (arith, room))
+      (put-whole Current (chunkOf S g c) p (omega (arith, room))
       (put-whole PageReplaced old m fit
       (put-whole PageState old asWaiting (omega arith)
       (put-whole PageNewest p late (newest-fit S v h g c p low (ok .column-in) (o .tails g (ok .range-in)) ((pageIn v old) .newest) newest-fits (o .whole .fits TailStamp) (n - low))
       (put-whole PageLineage p n (omega (arith, k .past .limits .records g, k .small .capacity))
       (put-whole PageMade p m fit
-      (put-whole PagePlace p (placeOf S g c) spot
+      (put-whole PageChunk p (chunkOf S g c) spot
       (put-whole PageState p asCurrent (omega arith)
       (renew-whole Cells (applied S v g c p low (n - low) copy)
       (applied-length S v h g c p low (ok .column-in) (o .tails g (ok .range-in)) (n - low) copy ∙ changed-length (λ i x. getD (v Cells) (old * rangeRows + i) 0) (p * rangeRows) (v Cells) rangeRows ∙ o .whole .long Cells)

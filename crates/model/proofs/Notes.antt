@@ -16,7 +16,7 @@ use Rattle.history.specs.Lists.{All, nil, cons}
 use Rattle.history.proofs.Lists.{clash, by-cases, all-map, eqb-same}
 use Rattle.history.proofs.Merges.{sum-more, sum-most}
 use Rattle.history.specs.Invariants.{sumBelow}
-use Rattle.terms.specs.Places.{bears, place}
+use Rattle.terms.specs.Places.{bears, firstIndex}
 use Rattle.model.specs.Stored.{nextWord}
 use Rattle.model.specs.Represents.{OpensAre, Unchanged, NotedIs, NotesAre, Known}
 use Rattle.model.proofs.Transactions.{open-there, other-place}
@@ -61,7 +61,7 @@ module _ (rows rows′ : List Row) (tail tail′ : List Record) (ts : List State
     (size′ : length notes ≡ mostTransactions) (few : length rows + length tail < 2 ^ 31) (more : length rows + length tail < length rows′ + length tail′)
     (others : (u : ℕ) → u ≢ t → Unchanged rows tail u → Unchanged rows′ tail′ u) (o : OpensAre ts l) (a : nth ts t unknown ≡ active) where
   abbrev own : ℕ
-  own = place (bears t) l
+  own = firstIndex (bears t) l
 
   pub notes-more : NotesAre rows tail l notes → NotesAre rows′ tail′ l (set notes own (nextWord (getD notes own 0)))
   notes-more n j b u =

@@ -20,7 +20,7 @@ use Rattle.history.specs.Steps.{Mergeable, scanOpened, scanClosed, Step, nothin
 use Rattle.layout.specs.View.{View, renew, put}
 use Rattle.layout.specs.declared.Region.the-variants.{RowMask}
 use Rattle.terms.specs.declared.ScanEntry.{ScanEntry}
-use Rattle.model.specs.Stored.{rowIn, pageIn, cellIn, currentIn, within, openPlace}
+use Rattle.model.specs.Stored.{rowIn, pageIn, cellIn, currentIn, within, openIndex}
 use Rattle.model.specs.Reading.{scanPage, wasCurrent}
 use Rattle.model.specs.Writing.{begun, noted, settled, freed, committedIn, abortedIn, insertedAt, insertedIn, appended, filledIn, newBitsIn, originalAppended, settingAppended, updatedIn, deletedIn, mergedIn, releasedIn}
 use Rattle.model.specs.Calls.{Typed, actIn, viewIf, viewNext, entriesNext, viewAfter}
@@ -59,11 +59,11 @@ module _ (S : Shape) (v : View) (ps : List ScanEntry) (h : History) (o : Represe
       room = nleb→lt (S .ranges * rangeRows) (length (h .rows)) b
 
       at-row : Same (insertedAt S t vs (length (h .rows)) v)
-      at-row = unfold insertedAt noted openPlace put renew scanPage wasCurrent currentIn pageIn cellIn in
+      at-row = unfold insertedAt noted openIndex put renew scanPage wasCurrent currentIn pageIn cellIn in
           record {
             page = refl;
             cells = λ r u e. cell-kept S v ps h o k t vs (is-active h t a) room (y .1) q (within r) (omega arith)
-                (scan-apart S v ps h o k t vs (is-active h t a) room (y .1) g c q bc (page .place) r e (λ z. omega arith));
+                (scan-apart S v ps h o k t vs (is-active h t a) room (y .1) g c q bc (page .chunk) r e (λ z. omega arith));
           }
 
   update-same : (t r n : ℕ) (vs : List ℤ) → Same (updatedIn S t r n vs v)

@@ -24,8 +24,8 @@ use Rattle.history.proofs.Links.{last-of-append}
 use Rattle.layout.specs.View.{View, renew, put, usedIn}
 use Rattle.layout.specs.declared.Region.the-variants.{Opens, Changes, RowLink}
 use Rattle.terms.specs.declared.ScanEntry.{ScanEntry}
-use Rattle.terms.specs.Places.{bears, place}
-use Rattle.model.specs.Stored.{RowWords, RecordWords, rowIn, recordIn, valueIn, pageIn, cellIn, currentIn, openPlace, nextWord}
+use Rattle.terms.specs.Places.{bears, firstIndex}
+use Rattle.model.specs.Stored.{RowWords, RecordWords, rowIn, recordIn, valueIn, pageIn, cellIn, currentIn, openIndex, nextWord}
 use Rattle.layout.specs.Codes.{asOpen, asDelete}
 use Rattle.model.specs.Reading.{scanPage, wasCurrent}
 use Rattle.model.specs.Writing.{noted, nextSlot, appended, filledIn, deletedIn}
@@ -116,7 +116,7 @@ module _ (S : Shape) (v : View) (ps : List ScanEntry) (h : History) (o : Represe
       })
       (λ n. rw (other i n, E .rows i, E .others i n) (row-other i _ n (unfold rowIn in (o .rows i u))))
 
-  pub made-notes : 0 < length ms → NotesAre (h .rows) (h .tail ++ ms) (v Opens) (set (v Changes) (place (bears t) (v Opens)) (nextWord (getD (v Changes) (place (bears t) (v Opens)) 0)))
+  pub made-notes : 0 < length ms → NotesAre (h .rows) (h .tail ++ ms) (v Opens) (set (v Changes) (firstIndex (bears t) (v Opens)) (nextWord (getD (v Changes) (firstIndex (bears t) (v Opens)) 0)))
   unfolding stateOf
   made-notes some =
       notes-more (h .rows) (h .rows) (h .tail) (h .tail ++ ms) (h .transactions) (v Opens) (v Changes) t (o .whole .long Opens) (o .whole .long Changes) (few-changes k)
@@ -252,7 +252,7 @@ module _ {S : Shape} {h : History} {v : View} {r : ℕ} {ms : List Record} {u : 
 pub delete-kept : (S : Shape) (v : View) (ps : List ScanEntry) (h : History) → Represents S v ps h → Known S h → (t r : ℕ) → stateOf h t ≡ active → r < length (h .rows)
     → length (recordsOf h (rangeOf r)) + 1 ≤ S .capacity → Step S h (delete t r) (withTail h (h .tail ++ deleteRecords t r)) → All (New h t r) (deleteRecords t r)
     → Represents S (deletedIn S t r v) ps (withTail h (h .tail ++ deleteRecords t r))
-unfolding deletedIn noted openPlace put renew withTail deleteRecords recordIn valueIn pageIn cellIn currentIn scanPage wasCurrent appended stateOf rowAt scanAt
+unfolding deletedIn noted openIndex put renew withTail deleteRecords recordIn valueIn pageIn cellIn currentIn scanPage wasCurrent appended stateOf rowAt scanAt
 delete-kept S v ps h o k t r a b room step new =
     record {
       header = o .header;

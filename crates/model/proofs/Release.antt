@@ -19,7 +19,7 @@ use Rattle.loops.proofs.Change.{changed-length, changed-fit}
 use Rattle.layout.specs.View.{View, renew}
 use Rattle.layout.specs.declared.Region.the-variants.{PageState}
 use Rattle.terms.specs.declared.ScanEntry.{ScanEntry}
-use Rattle.model.specs.Stored.{rowIn, recordIn, valueIn, pageIn, cellIn, currentIn, placeOf, pagesOf, currentPage, waitingPage, countBelow}
+use Rattle.model.specs.Stored.{rowIn, recordIn, valueIn, pageIn, cellIn, currentIn, chunkOf, pagesOf, currentPage, waitingPage, countBelow}
 use Rattle.layout.specs.Codes.{asFree}
 use Rattle.model.specs.Reading.{wasCurrent, scanPage}
 use Rattle.model.specs.Writing.{neededIn, releasable, releasedIn}
@@ -115,11 +115,11 @@ module _ (S : Shape) (v : View) (ps : List ScanEntry) (h : History) (o : Represe
   search-kept : (i a d : ℕ) → T (scanAt h i .running) → search S v′ (scanAt h i .before) a d ≡ search S v (scanAt h i .before) a d
   search-kept i a d t = first-ext _ _ (pagesOf S) 0 (λ q _ b. at-page q (omega arith) (releasable ps v q) refl)
     where
-      at-page : (q : ℕ) → q < pagesOf S → (z : Bool) → releasable ps v q ≡ z → wasCurrent S v′ (scanAt h i .before) (placeOf S a d) q ≡ wasCurrent S v (scanAt h i .before) (placeOf S a d) q
+      at-page : (q : ℕ) → q < pagesOf S → (z : Bool) → releasable ps v q ≡ z → wasCurrent S v′ (scanAt h i .before) (chunkOf S a d) q ≡ wasCurrent S v (scanAt h i .before) (chunkOf S a d) q
       at-page q b true e =
-          freed-unfound (scanAt h i .before) (placeOf S a d) q b e
-          ∙ sym (unfound S v (scanAt h i .before) (placeOf S a d) q (λ x. true-false (sym e ∙ found-kept i (placeOf S a d) q t x)))
-      at-page q b false e = search-same S v v′ (scanAt h i .before) (placeOf S a d) q (page-kept q b e)
+          freed-unfound (scanAt h i .before) (chunkOf S a d) q b e
+          ∙ sym (unfound S v (scanAt h i .before) (chunkOf S a d) q (λ x. true-false (sym e ∙ found-kept i (chunkOf S a d) q t x)))
+      at-page q b false e = search-same S v v′ (scanAt h i .before) (chunkOf S a d) q (page-kept q b e)
 
   pub scan-page-kept : (i a d : ℕ) → T (scanAt h i .running) → scanPage S v′ (scanAt h i .before) a d ≡ scanPage S v (scanAt h i .before) a d
   scan-page-kept i a d t = scan-page-same S v v′ (scanAt h i .before) a d same-current same-made (search-kept i a d t)
@@ -139,7 +139,7 @@ module _ (S : Shape) (v : View) (ps : List ScanEntry) (h : History) (o : Represe
       go (inl x) = ap (releasable ps v) (scan-current S v (scanAt h i .before) a d x) ∙ current-kept a d u w
       go (inr x) =
           ap (releasable ps v) (found-page S v (scanAt h i .before) a d (x .0) (x .1))
-          ∙ found-kept i (placeOf S a d) (search S v (scanAt h i .before) a d) t (search-is S v (scanAt h i .before) a d (x .1))
+          ∙ found-kept i (chunkOf S a d) (search S v (scanAt h i .before) a d) t (search-is S v (scanAt h i .before) a d (x .1))
 
   -- ---- the parts
   merges-same : length ((h′) .merges) ≡ length (h .merges)

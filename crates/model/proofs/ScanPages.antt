@@ -8,52 +8,52 @@ use lib.Dec.{T, leb, ltb, eqb, eqb→eq, leb→le, nleb→lt, le→leb, ltb→lt
 use Rattle.terms.specs.Measures.{Shape}
 use Rattle.history.proofs.Lists.{by-test, is-true, refuted, parts, both, eqb-equal}
 use Rattle.layout.specs.View.{View}
-use Rattle.model.specs.Stored.{PageWords, pageIn, currentIn, placeOf, placesOf, pagesOf, waitingPage, firstFrom}
+use Rattle.model.specs.Stored.{PageWords, pageIn, currentIn, chunkOf, chunksOf, pagesOf, waitingPage, firstFrom}
 use Rattle.model.specs.Reading.{wasCurrent, scanPage}
 use Rattle.model.proofs.Lists.{first-is}
 use Rattle.model.specs.Represents.{madeIn}
 
 -- what the search asks of a page
-pub record WasCurrent (S : Shape) (m place : ℕ) (x : PageWords) : Type 0 where
+pub record WasCurrent (S : Shape) (m chunk : ℕ) (x : PageWords) : Type 0 where
   pub waits : T (waitingPage (x .state))
-  pub place-is : x .place % placesOf S ≡ place
+  pub place-is : x .chunk % chunksOf S ≡ chunk
   pub before : x .made ≤ m
   pub after : m < x .replaced
 
-pub was-current : (S : Shape) (v : View) (m place q : ℕ) → T (wasCurrent S v m place q) → WasCurrent S m place (pageIn v q)
+pub was-current : (S : Shape) (v : View) (m chunk q : ℕ) → T (wasCurrent S v m chunk q) → WasCurrent S m chunk (pageIn v q)
 unfolding wasCurrent
-was-current S v m place q t =
+was-current S v m chunk q t =
     let x : PageWords = pageIn v q in
     let a = parts (waitingPage (x .state)) _ t in
-    let b = parts (eqb (x .place % placesOf S) place) _ (a .1) in
+    let b = parts (eqb (x .chunk % chunksOf S) chunk) _ (a .1) in
     let c = parts (leb (x .made) m) _ (b .1) in
-    record { waits = a .0; place-is = eqb→eq _ place (b .0); before = leb→le _ m (c .0); after = ltb→lt m _ (c .1) }
+    record { waits = a .0; place-is = eqb→eq _ chunk (b .0); before = leb→le _ m (c .0); after = ltb→lt m _ (c .1) }
 
-pub is-current : (S : Shape) (v : View) (m place q : ℕ) → WasCurrent S m place (pageIn v q) → T (wasCurrent S v m place q)
+pub is-current : (S : Shape) (v : View) (m chunk q : ℕ) → WasCurrent S m chunk (pageIn v q) → T (wasCurrent S v m chunk q)
 unfolding wasCurrent
-is-current S v m place q o =
+is-current S v m chunk q o =
     let x : PageWords = pageIn v q in
     both (waitingPage (x .state)) _ (o .waits)
-    (both (eqb (x .place % placesOf S) place) _ (eqb-equal _ place (o .place-is)) (both (leb (x .made) m) _ (le→leb _ m (o .before)) (lt→ltb m _ (o .after))))
+    (both (eqb (x .chunk % chunksOf S) chunk) _ (eqb-equal _ chunk (o .place-is)) (both (leb (x .made) m) _ (le→leb _ m (o .before)) (lt→ltb m _ (o .after))))
 
-pub unfound : (S : Shape) (v : View) (m place q : ℕ) → (WasCurrent S m place (pageIn v q) → ⊥) → wasCurrent S v m place q ≡ false
-unfound S v m place q f = refuted (wasCurrent S v m place q) (λ t. f (was-current S v m place q t))
+pub unfound : (S : Shape) (v : View) (m chunk q : ℕ) → (WasCurrent S m chunk (pageIn v q) → ⊥) → wasCurrent S v m chunk q ≡ false
+unfound S v m chunk q f = refuted (wasCurrent S v m chunk q) (λ t. f (was-current S v m chunk q t))
 
 -- a page that does not wait
-pub unfound-state : (S : Shape) (v : View) (m place q : ℕ) → (pageIn v q) .state ≤ 1 → wasCurrent S v m place q ≡ false
-unfound-state S v m place q b = unfound S v m place q (λ x. omega (arith, ltb→lt 1 ((pageIn v q) .state) (x .waits)))
+pub unfound-state : (S : Shape) (v : View) (m chunk q : ℕ) → (pageIn v q) .state ≤ 1 → wasCurrent S v m chunk q ≡ false
+unfound-state S v m chunk q b = unfound S v m chunk q (λ x. omega (arith, ltb→lt 1 ((pageIn v q) .state) (x .waits)))
 
 -- the search looks at a page's words alone
-pub search-same : (S : Shape) (v w : View) (m place q : ℕ) → pageIn w q ≡ pageIn v q → wasCurrent S w m place q ≡ wasCurrent S v m place q
+pub search-same : (S : Shape) (v w : View) (m chunk q : ℕ) → pageIn w q ≡ pageIn v q → wasCurrent S w m chunk q ≡ wasCurrent S v m chunk q
 unfolding wasCurrent
-search-same S v w m place q e =
-    ap (λ (x : PageWords). waitingPage (x .state) && (eqb (x .place % placesOf S) place && (leb (x .made) m && ltb m (x .replaced)))) e
+search-same S v w m chunk q e =
+    ap (λ (x : PageWords). waitingPage (x .state) && (eqb (x .chunk % chunksOf S) chunk && (leb (x .made) m && ltb m (x .replaced)))) e
 
 abbrev pub search : Shape → View → ℕ → ℕ → ℕ → ℕ
-search S v m g c = firstFrom (wasCurrent S v m (placeOf S g c)) (pagesOf S) 0
+search S v m g c = firstFrom (wasCurrent S v m (chunkOf S g c)) (pagesOf S) 0
 
-pub search-is : (S : Shape) (v : View) (m g c : ℕ) → search S v m g c < pagesOf S → WasCurrent S m (placeOf S g c) (pageIn v (search S v m g c))
-search-is S v m g c b = was-current S v m (placeOf S g c) (search S v m g c) (first-is (wasCurrent S v m (placeOf S g c)) (pagesOf S) 0 (omega arith))
+pub search-is : (S : Shape) (v : View) (m g c : ℕ) → search S v m g c < pagesOf S → WasCurrent S m (chunkOf S g c) (pageIn v (search S v m g c))
+search-is S v m g c b = was-current S v m (chunkOf S g c) (search S v m g c) (first-is (wasCurrent S v m (chunkOf S g c)) (pagesOf S) 0 (omega arith))
 
 pub found-page : (S : Shape) (v : View) (m g c : ℕ) → m < madeIn S v g c → search S v m g c < pagesOf S → scanPage S v m g c ≡ search S v m g c
 unfolding scanPage

@@ -17,7 +17,7 @@ use Rattle.history.specs.Steps.{Step}
 use Rattle.layout.specs.View.{View, renew, put, scansGiven, mergesMade}
 use Rattle.layout.specs.declared.Region.the-variants.{Header}
 use Rattle.terms.specs.declared.ScanEntry.{ScanEntry}
-use Rattle.terms.specs.Places.{place, freeEntry, isScan}
+use Rattle.terms.specs.Places.{firstIndex, freeEntry, isScan}
 use Rattle.layout.specs.Regions.{scansAt}
 use Rattle.model.specs.Stored.{rowIn, recordIn, valueIn, pageIn, cellIn, currentIn, scanEntry}
 use Rattle.model.specs.Reading.{scanPage, wasCurrent}
@@ -50,7 +50,7 @@ scan-found ss l o k t =
     same-place _ _ (book-found scanKind ss l (o .same) k t)
 
 scans-add : (ss : List Scan) (l : List ScanEntry) (s : Scan) → ScansAre ss l → T (s .running) → count (λ s. s .running) ss < mostScans
-    → ScansAre (ss ++ s ∷ []) (set l (place (λ p. eqb (p .number) 0) l) (scanAs (suc (length ss)) s))
+    → ScansAre (ss ++ s ∷ []) (set l (firstIndex (λ p. eqb (p .number) 0) l) (scanAs (suc (length ss)) s))
 scans-add ss l s o t b =
     record {
       room = rw length-set (o .room);
@@ -61,7 +61,7 @@ scans-add ss l s o t b =
     }
 
 scans-drop : (ss : List Scan) (l : List ScanEntry) (k : ℕ) (s : Scan) → ScansAre ss l → T ((nth ss k noScan) .running) → s .running ≡ false
-    → ScansAre (change ss k s) (set l (place (isScan k) l) freeEntry)
+    → ScansAre (change ss k s) (set l (firstIndex (isScan k) l) freeEntry)
 scans-drop ss l k s o t n =
     record {
       room = rw length-set (o .room);
@@ -90,7 +90,7 @@ module _ (S : Shape) (v : View) (ps : List ScanEntry) (h : History) (o : Represe
       record {
         inside = x .inside;
         early = le-refl _;
-        place = x .place;
+        chunk = x .chunk;
         made = x .made;
         holds = holds-step (k .past .order) step g c (pageIn v (currentIn S v g c)) (λ r e u. (tt, same-rows (length (h .rows)) (length (h .rows)) r refl)) (x .holds);
       }
@@ -103,7 +103,7 @@ module _ (S : Shape) (v : View) (ps : List ScanEntry) (h : History) (o : Represe
 
   pub open-kept : Step S h (openScan s) after
       → Represents S (put Header scansAt (scansGiven v + 1) v)
-      (set ps (place (λ p. eqb (p .number) 0) ps) record { number = scansGiven v + 1; stamp = s; merges = mergesMade v }) after
+      (set ps (firstIndex (λ p. eqb (p .number) 0) ps) record { number = scansGiven v + 1; stamp = s; merges = mergesMade v }) after
   unfolding put renew withScans rowIn recordIn valueIn pageIn cellIn currentIn scanPage wasCurrent stateOf rowAt recordsOf
   open-kept step =
       record {
@@ -135,7 +135,7 @@ module _ (S : Shape) (v : View) (ps : List ScanEntry) (h : History) (o : Represe
   unfolding scanAt withScans
   close-pages step j t = scan-stays o k step refl j (still-running (h .scans) i j run t) t
 
-  pub close-kept : Step S h (close i) (withScans h ended) → Represents S v (set ps (place (isScan i) ps) freeEntry) (withScans h ended)
+  pub close-kept : Step S h (close i) (withScans h ended) → Represents S v (set ps (firstIndex (isScan i) ps) freeEntry) (withScans h ended)
   unfolding withScans rowIn recordIn valueIn stateOf rowAt recordsOf
   close-kept step =
       record {

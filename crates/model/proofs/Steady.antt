@@ -29,7 +29,7 @@ current-step {h = h} {h′ = h′} {g = g} {c = c} {x = x} i step e m o =
     record {
       inside = o .inside;
       state = o .state;
-      place = o .place;
+      chunk = o .chunk;
       made = le-trans (o .made) (grown step .merges);
       lineage = o .lineage ∙ sym m;
       holds = holds-step i step g c x (λ r q u. (tt, same-rows (length (h .rows)) (length (h′ .rows)) r e)) (o .holds);
@@ -39,7 +39,7 @@ pub waiting-step : {S : Shape} {y : Call} {h h′ : History} {made made′ : ℕ
     → WaitingIs S h made x → WaitingIs S h′ made′ x
 waiting-step step later o =
     record {
-      place = o .place;
+      chunk = o .chunk;
       rises = o .rises;
       replaced-by = le-trans (o .replaced-by) (grown step .merges);
       early = λ g c a b e. le-trans (o .early g c a b e) (later g c a b);
@@ -50,11 +50,11 @@ waiting-step step later o =
 -- other cells
 pub current-cells : {S : Shape} {h : History} {g c p : ℕ} {x : PageWords} {cell cell′ : ℕ → ℕ} → ((r : ℕ) → cell′ (within r) ≡ cell (within r))
     → CurrentIs S h g c p x cell → CurrentIs S h g c p x cell′
-current-cells f o = record { inside = o .inside; state = o .state; place = o .place; made = o .made; lineage = o .lineage; holds = holds-cells (λ r _ _. f r) (o .holds) }
+current-cells f o = record { inside = o .inside; state = o .state; chunk = o .chunk; made = o .made; lineage = o .lineage; holds = holds-cells (λ r _ _. f r) (o .holds) }
 
 pub scan-cells : {S : Shape} {h : History} {s : Scan} {g c p : ℕ} {x : PageWords} {cell cell′ : ℕ → ℕ}
     → ((r : ℕ) → rangeOf r ≡ g → T (seenAt h (s .stamp) ((rowAt h r) .inserter)) → cell′ (within r) ≡ cell (within r)) → ScanPageIs S h s g c p x cell → ScanPageIs S h s g c p x cell′
-scan-cells f o = record { inside = o .inside; early = o .early; place = o .place; made = o .made; holds = holds-cells f (o .holds) }
+scan-cells f o = record { inside = o .inside; early = o .early; chunk = o .chunk; made = o .made; holds = holds-cells f (o .holds) }
 
 -- ---- a row seen at a stamp that is not after the last commit was seen before
 no-row : (h : History) (r : ℕ) → length (h .rows) ≤ r → (rowAt h r) .inserter ≡ 0
@@ -91,7 +91,7 @@ scan-page-step {s = s} {g = g} {c = c} {x = x} i step b o =
     record {
       inside = o .inside;
       early = le-trans (o .early) (grown step .merges);
-      place = o .place;
+      chunk = o .chunk;
       made = o .made;
       holds = holds-step i step g c x (λ r e u. seen-step step (s .stamp) r b u) (o .holds);
     }

@@ -26,9 +26,9 @@ use Rattle.loops.proofs.Change.{changed-length, changed-outside, changed-at, ch
 use Rattle.layout.specs.View.{View, renew, put, rowsGiven, transactionsGiven, usedIn}
 use Rattle.layout.specs.declared.Region.the-variants.{Header, Opens, RowTransaction, RowState, RowStamp, TailTransaction, TailState, TailStamp, Used, Changes}
 use Rattle.terms.specs.declared.ScanEntry.{ScanEntry}
-use Rattle.terms.specs.Places.{bears, place}
+use Rattle.terms.specs.Places.{bears, firstIndex}
 use Rattle.layout.specs.Regions.{transactionsAt, stampAt}
-use Rattle.model.specs.Stored.{RowWords, RecordWords, rowIn, recordIn, valueIn, pageIn, cellIn, currentIn, openPlace}
+use Rattle.model.specs.Stored.{RowWords, RecordWords, rowIn, recordIn, valueIn, pageIn, cellIn, currentIn, openIndex}
 use Rattle.layout.specs.Codes.{asAborted, asCommitted}
 use Rattle.model.specs.Reading.{scanPage, wasCurrent}
 use Rattle.model.specs.Writing.{begun, markTails, settled, freed, committedIn, abortedIn}
@@ -51,24 +51,24 @@ pub opens-is : (ts : List State) (l : List ℕ) → OpensAre ts l → (t : ℕ) 
 opens-is ts l o = book-is openKind ts l o
 
 -- what stands in the place of an active transaction
-pub open-there : (ts : List State) (l : List ℕ) → OpensAre ts l → (t : ℕ) → nth ts t unknown ≡ active → (place (bears t) l < length l) × (getD l (place (bears t) l) 0 ≡ t)
+pub open-there : (ts : List State) (l : List ℕ) → OpensAre ts l → (t : ℕ) → nth ts t unknown ≡ active → (firstIndex (bears t) l < length l) × (getD l (firstIndex (bears t) l) 0 ≡ t)
 unfolding isActive
 open-there ts l o t a =
     let b : T (any (bears t) l) = rw (opens-is ts l o t, a) tt in
-    (place-lt (bears t) l b, eqb→eq _ t (parts (not (eqb (getD l (place (bears t) l) 0) 0)) _ (place-is (bears t) l 0 b) .1))
+    (place-lt (bears t) l b, eqb→eq _ t (parts (not (eqb (getD l (firstIndex (bears t) l) 0) 0)) _ (place-is (bears t) l 0 b) .1))
 
 pub active-some : (ts : List State) (t : ℕ) → nth ts t unknown ≡ active → t ≢ 0
 active-some ts zero a e = clash (cc)
 active-some ts (suc t) a e = omega arith
 
 -- no other place bears its number
-pub other-place : (ts : List State) (l : List ℕ) → OpensAre ts l → (t : ℕ) → nth ts t unknown ≡ active → (j : ℕ) → j < length l → getD l j 0 ≢ 0 → j ≢ place (bears t) l
+pub other-place : (ts : List State) (l : List ℕ) → OpensAre ts l → (t : ℕ) → nth ts t unknown ≡ active → (j : ℕ) → j < length l → getD l j 0 ≢ 0 → j ≢ firstIndex (bears t) l
     → getD l j 0 ≢ t
 other-place ts l o t a j b n f e =
     by-cases (decLt j own) (λ p. twice j own p (here .0) bearing found) (λ p. by-cases (decLt own j) (λ q. twice own j q b found bearing) (λ q. f (omega arith)))
   where
     own : ℕ
-    own = place (bears t) l
+    own = firstIndex (bears t) l
 
     here : (own < length l) × (getD l own 0 ≡ t)
     here = open-there ts l o t a
@@ -90,12 +90,12 @@ opens-full ts l n o =
     ∙ same-truth _ _ (λ t. le→leb mostTransactions (count isActive ts) (omega (arith, nltb→le 0 (count (λ k. eqb k 0) l) t)))
     (λ t. not-T (ltb 0 (count (λ k. eqb k 0) l)) (λ u. omega (arith, ltb→lt 0 (count (λ k. eqb k 0) l) u, leb→le mostTransactions (count isActive ts) t)))
 
-opens-begin : (ts : List State) (l : List ℕ) → OpensAre ts l → T (any (λ k. eqb k 0) l) → OpensAre (ts ++ active ∷ []) (set l (place (λ k. eqb k 0) l) (suc (length ts)))
+opens-begin : (ts : List State) (l : List ℕ) → OpensAre ts l → T (any (λ k. eqb k 0) l) → OpensAre (ts ++ active ∷ []) (set l (firstIndex (λ k. eqb k 0) l) (suc (length ts)))
 unfolding isActive
 opens-begin ts l o a = book-add openKind ts l o active tt a
 
 opens-close : (ts : List State) (l : List ℕ) (t : ℕ) (x : State) → OpensAre ts l → nth ts t unknown ≡ active → isActive x ≡ false
-    → OpensAre (change ts t x) (set l (place (bears t) l) 0)
+    → OpensAre (change ts t x) (set l (firstIndex (bears t) l) 0)
 unfolding isActive
 opens-close ts l t x o p n = book-drop openKind ts l o t (rw p tt) x n
 
@@ -172,7 +172,7 @@ module _ (S : Shape) (v : View) (ps : List ScanEntry) (h : History) (o : Represe
       n = transactionsGiven v + 1
 
       j : ℕ
-      j = place (λ i. eqb i 0) (v Opens)
+      j = firstIndex (λ i. eqb i 0) (v Opens)
 
       e : n ≡ suc (length (h .transactions))
       e = omega (arith, o .header .transactions-given)
@@ -288,20 +288,20 @@ module _ (S : Shape) (v : View) (ps : List ScanEntry) (h : History) (o : Represe
       }
 
   -- the places after a transaction was closed
-  closed-opens : OpensAre (change (h .transactions) t x) (set (v Opens) (place (bears t) (v Opens)) 0)
+  closed-opens : OpensAre (change (h .transactions) t x) (set (v Opens) (firstIndex (bears t) (v Opens)) 0)
   unfolding stateOf
   closed-opens = opens-close (h .transactions) (v Opens) t x (o .opens) a (closing-inactive c)
 
-  closed-notes : NotesAre (h .rows) (h .tail) (set (v Opens) (place (bears t) (v Opens)) 0) (set (v Changes) (place (bears t) (v Opens)) 0)
+  closed-notes : NotesAre (h .rows) (h .tail) (set (v Opens) (firstIndex (bears t) (v Opens)) 0) (set (v Changes) (firstIndex (bears t) (v Opens)) 0)
   unfolding stateOf
   closed-notes =
       let inside = open-there (h .transactions) (v Opens) (o .opens) t a .0 in
-      notes-set (h .rows) (h .tail) (v Opens) (v Changes) (place (bears t) (v Opens)) 0 inside (omega (arith, o .whole .long Opens, o .whole .long Changes)) (λ f. absurd (f refl)) (o .notes)
+      notes-set (h .rows) (h .tail) (v Opens) (v Changes) (firstIndex (bears t) (v Opens)) 0 inside (omega (arith, o .whole .long Opens, o .whole .long Changes)) (λ f. absurd (f refl)) (o .notes)
 
 pub abort-kept : (S : Shape) (v : View) (ps : List ScanEntry) (h : History) → Represents S v ps h → Known S h → (t : ℕ) → stateOf h t ≡ active
     → Step S h (abort t) (withTransactions h (change (h .transactions) t aborted) (h .last))
     → Represents S (abortedIn S t v) ps (withTransactions h (change (h .transactions) t aborted) (h .last))
-unfolding abortedIn freed openPlace settled put renew withTransactions rowIn recordIn valueIn pageIn cellIn currentIn scanPage wasCurrent scanAt
+unfolding abortedIn freed openIndex settled put renew withTransactions rowIn recordIn valueIn pageIn cellIn currentIn scanPage wasCurrent scanAt
 abort-kept S v ps h o k t a step =
     record {
       header = header-same refl (sym (length-change (h .transactions) t aborted)) refl refl (o .header);
@@ -323,7 +323,7 @@ abort-kept S v ps h o k t a step =
 pub commit-kept : (S : Shape) (v : View) (ps : List ScanEntry) (h : History) → Represents S v ps h → Known S h → (t s : ℕ) → stateOf h t ≡ active → h .last < s → s < 2 ^ 32
     → Step S h (commit t s) (withTransactions h (change (h .transactions) t (committed s)) s)
     → Represents S (committedIn S t s v) ps (withTransactions h (change (h .transactions) t (committed s)) s)
-unfolding committedIn freed openPlace settled put renew withTransactions rowIn recordIn valueIn pageIn cellIn currentIn scanPage wasCurrent scanAt
+unfolding committedIn freed openIndex settled put renew withTransactions rowIn recordIn valueIn pageIn cellIn currentIn scanPage wasCurrent scanAt
 commit-kept S v ps h o k t s a later fit step =
     record {
       header = header-same refl (sym (length-change (h .transactions) t (committed s))) refl refl (header-put (v Header) 7 s (omega (arith, o .whole .long Header)) (omega arith) (o .header));

@@ -25,7 +25,7 @@ use Rattle.history.proofs.Endings.{set-range}
 use Rattle.layout.specs.View.{View, renew, put}
 use Rattle.layout.specs.declared.Region.the-variants.{RowMask, Cells, Changes}
 use Rattle.terms.specs.declared.ScanEntry.{ScanEntry}
-use Rattle.model.specs.Stored.{rowIn, recordIn, valueIn, pageIn, cellIn, currentIn, openPlace}
+use Rattle.model.specs.Stored.{rowIn, recordIn, valueIn, pageIn, cellIn, currentIn, openIndex}
 use Rattle.layout.specs.Codes.{asOriginal, asSetting}
 use Rattle.model.specs.Reading.{scanPage, wasCurrent}
 use Rattle.model.specs.Writing.{noted, appended, filledIn, newBitsIn, recordsWanted, originalAppended, originalWord, settingAppended, updatedIn}
@@ -143,7 +143,7 @@ module _ (S : Shape) (v : View) (ps : List ScanEntry) (h : History) (o : Represe
   -- ---- every column was set before
   update-one : length (recordsOf h (rangeOf r)) + 1 ≤ S .capacity → Step S h (update t r m vs) (withTail h (h .tail ++ y ∷ [])) → All (New h t r) (y ∷ [])
       → Represents S (noted t (put RowMask r (bitOr m ((rowIn v r) .mask)) (settingAppended S t r m vs v))) ps (withTail h (h .tail ++ y ∷ []))
-  unfolding settingAppended filledIn noted openPlace put renew withTail recordIn valueIn pageIn cellIn currentIn scanPage wasCurrent appended stateOf rowAt scanAt
+  unfolding settingAppended filledIn noted openIndex put renew withTail recordIn valueIn pageIn cellIn currentIn scanPage wasCurrent appended stateOf rowAt scanAt
   update-one room step new =
       let made = add-setting (none-made S v ps h o r b) (omega arith) in
       record {
@@ -166,7 +166,7 @@ module _ (S : Shape) (v : View) (ps : List ScanEntry) (h : History) (o : Represe
       → All (New h t r) (record { transaction = t; row = r; content = original (d ∷ cs) ((rowAt h r) .values) } ∷ y ∷ [])
       → Represents S (noted t (put RowMask r (bitOr m ((rowIn v r) .mask)) (settingAppended S t r m vs (originalAppended S t r m v)))) ps
       (withTail h (h .tail ++ record { transaction = t; row = r; content = original (d ∷ cs) ((rowAt h r) .values) } ∷ y ∷ []))
-  unfolding settingAppended originalAppended filledIn noted openPlace put renew withTail recordIn valueIn pageIn cellIn currentIn scanPage wasCurrent appended stateOf scanAt
+  unfolding settingAppended originalAppended filledIn noted openIndex put renew withTail recordIn valueIn pageIn cellIn currentIn scanPage wasCurrent appended stateOf scanAt
   update-two d cs e room step new =
       record {
         header = o .header;

@@ -8,8 +8,8 @@ use Rattle.layout.specs.declared.Sizes.{Sizes}
 use Rattle.layout.specs.declared.Region.{Region}
 use Rattle.layout.specs.View.{View, rowsGiven, usedIn}
 use Rattle.history.specs.History.{rangeOf}
-use Rattle.terms.specs.Places.{place}
-use Rattle.model.specs.Stored.{openPlace, pageIn, placesOf, pagesOf}
+use Rattle.terms.specs.Places.{firstIndex}
+use Rattle.model.specs.Stored.{openIndex, pageIn, chunksOf, pagesOf}
 use Rattle.layout.specs.Codes.{asCurrent}
 use Rattle.layout.specs.Regions.{slot}
 
@@ -32,20 +32,20 @@ pub record Linked (s : Sizes) (v : View) : Type 0 where
 
 -- Each current page is one of the pool.
 abbrev pub Pooled : Sizes → View → Type 0
-Pooled s v = (i : ℕ) → i < s .places → getD (v Region.Current) i 0 < s .pages
+Pooled s v = (i : ℕ) → i < s .chunks → getD (v Region.Current) i 0 < s .pages
 
 -- Each place names a page of the pool that is current and of that place: so no two places name one page.
 pub record Placed (S : Shape) (v : View) : Type 0 where
-  pub inside : (i : ℕ) → i < placesOf S → getD (v Region.Current) i 0 < pagesOf S
-  pub state : (i : ℕ) → i < placesOf S → (pageIn v (getD (v Region.Current) i 0)) .state ≡ asCurrent
-  pub place : (i : ℕ) → i < placesOf S → (pageIn v (getD (v Region.Current) i 0)) .place ≡ i
+  pub inside : (i : ℕ) → i < chunksOf S → getD (v Region.Current) i 0 < pagesOf S
+  pub state : (i : ℕ) → i < chunksOf S → (pageIn v (getD (v Region.Current) i 0)) .state ≡ asCurrent
+  pub chunk : (i : ℕ) → i < chunksOf S → (pageIn v (getD (v Region.Current) i 0)) .chunk ≡ i
 
 -- j is the first free place for an open transaction
 pub record FreeAt (v : View) (j : ℕ) : Type 0 where
   pub low : j < mostTransactions
-  pub first : j ≡ place (λ k. eqb k 0) (v Region.Opens)
+  pub first : j ≡ firstIndex (λ k. eqb k 0) (v Region.Opens)
 
 -- j is the place of open transaction t
 pub record OpenAt (v : View) (t j : ℕ) : Type 0 where
   pub low : j < mostTransactions
-  pub found : j ≡ openPlace v t
+  pub found : j ≡ openIndex v t

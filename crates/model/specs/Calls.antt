@@ -17,7 +17,7 @@ use Rattle.history.specs.Lists.{All}
 use Rattle.layout.specs.View.{View, put, rowsGiven, transactionsGiven, scansGiven, lastStamp, mergesMade, usedIn}
 use Rattle.layout.specs.declared.Region.the-variants.{Header, Opens}
 use Rattle.terms.specs.declared.ScanEntry.{ScanEntry}
-use Rattle.terms.specs.Places.{freeEntry, place, bears, isScan}
+use Rattle.terms.specs.Places.{freeEntry, firstIndex, bears, isScan}
 use Rattle.layout.specs.Regions.{scansAt}
 use Rattle.model.specs.Stored.{RecordWords, rowIn, recordIn, pageIn, currentIn, cellIn, within, committedState, deleteKind, scanEntry, pagesOf, anyBelow, countBelow, wordLimit}
 use Rattle.model.specs.Reading.{reader, readIn, readCurrent, ownChanges, scanPage, sumIn}
@@ -183,10 +183,10 @@ entriesAfter v ps (latest r c) = ps
 entriesAfter v ps (readAt s r c) = ps
 entriesAfter v ps (ownRead t r c) = ps
 entriesAfter v ps (openScan s) =
-    set ps (place (λ p. eqb (p .number) 0) ps) record { number = scansGiven v + 1; stamp = s; merges = mergesMade v }
+    set ps (firstIndex (λ p. eqb (p .number) 0) ps) record { number = scansGiven v + 1; stamp = s; merges = mergesMade v }
 entriesAfter v ps (scanRead k r c) = ps
 entriesAfter v ps (sum k c) = ps
-entriesAfter v ps (close k) = set ps (place (isScan k) ps) freeEntry
+entriesAfter v ps (close k) = set ps (firstIndex (isScan k) ps) freeEntry
 entriesAfter v ps (merge g c n) = ps
 entriesAfter v ps release = ps
 entriesAfter v ps (pageCell c r) = ps

@@ -16,7 +16,7 @@ use Rattle.layout.specs.declared.Region.the-variants.{Changes}
 use Rattle.terms.specs.declared.ScanEntry.{ScanEntry}
 use Rattle.model.specs.declared.Reader.{Reader}
 use Rattle.model.specs.declared.Walk.{Walk}
-use Rattle.model.specs.Stored.{RowWords, RecordWords, PageWords, rowIn, recordIn, pageIn, valueIn, currentIn, placeOf, placesOf, pagesOf, cellIn, within, openState, committedState, originalKind, settingKind, deleteKind, waitingPage, firstFrom, openPlace}
+use Rattle.model.specs.Stored.{RowWords, RecordWords, PageWords, rowIn, recordIn, pageIn, valueIn, currentIn, chunkOf, chunksOf, pagesOf, cellIn, within, openState, committedState, originalKind, settingKind, deleteKind, waitingPage, firstFrom, openIndex}
 use Rattle.layout.specs.Regions.{slot}
 
 -- a reader by its stamp and the transaction whose own changes count (0: none)
@@ -93,21 +93,21 @@ readCurrent S v who r c = readIn S v who (currentIn S v (rangeOf r) c) r c
 
 -- Whose own changes an own read of transaction t adds: with nothing noted there are none, and it is the latest read.
 unfoldable pub ownChanges : View → ℕ → ℕ
-ownChanges v t = cond (eqb (getD (v Changes) (openPlace v t) 0) 0) 0 t
+ownChanges v t = cond (eqb (getD (v Changes) (openIndex v t) 0) 0) 0 t
 
 -- ---- a scan's page
 -- Page p waits, is of this place, and was current after the first m merges.
 unfoldable pub wasCurrent : Shape → View → ℕ → ℕ → ℕ → Bool
-wasCurrent S v m place p =
+wasCurrent S v m chunk p =
     let x = pageIn v p in
-    waitingPage (x .state) && (eqb (x .place % placesOf S) place && (leb (x .made) m && ltb m (x .replaced)))
+    waitingPage (x .state) && (eqb (x .chunk % chunksOf S) chunk && (leb (x .made) m && ltb m (x .replaced)))
 
 -- "An open scan reads the pages that were current at its opening": the current page if it was made before, else the waiting page that was current then.
 -- At most one passes.
 unfoldable pub scanPage : Shape → View → ℕ → ℕ → ℕ → ℕ
 scanPage S v m g c =
     let current = currentIn S v g c in
-    let old = firstFrom (wasCurrent S v m (placeOf S g c)) (pagesOf S) 0 in
+    let old = firstFrom (wasCurrent S v m (chunkOf S g c)) (pagesOf S) 0 in
     cond (leb ((pageIn v current) .made) m) current (cond (ltb old (pagesOf S)) old current)
 
 -- ---- a scan's sum: over the first n rows

@@ -22,7 +22,7 @@ use Rattle.layout.specs.declared.Region.the-variants.{Opens, Changes}
 use Rattle.terms.specs.declared.ScanEntry.{ScanEntry}
 use Rattle.layout.specs.Sizes.{sizesOf}
 use Rattle.layout.specs.Regions.{rowsAt, transactionsAt, scansAt, stampAt, mergesAt}
-use Rattle.model.specs.Stored.{RowWords, RecordWords, PageWords, rowIn, recordIn, pageIn, valueIn, currentIn, cellIn, within, placeOf, placesOf, pagesOf, headerIn, currentPage, waitingPage, countBelow}
+use Rattle.model.specs.Stored.{RowWords, RecordWords, PageWords, rowIn, recordIn, pageIn, valueIn, currentIn, cellIn, within, chunkOf, chunksOf, pagesOf, headerIn, currentPage, waitingPage, countBelow}
 use Rattle.layout.specs.Codes.{asOpen, asCommitted, asAborted, asOriginal, asSetting, asDelete, asCurrent}
 use Rattle.model.specs.Reading.{scanPage}
 use Rattle.model.specs.Calls.{Typed, say, viewNext, entriesNext}
@@ -98,7 +98,7 @@ everyRow r = Unit {0}
 pub record CurrentIs (S : Shape) (h : History) (g c p : ℕ) (x : PageWords) (cell : ℕ → ℕ) : Type 0 where
   pub inside : p < pagesOf S
   pub state : x .state ≡ asCurrent
-  pub place : x .place ≡ placeOf S g c
+  pub chunk : x .chunk ≡ chunkOf S g c
   pub made : x .made ≤ length (h .merges)
   pub lineage : x .lineage ≡ mergedThrough h g c
   pub holds : Holds h g c everyRow x cell
@@ -111,11 +111,11 @@ CurrentsAre S h v = (g c : ℕ) → g < S .ranges → c < S .columns → Current
 
 -- A waiting page was replaced not later than the current page of its place was made; `made` has that for each range and column.
 pub record WaitingIs (S : Shape) (h : History) (made : ℕ → ℕ → ℕ) (x : PageWords) : Type 0 where
-  pub place : x .place < placesOf S
+  pub chunk : x .chunk < chunksOf S
   pub rises : x .made < x .replaced
   pub replaced-by : x .replaced ≤ length (h .merges)
-  pub early : (g c : ℕ) → g < S .ranges → c < S .columns → x .place ≡ placeOf S g c → x .replaced ≤ made g c
-  pub reach : (g c : ℕ) → g < S .ranges → c < S .columns → x .place ≡ placeOf S g c → x .lineage ≤ length (recordsOf h g)
+  pub early : (g c : ℕ) → g < S .ranges → c < S .columns → x .chunk ≡ chunkOf S g c → x .replaced ≤ made g c
+  pub reach : (g c : ℕ) → g < S .ranges → c < S .columns → x .chunk ≡ chunkOf S g c → x .lineage ≤ length (recordsOf h g)
   pub stamped : x .newest ≤ h .last
 
 abbrev pub madeIn : Shape → View → ℕ → ℕ → ℕ
@@ -131,7 +131,7 @@ countFrom p i (x ∷ l) = cond (p i x) (suc (countFrom p (suc i) l)) (countFrom 
 
 -- how many pages are current, and which merges' pages wait: equal counts for every test of the merge's number
 pub record PoolIs (S : Shape) (merges : List Merge) (page : ℕ → PageWords) : Type 0 where
-  pub current : countBelow (λ p. currentPage ((page p) .state)) (pagesOf S) ≡ placesOf S
+  pub current : countBelow (λ p. currentPage ((page p) .state)) (pagesOf S) ≡ chunksOf S
   pub waiting : (q : ℕ → Bool)
       → countBelow (λ p. waitingPage ((page p) .state) && q ((page p) .replaced)) (pagesOf S) ≡ countFrom (λ i m. m .waiting && q i) 1 merges
 
@@ -164,7 +164,7 @@ NotesAre rows tail opens notes = (j : ℕ) → j < mostTransactions → getD ope
 pub record ScanPageIs (S : Shape) (h : History) (s : Scan) (g c p : ℕ) (x : PageWords) (cell : ℕ → ℕ) : Type 0 where
   pub inside : p < pagesOf S
   pub early : s .before ≤ length (h .merges)
-  pub place : x .place ≡ placeOf S g c
+  pub chunk : x .chunk ≡ chunkOf S g c
   pub made : x .made ≤ s .before
   pub holds : Holds h g c (λ r. T (seenAt h (s .stamp) ((rowAt h r) .inserter))) x cell
 

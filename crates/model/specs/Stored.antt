@@ -8,16 +8,16 @@ use lib.ListN.{getD}
 use Rattle.terms.specs.Measures.{Shape, rangeRows}
 use Rattle.layout.specs.Codes.{asOpen, asCommitted, asOriginal, asSetting, asFree, asCurrent}
 use Rattle.layout.specs.View.{View}
-use Rattle.layout.specs.declared.Region.the-variants.{Header, Opens, RowTransaction, RowState, RowStamp, RowLink, RowMask, TailTransaction, TailRow, TailKind, TailMask, TailLink, TailState, TailStamp, TailValues, Current, PageState, PagePlace, PageMade, PageReplaced, PageLineage, PageNewest, Cells}
+use Rattle.layout.specs.declared.Region.the-variants.{Header, Opens, RowTransaction, RowState, RowStamp, RowLink, RowMask, TailTransaction, TailRow, TailKind, TailMask, TailLink, TailState, TailStamp, TailValues, Current, PageState, PageChunk, PageMade, PageReplaced, PageLineage, PageNewest, Cells}
 use Rattle.terms.specs.declared.ScanEntry.{ScanEntry}
-use Rattle.terms.specs.Places.{freeEntry, place, bears, isScan}
+use Rattle.terms.specs.Places.{freeEntry, firstIndex, bears, isScan}
 
 -- ---- sizes that a shape makes
-abbrev pub placesOf : Shape → ℕ
-placesOf S = S .columns * S .ranges
+abbrev pub chunksOf : Shape → ℕ
+chunksOf S = S .columns * S .ranges
 
 abbrev pub pagesOf : Shape → ℕ
-pagesOf S = placesOf S + S .spares
+pagesOf S = chunksOf S + S .spares
 
 -- ---- a word of the header
 abbrev pub headerIn : View → ℕ → ℕ
@@ -75,7 +75,7 @@ pub record RecordWords : Type 0 where
 -- `place` is that of the range and column; `made` and `replaced` are numbers of merges.
 pub record PageWords : Type 0 where
   pub state : ℕ
-  pub place : ℕ
+  pub chunk : ℕ
   pub made : ℕ
   pub replaced : ℕ
   pub lineage : ℕ
@@ -107,7 +107,7 @@ unfoldable pub pageIn : View → ℕ → PageWords
 pageIn v p =
     record {
       state = getD (v PageState) p 0;
-      place = getD (v PagePlace) p 0;
+      chunk = getD (v PageChunk) p 0;
       made = getD (v PageMade) p 0;
       replaced = getD (v PageReplaced) p 0;
       lineage = getD (v PageLineage) p 0;
@@ -119,12 +119,12 @@ pageIn v p =
 unfoldable pub valueIn : Shape → View → ℕ → ℕ → ℕ
 valueIn S v s c = getD (v TailValues) (s * S .columns + c) 0
 
-abbrev pub placeOf : Shape → ℕ → ℕ → ℕ
-placeOf S g c = g * S .columns + c
+abbrev pub chunkOf : Shape → ℕ → ℕ → ℕ
+chunkOf S g c = g * S .columns + c
 
 -- the current page of range g and column c
 unfoldable pub currentIn : Shape → View → ℕ → ℕ → ℕ
-currentIn S v g c = getD (v Current) (placeOf S g c) 0
+currentIn S v g c = getD (v Current) (chunkOf S g c) 0
 
 -- where row r stands in its page
 abbrev pub within : ℕ → ℕ
@@ -150,9 +150,9 @@ countBelow f zero = 0
 countBelow f (suc n) = cond (f n) (suc (countBelow f n)) (countBelow f n)
 
 -- the place of open transaction t
-unfoldable pub openPlace : View → ℕ → ℕ
-openPlace v t = place (bears t) (v Opens)
+unfoldable pub openIndex : View → ℕ → ℕ
+openIndex v t = firstIndex (bears t) (v Opens)
 
 -- the place of open scan k
 unfoldable pub scanEntry : List ScanEntry → ℕ → ScanEntry
-scanEntry ps k = getD ps (place (isScan k) ps) freeEntry
+scanEntry ps k = getD ps (firstIndex (isScan k) ps) freeEntry

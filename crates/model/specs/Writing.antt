@@ -13,11 +13,11 @@ use Rattle.history.specs.History.{any, bit, rangeOf}
 use Rattle.loops.specs.Change.{changed, filled, numbered, copied, marked}
 use Rattle.layout.specs.Regions.{columnsAt, rangesAt, capacityAt, sparesAt, rowsAt, transactionsAt, stampAt, mergesAt, firstSlot, slot}
 use Rattle.layout.specs.View.{View, blank, renew, put, rowsGiven, transactionsGiven, mergesMade, usedIn}
-use Rattle.layout.specs.declared.Region.the-variants.{Header, Opens, RowTransaction, RowState, RowStamp, RowLink, RowMask, TailTransaction, TailRow, TailKind, TailMask, TailLink, TailState, TailStamp, TailValues, Used, Current, PageState, PagePlace, PageMade, PageReplaced, PageLineage, PageNewest, Cells, Changes}
+use Rattle.layout.specs.declared.Region.the-variants.{Header, Opens, RowTransaction, RowState, RowStamp, RowLink, RowMask, TailTransaction, TailRow, TailKind, TailMask, TailLink, TailState, TailStamp, TailValues, Used, Current, PageState, PageChunk, PageMade, PageReplaced, PageLineage, PageNewest, Cells, Changes}
 use Rattle.terms.specs.declared.ScanEntry.{ScanEntry}
 use Rattle.layout.specs.Sizes.{sizesOf}
-use Rattle.terms.specs.Places.{place}
-use Rattle.model.specs.Stored.{RecordWords, rowIn, recordIn, pageIn, valueIn, currentIn, placeOf, placesOf, pagesOf, cellIn, within, nextWord, committedState, settingKind, freePage, currentPage, waitingPage, firstFrom, openPlace}
+use Rattle.terms.specs.Places.{firstIndex}
+use Rattle.model.specs.Stored.{RecordWords, rowIn, recordIn, pageIn, valueIn, currentIn, chunkOf, chunksOf, pagesOf, cellIn, within, nextWord, committedState, settingKind, freePage, currentPage, waitingPage, firstFrom, openIndex}
 use Rattle.layout.specs.Codes.{asOpen, asCommitted, asAborted, asOriginal, asSetting, asDelete, asFree, asCurrent, asWaiting}
 
 -- ---- open transactions
@@ -25,13 +25,13 @@ use Rattle.layout.specs.Codes.{asOpen, asCommitted, asAborted, asOriginal, asSe
 unfoldable pub begun : View → View
 begun v =
     let n = transactionsGiven v + 1 in
-    let j = place (λ k. eqb k 0) (v Opens) in
+    let j = firstIndex (λ k. eqb k 0) (v Opens) in
     put Header transactionsAt n (put Changes j 0 (put Opens j n v))
 
 -- A row or record made by open transaction t is noted. One note for a call is enough: what is asked of the count is whether it is 0.
 unfoldable pub noted : ℕ → View → View
 noted t v =
-    let j = openPlace v t in
+    let j = openIndex v t in
     put Changes j (nextWord (getD (v Changes) j 0)) v
 
 -- The records of every range that bear transaction t get w: in each range those used.
@@ -52,7 +52,7 @@ settled S t state stamp v =
 -- the place of t is free again
 unfoldable pub freed : ℕ → View → View
 freed t v =
-    let j = openPlace v t in
+    let j = openIndex v t in
     put Changes j 0 (put Opens j 0 v)
 
 unfoldable pub committedIn : Shape → ℕ → ℕ → View → View
@@ -66,7 +66,7 @@ abortedIn S t v = freed t (settled S t asAborted 0 v)
 abbrev pub putCells : Shape → List ℕ → ℕ → ℕ → List ℤ → ℕ → List ℕ → List ℕ
 putCells S current g i vs zero cells = cells
 putCells S current g i vs (suc c) cells =
-    set (putCells S current g i vs c cells) (getD current (placeOf S g c) 0 * rangeRows + i) (ofZ w32 (getD vs c (pos 0)))
+    set (putCells S current g i vs c cells) (getD current (chunkOf S g c) 0 * rangeRows + i) (ofZ w32 (getD vs c (pos 0)))
 
 -- row r of open transaction t
 unfoldable pub insertedAt : Shape → ℕ → List ℤ → ℕ → View → View
@@ -155,7 +155,7 @@ newestOf S v g c low (suc n) stamp =
 
 -- "Free pages are the spares less those waiting": a page is free that neither waits nor is the one that its place names.
 unfoldable pub namedIn : Shape → View → ℕ → Bool
-namedIn S v p = ltb ((pageIn v p) .place) (placesOf S) && eqb (getD (v Current) ((pageIn v p) .place) 0) p
+namedIn S v p = ltb ((pageIn v p) .chunk) (chunksOf S) && eqb (getD (v Current) ((pageIn v p) .chunk) 0) p
 
 -- a free page whose state still says current: no call leaves one
 unfoldable pub strayIn : Shape → View → ℕ → Bool
@@ -175,13 +175,13 @@ mergedIn S g c n v =
     let m = nextWord (mergesMade v) in
     let low = x .lineage in
     put Header mergesAt m
-    (put Current (placeOf S g c) p
+    (put Current (chunkOf S g c) p
     (put PageReplaced old m
     (put PageState old asWaiting
     (put PageNewest p (newestOf S v g c low (n - low) (x .newest))
     (put PageLineage p n
     (put PageMade p m
-    (put PagePlace p (placeOf S g c)
+    (put PageChunk p (chunkOf S g c)
     (put PageState p asCurrent
     (renew Cells (applied S v g c p low (n - low) (copied (v Cells) (old * rangeRows) rangeRows (p * rangeRows) (v Cells))) v)))))))))
 
@@ -205,6 +205,6 @@ made S =
     (put Header rangesAt (S .ranges)
     (put Header capacityAt (S .capacity)
     (put Header sparesAt (S .spares)
-    (renew Current (numbered 0 (placesOf S) (blank (sizesOf S) Current))
-    (renew PagePlace (numbered 0 (placesOf S) (blank (sizesOf S) PagePlace))
-    (renew PageState (filled 0 (placesOf S) asCurrent (blank (sizesOf S) PageState)) (blank (sizesOf S))))))))
+    (renew Current (numbered 0 (chunksOf S) (blank (sizesOf S) Current))
+    (renew PageChunk (numbered 0 (chunksOf S) (blank (sizesOf S) PageChunk))
+    (renew PageState (filled 0 (chunksOf S) asCurrent (blank (sizesOf S) PageState)) (blank (sizesOf S))))))))

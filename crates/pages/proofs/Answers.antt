@@ -87,9 +87,9 @@ module _ (m : List ℕ) (ps : List ScanEntry) where
   unmeasured e = rw (usable-is m ps, is-unfit m e)
 
   module _ (s : Sizes) (e : measured m ≡ Fit s) where
-    pub few-places : length ps < mostScans → Unfit ≡ checked m ps
+    pub few-chunks : length ps < mostScans → Unfit ≡ checked m ps
     unfolding checked
-    few-places k = rw (usable-is m ps, is-fit m s e .0, lt-leb mostScans (length ps) k)
+    few-chunks k = rw (usable-is m ps, is-fit m s e .0, lt-leb mostScans (length ps) k)
 
     pub by-facts : mostScans ≤ length ps → checked m ps ≡ cond (factsHold s (viewOf s m) ps) (Fit s) Unfit
     unfolding checked

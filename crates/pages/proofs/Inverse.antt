@@ -5,17 +5,17 @@ use mathlib.Core.Bool.{Bool, true}
 use native.Mathlib.Omega.{arith}
 use lib.Dec.{eqb}
 use borrow.Author.Tests.{eqb-true}
-use Rattle.terms.specs.Measures.{mostColumns, mostPlaces}
+use Rattle.terms.specs.Measures.{mostColumns, mostChunks}
 use Rattle.facts.specs.Facts.{each}
 use Rattle.facts.proofs.Each.{each-tells}
 
 abbrev isExact : ℕ → ℕ → Bool
 isExact c p = eqb (p * (65536 / suc c + 1) / 65536) (p / suc c)
 
-all-exact : each mostColumns (λ c. each mostPlaces (isExact c)) ≡ true
+all-exact : each mostColumns (λ c. each mostChunks (isExact c)) ≡ true
 unfolding each
 all-exact = refl
 
-pub exact : (c p : ℕ) → 1 ≤ c → c ≤ mostColumns → p < mostPlaces → p * (65536 / c + 1) / 65536 ≡ p / c
+pub exact : (c p : ℕ) → 1 ≤ c → c ≤ mostColumns → p < mostChunks → p * (65536 / c + 1) / 65536 ≡ p / c
 exact zero p h k l = absurd (omega arith)
-exact (suc c) p h k l = eqb-true _ _ (each-tells (isExact c) mostPlaces (each-tells (λ c. each mostPlaces (isExact c)) mostColumns all-exact c (omega arith)) p l)
+exact (suc c) p h k l = eqb-true _ _ (each-tells (isExact c) mostChunks (each-tells (λ c. each mostChunks (isExact c)) mostColumns all-exact c (omega arith)) p l)

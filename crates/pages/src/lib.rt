@@ -13,7 +13,7 @@ use regions::read;
 ghost use mathlib.Core.Path.{_≡_};
 ghost use mathlib.Core.Bool.{_||_};
 ghost use Prim.Native.Nat.{ℕ, _+_, _/_, _%_, _≤_, _<_};
-ghost use Rattle.terms.specs.Measures.{mostColumns, mostPlaces};
+ghost use Rattle.terms.specs.Measures.{mostColumns, mostChunks};
 ghost use Rattle.layout.specs.Regions.{len};
 ghost use Rattle.layout.specs.View.{lastStamp, viewOf};
 ghost use Rattle.facts.specs.Facts.{each, waitingAtMost, waitingLineage};
@@ -35,17 +35,17 @@ fn inverse_of(columns: usize) -> u32
 }
 
 // The range of a place, by the inverse of the columns.
-fn range_of_place(place: u32, inverse: u32) -> usize
-    requires { ⌜ (place < mostPlaces) × (inverse ≤ 65537) ⌝ }
-    ensures { λ r. ⌜ ((c : ℕ) → 1 ≤ c → c ≤ mostColumns → inverse ≡ 65536 / c + 1 → r ≡ place / c) ⌝ }
+fn range_of_chunk(chunk: u32, inverse: u32) -> usize
+    requires { ⌜ (chunk < mostChunks) × (inverse ≤ 65537) ⌝ }
+    ensures { λ r. ⌜ ((c : ℕ) → 1 ≤ c → c ≤ mostColumns → inverse ≡ 65536 / c + 1 → r ≡ chunk / c) ⌝ }
 {
-    (place * inverse / 65536) as usize
+    (chunk * inverse / 65536) as usize
 }
 
 // Whether place i names a page of the pool that is current and says so of that place, whose newest stamp and lineage are within theirs.
 fn current_holds(mem: &[u8], s: Sizes, inverse: u32, last: u32, i: usize) -> bool
     requires { ⌜ Ready s (now mem) ⌝ }
-    requires { ⌜ (i < s .places) × (inverse ≡ 65536 / s .columns + 1) × (inverse ≤ 65537) × (last ≡ lastStamp (viewOf s (now mem))) ⌝ }
+    requires { ⌜ (i < s .chunks) × (inverse ≡ 65536 / s .columns + 1) × (inverse ≤ 65537) × (last ≡ lastStamp (viewOf s (now mem))) ⌝ }
     ensures { λ r. ⌜ r ≡ currentHolds s (viewOf s (now (mem .entry))) i ⌝ }
 {
     let p = read(mem, s, Region::Current, i) as usize;
@@ -53,21 +53,21 @@ fn current_holds(mem: &[u8], s: Sizes, inverse: u32, last: u32, i: usize) -> boo
         return false;
     }
     let state = read(mem, s, Region::PageState, p);
-    let place = read(mem, s, Region::PagePlace, p);
+    let chunk = read(mem, s, Region::PageChunk, p);
     let newest = read(mem, s, Region::PageNewest, p);
     let lineage = read(mem, s, Region::PageLineage, p);
-    let most = read(mem, s, Region::Used, range_of_place(i as u32, inverse));
-    let placed = both(state == PAGE_CURRENT, place as usize == i);
+    let most = read(mem, s, Region::Used, range_of_chunk(i as u32, inverse));
+    let placed = both(state == PAGE_CURRENT, chunk as usize == i);
     both(placed, both(newest <= last, lineage <= most))
 }
 
 fn currents_hold(mem: &[u8], s: Sizes) -> bool
     requires { ⌜ Ready s (now mem) ⌝ }
-    ensures { λ r. ⌜ r ≡ each (s .places) (currentHolds s (viewOf s (now (mem .entry)))) ⌝ }
+    ensures { λ r. ⌜ r ≡ each (s .chunks) (currentHolds s (viewOf s (now (mem .entry)))) ⌝ }
 {
     let inverse = inverse_of(s.columns);
     let last = read(mem, s, Region::Header, HEADER_STAMP);
-    let n = s.places;
+    let n = s.chunks;
     let mut ok = true;
     let mut i = 0;
     while i < n {
@@ -104,7 +104,7 @@ fn all_waiting_at_most(mem: &[u8], s: Sizes, k: Region, most: u32) -> bool
 }
 
 // A word modulo the places. A division only where it is needed: a place that the store has written is below them.
-fn modulo_places(word: u32, places: u32) -> u32
+fn modulo_chunks(word: u32, places: u32) -> u32
     requires { ⌜ 1 ≤ places ⌝ }
     ensures { λ r. ⌜ (r ≡ word % places) × (r < places) ⌝ }
 {
@@ -119,8 +119,8 @@ fn waiting_lineage(mem: &[u8], s: Sizes, inverse: u32, p: usize) -> bool
     if read(mem, s, Region::PageState, p) < PAGE_WAITING {
         return true;
     }
-    let place = modulo_places(read(mem, s, Region::PagePlace, p), s.places as u32);
-    let most = read(mem, s, Region::Used, range_of_place(place, inverse));
+    let chunk = modulo_chunks(read(mem, s, Region::PageChunk, p), s.chunks as u32);
+    let most = read(mem, s, Region::Used, range_of_chunk(chunk, inverse));
     read(mem, s, Region::PageLineage, p) <= most
 }
 

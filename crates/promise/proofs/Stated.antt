@@ -12,7 +12,7 @@ use lib.Dec.{T, T-not, not-T, leb, ltb, eqb, eqb→eq, leb→le, le→leb, ltb�
 use lib.ListN.{length, getD}
 use lib.Pow.{pow-pos, shr-shr}
 use Rattle.terms.specs.Measures.{Shape, mostTransactions}
-use Rattle.terms.specs.Places.{freeEntry, bears, isScan, place}
+use Rattle.terms.specs.Places.{freeEntry, bears, isScan, firstIndex}
 use Rattle.terms.specs.Refusals.{isRefused}
 use Rattle.terms.specs.declared.Answer.{Answer}
 use Rattle.terms.specs.declared.ScanEntry.{ScanEntry}
@@ -105,7 +105,7 @@ module _ {A : Type 0} (number : A → ℕ) (l : List A) (d : A) where
   list-test t = (
     λ b.
         let f : A → Bool = λ p. bears t (number p) in
-        let j = place f l in
+        let j = firstIndex f l in
         let q = parts (not (eqb (number (getD l j d)) 0)) (eqb (number (getD l j d)) t) (place-is f l d b) in
         let e = eqb→eq (number (getD l j d)) t (q .1) in
         (λ z. T-not (eqb (number (getD l j d)) 0) (q .0) (eqb-equal (number (getD l j d)) 0 (e ∙ z)), (j, place-lt f l b, e)),
@@ -322,9 +322,9 @@ is-accept (refuse n) a e = absurd (true-false e)
 placed : (S : Shape) (v : View) (ps : List ScanEntry) → Proper (sizesOf S) → Usable (sizesOf S) v ps → Placed S v
 unfolding pageIn
 placed S v ps z u = record {
-  inside = λ i b. omega (arith, u .current-in i (omega (arith, z .places-are)), z .pages-are, z .places-are);
-  state = λ i b. u .current-state i (omega (arith, z .places-are));
-  place = λ i b. u .current-place i (omega (arith, z .places-are));
+  inside = λ i b. omega (arith, u .current-in i (omega (arith, z .chunks-are)), z .pages-are, z .chunks-are);
+  state = λ i b. u .current-state i (omega (arith, z .chunks-are));
+  chunk = λ i b. u .current-chunk i (omega (arith, z .chunks-are));
 }
 
 on-usable : (m : List ℕ) (ps : List ScanEntry) (c : Call) → usable m ps ≡ true → Meets (testsIn (storedShape (words m)) (storeView m) ps c) (stated (storedShape (words m)) (storeView m) ps c)

@@ -28,10 +28,10 @@ use Rattle.scans.specs.Places.{opened, openCount}
 use Rattle.facts.specs.Facts.{factsHold}
 use Rattle.facts.proofs.Ready.{Stored}
 use Rattle.facts.proofs.Usable.{Linked, Usable}
-use Rattle.terms.specs.Places.{bears, place, freeEntry}
-use Rattle.model.specs.Stored.{rowIn, recordIn, valueIn, pageIn, placesOf, pagesOf}
+use Rattle.terms.specs.Places.{bears, firstIndex, freeEntry}
+use Rattle.model.specs.Stored.{rowIn, recordIn, valueIn, pageIn, chunksOf, pagesOf}
 use Rattle.model.proofs.Book.{live-inside, Kind, Book, book-is, book-found, book-only}
-use Rattle.model.proofs.Merged.{place-mod, place-parts, named, placed}
+use Rattle.model.proofs.Merged.{place-mod, chunk-parts, named, placed}
 use Rattle.model.proofs.Heads.{in-range}
 use Rattle.model.proofs.Scans.{scanKind, scan-count}
 use Rattle.model.proofs.Transactions.{openKind}
@@ -72,7 +72,7 @@ module _ {P A : Type 0} (K : Kind P A) (ts : List A) (l : List P) (o : Book K ts
   place-is j n = ap (λ (i : ℕ). getD l i K.free) here ∙ K.tells _ _ (book-found K ts l o (numberAt j) (number-live j n))
     where
       own : ℕ
-      own = place (λ p. bears (numberAt j) (K.number p)) l
+      own = firstIndex (λ p. bears (numberAt j) (K.number p)) l
 
       own-number : numberAt own ≡ numberAt j
       own-number = book-found K ts l o (numberAt j) (number-live j n) K.number ∙ K.as-number (numberAt j) _
@@ -160,11 +160,11 @@ module _ (S : Shape) (v : View) (ps : List ScanEntry) (h : History) (o : Represe
   lineage-used : (n g : ℕ) → g < S .ranges → n ≤ length (recordsOf h g) → n ≤ usedIn v g
   lineage-used n g b l = omega (arith, o .tails g b .used-all)
 
-  waiting-lineages : (p : ℕ) → p < pagesOf S → asWaiting ≤ (pageIn v p) .state → (pageIn v p) .lineage ≤ usedIn v ((pageIn v p) .place % placesOf S / S .columns)
+  waiting-lineages : (p : ℕ) → p < pagesOf S → asWaiting ≤ (pageIn v p) .state → (pageIn v p) .lineage ≤ usedIn v ((pageIn v p) .chunk % chunksOf S / S .columns)
   waiting-lineages p b u =
       let w = waits-at p b u in
-      let t = place-parts S (k .small .some-column) ((pageIn v p) .place) (w .place) in
-      rw (place-mod S ((pageIn v p) .place) (w .place)) (lineage-used _ _ (t .0) (w .reach _ _ (t .0) (t .1) (sym (t .2))))
+      let t = chunk-parts S (k .small .some-column) ((pageIn v p) .chunk) (w .chunk) in
+      rw (place-mod S ((pageIn v p) .chunk) (w .chunk)) (lineage-used _ _ (t .0) (w .reach _ _ (t .0) (t .1) (sym (t .2))))
 
   -- ---- all together
   pub represented-usable : Usable (sizesOf S) v ps
@@ -191,8 +191,8 @@ module _ (S : Shape) (v : View) (ps : List ScanEntry) (h : History) (o : Represe
         scans-differ = numbers-apart scanKind (h .scans) ps (o .scans .same);
         current-in = λ i b. named S v ps h o k i b .inside;
         current-state = λ i b. named S v ps h o k i b .state;
-        current-place = placed S v ps h o k .place;
-        current-lineages = λ i b. lineage-used _ _ (place-parts S (k .small .some-column) i b .0) (named S v ps h o k i b .holds .through .within);
+        current-chunk = placed S v ps h o k .chunk;
+        current-lineages = λ i b. lineage-used _ _ (chunk-parts S (k .small .some-column) i b .0) (named S v ps h o k i b .holds .through .within);
         waiting-lineages = waiting-lineages;
       }
 

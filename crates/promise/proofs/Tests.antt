@@ -128,7 +128,7 @@ module _ (s : Sizes) (v : View) (ps : List ScanEntry) (z : Proper s) (long : Lon
       both (rows-between RowStamp 0 (lastStamp v) refl (λ r h. (omega arith, u .row-stamps r h)))
       (both (records-between TailStamp 0 (lastStamp v) refl (λ g i h j. (omega arith, u .record-stamps g i h j)))
       (both
-      (both (each-true (currentAtMost v PageNewest (lastStamp v)) (s .places) (λ i h. le-leb _ _ (u .current-stamps i h)))
+      (both (each-true (currentAtMost v PageNewest (lastStamp v)) (s .chunks) (λ i h. le-leb _ _ (u .current-stamps i h)))
       (each-true (waitingAtMost v PageNewest (lastStamp v)) (s .pages) (λ p h. waiting-holds v PageNewest (lastStamp v) p (u .waiting-stamps p h))))
       (every-open (λ p. leb (p .stamp) (lastStamp v)) ps (λ j n. le-leb _ _ (u .scan-stamps j n)))))
 
@@ -148,13 +148,13 @@ module _ (s : Sizes) (v : View) (ps : List ScanEntry) (z : Proper s) (long : Lon
   placed : pagesPlaced s v ≡ true
   unfolding pagesPlaced pagePlaced
   placed =
-      each-true (pagePlaced s v) (s .places)
-      (λ i h. both (lt-ltb _ _ (u .current-in i h)) (both (eq-eqb _ 1 (u .current-state i h)) (eq-eqb _ i (u .current-place i h))))
+      each-true (pagePlaced s v) (s .chunks)
+      (λ i h. both (lt-ltb _ _ (u .current-in i h)) (both (eq-eqb _ 1 (u .current-state i h)) (eq-eqb _ i (u .current-chunk i h))))
 
   lineages : lineagesWithin s v ≡ true
   unfolding lineagesWithin currentLineage waitingLineage currentAtMost
   lineages =
-      both (each-true (currentLineage s v) (s .places) (λ i h. le-leb _ _ (u .current-lineages i h)))
+      both (each-true (currentLineage s v) (s .chunks) (λ i h. le-leb _ _ (u .current-lineages i h)))
       (each-true (waitingLineage s v) (s .pages) (λ p h. waiting-holds v PageLineage _ p (u .waiting-lineages p h)))
 
   pub facts-hold : factsHold s v ps ≡ true

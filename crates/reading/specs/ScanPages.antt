@@ -10,6 +10,6 @@ use Rattle.model.specs.Reading.{wasCurrent}
 
 -- the first waiting page of a place that was current after the first m merges
 unfoldable pub oldPage : Shape → View → ℕ → ℕ → Found
-oldPage S v m place =
-    let i = firstFrom (wasCurrent S v m place) (pagesOf S) 0 in
+oldPage S v m chunk =
+    let i = firstFrom (wasCurrent S v m chunk) (pagesOf S) 0 in
     cond (ltb i (pagesOf S)) (Found.At i) Found.Nothing

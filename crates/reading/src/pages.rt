@@ -44,16 +44,16 @@ pub fn current_page(mem: &[u8], s: Sizes, g: usize, c: u32) -> usize
 }
 
 // Whether page p waits, is of this place, and was current after the first `merges` merges.
-fn was_current(mem: &[u8], s: Sizes, merges: u32, place: usize, p: usize) -> bool
+fn was_current(mem: &[u8], s: Sizes, merges: u32, chunk: usize, p: usize) -> bool
     requires { ⌜ Suffices s (now mem) ⌝ }
     requires { ⌜ Proper s ⌝ }
     requires { ⌜ p < s .pages ⌝ }
-    ensures { λ r. ⌜ r ≡ wasCurrent (shapeIn s) (viewOf s (now (mem .entry))) merges place p ⌝ }
+    ensures { λ r. ⌜ r ≡ wasCurrent (shapeIn s) (viewOf s (now (mem .entry))) merges chunk p ⌝ }
 {
     if read(mem, s, Region::PageState, p) < PAGE_WAITING {
         return false;
     }
-    if read(mem, s, Region::PagePlace, p) as usize % s.places != place {
+    if read(mem, s, Region::PageChunk, p) as usize % s.chunks != chunk {
         return false;
     }
     if read(mem, s, Region::PageMade, p) > merges {
@@ -63,16 +63,16 @@ fn was_current(mem: &[u8], s: Sizes, merges: u32, place: usize, p: usize) -> boo
 }
 
 // The first waiting page of a place that was current after the first `merges` merges.
-fn old_page(mem: &[u8], s: Sizes, merges: u32, place: usize) -> Found
+fn old_page(mem: &[u8], s: Sizes, merges: u32, chunk: usize) -> Found
     requires { ⌜ Suffices s (now mem) ⌝ }
     requires { ⌜ Proper s ⌝ }
-    ensures { λ r. ⌜ r ≡ oldPage (shapeIn s) (viewOf s (now (mem .entry))) merges place ⌝ }
+    ensures { λ r. ⌜ r ≡ oldPage (shapeIn s) (viewOf s (now (mem .entry))) merges chunk ⌝ }
     ensures { λ r. ⌜ Inside r (s .pages) ⌝ }
 {
     let n = s.pages;
     let mut p = 0;
     while p < n {
-        if was_current(mem, s, merges, place, p) {
+        if was_current(mem, s, merges, chunk, p) {
             return Found::At(p);
         }
         p += 1;
@@ -92,8 +92,8 @@ pub fn scan_page(mem: &[u8], s: Sizes, merges: u32, g: usize, c: u32) -> usize
     if read(mem, s, Region::PageMade, current) <= merges {
         return current;
     }
-    let place = g * s.columns + c as usize;
-    let Found::At(p) = old_page(mem, s, merges, place) else {
+    let chunk = g * s.columns + c as usize;
+    let Found::At(p) = old_page(mem, s, merges, chunk) else {
         return current;
     };
     p

@@ -73,8 +73,8 @@ fn open_listed(mem: &mut [u8], scans: &mut [u8], t: Scans, a: u32) -> Answer
     let listed = open_scan(mem, t, Stamp(a));
     let answer = listed.answer;
     let entry = listed.entry;
-    let place = listed.index;
-    put_entry(scans, place, entry);
+    let index = listed.index;
+    put_entry(scans, index, entry);
     answer
 }
 
@@ -84,8 +84,8 @@ fn close_listed(mem: &[u8], scans: &mut [u8], t: Scans, a: u32) -> Answer
     let listed = close_scan(mem, t, a);
     let answer = listed.answer;
     let entry = listed.entry;
-    let place = listed.index;
-    put_entry(scans, place, entry);
+    let index = listed.index;
+    put_entry(scans, index, entry);
     answer
 }
 

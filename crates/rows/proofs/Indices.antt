@@ -4,7 +4,7 @@ use mathlib.Core.Path.{_≡_}
 use native.Mathlib.Omega.{arith}
 use native.Mathlib.Nat.{mul-le-mul, mul-le-mul-right, suc-mul, mul-comm}
 use lib.ListN.{getD}
-use Rattle.terms.specs.Measures.{mostPlaces, mostPages}
+use Rattle.terms.specs.Measures.{mostChunks, mostPages}
 use Rattle.layout.specs.declared.Sizes.{Sizes}
 use Rattle.layout.specs.declared.Region.the-variants.{RowLink}
 use Rattle.layout.specs.View.{View, rowsGiven, usedIn}
@@ -27,9 +27,9 @@ module _ (s : Sizes) (proper : Proper s) where
   pub stretch-in : (g n : ℕ) → g < s .ranges → n ≤ s .capacity → g * s .capacity + n ≤ s .slots
   stretch-in g n h l = omega (arith, proper .slots-are, mul-le-mul-right (s .capacity) h, suc-mul g (s .capacity))
 
-  pub places-few : (s .places ≤ mostPlaces) × (s .pages ≤ mostPages)
-  places-few =
-      let few : s .places ≤ mostPlaces = omega (arith, proper .places-are, mul-le-mul (proper .columns-to) (proper .ranges-to)) in
+  pub chunks-few : (s .chunks ≤ mostChunks) × (s .pages ≤ mostPages)
+  chunks-few =
+      let few : s .chunks ≤ mostChunks = omega (arith, proper .chunks-are, mul-le-mul (proper .columns-to) (proper .ranges-to)) in
       (few, omega (arith, proper .pages-are, proper .spares-to))
 
   pub values-few : s .values ≤ 131072
@@ -38,9 +38,9 @@ module _ (s : Sizes) (proper : Proper s) where
   pub value-in : (at c : ℕ) → at < s .slots → c < s .columns → at * s .columns + c < s .values
   value-in at c h l = omega (arith, proper .values-are, block-in at c (s .slots) (s .columns) h l)
 
-  pub place-in : (g c : ℕ) → g < s .ranges → c < s .columns → g * s .columns + c < s .places
-  place-in g c h l =
-      omega (arith, proper .places-are, mul-comm (s .columns) (s .ranges), block-in g c (s .ranges) (s .columns) h l)
+  pub chunk-in : (g c : ℕ) → g < s .ranges → c < s .columns → g * s .columns + c < s .chunks
+  chunk-in g c h l =
+      omega (arith, proper .chunks-are, mul-comm (s .columns) (s .ranges), block-in g c (s .ranges) (s .columns) h l)
 
   pub range-in : (r : ℕ) → r < s .rows → rangeOf r < s .ranges
   unfolding rangeOf

@@ -14,7 +14,7 @@ use Rattle.loops.specs.declared.Found.{Found}
 use Rattle.loops.specs.declared.Found.the-variants.{At, Nothing}
 use Rattle.loops.specs.Search.{allBetween, firstAt}
 use Rattle.loops.proofs.Search.{first-in, first-at}
-use Rattle.terms.specs.Places.{freeEntry, isScan, place}
+use Rattle.terms.specs.Places.{freeEntry, isScan, firstIndex}
 use Rattle.scans.specs.Places.{opened, openedAt, openCount, everyOpen, someOpen, among, differ}
 use Rattle.scans.specs.Table.{entries, tableOf, findIn, anyBelow}
 use Rattle.scans.proofs.Table.{at-length}
@@ -77,7 +77,7 @@ module _ (k n : ℕ) (nonzero : eqb k 0 ≡ false) where
 
   -- the place of k in a list that starts at place d, and its entry j
   abbrev Entry : ℕ → List ScanEntry → ℕ → Type 0
-  Entry d ps j = (place (isScan k) ps + d ≡ getD (openedAt d ps) j 0) × (getD ps (place (isScan k) ps) freeEntry ≡ getD (opened ps) j freeEntry) × (j < openCount ps)
+  Entry d ps j = (firstIndex (isScan k) ps + d ≡ getD (openedAt d ps) j 0) × (getD ps (firstIndex (isScan k) ps) freeEntry ≡ getD (opened ps) j freeEntry) × (j < openCount ps)
 
   found-place : (ps : List ScanEntry) (c d j : ℕ) → searched c ps ≡ At (c + j) → Entry d ps j
   found-place [] c d j e = let z : _≡_ {A = ℕ} 0 1 = cc (zeros-none k c n nonzero) in absurd (omega arith)
@@ -96,31 +96,31 @@ module _ (k n : ℕ) (nonzero : eqb k 0 ≡ false) where
           rw (o, q) (let t = later (c + 1) (suc d) i ((rw (o, q) at f) ∙ ap At (omega arith)) in (omega (arith, t .0), t .1, omega (arith, t .2)))
 
   -- and where none is found no place of the list bears k
-  found-none : (ps : List ScanEntry) (c : ℕ) → searched c ps ≡ Nothing → place (isScan k) ps ≡ length ps
+  found-none : (ps : List ScanEntry) (c : ℕ) → searched c ps ≡ Nothing → firstIndex (isScan k) ps ≡ length ps
   found-none [] c e = refl
   found-none (p ∷ ps) c e = go (eqb (p .number) 0) refl (eqb (p .number) k) refl (found-none ps)
     where
-      go : (o : Bool) → eqb (p .number) 0 ≡ o → (b : Bool) → eqb (p .number) k ≡ b → ((c : ℕ) → searched c ps ≡ Nothing → place (isScan k) ps ≡ length ps)
-          → place (isScan k) (p ∷ ps) ≡ suc (length ps)
+      go : (o : Bool) → eqb (p .number) 0 ≡ o → (b : Bool) → eqb (p .number) k ≡ b → ((c : ℕ) → searched c ps ≡ Nothing → firstIndex (isScan k) ps ≡ length ps)
+          → firstIndex (isScan k) (p ∷ ps) ≡ suc (length ps)
       go true o b q later = rw o (ap suc (later c (rw o at e)))
       go false o true q later = let f = rw (o, q) at e in let z : _≡_ {A = ℕ} 0 1 = cc in absurd (omega arith)
       go false o false q later = rw (o, q) (ap suc (later (c + 1) (rw (o, q) at e)))
 
 -- no place bears 0
-none-zero : (ps : List ScanEntry) → place (isScan 0) ps ≡ length ps
+none-zero : (ps : List ScanEntry) → firstIndex (isScan 0) ps ≡ length ps
 none-zero [] = refl
 none-zero (p ∷ ps) =
-    elim (eqb (p .number) 0) as (λ b. cond (not b && b) 0 (suc (place (isScan 0) ps)) ≡ suc (length ps)) [ true ↦ ap suc (none-zero ps) | false ↦ ap suc (none-zero ps) ]
+    elim (eqb (p .number) 0) as (λ b. cond (not b && b) 0 (suc (firstIndex (isScan 0) ps)) ≡ suc (length ps)) [ true ↦ ap suc (none-zero ps) | false ↦ ap suc (none-zero ps) ]
 
 -- ---- the answers of a table
 
 -- scan k stands at entry j of the table
 pub record Located (ps : List ScanEntry) (k j : ℕ) : Type 0 where
   pub entry : j < openCount ps
-  pub number-is : getD ps (place (isScan k) ps) freeEntry .number ≡ k
-  pub place-is : getD (tableOf ps .places) j 0 ≡ place (isScan k) ps
-  pub stamp-is : getD (tableOf ps .stamps) j 0 ≡ getD ps (place (isScan k) ps) freeEntry .stamp
-  pub merges-is : getD (tableOf ps .merges) j 0 ≡ getD ps (place (isScan k) ps) freeEntry .merges
+  pub number-is : getD ps (firstIndex (isScan k) ps) freeEntry .number ≡ k
+  pub place-is : getD (tableOf ps .places) j 0 ≡ firstIndex (isScan k) ps
+  pub stamp-is : getD (tableOf ps .stamps) j 0 ≡ getD ps (firstIndex (isScan k) ps) freeEntry .stamp
+  pub merges-is : getD (tableOf ps .merges) j 0 ≡ getD ps (firstIndex (isScan k) ps) freeEntry .merges
 
 module _ (ps : List ScanEntry) (few : openCount ps ≤ mostScans) where
   field-entries : (f : ScanEntry → ℕ) → entries (map f (opened ps)) ≡ map f (opened ps) ++ replicate (mostScans - openCount ps) 0
@@ -170,10 +170,10 @@ module _ (ps : List ScanEntry) (few : openCount ps ≤ mostScans) where
             }
       ] refl e
 
-  pub table-lacks : (k : ℕ) → findIn (tableOf ps) k ≡ Nothing → place (isScan k) ps ≡ length ps
+  pub table-lacks : (k : ℕ) → findIn (tableOf ps) k ≡ Nothing → firstIndex (isScan k) ps ≡ length ps
   unfolding findIn tableOf
   table-lacks k e =
-      elim (eqb k 0) as (λ b. eqb k 0 ≡ b → cond b Nothing (firstAt k 0 (tableOf ps .numbers)) ≡ Nothing → place (isScan k) ps ≡ length ps) [
+      elim (eqb k 0) as (λ b. eqb k 0 ≡ b → cond b Nothing (firstAt k 0 (tableOf ps .numbers)) ≡ Nothing → firstIndex (isScan k) ps ≡ length ps) [
         | true ↦ λ q f. let z : k ≡ 0 = eqb-true k 0 q in rw z (none-zero ps)
         | false ↦ λ q f. found-none k (mostScans - openCount ps) q ps 0 (rw (field-entries (λ p. p .number)) at f)
       ] refl e

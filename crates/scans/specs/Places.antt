@@ -5,13 +5,13 @@ use mathlib.Core.List.{List, [], _∷_}
 use lib.Dec.{eqb}
 use lib.ListN.{length, replicate}
 use Rattle.terms.specs.declared.ScanEntry.{ScanEntry}
-use Rattle.terms.specs.Places.{freeEntry, place}
+use Rattle.terms.specs.Places.{freeEntry, firstIndex}
 
 abbrev pub isOpen : ScanEntry → Bool
 isOpen p = not (eqb (p .number) 0)
 
 abbrev pub firstFree : List ScanEntry → ℕ
-firstFree ps = place (λ p. eqb (p .number) 0) ps
+firstFree ps = firstIndex (λ p. eqb (p .number) 0) ps
 
 -- the open scans, in the order of the list, and their places, the first of the list being number k
 abbrev pub opened : List ScanEntry → List ScanEntry

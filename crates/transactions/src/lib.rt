@@ -30,7 +30,7 @@ ghost use Rattle.loops.specs.Search.{foundAt};
 ghost use Rattle.layout.specs.declared.Region.{Region};
 ghost use Rattle.layout.specs.Regions.{index, len};
 ghost use Rattle.layout.specs.View.{transactionsGiven, usedIn, viewOf, Suffices};
-ghost use Rattle.terms.specs.Places.{place};
+ghost use Rattle.terms.specs.Places.{firstIndex};
 ghost use Rattle.model.specs.Writing.{begun, settled, committedIn, abortedIn};
 ghost use Rattle.layout.specs.Sizes.{Proper};
 ghost use Rattle.model.specs.Asked.{shapeIn, Counted, FreeAt, OpenAt};
@@ -39,7 +39,7 @@ ghost use Rattle.transactions.specs.Steps.{notedAt, tailMarked, tailsMar
 // The first free place for an open transaction.
 pub fn free_index(mem: &[u8], s: Sizes) -> Found
     requires { ⌜ Suffices s (now mem) ⌝ }
-    ensures { λ r. ⌜ r ≡ foundAt mostTransactions (place (λ k. eqb k 0) (viewOf s (now (mem .entry)) Region.Opens)) ⌝ }
+    ensures { λ r. ⌜ r ≡ foundAt mostTransactions (firstIndex (λ k. eqb k 0) (viewOf s (now (mem .entry)) Region.Opens)) ⌝ }
 {
     find_in(mem, s, Region::Opens, 0, MOST_TRANSACTIONS, 0)
 }

@@ -74,23 +74,23 @@ pub fn free_record() -> Pending
 }
 
 // The record at a place of Opens.
-pub fn pending_at(mem: &[u8], s: Sizes, place: usize) -> Pending
+pub fn pending_at(mem: &[u8], s: Sizes, index: usize) -> Pending
     requires { ⌜ Suffices s (now mem) ⌝ }
-    requires { ⌜ place < mostTransactions ⌝ }
-    ensures { λ r. ⌜ r ≡ pendingAt (viewOf s (now (mem .entry))) place ⌝ }
+    requires { ⌜ index < mostTransactions ⌝ }
+    ensures { λ r. ⌜ r ≡ pendingAt (viewOf s (now (mem .entry))) index ⌝ }
 {
     Pending {
-        number: Transaction(read(mem, s, Region::Opens, place)),
-        changes: read(mem, s, Region::Changes, place),
+        number: Transaction(read(mem, s, Region::Opens, index)),
+        changes: read(mem, s, Region::Changes, index),
     }
 }
 
 // A record into a place of Opens.
-pub fn keep(mem: &mut [u8], s: Sizes, place: usize, p: Pending)
+pub fn keep(mem: &mut [u8], s: Sizes, index: usize, p: Pending)
     requires { ⌜ Suffices s (now mem) ⌝ }
-    requires { ⌜ place < mostTransactions ⌝ }
-    ensures { λ _. ⌜ viewOf s (now (mem .exit)) ≡ kept place p (viewOf s (now (mem .entry))) ⌝ }
+    requires { ⌜ index < mostTransactions ⌝ }
+    ensures { λ _. ⌜ viewOf s (now (mem .exit)) ≡ kept index p (viewOf s (now (mem .entry))) ⌝ }
 {
-    write(mem, s, Region::Opens, place, p.number.0);
-    write(mem, s, Region::Changes, place, p.changes);
+    write(mem, s, Region::Opens, index, p.number.0);
+    write(mem, s, Region::Changes, index, p.changes);
 }

@@ -11,7 +11,7 @@ use borrow.Author.Tests.{le-leb, lt-leb}
 use Rattle.terms.specs.Measures.{mostScans}
 use Rattle.terms.specs.declared.ScanEntry.{ScanEntry}
 use Rattle.terms.specs.declared.Answer.{Answer}
-use Rattle.terms.specs.Places.{place, freeEntry, isScan}
+use Rattle.terms.specs.Places.{firstIndex, freeEntry, isScan}
 use Rattle.loops.specs.declared.Found.the-variants.{At}
 use Rattle.layout.specs.View.{View, scansGiven, mergesMade}
 use Rattle.history.specs.History.{Call, count}
@@ -47,7 +47,7 @@ module _ (t : Scans) (ps : List ScanEntry) (q : t ≡ tableOf ps) where
   pub some-free : openCount ps ≤ mostScans → t .count < mostScans → leb mostScans (count (λ p. not (eqb (p .number) 0)) ps) ≡ false
   some-free few h = rw (← counted few) (lt-leb mostScans (t .count) h)
 
-  pub free-is : t .free ≡ place (λ p. eqb (p .number) 0) ps
+  pub free-is : t .free ≡ firstIndex (λ p. eqb (p .number) 0) ps
   unfolding tableOf
   free-is = ap (λ (x : Scans). x .free) q
 
@@ -71,5 +71,5 @@ module _ (t : Scans) (ps : List ScanEntry) (q : t ≡ tableOf ps) (v : View) whe
   pub closed-list : (k j : ℕ) → openCount ps ≤ mostScans → findIn t k ≡ At j → set ps (getD (t .places) j 0) freeEntry ≡ entriesAfter v ps (Call.close k)
   unfolding entriesAfter
   closed-list k j few g =
-      let i : getD (t .places) j 0 ≡ place (isScan k) ps = ap (λ (x : Scans). getD (x .places) j 0) q ∙ sym (scan-at k ps few j (in-table t ps q k (At j) g)) in
+      let i : getD (t .places) j 0 ≡ firstIndex (isScan k) ps = ap (λ (x : Scans). getD (x .places) j 0) q ∙ sym (scan-at k ps few j (in-table t ps q k (At j) g)) in
       rw i

@@ -38,7 +38,7 @@ found-none n i e = go (ltb i n) refl e
 
 module _ (s : Sizes) (v : View) (p : Proper s) where
   pages : s .pages ≡ pagesOf (shapeIn s)
-  pages = omega (arith, p .pages-are, p .places-are)
+  pages = omega (arith, p .pages-are, p .chunks-are)
 
   pub no-page : foundAt (s .pages) (freeIn (shapeIn s) v) ≡ Found.Nothing → leb (pagesOf (shapeIn s)) (freeIn (shapeIn s) v) ≡ true
   no-page e =

@@ -25,7 +25,7 @@ use Rattle.words.proofs.Words.{length-words}
 use Rattle.layout.specs.Regions.{rowsAt, slot}
 use Rattle.layout.specs.View.{View, renew, put, rowsGiven, usedIn, viewOf, Suffices}
 use Rattle.layout.proofs.View.{view-long}
-use Rattle.model.specs.Stored.{openPlace, rowIn, cellIn, currentIn}
+use Rattle.model.specs.Stored.{openIndex, rowIn, cellIn, currentIn}
 use Rattle.layout.specs.Codes.{asOriginal, asDelete}
 use Rattle.model.specs.Writing.{noted, putCells, nextSlot, appended, filledIn, newBits, newBitsIn, recordsWanted, originalAppended, settingAppended, updatedIn, insertedIn, insertedAt, deletedIn}
 use Rattle.layout.specs.Sizes.{Proper}
@@ -37,7 +37,7 @@ use Rattle.writing.specs.Steps.{rowPut, cellsPut, recordPut, cellWords, 
 
 -- a note at the place of t, after a step that left the open transactions as they were
 noted-at : (v w : View) (t j : ℕ) → OpenAt v t j → w Region.Opens ≡ v Region.Opens → notedAt j w ≡ noted t w
-unfolding notedAt noted openPlace
+unfolding notedAt noted openIndex
 noted-at v w t j o e = rw (e, ← o .found)
 
 -- ---- the loop that puts a row's values into the current pages

@@ -46,12 +46,12 @@ fn put_row(mem: &mut [u8], s: Sizes, t: Transaction, row: Row)
 }
 
 // The value of a column into a place of a range's current page.
-fn put_cell(mem: &mut [u8], s: Sizes, place: usize, i: usize, w: u32)
+fn put_cell(mem: &mut [u8], s: Sizes, chunk: usize, i: usize, w: u32)
     requires { ⌜ Suffices s (now mem) ⌝ }
-    requires { ⌜ (place < s .places) × (i < rangeRows) × (getD (viewOf s (now mem) Region.Current) place 0 < s .pages) ⌝ }
-    ensures { λ _. ⌜ viewOf s (now (mem .exit)) ≡ put Region.Cells (getD (viewOf s (now (mem .entry)) Region.Current) place 0 * rangeRows + i) w (viewOf s (now (mem .entry))) ⌝ }
+    requires { ⌜ (chunk < s .chunks) × (i < rangeRows) × (getD (viewOf s (now mem) Region.Current) chunk 0 < s .pages) ⌝ }
+    ensures { λ _. ⌜ viewOf s (now (mem .exit)) ≡ put Region.Cells (getD (viewOf s (now (mem .entry)) Region.Current) chunk 0 * rangeRows + i) w (viewOf s (now (mem .entry))) ⌝ }
 {
-    let page = read(mem, s, Region::Current, place) as usize;
+    let page = read(mem, s, Region::Current, chunk) as usize;
     write(mem, s, Region::Cells, page * RANGE_ROWS + i, w);
 }
 
@@ -142,12 +142,12 @@ fn newest_values(mem: &[u8], s: Sizes, g: usize) -> usize
 }
 
 // The word of a column in place i of a range's current page.
-fn cell_word(mem: &[u8], s: Sizes, place: usize, i: usize) -> u32
+fn cell_word(mem: &[u8], s: Sizes, chunk: usize, i: usize) -> u32
     requires { ⌜ Suffices s (now mem) ⌝ }
-    requires { ⌜ (place < s .places) × (i < rangeRows) × (getD (viewOf s (now mem) Region.Current) place 0 < s .pages) ⌝ }
-    ensures { λ r. ⌜ r ≡ getD (viewOf s (now (mem .entry)) Region.Cells) (getD (viewOf s (now (mem .entry)) Region.Current) place 0 * rangeRows + i) 0 ⌝ }
+    requires { ⌜ (chunk < s .chunks) × (i < rangeRows) × (getD (viewOf s (now mem) Region.Current) chunk 0 < s .pages) ⌝ }
+    ensures { λ r. ⌜ r ≡ getD (viewOf s (now (mem .entry)) Region.Cells) (getD (viewOf s (now (mem .entry)) Region.Current) chunk 0 * rangeRows + i) 0 ⌝ }
 {
-    let page = read(mem, s, Region::Current, place) as usize;
+    let page = read(mem, s, Region::Current, chunk) as usize;
     read(mem, s, Region::Cells, page * RANGE_ROWS + i)
 }
 

@@ -15,19 +15,19 @@ there : (c : tie.After-g)
     RowFound (viewOf (a .s) (a .mem .now)) (a .t .0) (a .row .0) (found .at .given .0 .0) (c .g .given .0 .0)
 there c =
     let found : tie.After-at = search in
-    let look = found .before .before .open-place in
+    let look = found .before .before .open-index in
     row-found _ _ _ (look .ensures .0) _ _ (c .before .before .given-range .ensures) _ (found .at .given .1) _ (look .ensures .1) (c .g .given .1)
 
 returns : tie.Need-returns
 unfolding Tests testsIn
-returns c = (λ ps. fails-open _ _ _ (c .before .before .open-place .ensures .0) _ (c .enum-told .given .1), tt)
+returns c = (λ ps. fails-open _ _ _ (c .before .before .open-index .ensures .0) _ (c .enum-told .given .1), tt)
 
 returns-2 : tie.Need-returns-2
 unfolding Tests testsIn
 returns-2 c =
     let row : tie.After-given-range = search in
     let found : tie.After-at = search in
-    (λ ps. fails-given _ _ _ (found .before .before .open-place .ensures .0) _ _ (row .given-range .ensures) _ (found .at .given .1) _ (c .enum-told2 .given .1), tt)
+    (λ ps. fails-given _ _ _ (found .before .before .open-index .ensures .0) _ _ (row .given-range .ensures) _ (found .at .given .1) _ (c .enum-told2 .given .1), tt)
 
 append-tests-requires : tie.Need-append-tests-requires
 append-tests-requires c κs =

@@ -6,7 +6,7 @@ use mir.Syntax.{w32, w64}
 use mir.Val.{Fits}
 use mathlib.Core.Path.{sym, _∙_}
 use Rattle.terms.specs.Measures.{rangeRows}
-use Rattle.rows.proofs.Indices.{places-few, values-few, value-in}
+use Rattle.rows.proofs.Indices.{chunks-few, values-few, value-in}
 use Rattle.merging.proofs.Pass.{one-applied, one-later, one-skipped, one-kept}
 use Rattle.merging.proofs.apply_one.Statement.{statement}
 use Rattle.merging.proofs.apply_one.Tie as tie
@@ -21,7 +21,7 @@ inside c =
     let p = c .pre .1 .0 in
     let i = value-in _ p _ _ (c .pre .1 .1 .0) (c .pre .1 .1 .1) in
     let values = values-few _ p in
-    let pages = places-few _ p .1 in
+    let pages = chunks-few _ p .1 in
     (omega (arith, p .columns-to), omega arith, omega arith, i, omega arith, λ r. (omega arith, omega arith))
 
 -- where the function begins, and the branch from the place where the value is read

@@ -17,7 +17,7 @@ is-stray-spec =
     let two = c .before .before in
     let test = two .before in
     let start = test .before .before .before in
-    stray-high _ _ _ _ (test .before .read .ensures) (test .if1 .left) _ (two .read2 .ensures) (omega (arith, start .pre .1 .0 .places-are)))
+    stray-high _ _ _ _ (test .before .read .ensures) (test .if1 .left) _ (two .read2 .ensures) (omega (arith, start .pre .1 .0 .chunks-are)))
     (λ c κs. search needs)
     (λ c. search needs)
     (λ c.
@@ -25,4 +25,4 @@ is-stray-spec =
     let two = last .before .before in
     let test = two .before in
     let start = test .before .before .before in
-    stray-other _ _ _ _ (test .before .read .ensures) (test .if1 .left) _ (two .read2 .ensures) _ (omega (arith, start .pre .1 .0 .places-are, last .if2 .left)) (c .read3 .ensures)))
+    stray-other _ _ _ _ (test .before .read .ensures) (test .if1 .left) _ (two .read2 .ensures) _ (omega (arith, start .pre .1 .0 .chunks-are, last .if2 .left)) (c .read3 .ensures)))

@@ -7,7 +7,7 @@ use mir.Val.{Fits}
 use mathlib.Core.Path.{_≡_, ap, _∙_}
 use Rattle.terms.specs.Measures.{rangeRows}
 use Rattle.model.specs.Stored.{nextWord}
-use Rattle.rows.proofs.Indices.{places-few, place-in}
+use Rattle.rows.proofs.Indices.{chunks-few, chunk-in}
 use Rattle.merging.proofs.Pass.{merged-is, not-free, reaches, apart}
 use Rattle.merging.proofs.merge.Statement.{statement}
 use Rattle.merging.proofs.merge.Tie as tie
@@ -15,13 +15,13 @@ use Rattle.merging.proofs.merge.Tie as tie
 -- the place of the range and column is there, and places and pages are few; said here, where little is known, so that each need finds it at once
 inside : (c : tie.Start)
     → let a = c .args in
-    let place = a .g * a .s .columns + a .c in
-    (place < a .s .places) × Fits w64 (a .g * a .s .columns) × Fits w64 place × Fits w32 place × Fits w64 (a .page * rangeRows) × Fits w32 (a .page)
+    let chunk = a .g * a .s .columns + a .c in
+    (chunk < a .s .chunks) × Fits w64 (a .g * a .s .columns) × Fits w64 chunk × Fits w32 chunk × Fits w64 (a .page * rangeRows) × Fits w32 (a .page)
 inside c =
     let p = c .pre .1 .0 .0 in
     let m = c .pre .1 .1 in
-    let i = place-in _ p _ _ (m .range-below) (m .column-below) in
-    let few = places-few _ p in
+    let i = chunk-in _ p _ _ (m .range-below) (m .column-below) in
+    let few = chunks-few _ p in
     let page = m .page-below in
     (i, omega arith, omega arith, omega arith, omega arith, omega arith)
 

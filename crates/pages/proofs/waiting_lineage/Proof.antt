@@ -6,7 +6,7 @@ use mathlib.Core.Path.{_≡_, ap, _∙_}
 use borrow.Author.Tests.{lt-ltb, le-ltb}
 use Rattle.layout.specs.View.{viewOf}
 use Rattle.facts.specs.Facts.{pageRange, waitingAtMost, waitingLineage}
-use Rattle.layout.proofs.Indices.{place-range, places-few, places-some}
+use Rattle.layout.proofs.Indices.{chunk-range, chunks-few, chunks-some}
 use Rattle.pages.proofs.waiting_lineage.Statement.{statement}
 use Rattle.pages.proofs.waiting_lineage.Tie as tie
 
@@ -18,31 +18,31 @@ returns c = rw (← c .before .read .ensures, lt-ltb _ _ (c .if1 .taken))
 abbrev start : tie.After-struct-known → tie.Start
 start c = let waits = c .before .before in waits .before .before .before
 
-modulo-places-requires : tie.Need-modulo-places-requires
-modulo-places-requires c κs = let s = start c in omega (arith, places-some (s .args .s) (s .pre .0 .proper))
+modulo-chunks-requires : tie.Need-modulo-chunks-requires
+modulo-chunks-requires c κs = let s = start c in omega (arith, chunks-some (s .args .s) (s .pre .0 .proper))
 
-range-of-place-requires : tie.Need-range-of-place-requires
-range-of-place-requires c κs =
+range-of-chunk-requires : tie.Need-range-of-chunk-requires
+range-of-chunk-requires c κs =
     let s = start (c .before) in
-    (omega (arith, places-few (s .args .s) (s .pre .0 .proper), c .modulo-places .ensures .1), s .pre .1 .2)
+    (omega (arith, chunks-few (s .args .s) (s .pre .0 .proper), c .modulo-chunks .ensures .1), s .pre .1 .2)
 
 -- the range of the page's place
-range-is : (c : tie.After-range-of-place) → let a = start (c .before .before) .args in c .range-of-place .result ≡ pageRange (a .s) (viewOf (a .s) (a .mem .now)) (a .p)
+range-is : (c : tie.After-range-of-chunk) → let a = start (c .before .before) .args in c .range-of-chunk .result ≡ pageRange (a .s) (viewOf (a .s) (a .mem .now)) (a .p)
 range-is c =
-    let place = c .before in
-    let s = start (place .before) in
+    let chunk = c .before in
+    let s = start (chunk .before) in
     let z = s .args .s in
-    c .range-of-place .ensures (z .columns) (s .pre .0 .proper .columns-from) (s .pre .0 .proper .columns-to) (s .pre .1 .1)
-    ∙ ap (λ (x : ℕ). x / z .columns) (place .modulo-places .ensures .0 ∙ ap (λ (x : ℕ). x % z .places) (place .before .before .read2 .ensures))
+    c .range-of-chunk .ensures (z .columns) (s .pre .0 .proper .columns-from) (s .pre .0 .proper .columns-to) (s .pre .1 .1)
+    ∙ ap (λ (x : ℕ). x / z .columns) (chunk .modulo-chunks .ensures .0 ∙ ap (λ (x : ℕ). x % z .chunks) (chunk .before .before .read2 .ensures))
 
 read-requires-3 : tie.Need-read-requires-3
 read-requires-3 c κs =
-    let place = c .before in
-    let s = start (place .before) in
+    let chunk = c .before in
+    let s = start (chunk .before) in
     let z = s .args .s in
     let proper = s .pre .0 .proper in
-    let r : c .range-of-place .result ≡ place .modulo-places .result / z .columns = c .range-of-place .ensures (z .columns) (proper .columns-from) (proper .columns-to) (s .pre .1 .1) in
-    (s .pre .0 .room, rw r (place-range z proper (place .modulo-places .result) (place .modulo-places .ensures .1)))
+    let r : c .range-of-chunk .result ≡ chunk .modulo-chunks .result / z .columns = c .range-of-chunk .ensures (z .columns) (proper .columns-from) (proper .columns-to) (s .pre .1 .1) in
+    (s .pre .0 .room, rw r (chunk-range z proper (chunk .modulo-chunks .result) (chunk .modulo-chunks .ensures .1)))
 
 returns-2 : tie.Need-returns-2
 unfolding waitingLineage waitingAtMost
@@ -61,8 +61,8 @@ waiting-lineage-spec =
     returns
     (λ c κs. search needs)
     (λ c. search needs)
-    modulo-places-requires
-    range-of-place-requires
+    modulo-chunks-requires
+    range-of-chunk-requires
     read-requires-3
     (λ c κs. search needs)
     returns-2)

@@ -1,7 +1,7 @@
 -- `transactions::abort` meets its contract: the number that the record hands back is that of the transaction open at the place.
 use borrow.Author.Needs.{needs}
 use Rattle.layout.specs.View.{renew}
-use Rattle.model.specs.Stored.{openPlace}
+use Rattle.model.specs.Stored.{openIndex}
 use Rattle.model.specs.Writing.{settled, freed, abortedIn}
 use Rattle.transactions.specs.Pending.{kept}
 use Rattle.transactions.proofs.Number.{number-there}
@@ -9,7 +9,7 @@ use Rattle.transactions.proofs.abort.Statement.{statement}
 use Rattle.transactions.proofs.abort.Tie as tie
 
 returns : tie.Need-returns
-unfolding abortedIn freed settled openPlace renew kept
+unfolding abortedIn freed settled openIndex renew kept
 returns c =
     let keeping = c .before .before in
     let record-at = keeping .before in

@@ -7,7 +7,7 @@ use lib.ListN.{length}
 use Rattle.layout.specs.Regions.{need}
 use Rattle.layout.specs.View.{viewOf}
 use Rattle.model.specs.Asked.{shapeIn}
-use Rattle.layout.proofs.Indices.{places-in, sizes-need}
+use Rattle.layout.proofs.Indices.{chunks-in, sizes-need}
 use Rattle.writing.specs.Steps.{cellWords}
 use Rattle.writing.proofs.Steps.{fillsTo, fills-none, fills-next, fills-all, fills-current, fills-cell}
 use Rattle.writing.proofs.fill_cells.Statement.{statement}
@@ -28,8 +28,8 @@ abbrev head : tie.After-write-arg Inv-loop μ-loop → tie.At-loop Inv-loop μ-l
 head c = c .before .before .before .before
 
 -- the range's current pages lie among the places
-inside : (c : tie.Start Inv-loop μ-loop) → let a = c .args in (a .g * a .s .columns + a .s .columns ≤ a .s .places) × (a .s .places + a .s .values ≤ need (a .s))
-inside c = let a = c .args in (places-in (a .s) (c .pre .1 .0 .0) (a .g) (c .pre .1 .1 .0 .range-below), omega (arith, sizes-need (a .s)))
+inside : (c : tie.Start Inv-loop μ-loop) → let a = c .args in (a .g * a .s .columns + a .s .columns ≤ a .s .chunks) × (a .s .chunks + a .s .values ≤ need (a .s))
+inside c = let a = c .args in (chunks-in (a .s) (c .pre .1 .0 .0) (a .g) (c .pre .1 .1 .0 .range-below), omega (arith, sizes-need (a .s)))
 
 cell-word-requires : tie.Need-cell-word-requires Inv-loop μ-loop
 cell-word-requires c κs =

@@ -9,7 +9,7 @@ use Rattle.terms.specs.Measures.{mostColumns}
 use Rattle.layout.specs.Regions.{need}
 use Rattle.layout.specs.View.{viewOf}
 use Rattle.model.specs.Asked.{shapeIn}
-use Rattle.layout.proofs.Indices.{places-in, sizes-need}
+use Rattle.layout.proofs.Indices.{chunks-in, sizes-need}
 use Rattle.writing.proofs.Steps.{cellsTo, cells-none, cells-current, cells-next, cells-all, word-of}
 use Rattle.writing.proofs.put_cells.Statement.{statement}
 use Rattle.writing.proofs.put_cells.Tie as tie
@@ -26,8 +26,8 @@ abbrev head : tie.After-to-word Inv-loop μ-loop → tie.At-loop Inv-loop μ-loo
 head c = c .before .before .before .before
 
 -- the range's current pages lie among the places
-inside : (c : tie.Start Inv-loop μ-loop) → let a = c .args in (a .g * a .s .columns + a .s .columns ≤ a .s .places) × (a .s .places ≤ need (a .s)) × (a .s .columns ≤ mostColumns)
-inside c = let a = c .args in (places-in (a .s) (c .pre .1 .0 .0) (a .g) (c .pre .1 .1 .0), omega (arith, sizes-need (a .s)), c .pre .1 .0 .0 .columns-to)
+inside : (c : tie.Start Inv-loop μ-loop) → let a = c .args in (a .g * a .s .columns + a .s .columns ≤ a .s .chunks) × (a .s .chunks ≤ need (a .s)) × (a .s .columns ≤ mostColumns)
+inside c = let a = c .args in (chunks-in (a .s) (c .pre .1 .0 .0) (a .g) (c .pre .1 .1 .0), omega (arith, sizes-need (a .s)), c .pre .1 .0 .0 .columns-to)
 
 put-cell-requires : tie.Need-put-cell-requires Inv-loop μ-loop
 put-cell-requires c κs =

@@ -9,7 +9,7 @@ use Rattle.scans.proofs.Table.{table-length}
 use Rattle.facts.specs.Usable.{storedShape, storedSizes}
 use Rattle.pages.specs.declared.check.Checked.the-variants.{Fit}
 use Rattle.pages.specs.Checked.{measured}
-use Rattle.pages.proofs.Answers.{Measured, measured-tells, unmeasured, few-places, by-facts}
+use Rattle.pages.proofs.Answers.{Measured, measured-tells, unmeasured, few-chunks, by-facts}
 use Rattle.pages.proofs.check.check.Statement.{statement}
 use Rattle.pages.proofs.check.check.Tie as tie
 
@@ -34,7 +34,7 @@ returns : tie.Need-returns
 returns c = let call = c .before .before in (λ ps e. unmeasured (call .before .before .args .mem .now) ps (sym (call .measure .ensures) ∙ c .enum-told .given .1), tt)
 
 returns-2 : tie.Need-returns-2
-returns-2 c = (λ ps e. few-places _ ps _ (found (c .before)) (rw (table-length _ ps e) at (c .if1 .taken)), tt)
+returns-2 c = (λ ps e. few-chunks _ ps _ (found (c .before)) (rw (table-length _ ps e) at (c .if1 .taken)), tt)
 
 returns-3 : tie.Need-returns-3
 returns-3 c =

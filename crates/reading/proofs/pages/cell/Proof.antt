@@ -1,7 +1,7 @@
 -- `reading::pages::cell` meets its contract.
 use native.Mathlib.Omega.{arith}
 use Rattle.model.specs.Stored.{cellIn}
-use Rattle.rows.proofs.Indices.{places-few}
+use Rattle.rows.proofs.Indices.{chunks-few}
 use borrow.Author.Needs.{needs}
 use Rattle.reading.proofs.pages.cell.Statement.{statement}
 use Rattle.reading.proofs.pages.cell.Tie as tie
@@ -14,8 +14,8 @@ pub cell-spec : {M : Type 1} → statement M
 cell-spec =
     tie.close
     (tie.spec
-    (λ c. omega (arith, places-few _ (c .before .pre .1 .0)))
+    (λ c. omega (arith, chunks-few _ (c .before .pre .1 .0)))
     (λ c. search needs)
-    (λ c. omega (arith, places-few _ (c .before .before .pre .1 .0)))
+    (λ c. omega (arith, chunks-few _ (c .before .before .pre .1 .0)))
     (λ c κs. search needs)
     returns)

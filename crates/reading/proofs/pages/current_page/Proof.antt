@@ -1,17 +1,17 @@
 -- `reading::pages::current_page` meets its contract.
 use Prim.Native.Nat.{_+_, _*_, _≤_, _<_}
 use native.Mathlib.Omega.{arith}
-use Rattle.terms.specs.Measures.{mostPlaces}
+use Rattle.terms.specs.Measures.{mostChunks}
 use Rattle.model.specs.Stored.{currentIn}
-use Rattle.rows.proofs.Indices.{places-few, place-in}
+use Rattle.rows.proofs.Indices.{chunks-few, chunk-in}
 use borrow.Author.Needs.{needs}
 use Rattle.reading.proofs.pages.current_page.Statement.{statement}
 use Rattle.reading.proofs.pages.current_page.Tie as tie
 
-inside : (c : tie.Start) → let a = c .args in (a .g * a .s .columns + a .c < a .s .places) × (a .s .places ≤ mostPlaces)
+inside : (c : tie.Start) → let a = c .args in (a .g * a .s .columns + a .c < a .s .chunks) × (a .s .chunks ≤ mostChunks)
 inside c =
     let proper = c .pre .1 .0 in
-    (place-in _ proper _ _ (c .pre .1 .1 .1 .0) (c .pre .1 .1 .1 .1), places-few _ proper .0)
+    (chunk-in _ proper _ _ (c .pre .1 .1 .1 .0) (c .pre .1 .1 .1 .1), chunks-few _ proper .0)
 
 returns : tie.Need-returns
 unfolding currentIn

@@ -13,12 +13,12 @@ use Rattle.reading.proofs.pages.old_page.Statement.{statement}
 use Rattle.reading.proofs.pages.old_page.Tie as tie
 
 abbrev Inv-loop : tie.InvT-loop
-Inv-loop mem s merges place n p₀ p =
-    let f = wasCurrent (shapeIn s) (viewOf s mem) merges place in
+Inv-loop mem s merges chunk n p₀ p =
+    let f = wasCurrent (shapeIn s) (viewOf s mem) merges chunk in
     (p ≤ n) × (firstFrom f n 0 ≡ firstFrom f (n - p) p)
 
 abbrev μ-loop : tie.MeasureT-loop
-μ-loop mem s merges place n p₀ p = n - p
+μ-loop mem s merges chunk n p₀ p = n - p
 
 loop-holds : tie.Need-loop-holds Inv-loop μ-loop
 loop-holds c = (omega arith, simp sub-zero)

@@ -2,16 +2,16 @@
 use Prim.Native.Nat.{_+_, _*_, _≤_, _<_}
 use native.Mathlib.Omega.{arith}
 use Rattle.rows.proofs.Cases.{found-inside}
-use Rattle.rows.proofs.Indices.{places-few, place-in}
+use Rattle.rows.proofs.Indices.{chunks-few, chunk-in}
 use Rattle.reading.proofs.ScanPages.{scan-current, scan-old, scan-none}
 use borrow.Author.Needs.{needs}
 use Rattle.reading.proofs.pages.scan_page.Statement.{statement}
 use Rattle.reading.proofs.pages.scan_page.Tie as tie
 
-inside : (c : tie.Start) → let a = c .args in (a .g * a .s .columns + a .c < a .s .places) × (a .s .places ≤ 256)
+inside : (c : tie.Start) → let a = c .args in (a .g * a .s .columns + a .c < a .s .chunks) × (a .s .chunks ≤ 256)
 inside c =
     let proper = c .pre .1 .0 in
-    (place-in _ proper _ _ (c .pre .1 .1 .1 .0) (c .pre .1 .1 .1 .1), places-few _ proper .0)
+    (chunk-in _ proper _ _ (c .pre .1 .1 .1 .0) (c .pre .1 .1 .1 .1), chunks-few _ proper .0)
 
 pub scan-page-spec : {M : Type 1} → statement M
 scan-page-spec =

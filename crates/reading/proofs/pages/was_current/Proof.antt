@@ -1,12 +1,12 @@
 -- `reading::pages::was_current` meets its contract.
 use native.Mathlib.Omega.{arith}
-use Rattle.reading.proofs.ScanPages.{places-some, not-waiting, elsewhere, made-later, made-before}
+use Rattle.reading.proofs.ScanPages.{chunks-some, not-waiting, elsewhere, made-later, made-before}
 use borrow.Author.Needs.{needs}
 use Rattle.reading.proofs.pages.was_current.Statement.{statement}
 use Rattle.reading.proofs.pages.was_current.Tie as tie
 
 rem-if2 : tie.Need-rem-if2
-rem-if2 c = let start : tie.Start = search in omega (arith, places-some _ (start .pre .1 .0))
+rem-if2 c = let start : tie.Start = search in omega (arith, chunks-some _ (start .pre .1 .0))
 
 pub was-current-spec : {M : Type 1} → statement M
 was-current-spec =

@@ -1,12 +1,12 @@
--- `pages::modulo_places` meets its contract.
+-- `pages::modulo_chunks` meets its contract.
 use mathlib.Core.Path.{refl, sym}
 use native.Mathlib.Nat.{mod-eq-of-lt, mod-lt}
 use borrow.Author.Needs.{needs}
-use Rattle.pages.proofs.modulo_places.Statement.{statement}
-use Rattle.pages.proofs.modulo_places.Tie as tie
+use Rattle.pages.proofs.modulo_chunks.Statement.{statement}
+use Rattle.pages.proofs.modulo_chunks.Tie as tie
 
-pub modulo-places-spec : {M : Type 1} → statement M
-modulo-places-spec =
+pub modulo-chunks-spec : {M : Type 1} → statement M
+modulo-chunks-spec =
     tie.close
     (tie.spec
     (λ c. search needs)

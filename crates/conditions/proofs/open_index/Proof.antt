@@ -1,8 +1,8 @@
--- `conditions::open_place` meets its contract.
+-- `conditions::open_index` meets its contract.
 use Rattle.conditions.proofs.Opens.{open-none, open-found}
 use borrow.Author.Needs.{needs}
-use Rattle.conditions.proofs.open_place.Statement.{statement}
-use Rattle.conditions.proofs.open_place.Tie as tie
+use Rattle.conditions.proofs.open_index.Statement.{statement}
+use Rattle.conditions.proofs.open_index.Tie as tie
 
 returns : tie.Need-returns
 returns c = (open-none _ _ _ (c .if1 .taken), tt)
@@ -13,5 +13,5 @@ returns-2 c =
     let found = open-found _ (c .before .if1 .left) _ _ _ (start .pre) (c .find-in .ensures) in
     (found .0, found .1)
 
-pub open-place-spec : {M : Type 1} → statement M
-open-place-spec = tie.close (tie.spec returns (λ c κs. search needs) returns-2)
+pub open-index-spec : {M : Type 1} → statement M
+open-index-spec = tie.close (tie.spec returns (λ c κs. search needs) returns-2)

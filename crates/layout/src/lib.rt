@@ -134,7 +134,7 @@ pub fn sizes_of(columns: u32, ranges: u32, capacity: u32, spares: u32) -> Sizes
         rows: r * RANGE_ROWS,
         slots: slots,
         values: times(slots, c),
-        chunks: places,
+        chunks: chunks,
         pages: chunks + x,
     }
 }

@@ -10,27 +10,27 @@ use lib.Seq.{take-all}
 use borrow.Author.Tests.{lt-ltb}
 use Rattle.loops.specs.declared.Found.the-variants.{At, Nothing}
 use Rattle.loops.specs.Search.{region, firstAt, foundAt}
-use Rattle.terms.specs.Places.{place}
+use Rattle.terms.specs.Places.{firstIndex}
 
 -- counted from k
-first-place : (key k : ℕ) (l : List ℕ) → firstAt key k l ≡ cond (ltb (place (λ x. eqb x key) l) (length l)) (At (k + place (λ x. eqb x key) l)) Nothing
+first-place : (key k : ℕ) (l : List ℕ) → firstAt key k l ≡ cond (ltb (firstIndex (λ x. eqb x key) l) (length l)) (At (k + firstIndex (λ x. eqb x key) l)) Nothing
 first-place key k [] = refl
 first-place key k (x ∷ l) = go (eqb x key) (first-place key (k + 1) l)
   where
-    go : (b : Bool) → firstAt key (k + 1) l ≡ cond (ltb (place (λ y. eqb y key) l) (length l)) (At (k + 1 + place (λ y. eqb y key) l)) Nothing
+    go : (b : Bool) → firstAt key (k + 1) l ≡ cond (ltb (firstIndex (λ y. eqb y key) l) (length l)) (At (k + 1 + firstIndex (λ y. eqb y key) l)) Nothing
         → cond b (At k) (firstAt key (k + 1) l)
-        ≡ cond (ltb (cond b 0 (suc (place (λ y. eqb y key) l))) (suc (length l))) (At (k + cond b 0 (suc (place (λ y. eqb y key) l)))) Nothing
+        ≡ cond (ltb (cond b 0 (suc (firstIndex (λ y. eqb y key) l))) (suc (length l))) (At (k + cond b 0 (suc (firstIndex (λ y. eqb y key) l)))) Nothing
     go true ih =
         let z : k + 0 ≡ k = omega arith in
         rw (lt-ltb 0 (suc (length l)) (omega arith), z)
     go false ih =
-        let q = place (λ y. eqb y key) l in
+        let q = firstIndex (λ y. eqb y key) l in
         let z : k + suc q ≡ k + 1 + q = omega arith in
         rw (z, leb·suc-suc (suc q) (length l)) ih
 
 -- the whole of a list
-pub find-place : (key : ℕ) (l : List ℕ) (n : ℕ) → length l ≡ n → firstAt key 0 (region l 0 n) ≡ foundAt n (place (λ x. eqb x key) l)
+pub find-place : (key : ℕ) (l : List ℕ) (n : ℕ) → length l ≡ n → firstAt key 0 (region l 0 n) ≡ foundAt n (firstIndex (λ x. eqb x key) l)
 find-place key l n e =
     let a : region l 0 n ≡ l = take-all (0 + n) l (omega arith) in
-    let z : 0 + place (λ x. eqb x key) l ≡ place (λ x. eqb x key) l = omega arith in
+    let z : 0 + firstIndex (λ x. eqb x key) l ≡ firstIndex (λ x. eqb x key) l = omega arith in
     rw a (first-place key 0 l ∙ rw (z, e))

@@ -69,7 +69,7 @@ module _ (k : ℕ) where
         let b : isScan k (getD ps (firstIndex (isScan k) ps) freeEntry) ≡ true = ap (bears k) (t .number-is) ∙ rw (numbered ps j e, eq-eqb k k refl) in
         rw (one-passes (isScan k) ps refl b)
 
-    pub scan-at : (j : ℕ) → findIn (tableOf ps) k ≡ At j → firstIndex (isScan k) ps ≡ getD (tableOf ps .chunks) j 0
+    pub scan-at : (j : ℕ) → findIn (tableOf ps) k ≡ At j → firstIndex (isScan k) ps ≡ getD (tableOf ps .places) j 0
     scan-at j e = sym (table-finds ps few k j e .place-is)
 
     -- the scan's stamp and merges, as the table has them

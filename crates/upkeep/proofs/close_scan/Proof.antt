@@ -44,7 +44,7 @@ returns-3 c =
     (λ ps q few. (refl, refl, closed-list _ ps q _ _ _ few (found .1)))
 
 -- the entry that was found is one of the table
-inside : (c : tie.After-indexs) → let passed = c .before .before in passed .i .given .0 .0 < mostScans
+inside : (c : tie.After-places) → let passed = c .before .before in passed .i .given .0 .0 < mostScans
 inside c = let passed : tie.After-i = search in (rw (passed .i .given .1) at (passed .before .before .close-tests .ensures .1)) .0
 
 pub close-scan-spec : {M : Type 1} → statement M

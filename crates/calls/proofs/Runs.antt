@@ -25,7 +25,7 @@ use Rattle.history.proofs.Lists.{is-true, refuted, clash}
 use Rattle.history.specs.History.{Call, Verdict, accept, refuse}
 use Rattle.history.specs.Claims.{isPlain, kind, strike, plainAnswers}
 use Rattle.model.specs.Calls.{entriesAfter, entriesIf, entriesNext}
-use Rattle.promise.specs.Promise.{storeView, answerOf, listAfter, answersOf, Serves, Makes, lend, left}
+use Rattle.promise.specs.Promise.{storeView, Lent, answerOf, memoryAfter, listAfter, answersOf, Serves, Makes, lend, left}
 use Rattle.promise.specs.Demands.{Accepted, storeAnswers, storeLeft, storeAnswerAt, ReadIn, Refuses, RefusedKeeps, ReadsCommitted, PagesCommitted, Demand3, StrikingStore, StabilityStore}
 use Rattle.promise.specs.Stated.{conditions}
 use Rattle.promise.proofs.Demands.{demand3, reads-committed, pages-committed, striking-store, stability-store}
@@ -36,11 +36,18 @@ use Rattle.scans.specs.Places.{freedIf}
 use Rattle.calls.specs.Runs.{Run, ends, goes, Face, ReadAmong, toldAt, RefusedSo, RefusedKept, UnmadeKept, ReadsSo, PagesSo, AnswersSo, StruckSame, ReadsStable, calls, LentRefused, LentKept, MakingKept, LentReads, LentPages, LentAnswers, LentStriking, LentStability, MakingFrees, OnePlace, ShortRefused}
 
 -- ---- what a run answers and leaves
+left-on : (x : Lent) (c : Call) (cs : List Call) {m′ : List ℕ} {ps′ : List ScanEntry} → m′ ≡ memoryAfter x c → ps′ ≡ listAfter x c → left (lend m′ ps′) cs ≡ left x (c ∷ cs)
+unfolding left
+left-on x c cs e f = rw (e, f) refl
+
 run-left : {m m′ : List ℕ} {ps ps′ : List ScanEntry} {cs : List Call} {rs : List Answer} → Run Serves m ps cs rs m′ ps′
     → (rs ≡ answersOf (lend m ps) cs) × (m′ ≡ left (lend m ps) cs .memory) × (ps′ ≡ left (lend m ps) cs .list)
 unfolding Serves answersOf left
 run-left ends = (refl, refl, refl)
-run-left (goes s q) = let l = run-left q in rw (← s .0, ← s .1, ← s .2) (rw (l .0), l .1, l .2)
+run-left (goes {c = c} {cs = cs} s q) =
+    let l = run-left q in
+    let k = left-on _ c cs (s .1) (s .2) in
+    (rw (← s .0, ← s .1, ← s .2) (rw (l .0)), l .1 ∙ ap (λ (x : Lent). x .memory) k, l .2 ∙ ap (λ (x : Lent). x .list) k)
 
 pub making-frees : MakingFrees
 unfolding MakingFrees Makes

@@ -8,8 +8,8 @@ use Rattle.terms.specs.declared.Answer.{Answer}
 use Rattle.terms.specs.declared.ScanEntry.{ScanEntry}
 use Rattle.terms.specs.declared.Refusal.{Refusal}
 use Rattle.words.specs.Words.{words}
-use Rattle.facts.specs.declared.Checked.{Checked}
-use Rattle.facts.specs.declared.Checked.the-variants.{Fit, Unfit}
+use Rattle.pages.specs.declared.check.Checked.{Checked}
+use Rattle.pages.specs.declared.check.Checked.the-variants.{Fit, Unfit}
 use Rattle.facts.specs.Usable.{storedSizes, usable}
 use Rattle.deskrook.specs.Replies.{usability}
 

@@ -1,6 +1,6 @@
 // The answer as C takes it, and the test of memory and list.
-use facts::Checked;
-use facts::check;
+use pages::check::Checked;
+use pages::check::check;
 use scans::Scans;
 use terms::Answer;
 use terms::Refusal;

@@ -16,8 +16,8 @@ use Rattle.scans.specs.declared.Scans.{Scans}
 use Rattle.layout.specs.View.{View, lay}
 use Rattle.layout.proofs.Limits.{proper}
 use Rattle.facts.specs.Usable.{storedShape, storedSizes, usable}
-use Rattle.history.specs.History.{update, Verdict, refuse, verdict, answerIf, badMask}
-use Rattle.model.specs.Calls.{notOpenIn, notGivenIn, testsIn, replyIn, actIn, viewIf, say, viewNext}
+use Rattle.history.specs.History.{update, Verdict, accept, refuse, verdict, answerIf, badMask}
+use Rattle.model.specs.Calls.{notOpenIn, notGivenIn, testsIn, replyIn, actIn, viewIf, say, viewNext, entriesAfter, entriesNext, entriesIf}
 use Rattle.promise.specs.Promise.{storeView, answerOf, memoryAfter, listAfter, Serves, ServesBy, kept, lend}
 use Rattle.requests.specs.Asked.{mostMask}
 use Rattle.facts.proofs.Usable.{usable-tells}
@@ -73,6 +73,11 @@ none-bad : (S : Shape) → badMask S 0 ≡ true
 unfolding badMask
 none-bad S = refl
 
+entries-same : (w : Verdict) (ps : List ScanEntry) → entriesIf w ps ps ≡ ps
+unfolding entriesIf
+entries-same accept ps = refl
+entries-same (refuse n) ps = refl
+
 module _ (m : List ℕ) (ps : List ScanEntry) (a b c : ℕ) (vs : List ℤ) (h : mostMask < c) where
   answer-wide : answerOf (lend m ps) (update a b 0 vs) ≡ answerOf (lend m ps) (update a b c vs)
   unfolding answerOf
@@ -102,14 +107,9 @@ module _ (m : List ℕ) (ps : List ScanEntry) (a b c : ℕ) (vs : List ℤ) (h :
   unfolding listAfter entriesNext entriesAfter
   list-wide = go (usable m ps)
     where
-      same : (w : Verdict) → entriesIf w ps ps ≡ ps
-      unfolding entriesIf
-      same accept = refl
-      same (refuse n) = refl
-
       go : (f : Bool) → cond f (entriesIf (verdict (testsIn (storedShape (words m)) (storeView m) ps (update a b 0 vs))) ps ps) ps
           ≡ cond f (entriesIf (verdict (testsIn (storedShape (words m)) (storeView m) ps (update a b c vs))) ps ps) ps
-      go true = same _ ∙ sym (same _)
+      go true = entries-same _ ps ∙ sym (entries-same _ ps)
       go false = refl
 
 -- What is left for the mask n that the code takes is left for the operand c.

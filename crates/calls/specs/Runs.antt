@@ -22,7 +22,7 @@ use Rattle.model.specs.Claims.{historyAfter, PageHolds}
 use Rattle.promise.specs.Promise.{storeView, Serves, Makes}
 use Rattle.promise.specs.Stated.{conditions, First, NoneApplies}
 
--- A run: calls over one memory and one list, "each lent the same memory and scan list, whole, as the last one left them", with their answers and what the last
+-- A run (rule 11.1 of docs/SPECIFICATION.md): calls over one memory and one list, each lent what the call before left, with their answers and what the last
 -- one left. What one call promises is `serves`: of these calls it is `Serves`.
 pub data Run {R : Type 0} (serves : List ℕ → List ScanEntry → Call → R → List ℕ → List ScanEntry → Type 0) : List ℕ → List ScanEntry → List Call → List R → List ℕ → List ScanEntry → Type 0 where
   ends : {m : List ℕ} {ps : List ScanEntry} → Run serves m ps [] [] m ps

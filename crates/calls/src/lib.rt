@@ -1,4 +1,4 @@
-// The public interface for programs in Rattle: every call of document 01 by name, over the lent memory and the lent list of open scans, and the making of a
+// The public interface for programs in Rattle: every call by name, over the lent memory and the lent list of open scans, and the making of a
 // store. Nothing is asked of the caller: any memory, any list and any numbers get an answer. A call that does not change the memory, or the list, takes it as
 // `&`. The crate deskrook has the same for C and Rust.
 use lent::free_made;
@@ -69,7 +69,7 @@ fn update_values(
 
 // ---- a store
 
-// The bytes that a store of a shape needs, within document 01's bound.
+// The bytes that a store of a shape needs, within the bound of rule 8.3 of docs/SPECIFICATION.md.
 pub fn bytes_needed(columns: u32, ranges: u32, capacity: u32, spares: u32) -> Answer
     ensures { λ r. ⌜ BytesTold (shapeOf columns ranges capacity spares) r ⌝ }
 {

@@ -1,5 +1,5 @@
 // The calls that change transactions and rows, over a lent memory and the table of the scan list: begin, insert, update, delete, commit, abort. Each call is the
-// test of memory and list, the call's own tests in document 01's order, and then the function that writes, over the needed bytes.
+// test of memory and list, the call's own tests in the order of section 4 of docs/SPECIFICATION.md, and then the function that writes, over the needed bytes.
 use conditions::bad_mask;
 use conditions::gone;
 use conditions::held;

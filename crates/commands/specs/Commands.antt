@@ -1,6 +1,4 @@
--- What the bytes that `gatebook` reads mean: document 01, "Commands". "The program `gatebook` reads standard input: columns (1 byte), ranges (1), tail (2),
--- spares (2), then commands. A command is one byte with operands of fixed widths, little-endian, chosen by its value in hexadecimal". Every definition here
--- is executable.
+-- What the bytes that `gatebook` reads mean: rules 12.1 to 12.3 of docs/SPECIFICATION.md. Every definition here is executable.
 use mathlib.Core.Bool.{Bool, true, false, cond}
 use mathlib.Core.List.{List, [], _∷_, map}
 use Prim.Native.Nat.{ℕ, zero, suc, _+_, _*_, _≤_}
@@ -101,7 +99,7 @@ commands =
     ∷ numbers (Kind.Read Read.Lineage) (1 ∷ 1 ∷ [])
     ∷ []
 
--- "19 Command: unknown command byte"
+-- 3.19: a byte that is no command
 unfoldable pub chosen : ℕ → Chosen
 chosen byte = getD commands byte (Chosen.Refused Refusal.Command)
 
@@ -114,7 +112,7 @@ Narrow (w ∷ ws) = (w ≤ operandBytes) × Narrow ws
 abbrev pub Small : ℕ → Form → Type 0
 Small columns f = Narrow (widthsOf f) × (columns ≤ mostColumns)
 
--- how many values follow the numbers: "every column's value"
+-- 12.3: how many values follow the numbers, one for each column
 abbrev pub valueCount : ℕ → Form → ℕ
 valueCount columns f = cond (f .values) columns 0
 
@@ -209,12 +207,12 @@ items (suc most) columns [] = []
 items (suc most) columns (byte ∷ bs) =
     itemAt columns byte (chosen byte) bs ∷ items most columns (behind columns (chosen byte) bs)
 
--- "20 Cut: input ends inside a command or the shape"
+-- 3.20, 12.6: input that ends inside the shape or a command
 pub data Script : Type 0 where
   cutShape : Script
   script : Shape → List Item → Script
 
--- "columns (1 byte), ranges (1), tail (2), spares (2)"
+-- 12.1: the shape
 abbrev pub shapeBytes : ℕ
 shapeBytes = 6
 

@@ -13,7 +13,7 @@ use Rattle.model.proofs.Lists.{true-false}
 use Rattle.deskrook.specs.Replies.{replyOf}
 use Rattle.deskrook.specs.Runs.{AcceptedReply}
 
--- the refusal of a number, in the order of document 01's table; Done for every other number
+-- the refusal of a number, in the order of the refusals; Done for every other number
 refusals : List Refusal
 refusals =
     Refusal.Shape

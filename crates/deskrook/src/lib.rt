@@ -1,4 +1,4 @@
-// The exports for C and Rust: every call of document 01 by name, over the lent memory and the lent list of open scans, the making of a store, the bytes that it
+// The exports for C and Rust: every call by name, over the lent memory and the lent list of open scans, the making of a store, the bytes that it
 // needs, and a test of memory and list. Numbers are plain, and the answer is a `Reply`. A slice passes as a pointer and a length (of the list: in places), a
 // number as itself, and the reply by value. Nothing is asked of the numbers, the bytes or the list.
 mod reply;
@@ -229,7 +229,7 @@ pub extern "C" fn deskrook_make(
     encode(calls::make(mem, scans, columns, ranges, capacity, spares))
 }
 
-// The bytes that a store of a shape needs, within document 01's bound.
+// The bytes that a store of a shape needs, within the bound of rule 8.3 of docs/SPECIFICATION.md.
 #[no_mangle]
 pub extern "C" fn deskrook_bytes_needed(
     columns: u32,

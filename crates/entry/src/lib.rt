@@ -1,5 +1,5 @@
-// What every call begins with: the test of the lent memory and of the scan list, and what the call's own tests find. The conditions here are those of document
-// 01, "What a refused call returns", that look at the header and the measures alone. What follows for a whole call is in specs/ and proofs/.
+// What every call begins with: the test of the lent memory and of the scan list, and what the call's own tests find. The conditions here are those of
+// section 3 of docs/SPECIFICATION.md that look at the header and the measures alone. What follows for a whole call is in specs/ and proofs/.
 use layout::HEADER_ROWS;
 use layout::HEADER_STAMP;
 use layout::Region;

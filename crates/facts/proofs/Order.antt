@@ -1,4 +1,4 @@
--- The facts in the order in which the memory is gone through are the facts in document 01's order.
+-- The facts in the order in which the memory is gone through are the facts in the order of their rules.
 use mathlib.Core.Path.{_≡_, refl, ap, sym, _∙_}
 use mathlib.Core.Bool.{Bool, true, false, _&&_}
 use mathlib.Core.List.{List, map}

@@ -104,7 +104,7 @@ every-tells f (p ∷ ps) e zero n =
 every-tells f (p ∷ ps) e (suc j) n =
     every-tells f ps (and-true (not (not (eqb (p .number) 0)) || f p) (everyOpen f ps) e .1) j n
 
--- a free place has the number 0, so of the numbers all places may speak
+-- a free entry has the number 0, so of the numbers all entries may speak
 numbers-tell : (ps : List ScanEntry) (b : ℕ) → everyOpen (λ p. leb (p .number) b) ps ≡ true → (j : ℕ) → getD ps j freeEntry .number ≤ b
 numbers-tell ps b e j = go (eqb (getD ps j freeEntry .number) 0) refl
   where

@@ -1,7 +1,7 @@
--- The stored facts: document 01, "The stored facts are these: ..". One definition for each clause of that sentence, in its order and under its words, over
+-- The stored facts: section 9 of docs/SPECIFICATION.md, one definition for each of its rules, in its order, over
 -- the view of a memory and the list of open scans. A call answers 2 where one of them fails, and on nothing else: they speak of given rows, used tail
--- records, current and waiting pages and open places alone, and what stands elsewhere may be anything.
--- What a word counts as that no fact governs: the place of a waiting page is taken modulo columns × ranges.
+-- records, current and waiting pages and open numbers alone, and what stands elsewhere may be anything.
+-- What a word counts as that no fact governs: the chunk of a waiting page is taken modulo columns × ranges (rule 8.4).
 use Prim.Native.Nat.{ℕ, zero, suc, _+_, _-_, _/_, _%_}
 use mathlib.Core.Bool.{Bool, true, _&&_, _||_}
 use mathlib.Core.List.{List, map}
@@ -42,7 +42,7 @@ currentAtMost v k most i = leb (getD (v k) (getD (v Current) i 0) 0) most
 unfoldable pub waitingAtMost : View → Region → ℕ → ℕ → Bool
 waitingAtMost v k most p = ltb (getD (v PageState) p 0) asWaiting || leb (getD (v k) p 0) most
 
--- ---- "the stored measures lie within their limits and counts within the measures"
+-- ---- 9.1: counts within the measures; the measures are tested before (`usable`)
 -- (the measures are tested before there is a view: Usable)
 unfoldable pub storedWithin : Sizes → View → Bool
 storedWithin s v =
@@ -52,7 +52,7 @@ storedWithin s v =
 unfoldable pub countsWithin : Sizes → View → List ScanEntry → Bool
 countsWithin s v ps = storedWithin s v && leb (openCount ps) mostScans
 
--- ---- "a used tail record names a given row of its range"
+-- ---- 9.2: a used record's row
 unfoldable pub rowNamed : Sizes → View → ℕ → ℕ → Bool
 rowNamed s v g i = let r = getD (v TailRow) (firstSlot (s .capacity) g + i) 0 in ltb r (rowsGiven v) && eqb (r / rangeRows) g
 
@@ -62,14 +62,14 @@ rangeNamesRows s v g = each (usedIn v g) (rowNamed s v g)
 unfoldable pub recordsNameRows : Sizes → View → Bool
 recordsNameRows s v = each (s .ranges) (rangeNamesRows s v)
 
--- ---- "open and recorded numbers are among those given"
+-- ---- 9.3: open and recorded numbers
 unfoldable pub numbersGiven : Sizes → View → List ScanEntry → Bool
 numbersGiven s v ps =
     rowsBetween v RowTransaction 1 (transactionsGiven v)
     && (each (s .ranges) (rangeBetween s v TailTransaction 1 (transactionsGiven v))
     && (allBetween 0 (transactionsGiven v) (v Opens) && everyOpen (λ p. leb (p .number) (scansGiven v)) ps))
 
--- ---- "a link of a row or tail record is 0 or a used record of the same row, and of a tail record a lower one"
+-- ---- 9.4: links
 -- link of row r, in range g: at most the number `most`
 unfoldable pub linkHolds : Sizes → View → ℕ → ℕ → ℕ → ℕ → Bool
 linkHolds s v g most r link = eqb link 0 || (leb link most && eqb (getD (v TailRow) (firstSlot (s .capacity) g + (link - 1)) 0) r)
@@ -88,7 +88,7 @@ rangeLinked s v g = each (usedIn v g) (recordLinked s v g)
 unfoldable pub linksHold : Sizes → View → Bool
 linksHold s v = each (rowsGiven v) (rowLinked s v) && each (s .ranges) (rangeLinked s v)
 
--- ---- "no recorded stamp, an open scan's included, exceeds the last commit's"
+-- ---- 9.5: stamps
 unfoldable pub stampsWithin : Sizes → View → List ScanEntry → Bool
 stampsWithin s v ps =
     rowsBetween v RowStamp 0 (lastStamp v)
@@ -96,17 +96,17 @@ stampsWithin s v ps =
     && ((each (s .chunks) (currentAtMost v PageNewest (lastStamp v)) && each (s .pages) (waitingAtMost v PageNewest (lastStamp v)))
     && everyOpen (λ p. leb (p .stamp) (lastStamp v)) ps))
 
--- ---- "no scan's or waiting page's merge count exceeds the merges made"
+-- ---- 9.6: counts of merges
 unfoldable pub mergesWithin : Sizes → View → List ScanEntry → Bool
 mergesWithin s v ps =
     everyOpen (λ p. leb (p .merges) (mergesMade v)) ps && each (s .pages) (waitingAtMost v PageReplaced (mergesMade v))
 
--- ---- "open numbers differ, each within its own series"
+-- ---- 9.7: open numbers differ
 unfoldable pub openDiffer : View → List ScanEntry → Bool
 openDiffer v ps = differ (v Opens) && differ (map (λ p. p .number) ps)
 
--- ---- "current, waiting and free pages are distinct and in the pool"
--- The page that a place names is in the pool, and its own words say that it is current and of that place: so it does not wait, and no two places name one page.
+-- ---- 9.8: current pages
+-- The page that a chunk names is in the pool, and its own words say that it is current and of that chunk: so it does not wait, and no two chunks name one page.
 -- Free pages are those that are neither named nor waiting.
 unfoldable pub pagePlaced : Sizes → View → ℕ → Bool
 pagePlaced s v i =
@@ -115,7 +115,7 @@ pagePlaced s v i =
 unfoldable pub pagesPlaced : Sizes → View → Bool
 pagesPlaced s v = each (s .chunks) (pagePlaced s v)
 
--- ---- "a page's lineage is not above the records used"
+-- ---- 9.9: lineages
 abbrev pub pageRange : Sizes → View → ℕ → ℕ
 pageRange s v p = getD (v PageChunk) p 0 % s .chunks / s .columns
 

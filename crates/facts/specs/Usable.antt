@@ -1,5 +1,5 @@
--- When a lent memory with a list of open scans is usable, for any bytes and any list: document 01, "2 Memory: shorter than the shape needs, a scan list
--- under 16 places, or a stored fact fails". The shape is read from the memory, so its measures are tested before anything is computed from them, and a
+-- When a lent memory with a list of open scans is usable, for any bytes and any list: rule 8.8 of
+-- docs/SPECIFICATION.md. The shape is read from the memory, so its measures are tested before anything is computed from them, and a
 -- memory that is too short to hold them is too short.
 use Prim.Native.Nat.{ℕ, _*_}
 use mathlib.Core.Bool.{Bool, _&&_}

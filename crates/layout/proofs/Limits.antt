@@ -1,4 +1,4 @@
--- What the limits of a shape say of its sizes: the words needed fit every sum of the code, and the bytes needed are within document 01's bound.
+-- What the limits of a shape say of its sizes: the words needed fit every sum of the code, and the bytes needed are within the bound of rule 8.3.
 use Prim.Native.Nat.{ℕ, _+_, _*_, _≤_, _<_}
 use mathlib.Core.Path.{_≡_, refl, sym, _∙_}
 use mathlib.Core.Bool.{true, false, cond}
@@ -45,7 +45,7 @@ need-small p e =
     let d : p .columns * p .ranges ≤ mostChunks = mul-le-mul (l .columns-to) (l .ranges-to) in
     omega arith
 
--- document 01, "Measures": at most 4,096 bytes, and 320 for each page, 64 for each row, 64 + 4 columns for each tail record
+-- 8.3: at most 4,096 bytes, and 320 for each page, 64 for each row, 64 + 4 columns for each tail record
 pub bytes-allowed : (p : Shape) → bytesNeeded p ≤ bytesAllowed (sizesOf p)
 unfolding bytesNeeded need
 bytes-allowed p =

@@ -47,7 +47,7 @@ tooManyWords = 2 ^ 24
 unfoldable pub bytesNeeded : Shape → ℕ
 bytesNeeded p = need (sizesOf p) * 4
 
--- document 01, "Measures": the most bytes that a shape may need
+-- 8.3 of docs/SPECIFICATION.md: the most bytes that a shape may need
 abbrev pub bytesAllowed : Sizes → ℕ
 bytesAllowed s = 4096 + 320 * s .pages + 64 * s .rows + (64 + 4 * s .columns) * s .slots
 

@@ -214,7 +214,7 @@ pub fn words_needed(s: Sizes) -> usize
     start(s, Region::Changes) + MOST_TRANSACTIONS
 }
 
-// The bytes that a shape needs, within document 01's bound.
+// The bytes that a shape needs, within the bound of rule 8.3 of docs/SPECIFICATION.md.
 pub fn bytes_needed(columns: u32, ranges: u32, capacity: u32, spares: u32) -> Answer
     ensures { λ r. ⌜ BytesTold (shapeOf columns ranges capacity spares) r ⌝ }
 {

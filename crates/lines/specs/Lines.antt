@@ -1,12 +1,11 @@
--- The lines that `gatebook` prints, as bytes: document 01, "Commands". "Each line is the command byte in two hexadecimal capitals (the word shape on the
--- first line), "ok" and the answer's fields in decimal ("none" for none), or "no" and the number." Every definition here is executable.
+-- The lines that `gatebook` prints, as bytes: rule 12.5 of docs/SPECIFICATION.md. Every definition here is executable.
 use mathlib.Core.List.{List, [], _∷_, _++_}
 use Prim.Native.Nat.{ℕ, _/_, _%_}
 use Rattle.terms.specs.Refusals.{refusalNumber}
 use Rattle.terms.specs.declared.Answer.{Answer}
 use Rattle.decimal.specs.Decimal.{text, digit, decimal, signed, field}
 
--- "the command byte in two hexadecimal capitals"
+-- the command byte as two hexadecimal digits, with capitals
 unfoldable pub capitals : ℕ → List ℕ
 capitals b = digit (b / 16) ∷ digit (b % 16) ∷ []
 
@@ -16,9 +15,9 @@ outcome Answer.Done = text " ok"
 outcome (Answer.Number n) = text " ok" ++ field (decimal n)
 outcome (Answer.Value v) = text " ok" ++ field (signed v)
 outcome Answer.None = text " ok none"
--- "A sum answers count, then sum."
+-- 2.4: of a sum the count, then the sum
 outcome (Answer.Sum n s) = text " ok" ++ field (decimal n) ++ field (signed s)
--- "Lineage answers the number merged through and the records used."
+-- 2.4: of a lineage the number merged through, then the records used
 outcome (Answer.Lineage n used) = text " ok" ++ field (decimal n) ++ field (decimal used)
 
 -- the line of a command, and the first line

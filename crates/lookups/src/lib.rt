@@ -1,5 +1,5 @@
 // The calls that only read, over the lent memory and the table of the lent scan list: latest, read at, own read, scan read, sum, page cell and lineage. Each call is
-// the test of memory and list, the call's own tests in document 01's order, and then the function that reads.
+// the test of memory and list, the call's own tests in the order of section 4 of docs/SPECIFICATION.md, and then the function that reads.
 use conditions::open_index;
 use conditions::own_changes;
 use entry::Entry;

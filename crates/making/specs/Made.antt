@@ -1,5 +1,5 @@
--- The answer of the call that makes a store, and the memory and scan list that it leaves: document 01, "making one tests 1 and then both lengths", and looks at
--- no content. What the view of a store just made holds is the model's `made`. The lent scan list is made free place by place: `allFreed` of the scan list's
+-- The answer of the call that makes a store, and the memory and scan list that it leaves: rules 2.7 and 10.1 of docs/SPECIFICATION.md. It looks at
+-- no content. What the view of a store just made holds is the model's `made`. The lent scan list is made free entry by entry: `allFreed` of the scan list's
 -- definitions is what it becomes.
 use Prim.Native.Nat.{ℕ}
 use mathlib.Core.Bool.{cond, _&&_}

@@ -34,7 +34,7 @@ pub record Linked (s : Sizes) (v : View) : Type 0 where
 abbrev pub Pooled : Sizes → View → Type 0
 Pooled s v = (i : ℕ) → i < s .chunks → getD (v Region.Current) i 0 < s .pages
 
--- Each place names a page of the pool that is current and of that place: so no two places name one page.
+-- Each chunk names a page of the pool that is current and of that chunk: so no two chunks name one page.
 pub record Placed (S : Shape) (v : View) : Type 0 where
   pub inside : (i : ℕ) → i < chunksOf S → getD (v Region.Current) i 0 < pagesOf S
   pub state : (i : ℕ) → i < chunksOf S → (pageIn v (getD (v Region.Current) i 0)) .state ≡ asCurrent

@@ -23,7 +23,7 @@ use Rattle.model.specs.Stored.{RecordWords, rowIn, recordIn, pageIn, cur
 use Rattle.model.specs.Reading.{reader, readIn, readCurrent, ownChanges, scanPage, sumIn}
 use Rattle.model.specs.Writing.{begun, committedIn, abortedIn, insertedIn, updatedIn, deletedIn, mergedIn, releasedIn, releasable, recordsWanted, freeIn}
 
--- ---- the conditions of "What a refused call returns", read in the memory
+-- ---- the conditions of the refusals (section 3 of docs/SPECIFICATION.md), read in the memory
 -- 3
 unfoldable pub notOpenIn : View → ℕ → Bool
 notOpenIn v t = not (any (bears t) (v Opens))
@@ -81,7 +81,7 @@ outOfReachIn S v g c n = leb n ((pageIn v (currentIn S v g c)) .lineage) || ltb 
 unfoldable pub openAmongIn : Shape → View → ℕ → ℕ → Bool
 openAmongIn S v g n = anyBelow (λ i. openIn v ((recordIn v (g * S .capacity + i)) .transaction)) n
 
--- ---- the tests: "Tests run in this order."
+-- ---- the tests, in the order of section 4
 unfoldable pub testsIn : Shape → View → List ScanEntry → Call → List Test
 testsIn S v ps begin =
     Refusal.Number when leb mostNumbers (transactionsGiven v) ∷ Refusal.Busy when not (any (λ k. eqb k 0) (v Opens)) ∷ []

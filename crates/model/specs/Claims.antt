@@ -1,5 +1,5 @@
--- Demand 2, stated of a store just made on which calls alone have worked: `Reads` is its first sentence, `PagesHold` its second; `ScansKeep` is document 01's
--- sentence on the pages of open scans. The history after the same calls says what was committed, by its stamps (`lastCommitted` and `lastTaken`, the history's
+-- Demand 2, stated of a store just made on which calls alone have worked: `Reads` is rule 11.3 of docs/SPECIFICATION.md,
+-- `PagesHold` 11.4, `ScansKeep` 11.5. The history after the same calls says what was committed, by its stamps (`lastCommitted` and `lastTaken`, the history's
 -- Latest); the store's words say what is read and what the pages hold. proofs/Claims.antt proves them.
 use mathlib.Core.Path.{_≡_}
 use mathlib.Core.List.{List, _∷_}
@@ -26,7 +26,7 @@ storeAfter S n cs = viewAfter S (made S) (replicate n freeEntry) cs
 unfoldable pub historyAfter : Shape → List Call → History
 historyAfter S cs = run S start cs
 
--- "each read gives the value last committed for that row and column at or before the stamp read"
+-- rule 11.3: what a read gives
 unfoldable pub Reads : Type 0
 Reads =
     (S : Shape) → T (withinLimits S) → (n : ℕ) → mostScans ≤ n → (cs : List Call) → All Typed cs → (t r c : ℕ)
@@ -44,7 +44,7 @@ PagesHold =
     (S : Shape) → T (withinLimits S) → (n : ℕ) → mostScans ≤ n → (cs : List Call) → All Typed cs → (g c : ℕ) → g < S .ranges → c < S .columns
     → PageHolds S (storeAfter S n cs) (historyAfter S cs) g c
 
--- "An open scan reads the pages that were current at its opening": after any further calls that leave the scan running, the page that it reads is the one
+-- Rule 7.10: after any further calls that leave the scan running, the page that it reads is the one
 -- that was current when it was opened, and the page's cells of the rows given then are as they were. (A row given later may have been inserted into the page
 -- while it was current.)
 pub record PageKept (S : Shape) (v w : View) (h : History) (k g c : ℕ) (rows : ℕ) : Type 0 where

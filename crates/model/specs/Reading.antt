@@ -102,7 +102,7 @@ wasCurrent S v m chunk p =
     let x = pageIn v p in
     waitingPage (x .state) && (eqb (x .chunk % chunksOf S) chunk && (leb (x .made) m && ltb m (x .replaced)))
 
--- "An open scan reads the pages that were current at its opening": the current page if it was made before, else the waiting page that was current then.
+-- Rule 10.6: the current page if it was made before the scan was opened, else the waiting page that was current then.
 -- At most one passes.
 unfoldable pub scanPage : Shape → View → ℕ → ℕ → ℕ → ℕ
 scanPage S v m g c =

@@ -153,7 +153,7 @@ newestOf S v g c low (suc n) stamp =
     let done = newestOf S v g c low n stamp in
     cond (applies c x && ltb done (x .stamp)) (x .stamp) done
 
--- "Free pages are the spares less those waiting": a page is free that neither waits nor is the one that its place names.
+-- Rule 8.6: a page is free that neither waits nor is the one that its chunk names.
 unfoldable pub namedIn : Shape → View → ℕ → Bool
 namedIn S v p = ltb ((pageIn v p) .chunk) (chunksOf S) && eqb (getD (v Current) ((pageIn v p) .chunk) 0) p
 
@@ -198,7 +198,7 @@ releasable ps v p =
 unfoldable pub releasedIn : Shape → List ScanEntry → View → View
 releasedIn S ps v = renew PageState (changed (λ p w. cond (releasable ps v p) asFree w) 0 (pagesOf S) (v PageState)) v
 
--- ---- making: every word is 0 but the measures, the current pages and their places
+-- ---- making: every word is 0 but the measures, the current pages and their chunks
 unfoldable pub made : Shape → View
 made S =
     put Header columnsAt (S .columns)

@@ -1,4 +1,4 @@
--- The worked example of document 01, and inputs that end in other ways, by computation.
+-- The worked example (rule 12.9), and inputs that end in other ways, by computation.
 use mathlib.Core.Path.{_≡_, refl}
 use mathlib.Core.List.{[], _∷_, _++_}
 use Rattle.history.specs.Unfolding.{execution}

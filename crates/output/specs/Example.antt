@@ -1,13 +1,13 @@
--- Document 01's worked example, and inputs that end in other ways, by computation.
+-- The worked example (rule 12.9 of docs/SPECIFICATION.md), and inputs that end in other ways, by computation.
 use mathlib.Core.List.{List, [], _∷_, _++_}
 use Prim.Native.Nat.{ℕ}
 use Rattle.decimal.specs.Decimal.{text}
 
--- "Shape 2, 1, 4, 1"
+-- the example's shape
 unfoldable pub shape : List ℕ
 shape = 2 ∷ 1 ∷ 4 ∷ 0 ∷ 1 ∷ 0 ∷ []
 
--- "begin; insert 1 (1200, −30); commit 1 at 10; begin; update 2, row 0, mask 1 (1250, 0); latest 0, 0; commit 2 at 20; merge 0, 0, 2; read at 10, 0, 0; page cell 0, 0; merge again."
+-- the example's eleven commands
 unfoldable pub example : List ℕ
 example =
     shape

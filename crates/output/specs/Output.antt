@@ -1,4 +1,4 @@
--- What `gatebook` must write for an input: document 01, "Commands". The input is parsed, the plain history answers its calls, and each answer is a line.
+-- What `gatebook` must write for an input: section 12 of docs/SPECIFICATION.md. The input is parsed, the plain history answers its calls, and each answer is a line.
 -- Every definition here is executable.
 use mathlib.Core.Bool.{Bool, true, cond, _&&_}
 use mathlib.Core.List.{List, [], _∷_, _++_}
@@ -11,7 +11,7 @@ use Rattle.history.specs.History.{Call, start, answers}
 use Rattle.lines.specs.Lines.{line, shapeLine}
 use Rattle.commands.specs.Commands.{Item, command, refused, Script, cutShape, script, parse}
 
--- "`gatebook` lends memory for 4 columns, 4 ranges, 64 tail records, 16 spares and answers 1 above that." Each of these is within the limits of a shape, so
+-- 12.4: the shapes that gatebook has memory for. Each of these is within the limits of a shape, so
 -- that a shape outside the limits is answered 1 as well (proofs/Steps.antt, `lent-within`).
 abbrev pub lentColumns : ℕ
 lentColumns = 4
@@ -33,7 +33,7 @@ lent s =
 unfoldable pub shapeAnswer : Shape → Answer
 shapeAnswer s = cond (lent s) Answer.Done (Answer.Refused Refusal.Shape)
 
--- "It goes on after 2 to 18 and ends after the others."
+-- 12.7: whether gatebook goes on after an answer
 unfoldable pub goesOn : Answer → Bool
 goesOn (Answer.Refused r) = between 2 18 (refusalNumber r)
 goesOn Answer.Done = true
@@ -49,7 +49,7 @@ calls [] = []
 calls (command byte c ∷ is) = c ∷ calls is
 calls (refused byte r ∷ is) = calls is
 
--- A line for each item: the calls have the given answers, in order. "A cut command still prints its byte".
+-- A line for each item: the calls have the given answers, in order. A cut command still has its byte printed (12.6).
 unfoldable pub linesOf : List Item → List Answer → List ℕ
 linesOf [] given = []
 linesOf (command byte c ∷ is) [] = []
@@ -61,6 +61,6 @@ outputOf cutShape = shapeLine (Answer.Refused Refusal.Cut)
 outputOf (script s is) =
     shapeLine (shapeAnswer s) ++ cond (lent s) (linesOf is (answers s start (calls is))) []
 
--- "empty input prints "shape no 20". Input that ends between commands adds no line."
+-- 12.6, 12.7: a cut shape; an end between two commands adds no line
 unfoldable pub output : List ℕ → List ℕ
 output bs = outputOf (parse bs)

@@ -16,7 +16,7 @@ const LENT_RECORDS: u32 = 64;
 
 const LENT_SPARES: u32 = 16;
 
-// "`gatebook` lends memory for 4 columns, 4 ranges, 64 tail records, 16 spares and answers 1 above that."
+// The shapes that gatebook has memory for (rule 12.4 of docs/SPECIFICATION.md).
 pub fn lends(m: Measures) -> bool
     ensures { λ r. ⌜ r ≡ lent (measured m) ⌝ }
 {
@@ -26,7 +26,7 @@ pub fn lends(m: Measures) -> bool
     and_between(capacity, 0, LENT_SPARES, m.spares)
 }
 
-// "It goes on after 2 to 18 and ends after the others."
+// Whether gatebook goes on after an answer (rule 12.7).
 pub fn goes_on(answer: Answer) -> bool
     ensures { λ r. ⌜ r ≡ goesOn answer ⌝ }
 {

@@ -1,4 +1,4 @@
--- The three demands of document 00, stated of the bytes that the calls leave and of the answers that they give; the conditions of the refusals are in Stated.
+-- The three demands (section 11 of docs/SPECIFICATION.md), stated of the bytes that the calls leave and of the answers that they give; the conditions of the refusals are in Stated.
 -- proofs/Refused.antt and proofs/Stated.antt prove those of demand 1, proofs/Demands.antt the others.
 -- What a call answers and leaves is in Promise, which the contracts of the calls cite, and what a making answers and leaves is `made`, which the contract of
 -- `make` cites. The plain history is History; what is committed is said in the history's Latest, and what a page holds in the model's Claims.
@@ -27,14 +27,14 @@ use Rattle.model.specs.Claims.{historyAfter, PageHolds, PageKept}
 use Rattle.promise.specs.Promise.{storeView, Lent, answerOf, memoryAfter, listAfter, answersOf, lend, left}
 use Rattle.promise.specs.Stated.{First, NoneApplies, conditions}
 
--- ---- "The list starts from what an accepted making left, whatever memory and scan list held before": m and ps are what they held
+-- ---- 11.1: a run begins with an accepted making. m and ps are what memory and list held before it
 abbrev pub Accepted : Shape → List ℕ → List ScanEntry → Type 0
 Accepted S m ps = made S (length ps) m .0 ≡ Answer.Done
 
 abbrev pub memoryMade : Shape → List ℕ → List ScanEntry → List ℕ
 memoryMade S m ps = made S (length ps) m .1
 
--- Every shape within the limits, memory of the bytes needed and list of 16 places is accepted, so that the claims below speak of all of them.
+-- Every shape within the limits, memory of the bytes needed and list of 16 entries is accepted, so that the claims below speak of all of them.
 unfoldable pub MakingAccepted : Type 0
 MakingAccepted = (S : Shape) (m : List ℕ) (ps : List ScanEntry) → T (withinLimits S) → bytesNeeded S ≤ length m → mostScans ≤ length ps → Accepted S m ps
 
@@ -50,7 +50,7 @@ unfoldable pub storeLeft : Shape → List ℕ → List ScanEntry → List Call �
 storeLeft S m ps cs = left (lend (memoryMade S m ps) (madeList ps)) cs
 
 -- ---- demand 1, for any numbers over any memory and any list
--- "refused with its number from document 01, on the stated condition only": a call answers n exactly if n's condition is the first of the call's that applies,
+-- 11.8: a call answers n exactly if n's condition is the first of the call's that applies,
 -- and is accepted exactly if none does
 unfoldable pub Refuses : Type 0
 Refuses =
@@ -58,14 +58,14 @@ Refuses =
     → ((n : Refusal) → (answerOf (lend m ps) c ≡ Answer.Refused n) ↔ First (conditions m ps c) n)
     × ((isRefused (answerOf (lend m ps) c) ≡ false) ↔ NoneApplies (conditions m ps c))
 
--- "and changes no byte"
+-- 11.9: a refused call changes nothing
 unfoldable pub RefusedKeeps : Type 0
 RefusedKeeps =
     (m : List ℕ) (ps : List ScanEntry) (c : Call) (n : Refusal) → Bytes m → answerOf (lend m ps) c ≡ Answer.Refused n
     → (memoryAfter (lend m ps) c ≡ m) × (listAfter (lend m ps) c ≡ ps)
 
 -- ---- demand 2
--- "each read gives the value last committed for that row and column at or before the stamp read": a latest read, a read at and a scan read that is not
+-- 11.3: a latest read, a read at and a scan read that is not
 -- refused, after any calls
 unfoldable pub ReadsCommitted : Type 0
 ReadsCommitted =
@@ -74,15 +74,14 @@ ReadsCommitted =
     (x : Call) (t r c : ℕ) → Typed x → Reads (historyAfter S cs) x t r c → T (not (isRefused (answerOf (storeLeft S m ps cs) x)))
     → answerOf (storeLeft S m ps cs) x ≡ lastCommitted (historyAfter S cs) t r c)
 
--- "each merged page, while current, holds, for every row, the last committed setting among the tail records it has taken in, and for a row with none the
--- value it was inserted with, or 0 if that row was never inserted"
+-- 11.4: what current pages hold (`PageHolds`)
 unfoldable pub PagesCommitted : Type 0
 PagesCommitted =
     Every
     (λ S m ps cs.
     (g c : ℕ) → g < S .ranges → c < S .columns → PageHolds S (storeView (storeLeft S m ps cs .memory)) (historyAfter S cs) g c)
 
--- document 01, "An open scan reads the pages that were current at its opening": whatever is called while it is open
+-- 11.5: an open scan keeps its pages, whatever is called while it is open
 unfoldable pub ScansKept : Type 0
 ScansKept =
     Every
@@ -94,15 +93,15 @@ ScansKept =
     (run S (historyAfter S cs) (openScan s ∷ later)) (suc (length ((historyAfter S cs) .scans))) g c (length ((historyAfter S cs) .rows)))
 
 -- ---- demand 3
--- "the store and the plain version history of document 01 give the same answer at every call"
+-- 11.2: every answer is the plain history's
 unfoldable pub Demand3 : Type 0
 Demand3 = Every (λ S m ps cs. storeAnswers S m ps cs ≡ answers S start cs)
 
--- "Strike every merge and release from the list and no other answer changes, except those of page cell and lineage"
+-- 11.6: striking
 unfoldable pub StrikingStore : Type 0
 StrikingStore = Every (λ S m ps cs. plainAnswers cs (storeAnswers S m ps cs) ≡ plainAnswers (strike cs) (storeAnswers S m ps (strike cs)))
 
--- "Whatever is called between, a value or an absence read for a stamp is read the same ever after for that stamp, row and column": any two reads in the
+-- 11.7: stability, of any two reads in the
 -- list for one stamp, row and column that are not refused
 unfoldable pub storeAnswerAt : Shape → List ℕ → List ScanEntry → List Call → ℕ → Answer
 storeAnswerAt S m ps cs i = getD (storeAnswers S m ps cs) i Answer.Done

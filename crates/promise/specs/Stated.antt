@@ -1,5 +1,5 @@
--- Document 01's table "What a refused call returns", said of what a lent memory and a lent scan list hold, in that table's words and in the order of "Tests run
--- in this order". Nothing here cites a test of the model, of the history or of the code: a condition speaks of the words of the memory and the places of the list.
+-- The refusals (sections 3 and 4 of docs/SPECIFICATION.md), said of what a lent memory and a lent scan list hold, each in the words of its rule and in the order of
+-- the call's tests. Nothing here cites a test of the model, of the history or of the code: a condition speaks of the words of the memory and the entries of the list.
 -- `Refuses` (Demands) says that a call answers by these conditions. Two words are settled here. Open is what stands in the list of open numbers, and nothing
 -- else: state words do not make a number open. What is not open is committed where its state word says so, and aborted otherwise.
 use mathlib.Core.Path.{_≡_}
@@ -51,21 +51,21 @@ abbrev pub Touched : Shape → View → ℕ → ℕ → Type 0
 Touched S v t r = ((rowIn v r) .transaction ≡ t) ⊎ RecordOf S v r (λ x. x .transaction ≡ t)
 
 -- ---- the conditions that take more than a comparison
--- 8: "no bit, or a bit at or above the column count"
+-- 3.8: no bit, or the bit of a column that is not there
 abbrev pub WrongMask : Shape → ℕ → Type 0
 WrongMask S m = ((c : ℕ) → bit m c ≡ false) ⊎ ((c : ℕ) × (S .columns ≤ c) × T (bit m c))
 
--- 9: "another open transaction inserted, updated or deleted the row"
+-- 3.9: some open transaction other than the caller inserted the row or has a record of it
 abbrev pub Held : Shape → View → ℕ → ℕ → Type 0
 Held S v t r = (k : ℕ) × Open v k × (k ≢ t) × Touched S v k r
 
--- 10: "not held, and the row is deleted or its insert aborted, in the caller's own view": deleted by what is committed or by the caller
+-- 3.10: not held, and deleted by what is committed or by the caller, or its insert aborted
 abbrev pub Gone : Shape → View → ℕ → ℕ → Type 0
 Gone S v t r =
     ¬ Held S v t r
     × (RecordOf S v r (λ x. T (deleteKind (x .kind)) × (Committed v (x .transaction) (x .state) ⊎ (x .transaction ≡ t))) ⊎ Aborted v ((rowIn v r) .transaction) ((rowIn v r) .state))
 
--- 12: "the range lacks the one or two records wanted". Two are wanted for a column that the row's mask does not note as set: the mask is the store's own record
+-- 3.12. Two records are wanted for a column that the row's mask does not note as set: the mask is the store's own record
 -- of the columns that an accepted update of the row has set, aborted ones included.
 abbrev pub Lacks : Shape → View → ℕ → ℕ → Type 0
 Lacks S v r n = S .capacity < usedIn v (rangeOf r) + n
@@ -73,22 +73,22 @@ Lacks S v r n = S .capacity < usedIn v (rangeOf r) + n
 abbrev pub LacksWanted : Shape → View → ℕ → ℕ → Type 0
 LacksWanted S v r m = Lacks S v r 1 ⊎ (((c : ℕ) × T (bit m c) × (bit ((rowIn v r) .mask) c ≡ false)) × Lacks S v r 2)
 
--- 14: "8 transactions, or 16 scans, open"
+-- 3.14: how many are open
 abbrev pub transactionsOpen : View → ℕ
 transactionsOpen v = count (λ t. not (eqb t 0)) (v Opens)
 
 abbrev pub scansOpen : List ScanEntry → ℕ
 scansOpen ps = count (λ p. not (eqb (p .number) 0)) ps
 
--- 16: "merge not above what the page holds, or above the records used"
+-- 3.16: merged through n already, or n above the records used
 abbrev pub OutOfReach : Shape → View → ℕ → ℕ → ℕ → Type 0
 OutOfReach S v g c n = (n ≤ (pageIn v (currentIn S v g c)) .lineage) ⊎ (usedIn v g < n)
 
--- 17: "a record up to n belongs to an open transaction"
+-- 3.17: one of the records 1 to n is of an open transaction
 abbrev pub OpenUpTo : Shape → View → ℕ → ℕ → Type 0
 OpenUpTo S v g n = RecordUpTo S v g n (λ x. Open v (x .transaction))
 
--- 18: "no free page", where "free pages are the spares less those waiting"
+-- 3.18: as many pages wait as there are spares, or more
 abbrev pub NoneFree : Shape → View → Type 0
 NoneFree S v = S .spares ≤ countBelow (λ p. waitingPage ((pageIn v p) .state)) (pagesOf S)
 
@@ -143,7 +143,7 @@ stated S v ps release = []
 stated S v ps (pageCell c r) = Refusal.Column on (S .columns ≤ c) ∷ Refusal.Row on (rowsGiven v ≤ r) ∷ []
 stated S v ps (lineage g c) = Refusal.Range on (S .ranges ≤ g) ∷ Refusal.Column on (S .columns ≤ c) ∷ []
 
--- "Every call on a store tests 2 first"
+-- 2.5: refusal 2 is the first test of each call
 unfoldable pub conditions : List ℕ → List ScanEntry → Call → List Clause
 conditions m ps c = Refusal.Memory on (usable m ps ≡ false) ∷ stated (storedShape (words m)) (storeView m) ps c
 

@@ -29,7 +29,7 @@ memoryBytes = 25552
 abbrev pub listBytes : ℕ
 listBytes = entryBytes * mostScans
 
--- For every input, whatever the memory and the list held before, the bytes written are those that document 01 asks for: the lines of the plain history's
+-- For every input, whatever the memory and the list held before, the bytes written are those that section 12 of docs/SPECIFICATION.md asks for: the lines of the plain history's
 -- answers to the commands.
 unfoldable pub GatebookWrites : Type 0
 GatebookWrites =

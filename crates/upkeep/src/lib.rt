@@ -1,5 +1,5 @@
 // The calls that keep the store in order, over a lent memory and the table of the scan list: merge, release, open scan, close scan. Each call is the test of memory
-// and list, the call's own tests in document 01's order, and then what it writes. The scan list itself is not lent here: open and close answer the one place of
+// and list, the call's own tests in the order of section 4 of docs/SPECIFICATION.md, and then what it writes. The scan list itself is not lent here: open and close answer the one place of
 // it that changes, and what stands there then.
 use conditions::any_open;
 use entry::Entry;

@@ -127,7 +127,7 @@ pub fn used_words(memory: &[u8]) -> Vec<&[u8]> {
         run(memory, Region::Header, 0, header::MERGES_MADE + 1),
         run(memory, Region::Opens, 0, OPENS),
         run(memory, Region::Used, 0, layout.ranges),
-        run(memory, Region::Current, 0, layout.places),
+        run(memory, Region::Current, 0, layout.chunks),
     ];
     let rows = word(memory, header::ROWS_GIVEN) as usize;
     for region in [Region::RowTransaction, Region::RowStamp, Region::RowLink] {
@@ -143,7 +143,7 @@ pub fn used_words(memory: &[u8]) -> Vec<&[u8]> {
     }
     for region in [
         Region::PageState,
-        Region::PagePlace,
+        Region::PageChunk,
         Region::PageReplaced,
         Region::PageLineage,
         Region::PageNewest,

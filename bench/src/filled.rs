@@ -1,6 +1,6 @@
 //! Stores of a shape, filled to a share of their rows and tail records.
 
-use checks::memory::{Layout, Scan, ROWS, SCANS};
+use checks::memory::{Layout, ScanEntry, ROWS, SCANS};
 use checks::plain::Plain;
 use checks::Store;
 use reference::{Answer, Call, Shape};
@@ -19,7 +19,7 @@ pub struct Version {
 #[derive(Clone)]
 pub struct Filled {
     pub memory: Vec<u8>,
-    pub scans: Vec<Scan>,
+    pub scans: Vec<ScanEntry>,
     pub shape: Shape,
     /// Rows given, and the records used in range 0 before the open transaction's one.
     pub rows: u32,
@@ -48,7 +48,7 @@ impl Filled {
     /// The same with so many other transactions open beside it.
     pub fn crowded(shape: Shape, percent: u32, others: u32) -> Filled {
         let layout = Layout::of(&shape);
-        let (memory, scans) = (vec![0; layout.need()], vec![Scan::FREE; SCANS]);
+        let (memory, scans) = (vec![0; layout.need()], vec![ScanEntry::FREE; SCANS]);
         let rows = (shape.rows() * percent / 100).clamp(1, shape.rows() - 1);
         let (settled, open, scan, last, versions) = (0, 0, 0, 0, Vec::new());
         let mut filled = Filled { memory, scans, shape, rows, settled, open, scan, last, versions };

@@ -6,7 +6,7 @@ use reference::{generate, trace, Answer, Call, History, Shape};
 
 use crate::facts;
 use crate::lent::Lent;
-use crate::memory::{Layout, Scan, SCANS};
+use crate::memory::{Layout, ScanEntry, SCANS};
 use crate::store::{writes, writes_list, Store};
 
 /// What the lists of a run came to.
@@ -58,13 +58,13 @@ pub fn run(store: &dyn Store, first: u64, count: u64) -> Result<Tally, String> {
 /// A store's lent bytes with those before the call, to see what a call changed.
 pub struct Watched {
     pub memory: Lent<u8>,
-    pub scans: Lent<Scan>,
+    pub scans: Lent<ScanEntry>,
     memory_before: Vec<u8>,
-    scans_before: Vec<Scan>,
+    scans_before: Vec<ScanEntry>,
 }
 
 impl Watched {
-    pub fn new(memory: Lent<u8>, scans: Lent<Scan>) -> Watched {
+    pub fn new(memory: Lent<u8>, scans: Lent<ScanEntry>) -> Watched {
         let memory_before = memory.get().to_vec();
         let scans_before = scans.get().to_vec();
         Watched { memory, scans, memory_before, scans_before }
@@ -106,7 +106,7 @@ impl Watched {
         if self.memory.get()[need..] != self.memory_before[need..] {
             return Err("making changed a byte past the need".to_string());
         }
-        if self.scans.get().iter().any(Scan::is_open) {
+        if self.scans.get().iter().any(ScanEntry::is_open) {
             return Err("making left a place that is not free".to_string());
         }
         match facts::failing(self.memory.get(), self.scans.get()) {

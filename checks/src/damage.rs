@@ -7,7 +7,7 @@ use reference::{generate, trace, Answer, Call, Shape};
 
 use crate::agree::{made, Watched};
 use crate::facts::{self, Stored};
-use crate::memory::{header, list_word, word, Layout, Scan, SCANS, SCAN_WORDS, WORD};
+use crate::memory::{header, list_word, word, Layout, ScanEntry, SCANS, SCAN_WORDS, WORD};
 use crate::operands::{call_for, COMMANDS};
 use crate::shortcuts::{self, Differing, Differs};
 use crate::stated;
@@ -81,7 +81,7 @@ pub fn every_byte(store: &dyn Store, seed: u64) -> Result<Tally, String> {
 }
 
 /// Changes bits of a byte of a scan list.
-pub fn flip(list: &mut [Scan], at: usize, bits: u8) {
+pub fn flip(list: &mut [ScanEntry], at: usize, bits: u8) {
     *list_word(list, at / WORD) ^= u32::from(bits) << (8 * (at % WORD));
 }
 

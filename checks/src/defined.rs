@@ -5,12 +5,12 @@
 use reference::{Answer, Call, Shape};
 
 use crate::facts;
-use crate::memory::{put_word, word, Layout, Region, Scan, REGIONS, SCANS};
+use crate::memory::{put_word, word, Layout, Region, ScanEntry, REGIONS, SCANS};
 use crate::store::Store;
 
 const RANGE_ROWS: usize = 64;
 const MOST_NUMBERS: u32 = 65_535;
-const FREE_PLACE: Scan = Scan::FREE;
+const FREE_ENTRY: ScanEntry = ScanEntry::FREE;
 
 /// The definitions as a store.
 #[derive(Clone, Copy, Debug, Default)]
@@ -25,7 +25,7 @@ impl Store for Defined {
         }
     }
 
-    fn make(&self, memory: &mut [u8], list: &mut [Scan], shape: &Shape) -> Answer {
+    fn make(&self, memory: &mut [u8], list: &mut [ScanEntry], shape: &Shape) -> Answer {
         if !shape.within_limits() {
             return Answer::Refused(1);
         }
@@ -41,17 +41,17 @@ impl Store for Defined {
         view.put(Region::Header, 1, shape.ranges);
         view.put(Region::Header, 2, shape.capacity);
         view.put(Region::Header, 3, shape.spares);
-        for place in 0..layout.places {
+        for place in 0..layout.chunks {
             view.put(Region::Current, place, place as u32);
-            view.put(Region::PagePlace, place, place as u32);
+            view.put(Region::PageChunk, place, place as u32);
             view.put(Region::PageState, place, 1);
         }
         view.lay(memory);
-        list.fill(FREE_PLACE);
+        list.fill(FREE_ENTRY);
         Answer::Done
     }
 
-    fn call(&self, memory: &mut [u8], list: &mut [Scan], call: &Call) -> Answer {
+    fn call(&self, memory: &mut [u8], list: &mut [ScanEntry], call: &Call) -> Answer {
         if facts::failing(memory, list).is_some() {
             return Answer::Refused(2);
         }
@@ -61,7 +61,7 @@ impl Store for Defined {
             return Answer::Refused(number);
         }
         let answer = view.reply_in(&places, call);
-        list.copy_from_slice(&view.places_after(&places, call));
+        list.copy_from_slice(&view.entries_after(&places, call));
         view.act_in(&places, call).lay(memory);
         answer
     }
@@ -201,7 +201,7 @@ impl View {
     fn page_in(&self, at: usize) -> PageWords {
         PageWords {
             state: self.get(Region::PageState, at),
-            place: self.get(Region::PagePlace, at),
+            place: self.get(Region::PageChunk, at),
             made: self.get(Region::PageMade, at),
             replaced: self.get(Region::PageReplaced, at),
             lineage: self.get(Region::PageLineage, at),
@@ -221,12 +221,12 @@ impl View {
         self.get(Region::TailValues, slot * self.layout.columns + column)
     }
 
-    fn place_of(&self, range: usize, column: usize) -> usize {
+    fn chunk_of(&self, range: usize, column: usize) -> usize {
         range * self.layout.columns + column
     }
 
     fn current_in(&self, range: usize, column: usize) -> usize {
-        self.get(Region::Current, self.place_of(range, column)) as usize
+        self.get(Region::Current, self.chunk_of(range, column)) as usize
     }
 
     fn cell_in(&self, page: usize, at: usize) -> u32 {
@@ -237,14 +237,14 @@ impl View {
         &self.lists[Region::Opens as usize]
     }
 
-    fn open_place(&self, transaction: u32) -> usize {
+    fn open_index(&self, transaction: u32) -> usize {
         let opens = self.opens();
         opens.iter().position(|word| bears(transaction, *word)).unwrap_or(opens.len())
     }
 }
 
-fn scan_place(places: &[Scan], number: u32) -> Scan {
-    places.iter().copied().find(|scan| bears(number, scan.number)).unwrap_or(FREE_PLACE)
+fn scan_entry(places: &[ScanEntry], number: u32) -> ScanEntry {
+    places.iter().copied().find(|scan| bears(number, scan.number)).unwrap_or(FREE_ENTRY)
 }
 
 // Reading
@@ -310,7 +310,7 @@ impl View {
     }
 
     fn own_changes(&self, transaction: u32) -> u32 {
-        match self.get(Region::Changes, self.open_place(transaction)) {
+        match self.get(Region::Changes, self.open_index(transaction)) {
             0 => 0,
             _ => transaction,
         }
@@ -319,14 +319,14 @@ impl View {
     fn was_current(&self, merges: u32, place: usize, page: usize) -> bool {
         let x = self.page_in(page);
         x.state > 1
-            && x.place as usize % self.layout.places == place
+            && x.place as usize % self.layout.chunks == place
             && x.made <= merges
             && merges < x.replaced
     }
 
     fn scan_page(&self, merges: u32, g: usize, c: usize) -> usize {
         let current = self.current_in(g, c);
-        let place = self.place_of(g, c);
+        let place = self.chunk_of(g, c);
         if self.page_in(current).made <= merges {
             return current;
         }
@@ -334,7 +334,7 @@ impl View {
         old.unwrap_or(current)
     }
 
-    fn sum_in(&self, scan: Scan, c: usize) -> Answer {
+    fn sum_in(&self, scan: ScanEntry, c: usize) -> Answer {
         let (mut count, mut sum) = (0, 0);
         for row in 0..self.rows_given() as usize {
             if self.visible_in(scan.stamp, 0, row) {
@@ -359,7 +359,7 @@ impl View {
     }
 
     fn noted(mut self, transaction: u32) -> View {
-        let place = self.open_place(transaction);
+        let place = self.open_index(transaction);
         let noted = self.get(Region::Changes, place).wrapping_add(1);
         self.put(Region::Changes, place, noted);
         self
@@ -385,7 +385,7 @@ impl View {
     }
 
     fn freed(mut self, transaction: u32) -> View {
-        let place = self.open_place(transaction);
+        let place = self.open_index(transaction);
         self.put(Region::Opens, place, 0);
         self.put(Region::Changes, place, 0);
         self
@@ -514,9 +514,9 @@ impl View {
                 newest = newest.max(y.stamp);
             }
         }
-        let place = before.place_of(g, c);
+        let place = before.chunk_of(g, c);
         self.put(Region::PageState, new, 1);
-        self.put(Region::PagePlace, new, place as u32);
+        self.put(Region::PageChunk, new, place as u32);
         self.put(Region::PageMade, new, merges);
         self.put(Region::PageLineage, new, through as u32);
         self.put(Region::PageNewest, new, newest);
@@ -527,13 +527,13 @@ impl View {
         self
     }
 
-    fn releasable(&self, places: &[Scan], page: usize) -> bool {
+    fn releasable(&self, places: &[ScanEntry], page: usize) -> bool {
         let x = self.page_in(page);
         let needed = places.iter().any(|scan| scan.number != 0 && scan.merges < x.replaced);
         x.state > 1 && !needed
     }
 
-    fn released_in(mut self, places: &[Scan]) -> View {
+    fn released_in(mut self, places: &[ScanEntry]) -> View {
         let before = self.clone();
         for page in 0..self.layout.pages {
             if before.releasable(places, page) {
@@ -609,7 +609,7 @@ impl View {
 
     /// The refusals in the stated order, each with whether it applies. A test is only looked at
     /// where those before it pass, as it may stand on them.
-    fn tests_in(&self, places: &[Scan], call: &Call) -> Vec<(u8, bool)> {
+    fn tests_in(&self, places: &[ScanEntry], call: &Call) -> Vec<(u8, bool)> {
         let no_scan = |number| !places.iter().any(|scan| bears(number, scan.number));
         let mut tests: Vec<(u8, bool)> = Vec::new();
         let mut test = |number: u8, applies: &dyn Fn() -> bool| {
@@ -697,7 +697,7 @@ impl View {
         tests
     }
 
-    fn reply_in(&self, places: &[Scan], call: &Call) -> Answer {
+    fn reply_in(&self, places: &[ScanEntry], call: &Call) -> Answer {
         let used = |row: u32| self.used_in(range_of(row as usize));
         match *call {
             Call::Begin => Answer::Number(self.transactions_given() + 1),
@@ -721,11 +721,11 @@ impl View {
             }
             Call::OpenScan { .. } => Answer::Number(self.scans_given() + 1),
             Call::ScanRead { scan, row, column } => {
-                let (scan, row, c) = (scan_place(places, scan), row as usize, column as usize);
+                let (scan, row, c) = (scan_entry(places, scan), row as usize, column as usize);
                 let page = self.scan_page(scan.merges, range_of(row), c);
                 self.read_in(scan.stamp, 0, page, row, c)
             }
-            Call::Sum { scan, column } => self.sum_in(scan_place(places, scan), column as usize),
+            Call::Sum { scan, column } => self.sum_in(scan_entry(places, scan), column as usize),
             Call::Release => {
                 let freed = |page: &usize| self.releasable(places, *page);
                 Answer::Number((0..self.layout.pages).filter(freed).count() as u32)
@@ -741,7 +741,7 @@ impl View {
         }
     }
 
-    fn act_in(self, places: &[Scan], call: &Call) -> View {
+    fn act_in(self, places: &[ScanEntry], call: &Call) -> View {
         match *call {
             Call::Begin => self.begun(),
             Call::Insert { transaction, ref values } => self.inserted_in(transaction, values),
@@ -778,15 +778,15 @@ impl View {
         }
     }
 
-    fn places_after(&self, places: &[Scan], call: &Call) -> Vec<Scan> {
+    fn entries_after(&self, places: &[ScanEntry], call: &Call) -> Vec<ScanEntry> {
         let mut after = places.to_vec();
         let (found, new) = match *call {
             Call::OpenScan { stamp } => (
                 places.iter().position(|scan| scan.number == 0),
-                Scan { number: self.scans_given() + 1, stamp, merges: self.merges_made() },
+                ScanEntry { number: self.scans_given() + 1, stamp, merges: self.merges_made() },
             ),
             Call::Close { scan: number } => {
-                (places.iter().position(|scan| bears(number, scan.number)), FREE_PLACE)
+                (places.iter().position(|scan| bears(number, scan.number)), FREE_ENTRY)
             }
             _ => return after,
         };

@@ -2,11 +2,11 @@
 //! Written from that paragraph and the layout alone, to judge a store's answer 2, so it is plain
 //! rather than quick.
 
-use crate::memory::{header, page, word, Layout, Region, Scan};
+use crate::memory::{header, page, word, Layout, Region, ScanEntry};
 use crate::memory::{NUMBERS, OPENS, ROWS, SCANS};
 
 /// What is stored, or the name of the first fact that fails.
-pub fn usable<'m>(memory: &'m [u8], list: &[Scan]) -> Result<Stored<'m>, &'static str> {
+pub fn usable<'m>(memory: &'m [u8], list: &[ScanEntry]) -> Result<Stored<'m>, &'static str> {
     let stored = Stored::of(memory, list)?;
     match FACTS.iter().find(|fact| !(fact.1)(&stored)) {
         Some(fact) => Err(fact.0),
@@ -15,12 +15,12 @@ pub fn usable<'m>(memory: &'m [u8], list: &[Scan]) -> Result<Stored<'m>, &'stati
 }
 
 /// The name of the first fact that fails.
-pub fn failing(memory: &[u8], list: &[Scan]) -> Option<&'static str> {
+pub fn failing(memory: &[u8], list: &[ScanEntry]) -> Option<&'static str> {
     usable(memory, list).err()
 }
 
 /// The names of all facts that fail.
-pub fn all_failing(memory: &[u8], list: &[Scan]) -> Vec<&'static str> {
+pub fn all_failing(memory: &[u8], list: &[ScanEntry]) -> Vec<&'static str> {
     match Stored::of(memory, list) {
         Err(name) => vec![name],
         Ok(stored) => FACTS.iter().filter(|fact| !(fact.1)(&stored)).map(|fact| fact.0).collect(),
@@ -34,8 +34,8 @@ pub fn names() -> impl Iterator<Item = &'static str> {
 
 // These are looked at first: without them there is no word to look at.
 
-/// "a scan list under 16 places"
-const LIST: &str = "the scan list has 16 places";
+/// "a scan list under 16 entries"
+const LIST: &str = "the scan list has 16 entries";
 /// "the stored measures lie within their limits"; a memory too short for them has none.
 const MEASURES: &str = "the measures lie within their limits";
 /// "shorter than the shape needs"
@@ -119,18 +119,18 @@ const FACTS: [Fact; 22] = [
     }),
     // "current, waiting and free pages are distinct and in the pool": each place's page is in the
     // pool, is marked current and names its place, so no other place has it.
-    ("a current page is in the pool, marked and of its place", |s| {
-        (0..s.layout.places).all(|place| {
+    ("a current page is in the pool, marked and of its chunk", |s| {
+        (0..s.layout.chunks).all(|place| {
             let at = s.get(Region::Current, place) as usize;
             at < s.layout.pages
                 && s.get(Region::PageState, at) == page::CURRENT
-                && s.get(Region::PagePlace, at) as usize == place
+                && s.get(Region::PageChunk, at) as usize == place
         })
     }),
     // "a page's lineage is not above the records used"
     ("a page's lineage is not above the records used", |s| {
         s.kept_pages().all(|at| {
-            let place = s.get(Region::PagePlace, at) as usize % s.layout.places;
+            let place = s.get(Region::PageChunk, at) as usize % s.layout.chunks;
             let range = place / s.layout.columns;
             s.get(Region::PageLineage, at) <= s.get(Region::Used, range)
         })
@@ -142,11 +142,11 @@ pub struct Stored<'m> {
     memory: &'m [u8],
     pub layout: Layout,
     /// The open scans.
-    pub scans: Vec<Scan>,
+    pub scans: Vec<ScanEntry>,
 }
 
 impl Stored<'_> {
-    fn of<'m>(memory: &'m [u8], list: &[Scan]) -> Result<Stored<'m>, &'static str> {
+    fn of<'m>(memory: &'m [u8], list: &[ScanEntry]) -> Result<Stored<'m>, &'static str> {
         if list.len() < SCANS {
             return Err(LIST);
         }
@@ -154,7 +154,7 @@ impl Stored<'_> {
         if memory.len() < layout.need() {
             return Err(LENGTH);
         }
-        let scans = list.iter().copied().filter(Scan::is_open).collect();
+        let scans = list.iter().copied().filter(ScanEntry::is_open).collect();
         Ok(Stored { memory, layout, scans })
     }
 
@@ -195,7 +195,7 @@ impl Stored<'_> {
     /// Any other page is free, whatever it says.
     fn kept_pages(&self) -> impl Iterator<Item = usize> + '_ {
         let named = |at: &usize| {
-            (0..self.layout.places).any(|place| self.get(Region::Current, place) as usize == *at)
+            (0..self.layout.chunks).any(|place| self.get(Region::Current, place) as usize == *at)
         };
         (0..self.layout.pages).filter(move |at| named(at) || self.waits(*at))
     }

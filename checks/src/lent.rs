@@ -3,7 +3,7 @@
 
 use reference::random::Random;
 
-use crate::memory::Scan;
+use crate::memory::ScanEntry;
 
 const GUARD: usize = 64;
 
@@ -29,14 +29,16 @@ impl Content for u8 {
     }
 }
 
-impl Content for Scan {
-    const MARK: Scan = Scan { number: 0xA5A5_A5A5, stamp: 0xA5A5_A5A5, merges: 0xA5A5_A5A5 };
+impl Content for ScanEntry {
+    const MARK: ScanEntry =
+        ScanEntry { number: 0xA5A5_A5A5, stamp: 0xA5A5_A5A5, merges: 0xA5A5_A5A5 };
     const SHIFTS: u32 = 1;
 
-    fn fill(all: &mut [Scan], random: &mut Random) {
+    fn fill(all: &mut [ScanEntry], random: &mut Random) {
         for scan in all {
             let (one, other) = (random.word(), random.word());
-            *scan = Scan { number: one as u32, stamp: (one >> 32) as u32, merges: other as u32 };
+            *scan =
+                ScanEntry { number: one as u32, stamp: (one >> 32) as u32, merges: other as u32 };
         }
     }
 }

@@ -4,7 +4,7 @@ use deskrook::c::{self, Reply};
 use deskrook::{Mask, Refusal, Row, ScanNumber, Stamp, Tail, Transaction};
 use reference::{Answer, Call, Shape};
 
-use crate::memory::Scan;
+use crate::memory::ScanEntry;
 use crate::store::Store;
 
 /// The library through its C interface.
@@ -28,13 +28,14 @@ impl Store for Library {
         answer
     }
 
-    fn make(&self, memory: &mut [u8], scans: &mut [Scan], shape: &Shape) -> Answer {
+    fn make(&self, memory: &mut [u8], scans: &mut [ScanEntry], shape: &Shape) -> Answer {
         let Shape { columns, ranges, capacity, spares } = *shape;
         let (mem, bytes) = (memory.as_mut_ptr(), memory.len());
-        let (list, places) = (scans.as_mut_ptr().cast(), scans.len());
+        let (list, entries) = (scans.as_mut_ptr().cast(), scans.len());
         // SAFETY: pointers and lengths are those of two slices borrowed for the call alone.
-        let reply =
-            unsafe { c::deskrook_make(mem, bytes, list, places, columns, ranges, capacity, spares) };
+        let reply = unsafe {
+            c::deskrook_make(mem, bytes, list, entries, columns, ranges, capacity, spares)
+        };
         filled(&reply, (0, 0, 0));
         match reply.result {
             c::OK => Answer::Done,
@@ -42,59 +43,61 @@ impl Store for Library {
         }
     }
 
-    fn call(&self, memory: &mut [u8], scans: &mut [Scan], call: &Call) -> Answer {
+    fn call(&self, memory: &mut [u8], scans: &mut [ScanEntry], call: &Call) -> Answer {
         answer(call, &reply(memory, scans, call))
     }
 }
 
 /// The call by its name.
-fn reply(memory: &mut [u8], scans: &mut [Scan], call: &Call) -> Reply {
+fn reply(memory: &mut [u8], scans: &mut [ScanEntry], call: &Call) -> Reply {
     let (mem, bytes) = (memory.as_mut_ptr(), memory.len());
-    let (list, places) = (scans.as_mut_ptr().cast(), scans.len());
+    let (list, entries) = (scans.as_mut_ptr().cast(), scans.len());
     // SAFETY: pointers and lengths are those of slices borrowed for the call, memory and list
-    // alone; `Scan` is declared as the library's.
+    // alone; `ScanEntry` is declared as the library's.
     unsafe {
         match *call {
-            Call::Begin => c::deskrook_begin(mem, bytes, list, places),
+            Call::Begin => c::deskrook_begin(mem, bytes, list, entries),
             Call::Insert { transaction, ref values } => {
                 let (first, count) = (values.as_ptr(), values.len());
-                c::deskrook_insert(mem, bytes, list, places, transaction, first, count)
+                c::deskrook_insert(mem, bytes, list, entries, transaction, first, count)
             }
             Call::Update { transaction, row, mask, ref values } => {
                 let (first, count) = (values.as_ptr(), values.len());
-                c::deskrook_update(mem, bytes, list, places, transaction, row, mask, first, count)
+                c::deskrook_update(mem, bytes, list, entries, transaction, row, mask, first, count)
             }
             Call::Delete { transaction, row } => {
-                c::deskrook_delete(mem, bytes, list, places, transaction, row)
+                c::deskrook_delete(mem, bytes, list, entries, transaction, row)
             }
             Call::Commit { transaction, stamp } => {
-                c::deskrook_commit(mem, bytes, list, places, transaction, stamp)
+                c::deskrook_commit(mem, bytes, list, entries, transaction, stamp)
             }
-            Call::Abort { transaction } => c::deskrook_abort(mem, bytes, list, places, transaction),
+            Call::Abort { transaction } => {
+                c::deskrook_abort(mem, bytes, list, entries, transaction)
+            }
             Call::Latest { row, column } => {
-                c::deskrook_latest(mem, bytes, list, places, row, column)
+                c::deskrook_latest(mem, bytes, list, entries, row, column)
             }
             Call::ReadAt { stamp, row, column } => {
-                c::deskrook_read_at(mem, bytes, list, places, stamp, row, column)
+                c::deskrook_read_at(mem, bytes, list, entries, stamp, row, column)
             }
             Call::OwnRead { transaction, row, column } => {
-                c::deskrook_own_read(mem, bytes, list, places, transaction, row, column)
+                c::deskrook_own_read(mem, bytes, list, entries, transaction, row, column)
             }
-            Call::OpenScan { stamp } => c::deskrook_open_scan(mem, bytes, list, places, stamp),
+            Call::OpenScan { stamp } => c::deskrook_open_scan(mem, bytes, list, entries, stamp),
             Call::ScanRead { scan, row, column } => {
-                c::deskrook_scan_read(mem, bytes, list, places, scan, row, column)
+                c::deskrook_scan_read(mem, bytes, list, entries, scan, row, column)
             }
-            Call::Sum { scan, column } => c::deskrook_sum(mem, bytes, list, places, scan, column),
-            Call::Close { scan } => c::deskrook_close_scan(mem, bytes, list, places, scan),
+            Call::Sum { scan, column } => c::deskrook_sum(mem, bytes, list, entries, scan, column),
+            Call::Close { scan } => c::deskrook_close_scan(mem, bytes, list, entries, scan),
             Call::Merge { range, column, through } => {
-                c::deskrook_merge(mem, bytes, list, places, range, column, through)
+                c::deskrook_merge(mem, bytes, list, entries, range, column, through)
             }
-            Call::Release => c::deskrook_release(mem, bytes, list, places),
+            Call::Release => c::deskrook_release(mem, bytes, list, entries),
             Call::PageCell { column, row } => {
-                c::deskrook_page_cell(mem, bytes, list, places, column, row)
+                c::deskrook_page_cell(mem, bytes, list, entries, column, row)
             }
             Call::Lineage { range, column } => {
-                c::deskrook_lineage(mem, bytes, list, places, range, column)
+                c::deskrook_lineage(mem, bytes, list, entries, range, column)
             }
         }
     }
@@ -154,14 +157,14 @@ impl Store for Wrapper {
         shaped(shape).bytes().map_err(|refusal| refusal.number() as u8)
     }
 
-    fn make(&self, memory: &mut [u8], scans: &mut [Scan], shape: &Shape) -> Answer {
+    fn make(&self, memory: &mut [u8], scans: &mut [ScanEntry], shape: &Shape) -> Answer {
         match deskrook::Store::make(memory, list(scans), shaped(shape)) {
             Ok(_) => Answer::Done,
             Err(refusal) => Answer::Refused(refusal.number() as u8),
         }
     }
 
-    fn call(&self, memory: &mut [u8], scans: &mut [Scan], call: &Call) -> Answer {
+    fn call(&self, memory: &mut [u8], scans: &mut [ScanEntry], call: &Call) -> Answer {
         wrapped(&mut deskrook::Store::lent(memory, list(scans)), call)
             .unwrap_or_else(|refusal| Answer::Refused(refusal.number() as u8))
     }
@@ -173,7 +176,7 @@ fn shaped(shape: &Shape) -> deskrook::Shape {
 }
 
 /// The list in the crate's type.
-fn list(scans: &mut [Scan]) -> &mut [deskrook::Scan] {
+fn list(scans: &mut [ScanEntry]) -> &mut [deskrook::ScanEntry] {
     // SAFETY: both types are three 32-bit words by `repr(C)`, and the borrow is handed on.
     unsafe { std::slice::from_raw_parts_mut(scans.as_mut_ptr().cast(), scans.len()) }
 }

@@ -7,7 +7,7 @@ use reference::{call::RANGE_ROWS, Shape};
 pub const WORD: usize = 4;
 /// Rows in a range, cells in a page.
 pub const ROWS: usize = RANGE_ROWS as usize;
-/// Places for open transactions, and the fewest places of a scan list.
+/// Entries for open transactions, and the fewest entries of a scan list.
 pub const OPENS: usize = 8;
 pub const SCANS: usize = 16;
 /// The greatest transaction or scan number.
@@ -38,7 +38,7 @@ pub enum Region {
     Used,
     Current,
     PageState,
-    PagePlace,
+    PageChunk,
     PageMade,
     PageReplaced,
     PageLineage,
@@ -92,7 +92,7 @@ pub struct Layout {
     pub capacity: usize,
     pub rows: usize,
     pub slots: usize,
-    pub places: usize,
+    pub chunks: usize,
     pub pages: usize,
     bases: [usize; REGIONS + 1],
 }
@@ -105,8 +105,8 @@ impl Layout {
         let capacity = shape.capacity as usize;
         let rows = ranges * ROWS;
         let slots = ranges * capacity;
-        let places = columns * ranges;
-        let pages = places + shape.spares as usize;
+        let chunks = columns * ranges;
+        let pages = chunks + shape.spares as usize;
         let lengths: [usize; REGIONS] = [
             header::WORDS,
             OPENS,
@@ -124,7 +124,7 @@ impl Layout {
             slots,
             slots * columns,
             ranges,
-            places,
+            chunks,
             pages,
             pages,
             pages,
@@ -138,7 +138,7 @@ impl Layout {
         for (region, length) in lengths.iter().enumerate() {
             bases[region + 1] = bases[region] + length;
         }
-        Layout { columns, ranges, capacity, rows, slots, places, pages, bases }
+        Layout { columns, ranges, capacity, rows, slots, chunks, pages, bases }
     }
 
     /// The shape that the memory's first words say, if it lies within the limits.
@@ -183,9 +183,9 @@ impl Layout {
         range * self.capacity + k - 1
     }
 
-    /// The place of a range and column.
+    /// The chunk of a range and column.
     #[inline(always)]
-    pub fn place(&self, range: usize, column: usize) -> usize {
+    pub fn chunk(&self, range: usize, column: usize) -> usize {
         range * self.columns + column
     }
 }
@@ -211,29 +211,29 @@ pub fn words(bytes: &[u8]) -> impl ExactSizeIterator<Item = u32> + '_ {
         .map(|word| u32::from_le_bytes(word.try_into().expect("a word has four bytes")))
 }
 
-/// A place of the scan list, as the C interface has it; number 0 marks a free one.
+/// An entry of the scan list, as the C interface has it; number 0 marks a free one.
 #[repr(C)]
 #[derive(Clone, Copy, Debug, PartialEq, Eq)]
-pub struct Scan {
+pub struct ScanEntry {
     pub number: u32,
     pub stamp: u32,
     pub merges: u32,
 }
 
-impl Scan {
-    /// A free place as the store writes it.
-    pub const FREE: Scan = Scan { number: 0, stamp: 0, merges: 0 };
+impl ScanEntry {
+    /// A free entry as the store writes it.
+    pub const FREE: ScanEntry = ScanEntry { number: 0, stamp: 0, merges: 0 };
 
     pub fn is_open(&self) -> bool {
         self.number != 0
     }
 }
 
-/// Words in a place of the scan list.
+/// Words in an entry of the scan list.
 pub const SCAN_WORDS: usize = 3;
 
 /// Word i of a scan list.
-pub fn list_word(list: &mut [Scan], i: usize) -> &mut u32 {
+pub fn list_word(list: &mut [ScanEntry], i: usize) -> &mut u32 {
     let scan = &mut list[i / SCAN_WORDS];
     match i % SCAN_WORDS {
         0 => &mut scan.number,

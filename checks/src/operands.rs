@@ -4,13 +4,13 @@
 use reference::random::Random;
 use reference::Call;
 
-use crate::memory::{header, word, words, Layout, Region, Scan, OPENS, ROWS, WORD};
+use crate::memory::{header, word, words, Layout, Region, ScanEntry, OPENS, ROWS, WORD};
 
 /// The command bytes of the calls.
 pub const COMMANDS: std::ops::RangeInclusive<u8> = 0x01..=0x11;
 
 /// A call of a command byte with numbers that fit these bytes, so that it is often accepted.
-pub fn call_for(byte: u8, memory: &[u8], list: &[Scan], random: &mut Random) -> Call {
+pub fn call_for(byte: u8, memory: &[u8], list: &[ScanEntry], random: &mut Random) -> Call {
     let any = random.percent(5);
     Operands { memory, list, layout: readable(memory), random, any }.call(byte)
 }
@@ -22,7 +22,7 @@ fn readable(memory: &[u8]) -> Option<Layout> {
 
 struct Operands<'a> {
     memory: &'a [u8],
-    list: &'a [Scan],
+    list: &'a [ScanEntry],
     layout: Option<Layout>,
     random: &'a mut Random,
     /// Whether the numbers are to be anything.

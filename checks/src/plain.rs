@@ -13,7 +13,7 @@ mod writing;
 use reference::{Answer, Call, Shape};
 
 use crate::memory::{header, kind, page, put_word, state, word, words};
-use crate::memory::{Layout, Region, Scan, NUMBERS, OPENS, ROWS, SCANS, WORD};
+use crate::memory::{Layout, Region, ScanEntry, NUMBERS, OPENS, ROWS, SCANS, WORD};
 use crate::store::Store;
 
 pub use sound::sound;
@@ -28,11 +28,11 @@ impl<const FAULT: u8> Store for Plain<FAULT> {
         Ok(Layout::of(shape).need())
     }
 
-    fn make(&self, memory: &mut [u8], scans: &mut [Scan], shape: &Shape) -> Answer {
+    fn make(&self, memory: &mut [u8], scans: &mut [ScanEntry], shape: &Shape) -> Answer {
         answer(make(memory, scans, shape))
     }
 
-    fn call(&self, memory: &mut [u8], scans: &mut [Scan], call: &Call) -> Answer {
+    fn call(&self, memory: &mut [u8], scans: &mut [ScanEntry], call: &Call) -> Answer {
         let Some(layout) = sound(memory, scans) else {
             return Answer::Refused(2);
         };
@@ -56,20 +56,20 @@ fn require(holds: bool, number: u8) -> Result<(), u8> {
     }
 }
 
-/// Making looks at no content. It frees every place of the list, however long the list is.
-fn make(memory: &mut [u8], scans: &mut [Scan], shape: &Shape) -> Outcome {
+/// Making looks at no content. It frees every entry of the list, however long the list is.
+fn make(memory: &mut [u8], scans: &mut [ScanEntry], shape: &Shape) -> Outcome {
     require(shape.within_limits(), 1)?;
     let layout = Layout::of(shape);
     require(memory.len() >= layout.need() && scans.len() >= SCANS, 2)?;
     memory[..layout.need()].fill(0);
-    scans.fill(Scan::FREE);
+    scans.fill(ScanEntry::FREE);
     put_word(memory, header::COLUMNS, shape.columns);
     put_word(memory, header::RANGES, shape.ranges);
     put_word(memory, header::CAPACITY, shape.capacity);
     put_word(memory, header::SPARES, shape.spares);
-    for place in 0..layout.places {
+    for place in 0..layout.chunks {
         put_word(memory, layout.base(Region::Current) + place, place as u32);
-        put_word(memory, layout.base(Region::PagePlace) + place, place as u32);
+        put_word(memory, layout.base(Region::PageChunk) + place, place as u32);
         put_word(memory, layout.base(Region::PageState) + place, page::CURRENT);
     }
     Ok(Answer::Done)
@@ -78,7 +78,7 @@ fn make(memory: &mut [u8], scans: &mut [Scan], shape: &Shape) -> Outcome {
 /// A store whose stored facts hold.
 struct Table<'m, const FAULT: u8> {
     memory: &'m mut [u8],
-    scans: &'m mut [Scan],
+    scans: &'m mut [ScanEntry],
     layout: Layout,
 }
 
@@ -117,7 +117,7 @@ impl<const FAULT: u8> Table<'_, FAULT> {
     }
 
     fn current(&self, range: usize, column: usize) -> usize {
-        self.get(Region::Current, self.layout.place(range, column)) as usize
+        self.get(Region::Current, self.layout.chunk(range, column)) as usize
     }
 }
 
@@ -193,7 +193,7 @@ impl<const FAULT: u8> Table<'_, FAULT> {
             }
             Call::Close { scan } => {
                 let (place, _) = self.scan(scan)?;
-                self.scans[place] = Scan::FREE;
+                self.scans[place] = ScanEntry::FREE;
                 Ok(Answer::Done)
             }
             Call::Merge { range, column, through } => {
@@ -242,19 +242,19 @@ impl<const FAULT: u8> Table<'_, FAULT> {
         require(self.scans.iter().filter(|scan| scan.is_open()).count() < SCANS, 14)?;
         let place = self.scans.iter().position(|scan| !scan.is_open()).ok_or(14)?;
         let merges = self.header(header::MERGES_MADE);
-        self.scans[place] = Scan { number: given + 1, stamp, merges };
+        self.scans[place] = ScanEntry { number: given + 1, stamp, merges };
         self.put(Region::Header, header::SCANS_GIVEN, given + 1);
         Ok(Answer::Number(given + 1))
     }
 
-    /// The place of an open transaction. Number 0 marks a free place, so it is never found.
+    /// The place of an open transaction. Number 0 marks a free entry, so it is never found.
     fn open(&self, transaction: u32) -> Result<usize, u8> {
         require(transaction != 0, 3)?;
         words(self.run(Region::Opens, 0, OPENS)).position(|number| number == transaction).ok_or(3)
     }
 
     /// An open scan and its place.
-    fn scan(&self, number: u32) -> Result<(usize, Scan), u8> {
+    fn scan(&self, number: u32) -> Result<(usize, ScanEntry), u8> {
         require(number != 0, 4)?;
         self.scans.iter().copied().enumerate().find(|(_, scan)| scan.number == number).ok_or(4)
     }

@@ -9,7 +9,7 @@ use crate::agree;
 use crate::damage::{due, good};
 use crate::facts;
 use crate::lent::Lent;
-use crate::memory::{Layout, Scan, REGIONS, SCANS, WORD};
+use crate::memory::{Layout, ScanEntry, REGIONS, SCANS, WORD};
 use crate::operands::{call_for, COMMANDS};
 use crate::shortcuts::{Differing, Differs};
 use crate::stated;
@@ -68,7 +68,7 @@ struct Pair<'s> {
     one: &'s dyn Store,
     other: &'s dyn Store,
     memory: [Lent<u8>; 2],
-    scans: [Lent<Scan>; 2],
+    scans: [Lent<ScanEntry>; 2],
 }
 
 impl<'s> Pair<'s> {
@@ -76,7 +76,7 @@ impl<'s> Pair<'s> {
         one: &'s dyn Store,
         other: &'s dyn Store,
         memory: Lent<u8>,
-        scans: Lent<Scan>,
+        scans: Lent<ScanEntry>,
     ) -> Pair<'s> {
         let (memory, scans) = ([memory.clone(), memory], [scans.clone(), scans]);
         Pair { one, other, memory, scans }

@@ -180,7 +180,7 @@ fn wanted(s: &Stored, call: &Call, n: &Numbers) -> u32 {
 
 /// What the current page of the range and column holds.
 pub fn lineage(s: &Stored, n: &Numbers) -> u32 {
-    let place = s.layout.place(n.range as usize, n.column as usize);
+    let place = s.layout.chunk(n.range as usize, n.column as usize);
     s.get(Region::PageLineage, s.get(Region::Current, place) as usize)
 }
 

@@ -2,7 +2,7 @@
 
 use reference::{Answer, Call, Shape};
 
-use crate::memory::Scan;
+use crate::memory::ScanEntry;
 
 /// Something that makes stores in lent memory and answers calls on them.
 pub trait Store {
@@ -10,10 +10,10 @@ pub trait Store {
     fn need(&self, shape: &Shape) -> Result<usize, u8>;
 
     /// Makes a store; `Done` or a refusal.
-    fn make(&self, memory: &mut [u8], scans: &mut [Scan], shape: &Shape) -> Answer;
+    fn make(&self, memory: &mut [u8], scans: &mut [ScanEntry], shape: &Shape) -> Answer;
 
     /// One of the calls 01 to 11 (hexadecimal).
-    fn call(&self, memory: &mut [u8], scans: &mut [Scan], call: &Call) -> Answer;
+    fn call(&self, memory: &mut [u8], scans: &mut [ScanEntry], call: &Call) -> Answer;
 }
 
 /// Whether an accepted call may change the lent memory.

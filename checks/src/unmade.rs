@@ -6,14 +6,14 @@ use reference::random::Random;
 use reference::Shape;
 
 use crate::lent::{Content, Lent};
-use crate::memory::{header, list_word, page, put_word, word, Layout, Region, Scan};
+use crate::memory::{header, list_word, page, put_word, word, Layout, Region, ScanEntry};
 use crate::memory::{NUMBERS, OPENS, ROWS, SCANS, SCAN_WORDS, WORD};
 
 /// Random memory and list: good ones, nearly good ones, and anything.
-pub fn any_lent(random: &mut Random) -> (Lent<u8>, Lent<Scan>) {
+pub fn any_lent(random: &mut Random) -> (Lent<u8>, Lent<ScanEntry>) {
     let (mut memory, mut list) = match random.below(8) {
-        0 => (anything(6000, 0, random), anything(50, Scan::FREE, random)),
-        1 => (measured(random), anything(50, Scan::FREE, random)),
+        0 => (anything(6000, 0, random), anything(50, ScanEntry::FREE, random)),
+        1 => (measured(random), anything(50, ScanEntry::FREE, random)),
         _ => passing(random),
     };
     match random.below(4) {
@@ -51,7 +51,7 @@ fn change_memory(memory: &mut [u8], random: &mut Random) {
     }
 }
 
-fn change_list(list: &mut [Scan], random: &mut Random) {
+fn change_list(list: &mut [ScanEntry], random: &mut Random) {
     if list.is_empty() {
         return;
     }
@@ -59,7 +59,7 @@ fn change_list(list: &mut [Scan], random: &mut Random) {
     // Another place again, under another number.
     if random.percent(30) {
         let (at, scan) = (any(random), list[any(random)]);
-        list[at] = Scan { number: scan.number.wrapping_add(1), ..scan };
+        list[at] = ScanEntry { number: scan.number.wrapping_add(1), ..scan };
         return;
     }
     let word = list_word(list, random.below((list.len() * SCAN_WORDS) as u32) as usize);
@@ -122,7 +122,7 @@ fn put_measures(bytes: &mut [u8], shape: &Shape) {
 }
 
 /// A memory and list of which every stored fact holds, and else anything.
-pub fn passing(random: &mut Random) -> (Vec<u8>, Vec<Scan>) {
+pub fn passing(random: &mut Random) -> (Vec<u8>, Vec<ScanEntry>) {
     let shape = small_shape(random);
     let mut builder = Builder::new(&shape, random);
     builder.opens();
@@ -234,16 +234,16 @@ impl Builder<'_> {
     /// Another state and place of a page that is not current.
     fn other_page(&mut self) {
         let at = self.random.below(self.layout.pages as u32) as usize;
-        let mut current = (0..self.layout.places).map(|place| self.get(Region::Current, place));
+        let mut current = (0..self.layout.chunks).map(|place| self.get(Region::Current, place));
         if !current.any(|page| page as usize == at) {
             let (state, least) = (self.code(), self.random.below(2));
-            let place = self.random.below(self.layout.places as u32);
+            let place = self.random.below(self.layout.chunks as u32);
             self.page(at, state.max(least), place);
         }
     }
 
     fn other_lineage(&mut self) {
-        let place = self.random.below(self.layout.places as u32) as usize;
+        let place = self.random.below(self.layout.chunks as u32) as usize;
         let used = self.get(Region::Used, place / self.layout.columns);
         let (at, lineage) = (self.get(Region::Current, place), self.up_to(used));
         self.put(Region::PageLineage, at as usize, lineage);
@@ -384,7 +384,7 @@ impl Builder<'_> {
         for at in 0..self.layout.pages {
             let state = self.code().max(least);
             let place = if self.random.percent(70) {
-                self.random.below(self.layout.places as u32)
+                self.random.below(self.layout.chunks as u32)
             } else {
                 self.random.word() as u32
             };
@@ -392,7 +392,7 @@ impl Builder<'_> {
         }
         // Any pages of the pool may be the current ones.
         let mut pool: Vec<usize> = (0..self.layout.pages).collect();
-        for place in 0..self.layout.places {
+        for place in 0..self.layout.chunks {
             let other = place + self.random.below((pool.len() - place) as u32) as usize;
             pool.swap(place, other);
             self.put(Region::Current, place, pool[place] as u32);
@@ -401,12 +401,12 @@ impl Builder<'_> {
     }
 
     fn page(&mut self, at: usize, state: u32, place: u32) {
-        let range = place as usize % self.layout.places / self.layout.columns;
+        let range = place as usize % self.layout.chunks / self.layout.columns;
         let used = self.get(Region::Used, range);
         let (lineage, newest) = (self.up_to(used), self.up_to(self.last));
         let (made, replaced) = (self.up_to(self.merges), self.up_to(self.merges));
         self.put(Region::PageState, at, state);
-        self.put(Region::PagePlace, at, place);
+        self.put(Region::PageChunk, at, place);
         self.put(Region::PageLineage, at, lineage);
         self.put(Region::PageNewest, at, newest);
         self.put(Region::PageReplaced, at, replaced);
@@ -416,8 +416,8 @@ impl Builder<'_> {
     }
 
     /// A list with up to 16 open scans.
-    fn scans(&mut self) -> Vec<Scan> {
-        let mut list = vec![Scan::FREE; SCANS + self.random.below(25) as usize];
+    fn scans(&mut self) -> Vec<ScanEntry> {
+        let mut list = vec![ScanEntry::FREE; SCANS + self.random.below(25) as usize];
         Content::fill(&mut list[..], self.random);
         let share = self.random.pick(&[0, 20, 100]);
         let mut open: Vec<u32> = Vec::new();
@@ -430,7 +430,7 @@ impl Builder<'_> {
             }
             open.push(number);
             let (stamp, merges) = (self.up_to(self.last), self.up_to(self.merges));
-            *place = Scan { number, stamp, merges };
+            *place = ScanEntry { number, stamp, merges };
         }
         list
     }

@@ -13,7 +13,7 @@ const TYPES: [[&str; 3]; 8] = [
     ["i32", "int32_t", "i32"],
     ["i64", "int64_t", "i64"],
     ["usize", "size_t", "usize"],
-    ["Place", "deskrook_scan", "Scan"],
+    ["ScanEntry", "deskrook_scan_entry", "ScanEntry"],
     ["Reply", "deskrook_reply", "Reply"],
 ];
 
@@ -35,7 +35,7 @@ type Named = (String, String);
 struct Interface {
     /// Parameters and result of each function, as C passes them.
     functions: BTreeMap<String, (Vec<Named>, String)>,
-    /// The fields of `Place` and `Reply`.
+    /// The fields of `ScanEntry` and `Reply`.
     structs: BTreeMap<String, Vec<Named>>,
 }
 
@@ -139,7 +139,7 @@ fn exported(texts: &Texts) -> Result<Interface, String> {
         let parameters = list(parameters, |one| slice_or_number(&texts.terms, one))?.concat();
         add(&mut interface, name, parameters, typed(RATTLE, result)?)?;
     }
-    for (text, name) in [(&texts.terms, "Place"), (&texts.replies, "Reply")] {
+    for (text, name) in [(&texts.terms, "ScanEntry"), (&texts.replies, "Reply")] {
         interface.structs.insert(name.to_string(), fields(text, name, RATTLE)?);
     }
     Ok(interface)
@@ -213,7 +213,7 @@ fn header(text: &str) -> Result<Interface, String> {
         let (result, name) = cut(before, " ")?;
         add(&mut interface, name, list(parameters, c_named)?, typed(C, result)?)?;
     }
-    for (kind, name) in [("Place", "deskrook_scan"), ("Reply", "deskrook_reply")] {
+    for (kind, name) in [("ScanEntry", "deskrook_scan_entry"), ("Reply", "deskrook_reply")] {
         let (_, behind) = cut(&code, &format!("typedef struct {name} {{"))?;
         let (fields, _) = cut(behind, &format!("}} {name};"))?;
         let fields = list(&fields.replace(';', ","), c_named)?;
@@ -263,7 +263,8 @@ fn declared(texts: &Texts) -> Result<Interface, String> {
         let (parameters, result) = cut(rest, ") -> ")?;
         add(&mut interface, name, list(parameters, rust_named)?, typed(RUST, result)?)?;
     }
-    for (text, name, kind) in [(&texts.store, "Scan", "Place"), (&texts.declared, "Reply", "Reply")]
+    for (text, name, kind) in
+        [(&texts.store, "ScanEntry", "ScanEntry"), (&texts.declared, "Reply", "Reply")]
     {
         interface.structs.insert(kind.to_string(), fields(text, name, RUST)?);
     }
@@ -307,10 +308,10 @@ fn another_type_of_a_parameter_is_told_apart() {
     told_apart(|t| &mut t.exports, "mask: u16", "mask: u32");
     told_apart(|t| &mut t.exports, "values: &[i32]", "values: &[u32]");
     told_apart(|t| &mut t.exports, "mem: &mut [u8]", "mem: &[u8]");
-    told_apart(|t| &mut t.exports, "scans: &mut [Place]", "scans: &[Place]");
+    told_apart(|t| &mut t.exports, "scans: &mut [ScanEntry]", "scans: &[ScanEntry]");
     told_apart(|t| &mut t.header, "uint16_t mask", "uint32_t mask");
     told_apart(|t| &mut t.header, "size_t values_length", "uint32_t values_length");
-    told_apart(|t| &mut t.header, "const deskrook_scan *scans", "deskrook_scan *scans");
+    told_apart(|t| &mut t.header, "const deskrook_scan_entry *scans", "deskrook_scan_entry *scans");
     told_apart(|t| &mut t.header, "const int32_t *values", "const uint32_t *values");
     told_apart(|t| &mut t.declared, "mask: u16", "mask: u32");
     told_apart(|t| &mut t.declared, "mem: *$memory u8", "mem: *const u8");
@@ -330,7 +331,7 @@ fn a_missing_function_is_told_apart() {
     let exported = "#[no_mangle]\npub extern \"C\" fn deskrook_release";
     told_apart(|t| &mut t.exports, exported, "pub extern \"C\" fn deskrook_release");
     let prototype = "deskrook_reply deskrook_abort(uint8_t *mem, size_t mem_length, \
-                     const deskrook_scan *scans, size_t scans_length, uint32_t transaction);";
+                     const deskrook_scan_entry *scans, size_t scans_length, uint32_t transaction);";
     told_apart(|t| &mut t.header, prototype, "");
     told_apart(|t| &mut t.declared, "mut const deskrook_release();", "");
 }
@@ -353,7 +354,8 @@ fn a_function_too_many_or_under_another_name_is_told_apart() {
 
 #[test]
 fn parameters_in_another_order_are_told_apart() {
-    told_apart(|t| &mut t.exports, "column: u32, row: Row", "row: Row, column: u32");
+    let swapped = "row: Row,\n    column: u32,\n";
+    told_apart(|t| &mut t.exports, "column: u32,\n    row: Row,\n", swapped);
     told_apart(|t| &mut t.header, "uint32_t column, uint32_t row", "uint32_t row, uint32_t column");
     told_apart(|t| &mut t.declared, "column: u32, row: u32", "row: u32, column: u32");
 }
@@ -372,7 +374,7 @@ fn another_struct_is_told_apart() {
         "uint32_t number;\n    uint32_t stamp;\n",
         "uint32_t stamp;\n    uint32_t number;\n",
     );
-    let number = "    /// The scan's number; 0 marks a free place.\n    pub number: u32,\n";
+    let number = "    /// The scan's number; 0 marks a free entry.\n    pub number: u32,\n";
     let stamp = "    /// The stamp that it was opened with.\n    pub stamp: u32,\n";
     told_apart(|t| &mut t.store, &(number.to_owned() + stamp), &(stamp.to_owned() + number));
     told_apart(|t| &mut t.replies, "pub sum: i64", "pub sum: i32");
@@ -382,10 +384,10 @@ fn another_struct_is_told_apart() {
 
 #[test]
 fn a_struct_that_may_lie_otherwise_is_told_apart() {
-    let place = found(|t| &mut t.terms, "#[repr(C)]\npub struct Place", "pub struct Place");
+    let entry = found(|t| &mut t.terms, "#[repr(C)]\npub struct ScanEntry", "pub struct ScanEntry");
     let reply = found(|t| &mut t.declared, "#[repr(C)]\n", "");
     let row = found(|t| &mut t.terms, "#[repr(C)]\npub struct Row", "pub struct Row");
     let tail = found(|t| &mut t.terms, "pub struct Tail(pub u32)", "pub struct Tail(pub u16)");
-    let all = [place, reply, row, tail];
+    let all = [entry, reply, row, tail];
     assert!(all.iter().all(|found| found.contains("is not laid as C lays it")));
 }

@@ -3,7 +3,7 @@
 use std::collections::BTreeSet;
 
 use checks::damage::{flip, good, SMALL};
-use checks::memory::{header, page, put_word, word, Layout, Region, Scan, SCAN_WORDS, WORD};
+use checks::memory::{header, page, put_word, word, Layout, Region, ScanEntry, SCAN_WORDS, WORD};
 use checks::plain::{sound, Plain};
 use checks::unmade::{any_lent, passing};
 use checks::{damage, facts, Store};
@@ -45,7 +45,7 @@ fn every_fact_is_met_alone() {
     assert!(missing.is_empty(), "not met alone: {missing:?}");
 }
 
-fn note(alone: &mut BTreeSet<&'static str>, memory: &[u8], list: &[Scan]) {
+fn note(alone: &mut BTreeSet<&'static str>, memory: &[u8], list: &[ScanEntry]) {
     let failing = facts::all_failing(memory, list);
     assert_eq!(sound(memory, list).is_none(), !failing.is_empty(), "{failing:?}");
     if let [fact] = failing[..] {
@@ -62,10 +62,10 @@ fn random_words_that_pass_do_pass() {
     }
 }
 
-const ODD: Scan = Scan { number: u32::MAX, stamp: u32::MAX, merges: u32::MAX };
+const ODD: ScanEntry = ScanEntry { number: u32::MAX, stamp: u32::MAX, merges: u32::MAX };
 
 /// A store of the small shape in exactly the bytes it needs.
-fn small() -> (Vec<u8>, Vec<Scan>, Layout) {
+fn small() -> (Vec<u8>, Vec<ScanEntry>, Layout) {
     let layout = Layout::of(&SMALL);
     let (mut memory, mut list) = (vec![0xFF; layout.need()], vec![ODD; 40]);
     assert_eq!(Plain::<0>.make(&mut memory, &mut list, &SMALL), Answer::Done);
@@ -78,12 +78,12 @@ fn open_scans_are_counted_over_the_whole_list() {
     let (mut memory, mut list, _) = small();
     put_word(&mut memory, header::SCANS_GIVEN, 17);
     for number in 1..=16 {
-        list[2 * number as usize] = Scan { number, stamp: 0, merges: 0 };
+        list[2 * number as usize] = ScanEntry { number, stamp: 0, merges: 0 };
     }
     assert_eq!(facts::failing(&memory, &list), None);
     let opened = Plain::<0>.call(&mut memory, &mut list, &Call::OpenScan { stamp: 0 });
     assert_eq!(opened, Answer::Refused(14));
-    list[39] = Scan { number: 17, stamp: 0, merges: 0 };
+    list[39] = ScanEntry { number: 17, stamp: 0, merges: 0 };
     assert_eq!(facts::failing(&memory, &list), Some("at most 16 scans are open"));
     assert_eq!(Plain::<0>.call(&mut memory, &mut list, &Call::Begin), Answer::Refused(2));
 }
@@ -117,8 +117,8 @@ fn unused_words_may_hold_anything() {
         (Region::RowStamp, 3),
         (Region::TailRow, 0),
         (Region::TailLink, 2),
-        (Region::PageNewest, layout.places),
-        (Region::PageLineage, layout.places + 1),
+        (Region::PageNewest, layout.chunks),
+        (Region::PageLineage, layout.chunks + 1),
         (Region::PageMade, 0),
         (Region::Changes, 1),
         (Region::Header, 15),
@@ -129,7 +129,7 @@ fn unused_words_may_hold_anything() {
     assert_eq!(facts::failing(&memory, &list), None);
     assert!(sound(&memory, &list).is_some());
     // A page that says it is current and that no place names is free all the same.
-    put_word(&mut memory, layout.base(Region::PageState) + layout.places, page::CURRENT);
+    put_word(&mut memory, layout.base(Region::PageState) + layout.chunks, page::CURRENT);
     assert_eq!(facts::failing(&memory, &list), None);
     assert!(sound(&memory, &list).is_some());
 }

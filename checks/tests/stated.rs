@@ -5,7 +5,7 @@
 use checks::defined::Defined;
 #[cfg(feature = "library")]
 use checks::library::Library;
-use checks::memory::{put_word, Layout, Region, Scan};
+use checks::memory::{put_word, Layout, Region, ScanEntry};
 use checks::plain::Plain;
 use checks::{agree, damage, facts, same, shortcuts, stated, Store};
 use reference::{Answer, Call, Shape};
@@ -27,7 +27,7 @@ fn answers(calls: &[Call], put: &[(Region, usize, u32)], call: Call, wanted: Ans
     let rust: Vec<Box<dyn Store>> = vec![Box::new(Plain::<0>), Box::new(Defined)];
     for store in rust.into_iter().chain(library()) {
         let layout = Layout::of(&SHAPE);
-        let (mut memory, mut list) = (vec![0; layout.need()], vec![Scan::FREE; 16]);
+        let (mut memory, mut list) = (vec![0; layout.need()], vec![ScanEntry::FREE; 16]);
         assert_eq!(store.make(&mut memory, &mut list, &SHAPE), Answer::Done);
         for call in calls {
             let answer = store.call(&mut memory, &mut list, call);
@@ -96,7 +96,7 @@ fn a_page_that_no_place_names_is_free() {
     answers(&settled(), &[(Region::PageState, 1, 1)], merge.clone(), Answer::Done);
     answers(
         &settled(),
-        &[(Region::PageState, 1, 1), (Region::PagePlace, 1, 9)],
+        &[(Region::PageState, 1, 1), (Region::PageChunk, 1, 9)],
         merge.clone(),
         Answer::Done,
     );
@@ -111,11 +111,11 @@ impl Store for Shortcut {
         Plain::<0>.need(shape)
     }
 
-    fn make(&self, memory: &mut [u8], scans: &mut [Scan], shape: &Shape) -> Answer {
+    fn make(&self, memory: &mut [u8], scans: &mut [ScanEntry], shape: &Shape) -> Answer {
         Plain::<0>.make(memory, scans, shape)
     }
 
-    fn call(&self, memory: &mut [u8], scans: &mut [Scan], call: &Call) -> Answer {
+    fn call(&self, memory: &mut [u8], scans: &mut [ScanEntry], call: &Call) -> Answer {
         let refused = match facts::usable(memory, scans) {
             Err(_) => Some(2),
             Ok(stored) => shortcuts::refusal(&stored, call, self.0),

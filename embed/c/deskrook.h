@@ -5,7 +5,7 @@
  *
  * LENDING. Every call on a store takes
  *   mem, mem_length      the memory: bytes at any address, at least as many as deskrook_bytes_needed answers;
- *   scans, scans_length  the list of open scans: an array of at least DESKROOK_SCANS places.
+ *   scans, scans_length  the list of open scans: an array of at least DESKROOK_SCANS entries.
  * The pointers are not null, also where the length is 0. Memory, list and values do not overlap. Lend the same memory and list to every call on a store, and
  * write to neither in between. A call that meets other bytes than the last one left, even random ones, still answers, touches nothing outside what it was
  * lent, and answers DESKROOK_MEMORY wherever a stored fact fails.
@@ -25,15 +25,15 @@
 extern "C" {
 #endif
 
-/* The fewest places of a scan list, which is also how many scans can be open. */
+/* The fewest entries of a scan list, which is also how many scans can be open. */
 #define DESKROOK_SCANS 16
 
-/* A place of the list of open scans. Number 0 marks a free place. */
-typedef struct deskrook_scan {
+/* An entry of the list of open scans. Number 0 marks a free entry. */
+typedef struct deskrook_scan_entry {
     uint32_t number;
     uint32_t stamp;
     uint32_t merges; /* the merges made before the scan was opened */
-} deskrook_scan;
+} deskrook_scan_entry;
 
 /* What a call answers. */
 typedef struct deskrook_reply {
@@ -46,7 +46,7 @@ typedef struct deskrook_reply {
 enum deskrook_result {
     DESKROOK_OK = 0,           /* accepted */
     DESKROOK_SHAPE = 1,        /* a measure outside its limits */
-    DESKROOK_MEMORY = 2,       /* memory shorter than the shape needs, a scan list under 16 places, or a stored fact fails */
+    DESKROOK_MEMORY = 2,       /* memory shorter than the shape needs, a scan list under 16 entries, or a stored fact fails */
     DESKROOK_TRANSACTION = 3,  /* the transaction's number is not open */
     DESKROOK_SCAN = 4,         /* the scan's number is not open */
     DESKROOK_ROW = 5,          /* row number not yet given */
@@ -77,84 +77,84 @@ static inline int32_t deskrook_value(deskrook_reply reply) {
  * first: the bytes. Refusals: SHAPE. */
 deskrook_reply deskrook_bytes_needed(uint32_t columns, uint32_t ranges, uint32_t capacity, uint32_t spares);
 
-/* Makes an empty store of a shape, whatever memory and list held before, and frees every place of the list. Bytes past those needed stay as they are.
- * Refusals: SHAPE, MEMORY (too few bytes or places). */
-deskrook_reply deskrook_make(uint8_t *mem, size_t mem_length, deskrook_scan *scans, size_t scans_length, uint32_t columns, uint32_t ranges, uint32_t capacity,
+/* Makes an empty store of a shape, whatever memory and list held before, and frees every entry of the list. Bytes past those needed stay as they are.
+ * Refusals: SHAPE, MEMORY (too few bytes or entries). */
+deskrook_reply deskrook_make(uint8_t *mem, size_t mem_length, deskrook_scan_entry *scans, size_t scans_length, uint32_t columns, uint32_t ranges, uint32_t capacity,
                              uint32_t spares);
 
 /* Whether memory and list are usable, which every call on a store asks first. Refusals: MEMORY. */
-deskrook_reply deskrook_check(const uint8_t *mem, size_t mem_length, const deskrook_scan *scans, size_t scans_length);
+deskrook_reply deskrook_check(const uint8_t *mem, size_t mem_length, const deskrook_scan_entry *scans, size_t scans_length);
 
 /* ---- transactions ---- */
 
 /* Begins a transaction. first: its number. Refusals: MEMORY, NUMBER, BUSY. */
-deskrook_reply deskrook_begin(uint8_t *mem, size_t mem_length, const deskrook_scan *scans, size_t scans_length);
+deskrook_reply deskrook_begin(uint8_t *mem, size_t mem_length, const deskrook_scan_entry *scans, size_t scans_length);
 
 /* Inserts a row, with a value for each column; where fewer are lent the rest are 0, and those past the columns are not looked at.
  * first: the row's number. Refusals: MEMORY, TRANSACTION, FULL. */
-deskrook_reply deskrook_insert(uint8_t *mem, size_t mem_length, const deskrook_scan *scans, size_t scans_length, uint32_t transaction, const int32_t *values,
+deskrook_reply deskrook_insert(uint8_t *mem, size_t mem_length, const deskrook_scan_entry *scans, size_t scans_length, uint32_t transaction, const int32_t *values,
                                size_t values_length);
 
 /* Sets the columns of a row whose bits the mask has, bit k for column k; value k is column k's, lent as for an insert.
  * first: the number of the update's tail record. Refusals: MEMORY, TRANSACTION, ROW, MASK, HELD, GONE, TAIL. */
-deskrook_reply deskrook_update(uint8_t *mem, size_t mem_length, const deskrook_scan *scans, size_t scans_length, uint32_t transaction, uint32_t row,
+deskrook_reply deskrook_update(uint8_t *mem, size_t mem_length, const deskrook_scan_entry *scans, size_t scans_length, uint32_t transaction, uint32_t row,
                                uint16_t mask, const int32_t *values, size_t values_length);
 
 /* Deletes a row. first: the number of the delete's tail record. Refusals: MEMORY, TRANSACTION, ROW, HELD, GONE, TAIL. */
-deskrook_reply deskrook_delete(uint8_t *mem, size_t mem_length, const deskrook_scan *scans, size_t scans_length, uint32_t transaction, uint32_t row);
+deskrook_reply deskrook_delete(uint8_t *mem, size_t mem_length, const deskrook_scan_entry *scans, size_t scans_length, uint32_t transaction, uint32_t row);
 
 /* Commits a transaction at a stamp, which must be later than the last commit's. Refused, the transaction remains open.
  * Refusals: MEMORY, TRANSACTION, TIME. */
-deskrook_reply deskrook_commit(uint8_t *mem, size_t mem_length, const deskrook_scan *scans, size_t scans_length, uint32_t transaction, uint32_t stamp);
+deskrook_reply deskrook_commit(uint8_t *mem, size_t mem_length, const deskrook_scan_entry *scans, size_t scans_length, uint32_t transaction, uint32_t stamp);
 
 /* Gives up a transaction; nothing that it did is ever read. Refusals: MEMORY, TRANSACTION. */
-deskrook_reply deskrook_abort(uint8_t *mem, size_t mem_length, const deskrook_scan *scans, size_t scans_length, uint32_t transaction);
+deskrook_reply deskrook_abort(uint8_t *mem, size_t mem_length, const deskrook_scan_entry *scans, size_t scans_length, uint32_t transaction);
 
 /* ---- reads: they change neither memory nor list ---- */
 
 /* The value at the last commit. first: the value (deskrook_value); or NONE. Refusals: MEMORY, ROW, COLUMN. */
-deskrook_reply deskrook_latest(const uint8_t *mem, size_t mem_length, const deskrook_scan *scans, size_t scans_length, uint32_t row, uint32_t column);
+deskrook_reply deskrook_latest(const uint8_t *mem, size_t mem_length, const deskrook_scan_entry *scans, size_t scans_length, uint32_t row, uint32_t column);
 
 /* The value at a stamp, which must not be later than the last commit's. first: the value; or NONE. Refusals: MEMORY, TIME, ROW, COLUMN. */
-deskrook_reply deskrook_read_at(const uint8_t *mem, size_t mem_length, const deskrook_scan *scans, size_t scans_length, uint32_t stamp, uint32_t row,
+deskrook_reply deskrook_read_at(const uint8_t *mem, size_t mem_length, const deskrook_scan_entry *scans, size_t scans_length, uint32_t stamp, uint32_t row,
                                 uint32_t column);
 
 /* The value that a transaction sees: its own pending changes above the latest. first: the value; or NONE. Refusals: MEMORY, TRANSACTION, ROW, COLUMN. */
-deskrook_reply deskrook_own_read(const uint8_t *mem, size_t mem_length, const deskrook_scan *scans, size_t scans_length, uint32_t transaction, uint32_t row,
+deskrook_reply deskrook_own_read(const uint8_t *mem, size_t mem_length, const deskrook_scan_entry *scans, size_t scans_length, uint32_t transaction, uint32_t row,
                                  uint32_t column);
 
 /* ---- scans ---- */
 
-/* Opens a scan at a stamp, which must not be later than the last commit's. It takes a free place of the list. first: the scan's number.
+/* Opens a scan at a stamp, which must not be later than the last commit's. It takes a free entry of the list. first: the scan's number.
  * Refusals: MEMORY, TIME, NUMBER, BUSY. */
-deskrook_reply deskrook_open_scan(uint8_t *mem, size_t mem_length, deskrook_scan *scans, size_t scans_length, uint32_t stamp);
+deskrook_reply deskrook_open_scan(uint8_t *mem, size_t mem_length, deskrook_scan_entry *scans, size_t scans_length, uint32_t stamp);
 
 /* The value at a scan's stamp, read in the pages that were current at its opening. first: the value; or NONE. Refusals: MEMORY, SCAN, ROW, COLUMN. */
-deskrook_reply deskrook_scan_read(const uint8_t *mem, size_t mem_length, const deskrook_scan *scans, size_t scans_length, uint32_t scan, uint32_t row,
+deskrook_reply deskrook_scan_read(const uint8_t *mem, size_t mem_length, const deskrook_scan_entry *scans, size_t scans_length, uint32_t scan, uint32_t row,
                                   uint32_t column);
 
 /* The sum of one column over the rows that a scan sees. first: the count of these rows; sum: the sum. Refusals: MEMORY, SCAN, COLUMN. */
-deskrook_reply deskrook_sum(const uint8_t *mem, size_t mem_length, const deskrook_scan *scans, size_t scans_length, uint32_t scan, uint32_t column);
+deskrook_reply deskrook_sum(const uint8_t *mem, size_t mem_length, const deskrook_scan_entry *scans, size_t scans_length, uint32_t scan, uint32_t column);
 
-/* Closes a scan and frees its place of the list. The memory does not change. Refusals: MEMORY, SCAN. */
-deskrook_reply deskrook_close_scan(const uint8_t *mem, size_t mem_length, deskrook_scan *scans, size_t scans_length, uint32_t scan);
+/* Closes a scan and frees its entry of the list. The memory does not change. Refusals: MEMORY, SCAN. */
+deskrook_reply deskrook_close_scan(const uint8_t *mem, size_t mem_length, deskrook_scan_entry *scans, size_t scans_length, uint32_t scan);
 
 /* ---- pages ---- */
 
 /* Merges the committed settings among the tail records 1 to `through` of a range into a new page of one column; the old page waits.
  * Refusals: MEMORY, RANGE, COLUMN, REACH, OPEN, NO_PAGE. */
-deskrook_reply deskrook_merge(uint8_t *mem, size_t mem_length, const deskrook_scan *scans, size_t scans_length, uint32_t range, uint32_t column,
+deskrook_reply deskrook_merge(uint8_t *mem, size_t mem_length, const deskrook_scan_entry *scans, size_t scans_length, uint32_t range, uint32_t column,
                               uint32_t through);
 
 /* Frees every waiting page but those that a scan still open may read. first: how many were freed. Refusals: MEMORY. */
-deskrook_reply deskrook_release(uint8_t *mem, size_t mem_length, const deskrook_scan *scans, size_t scans_length);
+deskrook_reply deskrook_release(uint8_t *mem, size_t mem_length, const deskrook_scan_entry *scans, size_t scans_length);
 
 /* What the current page of a column holds for a row. first: the value. Refusals: MEMORY, COLUMN, ROW. */
-deskrook_reply deskrook_page_cell(const uint8_t *mem, size_t mem_length, const deskrook_scan *scans, size_t scans_length, uint32_t column, uint32_t row);
+deskrook_reply deskrook_page_cell(const uint8_t *mem, size_t mem_length, const deskrook_scan_entry *scans, size_t scans_length, uint32_t column, uint32_t row);
 
 /* How far a range's column is merged. first: the tail record merged through, 0 before any merge; second: the range's tail records used.
  * Refusals: MEMORY, RANGE, COLUMN. */
-deskrook_reply deskrook_lineage(const uint8_t *mem, size_t mem_length, const deskrook_scan *scans, size_t scans_length, uint32_t range, uint32_t column);
+deskrook_reply deskrook_lineage(const uint8_t *mem, size_t mem_length, const deskrook_scan_entry *scans, size_t scans_length, uint32_t range, uint32_t column);
 
 #ifdef __cplusplus
 }

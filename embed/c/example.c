@@ -31,37 +31,37 @@ int main(void) {
     /* The lent memory and the lent list of scans. Their content before the making does not matter. */
     size_t length = need.first;
     uint8_t *mem = malloc(length);
-    deskrook_scan scans[DESKROOK_SCANS];
-    const size_t places = DESKROOK_SCANS;
+    deskrook_scan_entry scans[DESKROOK_SCANS];
+    const size_t entries = DESKROOK_SCANS;
     if (mem == NULL)
         return EXIT_FAILURE;
 
-    show("shape", deskrook_make(mem, length, scans, places, columns, ranges, capacity, spares), "");
+    show("shape", deskrook_make(mem, length, scans, entries, columns, ranges, capacity, spares), "");
 
-    deskrook_reply begun = deskrook_begin(mem, length, scans, places);
+    deskrook_reply begun = deskrook_begin(mem, length, scans, entries);
     show("01", begun, "n");
     const int32_t levels[] = {1200, -30};
-    deskrook_reply inserted = deskrook_insert(mem, length, scans, places, begun.first, levels, 2);
+    deskrook_reply inserted = deskrook_insert(mem, length, scans, entries, begun.first, levels, 2);
     show("02", inserted, "n");
     const uint32_t gate = inserted.first;
-    show("05", deskrook_commit(mem, length, scans, places, begun.first, 10), "");
+    show("05", deskrook_commit(mem, length, scans, entries, begun.first, 10), "");
 
-    begun = deskrook_begin(mem, length, scans, places);
+    begun = deskrook_begin(mem, length, scans, entries);
     show("01", begun, "n");
     /* Mask 1 sets column 0 alone. */
     const int32_t raised[] = {1250, 0};
-    deskrook_reply updated = deskrook_update(mem, length, scans, places, begun.first, gate, 1, raised, 2);
+    deskrook_reply updated = deskrook_update(mem, length, scans, entries, begun.first, gate, 1, raised, 2);
     show("03", updated, "n");
     /* Not committed yet, so the latest is the inserted value. */
-    show("07", deskrook_latest(mem, length, scans, places, gate, 0), "v");
-    show("05", deskrook_commit(mem, length, scans, places, begun.first, 20), "");
+    show("07", deskrook_latest(mem, length, scans, entries, gate, 0), "v");
+    show("05", deskrook_commit(mem, length, scans, entries, begun.first, 20), "");
 
-    show("0E", deskrook_merge(mem, length, scans, places, 0, 0, updated.first), "");
+    show("0E", deskrook_merge(mem, length, scans, entries, 0, 0, updated.first), "");
     /* The value before the update, though the page holds the new one. */
-    show("08", deskrook_read_at(mem, length, scans, places, 10, gate, 0), "v");
-    show("10", deskrook_page_cell(mem, length, scans, places, 0, gate), "v");
+    show("08", deskrook_read_at(mem, length, scans, entries, 10, gate, 0), "v");
+    show("10", deskrook_page_cell(mem, length, scans, entries, 0, gate), "v");
     /* The page holds this record already. */
-    show("0E", deskrook_merge(mem, length, scans, places, 0, 0, updated.first), "");
+    show("0E", deskrook_merge(mem, length, scans, entries, 0, 0, updated.first), "");
 
     free(mem);
     return EXIT_SUCCESS;

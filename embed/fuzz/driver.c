@@ -107,8 +107,8 @@ static void look_around(const char *name, const struct lent *lent) {
         fail(name, "a byte beside the lent ones changed");
 }
 
-static size_t places(void) {
-    return list.length / sizeof(deskrook_scan);
+static size_t entries(void) {
+    return list.length / sizeof(deskrook_scan_entry);
 }
 
 /* ---- the input's bytes as numbers ---- */
@@ -151,7 +151,7 @@ static uint32_t number(struct input *in, char kind) {
     case 't': /* transaction: the numbers of the open ones come right after the header */
         return memory.length < (HEADER_WORDS + 8) * 4 ? first : word_at(memory.first, HEADER_WORDS + first % 8);
     case 's': /* scan */
-        return places() == 0 ? first : word_at(list.first, first % places() * 3);
+        return entries() == 0 ? first : word_at(list.first, first % entries() * 3);
     case 'd': /* stamp: the last, the next, or an earlier one */
         return header(LAST_STAMP) + first % 3 - first / 32 % 2 * (first / 4);
     case 'r': /* row */
@@ -237,8 +237,8 @@ static void lend_values(struct input *in) {
 
 static deskrook_reply make_call(enum call call, const uint32_t numbers[4]) {
     uint8_t *m = memory.first;
-    size_t n = memory.length, k = places();
-    deskrook_scan *s = (deskrook_scan *)(void *)list.first;
+    size_t n = memory.length, k = entries();
+    deskrook_scan_entry *s = (deskrook_scan_entry *)(void *)list.first;
     uint32_t a = numbers[0], b = numbers[1], c = numbers[2], d = numbers[3];
     const int32_t *v = (const int32_t *)(const void *)values.first;
     size_t l = values.length / 4;
@@ -272,16 +272,16 @@ static deskrook_reply make_call(enum call call, const uint32_t numbers[4]) {
 /* For libFuzzer: which call answered what, and which fact failed, count as ways gone. */
 __attribute__((section("__libfuzzer_extra_counters"))) static uint8_t ways[CALLS * 64];
 
-/* How many places of the list changed. */
-static size_t places_changed(void) {
+/* How many entries of the list changed. */
+static size_t entries_changed(void) {
     size_t count = 0;
-    for (size_t at = 0; at < list.length; at += sizeof(deskrook_scan))
-        count += memcmp(list.before + at, list.first + at, sizeof(deskrook_scan)) != 0;
+    for (size_t at = 0; at < list.length; at += sizeof(deskrook_scan_entry))
+        count += memcmp(list.before + at, list.first + at, sizeof(deskrook_scan_entry)) != 0;
     return count;
 }
 
 static const char *failing(struct layout *layout) {
-    return failing_fact(layout, memory.first, memory.length, (const deskrook_scan *)(const void *)list.first, places());
+    return failing_fact(layout, memory.first, memory.length, (const deskrook_scan_entry *)(const void *)list.first, entries());
 }
 
 /* After an accepted call on a usable store. */
@@ -292,8 +292,8 @@ static void judge_accepted(enum call call) {
         fail(name, "a call that writes no memory changed it");
     if (!(about[call].does & WRITES_LIST) && changed(&list))
         fail(name, "a call that opens or closes no scan changed the list");
-    if (call != MAKE && places_changed() > 1)
-        fail(name, "more than one place of the list changed");
+    if (call != MAKE && entries_changed() > 1)
+        fail(name, "more than one entry of the list changed");
     /* The count of merges made goes round at 2^32, and then those recorded may be above it. */
     if (call == MERGE && word_at(memory.first, MERGES_MADE) == 0)
         return;
@@ -305,7 +305,7 @@ static void judge_accepted(enum call call) {
         fail(name, "a byte past the need changed");
     for (size_t at = 0; call == MAKE && at < list.length; at++)
         if (list.first[at] != 0)
-            fail(name, "a place is not free after the making");
+            fail(name, "an entry is not free after the making");
 }
 
 /* The result that making and the need must have, by the measures and the lengths. */
@@ -314,7 +314,7 @@ static uint32_t due(enum call call, const uint32_t measures[4], uint32_t *need) 
     if (!layout_of(&layout, measures[0], measures[1], measures[2], measures[3]))
         return DESKROOK_SHAPE;
     *need = (uint32_t)layout_need(&layout);
-    return call == MAKE && (memory.length < *need || places() < DESKROOK_SCANS) ? DESKROOK_MEMORY : DESKROOK_OK;
+    return call == MAKE && (memory.length < *need || entries() < DESKROOK_SCANS) ? DESKROOK_MEMORY : DESKROOK_OK;
 }
 
 static void call_and_judge(enum call call, struct input *in) {
@@ -399,11 +399,11 @@ enum { AT_END = 0x01, LIST_AT_END = 0x02, RAW = 0x0C, ANY_LENGTH = 0x30, ANY_PLA
 
 /* Inserts rows until all are given. A store that is not usable refuses it. */
 static void fill_rows(void) {
-    const deskrook_scan *s = (const deskrook_scan *)(const void *)list.first;
-    uint32_t transaction = deskrook_begin(memory.first, memory.length, s, places()).first;
-    while (deskrook_insert(memory.first, memory.length, s, places(), transaction, (const int32_t *)(const void *)values.first, 0).result == DESKROOK_OK) {
+    const deskrook_scan_entry *s = (const deskrook_scan_entry *)(const void *)list.first;
+    uint32_t transaction = deskrook_begin(memory.first, memory.length, s, entries()).first;
+    while (deskrook_insert(memory.first, memory.length, s, entries(), transaction, (const int32_t *)(const void *)values.first, 0).result == DESKROOK_OK) {
     }
-    deskrook_commit(memory.first, memory.length, s, places(), transaction, 1);
+    deskrook_commit(memory.first, memory.length, s, entries(), transaction, 1);
 }
 
 static int all_of(uint32_t flags, uint32_t some) {
@@ -423,9 +423,9 @@ static void begin_input(struct input *in) {
         count = take(in, 1) % (MOST_PLACES + 1);
     memory.length = list.length = 0;
     lend(&memory, bytes, flags & AT_END);
-    lend(&list, count * sizeof(deskrook_scan), flags & LIST_AT_END);
+    lend(&list, count * sizeof(deskrook_scan_entry), flags & LIST_AT_END);
     if (!all_of(flags, RAW)) {
-        deskrook_make(memory.first, memory.length, (deskrook_scan *)(void *)list.first, places(), measures[0], measures[1], measures[2], measures[3]);
+        deskrook_make(memory.first, memory.length, (deskrook_scan_entry *)(void *)list.first, entries(), measures[0], measures[1], measures[2], measures[3]);
         if (take(in, 1) >= 0xC0)
             fill_rows();
         return;
@@ -475,7 +475,7 @@ int LLVMFuzzerTestOneInput(const uint8_t *data, size_t size) {
             else if (what == 30)
                 lend(&memory, any(&in) % (memory.size + 1), step & 1);
             else
-                lend(&list, take(&in, 1) % (MOST_PLACES + 1) * sizeof(deskrook_scan), step & 1);
+                lend(&list, take(&in, 1) % (MOST_PLACES + 1) * sizeof(deskrook_scan_entry), step & 1);
         }
     }
     return 0;

@@ -11,17 +11,17 @@ uint32_t word_at(const uint8_t *mem, size_t i) {
 int layout_of(struct layout *layout, uint32_t columns, uint32_t ranges, uint32_t capacity, uint32_t spares) {
     if (columns < 1 || columns > 16 || ranges < 1 || ranges > 16 || capacity < 1 || capacity > 512 || spares > 256)
         return 0;
-    uint32_t rows = ranges * ROWS, slots = ranges * capacity, places = columns * ranges, pages = places + spares;
+    uint32_t rows = ranges * ROWS, slots = ranges * capacity, chunks = columns * ranges, pages = chunks + spares;
     const uint32_t lengths[REGIONS] = {
         [HEADER] = HEADER_WORDS, [OPENS] = OPEN_PLACES, [CHANGES] = OPEN_PLACES,
         [ROW_TRANSACTION] = rows, [ROW_STATE] = rows, [ROW_STAMP] = rows, [ROW_LINK] = rows, [ROW_MASK] = rows,
         [TAIL_TRANSACTION] = slots, [TAIL_ROW] = slots, [TAIL_KIND] = slots, [TAIL_MASK] = slots, [TAIL_LINK] = slots, [TAIL_STATE] = slots,
         [TAIL_STAMP] = slots, [TAIL_VALUES] = slots * columns,
-        [USED] = ranges, [CURRENT] = places,
-        [PAGE_STATE] = pages, [PAGE_PLACE] = pages, [PAGE_MADE] = pages, [PAGE_REPLACED] = pages, [PAGE_LINEAGE] = pages, [PAGE_NEWEST] = pages,
+        [USED] = ranges, [CURRENT] = chunks,
+        [PAGE_STATE] = pages, [PAGE_CHUNK] = pages, [PAGE_MADE] = pages, [PAGE_REPLACED] = pages, [PAGE_LINEAGE] = pages, [PAGE_NEWEST] = pages,
         [CELLS] = pages * ROWS,
     };
-    *layout = (struct layout){columns, ranges, capacity, rows, slots, places, pages, {0}};
+    *layout = (struct layout){columns, ranges, capacity, rows, slots, chunks, pages, {0}};
     for (int i = 0; i < REGIONS; i++)
         layout->base[i + 1] = layout->base[i] + lengths[i];
     return 1;
@@ -65,9 +65,9 @@ static const char *failing_row(const struct layout *l, const uint8_t *mem, uint3
     return NULL;
 }
 
-/* A current page, which a place names, or a waiting one. */
+/* A current page, which a chunk names, or a waiting one. */
 static const char *failing_page(const struct layout *l, const uint8_t *mem, uint32_t page) {
-    uint32_t range = get(l, mem, PAGE_PLACE, page) % l->places / l->columns;
+    uint32_t range = get(l, mem, PAGE_CHUNK, page) % l->chunks / l->columns;
     if (get(l, mem, PAGE_NEWEST, page) > word_at(mem, LAST_STAMP))
         return "a page's newest stamp is not after the last commit's";
     if (get(l, mem, PAGE_LINEAGE, page) > get(l, mem, USED, range))
@@ -84,8 +84,8 @@ static const char *failing_waiting(const struct layout *l, const uint8_t *mem, u
     return failing_page(l, mem, page);
 }
 
-static const char *failing_scan(const uint8_t *mem, const deskrook_scan *scans, size_t at) {
-    deskrook_scan scan = scans[at];
+static const char *failing_scan(const uint8_t *mem, const deskrook_scan_entry *scans, size_t at) {
+    deskrook_scan_entry scan = scans[at];
     if (scan.number > word_at(mem, SCANS_GIVEN))
         return "open scans are among those given";
     if (scan.stamp > word_at(mem, LAST_STAMP))
@@ -98,7 +98,7 @@ static const char *failing_scan(const uint8_t *mem, const deskrook_scan *scans, 
     return NULL;
 }
 
-static const char *failing_scans(const uint8_t *mem, const deskrook_scan *scans, size_t scans_length) {
+static const char *failing_scans(const uint8_t *mem, const deskrook_scan_entry *scans, size_t scans_length) {
     size_t open = 0;
     for (size_t at = 0; at < scans_length; at++) {
         if (scans[at].number == 0)
@@ -148,20 +148,20 @@ static const char *failing_word(const struct layout *l, const uint8_t *mem) {
         fact = failing_row(l, mem, row);
     for (uint32_t page = 0; fact == NULL && page < l->pages; page++)
         fact = failing_waiting(l, mem, page);
-    /* Each place's page is in the pool, is marked current and names its place, so no other place has it. */
-    for (uint32_t place = 0; fact == NULL && place < l->places; place++) {
-        uint32_t page = get(l, mem, CURRENT, place);
-        if (page >= l->pages || get(l, mem, PAGE_STATE, page) != PAGE_CURRENT || get(l, mem, PAGE_PLACE, page) != place)
-            fact = "a current page is in the pool, marked and of its place";
+    /* Each chunk's page is in the pool, is marked current and names its chunk, so no other chunk has it. */
+    for (uint32_t chunk = 0; fact == NULL && chunk < l->chunks; chunk++) {
+        uint32_t page = get(l, mem, CURRENT, chunk);
+        if (page >= l->pages || get(l, mem, PAGE_STATE, page) != PAGE_CURRENT || get(l, mem, PAGE_CHUNK, page) != chunk)
+            fact = "a current page is in the pool, marked and of its chunk";
         else
             fact = failing_page(l, mem, page);
     }
     return fact;
 }
 
-const char *failing_fact(struct layout *l, const uint8_t *mem, size_t mem_length, const deskrook_scan *scans, size_t scans_length) {
+const char *failing_fact(struct layout *l, const uint8_t *mem, size_t mem_length, const deskrook_scan_entry *scans, size_t scans_length) {
     if (scans_length < DESKROOK_SCANS)
-        return "the scan list has 16 places";
+        return "the scan list has 16 entries";
     if (mem_length < HEADER_WORDS * 4 || !layout_of(l, word_at(mem, COLUMNS), word_at(mem, RANGES), word_at(mem, CAPACITY), word_at(mem, SPARES)))
         return "the measures lie within their limits";
     if (mem_length < layout_need(l))

@@ -24,7 +24,7 @@ enum region {
     USED,
     CURRENT,
     PAGE_STATE,
-    PAGE_PLACE,
+    PAGE_CHUNK,
     PAGE_MADE,
     PAGE_REPLACED,
     PAGE_LINEAGE,
@@ -38,7 +38,7 @@ enum region {
 enum { COLUMNS, RANGES, CAPACITY, SPARES, ROWS_GIVEN, TRANSACTIONS_GIVEN, SCANS_GIVEN, LAST_STAMP, MERGES_MADE, HEADER_WORDS = 16 };
 
 struct layout {
-    uint32_t columns, ranges, capacity, rows, slots, places, pages;
+    uint32_t columns, ranges, capacity, rows, slots, chunks, pages;
     uint32_t base[REGIONS + 1]; /* where each region begins, in words; the last is the end */
 };
 
@@ -52,6 +52,6 @@ size_t layout_need(const struct layout *layout);
 uint32_t word_at(const uint8_t *mem, size_t i);
 
 /* The first stored fact that fails, or null where memory and list are usable; then the layout is filled. */
-const char *failing_fact(struct layout *layout, const uint8_t *mem, size_t mem_length, const deskrook_scan *scans, size_t scans_length);
+const char *failing_fact(struct layout *layout, const uint8_t *mem, size_t mem_length, const deskrook_scan_entry *scans, size_t scans_length);
 
 #endif

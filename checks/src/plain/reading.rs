@@ -4,7 +4,7 @@
 use reference::Answer;
 
 use super::{faults, Table};
-use crate::memory::{header, kind, page, state, words, Region, Scan, ROWS};
+use crate::memory::{header, kind, page, state, words, Region, ScanEntry, ROWS};
 
 /// Who reads what.
 struct Reader {
@@ -154,10 +154,10 @@ impl<const FAULT: u8> Table<'_, FAULT> {
         if self.get(Region::PageMade, current) <= merges {
             return current;
         }
-        let place = self.layout.place(range, column);
+        let place = self.layout.chunk(range, column);
         let was_current = |at: &usize| {
             self.get(Region::PageState, *at) >= page::WAITING
-                && self.get(Region::PagePlace, *at) as usize % self.layout.places == place
+                && self.get(Region::PageChunk, *at) as usize % self.layout.chunks == place
                 && (FAULT == faults::SCAN_ON_OLD_PAGE
                     || (self.get(Region::PageMade, *at) <= merges
                         && merges < self.get(Region::PageReplaced, *at)))
@@ -167,7 +167,7 @@ impl<const FAULT: u8> Table<'_, FAULT> {
 
     /// The count and sum of the rows that a scan sees. Each range's page is found once, and the
     /// rows' words are taken in their order.
-    pub(super) fn sum(&self, scan: Scan, column: usize) -> Answer {
+    pub(super) fn sum(&self, scan: ScanEntry, column: usize) -> Answer {
         let given = self.header(header::ROWS_GIVEN) as usize;
         let mut count = 0;
         let mut sum = 0;

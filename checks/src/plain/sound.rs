@@ -2,14 +2,14 @@
 //! it is the greatest part of a call in a full store: one flag is carried to the end of each pass
 //! instead of an early exit, which lets the compiler test several words at once.
 
-use crate::memory::{header, page, word, words, Layout, Region, Scan};
+use crate::memory::{header, page, word, words, Layout, Region, ScanEntry};
 use crate::memory::{MOST_COLUMNS, MOST_RANGES, MOST_RECORDS, NUMBERS, OPENS, ROWS, SCANS, WORD};
 
 /// A range with no more records takes a smaller array to look them up in, which is sooner cleared.
 const FEW_RECORDS: usize = 32;
 
 /// The layout of a store whose facts hold.
-pub fn sound(memory: &[u8], list: &[Scan]) -> Option<Layout> {
+pub fn sound(memory: &[u8], list: &[ScanEntry]) -> Option<Layout> {
     let layout = Layout::stored(memory)?;
     if memory.len() < layout.need() || list.len() < SCANS {
         return None;
@@ -82,7 +82,7 @@ impl<'m> Facts<'m> {
 
     /// Open scans are at most 16, among those given, differ, and have a stamp and a count of
     /// merges that were there.
-    fn scans(&self, list: &[Scan]) -> bool {
+    fn scans(&self, list: &[ScanEntry]) -> bool {
         let mut open = [0; SCANS];
         for (count, scan) in list.iter().filter(|scan| scan.is_open()).enumerate() {
             let known =
@@ -99,11 +99,11 @@ impl<'m> Facts<'m> {
     /// its lineage are within theirs.
     fn current_pages(&self) -> bool {
         let states = self.run(Region::PageState, 0, self.layout.pages);
-        let owners = self.run(Region::PagePlace, 0, self.layout.pages);
+        let owners = self.run(Region::PageChunk, 0, self.layout.pages);
         let lineages = self.run(Region::PageLineage, 0, self.layout.pages);
         let newest = self.run(Region::PageNewest, 0, self.layout.pages);
         let columns = self.layout.columns;
-        let mut current = words(self.run(Region::Current, 0, self.layout.places));
+        let mut current = words(self.run(Region::Current, 0, self.layout.chunks));
         self.used.iter().take(self.layout.ranges).enumerate().all(|(range, used)| {
             current.by_ref().take(columns).enumerate().all(|(column, at)| {
                 let at = at as usize;
@@ -199,10 +199,10 @@ impl<'m> Facts<'m> {
         for (range, used) in self.used.iter().enumerate().take(self.layout.ranges) {
             most[range * columns..(range + 1) * columns].fill(*used);
         }
-        let most = &most[..self.layout.places];
+        let most = &most[..self.layout.chunks];
         let pages = self.layout.pages;
         let states = words(self.run(Region::PageState, 0, pages));
-        let owners = words(self.run(Region::PagePlace, 0, pages));
+        let owners = words(self.run(Region::PageChunk, 0, pages));
         let replaced = words(self.run(Region::PageReplaced, 0, pages));
         let lineages = words(self.run(Region::PageLineage, 0, pages));
         let newest = words(self.run(Region::PageNewest, 0, pages));

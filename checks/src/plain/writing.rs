@@ -178,7 +178,7 @@ impl<const FAULT: u8> Table<'_, FAULT> {
     }
 
     fn is_stray(&self, at: usize) -> bool {
-        let place = self.get(Region::PagePlace, at) as usize;
+        let place = self.get(Region::PageChunk, at) as usize;
         let named = place < self.layout.columns * self.layout.ranges
             && self.get(Region::Current, place) as usize == at;
         self.get(Region::PageState, at) == page::CURRENT && !named
@@ -219,10 +219,10 @@ impl<const FAULT: u8> Table<'_, FAULT> {
             }
         }
         let merges = self.header(header::MERGES_MADE).wrapping_add(1);
-        let place = self.layout.place(range, column);
+        let place = self.layout.chunk(range, column);
         self.run_mut(Region::Cells, new * ROWS, ROWS).copy_from_slice(&cells);
         self.put(Region::PageState, new, page::CURRENT);
-        self.put(Region::PagePlace, new, place as u32);
+        self.put(Region::PageChunk, new, place as u32);
         self.put(Region::PageMade, new, merges);
         self.put(Region::PageLineage, new, high as u32);
         self.put(Region::PageNewest, new, newest);

@@ -1,7 +1,7 @@
 //! The worked example of document 01: one gate with two columns, an update, and its merge into the
 //! page. Prints a line for each call as the program gatebook does.
 
-use deskrook::{Mask, Refusal, Scan, Shape, Stamp, Store, PLACES};
+use deskrook::{Mask, Refusal, ScanEntry, Shape, Stamp, Store, SCANS};
 
 /// Prints a call's line and hands its answer on.
 fn show<T>(
@@ -27,7 +27,7 @@ fn value(value: &Option<i32>) -> String {
 fn main() -> Result<(), Refusal> {
     let shape = Shape { columns: 2, ranges: 1, capacity: 4, spares: 1 };
     let mut memory = vec![0; shape.bytes()?];
-    let mut scans = [Scan::FREE; PLACES];
+    let mut scans = [ScanEntry::FREE; SCANS];
     let mut store = Store::make(&mut memory, &mut scans, shape)?;
     println!("shape ok");
 

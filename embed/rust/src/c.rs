@@ -3,11 +3,11 @@
 //!
 //! # Safety
 //!
-//! Of each function: a pointer is not null and goes with a length in bytes (memory), places (list)
+//! Of each function: a pointer is not null and goes with a length in bytes (memory), entries (list)
 //! or values, all of which may be read, and written where the pointer is `*mut`; the three do not
 //! overlap. Nothing is asked of their content or of the numbers.
 
-use crate::Scan;
+use crate::ScanEntry;
 
 /// What a call answers.
 #[repr(C)]
@@ -33,7 +33,7 @@ macro_rules! lent {
             $(pub fn $name(
                 mem: *$memory u8,
                 mem_length: usize,
-                scans: *$list Scan,
+                scans: *$list ScanEntry,
                 scans_length: usize,
                 $($number: $type),*
             ) -> Reply;)*

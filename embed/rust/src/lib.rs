@@ -7,12 +7,12 @@
 //! nothing, and keeps nothing elsewhere.
 //!
 //! ```
-//! use deskrook::{Mask, Scan, Shape, Stamp, Store, PLACES};
+//! use deskrook::{Mask, ScanEntry, Shape, Stamp, Store, SCANS};
 //!
 //! # fn main() -> Result<(), deskrook::Refusal> {
 //! let shape = Shape { columns: 2, ranges: 1, capacity: 4, spares: 1 };
 //! let mut memory = vec![0; shape.bytes()?];
-//! let mut scans = [Scan::FREE; PLACES];
+//! let mut scans = [ScanEntry::FREE; SCANS];
 //! let mut store = Store::make(&mut memory, &mut scans, shape)?;
 //!
 //! let transaction = store.begin()?;
@@ -37,12 +37,12 @@
 //! A call that cannot be done answers a [`Refusal`] and changes no byte. Any number may be passed.
 //!
 //! ```
-//! use deskrook::{Refusal, Row, Scan, Shape, Store, PLACES};
+//! use deskrook::{Refusal, Row, ScanEntry, Shape, Store, SCANS};
 //!
 //! # fn main() -> Result<(), Refusal> {
 //! let shape = Shape { columns: 2, ranges: 1, capacity: 4, spares: 0 };
 //! let mut memory = vec![0; shape.bytes()?];
-//! let mut scans = [Scan::FREE; PLACES];
+//! let mut scans = [ScanEntry::FREE; SCANS];
 //! let store = Store::make(&mut memory, &mut scans, shape)?;
 //! match store.latest(Row(7), 0) {
 //!     Err(Refusal::Row) => {}
@@ -59,4 +59,4 @@ mod store;
 
 pub use numbers::{Lineage, Mask, Row, ScanNumber, Stamp, Sum, Tail, Transaction};
 pub use refusal::Refusal;
-pub use store::{Scan, Shape, Store, PLACES};
+pub use store::{ScanEntry, Shape, Store, SCANS};

@@ -9,7 +9,7 @@ use std::fmt;
 pub enum Refusal {
     /// A measure outside its limits.
     Shape = 1,
-    /// Memory shorter than the shape needs, a scan list under 16 places, or a stored fact fails.
+    /// Memory shorter than the shape needs, a scan list under 16 entries, or a stored fact fails.
     Memory = 2,
     /// The transaction's number is not open.
     Transaction = 3,

@@ -3,14 +3,14 @@
 use crate::c::{self, Reply};
 use crate::{Lineage, Mask, Refusal, Row, ScanNumber, Stamp, Sum, Tail, Transaction};
 
-/// The fewest places of a scan list, which is also how many scans can be open.
-pub const PLACES: usize = 16;
+/// The fewest entries of a scan list, which is also how many scans can be open.
+pub const SCANS: usize = 16;
 
-/// A place of the lent list of open scans.
+/// An entry of the lent list of open scans.
 #[repr(C)]
 #[derive(Clone, Copy, Debug, Default, PartialEq, Eq)]
-pub struct Scan {
-    /// The scan's number; 0 marks a free place.
+pub struct ScanEntry {
+    /// The scan's number; 0 marks a free entry.
     pub number: u32,
     /// The stamp that it was opened with.
     pub stamp: u32,
@@ -18,9 +18,9 @@ pub struct Scan {
     pub merges: u32,
 }
 
-impl Scan {
-    /// A free place.
-    pub const FREE: Scan = Scan { number: 0, stamp: 0, merges: 0 };
+impl ScanEntry {
+    /// A free entry.
+    pub const FREE: ScanEntry = ScanEntry { number: 0, stamp: 0, merges: 0 };
 }
 
 /// The measures of a store.
@@ -51,7 +51,9 @@ impl Shape {
     /// [`Refusal::Shape`].
     pub fn bytes(&self) -> Result<usize, Refusal> {
         // SAFETY: it takes numbers alone.
-        let reply = unsafe { c::deskrook_bytes_needed(self.columns, self.ranges, self.capacity, self.spares) };
+        let reply = unsafe {
+            c::deskrook_bytes_needed(self.columns, self.ranges, self.capacity, self.spares)
+        };
         Ok(accepted(reply)?.first as usize)
     }
 }
@@ -63,7 +65,7 @@ impl Shape {
 #[derive(Debug)]
 pub struct Store<'a> {
     memory: &'a mut [u8],
-    scans: &'a mut [Scan],
+    scans: &'a mut [ScanEntry],
 }
 
 /// An accepted reply, or the refusal.
@@ -114,13 +116,13 @@ macro_rules! call {
 }
 
 impl<'a> Store<'a> {
-    /// Makes an empty store, whatever memory and list held before. Every place of the list becomes
+    /// Makes an empty store, whatever memory and list held before. Every entry of the list becomes
     /// free; bytes past those that the shape needs stay as they are.
     ///
     /// ```
-    /// use deskrook::{Refusal, Scan, Shape, Store, PLACES};
+    /// use deskrook::{Refusal, ScanEntry, Shape, Store, SCANS};
     /// let shape = Shape { columns: 2, ranges: 1, capacity: 4, spares: 1 };
-    /// let (mut memory, mut scans) = ([0; 100], [Scan::FREE; PLACES]);
+    /// let (mut memory, mut scans) = ([0; 100], [ScanEntry::FREE; SCANS]);
     /// let refused = Store::make(&mut memory, &mut scans, shape);
     /// assert_eq!(refused.err(), Some(Refusal::Memory));
     /// ```
@@ -130,7 +132,7 @@ impl<'a> Store<'a> {
     /// [`Refusal::Shape`], [`Refusal::Memory`].
     pub fn make(
         memory: &'a mut [u8],
-        scans: &'a mut [Scan],
+        scans: &'a mut [ScanEntry],
         shape: Shape,
     ) -> Result<Store<'a>, Refusal> {
         let Shape { columns, ranges, capacity, spares } = shape;
@@ -143,18 +145,18 @@ impl<'a> Store<'a> {
     /// every call answers [`Refusal::Memory`].
     ///
     /// ```
-    /// use deskrook::{Refusal, Scan, Shape, Store, PLACES};
+    /// use deskrook::{Refusal, ScanEntry, Shape, Store, SCANS};
     ///
     /// # fn main() -> Result<(), Refusal> {
     /// let shape = Shape { columns: 1, ranges: 1, capacity: 1, spares: 0 };
-    /// let (mut memory, mut scans) = (vec![0; shape.bytes()?], [Scan::FREE; PLACES]);
+    /// let (mut memory, mut scans) = (vec![0; shape.bytes()?], [ScanEntry::FREE; SCANS]);
     /// assert_eq!(Store::lent(&mut memory, &mut scans).begin(), Err(Refusal::Memory));
     /// Store::make(&mut memory, &mut scans, shape)?;
     /// assert!(Store::lent(&mut memory, &mut scans).begin().is_ok());
     /// # Ok(())
     /// # }
     /// ```
-    pub fn lent(memory: &'a mut [u8], scans: &'a mut [Scan]) -> Store<'a> {
+    pub fn lent(memory: &'a mut [u8], scans: &'a mut [ScanEntry]) -> Store<'a> {
         Store { memory, scans }
     }
 
@@ -219,11 +221,11 @@ impl<'a> Store<'a> {
     /// Commits a transaction at a stamp later than the last commit's. Refused, it remains open.
     ///
     /// ```
-    /// use deskrook::{Refusal, Scan, Shape, Stamp, Store, PLACES};
+    /// use deskrook::{Refusal, ScanEntry, Shape, Stamp, Store, SCANS};
     ///
     /// # fn main() -> Result<(), Refusal> {
     /// # let shape = Shape { columns: 1, ranges: 1, capacity: 1, spares: 0 };
-    /// # let (mut memory, mut scans) = (vec![0; shape.bytes()?], [Scan::FREE; PLACES]);
+    /// # let (mut memory, mut scans) = (vec![0; shape.bytes()?], [ScanEntry::FREE; SCANS]);
     /// # let mut store = Store::make(&mut memory, &mut scans, shape)?;
     /// let transaction = store.begin()?;
     /// assert_eq!(store.commit(transaction, Stamp(0)), Err(Refusal::Time));
@@ -284,11 +286,11 @@ impl<'a> Store<'a> {
     /// Opens a scan at a stamp not later than the last commit's.
     ///
     /// ```
-    /// use deskrook::{Mask, Scan, Shape, Stamp, Store, Sum, PLACES};
+    /// use deskrook::{Mask, ScanEntry, Shape, Stamp, Store, Sum, SCANS};
     ///
     /// # fn main() -> Result<(), deskrook::Refusal> {
     /// # let shape = Shape { columns: 1, ranges: 1, capacity: 4, spares: 1 };
-    /// # let (mut memory, mut scans) = (vec![0; shape.bytes()?], [Scan::FREE; PLACES]);
+    /// # let (mut memory, mut scans) = (vec![0; shape.bytes()?], [ScanEntry::FREE; SCANS]);
     /// # let mut store = Store::make(&mut memory, &mut scans, shape)?;
     /// let transaction = store.begin()?;
     /// let gate = store.insert(transaction, &[1200])?;
@@ -341,7 +343,7 @@ impl<'a> Store<'a> {
         Ok(Sum { rows: reply.first, sum: reply.sum })
     }
 
-    /// Closes a scan and frees its place of the list.
+    /// Closes a scan and frees its entry of the list.
     ///
     /// # Errors
     ///

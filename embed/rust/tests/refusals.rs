@@ -1,7 +1,7 @@
 //! Each refusal, met through the crate, and that it changes no byte.
 
 use deskrook::{
-    Mask, Refusal, Row, Scan, ScanNumber, Shape, Stamp, Store, Tail, Transaction, PLACES,
+    Mask, Refusal, Row, ScanEntry, ScanNumber, Shape, Stamp, Store, Tail, Transaction, SCANS,
 };
 
 const SHAPE: Shape = Shape { columns: 2, ranges: 1, capacity: 4, spares: 1 };
@@ -10,13 +10,13 @@ const SHAPE: Shape = Shape { columns: 2, ranges: 1, capacity: 4, spares: 1 };
 #[derive(Clone, PartialEq, Debug)]
 struct Lent {
     memory: Vec<u8>,
-    scans: Vec<Scan>,
+    scans: Vec<ScanEntry>,
 }
 
 impl Lent {
     fn made(shape: Shape) -> Lent {
         let bytes = shape.bytes().expect("a good shape");
-        let mut lent = Lent { memory: vec![0xA5; bytes], scans: vec![Scan::FREE; PLACES] };
+        let mut lent = Lent { memory: vec![0xA5; bytes], scans: vec![ScanEntry::FREE; SCANS] };
         Store::make(&mut lent.memory, &mut lent.scans, shape).expect("enough is lent");
         lent
     }
@@ -59,7 +59,7 @@ fn making() {
     let short = lent.memory.len() - 1;
     let made = Store::make(&mut lent.memory[..short], &mut lent.scans, SHAPE);
     assert_eq!(made.err(), Some(Refusal::Memory));
-    let made = Store::make(&mut lent.memory, &mut lent.scans[..PLACES - 1], SHAPE);
+    let made = Store::make(&mut lent.memory, &mut lent.scans[..SCANS - 1], SHAPE);
     assert_eq!(made.err(), Some(Refusal::Memory));
     assert_eq!(lent, before);
 }

@@ -1,4 +1,4 @@
-/* The worked example of document 01 in C, on memory of its own: one gate with two columns, an update, and its merge into the page. Prints a line for each call
+/* The worked example (rule 12.9 of docs/SPECIFICATION.md) in C, on memory of its own: one gate with two columns, an update, and its merge into the page. Prints a line for each call
  * as the program gatebook does: the command byte, "ok" and the answer's fields, or "no" and the refusal's number. */
 #include <inttypes.h>
 #include <stdio.h>

@@ -1,4 +1,4 @@
-//! The worked example of document 01: one gate with two columns, an update, and its merge into the
+//! The worked example: one gate with two columns, an update, and its merge into the
 //! page. Prints a line for each call as the program gatebook does.
 
 use deskrook::{Mask, Refusal, ScanEntry, Shape, Stamp, Store, SCANS};

@@ -1,4 +1,4 @@
-//! The refusals with document 01's numbers.
+//! The refusals with their numbers.
 
 use std::error::Error;
 use std::fmt;

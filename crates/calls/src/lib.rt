@@ -76,7 +76,7 @@ pub fn bytes_needed(columns: u32, ranges: u32, capacity: u32, spares: u32) -> An
     layout::bytes_needed(columns, ranges, capacity, spares)
 }
 
-// A store of a shape is made in the memory, and every place of the list is free.
+// A store of a shape is made in the memory, and every entry of the list is free.
 pub fn make(
     mem: &mut [u8],
     scans: &mut [ScanEntry],
@@ -241,7 +241,7 @@ pub fn open_scan(mem: &mut [u8], scans: &mut [ScanEntry], stamp: Stamp) -> Answe
     keep(scans, listed)
 }
 
-// A scan is closed: its place is free again.
+// A scan is closed: its entry is free again.
 pub fn close_scan(mem: &[u8], scans: &mut [ScanEntry], scan: u32) -> Answer
     ensures { λ r. ⌜ Serves (now (mem .entry)) (now (scans .entry)) (Call.close scan) r (now (mem .entry)) (now (scans .exit)) ⌝ }
 {

@@ -43,7 +43,7 @@ ghost use Rattle.changes.specs.Steps.{appendTests};
 
 // ---- begin
 
-// The tests of begin; where they are passed, the first free place of the open transactions.
+// The tests of begin; where they are passed, the first free entry of the open transactions.
 fn begin_tests(mem: &[u8], s: Sizes) -> Tested
     requires { ⌜ Fitted s (now mem) ⌝ }
     ensures { λ r. ⌜ Tests s (now (mem .entry)) Call.begin r ⌝ }
@@ -109,7 +109,7 @@ pub fn insert(
 
 // ---- update and delete
 
-// The last tests of a call that appends n tail records to a row: whether it is held, gone, or its range g lacks them. `at` is the transaction's place.
+// The last tests of a call that appends n tail records to a row: whether it is held, gone, or its range g lacks them. `at` is the transaction's index.
 fn append_tests(
     mem: &[u8],
     s: Sizes,

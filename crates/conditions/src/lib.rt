@@ -33,7 +33,7 @@ ghost use Rattle.conditions.specs.Records.{isOther, holdsAt, deletesAt, 
 // From so many records on a loop that vectorises is quicker than one with an early exit.
 const MANY: usize = 8;
 
-// The place of an open transaction. Number 0 marks a free place, so that it is never found.
+// The index of an open transaction. Number 0 marks a free entry, so that it is never found.
 pub fn open_index(mem: &[u8], s: Sizes, t: Transaction) -> Found
     requires { ⌜ Suffices s (now mem) ⌝ }
     ensures { λ r. ⌜ r ≡ openAt (viewOf s (now (mem .entry))) (t .0) ⌝ }
@@ -46,7 +46,7 @@ pub fn open_index(mem: &[u8], s: Sizes, t: Transaction) -> Found
     find_in(mem, s, Region::Opens, 0, MOST_TRANSACTIONS, number)
 }
 
-// Whose own changes an own read of the transaction open at `place` adds: its record tells. With nothing noted there are none, and it is the latest read.
+// Whose own changes an own read of the transaction open at `index` adds: its record tells. With nothing noted there are none, and it is the latest read.
 pub fn own_changes(mem: &[u8], s: Sizes, index: usize) -> Transaction
     requires { ⌜ Suffices s (now mem) ⌝ }
     requires { ⌜ index < mostTransactions ⌝ }
@@ -78,7 +78,7 @@ fn open_other(mem: &[u8], s: Sizes, t: Transaction, k: Transaction) -> bool
     true
 }
 
-// Whether a word of the list of open numbers is another's than t's. Number 0 marks a free place.
+// Whether a word of the list of open numbers is another's than t's. Number 0 marks a free entry.
 fn is_other(t: Transaction, k: Transaction) -> bool
     ensures { λ r. ⌜ r ≡ isOther (t .0) (k .0) ⌝ }
 {
@@ -272,7 +272,7 @@ pub fn lacks_records(mem: &[u8], s: Sizes, g: usize, n: u32) -> bool
     used + n as usize > s.capacity
 }
 
-// Whether transaction k is open, as `open_index` finds it. Every place is looked at, with no early exit, so that a loop over records that asks it vectorises.
+// Whether transaction k is open, as `open_index` finds it. Every entry is looked at, with no early exit, so that a loop over records that asks it vectorises.
 fn is_open(mem: &[u8], s: Sizes, k: Transaction) -> bool
     requires { ⌜ Suffices s (now mem) ⌝ }
     ensures { λ r. ⌜ r ≡ openIn (viewOf s (now (mem .entry))) (k .0) ⌝ }

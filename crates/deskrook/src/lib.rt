@@ -1,5 +1,5 @@
 // The exports for C and Rust: every call by name, over the lent memory and the lent list of open scans, the making of a store, the bytes that it
-// needs, and a test of memory and list. Numbers are plain, and the answer is a `Reply`. A slice passes as a pointer and a length (of the list: in places), a
+// needs, and a test of memory and list. Numbers are plain, and the answer is a `Reply`. A slice passes as a pointer and a length (of the list: in entries), a
 // number as itself, and the reply by value. Nothing is asked of the numbers, the bytes or the list.
 mod reply;
 
@@ -206,7 +206,7 @@ pub extern "C" fn deskrook_open_scan(mem: &mut [u8], scans: &mut [ScanEntry], st
     encode(calls::open_scan(mem, scans, stamp))
 }
 
-// A scan is closed: its place is free again.
+// A scan is closed: its entry is free again.
 #[no_mangle]
 pub extern "C" fn deskrook_close_scan(mem: &[u8], scans: &mut [ScanEntry], scan: u32) -> Reply
     ensures { λ r. ⌜ Replies (now (mem .entry)) (now (scans .entry)) (Call.close scan) r (now (mem .entry)) (now (scans .exit)) ⌝ }
@@ -214,7 +214,7 @@ pub extern "C" fn deskrook_close_scan(mem: &[u8], scans: &mut [ScanEntry], scan:
     encode(calls::close_scan(mem, scans, scan))
 }
 
-// A store of a shape is made in the memory, and every place of the list is free.
+// A store of a shape is made in the memory, and every entry of the list is free.
 #[no_mangle]
 pub extern "C" fn deskrook_make(
     mem: &mut [u8],

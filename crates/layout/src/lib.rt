@@ -23,7 +23,7 @@ ghost use Rattle.layout.specs.Sizes.{shapeOf, sizesOf, BytesTold};
 pub enum Region {
     // the measures, and the counts that the calls keep; HEADER_.. name the words
     Header,
-    // the numbers of the open transactions, 0 at a free place
+    // the numbers of the open transactions, 0 at a free entry
     Opens,
     // a word for each row: its inserter, that transaction's state and stamp, its last tail record, the columns that have been set
     RowTransaction,
@@ -56,7 +56,7 @@ pub enum Region {
     PageNewest,
     // RANGE_ROWS words for each page
     Cells,
-    // how many changes each open transaction has made, place by place as in Opens
+    // how many changes each open transaction has made, entry by entry as in Opens
     Changes,
 }
 

@@ -74,7 +74,7 @@ fn answer_of(listed: ListChange) -> Answer
     a
 }
 
-// The place that a call names becomes what it says: a scan is added or dropped. A place past the end is not there, and nothing is stored. Gives the call's answer back.
+// The entry that a call names becomes what it says: a scan is added or dropped. An entry past the end is not there, and nothing is stored. Gives the call's answer back.
 pub fn keep(list: &mut [ScanEntry], listed: ListChange) -> Answer
     ensures { λ r. ⌜ (r ≡ listed .answer) × (now (list .exit) ≡ set (now (list .entry)) (listed .index) (listed .entry)) ⌝ }
 {
@@ -85,7 +85,7 @@ pub fn keep(list: &mut [ScanEntry], listed: ListChange) -> Answer
     answer_of(listed)
 }
 
-// Every place becomes free, however many there are.
+// Every entry becomes free, however many there are.
 pub fn free_all(list: &mut [ScanEntry])
     ensures { λ _. ⌜ now (list .exit) ≡ allFreed (now (list .entry)) ⌝ }
 {
@@ -112,7 +112,7 @@ pub fn accepted(answer: Answer) -> bool
     }
 }
 
-// The list of a store that was to be made: every place becomes free, unless the making was refused. Gives the making's answer back.
+// The list of a store that was to be made: every entry becomes free, unless the making was refused. Gives the making's answer back.
 pub fn free_made(list: &mut [ScanEntry], answer: Answer) -> Answer
     ensures { λ r. ⌜ (r ≡ answer) × (now (list .exit) ≡ freedIf (isAccepted answer) (now (list .entry))) ⌝ }
 {

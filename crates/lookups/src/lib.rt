@@ -109,7 +109,7 @@ pub fn read_at(mem: &[u8], t: Scans, stamp: Stamp, row: Row, column: u32) -> Ans
     }
 }
 
-// The tests of own read; where they are passed, the place of the transaction.
+// The tests of own read; where they are passed, the index of the transaction.
 fn own_read_tests(mem: &[u8], s: Sizes, transaction: Transaction, row: Row, column: u32) -> Tested
     requires { ⌜ Fitted s (now mem) ⌝ }
     ensures { λ r. ⌜ Tests s (now (mem .entry)) (Call.ownRead (transaction .0) (row .0) column) r ⌝ }

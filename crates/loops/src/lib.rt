@@ -147,7 +147,7 @@ pub enum Found {
     Nothing,
 }
 
-// The first place of key among the n words from `at`, counted from `at`.
+// The first index of key among the n words from `at`, counted from `at`.
 pub fn find(mem: &[u8], at: usize, n: usize, key: u32) -> Found
     requires { ⌜ (at + n) * 4 ≤ length (now mem) ⌝ }
     ensures { λ r. ⌜ r ≡ firstAt key 0 (region (words (now (mem .entry))) at n) ⌝ }

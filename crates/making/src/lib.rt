@@ -37,7 +37,7 @@ fn clear(mem: &mut [u8], s: Sizes)
     fill(mem, 0, n, 0);
 }
 
-// The first pages become current, one for each place.
+// The first pages become current, one for each chunk.
 fn place_pages(mem: &mut [u8], s: Sizes)
     requires { ⌜ (Suffices s (now mem)) × (s .chunks ≤ s .pages) × (s .pages ≤ mostPages) ⌝ }
     requires { ⌜ viewOf s (now mem) ≡ blank s ⌝ }
@@ -70,7 +70,7 @@ fn lay_out(mem: &mut [u8], s: Sizes, columns: u32, ranges: u32, capacity: u32, s
     put_measures(mem, s, columns, ranges, capacity, spares);
 }
 
-// A store of a shape, in a memory and with a scan list of so many places.
+// A store of a shape, in a memory and with a scan list of so many entries.
 pub fn make(
     mem: &mut [u8],
     length: usize,

@@ -44,7 +44,7 @@ ghost use Rattle.merging.specs.Steps.{appliedOne, laterOne, appliedAll, 
 
 // ---- merge
 
-// Whether a page says that it is current and its place does not name it.
+// Whether a page says that it is current and its chunk does not name it.
 fn is_stray(mem: &[u8], s: Sizes, p: usize) -> bool
     requires { ⌜ Suffices s (now mem) ⌝ }
     requires { ⌜ Proper s × (p < s .pages) ⌝ }

@@ -26,7 +26,7 @@ fn either(a: bool, b: bool) -> bool
     if a { true } else { b }
 }
 
-// What a place is multiplied by in place of a division by the columns, and shifted by 16 bits.
+// What a chunk is multiplied by in place of a division by the columns, and shifted by 16 bits.
 fn inverse_of(columns: usize) -> u32
     requires { ⌜ (1 ≤ columns) × (columns ≤ mostColumns) ⌝ }
     ensures { λ r. ⌜ (r ≡ 65536 / columns + 1) × (r ≤ 65537) ⌝ }
@@ -34,7 +34,7 @@ fn inverse_of(columns: usize) -> u32
     65536 / columns as u32 + 1
 }
 
-// The range of a place, by the inverse of the columns.
+// The range of a chunk, by the inverse of the columns.
 fn range_of_chunk(chunk: u32, inverse: u32) -> usize
     requires { ⌜ (chunk < mostChunks) × (inverse ≤ 65537) ⌝ }
     ensures { λ r. ⌜ ((c : ℕ) → 1 ≤ c → c ≤ mostColumns → inverse ≡ 65536 / c + 1 → r ≡ chunk / c) ⌝ }
@@ -42,7 +42,7 @@ fn range_of_chunk(chunk: u32, inverse: u32) -> usize
     (chunk * inverse / 65536) as usize
 }
 
-// Whether place i names a page of the pool that is current and says so of that place, whose newest stamp and lineage are within theirs.
+// Whether chunk i names a page of the pool that is current and says so of that chunk, whose newest stamp and lineage are within theirs.
 fn current_holds(mem: &[u8], s: Sizes, inverse: u32, last: u32, i: usize) -> bool
     requires { ⌜ Ready s (now mem) ⌝ }
     requires { ⌜ (i < s .chunks) × (inverse ≡ 65536 / s .columns + 1) × (inverse ≤ 65537) × (last ≡ lastStamp (viewOf s (now mem))) ⌝ }
@@ -103,7 +103,7 @@ fn all_waiting_at_most(mem: &[u8], s: Sizes, k: Region, most: u32) -> bool
     ok
 }
 
-// A word modulo the places. A division only where it is needed: a place that the store has written is below them.
+// A word modulo the chunks. A division only where it is needed: a chunk that the store has written is below them.
 fn modulo_chunks(word: u32, places: u32) -> u32
     requires { ⌜ 1 ≤ places ⌝ }
     ensures { λ r. ⌜ (r ≡ word % places) × (r < places) ⌝ }

@@ -3,7 +3,7 @@ use terms::limits::MOST_SCANS;
 ghost use mathlib.Core.Path.{_≡_};
 ghost use Rattle.terms.specs.Measures.{mostScans};
 
-// The fewest places that a lent scan list may have.
+// The fewest entries that a lent scan list may have.
 pub fn fewest_places() -> usize
     ensures { λ r. ⌜ r ≡ mostScans ⌝ }
 {

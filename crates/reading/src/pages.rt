@@ -43,7 +43,7 @@ pub fn current_page(mem: &[u8], s: Sizes, g: usize, c: u32) -> usize
     read(mem, s, Region::Current, g * s.columns + c as usize) as usize
 }
 
-// Whether page p waits, is of this place, and was current after the first `merges` merges.
+// Whether page p waits, is of this chunk, and was current after the first `merges` merges.
 fn was_current(mem: &[u8], s: Sizes, merges: u32, chunk: usize, p: usize) -> bool
     requires { ⌜ Suffices s (now mem) ⌝ }
     requires { ⌜ Proper s ⌝ }
@@ -62,7 +62,7 @@ fn was_current(mem: &[u8], s: Sizes, merges: u32, chunk: usize, p: usize) -> boo
     merges < read(mem, s, Region::PageReplaced, p)
 }
 
-// The first waiting page of a place that was current after the first `merges` merges.
+// The first waiting page of a chunk that was current after the first `merges` merges.
 fn old_page(mem: &[u8], s: Sizes, merges: u32, chunk: usize) -> Found
     requires { ⌜ Suffices s (now mem) ⌝ }
     requires { ⌜ Proper s ⌝ }

@@ -47,7 +47,7 @@ ghost use Rattle.commands.specs.Commands.{readOf, writeOf};
 ghost use Rattle.promise.specs.Promise.{Serves, ServesBy, Makes, kept};
 ghost use Rattle.requests.specs.Asked.{mostMask, asked};
 
-// A store is made, and with it every place of the list becomes free.
+// A store is made, and with it every entry of the list becomes free.
 pub fn make_store(
     mem: &mut [u8],
     scans: &mut [u8],
@@ -66,7 +66,7 @@ pub fn make_store(
     answer
 }
 
-// The two calls that change the list: the place that changed is written back.
+// The two calls that change the list: the entry that changed is written back.
 fn open_listed(mem: &mut [u8], scans: &mut [u8], t: Scans, a: u32) -> Answer
     ensures { λ r. ⌜ (t ≡ tableOf (entriesOf (words (now (scans .entry)))) → Serves (now (mem .entry)) (entriesOf (words (now (scans .entry)))) (Call.openScan a) r (now (mem .exit)) (entriesOf (words (now (scans .exit))))) ⌝ }
 {

@@ -1,4 +1,4 @@
-// The scan list in bytes, three words to a place, as `gatebook` keeps it: its buffers are arrays of bytes. It may be of any length.
+// The scan list in bytes, three words to an entry, as `gatebook` keeps it: its buffers are arrays of bytes. It may be of any length.
 use loops::fill;
 use scans::Scans;
 use scans::blank;
@@ -17,7 +17,7 @@ ghost use Rattle.scans.specs.Places.{allFreed};
 ghost use Rattle.scans.specs.Table.{tableOf};
 ghost use Rattle.requests.specs.Packed.{entryBytes, entriesOf};
 
-// The words of a place, and its bytes, four to a word.
+// The words of an entry, and its bytes, four to a word.
 const PLACE_WORDS: usize = 3;
 
 pub const ENTRY_BYTES: usize = 4 * PLACE_WORDS;
@@ -34,7 +34,7 @@ fn entry_at(list: &[u8], i: usize) -> ScanEntry
     }
 }
 
-// The table of the list. A rest of fewer bytes than a place has belongs to no place.
+// The table of the list. A rest of fewer bytes than an entry has belongs to no entry.
 pub fn table(list: &[u8]) -> Scans
     ensures { λ r. ⌜ r ≡ tableOf (entriesOf (words (now (list .entry)))) ⌝ }
 {
@@ -51,7 +51,7 @@ pub fn table(list: &[u8]) -> Scans
     set_length(t, n)
 }
 
-// ScanEntry i becomes p; a place past the end is not there, and nothing is written.
+// Entry i becomes p; an entry past the end is not there, and nothing is written.
 pub fn put_entry(list: &mut [u8], i: usize, p: ScanEntry)
     ensures { λ _. ⌜ entriesOf (words (now (list .exit))) ≡ set (entriesOf (words (now (list .entry)))) i p ⌝ }
 {
@@ -63,7 +63,7 @@ pub fn put_entry(list: &mut [u8], i: usize, p: ScanEntry)
     }
 }
 
-// Every place becomes free, however many there are.
+// Every entry becomes free, however many there are.
 pub fn free_all(list: &mut [u8])
     ensures { λ _. ⌜ entriesOf (words (now (list .exit))) ≡ allFreed (entriesOf (words (now (list .entry)))) ⌝ }
 {

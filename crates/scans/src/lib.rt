@@ -1,6 +1,6 @@
-// The lent list of open scans as a table: how long it is, its open scans with their places, and its first free place. At most MOST_SCANS are open
-// in a usable store, so a table of so many holds all that a call asks of a list of any length. Definitions and laws speak of the list of places. A table is made
-// place by place, by `enter`, for a list lent as records (crates/lent) and for one in bytes (crates/packed).
+// The lent list of open scans as a table: how long it is, its open scans with their places in it, and its first free entry. At most MOST_SCANS are open
+// in a usable store, so a table of so many holds all that a call asks of a list of any length. Definitions and laws speak of the list of entries. A table is made
+// entry by entry, by `enter`, for a list lent as records (crates/lent) and for one in bytes (crates/requests/src/packed.rt).
 
 use loops::Found;
 use loops::and_between;
@@ -18,7 +18,7 @@ ghost use Rattle.scans.specs.Table.{tableOf, noted, ofLength, findIn};
 
 // What a call wants to know of the list. Entries at and past `count` are 0.
 pub struct Scans {
-    // how many places were lent
+    // how many entries were lent
     pub length: usize,
     // the open scans among them, at most MOST_SCANS: how many, and of each its number, stamp and merges and its place in the list
     pub count: usize,
@@ -26,13 +26,13 @@ pub struct Scans {
     pub stamps: [u32; MOST_SCANS],
     pub merges: [u32; MOST_SCANS],
     pub places: [usize; MOST_SCANS],
-    // the first free place, or the length where there is none
+    // the first free entry, or the length where there is none
     pub free: usize,
     // whether more than MOST_SCANS are open
     pub more: bool,
 }
 
-// The first free place of a list that has grown by an open one.
+// The first free entry of a list that has grown by an open one.
 fn free_after(free: usize, length: usize) -> usize
     requires { ⌜ length < 4611686018427387904 ⌝ }
     ensures { λ r. ⌜ r ≡ cond (eqb free length) (length + 1) free ⌝ }
@@ -40,7 +40,7 @@ fn free_after(free: usize, length: usize) -> usize
     if free == length { length + 1 } else { free }
 }
 
-// The table of no place.
+// The table of no entry.
 pub fn blank() -> Scans
     ensures { λ r. ⌜ r ≡ tableOf [] ⌝ }
 {
@@ -62,7 +62,7 @@ pub fn is_open(p: ScanEntry) -> bool
     p.number != 0
 }
 
-// The table of the first i places, with place i, an open one. What t has as its length is not looked at: free places are passed over without it.
+// The table of the first i entries, with entry i, an open one. What t has as its length is not looked at: free entries are passed over without it.
 pub fn enter(t: Scans, i: usize, p: ScanEntry) -> Scans
     requires { ⌜ (i < 4611686018427387904) × (isOpen p ≡ true) ⌝ }
     ensures { λ r. ⌜ r ≡ noted (ofLength i t) p ⌝ }

@@ -36,7 +36,7 @@ ghost use Rattle.layout.specs.Sizes.{Proper};
 ghost use Rattle.model.specs.Asked.{shapeIn, Counted, FreeAt, OpenAt};
 ghost use Rattle.transactions.specs.Steps.{notedAt, tailMarked, tailsMarked};
 
-// The first free place for an open transaction.
+// The first free entry for an open transaction.
 pub fn free_index(mem: &[u8], s: Sizes) -> Found
     requires { ⌜ Suffices s (now mem) ⌝ }
     ensures { λ r. ⌜ r ≡ foundAt mostTransactions (firstIndex (λ k. eqb k 0) (viewOf s (now (mem .entry)) Region.Opens)) ⌝ }
@@ -44,7 +44,7 @@ pub fn free_index(mem: &[u8], s: Sizes) -> Found
     find_in(mem, s, Region::Opens, 0, MOST_TRANSACTIONS, 0)
 }
 
-// A new transaction takes a free place, and gets the next number.
+// A new transaction takes a free entry, and gets the next number.
 pub fn begin(mem: &mut [u8], s: Sizes, free: usize) -> Transaction
     requires { ⌜ Suffices s (now mem) ⌝ }
     requires { ⌜ FreeAt (viewOf s (now mem)) free ⌝ }
@@ -57,7 +57,7 @@ pub fn begin(mem: &mut [u8], s: Sizes, free: usize) -> Transaction
     t
 }
 
-// The open transaction at a place notes a change.
+// The open transaction at an index notes a change.
 pub fn note(mem: &mut [u8], s: Sizes, at: usize)
     requires { ⌜ Suffices s (now mem) ⌝ }
     requires { ⌜ at < mostTransactions ⌝ }
@@ -131,7 +131,7 @@ fn settle(mem: &mut [u8], s: Sizes, t: Transaction, state: u32, stamp: Stamp)
     mark_tails(mem, s, t, Region::TailStamp, stamp.0);
 }
 
-// The open transaction at a place is handed back: what it has written is committed at a stamp, and its place is free.
+// The open transaction at an index is handed back: what it has written is committed at a stamp, and its entry is free.
 pub fn commit(mem: &mut [u8], s: Sizes, at: usize, stamp: Stamp)
     requires { ⌜ Suffices s (now mem) ⌝ }
     requires { ⌜ Proper s ⌝ }
@@ -144,7 +144,7 @@ pub fn commit(mem: &mut [u8], s: Sizes, at: usize, stamp: Stamp)
     write(mem, s, Region::Header, HEADER_STAMP, stamp.0);
 }
 
-// It is handed back: what it has written is aborted, and its place is free.
+// It is handed back: what it has written is aborted, and its entry is free.
 pub fn abort(mem: &mut [u8], s: Sizes, at: usize)
     requires { ⌜ Suffices s (now mem) ⌝ }
     requires { ⌜ Proper s ⌝ }

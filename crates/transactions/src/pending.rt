@@ -63,7 +63,7 @@ impl Pending {
     }
 }
 
-// The record of a free place.
+// The record of a free entry.
 pub fn free_record() -> Pending
     ensures { λ r. ⌜ r ≡ freeRecord ⌝ }
 {
@@ -73,7 +73,7 @@ pub fn free_record() -> Pending
     }
 }
 
-// The record at a place of Opens.
+// The record at an index of Opens.
 pub fn pending_at(mem: &[u8], s: Sizes, index: usize) -> Pending
     requires { ⌜ Suffices s (now mem) ⌝ }
     requires { ⌜ index < mostTransactions ⌝ }
@@ -85,7 +85,7 @@ pub fn pending_at(mem: &[u8], s: Sizes, index: usize) -> Pending
     }
 }
 
-// A record into a place of Opens.
+// A record into an entry of Opens.
 pub fn keep(mem: &mut [u8], s: Sizes, index: usize, p: Pending)
     requires { ⌜ Suffices s (now mem) ⌝ }
     requires { ⌜ index < mostTransactions ⌝ }

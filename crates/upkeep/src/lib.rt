@@ -1,5 +1,5 @@
 // The calls that keep the store in order, over a lent memory and the table of the scan list: merge, release, open scan, close scan. Each call is the test of memory
-// and list, the call's own tests in the order of section 4 of docs/SPECIFICATION.md, and then what it writes. The scan list itself is not lent here: open and close answer the one place of
+// and list, the call's own tests in the order of section 4 of docs/SPECIFICATION.md, and then what it writes. The scan list itself is not lent here: open and close answer the one entry of
 // it that changes, and what stands there then.
 use conditions::any_open;
 use entry::Entry;
@@ -47,7 +47,7 @@ ghost use Rattle.entry.specs.Entered.{Fitted};
 ghost use Rattle.entry.specs.Tested.{Says, Finds, Tests, TestsBy};
 ghost use Rattle.upkeep.specs.Lists.{changedAt, reachTests};
 
-// What a call on the scan list leaves: its answer, and the place of the list that becomes `entry`. A place past the list's end changes nothing.
+// What a call on the scan list leaves: its answer, and the index in the list of what becomes `entry`. An index past the list's end changes nothing.
 pub struct ListChange {
     pub answer: Answer,
     pub index: usize,
@@ -148,7 +148,7 @@ pub fn release(mem: &mut [u8], scans: Scans) -> Answer
 
 // ---- open and close
 
-// A call that was refused changes no place of the list.
+// A call that was refused changes no entry of the list.
 fn unlisted(scans: Scans, why: Refusal) -> ListChange
     ensures { λ r. ⌜ (r .answer ≡ Answer.Refused why) × (r .index ≡ scans .length) ⌝ }
 {
@@ -163,7 +163,7 @@ fn unlisted(scans: Scans, why: Refusal) -> ListChange
     }
 }
 
-// The tests of open scan; where they are passed, the scan's place is the list's first free one.
+// The tests of open scan; where they are passed, the scan's entry is the list's first free one.
 fn open_tests(mem: &[u8], s: Sizes, scans: Scans, stamp: Stamp) -> Tested
     requires { ⌜ Fitted s (now mem) ⌝ }
     ensures { λ r. ⌜ TestsBy scans s (now (mem .entry)) (Call.openScan (stamp .0)) r ⌝ }
@@ -181,7 +181,7 @@ fn open_tests(mem: &[u8], s: Sizes, scans: Scans, stamp: Stamp) -> Tested
     Tested::Passed(scans.free)
 }
 
-// A scan gets the next number; its place in the scan list is not written here.
+// A scan gets the next number; its entry in the scan list is not written here.
 fn give_scan(mem: &mut [u8], s: Sizes) -> u32
     requires { ⌜ Suffices s (now mem) ⌝ }
     requires { ⌜ scansGiven (viewOf s (now mem)) < mostNumbers ⌝ }
@@ -228,7 +228,7 @@ fn close_tests(scans: Scans, scan: u32) -> Tested
     Tested::Passed(i)
 }
 
-// A scan is closed: its place is free again.
+// A scan is closed: its entry is free again.
 pub fn close_scan(mem: &[u8], scans: Scans, scan: u32) -> ListChange
     ensures { λ r. ⌜ ServesBy scans (now (mem .entry)) (Call.close scan) (r .answer) (now (mem .entry)) (changedAt r) ⌝ }
 {

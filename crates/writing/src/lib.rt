@@ -45,7 +45,7 @@ fn put_row(mem: &mut [u8], s: Sizes, t: Transaction, row: Row)
     write(mem, s, Region::RowMask, i, 0);
 }
 
-// The value of a column into a place of a range's current page.
+// The value of a column into a cell of a range's current page.
 fn put_cell(mem: &mut [u8], s: Sizes, chunk: usize, i: usize, w: u32)
     requires { ⌜ Suffices s (now mem) ⌝ }
     requires { ⌜ (chunk < s .chunks) × (i < rangeRows) × (getD (viewOf s (now mem) Region.Current) chunk 0 < s .pages) ⌝ }
@@ -55,7 +55,7 @@ fn put_cell(mem: &mut [u8], s: Sizes, chunk: usize, i: usize, w: u32)
     write(mem, s, Region::Cells, page * RANGE_ROWS + i, w);
 }
 
-// The values of a row into place i of the current pages of range g.
+// The values of a row into cell i of the current pages of range g.
 fn put_cells(mem: &mut [u8], s: Sizes, g: usize, i: usize, vs: [i32; MOST_COLUMNS])
     requires { ⌜ Suffices s (now mem) ⌝ }
     requires { ⌜ Proper s × Pooled s (viewOf s (now mem)) ⌝ }
@@ -71,7 +71,7 @@ fn put_cells(mem: &mut [u8], s: Sizes, g: usize, i: usize, vs: [i32; MOST_COLUMN
     }
 }
 
-// A new row of open transaction t, whose place is `at`: the next number, and a value for each column.
+// A new row of open transaction t, whose index is `at`: the next number, and a value for each column.
 pub fn insert(mem: &mut [u8], s: Sizes, at: usize, t: Transaction, vs: [i32; MOST_COLUMNS]) -> Row
     requires { ⌜ Suffices s (now mem) ⌝ }
     requires { ⌜ Proper s × Pooled s (viewOf s (now mem)) ⌝ }
@@ -141,7 +141,7 @@ fn newest_values(mem: &[u8], s: Sizes, g: usize) -> usize
     (g * s.capacity + (used - 1)) * s.columns
 }
 
-// The word of a column in place i of a range's current page.
+// The word of a column in cell i of a range's current page.
 fn cell_word(mem: &[u8], s: Sizes, chunk: usize, i: usize) -> u32
     requires { ⌜ Suffices s (now mem) ⌝ }
     requires { ⌜ (chunk < s .chunks) × (i < rangeRows) × (getD (viewOf s (now mem) Region.Current) chunk 0 < s .pages) ⌝ }
@@ -151,7 +151,7 @@ fn cell_word(mem: &[u8], s: Sizes, chunk: usize, i: usize) -> u32
     read(mem, s, Region::Cells, page * RANGE_ROWS + i)
 }
 
-// The newest record of range g holds the words of place i of the range's current pages.
+// The newest record of range g holds the words of cell i of the range's current pages.
 fn fill_cells(mem: &mut [u8], s: Sizes, g: usize, i: usize)
     requires { ⌜ Suffices s (now mem) ⌝ }
     requires { ⌜ Proper s × Pooled s (viewOf s (now mem)) ⌝ }
@@ -255,7 +255,7 @@ fn append_records(
     append_setting(mem, s, t, row, mask, vs);
 }
 
-// Open transaction t, whose place is `at`, sets the columns of a mask in a row.
+// Open transaction t, whose index is `at`, sets the columns of a mask in a row.
 pub fn update(
     mem: &mut [u8],
     s: Sizes,
@@ -280,7 +280,7 @@ pub fn update(
     Tail(used + wanted)
 }
 
-// Open transaction t, whose place is `at`, deletes a row.
+// Open transaction t, whose index is `at`, deletes a row.
 pub fn delete(mem: &mut [u8], s: Sizes, at: usize, t: Transaction, row: Row) -> Tail
     requires { ⌜ Suffices s (now mem) ⌝ }
     requires { ⌜ Proper s ⌝ }

@@ -53,7 +53,7 @@ module _ (F : Face) where
       (m m′ : List ℕ) (ps ps′ : List ScanEntry) (c : Call) (r : F .Told) → F .serves m ps c r m′ ps′
       → ((n : Refusal) → F .Refuses r n ↔ First (conditions m ps c) n) × (F .Accepts r ↔ NoneApplies (conditions m ps c))
 
-  -- a refused call changes no byte of the memory and no place of the list, and a refused making neither
+  -- a refused call changes no byte of the memory and no entry of the list, and a refused making neither
   unfoldable pub RefusedKept : Type 0
   RefusedKept =
       (m m′ : List ℕ) (ps ps′ : List ScanEntry) (c : Call) (r : F .Told) (n : Refusal)
@@ -126,14 +126,14 @@ abbrev pub LentStability : Type 0
 LentStability = ReadsStable calls
 
 -- ---- the list
--- an accepted making frees every place; every other call changes at most one
+-- an accepted making frees every entry; every other call changes at most one
 unfoldable pub MakingFrees : Type 0
 MakingFrees = (S : Shape) (m m′ : List ℕ) (ps ps′ : List ScanEntry) → Makes m ps S Answer.Done m′ ps′ → ps′ ≡ allFreed ps
 
 unfoldable pub OnePlace : Type 0
 OnePlace = (m m′ : List ℕ) (ps ps′ : List ScanEntry) (c : Call) (r : Answer) → Serves m ps c r m′ ps′ → (i : ℕ) × (p : ScanEntry) × (ps′ ≡ set ps i p)
 
--- a list under 16 places is refused with 2, whatever the memory
+-- a list under 16 entries is refused with 2, whatever the memory
 unfoldable pub ShortRefused : Type 0
 ShortRefused =
     (m m′ : List ℕ) (ps ps′ : List ScanEntry) (c : Call) (r : Answer) → length ps < mostScans → Serves m ps c r m′ ps′ → r ≡ Answer.Refused Refusal.Memory

@@ -6,6 +6,6 @@ use Rattle.layout.specs.View.{View}
 use Rattle.model.specs.Stored.{openIndex}
 use Rattle.model.specs.Calls.{notOpenIn}
 
--- the place of open transaction t
+-- the index of open transaction t
 unfoldable pub openAt : View → ℕ → Found
 openAt v t = cond (notOpenIn v t) Found.Nothing (Found.At (openIndex v t))

@@ -8,7 +8,7 @@ use Rattle.layout.specs.View.{View}
 use Rattle.model.specs.Stored.{deleteKind}
 use Rattle.model.specs.Calls.{openOther, standsFor}
 
--- the number k of a place is another open transaction's than t's
+-- the number k of an entry is another open transaction's than t's
 unfoldable pub isOther : ℕ → ℕ → Bool
 isOther t k = not (eqb k 0) && not (eqb k t)
 

@@ -32,9 +32,9 @@ rowsBetween v k low high = allBetween low high (region (v k) 0 (rowsGiven v))
 unfoldable pub rangeBetween : Sizes → View → Region → ℕ → ℕ → ℕ → Bool
 rangeBetween s v k low high g = allBetween low high (region (v k) (firstSlot (s .capacity) g) (usedIn v g))
 
--- ---- current and waiting pages. A page is current if a place names it, and it waits if its state is that of a waiting page or above. Any other page is free, whatever its words say.
+-- ---- current and waiting pages. A page is current if a chunk names it, and it waits if its state is that of a waiting page or above. Any other page is free, whatever its words say.
 
--- word k of the page that place i names is at most a number
+-- word k of the page that chunk i names is at most a number
 unfoldable pub currentAtMost : View → Region → ℕ → ℕ → Bool
 currentAtMost v k most i = leb (getD (v k) (getD (v Current) i 0) 0) most
 

@@ -49,7 +49,7 @@ unfoldable pub rowsHold : Sizes → View → Bool
 rowsHold s v =
     rowsBetween v RowTransaction 1 (transactionsGiven v) && (each (rowsGiven v) (rowLinked s v) && rowsBetween v RowStamp 0 (lastStamp v))
 
--- the page that place i names
+-- the page that chunk i names
 unfoldable pub currentHolds : Sizes → View → ℕ → Bool
 currentHolds s v i = pagePlaced s v i && (currentAtMost v PageNewest (lastStamp v) i && currentLineage s v i)
 

@@ -11,7 +11,7 @@ use Rattle.history.specs.History.{History, Row, Record, State, unknown, 
 use Rattle.history.specs.Lists.{All, Pairs}
 use Rattle.history.specs.Records.{isOriginal, wasSet, hasOriginal}
 
--- ---- nothing passes the measures: the places of rows, records, active transactions, running scans and pages are enough
+-- ---- nothing passes the measures: the room for rows, records, active transactions, running scans and pages is enough
 pub record Limits (S : Shape) (h : History) : Type 0 where
   pub transactions : length (h .transactions) ≤ mostNumbers
   pub actives : count isActive (h .transactions) ≤ mostTransactions

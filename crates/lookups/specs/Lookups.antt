@@ -30,6 +30,6 @@ pub record ScanAt (t : Scans) (k j : ℕ) : Type 0 where
   pub below : j < mostScans
   pub found : findIn t k ≡ Found.At j
 
--- p is the place of scan k in every list that the table stands for and that a usable store may have, if entry j is that of scan k
+-- p is the index of scan k in every list that the table stands for and that a usable store may have, if entry j is that of scan k
 abbrev pub IsScan : Scans → ℕ → ℕ → ScanEntry → Type 0
 IsScan t k j p = findIn t k ≡ Found.At j → (ps : List ScanEntry) → t ≡ tableOf ps → openCount ps ≤ mostScans → p ≡ scanEntry ps k

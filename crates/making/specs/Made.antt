@@ -18,11 +18,11 @@ use Rattle.layout.specs.Sizes.{sizesOf, bytesNeeded}
 use Rattle.layout.specs.View.{View, fill, number, lay, blank}
 use Rattle.scans.specs.Places.{allFreed}
 
--- the first page is current for the first place, the second for the second, and so on
+-- the first page is current for the first chunk, the second for the second, and so on
 unfoldable pub placedView : Sizes → View
 placedView s = number Current 0 (s .chunks) (number PageChunk 0 (s .chunks) (fill PageState 0 (s .chunks) asCurrent (blank s)))
 
--- the answer for a scan list of so many places, and the memory afterwards
+-- the answer for a scan list of so many entries, and the memory afterwards
 unfoldable pub made : Shape → ℕ → List ℕ → Answer × List ℕ
 made p places m =
     cond (withinLimits p)

@@ -40,12 +40,12 @@ pub record Placed (S : Shape) (v : View) : Type 0 where
   pub state : (i : ℕ) → i < chunksOf S → (pageIn v (getD (v Region.Current) i 0)) .state ≡ asCurrent
   pub chunk : (i : ℕ) → i < chunksOf S → (pageIn v (getD (v Region.Current) i 0)) .chunk ≡ i
 
--- j is the first free place for an open transaction
+-- j is the first free index for an open transaction
 pub record FreeAt (v : View) (j : ℕ) : Type 0 where
   pub low : j < mostTransactions
   pub first : j ≡ firstIndex (λ k. eqb k 0) (v Region.Opens)
 
--- j is the place of open transaction t
+-- j is the index of open transaction t
 pub record OpenAt (v : View) (t j : ℕ) : Type 0 where
   pub low : j < mostTransactions
   pub found : j ≡ openIndex v t

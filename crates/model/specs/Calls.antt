@@ -171,7 +171,7 @@ actIn S v ps release = releasedIn S ps v
 actIn S v ps (pageCell c r) = v
 actIn S v ps (lineage g c) = v
 
--- ---- and the scan list: an opened scan takes the first free place, a closed one leaves a free place
+-- ---- and the scan list: an opened scan takes the first free entry, a closed one leaves a free entry
 unfoldable pub entriesAfter : View → List ScanEntry → Call → List ScanEntry
 entriesAfter v ps begin = ps
 entriesAfter v ps (insert t vs) = ps

@@ -19,7 +19,7 @@ use Rattle.model.specs.Reading.{reader, readCurrent, scanPage}
 use Rattle.model.specs.Writing.{made}
 use Rattle.model.specs.Calls.{Typed, viewAfter, listAfter}
 
--- a store made with n places for scans, after a list of calls; and the history after them
+-- a store made with n entries for scans, after a list of calls; and the history after them
 unfoldable pub storeAfter : Shape → ℕ → List Call → View
 storeAfter S n cs = viewAfter S (made S) (replicate n freeEntry) cs
 

@@ -96,7 +96,7 @@ unfoldable pub ownChanges : View → ℕ → ℕ
 ownChanges v t = cond (eqb (getD (v Changes) (openIndex v t) 0) 0) 0 t
 
 -- ---- a scan's page
--- Page p waits, is of this place, and was current after the first m merges.
+-- Page p waits, is of this chunk, and was current after the first m merges.
 unfoldable pub wasCurrent : Shape → View → ℕ → ℕ → ℕ → Bool
 wasCurrent S v m chunk p =
     let x = pageIn v p in

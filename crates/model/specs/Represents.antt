@@ -109,7 +109,7 @@ CurrentOf S h v g c = CurrentIs S h g c (currentIn S v g c) (pageIn v (currentIn
 abbrev pub CurrentsAre : Shape → History → View → Type 0
 CurrentsAre S h v = (g c : ℕ) → g < S .ranges → c < S .columns → CurrentOf S h v g c
 
--- A waiting page was replaced not later than the current page of its place was made; `made` has that for each range and column.
+-- A waiting page was replaced not later than the current page of its chunk was made; `made` has that for each range and column.
 pub record WaitingIs (S : Shape) (h : History) (made : ℕ → ℕ → ℕ) (x : PageWords) : Type 0 where
   pub chunk : x .chunk < chunksOf S
   pub rises : x .made < x .replaced

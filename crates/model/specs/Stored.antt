@@ -72,7 +72,7 @@ pub record RecordWords : Type 0 where
   pub state : ℕ
   pub stamp : ℕ
 
--- `place` is that of the range and column; `made` and `replaced` are numbers of merges.
+-- `chunk` is that of the range and column; `made` and `replaced` are numbers of merges.
 pub record PageWords : Type 0 where
   pub state : ℕ
   pub chunk : ℕ
@@ -149,10 +149,10 @@ abbrev pub countBelow : (ℕ → Bool) → ℕ → ℕ
 countBelow f zero = 0
 countBelow f (suc n) = cond (f n) (suc (countBelow f n)) (countBelow f n)
 
--- the place of open transaction t
+-- the index of open transaction t
 unfoldable pub openIndex : View → ℕ → ℕ
 openIndex v t = firstIndex (bears t) (v Opens)
 
--- the place of open scan k
+-- the index of open scan k
 unfoldable pub scanEntry : List ScanEntry → ℕ → ScanEntry
 scanEntry ps k = getD ps (firstIndex (isScan k) ps) freeEntry

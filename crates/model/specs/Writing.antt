@@ -21,7 +21,7 @@ use Rattle.model.specs.Stored.{RecordWords, rowIn, recordIn, pageIn, val
 use Rattle.layout.specs.Codes.{asOpen, asCommitted, asAborted, asOriginal, asSetting, asDelete, asFree, asCurrent, asWaiting}
 
 -- ---- open transactions
--- begin: the first free place takes the next number, with nothing noted
+-- begin: the first free entry takes the next number, with nothing noted
 unfoldable pub begun : View → View
 begun v =
     let n = transactionsGiven v + 1 in
@@ -49,7 +49,7 @@ settled S t state stamp v =
     (renew RowStamp (marked (v RowTransaction) 0 given t 0 stamp (v RowStamp))
     (renew RowState (marked (v RowTransaction) 0 given t 0 state (v RowState)) v)))
 
--- the place of t is free again
+-- the entry of t is free again
 unfoldable pub freed : ℕ → View → View
 freed t v =
     let j = openIndex v t in
@@ -62,7 +62,7 @@ unfoldable pub abortedIn : Shape → ℕ → View → View
 abortedIn S t v = freed t (settled S t asAborted 0 v)
 
 -- ---- insert
--- the values of the first n columns go into place i of the current pages of range g
+-- the values of the first n columns go into cell i of the current pages of range g
 abbrev pub putCells : Shape → List ℕ → ℕ → ℕ → List ℤ → ℕ → List ℕ → List ℕ
 putCells S current g i vs zero cells = cells
 putCells S current g i vs (suc c) cells =

@@ -24,7 +24,7 @@ use Rattle.layout.specs.Regions.{slot}
 use Rattle.promise.specs.Promise.{storeView}
 
 -- ---- what the memory holds
--- transaction t is open; number 0 marks a free place
+-- transaction t is open; number 0 marks a free entry
 abbrev pub Open : View → ℕ → Type 0
 Open v t = (t ≢ 0) × ((j : ℕ) × (j < mostTransactions) × (getD (v Opens) j 0 ≡ t))
 

@@ -8,7 +8,7 @@ use Rattle.layout.specs.View.{View}
 use Rattle.model.specs.Stored.{firstFrom, pagesOf}
 use Rattle.model.specs.Reading.{wasCurrent}
 
--- the first waiting page of a place that was current after the first m merges
+-- the first waiting page of a chunk that was current after the first m merges
 unfoldable pub oldPage : Shape → View → ℕ → ℕ → Found
 oldPage S v m chunk =
     let i = firstFrom (wasCurrent S v m chunk) (pagesOf S) 0 in

@@ -1,16 +1,16 @@
--- The scan list as words: what the places are that they hold.
+-- The scan list as words: what the entries are that they hold.
 use Prim.Native.Nat.{ℕ, _*_}
 use mathlib.Core.List.{List, [], _∷_}
 use Rattle.terms.specs.declared.ScanEntry.{ScanEntry}
 
--- the words of a place, and its bytes, four to a word
+-- the words of an entry, and its bytes, four to a word
 abbrev pub placeWords : ℕ
 placeWords = 3
 
 abbrev pub entryBytes : ℕ
 entryBytes = 4 * placeWords
 
--- the places that a list of words holds, three words to a place; up to two words at its end belong to none
+-- the entries that a list of words holds, three words to an entry; up to two words at its end belong to none
 unfoldable pub entriesOf : List ℕ → List ScanEntry
 entriesOf [] = []
 entriesOf (a ∷ []) = []

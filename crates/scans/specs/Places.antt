@@ -43,10 +43,10 @@ abbrev pub differ : List ℕ → Bool
 differ [] = true
 differ (x ∷ l) = (eqb x 0 || not (among x l)) && differ l
 
--- as many places, each free
+-- as many entries, each free
 abbrev pub allFreed : List ScanEntry → List ScanEntry
 allFreed ps = replicate (length ps) freeEntry
 
--- the places of a list, all freed if a store was made
+-- the entries of a list, all freed if a store was made
 abbrev pub freedIf : Bool → List ScanEntry → List ScanEntry
 freedIf b ps = cond b (allFreed ps) ps

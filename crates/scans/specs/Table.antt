@@ -1,4 +1,4 @@
--- The table that stands for a list of places, and what is asked of it.
+-- The table that stands for a list of scans, and what is asked of it.
 use Prim.Native.Nat.{ℕ, _+_, min}
 use mathlib.Core.Bool.{Bool, true, false, cond, _||_}
 use mathlib.Core.List.{List, [], _∷_, _++_, map}
@@ -43,7 +43,7 @@ ofLength n t =
       more = t .more;
     }
 
--- the table with the next place of the list: a free one, an open one that has room, and one past the last entry
+-- the table with the next entry of the list: a free one, an open one that has room, and one for which the table has no room
 unfoldable pub noted : Scans → ScanEntry → Scans
 noted t p =
     let free = cond (eqb (t .free) (t .length)) (t .length + 1) (t .free) in
@@ -72,7 +72,7 @@ noted t p =
       more = true;
     }))
 
--- the entry of an open scan. No scan has the number 0, which marks free places and unused entries.
+-- the entry of an open scan. No scan has the number 0, which marks free entries of the list and unused ones of the table.
 unfoldable pub findIn : Scans → ℕ → Found
 findIn t number = cond (eqb number 0) Nothing (firstAt number 0 (t .numbers))
 

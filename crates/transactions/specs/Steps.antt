@@ -8,7 +8,7 @@ use Rattle.layout.specs.View.{View, renew, put, mark, usedIn}
 use Rattle.model.specs.Stored.{nextWord}
 use Rattle.model.specs.Writing.{markTails}
 
--- a change is noted at place j of the open transactions
+-- a change is noted at index j of the open transactions
 unfoldable pub notedAt : ℕ → View → View
 notedAt j v = put Region.Changes j (nextWord (getD (v Region.Changes) j 0)) v
 

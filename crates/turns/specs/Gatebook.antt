@@ -22,7 +22,7 @@ gatebook x bs =
 abbrev pub largest : Shape
 largest = shapeOf lentColumns lentRanges lentRecords lentSpares
 
--- the bytes that are lent: that many for the largest shape (proofs/lent_memory), and a place for each scan that can be open
+-- the bytes that are lent: that many for the largest shape (proofs/lent_memory), and an entry for each scan that can be open
 abbrev pub memoryBytes : ℕ
 memoryBytes = 25552
 

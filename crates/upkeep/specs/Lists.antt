@@ -14,7 +14,7 @@ use Rattle.model.specs.Writing.{freeIn}
 use Rattle.model.specs.Calls.{openAmongIn}
 use Rattle.upkeep.specs.declared.ListChange.{ListChange}
 
--- a list with the one place changed that a call names; where that is past the end, none is
+-- a list with the one entry changed that a call names; where that is past the end, none is
 abbrev pub changedAt : ListChange → List ScanEntry → List ScanEntry
 changedAt r ps = set ps (r .index) (r .entry)
 

@@ -23,7 +23,7 @@ rowPut t r v =
     put Region.RowMask r 0
     (put Region.RowLink r 0 (put Region.RowStamp r 0 (put Region.RowState r asOpen (put Region.RowTransaction r t v))))
 
--- the values of a row into place i of the current pages of range g
+-- the values of a row into cell i of the current pages of range g
 unfoldable pub cellsPut : Shape → ℕ → ℕ → List ℤ → View → View
 cellsPut S g i vs v = renew Region.Cells (putCells S (v Region.Current) g i vs (S .columns) (v Region.Cells)) v
 

@@ -154,7 +154,7 @@ fn reads(call: &Call) -> bool {
 
 impl Store for Wrapper {
     fn need(&self, shape: &Shape) -> Result<usize, u8> {
-        shaped(shape).bytes().map_err(|refusal| refusal.number() as u8)
+        shaped(shape).bytes_needed().map_err(|refusal| refusal.number() as u8)
     }
 
     fn make(&self, memory: &mut [u8], scans: &mut [ScanEntry], shape: &Shape) -> Answer {

@@ -26,7 +26,7 @@ fn value(value: &Option<i32>) -> String {
 
 fn main() -> Result<(), Refusal> {
     let shape = Shape { columns: 2, ranges: 1, capacity: 4, spares: 1 };
-    let mut memory = vec![0; shape.bytes()?];
+    let mut memory = vec![0; shape.bytes_needed()?];
     let mut scans = [ScanEntry::FREE; SCANS];
     let mut store = Store::make(&mut memory, &mut scans, shape)?;
     println!("shape ok");

@@ -11,7 +11,7 @@
 //!
 //! # fn main() -> Result<(), deskrook::Refusal> {
 //! let shape = Shape { columns: 2, ranges: 1, capacity: 4, spares: 1 };
-//! let mut memory = vec![0; shape.bytes()?];
+//! let mut memory = vec![0; shape.bytes_needed()?];
 //! let mut scans = [ScanEntry::FREE; SCANS];
 //! let mut store = Store::make(&mut memory, &mut scans, shape)?;
 //!
@@ -41,7 +41,7 @@
 //!
 //! # fn main() -> Result<(), Refusal> {
 //! let shape = Shape { columns: 2, ranges: 1, capacity: 4, spares: 0 };
-//! let mut memory = vec![0; shape.bytes()?];
+//! let mut memory = vec![0; shape.bytes_needed()?];
 //! let mut scans = [ScanEntry::FREE; SCANS];
 //! let store = Store::make(&mut memory, &mut scans, shape)?;
 //! match store.latest(Row(7), 0) {

@@ -42,14 +42,14 @@ impl Shape {
     /// ```
     /// use deskrook::{Refusal, Shape};
     /// let shape = Shape { columns: 2, ranges: 1, capacity: 4, spares: 1 };
-    /// assert!(shape.bytes().is_ok());
-    /// assert_eq!(Shape { columns: 17, ..shape }.bytes(), Err(Refusal::Shape));
+    /// assert!(shape.bytes_needed().is_ok());
+    /// assert_eq!(Shape { columns: 17, ..shape }.bytes_needed(), Err(Refusal::Shape));
     /// ```
     ///
     /// # Errors
     ///
     /// [`Refusal::Shape`].
-    pub fn bytes(&self) -> Result<usize, Refusal> {
+    pub fn bytes_needed(&self) -> Result<usize, Refusal> {
         // SAFETY: it takes numbers alone.
         let reply = unsafe {
             c::deskrook_bytes_needed(self.columns, self.ranges, self.capacity, self.spares)
@@ -149,7 +149,7 @@ impl<'a> Store<'a> {
     ///
     /// # fn main() -> Result<(), Refusal> {
     /// let shape = Shape { columns: 1, ranges: 1, capacity: 1, spares: 0 };
-    /// let (mut memory, mut scans) = (vec![0; shape.bytes()?], [ScanEntry::FREE; SCANS]);
+    /// let (mut memory, mut scans) = (vec![0; shape.bytes_needed()?], [ScanEntry::FREE; SCANS]);
     /// assert_eq!(Store::lent(&mut memory, &mut scans).begin(), Err(Refusal::Memory));
     /// Store::make(&mut memory, &mut scans, shape)?;
     /// assert!(Store::lent(&mut memory, &mut scans).begin().is_ok());
@@ -225,7 +225,7 @@ impl<'a> Store<'a> {
     ///
     /// # fn main() -> Result<(), Refusal> {
     /// # let shape = Shape { columns: 1, ranges: 1, capacity: 1, spares: 0 };
-    /// # let (mut memory, mut scans) = (vec![0; shape.bytes()?], [ScanEntry::FREE; SCANS]);
+    /// # let (mut memory, mut scans) = (vec![0; shape.bytes_needed()?], [ScanEntry::FREE; SCANS]);
     /// # let mut store = Store::make(&mut memory, &mut scans, shape)?;
     /// let transaction = store.begin()?;
     /// assert_eq!(store.commit(transaction, Stamp(0)), Err(Refusal::Time));
@@ -290,7 +290,7 @@ impl<'a> Store<'a> {
     ///
     /// # fn main() -> Result<(), deskrook::Refusal> {
     /// # let shape = Shape { columns: 1, ranges: 1, capacity: 4, spares: 1 };
-    /// # let (mut memory, mut scans) = (vec![0; shape.bytes()?], [ScanEntry::FREE; SCANS]);
+    /// # let (mut memory, mut scans) = (vec![0; shape.bytes_needed()?], [ScanEntry::FREE; SCANS]);
     /// # let mut store = Store::make(&mut memory, &mut scans, shape)?;
     /// let transaction = store.begin()?;
     /// let gate = store.insert(transaction, &[1200])?;

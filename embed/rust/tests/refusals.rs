@@ -15,7 +15,7 @@ struct Lent {
 
 impl Lent {
     fn made(shape: Shape) -> Lent {
-        let bytes = shape.bytes().expect("a good shape");
+        let bytes = shape.bytes_needed().expect("a good shape");
         let mut lent = Lent { memory: vec![0xA5; bytes], scans: vec![ScanEntry::FREE; SCANS] };
         Store::make(&mut lent.memory, &mut lent.scans, shape).expect("enough is lent");
         lent

@@ -1,7 +1,7 @@
 -- The loops over open numbers and tail records find what the model's conditions say.
 use Prim.Native.Nat.{ℕ, zero, suc, _+_, _*_, _≤_, _<_}
 use mathlib.Core.Path.{_≡_, refl, sym, _∙_, ap, fun-ext}
-use mathlib.Core.Bool.{Bool, true, false, not, _&&_, _||_, and-false}
+use mathlib.Core.Bool.{Bool, true, false, not, _&&_, _||_, and-false, true≢false}
 use mathlib.Core.List.{List}
 use native.Mathlib.Omega.{arith}
 use native.Mathlib.Nat.{le-refl}
@@ -24,7 +24,7 @@ use Rattle.history.specs.History.{any, rangeOf}
 use Rattle.model.specs.Stored.{rowIn, recordIn, deleteKind, anyBelow}
 use Rattle.model.specs.Calls.{openIn, notOpenIn, openOther, standsFor, heldIn, goneIn, openAmongIn}
 use Rattle.history.proofs.Lists.{by-cases, is-true, refuted, both, parts, or-left, or-right, or-cases, place-any}
-use Rattle.model.proofs.Lists.{true-false, any-below, place-lt, place-is}
+use Rattle.model.proofs.Lists.{any-below, place-lt, place-is}
 use Rattle.model.specs.Asked.{Linked}
 use Rattle.rows.proofs.Indices.{slots-few, stretch-in, row-in}
 use Rattle.conditions.specs.Opens.{openAt}
@@ -60,7 +60,7 @@ module _ (f : ℕ → Bool) where
   none-below (suc n) h t = or-cases (anyBelow f n) (f n) t (none-below n h) (h n)
 
 off : (b : Bool) → not b ≡ true → T b → ⊥
-off true e t = true-false (sym e)
+off true e t = true≢false (sym e)
 
 -- what passes one test passes another
 implied : (f g : ℕ → Bool) (n : ℕ) → ((i : ℕ) → T (f i) → T (g i)) → T (anyBelow f n) → T (anyBelow g n)
@@ -146,15 +146,15 @@ module _ (v : View) (t r slot named kind : ℕ) (is : Bool) (a : named ≡ getD 
     where
       go : (a b : Bool) → (a && b) ≡ true → standsFor t maker state ≡ (a && (b && standsFor t maker state))
       go true true q = refl
-      go true false q = absurd (true-false (sym q))
-      go false b q = absurd (true-false (sym q))
+      go true false q = absurd (true≢false (sym q))
+      go false b q = absurd (true≢false (sym q))
 
   pub ends-not : is ≡ false → false ≡ endsAt v t r slot
   unfolding endsAt
   ends-not y = rw (← a, ← b) (go (eqb named r) (deleteKind kind) (sym e ∙ y))
     where
       go : (a b : Bool) → (a && b) ≡ false → false ≡ (a && (b && standsFor t (getD (v TailTransaction) slot 0) (getD (v TailState) slot 0)))
-      go true true q = absurd (true-false q)
+      go true true q = absurd (true≢false q)
       go true false q = refl
       go false b q = refl
 

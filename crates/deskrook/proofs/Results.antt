@@ -1,7 +1,7 @@
 -- The result of a reply tells whether the call was refused, and with which number.
 use mathlib.Core.Path.{_≡_, refl, ap, sym, _∙_}
 use mathlib.Core.Logic.{inl, inr, ⊎-elim, _↔_}
-use mathlib.Core.Bool.{Bool, true, false, cond}
+use mathlib.Core.Bool.{Bool, true, false, cond, true≢false}
 use mathlib.Core.List.{List, [], _∷_, map}
 use Prim.Native.Nat.{ℕ}
 use lib.ListN.{getD}
@@ -9,7 +9,6 @@ use Rattle.terms.specs.Refusals.{refusalNumber, isRefused}
 use Rattle.terms.specs.declared.Answer.{Answer}
 use Rattle.terms.specs.declared.Refusal.{Refusal}
 use Rattle.history.proofs.Lists.{by-test, clash}
-use Rattle.model.proofs.Lists.{true-false}
 use Rattle.deskrook.specs.Replies.{replyOf}
 use Rattle.deskrook.specs.Runs.{AcceptedReply}
 
@@ -88,7 +87,7 @@ accepted-result a = (λ g. go (isRefused a) refl (sym (by-result a) ∙ ⊎-elim
     go false e q = e
 
     back : (a : Answer) → isRefused a ≡ false → AcceptedReply (replyOf a)
-    back (Answer.Refused n) e = absurd (true-false e)
+    back (Answer.Refused n) e = absurd (true≢false e)
     back Answer.Done e = inl refl
     back (Answer.Number n) e = inl refl
     back (Answer.Value v) e = inl refl

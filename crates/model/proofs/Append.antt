@@ -8,11 +8,12 @@ use native.Mathlib.Omega.{arith}
 use native.Mathlib.Nat.{le-refl, le-trans, mul-le-mul-right, suc-mul}
 use native.Mathlib.Decide.{ℕ-discrete, decLt}
 use lib.Dec.{eqb}
-use lib.ListN.{length, getD, set, length-append, List·getD-append}
-use lib.Seq.{getD-set-same, getD-set-other, getD-append-seam}
+use lib.ListN.{length, getD, set, length-append}
+use lib.Seq.{getD-set-same, getD-set-other}
+use borrow.Author.Tests.{ne-eqb}
 use Rattle.terms.specs.Measures.{Shape, rangeRows}
 use Rattle.history.specs.History.{Record, State, Content, original, setting, ending, rangeOf}
-use Rattle.history.proofs.Lists.{by-cases, eqb-same, eqb-other}
+use Rattle.history.proofs.Lists.{at-append, by-cases, eqb-same}
 use Rattle.history.proofs.Links.{last-of-append}
 use Rattle.history.specs.Records.{noRecord, lastOf}
 use Rattle.loops.proofs.Change.{changed-length, changed-outside, changed-at, changed-fit}
@@ -56,17 +57,11 @@ tail-more : {C : ℕ} {st : ℕ → State} {recs : List Record} {used used′ : 
 tail-more {C} {st} {recs} {used} {used′} {rec} {rec′} {value} {value′} y e f g new link o =
     record {
       used-all = e ∙ ap suc (o .used-all) ∙ sym (simp length-append (omega arith));
-      each = λ k u. by-cases (ℕ-discrete k (length recs))
-          (λ q. rw (q, getD-append-seam) new)
-          (λ n. rw (List·getD-append recs (y ∷ []) noRecord k (old k u n)) (record-same (f k (old k u n)) (λ c d. g k c (old k u n) d) (o .each k (old k u n))));
-      links = λ k u. by-cases (ℕ-discrete k (length recs))
-          (λ q. rw (q, getD-append-seam, last-of-append recs (y ∷ []) (y .row) (length recs) (le-refl _)) link)
-          (λ n. let b : k < length recs = old k u n in
-          rw (List·getD-append recs (y ∷ []) noRecord k b, last-of-append recs (y ∷ []) ((getD recs k noRecord) .row) k (omega arith), f k b) (o .links k b));
+      each = at-append (λ k z. RecordIs C st z (rec′ k) (value′ k)) recs y noRecord (λ k b. record-same (f k b) (λ c d. g k c b d) (o .each k b)) new;
+      links = at-append (λ k z. (rec′ k) .link ≡ lastOf (recs ++ y ∷ []) (z .row) k) recs y noRecord
+          (λ k b. rw (last-of-append recs (y ∷ []) ((getD recs k noRecord) .row) k (omega arith), f k b) (o .links k b))
+          (rw (last-of-append recs (y ∷ []) (y .row) (length recs) (le-refl _)) link);
     }
-  where
-    old : (k : ℕ) → k < length (recs ++ y ∷ []) → k ≢ length recs → k < length recs
-    old k u n = omega (arith, simp length-append at u)
 
 -- ---- every range
 module _ (S : Shape) (v w : View) (st : ℕ → State) (list list′ : ℕ → List Record) (g : ℕ) (y : Record) (inside : g < S .ranges)
@@ -81,14 +76,14 @@ module _ (S : Shape) (v w : View) (st : ℕ → State) (list list′ : ℕ → L
   tails-more o a b = by-cases (ℕ-discrete g a)
       (λ e. rw (← e, grows g, eqb-same g)
       (tail-more y used-here (λ k u. there _ (λ z. omega arith)) (λ k c u d. value-there _ c (λ z. omega arith) d) new link (o g inside)))
-      (λ n. rw (grows a, eqb-other g a n)
+      (λ n. rw (grows a, ne-eqb g a n)
       (tail-same (used-there a (λ z. n (sym z))) (λ k u. there _ (λ z. n (sym (apart k u z)))) (λ k c u d. value-there _ c (λ z. n (sym (apart k u z))) d) (o a b)))
     where
       apart : (k : ℕ) → k < length (list a) → a * S .capacity + k ≡ g * S .capacity + length (list g) → a ≡ g
       apart k u z = same-part (S .capacity) a g k (length (list g)) (le-trans u (few a)) room z .0
 
 -- ---- the words of an appended record
-module _ (S : Shape) (t r kind mask : ℕ) (v : View) (o : Whole S v) (inside : rangeOf r < S .ranges) (room : usedIn v (rangeOf r) < S .capacity) where
+module _ {S : Shape} {v : View} (o : Whole S v) (t r kind mask : ℕ) (inside : rangeOf r < S .ranges) (room : usedIn v (rangeOf r) < S .capacity) where
   abbrev slot′ : ℕ
   slot′ = rangeOf r * S .capacity + usedIn v (rangeOf r)
 
@@ -147,7 +142,7 @@ module _ (S : Shape) (t r kind mask : ℕ) (v : View) (o : Whole S v) (inside : 
       (put-whole TailLink _ _ link-fits (put-whole TailMask _ mask d (put-whole TailKind _ kind c (put-whole TailRow _ r b (put-whole TailTransaction _ t a o))))))))
 
 -- ---- the words of its columns
-module _ (S : Shape) (s : ℕ) (f : ℕ → ℕ) (v : View) (o : Whole S v) (inside : s < S .ranges * S .capacity) where
+module _ {S : Shape} {v : View} (o : Whole S v) (s : ℕ) (f : ℕ → ℕ) (inside : s < S .ranges * S .capacity) where
   pub filled-here : (c : ℕ) → c < S .columns → valueIn S (filledIn S s f v) s c ≡ f c
   unfolding filledIn renew valueIn
   filled-here c b =

@@ -1,15 +1,17 @@
 -- Places that bear the numbers of what is live in a list of the history: the open transactions, the open scans. The relation is one equation of counts for
 -- every test q, so that membership, the limits, that numbers differ, and what stands in the place found are read off by a choice of q.
-use mathlib.Core.Path.{_≡_, refl, sym, _∙_, ap, fun-ext}
-use mathlib.Core.Bool.{Bool, true, false, not, _&&_, and-false, and-true}
+use mathlib.Core.Path.{_≡_, refl, sym, _∙_, ap}
+use mathlib.Core.Logic.{_≢_}
+use mathlib.Core.Bool.{Bool, true, false, not, cond, _&&_, and-false, and-true, and-assoc}
 use mathlib.Core.List.{List, [], _∷_, _++_}
 use Prim.Native.Nat.{ℕ, zero, suc, _+_, _≤_, _<_}
 use native.Mathlib.Omega.{arith}
 use native.Mathlib.Decide.{ℕ-discrete}
 use lib.Dec.{T, ltb, eqb, eqb·suc-zero}
 use lib.ListN.{length, getD, set}
+use borrow.Author.Tests.{ne-eqb}
 use Rattle.history.specs.History.{any, count, nth, change}
-use Rattle.history.proofs.Lists.{by-cases, cond-suc, eqb-same, is-true, eqb-other}
+use Rattle.history.proofs.Lists.{by-cases, by-test, eqb-same, eqb-equal, is-true, place-any}
 use Rattle.terms.specs.Places.{firstIndex, bears}
 use Rattle.model.proofs.Lists.{one, count-set, any-count, count-rest, count-from, from-snoc, from-set, from-none, from-at, place-lt, place-is, count-pos}
 use Rattle.model.specs.Represents.{countFrom}
@@ -18,13 +20,27 @@ one-pos : (b : Bool) → ltb 0 (one b) ≡ b
 one-pos true = refl
 one-pos false = refl
 
-one-zero : (b : Bool) → b ≡ false → one b ≡ 0
-one-zero b e = rw e
+one-few : (b : Bool) → one b ≤ 1
+one-few true = omega arith
+one-few false = omega arith
 
+-- what is live is inside, and has a number that was given
 pub live-inside : {A : Type 0} (live : A → Bool) (l : List A) (k : ℕ) (d : A) → live d ≡ false → T (live (getD l k d)) → k < length l
 live-inside live [] k d e t = absurd (rw e at t)
 live-inside live (x ∷ l) zero d e t = omega arith
 live-inside live (x ∷ l) (suc k) d e t = omega (arith, live-inside live l k d e t)
+
+pub live-given : {A : Type 0} (live : A → Bool) (l : List A) (k : ℕ) (d : A) → live d ≡ false → T (live (nth l k d)) → (1 ≤ k) × (k ≤ length l)
+live-given live l zero d e t = absurd (rw e at t)
+live-given live l (suc k) d e t = (omega arith, live-inside live l k d e t)
+
+-- an index that passes is the first that does, where no more than one does
+only-index : {A : Type 0} (f : A → Bool) (l : List A) (j : ℕ) (d : A) → j < length l → T (f (getD l j d)) → count f l ≤ 1 → firstIndex f l ≡ j
+only-index f [] j d b t = λ c. absurd (omega arith)
+only-index f (x ∷ l) zero d b t = λ c. rw (is-true (f x) t)
+only-index f (x ∷ l) (suc j) d b t =
+    by-test (λ q. cond q (suc (count f l)) (count f l) ≤ 1 → cond q 0 (suc (firstIndex f l)) ≡ suc j) (f x)
+    (λ _ c. absurd (omega (arith, count-pos f l j d (omega arith) t))) (λ _ c. ap suc (only-index f l j d (omega arith) t c))
 
 -- How places of type P stand for what is live among elements of type A: `as′ i s` is the place of number i of what is in state s.
 pub record Kind (P A : Type 0) : Type 0 where
@@ -38,53 +54,43 @@ pub record Kind (P A : Type 0) : Type 0 where
   pub none-live : live none ≡ false
   pub tells : (p p′ : P) → ((f : P → ℕ) → f p ≡ f p′) → p ≡ p′
 
-module _ {P A : Type 0} (K : Kind P A) where
-  abbrev pub Book : List A → List P → Type 0
-  Book ts l = (q : P → Bool) → count (λ p. not (eqb (K.number p) 0) && q p) l ≡ countFrom (λ i s. K.live s && q (K.as′ i s)) 1 ts
+abbrev pub Book : {P A : Type 0} → Kind P A → List A → List P → Type 0
+Book {P} K ts l = (q : P → Bool) → count (λ p. not (eqb (K .number p) 0) && q p) l ≡ countFrom (λ i s. K .live s && q (K .as′ i s)) 1 ts
+
+module _ {P A : Type 0} (K : Kind P A) (ts : List A) (l : List P) (o : Book K ts l) where
+  -- what has number t, the test for it, and the number in place j
+  abbrev entry : ℕ → A
+  entry t = nth ts t K.none
 
   abbrev bearing : ℕ → P → Bool
   bearing t p = bears t (K.number p)
 
+  abbrev numberAt : ℕ → ℕ
+  numberAt j = K.number (getD l j K.free)
+
   -- a test beside the number
-  book-at : (ts : List A) (l : List P) → Book ts l → (t : ℕ) (f : P → Bool)
-      → count (λ p. not (eqb (K.number p) 0) && (f p && eqb (K.number p) t)) l ≡ one (K.live (nth ts t K.none) && f (K.as′ t (nth ts t K.none)))
-  book-at ts l o zero f =
+  book-at : (t : ℕ) (f : P → Bool) → count (λ p. not (eqb (K.number p) 0) && (f p && eqb (K.number p) t)) l ≡ one (K.live (entry t) && f (K.as′ t (entry t)))
+  book-at zero f =
       o (λ p. f p && eqb (K.number p) 0)
-      ∙ from-none _ 1 ts
-      (λ n x a b. rw (K.as-number n x, eqb-other n 0 (λ e. omega arith), and-false (f (K.as′ n x)), and-false (K.live x)))
-      ∙ sym (one-zero (K.live K.none && f (K.as′ 0 K.none)) (rw K.none-live))
-  book-at ts l o (suc t) f =
-      o (λ p. f p && eqb (K.number p) (suc t))
-      ∙ ap (λ (g : ℕ → A → Bool). countFrom g 1 ts)
-      (fun-ext
-      (λ n.
-      fun-ext
-      (λ x. same (K.live x) (f (K.as′ n x)) (ap (λ (j : ℕ). eqb j (suc t)) (K.as-number n x) ∙ ap (eqb n) one-suc))))
-      ∙ from-at (λ n x. K.live x && f (K.as′ n x)) 1 ts t K.none (λ n. rw K.none-live)
-      ∙ ap (λ (j : ℕ). one (K.live (getD ts t K.none) && f (K.as′ j (getD ts t K.none)))) (sym one-suc)
-    where
-      one-suc : suc t ≡ 1 + t
-      one-suc = omega arith
+      ∙ from-none _ 1 ts (λ n x a b. rw (K.as-number n x, ne-eqb n 0 (λ e. omega arith), and-false (f (K.as′ n x)), and-false (K.live x)))
+      ∙ rw K.none-live
+  book-at (suc t) f =
+      let e : 1 + t ≡ suc t = omega arith in
+      o (λ p. f p && eqb (K.number p) (suc t)) ∙ simp (K.as-number, ← and-assoc) (rw e at (from-at (λ n x. K.live x && f (K.as′ n x)) 1 ts t K.none (λ n. rw K.none-live)))
 
-      same : (a b : Bool) {c d : Bool} → c ≡ d → (a && (b && c)) ≡ ((a && b) && d)
-      same true b e = ap (λ (z : Bool). b && z) e
-      same false b e = refl
+  pub book-is : (t : ℕ) → any (bearing t) l ≡ K.live (entry t)
+  book-is t = any-count _ l ∙ ap (ltb 0) (book-at t (λ p. true)) ∙ one-pos _ ∙ and-true _
 
-  pub book-is : (ts : List A) (l : List P) → Book ts l → (t : ℕ) → any (bearing t) l ≡ K.live (nth ts t K.none)
-  book-is ts l o t = any-count _ l ∙ ap (ltb 0) (book-at ts l o t (λ p. true)) ∙ one-pos _ ∙ and-true _
-
-  pub book-count : (ts : List A) (l : List P) → Book ts l → count (λ p. not (eqb (K.number p) 0) && true) l ≡ count K.live ts
-  book-count ts l o = o (λ p. true) ∙ sym (count-from K.live 1 ts)
+  pub book-count : count (λ p. not (eqb (K.number p) 0) && true) l ≡ count K.live ts
+  book-count = o (λ p. true) ∙ sym (count-from K.live 1 ts)
 
   -- a free place is there, unless all are taken
-  pub book-room : (ts : List A) (l : List P) → Book ts l → count (λ p. eqb (K.number p) 0) l + count K.live ts ≡ length l
-  book-room ts l o = rw (← (book-count ts l o)) (count-rest (λ p. eqb (K.number p) 0) l)
+  pub book-room : count (λ p. eqb (K.number p) 0) l + count K.live ts ≡ length l
+  book-room = rw (← book-count) (count-rest (λ p. eqb (K.number p) 0) l)
 
-  pub book-add : (ts : List A) (l : List P) → Book ts l → (s : A) → T (K.live s) → T (any (λ p. eqb (K.number p) 0) l)
-      → Book (ts ++ s ∷ []) (set l (firstIndex (λ p. eqb (K.number p) 0) l) (K.as′ (suc (length ts)) s))
-  book-add ts l o s v a q =
+  pub book-add : (s : A) → T (K.live s) → T (any (λ p. eqb (K.number p) 0) l) → Book K (ts ++ s ∷ []) (set l (firstIndex (λ p. eqb (K.number p) 0) l) (K.as′ (suc (length ts)) s))
+  book-add s v a q =
       let i : ℕ = firstIndex (λ p. eqb (K.number p) 0) l in
-      let b : i < length l = place-lt (λ p. eqb (K.number p) 0) l a in
       let x : P = K.as′ (suc (length ts)) s in
       let e1 : one (not (eqb (K.number (getD l i K.free)) 0) && q (getD l i K.free)) ≡ 0 =
       rw (is-true (eqb (K.number (getD l i K.free)) 0) (place-is (λ p. eqb (K.number p) 0) l K.free a)) in
@@ -93,63 +99,70 @@ module _ {P A : Type 0} (K : Kind P A) where
       rw (is-true (K.live s) v) (ap (λ (j : ℕ). one (q (K.as′ j s))) (omega arith)) in
       omega (
         arith,
-        e1,
-        e2,
-        e3,
-        count-set (λ p. not (eqb (K.number p) 0) && q p) l i x K.free b,
+        count-set (λ p. not (eqb (K.number p) 0) && q p) l i x K.free (place-lt (λ p. eqb (K.number p) 0) l a),
         o q,
         from-snoc (λ i s. K.live s && q (K.as′ i s)) 1 ts s,
       )
 
   -- what was found under a number
-  pub book-found : (ts : List A) (l : List P) → Book ts l → (t : ℕ) → T (K.live (nth ts t K.none)) → (f : P → ℕ)
-      → f (getD l (firstIndex (bearing t) l) K.free) ≡ f (K.as′ t (nth ts t K.none))
-  book-found ts l o t v f =
-      let p : P = getD l (firstIndex (bearing t) l) K.free in
-      let w : ℕ = f (K.as′ t (nth ts t K.none)) in
-      let a : T (any (bearing t) l) = rw (book-is ts l o t) v in
-      let g : P → Bool = λ p. not (eqb (K.number p) 0) && (not (eqb (f p) w) && eqb (K.number p) t) in
-      let e : count g l ≡ 0 =
-      book-at ts l o t (λ p. not (eqb (f p) w))
-      ∙ one-zero (K.live (nth ts t K.none) && not (eqb w w)) (rw (eqb-same w, and-false (K.live (nth ts t K.none)))) in
-      by-cases (ℕ-discrete (f p) w) (λ q. q)
-      (λ n. absurd (omega (arith, e, count-pos g l (firstIndex (bearing t) l) K.free (place-lt (bearing t) l a) (rw (eqb-other (f p) w n) (place-is (bearing t) l K.free a)))))
-
-  -- no other place bears the number
-  pub book-only : (ts : List A) (l : List P) → Book ts l → (t i j : ℕ) → i < j → j < length l → T (bearing t (getD l i K.free))
-      → T (bearing t (getD l j K.free)) → ⊥
-  book-only ts l o t i j a b p q =
-      omega (arith, twice (bearing t) l i j a b p q, elim (K.live (nth ts t K.none)) as (λ b. one (b && true) ≤ 1) [ true ↦ omega arith | false ↦ omega arith ], book-at ts l o t (λ p. true))
+  pub book-found : (t : ℕ) → T (K.live (entry t)) → getD l (firstIndex (bearing t) l) K.free ≡ K.as′ t (entry t)
+  book-found t v = K.tells _ _ (λ f. by-cases (ℕ-discrete (f p) (f x)) (λ q. q) (λ n. absurd (other f n)))
     where
-      twice : (g : P → Bool) (l : List P) (i j : ℕ) → i < j → j < length l → T (g (getD l i K.free)) → T (g (getD l j K.free)) → 1 < count g l
-      twice g [] i j a b p q = absurd (omega arith)
-      twice g (x ∷ l) i zero a b p q = absurd (omega arith)
-      twice g (x ∷ l) zero (suc j) a b p q = rw (is-true (g x) p) (omega (arith, count-pos g l j K.free (omega arith) q))
-      twice g (x ∷ l) (suc i) (suc j) a b p q = omega (arith, cond-suc (g x) (count g l), twice g l i j (omega arith) (omega arith) p q)
+      p : P
+      p = getD l (firstIndex (bearing t) l) K.free
 
-  pub book-drop : (ts : List A) (l : List P) → Book ts l → (t : ℕ) → T (K.live (nth ts t K.none)) → (s : A) → K.live s ≡ false
-      → Book (change ts t s) (set l (firstIndex (bearing t) l) K.free)
-  book-drop ts l o zero v s n q = absurd (rw K.none-live at v)
-  book-drop ts l o (suc t) v s n q =
-      let a : T (any (bearing (suc t)) l) = rw (book-is ts l o (suc t)) v in
+      x : P
+      x = K.as′ t (entry t)
+
+      found : T (any (bearing t) l)
+      found = rw (book-is t) v
+
+      other : (f : P → ℕ) → f p ≢ f x → ⊥
+      other f n =
+          let g : P → Bool = λ p. not (eqb (K.number p) 0) && (not (eqb (f p) (f x)) && eqb (K.number p) t) in
+          let e : count g l ≡ 0 = book-at t (λ p. not (eqb (f p) (f x))) ∙ rw (eqb-same (f x), and-false (K.live (entry t))) in
+          omega (arith, count-pos g l (firstIndex (bearing t) l) K.free (place-lt (bearing t) l found) (rw (ne-eqb (f p) (f x) n) (place-is (bearing t) l K.free found)))
+
+  pub book-drop : (t : ℕ) → T (K.live (entry t)) → (s : A) → K.live s ≡ false → Book K (change ts t s) (set l (firstIndex (bearing t) l) K.free)
+  book-drop zero v s n q = absurd (rw K.none-live at v)
+  book-drop (suc t) v s n q =
       let i : ℕ = firstIndex (bearing (suc t)) l in
-      let b : i < length l = place-lt (bearing (suc t)) l a in
       let y : A = getD ts t K.none in
       let x : P = K.as′ (suc t) y in
-      let p : getD l i K.free ≡ x = K.tells (getD l i K.free) x (book-found ts l o (suc t) v) in
-      let e1 : one (not (eqb (K.number (getD l i K.free)) 0) && q (getD l i K.free)) ≡ one (q x) =
-      ap (λ (z : P). one (not (eqb (K.number z) 0) && q z)) p ∙ rw (K.as-number (suc t) y, eqb·suc-zero t) in
+      let e1 : one (not (eqb (K.number (getD l i K.free)) 0) && q (getD l i K.free)) ≡ one (q x) = rw (book-found (suc t) v, K.as-number (suc t) y, eqb·suc-zero t) in
       let e2 : one (not (eqb (K.number K.free) 0) && q K.free) ≡ 0 = rw K.free-number in
       let e3 : one (K.live y && q (K.as′ (1 + t) y)) ≡ one (q x) =
       rw (is-true (K.live y) v) (ap (λ (j : ℕ). one (q (K.as′ j y))) (omega arith)) in
       let e4 : one (K.live s && q (K.as′ (1 + t) s)) ≡ 0 = rw n in
       omega (
         arith,
-        e1,
-        e2,
-        e3,
-        e4,
-        count-set (λ p. not (eqb (K.number p) 0) && q p) l i K.free K.free b,
+        count-set (λ p. not (eqb (K.number p) 0) && q p) l i K.free K.free (place-lt (bearing (suc t)) l (rw (book-is (suc t)) v)),
         o q,
         from-set (λ i s. K.live s && q (K.as′ i s)) 1 ts t s K.none (live-inside K.live ts t K.none K.none-live v),
       )
+
+  -- ---- a place that is not free
+  bears-own : (j : ℕ) → numberAt j ≢ 0 → T (bears (numberAt j) (numberAt j))
+  bears-own j n = rw (ne-eqb (numberAt j) 0 n) (eqb-equal (numberAt j) (numberAt j) refl)
+
+  inside : (j : ℕ) → numberAt j ≢ 0 → j < length l
+  inside j n = live-inside (bearing (numberAt j)) l j K.free (rw K.free-number) (bears-own j n)
+
+  -- its number is that of what is live
+  pub number-live : (j : ℕ) → numberAt j ≢ 0 → T (K.live (entry (numberAt j)))
+  number-live j n = rw (book-is (numberAt j)) at (place-any (bearing (numberAt j)) l K.free j (inside j n) (bears-own j n))
+
+  pub number-given : (j : ℕ) → numberAt j ≤ length ts
+  number-given j = by-cases (ℕ-discrete (numberAt j) 0) (λ z. omega arith) (λ n. live-given K.live ts (numberAt j) K.none K.none-live (number-live j n) .1)
+
+  -- no other place bears it
+  pub only-place : (j : ℕ) → numberAt j ≢ 0 → firstIndex (bearing (numberAt j)) l ≡ j
+  only-place j n =
+      only-index (bearing (numberAt j)) l j K.free (inside j n) (bears-own j n) (omega (arith, book-at (numberAt j) (λ p. true), one-few (K.live (entry (numberAt j)) && true)))
+
+  pub numbers-apart : (i j : ℕ) → i < j → numberAt i ≡ numberAt j → numberAt i ≡ 0
+  numbers-apart i j b e = by-cases (ℕ-discrete (numberAt i) 0) (λ z. z) (λ n. absurd (omega (arith, only-place i n, rw (← e) at (only-place j (rw (← e) n)))))
+
+  -- and it stands for what is live
+  pub place-stands : (j : ℕ) → numberAt j ≢ 0 → getD l j K.free ≡ K.as′ (numberAt j) (entry (numberAt j))
+  place-stands j n = rw (only-place j n) at (book-found (numberAt j) (number-live j n))

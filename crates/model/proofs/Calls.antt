@@ -10,6 +10,7 @@ use native.Mathlib.Numerals.{add-one}
 use lib.Dec.{T, leb, ltb, eqb, eqb→eq, nleb→lt, nltb→le}
 use lib.ListN.{length, getD, length-append}
 use lib.IntN.{ℤ, _+ℤ_, +ℤ-assoc, +ℤ-idl, +ℤ-idr}
+use borrow.Author.Tests.{ne-eqb}
 use mir.Syntax.{w32}
 use mir.Val.{toZ}
 use Rattle.terms.specs.Measures.{Shape, rangeRows, mostNumbers, mostScans}
@@ -17,24 +18,23 @@ use Rattle.terms.specs.declared.Refusal.{Refusal}
 use Rattle.terms.specs.declared.Answer.{Answer}
 use Rattle.history.specs.History as H
 use Rattle.history.specs.History.{Call, begin, insert, update, delete, commit, abort, latest, readAt, ownRead, openScan, scanRead, sum, close, merge, release, pageCell, lineage, History, Record, active, Test, _when_, Verdict, accept, refuse, verdict, tests, reply, effect, answer, next, answerIf, nextIf, any, keep, count, upTo, total, stateOf, rowAt, rangeOf, recordsOf, seenAt, seenBy, ended, visible, versionOf, read, scanAt, inserted, lastSetting, cellValue, notActive, notRunning, notGiven, noColumn, noRange, lacksRecords, notLater, later, outOfReach, noPage, cellThrough}
-use Rattle.history.proofs.Lists.{by-test, all-map, all-at, keep-append, any-agree, not-not, parts, eqb-other}
+use Rattle.history.proofs.Lists.{by-test, all-map, all-at, keep-append, any-agree, not-not, parts}
 use Rattle.history.proofs.Accepted.{Passed, passed}
 use Rattle.history.proofs.Steps.{mergeable, is-active, within-reach, step, made-new}
 use Rattle.history.specs.Steps.{by-update, by-delete}
 use Rattle.history.proofs.Ranges.{last-agree}
 use Rattle.history.proofs.Pages.{cell-is}
 use Rattle.history.proofs.Past.{past-next}
-use Rattle.layout.specs.View.{View, rowsGiven, lastStamp, usedIn}
+use Rattle.layout.specs.View.{View, lastStamp, usedIn}
 use Rattle.layout.specs.declared.Region.the-variants.{Opens, Changes}
 use Rattle.terms.specs.declared.ScanEntry.{ScanEntry}
 use Rattle.terms.specs.Places.{bears, firstIndex}
-use Rattle.model.specs.Stored.{cellIn, currentIn, within, openIndex, scanEntry, pagesOf}
+use Rattle.model.specs.Stored.{cellIn, currentIn, within, openIndex, scanEntry}
 use Rattle.model.specs.declared.Reader.{Reader}
 use Rattle.model.specs.Reading.{reader, readIn, readCurrent, ownChanges, wordIn, scanPage, Tally, tally, sumIn}
-use Rattle.model.specs.Writing.{freeIn}
 use Rattle.model.specs.Calls.{testsIn, replyIn, actIn, entriesAfter, viewIf, entriesIf, say, viewNext, entriesNext, notOpenIn, noScanIn, notGivenIn, lacksIn, notLaterIn, laterIn, outOfReachIn, Typed}
-use Rattle.model.specs.Represents.{everyRow, CurrentOf, Unchanged, scanAs, Represents, Known, StepKept}
-use Rattle.model.proofs.Transactions.{opens-is, opens-full, open-there, active-some, begin-kept, commit-kept, abort-kept}
+use Rattle.model.specs.Represents.{everyRow, CurrentOf, Unchanged, scanAs, Represents, Known, SameCall, StepKept}
+use Rattle.model.proofs.Transactions.{opens-is, opens-full, open-there, active-given, begin-kept, commit-kept, abort-kept}
 use Rattle.model.proofs.Insert.{insert-kept}
 use Rattle.model.proofs.Heads.{in-range, SeesAs, sees-at, sees-own, held-is, gone-is, visible-is}
 use Rattle.model.proofs.Read.{word-is, read-is}
@@ -64,7 +64,7 @@ own-latest h t r c b u =
     (last-agree (seenAt h (h .last)) r c (seenBy h t) (inserted h r c) (all-map (λ (y : Record) n _. same (y .transaction) n) (u .no-record)))
   where
     same : (k : ℕ) → k ≢ t → seenAt h (h .last) k ≡ seenBy h t k
-    same k n = unfold seenBy in (rw (eqb-other k t n))
+    same k n = unfold seenBy in (rw (ne-eqb k t n))
 
     first : seenAt h (h .last) ((rowAt h r) .inserter) ≡ seenBy h t ((rowAt h r) .inserter)
     first = same _ (unfold rowAt in (all-at (u .no-row) r record { inserter = 0; values = [] } b))
@@ -82,7 +82,7 @@ total-append f (x ∷ l) m = ap (λ (z : ℤ). f x +ℤ z) (total-append f l m) 
 abbrev tallied : History → (ℕ → Bool) → ℕ → ℕ → Tally
 tallied h f c n = record { count = length (keep (visible f h) (upTo n)); total = total (λ r. versionOf f h r c .value) (keep (visible f h) (upTo n)) }
 
-module _ (S : Shape) (v : View) (ps : List ScanEntry) (h : History) (o : Represents S v ps h) (k : Known S h) where
+module _ {S : Shape} {v : View} {ps : List ScanEntry} {h : History} (o : Represents S v ps h) (k : Known S h) where
   -- ---- the conditions, one for one
   open-is : (t : ℕ) → notOpenIn v t ≡ notActive h t
   unfolding notOpenIn notActive stateOf
@@ -91,10 +91,6 @@ module _ (S : Shape) (v : View) (ps : List ScanEntry) (h : History) (o : Represe
   given-is : (r : ℕ) → notGivenIn v r ≡ notGiven h r
   unfolding notGivenIn notGiven
   given-is r = ap (λ (n : ℕ). leb n r) (o .header .rows-given)
-
-  given-lt : (r : ℕ) → T (not (notGiven h r)) → r < length (h .rows)
-  unfolding notGiven
-  given-lt r t = nleb→lt (length (h .rows)) r t
 
   later-is : (s : ℕ) → laterIn v s ≡ later h s
   unfolding laterIn later
@@ -108,18 +104,6 @@ module _ (S : Shape) (v : View) (ps : List ScanEntry) (h : History) (o : Represe
   unfolding noScanIn notRunning scanAt
   scan-running i = ap not (scan-is (h .scans) ps (o .scans) i)
 
-  running-of : (i : ℕ) → T (not (notRunning h i)) → T (scanAt h i .running)
-  unfolding notRunning
-  running-of i p = not-not (scanAt h i .running) p
-
-  column-lt : (c : ℕ) → T (not (noColumn S c)) → c < S .columns
-  unfolding noColumn
-  column-lt c t = nleb→lt (S .columns) c t
-
-  range-lt : (g : ℕ) → T (not (noRange S g)) → g < S .ranges
-  unfolding noRange
-  range-lt g t = nleb→lt (S .ranges) g t
-
   used-is : (r : ℕ) → r < length (h .rows) → usedIn v (rangeOf r) ≡ length (recordsOf h (rangeOf r))
   used-is r b = o .tails (rangeOf r) (in-range k r b) .used-all
 
@@ -131,25 +115,17 @@ module _ (S : Shape) (v : View) (ps : List ScanEntry) (h : History) (o : Represe
   unfolding outOfReachIn outOfReach
   reach-is g c n a b = ap₂ (λ (x y : ℕ). leb n x || ltb y n) (o .currents g c a b .lineage) (o .tails g a .used-all)
 
-  no-page-is : leb (pagesOf S) (freeIn S v) ≡ noPage S h
-  unfolding noPage
-  no-page-is = free-is S v ps h o k
-
   pub tests-agree : (c : Call) → Agree (testsIn S v ps c) (tests S h c)
-  unfolding testsIn tests H.allActive H.allGiven H.allRunning
+  unfolding testsIn tests notGiven noColumn noRange noPage H.allActive H.allGiven H.allRunning
   tests-agree begin =
       test (ap (leb mostNumbers) (o .header .transactions-given)) (λ p. test (opens-full (h .transactions) (v Opens) (o .whole .long Opens) (o .opens)) (λ q. done))
   tests-agree (insert t vs) = test (open-is t) (λ p. test (ap (leb (S .ranges * rangeRows)) (o .header .rows-given)) (λ q. done))
   tests-agree (update t r m vs) =
-      test (open-is t) (λ p. test (given-is r) (λ u. test refl (λ n.
-      test (held-is S v ps h o k r (given-lt r u) t) (λ f.
-      test (gone-is S v ps h o k r (given-lt r u) t) (λ q.
-      test (lacks-is r _ _ (given-lt r u) (wanted-is S v ps h o k r m (given-lt r u) n t vs)) (λ z. done))))))
+      test (open-is t) (λ p. test (given-is r) (λ u. let b = nleb→lt (length (h .rows)) r u in
+      test refl (λ n. test (held-is o k r b t) (λ f. test (gone-is o k r b t) (λ q. test (lacks-is r _ _ b (wanted-is o k r m b n t vs)) (λ z. done))))))
   tests-agree (delete t r) =
-      test (open-is t) (λ p. test (given-is r) (λ u.
-      test (held-is S v ps h o k r (given-lt r u) t) (λ f.
-      test (gone-is S v ps h o k r (given-lt r u) t) (λ q.
-      test (lacks-is r 1 1 (given-lt r u) refl) (λ z. done)))))
+      test (open-is t) (λ p. test (given-is r) (λ u. let b = nleb→lt (length (h .rows)) r u in
+      test (held-is o k r b t) (λ f. test (gone-is o k r b t) (λ q. test (lacks-is r 1 1 b refl) (λ z. done)))))
   tests-agree (commit t s) = test (open-is t) (λ p. test (not-later-is s) (λ q. done))
   tests-agree (abort t) = test (open-is t) (λ p. done)
   tests-agree (latest r c) = test (given-is r) (λ p. test refl (λ q. done))
@@ -162,9 +138,9 @@ module _ (S : Shape) (v : View) (ps : List ScanEntry) (h : History) (o : Represe
   tests-agree (close i) = test (scan-running i) (λ z. done)
   tests-agree (merge g c n) =
       test refl (λ p. test refl (λ q.
-      test (reach-is g c n (range-lt g p) (column-lt c q)) (λ z.
-      test (open-among-is S v ps h o k g n (range-lt g p) (within-reach h g c n z .1)) (λ w.
-      test no-page-is (λ y. done)))))
+      test (reach-is g c n (nleb→lt _ _ p) (nleb→lt _ _ q)) (λ z.
+      test (open-among-is o k g n (nleb→lt _ _ p) (within-reach h g c n z .1)) (λ w.
+      test (free-is o k) (λ y. done)))))
   tests-agree release = done
   tests-agree (pageCell c r) = test refl (λ p. test (given-is r) (λ q. done))
   tests-agree (lineage g c) = test refl (λ p. test refl (λ q. done))
@@ -173,7 +149,7 @@ module _ (S : Shape) (v : View) (ps : List ScanEntry) (h : History) (o : Represe
   pub current-read : (who : Reader) (r c : ℕ) (f : ℕ → Bool) → SeesAs h who f → r < length (h .rows) → c < S .columns → readCurrent S v who r c ≡ read f h r c
   unfolding readCurrent
   current-read who r c f w b d =
-      read-is S v ps h o k who f w r b c d (currentIn S v (rangeOf r) c) everyRow (o .currents (rangeOf r) c (in-range k r b) d .holds) (λ z. tt)
+      read-is o k who f w r b c d (currentIn S v (rangeOf r) c) everyRow (o .currents (rangeOf r) c (in-range k r b) d .holds) (λ z. tt)
 
   own-read : (t r c : ℕ) → stateOf h t ≡ active → r < length (h .rows) → c < S .columns → readCurrent S v (reader (lastStamp v) (ownChanges v t)) r c ≡ read (seenBy h t) h r c
   unfolding ownChanges openIndex
@@ -192,7 +168,7 @@ module _ (S : Shape) (v : View) (ps : List ScanEntry) (h : History) (o : Represe
       here = open-there (h .transactions) (v Opens) (o .opens) t (unfold stateOf in a)
 
       not-zero : getD (v Opens) j 0 ≢ 0
-      not-zero e = active-some (h .transactions) t (unfold stateOf in a) (sym (here .1) ∙ e)
+      not-zero e = omega (arith, here .1, active-given (h .transactions) t (unfold stateOf in a) .0)
 
       unchanged : noted ≡ 0 → Unchanged (h .rows) (h .tail) t
       unchanged e = rw (here .1) at (o .notes j (omega (arith, here .0, o .whole .long Opens)) not-zero .none e)
@@ -208,7 +184,7 @@ module _ (S : Shape) (v : View) (ps : List ScanEntry) (h : History) (o : Represe
   pub scan-read : (i r c : ℕ) → T (scanAt h i .running) → r < length (h .rows) → c < S .columns
       → readIn S v (reader (scanAt h i .stamp) 0) (scanPage S v (scanAt h i .before) (rangeOf r) c) r c ≡ read (seenAt h (scanAt h i .stamp)) h r c
   scan-read i r c t b d =
-      read-is S v ps h o k (reader (scanAt h i .stamp) 0) _ (sees-at h (scanAt h i .stamp)) r b c d _ _ (o .scanPages i t (rangeOf r) c (in-range k r b) d .holds) (seen-row (scanAt h i .stamp) r)
+      read-is o k (reader (scanAt h i .stamp) 0) _ (sees-at h (scanAt h i .stamp)) r b c d _ _ (o .scanPages i t (rangeOf r) c (in-range k r b) d .holds) (seen-row (scanAt h i .stamp) r)
 
   tally-is : (i c : ℕ) → T (scanAt h i .running) → c < S .columns → (n : ℕ) → n ≤ length (h .rows)
       → tally S v (scanAs i (scanAt h i)) c n ≡ tallied h (seenAt h (scanAt h i .stamp)) c n
@@ -219,7 +195,7 @@ module _ (S : Shape) (v : View) (ps : List ScanEntry) (h : History) (o : Represe
         keep-append (visible f h) (upTo n) (n ∷ []),
         length-append rows (keep (visible f h) (n ∷ [])),
         total-append value rows (keep (visible f h) (n ∷ [])),
-        visible-is S v ps h o k n b (reader (scanAt h i .stamp) 0) f (sees-at h (scanAt h i .stamp)),
+        visible-is o k n b (reader (scanAt h i .stamp) 0) f (sees-at h (scanAt h i .stamp)),
         tally-is i c t d n (omega arith),
       )
       (by-test (λ z. _≡_ {A = Tally} (cond z record { count = suc (length rows); total = total value rows +ℤ toZ w32 word } record { count = length rows; total = total value rows })
@@ -240,97 +216,84 @@ module _ (S : Shape) (v : View) (ps : List ScanEntry) (h : History) (o : Represe
       word = wordIn S v (reader (scanAt h i .stamp) 0) (scanPage S v (scanAt h i .before) (rangeOf n) c) n c
 
       same : T (visible f h n) → toZ w32 word ≡ value n
-      same z = word-is S v ps h o k (reader (scanAt h i .stamp) 0) f (sees-at h (scanAt h i .stamp)) n b c d _ _ (o .scanPages i t (rangeOf n) c (in-range k n b) d .holds) (seen-row (scanAt h i .stamp) n z)
+      same z = word-is o k (reader (scanAt h i .stamp) 0) f (sees-at h (scanAt h i .stamp)) n b c d _ _ (o .scanPages i t (rangeOf n) c (in-range k n b) d .holds) (seen-row (scanAt h i .stamp) n z)
 
   sum-same : (i c : ℕ) → T (scanAt h i .running) → c < S .columns → sumIn S v (scanEntry ps i) c ≡ H.sumOf (seenAt h (scanAt h i .stamp)) h c
   unfolding sumIn H.sumOf H.rowsSeen
   sum-same i c t d =
-      ap (λ (s : ScanEntry). Answer.Sum (tally S v s c (rowsGiven v) .count) (tally S v s c (rowsGiven v) .total)) (found i t)
-      ∙ ap (λ (n : ℕ). Answer.Sum (tally S v (scanAs i (scanAt h i)) c n .count) (tally S v (scanAs i (scanAt h i)) c n .total)) (o .header .rows-given)
-      ∙ ap (λ (x : Tally). Answer.Sum (x .count) (x .total)) (tally-is i c t d (length (h .rows)) (le-refl _))
+      rw (found i t, o .header .rows-given, tally-is i c t d (length (h .rows)) (le-refl _))
 
   cell-same : (c r : ℕ) → c < S .columns → r < length (h .rows) → toZ w32 (cellIn v (currentIn S v (rangeOf r) c) (within r)) ≡ cellValue h c r
   cell-same c r d b =
       let x : CurrentOf S h v (rangeOf r) c = o .currents (rangeOf r) c (in-range k r b) d in
       x .holds .cells r refl tt ∙ ap (cellThrough h c r) (x .lineage) ∙ sym (cell-is h c r)
 
-  plus-one : (n m : ℕ) → n ≡ m → n + 1 ≡ suc m
-  plus-one n m e = omega arith
-
   pub reply-same : (c : Call) → Passed (tests S h c) → replyIn S v ps c ≡ reply S h c
-  unfolding replyIn reply tests
-  reply-same begin p = ap Answer.Number (plus-one _ _ (o .header .transactions-given))
+  unfolding replyIn reply tests notGiven noColumn noRange notRunning
+  reply-same begin p = ap Answer.Number (omega (arith, o .header .transactions-given))
   reply-same (insert t vs) p = ap Answer.Number (o .header .rows-given)
   reply-same (update t r m vs) p =
-      ap₂ (λ (x y : ℕ). Answer.Number (x + y)) (used-is r (given-lt r (search))) (wanted-is S v ps h o k r m (given-lt r (search)) (search) t vs)
-  reply-same (delete t r) p = ap (λ (x : ℕ). Answer.Number (x + 1)) (used-is r (given-lt r (search)))
+      ap₂ (λ (x y : ℕ). Answer.Number (x + y)) (used-is r (search nleb→lt)) (wanted-is o k r m (search nleb→lt) (search) t vs)
+  reply-same (delete t r) p = ap (λ (x : ℕ). Answer.Number (x + 1)) (used-is r (search nleb→lt))
   reply-same (commit t s) p = refl
   reply-same (abort t) p = refl
   reply-same (latest r c) p =
-      ap (λ (s : ℕ). readCurrent S v (reader s 0) r c) (o .header .last-stamp) ∙ current-read (reader (h .last) 0) r c (seenAt h (h .last)) (sees-at h (h .last)) (given-lt r (search)) (column-lt c (search))
-  reply-same (readAt s r c) p = current-read (reader s 0) r c (seenAt h s) (sees-at h s) (given-lt r (search)) (column-lt c (search))
-  reply-same (ownRead t r c) p = own-read t r c (is-active h t (search)) (given-lt r (search)) (column-lt c (search))
-  reply-same (openScan s) p = ap Answer.Number (plus-one _ _ (o .header .scans-given))
+      ap (λ (s : ℕ). readCurrent S v (reader s 0) r c) (o .header .last-stamp) ∙ current-read (reader (h .last) 0) r c (seenAt h (h .last)) (sees-at h (h .last)) (search nleb→lt) (search nleb→lt)
+  reply-same (readAt s r c) p = current-read (reader s 0) r c (seenAt h s) (sees-at h s) (search nleb→lt) (search nleb→lt)
+  reply-same (ownRead t r c) p = own-read t r c (search is-active) (search nleb→lt) (search nleb→lt)
+  reply-same (openScan s) p = ap Answer.Number (omega (arith, o .header .scans-given))
   reply-same (scanRead i r c) p =
-      ap (λ (s : ScanEntry). readIn S v (reader (s .stamp) 0) (scanPage S v (s .merges) (rangeOf r) c) r c) (found i (running-of i (search)))
-      ∙ scan-read i r c (running-of i (search)) (given-lt r (search)) (column-lt c (search))
-  reply-same (sum i c) p = sum-same i c (running-of i (search)) (column-lt c (search))
+      ap (λ (s : ScanEntry). readIn S v (reader (s .stamp) 0) (scanPage S v (s .merges) (rangeOf r) c) r c) (found i (not-not (scanAt h i .running) (search)))
+      ∙ scan-read i r c (not-not (scanAt h i .running) (search)) (search nleb→lt) (search nleb→lt)
+  reply-same (sum i c) p = sum-same i c (not-not (scanAt h i .running) (search)) (search nleb→lt)
   reply-same (close i) p = refl
   reply-same (merge g c n) p = refl
-  reply-same release p = ap Answer.Number (release-count S v ps h o)
-  reply-same (pageCell c r) p = ap Answer.Value (cell-same c r (column-lt c (search)) (given-lt r (search)))
-  reply-same (lineage g c) p = ap₂ Answer.Lineage (o .currents g c (range-lt g (search)) (column-lt c (search)) .lineage) (o .tails g (range-lt g (search)) .used-all)
+  reply-same release p = ap Answer.Number (release-count o)
+  reply-same (pageCell c r) p = ap Answer.Value (cell-same c r (search nleb→lt) (search nleb→lt))
+  reply-same (lineage g c) p = ap₂ Answer.Lineage (o .currents g c (search nleb→lt) (search nleb→lt) .lineage) (o .tails g (search nleb→lt) .used-all)
 
   -- ---- what a call leaves
   free-place : T (not (H.allActive h)) → T (any (λ i. eqb i 0) (v Opens))
   unfolding H.allActive
   free-place q = not-not (any (λ i. eqb i 0) (v Opens)) (rw (opens-full (h .transactions) (v Opens) (o .whole .long Opens) (o .opens)) q)
 
-  capacity-of : (r n : ℕ) → T (not (lacksRecords S h r n)) → length (recordsOf h (rangeOf r)) + n ≤ S .capacity
-  unfolding lacksRecords
-  capacity-of r n q = nltb→le (S .capacity) (length (recordsOf h (rangeOf r)) + n) q
-
   pub act-kept : (c : Call) → Typed c → Passed (tests S h c) → Represents S (actIn S v ps c) (entriesAfter v ps c) (effect S h c)
-  unfolding actIn entriesAfter effect tests H.allGiven notLater H.allRunning later
-  act-kept begin y p = begin-kept S v ps h o k (free-place (search)) (step S h begin p) (nleb→lt mostNumbers (length (h .transactions)) (search))
-  act-kept (insert t vs) y p = insert-kept S v ps h o k t vs (is-active h t (search)) (nleb→lt (S .ranges * rangeRows) (length (h .rows)) (search)) (y .1) (step S h (insert t vs) p)
+  unfolding actIn entriesAfter effect tests notGiven notRunning lacksRecords H.allGiven notLater H.allRunning later
+  act-kept begin y p = begin-kept o k (free-place (search)) (step S h begin p) (search nleb→lt)
+  act-kept (insert t vs) y p = insert-kept o k t vs (search is-active) (search nleb→lt) (y .1) (step S h (insert t vs) p)
   act-kept (update t r m vs) y p =
-      update-kept S v ps h o k t r m vs (is-active h t (search)) (given-lt r (search)) (search) (y .2) (y .3) (capacity-of r _ (search)) (step S h (update t r m vs) p)
+      update-kept o k t r m vs (search is-active) (search nleb→lt) (search) (y .2) (y .3) (search nltb→le) (step S h (update t r m vs) p)
       (made-new {S = S} (by-update m vs (search)))
   act-kept (delete t r) y p =
-      delete-kept S v ps h o k t r (is-active h t (search)) (given-lt r (search)) (capacity-of r 1 (search)) (step S h (delete t r) p) (made-new {S = S} by-delete)
-  act-kept (commit t s) y p = commit-kept S v ps h o k t s (is-active h t (search)) (nleb→lt s (h .last) (search)) (y .1) (step S h (commit t s) p)
-  act-kept (abort t) y p = abort-kept S v ps h o k t (is-active h t (search)) (step S h (abort t) p)
+      delete-kept o k t r (search is-active) (search nleb→lt) (search nltb→le) (step S h (delete t r) p) (made-new {S = S} by-delete)
+  act-kept (commit t s) y p = commit-kept o k t s (search is-active) (search nleb→lt) (y .1) (step S h (commit t s) p)
+  act-kept (abort t) y p = abort-kept o k t (search is-active) (step S h (abort t) p)
   act-kept (latest r c) y p = o
   act-kept (readAt s r c) y p = o
   act-kept (ownRead t r c) y p = o
   act-kept (openScan s) y p =
-      open-kept S v ps h o k s (nleb→lt mostScans (count (λ s. s .running) (h .scans)) (search)) (nleb→lt mostNumbers (length (h .scans)) (search)) (step S h (openScan s) p)
+      open-kept o k s (search nleb→lt) (search nleb→lt) (step S h (openScan s) p)
   act-kept (scanRead i r c) y p = o
   act-kept (sum i c) y p = o
-  act-kept (close i) y p = close-kept S v ps h o k i (running-of i (search)) (step S h (close i) p)
-  act-kept (merge g c n) y p = merge-kept S v ps h o k g c n (mergeable S h g c n p) (step S h (merge g c n) p)
-  act-kept release y p = release-kept S v ps h o k (step S h release p)
+  act-kept (close i) y p = close-kept o k i (not-not (scanAt h i .running) (search)) (step S h (close i) p)
+  act-kept (merge g c n) y p = merge-kept o k (mergeable S h g c n p) (step S h (merge g c n) p)
+  act-kept release y p = release-kept o k (step S h release p)
   act-kept (pageCell c r) y p = o
   act-kept (lineage g c) y p = o
 
 -- ---- one call
 pub one-call : StepKept
-unfolding say viewNext entriesNext answer next
-one-call S v ps h c y o k =
-    record {
-      answered = ap (λ (w : Verdict). answerIf w (replyIn S v ps c)) same ∙ answers (verdict (tests S h c)) refl;
-      shown = rw same (kept (verdict (tests S h c)) refl);
-      known = record { small = k .small; past = past-next c (k .past) };
-    }
+unfolding say viewNext entriesNext answer next answerIf viewIf entriesIf nextIf
+one-call S v ps h c y o k = go (verdict (tests S h c)) refl
   where
     same : verdict (testsIn S v ps c) ≡ verdict (tests S h c)
-    same = agree-verdict (tests-agree S v ps h o k c)
+    same = agree-verdict (tests-agree o k c)
 
-    answers : (w : Verdict) → verdict (tests S h c) ≡ w → answerIf w (replyIn S v ps c) ≡ answerIf w (reply S h c)
-    answers accept e = ap (answerIf accept) (reply-same S v ps h o k c (passed (tests S h c) e))
-    answers (refuse n) e = unfold answerIf in refl
+    known : Known S (next S h c)
+    known = record { small = k .small; past = past-next c (k .past) }
 
-    kept : (w : Verdict) → verdict (tests S h c) ≡ w → Represents S (viewIf w v (actIn S v ps c)) (entriesIf w ps (entriesAfter v ps c)) (nextIf w h (effect S h c))
-    kept accept e = unfold viewIf entriesIf nextIf in (act-kept S v ps h o k c y (passed (tests S h c) e))
-    kept (refuse n) e = unfold viewIf entriesIf nextIf in o
+    go : (w : Verdict) → verdict (tests S h c) ≡ w → SameCall S v ps h c
+    go accept e =
+        let p = passed (tests S h c) e in
+        record { answered = rw (same, e) (reply-same o k c p); shown = rw (same, e) (act-kept o k c y p); known = known }
+    go (refuse n) e = record { answered = rw (same, e); shown = rw (same, e) o; known = known }

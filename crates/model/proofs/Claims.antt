@@ -10,7 +10,7 @@ use mir.Syntax.{w32}
 use mir.Val.{toZ, ofZ}
 use mir.ValLaws.{ofZ-toZ}
 use Rattle.terms.specs.Measures.{Shape, rangeRows, mostScans, withinLimits}
-use Rattle.history.specs.History.{Call, openScan, effect, nextIf, tests, verdict, Verdict, accept, refuse, Scan, withScans, History, start, next, run, seenAt, rangeOf, mergedThrough, scanAt, cellThrough}
+use Rattle.history.specs.History.{Call, openScan, effect, nextIf, tests, verdict, Verdict, accept, refuse, Scan, withScans, History, next, run, seenAt, rangeOf, mergedThrough, scanAt, cellThrough}
 use Rattle.history.specs.Lists.{All, nil, cons}
 use Rattle.history.proofs.Lists.{nth-last}
 use Rattle.history.proofs.Steps.{noScan}
@@ -34,26 +34,26 @@ use Rattle.model.proofs.Openings.{SamePage, same-after, scan-later}
 use Rattle.model.proofs.Made.{small-shape, made-represents}
 
 -- ---- the relation after a list of calls
-pub represents-after : (S : Shape) (v : View) (ps : List ScanEntry) (h : History) → Represents S v ps h → Known S h → {cs : List Call} → All Typed cs
+pub represents-after : {S : Shape} {v : View} {ps : List ScanEntry} {h : History} → Represents S v ps h → Known S h → {cs : List Call} → All Typed cs
     → Represents S (viewAfter S v ps cs) (listAfter S v ps cs) (run S h cs) × Known S (run S h cs)
 unfolding viewAfter listAfter run
-represents-after S v ps h o k nil = (o, k)
-represents-after S v ps h o k (cons {x = c} {l = cs} y ys) =
+represents-after {S} {v} {ps} {h} o k nil = (o, k)
+represents-after {S} {v} {ps} {h} o k (cons {x = c} {l = cs} y ys) =
     let one = one-call S v ps h c y o k in
-    represents-after S (viewNext S v ps c) (entriesNext S v ps c) (next S h c) (one .shown) (one .known) ys
+    represents-after (one .shown) (one .known) ys
 
 pub represented : (S : Shape) → T (withinLimits S) → (n : ℕ) → mostScans ≤ n → {cs : List Call} → All Typed cs
     → Represents S (storeAfter S n cs) (listAfter S (made S) (replicate n freeEntry) cs) (historyAfter S cs) × Known S (historyAfter S cs)
 unfolding storeAfter historyAfter
 represented S t n enough ys =
-    represents-after S (made S) (replicate n freeEntry) start (made-represents S (small-shape S t) n enough) record { small = small-shape S t; past = past-start S } ys
+    represents-after (made-represents S (small-shape S t) n enough) record { small = small-shape S t; past = past-start S } ys
 
 -- ---- reads
 pub reads : Reads
 unfolding Reads
 reads S l n enough cs ys t r c b d =
     let q = represented S l n enough ys in
-    current-read S (storeAfter S n cs) _ (historyAfter S cs) (q .0) (q .1) (reader t 0) r c (seenAt (historyAfter S cs) t) (sees-at (historyAfter S cs) t) b d
+    current-read (q .0) (q .1) (reader t 0) r c (seenAt (historyAfter S cs) t) (sees-at (historyAfter S cs) t) b d
     ∙ read-committed (historyAfter S cs) (q .1 .past .order) t r c
 
 -- ---- pages
@@ -64,8 +64,8 @@ row-of : (g i : ℕ) → i < rangeRows → (rangeOf (g * rangeRows + i) ≡ g) �
 unfolding rangeOf
 row-of g i b = (omega arith, omega arith)
 
-page-holds : (S : Shape) (v : View) (ps : List ScanEntry) (h : History) → Represents S v ps h → Known S h → (g c : ℕ) → g < S .ranges → c < S .columns → PageHolds S v h g c
-page-holds S v ps h o k g c a b = record {
+page-holds : {S : Shape} {v : View} {ps : List ScanEntry} {h : History} → Represents S v ps h → Known S h → (g c : ℕ) → g < S .ranges → c < S .columns → PageHolds S v h g c
+page-holds {S} {v} {ps} {h} o k g c a b = record {
   taken = x .lineage;
   every-row = λ i u. held i u ∙ cell-taken h (k .past .order) c (g * rangeRows + i) (mergedThrough h g c);
   never-inserted = λ i u n. zero-word (cellIn v (currentIn S v g c) i) (fits i) (held i u ∙ cell-absent h c (g * rangeRows + i) (mergedThrough h g c) (k .past .order) n);
@@ -86,7 +86,7 @@ pub pages-hold : PagesHold
 unfolding PagesHold
 pages-hold S l n enough cs ys g c a b =
     let q = represented S l n enough ys in
-    page-holds S (storeAfter S n cs) _ (historyAfter S cs) (q .0) (q .1) g c a b
+    page-holds (q .0) (q .1) g c a b
 
 -- ---- the pages of open scans
 -- the scan that has the next number, and what stays
@@ -108,10 +108,10 @@ opened-same S v ps s m g c = go (verdict (testsIn S v ps (openScan s)))
     go accept = unfold viewIf actIn put renew scanPage wasCurrent currentIn pageIn cellIn in (refl, λ q i. refl)
     go (refuse n) = unfold viewIf in (refl, λ q i. refl)
 
-pages-kept : (S : Shape) (v : View) (ps : List ScanEntry) (h : History) → Represents S v ps h → Known S h → (s : ℕ) (cs : List Call) → Typed (openScan s) → All Typed cs → verdict (tests S h (openScan s)) ≡ accept
+pages-kept : {S : Shape} {v : View} {ps : List ScanEntry} {h : History} → Represents S v ps h → Known S h → (s : ℕ) (cs : List Call) → Typed (openScan s) → All Typed cs → verdict (tests S h (openScan s)) ≡ accept
     → T (scanAt (run S (next S h (openScan s)) cs) (suc (length (h .scans))) .running) → (g c : ℕ) → g < S .ranges → c < S .columns
     → PageKept S v (viewAfter S (viewNext S v ps (openScan s)) (entriesNext S v ps (openScan s)) cs) (run S (next S h (openScan s)) cs) (suc (length (h .scans))) g c (length (h .rows))
-pages-kept S v ps h o k s cs y ys e t g c bg bc =
+pages-kept {S} {v} {ps} {h} o k s cs y ys e t g c bg bc =
     record {
       page = ap (λ (j : ℕ). scanPage S v₂ j g c) before-is ∙ (rw (new .0) at (same .page)) ∙ first;
       cells = λ r u f.
@@ -135,7 +135,7 @@ pages-kept S v ps h o k s cs y ys e t g c bg bc =
     new = scan-opened S h s e
 
     same : SamePage S v₁ v₂ (scanAt h₁ i .before) (length (h₁ .rows)) g c
-    same = let one = one-call S v ps h (openScan s) y o k in same-after S v₁ (entriesNext S v ps (openScan s)) h₁ (one .shown) (one .known) i (new .1) ys t g c bg bc
+    same = let one = one-call S v ps h (openScan s) y o k in same-after (one .shown) (one .known) i (new .1) ys t g c bg bc
 
     before-is : scanAt (run S h₁ cs) i .before ≡ length (h .merges)
     before-is = ap (λ (x : Scan). x .before) (scan-later S h₁ cs i (new .1) t) ∙ new .0
@@ -147,4 +147,4 @@ pub scans-keep : ScansKeep
 unfolding ScansKeep run viewAfter
 scans-keep S l n enough before after s ys (cons y zs) e t g c bg bc =
     let q = represented S l n enough ys in
-    pages-kept S (storeAfter S n before) _ (historyAfter S before) (q .0) (q .1) s after y zs e t g c bg bc
+    pages-kept (q .0) (q .1) s after y zs e t g c bg bc

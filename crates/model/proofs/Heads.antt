@@ -6,12 +6,13 @@ use mathlib.Core.List.{List}
 use Prim.Native.Nat.{ℕ, zero, suc, _+_, _*_, _-_, _<_}
 use native.Mathlib.Omega.{arith}
 use native.Mathlib.Nat.{le-refl}
-use lib.Dec.{leb, eqb, eqb·suc-zero, le→leb}
+use lib.Dec.{leb, eqb, eqb·suc-zero}
+use borrow.Author.Tests.{le-leb, ne-eqb}
 use lib.ListN.{length, getD}
 use lib.Seq.{take-length}
 use Rattle.terms.specs.Measures.{Shape}
 use Rattle.history.specs.History.{History, Record, State, unknown, active, aborted, committed, Content, original, setting, ending, committedBy, stateOf, rowAt, ends, rangeOf, recordsOf, seenAt, seenBy, ended, visible, activeOther, held, gone}
-use Rattle.history.proofs.Lists.{clash, is-true, eqb-other}
+use Rattle.history.proofs.Lists.{clash}
 use Rattle.history.specs.Latest.{stampOf}
 use Rattle.history.specs.Invariants.{Stamped}
 use Rattle.history.specs.Records.{anyOfRow, noRecord, lastOf}
@@ -56,13 +57,8 @@ SeesAs h who f = (k : ℕ) → sees who (stateWord (stateOf h k)) (stampOf (stat
 
 pub sees-at : (h : History) (t : ℕ) → SeesAs h (reader t 0) (seenAt h t)
 unfolding SeesAs sees seenAt committedBy
-sees-at h t k = go (stateOf h k)
-  where
-    go : (s : State) → sees (reader t 0) (stateWord s) (stampOf s) k ≡ committedBy t s
-    go unknown = refl
-    go active = refl
-    go aborted = refl
-    go (committed s) = or-false (leb s t)
+sees-at h t k = elim (stateOf h k) as (λ x. sees (reader t 0) (stateWord x) (stampOf x) k ≡ committedBy t x)
+    [ unknown ↦ refl | active ↦ refl | aborted ↦ refl | committed s ↦ or-false (leb s t) ]
 
 pub sees-own : (h : History) (me : ℕ) → stateOf h me ≡ active → SeesAs h (reader (h .last) me) (seenBy h me)
 unfolding SeesAs sees seenBy seenAt committedBy stateOf
@@ -70,7 +66,7 @@ sees-own h zero a k = clash (cc)
 sees-own h (suc me) a k = go (stateOf h k) refl
   where
     not-me : (s : State) → stateOf h k ≡ s → s ≢ active → eqb k (suc me) ≡ false
-    not-me s e f = eqb-other k (suc me) (λ q. f (sym e ∙ ap (stateOf h) q ∙ a))
+    not-me s e f = ne-eqb k (suc me) (λ q. f (sym e ∙ ap (stateOf h) q ∙ a))
 
     go : (s : State) → stateOf h k ≡ s → sees (reader (h .last) (suc me)) (stateWord s) (stampOf s) k ≡ (eqb k (suc me) || committedBy (h .last) s)
     go unknown e = rw (not-me unknown e (λ z. clash (cc)))
@@ -82,12 +78,19 @@ pub sees-not-aborted : (h : History) (who : Reader) (f : ℕ → Bool) → SeesA
 unfolding SeesAs sees
 sees-not-aborted h who f w k e = sym (w k) ∙ rw e
 
-module _ (S : Shape) (v : View) (ps : List ScanEntry) (h : History) (o : Represents S v ps h) (k : Known S h) (r : ℕ) (b : r < length (h .rows)) where
+module _ {S : Shape} {v : View} {ps : List ScanEntry} {h : History} (o : Represents S v ps h) (k : Known S h) (r : ℕ) (b : r < length (h .rows)) where
   abbrev recs : List Record
   recs = recordsOf h (rangeOf r)
 
-  abbrev base : ℕ
-  base = rangeOf r * S .capacity
+  -- record i of the row's range, and its words; two tests that say the same of them
+  abbrev rec : ℕ → Record
+  rec i = getD (recordsOf h (rangeOf r)) i noRecord
+
+  abbrev words : ℕ → RecordWords
+  words i = recordIn v (rangeOf r * S .capacity + i)
+
+  abbrev Alike : (RecordWords → Bool) → (Record → Bool) → Type 0
+  Alike F f = (i : ℕ) → i < length recs → F (words i) ≡ f (rec i)
 
   tail : TailOf S (stateOf h) (recordsOf h (rangeOf r)) v (rangeOf r)
   tail = o .tails (rangeOf r) (in-range k r b)
@@ -95,9 +98,11 @@ module _ (S : Shape) (v : View) (ps : List ScanEntry) (h : History) (o : Represe
   row : RowIs (stateOf h) (rowAt h r) (recordsOf h (rangeOf r)) r (rowIn v r)
   row = o .rows r b
 
+  delete-is : (i : ℕ) → i < length recs → deleteKind ((words i) .kind) ≡ ends ((rec i) .content)
+  delete-is i u = delete-word (S .columns) ((rec i) .content) _ _ _ (tail .each i u .content)
+
   -- a test of the newest record
-  head-is : (F : RecordWords → Bool) (f : Record → Bool) → ((i : ℕ) → i < length recs → F (recordIn v (base + i)) ≡ f (getD recs i noRecord))
-      → (hasRecord v r && F (headIn S v r)) ≡ newestIs f h r
+  head-is : (F : RecordWords → Bool) (f : Record → Bool) → Alike F f → (hasRecord v r && F (headIn S v r)) ≡ newestIs f h r
   unfolding headIn newestIs
   head-is F f same =
       ap (λ (l : ℕ). not (eqb l 0) && F (recordIn v (slot S (rangeOf r) l))) (row .link) ∙ go (lastOf recs r (length recs)) refl
@@ -107,10 +112,9 @@ module _ (S : Shape) (v : View) (ps : List ScanEntry) (h : History) (o : Represe
       go (suc i) e = rw (eqb·suc-zero i, slot-is S (rangeOf r) i) (same i (last-of-row recs r (length recs) i e .0))
 
   -- a test of all used records of the row
-  records-are : (F : RecordWords → Bool) (f : Record → Bool) → ((i : ℕ) → i < length recs → F (recordIn v (base + i)) ≡ f (getD recs i noRecord))
-      → anyRecord S v r F ≡ anyOfRow r f (h .tail)
+  records-are : (F : RecordWords → Bool) (f : Record → Bool) → Alike F f → anyRecord S v r F ≡ anyOfRow r f (h .tail)
   records-are F f same =
-      ap (anyBelow (λ i. eqb ((recordIn v (base + i)) .row) r && F (recordIn v (base + i)))) (tail .used-all)
+      ap (anyBelow (λ i. eqb ((words i) .row) r && F (words i))) (tail .used-all)
       ∙ any-below recs noRecord _ (λ x. eqb (x .row) r && f x) (length recs) (le-refl _) (λ i u. ap₂ (λ (n : ℕ) (b : Bool). eqb n r && b) (tail .each i u .row) (same i u))
       ∙ ap (anyOfRow r f) (take-length recs)
       ∙ any-range h r f
@@ -121,23 +125,17 @@ module _ (S : Shape) (v : View) (ps : List ScanEntry) (h : History) (o : Represe
 
   pub held-is : (t : ℕ) → heldIn S v t r ≡ held h t r
   unfolding heldIn held
-  held-is t =
-      rw (
-        row .transaction,
-        other-is t ((rowAt h r) .inserter),
-        records-are (λ y. openOther v t (y .transaction)) (λ x. activeOther h t (x .transaction)) (λ i u. rw (tail .each i u .transaction) (other-is t _)),
-      )
+  held-is t = rw (row .transaction, other-is t ((rowAt h r) .inserter), records-are (λ y. openOther v t (y .transaction)) (λ x. activeOther h t (x .transaction)) same)
+    where
+      same : Alike (λ y. openOther v t (y .transaction)) (λ x. activeOther h t (x .transaction))
+      same i u = rw (tail .each i u .transaction) (other-is t _)
 
   -- who stands for the caller: itself and what is committed
   stands-is : (t n : ℕ) → standsFor t n (stateWord (stateOf h n)) ≡ seenBy h t n
   unfolding seenBy seenAt committedBy Stamped
-  stands-is t n = ap (λ (b : Bool). eqb n t || b) (go (stateOf h n) refl)
-    where
-      go : (s : State) → stateOf h n ≡ s → committedState (stateWord s) ≡ committedBy (h .last) s
-      go unknown e = refl
-      go active e = refl
-      go aborted e = refl
-      go (committed s) e = sym (is-true _ (le→leb s (h .last) (k .past .order .stamps n s e)))
+  stands-is t n = ap (λ (b : Bool). eqb n t || b)
+      (elim (stateOf h n) as (λ x. stateOf h n ≡ x → committedState (stateWord x) ≡ committedBy (h .last) x)
+      [ unknown ↦ λ e. refl | active ↦ λ e. refl | aborted ↦ λ e. refl | committed s ↦ λ e. sym (le-leb s (h .last) (k .past .order .stamps n s e)) ] refl)
 
   pub gone-is : (t : ℕ) → goneIn S v t r ≡ gone h t r
   unfolding goneIn gone visible ended
@@ -146,31 +144,18 @@ module _ (S : Shape) (v : View) (ps : List ScanEntry) (h : History) (o : Represe
         row .state,
         row .transaction,
         stands-is t ((rowAt h r) .inserter),
-        records-are (λ y. deleteKind (y .kind) && standsFor t (y .transaction) (y .state)) (λ x. ends (x .content) && seenBy h t (x .transaction))
-            (λ i u. rw (
-              delete-word (S .columns) ((getD recs i noRecord) .content) _ _ _ (tail .each i u .content),
-              tail .each i u .state,
-              tail .each i u .transaction,
-              stands-is t ((getD recs i noRecord) .transaction),
-            )),
+        records-are (λ y. deleteKind (y .kind) && standsFor t (y .transaction) (y .state)) (λ x. ends (x .content) && seenBy h t (x .transaction)) same,
       )
       (sym (not-and-not (seenBy h t ((rowAt h r) .inserter)) _))
+    where
+      same : Alike (λ y. deleteKind (y .kind) && standsFor t (y .transaction) (y .state)) (λ x. ends (x .content) && seenBy h t (x .transaction))
+      same i u = let x = tail .each i u in rw (delete-is i u, x .state, x .transaction, stands-is t ((rec i) .transaction))
 
   pub visible-is : (who : Reader) (f : ℕ → Bool) → SeesAs h who f → visibleIn S v who r ≡ visible f h r
   unfolding visibleIn visible SeesAs
   visible-is who f w =
-      rw (
-        row .state,
-        row .stamp,
-        row .transaction,
-        w ((rowAt h r) .inserter),
-        head-is (λ y. deleteKind (y .kind) && seesRecord who y) (λ x. ends (x .content) && f (x .transaction))
-            (λ i u. rw (
-              delete-word (S .columns) ((getD recs i noRecord) .content) _ _ _ (tail .each i u .content),
-              tail .each i u .state,
-              tail .each i u .stamp,
-              tail .each i u .transaction,
-              w ((getD recs i noRecord) .transaction),
-            )),
-        ended-newest h f r (k .past .order) (sees-not-aborted h who f w),
-      )
+      rw (row .state, row .stamp, row .transaction, w ((rowAt h r) .inserter), head-is (λ y. deleteKind (y .kind) && seesRecord who y) (λ x. ends (x .content) && f (x .transaction)) same)
+      (rw (ended-newest h f r (k .past .order) (sees-not-aborted h who f w)))
+    where
+      same : Alike (λ y. deleteKind (y .kind) && seesRecord who y) (λ x. ends (x .content) && f (x .transaction))
+      same i u = let x = tail .each i u in rw (delete-is i u, x .state, x .stamp, x .transaction, w ((rec i) .transaction))

@@ -10,13 +10,14 @@ use native.Mathlib.Decide.{ℕ-discrete, decLt}
 use lib.ListN.{length, getD, take, length-append, List·getD-append, List·getD-eq-default}
 use lib.Seq.{getD-append-seam}
 use lib.IntN.{pos}
+use borrow.Author.Tests.{ne-eqb}
 use mir.Syntax.{w32}
 use mir.Val.{toZ}
 use Rattle.terms.specs.Measures.{Shape, rangeRows}
-use Rattle.history.specs.History.{Call, History, Row, Record, Scan, Merge, Version, isCommitted, stateOf, rowAt, scanAt, stopped, insertedValue, inserted, lastSetting, rangeOf, recordsOf, withRows, withTail, withTransactions, withScans, withMerges, cellThrough}
+use Rattle.history.specs.History.{Call, History, Row, Record, Version, isCommitted, stateOf, rowAt, insertedValue, inserted, lastSetting, rangeOf, recordsOf, withRows, withTail, withTransactions, withScans, withMerges, cellThrough}
 use Rattle.history.specs.Lists.{All}
-use Rattle.history.proofs.Lists.{by-cases, all-map, all-map₂, all-keep, all-take, keep-append, length-change, eqb-other}
-use Rattle.history.specs.Steps.{NewScans, scanOpened, scanClosed, NewMerges, merged, released, Step, nothing, newStates, rowGiven, recordsMade, newScans, newMerges}
+use Rattle.history.proofs.Lists.{by-cases, all-map, all-map₂, all-keep, all-take, keep-append, length-change}
+use Rattle.history.specs.Steps.{scanOpened, scanClosed, merged, released, Step, nothing, newStates, rowGiven, recordsMade, newScans, newMerges}
 use Rattle.history.proofs.States.{states-last}
 use Rattle.history.proofs.Ranges.{last-unfound}
 use Rattle.history.proofs.Merges.{length-released}
@@ -28,7 +29,7 @@ use Rattle.model.specs.Represents.{Holds, NotAfter, everyRow}
 
 -- ---- a row that was not given has no records, and 0 in every cell
 pub last-other : (sees : ℕ → Bool) (r c : ℕ) (v : Version) {l : List Record} → All (λ (x : Record). x .row ≢ r) l → lastSetting sees r c v l ≡ v
-last-other sees r c v a = last-unfound sees r c v (all-map (λ x n. rw (eqb-other (x .row) r n)) a)
+last-other sees r c v a = last-unfound sees r c v (all-map (λ x n. rw (ne-eqb (x .row) r n)) a)
 
 pub not-given : (h : History) (g n r : ℕ) → InOrder h → length (h .rows) ≤ r → All (λ (x : Record). x .row ≢ r) (take n (recordsOf h g))
 unfolding recordsOf
@@ -51,22 +52,23 @@ pub record Grown (h h′ : History) : Type 0 where
   pub scans : length (h .scans) ≤ length (h′ .scans)
   pub merges : length (h .merges) ≤ length (h′ .merges)
 
+one-longer : {A : Type 0} (l : List A) (x : A) → length l ≤ length (l ++ x ∷ [])
+one-longer l x = simp length-append (omega arith)
+
+records-longer : (h : History) (m : List Record) (g : ℕ) → length (recordsOf h g) ≤ length (recordsOf (withTail h (h .tail ++ m)) g)
+unfolding recordsOf withTail
+records-longer h m g = simp (keep-append, length-append) (omega arith)
+
 pub grown : {S : Shape} {x : Call} {h h′ : History} → Step S h x h′ → Grown h h′
 unfolding recordsOf withTransactions withRows withTail withScans withMerges
-grown nothing = record { last = le-refl _; rows = le-refl _; records = λ g. le-refl _; scans = le-refl _; merges = le-refl _ }
-grown (newStates n) = record { last = states-last n; rows = le-refl _; records = λ g. le-refl _; scans = le-refl _; merges = le-refl _ }
-grown (rowGiven _ _ _ _) = record { last = le-refl _; rows = simp length-append (omega arith); records = λ g. le-refl _; scans = le-refl _; merges = le-refl _ }
-grown (recordsMade _ _ _ _ _) = record { last = le-refl _; rows = le-refl _; records = λ g. simp (keep-append, length-append) (omega arith); scans = le-refl _; merges = le-refl _ }
-grown {h = h} (newScans n) = record { last = le-refl _; rows = le-refl _; records = λ g. le-refl _; scans = more n; merges = le-refl _ }
-  where
-    more : {l : List Scan} → NewScans h l → length (h .scans) ≤ length l
-    more (scanOpened _ _ _) = simp length-append (omega arith)
-    more (scanClosed k _) = omega (arith, length-change (h .scans) k (stopped (scanAt h k)))
-grown {S} {h = h} (newMerges n) = record { last = le-refl _; rows = le-refl _; records = λ g. le-refl _; scans = le-refl _; merges = more n }
-  where
-    more : {x : Call} {l : List Merge} → NewMerges S h x l → length (h .merges) ≤ length l
-    more (merged _) = simp length-append (omega arith)
-    more released = omega (arith, length-released (h .scans) 0 (h .merges))
+grown nothing = search le-refl
+grown (newStates n) = search (le-refl, states-last n)
+grown (rowGiven _ _ _ _) = search (le-refl, one-longer)
+grown {h = h} (recordsMade _ _ {m} _ _ _) = search (le-refl, records-longer h m)
+grown (newScans (scanOpened _ _ _)) = search (le-refl, one-longer)
+grown (newScans (scanClosed k _)) = search (le-refl, length-change)
+grown (newMerges (merged _)) = search (le-refl, one-longer)
+grown (newMerges released) = search (le-refl, length-released)
 
 -- ---- a step that gives none of the rows in question
 module _ {S : Shape} {y : Call} {h h′ : History} (i : InOrder h) (step : Step S h y h′) (g c : ℕ) (x : PageWords) where
@@ -124,15 +126,11 @@ pub rows-more : (h : History) (w : Row) → length ((withRow h w) .rows) ≡ suc
 unfolding withRows
 rows-more h w = simp length-append (omega arith)
 
-fresh-row : (h : History) (w : Row) (g n : ℕ) → InOrder h → All (λ (x : Record). x .row ≢ length (h .rows)) (take n (recordsOf (withRow h w) g))
-unfolding recordsOf withRows
-fresh-row h w g n i = not-given h g n (length (h .rows)) i (le-refl _)
-
 pub cell-new : (h : History) (w : Row) (c n : ℕ) → InOrder h → cellThrough (withRow h w) c (length (h .rows)) n ≡ getD (w .values) c (pos 0)
 unfolding cellThrough inserted insertedValue
 cell-new h w c n i =
     ap (λ (v : Version). v .value)
-    (last-other (λ k. isCommitted (stateOf (withRow h w) k)) (length (h .rows)) c (inserted (withRow h w) (length (h .rows)) c) (fresh-row h w (rangeOf (length (h .rows))) n i))
+    (last-other (λ k. isCommitted (stateOf (withRow h w) k)) (length (h .rows)) c (inserted (withRow h w) (length (h .rows)) c) (unfold recordsOf withRows in (not-given h (rangeOf (length (h .rows))) n (length (h .rows)) i (le-refl _))))
     ∙ ap (λ (x : Row). getD (x .values) c (pos 0)) (row-new h w)
 
 pub other-row : (h : History) (w : Row) (r : ℕ) → r ≢ length (h .rows) → (r < length (h .rows)) ⊎ (length ((withRow h w) .rows) ≤ r)

@@ -12,13 +12,14 @@ use lib.ListN.{length, getD, set, length-append, length-set}
 use lib.Seq.{getD-set-same, getD-set-other, take-length}
 use lib.IntN.{ℤ, pos}
 use lib.Pow.{shr-le}
+use borrow.Author.Tests.{ne-eqb}
 use mir.Syntax.{w32}
 use mir.Val.{toZ, ofZ, SFits}
 use mir.ValLaws.{toZ-ofZ, ofZ-fits}
 use Rattle.terms.specs.Measures.{Shape, rangeRows}
 use Rattle.history.specs.History.{insert, History, Row, Record, active, stateOf, rowAt, bit, sets, rangeOf, recordsOf, mergedThrough, scanAt, seenAt, withRows}
 use Rattle.history.specs.Lists.{All, nil, cons}
-use Rattle.history.proofs.Lists.{by-cases, all-append, all-map, all-at, any-none, eqb-other}
+use Rattle.history.proofs.Lists.{at-append, by-cases, all-append, all-map, all-at, any-none}
 use Rattle.history.specs.Steps.{Step}
 use Rattle.history.specs.Records.{wasSet, noRecord, lastOf}
 use Rattle.history.specs.Latest.{stampOf}
@@ -36,25 +37,26 @@ use Rattle.layout.specs.Codes.{asOpen}
 use Rattle.model.specs.Reading.{scanPage, wasCurrent}
 use Rattle.model.specs.Writing.{noted, putCells, insertedAt, insertedIn}
 use Rattle.model.proofs.Lists.{same-part}
-use Rattle.model.specs.Represents.{stateWord, RowsAre, Holds, everyRow, CurrentIs, CurrentOf, CurrentsAre, ScanPageOf, ScanPagesAre, NotesAre, Represents, Known, Whole}
-use Rattle.model.proofs.Holding.{same-row, withRow, row-new, row-old, rows-more, not-given, other-row, holds-step, holds-cells, holds-insert}
-use Rattle.model.proofs.Steady.{waiting-step, scan-cells, scan-page-step}
-use Rattle.model.proofs.Views.{renew-whole, put-whole, header-put, header-same}
-use Rattle.model.proofs.Notes.{notes-more, few-changes, active-given}
+use Rattle.model.specs.Represents.{stateWord, RowIs, RowsAre, Holds, everyRow, CurrentIs, CurrentOf, CurrentsAre, ScanPageOf, ScanPagesAre, NotesAre, HeaderFor, Represents, Known, Whole}
+use Rattle.model.proofs.Holding.{same-row, withRow, row-new, not-given, other-row, holds-step, holds-cells, holds-insert}
+use Rattle.model.proofs.Steady.{scan-cells, scan-page-step, waits-stay}
+use Rattle.model.proofs.Views.{renew-whole, put-whole, noted-whole, header-put, header-same}
+use Rattle.model.proofs.Notes.{notes-more, few-changes}
+use Rattle.model.proofs.Transactions.{active-given}
 
 -- ---- a new row has no record and no bit
 pub bit-none : (c : ℕ) → bit 0 c ≡ false
 unfolding bit
-bit-none c = eqb-other (0 / 2 ^ c % 2) 1 (λ e. omega (arith, shr-le 0 c))
+bit-none c = ne-eqb (0 / 2 ^ c % 2) 1 (λ e. omega (arith, shr-le 0 c))
 
 pub no-link : (l : List Record) (r n : ℕ) → n ≤ length l → All (λ (x : Record). x .row ≢ r) l → lastOf l r n ≡ 0
 unfolding lastOf
 no-link l r zero b a = refl
-no-link l r (suc n) b a = rw (eqb-other ((getD l n noRecord) .row) r (all-at a n noRecord b)) (no-link l r n (omega arith) a)
+no-link l r (suc n) b a = rw (ne-eqb ((getD l n noRecord) .row) r (all-at a n noRecord b)) (no-link l r n (omega arith) a)
 
 pub never-set : (l : List Record) (r c : ℕ) → All (λ (x : Record). x .row ≢ r) l → wasSet l r c ≡ false
 unfolding wasSet
-never-set l r c a = any-none (λ (x : Record). eqb (x .row) r && sets c (x .content)) (all-map (λ (x : Record) f. rw (eqb-other (x .row) r f) tt) a)
+never-set l r c a = any-none (λ (x : Record). eqb (x .row) r && sets c (x .content)) (all-map (λ (x : Record) f. rw (ne-eqb (x .row) r f) tt) a)
 
 -- ---- the cells that are written
 module _ (S : Shape) (current : List ℕ) (g i : ℕ) (vs : List ℤ) (cells : List ℕ) where
@@ -94,7 +96,7 @@ pub current-apart : (S : Shape) (v : View) (h : History) → CurrentsAre S h v �
 current-apart S v h o g c g′ c′ a b a′ b′ e =
     same-part (S .columns) g g′ c c′ b b′ (sym (o g c a b .chunk) ∙ ap (λ (p : ℕ). (pageIn v p) .chunk) e ∙ o g′ c′ a′ b′ .chunk)
 
-module _ (S : Shape) (v : View) (ps : List ScanEntry) (h : History) (o : Represents S v ps h) (k : Known S h) (t : ℕ) (vs : List ℤ) (a : stateOf h t ≡ active)
+module _ {S : Shape} {v : View} {ps : List ScanEntry} {h : History} (o : Represents S v ps h) (k : Known S h) (t : ℕ) (vs : List ℤ) (a : stateOf h t ≡ active)
     (room : length (h .rows) < S .ranges * rangeRows) (typed : All (SFits w32) vs) where
   abbrev row : Row
   row = record { inserter = t; values = vs }
@@ -116,17 +118,16 @@ module _ (S : Shape) (v : View) (ps : List ScanEntry) (h : History) (o : Represe
   inside = omega arith
 
   insert-rows : RowsAre h′ v′
-  unfolding insertedAt noted openIndex put renew rowIn stateOf recordsOf withRows
-  insert-rows i b = by-cases (ℕ-discrete i r)
-      (λ e. rw (e, row-new h row)
+  unfolding insertedAt noted openIndex put renew rowIn rowAt stateOf recordsOf withRows
+  insert-rows = at-append (λ i w. RowIs (stateOf h) w (recordsOf h (rangeOf i)) i (rowIn v′ i)) (h .rows) row _
+      (λ i u. let f : i ≢ r = λ e. omega arith in simp getD-set-other (o .rows i u))
       record {
         transaction = getD-set-same (v RowTransaction) r t 0 (omega (arith, o .whole .long RowTransaction));
         state = getD-set-same (v RowState) r asOpen 0 (omega (arith, o .whole .long RowState)) ∙ sym (ap stateWord a);
         stamp = getD-set-same (v RowStamp) r 0 0 (omega (arith, o .whole .long RowStamp)) ∙ sym (ap stampOf a);
         link = getD-set-same (v RowLink) r 0 0 (omega (arith, o .whole .long RowLink)) ∙ sym (no-link (recordsOf h (rangeOf r)) r _ (le-refl _) fresh);
         mask = λ c. ap (λ (m : ℕ). bit m c) (getD-set-same (v RowMask) r 0 0 (omega (arith, o .whole .long RowMask))) ∙ bit-none c ∙ sym (never-set (recordsOf h (rangeOf r)) r c fresh);
-      })
-      (λ f. let u : i < length (h .rows) = omega (arith, rows-more h row) in rw (row-old h row i u) (simp getD-set-other (o .rows i u)))
+      }
     where
       fresh : All (λ (x : Record). x .row ≢ r) (recordsOf h (rangeOf r))
       fresh = rw take-length at (not-given h (rangeOf r) (length (recordsOf h (rangeOf r))) r (k .past .order) (le-refl _))
@@ -194,10 +195,10 @@ module _ (S : Shape) (v : View) (ps : List ScanEntry) (h : History) (o : Represe
       (simp length-append (omega arith)) (λ u f n. record { no-row = all-append (n .no-row) (cons (λ e. f (sym e)) nil); no-record = n .no-record }) (o .opens) a (o .notes)
 
   insert-whole : Whole S v′
-  unfolding insertedAt noted stateOf
+  unfolding insertedAt stateOf
   insert-whole =
-      let number : t < 2 ^ 32 = omega (arith, active-given (h .transactions) t a, k .past .limits .transactions) in
-      put-whole Changes _ _ (omega arith)
+      let number : t < 2 ^ 32 = omega (arith, active-given (h .transactions) t a .1, k .past .limits .transactions) in
+      noted-whole t
       (put-whole Header rowsAt (r + 1) (omega (arith, k .small .ranges))
       (renew-whole Cells cells′ (cells-length S (v Current) (rangeOf r) (within r) vs (v Cells) (S .columns) ∙ o .whole .long Cells)
       (cells-fit S (v Current) (rangeOf r) (within r) vs (v Cells) (λ c. ofZ-fits w32 (getD vs c (pos 0)) (value-fits vs typed c) .fits) (o .whole .fits Cells) (S .columns))
@@ -206,19 +207,9 @@ module _ (S : Shape) (v : View) (ps : List ScanEntry) (h : History) (o : Represe
   insert-at : Step S h (insert t vs) h′ → Represents S v′ ps h′
   unfolding insertedAt noted openIndex put renew withRows recordIn valueIn pageIn stateOf recordsOf currentIn
   insert-at step =
-      record {
-        header = header-same (sym (simp length-append (omega arith))) refl refl refl (header-put (v Header) 4 (r + 1) (omega (arith, o .whole .long Header)) (omega arith) (o .header));
-        opens = o .opens;
-        notes = insert-notes;
-        rows = insert-rows;
-        tails = o .tails;
-        currents = insert-currents step;
-        waits = λ p b w. waiting-step step (λ _ _ _ _. le-refl _) (o .waits p b w);
-        pool = o .pool;
-        scans = o .scans;
-        scanPages = insert-scans step;
-        whole = insert-whole;
-      }
+      let header : HeaderFor S h′ v′ =
+      header-same (sym (simp length-append (omega arith))) refl refl refl (header-put (v Header) 4 (r + 1) (omega (arith, o .whole .long Header)) (omega arith) (o .header)) in
+      search (header, insert-notes, insert-rows, insert-currents step, waits-stay o k step refl, insert-scans step, insert-whole)
 
   pub insert-kept : Step S h (insert t vs) h′ → Represents S (insertedIn S t vs v) ps h′
   unfolding insertedIn

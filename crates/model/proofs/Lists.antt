@@ -1,6 +1,6 @@
 -- Lists and numbers in general, beyond what the history's proofs have: counts of a list by place, counts and searches over the numbers below a bound, and
 -- the index of a part in a region of equal parts. Nothing here speaks of the store.
-use mathlib.Core.Path.{_≡_, refl, sym, _∙_, ap, fun-ext}
+use mathlib.Core.Path.{_≡_, refl, sym, _∙_, ap}
 use mathlib.Core.Logic.{_≢_}
 use mathlib.Core.Bool.{Bool, true, false, not, cond, _&&_, _||_, and-false, and-true, or-false}
 use mathlib.Core.List.{List, [], _∷_, _++_}
@@ -9,21 +9,15 @@ use native.Mathlib.Omega.{arith}
 use native.Mathlib.Nat.{le-refl, not-suc-le-zero, add-zero, add-suc, suc-add, mul-le-mul-right, suc-mul}
 use native.Mathlib.Decide.{ℕ-discrete, decLt}
 use lib.Dec.{T, leb, ltb, eqb, eqb→eq, leb→le, le→leb, T-not}
-use borrow.Author.Tests.{lt-ltb}
+use borrow.Author.Tests.{lt-ltb, ne-eqb, eq-eqb}
 use lib.ListN.{length, getD, set, take}
 use lib.Seq.{take-suc}
 use Rattle.history.specs.History.{any, count}
 pub use Rattle.history.proofs.Lists.{one}
-use Rattle.history.proofs.Lists.{by-cases, by-test, cond-suc, any-append, is-true, refuted, eqb-equal, eqb-same, eqb-other}
+use Rattle.history.proofs.Lists.{by-cases, by-test, cond-suc, any-append, is-true, refuted, eqb-equal, eqb-same}
 use Rattle.terms.specs.Places.{firstIndex}
 use Rattle.model.specs.Stored.{firstFrom, anyBelow, countBelow}
 use Rattle.model.specs.Represents.{countFrom}
-
-pub true-false : true ≡ false → ⊥
-true-false e = let z : _≡_ {A = ℕ} 0 1 = cc in omega arith
-
-pub is-equal : (a b : ℕ) → a ≡ b → eqb a b ≡ true
-is-equal a b e = is-true (eqb a b) (eqb-equal a b e)
 
 pub same-truth : (a b : Bool) → (T a → T b) → (T b → T a) → a ≡ b
 same-truth true true f g = refl
@@ -53,11 +47,8 @@ module _ {A : Type 0} where
   from-count f i [] = refl
   from-count f i (x ∷ l) = rw (from-count f (suc i) l)
 
-  pub count-ext : (f g : A → Bool) (l : List A) → ((x : A) → f x ≡ g x) → count f l ≡ count g l
-  count-ext f g l e = ap (λ (k : A → Bool). count k l) (fun-ext e)
-
   pub count-from : (f : A → Bool) (i : ℕ) (l : List A) → count f l ≡ countFrom (λ k x. f x && true) i l
-  count-from f i l = count-ext f _ l (λ x. sym (and-true (f x))) ∙ sym (from-count (λ x. f x && true) i l)
+  count-from f i l = simp and-true (sym (from-count f i l))
 
   pub from-snoc : (p : ℕ → A → Bool) (i : ℕ) (l : List A) (x : A)
       → countFrom p i (l ++ x ∷ []) ≡ countFrom p i l + one (p (i + length l) x)
@@ -94,10 +85,10 @@ module _ {A : Type 0} where
         add-zero,
         eqb-same i,
         and-true (g i x),
-        from-none (λ n x. g n x && eqb n i) (suc i) l (λ n y a b. rw (eqb-other n i (λ e. omega arith), and-false (g n y))),
+        from-none (λ n x. g n x && eqb n i) (suc i) l (λ n y a b. rw (ne-eqb n i (λ e. omega arith), and-false (g n y))),
       )
   from-at g i (x ∷ l) (suc k) d z =
-      rw (add-suc, eqb-other i (suc (i + k)) (λ e. omega arith), and-false (g i x), ← suc-add) (from-at g (suc i) l k d z)
+      rw (add-suc, ne-eqb i (suc (i + k)) (λ e. omega arith), and-false (g i x), ← suc-add) (from-at g (suc i) l k d z)
 
   pub count-pos : (f : A → Bool) (l : List A) (i : ℕ) (d : A) → i < length l → T (f (getD l i d)) → 0 < count f l
   count-pos f [] i d b t = absurd (not-suc-le-zero b)
@@ -154,10 +145,6 @@ pub below-none : (f : ℕ → Bool) (n : ℕ) → ((k : ℕ) → k < n → f k �
 below-none f zero e = refl
 below-none f (suc n) e = rw (e n (le-refl _)) (below-none f n (λ k b. e k (omega arith)))
 
-pub below-all : (f : ℕ → Bool) (n : ℕ) → ((k : ℕ) → k < n → f k ≡ true) → countBelow f n ≡ n
-below-all f zero e = refl
-below-all f (suc n) e = rw (e n (le-refl _)) (ap suc (below-all f n (λ k b. e k (omega arith))))
-
 pub below-pos : (f : ℕ → Bool) (n p : ℕ) → p < n → T (f p) → 0 < countBelow f n
 below-pos f zero p b t = absurd (not-suc-le-zero b)
 below-pos f (suc n) p b t = by-cases (ℕ-discrete p n)
@@ -175,6 +162,21 @@ below-change f g (suc n) p b e =
     (λ q. rw q (omega (arith, below-ext f g n (λ k b. e k (omega arith) (λ z. omega arith)))))
     (λ q. omega (arith, ap one (e n (le-refl _) (λ z. q (sym z))), below-change f g n p (omega arith) (λ k b. e k (omega arith))))
 
+-- the test differs at p and at q alone
+pub below-pair : (f g : ℕ → Bool) (n p q : ℕ) → p < n → q < n → q ≢ p → ((k : ℕ) → k ≢ p → k ≢ q → f k ≡ g k)
+    → countBelow g n + one (f p) + one (f q) ≡ countBelow f n + one (g p) + one (g q)
+below-pair f g n p q a b d e =
+    let mid : ℕ → Bool = λ k. cond (eqb k p) (g k) (f k) in
+    let at-p : mid p ≡ g p = rw (eqb-same p) in
+    let at-q : mid q ≡ f q = rw (ne-eqb q p d) in
+    omega (
+      arith,
+      below-change f mid n p a (λ k _ z. rw (ne-eqb k p z)),
+      below-change mid g n q b (λ k _ z. by-cases (ℕ-discrete k p) (λ y. rw (eq-eqb k p y)) (λ y. rw (ne-eqb k p y) (e k y z))),
+      ap one at-p,
+      ap one at-q,
+    )
+
 -- of three tests exactly one passes
 pub below-three : (f g h : ℕ → Bool) (n : ℕ) → ((k : ℕ) → one (f k) + one (g k) + one (h k) ≡ 1)
     → countBelow f n + countBelow g n + countBelow h n ≡ n
@@ -182,6 +184,11 @@ below-three f g h zero e = refl
 below-three f g h (suc n) e =
     omega
     (arith, cond-suc (f n) (countBelow f n), cond-suc (g n) (countBelow g n), cond-suc (h n) (countBelow h n), e n, below-three f g h n e)
+
+-- a test passes where one of two does, which never pass both
+pub below-sum : (f g h : ℕ → Bool) (n : ℕ) → ((k : ℕ) → one (f k) ≡ one (g k) + one (h k)) → countBelow f n ≡ countBelow g n + countBelow h n
+below-sum f g h zero e = refl
+below-sum f g h (suc n) e = omega (arith, cond-suc (f n) (countBelow f n), cond-suc (g n) (countBelow g n), cond-suc (h n) (countBelow h n), e n, below-sum f g h n e)
 
 -- none passes exactly if none is found
 pub first-none : (f : ℕ → Bool) (n : ℕ) → leb n (firstFrom f n 0) ≡ eqb (countBelow f n) 0

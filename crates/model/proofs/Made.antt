@@ -1,20 +1,20 @@
 -- A store just made represents the empty history, and every list of calls on it is answered as the history answers it.
 use mathlib.Core.Path.{_≡_, refl, _∙_, ap}
 use mathlib.Core.Logic.{inr}
-use mathlib.Core.Bool.{Bool, false, not, _&&_}
+use mathlib.Core.Bool.{Bool, true, false, not, _&&_}
 use mathlib.Core.List.{List, []}
 use Prim.Native.Nat.{ℕ, zero, suc, _+_, _*_, _≤_, _<_, zero-le}
 use native.Mathlib.Omega.{arith}
 use native.Mathlib.Nat.{le-refl, not-suc-le-zero, mul-le-mul}
 use native.Mathlib.Decide.{decLt}
-use lib.Dec.{T, leb, eqb, leb→le}
+use lib.Dec.{T, eqb}
 use lib.ListN.{length, getD, replicate, length-replicate}
 use mir.Syntax.{w32}
 use mir.Val.{toZ}
-use Rattle.terms.specs.Measures.{Shape, rangeRows, mostScans, mostColumns, mostRanges, mostRecords, mostSpares, between, withinLimits, mostTransactions, mostChunks}
-use Rattle.history.specs.History.{Call, History, start, answers, next, count, rowAt, insertedValue, inserted, lastSetting, recordsOf, lastThrough, mergedThrough, scanAt, cellThrough}
+use Rattle.terms.specs.Measures.{Shape, rangeRows, mostScans, withinLimits, mostTransactions, mostChunks}
+use Rattle.history.specs.History.{Call, History, start, answers, count, rowAt, insertedValue, inserted, lastSetting, recordsOf, lastThrough, mergedThrough, scanAt, cellThrough}
 use Rattle.history.specs.Lists.{All, nil, cons}
-use Rattle.history.proofs.Lists.{by-cases, parts}
+use Rattle.history.proofs.Lists.{by-cases, both-test, le-test}
 use Rattle.history.proofs.Past.{past-start}
 use Rattle.loops.specs.Change.{numbered}
 use Rattle.words.specs.Words.{Fit}
@@ -28,9 +28,9 @@ use Rattle.layout.specs.Sizes.{sizesOf}
 use Rattle.terms.specs.Places.{freeEntry}
 use Rattle.model.specs.Stored.{pageIn, cellIn, currentIn, chunkOf, chunksOf, pagesOf, within, waitingPage, currentPage, countBelow}
 use Rattle.model.specs.Writing.{made}
-use Rattle.model.specs.Calls.{Typed, viewNext, entriesNext, sayAll}
+use Rattle.model.specs.Calls.{Typed, sayAll}
 use Rattle.layout.specs.Codes.{asCurrent}
-use Rattle.model.proofs.Lists.{below-all, below-none}
+use Rattle.model.proofs.Lists.{below-none}
 use Rattle.model.specs.Represents.{Holds, everyRow, CurrentsAre, PoolIs, Represents, Small, Known, Whole}
 use Rattle.model.proofs.Views.{renew-whole, put-whole, changed-start}
 use Rattle.model.proofs.Merged.{chunk-in}
@@ -41,30 +41,17 @@ none-counted : {A : Type 0} (f : A → Bool) (n : ℕ) (x : A) → f x ≡ false
 none-counted f zero x e = refl
 none-counted f (suc n) x e = rw e (none-counted f n x e)
 
-below-start : (f : ℕ → Bool) (a n : ℕ) → a ≤ n → ((k : ℕ) → a ≤ k → k < n → f k ≡ false) → countBelow f n ≡ countBelow f a
-below-start f a zero b e = let q : 0 ≡ a = omega arith in ap (countBelow f) q
-below-start f a (suc n) b e = by-cases (decLt n a)
-    (λ u. let q : suc n ≡ a = omega arith in ap (countBelow f) q)
-    (λ u. rw (e n (omega arith) (le-refl _)) (below-start f a n (omega arith) (λ k c d. e k c (omega arith))))
+-- the first a of n numbers pass, and no other
+below-first : (f : ℕ → Bool) (a n : ℕ) → a ≤ n → ((k : ℕ) → k < a → f k ≡ true) → ((k : ℕ) → a ≤ k → k < n → f k ≡ false) → countBelow f n ≡ a
+below-first f a zero b t e = omega arith
+below-first f a (suc n) b t e = by-cases (decLt n a)
+    (λ u. rw (t n u) (omega (arith, below-first f n n (le-refl _) (λ k c. t k (omega arith)) (λ k c d. absurd (omega arith)))))
+    (λ u. rw (e n (omega arith) (le-refl _)) (below-first f a n (omega arith) t (λ k c d. e k c (omega arith))))
 
 -- ---- the shape's limits as numbers
 pub small-shape : (S : Shape) → T (withinLimits S) → Small S
 unfolding withinLimits
-small-shape S t =
-    let a = parts (between 1 mostColumns (S .columns)) _ t in
-    let b = parts (between 1 mostRanges (S .ranges)) _ (a .1) in
-    let c = parts (between 1 mostRecords (S .capacity)) _ (b .1) in
-    record {
-      columns = bounds 1 mostColumns (S .columns) (a .0) .1;
-      ranges = bounds 1 mostRanges (S .ranges) (b .0) .1;
-      capacity = bounds 1 mostRecords (S .capacity) (c .0) .1;
-      spares = bounds 0 mostSpares (S .spares) (c .1) .1;
-      some-column = bounds 1 mostColumns (S .columns) (a .0) .0;
-      some-range = bounds 1 mostRanges (S .ranges) (b .0) .0;
-    }
-  where
-    bounds : (a b n : ℕ) → T (between a b n) → (a ≤ n) × (n ≤ b)
-    bounds a b n t = let p = parts (leb a n) _ t in (leb→le a n (p .0), leb→le n b (p .1))
+small-shape S t = let limits = simp (both-test, le-test) at t in search limits
 
 module _ (S : Shape) (small : Small S) where
   few-chunks : chunksOf S ≤ mostChunks
@@ -120,8 +107,8 @@ module _ (S : Shape) (small : Small S) where
   pool-made =
       record {
         current =
-            below-start (λ p. currentPage ((pageIn (made S) p) .state)) (chunksOf S) (pagesOf S) (omega arith) (λ p a b. ap currentPage (state-rest p a))
-            ∙ below-all (λ p. currentPage ((pageIn (made S) p) .state)) (chunksOf S) (λ p b. ap currentPage (state-first p b));
+            below-first (λ p. currentPage ((pageIn (made S) p) .state)) (chunksOf S) (pagesOf S) (omega arith)
+            (λ p b. ap currentPage (state-first p b)) (λ p a b. ap currentPage (state-rest p a));
         waiting = λ q. below-none (λ p. waitingPage ((pageIn (made S) p) .state) && q ((pageIn (made S) p) .replaced)) (pagesOf S) (λ p b. ap (λ (w : Bool). w && q ((pageIn (made S) p) .replaced)) (state-not-waiting p));
       }
 
@@ -174,15 +161,15 @@ module _ (S : Shape) (small : Small S) where
       no-scan (suc k) t = unfold scanAt start in t
 
 -- ---- every list of calls
-simulated-from : (S : Shape) (v : View) (ps : List ScanEntry) (h : History) → Represents S v ps h → Known S h → {cs : List Call} → All Typed cs → sayAll S v ps cs ≡ answers S h cs
+simulated-from : {S : Shape} {v : View} {ps : List ScanEntry} {h : History} → Represents S v ps h → Known S h → {cs : List Call} → All Typed cs → sayAll S v ps cs ≡ answers S h cs
 unfolding sayAll answers
-simulated-from S v ps h o k nil = refl
-simulated-from S v ps h o k (cons {x = c} {l = cs} y ys) =
+simulated-from {S} {v} {ps} {h} o k nil = refl
+simulated-from {S} {v} {ps} {h} o k (cons {x = c} {l = cs} y ys) =
     let one = one-call S v ps h c y o k in
-    rw (one .answered, simulated-from S (viewNext S v ps c) (entriesNext S v ps c) (next S h c) (one .shown) (one .known) ys)
+    rw (one .answered, simulated-from (one .shown) (one .known) ys)
 
 -- The store, from a making with any scan list of at least 16 places, answers every list of calls as the plain history does.
 pub simulated : (S : Shape) → T (withinLimits S) → (n : ℕ) → mostScans ≤ n → (cs : List Call) → All Typed cs
     → sayAll S (made S) (replicate n freeEntry) cs ≡ answers S start cs
 simulated S t n enough cs ys =
-    simulated-from S (made S) (replicate n freeEntry) start (made-represents S (small-shape S t) n enough) record { small = small-shape S t; past = past-start S } ys
+    simulated-from (made-represents S (small-shape S t) n enough) record { small = small-shape S t; past = past-start S } ys

@@ -11,40 +11,35 @@ use Rattle.history.specs.History.{bit}
 use Rattle.history.proofs.Lists.{clash}
 use Rattle.model.specs.Writing.{newBits}
 
+-- two numbers that are 0 or 1
+two-bits : (P : ℕ → ℕ → Type 0) → P 0 0 → P 0 1 → P 1 0 → P 1 1 → (p q : ℕ) → p < 2 → q < 2 → P p q
+two-bits P a b c d zero zero u w = a
+two-bits P a b c d zero (suc zero) u w = b
+two-bits P a b c d zero (suc (suc q)) u w = absurd (omega arith)
+two-bits P a b c d (suc zero) zero u w = c
+two-bits P a b c d (suc zero) (suc zero) u w = d
+two-bits P a b c d (suc zero) (suc (suc q)) u w = absurd (omega arith)
+two-bits P a b c d (suc (suc p)) q u w = absurd (omega arith)
+
 low-or : (p q : ℕ) → p < 2 → q < 2 → eqb (max p q) 1 ≡ (eqb p 1 || eqb q 1)
-low-or zero zero a b = refl
-low-or zero (suc zero) a b = refl
-low-or zero (suc (suc q)) a b = absurd (omega arith)
-low-or (suc zero) zero a b = refl
-low-or (suc zero) (suc zero) a b = refl
-low-or (suc zero) (suc (suc q)) a b = absurd (omega arith)
-low-or (suc (suc p)) q a b = absurd (omega arith)
+low-or = two-bits (λ p q. eqb (max p q) 1 ≡ (eqb p 1 || eqb q 1)) refl refl refl refl
 
 pub bit-or : (a b c : ℕ) → bit (bitOr a b) c ≡ (bit a c || bit b c)
 unfolding bit
 bit-or a b c =
-    ap (λ (n : ℕ). eqb (n % 2) 1) (or-shr a b c)
-    ∙ ap (λ (n : ℕ). eqb n 1) (step (a / 2 ^ c) (b / 2 ^ c))
-    ∙ low-or (a / 2 ^ c % 2) (b / 2 ^ c % 2) (omega arith) (omega arith)
+    rw (or-shr a b c, step (a / 2 ^ c) (b / 2 ^ c)) (low-or (a / 2 ^ c % 2) (b / 2 ^ c % 2) (omega arith) (omega arith))
   where
     step : (x y : ℕ) → bitOr x y % 2 ≡ max (x % 2) (y % 2)
     step x y = omega (arith, or-step x y)
 
 low-xor : (p q : ℕ) → p < 2 → q < 2 → (differ p q < 2) × (eqb (differ p q) 1 ≡ cond (eqb q 1) (not (eqb p 1)) (eqb p 1))
-low-xor zero zero a b = (omega arith, refl)
-low-xor zero (suc zero) a b = (omega arith, refl)
-low-xor zero (suc (suc q)) a b = absurd (omega arith)
-low-xor (suc zero) zero a b = (omega arith, refl)
-low-xor (suc zero) (suc zero) a b = (omega arith, refl)
-low-xor (suc zero) (suc (suc q)) a b = absurd (omega arith)
-low-xor (suc (suc p)) q a b = absurd (omega arith)
+low-xor = two-bits (λ p q. (differ p q < 2) × (eqb (differ p q) 1 ≡ cond (eqb q 1) (not (eqb p 1)) (eqb p 1)))
+    (omega arith, refl) (omega arith, refl) (omega arith, refl) (omega arith, refl)
 
 bit-xor : (a b c : ℕ) → bit (bitXor a b) c ≡ cond (bit b c) (not (bit a c)) (bit a c)
 unfolding bit
 bit-xor a b c =
-    ap (λ (n : ℕ). eqb (n % 2) 1) (xor-shr a b c)
-    ∙ ap (λ (n : ℕ). eqb n 1) (step (a / 2 ^ c) (b / 2 ^ c))
-    ∙ low-xor (a / 2 ^ c % 2) (b / 2 ^ c % 2) (omega arith) (omega arith) .1
+    rw (xor-shr a b c, step (a / 2 ^ c) (b / 2 ^ c)) (low-xor (a / 2 ^ c % 2) (b / 2 ^ c % 2) (omega arith) (omega arith) .1)
   where
     step : (x y : ℕ) → bitXor x y % 2 ≡ differ (x % 2) (y % 2)
     step x y = omega (arith, xor-step x y, low-xor (x % 2) (y % 2) (omega arith) (omega arith) .0)

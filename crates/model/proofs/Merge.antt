@@ -4,41 +4,42 @@ use mathlib.Core.Path.{_≡_, refl, sym, _∙_, ap}
 use mathlib.Core.Logic.{_≢_, _⊎_, inl, inr}
 use mathlib.Core.Bool.{Bool, true, false, cond, _&&_, and-false}
 use mathlib.Core.List.{List}
-use Prim.Native.Nat.{ℕ, zero, suc, _+_, _*_, _-_, _^_, _≤_, _<_, zero-le}
+use Prim.Native.Nat.{ℕ, zero, suc, _+_, _*_, _-_, _^_, _≤_, _<_}
 use native.Mathlib.Omega.{arith}
 use native.Mathlib.Nat.{le-refl, le-trans, add-zero}
 use native.Mathlib.Decide.{ℕ-discrete}
 use lib.Dec.{T, ltb, eqb, ltb→lt, nltb→le}
 use lib.ListN.{length, getD, set, take, length-set}
 use lib.Seq.{getD-set-same, getD-set-other, take-suc}
+use borrow.Author.Tests.{ne-eqb, eq-eqb}
 use mir.Syntax.{w32}
 use mir.Val.{toZ}
 use Rattle.terms.specs.Measures.{Shape, rangeRows}
 use Rattle.history.specs.History.{History, Record, State, unknown, active, aborted, committed, Content, original, setting, ending, isCommitted, stateOf, bit, sets, newValue, inserted, versionIn, lastSetting, rangeOf, recordsOf}
 use Rattle.history.specs.Lists.{All, nil, cons}
-use Rattle.history.proofs.Lists.{by-cases, by-test, all-append, all-map, all-at, eqb-other}
+use Rattle.history.proofs.Lists.{by-cases, by-test, all-append, all-map, all-at}
 use Rattle.history.specs.Latest.{stampOf}
-use Rattle.history.specs.Invariants.{Stamped, InOrder}
+use Rattle.history.specs.Invariants.{InOrder}
+use Rattle.history.specs.Steps.{Mergeable}
+use Rattle.history.proofs.States.{stamp-last}
 use Rattle.history.proofs.Ranges.{last-next, records-range}
 use Rattle.history.specs.Records.{noRecord}
 use Rattle.words.specs.Words.{Fit}
 use Rattle.loops.proofs.Change.{set-fit}
 use Rattle.layout.specs.View.{View}
+use Rattle.terms.specs.declared.ScanEntry.{ScanEntry}
 use Rattle.layout.specs.declared.Region.the-variants.{TailValues, TailStamp}
 use Rattle.model.specs.Stored.{recordIn, valueIn, within, committedState, settingKind}
 use Rattle.layout.specs.Regions.{slot}
 use Rattle.model.specs.Writing.{applies, applied, newestOf}
-use Rattle.model.proofs.Lists.{is-equal}
-use Rattle.model.specs.Represents.{stateWord, ContentIs, RecordIs, TailOf, NotAfter}
+use Rattle.model.specs.Represents.{stateWord, ContentIs, RecordIs, NotAfter, Represents}
+use Rattle.model.proofs.Read.{setting-value}
 use Rattle.model.proofs.Holding.{same-row}
 use Rattle.model.proofs.Heads.{slot-is}
 
 committed-word : (s : State) → committedState (stateWord s) ≡ isCommitted s
 unfolding isCommitted
-committed-word unknown = refl
-committed-word active = refl
-committed-word aborted = refl
-committed-word (committed s) = refl
+committed-word s = elim s as (λ x. committedState (stateWord x) ≡ isCommitted x) [ unknown ↦ refl | active ↦ refl | aborted ↦ refl | committed s ↦ refl ]
 
 setting-word : (C c : ℕ) (y : Content) (kind mask : ℕ) (value : ℕ → ℕ) (b : Bool) → ContentIs C y kind mask value → (bit mask c && (settingKind kind && b)) ≡ (sets c y && b)
 unfolding sets
@@ -46,13 +47,8 @@ setting-word C c (original cs vs) kind mask value b o = rw (o .0) (and-false (bi
 setting-word C c (setting m vs) kind mask value b o = rw (o .0, o .1)
 setting-word C c ending kind mask value b o = rw o (and-false (bit mask c))
 
-setting-value : (C c : ℕ) (y : Content) (kind mask : ℕ) (value : ℕ → ℕ) → c < C → ContentIs C y kind mask value → T (sets c y) → toZ w32 (value c) ≡ newValue c y
-unfolding sets newValue
-setting-value C c (setting m vs) kind mask value d o t = o .2 c d t
-
 -- ---- the forward pass
-module _ (S : Shape) (v : View) (h : History) (g c p low : ℕ) (inside : c < S .columns)
-    (o : TailOf S (stateOf h) (recordsOf h g) v g) where
+module _ {S : Shape} {v : View} {ps : List ScanEntry} {h : History} (o : Represents S v ps h) {g c n : ℕ} (ok : Mergeable S h g c n) (p low : ℕ) where
   abbrev recs : List Record
   recs = recordsOf h g
 
@@ -68,7 +64,7 @@ module _ (S : Shape) (v : View) (h : History) (g c p low : ℕ) (inside : c < S 
 
   record-at : (k : ℕ) → low + k < length recs
       → RecordIs (S .columns) (stateOf h) (rec k) (recordIn v (slot S g (suc (low + k)))) (valueIn S v (slot S g (suc (low + k))))
-  record-at k b = rw (slot-is S g (low + k)) (o .each (low + k) b)
+  record-at k b = rw (slot-is S g (low + k)) (o .tails g (ok .range-in) .each (low + k) b)
 
   applies-is : (k : ℕ) → low + k < length recs → applies c (recordIn v (slot S g (suc (low + k)))) ≡ (sets c ((rec k) .content) && done ((rec k) .transaction))
   unfolding applies
@@ -109,11 +105,11 @@ module _ (S : Shape) (v : View) (h : History) (g c p low : ℕ) (inside : c < S 
       → (k : ℕ) → low + k ≤ length recs
       → toZ w32 (getD (applied S v g c p low k l) (p * rangeRows + within r) 0) ≡ lastSetting done r c (inserted h r c) (take (low + k) recs) .value
   unfolding applied
-  applied-is l n r e base zero b = rw add-zero base
-  applied-is l n r e base (suc k) b =
+  applied-is l room r e base zero b = rw add-zero base
+  applied-is l room r e base (suc k) b =
       let u : low + k < length recs = omega arith in
       rw (take-at k, last-next done r c (inserted h r c) recs (low + k) noRecord u, applies-is k u)
-      (go u (sets c ((rec k) .content)) (setting-value (S .columns) c ((rec k) .content) _ _ _ inside (record-at k u .content)) (done ((rec k) .transaction)) (applied-is l n r e base k (omega arith)))
+      (go u (sets c ((rec k) .content)) (setting-value (S .columns) c (ok .column-in) ((rec k) .content) _ _ _ (record-at k u .content)) (done ((rec k) .transaction)) (applied-is l room r e base k (omega arith)))
     where
       before : List ℕ
       before = applied S v g c p low k l
@@ -125,8 +121,8 @@ module _ (S : Shape) (v : View) (h : History) (g c p low : ℕ) (inside : c < S 
       put-at : low + k < length recs → (x : ℕ) → getD (set before (p * rangeRows + within ((recordIn v s) .row)) x) (p * rangeRows + within r) 0
           ≡ cond (eqb ((rec k) .row) r) x (getD before (p * rangeRows + within r) 0)
       put-at u x = by-cases (ℕ-discrete ((rec k) .row) r)
-          (λ q. rw (is-equal ((rec k) .row) r q, record-at k u .row ∙ q) (getD-set-same before (p * rangeRows + within r) x 0 (omega (arith, applied-length k l))))
-          (λ f. rw (eqb-other ((rec k) .row) r f)
+          (λ q. rw (eq-eqb ((rec k) .row) r q, record-at k u .row ∙ q) (getD-set-same before (p * rangeRows + within r) x 0 (omega (arith, applied-length k l))))
+          (λ f. rw (ne-eqb ((rec k) .row) r f)
           (getD-set-other before (p * rangeRows + within ((recordIn v s) .row)) (p * rangeRows + within r) x 0
           (λ z. f (same-row ((rec k) .row) r (all-at (records-range h g) (low + k) noRecord u ∙ sym e) (omega (arith, record-at k u .row, z))))))
 
@@ -180,12 +176,4 @@ module _ (S : Shape) (v : View) (h : History) (g c p low : ℕ) (inside : c < S 
 
   -- no stamp is after the last commit's
   pub newest-last : InOrder h → (s : ℕ) → s ≤ h .last → (k : ℕ) → low + k ≤ length recs → newestOf S v g c low k s ≤ h .last
-  unfolding Stamped
-  newest-last i s b k d =
-      newest-keeps (λ n. n ≤ h .last) s b k (λ j u. omega (arith, record-at j (omega arith) .stamp, stamp-last (stateOf h ((rec j) .transaction)) (i .stamps ((rec j) .transaction))))
-    where
-      stamp-last : (x : State) → ((a : ℕ) → x ≡ committed a → a ≤ h .last) → stampOf x ≤ h .last
-      stamp-last unknown f = zero-le
-      stamp-last active f = zero-le
-      stamp-last aborted f = zero-le
-      stamp-last (committed a) f = f a refl
+  newest-last i s b k d = newest-keeps (λ n. n ≤ h .last) s b k (λ j u. omega (arith, record-at j (omega arith) .stamp, stamp-last h (i .stamps) ((rec j) .transaction)))

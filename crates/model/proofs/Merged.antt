@@ -1,13 +1,13 @@
 -- Merge, the whole: the page taken, the page replaced, and what every other part sees of it.
 use mathlib.Core.Path.{_≡_, refl, sym, _∙_, ap}
 use mathlib.Core.Logic.{_≢_, _⊎_, inl, inr}
-use mathlib.Core.Bool.{Bool, true, false, cond, _&&_, and-true}
+use mathlib.Core.Bool.{Bool, true, false, _&&_, and-true}
 use mathlib.Core.List.{List, [], _∷_, _++_}
-use Prim.Native.Nat.{ℕ, zero, suc, _+_, _*_, _-_, _/_, _%_, _^_, _≤_, _<_}
+use Prim.Native.Nat.{ℕ, suc, _+_, _*_, _-_, _/_, _%_, _^_, _≤_, _<_}
 use native.Mathlib.Omega.{arith}
 use native.Mathlib.Nat.{mul-le-mul, mod-lt, mod-eq-of-lt, div-add-mod', div-lt-iff-lt-mul, mul-comm}
 use native.Mathlib.Decide.{ℕ-discrete, decLt}
-use lib.Dec.{not-T, nleb→lt, T, leb, ltb, eqb, leb→le, ltb→lt, lt→ltb}
+use lib.Dec.{not-T, nleb→lt, T, leb, leb→le, lt→ltb}
 use lib.ListN.{length, getD, take, length-append}
 use lib.Seq.{lt-length-set, getD-set-same, getD-set-other}
 use lib.IntN.{ℤ}
@@ -15,7 +15,7 @@ use mir.Syntax.{w32}
 use mir.Val.{toZ}
 use Rattle.terms.specs.Measures.{Shape, rangeRows, mostColumns, mostRanges, mostRecords, mostPages}
 use Rattle.history.specs.History.{merge, History, Record, Merge, Scan, isActive, isCommitted, stateOf, rowAt, rangeOf, recordsOf, mergedThrough, anyActive, waitingPages, scanAt, inserted, lastSetting, withMerges, cellThrough}
-use Rattle.history.proofs.Lists.{by-cases, is-true, eqb-other}
+use Rattle.history.proofs.Lists.{by-cases}
 use Rattle.history.specs.Steps.{Mergeable, Step}
 use Rattle.history.specs.Invariants.{Timely}
 use Rattle.history.specs.Records.{noRecord}
@@ -29,47 +29,27 @@ use Rattle.layout.specs.Sizes.{sizesOf}
 use Rattle.layout.specs.declared.Region.{Region}
 use Rattle.layout.specs.declared.Region.the-variants.{Header, Opens, Current, PageState, PageChunk, PageMade, PageReplaced, PageLineage, PageNewest, Cells, TailValues, TailStamp}
 use Rattle.terms.specs.declared.ScanEntry.{ScanEntry}
-use Rattle.model.specs.Stored.{PageWords, rowIn, recordIn, valueIn, pageIn, cellIn, currentIn, chunkOf, chunksOf, pagesOf, within, nextWord, freePage, currentPage, waitingPage, countBelow}
+use Rattle.model.specs.Stored.{PageWords, rowIn, recordIn, valueIn, pageIn, cellIn, currentIn, chunkOf, chunksOf, pagesOf, within, nextWord, currentPage, waitingPage, countBelow}
 use Rattle.layout.specs.Codes.{asCurrent, asWaiting}
 use Rattle.model.specs.Reading.{wasCurrent, scanPage}
-use Rattle.model.specs.Writing.{applied, newestOf, strayIn, freeIn, mergedIn}
+use Rattle.model.specs.Writing.{applied, newestOf, freeIn, mergedIn}
 use Rattle.model.specs.Asked.{Placed}
 use Rattle.model.specs.Calls.{openAmongIn}
-use Rattle.model.proofs.Lists.{one, any-below, count-from, from-snoc, first-only, first-ext, below-ext, below-change, below-three, part-in, same-part, is-equal}
-use Rattle.model.specs.Represents.{Holds, everyRow, CurrentIs, CurrentOf, CurrentsAre, WaitingIs, WaitingAre, madeIn, PoolIs, ScanPageIs, ScanPagesAre, Represents, Known, Whole}
-use Rattle.model.proofs.Holding.{holds-step, holds-cells, same-rows}
+use Rattle.model.proofs.Lists.{one, any-below, count-from, from-snoc, first-only, first-ext, below-ext, below-pair, part-in, same-part}
+use Rattle.model.specs.Represents.{Holds, everyRow, CurrentIs, CurrentOf, CurrentsAre, WaitingIs, WaitingAre, madeIn, PoolIs, ScanPageIs, ScanPagesAre, HeaderFor, Represents, Known, Whole}
+use Rattle.model.proofs.Holding.{holds-step, same-rows}
 use Rattle.model.proofs.Steady.{current-step, current-cells, waiting-step, scan-cells, scan-page-step}
 use Rattle.model.proofs.Views.{renew-whole, put-whole, header-put, header-same}
 use Rattle.model.proofs.Insert.{current-apart}
 use Rattle.model.proofs.Merge.{applied-length, applied-fit, applied-outside, applied-is, newest-is, newest-fit, newest-last}
 use Rattle.model.proofs.Transactions.{opens-is}
-use Rattle.model.proofs.Free.{page-count, free-none, found-free}
+use Rattle.model.proofs.Free.{no-stray, free-none, found-free}
 use Rattle.model.proofs.Scans.{scan-current}
-use Rattle.model.proofs.ScanPages.{WasCurrent, was-current, is-current, unfound, unfound-state, search-same, search, search-is, found-page, Cases, scan-cases, scan-page-same}
+use Rattle.model.proofs.ScanPages.{WasCurrent, was-current, is-current, unfound, unfound-state, search-same, searched, search-is, found-page, Cases, scan-cases, scan-page-same}
 
 -- a place is below the number of places
 pub chunk-in : (S : Shape) (g c : ℕ) → g < S .ranges → c < S .columns → chunkOf S g c < chunksOf S
 chunk-in S g c a b = omega (arith, part-in (S .ranges) (S .columns) g c a b, mul-comm (S .ranges) (S .columns))
-
-pub place-mod : (S : Shape) (n : ℕ) → n < chunksOf S → n % chunksOf S ≡ n
-place-mod S n b = mod-eq-of-lt b
-
--- ---- only lineage and newest matter
-holds-words : {h : History} {g c : ℕ} {Q : ℕ → Type 0} {x y : PageWords} {cell : ℕ → ℕ} → y .lineage ≡ x .lineage → y .newest ≡ x .newest → Holds h g c Q x cell → Holds h g c Q y cell
-holds-words {h} {c = c} e f o =
-    record {
-      through = rw e (o .through);
-      newest = rw (e, f) (o .newest);
-      stamped = rw f (o .stamped);
-      cells = λ r q u. o .cells r q u ∙ ap (cellThrough h c r) (sym e);
-    }
-
--- ---- the pool
-states-three : (w : ℕ) → one (freePage w) + one (currentPage w) + one (waitingPage w) ≡ 1
-states-three zero = refl
-states-three (suc zero) = refl
-states-three (suc (suc w)) =
-    rw (eqb-other (suc (suc w)) 0 (λ e. omega arith), eqb-other (suc (suc w)) 1 (λ e. omega arith), is-true (ltb 1 (suc (suc w))) (lt→ltb 1 (suc (suc w)) (omega arith)))
 
 -- a place is that of a range and a column
 pub chunk-parts : (S : Shape) → 1 ≤ S .columns → (i : ℕ) → i < chunksOf S → (i / S .columns < S .ranges) × (i % S .columns < S .columns) × (chunkOf S (i / S .columns) (i % S .columns) ≡ i)
@@ -77,7 +57,7 @@ chunk-parts S some i b =
     let c : i < S .ranges * S .columns = omega (arith, mul-comm (S .columns) (S .ranges)) in
     ((div-lt-iff-lt-mul {k = S .columns} {x = i} {y = S .ranges} some) .1 c, mod-lt i some, div-add-mod' i (S .columns))
 
-module _ (S : Shape) (v : View) (ps : List ScanEntry) (h : History) (o : Represents S v ps h) (k : Known S h) where
+module _ {S : Shape} {v : View} {ps : List ScanEntry} {h : History} (o : Represents S v ps h) (k : Known S h) where
   -- the page that place i names
   pub named : (i : ℕ) → i < chunksOf S → CurrentIs S h (i / S .columns) (i % S .columns) (getD (v Current) i 0) (pageIn v (getD (v Current) i 0)) (cellIn v (getD (v Current) i 0))
   unfolding currentIn
@@ -95,16 +75,6 @@ module _ (S : Shape) (v : View) (ps : List ScanEntry) (h : History) (o : Represe
   waiting-is : countBelow (λ p. waitingPage ((pageIn v p) .state)) (pagesOf S) ≡ waitingPages (h .merges)
   unfolding waitingPages
   waiting-is = below-ext _ _ (pagesOf S) (λ p b. sym (and-true (waitingPage ((pageIn v p) .state)))) ∙ o .pool .waiting (λ i. true) ∙ sym (count-from (λ m. m .waiting) 1 (h .merges))
-
-  -- as many pages are current as there are places, so that none is stray
-  no-stray : countBelow (strayIn S v) (pagesOf S) ≡ 0
-  no-stray =
-      omega (
-        arith,
-        below-three (λ p. freePage ((pageIn v p) .state)) (λ p. currentPage ((pageIn v p) .state)) (λ p. waitingPage ((pageIn v p) .state)) (pagesOf S) (λ p. states-three ((pageIn v p) .state)),
-        o .pool .current,
-        page-count S v placed,
-      )
 
   -- test 18
   pub free-is : leb (pagesOf S) (freeIn S v) ≡ leb (S .spares) (waitingPages (h .merges))
@@ -124,10 +94,10 @@ merges-few {S} {h} k =
     let b : S .ranges * (S .columns * S .capacity) ≤ mostRanges * (mostColumns * mostRecords) = mul-le-mul (k .small .ranges) a in
     omega (arith, merges-most S h (k .past .merges) (k .past .pages) (k .past .limits))
 
-module _ (S : Shape) (v : View) (ps : List ScanEntry) (h : History) (o : Represents S v ps h) (k : Known S h) (g c n : ℕ) (ok : Mergeable S h g c n) where
+module _ {S : Shape} {v : View} {ps : List ScanEntry} {h : History} (o : Represents S v ps h) (k : Known S h) {g c n : ℕ} (ok : Mergeable S h g c n) where
   room : freeIn S v < pagesOf S
   room = nleb→lt (pagesOf S) (freeIn S v)
-      (rw (free-is S v ps h o k) (not-T (leb (S .spares) (waitingPages (h .merges))) (λ t. omega (arith, leb→le (S .spares) (waitingPages (h .merges)) t, ok .spare))))
+      (rw (free-is o k) (not-T (leb (S .spares) (waitingPages (h .merges))) (λ t. omega (arith, leb→le (S .spares) (waitingPages (h .merges)) t, ok .spare))))
 
   abbrev new : Merge
   new = record { range = g; column = c; through = n; waiting = true }
@@ -163,7 +133,7 @@ module _ (S : Shape) (v : View) (ps : List ScanEntry) (h : History) (o : Represe
   low-to = omega (arith, now .lineage)
 
   free-state : (pageIn v p) .state ≡ 0
-  free-state = found-free S v (placed S v ps h o k) (no-stray S v ps h o k) room
+  free-state = found-free S v (placed o k) (no-stray S v (placed o k) (o .pool .current)) room
 
   not-free : (q : ℕ) → 0 < (pageIn v q) .state → q ≢ p
   not-free q b e = omega (arith, free-state, ap (λ (i : ℕ). (pageIn v i) .state) e)
@@ -174,6 +144,11 @@ module _ (S : Shape) (v : View) (ps : List ScanEntry) (h : History) (o : Represe
   -- a page is the one taken, the one replaced or another
   each-page : (P : ℕ → Type 0) → P p → P old → ((q : ℕ) → q ≢ p → q ≢ old → P q) → (q : ℕ) → P q
   each-page P a b f q = by-cases (ℕ-discrete q p) (λ e. rw e a) (λ z. by-cases (ℕ-discrete q old) (λ e. rw e b) (f q z))
+
+  -- a range and column are those merged or others
+  each-chunk : (P : ℕ → ℕ → Type 0) → P g c → ((a b : ℕ) → a < S .ranges → b < S .columns → chunkOf S a b ≢ chunkOf S g c → P a b) → (a b : ℕ) → a < S .ranges → b < S .columns → P a b
+  each-chunk P here there a b u w = by-cases (ℕ-discrete (chunkOf S a b) (chunkOf S g c))
+      (λ e. let q : (a ≡ g) × (b ≡ c) = same-part (S .columns) a g b c w (ok .column-in) e in rw (q .0, q .1) here) (there a b u w)
 
   -- ---- the pages' words
   in-page : (q : ℕ) → q < pagesOf S → (r : Region) → len (sizesOf S) r ≡ pagesOf S → q < length (v r)
@@ -228,16 +203,16 @@ module _ (S : Shape) (v : View) (ps : List ScanEntry) (h : History) (o : Represe
   unfolding mergedIn put renew cellIn
   cells-other q i f b =
       let d : (q * rangeRows + i < p * rangeRows) ⊎ (p * rangeRows + rangeRows ≤ q * rangeRows + i) = by-cases (decLt q p) (λ u. inl (omega arith)) (λ u. inr (omega arith)) in
-      applied-outside S v h g c p low (ok .column-in) (o .tails g (ok .range-in)) (n - low) copy (q * rangeRows + i) d
+      applied-outside o ok p low (n - low) copy (q * rangeRows + i) d
       ∙ changed-outside (λ i x. getD (v Cells) (old * rangeRows + i) 0) (p * rangeRows) (v Cells) rangeRows (q * rangeRows + i) d
 
   -- ---- what the new page holds
   new-holds : Holds h g c everyRow record { state = asCurrent; chunk = chunkOf S g c; made = m; replaced = (pageIn v p) .replaced; lineage = n; newest = late } (cellIn v′ p)
   new-holds =
       record {
-        through = merge-through (k .past .order) (ok .used) (ok .shut);
-        newest = rw low-to at (newest-is S v h g c p low (ok .column-in) (o .tails g (ok .range-in)) ((pageIn v old) .newest) (now .holds .newest) (n - low) (omega (arith, low-to)));
-        stamped = newest-last S v h g c p low (ok .column-in) (o .tails g (ok .range-in)) (k .past .order) ((pageIn v old) .newest) (now .holds .stamped) (n - low) (omega (arith, low-to));
+        through = merge-through (k .past .order) ok;
+        newest = rw low-to at (newest-is o ok p low ((pageIn v old) .newest) (now .holds .newest) (n - low) (omega (arith, low-to)));
+        stamped = newest-last o ok p low (k .past .order) ((pageIn v old) .newest) (now .holds .stamped) (n - low) (omega (arith, low-to));
         cells = λ r e q. cells r e;
       }
     where
@@ -250,7 +225,7 @@ module _ (S : Shape) (v : View) (ps : List ScanEntry) (h : History) (o : Represe
       cells : (r : ℕ) → rangeOf r ≡ g → toZ w32 (cellIn v′ p (within r)) ≡ cellThrough h c r n
       cells r e =
           (unfold mergedIn put renew cellIn cellThrough in
-          (applied-is S v h g c p low (ok .column-in) (o .tails g (ok .range-in)) copy
+          (applied-is o ok p low copy
           (omega (arith, room, changed-length (λ i x. getD (v Cells) (old * rangeRows + i) 0) (p * rangeRows) (v Cells) rangeRows, o .whole .long Cells)) r e (base r e) (n - low) (omega (arith, low-to))
           ∙ ap (last r g) low-to ∙ ap (λ (a : ℕ). last r a n) (sym e)))
 
@@ -258,27 +233,26 @@ module _ (S : Shape) (v : View) (ps : List ScanEntry) (h : History) (o : Represe
   through-there : Step S h (merge g c n) h′ → (a b : ℕ) → chunkOf S a b ≢ chunkOf S g c → mergedThrough h′ a b ≡ mergedThrough h a b
   through-there step a b f = lineage-stays (lineage-step a b step) (λ j e. f (cc))
 
-  more-merges : length ((h′) .merges) ≡ suc (length (h .merges))
+  more-merges : length (h′ .merges) ≡ suc (length (h .merges))
   unfolding withMerges
   more-merges = simp length-append (omega arith)
 
-  rows-same : length (h .rows) ≡ length ((h′) .rows)
+  rows-same : length (h .rows) ≡ length (h′ .rows)
   unfolding withMerges
   rows-same = refl
 
   merge-currents : Step S h (merge g c n) h′ → CurrentsAre S h′ v′
-  merge-currents step a b u w = by-cases (ℕ-discrete (chunkOf S a b) (chunkOf S g c))
-      (λ e. let q : (a ≡ g) × (b ≡ c) = same-part (S .columns) a g b c w (ok .column-in) e in
-      rw (q .0, q .1, current-here, page-free)
+  merge-currents step = each-chunk (CurrentOf S h′ v′)
+      (rw (current-here, page-free)
       record {
         inside = room;
         state = refl;
         chunk = refl;
         made = omega (arith, m-is, more-merges);
         lineage = sym (merged-page h g c n);
-        holds = holds-step (k .past .order) step g c _ (λ r e u. (tt, same-rows (length (h .rows)) (length ((h′) .rows)) r rows-same)) new-holds;
+        holds = holds-step (k .past .order) step g c _ (λ r e u. (tt, same-rows (length (h .rows)) (length (h′ .rows)) r rows-same)) new-holds;
       })
-      (λ f. rw (current-there a b f, page-other (currentIn S v a b) (current-not-free a b u w) (current-not-old a b u w f))
+      (λ a b u w f. rw (current-there a b f, page-other (currentIn S v a b) (current-not-free a b u w) (current-not-old a b u w f))
       (current-cells (λ r. cells-other (currentIn S v a b) (within r) (current-not-free a b u w) (omega arith))
       (current-step (k .past .order) step rows-same (through-there step a b f) (o .currents a b u w))))
 
@@ -291,9 +265,7 @@ module _ (S : Shape) (v : View) (ps : List ScanEntry) (h : History) (o : Represe
       ap (λ (i : ℕ). (pageIn v′ i) .made) (current-there a b f) ∙ ap (λ (x : PageWords). x .made) (page-other (currentIn S v a b) (current-not-free a b u w) (current-not-old a b u w f))
 
   made-later : (a b : ℕ) → a < S .ranges → b < S .columns → madeIn S v a b ≤ madeIn S v′ a b
-  made-later a b u w = by-cases (ℕ-discrete (chunkOf S a b) (chunkOf S g c))
-      (λ e. let q : (a ≡ g) × (b ≡ c) = same-part (S .columns) a g b c w (ok .column-in) e in rw (q .0, q .1) (omega (arith, now .made, m-is, made-here)))
-      (λ f. omega (arith, made-there a b u w f))
+  made-later = each-chunk (λ a b. madeIn S v a b ≤ madeIn S v′ a b) (omega (arith, now .made, m-is, made-here)) (λ a b u w f. omega (arith, made-there a b u w f))
 
   merge-waits : Step S h (merge g c n) h′ → WaitingAre S h′ v′
   merge-waits step = each-page (λ q. q < pagesOf S → T (waitingPage ((pageIn v′ q) .state)) → WaitingIs S h′ (madeIn S v′) (pageIn v′ q))
@@ -313,46 +285,20 @@ module _ (S : Shape) (v : View) (ps : List ScanEntry) (h : History) (o : Represe
   -- a test of a page's words, before and after: it changes at the two pages alone
   pool-change : (f : PageWords → Bool)
       → countBelow (λ q. f (pageIn v′ q)) (pagesOf S) + one (f (pageIn v p)) + one (f (pageIn v old)) ≡ countBelow (λ q. f (pageIn v q)) (pagesOf S) + one (f (pageIn v′ p)) + one (f (pageIn v′ old))
-  pool-change f =
-      let first : countBelow mid (pagesOf S) + one (f (pageIn v p)) ≡ countBelow (λ q. f (pageIn v q)) (pagesOf S) + one (mid p) =
-      below-change (λ q. f (pageIn v q)) mid (pagesOf S) p room (λ q b e. sym (mid-other q e)) in
-      let second : countBelow (λ q. f (pageIn v′ q)) (pagesOf S) + one (mid old) ≡ countBelow mid (pagesOf S) + one (f (pageIn v′ old)) =
-      below-change mid (λ q. f (pageIn v′ q)) (pagesOf S) old (now .inside) (λ q b e. mid-same q e (ℕ-discrete q p)) in
-      omega (arith, first, second, ap one mid-here, ap one (mid-other old old-not-free))
-    where
-      mid : ℕ → Bool
-      mid q = cond (eqb q p) (f (pageIn v′ q)) (f (pageIn v q))
-
-      mid-here : mid p ≡ f (pageIn v′ p)
-      mid-here = rw (is-equal p p refl)
-
-      mid-other : (q : ℕ) → q ≢ p → mid q ≡ f (pageIn v q)
-      mid-other q e = rw (eqb-other q p e)
-
-      mid-same : (q : ℕ) → q ≢ old → Dec (q ≡ p) → mid q ≡ f (pageIn v′ q)
-      mid-same q e (yes z) = rw (is-equal q p z)
-      mid-same q e (no z) = mid-other q z ∙ ap f (sym (page-other q z e))
+  pool-change f = below-pair (λ q. f (pageIn v q)) (λ q. f (pageIn v′ q)) (pagesOf S) p old room (now .inside) old-not-free (λ q y z. ap f (sym (page-other q y z)))
 
   merge-pool : PoolIs S (h .merges ++ new ∷ []) (pageIn v′)
   merge-pool =
       record {
-        current = omega (
-          arith,
-          pool-change (λ x. currentPage (x .state)),
-          o .pool .current,
-          ap (λ (x : PageWords). one (currentPage (x .state))) page-free,
-          ap (λ (x : PageWords). one (currentPage (x .state))) page-old,
-          ap (λ (w : ℕ). one (currentPage w)) free-state,
-          ap (λ (w : ℕ). one (currentPage w)) (now .state),
-        );
+        current = omega (arith, rw (page-free, page-old, free-state, now .state) at (pool-change (λ x. currentPage (x .state))), o .pool .current);
         waiting = λ q.
-            let F : PageWords → Bool = λ x. waitingPage (x .state) && q (x .replaced) in
-            let e1 : one (F (pageIn v p)) ≡ 0 = ap (λ (w : ℕ). one (waitingPage w && q ((pageIn v p) .replaced))) free-state in
-            let e2 : one (F (pageIn v old)) ≡ 0 = ap (λ (w : ℕ). one (waitingPage w && q ((pageIn v old) .replaced))) (now .state) in
-            let e3 : one (F (pageIn v′ p)) ≡ 0 = ap (λ (x : PageWords). one (F x)) page-free in
-            let e4 : one (F (pageIn v′ old)) ≡ one (q m) = ap (λ (x : PageWords). one (F x)) page-old in
-            let e5 : one (q (1 + length (h .merges))) ≡ one (q m) = ap (λ (w : ℕ). one (q w)) (omega (arith, m-is)) in
-            omega (arith, pool-change F, o .pool .waiting q, e1, e2, e3, e4, e5, from-snoc (λ i x. x .waiting && q i) 1 (h .merges) new);
+            let number : 1 + length (h .merges) ≡ m = omega (arith, m-is) in
+            omega (
+              arith,
+              rw (page-free, page-old, free-state, now .state) at (pool-change (λ x. waitingPage (x .state) && q (x .replaced))),
+              o .pool .waiting q,
+              rw number at (from-snoc (λ i x. x .waiting && q i) 1 (h .merges) new),
+            );
       }
 
   -- ---- the scans' pages
@@ -360,22 +306,22 @@ module _ (S : Shape) (v : View) (ps : List ScanEntry) (h : History) (o : Represe
   new-unfound b pl = unfound-state S v′ b pl p (omega (arith, ap (λ (z : PageWords). z .state) page-free))
 
   old-place : (pageIn v′ old) .chunk % chunksOf S ≡ chunkOf S g c
-  old-place = ap (λ (z : PageWords). z .chunk % chunksOf S) page-old ∙ ap (λ (i : ℕ). i % chunksOf S) (now .chunk) ∙ place-mod S (chunkOf S g c) (chunk-in S g c (ok .range-in) (ok .column-in))
+  old-place = ap (λ (z : PageWords). z .chunk % chunksOf S) page-old ∙ ap (λ (i : ℕ). i % chunksOf S) (now .chunk) ∙ mod-eq-of-lt (chunk-in S g c (ok .range-in) (ok .column-in))
 
   -- where the replaced page does not pass, the search is as it was
-  search-stays : (b a d : ℕ) → wasCurrent S v′ b (chunkOf S a d) old ≡ false → search S v′ b a d ≡ search S v b a d
+  search-stays : (b a d : ℕ) → wasCurrent S v′ b (chunkOf S a d) old ≡ false → searched S v′ b a d ≡ searched S v b a d
   search-stays b a d e = first-ext _ _ (pagesOf S) 0 (λ q _ _. each-page (λ q. wasCurrent S v′ b (chunkOf S a d) q ≡ wasCurrent S v b (chunkOf S a d) q)
       (new-unfound b (chunkOf S a d) ∙ sym (unfound-state S v b (chunkOf S a d) p (omega (arith, free-state))))
       (e ∙ sym (unfound-state S v b (chunkOf S a d) old (omega (arith, now .state))))
       (λ q z y. search-same S v v′ b (chunkOf S a d) q (page-other q z y)) q)
 
   -- the page was current when the scan was opened: the search finds it now
-  search-finds : (b : ℕ) → b ≤ length (h .merges) → (pageIn v old) .made ≤ b → search S v′ b g c ≡ old
+  search-finds : (b : ℕ) → b ≤ length (h .merges) → (pageIn v old) .made ≤ b → searched S v′ b g c ≡ old
   search-finds b early before =
       first-only (wasCurrent S v′ b (chunkOf S g c)) (pagesOf S) old (now .inside)
       (is-current S v′ b (chunkOf S g c) old
       record {
-        waits = lt→ltb 1 ((pageIn v′ old) .state) (omega (arith, ap (λ (z : PageWords). z .state) page-old));
+        waits = omega (arith, ap (λ (z : PageWords). z .state) page-old);
         place-is = old-place;
         before = omega (arith, ap (λ (z : PageWords). z .made) page-old);
         after = omega (arith, ap (λ (z : PageWords). z .replaced) page-old, m-is);
@@ -384,8 +330,8 @@ module _ (S : Shape) (v : View) (ps : List ScanEntry) (h : History) (o : Represe
       (λ _ t. absurd (rw (new-unfound b (chunkOf S g c)) at t))
       (λ _ _. refl)
       (λ q z y u t. let x : WasCurrent S b (chunkOf S g c) (pageIn v q) = was-current S v b (chunkOf S g c) q (rw (search-same S v v′ b (chunkOf S g c) q (page-other q z y)) at t) in
-      let w : WaitingIs S h (madeIn S v) (pageIn v q) = o .waits q u (x .waits) in
-      absurd (omega (arith, x .after, w .early g c (ok .range-in) (ok .column-in) (sym (place-mod S ((pageIn v q) .chunk) (w .chunk)) ∙ x .place-is)))))
+      let w : WaitingIs S h (madeIn S v) (pageIn v q) = o .waits q u (lt→ltb 1 _ (x .waits)) in
+      absurd (omega (arith, x .after, w .early g c (ok .range-in) (ok .column-in) (sym (mod-eq-of-lt (w .chunk)) ∙ x .place-is)))))
 
   -- the page of a scan of this place
   scan-here : (b : ℕ) → b ≤ length (h .merges) → Cases S v b g c → scanPage S v′ b g c ≡ scanPage S v b g c
@@ -397,9 +343,11 @@ module _ (S : Shape) (v : View) (ps : List ScanEntry) (h : History) (o : Represe
       found-page S v′ b g c (omega (arith, made-here, m-is)) (omega (arith, x .1)) ∙ z ∙ sym (found-page S v b g c (x .0) (x .1))
 
   pub scan-same : (b a d : ℕ) → a < S .ranges → d < S .columns → b ≤ length (h .merges) → (pageIn v (scanPage S v b a d)) .made ≤ b → scanPage S v′ b a d ≡ scanPage S v b a d
-  scan-same b a d u w early before = by-cases (ℕ-discrete (chunkOf S a d) (chunkOf S g c))
-      (λ e. let q : (a ≡ g) × (d ≡ c) = same-part (S .columns) a g d c w (ok .column-in) e in rw (q .0, q .1) (scan-here b early (rw (q .0, q .1) at (scan-cases S v b a d before))))
-      (λ f. scan-page-same S v v′ b a d (current-there a d f) (made-there a d u w f) (search-stays b a d (unfound S v′ b (chunkOf S a d) old (λ t. f (sym (sym old-place ∙ t .place-is))))))
+  scan-same b a d u w early = each-chunk (λ a d. (pageIn v (scanPage S v b a d)) .made ≤ b → scanPage S v′ b a d ≡ scanPage S v b a d)
+      (λ before. scan-here b early (scan-cases S v b g c before))
+      (λ a d u w f _. scan-page-same S v v′ b a d (current-there a d f) (made-there a d u w f)
+      (search-stays b a d (unfound S v′ b (chunkOf S a d) old (λ t. f (sym (sym old-place ∙ t .place-is))))))
+      a d u w
 
   -- a running scan's page is not the page taken
   pub scan-not-free : (b a d : ℕ) → a < S .ranges → d < S .columns → (pageIn v (scanPage S v b a d)) .made ≤ b → scanPage S v b a d ≢ p
@@ -408,9 +356,7 @@ module _ (S : Shape) (v : View) (ps : List ScanEntry) (h : History) (o : Represe
       go : Cases S v b a d → scanPage S v b a d ≢ p
       go (inl x) e = current-not-free a d u w (sym (scan-current S v b a d x) ∙ e)
       go (inr x) e =
-          not-free (search S v b a d)
-          (omega (arith, ltb→lt 1 ((pageIn v (search S v b a d)) .state) (search-is S v b a d (x .1) .waits)))
-          (sym (found-page S v b a d (x .0) (x .1)) ∙ e)
+          not-free (searched S v b a d) (omega (arith, search-is S v b a d (x .1) .waits)) (sym (found-page S v b a d (x .0) (x .1)) ∙ e)
 
   merge-scans : Step S h (merge g c n) h′ → ScanPagesAre S h′ v′
   unfolding scanAt withMerges Timely
@@ -423,8 +369,7 @@ module _ (S : Shape) (v : View) (ps : List ScanEntry) (h : History) (o : Represe
       kept : (s : Scan) (a d q : ℕ) → q ≢ p → ScanPageIs S h′ s a d q (pageIn v q) (cellIn v q) → ScanPageIs S h′ s a d q (pageIn v′ q) (cellIn v′ q)
       kept s a d = each-page (λ q. q ≢ p → ScanPageIs S h′ s a d q (pageIn v q) (cellIn v q) → ScanPageIs S h′ s a d q (pageIn v′ q) (cellIn v′ q))
           (λ f. absurd (f refl))
-          (λ f y. rw page-old
-          record { inside = y .inside; early = y .early; chunk = y .chunk; made = y .made; holds = holds-words refl refl (holds-cells (λ r e t. cells-other old (within r) f (omega arith)) (y .holds)) })
+          (λ f y. rw page-old (search (scan-cells {cell′ = cellIn v′ old} (λ r e t. cells-other old (within r) f (omega arith)) y)))
           (λ q f z _ y. rw (page-other q f z) (scan-cells (λ r e t. cells-other q (within r) f (omega arith)) y))
 
   -- ---- the whole
@@ -438,14 +383,14 @@ module _ (S : Shape) (v : View) (ps : List ScanEntry) (h : History) (o : Represe
       (put-whole Current (chunkOf S g c) p (omega (arith, room))
       (put-whole PageReplaced old m fit
       (put-whole PageState old asWaiting (omega arith)
-      (put-whole PageNewest p late (newest-fit S v h g c p low (ok .column-in) (o .tails g (ok .range-in)) ((pageIn v old) .newest) newest-fits (o .whole .fits TailStamp) (n - low))
+      (put-whole PageNewest p late (newest-fit o ok p low ((pageIn v old) .newest) newest-fits (o .whole .fits TailStamp) (n - low))
       (put-whole PageLineage p n (omega (arith, k .past .limits .records g, k .small .capacity))
       (put-whole PageMade p m fit
       (put-whole PageChunk p (chunkOf S g c) spot
       (put-whole PageState p asCurrent (omega arith)
       (renew-whole Cells (applied S v g c p low (n - low) copy)
-      (applied-length S v h g c p low (ok .column-in) (o .tails g (ok .range-in)) (n - low) copy ∙ changed-length (λ i x. getD (v Cells) (old * rangeRows + i) 0) (p * rangeRows) (v Cells) rangeRows ∙ o .whole .long Cells)
-      (applied-fit S v h g c p low (ok .column-in) (o .tails g (ok .range-in)) (o .whole .fits TailValues) (n - low) copy
+      (applied-length o ok p low (n - low) copy ∙ changed-length (λ i x. getD (v Cells) (old * rangeRows + i) 0) (p * rangeRows) (v Cells) rangeRows ∙ o .whole .long Cells)
+      (applied-fit o ok p low (o .whole .fits TailValues) (n - low) copy
       (changed-fit (λ i x. getD (v Cells) (old * rangeRows + i) 0) (p * rangeRows) rangeRows (v Cells) (λ i x _ _. o .whole .fits Cells (old * rangeRows + i)) (o .whole .fits Cells)))
       (o .whole))))))))))
     where
@@ -455,16 +400,5 @@ module _ (S : Shape) (v : View) (ps : List ScanEntry) (h : History) (o : Represe
   pub merge-kept : Step S h (merge g c n) h′ → Represents S (mergedIn S g c n v) ps h′
   unfolding withMerges stateOf rowAt recordsOf mergedIn put renew rowIn recordIn valueIn
   merge-kept step =
-      record {
-        header = header-same refl refl refl (m-is ∙ sym more-merges) (header-put (v Header) 8 m (omega (arith, o .whole .long Header)) (omega arith) (o .header));
-        opens = o .opens;
-        notes = o .notes;
-        rows = o .rows;
-        tails = o .tails;
-        currents = merge-currents step;
-        waits = merge-waits step;
-        pool = merge-pool;
-        scans = o .scans;
-        scanPages = merge-scans step;
-        whole = merge-whole;
-      }
+      let header : HeaderFor S h′ v′ = header-same refl refl refl (m-is ∙ sym more-merges) (header-put (v Header) 8 m (omega (arith, o .whole .long Header)) (omega arith) (o .header)) in
+      search (header, merge-currents step, merge-waits step, merge-pool, merge-scans step, merge-whole)

@@ -1,9 +1,9 @@
 -- The changes noted of the open transactions: a row or record more is noted in its transaction's place alone, and the count cannot go round.
-use mathlib.Core.Path.{_≡_}
+use mathlib.Core.Path.{_≡_, sym}
 use mathlib.Core.Logic.{_≢_}
 use mathlib.Core.Bool.{true, false, cond}
-use mathlib.Core.List.{List, [], _∷_}
-use Prim.Native.Nat.{ℕ, zero, suc, _+_, _*_, _^_, _≤_, _<_, zero-le}
+use mathlib.Core.List.{List, _∷_}
+use Prim.Native.Nat.{ℕ, _+_, _*_, _^_, _≤_, _<_, zero-le}
 use native.Mathlib.Omega.{arith}
 use native.Mathlib.Nat.{le-refl, mul-le-mul}
 use native.Mathlib.Decide.{ℕ-discrete}
@@ -13,13 +13,14 @@ use lib.Seq.{getD-set-same, getD-set-other}
 use Rattle.terms.specs.Measures.{Shape, mostRanges, mostRecords, mostTransactions}
 use Rattle.history.specs.History.{History, Row, Record, State, unknown, active, nth, keep, rangeOf, recordsOf}
 use Rattle.history.specs.Lists.{All, nil, cons}
-use Rattle.history.proofs.Lists.{clash, by-cases, all-map, eqb-same}
+use Rattle.history.proofs.Lists.{by-cases, all-map, eqb-same}
 use Rattle.history.proofs.Merges.{sum-more, sum-most}
 use Rattle.history.specs.Invariants.{sumBelow}
 use Rattle.terms.specs.Places.{bears, firstIndex}
 use Rattle.model.specs.Stored.{nextWord}
 use Rattle.model.specs.Represents.{OpensAre, Unchanged, NotedIs, NotesAre, Known}
-use Rattle.model.proofs.Transactions.{open-there, other-place}
+use Rattle.model.proofs.Transactions.{openKind, open-there}
+use Rattle.model.proofs.Book.{only-place}
 
 -- ---- all tail records together
 abbrev ofRange : ℕ → List Record → List Record
@@ -49,13 +50,6 @@ few-changes {S} {h} k =
     let a : S .ranges * S .capacity ≤ mostRanges * mostRecords = mul-le-mul (k .small .ranges) (k .small .capacity) in
     omega (arith, k .past .limits .rows, tail-bound k, k .small .ranges)
 
--- an active transaction's number is among those given
-pub active-given : (ts : List State) (t : ℕ) → nth ts t unknown ≡ active → t ≤ length ts
-active-given ts zero a = zero-le
-active-given [] (suc t) a = clash (cc)
-active-given (x ∷ ts) (suc zero) a = omega arith
-active-given (x ∷ ts) (suc (suc t)) a = omega (arith, active-given ts (suc t) a)
-
 -- ---- one note more
 module _ (rows rows′ : List Row) (tail tail′ : List Record) (ts : List State) (l notes : List ℕ) (t : ℕ) (size : length l ≡ mostTransactions)
     (size′ : length notes ≡ mostTransactions) (few : length rows + length tail < 2 ^ 31) (more : length rows + length tail < length rows′ + length tail′)
@@ -71,4 +65,4 @@ module _ (rows rows′ : List Row) (tail tail′ : List Record) (ts : List State
       rw (e, getD-set-same notes own (nextWord (getD notes own 0)) 0 (omega (arith, open-there ts l o t a .0)))
       record { bound = omega arith; none = λ z. absurd (omega arith) })
       (λ f. rw (getD-set-other notes own j (nextWord (getD notes own 0)) 0 f)
-      record { bound = omega (arith, old .bound); none = λ z. others (getD l j 0) (λ e. other-place ts l o t a j (omega arith) u f e) (old .none z) })
+      record { bound = omega (arith, old .bound); none = λ z. others (getD l j 0) (λ e. f (sym (rw e at (only-place openKind ts l o j u)))) (old .none z) })

@@ -40,7 +40,7 @@ pub record SamePage (S : Shape) (v w : View) (m n g c : ℕ) : Type 0 where
 unmoved : (S : Shape) (v : View) (m n g c : ℕ) → SamePage S v v m n g c
 unmoved S v m n g c = record { page = refl; cells = λ r b e. refl }
 
-module _ (S : Shape) (v : View) (ps : List ScanEntry) (h : History) (o : Represents S v ps h) (k : Known S h) (i : ℕ) (run : T (scanAt h i .running)) (g c : ℕ) (bg : g < S .ranges) (bc : c < S .columns) where
+module _ {S : Shape} {v : View} {ps : List ScanEntry} {h : History} (o : Represents S v ps h) (k : Known S h) (i : ℕ) (run : T (scanAt h i .running)) (g c : ℕ) (bg : g < S .ranges) (bc : c < S .columns) where
   abbrev Same : View → Type 0
   Same w = SamePage S v w (scanAt h i .before) (length (h .rows)) g c
 
@@ -62,8 +62,8 @@ module _ (S : Shape) (v : View) (ps : List ScanEntry) (h : History) (o : Represe
       at-row = unfold insertedAt noted openIndex put renew scanPage wasCurrent currentIn pageIn cellIn in
           record {
             page = refl;
-            cells = λ r u e. cell-kept S v ps h o k t vs (is-active h t a) room (y .1) q (within r) (omega arith)
-                (scan-apart S v ps h o k t vs (is-active h t a) room (y .1) g c q bc (page .chunk) r e (λ z. omega arith));
+            cells = λ r u e. cell-kept o k t vs (is-active h t a) room (y .1) q (within r) (omega arith)
+                (scan-apart o k t vs (is-active h t a) room (y .1) g c q bc (page .chunk) r e (λ z. omega arith));
           }
 
   update-same : (t r n : ℕ) (vs : List ℤ) → Same (updatedIn S t r n vs v)
@@ -76,8 +76,8 @@ module _ (S : Shape) (v : View) (ps : List ScanEntry) (h : History) (o : Represe
   merge-same : (a d n : ℕ) → Mergeable S h a d n → Same (mergedIn S a d n v)
   merge-same a d n ok =
       record {
-        page = scan-same S v ps h o k a d n ok (scanAt h i .before) g c bg bc (page .early) (page .made);
-        cells = λ r b e. cells-other S v ps h o k a d n ok q (within r) (scan-not-free S v ps h o k a d n ok (scanAt h i .before) g c bg bc (page .made)) (omega arith);
+        page = scan-same o k ok (scanAt h i .before) g c bg bc (page .early) (page .made);
+        cells = λ r b e. cells-other o k ok q (within r) (scan-not-free o k ok (scanAt h i .before) g c bg bc (page .made)) (omega arith);
       }
 
   act-same : (x : Call) → Typed x → Passed (tests S h x) → Same (actIn S v ps x)
@@ -96,13 +96,13 @@ module _ (S : Shape) (v : View) (ps : List ScanEntry) (h : History) (o : Represe
   act-same (sum j x) y p = unmoved S v _ _ g c
   act-same (close j) y p = unmoved S v _ _ g c
   act-same (merge a d n) y p = merge-same a d n (mergeable S h a d n p)
-  act-same release y p = record { page = scan-page-kept S v ps h o k i g c run; cells = λ r b e. (unfold releasedIn renew cellIn in refl) }
+  act-same release y p = record { page = scan-page-kept o k i g c run; cells = λ r b e. (unfold releasedIn renew cellIn in refl) }
   act-same (pageCell x r) y p = unmoved S v _ _ g c
   act-same (lineage a x) y p = unmoved S v _ _ g c
 
   pub next-same : (x : Call) → Typed x → Same (viewNext S v ps x)
   unfolding viewNext
-  next-same x y = rw (agree-verdict (tests-agree S v ps h o k x)) (go (verdict (tests S h x)) refl)
+  next-same x y = rw (agree-verdict (tests-agree o k x)) (go (verdict (tests S h x)) refl)
     where
       go : (w : Verdict) → verdict (tests S h x) ≡ w → Same (viewIf w v (actIn S v ps x))
       go accept e = unfold viewIf in (act-same x y (passed (tests S h x) e))
@@ -127,18 +127,18 @@ scan-later S h (x ∷ cs) i b t =
     let e = scan-later S (next S h x) cs i (le-trans b (grown s .scans)) t in
     e ∙ scan-before s i b (rw e at t)
 
-pub same-after : (S : Shape) (v : View) (ps : List ScanEntry) (h : History) → Represents S v ps h → Known S h → (i : ℕ) → i ≤ length (h .scans) → {cs : List Call} → All Typed cs → T (scanAt (run S h cs) i .running)
+pub same-after : {S : Shape} {v : View} {ps : List ScanEntry} {h : History} → Represents S v ps h → Known S h → (i : ℕ) → i ≤ length (h .scans) → {cs : List Call} → All Typed cs → T (scanAt (run S h cs) i .running)
     → (g c : ℕ) → g < S .ranges → c < S .columns → SamePage S v (viewAfter S v ps cs) (scanAt h i .before) (length (h .rows)) g c
 unfolding run viewAfter
-same-after S v ps h o k i b nil t g c bg bc = unmoved S v _ _ g c
-same-after S v ps h o k i b (cons {x = x} {l = cs} y ys) t g c bg bc =
+same-after {S} {v} {ps} {h} o k i b nil t g c bg bc = unmoved S v _ _ g c
+same-after {S} {v} {ps} {h} o k i b (cons {x = x} {l = cs} y ys) t g c bg bc =
     let s = next-step S h x in
     let one = one-call S v ps h x y o k in
     let later : T (scanAt (next S h x) i .running) = rw (scan-later S (next S h x) cs i (le-trans b (grown s .scans)) t) at t in
     let e : scanAt (next S h x) i ≡ scanAt h i = scan-before s i b later in
-    let first : SamePage S v (viewNext S v ps x) (scanAt h i .before) (length (h .rows)) g c = next-same S v ps h o k i (rw e at later) g c bg bc x y in
+    let first : SamePage S v (viewNext S v ps x) (scanAt h i .before) (length (h .rows)) g c = next-same o k i (rw e at later) g c bg bc x y in
     let rest : SamePage S (viewNext S v ps x) (viewAfter S (viewNext S v ps x) (entriesNext S v ps x) cs) (scanAt h i .before) (length ((next S h x) .rows)) g c =
-    rw e at (same-after S (viewNext S v ps x) (entriesNext S v ps x) (next S h x) (one .shown) (one .known) i (le-trans b (grown s .scans)) ys t g c bg bc) in
+    rw e at (same-after (one .shown) (one .known) i (le-trans b (grown s .scans)) ys t g c bg bc) in
     record {
       page = rest .page ∙ first .page;
       cells = λ r u f. (rw (first .page) at (rest .cells r (le-trans u (grown s .rows)) f)) ∙ first .cells r u f;

@@ -1,21 +1,22 @@
 -- The read: the page's cell, the records above its lineage, and those below where it must be, give the value that the history reads.
 use mathlib.Core.Path.{_≡_, refl, sym, _∙_, ap}
-use mathlib.Core.Bool.{Bool, true, false, cond, _&&_, _||_, and-false, and-true, or-false}
+use mathlib.Core.Bool.{Bool, true, false, cond, _&&_, _||_, and-false, and-true, or-false, true≢false}
 use mathlib.Core.List.{List}
 use Prim.Native.Nat.{ℕ, zero, suc, _+_, _*_, _≤_, _<_, zero-le}
 use native.Mathlib.Omega.{arith}
 use native.Mathlib.Nat.{le-refl, le-trans, not-suc-le-zero}
 use native.Mathlib.Decide.{ℕ-discrete}
-use lib.Dec.{T, leb, eqb, eqb→eq, leb→le, le→leb}
+use lib.Dec.{T, leb, eqb, eqb→eq, leb→le}
 use lib.ListN.{length, getD, take}
 use lib.Seq.{take-length}
 use lib.IntN.{ℤ, pos}
+use borrow.Author.Tests.{le-leb, lt-leb}
 use mir.Syntax.{w32}
 use mir.Val.{toZ}
 use Rattle.terms.specs.Measures.{Shape}
 use Rattle.terms.specs.declared.Answer.{Answer}
 use Rattle.history.specs.History.{History, Record, Version, State, aborted, committed, Content, original, setting, ending, any, isCommitted, stateOf, bit, sets, newValue, insertedValue, inserted, versionIn, lastSetting, rangeOf, recordsOf, visible, versionOf, read, cellThrough}
-use Rattle.history.proofs.Lists.{by-test, parts, all-map₂, is-true, refuted, any-none, all-take, not-any}
+use Rattle.history.proofs.Lists.{by-test, parts, all-map₂, any-none, all-take, not-any}
 use Rattle.history.specs.Records.{among, isOriginal, wasSet, hasOriginal, noRecord, lastOf}
 use Rattle.history.specs.Latest.{stampOf}
 use Rattle.history.specs.Invariants.{isClosed, InOrder}
@@ -29,7 +30,7 @@ use Rattle.model.specs.declared.Reader.{Reader}
 use Rattle.model.specs.declared.Walk.{Walk}
 use Rattle.model.specs.Stored.{PageWords, rowIn, recordIn, valueIn, pageIn, cellIn, within, originalKind, settingKind}
 use Rattle.model.specs.Reading.{sees, answersFor, walk, orElse, belowLineage, wordIn, readIn}
-use Rattle.model.proofs.Lists.{true-false, take-next}
+use Rattle.model.proofs.Lists.{take-next}
 use Rattle.model.specs.Represents.{stateWord, ContentIs, RecordIs, TailOf, Holds, Represents, Known}
 use Rattle.model.proofs.Heads.{slot-is, in-range, SeesAs, visible-is}
 
@@ -62,7 +63,7 @@ last-le l r n = go (lastOf l r n) refl
 
 -- ---- the walk
 -- `at` is what is read of the slot found, `of` the same of the version that the history finds: they agree on each seen setting of row and column, and on its original.
-module _ (S : Shape) (v : View) (h : History) (i : InOrder h) (g r c : ℕ) (who : Reader) (f : ℕ → Bool) (w : SeesAs h who f) (here : rangeOf r ≡ g)
+module _ (S : Shape) (v : View) (h : History) (i : InOrder h) (g r c : ℕ) (who : Reader) (f : ℕ → Bool) (w : SeesAs h who f)
     (o : TailOf S (stateOf h) (recordsOf h g) v g) {A : Type 0} (at : ℕ → A) (of : Version → A) where
   abbrev recs : List Record
   recs = recordsOf h g
@@ -81,7 +82,7 @@ module _ (S : Shape) (v : View) (h : History) (i : InOrder h) (g r c : ℕ) (who
   walk-stop : (low n k : ℕ) → k ≤ low → step low n k ≡ Walk.Stopped (record { 0 = k })
   unfolding walk
   walk-stop low zero k b = refl
-  walk-stop low (suc n) k b = rw (is-true (leb k low) (le→leb k low b))
+  walk-stop low (suc n) k b = rw (le-leb k low b)
 
   module _ (setting-at : (k : ℕ) → OfRow (λ x. sets c (x .content) && f (x .transaction)) k → at (g * S .capacity + k) ≡ of (versionIn c (getD recs k noRecord)))
       (original-at : (k : ℕ) → OfRow (λ x. isOriginal c (x .content)) k → at (g * S .capacity + k) ≡ of (inserted h r c)) where
@@ -92,7 +93,7 @@ module _ (S : Shape) (v : View) (h : History) (i : InOrder h) (g r c : ℕ) (who
     unfolding walk answersFor SeesAs
     walk-go low n k rest b u e =
         let x : RecordIs (S .columns) (stateOf h) (getD recs k noRecord) (recordIn v (g * S .capacity + k)) (valueIn S v (g * S .capacity + k)) = o .each k u in
-        rw (refuted (leb (suc k) low) (λ z. omega (arith, leb→le (suc k) low z)), slot-is S g k, x .state, x .stamp, x .transaction, w ((getD recs k noRecord) .transaction), o .links k u, e, found-or)
+        rw (lt-leb (suc k) low (omega arith), slot-is S g k, x .state, x .stamp, x .transaction, w ((getD recs k noRecord) .transaction), o .links k u, e, found-or)
         (record-answers (S .columns) c ((getD recs k noRecord) .content) _ _ _ (f ((getD recs k noRecord) .transaction)) _ _ _ _ (x .content)
         (λ q. setting-at k (u, e, q)) (λ q. original-at k (u, e, q)))
 
@@ -145,7 +146,7 @@ module _ (S : Shape) (v : View) (h : History) (i : InOrder h) (g r c : ℕ) (who
             at-record fuel (omega (arith, q)) before (eqb (x .row) r) refl d ∙ ap of (sym (last-next f r c (inserted h r c) recs n noRecord b))
 
 -- ---- the value of a record
-setting-value : (C c : ℕ) → c < C → (y : Content) (kind mask : ℕ) (value : ℕ → ℕ) → ContentIs C y kind mask value → T (sets c y) → toZ w32 (value c) ≡ newValue c y
+pub setting-value : (C c : ℕ) → c < C → (y : Content) (kind mask : ℕ) (value : ℕ → ℕ) → ContentIs C y kind mask value → T (sets c y) → toZ w32 (value c) ≡ newValue c y
 unfolding sets newValue
 setting-value C c d (setting m vs) kind mask value o t = o .2 c d t
 
@@ -163,14 +164,14 @@ page-seen h who n f w b k p u = go (stateOf h k) p u ∙ w k
   where
     go : (s : State) → T (isClosed s) → ((a : ℕ) → s ≡ committed a → a ≤ n) → isCommitted s ≡ sees who (stateWord s) (stampOf s) k
     go aborted p u = refl
-    go (committed s) p u = sym (or-false (leb s (who .stamp .0)) ∙ is-true (leb s (who .stamp .0)) (le→leb s (who .stamp .0) (le-trans (u s refl) b)))
+    go (committed s) p u = sym (or-false (leb s (who .stamp .0)) ∙ le-leb s (who .stamp .0) (le-trans (u s refl) b))
 
 pub unset-take : (l : List Record) (r c n : ℕ) → wasSet l r c ≡ false → wasSet (take n l) r c ≡ false
 unfolding wasSet
 unset-take l r c n e =
     any-none (λ (x : Record). eqb (x .row) r && sets c (x .content)) (all-take n (not-any (λ (x : Record). eqb (x .row) r && sets c (x .content)) l (rw e tt)))
 
-module _ (S : Shape) (v : View) (ps : List ScanEntry) (h : History) (o : Represents S v ps h) (k : Known S h) (who : Reader) (f : ℕ → Bool) (w : SeesAs h who f) (r : ℕ)
+module _ {S : Shape} {v : View} {ps : List ScanEntry} {h : History} (o : Represents S v ps h) (k : Known S h) (who : Reader) (f : ℕ → Bool) (w : SeesAs h who f) (r : ℕ)
     (b : r < length (h .rows)) (c : ℕ) (inside : c < S .columns) (p : ℕ) (Q : ℕ → Type 0) (held : Holds h (rangeOf r) c Q (pageIn v p) (cellIn v p)) where
   abbrev g : ℕ
   g = rangeOf r
@@ -198,7 +199,7 @@ module _ (S : Shape) (v : View) (ps : List ScanEntry) (h : History) (o : Represe
       → toZ w32 (orElse (walk S v who g c low (lastOf list r n) (lastOf list r n)) (λ i. valueIn S v i c) rest) ≡ lastSetting f r c (inserted h r c) (take n list) .value
   walk-value low rest n a d z =
       or-map (toZ w32) (walk S v who g c low (lastOf list r n) (lastOf list r n)) (λ i. valueIn S v i c) rest
-      ∙ walk-is S v h (k .past .order) g r c who f w refl lok (λ i. toZ w32 (valueIn S v i c)) (λ y. y .value)
+      ∙ walk-is S v h (k .past .order) g r c who f w lok (λ i. toZ w32 (valueIn S v i c)) (λ y. y .value)
       (λ i u. setting-value (S .columns) c inside _ _ _ _ (lok .each i (u .0) .content) (parts (sets c ((getD list i noRecord) .content)) _ (u .2) .0) ∙ (unfold versionIn in refl))
       (λ i u. original-value (S .columns) c inside (insertedValue h r c) _ _ _ _ (lok .each i (u .0) .content) (original-there i (u .0) (u .1)) (u .2) ∙ (unfold inserted in refl))
       low (λ j. toZ w32 (rest j)) n (lastOf list r n) a d (le-refl _) z
@@ -226,7 +227,7 @@ module _ (S : Shape) (v : View) (ps : List ScanEntry) (h : History) (o : Represe
       ≡ lastSetting f r c (inserted h r c) (take (page .lineage) list) .value) (leb (page .newest) (who .stamp .0))
       (λ n. cell-seen q (leb→le (page .newest) (who .stamp .0) n))
       (λ _. walk-value 0 (λ j. cell) (page .lineage) zero-le (held .through .within)
-      (λ z. absurd (true-false (sym all-there ∙ z ∙ none-below))))
+      (λ z. absurd (true≢false (sym all-there ∙ z ∙ none-below))))
     where
       all-there : hasOriginal (take (page .lineage) list) r c ≡ true
       all-there = sym e ∙ ap (λ (l : List Record). hasOriginal l r c) (take-length list) ∙ has-original s
@@ -242,16 +243,14 @@ module _ (S : Shape) (v : View) (ps : List ScanEntry) (h : History) (o : Represe
           → toZ w32 (cond a (orElse (walk S v who g c (page .lineage) ((rowIn v r) .link) ((rowIn v r) .link)) (λ i. valueIn S v i c) (belowLineage S v who g c page cell)) cell)
           ≡ lastSetting f r c (inserted h r c) list .value
       go true e =
-          ap (λ (l : ℕ). toZ w32 (orElse (walk S v who g c (page .lineage) l l) (λ i. valueIn S v i c) (belowLineage S v who g c page cell))) (o .rows r b .link)
-          ∙ walk-value (page .lineage) (belowLineage S v who g c page cell) (length list) (held .through .within) (le-refl _)
-          (at-lineage q (sym e))
-          ∙ ap (λ (l : List Record). lastSetting f r c (inserted h r c) l .value) (take-length list)
+          rw (o .rows r b .link)
+          (rw take-length at (walk-value (page .lineage) (belowLineage S v who g c page cell) (length list) (held .through .within) (le-refl _) (at-lineage q (sym e))))
       go false e =
           cell-is q
           ∙ ap (λ (y : Version). y .value) (last-unset _ r c (inserted h r c) (take (page .lineage) list) (unset-take list r c (page .lineage) (sym e)) ∙ sym (last-unset f r c (inserted h r c) list (sym e)))
 
   pub read-is : (T (visible f h r) → Q r) → readIn S v who p r c ≡ read f h r c
   unfolding readIn read
-  read-is q = rw (visible-is S v ps h o k r b who f w)
+  read-is q = rw (visible-is o k r b who f w)
       (by-test (λ a. cond a (Answer.Value (toZ w32 (wordIn S v who p r c))) Answer.None ≡ cond a (Answer.Value (versionOf f h r c .value)) Answer.None) (visible f h r)
       (λ z. ap Answer.Value (word-is (q z))) (λ _. refl))

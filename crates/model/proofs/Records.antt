@@ -11,11 +11,12 @@ use native.Mathlib.Decide.{ℕ-discrete}
 use lib.Dec.{eqb, eqb→eq}
 use lib.ListN.{length, getD, set, length-append}
 use lib.Seq.{getD-append-seam, getD-append-add}
+use borrow.Author.Tests.{ne-eqb}
 use Rattle.terms.specs.Measures.{Shape}
 use Rattle.history.specs.History.{delete, History, Record, active, Content, ending, stateOf, rowAt, bit, sets, rangeOf, recordsOf, scanAt, deleteRecords, withTail}
 use Rattle.history.specs.Latest.{stampOf}
 use Rattle.history.specs.Lists.{All, nil}
-use Rattle.history.proofs.Lists.{by-cases, eqb-same, all-map, all-at, all-append, any-append, eqb-other, by-test}
+use Rattle.history.proofs.Lists.{by-cases, eqb-same, all-map, all-at, all-append, any-append, by-test}
 use Rattle.history.proofs.Steps.{New}
 use Rattle.history.specs.Steps.{Step}
 use Rattle.history.specs.Records.{wasSet, noRecord, lastOf}
@@ -30,9 +31,10 @@ use Rattle.layout.specs.Codes.{asOpen, asDelete}
 use Rattle.model.specs.Reading.{scanPage, wasCurrent}
 use Rattle.model.specs.Writing.{noted, nextSlot, appended, filledIn, deletedIn}
 use Rattle.model.specs.Represents.{stateWord, RowIs, RowsAre, ContentIs, RecordIs, TailsFor, TailsAre, NotesAre, Represents, Known, Whole}
-use Rattle.model.proofs.Steady.{currents-stay, waits-stay, scan-stays}
-use Rattle.model.proofs.Views.{put-whole}
-use Rattle.model.proofs.Notes.{notes-more, few-changes, active-given}
+use Rattle.model.proofs.Steady.{pages-stay}
+use Rattle.model.proofs.Views.{noted-whole}
+use Rattle.model.proofs.Notes.{notes-more, few-changes}
+use Rattle.model.proofs.Transactions.{active-given}
 use Rattle.model.proofs.Insert.{never-set}
 use Rattle.model.proofs.Heads.{in-range}
 use Rattle.model.proofs.Append.{tails-more, appended-here, appended-there, used-here, used-there, link-here, link-there, appended-whole, slot-next, slot-in, filled-here, filled-there, content-values, filled-whole}
@@ -46,7 +48,7 @@ last-of-others l m r zero b a =
     ap (lastOf (l ++ m) r) e ∙ last-of-append l m r (length l) (le-refl _)
 last-of-others l m r (suc n) b a =
     let e : length l + suc n ≡ suc (length l + n) = omega arith in
-    rw (e, getD-append-add l m n noRecord, eqb-other ((getD m n noRecord) .row) r (all-at a n noRecord b)) (last-of-others l m r n (omega arith) a)
+    rw (e, getD-append-add l m n noRecord, ne-eqb ((getD m n noRecord) .row) r (all-at a n noRecord b)) (last-of-others l m r n (omega arith) a)
 
 pub last-of-new : (l : List Record) (y : Record) → lastOf (l ++ y ∷ []) (y .row) (length (l ++ y ∷ [])) ≡ suc (length l)
 unfolding lastOf
@@ -75,14 +77,10 @@ set-append : (l m : List Record) (r c : ℕ) → wasSet (l ++ m) r c ≡ (wasSet
 unfolding wasSet
 set-append l m r c = any-append (λ x. eqb (x .row) r && sets c (x .content)) l m
 
-module _ (S : Shape) (v : View) (ps : List ScanEntry) (h : History) (o : Represents S v ps h) (k : Known S h) (t r : ℕ) (a : stateOf h t ≡ active) (b : r < length (h .rows)) (ms : List Record)
+module _ {S : Shape} {v : View} {ps : List ScanEntry} {h : History} (o : Represents S v ps h) (k : Known S h) {t r : ℕ} (a : stateOf h t ≡ active) (b : r < length (h .rows)) {ms : List Record}
     (new : All (New h t r) ms) where
   abbrev h′ : History
   h′ = withTail h (h .tail ++ ms)
-
-  pub tails-are : (x : View) → TailsFor S (stateOf h) (withMade h r ms) x → TailsAre S h′ x
-  unfolding stateOf withTail
-  tails-are x f g u = rw (records-made h g new) (f g u)
 
   row-other : (i : ℕ) (x : RowWords) → i ≢ r → RowIs (stateOf h) (rowAt h i) (recordsOf h (rangeOf i)) i x → RowIs (stateOf h) (rowAt h i) (recordsOf h′ (rangeOf i)) i x
   row-other i x n p =
@@ -116,27 +114,25 @@ module _ (S : Shape) (v : View) (ps : List ScanEntry) (h : History) (o : Represe
       })
       (λ n. rw (other i n, E .rows i, E .others i n) (row-other i _ n (unfold rowIn in (o .rows i u))))
 
-  pub made-notes : 0 < length ms → NotesAre (h .rows) (h .tail ++ ms) (v Opens) (set (v Changes) (firstIndex (bears t) (v Opens)) (nextWord (getD (v Changes) (firstIndex (bears t) (v Opens)) 0)))
-  unfolding stateOf
-  made-notes some =
-      notes-more (h .rows) (h .rows) (h .tail) (h .tail ++ ms) (h .transactions) (v Opens) (v Changes) t (o .whole .long Opens) (o .whole .long Changes) (few-changes k)
-      (simp length-append (omega arith))
-      (λ u f n. record { no-row = n .no-row; no-record = all-append (n .no-record) (all-map (λ x p e. f (sym e ∙ p .transaction)) new) })
-      (o .opens) a (o .notes)
-
-pub small-shape : {S : Shape} {h : History} → Known S h → S .capacity < 2 ^ 31
-small-shape k = omega (arith, k .small .capacity)
-
-pub row-fits : {S : Shape} {h : History} → Known S h → (r : ℕ) → r < length (h .rows) → r < 2 ^ 31
-row-fits k r b = omega (arith, k .past .limits .rows, k .small .ranges)
+  -- the call is noted, and the tails hold its records
+  pub made-parts : {u : View} → Extended S h v r ms u → 0 < length ms
+      → NotesAre (h .rows) (h .tail ++ ms) (v Opens) (set (v Changes) (firstIndex (bears t) (v Opens)) (nextWord (getD (v Changes) (firstIndex (bears t) (v Opens)) 0))) × TailsAre S h′ u
+  unfolding stateOf withTail
+  made-parts E some = (
+    notes-more (h .rows) (h .rows) (h .tail) (h .tail ++ ms) (h .transactions) (v Opens) (v Changes) t (o .whole .long Opens) (o .whole .long Changes) (few-changes k)
+        (simp length-append (omega arith))
+        (λ u f n. record { no-row = n .no-row; no-record = all-append (n .no-record) (all-map (λ x p e. f (sym e ∙ p .transaction)) new) })
+        (o .opens) a (o .notes),
+    λ g u. rw (records-made h g new) (E .tails g u),
+  )
 
 pub number-fits : {S : Shape} {h : History} → Known S h → (t : ℕ) → stateOf h t ≡ active → t < 2 ^ 31
 unfolding stateOf
-number-fits {h = h} k t a = omega (arith, active-given (h .transactions) t a, k .past .limits .transactions)
+number-fits {h = h} k t a = omega (arith, active-given (h .transactions) t a .1, k .past .limits .transactions)
 
-pub none-made : (S : Shape) (v : View) (ps : List ScanEntry) (h : History) → Represents S v ps h → (r : ℕ) → r < length (h .rows) → Extended S h v r [] v
+pub none-made : {S : Shape} {v : View} {ps : List ScanEntry} {h : History} → Represents S v ps h → (r : ℕ) → r < length (h .rows) → Extended S h v r [] v
 unfolding rowIn
-none-made S v ps h o r b = record {
+none-made {S} {v} {ps} {h} o r b = record {
   whole = o .whole;
   tails = λ g u. rw (elim (eqb (rangeOf r) g) as (λ q. recordsOf h g ++ cond q [] [] ≡ recordsOf h g) [ true ↦ append-nil (recordsOf h g) | false ↦ append-nil (recordsOf h g) ]) (o .tails g u);
   link = rw (append-nil (recordsOf h (rangeOf r))) (o .rows r b .link);
@@ -180,7 +176,7 @@ module _ {S : Shape} {h : History} {v : View} {r : ℕ} {ms : List Record} {u : 
   room-in = omega (arith, used-is, made-room)
 
   appended-fits : Whole S (appended S t r kind mask u)
-  appended-fits = appended-whole S t r kind mask u (E .whole) inside room-in (omega (arith, number-fits k t a)) (omega (arith, row-fits k r b)) kind-fits mask-fits (small-shape k)
+  appended-fits = appended-whole (E .whole) t r kind mask inside room-in (omega (arith, number-fits k t a)) (omega (arith, k .past .limits .rows, k .small .ranges)) kind-fits mask-fits (omega (arith, k .small .capacity))
 
   -- the record's words
   abbrev end : ℕ
@@ -190,10 +186,10 @@ module _ {S : Shape} {h : History} {v : View} {r : ℕ} {ms : List Record} {u : 
   end-is = ap (λ (i : ℕ). rangeOf r * S .capacity + i) used-is
 
   here : recordIn (appended S t r kind mask u) end ≡ record { transaction = t; row = r; kind = kind; mask = mask; link = (rowIn u r) .link; state = asOpen; stamp = 0 }
-  here = rw end-is at (appended-here S t r kind mask u (E .whole) inside room-in)
+  here = rw end-is at (appended-here (E .whole) t r kind mask inside room-in)
 
   there : (j : ℕ) → j ≢ end → recordIn (appended S t r kind mask u) j ≡ recordIn u j
-  there j f = appended-there S t r kind mask u (E .whole) inside room-in j (λ e. f (e ∙ end-is))
+  there j f = appended-there (E .whole) t r kind mask inside room-in j (λ e. f (e ∙ end-is))
 
   open-record : (value : ℕ → ℕ) → ContentIs (S .columns) content kind mask value → RecordIs (S .columns) (stateOf h) y (recordIn (appended S t r kind mask u) end) value
   open-record value c = rw here record { transaction = refl; row = refl; state = sym (ap stateWord a); stamp = sym (ap stampOf a); content = c }
@@ -202,75 +198,60 @@ module _ {S : Shape} {h : History} {v : View} {r : ℕ} {ms : List Record} {u : 
   unfolding rowIn
   new-link = ap (λ (x : RecordWords). x .link) here ∙ E .link ∙ rw (eqb-same (rangeOf r))
 
-  -- what a memory with the links of the appended one has
-  extended : (w : View) → Whole S w → TailsFor S (stateOf h) more w → ((i : ℕ) → getD (w RowLink) i 0 ≡ getD (appended S t r kind mask u RowLink) i 0)
-      → ((i : ℕ) → rowIn w i ≡ relinked (rowIn u i) (getD (w RowLink) i 0) ((rowIn u i) .mask)) → Extended S h v r (ms ++ y ∷ []) w
-  extended w fits tails links rows = record {
+  -- what a memory has that differs from the appended one in the words of the columns alone
+  extended : (w : View) → Whole S w → ((j : ℕ) → recordIn w j ≡ recordIn (appended S t r kind mask u) j) → ((g : ℕ) → usedIn w g ≡ usedIn (appended S t r kind mask u) g)
+      → ((i : ℕ) → getD (w RowLink) i 0 ≡ getD (appended S t r kind mask u RowLink) i 0) → ((i : ℕ) → rowIn w i ≡ relinked (rowIn u i) (getD (w RowLink) i 0) ((rowIn u i) .mask))
+      → ((j c : ℕ) → j ≢ end → c < S .columns → valueIn S w j c ≡ valueIn S u j c) → ContentIs (S .columns) content kind mask (valueIn S w end) → Extended S h v r (ms ++ y ∷ []) w
+  extended w fits records used links rows values c = record {
     whole = fits;
-    tails = tails;
-    link = links r ∙ link-here S t r kind mask u (E .whole) inside room-in (omega (arith, k .past .limits .rows)) ∙ ap suc (used-is ∙ made-length)
+    tails = tails-more S u w (stateOf h) made more (rangeOf r) y inside made-few made-room made-grows
+        (used (rangeOf r) ∙ used-here (E .whole) t r kind mask inside room-in) (λ g f. used g ∙ used-there (E .whole) t r kind mask inside room-in g f) (λ j f. records j ∙ there j f) values
+        (rw (records end) (open-record _ c)) (ap (λ (x : RecordWords). x .link) (records end) ∙ new-link) (E .tails);
+    link = links r ∙ link-here (E .whole) t r kind mask inside room-in (omega (arith, k .past .limits .rows)) ∙ ap suc (used-is ∙ made-length)
         ∙ sym (rw (← (append-assoc (recordsOf h (rangeOf r)) ms (y ∷ []))) (last-of-new (recordsOf h (rangeOf r) ++ ms) y));
-    others = λ i f. links i ∙ link-there S t r kind mask u (E .whole) inside room-in i f ∙ E .others i f;
+    others = λ i f. links i ∙ link-there (E .whole) t r kind mask inside room-in i f ∙ E .others i f;
     rows = λ i. rows i ∙ ap (λ (x : RowWords). relinked x (getD (w RowLink) i 0) (x .mask)) (E .rows i);
   }
 
   -- without values
   pub extend-plain : ((value : ℕ → ℕ) → ContentIs (S .columns) content kind mask value) → Extended S h v r (ms ++ y ∷ []) (appended S t r kind mask u)
   extend-plain c =
-      extended (appended S t r kind mask u) appended-fits
-      (tails-more S u (appended S t r kind mask u) (stateOf h) made more (rangeOf r) y inside made-few made-room made-grows
-      (used-here S t r kind mask u (E .whole) inside room-in) (λ g f. used-there S t r kind mask u (E .whole) inside room-in g f) there (λ j c f d. unfold valueIn appended put renew in refl)
-      (open-record _ (c _)) new-link (E .tails))
-      (λ i. refl) (unfold rowIn appended put renew in (λ i. refl))
+      extended (appended S t r kind mask u) appended-fits (λ j. refl) (λ g. refl) (λ i. refl) (unfold rowIn appended put renew in (λ i. refl))
+      (λ j c f d. unfold valueIn appended put renew in refl) (c _)
 
   -- with a word for each column
   pub extend : (f : ℕ → ℕ) → ContentIs (S .columns) content kind mask f → ((c : ℕ) → f c < 2 ^ 32)
       → Extended S h v r (ms ++ y ∷ []) (filledIn S (nextSlot S u (rangeOf r)) f (appended S t r kind mask u))
   extend f c fits =
-      extended w (filled-whole S (nextSlot S u (rangeOf r)) f (appended S t r kind mask u) appended-fits slot-inside fits) tails (unfold filledIn renew in (λ i. refl))
-      (unfold rowIn filledIn appended put renew in (λ i. refl))
+      extended w (filled-whole appended-fits (nextSlot S u (rangeOf r)) f slot-inside fits) (unfold recordIn filledIn renew in (λ j. refl)) (unfold filledIn renew in (λ g. refl))
+      (unfold filledIn renew in (λ i. refl)) (unfold rowIn filledIn appended put renew in (λ i. refl))
+      (λ j c n d. filled-there appended-fits (nextSlot S u (rangeOf r)) f slot-inside j c (λ z. n (z ∙ slot-end)) d ∙ (unfold valueIn appended put renew in refl))
+      (content-values (S .columns) content kind mask f _
+      (λ c d. subst (λ (j : ℕ). valueIn S w j c ≡ f c) slot-end (filled-here appended-fits (nextSlot S u (rangeOf r)) f slot-inside c d)) c)
     where
       w : View
       w = filledIn S (nextSlot S u (rangeOf r)) f (appended S t r kind mask u)
 
       slot-end : nextSlot S u (rangeOf r) ≡ end
-      slot-end = slot-next S t r kind mask u (E .whole) inside room-in ∙ end-is
+      slot-end = slot-next (E .whole) t r kind mask inside room-in ∙ end-is
 
       slot-inside : nextSlot S u (rangeOf r) < S .ranges * S .capacity
-      slot-inside = rw (slot-next S t r kind mask u (E .whole) inside room-in) (slot-in S t r kind mask u (E .whole) inside room-in)
-
-      tails : TailsFor S (stateOf h) more w
-      tails = unfold filledIn renew recordIn in
-          (tails-more S u w (stateOf h) made more (rangeOf r) y inside made-few made-room made-grows
-          (used-here S t r kind mask u (E .whole) inside room-in) (λ g f. used-there S t r kind mask u (E .whole) inside room-in g f) there
-          (λ j c n d. filled-there S (nextSlot S u (rangeOf r)) f (appended S t r kind mask u) appended-fits slot-inside j c (λ z. n (z ∙ slot-end)) d ∙ (unfold valueIn appended put renew in refl))
-          (open-record _ (content-values (S .columns) content kind mask f _
-          (λ c d. subst (λ (j : ℕ). valueIn S w j c ≡ f c) slot-end (filled-here S (nextSlot S u (rangeOf r)) f (appended S t r kind mask u) appended-fits slot-inside c d)) c))
-          new-link (E .tails))
+      slot-inside = rw (slot-next (E .whole) t r kind mask inside room-in) (slot-in (E .whole) t r kind mask inside room-in)
 
 -- ---- delete
-pub delete-kept : (S : Shape) (v : View) (ps : List ScanEntry) (h : History) → Represents S v ps h → Known S h → (t r : ℕ) → stateOf h t ≡ active → r < length (h .rows)
+pub delete-kept : {S : Shape} {v : View} {ps : List ScanEntry} {h : History} → Represents S v ps h → Known S h → (t r : ℕ) → stateOf h t ≡ active → r < length (h .rows)
     → length (recordsOf h (rangeOf r)) + 1 ≤ S .capacity → Step S h (delete t r) (withTail h (h .tail ++ deleteRecords t r)) → All (New h t r) (deleteRecords t r)
     → Represents S (deletedIn S t r v) ps (withTail h (h .tail ++ deleteRecords t r))
 unfolding deletedIn noted openIndex put renew withTail deleteRecords recordIn valueIn pageIn cellIn currentIn scanPage wasCurrent appended stateOf rowAt scanAt
-delete-kept S v ps h o k t r a b room step new =
-    record {
-      header = o .header;
-      opens = o .opens;
-      notes = made-notes S v ps h o k t r a b (y ∷ []) new (omega arith);
-      rows = made-rows S v ps h o k t r a b (y ∷ []) new made (noted t (appended S t r asDelete 0 v)) ((rowIn v r) .mask) (λ i f. unfold rowIn in refl) (unfold rowIn in refl)
-          (λ c. unfold wasSet sets in (sym (rw (eqb-same r) (or-false _))));
-      tails = tails-are S v ps h o k t r a b (y ∷ []) new (appended S t r asDelete 0 v) (made .tails);
-      currents = currents-stay o k step refl refl;
-      waits = waits-stay o k step refl;
-      pool = o .pool;
-      scans = o .scans;
-      scanPages = λ i. scan-stays o k step refl i refl;
-      whole = put-whole Changes _ _ (omega arith) (made .whole);
-    }
+delete-kept {S} {v} {ps} {h} o k t r a b room step new =
+    search (made-parts o k a b new made (omega arith), rows, noted-whole t (made .whole), pages-stay o k step refl refl (λ i. refl))
   where
     y : Record
     y = record { transaction = t; row = r; content = ending }
 
     made : Extended S h v r (y ∷ []) (appended S t r asDelete 0 v)
-    made = extend-plain (none-made S v ps h o r b) k t a b ending asDelete 0 (omega arith) (omega arith) (omega arith) (λ value. refl)
+    made = extend-plain (none-made o r b) k t a b ending asDelete 0 (omega arith) (omega arith) (omega arith) (λ value. refl)
+
+    rows : RowsAre (withTail h (h .tail ++ y ∷ [])) (deletedIn S t r v)
+    rows = made-rows o k a b new made (deletedIn S t r v) ((rowIn v r) .mask) (λ i f. unfold rowIn in refl) (unfold rowIn in refl)
+        (λ c. unfold wasSet sets in (sym (rw (eqb-same r) (or-false _))))

@@ -1,12 +1,12 @@
 -- Release keeps the relation: a waiting page is freed unless an open scan was opened before the merge that replaced it, so no open scan's page is freed.
 use mathlib.Core.Path.{_≡_, refl, sym, _∙_, ap}
 use mathlib.Core.Logic.{inl, inr}
-use mathlib.Core.Bool.{Bool, true, false, not, cond, _&&_, and-false, and-true, and-assoc, and-comm}
+use mathlib.Core.Bool.{Bool, true, false, not, cond, _&&_, and-false, and-true, and-assoc, and-comm, true≢false}
 use mathlib.Core.List.{List, [], _∷_}
 use Prim.Native.Nat.{ℕ, zero, suc, _^_, _≤_, _<_}
 use native.Mathlib.Omega.{arith}
 use native.Mathlib.Nat.{le-refl}
-use lib.Dec.{T, leb, ltb, eqb, eqb→eq, leb→le, le→leb, ltb→lt, lt→ltb, T-not}
+use lib.Dec.{leb·suc-suc, T, leb, ltb, eqb, eqb→eq, le→leb, ltb→lt, T-not}
 use lib.ListN.{length}
 use Rattle.terms.specs.Measures.{Shape}
 use Rattle.history.specs.History.{release, History, Scan, Merge, any, nth, stateOf, rowAt, recordsOf, mergedThrough, scanAt, neededBy, afterRelease, releasedCount, withMerges}
@@ -23,12 +23,12 @@ use Rattle.model.specs.Stored.{rowIn, recordIn, valueIn, pageIn, cellIn,
 use Rattle.layout.specs.Codes.{asFree}
 use Rattle.model.specs.Reading.{wasCurrent, scanPage}
 use Rattle.model.specs.Writing.{neededIn, releasable, releasedIn}
-use Rattle.model.proofs.Lists.{true-false, any-count, from-count, count-ext, first-ext, below-ext, same-truth}
-use Rattle.model.specs.Represents.{CurrentOf, CurrentsAre, WaitingIs, WaitingAre, PoolIs, ScanPageIs, ScanPagesAre, ScansAre, madeIn, Represents, Known, Whole, countFrom}
+use Rattle.model.proofs.Lists.{any-count, from-count, first-ext, below-ext}
+use Rattle.model.specs.Represents.{CurrentOf, CurrentsAre, WaitingIs, WaitingAre, PoolIs, ScanPageIs, ScanPagesAre, ScansAre, madeIn, HeaderFor, Represents, Known, Whole, countFrom}
 use Rattle.model.proofs.Steady.{current-step, waiting-step, scan-page-step}
 use Rattle.model.proofs.Views.{renew-whole, changed-start, header-same}
 use Rattle.model.proofs.Scans.{scan-current}
-use Rattle.model.proofs.ScanPages.{WasCurrent, unfound, unfound-state, search-same, search, search-is, Cases, scan-cases, found-page, scan-page-same}
+use Rattle.model.proofs.ScanPages.{WasCurrent, unfound, unfound-state, search-same, searched, search-is, Cases, scan-cases, found-page, scan-page-same}
 use Rattle.model.proofs.Book.{live-inside}
 
 -- ---- the scans that need a page
@@ -36,12 +36,8 @@ pub needed-is : (ss : List Scan) (ps : List ScanEntry) → ScansAre ss ps → (i
 unfolding neededBy
 needed-is ss ps o i =
     any-count (λ p. not (eqb (p .number) 0) && ltb (p .merges) (suc i)) ps
-    ∙ ap (ltb 0)
-    (o .same (λ p. ltb (p .merges) (suc i)) ∙ from-count (λ s. s .running && ltb (s .before) (suc i)) 1 ss
-    ∙ count-ext _ (λ s. s .running && leb (s .before) i) ss
-    (λ s. ap (λ (b : Bool). s .running && b)
-    (same-truth (ltb (s .before) (suc i)) (leb (s .before) i) (λ t. le→leb (s .before) i (omega (arith, ltb→lt (s .before) (suc i) t))) (λ t. lt→ltb (s .before) (suc i) (omega (arith, leb→le (s .before) i t))))))
-    ∙ sym (any-count (λ s. s .running && leb (s .before) i) ss)
+    ∙ ap (ltb 0) (o .same (λ p. ltb (p .merges) (suc i)) ∙ from-count (λ s. s .running && ltb (s .before) (suc i)) 1 ss)
+    ∙ simp leb·suc-suc (sym (any-count (λ s. s .running && leb (s .before) i) ss))
 
 -- the merges that still wait, and those whose pages are freed
 still-waiting : (ss : List Scan) (ps : List ScanEntry) → ScansAre ss ps → (q : ℕ → Bool) (i : ℕ) (ms : List Merge)
@@ -49,10 +45,7 @@ still-waiting : (ss : List Scan) (ps : List ScanEntry) → ScansAre ss ps → (q
 unfolding afterRelease
 still-waiting ss ps o q i [] = refl
 still-waiting ss ps o q i (m ∷ ms) =
-    rw (needed-is ss ps o i, still-waiting ss ps o q (suc i) ms)
-    (ap
-    (λ (b : Bool). cond b (suc (countFrom (λ j m. m .waiting && q j) (suc (suc i)) (afterRelease ss (suc i) ms))) (countFrom (λ j m. m .waiting && q j) (suc (suc i)) (afterRelease ss (suc i) ms)))
-    (ap (λ (b : Bool). m .waiting && b) (and-comm (q (suc i)) (neededBy ss i)) ∙ sym (and-assoc (m .waiting) (neededBy ss i) (q (suc i)))))
+    rw (needed-is ss ps o i, still-waiting ss ps o q (suc i) ms, and-comm (q (suc i)) (neededBy ss i), and-assoc (m .waiting) (neededBy ss i) (q (suc i)))
 
 freed-count : (ss : List Scan) (ps : List ScanEntry) → ScansAre ss ps → (i : ℕ) (ms : List Merge)
     → countFrom (λ j m. m .waiting && not (neededIn ps j)) (suc i) ms ≡ releasedCount ss i ms
@@ -65,11 +58,11 @@ any-nth f l zero d e t = absurd (rw e at t)
 any-nth f l (suc k) d e t = place-any f l d k (live-inside f l k d e t) t
 
 -- ---- the answer
-pub release-count : (S : Shape) (v : View) (ps : List ScanEntry) (h : History) → Represents S v ps h → countBelow (releasable ps v) (pagesOf S) ≡ releasedCount (h .scans) 0 (h .merges)
+pub release-count : {S : Shape} {v : View} {ps : List ScanEntry} {h : History} → Represents S v ps h → countBelow (releasable ps v) (pagesOf S) ≡ releasedCount (h .scans) 0 (h .merges)
 unfolding releasable
-release-count S v ps h o = o .pool .waiting (λ i. not (neededIn ps i)) ∙ freed-count (h .scans) ps (o .scans) 0 (h .merges)
+release-count {S} {v} {ps} {h} o = o .pool .waiting (λ i. not (neededIn ps i)) ∙ freed-count (h .scans) ps (o .scans) 0 (h .merges)
 
-module _ (S : Shape) (v : View) (ps : List ScanEntry) (h : History) (o : Represents S v ps h) (k : Known S h) where
+module _ {S : Shape} {v : View} {ps : List ScanEntry} {h : History} (o : Represents S v ps h) (k : Known S h) where
   abbrev h′ : History
   h′ = withMerges h (afterRelease (h .scans) 0 (h .merges))
 
@@ -112,13 +105,13 @@ module _ (S : Shape) (v : View) (ps : List ScanEntry) (h : History) (o : Represe
   freed-unfound m pl q b e =
       unfound-state S v′ m pl q (omega (arith, state-after q b, ap (λ (z : Bool). cond z asFree ((pageIn v q) .state)) e))
 
-  search-kept : (i a d : ℕ) → T (scanAt h i .running) → search S v′ (scanAt h i .before) a d ≡ search S v (scanAt h i .before) a d
+  search-kept : (i a d : ℕ) → T (scanAt h i .running) → searched S v′ (scanAt h i .before) a d ≡ searched S v (scanAt h i .before) a d
   search-kept i a d t = first-ext _ _ (pagesOf S) 0 (λ q _ b. at-page q (omega arith) (releasable ps v q) refl)
     where
       at-page : (q : ℕ) → q < pagesOf S → (z : Bool) → releasable ps v q ≡ z → wasCurrent S v′ (scanAt h i .before) (chunkOf S a d) q ≡ wasCurrent S v (scanAt h i .before) (chunkOf S a d) q
       at-page q b true e =
           freed-unfound (scanAt h i .before) (chunkOf S a d) q b e
-          ∙ sym (unfound S v (scanAt h i .before) (chunkOf S a d) q (λ x. true-false (sym e ∙ found-kept i (chunkOf S a d) q t x)))
+          ∙ sym (unfound S v (scanAt h i .before) (chunkOf S a d) q (λ x. true≢false (sym e ∙ found-kept i (chunkOf S a d) q t x)))
       at-page q b false e = search-same S v v′ (scanAt h i .before) (chunkOf S a d) q (page-kept q b e)
 
   pub scan-page-kept : (i a d : ℕ) → T (scanAt h i .running) → scanPage S v′ (scanAt h i .before) a d ≡ scanPage S v (scanAt h i .before) a d
@@ -139,7 +132,7 @@ module _ (S : Shape) (v : View) (ps : List ScanEntry) (h : History) (o : Represe
       go (inl x) = ap (releasable ps v) (scan-current S v (scanAt h i .before) a d x) ∙ current-kept a d u w
       go (inr x) =
           ap (releasable ps v) (found-page S v (scanAt h i .before) a d (x .0) (x .1))
-          ∙ found-kept i (chunkOf S a d) (search S v (scanAt h i .before) a d) t (search-is S v (scanAt h i .before) a d (x .1))
+          ∙ found-kept i (chunkOf S a d) (searched S v (scanAt h i .before) a d) t (search-is S v (scanAt h i .before) a d (x .1))
 
   -- ---- the parts
   merges-same : length ((h′) .merges) ≡ length (h .merges)
@@ -212,16 +205,5 @@ module _ (S : Shape) (v : View) (ps : List ScanEntry) (h : History) (o : Represe
   pub release-kept : Step S h release h′ → Represents S (releasedIn S ps v) ps h′
   unfolding withMerges stateOf rowAt recordsOf releasedIn renew rowIn recordIn valueIn
   release-kept step =
-      record {
-        header = header-same refl refl refl (sym merges-same) (o .header);
-        opens = o .opens;
-        notes = o .notes;
-        rows = o .rows;
-        tails = o .tails;
-        currents = release-currents step;
-        waits = release-waits step;
-        pool = release-pool;
-        scans = o .scans;
-        scanPages = release-scans step;
-        whole = release-whole;
-      }
+      let header : HeaderFor S h′ v′ = header-same refl refl refl (sym merges-same) (o .header) in
+      search (header, release-currents step, release-waits step, release-pool, release-scans step, release-whole)

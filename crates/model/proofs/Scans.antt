@@ -1,17 +1,18 @@
 -- Open scan and close keep the relation: a scan takes a place of the list with the merges made before it, so that its pages are the current ones; a closed scan
 -- leaves a free place.
-use mathlib.Core.Path.{_≡_, refl, sym, _∙_, ap, fun-ext}
-use mathlib.Core.Bool.{Bool, true, false, not, and-true}
+use mathlib.Core.Path.{_≡_, refl, sym, _∙_}
+use mathlib.Core.Bool.{true, false, not, and-true}
 use mathlib.Core.List.{List, [], _∷_, _++_}
 use Prim.Native.Nat.{ℕ, suc, _+_, _≤_, _<_}
 use native.Mathlib.Omega.{arith}
 use native.Mathlib.Nat.{le-refl}
 use native.Mathlib.Decide.{ℕ-discrete}
-use lib.Dec.{T, leb, eqb, lt→ltb, le→leb}
+use lib.Dec.{T, eqb, lt→ltb}
 use lib.ListN.{length, set, length-append, length-set}
+use borrow.Author.Tests.{le-leb}
 use Rattle.terms.specs.Measures.{Shape, mostScans, mostNumbers}
 use Rattle.history.specs.History.{openScan, close, History, Scan, any, count, nth, change, stateOf, rowAt, recordsOf, scanAt, stopped, withScans}
-use Rattle.history.proofs.Lists.{is-true, by-cases, length-change, nth-last, nth-before}
+use Rattle.history.proofs.Lists.{by-cases, length-change, nth-last, nth-before}
 use Rattle.history.proofs.Steps.{noScan}
 use Rattle.history.specs.Steps.{Step}
 use Rattle.layout.specs.View.{View, renew, put, scansGiven, mergesMade}
@@ -23,7 +24,7 @@ use Rattle.model.specs.Stored.{rowIn, recordIn, valueIn, pageIn, cellIn,
 use Rattle.model.specs.Reading.{scanPage, wasCurrent}
 use Rattle.model.proofs.Lists.{any-count}
 use Rattle.model.proofs.Book.{Kind, book-is, book-room, book-count, book-add, book-drop, book-found}
-use Rattle.model.specs.Represents.{CurrentOf, ScanPageOf, ScanPagesAre, ScansAre, scanAs, Represents, Known}
+use Rattle.model.specs.Represents.{CurrentOf, ScanPageOf, ScanPagesAre, ScansAre, scanAs, HeaderFor, Represents, Known}
 use Rattle.model.proofs.Holding.{holds-step, same-rows}
 use Rattle.model.proofs.Steady.{still-running, currents-stay, waits-stay, scan-stays}
 use Rattle.model.proofs.Views.{put-whole, header-put, header-same}
@@ -40,14 +41,12 @@ pub scan-is : (ss : List Scan) (l : List ScanEntry) → ScansAre ss l → (k : �
 scan-is ss l o k = book-is scanKind ss l (o .same) k
 
 pub scan-count : (ss : List Scan) (l : List ScanEntry) → ScansAre ss l → count (λ p. not (eqb (p .number) 0)) l ≡ count (λ s. s .running) ss
-scan-count ss l o =
-    ap (λ (f : ScanEntry → Bool). count f l) (fun-ext (λ p. sym (and-true (not (eqb (p .number) 0)))))
-    ∙ book-count scanKind ss l (o .same)
+scan-count ss l o = simp and-true at (book-count scanKind ss l (o .same))
 
 pub scan-found : (ss : List Scan) (l : List ScanEntry) → ScansAre ss l → (k : ℕ) → T ((nth ss k noScan) .running) → scanEntry l k ≡ scanAs k (nth ss k noScan)
 unfolding scanEntry
 scan-found ss l o k t =
-    same-place _ _ (book-found scanKind ss l (o .same) k t)
+    book-found scanKind ss l (o .same) k t
 
 scans-add : (ss : List Scan) (l : List ScanEntry) (s : Scan) → ScansAre ss l → T (s .running) → count (λ s. s .running) ss < mostScans
     → ScansAre (ss ++ s ∷ []) (set l (firstIndex (λ p. eqb (p .number) 0) l) (scanAs (suc (length ss)) s))
@@ -71,10 +70,10 @@ scans-drop ss l k s o t n =
 -- ---- a page that was made before: the scan's page is the current one
 pub scan-current : (S : Shape) (v : View) (m g c : ℕ) → (pageIn v (currentIn S v g c)) .made ≤ m → scanPage S v m g c ≡ currentIn S v g c
 unfolding scanPage
-scan-current S v m g c b = rw (is-true (leb ((pageIn v (currentIn S v g c)) .made) m) (le→leb _ m b))
+scan-current S v m g c b = rw (le-leb ((pageIn v (currentIn S v g c)) .made) m b)
 
 -- ---- open scan
-module _ (S : Shape) (v : View) (ps : List ScanEntry) (h : History) (o : Represents S v ps h) (k : Known S h) (s : ℕ) (room : count (λ s. s .running) (h .scans) < mostScans)
+module _ {S : Shape} {v : View} {ps : List ScanEntry} {h : History} (o : Represents S v ps h) (k : Known S h) (s : ℕ) (room : count (λ s. s .running) (h .scans) < mostScans)
     (few : length (h .scans) < mostNumbers) where
   abbrev new : Scan
   new = record { running = true; stamp = s; before = length (h .merges) }
@@ -106,19 +105,7 @@ module _ (S : Shape) (v : View) (ps : List ScanEntry) (h : History) (o : Represe
       (set ps (firstIndex (λ p. eqb (p .number) 0) ps) record { number = scansGiven v + 1; stamp = s; merges = mergesMade v }) after
   unfolding put renew withScans rowIn recordIn valueIn pageIn cellIn currentIn scanPage wasCurrent stateOf rowAt recordsOf
   open-kept step =
-      record {
-        header = header-same refl refl (e ∙ sym (simp length-append (omega arith))) refl (header-put (v Header) 6 n (omega (arith, o .whole .long Header)) (omega arith) (o .header));
-        opens = o .opens;
-        notes = o .notes;
-        rows = o .rows;
-        tails = o .tails;
-        currents = currents-stay o k step refl refl;
-        waits = waits-stay o k step refl;
-        pool = o .pool;
-        scans = rw (e, o .header .merges-made) (scans-add (h .scans) ps new (o .scans) tt room);
-        scanPages = open-pages step;
-        whole = put-whole Header 6 n (omega (arith, e)) (o .whole);
-      }
+      search (header, currents-stay o k step refl refl, waits-stay o k step refl, scans, open-pages step, put-whole Header 6 n (omega (arith, e)) (o .whole))
     where
       n : ℕ
       n = scansGiven v + 1
@@ -126,8 +113,15 @@ module _ (S : Shape) (v : View) (ps : List ScanEntry) (h : History) (o : Represe
       e : n ≡ suc (length (h .scans))
       e = omega (arith, o .header .scans-given)
 
+      header : HeaderFor S after (put Header scansAt n v)
+      header = unfold put renew withScans in
+          (header-same refl refl (e ∙ sym (simp length-append (omega arith))) refl (header-put (v Header) 6 n (omega (arith, o .whole .long Header)) (omega arith) (o .header)))
+
+      scans : ScansAre (h .scans ++ new ∷ []) (set ps (firstIndex (λ p. eqb (p .number) 0) ps) record { number = n; stamp = s; merges = mergesMade v })
+      scans = rw (e, o .header .merges-made) (scans-add (h .scans) ps new (o .scans) tt room)
+
 -- ---- close
-module _ (S : Shape) (v : View) (ps : List ScanEntry) (h : History) (o : Represents S v ps h) (k : Known S h) (i : ℕ) (run : T (scanAt h i .running)) where
+module _ {S : Shape} {v : View} {ps : List ScanEntry} {h : History} (o : Represents S v ps h) (k : Known S h) (i : ℕ) (run : T (scanAt h i .running)) where
   abbrev ended : List Scan
   ended = change (h .scans) i (stopped (scanAt h i))
 
@@ -138,16 +132,6 @@ module _ (S : Shape) (v : View) (ps : List ScanEntry) (h : History) (o : Represe
   pub close-kept : Step S h (close i) (withScans h ended) → Represents S v (set ps (firstIndex (isScan i) ps) freeEntry) (withScans h ended)
   unfolding withScans rowIn recordIn valueIn stateOf rowAt recordsOf
   close-kept step =
-      record {
-        header = header-same refl refl (sym (length-change (h .scans) i (stopped (scanAt h i)))) refl (o .header);
-        opens = o .opens;
-        notes = o .notes;
-        rows = o .rows;
-        tails = o .tails;
-        currents = currents-stay o k step refl refl;
-        waits = waits-stay o k step refl;
-        pool = o .pool;
-        scans = scans-drop (h .scans) ps i (stopped (scanAt h i)) (o .scans) (unfold scanAt in run) (unfold stopped in refl);
-        scanPages = close-pages step;
-        whole = o .whole;
-      }
+      let header : HeaderFor S (withScans h ended) v = header-same refl refl (sym (length-change (h .scans) i (stopped (scanAt h i)))) refl (o .header) in
+      let scans : ScansAre ended (set ps (firstIndex (isScan i) ps) freeEntry) = scans-drop (h .scans) ps i (stopped (scanAt h i)) (o .scans) (unfold scanAt in run) (unfold stopped in refl) in
+      search (header, scans, currents-stay o k step refl refl, waits-stay o k step refl, close-pages step)

@@ -19,21 +19,15 @@ use Rattle.history.specs.Invariants.{InOrder, Timely}
 use Rattle.layout.specs.View.{View}
 use Rattle.terms.specs.declared.ScanEntry.{ScanEntry}
 use Rattle.model.specs.Stored.{PageWords, within}
-use Rattle.model.specs.Represents.{CurrentIs, CurrentsAre, WaitingIs, WaitingAre, ScanPageIs, ScanPageOf, Represents, Known}
+use Rattle.model.specs.Represents.{Holds, everyRow, CurrentIs, CurrentsAre, WaitingIs, WaitingAre, ScanPageIs, ScanPageOf, ScanPagesAre, Represents, Known}
 use Rattle.model.proofs.Holding.{grown, holds-step, holds-cells, same-rows, withRow, row-new, row-old, rows-more}
 
 -- ---- the pages
 pub current-step : {S : Shape} {y : Call} {h h′ : History} {g c p : ℕ} {x : PageWords} {cell : ℕ → ℕ} → InOrder h → Step S h y h′ → length (h .rows) ≡ length (h′ .rows)
     → mergedThrough h′ g c ≡ mergedThrough h g c → CurrentIs S h g c p x cell → CurrentIs S h′ g c p x cell
-current-step {h = h} {h′ = h′} {g = g} {c = c} {x = x} i step e m o =
-    record {
-      inside = o .inside;
-      state = o .state;
-      chunk = o .chunk;
-      made = le-trans (o .made) (grown step .merges);
-      lineage = o .lineage ∙ sym m;
-      holds = holds-step i step g c x (λ r q u. (tt, same-rows (length (h .rows)) (length (h′ .rows)) r e)) (o .holds);
-    }
+current-step {h = h} {h′ = h′} {g = g} {c = c} {x = x} {cell = cell} i step e m o =
+    let holds : Holds h′ g c everyRow x cell = holds-step i step g c x (λ r q u. (tt, same-rows (length (h .rows)) (length (h′ .rows)) r e)) (o .holds) in
+    search (holds, le-trans (o .made) (grown step .merges), o .lineage ∙ sym m)
 
 pub waiting-step : {S : Shape} {y : Call} {h h′ : History} {made made′ : ℕ → ℕ → ℕ} {x : PageWords} → Step S h y h′ → ((g c : ℕ) → g < S .ranges → c < S .columns → made g c ≤ made′ g c)
     → WaitingIs S h made x → WaitingIs S h′ made′ x
@@ -87,14 +81,9 @@ seen-step {h = h} step s r b u = let old = row-seen step s r b u in (old, inl (s
 -- a running scan's page
 pub scan-page-step : {S : Shape} {y : Call} {h h′ : History} {s : Scan} {g c p : ℕ} {x : PageWords} {cell : ℕ → ℕ} → InOrder h → Step S h y h′ → s .stamp ≤ h .last
     → ScanPageIs S h s g c p x cell → ScanPageIs S h′ s g c p x cell
-scan-page-step {s = s} {g = g} {c = c} {x = x} i step b o =
-    record {
-      inside = o .inside;
-      early = le-trans (o .early) (grown step .merges);
-      chunk = o .chunk;
-      made = o .made;
-      holds = holds-step i step g c x (λ r e u. seen-step step (s .stamp) r b u) (o .holds);
-    }
+scan-page-step {h′ = h′} {s = s} {g = g} {c = c} {x = x} {cell = cell} i step b o =
+    let holds : Holds h′ g c (λ r. T (seenAt h′ (s .stamp) ((rowAt h′ r) .inserter))) x cell = holds-step i step g c x (λ r e u. seen-step step (s .stamp) r b u) (o .holds) in
+    search (holds, le-trans (o .early) (grown step .merges))
 
 -- a scan that runs after another was closed is as it was
 pub still-running : (l : List Scan) (k i : ℕ) → T ((nth l k noScan) .running) → T ((nth (change l k (stopped (nth l k noScan))) i noScan) .running)
@@ -117,3 +106,7 @@ module _ {S : Shape} {v : View} {ps : List ScanEntry} {h h′ : History} {y : Ca
   unfolding Timely
   scan-stays i e t g c a b =
       rw e (scan-page-step (k .past .order) step (k .past .timely i) (o .scanPages i (rw e at t) g c a b))
+
+  -- all of them, where the step gives no row and leaves the scans
+  pub pages-stay : length (h .rows) ≡ length (h′ .rows) → ((i : ℕ) → scanAt h′ i ≡ scanAt h i) → CurrentsAre S h′ v × WaitingAre S h′ v × ScanPagesAre S h′ v
+  pages-stay e f = (currents-stay e, waits-stay, λ i. scan-stays i (f i))

@@ -6,13 +6,14 @@ use mathlib.Core.List.{List, [], _∷_, _++_}
 use Prim.Native.Nat.{ℕ, zero, suc, _+_, _*_, _^_, _≤_, _<_, zero-le}
 use native.Mathlib.Omega.{arith}
 use native.Mathlib.Nat.{le-refl, le-trans, not-suc-le-zero, zero-add, mul-le-mul-right, suc-mul}
-use native.Mathlib.Decide.{ℕ-discrete, decLt}
-use lib.Dec.{T, leb, ltb, eqb, eqb→eq, leb→le, le→leb, nltb→le, ltb→lt, not-T}
+use native.Mathlib.Decide.{ℕ-discrete}
+use lib.Dec.{T, leb, ltb, eqb, leb→le, le→leb, nltb→le, ltb→lt, not-T}
 use lib.ListN.{length, getD, set, length-append}
-use lib.Seq.{getD-set-same, getD-set-other, take-length}
-use Rattle.terms.specs.Measures.{Shape, rangeRows, mostTransactions, mostNumbers}
+use lib.Seq.{getD-set-same, getD-set-other}
+use borrow.Author.Tests.{ne-eqb, eq-eqb}
+use Rattle.terms.specs.Measures.{Shape, mostTransactions, mostNumbers}
 use Rattle.history.specs.History.{begin, commit, abort, History, Row, Record, State, unknown, active, aborted, committed, any, count, nth, change, isActive, stateOf, rowAt, rangeOf, recordsOf, scanAt, withTransactions}
-use Rattle.history.proofs.Lists.{by-cases, all-below, nth-beyond, clash, all-map, eqb-other, eqb-equal, nth-changed, nth-other, length-change, parts, both}
+use Rattle.history.proofs.Lists.{both-test, eq-test, by-cases, all-each, nth-beyond, clash, all-map, nth-changed, nth-other, length-change}
 use Rattle.history.specs.Steps.{Step, Closing, by-commit, by-abort}
 use Rattle.history.specs.Latest.{stampOf}
 use Rattle.history.proofs.States.{given-known, state-began}
@@ -29,14 +30,13 @@ use Rattle.terms.specs.declared.ScanEntry.{ScanEntry}
 use Rattle.terms.specs.Places.{bears, firstIndex}
 use Rattle.layout.specs.Regions.{transactionsAt, stampAt}
 use Rattle.model.specs.Stored.{RowWords, RecordWords, rowIn, recordIn, valueIn, pageIn, cellIn, currentIn, openIndex}
-use Rattle.layout.specs.Codes.{asAborted, asCommitted}
 use Rattle.model.specs.Reading.{scanPage, wasCurrent}
 use Rattle.model.specs.Writing.{begun, markTails, settled, freed, committedIn, abortedIn}
-use Rattle.model.proofs.Lists.{same-truth, any-count, place-lt, place-is, part-in, is-equal}
-use Rattle.model.proofs.Book.{Kind, book-is, book-room, book-add, book-drop, book-only}
-use Rattle.model.specs.Represents.{stateWord, RowIs, RecordIs, TailOf, RowsAre, TailsAre, OpensAre, Unchanged, NotesAre, Represents, Known, Whole}
+use Rattle.model.proofs.Lists.{same-truth, any-count, place-lt, place-is, part-in}
+use Rattle.model.proofs.Book.{Kind, live-given, book-is, book-room, book-add, book-drop}
+use Rattle.model.specs.Represents.{stateWord, RowIs, RecordIs, TailOf, RowsAre, TailsAre, OpensAre, Unchanged, NotesAre, HeaderFor, Represents, Known, Whole}
 use Rattle.model.proofs.Views.{renew-whole, put-whole, changed-start, header-put, header-same}
-use Rattle.model.proofs.Steady.{currents-stay, waits-stay, scan-stays}
+use Rattle.model.proofs.Steady.{pages-stay}
 
 -- ---- the open places are a book
 pub unknown-idle : isActive unknown ≡ false
@@ -55,32 +55,12 @@ pub open-there : (ts : List State) (l : List ℕ) → OpensAre ts l → (t : ℕ
 unfolding isActive
 open-there ts l o t a =
     let b : T (any (bears t) l) = rw (opens-is ts l o t, a) tt in
-    (place-lt (bears t) l b, eqb→eq _ t (parts (not (eqb (getD l (firstIndex (bears t) l) 0) 0)) _ (place-is (bears t) l 0 b) .1))
+    (place-lt (bears t) l b, simp (both-test, eq-test) at (place-is (bears t) l 0 b) .1)
 
-pub active-some : (ts : List State) (t : ℕ) → nth ts t unknown ≡ active → t ≢ 0
-active-some ts zero a e = clash (cc)
-active-some ts (suc t) a e = omega arith
-
--- no other place bears its number
-pub other-place : (ts : List State) (l : List ℕ) → OpensAre ts l → (t : ℕ) → nth ts t unknown ≡ active → (j : ℕ) → j < length l → getD l j 0 ≢ 0 → j ≢ firstIndex (bears t) l
-    → getD l j 0 ≢ t
-other-place ts l o t a j b n f e =
-    by-cases (decLt j own) (λ p. twice j own p (here .0) bearing found) (λ p. by-cases (decLt own j) (λ q. twice own j q b found bearing) (λ q. f (omega arith)))
-  where
-    own : ℕ
-    own = firstIndex (bears t) l
-
-    here : (own < length l) × (getD l own 0 ≡ t)
-    here = open-there ts l o t a
-
-    bearing : T (bears t (getD l j 0))
-    bearing = both (not (eqb (getD l j 0) 0)) _ (not-T (eqb (getD l j 0) 0) (λ z. n (eqb→eq _ 0 z))) (eqb-equal _ t e)
-
-    found : T (bears t (getD l own 0))
-    found = rw (e ∙ sym (here .1)) at bearing
-
-    twice : (i k : ℕ) → i < k → k < length l → T (bears t (getD l i 0)) → T (bears t (getD l k 0)) → ⊥
-    twice i k = book-only openKind ts l o t i k
+-- its number is among those given
+pub active-given : (ts : List State) (t : ℕ) → nth ts t unknown ≡ active → (1 ≤ t) × (t ≤ length ts)
+unfolding isActive
+active-given ts t a = live-given isActive ts t unknown refl (rw a tt)
 
 -- all places are taken
 pub opens-full : (ts : List State) (l : List ℕ) → length l ≡ mostTransactions → OpensAre ts l → not (any (λ k. eqb k 0) l) ≡ leb mostTransactions (count isActive ts)
@@ -101,11 +81,10 @@ opens-close ts l t x o p n = book-drop openKind ts l o t (rw p tt) x n
 
 -- ---- rows and records under new states
 row-states : {st st′ : ℕ → State} {w : Row} {recs : List Record} {r : ℕ} {x : RowWords} → st′ (w .inserter) ≡ st (w .inserter) → RowIs st w recs r x → RowIs st′ w recs r x
-row-states e o = record { transaction = o .transaction; state = o .state ∙ ap stateWord (sym e); stamp = o .stamp ∙ ap stampOf (sym e); link = o .link; mask = o .mask }
+row-states e o = search (o .state ∙ ap stateWord (sym e), o .stamp ∙ ap stampOf (sym e))
 
 record-states : {C : ℕ} {st st′ : ℕ → State} {y : Record} {x : RecordWords} {value : ℕ → ℕ} → st′ (y .transaction) ≡ st (y .transaction) → RecordIs C st y x value → RecordIs C st′ y x value
-record-states e o =
-    record { transaction = o .transaction; row = o .row; state = o .state ∙ ap stateWord (sym e); stamp = o .stamp ∙ ap stampOf (sym e); content = o .content }
+record-states e o = search (o .state ∙ ap stateWord (sym e), o .stamp ∙ ap stampOf (sym e))
 
 -- ---- begin
 -- a number not yet given has made nothing
@@ -113,8 +92,7 @@ not-begun : (h : History) → InOrder h → Unchanged (h .rows) (h .tail) (suc (
 unfolding stateOf rowAt
 not-begun h i =
     record {
-      no-row = rw take-length at (all-below {P = λ (w : Row). w .inserter ≢ suc (length (h .transactions))} (h .rows) (length (h .rows)) record { inserter = 0; values = [] } (le-refl _)
-          (λ r b e. given-known _ (i .inserters r b) (ap (stateOf h) e ∙ nth-beyond unknown (h .transactions))));
+      no-row = all-each (h .rows) record { inserter = 0; values = [] } (λ r b e. given-known _ (i .inserters r b) (ap (stateOf h) e ∙ nth-beyond unknown (h .transactions)));
       no-record = all-map (λ y p e. given-known _ (p .giver) (ap (stateOf h) e ∙ nth-beyond unknown (h .transactions))) (i .records);
     }
 
@@ -125,7 +103,7 @@ notes-set rows tail l notes j t b c u o k d = by-cases (ℕ-discrete k j)
     (λ e. rw (e, getD-set-same l j t 0 b, getD-set-same notes j 0 0 c) (λ n. record { bound = zero-le; none = λ _. u n }))
     (λ f. rw (getD-set-other l j k t 0 f, getD-set-other notes j k 0 0 f) (o k d))
 
-module _ (S : Shape) (v : View) (ps : List ScanEntry) (h : History) (o : Represents S v ps h) (k : Known S h) where
+module _ {S : Shape} {v : View} {ps : List ScanEntry} {h : History} (o : Represents S v ps h) (k : Known S h) where
   abbrev begunHistory : History
   begunHistory = withTransactions h (h .transactions ++ active ∷ []) (h .last)
 
@@ -151,22 +129,7 @@ module _ (S : Shape) (v : View) (ps : List ScanEntry) (h : History) (o : Represe
 
   pub begin-kept : T (any (λ i. eqb i 0) (v Opens)) → Step S h begin begunHistory → length (h .transactions) < mostNumbers → Represents S (begun v) ps begunHistory
   unfolding begun put renew withTransactions rowIn recordIn valueIn pageIn cellIn currentIn scanPage wasCurrent scanAt
-  begin-kept free step few =
-      record {
-        header = header-same refl (e ∙ sym (simp length-append (omega arith))) refl refl (header-put (v Header) 5 n (omega (arith, o .whole .long Header)) (omega arith) (o .header));
-        opens = rw e (opens-begin (h .transactions) (v Opens) (o .opens) free);
-        notes =
-            notes-set (h .rows) (h .tail) (v Opens) (v Changes) j n inside (omega (arith, inside, o .whole .long Opens, o .whole .long Changes))
-            (λ _. rw e (not-begun h (k .past .order))) (o .notes);
-        rows = begun-rows;
-        tails = begun-tails;
-        currents = currents-stay o k step refl refl;
-        waits = waits-stay o k step refl;
-        pool = o .pool;
-        scans = o .scans;
-        scanPages = λ i. scan-stays o k step refl i refl;
-        whole = begun-whole few;
-      }
+  begin-kept free step few = search (header, opens, notes, begun-rows, begun-tails, pages-stay o k step refl refl (λ i. refl), begun-whole few)
     where
       n : ℕ
       n = transactionsGiven v + 1
@@ -179,6 +142,18 @@ module _ (S : Shape) (v : View) (ps : List ScanEntry) (h : History) (o : Represe
 
       inside : j < length (v Opens)
       inside = place-lt (λ i. eqb i 0) (v Opens) free
+
+      header : HeaderFor S begunHistory (begun v)
+      header = unfold begun put renew withTransactions in
+          (header-same refl (e ∙ sym (simp length-append (omega arith))) refl refl (header-put (v Header) 5 n (omega (arith, o .whole .long Header)) (omega arith) (o .header)))
+
+      opens : OpensAre (h .transactions ++ active ∷ []) (set (v Opens) j n)
+      opens = rw e (opens-begin (h .transactions) (v Opens) (o .opens) free)
+
+      notes : NotesAre (h .rows) (h .tail) (set (v Opens) j n) (set (v Changes) j 0)
+      notes =
+          notes-set (h .rows) (h .tail) (v Opens) (v Changes) j n inside (omega (arith, inside, o .whole .long Opens, o .whole .long Changes))
+          (λ _. rw e (not-begun h (k .past .order))) (o .notes)
 
 -- ---- the marks
 pub marked-at : (ks : List ℕ) (n t w : ℕ) (l : List ℕ) (r : ℕ) → n ≤ length l → r < n → getD (marked ks 0 n t 0 w l) r 0 ≡ cond (eqb (getD ks r 0) t) w (getD l r 0)
@@ -229,33 +204,28 @@ settled-whole {S} {v} t state stamp a b o =
 closed-is : {A : Type 0} (f : State → A) (ts : List State) (t : ℕ) (x : State) (k : ℕ) → nth ts t unknown ≡ active
     → f (nth (change ts t x) k unknown) ≡ cond (eqb k t) (f x) (f (nth ts k unknown))
 closed-is f ts t x k a = by-cases (ℕ-discrete k t)
-    (λ e. rw (is-equal k t e, e, nth-changed unknown ts t x (λ u. clash (cc))))
-    (λ n. rw (eqb-other k t n, nth-other unknown ts t x k n))
+    (λ e. rw (eq-eqb k t e, e, nth-changed unknown ts t x (λ u. clash (cc))))
+    (λ n. rw (ne-eqb k t n, nth-other unknown ts t x k n))
 
-module _ (S : Shape) (v : View) (ps : List ScanEntry) (h : History) (o : Represents S v ps h) (k : Known S h) (t : ℕ) (x : State) (s : ℕ) (a : stateOf h t ≡ active) (c : Closing h x s) where
+module _ {S : Shape} {v : View} {ps : List ScanEntry} {h : History} (o : Represents S v ps h) (k : Known S h) (t : ℕ) {x : State} {s : ℕ} (a : stateOf h t ≡ active) (c : Closing h x s) where
   abbrev closedHistory : History
   closedHistory = withTransactions h (change (h .transactions) t x) s
 
   abbrev marks : View
   marks = settled S t (stateWord x) (stampOf x) v
 
-  given-room : length (h .rows) ≤ S .ranges * rangeRows
-  given-room = k .past .limits .rows
-
   closed-rows : RowsAre closedHistory marks
   unfolding stateOf rowAt recordsOf withTransactions settled renew rowIn
   closed-rows r b =
       let y : RowIs (stateOf h) (rowAt h r) (recordsOf h (rangeOf r)) r (rowIn v r) = o .rows r b in
-      let g : r < rowsGiven v = omega (arith, o .header .rows-given) in
-      let m : rowsGiven v ≤ length (v RowState) = omega (arith, o .header .rows-given, o .whole .long RowState, given-room) in
-      let n : rowsGiven v ≤ length (v RowStamp) = omega (arith, o .header .rows-given, o .whole .long RowStamp, given-room) in
+      let given : r < rowsGiven v = omega (arith, o .header .rows-given) in
       record {
         transaction = y .transaction;
         state =
-            marked-at (v RowTransaction) (rowsGiven v) t (stateWord x) (v RowState) r m g
+            marked-at (v RowTransaction) (rowsGiven v) t (stateWord x) (v RowState) r (omega (arith, o .header .rows-given, o .whole .long RowState, k .past .limits .rows)) given
             ∙ rw (y .transaction, y .state) (sym (closed-is stateWord (h .transactions) t x ((rowAt h r) .inserter) a));
         stamp =
-            marked-at (v RowTransaction) (rowsGiven v) t (stampOf x) (v RowStamp) r n g
+            marked-at (v RowTransaction) (rowsGiven v) t (stampOf x) (v RowStamp) r (omega (arith, o .header .rows-given, o .whole .long RowStamp, k .past .limits .rows)) given
             ∙ rw (y .transaction, y .stamp) (sym (closed-is stampOf (h .transactions) t x ((rowAt h r) .inserter) a));
         link = y .link;
         mask = y .mask;
@@ -287,58 +257,43 @@ module _ (S : Shape) (v : View) (ps : List ScanEntry) (h : History) (o : Represe
         links = y .links;
       }
 
-  -- the places after a transaction was closed
-  closed-opens : OpensAre (change (h .transactions) t x) (set (v Opens) (firstIndex (bears t) (v Opens)) 0)
-  unfolding stateOf
-  closed-opens = opens-close (h .transactions) (v Opens) t x (o .opens) a (closing-inactive c)
+  -- the open entry is free again, and every row and record is marked
+  closed-parts : OpensAre (change (h .transactions) t x) (freed t marks Opens) × NotesAre (h .rows) (h .tail) (freed t marks Opens) (freed t marks Changes) × RowsAre closedHistory (freed t marks)
+      × TailsAre S closedHistory (freed t marks)
+  unfolding stateOf freed openIndex put renew settled rowIn recordIn valueIn
+  closed-parts =
+      let inside = open-there (h .transactions) (v Opens) (o .opens) t a .0 in (
+        opens-close (h .transactions) (v Opens) t x (o .opens) a (closing-inactive c),
+        notes-set (h .rows) (h .tail) (v Opens) (v Changes) _ 0 inside (omega (arith, o .whole .long Opens, o .whole .long Changes)) (λ f. absurd (f refl)) (o .notes),
+        closed-rows,
+        closed-tails,
+      )
 
-  closed-notes : NotesAre (h .rows) (h .tail) (set (v Opens) (firstIndex (bears t) (v Opens)) 0) (set (v Changes) (firstIndex (bears t) (v Opens)) 0)
-  unfolding stateOf
-  closed-notes =
-      let inside = open-there (h .transactions) (v Opens) (o .opens) t a .0 in
-      notes-set (h .rows) (h .tail) (v Opens) (v Changes) (firstIndex (bears t) (v Opens)) 0 inside (omega (arith, o .whole .long Opens, o .whole .long Changes)) (λ f. absurd (f refl)) (o .notes)
+  closed-whole : stateWord x < 2 ^ 32 → stampOf x < 2 ^ 32 → Whole S (freed t marks)
+  unfolding freed
+  closed-whole b d = put-whole Changes _ 0 (omega arith) (put-whole Opens _ 0 (omega arith) (settled-whole t (stateWord x) (stampOf x) b d (o .whole)))
 
-pub abort-kept : (S : Shape) (v : View) (ps : List ScanEntry) (h : History) → Represents S v ps h → Known S h → (t : ℕ) → stateOf h t ≡ active
+pub abort-kept : {S : Shape} {v : View} {ps : List ScanEntry} {h : History} → Represents S v ps h → Known S h → (t : ℕ) → stateOf h t ≡ active
     → Step S h (abort t) (withTransactions h (change (h .transactions) t aborted) (h .last))
     → Represents S (abortedIn S t v) ps (withTransactions h (change (h .transactions) t aborted) (h .last))
 unfolding abortedIn freed openIndex settled put renew withTransactions rowIn recordIn valueIn pageIn cellIn currentIn scanPage wasCurrent scanAt
-abort-kept S v ps h o k t a step =
-    record {
-      header = header-same refl (sym (length-change (h .transactions) t aborted)) refl refl (o .header);
-      opens = closed-opens S v ps h o k t aborted (h .last) a by-abort;
-      notes = closed-notes S v ps h o k t aborted (h .last) a by-abort;
-      rows = closed-rows S v ps h o k t aborted (h .last) a by-abort;
-      tails = closed-tails S v ps h o k t aborted (h .last) a by-abort;
-      currents = currents-stay o k step refl refl;
-      waits = waits-stay o k step refl;
-      pool = o .pool;
-      scans = o .scans;
-      scanPages = λ i. scan-stays o k step refl i refl;
-      whole = abort-whole S v t (o .whole);
-    }
-  where
-    abort-whole : (S : Shape) (v : View) (t : ℕ) → Whole S v → Whole S (abortedIn S t v)
-    abort-whole S v t w = put-whole Changes _ 0 (omega arith) (put-whole Opens _ 0 (omega arith) (settled-whole t asAborted 0 (omega arith) (omega arith) w))
+abort-kept {S} {v} {ps} {h} o k t a step =
+    search (
+      header-same {t′ = length (change (h .transactions) t aborted)} refl (sym (length-change (h .transactions) t aborted)) refl refl (o .header),
+      closed-parts o k t a by-abort,
+      closed-whole o k t a by-abort (omega arith) (omega arith),
+      pages-stay o k step refl refl (λ i. refl),
+    )
 
-pub commit-kept : (S : Shape) (v : View) (ps : List ScanEntry) (h : History) → Represents S v ps h → Known S h → (t s : ℕ) → stateOf h t ≡ active → h .last < s → s < 2 ^ 32
+pub commit-kept : {S : Shape} {v : View} {ps : List ScanEntry} {h : History} → Represents S v ps h → Known S h → (t s : ℕ) → stateOf h t ≡ active → h .last < s → s < 2 ^ 32
     → Step S h (commit t s) (withTransactions h (change (h .transactions) t (committed s)) s)
     → Represents S (committedIn S t s v) ps (withTransactions h (change (h .transactions) t (committed s)) s)
 unfolding committedIn freed openIndex settled put renew withTransactions rowIn recordIn valueIn pageIn cellIn currentIn scanPage wasCurrent scanAt
-commit-kept S v ps h o k t s a later fit step =
-    record {
-      header = header-same refl (sym (length-change (h .transactions) t (committed s))) refl refl (header-put (v Header) 7 s (omega (arith, o .whole .long Header)) (omega arith) (o .header));
-      opens = closed-opens S v ps h o k t (committed s) s a (by-commit later);
-      notes = closed-notes S v ps h o k t (committed s) s a (by-commit later);
-      rows = closed-rows S v ps h o k t (committed s) s a (by-commit later);
-      tails = closed-tails S v ps h o k t (committed s) s a (by-commit later);
-      currents = currents-stay o k step refl refl;
-      waits = waits-stay o k step refl;
-      pool = o .pool;
-      scans = o .scans;
-      scanPages = λ i. scan-stays o k step refl i refl;
-      whole = commit-whole S v t s fit (o .whole);
-    }
-  where
-    commit-whole : (S : Shape) (v : View) (t s : ℕ) → s < 2 ^ 32 → Whole S v → Whole S (committedIn S t s v)
-    commit-whole S v t s b w =
-        put-whole Header stampAt s b (put-whole Changes _ 0 (omega arith) (put-whole Opens _ 0 (omega arith) (settled-whole t asCommitted s (omega arith) b w)))
+commit-kept {S} {v} {ps} {h} o k t s a later fit step =
+    search (
+      header-same {t′ = length (change (h .transactions) t (committed s))} refl (sym (length-change (h .transactions) t (committed s))) refl refl
+          (header-put (v Header) 7 s (omega (arith, o .whole .long Header)) (omega arith) (o .header)),
+      closed-parts o k t a (by-commit later),
+      put-whole Header stampAt s fit (closed-whole o k t a (by-commit later) (omega arith) fit),
+      pages-stay o k step refl refl (λ i. refl),
+    )

@@ -1,6 +1,6 @@
 -- Update keeps the relation: one record where every column was set before, two where one is new.
 use mathlib.Core.Path.{_≡_, refl, sym, _∙_, ap}
-use mathlib.Core.Bool.{Bool, true, false, not, cond, _&&_, _||_, or-comm, or-false}
+use mathlib.Core.Bool.{Bool, true, false, not, cond, _&&_, _||_, or-comm, or-false, true≢false}
 use mathlib.Core.List.{List, [], _∷_, _++_}
 use Prim.Native.Nat.{ℕ, _+_, _*_, _^_, _≤_, _<_}
 use native.Mathlib.Omega.{arith}
@@ -9,6 +9,7 @@ use lib.ListN.{length, getD, take}
 use lib.Seq.{getD-set-same, getD-set-other}
 use lib.IntN.{ℤ, pos}
 use lib.Bits.{bitOr, or-lt, xor-lt}
+use borrow.Author.Tests.{eq-eqb}
 use mir.Syntax.{w32}
 use mir.Val.{toZ, ofZ, SFits}
 use mir.ValLaws.{toZ-ofZ, ofZ-fits}
@@ -23,24 +24,23 @@ use Rattle.history.proofs.Masks.{bit-low}
 use Rattle.history.proofs.Ranges.{last-unset}
 use Rattle.history.proofs.Endings.{set-range}
 use Rattle.layout.specs.View.{View, renew, put}
-use Rattle.layout.specs.declared.Region.the-variants.{RowMask, Cells, Changes}
+use Rattle.layout.specs.declared.Region.the-variants.{RowMask, Cells}
 use Rattle.terms.specs.declared.ScanEntry.{ScanEntry}
 use Rattle.model.specs.Stored.{rowIn, recordIn, valueIn, pageIn, cellIn, currentIn, openIndex}
 use Rattle.layout.specs.Codes.{asOriginal, asSetting}
 use Rattle.model.specs.Reading.{scanPage, wasCurrent}
 use Rattle.model.specs.Writing.{noted, appended, filledIn, newBitsIn, recordsWanted, originalAppended, originalWord, settingAppended, updatedIn}
-use Rattle.model.proofs.Lists.{true-false, is-equal}
 use Rattle.model.specs.Represents.{RowsAre, ContentIs, Represents, Known, Whole}
-use Rattle.model.proofs.Views.{put-whole}
+use Rattle.model.proofs.Views.{put-whole, noted-whole}
 use Rattle.model.proofs.Insert.{bit-none, value-fits}
 use Rattle.model.proofs.Heads.{in-range}
 use Rattle.model.proofs.Read.{unset-take}
 use Rattle.model.proofs.Masks.{bit-or, bit-new, no-bits}
-use Rattle.model.proofs.Steady.{currents-stay, waits-stay, scan-stays}
-use Rattle.model.proofs.Records.{tails-are, made-rows, made-notes, Extended, none-made, extend}
+use Rattle.model.proofs.Steady.{pages-stay}
+use Rattle.model.proofs.Records.{made-rows, made-parts, Extended, none-made, extend}
 
 -- ---- the columns that are set for the first time
-module _ (S : Shape) (v : View) (ps : List ScanEntry) (h : History) (o : Represents S v ps h) (k : Known S h) (r m : ℕ) (b : r < length (h .rows)) (good : T (not (badMask S m))) where
+module _ {S : Shape} {v : View} {ps : List ScanEntry} {h : History} (o : Represents S v ps h) (k : Known S h) (r m : ℕ) (b : r < length (h .rows)) (good : T (not (badMask S m))) where
   abbrev isNew : ℕ → Bool
   isNew c = bit m c && not (wasSet (h .tail) r c)
 
@@ -64,12 +64,12 @@ module _ (S : Shape) (v : View) (ps : List ScanEntry) (h : History) (o : Represe
   original-bits c = new-bit c ∙ new-among c
 
   pub none-new : newColumns h r m ≡ [] → eqb (newBitsIn v r m) 0 ≡ true
-  none-new e = is-equal (newBitsIn v r m) 0 (no-bits (newBitsIn v r m) (λ c. original-bits c ∙ ap (among c) e))
+  none-new e = eq-eqb (newBitsIn v r m) 0 (no-bits (newBitsIn v r m) (λ c. original-bits c ∙ ap (among c) e))
 
   pub some-new : (d : ℕ) (cs : List ℕ) → newColumns h r m ≡ d ∷ cs → eqb (newBitsIn v r m) 0 ≡ false
   some-new d cs e =
       refuted (eqb (newBitsIn v r m) 0)
-      (λ t. true-false
+      (λ t. true≢false
       (sym (original-bits d ∙ ap (among d) e ∙ rw (eqb-same d)) ∙ ap (λ (n : ℕ). bit n d) (eqb→eq (newBitsIn v r m) 0 t) ∙ bit-none d))
 
   -- how many records are wanted
@@ -102,7 +102,7 @@ masks-fit S v r m w b =
     let e : bitOr m old < 2 ^ 32 = or-lt 32 m old d c in
     (xor-lt 32 (bitOr m old) old e c, e)
 
-module _ (S : Shape) (v : View) (ps : List ScanEntry) (h : History) (o : Represents S v ps h) (k : Known S h) (t r m : ℕ) (vs : List ℤ) (a : stateOf h t ≡ active) (b : r < length (h .rows))
+module _ {S : Shape} {v : View} {ps : List ScanEntry} {h : History} (o : Represents S v ps h) (k : Known S h) (t r m : ℕ) (vs : List ℤ) (a : stateOf h t ≡ active) (b : r < length (h .rows))
     (good : T (not (badMask S m))) (mask : m < 2 ^ mostColumns) (typed : All (SFits w32) vs) where
   abbrev y : Record
   y = record { transaction = t; row = r; content = setting m vs }
@@ -131,34 +131,21 @@ module _ (S : Shape) (v : View) (ps : List ScanEntry) (h : History) (o : Represe
   masked u = noted t (put RowMask r (bitOr m ((rowIn v r) .mask)) u)
 
   masked-rows : {ms : List Record} {u : View} → Extended S h v r ms u → All (New h t r) ms → ((c : ℕ) → (eqb r r && bit m c || false) ≡ wasSet ms r c) → RowsAre (withTail h (h .tail ++ ms)) (masked u)
-  masked-rows {ms} {u} E new f = made-rows S v ps h o k t r a b ms new E (masked u) (bitOr m ((rowIn v r) .mask))
+  masked-rows {ms} {u} E new f = made-rows o k a b new E (masked u) (bitOr m ((rowIn v r) .mask))
       (λ i n. unfold rowIn noted put renew in (rw (getD-set-other (u RowMask) r i (bitOr m (getD (v RowMask) r 0)) 0 n)))
       (unfold rowIn noted put renew in (rw (getD-set-same (u RowMask) r (bitOr m (getD (v RowMask) r 0)) 0 (omega (arith, row-in, E .whole .long RowMask)))))
       (λ c. union c ∙ ap (λ (q : Bool). bit ((rowIn v r) .mask) c || q) (f c))
 
   masked-whole : {ms : List Record} {u : View} → Extended S h v r ms u → Whole S (masked u)
-  unfolding noted
-  masked-whole E = put-whole Changes _ _ (omega arith) (put-whole RowMask r _ (masks-fit S v r m (o .whole) mask .1) (E .whole))
+  masked-whole E = noted-whole t (put-whole RowMask r _ (masks-fit S v r m (o .whole) mask .1) (E .whole))
 
   -- ---- every column was set before
   update-one : length (recordsOf h (rangeOf r)) + 1 ≤ S .capacity → Step S h (update t r m vs) (withTail h (h .tail ++ y ∷ [])) → All (New h t r) (y ∷ [])
       → Represents S (noted t (put RowMask r (bitOr m ((rowIn v r) .mask)) (settingAppended S t r m vs v))) ps (withTail h (h .tail ++ y ∷ []))
   unfolding settingAppended filledIn noted openIndex put renew withTail recordIn valueIn pageIn cellIn currentIn scanPage wasCurrent appended stateOf rowAt scanAt
   update-one room step new =
-      let made = add-setting (none-made S v ps h o r b) (omega arith) in
-      record {
-        header = o .header;
-        opens = o .opens;
-        notes = made-notes S v ps h o k t r a b (y ∷ []) new (omega arith);
-        rows = masked-rows made new (λ c. unfold wasSet sets in refl);
-        tails = tails-are S v ps h o k t r a b (y ∷ []) new (settingAppended S t r m vs v) (made .tails);
-        currents = currents-stay o k step refl refl;
-        waits = waits-stay o k step refl;
-        pool = o .pool;
-        scans = o .scans;
-        scanPages = λ i. scan-stays o k step refl i refl;
-        whole = masked-whole made;
-      }
+      let made = add-setting (none-made o r b) (omega arith) in
+      search (made-parts o k a b new made (omega arith), masked-rows made new (λ c. unfold wasSet sets in refl), masked-whole made, pages-stay o k step refl refl (λ i. refl))
 
   -- ---- a column is new: its original value goes first
   update-two : (d : ℕ) (cs : List ℕ) → newColumns h r m ≡ d ∷ cs → length (recordsOf h (rangeOf r)) + 2 ≤ S .capacity
@@ -168,28 +155,16 @@ module _ (S : Shape) (v : View) (ps : List ScanEntry) (h : History) (o : Represe
       (withTail h (h .tail ++ record { transaction = t; row = r; content = original (d ∷ cs) ((rowAt h r) .values) } ∷ y ∷ []))
   unfolding settingAppended originalAppended filledIn noted openIndex put renew withTail recordIn valueIn pageIn cellIn currentIn scanPage wasCurrent appended stateOf scanAt
   update-two d cs e room step new =
-      record {
-        header = o .header;
-        opens = o .opens;
-        notes = made-notes S v ps h o k t r a b (w ∷ y ∷ []) new (omega arith);
-        rows = masked-rows two new (λ c. unfold wasSet sets in (rw (eqb-same r)));
-        tails = tails-are S v ps h o k t r a b (w ∷ y ∷ []) new (settingAppended S t r m vs (originalAppended S t r m v)) (two .tails);
-        currents = currents-stay o k step refl refl;
-        waits = waits-stay o k step refl;
-        pool = o .pool;
-        scans = o .scans;
-        scanPages = λ i. scan-stays o k step refl i refl;
-        whole = masked-whole two;
-      }
+      search (made-parts o k a b new two (omega arith), masked-rows two new (λ c. unfold wasSet sets in (rw (eqb-same r))), masked-whole two, pages-stay o k step refl refl (λ i. refl))
     where
       w : Record
       w = record { transaction = t; row = r; content = original (d ∷ cs) ((rowAt h r) .values) }
 
       original-is : ContentIs (S .columns) (original (d ∷ cs) ((rowAt h r) .values)) asOriginal (newBitsIn v r m) (originalWord S v r)
-      original-is = (refl, (λ c. original-bits S v ps h o k r m b good c ∙ ap (among c) e), (λ c q u. original-cell S v ps h o k r m b good c q u))
+      original-is = (refl, (λ c. original-bits o k r m b good c ∙ ap (among c) e), (λ c q u. original-cell o k r m b good c q u))
 
       one : Extended S h v r (w ∷ []) (originalAppended S t r m v)
-      one = extend (none-made S v ps h o r b) k t a b (original (d ∷ cs) ((rowAt h r) .values)) asOriginal (newBitsIn v r m) (omega arith) (omega arith) (masks-fit S v r m (o .whole) mask .0)
+      one = extend (none-made o r b) k t a b (original (d ∷ cs) ((rowAt h r) .values)) asOriginal (newBitsIn v r m) (omega arith) (omega arith) (masks-fit S v r m (o .whole) mask .0)
           (originalWord S v r) original-is (λ c. o .whole .fits Cells _)
 
       two : Extended S h v r (w ∷ y ∷ []) (settingAppended S t r m vs (originalAppended S t r m v))
@@ -203,5 +178,5 @@ module _ (S : Shape) (v : View) (ps : List ScanEntry) (h : History) (o : Represe
       go : (cs : List ℕ) → newColumns h r m ≡ cs → length (recordsOf h (rangeOf r)) + length (originalRecords t r cs ((rowAt h r) .values) ++ y ∷ []) ≤ S .capacity
           → Step S h (update t r m vs) (withTail h (h .tail ++ (originalRecords t r cs ((rowAt h r) .values) ++ y ∷ []))) → All (New h t r) (originalRecords t r cs ((rowAt h r) .values) ++ y ∷ [])
           → Represents S (updatedIn S t r m vs v) ps (withTail h (h .tail ++ (originalRecords t r cs ((rowAt h r) .values) ++ y ∷ [])))
-      go [] e room step new = rw (none-new S v ps h o k r m b good e) (update-one room step new)
-      go (d ∷ cs) e room step new = rw (some-new S v ps h o k r m b good d cs e) (update-two d cs e room step new)
+      go [] e room step new = rw (none-new o k r m b good e) (update-one room step new)
+      go (d ∷ cs) e room step new = rw (some-new o k r m b good d cs e) (update-two d cs e room step new)

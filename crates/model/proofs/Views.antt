@@ -10,6 +10,7 @@ use lib.Dec.{eqb}
 use lib.ListN.{length, getD, set, length-set}
 use Rattle.terms.specs.Measures.{Shape}
 use lib.Seq.{getD-set-same, getD-set-other}
+use borrow.Author.Tests.{ne-eqb}
 use Rattle.words.specs.Words.{Fit}
 use Rattle.loops.specs.Change.{changed}
 use Rattle.loops.proofs.Change.{changed-at, set-fit}
@@ -17,8 +18,10 @@ use Rattle.layout.specs.Regions.{index, len}
 use Rattle.layout.specs.View.{View, renew, put}
 use Rattle.layout.proofs.View.{renew-long}
 use Rattle.layout.specs.declared.Region.{Region}
+use Rattle.layout.specs.declared.Region.the-variants.{Changes}
 use Rattle.layout.specs.Sizes.{sizesOf}
-use Rattle.history.proofs.Lists.{by-cases, eqb-same, eqb-other}
+use Rattle.model.specs.Writing.{noted}
+use Rattle.history.proofs.Lists.{by-cases, eqb-same}
 use Rattle.model.specs.Represents.{Whole, HeaderIs}
 
 pub renew-whole : {S : Shape} {v : View} (k : Region) (l : List ℕ) → length l ≡ len (sizesOf S) k → Fit l → Whole S v → Whole S (renew k l v)
@@ -31,6 +34,10 @@ pub put-whole : {S : Shape} {v : View} (k : Region) (i w : ℕ) → w < 2 ^ 32 �
 unfolding put
 put-whole {v = v} k i w b o = renew-whole k (set (v k) i w) (length-set (v k) i w ∙ o .long k) (set-fit (v k) i w (o .fits k) b) o
 
+pub noted-whole : {S : Shape} {v : View} (t : ℕ) → Whole S v → Whole S (noted t v)
+unfolding noted
+noted-whole t = put-whole Changes _ _ (omega arith)
+
 -- ---- a pass over a region from its start
 pub changed-start : (f : ℕ → ℕ → ℕ) (n : ℕ) (l : List ℕ) (i : ℕ) → n ≤ length l → i < n → getD (changed f 0 n l) i 0 ≡ f i (getD l i 0)
 changed-start f n l i a b =
@@ -38,7 +45,7 @@ changed-start f n l i a b =
 
 -- ---- the header: one of its counts is written, and counts that are equal
 word-put : (ws : List ℕ) (i k n : ℕ) → i < length ws → getD (set ws i n) k 0 ≡ cond (eqb k i) n (getD ws k 0)
-word-put ws i k n b = by-cases (ℕ-discrete k i) (λ e. rw (e, eqb-same i) (getD-set-same ws i n 0 b)) (λ f. rw (eqb-other k i f) (getD-set-other ws i k n 0 f))
+word-put ws i k n b = by-cases (ℕ-discrete k i) (λ e. rw (e, eqb-same i) (getD-set-same ws i n 0 b)) (λ f. rw (ne-eqb k i f) (getD-set-other ws i k n 0 f))
 
 module _ {S : Shape} {r t s l m : ℕ} where
   pub header-put : (ws : List ℕ) (i n : ℕ) → i < length ws → 4 ≤ i → HeaderIs S r t s l m (λ k. getD ws k 0)

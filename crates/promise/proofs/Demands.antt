@@ -1,9 +1,9 @@
 -- The demands hold.
-use Prim.Native.Nat.{ℕ, _≤_, _<_}
+use Prim.Native.Nat.{ℕ, _≤_}
 use mathlib.Core.Path.{_≡_, refl, ap, sym, _∙_}
 use mathlib.Core.Bool.{Bool, true, false, cond, _&&_}
 use mathlib.Core.List.{List}
-use lib.Dec.{T, leb, leb→le, nleb→lt}
+use lib.Dec.{T, leb}
 use lib.ListN.{length, replicate}
 use Rattle.model.specs.Writing.{made as madeView}
 use Rattle.terms.specs.Measures.{Shape, withinLimits, mostScans}
@@ -13,13 +13,13 @@ use Rattle.terms.specs.declared.Refusal.{Refusal}
 use Rattle.layout.specs.Sizes.{sizesOf, bytesNeeded}
 use Rattle.layout.specs.View.{View, lay, viewOf}
 use Rattle.layout.proofs.Lay.{view-lay}
-use Rattle.history.specs.History.{Call, History, start, answer, run, tests, reply, verdict, accept, answerIf, read, seenAt, notGiven, noColumn}
-use Rattle.history.specs.Claims.{strike, Reads, latest-reads, at-reads, scan-reads, answerAt, ReadAt, Striking, Stability}
+use Rattle.history.specs.History.{Call, History, start, answer, run, tests, verdict, accept, seenAt}
+use Rattle.history.specs.Claims.{strike, Reads, answerAt, ReadAt, Striking, Stability}
 use Rattle.history.specs.Lists.{All, nil, cons}
-use Rattle.history.proofs.Lists.{all-keep, parts, is-true, clash}
-use Rattle.history.proofs.Accepted.{Passed, passed}
+use Rattle.history.proofs.Lists.{both-test, le-test, all-keep, is-true, clash}
+use Rattle.history.proofs.Accepted.{passed}
 use Rattle.history.proofs.Striking.{striking}
-use Rattle.history.proofs.Stability.{stability, accepted}
+use Rattle.history.proofs.Stability.{stability, accepted, replies, reads-reply, reads-bounds}
 use Rattle.facts.specs.Usable.{usable}
 use Rattle.making.specs.Made.{made, madeList}
 use Rattle.making.proofs.Answers.{laid as making-laid}
@@ -31,9 +31,10 @@ use Rattle.model.proofs.Heads.{sees-at}
 use Rattle.model.proofs.Calls.{current-read, one-call}
 use Rattle.model.proofs.Made.{small-shape, made-represents}
 use Rattle.model.proofs.Claims.{represented, reads, pages-hold, scans-keep}
+use Rattle.promise.specs.Same.{Same}
 use Rattle.promise.specs.Promise.{storeView, answerOf, memoryAfter, lend, left}
 use Rattle.promise.specs.Demands.{Accepted, memoryMade, storeAnswers, storeLeft, MakingAccepted, ReadsCommitted, PagesCommitted, ScansKept, Demand3, StrikingStore, storeAnswerAt, ReadIn, StabilityStore}
-use Rattle.promise.proofs.Same.{Same, made-starts, same-usable, view-is, memory-is, list-is, same-call, same-answers}
+use Rattle.promise.proofs.Same.{made-starts, same-usable, view-is, memory-is, list-is, same-call, same-answers}
 
 -- ---- an accepted making: its measures are within their limits, and memory and list are long enough
 record Enough (S : Shape) (m : List ℕ) (ps : List ScanEntry) : Type 0 where
@@ -52,15 +53,13 @@ enough : (S : Shape) (m : List ℕ) (ps : List ScanEntry) → Accepted S m ps �
 unfolding made bytesNeeded
 enough S m ps a =
     let t = both-passed (withinLimits S) (leb (bytesNeeded S) (length m) && leb mostScans (length ps)) (lay (sizesOf S) (madeView S) m) m a in
-    let u = parts (leb (bytesNeeded S) (length m)) (leb mostScans (length ps)) (t .1) in
     let within = is-true (withinLimits S) (t .0) in
-    let room = leb→le (bytesNeeded S) (length m) (u .0) in
-    let places = leb→le mostScans (length ps) (u .1) in
+    let fits = simp (both-test, le-test) at (t .1) in
     record {
       within = within;
-      room = room;
-      places = places;
-      laid = sym (ap (λ (w : Answer × List ℕ). w .1) (making-laid S (length ps) m within room places (lay (sizesOf S) (madeView S) m) refl));
+      room = fits .0;
+      places = fits .1;
+      laid = sym (ap (λ (w : Answer × List ℕ). w .1) (making-laid S (length ps) m within (fits .0) (fits .1) (lay (sizesOf S) (madeView S) m) refl));
     }
 
 pub making-accepted : MakingAccepted
@@ -151,19 +150,6 @@ module _ (S : Shape) (m : List ℕ) (ps : List ScanEntry) (a : Accepted S m ps) 
   view-later zs = let l = calls-left store-same zs in view-is (l .same) ∙ l .shown ∙ rw (words-left, list-left)
 
 -- ---- demand 2
--- what a read that is not refused answers, and that its row and column are there
-read-answers : (S : Shape) (h : History) {x : Call} {t r c : ℕ} → Reads h x t r c → verdict (tests S h x) ≡ accept → answer S h x ≡ read (seenAt h t) h r c
-unfolding answer answerIf reply
-read-answers S h latest-reads e = rw e
-read-answers S h at-reads e = rw e
-read-answers S h scan-reads e = rw e
-
-read-inside : (S : Shape) (h : History) {x : Call} {t r c : ℕ} → Reads h x t r c → Passed (tests S h x) → (r < length (h .rows)) × (c < S .columns)
-unfolding tests notGiven noColumn
-read-inside S h {r = r} {c = c} latest-reads p = (nleb→lt (length (h .rows)) r (p .0), nleb→lt (S .columns) c (p .1 .0))
-read-inside S h {r = r} {c = c} at-reads p = (nleb→lt (length (h .rows)) r (p .1 .0), nleb→lt (S .columns) c (p .1 .1 .0))
-read-inside S h {r = r} {c = c} scan-reads p = (nleb→lt (length (h .rows)) r (p .1 .0), nleb→lt (S .columns) c (p .1 .1 .0))
-
 pub reads-committed : ReadsCommitted
 unfolding ReadsCommitted Rattle.model.specs.Claims.Reads
 reads-committed S m ps a cs ys x t r c y q n =
@@ -171,12 +157,12 @@ reads-committed S m ps a cs ys x t r c y q n =
     let e : answerOf (storeLeft S m ps cs) x ≡ answer S h x =
     same-call (store-same S m ps a ys) x y .0 in
     let w : verdict (tests S h x) ≡ accept = accepted S h x (rw e at n) in
-    let b = read-inside S h q (passed (tests S h x) w) in
     let u = enough S m ps a in
     let o = represented S (rw (u .within) tt) (length ps) (u .places) ys in
-    e ∙ read-answers S h q w
-    ∙ sym (current-read S (storeAfter S (length ps) cs) _ h (o .0) (o .1) (reader t 0) r c (seenAt h t) (sees-at h t) (b .0) (b .1))
-    ∙ reads S (rw (u .within) tt) (length ps) (u .places) cs ys t r c (b .0) (b .1)
+    let b = reads-bounds S h q (o .1 .past .timely) (passed (tests S h x) w) in
+    e ∙ replies S h x w ∙ reads-reply S h q
+    ∙ sym (current-read (o .0) (o .1) (reader t 0) r c (seenAt h t) (sees-at h t) (b .1) (b .2))
+    ∙ reads S (rw (u .within) tt) (length ps) (u .places) cs ys t r c (b .1) (b .2)
 
 pub pages-committed : PagesCommitted
 unfolding PagesCommitted Rattle.model.specs.Claims.PagesHold

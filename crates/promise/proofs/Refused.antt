@@ -1,6 +1,6 @@
 -- A refused call leaves every byte and every place as it was: of any memory and list, also of those that no call made.
 use mathlib.Core.Path.{_≡_, refl, ap, sym, _∙_}
-use mathlib.Core.Bool.{Bool, true, false, cond}
+use mathlib.Core.Bool.{Bool, true, false, cond, true≢false}
 use mathlib.Core.List.{List}
 use lib.IntN.{ℤ}
 use Rattle.terms.specs.Measures.{Shape}
@@ -18,7 +18,6 @@ use Rattle.facts.specs.Usable.{storedShape, storedSizes, usable}
 use Rattle.facts.proofs.Usable.{usable-tells}
 use Rattle.model.specs.Reading.{readIn, readCurrent, sumIn, visibleIn}
 use Rattle.model.specs.Calls.{replyIn, viewIf, entriesIf, say, viewNext, entriesNext}
-use Rattle.model.proofs.Lists.{true-false}
 use Rattle.promise.specs.Promise.{storeView, answerOf, memoryAfter, listAfter}
 use Rattle.promise.specs.Demands.{RefusedKeeps}
 
@@ -50,7 +49,7 @@ not-refused S v ps (lineage g c) = refl
 -- so an answer that is a refusal is the verdict's
 pub refused-by : (S : Shape) (v : View) (ps : List ScanEntry) (c : Call) (w : Verdict) {n : Refusal} → answerIf w (replyIn S v ps c) ≡ Answer.Refused n → w ≡ refuse n
 unfolding answerIf
-refused-by S v ps c accept e = absurd (true-false (sym (ap isRefused e) ∙ not-refused S v ps c))
+refused-by S v ps c accept e = absurd (true≢false (sym (ap isRefused e) ∙ not-refused S v ps c))
 refused-by S v ps c (refuse r) e = cc
 
 pub refused-keeps : RefusedKeeps

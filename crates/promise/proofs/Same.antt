@@ -1,4 +1,4 @@
--- A lent memory and scan list that represent a history of a shape, and that every call keeps it so: the one relation between bytes and the plain history.
+-- Every call keeps a lent memory and scan list representing a history of a shape (specs/Same), and answers as the history does.
 use Prim.Native.Nat.{ℕ, _+_, _*_, _≤_, _<_}
 use mathlib.Core.Path.{_≡_, refl, ap, sym, _∙_, fun-ext}
 use mathlib.Core.Bool.{true, cond}
@@ -31,15 +31,9 @@ use Rattle.model.specs.Calls.{Typed, say, viewNext, entriesNext}
 use Rattle.model.specs.Represents.{Represents, Known}
 use Rattle.model.proofs.Calls.{one-call}
 use Rattle.model.proofs.Made.{small-shape, made-represents}
+use Rattle.promise.specs.Same.{Same}
 use Rattle.promise.specs.Promise.{storeView, answerOf, memoryAfter, listAfter, answersOf, lend}
 use Rattle.promise.proofs.Stored.{represented-facts}
-
--- The view by the shape represents the history, and there are the bytes for it. That the memory says this shape, and that it is usable, follows.
-pub record Same (m : List ℕ) (ps : List ScanEntry) (S : Shape) (h : History) : Type 0 where
-  pub within : withinLimits S ≡ true
-  pub room : bytesNeeded S ≤ length m
-  pub known : Known S h
-  pub shown : Represents S (viewOf (sizesOf S) m) ps h
 
 -- ---- what is laid is as long as it was
 pub lay-length : (s : Sizes) (v : View) (m : List ℕ) → Long s v → Suffices s m → length (lay s v m) ≡ length m
@@ -95,7 +89,7 @@ module _ {m : List ℕ} {ps : List ScanEntry} {S : Shape} {h : History} (o : Sam
         le-leb (need (sizesOf S) * 4) (length m) (o .room),
         le-leb mostScans (length ps) (o .shown .scans .room),
       )
-      (represented-facts S (viewOf (sizesOf S) m) ps h (o .shown) (o .known) (o .within))
+      (represented-facts (o .shown) (o .known) (o .within))
 
   abbrev seen : View
   seen = viewOf (sizesOf S) m

@@ -1,18 +1,18 @@
 -- A call is refused with a number exactly if that number's condition is the first of the call's list that applies, and accepted exactly if none applies. On a
 -- usable memory the model's Bools say, test by test, what the conditions say, given that those before do not apply.
 use mathlib.Core.Path.{_≡_, refl, ap, sym, _∙_, subst}
-use mathlib.Core.Logic.{_≢_, _⊎_, inl, inr, ⊎-elim, _↔_}
-use mathlib.Core.Bool.{Bool, true, false, not, cond, _&&_, _||_, and-true}
+use mathlib.Core.Logic.{_≢_, _⊎_, inl, inr, ⊎-elim, _↔_, Iff·rfl}
+use mathlib.Core.Bool.{Bool, true, false, not, cond, _&&_, _||_, and-true, true≢false}
 use mathlib.Core.List.{List, [], _∷_}
 use Prim.Native.Nat.{ℕ, zero, suc, _+_, _*_, _-_, _/_, _^_, _≤_, _<_}
 use native.Mathlib.Omega.{arith}
 use native.Mathlib.Nat.{div-eq-sub-div}
 use native.Mathlib.Decide.{ℕ-discrete}
-use lib.Dec.{T, T-not, not-T, leb, ltb, eqb, eqb→eq, leb→le, le→leb, ltb→lt, lt→ltb, nltb→le}
+use lib.Dec.{T, T-not, not-T, leb, ltb, eqb, eqb→eq, leb→le, ltb→lt, nltb→le}
 use lib.ListN.{length, getD}
 use lib.Pow.{pow-pos, shr-shr}
 use Rattle.terms.specs.Measures.{Shape, mostTransactions}
-use Rattle.terms.specs.Places.{freeEntry, bears, isScan, firstIndex}
+use Rattle.terms.specs.Places.{freeEntry, bears, firstIndex}
 use Rattle.terms.specs.Refusals.{isRefused}
 use Rattle.terms.specs.declared.Answer.{Answer}
 use Rattle.terms.specs.declared.ScanEntry.{ScanEntry}
@@ -20,12 +20,12 @@ use Rattle.terms.specs.declared.Refusal.{Refusal}
 use Rattle.words.specs.Words.{words}
 use Rattle.words.proofs.Words.{length-words}
 use Rattle.layout.specs.Sizes.{sizesOf, Proper}
-use Rattle.layout.specs.View.{View, rowsGiven, lastStamp, usedIn, viewOf}
+use Rattle.layout.specs.View.{View, usedIn, viewOf}
 use Rattle.layout.proofs.View.{view-long}
 use Rattle.layout.proofs.Limits.{proper}
 use Rattle.layout.specs.declared.Region.the-variants.{Opens}
 use Rattle.history.specs.History.{Call, begin, insert, update, delete, commit, abort, latest, readAt, ownRead, openScan, scanRead, sum, close, merge, release, pageCell, lineage, Test, _when_, any, count, Verdict, accept, refuse, verdict, answerIf, bit, rangeOf, badMask, noColumn, noRange}
-use Rattle.history.proofs.Lists.{by-cases, by-test, clash, is-true, is-false, refuted, both, parts, or-left, or-right, or-cases, eqb-equal, place-any}
+use Rattle.history.proofs.Lists.{by-cases, by-test, clash, is-true, is-false, refuted, both, parts, or-left, or-right, or-cases, eqb-equal, place-any, both-test, not-test, le-test, eq-test}
 use Rattle.history.proofs.Masks.{bit-low}
 use Rattle.facts.specs.Usable.{storedShape, storedSizes, usable}
 use Rattle.facts.proofs.Usable.{Usable, usable-tells}
@@ -34,13 +34,13 @@ use Rattle.layout.specs.Regions.{slot}
 use Rattle.model.specs.Asked.{Placed}
 use Rattle.model.specs.Writing.{newBitsIn, recordsWanted, freeIn}
 use Rattle.model.specs.Calls.{openIn, openOther, standsFor, anyRecord, notOpenIn, noScanIn, notGivenIn, heldIn, goneIn, lacksIn, notLaterIn, laterIn, outOfReachIn, openAmongIn, testsIn, replyIn, say}
-use Rattle.model.proofs.Lists.{place-lt, place-is, true-false, any-count, count-rest}
+use Rattle.model.proofs.Lists.{place-lt, place-is, any-count, count-rest}
 use Rattle.model.proofs.Heads.{slot-is}
 use Rattle.model.proofs.Insert.{bit-none}
 use Rattle.model.proofs.Masks.{bit-new, no-bits, below-bits, below-power}
 use Rattle.model.proofs.Free.{free-none}
 use Rattle.promise.specs.Promise.{storeView, answerOf}
-use Rattle.promise.specs.Stated.{Open, ScanOpen, Committed, Aborted, RecordUpTo, RecordOf, Touched, WrongMask, Held, Gone, Lacks, LacksWanted, transactionsOpen, OutOfReach, OpenUpTo, NoneFree, Clause, _on_, stated, conditions, First, NoneApplies}
+use Rattle.promise.specs.Stated.{Open, ScanOpen, Committed, Aborted, RecordUpTo, RecordOf, Touched, WrongMask, Held, Gone, Lacks, LacksWanted, transactionsOpen, OpenUpTo, NoneFree, Clause, _on_, stated, conditions, First, NoneApplies}
 use Rattle.promise.specs.Demands.{Refuses}
 use Rattle.promise.proofs.Refused.{refused-by, not-refused}
 
@@ -68,22 +68,10 @@ meets-none (test {n = x} {b} {P} {ts} {cs} e f) = go b e (λ p. meets-none (f p)
     go false e ih = (λ q. (e .1, ih (e .1) .0 q), λ q. ih (e .1) .1 (q .1))
 
 -- ---- Bools and what they say
-le-test : (a b : ℕ) → T (leb a b) ↔ (a ≤ b)
-le-test a b = (leb→le a b, le→leb a b)
-
-lt-test : (a b : ℕ) → T (ltb a b) ↔ (a < b)
-lt-test a b = (ltb→lt a b, lt→ltb a b)
-
-eq-test : (a b : ℕ) → T (eqb a b) ↔ (a ≡ b)
-eq-test a b = (eqb→eq a b, eqb-equal a b)
-
 same-test : (b : Bool) → T b ↔ T b
 same-test b = (λ t. t, λ t. t)
 
 module _ {P : Type 0} where
-  not-test : (b : Bool) → T b ↔ P → T (not b) ↔ (¬ P)
-  not-test b e = (λ t p. T-not b t (e .1 p), λ n. not-T b (λ t. n (e .0 t)))
-
   or-test : (a b : Bool) {Q : Type 0} → T a ↔ P → T b ↔ Q → T (a || b) ↔ (P ⊎ Q)
   or-test a b e f = (λ t. or-cases a b t (λ x. inl (e .0 x)) (λ x. inr (f .0 x)), ⊎-elim (λ p. or-left a b (e .1 p)) (λ q. or-right a b (f .1 q)))
 
@@ -102,24 +90,18 @@ below-test f (suc n) = (
 -- a number in a list of places
 module _ {A : Type 0} (number : A → ℕ) (l : List A) (d : A) where
   list-test : (t : ℕ) → T (any (λ p. bears t (number p)) l) ↔ ((t ≢ 0) × ((j : ℕ) × (j < length l) × (number (getD l j d) ≡ t)))
-  list-test t = (
-    λ b.
-        let f : A → Bool = λ p. bears t (number p) in
-        let j = firstIndex f l in
-        let q = parts (not (eqb (number (getD l j d)) 0)) (eqb (number (getD l j d)) t) (place-is f l d b) in
-        let e = eqb→eq (number (getD l j d)) t (q .1) in
-        (λ z. T-not (eqb (number (getD l j d)) 0) (q .0) (eqb-equal (number (getD l j d)) 0 (e ∙ z)), (j, place-lt f l b, e)),
-    λ q. place-any (λ p. bears t (number p)) l d (q .1 .0) (q .1 .1)
-        (both (not (eqb (number (getD l (q .1 .0) d)) 0)) (eqb (number (getD l (q .1 .0) d)) t)
-        (not-T (eqb (number (getD l (q .1 .0) d)) 0) (λ z. q .0 (sym (q .1 .2) ∙ eqb→eq (number (getD l (q .1 .0) d)) 0 z))) (eqb-equal (number (getD l (q .1 .0) d)) t (q .1 .2))),
-  )
+  list-test t =
+      let f : A → Bool = λ p. bears t (number p) in (
+        λ b. let q = simp (both-test, not-test, eq-test) at (place-is f l d b) in (λ z. q .0 (q .1 ∙ z), (firstIndex f l, place-lt f l b, q .1)),
+        λ q. place-any f l d (q .1 .0) (q .1 .1) (simp (both-test, not-test, eq-test) (λ z. q .0 (sym (q .1 .2) ∙ z), q .1 .2)),
+      )
 
 -- ---- bits
 some-bit : (n : ℕ) → n ≢ 0 → (c : ℕ) × T (bit n c)
 some-bit n z =
     by-test (λ b. anyBelow (bit n) n ≡ b → (c : ℕ) × T (bit n c)) (anyBelow (bit n) n)
     (λ _ e. let q = below-test (bit n) n .0 (rw e tt) in (q .0, q .2))
-    (λ _ e. absurd (z (below-bits n n (below-power n) (λ c b. refuted (bit n c) (λ t. true-false (sym (is-true _ (below-test (bit n) n .1 (c, b, t))) ∙ e)))))) refl
+    (λ _ e. absurd (z (below-bits n n (below-power n) (λ c b. refuted (bit n c) (λ t. true≢false (sym (is-true _ (below-test (bit n) n .1 (c, b, t))) ∙ e)))))) refl
 
 mask-test : (S : Shape) (m : ℕ) → T (badMask S m) ↔ WrongMask S m
 unfolding badMask bit
@@ -139,9 +121,6 @@ mask-test S m = (
 module _ (S : Shape) (v : View) (ps : List ScanEntry) (long : length (v Opens) ≡ mostTransactions) (pool : Placed S v) where
   open-test : (t : ℕ) → T (openIn v t) ↔ Open v t
   open-test t = rw long at (list-test (λ k. k) (v Opens) 0 t)
-
-  scan-test : (k : ℕ) → T (any (isScan k) ps) ↔ ScanOpen ps k
-  scan-test k = list-test (λ (p : ScanEntry). p .number) ps freeEntry k
 
   records-test : (g n : ℕ) (f : RecordWords → Bool) (P : RecordWords → Type 0)
       → ((k : ℕ) → 1 ≤ k → k ≤ n → T (f (recordIn v (slot S g k))) ↔ P (recordIn v (slot S g k)))
@@ -166,7 +145,7 @@ module _ (S : Shape) (v : View) (ps : List ScanEntry) (long : length (v Opens) �
 
   other-test : (t k : ℕ) → T (openOther v t k) ↔ (Open v k × (k ≢ t))
   unfolding openOther
-  other-test t k = and-test (openIn v k) (not (eqb k t)) (open-test k) (λ _. not-test (eqb k t) (eq-test k t))
+  other-test t k = simp (both-test, not-test, open-test, eq-test) Iff·rfl
 
   -- the inserter and the records apart
   abbrev Holds : ℕ → ℕ → Type 0
@@ -210,7 +189,7 @@ module _ (S : Shape) (v : View) (ps : List ScanEntry) (long : length (v Opens) �
 
       insert-aborted : T (not (standsFor t ((rowIn v r) .transaction) ((rowIn v r) .state))) ↔ Aborted v ((rowIn v r) .transaction) ((rowIn v r) .state)
       insert-aborted =
-          let e = not-test (standsFor t ((rowIn v r) .transaction) ((rowIn v r) .state)) row-stands in (
+          let e = simp row-stands at (not-test (standsFor t ((rowIn v r) .transaction) ((rowIn v r) .state))) in (
             λ b. let not-open : ¬ Open v ((rowIn v r) .transaction) = λ p. free ((rowIn v r) .transaction, p, (λ z. e .0 b (inr z)), inl refl) in
                 (not-open, λ z. e .0 b (inl (not-open, z))),
             λ q. e .1 (⊎-elim (λ p. q .1 (p .1)) (λ z. q .0 (rw z o))),
@@ -218,7 +197,7 @@ module _ (S : Shape) (v : View) (ps : List ScanEntry) (long : length (v Opens) �
 
   lacks-test : (r n : ℕ) → T (lacksIn S v r n) ↔ Lacks S v r n
   unfolding lacksIn
-  lacks-test r n = lt-test _ _
+  lacks-test r n = le-test _ _
 
   wanted-test : (r m : ℕ) → T (lacksIn S v r (recordsWanted v r m)) ↔ LacksWanted S v r m
   unfolding recordsWanted newBitsIn
@@ -231,7 +210,7 @@ module _ (S : Shape) (v : View) (ps : List ScanEntry) (long : length (v Opens) �
       ))
     where
       none : newBitsIn v r m ≡ 0 → (c : ℕ) → T (bit m c) → bit ((rowIn v r) .mask) c ≡ false → ⊥
-      none z c a b = true-false (sym (bit-new m ((rowIn v r) .mask) c ∙ rw (is-true (bit m c) a, b)) ∙ ap (λ (k : ℕ). bit k c) z ∙ bit-none c)
+      none z c a b = true≢false (sym (bit-new m ((rowIn v r) .mask) c ∙ rw (is-true (bit m c) a, b)) ∙ ap (λ (k : ℕ). bit k c) z ∙ bit-none c)
 
       new : newBitsIn v r m ≢ 0 → (c : ℕ) × T (bit m c) × (bit ((rowIn v r) .mask) c ≡ false)
       new z =
@@ -245,10 +224,6 @@ module _ (S : Shape) (v : View) (ps : List ScanEntry) (long : length (v Opens) �
       let all : none + transactionsOpen v ≡ length (v Opens) = simp and-true at (count-rest (λ k. eqb k 0) (v Opens)) in
       rw (any-count (λ k. eqb k 0) (v Opens)) (λ t. omega (arith, nltb→le 0 none t), λ b. not-T (ltb 0 none) (λ t. omega (arith, ltb→lt 0 none t)))
 
-  reach-test : (g c n : ℕ) → T (outOfReachIn S v g c n) ↔ OutOfReach S v g c n
-  unfolding outOfReachIn
-  reach-test g c n = or-test (leb n _) (ltb (usedIn v g) n) (le-test n _) (lt-test _ n)
-
   among-test : (g n : ℕ) → T (openAmongIn S v g n) ↔ OpenUpTo S v g n
   unfolding openAmongIn
   among-test g n = records-test g n (λ x. openIn v (x .transaction)) (λ x. Open v (x .transaction)) (λ k a b. open-test _)
@@ -258,66 +233,46 @@ module _ (S : Shape) (v : View) (ps : List ScanEntry) (long : length (v Opens) �
 
   closed-test : (t : ℕ) → T (notOpenIn v t) ↔ (¬ Open v t)
   unfolding notOpenIn
-  closed-test t = not-test (openIn v t) (open-test t)
+  closed-test t = simp (not-test, open-test) Iff·rfl
 
   no-scan-test : (k : ℕ) → T (noScanIn ps k) ↔ (¬ ScanOpen ps k)
   unfolding noScanIn
-  no-scan-test k = not-test (any (isScan k) ps) (scan-test k)
-
-  given-test : (r : ℕ) → T (notGivenIn v r) ↔ (rowsGiven v ≤ r)
-  unfolding notGivenIn
-  given-test r = le-test _ r
-
-  column-test : (c : ℕ) → T (noColumn S c) ↔ (S .columns ≤ c)
-  unfolding noColumn
-  column-test c = le-test _ c
-
-  range-test : (g : ℕ) → T (noRange S g) ↔ (S .ranges ≤ g)
-  unfolding noRange
-  range-test g = le-test _ g
-
-  later-test : (s : ℕ) → T (laterIn v s) ↔ (lastStamp v < s)
-  unfolding laterIn
-  later-test s = lt-test _ s
-
-  not-later-test : (s : ℕ) → T (notLaterIn v s) ↔ (s ≤ lastStamp v)
-  unfolding notLaterIn
-  not-later-test s = le-test s _
+  no-scan-test k = simp (not-test, list-test (λ (p : ScanEntry). p .number) ps freeEntry) Iff·rfl
 
   -- an open transaction, of one that is not shown to be closed
   is-open : (t : ℕ) → ¬ (¬ Open v t) → Open v t
   is-open t n = open-test t .0 (by-test (λ b. T b) (openIn v t) (λ _. tt) (λ z. n (λ p. T-not (openIn v t) z (open-test t .1 p))))
 
   meets : (c : Call) → Meets (testsIn S v ps c) (stated S v ps c)
-  unfolding testsIn stated
+  unfolding testsIn stated notGivenIn noColumn noRange laterIn notLaterIn outOfReachIn
   meets begin = test (le-test _ _) (λ _. test busy-test (λ _. done))
   meets (insert t vs) = test (closed-test t) (λ _. test (le-test _ _) (λ _. done))
   meets (update t r m vs) =
-      test (closed-test t) (λ o. test (given-test r) (λ _. test (mask-test S m) (λ _.
+      test (closed-test t) (λ o. test (le-test _ _) (λ _. test (mask-test S m) (λ _.
       test (held-test t r) (λ h. test (gone-test t r (is-open t o) h) (λ _. test (wanted-test r m) (λ _. done))))))
   meets (delete t r) =
-      test (closed-test t) (λ o. test (given-test r) (λ _.
+      test (closed-test t) (λ o. test (le-test _ _) (λ _.
       test (held-test t r) (λ h. test (gone-test t r (is-open t o) h) (λ _. test (lacks-test r 1) (λ _. done)))))
-  meets (commit t s) = test (closed-test t) (λ _. test (not-later-test s) (λ _. done))
+  meets (commit t s) = test (closed-test t) (λ _. test (le-test _ _) (λ _. done))
   meets (abort t) = test (closed-test t) (λ _. done)
-  meets (latest r c) = test (given-test r) (λ _. test (column-test c) (λ _. done))
-  meets (readAt s r c) = test (later-test s) (λ _. test (given-test r) (λ _. test (column-test c) (λ _. done)))
-  meets (ownRead t r c) = test (closed-test t) (λ _. test (given-test r) (λ _. test (column-test c) (λ _. done)))
-  meets (openScan s) = test (later-test s) (λ _. test (le-test _ _) (λ _. test (le-test _ _) (λ _. done)))
-  meets (scanRead k r c) = test (no-scan-test k) (λ _. test (given-test r) (λ _. test (column-test c) (λ _. done)))
-  meets (sum k c) = test (no-scan-test k) (λ _. test (column-test c) (λ _. done))
+  meets (latest r c) = test (le-test _ _) (λ _. test (le-test _ _) (λ _. done))
+  meets (readAt s r c) = test (le-test _ _) (λ _. test (le-test _ _) (λ _. test (le-test _ _) (λ _. done)))
+  meets (ownRead t r c) = test (closed-test t) (λ _. test (le-test _ _) (λ _. test (le-test _ _) (λ _. done)))
+  meets (openScan s) = test (le-test _ _) (λ _. test (le-test _ _) (λ _. test (le-test _ _) (λ _. done)))
+  meets (scanRead k r c) = test (no-scan-test k) (λ _. test (le-test _ _) (λ _. test (le-test _ _) (λ _. done)))
+  meets (sum k c) = test (no-scan-test k) (λ _. test (le-test _ _) (λ _. done))
   meets (close k) = test (no-scan-test k) (λ _. done)
   meets (merge g c n) =
-      test (range-test g) (λ _. test (column-test c) (λ _. test (reach-test g c n) (λ _. test (among-test g n) (λ _. test free-test (λ _. done)))))
+      test (le-test _ _) (λ _. test (le-test _ _) (λ _. test (or-test (leb n _) (ltb (usedIn v g) n) (le-test n _) (le-test _ n)) (λ _. test (among-test g n) (λ _. test free-test (λ _. done)))))
   meets release = done
-  meets (pageCell c r) = test (column-test c) (λ _. test (given-test r) (λ _. done))
-  meets (lineage g c) = test (range-test g) (λ _. test (column-test c) (λ _. done))
+  meets (pageCell c r) = test (le-test _ _) (λ _. test (le-test _ _) (λ _. done))
+  meets (lineage g c) = test (le-test _ _) (λ _. test (le-test _ _) (λ _. done))
 
 -- ---- of a usable memory
 is-accept : (w : Verdict) (a : Answer) → isRefused (answerIf w a) ≡ false → w ≡ accept
 unfolding answerIf
 is-accept accept a e = refl
-is-accept (refuse n) a e = absurd (true-false e)
+is-accept (refuse n) a e = absurd (true≢false e)
 
 placed : (S : Shape) (v : View) (ps : List ScanEntry) → Proper (sizesOf S) → Usable (sizesOf S) v ps → Placed S v
 unfolding pageIn
@@ -356,9 +311,9 @@ refuses m ps c = go (usable m ps) (on-usable m ps c)
     go true f =
         let e = f refl in (
           λ n. (
-            λ q. inr (true-false, meets-first e n .0 (refused-by S v ps c _ q)),
-            ⊎-elim (λ q. absurd (true-false (q .0))) (λ q. rw (meets-first e n .1 (q .1)) (unfold answerIf in refl)),
+            λ q. inr (true≢false, meets-first e n .0 (refused-by S v ps c _ q)),
+            ⊎-elim (λ q. absurd (true≢false (q .0))) (λ q. rw (meets-first e n .1 (q .1)) (unfold answerIf in refl)),
           ),
-          (λ q. (true-false, meets-none e .0 (is-accept _ _ q)), λ q. rw (meets-none e .1 (q .1)) (unfold answerIf in (not-refused S v ps c))),
+          (λ q. (true≢false, meets-none e .0 (is-accept _ _ q)), λ q. rw (meets-none e .1 (q .1)) (unfold answerIf in (not-refused S v ps c))),
         )
-    go false f = (λ n. (λ q. inl (refl, cc), ⊎-elim (λ q. ap Answer.Refused (q .1)) (λ q. absurd (q .0 refl))), (λ q. absurd (true-false q), λ q. absurd (q .0 refl)))
+    go false f = (λ n. (λ q. inl (refl, cc), ⊎-elim (λ q. ap Answer.Refused (q .1)) (λ q. absurd (q .0 refl))), (λ q. absurd (true≢false q), λ q. absurd (q .0 refl)))

@@ -1,12 +1,12 @@
 -- Every stored fact holds of a memory and a list that represent a history: so no call on a store that calls alone have worked on is answered 2.
-use Prim.Native.Nat.{ℕ, zero, suc, _+_, _*_, _-_, _/_, _%_, _≤_, _<_, zero-le}
+use Prim.Native.Nat.{ℕ, zero, suc, _+_, _*_, _-_, _/_, _%_, _≤_, _<_}
 use mathlib.Core.Path.{_≡_, refl, ap, sym, _∙_}
 use mathlib.Core.Logic.{_≢_}
-use mathlib.Core.Bool.{Bool, true, false, not}
+use mathlib.Core.Bool.{true, not}
 use mathlib.Core.List.{List, [], _∷_}
 use native.Mathlib.Omega.{arith}
-use native.Mathlib.Nat.{le-refl}
-use native.Mathlib.Decide.{decLt, ℕ-discrete}
+use native.Mathlib.Nat.{le-refl, mod-eq-of-lt}
+use native.Mathlib.Decide.{decLt}
 use lib.Dec.{T, eqb, lt→ltb}
 use lib.ListN.{length, getD, List·getD-eq-default}
 use Rattle.layout.specs.Codes.{asWaiting}
@@ -16,10 +16,11 @@ use Rattle.layout.specs.declared.Region.the-variants.{Opens, TailRow, Used}
 use Rattle.layout.specs.View.{View, rowsGiven, transactionsGiven, lastStamp, mergesMade, usedIn}
 use Rattle.layout.specs.Sizes.{sizesOf}
 use Rattle.layout.proofs.Limits.{proper}
-use Rattle.history.specs.History.{History, unknown, active, aborted, committed, count, nth, stateOf, rowAt, rangeOf, recordsOf, scanAt}
-use Rattle.history.proofs.Lists.{all-at, by-cases, cond-ap, eqb-other, eqb-equal, place-any}
+use Rattle.history.specs.History.{History, unknown, count, stateOf, rowAt, rangeOf, recordsOf, scanAt}
+use Rattle.history.proofs.Lists.{all-at, by-cases, cond-ap}
 use Rattle.history.specs.Latest.{stampOf}
-use Rattle.history.specs.Invariants.{isGiven, Stamped, Placed, Timely}
+use Rattle.history.specs.Invariants.{isGiven, Placed, Timely}
+use Rattle.history.proofs.States.{stamp-last}
 use Rattle.history.proofs.Order.{placed-at}
 use Rattle.history.proofs.Ranges.{records-range}
 use Rattle.history.proofs.Links.{last-of-row}
@@ -28,59 +29,15 @@ use Rattle.scans.specs.Places.{opened, openCount}
 use Rattle.facts.specs.Facts.{factsHold}
 use Rattle.facts.proofs.Ready.{Stored}
 use Rattle.facts.proofs.Usable.{Linked, Usable}
-use Rattle.terms.specs.Places.{bears, firstIndex, freeEntry}
+use Rattle.terms.specs.Places.{freeEntry}
 use Rattle.model.specs.Stored.{rowIn, recordIn, valueIn, pageIn, chunksOf, pagesOf}
-use Rattle.model.proofs.Book.{live-inside, Kind, Book, book-is, book-found, book-only}
-use Rattle.model.proofs.Merged.{place-mod, chunk-parts, named, placed}
+use Rattle.model.proofs.Book.{live-given, number-live, number-given, numbers-apart, place-stands}
+use Rattle.model.proofs.Merged.{chunk-parts, named, placed}
 use Rattle.model.proofs.Heads.{in-range}
 use Rattle.model.proofs.Scans.{scanKind, scan-count}
 use Rattle.model.proofs.Transactions.{openKind}
 use Rattle.model.specs.Represents.{RecordIs, WaitingIs, madeIn, Represents, Known}
 use Rattle.promise.proofs.Tests.{facts-hold}
-
--- ---- numbers from 1, and places that bear them
-
--- what is live has a number that was given
-live-given : {A : Type 0} (live : A → Bool) (l : List A) (k : ℕ) (d : A) → live d ≡ false → T (live (nth l k d)) → (1 ≤ k) × (k ≤ length l)
-live-given live l zero d e t = absurd (rw e at t)
-live-given live l (suc k) d e t = (omega arith, live-inside live l k d e t)
-
--- the places of a book: what stands in one that is not free
-module _ {P A : Type 0} (K : Kind P A) (ts : List A) (l : List P) (o : Book K ts l) where
-  abbrev numberAt : ℕ → ℕ
-  numberAt j = K.number (getD l j K.free)
-
-  bearing : (j : ℕ) → numberAt j ≢ 0 → T (bears (numberAt j) (numberAt j))
-  bearing j n = rw (eqb-other (numberAt j) 0 n) (eqb-equal (numberAt j) (numberAt j) refl)
-
-  inside : (j : ℕ) → numberAt j ≢ 0 → j < length l
-  inside j n = live-inside (λ p. bears (numberAt j) (K.number p)) l j K.free (rw K.free-number) (bearing j n)
-
-  -- its number is that of what is live
-  number-live : (j : ℕ) → numberAt j ≢ 0 → T (K.live (nth ts (numberAt j) K.none))
-  number-live j n = rw (book-is K ts l o (numberAt j)) at (place-any (λ p. bears (numberAt j) (K.number p)) l K.free j (inside j n) (bearing j n))
-
-  number-given : (j : ℕ) → numberAt j ≤ length ts
-  number-given j = by-cases (ℕ-discrete (numberAt j) 0) (λ z. omega arith) (λ n. live-given K.live ts (numberAt j) K.none K.none-live (number-live j n) .1)
-
-  numbers-apart : (i j : ℕ) → i < j → numberAt i ≡ numberAt j → numberAt i ≡ 0
-  numbers-apart i j b e =
-      by-cases (ℕ-discrete (numberAt i) 0) (λ z. z)
-      (λ n. absurd (book-only K ts l o (numberAt i) i j b (inside j (rw (← e) n)) (bearing i n) (rw (← e) (bearing i n))))
-
-  place-is : (j : ℕ) → numberAt j ≢ 0 → getD l j K.free ≡ K.as′ (numberAt j) (nth ts (numberAt j) K.none)
-  place-is j n = ap (λ (i : ℕ). getD l i K.free) here ∙ K.tells _ _ (book-found K ts l o (numberAt j) (number-live j n))
-    where
-      own : ℕ
-      own = firstIndex (λ p. bears (numberAt j) (K.number p)) l
-
-      own-number : numberAt own ≡ numberAt j
-      own-number = book-found K ts l o (numberAt j) (number-live j n) K.number ∙ K.as-number (numberAt j) _
-
-      here : j ≡ own
-      here =
-          by-cases (decLt j own) (λ p. absurd (n (numbers-apart j own p (sym own-number))))
-          (λ p. by-cases (decLt own j) (λ q. absurd (n (sym own-number ∙ numbers-apart own j q own-number))) (λ q. omega arith))
 
 opened-count : (ps : List ScanEntry) → openCount ps ≡ count (λ p. not (eqb (p .number) 0)) ps
 opened-count [] = refl
@@ -88,7 +45,7 @@ opened-count (p ∷ ps) = cond-ap length (not (eqb (p .number) 0)) (p ∷ opened
 
 -- ---- the facts, part by part
 
-module _ (S : Shape) (v : View) (ps : List ScanEntry) (h : History) (o : Represents S v ps h) (k : Known S h) where
+module _ {S : Shape} {v : View} {ps : List ScanEntry} {h : History} (o : Represents S v ps h) (k : Known S h) where
   -- used records are those of the history
   used-few : (g i : ℕ) → g < S .ranges → i < usedIn v g → i < length (recordsOf h g)
   used-few g i a b = omega (arith, o .tails g a .used-all)
@@ -112,11 +69,7 @@ module _ (S : Shape) (v : View) (ps : List ScanEntry) (h : History) (o : Represe
   transaction-given t g = let r = live-given isGiven (h .transactions) t unknown refl g in (r .0, omega (arith, r .1, o .header .transactions-given))
 
   stamp-within : (t : ℕ) → stampOf (stateOf h t) ≤ lastStamp v
-  unfolding Stamped
-  stamp-within t =
-      let n = elim (stateOf h t) as (λ x. stateOf h t ≡ x → stampOf x ≤ h .last)
-      [ unknown ↦ λ e. zero-le | active ↦ λ e. zero-le | aborted ↦ λ e. zero-le | committed s ↦ k .past .order .stamps t s ] refl in
-      omega (arith, o .header .last-stamp)
+  stamp-within t = omega (arith, stamp-last h (k .past .order .stamps) t, o .header .last-stamp)
 
   stored : Stored (sizesOf S) v
   stored =
@@ -140,14 +93,14 @@ module _ (S : Shape) (v : View) (ps : List ScanEntry) (h : History) (o : Represe
   scan-stamps : (j : ℕ) → getD ps j freeEntry .number ≢ 0 → getD ps j freeEntry .stamp ≤ lastStamp v
   unfolding Timely scanAt
   scan-stamps j n =
-      omega (arith, ap (λ (p : ScanEntry). p .stamp) (place-is scanKind (h .scans) ps (o .scans .same) j n), k .past .timely (getD ps j freeEntry .number), o .header .last-stamp)
+      omega (arith, ap (λ (p : ScanEntry). p .stamp) (place-stands scanKind (h .scans) ps (o .scans .same) j n), k .past .timely (getD ps j freeEntry .number), o .header .last-stamp)
 
   scan-merges : (j : ℕ) → getD ps j freeEntry .number ≢ 0 → getD ps j freeEntry .merges ≤ mergesMade v
   unfolding scanAt
   scan-merges j n =
       omega (
         arith,
-        ap (λ (p : ScanEntry). p .merges) (place-is scanKind (h .scans) ps (o .scans .same) j n),
+        ap (λ (p : ScanEntry). p .merges) (place-stands scanKind (h .scans) ps (o .scans .same) j n),
         o .scanPages (getD ps j freeEntry .number) (number-live scanKind (h .scans) ps (o .scans .same) j n) 0 0 (k .small .some-range) (k .small .some-column) .early,
         o .header .merges-made,
       )
@@ -164,7 +117,7 @@ module _ (S : Shape) (v : View) (ps : List ScanEntry) (h : History) (o : Represe
   waiting-lineages p b u =
       let w = waits-at p b u in
       let t = chunk-parts S (k .small .some-column) ((pageIn v p) .chunk) (w .chunk) in
-      rw (place-mod S ((pageIn v p) .chunk) (w .chunk)) (lineage-used _ _ (t .0) (w .reach _ _ (t .0) (t .1) (sym (t .2))))
+      rw (mod-eq-of-lt (w .chunk)) (lineage-used _ _ (t .0) (w .reach _ _ (t .0) (t .1) (sym (t .2))))
 
   -- ---- all together
   pub represented-usable : Usable (sizesOf S) v ps
@@ -182,17 +135,17 @@ module _ (S : Shape) (v : View) (ps : List ScanEntry) (h : History) (o : Represe
         record-links = λ g i a b. linked g _ i _ a (omega arith) (o .tails g a .links i (used-few g i a b) ∙ ap (λ (r : ℕ). lastOf (recordsOf h g) r i) (sym (record-row g i a b)));
         row-stamps = λ r b. rw (o .rows r (row-is r b) .stamp) (stamp-within _);
         record-stamps = λ g i a b. rw (record-is g i a b .stamp) (stamp-within _);
-        current-stamps = λ i b. omega (arith, named S v ps h o k i b .holds .stamped, o .header .last-stamp);
+        current-stamps = λ i b. omega (arith, named o k i b .holds .stamped, o .header .last-stamp);
         waiting-stamps = λ p b u. omega (arith, waits-at p b u .stamped, o .header .last-stamp);
         scan-stamps = scan-stamps;
         scan-merges = scan-merges;
         waiting-merges = λ p b u. omega (arith, waits-at p b u .replaced-by, o .header .merges-made);
         open-differ = numbers-apart openKind (h .transactions) (v Opens) (o .opens);
         scans-differ = numbers-apart scanKind (h .scans) ps (o .scans .same);
-        current-in = λ i b. named S v ps h o k i b .inside;
-        current-state = λ i b. named S v ps h o k i b .state;
-        current-chunk = placed S v ps h o k .chunk;
-        current-lineages = λ i b. lineage-used _ _ (chunk-parts S (k .small .some-column) i b .0) (named S v ps h o k i b .holds .through .within);
+        current-in = λ i b. named o k i b .inside;
+        current-state = λ i b. named o k i b .state;
+        current-chunk = placed o k .chunk;
+        current-lineages = λ i b. lineage-used _ _ (chunk-parts S (k .small .some-column) i b .0) (named o k i b .holds .through .within);
         waiting-lineages = waiting-lineages;
       }
 

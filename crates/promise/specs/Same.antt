@@ -1,0 +1,19 @@
+-- The one relation between lent bytes and the plain history. Nobody must believe it: the proof of demand 3 goes by it (proofs/Same.antt).
+use mathlib.Core.Path.{_≡_}
+use mathlib.Core.Bool.{true}
+use mathlib.Core.List.{List}
+use Prim.Native.Nat.{ℕ, _≤_}
+use lib.ListN.{length}
+use Rattle.terms.specs.Measures.{Shape, withinLimits}
+use Rattle.terms.specs.declared.ScanEntry.{ScanEntry}
+use Rattle.layout.specs.Sizes.{sizesOf, bytesNeeded}
+use Rattle.layout.specs.View.{viewOf}
+use Rattle.history.specs.History.{History}
+use Rattle.model.specs.Represents.{Represents, Known}
+
+-- The memory's view by the shape, and the scan list, represent the history, and there are the bytes for it. That the memory says this shape, and that it is usable, follows.
+pub record Same (m : List ℕ) (ps : List ScanEntry) (S : Shape) (h : History) : Type 0 where
+  pub within : withinLimits S ≡ true
+  pub room : bytesNeeded S ≤ length m
+  pub known : Known S h
+  pub shown : Represents S (viewOf (sizesOf S) m) ps h

@@ -1,78 +1,66 @@
--- What the finders and tests tell of a call's verdict.
+-- What the conditions of the changing calls tell, and what the functions that write ask for by what the tests told.
 use Prim.Native.Nat.{ℕ, suc, _+_, _*_, _/_, _≤_, _<_}
 use mathlib.Core.Path.{_≡_, refl, ap, sym, _∙_}
 use mathlib.Core.Bool.{Bool, true, false, not, cond, _||_}
 use mathlib.Core.List.{List, [], _∷_}
 use native.Mathlib.Omega.{arith}
 use lib.Dec.{eqb, leb, ltb, leb·suc-suc}
-use lib.ListN.{length}
+use lib.ListN.{length, take}
 use borrow.Author.Tests.{ltb-true, ltb-false, le-leb, lt-leb, lt-ltb}
-use Rattle.terms.specs.Measures.{rangeRows, mostTransactions}
-use Rattle.terms.specs.declared.Refusal.{Refusal}
+use Rattle.terms.specs.Measures.{rangeRows, mostTransactions, mostNumbers}
 use Rattle.loops.specs.declared.Found.{Found}
 use Rattle.layout.specs.declared.Sizes.{Sizes}
 use Rattle.words.specs.Words.{words}
 use Rattle.words.proofs.Words.{length-words}
 use Rattle.layout.specs.declared.Region.{Region}
-use Rattle.layout.specs.View.{View, rowsGiven, usedIn, viewOf, Suffices}
+use Rattle.layout.specs.View.{View, rowsGiven, transactionsGiven, usedIn, viewOf, Suffices}
 use Rattle.layout.proofs.View.{view-long}
-use Rattle.history.specs.History.{Test, _when_, refuse, verdict, any, rangeOf}
+use Rattle.history.specs.History.{verdict, any, rangeOf}
 use Rattle.terms.specs.Places.{firstIndex}
-use Rattle.rows.specs.Finders.{Inside}
-use Rattle.model.specs.Calls.{notOpenIn, notGivenIn, lacksIn}
+use Rattle.scans.specs.declared.Scans.{Scans}
+use Rattle.model.specs.Writing.{recordsWanted}
+use Rattle.model.specs.Calls.{lacksIn}
 use Rattle.layout.specs.Sizes.{Proper}
 use Rattle.model.specs.Asked.{shapeIn, Counted, Linked, FreeAt, OpenAt}
 use Rattle.loops.specs.Search.{foundAt}
 use Rattle.writing.specs.Steps.{Room}
-use Rattle.conditions.specs.Opens.{openAt}
-use Rattle.conditions.proofs.Opens.{open-there, not-open}
-use Rattle.entry.specs.Given.{rangeGiven}
-use Rattle.entry.proofs.Fitted.{given-tells, row-given, row-missing}
+use Rattle.rows.proofs.Indices.{row-in}
+use Rattle.entry.specs.declared.Entry.{Entry}
+use Rattle.entry.specs.declared.Tested.{Tested}
+use Rattle.entry.specs.Entered.{Fitted, Enters}
+use Rattle.entry.specs.Tested.{Says, Finds, Holds}
+use Rattle.entry.proofs.Served.{entered, part-seen, found, told}
+use Rattle.changes.specs.Steps.{appendTests}
 
--- ---- the first two tests of a call that names a transaction and a row, by what their finders answer
--- Transaction t is open at j, and row r is one of range g.
-pub record OpenThere (v : View) (t j : ℕ) : Type 0 where
-  pub begun : notOpenIn v t ≡ false
-  pub open-at : OpenAt v t j
+-- ---- the tail records that the range of a row has left
+module _ (s : Sizes) (v : View) (r g n : ℕ) (b : Bool) (e : g ≡ rangeOf r) (k : b ≡ ltb (s .capacity) (usedIn v g + n)) where
+  pub lacks-is : (w : Bool) → b ≡ w → lacksIn (shapeIn s) v r n ≡ w
+  unfolding lacksIn
+  lacks-is w f = rw (← e, ← k) f
 
-pub record RowFound (v : View) (t r j g : ℕ) : Type 0 where
-  pub opened : OpenThere v t j
-  pub given : notGivenIn v r ≡ false
-  pub below : r < rowsGiven v
-  pub range-is : g ≡ rangeOf r
+  pub room-left : Linked s v → r < rowsGiven v → b ≡ false → Room s v r n
+  unfolding rangeOf
+  room-left l h f =
+      record {
+        row-below = omega (arith, l .rows-few);
+        left = ltb-false (s .capacity) (usedIn v (r / rangeRows) + n) (rw e at (sym k ∙ f));
+      }
 
-module _ (v : View) (t : ℕ) (f : Found) (e : f ≡ openAt v t) where
-  pub fails-open : (ts : List Test) → f ≡ Found.Nothing → verdict (Refusal.Transaction when notOpenIn v t ∷ ts) ≡ refuse Refusal.Transaction
-  unfolding verdict
-  fails-open ts q = rw (not-open v t (sym e ∙ q))
+-- as many as an update wants
+module _ (d : Tested) (s : Sizes) (v : View) (t r n k : ℕ) (e : n ≡ k) where
+  pub wanted-says : Says d (verdict (appendTests (shapeIn s) v t r n)) → Says d (verdict (appendTests (shapeIn s) v t r k))
+  wanted-says h = rw e at h
 
-  pub is-open : (j : ℕ) → Inside f mostTransactions → f ≡ Found.At j → OpenThere v t j
-  is-open j h q = let o = open-there v t j (sym e ∙ q) in record { begun = o .0; open-at = record { low = rw q at h; found = o .1 } }
+  pub wanted-left : Holds d (Room s v r n) → Holds d (Room s v r k)
+  wanted-left h = rw e at h
 
-  module _ (r : ℕ) (h : Found) (k : h ≡ rangeGiven v r) (j : ℕ) (q : f ≡ Found.At j) where
-    pub fails-given : (ts : List Test) → h ≡ Found.Nothing
-        → verdict (Refusal.Transaction when notOpenIn v t ∷ Refusal.Row when notGivenIn v r ∷ ts) ≡ refuse Refusal.Row
-    unfolding verdict
-    fails-given ts n = rw (open-there v t j (sym e ∙ q) .0, row-missing v r (sym k ∙ n))
+-- ---- a row that is given has its place, and its range is one of the store's
+module _ (s : Sizes) (m : List ℕ) (r : ℕ) (w : Fitted s m) (h : r < rowsGiven (viewOf s m)) where
+  pub row-inside : r < s .rows
+  row-inside = omega (arith, w .linked .rows-few)
 
-    pub row-found : (g : ℕ) → Inside f mostTransactions → h ≡ Found.At g → RowFound v t r j g
-    row-found g l n =
-        let w = row-given v r g (sym k ∙ n) in
-        record { opened = is-open j l q; given = w .0; below = given-tells v r (w .0); range-is = w .1 }
-
--- ---- what passed tests say
-pub room : (s : Sizes) (v : View) (l : Linked s v) (r n : ℕ) → r < rowsGiven v → lacksIn (shapeIn s) v r n ≡ false → Room s v r n
-unfolding lacksIn rangeOf
-room s v l r n g k =
-    record {
-      row-below = omega (arith, l .rows-few);
-      left = ltb-false (s .capacity) (usedIn v (r / rangeRows) + n) k;
-    }
-
--- the range g of row r lacks n tail records
-pub lacks-is : (s : Sizes) (v : View) (r g n : ℕ) → g ≡ rangeOf r → lacksIn (shapeIn s) v r n ≡ ltb (s .capacity) (usedIn v g + n)
-unfolding lacksIn
-lacks-is s v r g n e = rw e
+  pub range-inside : (g : ℕ) → g ≡ rangeOf r → g < s .ranges
+  range-inside g e = rw e (row-in s (w .proper) (viewOf s m) (w .linked) r h .1)
 
 -- ---- the rows of a store are all given, or not
 module _ (s : Sizes) (v : View) (n : ℕ) (p : Proper s) (e : n ≡ rowsGiven v) where
@@ -107,14 +95,14 @@ module _ (s : Sizes) (m : List ℕ) (h : Suffices s m) where
   any-free : any free opens ≡ ltb (firstIndex free opens) mostTransactions
   any-free = any-place free opens ∙ ap (ltb (firstIndex free opens)) (opens-long s m h)
 
-  pub no-free : foundAt mostTransactions (firstIndex free opens) ≡ Found.Nothing → not (any free opens) ≡ true
+  no-free : foundAt mostTransactions (firstIndex free opens) ≡ Found.Nothing → not (any free opens) ≡ true
   no-free e = rw any-free (go (ltb (firstIndex free opens) mostTransactions) e)
     where
       go : (b : Bool) → cond b (Found.At (firstIndex free opens)) Found.Nothing ≡ Found.Nothing → not b ≡ true
       go true q = let z : _≡_ {A = ℕ} 0 1 = cc in absurd (omega arith)
       go false q = refl
 
-  pub first-free : (j : ℕ) → foundAt mostTransactions (firstIndex free opens) ≡ Found.At j → (not (any free opens) ≡ false) × FreeAt (viewOf s m) j
+  first-free : (j : ℕ) → foundAt mostTransactions (firstIndex free opens) ≡ Found.At j → (not (any free opens) ≡ false) × FreeAt (viewOf s m) j
   first-free j e = rw any-free (go (ltb (firstIndex free opens) mostTransactions) refl e)
     where
       go : (b : Bool) → ltb (firstIndex free opens) mostTransactions ≡ b
@@ -123,3 +111,39 @@ module _ (s : Sizes) (m : List ℕ) (h : Suffices s m) where
           let w : firstIndex free opens ≡ j = cc in
           (refl, record { low = omega (arith, ltb-true (firstIndex free opens) mostTransactions q); first = sym w })
       go false q f = let z : _≡_ {A = ℕ} 0 1 = cc in absurd (omega arith)
+
+  module _ (f : Found) (q : f ≡ foundAt mostTransactions (firstIndex free opens)) where
+    pub none-free : f ≡ Found.Nothing → not (any free opens) ≡ true
+    none-free e = no-free (sym q ∙ e)
+
+    pub one-free : (j : ℕ) → f ≡ Found.At j → not (any free opens) ≡ false
+    one-free j e = first-free j (sym q ∙ e) .0
+
+    pub free-at : (j : ℕ) → f ≡ Found.At j → FreeAt (viewOf s m) j
+    free-at j e = first-free j (sym q ∙ e) .1
+
+-- ---- what the functions that write ask for of the lent part, by what the tests told
+module _ (e : Entry) (s : Sizes) (n : ℕ) (m : List ℕ) (t : Scans) (a : e ≡ Entry.Fit s n) (b : Enters e m t) (d : Tested) (j : ℕ) (p : d ≡ Tested.Passed j) where
+  seen : viewOf s (take n m) ≡ viewOf s m
+  seen = part-seen (entered e s n m t a b)
+
+  pub free-told : Finds d (FreeAt (viewOf s m)) → FreeAt (viewOf s (take n m)) j
+  free-told h = rw seen (found d _ j p h)
+
+  pub open-told : (k : ℕ) → Finds d (OpenAt (viewOf s m) k) → OpenAt (viewOf s (take n m)) k j
+  open-told k h = rw seen (found d _ j p h)
+
+  pub number-told : Holds d (transactionsGiven (viewOf s m) < mostNumbers) → transactionsGiven (viewOf s (take n m)) < mostNumbers
+  number-told h = rw seen (told d _ j p h)
+
+  pub row-told : Holds d (rowsGiven (viewOf s m) < s .rows) → rowsGiven (viewOf s (take n m)) < s .rows
+  row-told h = rw seen (told d _ j p h)
+
+  pub room-told : (r k : ℕ) → Holds d (Room s (viewOf s m) r k) → Room s (viewOf s (take n m)) r k
+  room-told r k h = rw seen (told d _ j p h)
+
+  pub wanted-told : (r k : ℕ) → Holds d (Room s (viewOf s m) r (recordsWanted (viewOf s m) r k))
+      → Room s (viewOf s (take n m)) r (recordsWanted (viewOf s (take n m)) r k)
+  wanted-told r k h = rw seen (told d _ j p h)
+
+pub ruleset part-told = (free-told, open-told, number-told, row-told, room-told, wanted-told, counted)

@@ -38,7 +38,7 @@ ghost use Rattle.model.specs.Asked.{shapeIn, FreeAt, OpenAt};
 ghost use Rattle.writing.specs.Steps.{Room};
 ghost use Rattle.promise.specs.Promise.{ServesBy, kept};
 ghost use Rattle.entry.specs.Entered.{Fitted};
-ghost use Rattle.entry.specs.Tested.{Says, Finds, Tests};
+ghost use Rattle.entry.specs.Tested.{Says, Finds, Holds, Tests};
 ghost use Rattle.changes.specs.Steps.{appendTests};
 
 // ---- begin
@@ -47,7 +47,8 @@ ghost use Rattle.changes.specs.Steps.{appendTests};
 fn begin_tests(mem: &[u8], s: Sizes) -> Tested
     requires { ⌜ Fitted s (now mem) ⌝ }
     ensures { λ r. ⌜ Tests s (now (mem .entry)) Call.begin r ⌝ }
-    ensures { λ r. ⌜ Finds r (λ at. FreeAt (viewOf s (now (mem .entry))) at × (transactionsGiven (viewOf s (now (mem .entry))) < mostNumbers)) ⌝ }
+    ensures { λ r. ⌜ Finds r (FreeAt (viewOf s (now (mem .entry)))) ⌝ }
+    ensures { λ r. ⌜ Holds r (transactionsGiven (viewOf s (now (mem .entry))) < mostNumbers) ⌝ }
 {
     if read(mem, s, Region::Header, HEADER_TRANSACTIONS) >= MOST_NUMBERS {
         return Tested::Failed(Refusal::Number);
@@ -76,7 +77,8 @@ pub fn begin(mem: &mut [u8], scans: Scans) -> Answer
 fn insert_tests(mem: &[u8], s: Sizes, t: Transaction) -> Tested
     requires { ⌜ Fitted s (now mem) ⌝ }
     ensures { λ r. ⌜ ((vs : List ℤ) → Tests s (now (mem .entry)) (Call.insert (t .0) vs) r) ⌝ }
-    ensures { λ r. ⌜ Finds r (λ at. OpenAt (viewOf s (now (mem .entry))) (t .0) at × (rowsGiven (viewOf s (now (mem .entry))) < s .rows)) ⌝ }
+    ensures { λ r. ⌜ Finds r (OpenAt (viewOf s (now (mem .entry))) (t .0)) ⌝ }
+    ensures { λ r. ⌜ Holds r (rowsGiven (viewOf s (now (mem .entry))) < s .rows) ⌝ }
 {
     let Found::At(at) = open_index(mem, s, t) else {
         return Tested::Failed(Refusal::Transaction);
@@ -122,7 +124,8 @@ fn append_tests(
     requires { ⌜ Fitted s (now mem) ⌝ }
     requires { ⌜ OpenAt (viewOf s (now mem)) (t .0) at × (row .0 < rowsGiven (viewOf s (now mem))) × (g ≡ rangeOf (row .0)) ⌝ }
     ensures { λ r. ⌜ Says r (verdict (appendTests (shapeIn s) (viewOf s (now (mem .entry))) (t .0) (row .0) n)) ⌝ }
-    ensures { λ r. ⌜ Finds r (λ j. OpenAt (viewOf s (now (mem .entry))) (t .0) j × Room s (viewOf s (now (mem .entry))) (row .0) n) ⌝ }
+    ensures { λ r. ⌜ Finds r (OpenAt (viewOf s (now (mem .entry))) (t .0)) ⌝ }
+    ensures { λ r. ⌜ Holds r (Room s (viewOf s (now (mem .entry))) (row .0) n) ⌝ }
 {
     if held(mem, s, t, row) {
         return Tested::Failed(Refusal::Held);
@@ -139,7 +142,8 @@ fn append_tests(
 fn update_tests(mem: &[u8], s: Sizes, t: Transaction, row: Row, mask: u32) -> Tested
     requires { ⌜ Fitted s (now mem) ⌝ }
     ensures { λ r. ⌜ ((vs : List ℤ) → Tests s (now (mem .entry)) (Call.update (t .0) (row .0) mask vs) r) ⌝ }
-    ensures { λ r. ⌜ Finds r (λ at. OpenAt (viewOf s (now (mem .entry))) (t .0) at × Room s (viewOf s (now (mem .entry))) (row .0) (recordsWanted (viewOf s (now (mem .entry))) (row .0) mask)) ⌝ }
+    ensures { λ r. ⌜ Finds r (OpenAt (viewOf s (now (mem .entry))) (t .0)) ⌝ }
+    ensures { λ r. ⌜ Holds r (Room s (viewOf s (now (mem .entry))) (row .0) (recordsWanted (viewOf s (now (mem .entry))) (row .0) mask)) ⌝ }
 {
     let Found::At(at) = open_index(mem, s, t) else {
         return Tested::Failed(Refusal::Transaction);
@@ -179,7 +183,8 @@ pub fn update(
 fn delete_tests(mem: &[u8], s: Sizes, t: Transaction, row: Row) -> Tested
     requires { ⌜ Fitted s (now mem) ⌝ }
     ensures { λ r. ⌜ Tests s (now (mem .entry)) (Call.delete (t .0) (row .0)) r ⌝ }
-    ensures { λ r. ⌜ Finds r (λ at. OpenAt (viewOf s (now (mem .entry))) (t .0) at × Room s (viewOf s (now (mem .entry))) (row .0) 1) ⌝ }
+    ensures { λ r. ⌜ Finds r (OpenAt (viewOf s (now (mem .entry))) (t .0)) ⌝ }
+    ensures { λ r. ⌜ Holds r (Room s (viewOf s (now (mem .entry))) (row .0) 1) ⌝ }
 {
     let Found::At(at) = open_index(mem, s, t) else {
         return Tested::Failed(Refusal::Transaction);

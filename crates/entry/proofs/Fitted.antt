@@ -1,11 +1,11 @@
--- A memory that passed the test is fitted.
+-- What the test of memory and list found: the memory is not usable, or it is fitted, and every list that the table stands for passed with it.
 use Prim.Native.Nat.{ℕ, _-_, _<_}
-use mathlib.Core.Path.{_≡_, sym, subst}
-use mathlib.Core.Bool.{true, false}
+use mathlib.Core.Path.{_≡_, refl, sym, subst, _∙_}
+use mathlib.Core.Bool.{Bool, true, false, cond}
 use mathlib.Core.List.{List}
 use native.Mathlib.Omega.{arith}
 use lib.ListN.{getD}
-use borrow.Author.Tests.{leb-false}
+use Rattle.terms.specs.declared.ScanEntry.{ScanEntry}
 use Rattle.words.specs.Words.{words}
 use Rattle.layout.specs.declared.Sizes.{Sizes}
 use Rattle.layout.specs.declared.Region.the-variants.{Current, PageState, PageChunk}
@@ -14,20 +14,19 @@ use Rattle.layout.specs.Sizes.{Proper, tooManyWords}
 use Rattle.layout.specs.View.{View, rowsGiven, usedIn, viewOf}
 use Rattle.layout.proofs.Limits.{need-small, proper as proper-of}
 use Rattle.loops.proofs.Search.{and-true}
-use Rattle.loops.specs.declared.Found.{Found}
-use Rattle.history.specs.History.{rangeOf, noColumn, noRange}
+use Rattle.history.specs.History.{rangeOf}
 use Rattle.facts.specs.Facts.{linksHold, rowLinked, rangeLinked, recordLinked, pagesPlaced, pagePlaced}
-use Rattle.facts.specs.Usable.{storedShape, storedSizes}
+use Rattle.facts.specs.Usable.{storedShape, storedSizes, usable}
 use Rattle.facts.specs.Tests.{MemoryFacts, Passed}
 use Rattle.facts.proofs.Each.{each-tells}
 use Rattle.facts.proofs.Ready.{stored}
-use Rattle.facts.proofs.Usable.{link-tells, placed-tells}
+use Rattle.facts.proofs.Usable.{usable-tells, link-tells, placed-tells}
+use Rattle.pages.specs.declared.check.Checked.{Checked}
+use Rattle.pages.specs.declared.check.Checked.the-variants.{Fit, Unfit}
+use Rattle.pages.specs.Checked.{checked, Safe}
 use Rattle.model.specs.Stored.{pageIn, chunksOf}
-use Rattle.model.specs.Calls.{notGivenIn}
 use Rattle.model.specs.Asked.{shapeIn, Linked, Placed}
-use Rattle.rows.proofs.Cases.{found-at, found-nothing}
-use Rattle.entry.specs.Entered.{Fitted}
-use Rattle.entry.specs.Given.{rangeGiven}
+use Rattle.entry.specs.Entered.{Fitted, PassedWith}
 
 module _ (s : Sizes) (v : View) (proper : Proper s) (facts : MemoryFacts s v) where
   linked-of : Linked s v
@@ -61,41 +60,42 @@ module _ (s : Sizes) (v : View) (proper : Proper s) (facts : MemoryFacts s v) wh
         chunk = λ i b. at-chunk i (here i b) .2;
       }
 
-pub fit-tells : (s : Sizes) (m : List ℕ) → Passed s m → Fitted s m
-unfolding storedSizes
-fit-tells s m x =
-    let v = viewOf s m in
-    let proper : Proper s = subst Proper (sym (x .sizes-are)) (proper-of (storedShape (words m)) (x .within)) in
-    let k = stored s v (x .facts .counts) in
-    record {
-      room = x .room;
-      small = subst (λ z. need z < tooManyWords) (sym (x .sizes-are)) (need-small (storedShape (words m)) (x .within));
-      proper = proper;
-      linked = linked-of s v proper (x .facts);
-      pooled = λ i h. (at-chunk s v proper (x .facts) i h) .0;
-      placed = placed-of s v proper (x .facts);
-      transactions-to = k .transactions-to;
-      scans-to = k .scans-to;
-    }
+-- ---- what the test of memory and list found
+module _ (r : Checked) (m : List ℕ) where
+  pub not-usable : (ps : List ScanEntry) → r ≡ Unfit → r ≡ checked m ps → usable m ps ≡ false
+  unfolding checked
+  not-usable ps e f = go (usable m ps) (sym e ∙ f)
+    where
+      go : (b : Bool) → Unfit ≡ cond b (Fit (storedSizes (words m))) Unfit → b ≡ false
+      go true q = let z : _≡_ {A = ℕ} 0 1 = cc in absurd (omega arith)
+      go false q = refl
 
--- ---- what the conditions tell where they do not hold
+  module _ (s : Sizes) (e : r ≡ Fit s) where
+    pub list-known : (ps : List ScanEntry) → r ≡ checked m ps → PassedWith s m ps
+    unfolding checked
+    list-known ps f = go (usable m ps) refl (sym e ∙ f)
+      where
+        go : (b : Bool) → usable m ps ≡ b → Fit s ≡ cond b (Fit (storedSizes (words m))) Unfit → PassedWith s m ps
+        go true u q = record { passed = u; sizes-are = cc; few = usable-tells m ps u .facts .open-few }
+        go false u q = let z : _≡_ {A = ℕ} 0 1 = cc in absurd (omega arith)
 
-pub given-tells : (v : View) (r : ℕ) → notGivenIn v r ≡ false → r < rowsGiven v
-unfolding notGivenIn
-given-tells v r e = leb-false (rowsGiven v) r e
+    pub fit-tells : Safe r m → Fitted s m
+    unfolding storedSizes
+    fit-tells h =
+        let x : Passed s m = rw e at h in
+        let v = viewOf s m in
+        let proper : Proper s = subst Proper (sym (x .sizes-are)) (proper-of (storedShape (words m)) (x .within)) in
+        let k = stored s v (x .facts .counts) in
+        record {
+          room = x .room;
+          small = subst (λ z. need z < tooManyWords) (sym (x .sizes-are)) (need-small (storedShape (words m)) (x .within));
+          proper = proper;
+          linked = linked-of s v proper (x .facts);
+          pooled = λ i h. (at-chunk s v proper (x .facts) i h) .0;
+          placed = placed-of s v proper (x .facts);
+          transactions-to = k .transactions-to;
+          scans-to = k .scans-to;
+        }
 
-pub row-given : (v : View) (r g : ℕ) → rangeGiven v r ≡ Found.At g → (notGivenIn v r ≡ false) × (g ≡ rangeOf r)
-unfolding rangeGiven
-row-given v r g e = found-at (notGivenIn v r) (rangeOf r) g e
-
-pub row-missing : (v : View) (r : ℕ) → rangeGiven v r ≡ Found.Nothing → notGivenIn v r ≡ true
-unfolding rangeGiven
-row-missing v r e = found-nothing (notGivenIn v r) (rangeOf r) e
-
-pub column-tells : (s : Sizes) (c : ℕ) → noColumn (shapeIn s) c ≡ false → c < s .columns
-unfolding noColumn
-column-tells s c e = leb-false (s .columns) c e
-
-pub range-tells : (s : Sizes) (g : ℕ) → noRange (shapeIn s) g ≡ false → g < s .ranges
-unfolding noRange
-range-tells s g e = leb-false (s .ranges) g e
+    pub need-few : Safe r m → need s < tooManyWords
+    need-few h = fit-tells h .small

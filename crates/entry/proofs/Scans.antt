@@ -21,6 +21,7 @@ use Rattle.scans.proofs.Answers.{table-finds, table-lacks}
 use Rattle.terms.specs.Places.{freeEntry, firstIndex, bears, isScan}
 use Rattle.model.specs.Stored.{scanEntry}
 use Rattle.model.specs.Calls.{noScanIn}
+use Rattle.entry.specs.Given.{ScanAt}
 
 -- ---- the first that passes
 
@@ -100,3 +101,6 @@ module _ (t : Scans) where
       go : (b : Bool) → cond b Nothing (firstAt k 0 (t .numbers)) ≡ At j → j < length (t .numbers)
       go true q = let z : _≡_ {A = ℕ} 0 1 = cc in absurd (omega arith)
       go false q = first-at k j (t .numbers) q .0
+
+  pub found-scan : (k j : ℕ) → length (t .numbers) ≡ mostScans → findIn t k ≡ Found.At j → ScanAt t k j
+  found-scan k j n e = record { below = omega (arith, entry-in k j e); found = e }

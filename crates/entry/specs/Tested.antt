@@ -20,9 +20,14 @@ Says (Tested.Passed j) w = w ≡ accept
 Says (Tested.Failed x) w = w ≡ refuse x
 
 -- what was found, if the tests are passed, is as P has it
-abbrev pub Finds : Tested → (ℕ → Type 0) → Type 0
+unfoldable pub Finds : Tested → (ℕ → Type 0) → Type 0
 Finds (Tested.Passed j) P = P j
 Finds (Tested.Failed x) P = Unit {0}
+
+-- and then A holds
+unfoldable pub Holds : Tested → Type 0 → Type 0
+Holds (Tested.Passed j) A = A
+Holds (Tested.Failed x) A = Unit {0}
 
 -- the tests of call c on the memory m, whatever the scan list
 unfoldable pub Tests : Sizes → List ℕ → Call → Tested → Type 0

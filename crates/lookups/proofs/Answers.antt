@@ -1,35 +1,70 @@
--- What the tests of the reading calls tell, and the scan that an entry of the table stands for.
-use Prim.Native.Nat.{ℕ}
+-- What the tests of the reading calls tell, the scan that an entry of the table stands for, and what the calls answer by what they read.
+use Prim.Native.Nat.{ℕ, _≤_, _<_, _^_}
 use mathlib.Core.Path.{_≡_, ap, _∙_}
-use mathlib.Core.Bool.{false}
-use native.Mathlib.Omega.{arith}
-use lib.ListN.{length, getD}
-use Rattle.terms.specs.Measures.{mostScans}
+use mathlib.Core.Bool.{Bool, false}
+use mathlib.Core.List.{List}
+use lib.ListN.{getD}
+use lib.IntN.{ℤ}
+use lib.Signed.{mag}
+use mir.Syntax.{w32}
+use mir.Val.{toZ, ofZ, hbits}
+use mir.ValLaws.{toZ-ofZ}
+use Rattle.terms.specs.Measures.{Shape, mostScans}
+use Rattle.terms.specs.declared.Answer.{Answer}
 use Rattle.terms.specs.declared.ScanEntry.{ScanEntry}
 use Rattle.loops.specs.declared.Found.{Found}
 use Rattle.layout.specs.declared.Sizes.{Sizes}
-use Rattle.layout.specs.Sizes.{Proper}
-use Rattle.layout.specs.View.{View}
-use Rattle.history.specs.History.{noColumn}
+use Rattle.layout.specs.declared.Region.the-variants.{PageLineage}
+use Rattle.layout.specs.View.{View, rowsGiven, lastStamp, usedIn, viewOf}
+use Rattle.history.specs.History.{Call, verdict, noColumn, rangeOf}
 use Rattle.scans.specs.declared.Scans.{Scans}
-use Rattle.scans.specs.Table.{findIn}
-use Rattle.model.specs.Stored.{scanEntry}
-use Rattle.model.specs.Calls.{notGivenIn}
-use Rattle.model.specs.Asked.{shapeIn, Linked}
+use Rattle.scans.specs.Places.{openCount}
+use Rattle.scans.specs.Table.{tableOf}
+use Rattle.model.specs.Stored.{scanEntry, openIndex, currentIn, pageIn, cellIn}
+use Rattle.model.specs.Calls.{testsIn}
+use Rattle.model.specs.Reading.{reader, readIn, readCurrent, scanPage, sumIn}
+use Rattle.model.specs.Asked.{shapeIn, OpenAt}
 use Rattle.rows.proofs.Indices.{row-in}
-use Rattle.entry.proofs.Fitted.{given-tells, column-tells}
-use Rattle.entry.proofs.Scans.{in-table, entry-in, scan-stamp, scan-merges, scan-number}
-use Rattle.lookups.specs.Lookups.{CellThere, ScanAt, IsScan}
+use Rattle.entry.specs.declared.Tested.{Tested}
+use Rattle.entry.specs.Entered.{Fitted}
+use Rattle.entry.specs.Given.{rangeGiven, ScanAt}
+use Rattle.entry.specs.Tested.{Says, Finds, Holds, Tests}
+use Rattle.entry.proofs.Served.{found, told}
+use Rattle.entry.proofs.Decided.{row-below, column-below}
+use Rattle.entry.proofs.Scans.{in-table, scan-stamp, scan-merges, scan-number}
+use Rattle.lookups.specs.Lookups.{rowTests, CellThere, IsScan}
 
-pub cell-there : (s : Sizes) (v : View) (r c : ℕ) → Proper s → Linked s v → notGivenIn v r ≡ false → noColumn (shapeIn s) c ≡ false → CellThere s v r c
-cell-there s v r c p l g k =
-    let h = given-tells v r g in record { given = h; range-below = row-in s p v l r h .1; column-below = column-tells s c k }
+pub cell-there : (s : Sizes) (m : List ℕ) (r c g : ℕ) (f : Found) (b : Bool) → Fitted s m → f ≡ rangeGiven (viewOf s m) r → f ≡ Found.At g
+    → b ≡ noColumn (shapeIn s) c → b ≡ false → CellThere s (viewOf s m) r c
+cell-there s m r c g f b w e q h k =
+    let l = row-below (viewOf s m) r f e g q in
+    record { given = l; range-below = row-in s (w .proper) (viewOf s m) (w .linked) r l .1; column-below = column-below s c b h k }
 
-pub found-scan : (t : Scans) (k j : ℕ) → length (t .numbers) ≡ mostScans → findIn t k ≡ Found.At j → ScanAt t k j
-found-scan t k j n e = record { below = omega (arith, entry-in t k j e); found = e }
+-- ---- what the tests told, as the functions that read ask for it
+module _ (d : Tested) (j : ℕ) (s : Sizes) (v : View) (r c : ℕ) (p : d ≡ Tested.Passed j) (h : Holds d (CellThere s v r c)) where
+  pub cell-handed-on : CellThere s v r c
+  cell-handed-on = told d (CellThere s v r c) j p h
 
+  pub column-told : c < s .columns
+  column-told = cell-handed-on .column-below
+
+  pub row-told : r < rowsGiven v
+  row-told = cell-handed-on .given
+
+  pub range-told : (g : ℕ) → g ≡ rangeOf r → g < s .ranges
+  range-told g e = rw e (cell-handed-on .range-below)
+
+pub ruleset cell-told = (column-told, row-told, range-told)
+
+-- the tests of latest are those of a row and a column
+pub latest-tests : (s : Sizes) (m : List ℕ) (r c : ℕ) (d : Tested) → Says d (verdict (rowTests (shapeIn s) (viewOf s m) r c)) → Tests s m (Call.latest r c) d
+unfolding Tests testsIn
+latest-tests s m r c d h = λ ps. h
+
+-- ---- the scan that an entry of the table stands for
 pub is-scan : (t : Scans) (k j x y : ℕ) → x ≡ getD (t .stamps) j 0 → y ≡ getD (t .merges) j 0
     → IsScan t k j record { number = k; stamp = x; merges = y }
+unfolding IsScan
 is-scan t k j x y p q = λ e ps same few.
     let f = in-table t ps same k (Found.At j) e in
     let a : k ≡ scanEntry ps k .number = scan-number k ps few j f in
@@ -39,3 +74,37 @@ is-scan t k j x y p q = λ e ps same few.
   where
     whole : (n x y : ℕ) (p : ScanEntry) → n ≡ p .number → x ≡ p .stamp → y ≡ p .merges → _≡_ {A = ScanEntry} record { number = n; stamp = x; merges = y } p
     whole n x y p a b d = rw (a, b, d)
+
+-- what is read for that scan is what is read for the scan of the list
+module _ (d : Tested) (t : Scans) (k j : ℕ) (p : ScanEntry) (n : IsScan t k j p) (x : d ≡ Tested.Passed j) (y : Finds d (ScanAt t k))
+    (ps : List ScanEntry) (q : t ≡ tableOf ps) (few : openCount ps ≤ mostScans) (S : Shape) (v : View) (c : ℕ) (a : Answer) where
+  same : p ≡ scanEntry ps k
+  unfolding IsScan
+  same = n (found d (ScanAt t k) j x y .found) ps q few
+
+  pub sum-scanned : a ≡ sumIn S v p c → a ≡ sumIn S v (scanEntry ps k) c
+  sum-scanned h = rw same at h
+
+  pub cell-scanned : (r g w : ℕ) → w ≡ scanPage S v (p .merges) g c → g ≡ rangeOf r → a ≡ readIn S v (reader (p .stamp) 0) w r c
+      → a ≡ readIn S v (reader (scanEntry ps k .stamp) 0) (scanPage S v (scanEntry ps k .merges) (rangeOf r) c) r c
+  cell-scanned r g w e f h = h ∙ rw (e, f, same)
+
+-- ---- what the calls answer, by what they read
+pub latest-answer : (S : Shape) (v : View) (a : Answer) (x r c : ℕ) → x ≡ lastStamp v → a ≡ readCurrent S v (reader x 0) r c
+    → a ≡ readCurrent S v (reader (lastStamp v) 0) r c
+latest-answer S v a x r c e h = rw e at h
+
+pub index-open : (d : Tested) (v : View) (t j : ℕ) → d ≡ Tested.Passed j → Finds d (OpenAt v t) → j ≡ openIndex v t
+index-open d v t j p q = found d (OpenAt v t) j p q .found
+
+module _ (S : Shape) (v : View) (d : Tested) (g k c p : ℕ) (x : d ≡ Tested.Passed g) (y : Finds d (λ i. i ≡ k)) (e : p ≡ currentIn S v g c) where
+  page-is : p ≡ currentIn S v k c
+  page-is = rw (found d (λ i. i ≡ k) g x y) at e
+
+  pub lineage-answer : (a b : ℕ) → a ≡ getD (v PageLineage) p 0 → b ≡ usedIn v g → Answer.Lineage a b ≡ Answer.Lineage ((pageIn v (currentIn S v k c)) .lineage) (usedIn v k)
+  unfolding pageIn
+  lineage-answer a b h u = rw (h, u, page-is, found d (λ i. i ≡ k) g x y)
+
+  pub cell-answer : (z : ℤ) (w i : ℕ) → mag z < 2 ^ hbits w32 → z ≡ toZ w32 w → w ≡ cellIn v p i
+      → Answer.Value (toZ w32 (ofZ w32 z)) ≡ Answer.Value (toZ w32 (cellIn v (currentIn S v k c) i))
+  cell-answer z w i l h u = ap Answer.Value (toZ-ofZ w32 z record { sfits = l } ∙ h ∙ rw (u, page-is))

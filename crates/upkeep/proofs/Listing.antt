@@ -5,23 +5,30 @@ use mathlib.Core.Bool.{Bool, true, false, not, cond}
 use mathlib.Core.List.{List, [], _∷_}
 use native.Mathlib.Omega.{arith}
 use lib.Dec.{eqb, leb}
-use lib.ListN.{length, getD, set}
+use lib.ListN.{length, getD, set, take}
 use lib.Seq.{set-out}
 use borrow.Author.Tests.{le-leb, lt-leb}
-use Rattle.terms.specs.Measures.{mostScans}
+use Rattle.terms.specs.Measures.{mostNumbers, mostScans}
 use Rattle.terms.specs.declared.ScanEntry.{ScanEntry}
 use Rattle.terms.specs.declared.Answer.{Answer}
 use Rattle.terms.specs.Places.{firstIndex, freeEntry, isScan}
 use Rattle.loops.specs.declared.Found.the-variants.{At}
-use Rattle.layout.specs.View.{View, scansGiven, mergesMade}
+use Rattle.layout.specs.declared.Sizes.{Sizes}
+use Rattle.layout.specs.View.{View, scansGiven, mergesMade, viewOf}
 use Rattle.history.specs.History.{Call, count}
 use Rattle.scans.specs.declared.Scans.{Scans}
 use Rattle.scans.specs.Places.{openCount, opened}
-use Rattle.scans.specs.Table.{tableOf, findIn}
+use Rattle.scans.specs.Table.{tableOf}
 use Rattle.scans.proofs.Table.{table-length}
 use Rattle.scans.proofs.Answers.{table-count}
 use Rattle.model.specs.Calls.{entriesAfter}
 use Rattle.promise.specs.Promise.{Serves, ServesBy, kept}
+use Rattle.entry.specs.declared.Entry.{Entry}
+use Rattle.entry.specs.declared.Tested.{Tested}
+use Rattle.entry.specs.Entered.{Enters}
+use Rattle.entry.specs.Given.{ScanAt}
+use Rattle.entry.specs.Tested.{Finds, Holds}
+use Rattle.entry.proofs.Served.{entered, part-seen, found, told}
 use Rattle.entry.proofs.Scans.{in-table, scan-at}
 use Rattle.upkeep.specs.declared.ListChange.{ListChange}
 use Rattle.upkeep.specs.Lists.{changedAt}
@@ -60,16 +67,22 @@ unlisted-serves t m c a r u h = λ ps q.
     let z = h ps q in
     let l : set ps (r .index) (r .entry) ≡ ps = set-out ps (r .index) (r .entry) (omega (arith, u .1, table-length t ps q)) in (u .0 ∙ z .0, z .1, l ∙ z .2)
 
-module _ (t : Scans) (ps : List ScanEntry) (q : t ≡ tableOf ps) (v : View) where
-  -- an opened scan stands in the first free place
-  pub opened-list : (stamp i : ℕ) (p : ScanEntry) → i ≡ t .free → p ≡ record { number = scansGiven v + 1; stamp = stamp; merges = mergesMade v }
-      → set ps i p ≡ entriesAfter v ps (Call.openScan stamp)
-  unfolding entriesAfter
-  opened-list stamp i p e y = rw (e ∙ free-is t ps q, y)
+-- an opened scan stands in the first free place
+pub opened-list : (t : Scans) (ps : List ScanEntry) (v : View) (stamp i : ℕ) (p : ScanEntry) → t ≡ tableOf ps → i ≡ t .free
+    → p ≡ record { number = scansGiven v + 1; stamp = stamp; merges = mergesMade v } → set ps i p ≡ entriesAfter v ps (Call.openScan stamp)
+unfolding entriesAfter
+opened-list t ps v stamp i p q e y = rw (e ∙ free-is t ps q, y)
 
-  -- a closed one leaves its place free
-  pub closed-list : (k j : ℕ) → openCount ps ≤ mostScans → findIn t k ≡ At j → set ps (getD (t .places) j 0) freeEntry ≡ entriesAfter v ps (Call.close k)
-  unfolding entriesAfter
-  closed-list k j few g =
-      let i : getD (t .places) j 0 ≡ firstIndex (isScan k) ps = ap (λ (x : Scans). getD (x .places) j 0) q ∙ sym (scan-at k ps few j (in-table t ps q k (At j) g)) in
-      rw i
+-- a number is left for it
+pub number-told : (e : Entry) (s : Sizes) (n : ℕ) (m : List ℕ) (t : Scans) (d : Tested) (i : ℕ) → e ≡ Entry.Fit s n → Enters e m t → d ≡ Tested.Passed i
+    → Holds d (scansGiven (viewOf s m) < mostNumbers) → scansGiven (viewOf s (take n m)) < mostNumbers
+number-told e s n m t d i a b x h = rw (part-seen (entered e s n m t a b)) (told d _ i x h)
+
+-- a closed one leaves its place free
+pub closed-list : (t : Scans) (ps : List ScanEntry) (v : View) (d : Tested) (k j : ℕ) → t ≡ tableOf ps → openCount ps ≤ mostScans → d ≡ Tested.Passed j
+    → Finds d (ScanAt t k) → set ps (getD (t .places) j 0) freeEntry ≡ entriesAfter v ps (Call.close k)
+unfolding entriesAfter
+closed-list t ps v d k j q few x f =
+    let g = found d (ScanAt t k) j x f .found in
+    let i : getD (t .places) j 0 ≡ firstIndex (isScan k) ps = ap (λ (x : Scans). getD (x .places) j 0) q ∙ sym (scan-at k ps few j (in-table t ps q k (At j) g)) in
+    rw i

@@ -1,25 +1,34 @@
 -- What the tests of a merge tell of its verdict, and what a merge may rely on once they are passed.
 use Prim.Native.Nat.{ℕ, _-_, _≤_, _<_}
-use mathlib.Core.Path.{_≡_, refl}
+use mathlib.Core.Path.{_≡_, refl, sym, _∙_}
 use mathlib.Core.Bool.{Bool, true, false, cond, _||_}
 use mathlib.Core.List.{List}
 use native.Mathlib.Omega.{arith}
 use native.Mathlib.Nat.{min-le-left}
 use lib.Dec.{leb, ltb}
+use lib.ListN.{take}
 use borrow.Author.Tests.{ltb-true, ltb-false, le-leb, lt-leb, lt-ltb, le-ltb}
-use Rattle.terms.specs.Measures.{mostScans}
+use Rattle.terms.specs.Measures.{Shape, mostScans}
 use Rattle.terms.specs.declared.ScanEntry.{ScanEntry}
 use Rattle.loops.specs.declared.Found.{Found}
 use Rattle.layout.specs.declared.Sizes.{Sizes}
-use Rattle.layout.specs.View.{View, usedIn}
+use Rattle.layout.specs.View.{View, usedIn, viewOf}
 use Rattle.scans.specs.declared.Scans.{Scans}
 use Rattle.scans.specs.Places.{openCount}
 use Rattle.scans.specs.Table.{tableOf}
-use Rattle.model.specs.Stored.{pagesOf}
+use Rattle.history.specs.History.{verdict}
+use Rattle.model.specs.Stored.{pagesOf, pageIn, currentIn}
 use Rattle.model.specs.Writing.{freeIn}
 use Rattle.layout.specs.Sizes.{Proper}
 use Rattle.model.specs.Asked.{shapeIn}
 use Rattle.loops.specs.Search.{foundAt}
+use Rattle.merging.specs.Steps.{Mergeable}
+use Rattle.entry.specs.declared.Entry.{Entry}
+use Rattle.entry.specs.declared.Tested.{Tested}
+use Rattle.entry.specs.Entered.{Fitted, Enters}
+use Rattle.entry.specs.Tested.{Says, Finds}
+use Rattle.upkeep.specs.Lists.{reachTests}
+use Rattle.entry.proofs.Served.{entered, part-seen, found}
 
 -- ---- the first free page
 found-here : (n i j : ℕ) → foundAt n i ≡ Found.At j → (i < n) × (j ≡ i)
@@ -36,32 +45,62 @@ found-none n i e = go (ltb i n) refl e
     go true q f = let z : _≡_ {A = ℕ} 0 1 = cc in absurd (omega arith)
     go false q f = ltb-false i n q
 
-module _ (s : Sizes) (v : View) (p : Proper s) where
+module _ (s : Sizes) (v : View) (f : Found) (p : Proper s) (q : f ≡ foundAt (s .pages) (freeIn (shapeIn s) v)) where
   pages : s .pages ≡ pagesOf (shapeIn s)
   pages = omega (arith, p .pages-are, p .chunks-are)
 
-  pub no-page : foundAt (s .pages) (freeIn (shapeIn s) v) ≡ Found.Nothing → leb (pagesOf (shapeIn s)) (freeIn (shapeIn s) v) ≡ true
+  pub no-page : f ≡ Found.Nothing → leb (pagesOf (shapeIn s)) (freeIn (shapeIn s) v) ≡ true
   no-page e =
-      le-leb (pagesOf (shapeIn s)) (freeIn (shapeIn s) v) (omega (arith, pages, found-none (s .pages) (freeIn (shapeIn s) v) e))
+      le-leb (pagesOf (shapeIn s)) (freeIn (shapeIn s) v) (omega (arith, pages, found-none (s .pages) (freeIn (shapeIn s) v) (sym q ∙ e)))
 
-  pub page-free : (j : ℕ) → foundAt (s .pages) (freeIn (shapeIn s) v) ≡ Found.At j
-      → (leb (pagesOf (shapeIn s)) (freeIn (shapeIn s) v) ≡ false) × (j ≡ freeIn (shapeIn s) v) × (j < s .pages)
-  page-free j e =
-      let f = found-here (s .pages) (freeIn (shapeIn s) v) j e in
-      (lt-leb (pagesOf (shapeIn s)) (freeIn (shapeIn s) v) (omega (arith, pages, f .0)), f .1, omega (arith, f))
+  module _ (j : ℕ) (e : f ≡ Found.At j) where
+    here : (freeIn (shapeIn s) v < s .pages) × (j ≡ freeIn (shapeIn s) v)
+    here = found-here (s .pages) (freeIn (shapeIn s) v) j (sym q ∙ e)
+
+    pub page-left : leb (pagesOf (shapeIn s)) (freeIn (shapeIn s) v) ≡ false
+    page-left = lt-leb (pagesOf (shapeIn s)) (freeIn (shapeIn s) v) (omega (arith, pages, here .0))
 
 -- ---- whether a record is in reach
-module _ (v : View) (g low n used : ℕ) (e : used ≡ usedIn v g) where
-  pub too-low : n ≤ low → (leb n low || ltb (usedIn v g) n) ≡ true
-  too-low h = rw (le-leb n low h)
+pub too-low : (v : View) (g low n : ℕ) → n ≤ low → (leb n low || ltb (usedIn v g) n) ≡ true
+too-low v g low n h = rw (le-leb n low h)
 
-  pub too-high : low < n → used < n → (leb n low || ltb (usedIn v g) n) ≡ true
-  too-high l h = rw (← e, lt-leb n low l, lt-ltb used n h)
+module _ (v : View) (g low n used : ℕ) (l : low < n) (e : used ≡ usedIn v g) where
+  pub too-high : used < n → (leb n low || ltb (usedIn v g) n) ≡ true
+  too-high h = rw (← e, lt-leb n low l, lt-ltb used n h)
 
-  pub in-reach : low < n → n ≤ used → (leb n low || ltb (usedIn v g) n) ≡ false
-  in-reach l h = rw (← e, lt-leb n low l, le-ltb used n h)
+  pub in-reach : n ≤ used → (leb n low || ltb (usedIn v g) n) ≡ false
+  in-reach h = rw (← e, lt-leb n low l, le-ltb used n h)
+
+-- ---- what passed tests of a merge tell
+module _ (s : Sizes) (m : List ℕ) (g n used : ℕ) (w : Fitted s m) (h : g < s .ranges) (e : used ≡ usedIn (viewOf s m) g) (k : n ≤ used) where
+  pub through-few : n ≤ s .capacity
+  through-few = omega (arith, w .linked .used-few g h)
+
+  pub merge-told : (c low p : ℕ) (f : Found) → c < s .columns → low ≡ (pageIn (viewOf s m) (currentIn (shapeIn s) (viewOf s m) g c)) .lineage → low < n
+      → f ≡ foundAt (s .pages) (freeIn (shapeIn s) (viewOf s m)) → f ≡ Found.At p → Mergeable s (viewOf s m) g c n p
+  merge-told c low p f x y l q z =
+      let free = here s (viewOf s m) f (w .proper) q p z in
+      record {
+        range-below = h;
+        column-below = x;
+        from = omega arith;
+        to = through-few;
+        free = free .1;
+        page-below = omega (arith, free);
+        placed = w .placed;
+      }
+
+-- the lineage of the page was read before
+pub reach-says : (d : Tested) (S : Shape) (v : View) (g c low n : ℕ) → low ≡ (pageIn v (currentIn S v g c)) .lineage → Says d (verdict (reachTests S v g low n))
+    → Says d (verdict (reachTests S v g ((pageIn v (currentIn S v g c)) .lineage) n))
+reach-says d S v g c low n e h = rw e at h
 
 -- ---- a table of a list has at most as many entries as it has room for
 pub table-few : (t : Scans) (ps : List ScanEntry) → t ≡ tableOf ps → t .count ≤ mostScans
 unfolding tableOf
 table-few t ps e = rw e (min-le-left mostScans (openCount ps))
+
+-- ---- what a merge asks for, by what its tests told
+pub mergeable : (e : Entry) (s : Sizes) (n : ℕ) (m : List ℕ) (t : Scans) (d : Tested) (g c k p : ℕ) → e ≡ Entry.Fit s n → Enters e m t → d ≡ Tested.Passed p
+    → Finds d (Mergeable s (viewOf s m) g c k) → Mergeable s (viewOf s (take n m)) g c k p
+mergeable e s n m t d g c k p a b x y = rw (part-seen (entered e s n m t a b)) (found d _ p x y)

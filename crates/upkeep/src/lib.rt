@@ -28,12 +28,10 @@ use terms::limits::MOST_SCANS;
 ghost use mathlib.Core.Path.{_≡_};
 ghost use mathlib.Core.List.{List};
 ghost use Prim.Native.Nat.{ℕ, _<_, _*_, _+_};
-ghost use Rattle.terms.specs.Measures.{mostNumbers, mostScans};
+ghost use Rattle.terms.specs.Measures.{mostNumbers};
 ghost use Rattle.terms.specs.declared.Answer.{Answer};
-ghost use Rattle.loops.specs.declared.Found.{Found};
 ghost use Rattle.layout.specs.declared.Sizes.{Sizes};
 ghost use Rattle.layout.specs.View.{scansGiven, viewOf, Suffices, put};
-ghost use Rattle.scans.specs.Table.{findIn};
 ghost use lib.ListN.{length};
 ghost use Rattle.layout.specs.declared.Region.{Region};
 ghost use Rattle.terms.specs.declared.ScanEntry.{ScanEntry};
@@ -44,7 +42,8 @@ ghost use Rattle.model.specs.Asked.{shapeIn};
 ghost use Rattle.merging.specs.Steps.{Mergeable};
 ghost use Rattle.promise.specs.Promise.{ServesBy, kept};
 ghost use Rattle.entry.specs.Entered.{Fitted};
-ghost use Rattle.entry.specs.Tested.{Says, Finds, Tests, TestsBy};
+ghost use Rattle.entry.specs.Tested.{Says, Finds, Holds, Tests, TestsBy};
+ghost use Rattle.entry.specs.Given.{ScanAt};
 ghost use Rattle.upkeep.specs.Lists.{changedAt, reachTests};
 
 // What a call on the scan list leaves: its answer, and the index in the list of what becomes `entry`. An index past the list's end changes nothing.
@@ -167,7 +166,8 @@ fn unlisted(scans: Scans, why: Refusal) -> ListChange
 fn open_tests(mem: &[u8], s: Sizes, scans: Scans, stamp: Stamp) -> Tested
     requires { ⌜ Fitted s (now mem) ⌝ }
     ensures { λ r. ⌜ TestsBy scans s (now (mem .entry)) (Call.openScan (stamp .0)) r ⌝ }
-    ensures { λ r. ⌜ Finds r (λ j. (j ≡ scans .free) × (scansGiven (viewOf s (now (mem .entry))) < mostNumbers)) ⌝ }
+    ensures { λ r. ⌜ Finds r (λ j. j ≡ scans .free) ⌝ }
+    ensures { λ r. ⌜ Holds r (scansGiven (viewOf s (now (mem .entry))) < mostNumbers) ⌝ }
 {
     if later(mem, s, stamp) {
         return Tested::Failed(Refusal::Time);
@@ -220,7 +220,7 @@ pub fn open_scan(mem: &mut [u8], scans: Scans, stamp: Stamp) -> ListChange
 // The test of close; where it is passed, the scan's entry in the table.
 fn close_tests(scans: Scans, scan: u32) -> Tested
     ensures { λ r. ⌜ ((s : Sizes) (m : List ℕ) → TestsBy scans s m (Call.close scan) r) ⌝ }
-    ensures { λ r. ⌜ Finds r (λ j. (j < mostScans) × (findIn scans scan ≡ Found.At j)) ⌝ }
+    ensures { λ r. ⌜ Finds r (ScanAt scans scan) ⌝ }
 {
     let Found::At(i) = find_scan(scans, scan) else {
         return Tested::Failed(Refusal::Scan);

@@ -1,72 +1,28 @@
 -- `changes::update_tests` meets its contract: each answer follows from the tests that led to it.
-use native.Mathlib.Omega.{arith}
 use borrow.Author.Needs.{needs}
-use Rattle.layout.specs.View.{viewOf}
-use Rattle.history.specs.History.{verdict, badMask}
+use Rattle.history.specs.History.{badMask}
 use Rattle.model.specs.Calls.{testsIn}
-use Rattle.entry.specs.Tested.{Tests}
-use Rattle.changes.proofs.Tests.{RowFound, fails-open, fails-given, row-found}
+use Rattle.entry.specs.Tested.{Tests, Finds, Holds}
+use Rattle.entry.proofs.Decided.{deciding}
+use Rattle.changes.proofs.Tests.{row-inside, wanted-says, wanted-left}
 use Rattle.changes.proofs.update_tests.Statement.{statement}
 use Rattle.changes.proofs.update_tests.Tie as tie
 
--- the transaction and the row that the finders found
-there : (c : tie.After-g)
-    → let found = c .before .before .before .before in
-    let a = found .before .before .before .before .args in
-    RowFound (viewOf (a .s) (a .mem .now)) (a .t .0) (a .row .0) (found .at .given .0 .0) (c .g .given .0 .0)
-there c =
-    let found : tie.After-at = search in
-    let look = found .before .before .open-index in
-    row-found _ _ _ (look .ensures .0) _ _ (c .before .before .given-range .ensures) _ (found .at .given .1) _ (look .ensures .1) (c .g .given .1)
-
-returns : tie.Need-returns
-unfolding Tests testsIn
-returns c = (λ vs ps. fails-open _ _ _ (c .before .before .open-index .ensures .0) _ (c .enum-told .given .1), tt)
-
-returns-2 : tie.Need-returns-2
-unfolding Tests testsIn
-returns-2 c =
-    let row : tie.After-given-range = search in
-    let found : tie.After-at = search in
-    (λ vs ps. fails-given _ _ _ (found .before .before .open-index .ensures .0) _ _ (row .given-range .ensures) _ (found .at .given .1) _ (c .enum-told2 .given .1), tt)
-
-returns-3 : tie.Need-returns-3
-unfolding Tests testsIn verdict badMask
-returns-3 c =
-    let g : tie.After-g = search in
-    let r = there g in
-    (λ vs ps. rw (r .opened .begun, r .given, ← c .before .bad-mask .ensures, c .if1 .taken), tt)
-
-append-tests-requires : tie.Need-append-tests-requires
-append-tests-requires c κs =
-    let g : tie.After-g = search in
-    let start : tie.Start = search in
-    (start .pre, (there g .opened .open-at, there g .below, there g .range-is))
-
-returns-4 : tie.Need-returns-4
-unfolding Tests testsIn verdict badMask
-returns-4 c =
-    let g : tie.After-g = search in
-    let wanted = c .before in
-    let mask = wanted .before in
-    let r = there g in
-    let last = c .append-tests .ensures in
-    (λ vs ps. rw (r .opened .begun, r .given, ← mask .before .bad-mask .ensures, mask .if1 .left, ← wanted .records-wanted .ensures) (last .0), rw (← wanted .records-wanted .ensures) (last .1))
-
 pub update-tests-spec : {M : Type 1} → statement M
+unfolding Tests Finds Holds testsIn badMask
 update-tests-spec =
     tie.close
     (tie.spec
     (λ c κs. search needs)
     (λ c. search needs)
     (λ c. search needs)
-    returns
+    (λ c. (search deciding, (tt, tt)))
     (λ c κs. search needs)
     (λ c. search needs)
     (λ c. search needs)
-    returns-2
+    (λ c. (search deciding, (tt, tt)))
     (λ c κs. search needs)
-    returns-3
-    (λ c κs. let g : tie.After-g = search in (omega arith, omega (arith, there g .below)))
-    append-tests-requires
-    returns-4)
+    (λ c. (search deciding, (tt, tt)))
+    (λ c κs. (search, search (row-inside, deciding)))
+    (λ c κs. (search, (search deciding, search deciding, search deciding)))
+    (λ c. (search (deciding, wanted-says), (search, search wanted-left))))

@@ -1,28 +1,26 @@
 -- `entry::enter` meets its contract.
+use Prim.Native.Nat.{_<_}
 use native.Mathlib.Omega.{arith}
 use borrow.Author.Needs.{needs}
-use mathlib.Core.Path.{sym, _∙_}
-use Rattle.entry.specs.Entered.{Fitted}
-use Rattle.entry.proofs.Fitted.{fit-tells}
-use Rattle.entry.proofs.Served.{not-usable, list-known}
+use Rattle.layout.specs.Regions.{need}
+use Rattle.layout.specs.Sizes.{tooManyWords}
+use Rattle.entry.proofs.Fitted.{not-usable, list-known, fit-tells, need-few}
 use Rattle.entry.proofs.enter.Statement.{statement}
 use Rattle.entry.proofs.enter.Tie as tie
 
 returns : tie.Need-returns
-returns c = λ ps q. not-usable _ ps (sym (c .enum-told .given .1) ∙ c .before .before .check .ensures .0 ps q)
+returns c = let check : tie.After-check = search in search (not-usable, check .check .ensures .0)
 
-fit : (c : tie.After-known-told) → Fitted (c .before .s .given .0 .0) (c .before .before .before .before .before .args .mem .now)
-fit c =
-    let check : tie.After-check = search in
-    fit-tells _ _ (rw (c .before .s .given .1) at (check .check .ensures .1))
+few : (c : tie.After-known-told) → need (c .before .s .given .0 .0) < tooManyWords
+few c = search need-few
 
 returns-2 : tie.Need-returns-2
 returns-2 c =
-    let known : tie.After-s = search in
+    let check : tie.After-check = search in
     record {
       bytes = omega (arith, c .words-needed .ensures);
-      fitted = fit (c .before);
-      listed = λ ps q. list-known _ ps _ (sym (known .s .given .1) ∙ known .before .before .check .ensures .0 ps q);
+      fitted = search fit-tells;
+      listed = search (list-known, check .check .ensures .0);
     }
 
 pub enter-spec : {M : Type 1} → statement M
@@ -33,6 +31,6 @@ enter-spec =
     (λ c. search needs)
     (λ c. search needs)
     returns
-    (λ c κs. omega (arith, fit c .small))
-    (λ c. omega (arith, fit (c .before) .small, c .words-needed .ensures))
+    (λ c κs. omega (arith, few c))
+    (λ c. omega (arith, few (c .before), c .words-needed .ensures))
     returns-2)

@@ -1,53 +1,17 @@
 -- `lookups::sum` meets its contract: the tests tell what the reading asks for.
-use native.Mathlib.Omega.{arith}
 use borrow.Author.Needs.{needs}
-use mathlib.Core.Path.{refl, _∙_}
 use Rattle.model.specs.Calls.{replyIn, actIn, entriesAfter}
-use Rattle.promise.specs.Promise.{kept}
-use Rattle.entry.specs.Entered.{Entered}
-use Rattle.entry.proofs.Served.{entered, unfit-serves, failed-serves, read-serves}
+use Rattle.entry.proofs.Served.{serving, scan-below, told-below}
+use Rattle.lookups.proofs.Answers.{sum-scanned}
 use Rattle.lookups.proofs.sum.Statement.{statement}
 use Rattle.lookups.proofs.sum.Tie as tie
 
--- memory and list passed the test
-fit : (c : tie.After-known-told)
-    → let start = c .before .before .before .before .before in
-    Entered (c .before .s .given .0 .0) (c .before .s .given .0 .1 .0) (start .args .mem .now) (start .args .t)
-fit c =
-    let enter : tie.After-enter = search in
-    entered _ _ _ _ _ (c .before .s .given .1) (enter .enter .ensures)
-
 returns-2 : tie.Need-returns-2
-returns-2 c =
-    let shared-slice-known : tie.After-shared-slice-known = search in
-    let tests : tie.After-sum-tests = search in
-    let known = tests .before in
-    failed-serves (fit known) _ _ _ (c .before .x .given .1) (tests .sum-tests .ensures .0 _)
-    (λ k. omega (arith, shared-slice-known .shared-slice-known .given k))
-
-scan-at-requires : tie.Need-scan-at-requires
-scan-at-requires c κs =
-    let passed = c .before in (rw (passed .j .given .1) at (passed .before .before .sum-tests .ensures .1)) .0 .below
-
-sum-rows-requires : tie.Need-sum-rows-requires
-sum-rows-requires c κs =
-    let passed : tie.After-j = search in
-    let tests : tie.After-sum-tests = search in
-    let f = fit (tests .before) .fitted in
-    let k = rw (passed .j .given .1) at (tests .sum-tests .ensures .1) in
-    (f .room, (f .proper, ((f .linked, f .pooled), k .1)))
+returns-2 c = let tests : tie.After-sum-tests = search in search (serving, tests .sum-tests .ensures .0)
 
 returns-3 : tie.Need-returns-3
 unfolding replyIn actIn entriesAfter
-returns-3 c =
-    let shared-slice-known : tie.After-shared-slice-known = search in
-    let scan = c .before in
-    let passed : tie.After-j = search in
-    let tests : tie.After-sum-tests = search in
-    let known = tests .before in
-    let k = rw (passed .j .given .1) at (tests .sum-tests .ensures .1) in
-    read-serves (fit known) _ _ _ (passed .j .given .1) (tests .sum-tests .ensures .0 _) _ kept
-    (λ k. omega (arith, shared-slice-known .shared-slice-known .given k)) (λ ps q few. (c .sum-rows .ensures ∙ rw (scan .scan-at .ensures (k .0 .found) ps q few), refl, refl))
+returns-3 c = let tests : tie.After-sum-tests = search in search (serving, sum-scanned, tests .sum-tests .ensures .0)
 
 pub sum-spec : {M : Type 1} → statement M
 sum-spec =
@@ -56,11 +20,11 @@ sum-spec =
     (λ c κs. search needs)
     (λ c. search needs)
     (λ c. search needs)
-    (λ c. unfit-serves _ _ _ _ (c .enum-told .given .1) (c .before .before .enter .ensures))
+    (λ c. search serving)
     (λ c κs. search needs)
     (λ c. search needs)
     (λ c. search needs)
-    scan-at-requires
-    sum-rows-requires
+    (λ c κs. search scan-below)
+    (λ c κs. (search serving, (search serving, ((search serving, search serving), search told-below))))
     returns-2
     returns-3)

@@ -5,7 +5,10 @@ use Rattle.upkeep.proofs.give_scan.Statement.{statement}
 use Rattle.upkeep.proofs.give_scan.Tie as tie
 
 returns : tie.Need-returns
-returns c = rw (c .before .before .write .ensures, c .before .before .before .before .read .ensures) (refl, refl)
+returns c =
+    let read : tie.After-read = search in
+    let write : tie.After-write = search in
+    rw (write .write .ensures, read .read .ensures) (refl, refl)
 
 pub give-scan-spec : {M : Type 1} → statement M
 give-scan-spec =

@@ -1,50 +1,14 @@
 -- `upkeep::merge` meets its contract: the tests tell what the merge asks for.
-use native.Mathlib.Omega.{arith}
 use borrow.Author.Needs.{needs}
-use mathlib.Core.Path.{refl}
 use Rattle.model.specs.Calls.{replyIn, actIn, entriesAfter}
-use Rattle.promise.specs.Promise.{kept}
-use Rattle.entry.specs.Entered.{Entered}
-use Rattle.entry.proofs.Served.{entered, part-in, part-long, part-seen, part-fitted, by-any, unfit-serves, failed-serves, write-serves}
+use Rattle.entry.proofs.Served.{serving}
+use Rattle.upkeep.proofs.Tests.{mergeable}
 use Rattle.upkeep.proofs.merge.Statement.{statement}
 use Rattle.upkeep.proofs.merge.Tie as tie
 
--- memory and list passed the test
-fit : (c : tie.After-known-told)
-    → let start = c .before .before .before .before .before .before in
-    Entered (c .before .s .given .0 .0) (c .before .s .given .0 .1 .0) (start .args .mem .now) (start .args .scans)
-fit c =
-    let enter : tie.After-enter = search in
-    entered _ _ _ _ _ (c .before .s .given .1) (enter .enter .ensures)
-
-merge-requires : tie.Need-merge-requires
-merge-requires c κs =
-    let known-told : tie.After-known-told = search in
-    let passed : tie.After-page = search in
-    let tests : tie.After-merge-tests = search in
-    let e = fit known-told in
-    let f = part-fitted e in
-    let k = rw (passed .page .given .1) at (tests .merge-tests .ensures .1) in
-    (f .room, ((f .proper, f .pooled), rw (part-seen e) k))
-
-returns-2 : tie.Need-returns-2
-returns-2 c =
-    let slice-known : tie.After-slice-known = search in
-    let tests : tie.After-merge-tests = search in
-    let known : tie.After-known-told = search in
-    failed-serves (fit known) _ _ _ (c .before .x .given .1) (by-any (fit known) _ _ (tests .merge-tests .ensures .0))
-    (λ k. omega (arith, slice-known .slice-known .given k))
-
 returns-3 : tie.Need-returns-3
 unfolding replyIn actIn entriesAfter
-returns-3 c =
-    let known-told : tie.After-known-told = search in
-    let act : tie.After-merge = search in
-    let passed : tie.After-page = search in
-    let tests : tie.After-merge-tests = search in
-    let e = fit known-told in
-    write-serves e _ _ _ (passed .page .given .1) (by-any e _ _ (tests .merge-tests .ensures .0)) _ _ kept (act .merge .kept .0)
-    (λ k. omega (arith, c .slice-known2 .given k)) (λ ps q few. (refl, act .merge .ensures, refl))
+returns-3 c = search serving
 
 pub merge-spec : {M : Type 1} → statement M
 merge-spec =
@@ -54,14 +18,14 @@ merge-spec =
     (λ c. search needs)
     (λ c. search needs)
     (λ c. search needs)
-    (λ c. unfit-serves _ _ _ _ (c .enum-told .given .1) (c .before .before .enter .ensures))
-    (λ c κs. fit (c .before) .fitted)
+    (λ c. search serving)
+    (λ c κs. search serving)
     (λ c. search needs)
     (λ c. search needs)
-    (λ c. let merge-tests-arg : tie.After-merge-tests-arg = search in part-in (fit (merge-tests-arg .before)))
-    (λ c. let merge-tests-arg : tie.After-merge-tests-arg = search in part-long (fit (merge-tests-arg .before)))
-    merge-requires
+    (λ c. search serving)
+    (λ c. search serving)
+    (λ c κs. (search serving, ((search serving, search serving), search mergeable)))
     (λ c. search needs)
-    returns-2
+    (λ c. search serving)
     (λ c. search needs)
     returns-3)

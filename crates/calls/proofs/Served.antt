@@ -1,8 +1,14 @@
--- From what a core promises to what its call promises, where the call changes a place of the list, or makes a store.
+-- From what a core promises to what its call promises: the laws of the calls over the lent list (crates/lent/proofs/laws), for calls that serve.
+--     served     a call that leaves the list, by a core that was given its table
+--     changed    a call that changes an entry of the list, as its core says
+--     made-so    a making
 use Prim.Native.Nat.{ℕ}
 use mathlib.Core.Path.{_≡_, ap, _∙_}
-use mathlib.Core.List.{List}
+use mathlib.Core.List.{List, []}
 use lib.ListN.{length, set}
+use prog.Routine.{Env, Name}
+use borrow.Fn.Function.{fnOf}
+use borrow.Fn.World.{World}
 use Rattle.terms.specs.Measures.{Shape}
 use Rattle.terms.specs.declared.Answer.{Answer}
 use Rattle.terms.specs.declared.ScanEntry.{ScanEntry}
@@ -10,23 +16,54 @@ use Rattle.scans.specs.declared.Scans.{Scans}
 use Rattle.scans.specs.Table.{tableOf}
 use Rattle.history.specs.History.{Call}
 use Rattle.making.specs.Made.{made}
-use Rattle.promise.specs.Promise.{Serves, ServesBy}
+use Rattle.promise.specs.Promise.{Serves, ServesBy, Makes, kept}
 use Rattle.upkeep.specs.declared.ListChange.{ListChange}
 use Rattle.upkeep.specs.Lists.{changedAt}
 use Rattle.terms.specs.Refusals.{isAccepted}
 use Rattle.scans.specs.Places.{freedIf}
+use Rattle.lent.proofs.Plain.{res}
+use Rattle.lent.proofs.Further.{Further}
+use Rattle.lent.proofs.Hands.{heres, Vals}
+use Rattle.lent.proofs.Tokens.{up}
+use Rattle.lent.proofs.Slices.{Access, reads, writes, slices, loans}
+use Rattle.lent.proofs.Known.{table-known, keep-known}
+use Rattle.lent.proofs.Callees.{KnownIn}
+use Rattle.lent.proofs.Written.{Code, Meets}
+use Rattle.lent.proofs.laws.list_kept as list-kept
+use Rattle.lent.proofs.laws.list_changed as list-changed
+use Rattle.lent.proofs.table.Symbol as load
+use Rattle.lent.proofs.keep.Symbol as keep
+use Rattle.calls.proofs.Types.{answer, table, change}
 
--- it changes a place of the list, and answers as the core does
-pub listed : (c : Call) (m : List ℕ) (t : Scans) (x : ListChange) (z : Answer) (m′ : List ℕ) (ps ps′ : List ScanEntry) → t ≡ tableOf ps
-    → ServesBy t m c (x .answer) m′ (changedAt x) → ps′ ≡ set ps (x .index) (x .entry) → z ≡ x .answer → Serves m ps c z m′ ps′
-unfolding ServesBy
-listed c m t x z m′ ps ps′ e h k g = rw (k, g) (h ps e)
+-- m: whether the call reads or writes the memory; fs: its further arguments; c: the call that they make
+module _ (m : Access) (l : ℕ) (fs : List (Further 2 1 (loans m) l)) (c : Vals fs → Call) (w : World) (γ : Env) (k core : Name) where
+  abbrev promised : List ℕ → Scans → Vals fs → Answer → List ℕ → Type 0
+  promised b t x z b′ = ServesBy t b (c x) z b′ kept
 
--- a store is made; f is what becomes of the answer
-pub made-so : {R : Type 0} (f : Answer → R) (S : Shape) (m : List ℕ) (n : ℕ) (x : Answer) (z : R) (m′ : List ℕ) (ps ps′ : List ScanEntry) → n ≡ length ps
-    → (x, m′) ≡ made S n m → ps′ ≡ freedIf (isAccepted x) ps → z ≡ f x
-    → (z ≡ f (made S (length ps) m .0)) × (m′ ≡ made S (length ps) m .1) × (ps′ ≡ freedIf (isAccepted (made S (length ps) m .0)) ps)
-made-so f S m n x z m′ ps ps′ e h k g =
+  pub served : Code w γ k (fnOf (up 2 l) (slices m reads (heres fs)) (res answer) (list-kept.xs l core answer m) 0 [] (list-kept.body l core answer m fs))
+      → γ load.name ≡ load.routine
+      → KnownIn w γ (list-kept.decides l core answer m fs promised)
+      → Meets (up 2 l) (slices m reads (heres fs)) (res answer) (list-kept.Q-call l core answer m fs (λ b p x. Serves b p (c x))) w (γ k)
+  unfolding ServesBy
+  served code e-table k-core = list-kept.meets l core answer m fs promised (λ b p x. Serves b p (c x)) (λ b p x t z b′ e h. h p e) w γ k code e-table k-core
+
+module _ (m : Access) (l : ℕ) (fs : List (Further 2 1 (up 2 (loans m)) l)) (c : Vals fs → Call) (w : World) (γ : Env) (k core : Name) where
+  abbrev decided : List ℕ → Scans → Vals fs → ListChange → List ℕ → Type 0
+  decided b t x d b′ = ServesBy t b (c x) (d .answer) b′ (changedAt d)
+
+  pub changed : Code w γ k (fnOf (up 2 l) (slices m writes (heres fs)) (res answer) (list-changed.xs l load.name core keep.name table change answer m) 0 [] (list-changed.body l load.name core keep.name table change answer m fs))
+      → γ load.name ≡ load.routine
+      → KnownIn w γ (list-changed.decides l load.name core keep.name table change answer m fs decided)
+      → γ keep.name ≡ keep.routine
+      → Meets (up 2 l) (slices m writes (heres fs)) (res answer) (list-changed.Q-call l load.name core keep.name table change answer m fs (λ b p x. Serves b p (c x))) w (γ k)
+  unfolding ServesBy
+  changed code e-table k-core e-keep =
+      list-changed.meets l load.name core keep.name table change answer (λ p t. t ≡ tableOf p) (λ p d z p′. (z ≡ d .answer) × (p′ ≡ set p (d .index) (d .entry))) m fs decided (λ b p x. Serves b p (c x))
+      (λ b p x t d z b′ p′ e h s. rw (s .1, s .0) (h p e)) w γ k code (table-known w γ e-table) k-core (keep-known w γ e-keep)
+
+pub made-so : (S : Shape) (m : List ℕ) (n : ℕ) (x z : Answer) (m′ : List ℕ) (ps ps′ : List ScanEntry) → n ≡ length ps → (x, m′) ≡ made S n m → (z ≡ x) × (ps′ ≡ freedIf (isAccepted x) ps) → Makes m ps S z m′ ps′
+unfolding Makes
+made-so S m n x z m′ ps ps′ e h k =
     let both : (x, m′) ≡ made S (length ps) m = rw e at h in
     let answer : x ≡ (made S (length ps) m) .0 = ap (λ (y : Answer × List ℕ). y .0) both in
-    (g ∙ ap f answer, ap (λ (y : Answer × List ℕ). y .1) both, k ∙ ap (λ (y : Answer). freedIf (isAccepted y) ps) answer)
+    (k .0 ∙ answer, ap (λ (y : Answer × List ℕ). y .1) both, k .1 ∙ ap (λ (y : Answer). freedIf (isAccepted y) ps) answer)

@@ -17,8 +17,8 @@ answer = list.answer
 abbrev pub table : Plain
 table = list.t
 
-abbrev pub listed : Plain
-listed = list.d
+abbrev pub change : Plain
+change = list.d
 
 abbrev pub transaction : Plain
 transaction = struct-of Transaction.the-type Transaction′.the-laws Transaction′.the-copy Transaction′.the-plain

@@ -237,8 +237,8 @@ pub fn open_scan(mem: &mut [u8], scans: &mut [ScanEntry], stamp: Stamp) -> Answe
     ensures { λ r. ⌜ Serves (now (mem .entry)) (now (scans .entry)) (Call.openScan (stamp .0)) r (now (mem .exit)) (now (scans .exit)) ⌝ }
 {
     let t = table(scans);
-    let listed = upkeep::open_scan(mem, t, stamp);
-    keep(scans, listed)
+    let change = upkeep::open_scan(mem, t, stamp);
+    keep(scans, change)
 }
 
 // A scan is closed: its entry is free again.
@@ -246,6 +246,6 @@ pub fn close_scan(mem: &[u8], scans: &mut [ScanEntry], scan: u32) -> Answer
     ensures { λ r. ⌜ Serves (now (mem .entry)) (now (scans .entry)) (Call.close scan) r (now (mem .entry)) (now (scans .exit)) ⌝ }
 {
     let t = table(scans);
-    let listed = upkeep::close_scan(mem, t, scan);
-    keep(scans, listed)
+    let change = upkeep::close_scan(mem, t, scan);
+    keep(scans, change)
 }

@@ -288,6 +288,13 @@ module _ {M : Type 1} (𝓤 : URA M) (H : Heap 𝓤) (A : Atoms 𝓤) where
               (via 𝓤 (holds 𝓤 H A E Γ′ Ψ) (holdsI 𝓤 H A E Γ′ Ψ (η ρ) (h u) p) (W .laws .⇛-intro (holds 𝓤 H A E Γ′ Ψ)));
         }
 
+    -- a table whose first part keeps its entries and whose second part gets others
+    re-laid : (F K K′ : List Entry) (η : Rho → Rho) (h : St K → St K′) → ((ρ : Rho) (u : St F) → ent 𝓤 (own 𝓤 H A E ρ F u) (own 𝓤 H A E (η ρ) F u)) → ((ρ : Rho) (w : St K) → ent 𝓤 (own 𝓤 H A E ρ K w) (own 𝓤 H A E (η ρ) K′ (h w)))
+        → (ρ : Rho) (u : St (before F K)) → ent 𝓤 (own 𝓤 H A E ρ (before F K) u) (own 𝓤 H A E (η ρ) (before F K′) (besideU F K′ (frontU F K u) (h (rearU F K u))))
+    re-laid F K K′ η h front rear ρ u =
+        via 𝓤 (sep 𝓤 (own 𝓤 H A E ρ F (frontU F K u)) (own 𝓤 H A E ρ K (rearU F K u))) (own-sep F K ρ u)
+        (via 𝓤 (sep 𝓤 (own 𝓤 H A E (η ρ) F (frontU F K u)) (own 𝓤 H A E (η ρ) K′ (h (rearU F K u)))) (mono∗ 𝓤 (front ρ (frontU F K u)) (rear ρ (rearU F K u))) (sep-own F K′ (η ρ) (frontU F K u) (h (rearU F K u))))
+
     gone-anyhow : (ρ ρ′ : Rho) (i : ℕ) (xs : List Ty) (u : St (rowsFrom i (anyG xs))) → ent 𝓤 (own 𝓤 H A E ρ (rowsFrom i (anyG xs)) u) (own 𝓤 H A E ρ′ (rowsFrom i (anyG xs)) u)
     unfolding own
     gone-anyhow ρ ρ′ i [] u = id⊢ 𝓤 (emp 𝓤)
@@ -331,25 +338,17 @@ module _ {M : Type 1} (𝓤 : URA M) (H : Heap 𝓤) (A : Atoms 𝓤) where
         left = record { locals = Left κs F i fs xs; slots = leases (up c l) κs qs 0 }
 
         pub lays : ((ρ : Rho) (u : St F) → ent 𝓤 (own 𝓤 H A E ρ F u) (own 𝓤 H A E (ins c o ρ) F u)) → Ghost 𝓤 H A E entered laid (pass entered laid (layU κs F i fs xs))
-        lays e =
+        lays front =
             g-moves W entered laid (ins c o) (layU κs F i fs xs)
-            (λ ρ u. let K : List Entry = rowsFrom i (rowsInP κs (heres fs) xs) in
-            let w : St K = rearU F K u in
-            via 𝓤 (sep 𝓤 (own 𝓤 H A E ρ F (frontU F K u)) (own 𝓤 H A E ρ K w)) (own-sep F K ρ u)
-            (via 𝓤 (sep 𝓤 (own 𝓤 H A E (ins c o ρ) F (frontU F K u)) (own 𝓤 H A E (ins c o ρ) (before Fr (rowsFrom i (rows fs))) (besideU Fr (rowsFrom i (rows fs)) (restU κs i fs xs w) (tookU κs i fs xs w))))
-            (mono∗ 𝓤 (e ρ (frontU F K u)) (via 𝓤 (sep 𝓤 (own 𝓤 H A E (ins c o ρ) Fr (restU κs i fs xs w)) (own 𝓤 H A E (ins c o ρ) (rowsFrom i (rows fs)) (tookU κs i fs xs w))) (took i fs xs ρ w) (sep-own Fr (rowsFrom i (rows fs)) (ins c o ρ) (restU κs i fs xs w) (tookU κs i fs xs w))))
-            (sep-own F (before Fr (rowsFrom i (rows fs))) (ins c o ρ) (frontU F K u) (besideU Fr (rowsFrom i (rows fs)) (restU κs i fs xs w) (tookU κs i fs xs w)))))
+            (re-laid F (rowsFrom i (rowsInP κs (heres fs) xs)) (before Fr (rowsFrom i (rows fs))) (ins c o) (λ w. besideU Fr (rowsFrom i (rows fs)) (restU κs i fs xs w) (tookU κs i fs xs w)) front
+            (λ ρ w. via 𝓤 (sep 𝓤 (own 𝓤 H A E (ins c o ρ) Fr (restU κs i fs xs w)) (own 𝓤 H A E (ins c o ρ) (rowsFrom i (rows fs)) (tookU κs i fs xs w))) (took i fs xs ρ w) (sep-own Fr (rowsFrom i (rows fs)) (ins c o ρ) (restU κs i fs xs w) (tookU κs i fs xs w))))
             (opens 𝓤 H A c o l κs qs)
 
         pub lifts : ((ρ : Rho) (u : St F) → ent 𝓤 (own 𝓤 H A E ρ F u) (own 𝓤 H A E (del c o ρ) F u)) → Ghost 𝓤 H A E laid left (pass laid left (liftU κs F i fs xs))
-        lifts e =
+        lifts front =
             g-moves W laid left (del c o) (liftU κs F i fs xs)
-            (λ ρ u. let K : List Entry = before Fr (rowsFrom i (rows fs)) in
-            let w : St K = rearU F K u in
-            via 𝓤 (sep 𝓤 (own 𝓤 H A E ρ F (frontU F K u)) (own 𝓤 H A E ρ K w)) (own-sep F K ρ u)
-            (via 𝓤 (sep 𝓤 (own 𝓤 H A E (del c o ρ) F (frontU F K u)) (own 𝓤 H A E (del c o ρ) (rowsFrom i (rowsRetP κs (heres fs) xs)) (backU κs i fs xs (frontU Fr (rowsFrom i (rows fs)) w) (rearU Fr (rowsFrom i (rows fs)) w))))
-            (mono∗ 𝓤 (e ρ (frontU F K u)) (via 𝓤 (sep 𝓤 (own 𝓤 H A E ρ Fr (frontU Fr (rowsFrom i (rows fs)) w)) (own 𝓤 H A E ρ (rowsFrom i (rows fs)) (rearU Fr (rowsFrom i (rows fs)) w))) (own-sep Fr (rowsFrom i (rows fs)) ρ w) (given-back i fs xs ρ (frontU Fr (rowsFrom i (rows fs)) w) (rearU Fr (rowsFrom i (rows fs)) w))))
-            (sep-own F (rowsFrom i (rowsRetP κs (heres fs) xs)) (del c o ρ) (frontU F K u) (backU κs i fs xs (frontU Fr (rowsFrom i (rows fs)) w) (rearU Fr (rowsFrom i (rows fs)) w)))))
+            (re-laid F (before Fr (rowsFrom i (rows fs))) (rowsFrom i (rowsRetP κs (heres fs) xs)) (del c o) (λ w. backU κs i fs xs (frontU Fr (rowsFrom i (rows fs)) w) (rearU Fr (rowsFrom i (rows fs)) w)) front
+            (λ ρ w. via 𝓤 (sep 𝓤 (own 𝓤 H A E ρ Fr (frontU Fr (rowsFrom i (rows fs)) w)) (own 𝓤 H A E ρ (rowsFrom i (rows fs)) (rearU Fr (rowsFrom i (rows fs)) w))) (own-sep Fr (rowsFrom i (rows fs)) ρ w) (given-back i fs xs ρ (frontU Fr (rowsFrom i (rows fs)) w) (rearU Fr (rowsFrom i (rows fs)) w))))
             (shuts 𝓤 H A c o l κs qs)
 
 -- ---- the rule of a call: first arguments ks of any kinds, then the further ones

@@ -72,12 +72,12 @@ arg v = pVal (valued v) (laws v)
 abbrev pub res : {n : ℕ} → Plain → RK n
 res v = rVal (valued v) (laws v)
 
-pub copied : (v : Plain) {M : Type 1} (𝓤 : URA M) (H : Heap 𝓤) (A : Atoms 𝓤) → Given 𝓤 H A → Yields 𝓤 H A (λ ρ. Unit {0}) (type v) (full v) (full v) (v .ty) (λ x. x) (λ x. x)
-copied v 𝓤 H A W =
+pub copied : (v : Plain) {M : Type 1} {𝓤 : URA M} {H : Heap 𝓤} {A : Atoms 𝓤} → Given 𝓤 H A → Yields 𝓤 H A (λ ρ. Unit {0}) (type v) (full v) (full v) (v .ty) (λ x. x) (λ x. x)
+copied v {M} {𝓤} {H} {A} W =
     yields-copy 𝓤 H A W (λ ρ. Unit {0}) (v .ty) (v .one) (v .copies 𝓤 H A W) (full v) (λ x. x) (λ x. x) (λ ρ told. mem-whole 𝓤 H A W (v .ty) ρ) (λ ρ told. whole-mem 𝓤 H A W (v .ty) ρ)
 
-pub room : (v : Plain) {M : Type 1} (𝓤 : URA M) (H : Heap 𝓤) (A : Atoms 𝓤) → Given 𝓤 H A → ToRoom 𝓤 H A (full v) (type v)
-room v 𝓤 H A W = room-whole 𝓤 H A W (v .ty) (type v) refl
+pub room : (v : Plain) {M : Type 1} {𝓤 : URA M} {H : Heap 𝓤} {A : Atoms 𝓤} → Given 𝓤 H A → ToRoom 𝓤 H A (full v) (type v)
+room v {M} {𝓤} {H} {A} W = room-whole 𝓤 H A W (v .ty) (type v) refl
 
 abbrev pub number : Width → Plain
 number w =

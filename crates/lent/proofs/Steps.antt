@@ -1,4 +1,4 @@
--- Freeing the list place by place: which places are free by then.
+-- Freeing the list entry by entry: which entries are free by then.
 use mathlib.Core.Path.{_≡_, sym, _∙_, ap, subst}
 use mathlib.Core.List.{List}
 use mathlib.Core.Logic.{⊎-elim}
@@ -11,7 +11,7 @@ use Rattle.terms.specs.declared.ScanEntry.{ScanEntry}
 use Rattle.terms.specs.Places.{freeEntry}
 use Rattle.scans.specs.Places.{allFreed}
 
--- the first i places of l, which was k, are free
+-- the first i entries of l, which was k, are free
 pub record Freed (k l : List ScanEntry) (n i : ℕ) : Type 0 where
   pub within : i ≤ n
   pub whole : n ≡ length k

@@ -17,7 +17,7 @@ use contract.Lifetimes.{Lfts, Shares, Within}
 use borrow.Table.Row.{Life, Rho, off, lease, lft, hd, tl, rd, getLife, setLife, Apart}
 use borrow.Table.Own.{ownS, lifeI}
 use borrow.Fn.Leases.{leases}
-use borrow.Rule.Token.Call.{IsH, halfL, HasH}
+use borrow.Rule.Token.Call.{halfL, HasH}
 
 abbrev pub up : ℕ → ℕ → ℕ
 up zero i = i
@@ -133,53 +133,35 @@ rd-ups s (suc l) (suc i) w = rd-ups (suc s) l i w ∙ sym (up-suc s i)
 pub hands-rd : (c d o l i : ℕ) (βs : List ℕ) → HandsOn c d o l βs → Within l i → rd 0 (up d i) βs ≡ up c (up o i)
 hands-rd c d o l i βs h w = sym (drops-rd 0 d i βs) ∙ ap (rd 0 i) h ∙ rd-ups (up c o) l i w ∙ up-up c o i
 
-below-suc : (i j : ℕ) → Below i j → Below i (suc j)
-below-suc i zero b = absurd b
-below-suc zero (suc j) b = tt
-below-suc (suc i) (suc j) b = below-suc i j b
-
-below-next : (i : ℕ) → Below i (suc i)
-below-next zero = tt
-below-next (suc i) = below-next i
-
-abbrev Toks : ℕ → ℕ → List Life → Type 0
-Toks i zero S = Unit {0}
-Toks i (suc l) S = IsH (getLife i S) × Toks (suc i) l S
-
-get-other : (i j : ℕ) → Below i j → (x : Life) (S : List Life) → getLife j (setLife i x S) ≡ getLife j S
-get-other i zero b x S = absurd b
-get-other i (suc j) b x [] = refl
-get-other zero (suc j) b x (s ∷ S) = refl
-get-other (suc i) (suc j) b x (s ∷ S) = get-other i j b x S
-
-toks-set : (i j l : ℕ) → Below i j → (x : Life) (S : List Life) → Toks j l S → Toks j l (setLife i x S)
-toks-set i j zero b x S t = tt
-toks-set i j (suc l) b x S t = (subst IsH (sym (get-other i j b x S)) (t .0), toks-set i (suc j) l (below-suc i j b) x S (t .1))
-
-toks-past : (i l : ℕ) (s : Life) (S : List Life) → Toks i l S → Toks (suc i) l (s ∷ S)
-toks-past i zero s S t = tt
-toks-past i (suc l) s S t = (t .0, toks-past (suc i) l s S (t .1))
-
-toks-have : (i l : ℕ) (S : List Life) → Toks i l S → HasH l (ups i l) S
-toks-have i zero S t = tt
-toks-have i (suc l) S t = (t .0, toks-have (suc i) l (setLife i (halfL (getLife i S)) S) (toks-set i (suc i) l (below-next i) (halfL (getLife i S)) S (t .1)))
-
-toks-leases : (l : ℕ) (κs : Lfts l) (qs : Shares l) → Toks 0 l (leases l κs qs 0)
-toks-leases zero κs qs = tt
-toks-leases (suc l) κs qs = (tt, toks-past 0 l _ (leases l (κs .1) (qs .1) 0) (toks-leases l (κs .1) (qs .1)))
-
--- behind the slots P
-abbrev many : List Life → ℕ
-many [] = 0
-many (s ∷ P) = suc (many P)
-
+-- slots behind others, and one slot more after some
 abbrev behind : List Life → List Life → List Life
 behind [] S = S
 behind (s ∷ P) S = s ∷ behind P S
 
-toks-behind : (P : List Life) (l : ℕ) (κs : Lfts l) (qs : Shares l) → Toks (many P) l (behind P (leases l κs qs 0))
-toks-behind [] l κs qs = toks-leases l κs qs
-toks-behind (s ∷ P) l κs qs = toks-past (many P) l s (behind P (leases l κs qs 0)) (toks-behind P l κs qs)
+abbrev many : List Life → ℕ
+many [] = 0
+many (s ∷ P) = suc (many P)
 
+abbrev and : List Life → Life → List Life
+and [] y = y ∷ []
+and (s ∷ P) y = s ∷ and P y
+
+many-and : (P : List Life) (y : Life) → many (and P y) ≡ suc (many P)
+many-and [] y = refl
+many-and (s ∷ P) y = ap suc (many-and P y)
+
+get-behind : (P : List Life) (x : Life) (S : List Life) → getLife (many P) (behind P (x ∷ S)) ≡ x
+get-behind [] x S = refl
+get-behind (s ∷ P) x S = get-behind P x S
+
+set-behind : (P : List Life) (x y : Life) (S : List Life) → setLife (many P) y (behind P (x ∷ S)) ≡ behind (and P y) S
+set-behind [] x y S = refl
+set-behind (s ∷ P) x y S = ap (λ (L : List Life). s ∷ L) (set-behind P x y S)
+
+-- each of the l slots behind P has a token, and keeps one when it is lent on
 pub lent-on : (P : List Life) (l : ℕ) (κs : Lfts l) (qs : Shares l) → HasH l (ups (many P) l) (behind P (leases l κs qs 0))
-lent-on P l κs qs = toks-have (many P) l (behind P (leases l κs qs 0)) (toks-behind P l κs qs)
+lent-on P zero κs qs = tt
+lent-on P (suc l) κs qs =
+    let x : Life = lease (κs .0) (qs .0) in
+    let S : List Life = leases l (κs .1) (qs .1) 0 in
+    (rw (get-behind P x S) tt, rw (get-behind P x S, set-behind P x (halfL x) S, ← many-and P (halfL x)) (lent-on (and P (halfL x)) l (κs .1) (qs .1)))

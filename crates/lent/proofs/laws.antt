@@ -1,7 +1,5 @@
--- The laws, each for every list of further arguments (`Further`): of a call that only reads, one that changes the memory, and two that may change the list; and of a function that
--- hands on to such a call and turns its answer.
-pub mod read
-pub mod write
+-- The laws, each for every list of further arguments (`Further`) and whether memory and list are read or written (`Slices`): of a call that leaves the list, of one that may change it,
+-- and of a function that hands on to such a call and turns its answer.
+pub mod list_kept
+pub mod list_changed
 pub mod handed
-pub mod list
-pub mod list_read

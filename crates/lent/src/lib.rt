@@ -8,6 +8,7 @@ use scans::is_open;
 use scans::set_length;
 use terms::Answer;
 use terms::ScanEntry;
+use terms::accepted;
 use upkeep::ListChange;
 ghost use mathlib.Core.Path.{_≡_};
 ghost use Prim.Native.Nat.{_<_};
@@ -54,35 +55,35 @@ pub fn table(list: &[ScanEntry]) -> Scans
     set_length(t, n)
 }
 
-fn place_of(listed: ListChange) -> usize
-    ensures { λ r. ⌜ r ≡ listed .index ⌝ }
+fn index_of(change: ListChange) -> usize
+    ensures { λ r. ⌜ r ≡ change .index ⌝ }
 {
-    listed.index
+    change.index
 }
 
-fn entry_of(listed: ListChange) -> ScanEntry
-    ensures { λ r. ⌜ r ≡ listed .entry ⌝ }
+fn entry_of(change: ListChange) -> ScanEntry
+    ensures { λ r. ⌜ r ≡ change .entry ⌝ }
 {
-    let p = listed.entry;
+    let p = change.entry;
     p
 }
 
-fn answer_of(listed: ListChange) -> Answer
-    ensures { λ r. ⌜ r ≡ listed .answer ⌝ }
+fn answer_of(change: ListChange) -> Answer
+    ensures { λ r. ⌜ r ≡ change .answer ⌝ }
 {
-    let a = listed.answer;
+    let a = change.answer;
     a
 }
 
 // The entry that a call names becomes what it says: a scan is added or dropped. An entry past the end is not there, and nothing is stored. Gives the call's answer back.
-pub fn keep(list: &mut [ScanEntry], listed: ListChange) -> Answer
-    ensures { λ r. ⌜ (r ≡ listed .answer) × (now (list .exit) ≡ set (now (list .entry)) (listed .index) (listed .entry)) ⌝ }
+pub fn keep(list: &mut [ScanEntry], change: ListChange) -> Answer
+    ensures { λ r. ⌜ (r ≡ change .answer) × (now (list .exit) ≡ set (now (list .entry)) (change .index) (change .entry)) ⌝ }
 {
-    let i = place_of(listed);
+    let i = index_of(change);
     if i < len_of(list) {
-        put_entry(list, i, entry_of(listed));
+        put_entry(list, i, entry_of(change));
     }
-    answer_of(listed)
+    answer_of(change)
 }
 
 // Every entry becomes free, however many there are.
@@ -94,21 +95,6 @@ pub fn free_all(list: &mut [ScanEntry])
     while i < n {
         put_entry(list, i, free_entry());
         i += 1;
-    }
-}
-
-// Whether a call was carried out.
-pub fn accepted(answer: Answer) -> bool
-    ensures { λ r. ⌜ r ≡ isAccepted answer ⌝ }
-{
-    match answer {
-        Answer::Refused(_) => false,
-        Answer::Done => true,
-        Answer::Number(_) => true,
-        Answer::Value(_) => true,
-        Answer::None => true,
-        Answer::Sum(_, _) => true,
-        Answer::Lineage(_, _) => true,
     }
 }
 

@@ -32,11 +32,6 @@ pub fn goes_on(answer: Answer) -> bool
 {
     match answer {
         Answer::Refused(why) => and_between(true, 2, 18, number(why)),
-        Answer::Done => true,
-        Answer::Number(_) => true,
-        Answer::Value(_) => true,
-        Answer::None => true,
-        Answer::Sum(_, _) => true,
-        Answer::Lineage(_, _) => true,
+        _ => true,
     }
 }

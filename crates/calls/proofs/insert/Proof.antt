@@ -5,23 +5,22 @@ use denote.Signed.{SInt}
 use contract.Running.{tablesOf}
 use borrow.Fn.World.{World}
 use Rattle.history.specs.History.{Call}
-use Rattle.promise.specs.Promise.{Serves, ServesBy, kept}
+use Rattle.lent.proofs.Slices.{writes}
+use Rattle.lent.proofs.Written.{world}
 use Rattle.lent.proofs.Further.{value, shared}
-use Rattle.lent.proofs.laws.write as law
 use Rattle.calls.proofs.insert_values.Symbol as core
 use Rattle.calls.proofs.insert_values.Met as core-thm
 use Rattle.calls.proofs.insert_values.Reads as core-reads
 use Rattle.calls.specs.Values.{padded}
-use Rattle.calls.proofs.Types.{answer, transaction}
+use Rattle.calls.proofs.Types.{transaction}
+use Rattle.calls.proofs.Served.{served}
 use Rattle.calls.proofs.insert.Key as key
 use Rattle.calls.proofs.insert.Statement.{statement}
 use Rattle.calls.proofs.insert.Code as code
 
 pub insert-spec : {M : Type 1} → statement M
-unfolding code.routine tablesOf ServesBy
-insert-spec {M} 𝓤 H 𝓜 𝓖 𝓡 =
-    let w : World = record { M = M; 𝓤 = 𝓤; H = H; 𝓜 = 𝓜; 𝓖 = 𝓖; 𝓡 = 𝓡 } in
-    law.meets 1 core.name answer (value transaction ∷ shared (SInt w32) 0 tt ∷ []) (λ m t (x, (y, _)) z m′. ServesBy t m (Call.insert (x .0) (padded y)) z m′ kept) (λ m l (x, (y, _)) z m′. Serves m l (Call.insert (x .0) (padded y)) z m′ l)
-    (λ m l (x, (y, _)) t z m′ e h. h l e)
-    w code.env key.name (code.unfolded 𝓤 H 𝓜 𝓡) code.calls-lent·table
+unfolding code.routine tablesOf
+insert-spec 𝓤 H 𝓜 𝓖 𝓡 =
+    let w : World = world 𝓤 H 𝓜 𝓖 𝓡 in
+    served writes 1 (value transaction ∷ shared (SInt w32) 0 tt ∷ []) (λ (x, (y, _)). Call.insert (x .0) (padded y)) w code.env key.name core.name (code.unfolded 𝓤 H 𝓜 𝓡) code.calls-lent·table
     (core-reads.known w code.env core.name core.routine code.calls-calls·insert-values (core-thm.met 𝓤 H 𝓜 𝓖 𝓡))

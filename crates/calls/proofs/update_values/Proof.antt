@@ -4,7 +4,10 @@ use Rattle.calls.proofs.update_values.Statement.{statement}
 use Rattle.calls.proofs.update_values.Tie as tie
 
 returns : tie.Need-returns
-returns c = rw (← c .before .before .before .before .pad-values .ensures) (c .before .before .update .ensures)
+returns c =
+    let taken : tie.After-pad-values = search in
+    let updated : tie.After-update = search in
+    rw (← taken .pad-values .ensures) (updated .update .ensures)
 
 pub update-values-spec : {M : Type 1} → statement M
 update-values-spec = tie.close (tie.spec (λ c κs. search needs) (λ c κs. search needs) (λ c. search needs) returns)

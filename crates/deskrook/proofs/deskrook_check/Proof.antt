@@ -5,7 +5,9 @@ use contract.Running.{tablesOf}
 use borrow.Fn.World.{World}
 use Rattle.terms.specs.declared.ScanEntry.{ScanEntry}
 use Rattle.scans.specs.Table.{tableOf}
-use Rattle.lent.proofs.laws.read as law
+use Rattle.lent.proofs.Slices.{reads}
+use Rattle.lent.proofs.Written.{world}
+use Rattle.lent.proofs.laws.list_kept as law
 use Rattle.deskrook.proofs.reply.check_reply.Symbol as core
 use Rattle.deskrook.proofs.reply.check_reply.Met as core-thm
 use Rattle.deskrook.proofs.reply.check_reply.Reads as core-reads
@@ -17,9 +19,8 @@ use Rattle.deskrook.proofs.deskrook_check.Code as code
 
 pub deskrook-check-spec : {M : Type 1} → statement M
 unfolding code.routine tablesOf
-deskrook-check-spec {M} 𝓤 H 𝓜 𝓖 𝓡 =
-    let w : World = record { M = M; 𝓤 = 𝓤; H = H; 𝓜 = 𝓜; 𝓖 = 𝓖; 𝓡 = 𝓡 } in
-    law.meets 0 core.name reply [] (λ m t _ z. (ps : List ScanEntry) → t ≡ tableOf ps → z ≡ replyOf (usability m ps)) (λ m l _ z. z ≡ replyOf (usability m l))
-    (λ m l _ t z b e h. h l e)
+deskrook-check-spec 𝓤 H 𝓜 𝓖 𝓡 =
+    let w : World = world 𝓤 H 𝓜 𝓖 𝓡 in
+    law.meets 0 core.name reply reads [] (λ m t _ z _. (ps : List ScanEntry) → t ≡ tableOf ps → z ≡ replyOf (usability m ps)) (λ m l _ z _ _. z ≡ replyOf (usability m l)) (λ m l _ t z _ e h. h l e)
     w code.env key.name (code.unfolded 𝓤 H 𝓜 𝓡) code.calls-lent·table
     (core-reads.known w code.env core.name core.routine code.calls-deskrook·reply·check-reply (core-thm.met 𝓤 H 𝓜 𝓖 𝓡))

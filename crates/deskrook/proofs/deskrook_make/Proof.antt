@@ -1,10 +1,10 @@
 -- `deskrook::deskrook_make` meets its contract: it hands on to the call and turns the answer.
 use mathlib.Core.List.{[], _∷_}
 use contract.Running.{tablesOf}
-use borrow.Fn.World.{World}
 use Rattle.layout.specs.Sizes.{shapeOf}
 use Rattle.lent.proofs.Further.{value}
-use Rattle.lent.proofs.laws.handed.{both}
+use Rattle.lent.proofs.Slices.{writes}
+use Rattle.lent.proofs.Written.{world}
 use Rattle.promise.specs.Promise.{Makes}
 use Rattle.calls.proofs.Types.{u32}
 use Rattle.calls.proofs.make.Symbol as call
@@ -17,7 +17,6 @@ use Rattle.deskrook.proofs.deskrook_make.Code as code
 
 pub deskrook-make-spec : {M : Type 1} → statement M
 unfolding code.routine tablesOf RepliesMade
-deskrook-make-spec {M} 𝓤 H 𝓜 𝓖 𝓡 =
-    let w : World = record { M = M; 𝓤 = 𝓤; H = H; 𝓜 = 𝓜; 𝓖 = 𝓖; 𝓡 = 𝓡 } in
-    exported both 0 (value u32 ∷ value u32 ∷ value u32 ∷ value u32 ∷ []) (λ m q (a, (b, (c, (d, _)))). Makes m q (shapeOf a b c d)) w code.env key.name call.name call.routine
+deskrook-make-spec 𝓤 H 𝓜 𝓖 𝓡 =
+    exported writes writes 0 (value u32 ∷ value u32 ∷ value u32 ∷ value u32 ∷ []) (λ m q (a, (b, (c, (d, _)))). Makes m q (shapeOf a b c d)) (world 𝓤 H 𝓜 𝓖 𝓡) code.env key.name call.name call.routine
     (code.unfolded 𝓤 H 𝓜 𝓡) code.calls-calls·make (call-thm.met 𝓤 H 𝓜 𝓖 𝓡) code.calls-deskrook·reply·encode

@@ -1,9 +1,9 @@
 -- `deskrook::deskrook_release` meets its contract: it hands on to the call and turns the answer.
 use mathlib.Core.List.{[]}
 use contract.Running.{tablesOf}
-use borrow.Fn.World.{World}
 use Rattle.history.specs.History.{Call}
-use Rattle.lent.proofs.laws.handed.{memory}
+use Rattle.lent.proofs.Slices.{reads, writes}
+use Rattle.lent.proofs.Written.{world}
 use Rattle.promise.specs.Promise.{Serves}
 use Rattle.calls.proofs.release.Symbol as call
 use Rattle.calls.proofs.release.Met as call-thm
@@ -15,7 +15,6 @@ use Rattle.deskrook.proofs.deskrook_release.Code as code
 
 pub deskrook-release-spec : {M : Type 1} → statement M
 unfolding code.routine tablesOf Replies
-deskrook-release-spec {M} 𝓤 H 𝓜 𝓖 𝓡 =
-    let w : World = record { M = M; 𝓤 = 𝓤; H = H; 𝓜 = 𝓜; 𝓖 = 𝓖; 𝓡 = 𝓡 } in
-    exported memory 0 [] (λ m q _. Serves m q Call.release) w code.env key.name call.name call.routine
+deskrook-release-spec 𝓤 H 𝓜 𝓖 𝓡 =
+    exported writes reads 0 [] (λ m q _. Serves m q Call.release) (world 𝓤 H 𝓜 𝓖 𝓡) code.env key.name call.name call.routine
     (code.unfolded 𝓤 H 𝓜 𝓡) code.calls-calls·release (call-thm.met 𝓤 H 𝓜 𝓖 𝓡) code.calls-deskrook·reply·encode

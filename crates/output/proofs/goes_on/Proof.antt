@@ -1,5 +1,8 @@
--- `output::goes_on` meets its contract: in each arm the case is known.
+-- `output::goes_on` meets its contract: a refusal by its number, and every other answer.
+use mathlib.Core.Path.{_≡_, refl}
+use mathlib.Core.Bool.{true}
 use borrow.Author.Needs.{needs}
+use Rattle.terms.proofs.Answers.{others}
 use Rattle.output.specs.Output.{goesOn}
 use Rattle.output.proofs.goes_on.Statement.{statement}
 use Rattle.output.proofs.goes_on.Tie as tie
@@ -12,16 +15,5 @@ goes-on-spec =
     (λ c. search needs)
     (λ c κs. search needs)
     (λ c κs. search needs)
-    (λ c. search needs)
-    (λ c. search needs)
-    (λ c. search needs)
-    (λ c. search needs)
-    (λ c. search needs)
-    (λ c. search needs)
     (λ c. rw (c .before .before .before .answer .given .1, c .and-between .ensures, c .before .number .ensures))
-    (λ c. rw (c .enum-told .given .1))
-    (λ c. rw (c .enum-told2 .given .1))
-    (λ c. rw (c .enum-told3 .given .1))
-    (λ c. rw (c .enum-told4 .given .1))
-    (λ c. rw (c .enum-told5 .given .1))
-    (λ c. rw (c .enum-told6 .given .1)))
+    (λ c. others (λ a. true ≡ goesOn a) refl (λ n. refl) (λ v. refl) refl (λ n v. refl) (λ n m. refl) (c .before .args .answer) (c .match .keys2)))

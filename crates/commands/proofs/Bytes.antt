@@ -1,9 +1,9 @@
--- Numbers in bytes: a turn of each loop, of `number`, `total`, `operands` and `values`.
+-- Numbers in bytes: a turn of each loop, of `number` and `values`, and the most bytes of the operands.
 use Prim.Native.Nat.{ℕ, zero, suc, _+_, _-_, _*_, _^_, _≤_, _<_}
 use mathlib.Core.Path.{_≡_, refl, ap, _∙_}
 use mathlib.Core.List.{List, [], _∷_, _++_, map-append}
 use native.Mathlib.Omega.{arith}
-use native.Mathlib.Nat.{pow-succ'}
+use native.Mathlib.Nat.{pow-succ', pow-le-pow-right}
 use native.Mathlib.Numerals.{add-one}
 use lib.ListN.{length, getD, set, take, replicate}
 use lib.Seq.{slice, slice-cons, slice-empty, take-suc, take-suc-set, getD-set-other}
@@ -12,7 +12,7 @@ use mir.Syntax.{w32}
 use mir.Val.{toZ}
 use Rattle.words.specs.Words.{words}
 use Rattle.words.proofs.Words.{length-words}
-use Rattle.commands.specs.Commands.{operandBytes, Narrow, total, littleEndian, operand, operands, values}
+use Rattle.commands.specs.Commands.{operandBytes, Narrow, total, littleEndian, values}
 use Rattle.commands.specs.Decoded.{ZerosPast}
 
 -- ---- a number
@@ -38,48 +38,12 @@ turn bytes at n (suc i) total b e p s t h k l =
 
 -- a number of at most three bytes leaves room for one more
 pub room : (k total : ℕ) → total < 256 ^ k → k ≤ 3 → total < 16777216
-room zero total h l = omega arith
-room (suc zero) total h l = omega arith
-room (suc (suc zero)) total h l = omega arith
-room (suc (suc (suc zero))) total h l = omega arith
-room (suc (suc (suc (suc k)))) total h l = absurd (omega arith)
+room k total h l = omega (arith, pow-le-pow-right {n = 256} (omega arith) l)
 
--- ---- operands one behind the other
-pub total-next : (ws : List ℕ) (i : ℕ) → total (take (i + 1) ws) ≡ total (take i ws) + getD ws i 0
-total-next ws i = rw (add-one i) (go ws i)
-  where
-    go : (ws : List ℕ) (i : ℕ) → total (take (suc i) ws) ≡ total (take i ws) + getD ws i 0
-    go [] zero = omega arith
-    go [] (suc i) = omega arith
-    go (w ∷ ws) zero = omega arith
-    go (w ∷ ws) (suc i) = omega (arith, go ws i)
-
-operands-snoc : (at : ℕ) (ws : List ℕ) (w : ℕ) (bs : List ℕ) → operands at (ws ++ w ∷ []) bs ≡ operands at ws bs ++ operand (at + total ws) w bs ∷ []
-unfolding operands
-operands-snoc at [] w bs = let e : at + 0 ≡ at = omega arith in rw e
-operands-snoc at (x ∷ ws) w bs =
-    let e : at + (x + total ws) ≡ at + x + total ws = omega arith in
-    rw e (ap (λ (l : List ℕ). operand at x bs ∷ l) (operands-snoc (at + x) ws w bs))
-
-pub operands-next : (ws bs out : List ℕ) (i at n : ℕ) → take i out ≡ operands 0 (take i ws) bs → at ≡ total (take i ws) → n ≡ operand at (getD ws i 0) bs
-    → i < length ws → i < length out → take (i + 1) (set out i n) ≡ operands 0 (take (i + 1) ws) bs
-operands-next ws bs out i at n e p q h l =
-    let o : 0 + total (take i ws) ≡ total (take i ws) = omega arith in
-    rw (add-one i, take-suc ws i 0, take-suc-set out i n, operands-snoc 0 (take i ws) (getD ws i 0) bs, e, q, p, o)
-
+-- ---- narrow operands
 pub total-most : (ws : List ℕ) → Narrow ws → total ws ≤ length ws * operandBytes
 total-most [] h = omega arith
 total-most (w ∷ ws) h = omega (arith, total-most ws (h .1))
-
--- an operand lies within them all, and is narrow
-abbrev pub OperandIn : List ℕ → ℕ → Type 0
-OperandIn ws i = (total (take i ws) + getD ws i 0 ≤ total ws) × (getD ws i 0 ≤ operandBytes)
-
-pub operand-in : (ws : List ℕ) (i : ℕ) → Narrow ws → OperandIn ws i
-operand-in [] zero h = (omega arith, omega arith)
-operand-in [] (suc i) h = (omega arith, omega arith)
-operand-in (w ∷ ws) zero h = (omega arith, h .0)
-operand-in (w ∷ ws) (suc i) h = let p = operand-in ws i (h .1) in (omega arith, p .1)
 
 -- ---- values
 pub value-next : (bytes : List ℕ) (out : List ℤ) (i w : ℕ) (v : ℤ) → take i out ≡ values i bytes → w ≡ getD (words bytes) i 0 → v ≡ toZ w32 w

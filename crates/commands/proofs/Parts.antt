@@ -53,8 +53,9 @@ call-part columns f bs h =
 pub shape-part : (bs : List ℕ) → shapeFrom (take shapeBytes bs) ≡ shapeFrom bs
 unfolding shapeFrom
 shape-part bs =
-    let a : operand 0 1 (take shapeBytes bs) ≡ operand 0 1 bs = operand-part 0 1 shapeBytes bs (omega arith) in
-    let b : operand 1 1 (take shapeBytes bs) ≡ operand 1 1 bs = operand-part 1 1 shapeBytes bs (omega arith) in
-    let c : operand 2 2 (take shapeBytes bs) ≡ operand 2 2 bs = operand-part 2 2 shapeBytes bs (omega arith) in
-    let d : operand 4 2 (take shapeBytes bs) ≡ operand 4 2 bs = operand-part 4 2 shapeBytes bs (omega arith) in
-    rw (a, b, c, d)
+    rw (
+      operand-part 0 1 shapeBytes bs (omega arith),
+      operand-part 1 1 shapeBytes bs (omega arith),
+      operand-part 2 2 shapeBytes bs (omega arith),
+      operand-part 4 2 shapeBytes bs (omega arith),
+    )

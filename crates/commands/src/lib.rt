@@ -9,7 +9,6 @@ ghost use Prim.Native.Nat.{_+_, _*_, _≤_, _<_};
 ghost use lib.ListN.{length, take};
 ghost use Rattle.terms.specs.Measures.{mostColumns};
 ghost use Rattle.commands.specs.Commands.{mostOperands, operandBytes, valueBytes, Narrow, Small, formOf, widthsOf, chosen, total as totalOf, width as widthOf, operand, operands as operandsOf, values as valuesOf, callFrom, shapeBytes, shapeFrom};
-ghost use Rattle.commands.specs.Commands.{Narrow, Small, chosen, width as widthOf, operand, values as valuesOf, callFrom, shapeBytes, shapeFrom};
 ghost use Rattle.commands.specs.Decoded.{measured, callIn, ZerosPast};
 
 // The calls that only read.
@@ -170,17 +169,17 @@ fn operands(form: Form, bytes: &[u8]) -> [u32; MOST_OPERANDS]
     requires { ⌜ Narrow (widthsOf form) × (totalOf (widthsOf form) ≤ length (now bytes)) ⌝ }
     ensures { λ r. ⌜ r ≡ operandsOf 0 (widthsOf form) (now (bytes .entry)) ⌝ }
 {
-    let widths = [form.first, form.second, form.third, form.fourth, form.fifth];
-    let mut out = [0u32; MOST_OPERANDS];
-    let mut at = 0;
-    let mut i = 0;
-    while i < MOST_OPERANDS {
-        let n = widths[i];
-        out[i] = number(bytes, at, n);
-        at += n;
-        i += 1;
-    }
-    out
+    let second = form.first;
+    let third = second + form.second;
+    let fourth = third + form.third;
+    let fifth = fourth + form.fourth;
+    [
+        number(bytes, 0, form.first),
+        number(bytes, second, form.second),
+        number(bytes, third, form.third),
+        number(bytes, fourth, form.fourth),
+        number(bytes, fifth, form.fifth),
+    ]
 }
 
 // The first n values of the bytes. The other places of the array hold 0.

@@ -1,4 +1,4 @@
--- A signed number of 64 bits and its magnitude: what `magnitude` and `put_signed` ask.
+-- A signed number of 64 bits and its magnitude: what `put_signed` asks.
 use Prim.Native.Nat.{_+_}
 use mathlib.Core.Path.{_≡_, refl}
 use mathlib.Core.Bool.{true, false, false≢true}
@@ -61,9 +61,8 @@ unfolding signed
 shown-below (pos n) h = absurd (omega (arith, leb-false 0 n h))
 shown-below (negsuc n) h = refl
 
-pub signed-below : (z : ℤ) → SFits w64 z → leZ (pos 0) (toZ w64 (ofZ w64 z)) ≡ false
-    → text "-" ++ decimal (natAbs (toZ w64 (ofZ w64 z))) ≡ signed z
-signed-below z f h = let e = toZ-ofZ w64 z f in rw e (shown-below z (rw e at h))
+pub signed-below : (z : ℤ) → SFits w64 z → leZ (pos 0) (toZ w64 (ofZ w64 z)) ≡ false → text "-" ++ decimal (natAbs (minusOne z) + 1) ≡ signed z
+signed-below z f h = rw (below z f h .2) (shown-below z (rw (toZ-ofZ w64 z f) at h))
 
 -- ---- a number of 32 bits as one of 64
 pub wide : (z : ℤ) → SFits w32 z → SFits w64 z

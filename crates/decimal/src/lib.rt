@@ -2,7 +2,6 @@
 ghost use mathlib.Core.Path.{_≡_};
 ghost use Prim.Native.Nat.{_+_, _≤_, _<_};
 ghost use lib.ListN.{length, drop};
-ghost use lib.IntN.{natAbs};
 ghost use Rattle.decimal.specs.Decimal.{decimal, signed, field, digit as digitOf};
 ghost use Rattle.decimal.specs.Written.{lineBytes, mostDigits, signedBytes, naturalField, integerField, Written};
 
@@ -66,27 +65,16 @@ fn put_decimal(out: &mut [u8; LINE_BYTES], at: usize, n: u64) -> usize
     put(out, at, &digits[from..])
 }
 
-// A number without its sign. -1 - z is the one signed operation here, and it never overflows.
-fn magnitude(z: i64) -> u64
-    ensures { λ r. ⌜ r ≡ natAbs z ⌝ }
-{
-    if z >= 0 {
-        z as u64
-    } else {
-        (-1 - z) as u64 + 1
-    }
-}
-
+// The sign, if there is one, and the magnitude. -1 - z is the one signed operation here, and it never overflows.
 fn put_signed(out: &mut [u8; LINE_BYTES], at: usize, z: i64) -> usize
     requires { ⌜ at + signedBytes ≤ lineBytes ⌝ }
     ensures { λ r. ⌜ Written (now (out .entry)) (now (out .exit)) at (signed z) r × (r ≤ at + signedBytes) ⌝ }
 {
-    let n = magnitude(z);
     if z >= 0 {
-        put_decimal(out, at, n)
+        put_decimal(out, at, z as u64)
     } else {
         let next = put(out, at, b"-");
-        put_decimal(out, next, n)
+        put_decimal(out, next, (-1 - z) as u64 + 1)
     }
 }
 

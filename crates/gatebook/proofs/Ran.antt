@@ -11,7 +11,7 @@ use Rattle.promise.specs.Promise.{Lent}
 use Rattle.turns.specs.Gatebook.{GatebookWrites}
 use Rattle.turns.proofs.Gatebook.{gatebook-writes}
 use Rattle.rounds.specs.declared.Progress.{Progress}
-use Rattle.rounds.specs.Due.{Flow, flow, due, roomFor, Round, Took}
+use Rattle.rounds.specs.Due.{flow, due, roomFor, Round, Took}
 use Rattle.rounds.specs.Rounds.{opening}
 use Rattle.rounds.proofs.Due.{never, due-off, moved-none}
 use Rattle.gatebook.specs.declared.course.Course.{Course}
@@ -69,14 +69,7 @@ ran-next x₀ x y c r a d i j k lines n off v w s =
         let after = w .round .moved .same rest (λ e. h (s .last ∙ w .last ∙ e)) in
         let held : take (c .held) i ++ (piece ++ rest) ≡ take (r .held) j ++ rest
         = sym (append-assoc (take (c .held) i) piece rest) ∙ ap (λ (l : List ℕ). l ++ rest) (sym (behind-held c r i j v)) in
-        let between : due (flowOf c) x (take (c .held) i ++ (piece ++ rest)) ≡ due (flowOf r) x (take (r .held) j ++ rest)
-        = ap (due (flowOf c) x) held ∙ ap (λ (f : Flow). due f x (take (r .held) j ++ rest)) (sym (v .flow)) in
-        let next : due (flowOf a) y (take (a .held) k ++ rest) ≡ due (flowOf d) y (take (d .held) k ++ rest)
-        = ap (λ (f : Flow). due f y (take (a .held) k ++ rest)) (sym (s .flow)) ∙ ap (λ (m : ℕ). due (flowOf d) y (take m k ++ rest)) (sym (s .held)) in
-        ap (due opening x₀) (append-assoc (n .received) piece rest)
-        ∙ before
-        ∙ ap (λ (l : List ℕ). n .lines ++ l) (between ∙ after ∙ ap (λ (l : List ℕ). take (a .written) lines ++ l) next)
-        ∙ sym (append-assoc (n .lines) (take (a .written) lines) (due (flowOf d) y (take (d .held) k ++ rest)))
+        rw (append-assoc (n .received) piece rest, before, held, ← v .flow, after, s .flow, s .held) (sym (append-assoc (n .lines) (take (a .written) lines) _))
 
 pub ran-writes : RanWrites
 unfolding RanWrites due GatebookWrites

@@ -14,11 +14,12 @@ use Rattle.history.specs.History.{Call, begin, insert, update, delete, commit, 
 use Rattle.lines.specs.Lines.{line, shapeLine}
 use Rattle.commands.specs.declared.Chosen.{Chosen}
 use Rattle.commands.specs.Commands.{chosen, width, callFrom, Item, itemAt, behind, items, script, cutShape, parse, shapeBytes, shapeFrom}
+use Rattle.commands.proofs.Items.{items-none}
 use Rattle.commands.proofs.Parts.{whole, call-part}
 use Rattle.output.specs.Output.{lentColumns, lentRanges, lentRecords, lentSpares, lent, shapeAnswer, goesOn, calls, linesOf, outputOf, output}
 use Rattle.model.specs.Machine.{Machine, historyOf}
 use Rattle.output.specs.Steps.{operandsOf, answerTo, stateAfter, steps, linesFrom, written}
-use Rattle.loops.proofs.Search.{and-true}
+use Rattle.loops.proofs.Search.{and-true, between-tells}
 
 -- ---- no answer of the plain history ends the program
 abbrev allGoOn : List Test → Bool
@@ -32,64 +33,40 @@ verdict-goes-on (t ∷ ts) a p q =
     let r = and-true _ _ p in
     elim (t .fails) as (λ b. goesOn (answerIf (cond b (refuse (t .refusal)) (verdict ts)) a) ≡ true) [ true ↦ r .0 | false ↦ verdict-goes-on ts a (r .1) q ]
 
-tests-go-on : (s : Shape) (h : History) (c : Call) → allGoOn (tests s h c) ≡ true
-unfolding tests goesOn
-tests-go-on s h begin = refl
-tests-go-on s h (insert t vs) = refl
-tests-go-on s h (update t r m vs) = refl
-tests-go-on s h (delete t r) = refl
-tests-go-on s h (commit t k) = refl
-tests-go-on s h (abort t) = refl
-tests-go-on s h (latest r c) = refl
-tests-go-on s h (readAt k r c) = refl
-tests-go-on s h (ownRead t r c) = refl
-tests-go-on s h (openScan k) = refl
-tests-go-on s h (scanRead k r c) = refl
-tests-go-on s h (sum k c) = refl
-tests-go-on s h (close k) = refl
-tests-go-on s h (merge g c n) = refl
-tests-go-on s h release = refl
-tests-go-on s h (pageCell c r) = refl
-tests-go-on s h (lineage g c) = refl
-
 read-goes-on : (sees : ℕ → Bool) (h : History) (r c : ℕ) → goesOn (read sees h r c) ≡ true
 unfolding read goesOn
 read-goes-on sees h r c = elim (visible sees h r) as (λ b. goesOn (cond b (Answer.Value (versionOf sees h r c .value)) Answer.None) ≡ true) [ true ↦ refl | false ↦ refl ]
 
-reply-goes-on : (s : Shape) (h : History) (c : Call) → goesOn (reply s h c) ≡ true
-unfolding reply sumOf goesOn
-reply-goes-on s h begin = refl
-reply-goes-on s h (insert t vs) = refl
-reply-goes-on s h (update t r m vs) = refl
-reply-goes-on s h (delete t r) = refl
-reply-goes-on s h (commit t k) = refl
-reply-goes-on s h (abort t) = refl
-reply-goes-on s h (latest r c) = read-goes-on _ h r c
-reply-goes-on s h (readAt k r c) = read-goes-on _ h r c
-reply-goes-on s h (ownRead t r c) = read-goes-on _ h r c
-reply-goes-on s h (openScan k) = refl
-reply-goes-on s h (scanRead k r c) = read-goes-on _ h r c
-reply-goes-on s h (sum k c) = refl
-reply-goes-on s h (close k) = refl
-reply-goes-on s h (merge g c n) = refl
-reply-goes-on s h release = refl
-reply-goes-on s h (pageCell c r) = refl
-reply-goes-on s h (lineage g c) = refl
+-- neither a refusal of a call nor its answer where it is accepted
+call-goes-on : (s : Shape) (h : History) (c : Call) → (allGoOn (tests s h c) ≡ true) × (goesOn (reply s h c) ≡ true)
+unfolding tests reply sumOf goesOn
+call-goes-on s h begin = (refl, refl)
+call-goes-on s h (insert t vs) = (refl, refl)
+call-goes-on s h (update t r m vs) = (refl, refl)
+call-goes-on s h (delete t r) = (refl, refl)
+call-goes-on s h (commit t k) = (refl, refl)
+call-goes-on s h (abort t) = (refl, refl)
+call-goes-on s h (latest r c) = (refl, read-goes-on _ h r c)
+call-goes-on s h (readAt k r c) = (refl, read-goes-on _ h r c)
+call-goes-on s h (ownRead t r c) = (refl, read-goes-on _ h r c)
+call-goes-on s h (openScan k) = (refl, refl)
+call-goes-on s h (scanRead k r c) = (refl, read-goes-on _ h r c)
+call-goes-on s h (sum k c) = (refl, refl)
+call-goes-on s h (close k) = (refl, refl)
+call-goes-on s h (merge g c n) = (refl, refl)
+call-goes-on s h release = (refl, refl)
+call-goes-on s h (pageCell c r) = (refl, refl)
+call-goes-on s h (lineage g c) = (refl, refl)
 
 pub answer-goes-on : (s : Shape) (h : History) (c : Call) → goesOn (answer s h c) ≡ true
 unfolding answer
-answer-goes-on s h c = verdict-goes-on (tests s h c) (reply s h c) (tests-go-on s h c) (reply-goes-on s h c)
+answer-goes-on s h c = let g = call-goes-on s h c in verdict-goes-on (tests s h c) (reply s h c) (g .0) (g .1)
 
 -- ---- the steps and the items
 pub steps-none : {State : Type 0} (most : ℕ) (m : Machine State) (columns : ℕ) (x : State) → steps most m columns x [] ≡ []
 unfolding steps
 steps-none zero m columns x = refl
 steps-none (suc most) m columns x = refl
-
-items-none : (most columns : ℕ) → items most columns [] ≡ []
-unfolding items
-items-none zero columns = refl
-items-none (suc most) columns = refl
 
 -- the lines of a list of items, with the plain history's answers
 abbrev shown : Shape → History → List Item → List ℕ
@@ -158,20 +135,28 @@ written-is-output bs =
     a : Bool → Answer
     a b = cond b (shapeAnswer s) (Answer.Refused Refusal.Cut)
 
--- ---- what is lent is within the limits of a shape
-wider : (low high more n : ℕ) → high ≤ more → between low high n ≡ true → between low more n ≡ true
-wider low high more n h e =
-    let p = and-true (leb low n) (leb n high) e in
-    rw (p .0) (le-leb n more (omega (arith, leb-true n high (p .1))))
-
-pub lent-within : (s : Shape) → lent s ≡ true → withinLimits s ≡ true
-unfolding lent withinLimits
-lent-within s e =
+-- ---- what is lent, measure by measure, is within the limits of a shape
+pub lent-each : (s : Shape) → lent s ≡ true
+    → (between 1 lentColumns (s .columns) ≡ true)
+    × (between 1 lentRanges (s .ranges) ≡ true)
+    × (between 1 lentRecords (s .capacity) ≡ true)
+    × (between 0 lentSpares (s .spares) ≡ true)
+unfolding lent
+lent-each s e =
     let p = and-true _ _ e in
     let q = and-true _ _ (p .0) in
-    let r = and-true _ _ (q .0) in
-    let columns = wider 1 lentColumns mostColumns (s .columns) (omega arith) (r .0) in
-    let ranges = wider 1 lentRanges mostRanges (s .ranges) (omega arith) (r .1) in
-    let records = wider 1 lentRecords mostRecords (s .capacity) (omega arith) (q .1) in
-    let spares = wider 0 lentSpares mostSpares (s .spares) (omega arith) (p .1) in
-    rw (columns, ranges, records, spares)
+    let r = and-true _ _ (q .0) in (r .0, r .1, q .1, p .1)
+
+wider : (low high more n : ℕ) → high ≤ more → between low high n ≡ true → between low more n ≡ true
+wider low high more n h e = let p = between-tells low high n e in rw (le-leb low n (p .0), le-leb n more (omega arith))
+
+pub lent-within : (s : Shape) → lent s ≡ true → withinLimits s ≡ true
+unfolding withinLimits
+lent-within s e =
+    let l = lent-each s e in
+    rw (
+      wider 1 lentColumns mostColumns (s .columns) (omega arith) (l .0),
+      wider 1 lentRanges mostRanges (s .ranges) (omega arith) (l .1),
+      wider 1 lentRecords mostRecords (s .capacity) (omega arith) (l .2),
+      wider 0 lentSpares mostSpares (s .spares) (omega arith) (l .3),
+    )

@@ -18,33 +18,16 @@ pub worked-example : output example ≡ lines
 unfolding computing example lines shape
 worked-example = refl
 
--- ---- the shape: cut, empty, above what is lent, outside the limits
-pub empty-input : output [] ≡ text "shape no 20\n"
-unfolding computing
-empty-input = refl
-
-pub cut-shape : output (9 ∷ 1 ∷ 1 ∷ []) ≡ text "shape no 20\n"
-unfolding computing
-cut-shape = refl
-
-pub five-columns : output (5 ∷ 1 ∷ 1 ∷ 0 ∷ 0 ∷ 0 ∷ 1 ∷ []) ≡ text "shape no 1\n"
-unfolding computing
-five-columns = refl
-
-pub no-columns : output (0 ∷ 1 ∷ 1 ∷ 0 ∷ 0 ∷ 0 ∷ 1 ∷ []) ≡ text "shape no 1\n"
-unfolding computing
-no-columns = refl
-
--- ---- a cut command does nothing, and an unknown byte ends the program: bytes behind it are not read
-pub cut-command : output (shape ++ 6 ∷ 99 ∷ []) ≡ text "shape ok\n06 no 20\n"
+pub endings :
+    -- the shape: empty, cut, above what is lent, outside the limits
+    (output [] ≡ text "shape no 20\n")
+    × (output (9 ∷ 1 ∷ 1 ∷ []) ≡ text "shape no 20\n")
+    × (output (5 ∷ 1 ∷ 1 ∷ 0 ∷ 0 ∷ 0 ∷ 1 ∷ []) ≡ text "shape no 1\n")
+    × (output (0 ∷ 1 ∷ 1 ∷ 0 ∷ 0 ∷ 0 ∷ 1 ∷ []) ≡ text "shape no 1\n")
+    -- a cut command does nothing, and an unknown byte ends the program: bytes behind it are not read
+    × (output (shape ++ 6 ∷ 99 ∷ []) ≡ text "shape ok\n06 no 20\n")
+    × (output (shape ++ 1 ∷ 171 ∷ 1 ∷ 1 ∷ []) ≡ text "shape ok\n01 ok 1\nAB no 19\n")
+    -- a refusal of the store does not end it; number 0 is never open
+    × (output (shape ++ 6 ∷ 0 ∷ 0 ∷ 13 ∷ 0 ∷ 0 ∷ 15 ∷ []) ≡ text "shape ok\n06 no 3\n0D no 4\n0F ok 0\n")
 unfolding computing shape
-cut-command = refl
-
-pub unknown-byte : output (shape ++ 1 ∷ 171 ∷ 1 ∷ 1 ∷ []) ≡ text "shape ok\n01 ok 1\nAB no 19\n"
-unfolding computing shape
-unknown-byte = refl
-
--- a refusal of the store does not end it; number 0 is never open
-pub goes-on : output (shape ++ 6 ∷ 0 ∷ 0 ∷ 13 ∷ 0 ∷ 0 ∷ 15 ∷ []) ≡ text "shape ok\n06 no 3\n0D no 4\n0F ok 0\n"
-unfolding computing shape
-goes-on = refl
+endings = (refl, refl, refl, refl, refl, refl, refl)

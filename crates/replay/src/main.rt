@@ -70,7 +70,7 @@ fn wide(b: u8) -> usize
     b as usize
 }
 
-// The two-byte number at a place.
+// The two-byte number at an index.
 fn two(bytes: &[u8], at: usize) -> usize
     requires { ⌜ at + 2 ≤ length (now bytes) ⌝ }
     ensures { λ r. ⌜ r < 65536 ⌝ }
@@ -78,14 +78,14 @@ fn two(bytes: &[u8], at: usize) -> usize
     wide(bytes[at]) + wide(bytes[at + 1]) * 256
 }
 
-// The two-byte number at a place rises by one. A place from which no two bytes are left stands for none.
-fn raise(bytes: &mut [u8], place: usize) {
+// The two-byte number at an index rises by one. An index from which no two bytes are left stands for none.
+fn raise(bytes: &mut [u8], at: usize) {
     let n = bytes.len();
-    if place < n {
-        if n - place > 1 {
-            let next = (two(bytes, place) + 1) % 65536;
-            bytes[place] = (next % 256) as u8;
-            bytes[place + 1] = (next / 256) as u8;
+    if at < n {
+        if n - at > 1 {
+            let next = (two(bytes, at) + 1) % 65536;
+            bytes[at] = (next % 256) as u8;
+            bytes[at + 1] = (next / 256) as u8;
         }
     }
 }
@@ -194,19 +194,39 @@ fn run_once(mem: &mut [u8], scans: &mut [u8], bytes: &[u8], folded: bool, c: Cou
     course
 }
 
-// The same, and the numbers at two places rise.
+// A record's head: its kind, the bytes that it holds, how often its commands are run, and the indices of the two numbers that rise each time.
+struct Head {
+    kind: u8,
+    size: usize,
+    times: usize,
+    first: usize,
+    second: usize,
+}
+
+fn head_at(pack: &[u8], at: usize) -> Head
+    requires { ⌜ at + headBytes ≤ length (now pack) ⌝ }
+{
+    Head {
+        kind: pack[at],
+        size: two(pack, at + 1),
+        times: two(pack, at + 3),
+        first: two(pack, at + 5),
+        second: two(pack, at + 7),
+    }
+}
+
+// The same, and the two numbers rise.
 fn run_and_raise(
     mem: &mut [u8],
     scans: &mut [u8],
     bytes: &mut [u8],
-    first: usize,
-    second: usize,
+    head: Head,
     folded: bool,
     c: Course,
 ) -> Course {
     let course = run_once(mem, scans, bytes, folded, c);
-    raise(bytes, first);
-    raise(bytes, second);
+    raise(bytes, head.first);
+    raise(bytes, head.second);
     course
 }
 
@@ -215,17 +235,15 @@ fn run_times(
     mem: &mut [u8],
     scans: &mut [u8],
     bytes: &mut [u8],
-    times: usize,
-    first: usize,
-    second: usize,
+    head: Head,
     folded: bool,
     c: Course,
 ) -> Course {
     let mut course = c;
-    let mut left = times;
+    let mut left = head.times;
     while left > 0 {
         left -= 1;
-        course = run_and_raise(mem, scans, bytes, first, second, folded, course);
+        course = run_and_raise(mem, scans, bytes, head, folded, course);
     }
     course
 }
@@ -263,15 +281,7 @@ fn put_digest(c: Course) {
     io::write_all(STDOUT_FILENO, b"\n");
 }
 
-fn run_folded(
-    mem: &mut [u8],
-    scans: &mut [u8],
-    bytes: &mut [u8],
-    times: usize,
-    first: usize,
-    second: usize,
-    c: Course,
-) -> Course {
+fn run_folded(mem: &mut [u8], scans: &mut [u8], bytes: &mut [u8], head: Head, c: Course) -> Course {
     if !c.on {
         return c;
     }
@@ -281,52 +291,31 @@ fn run_folded(
         lines: 0,
         hash: HASH,
     };
-    let after = run_times(mem, scans, bytes, times, first, second, true, before);
+    let after = run_times(mem, scans, bytes, head, true, before);
     put_digest(after);
     after
 }
 
 // One record.
-fn run_record(
-    mem: &mut [u8],
-    scans: &mut [u8],
-    kind: u8,
-    bytes: &mut [u8],
-    times: usize,
-    first: usize,
-    second: usize,
-    c: Course,
-) -> Course {
+fn run_record(mem: &mut [u8], scans: &mut [u8], bytes: &mut [u8], head: Head, c: Course) -> Course {
+    let kind = head.kind;
     match kind {
         TITLE => put_title(bytes),
         SHAPE => begin(mem, scans, bytes),
-        COMMANDS => run_times(mem, scans, bytes, times, first, second, false, c),
-        _ => run_folded(mem, scans, bytes, times, first, second, c),
+        COMMANDS => run_times(mem, scans, bytes, head, false, c),
+        _ => run_folded(mem, scans, bytes, head, c),
     }
 }
 
-// The record at a place of the pack.
+// The record at an index of the pack.
 fn take_record(mem: &mut [u8], scans: &mut [u8], pack: &mut [u8], at: usize, c: Course) -> Step
     requires { ⌜ at + headBytes ≤ length (now pack) ⌝ }
     ensures { λ r. ⌜ (at < r .at) × (r .at ≤ length (now (pack .entry))) ⌝ }
 {
-    let kind = pack[at];
-    let size = two(pack, at + 1);
-    let times = two(pack, at + 3);
-    let first = two(pack, at + 5);
-    let second = two(pack, at + 7);
+    let head = head_at(pack, at);
     let from = at + HEAD;
-    let end = from + least(size, pack.len() - from);
-    let course = run_record(
-        mem,
-        scans,
-        kind,
-        &mut pack[from..end],
-        times,
-        first,
-        second,
-        c,
-    );
+    let end = from + least(head.size, pack.len() - from);
+    let course = run_record(mem, scans, &mut pack[from..end], head, c);
     Step { at: end, course }
 }
 

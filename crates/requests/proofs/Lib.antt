@@ -1,5 +1,6 @@
 -- Laws that the functions of this crate rest on.
 pub mod Places
 pub mod Arms
+pub mod Equivalent
 pub mod Masks
 pub mod Values

@@ -12,21 +12,20 @@ use mir.Val.{ofZ}
 use Rattle.terms.specs.Measures.{Shape}
 use Rattle.terms.specs.declared.Answer.{Answer}
 use Rattle.terms.specs.declared.ScanEntry.{ScanEntry}
-use Rattle.words.specs.Words.{words}
 use Rattle.layout.specs.View.{View}
 use Rattle.layout.specs.declared.Region.the-variants.{Current}
-use Rattle.facts.specs.Usable.{storedShape}
-use Rattle.history.specs.History.{Call, insert, update, rangeOf}
+use Rattle.history.specs.History.{rangeOf}
 use Rattle.layout.specs.Codes.{asSetting}
 use Rattle.model.specs.Writing.{putCells, insertedAt, insertedIn, settingAppended, originalAppended, updatedIn, filledIn, nextSlot, appended}
-use Rattle.model.specs.Calls.{testsIn, replyIn, actIn, entriesAfter, say, viewNext, entriesNext}
+use Rattle.model.specs.Calls.{testsIn, replyIn, actIn, entriesAfter}
 use Rattle.commands.specs.declared.Write.{Write}
 use Rattle.commands.specs.declared.Kind.{Kind}
 use Rattle.commands.specs.declared.Request.{Request}
 use Rattle.commands.specs.Commands.{first, second, third, writeOf, callOf}
 use Rattle.commands.specs.Decoded.{callIn, ZerosPast}
-use Rattle.promise.specs.Promise.{storeView, answerOf, memoryAfter, listAfter, Serves}
+use Rattle.promise.specs.Promise.{Serves}
 use Rattle.requests.specs.Asked.{asked}
+use Rattle.requests.proofs.Equivalent.{served-equivalent}
 
 abbrev Agree : List ℤ → List ℤ → Type 0
 Agree vs us = (c : ℕ) → getD vs c (pos 0) ≡ getD us c (pos 0)
@@ -50,33 +49,16 @@ module _ (vs us : List ℤ) (e : Agree vs us) (S : Shape) where
   unfolding updatedIn
   updated-agree t r mask v = rw (setting-agree t r mask (originalAppended S t r mask v), setting-agree t r mask v)
 
--- a call whose tests and answer do not look at its values, on a lent memory
-served-alike : (m : List ℕ) (ps : List ScanEntry) (x y : Call) (r : Answer) (m′ : List ℕ) (ps′ : List ScanEntry)
-    → ((S : Shape) (v : View) → testsIn S v ps x ≡ testsIn S v ps y)
-    → ((S : Shape) (v : View) → replyIn S v ps x ≡ replyIn S v ps y)
-    → ((S : Shape) (v : View) → actIn S v ps x ≡ actIn S v ps y)
-    → ((v : View) → entriesAfter v ps x ≡ entriesAfter v ps y)
-    → Serves m ps x r m′ ps′ → Serves m ps y r m′ ps′
-unfolding Serves answerOf memoryAfter listAfter say viewNext entriesNext
-served-alike m ps x y r m′ ps′ t a k l w =
-    let S = storedShape (words m) in
-    let v = storeView m in (
-      rw (t S v, a S v) at (w .0),
-      rw (t S v, k S v) at (w .1),
-      rw (t S v, l v) at (w .2),
-    )
-
--- What is due for a call with one list of values is due for it with another that agrees.
+-- What is due for a call with one list of values is due for it with another that agrees: no test and no answer looks at them.
 served-values : (m : List ℕ) (ps : List ScanEntry) (k : Kind) (ns : List ℕ) (vs us : List ℤ) (r : Answer) (m′ : List ℕ) (ps′ : List ScanEntry) → Agree vs us
     → Serves m ps (callOf k ns vs) r m′ ps′ → Serves m ps (callOf k ns us) r m′ ps′
 unfolding callOf writeOf testsIn replyIn actIn entriesAfter
 served-values m ps (Kind.Read k) ns vs us r m′ ps′ e w = w
 served-values m ps (Kind.Write Write.Begin) ns vs us r m′ ps′ e w = w
 served-values m ps (Kind.Write Write.Insert) ns vs us r m′ ps′ e w =
-    served-alike m ps (insert (first ns) vs) (insert (first ns) us) r m′ ps′ (λ S v. refl) (λ S v. refl) (λ S v. inserted-agree vs us e S (first ns) v) (λ v. refl) w
+    served-equivalent _ _ _ _ _ _ _ (λ u. record { verdicts = refl; accepted = λ z. (refl, inserted-agree vs us e _ (first ns) _, refl) }) w
 served-values m ps (Kind.Write Write.Update) ns vs us r m′ ps′ e w =
-    served-alike m ps (update (first ns) (second ns) (third ns) vs) (update (first ns) (second ns) (third ns) us) r m′ ps′ (λ S v. refl) (λ S v. refl)
-    (λ S v. updated-agree vs us e S (first ns) (second ns) (third ns) v) (λ v. refl) w
+    served-equivalent _ _ _ _ _ _ _ (λ u. record { verdicts = refl; accepted = λ z. (refl, updated-agree vs us e _ (first ns) (second ns) (third ns) _, refl) }) w
 served-values m ps (Kind.Write Write.Delete) ns vs us r m′ ps′ e w = w
 served-values m ps (Kind.Write Write.Commit) ns vs us r m′ ps′ e w = w
 served-values m ps (Kind.Write Write.Abort) ns vs us r m′ ps′ e w = w

@@ -4,11 +4,11 @@ use mathlib.Core.List.{List, [], _∷_}
 use Rattle.terms.specs.declared.ScanEntry.{ScanEntry}
 
 -- the words of an entry, and its bytes, four to a word
-abbrev pub placeWords : ℕ
-placeWords = 3
+abbrev pub entryWords : ℕ
+entryWords = 3
 
 abbrev pub entryBytes : ℕ
-entryBytes = 4 * placeWords
+entryBytes = 4 * entryWords
 
 -- the entries that a list of words holds, three words to an entry; up to two words at its end belong to none
 unfoldable pub entriesOf : List ℕ → List ScanEntry

@@ -18,15 +18,15 @@ ghost use Rattle.scans.specs.Table.{tableOf};
 ghost use Rattle.requests.specs.Packed.{entryBytes, entriesOf};
 
 // The words of an entry, and its bytes, four to a word.
-const PLACE_WORDS: usize = 3;
+const ENTRY_WORDS: usize = 3;
 
-pub const ENTRY_BYTES: usize = 4 * PLACE_WORDS;
+pub const ENTRY_BYTES: usize = 4 * ENTRY_WORDS;
 
 fn entry_at(list: &[u8], i: usize) -> ScanEntry
     requires { ⌜ i < length (now list) / entryBytes ⌝ }
     ensures { λ r. ⌜ r ≡ getD (entriesOf (words (now (list .entry)))) i freeEntry ⌝ }
 {
-    let w = i * PLACE_WORDS;
+    let w = i * ENTRY_WORDS;
     ScanEntry {
         number: get(list, w),
         stamp: get(list, w + 1),
@@ -56,7 +56,7 @@ pub fn put_entry(list: &mut [u8], i: usize, p: ScanEntry)
     ensures { λ _. ⌜ entriesOf (words (now (list .exit))) ≡ set (entriesOf (words (now (list .entry)))) i p ⌝ }
 {
     if i < list.len() / ENTRY_BYTES {
-        let w = i * PLACE_WORDS;
+        let w = i * ENTRY_WORDS;
         put(list, w, p.number);
         put(list, w + 1, p.stamp);
         put(list, w + 2, p.merges);
@@ -67,6 +67,6 @@ pub fn put_entry(list: &mut [u8], i: usize, p: ScanEntry)
 pub fn free_all(list: &mut [u8])
     ensures { λ _. ⌜ entriesOf (words (now (list .exit))) ≡ allFreed (entriesOf (words (now (list .entry)))) ⌝ }
 {
-    let n = list.len() / ENTRY_BYTES * PLACE_WORDS;
+    let n = list.len() / ENTRY_BYTES * ENTRY_WORDS;
     fill(list, 0, n, 0);
 }

@@ -1,6 +1,6 @@
 -- A turn's line behind the others.
 use Prim.Native.Nat.{ℕ, suc, _+_, _≤_, _<_}
-use mathlib.Core.Path.{_≡_, ap, _∙_}
+use mathlib.Core.Path.{_≡_, refl, ap, _∙_}
 use mathlib.Core.List.{List, _++_, append-assoc}
 use native.Mathlib.Omega.{arith}
 use lib.ListN.{length, getD, set, take, drop}
@@ -11,7 +11,7 @@ use Rattle.promise.specs.Promise.{Lent}
 use Rattle.turns.specs.Turns.{Turned}
 use Rattle.rounds.specs.declared.Progress.{Progress}
 use Rattle.decimal.specs.Written.{lineBytes}
-use Rattle.rounds.specs.Due.{Answered}
+use Rattle.rounds.specs.Due.{progressOf, Answered}
 
 -- one byte more of it
 pub keep-next : (old lines line : List ℕ) (at i v : ℕ) → take (at + i) lines ≡ take at old ++ take i line → v ≡ getD line i 0 → at + i < length lines
@@ -27,19 +27,22 @@ front old line h =
     let fits : 0 + length line ≤ length old = omega arith in
     rw (sets-eq line old 0 fits) (take-append-seam line (drop (0 + length line) old))
 
-module _ (s : Step Lent) (x : Lent) (buffer after : List ℕ) (t : Outcome) (size : length buffer ≡ lineBytes) (d : Turned s buffer after t x) where
+module _ {s : Step Lent} {x : Lent} {buffer after : List ℕ} {t : Outcome} (d : Turned s buffer after t x) (size : length buffer ≡ lineBytes) where
   pub long : t .length ≤ length after
   long = rw (d .rendered .bytes, length-sets buffer 0 (s .line), size) (d .rendered .fits)
 
-  pub answered : (old new : List ℕ) (p q : Progress) → take (p .written + t .length) new ≡ take (p .written) old ++ take (t .length) after
-      → q .written ≡ p .written + t .length → q .on ≡ t .on → Answered s x old new p q
-  answered old new p q k w o =
+  pub answered : (old new : List ℕ) (p : Progress) (columns known end : ℕ) → columns ≡ known → take (p .written + t .length) new ≡ take (p .written) old ++ take (t .length) after
+      → Answered s known end x old new p (progressOf t columns end (p .written))
+  answered old new p columns known end e k =
       let count = d .rendered .count in
       let fits = d .rendered .fits in
       let line : take (t .length) after ≡ s .line = rw (count, d .rendered .bytes) (front buffer (s .line) (omega arith)) in
       record {
-        kept = ap (λ (n : ℕ). take n new) w ∙ k ∙ ap (λ (l : List ℕ). take (p .written) old ++ l) line;
+        kept = k ∙ ap (λ (l : List ℕ). take (p .written) old ++ l) line;
         grown = omega arith;
-        goes = o ∙ d .goes;
+        goes = d .goes;
         left = d .left;
+        started = refl;
+        counted = e;
+        taken = refl;
       }

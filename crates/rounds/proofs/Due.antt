@@ -10,7 +10,7 @@ use lib.ListN.{length, getD, take, drop, length-append, length-drop, drop-of-len
 use lib.Seq.{take-all, take-append-le, drop-append-le, drop-cons, drop-drop, drop-length}
 use Rattle.terms.specs.declared.Answer.{Answer}
 use Rattle.history.proofs.Lists.{by-cases, is-false}
-use Rattle.lines.specs.Lines.{line, shapeLine}
+use Rattle.lines.specs.Lines.{line}
 use Rattle.commands.specs.declared.Chosen.{Chosen}
 use Rattle.commands.specs.Commands.{commands, chosen, width, behind, shapeBytes}
 use Rattle.commands.proofs.Items.{behind-shorter}
@@ -20,7 +20,7 @@ use Rattle.model.specs.Machine.{Machine}
 use Rattle.output.specs.Steps.{Step, operandsOf, answerTo, stateAfter, step, steps, linesFrom}
 use Rattle.output.proofs.Steps.{steps-none}
 use Rattle.promise.specs.Promise.{Lent, lentMachine}
-use Rattle.turns.specs.Turns.{firstAnswer, firstStore, firstStep, columnsFrom, capped, operandWidth}
+use Rattle.turns.specs.Turns.{firstStore, firstStep, columnsFrom, capped, operandWidth}
 use Rattle.turns.specs.Gatebook.{gatebook}
 use Rattle.rounds.specs.Due.{Flow, due, Moved, endAt, stepAt, CommandIn, NoCommand, ShapeIn}
 
@@ -38,12 +38,10 @@ module _ {State : Type 0} (m : Machine State) (columns : ℕ) where
   -- the bound does not matter from the number of bytes on
   pub all-steps : (a b : ℕ) (x : State) (bs : List ℕ) → length bs ≤ a → length bs ≤ b → steps a m columns x bs ≡ steps b m columns x bs
   unfolding steps
-  all-steps zero zero x bs h k = refl
-  all-steps zero (suc b) x [] h k = refl
-  all-steps zero (suc b) x (byte ∷ bs) h k = absurd (omega arith)
-  all-steps (suc a) zero x [] h k = refl
+  all-steps zero b x [] h k = sym (steps-none b m columns x)
+  all-steps zero b x (byte ∷ bs) h k = absurd (omega arith)
+  all-steps (suc a) b x [] h k = sym (steps-none b m columns x)
   all-steps (suc a) zero x (byte ∷ bs) h k = absurd (omega arith)
-  all-steps (suc a) (suc b) x [] h k = refl
   all-steps (suc a) (suc b) x (byte ∷ bs) h k =
       let l = behind-shorter columns (chosen byte) bs in
       let s = step m columns x byte (operandsOf columns (chosen byte) bs) in
@@ -61,10 +59,12 @@ module _ {State : Type 0} (m : Machine State) (columns : ℕ) where
   unfolding operandsOf behind operandWidth answerTo
   whole-step x byte (Chosen.Known f) tail rest e h =
       let w : ℕ = width columns f in
-      rw (take-append-le w tail rest h, drop-append-le w tail rest h)
-      (ap (λ (l : List ℕ). line byte (answerTo m columns x (Chosen.Known f) (take w tail)) ++ cond (goesOn (answerTo m columns x (Chosen.Known f) (take w tail))) l [])
-      (all-steps (length (tail ++ rest)) (length (drop w tail ++ rest)) (stateAfter m columns x (Chosen.Known f) (take w tail)) (drop w tail ++ rest)
-      (omega (arith, length-append (drop w tail) rest, length-append tail rest, length-drop w tail)) (omega arith)))
+      rw (
+        take-append-le w tail rest h,
+        drop-append-le w tail rest h,
+        all-steps (length (tail ++ rest)) (length (drop w tail ++ rest)) (stateAfter m columns x (Chosen.Known f) (take w tail)) (drop w tail ++ rest)
+            (omega (arith, length-append (drop w tail) rest, length-append tail rest, length-drop w tail)) (omega arith),
+      )
   whole-step x byte (Chosen.Refused r) tail rest e h = rw (is-false (goesOn (Answer.Refused r)) e)
 
   cut-step : (x : State) (byte : ℕ) (k : Chosen) (tail : List ℕ) → length tail < operandWidth columns k
@@ -101,47 +101,59 @@ moved-then p q = record { same = λ rest l. p .same rest l ∙ q .same rest l }
 pub never : {b : Bool} → b ≡ true → b ≡ false → ⊥
 never p q = let z : _≡_ {A = ℕ} 0 1 = cc in omega arith
 
--- a command from `at` to `end`
-whole-due : (columns : ℕ) (x : Lent) (bs rest : List ℕ) (at end : ℕ) → at < length bs → end ≡ endAt columns bs at → end ≤ length bs
-    → let s = stepAt columns x bs at end in
-    steps (length (drop at bs ++ rest)) lentMachine (capped columns) x (drop at bs ++ rest)
-    ≡ s .line ++ cond (s .on) (steps (length (drop end bs ++ rest)) lentMachine (capped columns) (s .state) (drop end bs ++ rest)) []
+-- a command from `at` to `end`, whole, or cut where the input ends
+whole-due : (f : Flow) (x : Lent) (bs rest : List ℕ) (at end : ℕ) → f .on ≡ true → f .started ≡ true → at < length bs → end ≡ endAt (f .columns) bs at → end ≤ length bs
+    → let s = stepAt (f .columns) x bs at end in
+    due f x (drop at bs ++ rest)
+    ≡ s .line ++ cond (s .on) (steps (length (drop end bs ++ rest)) lentMachine (capped (f .columns)) (s .state) (drop end bs ++ rest)) []
 unfolding steps stepAt
-whole-due columns x bs rest at end h e l =
+whole-due f x bs rest at end on started h e l =
     let byte : ℕ = getD bs at 0 in
-    let w : ℕ = operandWidth (capped columns) (chosen byte) in
+    let w : ℕ = operandWidth (capped (f .columns)) (chosen byte) in
     let one : at + 1 ≡ suc at = omega arith in
     let wide : end - suc at ≡ w = omega arith in
     let there : suc at + w ≡ end = omega arith in
     let left : drop w (drop (suc at) bs) ≡ drop end bs = drop-drop w (suc at) bs ∙ ap (λ (n : ℕ). drop n bs) there in
     let enough : w ≤ length (drop (suc at) bs) = omega (arith, length-drop (suc at) bs) in
-    rw (drop-cons bs at 0 h, one, wide, ← left)
-    (whole-step lentMachine (capped columns) x byte (chosen byte) (drop (suc at) bs) rest (chosen-ends byte) enough)
+    rw (due-commands f x (drop at bs ++ rest) started, on, drop-cons bs at 0 h, one, wide, ← left)
+    (whole-step lentMachine (capped (f .columns)) x byte (chosen byte) (drop (suc at) bs) rest (chosen-ends byte) enough)
 
-cut-due : (columns : ℕ) (x : Lent) (bs : List ℕ) (at : ℕ) → at < length bs → length bs < endAt columns bs at
-    → let s = stepAt columns x bs at (length bs) in
-    steps (length (drop at bs)) lentMachine (capped columns) x (drop at bs)
-    ≡ s .line ++ cond (s .on) (steps 0 lentMachine (capped columns) (s .state) []) []
+cut-due : (f : Flow) (x : Lent) (bs : List ℕ) (at end : ℕ) → f .on ≡ true → f .started ≡ true → at < length bs → length bs < endAt (f .columns) bs at → end ≡ length bs
+    → let s = stepAt (f .columns) x bs at end in
+    due f x (drop at bs) ≡ s .line ++ cond (s .on) (steps 0 lentMachine (capped (f .columns)) (s .state) []) []
 unfolding steps stepAt
-cut-due columns x bs at h l =
+cut-due f x bs at end on started h l e =
     let byte : ℕ = getD bs at 0 in
     let one : at + 1 ≡ suc at = omega arith in
     let size = length-drop (suc at) bs in
-    let all : take (length bs - suc at) (drop (suc at) bs) ≡ drop (suc at) bs = take-all (length bs - suc at) (drop (suc at) bs) (omega arith) in
-    rw (drop-cons bs at 0 h, one, all) (cut-step lentMachine (capped columns) x byte (chosen byte) (drop (suc at) bs) (omega arith))
-
--- what is due is the line of a step and what is due behind it
-joined : (s : Step Lent) (f g : Flow) (x y : Lent) (columns : ℕ) (bs left before after : List ℕ)
-    → due f x bs ≡ s .line ++ cond (s .on) (steps (length left) lentMachine (capped columns) (s .state) left) []
-    → (g .on ≡ s .on) × (y ≡ s .state) × (after ≡ before ++ s .line) → g .started ≡ true → g .columns ≡ columns
-    → before ++ due f x bs ≡ after ++ due g y left
-joined s f g x y columns bs left before after d e started same =
-    rw (d, due-commands g y left started, e .0, e .1, e .2, same) (sym (append-assoc before (s .line) _))
+    let all : take (end - suc at) (drop (suc at) bs) ≡ drop (suc at) bs = take-all (end - suc at) (drop (suc at) bs) (omega arith) in
+    rw (due-commands f x (drop at bs) started, on, drop-cons bs at 0 h, one, all)
+    (cut-step lentMachine (capped (f .columns)) x byte (chosen byte) (drop (suc at) bs) (omega arith))
 
 -- last bytes are all there is
 only-last : (last : Bool) (rest : List ℕ) → (last ≡ true → rest ≡ []) → (last ≡ false → ⊥) → rest ≡ []
 only-last true rest h n = h refl
 only-last false rest h n = absurd (n refl)
+
+-- What is due is the line of a step and what is due behind it. The bytes of the step stand at the front of bs, n of the `enough` that make it whole, and they are whole or
+-- the last; `left` are the bytes behind them.
+line-moved : (last : Bool) (s : Step Lent) (f g : Flow) (x y : Lent) (bs left before after : List ℕ) (columns enough n : ℕ)
+    → (enough ≤ n → (rest : List ℕ) → due f x (bs ++ rest) ≡ s .line ++ cond (s .on) (steps (length (left ++ rest)) lentMachine (capped columns) (s .state) (left ++ rest)) [])
+    → (n < enough → (left ≡ []) × (due f x bs ≡ s .line ++ cond (s .on) (steps 0 lentMachine (capped columns) (s .state) []) []))
+    → (last ≡ false → enough ≤ n) → (g .on ≡ s .on) × (y ≡ s .state) × (after ≡ before ++ s .line) → g .started ≡ true → g .columns ≡ columns
+    → Moved last f x bs before g y left after
+line-moved last s f g x y bs left before after columns enough n whole cut sure e started same = record { same = go }
+  where
+    joined : (bs left : List ℕ) → due f x bs ≡ s .line ++ cond (s .on) (steps (length left) lentMachine (capped columns) (s .state) left) []
+        → before ++ due f x bs ≡ after ++ due g y left
+    joined bs left d = rw (d, due-commands g y left started, e .0, e .1, e .2, same) (sym (append-assoc before (s .line) _))
+
+    go : (rest : List ℕ) → (last ≡ true → rest ≡ []) → before ++ due f x (bs ++ rest) ≡ after ++ due g y (left ++ rest)
+    go rest h =
+        by-cases (decLe enough n) (λ l. joined (bs ++ rest) (left ++ rest) (whole l rest))
+        (λ l.
+        let none = cut (omega arith) in
+        rw (only-last last rest h (λ q. l (sure q)), none .0, append-nil bs) (joined bs [] (none .1)))
 
 -- a step of the program
 pub step-moved : (last : Bool) (f g : Flow) (x y : Lent) (bs before after : List ℕ) (at end : ℕ) → f .on ≡ true → f .started ≡ true
@@ -149,75 +161,46 @@ pub step-moved : (last : Bool) (f g : Flow) (x y : Lent) (bs before after : List
     → (let s = stepAt (f .columns) x bs at end in
     (g .on ≡ s .on) × (y ≡ s .state) × (after ≡ before ++ s .line))
     → g .started ≡ true → g .columns ≡ f .columns → Moved last f x (drop at bs) before g y (drop end bs) after
-step-moved last f g x y bs before after at end on started c e started′ same = record { same = go }
-  where
-    s : Step Lent
-    s = stepAt (f .columns) x bs at end
-
-    due-f : (l : List ℕ) → due f x l ≡ steps (length l) lentMachine (capped (f .columns)) x l
-    due-f l = due-commands f x l started ∙ rw on
-
-    go : (rest : List ℕ) → (last ≡ true → rest ≡ []) → before ++ due f x (drop at bs ++ rest) ≡ after ++ due g y (drop end bs ++ rest)
-    go rest h =
-        by-cases (decLe (endAt (f .columns) bs at) (length bs))
-        (λ l.
-        let whole : end ≡ endAt (f .columns) bs at = omega (arith, c .ends) in
-        joined s f g x y (f .columns) (drop at bs ++ rest) (drop end bs ++ rest) before after
-        (due-f (drop at bs ++ rest) ∙ whole-due (f .columns) x bs rest at end (c .some) whole (omega arith)) e started′ same)
-        (λ n.
-        let nothing : rest ≡ [] = only-last last rest h (λ q. n (c .whole q)) in
-        let short : length bs ≤ end = omega (arith, c .ends) in
-        let all : end ≡ length bs = omega (arith, c .ends) in
-        let none : drop end bs ≡ [] = drop-of-length-le bs short in
-        rw (nothing, none, append-nil (drop at bs))
-        (joined s f g x y (f .columns) (drop at bs) [] before after
-        (due-f (drop at bs) ∙ rw all (cut-due (f .columns) x bs at (c .some) (omega arith))) e started′ same))
+step-moved last f g x y bs before after at end on started c =
+    let ends = c .ends in
+    line-moved last (stepAt (f .columns) x bs at end) f g x y (drop at bs) (drop end bs) before after (f .columns) (endAt (f .columns) bs at) (length bs)
+    (λ l rest. whole-due f x bs rest at end on started (c .some) (omega arith) (omega arith))
+    (λ l. let short : length bs ≤ end = omega arith in (drop-of-length-le bs short, cut-due f x bs at end on started (c .some) l (omega arith)))
+    (c .whole)
 
 -- the shape's
 pub shape-moved : (last : Bool) (f g : Flow) (x y : Lent) (bs after : List ℕ) (end : ℕ) → f .on ≡ true → f .started ≡ false → ShapeIn last bs end
     → (g .on ≡ firstStep x (take end bs) .on) × (y ≡ firstStep x (take end bs) .state) × (after ≡ firstStep x (take end bs) .line)
     → g .started ≡ true → g .columns ≡ columnsFrom (take end bs) → Moved last f x bs [] g y (drop end bs) after
 unfolding gatebook linesFrom
-shape-moved last f g x y bs after end on started c e started′ same = record { same = go }
-  where
-    s : Step Lent
-    s = firstStep x (take end bs)
-
-    go : (rest : List ℕ) → (last ≡ true → rest ≡ []) → due f x (bs ++ rest) ≡ after ++ due g y (drop end bs ++ rest)
-    go rest h =
-        by-cases (decLe shapeBytes (length bs))
-        (λ l.
-        let whole : end ≡ shapeBytes = omega (arith, c .ends) in
-        joined s f g x y (columnsFrom (take end bs)) (bs ++ rest) (drop end bs ++ rest) [] after
-        (due-shape f x (bs ++ rest) on started
-        ∙ rw (whole, take-append-le shapeBytes bs rest l, drop-append-le shapeBytes bs rest l)
-        (ap (λ (l : List ℕ). shapeLine (firstAnswer x (take shapeBytes bs)) ++ cond (goesOn (firstAnswer x (take shapeBytes bs))) l [])
-        (all-steps lentMachine (capped (columnsFrom (take shapeBytes bs))) (length (bs ++ rest)) (length (drop shapeBytes bs ++ rest)) (firstStore x (take shapeBytes bs)) (drop shapeBytes bs ++ rest)
-        (omega (arith, length-append (drop shapeBytes bs) rest, length-append bs rest, length-drop shapeBytes bs)) (omega arith))))
-        e started′ same)
-        (λ n.
-        let nothing : rest ≡ [] = only-last last rest h (λ q. n (c .whole q)) in
-        let short : length bs ≤ end = omega (arith, c .ends) in
-        let none : drop end bs ≡ [] = drop-of-length-le bs short in
-        let all : take end bs ≡ bs = take-all end bs short in
-        let few : length bs ≤ shapeBytes = omega arith in
-        let all′ : take shapeBytes bs ≡ bs = take-all shapeBytes bs few in
-        let none′ : drop shapeBytes bs ≡ [] = drop-of-length-le bs few in
-        rw (nothing, none, append-nil bs)
-        (joined s f g x y (columnsFrom (take end bs)) bs [] [] after
-        (due-shape f x bs on started
-        ∙ rw (all, all′, none′, steps-none (length bs) lentMachine (capped (columnsFrom bs)) (firstStore x bs), steps-none 0 lentMachine (capped (columnsFrom bs)) (firstStore x bs)))
-        e started′ same))
+shape-moved last f g x y bs after end on started c =
+    line-moved last (firstStep x (take end bs)) f g x y bs (drop end bs) [] after (columnsFrom (take end bs)) shapeBytes (length bs)
+    (λ l rest.
+    let whole : end ≡ shapeBytes = omega (arith, c .ends) in
+    rw (
+      due-shape f x (bs ++ rest) on started,
+      whole,
+      take-append-le shapeBytes bs rest l,
+      drop-append-le shapeBytes bs rest l,
+      all-steps lentMachine (capped (columnsFrom (take shapeBytes bs))) (length (bs ++ rest)) (length (drop shapeBytes bs ++ rest)) (firstStore x (take shapeBytes bs)) (drop shapeBytes bs ++ rest)
+          (omega (arith, length-append (drop shapeBytes bs) rest, length-append bs rest, length-drop shapeBytes bs)) (omega arith),
+    ))
+    (λ l.
+    let short : length bs ≤ end = omega (arith, c .ends) in
+    let few : length bs ≤ shapeBytes = omega arith in
+    let none : drop shapeBytes bs ≡ [] = drop-of-length-le bs few in (
+      drop-of-length-le bs short,
+      rw (due-shape f x bs on started, take-all end bs short, take-all shapeBytes bs few, none, steps-none (length bs) lentMachine (capped (columnsFrom bs)) (firstStore x bs), steps-none 0 lentMachine (capped (columnsFrom bs)) (firstStore x bs)),
+    ))
+    (c .whole)
 
 -- where no command is left, the program ends with the input
-pub stop-moved : (last : Bool) (f g : Flow) (x : Lent) (bs before : List ℕ) (at : ℕ) → f .on ≡ true → f .started ≡ true → NoCommand last (f .columns) bs at
-    → g .on ≡ not last → g .started ≡ true → g .columns ≡ f .columns → Moved last f x (drop at bs) before g x (drop at bs) before
-stop-moved true f g x bs before at on started c off started′ same = record {
+pub stop-moved : (last : Bool) (f : Flow) (x : Lent) (bs before : List ℕ) (at : ℕ) → f .on ≡ true → f .started ≡ true → NoCommand last (f .columns) bs at
+    → Moved last f x (drop at bs) before (record { on = not last; started = true; columns = f .columns }) x (drop at bs) before
+unfolding due
+stop-moved true f x bs before at on started c = record {
   same = λ rest h.
       let none : drop at bs ≡ [] = rw (c .none refl) (drop-length bs) in
-      rw (h refl, none, due-off g x [] off, due-commands f x [] started, on, steps-none 0 lentMachine (capped (f .columns)) x);
+      rw (h refl, none, on, started, steps-none 0 lentMachine (capped (f .columns)) x);
 }
-stop-moved false f g x bs before at on started c off started′ same = record {
-  same = λ rest h.
-      rw (due-commands f x (drop at bs ++ rest) started, due-commands g x (drop at bs ++ rest) started′, on, off, same);
-}
+stop-moved false f x bs before at on started c = record { same = λ rest h. rw (on, started) }

@@ -22,25 +22,28 @@ pub record Going (last : Bool) (p q : Progress) (x y : Lent) (bs old new : List 
   pub inside : q .taken ≤ length bs
   pub room : q .written + lineBytes * length bs ≤ length new + lineBytes * q .taken
 
+-- where no command is left, the program goes on only if more can come
+abbrev stopped : Bool → Progress → Progress
+stopped last q = record { on = not last; started = true; columns = q .columns; taken = q .taken; written = q .written }
+
 pub going-none : (last : Bool) (p : Progress) (x : Lent) (bs old : List ℕ)
     → (p .started ≡ true) × (p .taken ≤ length bs) × (p .written + lineBytes * length bs ≤ length old + lineBytes * p .taken) → Going last p p x x bs old old
 going-none last p x bs old h = record { moved = moved-none last (flow p) x (drop (p .taken) bs) (take (p .written) old); started = h .0; inside = h .1; room = h .2 }
 
-module _ (last : Bool) (p q : Progress) (x y : Lent) (bs old new : List ℕ) (g : Going last p q x y bs old new) where
+module _ {last : Bool} {p q : Progress} {x y : Lent} {bs old new : List ℕ} (g : Going last p q x y bs old new) where
   pub going-next : (r : Progress) (z : Lent) (new′ : List ℕ) (end : ℕ) → q .on ≡ true → Found last (q .columns) bs (q .taken) end → (end ≡ q .taken → ⊥)
-      → Answered (stepAt (q .columns) y bs (q .taken) end) z new new′ q r
-      × (r .taken ≡ end) × (r .started ≡ true) × (r .columns ≡ q .columns) → length new′ ≡ length new → Going last p r x z bs old new′
+      → Answered (stepAt (q .columns) y bs (q .taken) end) (q .columns) end z new new′ q r → length new′ ≡ length new → Going last p r x z bs old new′
   going-next r z new′ end on f n a same =
       let there = f .order in
       let less : q .taken < end = omega arith in
       let one : Moved last (flow q) y (drop (q .taken) bs) (take (q .written) new) (flow r) z (drop end bs) (take (r .written) new′)
       = step-moved last (flow q) (flow r) y z bs (take (q .written) new) (take (r .written) new′) (q .taken) end on (g .started) (f .command less)
-      (a .0 .goes, a .0 .left, a .0 .kept) (a .2) (a .3) in
+      (a .goes, a .left, a .kept) (a .started) (a .counted) in
       record {
-        moved = rw (a .1) (moved-then (g .moved) one);
-        started = a .2;
-        inside = rw (a .1) (f .inside);
-        room = omega (arith, a .0 .grown, a .1, g .room);
+        moved = rw (a .taken) (moved-then (g .moved) one);
+        started = a .started;
+        inside = rw (a .taken) (f .inside);
+        room = omega (arith, a .grown, a .taken, g .room);
       }
 
   pub going-fits : (end : ℕ) → Found last (q .columns) bs (q .taken) end → (end ≡ q .taken → ⊥)
@@ -53,20 +56,18 @@ module _ (last : Bool) (p q : Progress) (x y : Lent) (bs old new : List ℕ) (g 
   walked-off e =
       record { moved = g .moved; ends = λ l. e; waits = λ t. absurd (never t e); few = λ t. absurd (never t e); inside = g .inside; fits = omega (arith, g .inside, g .room) }
 
-  pub walked-stop : (r : Progress) → q .on ≡ true → NoCommand last (q .columns) bs (q .taken)
-      → (r .on ≡ not last) × (r .started ≡ true) × (r .columns ≡ q .columns) × (r .taken ≡ q .taken) × (r .written ≡ q .written)
-      → Walked last p r x y bs old new
+  pub walked-stop : q .on ≡ true → NoCommand last (q .columns) bs (q .taken) → Walked last p (stopped last q) x y bs old new
   unfolding wanted
-  walked-stop r on c e =
+  walked-stop on c =
       let size = length-drop (q .taken) bs in
       let byte : getD (drop (q .taken) bs) 0 0 ≡ getD bs (q .taken) 0 = getD-drop (q .taken) bs 0 0 ∙ ap (λ (n : ℕ). getD bs n 0) (add-zero (q .taken)) in
       record {
-        moved = rw (e .3, e .4) (moved-then (g .moved) (stop-moved last (flow q) (flow r) y bs (take (q .written) new) (q .taken) on (g .started) c (e .0) (e .1) (e .2)));
-        ends = λ l. e .0 ∙ ap not l;
-        waits = λ t. rw (e .1, e .2, e .3, byte) (omega (arith, c .short, g .inside));
-        few = λ t. rw (e .3) (omega (arith, c .few));
-        inside = omega (arith, e .3, g .inside);
-        fits = omega (arith, e .4, g .inside, g .room);
+        moved = moved-then (g .moved) (stop-moved last (flow q) y bs (take (q .written) new) (q .taken) on (g .started) c);
+        ends = λ l. ap not l;
+        waits = λ t. rw byte (omega (arith, c .short, g .inside));
+        few = λ t. omega (arith, c .few);
+        inside = g .inside;
+        fits = omega (arith, g .inside, g .room);
       }
 
 -- ---- the shape, and then the commands
@@ -83,16 +84,15 @@ begun-same last p x bs new h n f =
 
 pub begun-shape : (last : Bool) (p q : Progress) (x y : Lent) (bs old new : List ℕ) (end : ℕ) → p .written ≡ 0 → roomFor (length bs) ≤ length old
     → length new ≡ length old → p .on ≡ true → p .started ≡ false → ShapeIn last bs end
-    → Answered (firstStep x (take end bs)) y old new p q × (q .taken ≡ end) × (q .started ≡ true) × (q .columns ≡ columnsFrom (take end bs)) → end ≤ length bs
-    → Begun last (flow p) q x y bs new
+    → Answered (firstStep x (take end bs)) (columnsFrom (take end bs)) end y old new p q → end ≤ length bs → Begun last (flow p) q x y bs new
 begun-shape last p q x y bs old new end z h same on off s a l =
     let none : take (p .written) old ≡ [] = rw z in
     record {
-      moved = rw (a .1) (shape-moved last (flow p) (flow q) x y bs (take (q .written) new) end on off s (a .0 .goes, a .0 .left, rw none at (a .0 .kept)) (a .2) (a .3));
-      inside = omega (arith, a .1);
-      room = omega (arith, a .0 .grown);
-      ends = λ e. absurd (never (a .2) e);
-      few = λ e. absurd (never (a .2) e);
+      moved = rw (a .taken) (shape-moved last (flow p) (flow q) x y bs (take (q .written) new) end on off s (a .goes, a .left, rw none at (a .kept)) (a .started) (a .counted));
+      inside = omega (arith, a .taken);
+      room = omega (arith, a .grown);
+      ends = λ e. absurd (never (a .started) e);
+      few = λ e. absurd (never (a .started) e);
     }
 
 -- without room
@@ -101,7 +101,7 @@ pub took-nothing : (last : Bool) (f : Flow) (q : Progress) (x : Lent) (bs new : 
 took-nothing last f q x bs new h e =
     record { round = λ r. absurd (omega arith); full = λ r. (e .0, refl, e .1, e .2); inside = omega (arith, e .1); fits = omega (arith, e .2) }
 
-module _ (last : Bool) (f : Flow) (q : Progress) (x y : Lent) (bs old : List ℕ) (h : roomFor (length bs) ≤ length old) (b : Begun last f q x y bs old) where
+module _ {last : Bool} {f : Flow} {q : Progress} {x y : Lent} {bs old : List ℕ} (b : Begun last f q x y bs old) (h : roomFor (length bs) ≤ length old) where
   pub took-none : q .started ≡ false → Took last f q x y bs old
   unfolding wanted
   took-none e =

@@ -10,6 +10,7 @@ use Rattle.output.specs.Steps.{Step, step, steps}
 use Rattle.promise.specs.Promise.{Lent, lentMachine}
 use Rattle.turns.specs.Turns.{capped, operandWidth}
 use Rattle.turns.specs.Gatebook.{gatebook}
+use Rattle.turns.specs.declared.Outcome.{Outcome}
 use Rattle.rounds.specs.declared.Progress.{Progress}
 
 -- room for the lines of n bytes: a line for each, and one where the input ends before the shape
@@ -81,12 +82,19 @@ pub record Found (last : Bool) (columns : ℕ) (bs : List ℕ) (at r : ℕ) : Ty
   pub order : at ≤ r
   pub inside : r ≤ length bs
 
--- The line of a step stands behind the lines, and the store is as the step leaves it.
-pub record Answered (s : Step Lent) (x : Lent) (old new : List ℕ) (p q : Progress) : Type 0 where
+-- how the program stands behind a line: the turn told its length and whether the program goes on
+abbrev pub progressOf : Outcome → ℕ → ℕ → ℕ → Progress
+progressOf t columns end written = record { on = t .on; started = true; columns = columns; taken = end; written = written + t .length }
+
+-- The line of a step stands behind the lines, the store is as the step leaves it, and the bytes up to `end` are taken.
+pub record Answered (s : Step Lent) (columns end : ℕ) (x : Lent) (old new : List ℕ) (p q : Progress) : Type 0 where
   pub kept : take (q .written) new ≡ take (p .written) old ++ s .line
   pub grown : q .written ≤ p .written + lineBytes
   pub goes : q .on ≡ s .on
   pub left : x ≡ s .state
+  pub started : q .started ≡ true
+  pub counted : q .columns ≡ columns
+  pub taken : q .taken ≡ end
 
 -- The commands from one place on are answered: `Round` from p to q, in the buffers.
 pub record Walked (last : Bool) (p q : Progress) (x y : Lent) (bs old new : List ℕ) : Type 0 where

@@ -1,6 +1,7 @@
 // What `gatebook` does between a read and a write, over plain bytes.
 use commands::SHAPE_BYTES;
 use decimal::LINE_BYTES;
+use turns::Outcome;
 use turns::columns_of;
 use turns::operand_width;
 use turns::start;
@@ -13,7 +14,7 @@ ghost use lib.ListN.{length, take};
 ghost use Rattle.decimal.specs.Written.{lineBytes};
 ghost use Rattle.commands.specs.Commands.{shapeBytes};
 ghost use Rattle.turns.specs.Turns.{storeIn, firstStep, columnsFrom};
-ghost use Rattle.rounds.specs.Due.{roomFor, flow, stepAt, Found, Answered, Walked, Begun, Took};
+ghost use Rattle.rounds.specs.Due.{roomFor, flow, stepAt, progressOf, Found, Answered, Walked, Begun, Took};
 
 // How the program stands: whether it goes on, whether the shape is answered, and its columns; and of the bytes and the lines at hand, how many are taken and
 // how many are written.
@@ -25,15 +26,30 @@ pub struct Progress {
     pub written: usize,
 }
 
-// The first n bytes of a line go behind the first `at` bytes of the buffer of lines.
-fn keep(lines: &mut [u8], at: usize, line: &[u8; LINE_BYTES], n: usize)
-    requires { ⌜ (at + n ≤ length (now lines)) × (n ≤ lineBytes) × (n ≤ length (now line)) ⌝ }
-    ensures { λ _. ⌜ take (at + n) (now (lines .exit)) ≡ take at (now (lines .entry)) ++ take n (now (line .entry)) ⌝ }
+// The line of a turn goes behind the lines that are written. How the program stands then, with the bytes up to `end` taken.
+fn keep(
+    lines: &mut [u8],
+    written: usize,
+    line: &[u8; LINE_BYTES],
+    t: Outcome,
+    columns: usize,
+    end: usize,
+) -> Progress
+    requires { ⌜ (written + lineBytes ≤ length (now lines)) × (t .length ≤ lineBytes) × (t .length ≤ length (now line)) ⌝ }
+    ensures { λ r. ⌜ (take (written + t .length) (now (lines .exit)) ≡ take written (now (lines .entry)) ++ take (t .length) (now (line .entry))) × (r ≡ progressOf t columns end written) ⌝ }
 {
+    let n = t.length;
     let mut i = 0;
     while i < n {
-        lines[at + i] = line[i];
+        lines[written + i] = line[i];
         i += 1;
+    }
+    Progress {
+        on: t.on,
+        started: true,
+        columns,
+        taken: end,
+        written: written + n,
     }
 }
 
@@ -64,7 +80,7 @@ fn answer_command(
     p: Progress,
 ) -> Progress
     requires { ⌜ (p .taken < end) × (end ≤ length (now bytes)) × (p .written + lineBytes ≤ length (now lines)) ⌝ }
-    ensures { λ r. ⌜ Answered (stepAt (p .columns) (storeIn (now (mem .entry)) (now (scans .entry))) (now (bytes .entry)) (p .taken) end) (storeIn (now (mem .exit)) (now (scans .exit))) (now (lines .entry)) (now (lines .exit)) p r × (r .taken ≡ end) × (r .started ≡ true) × (r .columns ≡ p .columns) ⌝ }
+    ensures { λ r. ⌜ Answered (stepAt (p .columns) (storeIn (now (mem .entry)) (now (scans .entry))) (now (bytes .entry)) (p .taken) end) (p .columns) end (storeIn (now (mem .exit)) (now (scans .exit))) (now (lines .entry)) (now (lines .exit)) p r ⌝ }
 {
     let at = p.taken;
     let columns = p.columns;
@@ -72,16 +88,7 @@ fn answer_command(
     let operands = at + 1;
     let mut line = [0u8; LINE_BYTES];
     let t = turn(mem, scans, columns, byte, &bytes[operands..end], &mut line);
-    let written = p.written;
-    let length = t.length;
-    keep(lines, written, &line, length);
-    Progress {
-        on: t.on,
-        started: true,
-        columns,
-        taken: end,
-        written: written + length,
-    }
+    keep(lines, p.written, &line, t, columns, end)
 }
 
 // The turn of the shape, in the first `end` bytes.
@@ -94,21 +101,12 @@ fn answer_shape(
     p: Progress,
 ) -> Progress
     requires { ⌜ (end ≤ length (now bytes)) × (p .written + lineBytes ≤ length (now lines)) ⌝ }
-    ensures { λ r. ⌜ Answered (firstStep (storeIn (now (mem .entry)) (now (scans .entry))) (take end (now (bytes .entry)))) (storeIn (now (mem .exit)) (now (scans .exit))) (now (lines .entry)) (now (lines .exit)) p r × (r .taken ≡ end) × (r .started ≡ true) × (r .columns ≡ columnsFrom (take end (now (bytes .entry)))) ⌝ }
+    ensures { λ r. ⌜ Answered (firstStep (storeIn (now (mem .entry)) (now (scans .entry))) (take end (now (bytes .entry)))) (columnsFrom (take end (now (bytes .entry)))) end (storeIn (now (mem .exit)) (now (scans .exit))) (now (lines .entry)) (now (lines .exit)) p r ⌝ }
 {
     let shape = &bytes[..end];
     let mut line = [0u8; LINE_BYTES];
     let t = start(mem, scans, shape, &mut line);
-    let written = p.written;
-    let length = t.length;
-    keep(lines, written, &line, length);
-    Progress {
-        on: t.on,
-        started: true,
-        columns: columns_of(shape),
-        taken: end,
-        written: written + length,
-    }
+    keep(lines, p.written, &line, t, columns_of(shape), end)
 }
 
 // The commands, one after another, as many as there are.

@@ -9,8 +9,8 @@ use Rattle.decimal.proofs.put_decimal.Tie as tie
 
 returns : tie.Need-returns
 returns c =
-    let part = c .before .before in
-    let d = part .before .before .before .in-decimal in
+    let found : tie.After-in-decimal = search in
+    let d = found .in-decimal in
     let w = rw (rest-of mostDigits (d .result .digits) (d .result .from) (d .ensures .2)) at (c .put .ensures) in
     (rw (d .ensures .0) at w, omega (arith, w .place, length-drop (d .result .from) (d .result .digits), d .ensures .2))
 
@@ -21,6 +21,6 @@ put-decimal-spec =
     (λ c κs. search needs)
     (λ c. search needs)
     (λ c. search needs)
-    (λ c. omega (arith, c .before .before .before .in-decimal .ensures .2))
+    (λ c. let found : tie.After-in-decimal = search in omega (arith, found .in-decimal .ensures .2))
     (λ c κs. search needs)
     returns)

@@ -9,8 +9,8 @@ use Rattle.decimal.proofs.put_integer.Tie as tie
 
 returns : tie.Need-returns
 returns c =
-    let space = c .before .before in
-    let start = space .before .before .before in
+    let space : tie.After-put = search in
+    let start : tie.Start = search in
     (joined (space .put .ensures) (rw (toZ-ofZ w64 _ (start .fits .z)) at (c .put-signed .ensures .0)), omega (arith, space .put .ensures .place))
 
 pub put-integer-spec : {M : Type 1} → statement M

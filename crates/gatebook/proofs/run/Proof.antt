@@ -68,24 +68,9 @@ module _ {c r a d : Course} {x y : Lent} {i j k lines : List ℕ} (v : Received 
       let other : r .held ≡ c .held → ⊥ = eqb-false (r .held) (c .held) (sym (v .last) ∙ not-ended) in
       omega (arith, v .more, v .read, w .read, s .read)
 
--- the places of a turn of the loop: the round, the read, the test, the head, and the start
-abbrev rounded : tie.After-send-arg Inv-loop μ-loop → tie.After-round Inv-loop μ-loop
-rounded c = c .before .before .before .before .before .before .before .before .before
-
-abbrev received : tie.After-round-arg4 Inv-loop μ-loop → tie.After-receive Inv-loop μ-loop
-received c = c .before .before .before .before .before .before
-
-abbrev tested : tie.After-receive-arg Inv-loop μ-loop → tie.Then1 Inv-loop μ-loop
-tested c = c .before
-
-abbrev head : tie.Then1 Inv-loop μ-loop → tie.At-loop Inv-loop μ-loop
-head c = c .before .before
-
-abbrev start : tie.At-loop Inv-loop μ-loop → tie.Start Inv-loop μ-loop
-start c = c .before .before .before .before .before .before
-
-on : (c : tie.Then1 Inv-loop μ-loop) → Goes (head c .loop .c)
-on c = going (head c .loop .c) (sym (c .before .goes-on .ensures) ∙ c .if1 .taken)
+-- where the test was passed
+on : (c : tie.Then1 Inv-loop μ-loop) → Goes (c .before .before .loop .c)
+on c = going (c .before .before .loop .c) (sym (c .before .goes-on .ensures) ∙ c .if1 .taken)
 
 loop-holds : tie.Need-loop-holds Inv-loop μ-loop
 loop-holds c =
@@ -94,53 +79,53 @@ loop-holds c =
 
 receive-requires : tie.Need-receive-requires Inv-loop μ-loop
 receive-requires c κs =
-    let o = on (tested c) in
-    let l = head (tested c) in
-    let s = start l .pre in
-    let few = l .loop .inv .5 (o .2) .0 in
-    (omega (arith, few, l .loop .inv .2, s .0), o .0, omega (arith, l .loop .inv .2, s .1, s .2))
+    let test = c .before in
+    let head = test .before .before in
+    let start : tie.Start Inv-loop μ-loop = search in
+    let s = start .pre in
+    let few = head .loop .inv .5 (on test .2) .0 in
+    (omega (arith, few, head .loop .inv .2, s .0), on test .0, omega (arith, head .loop .inv .2, s .1, s .2))
 
 round-requires : tie.Need-round-requires Inv-loop μ-loop
 round-requires c κs =
-    let r = received c in
-    let l = head (tested (r .before)) in
-    let s = start l .pre in
-    let k = r .receive .kept in
-    (r .receive .ensures .written ∙ l .loop .inv .4, r .receive .ensures .inside, omega (arith, l .loop .inv .2, l .loop .inv .3, s .1))
+    let received : tie.After-receive Inv-loop μ-loop = search in
+    let head : tie.At-loop Inv-loop μ-loop = search in
+    let start : tie.Start Inv-loop μ-loop = search in
+    let r = received .receive in
+    (r .ensures .written ∙ head .loop .inv .4, r .ensures .inside, omega (arith, r .kept, head .loop .inv .2, head .loop .inv .3, start .pre .1))
 
 send-requires : tie.Need-send-requires Inv-loop μ-loop
 send-requires c κs =
-    let a = rounded c in
-    let r = received (a .before) in
-    let t = tested (r .before) in
-    let l = head t in
-    let s = start l .pre in
-    let k = a .round .kept in
-    (a .round .ensures .fits, omega (arith, on t .1, r .receive .ensures .sent, a .round .ensures .sent), omega (arith, l .loop .inv .3, s .2))
+    let rounded : tie.After-round Inv-loop μ-loop = search in
+    let received : tie.After-receive Inv-loop μ-loop = search in
+    let test : tie.Then1 Inv-loop μ-loop = search in
+    let start : tie.Start Inv-loop μ-loop = search in
+    let a = rounded .round in
+    (a .ensures .fits, omega (arith, on test .1, received .receive .ensures .sent, a .ensures .sent), omega (arith, a .kept, test .before .before .loop .inv .3, start .pre .2))
 
 loop-less : tie.Need-loop-less Inv-loop μ-loop
 loop-less c =
-    let a = rounded (c .before) in
-    let r = received (a .before) in
-    let t = tested (r .before) in
-    rw (on t .2) (less (head t .loop .c .read) (c .send .result .read) (c .send .result .on) (on t .0) (λ e. read-more (r .receive .ensures) (a .round .ensures) (c .send .ensures) e))
+    let rounded : tie.After-round Inv-loop μ-loop = search in
+    let received : tie.After-receive Inv-loop μ-loop = search in
+    let test : tie.Then1 Inv-loop μ-loop = search in
+    rw (on test .2) (less _ (c .send .result .read) (c .send .result .on) (on test .0) (λ e. read-more (received .receive .ensures) (rounded .round .ensures) (c .send .ensures) e))
 
 loop-again : tie.Need-loop-again Inv-loop μ-loop
 loop-again c =
-    let a = rounded (c .before) in
-    let r = received (a .before) in
-    let t = tested (r .before) in
-    let l = head t .loop in
-    let k = a .round .kept in
-    let j = r .receive .kept in
+    let rounded : tie.After-round Inv-loop μ-loop = search in
+    let received : tie.After-receive Inv-loop μ-loop = search in
+    let test : tie.Then1 Inv-loop μ-loop = search in
+    let l = test .before .before .loop in
+    let r = received .receive in
+    let a = rounded .round in
     let s = c .send .ensures in (
-      omega (arith, l .inv .0),
-      omega (arith, l .inv .1),
-      omega (arith, l .inv .2),
-      omega (arith, l .inv .3),
+      omega (arith, a .kept, l .inv .0),
+      omega (arith, a .kept, l .inv .1),
+      omega (arith, a .kept, r .kept, l .inv .2),
+      omega (arith, a .kept, l .inv .3),
       s .written,
-      λ e. goes-with (r .receive .ensures) (a .round .ensures) s e,
-      ran-next _ _ _ (l .c) (r .receive .result) (a .round .result) (c .send .result) _ _ _ _ (l .inv .6) (l .inv .5 (on t .2) .1) (r .receive .ensures) (a .round .ensures) s,
+      λ e. goes-with (r .ensures) (a .ensures) s e,
+      ran-next _ _ _ (l .c) (r .result) (a .result) (c .send .result) _ _ _ _ (l .inv .6) (l .inv .5 (on test .2) .1) (r .ensures) (a .ensures) s,
     )
 
 returns : tie.Need-returns Inv-loop μ-loop

@@ -1,46 +1,103 @@
--- `lines::put_outcome` meets its contract: in each arm the case is known, and the arm writes what the definition says of it.
+-- `lines::put_outcome` meets its contract: in each arm the case is known, and the pieces that it writes are those of the definition.
 use native.Mathlib.Omega.{arith}
 use mir.Syntax.{w32, w64}
+use mir.Val.{SFits}
 use mir.ValLaws.{toZ-ofZ}
 use borrow.Author.Needs.{needs}
+use Rattle.decimal.proofs.Pieces.{joined}
+use Rattle.decimal.proofs.Signs.{wide, wider}
+use Rattle.lines.specs.Lines.{outcome}
 use Rattle.lines.proofs.put_outcome.Statement.{statement}
 use Rattle.lines.proofs.put_outcome.Tie as tie
 
--- the number that an arm hands on is the one that its case holds
+fits : (c : tie.After-known-told3) → SFits w32 (c .before .answer3 .given .0 .0)
+fits c = record { sfits = c .known-told3 .given .0 .1 }
+
+refused : tie.Need-returns
+unfolding outcome
+refused c =
+    let case : tie.After-answer = search in
+    let word : tie.After-put = search in
+    rw (case .answer .given .1, ← c .before .number .ensures) (joined (word .put .ensures) (c .put-natural .ensures .0), omega (arith, word .put .ensures .place))
+
+done : tie.Need-returns-2
+unfolding outcome
+done c = let case : tie.After-enum-told = search in rw (case .enum-told .given .1) (c .put2 .ensures, omega (arith, c .put2 .ensures .place))
+
+number : tie.Need-returns-3
+unfolding outcome
+number c =
+    let case : tie.After-answer2 = search in
+    let word = c .before .before .put3 .ensures in
+    rw (case .answer2 .given .1) (joined word (c .put-natural2 .ensures .0), omega (arith, word .place))
+
 value : tie.Need-returns-4
+unfolding outcome
 value c =
-    let known = c .before .before .before .answer3 .given in
-    let same = toZ-ofZ w32 (known .0 .0) (record { sfits = c .before .before .known-told3 .given .0 .1 }) in
-    rw (known .1) (rw same at (c .put-value .ensures .0), omega arith)
+    let case : tie.After-known-told3 = search in
+    let word = c .before .before .put4 .ensures in
+    let shown = rw (toZ-ofZ w32 _ (fits case), toZ-ofZ w64 _ (wide _ (fits case))) at (c .put-integer .ensures .0) in
+    rw (case .before .answer3 .given .1) (joined word shown, omega (arith, word .place))
+
+none : tie.Need-returns-5
+unfolding outcome
+none c = let case : tie.After-enum-told2 = search in rw (case .enum-told2 .given .1) (c .put5 .ensures, omega (arith, c .put5 .ensures .place))
 
 sum : tie.Need-returns-6
+unfolding outcome
 sum c =
-    let known = c .before .before .before .answer4 .given in
-    let same = toZ-ofZ w64 (known .0 .1 .0) (record { sfits = c .before .before .known-told4 .given .1 .0 .1 }) in
-    rw (known .1) (rw same at (c .put-sum .ensures .0), omega arith)
+    let case : tie.After-known-told4 = search in
+    let word : tie.After-put6 = search in
+    let count = c .before .before .put-natural3 .ensures in
+    let shown = rw (toZ-ofZ w64 _ (record { sfits = case .known-told4 .given .1 .0 .1 })) at (c .put-integer2 .ensures .0) in
+    rw (case .before .answer4 .given .1) (joined (word .put6 .ensures) (joined (count .0) shown), omega (arith, word .put6 .ensures .place))
+
+lineage : tie.Need-returns-7
+unfolding outcome
+lineage c =
+    let case : tie.After-answer5 = search in
+    let word : tie.After-put7 = search in
+    let merged = c .before .before .put-natural4 .ensures in
+    rw (case .answer5 .given .1) (joined (word .put7 .ensures) (joined (merged .0) (c .put-natural5 .ensures .0)), omega (arith, word .put7 .ensures .place))
 
 pub put-outcome-spec : {M : Type 1} → statement M
 put-outcome-spec =
     tie.close
     (tie.spec
     (λ c. search needs)
+    (λ c. search needs)
     (λ c κs. search needs)
+    (λ c κs. search needs)
+    (λ c κs. search needs)
+    (λ c. search needs)
     (λ c. search needs)
     (λ c κs. search needs)
     (λ c. search needs)
+    (λ c. search needs)
     (λ c κs. search needs)
+    (λ c κs. search needs)
+    (λ c. search needs)
+    (λ c. search needs)
+    (λ c κs. search needs)
+    (λ c. let case : tie.After-known-told3 = search in wider _ (fits case))
+    (λ c κs. search needs)
+    (λ c. search needs)
     (λ c. search needs)
     (λ c κs. search needs)
     (λ c. search needs)
-    (λ c κs. search needs)
     (λ c. search needs)
     (λ c κs. search needs)
+    (λ c κs. search needs)
+    (λ c κs. search needs)
+    (λ c. search needs)
     (λ c. search needs)
     (λ c κs. search needs)
-    (λ c. rw (c .before .before .before .answer .given .1) (c .put-refused .ensures .0, omega arith))
-    (λ c. rw (c .before .before .enum-told .given .1) (c .put-done .ensures .0, omega arith))
-    (λ c. rw (c .before .before .before .answer2 .given .1) (c .put-number .ensures .0, omega arith))
+    (λ c κs. search needs)
+    (λ c κs. search needs)
+    refused
+    done
+    number
     value
-    (λ c. rw (c .before .before .enum-told2 .given .1) (c .put-none .ensures .0, omega arith))
+    none
     sum
-    (λ c. rw (c .before .before .before .answer5 .given .1) (c .put-lineage .ensures .0, omega arith)))
+    lineage)

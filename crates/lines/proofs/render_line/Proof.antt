@@ -10,10 +10,10 @@ use Rattle.lines.proofs.render_line.Tie as tie
 returns : tie.Need-returns
 unfolding line capitals
 returns c =
-    let said = c .before .before .before in
-    let byte = said .before .before in
-    let second = byte .before .before .before in
-    let start = rw (second .before .digit .ensures, second .digit2 .ensures) at (byte .put .ensures) in
+    let digits : tie.After-digit2 = search in
+    let byte : tie.After-put = search in
+    let said : tie.After-put-outcome = search in
+    let start = rw (digits .before .digit .ensures, digits .digit2 .ensures) at (byte .put .ensures) in
     rendered (joined start (joined (said .put-outcome .ensures .0) (c .put2 .ensures)))
     (omega (arith, start .place, c .put2 .ensures .place))
 

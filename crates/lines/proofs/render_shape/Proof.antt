@@ -10,10 +10,10 @@ use Rattle.lines.proofs.render_shape.Tie as tie
 returns : tie.Need-returns
 unfolding shapeLine
 returns c =
-    let said = c .before .before .before in
-    let start = said .before .before .put .ensures in
-    rendered (joined start (joined (said .put-outcome .ensures .0) (c .put2 .ensures)))
-    (omega (arith, start .place, c .put2 .ensures .place))
+    let word : tie.After-put = search in
+    let said : tie.After-put-outcome = search in
+    rendered (joined (word .put .ensures) (joined (said .put-outcome .ensures .0) (c .put2 .ensures)))
+    (omega (arith, word .put .ensures .place, c .put2 .ensures .place))
 
 pub render-shape-spec : {M : Type 1} → statement M
 render-shape-spec =

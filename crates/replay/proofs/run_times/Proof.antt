@@ -7,11 +7,11 @@ use Rattle.replay.proofs.run_times.Statement.{statement}
 use Rattle.replay.proofs.run_times.Tie as tie
 
 abbrev Inv-loop : tie.InvT-loop
-Inv-loop mem₀ scans₀ bytes₀ times first second folded course₀ left₀ mem scans bytes course left =
+Inv-loop mem₀ scans₀ bytes₀ head folded course₀ left₀ mem scans bytes course left =
     (length mem ≡ length mem₀) × (length scans ≡ length scans₀) × (length bytes ≡ length bytes₀)
 
 abbrev μ-loop : tie.MeasureT-loop
-μ-loop mem₀ scans₀ bytes₀ times first second folded course₀ left₀ mem scans bytes course left = left
+μ-loop mem₀ scans₀ bytes₀ head folded course₀ left₀ mem scans bytes course left = left
 
 pub run-times-spec : {M : Type 1} → statement M
 run-times-spec =

@@ -8,29 +8,23 @@ use Rattle.requests.proofs.Arms.{made-served}
 use Rattle.requests.proofs.make_store.Statement.{statement}
 use Rattle.requests.proofs.make_store.Tie as tie
 
--- the places of the making and of the table
-abbrev made : tie.After-accepted → tie.After-make
-made c = c .before .before .before
-
-abbrev tabled : tie.After-make → tie.After-table
-tabled c = c .before .before
-
 returns : tie.Need-returns
 unfolding tableOf
 returns c =
-    let free = c .before .before in
-    let taken = free .before .before in
-    let m = made (taken .before) in
-    let u = tabled m .table in
-    made-served _ _ _ (u .result .length) _ _ true _ (m .make .ensures) (ap (λ (t : Scans). t .length) (u .ensures))
-    (sym (taken .if1 .taken) ∙ taken .before .accepted .ensures) (free .free-all .ensures)
+    let tabled : tie.After-table = search in
+    let made : tie.After-make = search in
+    let test : tie.Then1 = search in
+    let freed : tie.After-free-all = search in
+    made-served _ _ _ (tabled .table .result .length) _ _ true _ (made .make .ensures) (ap (λ (t : Scans). t .length) (tabled .table .ensures))
+    (sym (test .if1 .taken) ∙ test .before .accepted .ensures) (freed .free-all .ensures)
 
 returns-2 : tie.Need-returns-2
 unfolding tableOf
 returns-2 c =
-    let m = made (c .before) in
-    let u = tabled m .table in
-    made-served _ _ _ (u .result .length) _ _ false _ (m .make .ensures) (ap (λ (t : Scans). t .length) (u .ensures)) (sym (c .if1 .left) ∙ c .before .accepted .ensures) refl
+    let tabled : tie.After-table = search in
+    let made : tie.After-make = search in
+    made-served _ _ _ (tabled .table .result .length) _ _ false _ (made .make .ensures) (ap (λ (t : Scans). t .length) (tabled .table .ensures))
+    (sym (c .if1 .left) ∙ c .before .accepted .ensures) refl
 
 pub make-store-spec : {M : Type 1} → statement M
 make-store-spec =

@@ -10,32 +10,24 @@ use Rattle.rounds.proofs.answer.Tie as tie
 returns : tie.Need-returns
 returns c = took-nothing _ _ _ _ _ _ (omega arith) (refl, refl, refl)
 
--- the places of the shape's part, of the test of the room before it, and of the commands' part
-abbrev shaped : tie.After-struct-known → tie.After-answer-first
-shaped c = c .before .before .before .before .before .before .before
-
-abbrev tested : tie.After-answer-first → tie.Else1
-tested c = c .before .before .before .before
-
-abbrev commanded : tie.After-slice-known9 → tie.After-answer-commands
-commanded c = c .before .before .before .before .before .before
-
 returns-2 : tie.Need-returns-2
 returns-2 c =
-    let f = shaped (c .before) in
-    took-none _ _ (f .answer-first .result) _ _ _ _ (omega (arith, tested f .if1 .left)) (f .answer-first .ensures) (not-true _ (c .if2 .taken))
+    let room : tie.Else1 = search in
+    let shape : tie.After-answer-first = search in
+    took-none (shape .answer-first .ensures) (omega (arith, room .if1 .left)) (not-true _ (c .if2 .taken))
 
 answer-commands-requires : tie.Need-answer-commands-requires
 answer-commands-requires c κs =
-    let e = c .before .before .before in
-    let f = shaped (e .before) .answer-first .ensures in
-    (not-false _ (e .if2 .left), f .inside, f .room)
+    let shape : tie.After-answer-first = search in
+    let started : tie.Else2 = search in
+    (not-false _ (started .if2 .left), shape .answer-first .ensures .inside, shape .answer-first .ensures .room)
 
 returns-3 : tie.Need-returns-3
 returns-3 c =
-    let a = commanded c in
-    let f = shaped (a .before .before .before .before .before) in
-    took _ _ (f .answer-first .result) _ _ _ _ (omega (arith, tested f .if1 .left)) (f .answer-first .ensures) _ _ _ (omega (arith, a .answer-commands .kept)) (a .answer-commands .ensures)
+    let room : tie.Else1 = search in
+    let shape : tie.After-answer-first = search in
+    let commands : tie.After-answer-commands = search in
+    took (shape .answer-first .ensures) (omega (arith, room .if1 .left)) _ _ _ (omega (arith, commands .answer-commands .kept)) (commands .answer-commands .ensures)
 
 pub answer-spec : {M : Type 1} → statement M
 answer-spec =

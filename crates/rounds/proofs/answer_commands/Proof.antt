@@ -15,46 +15,38 @@ Inv-loop mem₀ scans₀ bytes last lines₀ p₀ mem scans lines p =
 abbrev μ-loop : tie.MeasureT-loop
 μ-loop mem₀ scans₀ bytes last lines₀ p₀ mem scans lines p = length bytes - p .taken
 
--- the places of the loop's head, of the command's end and of its turn
-abbrev head : tie.After-command-end Inv-loop μ-loop → tie.At-loop Inv-loop μ-loop
-head c = c .before .before
-
-abbrev ended : tie.After-answer-command Inv-loop μ-loop → tie.Else1 Inv-loop μ-loop
-ended c = c .before .before .before .before
-
-abbrev answered : tie.After-slice-known6 Inv-loop μ-loop → tie.After-answer-command Inv-loop μ-loop
-answered c = c .before .before .before .before .before .before
-
 returns : tie.Need-returns Inv-loop μ-loop
 returns c =
+    let head : tie.At-loop Inv-loop μ-loop = search in
     let e = c .before in
-    let l = head e .loop in
-    walked-stop _ _ (l .p) _ _ _ _ _ (l .inv .3) _ (e .before .loop-test .taken) (e .command-end .ensures .nothing (c .if1 .taken)) (refl, refl, refl, refl, refl)
+    walked-stop (head .loop .inv .3) (e .before .loop-test .taken) (e .command-end .ensures .nothing (c .if1 .taken))
 
 answer-command-requires : tie.Need-answer-command-requires Inv-loop μ-loop
 answer-command-requires c κs =
-    let i = c .before .before .before in
-    let l = head (i .before) .loop in
-    going-fits _ _ (l .p) _ _ _ _ _ (l .inv .3) _ (i .before .command-end .ensures) (i .if1 .left)
+    let head : tie.At-loop Inv-loop μ-loop = search in
+    let found : tie.Else1 Inv-loop μ-loop = search in
+    going-fits (head .loop .inv .3) _ (found .before .command-end .ensures) (found .if1 .left)
 
 loop-less : tie.Need-loop-less Inv-loop μ-loop
 loop-less c =
-    let a = answered c in
-    let e = ended a .before in
-    let l = head e .loop in
-    let f = going-fits _ _ (l .p) _ _ _ _ _ (l .inv .3) _ (e .command-end .ensures) (ended a .if1 .left) in
-    omega (arith, f .0, f .1, a .answer-command .ensures .1)
+    let head : tie.At-loop Inv-loop μ-loop = search in
+    let found : tie.Else1 Inv-loop μ-loop = search in
+    let answered : tie.After-answer-command Inv-loop μ-loop = search in
+    let f = going-fits (head .loop .inv .3) _ (found .before .command-end .ensures) (found .if1 .left) in
+    omega (arith, f .0, f .1, answered .answer-command .ensures .taken)
 
 loop-again : tie.Need-loop-again Inv-loop μ-loop
 loop-again c =
-    let a = answered c in
-    let e = ended a .before in
-    let l = head e .loop in
-    let k = a .answer-command .kept in (
+    let head : tie.At-loop Inv-loop μ-loop = search in
+    let found : tie.Else1 Inv-loop μ-loop = search in
+    let answered : tie.After-answer-command Inv-loop μ-loop = search in
+    let l = head .loop in
+    let a = answered .answer-command in
+    let k = a .kept in (
       omega (arith, l .inv .0),
       omega (arith, l .inv .1),
       omega (arith, l .inv .2),
-      going-next _ _ (l .p) _ _ _ _ _ (l .inv .3) (a .answer-command .result) _ _ _ (e .before .loop-test .taken) (e .command-end .ensures) (ended a .if1 .left) (a .answer-command .ensures) (omega arith),
+      going-next (l .inv .3) (a .result) _ _ _ (found .before .before .loop-test .taken) (found .before .command-end .ensures) (found .if1 .left) (a .ensures) (omega arith),
     )
 
 pub answer-commands-spec : {M : Type 1} → statement M
@@ -63,7 +55,7 @@ answer-commands-spec =
     (tie.spec
     Inv-loop
     μ-loop
-    (λ c. (refl, refl, refl, going-none _ _ _ _ _ (c .before .before .before .before .pre)))
+    (λ c. let start : tie.Start Inv-loop μ-loop = search in (refl, refl, refl, going-none _ _ _ _ _ (start .pre)))
     (λ c κs. c .before .loop .inv .3 .inside)
     (λ c. omega arith)
     (λ c. omega arith)
@@ -75,4 +67,4 @@ answer-commands-spec =
     (λ c. omega arith)
     (λ c. omega arith)
     (λ c. omega arith)
-    (λ c. walked-off _ _ (c .before .loop .p) _ _ _ _ _ (c .before .loop .inv .3) (c .loop-test .left)))
+    (λ c. walked-off (c .before .loop .inv .3) (c .loop-test .left)))

@@ -13,48 +13,36 @@ use borrow.Author.Needs.{needs}
 use Rattle.rounds.proofs.answer_first.Statement.{statement}
 use Rattle.rounds.proofs.answer_first.Tie as tie
 
--- the places: before each test, and of the shape's turn
-abbrev start : tie.After-slice-known3 → tie.Start
-start c = c .before .before .before .before
-
-abbrev entered : tie.Else2 → tie.After-slice-known3
-entered c = c .before .before .before
-
-abbrev answered : tie.After-slice-known6 → tie.After-answer-shape
-answered c = c .before .before .before .before .before .before
-
-abbrev joined : tie.After-answer-shape → tie.Joined3
-joined c = c .before .before .before .before .before
-
 returns : tie.Need-returns
 returns c =
-    let s = start (c .before) in
-    let e : s .args .p .started ≡ true = c .if1 .taken in
-    begun-same _ (s .args .p) _ _ _ (s .pre) (λ n. absurd (never e n)) (λ n. absurd (never e n))
+    let start : tie.Start = search in
+    let e : start .args .p .started ≡ true = c .if1 .taken in
+    begun-same _ (start .args .p) _ _ _ (start .pre) (λ n. absurd (never e n)) (λ n. absurd (never e n))
 
 returns-2 : tie.Need-returns-2
 returns-2 c =
-    let s = start (c .before .before .before) in
-    let e : s .args .p .on ≡ false = not-true _ (c .if2 .taken) in
-    begun-same _ (s .args .p) _ _ _ (s .pre) (λ n l. e) (λ n t. absurd (never t e))
+    let start : tie.Start = search in
+    let e : start .args .p .on ≡ false = not-true _ (c .if2 .taken) in
+    begun-same _ (start .args .p) _ _ _ (start .pre) (λ n l. e) (λ n t. absurd (never t e))
 
 returns-3 : tie.Need-returns-3
 returns-3 c =
-    let s = start (entered (c .before .before)) in
-    let e : s .args .last ≡ false = not-true _ (c .if4 .taken) in
-    begun-same _ (s .args .p) _ _ _ (s .pre) (λ n l. absurd (never l e)) (λ n t. c .before .if3 .taken)
+    let start : tie.Start = search in
+    let e : start .args .last ≡ false = not-true _ (c .if4 .taken) in
+    begun-same _ (start .args .p) _ _ _ (start .pre) (λ n l. absurd (never l e)) (λ n t. c .before .if3 .taken)
 
 returns-4 : tie.Need-returns-4
 returns-4 c =
-    let a = answered c in
-    let end = a .before .before .shape-end .ensures in
-    let j = joined a in
-    let o = j .before in
-    let s = start (entered o) in
-    let whole : s .args .last ≡ false → shapeBytes ≤ length (s .args .bytes .now) = λ f.
-    ⊎-elim (λ w. absurd (never (not-false _ (w .1 .left)) f)) (λ w. w .left) (j .if3 .came) in
-    begun-shape _ (s .args .p) _ _ _ _ _ _ _ (s .pre .1) (s .pre .2) (omega arith) (not-false _ (o .if2 .left)) (o .before .before .if1 .left)
-    (record { ends = end .0; whole = whole }) (a .answer-shape .ensures) (end .1)
+    let answered : tie.After-answer-shape = search in
+    let end : tie.After-shape-end = search in
+    let enough : tie.Joined3 = search in
+    let running : tie.Else2 = search in
+    let unstarted : tie.Else1 = search in
+    let start : tie.Start = search in
+    let whole : start .args .last ≡ false → shapeBytes ≤ length (start .args .bytes .now) = λ f.
+    ⊎-elim (λ w. absurd (never (not-false _ (w .1 .left)) f)) (λ w. w .left) (enough .if3 .came) in
+    begun-shape _ (start .args .p) _ _ _ _ _ _ _ (start .pre .1) (start .pre .2) (omega arith) (not-false _ (running .if2 .left)) (unstarted .if1 .left)
+    (record { ends = end .shape-end .ensures .0; whole = whole }) (answered .answer-shape .ensures) (end .shape-end .ensures .1)
 
 pub answer-first-spec : {M : Type 1} → statement M
 answer-first-spec =

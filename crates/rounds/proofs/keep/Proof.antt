@@ -10,10 +10,10 @@ use Rattle.rounds.proofs.keep.Statement.{statement}
 use Rattle.rounds.proofs.keep.Tie as tie
 
 abbrev Inv-loop : tie.InvT-loop
-Inv-loop lines₀ at line n i₀ lines i = (i ≤ n) × (length lines ≡ length lines₀) × (take (at + i) lines ≡ take at lines₀ ++ take i line)
+Inv-loop lines₀ written line t columns end n i₀ lines i = (i ≤ n) × (length lines ≡ length lines₀) × (take (written + i) lines ≡ take written lines₀ ++ take i line)
 
 abbrev μ-loop : tie.MeasureT-loop
-μ-loop lines₀ at line n i₀ lines i = n - i
+μ-loop lines₀ written line t columns end n i₀ lines i = n - i
 
 loop-again : tie.Need-loop-again Inv-loop μ-loop
 loop-again c =
@@ -25,8 +25,9 @@ loop-again c =
 
 returns : tie.Need-returns Inv-loop μ-loop
 returns c =
-    let all : c .before .loop .i ≡ c .before .before .args .n = omega arith in
-    rw all at (c .before .loop .inv .2)
+    let start : tie.Start Inv-loop μ-loop = search in
+    let all : c .before .loop .i ≡ start .args .t .length = omega arith in
+    (rw all at (c .before .loop .inv .2), refl)
 
 pub keep-spec : {M : Type 1} → statement M
 keep-spec =
@@ -41,5 +42,6 @@ keep-spec =
     (λ c. omega arith)
     (λ c. omega arith)
     loop-again
+    (λ c. omega arith)
     (λ c. c .before .loop .inv .1)
     returns)

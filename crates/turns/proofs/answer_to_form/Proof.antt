@@ -1,19 +1,22 @@
 -- `turns::answer_to_form` meets its contract.
 use borrow.Author.Needs.{needs}
-use Rattle.turns.proofs.Answers.{form-cut, form-called}
+use borrow.Author.Tests.{lt-leb}
+use Rattle.output.specs.Steps.{answerTo, stateAfter}
+use Rattle.turns.specs.Turns.{Does}
+use Rattle.turns.proofs.Answers.{form-called}
 use Rattle.turns.proofs.answer_to_form.Statement.{statement}
 use Rattle.turns.proofs.answer_to_form.Tie as tie
 
 returns : tie.Need-returns
-returns c =
-    form-cut _ _ _ _ (rw (c .before .width .ensures) at (c .if1 .taken))
+unfolding Does answerTo stateAfter
+returns c = let cut = lt-leb _ _ (rw (c .before .width .ensures) at (c .if1 .taken)) in (rw cut, rw cut)
 
 returns-2 : tie.Need-returns-2
 returns-2 c =
-    let z = c .before .before .before .before in
-    let d = z .before in
-    let i = d .before .before .before in
-    form-called _ _ _ _ (d .decode .result) _ _ _ (rw (i .before .width .ensures) at (i .if1 .left)) (d .decode .ensures) (z .call .ensures)
+    let test : tie.Else1 = search in
+    let decoded : tie.After-decode = search in
+    let called : tie.After-call = search in
+    form-called _ _ _ _ (decoded .decode .result) _ _ _ (rw (test .before .width .ensures) at (test .if1 .left)) (decoded .decode .ensures) (called .call .ensures)
 
 pub answer-to-form-spec : {M : Type 1} → statement M
 answer-to-form-spec =

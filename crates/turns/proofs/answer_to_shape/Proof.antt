@@ -1,17 +1,21 @@
 -- `turns::answer_to_shape` meets its contract.
 use borrow.Author.Needs.{needs}
-use Rattle.turns.proofs.Answers.{shape-cut, shape-whole}
+use borrow.Author.Tests.{le-leb, lt-leb}
+use Rattle.commands.specs.Commands.{shapeBytes}
+use Rattle.turns.specs.Turns.{firstAnswer, firstStore}
 use Rattle.turns.proofs.answer_to_shape.Statement.{statement}
 use Rattle.turns.proofs.answer_to_shape.Tie as tie
 
 returns : tie.Need-returns
-returns c =
-    shape-cut _ _ (c .if1 .taken)
+unfolding firstAnswer firstStore
+returns c = let cut = lt-leb shapeBytes _ (c .if1 .taken) in (rw cut, rw cut)
 
 returns-2 : tie.Need-returns-2
+unfolding firstAnswer firstStore
 returns-2 c =
-    let z = c .before .before .before .before in
-    shape-whole _ _ _ _ _ (z .before .before .before .before .if1 .left) (z .before .decode-shape .ensures) (z .make-lent .ensures)
+    let test : tie.Else1 = search in
+    let made : tie.After-make-lent = search in
+    rw (le-leb shapeBytes _ (test .if1 .left), ← made .before .decode-shape .ensures) (made .make-lent .ensures)
 
 pub answer-to-shape-spec : {M : Type 1} → statement M
 answer-to-shape-spec =

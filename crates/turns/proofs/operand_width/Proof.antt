@@ -1,29 +1,31 @@
 -- `turns::operand_width` meets its contract.
 use borrow.Author.Needs.{needs}
-use Prim.Native.Nat.{ℕ}
 use native.Mathlib.Omega.{arith}
-use mathlib.Core.Path.{_≡_, sym, ap, _∙_}
+use mathlib.Core.Path.{_≡_, sym, _∙_}
 use Rattle.commands.specs.declared.Chosen.{Chosen}
-use Rattle.commands.specs.Commands.{chosen, width}
-use Rattle.turns.proofs.Answers.{small, width-known, width-refused, width-most}
+use Rattle.commands.specs.Commands.{chosen, Small}
+use Rattle.commands.proofs.Table.{chosen-narrow}
+use Rattle.turns.specs.Turns.{operandWidth}
+use Rattle.turns.proofs.Answers.{width-most}
 use Rattle.turns.proofs.operand_width.Statement.{statement}
 use Rattle.turns.proofs.operand_width.Tie as tie
 
 known : (c : tie.After-chosen) → chosen (c .before .before .before .args .byte) ≡ Chosen.Known (c .chosen .given .0 .0)
 known c = sym (c .before .before .choose .ensures) ∙ c .chosen .given .1
 
-width-requires : tie.Need-width-requires
-width-requires c κs = small _ _ _ (known (c .before .before)) (c .capped .ensures .1)
+small : (c : tie.After-capped) → Small (c .capped .result) (c .before .before .chosen .given .0 .0)
+small c = (chosen-narrow _ _ (known (c .before .before)), c .capped .ensures .1)
 
 returns : tie.Need-returns
+unfolding operandWidth
 returns c =
-    let k = c .before .before .before in
-    let f = k .chosen .given .0 .0 in
-    let capped = c .before .capped .ensures in
-    (width-known _ _ _ f (known k) (c .width .ensures ∙ ap (λ (n : ℕ). width n f) (capped .0)), rw (c .width .ensures) (width-most _ f (small _ _ f (known k) (capped .1))))
+    let capped = c .before in
+    let form = capped .before .before in
+    (rw (known form, ← capped .capped .ensures .0) (c .width .ensures), rw (c .width .ensures) (width-most _ (form .chosen .given .0 .0) (small capped)))
 
 returns-2 : tie.Need-returns-2
-returns-2 c = (width-refused _ _ (c .enum-told .given .0 .0) (sym (c .before .before .choose .ensures) ∙ c .enum-told .given .1), omega arith)
+unfolding operandWidth
+returns-2 c = (rw (sym (c .before .before .choose .ensures) ∙ c .enum-told .given .1), omega arith)
 
 pub operand-width-spec : {M : Type 1} → statement M
 operand-width-spec =
@@ -32,7 +34,7 @@ operand-width-spec =
     (λ c κs. search needs)
     (λ c. search needs)
     (λ c κs. search needs)
-    width-requires
+    (λ c κs. small c)
     (λ c. search needs)
     returns
     returns-2)

@@ -6,15 +6,11 @@ use Rattle.turns.proofs.Answers.{turned}
 use Rattle.turns.proofs.start.Statement.{statement}
 use Rattle.turns.proofs.start.Tie as tie
 
--- the place of the answer
-abbrev answered : tie.After-render-shape → tie.After-answer-to-shape
-answered c = c .before .before .before .before .before .before
-
 returns : tie.Need-returns
 returns c =
-    let r = c .before in
-    let a = answered r .answer-to-shape in
-    turned _ shapeLine _ _ _ _ _ (a .result) _ refl refl (a .ensures .0) (r .render-shape .ensures) (c .goes-on .ensures) (a .ensures .1)
+    let answered : tie.After-answer-to-shape = search in
+    let a = answered .answer-to-shape in
+    turned _ shapeLine _ _ _ _ _ (a .result) _ refl refl (a .ensures .0) (c .before .render-shape .ensures) (c .goes-on .ensures) (a .ensures .1)
 
 pub start-spec : {M : Type 1} → statement M
 start-spec =

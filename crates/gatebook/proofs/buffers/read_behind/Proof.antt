@@ -6,14 +6,10 @@ use borrow.Rule.Slice.PartMut.{take-put}
 use Rattle.gatebook.proofs.buffers.read_behind.Statement.{statement}
 use Rattle.gatebook.proofs.buffers.read_behind.Tie as tie
 
--- the place of the read
-abbrev came : tie.After-slice-known3 → tie.After-read
-came c = c .before .before .before .before .before .before
-
 returns : tie.Need-returns
 returns c =
-    let read = came c in
-    let start = read .before .before .before .before in
+    let read : tie.After-read = search in
+    let start : tie.Start = search in
     let m = start .args .buffer .now in
     (search needs, take-put (start .args .to) (length m - start .args .to) m (read .read .last .1 .0) (start .pre))
 

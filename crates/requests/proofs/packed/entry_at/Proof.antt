@@ -4,16 +4,16 @@ use native.Mathlib.Omega.{arith}
 use borrow.Author.Needs.{needs}
 use Rattle.words.specs.Words.{words}
 use Rattle.words.proofs.Words.{length-words}
-use Rattle.requests.proofs.Places.{places-at}
+use Rattle.requests.proofs.Places.{entries-at}
 use Rattle.requests.proofs.packed.entry_at.Statement.{statement}
 use Rattle.requests.proofs.packed.entry_at.Tie as tie
 
 returns : tie.Need-returns
 returns c =
-    let two = c .before in
-    let one = two .before in
-    let a = one .before .before .args in
-    rw (c .get3 .ensures, two .get2 .ensures, one .get .ensures) (sym (places-at (words (a .list .now)) (a .i) (omega (arith, length-words (a .list .now), one .before .before .pre))))
+    let start : tie.Start = search in
+    let list = start .args .list .now in
+    rw (c .get3 .ensures, c .before .get2 .ensures, c .before .before .get .ensures)
+    (sym (entries-at (words list) (start .args .i) (omega (arith, length-words list, start .pre))))
 
 pub entry-at-spec : {M : Type 1} → statement M
 entry-at-spec =

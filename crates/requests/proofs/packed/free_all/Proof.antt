@@ -3,15 +3,15 @@ use native.Mathlib.Omega.{arith}
 use borrow.Author.Needs.{needs}
 use Rattle.words.specs.Words.{words}
 use Rattle.words.proofs.Words.{length-words}
-use Rattle.requests.proofs.Places.{places-freed}
+use Rattle.requests.proofs.Places.{entries-freed}
 use Rattle.requests.proofs.packed.free_all.Statement.{statement}
 use Rattle.requests.proofs.packed.free_all.Tie as tie
 
 returns : tie.Need-returns
 returns c =
-    let f = c .before .before in
-    let l = f .before .before .before .args .list .now in
-    rw (f .fill .ensures) (places-freed (words l) _ (omega (arith, length-words l)))
+    let start : tie.Start = search in
+    let list = start .args .list .now in
+    rw (c .before .before .fill .ensures) (entries-freed (words list) _ (omega (arith, length-words list)))
 
 pub free-all-spec : {M : Type 1} → statement M
 free-all-spec =

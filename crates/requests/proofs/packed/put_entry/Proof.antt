@@ -6,24 +6,24 @@ use lib.Seq.{set-out}
 use Rattle.words.specs.Words.{words}
 use Rattle.words.proofs.Words.{length-words}
 use Rattle.requests.specs.Packed.{entriesOf}
-use Rattle.requests.proofs.Places.{places-put, length-places}
+use Rattle.requests.proofs.Places.{entries-put, length-entries}
 use Rattle.requests.proofs.packed.put_entry.Statement.{statement}
 use Rattle.requests.proofs.packed.put_entry.Tie as tie
 
 returns : tie.Need-returns
 returns c =
-    let three = c .before .before in
-    let two = three .before .before .before .before in
-    let one = two .before .before .before .before in
-    let a = one .before .before .before .before .args in
-    rw (three .put3 .ensures, two .put2 .ensures, one .put .ensures)
-    (places-put (words (a .list .now)) (a .i) _ _ _ (omega (arith, length-words (a .list .now))))
+    let one : tie.After-put = search in
+    let two : tie.After-put2 = search in
+    let three : tie.After-put3 = search in
+    let start : tie.Start = search in
+    let list = start .args .list .now in
+    rw (three .put3 .ensures, two .put2 .ensures, one .put .ensures) (entries-put (words list) (start .args .i) _ _ _ (omega (arith, length-words list)))
 
 returns-2 : tie.Need-returns-2
 returns-2 c =
     let a = c .before .before .args in
     let ws = words (a .list .now) in
-    sym (set-out (entriesOf ws) (a .i) (a .p) (omega (arith, length-words (a .list .now), length-places ws)))
+    sym (set-out (entriesOf ws) (a .i) (a .p) (omega (arith, length-words (a .list .now), length-entries ws)))
 
 pub put-entry-spec : {M : Type 1} → statement M
 put-entry-spec =

@@ -1,4 +1,4 @@
--- `requests::packed::table` meets its contract. The invariant: the loop's table has the first i places.
+-- `requests::packed::table` meets its contract. The invariant: the loop's table has the first i entries.
 use Prim.Native.Nat.{_-_}
 use mathlib.Core.Path.{sym, _∙_}
 use mathlib.Core.Logic.{⊎-elim}
@@ -8,7 +8,7 @@ use Rattle.words.specs.Words.{words}
 use Rattle.words.proofs.Words.{length-words}
 use Rattle.scans.proofs.Table.{Entered, none-entered, open-entered, free-entered, all-entered}
 use Rattle.requests.specs.Packed.{entriesOf}
-use Rattle.requests.proofs.Places.{length-places}
+use Rattle.requests.proofs.Places.{length-entries}
 use Rattle.requests.proofs.packed.table.Statement.{statement}
 use Rattle.requests.proofs.packed.table.Tie as tie
 
@@ -21,18 +21,19 @@ abbrev μ-loop : tie.MeasureT-loop
 loop-holds : tie.Need-loop-holds Inv-loop μ-loop
 loop-holds c =
     let l = c .before .before .args .list .now in
-    none-entered (entriesOf (words l)) _ _ (omega (arith, length-words l, length-places (words l))) (c .blank .ensures)
+    none-entered (entriesOf (words l)) _ _ (omega (arith, length-words l, length-entries (words l))) (c .blank .ensures)
 
 enter-requires : tie.Need-enter-requires Inv-loop μ-loop
 enter-requires c κs = (omega arith, sym (c .before .is-open .ensures) ∙ c .if1 .taken)
 
 loop-again : tie.Need-loop-again Inv-loop μ-loop
 loop-again c =
-    let o = c .before .before .before .before .loop in
-    let p = c .before .before .entry-at in
+    let head : tie.At-loop Inv-loop μ-loop = search in
+    let l = head .loop in
+    let e = c .before .before .entry-at in
     ⊎-elim
-    (λ w. open-entered _ _ (o .t) _ (o .i) (p .result) (o .inv) (omega arith) (p .ensures) (w .2 ∙ w .1 .ensures))
-    (λ w. rw (w .1) (free-entered _ _ (o .t) (o .i) (p .result) (o .inv) (omega arith) (p .ensures) (sym (c .before .is-open .ensures) ∙ w .0 .left)))
+    (λ w. open-entered _ _ (l .t) _ (l .i) (e .result) (l .inv) (omega arith) (e .ensures) (w .2 ∙ w .1 .ensures))
+    (λ w. rw (w .1) (free-entered _ _ (l .t) (l .i) (e .result) (l .inv) (omega arith) (e .ensures) (sym (c .before .is-open .ensures) ∙ w .0 .left)))
     (c .if1 .came)
 
 returns : tie.Need-returns Inv-loop μ-loop

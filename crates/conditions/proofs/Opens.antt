@@ -1,4 +1,4 @@
--- The search among the open places: the first place of a number other than 0 is the place of that transaction.
+-- The search among the open entries: the first index of a number other than 0 is that of the transaction.
 use Prim.Native.Nat.{ℕ, suc, _+_}
 use mathlib.Core.Path.{_≡_, refl, sym, _∙_, ap}
 use mathlib.Core.Bool.{Bool, true, false, not, cond, _&&_, _||_, not-and-self, and-false}

@@ -70,9 +70,9 @@ implied f g (suc n) h t =
     or-cases (anyBelow f n) (f n) t (λ u. or-left (anyBelow g n) (g n) (implied f g n h u)) (λ u. or-right (anyBelow g n) (g n) (h n u))
 
 -- ---- open numbers
--- the numbers of a list, by their places
-any-places : (f : ℕ → Bool) (l : List ℕ) (n : ℕ) → length l ≡ n → anyBelow (λ j. f (getD l j 0)) n ≡ any f l
-any-places f l n e =
+-- the numbers of a list, by their indices
+any-entries : (f : ℕ → Bool) (l : List ℕ) (n : ℕ) → length l ≡ n → anyBelow (λ j. f (getD l j 0)) n ≡ any f l
+any-entries f l n e =
     ap (anyBelow (λ j. f (getD l j 0))) (sym e)
     ∙ any-below l 0 (λ j. f (getD l j 0)) f (length l) (le-refl _) (λ i u. refl)
     ∙ ap (any f) (take-length l)
@@ -80,7 +80,7 @@ any-places f l n e =
 pub open-is : (v : View) (k : ℕ) (flag : Bool) → length (v Opens) ≡ mostTransactions → (k ≡ 0 → ⊥)
     → flag ≡ anyBelow (λ j. eqb (getD (v Opens) j 0) k) mostTransactions → flag ≡ openIn v k
 open-is v k flag l z e =
-    e ∙ any-places (λ x. eqb x k) (v Opens) mostTransactions l ∙ sym (ap (λ (h : ℕ → Bool). any h (v Opens)) (fun-ext (bears-is k z)))
+    e ∙ any-entries (λ x. eqb x k) (v Opens) mostTransactions l ∙ sym (ap (λ (h : ℕ → Bool). any h (v Opens)) (fun-ext (bears-is k z)))
 
 pub open-zero : (v : View) (k : ℕ) → k ≡ 0 → false ≡ openIn v k
 open-zero v k e = rw (e, none-bears (v Opens))
@@ -123,7 +123,7 @@ none-held v t r at n flag l e f =
     none k u =
         let w = parts (openIn v k) (not (eqb k t)) u in
         let p = firstIndex (bears k) (v Opens) in
-        off flag f (rw (e ∙ any-places (isOther t) (v Opens) mostTransactions l)
+        off flag f (rw (e ∙ any-entries (isOther t) (v Opens) mostTransactions l)
         (place-any (isOther t) (v Opens) 0 p (place-lt (bears k) (v Opens) (w .0)) (other k (getD (v Opens) p 0) (w .1) (place-is (bears k) (v Opens) 0 (w .0)))))
 
 module _ (S : Shape) (v : View) (t r : ℕ) (inserter : ℕ) (q : inserter ≡ getD (v RowTransaction) r 0) (other : Bool) (o : other ≡ openOther v t inserter) where

@@ -5,6 +5,8 @@ use layout::Sizes;
 use layout::codes::COMMITTED;
 use layout::codes::SETTING;
 use loops::Found;
+use loops::both;
+use loops::either;
 use regions::find_in;
 use regions::read;
 use rows::range_of;
@@ -53,13 +55,6 @@ pub fn own_changes(mem: &[u8], s: Sizes, index: usize) -> Transaction
     ensures { λ r. ⌜ ((t : ℕ) → index ≡ openIndex (viewOf s (now (mem .entry))) t → r .0 ≡ ownChanges (viewOf s (now (mem .entry))) t) ⌝ }
 {
     pending_at(mem, s, index).owner()
-}
-
-// One of two flags is up.
-fn either(a: bool, b: bool) -> bool
-    ensures { λ r. ⌜ r ≡ (a || b) ⌝ }
-{
-    if a { true } else { b }
 }
 
 // Whether transaction k is open and not t.
@@ -158,22 +153,14 @@ pub fn held(mem: &[u8], s: Sizes, t: Transaction, row: Row) -> bool
 fn stands_for(t: Transaction, maker: Transaction, state: u32) -> bool
     ensures { λ r. ⌜ r ≡ standsFor (t .0) (maker .0) state ⌝ }
 {
-    let me = t.0;
-    let number = maker.0;
-    if number == me {
-        true
-    } else {
-        state == COMMITTED
-    }
+    either(maker.0 == t.0, state == COMMITTED)
 }
 
 // Whether a record of row `named` and this kind is a delete of row `row`.
 fn is_delete(named: Row, row: Row, kind: u32) -> bool
     ensures { λ r. ⌜ r ≡ (eqb (named .0) (row .0) && deleteKind kind) ⌝ }
 {
-    let a = named.0;
-    let b = row.0;
-    if a == b { kind > SETTING } else { false }
+    both(named.0 == row.0, kind > SETTING)
 }
 
 // Whether one of n records from slot `at` on is a delete of the row, whoever made it. One flag is carried to the end: a loop with an early exit does not

@@ -7,6 +7,7 @@ use layout::HEADER_STAMP;
 use layout::HEADER_TRANSACTIONS;
 use layout::Region;
 use layout::Sizes;
+use loops::both;
 use regions::between_in;
 use regions::read;
 use scans::Scans;
@@ -29,13 +30,6 @@ ghost use Rattle.scans.specs.Places.{openCount};
 ghost use Rattle.scans.specs.Table.{tableOf};
 ghost use Rattle.facts.specs.Facts.{storedWithin};
 ghost use Rattle.facts.specs.Tests.{opensHold, scansHold};
-
-// Both of two flags, with no way out early.
-pub fn both(a: bool, b: bool) -> bool
-    ensures { λ r. ⌜ r ≡ (a && b) ⌝ }
-{
-    if a { b } else { false }
-}
 
 // ---- the counts
 

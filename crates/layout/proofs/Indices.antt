@@ -37,7 +37,7 @@ module _ (s : Sizes) (p : Proper s) where
   pub chunks-few : s .chunks ≤ mostChunks
   chunks-few = omega (arith, p .chunks-are, mul-le-mul (p .columns-to) (p .ranges-to))
 
-  -- the range of a place
+  -- the range of a chunk
   pub chunk-range : (i : ℕ) → i < s .chunks → i / s .columns < s .ranges
   chunk-range i b =
       let c : i < s .ranges * s .columns = omega (arith, p .chunks-are, mul-comm (s .columns) (s .ranges)) in

@@ -53,7 +53,7 @@ number k at n m = renew k (numbered at n (m k)) m
 unfoldable pub copy : Region → ℕ → ℕ → ℕ → View → View
 copy k from n to m = renew k (copied (m k) from n to (m k)) m
 
--- v in region k, for n places from `at` on, wherever region keys has key
+-- v in region k, for n words from `at` on, wherever region keys has key
 unfoldable pub mark : Region → ℕ → Region → ℕ → ℕ → ℕ → View → View
 mark keys key k at n v m = renew k (marked (m keys) at n key at v (m k)) m
 

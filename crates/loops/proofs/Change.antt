@@ -98,7 +98,7 @@ changed-same f g at (suc n) l h = rw (changed-same f g at n l (λ i x b. h i x (
 
 -- ---- one turn of `copy` and of `mark`, which read what an earlier turn may not have written
 
--- place from + i of a stretch that does not overlap the n words from `to` is below or above what i turns wrote
+-- index from + i of a stretch that does not overlap the n words from `to` is below or above what i turns wrote
 clear : (from to n i : ℕ) → i < n → (from + n ≤ to) ⊎ (to + n ≤ from) → (from + i < to) ⊎ (to + i ≤ from + i)
 clear from to n i b = ⊎-map (λ a. omega arith) (λ a. omega arith)
 

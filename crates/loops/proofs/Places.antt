@@ -1,4 +1,4 @@
--- A search over words finds the place that a search over the list of them names.
+-- A search over words finds the index that a search over the list of them names.
 use Prim.Native.Nat.{ℕ, suc, _+_}
 use mathlib.Core.Path.{_≡_, refl, _∙_}
 use mathlib.Core.Bool.{Bool, true, false, cond}
@@ -13,9 +13,9 @@ use Rattle.loops.specs.Search.{region, firstAt, foundAt}
 use Rattle.terms.specs.Places.{firstIndex}
 
 -- counted from k
-first-place : (key k : ℕ) (l : List ℕ) → firstAt key k l ≡ cond (ltb (firstIndex (λ x. eqb x key) l) (length l)) (At (k + firstIndex (λ x. eqb x key) l)) Nothing
-first-place key k [] = refl
-first-place key k (x ∷ l) = go (eqb x key) (first-place key (k + 1) l)
+first-index : (key k : ℕ) (l : List ℕ) → firstAt key k l ≡ cond (ltb (firstIndex (λ x. eqb x key) l) (length l)) (At (k + firstIndex (λ x. eqb x key) l)) Nothing
+first-index key k [] = refl
+first-index key k (x ∷ l) = go (eqb x key) (first-index key (k + 1) l)
   where
     go : (b : Bool) → firstAt key (k + 1) l ≡ cond (ltb (firstIndex (λ y. eqb y key) l) (length l)) (At (k + 1 + firstIndex (λ y. eqb y key) l)) Nothing
         → cond b (At k) (firstAt key (k + 1) l)
@@ -29,8 +29,8 @@ first-place key k (x ∷ l) = go (eqb x key) (first-place key (k + 1) l)
         rw (z, leb·suc-suc (suc q) (length l)) ih
 
 -- the whole of a list
-pub find-place : (key : ℕ) (l : List ℕ) (n : ℕ) → length l ≡ n → firstAt key 0 (region l 0 n) ≡ foundAt n (firstIndex (λ x. eqb x key) l)
-find-place key l n e =
+pub find-index : (key : ℕ) (l : List ℕ) (n : ℕ) → length l ≡ n → firstAt key 0 (region l 0 n) ≡ foundAt n (firstIndex (λ x. eqb x key) l)
+find-index key l n e =
     let a : region l 0 n ≡ l = take-all (0 + n) l (omega arith) in
     let z : 0 + firstIndex (λ x. eqb x key) l ≡ firstIndex (λ x. eqb x key) l = omega arith in
-    rw a (first-place key 0 l ∙ rw (z, e))
+    rw a (first-index key 0 l ∙ rw (z, e))

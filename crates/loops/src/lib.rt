@@ -4,10 +4,10 @@ use words::get;
 use words::of_word;
 use words::put;
 ghost use mathlib.Core.Path.{_≡_};
-ghost use mathlib.Core.Bool.{cond, _&&_};
+ghost use mathlib.Core.Bool.{cond, _&&_, _||_};
 ghost use mathlib.Core.Logic.{_⊎_};
 ghost use Prim.Native.Nat.{_+_, _*_, _≤_, _<_};
-ghost use lib.Dec.{leb, ltb, eqb};
+ghost use lib.Dec.{leb, ltb};
 ghost use lib.ListN.{length};
 ghost use Rattle.terms.specs.Measures.{between};
 ghost use Rattle.words.specs.Words.{words};
@@ -52,11 +52,25 @@ pub fn copy(mem: &mut [u8], from: usize, n: usize, to: usize)
     }
 }
 
-// v where k is key, old elsewhere.
-pub fn pick(k: u32, key: u32, v: u32, old: u32) -> u32
-    ensures { λ r. ⌜ r ≡ cond (eqb k key) v old ⌝ }
+// Both of two flags, with no way out early.
+pub fn both(a: bool, b: bool) -> bool
+    ensures { λ r. ⌜ r ≡ (a && b) ⌝ }
 {
-    if k == key { v } else { old }
+    if a { b } else { false }
+}
+
+// One of two flags at least, with no way out early.
+pub fn either(a: bool, b: bool) -> bool
+    ensures { λ r. ⌜ r ≡ (a || b) ⌝ }
+{
+    if a { true } else { b }
+}
+
+// v where the flag is up, old elsewhere.
+pub fn choose(flag: bool, v: u32, old: u32) -> u32
+    ensures { λ r. ⌜ r ≡ cond flag v old ⌝ }
+{
+    if flag { v } else { old }
 }
 
 // v at word to + i for each i below n whose word keys + i is key. Each turn stores, so that there is no branch and the loop vectorises.
@@ -69,7 +83,7 @@ pub fn mark(mem: &mut [u8], keys: usize, n: usize, key: u32, to: usize, v: u32)
     while i < n {
         let k = get(mem, keys + i);
         let old = get(mem, to + i);
-        let w = pick(k, key, v, old);
+        let w = choose(k == key, v, old);
         put(mem, to + i, w);
         i += 1;
     }

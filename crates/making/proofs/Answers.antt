@@ -14,20 +14,20 @@ use Rattle.layout.specs.Sizes.{sizesOf, bytesNeeded}
 use Rattle.layout.specs.View.{lay, Suffices}
 use Rattle.making.specs.Made.{made}
 
-module _ (p : Shape) (places : ℕ) (m : List ℕ) where
-  pub out-of-limits : withinLimits p ≡ false → (Answer.Refused Refusal.Shape, m) ≡ made p places m
+module _ (p : Shape) (entries : ℕ) (m : List ℕ) where
+  pub out-of-limits : withinLimits p ≡ false → (Answer.Refused Refusal.Shape, m) ≡ made p entries m
   unfolding made
   out-of-limits e = rw e
 
-  pub no-room : withinLimits p ≡ true → length m < need (sizesOf p) * 4 → (Answer.Refused Refusal.Memory, m) ≡ made p places m
+  pub no-room : withinLimits p ≡ true → length m < need (sizesOf p) * 4 → (Answer.Refused Refusal.Memory, m) ≡ made p entries m
   unfolding made bytesNeeded
   no-room e h = rw (e, lt-leb (need (sizesOf p) * 4) (length m) h)
 
-  pub few-chunks : withinLimits p ≡ true → Suffices (sizesOf p) m → places < mostScans → (Answer.Refused Refusal.Memory, m) ≡ made p places m
+  pub few-entries : withinLimits p ≡ true → Suffices (sizesOf p) m → entries < mostScans → (Answer.Refused Refusal.Memory, m) ≡ made p entries m
   unfolding made bytesNeeded
-  few-chunks e h k = rw (e, le-leb (need (sizesOf p) * 4) (length m) h, lt-leb mostScans places k)
+  few-entries e h k = rw (e, le-leb (need (sizesOf p) * 4) (length m) h, lt-leb mostScans entries k)
 
-  pub laid : withinLimits p ≡ true → Suffices (sizesOf p) m → mostScans ≤ places → (m′ : List ℕ) → m′ ≡ lay (sizesOf p) (madeView p) m
-      → (Answer.Done, m′) ≡ made p places m
+  pub laid : withinLimits p ≡ true → Suffices (sizesOf p) m → mostScans ≤ entries → (m′ : List ℕ) → m′ ≡ lay (sizesOf p) (madeView p) m
+      → (Answer.Done, m′) ≡ made p entries m
   unfolding made bytesNeeded
-  laid e h k m′ q = rw (e, le-leb (need (sizesOf p) * 4) (length m) h, le-leb mostScans places k, q)
+  laid e h k m′ q = rw (e, le-leb (need (sizesOf p) * 4) (length m) h, le-leb mostScans entries k, q)

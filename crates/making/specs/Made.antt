@@ -19,14 +19,14 @@ use Rattle.layout.specs.View.{View, fill, number, lay, blank}
 use Rattle.scans.specs.Places.{allFreed}
 
 -- the first page is current for the first chunk, the second for the second, and so on
-unfoldable pub placedView : Sizes → View
-placedView s = number Current 0 (s .chunks) (number PageChunk 0 (s .chunks) (fill PageState 0 (s .chunks) asCurrent (blank s)))
+unfoldable pub namedView : Sizes → View
+namedView s = number Current 0 (s .chunks) (number PageChunk 0 (s .chunks) (fill PageState 0 (s .chunks) asCurrent (blank s)))
 
 -- the answer for a scan list of so many entries, and the memory afterwards
 unfoldable pub made : Shape → ℕ → List ℕ → Answer × List ℕ
-made p places m =
+made p entries m =
     cond (withinLimits p)
-    (cond (leb (bytesNeeded p) (length m) && leb mostScans places) (Answer.Done, lay (sizesOf p) (madeView p) m) (Answer.Refused Refusal.Memory, m))
+    (cond (leb (bytesNeeded p) (length m) && leb mostScans entries) (Answer.Done, lay (sizesOf p) (madeView p) m) (Answer.Refused Refusal.Memory, m))
     (Answer.Refused Refusal.Shape, m)
 
 -- and the scan list

@@ -26,7 +26,7 @@ ghost use Rattle.layout.specs.Regions.{need, columnsAt, rangesAt, capacityAt, s
 ghost use Rattle.layout.specs.declared.Region.the-variants.{Header};
 ghost use Rattle.layout.specs.Sizes.{shapeOf, sizesOf, tooManyWords};
 ghost use Rattle.layout.specs.View.{put, blank, viewOf, Suffices};
-ghost use Rattle.making.specs.Made.{placedView, made};
+ghost use Rattle.making.specs.Made.{namedView, made};
 
 // Every word that the sizes need becomes 0.
 fn clear(mem: &mut [u8], s: Sizes)
@@ -38,10 +38,10 @@ fn clear(mem: &mut [u8], s: Sizes)
 }
 
 // The first pages become current, one for each chunk.
-fn place_pages(mem: &mut [u8], s: Sizes)
+fn name_pages(mem: &mut [u8], s: Sizes)
     requires { ⌜ (Suffices s (now mem)) × (s .chunks ≤ s .pages) × (s .pages ≤ mostPages) ⌝ }
     requires { ⌜ viewOf s (now mem) ≡ blank s ⌝ }
-    ensures { λ _. ⌜ viewOf s (now (mem .exit)) ≡ placedView s ⌝ }
+    ensures { λ _. ⌜ viewOf s (now (mem .exit)) ≡ namedView s ⌝ }
 {
     let n = s.chunks;
     fill_in(mem, s, Region::PageState, 0, n, PAGE_CURRENT);
@@ -66,7 +66,7 @@ fn lay_out(mem: &mut [u8], s: Sizes, columns: u32, ranges: u32, capacity: u32, s
     ensures { λ _. ⌜ viewOf s (now (mem .exit)) ≡ madeView (shapeOf columns ranges capacity spares) ⌝ }
 {
     clear(mem, s);
-    place_pages(mem, s);
+    name_pages(mem, s);
     put_measures(mem, s, columns, ranges, capacity, spares);
 }
 

@@ -1,15 +1,15 @@
 -- Release: the least of the open scans' merges tells whether a page is needed, and the loop that frees the pages, turn by turn.
 use Prim.Native.Nat.{ℕ, zero, suc, _+_, _^_, _≤_, _<_}
 use mathlib.Core.Path.{_≡_, refl, ap, sym, _∙_, fun-ext}
-use mathlib.Core.Bool.{Bool, true, false, not, cond, _||_}
+use mathlib.Core.Bool.{Bool, true, false, cond, _||_}
 use mathlib.Core.Logic.{inr}
 use mathlib.Core.List.{List, [], _∷_, _++_}
 use native.Mathlib.Omega.{arith}
 use native.Mathlib.Numerals.{add-one}
-use lib.Dec.{ltb, leb}
+use lib.Dec.{ltb}
 use lib.ListN.{length, getD, take, length-take, length-append, length-replicate}
 use lib.Seq.{take-suc}
-use borrow.Author.Tests.{lt-ltb, le-ltb, ltb-true, ltb-false, leb-true, leb-false}
+use borrow.Author.Tests.{lt-ltb, le-ltb, ltb-true, ltb-false}
 use Rattle.terms.specs.Measures.{mostScans}
 use Rattle.terms.specs.declared.ScanEntry.{ScanEntry}
 use Rattle.loops.proofs.Change.{changed-outside}
@@ -27,14 +27,6 @@ use Rattle.layout.specs.Sizes.{Proper}
 use Rattle.model.specs.Asked.{shapeIn}
 use Rattle.layout.proofs.Renewed.{change-none, change-next}
 use Rattle.merging.specs.Steps.{leastOf, freeable, freeablesFreed}
-
--- ---- the test of one page
-pub at-most : (a b : ℕ) → leb a b ≡ not (ltb b a)
-at-most a b = go (leb a b) refl
-  where
-    go : (t : Bool) → leb a b ≡ t → t ≡ not (ltb b a)
-    go true e = rw (le-ltb b a (leb-true a b e))
-    go false e = rw (lt-ltb b a (leb-false a b e))
 
 -- ---- the least
 pub least-none : (l : List ℕ) → 4294967295 ≡ leastOf l 0
@@ -84,9 +76,9 @@ module _ (least : ℕ) (v : View) where
   freed-none = change-none Region.PageState (λ p w. cond (freeable least v p) asFree w) 0 v
 
   -- the words of page p are as they were when its turn comes
-  pub spare-same : (x : View) (p : ℕ) → x ≡ freeablesFreed least p v → freeable least x p ≡ freeable least v p
+  pub freeable-same : (x : View) (p : ℕ) → x ≡ freeablesFreed least p v → freeable least x p ≡ freeable least v p
   unfolding freeablesFreed freeable renew
-  spare-same x p e =
+  freeable-same x p e =
       let w = changed-outside (λ p w. cond (freeable least v p) asFree w) 0 (v Region.PageState) p p (inr (omega arith)) in
       rw (e, w)
 
@@ -104,11 +96,11 @@ module _ (least : ℕ) (v : View) where
 
   pub freed-next : (x x′ : View) (p : ℕ) → x ≡ freeablesFreed least p v
       → x′ ≡ put Region.PageState p (cond (freeable least x p) 0 (getD (x Region.PageState) p 0)) x → x′ ≡ freeablesFreed least (p + 1) v
-  freed-next x x′ p e q = turn x x′ p e (q ∙ rw (spare-same x p e, state-same x p e)) (omega arith)
+  freed-next x x′ p e q = turn x x′ p e (q ∙ rw (freeable-same x p e, state-same x p e)) (omega arith)
 
   pub count-next : (x : View) (p n n′ : ℕ) → x ≡ freeablesFreed least p v → n ≡ countBelow (freeable least v) p
       → n′ ≡ cond (freeable least x p) (n + 1) n → n′ ≡ countBelow (freeable least v) (p + 1)
-  count-next x p n n′ e c q = q ∙ rw (spare-same x p e, c, add-one, add-one)
+  count-next x p n n′ e c q = q ∙ rw (freeable-same x p e, c, add-one, add-one)
 
   pub count-most : (n : ℕ) → countBelow (freeable least v) n ≤ n
   count-most zero = omega arith
@@ -142,10 +134,10 @@ needed-least ps t e h m k =
     ∙ sym (needed-some m ps)
 
 -- a page is freeable exactly if it may be released
-pub spare-is : (ps : List ScanEntry) (least : ℕ) (v : View) → ((m : ℕ) → m < 2 ^ 32 → ltb least m ≡ neededIn ps m)
+pub freeable-is : (ps : List ScanEntry) (least : ℕ) (v : View) → ((m : ℕ) → m < 2 ^ 32 → ltb least m ≡ neededIn ps m)
     → ((p : ℕ) → getD (v Region.PageReplaced) p 0 < 2 ^ 32) → freeable least v ≡ releasable ps v
 unfolding freeable releasable pageIn
-spare-is ps least v e f = fun-ext (λ p. rw (e (getD (v Region.PageReplaced) p 0) (f p)))
+freeable-is ps least v e f = fun-ext (λ p. rw (e (getD (v Region.PageReplaced) p 0) (f p)))
 
 pub freed-is : (s : Sizes) (ps : List ScanEntry) (least : ℕ) (v : View) → Proper s → freeable least v ≡ releasable ps v
     → freeablesFreed least (s .pages) v ≡ releasedIn (shapeIn s) ps v

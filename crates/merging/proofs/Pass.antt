@@ -15,18 +15,22 @@ use Rattle.loops.specs.Search.{region, firstAt}
 use Rattle.loops.specs.Change.{copied}
 use Rattle.layout.specs.declared.Sizes.{Sizes}
 use Rattle.layout.specs.declared.Region.{Region}
-use Rattle.layout.specs.View.{View, renew, put, copy}
+use Rattle.words.specs.Words.{words}
+use Rattle.words.proofs.Words.{length-words}
+use Rattle.layout.specs.View.{View, renew, put, copy, viewOf, Suffices}
+use Rattle.layout.proofs.View.{view-long}
 use Rattle.terms.specs.Places.{firstIndex}
 use Rattle.model.specs.Stored.{recordIn, valueIn, pageIn, currentIn, chunksOf, pagesOf, within, freePage, firstFrom, nextWord}
 use Rattle.layout.specs.Regions.{mergesAt, slot}
 use Rattle.model.specs.Writing.{applies, applied, newestOf, namedIn, strayIn, freeIn, mergedIn}
 use Rattle.model.proofs.Free.{free-unnamed}
+use Rattle.history.specs.History.{bit}
 use Rattle.history.proofs.Lists.{both, eqb-equal}
 use Rattle.rows.proofs.Indices.{chunk-in}
 use Rattle.layout.specs.Sizes.{Proper}
 use Rattle.model.specs.Asked.{shapeIn}
 use Rattle.loops.specs.Search.{foundAt}
-use Rattle.loops.proofs.Places.{find-place}
+use Rattle.loops.proofs.Places.{find-index}
 use Rattle.layout.proofs.Renewed.{renew-none, renew-again, put-renew}
 use Rattle.merging.specs.Steps.{appliedOne, laterOne, appliedAll, pagePut, pageReplaced, Mergeable}
 
@@ -87,24 +91,31 @@ pub pass-end : (S : Shape) (g c p low stamp : ℕ) (v x : View) (r i n : ℕ) �
 pass-end S g c p low stamp v x r i n e q h m = let z : i ≡ n = omega arith in (q ∙ rw z, e ∙ rw z)
 
 -- ---- one record: it applies or not
-module _ (k c : ℕ) (v : View) where
-  pub one-applied : (S : Shape) (p : ℕ) → applies c (recordIn v k) ≡ true
-      → appliedOne S k c p v ≡ put Region.Cells (p * rangeRows + getD (v Region.TailRow) k 0 % rangeRows) (getD (v Region.TailValues) (k * S .columns + c) 0) v
-  unfolding appliedOne recordIn valueIn
-  one-applied S p e = rw e
+module _ (S : Shape) (v : View) (k c p stamp : ℕ) (b : Bool) (e : b ≡ applies c (recordIn v k)) where
+  pub one-applied : (at row w r : ℕ) (x : View) → b ≡ true → at ≡ getD (v Region.TailStamp) k 0 → row ≡ getD (v Region.TailRow) k 0
+      → w ≡ getD (v Region.TailValues) (k * S .columns + c) 0 → r ≡ cond (ltb stamp at) at stamp
+      → x ≡ put Region.Cells (p * rangeRows + row % rangeRows) w v → (r ≡ laterOne k c v stamp) × (x ≡ appliedOne S k c p v)
+  unfolding laterOne appliedOne recordIn valueIn
+  one-applied at row w r x t a i u q f = (q ∙ rw (a, sym e ∙ t), f ∙ rw (i, u, sym e ∙ t))
 
-  pub one-later : (stamp : ℕ) → applies c (recordIn v k) ≡ true
-      → laterOne k c v stamp ≡ cond (ltb stamp (getD (v Region.TailStamp) k 0)) (getD (v Region.TailStamp) k 0) stamp
-  unfolding laterOne recordIn
-  one-later stamp e = rw e
+  pub one-skipped : b ≡ false → (stamp ≡ laterOne k c v stamp) × (v ≡ appliedOne S k c p v)
+  unfolding laterOne appliedOne
+  one-skipped f = (rw (sym e ∙ f), rw (sym e ∙ f))
 
-  pub one-skipped : (S : Shape) (p : ℕ) → applies c (recordIn v k) ≡ false → v ≡ appliedOne S k c p v
-  unfolding appliedOne
-  one-skipped S p e = rw e
+-- a record's words tell whether it applies
+module _ (v : View) (k c mask : ℕ) (has : Bool) (e : mask ≡ getD (v Region.TailMask) k 0) (b : has ≡ bit mask c) where
+  pub applies-not : has ≡ false → false ≡ applies c (recordIn v k)
+  unfolding applies recordIn
+  applies-not f = rw (← e, ← b, f)
 
-  pub one-kept : (stamp : ℕ) → applies c (recordIn v k) ≡ false → stamp ≡ laterOne k c v stamp
-  unfolding laterOne
-  one-kept stamp e = rw e
+  module _ (kind : ℕ) (t : has ≡ true) (q : kind ≡ getD (v Region.TailKind) k 0) where
+    pub applies-other : (kind ≡ 1 → ⊥) → false ≡ applies c (recordIn v k)
+    unfolding applies recordIn
+    applies-other n = rw (← e, ← b, t, ← q, ne-eqb kind 1 n)
+
+    pub applies-committed : (state : ℕ) → kind ≡ 1 → state ≡ getD (v Region.TailState) k 0 → eqb state 1 ≡ applies c (recordIn v k)
+    unfolding applies recordIn
+    applies-committed state o w = rw (← e, ← b, t, ← q, eq-eqb kind 1 o, ← w)
 
 -- ---- over a copy of a page
 copy-here : (S : Shape) (g c p low n : ℕ) (v : View) (l : List ℕ)
@@ -154,31 +165,34 @@ first-list key l n e = ap (λ (k : ℕ). firstFrom (λ p. eqb (getD l p 0) key) 
     count (x ∷ l) =
         rw (shifted (λ p. eqb (getD (x ∷ l) p 0) key) (λ p. eqb (getD l p 0) key) (λ p. refl) (length l) 0, count l)
 
-free-first : (s : Sizes) (v : View) → length (v Region.PageState) ≡ s .pages
-    → firstAt 0 0 (region (v Region.PageState) 0 (s .pages)) ≡ foundAt (s .pages) (firstFrom (λ p. freePage ((pageIn v p) .state)) (s .pages) 0)
-unfolding pageIn
-free-first s v l = find-place 0 (v Region.PageState) (s .pages) l ∙ ap (foundAt (s .pages)) (sym (first-list 0 (v Region.PageState) (s .pages) l))
-
-module _ (s : Sizes) (v : View) (p : Proper s) (long : length (v Region.PageState) ≡ s .pages) where
+module _ (s : Sizes) (m : List ℕ) (room : Suffices s m) (proper : Proper s) (f : Found) (e : f ≡ firstAt 0 0 (region (viewOf s m Region.PageState) 0 (s .pages))) where
+  -- the first page that says it is free, and the first stray one
   abbrev first : ℕ
-  first = firstFrom (λ p. freePage ((pageIn v p) .state)) (s .pages) 0
+  first = firstFrom (λ p. freePage ((pageIn (viewOf s m) p) .state)) (s .pages) 0
 
   abbrev second : ℕ
-  second = firstFrom (strayIn (shapeIn s) v) (s .pages) 0
+  second = firstFrom (strayIn (shapeIn s) (viewOf s m)) (s .pages) 0
 
-  free-both : freeIn (shapeIn s) v ≡ cond (ltb first (s .pages)) first second
+  free-first : f ≡ foundAt (s .pages) first
+  unfolding pageIn
+  free-first =
+      let states = viewOf s m Region.PageState in
+      let long : length states ≡ s .pages = view-long s (words m) (omega (arith, length-words m)) Region.PageState in
+      e ∙ find-index 0 states (s .pages) long ∙ ap (foundAt (s .pages)) (sym (first-list 0 states (s .pages) long))
+
+  free-both : freeIn (shapeIn s) (viewOf s m) ≡ cond (ltb first (s .pages)) first second
   unfolding freeIn
-  free-both = let q : s .pages ≡ pagesOf (shapeIn s) = omega (arith, p .pages-are, p .chunks-are) in rw q
+  free-both = let q : s .pages ≡ pagesOf (shapeIn s) = omega (arith, proper .pages-are, proper .chunks-are) in rw q
 
-  pub free-here : (j : ℕ) → firstAt 0 0 (region (v Region.PageState) 0 (s .pages)) ≡ Found.At j → Found.At j ≡ foundAt (s .pages) (freeIn (shapeIn s) v)
-  free-here j e = rw free-both (go (ltb first (s .pages)) refl (sym (free-first s v long) ∙ e))
+  pub free-here : (j : ℕ) → f ≡ Found.At j → Found.At j ≡ foundAt (s .pages) (freeIn (shapeIn s) (viewOf s m))
+  free-here j q = rw free-both (go (ltb first (s .pages)) refl (sym free-first ∙ q))
     where
       go : (b : Bool) → ltb first (s .pages) ≡ b → cond b (Found.At first) Found.Nothing ≡ Found.At j → Found.At j ≡ foundAt (s .pages) (cond b first second)
       go true q f = rw q (sym f)
       go false q f = let z : _≡_ {A = ℕ} 0 1 = cc in absurd (omega arith)
 
-  pub free-stray : (r : Found) → firstAt 0 0 (region (v Region.PageState) 0 (s .pages)) ≡ Found.Nothing → r ≡ foundAt (s .pages) second → r ≡ foundAt (s .pages) (freeIn (shapeIn s) v)
-  free-stray r e h = h ∙ rw free-both (go (ltb first (s .pages)) (sym (free-first s v long) ∙ e))
+  pub free-stray : (r : Found) → f ≡ Found.Nothing → r ≡ foundAt (s .pages) second → r ≡ foundAt (s .pages) (freeIn (shapeIn s) (viewOf s m))
+  free-stray r q h = h ∙ rw free-both (go (ltb first (s .pages)) (sym free-first ∙ q))
     where
       go : (b : Bool) → cond b (Found.At first) Found.Nothing ≡ Found.Nothing → foundAt (s .pages) second ≡ foundAt (s .pages) (cond b first second)
       go true f = let z : _≡_ {A = ℕ} 0 1 = cc in absurd (omega arith)
@@ -199,19 +213,19 @@ pub stray-none : (f : ℕ → Bool) (n p x : ℕ) → x ≡ firstFrom f (n - p) 
 stray-none f n p x e h k = let z : n - p ≡ 0 = omega arith in let y : x ≡ p = e ∙ rw z in rw (y, le-ltb p n k)
 
 -- a page's words tell whether it is stray
-module _ (S : Shape) (v : View) (p state : ℕ) (e : state ≡ getD (v Region.PageState) p 0) where
-  pub stray-not : (state ≡ 1 → ⊥) → false ≡ strayIn S v p
+module _ (s : Sizes) (v : View) (proper : Proper s) (p state : ℕ) (e : state ≡ getD (v Region.PageState) p 0) where
+  pub stray-not : (state ≡ 1 → ⊥) → false ≡ strayIn (shapeIn s) v p
   unfolding strayIn pageIn
   stray-not n = rw (← e, ne-eqb state 1 n)
 
   module _ (s1 : state ≡ 1) (at : ℕ) (w : at ≡ getD (v Region.PageChunk) p 0) where
-    pub stray-high : chunksOf S ≤ at → true ≡ strayIn S v p
+    pub stray-high : s .chunks ≤ at → true ≡ strayIn (shapeIn s) v p
     unfolding strayIn namedIn pageIn
-    stray-high h = rw (← e, eq-eqb state 1 s1, ← w, le-ltb at (chunksOf S) h)
+    stray-high h = rw (← e, eq-eqb state 1 s1, ← w, le-ltb at (chunksOf (shapeIn s)) (omega (arith, proper .chunks-are)))
 
-    pub stray-other : (page : ℕ) → at < chunksOf S → page ≡ getD (v Region.Current) at 0 → not (eqb page p) ≡ strayIn S v p
+    pub stray-other : (page : ℕ) → at < s .chunks → page ≡ getD (v Region.Current) at 0 → not (eqb page p) ≡ strayIn (shapeIn s) v p
     unfolding strayIn namedIn pageIn
-    stray-other page h q = rw (← e, eq-eqb state 1 s1, ← w, lt-ltb at (chunksOf S) h, ← q)
+    stray-other page h q = rw (← e, eq-eqb state 1 s1, ← w, lt-ltb at (chunksOf (shapeIn s)) (omega (arith, proper .chunks-are)), ← q)
 
 -- ---- the whole merge, as the code has it: a copy of page `old` takes the records after `low`, and is put in its place
 pub merged-is : (S : Shape) (g c n p old low newest m latest : ℕ) (v x y z w : View) → p ≡ freeIn S v → old ≡ getD (v Region.Current) (g * S .columns + c) 0
@@ -222,7 +236,7 @@ unfolding mergedIn pageReplaced pagePut pageIn currentIn
 merged-is S g c n p old low newest m latest v x y z w e f h k l q r t u s =
     rw (s, u, t ∙ merged-cells S g c old p low (n - low) v x q, r ∙ merged-newest S g c old p low (n - low) newest v x q, l, k, h, f, ← e)
 
--- the current page is not the free one: its place names it
+-- the current page is not the free one: its chunk names it
 pub not-free : (s : Sizes) (v : View) (g c n p old : ℕ) → Proper s → Mergeable s v g c n p → old ≡ getD (v Region.Current) (g * s .columns + c) 0
     → old ≡ p → ⊥
 unfolding namedIn

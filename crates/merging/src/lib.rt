@@ -9,6 +9,8 @@ use layout::codes::PAGE_FREE;
 use layout::codes::PAGE_WAITING;
 use layout::codes::SETTING;
 use loops::Found;
+use loops::both;
+use loops::choose;
 use regions::copy_in;
 use regions::find_in;
 use regions::read;
@@ -23,7 +25,7 @@ use terms::limits::MOST_SCANS;
 use terms::limits::RANGE_ROWS;
 use transactions::pending::next_word;
 ghost use mathlib.Core.Path.{_≡_};
-ghost use mathlib.Core.Bool.{_&&_, not, cond};
+ghost use mathlib.Core.Bool.{cond};
 ghost use mathlib.Core.List.{List};
 ghost use Prim.Native.Nat.{_+_, _*_, _≤_, _<_};
 ghost use lib.Dec.{ltb};
@@ -33,7 +35,7 @@ ghost use Rattle.terms.specs.Measures.{mostScans};
 ghost use Rattle.layout.specs.declared.Region.{Region};
 ghost use Rattle.terms.specs.declared.ScanEntry.{ScanEntry};
 ghost use Rattle.layout.specs.View.{put, viewOf, Suffices};
-ghost use Rattle.model.specs.Stored.{recordIn, pagesOf, countBelow, firstFrom, waitingPage};
+ghost use Rattle.model.specs.Stored.{recordIn, pagesOf, countBelow, firstFrom};
 ghost use Rattle.model.specs.Writing.{applies, newestOf, strayIn, freeIn, mergedIn, releasable, releasedIn};
 ghost use Rattle.scans.specs.Places.{openCount};
 ghost use Rattle.scans.specs.Table.{tableOf};
@@ -107,7 +109,7 @@ fn is_applied(mem: &[u8], s: Sizes, slot: usize, c: u32) -> bool
 fn later(a: Stamp, b: Stamp) -> Stamp
     ensures { λ r. ⌜ r .0 ≡ cond (ltb (a .0) (b .0)) (b .0) (a .0) ⌝ }
 {
-    if a.0 < b.0 { b } else { a }
+    Stamp(choose(a.0 < b.0, b.0, a.0))
 }
 
 // The record at a slot goes into a page, if it is a committed setting of column c; the answer is the latest stamp with it.
@@ -215,43 +217,11 @@ fn least(entries: [u32; MOST_SCANS], n: usize) -> u32
     let mut r = 0xffff_ffff;
     let mut i = 0;
     while i < n {
-        r = lesser(entries[i], r);
+        let entry = entries[i];
+        r = choose(entry < r, entry, r);
         i += 1;
     }
     r
-}
-
-// The lesser of two numbers.
-fn lesser(a: u32, b: u32) -> u32
-    ensures { λ r. ⌜ r ≡ cond (ltb a b) a b ⌝ }
-{
-    if a < b { a } else { b }
-}
-
-// Whether a page waits that no scan needs.
-fn is_freeable(state: u32, replaced: u32, least: u32) -> bool
-    ensures { λ r. ⌜ r ≡ (waitingPage state && not (ltb least replaced)) ⌝ }
-{
-    if state > PAGE_CURRENT {
-        replaced <= least
-    } else {
-        false
-    }
-}
-
-// The state of a page that is freed or not.
-fn state_after(freed: bool, state: u32) -> u32
-    ensures { λ r. ⌜ r ≡ cond freed asFree state ⌝ }
-{
-    if freed { PAGE_FREE } else { state }
-}
-
-// One more where a page is freed.
-fn count_after(freed: bool, n: u32) -> u32
-    requires { ⌜ n < 4294967295 ⌝ }
-    ensures { λ r. ⌜ r ≡ cond freed (n + 1) n ⌝ }
-{
-    if freed { n + 1 } else { n }
 }
 
 // A page is freed if it waits and no scan needs it; the answer is the count with it. Each turn stores, so that there is no branch.
@@ -261,9 +231,16 @@ fn free_one(mem: &mut [u8], s: Sizes, least: u32, p: usize, n: u32) -> u32
     ensures { λ r. ⌜ (r ≡ cond (freeable least (viewOf s (now (mem .entry))) p) (n + 1) n) × (viewOf s (now (mem .exit)) ≡ put Region.PageState p (cond (freeable least (viewOf s (now (mem .entry))) p) asFree (getD (viewOf s (now (mem .entry)) Region.PageState) p 0)) (viewOf s (now (mem .entry)))) ⌝ }
 {
     let state = read(mem, s, Region::PageState, p);
-    let freed = is_freeable(state, read(mem, s, Region::PageReplaced, p), least);
-    write(mem, s, Region::PageState, p, state_after(freed, state));
-    count_after(freed, n)
+    let replaced = read(mem, s, Region::PageReplaced, p);
+    let freed = both(state > PAGE_CURRENT, !(least < replaced));
+    write(
+        mem,
+        s,
+        Region::PageState,
+        p,
+        choose(freed, PAGE_FREE, state),
+    );
+    choose(freed, n + 1, n)
 }
 
 // Every waiting page that no scan needs is freed; the answer is how many.

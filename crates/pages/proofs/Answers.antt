@@ -1,19 +1,22 @@
 -- The answers of `measure` and of `check`, test by test.
-use Prim.Native.Nat.{ℕ, _*_, _≤_, _<_}
-use mathlib.Core.Path.{_≡_, refl, ap}
-use mathlib.Core.Bool.{Bool, true, false, cond, _&&_, and-assoc}
+use Prim.Native.Nat.{ℕ, _*_, _^_, _≤_, _<_}
+use mathlib.Core.Path.{_≡_, refl, ap, sym, _∙_}
+use mir.Syntax.{w64}
+use mir.Val.{Fits}
+use mathlib.Core.Bool.{Bool, true, false, not, cond, _&&_, and-assoc}
 use mathlib.Core.List.{List}
 use native.Mathlib.Omega.{arith}
 use lib.Dec.{leb}
 use lib.ListN.{length, getD}
-use borrow.Author.Tests.{leb-true, le-leb, lt-leb}
+use borrow.Author.Tests.{leb-true, le-leb, lt-leb, not-true, not-false}
 use Rattle.terms.specs.Measures.{withinLimits, mostScans}
 use Rattle.terms.specs.declared.ScanEntry.{ScanEntry}
 use Rattle.words.specs.Words.{words}
 use Rattle.loops.proofs.Search.{and-true}
 use Rattle.layout.specs.declared.Sizes.{Sizes}
 use Rattle.layout.specs.Regions.{need, columnsAt, rangesAt, capacityAt, sparesAt}
-use Rattle.layout.specs.Sizes.{shapeOf}
+use Rattle.layout.specs.Sizes.{shapeOf, sizesOf}
+use Rattle.layout.proofs.Limits.{need-small}
 use Rattle.layout.specs.View.{viewOf, Suffices}
 use Rattle.facts.specs.Facts.{factsHold}
 use Rattle.facts.specs.Usable.{measuresBytes, storedShape, storedSizes, usable}
@@ -21,29 +24,45 @@ use Rattle.pages.specs.declared.check.Checked.the-variants.{Fit, Unfit}
 use Rattle.pages.specs.Checked.{roomy, measured, checked}
 
 -- ---- the measures
-module _ (m : List ℕ) where
-  pub shape-stored : (a b c d : ℕ) → a ≡ getD (words m) columnsAt 0 → b ≡ getD (words m) rangesAt 0 → c ≡ getD (words m) capacityAt 0 → d ≡ getD (words m) sparesAt 0
-      → shapeOf a b c d ≡ storedShape (words m)
+pub too-short : (m : List ℕ) → length m < measuresBytes → Unfit ≡ measured m
+unfolding measured roomy
+too-short m h = rw (lt-leb measuresBytes (length m) h)
+
+-- a to d were read as the measures, and tested
+module _ (m : List ℕ) (a b c d : ℕ) (ea : a ≡ getD (words m) columnsAt 0) (eb : b ≡ getD (words m) rangesAt 0) (ec : c ≡ getD (words m) capacityAt 0) (ed : d ≡ getD (words m) sparesAt 0)
+    (ok : Bool) (w : ok ≡ withinLimits (shapeOf a b c d)) where
+  shape-read : shapeOf a b c d ≡ storedShape (words m)
   unfolding storedShape
-  shape-stored a b c d e f g h = rw (e, f, g, h)
+  shape-read = rw (ea, eb, ec, ed)
 
-  pub too-short : length m < measuresBytes → Unfit ≡ measured m
+  pub out-of-limits : measuresBytes ≤ length m → not ok ≡ true → Unfit ≡ measured m
   unfolding measured roomy
-  too-short h = rw (lt-leb measuresBytes (length m) h)
+  out-of-limits h t = rw (le-leb measuresBytes (length m) h, ← shape-read, ← w, not-true ok t)
 
-  module _ (h : measuresBytes ≤ length m) where
-    pub out-of-limits : withinLimits (storedShape (words m)) ≡ false → Unfit ≡ measured m
-    unfolding measured roomy
-    out-of-limits l = rw (le-leb measuresBytes (length m) h, l)
+  module _ (t : not ok ≡ false) where
+    pub within-limits : withinLimits (shapeOf a b c d) ≡ true
+    within-limits = sym w ∙ not-false ok t
 
-    module _ (l : withinLimits (storedShape (words m)) ≡ true) where
-      pub no-room : length m < need (storedSizes (words m)) * 4 → Unfit ≡ measured m
-      unfolding measured roomy
-      no-room n = rw (le-leb measuresBytes (length m) h, l, lt-leb (need (storedSizes (words m)) * 4) (length m) n)
+    module _ (s : Sizes) (z : s ≡ sizesOf (shapeOf a b c d)) where
+      sizes-read : s ≡ storedSizes (words m)
+      unfolding storedSizes
+      sizes-read = z ∙ ap sizesOf shape-read
 
-      pub fit : (s : Sizes) → s ≡ storedSizes (words m) → Suffices (storedSizes (words m)) m → Fit s ≡ measured m
-      unfolding measured roomy
-      fit s e n = rw (le-leb measuresBytes (length m) h, l, le-leb (need (storedSizes (words m)) * 4) (length m) n) (ap Fit e)
+      -- the words needed, and their bytes, are few
+      pub words-few : need s < 2 ^ 62
+      words-few = rw z (omega (arith, need-small (shapeOf a b c d) within-limits))
+
+      module _ (n : ℕ) (e : n ≡ need s) where
+        pub bytes-few : Fits w64 (n * 4)
+        bytes-few = record { fits = rw (e, z) (omega (arith, need-small (shapeOf a b c d) within-limits)) }
+
+        pub no-room : measuresBytes ≤ length m → length m < n * 4 → Unfit ≡ measured m
+        unfolding measured roomy
+        no-room h k = rw (le-leb measuresBytes (length m) h, ← shape-read, ← w, not-false ok t, ← sizes-read, ← e, lt-leb (n * 4) (length m) k)
+
+        pub fit : measuresBytes ≤ length m → n * 4 ≤ length m → Fit s ≡ measured m
+        unfolding measured roomy
+        fit h k = rw (le-leb measuresBytes (length m) h, ← shape-read, ← w, not-false ok t, ← sizes-read, ← e, le-leb (n * 4) (length m) k)
 
 -- ---- the scan list and the facts
 -- what is known of a memory whose measures passed
@@ -87,9 +106,9 @@ module _ (m : List ℕ) (ps : List ScanEntry) where
   unmeasured e = rw (usable-is m ps, is-unfit m e)
 
   module _ (s : Sizes) (e : measured m ≡ Fit s) where
-    pub few-chunks : length ps < mostScans → Unfit ≡ checked m ps
+    pub few-entries : length ps < mostScans → Unfit ≡ checked m ps
     unfolding checked
-    few-chunks k = rw (usable-is m ps, is-fit m s e .0, lt-leb mostScans (length ps) k)
+    few-entries k = rw (usable-is m ps, is-fit m s e .0, lt-leb mostScans (length ps) k)
 
     pub by-facts : mostScans ≤ length ps → checked m ps ≡ cond (factsHold s (viewOf s m) ps) (Fit s) Unfit
     unfolding checked

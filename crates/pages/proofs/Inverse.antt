@@ -1,4 +1,4 @@
--- A place divided by the columns: multiplied by an inverse and shifted. There are few columns and places, so it is computed for each.
+-- A chunk divided by the columns: multiplied by an inverse and shifted. There are few columns and chunks, so it is computed for each.
 use Prim.Native.Nat.{ℕ, zero, suc, _+_, _*_, _/_, _≤_, _<_}
 use mathlib.Core.Path.{_≡_, refl}
 use mathlib.Core.Bool.{Bool, true}

@@ -1,7 +1,6 @@
 // The test that every call on a store makes first: whether the lent memory and the table of open scans are usable. The lengths and measures are tested
 // first, then the counts: from there on each access lies within the memory. Then it looks at given rows, used tail records and the pages, once each.
 use super::pages_hold;
-use facts::both;
 use facts::counts_within;
 use facts::opens_hold;
 use facts::scans_hold;
@@ -13,6 +12,7 @@ use layout::Sizes;
 use layout::sizes_of;
 use layout::within_limits;
 use layout::words_needed;
+use loops::both;
 use records::ranges_hold;
 use records::rows_hold;
 use scans::Scans;

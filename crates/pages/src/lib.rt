@@ -1,30 +1,23 @@
 // The test of the stored facts of the current and the waiting pages, and with it that of all stored facts (check.rt).
 pub mod check;
 
-use facts::both;
 use layout::HEADER_MERGES;
 use layout::HEADER_STAMP;
 use layout::Region;
 use layout::Sizes;
 use layout::codes::PAGE_CURRENT;
 use layout::codes::PAGE_WAITING;
+use loops::both;
+use loops::either;
 use regions::between_in;
 use regions::read;
 ghost use mathlib.Core.Path.{_≡_};
-ghost use mathlib.Core.Bool.{_||_};
 ghost use Prim.Native.Nat.{ℕ, _+_, _/_, _%_, _≤_, _<_};
 ghost use Rattle.terms.specs.Measures.{mostColumns, mostChunks};
 ghost use Rattle.layout.specs.Regions.{len};
 ghost use Rattle.layout.specs.View.{lastStamp, viewOf};
 ghost use Rattle.facts.specs.Facts.{each, waitingAtMost, waitingLineage};
 ghost use Rattle.facts.specs.Tests.{Ready, currentHolds, waitingHold, pagesHold};
-
-// One of two flags at least, with no way out early.
-fn either(a: bool, b: bool) -> bool
-    ensures { λ r. ⌜ r ≡ (a || b) ⌝ }
-{
-    if a { true } else { b }
-}
 
 // What a chunk is multiplied by in place of a division by the columns, and shifted by 16 bits.
 fn inverse_of(columns: usize) -> u32
@@ -104,11 +97,11 @@ fn all_waiting_at_most(mem: &[u8], s: Sizes, k: Region, most: u32) -> bool
 }
 
 // A word modulo the chunks. A division only where it is needed: a chunk that the store has written is below them.
-fn modulo_chunks(word: u32, places: u32) -> u32
-    requires { ⌜ 1 ≤ places ⌝ }
-    ensures { λ r. ⌜ (r ≡ word % places) × (r < places) ⌝ }
+fn modulo_chunks(word: u32, chunks: u32) -> u32
+    requires { ⌜ 1 ≤ chunks ⌝ }
+    ensures { λ r. ⌜ (r ≡ word % chunks) × (r < chunks) ⌝ }
 {
-    if word < places { word } else { word % places }
+    if word < chunks { word } else { word % chunks }
 }
 
 fn waiting_lineage(mem: &[u8], s: Sizes, inverse: u32, p: usize) -> bool

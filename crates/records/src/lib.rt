@@ -1,11 +1,11 @@
 // The test of the stored facts of the given rows and the used tail records: what a record names, the numbers, the stamps, the links. It looks at each word
 // once, and carries its flags to the end.
-use facts::both;
 use layout::HEADER_ROWS;
 use layout::HEADER_STAMP;
 use layout::HEADER_TRANSACTIONS;
 use layout::Region;
 use layout::Sizes;
+use loops::both;
 use regions::between_in;
 use regions::read;
 use terms::Row;

@@ -1,4 +1,4 @@
-// Access to the memory by region: a word, or a stretch, n words from a place of the region. Each function is proved once, for every region.
+// Access to the memory by region: a word, or a stretch, n words from an index on. Each function is proved once, for every region.
 // A stretch and not the whole region, since the rows given and the records used bound what a call has to look at.
 use layout::Region;
 use layout::Sizes;
@@ -47,7 +47,7 @@ pub fn between_in(mem: &[u8], s: Sizes, k: Region, at: usize, n: usize, low: u32
     all_between(mem, base(s, k) + at, n, low, high)
 }
 
-// The first place of key among n words of region k from `at` on, counted from `at`.
+// The first index of key among n words of region k from `at` on, counted from `at`.
 pub fn find_in(mem: &[u8], s: Sizes, k: Region, at: usize, n: usize, key: u32) -> Found
     requires { ⌜ Suffices s (now mem) ⌝ }
     requires { ⌜ at + n ≤ len s k ⌝ }
@@ -85,7 +85,7 @@ pub fn copy_in(mem: &mut [u8], s: Sizes, k: Region, from: usize, n: usize, to: u
     copy(mem, b + from, n, b + to);
 }
 
-// v in region k, for n places from `at` on, wherever region keys has key.
+// v in region k, for n words from `at` on, wherever region keys has key.
 pub fn mark_in(
     mem: &mut [u8],
     s: Sizes,

@@ -12,7 +12,7 @@ use Rattle.history.specs.History.{rangeOf}
 use Rattle.layout.specs.Sizes.{Proper}
 use Rattle.model.specs.Asked.{Linked}
 
--- place i of block p, of blocks of one size
+-- index i of block p, of blocks of one size
 pub block-in : (p i blocks size : ℕ) → p < blocks → i < size → p * size + i < blocks * size
 block-in p i blocks size h l = omega (arith, mul-le-mul-right size h, suc-mul p size)
 
@@ -46,7 +46,7 @@ module _ (s : Sizes) (proper : Proper s) where
   unfolding rangeOf
   range-in r h = omega (arith, proper .rows-are)
 
-  -- a given row: its place, its range, and its newest record
+  -- a given row: its index, its range, and its newest record
   pub row-in : (v : View) → Linked s v → (r : ℕ) → r < rowsGiven v
       → (r < s .rows) × (rangeOf r < s .ranges) × (getD (v RowLink) r 0 ≤ usedIn v (rangeOf r)) × (usedIn v (rangeOf r) ≤ s .capacity)
   row-in v linked r h =

@@ -14,7 +14,7 @@ unfoldable pub headAt : Shape → View → ℕ → Found
 headAt S v r = cond (hasRecord v r) (Found.At (slot S (rangeOf r) ((rowIn v r) .link))) Found.Nothing
 
 -- ---- what a caller may do with an answer without looking into its definition
--- a place that was found is below n
+-- an index that was found is below n
 abbrev pub Inside : Found → ℕ → Type 0
 Inside (Found.At i) n = i < n
 Inside Found.Nothing n = Unit {0}

@@ -1,3 +1,3 @@
--- What a commit or an abort marks, word by word, and whose number a place of the open transactions has.
+-- What a commit or an abort marks, word by word, and whose number an open entry has.
 pub mod Tails
 pub mod Number

@@ -1,4 +1,4 @@
--- The number in the place of an open transaction is the transaction's own.
+-- The number in the entry of an open transaction is the transaction's own.
 use Prim.Native.Nat.{ℕ, suc, _<_}
 use mathlib.Core.Path.{_≡_, refl}
 use mathlib.Core.Bool.{Bool, true, false, not, cond, _&&_}

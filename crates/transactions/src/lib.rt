@@ -31,7 +31,7 @@ ghost use Rattle.layout.specs.declared.Region.{Region};
 ghost use Rattle.layout.specs.Regions.{index, len};
 ghost use Rattle.layout.specs.View.{transactionsGiven, usedIn, viewOf, Suffices};
 ghost use Rattle.terms.specs.Places.{firstIndex};
-ghost use Rattle.model.specs.Writing.{begun, settled, committedIn, abortedIn};
+ghost use Rattle.model.specs.Writing.{begun, settled, committedIn, abortedIn, freed};
 ghost use Rattle.layout.specs.Sizes.{Proper};
 ghost use Rattle.model.specs.Asked.{shapeIn, Counted, FreeAt, OpenAt};
 ghost use Rattle.transactions.specs.Steps.{notedAt, tailMarked, tailsMarked};
@@ -131,27 +131,35 @@ fn settle(mem: &mut [u8], s: Sizes, t: Transaction, state: u32, stamp: Stamp)
     mark_tails(mem, s, t, Region::TailStamp, stamp.0);
 }
 
-// The open transaction at an index is handed back: what it has written is committed at a stamp, and its entry is free.
+// The open transaction at an index is handed back: what it has written gets a state and a stamp, and its entry is free.
+fn end_open(mem: &mut [u8], s: Sizes, at: usize, state: u32, stamp: Stamp)
+    requires { ⌜ Suffices s (now mem) ⌝ }
+    requires { ⌜ Proper s ⌝ }
+    requires { ⌜ Counted s (viewOf s (now mem)) × (at < mostTransactions) ⌝ }
+    ensures { λ _. ⌜ ((t : ℕ) → OpenAt (viewOf s (now (mem .entry))) t at → viewOf s (now (mem .exit)) ≡ freed t (settled (shapeIn s) t state (stamp .0) (viewOf s (now (mem .entry))))) ⌝ }
+{
+    let t = pending_at(mem, s, at).hand_back();
+    settle(mem, s, t, state, stamp);
+    keep(mem, s, at, free_record());
+}
+
+// It ends, and what it has written is committed at a stamp.
 pub fn commit(mem: &mut [u8], s: Sizes, at: usize, stamp: Stamp)
     requires { ⌜ Suffices s (now mem) ⌝ }
     requires { ⌜ Proper s ⌝ }
     requires { ⌜ Counted s (viewOf s (now mem)) × (at < mostTransactions) ⌝ }
     ensures { λ _. ⌜ ((t : ℕ) → OpenAt (viewOf s (now (mem .entry))) t at → viewOf s (now (mem .exit)) ≡ committedIn (shapeIn s) t (stamp .0) (viewOf s (now (mem .entry)))) ⌝ }
 {
-    let t = pending_at(mem, s, at).hand_back();
-    settle(mem, s, t, COMMITTED, stamp);
-    keep(mem, s, at, free_record());
+    end_open(mem, s, at, COMMITTED, stamp);
     write(mem, s, Region::Header, HEADER_STAMP, stamp.0);
 }
 
-// It is handed back: what it has written is aborted, and its entry is free.
+// It ends, and what it has written is aborted.
 pub fn abort(mem: &mut [u8], s: Sizes, at: usize)
     requires { ⌜ Suffices s (now mem) ⌝ }
     requires { ⌜ Proper s ⌝ }
     requires { ⌜ Counted s (viewOf s (now mem)) × (at < mostTransactions) ⌝ }
     ensures { λ _. ⌜ ((t : ℕ) → OpenAt (viewOf s (now (mem .entry))) t at → viewOf s (now (mem .exit)) ≡ abortedIn (shapeIn s) t (viewOf s (now (mem .entry)))) ⌝ }
 {
-    let t = pending_at(mem, s, at).hand_back();
-    settle(mem, s, t, ABORTED, Stamp(0));
-    keep(mem, s, at, free_record());
+    end_open(mem, s, at, ABORTED, Stamp(0));
 }

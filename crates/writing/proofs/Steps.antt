@@ -35,7 +35,7 @@ use Rattle.layout.proofs.Renewed.{renew-none, turn-put, change-none, change-nex
 use Rattle.layout.proofs.Indices.{range-in}
 use Rattle.writing.specs.Steps.{rowPut, cellsPut, recordPut, cellWords, newestFilled, originalPut, recordsPut, Room, Newest}
 
--- a note at the place of t, after a step that left the open transactions as they were
+-- a note at the entry of t, after a step that left the open transactions as they were
 noted-at : (v w : View) (t j : ℕ) → OpenAt v t j → w Region.Opens ≡ v Region.Opens → notedAt j w ≡ noted t w
 unfolding notedAt noted openIndex
 noted-at v w t j o e = rw (e, ← o .found)
@@ -66,14 +66,10 @@ module _ (S : Shape) (g i : ℕ) (vs : List ℤ) (v : View) where
   cells-all x c e h m = let q : c ≡ S .columns = omega arith in e ∙ rw q
 
 -- ---- an appended record is the newest of its range
-pub appended-used : (S : Shape) (t r kind mask : ℕ) (v : View) → rangeOf r < length (v Region.Used)
-    → usedIn (appended S t r kind mask v) (rangeOf r) ≡ usedIn v (rangeOf r) + 1
-unfolding appended put renew
-appended-used S t r kind mask v h = getD-set-same (v Region.Used) (rangeOf r) _ 0 h
-
--- the count of records of each range is there
-pub used-long : (s : Sizes) (m : List ℕ) → Suffices s m → length (viewOf s m Region.Used) ≡ s .ranges
-used-long s m h = view-long s (words m) (omega (arith, length-words m)) Region.Used
+appended-used : (S : Shape) (t r kind mask : ℕ) (v : View) → r / rangeRows < length (v Region.Used)
+    → usedIn (appended S t r kind mask v) (r / rangeRows) ≡ usedIn v (r / rangeRows) + 1
+unfolding appended rangeOf put renew
+appended-used S t r kind mask v h = getD-set-same (v Region.Used) (r / rangeRows) _ 0 h
 
 -- the words that are put, one after the other
 pub appended-is : (S : Shape) (t r kind mask u link : ℕ) (v x y z : View) → u ≡ getD (v Region.Used) (r / rangeRows) 0 → link ≡ getD (v Region.RowLink) r 0
@@ -84,36 +80,38 @@ appended-is S t r kind mask u link v x y z e f a b c =
     let q : getD (v Region.Used) (r / rangeRows) 0 + 1 - 1 ≡ getD (v Region.Used) (r / rangeRows) 0 = omega arith in
     rw (c, b, a, f, e, q)
 
-pub appended-newest : (s : Sizes) (t r kind mask : ℕ) (v : View) → Proper s → Room s v r 1 → length (v Region.Used) ≡ s .ranges
-    → Newest s (appended (shapeIn s) t r kind mask v) (r / rangeRows)
-unfolding rangeOf
-appended-newest s t r kind mask v p o l =
-    let g : r / rangeRows < s .ranges = range-in s p r (o .row-below) in
-    let e = appended-used (shapeIn s) t r kind mask v (omega arith) in
-    record { range-below = g; some = omega (arith, e); most = omega (arith, e, o .left) }
+-- row r's range is one whose records are counted
+range-counted : (s : Sizes) (m : List ℕ) (r : ℕ) → Suffices s m → Proper s → r < s .rows
+    → (r / rangeRows < s .ranges) × (r / rangeRows < length (viewOf s m Region.Used))
+range-counted s m r h p l =
+    let g : r / rangeRows < s .ranges = range-in s p r l in
+    (g, omega (arith, view-long s (words m) (omega (arith, length-words m)) Region.Used))
 
--- so that filling the newest record fills the appended one
-pub appended-filled : (s : Sizes) (t r kind mask : ℕ) (f : ℕ → ℕ) (v : View) → Proper s → Room s v r 1 → length (v Region.Used) ≡ s .ranges
-    → newestFilled (shapeIn s) (r / rangeRows) f (appended (shapeIn s) t r kind mask v)
-    ≡ filledIn (shapeIn s) (nextSlot (shapeIn s) v (r / rangeRows)) f (appended (shapeIn s) t r kind mask v)
-unfolding newestFilled nextSlot rangeOf
-appended-filled s t r kind mask f v p o l =
-    let g : r / rangeRows < s .ranges = range-in s p r (o .row-below) in
-    ap (λ (k : ℕ). filledIn (shapeIn s) (slot (shapeIn s) (r / rangeRows) k) f (appended (shapeIn s) t r kind mask v))
-    (appended-used (shapeIn s) t r kind mask v (omega arith))
+module _ (s : Sizes) (m : List ℕ) (t r kind mask : ℕ) (x : View) (e : x ≡ appended (shapeIn s) t r kind mask (viewOf s m))
+    (h : Suffices s m) (p : Proper s) (o : Room s (viewOf s m) r 1) where
+  one-more : usedIn (appended (shapeIn s) t r kind mask (viewOf s m)) (r / rangeRows) ≡ usedIn (viewOf s m) (r / rangeRows) + 1
+  one-more = appended-used (shapeIn s) t r kind mask (viewOf s m) (range-counted s m r h p (o .row-below) .1)
 
--- after the record of the original values
-pub original-used : (S : Shape) (t r fresh : ℕ) (v : View) → r / rangeRows < length (v Region.Used)
-    → usedIn (originalPut S t r fresh v) (r / rangeRows) ≡ usedIn v (r / rangeRows) + 1
-unfolding originalPut filledIn rangeOf renew
-original-used S t r fresh v h = appended-used S t r asOriginal fresh v h
+  pub appended-newest : Newest s x (r / rangeRows)
+  appended-newest =
+      rw e record { range-below = range-counted s m r h p (o .row-below) .0; some = omega (arith, one-more); most = omega (arith, one-more, o .left) }
 
-pub original-room : (s : Sizes) (t r fresh : ℕ) (v : View) → Proper s → Room s v r 2 → length (v Region.Used) ≡ s .ranges
-    → Room s (originalPut (shapeIn s) t r fresh v) r 1
-original-room s t r fresh v p o l =
-    let g : r / rangeRows < s .ranges = range-in s p r (o .row-below) in
-    let e = original-used (shapeIn s) t r fresh v (omega arith) in
-    record { row-below = o .row-below; left = omega (arith, e, o .left) }
+  -- so that filling the newest record fills the appended one
+  pub appended-filled : (f : ℕ → ℕ) (y : View) → y ≡ newestFilled (shapeIn s) (r / rangeRows) f x
+      → y ≡ filledIn (shapeIn s) (nextSlot (shapeIn s) (viewOf s m) (r / rangeRows)) f (appended (shapeIn s) t r kind mask (viewOf s m))
+  unfolding newestFilled nextSlot
+  appended-filled f y q =
+      q
+      ∙ rw e
+      (ap (λ (k : ℕ). filledIn (shapeIn s) (slot (shapeIn s) (r / rangeRows) k) f (appended (shapeIn s) t r kind mask (viewOf s m))) one-more)
+
+-- the record of the original values: the current pages are as they were
+pub original-is : (s : Sizes) (m : List ℕ) (t r fresh : ℕ) (x y : View) → x ≡ appended (shapeIn s) t r asOriginal fresh (viewOf s m)
+    → y ≡ newestFilled (shapeIn s) (r / rangeRows) (cellWords (shapeIn s) x (r / rangeRows) (r % rangeRows)) x → Suffices s m → Proper s → Room s (viewOf s m) r 1
+    → y ≡ originalPut (shapeIn s) t r fresh (viewOf s m)
+unfolding originalPut cellWords cellIn currentIn appended put renew rangeOf
+original-is s m t r fresh x y e q h p o =
+    appended-filled s m t r asOriginal fresh x e h p o (cellWords (shapeIn s) x (r / rangeRows) (r % rangeRows)) y q ∙ rw e
 
 -- the records of an update leave the open transactions as they were
 records-opens : (S : Shape) (t r mask : ℕ) (vs : List ℤ) (v : View) → recordsPut S t r mask vs v Region.Opens ≡ v Region.Opens
@@ -161,27 +159,42 @@ fills-cell S g i at v x c w e q =
     q ∙ rw (fills-current S (cellWords S v g i) at v x c e, fills-cells S (cellWords S v g i) at v x c e)
 
 -- ---- the records of an update: fresh are the columns that it sets for the first time
-pub fresh-is : (v : View) (r mask old fresh : ℕ) → old ≡ getD (v Region.RowMask) r 0 → fresh ≡ newBits mask old → fresh ≡ newBitsIn v r mask
-unfolding newBitsIn rowIn
-fresh-is v r mask old fresh p q = q ∙ ap (newBits mask) p
+-- there is room for one record at least
+pub room-one : (s : Sizes) (v : View) (r mask : ℕ) → Room s v r (recordsWanted v r mask) → Room s v r 1
+unfolding recordsWanted
+room-one s v r mask o = go (eqb (newBitsIn v r mask) 0) (o .left)
+  where
+    go : (b : Bool) → usedIn v (r / rangeRows) + cond b 1 2 ≤ s .capacity → Room s v r 1
+    go true h = record { row-below = o .row-below; left = h }
+    go false h = record { row-below = o .row-below; left = omega arith }
 
-module _ (v : View) (r mask fresh : ℕ) (e : fresh ≡ newBitsIn v r mask) where
-  pub wanted-one : fresh ≡ 0 → recordsWanted v r mask ≡ 1
-  unfolding recordsWanted
-  wanted-one z = rw (← e, eq-eqb fresh 0 z)
+module _ (v : View) (r mask old fresh : ℕ) (e : old ≡ getD (v Region.RowMask) r 0) (q : fresh ≡ newBits mask old) where
+  fresh-is : fresh ≡ newBitsIn v r mask
+  unfolding newBitsIn rowIn
+  fresh-is = q ∙ ap (newBits mask) e
 
-  pub wanted-two : (fresh ≡ 0 → ⊥) → recordsWanted v r mask ≡ 2
-  unfolding recordsWanted
-  wanted-two n = rw (← e, ne-eqb fresh 0 n)
-
-  pub records-one : (S : Shape) (t : ℕ) (vs : List ℤ) → fresh ≡ 0 → settingAppended S t r mask vs v ≡ recordsPut S t r mask vs v
+  pub records-one : (S : Shape) (t : ℕ) (vs : List ℤ) (y : View) → y ≡ settingAppended S t r mask vs v → fresh ≡ 0 → y ≡ recordsPut S t r mask vs v
   unfolding recordsPut
-  records-one S t vs z = rw (← e, eq-eqb fresh 0 z)
+  records-one S t vs y a z = a ∙ rw (← fresh-is, eq-eqb fresh 0 z)
 
-  pub records-two : (S : Shape) (t : ℕ) (vs : List ℤ) → (fresh ≡ 0 → ⊥)
-      → settingAppended S t r mask vs (originalPut S t r fresh v) ≡ recordsPut S t r mask vs v
-  unfolding recordsPut originalAppended originalPut cellWords
-  records-two S t vs n = rw (← e, ne-eqb fresh 0 n)
+  module _ (n : fresh ≡ 0 → ⊥) where
+    pub records-two : (S : Shape) (t : ℕ) (vs : List ℤ) (x y : View) → x ≡ originalPut S t r fresh v → y ≡ settingAppended S t r mask vs x
+        → y ≡ recordsPut S t r mask vs v
+    unfolding recordsPut originalAppended originalPut cellWords
+    records-two S t vs x y a b = b ∙ rw (a, ← fresh-is, ne-eqb fresh 0 n)
+
+    wanted-two : recordsWanted v r mask ≡ 2
+    unfolding recordsWanted
+    wanted-two = rw (← fresh-is, ne-eqb fresh 0 n)
+
+-- after the record of the original values there is room for the other
+pub original-room : (s : Sizes) (m : List ℕ) (t r mask old fresh : ℕ) (x : View) → x ≡ originalPut (shapeIn s) t r fresh (viewOf s m)
+    → old ≡ getD (viewOf s m Region.RowMask) r 0 → fresh ≡ newBits mask old → (fresh ≡ 0 → ⊥) → Suffices s m → Proper s
+    → Room s (viewOf s m) r (recordsWanted (viewOf s m) r mask) → Room s x r 1
+unfolding originalPut filledIn rangeOf renew
+original-room s m t r mask old fresh x e a b n h p o =
+    let used = appended-used (shapeIn s) t r asOriginal fresh (viewOf s m) (range-counted s m r h p (o .row-below) .1) in
+    rw e record { row-below = o .row-below; left = omega (arith, used, wanted-two (viewOf s m) r mask old fresh a b n, o .left) }
 
 -- ---- the steps of each call, one after the other: the last is the note
 module _ (S : Shape) (t j : ℕ) (v : View) (o : OpenAt v t j) where

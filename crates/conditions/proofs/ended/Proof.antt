@@ -17,9 +17,6 @@ Inv-loop mem s t row at n i₀ i = (i ≤ n) × (false ≡ anyBelow (λ j. endsA
 abbrev μ-loop : tie.MeasureT-loop
 μ-loop mem s t row at n i₀ i = n - i
 
-returns-2 : tie.Need-returns-2 Inv-loop μ-loop
-returns-2 c = let head : tie.At-loop Inv-loop μ-loop = search in found _ _ (head .loop .i) _ (omega arith) (c .before .ends .ensures) (c .if3 .taken)
-
 loop-again : tie.Need-loop-again Inv-loop μ-loop
 loop-again c = let head : tie.At-loop Inv-loop μ-loop = search in (omega arith, one-turn _ _ _ _ _ (head .loop .inv .1) (c .before .ends .ensures) (sym (c .if3 .left)))
 
@@ -34,7 +31,7 @@ ended-spec =
     (λ c. (omega arith, no-turn _))
     (λ c. omega arith)
     (λ c κs. (omega arith, omega arith))
-    returns-2
+    (λ c. let head : tie.At-loop Inv-loop μ-loop = search in found _ _ (head .loop .i) _ (omega arith) (c .before .ends .ensures) (c .if3 .taken))
     (λ c. omega arith)
     (λ c. omega arith)
     loop-again

@@ -6,10 +6,6 @@ use Rattle.conditions.specs.Records.{holdsAt}
 use Rattle.conditions.proofs.holds.Statement.{statement}
 use Rattle.conditions.proofs.holds.Tie as tie
 
-returns : tie.Need-returns
-unfolding holdsAt
-returns c = rw (← c .before .read .ensures, ne-eqb _ _ (c .if1 .taken))
-
 returns-2 : tie.Need-returns-2
 unfolding holdsAt
 returns-2 c =
@@ -19,4 +15,5 @@ returns-2 c =
     c .open-other .ensures ∙ rw (maker .read2 .ensures, ← row .read .ensures, eq-eqb _ _ (same .if1 .left))
 
 pub holds-spec : {M : Type 1} → statement M
-holds-spec = tie.close (tie.spec (λ c κs. search needs) returns (λ c κs. search needs) (λ c κs. search needs) returns-2)
+unfolding holdsAt
+holds-spec = tie.close (tie.spec (λ c κs. search needs) (λ c. rw (← c .before .read .ensures, ne-eqb _ _ (c .if1 .taken))) (λ c κs. search needs) (λ c κs. search needs) returns-2)

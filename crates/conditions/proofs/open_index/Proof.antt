@@ -4,9 +4,6 @@ use borrow.Author.Needs.{needs}
 use Rattle.conditions.proofs.open_index.Statement.{statement}
 use Rattle.conditions.proofs.open_index.Tie as tie
 
-returns : tie.Need-returns
-returns c = (open-none _ _ _ (c .if1 .taken), tt)
-
 returns-2 : tie.Need-returns-2
 returns-2 c =
     let start : tie.Start = search in
@@ -14,4 +11,4 @@ returns-2 c =
     (found .0, found .1)
 
 pub open-index-spec : {M : Type 1} → statement M
-open-index-spec = tie.close (tie.spec returns (λ c κs. search needs) returns-2)
+open-index-spec = tie.close (tie.spec (λ c. (open-none _ _ _ (c .if1 .taken), tt)) (λ c κs. search needs) returns-2)

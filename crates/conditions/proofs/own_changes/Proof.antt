@@ -1,4 +1,4 @@
--- `conditions::own_changes` meets its contract: the record at the place is that of the transaction, and its `owner` is the definition.
+-- `conditions::own_changes` meets its contract: the record at the index is that of the transaction, and its `owner` is the definition.
 use Rattle.model.specs.Reading.{ownChanges}
 use Rattle.transactions.proofs.Number.{number-there}
 use borrow.Author.Needs.{needs}

@@ -27,9 +27,6 @@ returns c =
     none-held _ _ _ _ _ _ (view-long (start .args .s) (words (start .args .mem .now)) (omega (arith, length-words (start .args .mem .now))) Opens)
     (c .before .others-open .ensures) (c .if1 .taken)
 
-returns-2 : tie.Need-returns-2 Inv-loop μ-loop
-returns-2 c = let head : tie.At-loop Inv-loop μ-loop = search in found _ _ (head .loop .i) _ (omega arith) (c .before .holds .ensures) (c .if2 .taken)
-
 loop-again : tie.Need-loop-again Inv-loop μ-loop
 loop-again c = let head : tie.At-loop Inv-loop μ-loop = search in (omega arith, one-turn _ _ _ _ _ (head .loop .inv .1) (c .before .holds .ensures) (sym (c .if2 .left)))
 
@@ -44,7 +41,7 @@ records-held-spec =
     (λ c. (omega arith, no-turn _))
     (λ c. omega arith)
     (λ c κs. (omega arith, omega arith))
-    returns-2
+    (λ c. let head : tie.At-loop Inv-loop μ-loop = search in found _ _ (head .loop .i) _ (omega arith) (c .before .holds .ensures) (c .if2 .taken))
     (λ c. omega arith)
     (λ c. omega arith)
     loop-again

@@ -18,7 +18,7 @@ Inv-loop mem s opens₀ i₀ opens i = (i ≤ mostTransactions) × (length opens
 abbrev μ-loop : tie.MeasureT-loop
 μ-loop mem s opens₀ i₀ opens i = mostTransactions - i
 
--- as many words as there are places
+-- as many words as there are open entries
 long : (c : tie.Start Inv-loop μ-loop) → length (viewOf (c .args .s) (c .args .mem .now) Opens) ≡ mostTransactions
 long c = opens-length (c .args .s) (c .args .mem .now) (c .pre)
 

@@ -17,12 +17,14 @@ within c = sym (c .before .within-limits .ensures) ∙ c .if1 .taken
 small : (c : tie.After-sizes-of) → need (c .sizes-of .result) < tooManyWords
 small c = rw (c .sizes-of .ensures) (need-small _ (within (c .before)))
 
-returns : tie.Need-returns
-returns c = bytes-told _ (unfold bytesAnswer bytesNeeded in (rw (within (c .before .before), c .words-needed .ensures, c .before .sizes-of .ensures)))
-
-returns-2 : tie.Need-returns-2
-returns-2 c = bytes-told _ (unfold bytesAnswer in (rw (← c .before .within-limits .ensures, c .if1 .left)))
-
 pub bytes-needed-spec : {M : Type 1} → statement M
 bytes-needed-spec =
-    tie.close (tie.spec (λ c κs. search needs) (λ c κs. within c) (λ c κs. omega (arith, small c)) (λ c. omega (arith, small (c .before))) (λ c. omega (arith, small (c .before))) returns returns-2)
+    tie.close
+    (tie.spec
+    (λ c κs. search needs)
+    (λ c κs. within c)
+    (λ c κs. omega (arith, small c))
+    (λ c. omega (arith, small (c .before)))
+    (λ c. omega (arith, small (c .before)))
+    (λ c. bytes-told _ (unfold bytesAnswer bytesNeeded in (rw (within (c .before .before), c .words-needed .ensures, c .before .sizes-of .ensures))))
+    (λ c. bytes-told _ (unfold bytesAnswer in (rw (← c .before .within-limits .ensures, c .if1 .left)))))

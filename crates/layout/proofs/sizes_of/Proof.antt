@@ -9,9 +9,6 @@ use Rattle.layout.proofs.sizes_of.Tie as tie
 within : (c : tie.Start) → Proper (sizesOf (shapeOf (c .args .columns) (c .args .ranges) (c .args .capacity) (c .args .spares)))
 within c = proper (shapeOf (c .args .columns) (c .args .ranges) (c .args .capacity) (c .args .spares)) (c .pre)
 
-returns : tie.Need-returns
-returns c = rw (c .times3 .ensures .0, c .before .times2 .ensures .0, c .before .before .times .ensures .0)
-
 pub sizes-of-spec : {M : Type 1} → statement M
 sizes-of-spec =
     tie.close
@@ -21,4 +18,4 @@ sizes-of-spec =
     (λ c. search needs)
     (λ c κs. omega (arith, within (c .before .before)))
     (λ c. search needs)
-    returns)
+    (λ c. cc))

@@ -1,18 +1,18 @@
 -- `making::lay_out` meets its contract.
 use borrow.Author.Needs.{needs}
 use Rattle.layout.specs.View.{put, fill, number, renew}
-use Rattle.making.specs.Made.{placedView}
+use Rattle.making.specs.Made.{namedView}
 use Rattle.model.specs.Writing.{made as madeView}
 use Rattle.making.proofs.lay_out.Statement.{statement}
 use Rattle.making.proofs.lay_out.Tie as tie
 
 returns : tie.Need-returns
-unfolding madeView placedView put fill number renew
+unfolding madeView namedView put fill number renew
 returns c =
-    let three = c .before .before in
-    let two = three .before .before .before .before in
-    let one = two .before .before .before .before in
-    rw (three .put-measures .ensures, two .place-pages .ensures, one .before .before .before .pre .1 .0)
+    let measured : tie.After-put-measures = search in
+    let named : tie.After-name-pages = search in
+    let start : tie.Start = search in
+    rw (measured .put-measures .ensures, named .name-pages .ensures, start .pre .1 .0)
 
 pub lay-out-spec : {M : Type 1} → statement M
 lay-out-spec =

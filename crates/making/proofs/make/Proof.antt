@@ -13,7 +13,7 @@ use Rattle.layout.specs.Regions.{need}
 use Rattle.layout.specs.Sizes.{shapeOf, sizesOf, Proper, tooManyWords}
 use Rattle.layout.proofs.Lay.{lent}
 use Rattle.layout.proofs.Limits.{need-small, proper}
-use Rattle.making.proofs.Answers.{out-of-limits, no-room, few-chunks, laid}
+use Rattle.making.proofs.Answers.{out-of-limits, no-room, few-entries, laid}
 use Rattle.making.proofs.make.Statement.{statement}
 use Rattle.making.proofs.make.Tie as tie
 use Rattle.layout.specs.View.{Suffices}
@@ -38,11 +38,8 @@ bytes c = rw (c .words-needed .ensures, c .before .sizes-of .ensures)
 returns : tie.Need-returns
 returns c = out-of-limits (shape (c .before .before .before)) _ _ (sym (c .before .within-limits .ensures) ∙ not-true (c .before .within-limits .result) (c .if1 .taken))
 
-returns-2 : tie.Need-returns-2
-returns-2 c = no-room (shape (start (c .before .before .before))) _ _ (within (c .before .before .before)) (rw (bytes (c .before)) at (c .if2 .taken))
-
 returns-3 : tie.Need-returns-3
-returns-3 c = few-chunks (shape (start (c .before .before .before .before))) _ _ (within (c .before .before .before .before)) (rw (bytes (c .before .before)) at (c .before .if2 .left)) (c .if3 .taken)
+returns-3 c = few-entries (shape (start (c .before .before .before .before))) _ _ (within (c .before .before .before .before)) (rw (bytes (c .before .before)) at (c .before .if2 .left)) (c .if3 .taken)
 
 -- the part is as long as it is to be
 part : (c : tie.Else2) → length (take (c .before .words-needed .result * 4) (start (c .before .before .before) .args .mem .now)) ≡ c .before .words-needed .result * 4
@@ -79,7 +76,7 @@ make-spec =
     (λ c κs. within c)
     (λ c κs. omega (arith, small c))
     (λ c. omega (arith, small (c .before), c .words-needed .ensures))
-    returns-2
+    (λ c. no-room (shape (start (c .before .before .before))) _ _ (within (c .before .before .before)) (rw (bytes (c .before)) at (c .if2 .taken)))
     returns-3
     (λ c. search needs)
     (λ c. sym (part (c .before .before)))

@@ -21,28 +21,22 @@ Inv-loop mem₀ s g c page n low first newest i₀ mem latest i =
 abbrev μ-loop : tie.MeasureT-loop
 μ-loop mem₀ s g c page n low first newest i₀ mem latest i = n - i
 
--- where the function begins
-abbrev start : tie.At-loop Inv-loop μ-loop → tie.Start Inv-loop μ-loop
-start c = c .before .before .before .before
-
 -- the records of the range lie among the slots
 inside : (c : tie.Start Inv-loop μ-loop) → let a = c .args in (a .g * a .s .capacity + a .s .capacity ≤ a .s .slots) × (a .s .slots ≤ need (a .s))
 inside c = let a = c .args in (tail-in (a .s) (c .pre .1 .0) (a .g) (c .pre .1 .1 .0), omega (arith, sizes-need (a .s)))
 
 apply-one-requires : tie.Need-apply-one-requires Inv-loop μ-loop
 apply-one-requires c κs =
-    let s = start (c .before .before) in
-    (omega arith, (s .pre .1 .0, (omega (arith, inside s), s .pre .1 .1 .1, s .pre .1 .1 .2)))
+    let start : tie.Start Inv-loop μ-loop = search in
+    (omega arith, (start .pre .1 .0, (omega (arith, inside start), start .pre .1 .1 .1, start .pre .1 .1 .2)))
 
 loop-again : tie.Need-loop-again Inv-loop μ-loop
 loop-again c =
-    let applied = c .before .before in
+    let applied : tie.After-apply-one Inv-loop μ-loop = search in
+    let head : tie.At-loop Inv-loop μ-loop = search in
     let done = applied .apply-one .ensures in
-    let inv = applied .before .before .before .loop .inv in
+    let inv = head .loop .inv in
     (omega arith, omega arith, newest-next _ _ _ _ _ _ _ _ _ _ _ (inv .3) (inv .2) (done .0), applied-next _ _ _ _ _ _ _ _ _ (inv .3) (done .1))
-
-returns : tie.Need-returns Inv-loop μ-loop
-returns c = pass-end _ _ _ _ _ _ _ _ _ _ _ (c .before .loop .inv .3) (c .before .loop .inv .2) (omega arith) (omega arith)
 
 pub apply-spec : {M : Type 1} → statement M
 apply-spec =
@@ -51,13 +45,13 @@ apply-spec =
     Inv-loop
     μ-loop
     (λ c. omega arith)
-    (λ c. omega (arith, inside (c .before .before .before)))
-    (λ c. omega (arith, inside (c .before .before .before)))
+    (λ c. omega (arith, inside search))
+    (λ c. omega (arith, inside search))
     (λ c. (omega arith, omega arith, newest-none _ _ _ _ _ _, applied-none _ _ _ _ _ _))
-    (λ c. omega (arith, inside (start (c .before .before))))
+    (λ c. omega (arith, inside search))
     apply-one-requires
     (λ c. omega arith)
     (λ c. omega arith)
     loop-again
     (λ c. omega arith)
-    returns)
+    (λ c. pass-end _ _ _ _ _ _ _ _ _ _ _ (c .before .loop .inv .3) (c .before .loop .inv .2) (omega arith) (omega arith)))

@@ -4,10 +4,9 @@ use borrow.Author.Needs.{needs}
 use Prim.Native.Nat.{ℕ, _+_, _*_, _%_, _<_}
 use mir.Syntax.{w32, w64}
 use mir.Val.{Fits}
-use mathlib.Core.Path.{sym, _∙_}
 use Rattle.terms.specs.Measures.{rangeRows}
 use Rattle.rows.proofs.Indices.{chunks-few, values-few, value-in}
-use Rattle.merging.proofs.Pass.{one-applied, one-later, one-skipped, one-kept}
+use Rattle.merging.proofs.Pass.{one-applied, one-skipped}
 use Rattle.merging.proofs.apply_one.Statement.{statement}
 use Rattle.merging.proofs.apply_one.Tie as tie
 
@@ -24,48 +23,32 @@ inside c =
     let pages = chunks-few _ p .1 in
     (omega (arith, p .columns-to), omega arith, omega arith, i, omega arith, λ r. (omega arith, omega arith))
 
--- where the function begins, and the branch from the place where the value is read
-abbrev start : tie.Then1 → tie.Start
-start c = let applied = c .before in applied .before .before .before
-
-abbrev branch : tie.After-struct-known → tie.Then1
-branch c = let row = c .before .before in row .before .before .before .before
-
--- the place where the value is read, from that where it is written
-abbrev value : tie.After-struct-known2 → tie.After-struct-known
-value c = c .before .before .before
-
 returns : tie.Need-returns
 returns c =
-    let wrote = c .before .before .before in
-    let at = value (wrote .before) in
-    let row = at .before .before in
-    let taken = branch at in
-    let e = sym (taken .before .is-applied .ensures) ∙ taken .if1 .taken in (
-      rw (c .later .ensures, row .before .before .read .ensures) (sym (one-later _ _ _ _ e)),
-      rw (wrote .write .ensures, wrote .before .before .before .read3 .ensures, row .read2 .ensures) (sym (one-applied _ _ _ _ _ e)),
-    )
-
-returns-2 : tie.Need-returns-2
-returns-2 c = let e = sym (c .before .is-applied .ensures) ∙ c .if1 .left in (one-kept _ _ _ _ e, one-skipped _ _ _ _ _ e)
+    let wrote : tie.After-write = search in
+    let value : tie.After-read3 = search in
+    let row : tie.After-read2 = search in
+    let stamp : tie.After-read = search in
+    let taken : tie.Then1 = search in
+    one-applied _ _ _ _ _ _ _ (taken .before .is-applied .ensures) _ _ _ _ _ (taken .if1 .taken) (stamp .read .ensures) (row .read2 .ensures) (value .read3 .ensures) (c .later .ensures) (wrote .write .ensures)
 
 pub apply-one-spec : {M : Type 1} → statement M
 apply-one-spec =
     tie.close
     (tie.spec
-    (λ c. inside (c .before .before) .0)
-    (λ c κs. let pre = c .before .before .pre in (pre .0, (pre .1 .1 .0, omega (arith, pre .1 .0 .columns-to))))
+    (λ c. inside (search) .0)
+    (λ c κs. let start : tie.Start = search in (search, (search, omega (arith, start .pre .1 .0 .columns-to))))
     (λ c κs. search needs)
     (λ c κs. search needs)
-    (λ c. inside (start (branch c)) .1)
-    (λ c. inside (start (branch c)) .2)
-    (λ c κs. let s = start (branch c) in (s .pre .0, inside s .3))
-    (λ c. inside (start (branch (c .before .before))) .4)
+    (λ c. inside (search) .1)
+    (λ c. inside (search) .2)
+    (λ c κs. (search, inside (search) .3))
+    (λ c. inside (search) .4)
     (λ c. search needs)
-    (λ c. inside (start (branch (value c))) .5 _ .0)
-    (λ c κs. let s = start (branch (value c)) in (s .pre .0, inside s .5 _ .1))
+    (λ c. inside (search) .5 _ .0)
+    (λ c κs. (search, inside (search) .5 _ .1))
     (λ c κs. search needs)
     (λ c. search needs)
     returns
     (λ c. search needs)
-    returns-2)
+    (λ c. one-skipped _ _ _ _ _ _ _ (c .before .is-applied .ensures) (c .if1 .left)))

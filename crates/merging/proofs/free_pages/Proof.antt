@@ -21,23 +21,19 @@ abbrev μ-loop : tie.MeasureT-loop
 
 free-one-requires : tie.Need-free-one-requires Inv-loop μ-loop
 free-one-requires c κs =
-    let start = c .before .before .before .before in
+    let head : tie.At-loop Inv-loop μ-loop = search in
+    let start : tie.Start Inv-loop μ-loop = search in
     let a = start .args in
-    let here = c .before .before .loop in
-    let few = count-most (a .least) (viewOf (a .s) (a .mem .now)) (here .p) in
-    (omega arith, (omega arith, omega (arith, few, here .inv .2, chunks-few _ (start .pre .1) .1)))
+    let few = count-most (a .least) (viewOf (a .s) (a .mem .now)) (head .loop .p) in
+    (omega arith, (omega arith, omega (arith, head .loop .inv .2, few, chunks-few _ (start .pre .1) .1)))
 
 loop-again : tie.Need-loop-again Inv-loop μ-loop
 loop-again c =
-    let freed = c .before .before in
+    let freed : tie.After-free-one Inv-loop μ-loop = search in
+    let head : tie.At-loop Inv-loop μ-loop = search in
     let done = freed .free-one .ensures in
-    let inv = freed .before .before .before .loop .inv in
+    let inv = head .loop .inv in
     (omega arith, omega arith, count-next _ _ _ _ _ _ (inv .3) (inv .2) (done .0), freed-next _ _ _ _ _ (inv .3) (done .1))
-
-returns : tie.Need-returns Inv-loop μ-loop
-returns c =
-    let inv = c .before .loop .inv in
-    freed-end _ _ (c .before .before .before .args .s .pages) _ _ _ (inv .3) (inv .2) (omega arith) (omega arith)
 
 pub free-pages-spec : {M : Type 1} → statement M
 free-pages-spec =
@@ -51,4 +47,4 @@ free-pages-spec =
     (λ c. omega arith)
     loop-again
     (λ c. omega arith)
-    returns)
+    (λ c. freed-end _ _ (c .before .before .before .args .s .pages) _ _ _ (c .before .loop .inv .3) (c .before .loop .inv .2) (omega arith) (omega arith)))

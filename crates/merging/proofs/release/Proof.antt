@@ -7,7 +7,7 @@ use lib.ListN.{getD}
 use Rattle.layout.specs.declared.Region.{Region}
 use Rattle.layout.specs.View.{viewOf}
 use Rattle.layout.proofs.Lay.{view-fits}
-use Rattle.merging.proofs.Freeing.{needed-least, spare-is, freed-is, counted-is}
+use Rattle.merging.proofs.Freeing.{needed-least, freeable-is, freed-is, counted-is}
 use Rattle.merging.proofs.release.Statement.{statement}
 use Rattle.merging.proofs.release.Tie as tie
 
@@ -22,7 +22,7 @@ returns c =
     let few = few-merges .least .result in
     let v = viewOf (a .s) (a .mem .now) in
     let fits : (p : ℕ) → getD (v Region.PageReplaced) p 0 < 2 ^ 32 = view-fits (a .s) (a .mem .now) (λ k. omega (arith, known .slice-known .given k)) Region.PageReplaced in
-    let q = spare-is ps few v (λ m k. rw (few-merges .least .ensures) (needed-least ps (a .scans) e h m k)) fits in
+    let q = freeable-is ps few v (λ m k. rw (few-merges .least .ensures) (needed-least ps (a .scans) e h m k)) fits in
     (freed .free-pages .ensures .0 ∙ counted-is (a .s) ps few v (start .pre .1 .0) q, freed .free-pages .ensures .1 ∙ freed-is (a .s) ps few v (start .pre .1 .0) q)
 
 pub release-spec : {M : Type 1} → statement M

@@ -27,8 +27,8 @@ stray-page-spec =
     μ-loop
     (λ c. (omega arith, simp sub-zero))
     (λ c κs. search needs)
-    (λ c. stray-here _ _ (c .before .before .before .loop .p) (omega arith) _ _ (c .before .before .before .loop .inv .1) (c .before .is-stray .ensures) (c .if1 .taken))
+    (λ c. search stray-here)
     (λ c. omega arith)
     (λ c. omega arith)
-    (λ c. (omega arith, stray-later _ _ (c .before .before .before .loop .p) (omega arith) _ _ (c .before .before .before .loop .inv .1) (c .before .is-stray .ensures) (c .if1 .left)))
-    (λ c. stray-none _ _ (c .before .loop .p) _ (c .before .loop .inv .1) (omega arith) (omega arith)))
+    (λ c. (omega arith, search stray-later))
+    (λ c. search stray-none))

@@ -1,4 +1,4 @@
--- `pages::currents_hold` meets its contract. The invariant: the flag is that of the places below i.
+-- `pages::currents_hold` meets its contract. The invariant: the flag is that of the chunks below i.
 use borrow.Author.Needs.{needs}
 use Prim.Native.Nat.{_-_}
 use Rattle.layout.specs.View.{viewOf}

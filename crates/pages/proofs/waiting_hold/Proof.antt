@@ -1,16 +1,9 @@
 -- `pages::waiting_hold` meets its contract.
 use borrow.Author.Needs.{needs}
-use mathlib.Core.Path.{sym, _∙_}
 use Rattle.facts.specs.Tests.{waitingHold}
 use Rattle.pages.proofs.Waiting.{none-waiting}
 use Rattle.pages.proofs.waiting_hold.Statement.{statement}
 use Rattle.pages.proofs.waiting_hold.Tie as tie
-
-returns : tie.Need-returns
-returns c =
-    let states = c .before in
-    let s = states .before .before in
-    sym (none-waiting (s .args .s) (s .args .mem .now) (s .pre .room) (sym (states .between-in .ensures) ∙ c .if1 .taken))
 
 returns-2 : tie.Need-returns-2
 unfolding waitingHold
@@ -27,7 +20,7 @@ waiting-hold-spec =
     tie.close
     (tie.spec
     (λ c κs. search needs)
-    returns
+    (λ c. search none-waiting)
     (λ c κs. search needs)
     (λ c κs. search needs)
     (λ c κs. search needs)

@@ -17,11 +17,8 @@ returns c =
     rw (← test .visible .ensures, seen .if1 .taken)
     (ap Answer.Value (toZ-ofZ w32 (c .of-word .result) record { sfits = c .of-word .ok } ∙ c .of-word .ensures ∙ ap (toZ w32) (c .before .word-of .ensures)))
 
-returns-2 : tie.Need-returns-2
-unfolding readIn
-returns-2 c = rw (← c .before .visible .ensures, c .if1 .left)
-
 pub read-cell-spec : {M : Type 1} → statement M
+unfolding readIn
 read-cell-spec =
     tie.close
     (tie.spec
@@ -29,4 +26,4 @@ read-cell-spec =
     (λ c κs. search needs)
     (λ c κs. search needs)
     returns
-    returns-2)
+    (λ c. rw (← c .before .visible .ensures, c .if1 .left)))

@@ -12,15 +12,12 @@ inside c =
     let proper = c .pre .1 .0 in
     (value-in _ proper _ _ (c .pre .1 .1 .0) (c .pre .1 .1 .1), values-few _ proper)
 
-returns : tie.Need-returns
-unfolding valueIn
-returns c = c .read .ensures
-
 pub value-spec : {M : Type 1} → statement M
+unfolding valueIn
 value-spec =
     tie.close
     (tie.spec
     (λ c. omega (arith, inside search))
     (λ c. omega (arith, inside search))
     (λ c κs. (search needs, omega (arith, inside search)))
-    returns)
+    (λ c. c .read .ensures))

@@ -17,20 +17,11 @@ Inv-loop mem s who g c last k₀ k =
 abbrev μ-loop : tie.MeasureT-loop
 μ-loop mem s who g c last k₀ k = k
 
-loop-holds : tie.Need-loop-holds Inv-loop μ-loop
-loop-holds c = (omega arith, refl)
-
 slot-of-requires : tie.Need-slot-of-requires Inv-loop μ-loop
 slot-of-requires c κs =
     let start : tie.Start Inv-loop μ-loop = search in
     let pre = start .pre .1 .1 in
     (start .pre .1 .0, (pre .1 .0, omega arith, omega (arith, pre .0 .used-few _ (pre .1 .0))))
-
-answers-for-requires : tie.Need-answers-for-requires Inv-loop μ-loop
-answers-for-requires c κs = (omega arith, (omega arith, omega arith))
-
-read-requires : tie.Need-read-requires Inv-loop μ-loop
-read-requires c κs = (omega arith, omega arith)
 
 -- the link that was read is lower, and the walk goes on from it
 loop-again : tie.Need-loop-again Inv-loop μ-loop
@@ -45,11 +36,11 @@ walk-spec =
     (tie.spec
     Inv-loop
     μ-loop
-    loop-holds
+    (λ c. (omega arith, refl))
     slot-of-requires
-    answers-for-requires
+    (λ c κs. (omega arith, (omega arith, omega arith)))
     (λ c. search walk-hit)
-    read-requires
+    (λ c κs. (omega arith, omega arith))
     (λ c. search link-lower)
     loop-again
     (λ c. search walk-stop))

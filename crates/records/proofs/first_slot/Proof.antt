@@ -10,12 +10,9 @@ mul-result c =
     let s = c .before in
     record { fits = omega (arith, tail-in (s .args .s) (s .pre .0) (s .args .g) (s .pre .1), slots-few (s .args .s) (s .pre .0)) }
 
-returns : tie.Need-returns
-returns c = let s = c .before in (refl, tail-in (s .args .s) (s .pre .0) (s .args .g) (s .pre .1))
-
 pub first-slot-spec : {M : Type 1} → statement M
 first-slot-spec =
     tie.close
     (tie.spec
     mul-result
-    returns)
+    (λ c. let s = c .before in (refl, tail-in (s .args .s) (s .pre .0) (s .args .g) (s .pre .1))))

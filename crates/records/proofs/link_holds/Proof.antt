@@ -7,14 +7,6 @@ use Rattle.layout.proofs.Indices.{slots-few}
 use Rattle.records.proofs.link_holds.Statement.{statement}
 use Rattle.records.proofs.link_holds.Tie as tie
 
-returns : tie.Need-returns
-unfolding linkHolds
-returns c = rw (eq-eqb _ _ (c .if1 .taken))
-
-returns-2 : tie.Need-returns-2
-unfolding linkHolds
-returns-2 c = rw (ne-eqb _ _ (c .before .before .if1 .left), lt-leb _ _ (c .if2 .taken))
-
 add-read : tie.Need-add-read
 add-read c =
     let bounded = c .before in
@@ -28,11 +20,12 @@ returns-3 c =
     rw (ne-eqb _ _ (two .before .before .if1 .left), le-leb _ _ (two .if2 .left), c .before .read .ensures, c .before .before .first-slot .ensures .0)
 
 pub link-holds-spec : {M : Type 1} → statement M
+unfolding linkHolds
 link-holds-spec =
     tie.close
     (tie.spec
-    returns
-    returns-2
+    (λ c. rw (eq-eqb _ _ (c .if1 .taken)))
+    (λ c. rw (ne-eqb _ _ (c .before .before .if1 .left), lt-leb _ _ (c .if2 .taken)))
     (λ c κs. search needs)
     (λ c. search needs)
     (λ c. search needs)

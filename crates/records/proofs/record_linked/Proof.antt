@@ -13,15 +13,6 @@ inside c =
     let a = c .args in
     (omega (arith, c .pre .0 .records-in (a .g)), slots-few (a .s) (c .pre .0 .proper))
 
-add-slot : tie.Need-add-slot
-add-slot c = omega (arith, inside (c .before .before))
-
-read-requires : tie.Need-read-requires
-read-requires c κs = omega (arith, inside (c .before .before))
-
-read-requires-2 : tie.Need-read-requires-2
-read-requires-2 c κs = omega (arith, inside (c .before .before .before))
-
 link-holds-requires : tie.Need-link-holds-requires
 link-holds-requires c κs =
     let s = c .before .before .before .before in
@@ -37,9 +28,9 @@ record-linked-spec =
     tie.close
     (tie.spec
     (λ c κs. search needs)
-    add-slot
-    read-requires
-    read-requires-2
-    (λ c. omega (arith, inside (c .before .before .before .before), c .before .before .before .before .pre .0 .proper .capacity-to))
+    (λ c. omega (arith, inside search))
+    (λ c κs. omega (arith, inside search))
+    (λ c κs. omega (arith, inside search))
+    (λ c. omega (arith, inside search, c .before .before .before .before .pre .0 .proper .capacity-to))
     link-holds-requires
     returns)

@@ -13,11 +13,8 @@ link-holds-requires c κs =
     let g = s .args .r / rangeRows in
     (s .pre .0, (omega (arith, s .pre .0 .proper .rows-are), rw (c .before .read .ensures) (s .pre .0 .records-in g)))
 
-returns : tie.Need-returns
-unfolding rowLinked
-returns c = rw (c .link-holds .ensures, c .before .read2 .ensures, c .before .before .read .ensures)
-
 pub row-linked-spec : {M : Type 1} → statement M
+unfolding rowLinked
 row-linked-spec =
     tie.close
     (tie.spec
@@ -25,4 +22,4 @@ row-linked-spec =
     (λ c κs. search needs)
     (λ c. search needs)
     link-holds-requires
-    returns)
+    (λ c. cc))

@@ -4,15 +4,12 @@ use Rattle.facts.specs.Facts.{rowsBetween}
 use Rattle.records.proofs.rows_between.Statement.{statement}
 use Rattle.records.proofs.rows_between.Tie as tie
 
-returns : tie.Need-returns
-unfolding rowsBetween
-returns c = rw (c .between-in .ensures, c .before .read .ensures)
-
 pub rows-between-spec : {M : Type 1} → statement M
+unfolding rowsBetween
 rows-between-spec =
     tie.close
     (tie.spec
     (λ c κs. search needs)
     (λ c. search needs)
     (λ c κs. search needs)
-    returns)
+    (λ c. cc))

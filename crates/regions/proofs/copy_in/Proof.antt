@@ -30,8 +30,8 @@ copy-in-spec =
     tie.close
     (tie.spec
     (λ c κs. search needs)
-    (λ c. omega (arith, inside (c .before .before .before)))
-    (λ c. omega (arith, inside (c .before .before .before)))
+    (λ c. omega (arith, inside search))
+    (λ c. omega (arith, inside search))
     copy-requires
     (λ c. search needs)
     returns)

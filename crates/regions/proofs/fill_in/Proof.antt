@@ -21,7 +21,7 @@ fill-in-spec =
     tie.close
     (tie.spec
     (λ c κs. search needs)
-    (λ c. omega (arith, inside (c .before .before .before)))
-    (λ c κs. omega (arith, inside (c .before .before .before)))
+    (λ c. omega (arith, inside search))
+    (λ c κs. omega (arith, inside search))
     (λ c. search needs)
     returns)

@@ -34,9 +34,9 @@ mark-in-spec =
     tie.close
     (tie.spec
     (λ c κs. search needs)
-    (λ c. omega (arith, inside (c .before .before .before)))
+    (λ c. omega (arith, inside search))
     (λ c κs. search needs)
-    (λ c. omega (arith, inside (c .before .before .before .before)))
+    (λ c. omega (arith, inside search))
     mark-requires
     (λ c. search needs)
     returns)

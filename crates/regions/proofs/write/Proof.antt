@@ -10,19 +10,10 @@ use Rattle.regions.proofs.write.Tie as tie
 inside : (c : tie.Start) → base (c .args .s) (c .args .k) + c .args .i < need (c .args .s)
 inside c = in-need (c .args .s) (c .args .k) (c .args .i) (c .pre .1)
 
-base-requires : tie.Need-base-requires
-base-requires c κs = omega arith
-
-add-put : tie.Need-add-put
-add-put c = omega (arith, inside (c .before .before .before))
-
-put-requires : tie.Need-put-requires
-put-requires c κs = omega (arith, inside (c .before .before .before))
-
 returns : tie.Need-returns
 returns c =
     let put = c .before .before in
     rw (put .put .ensures, put .before .base .ensures) (view-put _ _ _ _ _ (put .before .before .before .before .pre .1))
 
 pub write-spec : {M : Type 1} → statement M
-write-spec = tie.close (tie.spec base-requires add-put put-requires (λ c. search needs) returns)
+write-spec = tie.close (tie.spec (λ c κs. omega arith) (λ c. omega (arith, inside search)) (λ c κs. omega (arith, inside search)) (λ c. search needs) returns)

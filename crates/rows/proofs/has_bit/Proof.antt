@@ -5,9 +5,6 @@ use borrow.Author.Needs.{needs}
 use Rattle.rows.proofs.has_bit.Statement.{statement}
 use Rattle.rows.proofs.has_bit.Tie as tie
 
-returns : tie.Need-returns
-unfolding bit
-returns c = rw (and-mask _ 1)
-
 pub has-bit-spec : {M : Type 1} → statement M
-has-bit-spec = tie.close (tie.spec (λ c. search needs) returns)
+unfolding bit
+has-bit-spec = tie.close (tie.spec (λ c. search needs) (λ c. rw (and-mask _ 1)))

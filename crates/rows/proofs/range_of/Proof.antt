@@ -5,9 +5,6 @@ use borrow.Author.Needs.{needs}
 use Rattle.rows.proofs.range_of.Statement.{statement}
 use Rattle.rows.proofs.range_of.Tie as tie
 
-returns : tie.Need-returns
-unfolding rangeOf
-returns c = omega arith
-
 pub range-of-spec : {M : Type 1} → statement M
-range-of-spec = tie.close (tie.spec (λ c. search needs) returns)
+unfolding rangeOf
+range-of-spec = tie.close (tie.spec (λ c. search needs) (λ c. omega arith))

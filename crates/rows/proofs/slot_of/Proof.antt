@@ -14,11 +14,8 @@ inside c =
     let a = c .args in
     (slot-in (a .s) (c .pre .0) (a .g) (a .k .0) (c .pre .1 .0) (c .pre .1 .1) (c .pre .1 .2), slots-few (a .s) (c .pre .0))
 
-returns : tie.Need-returns
-unfolding slot
-returns c = (refl, inside (search) .0)
-
 pub slot-of-spec : {M : Type 1} → statement M
+unfolding slot
 slot-of-spec =
     tie.close
     (tie.spec
@@ -26,4 +23,4 @@ slot-of-spec =
     (λ c. search needs)
     (λ c. search needs)
     (λ c. omega (arith, inside search))
-    returns)
+    (λ c. (refl, inside (search) .0)))

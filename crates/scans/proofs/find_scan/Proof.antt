@@ -18,10 +18,6 @@ Inv-loop number numbers i₀ i = (i ≤ mostScans) × (firstAt number 0 numbers 
 abbrev μ-loop : tie.MeasureT-loop
 μ-loop number numbers i₀ i = mostScans - i
 
-returns : tie.Need-returns Inv-loop μ-loop
-unfolding findIn
-returns c = rw (eq-eqb _ _ (c .if1 .taken))
-
 returns-2 : tie.Need-returns-2 Inv-loop μ-loop
 unfolding findIn
 returns-2 c =
@@ -47,12 +43,13 @@ returns-3 c =
     sym (rw (ne-eqb _ _ (b .before .before .if1 .left)) (b .loop .inv .1 ∙ rw (left-none l (b .loop .i) (omega arith))))
 
 pub find-scan-spec : {M : Type 1} → statement M
+unfolding findIn
 find-scan-spec =
     tie.close
     (tie.spec
     Inv-loop
     μ-loop
-    returns
+    (λ c. rw (eq-eqb _ _ (c .if1 .taken)))
     (λ c. (omega arith, refl))
     (λ c. search needs)
     (λ c. search needs)

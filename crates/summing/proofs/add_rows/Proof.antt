@@ -16,9 +16,6 @@ Inv-loop mem s scan page c from to sum₀ row₀ sum row =
 abbrev μ-loop : tie.MeasureT-loop
 μ-loop mem s scan page c from to sum₀ row₀ sum row = to - row
 
-loop-holds : tie.Need-loop-holds Inv-loop μ-loop
-loop-holds c = (omega arith, omega arith, c .before .pre .1 .1 .1 .1 .1 .1)
-
 add-row-requires : tie.Need-add-row-requires Inv-loop μ-loop
 add-row-requires c κs =
     let start : tie.Start Inv-loop μ-loop = search in
@@ -41,7 +38,7 @@ add-rows-spec =
     (tie.spec
     Inv-loop
     μ-loop
-    loop-holds
+    (λ c. (omega arith, omega arith, c .before .pre .1 .1 .1 .1 .1 .1))
     add-row-requires
     (λ c. omega arith)
     (λ c. omega arith)

@@ -15,9 +15,6 @@ Inv-loop mem s scan c given merges sum₀ from₀ sum from = (from ≤ given) ×
 abbrev μ-loop : tie.MeasureT-loop
 μ-loop mem s scan c given merges sum₀ from₀ sum from = given - from
 
-add-rows-requires : tie.Need-add-rows-requires Inv-loop μ-loop
-add-rows-requires c κs = (search, (search, (search, ((search, search, omega arith), ((omega arith, search), (search page-of, search))))))
-
 pub sum-rows-spec : {M : Type 1} → statement M
 sum-rows-spec =
     tie.close
@@ -29,7 +26,7 @@ sum-rows-spec =
     (λ c κs. search needs)
     (λ c κs. (search, (search, (search, (search given-range, search)))))
     (λ c κs. (search, search given-few))
-    add-rows-requires
+    (λ c κs. (search, (search, (search, ((search, search, omega arith), ((omega arith, search), (search page-of, search)))))))
     (λ c. omega (arith, c .before .range-end .ensures))
     (λ c. (c .before .range-end .ensures .1, c .add-rows .ensures))
     (λ c. search (sum-is, given-few)))

@@ -1,34 +1,18 @@
--- `transactions::commit` meets its contract: the number that the record hands back is that of the transaction open at the place.
+-- `transactions::commit` meets its contract.
 use borrow.Author.Needs.{needs}
-use Rattle.layout.specs.View.{renew}
-use Rattle.model.specs.Stored.{openIndex}
-use Rattle.model.specs.Writing.{settled, freed, committedIn}
-use Rattle.transactions.specs.Pending.{kept}
-use Rattle.transactions.proofs.Number.{number-there}
+use Rattle.model.specs.Writing.{committedIn}
 use Rattle.transactions.proofs.commit.Statement.{statement}
 use Rattle.transactions.proofs.commit.Tie as tie
 
-returns : tie.Need-returns
-unfolding committedIn freed settled openIndex renew kept
-returns c =
-    let stamped = c .before .before in
-    let keeping = stamped .before .before .before .before in
-    let record-at = keeping .before in
-    let settling = record-at .before .before .before .before in
-    let handing = settling .before .before in
-    let asked = handing .before in
-    let start = asked .before .before .before in
-    λ t o. rw (stamped .write .ensures, keeping .keep .ensures, record-at .free-record .ensures, settling .settle .ensures, handing .hand-back .ensures, asked .pending-at .ensures, number-there _ _ t _ (start .pre .0) o, o .found)
-
 pub commit-spec : {M : Type 1} → statement M
+unfolding committedIn
 commit-spec =
     tie.close
     (tie.spec
     (λ c κs. search needs)
     (λ c κs. search needs)
-    (λ c κs. search needs)
-    (λ c κs. search needs)
-    (λ c κs. search needs)
-    (λ c κs. search needs)
     (λ c. search needs)
-    returns)
+    (λ c.
+    let stamped : tie.After-write = search in
+    let ended : tie.After-end-open = search in
+    λ t o. rw (stamped .write .ensures, ended .end-open .ensures t o)))

@@ -10,7 +10,7 @@ use Rattle.layout.specs.Regions.{need}
 use Rattle.layout.specs.View.{viewOf}
 use Rattle.layout.proofs.View.{view-long}
 use Rattle.words.proofs.Words.{length-words}
-use Rattle.loops.proofs.Places.{find-place}
+use Rattle.loops.proofs.Places.{find-index}
 use Rattle.transactions.proofs.free_index.Statement.{statement}
 use Rattle.transactions.proofs.free_index.Tie as tie
 
@@ -19,7 +19,7 @@ returns c =
     let start = c .before .before in
     let m = start .args .mem .now in
     let h : need (start .args .s) ≤ length (words m) = omega (arith, length-words m) in
-    rw (c .find-in .ensures) (find-place 0 (viewOf (start .args .s) m Region.Opens) mostTransactions (view-long (start .args .s) (words m) h Region.Opens))
+    rw (c .find-in .ensures) (find-index 0 (viewOf (start .args .s) m Region.Opens) mostTransactions (view-long (start .args .s) (words m) h Region.Opens))
 
 pub free-index-spec : {M : Type 1} → statement M
 free-index-spec =

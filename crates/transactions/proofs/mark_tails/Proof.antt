@@ -16,26 +16,22 @@ Inv-loop mem₀ s t k w ranges g₀ mem g =
 abbrev μ-loop : tie.MeasureT-loop
 μ-loop mem₀ s t k w ranges g₀ mem g = ranges - g
 
-loop-holds : tie.Need-loop-holds Inv-loop μ-loop
-loop-holds c = (omega arith, omega arith, marks-none _ _ _ _ _)
-
 mark-tail-requires : tie.Need-mark-tail-requires Inv-loop μ-loop
 mark-tail-requires c κs =
-    let start = c .before .before .before .before in
+    let head : tie.At-loop Inv-loop μ-loop = search in
+    let start : tie.Start Inv-loop μ-loop = search in
     let a = start .args in
-    let g = c .before .before .loop .g in
-    let e = marks-used (shapeIn (a .s)) (a .t .0) (a .k) (a .w) _ _ g g (start .pre .1 .1 .1 .2) (c .before .before .loop .inv .2) in
+    let g = head .loop .g in
+    let e = marks-used (shapeIn (a .s)) (a .t .0) (a .k) (a .w) _ _ g g (start .pre .1 .1 .1 .2) (head .loop .inv .2) in
     (omega arith, (start .pre .1 .0, ((omega arith, omega (arith, e, start .pre .1 .1 .0 .records-used g (omega arith))), (start .pre .1 .1 .1 .0, start .pre .1 .1 .1 .1))))
 
 loop-again : tie.Need-loop-again Inv-loop μ-loop
 loop-again c =
-    let marked = c .before .before in
-    let head = marked .before .before .before in
-    let asked = head .before .before .pre .1 .1 .1 in
+    let marked : tie.After-mark-tail Inv-loop μ-loop = search in
+    let head : tie.At-loop Inv-loop μ-loop = search in
+    let start : tie.Start Inv-loop μ-loop = search in
+    let asked = start .pre .1 .1 .1 in
     (omega arith, omega arith, marks-next _ _ _ _ _ _ _ _ (λ e. asked .1 (sym e)) (asked .2) (head .loop .inv .2) (marked .mark-tail .ensures))
-
-returns : tie.Need-returns Inv-loop μ-loop
-returns c = marks-all _ _ _ _ _ _ _ (c .before .loop .inv .2) (omega arith) (omega arith)
 
 pub mark-tails-spec : {M : Type 1} → statement M
 mark-tails-spec =
@@ -43,10 +39,10 @@ mark-tails-spec =
     (tie.spec
     Inv-loop
     μ-loop
-    loop-holds
+    (λ c. (omega arith, omega arith, marks-none _ _ _ _ _))
     mark-tail-requires
     (λ c. omega arith)
     (λ c. omega arith)
     loop-again
     (λ c. omega arith)
-    returns)
+    (λ c. search marks-all))

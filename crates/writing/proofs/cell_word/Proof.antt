@@ -3,9 +3,6 @@ use borrow.Author.Needs.{needs}
 use Rattle.writing.proofs.cell_word.Statement.{statement}
 use Rattle.writing.proofs.cell_word.Tie as tie
 
-returns : tie.Need-returns
-returns c = rw (c .read2 .ensures, c .before .read .ensures)
-
 pub cell-word-spec : {M : Type 1} → statement M
 cell-word-spec =
     tie.close
@@ -15,4 +12,4 @@ cell-word-spec =
     (λ c. search needs)
     (λ c. search needs)
     (λ c κs. search needs)
-    returns)
+    (λ c. cc))

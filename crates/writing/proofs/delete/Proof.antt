@@ -7,15 +7,8 @@ use Rattle.layout.proofs.Indices.{range-in}
 use Rattle.writing.proofs.delete.Statement.{statement}
 use Rattle.writing.proofs.delete.Tie as tie
 
-returns : tie.Need-returns
-unfolding rangeOf
-returns c =
-    let noted = c .before .before in
-    let appended = noted .before .before .before .before in
-    let used = appended .before .before in
-    (rw (used .read .ensures), deleted-is _ _ _ _ (used .before .before .before .before .pre .1 .1 .0) _ _ _ (appended .append .ensures) (noted .note .ensures))
-
 pub delete-spec : {M : Type 1} → statement M
+unfolding rangeOf
 delete-spec =
     tie.close
     (tie.spec
@@ -25,4 +18,4 @@ delete-spec =
     (λ c κs. search needs)
     (λ c. search needs)
     (λ c. search needs)
-    returns)
+    (λ c. let used : tie.After-read = search in (rw (used .read .ensures), search deleted-is)))

@@ -20,33 +20,24 @@ Inv-loop mem₀ s g i columns to first c₀ mem c =
 abbrev μ-loop : tie.MeasureT-loop
 μ-loop mem₀ s g i columns to first c₀ mem c = columns - c
 
--- where the function begins, and the loop's head from the place where a turn writes
-abbrev start : tie.At-loop Inv-loop μ-loop → tie.Start Inv-loop μ-loop
-start c = c .before .before .before .before
-
-abbrev head : tie.After-write-arg Inv-loop μ-loop → tie.At-loop Inv-loop μ-loop
-head c = c .before .before .before .before
-
--- the range's current pages lie among the places
+-- the range's chunks lie among the chunks
 inside : (c : tie.Start Inv-loop μ-loop) → let a = c .args in (a .g * a .s .columns + a .s .columns ≤ a .s .chunks) × (a .s .chunks + a .s .values ≤ need (a .s))
 inside c = let a = c .args in (chunks-in (a .s) (c .pre .1 .0 .0) (a .g) (c .pre .1 .1 .0 .range-below), omega (arith, sizes-need (a .s)))
 
 cell-word-requires : tie.Need-cell-word-requires Inv-loop μ-loop
 cell-word-requires c κs =
-    let turn = c .before .before in
-    let s = start turn in
-    let e = fills-current _ _ _ _ _ _ (turn .loop .inv .2) in
+    let head : tie.At-loop Inv-loop μ-loop = search in
+    let s : tie.Start Inv-loop μ-loop = search in
+    let e = fills-current _ _ _ _ _ _ (head .loop .inv .2) in
     (omega arith, (omega (arith, inside s), s .pre .1 .1 .1, rw e (s .pre .1 .0 .1 _ (omega (arith, inside s)))))
 
 loop-again : tie.Need-loop-again Inv-loop μ-loop
 loop-again c =
-    let wrote = c .before .before in
-    let at = wrote .before in
-    let e = head at .loop .inv .2 in
-    (omega arith, omega arith, fills-next _ _ _ _ _ _ _ _ e (fills-cell _ _ _ _ _ _ _ _ e (at .before .cell-word .ensures)) (wrote .write .ensures))
-
-returns : tie.Need-returns Inv-loop μ-loop
-returns c = fills-all _ _ _ _ _ _ _ (c .before .before .newest-values .ensures .0) (c .before .loop .inv .2) (omega arith) (omega arith)
+    let wrote : tie.After-write Inv-loop μ-loop = search in
+    let word : tie.After-cell-word Inv-loop μ-loop = search in
+    let head : tie.At-loop Inv-loop μ-loop = search in
+    let e = head .loop .inv .2 in
+    (omega arith, omega arith, fills-next _ _ _ _ _ _ _ _ e (fills-cell _ _ _ _ _ _ _ _ e (word .cell-word .ensures)) (wrote .write .ensures))
 
 pub fill-cells-spec : {M : Type 1} → statement M
 fill-cells-spec =
@@ -55,14 +46,14 @@ fill-cells-spec =
     Inv-loop
     μ-loop
     (λ c κs. search needs)
-    (λ c. omega (arith, inside (c .before .before .before)))
+    (λ c. omega (arith, inside search))
     (λ c. (omega arith, omega arith, fills-none _ _ _ _))
-    (λ c. omega (arith, inside (start (c .before .before))))
+    (λ c. omega (arith, inside search))
     cell-word-requires
-    (λ c. omega (arith, inside (start (head c))))
+    (λ c. omega (arith, inside search))
     (λ c κs. omega arith)
     (λ c. omega arith)
     (λ c. omega arith)
     loop-again
     (λ c. omega arith)
-    returns)
+    (λ c. search fills-all))

@@ -8,28 +8,25 @@ use Rattle.writing.proofs.Steps.{inserted-is}
 use Rattle.writing.proofs.insert.Statement.{statement}
 use Rattle.writing.proofs.insert.Tie as tie
 
--- the row's words from the place before its cells are put
-abbrev row-put : tie.After-put-cells-arg → tie.After-put-row
-row-put c = c .before .before .before .before
-
 -- the words of the row are not among the current pages
 put-cells-requires : tie.Need-put-cells-requires
 unfolding rowPut put renew
 put-cells-requires c κs =
-    let given = row-put c .before .before in
-    let start = given .before .before .before in
+    let start : tie.Start = search in
+    let given : tie.After-read = search in
+    let row : tie.After-put-row = search in
     let e = given .read .ensures in
-    (omega arith, ((start .pre .1 .0 .0, rw (row-put c .put-row .ensures) (start .pre .1 .0 .1)), (range-in _ (start .pre .1 .0 .0) _ (omega arith), omega arith)))
+    (omega arith, ((start .pre .1 .0 .0, rw (row .put-row .ensures) (start .pre .1 .0 .1)), (range-in _ (start .pre .1 .0 .0) _ (omega arith), omega arith)))
 
 returns : tie.Need-returns
 returns c =
-    let noted = c .before .before in
-    let counted = noted .before .before .before .before in
-    let at = counted .before .before in
-    let cells = at .before .before .before in
-    let row = row-put (cells .before) in
-    let given = row .before .before in
-    (given .read .ensures, inserted-is _ _ _ _ (given .before .before .before .pre .1 .1 .0) _ _ _ _ _ _ (given .read .ensures) (row .put-row .ensures) (cells .put-cells .ensures) (counted .write .ensures) (noted .note .ensures))
+    let noted : tie.After-note = search in
+    let counted : tie.After-write = search in
+    let cells : tie.After-put-cells = search in
+    let row : tie.After-put-row = search in
+    let given : tie.After-read = search in
+    let start : tie.Start = search in
+    (given .read .ensures, inserted-is _ _ _ _ (start .pre .1 .1 .0) _ _ _ _ _ _ (given .read .ensures) (row .put-row .ensures) (cells .put-cells .ensures) (counted .write .ensures) (noted .note .ensures))
 
 pub insert-spec : {M : Type 1} → statement M
 insert-spec =

@@ -3,9 +3,6 @@ use borrow.Author.Needs.{needs}
 use Rattle.writing.proofs.put_cell.Statement.{statement}
 use Rattle.writing.proofs.put_cell.Tie as tie
 
-returns : tie.Need-returns
-returns c = rw (c .before .before .write .ensures, c .before .before .before .before .read .ensures)
-
 pub put-cell-spec : {M : Type 1} → statement M
 put-cell-spec =
     tie.close
@@ -16,4 +13,4 @@ put-cell-spec =
     (λ c. search needs)
     (λ c κs. search needs)
     (λ c. search needs)
-    returns)
+    (λ c. cc))

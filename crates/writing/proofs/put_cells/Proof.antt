@@ -21,29 +21,25 @@ Inv-loop mem₀ s g i vs columns first c₀ mem c =
 abbrev μ-loop : tie.MeasureT-loop
 μ-loop mem₀ s g i vs columns first c₀ mem c = columns - c
 
--- the loop's head from the place where a turn has its word
-abbrev head : tie.After-to-word Inv-loop μ-loop → tie.At-loop Inv-loop μ-loop
-head c = c .before .before .before .before
-
--- the range's current pages lie among the places
+-- the range's chunks lie among the chunks
 inside : (c : tie.Start Inv-loop μ-loop) → let a = c .args in (a .g * a .s .columns + a .s .columns ≤ a .s .chunks) × (a .s .chunks ≤ need (a .s)) × (a .s .columns ≤ mostColumns)
 inside c = let a = c .args in (chunks-in (a .s) (c .pre .1 .0 .0) (a .g) (c .pre .1 .1 .0), omega (arith, sizes-need (a .s)), c .pre .1 .0 .0 .columns-to)
 
 put-cell-requires : tie.Need-put-cell-requires Inv-loop μ-loop
 put-cell-requires c κs =
-    let start = head c .before .before in
-    let e = cells-current _ _ _ _ _ _ _ (head c .loop .inv .2) in
+    let head : tie.At-loop Inv-loop μ-loop = search in
+    let start : tie.Start Inv-loop μ-loop = search in
+    let e = cells-current _ _ _ _ _ _ _ (head .loop .inv .2) in
     (omega arith, (omega (arith, inside start), start .pre .1 .1 .1, rw e (start .pre .1 .0 .1 _ (omega (arith, inside start)))))
 
 loop-again : tie.Need-loop-again Inv-loop μ-loop
 loop-again c =
-    let put = c .before .before in
-    let word = put .before in
-    let turn = head word .loop in
-    (omega arith, omega arith, cells-next _ _ _ _ _ _ _ _ _ (turn .inv .2) (word-of (getD (head word .before .before .args .t5) (turn .c) (pos 0)) _ (word .to-word .ensures) (word .before .to-word-arg .given)) (put .put-cell .ensures))
-
-returns : tie.Need-returns Inv-loop μ-loop
-returns c = cells-all _ _ _ _ _ _ _ (c .before .loop .inv .2) (omega arith) (omega arith)
+    let put : tie.After-put-cell Inv-loop μ-loop = search in
+    let word : tie.After-to-word Inv-loop μ-loop = search in
+    let head : tie.At-loop Inv-loop μ-loop = search in
+    let start : tie.Start Inv-loop μ-loop = search in
+    let turn = head .loop in
+    (omega arith, omega arith, cells-next _ _ _ _ _ _ _ _ _ (turn .inv .2) (word-of (getD (start .args .t5) (turn .c) (pos 0)) _ (word .to-word .ensures) (word .before .to-word-arg .given)) (put .put-cell .ensures))
 
 pub put-cells-spec : {M : Type 1} → statement M
 put-cells-spec =
@@ -51,15 +47,15 @@ put-cells-spec =
     (tie.spec
     Inv-loop
     μ-loop
-    (λ c. omega (arith, inside (c .before)))
+    (λ c. omega (arith, inside search))
     (λ c. (omega arith, omega arith, cells-none _ _ _ _ _))
-    (λ c. omega (arith, inside (c .before .before .before .before)))
-    (λ c. omega (arith, inside (c .before .before .before .before)))
-    (λ c. omega (arith, inside (c .before .before .before .before)))
+    (λ c. omega (arith, inside search))
+    (λ c. omega (arith, inside search))
+    (λ c. omega (arith, inside search))
     (λ c κs. search needs)
     put-cell-requires
     (λ c. omega arith)
     (λ c. omega arith)
     loop-again
     (λ c. omega arith)
-    returns)
+    (λ c. search cells-all))

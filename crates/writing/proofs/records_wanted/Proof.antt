@@ -6,20 +6,13 @@ use Rattle.model.specs.Writing.{recordsWanted, newBitsIn}
 use Rattle.writing.proofs.records_wanted.Statement.{statement}
 use Rattle.writing.proofs.records_wanted.Tie as tie
 
-returns : tie.Need-returns
-unfolding recordsWanted newBitsIn rowIn
-returns c = rw (← c .before .before .read .ensures, ← c .before .new-bits .ensures, eq-eqb _ _ (c .if1 .taken))
-
-returns-2 : tie.Need-returns-2
-unfolding recordsWanted newBitsIn rowIn
-returns-2 c = rw (← c .before .before .read .ensures, ← c .before .new-bits .ensures, ne-eqb _ _ (c .if1 .left))
-
 pub records-wanted-spec : {M : Type 1} → statement M
+unfolding recordsWanted newBitsIn rowIn
 records-wanted-spec =
     tie.close
     (tie.spec
     (λ c. search needs)
     (λ c κs. search needs)
     (λ c κs. search needs)
-    returns
-    returns-2)
+    (λ c. rw (← c .before .before .read .ensures, ← c .before .new-bits .ensures, eq-eqb _ _ (c .if1 .taken)))
+    (λ c. rw (← c .before .before .read .ensures, ← c .before .new-bits .ensures, ne-eqb _ _ (c .if1 .left))))

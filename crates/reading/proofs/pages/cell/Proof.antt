@@ -6,11 +6,8 @@ use borrow.Author.Needs.{needs}
 use Rattle.reading.proofs.pages.cell.Statement.{statement}
 use Rattle.reading.proofs.pages.cell.Tie as tie
 
-returns : tie.Need-returns
-unfolding cellIn
-returns c = c .read .ensures
-
 pub cell-spec : {M : Type 1} → statement M
+unfolding cellIn
 cell-spec =
     tie.close
     (tie.spec
@@ -18,4 +15,4 @@ cell-spec =
     (λ c. search needs)
     (λ c. omega (arith, chunks-few _ (c .before .before .pre .1 .0)))
     (λ c κs. search needs)
-    returns)
+    (λ c. c .read .ensures))

@@ -20,16 +20,13 @@ Inv-loop mem s merges chunk n p₀ p =
 abbrev μ-loop : tie.MeasureT-loop
 μ-loop mem s merges chunk n p₀ p = n - p
 
-loop-holds : tie.Need-loop-holds Inv-loop μ-loop
-loop-holds c = (omega arith, simp sub-zero)
-
 pub old-page-spec : {M : Type 1} → statement M
 old-page-spec =
     tie.close
     (tie.spec
     Inv-loop
     μ-loop
-    loop-holds
+    (λ c. (omega arith, simp sub-zero))
     (λ c κs. search needs)
     (λ c. search old-found)
     (λ c. omega arith)

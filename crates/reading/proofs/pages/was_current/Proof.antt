@@ -5,9 +5,6 @@ use borrow.Author.Needs.{needs}
 use Rattle.reading.proofs.pages.was_current.Statement.{statement}
 use Rattle.reading.proofs.pages.was_current.Tie as tie
 
-rem-if2 : tie.Need-rem-if2
-rem-if2 c = let start : tie.Start = search in omega (arith, chunks-some _ (start .pre .1 .0))
-
 pub was-current-spec : {M : Type 1} → statement M
 was-current-spec =
     tie.close
@@ -16,7 +13,7 @@ was-current-spec =
     (λ c. search not-waiting)
     (λ c κs. search needs)
     (λ c. search needs)
-    rem-if2
+    (λ c. let start : tie.Start = search in omega (arith, chunks-some _ (start .pre .1 .0)))
     (λ c. search elsewhere)
     (λ c κs. search needs)
     (λ c. search made-later)

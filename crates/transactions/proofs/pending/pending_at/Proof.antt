@@ -3,8 +3,5 @@ use borrow.Author.Needs.{needs}
 use Rattle.transactions.proofs.pending.pending_at.Statement.{statement}
 use Rattle.transactions.proofs.pending.pending_at.Tie as tie
 
-returns : tie.Need-returns
-returns c = rw (c .read2 .ensures, c .before .read .ensures)
-
 pub pending-at-spec : {M : Type 1} → statement M
-pending-at-spec = tie.close (tie.spec (λ c κs. search needs) (λ c κs. search needs) returns)
+pending-at-spec = tie.close (tie.spec (λ c κs. search needs) (λ c κs. search needs) (λ c. cc))

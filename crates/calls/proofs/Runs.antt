@@ -18,7 +18,7 @@ use Rattle.terms.specs.declared.Refusal.{Refusal}
 use Rattle.words.specs.Words.{words}
 use Rattle.layout.specs.Sizes.{sizesOf, bytesNeeded}
 use Rattle.layout.specs.View.{View, lay}
-use Rattle.terms.specs.Places.{freeEntry}
+use Rattle.terms.specs.Entries.{freeEntry}
 use Rattle.facts.specs.Usable.{storedShape, usable}
 use Rattle.facts.proofs.Usable.{usable-tells}
 use Rattle.history.proofs.Lists.{is-true, refuted, clash}
@@ -32,8 +32,8 @@ use Rattle.promise.proofs.Demands.{demand3, reads-committed, pages-committed, s
 use Rattle.promise.proofs.Refused.{refused-keeps}
 use Rattle.promise.proofs.Stated.{refuses}
 use Rattle.making.specs.Made.{made}
-use Rattle.scans.specs.Places.{freedIf}
-use Rattle.calls.specs.Runs.{Run, ends, goes, Face, ReadAmong, toldAt, RefusedSo, RefusedKept, UnmadeKept, ReadsSo, PagesSo, AnswersSo, StruckSame, ReadsStable, calls, LentRefused, LentKept, MakingKept, LentReads, LentPages, LentAnswers, LentStriking, LentStability, MakingFrees, OnePlace, ShortRefused}
+use Rattle.scans.specs.Entries.{freedIf}
+use Rattle.calls.specs.Runs.{Run, ends, goes, Face, ReadAmong, toldAt, RefusedSo, RefusedKept, UnmadeKept, ReadsSo, PagesSo, AnswersSo, StruckSame, ReadsStable, calls, LentRefused, LentKept, MakingKept, LentReads, LentPages, LentAnswers, LentStriking, LentStability, MakingFrees, OneEntry, ShortRefused}
 
 -- ---- what a run answers and leaves
 left-on : (x : Lent) (c : Call) (cs : List Call) {m′ : List ℕ} {ps′ : List ScanEntry} → m′ ≡ memoryAfter x c → ps′ ≡ listAfter x c → left (lend m′ ps′) cs ≡ left x (c ∷ cs)
@@ -223,7 +223,7 @@ lent-striking = struck-same calls faithful
 pub lent-stability : LentStability
 lent-stability = reads-stable calls faithful
 
--- ---- at most one place
+-- ---- at most one entry
 
 Changed : List ScanEntry → List ScanEntry → Type 0
 Changed ps ps′ = (i : ℕ) × (p : ScanEntry) × (ps′ ≡ set ps i p)
@@ -263,14 +263,14 @@ list-changed m ps c =
     elim (usable m ps) as (λ b. Changed ps (cond b (entriesNext (storedShape (words m)) (storeView m) ps c) ps))
     [ true ↦ if-changed _ ps _ (after-changed (storeView m) ps c) | false ↦ none-changed ps ]
 
-pub one-place : OnePlace
-unfolding OnePlace Serves Changed
-one-place m m′ ps ps′ c r s = subst (Changed ps) (sym (s .2)) (list-changed m ps c)
+pub one-entry : OneEntry
+unfolding OneEntry Serves Changed
+one-entry m m′ ps ps′ c r s = subst (Changed ps) (sym (s .2)) (list-changed m ps c)
 
 -- ---- a short list
 
 short-unusable : (m : List ℕ) (ps : List ScanEntry) → length ps < mostScans → usable m ps ≡ false
-short-unusable m ps k = refuted (usable m ps) (λ t. omega (arith, usable-tells m ps (is-true (usable m ps) t) .places))
+short-unusable m ps k = refuted (usable m ps) (λ t. omega (arith, usable-tells m ps (is-true (usable m ps) t) .entries))
 
 pub short-refused : ShortRefused
 unfolding ShortRefused Serves Refuses conditions

@@ -20,19 +20,19 @@ use Rattle.promise.specs.Promise.{Serves, ServesBy, Makes, kept}
 use Rattle.upkeep.specs.declared.ListChange.{ListChange}
 use Rattle.upkeep.specs.Lists.{changedAt}
 use Rattle.terms.specs.Refusals.{isAccepted}
-use Rattle.scans.specs.Places.{freedIf}
+use Rattle.scans.specs.Entries.{freedIf}
 use Rattle.lent.proofs.Plain.{res}
 use Rattle.lent.proofs.Further.{Further}
 use Rattle.lent.proofs.Hands.{heres, Vals}
 use Rattle.lent.proofs.Tokens.{up}
 use Rattle.lent.proofs.Slices.{Access, reads, writes, slices, loans}
-use Rattle.lent.proofs.Known.{table-known, keep-known}
+use Rattle.lent.proofs.Known.{table-known, apply-change-known}
 use Rattle.lent.proofs.Callees.{KnownIn}
 use Rattle.lent.proofs.Written.{Code, Meets}
 use Rattle.lent.proofs.laws.list_kept as list-kept
 use Rattle.lent.proofs.laws.list_changed as list-changed
 use Rattle.lent.proofs.table.Symbol as load
-use Rattle.lent.proofs.keep.Symbol as keep
+use Rattle.lent.proofs.apply_change.Symbol as apply-change
 use Rattle.calls.proofs.Types.{answer, table, change}
 
 -- m: whether the call reads or writes the memory; fs: its further arguments; c: the call that they make
@@ -51,15 +51,15 @@ module _ (m : Access) (l : ℕ) (fs : List (Further 2 1 (up 2 (loans m)) l)) (c 
   abbrev decided : List ℕ → Scans → Vals fs → ListChange → List ℕ → Type 0
   decided b t x d b′ = ServesBy t b (c x) (d .answer) b′ (changedAt d)
 
-  pub changed : Code w γ k (fnOf (up 2 l) (slices m writes (heres fs)) (res answer) (list-changed.xs l load.name core keep.name table change answer m) 0 [] (list-changed.body l load.name core keep.name table change answer m fs))
+  pub changed : Code w γ k (fnOf (up 2 l) (slices m writes (heres fs)) (res answer) (list-changed.xs l load.name core apply-change.name table change answer m) 0 [] (list-changed.body l load.name core apply-change.name table change answer m fs))
       → γ load.name ≡ load.routine
-      → KnownIn w γ (list-changed.decides l load.name core keep.name table change answer m fs decided)
-      → γ keep.name ≡ keep.routine
-      → Meets (up 2 l) (slices m writes (heres fs)) (res answer) (list-changed.Q-call l load.name core keep.name table change answer m fs (λ b p x. Serves b p (c x))) w (γ k)
+      → KnownIn w γ (list-changed.decides l load.name core apply-change.name table change answer m fs decided)
+      → γ apply-change.name ≡ apply-change.routine
+      → Meets (up 2 l) (slices m writes (heres fs)) (res answer) (list-changed.Q-call l load.name core apply-change.name table change answer m fs (λ b p x. Serves b p (c x))) w (γ k)
   unfolding ServesBy
-  changed code e-table k-core e-keep =
-      list-changed.meets l load.name core keep.name table change answer (λ p t. t ≡ tableOf p) (λ p d z p′. (z ≡ d .answer) × (p′ ≡ set p (d .index) (d .entry))) m fs decided (λ b p x. Serves b p (c x))
-      (λ b p x t d z b′ p′ e h s. rw (s .1, s .0) (h p e)) w γ k code (table-known w γ e-table) k-core (keep-known w γ e-keep)
+  changed code e-table k-core e-apply =
+      list-changed.meets l load.name core apply-change.name table change answer (λ p t. t ≡ tableOf p) (λ p d z p′. (z ≡ d .answer) × (p′ ≡ set p (d .index) (d .entry))) m fs decided (λ b p x. Serves b p (c x))
+      (λ b p x t d z b′ p′ e h s. rw (s .1, s .0) (h p e)) w γ k code (table-known w γ e-table) k-core (apply-change-known w γ e-apply)
 
 pub made-so : (S : Shape) (m : List ℕ) (n : ℕ) (x z : Answer) (m′ : List ℕ) (ps ps′ : List ScanEntry) → n ≡ length ps → (x, m′) ≡ made S n m → (z ≡ x) × (ps′ ≡ freedIf (isAccepted x) ps) → Makes m ps S z m′ ps′
 unfolding Makes

@@ -26,8 +26,8 @@ value-past vs i h k =
     ∙ getD-append-add vs zeros (i - length vs) (pos 0)
     ∙ getD-replicate mostColumns (i - length vs) (pos 0) (pos 0) l
 
-pub sixteen-length : (vs : List ℤ) → length (padded vs) ≡ mostColumns
+pub padded-length : (vs : List ℤ) → length (padded vs) ≡ mostColumns
 unfolding padded
-sixteen-length vs =
+padded-length vs =
     let e : length (vs ++ zeros) ≡ length vs + mostColumns = length-append vs zeros in
     length-take-le mostColumns (vs ++ zeros) (omega (arith, e))

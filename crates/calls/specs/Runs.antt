@@ -12,7 +12,7 @@ use Rattle.terms.specs.declared.Answer.{Answer}
 use Rattle.terms.specs.declared.ScanEntry.{ScanEntry}
 use Rattle.terms.specs.declared.Refusal.{Refusal}
 use Rattle.words.specs.Words.{Bytes}
-use Rattle.scans.specs.Places.{allFreed}
+use Rattle.scans.specs.Entries.{allFreed}
 use Rattle.history.specs.History.{Call, start, answers}
 use Rattle.history.specs.Claims.{strike, plainAnswers, Reads, historyBefore, callAt}
 use Rattle.history.specs.Latest.{lastCommitted}
@@ -130,8 +130,8 @@ LentStability = ReadsStable calls
 unfoldable pub MakingFrees : Type 0
 MakingFrees = (S : Shape) (m m′ : List ℕ) (ps ps′ : List ScanEntry) → Makes m ps S Answer.Done m′ ps′ → ps′ ≡ allFreed ps
 
-unfoldable pub OnePlace : Type 0
-OnePlace = (m m′ : List ℕ) (ps ps′ : List ScanEntry) (c : Call) (r : Answer) → Serves m ps c r m′ ps′ → (i : ℕ) × (p : ScanEntry) × (ps′ ≡ set ps i p)
+unfoldable pub OneEntry : Type 0
+OneEntry = (m m′ : List ℕ) (ps ps′ : List ScanEntry) (c : Call) (r : Answer) → Serves m ps c r m′ ps′ → (i : ℕ) × (p : ScanEntry) × (ps′ ≡ set ps i p)
 
 -- a list under 16 entries is refused with 2, whatever the memory
 unfoldable pub ShortRefused : Type 0

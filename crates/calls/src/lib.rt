@@ -1,8 +1,8 @@
 // The public interface for programs in Rattle: every call by name, over the lent memory and the lent list of open scans, and the making of a
 // store. Nothing is asked of the caller: any memory, any list and any numbers get an answer. A call that does not change the memory, or the list, takes it as
 // `&`. The crate deskrook has the same for C and Rust.
+use lent::apply_change;
 use lent::free_made;
-use lent::keep;
 use lent::len_of;
 use lent::table;
 use scans::Scans;
@@ -238,7 +238,7 @@ pub fn open_scan(mem: &mut [u8], scans: &mut [ScanEntry], stamp: Stamp) -> Answe
 {
     let t = table(scans);
     let change = upkeep::open_scan(mem, t, stamp);
-    keep(scans, change)
+    apply_change(scans, change)
 }
 
 // A scan is closed: its entry is free again.
@@ -247,5 +247,5 @@ pub fn close_scan(mem: &[u8], scans: &mut [ScanEntry], scan: u32) -> Answer
 {
     let t = table(scans);
     let change = upkeep::close_scan(mem, t, scan);
-    keep(scans, change)
+    apply_change(scans, change)
 }

@@ -16,12 +16,12 @@ use Rattle.layout.specs.declared.Region.{Region}
 use Rattle.layout.specs.View.{View, rowsGiven, transactionsGiven, usedIn, viewOf, Suffices}
 use Rattle.layout.proofs.View.{view-long}
 use Rattle.history.specs.History.{verdict, any, rangeOf}
-use Rattle.terms.specs.Places.{firstIndex}
+use Rattle.terms.specs.Entries.{firstIndex}
 use Rattle.scans.specs.declared.Scans.{Scans}
 use Rattle.model.specs.Writing.{recordsWanted}
 use Rattle.model.specs.Calls.{lacksIn}
 use Rattle.layout.specs.Sizes.{Proper}
-use Rattle.model.specs.Asked.{shapeIn, Counted, Linked, FreeAt, OpenAt}
+use Rattle.model.specs.Preconditions.{shapeIn, Counted, Linked, FreeAt, OpenAt}
 use Rattle.loops.specs.Search.{foundAt}
 use Rattle.writing.specs.Steps.{Room}
 use Rattle.rows.proofs.Indices.{row-in}
@@ -54,7 +54,7 @@ module _ (d : Tested) (s : Sizes) (v : View) (t r n k : ℕ) (e : n ≡ k) where
   pub wanted-left : Holds d (Room s v r n) → Holds d (Room s v r k)
   wanted-left h = rw e at h
 
--- ---- a row that is given has its place, and its range is one of the store's
+-- ---- a row that is given is there, and its range is one of the store's
 module _ (s : Sizes) (m : List ℕ) (r : ℕ) (w : Fitted s m) (h : r < rowsGiven (viewOf s m)) where
   pub row-inside : r < s .rows
   row-inside = omega (arith, w .linked .rows-few)
@@ -73,13 +73,13 @@ module _ (s : Sizes) (v : View) (n : ℕ) (p : Proper s) (e : n ≡ rowsGiven v)
 pub counted : (s : Sizes) (v : View) → Linked s v → Counted s v
 counted s v l = record { rows-given = l .rows-few; records-used = l .used-few }
 
--- ---- the places of the open transactions: one is free, or none
+-- ---- the entries of the open transactions: one is free, or none
 opens-long : (s : Sizes) (m : List ℕ) → Suffices s m → length (viewOf s m Region.Opens) ≡ mostTransactions
 opens-long s m h = view-long s (words m) (omega (arith, length-words m)) Region.Opens
 
-any-place : (f : ℕ → Bool) (l : List ℕ) → any f l ≡ ltb (firstIndex f l) (length l)
-any-place f [] = refl
-any-place f (x ∷ l) = go (f x) (any-place f l)
+any-first : (f : ℕ → Bool) (l : List ℕ) → any f l ≡ ltb (firstIndex f l) (length l)
+any-first f [] = refl
+any-first f (x ∷ l) = go (f x) (any-first f l)
   where
     go : (b : Bool) → any f l ≡ ltb (firstIndex f l) (length l) → (b || any f l) ≡ ltb (cond b 0 (suc (firstIndex f l))) (suc (length l))
     go true ih = sym (lt-ltb 0 (suc (length l)) (omega arith))
@@ -93,7 +93,7 @@ module _ (s : Sizes) (m : List ℕ) (h : Suffices s m) where
   free k = eqb k 0
 
   any-free : any free opens ≡ ltb (firstIndex free opens) mostTransactions
-  any-free = any-place free opens ∙ ap (ltb (firstIndex free opens)) (opens-long s m h)
+  any-free = any-first free opens ∙ ap (ltb (firstIndex free opens)) (opens-long s m h)
 
   no-free : foundAt mostTransactions (firstIndex free opens) ≡ Found.Nothing → not (any free opens) ≡ true
   no-free e = rw any-free (go (ltb (firstIndex free opens) mostTransactions) e)

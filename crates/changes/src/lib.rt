@@ -34,7 +34,7 @@ ghost use Rattle.terms.specs.Measures.{mostNumbers};
 ghost use Rattle.layout.specs.View.{rowsGiven, transactionsGiven, viewOf};
 ghost use Rattle.history.specs.History.{Call, verdict, rangeOf};
 ghost use Rattle.model.specs.Writing.{recordsWanted};
-ghost use Rattle.model.specs.Asked.{shapeIn, FreeAt, OpenAt};
+ghost use Rattle.model.specs.Preconditions.{shapeIn, FreeAt, OpenAt};
 ghost use Rattle.writing.specs.Steps.{Room};
 ghost use Rattle.promise.specs.Promise.{ServesBy, kept};
 ghost use Rattle.entry.specs.Entered.{Fitted};

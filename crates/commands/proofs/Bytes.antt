@@ -53,7 +53,7 @@ value-next bytes out i w v e p q h l =
     let k : i < length (words bytes) = omega (arith, length-words bytes) in
     rw (add-one i, take-suc-set out i v, take-suc (words bytes) i 0, map-append, q, p) (ap (λ (t : List ℤ). t ++ toZ w32 (getD (words bytes) i 0) ∷ []) e)
 
--- an array of zeros holds 0 at every place, and one that holds 0 from i on does so from the next after a store at i
+-- an array of zeros holds 0 at every index, and one that holds 0 from i on does so from the next after a store at i
 pub zeros-at : (n k : ℕ) → getD (replicate n (pos 0)) k (pos 0) ≡ pos 0
 zeros-at zero k = refl
 zeros-at (suc n) zero = refl

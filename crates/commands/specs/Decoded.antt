@@ -16,6 +16,6 @@ measured m = record { columns = m .columns; ranges = m .ranges; capacity = m .ca
 abbrev pub callIn : Request → Call
 callIn r = callOf (r .kind) (r .operands) (take (r .count) (r .values))
 
--- the places of a request's array past its values hold 0
+-- a request's array holds 0 past its values
 abbrev pub ZerosPast : ℕ → List ℤ → Type 0
 ZerosPast n vs = (i : ℕ) → n ≤ i → getD vs i (pos 0) ≡ pos 0

@@ -182,7 +182,7 @@ fn operands(form: Form, bytes: &[u8]) -> [u32; MOST_OPERANDS]
     ]
 }
 
-// The first n values of the bytes. The other places of the array hold 0.
+// The first n values of the bytes. The rest of the array holds 0.
 fn values(bytes: &[u8], n: usize) -> [i32; MOST_COLUMNS]
     requires { ⌜ (n * valueBytes ≤ length (now bytes)) × (n ≤ mostColumns) ⌝ }
     ensures { λ r. ⌜ (take n r ≡ valuesOf n (now (bytes .entry))) × ZerosPast n r ⌝ }

@@ -20,7 +20,7 @@ use Rattle.layout.specs.declared.Region.the-variants.{Opens}
 use Rattle.layout.specs.View.{View, view, viewOf, Suffices}
 use Rattle.layout.proofs.View.{view-long}
 use Rattle.history.specs.History.{any}
-use Rattle.terms.specs.Places.{bears, firstIndex}
+use Rattle.terms.specs.Entries.{bears, firstIndex}
 use Rattle.model.specs.Stored.{openIndex}
 use Rattle.model.specs.Calls.{notOpenIn}
 use Rattle.rows.specs.Finders.{Inside}

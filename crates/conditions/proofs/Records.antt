@@ -14,7 +14,7 @@ use borrow.Author.Tests.{eq-eqb, ne-eqb}
 use mir.Syntax.{w64}
 use mir.Val.{Fits}
 use Rattle.terms.specs.Measures.{Shape, mostTransactions}
-use Rattle.terms.specs.Places.{bears, firstIndex}
+use Rattle.terms.specs.Entries.{bears, firstIndex}
 use Rattle.loops.specs.declared.Found.{Found}
 use Rattle.layout.specs.declared.Region.the-variants.{Opens, RowTransaction, RowState, TailRow, TailTransaction, TailKind, TailState}
 use Rattle.layout.specs.declared.Sizes.{Sizes}
@@ -23,9 +23,9 @@ use Rattle.layout.specs.View.{View, rowsGiven, usedIn}
 use Rattle.history.specs.History.{any, rangeOf}
 use Rattle.model.specs.Stored.{rowIn, recordIn, deleteKind, anyBelow}
 use Rattle.model.specs.Calls.{openIn, notOpenIn, openOther, standsFor, heldIn, goneIn, openAmongIn}
-use Rattle.history.proofs.Lists.{by-cases, is-true, refuted, both, parts, or-left, or-right, or-cases, place-any}
-use Rattle.model.proofs.Lists.{any-below, place-lt, place-is}
-use Rattle.model.specs.Asked.{Linked}
+use Rattle.history.proofs.Lists.{by-cases, is-true, refuted, both, parts, or-left, or-right, or-cases, any-at}
+use Rattle.model.proofs.Lists.{any-below, first-below, first-passes}
+use Rattle.model.specs.Preconditions.{Linked}
 use Rattle.rows.proofs.Indices.{slots-few, stretch-in, row-in}
 use Rattle.conditions.specs.Opens.{openAt}
 use Rattle.conditions.specs.Records.{isOther, holdsAt, deletesAt, endsAt}
@@ -124,7 +124,7 @@ none-held v t r at n flag l e f =
         let w = parts (openIn v k) (not (eqb k t)) u in
         let p = firstIndex (bears k) (v Opens) in
         off flag f (rw (e ∙ any-entries (isOther t) (v Opens) mostTransactions l)
-        (place-any (isOther t) (v Opens) 0 p (place-lt (bears k) (v Opens) (w .0)) (other k (getD (v Opens) p 0) (w .1) (place-is (bears k) (v Opens) 0 (w .0)))))
+        (any-at (isOther t) (v Opens) 0 p (first-below (bears k) (v Opens) (w .0)) (other k (getD (v Opens) p 0) (w .1) (first-passes (bears k) (v Opens) 0 (w .0)))))
 
 module _ (S : Shape) (v : View) (t r : ℕ) (inserter : ℕ) (q : inserter ≡ getD (v RowTransaction) r 0) (other : Bool) (o : other ≡ openOther v t inserter) where
   pub held-insert : other ≡ true → true ≡ heldIn S v t r

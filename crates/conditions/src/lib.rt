@@ -27,7 +27,7 @@ ghost use Rattle.model.specs.Stored.{deleteKind, openIndex, anyBelow};
 ghost use Rattle.model.specs.Reading.{ownChanges};
 ghost use Rattle.model.specs.Calls.{openIn, openOther, standsFor, heldIn, goneIn, openAmongIn};
 ghost use Rattle.layout.specs.Sizes.{Proper};
-ghost use Rattle.model.specs.Asked.{shapeIn, Linked};
+ghost use Rattle.model.specs.Preconditions.{shapeIn, Linked};
 ghost use Rattle.rows.specs.Finders.{Inside};
 ghost use Rattle.conditions.specs.Opens.{openAt};
 ghost use Rattle.conditions.specs.Records.{isOther, holdsAt, deletesAt, endsAt};

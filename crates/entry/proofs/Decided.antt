@@ -15,10 +15,10 @@ use Rattle.layout.specs.declared.Sizes.{Sizes}
 use Rattle.layout.specs.View.{View, rowsGiven}
 use Rattle.history.specs.History.{Test, _when_, Verdict, accept, refuse, verdict, noColumn, noRange, rangeOf}
 use Rattle.scans.specs.declared.Scans.{Scans}
-use Rattle.scans.specs.Places.{openCount}
+use Rattle.scans.specs.Entries.{openCount}
 use Rattle.scans.specs.Table.{tableOf, findIn}
 use Rattle.model.specs.Calls.{notOpenIn, notGivenIn, noScanIn}
-use Rattle.model.specs.Asked.{shapeIn, OpenAt}
+use Rattle.model.specs.Preconditions.{shapeIn, OpenAt}
 use Rattle.rows.specs.Finders.{Inside}
 use Rattle.rows.proofs.Cases.{found-at, found-nothing}
 use Rattle.conditions.specs.Opens.{openAt}

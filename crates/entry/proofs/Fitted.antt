@@ -15,17 +15,17 @@ use Rattle.layout.specs.View.{View, rowsGiven, usedIn, viewOf}
 use Rattle.layout.proofs.Limits.{need-small, proper as proper-of}
 use Rattle.loops.proofs.Search.{and-true}
 use Rattle.history.specs.History.{rangeOf}
-use Rattle.facts.specs.Facts.{linksHold, rowLinked, rangeLinked, recordLinked, pagesPlaced, pagePlaced}
+use Rattle.facts.specs.Facts.{linksHold, rowLinked, rangeLinked, recordLinked, chunksCurrent, chunkCurrent}
 use Rattle.facts.specs.Usable.{storedShape, storedSizes, usable}
 use Rattle.facts.specs.Tests.{MemoryFacts, Passed}
 use Rattle.facts.proofs.Each.{each-tells}
 use Rattle.facts.proofs.Ready.{stored}
-use Rattle.facts.proofs.Usable.{usable-tells, link-tells, placed-tells}
+use Rattle.facts.proofs.Usable.{usable-tells, link-tells, chunk-current-tells}
 use Rattle.pages.specs.declared.check.Checked.{Checked}
 use Rattle.pages.specs.declared.check.Checked.the-variants.{Fit, Unfit}
 use Rattle.pages.specs.Checked.{checked, Safe}
 use Rattle.model.specs.Stored.{pageIn, chunksOf}
-use Rattle.model.specs.Asked.{shapeIn, Linked, Placed}
+use Rattle.model.specs.Preconditions.{shapeIn, Linked, ChunksCurrent}
 use Rattle.entry.specs.Entered.{Fitted, PassedWith}
 
 module _ (s : Sizes) (v : View) (proper : Proper s) (facts : MemoryFacts s v) where
@@ -44,15 +44,15 @@ module _ (s : Sizes) (v : View) (proper : Proper s) (facts : MemoryFacts s v) wh
             omega (arith, t .low);
       }
 
-  -- what is placed at place i
+  -- what chunk i names
   at-chunk : (i : ℕ) → i < s .chunks
       → (getD (v Current) i 0 < s .pages) × (getD (v PageState) (getD (v Current) i 0) 0 ≡ 1) × (getD (v PageChunk) (getD (v Current) i 0) 0 ≡ i)
-  unfolding pagesPlaced
-  at-chunk i h = placed-tells s v i (each-tells (pagePlaced s v) (s .chunks) (facts .placed) i h)
+  unfolding chunksCurrent
+  at-chunk i h = chunk-current-tells s v i (each-tells (chunkCurrent s v) (s .chunks) (facts .chunks-current) i h)
 
-  placed-of : Placed (shapeIn s) v
+  chunks-current-of : ChunksCurrent (shapeIn s) v
   unfolding pageIn
-  placed-of =
+  chunks-current-of =
       let here : (i : ℕ) → i < chunksOf (shapeIn s) → i < s .chunks = λ i b. omega (arith, proper .chunks-are) in
       record {
         inside = λ i b. omega (arith, proper .pages-are, proper .chunks-are, at-chunk i (here i b) .0);
@@ -92,7 +92,7 @@ module _ (r : Checked) (m : List ℕ) where
           proper = proper;
           linked = linked-of s v proper (x .facts);
           pooled = λ i h. (at-chunk s v proper (x .facts) i h) .0;
-          placed = placed-of s v proper (x .facts);
+          chunks-current = chunks-current-of s v proper (x .facts);
           transactions-to = k .transactions-to;
           scans-to = k .scans-to;
         }

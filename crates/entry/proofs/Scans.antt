@@ -15,10 +15,10 @@ use Rattle.loops.specs.Search.{firstAt}
 use Rattle.loops.proofs.Search.{first-at}
 use Rattle.history.specs.History.{any}
 use Rattle.scans.specs.declared.Scans.{Scans}
-use Rattle.scans.specs.Places.{openCount}
+use Rattle.scans.specs.Entries.{openCount}
 use Rattle.scans.specs.Table.{tableOf, findIn}
 use Rattle.scans.proofs.Answers.{table-finds, table-lacks}
-use Rattle.terms.specs.Places.{freeEntry, firstIndex, bears, isScan}
+use Rattle.terms.specs.Entries.{freeEntry, firstIndex, bears, isScan}
 use Rattle.model.specs.Stored.{scanEntry}
 use Rattle.model.specs.Calls.{noScanIn}
 use Rattle.entry.specs.Given.{ScanAt}
@@ -70,8 +70,8 @@ module _ (k : ℕ) where
         let b : isScan k (getD ps (firstIndex (isScan k) ps) freeEntry) ≡ true = ap (bears k) (t .number-is) ∙ rw (numbered ps j e, eq-eqb k k refl) in
         rw (one-passes (isScan k) ps refl b)
 
-    pub scan-at : (j : ℕ) → findIn (tableOf ps) k ≡ At j → firstIndex (isScan k) ps ≡ getD (tableOf ps .places) j 0
-    scan-at j e = sym (table-finds ps few k j e .place-is)
+    pub scan-at : (j : ℕ) → findIn (tableOf ps) k ≡ At j → firstIndex (isScan k) ps ≡ getD (tableOf ps .indices) j 0
+    scan-at j e = sym (table-finds ps few k j e .index-is)
 
     -- the scan's stamp and merges, as the table has them
     pub scan-stamp : (j : ℕ) → findIn (tableOf ps) k ≡ At j → getD (tableOf ps .stamps) j 0 ≡ scanEntry ps k .stamp

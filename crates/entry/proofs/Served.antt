@@ -20,11 +20,11 @@ use Rattle.layout.specs.View.{View, lay, viewOf, Suffices}
 use Rattle.layout.proofs.Lay.{lay-view, view-part, lent}
 use Rattle.history.specs.History.{Call, accept, refuse, verdict, answerIf}
 use Rattle.scans.specs.declared.Scans.{Scans}
-use Rattle.scans.specs.Places.{openCount}
+use Rattle.scans.specs.Entries.{openCount}
 use Rattle.scans.specs.Table.{tableOf}
 use Rattle.facts.specs.Usable.{storedShape, storedSizes, usable}
 use Rattle.model.specs.Calls.{testsIn, replyIn, actIn, entriesAfter, say, viewIf, viewNext, entriesIf, entriesNext}
-use Rattle.model.specs.Asked.{shapeIn, Linked, Pooled, OpenAt}
+use Rattle.model.specs.Preconditions.{shapeIn, Linked, Pooled, OpenAt}
 use Rattle.promise.specs.Promise.{storeView, answerOf, memoryAfter, listAfter, Serves, ServesBy, kept, lend}
 use Rattle.entry.specs.declared.Entry.{Entry}
 use Rattle.entry.specs.declared.Tested.{Tested}
@@ -58,7 +58,7 @@ module _ {s : Sizes} {n : ℕ} {m : List ℕ} {t : Scans} (e : Entered s n m t) 
         proper = f .proper;
         linked = rw part-seen (f .linked);
         pooled = rw part-seen (f .pooled);
-        placed = rw part-seen (f .placed);
+        chunks-current = rw part-seen (f .chunks-current);
         transactions-to = rw part-seen (f .transactions-to);
         scans-to = rw part-seen (f .scans-to);
       }

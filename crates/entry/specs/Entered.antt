@@ -11,10 +11,10 @@ use Rattle.layout.specs.Regions.{need}
 use Rattle.layout.specs.Sizes.{Proper, tooManyWords}
 use Rattle.layout.specs.View.{transactionsGiven, scansGiven, viewOf, Suffices}
 use Rattle.scans.specs.declared.Scans.{Scans}
-use Rattle.scans.specs.Places.{openCount}
+use Rattle.scans.specs.Entries.{openCount}
 use Rattle.scans.specs.Table.{tableOf}
 use Rattle.facts.specs.Usable.{storedSizes, usable}
-use Rattle.model.specs.Asked.{shapeIn, Linked, Pooled, Placed}
+use Rattle.model.specs.Preconditions.{shapeIn, Linked, Pooled, ChunksCurrent}
 use Rattle.entry.specs.declared.Entry.{Entry}
 
 -- the memory m holds a store of sizes s in order
@@ -24,7 +24,7 @@ pub record Fitted (s : Sizes) (m : List ℕ) : Type 0 where
   pub proper : Proper s
   pub linked : Linked s (viewOf s m)
   pub pooled : Pooled s (viewOf s m)
-  pub placed : Placed (shapeIn s) (viewOf s m)
+  pub chunks-current : ChunksCurrent (shapeIn s) (viewOf s m)
   pub transactions-to : transactionsGiven (viewOf s m) ≤ mostNumbers
   pub scans-to : scansGiven (viewOf s m) ≤ mostNumbers
 

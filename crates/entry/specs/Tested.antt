@@ -8,10 +8,10 @@ use Rattle.layout.specs.declared.Sizes.{Sizes}
 use Rattle.layout.specs.View.{viewOf}
 use Rattle.history.specs.History.{Call, Verdict, accept, refuse, verdict}
 use Rattle.scans.specs.declared.Scans.{Scans}
-use Rattle.scans.specs.Places.{openCount}
+use Rattle.scans.specs.Entries.{openCount}
 use Rattle.scans.specs.Table.{tableOf}
 use Rattle.model.specs.Calls.{testsIn}
-use Rattle.model.specs.Asked.{shapeIn}
+use Rattle.model.specs.Preconditions.{shapeIn}
 use Rattle.entry.specs.declared.Tested.{Tested}
 
 -- the tests found what the verdict says

@@ -19,7 +19,7 @@ ghost use Prim.Native.Nat.{_*_};
 ghost use Rattle.layout.specs.View.{lastStamp, viewOf, Suffices};
 ghost use Rattle.history.specs.History.{noColumn, noRange};
 ghost use Rattle.model.specs.Calls.{notLaterIn, laterIn};
-ghost use Rattle.model.specs.Asked.{shapeIn};
+ghost use Rattle.model.specs.Preconditions.{shapeIn};
 ghost use Rattle.entry.specs.Entered.{Enters};
 ghost use Rattle.entry.specs.Given.{rangeGiven};
 

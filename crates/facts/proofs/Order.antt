@@ -6,11 +6,11 @@ use lib.Dec.{leb}
 use Rattle.terms.specs.declared.ScanEntry.{ScanEntry}
 use Rattle.loops.specs.Search.{allBetween}
 use Rattle.loops.proofs.Search.{and-true, and-false}
-use Rattle.scans.specs.Places.{everyOpen, differ}
+use Rattle.scans.specs.Entries.{everyOpen, differ}
 use Rattle.layout.specs.declared.Sizes.{Sizes}
 use Rattle.layout.specs.declared.Region.the-variants.{Opens, RowTransaction, RowStamp, TailTransaction, TailStamp, PageReplaced, PageNewest}
 use Rattle.layout.specs.View.{View, rowsGiven, transactionsGiven, scansGiven, lastStamp, mergesMade}
-use Rattle.facts.specs.Facts.{each, rowsBetween, rowLinked, rangeNamesRows, rangeBetween, rangeLinked, currentAtMost, waitingAtMost, currentLineage, waitingLineage, pagePlaced, storedWithin, countsWithin, recordsNameRows, numbersGiven, linksHold, stampsWithin, mergesWithin, openDiffer, pagesPlaced, lineagesWithin, factsHold}
+use Rattle.facts.specs.Facts.{each, rowsBetween, rowLinked, rangeNamesRows, rangeBetween, rangeLinked, currentAtMost, waitingAtMost, currentLineage, waitingLineage, chunkCurrent, storedWithin, countsWithin, recordsNameRows, numbersGiven, linksHold, stampsWithin, mergesWithin, openDiffer, chunksCurrent, lineagesWithin, factsHold}
 use Rattle.facts.specs.Tests.{MemoryFacts, rangeHolds, rowsHold, currentHolds, waitingHold, pagesHold, opensHold, scansHold}
 use Rattle.facts.proofs.Each.{each-both}
 
@@ -56,12 +56,12 @@ ranges-are s v =
 
 -- the current pages, fact by fact
 currents-are : (s : Sizes) (v : View) → each (s .chunks) (currentHolds s v)
-    ≡ (pagesPlaced s v && (each (s .chunks) (currentAtMost v PageNewest (lastStamp v)) && each (s .chunks) (currentLineage s v)))
-unfolding currentHolds pagesPlaced
+    ≡ (chunksCurrent s v && (each (s .chunks) (currentAtMost v PageNewest (lastStamp v)) && each (s .chunks) (currentLineage s v)))
+unfolding currentHolds chunksCurrent
 currents-are s v =
     let stamp = currentAtMost v PageNewest (lastStamp v) in
     let line = currentLineage s v in
-    each-both (pagePlaced s v) (λ i. stamp i && line i) (s .chunks) ∙ ap (λ (x : Bool). each (s .chunks) (pagePlaced s v) && x) (each-both stamp line (s .chunks))
+    each-both (chunkCurrent s v) (λ i. stamp i && line i) (s .chunks) ∙ ap (λ (x : Bool). each (s .chunks) (chunkCurrent s v) && x) (each-both stamp line (s .chunks))
 
 pub facts-are : (s : Sizes) (v : View) (ps : List ScanEntry)
     → factsHold s v ps ≡ (countsWithin s v ps && (each (s .ranges) (rangeHolds s v) && (rowsHold s v && (pagesHold s v && (opensHold v && scansHold v ps)))))
@@ -86,7 +86,7 @@ facts-are s v ps =
     (each (s .pages) (waitingAtMost v PageReplaced (mergesMade v)))
     (differ (v Opens))
     (differ (map (λ p. p .number) ps))
-    (pagesPlaced s v)
+    (chunksCurrent s v)
     (each (s .chunks) (currentLineage s v))
     (each (s .pages) (waitingLineage s v)))
 
@@ -105,5 +105,5 @@ memory-facts s v counts records rows pages =
     let row-stamps = rowsBetween v RowStamp 0 (lastStamp v) in
     let c = and-true row-links row-stamps (and-true (rowsBetween v RowTransaction 1 (transactionsGiven v)) (row-links && row-stamps) rows .1) in
     let d = and-true (each (s .chunks) (currentHolds s v)) _ pages in
-    let e = and-true (pagesPlaced s v) _ (sym (currents-are s v) ∙ d .0) in
-    record { counts = counts; links = rw (c .0, b .0); placed = e .0 }
+    let e = and-true (chunksCurrent s v) _ (sym (currents-are s v) ∙ d .0) in
+    record { counts = counts; links = rw (c .0, b .0); chunks-current = e .0 }

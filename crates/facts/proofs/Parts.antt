@@ -21,7 +21,7 @@ use Rattle.layout.specs.Regions.{len}
 use Rattle.layout.specs.View.{viewOf, Suffices}
 use Rattle.layout.proofs.View.{view-long}
 use Rattle.scans.specs.declared.Scans.{Scans}
-use Rattle.scans.specs.Places.{openCount, everyOpen, differ}
+use Rattle.scans.specs.Entries.{openCount, everyOpen, differ}
 use Rattle.scans.specs.Table.{tableOf}
 use Rattle.scans.proofs.Answers.{table-at-most, table-differ}
 

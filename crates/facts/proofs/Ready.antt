@@ -16,7 +16,7 @@ use Rattle.layout.specs.declared.Region.the-variants.{Used}
 use Rattle.layout.specs.Sizes.{Proper}
 use Rattle.layout.specs.View.{View, rowsGiven, transactionsGiven, scansGiven, usedIn, viewOf, Suffices}
 use Rattle.scans.specs.declared.Scans.{Scans}
-use Rattle.scans.specs.Places.{openCount}
+use Rattle.scans.specs.Entries.{openCount}
 use Rattle.scans.specs.Table.{tableOf}
 use Rattle.facts.specs.Facts.{storedWithin, countsWithin}
 use Rattle.facts.specs.Tests.{Ready}

@@ -23,9 +23,9 @@ use Rattle.layout.specs.declared.Region.the-variants.{Opens, RowTransaction, Ro
 use Rattle.layout.specs.Regions.{len, need, firstSlot}
 use Rattle.layout.specs.View.{View, rowsGiven, transactionsGiven, scansGiven, lastStamp, mergesMade, usedIn, Long, viewOf, Suffices}
 use Rattle.layout.proofs.View.{view-long}
-use Rattle.terms.specs.Places.{freeEntry}
-use Rattle.scans.specs.Places.{openCount, everyOpen, among, differ}
-use Rattle.facts.specs.Facts.{each, rowsBetween, rangeBetween, currentAtMost, waitingAtMost, countsWithin, rowNamed, rangeNamesRows, recordsNameRows, numbersGiven, linkHolds, rowLinked, recordLinked, rangeLinked, linksHold, stampsWithin, mergesWithin, openDiffer, pagePlaced, pagesPlaced, pageRange, currentLineage, waitingLineage, lineagesWithin, factsHold}
+use Rattle.terms.specs.Entries.{freeEntry}
+use Rattle.scans.specs.Entries.{openCount, everyOpen, among, differ}
+use Rattle.facts.specs.Facts.{each, rowsBetween, rangeBetween, currentAtMost, waitingAtMost, countsWithin, rowNamed, rangeNamesRows, recordsNameRows, numbersGiven, linkHolds, rowLinked, recordLinked, rangeLinked, linksHold, stampsWithin, mergesWithin, openDiffer, chunkCurrent, chunksCurrent, pageRange, currentLineage, waitingLineage, lineagesWithin, factsHold}
 use Rattle.facts.specs.Usable.{storedShape, storedSizes, measuresBytes, usable}
 use Rattle.layout.specs.Sizes.{Proper}
 use Rattle.facts.proofs.Each.{each-tells}
@@ -89,10 +89,10 @@ waiting-tells : (v : View) (k : Region) (most p : ℕ) → waitingAtMost v k mos
 unfolding waitingAtMost
 waiting-tells v k most p e h = leb-true (getD (v k) p 0) most (or-right (ltb (getD (v PageState) p 0) asWaiting) _ (le-ltb _ asWaiting h) e)
 
-pub placed-tells : (s : Sizes) (v : View) (i : ℕ) → pagePlaced s v i ≡ true
+pub chunk-current-tells : (s : Sizes) (v : View) (i : ℕ) → chunkCurrent s v i ≡ true
     → (getD (v Current) i 0 < s .pages) × (getD (v PageState) (getD (v Current) i 0) 0 ≡ 1) × (getD (v PageChunk) (getD (v Current) i 0) 0 ≡ i)
-unfolding pagePlaced
-placed-tells s v i e =
+unfolding chunkCurrent
+chunk-current-tells s v i e =
     let a = and-true _ _ e in
     let b = and-true _ _ (a .1) in (ltb-true _ (s .pages) (a .0), eqb-true _ 1 (b .0), eqb-true _ i (b .1))
 
@@ -166,7 +166,7 @@ module _ (s : Sizes) (v : View) (ps : List ScanEntry) (z : Proper s) (long : Lon
       stretch-tells s v long k (firstSlot (s .capacity) g) (usedIn v g) low high (omega (arith, tail-in s z g h, c .records-to g)) (each-tells (rangeBetween s v k low high) (s .ranges) e g h) i j
 
   pub facts-tell : factsHold s v ps ≡ true → Usable s v ps
-  unfolding factsHold countsWithin recordsNameRows rangeNamesRows rowNamed numbersGiven linksHold rowLinked rangeLinked recordLinked stampsWithin mergesWithin openDiffer pagesPlaced lineagesWithin currentLineage waitingLineage
+  unfolding factsHold countsWithin recordsNameRows rangeNamesRows rowNamed numbersGiven linksHold rowLinked rangeLinked recordLinked stampsWithin mergesWithin openDiffer chunksCurrent lineagesWithin currentLineage waitingLineage
   facts-tell e =
       let a1 = and-true _ _ e in
       let a2 = and-true _ _ (a1 .1) in
@@ -208,9 +208,9 @@ module _ (s : Sizes) (v : View) (ps : List ScanEntry) (z : Proper s) (long : Lon
         waiting-merges = λ p h. waiting-tells v PageReplaced (mergesMade v) p (each-tells (waitingAtMost v PageReplaced (mergesMade v)) (s .pages) (m .1) p h);
         open-differ = differ-tells (v Opens) (d .0);
         scans-differ = λ i j h q. sym (numbers-at ps i) ∙ differ-tells (map (λ p. p .number) ps) (d .1) i j h (numbers-at ps i ∙ q ∙ sym (numbers-at ps j));
-        current-in = λ i h. (placed-tells s v i (each-tells (pagePlaced s v) (s .chunks) (a8 .0) i h)) .0;
-        current-state = λ i h. (placed-tells s v i (each-tells (pagePlaced s v) (s .chunks) (a8 .0) i h)) .1;
-        current-chunk = λ i h. (placed-tells s v i (each-tells (pagePlaced s v) (s .chunks) (a8 .0) i h)) .2;
+        current-in = λ i h. (chunk-current-tells s v i (each-tells (chunkCurrent s v) (s .chunks) (a8 .0) i h)) .0;
+        current-state = λ i h. (chunk-current-tells s v i (each-tells (chunkCurrent s v) (s .chunks) (a8 .0) i h)) .1;
+        current-chunk = λ i h. (chunk-current-tells s v i (each-tells (chunkCurrent s v) (s .chunks) (a8 .0) i h)) .2;
         current-lineages = λ i h. current-tells v PageLineage _ i (each-tells (currentLineage s v) (s .chunks) (g .0) i h);
         waiting-lineages = λ p h. waiting-tells v PageLineage _ p (each-tells (waitingLineage s v) (s .pages) (g .1) p h);
       }
@@ -220,7 +220,7 @@ module _ (s : Sizes) (v : View) (ps : List ScanEntry) (z : Proper s) (long : Lon
 pub record UsableMemory (m : List ℕ) (ps : List ScanEntry) : Type 0 where
   pub within : withinLimits (storedShape (words m)) ≡ true
   pub room : Suffices (storedSizes (words m)) m
-  pub places : mostScans ≤ length ps
+  pub entries : mostScans ≤ length ps
   pub facts : Usable (storedSizes (words m)) (viewOf (storedSizes (words m)) m) ps
 
 pub usable-tells : (m : List ℕ) (ps : List ScanEntry) → usable m ps ≡ true → UsableMemory m ps
@@ -235,6 +235,6 @@ usable-tells m ps e =
     record {
       within = b .0;
       room = r;
-      places = leb-true mostScans (length ps) (d .0);
+      entries = leb-true mostScans (length ps) (d .0);
       facts = facts-tell s (viewOf s m) ps (proper (storedShape (words m)) (b .0)) (view-long s (words m) (omega (arith, length-words m))) (d .1);
     }

@@ -16,7 +16,7 @@ use Rattle.layout.specs.declared.Sizes.{Sizes}
 use Rattle.layout.specs.declared.Region.{Region}
 use Rattle.layout.specs.declared.Region.the-variants.{Opens, RowTransaction, RowStamp, RowLink, TailTransaction, TailRow, TailLink, TailStamp, Used, Current, PageState, PageChunk, PageReplaced, PageLineage, PageNewest}
 use Rattle.layout.specs.View.{View, rowsGiven, transactionsGiven, scansGiven, lastStamp, mergesMade, usedIn}
-use Rattle.scans.specs.Places.{openCount, everyOpen, differ}
+use Rattle.scans.specs.Entries.{openCount, everyOpen, differ}
 
 -- ---- for all
 
@@ -108,12 +108,12 @@ openDiffer v ps = differ (v Opens) && differ (map (λ p. p .number) ps)
 -- ---- 9.8: current pages
 -- The page that a chunk names is in the pool, and its own words say that it is current and of that chunk: so it does not wait, and no two chunks name one page.
 -- Free pages are those that are neither named nor waiting.
-unfoldable pub pagePlaced : Sizes → View → ℕ → Bool
-pagePlaced s v i =
+unfoldable pub chunkCurrent : Sizes → View → ℕ → Bool
+chunkCurrent s v i =
     let p = getD (v Current) i 0 in ltb p (s .pages) && (eqb (getD (v PageState) p 0) asCurrent && eqb (getD (v PageChunk) p 0) i)
 
-unfoldable pub pagesPlaced : Sizes → View → Bool
-pagesPlaced s v = each (s .chunks) (pagePlaced s v)
+unfoldable pub chunksCurrent : Sizes → View → Bool
+chunksCurrent s v = each (s .chunks) (chunkCurrent s v)
 
 -- ---- 9.9: lineages
 abbrev pub pageRange : Sizes → View → ℕ → ℕ
@@ -135,4 +135,4 @@ factsHold s v ps =
     && (recordsNameRows s v
     && (numbersGiven s v ps
     && (linksHold s v
-    && (stampsWithin s v ps && (mergesWithin s v ps && (openDiffer v ps && (pagesPlaced s v && lineagesWithin s v)))))))
+    && (stampsWithin s v ps && (mergesWithin s v ps && (openDiffer v ps && (chunksCurrent s v && lineagesWithin s v)))))))

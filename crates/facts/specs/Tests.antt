@@ -13,8 +13,8 @@ use Rattle.words.specs.Words.{words}
 use Rattle.loops.specs.Search.{allBetween}
 use Rattle.layout.specs.View.{View, rowsGiven, transactionsGiven, scansGiven, lastStamp, mergesMade, usedIn, viewOf, Suffices}
 use Rattle.facts.specs.Usable.{storedShape, storedSizes}
-use Rattle.scans.specs.Places.{everyOpen, differ}
-use Rattle.facts.specs.Facts.{storedWithin, linksHold, pagesPlaced, each, rowLinked, rowsBetween, rangeBetween, rangeNamesRows, rangeLinked, pagePlaced, currentAtMost, currentLineage, waitingAtMost, waitingLineage}
+use Rattle.scans.specs.Entries.{everyOpen, differ}
+use Rattle.facts.specs.Facts.{storedWithin, linksHold, chunksCurrent, each, rowLinked, rowsBetween, rangeBetween, rangeNamesRows, rangeLinked, chunkCurrent, currentAtMost, currentLineage, waitingAtMost, waitingLineage}
 
 -- a memory in which every access to what is given and used lies within it: the counts of rows and of records are within the sizes
 pub record Ready (s : Sizes) (m : List ℕ) : Type 0 where
@@ -27,7 +27,7 @@ pub record Ready (s : Sizes) (m : List ℕ) : Type 0 where
 pub record MemoryFacts (s : Sizes) (v : View) : Type 0 where
   pub counts : storedWithin s v ≡ true
   pub links : linksHold s v ≡ true
-  pub placed : pagesPlaced s v ≡ true
+  pub chunks-current : chunksCurrent s v ≡ true
 
 -- What holds of a memory that passed, whatever table it came with, even one that stands for no list: every access of a call rests on this.
 pub record Passed (s : Sizes) (m : List ℕ) : Type 0 where
@@ -51,7 +51,7 @@ rowsHold s v =
 
 -- the page that chunk i names
 unfoldable pub currentHolds : Sizes → View → ℕ → Bool
-currentHolds s v i = pagePlaced s v i && (currentAtMost v PageNewest (lastStamp v) i && currentLineage s v i)
+currentHolds s v i = chunkCurrent s v i && (currentAtMost v PageNewest (lastStamp v) i && currentLineage s v i)
 
 -- the waiting pages
 unfoldable pub waitingHold : Sizes → View → Bool

@@ -26,7 +26,7 @@ ghost use Rattle.terms.specs.Measures.{mostScans};
 ghost use Rattle.layout.specs.Sizes.{Proper};
 ghost use Rattle.layout.specs.declared.Region.the-variants.{Opens};
 ghost use Rattle.layout.specs.View.{viewOf, Suffices};
-ghost use Rattle.scans.specs.Places.{openCount};
+ghost use Rattle.scans.specs.Entries.{openCount};
 ghost use Rattle.scans.specs.Table.{tableOf};
 ghost use Rattle.facts.specs.Facts.{storedWithin};
 ghost use Rattle.facts.specs.Tests.{opensHold, scansHold};

@@ -1,4 +1,4 @@
--- What holds of the history after every list of calls. proofs/ has a file for each invariant, which shows that every step keeps it; `past` (proofs/Past.antt) joins them.
+-- What holds of the history after every list of calls. proofs/ has a file for each invariant, which shows that every step keeps it; `invariants` (proofs/Invariants.antt) joins them.
 use mathlib.Core.Path.{_≡_}
 use mathlib.Core.Bool.{Bool, true, false}
 use mathlib.Core.List.{List}
@@ -53,7 +53,7 @@ abbrev pub RowFollows : (ℕ → State) → Record → Record → Type 0
 RowFollows st x y = x .row ≡ y .row → Follows st x y
 
 -- a record by itself
-pub record Placed (st : ℕ → State) (row : ℕ → Row) (n : ℕ) (x : Record) : Type 0 where
+pub record RecordSound (st : ℕ → State) (row : ℕ → Row) (n : ℕ) (x : Record) : Type 0 where
   pub giver : T (isGiven (st (x .transaction)))
   pub inside : x .row < n
   pub after : Before st ((row (x .row)) .inserter) (x .transaction)
@@ -62,7 +62,7 @@ pub record Placed (st : ℕ → State) (row : ℕ → Row) (n : ℕ) (x : Record
 pub record InOrder (h : History) : Type 0 where
   pub stamps : Stamped h
   pub inserters : (r : ℕ) → r < length (h .rows) → T (isGiven (stateOf h ((rowAt h r) .inserter)))
-  pub records : All (Placed (stateOf h) (rowAt h) (length (h .rows))) (h .tail)
+  pub records : All (RecordSound (stateOf h) (rowAt h) (length (h .rows))) (h .tail)
   pub follow : Pairs (RowFollows (stateOf h)) (h .tail)
   -- a column of a row was set exactly if the tail has its original value
   pub originals : (r c : ℕ) → c < mostColumns → wasSet (h .tail) r c ≡ hasOriginal (h .tail) r c
@@ -94,7 +94,7 @@ unfoldable pub MergesCounted : Shape → History → Type 0
 MergesCounted S h = length (h .merges) ≤ lineages S h
 
 -- ---- all of them, in one record: later proofs carry this one thing beside their own relation
-pub record Past (S : Shape) (h : History) : Type 0 where
+pub record Invariants (S : Shape) (h : History) : Type 0 where
   pub limits : Limits S h
   pub order : InOrder h
   pub pages : PagesSettled h

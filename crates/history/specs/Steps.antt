@@ -37,7 +37,7 @@ pub data NewStates (h : History) : List State → ℕ → Type 0 where
 
 pub data NewScans (h : History) : List Scan → Type 0 where
   scanOpened : {s : ℕ} → s ≤ h .last → length (h .scans) < mostNumbers → count (λ s. s .running) (h .scans) < mostScans
-      → NewScans h (h .scans ++ record { running = true; stamp = s; before = length (h .merges) } ∷ [])
+      → NewScans h (h .scans ++ record { running = true; stamp = s; merges = length (h .merges) } ∷ [])
   scanClosed : (k : ℕ) → T (scanAt h k .running) → NewScans h (change (h .scans) k (stopped (scanAt h k)))
 
 -- Range g may be merged through record n into column c's page.

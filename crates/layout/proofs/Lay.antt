@@ -32,7 +32,7 @@ lay-part s m p v b h e =
 
 -- ---- seeing what was laid
 
--- `index` and `all` name the same places
+-- `index` and `all` have the same order
 pub named : (m : View) (k : Region) → getD (map m all) (index k) [] ≡ m k
 named m Region.Header = refl
 named m Region.Opens = refl

@@ -2,7 +2,7 @@
 use Prim.Native.Nat.{_<_}
 use lib.ListN.{length, getD, set}
 use prog.Routine as routine
-use Rattle.terms.specs.Places.{freeEntry}
+use Rattle.terms.specs.Entries.{freeEntry}
 use Rattle.lent.proofs.Rules.{_≡_, [], _∷_, w64, now, pShrS, pMutS, pNum, rNum, rUnit, entry, World}
 use Rattle.lent.proofs.Plain.{arg, res}
 use Rattle.lent.proofs.Types.{p}

@@ -8,8 +8,8 @@ use native.Mathlib.Omega.{arith}
 use lib.ListN.{length, getD, set, length-set, length-replicate, getD-replicate}
 use lib.Seq.{getD-set-same, getD-set-other, ext-getD}
 use Rattle.terms.specs.declared.ScanEntry.{ScanEntry}
-use Rattle.terms.specs.Places.{freeEntry}
-use Rattle.scans.specs.Places.{allFreed}
+use Rattle.terms.specs.Entries.{freeEntry}
+use Rattle.scans.specs.Entries.{allFreed}
 
 -- the first i entries of l, which was k, are free
 pub record Freed (k l : List ScanEntry) (n i : ℕ) : Type 0 where

@@ -1,5 +1,5 @@
 // The lent list of open scans, a slice of small records. Three functions reach into it, and each is proved by a walk of its MIR, by hand: `len_of`,
-// `entry_at`, `put_entry`. The others hand the list on to those: `table` finds the open scans, `keep` adds or drops one, `free_all` and `free_made` drop all.
+// `entry_at`, `put_entry`. The others hand the list on to those: `table` finds the open scans, `apply_change` adds or drops one, `free_all` and `free_made` drop all.
 use model::free_entry;
 use scans::Scans;
 use scans::blank;
@@ -13,8 +13,8 @@ use upkeep::ListChange;
 ghost use mathlib.Core.Path.{_≡_};
 ghost use Prim.Native.Nat.{_<_};
 ghost use lib.ListN.{length, getD, set};
-ghost use Rattle.terms.specs.Places.{freeEntry};
-ghost use Rattle.scans.specs.Places.{allFreed, freedIf};
+ghost use Rattle.terms.specs.Entries.{freeEntry};
+ghost use Rattle.scans.specs.Entries.{allFreed, freedIf};
 ghost use Rattle.scans.specs.Table.{tableOf};
 ghost use Rattle.terms.specs.Refusals.{isAccepted};
 
@@ -76,7 +76,7 @@ fn answer_of(change: ListChange) -> Answer
 }
 
 // The entry that a call names becomes what it says: a scan is added or dropped. An entry past the end is not there, and nothing is stored. Gives the call's answer back.
-pub fn keep(list: &mut [ScanEntry], change: ListChange) -> Answer
+pub fn apply_change(list: &mut [ScanEntry], change: ListChange) -> Answer
     ensures { λ r. ⌜ (r ≡ change .answer) × (now (list .exit) ≡ set (now (list .entry)) (change .index) (change .entry)) ⌝ }
 {
     let i = index_of(change);

@@ -18,12 +18,12 @@ use Rattle.layout.specs.declared.Region.the-variants.{PageLineage}
 use Rattle.layout.specs.View.{View, rowsGiven, lastStamp, usedIn, viewOf}
 use Rattle.history.specs.History.{Call, verdict, noColumn, rangeOf}
 use Rattle.scans.specs.declared.Scans.{Scans}
-use Rattle.scans.specs.Places.{openCount}
+use Rattle.scans.specs.Entries.{openCount}
 use Rattle.scans.specs.Table.{tableOf}
 use Rattle.model.specs.Stored.{scanEntry, openIndex, currentIn, pageIn, cellIn}
 use Rattle.model.specs.Calls.{testsIn}
 use Rattle.model.specs.Reading.{reader, readIn, readCurrent, scanPage, sumIn}
-use Rattle.model.specs.Asked.{shapeIn, OpenAt}
+use Rattle.model.specs.Preconditions.{shapeIn, OpenAt}
 use Rattle.rows.proofs.Indices.{row-in}
 use Rattle.entry.specs.declared.Tested.{Tested}
 use Rattle.entry.specs.Entered.{Fitted}

@@ -10,7 +10,7 @@ use Rattle.layout.specs.declared.Sizes.{Sizes}
 use Rattle.layout.specs.View.{View, rowsGiven}
 use Rattle.history.specs.History.{Test, _when_, noColumn, rangeOf}
 use Rattle.scans.specs.declared.Scans.{Scans}
-use Rattle.scans.specs.Places.{openCount}
+use Rattle.scans.specs.Entries.{openCount}
 use Rattle.scans.specs.Table.{tableOf, findIn}
 use Rattle.model.specs.Stored.{scanEntry}
 use Rattle.model.specs.Calls.{notGivenIn}

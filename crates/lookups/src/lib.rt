@@ -37,7 +37,7 @@ ghost use Prim.Native.Nat.{ℕ, _<_};
 ghost use Rattle.terms.specs.Measures.{mostScans};
 ghost use Rattle.layout.specs.View.{viewOf};
 ghost use Rattle.history.specs.History.{Call, verdict, rangeOf};
-ghost use Rattle.model.specs.Asked.{shapeIn, OpenAt};
+ghost use Rattle.model.specs.Preconditions.{shapeIn, OpenAt};
 ghost use Rattle.promise.specs.Promise.{ServesBy, kept};
 ghost use Rattle.entry.specs.Entered.{Fitted};
 ghost use Rattle.entry.specs.Tested.{Says, Finds, Holds, Tests, TestsBy};

@@ -67,7 +67,7 @@ pub fn either(a: bool, b: bool) -> bool
 }
 
 // v where the flag is up, old elsewhere.
-pub fn choose(flag: bool, v: u32, old: u32) -> u32
+pub fn select(flag: bool, v: u32, old: u32) -> u32
     ensures { λ r. ⌜ r ≡ cond flag v old ⌝ }
 {
     if flag { v } else { old }
@@ -83,7 +83,7 @@ pub fn mark(mem: &mut [u8], keys: usize, n: usize, key: u32, to: usize, v: u32)
     while i < n {
         let k = get(mem, keys + i);
         let old = get(mem, to + i);
-        let w = choose(k == key, v, old);
+        let w = select(k == key, v, old);
         put(mem, to + i, w);
         i += 1;
     }

@@ -16,7 +16,7 @@ use Rattle.layout.specs.declared.Sizes.{Sizes}
 use Rattle.layout.specs.declared.Region.the-variants.{Current, PageState, PageChunk}
 use Rattle.layout.specs.Sizes.{sizesOf, bytesNeeded}
 use Rattle.layout.specs.View.{View, fill, number, lay, blank}
-use Rattle.scans.specs.Places.{allFreed}
+use Rattle.scans.specs.Entries.{allFreed}
 
 -- the first page is current for the first chunk, the second for the second, and so on
 unfoldable pub namedView : Sizes → View

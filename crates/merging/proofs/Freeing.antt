@@ -20,11 +20,11 @@ use Rattle.model.specs.Stored.{pageIn, pagesOf, countBelow}
 use Rattle.layout.specs.Codes.{asFree}
 use Rattle.model.specs.Writing.{neededIn, releasable, releasedIn}
 use Rattle.scans.specs.declared.Scans.{Scans}
-use Rattle.scans.specs.Places.{openCount, someOpen}
+use Rattle.scans.specs.Entries.{openCount, someOpen}
 use Rattle.scans.specs.Table.{tableOf, anyBelow}
 use Rattle.scans.proofs.Answers.{table-before}
 use Rattle.layout.specs.Sizes.{Proper}
-use Rattle.model.specs.Asked.{shapeIn}
+use Rattle.model.specs.Preconditions.{shapeIn}
 use Rattle.layout.proofs.Renewed.{change-none, change-next}
 use Rattle.merging.specs.Steps.{leastOf, freeable, freeablesFreed}
 

@@ -19,7 +19,7 @@ use Rattle.words.specs.Words.{words}
 use Rattle.words.proofs.Words.{length-words}
 use Rattle.layout.specs.View.{View, renew, put, copy, viewOf, Suffices}
 use Rattle.layout.proofs.View.{view-long}
-use Rattle.terms.specs.Places.{firstIndex}
+use Rattle.terms.specs.Entries.{firstIndex}
 use Rattle.model.specs.Stored.{recordIn, valueIn, pageIn, currentIn, chunksOf, pagesOf, within, freePage, firstFrom, nextWord}
 use Rattle.layout.specs.Regions.{mergesAt, slot}
 use Rattle.model.specs.Writing.{applies, applied, newestOf, namedIn, strayIn, freeIn, mergedIn}
@@ -28,9 +28,9 @@ use Rattle.history.specs.History.{bit}
 use Rattle.history.proofs.Lists.{both, eqb-equal}
 use Rattle.rows.proofs.Indices.{chunk-in}
 use Rattle.layout.specs.Sizes.{Proper}
-use Rattle.model.specs.Asked.{shapeIn}
+use Rattle.model.specs.Preconditions.{shapeIn}
 use Rattle.loops.specs.Search.{foundAt}
-use Rattle.loops.proofs.Places.{find-index}
+use Rattle.loops.proofs.Indices.{find-index}
 use Rattle.layout.proofs.Renewed.{renew-none, renew-again, put-renew}
 use Rattle.merging.specs.Steps.{appliedOne, laterOne, appliedAll, pagePut, pageReplaced, Mergeable}
 
@@ -245,8 +245,8 @@ not-free s v g c n p old w m e q =
     let i : ℕ = g * s .columns + c in
     let k : p < pagesOf S = omega (arith, w .pages-are, w .chunks-are, m .page-below) in
     let b : i < chunksOf S = omega (arith, w .chunks-are, chunk-in s w g c (m .range-below) (m .column-below)) in
-    let at : (pageIn v old) .chunk ≡ i = rw (← e) at (m .placed .chunk i b) in
-    T-not (namedIn S v (freeIn S v)) (free-unnamed S v (m .placed) (omega (arith, m .free)))
+    let at : (pageIn v old) .chunk ≡ i = rw (← e) at (m .chunks-current .chunk i b) in
+    T-not (namedIn S v (freeIn S v)) (free-unnamed S v (m .chunks-current) (omega (arith, m .free)))
     (subst (λ (x : ℕ). T (namedIn S v x)) (q ∙ m .free) (both (ltb ((pageIn v old) .chunk) (chunksOf S)) (eqb (getD (v Region.Current) ((pageIn v old) .chunk) 0) old) (lt→ltb ((pageIn v old) .chunk) (chunksOf S) (omega (arith, at))) (eqb-equal (getD (v Region.Current) ((pageIn v old) .chunk) 0) old (ap (λ (j : ℕ). getD (v Region.Current) j 0) at ∙ sym e))))
 
 -- and its lineage is at most n

@@ -14,7 +14,7 @@ use Rattle.layout.specs.Regions.{mergesAt}
 use Rattle.model.specs.Stored.{recordIn, pageIn, valueIn, currentIn, within, waitingPage}
 use Rattle.layout.specs.Codes.{asFree, asCurrent, asWaiting}
 use Rattle.model.specs.Writing.{applies, applied, freeIn}
-use Rattle.model.specs.Asked.{shapeIn, Placed}
+use Rattle.model.specs.Preconditions.{shapeIn, ChunksCurrent}
 
 -- ---- merge
 -- the record at slot k, a committed setting of column c, goes into page p
@@ -53,7 +53,7 @@ pub record Mergeable (s : Sizes) (v : View) (g c n p : ℕ) : Type 0 where
   pub to : n ≤ s .capacity
   pub free : p ≡ freeIn (shapeIn s) v
   pub page-below : p < s .pages
-  pub placed : Placed (shapeIn s) v
+  pub chunks-current : ChunksCurrent (shapeIn s) v
 
 -- ---- release
 -- the least of the first n numbers of a list, or the highest word

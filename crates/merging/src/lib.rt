@@ -10,7 +10,7 @@ use layout::codes::PAGE_WAITING;
 use layout::codes::SETTING;
 use loops::Found;
 use loops::both;
-use loops::choose;
+use loops::select;
 use regions::copy_in;
 use regions::find_in;
 use regions::read;
@@ -37,10 +37,10 @@ ghost use Rattle.terms.specs.declared.ScanEntry.{ScanEntry};
 ghost use Rattle.layout.specs.View.{put, viewOf, Suffices};
 ghost use Rattle.model.specs.Stored.{recordIn, pagesOf, countBelow, firstFrom};
 ghost use Rattle.model.specs.Writing.{applies, newestOf, strayIn, freeIn, mergedIn, releasable, releasedIn};
-ghost use Rattle.scans.specs.Places.{openCount};
+ghost use Rattle.scans.specs.Entries.{openCount};
 ghost use Rattle.scans.specs.Table.{tableOf};
 ghost use Rattle.layout.specs.Sizes.{Proper};
-ghost use Rattle.model.specs.Asked.{shapeIn, Pooled};
+ghost use Rattle.model.specs.Preconditions.{shapeIn, Pooled};
 ghost use Rattle.loops.specs.Search.{foundAt};
 ghost use Rattle.merging.specs.Steps.{appliedOne, laterOne, appliedAll, pagePut, pageReplaced, Mergeable, leastOf, freeable, freeablesFreed};
 
@@ -106,10 +106,10 @@ fn is_applied(mem: &[u8], s: Sizes, slot: usize, c: u32) -> bool
 }
 
 // The later of two stamps.
-fn later(a: Stamp, b: Stamp) -> Stamp
+fn later_stamp(a: Stamp, b: Stamp) -> Stamp
     ensures { λ r. ⌜ r .0 ≡ cond (ltb (a .0) (b .0)) (b .0) (a .0) ⌝ }
 {
-    Stamp(choose(a.0 < b.0, b.0, a.0))
+    Stamp(select(a.0 < b.0, b.0, a.0))
 }
 
 // The record at a slot goes into a page, if it is a committed setting of column c; the answer is the latest stamp with it.
@@ -130,7 +130,7 @@ fn apply_one(mem: &mut [u8], s: Sizes, slot: usize, c: usize, page: usize, newes
             page * RANGE_ROWS + row.0 as usize % RANGE_ROWS,
             w,
         );
-        return later(newest, stamp);
+        return later_stamp(newest, stamp);
     }
     newest
 }
@@ -218,7 +218,7 @@ fn least(entries: [u32; MOST_SCANS], n: usize) -> u32
     let mut i = 0;
     while i < n {
         let entry = entries[i];
-        r = choose(entry < r, entry, r);
+        r = select(entry < r, entry, r);
         i += 1;
     }
     r
@@ -238,9 +238,9 @@ fn free_one(mem: &mut [u8], s: Sizes, least: u32, p: usize, n: u32) -> u32
         s,
         Region::PageState,
         p,
-        choose(freed, PAGE_FREE, state),
+        select(freed, PAGE_FREE, state),
     );
-    choose(freed, n + 1, n)
+    select(freed, n + 1, n)
 }
 
 // Every waiting page that no scan needs is freed; the answer is how many.

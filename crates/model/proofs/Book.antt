@@ -1,5 +1,5 @@
--- Places that bear the numbers of what is live in a list of the history: the open transactions, the open scans. The relation is one equation of counts for
--- every test q, so that membership, the limits, that numbers differ, and what stands in the place found are read off by a choice of q.
+-- Entries that bear the numbers of what is live in a list of the history: the open transactions, the open scans. The relation is one equation of counts for
+-- every test q, so that membership, the limits, that numbers differ, and what stands in the entry found are read off by a choice of q.
 use mathlib.Core.Path.{_≡_, refl, sym, _∙_, ap}
 use mathlib.Core.Logic.{_≢_}
 use mathlib.Core.Bool.{Bool, true, false, not, cond, _&&_, and-false, and-true, and-assoc}
@@ -11,9 +11,9 @@ use lib.Dec.{T, ltb, eqb, eqb·suc-zero}
 use lib.ListN.{length, getD, set}
 use borrow.Author.Tests.{ne-eqb}
 use Rattle.history.specs.History.{any, count, nth, change}
-use Rattle.history.proofs.Lists.{by-cases, by-test, eqb-same, eqb-equal, is-true, place-any}
-use Rattle.terms.specs.Places.{firstIndex, bears}
-use Rattle.model.proofs.Lists.{one, count-set, any-count, count-rest, count-from, from-snoc, from-set, from-none, from-at, place-lt, place-is, count-pos}
+use Rattle.history.proofs.Lists.{by-cases, by-test, eqb-same, eqb-equal, is-true, any-at}
+use Rattle.terms.specs.Entries.{firstIndex, bears}
+use Rattle.model.proofs.Lists.{one, count-set, any-count, count-rest, count-from, from-snoc, from-set, from-none, from-at, first-below, first-passes, count-pos}
 use Rattle.model.specs.Represents.{countFrom}
 
 one-pos : (b : Bool) → ltb 0 (one b) ≡ b
@@ -42,7 +42,7 @@ only-index f (x ∷ l) (suc j) d b t =
     by-test (λ q. cond q (suc (count f l)) (count f l) ≤ 1 → cond q 0 (suc (firstIndex f l)) ≡ suc j) (f x)
     (λ _ c. absurd (omega (arith, count-pos f l j d (omega arith) t))) (λ _ c. ap suc (only-index f l j d (omega arith) t c))
 
--- How places of type P stand for what is live among elements of type A: `as′ i s` is the place of number i of what is in state s.
+-- How entries of type P stand for what is live among elements of type A: `as′ i s` is the entry of number i of what is in state s.
 pub record Kind (P A : Type 0) : Type 0 where
   pub number : P → ℕ
   pub live : A → Bool
@@ -58,7 +58,7 @@ abbrev pub Book : {P A : Type 0} → Kind P A → List A → List P → Type 0
 Book {P} K ts l = (q : P → Bool) → count (λ p. not (eqb (K .number p) 0) && q p) l ≡ countFrom (λ i s. K .live s && q (K .as′ i s)) 1 ts
 
 module _ {P A : Type 0} (K : Kind P A) (ts : List A) (l : List P) (o : Book K ts l) where
-  -- what has number t, the test for it, and the number in place j
+  -- what has number t, the test for it, and the number in entry j
   abbrev entry : ℕ → A
   entry t = nth ts t K.none
 
@@ -84,7 +84,7 @@ module _ {P A : Type 0} (K : Kind P A) (ts : List A) (l : List P) (o : Book K ts
   pub book-count : count (λ p. not (eqb (K.number p) 0) && true) l ≡ count K.live ts
   book-count = o (λ p. true) ∙ sym (count-from K.live 1 ts)
 
-  -- a free place is there, unless all are taken
+  -- a free entry is there, unless all are taken
   pub book-room : count (λ p. eqb (K.number p) 0) l + count K.live ts ≡ length l
   book-room = rw (← book-count) (count-rest (λ p. eqb (K.number p) 0) l)
 
@@ -93,13 +93,13 @@ module _ {P A : Type 0} (K : Kind P A) (ts : List A) (l : List P) (o : Book K ts
       let i : ℕ = firstIndex (λ p. eqb (K.number p) 0) l in
       let x : P = K.as′ (suc (length ts)) s in
       let e1 : one (not (eqb (K.number (getD l i K.free)) 0) && q (getD l i K.free)) ≡ 0 =
-      rw (is-true (eqb (K.number (getD l i K.free)) 0) (place-is (λ p. eqb (K.number p) 0) l K.free a)) in
+      rw (is-true (eqb (K.number (getD l i K.free)) 0) (first-passes (λ p. eqb (K.number p) 0) l K.free a)) in
       let e2 : one (not (eqb (K.number x) 0) && q x) ≡ one (q x) = rw (K.as-number (suc (length ts)) s, eqb·suc-zero (length ts)) in
       let e3 : one (K.live s && q (K.as′ (1 + length ts) s)) ≡ one (q x) =
       rw (is-true (K.live s) v) (ap (λ (j : ℕ). one (q (K.as′ j s))) (omega arith)) in
       omega (
         arith,
-        count-set (λ p. not (eqb (K.number p) 0) && q p) l i x K.free (place-lt (λ p. eqb (K.number p) 0) l a),
+        count-set (λ p. not (eqb (K.number p) 0) && q p) l i x K.free (first-below (λ p. eqb (K.number p) 0) l a),
         o q,
         from-snoc (λ i s. K.live s && q (K.as′ i s)) 1 ts s,
       )
@@ -121,7 +121,7 @@ module _ {P A : Type 0} (K : Kind P A) (ts : List A) (l : List P) (o : Book K ts
       other f n =
           let g : P → Bool = λ p. not (eqb (K.number p) 0) && (not (eqb (f p) (f x)) && eqb (K.number p) t) in
           let e : count g l ≡ 0 = book-at t (λ p. not (eqb (f p) (f x))) ∙ rw (eqb-same (f x), and-false (K.live (entry t))) in
-          omega (arith, count-pos g l (firstIndex (bearing t) l) K.free (place-lt (bearing t) l found) (rw (ne-eqb (f p) (f x) n) (place-is (bearing t) l K.free found)))
+          omega (arith, count-pos g l (firstIndex (bearing t) l) K.free (first-below (bearing t) l found) (rw (ne-eqb (f p) (f x) n) (first-passes (bearing t) l K.free found)))
 
   pub book-drop : (t : ℕ) → T (K.live (entry t)) → (s : A) → K.live s ≡ false → Book K (change ts t s) (set l (firstIndex (bearing t) l) K.free)
   book-drop zero v s n q = absurd (rw K.none-live at v)
@@ -136,12 +136,12 @@ module _ {P A : Type 0} (K : Kind P A) (ts : List A) (l : List P) (o : Book K ts
       let e4 : one (K.live s && q (K.as′ (1 + t) s)) ≡ 0 = rw n in
       omega (
         arith,
-        count-set (λ p. not (eqb (K.number p) 0) && q p) l i K.free K.free (place-lt (bearing (suc t)) l (rw (book-is (suc t)) v)),
+        count-set (λ p. not (eqb (K.number p) 0) && q p) l i K.free K.free (first-below (bearing (suc t)) l (rw (book-is (suc t)) v)),
         o q,
         from-set (λ i s. K.live s && q (K.as′ i s)) 1 ts t s K.none (live-inside K.live ts t K.none K.none-live v),
       )
 
-  -- ---- a place that is not free
+  -- ---- an entry that is not free
   bears-own : (j : ℕ) → numberAt j ≢ 0 → T (bears (numberAt j) (numberAt j))
   bears-own j n = rw (ne-eqb (numberAt j) 0 n) (eqb-equal (numberAt j) (numberAt j) refl)
 
@@ -150,12 +150,12 @@ module _ {P A : Type 0} (K : Kind P A) (ts : List A) (l : List P) (o : Book K ts
 
   -- its number is that of what is live
   pub number-live : (j : ℕ) → numberAt j ≢ 0 → T (K.live (entry (numberAt j)))
-  number-live j n = rw (book-is (numberAt j)) at (place-any (bearing (numberAt j)) l K.free j (inside j n) (bears-own j n))
+  number-live j n = rw (book-is (numberAt j)) at (any-at (bearing (numberAt j)) l K.free j (inside j n) (bears-own j n))
 
   pub number-given : (j : ℕ) → numberAt j ≤ length ts
   number-given j = by-cases (ℕ-discrete (numberAt j) 0) (λ z. omega arith) (λ n. live-given K.live ts (numberAt j) K.none K.none-live (number-live j n) .1)
 
-  -- no other place bears it
+  -- no other entry bears it
   pub only-place : (j : ℕ) → numberAt j ≢ 0 → firstIndex (bearing (numberAt j)) l ≡ j
   only-place j n =
       only-index (bearing (numberAt j)) l j K.free (inside j n) (bears-own j n) (omega (arith, book-at (numberAt j) (λ p. true), one-few (K.live (entry (numberAt j)) && true)))

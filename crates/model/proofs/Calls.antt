@@ -17,23 +17,23 @@ use Rattle.terms.specs.Measures.{Shape, rangeRows, mostNumbers, mostScans}
 use Rattle.terms.specs.declared.Refusal.{Refusal}
 use Rattle.terms.specs.declared.Answer.{Answer}
 use Rattle.history.specs.History as H
-use Rattle.history.specs.History.{Call, begin, insert, update, delete, commit, abort, latest, readAt, ownRead, openScan, scanRead, sum, close, merge, release, pageCell, lineage, History, Record, active, Test, _when_, Verdict, accept, refuse, verdict, tests, reply, effect, answer, next, answerIf, nextIf, any, keep, count, upTo, total, stateOf, rowAt, rangeOf, recordsOf, seenAt, seenBy, ended, visible, versionOf, read, scanAt, inserted, lastSetting, cellValue, notActive, notRunning, notGiven, noColumn, noRange, lacksRecords, notLater, later, outOfReach, noPage, cellThrough}
-use Rattle.history.proofs.Lists.{by-test, all-map, all-at, keep-append, any-agree, not-not, parts}
+use Rattle.history.specs.History.{Call, begin, insert, update, delete, commit, abort, latest, readAt, ownRead, openScan, scanRead, sum, close, merge, release, pageCell, lineage, History, Record, active, Test, _when_, Verdict, accept, refuse, verdict, tests, reply, effect, answer, next, answerIf, nextIf, any, filterb, count, upTo, total, stateOf, rowAt, rangeOf, recordsOf, seenAt, seenBy, ended, visible, versionOf, read, scanAt, inserted, lastSetting, cellValue, notActive, notRunning, notGiven, noColumn, noRange, lacksRecords, notLater, later, outOfReach, noPage, cellThrough}
+use Rattle.history.proofs.Lists.{by-test, all-map, all-at, filterb-append, any-agree, not-not, parts}
 use Rattle.history.proofs.Accepted.{Passed, passed}
 use Rattle.history.proofs.Steps.{mergeable, is-active, within-reach, step, made-new}
 use Rattle.history.specs.Steps.{by-update, by-delete}
 use Rattle.history.proofs.Ranges.{last-agree}
 use Rattle.history.proofs.Pages.{cell-is}
-use Rattle.history.proofs.Past.{past-next}
+use Rattle.history.proofs.Invariants.{invariants-next}
 use Rattle.layout.specs.View.{View, lastStamp, usedIn}
 use Rattle.layout.specs.declared.Region.the-variants.{Opens, Changes}
 use Rattle.terms.specs.declared.ScanEntry.{ScanEntry}
-use Rattle.terms.specs.Places.{bears, firstIndex}
+use Rattle.terms.specs.Entries.{bears, firstIndex}
 use Rattle.model.specs.Stored.{cellIn, currentIn, within, openIndex, scanEntry}
 use Rattle.model.specs.declared.Reader.{Reader}
 use Rattle.model.specs.Reading.{reader, readIn, readCurrent, ownChanges, wordIn, scanPage, Tally, tally, sumIn}
 use Rattle.model.specs.Calls.{testsIn, replyIn, actIn, entriesAfter, viewIf, entriesIf, say, viewNext, entriesNext, notOpenIn, noScanIn, notGivenIn, lacksIn, notLaterIn, laterIn, outOfReachIn, Typed}
-use Rattle.model.specs.Represents.{everyRow, CurrentOf, Unchanged, scanAs, Represents, Known, SameCall, StepKept}
+use Rattle.model.specs.Represents.{everyRow, CurrentOf, Unchanged, scanAs, Represents, WellFormed, SameCall, StepKept}
 use Rattle.model.proofs.Transactions.{opens-is, opens-full, open-there, active-given, begin-kept, commit-kept, abort-kept}
 use Rattle.model.proofs.Insert.{insert-kept}
 use Rattle.model.proofs.Heads.{in-range, SeesAs, sees-at, sees-own, held-is, gone-is, visible-is}
@@ -80,9 +80,9 @@ total-append f (x ∷ l) m = ap (λ (z : ℤ). f x +ℤ z) (total-append f l m) 
 
 -- the rows below n that a reader sees, and their sum
 abbrev tallied : History → (ℕ → Bool) → ℕ → ℕ → Tally
-tallied h f c n = record { count = length (keep (visible f h) (upTo n)); total = total (λ r. versionOf f h r c .value) (keep (visible f h) (upTo n)) }
+tallied h f c n = record { count = length (filterb (visible f h) (upTo n)); total = total (λ r. versionOf f h r c .value) (filterb (visible f h) (upTo n)) }
 
-module _ {S : Shape} {v : View} {ps : List ScanEntry} {h : History} (o : Represents S v ps h) (k : Known S h) where
+module _ {S : Shape} {v : View} {ps : List ScanEntry} {h : History} (o : Represents S v ps h) (k : WellFormed S h) where
   -- ---- the conditions, one for one
   open-is : (t : ℕ) → notOpenIn v t ≡ notActive h t
   unfolding notOpenIn notActive stateOf
@@ -182,7 +182,7 @@ module _ {S : Shape} {v : View} {ps : List ScanEntry} {h : History} (o : Represe
   seen-row s r z = parts (seenAt h s ((rowAt h r) .inserter)) _ z .0
 
   pub scan-read : (i r c : ℕ) → T (scanAt h i .running) → r < length (h .rows) → c < S .columns
-      → readIn S v (reader (scanAt h i .stamp) 0) (scanPage S v (scanAt h i .before) (rangeOf r) c) r c ≡ read (seenAt h (scanAt h i .stamp)) h r c
+      → readIn S v (reader (scanAt h i .stamp) 0) (scanPage S v (scanAt h i .merges) (rangeOf r) c) r c ≡ read (seenAt h (scanAt h i .stamp)) h r c
   scan-read i r c t b d =
       read-is o k (reader (scanAt h i .stamp) 0) _ (sees-at h (scanAt h i .stamp)) r b c d _ _ (o .scanPages i t (rangeOf r) c (in-range k r b) d .holds) (seen-row (scanAt h i .stamp) r)
 
@@ -192,9 +192,9 @@ module _ {S : Shape} {v : View} {ps : List ScanEntry} {h : History} (o : Represe
   tally-is i c t d zero b = refl
   tally-is i c t d (suc n) b =
       rw (
-        keep-append (visible f h) (upTo n) (n ∷ []),
-        length-append rows (keep (visible f h) (n ∷ [])),
-        total-append value rows (keep (visible f h) (n ∷ [])),
+        filterb-append (visible f h) (upTo n) (n ∷ []),
+        length-append rows (filterb (visible f h) (n ∷ [])),
+        total-append value rows (filterb (visible f h) (n ∷ [])),
         visible-is o k n b (reader (scanAt h i .stamp) 0) f (sees-at h (scanAt h i .stamp)),
         tally-is i c t d n (omega arith),
       )
@@ -210,10 +210,10 @@ module _ {S : Shape} {v : View} {ps : List ScanEntry} {h : History} (o : Represe
       value r = versionOf f h r c .value
 
       rows : List ℕ
-      rows = keep (visible f h) (upTo n)
+      rows = filterb (visible f h) (upTo n)
 
       word : ℕ
-      word = wordIn S v (reader (scanAt h i .stamp) 0) (scanPage S v (scanAt h i .before) (rangeOf n) c) n c
+      word = wordIn S v (reader (scanAt h i .stamp) 0) (scanPage S v (scanAt h i .merges) (rangeOf n) c) n c
 
       same : T (visible f h n) → toZ w32 word ≡ value n
       same z = word-is o k (reader (scanAt h i .stamp) 0) f (sees-at h (scanAt h i .stamp)) n b c d _ _ (o .scanPages i t (rangeOf n) c (in-range k n b) d .holds) (seen-row (scanAt h i .stamp) n z)
@@ -253,13 +253,13 @@ module _ {S : Shape} {v : View} {ps : List ScanEntry} {h : History} (o : Represe
   reply-same (lineage g c) p = ap₂ Answer.Lineage (o .currents g c (search nleb→lt) (search nleb→lt) .lineage) (o .tails g (search nleb→lt) .used-all)
 
   -- ---- what a call leaves
-  free-place : T (not (H.allActive h)) → T (any (λ i. eqb i 0) (v Opens))
+  free-entry : T (not (H.allActive h)) → T (any (λ i. eqb i 0) (v Opens))
   unfolding H.allActive
-  free-place q = not-not (any (λ i. eqb i 0) (v Opens)) (rw (opens-full (h .transactions) (v Opens) (o .whole .long Opens) (o .opens)) q)
+  free-entry q = not-not (any (λ i. eqb i 0) (v Opens)) (rw (opens-full (h .transactions) (v Opens) (o .whole .long Opens) (o .opens)) q)
 
   pub act-kept : (c : Call) → Typed c → Passed (tests S h c) → Represents S (actIn S v ps c) (entriesAfter v ps c) (effect S h c)
   unfolding actIn entriesAfter effect tests notGiven notRunning lacksRecords H.allGiven notLater H.allRunning later
-  act-kept begin y p = begin-kept o k (free-place (search)) (step S h begin p) (search nleb→lt)
+  act-kept begin y p = begin-kept o k (free-entry (search)) (step S h begin p) (search nleb→lt)
   act-kept (insert t vs) y p = insert-kept o k t vs (search is-active) (search nleb→lt) (y .1) (step S h (insert t vs) p)
   act-kept (update t r m vs) y p =
       update-kept o k t r m vs (search is-active) (search nleb→lt) (search) (y .2) (y .3) (search nltb→le) (step S h (update t r m vs) p)
@@ -289,11 +289,11 @@ one-call S v ps h c y o k = go (verdict (tests S h c)) refl
     same : verdict (testsIn S v ps c) ≡ verdict (tests S h c)
     same = agree-verdict (tests-agree o k c)
 
-    known : Known S (next S h c)
-    known = record { small = k .small; past = past-next c (k .past) }
+    well-formed : WellFormed S (next S h c)
+    well-formed = record { small = k .small; invariants = invariants-next c (k .invariants) }
 
     go : (w : Verdict) → verdict (tests S h c) ≡ w → SameCall S v ps h c
     go accept e =
         let p = passed (tests S h c) e in
-        record { answered = rw (same, e) (reply-same o k c p); shown = rw (same, e) (act-kept o k c y p); known = known }
-    go (refuse n) e = record { answered = rw (same, e); shown = rw (same, e) o; known = known }
+        record { answered = rw (same, e) (reply-same o k c p); shown = rw (same, e) (act-kept o k c y p); well-formed = well-formed }
+    go (refuse n) e = record { answered = rw (same, e); shown = rw (same, e) o; well-formed = well-formed }

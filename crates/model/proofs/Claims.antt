@@ -15,17 +15,17 @@ use Rattle.history.specs.Lists.{All, nil, cons}
 use Rattle.history.proofs.Lists.{nth-last}
 use Rattle.history.proofs.Steps.{noScan}
 use Rattle.history.proofs.Latest.{read-committed, cell-taken}
-use Rattle.history.proofs.Past.{past-start}
+use Rattle.history.proofs.Invariants.{invariants-start}
 use Rattle.layout.specs.View.{View, put, renew}
 use Rattle.layout.specs.declared.Region.the-variants.{Cells}
 use Rattle.terms.specs.declared.ScanEntry.{ScanEntry}
-use Rattle.terms.specs.Places.{freeEntry}
+use Rattle.terms.specs.Entries.{freeEntry}
 use Rattle.model.specs.Stored.{pageIn, cellIn, currentIn, within}
 use Rattle.model.specs.Writing.{made}
 use Rattle.model.specs.Reading.{reader, scanPage, wasCurrent}
 use Rattle.model.specs.Calls.{testsIn, actIn, viewIf, Typed, viewNext, entriesNext, viewAfter, listAfter}
 use Rattle.model.specs.Claims.{storeAfter, historyAfter, Reads, PageHolds, PagesHold, PageKept, ScansKeep}
-use Rattle.model.specs.Represents.{CurrentOf, Represents, Known}
+use Rattle.model.specs.Represents.{CurrentOf, Represents, WellFormed}
 use Rattle.model.proofs.Holding.{cell-absent}
 use Rattle.model.proofs.Heads.{sees-at}
 use Rattle.model.proofs.Calls.{current-read, one-call}
@@ -34,19 +34,19 @@ use Rattle.model.proofs.Openings.{SamePage, same-after, scan-later}
 use Rattle.model.proofs.Made.{small-shape, made-represents}
 
 -- ---- the relation after a list of calls
-pub represents-after : {S : Shape} {v : View} {ps : List ScanEntry} {h : History} → Represents S v ps h → Known S h → {cs : List Call} → All Typed cs
-    → Represents S (viewAfter S v ps cs) (listAfter S v ps cs) (run S h cs) × Known S (run S h cs)
+pub represents-after : {S : Shape} {v : View} {ps : List ScanEntry} {h : History} → Represents S v ps h → WellFormed S h → {cs : List Call} → All Typed cs
+    → Represents S (viewAfter S v ps cs) (listAfter S v ps cs) (run S h cs) × WellFormed S (run S h cs)
 unfolding viewAfter listAfter run
 represents-after {S} {v} {ps} {h} o k nil = (o, k)
 represents-after {S} {v} {ps} {h} o k (cons {x = c} {l = cs} y ys) =
     let one = one-call S v ps h c y o k in
-    represents-after (one .shown) (one .known) ys
+    represents-after (one .shown) (one .well-formed) ys
 
 pub represented : (S : Shape) → T (withinLimits S) → (n : ℕ) → mostScans ≤ n → {cs : List Call} → All Typed cs
-    → Represents S (storeAfter S n cs) (listAfter S (made S) (replicate n freeEntry) cs) (historyAfter S cs) × Known S (historyAfter S cs)
+    → Represents S (storeAfter S n cs) (listAfter S (made S) (replicate n freeEntry) cs) (historyAfter S cs) × WellFormed S (historyAfter S cs)
 unfolding storeAfter historyAfter
 represented S t n enough ys =
-    represents-after (made-represents S (small-shape S t) n enough) record { small = small-shape S t; past = past-start S } ys
+    represents-after (made-represents S (small-shape S t) n enough) record { small = small-shape S t; invariants = invariants-start S } ys
 
 -- ---- reads
 pub reads : Reads
@@ -54,7 +54,7 @@ unfolding Reads
 reads S l n enough cs ys t r c b d =
     let q = represented S l n enough ys in
     current-read (q .0) (q .1) (reader t 0) r c (seenAt (historyAfter S cs) t) (sees-at (historyAfter S cs) t) b d
-    ∙ read-committed (historyAfter S cs) (q .1 .past .order) t r c
+    ∙ read-committed (historyAfter S cs) (q .1 .invariants .order) t r c
 
 -- ---- pages
 zero-word : (w : ℕ) → w < 2 ^ 32 → toZ w32 w ≡ pos 0 → w ≡ 0
@@ -64,11 +64,11 @@ row-of : (g i : ℕ) → i < rangeRows → (rangeOf (g * rangeRows + i) ≡ g) �
 unfolding rangeOf
 row-of g i b = (omega arith, omega arith)
 
-page-holds : {S : Shape} {v : View} {ps : List ScanEntry} {h : History} → Represents S v ps h → Known S h → (g c : ℕ) → g < S .ranges → c < S .columns → PageHolds S v h g c
+page-holds : {S : Shape} {v : View} {ps : List ScanEntry} {h : History} → Represents S v ps h → WellFormed S h → (g c : ℕ) → g < S .ranges → c < S .columns → PageHolds S v h g c
 page-holds {S} {v} {ps} {h} o k g c a b = record {
   taken = x .lineage;
-  every-row = λ i u. held i u ∙ cell-taken h (k .past .order) c (g * rangeRows + i) (mergedThrough h g c);
-  never-inserted = λ i u n. zero-word (cellIn v (currentIn S v g c) i) (fits i) (held i u ∙ cell-absent h c (g * rangeRows + i) (mergedThrough h g c) (k .past .order) n);
+  every-row = λ i u. held i u ∙ cell-taken h (k .invariants .order) c (g * rangeRows + i) (mergedThrough h g c);
+  never-inserted = λ i u n. zero-word (cellIn v (currentIn S v g c) i) (fits i) (held i u ∙ cell-absent h c (g * rangeRows + i) (mergedThrough h g c) (k .invariants .order) n);
 }
   where
     x : CurrentOf S h v g c
@@ -92,12 +92,12 @@ pages-hold S l n enough cs ys g c a b =
 -- the scan that has the next number, and what stays
 abbrev Opened : History → History → Type 0
 Opened h h′ =
-    (scanAt h′ (suc (length (h .scans))) .before ≡ length (h .merges)) × (suc (length (h .scans)) ≤ length (h′ .scans)) × (length (h′ .rows) ≡ length (h .rows))
+    (scanAt h′ (suc (length (h .scans))) .merges ≡ length (h .merges)) × (suc (length (h .scans)) ≤ length (h′ .scans)) × (length (h′ .rows) ≡ length (h .rows))
 
 scan-opened : (S : Shape) (h : History) (s : ℕ) → verdict (tests S h (openScan s)) ≡ accept
     → Opened h (next S h (openScan s))
 unfolding next nextIf effect withScans scanAt
-scan-opened S h s e = rw e (ap (λ (x : Scan). x .before) (nth-last noScan (h .scans) _), simp length-append (omega arith), refl)
+scan-opened S h s e = rw e (ap (λ (x : Scan). x .merges) (nth-last noScan (h .scans) _), simp length-append (omega arith), refl)
 
 -- opening a scan changes no page
 opened-same : (S : Shape) (v : View) (ps : List ScanEntry) (s m g c : ℕ) → (scanPage S (viewNext S v ps (openScan s)) m g c ≡ scanPage S v m g c) × ((q i : ℕ) → cellIn (viewNext S v ps (openScan s)) q i ≡ cellIn v q i)
@@ -108,12 +108,12 @@ opened-same S v ps s m g c = go (verdict (testsIn S v ps (openScan s)))
     go accept = unfold viewIf actIn put renew scanPage wasCurrent currentIn pageIn cellIn in (refl, λ q i. refl)
     go (refuse n) = unfold viewIf in (refl, λ q i. refl)
 
-pages-kept : {S : Shape} {v : View} {ps : List ScanEntry} {h : History} → Represents S v ps h → Known S h → (s : ℕ) (cs : List Call) → Typed (openScan s) → All Typed cs → verdict (tests S h (openScan s)) ≡ accept
+pages-kept : {S : Shape} {v : View} {ps : List ScanEntry} {h : History} → Represents S v ps h → WellFormed S h → (s : ℕ) (cs : List Call) → Typed (openScan s) → All Typed cs → verdict (tests S h (openScan s)) ≡ accept
     → T (scanAt (run S (next S h (openScan s)) cs) (suc (length (h .scans))) .running) → (g c : ℕ) → g < S .ranges → c < S .columns
     → PageKept S v (viewAfter S (viewNext S v ps (openScan s)) (entriesNext S v ps (openScan s)) cs) (run S (next S h (openScan s)) cs) (suc (length (h .scans))) g c (length (h .rows))
 pages-kept {S} {v} {ps} {h} o k s cs y ys e t g c bg bc =
     record {
-      page = ap (λ (j : ℕ). scanPage S v₂ j g c) before-is ∙ (rw (new .0) at (same .page)) ∙ first;
+      page = ap (λ (j : ℕ). scanPage S v₂ j g c) merges-are ∙ (rw (new .0) at (same .page)) ∙ first;
       cells = λ r u f.
           (rw (new .0, first) at (same .cells r (omega (arith, new .2)) f))
           ∙ opened-same S v ps s (length (h .merges)) g c .1 (currentIn S v g c) (within r);
@@ -134,11 +134,11 @@ pages-kept {S} {v} {ps} {h} o k s cs y ys e t g c bg bc =
     new : Opened h (next S h (openScan s))
     new = scan-opened S h s e
 
-    same : SamePage S v₁ v₂ (scanAt h₁ i .before) (length (h₁ .rows)) g c
-    same = let one = one-call S v ps h (openScan s) y o k in same-after (one .shown) (one .known) i (new .1) ys t g c bg bc
+    same : SamePage S v₁ v₂ (scanAt h₁ i .merges) (length (h₁ .rows)) g c
+    same = let one = one-call S v ps h (openScan s) y o k in same-after (one .shown) (one .well-formed) i (new .1) ys t g c bg bc
 
-    before-is : scanAt (run S h₁ cs) i .before ≡ length (h .merges)
-    before-is = ap (λ (x : Scan). x .before) (scan-later S h₁ cs i (new .1) t) ∙ new .0
+    merges-are : scanAt (run S h₁ cs) i .merges ≡ length (h .merges)
+    merges-are = ap (λ (x : Scan). x .merges) (scan-later S h₁ cs i (new .1) t) ∙ new .0
 
     first : scanPage S v₁ (length (h .merges)) g c ≡ currentIn S v g c
     first = opened-same S v ps s (length (h .merges)) g c .0 ∙ scan-current S v (length (h .merges)) g c (o .currents g c bg bc .made)

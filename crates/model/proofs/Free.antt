@@ -1,4 +1,4 @@
--- The free pages are the spares less those that wait, on every memory whose places name pages as the stored facts say.
+-- The free pages are the spares less those that wait, on every memory whose chunks name pages as the stored facts say.
 use mathlib.Core.Path.{_≡_, refl, sym, _∙_, ap}
 use mathlib.Core.Logic.{_≢_}
 use mathlib.Core.Bool.{Bool, true, false, not, cond, _&&_, and-true}
@@ -13,7 +13,7 @@ use Rattle.history.proofs.Lists.{both-test, le-test, eq-test, by-cases, by-test
 use Rattle.layout.specs.View.{View}
 use Rattle.layout.specs.declared.Region.the-variants.{Current}
 use Rattle.model.specs.Stored.{pageIn, chunksOf, pagesOf, freePage, currentPage, waitingPage, countBelow, firstFrom}
-use Rattle.model.specs.Asked.{Placed}
+use Rattle.model.specs.Preconditions.{ChunksCurrent}
 use Rattle.model.specs.Writing.{namedIn, strayIn, freeIn}
 use Rattle.model.proofs.Lists.{one, below-none, below-pos, below-change, below-three, below-sum, first-is, first-none, same-truth}
 
@@ -24,18 +24,18 @@ states-three (suc zero) = refl
 states-three (suc (suc w)) =
     rw (ne-eqb (suc (suc w)) 0 (λ e. omega arith), ne-eqb (suc (suc w)) 1 (λ e. omega arith), lt-ltb 1 (suc (suc w)) (omega arith))
 
-module _ (S : Shape) (v : View) (o : Placed S v) where
+module _ (S : Shape) (v : View) (o : ChunksCurrent S v) where
   abbrev cur : ℕ → ℕ
   cur i = getD (v Current) i 0
 
   abbrev at : ℕ → ℕ
   at p = (pageIn v p) .chunk
 
-  -- the page that one of the first k places names
+  -- the page that one of the first k chunks names
   abbrev among : ℕ → ℕ → Bool
   among k p = ltb (at p) k && eqb (cur (at p)) p
 
-  -- the places name as many pages as there are places
+  -- the chunks name as many pages as there are chunks
   named-first : (k : ℕ) → k ≤ chunksOf S → countBelow (among k) (pagesOf S) ≡ k
   named-first zero b = below-none (among 0) (pagesOf S) (λ p q. refuted (among 0 p) (λ t. let z = simp (both-test, le-test) at t in omega arith))
   named-first (suc k) b =
@@ -72,7 +72,7 @@ module _ (S : Shape) (v : View) (o : Placed S v) where
   abbrev waiting : ℕ → Bool
   waiting p = waitingPage ((pageIn v p) .state)
 
-  -- a current page is stray or named by its place
+  -- a current page is stray or named by its chunk
   current-count : countBelow current (pagesOf S) ≡ countBelow (strayIn S v) (pagesOf S) + chunksOf S
   unfolding strayIn
   current-count = below-sum current (strayIn S v) (namedIn S v) (pagesOf S) each ∙ ap (λ (n : ℕ). countBelow (strayIn S v) (pagesOf S) + n) named-count
@@ -83,7 +83,7 @@ module _ (S : Shape) (v : View) (o : Placed S v) where
   page-count : countBelow free (pagesOf S) + countBelow (strayIn S v) (pagesOf S) + countBelow waiting (pagesOf S) ≡ S .spares
   page-count = omega (arith, below-three free current waiting (pagesOf S) (λ p. states-three ((pageIn v p) .state)), current-count)
 
-  -- no page is stray where as many are current as there are places
+  -- no page is stray where as many are current as there are chunks
   pub no-stray : countBelow current (pagesOf S) ≡ chunksOf S → countBelow (strayIn S v) (pagesOf S) ≡ 0
   no-stray e = omega (arith, current-count)
 
@@ -110,7 +110,7 @@ module _ (S : Shape) (v : View) (o : Placed S v) where
       ∙ same-truth (eqb stray 0) (leb (S .spares) waits) (λ t. le→leb (S .spares) waits (omega (arith, page-count, eqb→eq stray 0 t)))
       (λ t. eqb-equal stray 0 (omega (arith, page-count, leb→le (S .spares) waits t))))
 
-  -- a page that is found is named by no place
+  -- a page that is found is named by no chunk
   pub free-unnamed : freeIn S v < pagesOf S → T (not (namedIn S v (freeIn S v)))
   unfolding strayIn
   free-unnamed =

@@ -29,15 +29,15 @@ use Rattle.layout.specs.Regions.{slot}
 use Rattle.model.specs.Calls.{openOther, standsFor, anyRecord, heldIn, goneIn}
 use Rattle.model.proofs.Lists.{any-below}
 use Rattle.model.proofs.Transactions.{opens-is}
-use Rattle.model.specs.Represents.{stateWord, RowIs, ContentIs, TailOf, Represents, Known}
+use Rattle.model.specs.Represents.{stateWord, RowIs, ContentIs, TailOf, Represents, WellFormed}
 
 pub slot-is : (S : Shape) (g k : ℕ) → slot S g (suc k) ≡ g * S .capacity + k
 unfolding slot
 slot-is S g k = omega arith
 
-pub in-range : {S : Shape} {h : History} → Known S h → (r : ℕ) → r < length (h .rows) → rangeOf r < S .ranges
+pub in-range : {S : Shape} {h : History} → WellFormed S h → (r : ℕ) → r < length (h .rows) → rangeOf r < S .ranges
 unfolding rangeOf
-in-range k r b = omega (arith, k .past .limits .rows)
+in-range k r b = omega (arith, k .invariants .limits .rows)
 
 -- ---- words of states and kinds
 delete-word : (C : ℕ) (y : Content) (kind mask : ℕ) (value : ℕ → ℕ) → ContentIs C y kind mask value → deleteKind kind ≡ ends y
@@ -78,7 +78,7 @@ pub sees-not-aborted : (h : History) (who : Reader) (f : ℕ → Bool) → SeesA
 unfolding SeesAs sees
 sees-not-aborted h who f w k e = sym (w k) ∙ rw e
 
-module _ {S : Shape} {v : View} {ps : List ScanEntry} {h : History} (o : Represents S v ps h) (k : Known S h) (r : ℕ) (b : r < length (h .rows)) where
+module _ {S : Shape} {v : View} {ps : List ScanEntry} {h : History} (o : Represents S v ps h) (k : WellFormed S h) (r : ℕ) (b : r < length (h .rows)) where
   abbrev recs : List Record
   recs = recordsOf h (rangeOf r)
 
@@ -135,7 +135,7 @@ module _ {S : Shape} {v : View} {ps : List ScanEntry} {h : History} (o : Represe
   unfolding seenBy seenAt committedBy Stamped
   stands-is t n = ap (λ (b : Bool). eqb n t || b)
       (elim (stateOf h n) as (λ x. stateOf h n ≡ x → committedState (stateWord x) ≡ committedBy (h .last) x)
-      [ unknown ↦ λ e. refl | active ↦ λ e. refl | aborted ↦ λ e. refl | committed s ↦ λ e. sym (le-leb s (h .last) (k .past .order .stamps n s e)) ] refl)
+      [ unknown ↦ λ e. refl | active ↦ λ e. refl | aborted ↦ λ e. refl | committed s ↦ λ e. sym (le-leb s (h .last) (k .invariants .order .stamps n s e)) ] refl)
 
   pub gone-is : (t : ℕ) → goneIn S v t r ≡ gone h t r
   unfolding goneIn gone visible ended
@@ -155,7 +155,7 @@ module _ {S : Shape} {v : View} {ps : List ScanEntry} {h : History} (o : Represe
   unfolding visibleIn visible SeesAs
   visible-is who f w =
       rw (row .state, row .stamp, row .transaction, w ((rowAt h r) .inserter), head-is (λ y. deleteKind (y .kind) && seesRecord who y) (λ x. ends (x .content) && f (x .transaction)) same)
-      (rw (ended-newest h f r (k .past .order) (sees-not-aborted h who f w)))
+      (rw (ended-newest h f r (k .invariants .order) (sees-not-aborted h who f w)))
     where
       same : Alike (λ y. deleteKind (y .kind) && seesRecord who y) (λ x. ends (x .content) && f (x .transaction))
       same i u = let x = tail .each i u in rw (delete-is i u, x .state, x .stamp, x .transaction, w ((rec i) .transaction))

@@ -16,7 +16,7 @@ use mir.Val.{toZ}
 use Rattle.terms.specs.Measures.{Shape, rangeRows}
 use Rattle.history.specs.History.{Call, History, Row, Record, Version, isCommitted, stateOf, rowAt, insertedValue, inserted, lastSetting, rangeOf, recordsOf, withRows, withTail, withTransactions, withScans, withMerges, cellThrough}
 use Rattle.history.specs.Lists.{All}
-use Rattle.history.proofs.Lists.{by-cases, all-map, all-map₂, all-keep, all-take, keep-append, length-change}
+use Rattle.history.proofs.Lists.{by-cases, all-map, all-map₂, all-filterb, all-take, filterb-append, length-change}
 use Rattle.history.specs.Steps.{scanOpened, scanClosed, merged, released, Step, nothing, newStates, rowGiven, recordsMade, newScans, newMerges}
 use Rattle.history.proofs.States.{states-last}
 use Rattle.history.proofs.Ranges.{last-unfound}
@@ -33,7 +33,7 @@ last-other sees r c v a = last-unfound sees r c v (all-map (λ x n. rw (ne-eqb (
 
 pub not-given : (h : History) (g n r : ℕ) → InOrder h → length (h .rows) ≤ r → All (λ (x : Record). x .row ≢ r) (take n (recordsOf h g))
 unfolding recordsOf
-not-given h g n r i b = all-take n (all-keep _ (all-map (λ x p e. omega (arith, p .inside)) (i .records)))
+not-given h g n r i b = all-take n (all-filterb _ (all-map (λ x p e. omega (arith, p .inside)) (i .records)))
 
 pub absent-inserted : (h : History) (r c : ℕ) → length (h .rows) ≤ r → insertedValue h r c ≡ pos 0
 unfolding insertedValue rowAt
@@ -57,7 +57,7 @@ one-longer l x = simp length-append (omega arith)
 
 records-longer : (h : History) (m : List Record) (g : ℕ) → length (recordsOf h g) ≤ length (recordsOf (withTail h (h .tail ++ m)) g)
 unfolding recordsOf withTail
-records-longer h m g = simp (keep-append, length-append) (omega arith)
+records-longer h m g = simp (filterb-append, length-append) (omega arith)
 
 pub grown : {S : Shape} {x : Call} {h h′ : History} → Step S h x h′ → Grown h h′
 unfolding recordsOf withTransactions withRows withTail withScans withMerges

@@ -30,14 +30,14 @@ use Rattle.loops.proofs.Change.{set-fit}
 use Rattle.layout.specs.View.{View, renew, put}
 use Rattle.layout.specs.declared.Region.the-variants.{Header, Opens, RowTransaction, RowState, RowStamp, RowLink, RowMask, Current, Cells, Changes}
 use Rattle.terms.specs.declared.ScanEntry.{ScanEntry}
-use Rattle.terms.specs.Places.{bears, firstIndex}
+use Rattle.terms.specs.Entries.{bears, firstIndex}
 use Rattle.layout.specs.Regions.{rowsAt}
 use Rattle.model.specs.Stored.{rowIn, recordIn, valueIn, pageIn, cellIn, currentIn, chunkOf, within, openIndex, nextWord}
 use Rattle.layout.specs.Codes.{asOpen}
 use Rattle.model.specs.Reading.{scanPage, wasCurrent}
 use Rattle.model.specs.Writing.{noted, putCells, insertedAt, insertedIn}
 use Rattle.model.proofs.Lists.{same-part}
-use Rattle.model.specs.Represents.{stateWord, RowIs, RowsAre, Holds, everyRow, CurrentIs, CurrentOf, CurrentsAre, ScanPageOf, ScanPagesAre, NotesAre, HeaderFor, Represents, Known, Whole}
+use Rattle.model.specs.Represents.{stateWord, RowIs, RowsAre, Holds, everyRow, CurrentIs, CurrentOf, CurrentsAre, ScanPageOf, ScanPagesAre, NotesAre, HeaderFor, Represents, WellFormed, Whole}
 use Rattle.model.proofs.Holding.{same-row, withRow, row-new, not-given, other-row, holds-step, holds-cells, holds-insert}
 use Rattle.model.proofs.Steady.{scan-cells, scan-page-step, waits-stay}
 use Rattle.model.proofs.Views.{renew-whole, put-whole, noted-whole, header-put, header-same}
@@ -96,7 +96,7 @@ pub current-apart : (S : Shape) (v : View) (h : History) → CurrentsAre S h v �
 current-apart S v h o g c g′ c′ a b a′ b′ e =
     same-part (S .columns) g g′ c c′ b b′ (sym (o g c a b .chunk) ∙ ap (λ (p : ℕ). (pageIn v p) .chunk) e ∙ o g′ c′ a′ b′ .chunk)
 
-module _ {S : Shape} {v : View} {ps : List ScanEntry} {h : History} (o : Represents S v ps h) (k : Known S h) (t : ℕ) (vs : List ℤ) (a : stateOf h t ≡ active)
+module _ {S : Shape} {v : View} {ps : List ScanEntry} {h : History} (o : Represents S v ps h) (k : WellFormed S h) (t : ℕ) (vs : List ℤ) (a : stateOf h t ≡ active)
     (room : length (h .rows) < S .ranges * rangeRows) (typed : All (SFits w32) vs) where
   abbrev row : Row
   row = record { inserter = t; values = vs }
@@ -130,9 +130,9 @@ module _ {S : Shape} {v : View} {ps : List ScanEntry} {h : History} (o : Represe
       }
     where
       fresh : All (λ (x : Record). x .row ≢ r) (recordsOf h (rangeOf r))
-      fresh = rw take-length at (not-given h (rangeOf r) (length (recordsOf h (rangeOf r))) r (k .past .order) (le-refl _))
+      fresh = rw take-length at (not-given h (rangeOf r) (length (recordsOf h (rangeOf r))) r (k .invariants .order) (le-refl _))
 
-  -- what the cells of a page are now: for a page that is of no column of the row's range, and for places other than the row's
+  -- what the cells of a page are now: for a page that is of no column of the row's range, and for cells other than the row's
   pub cell-kept : (p i : ℕ) → i < rangeRows → ((c : ℕ) → c < S .columns → p ≡ currentIn S v (rangeOf r) c → i ≢ within r) → getD cells′ (p * rangeRows + i) 0 ≡ cellIn v p i
   unfolding currentIn cellIn
   cell-kept p i b f =
@@ -152,11 +152,11 @@ module _ {S : Shape} {v : View} {ps : List ScanEntry} {h : History} (o : Represe
   insert-currents : Step S h (insert t vs) h′ → CurrentsAre S h′ v′
   unfolding insertedAt noted openIndex put renew pageIn cellIn currentIn mergedThrough
   insert-currents step g c b d = by-cases (ℕ-discrete (rangeOf r) g)
-      (λ e. packed (holds-insert row g c (pageIn v p) (k .past .order) step e
+      (λ e. packed (holds-insert row g c (pageIn v p) (k .invariants .order) step e
       (subst (λ (z : ℕ). toZ w32 (getD cells′ (currentIn S v z c * rangeRows + within r) 0) ≡ getD vs c (pos 0)) e (cell-written c d)) (λ i u f. cell-kept p i u (λ c′ w z. f)) (x .holds)))
       (λ f. packed
       (holds-cells (λ i e q. cell-kept p (within i) (omega arith) (λ c′ w z. absurd (f (sym (current-apart S v h (o .currents) g c (rangeOf r) c′ b d inside w z .0)))))
-      (holds-step (k .past .order) step g c (pageIn v p) (λ i e q. (tt, other-row h row i (λ z. f (ap rangeOf (sym z) ∙ e)))) (x .holds))))
+      (holds-step (k .invariants .order) step g c (pageIn v p) (λ i e q. (tt, other-row h row i (λ z. f (ap rangeOf (sym z) ∙ e)))) (x .holds))))
     where
       p : ℕ
       p = currentIn S v g c
@@ -171,7 +171,7 @@ module _ {S : Shape} {v : View} {ps : List ScanEntry} {h : History} (o : Represe
       packed q =
           record { inside = x .inside; state = x .state; chunk = x .chunk; made = unfold withRows in x .made; lineage = unfold withRows in x .lineage; holds = q }
 
-  -- a page of this place that is a current page of the new row's range has another place in it for each row given before
+  -- a page of this chunk that is a current page of the new row's range has another cell in it for each row given before
   pub scan-apart : (g c p : ℕ) → c < S .columns → (pageIn v p) .chunk ≡ chunkOf S g c → (j : ℕ) → rangeOf j ≡ g → j ≢ r → (c′ : ℕ) → c′ < S .columns → p ≡ currentIn S v (rangeOf r) c′
       → within j ≢ within r
   scan-apart g c p d pl j e f c′ w z u =
@@ -180,9 +180,9 @@ module _ {S : Shape} {v : View} {ps : List ScanEntry} {h : History} (o : Represe
   insert-scans : Step S h (insert t vs) h′ → ScanPagesAre S h′ v′
   unfolding insertedAt noted openIndex put renew pageIn cellIn currentIn scanPage wasCurrent scanAt Timely withRows
   insert-scans step i run g c b d =
-      let p : ℕ = scanPage S v (scanAt h i .before) g c in
+      let p : ℕ = scanPage S v (scanAt h i .merges) g c in
       let x : ScanPageOf S h v (scanAt h i) g c = o .scanPages i (unfold withRows in run) g c b d in
-      scan-cells (λ j e q. cell-kept p (within j) (omega arith) (scan-apart g c p d (x .chunk) j e (seen j q))) (scan-page-step (k .past .order) step (k .past .timely i) x)
+      scan-cells (λ j e q. cell-kept p (within j) (omega arith) (scan-apart g c p d (x .chunk) j e (seen j q))) (scan-page-step (k .invariants .order) step (k .invariants .timely i) x)
     where
       -- a row that the scan sees is not the new one, which is open
       seen : (j : ℕ) → T (seenAt h′ (scanAt h i .stamp) ((rowAt h′ j) .inserter)) → j ≢ r
@@ -197,7 +197,7 @@ module _ {S : Shape} {v : View} {ps : List ScanEntry} {h : History} (o : Represe
   insert-whole : Whole S v′
   unfolding insertedAt stateOf
   insert-whole =
-      let number : t < 2 ^ 32 = omega (arith, active-given (h .transactions) t a .1, k .past .limits .transactions) in
+      let number : t < 2 ^ 32 = omega (arith, active-given (h .transactions) t a .1, k .invariants .limits .transactions) in
       noted-whole t
       (put-whole Header rowsAt (r + 1) (omega (arith, k .small .ranges))
       (renew-whole Cells cells′ (cells-length S (v Current) (rangeOf r) (within r) vs (v Cells) (S .columns) ∙ o .whole .long Cells)

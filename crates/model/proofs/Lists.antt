@@ -1,4 +1,4 @@
--- Lists and numbers in general, beyond what the history's proofs have: counts of a list by place, counts and searches over the numbers below a bound, and
+-- Lists and numbers in general, beyond what the history's proofs have: counts of a list by index, counts and searches over the numbers below a bound, and
 -- the index of a part in a region of equal parts. Nothing here speaks of the store.
 use mathlib.Core.Path.{_≡_, refl, sym, _∙_, ap}
 use mathlib.Core.Logic.{_≢_}
@@ -15,7 +15,7 @@ use lib.Seq.{take-suc}
 use Rattle.history.specs.History.{any, count}
 pub use Rattle.history.proofs.Lists.{one}
 use Rattle.history.proofs.Lists.{by-cases, by-test, cond-suc, any-append, is-true, refuted, eqb-equal, eqb-same}
-use Rattle.terms.specs.Places.{firstIndex}
+use Rattle.terms.specs.Entries.{firstIndex}
 use Rattle.model.specs.Stored.{firstFrom, anyBelow, countBelow}
 use Rattle.model.specs.Represents.{countFrom}
 
@@ -105,14 +105,14 @@ module _ {A : Type 0} where
   any-below l d F f (suc n) b e =
       rw (take-next l n d b f, or-false (f (getD l n d)), any-below l d F f n (omega arith) (λ i u. e i (omega arith)), e n (omega arith))
 
-  -- ---- the place that is found
-  pub place-lt : (f : A → Bool) (l : List A) → T (any f l) → firstIndex f l < length l
-  place-lt f [] = λ t. absurd t
-  place-lt f (x ∷ l) = by-test (λ b. T (b || any f l) → cond b 0 (suc (firstIndex f l)) < suc (length l)) (f x) (λ _ u. omega arith) (λ _ u. omega (arith, place-lt f l u))
+  -- ---- the index that is found
+  pub first-below : (f : A → Bool) (l : List A) → T (any f l) → firstIndex f l < length l
+  first-below f [] = λ t. absurd t
+  first-below f (x ∷ l) = by-test (λ b. T (b || any f l) → cond b 0 (suc (firstIndex f l)) < suc (length l)) (f x) (λ _ u. omega arith) (λ _ u. omega (arith, first-below f l u))
 
-  pub place-is : (f : A → Bool) (l : List A) (d : A) → T (any f l) → T (f (getD l (firstIndex f l) d))
-  place-is f [] d = λ t. absurd t
-  place-is f (x ∷ l) d = by-test (λ b. T (b || any f l) → T (f (getD (x ∷ l) (cond b 0 (suc (firstIndex f l))) d))) (f x) (λ t _. t) (λ _ u. place-is f l d u)
+  pub first-passes : (f : A → Bool) (l : List A) (d : A) → T (any f l) → T (f (getD l (firstIndex f l) d))
+  first-passes f [] d = λ t. absurd t
+  first-passes f (x ∷ l) d = by-test (λ b. T (b || any f l) → T (f (getD (x ∷ l) (cond b 0 (suc (firstIndex f l))) d))) (f x) (λ t _. t) (λ _ u. first-passes f l d u)
 
 -- ---- the first number that passes
 module _ (f : ℕ → Bool) where

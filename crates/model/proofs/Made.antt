@@ -15,7 +15,7 @@ use Rattle.terms.specs.Measures.{Shape, rangeRows, mostScans, withinLimits, mos
 use Rattle.history.specs.History.{Call, History, start, answers, count, rowAt, insertedValue, inserted, lastSetting, recordsOf, lastThrough, mergedThrough, scanAt, cellThrough}
 use Rattle.history.specs.Lists.{All, nil, cons}
 use Rattle.history.proofs.Lists.{by-cases, both-test, le-test}
-use Rattle.history.proofs.Past.{past-start}
+use Rattle.history.proofs.Invariants.{invariants-start}
 use Rattle.loops.specs.Change.{numbered}
 use Rattle.words.specs.Words.{Fit}
 use Rattle.loops.proofs.Change.{changed-length, changed-outside, changed-fit, zeros}
@@ -25,13 +25,13 @@ use Rattle.layout.specs.declared.Region.{Region}
 use Rattle.layout.specs.declared.Region.the-variants.{Header, Opens, Current, PageState, PageChunk}
 use Rattle.terms.specs.declared.ScanEntry.{ScanEntry}
 use Rattle.layout.specs.Sizes.{sizesOf}
-use Rattle.terms.specs.Places.{freeEntry}
+use Rattle.terms.specs.Entries.{freeEntry}
 use Rattle.model.specs.Stored.{pageIn, cellIn, currentIn, chunkOf, chunksOf, pagesOf, within, waitingPage, currentPage, countBelow}
 use Rattle.model.specs.Writing.{made}
 use Rattle.model.specs.Calls.{Typed, sayAll}
 use Rattle.layout.specs.Codes.{asCurrent}
 use Rattle.model.proofs.Lists.{below-none}
-use Rattle.model.specs.Represents.{Holds, everyRow, CurrentsAre, PoolIs, Represents, Small, Known, Whole}
+use Rattle.model.specs.Represents.{Holds, everyRow, CurrentsAre, PoolIs, Represents, Small, WellFormed, Whole}
 use Rattle.model.proofs.Views.{renew-whole, put-whole, changed-start}
 use Rattle.model.proofs.Merged.{chunk-in}
 use Rattle.model.proofs.Calls.{one-call}
@@ -161,15 +161,15 @@ module _ (S : Shape) (small : Small S) where
       no-scan (suc k) t = unfold scanAt start in t
 
 -- ---- every list of calls
-simulated-from : {S : Shape} {v : View} {ps : List ScanEntry} {h : History} → Represents S v ps h → Known S h → {cs : List Call} → All Typed cs → sayAll S v ps cs ≡ answers S h cs
+simulated-from : {S : Shape} {v : View} {ps : List ScanEntry} {h : History} → Represents S v ps h → WellFormed S h → {cs : List Call} → All Typed cs → sayAll S v ps cs ≡ answers S h cs
 unfolding sayAll answers
 simulated-from {S} {v} {ps} {h} o k nil = refl
 simulated-from {S} {v} {ps} {h} o k (cons {x = c} {l = cs} y ys) =
     let one = one-call S v ps h c y o k in
-    rw (one .answered, simulated-from (one .shown) (one .known) ys)
+    rw (one .answered, simulated-from (one .shown) (one .well-formed) ys)
 
--- The store, from a making with any scan list of at least 16 places, answers every list of calls as the plain history does.
+-- The store, from a making with any scan list of at least 16 entries, answers every list of calls as the plain history does.
 pub simulated : (S : Shape) → T (withinLimits S) → (n : ℕ) → mostScans ≤ n → (cs : List Call) → All Typed cs
     → sayAll S (made S) (replicate n freeEntry) cs ≡ answers S start cs
 simulated S t n enough cs ys =
-    simulated-from (made-represents S (small-shape S t) n enough) record { small = small-shape S t; past = past-start S } ys
+    simulated-from (made-represents S (small-shape S t) n enough) record { small = small-shape S t; invariants = invariants-start S } ys

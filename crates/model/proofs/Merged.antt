@@ -33,10 +33,10 @@ use Rattle.model.specs.Stored.{PageWords, rowIn, recordIn, valueIn, page
 use Rattle.layout.specs.Codes.{asCurrent, asWaiting}
 use Rattle.model.specs.Reading.{wasCurrent, scanPage}
 use Rattle.model.specs.Writing.{applied, newestOf, freeIn, mergedIn}
-use Rattle.model.specs.Asked.{Placed}
+use Rattle.model.specs.Preconditions.{ChunksCurrent}
 use Rattle.model.specs.Calls.{openAmongIn}
 use Rattle.model.proofs.Lists.{one, any-below, count-from, from-snoc, first-only, first-ext, below-ext, below-pair, part-in, same-part}
-use Rattle.model.specs.Represents.{Holds, everyRow, CurrentIs, CurrentOf, CurrentsAre, WaitingIs, WaitingAre, madeIn, PoolIs, ScanPageIs, ScanPagesAre, HeaderFor, Represents, Known, Whole}
+use Rattle.model.specs.Represents.{Holds, everyRow, CurrentIs, CurrentOf, CurrentsAre, WaitingIs, WaitingAre, madeIn, PoolIs, ScanPageIs, ScanPagesAre, HeaderFor, Represents, WellFormed, Whole}
 use Rattle.model.proofs.Holding.{holds-step, same-rows}
 use Rattle.model.proofs.Steady.{current-step, current-cells, waiting-step, scan-cells, scan-page-step}
 use Rattle.model.proofs.Views.{renew-whole, put-whole, header-put, header-same}
@@ -47,26 +47,26 @@ use Rattle.model.proofs.Free.{no-stray, free-none, found-free}
 use Rattle.model.proofs.Scans.{scan-current}
 use Rattle.model.proofs.ScanPages.{WasCurrent, was-current, is-current, unfound, unfound-state, search-same, searched, search-is, found-page, Cases, scan-cases, scan-page-same}
 
--- a place is below the number of places
+-- a chunk is below the number of chunks
 pub chunk-in : (S : Shape) (g c : ℕ) → g < S .ranges → c < S .columns → chunkOf S g c < chunksOf S
 chunk-in S g c a b = omega (arith, part-in (S .ranges) (S .columns) g c a b, mul-comm (S .ranges) (S .columns))
 
--- a place is that of a range and a column
+-- a chunk is that of a range and a column
 pub chunk-parts : (S : Shape) → 1 ≤ S .columns → (i : ℕ) → i < chunksOf S → (i / S .columns < S .ranges) × (i % S .columns < S .columns) × (chunkOf S (i / S .columns) (i % S .columns) ≡ i)
 chunk-parts S some i b =
     let c : i < S .ranges * S .columns = omega (arith, mul-comm (S .columns) (S .ranges)) in
     ((div-lt-iff-lt-mul {k = S .columns} {x = i} {y = S .ranges} some) .1 c, mod-lt i some, div-add-mod' i (S .columns))
 
-module _ {S : Shape} {v : View} {ps : List ScanEntry} {h : History} (o : Represents S v ps h) (k : Known S h) where
-  -- the page that place i names
+module _ {S : Shape} {v : View} {ps : List ScanEntry} {h : History} (o : Represents S v ps h) (k : WellFormed S h) where
+  -- the page that chunk i names
   pub named : (i : ℕ) → i < chunksOf S → CurrentIs S h (i / S .columns) (i % S .columns) (getD (v Current) i 0) (pageIn v (getD (v Current) i 0)) (cellIn v (getD (v Current) i 0))
   unfolding currentIn
   named i b =
       let t = chunk-parts S (k .small .some-column) i b in
       rw (t .2) at (o .currents (i / S .columns) (i % S .columns) (t .0) (t .1))
 
-  pub placed : Placed S v
-  placed = record {
+  pub chunks-current : ChunksCurrent S v
+  chunks-current = record {
     inside = λ i b. named i b .inside;
     state = λ i b. named i b .state;
     chunk = λ i b. named i b .chunk ∙ chunk-parts S (k .small .some-column) i b .2;
@@ -78,7 +78,7 @@ module _ {S : Shape} {v : View} {ps : List ScanEntry} {h : History} (o : Represe
 
   -- test 18
   pub free-is : leb (pagesOf S) (freeIn S v) ≡ leb (S .spares) (waitingPages (h .merges))
-  free-is = free-none S v placed ∙ ap (leb (S .spares)) waiting-is
+  free-is = free-none S v chunks-current ∙ ap (leb (S .spares)) waiting-is
 
   -- test 17
   pub open-among-is : (g n : ℕ) → g < S .ranges → n ≤ length (recordsOf h g) → openAmongIn S v g n ≡ anyActive h g n
@@ -88,13 +88,13 @@ module _ {S : Shape} {v : View} {ps : List ScanEntry} {h : History} (o : Represe
       (λ i u. rw (o .tails g a .each i (omega arith) .transaction) (opens-is (h .transactions) (v Opens) (o .opens) _))
 
 -- the merges' counter is far from going round
-merges-few : {S : Shape} {h : History} → Known S h → suc (length (h .merges)) < 2 ^ 32
+merges-few : {S : Shape} {h : History} → WellFormed S h → suc (length (h .merges)) < 2 ^ 32
 merges-few {S} {h} k =
     let a : S .columns * S .capacity ≤ mostColumns * mostRecords = mul-le-mul (k .small .columns) (k .small .capacity) in
     let b : S .ranges * (S .columns * S .capacity) ≤ mostRanges * (mostColumns * mostRecords) = mul-le-mul (k .small .ranges) a in
-    omega (arith, merges-most S h (k .past .merges) (k .past .pages) (k .past .limits))
+    omega (arith, merges-most S h (k .invariants .merges) (k .invariants .pages) (k .invariants .limits))
 
-module _ {S : Shape} {v : View} {ps : List ScanEntry} {h : History} (o : Represents S v ps h) (k : Known S h) {g c n : ℕ} (ok : Mergeable S h g c n) where
+module _ {S : Shape} {v : View} {ps : List ScanEntry} {h : History} (o : Represents S v ps h) (k : WellFormed S h) {g c n : ℕ} (ok : Mergeable S h g c n) where
   room : freeIn S v < pagesOf S
   room = nleb→lt (pagesOf S) (freeIn S v)
       (rw (free-is o k) (not-T (leb (S .spares) (waitingPages (h .merges))) (λ t. omega (arith, leb→le (S .spares) (waitingPages (h .merges)) t, ok .spare))))
@@ -133,7 +133,7 @@ module _ {S : Shape} {v : View} {ps : List ScanEntry} {h : History} (o : Represe
   low-to = omega (arith, now .lineage)
 
   free-state : (pageIn v p) .state ≡ 0
-  free-state = found-free S v (placed o k) (no-stray S v (placed o k) (o .pool .current)) room
+  free-state = found-free S v (chunks-current o k) (no-stray S v (chunks-current o k) (o .pool .current)) room
 
   not-free : (q : ℕ) → 0 < (pageIn v q) .state → q ≢ p
   not-free q b e = omega (arith, free-state, ap (λ (i : ℕ). (pageIn v i) .state) e)
@@ -210,9 +210,9 @@ module _ {S : Shape} {v : View} {ps : List ScanEntry} {h : History} (o : Represe
   new-holds : Holds h g c everyRow record { state = asCurrent; chunk = chunkOf S g c; made = m; replaced = (pageIn v p) .replaced; lineage = n; newest = late } (cellIn v′ p)
   new-holds =
       record {
-        through = merge-through (k .past .order) ok;
+        through = merge-through (k .invariants .order) ok;
         newest = rw low-to at (newest-is o ok p low ((pageIn v old) .newest) (now .holds .newest) (n - low) (omega (arith, low-to)));
-        stamped = newest-last o ok p low (k .past .order) ((pageIn v old) .newest) (now .holds .stamped) (n - low) (omega (arith, low-to));
+        stamped = newest-last o ok p low (k .invariants .order) ((pageIn v old) .newest) (now .holds .stamped) (n - low) (omega (arith, low-to));
         cells = λ r e q. cells r e;
       }
     where
@@ -250,11 +250,11 @@ module _ {S : Shape} {v : View} {ps : List ScanEntry} {h : History} (o : Represe
         chunk = refl;
         made = omega (arith, m-is, more-merges);
         lineage = sym (merged-page h g c n);
-        holds = holds-step (k .past .order) step g c _ (λ r e u. (tt, same-rows (length (h .rows)) (length (h′ .rows)) r rows-same)) new-holds;
+        holds = holds-step (k .invariants .order) step g c _ (λ r e u. (tt, same-rows (length (h .rows)) (length (h′ .rows)) r rows-same)) new-holds;
       })
       (λ a b u w f. rw (current-there a b f, page-other (currentIn S v a b) (current-not-free a b u w) (current-not-old a b u w f))
       (current-cells (λ r. cells-other (currentIn S v a b) (within r) (current-not-free a b u w) (omega arith))
-      (current-step (k .past .order) step rows-same (through-there step a b f) (o .currents a b u w))))
+      (current-step (k .invariants .order) step rows-same (through-there step a b f) (o .currents a b u w))))
 
   -- ---- the waiting pages
   made-here : madeIn S v′ g c ≡ m
@@ -305,8 +305,8 @@ module _ {S : Shape} {v : View} {ps : List ScanEntry} {h : History} (o : Represe
   new-unfound : (b pl : ℕ) → wasCurrent S v′ b pl p ≡ false
   new-unfound b pl = unfound-state S v′ b pl p (omega (arith, ap (λ (z : PageWords). z .state) page-free))
 
-  old-place : (pageIn v′ old) .chunk % chunksOf S ≡ chunkOf S g c
-  old-place = ap (λ (z : PageWords). z .chunk % chunksOf S) page-old ∙ ap (λ (i : ℕ). i % chunksOf S) (now .chunk) ∙ mod-eq-of-lt (chunk-in S g c (ok .range-in) (ok .column-in))
+  old-chunk : (pageIn v′ old) .chunk % chunksOf S ≡ chunkOf S g c
+  old-chunk = ap (λ (z : PageWords). z .chunk % chunksOf S) page-old ∙ ap (λ (i : ℕ). i % chunksOf S) (now .chunk) ∙ mod-eq-of-lt (chunk-in S g c (ok .range-in) (ok .column-in))
 
   -- where the replaced page does not pass, the search is as it was
   search-stays : (b a d : ℕ) → wasCurrent S v′ b (chunkOf S a d) old ≡ false → searched S v′ b a d ≡ searched S v b a d
@@ -322,8 +322,8 @@ module _ {S : Shape} {v : View} {ps : List ScanEntry} {h : History} (o : Represe
       (is-current S v′ b (chunkOf S g c) old
       record {
         waits = omega (arith, ap (λ (z : PageWords). z .state) page-old);
-        place-is = old-place;
-        before = omega (arith, ap (λ (z : PageWords). z .made) page-old);
+        chunk-is = old-chunk;
+        made-before = omega (arith, ap (λ (z : PageWords). z .made) page-old);
         after = omega (arith, ap (λ (z : PageWords). z .replaced) page-old, m-is);
       })
       (each-page (λ q. q < pagesOf S → T (wasCurrent S v′ b (chunkOf S g c) q) → q ≡ old)
@@ -331,22 +331,22 @@ module _ {S : Shape} {v : View} {ps : List ScanEntry} {h : History} (o : Represe
       (λ _ _. refl)
       (λ q z y u t. let x : WasCurrent S b (chunkOf S g c) (pageIn v q) = was-current S v b (chunkOf S g c) q (rw (search-same S v v′ b (chunkOf S g c) q (page-other q z y)) at t) in
       let w : WaitingIs S h (madeIn S v) (pageIn v q) = o .waits q u (lt→ltb 1 _ (x .waits)) in
-      absurd (omega (arith, x .after, w .early g c (ok .range-in) (ok .column-in) (sym (mod-eq-of-lt (w .chunk)) ∙ x .place-is)))))
+      absurd (omega (arith, x .after, w .early g c (ok .range-in) (ok .column-in) (sym (mod-eq-of-lt (w .chunk)) ∙ x .chunk-is)))))
 
-  -- the page of a scan of this place
+  -- the page of a scan, of this chunk
   scan-here : (b : ℕ) → b ≤ length (h .merges) → Cases S v b g c → scanPage S v′ b g c ≡ scanPage S v b g c
   scan-here b early (inl x) =
       let z = search-finds b early x in
       found-page S v′ b g c (omega (arith, made-here, m-is)) (omega (arith, now .inside)) ∙ z ∙ sym (scan-current S v b g c x)
   scan-here b early (inr x) =
-      let z = search-stays b g c (unfound S v′ b (chunkOf S g c) old (λ t. omega (arith, t .before, ap (λ (z : PageWords). z .made) page-old, x .0))) in
+      let z = search-stays b g c (unfound S v′ b (chunkOf S g c) old (λ t. omega (arith, t .made-before, ap (λ (z : PageWords). z .made) page-old, x .0))) in
       found-page S v′ b g c (omega (arith, made-here, m-is)) (omega (arith, x .1)) ∙ z ∙ sym (found-page S v b g c (x .0) (x .1))
 
   pub scan-same : (b a d : ℕ) → a < S .ranges → d < S .columns → b ≤ length (h .merges) → (pageIn v (scanPage S v b a d)) .made ≤ b → scanPage S v′ b a d ≡ scanPage S v b a d
   scan-same b a d u w early = each-chunk (λ a d. (pageIn v (scanPage S v b a d)) .made ≤ b → scanPage S v′ b a d ≡ scanPage S v b a d)
       (λ before. scan-here b early (scan-cases S v b g c before))
       (λ a d u w f _. scan-page-same S v v′ b a d (current-there a d f) (made-there a d u w f)
-      (search-stays b a d (unfound S v′ b (chunkOf S a d) old (λ t. f (sym (sym old-place ∙ t .place-is))))))
+      (search-stays b a d (unfound S v′ b (chunkOf S a d) old (λ t. f (sym (sym old-chunk ∙ t .chunk-is))))))
       a d u w
 
   -- a running scan's page is not the page taken
@@ -361,10 +361,10 @@ module _ {S : Shape} {v : View} {ps : List ScanEntry} {h : History} (o : Represe
   merge-scans : Step S h (merge g c n) h′ → ScanPagesAre S h′ v′
   unfolding scanAt withMerges Timely
   merge-scans step i t a d u w =
-      let q : ℕ = scanPage S v (scanAt h i .before) a d in
+      let q : ℕ = scanPage S v (scanAt h i .merges) a d in
       let x : ScanPageIs S h (scanAt h i) a d q (pageIn v q) (cellIn v q) = o .scanPages i t a d u w in
-      let y : ScanPageIs S h′ (scanAt h i) a d q (pageIn v q) (cellIn v q) = scan-page-step (k .past .order) step (k .past .timely i) x in
-      rw (scan-same (scanAt h i .before) a d u w (x .early) (x .made)) (kept (scanAt h i) a d q (scan-not-free (scanAt h i .before) a d u w (x .made)) y)
+      let y : ScanPageIs S h′ (scanAt h i) a d q (pageIn v q) (cellIn v q) = scan-page-step (k .invariants .order) step (k .invariants .timely i) x in
+      rw (scan-same (scanAt h i .merges) a d u w (x .early) (x .made)) (kept (scanAt h i) a d q (scan-not-free (scanAt h i .merges) a d u w (x .made)) y)
     where
       kept : (s : Scan) (a d q : ℕ) → q ≢ p → ScanPageIs S h′ s a d q (pageIn v q) (cellIn v q) → ScanPageIs S h′ s a d q (pageIn v′ q) (cellIn v′ q)
       kept s a d = each-page (λ q. q ≢ p → ScanPageIs S h′ s a d q (pageIn v q) (cellIn v q) → ScanPageIs S h′ s a d q (pageIn v′ q) (cellIn v′ q))
@@ -384,7 +384,7 @@ module _ {S : Shape} {v : View} {ps : List ScanEntry} {h : History} (o : Represe
       (put-whole PageReplaced old m fit
       (put-whole PageState old asWaiting (omega arith)
       (put-whole PageNewest p late (newest-fit o ok p low ((pageIn v old) .newest) newest-fits (o .whole .fits TailStamp) (n - low))
-      (put-whole PageLineage p n (omega (arith, k .past .limits .records g, k .small .capacity))
+      (put-whole PageLineage p n (omega (arith, k .invariants .limits .records g, k .small .capacity))
       (put-whole PageMade p m fit
       (put-whole PageChunk p (chunkOf S g c) spot
       (put-whole PageState p asCurrent (omega arith)

@@ -1,4 +1,4 @@
--- The changes noted of the open transactions: a row or record more is noted in its transaction's place alone, and the count cannot go round.
+-- The changes noted of the open transactions: a row or record more is noted in its transaction's entry alone, and the count cannot go round.
 use mathlib.Core.Path.{_≡_, sym}
 use mathlib.Core.Logic.{_≢_}
 use mathlib.Core.Bool.{true, false, cond}
@@ -11,20 +11,20 @@ use lib.Dec.{eqb}
 use lib.ListN.{length, getD, set}
 use lib.Seq.{getD-set-same, getD-set-other}
 use Rattle.terms.specs.Measures.{Shape, mostRanges, mostRecords, mostTransactions}
-use Rattle.history.specs.History.{History, Row, Record, State, unknown, active, nth, keep, rangeOf, recordsOf}
+use Rattle.history.specs.History.{History, Row, Record, State, unknown, active, nth, filterb, rangeOf, recordsOf}
 use Rattle.history.specs.Lists.{All, nil, cons}
 use Rattle.history.proofs.Lists.{by-cases, all-map, eqb-same}
 use Rattle.history.proofs.Merges.{sum-more, sum-most}
 use Rattle.history.specs.Invariants.{sumBelow}
-use Rattle.terms.specs.Places.{bears, firstIndex}
+use Rattle.terms.specs.Entries.{bears, firstIndex}
 use Rattle.model.specs.Stored.{nextWord}
-use Rattle.model.specs.Represents.{OpensAre, Unchanged, NotedIs, NotesAre, Known}
+use Rattle.model.specs.Represents.{OpensAre, Unchanged, NotedIs, NotesAre, WellFormed}
 use Rattle.model.proofs.Transactions.{openKind, open-there}
 use Rattle.model.proofs.Book.{only-place}
 
 -- ---- all tail records together
 abbrev ofRange : ℕ → List Record → List Record
-ofRange g l = keep (λ x. eqb (rangeOf (x .row)) g) l
+ofRange g l = filterb (λ x. eqb (rangeOf (x .row)) g) l
 
 tail-sum : (n : ℕ) {l : List Record} → All (λ (x : Record). rangeOf (x .row) < n) l → length l ≤ sumBelow (λ g. length (ofRange g l)) n
 tail-sum n nil = zero-le
@@ -37,18 +37,18 @@ tail-sum n (cons {x = x} {l = l} p ps) =
           (rw (eqb-same (rangeOf (x .row))) (le-refl _)),
     )
 
-pub tail-bound : {S : Shape} {h : History} → Known S h → length (h .tail) ≤ S .ranges * S .capacity
+pub tail-bound : {S : Shape} {h : History} → WellFormed S h → length (h .tail) ≤ S .ranges * S .capacity
 unfolding rangeOf recordsOf
 tail-bound {S} {h} k =
     let e : length (h .tail) ≤ sumBelow (λ g. length (recordsOf h g)) (S .ranges) =
-    tail-sum (S .ranges) (all-map (λ x p. omega (arith, p .inside, k .past .limits .rows)) (k .past .order .records)) in
-    omega (arith, e, sum-most (λ g. length (recordsOf h g)) (S .ranges) (S .capacity) (λ g _. k .past .limits .records g))
+    tail-sum (S .ranges) (all-map (λ x p. omega (arith, p .inside, k .invariants .limits .rows)) (k .invariants .order .records)) in
+    omega (arith, e, sum-most (λ g. length (recordsOf h g)) (S .ranges) (S .capacity) (λ g _. k .invariants .limits .records g))
 
 -- rows and records are far from 2 ^ 32
-pub few-changes : {S : Shape} {h : History} → Known S h → length (h .rows) + length (h .tail) < 2 ^ 31
+pub few-changes : {S : Shape} {h : History} → WellFormed S h → length (h .rows) + length (h .tail) < 2 ^ 31
 few-changes {S} {h} k =
     let a : S .ranges * S .capacity ≤ mostRanges * mostRecords = mul-le-mul (k .small .ranges) (k .small .capacity) in
-    omega (arith, k .past .limits .rows, tail-bound k, k .small .ranges)
+    omega (arith, k .invariants .limits .rows, tail-bound k, k .small .ranges)
 
 -- ---- one note more
 module _ (rows rows′ : List Row) (tail tail′ : List Record) (ts : List State) (l notes : List ℕ) (t : ℕ) (size : length l ≡ mostTransactions)

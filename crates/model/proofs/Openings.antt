@@ -24,7 +24,7 @@ use Rattle.model.specs.Stored.{rowIn, pageIn, cellIn, currentIn, within,
 use Rattle.model.specs.Reading.{scanPage, wasCurrent}
 use Rattle.model.specs.Writing.{begun, noted, settled, freed, committedIn, abortedIn, insertedAt, insertedIn, appended, filledIn, newBitsIn, originalAppended, settingAppended, updatedIn, deletedIn, mergedIn, releasedIn}
 use Rattle.model.specs.Calls.{Typed, actIn, viewIf, viewNext, entriesNext, viewAfter}
-use Rattle.model.specs.Represents.{ScanPageOf, Represents, Known}
+use Rattle.model.specs.Represents.{ScanPageOf, Represents, WellFormed}
 use Rattle.model.proofs.Insert.{cell-kept, scan-apart}
 use Rattle.model.proofs.Merged.{scan-same, scan-not-free, cells-other}
 use Rattle.model.proofs.Holding.{grown}
@@ -40,25 +40,25 @@ pub record SamePage (S : Shape) (v w : View) (m n g c : ℕ) : Type 0 where
 unmoved : (S : Shape) (v : View) (m n g c : ℕ) → SamePage S v v m n g c
 unmoved S v m n g c = record { page = refl; cells = λ r b e. refl }
 
-module _ {S : Shape} {v : View} {ps : List ScanEntry} {h : History} (o : Represents S v ps h) (k : Known S h) (i : ℕ) (run : T (scanAt h i .running)) (g c : ℕ) (bg : g < S .ranges) (bc : c < S .columns) where
-  abbrev Same : View → Type 0
-  Same w = SamePage S v w (scanAt h i .before) (length (h .rows)) g c
+module _ {S : Shape} {v : View} {ps : List ScanEntry} {h : History} (o : Represents S v ps h) (k : WellFormed S h) (i : ℕ) (run : T (scanAt h i .running)) (g c : ℕ) (bg : g < S .ranges) (bc : c < S .columns) where
+  abbrev PageStays : View → Type 0
+  PageStays w = SamePage S v w (scanAt h i .merges) (length (h .rows)) g c
 
   abbrev q : ℕ
-  q = scanPage S v (scanAt h i .before) g c
+  q = scanPage S v (scanAt h i .merges) g c
 
   page : ScanPageOf S h v (scanAt h i) g c
   page = o .scanPages i run g c bg bc
 
   -- an insert writes the cell of a new row
-  insert-same : (t : ℕ) (vs : List ℤ) → T (not (H.notActive h t)) → T (not (H.allGiven S h)) → Typed (insert t vs) → Same (insertedIn S t vs v)
+  insert-same : (t : ℕ) (vs : List ℤ) → T (not (H.notActive h t)) → T (not (H.allGiven S h)) → Typed (insert t vs) → PageStays (insertedIn S t vs v)
   unfolding insertedIn H.allGiven
   insert-same t vs a b y = rw (o .header .rows-given) at-row
     where
       room : length (h .rows) < S .ranges * rangeRows
       room = nleb→lt (S .ranges * rangeRows) (length (h .rows)) b
 
-      at-row : Same (insertedAt S t vs (length (h .rows)) v)
+      at-row : PageStays (insertedAt S t vs (length (h .rows)) v)
       at-row = unfold insertedAt noted openIndex put renew scanPage wasCurrent currentIn pageIn cellIn in
           record {
             page = refl;
@@ -66,21 +66,21 @@ module _ {S : Shape} {v : View} {ps : List ScanEntry} {h : History} (o : Represe
                 (scan-apart o k t vs (is-active h t a) room (y .1) g c q bc (page .chunk) r e (λ z. omega arith));
           }
 
-  update-same : (t r n : ℕ) (vs : List ℤ) → Same (updatedIn S t r n vs v)
+  update-same : (t r n : ℕ) (vs : List ℤ) → PageStays (updatedIn S t r n vs v)
   unfolding updatedIn settingAppended originalAppended filledIn appended noted put renew scanPage wasCurrent currentIn pageIn cellIn
   update-same t r n vs =
       elim (eqb (newBitsIn v r n) 0)
-      as (λ z. Same (noted t (put RowMask r (bitOr n ((rowIn v r) .mask)) (cond z (settingAppended S t r n vs v) (settingAppended S t r n vs (originalAppended S t r n v))))))
+      as (λ z. PageStays (noted t (put RowMask r (bitOr n ((rowIn v r) .mask)) (cond z (settingAppended S t r n vs v) (settingAppended S t r n vs (originalAppended S t r n v))))))
       [ true ↦ record { page = refl; cells = λ r b e. refl } | false ↦ record { page = refl; cells = λ r b e. refl } ]
 
-  merge-same : (a d n : ℕ) → Mergeable S h a d n → Same (mergedIn S a d n v)
+  merge-same : (a d n : ℕ) → Mergeable S h a d n → PageStays (mergedIn S a d n v)
   merge-same a d n ok =
       record {
-        page = scan-same o k ok (scanAt h i .before) g c bg bc (page .early) (page .made);
-        cells = λ r b e. cells-other o k ok q (within r) (scan-not-free o k ok (scanAt h i .before) g c bg bc (page .made)) (omega arith);
+        page = scan-same o k ok (scanAt h i .merges) g c bg bc (page .early) (page .made);
+        cells = λ r b e. cells-other o k ok q (within r) (scan-not-free o k ok (scanAt h i .merges) g c bg bc (page .made)) (omega arith);
       }
 
-  act-same : (x : Call) → Typed x → Passed (tests S h x) → Same (actIn S v ps x)
+  act-same : (x : Call) → Typed x → Passed (tests S h x) → PageStays (actIn S v ps x)
   unfolding actIn begun noted deletedIn appended committedIn abortedIn freed settled put renew scanPage wasCurrent currentIn pageIn cellIn
   act-same begin y p = record { page = refl; cells = λ r b e. refl }
   act-same (insert t vs) y p = insert-same t vs (unfold tests in (p .0)) (unfold tests in (p .1 .0)) y
@@ -100,11 +100,11 @@ module _ {S : Shape} {v : View} {ps : List ScanEntry} {h : History} (o : Represe
   act-same (pageCell x r) y p = unmoved S v _ _ g c
   act-same (lineage a x) y p = unmoved S v _ _ g c
 
-  pub next-same : (x : Call) → Typed x → Same (viewNext S v ps x)
+  pub next-same : (x : Call) → Typed x → PageStays (viewNext S v ps x)
   unfolding viewNext
   next-same x y = rw (agree-verdict (tests-agree o k x)) (go (verdict (tests S h x)) refl)
     where
-      go : (w : Verdict) → verdict (tests S h x) ≡ w → Same (viewIf w v (actIn S v ps x))
+      go : (w : Verdict) → verdict (tests S h x) ≡ w → PageStays (viewIf w v (actIn S v ps x))
       go accept e = unfold viewIf in (act-same x y (passed (tests S h x) e))
       go (refuse n) e = unfold viewIf in (unmoved S v _ _ g c)
 
@@ -127,8 +127,8 @@ scan-later S h (x ∷ cs) i b t =
     let e = scan-later S (next S h x) cs i (le-trans b (grown s .scans)) t in
     e ∙ scan-before s i b (rw e at t)
 
-pub same-after : {S : Shape} {v : View} {ps : List ScanEntry} {h : History} → Represents S v ps h → Known S h → (i : ℕ) → i ≤ length (h .scans) → {cs : List Call} → All Typed cs → T (scanAt (run S h cs) i .running)
-    → (g c : ℕ) → g < S .ranges → c < S .columns → SamePage S v (viewAfter S v ps cs) (scanAt h i .before) (length (h .rows)) g c
+pub same-after : {S : Shape} {v : View} {ps : List ScanEntry} {h : History} → Represents S v ps h → WellFormed S h → (i : ℕ) → i ≤ length (h .scans) → {cs : List Call} → All Typed cs → T (scanAt (run S h cs) i .running)
+    → (g c : ℕ) → g < S .ranges → c < S .columns → SamePage S v (viewAfter S v ps cs) (scanAt h i .merges) (length (h .rows)) g c
 unfolding run viewAfter
 same-after {S} {v} {ps} {h} o k i b nil t g c bg bc = unmoved S v _ _ g c
 same-after {S} {v} {ps} {h} o k i b (cons {x = x} {l = cs} y ys) t g c bg bc =
@@ -136,9 +136,9 @@ same-after {S} {v} {ps} {h} o k i b (cons {x = x} {l = cs} y ys) t g c bg bc =
     let one = one-call S v ps h x y o k in
     let later : T (scanAt (next S h x) i .running) = rw (scan-later S (next S h x) cs i (le-trans b (grown s .scans)) t) at t in
     let e : scanAt (next S h x) i ≡ scanAt h i = scan-before s i b later in
-    let first : SamePage S v (viewNext S v ps x) (scanAt h i .before) (length (h .rows)) g c = next-same o k i (rw e at later) g c bg bc x y in
-    let rest : SamePage S (viewNext S v ps x) (viewAfter S (viewNext S v ps x) (entriesNext S v ps x) cs) (scanAt h i .before) (length ((next S h x) .rows)) g c =
-    rw e at (same-after (one .shown) (one .known) i (le-trans b (grown s .scans)) ys t g c bg bc) in
+    let first : SamePage S v (viewNext S v ps x) (scanAt h i .merges) (length (h .rows)) g c = next-same o k i (rw e at later) g c bg bc x y in
+    let rest : SamePage S (viewNext S v ps x) (viewAfter S (viewNext S v ps x) (entriesNext S v ps x) cs) (scanAt h i .merges) (length ((next S h x) .rows)) g c =
+    rw e at (same-after (one .shown) (one .well-formed) i (le-trans b (grown s .scans)) ys t g c bg bc) in
     record {
       page = rest .page ∙ first .page;
       cells = λ r u f. (rw (first .page) at (rest .cells r (le-trans u (grown s .rows)) f)) ∙ first .cells r u f;

@@ -20,7 +20,7 @@ use Rattle.history.proofs.Lists.{by-test, parts, all-map₂, any-none, all-take
 use Rattle.history.specs.Records.{among, isOriginal, wasSet, hasOriginal, noRecord, lastOf}
 use Rattle.history.specs.Latest.{stampOf}
 use Rattle.history.specs.Invariants.{isClosed, InOrder}
-use Rattle.history.proofs.Order.{placed-at}
+use Rattle.history.proofs.Order.{sound-at}
 use Rattle.history.proofs.Ranges.{version-range, last-next, last-agree, last-unset}
 use Rattle.history.proofs.Links.{last-of-row}
 use Rattle.history.proofs.Endings.{original-reads, originals-of}
@@ -31,7 +31,7 @@ use Rattle.model.specs.declared.Walk.{Walk}
 use Rattle.model.specs.Stored.{PageWords, rowIn, recordIn, valueIn, pageIn, cellIn, within, originalKind, settingKind}
 use Rattle.model.specs.Reading.{sees, answersFor, walk, orElse, belowLineage, wordIn, readIn}
 use Rattle.model.proofs.Lists.{take-next}
-use Rattle.model.specs.Represents.{stateWord, ContentIs, RecordIs, TailOf, Holds, Represents, Known}
+use Rattle.model.specs.Represents.{stateWord, ContentIs, RecordIs, TailOf, Holds, Represents, WellFormed}
 use Rattle.model.proofs.Heads.{slot-is, in-range, SeesAs, visible-is}
 
 -- ---- one record
@@ -171,7 +171,7 @@ unfolding wasSet
 unset-take l r c n e =
     any-none (λ (x : Record). eqb (x .row) r && sets c (x .content)) (all-take n (not-any (λ (x : Record). eqb (x .row) r && sets c (x .content)) l (rw e tt)))
 
-module _ {S : Shape} {v : View} {ps : List ScanEntry} {h : History} (o : Represents S v ps h) (k : Known S h) (who : Reader) (f : ℕ → Bool) (w : SeesAs h who f) (r : ℕ)
+module _ {S : Shape} {v : View} {ps : List ScanEntry} {h : History} (o : Represents S v ps h) (k : WellFormed S h) (who : Reader) (f : ℕ → Bool) (w : SeesAs h who f) (r : ℕ)
     (b : r < length (h .rows)) (c : ℕ) (inside : c < S .columns) (p : ℕ) (Q : ℕ → Type 0) (held : Holds h (rangeOf r) c Q (pageIn v p) (cellIn v p)) where
   abbrev g : ℕ
   g = rangeOf r
@@ -192,14 +192,14 @@ module _ {S : Shape} {v : View} {ps : List ScanEntry} {h : History} (o : Represe
   original-there : (i : ℕ) → i < length list → (getD list i noRecord) .row ≡ r → (cs : List ℕ) (vs : List ℤ) → (getD list i noRecord) .content ≡ original cs vs
       → getD vs c (pos 0) ≡ insertedValue h r c
   unfolding insertedValue
-  original-there i u e cs vs q = rw (placed-at h g (k .past .order) i noRecord u .values cs vs q, e)
+  original-there i u e cs vs q = rw (sound-at h g (k .invariants .order) i noRecord u .values cs vs q, e)
 
   walk-value : (low : ℕ) (rest : ℕ → ℕ) (n : ℕ) → low ≤ n → n ≤ length list
       → (hasOriginal (take n list) r c ≡ hasOriginal (take low list) r c → toZ w32 (rest (lastOf list r low)) ≡ lastSetting f r c (inserted h r c) (take low list) .value)
       → toZ w32 (orElse (walk S v who g c low (lastOf list r n) (lastOf list r n)) (λ i. valueIn S v i c) rest) ≡ lastSetting f r c (inserted h r c) (take n list) .value
   walk-value low rest n a d z =
       or-map (toZ w32) (walk S v who g c low (lastOf list r n) (lastOf list r n)) (λ i. valueIn S v i c) rest
-      ∙ walk-is S v h (k .past .order) g r c who f w lok (λ i. toZ w32 (valueIn S v i c)) (λ y. y .value)
+      ∙ walk-is S v h (k .invariants .order) g r c who f w lok (λ i. toZ w32 (valueIn S v i c)) (λ y. y .value)
       (λ i u. setting-value (S .columns) c inside _ _ _ _ (lok .each i (u .0) .content) (parts (sets c ((getD list i noRecord) .content)) _ (u .2) .0) ∙ (unfold versionIn in refl))
       (λ i u. original-value (S .columns) c inside (insertedValue h r c) _ _ _ _ (lok .each i (u .0) .content) (original-there i (u .0) (u .1)) (u .2) ∙ (unfold inserted in refl))
       low (λ j. toZ w32 (rest j)) n (lastOf list r n) a d (le-refl _) z
@@ -217,7 +217,7 @@ module _ {S : Shape} {v : View} {ps : List ScanEntry} {h : History} (o : Represe
       (all-map₂ (λ (y : Record) a d s. page-seen h who (page .newest) f w n (y .transaction) a (d s)) (held .through .closed-all) (held .newest)))
 
   has-original : wasSet list r c ≡ true → hasOriginal list r c ≡ true
-  has-original e = sym (originals-of h r c (k .past .order) (omega (arith, k .small .columns)) refl) ∙ e
+  has-original e = sym (originals-of h r c (k .invariants .order) (omega (arith, k .small .columns)) refl) ∙ e
 
   at-lineage : Q r → wasSet list r c ≡ true → hasOriginal (take (length list) list) r c ≡ hasOriginal (take (page .lineage) list) r c
       → toZ w32 (belowLineage S v who g c page cell (lastOf list r (page .lineage))) ≡ lastSetting f r c (inserted h r c) (take (page .lineage) list) .value

@@ -25,12 +25,12 @@ use Rattle.history.proofs.Links.{last-of-append}
 use Rattle.layout.specs.View.{View, renew, put, usedIn}
 use Rattle.layout.specs.declared.Region.the-variants.{Opens, Changes, RowLink}
 use Rattle.terms.specs.declared.ScanEntry.{ScanEntry}
-use Rattle.terms.specs.Places.{bears, firstIndex}
+use Rattle.terms.specs.Entries.{bears, firstIndex}
 use Rattle.model.specs.Stored.{RowWords, RecordWords, rowIn, recordIn, valueIn, pageIn, cellIn, currentIn, openIndex, nextWord}
 use Rattle.layout.specs.Codes.{asOpen, asDelete}
 use Rattle.model.specs.Reading.{scanPage, wasCurrent}
 use Rattle.model.specs.Writing.{noted, nextSlot, appended, filledIn, deletedIn}
-use Rattle.model.specs.Represents.{stateWord, RowIs, RowsAre, ContentIs, RecordIs, TailsFor, TailsAre, NotesAre, Represents, Known, Whole}
+use Rattle.model.specs.Represents.{stateWord, RowIs, RowsAre, ContentIs, RecordIs, TailsFor, TailsAre, NotesAre, Represents, WellFormed, Whole}
 use Rattle.model.proofs.Steady.{pages-stay}
 use Rattle.model.proofs.Views.{noted-whole}
 use Rattle.model.proofs.Notes.{notes-more, few-changes}
@@ -77,7 +77,7 @@ set-append : (l m : List Record) (r c : ℕ) → wasSet (l ++ m) r c ≡ (wasSet
 unfolding wasSet
 set-append l m r c = any-append (λ x. eqb (x .row) r && sets c (x .content)) l m
 
-module _ {S : Shape} {v : View} {ps : List ScanEntry} {h : History} (o : Represents S v ps h) (k : Known S h) {t r : ℕ} (a : stateOf h t ≡ active) (b : r < length (h .rows)) {ms : List Record}
+module _ {S : Shape} {v : View} {ps : List ScanEntry} {h : History} (o : Represents S v ps h) (k : WellFormed S h) {t r : ℕ} (a : stateOf h t ≡ active) (b : r < length (h .rows)) {ms : List Record}
     (new : All (New h t r) ms) where
   abbrev h′ : History
   h′ = withTail h (h .tail ++ ms)
@@ -126,9 +126,9 @@ module _ {S : Shape} {v : View} {ps : List ScanEntry} {h : History} (o : Represe
     λ g u. rw (records-made h g new) (E .tails g u),
   )
 
-pub number-fits : {S : Shape} {h : History} → Known S h → (t : ℕ) → stateOf h t ≡ active → t < 2 ^ 31
+pub number-fits : {S : Shape} {h : History} → WellFormed S h → (t : ℕ) → stateOf h t ≡ active → t < 2 ^ 31
 unfolding stateOf
-number-fits {h = h} k t a = omega (arith, active-given (h .transactions) t a .1, k .past .limits .transactions)
+number-fits {h = h} k t a = omega (arith, active-given (h .transactions) t a .1, k .invariants .limits .transactions)
 
 pub none-made : {S : Shape} {v : View} {ps : List ScanEntry} {h : History} → Represents S v ps h → (r : ℕ) → r < length (h .rows) → Extended S h v r [] v
 unfolding rowIn
@@ -140,7 +140,7 @@ none-made {S} {v} {ps} {h} o r b = record {
   rows = λ i. refl;
 }
 
-module _ {S : Shape} {h : History} {v : View} {r : ℕ} {ms : List Record} {u : View} (E : Extended S h v r ms u) (k : Known S h) (t : ℕ) (a : stateOf h t ≡ active) (b : r < length (h .rows))
+module _ {S : Shape} {h : History} {v : View} {r : ℕ} {ms : List Record} {u : View} (E : Extended S h v r ms u) (k : WellFormed S h) (t : ℕ) (a : stateOf h t ≡ active) (b : r < length (h .rows))
     (content : Content) (kind mask : ℕ) (room : length (recordsOf h (rangeOf r)) + length ms < S .capacity) (kind-fits : kind < 2 ^ 32) (mask-fits : mask < 2 ^ 32) where
   abbrev y : Record
   y = record { transaction = t; row = r; content = content }
@@ -162,7 +162,7 @@ module _ {S : Shape} {h : History} {v : View} {r : ℕ} {ms : List Record} {u : 
 
   made-few : (g : ℕ) → length (made g) ≤ S .capacity
   made-few g = by-test (λ q. length (recordsOf h g ++ cond q ms []) ≤ S .capacity) (eqb (rangeOf r) g)
-      (λ t. rw (← (eqb→eq (rangeOf r) g t), length-append) (omega arith)) (λ _. rw (append-nil (recordsOf h g)) (k .past .limits .records g))
+      (λ t. rw (← (eqb→eq (rangeOf r) g t), length-append) (omega arith)) (λ _. rw (append-nil (recordsOf h g)) (k .invariants .limits .records g))
 
   made-grows : (g : ℕ) → more g ≡ cond (eqb (rangeOf r) g) (made g ++ y ∷ []) (made g)
   made-grows g =
@@ -176,7 +176,7 @@ module _ {S : Shape} {h : History} {v : View} {r : ℕ} {ms : List Record} {u : 
   room-in = omega (arith, used-is, made-room)
 
   appended-fits : Whole S (appended S t r kind mask u)
-  appended-fits = appended-whole (E .whole) t r kind mask inside room-in (omega (arith, number-fits k t a)) (omega (arith, k .past .limits .rows, k .small .ranges)) kind-fits mask-fits (omega (arith, k .small .capacity))
+  appended-fits = appended-whole (E .whole) t r kind mask inside room-in (omega (arith, number-fits k t a)) (omega (arith, k .invariants .limits .rows, k .small .ranges)) kind-fits mask-fits (omega (arith, k .small .capacity))
 
   -- the record's words
   abbrev end : ℕ
@@ -207,7 +207,7 @@ module _ {S : Shape} {h : History} {v : View} {r : ℕ} {ms : List Record} {u : 
     tails = tails-more S u w (stateOf h) made more (rangeOf r) y inside made-few made-room made-grows
         (used (rangeOf r) ∙ used-here (E .whole) t r kind mask inside room-in) (λ g f. used g ∙ used-there (E .whole) t r kind mask inside room-in g f) (λ j f. records j ∙ there j f) values
         (rw (records end) (open-record _ c)) (ap (λ (x : RecordWords). x .link) (records end) ∙ new-link) (E .tails);
-    link = links r ∙ link-here (E .whole) t r kind mask inside room-in (omega (arith, k .past .limits .rows)) ∙ ap suc (used-is ∙ made-length)
+    link = links r ∙ link-here (E .whole) t r kind mask inside room-in (omega (arith, k .invariants .limits .rows)) ∙ ap suc (used-is ∙ made-length)
         ∙ sym (rw (← (append-assoc (recordsOf h (rangeOf r)) ms (y ∷ []))) (last-of-new (recordsOf h (rangeOf r) ++ ms) y));
     others = λ i f. links i ∙ link-there (E .whole) t r kind mask inside room-in i f ∙ E .others i f;
     rows = λ i. rows i ∙ ap (λ (x : RowWords). relinked x (getD (w RowLink) i 0) (x .mask)) (E .rows i);
@@ -239,7 +239,7 @@ module _ {S : Shape} {h : History} {v : View} {r : ℕ} {ms : List Record} {u : 
       slot-inside = rw (slot-next (E .whole) t r kind mask inside room-in) (slot-in (E .whole) t r kind mask inside room-in)
 
 -- ---- delete
-pub delete-kept : {S : Shape} {v : View} {ps : List ScanEntry} {h : History} → Represents S v ps h → Known S h → (t r : ℕ) → stateOf h t ≡ active → r < length (h .rows)
+pub delete-kept : {S : Shape} {v : View} {ps : List ScanEntry} {h : History} → Represents S v ps h → WellFormed S h → (t r : ℕ) → stateOf h t ≡ active → r < length (h .rows)
     → length (recordsOf h (rangeOf r)) + 1 ≤ S .capacity → Step S h (delete t r) (withTail h (h .tail ++ deleteRecords t r)) → All (New h t r) (deleteRecords t r)
     → Represents S (deletedIn S t r v) ps (withTail h (h .tail ++ deleteRecords t r))
 unfolding deletedIn noted openIndex put renew withTail deleteRecords recordIn valueIn pageIn cellIn currentIn scanPage wasCurrent appended stateOf rowAt scanAt

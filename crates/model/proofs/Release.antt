@@ -10,7 +10,7 @@ use lib.Dec.{leb·suc-suc, T, leb, ltb, eqb, eqb→eq, le→leb, ltb→lt, T-not
 use lib.ListN.{length}
 use Rattle.terms.specs.Measures.{Shape}
 use Rattle.history.specs.History.{release, History, Scan, Merge, any, nth, stateOf, rowAt, recordsOf, mergedThrough, scanAt, neededBy, afterRelease, releasedCount, withMerges}
-use Rattle.history.proofs.Lists.{place-any, clash, refuted, parts, both}
+use Rattle.history.proofs.Lists.{any-at, clash, refuted, parts, both}
 use Rattle.history.specs.Steps.{Step}
 use Rattle.history.specs.Invariants.{Timely}
 use Rattle.history.proofs.Merges.{length-released}
@@ -24,7 +24,7 @@ use Rattle.layout.specs.Codes.{asFree}
 use Rattle.model.specs.Reading.{wasCurrent, scanPage}
 use Rattle.model.specs.Writing.{neededIn, releasable, releasedIn}
 use Rattle.model.proofs.Lists.{any-count, from-count, first-ext, below-ext}
-use Rattle.model.specs.Represents.{CurrentOf, CurrentsAre, WaitingIs, WaitingAre, PoolIs, ScanPageIs, ScanPagesAre, ScansAre, madeIn, HeaderFor, Represents, Known, Whole, countFrom}
+use Rattle.model.specs.Represents.{CurrentOf, CurrentsAre, WaitingIs, WaitingAre, PoolIs, ScanPageIs, ScanPagesAre, ScansAre, madeIn, HeaderFor, Represents, WellFormed, Whole, countFrom}
 use Rattle.model.proofs.Steady.{current-step, waiting-step, scan-page-step}
 use Rattle.model.proofs.Views.{renew-whole, changed-start, header-same}
 use Rattle.model.proofs.Scans.{scan-current}
@@ -36,8 +36,8 @@ pub needed-is : (ss : List Scan) (ps : List ScanEntry) → ScansAre ss ps → (i
 unfolding neededBy
 needed-is ss ps o i =
     any-count (λ p. not (eqb (p .number) 0) && ltb (p .merges) (suc i)) ps
-    ∙ ap (ltb 0) (o .same (λ p. ltb (p .merges) (suc i)) ∙ from-count (λ s. s .running && ltb (s .before) (suc i)) 1 ss)
-    ∙ simp leb·suc-suc (sym (any-count (λ s. s .running && leb (s .before) i) ss))
+    ∙ ap (ltb 0) (o .same (λ p. ltb (p .merges) (suc i)) ∙ from-count (λ s. s .running && ltb (s .merges) (suc i)) 1 ss)
+    ∙ simp leb·suc-suc (sym (any-count (λ s. s .running && leb (s .merges) i) ss))
 
 -- the merges that still wait, and those whose pages are freed
 still-waiting : (ss : List Scan) (ps : List ScanEntry) → ScansAre ss ps → (q : ℕ → Bool) (i : ℕ) (ms : List Merge)
@@ -55,14 +55,14 @@ freed-count ss ps o i (m ∷ ms) = rw (needed-is ss ps o i, freed-count ss ps o 
 
 any-nth : {A : Type 0} (f : A → Bool) (l : List A) (k : ℕ) (d : A) → f d ≡ false → T (f (nth l k d)) → T (any f l)
 any-nth f l zero d e t = absurd (rw e at t)
-any-nth f l (suc k) d e t = place-any f l d k (live-inside f l k d e t) t
+any-nth f l (suc k) d e t = any-at f l d k (live-inside f l k d e t) t
 
 -- ---- the answer
 pub release-count : {S : Shape} {v : View} {ps : List ScanEntry} {h : History} → Represents S v ps h → countBelow (releasable ps v) (pagesOf S) ≡ releasedCount (h .scans) 0 (h .merges)
 unfolding releasable
 release-count {S} {v} {ps} {h} o = o .pool .waiting (λ i. not (neededIn ps i)) ∙ freed-count (h .scans) ps (o .scans) 0 (h .merges)
 
-module _ {S : Shape} {v : View} {ps : List ScanEntry} {h : History} (o : Represents S v ps h) (k : Known S h) where
+module _ {S : Shape} {v : View} {ps : List ScanEntry} {h : History} (o : Represents S v ps h) (k : WellFormed S h) where
   abbrev h′ : History
   h′ = withMerges h (afterRelease (h .scans) 0 (h .merges))
 
@@ -86,15 +86,15 @@ module _ {S : Shape} {v : View} {ps : List ScanEntry} {h : History} (o : Represe
       refuted (releasable ps v (currentIn S v a b))
       (λ t. omega (arith, ltb→lt 1 ((pageIn v (currentIn S v a b)) .state) (parts (waitingPage ((pageIn v (currentIn S v a b)) .state)) _ t .0), o .currents a b u w .state))
 
-  needed : (i n : ℕ) → T (scanAt h i .running) → scanAt h i .before < n → T (neededIn ps n)
+  needed : (i n : ℕ) → T (scanAt h i .running) → scanAt h i .merges < n → T (neededIn ps n)
   unfolding scanAt neededBy
   needed i zero t b = absurd (omega arith)
   needed i (suc n) t b =
       rw (needed-is (h .scans) ps (o .scans) n)
-      (any-nth (λ s. s .running && leb (s .before) n) (h .scans) i record { running = false; stamp = 0; before = 0 } refl
-      (both (scanAt h i .running) _ t (le→leb (scanAt h i .before) n (omega arith))))
+      (any-nth (λ s. s .running && leb (s .merges) n) (h .scans) i record { running = false; stamp = 0; merges = 0 } refl
+      (both (scanAt h i .running) _ t (le→leb (scanAt h i .merges) n (omega arith))))
 
-  found-kept : (i pl q : ℕ) → T (scanAt h i .running) → WasCurrent S (scanAt h i .before) pl (pageIn v q) → releasable ps v q ≡ false
+  found-kept : (i pl q : ℕ) → T (scanAt h i .running) → WasCurrent S (scanAt h i .merges) pl (pageIn v q) → releasable ps v q ≡ false
   unfolding releasable
   found-kept i pl q t x =
       refuted (releasable ps v q)
@@ -105,17 +105,17 @@ module _ {S : Shape} {v : View} {ps : List ScanEntry} {h : History} (o : Represe
   freed-unfound m pl q b e =
       unfound-state S v′ m pl q (omega (arith, state-after q b, ap (λ (z : Bool). cond z asFree ((pageIn v q) .state)) e))
 
-  search-kept : (i a d : ℕ) → T (scanAt h i .running) → searched S v′ (scanAt h i .before) a d ≡ searched S v (scanAt h i .before) a d
+  search-kept : (i a d : ℕ) → T (scanAt h i .running) → searched S v′ (scanAt h i .merges) a d ≡ searched S v (scanAt h i .merges) a d
   search-kept i a d t = first-ext _ _ (pagesOf S) 0 (λ q _ b. at-page q (omega arith) (releasable ps v q) refl)
     where
-      at-page : (q : ℕ) → q < pagesOf S → (z : Bool) → releasable ps v q ≡ z → wasCurrent S v′ (scanAt h i .before) (chunkOf S a d) q ≡ wasCurrent S v (scanAt h i .before) (chunkOf S a d) q
+      at-page : (q : ℕ) → q < pagesOf S → (z : Bool) → releasable ps v q ≡ z → wasCurrent S v′ (scanAt h i .merges) (chunkOf S a d) q ≡ wasCurrent S v (scanAt h i .merges) (chunkOf S a d) q
       at-page q b true e =
-          freed-unfound (scanAt h i .before) (chunkOf S a d) q b e
-          ∙ sym (unfound S v (scanAt h i .before) (chunkOf S a d) q (λ x. true≢false (sym e ∙ found-kept i (chunkOf S a d) q t x)))
-      at-page q b false e = search-same S v v′ (scanAt h i .before) (chunkOf S a d) q (page-kept q b e)
+          freed-unfound (scanAt h i .merges) (chunkOf S a d) q b e
+          ∙ sym (unfound S v (scanAt h i .merges) (chunkOf S a d) q (λ x. true≢false (sym e ∙ found-kept i (chunkOf S a d) q t x)))
+      at-page q b false e = search-same S v v′ (scanAt h i .merges) (chunkOf S a d) q (page-kept q b e)
 
-  pub scan-page-kept : (i a d : ℕ) → T (scanAt h i .running) → scanPage S v′ (scanAt h i .before) a d ≡ scanPage S v (scanAt h i .before) a d
-  scan-page-kept i a d t = scan-page-same S v v′ (scanAt h i .before) a d same-current same-made (search-kept i a d t)
+  pub scan-page-kept : (i a d : ℕ) → T (scanAt h i .running) → scanPage S v′ (scanAt h i .merges) a d ≡ scanPage S v (scanAt h i .merges) a d
+  scan-page-kept i a d t = scan-page-same S v v′ (scanAt h i .merges) a d same-current same-made (search-kept i a d t)
     where
       same-current : currentIn S v′ a d ≡ currentIn S v a d
       same-current = unfold currentIn releasedIn renew in refl
@@ -124,15 +124,15 @@ module _ {S : Shape} {v : View} {ps : List ScanEntry} {h : History} (o : Represe
       same-made = unfold currentIn pageIn releasedIn renew in refl
 
   -- the page that a running scan reads is kept
-  scan-releasable : (i a d : ℕ) → a < S .ranges → d < S .columns → T (scanAt h i .running) → (pageIn v (scanPage S v (scanAt h i .before) a d)) .made ≤ scanAt h i .before
-      → releasable ps v (scanPage S v (scanAt h i .before) a d) ≡ false
-  scan-releasable i a d u w t before = go (scan-cases S v (scanAt h i .before) a d before)
+  scan-releasable : (i a d : ℕ) → a < S .ranges → d < S .columns → T (scanAt h i .running) → (pageIn v (scanPage S v (scanAt h i .merges) a d)) .made ≤ scanAt h i .merges
+      → releasable ps v (scanPage S v (scanAt h i .merges) a d) ≡ false
+  scan-releasable i a d u w t before = go (scan-cases S v (scanAt h i .merges) a d before)
     where
-      go : Cases S v (scanAt h i .before) a d → releasable ps v (scanPage S v (scanAt h i .before) a d) ≡ false
-      go (inl x) = ap (releasable ps v) (scan-current S v (scanAt h i .before) a d x) ∙ current-kept a d u w
+      go : Cases S v (scanAt h i .merges) a d → releasable ps v (scanPage S v (scanAt h i .merges) a d) ≡ false
+      go (inl x) = ap (releasable ps v) (scan-current S v (scanAt h i .merges) a d x) ∙ current-kept a d u w
       go (inr x) =
-          ap (releasable ps v) (found-page S v (scanAt h i .before) a d (x .0) (x .1))
-          ∙ found-kept i (chunkOf S a d) (searched S v (scanAt h i .before) a d) t (search-is S v (scanAt h i .before) a d (x .1))
+          ap (releasable ps v) (found-page S v (scanAt h i .merges) a d (x .0) (x .1))
+          ∙ found-kept i (chunkOf S a d) (searched S v (scanAt h i .merges) a d) t (search-is S v (scanAt h i .merges) a d (x .1))
 
   -- ---- the parts
   merges-same : length ((h′) .merges) ≡ length (h .merges)
@@ -147,7 +147,7 @@ module _ {S : Shape} {v : View} {ps : List ScanEntry} {h : History} (o : Represe
   release-currents step a b u w =
       let x : CurrentOf S h v a b = o .currents a b u w in
       rw (page-kept (currentIn S v a b) (x .inside) (current-kept a b u w))
-      (current-step (k .past .order) step (unfold withMerges in refl) (through-same step a b) x)
+      (current-step (k .invariants .order) step (unfold withMerges in refl) (through-same step a b) x)
 
   release-waits : Step S h release h′ → WaitingAre S h′ v′
   release-waits step q b t = go (releasable ps v q) refl
@@ -188,9 +188,9 @@ module _ {S : Shape} {v : View} {ps : List ScanEntry} {h : History} (o : Represe
   release-scans : Step S h release h′ → ScanPagesAre S h′ v′
   unfolding scanAt withMerges Timely
   release-scans step i t a d u w =
-      let q : ℕ = scanPage S v (scanAt h i .before) a d in
+      let q : ℕ = scanPage S v (scanAt h i .merges) a d in
       let x : ScanPageIs S h (scanAt h i) a d q (pageIn v q) (cellIn v q) = o .scanPages i t a d u w in
-      let y : ScanPageIs S h′ (scanAt h i) a d q (pageIn v q) (cellIn v q) = scan-page-step (k .past .order) step (k .past .timely i) x in
+      let y : ScanPageIs S h′ (scanAt h i) a d q (pageIn v q) (cellIn v q) = scan-page-step (k .invariants .order) step (k .invariants .timely i) x in
       rw (scan-page-kept i a d t, page-kept q (x .inside) (scan-releasable i a d u w t (x .made))) (same-cells (scanAt h i) a d q y)
     where
       same-cells : (s : Scan) (a d q : ℕ) → ScanPageIs S h′ s a d q (pageIn v q) (cellIn v q) → ScanPageIs S h′ s a d q (pageIn v q) (cellIn v′ q)

@@ -18,8 +18,8 @@ use Rattle.model.specs.Represents.{madeIn}
 -- what the search asks of a page
 pub record WasCurrent (S : Shape) (m chunk : ℕ) (x : PageWords) : Type 0 where
   pub waits : asCurrent < x .state
-  pub place-is : x .chunk % chunksOf S ≡ chunk
-  pub before : x .made ≤ m
+  pub chunk-is : x .chunk % chunksOf S ≡ chunk
+  pub made-before : x .made ≤ m
   pub after : m < x .replaced
 
 pub was-current : (S : Shape) (v : View) (m chunk q : ℕ) → T (wasCurrent S v m chunk q) → WasCurrent S m chunk (pageIn v q)

@@ -1,5 +1,5 @@
--- Open scan and close keep the relation: a scan takes a place of the list with the merges made before it, so that its pages are the current ones; a closed scan
--- leaves a free place.
+-- Open scan and close keep the relation: a scan takes an entry of the list with the merges made before it, so that its pages are the current ones; a closed scan
+-- leaves a free entry.
 use mathlib.Core.Path.{_≡_, refl, sym, _∙_}
 use mathlib.Core.Bool.{true, false, not, and-true}
 use mathlib.Core.List.{List, [], _∷_, _++_}
@@ -18,24 +18,24 @@ use Rattle.history.specs.Steps.{Step}
 use Rattle.layout.specs.View.{View, renew, put, scansGiven, mergesMade}
 use Rattle.layout.specs.declared.Region.the-variants.{Header}
 use Rattle.terms.specs.declared.ScanEntry.{ScanEntry}
-use Rattle.terms.specs.Places.{firstIndex, freeEntry, isScan}
+use Rattle.terms.specs.Entries.{firstIndex, freeEntry, isScan}
 use Rattle.layout.specs.Regions.{scansAt}
 use Rattle.model.specs.Stored.{rowIn, recordIn, valueIn, pageIn, cellIn, currentIn, scanEntry}
 use Rattle.model.specs.Reading.{scanPage, wasCurrent}
 use Rattle.model.proofs.Lists.{any-count}
 use Rattle.model.proofs.Book.{Kind, book-is, book-room, book-count, book-add, book-drop, book-found}
-use Rattle.model.specs.Represents.{CurrentOf, ScanPageOf, ScanPagesAre, ScansAre, scanAs, HeaderFor, Represents, Known}
+use Rattle.model.specs.Represents.{CurrentOf, ScanPageOf, ScanPagesAre, ScansAre, scanAs, HeaderFor, Represents, WellFormed}
 use Rattle.model.proofs.Holding.{holds-step, same-rows}
 use Rattle.model.proofs.Steady.{still-running, currents-stay, waits-stay, scan-stays}
 use Rattle.model.proofs.Views.{put-whole, header-put, header-same}
 
--- ---- the places of scans are a book
-pub same-place : (p q : ScanEntry) → ((f : ScanEntry → ℕ) → f p ≡ f q) → p ≡ q
-same-place p q f = λ i. record { number = f (λ z. z .number) i; stamp = f (λ z. z .stamp) i; merges = f (λ z. z .merges) i }
+-- ---- the entries of scans are a book
+pub same-entry : (p q : ScanEntry) → ((f : ScanEntry → ℕ) → f p ≡ f q) → p ≡ q
+same-entry p q f = λ i. record { number = f (λ z. z .number) i; stamp = f (λ z. z .stamp) i; merges = f (λ z. z .merges) i }
 
 abbrev pub scanKind : Kind ScanEntry Scan
 scanKind =
-    record { number = λ p. p .number; live = λ s. s .running; as′ = scanAs; as-number = λ i s. refl; free = freeEntry; free-number = refl; none = noScan; none-live = refl; tells = same-place }
+    record { number = λ p. p .number; live = λ s. s .running; as′ = scanAs; as-number = λ i s. refl; free = freeEntry; free-number = refl; none = noScan; none-live = refl; tells = same-entry }
 
 pub scan-is : (ss : List Scan) (l : List ScanEntry) → ScansAre ss l → (k : ℕ) → any (isScan k) l ≡ (nth ss k noScan) .running
 scan-is ss l o k = book-is scanKind ss l (o .same) k
@@ -73,10 +73,10 @@ unfolding scanPage
 scan-current S v m g c b = rw (le-leb ((pageIn v (currentIn S v g c)) .made) m b)
 
 -- ---- open scan
-module _ {S : Shape} {v : View} {ps : List ScanEntry} {h : History} (o : Represents S v ps h) (k : Known S h) (s : ℕ) (room : count (λ s. s .running) (h .scans) < mostScans)
+module _ {S : Shape} {v : View} {ps : List ScanEntry} {h : History} (o : Represents S v ps h) (k : WellFormed S h) (s : ℕ) (room : count (λ s. s .running) (h .scans) < mostScans)
     (few : length (h .scans) < mostNumbers) where
   abbrev new : Scan
-  new = record { running = true; stamp = s; before = length (h .merges) }
+  new = record { running = true; stamp = s; merges = length (h .merges) }
 
   abbrev after : History
   after = withScans h (h .scans ++ new ∷ [])
@@ -91,7 +91,7 @@ module _ {S : Shape} {v : View} {ps : List ScanEntry} {h : History} (o : Represe
         early = le-refl _;
         chunk = x .chunk;
         made = x .made;
-        holds = holds-step (k .past .order) step g c (pageIn v (currentIn S v g c)) (λ r e u. (tt, same-rows (length (h .rows)) (length (h .rows)) r refl)) (x .holds);
+        holds = holds-step (k .invariants .order) step g c (pageIn v (currentIn S v g c)) (λ r e u. (tt, same-rows (length (h .rows)) (length (h .rows)) r refl)) (x .holds);
       }
 
   open-pages : Step S h (openScan s) after → ScanPagesAre S after v
@@ -121,7 +121,7 @@ module _ {S : Shape} {v : View} {ps : List ScanEntry} {h : History} (o : Represe
       scans = rw (e, o .header .merges-made) (scans-add (h .scans) ps new (o .scans) tt room)
 
 -- ---- close
-module _ {S : Shape} {v : View} {ps : List ScanEntry} {h : History} (o : Represents S v ps h) (k : Known S h) (i : ℕ) (run : T (scanAt h i .running)) where
+module _ {S : Shape} {v : View} {ps : List ScanEntry} {h : History} (o : Represents S v ps h) (k : WellFormed S h) (i : ℕ) (run : T (scanAt h i .running)) where
   abbrev ended : List Scan
   ended = change (h .scans) i (stopped (scanAt h i))
 

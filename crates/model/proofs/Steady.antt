@@ -19,7 +19,7 @@ use Rattle.history.specs.Invariants.{InOrder, Timely}
 use Rattle.layout.specs.View.{View}
 use Rattle.terms.specs.declared.ScanEntry.{ScanEntry}
 use Rattle.model.specs.Stored.{PageWords, within}
-use Rattle.model.specs.Represents.{Holds, everyRow, CurrentIs, CurrentsAre, WaitingIs, WaitingAre, ScanPageIs, ScanPageOf, ScanPagesAre, Represents, Known}
+use Rattle.model.specs.Represents.{Holds, everyRow, CurrentIs, CurrentsAre, WaitingIs, WaitingAre, ScanPageIs, ScanPageOf, ScanPagesAre, Represents, WellFormed}
 use Rattle.model.proofs.Holding.{grown, holds-step, holds-cells, same-rows, withRow, row-new, row-old, rows-more}
 
 -- ---- the pages
@@ -92,10 +92,10 @@ unfolding stopped
 still-running l k i run t = by-cases (ℕ-discrete i k) (λ e. absurd (rw (e, nth-changed noScan l k (stopped (nth l k noScan)) (running-known l k run)) at t)) (nth-other noScan l k _ i)
 
 -- ---- a step that makes no merge, in a memory whose pages stay
-module _ {S : Shape} {v : View} {ps : List ScanEntry} {h h′ : History} {y : Call} (o : Represents S v ps h) (k : Known S h) (step : Step S h y h′) (same : h′ .merges ≡ h .merges) where
+module _ {S : Shape} {v : View} {ps : List ScanEntry} {h h′ : History} {y : Call} (o : Represents S v ps h) (k : WellFormed S h) (step : Step S h y h′) (same : h′ .merges ≡ h .merges) where
   pub currents-stay : length (h .rows) ≡ length (h′ .rows) → CurrentsAre S h′ v
   unfolding mergedThrough
-  currents-stay e g c a b = current-step (k .past .order) step e (ap (H.lastThrough g c 0) same) (o .currents g c a b)
+  currents-stay e g c a b = current-step (k .invariants .order) step e (ap (H.lastThrough g c 0) same) (o .currents g c a b)
 
   pub waits-stay : WaitingAre S h′ v
   waits-stay p a b = waiting-step step (λ g c _ _. le-refl _) (o .waits p a b)
@@ -105,7 +105,7 @@ module _ {S : Shape} {v : View} {ps : List ScanEntry} {h h′ : History} {y : Ca
       → ScanPageOf S h′ v (scanAt h′ i) g c
   unfolding Timely
   scan-stays i e t g c a b =
-      rw e (scan-page-step (k .past .order) step (k .past .timely i) (o .scanPages i (rw e at t) g c a b))
+      rw e (scan-page-step (k .invariants .order) step (k .invariants .timely i) (o .scanPages i (rw e at t) g c a b))
 
   -- all of them, where the step gives no row and leaves the scans
   pub pages-stay : length (h .rows) ≡ length (h′ .rows) → ((i : ℕ) → scanAt h′ i ≡ scanAt h i) → CurrentsAre S h′ v × WaitingAre S h′ v × ScanPagesAre S h′ v

@@ -18,7 +18,7 @@ use Rattle.history.specs.Steps.{Step, Closing, by-commit, by-abort}
 use Rattle.history.specs.Latest.{stampOf}
 use Rattle.history.proofs.States.{given-known, state-began}
 use Rattle.history.proofs.Limits.{closing-inactive}
-use Rattle.history.proofs.Order.{placed-at}
+use Rattle.history.proofs.Order.{sound-at}
 use Rattle.history.specs.Invariants.{InOrder}
 use Rattle.history.specs.Records.{noRecord}
 use Rattle.loops.specs.Change.{marked}
@@ -27,18 +27,18 @@ use Rattle.loops.proofs.Change.{changed-length, changed-outside, changed-at, ch
 use Rattle.layout.specs.View.{View, renew, put, rowsGiven, transactionsGiven, usedIn}
 use Rattle.layout.specs.declared.Region.the-variants.{Header, Opens, RowTransaction, RowState, RowStamp, TailTransaction, TailState, TailStamp, Used, Changes}
 use Rattle.terms.specs.declared.ScanEntry.{ScanEntry}
-use Rattle.terms.specs.Places.{bears, firstIndex}
+use Rattle.terms.specs.Entries.{bears, firstIndex}
 use Rattle.layout.specs.Regions.{transactionsAt, stampAt}
 use Rattle.model.specs.Stored.{RowWords, RecordWords, rowIn, recordIn, valueIn, pageIn, cellIn, currentIn, openIndex}
 use Rattle.model.specs.Reading.{scanPage, wasCurrent}
 use Rattle.model.specs.Writing.{begun, markTails, settled, freed, committedIn, abortedIn}
-use Rattle.model.proofs.Lists.{same-truth, any-count, place-lt, place-is, part-in}
+use Rattle.model.proofs.Lists.{same-truth, any-count, first-below, first-passes, part-in}
 use Rattle.model.proofs.Book.{Kind, live-given, book-is, book-room, book-add, book-drop}
-use Rattle.model.specs.Represents.{stateWord, RowIs, RecordIs, TailOf, RowsAre, TailsAre, OpensAre, Unchanged, NotesAre, HeaderFor, Represents, Known, Whole}
+use Rattle.model.specs.Represents.{stateWord, RowIs, RecordIs, TailOf, RowsAre, TailsAre, OpensAre, Unchanged, NotesAre, HeaderFor, Represents, WellFormed, Whole}
 use Rattle.model.proofs.Views.{renew-whole, put-whole, changed-start, header-put, header-same}
 use Rattle.model.proofs.Steady.{pages-stay}
 
--- ---- the open places are a book
+-- ---- the open entries are a book
 pub unknown-idle : isActive unknown ≡ false
 unfolding isActive
 unknown-idle = refl
@@ -50,19 +50,19 @@ openKind =
 pub opens-is : (ts : List State) (l : List ℕ) → OpensAre ts l → (t : ℕ) → any (bears t) l ≡ isActive (nth ts t unknown)
 opens-is ts l o = book-is openKind ts l o
 
--- what stands in the place of an active transaction
+-- what stands in the entry of an active transaction
 pub open-there : (ts : List State) (l : List ℕ) → OpensAre ts l → (t : ℕ) → nth ts t unknown ≡ active → (firstIndex (bears t) l < length l) × (getD l (firstIndex (bears t) l) 0 ≡ t)
 unfolding isActive
 open-there ts l o t a =
     let b : T (any (bears t) l) = rw (opens-is ts l o t, a) tt in
-    (place-lt (bears t) l b, simp (both-test, eq-test) at (place-is (bears t) l 0 b) .1)
+    (first-below (bears t) l b, simp (both-test, eq-test) at (first-passes (bears t) l 0 b) .1)
 
 -- its number is among those given
 pub active-given : (ts : List State) (t : ℕ) → nth ts t unknown ≡ active → (1 ≤ t) × (t ≤ length ts)
 unfolding isActive
 active-given ts t a = live-given isActive ts t unknown refl (rw a tt)
 
--- all places are taken
+-- all entries are taken
 pub opens-full : (ts : List State) (l : List ℕ) → length l ≡ mostTransactions → OpensAre ts l → not (any (λ k. eqb k 0) l) ≡ leb mostTransactions (count isActive ts)
 opens-full ts l n o =
     let e : count (λ k. eqb k 0) l + count isActive ts ≡ length l = book-room openKind ts l o in
@@ -96,20 +96,20 @@ not-begun h i =
       no-record = all-map (λ y p e. given-known _ (p .giver) (ap (stateOf h) e ∙ nth-beyond unknown (h .transactions))) (i .records);
     }
 
--- a place that is taken or freed, with nothing noted
+-- an entry that is taken or freed, with nothing noted
 notes-set : (rows : List Row) (tail : List Record) (l notes : List ℕ) (j t : ℕ) → j < length l → j < length notes → (t ≢ 0 → Unchanged rows tail t) → NotesAre rows tail l notes
     → NotesAre rows tail (set l j t) (set notes j 0)
 notes-set rows tail l notes j t b c u o k d = by-cases (ℕ-discrete k j)
     (λ e. rw (e, getD-set-same l j t 0 b, getD-set-same notes j 0 0 c) (λ n. record { bound = zero-le; none = λ _. u n }))
     (λ f. rw (getD-set-other l j k t 0 f, getD-set-other notes j k 0 0 f) (o k d))
 
-module _ {S : Shape} {v : View} {ps : List ScanEntry} {h : History} (o : Represents S v ps h) (k : Known S h) where
+module _ {S : Shape} {v : View} {ps : List ScanEntry} {h : History} (o : Represents S v ps h) (k : WellFormed S h) where
   abbrev begunHistory : History
   begunHistory = withTransactions h (h .transactions ++ active ∷ []) (h .last)
 
   begun-rows : RowsAre begunHistory v
   unfolding rowAt recordsOf withTransactions
-  begun-rows r b = row-states {st = stateOf h} {st′ = stateOf begunHistory} (state-began h _ (k .past .order .inserters r b)) (o .rows r b)
+  begun-rows r b = row-states {st = stateOf h} {st′ = stateOf begunHistory} (state-began h _ (k .invariants .order .inserters r b)) (o .rows r b)
 
   begun-tails : TailsAre S begunHistory v
   unfolding recordsOf withTransactions
@@ -117,7 +117,7 @@ module _ {S : Shape} {v : View} {ps : List ScanEntry} {h : History} (o : Represe
       let t : TailOf S (stateOf h) (recordsOf h g) v g = o .tails g b in
       record {
         used-all = t .used-all;
-        each = λ i u. record-states {st = stateOf h} {st′ = stateOf begunHistory} (state-began h _ (placed-at h g (k .past .order) i noRecord u .giver)) (t .each i u);
+        each = λ i u. record-states {st = stateOf h} {st′ = stateOf begunHistory} (state-began h _ (sound-at h g (k .invariants .order) i noRecord u .giver)) (t .each i u);
         links = t .links;
       }
 
@@ -141,7 +141,7 @@ module _ {S : Shape} {v : View} {ps : List ScanEntry} {h : History} (o : Represe
       e = omega (arith, o .header .transactions-given)
 
       inside : j < length (v Opens)
-      inside = place-lt (λ i. eqb i 0) (v Opens) free
+      inside = first-below (λ i. eqb i 0) (v Opens) free
 
       header : HeaderFor S begunHistory (begun v)
       header = unfold begun put renew withTransactions in
@@ -153,7 +153,7 @@ module _ {S : Shape} {v : View} {ps : List ScanEntry} {h : History} (o : Represe
       notes : NotesAre (h .rows) (h .tail) (set (v Opens) j n) (set (v Changes) j 0)
       notes =
           notes-set (h .rows) (h .tail) (v Opens) (v Changes) j n inside (omega (arith, inside, o .whole .long Opens, o .whole .long Changes))
-          (λ _. rw e (not-begun h (k .past .order))) (o .notes)
+          (λ _. rw e (not-begun h (k .invariants .order))) (o .notes)
 
 -- ---- the marks
 pub marked-at : (ks : List ℕ) (n t w : ℕ) (l : List ℕ) (r : ℕ) → n ≤ length l → r < n → getD (marked ks 0 n t 0 w l) r 0 ≡ cond (eqb (getD ks r 0) t) w (getD l r 0)
@@ -207,7 +207,7 @@ closed-is f ts t x k a = by-cases (ℕ-discrete k t)
     (λ e. rw (eq-eqb k t e, e, nth-changed unknown ts t x (λ u. clash (cc))))
     (λ n. rw (ne-eqb k t n, nth-other unknown ts t x k n))
 
-module _ {S : Shape} {v : View} {ps : List ScanEntry} {h : History} (o : Represents S v ps h) (k : Known S h) (t : ℕ) {x : State} {s : ℕ} (a : stateOf h t ≡ active) (c : Closing h x s) where
+module _ {S : Shape} {v : View} {ps : List ScanEntry} {h : History} (o : Represents S v ps h) (k : WellFormed S h) (t : ℕ) {x : State} {s : ℕ} (a : stateOf h t ≡ active) (c : Closing h x s) where
   abbrev closedHistory : History
   closedHistory = withTransactions h (change (h .transactions) t x) s
 
@@ -222,17 +222,17 @@ module _ {S : Shape} {v : View} {ps : List ScanEntry} {h : History} (o : Represe
       record {
         transaction = y .transaction;
         state =
-            marked-at (v RowTransaction) (rowsGiven v) t (stateWord x) (v RowState) r (omega (arith, o .header .rows-given, o .whole .long RowState, k .past .limits .rows)) given
+            marked-at (v RowTransaction) (rowsGiven v) t (stateWord x) (v RowState) r (omega (arith, o .header .rows-given, o .whole .long RowState, k .invariants .limits .rows)) given
             ∙ rw (y .transaction, y .state) (sym (closed-is stateWord (h .transactions) t x ((rowAt h r) .inserter) a));
         stamp =
-            marked-at (v RowTransaction) (rowsGiven v) t (stampOf x) (v RowStamp) r (omega (arith, o .header .rows-given, o .whole .long RowStamp, k .past .limits .rows)) given
+            marked-at (v RowTransaction) (rowsGiven v) t (stampOf x) (v RowStamp) r (omega (arith, o .header .rows-given, o .whole .long RowStamp, k .invariants .limits .rows)) given
             ∙ rw (y .transaction, y .stamp) (sym (closed-is stampOf (h .transactions) t x ((rowAt h r) .inserter) a));
         link = y .link;
         mask = y .mask;
       }
 
   used-few : (g : ℕ) → g < S .ranges → usedIn v g ≤ S .capacity
-  used-few g b = omega (arith, o .tails g b .used-all, k .past .limits .records g)
+  used-few g b = omega (arith, o .tails g b .used-all, k .invariants .limits .records g)
 
   closed-tails : TailsAre S closedHistory marks
   unfolding stateOf recordsOf withTransactions settled renew recordIn valueIn
@@ -273,7 +273,7 @@ module _ {S : Shape} {v : View} {ps : List ScanEntry} {h : History} (o : Represe
   unfolding freed
   closed-whole b d = put-whole Changes _ 0 (omega arith) (put-whole Opens _ 0 (omega arith) (settled-whole t (stateWord x) (stampOf x) b d (o .whole)))
 
-pub abort-kept : {S : Shape} {v : View} {ps : List ScanEntry} {h : History} → Represents S v ps h → Known S h → (t : ℕ) → stateOf h t ≡ active
+pub abort-kept : {S : Shape} {v : View} {ps : List ScanEntry} {h : History} → Represents S v ps h → WellFormed S h → (t : ℕ) → stateOf h t ≡ active
     → Step S h (abort t) (withTransactions h (change (h .transactions) t aborted) (h .last))
     → Represents S (abortedIn S t v) ps (withTransactions h (change (h .transactions) t aborted) (h .last))
 unfolding abortedIn freed openIndex settled put renew withTransactions rowIn recordIn valueIn pageIn cellIn currentIn scanPage wasCurrent scanAt
@@ -285,7 +285,7 @@ abort-kept {S} {v} {ps} {h} o k t a step =
       pages-stay o k step refl refl (λ i. refl),
     )
 
-pub commit-kept : {S : Shape} {v : View} {ps : List ScanEntry} {h : History} → Represents S v ps h → Known S h → (t s : ℕ) → stateOf h t ≡ active → h .last < s → s < 2 ^ 32
+pub commit-kept : {S : Shape} {v : View} {ps : List ScanEntry} {h : History} → Represents S v ps h → WellFormed S h → (t s : ℕ) → stateOf h t ≡ active → h .last < s → s < 2 ^ 32
     → Step S h (commit t s) (withTransactions h (change (h .transactions) t (committed s)) s)
     → Represents S (committedIn S t s v) ps (withTransactions h (change (h .transactions) t (committed s)) s)
 unfolding committedIn freed openIndex settled put renew withTransactions rowIn recordIn valueIn pageIn cellIn currentIn scanPage wasCurrent scanAt

@@ -30,7 +30,7 @@ use Rattle.model.specs.Stored.{rowIn, recordIn, valueIn, pageIn, cellIn,
 use Rattle.layout.specs.Codes.{asOriginal, asSetting}
 use Rattle.model.specs.Reading.{scanPage, wasCurrent}
 use Rattle.model.specs.Writing.{noted, appended, filledIn, newBitsIn, recordsWanted, originalAppended, originalWord, settingAppended, updatedIn}
-use Rattle.model.specs.Represents.{RowsAre, ContentIs, Represents, Known, Whole}
+use Rattle.model.specs.Represents.{RowsAre, ContentIs, Represents, WellFormed, Whole}
 use Rattle.model.proofs.Views.{put-whole, noted-whole}
 use Rattle.model.proofs.Insert.{bit-none, value-fits}
 use Rattle.model.proofs.Heads.{in-range}
@@ -40,7 +40,7 @@ use Rattle.model.proofs.Steady.{pages-stay}
 use Rattle.model.proofs.Records.{made-rows, made-parts, Extended, none-made, extend}
 
 -- ---- the columns that are set for the first time
-module _ {S : Shape} {v : View} {ps : List ScanEntry} {h : History} (o : Represents S v ps h) (k : Known S h) (r m : ℕ) (b : r < length (h .rows)) (good : T (not (badMask S m))) where
+module _ {S : Shape} {v : View} {ps : List ScanEntry} {h : History} (o : Represents S v ps h) (k : WellFormed S h) (r m : ℕ) (b : r < length (h .rows)) (good : T (not (badMask S m))) where
   abbrev isNew : ℕ → Bool
   isNew c = bit m c && not (wasSet (h .tail) r c)
 
@@ -102,13 +102,13 @@ masks-fit S v r m w b =
     let e : bitOr m old < 2 ^ 32 = or-lt 32 m old d c in
     (xor-lt 32 (bitOr m old) old e c, e)
 
-module _ {S : Shape} {v : View} {ps : List ScanEntry} {h : History} (o : Represents S v ps h) (k : Known S h) (t r m : ℕ) (vs : List ℤ) (a : stateOf h t ≡ active) (b : r < length (h .rows))
+module _ {S : Shape} {v : View} {ps : List ScanEntry} {h : History} (o : Represents S v ps h) (k : WellFormed S h) (t r m : ℕ) (vs : List ℤ) (a : stateOf h t ≡ active) (b : r < length (h .rows))
     (good : T (not (badMask S m))) (mask : m < 2 ^ mostColumns) (typed : All (SFits w32) vs) where
   abbrev y : Record
   y = record { transaction = t; row = r; content = setting m vs }
 
   row-in : r < S .ranges * rangeRows
-  row-in = omega (arith, k .past .limits .rows)
+  row-in = omega (arith, k .invariants .limits .rows)
 
   abbrev f₂ : ℕ → ℕ
   f₂ c = ofZ w32 (getD vs c (pos 0))

@@ -17,7 +17,7 @@ use Rattle.history.specs.Lists.{All}
 use Rattle.layout.specs.View.{View, put, rowsGiven, transactionsGiven, scansGiven, lastStamp, mergesMade, usedIn}
 use Rattle.layout.specs.declared.Region.the-variants.{Header, Opens}
 use Rattle.terms.specs.declared.ScanEntry.{ScanEntry}
-use Rattle.terms.specs.Places.{freeEntry, firstIndex, bears, isScan}
+use Rattle.terms.specs.Entries.{freeEntry, firstIndex, bears, isScan}
 use Rattle.layout.specs.Regions.{scansAt}
 use Rattle.model.specs.Stored.{RecordWords, rowIn, recordIn, pageIn, currentIn, cellIn, within, committedState, deleteKind, scanEntry, pagesOf, anyBelow, countBelow, wordLimit}
 use Rattle.model.specs.Reading.{reader, readIn, readCurrent, ownChanges, scanPage, sumIn}

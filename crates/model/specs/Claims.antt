@@ -13,7 +13,7 @@ use Rattle.history.specs.History.{Call, openScan, History, start, run, tests, v
 use Rattle.history.specs.Lists.{All}
 use Rattle.history.specs.Latest.{lastCommitted, lastTaken}
 use Rattle.layout.specs.View.{View}
-use Rattle.terms.specs.Places.{freeEntry}
+use Rattle.terms.specs.Entries.{freeEntry}
 use Rattle.model.specs.Stored.{pageIn, cellIn, currentIn, within}
 use Rattle.model.specs.Reading.{reader, readCurrent, scanPage}
 use Rattle.model.specs.Writing.{made}
@@ -48,7 +48,7 @@ PagesHold =
 -- that was current when it was opened, and the page's cells of the rows given then are as they were. (A row given later may have been inserted into the page
 -- while it was current.)
 pub record PageKept (S : Shape) (v w : View) (h : History) (k g c : ℕ) (rows : ℕ) : Type 0 where
-  pub page : scanPage S w (scanAt h k .before) g c ≡ currentIn S v g c
+  pub page : scanPage S w (scanAt h k .merges) g c ≡ currentIn S v g c
   pub cells : (r : ℕ) → r < rows → rangeOf r ≡ g → cellIn w (currentIn S v g c) (within r) ≡ cellIn v (currentIn S v g c) (within r)
 
 unfoldable pub ScansKeep : Type 0

@@ -6,7 +6,7 @@ pub mod Writing
 pub mod Calls
 pub mod Claims
 pub mod Table
-pub mod Asked
+pub mod Preconditions
 pub mod Represents
 pub mod Unfolding
 pub mod Machine

@@ -16,7 +16,7 @@ use Rattle.history.specs.History.{History, Row, Record, State, unknown, active,
 use Rattle.history.specs.Lists.{All}
 use Rattle.history.specs.Records.{among, wasSet, noRecord, lastOf}
 use Rattle.history.specs.Latest.{stampOf}
-use Rattle.history.specs.Invariants.{Through, Past}
+use Rattle.history.specs.Invariants.{Through, Invariants}
 use Rattle.layout.specs.View.{View, usedIn, Long, Fits}
 use Rattle.layout.specs.declared.Region.the-variants.{Opens, Changes}
 use Rattle.terms.specs.declared.ScanEntry.{ScanEntry}
@@ -140,7 +140,7 @@ abbrev pub OpensAre : List State → List ℕ → Type 0
 OpensAre ts l = (q : ℕ → Bool) → count (λ k. not (eqb k 0) && q k) l ≡ countFrom (λ i s. isActive s && q i) 1 ts
 
 abbrev pub scanAs : ℕ → Scan → ScanEntry
-scanAs i s = record { number = i; stamp = s .stamp; merges = s .before }
+scanAs i s = record { number = i; stamp = s .stamp; merges = s .merges }
 
 pub record ScansAre (ss : List Scan) (l : List ScanEntry) : Type 0 where
   pub room : mostScans ≤ length l
@@ -163,13 +163,13 @@ NotesAre rows tail opens notes = (j : ℕ) → j < mostTransactions → getD ope
 -- ---- a scan's page holds the rows that the scan may see. It was made before the scan was opened.
 pub record ScanPageIs (S : Shape) (h : History) (s : Scan) (g c p : ℕ) (x : PageWords) (cell : ℕ → ℕ) : Type 0 where
   pub inside : p < pagesOf S
-  pub early : s .before ≤ length (h .merges)
+  pub early : s .merges ≤ length (h .merges)
   pub chunk : x .chunk ≡ chunkOf S g c
-  pub made : x .made ≤ s .before
+  pub made : x .made ≤ s .merges
   pub holds : Holds h g c (λ r. T (seenAt h (s .stamp) ((rowAt h r) .inserter))) x cell
 
 abbrev pub ScanPageOf : Shape → History → View → Scan → ℕ → ℕ → Type 0
-ScanPageOf S h v s g c = ScanPageIs S h s g c (scanPage S v (s .before) g c) (pageIn v (scanPage S v (s .before) g c)) (cellIn v (scanPage S v (s .before) g c))
+ScanPageOf S h v s g c = ScanPageIs S h s g c (scanPage S v (s .merges) g c) (pageIn v (scanPage S v (s .merges) g c)) (cellIn v (scanPage S v (s .merges) g c))
 
 abbrev pub ScanPagesAre : Shape → History → View → Type 0
 ScanPagesAre S h v = (k : ℕ) → T (scanAt h k .running) → (g c : ℕ) → g < S .ranges → c < S .columns → ScanPageOf S h v (scanAt h k) g c
@@ -217,15 +217,15 @@ pub record Small (S : Shape) : Type 0 where
   pub some-range : 1 ≤ S .ranges
 
 -- what is known of every history that calls lead to
-pub record Known (S : Shape) (h : History) : Type 0 where
+pub record WellFormed (S : Shape) (h : History) : Type 0 where
   pub small : Small S
-  pub past : Past S h
+  pub invariants : Invariants S h
 
 -- ---- one call on a store that represents a history: it answers as the history does, and what it leaves represents the next history
 pub record SameCall (S : Shape) (v : View) (ps : List ScanEntry) (h : History) (c : Call) : Type 0 where
   pub answered : say S v ps c ≡ answer S h c
   pub shown : Represents S (viewNext S v ps c) (entriesNext S v ps c) (next S h c)
-  pub known : Known S (next S h c)
+  pub well-formed : WellFormed S (next S h c)
 
 abbrev pub StepKept : Type 0
-StepKept = (S : Shape) (v : View) (ps : List ScanEntry) (h : History) (c : Call) → Typed c → Represents S v ps h → Known S h → SameCall S v ps h c
+StepKept = (S : Shape) (v : View) (ps : List ScanEntry) (h : History) (c : Call) → Typed c → Represents S v ps h → WellFormed S h → SameCall S v ps h c

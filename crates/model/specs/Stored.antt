@@ -10,7 +10,7 @@ use Rattle.layout.specs.Codes.{asOpen, asCommitted, asOriginal, asSetting, asFr
 use Rattle.layout.specs.View.{View}
 use Rattle.layout.specs.declared.Region.the-variants.{Header, Opens, RowTransaction, RowState, RowStamp, RowLink, RowMask, TailTransaction, TailRow, TailKind, TailMask, TailLink, TailState, TailStamp, TailValues, Current, PageState, PageChunk, PageMade, PageReplaced, PageLineage, PageNewest, Cells}
 use Rattle.terms.specs.declared.ScanEntry.{ScanEntry}
-use Rattle.terms.specs.Places.{freeEntry, firstIndex, bears, isScan}
+use Rattle.terms.specs.Entries.{freeEntry, firstIndex, bears, isScan}
 
 -- ---- sizes that a shape makes
 abbrev pub chunksOf : Shape → ℕ

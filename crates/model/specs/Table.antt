@@ -6,7 +6,7 @@ use Rattle.terms.specs.Measures.{mostScans}
 use Rattle.terms.specs.declared.Answer.{Answer}
 use Rattle.history.specs.Unfolding.{definitions}
 use Rattle.history.specs.Table.{Case, table, wanted}
-use Rattle.terms.specs.Places.{freeEntry}
+use Rattle.terms.specs.Entries.{freeEntry}
 use Rattle.model.specs.Writing.{made}
 use Rattle.model.specs.Calls.{sayAll}
 use Rattle.model.specs.Unfolding.{execution}

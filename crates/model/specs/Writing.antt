@@ -16,7 +16,7 @@ use Rattle.layout.specs.View.{View, blank, renew, put, rowsGiven, transactionsG
 use Rattle.layout.specs.declared.Region.the-variants.{Header, Opens, RowTransaction, RowState, RowStamp, RowLink, RowMask, TailTransaction, TailRow, TailKind, TailMask, TailLink, TailState, TailStamp, TailValues, Used, Current, PageState, PageChunk, PageMade, PageReplaced, PageLineage, PageNewest, Cells, Changes}
 use Rattle.terms.specs.declared.ScanEntry.{ScanEntry}
 use Rattle.layout.specs.Sizes.{sizesOf}
-use Rattle.terms.specs.Places.{firstIndex}
+use Rattle.terms.specs.Entries.{firstIndex}
 use Rattle.model.specs.Stored.{RecordWords, rowIn, recordIn, pageIn, valueIn, currentIn, chunkOf, chunksOf, pagesOf, cellIn, within, nextWord, committedState, settingKind, freePage, currentPage, waitingPage, firstFrom, openIndex}
 use Rattle.layout.specs.Codes.{asOpen, asCommitted, asAborted, asOriginal, asSetting, asDelete, asFree, asCurrent, asWaiting}
 

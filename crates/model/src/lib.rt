@@ -5,7 +5,7 @@ use terms::Stamp;
 use terms::Tail;
 use terms::Transaction;
 ghost use mathlib.Core.Path.{_≡_};
-ghost use Rattle.terms.specs.Places.{freeEntry};
+ghost use Rattle.terms.specs.Entries.{freeEntry};
 
 // A reader: it sees what was committed at or before its stamp, and what transaction `me` has changed so far (number 0: no such changes).
 pub struct Reader {

@@ -17,7 +17,7 @@ use Rattle.layout.specs.declared.Region.{Region}
 use Rattle.layout.specs.declared.Region.the-variants.{Current, PageChunk, PageState, PageNewest, PageReplaced, PageLineage}
 use Rattle.layout.specs.View.{View, lastStamp, mergesMade, usedIn, viewOf, Suffices}
 use Rattle.layout.proofs.View.{view-long}
-use Rattle.facts.specs.Facts.{each, pagePlaced, currentAtMost, currentLineage, waitingAtMost, waitingLineage, pageRange}
+use Rattle.facts.specs.Facts.{each, chunkCurrent, currentAtMost, currentLineage, waitingAtMost, waitingLineage, pageRange}
 use Rattle.facts.specs.Tests.{currentHolds, waitingHold}
 use Rattle.facts.proofs.Each.{each-true}
 use Rattle.facts.proofs.Usable.{stretch-tells}
@@ -41,15 +41,15 @@ module _ (s : Sizes) (m : List ℕ) (room : Suffices s m) (flag : Bool) (q : fla
 -- the page p that chunk i names
 module _ (s : Sizes) (v : View) (i p : ℕ) (e : p ≡ getD (v Current) i 0) where
   pub out-of-pool : s .pages ≤ p → false ≡ currentHolds s v i
-  unfolding currentHolds pagePlaced
+  unfolding currentHolds chunkCurrent
   out-of-pool h = rw (← e, le-ltb p (s .pages) h)
 
-  pub current-is : (state chunk newest lineage g most last : ℕ) (placed within all : Bool) → p < s .pages
+  pub current-is : (state chunk newest lineage g most last : ℕ) (named within all : Bool) → p < s .pages
       → state ≡ getD (v PageState) p 0 → chunk ≡ getD (v PageChunk) p 0 → newest ≡ getD (v PageNewest) p 0 → lineage ≡ getD (v PageLineage) p 0
-      → g ≡ i / s .columns → most ≡ usedIn v g → last ≡ lastStamp v → placed ≡ (eqb state asCurrent && eqb chunk i)
-      → within ≡ (leb newest last && leb lineage most) → all ≡ (placed && within) → all ≡ currentHolds s v i
-  unfolding currentHolds pagePlaced currentAtMost currentLineage
-  current-is state chunk newest lineage g most last placed within all h st ch ne li ra mo la a b q =
+      → g ≡ i / s .columns → most ≡ usedIn v g → last ≡ lastStamp v → named ≡ (eqb state asCurrent && eqb chunk i)
+      → within ≡ (leb newest last && leb lineage most) → all ≡ (named && within) → all ≡ currentHolds s v i
+  unfolding currentHolds chunkCurrent currentAtMost currentLineage
+  current-is state chunk newest lineage g most last named within all h st ch ne li ra mo la a b q =
       q ∙ rw (a, b, st, ch, ne, li, mo, ra, la, ← e, lt-ltb p (s .pages) h)
 
 -- a waiting page's lineage

@@ -18,27 +18,31 @@ ghost use Rattle.layout.specs.Regions.{len};
 ghost use Rattle.layout.specs.View.{lastStamp, viewOf};
 ghost use Rattle.facts.specs.Facts.{each, waitingAtMost, waitingLineage};
 ghost use Rattle.facts.specs.Tests.{Ready, currentHolds, waitingHold, pagesHold};
+ghost use Rattle.pages.specs.Inverse.{inverseOf, mostInverse};
 
-// What a chunk is multiplied by in place of a division by the columns, and shifted by 16 bits.
+// A chunk is multiplied by an inverse of the columns and divided by this, which is a shift, in the place of a division by the columns.
+const INVERSE_SCALE: u32 = 65536;
+
+// The inverse of the columns.
 fn inverse_of(columns: usize) -> u32
     requires { ⌜ (1 ≤ columns) × (columns ≤ mostColumns) ⌝ }
-    ensures { λ r. ⌜ (r ≡ 65536 / columns + 1) × (r ≤ 65537) ⌝ }
+    ensures { λ r. ⌜ (r ≡ inverseOf columns) × (r ≤ mostInverse) ⌝ }
 {
-    65536 / columns as u32 + 1
+    INVERSE_SCALE / columns as u32 + 1
 }
 
 // The range of a chunk, by the inverse of the columns.
 fn range_of_chunk(chunk: u32, inverse: u32) -> usize
-    requires { ⌜ (chunk < mostChunks) × (inverse ≤ 65537) ⌝ }
-    ensures { λ r. ⌜ ((c : ℕ) → 1 ≤ c → c ≤ mostColumns → inverse ≡ 65536 / c + 1 → r ≡ chunk / c) ⌝ }
+    requires { ⌜ (chunk < mostChunks) × (inverse ≤ mostInverse) ⌝ }
+    ensures { λ r. ⌜ ((c : ℕ) → 1 ≤ c → c ≤ mostColumns → inverse ≡ inverseOf c → r ≡ chunk / c) ⌝ }
 {
-    (chunk * inverse / 65536) as usize
+    (chunk * inverse / INVERSE_SCALE) as usize
 }
 
 // Whether chunk i names a page of the pool that is current and says so of that chunk, whose newest stamp and lineage are within theirs.
 fn current_holds(mem: &[u8], s: Sizes, inverse: u32, last: u32, i: usize) -> bool
     requires { ⌜ Ready s (now mem) ⌝ }
-    requires { ⌜ (i < s .chunks) × (inverse ≡ 65536 / s .columns + 1) × (inverse ≤ 65537) × (last ≡ lastStamp (viewOf s (now mem))) ⌝ }
+    requires { ⌜ (i < s .chunks) × (inverse ≡ inverseOf (s .columns)) × (inverse ≤ mostInverse) × (last ≡ lastStamp (viewOf s (now mem))) ⌝ }
     ensures { λ r. ⌜ r ≡ currentHolds s (viewOf s (now (mem .entry))) i ⌝ }
 {
     let p = read(mem, s, Region::Current, i) as usize;
@@ -50,8 +54,8 @@ fn current_holds(mem: &[u8], s: Sizes, inverse: u32, last: u32, i: usize) -> boo
     let newest = read(mem, s, Region::PageNewest, p);
     let lineage = read(mem, s, Region::PageLineage, p);
     let most = read(mem, s, Region::Used, range_of_chunk(i as u32, inverse));
-    let placed = both(state == PAGE_CURRENT, chunk as usize == i);
-    both(placed, both(newest <= last, lineage <= most))
+    let named = both(state == PAGE_CURRENT, chunk as usize == i);
+    both(named, both(newest <= last, lineage <= most))
 }
 
 fn currents_hold(mem: &[u8], s: Sizes) -> bool
@@ -106,7 +110,7 @@ fn modulo_chunks(word: u32, chunks: u32) -> u32
 
 fn waiting_lineage(mem: &[u8], s: Sizes, inverse: u32, p: usize) -> bool
     requires { ⌜ Ready s (now mem) ⌝ }
-    requires { ⌜ (p < s .pages) × (inverse ≡ 65536 / s .columns + 1) × (inverse ≤ 65537) ⌝ }
+    requires { ⌜ (p < s .pages) × (inverse ≡ inverseOf (s .columns)) × (inverse ≤ mostInverse) ⌝ }
     ensures { λ r. ⌜ r ≡ waitingLineage s (viewOf s (now (mem .entry))) p ⌝ }
 {
     if read(mem, s, Region::PageState, p) < PAGE_WAITING {

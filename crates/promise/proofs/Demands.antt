@@ -16,14 +16,14 @@ use Rattle.layout.proofs.Lay.{view-lay}
 use Rattle.history.specs.History.{Call, History, start, answer, run, tests, verdict, accept, seenAt}
 use Rattle.history.specs.Claims.{strike, Reads, answerAt, ReadAt, Striking, Stability}
 use Rattle.history.specs.Lists.{All, nil, cons}
-use Rattle.history.proofs.Lists.{both-test, le-test, all-keep, is-true, clash}
+use Rattle.history.proofs.Lists.{both-test, le-test, all-filterb, is-true, clash}
 use Rattle.history.proofs.Accepted.{passed}
 use Rattle.history.proofs.Striking.{striking}
 use Rattle.history.proofs.Stability.{stability, accepted, replies, reads-reply, reads-bounds}
 use Rattle.facts.specs.Usable.{usable}
 use Rattle.making.specs.Made.{made, madeList}
 use Rattle.making.proofs.Answers.{laid as making-laid}
-use Rattle.terms.specs.Places.{freeEntry}
+use Rattle.terms.specs.Entries.{freeEntry}
 use Rattle.model.specs.Reading.{reader}
 use Rattle.model.specs.Calls.{Typed, viewNext, viewAfter, listAfter as modelList}
 use Rattle.model.specs.Claims.{storeAfter, historyAfter}
@@ -31,16 +31,16 @@ use Rattle.model.proofs.Heads.{sees-at}
 use Rattle.model.proofs.Calls.{current-read, one-call}
 use Rattle.model.proofs.Made.{small-shape, made-represents}
 use Rattle.model.proofs.Claims.{represented, reads, pages-hold, scans-keep}
-use Rattle.promise.specs.Same.{Same}
+use Rattle.promise.specs.Represents.{MemoryRepresents}
 use Rattle.promise.specs.Promise.{storeView, answerOf, memoryAfter, lend, left}
 use Rattle.promise.specs.Demands.{Accepted, memoryMade, storeAnswers, storeLeft, MakingAccepted, ReadsCommitted, PagesCommitted, ScansKept, Demand3, StrikingStore, storeAnswerAt, ReadIn, StabilityStore}
-use Rattle.promise.proofs.Same.{made-starts, same-usable, view-is, memory-is, list-is, same-call, same-answers}
+use Rattle.promise.proofs.Represents.{made-starts, represents-usable, view-is, memory-is, list-is, represents-call, represents-answers}
 
 -- ---- an accepted making: its measures are within their limits, and memory and list are long enough
 record Enough (S : Shape) (m : List ℕ) (ps : List ScanEntry) : Type 0 where
   within : withinLimits S ≡ true
   room : bytesNeeded S ≤ length m
-  places : mostScans ≤ length ps
+  entries : mostScans ≤ length ps
   laid : memoryMade S m ps ≡ lay (sizesOf S) (madeView S) m
 
 -- `made` answers Done where both of its tests pass
@@ -58,7 +58,7 @@ enough S m ps a =
     record {
       within = within;
       room = fits .0;
-      places = fits .1;
+      entries = fits .1;
       laid = sym (ap (λ (w : Answer × List ℕ). w .1) (making-laid S (length ps) m within (fits .0) (fits .1) (lay (sizesOf S) (madeView S) m) refl));
     }
 
@@ -68,22 +68,22 @@ making-accepted S m ps t b n =
     sym (ap (λ (w : Answer × List ℕ). w .0) (making-laid S (length ps) m (is-true (withinLimits S) t) b n (lay (sizesOf S) (madeView S) m) refl))
 
 -- what it left represents the empty history
-from-making : (S : Shape) (m : List ℕ) (ps : List ScanEntry) → Accepted S m ps → Same (memoryMade S m ps) (madeList ps) S start
-from-making S m ps a = let e = enough S m ps a in rw (e .laid) (made-starts S m ps (e .within) (e .room) (e .places))
+from-making : (S : Shape) (m : List ℕ) (ps : List ScanEntry) → Accepted S m ps → MemoryRepresents (memoryMade S m ps) (madeList ps) S start
+from-making S m ps a = let e = enough S m ps a in rw (e .laid) (made-starts S m ps (e .within) (e .room) (e .entries))
 
--- and is usable, with a scan list whose places were all freed
+-- and is usable, with a scan list whose entries were all freed
 pub made-then-usable : (p : Shape) (m : List ℕ) (qs : List ScanEntry) → made p (length qs) m .0 ≡ Answer.Done → usable (made p (length qs) m .1) (madeList qs) ≡ true
-made-then-usable p m qs e = same-usable (from-making p m qs e)
+made-then-usable p m qs e = represents-usable (from-making p m qs e)
 
 -- ---- demand 3
 pub demand3 : Demand3
 unfolding Demand3 storeAnswers
-demand3 S m ps a cs ys = same-answers (from-making S m ps a) ys
+demand3 S m ps a cs ys = represents-answers (from-making S m ps a) ys
 
 pub striking-store : StrikingStore
 unfolding StrikingStore Demand3 strike Striking
 striking-store S m ps a cs ys =
-    rw (demand3 S m ps a cs ys, demand3 S m ps a (strike cs) (all-keep _ ys)) (striking S cs)
+    rw (demand3 S m ps a cs ys, demand3 S m ps a (strike cs) (all-filterb _ ys)) (striking S cs)
 
 -- a read of the store's list is one of the history's
 read-in : (S : Shape) (m : List ℕ) (ps : List ScanEntry) → Accepted S m ps → (cs : List Call) → All Typed cs → (i t r c : ℕ) → ReadIn S m ps cs i t r c → ReadAt S cs i t r c
@@ -99,21 +99,21 @@ stability-store S m ps a cs ys i j t r c x y =
 
 -- ---- the memory and the list after a list of calls
 record Left (m : List ℕ) (ps : List ScanEntry) (S : Shape) (h : History) (cs : List Call) : Type 0 where
-  same : Same (left (lend m ps) cs .memory) (left (lend m ps) cs .list) S (run S h cs)
+  same : MemoryRepresents (left (lend m ps) cs .memory) (left (lend m ps) cs .list) S (run S h cs)
   shown : viewOf (sizesOf S) (left (lend m ps) cs .memory) ≡ viewAfter S (viewOf (sizesOf S) m) ps cs
   list : left (lend m ps) cs .list ≡ modelList S (viewOf (sizesOf S) m) ps cs
 
-view-next : {m : List ℕ} {ps : List ScanEntry} {S : Shape} {h : History} → Same m ps S h → (c : Call) → Typed c
+view-next : {m : List ℕ} {ps : List ScanEntry} {S : Shape} {h : History} → MemoryRepresents m ps S h → (c : Call) → Typed c
     → viewOf (sizesOf S) (memoryAfter (lend m ps) c) ≡ viewNext S (viewOf (sizesOf S) m) ps c
 view-next {m} {ps} {S} {h} o c y =
-    let whole = (one-call S (viewOf (sizesOf S) m) ps h c y (o .shown) (o .known) .shown) .whole in
+    let whole = (one-call S (viewOf (sizesOf S) m) ps h c y (o .shown) (o .well-formed) .shown) .whole in
     rw (memory-is o c) (view-lay (sizesOf S) (viewNext S (viewOf (sizesOf S) m) ps c) m (whole .long) (whole .fits))
 
-calls-left : {m : List ℕ} {ps : List ScanEntry} {S : Shape} {h : History} → Same m ps S h → {cs : List Call} → All Typed cs → Left m ps S h cs
+calls-left : {m : List ℕ} {ps : List ScanEntry} {S : Shape} {h : History} → MemoryRepresents m ps S h → {cs : List Call} → All Typed cs → Left m ps S h cs
 unfolding left run viewAfter modelList
 calls-left o nil = record { same = o; shown = refl; list = refl }
 calls-left o (cons {x = c} y ys) =
-    let l = calls-left (same-call o c y .1) ys in
+    let l = calls-left (represents-call o c y .1) ys in
     record { same = l .same; shown = rw (← view-next o c y, ← list-is o c) (l .shown); list = rw (← view-next o c y, ← list-is o c) (l .list) }
 
 -- from a making: the view is that of the model
@@ -121,14 +121,14 @@ module _ (S : Shape) (m : List ℕ) (ps : List ScanEntry) (a : Accepted S m ps) 
   view-made : viewOf (sizesOf S) (memoryMade S m ps) ≡ madeView S
   view-made =
       let e = enough S m ps a in
-      let whole = made-represents S (small-shape S (rw (e .within) tt)) (length ps) (e .places) .whole in
+      let whole = made-represents S (small-shape S (rw (e .within) tt)) (length ps) (e .entries) .whole in
       rw (e .laid) (view-lay (sizesOf S) (madeView S) m (whole .long) (whole .fits))
 
   from-made : Left (memoryMade S m ps) (madeList ps) S start cs
   from-made = calls-left (from-making S m ps a) ys
 
   -- the store's memory and list, as the demands name them
-  store-same : Same (storeLeft S m ps cs .memory) (storeLeft S m ps cs .list) S (historyAfter S cs)
+  store-same : MemoryRepresents (storeLeft S m ps cs .memory) (storeLeft S m ps cs .list) S (historyAfter S cs)
   unfolding storeLeft historyAfter
   store-same = from-made .same
 
@@ -155,24 +155,24 @@ unfolding ReadsCommitted Rattle.model.specs.Claims.Reads
 reads-committed S m ps a cs ys x t r c y q n =
     let h = historyAfter S cs in
     let e : answerOf (storeLeft S m ps cs) x ≡ answer S h x =
-    same-call (store-same S m ps a ys) x y .0 in
+    represents-call (store-same S m ps a ys) x y .0 in
     let w : verdict (tests S h x) ≡ accept = accepted S h x (rw e at n) in
     let u = enough S m ps a in
-    let o = represented S (rw (u .within) tt) (length ps) (u .places) ys in
-    let b = reads-bounds S h q (o .1 .past .timely) (passed (tests S h x) w) in
+    let o = represented S (rw (u .within) tt) (length ps) (u .entries) ys in
+    let b = reads-bounds S h q (o .1 .invariants .timely) (passed (tests S h x) w) in
     e ∙ replies S h x w ∙ reads-reply S h q
     ∙ sym (current-read (o .0) (o .1) (reader t 0) r c (seenAt h t) (sees-at h t) (b .1) (b .2))
-    ∙ reads S (rw (u .within) tt) (length ps) (u .places) cs ys t r c (b .1) (b .2)
+    ∙ reads S (rw (u .within) tt) (length ps) (u .entries) cs ys t r c (b .1) (b .2)
 
 pub pages-committed : PagesCommitted
 unfolding PagesCommitted Rattle.model.specs.Claims.PagesHold
 pages-committed S m ps a cs ys g c b d =
     let u = enough S m ps a in
-    rw (view-left S m ps a ys) (pages-hold S (rw (u .within) tt) (length ps) (u .places) cs ys g c b d)
+    rw (view-left S m ps a ys) (pages-hold S (rw (u .within) tt) (length ps) (u .entries) cs ys g c b d)
 
 pub scans-kept : ScansKept
 unfolding ScansKept Rattle.model.specs.Claims.ScansKeep
 scans-kept S m ps a cs ys s later zs e t g c b d =
     let u = enough S m ps a in
     rw (view-left S m ps a ys, view-later S m ps a ys zs)
-    (scans-keep S (rw (u .within) tt) (length ps) (u .places) cs later s ys zs e t g c b d)
+    (scans-keep S (rw (u .within) tt) (length ps) (u .entries) cs later s ys zs e t g c b d)

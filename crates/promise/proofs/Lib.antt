@@ -1,7 +1,7 @@
 -- The demands, proved of lent bytes: a store that calls made is usable, so what the calls promise is what the model says.
 pub mod Tests
 pub mod Stored
-pub mod Same
+pub mod Represents
 pub mod Demands
 pub mod Refused
 pub mod Stated

@@ -12,7 +12,7 @@ use lib.Dec.{T, T-not, not-T, leb, ltb, eqb, eqb→eq, leb→le, ltb→lt, nltb�
 use lib.ListN.{length, getD}
 use lib.Pow.{pow-pos, shr-shr}
 use Rattle.terms.specs.Measures.{Shape, mostTransactions}
-use Rattle.terms.specs.Places.{freeEntry, bears, firstIndex}
+use Rattle.terms.specs.Entries.{freeEntry, bears, firstIndex}
 use Rattle.terms.specs.Refusals.{isRefused}
 use Rattle.terms.specs.declared.Answer.{Answer}
 use Rattle.terms.specs.declared.ScanEntry.{ScanEntry}
@@ -25,16 +25,16 @@ use Rattle.layout.proofs.View.{view-long}
 use Rattle.layout.proofs.Limits.{proper}
 use Rattle.layout.specs.declared.Region.the-variants.{Opens}
 use Rattle.history.specs.History.{Call, begin, insert, update, delete, commit, abort, latest, readAt, ownRead, openScan, scanRead, sum, close, merge, release, pageCell, lineage, Test, _when_, any, count, Verdict, accept, refuse, verdict, answerIf, bit, rangeOf, badMask, noColumn, noRange}
-use Rattle.history.proofs.Lists.{by-cases, by-test, clash, is-true, is-false, refuted, both, parts, or-left, or-right, or-cases, eqb-equal, place-any, both-test, not-test, le-test, eq-test}
+use Rattle.history.proofs.Lists.{by-cases, by-test, clash, is-true, is-false, refuted, both, parts, or-left, or-right, or-cases, eqb-equal, any-at, both-test, not-test, le-test, eq-test}
 use Rattle.history.proofs.Masks.{bit-low}
 use Rattle.facts.specs.Usable.{storedShape, storedSizes, usable}
 use Rattle.facts.proofs.Usable.{Usable, usable-tells}
 use Rattle.model.specs.Stored.{RecordWords, rowIn, recordIn, pageIn, pagesOf, anyBelow, committedState, deleteKind}
 use Rattle.layout.specs.Regions.{slot}
-use Rattle.model.specs.Asked.{Placed}
+use Rattle.model.specs.Preconditions.{ChunksCurrent}
 use Rattle.model.specs.Writing.{newBitsIn, recordsWanted, freeIn}
 use Rattle.model.specs.Calls.{openIn, openOther, standsFor, anyRecord, notOpenIn, noScanIn, notGivenIn, heldIn, goneIn, lacksIn, notLaterIn, laterIn, outOfReachIn, openAmongIn, testsIn, replyIn, say}
-use Rattle.model.proofs.Lists.{place-lt, place-is, any-count, count-rest}
+use Rattle.model.proofs.Lists.{first-below, first-passes, any-count, count-rest}
 use Rattle.model.proofs.Heads.{slot-is}
 use Rattle.model.proofs.Insert.{bit-none}
 use Rattle.model.proofs.Masks.{bit-new, no-bits, below-bits, below-power}
@@ -87,13 +87,13 @@ below-test f (suc n) = (
       (λ d. or-left (anyBelow f n) (f n) (below-test f n .1 (q .0, omega (arith, q .1), q .2))),
 )
 
--- a number in a list of places
+-- a number in a list of entries
 module _ {A : Type 0} (number : A → ℕ) (l : List A) (d : A) where
   list-test : (t : ℕ) → T (any (λ p. bears t (number p)) l) ↔ ((t ≢ 0) × ((j : ℕ) × (j < length l) × (number (getD l j d) ≡ t)))
   list-test t =
       let f : A → Bool = λ p. bears t (number p) in (
-        λ b. let q = simp (both-test, not-test, eq-test) at (place-is f l d b) in (λ z. q .0 (q .1 ∙ z), (firstIndex f l, place-lt f l b, q .1)),
-        λ q. place-any f l d (q .1 .0) (q .1 .1) (simp (both-test, not-test, eq-test) (λ z. q .0 (sym (q .1 .2) ∙ z), q .1 .2)),
+        λ b. let q = simp (both-test, not-test, eq-test) at (first-passes f l d b) in (λ z. q .0 (q .1 ∙ z), (firstIndex f l, first-below f l b, q .1)),
+        λ q. any-at f l d (q .1 .0) (q .1 .1) (simp (both-test, not-test, eq-test) (λ z. q .0 (sym (q .1 .2) ∙ z), q .1 .2)),
       )
 
 -- ---- bits
@@ -118,7 +118,7 @@ mask-test S m = (
         (S .columns + q .0, omega arith, rw (shr-shr m (S .columns) (q .0)) at (q .1))
 
 -- ---- the conditions
-module _ (S : Shape) (v : View) (ps : List ScanEntry) (long : length (v Opens) ≡ mostTransactions) (pool : Placed S v) where
+module _ (S : Shape) (v : View) (ps : List ScanEntry) (long : length (v Opens) ≡ mostTransactions) (pool : ChunksCurrent S v) where
   open-test : (t : ℕ) → T (openIn v t) ↔ Open v t
   open-test t = rw long at (list-test (λ k. k) (v Opens) 0 t)
 
@@ -274,9 +274,9 @@ unfolding answerIf
 is-accept accept a e = refl
 is-accept (refuse n) a e = absurd (true≢false e)
 
-placed : (S : Shape) (v : View) (ps : List ScanEntry) → Proper (sizesOf S) → Usable (sizesOf S) v ps → Placed S v
+chunks-current : (S : Shape) (v : View) (ps : List ScanEntry) → Proper (sizesOf S) → Usable (sizesOf S) v ps → ChunksCurrent S v
 unfolding pageIn
-placed S v ps z u = record {
+chunks-current S v ps z u = record {
   inside = λ i b. omega (arith, u .current-in i (omega (arith, z .chunks-are)), z .pages-are, z .chunks-are);
   state = λ i b. u .current-state i (omega (arith, z .chunks-are));
   chunk = λ i b. u .current-chunk i (omega (arith, z .chunks-are));
@@ -288,7 +288,7 @@ on-usable m ps c u =
     let S : Shape = storedShape (words m) in
     let v : View = viewOf (sizesOf S) m in
     let t = usable-tells m ps u in
-    meets S v ps (view-long (sizesOf S) (words m) (omega (arith, length-words m, t .room)) Opens) (placed S v ps (proper S (t .within)) (t .facts)) c
+    meets S v ps (view-long (sizesOf S) (words m) (omega (arith, length-words m, t .room)) Opens) (chunks-current S v ps (proper S (t .within)) (t .facts)) c
 
 pub refuses : Refuses
 unfolding Refuses conditions answerOf say

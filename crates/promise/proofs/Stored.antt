@@ -19,24 +19,24 @@ use Rattle.layout.proofs.Limits.{proper}
 use Rattle.history.specs.History.{History, unknown, count, stateOf, rowAt, rangeOf, recordsOf, scanAt}
 use Rattle.history.proofs.Lists.{all-at, by-cases, cond-ap}
 use Rattle.history.specs.Latest.{stampOf}
-use Rattle.history.specs.Invariants.{isGiven, Placed, Timely}
+use Rattle.history.specs.Invariants.{isGiven, RecordSound, Timely}
 use Rattle.history.proofs.States.{stamp-last}
-use Rattle.history.proofs.Order.{placed-at}
+use Rattle.history.proofs.Order.{sound-at}
 use Rattle.history.proofs.Ranges.{records-range}
 use Rattle.history.proofs.Links.{last-of-row}
 use Rattle.history.specs.Records.{noRecord, lastOf}
-use Rattle.scans.specs.Places.{opened, openCount}
+use Rattle.scans.specs.Entries.{opened, openCount}
 use Rattle.facts.specs.Facts.{factsHold}
 use Rattle.facts.proofs.Ready.{Stored}
 use Rattle.facts.proofs.Usable.{Linked, Usable}
-use Rattle.terms.specs.Places.{freeEntry}
+use Rattle.terms.specs.Entries.{freeEntry}
 use Rattle.model.specs.Stored.{rowIn, recordIn, valueIn, pageIn, chunksOf, pagesOf}
 use Rattle.model.proofs.Book.{live-given, number-live, number-given, numbers-apart, place-stands}
-use Rattle.model.proofs.Merged.{chunk-parts, named, placed}
+use Rattle.model.proofs.Merged.{chunk-parts, named, chunks-current}
 use Rattle.model.proofs.Heads.{in-range}
 use Rattle.model.proofs.Scans.{scanKind, scan-count}
 use Rattle.model.proofs.Transactions.{openKind}
-use Rattle.model.specs.Represents.{RecordIs, WaitingIs, madeIn, Represents, Known}
+use Rattle.model.specs.Represents.{RecordIs, WaitingIs, madeIn, Represents, WellFormed}
 use Rattle.promise.proofs.Tests.{facts-hold}
 
 opened-count : (ps : List ScanEntry) → openCount ps ≡ count (λ p. not (eqb (p .number) 0)) ps
@@ -45,7 +45,7 @@ opened-count (p ∷ ps) = cond-ap length (not (eqb (p .number) 0)) (p ∷ opened
 
 -- ---- the facts, part by part
 
-module _ {S : Shape} {v : View} {ps : List ScanEntry} {h : History} (o : Represents S v ps h) (k : Known S h) where
+module _ {S : Shape} {v : View} {ps : List ScanEntry} {h : History} (o : Represents S v ps h) (k : WellFormed S h) where
   -- used records are those of the history
   used-few : (g i : ℕ) → g < S .ranges → i < usedIn v g → i < length (recordsOf h g)
   used-few g i a b = omega (arith, o .tails g a .used-all)
@@ -57,8 +57,8 @@ module _ {S : Shape} {v : View} {ps : List ScanEntry} {h : History} (o : Represe
   unfolding recordIn
   record-row g i a b = record-is g i a b .row
 
-  record-placed : (g i : ℕ) → g < S .ranges → i < usedIn v g → Placed (stateOf h) (rowAt h) (length (h .rows)) (getD (recordsOf h g) i noRecord)
-  record-placed g i a b = placed-at h g (k .past .order) i noRecord (used-few g i a b)
+  record-sound : (g i : ℕ) → g < S .ranges → i < usedIn v g → RecordSound (stateOf h) (rowAt h) (length (h .rows)) (getD (recordsOf h g) i noRecord)
+  record-sound g i a b = sound-at h g (k .invariants .order) i noRecord (used-few g i a b)
 
   -- a row that is given, as the store counts and as the history does
   row-is : (r : ℕ) → r < rowsGiven v → r < length (h .rows)
@@ -69,16 +69,16 @@ module _ {S : Shape} {v : View} {ps : List ScanEntry} {h : History} (o : Represe
   transaction-given t g = let r = live-given isGiven (h .transactions) t unknown refl g in (r .0, omega (arith, r .1, o .header .transactions-given))
 
   stamp-within : (t : ℕ) → stampOf (stateOf h t) ≤ lastStamp v
-  stamp-within t = omega (arith, stamp-last h (k .past .order .stamps) t, o .header .last-stamp)
+  stamp-within t = omega (arith, stamp-last h (k .invariants .order .stamps) t, o .header .last-stamp)
 
   stored : Stored (sizesOf S) v
   stored =
       record {
-        rows-to = omega (arith, o .header .rows-given, k .past .limits .rows);
-        records-to = λ g. by-cases (decLt g (S .ranges)) (λ a. omega (arith, o .tails g a .used-all, k .past .limits .records g))
+        rows-to = omega (arith, o .header .rows-given, k .invariants .limits .rows);
+        records-to = λ g. by-cases (decLt g (S .ranges)) (λ a. omega (arith, o .tails g a .used-all, k .invariants .limits .records g))
             (λ a. let z : usedIn v g ≡ 0 = List·getD-eq-default (v Used) 0 (omega (arith, o .whole .long Used)) in omega arith);
-        transactions-to = omega (arith, o .header .transactions-given, k .past .limits .transactions);
-        scans-to = omega (arith, o .header .scans-given, k .past .limits .scans);
+        transactions-to = omega (arith, o .header .transactions-given, k .invariants .limits .transactions);
+        scans-to = omega (arith, o .header .scans-given, k .invariants .limits .scans);
       }
 
   -- a link is the row's last record among the first n
@@ -93,7 +93,7 @@ module _ {S : Shape} {v : View} {ps : List ScanEntry} {h : History} (o : Represe
   scan-stamps : (j : ℕ) → getD ps j freeEntry .number ≢ 0 → getD ps j freeEntry .stamp ≤ lastStamp v
   unfolding Timely scanAt
   scan-stamps j n =
-      omega (arith, ap (λ (p : ScanEntry). p .stamp) (place-stands scanKind (h .scans) ps (o .scans .same) j n), k .past .timely (getD ps j freeEntry .number), o .header .last-stamp)
+      omega (arith, ap (λ (p : ScanEntry). p .stamp) (place-stands scanKind (h .scans) ps (o .scans .same) j n), k .invariants .timely (getD ps j freeEntry .number), o .header .last-stamp)
 
   scan-merges : (j : ℕ) → getD ps j freeEntry .number ≢ 0 → getD ps j freeEntry .merges ≤ mergesMade v
   unfolding scanAt
@@ -125,10 +125,10 @@ module _ {S : Shape} {v : View} {ps : List ScanEntry} {h : History} (o : Represe
   represented-usable =
       record {
         counts = stored;
-        open-few = omega (arith, opened-count ps, scan-count (h .scans) ps (o .scans), k .past .limits .runnings);
-        named = λ g i a b. rw (record-row g i a b) (omega (arith, record-placed g i a b .inside, o .header .rows-given), all-at (records-range h g) i noRecord (used-few g i a b));
-        row-numbers = λ r b. rw (o .rows r (row-is r b) .transaction) (transaction-given _ (k .past .order .inserters r (row-is r b)));
-        record-numbers = λ g i a b. rw (record-is g i a b .transaction) (transaction-given _ (record-placed g i a b .giver));
+        open-few = omega (arith, opened-count ps, scan-count (h .scans) ps (o .scans), k .invariants .limits .runnings);
+        named = λ g i a b. rw (record-row g i a b) (omega (arith, record-sound g i a b .inside, o .header .rows-given), all-at (records-range h g) i noRecord (used-few g i a b));
+        row-numbers = λ r b. rw (o .rows r (row-is r b) .transaction) (transaction-given _ (k .invariants .order .inserters r (row-is r b)));
+        record-numbers = λ g i a b. rw (record-is g i a b .transaction) (transaction-given _ (record-sound g i a b .giver));
         open-numbers = λ j. omega (arith, number-given openKind (h .transactions) (v Opens) (o .opens) j, o .header .transactions-given);
         scan-numbers = λ j. omega (arith, number-given scanKind (h .scans) ps (o .scans .same) j, o .header .scans-given);
         row-links = λ r b. linked (r / rangeRows) r (usedIn v (r / rangeRows)) _ (in-range k r (row-is r b)) (le-refl _) (o .rows r (row-is r b) .link ∙ ap (lastOf (recordsOf h (r / rangeRows)) r) (sym (o .tails (r / rangeRows) (in-range k r (row-is r b)) .used-all)));
@@ -144,7 +144,7 @@ module _ {S : Shape} {v : View} {ps : List ScanEntry} {h : History} (o : Represe
         scans-differ = numbers-apart scanKind (h .scans) ps (o .scans .same);
         current-in = λ i b. named o k i b .inside;
         current-state = λ i b. named o k i b .state;
-        current-chunk = placed o k .chunk;
+        current-chunk = chunks-current o k .chunk;
         current-lineages = λ i b. lineage-used _ _ (chunk-parts S (k .small .some-column) i b .0) (named o k i b .holds .through .within);
         waiting-lineages = waiting-lineages;
       }

@@ -19,9 +19,9 @@ use Rattle.layout.specs.declared.Region.{Region}
 use Rattle.layout.specs.declared.Region.the-variants.{Opens, RowTransaction, RowStamp, TailTransaction, TailStamp, Used, PageState, PageReplaced, PageLineage, PageNewest}
 use Rattle.layout.specs.Regions.{len, firstSlot}
 use Rattle.layout.specs.View.{View, rowsGiven, transactionsGiven, scansGiven, lastStamp, mergesMade, usedIn, Long}
-use Rattle.terms.specs.Places.{freeEntry}
-use Rattle.scans.specs.Places.{everyOpen, among, differ}
-use Rattle.facts.specs.Facts.{each, rowsBetween, rangeBetween, currentAtMost, waitingAtMost, storedWithin, countsWithin, rowNamed, rangeNamesRows, recordsNameRows, numbersGiven, linkHolds, rowLinked, recordLinked, rangeLinked, linksHold, stampsWithin, mergesWithin, openDiffer, pagePlaced, pagesPlaced, currentLineage, waitingLineage, lineagesWithin, factsHold}
+use Rattle.terms.specs.Entries.{freeEntry}
+use Rattle.scans.specs.Entries.{everyOpen, among, differ}
+use Rattle.facts.specs.Facts.{each, rowsBetween, rangeBetween, currentAtMost, waitingAtMost, storedWithin, countsWithin, rowNamed, rangeNamesRows, recordsNameRows, numbersGiven, linkHolds, rowLinked, recordLinked, rangeLinked, linksHold, stampsWithin, mergesWithin, openDiffer, chunkCurrent, chunksCurrent, currentLineage, waitingLineage, lineagesWithin, factsHold}
 use Rattle.layout.specs.Sizes.{Proper}
 use Rattle.facts.proofs.Each.{each-true}
 use Rattle.layout.proofs.Indices.{tail-in}
@@ -145,10 +145,10 @@ module _ (s : Sizes) (v : View) (ps : List ScanEntry) (z : Proper s) (long : Lon
       (differing (map (λ p. p .number) ps)
       (λ i j h e. numbers-at ps i ∙ u .scans-differ i j h (sym (numbers-at ps i) ∙ e ∙ numbers-at ps j)))
 
-  placed : pagesPlaced s v ≡ true
-  unfolding pagesPlaced pagePlaced
-  placed =
-      each-true (pagePlaced s v) (s .chunks)
+  chunks-current : chunksCurrent s v ≡ true
+  unfolding chunksCurrent chunkCurrent
+  chunks-current =
+      each-true (chunkCurrent s v) (s .chunks)
       (λ i h. both (lt-ltb _ _ (u .current-in i h)) (both (eq-eqb _ 1 (u .current-state i h)) (eq-eqb _ i (u .current-chunk i h))))
 
   lineages : lineagesWithin s v ≡ true
@@ -159,4 +159,4 @@ module _ (s : Sizes) (v : View) (ps : List ScanEntry) (z : Proper s) (long : Lon
 
   pub facts-hold : factsHold s v ps ≡ true
   unfolding factsHold
-  facts-hold = rw (counts, named, numbers, links, stamps, merges, opens-differ, placed, lineages)
+  facts-hold = rw (counts, named, numbers, links, stamps, merges, opens-differ, chunks-current, lineages)

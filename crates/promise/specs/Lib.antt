@@ -1,5 +1,5 @@
--- The demands, and what every call on a lent memory and scan list promises; Same states the argument.
+-- The demands, and what every call on a lent memory and scan list promises; Represents states the argument.
 pub mod Demands
 pub mod Promise
 pub mod Stated
-pub mod Same
+pub mod Represents

@@ -15,7 +15,7 @@ use Rattle.words.specs.Words.{words}
 use Rattle.layout.specs.View.{View, lay, viewOf}
 use Rattle.history.specs.History.{Call}
 use Rattle.scans.specs.declared.Scans.{Scans}
-use Rattle.scans.specs.Places.{freedIf}
+use Rattle.scans.specs.Entries.{freedIf}
 use Rattle.scans.specs.Table.{tableOf}
 use Rattle.making.specs.Made.{made}
 use Rattle.facts.specs.Usable.{storedShape, storedSizes, usable}

@@ -16,7 +16,7 @@ use Rattle.layout.specs.View.{View}
 use Rattle.model.specs.Stored.{pageIn, firstFrom, pagesOf, chunkOf, currentIn}
 use Rattle.model.specs.Reading.{wasCurrent, scanPage}
 use Rattle.layout.specs.Sizes.{Proper}
-use Rattle.model.specs.Asked.{shapeIn}
+use Rattle.model.specs.Preconditions.{shapeIn}
 use Rattle.reading.specs.ScanPages.{oldPage}
 
 -- ---- one page

@@ -18,8 +18,8 @@ use Rattle.history.specs.History.{bit, rangeOf}
 use Rattle.model.specs.Stored.{rowIn, recordIn, pageIn, valueIn, cellIn, within}
 use Rattle.layout.specs.Regions.{slot}
 use Rattle.model.specs.Reading.{answersFor, walk, belowLineage, wordIn}
-use Rattle.model.specs.Asked.{shapeIn}
-use Rattle.model.specs.Asked.{Linked}
+use Rattle.model.specs.Preconditions.{shapeIn}
+use Rattle.model.specs.Preconditions.{Linked}
 use Rattle.reading.specs.Reached.{Reached}
 
 module _ (s : Sizes) (v : View) (linked : Linked s v) (who : Reader) (g c low : ℕ) (h : g < s .ranges) where

@@ -26,7 +26,7 @@ ghost use Rattle.layout.specs.View.{rowsGiven, usedIn, viewOf, Suffices};
 ghost use Rattle.model.specs.Stored.{recordIn, pageIn, valueIn};
 ghost use Rattle.model.specs.Reading.{answersFor, walk, belowLineage, wordIn, readIn, readCurrent};
 ghost use Rattle.layout.specs.Sizes.{Proper};
-ghost use Rattle.model.specs.Asked.{shapeIn, Linked, Pooled};
+ghost use Rattle.model.specs.Preconditions.{shapeIn, Linked, Pooled};
 ghost use Rattle.reading.specs.Reached.{Reached};
 
 // The word of column c in the tail record at a slot.

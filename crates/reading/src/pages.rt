@@ -13,7 +13,7 @@ ghost use Rattle.layout.specs.Sizes.{Proper};
 ghost use Rattle.layout.specs.View.{viewOf, Suffices};
 ghost use Rattle.model.specs.Stored.{cellIn, within, currentIn};
 ghost use Rattle.model.specs.Reading.{wasCurrent, scanPage};
-ghost use Rattle.model.specs.Asked.{shapeIn, Pooled};
+ghost use Rattle.model.specs.Preconditions.{shapeIn, Pooled};
 ghost use Rattle.rows.specs.Finders.{Inside};
 ghost use Rattle.reading.specs.ScanPages.{oldPage};
 

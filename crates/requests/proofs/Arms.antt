@@ -18,7 +18,7 @@ use Rattle.upkeep.specs.Lists.{changedAt}
 use Rattle.commands.specs.declared.Kind.{Kind}
 use Rattle.commands.specs.Commands.{callOf}
 use Rattle.terms.specs.Refusals.{isAccepted}
-use Rattle.scans.specs.Places.{freedIf}
+use Rattle.scans.specs.Entries.{freedIf}
 
 -- what is due for the call of a kind is due for a request of that kind
 pub asks : (m : List ℕ) (ps : List ScanEntry) (kind k : Kind) (ns : List ℕ) (vs : List ℤ) (r : Answer) (m′ : List ℕ) (ps′ : List ScanEntry) → kind ≡ k

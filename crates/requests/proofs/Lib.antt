@@ -1,5 +1,5 @@
 -- Laws that the functions of this crate rest on.
-pub mod Places
+pub mod Entries
 pub mod Arms
 pub mod Equivalent
 pub mod Masks

@@ -19,7 +19,7 @@ use Rattle.facts.specs.Usable.{storedShape, usable}
 use Rattle.history.specs.History.{update, Verdict, accept, refuse, verdict, badMask}
 use Rattle.model.specs.Calls.{notOpenIn, notGivenIn, testsIn}
 use Rattle.promise.specs.Promise.{ServesBy, kept}
-use Rattle.requests.specs.Asked.{mostMask}
+use Rattle.requests.specs.Requested.{mostMask}
 use Rattle.requests.proofs.Equivalent.{Equivalent, served-equivalent}
 use Rattle.facts.proofs.Usable.{usable-tells}
 use native.Mathlib.Nat.{pow-le-pow-right}

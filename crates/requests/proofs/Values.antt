@@ -24,7 +24,7 @@ use Rattle.commands.specs.declared.Request.{Request}
 use Rattle.commands.specs.Commands.{first, second, third, writeOf, callOf}
 use Rattle.commands.specs.Decoded.{callIn, ZerosPast}
 use Rattle.promise.specs.Promise.{Serves}
-use Rattle.requests.specs.Asked.{asked}
+use Rattle.requests.specs.Requested.{requested}
 use Rattle.requests.proofs.Equivalent.{served-equivalent}
 
 abbrev Agree : List ℤ → List ℤ → Type 0
@@ -80,6 +80,6 @@ zeros-agree vs n z c = go (decLe n c)
 
 -- What is due for all the values of a request is due for the call that it stands for.
 pub served-call : (m : List ℕ) (ps : List ScanEntry) (q : Request) (r : Answer) (m′ : List ℕ) (ps′ : List ScanEntry) → ZerosPast (q .count) (q .values)
-    → Serves m ps (asked q) r m′ ps′ → Serves m ps (callIn q) r m′ ps′
+    → Serves m ps (requested q) r m′ ps′ → Serves m ps (callIn q) r m′ ps′
 served-call m ps q r m′ ps′ z w =
     served-values m ps (q .kind) (q .operands) (q .values) (take (q .count) (q .values)) r m′ ps′ (zeros-agree (q .values) (q .count) z) w

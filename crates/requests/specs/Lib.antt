@@ -1,3 +1,3 @@
 -- The scan list in bytes, and what a request asks for.
 pub mod Packed
-pub mod Asked
+pub mod Requested

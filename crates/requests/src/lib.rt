@@ -45,7 +45,7 @@ ghost use Rattle.layout.specs.Sizes.{shapeOf};
 ghost use Rattle.history.specs.History.{Call};
 ghost use Rattle.commands.specs.Commands.{readOf, writeOf};
 ghost use Rattle.promise.specs.Promise.{Serves, ServesBy, Makes, kept};
-ghost use Rattle.requests.specs.Asked.{mostMask, asked};
+ghost use Rattle.requests.specs.Requested.{mostMask, requested};
 
 // A store is made, and with it every entry of the list becomes free.
 pub fn make_store(
@@ -147,7 +147,7 @@ fn change(
 
 // The answer to a request.
 pub fn call(mem: &mut [u8], scans: &mut [u8], request: Request) -> Answer
-    ensures { λ r. ⌜ Serves (now (mem .entry)) (entriesOf (words (now (scans .entry)))) (asked request) r (now (mem .exit)) (entriesOf (words (now (scans .exit)))) ⌝ }
+    ensures { λ r. ⌜ Serves (now (mem .entry)) (entriesOf (words (now (scans .entry)))) (requested request) r (now (mem .exit)) (entriesOf (words (now (scans .exit)))) ⌝ }
 {
     let t = table(scans);
     let kind = request.kind;

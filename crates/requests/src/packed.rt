@@ -11,9 +11,9 @@ use words::put;
 ghost use mathlib.Core.Path.{_≡_};
 ghost use Prim.Native.Nat.{_/_, _<_};
 ghost use lib.ListN.{length, getD, set};
-ghost use Rattle.terms.specs.Places.{freeEntry};
+ghost use Rattle.terms.specs.Entries.{freeEntry};
 ghost use Rattle.words.specs.Words.{words};
-ghost use Rattle.scans.specs.Places.{allFreed};
+ghost use Rattle.scans.specs.Entries.{allFreed};
 ghost use Rattle.scans.specs.Table.{tableOf};
 ghost use Rattle.requests.specs.Packed.{entryBytes, entriesOf};
 

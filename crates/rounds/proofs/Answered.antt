@@ -14,9 +14,9 @@ use Rattle.decimal.specs.Written.{lineBytes}
 use Rattle.rounds.specs.Due.{progressOf, Answered}
 
 -- one byte more of it
-pub keep-next : (old lines line : List ℕ) (at i v : ℕ) → take (at + i) lines ≡ take at old ++ take i line → v ≡ getD line i 0 → at + i < length lines
+pub line-next : (old lines line : List ℕ) (at i v : ℕ) → take (at + i) lines ≡ take at old ++ take i line → v ≡ getD line i 0 → at + i < length lines
     → i < length line → take (at + (i + 1)) (set lines (at + i) v) ≡ take at old ++ take (i + 1) line
-keep-next old lines line at i v e q h l =
+line-next old lines line at i v e q h l =
     let next : i + 1 ≡ suc i = omega arith in
     let one : at + (i + 1) ≡ suc (at + i) = omega arith in
     rw (one, next, take-suc-set lines (at + i) v h, take-suc line i 0 l, e, q, append-assoc)

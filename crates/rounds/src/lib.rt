@@ -27,7 +27,7 @@ pub struct Progress {
 }
 
 // The line of a turn goes behind the lines that are written. How the program stands then, with the bytes up to `end` taken.
-fn keep(
+fn append_line(
     lines: &mut [u8],
     written: usize,
     line: &[u8; LINE_BYTES],
@@ -88,7 +88,7 @@ fn answer_command(
     let operands = at + 1;
     let mut line = [0u8; LINE_BYTES];
     let t = turn(mem, scans, columns, byte, &bytes[operands..end], &mut line);
-    keep(lines, p.written, &line, t, columns, end)
+    append_line(lines, p.written, &line, t, columns, end)
 }
 
 // The turn of the shape, in the first `end` bytes.
@@ -106,7 +106,7 @@ fn answer_shape(
     let shape = &bytes[..end];
     let mut line = [0u8; LINE_BYTES];
     let t = start(mem, scans, shape, &mut line);
-    keep(lines, p.written, &line, t, columns_of(shape), end)
+    append_line(lines, p.written, &line, t, columns_of(shape), end)
 }
 
 // The commands, one after another, as many as there are.

@@ -10,7 +10,7 @@ use Rattle.layout.specs.declared.Region.the-variants.{RowLink}
 use Rattle.layout.specs.View.{View, rowsGiven, usedIn}
 use Rattle.history.specs.History.{rangeOf}
 use Rattle.layout.specs.Sizes.{Proper}
-use Rattle.model.specs.Asked.{Linked}
+use Rattle.model.specs.Preconditions.{Linked}
 
 -- index i of block p, of blocks of one size
 pub block-in : (p i blocks size : ℕ) → p < blocks → i < size → p * size + i < blocks * size

@@ -21,7 +21,7 @@ ghost use Rattle.history.specs.History.{bit, rangeOf};
 ghost use Rattle.model.specs.Stored.{rowIn, recordIn};
 ghost use Rattle.model.specs.Reading.{sees, seesRow, seesRecord, visibleIn};
 ghost use Rattle.layout.specs.Sizes.{Proper};
-ghost use Rattle.model.specs.Asked.{shapeIn, Linked};
+ghost use Rattle.model.specs.Preconditions.{shapeIn, Linked};
 ghost use Rattle.rows.specs.Finders.{headAt, Inside};
 
 // Whether a mask has column c.

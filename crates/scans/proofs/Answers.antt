@@ -14,8 +14,8 @@ use Rattle.loops.specs.declared.Found.{Found}
 use Rattle.loops.specs.declared.Found.the-variants.{At, Nothing}
 use Rattle.loops.specs.Search.{allBetween, firstAt}
 use Rattle.loops.proofs.Search.{first-in, first-at}
-use Rattle.terms.specs.Places.{freeEntry, isScan, firstIndex}
-use Rattle.scans.specs.Places.{opened, openedAt, openCount, everyOpen, someOpen, among, differ}
+use Rattle.terms.specs.Entries.{freeEntry, isScan, firstIndex}
+use Rattle.scans.specs.Entries.{opened, openedAt, openCount, everyOpen, someOpen, among, differ}
 use Rattle.scans.specs.Table.{entries, tableOf, findIn, anyBelow}
 use Rattle.scans.proofs.Table.{at-length}
 
@@ -38,7 +38,7 @@ between-zeros b zero [] = refl
 between-zeros b (suc n) [] = rw (leb·zero b) (between-zeros b n [])
 between-zeros b n (x ∷ l) = rw (between-zeros b n l)
 
--- ---- and the list itself has its open scans, with free places among them
+-- ---- and the list itself has its open scans, with free entries among them
 
 every-opened : (f : ScanEntry → ℕ) (b : ℕ) (ps : List ScanEntry) → allBetween 0 b (map f (opened ps)) ≡ everyOpen (λ p. leb (f p) b) ps
 every-opened f b [] = refl
@@ -70,18 +70,18 @@ zeros-none : (k c n : ℕ) → eqb k 0 ≡ false → firstAt k c (replicate n 0)
 zeros-none k c zero e = refl
 zeros-none k c (suc n) e = rw (ne-eqb 0 k (λ q. eqb-false k 0 e (sym q))) (zeros-none k (c + 1) n e)
 
--- entry j of the open scans is the first place of the list that bears k
+-- entry j of the open scans is the first of the list that bears k
 module _ (k n : ℕ) (nonzero : eqb k 0 ≡ false) where
   abbrev searched : ℕ → List ScanEntry → Found
   searched c ps = firstAt k c (map (λ p. p .number) (opened ps) ++ replicate n 0)
 
-  -- the place of k in a list that starts at place d, and its entry j
+  -- the index of k in a list that starts at index d, and its entry j
   abbrev Entry : ℕ → List ScanEntry → ℕ → Type 0
   Entry d ps j = (firstIndex (isScan k) ps + d ≡ getD (openedAt d ps) j 0) × (getD ps (firstIndex (isScan k) ps) freeEntry ≡ getD (opened ps) j freeEntry) × (j < openCount ps)
 
-  found-place : (ps : List ScanEntry) (c d j : ℕ) → searched c ps ≡ At (c + j) → Entry d ps j
-  found-place [] c d j e = let z : _≡_ {A = ℕ} 0 1 = cc (zeros-none k c n nonzero) in absurd (omega arith)
-  found-place (p ∷ ps) c d j e = go (eqb (p .number) 0) refl (eqb (p .number) k) refl (found-place ps) j e
+  found-index : (ps : List ScanEntry) (c d j : ℕ) → searched c ps ≡ At (c + j) → Entry d ps j
+  found-index [] c d j e = let z : _≡_ {A = ℕ} 0 1 = cc (zeros-none k c n nonzero) in absurd (omega arith)
+  found-index (p ∷ ps) c d j e = go (eqb (p .number) 0) refl (eqb (p .number) k) refl (found-index ps) j e
     where
       at : (i : ℕ) → At c ≡ At i → c ≡ i
       at i q = cc
@@ -95,7 +95,7 @@ module _ (k n : ℕ) (nonzero : eqb k 0 ≡ false) where
       go false o false q later (suc i) f =
           rw (o, q) (let t = later (c + 1) (suc d) i ((rw (o, q) at f) ∙ ap At (omega arith)) in (omega (arith, t .0), t .1, omega (arith, t .2)))
 
-  -- and where none is found no place of the list bears k
+  -- and where none is found no entry of the list bears k
   found-none : (ps : List ScanEntry) (c : ℕ) → searched c ps ≡ Nothing → firstIndex (isScan k) ps ≡ length ps
   found-none [] c e = refl
   found-none (p ∷ ps) c e = go (eqb (p .number) 0) refl (eqb (p .number) k) refl (found-none ps)
@@ -106,7 +106,7 @@ module _ (k n : ℕ) (nonzero : eqb k 0 ≡ false) where
       go false o true q later = let f = rw (o, q) at e in let z : _≡_ {A = ℕ} 0 1 = cc in absurd (omega arith)
       go false o false q later = rw (o, q) (ap suc (later (c + 1) (rw (o, q) at e)))
 
--- no place bears 0
+-- no entry bears 0
 none-zero : (ps : List ScanEntry) → firstIndex (isScan 0) ps ≡ length ps
 none-zero [] = refl
 none-zero (p ∷ ps) =
@@ -118,7 +118,7 @@ none-zero (p ∷ ps) =
 pub record Located (ps : List ScanEntry) (k j : ℕ) : Type 0 where
   pub entry : j < openCount ps
   pub number-is : getD ps (firstIndex (isScan k) ps) freeEntry .number ≡ k
-  pub place-is : getD (tableOf ps .places) j 0 ≡ firstIndex (isScan k) ps
+  pub index-is : getD (tableOf ps .indices) j 0 ≡ firstIndex (isScan k) ps
   pub stamp-is : getD (tableOf ps .stamps) j 0 ≡ getD ps (firstIndex (isScan k) ps) freeEntry .stamp
   pub merges-is : getD (tableOf ps .merges) j 0 ≡ getD ps (firstIndex (isScan k) ps) freeEntry .merges
 
@@ -131,8 +131,8 @@ module _ (ps : List ScanEntry) (few : openCount ps ≤ mostScans) where
       let e : length (map f (opened ps)) ≡ openCount ps = length-map (opened ps) f in
       rw (field-entries f) (List·getD-append (map f (opened ps)) _ 0 j (omega arith) ∙ ap (λ (d : ℕ). getD (map f (opened ps)) j d) (sym z) ∙ List·getD-map f (opened ps) j freeEntry)
 
-  places-at : (j : ℕ) → j < openCount ps → getD (entries (openedAt 0 ps)) j 0 ≡ getD (openedAt 0 ps) j 0
-  places-at j h =
+  indices-at : (j : ℕ) → j < openCount ps → getD (entries (openedAt 0 ps)) j 0 ≡ getD (openedAt 0 ps) j 0
+  indices-at j h =
       let e = at-length 0 ps in
       rw (entries-are (openedAt 0 ps) (omega arith)) (List·getD-append (openedAt 0 ps) _ 0 j (omega arith))
 
@@ -160,11 +160,11 @@ module _ (ps : List ScanEntry) (few : openCount ps ≤ mostScans) where
       elim (eqb k 0) as (λ b. eqb k 0 ≡ b → cond b Nothing (firstAt k 0 (tableOf ps .numbers)) ≡ At j → Located ps k j) [
         | true ↦ λ q f. let z : _≡_ {A = ℕ} 0 1 = cc in absurd (omega arith)
         | false ↦ λ q f.
-            let t = found-place k (mostScans - openCount ps) q ps 0 0 j ((rw (field-entries (λ p. p .number)) at f) ∙ ap At (omega arith)) in
+            let t = found-index k (mostScans - openCount ps) q ps 0 0 j ((rw (field-entries (λ p. p .number)) at f) ∙ ap At (omega arith)) in
             record {
               entry = t .2;
               number-is = ap (λ (p : ScanEntry). p .number) (t .1) ∙ sym (field-at (λ p. p .number) j refl (t .2)) ∙ first-at k j (tableOf ps .numbers) f .1;
-              place-is = places-at j (t .2) ∙ omega (arith, t .0);
+              index-is = indices-at j (t .2) ∙ omega (arith, t .0);
               stamp-is = field-at (λ p. p .stamp) j refl (t .2) ∙ ap (λ (p : ScanEntry). p .stamp) (sym (t .1));
               merges-is = field-at (λ p. p .merges) j refl (t .2) ∙ ap (λ (p : ScanEntry). p .merges) (sym (t .1));
             }

@@ -1,4 +1,4 @@
--- The table of a list of places: it grows place by place as the list does, and for a list with at most `mostScans` open scans it answers as the list does.
+-- The table of a list of entries: it grows entry by entry as the list does, and for a list with at most `mostScans` open scans it answers as the list does.
 use Prim.Native.Nat.{ℕ, suc, _+_, _-_, _≤_, _<_, min}
 use mathlib.Core.Path.{_≡_, refl, ap, sym, _∙_}
 use mathlib.Core.Bool.{Bool, true, false, cond}
@@ -13,11 +13,11 @@ use borrow.Author.Tests.{not-false, lt-ltb, le-ltb, ne-eqb, ltb-true, ltb-false,
 use Rattle.terms.specs.Measures.{mostScans}
 use Rattle.terms.specs.declared.ScanEntry.{ScanEntry}
 use Rattle.scans.specs.declared.Scans.{Scans}
-use Rattle.terms.specs.Places.{freeEntry}
-use Rattle.scans.specs.Places.{isOpen, opened, openedAt, openCount, firstFree}
+use Rattle.terms.specs.Entries.{freeEntry}
+use Rattle.scans.specs.Entries.{isOpen, opened, openedAt, openCount, firstFree}
 use Rattle.scans.specs.Table.{entries, tableOf, noted, ofLength}
 
--- ---- one place more
+-- ---- one entry more
 
 opened-snoc : (ps : List ScanEntry) (p : ScanEntry) → opened (ps ++ p ∷ []) ≡ opened ps ++ cond (isOpen p) (p ∷ []) []
 opened-snoc [] p = refl
@@ -119,9 +119,9 @@ table-next : (ps : List ScanEntry) (t r : Scans) (p : ScanEntry) (i : ℕ) → t
     → r ≡ tableOf (take (i + 1) ps)
 table-next ps t r p i e q n h = n ∙ rw (e, q, add-one) (noted-table (take i ps) (getD ps i freeEntry) ∙ ap tableOf (sym (take-suc ps i freeEntry h)))
 
--- ---- a loop that makes a table place by place
+-- ---- a loop that makes a table entry by entry
 
--- t has the first i of the n places of l: but for its length it is their table
+-- t has the first i of the n entries of l: but for its length it is their table
 pub record Entered (l : List ScanEntry) (n : ℕ) (t : Scans) (i : ℕ) : Type 0 where
   pub within : i ≤ n
   pub whole : n ≡ length l

@@ -1,3 +1,3 @@
 -- The lent list of open scans, and the table of it.
-pub mod Places
+pub mod Entries
 pub mod Table

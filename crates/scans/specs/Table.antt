@@ -10,7 +10,7 @@ use Rattle.loops.specs.declared.Found.{Found}
 use Rattle.loops.specs.declared.Found.the-variants.{Nothing}
 use Rattle.loops.specs.Search.{firstAt}
 use Rattle.scans.specs.declared.Scans.{Scans}
-use Rattle.scans.specs.Places.{opened, openedAt, openCount, firstFree}
+use Rattle.scans.specs.Entries.{opened, openedAt, openCount, firstFree}
 
 -- as many entries as a table has: those of l, then zeros
 abbrev pub entries : List ℕ → List ℕ
@@ -24,7 +24,7 @@ tableOf ps =
       numbers = entries (map (λ p. p .number) (opened ps));
       stamps = entries (map (λ p. p .stamp) (opened ps));
       merges = entries (map (λ p. p .merges) (opened ps));
-      places = entries (openedAt 0 ps);
+      indices = entries (openedAt 0 ps);
       free = firstFree ps;
       more = ltb mostScans (openCount ps);
     }
@@ -38,7 +38,7 @@ ofLength n t =
       numbers = t .numbers;
       stamps = t .stamps;
       merges = t .merges;
-      places = t .places;
+      indices = t .indices;
       free = t .free;
       more = t .more;
     }
@@ -57,7 +57,7 @@ noted t p =
       numbers = set (t .numbers) n (p .number);
       stamps = set (t .stamps) n (p .stamp);
       merges = set (t .merges) n (p .merges);
-      places = set (t .places) n (t .length);
+      indices = set (t .indices) n (t .length);
       free = free;
       more = t .more;
     })
@@ -67,7 +67,7 @@ noted t p =
       numbers = t .numbers;
       stamps = t .stamps;
       merges = t .merges;
-      places = t .places;
+      indices = t .indices;
       free = free;
       more = true;
     }))

@@ -1,4 +1,4 @@
-// The lent list of open scans as a table: how long it is, its open scans with their places in it, and its first free entry. At most MOST_SCANS are open
+// The lent list of open scans as a table: how long it is, its open scans with their indices in it, and its first free entry. At most MOST_SCANS are open
 // in a usable store, so a table of so many holds all that a call asks of a list of any length. Definitions and laws speak of the list of entries. A table is made
 // entry by entry, by `enter`, for a list lent as records (crates/lent) and for one in bytes (crates/requests/src/packed.rt).
 
@@ -13,19 +13,19 @@ ghost use Prim.Native.Nat.{_+_, _<_, _≤_};
 ghost use lib.Dec.{eqb};
 ghost use lib.ListN.{length, getD, take, drop};
 ghost use Rattle.loops.specs.Search.{allBetween};
-ghost use Rattle.scans.specs.Places.{isOpen, among, differ};
+ghost use Rattle.scans.specs.Entries.{isOpen, among, differ};
 ghost use Rattle.scans.specs.Table.{tableOf, noted, ofLength, findIn};
 
 // What a call wants to know of the list. Entries at and past `count` are 0.
 pub struct Scans {
     // how many entries were lent
     pub length: usize,
-    // the open scans among them, at most MOST_SCANS: how many, and of each its number, stamp and merges and its place in the list
+    // the open scans among them, at most MOST_SCANS: how many, and of each its number, stamp and merges and its index in the list
     pub count: usize,
     pub numbers: [u32; MOST_SCANS],
     pub stamps: [u32; MOST_SCANS],
     pub merges: [u32; MOST_SCANS],
-    pub places: [usize; MOST_SCANS],
+    pub indices: [usize; MOST_SCANS],
     // the first free entry, or the length where there is none
     pub free: usize,
     // whether more than MOST_SCANS are open
@@ -50,7 +50,7 @@ pub fn blank() -> Scans
         numbers: [0; MOST_SCANS],
         stamps: [0; MOST_SCANS],
         merges: [0; MOST_SCANS],
-        places: [0; MOST_SCANS],
+        indices: [0; MOST_SCANS],
         free: 0,
         more: false,
     }
@@ -75,7 +75,7 @@ pub fn enter(t: Scans, i: usize, p: ScanEntry) -> Scans
         u.numbers[n] = p.number;
         u.stamps[n] = p.stamp;
         u.merges[n] = p.merges;
-        u.places[n] = i;
+        u.indices[n] = i;
         u.count = n + 1;
     } else {
         u.more = true;

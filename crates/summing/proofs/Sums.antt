@@ -15,7 +15,7 @@ use Rattle.history.specs.History.{rangeOf}
 use Rattle.terms.specs.declared.ScanEntry.{ScanEntry}
 use Rattle.layout.specs.declared.Sizes.{Sizes}
 use Rattle.layout.specs.Sizes.{Proper}
-use Rattle.model.specs.Asked.{Linked}
+use Rattle.model.specs.Preconditions.{Linked}
 use Rattle.rows.proofs.Indices.{range-in}
 use Rattle.model.specs.Reading as R
 use Rattle.model.specs.Reading.{reader, wordIn, visibleIn, scanPage, tally, sumIn}

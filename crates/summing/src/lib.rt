@@ -23,7 +23,7 @@ ghost use Rattle.layout.specs.View.{rowsGiven, viewOf, Suffices};
 ghost use Rattle.history.specs.History.{rangeOf};
 ghost use Rattle.model.specs.Reading.{scanPage, sumIn};
 ghost use Rattle.layout.specs.Sizes.{Proper};
-ghost use Rattle.model.specs.Asked.{shapeIn, Linked, Pooled};
+ghost use Rattle.model.specs.Preconditions.{shapeIn, Linked, Pooled};
 ghost use Rattle.summing.specs.Sums.{Tallied};
 
 // The rows seen so far, and the sum of their values.

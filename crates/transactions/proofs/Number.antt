@@ -8,7 +8,7 @@ use lib.Dec.{eqb}
 use lib.ListN.{length, getD}
 use borrow.Author.Tests.{eqb-true}
 use Rattle.terms.specs.Measures.{mostTransactions}
-use Rattle.terms.specs.Places.{bears, firstIndex}
+use Rattle.terms.specs.Entries.{bears, firstIndex}
 use Rattle.words.specs.Words.{words}
 use Rattle.words.proofs.Words.{length-words}
 use Rattle.layout.specs.declared.Sizes.{Sizes}
@@ -16,7 +16,7 @@ use Rattle.layout.specs.declared.Region.the-variants.{Opens}
 use Rattle.layout.specs.View.{viewOf, Suffices}
 use Rattle.layout.proofs.View.{view-long}
 use Rattle.model.specs.Stored.{openIndex}
-use Rattle.model.specs.Asked.{OpenAt}
+use Rattle.model.specs.Preconditions.{OpenAt}
 
 second : (a b : Bool) → (a && b) ≡ true → b ≡ true
 second true b q = q

@@ -13,7 +13,7 @@ use Rattle.layout.specs.Regions.{index}
 use Rattle.layout.specs.View.{View, renew, mark, rowsGiven, usedIn}
 use Rattle.layout.proofs.View.{renew-here, renew-there}
 use Rattle.model.specs.Writing.{markTails, settled}
-use Rattle.model.specs.Asked.{Counted}
+use Rattle.model.specs.Preconditions.{Counted}
 use Rattle.transactions.specs.Steps.{tailMarked, tailsMarked}
 use Rattle.layout.proofs.Renewed.{renew-none, renew-again}
 

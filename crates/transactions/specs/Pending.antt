@@ -27,5 +27,5 @@ freeRecord = record { number = record { 0 = 0 }; changes = 0 }
 abbrev pub pendingAt : View → ℕ → Pending
 pendingAt v j = record { number = record { 0 = getD (v Region.Opens) j 0 }; changes = getD (v Region.Changes) j 0 }
 
-unfoldable pub kept : ℕ → Pending → View → View
-kept j p v = put Region.Changes j (p .changes) (put Region.Opens j (p .number .0) v)
+unfoldable pub pendingPut : ℕ → Pending → View → View
+pendingPut j p v = put Region.Changes j (p .changes) (put Region.Opens j (p .number .0) v)

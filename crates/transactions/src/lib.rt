@@ -13,8 +13,8 @@ use layout::codes::COMMITTED;
 use loops::Found;
 use pending::Pending;
 use pending::free_record;
-use pending::keep;
 use pending::pending_at;
+use pending::put_pending;
 use regions::find_in;
 use regions::mark_in;
 use regions::read;
@@ -30,10 +30,10 @@ ghost use Rattle.loops.specs.Search.{foundAt};
 ghost use Rattle.layout.specs.declared.Region.{Region};
 ghost use Rattle.layout.specs.Regions.{index, len};
 ghost use Rattle.layout.specs.View.{transactionsGiven, usedIn, viewOf, Suffices};
-ghost use Rattle.terms.specs.Places.{firstIndex};
+ghost use Rattle.terms.specs.Entries.{firstIndex};
 ghost use Rattle.model.specs.Writing.{begun, settled, committedIn, abortedIn, freed};
 ghost use Rattle.layout.specs.Sizes.{Proper};
-ghost use Rattle.model.specs.Asked.{shapeIn, Counted, FreeAt, OpenAt};
+ghost use Rattle.model.specs.Preconditions.{shapeIn, Counted, FreeAt, OpenAt};
 ghost use Rattle.transactions.specs.Steps.{notedAt, tailMarked, tailsMarked};
 
 // The first free entry for an open transaction.
@@ -52,7 +52,7 @@ pub fn begin(mem: &mut [u8], s: Sizes, free: usize) -> Transaction
     ensures { λ r. ⌜ (r .0 ≡ transactionsGiven (viewOf s (now (mem .entry))) + 1) × (viewOf s (now (mem .exit)) ≡ begun (viewOf s (now (mem .entry)))) ⌝ }
 {
     let t = Transaction(read(mem, s, Region::Header, HEADER_TRANSACTIONS) + 1);
-    keep(mem, s, free, Pending::begin(t));
+    put_pending(mem, s, free, Pending::begin(t));
     write(mem, s, Region::Header, HEADER_TRANSACTIONS, t.0);
     t
 }
@@ -140,7 +140,7 @@ fn end_open(mem: &mut [u8], s: Sizes, at: usize, state: u32, stamp: Stamp)
 {
     let t = pending_at(mem, s, at).hand_back();
     settle(mem, s, t, state, stamp);
-    keep(mem, s, at, free_record());
+    put_pending(mem, s, at, free_record());
 }
 
 // It ends, and what it has written is committed at a stamp.

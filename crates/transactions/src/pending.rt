@@ -11,7 +11,7 @@ ghost use Prim.Native.Nat.{_<_};
 ghost use Rattle.terms.specs.Measures.{mostTransactions};
 ghost use Rattle.layout.specs.View.{viewOf, Suffices};
 ghost use Rattle.model.specs.Stored.{nextWord};
-ghost use Rattle.transactions.specs.Pending.{fresh, oneMore, handedBack, owner, freeRecord, pendingAt, kept};
+ghost use Rattle.transactions.specs.Pending.{fresh, oneMore, handedBack, owner, freeRecord, pendingAt, pendingPut};
 
 pub struct Pending {
     pub number: Transaction,
@@ -86,10 +86,10 @@ pub fn pending_at(mem: &[u8], s: Sizes, index: usize) -> Pending
 }
 
 // A record into an entry of Opens.
-pub fn keep(mem: &mut [u8], s: Sizes, index: usize, p: Pending)
+pub fn put_pending(mem: &mut [u8], s: Sizes, index: usize, p: Pending)
     requires { ⌜ Suffices s (now mem) ⌝ }
     requires { ⌜ index < mostTransactions ⌝ }
-    ensures { λ _. ⌜ viewOf s (now (mem .exit)) ≡ kept index p (viewOf s (now (mem .entry))) ⌝ }
+    ensures { λ _. ⌜ viewOf s (now (mem .exit)) ≡ pendingPut index p (viewOf s (now (mem .entry))) ⌝ }
 {
     write(mem, s, Region::Opens, index, p.number.0);
     write(mem, s, Region::Changes, index, p.changes);

@@ -18,7 +18,7 @@ use Rattle.commands.specs.Decoded.{callIn, ZerosPast}
 use Rattle.output.specs.Output.{goesOn}
 use Rattle.output.specs.Steps.{answerTo, stateAfter, Step}
 use Rattle.promise.specs.Promise.{Serves, Lent}
-use Rattle.requests.specs.Asked.{asked}
+use Rattle.requests.specs.Requested.{requested}
 use Rattle.requests.proofs.Values.{served-call}
 use Rattle.turns.specs.Turns.{Does, Turned}
 
@@ -30,7 +30,7 @@ width-most columns f h =
 
 -- a request that is decoded from the operands, called
 pub form-called : (x : Lent) (columns : ℕ) (f : Form) (os : List ℕ) (q : Request) (r : Answer) (m′ : List ℕ) (ps′ : List ScanEntry) → width columns f ≤ length os
-    → (callIn q ≡ callFrom columns f os) × ZerosPast (q .count) (q .values) → Serves (x .memory) (x .list) (asked q) r m′ ps′
+    → (callIn q ≡ callFrom columns f os) × ZerosPast (q .count) (q .values) → Serves (x .memory) (x .list) (requested q) r m′ ps′
     → Does x columns (Chosen.Known f) os r (record { memory = m′; list = ps′ })
 unfolding Does answerTo stateAfter Serves
 form-called x columns f os q r m′ ps′ h p w =

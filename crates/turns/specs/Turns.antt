@@ -19,7 +19,7 @@ use Rattle.commands.specs.Commands.{width, shapeBytes, shapeFrom}
 use Rattle.output.specs.Output.{lent, goesOn}
 use Rattle.output.specs.Steps.{Step, answerTo, stateAfter}
 use Rattle.terms.specs.Refusals.{isAccepted}
-use Rattle.scans.specs.Places.{freedIf}
+use Rattle.scans.specs.Entries.{freedIf}
 use Rattle.promise.specs.Promise.{Lent, lentMachine}
 use Rattle.turns.specs.declared.Outcome.{Outcome}
 

@@ -11,13 +11,13 @@ use borrow.Author.Tests.{le-leb, lt-leb}
 use Rattle.terms.specs.Measures.{mostNumbers, mostScans}
 use Rattle.terms.specs.declared.ScanEntry.{ScanEntry}
 use Rattle.terms.specs.declared.Answer.{Answer}
-use Rattle.terms.specs.Places.{firstIndex, freeEntry, isScan}
+use Rattle.terms.specs.Entries.{firstIndex, freeEntry, isScan}
 use Rattle.loops.specs.declared.Found.the-variants.{At}
 use Rattle.layout.specs.declared.Sizes.{Sizes}
 use Rattle.layout.specs.View.{View, scansGiven, mergesMade, viewOf}
 use Rattle.history.specs.History.{Call, count}
 use Rattle.scans.specs.declared.Scans.{Scans}
-use Rattle.scans.specs.Places.{openCount, opened}
+use Rattle.scans.specs.Entries.{openCount, opened}
 use Rattle.scans.specs.Table.{tableOf}
 use Rattle.scans.proofs.Table.{table-length}
 use Rattle.scans.proofs.Answers.{table-count}
@@ -34,7 +34,7 @@ use Rattle.upkeep.specs.declared.ListChange.{ListChange}
 use Rattle.upkeep.specs.Lists.{changedAt}
 
 -- ---- the list
--- the open places, counted
+-- the open entries, counted
 open-count : (ps : List ScanEntry) → count (λ p. not (eqb (p .number) 0)) ps ≡ openCount ps
 open-count [] = refl
 open-count (p ∷ ps) = go (not (eqb (p .number) 0)) (open-count ps)
@@ -59,7 +59,7 @@ module _ (t : Scans) (ps : List ScanEntry) (q : t ≡ tableOf ps) where
   free-is = ap (λ (x : Scans). x .free) q
 
 -- ---- what a call leaves
--- a refused one names a place past the end, and so leaves the list
+-- a refused one names an index past the end, and so leaves the list
 pub unlisted-serves : (t : Scans) (m : List ℕ) (c : Call) (a : Answer) (r : ListChange) → (r .answer ≡ a) × (r .index ≡ t .length) → ServesBy t m c a m kept
     → ServesBy t m c (r .answer) m (changedAt r)
 unfolding ServesBy Serves
@@ -67,7 +67,7 @@ unlisted-serves t m c a r u h = λ ps q.
     let z = h ps q in
     let l : set ps (r .index) (r .entry) ≡ ps = set-out ps (r .index) (r .entry) (omega (arith, u .1, table-length t ps q)) in (u .0 ∙ z .0, z .1, l ∙ z .2)
 
--- an opened scan stands in the first free place
+-- an opened scan stands in the first free entry
 pub opened-list : (t : Scans) (ps : List ScanEntry) (v : View) (stamp i : ℕ) (p : ScanEntry) → t ≡ tableOf ps → i ≡ t .free
     → p ≡ record { number = scansGiven v + 1; stamp = stamp; merges = mergesMade v } → set ps i p ≡ entriesAfter v ps (Call.openScan stamp)
 unfolding entriesAfter
@@ -78,11 +78,11 @@ pub number-told : (e : Entry) (s : Sizes) (n : ℕ) (m : List ℕ) (t : Scans) (
     → Holds d (scansGiven (viewOf s m) < mostNumbers) → scansGiven (viewOf s (take n m)) < mostNumbers
 number-told e s n m t d i a b x h = rw (part-seen (entered e s n m t a b)) (told d _ i x h)
 
--- a closed one leaves its place free
+-- a closed one leaves its entry free
 pub closed-list : (t : Scans) (ps : List ScanEntry) (v : View) (d : Tested) (k j : ℕ) → t ≡ tableOf ps → openCount ps ≤ mostScans → d ≡ Tested.Passed j
-    → Finds d (ScanAt t k) → set ps (getD (t .places) j 0) freeEntry ≡ entriesAfter v ps (Call.close k)
+    → Finds d (ScanAt t k) → set ps (getD (t .indices) j 0) freeEntry ≡ entriesAfter v ps (Call.close k)
 unfolding entriesAfter
 closed-list t ps v d k j q few x f =
     let g = found d (ScanAt t k) j x f .found in
-    let i : getD (t .places) j 0 ≡ firstIndex (isScan k) ps = ap (λ (x : Scans). getD (x .places) j 0) q ∙ sym (scan-at k ps few j (in-table t ps q k (At j) g)) in
+    let i : getD (t .indices) j 0 ≡ firstIndex (isScan k) ps = ap (λ (x : Scans). getD (x .indices) j 0) q ∙ sym (scan-at k ps few j (in-table t ps q k (At j) g)) in
     rw i

@@ -14,13 +14,13 @@ use Rattle.loops.specs.declared.Found.{Found}
 use Rattle.layout.specs.declared.Sizes.{Sizes}
 use Rattle.layout.specs.View.{View, usedIn, viewOf}
 use Rattle.scans.specs.declared.Scans.{Scans}
-use Rattle.scans.specs.Places.{openCount}
+use Rattle.scans.specs.Entries.{openCount}
 use Rattle.scans.specs.Table.{tableOf}
 use Rattle.history.specs.History.{verdict}
 use Rattle.model.specs.Stored.{pagesOf, pageIn, currentIn}
 use Rattle.model.specs.Writing.{freeIn}
 use Rattle.layout.specs.Sizes.{Proper}
-use Rattle.model.specs.Asked.{shapeIn}
+use Rattle.model.specs.Preconditions.{shapeIn}
 use Rattle.loops.specs.Search.{foundAt}
 use Rattle.merging.specs.Steps.{Mergeable}
 use Rattle.entry.specs.declared.Entry.{Entry}
@@ -87,7 +87,7 @@ module _ (s : Sizes) (m : List ℕ) (g n used : ℕ) (w : Fitted s m) (h : g < s
         to = through-few;
         free = free .1;
         page-below = omega (arith, free);
-        placed = w .placed;
+        chunks-current = w .chunks-current;
       }
 
 -- the lineage of the page was read before

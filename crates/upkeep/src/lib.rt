@@ -38,7 +38,7 @@ ghost use Rattle.terms.specs.declared.ScanEntry.{ScanEntry};
 ghost use Rattle.layout.specs.Regions.{scansAt};
 ghost use Rattle.history.specs.History.{Call, verdict};
 ghost use Rattle.model.specs.Stored.{pageIn, currentIn};
-ghost use Rattle.model.specs.Asked.{shapeIn};
+ghost use Rattle.model.specs.Preconditions.{shapeIn};
 ghost use Rattle.merging.specs.Steps.{Mergeable};
 ghost use Rattle.promise.specs.Promise.{ServesBy, kept};
 ghost use Rattle.entry.specs.Entered.{Fitted};
@@ -238,10 +238,10 @@ pub fn close_scan(mem: &[u8], scans: Scans, scan: u32) -> ListChange
     match close_tests(scans, scan) {
         Tested::Failed(x) => unlisted(scans, x),
         Tested::Passed(i) => {
-            let places = scans.places;
+            let indices = scans.indices;
             ListChange {
                 answer: Answer::Done,
-                index: places[i],
+                index: indices[i],
                 entry: ScanEntry {
                     number: 0,
                     stamp: 0,

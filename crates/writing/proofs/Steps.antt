@@ -29,7 +29,7 @@ use Rattle.model.specs.Stored.{openIndex, rowIn, cellIn, currentIn}
 use Rattle.layout.specs.Codes.{asOriginal, asDelete}
 use Rattle.model.specs.Writing.{noted, putCells, nextSlot, appended, filledIn, newBits, newBitsIn, recordsWanted, originalAppended, settingAppended, updatedIn, insertedIn, insertedAt, deletedIn}
 use Rattle.layout.specs.Sizes.{Proper}
-use Rattle.model.specs.Asked.{shapeIn, OpenAt}
+use Rattle.model.specs.Preconditions.{shapeIn, OpenAt}
 use Rattle.transactions.specs.Steps.{notedAt}
 use Rattle.layout.proofs.Renewed.{renew-none, turn-put, change-none, change-next}
 use Rattle.layout.proofs.Indices.{range-in}

@@ -26,7 +26,7 @@ ghost use Rattle.layout.specs.declared.Region.{Region};
 ghost use Rattle.layout.specs.View.{put, rowsGiven, usedIn, viewOf, Suffices};
 ghost use Rattle.model.specs.Writing.{insertedIn, appended, newBits, recordsWanted, settingAppended, updatedIn, deletedIn};
 ghost use Rattle.layout.specs.Sizes.{Proper};
-ghost use Rattle.model.specs.Asked.{shapeIn, Pooled, OpenAt};
+ghost use Rattle.model.specs.Preconditions.{shapeIn, Pooled, OpenAt};
 ghost use Rattle.writing.specs.Steps.{rowPut, cellsPut, recordPut, cellWords, valueWords, newestFilled, originalPut, recordsPut, Room, Newest};
 
 // ---- insert

@@ -20,4 +20,4 @@ unfolding code.routine tablesOf
 close-scan-spec 𝓤 H 𝓜 𝓖 𝓡 =
     let w : World = world 𝓤 H 𝓜 𝓖 𝓡 in
     changed reads 0 (value u32 ∷ []) (λ (x, _). Call.close x) w code.env key.name core.name (code.unfolded 𝓤 H 𝓜 𝓡) code.calls-lent·table
-    (core-reads.known w code.env core.name core.routine code.calls-upkeep·close-scan (core-thm.met 𝓤 H 𝓜 𝓖 𝓡)) code.calls-lent·keep
+    (core-reads.known w code.env core.name core.routine code.calls-upkeep·close-scan (core-thm.met 𝓤 H 𝓜 𝓖 𝓡)) code.calls-lent·apply-change

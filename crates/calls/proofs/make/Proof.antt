@@ -7,7 +7,7 @@ use borrow.Fn.World.{World}
 use Rattle.layout.specs.Sizes.{shapeOf}
 use Rattle.making.specs.Made.{made}
 use Rattle.terms.specs.Refusals.{isAccepted}
-use Rattle.scans.specs.Places.{freedIf}
+use Rattle.scans.specs.Entries.{freedIf}
 use Rattle.lent.proofs.Known.{len-known, made-known}
 use Rattle.lent.proofs.Further.{value}
 use Rattle.lent.proofs.Slices.{writes}

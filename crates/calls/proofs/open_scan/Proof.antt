@@ -20,4 +20,4 @@ unfolding code.routine tablesOf
 open-scan-spec 𝓤 H 𝓜 𝓖 𝓡 =
     let w : World = world 𝓤 H 𝓜 𝓖 𝓡 in
     changed writes 0 (value stamp ∷ []) (λ (x, _). Call.openScan (x .0)) w code.env key.name core.name (code.unfolded 𝓤 H 𝓜 𝓡) code.calls-lent·table
-    (core-reads.known w code.env core.name core.routine code.calls-upkeep·open-scan (core-thm.met 𝓤 H 𝓜 𝓖 𝓡)) code.calls-lent·keep
+    (core-reads.known w code.env core.name core.routine code.calls-upkeep·open-scan (core-thm.met 𝓤 H 𝓜 𝓖 𝓡)) code.calls-lent·apply-change

@@ -6,7 +6,7 @@ use mir.Syntax.{w32}
 use mir.ValLaws.{toZ-ofZ}
 use lib.ListN.{length, take, length-set}
 use Rattle.calls.specs.Values.{padded}
-use Rattle.calls.proofs.Values.{sixteen-length}
+use Rattle.calls.proofs.Values.{padded-length}
 use lib.IntN.{pos}
 use Rattle.loops.proofs.Taken.{take-next, take-whole}
 use Rattle.terms.specs.Measures.{mostColumns}
@@ -28,14 +28,14 @@ loop-again c =
     let e = toZ-ofZ w32 (c .value-at .result) record { sfits = c .value-at .ok } in (
       omega arith,
       length-set (loop .taken) (loop .i) _ ∙ loop .inv .1,
-      take-next (pos 0) (loop .taken) (padded m) (loop .i) _ (e ∙ c .value-at .ensures) (loop .inv .2) (omega arith) (omega (arith, sixteen-length m)),
+      take-next (pos 0) (loop .taken) (padded m) (loop .i) _ (e ∙ c .value-at .ensures) (loop .inv .2) (omega arith) (omega (arith, padded-length m)),
     )
 
 returns : tie.Need-returns Inv-loop μ-loop
 returns c =
     let m = c .before .before .args .values .now in
     let n : c .before .loop .i ≡ mostColumns = omega arith in
-    take-whole (c .before .loop .taken) (padded m) mostColumns (c .before .loop .inv .1) (sixteen-length m) (rw n at (c .before .loop .inv .2))
+    take-whole (c .before .loop .taken) (padded m) mostColumns (c .before .loop .inv .1) (padded-length m) (rw n at (c .before .loop .inv .2))
 
 pub pad-values-spec : {M : Type 1} → statement M
 pad-values-spec =

@@ -1,4 +1,4 @@
--- `commands::values` meets its contract. The invariant: the first i places hold the first i values, and the others 0.
+-- `commands::values` meets its contract. The invariant: the first i words are the first i values, and the others 0.
 use Prim.Native.Nat.{_-_, _≤_}
 use mathlib.Core.Path.{_≡_, refl}
 use native.Mathlib.Omega.{arith}

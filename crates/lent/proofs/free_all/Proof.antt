@@ -6,7 +6,7 @@ use native.Mathlib.Omega.{arith}
 use borrow.Author.Tests.{ltb-true, ltb-false}
 use lib.ListN.{set as put}
 use contract.Running.{tablesOf}
-use Rattle.scans.specs.Places.{allFreed}
+use Rattle.scans.specs.Entries.{allFreed}
 use Rattle.lent.proofs.Rules.{_≡_, refl, List, [], _∷_, ℕ, URA, Ty, tyInt, tyBool, tyUnit, named, mut, w64, lt, add, unsigned, Heap, Tables, Atoms, Given, Lfts, Shares, now, sliceTy, Row, Cx, Life, lease, off, get, set, valS, sInt, sBool, sUnit, any-gone, Mo, oAt, oInt, oUnit, mslice, vAt, pMutS, fix-len, PK, Out, rUnit, World, ScanEntry, entry, entries, num, no-flag, list-read, list-again, at}
 use Rattle.lent.proofs.Plain.{type, gone, room}
 use Rattle.lent.proofs.Chain.{step, quiet, returns, then, tests, skips, leaves, falls, loops, lend, back, share, unshare, apart, called, lent, ended}

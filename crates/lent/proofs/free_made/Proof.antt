@@ -7,7 +7,7 @@ use borrow.Fn.Function.{Γin}
 use borrow.Rule.LocalCopy.{t-val-copy}
 use borrow.Rule.Local.{whole-mem}
 use borrow.Rule.Yields.{makes-mem, told-none}
-use Rattle.scans.specs.Places.{allFreed, freedIf}
+use Rattle.scans.specs.Entries.{allFreed, freedIf}
 use Rattle.terms.specs.Refusals.{isAccepted}
 use Rattle.lent.proofs.Rules.{_≡_, refl, List, [], _∷_, ℕ, URA, Ty, tyBool, tyUnit, named, Heap, Tables, Atoms, Given, Lfts, Shares, now, sliceTy, Life, lease, sBool, sUnit, pMutS, fix-len, PK, Out, rUnit, World, entry, list-again, at}
 use Rattle.lent.proofs.Plain.{type, full, arg, res, copied, room}

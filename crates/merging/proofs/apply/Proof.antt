@@ -6,7 +6,7 @@ use lib.ListN.{length}
 use Rattle.layout.specs.Regions.{need}
 use Rattle.layout.specs.View.{viewOf}
 use Rattle.model.specs.Writing.{newestOf}
-use Rattle.model.specs.Asked.{shapeIn}
+use Rattle.model.specs.Preconditions.{shapeIn}
 use Rattle.layout.proofs.Indices.{tail-in, sizes-need}
 use Rattle.merging.specs.Steps.{appliedAll}
 use Rattle.merging.proofs.Pass.{applied-none, applied-next, newest-none, newest-next, pass-end}

@@ -30,7 +30,7 @@ returns c =
     let row : tie.After-read2 = search in
     let stamp : tie.After-read = search in
     let taken : tie.Then1 = search in
-    one-applied _ _ _ _ _ _ _ (taken .before .is-applied .ensures) _ _ _ _ _ (taken .if1 .taken) (stamp .read .ensures) (row .read2 .ensures) (value .read3 .ensures) (c .later .ensures) (wrote .write .ensures)
+    one-applied _ _ _ _ _ _ _ (taken .before .is-applied .ensures) _ _ _ _ _ (taken .if1 .taken) (stamp .read .ensures) (row .read2 .ensures) (value .read3 .ensures) (c .later-stamp .ensures) (wrote .write .ensures)
 
 pub apply-one-spec : {M : Type 1} → statement M
 apply-one-spec =

@@ -26,5 +26,5 @@ least-spec =
     (λ c κs. search needs)
     (λ c. omega arith)
     (λ c. omega arith)
-    (λ c. (omega arith, least-next _ _ _ _ (c .before .before .loop .inv .1) (c .choose .ensures)))
+    (λ c. (omega arith, least-next _ _ _ _ (c .before .before .loop .inv .1) (c .select .ensures)))
     (λ c. least-end _ _ _ _ (c .before .loop .inv .1) (omega arith) (omega arith)))

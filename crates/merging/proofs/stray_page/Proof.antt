@@ -5,7 +5,7 @@ use native.Mathlib.Omega.{arith}
 use native.Mathlib.Nat.{sub-zero}
 use borrow.Author.Needs.{needs}
 use Rattle.layout.specs.View.{viewOf}
-use Rattle.model.specs.Asked.{shapeIn}
+use Rattle.model.specs.Preconditions.{shapeIn}
 use Rattle.model.specs.Stored.{firstFrom}
 use Rattle.model.specs.Writing.{strayIn}
 use Rattle.merging.proofs.Pass.{stray-here, stray-later, stray-none}

@@ -1,7 +1,7 @@
 -- `requests::mask_of` meets its contract.
 use borrow.Author.Needs.{needs}
 use borrow.Author.Tests.{lt-ltb, le-ltb}
-use Rattle.requests.specs.Asked.{mostMask}
+use Rattle.requests.specs.Requested.{mostMask}
 use Rattle.requests.proofs.mask_of.Statement.{statement}
 use Rattle.requests.proofs.mask_of.Tie as tie
 

@@ -6,8 +6,8 @@ use Rattle.rounds.proofs.Answered.{long, answered}
 use Rattle.rounds.proofs.answer_command.Statement.{statement}
 use Rattle.rounds.proofs.answer_command.Tie as tie
 
-keep-requires : tie.Need-keep-requires
-keep-requires c κs =
+append-line-requires : tie.Need-append-line-requires
+append-line-requires c κs =
     let turned : tie.After-turn = search in
     (search needs, turned .turn .ensures .rendered .fits, long (turned .turn .ensures) refl)
 
@@ -15,8 +15,8 @@ returns : tie.Need-returns
 unfolding stepAt
 returns c =
     let turned : tie.After-turn = search in
-    let kept : tie.After-keep = search in
-    rw (kept .keep .ensures .1) (answered (turned .turn .ensures) refl _ _ _ _ _ _ refl (kept .keep .ensures .0))
+    let kept : tie.After-append-line = search in
+    rw (kept .append-line .ensures .1) (answered (turned .turn .ensures) refl _ _ _ _ _ _ refl (kept .append-line .ensures .0))
 
 pub answer-command-spec : {M : Type 1} → statement M
 answer-command-spec =
@@ -28,7 +28,7 @@ answer-command-spec =
     (λ c. search needs)
     (λ c. search needs)
     (λ c κs. search needs)
-    keep-requires
+    append-line-requires
     (λ c. search needs)
     (λ c. search needs)
     (λ c. search needs)

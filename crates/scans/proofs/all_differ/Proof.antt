@@ -4,7 +4,7 @@ use mathlib.Core.Path.{_≡_, refl}
 use native.Mathlib.Omega.{arith}
 use lib.ListN.{take, drop}
 use borrow.Author.Needs.{needs}
-use Rattle.scans.specs.Places.{differ}
+use Rattle.scans.specs.Entries.{differ}
 use Rattle.scans.proofs.Entries.{differ-stop, differ-go, differ-end}
 use Rattle.scans.proofs.all_differ.Statement.{statement}
 use Rattle.scans.proofs.all_differ.Tie as tie

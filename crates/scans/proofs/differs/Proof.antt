@@ -4,7 +4,7 @@ use mathlib.Core.Path.{_≡_, refl}
 use native.Mathlib.Omega.{arith}
 use lib.ListN.{drop, take}
 use borrow.Author.Needs.{needs}
-use Rattle.scans.specs.Places.{among}
+use Rattle.scans.specs.Entries.{among}
 use Rattle.scans.proofs.Entries.{apart-free, apart-not, apart-go, apart-end}
 use Rattle.scans.proofs.differs.Statement.{statement}
 use Rattle.scans.proofs.differs.Tie as tie

@@ -3,7 +3,7 @@ use Prim.Native.Nat.{_-_, _≤_}
 use mathlib.Core.Path.{_≡_}
 use native.Mathlib.Omega.{arith}
 use Rattle.layout.specs.View.{viewOf}
-use Rattle.model.specs.Asked.{shapeIn}
+use Rattle.model.specs.Preconditions.{shapeIn}
 use Rattle.summing.specs.Sums.{Tallied}
 use Rattle.summing.proofs.Sums.{one-range}
 use Rattle.summing.proofs.add_rows.Statement.{statement}

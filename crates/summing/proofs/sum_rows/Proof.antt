@@ -2,7 +2,7 @@
 use Prim.Native.Nat.{_-_, _≤_}
 use native.Mathlib.Omega.{arith}
 use Rattle.layout.specs.View.{viewOf}
-use Rattle.model.specs.Asked.{shapeIn}
+use Rattle.model.specs.Preconditions.{shapeIn}
 use Rattle.summing.specs.Sums.{Tallied}
 use Rattle.summing.proofs.Sums.{page-of, given-few, given-range, none-tallied, sum-is}
 use borrow.Author.Needs.{needs}

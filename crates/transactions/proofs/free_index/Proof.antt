@@ -10,7 +10,7 @@ use Rattle.layout.specs.Regions.{need}
 use Rattle.layout.specs.View.{viewOf}
 use Rattle.layout.proofs.View.{view-long}
 use Rattle.words.proofs.Words.{length-words}
-use Rattle.loops.proofs.Places.{find-index}
+use Rattle.loops.proofs.Indices.{find-index}
 use Rattle.transactions.proofs.free_index.Statement.{statement}
 use Rattle.transactions.proofs.free_index.Tie as tie
 

@@ -4,7 +4,7 @@ use Prim.Native.Nat.{_-_, _≤_}
 use mathlib.Core.Path.{_≡_, sym}
 use lib.ListN.{length}
 use Rattle.layout.specs.View.{viewOf}
-use Rattle.model.specs.Asked.{shapeIn}
+use Rattle.model.specs.Preconditions.{shapeIn}
 use Rattle.transactions.proofs.Tails.{marksTo, marks-none, marks-used, marks-next, marks-all}
 use Rattle.transactions.proofs.mark_tails.Statement.{statement}
 use Rattle.transactions.proofs.mark_tails.Tie as tie

@@ -20,7 +20,7 @@ unfolding replyIn actIn
 returns-3 c = let tests : tie.After-close-tests = search in search (serving, closed-list, tests .close-tests .ensures .0)
 
 -- the entry that was found is one of the table
-inside : (c : tie.After-places) → let passed = c .before .before in passed .i .given .0 .0 < mostScans
+inside : (c : tie.After-indices) → let passed = c .before .before in passed .i .given .0 .0 < mostScans
 inside c = search scan-below
 
 pub close-scan-spec : {M : Type 1} → statement M

@@ -8,7 +8,7 @@ use Rattle.rows.proofs.Indices.{chunk-in, chunks-few}
 use Rattle.upkeep.proofs.current_lineage.Statement.{statement}
 use Rattle.upkeep.proofs.current_lineage.Tie as tie
 
--- the place of the range and column is there
+-- the chunk of the range and column is there
 inside : (c : tie.Start) → let a = c .args in (a .g * a .s .columns + a .c < a .s .chunks) × (a .s .chunks ≤ mostChunks)
 inside c =
     let p = c .pre .0 .proper in (chunk-in _ p _ _ (c .pre .1 .0) (c .pre .1 .1), chunks-few _ p .0)

@@ -6,7 +6,7 @@ use mathlib.Core.Path.{_≡_}
 use lib.ListN.{length}
 use Rattle.layout.specs.Regions.{need}
 use Rattle.layout.specs.View.{viewOf}
-use Rattle.model.specs.Asked.{shapeIn}
+use Rattle.model.specs.Preconditions.{shapeIn}
 use Rattle.layout.proofs.Indices.{chunks-in, sizes-need}
 use Rattle.writing.specs.Steps.{cellWords}
 use Rattle.writing.proofs.Steps.{fillsTo, fills-none, fills-next, fills-all, fills-current, fills-cell}

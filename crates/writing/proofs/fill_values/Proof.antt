@@ -8,7 +8,7 @@ use lib.ListN.{length, getD}
 use Rattle.terms.specs.Measures.{mostColumns}
 use Rattle.layout.specs.Regions.{need}
 use Rattle.layout.specs.View.{viewOf}
-use Rattle.model.specs.Asked.{shapeIn}
+use Rattle.model.specs.Preconditions.{shapeIn}
 use Rattle.layout.proofs.Indices.{sizes-need}
 use Rattle.writing.specs.Steps.{valueWords}
 use Rattle.writing.proofs.Steps.{fillsTo, fills-none, fills-next, fills-all, word-of}

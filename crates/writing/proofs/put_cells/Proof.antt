@@ -8,7 +8,7 @@ use lib.ListN.{length, getD}
 use Rattle.terms.specs.Measures.{mostColumns}
 use Rattle.layout.specs.Regions.{need}
 use Rattle.layout.specs.View.{viewOf}
-use Rattle.model.specs.Asked.{shapeIn}
+use Rattle.model.specs.Preconditions.{shapeIn}
 use Rattle.layout.proofs.Indices.{chunks-in, sizes-need}
 use Rattle.writing.proofs.Steps.{cellsTo, cells-none, cells-current, cells-next, cells-all, word-of}
 use Rattle.writing.proofs.put_cells.Statement.{statement}

@@ -6,7 +6,7 @@ use native.Mathlib.Nat.{sub-zero}
 use Rattle.layout.specs.View.{viewOf}
 use Rattle.model.specs.Stored.{firstFrom}
 use Rattle.model.specs.Reading.{wasCurrent}
-use Rattle.model.specs.Asked.{shapeIn}
+use Rattle.model.specs.Preconditions.{shapeIn}
 use borrow.Author.Needs.{needs}
 use Rattle.reading.proofs.ScanPages.{old-found, old-on, old-none}
 use Rattle.reading.proofs.pages.old_page.Statement.{statement}

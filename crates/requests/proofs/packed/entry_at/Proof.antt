@@ -4,7 +4,7 @@ use native.Mathlib.Omega.{arith}
 use borrow.Author.Needs.{needs}
 use Rattle.words.specs.Words.{words}
 use Rattle.words.proofs.Words.{length-words}
-use Rattle.requests.proofs.Places.{entries-at}
+use Rattle.requests.proofs.Entries.{entries-at}
 use Rattle.requests.proofs.packed.entry_at.Statement.{statement}
 use Rattle.requests.proofs.packed.entry_at.Tie as tie
 

@@ -3,7 +3,7 @@ use native.Mathlib.Omega.{arith}
 use borrow.Author.Needs.{needs}
 use Rattle.words.specs.Words.{words}
 use Rattle.words.proofs.Words.{length-words}
-use Rattle.requests.proofs.Places.{entries-freed}
+use Rattle.requests.proofs.Entries.{entries-freed}
 use Rattle.requests.proofs.packed.free_all.Statement.{statement}
 use Rattle.requests.proofs.packed.free_all.Tie as tie
 

@@ -6,7 +6,7 @@ use lib.Seq.{set-out}
 use Rattle.words.specs.Words.{words}
 use Rattle.words.proofs.Words.{length-words}
 use Rattle.requests.specs.Packed.{entriesOf}
-use Rattle.requests.proofs.Places.{entries-put, length-entries}
+use Rattle.requests.proofs.Entries.{entries-put, length-entries}
 use Rattle.requests.proofs.packed.put_entry.Statement.{statement}
 use Rattle.requests.proofs.packed.put_entry.Tie as tie
 

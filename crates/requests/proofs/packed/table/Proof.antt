@@ -8,7 +8,7 @@ use Rattle.words.specs.Words.{words}
 use Rattle.words.proofs.Words.{length-words}
 use Rattle.scans.proofs.Table.{Entered, none-entered, open-entered, free-entered, all-entered}
 use Rattle.requests.specs.Packed.{entriesOf}
-use Rattle.requests.proofs.Places.{length-entries}
+use Rattle.requests.proofs.Entries.{length-entries}
 use Rattle.requests.proofs.packed.table.Statement.{statement}
 use Rattle.requests.proofs.packed.table.Tie as tie
 

@@ -6,8 +6,8 @@ use Rattle.commands.specs.declared.Request.{Request}
 use Rattle.commands.specs.Commands.{callOf}
 
 -- The call of a request, with all the values of its array. Those at and past the columns are looked at by nothing.
-abbrev pub asked : Request → Call
-asked r = callOf (r .kind) (r .operands) (r .values)
+abbrev pub requested : Request → Call
+requested r = callOf (r .kind) (r .operands) (r .values)
 
 -- the mask of every column that a store can have
 abbrev pub mostMask : ℕ

@@ -8,9 +8,9 @@ use lib.Seq.{ext-getD}
 use Rattle.terms.specs.declared.ScanEntry.{ScanEntry}
 use Rattle.loops.specs.Change.{filled}
 use Rattle.loops.proofs.Change.{changed-length, changed-at}
-use Rattle.terms.specs.Places.{freeEntry}
+use Rattle.terms.specs.Entries.{freeEntry}
 use Rattle.requests.specs.Packed.{entryWords, entriesOf}
-use Rattle.scans.specs.Places.{allFreed}
+use Rattle.scans.specs.Entries.{allFreed}
 
 abbrev pub threeWords : ℕ → ℕ → ℕ → ScanEntry
 threeWords a b c = record { number = a; stamp = b; merges = c }

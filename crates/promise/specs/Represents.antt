@@ -1,4 +1,4 @@
--- The one relation between lent bytes and the plain history. Nobody must believe it: the proof of demand 3 goes by it (proofs/Same.antt).
+-- The one relation between lent bytes and the plain history. Nobody must believe it: the proof of demand 3 goes by it (proofs/Represents.antt).
 use mathlib.Core.Path.{_≡_}
 use mathlib.Core.Bool.{true}
 use mathlib.Core.List.{List}
@@ -9,11 +9,11 @@ use Rattle.terms.specs.declared.ScanEntry.{ScanEntry}
 use Rattle.layout.specs.Sizes.{sizesOf, bytesNeeded}
 use Rattle.layout.specs.View.{viewOf}
 use Rattle.history.specs.History.{History}
-use Rattle.model.specs.Represents.{Represents, Known}
+use Rattle.model.specs.Represents.{Represents, WellFormed}
 
 -- The memory's view by the shape, and the scan list, represent the history, and there are the bytes for it. That the memory says this shape, and that it is usable, follows.
-pub record Same (m : List ℕ) (ps : List ScanEntry) (S : Shape) (h : History) : Type 0 where
+pub record MemoryRepresents (m : List ℕ) (ps : List ScanEntry) (S : Shape) (h : History) : Type 0 where
   pub within : withinLimits S ≡ true
   pub room : bytesNeeded S ≤ length m
-  pub known : Known S h
+  pub well-formed : WellFormed S h
   pub shown : Represents S (viewOf (sizesOf S) m) ps h

@@ -10,7 +10,7 @@ use lib.Seq.{take-all}
 use borrow.Author.Tests.{lt-ltb}
 use Rattle.loops.specs.declared.Found.the-variants.{At, Nothing}
 use Rattle.loops.specs.Search.{region, firstAt, foundAt}
-use Rattle.terms.specs.Places.{firstIndex}
+use Rattle.terms.specs.Entries.{firstIndex}
 
 -- counted from k
 first-index : (key k : ℕ) (l : List ℕ) → firstAt key k l ≡ cond (ltb (firstIndex (λ x. eqb x key) l) (length l)) (At (k + firstIndex (λ x. eqb x key) l)) Nothing

@@ -5,7 +5,7 @@ use mathlib.Core.List.{List, [], _∷_}
 use lib.Dec.{eqb}
 use lib.ListN.{length, replicate}
 use Rattle.terms.specs.declared.ScanEntry.{ScanEntry}
-use Rattle.terms.specs.Places.{freeEntry, firstIndex}
+use Rattle.terms.specs.Entries.{freeEntry, firstIndex}
 
 abbrev pub isOpen : ScanEntry → Bool
 isOpen p = not (eqb (p .number) 0)
@@ -13,7 +13,7 @@ isOpen p = not (eqb (p .number) 0)
 abbrev pub firstFree : List ScanEntry → ℕ
 firstFree ps = firstIndex (λ p. eqb (p .number) 0) ps
 
--- the open scans, in the order of the list, and their places, the first of the list being number k
+-- the open scans, in the order of the list, and their indices, that of the list's first being k
 abbrev pub opened : List ScanEntry → List ScanEntry
 opened [] = []
 opened (p ∷ ps) = cond (isOpen p) (p ∷ opened ps) (opened ps)

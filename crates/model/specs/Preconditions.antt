@@ -8,7 +8,7 @@ use Rattle.layout.specs.declared.Sizes.{Sizes}
 use Rattle.layout.specs.declared.Region.{Region}
 use Rattle.layout.specs.View.{View, rowsGiven, usedIn}
 use Rattle.history.specs.History.{rangeOf}
-use Rattle.terms.specs.Places.{firstIndex}
+use Rattle.terms.specs.Entries.{firstIndex}
 use Rattle.model.specs.Stored.{openIndex, pageIn, chunksOf, pagesOf}
 use Rattle.layout.specs.Codes.{asCurrent}
 use Rattle.layout.specs.Regions.{slot}
@@ -35,7 +35,7 @@ abbrev pub Pooled : Sizes → View → Type 0
 Pooled s v = (i : ℕ) → i < s .chunks → getD (v Region.Current) i 0 < s .pages
 
 -- Each chunk names a page of the pool that is current and of that chunk: so no two chunks name one page.
-pub record Placed (S : Shape) (v : View) : Type 0 where
+pub record ChunksCurrent (S : Shape) (v : View) : Type 0 where
   pub inside : (i : ℕ) → i < chunksOf S → getD (v Region.Current) i 0 < pagesOf S
   pub state : (i : ℕ) → i < chunksOf S → (pageIn v (getD (v Region.Current) i 0)) .state ≡ asCurrent
   pub chunk : (i : ℕ) → i < chunksOf S → (pageIn v (getD (v Region.Current) i 0)) .chunk ≡ i

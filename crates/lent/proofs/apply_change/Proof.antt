@@ -1,4 +1,4 @@
--- `lent::keep` meets its contract: a chain of rules. The list is lent twice: to ask its length, and to store the entry.
+-- `lent::apply_change` meets its contract: a chain of rules. The list is lent twice: to ask its length, and to store the entry.
 -- Assumes nothing.
 use mathlib.Core.Path.{sym, ap, _∙_}
 use Prim.Native.Nat.{_≤_}
@@ -28,9 +28,9 @@ use Rattle.lent.proofs.answer_of.Symbol as answer-of
 use Rattle.lent.proofs.answer_of.Met as answer-of-thm
 use Rattle.lent.proofs.answer_of.Kinds as answer-of-kinds
 use Rattle.lent.proofs.answer_of.Reads as answer-of-reads
-use Rattle.lent.proofs.keep.Key as key
-use Rattle.lent.proofs.keep.Statement.{statement}
-use Rattle.lent.proofs.keep.Code as code
+use Rattle.lent.proofs.apply_change.Key as key
+use Rattle.lent.proofs.apply_change.Statement.{statement}
+use Rattle.lent.proofs.apply_change.Code as code
 
 abbrev ps : List (PK 1)
 ps = pMutS entry 0 tt ∷ arg d ∷ []
@@ -108,9 +108,9 @@ module _ (κs : Lfts 1) (qs : Shares 1) {M : Type 1} (𝓤 : URA M) (H : Heap �
         ))));
       }
 
-pub keep-spec : {M : Type 1} → statement M
+pub apply-change-spec : {M : Type 1} → statement M
 unfolding code.routine tablesOf
-keep-spec 𝓤 H 𝓜 𝓖 𝓡 =
+apply-change-spec 𝓤 H 𝓜 𝓖 𝓡 =
     let w : World = written.world 𝓤 H 𝓜 𝓖 𝓡 in
     written.closes 1 ps (res answer) Q xs 2 (code.function .body) w code.env key.name (code.unfolded 𝓤 H 𝓜 𝓡)
     (λ κs qs. derived κs qs 𝓤 H (𝓖 .A) (written.assumed w) (written.routines w code.env)

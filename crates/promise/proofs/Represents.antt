@@ -1,4 +1,4 @@
--- Every call keeps a lent memory and scan list representing a history of a shape (specs/Same), and answers as the history does.
+-- Every call keeps a lent memory and scan list representing a history of a shape (specs/MemoryRepresents), and answers as the history does.
 use Prim.Native.Nat.{ℕ, _+_, _*_, _≤_, _<_}
 use mathlib.Core.Path.{_≡_, refl, ap, sym, _∙_, fun-ext}
 use mathlib.Core.Bool.{true, cond}
@@ -23,15 +23,15 @@ use Rattle.layout.proofs.View.{view-at}
 use Rattle.layout.proofs.Lay.{view-lay}
 use Rattle.history.specs.History.{Call, History, start, answer, answers, next}
 use Rattle.history.specs.Lists.{All, nil, cons}
-use Rattle.history.proofs.Past.{past-start}
+use Rattle.history.proofs.Invariants.{invariants-start}
 use Rattle.facts.specs.Usable.{measuresBytes, storedShape, storedSizes, usable}
 use Rattle.making.specs.Made.{madeList}
 use Rattle.model.specs.Writing.{made as madeView}
 use Rattle.model.specs.Calls.{Typed, say, viewNext, entriesNext}
-use Rattle.model.specs.Represents.{Represents, Known}
+use Rattle.model.specs.Represents.{Represents, WellFormed}
 use Rattle.model.proofs.Calls.{one-call}
 use Rattle.model.proofs.Made.{small-shape, made-represents}
-use Rattle.promise.specs.Same.{Same}
+use Rattle.promise.specs.Represents.{MemoryRepresents}
 use Rattle.promise.specs.Promise.{storeView, answerOf, memoryAfter, listAfter, answersOf, lend}
 use Rattle.promise.proofs.Stored.{represented-facts}
 
@@ -44,27 +44,27 @@ lay-length s v m long room =
     ∙ omega (arith, length-bytes (join (map v all)), length-drop (endFrom 0 (lens s) * 4) m)
 
 -- a view that represents a history, laid over a memory, is that memory's view
-pub laid : (S : Shape) (v : View) (m : List ℕ) (ps : List ScanEntry) (h : History) → withinLimits S ≡ true → bytesNeeded S ≤ length m → Known S h → Represents S v ps h
-    → Same (lay (sizesOf S) v m) ps S h
+pub laid : (S : Shape) (v : View) (m : List ℕ) (ps : List ScanEntry) (h : History) → withinLimits S ≡ true → bytesNeeded S ≤ length m → WellFormed S h → Represents S v ps h
+    → MemoryRepresents (lay (sizesOf S) v m) ps S h
 unfolding bytesNeeded
 laid S v m ps h w b k o =
     record {
       within = w;
       room = rw (lay-length (sizesOf S) v m (o .whole .long) b) b;
-      known = k;
+      well-formed = k;
       shown = rw (view-lay (sizesOf S) v m (o .whole .long) (o .whole .fits)) o;
     }
 
 -- ---- making
 pub made-starts : (S : Shape) (m : List ℕ) (ps : List ScanEntry) → withinLimits S ≡ true → bytesNeeded S ≤ length m → mostScans ≤ length ps
-    → Same (lay (sizesOf S) (madeView S) m) (madeList ps) S start
+    → MemoryRepresents (lay (sizesOf S) (madeView S) m) (madeList ps) S start
 made-starts S m ps w b n =
     let small = small-shape S (rw w tt) in
-    laid S (madeView S) m (madeList ps) start w b record { small = small; past = past-start S }
+    laid S (madeView S) m (madeList ps) start w b record { small = small; invariants = invariants-start S }
     (made-represents S small (length ps) n)
 
 -- ---- a memory that represents a history
-module _ {m : List ℕ} {ps : List ScanEntry} {S : Shape} {h : History} (o : Same m ps S h) where
+module _ {m : List ℕ} {ps : List ScanEntry} {S : Shape} {h : History} (o : MemoryRepresents m ps S h) where
   header-at : (i : ℕ) → i < headerWords → getD (words m) i 0 ≡ getD (viewOf (sizesOf S) m Header) i 0
   unfolding base
   header-at i b = sym (rw (zero-add i) at (view-at (sizesOf S) (words m) Header i b))
@@ -79,9 +79,9 @@ module _ {m : List ℕ} {ps : List ScanEntry} {S : Shape} {h : History} (o : Sam
   unfolding bytesNeeded need
   measures-there = omega (arith, o .room)
 
-  pub same-usable : usable m ps ≡ true
+  pub represents-usable : usable m ps ≡ true
   unfolding usable storedSizes bytesNeeded
-  same-usable =
+  represents-usable =
       rw (
         shape-said,
         o .within,
@@ -89,7 +89,7 @@ module _ {m : List ℕ} {ps : List ScanEntry} {S : Shape} {h : History} (o : Sam
         le-leb (need (sizesOf S) * 4) (length m) (o .room),
         le-leb mostScans (length ps) (o .shown .scans .room),
       )
-      (represented-facts (o .shown) (o .known) (o .within))
+      (represented-facts (o .shown) (o .well-formed) (o .within))
 
   abbrev seen : View
   seen = viewOf (sizesOf S) m
@@ -100,7 +100,7 @@ module _ {m : List ℕ} {ps : List ScanEntry} {S : Shape} {h : History} (o : Sam
 
   -- what is promised of a usable memory, by the shape that it says and its view
   by-usable : {A : Type 0} (f : Shape → View → A) (z : A) → cond (usable m ps) (f (storedShape (words m)) (storeView m)) z ≡ f S seen
-  by-usable f z = rw (same-usable, shape-said, view-is)
+  by-usable f z = rw (represents-usable, shape-said, view-is)
 
   pub answer-is : (c : Call) → answerOf (lend m ps) c ≡ say S seen ps c
   unfolding answerOf
@@ -115,15 +115,15 @@ module _ {m : List ℕ} {ps : List ScanEntry} {S : Shape} {h : History} (o : Sam
   list-is c = by-usable (λ p v. entriesNext p v ps c) _
 
   -- one call: it answers as the history does, and what it leaves represents the history after it
-  pub same-call : (c : Call) → Typed c → (answerOf (lend m ps) c ≡ answer S h c) × Same (memoryAfter (lend m ps) c) (listAfter (lend m ps) c) S (next S h c)
-  same-call c y =
-      let one = one-call S seen ps h c y (o .shown) (o .known) in (
+  pub represents-call : (c : Call) → Typed c → (answerOf (lend m ps) c ≡ answer S h c) × MemoryRepresents (memoryAfter (lend m ps) c) (listAfter (lend m ps) c) S (next S h c)
+  represents-call c y =
+      let one = one-call S seen ps h c y (o .shown) (o .well-formed) in (
         answer-is c ∙ one .answered,
-        rw (memory-is c, list-is c) (laid S (viewNext S seen ps c) m (entriesNext S seen ps c) (next S h c) (o .within) (o .room) (one .known) (one .shown)),
+        rw (memory-is c, list-is c) (laid S (viewNext S seen ps c) m (entriesNext S seen ps c) (next S h c) (o .within) (o .room) (one .well-formed) (one .shown)),
       )
 
 -- every list of calls
-pub same-answers : {m : List ℕ} {ps : List ScanEntry} {S : Shape} {h : History} → Same m ps S h → {cs : List Call} → All Typed cs → answersOf (lend m ps) cs ≡ answers S h cs
+pub represents-answers : {m : List ℕ} {ps : List ScanEntry} {S : Shape} {h : History} → MemoryRepresents m ps S h → {cs : List Call} → All Typed cs → answersOf (lend m ps) cs ≡ answers S h cs
 unfolding answersOf answers
-same-answers o nil = refl
-same-answers o (cons {x = c} y ys) = let one = same-call o c y in rw (one .0, same-answers (one .1) ys)
+represents-answers o nil = refl
+represents-answers o (cons {x = c} y ys) = let one = represents-call o c y in rw (one .0, represents-answers (one .1) ys)

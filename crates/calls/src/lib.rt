@@ -46,6 +46,7 @@ pub fn pad_values(values: &[i32]) -> [i32; MOST_COLUMNS]
     taken
 }
 
+// An insert and an update over the table, with the lent values as an array. Functions of their own, so that the calls below are the same three steps as all others.
 fn insert_values(mem: &mut [u8], t: Scans, transaction: Transaction, values: &[i32]) -> Answer
     ensures { λ r. ⌜ ServesBy t (now (mem .entry)) (Call.insert (transaction .0) (padded (now (values .entry)))) r (now (mem .exit)) kept ⌝ }
 {

@@ -28,7 +28,7 @@ use Rattle.rows.proofs.Indices.{row-in}
 use Rattle.entry.specs.declared.Entry.{Entry}
 use Rattle.entry.specs.declared.Tested.{Tested}
 use Rattle.entry.specs.Entered.{Fitted, Enters}
-use Rattle.entry.specs.Tested.{Says, Finds, Holds}
+use Rattle.entry.specs.Tested.{Says, Finds, Tells}
 use Rattle.entry.proofs.Served.{entered, part-seen, found, told}
 use Rattle.changes.specs.Steps.{appendTests}
 
@@ -51,7 +51,7 @@ module _ (d : Tested) (s : Sizes) (v : View) (t r n k : ℕ) (e : n ≡ k) where
   pub wanted-says : Says d (verdict (appendTests (shapeIn s) v t r n)) → Says d (verdict (appendTests (shapeIn s) v t r k))
   wanted-says h = rw e at h
 
-  pub wanted-left : Holds d (Room s v r n) → Holds d (Room s v r k)
+  pub wanted-left : Tells d (Room s v r n) → Tells d (Room s v r k)
   wanted-left h = rw e at h
 
 -- ---- a row that is given is there, and its range is one of the store's
@@ -133,16 +133,16 @@ module _ (e : Entry) (s : Sizes) (n : ℕ) (m : List ℕ) (t : Scans) (a : e ≡
   pub open-told : (k : ℕ) → Finds d (OpenAt (viewOf s m) k) → OpenAt (viewOf s (take n m)) k j
   open-told k h = rw seen (found d _ j p h)
 
-  pub number-told : Holds d (transactionsGiven (viewOf s m) < mostNumbers) → transactionsGiven (viewOf s (take n m)) < mostNumbers
+  pub number-told : Tells d (transactionsGiven (viewOf s m) < mostNumbers) → transactionsGiven (viewOf s (take n m)) < mostNumbers
   number-told h = rw seen (told d _ j p h)
 
-  pub row-told : Holds d (rowsGiven (viewOf s m) < s .rows) → rowsGiven (viewOf s (take n m)) < s .rows
+  pub row-told : Tells d (rowsGiven (viewOf s m) < s .rows) → rowsGiven (viewOf s (take n m)) < s .rows
   row-told h = rw seen (told d _ j p h)
 
-  pub room-told : (r k : ℕ) → Holds d (Room s (viewOf s m) r k) → Room s (viewOf s (take n m)) r k
+  pub room-told : (r k : ℕ) → Tells d (Room s (viewOf s m) r k) → Room s (viewOf s (take n m)) r k
   room-told r k h = rw seen (told d _ j p h)
 
-  pub wanted-told : (r k : ℕ) → Holds d (Room s (viewOf s m) r (recordsWanted (viewOf s m) r k))
+  pub wanted-told : (r k : ℕ) → Tells d (Room s (viewOf s m) r (recordsWanted (viewOf s m) r k))
       → Room s (viewOf s (take n m)) r (recordsWanted (viewOf s (take n m)) r k)
   wanted-told r k h = rw seen (told d _ j p h)
 

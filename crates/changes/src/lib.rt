@@ -38,17 +38,17 @@ ghost use Rattle.model.specs.Preconditions.{shapeIn, FreeAt, OpenAt};
 ghost use Rattle.writing.specs.Steps.{Room};
 ghost use Rattle.promise.specs.Promise.{ServesBy, kept};
 ghost use Rattle.entry.specs.Entered.{Fitted};
-ghost use Rattle.entry.specs.Tested.{Says, Finds, Holds, Tests};
+ghost use Rattle.entry.specs.Tested.{Says, Finds, Tells, Tests};
 ghost use Rattle.changes.specs.Steps.{appendTests};
 
 // ---- begin
 
-// The tests of begin; where they are passed, the first free entry of the open transactions.
+// The tests of begin; where they are passed, the index of the first free open entry.
 fn begin_tests(mem: &[u8], s: Sizes) -> Tested
     requires { ⌜ Fitted s (now mem) ⌝ }
     ensures { λ r. ⌜ Tests s (now (mem .entry)) Call.begin r ⌝ }
     ensures { λ r. ⌜ Finds r (FreeAt (viewOf s (now (mem .entry)))) ⌝ }
-    ensures { λ r. ⌜ Holds r (transactionsGiven (viewOf s (now (mem .entry))) < mostNumbers) ⌝ }
+    ensures { λ r. ⌜ Tells r (transactionsGiven (viewOf s (now (mem .entry))) < mostNumbers) ⌝ }
 {
     if read(mem, s, Region::Header, HEADER_TRANSACTIONS) >= MOST_NUMBERS {
         return Tested::Failed(Refusal::Number);
@@ -74,11 +74,12 @@ pub fn begin(mem: &mut [u8], scans: Scans) -> Answer
 
 // ---- insert
 
+// The tests of insert; where they are passed, the transaction's index.
 fn insert_tests(mem: &[u8], s: Sizes, t: Transaction) -> Tested
     requires { ⌜ Fitted s (now mem) ⌝ }
     ensures { λ r. ⌜ ((vs : List ℤ) → Tests s (now (mem .entry)) (Call.insert (t .0) vs) r) ⌝ }
     ensures { λ r. ⌜ Finds r (OpenAt (viewOf s (now (mem .entry))) (t .0)) ⌝ }
-    ensures { λ r. ⌜ Holds r (rowsGiven (viewOf s (now (mem .entry))) < s .rows) ⌝ }
+    ensures { λ r. ⌜ Tells r (rowsGiven (viewOf s (now (mem .entry))) < s .rows) ⌝ }
 {
     let Found::At(at) = open_index(mem, s, t) else {
         return Tested::Failed(Refusal::Transaction);
@@ -125,7 +126,7 @@ fn append_tests(
     requires { ⌜ OpenAt (viewOf s (now mem)) (t .0) at × (row .0 < rowsGiven (viewOf s (now mem))) × (g ≡ rangeOf (row .0)) ⌝ }
     ensures { λ r. ⌜ Says r (verdict (appendTests (shapeIn s) (viewOf s (now (mem .entry))) (t .0) (row .0) n)) ⌝ }
     ensures { λ r. ⌜ Finds r (OpenAt (viewOf s (now (mem .entry))) (t .0)) ⌝ }
-    ensures { λ r. ⌜ Holds r (Room s (viewOf s (now (mem .entry))) (row .0) n) ⌝ }
+    ensures { λ r. ⌜ Tells r (Room s (viewOf s (now (mem .entry))) (row .0) n) ⌝ }
 {
     if held(mem, s, t, row) {
         return Tested::Failed(Refusal::Held);
@@ -139,11 +140,12 @@ fn append_tests(
     Tested::Passed(at)
 }
 
+// The tests of update; where they are passed, the transaction's index.
 fn update_tests(mem: &[u8], s: Sizes, t: Transaction, row: Row, mask: u32) -> Tested
     requires { ⌜ Fitted s (now mem) ⌝ }
     ensures { λ r. ⌜ ((vs : List ℤ) → Tests s (now (mem .entry)) (Call.update (t .0) (row .0) mask vs) r) ⌝ }
     ensures { λ r. ⌜ Finds r (OpenAt (viewOf s (now (mem .entry))) (t .0)) ⌝ }
-    ensures { λ r. ⌜ Holds r (Room s (viewOf s (now (mem .entry))) (row .0) (recordsWanted (viewOf s (now (mem .entry))) (row .0) mask)) ⌝ }
+    ensures { λ r. ⌜ Tells r (Room s (viewOf s (now (mem .entry))) (row .0) (recordsWanted (viewOf s (now (mem .entry))) (row .0) mask)) ⌝ }
 {
     let Found::At(at) = open_index(mem, s, t) else {
         return Tested::Failed(Refusal::Transaction);
@@ -180,11 +182,12 @@ pub fn update(
     }
 }
 
+// The tests of delete; where they are passed, the transaction's index.
 fn delete_tests(mem: &[u8], s: Sizes, t: Transaction, row: Row) -> Tested
     requires { ⌜ Fitted s (now mem) ⌝ }
     ensures { λ r. ⌜ Tests s (now (mem .entry)) (Call.delete (t .0) (row .0)) r ⌝ }
     ensures { λ r. ⌜ Finds r (OpenAt (viewOf s (now (mem .entry))) (t .0)) ⌝ }
-    ensures { λ r. ⌜ Holds r (Room s (viewOf s (now (mem .entry))) (row .0) 1) ⌝ }
+    ensures { λ r. ⌜ Tells r (Room s (viewOf s (now (mem .entry))) (row .0) 1) ⌝ }
 {
     let Found::At(at) = open_index(mem, s, t) else {
         return Tested::Failed(Refusal::Transaction);
@@ -212,6 +215,7 @@ pub fn delete(mem: &mut [u8], scans: Scans, transaction: Transaction, row: Row) 
 
 // ---- commit and abort
 
+// The tests of commit; where they are passed, the transaction's index.
 fn commit_tests(mem: &[u8], s: Sizes, t: Transaction, stamp: Stamp) -> Tested
     requires { ⌜ Fitted s (now mem) ⌝ }
     ensures { λ r. ⌜ Tests s (now (mem .entry)) (Call.commit (t .0) (stamp .0)) r ⌝ }
@@ -242,6 +246,7 @@ pub fn commit(mem: &mut [u8], scans: Scans, transaction: Transaction, stamp: Sta
     }
 }
 
+// The test of abort; where it is passed, the transaction's index.
 fn abort_tests(mem: &[u8], s: Sizes, t: Transaction) -> Tested
     requires { ⌜ Fitted s (now mem) ⌝ }
     ensures { λ r. ⌜ Tests s (now (mem .entry)) (Call.abort (t .0)) r ⌝ }

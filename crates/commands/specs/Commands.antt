@@ -19,7 +19,7 @@ use Rattle.commands.specs.declared.Form.{Form}
 use Rattle.commands.specs.declared.Chosen.{Chosen}
 
 -- ---- widths
--- The most operands of a command, and the most bytes of one.
+-- Room for the operands of a command, of which none has more than three so far, and the most bytes of one.
 abbrev pub mostOperands : ℕ
 mostOperands = 5
 

@@ -1,4 +1,4 @@
--- What the decoded numbers of the code stand for.
+-- The call that a decoded command stands for, and what holds of the array of its values.
 use Prim.Native.Nat.{ℕ, _≤_}
 use mathlib.Core.Path.{_≡_}
 use mathlib.Core.List.{List}

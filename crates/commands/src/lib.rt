@@ -42,7 +42,7 @@ pub enum Kind {
     Close,
 }
 
-// The most operands of a command, and the bytes of a value.
+// Room for the operands of a command, of which none has more than three so far; and the bytes of a value.
 pub const MOST_OPERANDS: usize = 5;
 
 const VALUE_BYTES: usize = 4;
@@ -143,7 +143,7 @@ pub fn width(form: Form, columns: usize) -> usize
     total(form) + VALUE_BYTES * count
 }
 
-// Apart from `number`, since a cast of a parameter has nothing to show.
+// A byte as a number. A function of its own, since a parameter's type says that the cast fits.
 fn wide(b: u8) -> u32
     ensures { λ r. ⌜ (r ≡ b) × (r < 256) ⌝ }
 {

@@ -1,4 +1,4 @@
-// The conditions of section 3 of docs/SPECIFICATION.md that look into open transactions, rows and tail records; and whose own changes a read
+// The conditions of section 3 of docs/SPECIFICATION.md of the mask, and those that look into open transactions, rows and tail records (3, 8, 9, 10, 12, 17); and whose own changes a read
 // adds. Each answers by the model's definition of the same meaning.
 use layout::Region;
 use layout::Sizes;

@@ -21,7 +21,7 @@ pub fn digit(d: u64) -> u8
     if d < 10 { 48 + d as u8 } else { 55 + d as u8 }
 }
 
-// The bytes of s from `at` on. It answers the place behind them, as each function below does that writes into the buffer.
+// The bytes of s from `at` on. It answers the index behind them, as each function below does that writes into the buffer.
 pub fn put(out: &mut [u8; LINE_BYTES], at: usize, s: &[u8]) -> usize
     requires { ⌜ at + length (now s) ≤ lineBytes ⌝ }
     ensures { λ r. ⌜ Written (now (out .entry)) (now (out .exit)) at (now (s .entry)) r ⌝ }

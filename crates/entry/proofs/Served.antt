@@ -30,7 +30,7 @@ use Rattle.entry.specs.declared.Entry.{Entry}
 use Rattle.entry.specs.declared.Tested.{Tested}
 use Rattle.entry.specs.Entered.{Fitted, PassedWith, Entered, Enters}
 use Rattle.entry.specs.Given.{ScanAt}
-use Rattle.entry.specs.Tested.{Finds, Holds, Tests, TestsBy}
+use Rattle.entry.specs.Tested.{Finds, Tells, Tests, TestsBy}
 
 -- what is known of the elements of a lent slice: each is a byte
 abbrev pub FitBytes : List ℕ → Type 0
@@ -69,8 +69,8 @@ pub found : (d : Tested) (P : ℕ → Type 0) (j : ℕ) → d ≡ Tested.Passed 
 unfolding Finds
 found d P j e h = rw e at h
 
-pub told : (d : Tested) (A : Type 0) (j : ℕ) → d ≡ Tested.Passed j → Holds d A → A
-unfolding Holds
+pub told : (d : Tested) (A : Type 0) (j : ℕ) → d ≡ Tested.Passed j → Tells d A → A
+unfolding Tells
 told d A j e h = rw e at h
 
 pub index-is : (d : Tested) (j k : ℕ) → d ≡ Tested.Passed j → Finds d (λ i. i ≡ k) → j ≡ k
@@ -79,7 +79,7 @@ index-is d j k = found d (λ i. i ≡ k) j
 pub index-below : (d : Tested) (j k : ℕ) → d ≡ Tested.Passed j → Finds d (λ i. i < k) → j < k
 index-below d j k = found d (λ i. i < k) j
 
-pub told-below : (d : Tested) (j a k : ℕ) → d ≡ Tested.Passed j → Holds d (a < k) → a < k
+pub told-below : (d : Tested) (j a k : ℕ) → d ≡ Tested.Passed j → Tells d (a < k) → a < k
 told-below d j a k = told d (a < k) j
 
 pub scan-below : (d : Tested) (t : Scans) (k j : ℕ) → d ≡ Tested.Passed j → Finds d (ScanAt t k) → j < mostScans

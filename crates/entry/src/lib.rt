@@ -1,5 +1,5 @@
-// What every call begins with: the test of the lent memory and of the scan list, and what the call's own tests find. The conditions here are those of
-// section 3 of docs/SPECIFICATION.md that look at the header and the measures alone. What follows for a whole call is in specs/ and proofs/.
+// What every call begins with: the test of the lent memory and of the scan list, and what the call's own tests find. The conditions here are
+// rules 3.5, 3.6, 3.7 and 3.13 of docs/SPECIFICATION.md, which several calls share. What follows for a whole call is in specs/ and proofs/.
 use layout::HEADER_ROWS;
 use layout::HEADER_STAMP;
 use layout::Region;
@@ -29,7 +29,7 @@ pub enum Entry {
     Unfit,
 }
 
-// What the tests of a call find: the index that it goes by (of a transaction, a free page, a range), or why the call is refused.
+// What the tests of a call find: the index that it goes by (of a transaction, a scan in the table, a free entry, a free page, a range), or why the call is refused.
 pub enum Tested {
     Passed(usize),
     Failed(Refusal),

@@ -1,5 +1,5 @@
 -- The stored facts: section 9 of docs/SPECIFICATION.md, one definition for each of its rules, in its order, over
--- the view of a memory and the list of open scans. A call answers 2 where one of them fails, and on nothing else: they speak of given rows, used tail
+-- the view of a memory and the list of open scans. A call answers 2 where one of them fails, and besides only for the lengths and measures of 8.8 (Usable): they speak of given rows, used tail
 -- records, current and waiting pages and open numbers alone, and what stands elsewhere may be anything.
 -- What a word counts as that no fact governs: the chunk of a waiting page is taken modulo columns × ranges (rule 8.4).
 use Prim.Native.Nat.{ℕ, zero, suc, _+_, _-_, _/_, _%_}
@@ -43,7 +43,6 @@ unfoldable pub waitingAtMost : View → Region → ℕ → ℕ → Bool
 waitingAtMost v k most p = ltb (getD (v PageState) p 0) asWaiting || leb (getD (v k) p 0) most
 
 -- ---- 9.1: counts within the measures; the measures are tested before (`usable`)
--- (the measures are tested before there is a view: Usable)
 unfoldable pub storedWithin : Sizes → View → Bool
 storedWithin s v =
     leb (rowsGiven v) (s .rows)

@@ -1,5 +1,5 @@
 // The code that tests the stored facts, part by part: here the counts, and the open transactions and scans; the rows and tail records in crate records, the
-// pages in crate pages. The facts themselves are specs/Facts.antt. Each test carries its flags to the end, with no way out early.
+// pages in crate pages. The facts themselves are specs/Facts.antt. The tests over words carry their flags to the end, so that they vectorise.
 use layout::HEADER_MERGES;
 use layout::HEADER_ROWS;
 use layout::HEADER_SCANS;

@@ -25,7 +25,7 @@ pub enum Region {
     Header,
     // the numbers of the open transactions, 0 at a free entry
     Opens,
-    // a word for each row: its inserter, that transaction's state and stamp, its last tail record, the columns that have been set
+    // a word for each row: its inserter, that transaction's state and stamp, its newest tail record, the columns that have been set
     RowTransaction,
     RowState,
     RowStamp,
@@ -139,7 +139,7 @@ pub fn sizes_of(columns: u32, ranges: u32, capacity: u32, spares: u32) -> Sizes
     }
 }
 
-// The word at which a region starts. Its contract has the sums in the open, since each arm is one; `base` says it for callers.
+// The word at which a region starts. Its contract is written with the sums, since each arm is one; `base` says it for callers.
 fn start(s: Sizes, k: Region) -> usize
     requires { ⌜ endFrom 0 (lens s) < 2 ^ 62 ⌝ }
     ensures { λ r. ⌜ r ≡ startFrom 0 (lens s) (index k) ⌝ }

@@ -2,8 +2,8 @@
 // `entry_at`, `put_entry`. The others hand the list on to those: `table` finds the open scans, `apply_change` adds or drops one, `free_all` and `free_made` drop all.
 use model::free_entry;
 use scans::Scans;
+use scans::add_open;
 use scans::blank;
-use scans::enter;
 use scans::is_open;
 use scans::set_length;
 use terms::Answer;
@@ -48,13 +48,14 @@ pub fn table(list: &[ScanEntry]) -> Scans
     while i < n {
         let p = entry_at(list, i);
         if is_open(p) {
-            t = enter(t, i, p);
+            t = add_open(t, i, p);
         }
         i += 1;
     }
     set_length(t, n)
 }
 
+// The parts of a change, each by a function: the walk by hand of `apply_change` then has no struct to take apart.
 fn index_of(change: ListChange) -> usize
     ensures { λ r. ⌜ r ≡ change .index ⌝ }
 {

@@ -7,7 +7,7 @@ use lib.Seq.{sets}
 use Rattle.decimal.specs.Decimal.{text}
 use Rattle.decimal.specs.Written.{lineBytes, naturalField, integerField}
 
--- the most bytes of what a line says of an answer: none says more than a sum, a word, a count and a sum
+-- the most bytes of what a line says of an answer: none says more than a sum does: a word, a count and a sum
 abbrev pub outcomeBytes : ℕ
 outcomeBytes = length (text " ok") + naturalField + integerField
 

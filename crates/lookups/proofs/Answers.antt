@@ -28,7 +28,7 @@ use Rattle.rows.proofs.Indices.{row-in}
 use Rattle.entry.specs.declared.Tested.{Tested}
 use Rattle.entry.specs.Entered.{Fitted}
 use Rattle.entry.specs.Given.{rangeGiven, ScanAt}
-use Rattle.entry.specs.Tested.{Says, Finds, Holds, Tests}
+use Rattle.entry.specs.Tested.{Says, Finds, Tells, Tests}
 use Rattle.entry.proofs.Served.{found, told}
 use Rattle.entry.proofs.Decided.{row-below, column-below}
 use Rattle.entry.proofs.Scans.{in-table, scan-stamp, scan-merges, scan-number}
@@ -41,7 +41,7 @@ cell-there s m r c g f b w e q h k =
     record { given = l; range-below = row-in s (w .proper) (viewOf s m) (w .linked) r l .1; column-below = column-below s c b h k }
 
 -- ---- what the tests told, as the functions that read ask for it
-module _ (d : Tested) (j : ℕ) (s : Sizes) (v : View) (r c : ℕ) (p : d ≡ Tested.Passed j) (h : Holds d (CellThere s v r c)) where
+module _ (d : Tested) (j : ℕ) (s : Sizes) (v : View) (r c : ℕ) (p : d ≡ Tested.Passed j) (h : Tells d (CellThere s v r c)) where
   pub cell-handed-on : CellThere s v r c
   cell-handed-on = told d (CellThere s v r c) j p h
 

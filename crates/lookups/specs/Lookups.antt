@@ -25,6 +25,6 @@ pub record CellThere (s : Sizes) (v : View) (r c : ℕ) : Type 0 where
   pub range-below : rangeOf r < s .ranges
   pub column-below : c < s .columns
 
--- p is the index of scan k in every list that the table stands for and that a usable store may have, if entry j is that of scan k
+-- p is the entry of scan k in every list that the table stands for and that a usable store may have, if entry j is that of scan k
 unfoldable pub IsScan : Scans → ℕ → ℕ → ScanEntry → Type 0
 IsScan t k j p = findIn t k ≡ Found.At j → (ps : List ScanEntry) → t ≡ tableOf ps → openCount ps ≤ mostScans → p ≡ scanEntry ps k

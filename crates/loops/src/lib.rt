@@ -52,14 +52,14 @@ pub fn copy(mem: &mut [u8], from: usize, n: usize, to: usize)
     }
 }
 
-// Both of two flags, with no way out early.
+// Both of two flags. Both are computed before, with no way out early, so that a loop over it vectorises; `either` and `select` likewise.
 pub fn both(a: bool, b: bool) -> bool
     ensures { λ r. ⌜ r ≡ (a && b) ⌝ }
 {
     if a { b } else { false }
 }
 
-// One of two flags at least, with no way out early.
+// One of two flags at least.
 pub fn either(a: bool, b: bool) -> bool
     ensures { λ r. ⌜ r ≡ (a || b) ⌝ }
 {
@@ -118,7 +118,7 @@ fn above(a: u32, b: u32) -> bool
 }
 
 // A word with its highest bit turned.
-fn turn(w: u32) -> u32
+fn flip_sign(w: u32) -> u32
     ensures { λ r. ⌜ r ≡ turned w ⌝ }
 {
     std::num::wrapping_add_u32(w, 0x8000_0000)
@@ -144,8 +144,8 @@ pub fn all_between(mem: &[u8], at: usize, n: usize, low: u32, high: u32) -> bool
     if high < low {
         return n == 0;
     }
-    let first = turn(low);
-    let span = turn(high - low);
+    let first = flip_sign(low);
+    let span = flip_sign(high - low);
     let mut ok = true;
     let mut i = 0;
     while i < n {

@@ -1,12 +1,12 @@
 -- The answer of the call that makes a store, and the memory and scan list that it leaves: rules 2.7 and 10.1 of docs/SPECIFICATION.md. It looks at
--- no content. What the view of a store just made holds is the model's `made`. The lent scan list is made free entry by entry: `allFreed` of the scan list's
--- definitions is what it becomes.
+-- no content. What the view of a store just made holds is the model's `madeView`. Every entry of the lent scan list
+-- becomes free (`allFreed`).
 use Prim.Native.Nat.{ℕ}
 use mathlib.Core.Bool.{cond, _&&_}
 use mathlib.Core.List.{List}
 use lib.Dec.{leb}
 use lib.ListN.{length}
-use Rattle.model.specs.Writing.{made as madeView}
+use Rattle.model.specs.Writing.{madeView}
 use Rattle.layout.specs.Codes.{asCurrent}
 use Rattle.terms.specs.Measures.{Shape, withinLimits, mostScans}
 use Rattle.terms.specs.declared.Answer.{Answer}

@@ -21,7 +21,7 @@ ghost use mathlib.Core.Path.{_≡_};
 ghost use Prim.Native.Nat.{_*_, _≤_, _<_};
 ghost use lib.ListN.{length};
 ghost use Rattle.terms.specs.Measures.{mostPages};
-ghost use Rattle.model.specs.Writing.{made as madeView};
+ghost use Rattle.model.specs.Writing.{madeView};
 ghost use Rattle.layout.specs.Regions.{need, columnsAt, rangesAt, capacityAt, sparesAt};
 ghost use Rattle.layout.specs.declared.Region.the-variants.{Header};
 ghost use Rattle.layout.specs.Sizes.{shapeOf, sizesOf, tooManyWords};

@@ -21,7 +21,7 @@ use Rattle.layout.specs.Codes.{asFree}
 use Rattle.model.specs.Writing.{neededIn, releasable, releasedIn}
 use Rattle.scans.specs.declared.Scans.{Scans}
 use Rattle.scans.specs.Entries.{openCount, someOpen}
-use Rattle.scans.specs.Table.{tableOf, anyBelow}
+use Rattle.scans.specs.Table.{tableOf, someLess}
 use Rattle.scans.proofs.Answers.{table-before}
 use Rattle.layout.specs.Sizes.{Proper}
 use Rattle.model.specs.Preconditions.{shapeIn}
@@ -40,7 +40,7 @@ least-next l i r r′ e q = q ∙ rw (e, add-one)
 pub least-end : (l : List ℕ) (r i n : ℕ) → r ≡ leastOf l i → i ≤ n → n ≤ i → r ≡ leastOf l n
 least-end l r i n e h m = let q : i ≡ n = omega arith in e ∙ rw q
 
-below-append : (m x : ℕ) (l : List ℕ) → anyBelow m (l ++ (x ∷ [])) ≡ anyBelow m l || ltb x m
+below-append : (m x : ℕ) (l : List ℕ) → someLess m (l ++ (x ∷ [])) ≡ someLess m l || ltb x m
 below-append m x [] = go (ltb x m)
   where
     go : (b : Bool) → b || false ≡ b
@@ -48,13 +48,13 @@ below-append m x [] = go (ltb x m)
     go false = refl
 below-append m x (y ∷ l) = go (ltb y m) (below-append m x l)
   where
-    go : (b : Bool) → anyBelow m (l ++ (x ∷ [])) ≡ anyBelow m l || ltb x m
-        → b || anyBelow m (l ++ (x ∷ [])) ≡ (b || anyBelow m l) || ltb x m
+    go : (b : Bool) → someLess m (l ++ (x ∷ [])) ≡ someLess m l || ltb x m
+        → b || someLess m (l ++ (x ∷ [])) ≡ (b || someLess m l) || ltb x m
     go true e = refl
     go false e = e
 
 -- a number is below m exactly if the least is
-pub least-tells : (l : List ℕ) (n m : ℕ) → n ≤ length l → m < 2 ^ 32 → ltb (leastOf l n) m ≡ anyBelow m (take n l)
+pub least-tells : (l : List ℕ) (n m : ℕ) → n ≤ length l → m < 2 ^ 32 → ltb (leastOf l n) m ≡ someLess m (take n l)
 unfolding leastOf
 least-tells l zero m h k = le-ltb 4294967295 m (omega arith)
 least-tells l (suc n) m h k =

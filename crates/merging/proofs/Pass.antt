@@ -32,7 +32,7 @@ use Rattle.model.specs.Preconditions.{shapeIn}
 use Rattle.loops.specs.Search.{foundAt}
 use Rattle.loops.proofs.Indices.{find-index}
 use Rattle.layout.proofs.Renewed.{renew-none, renew-again, put-renew}
-use Rattle.merging.specs.Steps.{appliedOne, laterOne, appliedAll, pagePut, pageReplaced, Mergeable}
+use Rattle.merging.specs.Steps.{appliedOne, laterOne, appliedAll, pagePut, pageReplaced, MergeReady}
 
 -- ---- the pass looks at no cell
 applied-blind : (S : Shape) (v : View) (l : List ℕ) (g c p low n : ℕ) (cells : List ℕ)
@@ -237,7 +237,7 @@ merged-is S g c n p old low newest m latest v x y z w e f h k l q r t u s =
     rw (s, u, t ∙ merged-cells S g c old p low (n - low) v x q, r ∙ merged-newest S g c old p low (n - low) newest v x q, l, k, h, f, ← e)
 
 -- the current page is not the free one: its chunk names it
-pub not-free : (s : Sizes) (v : View) (g c n p old : ℕ) → Proper s → Mergeable s v g c n p → old ≡ getD (v Region.Current) (g * s .columns + c) 0
+pub not-free : (s : Sizes) (v : View) (g c n p old : ℕ) → Proper s → MergeReady s v g c n p → old ≡ getD (v Region.Current) (g * s .columns + c) 0
     → old ≡ p → ⊥
 unfolding namedIn
 not-free s v g c n p old w m e q =
@@ -250,7 +250,7 @@ not-free s v g c n p old w m e q =
     (subst (λ (x : ℕ). T (namedIn S v x)) (q ∙ m .free) (both (ltb ((pageIn v old) .chunk) (chunksOf S)) (eqb (getD (v Region.Current) ((pageIn v old) .chunk) 0) old) (lt→ltb ((pageIn v old) .chunk) (chunksOf S) (omega (arith, at))) (eqb-equal (getD (v Region.Current) ((pageIn v old) .chunk) 0) old (ap (λ (j : ℕ). getD (v Region.Current) j 0) at ∙ sym e))))
 
 -- and its lineage is at most n
-pub reaches : (s : Sizes) (v : View) (g c n p old low : ℕ) → Mergeable s v g c n p → old ≡ getD (v Region.Current) (g * s .columns + c) 0
+pub reaches : (s : Sizes) (v : View) (g c n p old low : ℕ) → MergeReady s v g c n p → old ≡ getD (v Region.Current) (g * s .columns + c) 0
     → low ≡ getD (v Region.PageLineage) old 0 → low ≤ n
 unfolding pageIn currentIn
 reaches s v g c n p old low m e q = rw (q, e) (m .from)

@@ -46,7 +46,7 @@ pageReplaced old p chunk m v =
     (put Region.Current chunk p (put Region.PageReplaced old m (put Region.PageState old asWaiting v)))
 
 -- What a merge of column c of range g through record n into page p asks of the memory: its tests have shown it, but for the last, which is a stored fact.
-pub record Mergeable (s : Sizes) (v : View) (g c n p : ℕ) : Type 0 where
+pub record MergeReady (s : Sizes) (v : View) (g c n p : ℕ) : Type 0 where
   pub range-below : g < s .ranges
   pub column-below : c < s .columns
   pub from : (pageIn v (currentIn (shapeIn s) v g c)) .lineage ≤ n

@@ -42,7 +42,7 @@ ghost use Rattle.scans.specs.Table.{tableOf};
 ghost use Rattle.layout.specs.Sizes.{Proper};
 ghost use Rattle.model.specs.Preconditions.{shapeIn, Pooled};
 ghost use Rattle.loops.specs.Search.{foundAt};
-ghost use Rattle.merging.specs.Steps.{appliedOne, laterOne, appliedAll, pagePut, pageReplaced, Mergeable, leastOf, freeable, freeablesFreed};
+ghost use Rattle.merging.specs.Steps.{appliedOne, laterOne, appliedAll, pagePut, pageReplaced, MergeReady, leastOf, freeable, freeablesFreed};
 
 // ---- merge
 
@@ -191,7 +191,7 @@ fn replace_page(mem: &mut [u8], s: Sizes, old: usize, page: u32, chunk: usize, m
 pub fn merge(mem: &mut [u8], s: Sizes, g: usize, c: usize, n: Tail, page: usize)
     requires { ⌜ Suffices s (now mem) ⌝ }
     requires { ⌜ Proper s × Pooled s (viewOf s (now mem)) ⌝ }
-    requires { ⌜ Mergeable s (viewOf s (now mem)) g c (n .0) page ⌝ }
+    requires { ⌜ MergeReady s (viewOf s (now mem)) g c (n .0) page ⌝ }
     ensures { λ _. ⌜ viewOf s (now (mem .exit)) ≡ mergedIn (shapeIn s) g c (n .0) (viewOf s (now (mem .entry))) ⌝ }
 {
     let chunk = g * s.columns + c;
@@ -209,16 +209,16 @@ pub fn merge(mem: &mut [u8], s: Sizes, g: usize, c: usize, n: Tail, page: usize)
 
 // ---- release
 
-// The least of the first n entries, or the highest word where there is none.
-fn least(entries: [u32; MOST_SCANS], n: usize) -> u32
+// The least of the first n counts of merges, or the highest word where there is none.
+fn least(counts: [u32; MOST_SCANS], n: usize) -> u32
     requires { ⌜ n ≤ mostScans ⌝ }
-    ensures { λ r. ⌜ r ≡ leastOf entries n ⌝ }
+    ensures { λ r. ⌜ r ≡ leastOf counts n ⌝ }
 {
     let mut r = 0xffff_ffff;
     let mut i = 0;
     while i < n {
-        let entry = entries[i];
-        r = select(entry < r, entry, r);
+        let count = counts[i];
+        r = select(count < r, count, r);
         i += 1;
     }
     r
@@ -266,8 +266,8 @@ pub fn release(mem: &mut [u8], s: Sizes, scans: Scans) -> u32
     requires { ⌜ Proper s × (scans .count ≤ mostScans) ⌝ }
     ensures { λ r. ⌜ ((ps : List ScanEntry) → scans ≡ tableOf ps → openCount ps ≤ mostScans → (r ≡ countBelow (releasable ps (viewOf s (now (mem .entry)))) (pagesOf (shapeIn s))) × (viewOf s (now (mem .exit)) ≡ releasedIn (shapeIn s) ps (viewOf s (now (mem .entry))))) ⌝ }
 {
-    let entries = scans.merges;
+    let counts = scans.merges;
     let n = scans.count;
-    let few = least(entries, n);
-    free_pages(mem, s, few)
+    let fewest = least(counts, n);
+    free_pages(mem, s, fewest)
 }

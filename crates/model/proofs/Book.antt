@@ -156,13 +156,13 @@ module _ {P A : Type 0} (K : Kind P A) (ts : List A) (l : List P) (o : Book K ts
   number-given j = by-cases (ℕ-discrete (numberAt j) 0) (λ z. omega arith) (λ n. live-given K.live ts (numberAt j) K.none K.none-live (number-live j n) .1)
 
   -- no other entry bears it
-  pub only-place : (j : ℕ) → numberAt j ≢ 0 → firstIndex (bearing (numberAt j)) l ≡ j
-  only-place j n =
+  pub only-entry : (j : ℕ) → numberAt j ≢ 0 → firstIndex (bearing (numberAt j)) l ≡ j
+  only-entry j n =
       only-index (bearing (numberAt j)) l j K.free (inside j n) (bears-own j n) (omega (arith, book-at (numberAt j) (λ p. true), one-few (K.live (entry (numberAt j)) && true)))
 
   pub numbers-apart : (i j : ℕ) → i < j → numberAt i ≡ numberAt j → numberAt i ≡ 0
-  numbers-apart i j b e = by-cases (ℕ-discrete (numberAt i) 0) (λ z. z) (λ n. absurd (omega (arith, only-place i n, rw (← e) at (only-place j (rw (← e) n)))))
+  numbers-apart i j b e = by-cases (ℕ-discrete (numberAt i) 0) (λ z. z) (λ n. absurd (omega (arith, only-entry i n, rw (← e) at (only-entry j (rw (← e) n)))))
 
   -- and it stands for what is live
-  pub place-stands : (j : ℕ) → numberAt j ≢ 0 → getD l j K.free ≡ K.as′ (numberAt j) (entry (numberAt j))
-  place-stands j n = rw (only-place j n) at (book-found (numberAt j) (number-live j n))
+  pub entry-stands : (j : ℕ) → numberAt j ≢ 0 → getD l j K.free ≡ K.as′ (numberAt j) (entry (numberAt j))
+  entry-stands j n = rw (only-entry j n) at (book-found (numberAt j) (number-live j n))

@@ -21,10 +21,10 @@ use Rattle.layout.specs.declared.Region.the-variants.{Cells}
 use Rattle.terms.specs.declared.ScanEntry.{ScanEntry}
 use Rattle.terms.specs.Entries.{freeEntry}
 use Rattle.model.specs.Stored.{pageIn, cellIn, currentIn, within}
-use Rattle.model.specs.Writing.{made}
+use Rattle.model.specs.Writing.{madeView}
 use Rattle.model.specs.Reading.{reader, scanPage, wasCurrent}
-use Rattle.model.specs.Calls.{testsIn, actIn, viewIf, Typed, viewNext, entriesNext, viewAfter, listAfter}
-use Rattle.model.specs.Claims.{storeAfter, historyAfter, Reads, PageHolds, PagesHold, PageKept, ScansKeep}
+use Rattle.model.specs.Calls.{testsIn, actIn, viewIf, Typed, viewNext, entriesNext, viewAfter, entriesAfterAll}
+use Rattle.model.specs.Claims.{storeAfter, historyAfter, ReadsGive, PageHolds, PagesHold, PageKept, ScansKeep}
 use Rattle.model.specs.Represents.{CurrentOf, Represents, WellFormed}
 use Rattle.model.proofs.Holding.{cell-absent}
 use Rattle.model.proofs.Heads.{sees-at}
@@ -35,22 +35,22 @@ use Rattle.model.proofs.Made.{small-shape, made-represents}
 
 -- ---- the relation after a list of calls
 pub represents-after : {S : Shape} {v : View} {ps : List ScanEntry} {h : History} → Represents S v ps h → WellFormed S h → {cs : List Call} → All Typed cs
-    → Represents S (viewAfter S v ps cs) (listAfter S v ps cs) (run S h cs) × WellFormed S (run S h cs)
-unfolding viewAfter listAfter run
+    → Represents S (viewAfter S v ps cs) (entriesAfterAll S v ps cs) (run S h cs) × WellFormed S (run S h cs)
+unfolding viewAfter entriesAfterAll run
 represents-after {S} {v} {ps} {h} o k nil = (o, k)
 represents-after {S} {v} {ps} {h} o k (cons {x = c} {l = cs} y ys) =
     let one = one-call S v ps h c y o k in
     represents-after (one .shown) (one .well-formed) ys
 
 pub represented : (S : Shape) → T (withinLimits S) → (n : ℕ) → mostScans ≤ n → {cs : List Call} → All Typed cs
-    → Represents S (storeAfter S n cs) (listAfter S (made S) (replicate n freeEntry) cs) (historyAfter S cs) × WellFormed S (historyAfter S cs)
+    → Represents S (storeAfter S n cs) (entriesAfterAll S (madeView S) (replicate n freeEntry) cs) (historyAfter S cs) × WellFormed S (historyAfter S cs)
 unfolding storeAfter historyAfter
 represented S t n enough ys =
     represents-after (made-represents S (small-shape S t) n enough) record { small = small-shape S t; invariants = invariants-start S } ys
 
 -- ---- reads
-pub reads : Reads
-unfolding Reads
+pub reads : ReadsGive
+unfolding ReadsGive
 reads S l n enough cs ys t r c b d =
     let q = represented S l n enough ys in
     current-read (q .0) (q .1) (reader t 0) r c (seenAt (historyAfter S cs) t) (sees-at (historyAfter S cs) t) b d

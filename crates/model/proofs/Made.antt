@@ -27,7 +27,7 @@ use Rattle.terms.specs.declared.ScanEntry.{ScanEntry}
 use Rattle.layout.specs.Sizes.{sizesOf}
 use Rattle.terms.specs.Entries.{freeEntry}
 use Rattle.model.specs.Stored.{pageIn, cellIn, currentIn, chunkOf, chunksOf, pagesOf, within, waitingPage, currentPage, countBelow}
-use Rattle.model.specs.Writing.{made}
+use Rattle.model.specs.Writing.{madeView}
 use Rattle.model.specs.Calls.{Typed, sayAll}
 use Rattle.layout.specs.Codes.{asCurrent}
 use Rattle.model.proofs.Lists.{below-none}
@@ -58,20 +58,20 @@ module _ (S : Shape) (small : Small S) where
   few-chunks = mul-le-mul (small .columns) (small .ranges)
 
   -- ---- the words of the pages
-  state-first : (p : ℕ) → p < chunksOf S → (pageIn (made S) p) .state ≡ asCurrent
-  unfolding made blank put renew pageIn
+  state-first : (p : ℕ) → p < chunksOf S → (pageIn (madeView S) p) .state ≡ asCurrent
+  unfolding madeView blank put renew pageIn
   state-first p b = changed-start (λ i x. asCurrent) (chunksOf S) (replicate (pagesOf S) 0) p (rw length-replicate (omega arith)) b
 
-  state-rest : (p : ℕ) → chunksOf S ≤ p → (pageIn (made S) p) .state ≡ 0
-  unfolding made blank put renew pageIn
+  state-rest : (p : ℕ) → chunksOf S ≤ p → (pageIn (madeView S) p) .state ≡ 0
+  unfolding madeView blank put renew pageIn
   state-rest p b = changed-outside (λ i x. asCurrent) 0 (replicate (pagesOf S) 0) (chunksOf S) p (inr (omega arith)) ∙ zeros (pagesOf S) p
 
-  page-made : (p : ℕ) → p < chunksOf S → pageIn (made S) p ≡ record { state = asCurrent; chunk = p; made = 0; replaced = 0; lineage = 0; newest = 0 }
-  unfolding made blank put renew pageIn
+  page-made : (p : ℕ) → p < chunksOf S → pageIn (madeView S) p ≡ record { state = asCurrent; chunk = p; made = 0; replaced = 0; lineage = 0; newest = 0 }
+  unfolding madeView blank put renew pageIn
   page-made p b = let room : chunksOf S ≤ length {A = ℕ} (replicate (pagesOf S) 0) = rw length-replicate (omega arith) in simp (changed-start, zeros)
 
-  current-made : (g c : ℕ) → g < S .ranges → c < S .columns → currentIn S (made S) g c ≡ chunkOf S g c
-  unfolding made blank put renew currentIn
+  current-made : (g c : ℕ) → g < S .ranges → c < S .columns → currentIn S (madeView S) g c ≡ chunkOf S g c
+  unfolding madeView blank put renew currentIn
   current-made g c a b = changed-start (λ i x. i) (chunksOf S) (replicate (chunksOf S) 0) (chunkOf S g c) (rw length-replicate (le-refl _)) (chunk-in S g c a b)
 
   holds-made : (g c : ℕ) (cell : ℕ → ℕ) → ((i : ℕ) → cell i ≡ 0) → (p : ℕ) → Holds start g c everyRow record { state = asCurrent; chunk = p; made = 0; replaced = 0; lineage = 0; newest = 0 } cell
@@ -84,11 +84,11 @@ module _ (S : Shape) (small : Small S) where
         cells = λ r e q. ap (toZ w32) (z (within r));
       }
 
-  cells-made : (p i : ℕ) → cellIn (made S) p i ≡ 0
-  unfolding made blank put renew cellIn
+  cells-made : (p i : ℕ) → cellIn (madeView S) p i ≡ 0
+  unfolding madeView blank put renew cellIn
   cells-made p i = zeros (pagesOf S * rangeRows) (p * rangeRows + i)
 
-  currents-made : CurrentsAre S start (made S)
+  currents-made : CurrentsAre S start (madeView S)
   currents-made g c a b =
       rw (current-made g c a b, page-made (chunkOf S g c) (chunk-in S g c a b))
       record {
@@ -97,19 +97,19 @@ module _ (S : Shape) (small : Small S) where
         chunk = refl;
         made = zero-le;
         lineage = unfold mergedThrough lastThrough start in refl;
-        holds = holds-made g c (cellIn (made S) (chunkOf S g c)) (cells-made (chunkOf S g c)) (chunkOf S g c);
+        holds = holds-made g c (cellIn (madeView S) (chunkOf S g c)) (cells-made (chunkOf S g c)) (chunkOf S g c);
       }
 
-  state-not-waiting : (p : ℕ) → waitingPage ((pageIn (made S) p) .state) ≡ false
+  state-not-waiting : (p : ℕ) → waitingPage ((pageIn (madeView S) p) .state) ≡ false
   state-not-waiting p = by-cases (decLt p (chunksOf S)) (λ b. ap waitingPage (state-first p b)) (λ b. ap waitingPage (state-rest p (omega arith)))
 
-  pool-made : PoolIs S [] (pageIn (made S))
+  pool-made : PoolIs S [] (pageIn (madeView S))
   pool-made =
       record {
         current =
-            below-first (λ p. currentPage ((pageIn (made S) p) .state)) (chunksOf S) (pagesOf S) (omega arith)
+            below-first (λ p. currentPage ((pageIn (madeView S) p) .state)) (chunksOf S) (pagesOf S) (omega arith)
             (λ p b. ap currentPage (state-first p b)) (λ p a b. ap currentPage (state-rest p a));
-        waiting = λ q. below-none (λ p. waitingPage ((pageIn (made S) p) .state) && q ((pageIn (made S) p) .replaced)) (pagesOf S) (λ p b. ap (λ (w : Bool). w && q ((pageIn (made S) p) .replaced)) (state-not-waiting p));
+        waiting = λ q. below-none (λ p. waitingPage ((pageIn (madeView S) p) .state) && q ((pageIn (madeView S) p) .replaced)) (pagesOf S) (λ p b. ap (λ (w : Bool). w && q ((pageIn (madeView S) p) .replaced)) (state-not-waiting p));
       }
 
   blank-whole : Whole S (blank (sizesOf S))
@@ -122,8 +122,8 @@ module _ (S : Shape) (small : Small S) where
   number-fit : (l : List ℕ) → Fit l → Fit (numbered 0 (chunksOf S) l)
   number-fit l f = changed-fit (λ i x. i) 0 (chunksOf S) l (λ i x a b. omega (arith, few-chunks)) f
 
-  made-whole : Whole S (made S)
-  unfolding made
+  made-whole : Whole S (madeView S)
+  unfolding madeView
   made-whole =
       put-whole Header 0 (S .columns) (omega (arith, small .columns))
       (put-whole Header 1 (S .ranges) (omega (arith, small .ranges))
@@ -134,14 +134,14 @@ module _ (S : Shape) (small : Small S) where
       (renew-whole PageState _ (changed-length (λ i x. asCurrent) 0 (blank (sizesOf S) PageState) (chunksOf S) ∙ blank-long PageState)
       (changed-fit (λ i x. asCurrent) 0 (chunksOf S) (blank (sizesOf S) PageState) (λ i x a b. omega arith) (blank-whole .fits PageState)) blank-whole))))))
 
-  pub made-represents : (n : ℕ) → mostScans ≤ n → Represents S (made S) (replicate n freeEntry) start
+  pub made-represents : (n : ℕ) → mostScans ≤ n → Represents S (madeView S) (replicate n freeEntry) start
   made-represents n enough =
       record {
-        header = unfold made blank put renew start in record { columns = refl; ranges = refl; capacity = refl; spares = refl; rows-given = refl; transactions-given = refl; scans-given = refl; last-stamp = refl; merges-made = refl };
-        opens = unfold made blank put renew start in (λ q. refl);
+        header = unfold madeView blank put renew start in record { columns = refl; ranges = refl; capacity = refl; spares = refl; rows-given = refl; transactions-given = refl; scans-given = refl; last-stamp = refl; merges-made = refl };
+        opens = unfold madeView blank put renew start in (λ q. refl);
         notes = λ j b f. absurd (f (no-open j));
         rows = λ r b. absurd (no-rows r b);
-        tails = λ g b. unfold made blank put renew start recordsOf in record { used-all = zeros (S .ranges) g; each = λ k u. absurd (not-suc-le-zero u); links = λ k u. absurd (not-suc-le-zero u) };
+        tails = λ g b. unfold madeView blank put renew start recordsOf in record { used-all = zeros (S .ranges) g; each = λ k u. absurd (not-suc-le-zero u); links = λ k u. absurd (not-suc-le-zero u) };
         currents = currents-made;
         waits = λ p b t. absurd (rw (state-not-waiting p) at t);
         pool = unfold start in pool-made;
@@ -150,8 +150,8 @@ module _ (S : Shape) (small : Small S) where
         whole = made-whole;
       }
     where
-      no-open : (j : ℕ) → getD (made S Opens) j 0 ≡ 0
-      no-open j = unfold made blank put renew in (zeros mostTransactions j)
+      no-open : (j : ℕ) → getD (madeView S Opens) j 0 ≡ 0
+      no-open j = unfold madeView blank put renew in (zeros mostTransactions j)
 
       no-rows : (r : ℕ) → r < length (start .rows) → ⊥
       no-rows r b = unfold start in (not-suc-le-zero b)
@@ -170,6 +170,6 @@ simulated-from {S} {v} {ps} {h} o k (cons {x = c} {l = cs} y ys) =
 
 -- The store, from a making with any scan list of at least 16 entries, answers every list of calls as the plain history does.
 pub simulated : (S : Shape) → T (withinLimits S) → (n : ℕ) → mostScans ≤ n → (cs : List Call) → All Typed cs
-    → sayAll S (made S) (replicate n freeEntry) cs ≡ answers S start cs
+    → sayAll S (madeView S) (replicate n freeEntry) cs ≡ answers S start cs
 simulated S t n enough cs ys =
     simulated-from (made-represents S (small-shape S t) n enough) record { small = small-shape S t; invariants = invariants-start S } ys

@@ -20,19 +20,17 @@ use Rattle.history.specs.Lists.{All, nil, cons}
 use Rattle.history.proofs.Lists.{by-cases, by-test, all-append, all-map, all-at}
 use Rattle.history.specs.Latest.{stampOf}
 use Rattle.history.specs.Invariants.{InOrder}
-use Rattle.history.specs.Steps.{Mergeable}
 use Rattle.history.proofs.States.{stamp-last}
 use Rattle.history.proofs.Ranges.{last-next, records-range}
 use Rattle.history.specs.Records.{noRecord}
 use Rattle.words.specs.Words.{Fit}
 use Rattle.loops.proofs.Change.{set-fit}
 use Rattle.layout.specs.View.{View}
-use Rattle.terms.specs.declared.ScanEntry.{ScanEntry}
 use Rattle.layout.specs.declared.Region.the-variants.{TailValues, TailStamp}
 use Rattle.model.specs.Stored.{recordIn, valueIn, within, committedState, settingKind}
 use Rattle.layout.specs.Regions.{slot}
 use Rattle.model.specs.Writing.{applies, applied, newestOf}
-use Rattle.model.specs.Represents.{stateWord, ContentIs, RecordIs, NotAfter, Represents}
+use Rattle.model.specs.Represents.{stateWord, ContentIs, RecordIs, NotAfter, TailOf}
 use Rattle.model.proofs.Read.{setting-value}
 use Rattle.model.proofs.Holding.{same-row}
 use Rattle.model.proofs.Heads.{slot-is}
@@ -48,7 +46,7 @@ setting-word C c (setting m vs) kind mask value b o = rw (o .0, o .1)
 setting-word C c ending kind mask value b o = rw o (and-false (bit mask c))
 
 -- ---- the forward pass
-module _ {S : Shape} {v : View} {ps : List ScanEntry} {h : History} (o : Represents S v ps h) {g c n : ℕ} (ok : Mergeable S h g c n) (p low : ℕ) where
+module _ (S : Shape) (v : View) (h : History) (g c p low : ℕ) (inside : c < S .columns) (o : TailOf S (stateOf h) (recordsOf h g) v g) where
   abbrev recs : List Record
   recs = recordsOf h g
 
@@ -64,7 +62,7 @@ module _ {S : Shape} {v : View} {ps : List ScanEntry} {h : History} (o : Represe
 
   record-at : (k : ℕ) → low + k < length recs
       → RecordIs (S .columns) (stateOf h) (rec k) (recordIn v (slot S g (suc (low + k)))) (valueIn S v (slot S g (suc (low + k))))
-  record-at k b = rw (slot-is S g (low + k)) (o .tails g (ok .range-in) .each (low + k) b)
+  record-at k b = rw (slot-is S g (low + k)) (o .each (low + k) b)
 
   applies-is : (k : ℕ) → low + k < length recs → applies c (recordIn v (slot S g (suc (low + k)))) ≡ (sets c ((rec k) .content) && done ((rec k) .transaction))
   unfolding applies
@@ -109,7 +107,7 @@ module _ {S : Shape} {v : View} {ps : List ScanEntry} {h : History} (o : Represe
   applied-is l room r e base (suc k) b =
       let u : low + k < length recs = omega arith in
       rw (take-at k, last-next done r c (inserted h r c) recs (low + k) noRecord u, applies-is k u)
-      (go u (sets c ((rec k) .content)) (setting-value (S .columns) c (ok .column-in) ((rec k) .content) _ _ _ (record-at k u .content)) (done ((rec k) .transaction)) (applied-is l room r e base k (omega arith)))
+      (go u (sets c ((rec k) .content)) (setting-value (S .columns) c inside ((rec k) .content) _ _ _ (record-at k u .content)) (done ((rec k) .transaction)) (applied-is l room r e base k (omega arith)))
     where
       before : List ℕ
       before = applied S v g c p low k l

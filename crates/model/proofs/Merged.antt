@@ -36,7 +36,7 @@ use Rattle.model.specs.Writing.{applied, newestOf, freeIn, mergedIn}
 use Rattle.model.specs.Preconditions.{ChunksCurrent}
 use Rattle.model.specs.Calls.{openAmongIn}
 use Rattle.model.proofs.Lists.{one, any-below, count-from, from-snoc, first-only, first-ext, below-ext, below-pair, part-in, same-part}
-use Rattle.model.specs.Represents.{Holds, everyRow, CurrentIs, CurrentOf, CurrentsAre, WaitingIs, WaitingAre, madeIn, PoolIs, ScanPageIs, ScanPagesAre, HeaderFor, Represents, WellFormed, Whole}
+use Rattle.model.specs.Represents.{Holds, everyRow, CurrentIs, CurrentOf, CurrentsAre, WaitingIs, WaitingAre, madeIn, PoolIs, ScanPageIs, ScanPagesAre, HeaderFor, Represents, WellFormed, Whole, TailOf}
 use Rattle.model.proofs.Holding.{holds-step, same-rows}
 use Rattle.model.proofs.Steady.{current-step, current-cells, waiting-step, scan-cells, scan-page-step}
 use Rattle.model.proofs.Views.{renew-whole, put-whole, header-put, header-same}
@@ -129,6 +129,9 @@ module _ {S : Shape} {v : View} {ps : List ScanEntry} {h : History} (o : Represe
   m-is : m ≡ suc (length (h .merges))
   m-is = omega (arith, o .header .merges-made, merges-few k)
 
+  tail : TailOf S (stateOf h) (recordsOf h g) v g
+  tail = o .tails g (ok .range-in)
+
   low-to : low + (n - low) ≡ n
   low-to = omega (arith, now .lineage)
 
@@ -203,7 +206,7 @@ module _ {S : Shape} {v : View} {ps : List ScanEntry} {h : History} (o : Represe
   unfolding mergedIn put renew cellIn
   cells-other q i f b =
       let d : (q * rangeRows + i < p * rangeRows) ⊎ (p * rangeRows + rangeRows ≤ q * rangeRows + i) = by-cases (decLt q p) (λ u. inl (omega arith)) (λ u. inr (omega arith)) in
-      applied-outside o ok p low (n - low) copy (q * rangeRows + i) d
+      applied-outside S v h g c p low (ok .column-in) tail (n - low) copy (q * rangeRows + i) d
       ∙ changed-outside (λ i x. getD (v Cells) (old * rangeRows + i) 0) (p * rangeRows) (v Cells) rangeRows (q * rangeRows + i) d
 
   -- ---- what the new page holds
@@ -211,8 +214,8 @@ module _ {S : Shape} {v : View} {ps : List ScanEntry} {h : History} (o : Represe
   new-holds =
       record {
         through = merge-through (k .invariants .order) ok;
-        newest = rw low-to at (newest-is o ok p low ((pageIn v old) .newest) (now .holds .newest) (n - low) (omega (arith, low-to)));
-        stamped = newest-last o ok p low (k .invariants .order) ((pageIn v old) .newest) (now .holds .stamped) (n - low) (omega (arith, low-to));
+        newest = rw low-to at (newest-is S v h g c p low (ok .column-in) tail ((pageIn v old) .newest) (now .holds .newest) (n - low) (omega (arith, low-to)));
+        stamped = newest-last S v h g c p low (ok .column-in) tail (k .invariants .order) ((pageIn v old) .newest) (now .holds .stamped) (n - low) (omega (arith, low-to));
         cells = λ r e q. cells r e;
       }
     where
@@ -225,7 +228,7 @@ module _ {S : Shape} {v : View} {ps : List ScanEntry} {h : History} (o : Represe
       cells : (r : ℕ) → rangeOf r ≡ g → toZ w32 (cellIn v′ p (within r)) ≡ cellThrough h c r n
       cells r e =
           (unfold mergedIn put renew cellIn cellThrough in
-          (applied-is o ok p low copy
+          (applied-is S v h g c p low (ok .column-in) tail copy
           (omega (arith, room, changed-length (λ i x. getD (v Cells) (old * rangeRows + i) 0) (p * rangeRows) (v Cells) rangeRows, o .whole .long Cells)) r e (base r e) (n - low) (omega (arith, low-to))
           ∙ ap (last r g) low-to ∙ ap (λ (a : ℕ). last r a n) (sym e)))
 
@@ -383,14 +386,14 @@ module _ {S : Shape} {v : View} {ps : List ScanEntry} {h : History} (o : Represe
       (put-whole Current (chunkOf S g c) p (omega (arith, room))
       (put-whole PageReplaced old m fit
       (put-whole PageState old asWaiting (omega arith)
-      (put-whole PageNewest p late (newest-fit o ok p low ((pageIn v old) .newest) newest-fits (o .whole .fits TailStamp) (n - low))
+      (put-whole PageNewest p late (newest-fit S v h g c p low (ok .column-in) tail ((pageIn v old) .newest) newest-fits (o .whole .fits TailStamp) (n - low))
       (put-whole PageLineage p n (omega (arith, k .invariants .limits .records g, k .small .capacity))
       (put-whole PageMade p m fit
       (put-whole PageChunk p (chunkOf S g c) spot
       (put-whole PageState p asCurrent (omega arith)
       (renew-whole Cells (applied S v g c p low (n - low) copy)
-      (applied-length o ok p low (n - low) copy ∙ changed-length (λ i x. getD (v Cells) (old * rangeRows + i) 0) (p * rangeRows) (v Cells) rangeRows ∙ o .whole .long Cells)
-      (applied-fit o ok p low (o .whole .fits TailValues) (n - low) copy
+      (applied-length S v h g c p low (ok .column-in) tail (n - low) copy ∙ changed-length (λ i x. getD (v Cells) (old * rangeRows + i) 0) (p * rangeRows) (v Cells) rangeRows ∙ o .whole .long Cells)
+      (applied-fit S v h g c p low (ok .column-in) tail (o .whole .fits TailValues) (n - low) copy
       (changed-fit (λ i x. getD (v Cells) (old * rangeRows + i) 0) (p * rangeRows) rangeRows (v Cells) (λ i x _ _. o .whole .fits Cells (old * rangeRows + i)) (o .whole .fits Cells)))
       (o .whole))))))))))
     where

@@ -20,7 +20,7 @@ use Rattle.terms.specs.Entries.{bears, firstIndex}
 use Rattle.model.specs.Stored.{nextWord}
 use Rattle.model.specs.Represents.{OpensAre, Unchanged, NotedIs, NotesAre, WellFormed}
 use Rattle.model.proofs.Transactions.{openKind, open-there}
-use Rattle.model.proofs.Book.{only-place}
+use Rattle.model.proofs.Book.{only-entry}
 
 -- ---- all tail records together
 abbrev ofRange : ℕ → List Record → List Record
@@ -65,4 +65,4 @@ module _ (rows rows′ : List Row) (tail tail′ : List Record) (ts : List State
       rw (e, getD-set-same notes own (nextWord (getD notes own 0)) 0 (omega (arith, open-there ts l o t a .0)))
       record { bound = omega arith; none = λ z. absurd (omega arith) })
       (λ f. rw (getD-set-other notes own j (nextWord (getD notes own 0)) 0 f)
-      record { bound = omega (arith, old .bound); none = λ z. others (getD l j 0) (λ e. f (sym (rw e at (only-place openKind ts l o j u)))) (old .none z) })
+      record { bound = omega (arith, old .bound); none = λ z. others (getD l j 0) (λ e. f (sym (rw e at (only-entry openKind ts l o j u)))) (old .none z) })

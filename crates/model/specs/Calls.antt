@@ -219,9 +219,9 @@ unfoldable pub viewAfter : Shape → View → List ScanEntry → List Call → V
 viewAfter S v ps [] = v
 viewAfter S v ps (c ∷ cs) = viewAfter S (viewNext S v ps c) (entriesNext S v ps c) cs
 
-unfoldable pub listAfter : Shape → View → List ScanEntry → List Call → List ScanEntry
-listAfter S v ps [] = ps
-listAfter S v ps (c ∷ cs) = listAfter S (viewNext S v ps c) (entriesNext S v ps c) cs
+unfoldable pub entriesAfterAll : Shape → View → List ScanEntry → List Call → List ScanEntry
+entriesAfterAll S v ps [] = ps
+entriesAfterAll S v ps (c ∷ cs) = entriesAfterAll S (viewNext S v ps c) (entriesNext S v ps c) cs
 
 -- ---- the numbers fit the call's types
 abbrev pub Word : ℕ → Type 0

@@ -1,4 +1,4 @@
--- Demand 2, stated of a store just made on which calls alone have worked: `Reads` is rule 11.3 of docs/SPECIFICATION.md,
+-- Demand 2, stated of a store just made on which calls alone have worked: `ReadsGive` is rule 11.3 of docs/SPECIFICATION.md,
 -- `PagesHold` 11.4, `ScansKeep` 11.5. The history after the same calls says what was committed, by its stamps (`lastCommitted` and `lastTaken`, the history's
 -- Latest); the store's words say what is read and what the pages hold. proofs/Claims.antt proves them.
 use mathlib.Core.Path.{_≡_}
@@ -16,24 +16,23 @@ use Rattle.layout.specs.View.{View}
 use Rattle.terms.specs.Entries.{freeEntry}
 use Rattle.model.specs.Stored.{pageIn, cellIn, currentIn, within}
 use Rattle.model.specs.Reading.{reader, readCurrent, scanPage}
-use Rattle.model.specs.Writing.{made}
-use Rattle.model.specs.Calls.{Typed, viewAfter, listAfter}
+use Rattle.model.specs.Writing.{madeView}
+use Rattle.model.specs.Calls.{Typed, viewAfter, entriesAfterAll}
 
 -- a store made with n entries for scans, after a list of calls; and the history after them
 unfoldable pub storeAfter : Shape → ℕ → List Call → View
-storeAfter S n cs = viewAfter S (made S) (replicate n freeEntry) cs
+storeAfter S n cs = viewAfter S (madeView S) (replicate n freeEntry) cs
 
 unfoldable pub historyAfter : Shape → List Call → History
 historyAfter S cs = run S start cs
 
 -- rule 11.3: what a read gives
-unfoldable pub Reads : Type 0
-Reads =
+unfoldable pub ReadsGive : Type 0
+ReadsGive =
     (S : Shape) → T (withinLimits S) → (n : ℕ) → mostScans ≤ n → (cs : List Call) → All Typed cs → (t r c : ℕ)
     → r < length ((historyAfter S cs) .rows) → c < S .columns → readCurrent S (storeAfter S n cs) (reader t 0) r c ≡ lastCommitted (historyAfter S cs) t r c
 
--- "each merged page, while current, holds, for every row, the last committed setting among the tail records it has taken in, and for a row with none the
--- value it was inserted with, or 0 if that row was never inserted". The records taken in are those up to the page's lineage.
+-- 11.4: what a current page holds. The records that it has taken in are those up to its lineage.
 pub record PageHolds (S : Shape) (v : View) (h : History) (g c : ℕ) : Type 0 where
   pub taken : (pageIn v (currentIn S v g c)) .lineage ≡ mergedThrough h g c
   pub every-row : (i : ℕ) → i < rangeRows → toZ w32 (cellIn v (currentIn S v g c) i) ≡ lastTaken h c (g * rangeRows + i) (mergedThrough h g c)
@@ -56,5 +55,5 @@ ScansKeep =
     (S : Shape) → T (withinLimits S) → (n : ℕ) → mostScans ≤ n → (before after : List Call) (s : ℕ) → All Typed before → All Typed (openScan s ∷ after)
     → verdict (tests S (historyAfter S before) (openScan s)) ≡ accept
     → T (scanAt (run S (historyAfter S before) (openScan s ∷ after)) (suc (length ((historyAfter S before) .scans))) .running) → (g c : ℕ) → g < S .ranges → c < S .columns
-    → PageKept S (storeAfter S n before) (viewAfter S (storeAfter S n before) (listAfter S (made S) (replicate n freeEntry) before) (openScan s ∷ after))
+    → PageKept S (storeAfter S n before) (viewAfter S (storeAfter S n before) (entriesAfterAll S (madeView S) (replicate n freeEntry) before) (openScan s ∷ after))
     (run S (historyAfter S before) (openScan s ∷ after)) (suc (length ((historyAfter S before) .scans))) g c (length ((historyAfter S before) .rows))

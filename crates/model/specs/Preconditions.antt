@@ -1,4 +1,4 @@
--- What the functions over the lent memory ask for before they read or write: narrow stored facts of the view, each a record of named facts. Every call tests the stored facts first, so that it can hand these on.
+-- What the functions over the lent memory ask for before they read or write: the few facts of the view that an access rests on, by name. Every call tests the stored facts first, so that it can hand these on.
 use Prim.Native.Nat.{ℕ, _≤_, _<_}
 use mathlib.Core.Path.{_≡_}
 use lib.Dec.{eqb}
@@ -40,7 +40,7 @@ pub record ChunksCurrent (S : Shape) (v : View) : Type 0 where
   pub state : (i : ℕ) → i < chunksOf S → (pageIn v (getD (v Region.Current) i 0)) .state ≡ asCurrent
   pub chunk : (i : ℕ) → i < chunksOf S → (pageIn v (getD (v Region.Current) i 0)) .chunk ≡ i
 
--- j is the first free index for an open transaction
+-- j is the index of the first free open entry
 pub record FreeAt (v : View) (j : ℕ) : Type 0 where
   pub low : j < mostTransactions
   pub first : j ≡ firstIndex (λ k. eqb k 0) (v Region.Opens)

@@ -23,7 +23,7 @@ use Rattle.layout.specs.Regions.{slot}
 abbrev pub reader : ℕ → ℕ → Reader
 reader t me = record { stamp = record { 0 = t }; me = record { 0 = me } }
 
--- Who sees a row or record in state `state`.
+-- Whether a reader sees a row or record of this state, stamp and transaction.
 unfoldable pub sees : Reader → ℕ → ℕ → ℕ → Bool
 sees who state stamp transaction =
     (committedState state && leb stamp (who .stamp .0)) || (openState state && (not (eqb (who .me .0) 0) && eqb transaction (who .me .0)))
@@ -103,7 +103,7 @@ wasCurrent S v m chunk p =
     waitingPage (x .state) && (eqb (x .chunk % chunksOf S) chunk && (leb (x .made) m && ltb m (x .replaced)))
 
 -- Rule 10.6: the current page if it was made before the scan was opened, else the waiting page that was current then.
--- At most one passes.
+-- In a store that calls made at most one page passes; elsewhere the first is taken.
 unfoldable pub scanPage : Shape → View → ℕ → ℕ → ℕ → ℕ
 scanPage S v m g c =
     let current = currentIn S v g c in

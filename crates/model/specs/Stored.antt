@@ -153,6 +153,6 @@ countBelow f (suc n) = cond (f n) (suc (countBelow f n)) (countBelow f n)
 unfoldable pub openIndex : View → ℕ → ℕ
 openIndex v t = firstIndex (bears t) (v Opens)
 
--- the index of open scan k
+-- the entry of open scan k
 unfoldable pub scanEntry : List ScanEntry → ℕ → ScanEntry
 scanEntry ps k = getD ps (firstIndex (isScan k) ps) freeEntry

@@ -7,12 +7,12 @@ use Rattle.terms.specs.declared.Answer.{Answer}
 use Rattle.history.specs.Unfolding.{definitions}
 use Rattle.history.specs.Table.{Case, table, wanted}
 use Rattle.terms.specs.Entries.{freeEntry}
-use Rattle.model.specs.Writing.{made}
+use Rattle.model.specs.Writing.{madeView}
 use Rattle.model.specs.Calls.{sayAll}
 use Rattle.model.specs.Unfolding.{execution}
 
 abbrev pub givenByStore : List Case → List (List Answer)
-givenByStore = map (λ p. sayAll (p .shape) (made (p .shape)) (replicate mostScans freeEntry) (map (λ l. l .call) (p .lines)))
+givenByStore = map (λ p. sayAll (p .shape) (madeView (p .shape)) (replicate mostScans freeEntry) (map (λ l. l .call) (p .lines)))
 
 pub proved-table : givenByStore table ≡ wanted table
 unfolding table execution definitions

@@ -199,8 +199,8 @@ unfoldable pub releasedIn : Shape → List ScanEntry → View → View
 releasedIn S ps v = renew PageState (changed (λ p w. cond (releasable ps v p) asFree w) 0 (pagesOf S) (v PageState)) v
 
 -- ---- making: every word is 0 but the measures, the current pages and their chunks
-unfoldable pub made : Shape → View
-made S =
+unfoldable pub madeView : Shape → View
+madeView S =
     put Header columnsAt (S .columns)
     (put Header rangesAt (S .ranges)
     (put Header capacityAt (S .capacity)

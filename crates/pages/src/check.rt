@@ -1,5 +1,5 @@
 // The test that every call on a store makes first: whether the lent memory and the table of open scans are usable. The lengths and measures are tested
-// first, then the counts: from there on each access lies within the memory. Then it looks at given rows, used tail records and the pages, once each.
+// first, then the counts: from there on each access lies within the memory. Then it looks at given rows, used tail records and the pages.
 use super::pages_hold;
 use facts::counts_within;
 use facts::opens_hold;

@@ -5,7 +5,7 @@ use mathlib.Core.Bool.{Bool, true, false, cond, _&&_}
 use mathlib.Core.List.{List}
 use lib.Dec.{T, leb}
 use lib.ListN.{length, replicate}
-use Rattle.model.specs.Writing.{made as madeView}
+use Rattle.model.specs.Writing.{madeView}
 use Rattle.terms.specs.Measures.{Shape, withinLimits, mostScans}
 use Rattle.terms.specs.declared.Answer.{Answer}
 use Rattle.terms.specs.declared.ScanEntry.{ScanEntry}
@@ -14,7 +14,7 @@ use Rattle.layout.specs.Sizes.{sizesOf, bytesNeeded}
 use Rattle.layout.specs.View.{View, lay, viewOf}
 use Rattle.layout.proofs.Lay.{view-lay}
 use Rattle.history.specs.History.{Call, History, start, answer, run, tests, verdict, accept, seenAt}
-use Rattle.history.specs.Claims.{strike, Reads, answerAt, ReadAt, Striking, Stability}
+use Rattle.history.specs.Claims.{strike, answerAt, ReadAt, Striking, Stability}
 use Rattle.history.specs.Lists.{All, nil, cons}
 use Rattle.history.proofs.Lists.{both-test, le-test, all-filterb, is-true, clash}
 use Rattle.history.proofs.Accepted.{passed}
@@ -25,8 +25,8 @@ use Rattle.making.specs.Made.{made, madeList}
 use Rattle.making.proofs.Answers.{laid as making-laid}
 use Rattle.terms.specs.Entries.{freeEntry}
 use Rattle.model.specs.Reading.{reader}
-use Rattle.model.specs.Calls.{Typed, viewNext, viewAfter, listAfter as modelList}
-use Rattle.model.specs.Claims.{storeAfter, historyAfter}
+use Rattle.model.specs.Calls.{Typed, viewNext, viewAfter, entriesAfterAll as modelList}
+use Rattle.model.specs.Claims.{storeAfter, historyAfter, ReadsGive}
 use Rattle.model.proofs.Heads.{sees-at}
 use Rattle.model.proofs.Calls.{current-read, one-call}
 use Rattle.model.proofs.Made.{small-shape, made-represents}
@@ -151,7 +151,7 @@ module _ (S : Shape) (m : List ℕ) (ps : List ScanEntry) (a : Accepted S m ps) 
 
 -- ---- demand 2
 pub reads-committed : ReadsCommitted
-unfolding ReadsCommitted Rattle.model.specs.Claims.Reads
+unfolding ReadsCommitted ReadsGive
 reads-committed S m ps a cs ys x t r c y q n =
     let h = historyAfter S cs in
     let e : answerOf (storeLeft S m ps cs) x ≡ answer S h x =

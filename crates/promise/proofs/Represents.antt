@@ -1,4 +1,4 @@
--- Every call keeps a lent memory and scan list representing a history of a shape (specs/MemoryRepresents), and answers as the history does.
+-- Every call keeps a lent memory and scan list representing a history of a shape (specs/Represents.antt), and answers as the history does.
 use Prim.Native.Nat.{ℕ, _+_, _*_, _≤_, _<_}
 use mathlib.Core.Path.{_≡_, refl, ap, sym, _∙_, fun-ext}
 use mathlib.Core.Bool.{true, cond}
@@ -26,7 +26,7 @@ use Rattle.history.specs.Lists.{All, nil, cons}
 use Rattle.history.proofs.Invariants.{invariants-start}
 use Rattle.facts.specs.Usable.{measuresBytes, storedShape, storedSizes, usable}
 use Rattle.making.specs.Made.{madeList}
-use Rattle.model.specs.Writing.{made as madeView}
+use Rattle.model.specs.Writing.{madeView}
 use Rattle.model.specs.Calls.{Typed, say, viewNext, entriesNext}
 use Rattle.model.specs.Represents.{Represents, WellFormed}
 use Rattle.model.proofs.Calls.{one-call}

@@ -31,7 +31,7 @@ use Rattle.facts.proofs.Ready.{Stored}
 use Rattle.facts.proofs.Usable.{Linked, Usable}
 use Rattle.terms.specs.Entries.{freeEntry}
 use Rattle.model.specs.Stored.{rowIn, recordIn, valueIn, pageIn, chunksOf, pagesOf}
-use Rattle.model.proofs.Book.{live-given, number-live, number-given, numbers-apart, place-stands}
+use Rattle.model.proofs.Book.{live-given, number-live, number-given, numbers-apart, entry-stands}
 use Rattle.model.proofs.Merged.{chunk-parts, named, chunks-current}
 use Rattle.model.proofs.Heads.{in-range}
 use Rattle.model.proofs.Scans.{scanKind, scan-count}
@@ -93,14 +93,14 @@ module _ {S : Shape} {v : View} {ps : List ScanEntry} {h : History} (o : Represe
   scan-stamps : (j : ℕ) → getD ps j freeEntry .number ≢ 0 → getD ps j freeEntry .stamp ≤ lastStamp v
   unfolding Timely scanAt
   scan-stamps j n =
-      omega (arith, ap (λ (p : ScanEntry). p .stamp) (place-stands scanKind (h .scans) ps (o .scans .same) j n), k .invariants .timely (getD ps j freeEntry .number), o .header .last-stamp)
+      omega (arith, ap (λ (p : ScanEntry). p .stamp) (entry-stands scanKind (h .scans) ps (o .scans .same) j n), k .invariants .timely (getD ps j freeEntry .number), o .header .last-stamp)
 
   scan-merges : (j : ℕ) → getD ps j freeEntry .number ≢ 0 → getD ps j freeEntry .merges ≤ mergesMade v
   unfolding scanAt
   scan-merges j n =
       omega (
         arith,
-        ap (λ (p : ScanEntry). p .merges) (place-stands scanKind (h .scans) ps (o .scans .same) j n),
+        ap (λ (p : ScanEntry). p .merges) (entry-stands scanKind (h .scans) ps (o .scans .same) j n),
         o .scanPages (getD ps j freeEntry .number) (number-live scanKind (h .scans) ps (o .scans .same) j n) 0 0 (k .small .some-range) (k .small .some-column) .early,
         o .header .merges-made,
       )

@@ -1,5 +1,5 @@
-// The test of the stored facts of the given rows and the used tail records: what a record names, the numbers, the stamps, the links. It looks at each word
-// once, and carries its flags to the end.
+// The test of the stored facts of the given rows and the used tail records: what a record names, the numbers, the stamps, the links. It carries its
+// flags to the end, so that the loops over words vectorise.
 use layout::HEADER_ROWS;
 use layout::HEADER_STAMP;
 use layout::HEADER_TRANSACTIONS;

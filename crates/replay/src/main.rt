@@ -63,7 +63,7 @@ fn within(n: usize, line: &[u8]) -> usize
     least(n, line.len())
 }
 
-// Apart from `two`, since a cast of a parameter has nothing to show.
+// A byte as a number. A function of its own, since a parameter's type says that the cast fits.
 fn wide(b: u8) -> usize
     ensures { λ r. ⌜ r < 256 ⌝ }
 {
@@ -215,7 +215,7 @@ fn head_at(pack: &[u8], at: usize) -> Head
     }
 }
 
-// The same, and the two numbers rise.
+// The commands of a record, once, and the two numbers rise.
 fn run_and_raise(
     mem: &mut [u8],
     scans: &mut [u8],

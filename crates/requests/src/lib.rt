@@ -1,4 +1,4 @@
-// One call on a store, asked for by a request: the seventeen calls behind one function, with the scan list as bytes.
+// One call on a store, asked for by a request, a decoded command: the seventeen calls behind one function, with the scan list as bytes.
 pub mod packed;
 
 use changes::abort;

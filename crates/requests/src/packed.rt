@@ -1,8 +1,8 @@
 // The scan list in bytes, three words to an entry, as `gatebook` keeps it: its buffers are arrays of bytes. It may be of any length.
 use loops::fill;
 use scans::Scans;
+use scans::add_open;
 use scans::blank;
-use scans::enter;
 use scans::is_open;
 use scans::set_length;
 use terms::ScanEntry;
@@ -44,7 +44,7 @@ pub fn table(list: &[u8]) -> Scans
     while i < n {
         let p = entry_at(list, i);
         if is_open(p) {
-            t = enter(t, i, p);
+            t = add_open(t, i, p);
         }
         i += 1;
     }

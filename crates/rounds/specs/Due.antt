@@ -55,7 +55,7 @@ pub record ShapeIn (last : Bool) (bs : List ℕ) (end : ℕ) : Type 0 where
   pub whole : last ≡ false → shapeBytes ≤ length bs
 
 -- ---- one command
--- where the command at a place ends, if it is whole
+-- where the command at an index ends, if it is whole
 abbrev pub endAt : ℕ → List ℕ → ℕ → ℕ
 endAt columns bs at = at + (1 + operandWidth (capped columns) (chosen (getD bs at 0)))
 
@@ -96,7 +96,7 @@ pub record Answered (s : Step Lent) (columns end : ℕ) (x : Lent) (old new : Li
   pub counted : q .columns ≡ columns
   pub taken : q .taken ≡ end
 
--- The commands from one place on are answered: `Round` from p to q, in the buffers.
+-- The commands from one index on are answered: `Round` from p to q, in the buffers.
 pub record Walked (last : Bool) (p q : Progress) (x y : Lent) (bs old new : List ℕ) : Type 0 where
   pub moved : Moved last (flow p) x (drop (p .taken) bs) (take (p .written) old) (flow q) y (drop (q .taken) bs) (take (q .written) new)
   pub ends : last ≡ true → q .on ≡ false

@@ -53,7 +53,7 @@ fn append_line(
     }
 }
 
-// Where the command at a place ends: behind its operands, or with the input. It answers the place itself where the input ends there, or where the command is
+// Where the command at an index ends: behind its operands, or with the input. It answers the index itself where the input ends there, or where the command is
 // not whole and more can come.
 fn command_end(bytes: &[u8], at: usize, columns: usize, last: bool) -> usize
     requires { ⌜ at ≤ length (now bytes) ⌝ }

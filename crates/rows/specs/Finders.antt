@@ -1,4 +1,4 @@
--- What the finders answer.
+-- What a finder answers: an index inside a bound, or nothing.
 use mathlib.Core.Bool.{cond}
 use Prim.Native.Nat.{ℕ, _<_}
 use Rattle.terms.specs.Measures.{Shape}

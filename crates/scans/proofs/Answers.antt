@@ -16,13 +16,13 @@ use Rattle.loops.specs.Search.{allBetween, firstAt}
 use Rattle.loops.proofs.Search.{first-in, first-at}
 use Rattle.terms.specs.Entries.{freeEntry, isScan, firstIndex}
 use Rattle.scans.specs.Entries.{opened, openedAt, openCount, everyOpen, someOpen, among, differ}
-use Rattle.scans.specs.Table.{entries, tableOf, findIn, anyBelow}
+use Rattle.scans.specs.Table.{column, tableOf, findIn, someLess}
 use Rattle.scans.proofs.Table.{at-length}
 
 -- ---- a short list's entries are its numbers and then zeros
 
-entries-are : (l : List ℕ) → length l ≤ mostScans → entries l ≡ l ++ replicate (mostScans - length l) 0
-entries-are l h =
+column-are : (l : List ℕ) → length l ≤ mostScans → column l ≡ l ++ replicate (mostScans - length l) 0
+column-are l h =
     let n : ℕ = mostScans - length l in
     let e : mostScans ≡ length l + n = omega arith in
     let e′ : mostScans ≡ n + length l = omega arith in
@@ -46,10 +46,10 @@ every-opened f b (p ∷ ps) =
     elim (eqb (p .number) 0) as (λ o. allBetween 0 b (map f (cond (not o) (p ∷ opened ps) (opened ps))) ≡ ((not (not o) || leb (f p) b) && everyOpen (λ p. leb (f p) b) ps))
     [ true ↦ every-opened f b ps | false ↦ rw (leb·zero (f p), every-opened f b ps) ]
 
-some-opened : (m : ℕ) (ps : List ScanEntry) → anyBelow m (map (λ p. p .merges) (opened ps)) ≡ someOpen (λ p. ltb (p .merges) m) ps
+some-opened : (m : ℕ) (ps : List ScanEntry) → someLess m (map (λ p. p .merges) (opened ps)) ≡ someOpen (λ p. ltb (p .merges) m) ps
 some-opened m [] = refl
 some-opened m (p ∷ ps) =
-    elim (eqb (p .number) 0) as (λ o. anyBelow m (map (λ p. p .merges) (cond (not o) (p ∷ opened ps) (opened ps))) ≡ ((not o && ltb (p .merges) m) || someOpen (λ p. ltb (p .merges) m) ps))
+    elim (eqb (p .number) 0) as (λ o. someLess m (map (λ p. p .merges) (cond (not o) (p ∷ opened ps) (opened ps))) ≡ ((not o && ltb (p .merges) m) || someOpen (λ p. ltb (p .merges) m) ps))
     [ true ↦ some-opened m ps | false ↦ rw (some-opened m ps) ]
 
 among-opened : (x : ℕ) (ps : List ScanEntry) → eqb x 0 ≡ false → among x (map (λ p. p .number) (opened ps)) ≡ among x (map (λ p. p .number) ps)
@@ -123,34 +123,34 @@ pub record Located (ps : List ScanEntry) (k j : ℕ) : Type 0 where
   pub merges-is : getD (tableOf ps .merges) j 0 ≡ getD ps (firstIndex (isScan k) ps) freeEntry .merges
 
 module _ (ps : List ScanEntry) (few : openCount ps ≤ mostScans) where
-  field-entries : (f : ScanEntry → ℕ) → entries (map f (opened ps)) ≡ map f (opened ps) ++ replicate (mostScans - openCount ps) 0
-  field-entries f = let e : length (map f (opened ps)) ≡ openCount ps = length-map (opened ps) f in rw (← e) (entries-are (map f (opened ps)) (omega arith))
+  field-column : (f : ScanEntry → ℕ) → column (map f (opened ps)) ≡ map f (opened ps) ++ replicate (mostScans - openCount ps) 0
+  field-column f = let e : length (map f (opened ps)) ≡ openCount ps = length-map (opened ps) f in rw (← e) (column-are (map f (opened ps)) (omega arith))
 
-  field-at : (f : ScanEntry → ℕ) (j : ℕ) → f freeEntry ≡ 0 → j < openCount ps → getD (entries (map f (opened ps))) j 0 ≡ f (getD (opened ps) j freeEntry)
+  field-at : (f : ScanEntry → ℕ) (j : ℕ) → f freeEntry ≡ 0 → j < openCount ps → getD (column (map f (opened ps))) j 0 ≡ f (getD (opened ps) j freeEntry)
   field-at f j z h =
       let e : length (map f (opened ps)) ≡ openCount ps = length-map (opened ps) f in
-      rw (field-entries f) (List·getD-append (map f (opened ps)) _ 0 j (omega arith) ∙ ap (λ (d : ℕ). getD (map f (opened ps)) j d) (sym z) ∙ List·getD-map f (opened ps) j freeEntry)
+      rw (field-column f) (List·getD-append (map f (opened ps)) _ 0 j (omega arith) ∙ ap (λ (d : ℕ). getD (map f (opened ps)) j d) (sym z) ∙ List·getD-map f (opened ps) j freeEntry)
 
-  indices-at : (j : ℕ) → j < openCount ps → getD (entries (openedAt 0 ps)) j 0 ≡ getD (openedAt 0 ps) j 0
+  indices-at : (j : ℕ) → j < openCount ps → getD (column (openedAt 0 ps)) j 0 ≡ getD (openedAt 0 ps) j 0
   indices-at j h =
       let e = at-length 0 ps in
-      rw (entries-are (openedAt 0 ps) (omega arith)) (List·getD-append (openedAt 0 ps) _ 0 j (omega arith))
+      rw (column-are (openedAt 0 ps) (omega arith)) (List·getD-append (openedAt 0 ps) _ 0 j (omega arith))
 
   pub table-count : tableOf ps .count ≡ openCount ps
   unfolding tableOf
   table-count = omega arith
 
-  pub table-at-most : (f : ScanEntry → ℕ) (b : ℕ) → allBetween 0 b (entries (map f (opened ps))) ≡ everyOpen (λ p. leb (f p) b) ps
-  table-at-most f b = rw (field-entries f) (between-zeros b (mostScans - openCount ps) (map f (opened ps)) ∙ every-opened f b ps)
+  pub table-at-most : (f : ScanEntry → ℕ) (b : ℕ) → allBetween 0 b (column (map f (opened ps))) ≡ everyOpen (λ p. leb (f p) b) ps
+  table-at-most f b = rw (field-column f) (between-zeros b (mostScans - openCount ps) (map f (opened ps)) ∙ every-opened f b ps)
 
-  field-taken : (f : ScanEntry → ℕ) → take (tableOf ps .count) (entries (map f (opened ps))) ≡ map f (opened ps)
-  field-taken f = rw (table-count, field-entries f) (take-at (map f (opened ps)) _ (openCount ps) (length-map (opened ps) f))
+  field-taken : (f : ScanEntry → ℕ) → take (tableOf ps .count) (column (map f (opened ps))) ≡ map f (opened ps)
+  field-taken f = rw (table-count, field-column f) (take-at (map f (opened ps)) _ (openCount ps) (length-map (opened ps) f))
 
   pub table-differ : differ (take (tableOf ps .count) (tableOf ps .numbers)) ≡ differ (map (λ p. p .number) ps)
   unfolding tableOf
   table-differ = rw (field-taken (λ p. p .number)) (differ-opened ps)
 
-  pub table-before : (m : ℕ) → anyBelow m (take (tableOf ps .count) (tableOf ps .merges)) ≡ someOpen (λ p. ltb (p .merges) m) ps
+  pub table-before : (m : ℕ) → someLess m (take (tableOf ps .count) (tableOf ps .merges)) ≡ someOpen (λ p. ltb (p .merges) m) ps
   unfolding tableOf
   table-before m = rw (field-taken (λ p. p .merges)) (some-opened m ps)
 
@@ -160,7 +160,7 @@ module _ (ps : List ScanEntry) (few : openCount ps ≤ mostScans) where
       elim (eqb k 0) as (λ b. eqb k 0 ≡ b → cond b Nothing (firstAt k 0 (tableOf ps .numbers)) ≡ At j → Located ps k j) [
         | true ↦ λ q f. let z : _≡_ {A = ℕ} 0 1 = cc in absurd (omega arith)
         | false ↦ λ q f.
-            let t = found-index k (mostScans - openCount ps) q ps 0 0 j ((rw (field-entries (λ p. p .number)) at f) ∙ ap At (omega arith)) in
+            let t = found-index k (mostScans - openCount ps) q ps 0 0 j ((rw (field-column (λ p. p .number)) at f) ∙ ap At (omega arith)) in
             record {
               entry = t .2;
               number-is = ap (λ (p : ScanEntry). p .number) (t .1) ∙ sym (field-at (λ p. p .number) j refl (t .2)) ∙ first-at k j (tableOf ps .numbers) f .1;
@@ -175,5 +175,5 @@ module _ (ps : List ScanEntry) (few : openCount ps ≤ mostScans) where
   table-lacks k e =
       elim (eqb k 0) as (λ b. eqb k 0 ≡ b → cond b Nothing (firstAt k 0 (tableOf ps .numbers)) ≡ Nothing → firstIndex (isScan k) ps ≡ length ps) [
         | true ↦ λ q f. let z : k ≡ 0 = eqb-true k 0 q in rw z (none-zero ps)
-        | false ↦ λ q f. found-none k (mostScans - openCount ps) q ps 0 (rw (field-entries (λ p. p .number)) at f)
+        | false ↦ λ q f. found-none k (mostScans - openCount ps) q ps 0 (rw (field-column (λ p. p .number)) at f)
       ] refl e

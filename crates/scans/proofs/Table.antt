@@ -15,7 +15,7 @@ use Rattle.terms.specs.declared.ScanEntry.{ScanEntry}
 use Rattle.scans.specs.declared.Scans.{Scans}
 use Rattle.terms.specs.Entries.{freeEntry}
 use Rattle.scans.specs.Entries.{isOpen, opened, openedAt, openCount, firstFree}
-use Rattle.scans.specs.Table.{entries, tableOf, noted, ofLength}
+use Rattle.scans.specs.Table.{column, tableOf, withEntry, ofLength}
 
 -- ---- one entry more
 
@@ -49,8 +49,8 @@ free-snoc (q ∷ ps) p =
     under false c x y z = refl
 
 -- entries of a list that grows: it has room, or it has none
-entries-snoc : (l : List ℕ) (x : ℕ) → length l < mostScans → entries (l ++ x ∷ []) ≡ set (entries l) (length l) x
-entries-snoc l x h =
+column-snoc : (l : List ℕ) (x : ℕ) → length l < mostScans → column (l ++ x ∷ []) ≡ set (column l) (length l) x
+column-snoc l x h =
     let zs : List ℕ = replicate (mostScans - 1) 0 in
     let m : List ℕ = l ++ x ∷ zs in
     let e : (l ++ x ∷ []) ++ replicate mostScans 0 ≡ m ++ 0 ∷ [] = append-assoc l (x ∷ []) (replicate mostScans 0) ∙ sym (append-assoc l (x ∷ zs) (0 ∷ [])) in
@@ -60,8 +60,8 @@ entries-snoc l x h =
     ∙ ap (take mostScans) (sym (set-append-seam l 0 zs x))
     ∙ take-set-lt mostScans (l ++ replicate mostScans 0) (length l) x h
 
-entries-full : (l : List ℕ) (x : ℕ) → mostScans ≤ length l → entries (l ++ x ∷ []) ≡ entries l
-entries-full l x h =
+column-full : (l : List ℕ) (x : ℕ) → mostScans ≤ length l → column (l ++ x ∷ []) ≡ column l
+column-full l x h =
     ap (take mostScans) (append-assoc l (x ∷ []) (replicate mostScans 0))
     ∙ take-append-le mostScans l (x ∷ replicate mostScans 0) h
     ∙ sym (take-append-le mostScans l (replicate mostScans 0) h)
@@ -74,9 +74,9 @@ at-length k (q ∷ qs) =
     elim (isOpen q) as (λ b. length (cond b (k ∷ openedAt (suc k) qs) (openedAt (suc k) qs)) ≡ length (cond b (q ∷ opened qs) (opened qs)))
     [ true ↦ ap suc (at-length (suc k) qs) | false ↦ at-length (suc k) qs ]
 
-pub noted-table : (ps : List ScanEntry) (p : ScanEntry) → noted (tableOf ps) p ≡ tableOf (ps ++ p ∷ [])
-unfolding noted tableOf
-noted-table ps p = go (eqb (p .number) 0) refl (ltb n mostScans) refl
+pub with-entry-table : (ps : List ScanEntry) (p : ScanEntry) → withEntry (tableOf ps) p ≡ tableOf (ps ++ p ∷ [])
+unfolding withEntry tableOf
+with-entry-table ps p = go (eqb (p .number) 0) refl (ltb n mostScans) refl
   where
     n : ℕ
     n = openCount ps
@@ -87,13 +87,13 @@ noted-table ps p = go (eqb (p .number) 0) refl (ltb n mostScans) refl
         [ true ↦ λ e. sym (eqb-true (firstFree ps) (length ps) e) | false ↦ λ e. refl ] refl
 
     -- an entry list after an open scan: with room for it, and without
-    room : (l : List ℕ) (x : ℕ) → length l ≡ n → n < mostScans → entries (l ++ x ∷ []) ≡ set (entries l) n x
-    room l x e h = entries-snoc l x (omega arith) ∙ ap (λ (k : ℕ). set (entries l) k x) e
+    room : (l : List ℕ) (x : ℕ) → length l ≡ n → n < mostScans → column (l ++ x ∷ []) ≡ set (column l) n x
+    room l x e h = column-snoc l x (omega arith) ∙ ap (λ (k : ℕ). set (column l) k x) e
 
-    full : (l : List ℕ) (x : ℕ) → length l ≡ n → mostScans ≤ n → entries (l ++ x ∷ []) ≡ entries l
-    full l x e h = entries-full l x (omega arith)
+    full : (l : List ℕ) (x : ℕ) → length l ≡ n → mostScans ≤ n → column (l ++ x ∷ []) ≡ column l
+    full l x e h = column-full l x (omega arith)
 
-    go : (b : Bool) → eqb (p .number) 0 ≡ b → (r : Bool) → ltb n mostScans ≡ r → noted (tableOf ps) p ≡ tableOf (ps ++ p ∷ [])
+    go : (b : Bool) → eqb (p .number) 0 ≡ b → (r : Bool) → ltb n mostScans ≡ r → withEntry (tableOf ps) p ≡ tableOf (ps ++ p ∷ [])
     go true e r f = rw (e, length-append ps (p ∷ []), opened-snoc ps p, openedAt-snoc 0 ps p, free-snoc ps p, e, append-nil (opened ps), append-nil (openedAt 0 ps), as-free)
     go false e true f =
         let h : n < mostScans = ltb-true n mostScans f in
@@ -115,9 +115,9 @@ unfolding tableOf
 table-length t ps e = ap (λ (u : Scans). u .length) e
 
 -- one turn of the loop that makes a table
-table-next : (ps : List ScanEntry) (t r : Scans) (p : ScanEntry) (i : ℕ) → t ≡ tableOf (take i ps) → p ≡ getD ps i freeEntry → r ≡ noted t p → i < length ps
+table-next : (ps : List ScanEntry) (t r : Scans) (p : ScanEntry) (i : ℕ) → t ≡ tableOf (take i ps) → p ≡ getD ps i freeEntry → r ≡ withEntry t p → i < length ps
     → r ≡ tableOf (take (i + 1) ps)
-table-next ps t r p i e q n h = n ∙ rw (e, q, add-one) (noted-table (take i ps) (getD ps i freeEntry) ∙ ap tableOf (sym (take-suc ps i freeEntry h)))
+table-next ps t r p i e q n h = n ∙ rw (e, q, add-one) (with-entry-table (take i ps) (getD ps i freeEntry) ∙ ap tableOf (sym (take-suc ps i freeEntry h)))
 
 -- ---- a loop that makes a table entry by entry
 
@@ -134,13 +134,13 @@ none-entered l n t e f = record { within = omega arith; whole = e; table = ap (o
 own-length : (l : List ScanEntry) (t : Scans) (i : ℕ) → i ≤ length l → t ≡ tableOf (take i l) → ofLength i t ≡ t
 own-length l t i k e = ap (λ n. ofLength n t) (sym (table-length t (take i l) e ∙ length-take-le i l k))
 
-pub open-entered : (l : List ScanEntry) (n : ℕ) (t r : Scans) (i : ℕ) (p : ScanEntry) → Entered l n t i → i < n → p ≡ getD l i freeEntry → r ≡ noted (ofLength i t) p → Entered l n r (i + 1)
+pub open-entered : (l : List ScanEntry) (n : ℕ) (t r : Scans) (i : ℕ) (p : ScanEntry) → Entered l n t i → i < n → p ≡ getD l i freeEntry → r ≡ withEntry (ofLength i t) p → Entered l n r (i + 1)
 open-entered l n t r i p g k e f =
     let e = table-next l (ofLength i t) r p i (g .table) e f (omega (arith, g .whole)) in
     record { within = omega arith; whole = g .whole; table = own-length l r (i + 1) (omega (arith, g .whole)) e ∙ e }
 
 pub free-entered : (l : List ScanEntry) (n : ℕ) (t : Scans) (i : ℕ) (p : ScanEntry) → Entered l n t i → i < n → p ≡ getD l i freeEntry → isOpen p ≡ false → Entered l n t (i + 1)
-unfolding noted
+unfolding withEntry
 free-entered l n t i p g k e f =
     record {
       within = omega arith;

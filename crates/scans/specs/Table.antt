@@ -13,18 +13,18 @@ use Rattle.scans.specs.declared.Scans.{Scans}
 use Rattle.scans.specs.Entries.{opened, openedAt, openCount, firstFree}
 
 -- as many entries as a table has: those of l, then zeros
-abbrev pub entries : List ℕ → List ℕ
-entries l = take mostScans (l ++ replicate mostScans 0)
+abbrev pub column : List ℕ → List ℕ
+column l = take mostScans (l ++ replicate mostScans 0)
 
 unfoldable pub tableOf : List ScanEntry → Scans
 tableOf ps =
     record {
       length = length ps;
       count = min mostScans (openCount ps);
-      numbers = entries (map (λ p. p .number) (opened ps));
-      stamps = entries (map (λ p. p .stamp) (opened ps));
-      merges = entries (map (λ p. p .merges) (opened ps));
-      indices = entries (openedAt 0 ps);
+      numbers = column (map (λ p. p .number) (opened ps));
+      stamps = column (map (λ p. p .stamp) (opened ps));
+      merges = column (map (λ p. p .merges) (opened ps));
+      indices = column (openedAt 0 ps);
       free = firstFree ps;
       more = ltb mostScans (openCount ps);
     }
@@ -44,8 +44,8 @@ ofLength n t =
     }
 
 -- the table with the next entry of the list: a free one, an open one that has room, and one for which the table has no room
-unfoldable pub noted : Scans → ScanEntry → Scans
-noted t p =
+unfoldable pub withEntry : Scans → ScanEntry → Scans
+withEntry t p =
     let free = cond (eqb (t .free) (t .length)) (t .length + 1) (t .free) in
     let n = t .count in
     cond (eqb (p .number) 0)
@@ -72,11 +72,11 @@ noted t p =
       more = true;
     }))
 
--- the entry of an open scan. No scan has the number 0, which marks free entries of the list and unused ones of the table.
+-- the index of an open scan in the table. No scan has the number 0, which marks free entries of the list and unused ones of the table.
 unfoldable pub findIn : Scans → ℕ → Found
 findIn t number = cond (eqb number 0) Nothing (firstAt number 0 (t .numbers))
 
 -- whether a number of the list is below m
-abbrev pub anyBelow : ℕ → List ℕ → Bool
-anyBelow m [] = false
-anyBelow m (x ∷ l) = ltb x m || anyBelow m l
+abbrev pub someLess : ℕ → List ℕ → Bool
+someLess m [] = false
+someLess m (x ∷ l) = ltb x m || someLess m l

@@ -1,6 +1,6 @@
 // The lent list of open scans as a table: how long it is, its open scans with their indices in it, and its first free entry. At most MOST_SCANS are open
 // in a usable store, so a table of so many holds all that a call asks of a list of any length. Definitions and laws speak of the list of entries. A table is made
-// entry by entry, by `enter`, for a list lent as records (crates/lent) and for one in bytes (crates/requests/src/packed.rt).
+// entry by entry, by `add_open`, for a list lent as records (crates/lent) and for one in bytes (crates/requests/src/packed.rt).
 
 use loops::Found;
 use loops::and_between;
@@ -14,7 +14,7 @@ ghost use lib.Dec.{eqb};
 ghost use lib.ListN.{length, getD, take, drop};
 ghost use Rattle.loops.specs.Search.{allBetween};
 ghost use Rattle.scans.specs.Entries.{isOpen, among, differ};
-ghost use Rattle.scans.specs.Table.{tableOf, noted, ofLength, findIn};
+ghost use Rattle.scans.specs.Table.{tableOf, withEntry, ofLength, findIn};
 
 // What a call wants to know of the list. Entries at and past `count` are 0.
 pub struct Scans {
@@ -63,9 +63,9 @@ pub fn is_open(p: ScanEntry) -> bool
 }
 
 // The table of the first i entries, with entry i, an open one. What t has as its length is not looked at: free entries are passed over without it.
-pub fn enter(t: Scans, i: usize, p: ScanEntry) -> Scans
+pub fn add_open(t: Scans, i: usize, p: ScanEntry) -> Scans
     requires { ⌜ (i < 4611686018427387904) × (isOpen p ≡ true) ⌝ }
-    ensures { λ r. ⌜ r ≡ noted (ofLength i t) p ⌝ }
+    ensures { λ r. ⌜ r ≡ withEntry (ofLength i t) p ⌝ }
 {
     let mut u = t;
     u.length = i + 1;
@@ -91,7 +91,7 @@ pub fn set_length(t: Scans, n: usize) -> Scans
     u
 }
 
-// The entry of the scan that bears a number.
+// The index in the table, not in the list, of the open scan that bears a number.
 pub fn find_scan(t: Scans, number: u32) -> Found
     ensures { λ r. ⌜ r ≡ findIn t number ⌝ }
 {
@@ -109,31 +109,31 @@ pub fn find_scan(t: Scans, number: u32) -> Found
     Found::Nothing
 }
 
-// Whether each entry is at most a bound. Unused entries are 0, so all are looked at, and one flag is carried to the end: so the loop vectorises.
-pub fn at_most(entries: [u32; MOST_SCANS], bound: u32) -> bool
-    ensures { λ r. ⌜ r ≡ allBetween 0 bound entries ⌝ }
+// Whether each number of a column of the table is at most a bound. Unused ones are 0, so all are looked at, and one flag is carried to the end: so the loop vectorises.
+pub fn at_most(numbers: [u32; MOST_SCANS], bound: u32) -> bool
+    ensures { λ r. ⌜ r ≡ allBetween 0 bound numbers ⌝ }
 {
     let mut ok = true;
     let mut i = 0;
     while i < MOST_SCANS {
-        ok = and_between(ok, 0, bound, entries[i]);
+        ok = and_between(ok, 0, bound, numbers[i]);
         i += 1;
     }
     ok
 }
 
-// Whether entry i is 0 or stands in no later one of the first n entries.
-fn differs(entries: &[u32], n: usize, i: usize) -> bool
-    requires { ⌜ (i < n) × (n ≤ length (now entries)) ⌝ }
-    ensures { λ r. ⌜ r ≡ (eqb (getD (take n (now (entries .entry))) i 0) 0 || not (among (getD (take n (now (entries .entry))) i 0) (drop (i + 1) (take n (now (entries .entry)))))) ⌝ }
+// Whether number i is 0 or is none of those after it among the first n.
+fn differs(numbers: &[u32], n: usize, i: usize) -> bool
+    requires { ⌜ (i < n) × (n ≤ length (now numbers)) ⌝ }
+    ensures { λ r. ⌜ r ≡ (eqb (getD (take n (now (numbers .entry))) i 0) 0 || not (among (getD (take n (now (numbers .entry))) i 0) (drop (i + 1) (take n (now (numbers .entry)))))) ⌝ }
 {
-    let x = entries[i];
+    let x = numbers[i];
     if x == 0 {
         return true;
     }
     let mut j = i + 1;
     while j < n {
-        if entries[j] == x {
+        if numbers[j] == x {
             return false;
         }
         j += 1;
@@ -141,14 +141,14 @@ fn differs(entries: &[u32], n: usize, i: usize) -> bool
     true
 }
 
-// Whether those of the first n entries that are not 0 differ from each other.
-pub fn all_differ(entries: &[u32], n: usize) -> bool
-    requires { ⌜ n ≤ length (now entries) ⌝ }
-    ensures { λ r. ⌜ r ≡ differ (take n (now (entries .entry))) ⌝ }
+// Whether those of the first n numbers that are not 0 differ from each other.
+pub fn all_differ(numbers: &[u32], n: usize) -> bool
+    requires { ⌜ n ≤ length (now numbers) ⌝ }
+    ensures { λ r. ⌜ r ≡ differ (take n (now (numbers .entry))) ⌝ }
 {
     let mut i = 0;
     while i < n {
-        if !differs(entries, n, i) {
+        if !differs(numbers, n, i) {
             return false;
         }
         i += 1;

@@ -143,7 +143,7 @@ fn end_open(mem: &mut [u8], s: Sizes, at: usize, state: u32, stamp: Stamp)
     put_pending(mem, s, at, free_record());
 }
 
-// It ends, and what it has written is committed at a stamp.
+// The open transaction at an index ends, and what it has written is committed at a stamp.
 pub fn commit(mem: &mut [u8], s: Sizes, at: usize, stamp: Stamp)
     requires { ⌜ Suffices s (now mem) ⌝ }
     requires { ⌜ Proper s ⌝ }
@@ -154,7 +154,7 @@ pub fn commit(mem: &mut [u8], s: Sizes, at: usize, stamp: Stamp)
     write(mem, s, Region::Header, HEADER_STAMP, stamp.0);
 }
 
-// It ends, and what it has written is aborted.
+// The open transaction at an index ends, and what it has written is aborted.
 pub fn abort(mem: &mut [u8], s: Sizes, at: usize)
     requires { ⌜ Suffices s (now mem) ⌝ }
     requires { ⌜ Proper s ⌝ }

@@ -22,7 +22,7 @@ use Rattle.model.specs.Writing.{freeIn}
 use Rattle.layout.specs.Sizes.{Proper}
 use Rattle.model.specs.Preconditions.{shapeIn}
 use Rattle.loops.specs.Search.{foundAt}
-use Rattle.merging.specs.Steps.{Mergeable}
+use Rattle.merging.specs.Steps.{MergeReady}
 use Rattle.entry.specs.declared.Entry.{Entry}
 use Rattle.entry.specs.declared.Tested.{Tested}
 use Rattle.entry.specs.Entered.{Fitted, Enters}
@@ -77,7 +77,7 @@ module _ (s : Sizes) (m : List ℕ) (g n used : ℕ) (w : Fitted s m) (h : g < s
   through-few = omega (arith, w .linked .used-few g h)
 
   pub merge-told : (c low p : ℕ) (f : Found) → c < s .columns → low ≡ (pageIn (viewOf s m) (currentIn (shapeIn s) (viewOf s m) g c)) .lineage → low < n
-      → f ≡ foundAt (s .pages) (freeIn (shapeIn s) (viewOf s m)) → f ≡ Found.At p → Mergeable s (viewOf s m) g c n p
+      → f ≡ foundAt (s .pages) (freeIn (shapeIn s) (viewOf s m)) → f ≡ Found.At p → MergeReady s (viewOf s m) g c n p
   merge-told c low p f x y l q z =
       let free = here s (viewOf s m) f (w .proper) q p z in
       record {
@@ -102,5 +102,5 @@ table-few t ps e = rw e (min-le-left mostScans (openCount ps))
 
 -- ---- what a merge asks for, by what its tests told
 pub mergeable : (e : Entry) (s : Sizes) (n : ℕ) (m : List ℕ) (t : Scans) (d : Tested) (g c k p : ℕ) → e ≡ Entry.Fit s n → Enters e m t → d ≡ Tested.Passed p
-    → Finds d (Mergeable s (viewOf s m) g c k) → Mergeable s (viewOf s (take n m)) g c k p
+    → Finds d (MergeReady s (viewOf s m) g c k) → MergeReady s (viewOf s (take n m)) g c k p
 mergeable e s n m t d g c k p a b x y = rw (part-seen (entered e s n m t a b)) (found d _ p x y)

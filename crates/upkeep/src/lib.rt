@@ -39,10 +39,10 @@ ghost use Rattle.layout.specs.Regions.{scansAt};
 ghost use Rattle.history.specs.History.{Call, verdict};
 ghost use Rattle.model.specs.Stored.{pageIn, currentIn};
 ghost use Rattle.model.specs.Preconditions.{shapeIn};
-ghost use Rattle.merging.specs.Steps.{Mergeable};
+ghost use Rattle.merging.specs.Steps.{MergeReady};
 ghost use Rattle.promise.specs.Promise.{ServesBy, kept};
 ghost use Rattle.entry.specs.Entered.{Fitted};
-ghost use Rattle.entry.specs.Tested.{Says, Finds, Holds, Tests, TestsBy};
+ghost use Rattle.entry.specs.Tested.{Says, Finds, Tells, Tests, TestsBy};
 ghost use Rattle.entry.specs.Given.{ScanAt};
 ghost use Rattle.upkeep.specs.Lists.{changedAt, reachTests};
 
@@ -72,7 +72,7 @@ fn reach_tests(mem: &[u8], s: Sizes, g: usize, c: usize, low: Tail, through: Tai
     requires { ⌜ (g < s .ranges) × (c < s .columns) ⌝ }
     requires { ⌜ low .0 ≡ (pageIn (viewOf s (now mem)) (currentIn (shapeIn s) (viewOf s (now mem)) g c)) .lineage ⌝ }
     ensures { λ r. ⌜ Says r (verdict (reachTests (shapeIn s) (viewOf s (now (mem .entry))) g (low .0) (through .0))) ⌝ }
-    ensures { λ r. ⌜ Finds r (Mergeable s (viewOf s (now (mem .entry))) g c (through .0)) ⌝ }
+    ensures { λ r. ⌜ Finds r (MergeReady s (viewOf s (now (mem .entry))) g c (through .0)) ⌝ }
 {
     if through.0 <= low.0 {
         return Tested::Failed(Refusal::Reach);
@@ -93,7 +93,7 @@ fn reach_tests(mem: &[u8], s: Sizes, g: usize, c: usize, low: Tail, through: Tai
 fn merge_tests(mem: &[u8], s: Sizes, range: u32, column: u32, through: Tail) -> Tested
     requires { ⌜ Fitted s (now mem) ⌝ }
     ensures { λ r. ⌜ Tests s (now (mem .entry)) (Call.merge range column (through .0)) r ⌝ }
-    ensures { λ r. ⌜ Finds r (Mergeable s (viewOf s (now (mem .entry))) range column (through .0)) ⌝ }
+    ensures { λ r. ⌜ Finds r (MergeReady s (viewOf s (now (mem .entry))) range column (through .0)) ⌝ }
 {
     if no_range(s, range) {
         return Tested::Failed(Refusal::Range);
@@ -162,12 +162,12 @@ fn unlisted(scans: Scans, why: Refusal) -> ListChange
     }
 }
 
-// The tests of open scan; where they are passed, the scan's entry is the list's first free one.
+// The tests of open scan; where they are passed, the index of the list's first free entry, which the scan takes.
 fn open_tests(mem: &[u8], s: Sizes, scans: Scans, stamp: Stamp) -> Tested
     requires { ⌜ Fitted s (now mem) ⌝ }
     ensures { λ r. ⌜ TestsBy scans s (now (mem .entry)) (Call.openScan (stamp .0)) r ⌝ }
     ensures { λ r. ⌜ Finds r (λ j. j ≡ scans .free) ⌝ }
-    ensures { λ r. ⌜ Holds r (scansGiven (viewOf s (now (mem .entry))) < mostNumbers) ⌝ }
+    ensures { λ r. ⌜ Tells r (scansGiven (viewOf s (now (mem .entry))) < mostNumbers) ⌝ }
 {
     if later(mem, s, stamp) {
         return Tested::Failed(Refusal::Time);
@@ -217,7 +217,7 @@ pub fn open_scan(mem: &mut [u8], scans: Scans, stamp: Stamp) -> ListChange
     }
 }
 
-// The test of close; where it is passed, the scan's entry in the table.
+// The test of close; where it is passed, the scan's index in the table.
 fn close_tests(scans: Scans, scan: u32) -> Tested
     ensures { λ r. ⌜ ((s : Sizes) (m : List ℕ) → TestsBy scans s m (Call.close scan) r) ⌝ }
     ensures { λ r. ⌜ Finds r (ScanAt scans scan) ⌝ }

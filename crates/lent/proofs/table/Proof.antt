@@ -24,10 +24,10 @@ use Rattle.scans.proofs.is_open.Symbol as is-open
 use Rattle.scans.proofs.is_open.Met as is-open-thm
 use Rattle.scans.proofs.is_open.Kinds as is-open-kinds
 use Rattle.scans.proofs.is_open.Reads as is-open-reads
-use Rattle.scans.proofs.enter.Symbol as enter
-use Rattle.scans.proofs.enter.Met as enter-thm
-use Rattle.scans.proofs.enter.Kinds as enter-kinds
-use Rattle.scans.proofs.enter.Reads as enter-reads
+use Rattle.scans.proofs.add_open.Symbol as add-open
+use Rattle.scans.proofs.add_open.Met as add-open-thm
+use Rattle.scans.proofs.add_open.Kinds as add-open-kinds
+use Rattle.scans.proofs.add_open.Reads as add-open-reads
 use Rattle.scans.proofs.set_length.Symbol as set-length
 use Rattle.scans.proofs.set_length.Met as set-length-thm
 use Rattle.scans.proofs.set_length.Kinds as set-length-kinds
@@ -51,8 +51,8 @@ blank-callee = record { lifetimes = 0; params = blank-kinds.ps; result = blank-k
 abbrev open-callee : Callee
 open-callee = record { lifetimes = 0; params = is-open-kinds.ps; result = is-open-kinds.r; asks = is-open-reads.Asked; tells = is-open-reads.Learnt; name = is-open.name }
 
-abbrev enter-callee : Callee
-enter-callee = record { lifetimes = 0; params = enter-kinds.ps; result = enter-kinds.r; asks = enter-reads.Asked; tells = enter-reads.Learnt; name = enter.name }
+abbrev add-open-callee : Callee
+add-open-callee = record { lifetimes = 0; params = add-open-kinds.ps; result = add-open-kinds.r; asks = add-open-reads.Asked; tells = add-open-reads.Learnt; name = add-open.name }
 
 abbrev length-callee : Callee
 length-callee = record { lifetimes = 0; params = set-length-kinds.ps; result = set-length-kinds.r; asks = set-length-reads.Asked; tells = set-length-reads.Learnt; name = set-length.name }
@@ -78,7 +78,7 @@ module _ (κs : Lfts 1) (qs : Shares 1) where
   left u vs = get 2 (G .locals) u - vs .1
 
   module _ {M : Type 1} (𝓤 : URA M) (H : Heap 𝓤) (A : Atoms 𝓤) (W : Given 𝓤 H A) (𝓣 : Tables 𝓤 H) (k-len : KnownAs 𝓤 H A W 𝓣 len-callee) (k-blank : KnownAs 𝓤 H A W 𝓣 blank-callee) (k-at : KnownAs 𝓤 H A W 𝓣 at-callee)
-      (k-open : KnownAs 𝓤 H A W 𝓣 open-callee) (k-enter : KnownAs 𝓤 H A W 𝓣 enter-callee) (k-length : KnownAs 𝓤 H A W 𝓣 length-callee) (bs : List ℕ) where
+      (k-open : KnownAs 𝓤 H A W 𝓣 open-callee) (k-add : KnownAs 𝓤 H A W 𝓣 add-open-callee) (k-length : KnownAs 𝓤 H A W 𝓣 length-callee) (bs : List ℕ) where
     derived : written.Derived 1 ps (res T) Q xs 0 (code.function .body) 𝓤 H A W 𝓣 κs qs bs
     derived =
         record {
@@ -96,7 +96,7 @@ module _ (κs : Lfts 1) (qs : Shares 1) where
               (then G
               (tests 7 (λ x. x) (read-scalar W sBool) refl
               (quiet (drops W 7 tyBool (scalar W sBool))
-              (lastly (calls W enter-callee k-enter (record { pos = 3; st = []; d = 0; at = λ x. x }, (vAt 4 (λ x. x), (record { pos = 5; st = []; d = 0; at = λ x. x }, tt))) 3 [] (copies W T refl (numbers W refl (copies W P refl tt))) (room T W) tt refl) (drops W 5 (type P) (room P W)) tt))
+              (lastly (calls W add-open-callee k-add (record { pos = 3; st = []; d = 0; at = λ x. x }, (vAt 4 (λ x. x), (record { pos = 5; st = []; d = 0; at = λ x. x }, tt))) 3 [] (copies W T refl (numbers W refl (copies W P refl tt))) (room T W) tt refl) (drops W 5 (type P) (room P W)) tt))
               (quiet (drops W 7 tyBool (scalar W sBool)) (quiet (drops W 5 (type P) (room P W)) (skips tt))))
               (falls (computes W (sInt w64) (add unsigned) (oAt 4 (tyInt w64) (valS (sInt w64))) (oInt w64 1) 4 (read-scalar W (sInt w64), refl) tt (scalar W (sInt w64)) refl (λ u. refl) (λ u. tt)) tt)))))))
               (step (calls W length-callee k-length (record { pos = 3; st = []; d = 0; at = λ x. x }, (vAt 2 (λ x. x), tt)) 0 [] (copies W T refl (numbers W refl tt)) (vacant W) tt refl)
@@ -144,5 +144,5 @@ table-spec 𝓤 H 𝓜 𝓖 𝓡 =
     (blank-reads.known w code.env blank.name blank.routine code.calls-scans·blank (blank-thm.met 𝓤 H 𝓜 𝓖 𝓡))
     (at-known w code.env code.calls-lent·entry-at)
     (is-open-reads.known w code.env is-open.name is-open.routine code.calls-scans·is-open (is-open-thm.met 𝓤 H 𝓜 𝓖 𝓡))
-    (enter-reads.known w code.env enter.name enter.routine code.calls-scans·enter (enter-thm.met 𝓤 H 𝓜 𝓖 𝓡))
+    (add-open-reads.known w code.env add-open.name add-open.routine code.calls-scans·add-open (add-open-thm.met 𝓤 H 𝓜 𝓖 𝓡))
     (set-length-reads.known w code.env set-length.name set-length.routine code.calls-scans·set-length (set-length-thm.met 𝓤 H 𝓜 𝓖 𝓡)))

@@ -2,7 +2,7 @@
 use borrow.Author.Needs.{needs}
 use Rattle.layout.specs.View.{put, fill, number, renew}
 use Rattle.making.specs.Made.{namedView}
-use Rattle.model.specs.Writing.{made as madeView}
+use Rattle.model.specs.Writing.{madeView}
 use Rattle.making.proofs.lay_out.Statement.{statement}
 use Rattle.making.proofs.lay_out.Tie as tie
 

@@ -9,10 +9,10 @@ use Rattle.merging.proofs.least.Statement.{statement}
 use Rattle.merging.proofs.least.Tie as tie
 
 abbrev Inv-loop : tie.InvT-loop
-Inv-loop n entries r₀ i₀ r i = (i ≤ n) × (r ≡ leastOf entries i)
+Inv-loop n counts r₀ i₀ r i = (i ≤ n) × (r ≡ leastOf counts i)
 
 abbrev μ-loop : tie.MeasureT-loop
-μ-loop n entries r₀ i₀ r i = n - i
+μ-loop n counts r₀ i₀ r i = n - i
 
 pub least-spec : {M : Type 1} → statement M
 least-spec =

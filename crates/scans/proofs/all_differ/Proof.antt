@@ -10,10 +10,10 @@ use Rattle.scans.proofs.all_differ.Statement.{statement}
 use Rattle.scans.proofs.all_differ.Tie as tie
 
 abbrev Inv-loop : tie.InvT-loop
-Inv-loop entries n i₀ i = (i ≤ n) × (differ (take n entries) ≡ differ (drop i (take n entries)))
+Inv-loop numbers n i₀ i = (i ≤ n) × (differ (take n numbers) ≡ differ (drop i (take n numbers)))
 
 abbrev μ-loop : tie.MeasureT-loop
-μ-loop entries n i₀ i = n - i
+μ-loop numbers n i₀ i = n - i
 
 pub all-differ-spec : {M : Type 1} → statement M
 all-differ-spec =

@@ -13,10 +13,10 @@ use Rattle.scans.proofs.at_most.Statement.{statement}
 use Rattle.scans.proofs.at_most.Tie as tie
 
 abbrev Inv-loop : tie.InvT-loop
-Inv-loop bound entries ok₀ i₀ ok i = (i ≤ mostScans) × (allBetween 0 bound entries ≡ (ok && allBetween 0 bound (drop i entries)))
+Inv-loop bound numbers ok₀ i₀ ok i = (i ≤ mostScans) × (allBetween 0 bound numbers ≡ (ok && allBetween 0 bound (drop i numbers)))
 
 abbrev μ-loop : tie.MeasureT-loop
-μ-loop bound entries ok₀ i₀ ok i = mostScans - i
+μ-loop bound numbers ok₀ i₀ ok i = mostScans - i
 
 loop-again : tie.Need-loop-again Inv-loop μ-loop
 loop-again c =

@@ -10,10 +10,10 @@ use Rattle.scans.proofs.differs.Statement.{statement}
 use Rattle.scans.proofs.differs.Tie as tie
 
 abbrev Inv-loop : tie.InvT-loop
-Inv-loop entries n i x j₀ j = (i + 1 ≤ j) × (j ≤ n) × (among x (drop (i + 1) (take n entries)) ≡ among x (drop j (take n entries)))
+Inv-loop numbers n i x j₀ j = (i + 1 ≤ j) × (j ≤ n) × (among x (drop (i + 1) (take n numbers)) ≡ among x (drop j (take n numbers)))
 
 abbrev μ-loop : tie.MeasureT-loop
-μ-loop entries n i x j₀ j = n - j
+μ-loop numbers n i x j₀ j = n - j
 
 pub differs-spec : {M : Type 1} → statement M
 differs-spec =

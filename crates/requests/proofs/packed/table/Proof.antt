@@ -23,8 +23,8 @@ loop-holds c =
     let l = c .before .before .args .list .now in
     none-entered (entriesOf (words l)) _ _ (omega (arith, length-words l, length-entries (words l))) (c .blank .ensures)
 
-enter-requires : tie.Need-enter-requires Inv-loop μ-loop
-enter-requires c κs = (omega arith, sym (c .before .is-open .ensures) ∙ c .if1 .taken)
+add-open-requires : tie.Need-add-open-requires Inv-loop μ-loop
+add-open-requires c κs = (omega arith, sym (c .before .is-open .ensures) ∙ c .if1 .taken)
 
 loop-again : tie.Need-loop-again Inv-loop μ-loop
 loop-again c =
@@ -49,7 +49,7 @@ table-spec =
     loop-holds
     (λ c κs. search needs)
     (λ c κs. search needs)
-    enter-requires
+    add-open-requires
     (λ c. search needs)
     (λ c. search needs)
     loop-again

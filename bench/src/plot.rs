@@ -119,7 +119,10 @@ fn ratio_panel(ratios: &[Ratios], top: f64) -> String {
         svg += &panel.dots(&class, &dots);
         keys.push((class, named(&ratios.shape)));
     }
-    svg + &panel.keys(&keys)
+    // Above or below the levels' names, whichever has more room.
+    let (target, even) = (panel.y.at(TARGET), panel.y.at(EVEN));
+    let raised = target - top > top + PANEL - even;
+    svg + &panel.keys(if raised { target - 20.0 } else { panel.foot() }, &keys)
 }
 
 fn growth_panel(curves: &[Curve], top: f64) -> String {
@@ -154,7 +157,7 @@ fn growth_panel(curves: &[Curve], top: f64) -> String {
         svg += &format!("  <polyline class='{class}' points='{}'/>\n", points.join(" "));
         keys.push((class, curve.name.clone()));
     }
-    svg + &panel.keys(&keys)
+    svg + &panel.keys(panel.foot(), &keys)
 }
 
 /// A row for each thing that is done. The times span powers of ten, so the scale is logarithmic.
@@ -189,7 +192,7 @@ fn beside_panel(beside: &[Beside], top: f64) -> String {
         svg += &panel.dots(&class, &dots);
         keys.push((class, name.to_string()));
     }
-    svg + &panel.keys(&keys)
+    svg + &panel.keys(panel.foot(), &keys)
 }
 
 /// One side of a panel: which values it shows, and between which places of the page.
@@ -265,11 +268,16 @@ impl Panel {
         format!("  <path class='{class}' d='{}'/>\n", lines.join("\n    "))
     }
 
-    /// What each class of dots or curves stands for, beside the panel's lower end.
-    fn keys(&self, keys: &[(String, String)]) -> String {
+    /// Where the last key stands at the panel's lower end.
+    fn foot(&self) -> f64 {
+        self.top() + PANEL - 8.0
+    }
+
+    /// What each class of dots or curves stands for, beside the panel, with the last one at `low`.
+    fn keys(&self, low: f64, keys: &[(String, String)]) -> String {
         let mut svg = String::new();
         for ((class, label), above) in keys.iter().zip((0..keys.len()).rev()) {
-            let (x, y) = (RIGHT + 14.0, self.top() + PANEL - 8.0 - above as f64 * 18.0);
+            let (x, y) = (RIGHT + 14.0, low - above as f64 * 18.0);
             let (x, length) = if class.starts_with("dots") { (x + 8.0, 0.0) } else { (x, 16.0) };
             svg += &format!("  <path class='{class}' d='M{x} {y}h{length}'/>\n");
             svg += &words(RIGHT + 38.0, y + 4.0, "", label);

@@ -1,15 +1,15 @@
 // The word of a row and column for a reader: in a page, in the tail records above the page's lineage, and further down only where the page is newer
 // than the reader's stamp. Each function answers by the model's definition of the same meaning.
-pub mod pages;
+pub mod base_pages;
 
+use base_pages::cell;
+use base_pages::current_page;
 use layout::Region;
 use layout::Sizes;
 use layout::codes::ORIGINAL;
 use layout::codes::SETTING;
 use model::Reader;
 use model::Walk;
-use pages::cell;
-use pages::current_page;
 use regions::read;
 use rows::has_bit;
 use rows::range_of;

@@ -3,7 +3,7 @@ use layout::HEADER_ROWS;
 use layout::Region;
 use layout::Sizes;
 use model::Reader;
-use reading::pages::scan_page;
+use reading::base_pages::scan_page;
 use reading::word_of;
 use regions::read;
 use rows::range_of;

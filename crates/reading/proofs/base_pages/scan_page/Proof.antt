@@ -1,12 +1,12 @@
--- `reading::pages::scan_page` meets its contract.
+-- `reading::base_pages::scan_page` meets its contract.
 use Prim.Native.Nat.{_+_, _*_, _≤_, _<_}
 use native.Mathlib.Omega.{arith}
 use Rattle.rows.proofs.Cases.{found-inside}
 use Rattle.rows.proofs.Indices.{chunks-few, chunk-in}
 use Rattle.reading.proofs.ScanPages.{scan-current, scan-old, scan-none}
 use borrow.Author.Needs.{needs}
-use Rattle.reading.proofs.pages.scan_page.Statement.{statement}
-use Rattle.reading.proofs.pages.scan_page.Tie as tie
+use Rattle.reading.proofs.base_pages.scan_page.Statement.{statement}
+use Rattle.reading.proofs.base_pages.scan_page.Tie as tie
 
 inside : (c : tie.Start) → let a = c .args in (a .g * a .s .columns + a .c < a .s .chunks) × (a .s .chunks ≤ 256)
 inside c =

@@ -1,9 +1,9 @@
--- `reading::pages::was_current` meets its contract.
+-- `reading::base_pages::was_current` meets its contract.
 use native.Mathlib.Omega.{arith}
 use Rattle.reading.proofs.ScanPages.{chunks-some, not-waiting, elsewhere, made-later, made-before}
 use borrow.Author.Needs.{needs}
-use Rattle.reading.proofs.pages.was_current.Statement.{statement}
-use Rattle.reading.proofs.pages.was_current.Tie as tie
+use Rattle.reading.proofs.base_pages.was_current.Statement.{statement}
+use Rattle.reading.proofs.base_pages.was_current.Tie as tie
 
 pub was-current-spec : {M : Type 1} → statement M
 was-current-spec =

@@ -1,10 +1,10 @@
--- `reading::pages::cell` meets its contract.
+-- `reading::base_pages::cell` meets its contract.
 use native.Mathlib.Omega.{arith}
 use Rattle.model.specs.Stored.{cellIn}
 use Rattle.rows.proofs.Indices.{chunks-few}
 use borrow.Author.Needs.{needs}
-use Rattle.reading.proofs.pages.cell.Statement.{statement}
-use Rattle.reading.proofs.pages.cell.Tie as tie
+use Rattle.reading.proofs.base_pages.cell.Statement.{statement}
+use Rattle.reading.proofs.base_pages.cell.Tie as tie
 
 pub cell-spec : {M : Type 1} → statement M
 unfolding cellIn

@@ -1,12 +1,12 @@
--- `reading::pages::current_page` meets its contract.
+-- `reading::base_pages::current_page` meets its contract.
 use Prim.Native.Nat.{_+_, _*_, _≤_, _<_}
 use native.Mathlib.Omega.{arith}
 use Rattle.terms.specs.Measures.{mostChunks}
 use Rattle.model.specs.Stored.{currentIn}
 use Rattle.rows.proofs.Indices.{chunks-few, chunk-in}
 use borrow.Author.Needs.{needs}
-use Rattle.reading.proofs.pages.current_page.Statement.{statement}
-use Rattle.reading.proofs.pages.current_page.Tie as tie
+use Rattle.reading.proofs.base_pages.current_page.Statement.{statement}
+use Rattle.reading.proofs.base_pages.current_page.Tie as tie
 
 inside : (c : tie.Start) → let a = c .args in (a .g * a .s .columns + a .c < a .s .chunks) × (a .s .chunks ≤ mostChunks)
 inside c =

@@ -1,4 +1,4 @@
--- `reading::pages::old_page` meets its contract.
+-- `reading::base_pages::old_page` meets its contract.
 use Prim.Native.Nat.{_-_, _≤_}
 use mathlib.Core.Path.{_≡_}
 use native.Mathlib.Omega.{arith}
@@ -9,8 +9,8 @@ use Rattle.model.specs.Reading.{wasCurrent}
 use Rattle.model.specs.Preconditions.{shapeIn}
 use borrow.Author.Needs.{needs}
 use Rattle.reading.proofs.ScanPages.{old-found, old-on, old-none}
-use Rattle.reading.proofs.pages.old_page.Statement.{statement}
-use Rattle.reading.proofs.pages.old_page.Tie as tie
+use Rattle.reading.proofs.base_pages.old_page.Statement.{statement}
+use Rattle.reading.proofs.base_pages.old_page.Tie as tie
 
 abbrev Inv-loop : tie.InvT-loop
 Inv-loop mem s merges chunk n p₀ p =

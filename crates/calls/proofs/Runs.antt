@@ -1,4 +1,4 @@
--- The demands of the lent memory and list themselves, from those stated of definitions, for every form in which a caller is told an answer (`Faithful`).
+-- The demands of the lent memory and list themselves, from those stated of definitions, for every interface that returns an answer (`Faithful`).
 use Prim.Native.Nat.{ℕ, _<_}
 use mathlib.Core.Path.{_≡_, refl, sym, subst, ap, _∙_}
 use mathlib.Core.Bool.{Bool, true, false, cond, _&&_}
@@ -33,7 +33,7 @@ use Rattle.promise.proofs.Refused.{refused-keeps}
 use Rattle.promise.proofs.Stated.{refuses}
 use Rattle.making.specs.Made.{made}
 use Rattle.scans.specs.Entries.{freedIf}
-use Rattle.calls.specs.Runs.{Run, ends, goes, Face, ReadAmong, toldAt, RefusedSo, RefusedKept, UnmadeKept, ReadsSo, PagesSo, AnswersSo, StruckSame, ReadsStable, calls, LentRefused, LentKept, MakingKept, LentReads, LentPages, LentAnswers, LentStriking, LentStability, MakingFrees, OneEntry, ShortRefused}
+use Rattle.calls.specs.Runs.{Run, ends, goes, Interface, ReadAmong, returnedAt, RefusedSo, RefusedKept, UnmadeKept, ReadsSo, PagesSo, AnswersSo, StruckSame, ReadsStable, calls, LentRefused, LentKept, MakingKept, LentReads, LentPages, LentAnswers, LentStriking, LentStability, MakingFrees, OneEntry, ShortRefused}
 
 -- ---- what a run answers and leaves
 left-on : (x : Lent) (c : Call) (cs : List Call) {m′ : List ℕ} {ps′ : List ScanEntry} → m′ ≡ memoryAfter x c → ps′ ≡ listAfter x c → left (lend m′ ps′) cs ≡ left x (c ∷ cs)
@@ -79,11 +79,11 @@ made-done m true false l e = clash (cc)
 made-done m false b l e = clash (cc)
 
 -- ---- a form that tells the answer of a call, and of a making
-pub record Faithful (F : Face) : Type 0 where
-  pub served : {m m′ : List ℕ} {ps ps′ : List ScanEntry} {c : Call} {r : F .Told} → F .serves m ps c r m′ ps′ → (a : Answer) × Serves m ps c a m′ ps′ × (r ≡ F .tells a)
-  pub making : {m m′ : List ℕ} {ps ps′ : List ScanEntry} {S : Shape} {r : F .Told} → F .makes m ps S r m′ ps′ → (a : Answer) × Makes m ps S a m′ ps′ × (r ≡ F .tells a)
-  pub refusing : (a : Answer) (n : Refusal) → F .Refuses (F .tells a) n ↔ (a ≡ Answer.Refused n)
-  pub accepting : (a : Answer) → F .Accepts (F .tells a) ↔ (isRefused a ≡ false)
+pub record Faithful (F : Interface) : Type 0 where
+  pub served : {m m′ : List ℕ} {ps ps′ : List ScanEntry} {c : Call} {r : F .Returned} → F .serves m ps c r m′ ps′ → (a : Answer) × Serves m ps c a m′ ps′ × (r ≡ F .returns a)
+  pub making : {m m′ : List ℕ} {ps ps′ : List ScanEntry} {S : Shape} {r : F .Returned} → F .makes m ps S r m′ ps′ → (a : Answer) × Makes m ps S a m′ ps′ × (r ≡ F .returns a)
+  pub refusing : (a : Answer) (n : Refusal) → F .Refuses (F .returns a) n ↔ (a ≡ Answer.Refused n)
+  pub accepting : (a : Answer) → F .Accepts (F .returns a) ↔ (isRefused a ≡ false)
 
 plain-map : {R : Type 0} (f : Answer → R) (cs : List Call) (l : List Answer) → plainAnswers cs (map f l) ≡ map f (plainAnswers cs l)
 unfolding plainAnswers
@@ -94,24 +94,24 @@ plain-map f (c ∷ cs) (a ∷ l) =
     (elim (isPlain (kind c)) as (λ b. cond b (f a ∷ map f (plainAnswers cs l)) (map f (plainAnswers cs l)) ≡ map f (cond b (a ∷ plainAnswers cs l) (plainAnswers cs l)))
     [ true ↦ refl | false ↦ refl ])
 
-module _ (F : Face) (ok : Faithful F) where
-  is-refusal : (r : F .Told) (a : Answer) (n : Refusal) → r ≡ F .tells a → F .Refuses r n → a ≡ Answer.Refused n
-  is-refusal r a n e h = ok .refusing a n .0 (subst (λ (x : F .Told). F .Refuses x n) e h)
+module _ (F : Interface) (ok : Faithful F) where
+  is-refusal : (r : F .Returned) (a : Answer) (n : Refusal) → r ≡ F .returns a → F .Refuses r n → a ≡ Answer.Refused n
+  is-refusal r a n e h = ok .refusing a n .0 (subst (λ (x : F .Returned). F .Refuses x n) e h)
 
-  not-refused : (r : F .Told) (a : Answer) → r ≡ F .tells a → F .Accepts r → isRefused a ≡ false
+  not-refused : (r : F .Returned) (a : Answer) → r ≡ F .returns a → F .Accepts r → isRefused a ≡ false
   not-refused r a e h = ok .accepting a .0 (subst (F .Accepts) e h)
 
-  as-answers : {m m′ : List ℕ} {ps ps′ : List ScanEntry} {cs : List Call} {rs : List (F .Told)} → Run (F .serves) m ps cs rs m′ ps′
-      → (as′ : List Answer) × Run Serves m ps cs as′ m′ ps′ × (rs ≡ map (F .tells) as′)
+  as-answers : {m m′ : List ℕ} {ps ps′ : List ScanEntry} {cs : List Call} {rs : List (F .Returned)} → Run (F .serves) m ps cs rs m′ ps′
+      → (as′ : List Answer) × Run Serves m ps cs as′ m′ ps′ × (rs ≡ map (F .returns) as′)
   as-answers ends = ([], ends, refl)
   as-answers (goes {rs = rs} s q) =
       let x = ok .served s in
       let l = as-answers q in
-      (x .0 ∷ l .0, goes (x .1) (l .1), ap (λ (y : F .Told). y ∷ rs) (x .2) ∙ ap (λ (y : List (F .Told)). F .tells (x .0) ∷ y) (l .2))
+      (x .0 ∷ l .0, goes (x .1) (l .1), ap (λ (y : F .Returned). y ∷ rs) (x .2) ∙ ap (λ (y : List (F .Returned)). F .returns (x .0) ∷ y) (l .2))
 
-  stored : (S : Shape) (m₀ : List ℕ) (ps₀ : List ScanEntry) {m m′ : List ℕ} {ps ps′ : List ScanEntry} {z : F .Told} {cs : List Call} {rs : List (F .Told)}
+  stored : (S : Shape) (m₀ : List ℕ) (ps₀ : List ScanEntry) {m m′ : List ℕ} {ps ps′ : List ScanEntry} {z : F .Returned} {cs : List Call} {rs : List (F .Returned)}
       → F .makes m₀ ps₀ S z m ps → F .Accepts z → Run (F .serves) m ps cs rs m′ ps′
-      → Accepted S m₀ ps₀ × (rs ≡ map (F .tells) (storeAnswers S m₀ ps₀ cs)) × (m′ ≡ storeLeft S m₀ ps₀ cs .memory) × (ps′ ≡ storeLeft S m₀ ps₀ cs .list)
+      → Accepted S m₀ ps₀ × (rs ≡ map (F .returns) (storeAnswers S m₀ ps₀ cs)) × (m′ ≡ storeLeft S m₀ ps₀ cs .memory) × (ps′ ≡ storeLeft S m₀ ps₀ cs .list)
   unfolding Makes made answered
   stored S m₀ ps₀ {z = z} h g q =
       let x = ok .making h in
@@ -119,7 +119,7 @@ module _ (F : Face) (ok : Faithful F) where
       made-done m₀ (withinLimits S) (leb (bytesNeeded S) (length m₀) && leb mostScans (length ps₀)) (lay (sizesOf S) (madeView S) m₀) (ap isRefused (sym (x .1 .0)) ∙ not-refused z (x .0) (x .2) g) in
       let l = as-answers q in
       let k = store-left S m₀ ps₀ (sym done, x .1 .1, x .1 .2) (l .1) in
-      (k .0, l .2 ∙ ap (map (F .tells)) (k .1), k .2, k .3)
+      (k .0, l .2 ∙ ap (map (F .returns)) (k .1), k .2, k .3)
 
   -- ---- demand 1
   pub refused-so : RefusedSo F
@@ -127,7 +127,7 @@ module _ (F : Face) (ok : Faithful F) where
   refused-so m m′ ps ps′ c r s =
       let x = ok .served s in
       let k = refuses m ps c in
-      let e : r ≡ F .tells (answerOf (lend m ps) c) = x .2 ∙ ap (F .tells) (x .1 .0) in
+      let e : r ≡ F .returns (answerOf (lend m ps) c) = x .2 ∙ ap (F .returns) (x .1 .0) in
       rw e
       ((
         λ n. (λ h. k .0 n .0 (ok .refusing (answerOf (lend m ps) c) n .0 h), λ h. ok .refusing (answerOf (lend m ps) c) n .1 (k .0 n .1 h)),
@@ -157,7 +157,7 @@ module _ (F : Face) (ok : Faithful F) where
       let e : b .0 ≡ answerOf (storeLeft S m₀ ps₀ cs) x =
       b .1 .0 ∙ ap (λ (u : List ℕ). answerOf (lend u ps′) x) (l .2) ∙ ap (λ (u : List ScanEntry). answerOf (lend (storeLeft S m₀ ps₀ cs .memory) u) x) (l .3) in
       let n : isRefused (answerOf (storeLeft S m₀ ps₀ cs) x) ≡ false = ap isRefused (sym e) ∙ not-refused a (b .0) (b .2) k in
-      b .2 ∙ ap (F .tells) (e ∙ reads-committed S m₀ ps₀ (l .0) cs ys x t r c y w (rw n tt))
+      b .2 ∙ ap (F .returns) (e ∙ reads-committed S m₀ ps₀ (l .0) cs ys x t r c y w (rw n tt))
 
   pub pages-so : PagesSo F
   unfolding PagesSo PagesCommitted
@@ -170,29 +170,29 @@ module _ (F : Face) (ok : Faithful F) where
   unfolding AnswersSo Demand3
   answers-so S m₀ m m′ ps₀ ps ps′ z cs rs h g ys q =
       let l = stored S m₀ ps₀ h g q in
-      l .1 ∙ ap (map (F .tells)) (demand3 S m₀ ps₀ (l .0) cs ys)
+      l .1 ∙ ap (map (F .returns)) (demand3 S m₀ ps₀ (l .0) cs ys)
 
   pub struck-same : StruckSame F
   unfolding StruckSame StrikingStore
   struck-same S m₀ m m′ ps₀ ps ps′ z cs rs h g ys q rs′ m″ ps″ p =
       let l = stored S m₀ ps₀ h g q in
       let k = stored S m₀ ps₀ h g p in
-      rw (l .1, k .1, plain-map (F .tells) cs (storeAnswers S m₀ ps₀ cs), plain-map (F .tells) (strike cs) (storeAnswers S m₀ ps₀ (strike cs))) (ap (map (F .tells)) (striking-store S m₀ ps₀ (l .0) cs ys))
+      rw (l .1, k .1, plain-map (F .returns) cs (storeAnswers S m₀ ps₀ cs), plain-map (F .returns) (strike cs) (storeAnswers S m₀ ps₀ (strike cs))) (ap (map (F .returns)) (striking-store S m₀ ps₀ (l .0) cs ys))
 
   pub reads-stable : ReadsStable F
   unfolding ReadsStable StabilityStore storeAnswerAt
   reads-stable S m₀ m m′ ps₀ ps ps′ z cs rs h g ys q i j t r c x y =
-      at i ∙ ap (F .tells) (stability-store S m₀ ps₀ (l .0) cs ys i j t r c (read-in i x) (read-in j y)) ∙ sym (at j)
+      at i ∙ ap (F .returns) (stability-store S m₀ ps₀ (l .0) cs ys i j t r c (read-in i x) (read-in j y)) ∙ sym (at j)
     where
-      l : Accepted S m₀ ps₀ × (rs ≡ map (F .tells) (storeAnswers S m₀ ps₀ cs)) × (m′ ≡ storeLeft S m₀ ps₀ cs .memory) × (ps′ ≡ storeLeft S m₀ ps₀ cs .list)
+      l : Accepted S m₀ ps₀ × (rs ≡ map (F .returns) (storeAnswers S m₀ ps₀ cs)) × (m′ ≡ storeLeft S m₀ ps₀ cs .memory) × (ps′ ≡ storeLeft S m₀ ps₀ cs .list)
       l = stored S m₀ ps₀ h g q
 
-      at : (k : ℕ) → toldAt F rs k ≡ F .tells (storeAnswerAt S m₀ ps₀ cs k)
-      at k = ap (λ (u : List (F .Told)). toldAt F u k) (l .1) ∙ List·getD-map (F .tells) (storeAnswers S m₀ ps₀ cs) k Answer.Done
+      at : (k : ℕ) → returnedAt F rs k ≡ F .returns (storeAnswerAt S m₀ ps₀ cs k)
+      at k = ap (λ (u : List (F .Returned)). returnedAt F u k) (l .1) ∙ List·getD-map (F .returns) (storeAnswers S m₀ ps₀ cs) k Answer.Done
 
       read-in : (k : ℕ) → ReadAmong F S cs rs k t r c → ReadIn S m₀ ps₀ cs k t r c
       read-in k u =
-          let n : isRefused (storeAnswerAt S m₀ ps₀ cs k) ≡ false = not-refused (toldAt F rs k) (storeAnswerAt S m₀ ps₀ cs k) (at k) (u .2) in
+          let n : isRefused (storeAnswerAt S m₀ ps₀ cs k) ≡ false = not-refused (returnedAt F rs k) (storeAnswerAt S m₀ ps₀ cs k) (at k) (u .2) in
           record { inside = u .0; reads = u .1; accepted = rw n tt }
 
 -- ---- of the calls

@@ -26,7 +26,7 @@ use Rattle.lent.proofs.Further.{Further}
 use Rattle.lent.proofs.Hands.{heres, Vals}
 use Rattle.lent.proofs.Tokens.{up}
 use Rattle.lent.proofs.Slices.{Access, reads, writes, slices, loans}
-use Rattle.lent.proofs.Known.{table-known, apply-change-known}
+use Rattle.lent.proofs.ListFunctions.{table-known, apply-change-known}
 use Rattle.lent.proofs.Callees.{KnownIn}
 use Rattle.lent.proofs.Written.{Code, Meets}
 use Rattle.lent.proofs.laws.list_kept as list-kept

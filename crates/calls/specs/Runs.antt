@@ -1,5 +1,5 @@
--- The demands of the lent memory and list themselves: what follows from promises alone, whatever program made the calls. They are said once, of any form in which a
--- caller is told the answer (`Face`): the calls tell it as it is, and the exports as a reply (crates/deskrook/specs/Runs.antt). proofs/Runs.antt proves them.
+-- The demands of the lent memory and list themselves: what follows from promises alone, whatever program made the calls. They are said once, of any
+-- interface that returns the answer (`Interface`): the calls return it as it is, and the exports as a reply (crates/deskrook/specs/Runs.antt). proofs/Runs.antt proves them.
 use Prim.Native.Nat.{ℕ, _<_}
 use mathlib.Core.Path.{_≡_}
 use mathlib.Core.Logic.{_↔_}
@@ -29,38 +29,38 @@ pub data Run {R : Type 0} (serves : List ℕ → List ScanEntry → Call → R �
   goes : {m m′ m″ : List ℕ} {ps ps′ ps″ : List ScanEntry} {c : Call} {r : R} {cs : List Call} {rs : List R}
       → serves m ps c r m′ ps′ → Run serves m′ ps′ cs rs m″ ps″ → Run serves m ps (c ∷ cs) (r ∷ rs) m″ ps″
 
--- the form in which a caller is told: an answer in it, when it says a refusal and when none, and what a call and a making promise
-pub record Face : Type 1 where
-  pub Told : Type 0
-  pub tells : Answer → Told
-  pub Refuses : Told → Refusal → Type 0
-  pub Accepts : Told → Type 0
-  pub serves : List ℕ → List ScanEntry → Call → Told → List ℕ → List ScanEntry → Type 0
-  pub makes : List ℕ → List ScanEntry → Shape → Told → List ℕ → List ScanEntry → Type 0
+-- an interface: what it returns for an answer, when that is a refusal and when none, and what a call and a making promise
+pub record Interface : Type 1 where
+  pub Returned : Type 0
+  pub returns : Answer → Returned
+  pub Refuses : Returned → Refusal → Type 0
+  pub Accepts : Returned → Type 0
+  pub serves : List ℕ → List ScanEntry → Call → Returned → List ℕ → List ScanEntry → Type 0
+  pub makes : List ℕ → List ScanEntry → Shape → Returned → List ℕ → List ScanEntry → Type 0
 
-module _ (F : Face) where
-  -- a claim for every run after an accepted making, whatever memory and list held before: of the shape, the memory and list made, the calls, what they told, and the
+module _ (F : Interface) where
+  -- a claim for every run after an accepted making, whatever memory and list held before: of the shape, the memory and list made, the calls, what they returned, and the
   -- memory and list left
-  abbrev pub EveryRun : (Shape → List ℕ → List ScanEntry → List Call → List (F .Told) → List ℕ → List ScanEntry → Type 0) → Type 0
+  abbrev pub EveryRun : (Shape → List ℕ → List ScanEntry → List Call → List (F .Returned) → List ℕ → List ScanEntry → Type 0) → Type 0
   EveryRun P =
-      (S : Shape) (m₀ m m′ : List ℕ) (ps₀ ps ps′ : List ScanEntry) (z : F .Told) (cs : List Call) (rs : List (F .Told))
+      (S : Shape) (m₀ m m′ : List ℕ) (ps₀ ps ps′ : List ScanEntry) (z : F .Returned) (cs : List Call) (rs : List (F .Returned))
       → F .makes m₀ ps₀ S z m ps → F .Accepts z → All Typed cs → Run (F .serves) m ps cs rs m′ ps′ → P S m ps cs rs m′ ps′
 
   -- ---- demand 1
   -- a call is refused on the stated condition only
   unfoldable pub RefusedSo : Type 0
   RefusedSo =
-      (m m′ : List ℕ) (ps ps′ : List ScanEntry) (c : Call) (r : F .Told) → F .serves m ps c r m′ ps′
+      (m m′ : List ℕ) (ps ps′ : List ScanEntry) (c : Call) (r : F .Returned) → F .serves m ps c r m′ ps′
       → ((n : Refusal) → F .Refuses r n ↔ First (conditions m ps c) n) × (F .Accepts r ↔ NoneApplies (conditions m ps c))
 
   -- a refused call changes no byte of the memory and no entry of the list, and a refused making neither
   unfoldable pub RefusedKept : Type 0
   RefusedKept =
-      (m m′ : List ℕ) (ps ps′ : List ScanEntry) (c : Call) (r : F .Told) (n : Refusal)
+      (m m′ : List ℕ) (ps ps′ : List ScanEntry) (c : Call) (r : F .Returned) (n : Refusal)
       → Bytes m → F .serves m ps c r m′ ps′ → F .Refuses r n → (m′ ≡ m) × (ps′ ≡ ps)
 
   unfoldable pub UnmadeKept : Type 0
-  UnmadeKept = (S : Shape) (m m′ : List ℕ) (ps ps′ : List ScanEntry) (r : F .Told) (n : Refusal) → F .makes m ps S r m′ ps′ → F .Refuses r n → (m′ ≡ m) × (ps′ ≡ ps)
+  UnmadeKept = (S : Shape) (m m′ : List ℕ) (ps ps′ : List ScanEntry) (r : F .Returned) (n : Refusal) → F .makes m ps S r m′ ps′ → F .Refuses r n → (m′ ≡ m) × (ps′ ≡ ps)
 
   -- ---- demand 2
   -- a read after a run that is not refused answers the value last committed at or before the stamp read
@@ -68,8 +68,8 @@ module _ (F : Face) where
   ReadsSo =
       EveryRun
       (λ S m ps cs rs m′ ps′.
-      (x : Call) (t r c : ℕ) (a : F .Told) (m″ : List ℕ) (ps″ : List ScanEntry) → Typed x → Reads (historyAfter S cs) x t r c → F .serves m′ ps′ x a m″ ps″
-      → F .Accepts a → a ≡ F .tells (lastCommitted (historyAfter S cs) t r c))
+      (x : Call) (t r c : ℕ) (a : F .Returned) (m″ : List ℕ) (ps″ : List ScanEntry) → Typed x → Reads (historyAfter S cs) x t r c → F .serves m′ ps′ x a m″ ps″
+      → F .Accepts a → a ≡ F .returns (lastCommitted (historyAfter S cs) t r c))
 
   -- each current page of the memory that a run leaves holds what was committed last
   unfoldable pub PagesSo : Type 0
@@ -78,28 +78,28 @@ module _ (F : Face) where
   -- ---- demand 3
   -- a run answers as the plain history does
   unfoldable pub AnswersSo : Type 0
-  AnswersSo = EveryRun (λ S m ps cs rs m′ ps′. rs ≡ map (F .tells) (answers S start cs))
+  AnswersSo = EveryRun (λ S m ps cs rs m′ ps′. rs ≡ map (F .returns) (answers S start cs))
 
   -- a run of the calls without merges and releases, from the same making, gives the plain calls the same answers
   unfoldable pub StruckSame : Type 0
   StruckSame =
       EveryRun
       (λ S m ps cs rs m′ ps′.
-      (rs′ : List (F .Told)) (m″ : List ℕ) (ps″ : List ScanEntry) → Run (F .serves) m ps (strike cs) rs′ m″ ps″ → plainAnswers cs rs ≡ plainAnswers (strike cs) rs′)
+      (rs′ : List (F .Returned)) (m″ : List ℕ) (ps″ : List ScanEntry) → Run (F .serves) m ps (strike cs) rs′ m″ ps″ → plainAnswers cs rs ≡ plainAnswers (strike cs) rs′)
 
   -- any two reads of a run for one stamp, row and column that are not refused answer the same
-  abbrev pub toldAt : List (F .Told) → ℕ → F .Told
-  toldAt rs i = getD rs i (F .tells Answer.Done)
+  abbrev pub returnedAt : List (F .Returned) → ℕ → F .Returned
+  returnedAt rs i = getD rs i (F .returns Answer.Done)
 
-  abbrev pub ReadAmong : Shape → List Call → List (F .Told) → ℕ → (stamp row column : ℕ) → Type 0
-  ReadAmong S cs rs i t r c = (i < length cs) × Reads (historyBefore S cs i) (callAt cs i) t r c × F .Accepts (toldAt rs i)
+  abbrev pub ReadAmong : Shape → List Call → List (F .Returned) → ℕ → (stamp row column : ℕ) → Type 0
+  ReadAmong S cs rs i t r c = (i < length cs) × Reads (historyBefore S cs i) (callAt cs i) t r c × F .Accepts (returnedAt rs i)
 
   unfoldable pub ReadsStable : Type 0
-  ReadsStable = EveryRun (λ S m ps cs rs m′ ps′. (i j t r c : ℕ) → ReadAmong S cs rs i t r c → ReadAmong S cs rs j t r c → toldAt rs i ≡ toldAt rs j)
+  ReadsStable = EveryRun (λ S m ps cs rs m′ ps′. (i j t r c : ℕ) → ReadAmong S cs rs i t r c → ReadAmong S cs rs j t r c → returnedAt rs i ≡ returnedAt rs j)
 
 -- ---- of the calls
-abbrev pub calls : Face
-calls = record { Told = Answer; tells = λ a. a; Refuses = λ r n. r ≡ Answer.Refused n; Accepts = λ r. isRefused r ≡ false; serves = Serves; makes = Makes }
+abbrev pub calls : Interface
+calls = record { Returned = Answer; returns = λ a. a; Refuses = λ r n. r ≡ Answer.Refused n; Accepts = λ r. isRefused r ≡ false; serves = Serves; makes = Makes }
 
 abbrev pub LentRefused : Type 0
 LentRefused = RefusedSo calls

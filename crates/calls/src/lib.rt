@@ -18,7 +18,7 @@ ghost use mathlib.Core.Path.{_≡_};
 ghost use lib.IntN.{pos};
 ghost use lib.ListN.{getD};
 ghost use Rattle.terms.specs.Measures.{mostColumns};
-ghost use Rattle.layout.specs.Sizes.{shapeOf, BytesTold};
+ghost use Rattle.layout.specs.Sizes.{shapeOf, BytesAnswered};
 ghost use Rattle.history.specs.History.{Call};
 ghost use Rattle.promise.specs.Promise.{Serves, ServesBy, kept, Makes};
 ghost use Rattle.calls.specs.Values.{padded};
@@ -72,7 +72,7 @@ fn update_values(
 
 // The bytes that a store of a shape needs, within the bound of rule 8.3 of docs/SPECIFICATION.md.
 pub fn bytes_needed(columns: u32, ranges: u32, capacity: u32, spares: u32) -> Answer
-    ensures { λ r. ⌜ BytesTold (shapeOf columns ranges capacity spares) r ⌝ }
+    ensures { λ r. ⌜ BytesAnswered (shapeOf columns ranges capacity spares) r ⌝ }
 {
     layout::bytes_needed(columns, ranges, capacity, spares)
 }

@@ -1,4 +1,4 @@
--- What the conditions of the changing calls tell, and what the functions that write ask for by what the tests told.
+-- What the conditions of the changing calls tell, and what the functions that write ask for by what the tests found.
 use Prim.Native.Nat.{ℕ, suc, _+_, _*_, _/_, _≤_, _<_}
 use mathlib.Core.Path.{_≡_, refl, ap, sym, _∙_}
 use mathlib.Core.Bool.{Bool, true, false, not, cond, _||_}
@@ -28,8 +28,8 @@ use Rattle.rows.proofs.Indices.{row-in}
 use Rattle.entry.specs.declared.Entry.{Entry}
 use Rattle.entry.specs.declared.Tested.{Tested}
 use Rattle.entry.specs.Entered.{Fitted, Enters}
-use Rattle.entry.specs.Tested.{Says, Finds, Tells}
-use Rattle.entry.proofs.Served.{entered, part-seen, found, told}
+use Rattle.entry.specs.Tested.{Says, Finds, IfPassed}
+use Rattle.entry.proofs.Served.{entered, part-seen, found, if-passed}
 use Rattle.changes.specs.Steps.{appendTests}
 
 -- ---- the tail records that the range of a row has left
@@ -51,7 +51,7 @@ module _ (d : Tested) (s : Sizes) (v : View) (t r n k : ℕ) (e : n ≡ k) where
   pub wanted-says : Says d (verdict (appendTests (shapeIn s) v t r n)) → Says d (verdict (appendTests (shapeIn s) v t r k))
   wanted-says h = rw e at h
 
-  pub wanted-left : Tells d (Room s v r n) → Tells d (Room s v r k)
+  pub wanted-left : IfPassed d (Room s v r n) → IfPassed d (Room s v r k)
   wanted-left h = rw e at h
 
 -- ---- a row that is given is there, and its range is one of the store's
@@ -122,28 +122,28 @@ module _ (s : Sizes) (m : List ℕ) (h : Suffices s m) where
     pub free-at : (j : ℕ) → f ≡ Found.At j → FreeAt (viewOf s m) j
     free-at j e = first-free j (sym q ∙ e) .1
 
--- ---- what the functions that write ask for of the lent part, by what the tests told
+-- ---- what the functions that write ask for of the lent part, by what the tests found
 module _ (e : Entry) (s : Sizes) (n : ℕ) (m : List ℕ) (t : Scans) (a : e ≡ Entry.Fit s n) (b : Enters e m t) (d : Tested) (j : ℕ) (p : d ≡ Tested.Passed j) where
   seen : viewOf s (take n m) ≡ viewOf s m
   seen = part-seen (entered e s n m t a b)
 
-  pub free-told : Finds d (FreeAt (viewOf s m)) → FreeAt (viewOf s (take n m)) j
-  free-told h = rw seen (found d _ j p h)
+  pub free-in-part : Finds d (FreeAt (viewOf s m)) → FreeAt (viewOf s (take n m)) j
+  free-in-part h = rw seen (found d _ j p h)
 
-  pub open-told : (k : ℕ) → Finds d (OpenAt (viewOf s m) k) → OpenAt (viewOf s (take n m)) k j
-  open-told k h = rw seen (found d _ j p h)
+  pub open-in-part : (k : ℕ) → Finds d (OpenAt (viewOf s m) k) → OpenAt (viewOf s (take n m)) k j
+  open-in-part k h = rw seen (found d _ j p h)
 
-  pub number-told : Tells d (transactionsGiven (viewOf s m) < mostNumbers) → transactionsGiven (viewOf s (take n m)) < mostNumbers
-  number-told h = rw seen (told d _ j p h)
+  pub number-in-part : IfPassed d (transactionsGiven (viewOf s m) < mostNumbers) → transactionsGiven (viewOf s (take n m)) < mostNumbers
+  number-in-part h = rw seen (if-passed d _ j p h)
 
-  pub row-told : Tells d (rowsGiven (viewOf s m) < s .rows) → rowsGiven (viewOf s (take n m)) < s .rows
-  row-told h = rw seen (told d _ j p h)
+  pub row-in-part : IfPassed d (rowsGiven (viewOf s m) < s .rows) → rowsGiven (viewOf s (take n m)) < s .rows
+  row-in-part h = rw seen (if-passed d _ j p h)
 
-  pub room-told : (r k : ℕ) → Tells d (Room s (viewOf s m) r k) → Room s (viewOf s (take n m)) r k
-  room-told r k h = rw seen (told d _ j p h)
+  pub room-in-part : (r k : ℕ) → IfPassed d (Room s (viewOf s m) r k) → Room s (viewOf s (take n m)) r k
+  room-in-part r k h = rw seen (if-passed d _ j p h)
 
-  pub wanted-told : (r k : ℕ) → Tells d (Room s (viewOf s m) r (recordsWanted (viewOf s m) r k))
+  pub wanted-in-part : (r k : ℕ) → IfPassed d (Room s (viewOf s m) r (recordsWanted (viewOf s m) r k))
       → Room s (viewOf s (take n m)) r (recordsWanted (viewOf s (take n m)) r k)
-  wanted-told r k h = rw seen (told d _ j p h)
+  wanted-in-part r k h = rw seen (if-passed d _ j p h)
 
-pub ruleset part-told = (free-told, open-told, number-told, row-told, room-told, wanted-told, counted)
+pub ruleset in-part = (free-in-part, open-in-part, number-in-part, row-in-part, room-in-part, wanted-in-part, counted)

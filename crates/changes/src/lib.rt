@@ -38,7 +38,7 @@ ghost use Rattle.model.specs.Preconditions.{shapeIn, FreeAt, OpenAt};
 ghost use Rattle.writing.specs.Steps.{Room};
 ghost use Rattle.promise.specs.Promise.{ServesBy, kept};
 ghost use Rattle.entry.specs.Entered.{Fitted};
-ghost use Rattle.entry.specs.Tested.{Says, Finds, Tells, Tests};
+ghost use Rattle.entry.specs.Tested.{Says, Finds, IfPassed, Tests};
 ghost use Rattle.changes.specs.Steps.{appendTests};
 
 // ---- begin
@@ -48,7 +48,7 @@ fn begin_tests(mem: &[u8], s: Sizes) -> Tested
     requires { ⌜ Fitted s (now mem) ⌝ }
     ensures { λ r. ⌜ Tests s (now (mem .entry)) Call.begin r ⌝ }
     ensures { λ r. ⌜ Finds r (FreeAt (viewOf s (now (mem .entry)))) ⌝ }
-    ensures { λ r. ⌜ Tells r (transactionsGiven (viewOf s (now (mem .entry))) < mostNumbers) ⌝ }
+    ensures { λ r. ⌜ IfPassed r (transactionsGiven (viewOf s (now (mem .entry))) < mostNumbers) ⌝ }
 {
     if read(mem, s, Region::Header, HEADER_TRANSACTIONS) >= MOST_NUMBERS {
         return Tested::Failed(Refusal::Number);
@@ -79,7 +79,7 @@ fn insert_tests(mem: &[u8], s: Sizes, t: Transaction) -> Tested
     requires { ⌜ Fitted s (now mem) ⌝ }
     ensures { λ r. ⌜ ((vs : List ℤ) → Tests s (now (mem .entry)) (Call.insert (t .0) vs) r) ⌝ }
     ensures { λ r. ⌜ Finds r (OpenAt (viewOf s (now (mem .entry))) (t .0)) ⌝ }
-    ensures { λ r. ⌜ Tells r (rowsGiven (viewOf s (now (mem .entry))) < s .rows) ⌝ }
+    ensures { λ r. ⌜ IfPassed r (rowsGiven (viewOf s (now (mem .entry))) < s .rows) ⌝ }
 {
     let Found::At(at) = open_index(mem, s, t) else {
         return Tested::Failed(Refusal::Transaction);
@@ -126,7 +126,7 @@ fn append_tests(
     requires { ⌜ OpenAt (viewOf s (now mem)) (t .0) at × (row .0 < rowsGiven (viewOf s (now mem))) × (g ≡ rangeOf (row .0)) ⌝ }
     ensures { λ r. ⌜ Says r (verdict (appendTests (shapeIn s) (viewOf s (now (mem .entry))) (t .0) (row .0) n)) ⌝ }
     ensures { λ r. ⌜ Finds r (OpenAt (viewOf s (now (mem .entry))) (t .0)) ⌝ }
-    ensures { λ r. ⌜ Tells r (Room s (viewOf s (now (mem .entry))) (row .0) n) ⌝ }
+    ensures { λ r. ⌜ IfPassed r (Room s (viewOf s (now (mem .entry))) (row .0) n) ⌝ }
 {
     if held(mem, s, t, row) {
         return Tested::Failed(Refusal::Held);
@@ -145,7 +145,7 @@ fn update_tests(mem: &[u8], s: Sizes, t: Transaction, row: Row, mask: u32) -> Te
     requires { ⌜ Fitted s (now mem) ⌝ }
     ensures { λ r. ⌜ ((vs : List ℤ) → Tests s (now (mem .entry)) (Call.update (t .0) (row .0) mask vs) r) ⌝ }
     ensures { λ r. ⌜ Finds r (OpenAt (viewOf s (now (mem .entry))) (t .0)) ⌝ }
-    ensures { λ r. ⌜ Tells r (Room s (viewOf s (now (mem .entry))) (row .0) (recordsWanted (viewOf s (now (mem .entry))) (row .0) mask)) ⌝ }
+    ensures { λ r. ⌜ IfPassed r (Room s (viewOf s (now (mem .entry))) (row .0) (recordsWanted (viewOf s (now (mem .entry))) (row .0) mask)) ⌝ }
 {
     let Found::At(at) = open_index(mem, s, t) else {
         return Tested::Failed(Refusal::Transaction);
@@ -187,7 +187,7 @@ fn delete_tests(mem: &[u8], s: Sizes, t: Transaction, row: Row) -> Tested
     requires { ⌜ Fitted s (now mem) ⌝ }
     ensures { λ r. ⌜ Tests s (now (mem .entry)) (Call.delete (t .0) (row .0)) r ⌝ }
     ensures { λ r. ⌜ Finds r (OpenAt (viewOf s (now (mem .entry))) (t .0)) ⌝ }
-    ensures { λ r. ⌜ Tells r (Room s (viewOf s (now (mem .entry))) (row .0) 1) ⌝ }
+    ensures { λ r. ⌜ IfPassed r (Room s (viewOf s (now (mem .entry))) (row .0) 1) ⌝ }
 {
     let Found::At(at) = open_index(mem, s, t) else {
         return Tested::Failed(Refusal::Transaction);

@@ -1,9 +1,9 @@
--- The demands as the exports keep them, for programs in C and Rust: what crates/calls/specs/Runs.antt says of any form in which a caller is told the answer, of replies.
+-- The demands as the exports keep them, for programs in C and Rust: what crates/calls/specs/Runs.antt says of any interface, of replies.
 -- proofs/Runs.antt proves them.
 use mathlib.Core.Path.{_≡_}
 use mathlib.Core.Logic.{_⊎_}
 use Rattle.terms.specs.Refusals.{refusalNumber}
-use Rattle.calls.specs.Runs.{Face, RefusedSo, RefusedKept, UnmadeKept, ReadsSo, PagesSo, AnswersSo, StruckSame, ReadsStable}
+use Rattle.calls.specs.Runs.{Interface, RefusedSo, RefusedKept, UnmadeKept, ReadsSo, PagesSo, AnswersSo, StruckSame, ReadsStable}
 use Rattle.deskrook.specs.declared.reply.Reply.{Reply}
 use Rattle.deskrook.specs.Replies.{replyOf, Replies, RepliesMade}
 
@@ -11,8 +11,8 @@ use Rattle.deskrook.specs.Replies.{replyOf, Replies, RepliesMade}
 abbrev pub AcceptedReply : Reply → Type 0
 AcceptedReply r = (r .result ≡ 0) ⊎ (r .result ≡ 32)
 
-abbrev pub exports : Face
-exports = record { Told = Reply; tells = replyOf; Refuses = λ r n. r .result ≡ refusalNumber n; Accepts = AcceptedReply; serves = Replies; makes = RepliesMade }
+abbrev pub exports : Interface
+exports = record { Returned = Reply; returns = replyOf; Refuses = λ r n. r .result ≡ refusalNumber n; Accepts = AcceptedReply; serves = Replies; makes = RepliesMade }
 
 abbrev pub ExportRefused : Type 0
 ExportRefused = RefusedSo exports

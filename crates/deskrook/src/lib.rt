@@ -13,7 +13,7 @@ use terms::Stamp;
 use terms::Tail;
 use terms::Transaction;
 ghost use mathlib.Core.Path.{_≡_};
-ghost use Rattle.layout.specs.Sizes.{shapeOf, BytesTold};
+ghost use Rattle.layout.specs.Sizes.{shapeOf, BytesAnswered};
 ghost use Rattle.history.specs.History.{Call};
 ghost use Rattle.calls.specs.Values.{padded};
 ghost use Rattle.deskrook.specs.Replies.{replyOf, usability, Replied, Replies, RepliesMade};
@@ -237,7 +237,7 @@ pub extern "C" fn deskrook_bytes_needed(
     capacity: u32,
     spares: u32,
 ) -> Reply
-    ensures { λ r. ⌜ Replied (BytesTold (shapeOf columns ranges capacity spares)) r ⌝ }
+    ensures { λ r. ⌜ Replied (BytesAnswered (shapeOf columns ranges capacity spares)) r ⌝ }
 {
     encode(calls::bytes_needed(columns, ranges, capacity, spares))
 }

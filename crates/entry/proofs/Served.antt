@@ -30,7 +30,7 @@ use Rattle.entry.specs.declared.Entry.{Entry}
 use Rattle.entry.specs.declared.Tested.{Tested}
 use Rattle.entry.specs.Entered.{Fitted, PassedWith, Entered, Enters}
 use Rattle.entry.specs.Given.{ScanAt}
-use Rattle.entry.specs.Tested.{Finds, Tells, Tests, TestsBy}
+use Rattle.entry.specs.Tested.{Finds, IfPassed, Tests, TestsBy}
 
 -- what is known of the elements of a lent slice: each is a byte
 abbrev pub FitBytes : List ℕ → Type 0
@@ -63,15 +63,15 @@ module _ {s : Sizes} {n : ℕ} {m : List ℕ} {t : Scans} (e : Entered s n m t) 
         scans-to = rw part-seen (f .scans-to);
       }
 
--- ---- what the tests found and told, where they are passed
+-- ---- what the tests found, and what holds where they are passed
 
 pub found : (d : Tested) (P : ℕ → Type 0) (j : ℕ) → d ≡ Tested.Passed j → Finds d P → P j
 unfolding Finds
 found d P j e h = rw e at h
 
-pub told : (d : Tested) (A : Type 0) (j : ℕ) → d ≡ Tested.Passed j → Tells d A → A
-unfolding Tells
-told d A j e h = rw e at h
+pub if-passed : (d : Tested) (A : Type 0) (j : ℕ) → d ≡ Tested.Passed j → IfPassed d A → A
+unfolding IfPassed
+if-passed d A j e h = rw e at h
 
 pub index-is : (d : Tested) (j k : ℕ) → d ≡ Tested.Passed j → Finds d (λ i. i ≡ k) → j ≡ k
 index-is d j k = found d (λ i. i ≡ k) j
@@ -79,8 +79,8 @@ index-is d j k = found d (λ i. i ≡ k) j
 pub index-below : (d : Tested) (j k : ℕ) → d ≡ Tested.Passed j → Finds d (λ i. i < k) → j < k
 index-below d j k = found d (λ i. i < k) j
 
-pub told-below : (d : Tested) (j a k : ℕ) → d ≡ Tested.Passed j → Tells d (a < k) → a < k
-told-below d j a k = told d (a < k) j
+pub passed-below : (d : Tested) (j a k : ℕ) → d ≡ Tested.Passed j → IfPassed d (a < k) → a < k
+passed-below d j a k = if-passed d (a < k) j
 
 pub scan-below : (d : Tested) (t : Scans) (k j : ℕ) → d ≡ Tested.Passed j → Finds d (ScanAt t k) → j < mostScans
 scan-below d t k j e h = found d (ScanAt t k) j e h .below

@@ -25,9 +25,9 @@ Finds (Tested.Passed j) P = P j
 Finds (Tested.Failed x) P = Unit {0}
 
 -- and then A holds
-unfoldable pub Tells : Tested → Type 0 → Type 0
-Tells (Tested.Passed j) A = A
-Tells (Tested.Failed x) A = Unit {0}
+unfoldable pub IfPassed : Tested → Type 0 → Type 0
+IfPassed (Tested.Passed j) A = A
+IfPassed (Tested.Failed x) A = Unit {0}
 
 -- the tests of call c on the memory m, whatever the scan list
 unfoldable pub Tests : Sizes → List ℕ → Call → Tested → Type 0

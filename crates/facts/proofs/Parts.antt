@@ -36,33 +36,33 @@ opens-length s m h = view-long s (words m) (omega (arith, length-words m)) Opens
 
 -- ---- what the table's entries say of the list
 
-pub few-told : (ps : List ScanEntry) → not (ltb mostScans (openCount ps)) ≡ leb (openCount ps) mostScans
-few-told ps = go (leb (openCount ps) mostScans) refl
+pub few-open : (ps : List ScanEntry) → not (ltb mostScans (openCount ps)) ≡ leb (openCount ps) mostScans
+few-open ps = go (leb (openCount ps) mostScans) refl
   where
     go : (b : Bool) → leb (openCount ps) mostScans ≡ b → not (ltb mostScans (openCount ps)) ≡ b
     go true e = rw (le-ltb mostScans (openCount ps) (leb-true (openCount ps) mostScans e))
     go false e = rw (lt-ltb mostScans (openCount ps) (leb-false (openCount ps) mostScans e))
 
 module _ (t : Scans) (ps : List ScanEntry) (same : t ≡ tableOf ps) where
-  pub more-told : not (t .more) ≡ leb (openCount ps) mostScans
+  pub more-open : not (t .more) ≡ leb (openCount ps) mostScans
   unfolding tableOf
-  more-told = rw same (few-told ps)
+  more-open = rw same (few-open ps)
 
-  pub count-told : t .count ≤ mostScans
+  pub count-few : t .count ≤ mostScans
   unfolding tableOf
-  count-told = rw same (omega arith)
+  count-few = rw same (omega arith)
 
-  pub numbers-told : (b : ℕ) → openCount ps ≤ mostScans → allBetween 0 b (t .numbers) ≡ everyOpen (λ p. leb (p .number) b) ps
+  pub numbers-between : (b : ℕ) → openCount ps ≤ mostScans → allBetween 0 b (t .numbers) ≡ everyOpen (λ p. leb (p .number) b) ps
   unfolding tableOf
-  numbers-told b few = rw same (table-at-most ps few (λ p. p .number) b)
+  numbers-between b few = rw same (table-at-most ps few (λ p. p .number) b)
 
-  pub stamps-told : (b : ℕ) → openCount ps ≤ mostScans → allBetween 0 b (t .stamps) ≡ everyOpen (λ p. leb (p .stamp) b) ps
+  pub stamps-between : (b : ℕ) → openCount ps ≤ mostScans → allBetween 0 b (t .stamps) ≡ everyOpen (λ p. leb (p .stamp) b) ps
   unfolding tableOf
-  stamps-told b few = rw same (table-at-most ps few (λ p. p .stamp) b)
+  stamps-between b few = rw same (table-at-most ps few (λ p. p .stamp) b)
 
-  pub merges-told : (b : ℕ) → openCount ps ≤ mostScans → allBetween 0 b (t .merges) ≡ everyOpen (λ p. leb (p .merges) b) ps
+  pub merges-between : (b : ℕ) → openCount ps ≤ mostScans → allBetween 0 b (t .merges) ≡ everyOpen (λ p. leb (p .merges) b) ps
   unfolding tableOf
-  merges-told b few = rw same (table-at-most ps few (λ p. p .merges) b)
+  merges-between b few = rw same (table-at-most ps few (λ p. p .merges) b)
 
-  pub differ-told : openCount ps ≤ mostScans → differ (take (t .count) (t .numbers)) ≡ differ (map (λ p. p .number) ps)
-  differ-told few = rw same (table-differ ps few)
+  pub numbers-differ : openCount ps ≤ mostScans → differ (take (t .count) (t .numbers)) ≡ differ (map (λ p. p .number) ps)
+  numbers-differ few = rw same (table-differ ps few)

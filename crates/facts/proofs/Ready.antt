@@ -20,7 +20,7 @@ use Rattle.scans.specs.Entries.{openCount}
 use Rattle.scans.specs.Table.{tableOf}
 use Rattle.facts.specs.Facts.{storedWithin, countsWithin}
 use Rattle.facts.specs.Tests.{Ready}
-use Rattle.facts.proofs.Parts.{more-told}
+use Rattle.facts.proofs.Parts.{more-open}
 
 -- every word of a list that is bounded is, and so is what stands past its end
 pub at-most : (l : List ℕ) (b : ℕ) → allBetween 0 b l ≡ true → (i : ℕ) → getD l i 0 ≤ b
@@ -59,8 +59,8 @@ module _ (s : Sizes) (m : List ℕ) (t : Scans) (r : Bool) (flag : r ≡ (stored
 
   pub few : (ps : List ScanEntry) → t ≡ tableOf ps → r ≡ true → openCount ps ≤ mostScans
   few ps q e =
-      leb-true (openCount ps) mostScans (sym (more-told t ps q) ∙ and-true (storedWithin s (viewOf s m)) (not (t .more)) (sym flag ∙ e) .1)
+      leb-true (openCount ps) mostScans (sym (more-open t ps q) ∙ and-true (storedWithin s (viewOf s m)) (not (t .more)) (sym flag ∙ e) .1)
 
   pub counts-are : (ps : List ScanEntry) → t ≡ tableOf ps → countsWithin s (viewOf s m) ps ≡ r
   unfolding countsWithin
-  counts-are ps q = ap (λ (b : Bool). storedWithin s (viewOf s m) && b) (sym (more-told t ps q)) ∙ sym flag
+  counts-are ps q = ap (λ (b : Bool). storedWithin s (viewOf s m) && b) (sym (more-open t ps q)) ∙ sym flag

@@ -9,7 +9,7 @@ use Rattle.terms.specs.declared.Answer.{Answer}
 use Rattle.terms.specs.declared.Refusal.{Refusal}
 use Rattle.loops.proofs.Search.{and-true, between-tells}
 use Rattle.layout.specs.Regions.{need}
-use Rattle.layout.specs.Sizes.{Proper, sizesOf, bytesNeeded, bytesAllowed, bytesAnswer, BytesTold, tooManyWords}
+use Rattle.layout.specs.Sizes.{Proper, sizesOf, bytesNeeded, bytesAllowed, bytesAnswer, BytesAnswered, tooManyWords}
 
 pub proper : (p : Shape) → withinLimits p ≡ true → Proper (sizesOf p)
 unfolding withinLimits
@@ -53,9 +53,9 @@ bytes-allowed p =
     let e : (64 + 4 * p .columns) * t ≡ 64 * t + 4 * (t * p .columns) = rw (add-mul 64 (4 * p .columns) t, mul-assoc 4 (p .columns) t, mul-comm (p .columns) t) in
     omega arith
 
-pub bytes-told : (p : Shape) {r : Answer} → r ≡ bytesAnswer p → BytesTold p r
-unfolding BytesTold bytesAnswer
-bytes-told p {r} a = (
+pub bytes-answered : (p : Shape) {r : Answer} → r ≡ bytesAnswer p → BytesAnswered p r
+unfolding BytesAnswered bytesAnswer
+bytes-answered p {r} a = (
   a,
   λ n q. elim (withinLimits p) as (λ b. cond b (Answer.Number (bytesNeeded p)) (Answer.Refused Refusal.Shape) ≡ Answer.Number n → n ≤ bytesAllowed (sizesOf p))
       [ true ↦ λ e. let m : bytesNeeded p ≡ n = cc in omega (arith, bytes-allowed p) | false ↦ λ e. let z : _≡_ {A = ℕ} 0 1 = cc in omega arith ] (sym a ∙ q),

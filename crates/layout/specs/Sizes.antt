@@ -55,5 +55,5 @@ unfoldable pub bytesAnswer : Shape → Answer
 bytesAnswer p = cond (withinLimits p) (Answer.Number (bytesNeeded p)) (Answer.Refused Refusal.Shape)
 
 -- what the call that answers the bytes needed promises: the answer, and that the bytes answered are within the bound
-unfoldable pub BytesTold : Shape → Answer → Type 0
-BytesTold p r = (r ≡ bytesAnswer p) × ((n : ℕ) → r ≡ Answer.Number n → n ≤ bytesAllowed (sizesOf p))
+unfoldable pub BytesAnswered : Shape → Answer → Type 0
+BytesAnswered p r = (r ≡ bytesAnswer p) × ((n : ℕ) → r ≡ Answer.Number n → n ≤ bytesAllowed (sizesOf p))

@@ -17,7 +17,7 @@ ghost use Prim.Native.Nat.{_+_, _*_, _^_, _≤_, _<_};
 ghost use Rattle.terms.specs.Measures.{withinLimits, mostRanges, mostRecords};
 ghost use Rattle.layout.specs.Cut.{startFrom, endFrom};
 ghost use Rattle.layout.specs.Regions.{index, lens, base, need};
-ghost use Rattle.layout.specs.Sizes.{shapeOf, sizesOf, BytesTold};
+ghost use Rattle.layout.specs.Sizes.{shapeOf, sizesOf, BytesAnswered};
 
 // The regions in the order in which they lie. A new one comes last, so that the others stay where they are.
 pub enum Region {
@@ -216,7 +216,7 @@ pub fn words_needed(s: Sizes) -> usize
 
 // The bytes that a shape needs, within the bound of rule 8.3 of docs/SPECIFICATION.md.
 pub fn bytes_needed(columns: u32, ranges: u32, capacity: u32, spares: u32) -> Answer
-    ensures { λ r. ⌜ BytesTold (shapeOf columns ranges capacity spares) r ⌝ }
+    ensures { λ r. ⌜ BytesAnswered (shapeOf columns ranges capacity spares) r ⌝ }
 {
     if within_limits(columns, ranges, capacity, spares) {
         let s = sizes_of(columns, ranges, capacity, spares);

@@ -12,5 +12,5 @@ pub mod Further
 pub mod Hands
 pub mod Slices
 pub mod Entries
-pub mod Known
+pub mod ListFunctions
 pub mod laws

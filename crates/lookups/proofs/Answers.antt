@@ -28,8 +28,8 @@ use Rattle.rows.proofs.Indices.{row-in}
 use Rattle.entry.specs.declared.Tested.{Tested}
 use Rattle.entry.specs.Entered.{Fitted}
 use Rattle.entry.specs.Given.{rangeGiven, ScanAt}
-use Rattle.entry.specs.Tested.{Says, Finds, Tells, Tests}
-use Rattle.entry.proofs.Served.{found, told}
+use Rattle.entry.specs.Tested.{Says, Finds, IfPassed, Tests}
+use Rattle.entry.proofs.Served.{found, if-passed}
 use Rattle.entry.proofs.Decided.{row-below, column-below}
 use Rattle.entry.proofs.Scans.{in-table, scan-stamp, scan-merges, scan-number}
 use Rattle.lookups.specs.Lookups.{rowTests, CellThere, IsScan}
@@ -40,21 +40,21 @@ cell-there s m r c g f b w e q h k =
     let l = row-below (viewOf s m) r f e g q in
     record { given = l; range-below = row-in s (w .proper) (viewOf s m) (w .linked) r l .1; column-below = column-below s c b h k }
 
--- ---- what the tests told, as the functions that read ask for it
-module _ (d : Tested) (j : ℕ) (s : Sizes) (v : View) (r c : ℕ) (p : d ≡ Tested.Passed j) (h : Tells d (CellThere s v r c)) where
+-- ---- what the tests found, as the functions that read ask for it
+module _ (d : Tested) (j : ℕ) (s : Sizes) (v : View) (r c : ℕ) (p : d ≡ Tested.Passed j) (h : IfPassed d (CellThere s v r c)) where
   pub cell-handed-on : CellThere s v r c
-  cell-handed-on = told d (CellThere s v r c) j p h
+  cell-handed-on = if-passed d (CellThere s v r c) j p h
 
-  pub column-told : c < s .columns
-  column-told = cell-handed-on .column-below
+  pub column-below : c < s .columns
+  column-below = cell-handed-on .column-below
 
-  pub row-told : r < rowsGiven v
-  row-told = cell-handed-on .given
+  pub row-below : r < rowsGiven v
+  row-below = cell-handed-on .given
 
-  pub range-told : (g : ℕ) → g ≡ rangeOf r → g < s .ranges
-  range-told g e = rw e (cell-handed-on .range-below)
+  pub range-below : (g : ℕ) → g ≡ rangeOf r → g < s .ranges
+  range-below g e = rw e (cell-handed-on .range-below)
 
-pub ruleset cell-told = (column-told, row-told, range-told)
+pub ruleset cell-inside = (column-below, row-below, range-below)
 
 -- the tests of latest are those of a row and a column
 pub latest-tests : (s : Sizes) (m : List ℕ) (r c : ℕ) (d : Tested) → Says d (verdict (rowTests (shapeIn s) (viewOf s m) r c)) → Tests s m (Call.latest r c) d

@@ -40,7 +40,7 @@ ghost use Rattle.history.specs.History.{Call, verdict, rangeOf};
 ghost use Rattle.model.specs.Preconditions.{shapeIn, OpenAt};
 ghost use Rattle.promise.specs.Promise.{ServesBy, kept};
 ghost use Rattle.entry.specs.Entered.{Fitted};
-ghost use Rattle.entry.specs.Tested.{Says, Finds, Tells, Tests, TestsBy};
+ghost use Rattle.entry.specs.Tested.{Says, Finds, IfPassed, Tests, TestsBy};
 ghost use Rattle.entry.specs.Given.{ScanAt};
 ghost use Rattle.lookups.specs.Lookups.{rowTests, CellThere, IsScan};
 
@@ -50,7 +50,7 @@ ghost use Rattle.lookups.specs.Lookups.{rowTests, CellThere, IsScan};
 fn row_tests(mem: &[u8], s: Sizes, row: Row, column: u32) -> Tested
     requires { ⌜ Fitted s (now mem) ⌝ }
     ensures { λ r. ⌜ Says r (verdict (rowTests (shapeIn s) (viewOf s (now (mem .entry))) (row .0) column)) ⌝ }
-    ensures { λ r. ⌜ Tells r (CellThere s (viewOf s (now (mem .entry))) (row .0) column) ⌝ }
+    ensures { λ r. ⌜ IfPassed r (CellThere s (viewOf s (now (mem .entry))) (row .0) column) ⌝ }
 {
     let Found::At(g) = given_range(mem, s, row) else {
         return Tested::Failed(Refusal::Row);
@@ -84,7 +84,7 @@ pub fn latest(mem: &[u8], t: Scans, row: Row, column: u32) -> Answer
 fn read_at_tests(mem: &[u8], s: Sizes, stamp: Stamp, row: Row, column: u32) -> Tested
     requires { ⌜ Fitted s (now mem) ⌝ }
     ensures { λ r. ⌜ Tests s (now (mem .entry)) (Call.readAt (stamp .0) (row .0) column) r ⌝ }
-    ensures { λ r. ⌜ Tells r (CellThere s (viewOf s (now (mem .entry))) (row .0) column) ⌝ }
+    ensures { λ r. ⌜ IfPassed r (CellThere s (viewOf s (now (mem .entry))) (row .0) column) ⌝ }
 {
     if later(mem, s, stamp) {
         return Tested::Failed(Refusal::Time);
@@ -116,7 +116,7 @@ fn own_read_tests(mem: &[u8], s: Sizes, transaction: Transaction, row: Row, colu
     requires { ⌜ Fitted s (now mem) ⌝ }
     ensures { λ r. ⌜ Tests s (now (mem .entry)) (Call.ownRead (transaction .0) (row .0) column) r ⌝ }
     ensures { λ r. ⌜ Finds r (OpenAt (viewOf s (now (mem .entry))) (transaction .0)) ⌝ }
-    ensures { λ r. ⌜ Tells r (CellThere s (viewOf s (now (mem .entry))) (row .0) column) ⌝ }
+    ensures { λ r. ⌜ IfPassed r (CellThere s (viewOf s (now (mem .entry))) (row .0) column) ⌝ }
 {
     let Found::At(at) = open_index(mem, s, transaction) else {
         return Tested::Failed(Refusal::Transaction);
@@ -167,7 +167,7 @@ fn scan_read_tests(mem: &[u8], s: Sizes, t: Scans, scan: u32, row: Row, column: 
     requires { ⌜ Fitted s (now mem) ⌝ }
     ensures { λ r. ⌜ TestsBy t s (now (mem .entry)) (Call.scanRead scan (row .0) column) r ⌝ }
     ensures { λ r. ⌜ Finds r (ScanAt t scan) ⌝ }
-    ensures { λ r. ⌜ Tells r (CellThere s (viewOf s (now (mem .entry))) (row .0) column) ⌝ }
+    ensures { λ r. ⌜ IfPassed r (CellThere s (viewOf s (now (mem .entry))) (row .0) column) ⌝ }
 {
     let Found::At(j) = find_scan(t, scan) else {
         return Tested::Failed(Refusal::Scan);
@@ -203,7 +203,7 @@ pub fn scan_read(mem: &[u8], t: Scans, scan: u32, row: Row, column: u32) -> Answ
 fn sum_tests(s: Sizes, t: Scans, scan: u32, column: u32) -> Tested
     ensures { λ r. ⌜ ((m : List ℕ) → TestsBy t s m (Call.sum scan column) r) ⌝ }
     ensures { λ r. ⌜ Finds r (ScanAt t scan) ⌝ }
-    ensures { λ r. ⌜ Tells r (column < s .columns) ⌝ }
+    ensures { λ r. ⌜ IfPassed r (column < s .columns) ⌝ }
 {
     let Found::At(j) = find_scan(t, scan) else {
         return Tested::Failed(Refusal::Scan);
@@ -234,7 +234,7 @@ fn page_cell_tests(mem: &[u8], s: Sizes, column: u32, row: Row) -> Tested
     requires { ⌜ Fitted s (now mem) ⌝ }
     ensures { λ r. ⌜ Tests s (now (mem .entry)) (Call.pageCell column (row .0)) r ⌝ }
     ensures { λ r. ⌜ Finds r (λ g. g ≡ rangeOf (row .0)) ⌝ }
-    ensures { λ r. ⌜ Tells r (CellThere s (viewOf s (now (mem .entry))) (row .0) column) ⌝ }
+    ensures { λ r. ⌜ IfPassed r (CellThere s (viewOf s (now (mem .entry))) (row .0) column) ⌝ }
 {
     if no_column(s, column) {
         return Tested::Failed(Refusal::Column);
@@ -266,7 +266,7 @@ fn lineage_tests(s: Sizes, range: u32, column: u32) -> Tested
     ensures { λ r. ⌜ ((m : List ℕ) → Tests s m (Call.lineage range column) r) ⌝ }
     ensures { λ r. ⌜ Finds r (λ g. g ≡ range) ⌝ }
     ensures { λ r. ⌜ Finds r (λ g. g < s .ranges) ⌝ }
-    ensures { λ r. ⌜ Tells r (column < s .columns) ⌝ }
+    ensures { λ r. ⌜ IfPassed r (column < s .columns) ⌝ }
 {
     if no_range(s, range) {
         return Tested::Failed(Refusal::Range);

@@ -76,9 +76,9 @@ module _ (s : Sizes) (m : List ℕ) (g n used : ℕ) (w : Fitted s m) (h : g < s
   pub through-few : n ≤ s .capacity
   through-few = omega (arith, w .linked .used-few g h)
 
-  pub merge-told : (c low p : ℕ) (f : Found) → c < s .columns → low ≡ (pageIn (viewOf s m) (currentIn (shapeIn s) (viewOf s m) g c)) .lineage → low < n
+  pub merge-ready : (c low p : ℕ) (f : Found) → c < s .columns → low ≡ (pageIn (viewOf s m) (currentIn (shapeIn s) (viewOf s m) g c)) .lineage → low < n
       → f ≡ foundAt (s .pages) (freeIn (shapeIn s) (viewOf s m)) → f ≡ Found.At p → MergeReady s (viewOf s m) g c n p
-  merge-told c low p f x y l q z =
+  merge-ready c low p f x y l q z =
       let free = here s (viewOf s m) f (w .proper) q p z in
       record {
         range-below = h;
@@ -100,7 +100,7 @@ pub table-few : (t : Scans) (ps : List ScanEntry) → t ≡ tableOf ps → t .co
 unfolding tableOf
 table-few t ps e = rw e (min-le-left mostScans (openCount ps))
 
--- ---- what a merge asks for, by what its tests told
+-- ---- what a merge asks for, by what its tests found
 pub mergeable : (e : Entry) (s : Sizes) (n : ℕ) (m : List ℕ) (t : Scans) (d : Tested) (g c k p : ℕ) → e ≡ Entry.Fit s n → Enters e m t → d ≡ Tested.Passed p
     → Finds d (MergeReady s (viewOf s m) g c k) → MergeReady s (viewOf s (take n m)) g c k p
 mergeable e s n m t d g c k p a b x y = rw (part-seen (entered e s n m t a b)) (found d _ p x y)

@@ -42,7 +42,7 @@ ghost use Rattle.model.specs.Preconditions.{shapeIn};
 ghost use Rattle.merging.specs.Steps.{MergeReady};
 ghost use Rattle.promise.specs.Promise.{ServesBy, kept};
 ghost use Rattle.entry.specs.Entered.{Fitted};
-ghost use Rattle.entry.specs.Tested.{Says, Finds, Tells, Tests, TestsBy};
+ghost use Rattle.entry.specs.Tested.{Says, Finds, IfPassed, Tests, TestsBy};
 ghost use Rattle.entry.specs.Given.{ScanAt};
 ghost use Rattle.upkeep.specs.Lists.{changedAt, reachTests};
 
@@ -167,7 +167,7 @@ fn open_tests(mem: &[u8], s: Sizes, scans: Scans, stamp: Stamp) -> Tested
     requires { ⌜ Fitted s (now mem) ⌝ }
     ensures { λ r. ⌜ TestsBy scans s (now (mem .entry)) (Call.openScan (stamp .0)) r ⌝ }
     ensures { λ r. ⌜ Finds r (λ j. j ≡ scans .free) ⌝ }
-    ensures { λ r. ⌜ Tells r (scansGiven (viewOf s (now (mem .entry))) < mostNumbers) ⌝ }
+    ensures { λ r. ⌜ IfPassed r (scansGiven (viewOf s (now (mem .entry))) < mostNumbers) ⌝ }
 {
     if later(mem, s, stamp) {
         return Tested::Failed(Refusal::Time);

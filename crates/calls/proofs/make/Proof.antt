@@ -8,7 +8,7 @@ use Rattle.layout.specs.Sizes.{shapeOf}
 use Rattle.making.specs.Made.{made}
 use Rattle.terms.specs.Refusals.{isAccepted}
 use Rattle.scans.specs.Entries.{freedIf}
-use Rattle.lent.proofs.Known.{len-known, made-known}
+use Rattle.lent.proofs.ListFunctions.{len-known, made-known}
 use Rattle.lent.proofs.Further.{value}
 use Rattle.lent.proofs.Slices.{writes}
 use Rattle.lent.proofs.Written.{world}

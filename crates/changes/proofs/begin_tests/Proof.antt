@@ -1,14 +1,14 @@
 -- `changes::begin_tests` meets its contract: each answer follows from the tests that led to it.
 use borrow.Author.Needs.{needs}
 use Rattle.model.specs.Calls.{testsIn}
-use Rattle.entry.specs.Tested.{Tests, Finds, Tells}
+use Rattle.entry.specs.Tested.{Tests, Finds, IfPassed}
 use Rattle.entry.proofs.Decided.{deciding}
 use Rattle.changes.proofs.Tests.{none-free, one-free, free-at}
 use Rattle.changes.proofs.begin_tests.Statement.{statement}
 use Rattle.changes.proofs.begin_tests.Tie as tie
 
 pub begin-tests-spec : {M : Type 1} → statement M
-unfolding Tests Finds Tells testsIn
+unfolding Tests Finds IfPassed testsIn
 begin-tests-spec =
     tie.close
     (tie.spec

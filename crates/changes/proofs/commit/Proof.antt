@@ -2,13 +2,13 @@
 use borrow.Author.Needs.{needs}
 use Rattle.model.specs.Calls.{replyIn, actIn, entriesAfter}
 use Rattle.entry.proofs.Served.{serving, open-below}
-use Rattle.changes.proofs.Tests.{part-told}
+use Rattle.changes.proofs.Tests.{in-part}
 use Rattle.changes.proofs.commit.Statement.{statement}
 use Rattle.changes.proofs.commit.Tie as tie
 
 returns-3 : tie.Need-returns-3
 unfolding replyIn actIn entriesAfter
-returns-3 c = let act : tie.After-commit = search in search (serving, part-told, act .commit .ensures)
+returns-3 c = let act : tie.After-commit = search in search (serving, in-part, act .commit .ensures)
 
 pub commit-spec : {M : Type 1} → statement M
 commit-spec =
@@ -24,7 +24,7 @@ commit-spec =
     (λ c. search needs)
     (λ c. search serving)
     (λ c. search serving)
-    (λ c κs. (search serving, (search serving, (search (serving, part-told), search open-below))))
+    (λ c κs. (search serving, (search serving, (search (serving, in-part), search open-below))))
     (λ c. search needs)
     (λ c. search serving)
     (λ c. search needs)

@@ -2,7 +2,7 @@
 use borrow.Author.Needs.{needs}
 use Rattle.model.specs.Calls.{replyIn, actIn, entriesAfter}
 use Rattle.entry.proofs.Served.{serving}
-use Rattle.changes.proofs.Tests.{part-told}
+use Rattle.changes.proofs.Tests.{in-part}
 use Rattle.changes.proofs.delete.Statement.{statement}
 use Rattle.changes.proofs.delete.Tie as tie
 
@@ -24,7 +24,7 @@ delete-spec =
     (λ c. search needs)
     (λ c. search serving)
     (λ c. search serving)
-    (λ c κs. (search serving, (search serving, (search part-told, search part-told))))
+    (λ c κs. (search serving, (search serving, (search in-part, search in-part))))
     (λ c. search needs)
     (λ c. search serving)
     (λ c. search needs)

@@ -1,13 +1,13 @@
 -- `changes::delete_tests` meets its contract: each answer follows from the tests that led to it.
 use borrow.Author.Needs.{needs}
 use Rattle.model.specs.Calls.{testsIn}
-use Rattle.entry.specs.Tested.{Tests, Finds, Tells}
+use Rattle.entry.specs.Tested.{Tests, Finds, IfPassed}
 use Rattle.entry.proofs.Decided.{deciding}
 use Rattle.changes.proofs.delete_tests.Statement.{statement}
 use Rattle.changes.proofs.delete_tests.Tie as tie
 
 pub delete-tests-spec : {M : Type 1} → statement M
-unfolding Tests Finds Tells testsIn
+unfolding Tests Finds IfPassed testsIn
 delete-tests-spec =
     tie.close
     (tie.spec

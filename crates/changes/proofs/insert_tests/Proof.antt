@@ -1,14 +1,14 @@
 -- `changes::insert_tests` meets its contract: each answer follows from the tests that led to it.
 use borrow.Author.Needs.{needs}
 use Rattle.model.specs.Calls.{testsIn}
-use Rattle.entry.specs.Tested.{Tests, Finds, Tells}
+use Rattle.entry.specs.Tested.{Tests, Finds, IfPassed}
 use Rattle.entry.proofs.Decided.{deciding}
 use Rattle.changes.proofs.Tests.{full, not-full}
 use Rattle.changes.proofs.insert_tests.Statement.{statement}
 use Rattle.changes.proofs.insert_tests.Tie as tie
 
 pub insert-tests-spec : {M : Type 1} → statement M
-unfolding Tests Finds Tells testsIn
+unfolding Tests Finds IfPassed testsIn
 insert-tests-spec =
     tie.close
     (tie.spec

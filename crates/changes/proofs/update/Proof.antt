@@ -2,7 +2,7 @@
 use borrow.Author.Needs.{needs}
 use Rattle.model.specs.Calls.{replyIn, actIn, entriesAfter}
 use Rattle.entry.proofs.Served.{serving}
-use Rattle.changes.proofs.Tests.{part-told}
+use Rattle.changes.proofs.Tests.{in-part}
 use Rattle.changes.proofs.update.Statement.{statement}
 use Rattle.changes.proofs.update.Tie as tie
 
@@ -27,7 +27,7 @@ update-spec =
     (λ c. search needs)
     (λ c. search serving)
     (λ c. search serving)
-    (λ c κs. (search serving, ((search serving, search serving), (search part-told, search part-told))))
+    (λ c κs. (search serving, ((search serving, search serving), (search in-part, search in-part))))
     (λ c. search needs)
     returns-2
     (λ c. search needs)

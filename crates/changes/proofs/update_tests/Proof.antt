@@ -2,14 +2,14 @@
 use borrow.Author.Needs.{needs}
 use Rattle.history.specs.History.{badMask}
 use Rattle.model.specs.Calls.{testsIn}
-use Rattle.entry.specs.Tested.{Tests, Finds, Tells}
+use Rattle.entry.specs.Tested.{Tests, Finds, IfPassed}
 use Rattle.entry.proofs.Decided.{deciding}
 use Rattle.changes.proofs.Tests.{row-inside, wanted-says, wanted-left}
 use Rattle.changes.proofs.update_tests.Statement.{statement}
 use Rattle.changes.proofs.update_tests.Tie as tie
 
 pub update-tests-spec : {M : Type 1} → statement M
-unfolding Tests Finds Tells testsIn badMask
+unfolding Tests Finds IfPassed testsIn badMask
 update-tests-spec =
     tie.close
     (tie.spec

@@ -1,7 +1,7 @@
 -- `facts::scans_hold` meets its contract.
 use borrow.Author.Needs.{needs}
 use Rattle.facts.specs.Tests.{scansHold}
-use Rattle.facts.proofs.Parts.{count-told, numbers-told, stamps-told, merges-told, differ-told}
+use Rattle.facts.proofs.Parts.{count-few, numbers-between, stamps-between, merges-between, numbers-differ}
 use Rattle.facts.proofs.scans_hold.Statement.{statement}
 use Rattle.facts.proofs.scans_hold.Tie as tie
 
@@ -21,8 +21,8 @@ returns c =
     let s = given .before .before in
     let t = s .args .t in
     λ ps e few.
-    rw (c .both3 .ensures, two .both2 .ensures, one .both .ensures, differ .all-differ .ensures, entries .entries-used .ensures .1 (count-told t ps e), differ-told t ps e few)
-    (rw (merges .at-most3 .ensures, merges-told t ps e _ few, stamps .at-most2 .ensures, stamps-told t ps e _ few, numbers .at-most .ensures, numbers-told t ps e _ few, made .read3 .ensures, last .read2 .ensures, given .read .ensures))
+    rw (c .both3 .ensures, two .both2 .ensures, one .both .ensures, differ .all-differ .ensures, entries .entries-used .ensures .1 (count-few t ps e), numbers-differ t ps e few)
+    (rw (merges .at-most3 .ensures, merges-between t ps e _ few, stamps .at-most2 .ensures, stamps-between t ps e _ few, numbers .at-most .ensures, numbers-between t ps e _ few, made .read3 .ensures, last .read2 .ensures, given .read .ensures))
 
 pub scans-hold-spec : {M : Type 1} → statement M
 scans-hold-spec =

@@ -7,7 +7,7 @@ use borrow.Author.Needs.{needs}
 use Rattle.terms.specs.Measures.{withinLimits}
 use Rattle.layout.specs.Regions.{need}
 use Rattle.layout.specs.Sizes.{shapeOf, bytesNeeded, bytesAnswer, tooManyWords}
-use Rattle.layout.proofs.Limits.{need-small, bytes-told}
+use Rattle.layout.proofs.Limits.{need-small, bytes-answered}
 use Rattle.layout.proofs.bytes_needed.Statement.{statement}
 use Rattle.layout.proofs.bytes_needed.Tie as tie
 
@@ -26,5 +26,5 @@ bytes-needed-spec =
     (λ c κs. omega (arith, small c))
     (λ c. omega (arith, small (c .before)))
     (λ c. omega (arith, small (c .before)))
-    (λ c. bytes-told _ (unfold bytesAnswer bytesNeeded in (rw (within (c .before .before), c .words-needed .ensures, c .before .sizes-of .ensures))))
-    (λ c. bytes-told _ (unfold bytesAnswer in (rw (← c .before .within-limits .ensures, c .if1 .left)))))
+    (λ c. bytes-answered _ (unfold bytesAnswer bytesNeeded in (rw (within (c .before .before), c .words-needed .ensures, c .before .sizes-of .ensures))))
+    (λ c. bytes-answered _ (unfold bytesAnswer in (rw (← c .before .within-limits .ensures, c .if1 .left)))))

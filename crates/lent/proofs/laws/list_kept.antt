@@ -21,7 +21,7 @@ use Rattle.lent.proofs.Tokens.{up, ups, lent-on}
 use Rattle.lent.proofs.Chain.{step, quiet, returns, lend, back, apart, called, lent, ended}
 use Rattle.lent.proofs.Slices.{Access, reads, writes, slice, slices, loans, again, lends, local, ensures, core-ensures, E, spot, further-spots, enters, leaves}
 use Rattle.lent.proofs.Callees.{Callee, KnownAs, KnownIn, freely, calls, drops, vacant, shares, relends, copies}
-use Rattle.lent.proofs.Known.{loads, table-known}
+use Rattle.lent.proofs.ListFunctions.{loads, table-known}
 use Rattle.lent.proofs.Written.{Code, Meets, Derived, assumed, routines, closes}
 
 module _ (l : ℕ) (core : Name) (r : Plain) where

@@ -2,7 +2,7 @@
 use borrow.Author.Needs.{needs}
 use Rattle.model.specs.Calls.{replyIn, actIn, entriesAfter}
 use Rattle.entry.proofs.Served.{serving}
-use Rattle.lookups.proofs.Answers.{cell-told, latest-tests, latest-answer}
+use Rattle.lookups.proofs.Answers.{cell-inside, latest-tests, latest-answer}
 use Rattle.lookups.proofs.latest.Statement.{statement}
 use Rattle.lookups.proofs.latest.Tie as tie
 
@@ -22,6 +22,6 @@ latest-spec =
     (λ c. search needs)
     (λ c. search needs)
     (λ c κs. search serving)
-    (λ c κs. (search serving, (search serving, ((search serving, search serving), (search cell-told, search cell-told)))))
+    (λ c κs. (search serving, (search serving, ((search serving, search serving), (search cell-inside, search cell-inside)))))
     (λ c. search (serving, latest-tests))
     returns-3)

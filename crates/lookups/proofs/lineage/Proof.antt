@@ -1,7 +1,7 @@
 -- `lookups::lineage` meets its contract: the tests tell what the reading asks for.
 use borrow.Author.Needs.{needs}
 use Rattle.model.specs.Calls.{replyIn, actIn, entriesAfter}
-use Rattle.entry.proofs.Served.{serving, index-below, told-below}
+use Rattle.entry.proofs.Served.{serving, index-below, passed-below}
 use Rattle.lookups.proofs.Answers.{lineage-answer}
 use Rattle.lookups.proofs.lineage.Statement.{statement}
 use Rattle.lookups.proofs.lineage.Tie as tie
@@ -24,7 +24,7 @@ lineage-spec =
     (λ c κs. search needs)
     (λ c. search needs)
     (λ c. search needs)
-    (λ c κs. (search serving, (search serving, (search serving, (search index-below, search told-below)))))
+    (λ c κs. (search serving, (search serving, (search serving, (search index-below, search passed-below)))))
     (λ c κs. (search serving, search needs))
     (λ c κs. (search serving, search index-below))
     returns-2

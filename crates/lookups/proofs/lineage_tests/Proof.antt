@@ -2,13 +2,13 @@
 use borrow.Author.Needs.{needs}
 use mathlib.Core.Path.{refl}
 use Rattle.model.specs.Calls.{testsIn}
-use Rattle.entry.specs.Tested.{Tests, Finds, Tells}
+use Rattle.entry.specs.Tested.{Tests, Finds, IfPassed}
 use Rattle.entry.proofs.Decided.{deciding}
 use Rattle.lookups.proofs.lineage_tests.Statement.{statement}
 use Rattle.lookups.proofs.lineage_tests.Tie as tie
 
 pub lineage-tests-spec : {M : Type 1} → statement M
-unfolding Tests Finds Tells testsIn
+unfolding Tests Finds IfPassed testsIn
 lineage-tests-spec =
     tie.close
     (tie.spec

@@ -2,7 +2,7 @@
 use borrow.Author.Needs.{needs}
 use Rattle.model.specs.Calls.{replyIn, actIn, entriesAfter}
 use Rattle.entry.proofs.Served.{serving, open-below}
-use Rattle.lookups.proofs.Answers.{cell-told, index-open}
+use Rattle.lookups.proofs.Answers.{cell-inside, index-open}
 use Rattle.lookups.proofs.own_read.Statement.{statement}
 use Rattle.lookups.proofs.own_read.Tie as tie
 
@@ -26,6 +26,6 @@ own-read-spec =
     (λ c. search needs)
     (λ c κs. search serving)
     (λ c κs. (search serving, search open-below))
-    (λ c κs. (search serving, (search serving, ((search serving, search serving), (search cell-told, search cell-told)))))
+    (λ c κs. (search serving, (search serving, ((search serving, search serving), (search cell-inside, search cell-inside)))))
     (λ c. search serving)
     returns-3)

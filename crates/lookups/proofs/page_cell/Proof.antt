@@ -2,7 +2,7 @@
 use borrow.Author.Needs.{needs}
 use Rattle.model.specs.Calls.{replyIn, actIn, entriesAfter}
 use Rattle.entry.proofs.Served.{serving, index-is}
-use Rattle.lookups.proofs.Answers.{cell-told, cell-answer}
+use Rattle.lookups.proofs.Answers.{cell-inside, cell-answer}
 use Rattle.lookups.proofs.page_cell.Statement.{statement}
 use Rattle.lookups.proofs.page_cell.Tie as tie
 
@@ -21,7 +21,7 @@ page-cell-spec =
     (λ c κs. search serving)
     (λ c. search needs)
     (λ c. search needs)
-    (λ c κs. (search serving, (search serving, (search serving, (search (cell-told, index-is), search cell-told)))))
+    (λ c κs. (search serving, (search serving, (search serving, (search (cell-inside, index-is), search cell-inside)))))
     (λ c κs. (search serving, (search serving, search needs)))
     (λ c κs. search needs)
     (λ c. search serving)

@@ -1,14 +1,14 @@
 -- `lookups::page_cell_tests` meets its contract: each answer follows from the tests that led to it.
 use borrow.Author.Needs.{needs}
 use Rattle.model.specs.Calls.{testsIn}
-use Rattle.entry.specs.Tested.{Tests, Finds, Tells}
+use Rattle.entry.specs.Tested.{Tests, Finds, IfPassed}
 use Rattle.entry.proofs.Decided.{deciding}
 use Rattle.lookups.proofs.Answers.{cell-there}
 use Rattle.lookups.proofs.page_cell_tests.Statement.{statement}
 use Rattle.lookups.proofs.page_cell_tests.Tie as tie
 
 pub page-cell-tests-spec : {M : Type 1} → statement M
-unfolding Tests Finds Tells testsIn
+unfolding Tests Finds IfPassed testsIn
 page-cell-tests-spec =
     tie.close
     (tie.spec

@@ -2,7 +2,7 @@
 use borrow.Author.Needs.{needs}
 use Rattle.model.specs.Calls.{replyIn, actIn, entriesAfter}
 use Rattle.entry.proofs.Served.{serving}
-use Rattle.lookups.proofs.Answers.{cell-told}
+use Rattle.lookups.proofs.Answers.{cell-inside}
 use Rattle.lookups.proofs.read_at.Statement.{statement}
 use Rattle.lookups.proofs.read_at.Tie as tie
 
@@ -21,6 +21,6 @@ read-at-spec =
     (λ c κs. search serving)
     (λ c. search needs)
     (λ c. search needs)
-    (λ c κs. (search serving, (search serving, ((search serving, search serving), (search cell-told, search cell-told)))))
+    (λ c κs. (search serving, (search serving, ((search serving, search serving), (search cell-inside, search cell-inside)))))
     (λ c. search serving)
     returns-3)

@@ -1,13 +1,13 @@
 -- `lookups::read_at_tests` meets its contract: each answer follows from the tests that led to it.
 use borrow.Author.Needs.{needs}
 use Rattle.model.specs.Calls.{testsIn}
-use Rattle.entry.specs.Tested.{Tests, Tells}
+use Rattle.entry.specs.Tested.{Tests, IfPassed}
 use Rattle.entry.proofs.Decided.{deciding}
 use Rattle.lookups.proofs.read_at_tests.Statement.{statement}
 use Rattle.lookups.proofs.read_at_tests.Tie as tie
 
 pub read-at-tests-spec : {M : Type 1} → statement M
-unfolding Tests Tells testsIn
+unfolding Tests IfPassed testsIn
 read-at-tests-spec =
     tie.close
     (tie.spec

@@ -1,13 +1,13 @@
 -- `lookups::row_tests` meets its contract: each answer follows from the tests that led to it.
 use borrow.Author.Needs.{needs}
-use Rattle.entry.specs.Tested.{Tells}
+use Rattle.entry.specs.Tested.{IfPassed}
 use Rattle.entry.proofs.Decided.{deciding}
 use Rattle.lookups.proofs.Answers.{cell-there}
 use Rattle.lookups.proofs.row_tests.Statement.{statement}
 use Rattle.lookups.proofs.row_tests.Tie as tie
 
 pub row-tests-spec : {M : Type 1} → statement M
-unfolding Tells
+unfolding IfPassed
 row-tests-spec =
     tie.close
     (tie.spec

@@ -2,7 +2,7 @@
 use borrow.Author.Needs.{needs}
 use Rattle.model.specs.Calls.{replyIn, actIn, entriesAfter}
 use Rattle.entry.proofs.Served.{serving, scan-below}
-use Rattle.lookups.proofs.Answers.{cell-told, cell-scanned}
+use Rattle.lookups.proofs.Answers.{cell-inside, cell-scanned}
 use Rattle.lookups.proofs.scan_read.Statement.{statement}
 use Rattle.lookups.proofs.scan_read.Tie as tie
 
@@ -23,7 +23,7 @@ scan-read-spec =
     (λ c. search needs)
     (λ c κs. search scan-below)
     (λ c κs. search needs)
-    (λ c κs. (search serving, (search serving, (search serving, (search cell-told, search cell-told)))))
-    (λ c κs. (search serving, (search serving, (search serving, (search needs, search cell-told, search cell-told)))))
+    (λ c κs. (search serving, (search serving, (search serving, (search cell-inside, search cell-inside)))))
+    (λ c κs. (search serving, (search serving, (search serving, (search needs, search cell-inside, search cell-inside)))))
     (λ c. search serving)
     returns-3)

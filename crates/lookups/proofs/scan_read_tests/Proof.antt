@@ -1,14 +1,14 @@
 -- `lookups::scan_read_tests` meets its contract: each answer follows from the tests that led to it.
 use borrow.Author.Needs.{needs}
 use Rattle.model.specs.Calls.{testsIn}
-use Rattle.entry.specs.Tested.{TestsBy, Finds, Tells}
+use Rattle.entry.specs.Tested.{TestsBy, Finds, IfPassed}
 use Rattle.entry.proofs.Decided.{deciding, scan-entry}
 use Rattle.lookups.proofs.Answers.{cell-handed-on}
 use Rattle.lookups.proofs.scan_read_tests.Statement.{statement}
 use Rattle.lookups.proofs.scan_read_tests.Tie as tie
 
 pub scan-read-tests-spec : {M : Type 1} → statement M
-unfolding TestsBy Finds Tells testsIn
+unfolding TestsBy Finds IfPassed testsIn
 scan-read-tests-spec =
     tie.close
     (tie.spec

@@ -1,7 +1,7 @@
 -- `lookups::sum` meets its contract: the tests tell what the reading asks for.
 use borrow.Author.Needs.{needs}
 use Rattle.model.specs.Calls.{replyIn, actIn, entriesAfter}
-use Rattle.entry.proofs.Served.{serving, scan-below, told-below}
+use Rattle.entry.proofs.Served.{serving, scan-below, passed-below}
 use Rattle.lookups.proofs.Answers.{sum-scanned}
 use Rattle.lookups.proofs.sum.Statement.{statement}
 use Rattle.lookups.proofs.sum.Tie as tie
@@ -25,6 +25,6 @@ sum-spec =
     (λ c. search needs)
     (λ c. search needs)
     (λ c κs. search scan-below)
-    (λ c κs. (search serving, (search serving, ((search serving, search serving), search told-below))))
+    (λ c κs. (search serving, (search serving, ((search serving, search serving), search passed-below))))
     returns-2
     returns-3)

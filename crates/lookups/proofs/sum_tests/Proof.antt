@@ -1,13 +1,13 @@
 -- `lookups::sum_tests` meets its contract: each answer follows from the tests that led to it.
 use borrow.Author.Needs.{needs}
 use Rattle.model.specs.Calls.{testsIn}
-use Rattle.entry.specs.Tested.{TestsBy, Finds, Tells}
+use Rattle.entry.specs.Tested.{TestsBy, Finds, IfPassed}
 use Rattle.entry.proofs.Decided.{deciding, scan-entry}
 use Rattle.lookups.proofs.sum_tests.Statement.{statement}
 use Rattle.lookups.proofs.sum_tests.Tie as tie
 
 pub sum-tests-spec : {M : Type 1} → statement M
-unfolding TestsBy Finds Tells testsIn
+unfolding TestsBy Finds IfPassed testsIn
 sum-tests-spec =
     tie.close
     (tie.spec

@@ -5,7 +5,7 @@ use mathlib.Core.Path.{ap}
 use Rattle.terms.specs.declared.Answer.{Answer}
 use Rattle.model.specs.Calls.{replyIn, actIn}
 use Rattle.entry.proofs.Served.{serving, entered, part-seen, found, write-serves}
-use Rattle.upkeep.proofs.Listing.{unlisted-serves, opened-list, number-told}
+use Rattle.upkeep.proofs.Listing.{unlisted-serves, opened-list, number-in-part}
 use Rattle.upkeep.proofs.open_scan.Statement.{statement}
 use Rattle.upkeep.proofs.open_scan.Tie as tie
 
@@ -40,7 +40,7 @@ open-scan-spec =
     (λ c κs. (search serving, omega arith))
     (λ c. search serving)
     (λ c. search serving)
-    (λ c κs. (search serving, search number-told))
+    (λ c κs. (search serving, search number-in-part))
     (λ c. search needs)
     (λ c. unlisted-serves _ _ _ _ _ (c .unlisted2 .ensures) (search serving))
     (λ c. search needs)

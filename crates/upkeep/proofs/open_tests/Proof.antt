@@ -2,14 +2,14 @@
 use borrow.Author.Needs.{needs}
 use mathlib.Core.Path.{refl}
 use Rattle.model.specs.Calls.{testsIn}
-use Rattle.entry.specs.Tested.{TestsBy, Finds, Tells}
+use Rattle.entry.specs.Tested.{TestsBy, Finds, IfPassed}
 use Rattle.entry.proofs.Decided.{deciding}
 use Rattle.upkeep.proofs.Listing.{all-open, some-free}
 use Rattle.upkeep.proofs.open_tests.Statement.{statement}
 use Rattle.upkeep.proofs.open_tests.Tie as tie
 
 pub open-tests-spec : {M : Type 1} → statement M
-unfolding TestsBy Finds Tells testsIn
+unfolding TestsBy Finds IfPassed testsIn
 open-tests-spec =
     tie.close
     (tie.spec

@@ -2,7 +2,7 @@
 use borrow.Author.Needs.{needs}
 use Rattle.entry.specs.Tested.{Finds}
 use Rattle.entry.proofs.Decided.{deciding}
-use Rattle.upkeep.proofs.Tests.{no-page, page-left, too-low, too-high, in-reach, through-few, merge-told}
+use Rattle.upkeep.proofs.Tests.{no-page, page-left, too-low, too-high, in-reach, through-few, merge-ready}
 use Rattle.upkeep.proofs.reach_tests.Statement.{statement}
 use Rattle.upkeep.proofs.reach_tests.Tie as tie
 
@@ -20,4 +20,4 @@ reach-tests-spec =
     (λ c. search needs)
     (λ c. search needs)
     (λ c. (search (deciding, in-reach, no-page), tt))
-    (λ c. (search (deciding, in-reach, page-left), search merge-told)))
+    (λ c. (search (deciding, in-reach, page-left), search merge-ready)))

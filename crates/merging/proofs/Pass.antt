@@ -23,7 +23,7 @@ use Rattle.terms.specs.Entries.{firstIndex}
 use Rattle.model.specs.Stored.{recordIn, valueIn, pageIn, currentIn, chunksOf, pagesOf, within, freePage, firstFrom, nextWord}
 use Rattle.layout.specs.Regions.{mergesAt, slot}
 use Rattle.model.specs.Writing.{applies, applied, newestOf, namedIn, strayIn, freeIn, mergedIn}
-use Rattle.model.proofs.Free.{free-unnamed}
+use Rattle.model.proofs.upkeep.Free.{free-unnamed}
 use Rattle.history.specs.History.{bit}
 use Rattle.history.proofs.Lists.{both, eqb-equal}
 use Rattle.rows.proofs.Indices.{chunk-in}

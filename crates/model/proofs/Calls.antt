@@ -34,15 +34,16 @@ use Rattle.model.specs.declared.Reader.{Reader}
 use Rattle.model.specs.Reading.{reader, readIn, readCurrent, ownChanges, wordIn, scanPage, Tally, tally, sumIn}
 use Rattle.model.specs.Calls.{testsIn, replyIn, actIn, entriesAfter, viewIf, entriesIf, say, viewNext, entriesNext, notOpenIn, noScanIn, notGivenIn, lacksIn, notLaterIn, laterIn, outOfReachIn, Typed}
 use Rattle.model.specs.Represents.{everyRow, CurrentOf, Unchanged, scanAs, Represents, WellFormed, SameCall, StepKept}
-use Rattle.model.proofs.Transactions.{opens-is, opens-full, open-there, active-given, begin-kept, commit-kept, abort-kept}
-use Rattle.model.proofs.Insert.{insert-kept}
-use Rattle.model.proofs.Heads.{in-range, SeesAs, sees-at, sees-own, held-is, gone-is, visible-is}
-use Rattle.model.proofs.Read.{word-is, read-is}
-use Rattle.model.proofs.Records.{delete-kept}
-use Rattle.model.proofs.Update.{wanted-is, update-kept}
-use Rattle.model.proofs.Scans.{scan-is, scan-count, scan-found, open-kept, close-kept}
-use Rattle.model.proofs.Merged.{free-is, open-among-is, merge-kept}
-use Rattle.model.proofs.Release.{release-count, release-kept}
+use Rattle.model.proofs.Opens.{opens-is, opens-full, open-there, active-given}
+use Rattle.model.proofs.changes.Transactions.{begin-kept, commit-kept, abort-kept}
+use Rattle.model.proofs.changes.Insert.{insert-kept}
+use Rattle.model.proofs.lookups.Heads.{in-range, SeesAs, sees-at, sees-own, held-is, gone-is, visible-is}
+use Rattle.model.proofs.lookups.Read.{word-is, read-is}
+use Rattle.model.proofs.changes.Records.{delete-kept}
+use Rattle.model.proofs.changes.Update.{wanted-is, update-kept}
+use Rattle.model.proofs.upkeep.Scans.{scan-is, scan-count, scan-found, open-kept, close-kept}
+use Rattle.model.proofs.upkeep.Merged.{free-is, open-among-is, merge-kept}
+use Rattle.model.proofs.upkeep.Release.{release-count, release-kept}
 
 -- ---- tests that agree as far as they are run: each has the other's outcome, if those before it passed
 pub data Agree : List Test → List Test → Type 0 where

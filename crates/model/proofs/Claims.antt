@@ -27,9 +27,9 @@ use Rattle.model.specs.Calls.{testsIn, actIn, viewIf, Typed, viewNext, e
 use Rattle.model.specs.Claims.{storeAfter, historyAfter, ReadsGive, PageHolds, PagesHold, PageKept, ScansKeep}
 use Rattle.model.specs.Represents.{CurrentOf, Represents, WellFormed}
 use Rattle.model.proofs.Holding.{cell-absent}
-use Rattle.model.proofs.Heads.{sees-at}
+use Rattle.model.proofs.lookups.Heads.{sees-at}
 use Rattle.model.proofs.Calls.{current-read, one-call}
-use Rattle.model.proofs.Scans.{scan-current}
+use Rattle.model.proofs.upkeep.Scans.{scan-current}
 use Rattle.model.proofs.Openings.{SamePage, same-after, scan-later}
 use Rattle.model.proofs.Made.{small-shape, made-represents}
 

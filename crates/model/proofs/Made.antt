@@ -33,7 +33,7 @@ use Rattle.layout.specs.Codes.{asCurrent}
 use Rattle.model.proofs.Lists.{below-none}
 use Rattle.model.specs.Represents.{Holds, everyRow, CurrentsAre, PoolIs, Represents, Small, WellFormed, Whole}
 use Rattle.model.proofs.Views.{renew-whole, put-whole, changed-start}
-use Rattle.model.proofs.Merged.{chunk-in}
+use Rattle.model.proofs.upkeep.Merged.{chunk-in}
 use Rattle.model.proofs.Calls.{one-call}
 
 -- ---- a stretch from the start

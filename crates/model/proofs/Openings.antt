@@ -25,11 +25,11 @@ use Rattle.model.specs.Reading.{scanPage, wasCurrent}
 use Rattle.model.specs.Writing.{begun, noted, settled, freed, committedIn, abortedIn, insertedAt, insertedIn, appended, filledIn, newBitsIn, originalAppended, settingAppended, updatedIn, deletedIn, mergedIn, releasedIn}
 use Rattle.model.specs.Calls.{Typed, actIn, viewIf, viewNext, entriesNext, viewAfter}
 use Rattle.model.specs.Represents.{ScanPageOf, Represents, WellFormed}
-use Rattle.model.proofs.Insert.{cell-kept, scan-apart}
-use Rattle.model.proofs.Merged.{scan-same, scan-not-free, cells-other}
+use Rattle.model.proofs.changes.Insert.{cell-kept, scan-apart}
+use Rattle.model.proofs.upkeep.Merged.{scan-same, scan-not-free, cells-other}
 use Rattle.model.proofs.Holding.{grown}
 use Rattle.model.proofs.Steady.{still-running}
-use Rattle.model.proofs.Release.{scan-page-kept}
+use Rattle.model.proofs.upkeep.Release.{scan-page-kept}
 use Rattle.model.proofs.Calls.{agree-verdict, tests-agree, one-call}
 
 -- The scan that had m merges made before it finds the same page in w as in v, and the page's cells of the first n rows are the same.

@@ -27,7 +27,7 @@ use Rattle.terms.specs.Entries.{freeEntry}
 use Rattle.model.specs.Reading.{reader}
 use Rattle.model.specs.Calls.{Typed, viewNext, viewAfter, entriesAfterAll as modelList}
 use Rattle.model.specs.Claims.{storeAfter, historyAfter, ReadsGive}
-use Rattle.model.proofs.Heads.{sees-at}
+use Rattle.model.proofs.lookups.Heads.{sees-at}
 use Rattle.model.proofs.Calls.{current-read, one-call}
 use Rattle.model.proofs.Made.{small-shape, made-represents}
 use Rattle.model.proofs.Claims.{represented, reads, pages-hold, scans-keep}

@@ -35,10 +35,10 @@ use Rattle.model.specs.Preconditions.{ChunksCurrent}
 use Rattle.model.specs.Writing.{newBitsIn, recordsWanted, freeIn}
 use Rattle.model.specs.Calls.{openIn, openOther, standsFor, anyRecord, notOpenIn, noScanIn, notGivenIn, heldIn, goneIn, lacksIn, notLaterIn, laterIn, outOfReachIn, openAmongIn, testsIn, replyIn, say}
 use Rattle.model.proofs.Lists.{first-below, first-passes, any-count, count-rest}
-use Rattle.model.proofs.Heads.{slot-is}
-use Rattle.model.proofs.Insert.{bit-none}
-use Rattle.model.proofs.Masks.{bit-new, no-bits, below-bits, below-power}
-use Rattle.model.proofs.Free.{free-none}
+use Rattle.model.proofs.lookups.Heads.{slot-is}
+use Rattle.model.proofs.changes.Insert.{bit-none}
+use Rattle.model.proofs.changes.Masks.{bit-new, no-bits, below-bits, below-power}
+use Rattle.model.proofs.upkeep.Free.{free-none}
 use Rattle.promise.specs.Promise.{storeView, answerOf}
 use Rattle.promise.specs.Stated.{Open, ScanOpen, Committed, Aborted, RecordUpTo, RecordOf, Touched, WrongMask, Held, Gone, Lacks, LacksWanted, transactionsOpen, OpenUpTo, NoneFree, Clause, _on_, stated, conditions, First, NoneApplies}
 use Rattle.promise.specs.Demands.{Refuses}

@@ -32,10 +32,10 @@ use Rattle.facts.proofs.Usable.{Linked, Usable}
 use Rattle.terms.specs.Entries.{freeEntry}
 use Rattle.model.specs.Stored.{rowIn, recordIn, valueIn, pageIn, chunksOf, pagesOf}
 use Rattle.model.proofs.Book.{live-given, number-live, number-given, numbers-apart, entry-stands}
-use Rattle.model.proofs.Merged.{chunk-parts, named, chunks-current}
-use Rattle.model.proofs.Heads.{in-range}
-use Rattle.model.proofs.Scans.{scanKind, scan-count}
-use Rattle.model.proofs.Transactions.{openKind}
+use Rattle.model.proofs.upkeep.Merged.{chunk-parts, named, chunks-current}
+use Rattle.model.proofs.lookups.Heads.{in-range}
+use Rattle.model.proofs.upkeep.Scans.{scanKind, scan-count}
+use Rattle.model.proofs.Opens.{openKind}
 use Rattle.model.specs.Represents.{RecordIs, WaitingIs, madeIn, Represents, WellFormed}
 use Rattle.promise.proofs.Tests.{facts-hold}
 

@@ -33,11 +33,11 @@ use Rattle.model.specs.Writing.{noted, nextSlot, appended, filledIn, del
 use Rattle.model.specs.Represents.{stateWord, RowIs, RowsAre, ContentIs, RecordIs, TailsFor, TailsAre, NotesAre, Represents, WellFormed, Whole}
 use Rattle.model.proofs.Steady.{pages-stay}
 use Rattle.model.proofs.Views.{noted-whole}
-use Rattle.model.proofs.Notes.{notes-more, few-changes}
-use Rattle.model.proofs.Transactions.{active-given}
-use Rattle.model.proofs.Insert.{never-set}
-use Rattle.model.proofs.Heads.{in-range}
-use Rattle.model.proofs.Append.{tails-more, appended-here, appended-there, used-here, used-there, link-here, link-there, appended-whole, slot-next, slot-in, filled-here, filled-there, content-values, filled-whole}
+use Rattle.model.proofs.changes.Notes.{notes-more, few-changes}
+use Rattle.model.proofs.Opens.{active-given}
+use Rattle.model.proofs.changes.Insert.{never-set}
+use Rattle.model.proofs.lookups.Heads.{in-range}
+use Rattle.model.proofs.changes.Append.{tails-more, appended-here, appended-there, used-here, used-there, link-here, link-there, appended-whole, slot-next, slot-in, filled-here, filled-there, content-values, filled-whole}
 
 -- ---- the last record of a row
 -- records of other rows at the end do not matter

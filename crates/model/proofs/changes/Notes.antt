@@ -19,7 +19,7 @@ use Rattle.history.specs.Invariants.{sumBelow}
 use Rattle.terms.specs.Entries.{bears, firstIndex}
 use Rattle.model.specs.Stored.{nextWord}
 use Rattle.model.specs.Represents.{OpensAre, Unchanged, NotedIs, NotesAre, WellFormed}
-use Rattle.model.proofs.Transactions.{openKind, open-there}
+use Rattle.model.proofs.Opens.{openKind, open-there}
 use Rattle.model.proofs.Book.{only-entry}
 
 -- ---- all tail records together

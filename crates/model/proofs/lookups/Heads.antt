@@ -28,7 +28,7 @@ use Rattle.model.specs.Reading.{reader, sees, seesRecord, headIn, hasRec
 use Rattle.layout.specs.Regions.{slot}
 use Rattle.model.specs.Calls.{openOther, standsFor, anyRecord, heldIn, goneIn}
 use Rattle.model.proofs.Lists.{any-below}
-use Rattle.model.proofs.Transactions.{opens-is}
+use Rattle.model.proofs.Opens.{opens-is}
 use Rattle.model.specs.Represents.{stateWord, RowIs, ContentIs, TailOf, Represents, WellFormed}
 
 pub slot-is : (S : Shape) (g k : ℕ) → slot S g (suc k) ≡ g * S .capacity + k

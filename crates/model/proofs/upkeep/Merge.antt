@@ -31,9 +31,9 @@ use Rattle.model.specs.Stored.{recordIn, valueIn, within, committedState
 use Rattle.layout.specs.Regions.{slot}
 use Rattle.model.specs.Writing.{applies, applied, newestOf}
 use Rattle.model.specs.Represents.{stateWord, ContentIs, RecordIs, NotAfter, TailOf}
-use Rattle.model.proofs.Read.{setting-value}
+use Rattle.model.proofs.lookups.Read.{setting-value}
 use Rattle.model.proofs.Holding.{same-row}
-use Rattle.model.proofs.Heads.{slot-is}
+use Rattle.model.proofs.lookups.Heads.{slot-is}
 
 committed-word : (s : State) → committedState (stateWord s) ≡ isCommitted s
 unfolding isCommitted

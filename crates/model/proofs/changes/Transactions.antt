@@ -1,19 +1,19 @@
 -- Open transactions: begin, commit and abort keep the relation. Commit and abort mark every row and record that bears the number.
 use mathlib.Core.Path.{_≡_, refl, sym, _∙_, ap}
 use mathlib.Core.Logic.{_≢_, inl, inr}
-use mathlib.Core.Bool.{true, false, not, cond}
+use mathlib.Core.Bool.{true, false, cond}
 use mathlib.Core.List.{List, [], _∷_, _++_}
 use Prim.Native.Nat.{ℕ, zero, suc, _+_, _*_, _^_, _≤_, _<_, zero-le}
 use native.Mathlib.Omega.{arith}
 use native.Mathlib.Nat.{le-refl, le-trans, not-suc-le-zero, zero-add, mul-le-mul-right, suc-mul}
 use native.Mathlib.Decide.{ℕ-discrete}
-use lib.Dec.{T, leb, ltb, eqb, leb→le, le→leb, nltb→le, ltb→lt, not-T}
+use lib.Dec.{T, eqb}
 use lib.ListN.{length, getD, set, length-append}
 use lib.Seq.{getD-set-same, getD-set-other}
 use borrow.Author.Tests.{ne-eqb, eq-eqb}
-use Rattle.terms.specs.Measures.{Shape, mostTransactions, mostNumbers}
-use Rattle.history.specs.History.{begin, commit, abort, History, Row, Record, State, unknown, active, aborted, committed, any, count, nth, change, isActive, stateOf, rowAt, rangeOf, recordsOf, scanAt, withTransactions}
-use Rattle.history.proofs.Lists.{both-test, eq-test, by-cases, all-each, nth-beyond, clash, all-map, nth-changed, nth-other, length-change}
+use Rattle.terms.specs.Measures.{Shape, mostNumbers}
+use Rattle.history.specs.History.{begin, commit, abort, History, Row, Record, State, unknown, active, aborted, committed, any, nth, change, stateOf, rowAt, rangeOf, recordsOf, scanAt, withTransactions}
+use Rattle.history.proofs.Lists.{by-cases, all-each, nth-beyond, clash, all-map, nth-changed, nth-other, length-change}
 use Rattle.history.specs.Steps.{Step, Closing, by-commit, by-abort}
 use Rattle.history.specs.Latest.{stampOf}
 use Rattle.history.proofs.States.{given-known, state-began}
@@ -27,57 +27,16 @@ use Rattle.loops.proofs.Change.{changed-length, changed-outside, changed-at, ch
 use Rattle.layout.specs.View.{View, renew, put, rowsGiven, transactionsGiven, usedIn}
 use Rattle.layout.specs.declared.Region.the-variants.{Header, Opens, RowTransaction, RowState, RowStamp, TailTransaction, TailState, TailStamp, Used, Changes}
 use Rattle.terms.specs.declared.ScanEntry.{ScanEntry}
-use Rattle.terms.specs.Entries.{bears, firstIndex}
+use Rattle.terms.specs.Entries.{firstIndex}
 use Rattle.layout.specs.Regions.{transactionsAt, stampAt}
+use Rattle.model.proofs.Opens.{opens-begin, opens-close, open-there}
 use Rattle.model.specs.Stored.{RowWords, RecordWords, rowIn, recordIn, valueIn, pageIn, cellIn, currentIn, openIndex}
 use Rattle.model.specs.Reading.{scanPage, wasCurrent}
 use Rattle.model.specs.Writing.{begun, markTails, settled, freed, committedIn, abortedIn}
-use Rattle.model.proofs.Lists.{same-truth, any-count, first-below, first-passes, part-in}
-use Rattle.model.proofs.Book.{Kind, live-given, book-is, book-room, book-add, book-drop}
+use Rattle.model.proofs.Lists.{first-below, part-in}
 use Rattle.model.specs.Represents.{stateWord, RowIs, RecordIs, TailOf, RowsAre, TailsAre, OpensAre, Unchanged, NotesAre, HeaderFor, Represents, WellFormed, Whole}
 use Rattle.model.proofs.Views.{renew-whole, put-whole, changed-start, header-put, header-same}
 use Rattle.model.proofs.Steady.{pages-stay}
-
--- ---- the open entries are a book
-pub unknown-idle : isActive unknown ≡ false
-unfolding isActive
-unknown-idle = refl
-
-abbrev pub openKind : Kind ℕ State
-openKind =
-    record { number = λ k. k; live = isActive; as′ = λ i s. i; as-number = λ i s. refl; free = 0; free-number = refl; none = unknown; none-live = unknown-idle; tells = λ p q f. f (λ k. k) }
-
-pub opens-is : (ts : List State) (l : List ℕ) → OpensAre ts l → (t : ℕ) → any (bears t) l ≡ isActive (nth ts t unknown)
-opens-is ts l o = book-is openKind ts l o
-
--- what stands in the entry of an active transaction
-pub open-there : (ts : List State) (l : List ℕ) → OpensAre ts l → (t : ℕ) → nth ts t unknown ≡ active → (firstIndex (bears t) l < length l) × (getD l (firstIndex (bears t) l) 0 ≡ t)
-unfolding isActive
-open-there ts l o t a =
-    let b : T (any (bears t) l) = rw (opens-is ts l o t, a) tt in
-    (first-below (bears t) l b, simp (both-test, eq-test) at (first-passes (bears t) l 0 b) .1)
-
--- its number is among those given
-pub active-given : (ts : List State) (t : ℕ) → nth ts t unknown ≡ active → (1 ≤ t) × (t ≤ length ts)
-unfolding isActive
-active-given ts t a = live-given isActive ts t unknown refl (rw a tt)
-
--- all entries are taken
-pub opens-full : (ts : List State) (l : List ℕ) → length l ≡ mostTransactions → OpensAre ts l → not (any (λ k. eqb k 0) l) ≡ leb mostTransactions (count isActive ts)
-opens-full ts l n o =
-    let e : count (λ k. eqb k 0) l + count isActive ts ≡ length l = book-room openKind ts l o in
-    ap not (any-count (λ k. eqb k 0) l)
-    ∙ same-truth _ _ (λ t. le→leb mostTransactions (count isActive ts) (omega (arith, nltb→le 0 (count (λ k. eqb k 0) l) t)))
-    (λ t. not-T (ltb 0 (count (λ k. eqb k 0) l)) (λ u. omega (arith, ltb→lt 0 (count (λ k. eqb k 0) l) u, leb→le mostTransactions (count isActive ts) t)))
-
-opens-begin : (ts : List State) (l : List ℕ) → OpensAre ts l → T (any (λ k. eqb k 0) l) → OpensAre (ts ++ active ∷ []) (set l (firstIndex (λ k. eqb k 0) l) (suc (length ts)))
-unfolding isActive
-opens-begin ts l o a = book-add openKind ts l o active tt a
-
-opens-close : (ts : List State) (l : List ℕ) (t : ℕ) (x : State) → OpensAre ts l → nth ts t unknown ≡ active → isActive x ≡ false
-    → OpensAre (change ts t x) (set l (firstIndex (bears t) l) 0)
-unfolding isActive
-opens-close ts l t x o p n = book-drop openKind ts l o t (rw p tt) x n
 
 -- ---- rows and records under new states
 row-states : {st st′ : ℕ → State} {w : Row} {recs : List Record} {r : ℕ} {x : RowWords} → st′ (w .inserter) ≡ st (w .inserter) → RowIs st w recs r x → RowIs st′ w recs r x

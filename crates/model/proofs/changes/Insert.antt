@@ -41,8 +41,8 @@ use Rattle.model.specs.Represents.{stateWord, RowIs, RowsAre, Holds, eve
 use Rattle.model.proofs.Holding.{same-row, withRow, row-new, not-given, other-row, holds-step, holds-cells, holds-insert}
 use Rattle.model.proofs.Steady.{scan-cells, scan-page-step, waits-stay}
 use Rattle.model.proofs.Views.{renew-whole, put-whole, noted-whole, header-put, header-same}
-use Rattle.model.proofs.Notes.{notes-more, few-changes}
-use Rattle.model.proofs.Transactions.{active-given}
+use Rattle.model.proofs.changes.Notes.{notes-more, few-changes}
+use Rattle.model.proofs.Opens.{active-given}
 
 -- ---- a new row has no record and no bit
 pub bit-none : (c : ℕ) → bit 0 c ≡ false

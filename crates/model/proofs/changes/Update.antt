@@ -32,12 +32,12 @@ use Rattle.model.specs.Reading.{scanPage, wasCurrent}
 use Rattle.model.specs.Writing.{noted, appended, filledIn, newBitsIn, recordsWanted, originalAppended, originalWord, settingAppended, updatedIn}
 use Rattle.model.specs.Represents.{RowsAre, ContentIs, Represents, WellFormed, Whole}
 use Rattle.model.proofs.Views.{put-whole, noted-whole}
-use Rattle.model.proofs.Insert.{bit-none, value-fits}
-use Rattle.model.proofs.Heads.{in-range}
-use Rattle.model.proofs.Read.{unset-take}
-use Rattle.model.proofs.Masks.{bit-or, bit-new, no-bits}
+use Rattle.model.proofs.changes.Insert.{bit-none, value-fits}
+use Rattle.model.proofs.lookups.Heads.{in-range}
+use Rattle.model.proofs.lookups.Read.{unset-take}
+use Rattle.model.proofs.changes.Masks.{bit-or, bit-new, no-bits}
 use Rattle.model.proofs.Steady.{pages-stay}
-use Rattle.model.proofs.Records.{made-rows, made-parts, Extended, none-made, extend}
+use Rattle.model.proofs.changes.Records.{made-rows, made-parts, Extended, none-made, extend}
 
 -- ---- the columns that are set for the first time
 module _ {S : Shape} {v : View} {ps : List ScanEntry} {h : History} (o : Represents S v ps h) (k : WellFormed S h) (r m : ℕ) (b : r < length (h .rows)) (good : T (not (badMask S m))) where

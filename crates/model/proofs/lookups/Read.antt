@@ -32,7 +32,7 @@ use Rattle.model.specs.Stored.{PageWords, rowIn, recordIn, valueIn, page
 use Rattle.model.specs.Reading.{sees, answersFor, walk, orElse, belowLineage, wordIn, readIn}
 use Rattle.model.proofs.Lists.{take-next}
 use Rattle.model.specs.Represents.{stateWord, ContentIs, RecordIs, TailOf, Holds, Represents, WellFormed}
-use Rattle.model.proofs.Heads.{slot-is, in-range, SeesAs, visible-is}
+use Rattle.model.proofs.lookups.Heads.{slot-is, in-range, SeesAs, visible-is}
 
 -- ---- one record
 -- `found` is what is read of it: of a seen setting `new`, of a record of original values `ins`

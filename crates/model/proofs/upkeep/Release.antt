@@ -27,8 +27,8 @@ use Rattle.model.proofs.Lists.{any-count, from-count, first-ext, below-
 use Rattle.model.specs.Represents.{CurrentOf, CurrentsAre, WaitingIs, WaitingAre, PoolIs, ScanPageIs, ScanPagesAre, ScansAre, madeIn, HeaderFor, Represents, WellFormed, Whole, countFrom}
 use Rattle.model.proofs.Steady.{current-step, waiting-step, scan-page-step}
 use Rattle.model.proofs.Views.{renew-whole, changed-start, header-same}
-use Rattle.model.proofs.Scans.{scan-current}
-use Rattle.model.proofs.ScanPages.{WasCurrent, unfound, unfound-state, search-same, searched, search-is, Cases, scan-cases, found-page, scan-page-same}
+use Rattle.model.proofs.upkeep.Scans.{scan-current}
+use Rattle.model.proofs.upkeep.ScanPages.{WasCurrent, unfound, unfound-state, search-same, searched, search-is, Cases, scan-cases, found-page, scan-page-same}
 use Rattle.model.proofs.Book.{live-inside}
 
 -- ---- the scans that need a page

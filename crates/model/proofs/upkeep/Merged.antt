@@ -40,12 +40,12 @@ use Rattle.model.specs.Represents.{Holds, everyRow, CurrentIs, CurrentOf
 use Rattle.model.proofs.Holding.{holds-step, same-rows}
 use Rattle.model.proofs.Steady.{current-step, current-cells, waiting-step, scan-cells, scan-page-step}
 use Rattle.model.proofs.Views.{renew-whole, put-whole, header-put, header-same}
-use Rattle.model.proofs.Insert.{current-apart}
-use Rattle.model.proofs.Merge.{applied-length, applied-fit, applied-outside, applied-is, newest-is, newest-fit, newest-last}
-use Rattle.model.proofs.Transactions.{opens-is}
-use Rattle.model.proofs.Free.{no-stray, free-none, found-free}
-use Rattle.model.proofs.Scans.{scan-current}
-use Rattle.model.proofs.ScanPages.{WasCurrent, was-current, is-current, unfound, unfound-state, search-same, searched, search-is, found-page, Cases, scan-cases, scan-page-same}
+use Rattle.model.proofs.changes.Insert.{current-apart}
+use Rattle.model.proofs.upkeep.Merge.{applied-length, applied-fit, applied-outside, applied-is, newest-is, newest-fit, newest-last}
+use Rattle.model.proofs.Opens.{opens-is}
+use Rattle.model.proofs.upkeep.Free.{no-stray, free-none, found-free}
+use Rattle.model.proofs.upkeep.Scans.{scan-current}
+use Rattle.model.proofs.upkeep.ScanPages.{WasCurrent, was-current, is-current, unfound, unfound-state, search-same, searched, search-is, found-page, Cases, scan-cases, scan-page-same}
 
 -- a chunk is below the number of chunks
 pub chunk-in : (S : Shape) (g c : ℕ) → g < S .ranges → c < S .columns → chunkOf S g c < chunksOf S

@@ -28,7 +28,7 @@ use Rattle.model.specs.Writing.{nextSlot, appended, filledIn}
 use Rattle.model.proofs.Lists.{part-in, same-part}
 use Rattle.model.specs.Represents.{ContentIs, RecordIs, TailIs, TailsFor, Whole}
 use Rattle.model.proofs.Views.{renew-whole, put-whole}
-use Rattle.model.proofs.Heads.{slot-is}
+use Rattle.model.proofs.lookups.Heads.{slot-is}
 
 -- ---- one list of records
 pub content-values : (C : ℕ) (y : Content) (kind mask : ℕ) (value value′ : ℕ → ℕ) → ((c : ℕ) → c < C → value′ c ≡ value c) → ContentIs C y kind mask value → ContentIs C y kind mask value′

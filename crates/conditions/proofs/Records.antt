@@ -26,7 +26,8 @@ use Rattle.model.specs.Calls.{openIn, notOpenIn, openOther, standsFor, heldIn, 
 use Rattle.history.proofs.Lists.{by-cases, is-true, refuted, both, parts, or-left, or-right, or-cases, any-at}
 use Rattle.model.proofs.Lists.{any-below, first-below, first-passes}
 use Rattle.model.specs.Preconditions.{Linked}
-use Rattle.rows.proofs.Indices.{slots-few, stretch-in, row-in}
+use Rattle.layout.proofs.Indices.{slots-few}
+use Rattle.rows.proofs.Indices.{stretch-in, row-in}
 use Rattle.conditions.specs.Opens.{openAt}
 use Rattle.conditions.specs.Records.{isOther, holdsAt, deletesAt, endsAt}
 use Rattle.conditions.proofs.Opens.{none-bears, bears-is, open-there, not-open}

@@ -21,8 +21,8 @@ sets-next l s at i h =
 
 pub joined : {a b c : List ℕ} {at p e : ℕ} {s t : List ℕ} → Written a b at s p → Written b c p t e → Written a c at (s ++ t) e
 joined {a} {b} {c} {at} {p} {e} {s} {t} w v = record {
-  bytes = v .bytes ∙ ap (λ (l : List ℕ). sets l p t) (w .bytes) ∙ ap (λ (k : ℕ). sets (sets a at s) k t) (w .place) ∙ sets-append s t a at;
-  place = omega (arith, w .place, v .place, length-append s t);
+  bytes = v .bytes ∙ ap (λ (l : List ℕ). sets l p t) (w .bytes) ∙ ap (λ (k : ℕ). sets (sets a at s) k t) (w .ends) ∙ sets-append s t a at;
+  ends = omega (arith, w .ends, v .ends, length-append s t);
 }
 
 -- all of a list from a place on

@@ -27,4 +27,4 @@ integerField = 1 + signedBytes
 -- The bytes s were written from `at` over `old`, and `end` is the index behind them.
 pub record Written (old new : List ℕ) (at : ℕ) (s : List ℕ) (end : ℕ) : Type 0 where
   pub bytes : new ≡ sets old at s
-  pub place : end ≡ at + length s
+  pub ends : end ≡ at + length s

@@ -45,16 +45,16 @@ module _ (d : Tested) (j : ℕ) (s : Sizes) (v : View) (r c : ℕ) (p : d ≡ Te
   pub cell-handed-on : CellThere s v r c
   cell-handed-on = if-passed d (CellThere s v r c) j p h
 
-  pub column-below : c < s .columns
-  column-below = cell-handed-on .column-below
+  pub column-inside : c < s .columns
+  column-inside = cell-handed-on .column-below
 
-  pub row-below : r < rowsGiven v
-  row-below = cell-handed-on .given
+  pub row-inside : r < rowsGiven v
+  row-inside = cell-handed-on .given
 
-  pub range-below : (g : ℕ) → g ≡ rangeOf r → g < s .ranges
-  range-below g e = rw e (cell-handed-on .range-below)
+  pub range-inside : (g : ℕ) → g ≡ rangeOf r → g < s .ranges
+  range-inside g e = rw e (cell-handed-on .range-below)
 
-pub ruleset cell-inside = (column-below, row-below, range-below)
+pub ruleset cell-inside = (column-inside, row-inside, range-inside)
 
 -- the tests of latest are those of a row and a column
 pub latest-tests : (s : Sizes) (m : List ℕ) (r c : ℕ) (d : Tested) → Says d (verdict (rowTests (shapeIn s) (viewOf s m) r c)) → Tests s m (Call.latest r c) d

@@ -11,11 +11,11 @@ use mir.Val.{toZ}
 use Rattle.terms.specs.Measures.{Shape}
 use Rattle.terms.specs.declared.Answer.{Answer}
 use Rattle.history.specs.History.{bit, rangeOf}
+use Rattle.loops.specs.declared.Found.{Found}
 use Rattle.layout.specs.View.{View, rowsGiven}
 use Rattle.layout.specs.declared.Region.the-variants.{Changes}
 use Rattle.terms.specs.declared.ScanEntry.{ScanEntry}
 use Rattle.model.specs.declared.Reader.{Reader}
-use Rattle.model.specs.declared.Walk.{Walk}
 use Rattle.model.specs.Stored.{RowWords, RecordWords, PageWords, rowIn, recordIn, pageIn, valueIn, currentIn, chunkOf, chunksOf, pagesOf, cellIn, within, openState, committedState, originalKind, settingKind, deleteKind, waitingPage, firstFrom, openIndex}
 use Rattle.layout.specs.Regions.{slot}
 
@@ -52,35 +52,32 @@ visibleIn S v who r =
 unfoldable pub answersFor : Reader → ℕ → RecordWords → Bool
 answersFor who c x = bit (x .mask) c && (originalKind (x .kind) || (settingKind (x .kind) && seesRecord who x))
 
--- From record k of range g back along the links, while the record's number is above `low`. The links are lower numbers, so k steps are enough.
-unfoldable pub walk : Shape → View → Reader → ℕ → ℕ → ℕ → ℕ → ℕ → Walk
-walk S v who g c low zero k = Walk.Stopped (record { 0 = k })
+-- From record k of range g back along the links, while the record's number is above `low`, to the slot of the first that answers. The links are lower numbers,
+-- so k steps are enough.
+unfoldable pub walk : Shape → View → Reader → ℕ → ℕ → ℕ → ℕ → ℕ → Found
+walk S v who g c low zero k = Found.Nothing
 walk S v who g c low (suc n) k =
     let x = recordIn v (slot S g k) in
     let further = walk S v who g c low n (x .link) in
-    cond (leb k low) (Walk.Stopped (record { 0 = k })) (cond (answersFor who c x) (Walk.Found (slot S g k)) further)
+    cond (leb k low) Found.Nothing (cond (answersFor who c x) (Found.At (slot S g k)) further)
 
--- what is read of the slot found, or else of the record at which the walk stopped
-abbrev pub orElse : {A : Type 0} → Walk → (ℕ → A) → (ℕ → A) → A
-orElse (Walk.Found i) at rest = at i
-orElse (Walk.Stopped k) at rest = rest (k .0)
+-- what is read of the slot found, or else x
+abbrev pub orElse : {A : Type 0} → Found → (ℕ → A) → A → A
+orElse (Found.At i) at x = at i
+orElse Found.Nothing at x = x
 
--- At the page's lineage: the cell, unless the page holds a setting later than the stamp; then further down. In a store that calls made a record answers there:
--- the column's original is not above the lineage, or the walk had stopped at it. In other memories the cell answers where none does.
-unfoldable pub belowLineage : Shape → View → Reader → ℕ → ℕ → PageWords → ℕ → ℕ → ℕ
-belowLineage S v who g c page cell k =
-    let deeper = orElse (walk S v who g c 0 k k) (λ i. valueIn S v i c) (λ j. cell) in
-    cond (leb (page .newest) (who .stamp .0)) cell deeper
+-- How far down a reader looks: the records up to a page's lineage are in its cells, unless the page holds a setting later than the stamp.
+unfoldable pub downTo : Reader → PageWords → ℕ
+downTo who page = cond (leb (page .newest) (who .stamp .0)) (page .lineage) 0
 
--- the word of row r and column c, on page p. A column that no update has set is in the page alone.
+-- the word of row r and column c, on page p. A column that no update has set is in the page alone. Where no record answers, the page's cell does; in a store
+-- that calls made, one answers where a reader looks further down than the lineage: at the latest the column's original.
 unfoldable pub wordIn : Shape → View → Reader → ℕ → ℕ → ℕ → ℕ
 wordIn S v who p r c =
     let x = rowIn v r in
-    let g = rangeOf r in
-    let page = pageIn v p in
     let cell = cellIn v p (within r) in
-    let found = orElse (walk S v who g c (page .lineage) (x .link) (x .link)) (λ i. valueIn S v i c) (belowLineage S v who g c page cell) in
-    cond (bit (x .mask) c) found cell
+    let found = walk S v who (rangeOf r) c (downTo who (pageIn v p)) (x .link) (x .link) in
+    cond (bit (x .mask) c) (orElse found (λ i. valueIn S v i c) cell) cell
 
 unfoldable pub readIn : Shape → View → Reader → ℕ → ℕ → ℕ → Answer
 readIn S v who p r c =

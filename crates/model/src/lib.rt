@@ -2,7 +2,6 @@
 // The code has its types from here, so that its contracts can cite the definitions as they stand.
 use terms::ScanEntry;
 use terms::Stamp;
-use terms::Tail;
 use terms::Transaction;
 ghost use mathlib.Core.Path.{_≡_};
 ghost use Rattle.terms.specs.Entries.{freeEntry};
@@ -11,12 +10,6 @@ ghost use Rattle.terms.specs.Entries.{freeEntry};
 pub struct Reader {
     pub stamp: Stamp,
     pub me: Transaction,
-}
-
-// How a walk along a row's tail records ends: at the slot of a record that answers, or at a record number that is not above the limit of the walk.
-pub enum Walk {
-    Found(usize),
-    Stopped(Tail),
 }
 
 pub fn free_entry() -> ScanEntry

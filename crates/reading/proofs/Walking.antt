@@ -7,27 +7,24 @@ use native.Mathlib.Omega.{arith}
 use lib.Dec.{leb}
 use lib.ListN.{getD}
 use borrow.Author.Tests.{le-leb, lt-leb}
+use Rattle.loops.specs.declared.Found.{Found}
 use Rattle.layout.specs.declared.Sizes.{Sizes}
 use Rattle.layout.specs.declared.Region.the-variants.{TailLink, RowMask, RowLink, PageLineage, PageNewest}
 use Rattle.layout.specs.View.{View, usedIn}
 use Rattle.model.specs.declared.Reader.{Reader}
-use Rattle.model.specs.declared.Walk.{Walk}
 use Rattle.terms.specs.Measures.{Shape}
-use Rattle.terms.specs.declared.Tail.{Tail}
 use Rattle.history.specs.History.{bit, rangeOf}
 use Rattle.model.specs.Stored.{rowIn, recordIn, pageIn, valueIn, cellIn, within}
 use Rattle.layout.specs.Regions.{slot}
-use Rattle.model.specs.Reading.{answersFor, walk, belowLineage, wordIn}
-use Rattle.model.specs.Preconditions.{shapeIn}
-use Rattle.model.specs.Preconditions.{Linked}
-use Rattle.reading.specs.Reached.{Reached}
+use Rattle.model.specs.Reading.{answersFor, walk, downTo, wordIn}
+use Rattle.model.specs.Preconditions.{shapeIn, Linked}
 
 module _ (s : Sizes) (v : View) (linked : Linked s v) (who : Reader) (g c low : ℕ) (h : g < s .ranges) where
   -- one turn: what is done at record k, with what is found from its link on
-  abbrev turn : ℕ → Walk → Walk
+  abbrev turn : ℕ → Found → Found
   turn k further =
       let at = slot (shapeIn s) g k in
-      cond (leb k low) (Walk.Stopped (record { 0 = k })) (cond (answersFor who c (recordIn v at)) (Walk.Found at) further)
+      cond (leb k low) Found.Nothing (cond (answersFor who c (recordIn v at)) (Found.At at) further)
 
   -- more steps than the number change nothing
   steps : (n m k : ℕ) → k ≤ n → k ≤ m → k ≤ usedIn v g
@@ -45,13 +42,13 @@ module _ (s : Sizes) (v : View) (linked : Linked s v) (who : Reader) (g c low : 
 
   -- the walk from record `from` has come to record k
   pub walk-stop : (from k : ℕ) → walk (shapeIn s) v who g c low from from ≡ walk (shapeIn s) v who g c low k k → k ≤ low
-      → Walk.Stopped (record { 0 = k }) ≡ walk (shapeIn s) v who g c low from from
+      → Found.Nothing ≡ walk (shapeIn s) v who g c low from from
   unfolding walk
   walk-stop from zero on l = sym on
   walk-stop from (suc j) on l = sym (on ∙ rw (le-leb (suc j) low l))
 
   pub walk-hit : (from k at : ℕ) (answers : Bool) → walk (shapeIn s) v who g c low from from ≡ walk (shapeIn s) v who g c low k k → low < k
-      → at ≡ slot (shapeIn s) g k → answers ≡ answersFor who c (recordIn v at) → answers ≡ true → Walk.Found at ≡ walk (shapeIn s) v who g c low from from
+      → at ≡ slot (shapeIn s) g k → answers ≡ answersFor who c (recordIn v at) → answers ≡ true → Found.At at ≡ walk (shapeIn s) v who g c low from from
   unfolding walk
   walk-hit from zero at answers on l e a y = absurd (omega arith)
   walk-hit from (suc j) at answers on l e a y = sym (on ∙ rw (lt-leb (suc j) low l, ← e, ← a, y))
@@ -69,20 +66,15 @@ module _ (s : Sizes) (v : View) (linked : Linked s v) (who : Reader) (g c low : 
       on ∙ rw (lt-leb (suc j) low l, ← e, ← a, y, ← q) (steps j link link (omega arith) (omega arith) (omega arith))
 
 module _ (S : Shape) (v : View) (who : Reader) (c p : ℕ) where
-  -- ---- at the lineage of page p
-  module _ (g cell k newest : ℕ) (e : newest ≡ getD (v PageNewest) p 0) where
-    pub below-old : newest ≤ who .stamp .0 → cell ≡ belowLineage S v who g c (pageIn v p) cell k
-    unfolding belowLineage pageIn
-    below-old l = rw (← e, le-leb newest (who .stamp .0) l)
+  -- ---- how far down on page p
+  module _ (newest : ℕ) (e : newest ≡ getD (v PageNewest) p 0) where
+    pub down-lineage : (lineage : ℕ) → newest ≤ who .stamp .0 → lineage ≡ getD (v PageLineage) p 0 → lineage ≡ downTo who (pageIn v p)
+    unfolding downTo pageIn
+    down-lineage lineage l q = rw (← e, le-leb newest (who .stamp .0) l) q
 
-    module _ (w : Walk) (l : who .stamp .0 < newest) (q : w ≡ walk S v who g c 0 k k) where
-      pub below-found : (i word : ℕ) → w ≡ Walk.Found i → word ≡ valueIn S v i c → word ≡ belowLineage S v who g c (pageIn v p) cell k
-      unfolding belowLineage pageIn
-      below-found i word f d = rw (← e, lt-leb newest (who .stamp .0) l, ← q, f) d
-
-      pub below-none : (j : Tail) → w ≡ Walk.Stopped j → cell ≡ belowLineage S v who g c (pageIn v p) cell k
-      unfolding belowLineage pageIn
-      below-none j f = rw (← e, lt-leb newest (who .stamp .0) l, ← q, f)
+    pub down-all : who .stamp .0 < newest → 0 ≡ downTo who (pageIn v p)
+    unfolding downTo pageIn
+    down-all l = rw (← e, lt-leb newest (who .stamp .0) l)
 
   -- ---- the word of row r
   module _ (r mask : ℕ) (m : mask ≡ getD (v RowMask) r 0) (has : Bool) (b : has ≡ bit mask c) where
@@ -90,22 +82,12 @@ module _ (S : Shape) (v : View) (who : Reader) (c p : ℕ) where
     unfolding wordIn rowIn
     word-alone cell f e = rw (← m, ← b, f) e
 
-    module _ (g link lineage : ℕ) (w : Walk) (t : has ≡ true) (i : g ≡ rangeOf r) (l : link ≡ getD (v RowLink) r 0) (n : lineage ≡ getD (v PageLineage) p 0)
-        (q : w ≡ walk S v who g c lineage link link) where
-      pub word-found : (j word : ℕ) → w ≡ Walk.Found j → word ≡ valueIn S v j c → word ≡ wordIn S v who p r c
-      unfolding wordIn rowIn pageIn
+    module _ (g link low : ℕ) (w : Found) (t : has ≡ true) (i : g ≡ rangeOf r) (l : link ≡ getD (v RowLink) r 0) (n : low ≡ downTo who (pageIn v p))
+        (q : w ≡ walk S v who g c low link link) where
+      pub word-found : (j word : ℕ) → w ≡ Found.At j → word ≡ valueIn S v j c → word ≡ wordIn S v who p r c
+      unfolding wordIn rowIn
       word-found j word f d = rw (← m, ← b, t, ← i, ← l, ← n, ← q, f) d
 
-      pub word-below : (cell word : ℕ) (k : Tail) → w ≡ Walk.Stopped k → cell ≡ cellIn v p (within r)
-          → word ≡ belowLineage S v who g c (pageIn v p) cell (k .0) → word ≡ wordIn S v who p r c
-      unfolding wordIn rowIn pageIn
-      word-below cell word k f e d =
-          let stopped : walk S v who g c (getD (v PageLineage) p 0) link link ≡ Walk.Stopped k = rw n at (sym q ∙ f) in
-          rw (← m, ← b, t, ← i, ← l, stopped, ← e) d
-
--- ---- how far a walk went
-pub reached-slot : (w : Walk) (i slots n : ℕ) → w ≡ Walk.Found i → Reached w slots n → i < slots
-reached-slot w i slots n e h = rw e at h
-
-pub reached-record : (w : Walk) (k : Tail) (slots n used : ℕ) → w ≡ Walk.Stopped k → Reached w slots n → n ≤ used → k .0 ≤ used
-reached-record w k slots n used e h b = let lower : k .0 ≤ n = rw e at h in omega arith
+      pub word-none : (cell : ℕ) → w ≡ Found.Nothing → cell ≡ cellIn v p (within r) → cell ≡ wordIn S v who p r c
+      unfolding wordIn rowIn
+      word-none cell f e = rw (← m, ← b, t, ← i, ← l, ← n, ← q, f) e

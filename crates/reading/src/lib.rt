@@ -8,8 +8,8 @@ use layout::Region;
 use layout::Sizes;
 use layout::codes::ORIGINAL;
 use layout::codes::SETTING;
+use loops::Found;
 use model::Reader;
-use model::Walk;
 use regions::read;
 use rows::has_bit;
 use rows::range_of;
@@ -24,10 +24,10 @@ ghost use mathlib.Core.Path.{_≡_};
 ghost use Prim.Native.Nat.{_*_, _≤_, _<_};
 ghost use Rattle.layout.specs.View.{rowsGiven, usedIn, viewOf, Suffices};
 ghost use Rattle.model.specs.Stored.{recordIn, pageIn, valueIn};
-ghost use Rattle.model.specs.Reading.{answersFor, walk, belowLineage, wordIn, readIn, readCurrent};
+ghost use Rattle.model.specs.Reading.{answersFor, walk, downTo, wordIn, readIn, readCurrent};
 ghost use Rattle.layout.specs.Sizes.{Proper};
 ghost use Rattle.model.specs.Preconditions.{shapeIn, Linked, Pooled};
-ghost use Rattle.reading.specs.Reached.{Reached};
+ghost use Rattle.rows.specs.Finders.{Inside};
 
 // The word of column c in the tail record at a slot.
 pub fn value(mem: &[u8], s: Sizes, at: usize, c: u32) -> u32
@@ -58,50 +58,36 @@ pub fn answers_for(mem: &[u8], s: Sizes, who: Reader, at: usize, c: u32) -> bool
 }
 
 // From record `from` of range g back along the links, while the record's number is above `low`, to the first that answers for column c.
-pub fn walk(mem: &[u8], s: Sizes, who: Reader, g: usize, c: u32, low: Tail, from: Tail) -> Walk
+pub fn walk(mem: &[u8], s: Sizes, who: Reader, g: usize, c: u32, low: Tail, from: Tail) -> Found
     requires { ⌜ Suffices s (now mem) ⌝ }
     requires { ⌜ Proper s ⌝ }
     requires { ⌜ Linked s (viewOf s (now mem)) ⌝ }
     requires { ⌜ (g < s .ranges) × (c < s .columns) × (from .0 ≤ usedIn (viewOf s (now mem)) g) ⌝ }
     ensures { λ r. ⌜ r ≡ walk (shapeIn s) (viewOf s (now (mem .entry))) who g c (low .0) (from .0) (from .0) ⌝ }
-    ensures { λ r. ⌜ Reached r (s .slots) (from .0) ⌝ }
+    ensures { λ r. ⌜ Inside r (s .slots) ⌝ }
 {
     let last = low.0;
     let mut k = from.0;
     while k > last {
         let at = slot_of(s, g, Tail(k));
         if answers_for(mem, s, who, at, c) {
-            return Walk::Found(at);
+            return Found::At(at);
         }
         k = read(mem, s, Region::TailLink, at);
     }
-    Walk::Stopped(Tail(k))
+    Found::Nothing
 }
 
-// The word for a walk that stopped at record k, at the page's lineage: the cell, unless the page holds a setting later than the reader's stamp.
-fn below_lineage(
-    mem: &[u8],
-    s: Sizes,
-    who: Reader,
-    g: usize,
-    c: u32,
-    page: usize,
-    cell: u32,
-    k: Tail,
-) -> u32
+// The record number down to which the reader looks: the page's lineage, or 0 where the page holds a setting later than the reader's stamp.
+fn down_to(mem: &[u8], s: Sizes, who: Reader, page: usize) -> Tail
     requires { ⌜ Suffices s (now mem) ⌝ }
-    requires { ⌜ Proper s ⌝ }
-    requires { ⌜ Linked s (viewOf s (now mem)) ⌝ }
-    requires { ⌜ (page < s .pages) × (g < s .ranges) × (c < s .columns) × (k .0 ≤ usedIn (viewOf s (now mem)) g) ⌝ }
-    ensures { λ r. ⌜ r ≡ belowLineage (shapeIn s) (viewOf s (now (mem .entry))) who g c (pageIn (viewOf s (now (mem .entry))) page) cell (k .0) ⌝ }
+    requires { ⌜ page < s .pages ⌝ }
+    ensures { λ r. ⌜ r .0 ≡ downTo who (pageIn (viewOf s (now (mem .entry))) page) ⌝ }
 {
     if read(mem, s, Region::PageNewest, page) <= who.stamp.0 {
-        return cell;
+        return Tail(read(mem, s, Region::PageLineage, page));
     }
-    let Walk::Found(at) = walk(mem, s, who, g, c, Tail(0), k) else {
-        return cell;
-    };
-    value(mem, s, at, c)
+    Tail(0)
 }
 
 // The word of a row and column on a page. A column that no update has set is in the page alone.
@@ -115,12 +101,11 @@ pub fn word_of(mem: &[u8], s: Sizes, who: Reader, page: usize, row: Row, c: u32)
     let at = cell(mem, s, page, row);
     let i = row.0 as usize;
     if has_bit(read(mem, s, Region::RowMask, i), c) {
-        let g = range_of(row);
-        let lineage = Tail(read(mem, s, Region::PageLineage, page));
+        let low = down_to(mem, s, who, page);
         let link = Tail(read(mem, s, Region::RowLink, i));
-        return match walk(mem, s, who, g, c, lineage, link) {
-            Walk::Found(i) => value(mem, s, i, c),
-            Walk::Stopped(k) => below_lineage(mem, s, who, g, c, page, at, k),
+        return match walk(mem, s, who, range_of(row), c, low, link) {
+            Found::At(i) => value(mem, s, i, c),
+            Found::Nothing => at,
         };
     }
     at

@@ -2,45 +2,36 @@
 use Prim.Native.Nat.{ℕ, _+_, _*_, _-_, _≤_, _<_}
 use mathlib.Core.Path.{_≡_}
 use native.Mathlib.Omega.{arith}
-use native.Mathlib.Nat.{mul-le-mul, mul-le-mul-right, suc-mul, mul-comm}
+use native.Mathlib.Nat.{mul-le-mul}
 use lib.ListN.{getD}
-use Rattle.terms.specs.Measures.{mostChunks, mostPages}
+use Rattle.terms.specs.Measures.{mostColumns, mostRanges, mostRecords, mostPages}
 use Rattle.layout.specs.declared.Sizes.{Sizes}
 use Rattle.layout.specs.declared.Region.the-variants.{RowLink}
 use Rattle.layout.specs.View.{View, rowsGiven, usedIn}
 use Rattle.history.specs.History.{rangeOf}
 use Rattle.layout.specs.Sizes.{Proper}
+use Rattle.layout.proofs.Indices.{tail-in, values-in, chunks-in, slots-few, chunks-few}
 use Rattle.model.specs.Preconditions.{Linked}
 
--- index i of block p, of blocks of one size
-pub block-in : (p i blocks size : ℕ) → p < blocks → i < size → p * size + i < blocks * size
-block-in p i blocks size h l = omega (arith, mul-le-mul-right size h, suc-mul p size)
-
 module _ (s : Sizes) (proper : Proper s) where
-  pub slots-few : s .slots ≤ 8192
-  slots-few = omega (arith, proper .slots-are, mul-le-mul (proper .ranges-to) (proper .capacity-to))
-
   pub slot-in : (g k : ℕ) → g < s .ranges → 1 ≤ k → k ≤ s .capacity → g * s .capacity + (k - 1) < s .slots
-  slot-in g k h l m = omega (arith, proper .slots-are, block-in g (k - 1) (s .ranges) (s .capacity) h (omega arith))
+  slot-in g k h l m = omega (arith, tail-in s proper g h)
 
   -- the first n records of range g
   pub stretch-in : (g n : ℕ) → g < s .ranges → n ≤ s .capacity → g * s .capacity + n ≤ s .slots
-  stretch-in g n h l = omega (arith, proper .slots-are, mul-le-mul-right (s .capacity) h, suc-mul g (s .capacity))
+  stretch-in g n h l = omega (arith, tail-in s proper g h)
 
-  pub chunks-few : (s .chunks ≤ mostChunks) × (s .pages ≤ mostPages)
-  chunks-few =
-      let few : s .chunks ≤ mostChunks = omega (arith, proper .chunks-are, mul-le-mul (proper .columns-to) (proper .ranges-to)) in
-      (few, omega (arith, proper .pages-are, proper .spares-to))
+  pub pages-few : s .pages ≤ mostPages
+  pages-few = omega (arith, proper .pages-are, proper .spares-to, chunks-few s proper)
 
-  pub values-few : s .values ≤ 131072
-  values-few = omega (arith, proper .values-are, mul-le-mul slots-few (proper .columns-to))
+  pub values-few : s .values ≤ mostRanges * mostRecords * mostColumns
+  values-few = omega (arith, proper .values-are, mul-le-mul (slots-few s proper) (proper .columns-to))
 
   pub value-in : (at c : ℕ) → at < s .slots → c < s .columns → at * s .columns + c < s .values
-  value-in at c h l = omega (arith, proper .values-are, block-in at c (s .slots) (s .columns) h l)
+  value-in at c h l = omega (arith, values-in s proper at h)
 
   pub chunk-in : (g c : ℕ) → g < s .ranges → c < s .columns → g * s .columns + c < s .chunks
-  chunk-in g c h l =
-      omega (arith, proper .chunks-are, mul-comm (s .columns) (s .ranges), block-in g c (s .ranges) (s .columns) h l)
+  chunk-in g c h l = omega (arith, chunks-in s proper g h)
 
   pub range-in : (r : ℕ) → r < s .rows → rangeOf r < s .ranges
   unfolding rangeOf

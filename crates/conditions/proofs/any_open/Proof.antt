@@ -8,7 +8,8 @@ use Rattle.layout.specs.declared.Region.the-variants.{TailTransaction}
 use Rattle.layout.specs.View.{viewOf}
 use Rattle.model.specs.Stored.{anyBelow}
 use Rattle.model.specs.Calls.{openIn}
-use Rattle.rows.proofs.Indices.{slots-few, stretch-in}
+use Rattle.layout.proofs.Indices.{slots-few}
+use Rattle.rows.proofs.Indices.{stretch-in}
 use Rattle.conditions.proofs.Records.{no-turn, one-turn, turned, among-is}
 use Rattle.conditions.proofs.any_open.Statement.{statement}
 use Rattle.conditions.proofs.any_open.Tie as tie

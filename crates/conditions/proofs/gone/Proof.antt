@@ -1,6 +1,7 @@
 -- `conditions::gone` meets its contract.
 use borrow.Author.Needs.{needs}
-use Rattle.rows.proofs.Indices.{slots-few, row-range}
+use Rattle.layout.proofs.Indices.{slots-few}
+use Rattle.rows.proofs.Indices.{row-range}
 use Rattle.conditions.proofs.Records.{gone-insert, gone-records, stretch-used, stretch-fits}
 use Rattle.conditions.proofs.gone.Statement.{statement}
 use Rattle.conditions.proofs.gone.Tie as tie

@@ -1,6 +1,7 @@
 -- `conditions::held` meets its contract.
 use borrow.Author.Needs.{needs}
-use Rattle.rows.proofs.Indices.{slots-few, row-range}
+use Rattle.layout.proofs.Indices.{slots-few}
+use Rattle.rows.proofs.Indices.{row-range}
 use Rattle.conditions.proofs.Records.{held-insert, held-records, stretch-used, stretch-fits}
 use Rattle.conditions.proofs.held.Statement.{statement}
 use Rattle.conditions.proofs.held.Tie as tie

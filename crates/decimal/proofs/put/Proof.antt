@@ -28,7 +28,7 @@ returns c =
     let all : head .loop .i ≡ length (head .before .args .s .now) = omega arith in
     record {
       bytes = rw (all, take-length) at (head .loop .inv .1);
-      place = omega arith;
+      ends = omega arith;
     }
 
 pub put-spec : {M : Type 1} → statement M

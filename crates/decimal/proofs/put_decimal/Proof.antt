@@ -12,7 +12,7 @@ returns c =
     let found : tie.After-in-decimal = search in
     let d = found .in-decimal in
     let w = rw (rest-of mostDigits (d .result .digits) (d .result .from) (d .ensures .2)) at (c .put .ensures) in
-    (rw (d .ensures .0) at w, omega (arith, w .place, length-drop (d .result .from) (d .result .digits), d .ensures .2))
+    (rw (d .ensures .0) at w, omega (arith, w .ends, length-drop (d .result .from) (d .result .digits), d .ensures .2))
 
 pub put-decimal-spec : {M : Type 1} → statement M
 put-decimal-spec =

@@ -11,7 +11,7 @@ returns : tie.Need-returns
 returns c =
     let space : tie.After-put = search in
     let start : tie.Start = search in
-    (joined (space .put .ensures) (rw (toZ-ofZ w64 _ (start .fits .z)) at (c .put-signed .ensures .0)), omega (arith, space .put .ensures .place))
+    (joined (space .put .ensures) (rw (toZ-ofZ w64 _ (start .fits .z)) at (c .put-signed .ensures .0)), omega (arith, space .put .ensures .ends))
 
 pub put-integer-spec : {M : Type 1} → statement M
 put-integer-spec =

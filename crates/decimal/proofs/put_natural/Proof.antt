@@ -12,4 +12,4 @@ put-natural-spec =
     (λ c. search needs)
     (λ c κs. search needs)
     (λ c κs. search needs)
-    (λ c. (joined (c .before .before .put .ensures) (c .put-decimal .ensures .0), omega (arith, c .before .before .put .ensures .place))))
+    (λ c. (joined (c .before .before .put .ensures) (c .put-decimal .ensures .0), omega (arith, c .before .before .put .ensures .ends))))

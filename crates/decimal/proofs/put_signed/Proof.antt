@@ -15,7 +15,7 @@ returns-2 : tie.Need-returns-2
 returns-2 c =
     let sign : tie.After-put = search in
     let test : tie.Else1 = search in
-    (rw (signed-below _ (test .before .fits .z) (test .if1 .left)) at (joined (sign .put .ensures) (c .put-decimal2 .ensures .0)), omega (arith, sign .put .ensures .place))
+    (rw (signed-below _ (test .before .fits .z) (test .if1 .left)) at (joined (sign .put .ensures) (c .put-decimal2 .ensures .0)), omega (arith, sign .put .ensures .ends))
 
 pub put-signed-spec : {M : Type 1} → statement M
 put-signed-spec =

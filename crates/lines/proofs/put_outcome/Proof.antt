@@ -18,18 +18,18 @@ unfolding outcome
 refused c =
     let case : tie.After-answer = search in
     let word : tie.After-put = search in
-    rw (case .answer .given .1, ← c .before .number .ensures) (joined (word .put .ensures) (c .put-natural .ensures .0), omega (arith, word .put .ensures .place))
+    rw (case .answer .given .1, ← c .before .number .ensures) (joined (word .put .ensures) (c .put-natural .ensures .0), omega (arith, word .put .ensures .ends))
 
 done : tie.Need-returns-2
 unfolding outcome
-done c = let case : tie.After-enum-told = search in rw (case .enum-told .given .1) (c .put2 .ensures, omega (arith, c .put2 .ensures .place))
+done c = let case : tie.After-enum-told = search in rw (case .enum-told .given .1) (c .put2 .ensures, omega (arith, c .put2 .ensures .ends))
 
 number : tie.Need-returns-3
 unfolding outcome
 number c =
     let case : tie.After-answer2 = search in
     let word = c .before .before .put3 .ensures in
-    rw (case .answer2 .given .1) (joined word (c .put-natural2 .ensures .0), omega (arith, word .place))
+    rw (case .answer2 .given .1) (joined word (c .put-natural2 .ensures .0), omega (arith, word .ends))
 
 value : tie.Need-returns-4
 unfolding outcome
@@ -37,11 +37,11 @@ value c =
     let case : tie.After-known-told3 = search in
     let word = c .before .before .put4 .ensures in
     let shown = rw (toZ-ofZ w32 _ (fits case), toZ-ofZ w64 _ (wide _ (fits case))) at (c .put-integer .ensures .0) in
-    rw (case .before .answer3 .given .1) (joined word shown, omega (arith, word .place))
+    rw (case .before .answer3 .given .1) (joined word shown, omega (arith, word .ends))
 
 none : tie.Need-returns-5
 unfolding outcome
-none c = let case : tie.After-enum-told2 = search in rw (case .enum-told2 .given .1) (c .put5 .ensures, omega (arith, c .put5 .ensures .place))
+none c = let case : tie.After-enum-told2 = search in rw (case .enum-told2 .given .1) (c .put5 .ensures, omega (arith, c .put5 .ensures .ends))
 
 sum : tie.Need-returns-6
 unfolding outcome
@@ -50,7 +50,7 @@ sum c =
     let word : tie.After-put6 = search in
     let count = c .before .before .put-natural3 .ensures in
     let shown = rw (toZ-ofZ w64 _ (record { sfits = case .known-told4 .given .1 .0 .1 })) at (c .put-integer2 .ensures .0) in
-    rw (case .before .answer4 .given .1) (joined (word .put6 .ensures) (joined (count .0) shown), omega (arith, word .put6 .ensures .place))
+    rw (case .before .answer4 .given .1) (joined (word .put6 .ensures) (joined (count .0) shown), omega (arith, word .put6 .ensures .ends))
 
 lineage : tie.Need-returns-7
 unfolding outcome
@@ -58,7 +58,7 @@ lineage c =
     let case : tie.After-answer5 = search in
     let word : tie.After-put7 = search in
     let merged = c .before .before .put-natural4 .ensures in
-    rw (case .answer5 .given .1) (joined (word .put7 .ensures) (joined (merged .0) (c .put-natural5 .ensures .0)), omega (arith, word .put7 .ensures .place))
+    rw (case .answer5 .given .1) (joined (word .put7 .ensures) (joined (merged .0) (c .put-natural5 .ensures .0)), omega (arith, word .put7 .ensures .ends))
 
 pub put-outcome-spec : {M : Type 1} → statement M
 put-outcome-spec =

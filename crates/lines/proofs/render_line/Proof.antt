@@ -15,7 +15,7 @@ returns c =
     let said : tie.After-put-outcome = search in
     let start = rw (digits .before .digit .ensures, digits .digit2 .ensures) at (byte .put .ensures) in
     rendered (joined start (joined (said .put-outcome .ensures .0) (c .put2 .ensures)))
-    (omega (arith, start .place, c .put2 .ensures .place))
+    (omega (arith, start .ends, c .put2 .ensures .ends))
 
 pub render-line-spec : {M : Type 1} → statement M
 render-line-spec =

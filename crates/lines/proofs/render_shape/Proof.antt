@@ -13,7 +13,7 @@ returns c =
     let word : tie.After-put = search in
     let said : tie.After-put-outcome = search in
     rendered (joined (word .put .ensures) (joined (said .put-outcome .ensures .0) (c .put2 .ensures)))
-    (omega (arith, word .put .ensures .place, c .put2 .ensures .place))
+    (omega (arith, word .put .ensures .ends, c .put2 .ensures .ends))
 
 pub render-shape-spec : {M : Type 1} → statement M
 render-shape-spec =

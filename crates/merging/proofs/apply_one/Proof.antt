@@ -5,7 +5,7 @@ use Prim.Native.Nat.{ℕ, _+_, _*_, _%_, _<_}
 use mir.Syntax.{w32, w64}
 use mir.Val.{Fits}
 use Rattle.terms.specs.Measures.{rangeRows}
-use Rattle.rows.proofs.Indices.{chunks-few, values-few, value-in}
+use Rattle.rows.proofs.Indices.{pages-few, values-few, value-in}
 use Rattle.merging.proofs.Pass.{one-applied, one-skipped}
 use Rattle.merging.proofs.apply_one.Statement.{statement}
 use Rattle.merging.proofs.apply_one.Tie as tie
@@ -20,7 +20,7 @@ inside c =
     let p = c .pre .1 .0 in
     let i = value-in _ p _ _ (c .pre .1 .1 .0) (c .pre .1 .1 .1) in
     let values = values-few _ p in
-    let pages = chunks-few _ p .1 in
+    let pages = pages-few _ p in
     (omega (arith, p .columns-to), omega arith, omega arith, i, omega arith, λ r. (omega arith, omega arith))
 
 returns : tie.Need-returns

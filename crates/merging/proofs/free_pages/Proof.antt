@@ -6,7 +6,7 @@ use lib.ListN.{length}
 use Rattle.layout.specs.View.{viewOf}
 use Rattle.model.specs.Stored.{countBelow}
 use Rattle.merging.specs.Steps.{freeable, freeablesFreed}
-use Rattle.rows.proofs.Indices.{chunks-few}
+use Rattle.rows.proofs.Indices.{pages-few}
 use Rattle.merging.proofs.Freeing.{freed-none, freed-next, freed-end, count-next, count-most}
 use Rattle.merging.proofs.free_pages.Statement.{statement}
 use Rattle.merging.proofs.free_pages.Tie as tie
@@ -25,7 +25,7 @@ free-one-requires c κs =
     let start : tie.Start Inv-loop μ-loop = search in
     let a = start .args in
     let few = count-most (a .least) (viewOf (a .s) (a .mem .now)) (head .loop .p) in
-    (omega arith, (omega arith, omega (arith, head .loop .inv .2, few, chunks-few _ (start .pre .1) .1)))
+    (omega arith, (omega arith, omega (arith, head .loop .inv .2, few, pages-few _ (start .pre .1))))
 
 loop-again : tie.Need-loop-again Inv-loop μ-loop
 loop-again c =

@@ -7,7 +7,8 @@ use mir.Val.{Fits}
 use mathlib.Core.Path.{_≡_, ap, _∙_}
 use Rattle.terms.specs.Measures.{rangeRows}
 use Rattle.model.specs.Stored.{nextWord}
-use Rattle.rows.proofs.Indices.{chunks-few, chunk-in}
+use Rattle.layout.proofs.Indices.{chunks-few}
+use Rattle.rows.proofs.Indices.{pages-few, chunk-in}
 use Rattle.merging.proofs.Pass.{merged-is, not-free, reaches, apart}
 use Rattle.merging.proofs.merge.Statement.{statement}
 use Rattle.merging.proofs.merge.Tie as tie
@@ -21,7 +22,8 @@ inside c =
     let p = c .pre .1 .0 .0 in
     let m = c .pre .1 .1 in
     let i = chunk-in _ p _ _ (m .range-below) (m .column-below) in
-    let few = chunks-few _ p in
+    let chunks = chunks-few _ p in
+    let pages = pages-few _ p in
     let page = m .page-below in
     (i, omega arith, omega arith, omega arith, omega arith, omega arith)
 

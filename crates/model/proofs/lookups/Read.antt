@@ -24,12 +24,12 @@ use Rattle.history.proofs.Order.{sound-at}
 use Rattle.history.proofs.Ranges.{version-range, last-next, last-agree, last-unset}
 use Rattle.history.proofs.Links.{last-of-row}
 use Rattle.history.proofs.Endings.{original-reads, originals-of}
+use Rattle.loops.specs.declared.Found.{Found}
 use Rattle.layout.specs.View.{View}
 use Rattle.terms.specs.declared.ScanEntry.{ScanEntry}
 use Rattle.model.specs.declared.Reader.{Reader}
-use Rattle.model.specs.declared.Walk.{Walk}
 use Rattle.model.specs.Stored.{PageWords, rowIn, recordIn, valueIn, pageIn, cellIn, within, originalKind, settingKind}
-use Rattle.model.specs.Reading.{sees, answersFor, walk, orElse, belowLineage, wordIn, readIn}
+use Rattle.model.specs.Reading.{sees, answersFor, walk, orElse, downTo, wordIn, readIn}
 use Rattle.model.proofs.Lists.{take-next}
 use Rattle.model.specs.Represents.{stateWord, ContentIs, RecordIs, TailOf, Holds, Represents, WellFormed}
 use Rattle.model.proofs.lookups.Heads.{slot-is, in-range, SeesAs, visible-is}
@@ -46,13 +46,13 @@ record-answers C c (setting m vs) kind mask value b found new ins further o e f 
     rw (o .0, o .1) (by-test (λ a. cond a found further ≡ cond a new further) (bit m c && b) e (λ _. refl))
 record-answers C c ending kind mask value b found new ins further o e f = rw (o, and-false (bit mask c))
 
-found-or : {A : Type 0} (b : Bool) (i : ℕ) (w : Walk) (at rest : ℕ → A) → orElse (cond b (Walk.Found i) w) at rest ≡ cond b (at i) (orElse w at rest)
+found-or : {A : Type 0} (b : Bool) (i : ℕ) (w : Found) (at : ℕ → A) (rest : A) → orElse (cond b (Found.At i) w) at rest ≡ cond b (at i) (orElse w at rest)
 found-or true i w at rest = refl
 found-or false i w at rest = refl
 
-or-map : {A B : Type 0} (g : A → B) (w : Walk) (at rest : ℕ → A) → g (orElse w at rest) ≡ orElse w (λ i. g (at i)) (λ k. g (rest k))
-or-map g (Walk.Found i) at rest = refl
-or-map g (Walk.Stopped k) at rest = refl
+or-map : {A B : Type 0} (g : A → B) (w : Found) (at : ℕ → A) (rest : A) → g (orElse w at rest) ≡ orElse w (λ i. g (at i)) (g rest)
+or-map g (Found.At i) at rest = refl
+or-map g Found.Nothing at rest = refl
 
 last-le : (l : List Record) (r n : ℕ) → lastOf l r n ≤ n
 last-le l r n = go (lastOf l r n) refl
@@ -72,21 +72,21 @@ module _ (S : Shape) (v : View) (h : History) (i : InOrder h) (g r c : ℕ) (who
   abbrev seenTo : ℕ → Version
   seenTo n = lastSetting f r c (inserted h r c) (take n (recordsOf h g))
 
-  abbrev step : ℕ → ℕ → ℕ → Walk
+  abbrev step : ℕ → ℕ → ℕ → Found
   step low n k = walk S v who g c low n k
 
   -- record k of the range is the row's and passes
   abbrev OfRow : (Record → Bool) → ℕ → Type 0
   OfRow q k = (k < length recs) × ((getD recs k noRecord) .row ≡ r) × T (q (getD recs k noRecord))
 
-  walk-stop : (low n k : ℕ) → k ≤ low → step low n k ≡ Walk.Stopped (record { 0 = k })
+  walk-stop : (low n k : ℕ) → k ≤ low → step low n k ≡ Found.Nothing
   unfolding walk
   walk-stop low zero k b = refl
   walk-stop low (suc n) k b = rw (le-leb k low b)
 
   module _ (setting-at : (k : ℕ) → OfRow (λ x. sets c (x .content) && f (x .transaction)) k → at (g * S .capacity + k) ≡ of (versionIn c (getD recs k noRecord)))
       (original-at : (k : ℕ) → OfRow (λ x. isOriginal c (x .content)) k → at (g * S .capacity + k) ≡ of (inserted h r c)) where
-    walk-go : (low n k : ℕ) (rest : ℕ → A) → low ≤ k → k < length recs → (getD recs k noRecord) .row ≡ r
+    walk-go : (low n k : ℕ) (rest : A) → low ≤ k → k < length recs → (getD recs k noRecord) .row ≡ r
         → orElse (step low (suc n) (suc k)) at rest
         ≡ cond (sets c ((getD recs k noRecord) .content) && f ((getD recs k noRecord) .transaction)) (of (versionIn c (getD recs k noRecord)))
         (cond (isOriginal c ((getD recs k noRecord) .content)) (of (inserted h r c)) (orElse (step low n (lastOf recs r k)) at rest))
@@ -98,8 +98,8 @@ module _ (S : Shape) (v : View) (h : History) (i : InOrder h) (g r c : ℕ) (who
         (λ q. setting-at k (u, e, q)) (λ q. original-at k (u, e, q)))
 
     -- from the row's last record among the first n, down to `low`
-    pub walk-is : (low : ℕ) (rest : ℕ → A) (n fuel : ℕ) → low ≤ n → n ≤ length recs → lastOf recs r n ≤ fuel
-        → (hasOriginal (take n recs) r c ≡ hasOriginal (take low recs) r c → rest (lastOf recs r low) ≡ of (seenTo low))
+    pub walk-is : (low : ℕ) (rest : A) (n fuel : ℕ) → low ≤ n → n ≤ length recs → lastOf recs r n ≤ fuel
+        → (hasOriginal (take n recs) r c ≡ hasOriginal (take low recs) r c → rest ≡ of (seenTo low))
         → orElse (step low fuel (lastOf recs r n)) at rest ≡ of (seenTo n)
     unfolding lastOf hasOriginal
     walk-is low rest zero fuel a b d z =
@@ -115,7 +115,7 @@ module _ (S : Shape) (v : View) (h : History) (i : InOrder h) (g r c : ℕ) (who
         original-here y = eqb (y .row) r && isOriginal c (y .content)
 
         AtLow : ℕ → Type 0
-        AtLow n = hasOriginal (take n recs) r c ≡ hasOriginal (take low recs) r c → rest (lastOf recs r low) ≡ of (seenTo low)
+        AtLow n = hasOriginal (take n recs) r c ≡ hasOriginal (take low recs) r c → rest ≡ of (seenTo low)
 
         Before : Type 0
         Before = (fuel : ℕ) → low ≤ n → lastOf recs r n ≤ fuel → AtLow n → orElse (step low fuel (lastOf recs r n)) at rest ≡ of (seenTo n)
@@ -194,15 +194,17 @@ module _ {S : Shape} {v : View} {ps : List ScanEntry} {h : History} (o : Represe
   unfolding insertedValue
   original-there i u e cs vs q = rw (sound-at h g (k .invariants .order) i noRecord u .values cs vs q, e)
 
-  walk-value : (low : ℕ) (rest : ℕ → ℕ) (n : ℕ) → low ≤ n → n ≤ length list
-      → (hasOriginal (take n list) r c ≡ hasOriginal (take low list) r c → toZ w32 (rest (lastOf list r low)) ≡ lastSetting f r c (inserted h r c) (take low list) .value)
-      → toZ w32 (orElse (walk S v who g c low (lastOf list r n) (lastOf list r n)) (λ i. valueIn S v i c) rest) ≡ lastSetting f r c (inserted h r c) (take n list) .value
-  walk-value low rest n a d z =
-      or-map (toZ w32) (walk S v who g c low (lastOf list r n) (lastOf list r n)) (λ i. valueIn S v i c) rest
-      ∙ walk-is S v h (k .invariants .order) g r c who f w lok (λ i. toZ w32 (valueIn S v i c)) (λ y. y .value)
+  walk-value : (low : ℕ) → low ≤ length list
+      → (hasOriginal list r c ≡ hasOriginal (take low list) r c → toZ w32 cell ≡ lastSetting f r c (inserted h r c) (take low list) .value)
+      → toZ w32 (orElse (walk S v who g c low ((rowIn v r) .link) ((rowIn v r) .link)) (λ i. valueIn S v i c) cell) ≡ lastSetting f r c (inserted h r c) list .value
+  walk-value low a z =
+      or-map (toZ w32) (walk S v who g c low ((rowIn v r) .link) ((rowIn v r) .link)) (λ i. valueIn S v i c) cell
+      ∙ rw (o .rows r b .link)
+      (rw take-length at
+      (walk-is S v h (k .invariants .order) g r c who f w lok (λ i. toZ w32 (valueIn S v i c)) (λ y. y .value)
       (λ i u. setting-value (S .columns) c inside _ _ _ _ (lok .each i (u .0) .content) (parts (sets c ((getD list i noRecord) .content)) _ (u .2) .0) ∙ (unfold versionIn in refl))
       (λ i u. original-value (S .columns) c inside (insertedValue h r c) _ _ _ _ (lok .each i (u .0) .content) (original-there i (u .0) (u .1)) (u .2) ∙ (unfold inserted in refl))
-      low (λ j. toZ w32 (rest j)) n (lastOf list r n) a d (le-refl _) z
+      low (toZ w32 cell) (length list) (lastOf list r (length list)) a (le-refl _) (le-refl _) (rw take-length z)))
 
   cell-is : Q r → toZ w32 cell ≡ lastSetting (λ k. isCommitted (stateOf h k)) r c (inserted h r c) (take (page .lineage) list) .value
   unfolding cellThrough
@@ -219,32 +221,28 @@ module _ {S : Shape} {v : View} {ps : List ScanEntry} {h : History} (o : Represe
   has-original : wasSet list r c ≡ true → hasOriginal list r c ≡ true
   has-original e = sym (originals-of h r c (k .invariants .order) (omega (arith, k .small .columns)) refl) ∙ e
 
-  at-lineage : Q r → wasSet list r c ≡ true → hasOriginal (take (length list) list) r c ≡ hasOriginal (take (page .lineage) list) r c
-      → toZ w32 (belowLineage S v who g c page cell (lastOf list r (page .lineage))) ≡ lastSetting f r c (inserted h r c) (take (page .lineage) list) .value
-  unfolding belowLineage
-  at-lineage q s e =
-      by-test (λ a. toZ w32 (cond a cell (orElse (walk S v who g c 0 (lastOf list r (page .lineage)) (lastOf list r (page .lineage))) (λ i. valueIn S v i c) (λ j. cell)))
-      ≡ lastSetting f r c (inserted h r c) (take (page .lineage) list) .value) (leb (page .newest) (who .stamp .0))
-      (λ n. cell-seen q (leb→le (page .newest) (who .stamp .0) n))
-      (λ _. walk-value 0 (λ j. cell) (page .lineage) zero-le (held .through .within)
-      (λ z. absurd (true≢false (sym all-there ∙ z ∙ none-below))))
-    where
-      all-there : hasOriginal (take (page .lineage) list) r c ≡ true
-      all-there = sym e ∙ ap (λ (l : List Record). hasOriginal l r c) (take-length list) ∙ has-original s
+  down-within : downTo who page ≤ length list
+  unfolding downTo
+  down-within = by-test (λ a. cond a (page .lineage) 0 ≤ length list) (leb (page .newest) (who .stamp .0)) (λ _. held .through .within) (λ _. zero-le)
 
-      none-below : hasOriginal (take 0 list) r c ≡ false
-      none-below = unfold hasOriginal in refl
+  -- where no record answers, the page is not newer than the stamp: further down the column's original had answered
+  cell-answers : Q r → wasSet list r c ≡ true → hasOriginal list r c ≡ hasOriginal (take (downTo who page) list) r c
+      → toZ w32 cell ≡ lastSetting f r c (inserted h r c) (take (downTo who page) list) .value
+  unfolding downTo
+  cell-answers q s =
+      by-test (λ a. hasOriginal list r c ≡ hasOriginal (take (cond a (page .lineage) 0) list) r c
+      → toZ w32 cell ≡ lastSetting f r c (inserted h r c) (take (cond a (page .lineage) 0) list) .value) (leb (page .newest) (who .stamp .0))
+      (λ n _. cell-seen q (leb→le (page .newest) (who .stamp .0) n))
+      (λ _ e. absurd (true≢false (sym (has-original s) ∙ e ∙ (unfold hasOriginal in refl))))
 
   pub word-is : Q r → toZ w32 (wordIn S v who p r c) ≡ versionOf f h r c .value
   unfolding wordIn
   word-is q = go (bit ((rowIn v r) .mask) c) (o .rows r b .mask c) ∙ ap (λ (y : Version). y .value) (version-range h f r c)
     where
       go : (a : Bool) → a ≡ wasSet list r c
-          → toZ w32 (cond a (orElse (walk S v who g c (page .lineage) ((rowIn v r) .link) ((rowIn v r) .link)) (λ i. valueIn S v i c) (belowLineage S v who g c page cell)) cell)
+          → toZ w32 (cond a (orElse (walk S v who g c (downTo who page) ((rowIn v r) .link) ((rowIn v r) .link)) (λ i. valueIn S v i c) cell) cell)
           ≡ lastSetting f r c (inserted h r c) list .value
-      go true e =
-          rw (o .rows r b .link)
-          (rw take-length at (walk-value (page .lineage) (belowLineage S v who g c page cell) (length list) (held .through .within) (le-refl _) (at-lineage q (sym e))))
+      go true e = walk-value (downTo who page) down-within (cell-answers q (sym e))
       go false e =
           cell-is q
           ∙ ap (λ (y : Version). y .value) (last-unset _ r c (inserted h r c) (take (page .lineage) list) (unset-take list r c (page .lineage) (sym e)) ∙ sym (last-unset f r c (inserted h r c) list (sym e)))

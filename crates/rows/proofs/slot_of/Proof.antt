@@ -3,7 +3,8 @@ use Prim.Native.Nat.{_+_, _*_, _-_, _≤_, _<_}
 use mathlib.Core.Path.{refl}
 use native.Mathlib.Omega.{arith}
 use Rattle.layout.specs.Regions.{slot}
-use Rattle.rows.proofs.Indices.{slots-few, slot-in}
+use Rattle.layout.proofs.Indices.{slots-few}
+use Rattle.rows.proofs.Indices.{slot-in}
 use borrow.Author.Needs.{needs}
 use Rattle.rows.proofs.slot_of.Statement.{statement}
 use Rattle.rows.proofs.slot_of.Tie as tie

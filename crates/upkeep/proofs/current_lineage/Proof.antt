@@ -4,14 +4,15 @@ use borrow.Author.Needs.{needs}
 use Prim.Native.Nat.{_+_, _*_, _≤_, _<_}
 use Rattle.terms.specs.Measures.{mostChunks}
 use Rattle.model.specs.Stored.{pageIn, currentIn}
-use Rattle.rows.proofs.Indices.{chunk-in, chunks-few}
+use Rattle.layout.proofs.Indices.{chunks-few}
+use Rattle.rows.proofs.Indices.{chunk-in}
 use Rattle.upkeep.proofs.current_lineage.Statement.{statement}
 use Rattle.upkeep.proofs.current_lineage.Tie as tie
 
 -- the chunk of the range and column is there
 inside : (c : tie.Start) → let a = c .args in (a .g * a .s .columns + a .c < a .s .chunks) × (a .s .chunks ≤ mostChunks)
 inside c =
-    let p = c .pre .0 .proper in (chunk-in _ p _ _ (c .pre .1 .0) (c .pre .1 .1), chunks-few _ p .0)
+    let p = c .pre .0 .proper in (chunk-in _ p _ _ (c .pre .1 .0) (c .pre .1 .1), chunks-few _ p)
 
 read-requires-2 : tie.Need-read-requires-2
 read-requires-2 c κs =

@@ -3,7 +3,8 @@ use Prim.Native.Nat.{_+_, _*_, _≤_, _<_}
 use native.Mathlib.Omega.{arith}
 use Rattle.terms.specs.Measures.{mostChunks}
 use Rattle.model.specs.Stored.{currentIn}
-use Rattle.rows.proofs.Indices.{chunks-few, chunk-in}
+use Rattle.layout.proofs.Indices.{chunks-few}
+use Rattle.rows.proofs.Indices.{chunk-in}
 use borrow.Author.Needs.{needs}
 use Rattle.reading.proofs.base_pages.current_page.Statement.{statement}
 use Rattle.reading.proofs.base_pages.current_page.Tie as tie
@@ -11,7 +12,7 @@ use Rattle.reading.proofs.base_pages.current_page.Tie as tie
 inside : (c : tie.Start) → let a = c .args in (a .g * a .s .columns + a .c < a .s .chunks) × (a .s .chunks ≤ mostChunks)
 inside c =
     let proper = c .pre .1 .0 in
-    (chunk-in _ proper _ _ (c .pre .1 .1 .1 .0) (c .pre .1 .1 .1 .1), chunks-few _ proper .0)
+    (chunk-in _ proper _ _ (c .pre .1 .1 .1 .0) (c .pre .1 .1 .1 .1), chunks-few _ proper)
 
 returns : tie.Need-returns
 unfolding currentIn

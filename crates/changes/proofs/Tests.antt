@@ -25,11 +25,11 @@ use Rattle.model.specs.Preconditions.{shapeIn, Counted, Linked, FreeAt, OpenAt}
 use Rattle.loops.specs.Search.{foundAt}
 use Rattle.writing.specs.Steps.{Room}
 use Rattle.rows.proofs.Indices.{row-in}
-use Rattle.entry.specs.declared.Entry.{Entry}
-use Rattle.entry.specs.declared.Tested.{Tested}
-use Rattle.entry.specs.Entered.{Fitted, Enters}
-use Rattle.entry.specs.Tested.{Says, Finds, IfPassed}
-use Rattle.entry.proofs.Served.{entered, part-seen, found, if-passed}
+use Rattle.admission.specs.declared.Admission.{Admission}
+use Rattle.admission.specs.declared.Tested.{Tested}
+use Rattle.admission.specs.Admitted.{Fitted, Admits}
+use Rattle.admission.specs.Tested.{Says, Finds, IfPassed}
+use Rattle.admission.proofs.Served.{admitted, part-seen, found, if-passed}
 use Rattle.changes.specs.Steps.{appendTests}
 
 -- ---- the tail records that the range of a row has left
@@ -123,9 +123,9 @@ module _ (s : Sizes) (m : List ℕ) (h : Suffices s m) where
     free-at j e = first-free j (sym q ∙ e) .1
 
 -- ---- what the functions that write ask for of the lent part, by what the tests found
-module _ (e : Entry) (s : Sizes) (n : ℕ) (m : List ℕ) (t : Scans) (a : e ≡ Entry.Fit s n) (b : Enters e m t) (d : Tested) (j : ℕ) (p : d ≡ Tested.Passed j) where
+module _ (e : Admission) (s : Sizes) (n : ℕ) (m : List ℕ) (t : Scans) (a : e ≡ Admission.Fit s n) (b : Admits e m t) (d : Tested) (j : ℕ) (p : d ≡ Tested.Passed j) where
   seen : viewOf s (take n m) ≡ viewOf s m
-  seen = part-seen (entered e s n m t a b)
+  seen = part-seen (admitted e s n m t a b)
 
   pub free-in-part : Finds d (FreeAt (viewOf s m)) → FreeAt (viewOf s (take n m)) j
   free-in-part h = rw seen (found d _ j p h)

@@ -1,15 +1,15 @@
 // The calls that change transactions and rows, over a lent memory and the table of the scan list: begin, insert, update, delete, commit, abort. Each call is the
 // test of memory and list, the call's own tests in the order of section 4 of docs/SPECIFICATION.md, and then the function that writes, over the needed bytes.
+use admission::Admission;
+use admission::Tested;
+use admission::admit;
+use admission::given_range;
+use admission::not_later;
 use conditions::bad_mask;
 use conditions::gone;
 use conditions::held;
 use conditions::lacks_records;
 use conditions::open_index;
-use entry::Entry;
-use entry::Tested;
-use entry::enter;
-use entry::given_range;
-use entry::not_later;
 use layout::HEADER_ROWS;
 use layout::HEADER_TRANSACTIONS;
 use layout::Region;
@@ -37,8 +37,8 @@ ghost use Rattle.model.specs.Writing.{recordsWanted};
 ghost use Rattle.model.specs.Preconditions.{shapeIn, FreeAt, OpenAt};
 ghost use Rattle.writing.specs.Steps.{Room};
 ghost use Rattle.promise.specs.Promise.{ServesBy, kept};
-ghost use Rattle.entry.specs.Entered.{Fitted};
-ghost use Rattle.entry.specs.Tested.{Says, Finds, IfPassed, Tests};
+ghost use Rattle.admission.specs.Admitted.{Fitted};
+ghost use Rattle.admission.specs.Tested.{Says, Finds, IfPassed, Tests};
 ghost use Rattle.changes.specs.Steps.{appendTests};
 
 // ---- begin
@@ -63,7 +63,7 @@ fn begin_tests(mem: &[u8], s: Sizes) -> Tested
 pub fn begin(mem: &mut [u8], scans: Scans) -> Answer
     ensures { λ r. ⌜ ServesBy scans (now (mem .entry)) Call.begin r (now (mem .exit)) kept ⌝ }
 {
-    let Entry::Fit(s, n) = enter(mem, scans) else {
+    let Admission::Fit(s, n) = admit(mem, scans) else {
         return Answer::Refused(Refusal::Memory);
     };
     match begin_tests(mem, s) {
@@ -99,7 +99,7 @@ pub fn insert(
 ) -> Answer
     ensures { λ r. ⌜ ServesBy scans (now (mem .entry)) (Call.insert (transaction .0) values) r (now (mem .exit)) kept ⌝ }
 {
-    let Entry::Fit(s, n) = enter(mem, scans) else {
+    let Admission::Fit(s, n) = admit(mem, scans) else {
         return Answer::Refused(Refusal::Memory);
     };
     match insert_tests(mem, s, transaction) {
@@ -170,7 +170,7 @@ pub fn update(
 ) -> Answer
     ensures { λ r. ⌜ ServesBy scans (now (mem .entry)) (Call.update (transaction .0) (row .0) mask values) r (now (mem .exit)) kept ⌝ }
 {
-    let Entry::Fit(s, n) = enter(mem, scans) else {
+    let Admission::Fit(s, n) = admit(mem, scans) else {
         return Answer::Refused(Refusal::Memory);
     };
     let m = mask as u32;
@@ -202,7 +202,7 @@ fn delete_tests(mem: &[u8], s: Sizes, t: Transaction, row: Row) -> Tested
 pub fn delete(mem: &mut [u8], scans: Scans, transaction: Transaction, row: Row) -> Answer
     ensures { λ r. ⌜ ServesBy scans (now (mem .entry)) (Call.delete (transaction .0) (row .0)) r (now (mem .exit)) kept ⌝ }
 {
-    let Entry::Fit(s, n) = enter(mem, scans) else {
+    let Admission::Fit(s, n) = admit(mem, scans) else {
         return Answer::Refused(Refusal::Memory);
     };
     match delete_tests(mem, s, transaction, row) {
@@ -234,7 +234,7 @@ fn commit_tests(mem: &[u8], s: Sizes, t: Transaction, stamp: Stamp) -> Tested
 pub fn commit(mem: &mut [u8], scans: Scans, transaction: Transaction, stamp: Stamp) -> Answer
     ensures { λ r. ⌜ ServesBy scans (now (mem .entry)) (Call.commit (transaction .0) (stamp .0)) r (now (mem .exit)) kept ⌝ }
 {
-    let Entry::Fit(s, n) = enter(mem, scans) else {
+    let Admission::Fit(s, n) = admit(mem, scans) else {
         return Answer::Refused(Refusal::Memory);
     };
     match commit_tests(mem, s, transaction, stamp) {
@@ -262,7 +262,7 @@ fn abort_tests(mem: &[u8], s: Sizes, t: Transaction) -> Tested
 pub fn abort(mem: &mut [u8], scans: Scans, transaction: Transaction) -> Answer
     ensures { λ r. ⌜ ServesBy scans (now (mem .entry)) (Call.abort (transaction .0)) r (now (mem .exit)) kept ⌝ }
 {
-    let Entry::Fit(s, n) = enter(mem, scans) else {
+    let Admission::Fit(s, n) = admit(mem, scans) else {
         return Answer::Refused(Refusal::Memory);
     };
     match abort_tests(mem, s, transaction) {

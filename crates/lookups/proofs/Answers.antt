@@ -25,13 +25,13 @@ use Rattle.model.specs.Calls.{testsIn}
 use Rattle.model.specs.Reading.{reader, readIn, readCurrent, scanPage, sumIn}
 use Rattle.model.specs.Preconditions.{shapeIn, OpenAt}
 use Rattle.rows.proofs.Indices.{row-in}
-use Rattle.entry.specs.declared.Tested.{Tested}
-use Rattle.entry.specs.Entered.{Fitted}
-use Rattle.entry.specs.Given.{rangeGiven, ScanAt}
-use Rattle.entry.specs.Tested.{Says, Finds, IfPassed, Tests}
-use Rattle.entry.proofs.Served.{found, if-passed}
-use Rattle.entry.proofs.Decided.{row-below, column-below}
-use Rattle.entry.proofs.Scans.{in-table, scan-stamp, scan-merges, scan-number}
+use Rattle.admission.specs.declared.Tested.{Tested}
+use Rattle.admission.specs.Admitted.{Fitted}
+use Rattle.admission.specs.Given.{rangeGiven, ScanAt}
+use Rattle.admission.specs.Tested.{Says, Finds, IfPassed, Tests}
+use Rattle.admission.proofs.Served.{found, if-passed}
+use Rattle.admission.proofs.Decided.{row-below, column-below}
+use Rattle.admission.proofs.Scans.{in-table, scan-stamp, scan-merges, scan-number}
 use Rattle.lookups.specs.Lookups.{rowTests, CellThere, IsScan}
 
 pub cell-there : (s : Sizes) (m : List ℕ) (r c g : ℕ) (f : Found) (b : Bool) → Fitted s m → f ≡ rangeGiven (viewOf s m) r → f ≡ Found.At g

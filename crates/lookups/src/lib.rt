@@ -1,15 +1,15 @@
 // The calls that only read, over the lent memory and the table of the lent scan list: latest, read at, own read, scan read, sum, page cell and lineage. Each call is
 // the test of memory and list, the call's own tests in the order of section 4 of docs/SPECIFICATION.md, and then the function that reads.
+use admission::Admission;
+use admission::Tested;
+use admission::admit;
+use admission::given_range;
+use admission::last_stamp;
+use admission::later;
+use admission::no_column;
+use admission::no_range;
 use conditions::open_index;
 use conditions::own_changes;
-use entry::Entry;
-use entry::Tested;
-use entry::enter;
-use entry::given_range;
-use entry::last_stamp;
-use entry::later;
-use entry::no_column;
-use entry::no_range;
 use layout::Region;
 use layout::Sizes;
 use loops::Found;
@@ -39,9 +39,9 @@ ghost use Rattle.layout.specs.View.{viewOf};
 ghost use Rattle.history.specs.History.{Call, verdict, rangeOf};
 ghost use Rattle.model.specs.Preconditions.{shapeIn, OpenAt};
 ghost use Rattle.promise.specs.Promise.{ServesBy, kept};
-ghost use Rattle.entry.specs.Entered.{Fitted};
-ghost use Rattle.entry.specs.Tested.{Says, Finds, IfPassed, Tests, TestsBy};
-ghost use Rattle.entry.specs.Given.{ScanAt};
+ghost use Rattle.admission.specs.Admitted.{Fitted};
+ghost use Rattle.admission.specs.Tested.{Says, Finds, IfPassed, Tests, TestsBy};
+ghost use Rattle.admission.specs.Given.{ScanAt};
 ghost use Rattle.lookups.specs.Lookups.{rowTests, CellThere, IsScan};
 
 // ---- latest, read at, own read
@@ -65,7 +65,7 @@ fn row_tests(mem: &[u8], s: Sizes, row: Row, column: u32) -> Tested
 pub fn latest(mem: &[u8], t: Scans, row: Row, column: u32) -> Answer
     ensures { λ r. ⌜ ServesBy t (now (mem .entry)) (Call.latest (row .0) column) r (now (mem .entry)) kept ⌝ }
 {
-    let Entry::Fit(s, _) = enter(mem, t) else {
+    let Admission::Fit(s, _) = admit(mem, t) else {
         return Answer::Refused(Refusal::Memory);
     };
     match row_tests(mem, s, row, column) {
@@ -96,7 +96,7 @@ fn read_at_tests(mem: &[u8], s: Sizes, stamp: Stamp, row: Row, column: u32) -> T
 pub fn read_at(mem: &[u8], t: Scans, stamp: Stamp, row: Row, column: u32) -> Answer
     ensures { λ r. ⌜ ServesBy t (now (mem .entry)) (Call.readAt (stamp .0) (row .0) column) r (now (mem .entry)) kept ⌝ }
 {
-    let Entry::Fit(s, _) = enter(mem, t) else {
+    let Admission::Fit(s, _) = admit(mem, t) else {
         return Answer::Refused(Refusal::Memory);
     };
     match read_at_tests(mem, s, stamp, row, column) {
@@ -131,7 +131,7 @@ fn own_read_tests(mem: &[u8], s: Sizes, transaction: Transaction, row: Row, colu
 pub fn own_read(mem: &[u8], t: Scans, transaction: Transaction, row: Row, column: u32) -> Answer
     ensures { λ r. ⌜ ServesBy t (now (mem .entry)) (Call.ownRead (transaction .0) (row .0) column) r (now (mem .entry)) kept ⌝ }
 {
-    let Entry::Fit(s, _) = enter(mem, t) else {
+    let Admission::Fit(s, _) = admit(mem, t) else {
         return Answer::Refused(Refusal::Memory);
     };
     match own_read_tests(mem, s, transaction, row, column) {
@@ -182,7 +182,7 @@ fn scan_read_tests(mem: &[u8], s: Sizes, t: Scans, scan: u32, row: Row, column: 
 pub fn scan_read(mem: &[u8], t: Scans, scan: u32, row: Row, column: u32) -> Answer
     ensures { λ r. ⌜ ServesBy t (now (mem .entry)) (Call.scanRead scan (row .0) column) r (now (mem .entry)) kept ⌝ }
 {
-    let Entry::Fit(s, _) = enter(mem, t) else {
+    let Admission::Fit(s, _) = admit(mem, t) else {
         return Answer::Refused(Refusal::Memory);
     };
     match scan_read_tests(mem, s, t, scan, row, column) {
@@ -218,7 +218,7 @@ fn sum_tests(s: Sizes, t: Scans, scan: u32, column: u32) -> Tested
 pub fn sum(mem: &[u8], t: Scans, scan: u32, column: u32) -> Answer
     ensures { λ r. ⌜ ServesBy t (now (mem .entry)) (Call.sum scan column) r (now (mem .entry)) kept ⌝ }
 {
-    let Entry::Fit(s, _) = enter(mem, t) else {
+    let Admission::Fit(s, _) = admit(mem, t) else {
         return Answer::Refused(Refusal::Memory);
     };
     match sum_tests(s, t, scan, column) {
@@ -249,7 +249,7 @@ fn page_cell_tests(mem: &[u8], s: Sizes, column: u32, row: Row) -> Tested
 pub fn page_cell(mem: &[u8], t: Scans, column: u32, row: Row) -> Answer
     ensures { λ r. ⌜ ServesBy t (now (mem .entry)) (Call.pageCell column (row .0)) r (now (mem .entry)) kept ⌝ }
 {
-    let Entry::Fit(s, _) = enter(mem, t) else {
+    let Admission::Fit(s, _) = admit(mem, t) else {
         return Answer::Refused(Refusal::Memory);
     };
     match page_cell_tests(mem, s, column, row) {
@@ -281,7 +281,7 @@ fn lineage_tests(s: Sizes, range: u32, column: u32) -> Tested
 pub fn lineage(mem: &[u8], t: Scans, range: u32, column: u32) -> Answer
     ensures { λ r. ⌜ ServesBy t (now (mem .entry)) (Call.lineage range column) r (now (mem .entry)) kept ⌝ }
 {
-    let Entry::Fit(s, _) = enter(mem, t) else {
+    let Admission::Fit(s, _) = admit(mem, t) else {
         return Answer::Refused(Refusal::Memory);
     };
     match lineage_tests(s, range, column) {

@@ -23,13 +23,13 @@ use Rattle.scans.proofs.Table.{table-length}
 use Rattle.scans.proofs.Answers.{table-count}
 use Rattle.model.specs.Calls.{entriesAfter}
 use Rattle.promise.specs.Promise.{Serves, ServesBy, kept}
-use Rattle.entry.specs.declared.Entry.{Entry}
-use Rattle.entry.specs.declared.Tested.{Tested}
-use Rattle.entry.specs.Entered.{Enters}
-use Rattle.entry.specs.Given.{ScanAt}
-use Rattle.entry.specs.Tested.{Finds, IfPassed}
-use Rattle.entry.proofs.Served.{entered, part-seen, found, if-passed}
-use Rattle.entry.proofs.Scans.{in-table, scan-at}
+use Rattle.admission.specs.declared.Admission.{Admission}
+use Rattle.admission.specs.declared.Tested.{Tested}
+use Rattle.admission.specs.Admitted.{Admits}
+use Rattle.admission.specs.Given.{ScanAt}
+use Rattle.admission.specs.Tested.{Finds, IfPassed}
+use Rattle.admission.proofs.Served.{admitted, part-seen, found, if-passed}
+use Rattle.admission.proofs.Scans.{in-table, scan-at}
 use Rattle.upkeep.specs.declared.ListChange.{ListChange}
 use Rattle.upkeep.specs.Lists.{changedAt}
 
@@ -74,9 +74,9 @@ unfolding entriesAfter
 opened-list t ps v stamp i p q e y = rw (e ∙ free-is t ps q, y)
 
 -- a number is left for it
-pub number-in-part : (e : Entry) (s : Sizes) (n : ℕ) (m : List ℕ) (t : Scans) (d : Tested) (i : ℕ) → e ≡ Entry.Fit s n → Enters e m t → d ≡ Tested.Passed i
+pub number-in-part : (e : Admission) (s : Sizes) (n : ℕ) (m : List ℕ) (t : Scans) (d : Tested) (i : ℕ) → e ≡ Admission.Fit s n → Admits e m t → d ≡ Tested.Passed i
     → IfPassed d (scansGiven (viewOf s m) < mostNumbers) → scansGiven (viewOf s (take n m)) < mostNumbers
-number-in-part e s n m t d i a b x h = rw (part-seen (entered e s n m t a b)) (if-passed d _ i x h)
+number-in-part e s n m t d i a b x h = rw (part-seen (admitted e s n m t a b)) (if-passed d _ i x h)
 
 -- a closed one leaves its entry free
 pub closed-list : (t : Scans) (ps : List ScanEntry) (v : View) (d : Tested) (k j : ℕ) → t ≡ tableOf ps → openCount ps ≤ mostScans → d ≡ Tested.Passed j

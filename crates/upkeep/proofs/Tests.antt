@@ -23,12 +23,12 @@ use Rattle.layout.specs.Sizes.{Proper}
 use Rattle.model.specs.Preconditions.{shapeIn}
 use Rattle.loops.specs.Search.{foundAt}
 use Rattle.merging.specs.Steps.{MergeReady}
-use Rattle.entry.specs.declared.Entry.{Entry}
-use Rattle.entry.specs.declared.Tested.{Tested}
-use Rattle.entry.specs.Entered.{Fitted, Enters}
-use Rattle.entry.specs.Tested.{Says, Finds}
+use Rattle.admission.specs.declared.Admission.{Admission}
+use Rattle.admission.specs.declared.Tested.{Tested}
+use Rattle.admission.specs.Admitted.{Fitted, Admits}
+use Rattle.admission.specs.Tested.{Says, Finds}
 use Rattle.upkeep.specs.Lists.{reachTests}
-use Rattle.entry.proofs.Served.{entered, part-seen, found}
+use Rattle.admission.proofs.Served.{admitted, part-seen, found}
 
 -- ---- the first free page
 found-here : (n i j : ℕ) → foundAt n i ≡ Found.At j → (i < n) × (j ≡ i)
@@ -101,6 +101,6 @@ unfolding tableOf
 table-few t ps e = rw e (min-le-left mostScans (openCount ps))
 
 -- ---- what a merge asks for, by what its tests found
-pub mergeable : (e : Entry) (s : Sizes) (n : ℕ) (m : List ℕ) (t : Scans) (d : Tested) (g c k p : ℕ) → e ≡ Entry.Fit s n → Enters e m t → d ≡ Tested.Passed p
+pub mergeable : (e : Admission) (s : Sizes) (n : ℕ) (m : List ℕ) (t : Scans) (d : Tested) (g c k p : ℕ) → e ≡ Admission.Fit s n → Admits e m t → d ≡ Tested.Passed p
     → Finds d (MergeReady s (viewOf s m) g c k) → MergeReady s (viewOf s (take n m)) g c k p
-mergeable e s n m t d g c k p a b x y = rw (part-seen (entered e s n m t a b)) (found d _ p x y)
+mergeable e s n m t d g c k p a b x y = rw (part-seen (admitted e s n m t a b)) (found d _ p x y)

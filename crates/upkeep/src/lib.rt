@@ -1,13 +1,13 @@
 // The calls that keep the store in order, over a lent memory and the table of the scan list: merge, release, open scan, close scan. Each call is the test of memory
 // and list, the call's own tests in the order of section 4 of docs/SPECIFICATION.md, and then what it writes. The scan list itself is not lent here: open and close answer the one entry of
 // it that changes, and what stands there then.
+use admission::Admission;
+use admission::Tested;
+use admission::admit;
+use admission::later;
+use admission::no_column;
+use admission::no_range;
 use conditions::any_open;
-use entry::Entry;
-use entry::Tested;
-use entry::enter;
-use entry::later;
-use entry::no_column;
-use entry::no_range;
 use layout::HEADER_MERGES;
 use layout::HEADER_SCANS;
 use layout::Region;
@@ -41,9 +41,9 @@ ghost use Rattle.model.specs.Stored.{pageIn, currentIn};
 ghost use Rattle.model.specs.Preconditions.{shapeIn};
 ghost use Rattle.merging.specs.Steps.{MergeReady};
 ghost use Rattle.promise.specs.Promise.{ServesBy, kept};
-ghost use Rattle.entry.specs.Entered.{Fitted};
-ghost use Rattle.entry.specs.Tested.{Says, Finds, IfPassed, Tests, TestsBy};
-ghost use Rattle.entry.specs.Given.{ScanAt};
+ghost use Rattle.admission.specs.Admitted.{Fitted};
+ghost use Rattle.admission.specs.Tested.{Says, Finds, IfPassed, Tests, TestsBy};
+ghost use Rattle.admission.specs.Given.{ScanAt};
 ghost use Rattle.upkeep.specs.Lists.{changedAt, reachTests};
 
 // What a call on the scan list leaves: its answer, and the index in the list of what becomes `entry`. An index past the list's end changes nothing.
@@ -111,7 +111,7 @@ fn merge_tests(mem: &[u8], s: Sizes, range: u32, column: u32, through: Tail) -> 
 pub fn merge(mem: &mut [u8], scans: Scans, range: u32, column: u32, through: Tail) -> Answer
     ensures { λ r. ⌜ ServesBy scans (now (mem .entry)) (Call.merge range column (through .0)) r (now (mem .exit)) kept ⌝ }
 {
-    let Entry::Fit(s, n) = enter(mem, scans) else {
+    let Admission::Fit(s, n) = admit(mem, scans) else {
         return Answer::Refused(Refusal::Memory);
     };
     match merge_tests(mem, s, range, column, through) {
@@ -139,7 +139,7 @@ pub fn release(mem: &mut [u8], scans: Scans) -> Answer
     if scans.count > MOST_SCANS {
         return Answer::Refused(Refusal::Memory);
     }
-    let Entry::Fit(s, n) = enter(mem, scans) else {
+    let Admission::Fit(s, n) = admit(mem, scans) else {
         return Answer::Refused(Refusal::Memory);
     };
     Answer::Number(merging::release(&mut mem[..n], s, scans))
@@ -196,7 +196,7 @@ fn give_scan(mem: &mut [u8], s: Sizes) -> u32
 pub fn open_scan(mem: &mut [u8], scans: Scans, stamp: Stamp) -> ListChange
     ensures { λ r. ⌜ ServesBy scans (now (mem .entry)) (Call.openScan (stamp .0)) (r .answer) (now (mem .exit)) (changedAt r) ⌝ }
 {
-    let Entry::Fit(s, n) = enter(mem, scans) else {
+    let Admission::Fit(s, n) = admit(mem, scans) else {
         return unlisted(scans, Refusal::Memory);
     };
     match open_tests(mem, s, scans, stamp) {
@@ -232,7 +232,7 @@ fn close_tests(scans: Scans, scan: u32) -> Tested
 pub fn close_scan(mem: &[u8], scans: Scans, scan: u32) -> ListChange
     ensures { λ r. ⌜ ServesBy scans (now (mem .entry)) (Call.close scan) (r .answer) (now (mem .entry)) (changedAt r) ⌝ }
 {
-    let Entry::Fit(_, _) = enter(mem, scans) else {
+    let Admission::Fit(_, _) = admit(mem, scans) else {
         return unlisted(scans, Refusal::Memory);
     };
     match close_tests(scans, scan) {

@@ -1,7 +1,7 @@
 -- `changes::append_tests` meets its contract: each answer follows from the tests that led to it.
 use borrow.Author.Needs.{needs}
-use Rattle.entry.specs.Tested.{Finds, IfPassed}
-use Rattle.entry.proofs.Decided.{deciding}
+use Rattle.admission.specs.Tested.{Finds, IfPassed}
+use Rattle.admission.proofs.Decided.{deciding}
 use Rattle.changes.proofs.Tests.{lacks-is, room-left, range-inside}
 use Rattle.changes.proofs.append_tests.Statement.{statement}
 use Rattle.changes.proofs.append_tests.Tie as tie

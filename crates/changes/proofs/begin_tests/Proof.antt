@@ -1,8 +1,8 @@
 -- `changes::begin_tests` meets its contract: each answer follows from the tests that led to it.
 use borrow.Author.Needs.{needs}
 use Rattle.model.specs.Calls.{testsIn}
-use Rattle.entry.specs.Tested.{Tests, Finds, IfPassed}
-use Rattle.entry.proofs.Decided.{deciding}
+use Rattle.admission.specs.Tested.{Tests, Finds, IfPassed}
+use Rattle.admission.proofs.Decided.{deciding}
 use Rattle.changes.proofs.Tests.{none-free, one-free, free-at}
 use Rattle.changes.proofs.begin_tests.Statement.{statement}
 use Rattle.changes.proofs.begin_tests.Tie as tie

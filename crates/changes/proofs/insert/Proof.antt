@@ -1,7 +1,7 @@
 -- `changes::insert` meets its contract: the tests tell what the writing asks for.
 use borrow.Author.Needs.{needs}
 use Rattle.model.specs.Calls.{replyIn, actIn, entriesAfter}
-use Rattle.entry.proofs.Served.{serving}
+use Rattle.admission.proofs.Served.{serving}
 use Rattle.changes.proofs.Tests.{in-part}
 use Rattle.changes.proofs.insert.Statement.{statement}
 use Rattle.changes.proofs.insert.Tie as tie

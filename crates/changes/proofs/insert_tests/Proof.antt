@@ -1,8 +1,8 @@
 -- `changes::insert_tests` meets its contract: each answer follows from the tests that led to it.
 use borrow.Author.Needs.{needs}
 use Rattle.model.specs.Calls.{testsIn}
-use Rattle.entry.specs.Tested.{Tests, Finds, IfPassed}
-use Rattle.entry.proofs.Decided.{deciding}
+use Rattle.admission.specs.Tested.{Tests, Finds, IfPassed}
+use Rattle.admission.proofs.Decided.{deciding}
 use Rattle.changes.proofs.Tests.{full, not-full}
 use Rattle.changes.proofs.insert_tests.Statement.{statement}
 use Rattle.changes.proofs.insert_tests.Tie as tie

@@ -2,8 +2,8 @@
 use borrow.Author.Needs.{needs}
 use Rattle.history.specs.History.{badMask}
 use Rattle.model.specs.Calls.{testsIn}
-use Rattle.entry.specs.Tested.{Tests, Finds, IfPassed}
-use Rattle.entry.proofs.Decided.{deciding}
+use Rattle.admission.specs.Tested.{Tests, Finds, IfPassed}
+use Rattle.admission.proofs.Decided.{deciding}
 use Rattle.changes.proofs.Tests.{row-inside, wanted-says, wanted-left}
 use Rattle.changes.proofs.update_tests.Statement.{statement}
 use Rattle.changes.proofs.update_tests.Tie as tie

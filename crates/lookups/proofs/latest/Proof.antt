@@ -1,7 +1,7 @@
 -- `lookups::latest` meets its contract: the tests tell what the reading asks for.
 use borrow.Author.Needs.{needs}
 use Rattle.model.specs.Calls.{replyIn, actIn, entriesAfter}
-use Rattle.entry.proofs.Served.{serving}
+use Rattle.admission.proofs.Served.{serving}
 use Rattle.lookups.proofs.Answers.{cell-inside, latest-tests, latest-answer}
 use Rattle.lookups.proofs.latest.Statement.{statement}
 use Rattle.lookups.proofs.latest.Tie as tie

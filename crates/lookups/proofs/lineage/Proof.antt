@@ -1,7 +1,7 @@
 -- `lookups::lineage` meets its contract: the tests tell what the reading asks for.
 use borrow.Author.Needs.{needs}
 use Rattle.model.specs.Calls.{replyIn, actIn, entriesAfter}
-use Rattle.entry.proofs.Served.{serving, index-below, passed-below}
+use Rattle.admission.proofs.Served.{serving, index-below, passed-below}
 use Rattle.lookups.proofs.Answers.{lineage-answer}
 use Rattle.lookups.proofs.lineage.Statement.{statement}
 use Rattle.lookups.proofs.lineage.Tie as tie

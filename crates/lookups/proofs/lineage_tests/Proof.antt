@@ -2,8 +2,8 @@
 use borrow.Author.Needs.{needs}
 use mathlib.Core.Path.{refl}
 use Rattle.model.specs.Calls.{testsIn}
-use Rattle.entry.specs.Tested.{Tests, Finds, IfPassed}
-use Rattle.entry.proofs.Decided.{deciding}
+use Rattle.admission.specs.Tested.{Tests, Finds, IfPassed}
+use Rattle.admission.proofs.Decided.{deciding}
 use Rattle.lookups.proofs.lineage_tests.Statement.{statement}
 use Rattle.lookups.proofs.lineage_tests.Tie as tie
 

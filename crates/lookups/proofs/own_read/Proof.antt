@@ -1,7 +1,7 @@
 -- `lookups::own_read` meets its contract: the tests tell what the reading asks for.
 use borrow.Author.Needs.{needs}
 use Rattle.model.specs.Calls.{replyIn, actIn, entriesAfter}
-use Rattle.entry.proofs.Served.{serving, open-below}
+use Rattle.admission.proofs.Served.{serving, open-below}
 use Rattle.lookups.proofs.Answers.{cell-inside, index-open}
 use Rattle.lookups.proofs.own_read.Statement.{statement}
 use Rattle.lookups.proofs.own_read.Tie as tie

@@ -1,7 +1,7 @@
 -- `lookups::page_cell` meets its contract: the tests tell what the reading asks for.
 use borrow.Author.Needs.{needs}
 use Rattle.model.specs.Calls.{replyIn, actIn, entriesAfter}
-use Rattle.entry.proofs.Served.{serving, index-is}
+use Rattle.admission.proofs.Served.{serving, index-is}
 use Rattle.lookups.proofs.Answers.{cell-inside, cell-answer}
 use Rattle.lookups.proofs.page_cell.Statement.{statement}
 use Rattle.lookups.proofs.page_cell.Tie as tie

@@ -1,7 +1,7 @@
 -- `lookups::read_at` meets its contract: the tests tell what the reading asks for.
 use borrow.Author.Needs.{needs}
 use Rattle.model.specs.Calls.{replyIn, actIn, entriesAfter}
-use Rattle.entry.proofs.Served.{serving}
+use Rattle.admission.proofs.Served.{serving}
 use Rattle.lookups.proofs.Answers.{cell-inside}
 use Rattle.lookups.proofs.read_at.Statement.{statement}
 use Rattle.lookups.proofs.read_at.Tie as tie

@@ -1,8 +1,8 @@
 -- `lookups::read_at_tests` meets its contract: each answer follows from the tests that led to it.
 use borrow.Author.Needs.{needs}
 use Rattle.model.specs.Calls.{testsIn}
-use Rattle.entry.specs.Tested.{Tests, IfPassed}
-use Rattle.entry.proofs.Decided.{deciding}
+use Rattle.admission.specs.Tested.{Tests, IfPassed}
+use Rattle.admission.proofs.Decided.{deciding}
 use Rattle.lookups.proofs.read_at_tests.Statement.{statement}
 use Rattle.lookups.proofs.read_at_tests.Tie as tie
 

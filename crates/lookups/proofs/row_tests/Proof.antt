@@ -1,7 +1,7 @@
 -- `lookups::row_tests` meets its contract: each answer follows from the tests that led to it.
 use borrow.Author.Needs.{needs}
-use Rattle.entry.specs.Tested.{IfPassed}
-use Rattle.entry.proofs.Decided.{deciding}
+use Rattle.admission.specs.Tested.{IfPassed}
+use Rattle.admission.proofs.Decided.{deciding}
 use Rattle.lookups.proofs.Answers.{cell-there}
 use Rattle.lookups.proofs.row_tests.Statement.{statement}
 use Rattle.lookups.proofs.row_tests.Tie as tie

@@ -1,7 +1,7 @@
 -- `lookups::scan_read` meets its contract: the tests tell what the reading asks for.
 use borrow.Author.Needs.{needs}
 use Rattle.model.specs.Calls.{replyIn, actIn, entriesAfter}
-use Rattle.entry.proofs.Served.{serving, scan-below}
+use Rattle.admission.proofs.Served.{serving, scan-below}
 use Rattle.lookups.proofs.Answers.{cell-inside, cell-scanned}
 use Rattle.lookups.proofs.scan_read.Statement.{statement}
 use Rattle.lookups.proofs.scan_read.Tie as tie

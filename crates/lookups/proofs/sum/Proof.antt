@@ -1,7 +1,7 @@
 -- `lookups::sum` meets its contract: the tests tell what the reading asks for.
 use borrow.Author.Needs.{needs}
 use Rattle.model.specs.Calls.{replyIn, actIn, entriesAfter}
-use Rattle.entry.proofs.Served.{serving, scan-below, passed-below}
+use Rattle.admission.proofs.Served.{serving, scan-below, passed-below}
 use Rattle.lookups.proofs.Answers.{sum-scanned}
 use Rattle.lookups.proofs.sum.Statement.{statement}
 use Rattle.lookups.proofs.sum.Tie as tie

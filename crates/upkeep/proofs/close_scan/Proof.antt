@@ -4,7 +4,7 @@ use borrow.Author.Needs.{needs}
 use Prim.Native.Nat.{_<_}
 use Rattle.terms.specs.Measures.{mostScans}
 use Rattle.model.specs.Calls.{replyIn, actIn}
-use Rattle.entry.proofs.Served.{serving, scan-below}
+use Rattle.admission.proofs.Served.{serving, scan-below}
 use Rattle.upkeep.proofs.Listing.{unlisted-serves, closed-list}
 use Rattle.upkeep.proofs.close_scan.Statement.{statement}
 use Rattle.upkeep.proofs.close_scan.Tie as tie

@@ -1,8 +1,8 @@
 -- `upkeep::close_tests` meets its contract: each answer follows from the tests that led to it.
 use borrow.Author.Needs.{needs}
 use Rattle.model.specs.Calls.{testsIn}
-use Rattle.entry.specs.Tested.{TestsBy, Finds}
-use Rattle.entry.proofs.Decided.{deciding, scan-entry}
+use Rattle.admission.specs.Tested.{TestsBy, Finds}
+use Rattle.admission.proofs.Decided.{deciding, scan-entry}
 use Rattle.upkeep.proofs.close_tests.Statement.{statement}
 use Rattle.upkeep.proofs.close_tests.Tie as tie
 

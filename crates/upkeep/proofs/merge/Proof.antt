@@ -1,7 +1,7 @@
 -- `upkeep::merge` meets its contract: the tests tell what the merge asks for.
 use borrow.Author.Needs.{needs}
 use Rattle.model.specs.Calls.{replyIn, actIn, entriesAfter}
-use Rattle.entry.proofs.Served.{serving}
+use Rattle.admission.proofs.Served.{serving}
 use Rattle.upkeep.proofs.Tests.{mergeable}
 use Rattle.upkeep.proofs.merge.Statement.{statement}
 use Rattle.upkeep.proofs.merge.Tie as tie

@@ -1,8 +1,8 @@
 -- `upkeep::merge_tests` meets its contract: each answer follows from the tests that led to it.
 use borrow.Author.Needs.{needs}
 use Rattle.model.specs.Calls.{testsIn, outOfReachIn}
-use Rattle.entry.specs.Tested.{Tests, Finds}
-use Rattle.entry.proofs.Decided.{deciding}
+use Rattle.admission.specs.Tested.{Tests, Finds}
+use Rattle.admission.proofs.Decided.{deciding}
 use Rattle.upkeep.proofs.Tests.{reach-says}
 use Rattle.upkeep.proofs.merge_tests.Statement.{statement}
 use Rattle.upkeep.proofs.merge_tests.Tie as tie

@@ -4,7 +4,7 @@ use borrow.Author.Needs.{needs}
 use mathlib.Core.Path.{ap}
 use Rattle.terms.specs.declared.Answer.{Answer}
 use Rattle.model.specs.Calls.{replyIn, actIn}
-use Rattle.entry.proofs.Served.{serving, entered, part-seen, found, write-serves}
+use Rattle.admission.proofs.Served.{serving, admitted, part-seen, found, write-serves}
 use Rattle.upkeep.proofs.Listing.{unlisted-serves, opened-list, number-in-part}
 use Rattle.upkeep.proofs.open_scan.Statement.{statement}
 use Rattle.upkeep.proofs.open_scan.Tie as tie
@@ -12,15 +12,15 @@ use Rattle.upkeep.proofs.open_scan.Tie as tie
 returns-3 : tie.Need-returns-3
 unfolding replyIn actIn
 returns-3 c =
-    let enter : tie.After-enter = search in
+    let admit : tie.After-admit = search in
     let known : tie.After-s = search in
     let tests : tie.After-open-tests = search in
     let passed : tie.After-index = search in
     let read : tie.After-read = search in
     let act : tie.After-give-scan = search in
-    let seen = part-seen (entered _ _ _ _ _ (known .s .given .1) (enter .enter .ensures)) in
+    let seen = part-seen (admitted _ _ _ _ _ (known .s .given .1) (admit .admit .ensures)) in
     let first = found _ _ _ (passed .index .given .1) (tests .open-tests .ensures .1 .0) in
-    write-serves _ _ _ _ _ (known .s .given .1) (enter .enter .ensures) _ (search serving) _ _ _ (act .give-scan .kept .0) (c .slice-known2 .given)
+    write-serves _ _ _ _ _ (known .s .given .1) (admit .admit .ensures) _ (search serving) _ _ _ (act .give-scan .kept .0) (c .slice-known2 .given)
     (λ ps q few. (ap Answer.Number (act .give-scan .ensures .0), act .give-scan .ensures .1, opened-list _ ps _ _ _ _ q first (rw (act .give-scan .ensures .0, read .read .ensures, seen))))
 
 pub open-scan-spec : {M : Type 1} → statement M

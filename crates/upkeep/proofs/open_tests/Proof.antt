@@ -2,8 +2,8 @@
 use borrow.Author.Needs.{needs}
 use mathlib.Core.Path.{refl}
 use Rattle.model.specs.Calls.{testsIn}
-use Rattle.entry.specs.Tested.{TestsBy, Finds, IfPassed}
-use Rattle.entry.proofs.Decided.{deciding}
+use Rattle.admission.specs.Tested.{TestsBy, Finds, IfPassed}
+use Rattle.admission.proofs.Decided.{deciding}
 use Rattle.upkeep.proofs.Listing.{all-open, some-free}
 use Rattle.upkeep.proofs.open_tests.Statement.{statement}
 use Rattle.upkeep.proofs.open_tests.Tie as tie

@@ -1,7 +1,7 @@
 -- `upkeep::reach_tests` meets its contract: each answer follows from the tests that led to it.
 use borrow.Author.Needs.{needs}
-use Rattle.entry.specs.Tested.{Finds}
-use Rattle.entry.proofs.Decided.{deciding}
+use Rattle.admission.specs.Tested.{Finds}
+use Rattle.admission.proofs.Decided.{deciding}
 use Rattle.upkeep.proofs.Tests.{no-page, page-left, too-low, too-high, in-reach, through-few, merge-ready}
 use Rattle.upkeep.proofs.reach_tests.Statement.{statement}
 use Rattle.upkeep.proofs.reach_tests.Tie as tie

@@ -6,7 +6,7 @@ use Rattle.terms.specs.declared.Answer.{Answer}
 use Rattle.history.specs.History.{verdict}
 use Rattle.model.specs.Calls.{testsIn, replyIn, actIn, entriesAfter}
 use Rattle.promise.specs.Promise.{ServesBy}
-use Rattle.entry.proofs.Served.{serving, write-serves}
+use Rattle.admission.proofs.Served.{serving, write-serves}
 use Rattle.upkeep.proofs.Tests.{table-few}
 use Rattle.upkeep.proofs.release.Statement.{statement}
 use Rattle.upkeep.proofs.release.Tie as tie
@@ -19,10 +19,10 @@ returns c = λ ps q. absurd (omega (arith, table-few _ ps q, c .if1 .taken))
 returns-3 : tie.Need-returns-3
 unfolding testsIn verdict replyIn actIn entriesAfter
 returns-3 c =
-    let enter : tie.After-enter = search in
+    let admit : tie.After-admit = search in
     let known : tie.After-s = search in
     let act : tie.After-release = search in
-    write-serves _ _ _ _ _ (known .s .given .1) (enter .enter .ensures) _ (λ ps q few. refl) _ _ _ (act .release .kept .0) (c .slice-known2 .given)
+    write-serves _ _ _ _ _ (known .s .given .1) (admit .admit .ensures) _ (λ ps q few. refl) _ _ _ (act .release .kept .0) (c .slice-known2 .given)
     (λ ps q few. let z = act .release .ensures ps q few in (ap Answer.Number (z .0), z .1, refl))
 
 pub release-spec : {M : Type 1} → statement M

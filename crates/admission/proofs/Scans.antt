@@ -21,7 +21,7 @@ use Rattle.scans.proofs.Answers.{table-finds, table-lacks}
 use Rattle.terms.specs.Entries.{freeEntry, firstIndex, bears, isScan}
 use Rattle.model.specs.Stored.{scanEntry}
 use Rattle.model.specs.Calls.{noScanIn}
-use Rattle.entry.specs.Given.{ScanAt}
+use Rattle.admission.specs.Given.{ScanAt}
 
 -- ---- the first that passes
 

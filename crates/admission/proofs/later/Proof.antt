@@ -1,8 +1,8 @@
--- `entry::later` meets its contract.
+-- `admission::later` meets its contract.
 use borrow.Author.Needs.{needs}
 use Rattle.model.specs.Calls.{laterIn}
-use Rattle.entry.proofs.later.Statement.{statement}
-use Rattle.entry.proofs.later.Tie as tie
+use Rattle.admission.proofs.later.Statement.{statement}
+use Rattle.admission.proofs.later.Tie as tie
 
 returns : tie.Need-returns
 unfolding laterIn

@@ -1,8 +1,8 @@
--- `entry::no_range` meets its contract.
+-- `admission::no_range` meets its contract.
 use mathlib.Core.Path.{refl}
 use Rattle.history.specs.History.{noRange}
-use Rattle.entry.proofs.no_range.Statement.{statement}
-use Rattle.entry.proofs.no_range.Tie as tie
+use Rattle.admission.proofs.no_range.Statement.{statement}
+use Rattle.admission.proofs.no_range.Tie as tie
 
 returns : tie.Need-returns
 unfolding noRange

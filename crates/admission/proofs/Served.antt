@@ -26,11 +26,11 @@ use Rattle.facts.specs.Usable.{storedShape, storedSizes, usable}
 use Rattle.model.specs.Calls.{testsIn, replyIn, actIn, entriesAfter, say, viewIf, viewNext, entriesIf, entriesNext}
 use Rattle.model.specs.Preconditions.{shapeIn, Linked, Pooled, OpenAt}
 use Rattle.promise.specs.Promise.{storeView, answerOf, memoryAfter, listAfter, Serves, ServesBy, kept, lend}
-use Rattle.entry.specs.declared.Entry.{Entry}
-use Rattle.entry.specs.declared.Tested.{Tested}
-use Rattle.entry.specs.Entered.{Fitted, PassedWith, Entered, Enters}
-use Rattle.entry.specs.Given.{ScanAt}
-use Rattle.entry.specs.Tested.{Finds, IfPassed, Tests, TestsBy}
+use Rattle.admission.specs.declared.Admission.{Admission}
+use Rattle.admission.specs.declared.Tested.{Tested}
+use Rattle.admission.specs.Admitted.{Fitted, PassedWith, Admitted, Admits}
+use Rattle.admission.specs.Given.{ScanAt}
+use Rattle.admission.specs.Tested.{Finds, IfPassed, Tests, TestsBy}
 
 -- what is known of the elements of a lent slice: each is a byte
 abbrev pub FitBytes : List ℕ → Type 0
@@ -38,11 +38,11 @@ FitBytes m = (k : ℕ) → Fits w8 (getD m k 0)
 
 -- ---- what may be relied on once memory and list have passed the test
 
-pub entered : (e : Entry) (s : Sizes) (n : ℕ) (m : List ℕ) (t : Scans) → e ≡ Entry.Fit s n → Enters e m t → Entered s n m t
-entered e s n m t f h = rw f at h
+pub admitted : (e : Admission) (s : Sizes) (n : ℕ) (m : List ℕ) (t : Scans) → e ≡ Admission.Fit s n → Admits e m t → Admitted s n m t
+admitted e s n m t f h = rw f at h
 
 -- the part that is lent is seen as the whole is, and as fitted
-module _ {s : Sizes} {n : ℕ} {m : List ℕ} {t : Scans} (e : Entered s n m t) where
+module _ {s : Sizes} {n : ℕ} {m : List ℕ} {t : Scans} (e : Admitted s n m t) where
   in-part : n ≤ length m
   in-part = omega (arith, e .bytes, e .fitted .room)
 
@@ -90,7 +90,7 @@ open-below d v t j e h = found d (OpenAt v t) j e h .low
 
 -- ---- the memory is not usable
 
-pub unfit-serves : (e : Entry) (m : List ℕ) (t : Scans) (c : Call) → e ≡ Entry.Unfit → Enters e m t
+pub unfit-serves : (e : Admission) (m : List ℕ) (t : Scans) (c : Call) → e ≡ Admission.Unfit → Admits e m t
     → ServesBy t m c (Answer.Refused Refusal.Memory) m kept
 unfolding ServesBy Serves answerOf memoryAfter listAfter
 unfit-serves e m t c f h = λ ps q. let u : usable m ps ≡ false = (rw f at h) ps q in (rw u, rw u, rw u)
@@ -108,9 +108,9 @@ pub all-passed : (s : Sizes) (m : List ℕ) (t : Scans) (c : Call) (d : Tested) 
 unfolding TestsBy
 all-passed s m t c d j g h = rw g at h
 
-module _ (e : Entry) (s : Sizes) (n : ℕ) (m : List ℕ) (t : Scans) (f : e ≡ Entry.Fit s n) (h : Enters e m t) where
-  facts : Entered s n m t
-  facts = entered e s n m t f h
+module _ (e : Admission) (s : Sizes) (n : ℕ) (m : List ℕ) (t : Scans) (f : e ≡ Admission.Fit s n) (h : Admits e m t) where
+  facts : Admitted s n m t
+  facts = admitted e s n m t f h
 
   pub fitted : Fitted s m
   fitted = facts .fitted

@@ -26,7 +26,7 @@ use Rattle.pages.specs.declared.check.Checked.the-variants.{Fit, Unfit}
 use Rattle.pages.specs.Checked.{checked, Safe}
 use Rattle.model.specs.Stored.{pageIn, chunksOf}
 use Rattle.model.specs.Preconditions.{shapeIn, Linked, ChunksCurrent}
-use Rattle.entry.specs.Entered.{Fitted, PassedWith}
+use Rattle.admission.specs.Admitted.{Fitted, PassedWith}
 
 module _ (s : Sizes) (v : View) (proper : Proper s) (facts : MemoryFacts s v) where
   linked-of : Linked s v

@@ -1,12 +1,12 @@
--- `entry::enter` meets its contract.
+-- `admission::admit` meets its contract.
 use Prim.Native.Nat.{_<_}
 use native.Mathlib.Omega.{arith}
 use borrow.Author.Needs.{needs}
 use Rattle.layout.specs.Regions.{need}
 use Rattle.layout.specs.Sizes.{tooManyWords}
-use Rattle.entry.proofs.Fitted.{not-usable, list-known, fit-tells, need-few}
-use Rattle.entry.proofs.enter.Statement.{statement}
-use Rattle.entry.proofs.enter.Tie as tie
+use Rattle.admission.proofs.Fitted.{not-usable, list-known, fit-tells, need-few}
+use Rattle.admission.proofs.admit.Statement.{statement}
+use Rattle.admission.proofs.admit.Tie as tie
 
 returns : tie.Need-returns
 returns c = let check : tie.After-check = search in search (not-usable, check .check .ensures .0)
@@ -23,8 +23,8 @@ returns-2 c =
       listed = search (list-known, check .check .ensures .0);
     }
 
-pub enter-spec : {M : Type 1} → statement M
-enter-spec =
+pub admit-spec : {M : Type 1} → statement M
+admit-spec =
     tie.close
     (tie.spec
     (λ c κs. search needs)

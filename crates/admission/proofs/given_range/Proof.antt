@@ -1,12 +1,12 @@
--- `entry::given_range` meets its contract.
+-- `admission::given_range` meets its contract.
 use mathlib.Core.Path.{ap}
 use borrow.Author.Needs.{needs}
 use borrow.Author.Tests.{le-leb, lt-leb}
 use Rattle.loops.specs.declared.Found.{Found}
 use Rattle.model.specs.Calls.{notGivenIn}
-use Rattle.entry.specs.Given.{rangeGiven}
-use Rattle.entry.proofs.given_range.Statement.{statement}
-use Rattle.entry.proofs.given_range.Tie as tie
+use Rattle.admission.specs.Given.{rangeGiven}
+use Rattle.admission.proofs.given_range.Statement.{statement}
+use Rattle.admission.proofs.given_range.Tie as tie
 
 returns : tie.Need-returns
 unfolding rangeGiven notGivenIn

@@ -23,10 +23,10 @@ use Rattle.rows.specs.Finders.{Inside}
 use Rattle.rows.proofs.Cases.{found-at, found-nothing}
 use Rattle.conditions.specs.Opens.{openAt}
 use Rattle.conditions.proofs.Opens.{open-there, not-open}
-use Rattle.entry.specs.declared.Tested.{Tested}
-use Rattle.entry.specs.Given.{rangeGiven, ScanAt}
-use Rattle.entry.specs.Tested.{Says}
-use Rattle.entry.proofs.Scans.{scan-lacks, scan-open, in-table, found-scan}
+use Rattle.admission.specs.declared.Tested.{Tested}
+use Rattle.admission.specs.Given.{rangeGiven, ScanAt}
+use Rattle.admission.specs.Tested.{Says}
+use Rattle.admission.proofs.Scans.{scan-lacks, scan-open, in-table, found-scan}
 
 -- ---- the first test, and those behind it
 module _ (x : Refusal) (b : Bool) (ts : List Test) where

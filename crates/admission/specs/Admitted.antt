@@ -15,7 +15,7 @@ use Rattle.scans.specs.Entries.{openCount}
 use Rattle.scans.specs.Table.{tableOf}
 use Rattle.facts.specs.Usable.{storedSizes, usable}
 use Rattle.model.specs.Preconditions.{shapeIn, Linked, Pooled, ChunksCurrent}
-use Rattle.entry.specs.declared.Entry.{Entry}
+use Rattle.admission.specs.declared.Admission.{Admission}
 
 -- the memory m holds a store of sizes s in order
 pub record Fitted (s : Sizes) (m : List ℕ) : Type 0 where
@@ -35,11 +35,11 @@ pub record PassedWith (s : Sizes) (m : List ℕ) (ps : List ScanEntry) : Type 0 
   pub few : openCount ps ≤ mostScans
 
 -- The first n bytes of m are those that the sizes s need, and m passed the test with every list that the table stands for.
-pub record Entered (s : Sizes) (n : ℕ) (m : List ℕ) (t : Scans) : Type 0 where
+pub record Admitted (s : Sizes) (n : ℕ) (m : List ℕ) (t : Scans) : Type 0 where
   pub bytes : n ≡ need s * 4
   pub fitted : Fitted s m
   pub listed : (ps : List ScanEntry) → t ≡ tableOf ps → PassedWith s m ps
 
-abbrev pub Enters : Entry → List ℕ → Scans → Type 0
-Enters (Entry.Fit s n) m t = Entered s n m t
-Enters Entry.Unfit m t = (ps : List ScanEntry) → t ≡ tableOf ps → usable m ps ≡ false
+abbrev pub Admits : Admission → List ℕ → Scans → Type 0
+Admits (Admission.Fit s n) m t = Admitted s n m t
+Admits Admission.Unfit m t = (ps : List ScanEntry) → t ≡ tableOf ps → usable m ps ≡ false

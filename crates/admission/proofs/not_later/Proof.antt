@@ -1,8 +1,8 @@
--- `entry::not_later` meets its contract.
+-- `admission::not_later` meets its contract.
 use borrow.Author.Needs.{needs}
 use Rattle.model.specs.Calls.{notLaterIn}
-use Rattle.entry.proofs.not_later.Statement.{statement}
-use Rattle.entry.proofs.not_later.Tie as tie
+use Rattle.admission.proofs.not_later.Statement.{statement}
+use Rattle.admission.proofs.not_later.Tie as tie
 
 returns : tie.Need-returns
 unfolding notLaterIn

@@ -12,7 +12,7 @@ use Rattle.scans.specs.Entries.{openCount}
 use Rattle.scans.specs.Table.{tableOf}
 use Rattle.model.specs.Calls.{testsIn}
 use Rattle.model.specs.Preconditions.{shapeIn}
-use Rattle.entry.specs.declared.Tested.{Tested}
+use Rattle.admission.specs.declared.Tested.{Tested}
 
 -- the tests found what the verdict says
 abbrev pub Says : Tested → Verdict → Type 0

@@ -20,11 +20,11 @@ ghost use Rattle.layout.specs.View.{lastStamp, viewOf, Suffices};
 ghost use Rattle.history.specs.History.{noColumn, noRange};
 ghost use Rattle.model.specs.Calls.{notLaterIn, laterIn};
 ghost use Rattle.model.specs.Preconditions.{shapeIn};
-ghost use Rattle.entry.specs.Entered.{Enters};
-ghost use Rattle.entry.specs.Given.{rangeGiven};
+ghost use Rattle.admission.specs.Admitted.{Admits};
+ghost use Rattle.admission.specs.Given.{rangeGiven};
 
 // What the test of the lent memory and scan list finds: the store's sizes and the number of bytes that they need, or that the memory is not usable.
-pub enum Entry {
+pub enum Admission {
     Fit(Sizes, usize),
     Unfit,
 }
@@ -36,13 +36,13 @@ pub enum Tested {
 }
 
 // The test of a memory and of the scan list that a table stands for.
-pub fn enter(mem: &[u8], t: Scans) -> Entry
-    ensures { λ r. ⌜ Enters r (now (mem .entry)) t ⌝ }
+pub fn admit(mem: &[u8], t: Scans) -> Admission
+    ensures { λ r. ⌜ Admits r (now (mem .entry)) t ⌝ }
 {
     let Checked::Fit(s) = check(mem, t) else {
-        return Entry::Unfit;
+        return Admission::Unfit;
     };
-    Entry::Fit(s, words_needed(s) * 4)
+    Admission::Fit(s, words_needed(s) * 4)
 }
 
 // The stamp of the last commit.

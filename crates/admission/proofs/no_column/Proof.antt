@@ -1,8 +1,8 @@
--- `entry::no_column` meets its contract.
+-- `admission::no_column` meets its contract.
 use mathlib.Core.Path.{refl}
 use Rattle.history.specs.History.{noColumn}
-use Rattle.entry.proofs.no_column.Statement.{statement}
-use Rattle.entry.proofs.no_column.Tie as tie
+use Rattle.admission.proofs.no_column.Statement.{statement}
+use Rattle.admission.proofs.no_column.Tie as tie
 
 returns : tie.Need-returns
 unfolding noColumn

@@ -1,7 +1,7 @@
 -- The answers of a few tests, one lemma for each way through the code.
 use Prim.Native.Nat.{ℕ, _≤_, _<_}
 use mathlib.Core.Path.{_≡_, refl, sym, _∙_, ap}
-use mathlib.Core.Bool.{Bool, true, false, not, cond, or-false}
+use mathlib.Core.Bool.{Bool, true, false, not, cond, or-false, and-false, and-true}
 use native.Mathlib.Omega.{arith}
 use lib.Dec.{leb, ltb, eqb}
 use lib.ListN.{getD}
@@ -26,13 +26,13 @@ module _ (who : Reader) (state stamp transaction : ℕ) where
   unfolding sees
   sees-ended h k = rw (ne-eqb state 1 h, ne-eqb state 0 k)
 
-  pub sees-none : state ≡ 0 → who .me .0 ≡ 0 → false ≡ sees who state stamp transaction
+  pub sees-other : state ≡ 0 → (transaction ≡ who .me .0 → ⊥) → false ≡ sees who state stamp transaction
   unfolding sees
-  sees-none e q = rw (e, q)
+  sees-other e h = rw (e, ne-eqb transaction (who .me .0) h, and-false (not (eqb (who .me .0) 0)))
 
-  pub sees-own : state ≡ 0 → (who .me .0 ≡ 0 → ⊥) → eqb transaction (who .me .0) ≡ sees who state stamp transaction
+  pub sees-own : state ≡ 0 → transaction ≡ who .me .0 → not (eqb transaction 0) ≡ sees who state stamp transaction
   unfolding sees
-  sees-own e h = rw (e, ne-eqb (who .me .0) 0 h)
+  sees-own e h = rw (e, h, eq-eqb (who .me .0) (who .me .0) refl, and-true (not (eqb (who .me .0) 0)))
 
 -- the row or record i, word by word
 module _ (v : View) (who : Reader) (i state stamp transaction : ℕ) (x : Bool) (e : x ≡ sees who state stamp transaction) where

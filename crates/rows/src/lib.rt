@@ -36,17 +36,18 @@ pub fn has_bit(mask: u32, c: u32) -> bool
 pub fn sees(who: Reader, state: u32, stamp: Stamp, transaction: Transaction) -> bool
     ensures { λ r. ⌜ r ≡ sees who state (stamp .0) (transaction .0) ⌝ }
 {
-    let me = who.me.0;
     if state == COMMITTED {
         return stamp.0 <= who.stamp.0;
     }
     if state != OPEN {
         return false;
     }
-    if me == 0 {
+    if transaction.0 != who.me.0 {
         return false;
     }
-    transaction.0 == me
+    // The reader's own number is the same, and is asked here whether it is 0: asked before, a loop over records would be compiled twice, and be too large to
+    // be inlined into a sum.
+    transaction.0 != 0
 }
 
 // Whether the reader sees the insert of a row.

@@ -3,7 +3,7 @@
 --     changed    a call that changes an entry of the list, as its core says
 --     made-so    a making
 use Prim.Native.Nat.{ℕ}
-use mathlib.Core.Path.{_≡_, ap, _∙_}
+use mathlib.Core.Path.{_≡_, refl}
 use mathlib.Core.List.{List, []}
 use lib.ListN.{length, set}
 use prog.Routine.{Env, Name}
@@ -16,6 +16,7 @@ use Rattle.scans.specs.declared.Scans.{Scans}
 use Rattle.scans.specs.Table.{tableOf}
 use Rattle.history.specs.History.{Call}
 use Rattle.making.specs.Made.{made}
+use Rattle.promise.proofs.Makes.{made-makes}
 use Rattle.promise.specs.Promise.{Serves, ServesBy, Makes, kept}
 use Rattle.upkeep.specs.declared.ListChange.{ListChange}
 use Rattle.upkeep.specs.Lists.{changedAt}
@@ -62,8 +63,4 @@ module _ (m : Access) (l : ℕ) (fs : List (Further 2 1 (up 2 (loans m)) l)) (c 
       (λ b p x t d z b′ p′ e h s. rw (s .1, s .0) (h p e)) w γ k code (table-known w γ e-table) k-core (apply-change-known w γ e-apply)
 
 pub made-so : (S : Shape) (m : List ℕ) (n : ℕ) (x z : Answer) (m′ : List ℕ) (ps ps′ : List ScanEntry) → n ≡ length ps → (x, m′) ≡ made S n m → (z ≡ x) × (ps′ ≡ freedIf (isAccepted x) ps) → Makes m ps S z m′ ps′
-unfolding Makes
-made-so S m n x z m′ ps ps′ e h k =
-    let both : (x, m′) ≡ made S (length ps) m = rw e at h in
-    let answer : x ≡ (made S (length ps) m) .0 = ap (λ (y : Answer × List ℕ). y .0) both in
-    (k .0 ∙ answer, ap (λ (y : Answer × List ℕ). y .1) both, k .1 ∙ ap (λ (y : Answer). freedIf (isAccepted y) ps) answer)
+made-so S m n x z m′ ps ps′ e h k = rw (k .0) (made-makes m ps S n x m′ (isAccepted x) ps′ h e refl (k .1))

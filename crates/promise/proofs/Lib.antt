@@ -5,3 +5,4 @@ pub mod Represents
 pub mod Demands
 pub mod Refused
 pub mod Stated
+pub mod Makes

@@ -20,7 +20,7 @@ ghost use mathlib.Core.Bool.{_&&_, _||_};
 ghost use Prim.Native.Nat.{ℕ, _+_, _*_, _^_, _≤_, _<_};
 ghost use lib.Dec.{eqb, leb, ltb};
 ghost use lib.ListN.{getD};
-ghost use Rattle.terms.specs.Measures.{mostColumns, mostTransactions};
+ghost use Rattle.terms.specs.Measures.{mostColumns, mostSlots, mostTransactions};
 ghost use Rattle.layout.specs.declared.Region.{Region};
 ghost use Rattle.layout.specs.View.{rowsGiven, usedIn, viewOf, Suffices};
 ghost use Rattle.model.specs.Stored.{deleteKind, openIndex, anyBelow};
@@ -116,7 +116,7 @@ fn holds(mem: &[u8], s: Sizes, t: Transaction, row: Row, slot: usize) -> bool
 // for its row first, and few are the row's.
 fn records_held(mem: &[u8], s: Sizes, t: Transaction, row: Row, at: usize, n: usize) -> bool
     requires { ⌜ Suffices s (now mem) ⌝ }
-    requires { ⌜ (at + n ≤ s .slots) × (s .slots ≤ 8192) ⌝ }
+    requires { ⌜ (at + n ≤ s .slots) × (s .slots ≤ mostSlots) ⌝ }
     ensures { λ r. ⌜ r ≡ anyBelow (λ i. holdsAt (viewOf s (now (mem .entry))) (t .0) (row .0) (at + i)) n ⌝ }
 {
     if !others_open(mem, s, t) {
@@ -167,7 +167,7 @@ fn is_delete(named: Row, row: Row, kind: u32) -> bool
 // vectorise.
 fn any_delete(mem: &[u8], s: Sizes, row: Row, at: usize, n: usize) -> bool
     requires { ⌜ Suffices s (now mem) ⌝ }
-    requires { ⌜ (at + n ≤ s .slots) × (s .slots ≤ 8192) ⌝ }
+    requires { ⌜ (at + n ≤ s .slots) × (s .slots ≤ mostSlots) ⌝ }
     ensures { λ r. ⌜ r ≡ anyBelow (λ i. deletesAt (viewOf s (now (mem .entry))) (row .0) (at + i)) n ⌝ }
 {
     let mut flag = false;
@@ -201,7 +201,7 @@ fn ends(mem: &[u8], s: Sizes, t: Transaction, row: Row, slot: usize) -> bool
 // sooner than asking them one by one.
 fn ended(mem: &[u8], s: Sizes, t: Transaction, row: Row, at: usize, n: usize) -> bool
     requires { ⌜ Suffices s (now mem) ⌝ }
-    requires { ⌜ (at + n ≤ s .slots) × (s .slots ≤ 8192) ⌝ }
+    requires { ⌜ (at + n ≤ s .slots) × (s .slots ≤ mostSlots) ⌝ }
     ensures { λ r. ⌜ r ≡ anyBelow (λ i. endsAt (viewOf s (now (mem .entry))) (t .0) (row .0) (at + i)) n ⌝ }
 {
     if n >= MANY {

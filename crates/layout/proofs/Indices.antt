@@ -2,7 +2,7 @@
 use Prim.Native.Nat.{ℕ, _+_, _*_, _/_, _≤_, _<_}
 use native.Mathlib.Omega.{arith}
 use native.Mathlib.Nat.{mul-le-mul, mul-le-mul-right, suc-mul, mul-comm, div-lt-iff-lt-mul}
-use Rattle.terms.specs.Measures.{rangeRows, mostRanges, mostRecords, mostChunks}
+use Rattle.terms.specs.Measures.{rangeRows, mostSlots, mostChunks}
 use Rattle.layout.specs.declared.Sizes.{Sizes}
 use Rattle.layout.specs.Regions.{need}
 use Rattle.layout.specs.Sizes.{Proper}
@@ -28,7 +28,7 @@ module _ (s : Sizes) (p : Proper s) where
   pub range-in : (r : ℕ) → r < s .rows → r / rangeRows < s .ranges
   range-in r h = omega (arith, p .rows-are)
 
-  pub slots-few : s .slots ≤ mostRanges * mostRecords
+  pub slots-few : s .slots ≤ mostSlots
   slots-few = omega (arith, p .slots-are, mul-le-mul (p .ranges-to) (p .capacity-to))
 
   pub chunks-some : 1 ≤ s .chunks

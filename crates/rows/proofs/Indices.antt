@@ -4,7 +4,7 @@ use mathlib.Core.Path.{_≡_}
 use native.Mathlib.Omega.{arith}
 use native.Mathlib.Nat.{mul-le-mul}
 use lib.ListN.{getD}
-use Rattle.terms.specs.Measures.{mostColumns, mostRanges, mostRecords, mostPages}
+use Rattle.terms.specs.Measures.{mostColumns, mostSlots, mostPages}
 use Rattle.layout.specs.declared.Sizes.{Sizes}
 use Rattle.layout.specs.declared.Region.the-variants.{RowLink}
 use Rattle.layout.specs.View.{View, rowsGiven, usedIn}
@@ -24,7 +24,7 @@ module _ (s : Sizes) (proper : Proper s) where
   pub pages-few : s .pages ≤ mostPages
   pages-few = omega (arith, proper .pages-are, proper .spares-to, chunks-few s proper)
 
-  pub values-few : s .values ≤ mostRanges * mostRecords * mostColumns
+  pub values-few : s .values ≤ mostSlots * mostColumns
   values-few = omega (arith, proper .values-are, mul-le-mul (slots-few s proper) (proper .columns-to))
 
   pub value-in : (at c : ℕ) → at < s .slots → c < s .columns → at * s .columns + c < s .values

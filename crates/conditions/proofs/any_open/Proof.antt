@@ -4,6 +4,7 @@ use mathlib.Core.Path.{_≡_, _∙_}
 use native.Mathlib.Omega.{arith}
 use borrow.Author.Needs.{needs}
 use lib.ListN.{getD}
+use Rattle.terms.specs.Measures.{mostSlots}
 use Rattle.layout.specs.declared.Region.the-variants.{TailTransaction}
 use Rattle.layout.specs.View.{viewOf}
 use Rattle.model.specs.Stored.{anyBelow}
@@ -22,7 +23,7 @@ abbrev μ-loop : tie.MeasureT-loop
 μ-loop mem s g n at flag₀ k₀ flag k = n - k
 
 inside : (c : tie.Start Inv-loop μ-loop) → let a = c .args in
-    (a .g * a .s .capacity + a .through .0 ≤ a .s .slots) × (a .s .slots ≤ 8192)
+    (a .g * a .s .capacity + a .through .0 ≤ a .s .slots) × (a .s .slots ≤ mostSlots)
 inside c =
     let proper = c .pre .1 .0 in
     (stretch-in _ proper _ _ (c .pre .1 .1 .0) (c .pre .1 .1 .1), slots-few _ proper)

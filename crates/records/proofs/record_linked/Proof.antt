@@ -2,13 +2,14 @@
 use Prim.Native.Nat.{_≤_, _<_}
 use native.Mathlib.Omega.{arith}
 use borrow.Author.Needs.{needs}
+use Rattle.terms.specs.Measures.{mostSlots}
 use Rattle.facts.specs.Facts.{recordLinked}
 use Rattle.layout.proofs.Indices.{slots-few}
 use Rattle.records.proofs.record_linked.Statement.{statement}
 use Rattle.records.proofs.record_linked.Tie as tie
 
 -- where the record lies
-inside : (c : tie.Start) → (c .args .i < c .args .s .capacity) × (c .args .s .slots ≤ 8192)
+inside : (c : tie.Start) → (c .args .i < c .args .s .capacity) × (c .args .s .slots ≤ mostSlots)
 inside c =
     let a = c .args in
     (omega (arith, c .pre .0 .records-in (a .g)), slots-few (a .s) (c .pre .0 .proper))

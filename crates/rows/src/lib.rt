@@ -45,8 +45,8 @@ pub fn sees(who: Reader, state: u32, stamp: Stamp, transaction: Transaction) -> 
     if transaction.0 != who.me.0 {
         return false;
     }
-    // The reader's own number is the same, and is asked here whether it is 0: asked before, a loop over records would be compiled twice, and be too large to
-    // be inlined into a sum.
+    // The reader's own number is the same, so this asks whether it has one. Asked before, it would be one test for all turns of a loop over records, of which
+    // the compiler would then make two, too large to be inlined into a sum.
     transaction.0 != 0
 }
 

@@ -1,5 +1,5 @@
--- The verdict of a call's tests, test by test: laws whose premises are what the places of a function that tests know of its conditions and of what its finders
--- answered, so that an exit's proof names the laws and no place: `search deciding`.
+-- The verdict of a call's tests, test by test: laws whose premises are what the points of a function that tests know of its conditions and of what its finders
+-- answered, so that an exit's proof names the laws and no point: `search deciding`.
 use Prim.Native.Nat.{ℕ, _≤_, _<_}
 use mathlib.Core.Path.{_≡_, refl, sym, _∙_}
 use mathlib.Core.Bool.{Bool, true, false}

@@ -1,6 +1,6 @@
--- The ways in which a call ends, each as one law from what its places know to what the call promises: the memory is not usable, a test failed, the call only
--- reads, or it was lent the needed bytes and wrote them. The premises are stated as the places of a call have them, so that a call's proof names the law and no
--- place: `search serving`.
+-- The ways in which a call ends, each as one law from what its points know to what the call promises: the memory is not usable, a test failed, the call only
+-- reads, or it was lent the needed bytes and wrote them. The premises are stated as the points of a call have them, so that a call's proof names the law and no
+-- point: `search serving`.
 use Prim.Native.Nat.{ℕ, _≤_, _<_}
 use mathlib.Core.Path.{_≡_, ap, sym, _∙_}
 use mathlib.Core.Bool.{false}
@@ -43,8 +43,8 @@ admitted e s n m t f h = rw f at h
 
 -- the part that is lent is seen as the whole is, and as fitted
 module _ {s : Sizes} {n : ℕ} {m : List ℕ} {t : Scans} (e : Admitted s n m t) where
-  in-part : n ≤ length m
-  in-part = omega (arith, e .bytes, e .fitted .room)
+  part-inside : n ≤ length m
+  part-inside = omega (arith, e .bytes, e .fitted .room)
 
   pub part-seen : viewOf s (take n m) ≡ viewOf s m
   part-seen = rw (e .bytes) (view-part s m (e .fitted .room))
@@ -53,7 +53,7 @@ module _ {s : Sizes} {n : ℕ} {m : List ℕ} {t : Scans} (e : Admitted s n m t)
   part-fitted =
       let f = e .fitted in
       record {
-        room = omega (arith, e .bytes, length-take-le n m in-part);
+        room = omega (arith, e .bytes, length-take-le n m part-inside);
         small = f .small;
         proper = f .proper;
         linked = rw part-seen (f .linked);
@@ -137,7 +137,7 @@ module _ (e : Admission) (s : Sizes) (n : ℕ) (m : List ℕ) (t : Scans) (f : e
   part-pooled = part-fitted facts .pooled
 
   pub part-in : n ≤ length m
-  part-in = in-part facts
+  part-in = part-inside facts
 
   pub part-long : n ≡ length (take n m)
   part-long = sym (length-take-le n m part-in)

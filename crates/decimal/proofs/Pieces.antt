@@ -25,6 +25,6 @@ joined {a} {b} {c} {at} {p} {e} {s} {t} w v = record {
   ends = omega (arith, w .ends, v .ends, length-append s t);
 }
 
--- all of a list from a place on
+-- all of a list from an index on
 pub rest-of : (n : ℕ) (ds : List ℕ) (from : ℕ) → length ds ≡ n → take (n - from) (drop from ds) ≡ drop from ds
 rest-of n ds from e = take-all (n - from) (drop from ds) (simp length-drop (omega arith))

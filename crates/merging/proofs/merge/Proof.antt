@@ -27,7 +27,7 @@ inside c =
     let page = m .page-below in
     (i, omega arith, omega arith, omega arith, omega arith, omega arith)
 
--- where the function begins; and the read of the current page, from the place before the new page's words are put and from that before it is replaced
+-- where the function begins; and the read of the current page, from the point before the new page's words are put and from that before it is replaced
 abbrev start : tie.After-read → tie.Start
 start c = search
 

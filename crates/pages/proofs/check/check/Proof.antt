@@ -13,7 +13,7 @@ use Rattle.pages.proofs.Answers.{Measured, measured-tells, unmeasured, 
 use Rattle.pages.proofs.check.check.Statement.{statement}
 use Rattle.pages.proofs.check.check.Tie as tie
 
--- where the function begins, as the places after the measures have it
+-- where the function begins, as the points after the measures have it
 abbrev begun : tie.After-struct-known → tie.Start
 begun c = let call = c .before .before .before .before in call .before .before
 

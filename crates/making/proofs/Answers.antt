@@ -18,6 +18,12 @@ use native.Mathlib.Omega.{arith}
 use Rattle.layout.proofs.Limits.{need-small, proper}
 use Rattle.making.specs.Made.{made}
 
+-- a store is made where the shape is within the limits, and memory and list suffice
+pub made-done : (p : Shape) (entries : ℕ) (m : List ℕ) → withinLimits p ≡ true → Suffices (sizesOf p) m → mostScans ≤ entries
+    → (Answer.Done, lay (sizesOf p) (madeView p) m) ≡ made p entries m
+unfolding made bytesNeeded
+made-done p entries m e h k = rw (e, le-leb (need (sizesOf p) * 4) (length m) h, le-leb mostScans entries k)
+
 -- The premises are what the points of the code know: the flag b of the limits, the sizes s, the words w that they need, and which way the tests went.
 module _ (p : Shape) (entries : ℕ) (m : List ℕ) (b : Bool) (e : b ≡ withinLimits p) where
   pub out-of-limits : not b ≡ true → (Answer.Refused Refusal.Shape, m) ≡ made p entries m
@@ -57,5 +63,4 @@ module _ (p : Shape) (entries : ℕ) (m : List ℕ) (b : Bool) (e : b ≡ within
           part-room = omega (arith, part-long, z)
 
           pub laid : mostScans ≤ entries → (m′ : List ℕ) → m′ ≡ lay s (madeView p) m → (Answer.Done, m′) ≡ made p entries m
-          unfolding made bytesNeeded
-          laid k m′ d = rw (within, le-leb (need (sizesOf p) * 4) (length m) (rw bytes at l), le-leb mostScans entries k, d, q)
+          laid k m′ d = rw (d, q) (made-done p entries m within (rw bytes at l) k)

@@ -22,7 +22,7 @@ use Rattle.history.proofs.Striking.{striking}
 use Rattle.history.proofs.Stability.{stability, accepted, replies, reads-reply, reads-bounds}
 use Rattle.facts.specs.Usable.{usable}
 use Rattle.making.specs.Made.{made, madeList}
-use Rattle.making.proofs.Answers.{laid as making-laid}
+use Rattle.making.proofs.Answers.{made-done}
 use Rattle.terms.specs.Entries.{freeEntry}
 use Rattle.model.specs.Reading.{reader}
 use Rattle.model.specs.Calls.{Typed, viewNext, viewAfter, entriesAfterAll as modelList}
@@ -59,13 +59,13 @@ enough S m ps a =
       within = within;
       room = fits .0;
       entries = fits .1;
-      laid = sym (ap (λ (w : Answer × List ℕ). w .1) (making-laid S (length ps) m within (fits .0) (fits .1) (lay (sizesOf S) (madeView S) m) refl));
+      laid = sym (ap (λ (w : Answer × List ℕ). w .1) (made-done S (length ps) m within (fits .0) (fits .1)));
     }
 
 pub making-accepted : MakingAccepted
 unfolding MakingAccepted bytesNeeded
 making-accepted S m ps t b n =
-    sym (ap (λ (w : Answer × List ℕ). w .0) (making-laid S (length ps) m (is-true (withinLimits S) t) b n (lay (sizesOf S) (madeView S) m) refl))
+    sym (ap (λ (w : Answer × List ℕ). w .0) (made-done S (length ps) m (is-true (withinLimits S) t) b n))
 
 -- what it left represents the empty history
 from-making : (S : Shape) (m : List ℕ) (ps : List ScanEntry) → Accepted S m ps → MemoryRepresents (memoryMade S m ps) (madeList ps) S start

@@ -68,6 +68,7 @@ unfolding refusalOf refusals
 by-result (Answer.Refused n) = known n
 by-result Answer.Done = refl
 by-result (Answer.Number n) = refl
+by-result (Answer.Version v s) = refl
 by-result (Answer.Value v) = refl
 by-result Answer.None = refl
 by-result (Answer.Sum n v) = refl
@@ -90,6 +91,7 @@ accepted-result a = (λ g. go (isRefused a) refl (sym (by-result a) ∙ ⊎-elim
     back (Answer.Refused n) e = absurd (true≢false e)
     back Answer.Done e = inl refl
     back (Answer.Number n) e = inl refl
+    back (Answer.Version v s) e = inl refl
     back (Answer.Value v) e = inl refl
     back Answer.None e = inr refl
     back (Answer.Sum n v) e = inl refl

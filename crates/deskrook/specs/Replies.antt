@@ -17,13 +17,14 @@ use Rattle.promise.specs.Promise.{Serves, Makes}
 use Rattle.deskrook.specs.declared.reply.Reply.{Reply}
 
 abbrev pub replyOf : Answer → Reply
-replyOf (Answer.Refused r) = record { result = refusalNumber r; first = 0; second = 0; sum = pos 0 }
-replyOf Answer.Done = record { result = 0; first = 0; second = 0; sum = pos 0 }
-replyOf (Answer.Number n) = record { result = 0; first = n; second = 0; sum = pos 0 }
-replyOf (Answer.Value v) = record { result = 0; first = ofZ w32 v; second = 0; sum = pos 0 }
-replyOf Answer.None = record { result = 32; first = 0; second = 0; sum = pos 0 }
-replyOf (Answer.Sum n v) = record { result = 0; first = n; second = 0; sum = v }
-replyOf (Answer.Lineage n m) = record { result = 0; first = n; second = m; sum = pos 0 }
+replyOf (Answer.Refused r) = record { result = refusalNumber r; first = 0; second = 0; stamp = 0; sum = pos 0 }
+replyOf Answer.Done = record { result = 0; first = 0; second = 0; stamp = 0; sum = pos 0 }
+replyOf (Answer.Number n) = record { result = 0; first = n; second = 0; stamp = 0; sum = pos 0 }
+replyOf (Answer.Version v s) = record { result = 0; first = ofZ w32 v; second = 0; stamp = s; sum = pos 0 }
+replyOf (Answer.Value v) = record { result = 0; first = ofZ w32 v; second = 0; stamp = 0; sum = pos 0 }
+replyOf Answer.None = record { result = 32; first = 0; second = 0; stamp = 0; sum = pos 0 }
+replyOf (Answer.Sum n v) = record { result = 0; first = n; second = 0; stamp = 0; sum = v }
+replyOf (Answer.Lineage n m) = record { result = 0; first = n; second = m; stamp = 0; sum = pos 0 }
 
 -- the reply is that of an answer of which P holds
 abbrev pub Replied : (Answer → Type 0) → Reply → Type 0

@@ -13,12 +13,14 @@ ghost use Rattle.scans.specs.Table.{tableOf};
 ghost use Rattle.deskrook.specs.Replies.{replyOf, usability};
 
 // An answer as C takes it. `result` is 0 where the call was accepted, 32 for the answer none, else the refusal's number. `first` is the number, the count or the
-// number merged through, or the two's complement word of a value; `second` the records used; `sum` a sum. What an answer does not have is 0.
+// number merged through, or the two's complement word of a value; `second` the records used; `stamp` the stamp of the commit that set the value; `sum` a sum. What an
+// answer does not have is 0.
 #[repr(C)]
 pub struct Reply {
     pub result: u32,
     pub first: u32,
     pub second: u32,
+    pub stamp: u32,
     pub sum: i64,
 }
 
@@ -32,42 +34,56 @@ pub fn encode(answer: Answer) -> Reply
             result: number(r),
             first: 0,
             second: 0,
+            stamp: 0,
             sum: 0,
         },
         Answer::Done => Reply {
             result: 0,
             first: 0,
             second: 0,
+            stamp: 0,
             sum: 0,
         },
         Answer::Number(n) => Reply {
             result: 0,
             first: n,
             second: 0,
+            stamp: 0,
+            sum: 0,
+        },
+        Answer::Version(v, stamp) => Reply {
+            result: 0,
+            first: to_word(v),
+            second: 0,
+            stamp: stamp,
             sum: 0,
         },
         Answer::Value(v) => Reply {
             result: 0,
             first: to_word(v),
             second: 0,
+            stamp: 0,
             sum: 0,
         },
         Answer::None => Reply {
             result: NONE,
             first: 0,
             second: 0,
+            stamp: 0,
             sum: 0,
         },
         Answer::Sum(n, v) => Reply {
             result: 0,
             first: n,
             second: 0,
+            stamp: 0,
             sum: v,
         },
         Answer::Lineage(n, m) => Reply {
             result: 0,
             first: n,
             second: m,
+            stamp: 0,
             sum: 0,
         },
     }

@@ -13,6 +13,8 @@ unfoldable pub outcome : Answer → List ℕ
 outcome (Answer.Refused r) = text " no" ++ field (decimal (refusalNumber r))
 outcome Answer.Done = text " ok"
 outcome (Answer.Number n) = text " ok" ++ field (decimal n)
+-- 2.4: of a version the value, then the stamp
+outcome (Answer.Version v s) = text " ok" ++ field (signed v) ++ field (decimal s)
 outcome (Answer.Value v) = text " ok" ++ field (signed v)
 outcome Answer.None = text " ok none"
 -- 2.4: of a sum the count, then the sum

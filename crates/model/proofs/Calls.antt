@@ -17,7 +17,7 @@ use Rattle.terms.specs.Measures.{Shape, rangeRows, mostNumbers, mostScans}
 use Rattle.terms.specs.declared.Refusal.{Refusal}
 use Rattle.terms.specs.declared.Answer.{Answer}
 use Rattle.history.specs.History as H
-use Rattle.history.specs.History.{Call, begin, insert, update, delete, commit, abort, latest, readAt, ownRead, openScan, scanRead, sum, close, merge, release, pageCell, lineage, History, Record, active, Test, _when_, Verdict, accept, refuse, verdict, tests, reply, effect, answer, next, answerIf, nextIf, any, filterb, count, upTo, total, stateOf, rowAt, rangeOf, recordsOf, seenAt, seenBy, ended, visible, versionOf, read, scanAt, inserted, lastSetting, cellValue, notActive, notRunning, notGiven, noColumn, noRange, lacksRecords, notLater, later, outOfReach, noPage, cellThrough}
+use Rattle.history.specs.History.{Call, begin, insert, update, delete, commit, abort, latest, readAt, ownRead, openScan, scanRead, sum, close, merge, release, pageCell, lineage, History, Record, active, Test, _when_, Verdict, accept, refuse, verdict, tests, reply, effect, answer, next, answerIf, nextIf, any, filterb, count, upTo, total, stateOf, rowAt, rangeOf, recordsOf, seenAt, seenBy, ended, visible, versionOf, shown, read, scanAt, inserted, lastSetting, cellValue, notActive, notRunning, notGiven, noColumn, noRange, lacksRecords, notLater, later, outOfReach, noPage, cellThrough}
 use Rattle.history.proofs.Lists.{by-test, all-map, all-at, filterb-append, any-agree, not-not, parts}
 use Rattle.history.proofs.Accepted.{Passed, passed}
 use Rattle.history.proofs.Steps.{mergeable, is-active, within-reach, step, made-new}
@@ -60,8 +60,8 @@ agree-verdict (test {n} {b = b} {ts} {us} e f) = rw e
 own-latest : (h : History) (t r c : ℕ) → r < length (h .rows) → Unchanged (h .rows) (h .tail) t → read (seenAt h (h .last)) h r c ≡ read (seenBy h t) h r c
 unfolding read visible versionOf ended
 own-latest h t r c b u =
-    ap₂ (λ (x y : Bool). cond (x && not y) (Answer.Value (lastSetting (seenAt h (h .last)) r c (inserted h r c) (h .tail) .value)) Answer.None) first second
-    ∙ ap (λ (y : H.Version). cond (visible (seenBy h t) h r) (Answer.Value (y .value)) Answer.None)
+    ap₂ (λ (x y : Bool). cond (x && not y) (shown h (lastSetting (seenAt h (h .last)) r c (inserted h r c) (h .tail))) Answer.None) first second
+    ∙ ap (λ (y : H.Version). cond (visible (seenBy h t) h r) (shown h y) Answer.None)
     (last-agree (seenAt h (h .last)) r c (seenBy h t) (inserted h r c) (all-map (λ (y : Record) n _. same (y .transaction) n) (u .no-record)))
   where
     same : (k : ℕ) → k ≢ t → seenAt h (h .last) k ≡ seenBy h t k

@@ -1,6 +1,6 @@
 -- What a reader finds in the store. Latest read, read at, own read, scan read and sum are one definition: who sees a row or record is told by a stamp
 -- and by the transaction whose own changes count, and the value is found in a page, in the tail records above the page's lineage, and further down only
--- where the page is newer than the stamp.
+-- where the page is newer than the stamp. Whoever set it is found in the records alone: a page has no room for the stamps of its cells.
 use mathlib.Core.Bool.{Bool, not, cond, _&&_, _||_}
 use Prim.Native.Nat.{ℕ, zero, suc, _+_, _%_}
 use lib.Dec.{leb, ltb, eqb}
@@ -16,6 +16,8 @@ use Rattle.layout.specs.View.{View, rowsGiven}
 use Rattle.layout.specs.declared.Region.the-variants.{Changes}
 use Rattle.terms.specs.declared.ScanEntry.{ScanEntry}
 use Rattle.model.specs.declared.Reader.{Reader}
+use Rattle.model.specs.declared.Setter.{Setter}
+use Rattle.model.specs.declared.Version.{Version}
 use Rattle.model.specs.Stored.{RowWords, RecordWords, PageWords, rowIn, recordIn, pageIn, valueIn, currentIn, chunkOf, chunksOf, pagesOf, cellIn, within, openState, committedState, originalKind, settingKind, deleteKind, waitingPage, firstFrom, openIndex}
 use Rattle.layout.specs.Regions.{slot}
 
@@ -66,9 +68,13 @@ abbrev pub orElse : {A : Type 0} → Found → (ℕ → A) → A → A
 orElse (Found.At i) at x = at i
 orElse Found.Nothing at x = x
 
+-- the number at which the records of a range stop, seen from above: the first is one more
+abbrev pub floor : ℕ
+floor = 0
+
 -- How far down a reader looks: the records up to a page's lineage are in its cells, unless the page holds a setting later than the stamp.
 unfoldable pub downTo : Reader → PageWords → ℕ
-downTo who page = cond (leb (page .newest) (who .stamp .0)) (page .lineage) 0
+downTo who page = cond (leb (page .newest) (who .stamp .0)) (page .lineage) floor
 
 -- the word of row r and column c, on page p. A column that no update has set is in the page alone. Where no record answers, the page's cell does; in a store
 -- that calls made, one answers where a reader looks further down than the lineage: at the latest the column's original.
@@ -79,10 +85,39 @@ wordIn S v who p r c =
     let found = walk S v who (rangeOf r) c (downTo who (pageIn v p)) (x .link) (x .link) in
     cond (bit (x .mask) c) (orElse found (λ i. valueIn S v i c) cell) cell
 
+-- ---- who set it
+-- A record that answers is the setter's, but for an original: its value is the insert's, whoever's update wrote it down.
+unfoldable pub setterAt : View → ℕ → Setter
+setterAt v i = cond (originalKind ((recordIn v i) .kind)) Setter.Insert (Setter.Update i)
+
+-- Whichever page a reader looks at, the records above and below its lineage are looked at. A column that no update has set, or for which no record answers, has its
+-- value from the insert.
+unfoldable pub setterIn : Shape → View → Reader → ℕ → ℕ → Setter
+setterIn S v who r c =
+    let x = rowIn v r in
+    let found = walk S v who (rangeOf r) c floor (x .link) (x .link) in
+    cond (bit (x .mask) c) (orElse found (setterAt v) Setter.Insert) Setter.Insert
+
+-- the stamp of a commit; 0 for what is not committed, whatever its word for the stamp says
+unfoldable pub commitStamp : ℕ → ℕ → ℕ
+commitStamp state stamp = cond (committedState state) stamp 0
+
+unfoldable pub setterStamp : View → ℕ → Setter → ℕ
+setterStamp v r Setter.Insert = let x = rowIn v r in commitStamp (x .state) (x .stamp)
+setterStamp v r (Setter.Update i) = let x = recordIn v i in commitStamp (x .state) (x .stamp)
+
+-- ---- the read
+unfoldable pub lookupIn : Shape → View → Reader → ℕ → ℕ → ℕ → Version
+lookupIn S v who p r c = record { word = wordIn S v who p r c; setter = setterIn S v who r c }
+
+-- what a read shows of a version of row r
+unfoldable pub shownIn : View → ℕ → Version → Answer
+shownIn v r x = Answer.Version (toZ w32 (x .word)) (setterStamp v r (x .setter))
+
 unfoldable pub readIn : Shape → View → Reader → ℕ → ℕ → ℕ → Answer
 readIn S v who p r c =
-    let w = wordIn S v who p r c in
-    cond (visibleIn S v who r) (Answer.Value (toZ w32 w)) Answer.None
+    let x = lookupIn S v who p r c in
+    cond (visibleIn S v who r) (shownIn v r x) Answer.None
 
 -- the read of the current page
 unfoldable pub readCurrent : Shape → View → Reader → ℕ → ℕ → Answer

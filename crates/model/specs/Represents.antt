@@ -12,10 +12,9 @@ use lib.IntN.{pos}
 use mir.Syntax.{w32}
 use mir.Val.{toZ}
 use Rattle.terms.specs.Measures.{Shape, mostColumns, mostRanges, mostRecords, mostSpares, mostTransactions, mostScans}
-use Rattle.history.specs.History.{History, Row, Record, State, unknown, active, aborted, committed, Content, original, setting, ending, Scan, Merge, isActive, stateOf, rowAt, bit, sets, rangeOf, recordsOf, mergedThrough, scanAt, seenAt, cellThrough, count, Call, answer, next}
+use Rattle.history.specs.History.{History, Row, Record, State, unknown, active, aborted, committed, Content, original, setting, ending, Scan, Merge, isActive, stateOf, rowAt, bit, sets, rangeOf, recordsOf, mergedThrough, scanAt, seenAt, cellThrough, count, Call, answer, next, stampOf}
 use Rattle.history.specs.Lists.{All}
 use Rattle.history.specs.Records.{among, wasSet, noRecord, lastOf}
-use Rattle.history.specs.Latest.{stampOf}
 use Rattle.history.specs.Invariants.{Through, Invariants}
 use Rattle.layout.specs.View.{View, usedIn, Long, Fits}
 use Rattle.layout.specs.declared.Region.the-variants.{Opens, Changes}

@@ -12,6 +12,18 @@ pub struct Reader {
     pub me: Transaction,
 }
 
+// Who set a column of a row: its insert, or the update whose tail record is at a slot.
+pub enum Setter {
+    Insert,
+    Update(usize),
+}
+
+// What a lookup finds for a row and column: the word, and who set it. Whatever else a call shows of it stands in the setter's words.
+pub struct Version {
+    pub word: u32,
+    pub setter: Setter,
+}
+
 pub fn free_entry() -> ScanEntry
     ensures { λ r. ⌜ r ≡ freeEntry ⌝ }
 {

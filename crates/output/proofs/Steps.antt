@@ -10,7 +10,7 @@ use borrow.Author.Tests.{leb-false, leb-true, le-leb}
 use Rattle.terms.specs.Measures.{Shape, between, withinLimits, mostColumns, mostRanges, mostRecords, mostSpares}
 use Rattle.terms.specs.declared.Refusal.{Refusal}
 use Rattle.terms.specs.declared.Answer.{Answer}
-use Rattle.history.specs.History.{Call, begin, insert, update, delete, commit, abort, latest, readAt, ownRead, openScan, scanRead, sum, close, merge, release, pageCell, lineage, History, start, Test, tests, verdict, refuse, reply, read, visible, versionOf, sumOf, answer, answers, answerIf, next}
+use Rattle.history.specs.History.{Call, begin, insert, update, delete, commit, abort, latest, readAt, ownRead, openScan, scanRead, sum, close, merge, release, pageCell, lineage, History, start, Test, tests, verdict, refuse, reply, shown, read, visible, versionOf, sumOf, answer, answers, answerIf, next}
 use Rattle.lines.specs.Lines.{line, shapeLine}
 use Rattle.commands.specs.declared.Chosen.{Chosen}
 use Rattle.commands.specs.Commands.{chosen, width, callFrom, Item, itemAt, behind, items, script, cutShape, parse, shapeBytes, shapeFrom}
@@ -34,8 +34,8 @@ verdict-goes-on (t ∷ ts) a p q =
     elim (t .fails) as (λ b. goesOn (answerIf (cond b (refuse (t .refusal)) (verdict ts)) a) ≡ true) [ true ↦ r .0 | false ↦ verdict-goes-on ts a (r .1) q ]
 
 read-goes-on : (sees : ℕ → Bool) (h : History) (r c : ℕ) → goesOn (read sees h r c) ≡ true
-unfolding read goesOn
-read-goes-on sees h r c = elim (visible sees h r) as (λ b. goesOn (cond b (Answer.Value (versionOf sees h r c .value)) Answer.None) ≡ true) [ true ↦ refl | false ↦ refl ]
+unfolding read shown goesOn
+read-goes-on sees h r c = elim (visible sees h r) as (λ b. goesOn (cond b (shown h (versionOf sees h r c)) Answer.None) ≡ true) [ true ↦ refl | false ↦ refl ]
 
 -- neither a refusal of a call nor its answer where it is accepted
 call-goes-on : (s : Shape) (h : History) (c : Call) → (allGoOn (tests s h c) ≡ true) × (goesOn (reply s h c) ≡ true)

@@ -38,6 +38,7 @@ unfoldable pub goesOn : Answer → Bool
 goesOn (Answer.Refused r) = between 2 18 (refusalNumber r)
 goesOn Answer.Done = true
 goesOn (Answer.Number n) = true
+goesOn (Answer.Version v s) = true
 goesOn (Answer.Value v) = true
 goesOn Answer.None = true
 goesOn (Answer.Sum n s) = true

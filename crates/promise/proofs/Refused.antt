@@ -16,29 +16,29 @@ use Rattle.history.specs.History.{Call, begin, insert, update, delete, commit, 
 use Rattle.history.proofs.Lists.{by-test, is-true}
 use Rattle.facts.specs.Usable.{storedShape, storedSizes, usable}
 use Rattle.facts.proofs.Usable.{usable-tells}
-use Rattle.model.specs.Reading.{readIn, readCurrent, sumIn, visibleIn}
+use Rattle.model.specs.Reading.{shownIn, readIn, readCurrent, sumIn, visibleIn}
 use Rattle.model.specs.Calls.{replyIn, viewIf, entriesIf, say, viewNext, entriesNext}
 use Rattle.promise.specs.Promise.{storeView, answerOf, memoryAfter, listAfter}
 use Rattle.promise.specs.Demands.{RefusedKeeps}
 
 -- no accepted call answers a refusal
-read-not : (b : Bool) (z : ℤ) → isRefused (cond b (Answer.Value z) Answer.None) ≡ false
-read-not true z = refl
-read-not false z = refl
+read-not : (b : Bool) (z : ℤ) (s : ℕ) → isRefused (cond b (Answer.Version z s) Answer.None) ≡ false
+read-not true z s = refl
+read-not false z s = refl
 
 pub not-refused : (S : Shape) (v : View) (ps : List ScanEntry) (c : Call) → isRefused (replyIn S v ps c) ≡ false
-unfolding replyIn readCurrent readIn sumIn
+unfolding replyIn readCurrent readIn shownIn sumIn
 not-refused S v ps begin = refl
 not-refused S v ps (insert t vs) = refl
 not-refused S v ps (update t r m vs) = refl
 not-refused S v ps (delete t r) = refl
 not-refused S v ps (commit t s) = refl
 not-refused S v ps (abort t) = refl
-not-refused S v ps (latest r c) = read-not (visibleIn S v _ r) _
-not-refused S v ps (readAt s r c) = read-not (visibleIn S v _ r) _
-not-refused S v ps (ownRead t r c) = read-not (visibleIn S v _ r) _
+not-refused S v ps (latest r c) = read-not (visibleIn S v _ r) _ _
+not-refused S v ps (readAt s r c) = read-not (visibleIn S v _ r) _ _
+not-refused S v ps (ownRead t r c) = read-not (visibleIn S v _ r) _ _
 not-refused S v ps (openScan s) = refl
-not-refused S v ps (scanRead k r c) = read-not (visibleIn S v _ r) _
+not-refused S v ps (scanRead k r c) = read-not (visibleIn S v _ r) _ _
 not-refused S v ps (sum k c) = refl
 not-refused S v ps (close k) = refl
 not-refused S v ps (merge g c n) = refl

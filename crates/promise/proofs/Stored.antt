@@ -16,9 +16,8 @@ use Rattle.layout.specs.declared.Region.the-variants.{Opens, TailRow, Used}
 use Rattle.layout.specs.View.{View, rowsGiven, transactionsGiven, lastStamp, mergesMade, usedIn}
 use Rattle.layout.specs.Sizes.{sizesOf}
 use Rattle.layout.proofs.Limits.{proper}
-use Rattle.history.specs.History.{History, unknown, count, stateOf, rowAt, rangeOf, recordsOf, scanAt}
+use Rattle.history.specs.History.{History, unknown, count, stateOf, rowAt, rangeOf, recordsOf, scanAt, stampOf}
 use Rattle.history.proofs.Lists.{all-at, by-cases, cond-ap}
-use Rattle.history.specs.Latest.{stampOf}
 use Rattle.history.specs.Invariants.{isGiven, RecordSound, Timely}
 use Rattle.history.proofs.States.{stamp-last}
 use Rattle.history.proofs.Order.{sound-at}

@@ -1,2 +1,3 @@
--- What the finder of a waiting page answers.
+-- What the finders of a waiting page and of a setter answer.
 pub mod ScanPages
+pub mod Setters

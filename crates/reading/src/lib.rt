@@ -1,15 +1,18 @@
 // The word of a row and column for a reader: in a page, in the tail records above the page's lineage, and further down only where the page is newer
-// than the reader's stamp. Each function answers by the model's definition of the same meaning.
+// than the reader's stamp; and who set it. Each function answers by the model's definition of the same meaning.
 pub mod base_pages;
 
 use base_pages::cell;
 use base_pages::current_page;
 use layout::Region;
 use layout::Sizes;
+use layout::codes::COMMITTED;
 use layout::codes::ORIGINAL;
 use layout::codes::SETTING;
 use loops::Found;
 use model::Reader;
+use model::Setter;
+use model::Version;
 use regions::read;
 use rows::has_bit;
 use rows::range_of;
@@ -24,10 +27,14 @@ ghost use mathlib.Core.Path.{_≡_};
 ghost use Prim.Native.Nat.{_*_, _≤_, _<_};
 ghost use Rattle.layout.specs.View.{rowsGiven, usedIn, viewOf, Suffices};
 ghost use Rattle.model.specs.Stored.{recordIn, pageIn, valueIn};
-ghost use Rattle.model.specs.Reading.{answersFor, walk, downTo, wordIn, readIn, readCurrent};
+ghost use Rattle.model.specs.Reading.{answersFor, walk, downTo, wordIn, setterIn, commitStamp, setterStamp, lookupIn, shownIn, readIn, readCurrent};
 ghost use Rattle.layout.specs.Sizes.{Proper};
 ghost use Rattle.model.specs.Preconditions.{shapeIn, Linked, Pooled};
 ghost use Rattle.rows.specs.Finders.{Inside};
+ghost use Rattle.reading.specs.Setters.{RecordInside};
+
+// The number above which every record of a range lies.
+const FLOOR: u32 = 0;
 
 // The word of column c in the tail record at a slot.
 pub fn value(mem: &[u8], s: Sizes, at: usize, c: u32) -> u32
@@ -87,7 +94,7 @@ fn down_to(mem: &[u8], s: Sizes, who: Reader, page: usize) -> Tail
     if read(mem, s, Region::PageNewest, page) <= who.stamp.0 {
         return Tail(read(mem, s, Region::PageLineage, page));
     }
-    Tail(0)
+    Tail(FLOOR)
 }
 
 // The word of a row and column on a page. A column that no update has set is in the page alone.
@@ -111,6 +118,84 @@ pub fn word_of(mem: &[u8], s: Sizes, who: Reader, page: usize, row: Row, c: u32)
     at
 }
 
+// Who set what the reader sees of a row and column. No page is asked, since it has no room for the stamps of its cells; the chain of records is one row's.
+fn setter_of(mem: &[u8], s: Sizes, who: Reader, row: Row, c: u32) -> Setter
+    requires { ⌜ Suffices s (now mem) ⌝ }
+    requires { ⌜ Proper s ⌝ }
+    requires { ⌜ Linked s (viewOf s (now mem)) ⌝ }
+    requires { ⌜ (c < s .columns) × (row .0 < rowsGiven (viewOf s (now mem))) ⌝ }
+    ensures { λ r. ⌜ r ≡ setterIn (shapeIn s) (viewOf s (now (mem .entry))) who (row .0) c ⌝ }
+    ensures { λ r. ⌜ RecordInside r (s .slots) ⌝ }
+{
+    let i = row.0 as usize;
+    if !has_bit(read(mem, s, Region::RowMask, i), c) {
+        return Setter::Insert;
+    }
+    let link = Tail(read(mem, s, Region::RowLink, i));
+    let Found::At(at) = walk(mem, s, who, range_of(row), c, Tail(FLOOR), link) else {
+        return Setter::Insert;
+    };
+    if read(mem, s, Region::TailKind, at) == ORIGINAL {
+        return Setter::Insert;
+    }
+    Setter::Update(at)
+}
+
+// The stamp of the commit that set it; 0 where it is not committed.
+fn setter_stamp(mem: &[u8], s: Sizes, row: Row, setter: Setter) -> u32
+    requires { ⌜ Suffices s (now mem) ⌝ }
+    requires { ⌜ (row .0 < s .rows) × RecordInside setter (s .slots) ⌝ }
+    ensures { λ r. ⌜ r ≡ setterStamp (viewOf s (now (mem .entry))) (row .0) setter ⌝ }
+{
+    match setter {
+        Setter::Insert => {
+            let i = row.0 as usize;
+            commit_stamp(
+                read(mem, s, Region::RowState, i),
+                read(mem, s, Region::RowStamp, i),
+            )
+        }
+        Setter::Update(at) => commit_stamp(
+            read(mem, s, Region::TailState, at),
+            read(mem, s, Region::TailStamp, at),
+        ),
+    }
+}
+
+fn commit_stamp(state: u32, stamp: u32) -> u32
+    ensures { λ r. ⌜ r ≡ commitStamp state stamp ⌝ }
+{
+    if state == COMMITTED {
+        return stamp;
+    }
+    0
+}
+
+// The version of a row and column that the reader sees on a page.
+fn lookup(mem: &[u8], s: Sizes, who: Reader, page: usize, row: Row, c: u32) -> Version
+    requires { ⌜ Suffices s (now mem) ⌝ }
+    requires { ⌜ Proper s ⌝ }
+    requires { ⌜ Linked s (viewOf s (now mem)) ⌝ }
+    requires { ⌜ (page < s .pages) × (c < s .columns) × (row .0 < rowsGiven (viewOf s (now mem))) ⌝ }
+    ensures { λ r. ⌜ r ≡ lookupIn (shapeIn s) (viewOf s (now (mem .entry))) who page (row .0) c ⌝ }
+    ensures { λ r. ⌜ RecordInside (r .setter) (s .slots) ⌝ }
+{
+    Version {
+        word: word_of(mem, s, who, page, row, c),
+        setter: setter_of(mem, s, who, row, c),
+    }
+}
+
+// What a read shows of a version.
+fn shown(mem: &[u8], s: Sizes, row: Row, version: Version) -> Answer
+    requires { ⌜ Suffices s (now mem) ⌝ }
+    requires { ⌜ (row .0 < s .rows) × RecordInside (version .setter) (s .slots) ⌝ }
+    ensures { λ r. ⌜ r ≡ shownIn (viewOf s (now (mem .entry))) (row .0) version ⌝ }
+{
+    let setter = version.setter;
+    Answer::Version(of_word(version.word), setter_stamp(mem, s, row, setter))
+}
+
 // What the reader reads of a row and column on a page.
 pub fn read_cell(mem: &[u8], s: Sizes, who: Reader, page: usize, row: Row, c: u32) -> Answer
     requires { ⌜ Suffices s (now mem) ⌝ }
@@ -120,7 +205,7 @@ pub fn read_cell(mem: &[u8], s: Sizes, who: Reader, page: usize, row: Row, c: u3
     ensures { λ r. ⌜ r ≡ readIn (shapeIn s) (viewOf s (now (mem .entry))) who page (row .0) c ⌝ }
 {
     if visible(mem, s, who, row) {
-        return Answer::Value(of_word(word_of(mem, s, who, page, row, c)));
+        return shown(mem, s, row, lookup(mem, s, who, page, row, c));
     }
     Answer::None
 }

@@ -17,12 +17,11 @@ use mir.Syntax.{w32}
 use mir.Val.{toZ, ofZ, SFits}
 use mir.ValLaws.{toZ-ofZ, ofZ-fits}
 use Rattle.terms.specs.Measures.{Shape, rangeRows}
-use Rattle.history.specs.History.{insert, History, Row, Record, active, stateOf, rowAt, bit, sets, rangeOf, recordsOf, mergedThrough, scanAt, seenAt, withRows}
+use Rattle.history.specs.History.{insert, History, Row, Record, active, stateOf, rowAt, bit, sets, rangeOf, recordsOf, mergedThrough, scanAt, seenAt, withRows, stampOf}
 use Rattle.history.specs.Lists.{All, nil, cons}
 use Rattle.history.proofs.Lists.{at-append, by-cases, all-append, all-map, all-at, any-none}
 use Rattle.history.specs.Steps.{Step}
 use Rattle.history.specs.Records.{wasSet, noRecord, lastOf}
-use Rattle.history.specs.Latest.{stampOf}
 use Rattle.history.proofs.States.{active-unseen}
 use Rattle.history.specs.Invariants.{Timely}
 use Rattle.words.specs.Words.{Fit}

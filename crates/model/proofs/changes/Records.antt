@@ -13,8 +13,7 @@ use lib.ListN.{length, getD, set, length-append}
 use lib.Seq.{getD-append-seam, getD-append-add}
 use borrow.Author.Tests.{ne-eqb}
 use Rattle.terms.specs.Measures.{Shape}
-use Rattle.history.specs.History.{delete, History, Record, active, Content, ending, stateOf, rowAt, bit, sets, rangeOf, recordsOf, scanAt, deleteRecords, withTail}
-use Rattle.history.specs.Latest.{stampOf}
+use Rattle.history.specs.History.{delete, History, Record, active, Content, ending, stateOf, rowAt, bit, sets, rangeOf, recordsOf, scanAt, deleteRecords, withTail, stampOf}
 use Rattle.history.specs.Lists.{All, nil}
 use Rattle.history.proofs.Lists.{by-cases, eqb-same, all-map, all-at, all-append, any-append, by-test}
 use Rattle.history.proofs.Steps.{New}

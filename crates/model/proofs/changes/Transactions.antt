@@ -12,10 +12,9 @@ use lib.ListN.{length, getD, set, length-append}
 use lib.Seq.{getD-set-same, getD-set-other}
 use borrow.Author.Tests.{ne-eqb, eq-eqb}
 use Rattle.terms.specs.Measures.{Shape, mostNumbers}
-use Rattle.history.specs.History.{begin, commit, abort, History, Row, Record, State, unknown, active, aborted, committed, any, nth, change, stateOf, rowAt, rangeOf, recordsOf, scanAt, withTransactions}
+use Rattle.history.specs.History.{begin, commit, abort, History, Row, Record, State, unknown, active, aborted, committed, any, nth, change, stateOf, rowAt, rangeOf, recordsOf, scanAt, withTransactions, stampOf}
 use Rattle.history.proofs.Lists.{by-cases, all-each, nth-beyond, clash, all-map, nth-changed, nth-other, length-change}
 use Rattle.history.specs.Steps.{Step, Closing, by-commit, by-abort}
-use Rattle.history.specs.Latest.{stampOf}
 use Rattle.history.proofs.States.{given-known, state-began}
 use Rattle.history.proofs.Limits.{closing-inactive}
 use Rattle.history.proofs.Order.{sound-at}

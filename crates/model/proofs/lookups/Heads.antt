@@ -11,9 +11,8 @@ use borrow.Author.Tests.{le-leb, ne-eqb}
 use lib.ListN.{length, getD}
 use lib.Seq.{take-length}
 use Rattle.terms.specs.Measures.{Shape}
-use Rattle.history.specs.History.{History, Record, State, unknown, active, aborted, committed, Content, original, setting, ending, committedBy, stateOf, rowAt, ends, rangeOf, recordsOf, seenAt, seenBy, ended, visible, activeOther, held, gone}
+use Rattle.history.specs.History.{History, Record, State, unknown, active, aborted, committed, Content, original, setting, ending, committedBy, stateOf, rowAt, ends, rangeOf, recordsOf, seenAt, seenBy, ended, visible, activeOther, held, gone, stampOf}
 use Rattle.history.proofs.Lists.{clash}
-use Rattle.history.specs.Latest.{stampOf}
 use Rattle.history.specs.Invariants.{Stamped}
 use Rattle.history.specs.Records.{anyOfRow, noRecord, lastOf}
 use Rattle.history.proofs.Ranges.{any-range}

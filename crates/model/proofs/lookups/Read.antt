@@ -1,5 +1,6 @@
--- The read: the page's cell, the records above its lineage, and those below where it must be, give the value that the history reads.
-use mathlib.Core.Path.{_≡_, refl, sym, _∙_, ap}
+-- The read: the page's cell, the records above its lineage, and those below where it must be, give the value that the history reads; and the row or record that set it bears
+-- the setter's stamp.
+use mathlib.Core.Path.{_≡_, refl, sym, _∙_, ap, ap₂}
 use mathlib.Core.Bool.{Bool, true, false, cond, _&&_, _||_, and-false, and-true, or-false, true≢false}
 use mathlib.Core.List.{List}
 use Prim.Native.Nat.{ℕ, zero, suc, _+_, _*_, _≤_, _<_, zero-le}
@@ -15,10 +16,9 @@ use mir.Syntax.{w32}
 use mir.Val.{toZ}
 use Rattle.terms.specs.Measures.{Shape}
 use Rattle.terms.specs.declared.Answer.{Answer}
-use Rattle.history.specs.History.{History, Record, Version, State, aborted, committed, Content, original, setting, ending, any, isCommitted, stateOf, bit, sets, newValue, insertedValue, inserted, versionIn, lastSetting, rangeOf, recordsOf, visible, versionOf, read, cellThrough}
+use Rattle.history.specs.History.{History, Record, Version, State, unknown, active, aborted, committed, Content, original, setting, ending, any, isCommitted, stateOf, bit, sets, newValue, insertedValue, inserted, versionIn, lastSetting, rangeOf, rowAt, recordsOf, visible, versionOf, shown, read, cellThrough, stampOf}
 use Rattle.history.proofs.Lists.{by-test, parts, all-map₂, any-none, all-take, not-any}
 use Rattle.history.specs.Records.{among, isOriginal, wasSet, hasOriginal, noRecord, lastOf}
-use Rattle.history.specs.Latest.{stampOf}
 use Rattle.history.specs.Invariants.{isClosed, InOrder}
 use Rattle.history.proofs.Order.{sound-at}
 use Rattle.history.proofs.Ranges.{version-range, last-next, last-agree, last-unset}
@@ -28,8 +28,9 @@ use Rattle.loops.specs.declared.Found.{Found}
 use Rattle.layout.specs.View.{View}
 use Rattle.terms.specs.declared.ScanEntry.{ScanEntry}
 use Rattle.model.specs.declared.Reader.{Reader}
+use Rattle.model.specs.declared.Setter.{Setter}
 use Rattle.model.specs.Stored.{PageWords, rowIn, recordIn, valueIn, pageIn, cellIn, within, originalKind, settingKind}
-use Rattle.model.specs.Reading.{sees, answersFor, walk, orElse, downTo, wordIn, readIn}
+use Rattle.model.specs.Reading.{sees, answersFor, walk, orElse, floor, downTo, wordIn, setterAt, setterIn, commitStamp, setterStamp, lookupIn, shownIn, readIn}
 use Rattle.model.proofs.Lists.{take-next}
 use Rattle.model.specs.Represents.{stateWord, ContentIs, RecordIs, TailOf, Holds, Represents, WellFormed}
 use Rattle.model.proofs.lookups.Heads.{slot-is, in-range, SeesAs, visible-is}
@@ -188,23 +189,34 @@ module _ {S : Shape} {v : View} {ps : List ScanEntry} {h : History} (o : Represe
   lok : TailOf S (stateOf h) (recordsOf h (rangeOf r)) v (rangeOf r)
   lok = o .tails (rangeOf r) (in-range k r b)
 
-  -- the walk, read for the value
   original-there : (i : ℕ) → i < length list → (getD list i noRecord) .row ≡ r → (cs : List ℕ) (vs : List ℤ) → (getD list i noRecord) .content ≡ original cs vs
       → getD vs c (pos 0) ≡ insertedValue h r c
   unfolding insertedValue
   original-there i u e cs vs q = rw (sound-at h g (k .invariants .order) i noRecord u .values cs vs q, e)
 
+  -- the walk from the row's link
+  walked : {A : Type 0} (at : ℕ → A) (of : Version → A) (low : ℕ) (rest : A)
+      → ((i : ℕ) → i < length list → T (sets c ((getD list i noRecord) .content)) → at (g * S .capacity + i) ≡ of (versionIn c (getD list i noRecord)))
+      → ((i : ℕ) → i < length list → (getD list i noRecord) .row ≡ r → T (isOriginal c ((getD list i noRecord) .content)) → at (g * S .capacity + i) ≡ of (inserted h r c))
+      → low ≤ length list → (hasOriginal list r c ≡ hasOriginal (take low list) r c → rest ≡ of (lastSetting f r c (inserted h r c) (take low list)))
+      → orElse (walk S v who g c low ((rowIn v r) .link) ((rowIn v r) .link)) at rest ≡ of (lastSetting f r c (inserted h r c) list)
+  walked at of low rest x y a z =
+      rw (o .rows r b .link)
+      (rw take-length at
+      (walk-is S v h (k .invariants .order) g r c who f w lok at of
+      (λ i u. x i (u .0) (parts (sets c ((getD list i noRecord) .content)) _ (u .2) .0)) (λ i u. y i (u .0) (u .1) (u .2))
+      low rest (length list) (lastOf list r (length list)) a (le-refl _) (le-refl _) (rw take-length z)))
+
+  -- read for the value
   walk-value : (low : ℕ) → low ≤ length list
       → (hasOriginal list r c ≡ hasOriginal (take low list) r c → toZ w32 cell ≡ lastSetting f r c (inserted h r c) (take low list) .value)
       → toZ w32 (orElse (walk S v who g c low ((rowIn v r) .link) ((rowIn v r) .link)) (λ i. valueIn S v i c) cell) ≡ lastSetting f r c (inserted h r c) list .value
   walk-value low a z =
       or-map (toZ w32) (walk S v who g c low ((rowIn v r) .link) ((rowIn v r) .link)) (λ i. valueIn S v i c) cell
-      ∙ rw (o .rows r b .link)
-      (rw take-length at
-      (walk-is S v h (k .invariants .order) g r c who f w lok (λ i. toZ w32 (valueIn S v i c)) (λ y. y .value)
-      (λ i u. setting-value (S .columns) c inside _ _ _ _ (lok .each i (u .0) .content) (parts (sets c ((getD list i noRecord) .content)) _ (u .2) .0) ∙ (unfold versionIn in refl))
-      (λ i u. original-value (S .columns) c inside (insertedValue h r c) _ _ _ _ (lok .each i (u .0) .content) (original-there i (u .0) (u .1)) (u .2) ∙ (unfold inserted in refl))
-      low (toZ w32 cell) (length list) (lastOf list r (length list)) a (le-refl _) (le-refl _) (rw take-length z)))
+      ∙ walked (λ i. toZ w32 (valueIn S v i c)) (λ y. y .value) low (toZ w32 cell)
+      (λ i u t. setting-value (S .columns) c inside _ _ _ _ (lok .each i u .content) t ∙ (unfold versionIn in refl))
+      (λ i u e t. original-value (S .columns) c inside (insertedValue h r c) _ _ _ _ (lok .each i u .content) (original-there i u e) t ∙ (unfold inserted in refl))
+      a z
 
   cell-is : Q r → toZ w32 cell ≡ lastSetting (λ k. isCommitted (stateOf h k)) r c (inserted h r c) (take (page .lineage) list) .value
   unfolding cellThrough
@@ -247,8 +259,53 @@ module _ {S : Shape} {v : View} {ps : List ScanEntry} {h : History} (o : Represe
           cell-is q
           ∙ ap (λ (y : Version). y .value) (last-unset _ r c (inserted h r c) (take (page .lineage) list) (unset-take list r c (page .lineage) (sym e)) ∙ sym (last-unset f r c (inserted h r c) list (sym e)))
 
+  -- ---- who set it, by the stamp that is shown
+  commit-stamp : (s : State) → commitStamp (stateWord s) (stampOf s) ≡ stampOf s
+  unfolding commitStamp
+  commit-stamp unknown = refl
+  commit-stamp active = refl
+  commit-stamp aborted = refl
+  commit-stamp (committed s) = refl
+
+  insert-stamp : setterStamp v r Setter.Insert ≡ stampOf (stateOf h (inserted h r c .setter))
+  unfolding setterStamp inserted
+  insert-stamp = rw (o .rows r b .state, o .rows r b .stamp) (commit-stamp (stateOf h ((rowAt h r) .inserter)))
+
+  kind-setting : (y : Content) (kind mask : ℕ) (value : ℕ → ℕ) → ContentIs (S .columns) y kind mask value → T (sets c y) → originalKind kind ≡ false
+  unfolding sets
+  kind-setting (setting m vs) kind mask value e t = rw (e .0)
+
+  kind-original : (y : Content) (kind mask : ℕ) (value : ℕ → ℕ) → ContentIs (S .columns) y kind mask value → T (isOriginal c y) → originalKind kind ≡ true
+  unfolding isOriginal
+  kind-original (original cs vs) kind mask value e t = rw (e .0)
+
+  setting-stamp : (i : ℕ) → i < length list → T (sets c ((getD list i noRecord) .content))
+      → setterStamp v r (setterAt v (g * S .capacity + i)) ≡ stampOf (stateOf h (versionIn c (getD list i noRecord) .setter))
+  unfolding setterAt setterStamp versionIn
+  setting-stamp i u t =
+      let x = lok .each i u in
+      rw (kind-setting _ _ _ _ (x .content) t, x .state, x .stamp) (commit-stamp (stateOf h ((getD list i noRecord) .transaction)))
+
+  original-stamp : (i : ℕ) → i < length list → T (isOriginal c ((getD list i noRecord) .content))
+      → setterStamp v r (setterAt v (g * S .capacity + i)) ≡ stampOf (stateOf h (inserted h r c .setter))
+  unfolding setterAt
+  original-stamp i u t = rw (kind-original _ _ _ _ (lok .each i u .content) t) insert-stamp
+
+  stamp-is : setterStamp v r (setterIn S v who r c) ≡ stampOf (stateOf h (versionOf f h r c .setter))
+  unfolding setterIn lastSetting
+  stamp-is = go (bit ((rowIn v r) .mask) c) (o .rows r b .mask c) ∙ ap (λ (y : Version). stampOf (stateOf h (y .setter))) (version-range h f r c)
+    where
+      go : (a : Bool) → a ≡ wasSet list r c
+          → setterStamp v r (cond a (orElse (walk S v who g c floor ((rowIn v r) .link) ((rowIn v r) .link)) (setterAt v) Setter.Insert) Setter.Insert)
+          ≡ stampOf (stateOf h (lastSetting f r c (inserted h r c) list .setter))
+      go true e =
+          or-map (setterStamp v r) (walk S v who g c floor ((rowIn v r) .link) ((rowIn v r) .link)) (setterAt v) Setter.Insert
+          ∙ walked (λ i. setterStamp v r (setterAt v i)) (λ y. stampOf (stateOf h (y .setter))) floor (setterStamp v r Setter.Insert)
+          setting-stamp (λ i u _ t. original-stamp i u t) zero-le (λ _. insert-stamp)
+      go false e = insert-stamp ∙ ap (λ (y : Version). stampOf (stateOf h (y .setter))) (sym (last-unset f r c (inserted h r c) list (sym e)))
+
   pub read-is : (T (visible f h r) → Q r) → readIn S v who p r c ≡ read f h r c
-  unfolding readIn read
+  unfolding readIn lookupIn shownIn read shown
   read-is q = rw (visible-is o k r b who f w)
-      (by-test (λ a. cond a (Answer.Value (toZ w32 (wordIn S v who p r c))) Answer.None ≡ cond a (Answer.Value (versionOf f h r c .value)) Answer.None) (visible f h r)
-      (λ z. ap Answer.Value (word-is (q z))) (λ _. refl))
+      (by-test (λ a. cond a (Answer.Version (toZ w32 (wordIn S v who p r c)) (setterStamp v r (setterIn S v who r c))) Answer.None ≡ cond a (shown h (versionOf f h r c)) Answer.None) (visible f h r)
+      (λ z. ap₂ Answer.Version (word-is (q z)) stamp-is) (λ _. refl))

@@ -1,9 +1,5 @@
 -- `reading::read_cell` meets its contract.
-use mathlib.Core.Path.{ap, _∙_}
-use mir.Syntax.{w32}
-use mir.Val.{toZ}
-use mir.ValLaws.{toZ-ofZ}
-use Rattle.terms.specs.declared.Answer.{Answer}
+use native.Mathlib.Omega.{arith}
 use Rattle.model.specs.Reading.{readIn}
 use borrow.Author.Needs.{needs}
 use Rattle.reading.proofs.read_cell.Statement.{statement}
@@ -14,8 +10,8 @@ unfolding readIn
 returns c =
     let test : tie.After-visible = search in
     let seen : tie.Then1 = search in
-    rw (← test .visible .ensures, seen .if1 .taken)
-    (ap Answer.Value (toZ-ofZ w32 (c .of-word .result) record { sfits = c .of-word .ok } ∙ c .of-word .ensures ∙ ap (toZ w32) (c .before .word-of .ensures)))
+    let found : tie.After-lookup = search in
+    rw (← test .visible .ensures, seen .if1 .taken, c .shown .ensures, found .lookup .ensures .0)
 
 pub read-cell-spec : {M : Type 1} → statement M
 unfolding readIn
@@ -24,6 +20,6 @@ read-cell-spec =
     (tie.spec
     (λ c κs. search needs)
     (λ c κs. search needs)
-    (λ c κs. search needs)
+    (λ c κs. (search, (omega arith, search)))
     returns
     (λ c. rw (← c .before .visible .ensures, c .if1 .left)))

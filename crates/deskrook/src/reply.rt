@@ -51,13 +51,6 @@ pub fn encode(answer: Answer) -> Reply
             stamp: 0,
             sum: 0,
         },
-        Answer::Version(v, stamp) => Reply {
-            result: 0,
-            first: to_word(v),
-            second: 0,
-            stamp: stamp,
-            sum: 0,
-        },
         Answer::Value(v) => Reply {
             result: 0,
             first: to_word(v),
@@ -84,6 +77,13 @@ pub fn encode(answer: Answer) -> Reply
             first: n,
             second: m,
             stamp: 0,
+            sum: 0,
+        },
+        Answer::Version(v, stamp) => Reply {
+            result: 0,
+            first: to_word(v),
+            second: 0,
+            stamp: stamp,
             sum: 0,
         },
     }

@@ -26,11 +26,6 @@ fn put_outcome(out: &mut [u8; LINE_BYTES], at: usize, answer: Answer) -> usize
             let next = put(out, at, b" ok");
             put_natural(out, next, n)
         }
-        Answer::Version(v, stamp) => {
-            let next = put(out, at, b" ok");
-            let last = put_integer(out, next, v as i64);
-            put_natural(out, last, stamp)
-        }
         Answer::Value(v) => {
             let next = put(out, at, b" ok");
             put_integer(out, next, v as i64)
@@ -45,6 +40,11 @@ fn put_outcome(out: &mut [u8; LINE_BYTES], at: usize, answer: Answer) -> usize
             let next = put(out, at, b" ok");
             let last = put_natural(out, next, n);
             put_natural(out, last, used)
+        }
+        Answer::Version(v, stamp) => {
+            let next = put(out, at, b" ok");
+            let last = put_integer(out, next, v as i64);
+            put_natural(out, last, stamp)
         }
     }
 }

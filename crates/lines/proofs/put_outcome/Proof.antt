@@ -13,6 +13,9 @@ use Rattle.lines.proofs.put_outcome.Tie as tie
 fits : (c : tie.After-known-told3) → SFits w32 (c .before .answer3 .given .0 .0)
 fits c = record { sfits = c .known-told3 .given .0 .1 }
 
+version-fits : (c : tie.After-known-told6) → SFits w32 (c .before .answer6 .given .0 .0)
+version-fits c = record { sfits = c .known-told6 .given .0 .1 }
+
 refused : tie.Need-returns
 unfolding outcome
 refused c =
@@ -60,6 +63,15 @@ lineage c =
     let merged = c .before .before .put-natural4 .ensures in
     rw (case .answer5 .given .1) (joined (word .put7 .ensures) (joined (merged .0) (c .put-natural5 .ensures .0)), omega (arith, word .put7 .ensures .ends))
 
+version : tie.Need-returns-8
+unfolding outcome
+version c =
+    let case : tie.After-known-told6 = search in
+    let word : tie.After-put8 = search in
+    let value : tie.After-put-integer3 = search in
+    let shown = rw (toZ-ofZ w32 _ (version-fits case), toZ-ofZ w64 _ (wide _ (version-fits case))) at (value .put-integer3 .ensures .0) in
+    rw (case .before .answer6 .given .1) (joined (word .put8 .ensures) (joined shown (c .put-natural6 .ensures .0)), omega (arith, word .put8 .ensures .ends))
+
 pub put-outcome-spec : {M : Type 1} → statement M
 put-outcome-spec =
     tie.close
@@ -94,10 +106,17 @@ put-outcome-spec =
     (λ c κs. search needs)
     (λ c κs. search needs)
     (λ c κs. search needs)
+    (λ c. search needs)
+    (λ c. search needs)
+    (λ c κs. search needs)
+    (λ c. let case : tie.After-known-told6 = search in wider _ (version-fits case))
+    (λ c κs. search needs)
+    (λ c κs. search needs)
     refused
     done
     number
     value
     none
     sum
-    lineage)
+    lineage
+    version)

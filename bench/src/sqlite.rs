@@ -42,8 +42,8 @@ const TABLE: &str = "CREATE TABLE versions (col INTEGER, row INTEGER, stamp INTE
 const INSERT: &str = "INSERT OR REPLACE INTO versions VALUES (?, ?, ?, ?)";
 const DELETE: &str = "DELETE FROM versions WHERE col = ? AND row = ? AND stamp = ?";
 const LATEST: &str =
-    "SELECT value FROM versions WHERE col = ? AND row = ? ORDER BY stamp DESC LIMIT 1";
-const READ_AT: &str = "SELECT value FROM versions WHERE col = ? AND row = ? AND stamp <= ?
+    "SELECT value, stamp FROM versions WHERE col = ? AND row = ? ORDER BY stamp DESC LIMIT 1";
+const READ_AT: &str = "SELECT value, stamp FROM versions WHERE col = ? AND row = ? AND stamp <= ?
     ORDER BY stamp DESC LIMIT 1";
 /// With max() SQLite takes the other columns from the row that has the greatest.
 const SUM: &str = "SELECT count(*), sum(value) FROM (SELECT value, max(stamp) FROM versions
@@ -160,9 +160,12 @@ fn kinds(filled: &Filled) -> Vec<(&'static str, f64, Vec<Call>)> {
     ];
     let answers = calls.each_ref().map(|call| filled.clone().call(call));
     let [r, s, last] = [row, half, filled.last].map(i64::from);
-    let value = |found: Option<(i64, i64)>| Answer::Value(found.expect("a version").0 as i32);
-    assert_eq!(answers[0], value(latest.run(&[0, r])));
-    assert_eq!(answers[1], value(read_at.run(&[0, r, s])));
+    let version = |found: Option<(i64, i64)>| {
+        let (value, stamp) = found.expect("a version");
+        Answer::Version { value: value as i32, stamp: stamp as u32 }
+    };
+    assert_eq!(answers[0], version(latest.run(&[0, r])));
+    assert_eq!(answers[1], version(read_at.run(&[0, r, s])));
     let (count, total) = sum.run(&[0, last]).expect("a sum");
     assert_eq!(answers[2], Answer::Sum { count: count as u32, sum: total });
 

@@ -104,9 +104,19 @@ struct PageWords {
     newest: u32,
 }
 
-enum Walk {
-    Found(u32),
-    Stopped(usize),
+/// The number above which every record of a range lies.
+const FLOOR: u32 = 0;
+
+enum Found {
+    At(usize),
+    Nothing,
+}
+
+/// The row's insert, or the update whose record is at a slot.
+#[derive(Clone, Copy)]
+enum Setter {
+    Insert,
+    Update(usize),
 }
 
 fn range_of(row: usize) -> usize {
@@ -267,18 +277,18 @@ impl View {
         sees(stamp, own, x.state, x.stamp, x.transaction) && !(self.has_record(row) && ended)
     }
 
-    fn walk(&self, g: usize, c: usize, stamp: u32, own: u32, low: usize, k: usize) -> Walk {
+    fn walk(&self, g: usize, c: usize, stamp: u32, own: u32, low: usize, k: usize) -> Found {
         let (mut steps, mut k) = (k, k);
         while steps > 0 && k > low {
             let x = self.record_in(self.slot(g, k));
             let seen = sees(stamp, own, x.state, x.stamp, x.transaction);
             if bit(x.mask, c) && (x.kind == 0 || (x.kind == 1 && seen)) {
-                return Walk::Found(self.value_in(self.slot(g, k), c));
+                return Found::At(self.slot(g, k));
             }
             k = x.link as usize;
             steps -= 1;
         }
-        Walk::Stopped(k)
+        Found::Nothing
     }
 
     fn word_in(&self, stamp: u32, own: u32, page: usize, row: usize, c: usize) -> u32 {
@@ -287,19 +297,41 @@ impl View {
         if !bit(x.mask, c) {
             return cell;
         }
-        match self.walk(g, c, stamp, own, p.lineage as usize, x.link as usize) {
-            Walk::Found(word) => word,
-            Walk::Stopped(_) if p.newest <= stamp => cell,
-            Walk::Stopped(k) => match self.walk(g, c, stamp, own, 0, k) {
-                Walk::Found(word) => word,
-                Walk::Stopped(_) => cell,
-            },
+        let down_to = if p.newest <= stamp { p.lineage } else { FLOOR };
+        match self.walk(g, c, stamp, own, down_to as usize, x.link as usize) {
+            Found::At(slot) => self.value_in(slot, c),
+            Found::Nothing => cell,
+        }
+    }
+
+    fn setter_in(&self, stamp: u32, own: u32, row: usize, c: usize) -> Setter {
+        let x = self.row_in(row);
+        if !bit(x.mask, c) {
+            return Setter::Insert;
+        }
+        match self.walk(range_of(row), c, stamp, own, FLOOR as usize, x.link as usize) {
+            Found::At(slot) if self.record_in(slot).kind != 0 => Setter::Update(slot),
+            _ => Setter::Insert,
+        }
+    }
+
+    fn setter_stamp(&self, row: usize, setter: Setter) -> u32 {
+        let (state, stamp) = match setter {
+            Setter::Insert => (self.row_in(row).state, self.row_in(row).stamp),
+            Setter::Update(slot) => (self.record_in(slot).state, self.record_in(slot).stamp),
+        };
+        if state == 1 {
+            stamp
+        } else {
+            0
         }
     }
 
     fn read_in(&self, stamp: u32, own: u32, page: usize, row: usize, c: usize) -> Answer {
         if self.visible_in(stamp, own, row) {
-            Answer::Value(self.word_in(stamp, own, page, row, c) as i32)
+            let value = self.word_in(stamp, own, page, row, c) as i32;
+            let setter = self.setter_in(stamp, own, row, c);
+            Answer::Version { value, stamp: self.setter_stamp(row, setter) }
         } else {
             Answer::None
         }

@@ -1,7 +1,7 @@
 //! The compiled library as a `Store`: through its C interface, and through the Rust crate over it.
 
 use deskrook::c::{self, Reply};
-use deskrook::{Mask, Refusal, Row, ScanNumber, Stamp, Tail, Transaction};
+use deskrook::{Mask, Refusal, Row, ScanNumber, Stamp, Tail, Transaction, Version};
 use reference::{Answer, Call, Shape};
 
 use crate::memory::ScanEntry;
@@ -21,8 +21,8 @@ impl Store for Library {
         // SAFETY: it takes numbers alone.
         let reply = unsafe { c::deskrook_bytes_needed(columns, ranges, capacity, spares) };
         let (answer, fields) = match reply.result {
-            c::OK => (Ok(reply.first as usize), (reply.first, 0, 0)),
-            number => (Err(refusal(number)), (0, 0, 0)),
+            c::OK => (Ok(reply.first as usize), (reply.first, 0, 0, 0)),
+            number => (Err(refusal(number)), (0, 0, 0, 0)),
         };
         filled(&reply, fields);
         answer
@@ -36,7 +36,7 @@ impl Store for Library {
         let reply = unsafe {
             c::deskrook_make(mem, bytes, list, entries, columns, ranges, capacity, spares)
         };
-        filled(&reply, (0, 0, 0));
+        filled(&reply, (0, 0, 0, 0));
         match reply.result {
             c::OK => Answer::Done,
             number => Answer::Refused(refusal(number)),
@@ -108,9 +108,13 @@ fn refusal(number: u32) -> u8 {
     number as u8
 }
 
+/// First, second, stamp and sum.
+type Fields = (u32, u32, u32, i64);
+
 /// A field that an answer does not have must be 0.
-fn filled(reply: &Reply, fields: (u32, u32, i64)) {
-    assert_eq!((reply.first, reply.second, reply.sum), fields, "{reply:?} fills another field");
+fn filled(reply: &Reply, fields: Fields) {
+    let Reply { first, second, stamp, sum, .. } = *reply;
+    assert_eq!((first, second, stamp, sum), fields, "{reply:?} fills another field");
 }
 
 /// The answer that a call's reply stands for.
@@ -119,28 +123,30 @@ fn answer(call: &Call, reply: &Reply) -> Answer {
         c::OK => accepted(call, reply),
         c::NONE => {
             assert!(reads(call), "{call:?} does not answer none");
-            (Answer::None, (0, 0, 0))
+            (Answer::None, (0, 0, 0, 0))
         }
-        number => (Answer::Refused(refusal(number)), (0, 0, 0)),
+        number => (Answer::Refused(refusal(number)), (0, 0, 0, 0)),
     };
     filled(reply, fields);
     answer
 }
 
 /// An accepted call's answer, and the fields that it has.
-fn accepted(call: &Call, reply: &Reply) -> (Answer, (u32, u32, i64)) {
-    let &Reply { first, second, sum, .. } = reply;
+fn accepted(call: &Call, reply: &Reply) -> (Answer, Fields) {
+    let &Reply { first, second, stamp, sum, .. } = reply;
     match call {
-        Call::Sum { .. } => (Answer::Sum { count: first, sum }, (first, 0, sum)),
+        Call::Sum { .. } => (Answer::Sum { count: first, sum }, (first, 0, 0, sum)),
         Call::Lineage { .. } => {
-            (Answer::Lineage { through: first, used: second }, (first, second, 0))
+            (Answer::Lineage { through: first, used: second }, (first, second, 0, 0))
         }
         Call::Commit { .. } | Call::Abort { .. } | Call::Close { .. } | Call::Merge { .. } => {
-            (Answer::Done, (0, 0, 0))
+            (Answer::Done, (0, 0, 0, 0))
         }
-        Call::PageCell { .. } => (Answer::Value(first as i32), (first, 0, 0)),
-        _ if reads(call) => (Answer::Value(first as i32), (first, 0, 0)),
-        _ => (Answer::Number(first), (first, 0, 0)),
+        Call::PageCell { .. } => (Answer::Value(first as i32), (first, 0, 0, 0)),
+        _ if reads(call) => {
+            (Answer::Version { value: first as i32, stamp }, (first, 0, stamp, 0))
+        }
+        _ => (Answer::Number(first), (first, 0, 0, 0)),
     }
 }
 
@@ -183,7 +189,9 @@ fn list(scans: &mut [ScanEntry]) -> &mut [deskrook::ScanEntry] {
 
 fn wrapped(store: &mut deskrook::Store, call: &Call) -> Result<Answer, Refusal> {
     let done = |()| Answer::Done;
-    let value = |value: Option<i32>| value.map_or(Answer::None, Answer::Value);
+    let version = |found: Option<Version>| {
+        found.map_or(Answer::None, |it| Answer::Version { value: it.value, stamp: it.stamp.0 })
+    };
     let record = |tail: Tail| Answer::Number(tail.0);
     match *call {
         Call::Begin => store.begin().map(|transaction| Answer::Number(transaction.0)),
@@ -200,18 +208,18 @@ fn wrapped(store: &mut deskrook::Store, call: &Call) -> Result<Answer, Refusal> 
             store.commit(Transaction(transaction), Stamp(stamp)).map(done)
         }
         Call::Abort { transaction } => store.abort(Transaction(transaction)).map(done),
-        Call::Latest { row, column } => store.latest(Row(row), column).map(value),
+        Call::Latest { row, column } => store.latest(Row(row), column).map(version),
         Call::ReadAt { stamp, row, column } => {
-            store.read_at(Stamp(stamp), Row(row), column).map(value)
+            store.read_at(Stamp(stamp), Row(row), column).map(version)
         }
         Call::OwnRead { transaction, row, column } => {
-            store.own_read(Transaction(transaction), Row(row), column).map(value)
+            store.own_read(Transaction(transaction), Row(row), column).map(version)
         }
         Call::OpenScan { stamp } => {
             store.open_scan(Stamp(stamp)).map(|scan| Answer::Number(scan.0))
         }
         Call::ScanRead { scan, row, column } => {
-            store.scan_read(ScanNumber(scan), Row(row), column).map(value)
+            store.scan_read(ScanNumber(scan), Row(row), column).map(version)
         }
         Call::Sum { scan, column } => store
             .sum(ScanNumber(scan), column)

@@ -39,6 +39,11 @@ wrong_stores! {
     merge_forgets_newest: MERGE_FORGETS_NEWEST,
     merge_applies_nothing: MERGE_APPLIES_NOTHING,
     commit_forgets_records: COMMIT_FORGETS_RECORDS,
+    stamp_of_the_row: STAMP_OF_THE_ROW,
+    stamp_of_the_page: STAMP_OF_THE_PAGE,
+    stamp_of_the_updater: STAMP_OF_THE_UPDATER,
+    pending_at_the_last: PENDING_AT_THE_LAST,
+    stamp_of_an_aborted: STAMP_OF_AN_ABORTED,
 }
 
 /// An original holds what the page has before any setting of its row and column, and a merge goes

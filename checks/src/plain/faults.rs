@@ -24,3 +24,13 @@ pub const MERGE_FORGETS_NEWEST: u8 = 16;
 pub const MERGE_APPLIES_NOTHING: u8 = 17;
 /// Commit marks the rows and forgets the records.
 pub const COMMIT_FORGETS_RECORDS: u8 = 18;
+/// A read shows the stamp of the row's last change, and not the column's.
+pub const STAMP_OF_THE_ROW: u8 = 19;
+/// Where the page has the value, its newest stamp is shown.
+pub const STAMP_OF_THE_PAGE: u8 = 20;
+/// An original is shown with the stamp of the update that wrote it down.
+pub const STAMP_OF_THE_UPDATER: u8 = 21;
+/// A pending value is shown with the last commit's stamp.
+pub const PENDING_AT_THE_LAST: u8 = 22;
+/// The column's newest setting gives the stamp, also where it is aborted.
+pub const STAMP_OF_AN_ABORTED: u8 = 23;

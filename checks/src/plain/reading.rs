@@ -1,5 +1,6 @@
 //! What a reader finds: the page's cell, the tail records above the page's lineage, and the
-//! records further down only where the page is newer than the reader's stamp.
+//! records further down only where the page is newer than the reader's stamp; and who set it, which
+//! the records alone say.
 
 use reference::Answer;
 
@@ -20,12 +21,6 @@ struct Page {
     newest: u32,
 }
 
-/// Where a walk along the links ended.
-enum Walk {
-    Found(u32),
-    Stopped(usize),
-}
-
 impl<const FAULT: u8> Table<'_, FAULT> {
     /// The read of the current page.
     pub(super) fn read(&self, stamp: u32, own: u32, row: usize, column: usize) -> Answer {
@@ -43,7 +38,23 @@ impl<const FAULT: u8> Table<'_, FAULT> {
         if !self.visible(stamp, own, row) {
             return Answer::None;
         }
-        Answer::Value(self.value(stamp, own, at, row, column) as i32)
+        let cell = self.cell(at, row);
+        let page = self.page(at);
+        let reader = Reader { stamp, own, range: row / ROWS, column };
+        // One walk serves both: where it ends below the lineage, the page has the value.
+        let found = self.is_set(row, column).then(|| self.walk(&reader, 0, self.link(row))).flatten();
+        let value = self.word(&reader, &page, cell, found) as i32;
+        Answer::Version { value, stamp: self.stamp(&reader, &page, row, found) }
+    }
+
+    /// Whether an update has set the column. One that none has set is in the page alone.
+    fn is_set(&self, row: usize, column: usize) -> bool {
+        self.get(Region::RowMask, row) >> column & 1 != 0
+    }
+
+    /// The number of the row's newest record, 0 for none.
+    fn link(&self, row: usize) -> usize {
+        self.get(Region::RowLink, row) as usize
     }
 
     /// Committed by the stamp, or the reader's own.
@@ -97,55 +108,92 @@ impl<const FAULT: u8> Table<'_, FAULT> {
         }
     }
 
-    /// The word of a row and column for a reader who sees the row. A column that no update has
-    /// set is in the page alone.
-    fn value(&self, stamp: u32, own: u32, at: usize, row: usize, column: usize) -> u32 {
-        let cell = self.cell(at, row);
-        if self.get(Region::RowMask, row) >> column & 1 == 0 {
-            return cell;
-        }
-        let reader = Reader { stamp, own, range: row / ROWS, column };
-        let first = self.get(Region::RowLink, row) as usize;
-        self.set_value(&reader, &self.page(at), cell, first)
-    }
-
-    /// The same for a column that an update has set; `first` is the row's newest record.
+    /// How far down the reader looks for a value.
     #[inline(always)]
-    fn set_value(&self, reader: &Reader, page: &Page, cell: u32, first: usize) -> u32 {
-        let k = match self.walk(reader, page.lineage, first, true) {
-            Walk::Found(word) => return word,
-            Walk::Stopped(k) => k,
-        };
+    fn down_to(reader: &Reader, page: &Page) -> usize {
         if page.newest <= reader.stamp || FAULT == faults::NO_NEWEST_TEST {
-            return cell;
-        }
-        match self.walk(reader, 0, k, FAULT != faults::ORIGINAL_FORGOTTEN) {
-            Walk::Found(word) => word,
-            // The column's original lies above the lineage, so no setting of it is in the page.
-            Walk::Stopped(_) => cell,
+            page.lineage
+        } else {
+            0
         }
     }
 
-    /// From record k back along the links, down to `low`, to the first record that answers: a
-    /// seen setting of the column, or its original, below which no setting of it lies.
+    /// The word, where `found` is the newest record that answers.
     #[inline(always)]
-    fn walk(&self, reader: &Reader, low: usize, mut k: usize, originals: bool) -> Walk {
+    fn word(&self, reader: &Reader, page: &Page, cell: u32, found: Option<usize>) -> u32 {
+        let Some(k) = found.filter(|k| *k > Self::down_to(reader, page)) else {
+            return cell;
+        };
+        let slot = self.layout.slot(reader.range, k);
+        let original = || self.get(Region::TailKind, slot) == kind::ORIGINAL;
+        if FAULT == faults::ORIGINAL_FORGOTTEN && k <= page.lineage && original() {
+            return cell;
+        }
+        self.get(Region::TailValues, slot * self.layout.columns + reader.column)
+    }
+
+    /// The stamp of the commit that set it, 0 where there is none: of the record that answers, but
+    /// the insert's where that is an original.
+    fn stamp(&self, reader: &Reader, page: &Page, row: usize, found: Option<usize>) -> u32 {
+        let inserted = (self.get(Region::RowState, row), self.get(Region::RowStamp, row));
+        let of = |k| {
+            let slot = self.layout.slot(reader.range, k);
+            (self.get(Region::TailState, slot), self.get(Region::TailStamp, slot))
+        };
+        let original =
+            |k| self.get(Region::TailKind, self.layout.slot(reader.range, k)) == kind::ORIGINAL;
+        let (state, stamp) = match found {
+            _ if FAULT == faults::STAMP_OF_THE_ROW && self.link(row) != 0 => of(self.link(row)),
+            _ if FAULT == faults::STAMP_OF_AN_ABORTED && self.newest_of(reader, row) != 0 => {
+                of(self.newest_of(reader, row))
+            }
+            Some(k) if FAULT == faults::STAMP_OF_THE_PAGE && k <= page.lineage => {
+                (state::COMMITTED, page.newest)
+            }
+            Some(k) if FAULT == faults::STAMP_OF_THE_UPDATER => of(k),
+            Some(k) if !original(k) => of(k),
+            _ => inserted,
+        };
+        match state {
+            state::COMMITTED => stamp,
+            _ if FAULT == faults::PENDING_AT_THE_LAST => self.header(header::LAST_STAMP),
+            _ => 0,
+        }
+    }
+
+    /// The number of the newest setting of the column, seen or not; 0 for none.
+    fn newest_of(&self, reader: &Reader, row: usize) -> usize {
+        let mut k = self.link(row);
+        while k > 0 {
+            let slot = self.layout.slot(reader.range, k);
+            let set = self.get(Region::TailMask, slot) >> reader.column & 1 != 0;
+            if set && self.get(Region::TailKind, slot) == kind::SETTING {
+                return k;
+            }
+            k = self.get(Region::TailLink, slot) as usize;
+        }
+        0
+    }
+
+    /// From record k back along the links, down to `low`, to the number of the first record that
+    /// answers: a seen setting of the column, or its original, below which no setting of it lies.
+    #[inline(always)]
+    fn walk(&self, reader: &Reader, low: usize, mut k: usize) -> Option<usize> {
         let Reader { stamp, own, range, column } = *reader;
         while k > low {
             let slot = self.layout.slot(range, k);
             let answers = self.get(Region::TailMask, slot) >> column & 1 != 0
                 && match self.get(Region::TailKind, slot) {
-                    kind::ORIGINAL => originals,
+                    kind::ORIGINAL => true,
                     kind::SETTING => self.sees_record(stamp, own, slot),
                     _ => false,
                 };
             if answers {
-                let value = slot * self.layout.columns + column;
-                return Walk::Found(self.get(Region::TailValues, value));
+                return Some(k);
             }
             k = self.get(Region::TailLink, slot) as usize;
         }
-        Walk::Stopped(k)
+        None
     }
 
     /// The page of a place that was current when so many merges had been made.
@@ -190,8 +238,12 @@ impl<const FAULT: u8> Table<'_, FAULT> {
                 if !seen || ended() {
                     continue;
                 }
-                let set = mask >> column & 1 != 0;
-                let word = if set { self.set_value(&reader, &page, cell, link) } else { cell };
+                let found = if mask >> column & 1 != 0 {
+                    self.walk(&reader, Self::down_to(&reader, &page), link)
+                } else {
+                    None
+                };
+                let word = self.word(&reader, &page, cell, found);
                 count += 1;
                 sum += i64::from(word as i32);
             }

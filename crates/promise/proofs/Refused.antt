@@ -1,4 +1,5 @@
 -- A refused call leaves every byte and every entry as it was: of any memory and list, also of those that no call made.
+use Prim.Native.Nat.{ℕ}
 use mathlib.Core.Path.{_≡_, refl, ap, sym, _∙_}
 use mathlib.Core.Bool.{Bool, true, false, cond, true≢false}
 use mathlib.Core.List.{List}

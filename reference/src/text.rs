@@ -59,7 +59,8 @@ pub const NAMES: [&str; 17] = [
 const BYTES_A_LINE: usize = 16;
 
 /// The measures of a shape line with their widths in bytes.
-const MEASURES: [(&str, usize); 4] = [("columns", 1), ("ranges", 1), ("capacity", 2), ("spares", 2)];
+const MEASURES: [(&str, usize); 4] =
+    [("columns", 1), ("ranges", 1), ("capacity", 2), ("spares", 2)];
 
 /// The readable lines of a byte string.
 pub fn decode(bytes: &[u8]) -> String {
@@ -69,7 +70,8 @@ pub fn decode(bytes: &[u8]) -> String {
         return lines;
     };
     let shape = program::shape(first);
-    lines += &format!("shape {} {} {} {}\n", shape.columns, shape.ranges, shape.capacity, shape.spares);
+    lines +=
+        &format!("shape {} {} {} {}\n", shape.columns, shape.ranges, shape.capacity, shape.spares);
     while let Some((byte, operands)) = rest.split_first() {
         let Some(fields) = command::operands(*byte, shape.columns as usize) else {
             break;

@@ -27,7 +27,11 @@ use crate::text::NAMES;
 pub fn write(seed: u64, calls: usize, output: &mut impl Write) -> io::Result<()> {
     let shape = generate::shape(seed);
     let mut history = History::new(shape);
-    writeln!(output, "shape {} {} {} {}", shape.columns, shape.ranges, shape.capacity, shape.spares)?;
+    writeln!(
+        output,
+        "shape {} {} {} {}",
+        shape.columns, shape.ranges, shape.capacity, shape.spares
+    )?;
     for call in generate::calls(seed, shape, calls) {
         let answer = history.call(&call);
         writeln!(output, "{} => {}", call_words(&call), answer_words(&answer))?;

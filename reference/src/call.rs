@@ -60,10 +60,16 @@ pub enum Answer {
     Done,
     /// A transaction, row, tail record or scan number, or the count of pages that a release freed.
     Number(u32),
-    /// The value read.
-    Value(i32),
-    /// The row is not there for this reader.
+    /// The value read, and the stamp of the commit that set that column in that row, 0 where the
+    /// value is the reader's own and pending: latest, read at, own read, scan read.
+    Version {
+        value: i32,
+        stamp: u32,
+    },
+    /// The row is not there for this reader. There is no value, and so no stamp.
     None,
+    /// What a page cell holds.
+    Value(i32),
     Sum {
         count: u32,
         sum: i64,

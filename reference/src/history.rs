@@ -1,5 +1,6 @@
 //! The plain version history of document 01 ("The plain history, call by call"): its lists, what an
-//! accepted call does to them, and the reads. The tests of each call are in `refusals`.
+//! accepted call does to them, and the reads, which give the stamps of document 02's Item 1 too.
+//! The tests of each call are in `refusals`.
 
 mod refusals;
 
@@ -76,6 +77,14 @@ pub struct History {
     open_scans: Vec<u32>,
 }
 
+/// A value of a row and column, and the transaction that set it: that of the setting, or the row's
+/// inserter where the value is the inserted one. An original's transaction set nothing.
+#[derive(Clone, Copy, Debug, PartialEq)]
+struct Version {
+    value: i32,
+    setter: u32,
+}
+
 impl Record {
     /// The value to which this record sets a column, if it does.
     fn setting(&self, column: u32) -> Option<i32> {
@@ -139,9 +148,9 @@ impl History {
         &self.open_scans
     }
 
-    /// "The latest is the read at the last commit's stamp, 0 in a new store."
-    pub fn latest(&self, row: u32, column: u32) -> Option<i32> {
-        self.value_at(self.last_stamp, row, column)
+    /// Whether a latest read of the row gives a value.
+    pub fn is_there(&self, row: u32) -> bool {
+        self.latest(row, 0).is_some()
     }
 
     /// The tail records used in a range.
@@ -222,12 +231,12 @@ impl History {
             }
             Call::Release => Answer::Number(self.release()),
             // "Reads follow the rules above and alter nothing"
-            Call::Latest { row, column } => read(self.latest(row, column)),
-            Call::ReadAt { stamp, row, column } => read(self.value_at(stamp, row, column)),
+            Call::Latest { row, column } => self.read(self.latest(row, column)),
+            Call::ReadAt { stamp, row, column } => self.read(self.version_at(stamp, row, column)),
             Call::OwnRead { transaction, row, column } => {
-                read(self.own_value(transaction, row, column))
+                self.read(self.own_version(transaction, row, column))
             }
-            Call::ScanRead { scan, row, column } => read(self.scan_value(scan, row, column)),
+            Call::ScanRead { scan, row, column } => self.read(self.scan_version(scan, row, column)),
             Call::Sum { scan, column } => self.sum(scan, column),
             Call::PageCell { column, row } => Answer::Value(self.page_cell(column, row)),
             // "Lineage is the n of the last merge there, else 0, and the records used."
@@ -291,45 +300,64 @@ impl History {
         (0..self.shape.columns).filter(|column| names(mask, *column) && !set(*column)).collect()
     }
 
-    /// The value of a row and column for a reader to whom the changes of some transactions count.
+    /// The version of a row and column for a reader to whom the changes of some transactions count.
     /// An open transaction holds the rows it changed, so the records of one row stand in the order
     /// of their commits, with those of an open transaction after them: the last record that
     /// counts holds the last value, and an end comes after every value.
-    fn value(&self, row: u32, column: u32, counts: impl Fn(u32) -> bool) -> Option<i32> {
-        let inserted = &self.rows[row as usize];
-        if !counts(inserted.inserter) {
+    fn version(&self, row: u32, column: u32, counts: impl Fn(u32) -> bool) -> Option<Version> {
+        let Row { inserter, ref values } = self.rows[row as usize];
+        if !counts(inserter) {
             return None;
         }
-        let mut value = inserted.values[column as usize];
-        for record in self.records_of(row) {
-            if counts(record.transaction) {
-                if record.holds == Holds::Delete {
-                    return None;
-                }
-                value = record.setting(column).unwrap_or(value);
+        let mut version = Version { value: values[column as usize], setter: inserter };
+        for record in self.records_of(row).filter(|record| counts(record.transaction)) {
+            if record.holds == Holds::Delete {
+                return None;
+            }
+            if let Some(value) = record.setting(column) {
+                version = Version { value, setter: record.transaction };
             }
         }
-        Some(value)
+        Some(version)
     }
 
     /// "A read at stamp t gives the last such value at or before t, or "none" if the row was not
     /// inserted by t or ended by t."
-    fn value_at(&self, stamp: u32, row: u32, column: u32) -> Option<i32> {
-        self.value(
+    fn version_at(&self, stamp: u32, row: u32, column: u32) -> Option<Version> {
+        self.version(
             row,
             column,
             |transaction| matches!(self.state(transaction), State::Committed(at) if at <= stamp),
         )
     }
 
+    /// "The latest is the read at the last commit's stamp, 0 in a new store."
+    fn latest(&self, row: u32, column: u32) -> Option<Version> {
+        self.version_at(self.last_stamp, row, column)
+    }
+
     /// "A transaction's own read sees its pending changes above the latest."
-    fn own_value(&self, own: u32, row: u32, column: u32) -> Option<i32> {
-        self.value(row, column, |transaction| transaction == own || self.committed(transaction))
+    fn own_version(&self, own: u32, row: u32, column: u32) -> Option<Version> {
+        self.version(row, column, |transaction| transaction == own || self.committed(transaction))
     }
 
     /// "A scan keeps the stamp it was opened with."
-    fn scan_value(&self, scan: u32, row: u32, column: u32) -> Option<i32> {
-        self.value_at(self.scans[scan as usize - 1].stamp, row, column)
+    fn scan_version(&self, scan: u32, row: u32, column: u32) -> Option<Version> {
+        self.version_at(self.scans[scan as usize - 1].stamp, row, column)
+    }
+
+    /// What a single-cell read answers. Document 02, Item 1: "Every single-cell read that gives a
+    /// value (07, 08, 09, 0B) must also give the stamp of the commit that set that column in that
+    /// row, the insert included; a pending value of one's own gives 0."
+    fn read(&self, version: Option<Version>) -> Answer {
+        let Some(Version { value, setter }) = version else { return Answer::None };
+        let stamp = match self.state(setter) {
+            State::Committed(stamp) => stamp,
+            // Nobody but the transaction itself reads what it has not committed.
+            State::Open => 0,
+            State::Aborted => unreachable!("no reader counts an aborted change"),
+        };
+        Answer::Version { value, stamp }
     }
 
     /// "Its sum gives the count of rows seen and the 64-bit signed sum of one column": "a sum
@@ -338,9 +366,9 @@ impl History {
         let mut count = 0;
         let mut sum = 0;
         for row in 0..self.rows_given() {
-            if let Some(value) = self.scan_value(scan, row, column) {
+            if let Some(version) = self.scan_version(scan, row, column) {
                 count += 1;
-                sum += i64::from(value);
+                sum += i64::from(version.value);
             }
         }
         Answer::Sum { count, sum }
@@ -372,8 +400,4 @@ fn names(mask: u16, column: u32) -> bool {
 /// A caller's value for a column, 0 where the list is too short.
 fn value_of(values: &[i32], column: u32) -> i32 {
     values.get(column as usize).copied().unwrap_or(0)
-}
-
-fn read(value: Option<i32>) -> Answer {
-    value.map_or(Answer::None, Answer::Value)
 }

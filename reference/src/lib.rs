@@ -1,5 +1,6 @@
-//! The second program: the plain version history of document 01, written from that document
-//! alone, with gatebook's input and output on top of it. The store is compared with it.
+//! The second program: the plain version history of document 01, with Item 1 of document 02,
+//! written from these documents alone, with gatebook's input and output on top of it. The store is
+//! compared with it.
 
 #![forbid(unsafe_code)]
 

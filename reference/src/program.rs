@@ -84,14 +84,16 @@ fn within_lent(shape: &Shape) -> bool {
         && shape.spares <= LENT.spares
 }
 
-/// "ok" and the answer's fields in decimal ("none" for none), or "no" and the number.
+/// "ok" and the answer's fields in decimal ("none" for none), or "no" and the number. Document 02,
+/// Item 1: "The printed lines gain this number after the value".
 pub fn fields_of(answer: &Answer) -> String {
     match answer {
         Answer::Refused(number) => format!("no {number}"),
         Answer::Done => "ok".to_string(),
         Answer::Number(number) => format!("ok {number}"),
-        Answer::Value(value) => format!("ok {value}"),
+        Answer::Version { value, stamp } => format!("ok {value} {stamp}"),
         Answer::None => "ok none".to_string(),
+        Answer::Value(value) => format!("ok {value}"),
         Answer::Sum { count, sum } => format!("ok {count} {sum}"),
         Answer::Lineage { through, used } => format!("ok {through} {used}"),
     }

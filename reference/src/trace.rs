@@ -8,10 +8,11 @@
 //!        | "own-read" T row column | "open-scan" stamp | "scan-read" scan row column
 //!        | "sum" scan column | "close" scan | "merge" range column through | "release"
 //!        | "page-cell" column row | "lineage" range column
-//! answer = "refused" number | "done" | "number" number | "value" value | "none"
-//!        | "sum" count sum | "lineage" through used
+//! answer = "refused" number | "done" | "number" number | "version" value stamp | "none"
+//!        | "value" value | "sum" count sum | "lineage" through used
 //! ```
 //!
+//! "version" and "none" answer the four single-cell reads, "value" a page cell.
 //! All numbers are decimal; values and sums may have a minus sign. `value*` is one value for each
 //! column. Every number fits the width that the command bytes give it.
 
@@ -53,8 +54,9 @@ pub fn answer_words(answer: &Answer) -> String {
         Answer::Refused(number) => format!("refused {number}"),
         Answer::Done => "done".to_string(),
         Answer::Number(number) => format!("number {number}"),
-        Answer::Value(value) => format!("value {value}"),
+        Answer::Version { value, stamp } => format!("version {value} {stamp}"),
         Answer::None => "none".to_string(),
+        Answer::Value(value) => format!("value {value}"),
         Answer::Sum { count, sum } => format!("sum {count} {sum}"),
         Answer::Lineage { through, used } => format!("lineage {through} {used}"),
     }

@@ -195,8 +195,8 @@ fn missing_values_are_0_and_further_ones_ignored() {
     history.call(&Call::Insert { transaction: 1, values: vec![1, 2, 3] });
     history.call(&Call::Update { transaction: 1, row: 1, mask: 2, values: vec![7] });
     let mut own = |row| history.call(&Call::OwnRead { transaction: 1, row, column: 1 });
-    assert_eq!(own(0), Answer::Value(0));
-    assert_eq!(own(1), Answer::Value(0));
+    assert_eq!(own(0), Answer::Version { value: 0, stamp: 0 });
+    assert_eq!(own(1), Answer::Version { value: 0, stamp: 0 });
 }
 
 #[test]
@@ -215,4 +215,7 @@ fn a_trace_has_the_documented_form() {
     let update = Call::Update { transaction: 2, row: 0, mask: 1, values: vec![1250, 0] };
     assert_eq!(trace::call_words(&update), "update 2 0 1 1250 0");
     assert_eq!(trace::answer_words(&Answer::Sum { count: 1, sum: -5 }), "sum 1 -5");
+    let version = Answer::Version { value: -30, stamp: 10 };
+    assert_eq!(trace::answer_words(&version), "version -30 10");
+    assert_eq!(trace::answer_words(&Answer::Value(-30)), "value -30");
 }

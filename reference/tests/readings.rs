@@ -129,14 +129,14 @@ fn a_commit_refused_for_its_time_remains_open() {
          begin
          update 2 0 mask 1 6 0
          commit 2 10 => no 13
-         own-read 2 0 0 => ok 6
+         own-read 2 0 0 => ok 6 0
          update 3 0 mask 1 7 0 => no 9
          commit 2 11
-         latest 0 0 => ok 6
+         latest 0 0 => ok 6 11
          update 3 0 mask 1 7 0
          commit 3 0 => no 13
          abort 3
-         latest 0 0 => ok 6",
+         latest 0 0 => ok 6 11",
     );
 }
 
@@ -164,7 +164,7 @@ fn read_at_tests_the_stamp_then_row_then_column() {
         "read-at 11 9 9 => no 13
          read-at 10 9 9 => no 5
          read-at 10 0 9 => no 6
-         read-at 10 0 1 => ok 50",
+         read-at 10 0 1 => ok 50 10",
     );
 }
 
@@ -224,7 +224,7 @@ fn after_the_greatest_stamp_nothing_can_be_committed() {
          begin
          update 2 0 mask 1 6
          commit 2 4294967295 => no 13
-         read-at 4294967295 0 0 => ok 5
+         read-at 4294967295 0 0 => ok 5 4294967295
          read-at 4294967294 0 0 => ok none
          open-scan 4294967295
          sum 1 0 => ok 1 5",
@@ -256,7 +256,7 @@ fn a_row_inserted_by_another_open_transaction() {
          begin
          insert 2 7 70
          own-read 3 1 0 => ok none
-         own-read 2 1 0 => ok 7
+         own-read 2 1 0 => ok 7 0
          update 3 1 mask 1 8 0 => no 9
          delete 3 1 => no 9
          latest 1 0 => ok none
@@ -275,11 +275,11 @@ fn an_own_delete_is_gone_for_its_transaction_alone() {
          update 2 0 mask 1 6 0 => no 10
          delete 2 0 => no 10
          own-read 2 0 0 => ok none
-         latest 0 0 => ok 5
+         latest 0 0 => ok 5 10
          abort 2
          begin
          update 3 0 mask 1 6 0 => ok 3
-         own-read 3 0 0 => ok 6",
+         own-read 3 0 0 => ok 6 0",
     );
 }
 
@@ -314,7 +314,7 @@ fn the_callers_view_moves_with_the_latest() {
          begin
          update 3 0 mask 1 6 0
          commit 3 20
-         own-read 2 0 0 => ok 6
+         own-read 2 0 0 => ok 6 20
          update 2 0 mask 1 7 0 => ok 3
          abort 2
          begin
@@ -375,18 +375,18 @@ fn the_order_of_commits_is_not_that_of_begins() {
          update 2 1 mask 1 8
          commit 2 10
          read-at 10 0 0 => ok none
-         read-at 10 1 0 => ok 8
+         read-at 10 1 0 => ok 8 10
          commit 1 20
          read-at 10 0 0 => ok none
-         read-at 20 0 0 => ok 7
+         read-at 20 0 0 => ok 7 20
          begin
          begin
          update 4 0 mask 1 9
          commit 4 30
          update 3 0 mask 1 10
          commit 3 40
-         read-at 30 0 0 => ok 9
-         latest 0 0 => ok 10",
+         read-at 30 0 0 => ok 9 30
+         latest 0 0 => ok 10 40",
     );
 }
 
@@ -400,7 +400,7 @@ fn an_update_before_a_delete_in_one_transaction_is_applied_by_a_merge() {
          update 2 0 mask 1 6 0
          delete 2 0
          commit 2 20
-         read-at 19 0 0 => ok 5
+         read-at 19 0 0 => ok 5 10
          latest 0 0 => ok none
          merge 0 0 3
          page-cell 0 0 => ok 6",
@@ -416,8 +416,8 @@ fn insert_then_update_in_one_transaction_gives_the_last_value() {
          insert 1 5 50
          update 1 0 mask 1 6 60
          commit 1 10
-         read-at 10 0 0 => ok 6
-         read-at 10 0 1 => ok 50
+         read-at 10 0 0 => ok 6 10
+         read-at 10 0 1 => ok 50 10
          read-at 9 0 0 => ok none
          page-cell 0 0 => ok 5",
     );
@@ -435,7 +435,7 @@ fn a_merge_between_two_settings_of_one_transaction_takes_the_first() {
          commit 2 20
          merge 0 0 2
          page-cell 0 0 => ok 7
-         latest 0 0 => ok 8",
+         latest 0 0 => ok 8 20",
     );
 }
 
@@ -450,10 +450,10 @@ fn a_merged_and_released_page_leaves_earlier_stamps_as_they_were() {
          commit 2 20
          merge 0 0 2
          release => ok 1
-         read-at 19 0 0 => ok 5
+         read-at 19 0 0 => ok 5 10
          read-at 9 0 0 => ok none
          open-scan 10
-         scan-read 1 0 0 => ok 5
+         scan-read 1 0 0 => ok 5 10
          sum 1 0 => ok 1 5",
     );
 }
@@ -489,9 +489,9 @@ fn the_latest_skips_aborted_open_original_and_other_column_records() {
          commit 4 30
          begin
          update 5 0 mask 3 8 80
-         latest 0 0 => ok 6
-         latest 0 1 => ok 60
-         own-read 5 0 0 => ok 8",
+         latest 0 0 => ok 6 20
+         latest 0 1 => ok 60 30
+         own-read 5 0 0 => ok 8 0",
     );
 }
 
@@ -519,10 +519,10 @@ fn aborted_updates_count_as_having_set_a_column() {
          update 3 0 mask 1 7 0 => ok 3
          update 3 0 mask 3 8 80 => ok 5
          commit 3 20
-         read-at 10 0 0 => ok 5
-         read-at 10 0 1 => ok 50
+         read-at 10 0 0 => ok 5 10
+         read-at 10 0 1 => ok 50 10
          merge 0 0 5
-         read-at 10 0 0 => ok 5
+         read-at 10 0 0 => ok 5 10
          begin
          update 4 0 mask 3 9 90 => ok 6",
     );
@@ -776,11 +776,11 @@ fn page_cell_and_lineage_show_the_current_page_whatever_scans_are_open() {
          begin
          delete 3 0
          abort 3
-         scan-read 1 0 0 => ok 5
+         scan-read 1 0 0 => ok 5 10
          merge 0 0 3
          page-cell 0 0 => ok 6
          lineage 0 0 => ok 3 3
-         scan-read 1 0 0 => ok 5
+         scan-read 1 0 0 => ok 5 10
          sum 1 0 => ok 1 5
          release => ok 0
          close 1

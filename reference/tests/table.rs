@@ -21,10 +21,10 @@ fn p1_the_eleven_answers() {
          commit 1 10 => ok
          begin => ok 2
          update 2 0 mask 1 1250 0 => ok 2
-         latest 0 0 => ok 1200
+         latest 0 0 => ok 1200 10
          commit 2 20 => ok
          merge 0 0 2 => ok
-         read-at 10 0 0 => ok 1200
+         read-at 10 0 0 => ok 1200 10
          page-cell 0 0 => ok 1250
          merge 0 0 2 => no 16",
     );
@@ -90,7 +90,7 @@ fn p7_two_updates_of_one_column_give_the_second_value() {
          update 2 0 mask 1 6 => ok 2
          update 2 0 mask 1 7 => ok 3
          commit 2 2
-         latest 0 0 => ok 7",
+         latest 0 0 => ok 7 2",
     );
 }
 
@@ -120,7 +120,7 @@ fn p9_a_delete_at_30() {
          begin
          delete 2 0 => ok 1
          commit 2 30
-         read-at 29 0 0 => ok 5
+         read-at 29 0 0 => ok 5 10
          read-at 30 0 0 => ok none",
     );
 }

@@ -216,7 +216,7 @@ impl Generator {
         }
         let mut row = self.any_row(given);
         for _ in 0..self.random.below(5) {
-            if self.history.latest(row, 0).is_some() {
+            if self.history.is_there(row) {
                 break;
             }
             row = self.any_row(given);

@@ -157,7 +157,7 @@ impl History {
 
     /// 10 "not held, and the row is deleted or its insert aborted, in the caller's own view"
     fn test_gone(&self, transaction: u32, row: u32) -> Result<(), u8> {
-        require(self.own_value(transaction, row, 0).is_some(), 10)
+        require(self.own_version(transaction, row, 0).is_some(), 10)
     }
 
     /// 12 "the range lacks the one or two records wanted"

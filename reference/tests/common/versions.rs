@@ -6,6 +6,9 @@ use std::collections::BTreeMap;
 
 use reference::{Answer, Call};
 
+/// "a pending value of one's own gives 0"
+const PENDING: u32 = 0;
+
 /// What an open transaction has done.
 #[derive(Default)]
 struct Pending {
@@ -63,7 +66,7 @@ impl Versions {
                 let reads = (0..self.rows).map(|row| self.read(self.scans[scan], row, *column));
                 let seen: Vec<i64> = reads
                     .filter_map(|answer| match answer {
-                        Answer::Value(value) => Some(value.into()),
+                        Answer::Version { value, .. } => Some(value.into()),
                         _ => None,
                     })
                     .collect();
@@ -107,7 +110,7 @@ impl Versions {
         }
         let values = self.values.get(&(row, column)).into_iter().flatten();
         let by_then = values.filter(|(at, _)| *at <= stamp).max_by_key(|(at, _)| *at);
-        by_then.map_or(Answer::None, |(_, value)| Answer::Value(*value))
+        by_then.map_or(Answer::None, |(at, value)| Answer::Version { value: *value, stamp: *at })
     }
 
     fn own_read(&self, transaction: u32, row: u32, column: u32) -> Answer {
@@ -115,9 +118,9 @@ impl Versions {
         if pending.deleted.contains(&row) {
             Answer::None
         } else if let Some(value) = pending.set.get(&(row, column)) {
-            Answer::Value(*value)
+            Answer::Version { value: *value, stamp: PENDING }
         } else if let Some(values) = pending.inserted.get(&row) {
-            Answer::Value(values[column as usize])
+            Answer::Version { value: values[column as usize], stamp: PENDING }
         } else {
             self.read(self.last, row, column)
         }

@@ -69,23 +69,23 @@ steps-none zero m columns x = refl
 steps-none (suc most) m columns x = refl
 
 -- the lines of a list of items, with the plain history's answers
-abbrev shown : Shape → History → List Item → List ℕ
-shown s h is = linesOf is (answers s h (calls is))
+abbrev printed : Shape → History → List Item → List ℕ
+printed s h is = linesOf is (answers s h (calls is))
 
 -- behind a refused byte nothing is left
 last-step : (most : ℕ) (s : Shape) (h : History) (byte : ℕ) (r : Refusal) (b : Bool) (k : History)
     → line byte (Answer.Refused r) ++ cond b (steps most (historyOf s) (s .columns) k []) []
-    ≡ line byte (Answer.Refused r) ++ shown s h (items most (s .columns) [])
+    ≡ line byte (Answer.Refused r) ++ printed s h (items most (s .columns) [])
 unfolding linesOf
 last-step most s h byte r true k = rw (steps-none most (historyOf s) (s .columns) k, items-none most (s .columns))
 last-step most s h byte r false k = rw (items-none most (s .columns))
 
 one-step : (most : ℕ) (s : Shape) (h : History) (byte : ℕ) (bs : List ℕ) (k : Chosen)
-    → ((h′ : History) (bs′ : List ℕ) → steps most (historyOf s) (s .columns) h′ bs′ ≡ shown s h′ (items most (s .columns) bs′))
+    → ((h′ : History) (bs′ : List ℕ) → steps most (historyOf s) (s .columns) h′ bs′ ≡ printed s h′ (items most (s .columns) bs′))
     → line byte (answerTo (historyOf s) (s .columns) h k (operandsOf (s .columns) k bs))
     ++ cond (goesOn (answerTo (historyOf s) (s .columns) h k (operandsOf (s .columns) k bs)))
     (steps most (historyOf s) (s .columns) (stateAfter (historyOf s) (s .columns) h k (operandsOf (s .columns) k bs)) (behind (s .columns) k bs)) []
-    ≡ shown s h (itemAt (s .columns) byte k bs ∷ items most (s .columns) (behind (s .columns) k bs))
+    ≡ printed s h (itemAt (s .columns) byte k bs ∷ items most (s .columns) (behind (s .columns) k bs))
 unfolding operandsOf answerTo stateAfter behind itemAt linesOf calls answers
 one-step most s h byte bs (Chosen.Refused r) ih = last-step most s h byte r (goesOn (Answer.Refused r)) h
 one-step most s h byte bs (Chosen.Known f) ih = rw (whole (width (s .columns) f) bs) (go (leb (width (s .columns) f) (length bs)) refl)
@@ -102,7 +102,7 @@ one-step most s h byte bs (Chosen.Known f) ih = rw (whole (width (s .columns) f)
     go : (b : Bool) → leb w (length bs) ≡ b
         → line byte (cond b (answer s h d) (Answer.Refused Refusal.Cut))
         ++ cond (goesOn (cond b (answer s h d) (Answer.Refused Refusal.Cut))) (steps most (historyOf s) (s .columns) (cond b (next s h d) h) (drop w bs)) []
-        ≡ shown s h (cond b (Item.command byte c) (Item.refused byte Refusal.Cut) ∷ items most (s .columns) (drop w bs))
+        ≡ printed s h (cond b (Item.command byte c) (Item.refused byte Refusal.Cut) ∷ items most (s .columns) (drop w bs))
     go true e =
         rw (call-part (s .columns) f bs (leb-true w (length bs) e), answer-goes-on s h c)
         (ap (λ (l : List ℕ). line byte (answer s h c) ++ l) (ih (next s h c) (drop w bs)))
@@ -111,7 +111,7 @@ one-step most s h byte bs (Chosen.Known f) ih = rw (whole (width (s .columns) f)
         let none : drop w bs ≡ [] = drop-of-length-le bs short in
         rw none (last-step most s h byte Refusal.Cut (goesOn (Answer.Refused Refusal.Cut)) h)
 
-steps-are : (most : ℕ) (s : Shape) (h : History) (bs : List ℕ) → steps most (historyOf s) (s .columns) h bs ≡ shown s h (items most (s .columns) bs)
+steps-are : (most : ℕ) (s : Shape) (h : History) (bs : List ℕ) → steps most (historyOf s) (s .columns) h bs ≡ printed s h (items most (s .columns) bs)
 unfolding steps items linesOf
 steps-are zero s h bs = refl
 steps-are (suc most) s h [] = refl

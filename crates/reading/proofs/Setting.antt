@@ -1,9 +1,9 @@
 -- Who set a row and column, and the stamp that is shown of it: one lemma for each way through the code.
 use Prim.Native.Nat.{ℕ, _<_}
-use mathlib.Core.Path.{_≡_, refl, ap₂, _∙_}
+use mathlib.Core.Path.{_≡_, ap₂, _∙_}
 use mathlib.Core.Bool.{Bool, true, false, not}
 use lib.ListN.{getD}
-use borrow.Author.Tests.{eq-eqb, ne-eqb, not-true, not-false}
+use borrow.Author.Tests.{ne-eqb, not-true, not-false}
 use Rattle.loops.specs.declared.Found.{Found}
 use Rattle.layout.specs.declared.Region.the-variants.{TailKind, TailState, TailStamp, RowMask, RowLink, RowState, RowStamp}
 use Rattle.layout.specs.View.{View}

@@ -1,14 +1,13 @@
--- The last arm of a match on an answer, which has one arm for refusals and one for every other answer.
+-- The last arm of a match on an answer that has one arm for refusals and one for every other answer.
 use Prim.Native.Nat.{ℕ, suc}
-use mathlib.Core.Path.{_≡_, refl}
-use mathlib.Core.Bool.{true}
+use mathlib.Core.Path.{_≡_}
 use mathlib.Core.Logic.{⊎-elim}
 use mathlib.Core.List.{List, [], _∷_}
 use native.Mathlib.Omega.{arith}
+use lib.IntN.{ℤ}
 use types.Run.{OneOf}
 use denote.Enum.Declared.{tagOf}
 use Rattle.terms.specs.declared.Answer.{Answer}
-use Rattle.terms.specs.Refusals.{isAccepted}
 use Rattle.terms.proofs.Answer as Answer-type
 
 -- their tags; a refusal's is 0
@@ -18,12 +17,13 @@ tags = 1 ∷ 2 ∷ 3 ∷ 4 ∷ 5 ∷ 6 ∷ 7 ∷ []
 never : (k : ℕ) → 0 ≡ suc k → ⊥
 never k e = omega arith
 
-pub others : (a : Answer) → OneOf tags (tagOf Answer-type.the-type a) → true ≡ isAccepted a
-others (Answer.Refused r) h = absurd (⊎-elim (never 0) (⊎-elim (never 1) (⊎-elim (never 2) (⊎-elim (never 3) (⊎-elim (never 4) (⊎-elim (never 5) (never 6)))))) h)
-others Answer.Done h = refl
-others (Answer.Number n) h = refl
-others (Answer.Version v s) h = refl
-others (Answer.Value v) h = refl
-others Answer.None h = refl
-others (Answer.Sum n v) h = refl
-others (Answer.Lineage n m) h = refl
+pub others : (P : Answer → Type 0) → P Answer.Done → ((n : ℕ) → P (Answer.Number n)) → ((v : ℤ) (s : ℕ) → P (Answer.Version v s)) → ((v : ℤ) → P (Answer.Value v)) → P Answer.None
+    → ((n : ℕ) (v : ℤ) → P (Answer.Sum n v)) → ((n m : ℕ) → P (Answer.Lineage n m)) → (a : Answer) → OneOf tags (tagOf Answer-type.the-type a) → P a
+others P done number version value none sum lineage (Answer.Refused r) h = absurd (⊎-elim (never 0) (⊎-elim (never 1) (⊎-elim (never 2) (⊎-elim (never 3) (⊎-elim (never 4) (⊎-elim (never 5) (never 6)))))) h)
+others P done number version value none sum lineage Answer.Done h = done
+others P done number version value none sum lineage (Answer.Number n) h = number n
+others P done number version value none sum lineage (Answer.Version v s) h = version v s
+others P done number version value none sum lineage (Answer.Value v) h = value v
+others P done number version value none sum lineage Answer.None h = none
+others P done number version value none sum lineage (Answer.Sum n v) h = sum n v
+others P done number version value none sum lineage (Answer.Lineage n m) h = lineage n m

@@ -16,4 +16,4 @@ goes-on-spec =
     (λ c κs. search needs)
     (λ c κs. search needs)
     (λ c. rw (c .before .before .before .answer .given .1, c .and-between .ensures, c .before .number .ensures))
-    (λ c. others (λ a. true ≡ goesOn a) refl (λ n. refl) (λ v. refl) refl (λ n v. refl) (λ n m. refl) (c .before .args .answer) (c .match .keys2)))
+    (λ c. others (λ a. true ≡ goesOn a) refl (λ n. refl) (λ v s. refl) (λ v. refl) refl (λ n v. refl) (λ n m. refl) (c .before .args .answer) (c .match .keys2)))

@@ -1,5 +1,4 @@
 -- `reading::lookup` meets its contract.
-use mathlib.Core.Path.{refl}
 use Rattle.model.specs.Reading.{lookupIn}
 use borrow.Author.Needs.{needs}
 use Rattle.reading.proofs.lookup.Statement.{statement}

@@ -1,5 +1,6 @@
 //! One test for each reading of document 01 that an input can tell apart, with the reading's
-//! letter. Those of section A are in `input`, and B1 and B2 also there for exhausted series.
+//! letter, and of document 02's Item 1. Those of section A are in `input`, and B1 and B2 also there
+//! for exhausted series.
 
 mod common;
 use common::script;
@@ -787,5 +788,321 @@ fn page_cell_and_lineage_show_the_current_page_whatever_scans_are_open() {
          release => ok 1
          page-cell 0 0 => ok 6
          lineage 0 0 => ok 3 3",
+    );
+}
+
+// Document 02, Item 1: "the stamp of the commit that set that column in that row, the insert
+// included; a pending value of one's own gives 0".
+
+#[test]
+fn the_stamp_is_that_of_the_columns_setting_not_of_the_rows_last_change() {
+    // I1-b
+    one_row(
+        9,
+        0,
+        "begin
+         update 2 0 mask 1 6 0
+         commit 2 20
+         latest 0 0 => ok 6 20
+         latest 0 1 => ok 50 10
+         begin
+         update 3 0 mask 2 0 60
+         commit 3 30
+         latest 0 0 => ok 6 20
+         latest 0 1 => ok 60 30
+         read-at 30 0 0 => ok 6 20
+         read-at 30 0 1 => ok 60 30
+         read-at 29 0 1 => ok 50 10
+         begin
+         own-read 4 0 0 => ok 6 20
+         own-read 4 0 1 => ok 60 30
+         open-scan 30
+         scan-read 1 0 0 => ok 6 20
+         scan-read 1 0 1 => ok 60 30",
+    );
+}
+
+#[test]
+fn an_end_is_no_setting() {
+    // I1-b: before its end the row's values have the stamps of their settings.
+    one_row(
+        9,
+        0,
+        "begin
+         update 2 0 mask 1 6 0
+         commit 2 20
+         open-scan 20
+         begin
+         delete 3 0
+         latest 0 0 => ok 6 20
+         commit 3 30
+         read-at 29 0 0 => ok 6 20
+         read-at 29 0 1 => ok 50 10
+         scan-read 1 0 0 => ok 6 20",
+    );
+    one_row(4, 0, "begin\ndelete 2 0\nabort 2\nbegin\ncommit 3 20\nlatest 0 0 => ok 5 10");
+}
+
+/// Rows 0, 1 and 2; column 0 of row 0 set at 20 and of row 1 at 30, a commit at 40 that sets
+/// nothing, then column 0 merged through all records. Scan 1 was opened before the merge.
+const MERGED: &str = "shape 2 1 16 2
+    begin
+    insert 1 5 50
+    insert 1 7 70
+    insert 1 9 90
+    commit 1 10
+    begin
+    update 2 0 mask 1 6 0 => ok 2
+    commit 2 20
+    open-scan 20
+    begin
+    update 3 1 mask 1 8 0 => ok 4
+    commit 3 30
+    begin
+    commit 4 40
+    merge 0 0 4
+    ";
+
+#[test]
+fn a_merged_value_keeps_the_stamp_of_its_setting() {
+    // The stamp is not the newest in the page, nor the last commit's before the merge.
+    let reads = "latest 0 0 => ok 6 20
+        latest 1 0 => ok 8 30
+        latest 2 0 => ok 9 10
+        latest 0 1 => ok 50 10
+        read-at 40 0 0 => ok 6 20
+        read-at 40 2 0 => ok 9 10
+        own-read 5 0 0 => ok 6 20
+        own-read 5 1 0 => ok 8 30
+        scan-read 2 0 0 => ok 6 20
+        scan-read 2 1 0 => ok 8 30
+        scan-read 2 2 0 => ok 9 10
+        ";
+    let release = "close 1\nrelease => ok 1\n";
+    script(&format!("{MERGED}begin\nopen-scan 40\n{reads}{release}{reads}"));
+}
+
+#[test]
+fn an_old_stamp_and_an_old_scan_have_the_stamps_of_their_time_after_a_merge() {
+    // Scan 1 reads the page before the merge, scan 2 the one after it, for the same stamp.
+    let reads = "read-at 29 1 0 => ok 7 10
+        read-at 20 0 0 => ok 6 20
+        read-at 19 0 0 => ok 5 10
+        read-at 10 0 0 => ok 5 10
+        scan-read 2 0 0 => ok 6 20
+        scan-read 2 1 0 => ok 7 10
+        scan-read 3 0 0 => ok 5 10
+        ";
+    let old_scan = "scan-read 1 0 0 => ok 6 20\nscan-read 1 1 0 => ok 7 10\n";
+    let scans = "open-scan 20\nopen-scan 19\n";
+    let release = "close 1\nrelease => ok 1\n";
+    script(&format!("{MERGED}{scans}{old_scan}{reads}{release}{reads}"));
+}
+
+#[test]
+fn every_version_of_a_cell_keeps_its_stamp_through_two_merges() {
+    one_row(
+        9,
+        2,
+        "open-scan 10
+         begin
+         update 2 0 mask 1 6 0 => ok 2
+         commit 2 20
+         merge 0 0 2
+         open-scan 20
+         begin
+         update 3 0 mask 1 7 0 => ok 3
+         commit 3 30
+         merge 0 0 3
+         latest 0 0 => ok 7 30
+         read-at 30 0 0 => ok 7 30
+         read-at 29 0 0 => ok 6 20
+         read-at 20 0 0 => ok 6 20
+         read-at 19 0 0 => ok 5 10
+         scan-read 1 0 0 => ok 5 10
+         scan-read 2 0 0 => ok 6 20",
+    );
+}
+
+#[test]
+fn an_inserted_value_has_the_inserts_stamp_though_its_original_is_an_updates() {
+    // "belongs to the update's transaction": open, aborted or committed, and merged.
+    one_row(
+        9,
+        1,
+        "begin
+         update 2 0 mask 1 6 0 => ok 2
+         latest 0 0 => ok 5 10
+         abort 2
+         latest 0 0 => ok 5 10
+         open-scan 10
+         begin
+         update 3 0 mask 3 7 70 => ok 4
+         begin
+         own-read 4 0 0 => ok 5 10
+         own-read 4 0 1 => ok 50 10
+         commit 3 20
+         read-at 10 0 0 => ok 5 10
+         read-at 19 0 1 => ok 50 10
+         scan-read 1 0 1 => ok 50 10
+         merge 0 1 4
+         read-at 19 0 1 => ok 50 10
+         scan-read 1 0 1 => ok 50 10
+         latest 0 1 => ok 70 20",
+    );
+}
+
+#[test]
+fn a_pending_value_of_ones_own_gives_0_and_a_column_beside_it_its_commits_stamp() {
+    // I1-a: also when another commit has moved the last stamp, and for nobody else.
+    one_row(
+        9,
+        0,
+        "begin
+         begin
+         update 2 0 mask 1 6 0
+         own-read 2 0 0 => ok 6 0
+         own-read 2 0 1 => ok 50 10
+         own-read 3 0 0 => ok 5 10
+         latest 0 0 => ok 5 10
+         commit 3 20
+         own-read 2 0 0 => ok 6 0
+         own-read 2 0 1 => ok 50 10
+         read-at 20 0 0 => ok 5 10
+         commit 2 30
+         latest 0 0 => ok 6 30
+         latest 0 1 => ok 50 10",
+    );
+}
+
+#[test]
+fn a_row_inserted_by_oneself_gives_0_until_its_commit() {
+    // I1-a: set or not.
+    one_row(
+        9,
+        0,
+        "begin
+         begin
+         insert 2 7 70
+         own-read 2 1 0 => ok 7 0
+         update 2 1 mask 2 0 71
+         commit 3 20
+         own-read 2 1 0 => ok 7 0
+         own-read 2 1 1 => ok 71 0
+         own-read 2 0 0 => ok 5 10
+         commit 2 30
+         latest 1 0 => ok 7 30
+         latest 1 1 => ok 71 30",
+    );
+}
+
+#[test]
+fn an_aborted_setting_gives_no_stamp() {
+    // Above the insert in column 1, above a setting in column 0; then merged.
+    one_row(
+        9,
+        1,
+        "begin
+         update 2 0 mask 1 6 0 => ok 2
+         commit 2 20
+         begin
+         update 3 0 mask 3 7 70 => ok 4
+         own-read 3 0 0 => ok 7 0
+         abort 3
+         begin
+         commit 4 30
+         latest 0 0 => ok 6 20
+         latest 0 1 => ok 50 10
+         read-at 30 0 0 => ok 6 20
+         begin
+         own-read 5 0 0 => ok 6 20
+         own-read 5 0 1 => ok 50 10
+         open-scan 30
+         scan-read 1 0 0 => ok 6 20
+         merge 0 0 4
+         latest 0 0 => ok 6 20
+         scan-read 1 0 1 => ok 50 10",
+    );
+}
+
+#[test]
+fn none_carries_no_stamp() {
+    // I1-a: before the insert, another's insert, an aborted one, an own delete, after the end.
+    one_row(
+        9,
+        0,
+        "open-scan 9
+         read-at 9 0 0 => ok none
+         scan-read 1 0 0 => ok none
+         begin
+         begin
+         insert 2 7 70
+         latest 1 0 => ok none
+         own-read 3 1 0 => ok none
+         abort 2
+         latest 1 0 => ok none
+         own-read 3 1 0 => ok none
+         delete 3 0
+         own-read 3 0 0 => ok none
+         latest 0 0 => ok 5 10
+         commit 3 20
+         latest 0 0 => ok none
+         read-at 20 0 0 => ok none
+         open-scan 20
+         scan-read 2 0 0 => ok none",
+    );
+}
+
+#[test]
+fn setting_the_same_value_again_gives_the_later_stamp() {
+    // It is a setting (D6), of the insert's value as of another.
+    one_row(
+        9,
+        0,
+        "begin
+         update 2 0 mask 1 5 0
+         own-read 2 0 0 => ok 5 0
+         commit 2 20
+         latest 0 0 => ok 5 20
+         read-at 19 0 0 => ok 5 10
+         begin
+         update 3 0 mask 1 5 0
+         commit 3 30
+         latest 0 0 => ok 5 30
+         read-at 29 0 0 => ok 5 20",
+    );
+}
+
+#[test]
+fn the_stamp_is_that_of_the_commit_not_of_the_update_or_begin() {
+    one_row(
+        9,
+        0,
+        "begin
+         begin
+         update 2 0 mask 1 6 0
+         commit 3 20
+         update 2 0 mask 1 7 0
+         commit 2 30
+         latest 0 0 => ok 7 30
+         read-at 30 0 0 => ok 7 30
+         read-at 29 0 0 => ok 5 10",
+    );
+}
+
+#[test]
+fn sum_page_cell_and_lineage_gain_no_stamp() {
+    one_row(
+        9,
+        1,
+        "begin
+         update 2 0 mask 1 6 0
+         commit 2 20
+         merge 0 0 2
+         open-scan 20
+         sum 1 0 => ok 1 6
+         page-cell 0 0 => ok 6
+         page-cell 1 0 => ok 50
+         lineage 0 0 => ok 2 2",
     );
 }

@@ -131,6 +131,15 @@ pub fn call(byte: u8, numbers: &[i64]) -> Call {
     }
 }
 
+/// The call of the first command, and the bytes after it; nothing where its byte is unknown or it is
+/// cut.
+pub fn first(bytes: &[u8], columns: usize) -> Option<(Call, &[u8])> {
+    let (byte, operand_bytes) = bytes.split_first()?;
+    let fields = operands(*byte, columns)?;
+    let (operand_bytes, rest) = operand_bytes.split_at_checked(width(&fields))?;
+    Some((call(*byte, &numbers(&fields, operand_bytes)), rest))
+}
+
 /// A call's command byte and the numbers of its operands.
 pub fn parts(call: &Call) -> (u8, Vec<i64>) {
     let (byte, fixed, values): (u8, &[u32], &[i32]) = match call {

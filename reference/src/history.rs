@@ -1,10 +1,13 @@
 //! The plain version history of document 01 ("The plain history, call by call"): its lists, what an
 //! accepted call does to them, and the reads, which give the stamps of document 02's Item 1 too.
-//! The tests of each call are in `refusals`.
+//! The tests of each call are in `refusals`; `situations` looks at reads for the survey.
 
 mod refusals;
+mod situations;
 
 use crate::call::{Answer, Call, Shape, RANGE_ROWS};
+
+pub use self::situations::Situation;
 
 /// "At most 8 transactions and 16 scans are open."
 pub const OPEN_TRANSACTIONS: usize = 8;
@@ -160,8 +163,7 @@ impl History {
 
     /// "Lineage is the n of the last merge there, else 0"
     pub fn merged_through(&self, range: u32, column: u32) -> u32 {
-        let there = |merge: &&Merge| merge.range == range && merge.column == column;
-        self.merges.iter().rev().find(there).map_or(0, |merge| merge.through)
+        merged_through(&self.merges, range, column)
     }
 
     // The accepted calls.
@@ -324,11 +326,10 @@ impl History {
     /// "A read at stamp t gives the last such value at or before t, or "none" if the row was not
     /// inserted by t or ended by t."
     fn version_at(&self, stamp: u32, row: u32, column: u32) -> Option<Version> {
-        self.version(
-            row,
-            column,
-            |transaction| matches!(self.state(transaction), State::Committed(at) if at <= stamp),
-        )
+        let counts = |transaction: u32| {
+            self.stamp_of(transaction).is_some_and(|committed| committed <= stamp)
+        };
+        self.version(row, column, counts)
     }
 
     /// "The latest is the read at the last commit's stamp, 0 in a new store."
@@ -388,8 +389,22 @@ impl History {
     }
 
     fn committed(&self, transaction: u32) -> bool {
-        matches!(self.state(transaction), State::Committed(_))
+        self.stamp_of(transaction).is_some()
     }
+
+    /// The stamp of a transaction's commit.
+    fn stamp_of(&self, transaction: u32) -> Option<u32> {
+        match self.state(transaction) {
+            State::Committed(stamp) => Some(stamp),
+            State::Open | State::Aborted => None,
+        }
+    }
+}
+
+/// The n of the last of these merges there, else 0.
+fn merged_through(merges: &[Merge], range: u32, column: u32) -> u32 {
+    let there = |merge: &&Merge| merge.range == range && merge.column == column;
+    merges.iter().rev().find(there).map_or(0, |merge| merge.through)
 }
 
 /// "bit k for column k"

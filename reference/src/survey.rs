@@ -1,9 +1,12 @@
-//! Counts what the generated streams meet: how often each answer came, for each command.
+//! Counts what the generated streams meet: how often each answer came, for each command, and how
+//! often each situation of a single-cell read in which a wrong stamp shows.
 
-use std::collections::BTreeMap;
+use std::collections::{BTreeMap, BTreeSet};
 use std::fmt;
 
+use crate::command;
 use crate::generate;
+use crate::history::Situation;
 use crate::program;
 use crate::text::NAMES;
 
@@ -18,20 +21,48 @@ pub struct Survey {
     counts: BTreeMap<(String, String), u64>,
     /// Refusals by number, those of the long streams included.
     refusals: BTreeMap<u8, u64>,
+    /// Single-cell reads by their situation and command byte, and the streams that have one.
+    situations: BTreeMap<(Situation, u8), u64>,
+    situation_streams: BTreeMap<Situation, u64>,
 }
+
+/// The command bytes of the single-cell reads.
+const READS: [u8; 4] = [0x07, 0x08, 0x09, 0x0B];
 
 impl Survey {
     /// Runs the streams of so many seeds.
     pub fn of(first: u64, count: u64) -> Survey {
         let mut survey = Survey::default();
         for seed in first..first.saturating_add(count) {
-            let stream = generate::stream(seed);
-            let mut output = Vec::new();
-            program::run(&mut stream.as_slice(), &mut output).expect("memory takes every line");
-            let output = String::from_utf8(output).expect("the lines are ASCII");
-            survey.add(&output, generate::is_long(seed));
+            survey.run(&generate::stream(seed), generate::is_long(seed));
         }
         survey
+    }
+
+    /// Runs one stream.
+    pub fn run(&mut self, stream: &[u8], long: bool) {
+        let mut output = Vec::new();
+        let mut rest = stream;
+        let mut met = BTreeSet::new();
+        let taken = "memory takes every line";
+        if let Some(mut history) = program::start(&mut rest, &mut output).expect(taken) {
+            let columns = history.shape().columns as usize;
+            loop {
+                if let Some((call, _)) = command::first(rest, columns) {
+                    for situation in history.situations(&call) {
+                        *self.situations.entry((situation, rest[0])).or_default() += 1;
+                        met.insert(situation);
+                    }
+                }
+                if !program::turn(&mut history, &mut rest, &mut output).expect(taken) {
+                    break;
+                }
+            }
+        }
+        for situation in met {
+            *self.situation_streams.entry(situation).or_default() += 1;
+        }
+        self.add(&String::from_utf8(output).expect("the lines are ASCII"), long);
     }
 
     fn add(&mut self, output: &str, long: bool) {
@@ -61,6 +92,11 @@ impl Survey {
     /// How often a refusal number came.
     pub fn refused(&self, number: u8) -> u64 {
         self.refusals.get(&number).copied().unwrap_or(0)
+    }
+
+    /// How many reads of a command byte were in a situation.
+    pub fn met(&self, situation: Situation, byte: u8) -> u64 {
+        self.situations.get(&(situation, byte)).copied().unwrap_or(0)
     }
 
     /// Calls, shape lines left out, and how many of them were accepted; long streams left out.
@@ -101,6 +137,19 @@ impl fmt::Display for Survey {
         writeln!(out, "refusals, those of long streams included")?;
         for (number, count) in &self.refusals {
             writeln!(out, "    no {number:2} {count:10}")?;
+        }
+        write!(out, "situations of single-cell reads")?;
+        for byte in READS {
+            write!(out, "      {byte:02X}")?;
+        }
+        writeln!(out, "  streams")?;
+        for situation in Situation::ALL {
+            write!(out, "    {:27}", situation.name())?;
+            for byte in READS {
+                write!(out, "{:8}", self.met(situation, byte))?;
+            }
+            let streams = self.situation_streams.get(&situation).copied().unwrap_or(0);
+            writeln!(out, "{streams:9}")?;
         }
         Ok(())
     }

@@ -1,5 +1,6 @@
 //! The generator, and properties of the history on random lists of calls.
 
+mod common;
 #[path = "common/pages.rs"]
 mod pages;
 #[path = "common/versions.rs"]
@@ -7,7 +8,9 @@ mod versions;
 
 use std::collections::HashMap;
 
+use common::SITUATIONS;
 use pages::Pages;
+use reference::history::Situation;
 use reference::survey::Survey;
 use reference::{command, generate, trace, Answer, Call, History, Shape};
 use versions::Versions;
@@ -154,6 +157,38 @@ fn streams_meet_every_refusal_but_2_and_accept_most_calls() {
     assert_eq!(survey.long_streams, 2);
     let (calls, accepted) = survey.calls();
     assert!((75..=92).contains(&(accepted * 100 / calls)), "{accepted} of {calls}");
+}
+
+#[test]
+fn situations_are_those_of_accepted_reads_and_fit_the_answers() {
+    for (shape, calls) in lists() {
+        let mut history = History::new(shape);
+        for call in &calls {
+            let found = history.situations(call);
+            let is = |situation| found.contains(&situation);
+            let pending = is(Situation::PendingSetting) || is(Situation::PendingInsert);
+            match history.call(call) {
+                Answer::None => assert_eq!(found, [Situation::Absent], "{call:?}"),
+                // No commit has stamp 0.
+                Answer::Version { stamp, .. } => {
+                    assert!(!is(Situation::Absent) && pending == (stamp == 0), "{call:?}");
+                }
+                _ => assert_eq!(found, [], "{call:?}"),
+            }
+        }
+    }
+}
+
+#[test]
+fn streams_meet_every_situation_of_a_read_by_every_command_that_can() {
+    let survey = Survey::of(0, 240);
+    for (situation, commands) in SITUATIONS {
+        for byte in 0x01..=0x11 {
+            let met = survey.met(situation, byte);
+            let expected = if commands.contains(&byte) { met >= 5 } else { met == 0 };
+            assert!(expected, "{situation:?} by {byte:02X}: {met}");
+        }
+    }
 }
 
 #[test]

@@ -4,7 +4,22 @@
 
 #![allow(dead_code)]
 
+use reference::history::Situation::{self, *};
 use reference::{command, program, text, Call, History};
+
+/// The situations of single-cell reads, with the commands that can be in them.
+pub const SITUATIONS: [(Situation, &[u8]); 10] = [
+    (Absent, &[0x07, 0x08, 0x09, 0x0B]),
+    (OtherColumnLater, &[0x07, 0x08, 0x09, 0x0B]),
+    (MergedBesideLater, &[0x07, 0x08, 0x09, 0x0B]),
+    (MergedPast, &[0x08, 0x0B]),
+    (MergedSinceOpening, &[0x0B]),
+    (PendingSetting, &[0x09]),
+    (PendingInsert, &[0x09]),
+    (BesidePending, &[0x09]),
+    (BelowAborted, &[0x07, 0x08, 0x09, 0x0B]),
+    (BeforeFirstUpdate, &[0x08, 0x0B]),
+];
 
 /// The lines that the program writes for bytes.
 pub fn output(bytes: &[u8]) -> Vec<String> {
@@ -17,16 +32,11 @@ pub fn output(bytes: &[u8]) -> Vec<String> {
 
 /// The whole commands of a stream of bytes, as calls.
 pub fn calls(bytes: &[u8]) -> Vec<Call> {
-    let mut rest = &bytes[6..];
+    let (shape, mut rest) = bytes.split_at(program::SHAPE_BYTES);
     let mut calls = Vec::new();
-    while let Some((byte, operands)) = rest.split_first() {
-        let Some(fields) = command::operands(*byte, bytes[0].into()) else { break };
-        let width = command::width(&fields);
-        if operands.len() < width {
-            break;
-        }
-        calls.push(command::call(*byte, &command::numbers(&fields, operands)));
-        rest = &operands[width..];
+    while let Some((call, after)) = command::first(rest, shape[0].into()) {
+        calls.push(call);
+        rest = after;
     }
     calls
 }

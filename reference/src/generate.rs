@@ -25,19 +25,22 @@ pub fn wide_calls(seed: u64, shape: Shape, count: usize) -> Vec<Call> {
     Generator::new(random, workload::of(seed), shape, count, true).take(count)
 }
 
-/// A shape within the limits, mostly small.
+/// A shape within the limits, mostly small, or mostly within the bounds of a workload that asks for
+/// them.
 pub fn shape(seed: u64) -> Shape {
     let mut random = Random::new(seed ^ 0x7368_6170_6500_0000);
-    let mut measure = |least, small, greatest| match random.below(20) {
+    let mut measure = |(least, usual), greatest| match random.below(20) {
         0 => greatest,
         1 => random.between(least, greatest),
-        _ => random.between(least, small),
+        _ => random.between(least, usual),
     };
+    let workload = workload::of(seed);
+    let bounds = |of_workload, small| if workload.bounds_all { of_workload } else { small };
     Shape {
-        columns: measure(1, 4, 16),
-        ranges: measure(1, 2, 16),
-        capacity: measure(1, 16, 512),
-        spares: measure(0, 4, 256),
+        columns: measure(bounds(workload.columns, (1, 4)), 16),
+        ranges: measure(bounds(workload.ranges, (1, 2)), 16),
+        capacity: measure(bounds(workload.capacity, (1, 16)), 512),
+        spares: measure(bounds(workload.spares, (0, 4)), 256),
     }
 }
 

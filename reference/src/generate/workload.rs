@@ -9,6 +9,8 @@ pub struct Workload {
     pub ranges: (u32, u32),
     pub capacity: (u32, u32),
     pub spares: (u32, u32),
+    /// Whether most shapes that are not a stream's lie in these bounds too.
+    pub bounds_all: bool,
     /// The share of the rows inserted before other calls become frequent, in percent.
     pub early_rows: u32,
     /// The greatest step from the last commit's stamp to the next.
@@ -21,6 +23,7 @@ const EVEN: Workload = Workload {
     ranges: (1, 2),
     capacity: (8, 64),
     spares: (0, 8),
+    bounds_all: false,
     early_rows: 0,
     step: 3,
 };
@@ -78,6 +81,19 @@ const SEVERAL_RANGES: Workload = Workload {
 
 const LATE_STAMPS: Workload = Workload { step: 1 << 29, ..EVEN };
 
+/// A few rows of several columns, set, merged and read back at old stamps and by old scans. In a
+/// small tail, or with few pages, there would be little to read back.
+const OLD_VERSIONS: Workload = Workload {
+    weights: [5, 3, 28, 1, 24, 4, 4, 16, 10, 4, 16, 1, 1, 24, 2, 2, 1],
+    columns: (2, 3),
+    ranges: (1, 1),
+    capacity: (32, 64),
+    spares: (4, 12),
+    bounds_all: true,
+    early_rows: 6,
+    ..EVEN
+};
+
 /// How many workloads there are; a seed's remainder by it chooses one.
 pub const COUNT: u64 = WORKLOADS.len() as u64;
 
@@ -93,7 +109,7 @@ const WORKLOADS: [&Workload; 12] = [
     &SEVERAL_RANGES,
     &LATE_STAMPS,
     &EVEN,
-    &MANY_MERGES,
+    &OLD_VERSIONS,
 ];
 
 /// The workload of a seed.

@@ -7,8 +7,9 @@ use std::fs;
 use std::path::Path;
 use std::sync::OnceLock;
 
-use common::output;
+use common::{output, SITUATIONS};
 use reference::pack::{self, Digest, Kind, Record};
+use reference::survey::Survey;
 use reference::{command, generate};
 
 /// The records of the pack, and what they give.
@@ -144,6 +145,22 @@ fn there_are_random_streams_of_every_workload() {
     }
     let titles: BTreeSet<&String> = streams.iter().map(|(title, _)| title).collect();
     assert_eq!(titles.len(), streams.len(), "a title names one stream");
+}
+
+#[test]
+fn streams_by_hand_meet_every_situation_of_a_read_by_every_command_that_can() {
+    let mut survey = Survey::default();
+    for (title, records) in streams(&pack::short()) {
+        if !title.starts_with("random ") {
+            let bytes: Vec<u8> = records.iter().flat_map(Record::expanded).collect();
+            survey.run(&bytes, false);
+        }
+    }
+    for (situation, commands) in SITUATIONS {
+        for byte in commands {
+            assert!(survey.met(situation, *byte) > 0, "{situation:?} by {byte:02X}");
+        }
+    }
 }
 
 #[test]

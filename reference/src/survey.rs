@@ -10,7 +10,8 @@ use crate::history::Situation;
 use crate::program;
 use crate::text::NAMES;
 
-/// The counts of many streams, from the lines that the program wrote for them.
+/// The counts of many streams, from the lines that the program wrote for them, and from the lists
+/// before each read.
 #[derive(Default)]
 pub struct Survey {
     pub streams: u64,

@@ -11,7 +11,8 @@
  * lent, and answers DESKROOK_MEMORY wherever a stored fact fails.
  *
  * ANSWERS. `result` is DESKROOK_OK, DESKROOK_NONE or the number of a refusal. A refused call changes no byte of memory and list. The other fields are said with
- * each call; a field of which nothing is said is 0, and all of them are 0 where the result is not DESKROOK_OK.
+ * each call; a field of which nothing is said is 0, and all of them are 0 where the result is not DESKROOK_OK. A read of one cell that gives a value gives in `stamp`
+ * that of the commit that set this column in this row, be it an update's or the insert's; 0 while that commit is still to come.
  *
  * NUMBERS. Rows and columns count from 0, ranges too; row r lies in range r / 64. Transactions, scans and tail records count from 1. A stamp is a count of minutes
  * since 1 January 2000 UTC. Any number may be passed: one that is not there is refused. Each call says its refusals in the order in which they are tested. */
@@ -40,6 +41,7 @@ typedef struct deskrook_reply {
     uint32_t result; /* one of enum deskrook_result */
     uint32_t first;
     uint32_t second;
+    uint32_t stamp;
     int64_t sum;
 } deskrook_reply;
 
@@ -112,14 +114,16 @@ deskrook_reply deskrook_abort(uint8_t *mem, size_t mem_length, const deskrook_sc
 
 /* ---- reads: they change neither memory nor list ---- */
 
-/* The value at the last commit. first: the value (deskrook_value); or NONE. Refusals: MEMORY, ROW, COLUMN. */
+/* The value at the last commit. first: the value (deskrook_value); stamp: of the commit that set it; or NONE. Refusals: MEMORY, ROW, COLUMN. */
 deskrook_reply deskrook_latest(const uint8_t *mem, size_t mem_length, const deskrook_scan_entry *scans, size_t scans_length, uint32_t row, uint32_t column);
 
-/* The value at a stamp, which must not be later than the last commit's. first: the value; or NONE. Refusals: MEMORY, TIME, ROW, COLUMN. */
+/* The value at a stamp, which must not be later than the last commit's. first: the value; stamp: of the commit that set it; or NONE.
+ * Refusals: MEMORY, TIME, ROW, COLUMN. */
 deskrook_reply deskrook_read_at(const uint8_t *mem, size_t mem_length, const deskrook_scan_entry *scans, size_t scans_length, uint32_t stamp, uint32_t row,
                                 uint32_t column);
 
-/* The value that a transaction sees: its own pending changes above the latest. first: the value; or NONE. Refusals: MEMORY, TRANSACTION, ROW, COLUMN. */
+/* The value that a transaction sees: its own pending changes above the latest. first: the value; stamp: of the commit that set it, 0 for a pending value, those of
+ * a row that it inserted included; or NONE. Refusals: MEMORY, TRANSACTION, ROW, COLUMN. */
 deskrook_reply deskrook_own_read(const uint8_t *mem, size_t mem_length, const deskrook_scan_entry *scans, size_t scans_length, uint32_t transaction, uint32_t row,
                                  uint32_t column);
 
@@ -129,7 +133,8 @@ deskrook_reply deskrook_own_read(const uint8_t *mem, size_t mem_length, const de
  * Refusals: MEMORY, TIME, NUMBER, BUSY. */
 deskrook_reply deskrook_open_scan(uint8_t *mem, size_t mem_length, deskrook_scan_entry *scans, size_t scans_length, uint32_t stamp);
 
-/* The value at a scan's stamp, read in the pages that were current at its opening. first: the value; or NONE. Refusals: MEMORY, SCAN, ROW, COLUMN. */
+/* The value at a scan's stamp, read in the pages that were current at its opening. first: the value; stamp: of the commit that set it; or NONE.
+ * Refusals: MEMORY, SCAN, ROW, COLUMN. */
 deskrook_reply deskrook_scan_read(const uint8_t *mem, size_t mem_length, const deskrook_scan_entry *scans, size_t scans_length, uint32_t scan, uint32_t row,
                                   uint32_t column);
 

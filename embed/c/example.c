@@ -6,19 +6,27 @@
 
 #include "deskrook.h"
 
-/* Prints a call's line. `fields` is what an accepted answer shows: "" for nothing, "n" for a number, "v" for a value. Any other answer is a refusal, which the
- * program may act on by its number. */
+/* Prints a call's line. `fields` is what an accepted answer shows: "" for nothing, "n" for a number, "v" for a value, "vs" for a value and the stamp of the commit
+ * that set it. Any other answer is a refusal, which the program may act on by its number. */
 static void show(const char *name, deskrook_reply reply, const char *fields) {
-    if (reply.result == DESKROOK_NONE)
+    if (reply.result == DESKROOK_NONE) {
         printf("%s ok none\n", name);
-    else if (reply.result != DESKROOK_OK)
+        return;
+    }
+    if (reply.result != DESKROOK_OK) {
         printf("%s no %" PRIu32 "\n", name, reply.result);
-    else if (fields[0] == 'n')
-        printf("%s ok %" PRIu32 "\n", name, reply.first);
-    else if (fields[0] == 'v')
-        printf("%s ok %" PRId32 "\n", name, deskrook_value(reply));
-    else
-        printf("%s ok\n", name);
+        return;
+    }
+    printf("%s ok", name);
+    for (; *fields != 0; fields++) {
+        if (*fields == 'n')
+            printf(" %" PRIu32, reply.first);
+        else if (*fields == 'v')
+            printf(" %" PRId32, deskrook_value(reply));
+        else
+            printf(" %" PRIu32, reply.stamp);
+    }
+    printf("\n");
 }
 
 int main(void) {
@@ -52,13 +60,13 @@ int main(void) {
     const int32_t raised[] = {1250, 0};
     deskrook_reply updated = deskrook_update(mem, length, scans, entries, begun.first, gate, 1, raised, 2);
     show("03", updated, "n");
-    /* Not committed yet, so the latest is the inserted value. */
-    show("07", deskrook_latest(mem, length, scans, entries, gate, 0), "v");
+    /* Not committed yet, so the latest is the inserted value, set by the commit at 10. */
+    show("07", deskrook_latest(mem, length, scans, entries, gate, 0), "vs");
     show("05", deskrook_commit(mem, length, scans, entries, begun.first, 20), "");
 
     show("0E", deskrook_merge(mem, length, scans, entries, 0, 0, updated.first), "");
     /* The value before the update, though the page holds the new one. */
-    show("08", deskrook_read_at(mem, length, scans, entries, 10, gate, 0), "v");
+    show("08", deskrook_read_at(mem, length, scans, entries, 10, gate, 0), "vs");
     show("10", deskrook_page_cell(mem, length, scans, entries, 0, gate), "v");
     /* The page holds this record already. */
     show("0E", deskrook_merge(mem, length, scans, entries, 0, 0, updated.first), "");

@@ -17,6 +17,7 @@ pub struct Reply {
     pub result: u32,
     pub first: u32,
     pub second: u32,
+    pub stamp: u32,
     pub sum: i64,
 }
 

@@ -7,7 +7,7 @@
 //! nothing, and keeps nothing elsewhere.
 //!
 //! ```
-//! use deskrook::{Mask, ScanEntry, Shape, Stamp, Store, SCANS};
+//! use deskrook::{Mask, ScanEntry, Shape, Stamp, Store, Version, SCANS};
 //!
 //! # fn main() -> Result<(), deskrook::Refusal> {
 //! let shape = Shape { columns: 2, ranges: 1, capacity: 4, spares: 1 };
@@ -21,12 +21,14 @@
 //!
 //! let transaction = store.begin()?;
 //! store.update(transaction, gate, Mask::of(&[0]), &[1250])?;
-//! assert_eq!(store.latest(gate, 0)?, Some(1200));
-//! assert_eq!(store.own_read(transaction, gate, 0)?, Some(1250));
+//! let inserted = Version { value: 1200, stamp: Stamp(10) };
+//! let pending = Version { value: 1250, stamp: Stamp(0) };
+//! assert_eq!(store.latest(gate, 0)?, Some(inserted));
+//! assert_eq!(store.own_read(transaction, gate, 0)?, Some(pending));
 //! store.commit(transaction, Stamp(20))?;
 //!
-//! assert_eq!(store.latest(gate, 0)?, Some(1250));
-//! assert_eq!(store.read_at(Stamp(10), gate, 0)?, Some(1200));
+//! assert_eq!(store.latest(gate, 0)?, Some(Version { value: 1250, stamp: Stamp(20) }));
+//! assert_eq!(store.read_at(Stamp(19), gate, 0)?, Some(inserted));
 //! assert_eq!(store.read_at(Stamp(9), gate, 0)?, None);
 //! # Ok(())
 //! # }
@@ -57,6 +59,6 @@ mod numbers;
 mod refusal;
 mod store;
 
-pub use numbers::{Lineage, Mask, Row, ScanNumber, Stamp, Sum, Tail, Transaction};
+pub use numbers::{Lineage, Mask, Row, ScanNumber, Stamp, Sum, Tail, Transaction, Version};
 pub use refusal::Refusal;
 pub use store::{ScanEntry, Shape, Store, SCANS};

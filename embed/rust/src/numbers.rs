@@ -44,6 +44,13 @@ impl Mask {
     }
 }
 
+/// A value, and the stamp of the commit that set it, `Stamp(0)` while that commit is still to come.
+#[derive(Clone, Copy, Debug, PartialEq, Eq)]
+pub struct Version {
+    pub value: i32,
+    pub stamp: Stamp,
+}
+
 /// The rows that a scan sees, and the sum of one of their columns.
 #[derive(Clone, Copy, Debug, PartialEq, Eq)]
 pub struct Sum {

@@ -1,7 +1,7 @@
 //! The store over lent memory.
 
 use crate::c::{self, Reply};
-use crate::{Lineage, Mask, Refusal, Row, ScanNumber, Stamp, Sum, Tail, Transaction};
+use crate::{Lineage, Mask, Refusal, Row, ScanNumber, Stamp, Sum, Tail, Transaction, Version};
 
 /// The fewest entries of a scan list, which is also how many scans can be open.
 pub const SCANS: usize = 16;
@@ -79,10 +79,11 @@ fn accepted(reply: Reply) -> Result<Reply, Refusal> {
     }
 }
 
-/// What a read answers: a value, or none.
-fn read(reply: Reply) -> Result<Option<i32>, Refusal> {
+/// What a read answers: a value with its stamp, or none.
+fn read(reply: Reply) -> Result<Option<Version>, Refusal> {
     let reply = accepted(reply)?;
-    Ok((reply.result == c::OK).then_some(reply.first as i32))
+    let version = Version { value: reply.first as i32, stamp: Stamp(reply.stamp) };
+    Ok((reply.result == c::OK).then_some(version))
 }
 
 /// Calls a function of the C interface with a store's memory and list, and its numbers.
@@ -251,25 +252,29 @@ impl<'a> Store<'a> {
         accepted(call!(mut self, deskrook_abort, transaction.0)).map(|_| ())
     }
 
-    /// The value at the last commit, or none where the row is not there then.
+    /// The value at the last commit with the stamp of the commit that set it, or none where the row
+    /// is not there then.
     ///
     /// # Errors
     ///
     /// [`Refusal::Row`], [`Refusal::Column`].
-    pub fn latest(&self, row: Row, column: u32) -> Result<Option<i32>, Refusal> {
+    pub fn latest(&self, row: Row, column: u32) -> Result<Option<Version>, Refusal> {
         read(call!(ref self, deskrook_latest, row.0, column))
     }
 
-    /// The value at a stamp not later than the last commit's.
+    /// The value at a stamp not later than the last commit's, with the stamp of the commit that set
+    /// it, or none.
     ///
     /// # Errors
     ///
     /// [`Refusal::Time`], [`Refusal::Row`], [`Refusal::Column`].
-    pub fn read_at(&self, stamp: Stamp, row: Row, column: u32) -> Result<Option<i32>, Refusal> {
+    pub fn read_at(&self, stamp: Stamp, row: Row, column: u32) -> Result<Option<Version>, Refusal> {
         read(call!(ref self, deskrook_read_at, stamp.0, row.0, column))
     }
 
-    /// The value that a transaction sees: its own pending changes above the latest.
+    /// The value that a transaction sees, its own pending changes above the latest, or none. The
+    /// stamp is that of the commit that set the value; `Stamp(0)` for a pending one, those of a row
+    /// that the transaction inserted included.
     ///
     /// # Errors
     ///
@@ -279,14 +284,14 @@ impl<'a> Store<'a> {
         transaction: Transaction,
         row: Row,
         column: u32,
-    ) -> Result<Option<i32>, Refusal> {
+    ) -> Result<Option<Version>, Refusal> {
         read(call!(ref self, deskrook_own_read, transaction.0, row.0, column))
     }
 
     /// Opens a scan at a stamp not later than the last commit's.
     ///
     /// ```
-    /// use deskrook::{Mask, ScanEntry, Shape, Stamp, Store, Sum, SCANS};
+    /// use deskrook::{Mask, ScanEntry, Shape, Stamp, Store, Sum, Version, SCANS};
     ///
     /// # fn main() -> Result<(), deskrook::Refusal> {
     /// # let shape = Shape { columns: 1, ranges: 1, capacity: 4, spares: 1 };
@@ -303,7 +308,8 @@ impl<'a> Store<'a> {
     /// store.commit(transaction, Stamp(20))?;
     /// store.merge(0, 0, last)?;
     ///
-    /// assert_eq!(store.scan_read(scan, gate, 0)?, Some(1200));
+    /// let old = Version { value: 1200, stamp: Stamp(10) };
+    /// assert_eq!(store.scan_read(scan, gate, 0)?, Some(old));
     /// assert_eq!(store.sum(scan, 0)?, Sum { rows: 2, sum: 1170 });
     /// assert_eq!(store.release()?, 0); // the scan still reads the old page
     /// store.close_scan(scan)?;
@@ -319,7 +325,8 @@ impl<'a> Store<'a> {
         Ok(ScanNumber(accepted(call!(mut self, deskrook_open_scan, stamp.0))?.first))
     }
 
-    /// The value at a scan's stamp, read in the pages that were current at its opening.
+    /// The value at a scan's stamp, read in the pages that were current at its opening, with the
+    /// stamp of the commit that set it, or none.
     ///
     /// # Errors
     ///
@@ -329,7 +336,7 @@ impl<'a> Store<'a> {
         scan: ScanNumber,
         row: Row,
         column: u32,
-    ) -> Result<Option<i32>, Refusal> {
+    ) -> Result<Option<Version>, Refusal> {
         read(call!(ref self, deskrook_scan_read, scan.0, row.0, column))
     }
 

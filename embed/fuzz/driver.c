@@ -1,7 +1,8 @@
 /* Damaged memory from outside: an input's bytes become a store, words written into it at will, and calls with any numbers over any bytes and any list, through the C
- * interface. Of every call: the result is 2 exactly where facts.c finds a failing fact; it is one that the call may answer; fields that it has not are 0; a refusal
- * changes no byte; an accepted call changes only what it may, and the facts hold again. Memory, list and values end or begin at a page that cannot be read, and the rest of
- * their own pages is marked, so that neither a read nor a write outside goes unseen though the library itself is not instrumented.
+ * interface. Of every call: the result is 2 exactly where facts.c finds a failing fact; it is one that the call may answer; fields that it has not are 0; the stamp of a
+ * value read is not after its reader's; a refusal changes no byte; an accepted call changes only what it may, and the facts hold again. Memory, list and values end or begin
+ * at a page that cannot be read, and the rest of their own pages is marked, so that neither a read nor a write outside goes unseen though the library itself is not
+ * instrumented.
  *
  * LLVMFuzzerTestOneInput is called by libFuzzer, or by random.c with random bytes. */
 #define _DEFAULT_SOURCE
@@ -193,7 +194,7 @@ enum call {
     CALLS
 };
 
-enum { WRITES_MEMORY = 1, WRITES_LIST = 2, MAY_BE_NONE = 4, HAS_FIRST = 8, HAS_SECOND = 16, HAS_SUM = 32 };
+enum { WRITES_MEMORY = 1, WRITES_LIST = 2, MAY_BE_NONE = 4, HAS_FIRST = 8, HAS_SECOND = 16, HAS_STAMP = 32, HAS_SUM = 64 };
 
 #define MAY(number) (UINT32_C(1) << (number))
 
@@ -210,11 +211,11 @@ static const struct {
     [DELETE] = {"delete", "tr", WRITES_MEMORY | HAS_FIRST, MAY(3) | MAY(5) | MAY(9) | MAY(10) | MAY(12)},
     [COMMIT] = {"commit", "td", WRITES_MEMORY, MAY(3) | MAY(13)},
     [ABORT] = {"abort", "t", WRITES_MEMORY, MAY(3)},
-    [LATEST] = {"latest", "rc", HAS_FIRST | MAY_BE_NONE, MAY(5) | MAY(6)},
-    [READ_AT] = {"read_at", "drc", HAS_FIRST | MAY_BE_NONE, MAY(13) | MAY(5) | MAY(6)},
-    [OWN_READ] = {"own_read", "trc", HAS_FIRST | MAY_BE_NONE, MAY(3) | MAY(5) | MAY(6)},
+    [LATEST] = {"latest", "rc", HAS_FIRST | HAS_STAMP | MAY_BE_NONE, MAY(5) | MAY(6)},
+    [READ_AT] = {"read_at", "drc", HAS_FIRST | HAS_STAMP | MAY_BE_NONE, MAY(13) | MAY(5) | MAY(6)},
+    [OWN_READ] = {"own_read", "trc", HAS_FIRST | HAS_STAMP | MAY_BE_NONE, MAY(3) | MAY(5) | MAY(6)},
     [OPEN_SCAN] = {"open_scan", "d", WRITES_MEMORY | WRITES_LIST | HAS_FIRST, MAY(13) | MAY(15) | MAY(14)},
-    [SCAN_READ] = {"scan_read", "src", HAS_FIRST | MAY_BE_NONE, MAY(4) | MAY(5) | MAY(6)},
+    [SCAN_READ] = {"scan_read", "src", HAS_FIRST | HAS_STAMP | MAY_BE_NONE, MAY(4) | MAY(5) | MAY(6)},
     [SUM] = {"sum", "sc", HAS_FIRST | HAS_SUM, MAY(4) | MAY(6)},
     [CLOSE_SCAN] = {"close_scan", "s", WRITES_LIST, MAY(4)},
     [MERGE] = {"merge", "gcn", WRITES_MEMORY, MAY(7) | MAY(6) | MAY(16) | MAY(17) | MAY(18)},
@@ -317,6 +318,21 @@ static uint32_t due(enum call call, const uint32_t measures[4], uint32_t *need) 
     return call == MAKE && (memory.length < *need || entries() < DESKROOK_SCANS) ? DESKROOK_MEMORY : DESKROOK_OK;
 }
 
+/* The latest stamp that a read may give: its reader's. What set the value was seen by this reader, or is the insert of a row that it sees. It sees what was committed
+ * by its stamp, and of what is pending its own, for which the stamp given is 0, whatever the memory has in that place. */
+static uint32_t latest_stamp(enum call call, const uint32_t numbers[4]) {
+    const deskrook_scan_entry *s = (const deskrook_scan_entry *)(const void *)list.first;
+    if (call == READ_AT)
+        return numbers[0];
+    if (call != SCAN_READ)
+        return word_at(memory.first, LAST_STAMP);
+    for (size_t at = 0; at < entries(); at++)
+        if (numbers[0] != 0 && s[at].number == numbers[0])
+            return s[at].stamp;
+    fail(about[call].name, "a value from a scan that is not open");
+    return 0;
+}
+
 static void call_and_judge(enum call call, struct input *in) {
     const char *name = about[call].name;
     int does = about[call].does;
@@ -354,8 +370,11 @@ static void call_and_judge(enum call call, struct input *in) {
         fail(name, "none from a call that reads no row");
     }
     int ok = result == DESKROOK_OK;
-    if ((reply.first != 0 && !(ok && does & HAS_FIRST)) || (reply.second != 0 && !(ok && does & HAS_SECOND)) || (reply.sum != 0 && !(ok && does & HAS_SUM)))
+    if ((reply.first != 0 && !(ok && does & HAS_FIRST)) || (reply.second != 0 && !(ok && does & HAS_SECOND)) || (reply.stamp != 0 && !(ok && does & HAS_STAMP)) ||
+        (reply.sum != 0 && !(ok && does & HAS_SUM)))
         fail(name, "a field that the answer does not have is filled");
+    if (ok && does & HAS_STAMP && reply.stamp > latest_stamp(call, numbers))
+        fail(name, "a stamp after the reader's");
 
     look_around(name, &memory);
     look_around(name, &list);

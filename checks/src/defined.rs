@@ -104,7 +104,7 @@ struct PageWords {
     newest: u32,
 }
 
-/// The number above which every record of a range lies.
+/// The number below the first record of a range.
 const FLOOR: u32 = 0;
 
 enum Found {

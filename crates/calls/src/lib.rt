@@ -171,7 +171,7 @@ pub fn release(mem: &mut [u8], scans: &[ScanEntry]) -> Answer
     upkeep::release(mem, t)
 }
 
-// The value of a row and column by the last commit.
+// The version of a row and column by the last commit.
 pub fn latest(mem: &[u8], scans: &[ScanEntry], row: Row, column: u32) -> Answer
     ensures { λ r. ⌜ Serves (now (mem .entry)) (now (scans .entry)) (Call.latest (row .0) column) r (now (mem .entry)) (now (scans .entry)) ⌝ }
 {
@@ -179,7 +179,7 @@ pub fn latest(mem: &[u8], scans: &[ScanEntry], row: Row, column: u32) -> Answer
     lookups::latest(mem, t, row, column)
 }
 
-// The value of a row and column at a stamp.
+// The version of a row and column at a stamp.
 pub fn read_at(mem: &[u8], scans: &[ScanEntry], stamp: Stamp, row: Row, column: u32) -> Answer
     ensures { λ r. ⌜ Serves (now (mem .entry)) (now (scans .entry)) (Call.readAt (stamp .0) (row .0) column) r (now (mem .entry)) (now (scans .entry)) ⌝ }
 {
@@ -187,7 +187,7 @@ pub fn read_at(mem: &[u8], scans: &[ScanEntry], stamp: Stamp, row: Row, column: 
     lookups::read_at(mem, t, stamp, row, column)
 }
 
-// The value of a row and column for an open transaction, its own changes among what it sees.
+// The version of a row and column for an open transaction, its own changes among what it sees.
 pub fn own_read(
     mem: &[u8],
     scans: &[ScanEntry],
@@ -201,7 +201,7 @@ pub fn own_read(
     lookups::own_read(mem, t, transaction, row, column)
 }
 
-// The value of a row and column for an open scan.
+// The version of a row and column for an open scan.
 pub fn scan_read(mem: &[u8], scans: &[ScanEntry], scan: u32, row: Row, column: u32) -> Answer
     ensures { λ r. ⌜ Serves (now (mem .entry)) (now (scans .entry)) (Call.scanRead scan (row .0) column) r (now (mem .entry)) (now (scans .entry)) ⌝ }
 {

@@ -114,7 +114,7 @@ pub extern "C" fn deskrook_release(mem: &mut [u8], scans: &[ScanEntry]) -> Reply
     encode(calls::release(mem, scans))
 }
 
-// The value of a row and column by the last commit.
+// The version of a row and column by the last commit.
 #[no_mangle]
 pub extern "C" fn deskrook_latest(mem: &[u8], scans: &[ScanEntry], row: Row, column: u32) -> Reply
     ensures { λ r. ⌜ Replies (now (mem .entry)) (now (scans .entry)) (Call.latest (row .0) column) r (now (mem .entry)) (now (scans .entry)) ⌝ }
@@ -122,7 +122,7 @@ pub extern "C" fn deskrook_latest(mem: &[u8], scans: &[ScanEntry], row: Row, col
     encode(calls::latest(mem, scans, row, column))
 }
 
-// The value of a row and column at a stamp.
+// The version of a row and column at a stamp.
 #[no_mangle]
 pub extern "C" fn deskrook_read_at(
     mem: &[u8],
@@ -136,7 +136,7 @@ pub extern "C" fn deskrook_read_at(
     encode(calls::read_at(mem, scans, stamp, row, column))
 }
 
-// The value of a row and column for an open transaction, its own changes among what it sees.
+// The version of a row and column for an open transaction, its own changes among what it sees.
 #[no_mangle]
 pub extern "C" fn deskrook_own_read(
     mem: &[u8],
@@ -150,7 +150,7 @@ pub extern "C" fn deskrook_own_read(
     encode(calls::own_read(mem, scans, transaction, row, column))
 }
 
-// The value of a row and column for an open scan.
+// The version of a row and column for an open scan.
 #[no_mangle]
 pub extern "C" fn deskrook_scan_read(
     mem: &[u8],

@@ -61,7 +61,7 @@ fn row_tests(mem: &[u8], s: Sizes, row: Row, column: u32) -> Tested
     Tested::Passed(g)
 }
 
-// The value of a row and column by the last commit.
+// The version of a row and column by the last commit.
 pub fn latest(mem: &[u8], t: Scans, row: Row, column: u32) -> Answer
     ensures { λ r. ⌜ ServesBy t (now (mem .entry)) (Call.latest (row .0) column) r (now (mem .entry)) kept ⌝ }
 {
@@ -92,7 +92,7 @@ fn read_at_tests(mem: &[u8], s: Sizes, stamp: Stamp, row: Row, column: u32) -> T
     row_tests(mem, s, row, column)
 }
 
-// The value of a row and column at a stamp.
+// The version of a row and column at a stamp.
 pub fn read_at(mem: &[u8], t: Scans, stamp: Stamp, row: Row, column: u32) -> Answer
     ensures { λ r. ⌜ ServesBy t (now (mem .entry)) (Call.readAt (stamp .0) (row .0) column) r (now (mem .entry)) kept ⌝ }
 {
@@ -127,7 +127,7 @@ fn own_read_tests(mem: &[u8], s: Sizes, transaction: Transaction, row: Row, colu
     }
 }
 
-// The value of a row and column for an open transaction, its own changes among what it sees.
+// The version of a row and column for an open transaction, its own changes among what it sees.
 pub fn own_read(mem: &[u8], t: Scans, transaction: Transaction, row: Row, column: u32) -> Answer
     ensures { λ r. ⌜ ServesBy t (now (mem .entry)) (Call.ownRead (transaction .0) (row .0) column) r (now (mem .entry)) kept ⌝ }
 {
@@ -178,7 +178,7 @@ fn scan_read_tests(mem: &[u8], s: Sizes, t: Scans, scan: u32, row: Row, column: 
     }
 }
 
-// The value of a row and column for an open scan, on the page that was current at its opening.
+// The version of a row and column for an open scan, on the page that was current at its opening.
 pub fn scan_read(mem: &[u8], t: Scans, scan: u32, row: Row, column: u32) -> Answer
     ensures { λ r. ⌜ ServesBy t (now (mem .entry)) (Call.scanRead scan (row .0) column) r (now (mem .entry)) kept ⌝ }
 {

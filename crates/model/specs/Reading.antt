@@ -68,7 +68,7 @@ abbrev pub orElse : {A : Type 0} → Found → (ℕ → A) → A → A
 orElse (Found.At i) at x = at i
 orElse Found.Nothing at x = x
 
--- the number at which the records of a range stop, seen from above: the first is one more
+-- the number below the first record of a range: down to it, every record is looked at
 abbrev pub floor : ℕ
 floor = 0
 
@@ -86,12 +86,12 @@ wordIn S v who p r c =
     cond (bit (x .mask) c) (orElse found (λ i. valueIn S v i c) cell) cell
 
 -- ---- who set it
--- A record that answers is the setter's, but for an original: its value is the insert's, whoever's update wrote it down.
+-- Rule 10.8. A record that answers was made by the setter, but for an original: its value is the insert's, whoever's update wrote it down.
 unfoldable pub setterAt : View → ℕ → Setter
 setterAt v i = cond (originalKind ((recordIn v i) .kind)) Setter.Insert (Setter.Update i)
 
--- Whichever page a reader looks at, the records above and below its lineage are looked at. A column that no update has set, or for which no record answers, has its
--- value from the insert.
+-- Whichever page the value is from, the records above and below its lineage are looked at. A column that no update has set, or for which no record answers, was set by
+-- the insert.
 unfoldable pub setterIn : Shape → View → Reader → ℕ → ℕ → Setter
 setterIn S v who r c =
     let x = rowIn v r in

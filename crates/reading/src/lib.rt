@@ -33,7 +33,7 @@ ghost use Rattle.model.specs.Preconditions.{shapeIn, Linked, Pooled};
 ghost use Rattle.rows.specs.Finders.{Inside};
 ghost use Rattle.reading.specs.Setters.{RecordInside};
 
-// The number above which every record of a range lies.
+// The number below the first record of a range.
 const FLOOR: u32 = 0;
 
 // The word of column c in the tail record at a slot.

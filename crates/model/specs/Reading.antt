@@ -63,6 +63,13 @@ walk S v who g c low (suc n) k =
     let further = walk S v who g c low n (x .link) in
     cond (leb k low) Found.Nothing (cond (answersFor who c x) (Found.At (slot S g k)) further)
 
+-- the record that answers for row r and column c, of those with a number above `low`: none for a column that no update has set
+unfoldable pub foundIn : Shape → View → Reader → ℕ → ℕ → ℕ → Found
+foundIn S v who low r c =
+    let x = rowIn v r in
+    let found = walk S v who (rangeOf r) c low (x .link) (x .link) in
+    cond (bit (x .mask) c) found Found.Nothing
+
 -- what is read of the slot found, or else x
 abbrev pub orElse : {A : Type 0} → Found → (ℕ → A) → A → A
 orElse (Found.At i) at x = at i
@@ -72,31 +79,23 @@ orElse Found.Nothing at x = x
 abbrev pub floor : ℕ
 floor = 0
 
--- How far down a reader looks: the records up to a page's lineage are in its cells, unless the page holds a setting later than the stamp.
+-- How far down a reader looks for a value: the records up to a page's lineage are in its cells, unless the page holds a setting later than the stamp.
 unfoldable pub downTo : Reader → PageWords → ℕ
 downTo who page = cond (leb (page .newest) (who .stamp .0)) (page .lineage) floor
 
--- the word of row r and column c, on page p. A column that no update has set is in the page alone. Where no record answers, the page's cell does; in a store
--- that calls made, one answers where a reader looks further down than the lineage: at the latest the column's original.
+-- the word of row r and column c, on page p. Where no record answers, the page's cell does; in a store that calls made, one answers where a reader looks further
+-- down than the lineage: at the latest the column's original.
 unfoldable pub wordIn : Shape → View → Reader → ℕ → ℕ → ℕ → ℕ
-wordIn S v who p r c =
-    let x = rowIn v r in
-    let cell = cellIn v p (within r) in
-    let found = walk S v who (rangeOf r) c (downTo who (pageIn v p)) (x .link) (x .link) in
-    cond (bit (x .mask) c) (orElse found (λ i. valueIn S v i c) cell) cell
+wordIn S v who p r c = orElse (foundIn S v who (downTo who (pageIn v p)) r c) (λ i. valueIn S v i c) (cellIn v p (within r))
 
 -- ---- who set it
 -- Rule 10.8. A record that answers was made by the setter, but for an original: its value is the insert's, whoever's update wrote it down.
 unfoldable pub setterAt : View → ℕ → Setter
 setterAt v i = cond (originalKind ((recordIn v i) .kind)) Setter.Insert (Setter.Update i)
 
--- Whichever page the value is from, the records above and below its lineage are looked at. A column that no update has set, or for which no record answers, was set by
--- the insert.
+-- Whichever page the value is from, the records above and below its lineage are looked at. Where none answers, the insert set it.
 unfoldable pub setterIn : Shape → View → Reader → ℕ → ℕ → Setter
-setterIn S v who r c =
-    let x = rowIn v r in
-    let found = walk S v who (rangeOf r) c floor (x .link) (x .link) in
-    cond (bit (x .mask) c) (orElse found (setterAt v) Setter.Insert) Setter.Insert
+setterIn S v who r c = orElse (foundIn S v who floor r c) (setterAt v) Setter.Insert
 
 -- the stamp of a commit; 0 for what is not committed, whatever its word for the stamp says
 unfoldable pub commitStamp : ℕ → ℕ → ℕ

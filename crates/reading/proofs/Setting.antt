@@ -1,38 +1,23 @@
 -- Who set a row and column, and the stamp that is shown of it: one lemma for each way through the code.
 use Prim.Native.Nat.{ℕ, _<_}
 use mathlib.Core.Path.{_≡_, ap₂, _∙_}
-use mathlib.Core.Bool.{Bool, true, false, not}
 use lib.ListN.{getD}
-use borrow.Author.Tests.{ne-eqb, not-true, not-false}
-use Rattle.loops.specs.declared.Found.{Found}
-use Rattle.layout.specs.declared.Region.the-variants.{TailKind, TailState, TailStamp, RowMask, RowLink, RowState, RowStamp}
+use borrow.Author.Tests.{ne-eqb}
+use Rattle.layout.specs.declared.Region.the-variants.{TailKind, TailState, TailStamp, RowState, RowStamp}
 use Rattle.layout.specs.View.{View}
-use Rattle.terms.specs.Measures.{Shape}
-use Rattle.history.specs.History.{bit, rangeOf}
-use Rattle.model.specs.declared.Reader.{Reader}
 use Rattle.model.specs.declared.Setter.{Setter}
 use Rattle.model.specs.Stored.{rowIn, recordIn}
 use Rattle.reading.specs.Setters.{RecordInside}
-use Rattle.model.specs.Reading.{walk, floor, setterAt, setterIn, commitStamp, setterStamp}
+use Rattle.model.specs.Reading.{setterAt, commitStamp, setterStamp}
 
-module _ (S : Shape) (v : View) (who : Reader) (c r mask : ℕ) (m : mask ≡ getD (v RowMask) r 0) (has : Bool) (b : has ≡ bit mask c) where
-  pub setter-alone : not has ≡ true → Setter.Insert ≡ setterIn S v who r c
-  unfolding setterIn rowIn
-  setter-alone f = rw (← m, ← b, not-true has f)
+module _ (v : View) (at kind : ℕ) (d : kind ≡ getD (v TailKind) at 0) where
+  pub setter-original : kind ≡ 0 → Setter.Insert ≡ setterAt v at
+  unfolding setterAt recordIn
+  setter-original e = rw (← d, e)
 
-  module _ (g link : ℕ) (w : Found) (t : not has ≡ false) (i : g ≡ rangeOf r) (l : link ≡ getD (v RowLink) r 0) (q : w ≡ walk S v who g c floor link link) where
-    pub setter-none : w ≡ Found.Nothing → Setter.Insert ≡ setterIn S v who r c
-    unfolding setterIn rowIn
-    setter-none f = rw (← m, ← b, not-false has t, ← i, ← l, ← q, f)
-
-    module _ (j kind : ℕ) (f : w ≡ Found.At j) (d : kind ≡ getD (v TailKind) j 0) where
-      pub setter-original : kind ≡ 0 → Setter.Insert ≡ setterIn S v who r c
-      unfolding setterIn setterAt rowIn recordIn
-      setter-original e = rw (← m, ← b, not-false has t, ← i, ← l, ← q, f, ← d, e)
-
-      pub setter-update : (kind ≡ 0 → ⊥) → Setter.Update j ≡ setterIn S v who r c
-      unfolding setterIn setterAt rowIn recordIn
-      setter-update n = rw (← m, ← b, not-false has t, ← i, ← l, ← q, f, ← d, ne-eqb kind 0 n)
+  pub setter-update : (kind ≡ 0 → ⊥) → Setter.Update at ≡ setterAt v at
+  unfolding setterAt recordIn
+  setter-update n = rw (← d, ne-eqb kind 0 n)
 
 -- ---- its stamp
 pub record-inside : (x : Setter) (j n : ℕ) → x ≡ Setter.Update j → RecordInside x n → j < n

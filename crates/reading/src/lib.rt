@@ -24,10 +24,12 @@ use terms::Row;
 use terms::Tail;
 use words::of_word;
 ghost use mathlib.Core.Path.{_≡_};
-ghost use Prim.Native.Nat.{_*_, _≤_, _<_};
+ghost use Prim.Native.Nat.{_+_, _≤_, _<_};
+ghost use lib.Dec.{leb};
+ghost use Rattle.layout.specs.Regions.{firstSlot};
 ghost use Rattle.layout.specs.View.{rowsGiven, usedIn, viewOf, Suffices};
 ghost use Rattle.model.specs.Stored.{recordIn, pageIn, valueIn};
-ghost use Rattle.model.specs.Reading.{answersFor, walk, downTo, wordIn, setterIn, commitStamp, setterStamp, lookupIn, shownIn, readIn, readCurrent};
+ghost use Rattle.model.specs.Reading.{answersFor, walk, downTo, foundIn, wordIn, setterAt, commitStamp, setterStamp, lookupIn, shownIn, readIn, readCurrent};
 ghost use Rattle.layout.specs.Sizes.{Proper};
 ghost use Rattle.model.specs.Preconditions.{shapeIn, Linked, Pooled};
 ghost use Rattle.rows.specs.Finders.{Inside};
@@ -97,7 +99,24 @@ fn down_to(mem: &[u8], s: Sizes, who: Reader, page: usize) -> Tail
     Tail(FLOOR)
 }
 
-// The word of a row and column on a page. A column that no update has set is in the page alone.
+// The tail record that answers for a row and column, of those with a number above `low`: none for a column that no update has set.
+fn find(mem: &[u8], s: Sizes, who: Reader, low: Tail, row: Row, c: u32) -> Found
+    requires { ⌜ Suffices s (now mem) ⌝ }
+    requires { ⌜ Proper s ⌝ }
+    requires { ⌜ Linked s (viewOf s (now mem)) ⌝ }
+    requires { ⌜ (c < s .columns) × (row .0 < rowsGiven (viewOf s (now mem))) ⌝ }
+    ensures { λ r. ⌜ r ≡ foundIn (shapeIn s) (viewOf s (now (mem .entry))) who (low .0) (row .0) c ⌝ }
+    ensures { λ r. ⌜ Inside r (s .slots) ⌝ }
+{
+    let i = row.0 as usize;
+    if has_bit(read(mem, s, Region::RowMask, i), c) {
+        let link = Tail(read(mem, s, Region::RowLink, i));
+        return walk(mem, s, who, range_of(row), c, low, link);
+    }
+    Found::Nothing
+}
+
+// The word of a row and column on a page.
 pub fn word_of(mem: &[u8], s: Sizes, who: Reader, page: usize, row: Row, c: u32) -> u32
     requires { ⌜ Suffices s (now mem) ⌝ }
     requires { ⌜ Proper s ⌝ }
@@ -105,36 +124,19 @@ pub fn word_of(mem: &[u8], s: Sizes, who: Reader, page: usize, row: Row, c: u32)
     requires { ⌜ (page < s .pages) × (c < s .columns) × (row .0 < rowsGiven (viewOf s (now mem))) ⌝ }
     ensures { λ r. ⌜ r ≡ wordIn (shapeIn s) (viewOf s (now (mem .entry))) who page (row .0) c ⌝ }
 {
-    let at = cell(mem, s, page, row);
-    let i = row.0 as usize;
-    if has_bit(read(mem, s, Region::RowMask, i), c) {
-        let low = down_to(mem, s, who, page);
-        let link = Tail(read(mem, s, Region::RowLink, i));
-        return match walk(mem, s, who, range_of(row), c, low, link) {
-            Found::At(i) => value(mem, s, i, c),
-            Found::Nothing => at,
-        };
+    match find(mem, s, who, down_to(mem, s, who, page), row, c) {
+        Found::At(i) => value(mem, s, i, c),
+        Found::Nothing => cell(mem, s, page, row),
     }
-    at
 }
 
-// Who set what the reader sees of a row and column. No page is asked, since it has no room for the stamps of its cells; the chain of records is one row's.
-fn setter_of(mem: &[u8], s: Sizes, who: Reader, row: Row, c: u32) -> Setter
+// Who set what the tail record at a slot answers with: an original holds what was inserted.
+fn setter_at(mem: &[u8], s: Sizes, at: usize) -> Setter
     requires { ⌜ Suffices s (now mem) ⌝ }
-    requires { ⌜ Proper s ⌝ }
-    requires { ⌜ Linked s (viewOf s (now mem)) ⌝ }
-    requires { ⌜ (c < s .columns) × (row .0 < rowsGiven (viewOf s (now mem))) ⌝ }
-    ensures { λ r. ⌜ r ≡ setterIn (shapeIn s) (viewOf s (now (mem .entry))) who (row .0) c ⌝ }
+    requires { ⌜ at < s .slots ⌝ }
+    ensures { λ r. ⌜ r ≡ setterAt (viewOf s (now (mem .entry))) at ⌝ }
     ensures { λ r. ⌜ RecordInside r (s .slots) ⌝ }
 {
-    let i = row.0 as usize;
-    if !has_bit(read(mem, s, Region::RowMask, i), c) {
-        return Setter::Insert;
-    }
-    let link = Tail(read(mem, s, Region::RowLink, i));
-    let Found::At(at) = walk(mem, s, who, range_of(row), c, Tail(FLOOR), link) else {
-        return Setter::Insert;
-    };
     if read(mem, s, Region::TailKind, at) == ORIGINAL {
         return Setter::Insert;
     }
@@ -171,7 +173,17 @@ fn commit_stamp(state: u32, stamp: u32) -> u32
     0
 }
 
-// The version of a row and column that the reader sees on a page.
+// Whether the tail record at a slot of range g has a number above `low`.
+fn is_above(s: Sizes, g: usize, at: usize, low: Tail) -> bool
+    requires { ⌜ Proper s ⌝ }
+    requires { ⌜ g < s .ranges ⌝ }
+    ensures { λ r. ⌜ r ≡ leb (firstSlot (s .capacity) g + low .0) at ⌝ }
+{
+    at >= g * s.capacity + low.0 as usize
+}
+
+// The version of a row and column that the reader sees on a page. One walk over all of the row's records finds who set it; where that record's number is not above those
+// that the reader would look at for the value, the page has the value.
 fn lookup(mem: &[u8], s: Sizes, who: Reader, page: usize, row: Row, c: u32) -> Version
     requires { ⌜ Suffices s (now mem) ⌝ }
     requires { ⌜ Proper s ⌝ }
@@ -180,9 +192,24 @@ fn lookup(mem: &[u8], s: Sizes, who: Reader, page: usize, row: Row, c: u32) -> V
     ensures { λ r. ⌜ r ≡ lookupIn (shapeIn s) (viewOf s (now (mem .entry))) who page (row .0) c ⌝ }
     ensures { λ r. ⌜ RecordInside (r .setter) (s .slots) ⌝ }
 {
+    let held = cell(mem, s, page, row);
+    let low = down_to(mem, s, who, page);
+    let Found::At(at) = find(mem, s, who, Tail(FLOOR), row, c) else {
+        return Version {
+            word: held,
+            setter: Setter::Insert,
+        };
+    };
+    let setter = setter_at(mem, s, at);
+    if is_above(s, range_of(row), at, low) {
+        return Version {
+            word: value(mem, s, at, c),
+            setter: setter,
+        };
+    }
     Version {
-        word: word_of(mem, s, who, page, row, c),
-        setter: setter_of(mem, s, who, row, c),
+        word: held,
+        setter: setter,
     }
 }
 

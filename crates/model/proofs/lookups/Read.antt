@@ -30,7 +30,7 @@ use Rattle.terms.specs.declared.ScanEntry.{ScanEntry}
 use Rattle.model.specs.declared.Reader.{Reader}
 use Rattle.model.specs.declared.Setter.{Setter}
 use Rattle.model.specs.Stored.{PageWords, rowIn, recordIn, valueIn, pageIn, cellIn, within, originalKind, settingKind}
-use Rattle.model.specs.Reading.{sees, answersFor, walk, orElse, floor, downTo, wordIn, setterAt, setterIn, commitStamp, setterStamp, lookupIn, shownIn, readIn}
+use Rattle.model.specs.Reading.{sees, answersFor, walk, foundIn, orElse, floor, downTo, wordIn, setterAt, setterIn, commitStamp, setterStamp, lookupIn, shownIn, readIn}
 use Rattle.model.proofs.Lists.{take-next}
 use Rattle.model.specs.Represents.{stateWord, ContentIs, RecordIs, TailOf, Holds, Represents, WellFormed}
 use Rattle.model.proofs.lookups.Heads.{slot-is, in-range, SeesAs, visible-is}
@@ -248,11 +248,11 @@ module _ {S : Shape} {v : View} {ps : List ScanEntry} {h : History} (o : Represe
       (λ _ e. absurd (true≢false (sym (has-original s) ∙ e ∙ (unfold hasOriginal in refl))))
 
   pub word-is : Q r → toZ w32 (wordIn S v who p r c) ≡ versionOf f h r c .value
-  unfolding wordIn
+  unfolding wordIn foundIn
   word-is q = go (bit ((rowIn v r) .mask) c) (o .rows r b .mask c) ∙ ap (λ (y : Version). y .value) (version-range h f r c)
     where
       go : (a : Bool) → a ≡ wasSet list r c
-          → toZ w32 (cond a (orElse (walk S v who g c (downTo who page) ((rowIn v r) .link) ((rowIn v r) .link)) (λ i. valueIn S v i c) cell) cell)
+          → toZ w32 (orElse (cond a (walk S v who g c (downTo who page) ((rowIn v r) .link) ((rowIn v r) .link)) Found.Nothing) (λ i. valueIn S v i c) cell)
           ≡ lastSetting f r c (inserted h r c) list .value
       go true e = walk-value (downTo who page) down-within (cell-answers q (sym e))
       go false e =
@@ -292,11 +292,11 @@ module _ {S : Shape} {v : View} {ps : List ScanEntry} {h : History} (o : Represe
   original-stamp i u t = rw (kind-original _ _ _ _ (lok .each i u .content) t) insert-stamp
 
   stamp-is : setterStamp v r (setterIn S v who r c) ≡ stampOf (stateOf h (versionOf f h r c .setter))
-  unfolding setterIn lastSetting
+  unfolding setterIn foundIn lastSetting
   stamp-is = go (bit ((rowIn v r) .mask) c) (o .rows r b .mask c) ∙ ap (λ (y : Version). stampOf (stateOf h (y .setter))) (version-range h f r c)
     where
       go : (a : Bool) → a ≡ wasSet list r c
-          → setterStamp v r (cond a (orElse (walk S v who g c floor ((rowIn v r) .link) ((rowIn v r) .link)) (setterAt v) Setter.Insert) Setter.Insert)
+          → setterStamp v r (orElse (cond a (walk S v who g c floor ((rowIn v r) .link) ((rowIn v r) .link)) Found.Nothing) (setterAt v) Setter.Insert)
           ≡ stampOf (stateOf h (lastSetting f r c (inserted h r c) list .setter))
       go true e =
           or-map (setterStamp v r) (walk S v who g c floor ((rowIn v r) .link) ((rowIn v r) .link)) (setterAt v) Setter.Insert

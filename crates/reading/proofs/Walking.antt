@@ -133,25 +133,29 @@ module _ (S : Shape) (v : View) (who : Reader) (c p : ℕ) where
     unfolding downTo pageIn
     down-all l = rw (← e, lt-leb newest (who .stamp .0) l)
 
--- ---- the record that answers for row r
-module _ (S : Shape) (v : View) (who : Reader) (c low r mask : ℕ) (m : mask ≡ getD (v RowMask) r 0) (has : Bool) (b : has ≡ bit mask c) where
-  pub found-unset : has ≡ false → Found.Nothing ≡ foundIn S v who low r c
+-- ---- the record that answers for row r, and the word on page p
+module _ (S : Shape) (v : View) (who : Reader) (c r mask : ℕ) (m : mask ≡ getD (v RowMask) r 0) (has : Bool) (b : has ≡ bit mask c) where
+  pub found-unset : (low : ℕ) → has ≡ false → Found.Nothing ≡ foundIn S v who low r c
   unfolding foundIn rowIn
-  found-unset f = rw (← m, ← b, f)
+  found-unset low f = rw (← m, ← b, f)
 
-  pub found-set : (g link : ℕ) (w : Found) → has ≡ true → g ≡ rangeOf r → link ≡ getD (v RowLink) r 0 → w ≡ walk S v who g c low link link → w ≡ foundIn S v who low r c
-  unfolding foundIn rowIn
-  found-set g link w t i l q = rw (← m, ← b, t, ← i, ← l) q
-
--- ---- the word of row r on page p
-module _ (S : Shape) (v : View) (who : Reader) (c p r low : ℕ) (w : Found) (n : low ≡ downTo who (pageIn v p)) (q : w ≡ foundIn S v who low r c) where
-  pub word-found : (j word : ℕ) → w ≡ Found.At j → word ≡ valueIn S v j c → word ≡ wordIn S v who p r c
+  pub word-alone : (p cell : ℕ) → has ≡ false → cell ≡ cellIn v p (within r) → cell ≡ wordIn S v who p r c
   unfolding wordIn
-  word-found j word f d = rw (← n, ← q, f) d
+  word-alone p cell f e = rw (← found-unset (downTo who (pageIn v p)) f) e
 
-  pub word-none : (cell : ℕ) → w ≡ Found.Nothing → cell ≡ cellIn v p (within r) → cell ≡ wordIn S v who p r c
-  unfolding wordIn
-  word-none cell f e = rw (← n, ← q, f) e
+  module _ (g link low : ℕ) (w : Found) (t : has ≡ true) (i : g ≡ rangeOf r) (l : link ≡ getD (v RowLink) r 0) (q : w ≡ walk S v who g c low link link) where
+    pub found-set : w ≡ foundIn S v who low r c
+    unfolding foundIn rowIn
+    found-set = rw (← m, ← b, t, ← i, ← l) q
+
+    module _ (p : ℕ) (n : low ≡ downTo who (pageIn v p)) where
+      pub word-found : (j word : ℕ) → w ≡ Found.At j → word ≡ valueIn S v j c → word ≡ wordIn S v who p r c
+      unfolding wordIn
+      word-found j word f d = rw (← n, ← found-set, f) d
+
+      pub word-none : (cell : ℕ) → w ≡ Found.Nothing → cell ≡ cellIn v p (within r) → cell ≡ wordIn S v who p r c
+      unfolding wordIn
+      word-none cell f e = rw (← n, ← found-set, f) e
 
 -- ---- the version of row r on page p, by one walk over all of its records
 module _ (s : Sizes) (proper : Proper s) (v : View) (linked : Linked s v) (who : Reader) (c p r held low : ℕ) (w : Found) (given : r < rowsGiven v) (e : held ≡ cellIn v p (within r))

@@ -29,7 +29,7 @@ ghost use lib.Dec.{leb};
 ghost use Rattle.layout.specs.Regions.{firstSlot};
 ghost use Rattle.layout.specs.View.{rowsGiven, usedIn, viewOf, Suffices};
 ghost use Rattle.model.specs.Stored.{recordIn, pageIn, valueIn};
-ghost use Rattle.model.specs.Reading.{answersFor, walk, downTo, foundIn, wordIn, setterAt, commitStamp, setterStamp, lookupIn, shownIn, readIn, readCurrent};
+ghost use Rattle.model.specs.Reading.{answersFor, walk, floor, downTo, foundIn, wordIn, setterAt, commitStamp, setterStamp, lookupIn, shownIn, readIn, readCurrent};
 ghost use Rattle.layout.specs.Sizes.{Proper};
 ghost use Rattle.model.specs.Preconditions.{shapeIn, Linked, Pooled};
 ghost use Rattle.rows.specs.Finders.{Inside};
@@ -99,24 +99,7 @@ fn down_to(mem: &[u8], s: Sizes, who: Reader, page: usize) -> Tail
     Tail(FLOOR)
 }
 
-// The tail record that answers for a row and column, of those with a number above `low`: none for a column that no update has set.
-fn find(mem: &[u8], s: Sizes, who: Reader, low: Tail, row: Row, c: u32) -> Found
-    requires { ⌜ Suffices s (now mem) ⌝ }
-    requires { ⌜ Proper s ⌝ }
-    requires { ⌜ Linked s (viewOf s (now mem)) ⌝ }
-    requires { ⌜ (c < s .columns) × (row .0 < rowsGiven (viewOf s (now mem))) ⌝ }
-    ensures { λ r. ⌜ r ≡ foundIn (shapeIn s) (viewOf s (now (mem .entry))) who (low .0) (row .0) c ⌝ }
-    ensures { λ r. ⌜ Inside r (s .slots) ⌝ }
-{
-    let i = row.0 as usize;
-    if has_bit(read(mem, s, Region::RowMask, i), c) {
-        let link = Tail(read(mem, s, Region::RowLink, i));
-        return walk(mem, s, who, range_of(row), c, low, link);
-    }
-    Found::Nothing
-}
-
-// The word of a row and column on a page.
+// The word of a row and column on a page. A column that no update has set is in the page alone.
 pub fn word_of(mem: &[u8], s: Sizes, who: Reader, page: usize, row: Row, c: u32) -> u32
     requires { ⌜ Suffices s (now mem) ⌝ }
     requires { ⌜ Proper s ⌝ }
@@ -124,10 +107,40 @@ pub fn word_of(mem: &[u8], s: Sizes, who: Reader, page: usize, row: Row, c: u32)
     requires { ⌜ (page < s .pages) × (c < s .columns) × (row .0 < rowsGiven (viewOf s (now mem))) ⌝ }
     ensures { λ r. ⌜ r ≡ wordIn (shapeIn s) (viewOf s (now (mem .entry))) who page (row .0) c ⌝ }
 {
-    match find(mem, s, who, down_to(mem, s, who, page), row, c) {
-        Found::At(i) => value(mem, s, i, c),
-        Found::Nothing => cell(mem, s, page, row),
+    let held = cell(mem, s, page, row);
+    let i = row.0 as usize;
+    if has_bit(read(mem, s, Region::RowMask, i), c) {
+        let link = Tail(read(mem, s, Region::RowLink, i));
+        if let Found::At(at) = walk(
+            mem,
+            s,
+            who,
+            range_of(row),
+            c,
+            down_to(mem, s, who, page),
+            link,
+        ) {
+            return value(mem, s, at, c);
+        }
     }
+    held
+}
+
+// The tail record that answers for a row and column, of all that the row has.
+fn find(mem: &[u8], s: Sizes, who: Reader, row: Row, c: u32) -> Found
+    requires { ⌜ Suffices s (now mem) ⌝ }
+    requires { ⌜ Proper s ⌝ }
+    requires { ⌜ Linked s (viewOf s (now mem)) ⌝ }
+    requires { ⌜ (c < s .columns) × (row .0 < rowsGiven (viewOf s (now mem))) ⌝ }
+    ensures { λ r. ⌜ r ≡ foundIn (shapeIn s) (viewOf s (now (mem .entry))) who floor (row .0) c ⌝ }
+    ensures { λ r. ⌜ Inside r (s .slots) ⌝ }
+{
+    let i = row.0 as usize;
+    if has_bit(read(mem, s, Region::RowMask, i), c) {
+        let link = Tail(read(mem, s, Region::RowLink, i));
+        return walk(mem, s, who, range_of(row), c, Tail(FLOOR), link);
+    }
+    Found::Nothing
 }
 
 // Who set what the tail record at a slot answers with: an original holds what was inserted.
@@ -182,8 +195,8 @@ fn is_above(s: Sizes, g: usize, at: usize, low: Tail) -> bool
     at >= g * s.capacity + low.0 as usize
 }
 
-// The version of a row and column that the reader sees on a page. One walk over all of the row's records finds who set it; where that record's number is not above those
-// that the reader would look at for the value, the page has the value.
+// The version of a row and column that the reader sees on a page. One walk over the row's records finds who set it; if for the value the reader would not have looked down
+// so far, the page has it.
 fn lookup(mem: &[u8], s: Sizes, who: Reader, page: usize, row: Row, c: u32) -> Version
     requires { ⌜ Suffices s (now mem) ⌝ }
     requires { ⌜ Proper s ⌝ }
@@ -194,7 +207,7 @@ fn lookup(mem: &[u8], s: Sizes, who: Reader, page: usize, row: Row, c: u32) -> V
 {
     let held = cell(mem, s, page, row);
     let low = down_to(mem, s, who, page);
-    let Found::At(at) = find(mem, s, who, Tail(FLOOR), row, c) else {
+    let Found::At(at) = find(mem, s, who, row, c) else {
         return Version {
             word: held,
             setter: Setter::Insert,

@@ -110,23 +110,16 @@ pub fn word_of(mem: &[u8], s: Sizes, who: Reader, page: usize, row: Row, c: u32)
     let held = cell(mem, s, page, row);
     let i = row.0 as usize;
     if has_bit(read(mem, s, Region::RowMask, i), c) {
+        let low = down_to(mem, s, who, page);
         let link = Tail(read(mem, s, Region::RowLink, i));
-        if let Found::At(at) = walk(
-            mem,
-            s,
-            who,
-            range_of(row),
-            c,
-            down_to(mem, s, who, page),
-            link,
-        ) {
+        if let Found::At(at) = walk(mem, s, who, range_of(row), c, low, link) {
             return value(mem, s, at, c);
         }
     }
     held
 }
 
-// The tail record that answers for a row and column, of all that the row has.
+// The tail record that answers for a row and column, of all that the row has. `word_of` has such a walk of its own, for speed (docs/DECISIONS.md, section 8).
 fn find(mem: &[u8], s: Sizes, who: Reader, row: Row, c: u32) -> Found
     requires { ⌜ Suffices s (now mem) ⌝ }
     requires { ⌜ Proper s ⌝ }

@@ -119,6 +119,20 @@ enum Setter {
     Update(usize),
 }
 
+#[derive(Clone, Copy)]
+struct Version {
+    word: u32,
+    setter: Setter,
+}
+
+fn commit_stamp(state: u32, stamp: u32) -> u32 {
+    if state == 1 {
+        stamp
+    } else {
+        0
+    }
+}
+
 fn range_of(row: usize) -> usize {
     row / RANGE_ROWS
 }
@@ -291,47 +305,62 @@ impl View {
         Found::Nothing
     }
 
-    fn word_in(&self, stamp: u32, own: u32, page: usize, row: usize, c: usize) -> u32 {
-        let (x, g, p) = (self.row_in(row), range_of(row), self.page_in(page));
-        let cell = self.cell_in(page, within(row));
-        if !bit(x.mask, c) {
-            return cell;
+    fn found_in(&self, stamp: u32, own: u32, low: u32, row: usize, c: usize) -> Found {
+        let x = self.row_in(row);
+        if bit(x.mask, c) {
+            self.walk(range_of(row), c, stamp, own, low as usize, x.link as usize)
+        } else {
+            Found::Nothing
         }
+    }
+
+    fn word_in(&self, stamp: u32, own: u32, page: usize, row: usize, c: usize) -> u32 {
+        let p = self.page_in(page);
         let down_to = if p.newest <= stamp { p.lineage } else { FLOOR };
-        match self.walk(g, c, stamp, own, down_to as usize, x.link as usize) {
+        match self.found_in(stamp, own, down_to, row, c) {
             Found::At(slot) => self.value_in(slot, c),
-            Found::Nothing => cell,
+            Found::Nothing => self.cell_in(page, within(row)),
+        }
+    }
+
+    fn setter_at(&self, slot: usize) -> Setter {
+        match self.record_in(slot).kind {
+            0 => Setter::Insert,
+            _ => Setter::Update(slot),
         }
     }
 
     fn setter_in(&self, stamp: u32, own: u32, row: usize, c: usize) -> Setter {
-        let x = self.row_in(row);
-        if !bit(x.mask, c) {
-            return Setter::Insert;
-        }
-        match self.walk(range_of(row), c, stamp, own, FLOOR as usize, x.link as usize) {
-            Found::At(slot) if self.record_in(slot).kind != 0 => Setter::Update(slot),
-            _ => Setter::Insert,
+        match self.found_in(stamp, own, FLOOR, row, c) {
+            Found::At(slot) => self.setter_at(slot),
+            Found::Nothing => Setter::Insert,
         }
     }
 
     fn setter_stamp(&self, row: usize, setter: Setter) -> u32 {
-        let (state, stamp) = match setter {
-            Setter::Insert => (self.row_in(row).state, self.row_in(row).stamp),
-            Setter::Update(slot) => (self.record_in(slot).state, self.record_in(slot).stamp),
-        };
-        if state == 1 {
-            stamp
-        } else {
-            0
+        match setter {
+            Setter::Insert => commit_stamp(self.row_in(row).state, self.row_in(row).stamp),
+            Setter::Update(slot) => {
+                commit_stamp(self.record_in(slot).state, self.record_in(slot).stamp)
+            }
         }
+    }
+
+    fn lookup_in(&self, stamp: u32, own: u32, page: usize, row: usize, c: usize) -> Version {
+        Version {
+            word: self.word_in(stamp, own, page, row, c),
+            setter: self.setter_in(stamp, own, row, c),
+        }
+    }
+
+    fn shown_in(&self, row: usize, version: Version) -> Answer {
+        let stamp = self.setter_stamp(row, version.setter);
+        Answer::Version { value: version.word as i32, stamp }
     }
 
     fn read_in(&self, stamp: u32, own: u32, page: usize, row: usize, c: usize) -> Answer {
         if self.visible_in(stamp, own, row) {
-            let value = self.word_in(stamp, own, page, row, c) as i32;
-            let setter = self.setter_in(stamp, own, row, c);
-            Answer::Version { value, stamp: self.setter_stamp(row, setter) }
+            self.shown_in(row, self.lookup_in(stamp, own, page, row, c))
         } else {
             Answer::None
         }

@@ -143,9 +143,7 @@ fn accepted(call: &Call, reply: &Reply) -> (Answer, Fields) {
             (Answer::Done, (0, 0, 0, 0))
         }
         Call::PageCell { .. } => (Answer::Value(first as i32), (first, 0, 0, 0)),
-        _ if reads(call) => {
-            (Answer::Version { value: first as i32, stamp }, (first, 0, stamp, 0))
-        }
+        _ if reads(call) => (Answer::Version { value: first as i32, stamp }, (first, 0, stamp, 0)),
         _ => (Answer::Number(first), (first, 0, 0, 0)),
     }
 }

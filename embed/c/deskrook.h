@@ -11,8 +11,8 @@
  * lent, and answers DESKROOK_MEMORY wherever a stored fact fails.
  *
  * ANSWERS. `result` is DESKROOK_OK, DESKROOK_NONE or the number of a refusal. A refused call changes no byte of memory and list. The other fields are said with
- * each call; a field of which nothing is said is 0, and all of them are 0 where the result is not DESKROOK_OK. A read of one cell that gives a value gives in `stamp`
- * that of the commit that set this column in this row, be it an update's or the insert's; 0 while that commit is still to come.
+ * each call; a field of which nothing is said is 0, and all of them are 0 where the result is not DESKROOK_OK. Where a read of one cell gives a value,
+ * `stamp` is the stamp of the commit that set this column in this row, by an update or by the insert; 0 while that is pending.
  *
  * NUMBERS. Rows and columns count from 0, ranges too; row r lies in range r / 64. Transactions, scans and tail records count from 1. A stamp is a count of minutes
  * since 1 January 2000 UTC. Any number may be passed: one that is not there is refused. Each call says its refusals in the order in which they are tested. */
@@ -122,8 +122,8 @@ deskrook_reply deskrook_latest(const uint8_t *mem, size_t mem_length, const desk
 deskrook_reply deskrook_read_at(const uint8_t *mem, size_t mem_length, const deskrook_scan_entry *scans, size_t scans_length, uint32_t stamp, uint32_t row,
                                 uint32_t column);
 
-/* The value that a transaction sees: its own pending changes above the latest. first: the value; stamp: of the commit that set it, 0 for a pending value, those of
- * a row that it inserted included; or NONE. Refusals: MEMORY, TRANSACTION, ROW, COLUMN. */
+/* The value that a transaction sees: its own pending changes above the latest. first: the value; stamp: of the commit that set it, 0 for a pending value, as is every
+ * value of a row that it inserted and has not committed; or NONE. Refusals: MEMORY, TRANSACTION, ROW, COLUMN. */
 deskrook_reply deskrook_own_read(const uint8_t *mem, size_t mem_length, const deskrook_scan_entry *scans, size_t scans_length, uint32_t transaction, uint32_t row,
                                  uint32_t column);
 

@@ -796,7 +796,6 @@ fn page_cell_and_lineage_show_the_current_page_whatever_scans_are_open() {
 
 #[test]
 fn the_stamp_is_that_of_the_columns_setting_not_of_the_rows_last_change() {
-    // I1-b
     one_row(
         9,
         0,
@@ -824,7 +823,7 @@ fn the_stamp_is_that_of_the_columns_setting_not_of_the_rows_last_change() {
 
 #[test]
 fn an_end_is_no_setting() {
-    // I1-b: before its end the row's values have the stamps of their settings.
+    // Before its end the row's values have the stamps of their settings.
     one_row(
         9,
         0,
@@ -954,7 +953,7 @@ fn an_inserted_value_has_the_inserts_stamp_though_its_original_is_an_updates() {
 
 #[test]
 fn a_pending_value_of_ones_own_gives_0_and_a_column_beside_it_its_commits_stamp() {
-    // I1-a: also when another commit has moved the last stamp, and for nobody else.
+    // Also when another commit has moved the last stamp, and for nobody else.
     one_row(
         9,
         0,
@@ -977,7 +976,7 @@ fn a_pending_value_of_ones_own_gives_0_and_a_column_beside_it_its_commits_stamp(
 
 #[test]
 fn a_row_inserted_by_oneself_gives_0_until_its_commit() {
-    // I1-a: set or not.
+    // Set or not.
     one_row(
         9,
         0,
@@ -1027,7 +1026,7 @@ fn an_aborted_setting_gives_no_stamp() {
 
 #[test]
 fn none_carries_no_stamp() {
-    // I1-a: before the insert, another's insert, an aborted one, an own delete, after the end.
+    // Before the insert, another's insert, an aborted one, an own delete, after the end.
     one_row(
         9,
         0,
@@ -1055,7 +1054,7 @@ fn none_carries_no_stamp() {
 
 #[test]
 fn setting_the_same_value_again_gives_the_later_stamp() {
-    // It is a setting (D6), of the insert's value as of another.
+    // It is a setting, of the insert's value as of another.
     one_row(
         9,
         0,

@@ -32,5 +32,5 @@ pub const STAMP_OF_THE_PAGE: u8 = 20;
 pub const STAMP_OF_THE_UPDATER: u8 = 21;
 /// A pending value is shown with the last commit's stamp.
 pub const PENDING_AT_THE_LAST: u8 = 22;
-/// The column's newest setting gives the stamp, also where it is aborted.
+/// An aborted setting above the one that is read gives the stamp.
 pub const STAMP_OF_AN_ABORTED: u8 = 23;

@@ -41,8 +41,9 @@ impl<const FAULT: u8> Table<'_, FAULT> {
         let cell = self.cell(at, row);
         let page = self.page(at);
         let reader = Reader { stamp, own, range: row / ROWS, column };
-        // One walk serves both: where it ends below the lineage, the page has the value.
-        let found = self.is_set(row, column).then(|| self.walk(&reader, 0, self.link(row))).flatten();
+        // One walk serves both: where it ends at a record not above `down_to`, the page has the value.
+        let found =
+            self.is_set(row, column).then(|| self.walk(&reader, 0, self.link(row))).flatten();
         let value = self.word(&reader, &page, cell, found) as i32;
         Answer::Version { value, stamp: self.stamp(&reader, &page, row, found) }
     }
@@ -144,10 +145,10 @@ impl<const FAULT: u8> Table<'_, FAULT> {
             |k| self.get(Region::TailKind, self.layout.slot(reader.range, k)) == kind::ORIGINAL;
         let (state, stamp) = match found {
             _ if FAULT == faults::STAMP_OF_THE_ROW && self.link(row) != 0 => of(self.link(row)),
-            _ if FAULT == faults::STAMP_OF_AN_ABORTED && self.newest_of(reader, row) != 0 => {
-                of(self.newest_of(reader, row))
+            _ if FAULT == faults::STAMP_OF_AN_ABORTED && self.aborted_or(reader, row) != 0 => {
+                of(self.aborted_or(reader, row))
             }
-            Some(k) if FAULT == faults::STAMP_OF_THE_PAGE && k <= page.lineage => {
+            Some(k) if FAULT == faults::STAMP_OF_THE_PAGE && k <= Self::down_to(reader, page) => {
                 (state::COMMITTED, page.newest)
             }
             Some(k) if FAULT == faults::STAMP_OF_THE_UPDATER => of(k),
@@ -161,13 +162,15 @@ impl<const FAULT: u8> Table<'_, FAULT> {
         }
     }
 
-    /// The number of the newest setting of the column, seen or not; 0 for none.
-    fn newest_of(&self, reader: &Reader, row: usize) -> usize {
+    /// The number of the column's newest setting that is seen or aborted; 0 for none.
+    fn aborted_or(&self, reader: &Reader, row: usize) -> usize {
         let mut k = self.link(row);
         while k > 0 {
             let slot = self.layout.slot(reader.range, k);
-            let set = self.get(Region::TailMask, slot) >> reader.column & 1 != 0;
-            if set && self.get(Region::TailKind, slot) == kind::SETTING {
+            let set = self.get(Region::TailMask, slot) >> reader.column & 1 != 0
+                && self.get(Region::TailKind, slot) == kind::SETTING;
+            let aborted = self.get(Region::TailState, slot) >= state::ABORTED;
+            if set && (aborted || self.sees_record(reader.stamp, reader.own, slot)) {
                 return k;
             }
             k = self.get(Region::TailLink, slot) as usize;

@@ -18,7 +18,7 @@ pub enum Setter {
     Update(usize),
 }
 
-// What a lookup finds for a row and column: the word, and who set it. Whatever else a call shows of it stands in the setter's words.
+// What a lookup finds for a row and column: the word, and who set it. The stamp that a read shows is read from the row or record that the setter names.
 pub struct Version {
     pub word: u32,
     pub setter: Setter,

@@ -99,7 +99,7 @@ fn down_to(mem: &[u8], s: Sizes, who: Reader, page: usize) -> Tail
     Tail(FLOOR)
 }
 
-// The word of a row and column on a page. A column that no update has set is in the page alone.
+// The word of a row and column on a page, for a sum. A column that no update has set is in the page alone.
 pub fn word_of(mem: &[u8], s: Sizes, who: Reader, page: usize, row: Row, c: u32) -> u32
     requires { ⌜ Suffices s (now mem) ⌝ }
     requires { ⌜ Proper s ⌝ }
@@ -149,7 +149,7 @@ fn setter_at(mem: &[u8], s: Sizes, at: usize) -> Setter
     Setter::Update(at)
 }
 
-// The stamp of the commit that set it; 0 where it is not committed.
+// The stamp of a setter's commit; 0 while it has none.
 fn setter_stamp(mem: &[u8], s: Sizes, row: Row, setter: Setter) -> u32
     requires { ⌜ Suffices s (now mem) ⌝ }
     requires { ⌜ (row .0 < s .rows) × RecordInside setter (s .slots) ⌝ }
@@ -188,8 +188,8 @@ fn is_above(s: Sizes, g: usize, at: usize, low: Tail) -> bool
     at >= g * s.capacity + low.0 as usize
 }
 
-// The version of a row and column that the reader sees on a page. One walk over the row's records finds who set it; if for the value the reader would not have looked down
-// so far, the page has it.
+// The version of a row and column that the reader sees on a page. One walk over the row's records finds who set it; where the record found is not above `down_to`, its value
+// is in the page.
 fn lookup(mem: &[u8], s: Sizes, who: Reader, page: usize, row: Row, c: u32) -> Version
     requires { ⌜ Suffices s (now mem) ⌝ }
     requires { ⌜ Proper s ⌝ }

@@ -273,8 +273,8 @@ impl<'a> Store<'a> {
     }
 
     /// The value that a transaction sees, its own pending changes above the latest, or none. The
-    /// stamp is that of the commit that set the value; `Stamp(0)` for a pending one, those of a row
-    /// that the transaction inserted included.
+    /// stamp is that of the commit that set the value; `Stamp(0)` for a pending one, as is every
+    /// value of a row that the transaction inserted.
     ///
     /// # Errors
     ///

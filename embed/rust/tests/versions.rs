@@ -2,7 +2,7 @@
 
 use deskrook::{Mask, Refusal, Row, ScanEntry, Shape, Stamp, Store, Tail, Version, SCANS};
 
-const SHAPE: Shape = Shape { columns: 2, ranges: 1, capacity: 16, spares: 4 };
+const SHAPE: Shape = Shape { columns: 2, ranges: 1, capacity: 16, spares: 8 };
 const GATE: Row = Row(0);
 
 /// Runs a test on a store where the gate has 1200 and -30 by a commit at 10.
@@ -86,13 +86,19 @@ fn a_merge_leaves_every_stamp() {
         let first = set(&mut store, 0, 1250, 20);
         let old = store.open_scan(Stamp(20)).unwrap();
         let second = set(&mut store, 0, 1300, 30);
-        for through in [Tail(0), first, second] {
+        // Another row's later setting, so that the last page's newest stamp is not the gate's.
+        let transaction = store.begin().unwrap();
+        let other = store.insert(transaction, &[7]).unwrap();
+        let last = store.update(transaction, other, Mask(1), &[8]).unwrap();
+        store.commit(transaction, Stamp(40)).unwrap();
+        for through in [Tail(0), first, second, last] {
             if through != Tail(0) {
                 store.merge(0, 0, through).unwrap();
                 store.merge(0, 1, through).unwrap();
             }
             assert_eq!(store.latest(GATE, 0), gives(1300, 30));
             assert_eq!(store.latest(GATE, 1), gives(-30, 10));
+            assert_eq!(store.latest(other, 0), gives(8, 40));
             assert_eq!(store.read_at(Stamp(29), GATE, 0), gives(1250, 20));
             assert_eq!(store.read_at(Stamp(19), GATE, 0), gives(1200, 10));
             assert_eq!(store.scan_read(old, GATE, 0), gives(1250, 20));

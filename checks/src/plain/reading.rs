@@ -42,8 +42,10 @@ impl<const FAULT: u8> Table<'_, FAULT> {
         let page = self.page(at);
         let reader = Reader { stamp, own, range: row / ROWS, column };
         // One walk serves both: where it ends at a record not above `down_to`, the page has the value.
-        let found =
-            self.is_set(row, column).then(|| self.walk(&reader, 0, self.link(row))).flatten();
+        let found = self
+            .is_set(row, column)
+            .then(|| self.walk(&reader, 0, self.link(row), false))
+            .flatten();
         let value = self.word(&reader, &page, cell, found) as i32;
         Answer::Version { value, stamp: self.stamp(&reader, &page, row, found) }
     }
@@ -143,11 +145,14 @@ impl<const FAULT: u8> Table<'_, FAULT> {
         };
         let original =
             |k| self.get(Region::TailKind, self.layout.slot(reader.range, k)) == kind::ORIGINAL;
+        let found = match found {
+            Some(_) if FAULT == faults::STAMP_OF_AN_ABORTED => {
+                self.walk(reader, 0, self.link(row), true)
+            }
+            found => found,
+        };
         let (state, stamp) = match found {
             _ if FAULT == faults::STAMP_OF_THE_ROW && self.link(row) != 0 => of(self.link(row)),
-            _ if FAULT == faults::STAMP_OF_AN_ABORTED && self.aborted_or(reader, row) != 0 => {
-                of(self.aborted_or(reader, row))
-            }
             Some(k) if FAULT == faults::STAMP_OF_THE_PAGE && k <= Self::down_to(reader, page) => {
                 (state::COMMITTED, page.newest)
             }
@@ -162,33 +167,21 @@ impl<const FAULT: u8> Table<'_, FAULT> {
         }
     }
 
-    /// The number of the column's newest setting that is seen or aborted; 0 for none.
-    fn aborted_or(&self, reader: &Reader, row: usize) -> usize {
-        let mut k = self.link(row);
-        while k > 0 {
-            let slot = self.layout.slot(reader.range, k);
-            let set = self.get(Region::TailMask, slot) >> reader.column & 1 != 0
-                && self.get(Region::TailKind, slot) == kind::SETTING;
-            let aborted = self.get(Region::TailState, slot) >= state::ABORTED;
-            if set && (aborted || self.sees_record(reader.stamp, reader.own, slot)) {
-                return k;
-            }
-            k = self.get(Region::TailLink, slot) as usize;
-        }
-        0
-    }
-
     /// From record k back along the links, down to `low`, to the number of the first record that
-    /// answers: a seen setting of the column, or its original, below which no setting of it lies.
+    /// answers: a seen setting of the column, or its original, below which no setting of it lies; for
+    /// a fault an aborted setting too.
     #[inline(always)]
-    fn walk(&self, reader: &Reader, low: usize, mut k: usize) -> Option<usize> {
+    fn walk(&self, reader: &Reader, low: usize, mut k: usize, aborted: bool) -> Option<usize> {
         let Reader { stamp, own, range, column } = *reader;
         while k > low {
             let slot = self.layout.slot(range, k);
             let answers = self.get(Region::TailMask, slot) >> column & 1 != 0
                 && match self.get(Region::TailKind, slot) {
                     kind::ORIGINAL => true,
-                    kind::SETTING => self.sees_record(stamp, own, slot),
+                    kind::SETTING => {
+                        self.sees_record(stamp, own, slot)
+                            || (aborted && self.get(Region::TailState, slot) >= state::ABORTED)
+                    }
                     _ => false,
                 };
             if answers {
@@ -242,7 +235,7 @@ impl<const FAULT: u8> Table<'_, FAULT> {
                     continue;
                 }
                 let found = if mask >> column & 1 != 0 {
-                    self.walk(&reader, Self::down_to(&reader, &page), link)
+                    self.walk(&reader, Self::down_to(&reader, &page), link, false)
                 } else {
                     None
                 };

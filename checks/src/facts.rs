@@ -34,8 +34,8 @@ pub fn names() -> impl Iterator<Item = &'static str> {
 
 // These are looked at first: without them there is no word to look at.
 
-/// "a scan list under 16 entries"
-const LIST: &str = "the scan list has 16 entries";
+/// "a scan list under 16 entries", with Item 2: "The list then needs five places"
+const LIST: &str = "the scan list has 5 entries";
 /// "the stored measures lie within their limits"; a memory too short for them has none.
 const MEASURES: &str = "the measures lie within their limits";
 /// "shorter than the shape needs"
@@ -55,7 +55,7 @@ const FACTS: [Fact; 22] = [
         s.header(header::TRANSACTIONS_GIVEN) <= NUMBERS
     }),
     ("scan numbers given are at most 65,535", |s| s.header(header::SCANS_GIVEN) <= NUMBERS),
-    ("at most 16 scans are open", |s| s.scans.len() <= SCANS),
+    ("at most 5 scans are open", |s| s.scans.len() <= SCANS),
     // "a used tail record names a given row of its range"
     ("a used record names a given row of its range", |s| {
         s.records().all(|(range, number)| {

@@ -9,7 +9,7 @@ pub const WORD: usize = 4;
 pub const ROWS: usize = RANGE_ROWS as usize;
 /// Entries for open transactions, and the fewest entries of a scan list.
 pub const OPENS: usize = 8;
-pub const SCANS: usize = 16;
+pub const SCANS: usize = 5;
 /// The greatest transaction or scan number.
 pub const NUMBERS: u32 = 65_535;
 /// The greatest measures, for tables of a fixed length.

@@ -227,7 +227,8 @@ impl<const FAULT: u8> Table<'_, FAULT> {
     fn begin(&mut self) -> Outcome {
         let given = self.header(header::TRANSACTIONS_GIVEN);
         require(given < NUMBERS, 15)?;
-        let open = words(self.run(Region::Opens, 0, OPENS)).position(|number| number == 0);
+        let most = if FAULT == faults::TRANSACTIONS_AS_SCANS { SCANS } else { OPENS };
+        let open = words(self.run(Region::Opens, 0, most)).position(|number| number == 0);
         let open = open.ok_or(14)?;
         self.put(Region::Opens, open, given + 1);
         self.put(Region::Changes, open, 0);
@@ -239,7 +240,8 @@ impl<const FAULT: u8> Table<'_, FAULT> {
         require(stamp <= self.header(header::LAST_STAMP), 13)?;
         let given = self.header(header::SCANS_GIVEN);
         require(given < NUMBERS, 15)?;
-        require(self.scans.iter().filter(|scan| scan.is_open()).count() < SCANS, 14)?;
+        let open = self.scans.iter().filter(|scan| scan.is_open()).count();
+        require(open < SCANS || FAULT == faults::SCANS_BY_ENTRIES, 14)?;
         let place = self.scans.iter().position(|scan| !scan.is_open()).ok_or(14)?;
         let merges = self.header(header::MERGES_MADE);
         self.scans[place] = ScanEntry { number: given + 1, stamp, merges };

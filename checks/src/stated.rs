@@ -105,7 +105,8 @@ pub fn applies(s: &Stored, number: u8, call: &Call, n: &Numbers) -> bool {
             Call::Commit { .. } => n.stamp <= s.header(header::LAST_STAMP),
             _ => n.stamp > s.header(header::LAST_STAMP),
         },
-        // "8 transactions, or 16 scans, open"
+        // "8 transactions, or 16 scans, open", with Item 2: "Make five the limit in place of
+        // sixteen"
         14 => match call {
             Call::Begin => s.open().len() >= OPENS,
             _ => s.scans.len() >= SCANS,

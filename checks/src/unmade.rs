@@ -415,7 +415,7 @@ impl Builder<'_> {
         }
     }
 
-    /// A list with up to 16 open scans.
+    /// A list with up to `SCANS` open scans.
     fn scans(&mut self) -> Vec<ScanEntry> {
         let mut list = vec![ScanEntry::FREE; SCANS + self.random.below(25) as usize];
         Content::fill(&mut list[..], self.random);

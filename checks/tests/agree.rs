@@ -31,7 +31,7 @@ fn numbers_run_out() {
         if number <= 65_527 {
             transactions.push(Call::Abort { transaction: number });
         }
-        if number <= 65_519 {
+        if number <= 65_530 {
             scans.push(Call::Close { scan: number });
         }
     }

@@ -1,7 +1,7 @@
 //! The C interface is declared three times: by the exports in Rattle (crates/deskrook), for C
 //! (embed/c/deskrook.h) and for Rust (embed/rust/src/c.rs). Here the three texts are compared, without
 //! the compiled library: the same functions, the same parameters in the same order with the same
-//! types, the same results, and the same structs field for field.
+//! types, the same results, the same structs field for field, and the same limit on open scans.
 
 use std::collections::BTreeMap;
 
@@ -37,12 +37,15 @@ struct Interface {
     functions: BTreeMap<String, (Vec<Named>, String)>,
     /// The fields of `ScanEntry` and `Reply`.
     structs: BTreeMap<String, Vec<Named>>,
+    /// How many scans can be open, by which a caller sizes the list.
+    limits: BTreeMap<String, String>,
 }
 
 /// The files that declare the interface.
 struct Texts {
     exports: String,
     terms: String,
+    limits: String,
     replies: String,
     header: String,
     declared: String,
@@ -53,6 +56,7 @@ fn texts() -> Texts {
     Texts {
         exports: include_str!("../../crates/deskrook/src/lib.rt").to_string(),
         terms: include_str!("../../crates/terms/src/lib.rt").to_string(),
+        limits: include_str!("../../crates/terms/src/limits.rt").to_string(),
         replies: include_str!("../../crates/deskrook/src/reply.rt").to_string(),
         header: include_str!("../../embed/c/deskrook.h").to_string(),
         declared: include_str!("../../embed/rust/src/c.rs").to_string(),
@@ -68,6 +72,7 @@ fn compare(texts: &Texts) -> Result<(), String> {
     for (file, other) in [("deskrook.h", header), ("c.rs", declared)] {
         alike(file, &exports.functions, &other.functions)?;
         alike(file, &exports.structs, &other.structs)?;
+        alike(file, &exports.limits, &other.limits)?;
     }
     Ok(())
 }
@@ -104,6 +109,12 @@ fn cut<'t>(text: &'t str, mark: &str) -> Result<(&'t str, &'t str), String> {
     text.split_once(mark).ok_or_else(|| format!("no '{mark}' in '{start}'"))
 }
 
+/// The limit on open scans, which stands between two marks.
+fn limit(text: &str, from: &str, to: &str) -> Result<BTreeMap<String, String>, String> {
+    let (_, rest) = cut(text, from)?;
+    Ok(BTreeMap::from([("the most open scans".to_string(), cut(rest, to)?.0.to_string())]))
+}
+
 /// Without each stretch from one mark through the next other one.
 fn without(text: &str, from: &str, through: &str) -> Result<String, String> {
     let mut kept = String::new();
@@ -131,6 +142,7 @@ fn list<T>(text: &str, one: impl Fn(&str) -> Result<T, String>) -> Result<Vec<T>
 
 fn exported(texts: &Texts) -> Result<Interface, String> {
     let mut interface = Interface::default();
+    interface.limits = limit(&texts.limits, "pub const MOST_SCANS: usize = ", ";")?;
     let text = plain(&texts.exports);
     for export in text.split("#[no_mangle] pub extern \"C\" fn ").skip(1) {
         let (name, rest) = cut(export, "(")?;
@@ -201,6 +213,7 @@ fn fields(text: &str, name: &str, language: usize) -> Result<Vec<Named>, String>
 
 fn header(text: &str) -> Result<Interface, String> {
     let mut interface = Interface::default();
+    interface.limits = limit(text, "#define DESKROOK_SCANS ", "\n")?;
     // Without comments, the preprocessor's lines and functions with a body.
     let text = without(text, "/*", "*/")?;
     let lines: Vec<&str> = text.lines().filter(|line| !line.starts_with('#')).collect();
@@ -239,6 +252,7 @@ fn c_named(text: &str) -> Result<Named, String> {
 
 fn declared(texts: &Texts) -> Result<Interface, String> {
     let mut interface = Interface::default();
+    interface.limits = limit(&texts.store, "pub const SCANS: usize = ", ";")?;
     let text = plain(&texts.declared);
     // The macro's body is one declaration with holes, which each line of its use fills.
     let (_, body) = cut(&text, "macro_rules! lent {")?;
@@ -380,6 +394,13 @@ fn another_struct_is_told_apart() {
     told_apart(|t| &mut t.replies, "pub sum: i64", "pub sum: i32");
     told_apart(|t| &mut t.header, "int64_t sum", "int32_t sum");
     told_apart(|t| &mut t.declared, "pub sum: i64", "pub sum: i32");
+}
+
+#[test]
+fn another_limit_is_told_apart() {
+    told_apart(|t| &mut t.limits, "MOST_SCANS: usize = 5;", "MOST_SCANS: usize = 16;");
+    told_apart(|t| &mut t.header, "DESKROOK_SCANS 5\n", "DESKROOK_SCANS 16\n");
+    told_apart(|t| &mut t.store, "SCANS: usize = 5;", "SCANS: usize = 16;");
 }
 
 #[test]

@@ -5,7 +5,7 @@
 use checks::defined::Defined;
 #[cfg(feature = "library")]
 use checks::library::Library;
-use checks::memory::{put_word, Layout, Region, ScanEntry};
+use checks::memory::{put_word, Layout, Region, ScanEntry, SCANS};
 use checks::plain::Plain;
 use checks::{agree, damage, facts, same, shortcuts, stated, Store};
 use reference::{Answer, Call, Shape};
@@ -27,7 +27,7 @@ fn answers(calls: &[Call], put: &[(Region, usize, u32)], call: Call, wanted: Ans
     let rust: Vec<Box<dyn Store>> = vec![Box::new(Plain::<0>), Box::new(Defined)];
     for store in rust.into_iter().chain(library()) {
         let layout = Layout::of(&SHAPE);
-        let (mut memory, mut list) = (vec![0; layout.need()], vec![ScanEntry::FREE; 16]);
+        let (mut memory, mut list) = (vec![0; layout.need()], vec![ScanEntry::FREE; SCANS]);
         assert_eq!(store.make(&mut memory, &mut list, &SHAPE), Answer::Done);
         for call in calls {
             let answer = store.call(&mut memory, &mut list, call);

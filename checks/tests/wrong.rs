@@ -1,8 +1,10 @@
 //! Wrong stores: each fault of the plain page store must be told apart by the comparisons, and the
 //! right store by none.
 
+use checks::memory::{ScanEntry, SCANS};
 use checks::plain::{faults, Plain};
-use checks::{agree, same, Store};
+use checks::{agree, damage, same, Store};
+use reference::{Answer, Call, Shape};
 
 /// Lists that are tried before a fault counts as not found.
 const LISTS: u64 = 4000;
@@ -44,6 +46,8 @@ wrong_stores! {
     stamp_of_the_updater: STAMP_OF_THE_UPDATER,
     pending_at_the_last: PENDING_AT_THE_LAST,
     stamp_of_an_aborted: STAMP_OF_AN_ABORTED,
+    scans_by_entries: SCANS_BY_ENTRIES,
+    transactions_as_scans: TRANSACTIONS_AS_SCANS,
 }
 
 /// An original holds what the page has before any setting of its row and column, and a merge goes
@@ -53,4 +57,38 @@ wrong_stores! {
 fn merge_applies_originals() {
     let wrong = Plain::<{ faults::MERGE_APPLIES_ORIGINALS }>;
     assert!(same::run(&Plain::<0>, &wrong, 0, LISTS).is_err());
+}
+
+/// The plain store with a part of the list that is lent to its calls.
+struct Seeing(fn(&mut [ScanEntry]) -> &mut [ScanEntry]);
+
+impl Store for Seeing {
+    fn need(&self, shape: &Shape) -> Result<usize, u8> {
+        Plain::<0>.need(shape)
+    }
+
+    fn make(&self, memory: &mut [u8], scans: &mut [ScanEntry], shape: &Shape) -> Answer {
+        Plain::<0>.make(memory, scans, shape)
+    }
+
+    fn call(&self, memory: &mut [u8], scans: &mut [ScanEntry], call: &Call) -> Answer {
+        Plain::<0>.call(memory, (self.0)(scans), call)
+    }
+}
+
+#[test]
+fn a_list_of_the_fewest_entries_is_refused() {
+    told_apart(&Seeing(|list| if list.len() == SCANS { &mut [] } else { list }));
+}
+
+/// Calls alone never open a scan past the first entries, since the first free one is taken. So lists
+/// that no call made tell it apart: those with six open scans, one of them behind, pass there.
+#[test]
+fn open_scans_count_in_the_first_entries_alone() {
+    let wrong = Seeing(|list| {
+        let first = list.len().min(SCANS);
+        &mut list[..first]
+    });
+    agree::run(&wrong, 0, 200).expect("no difference");
+    assert!(damage::random_memories(&wrong, 0, LISTS).is_err());
 }

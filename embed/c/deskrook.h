@@ -27,7 +27,7 @@ extern "C" {
 #endif
 
 /* The fewest entries of a scan list, which is also how many scans can be open. */
-#define DESKROOK_SCANS 16
+#define DESKROOK_SCANS 5
 
 /* An entry of the list of open scans. Number 0 marks a free entry. */
 typedef struct deskrook_scan_entry {
@@ -48,7 +48,7 @@ typedef struct deskrook_reply {
 enum deskrook_result {
     DESKROOK_OK = 0,           /* accepted */
     DESKROOK_SHAPE = 1,        /* a measure outside its limits */
-    DESKROOK_MEMORY = 2,       /* memory shorter than the shape needs, a scan list under 16 entries, or a stored fact fails */
+    DESKROOK_MEMORY = 2,       /* memory shorter than the shape needs, a scan list under 5 entries, or a stored fact fails */
     DESKROOK_TRANSACTION = 3,  /* the transaction's number is not open */
     DESKROOK_SCAN = 4,         /* the scan's number is not open */
     DESKROOK_ROW = 5,          /* row number not yet given */
@@ -60,7 +60,7 @@ enum deskrook_result {
     DESKROOK_FULL = 11,        /* all rows given */
     DESKROOK_TAIL = 12,        /* the range lacks the one or two tail records wanted */
     DESKROOK_TIME = 13,        /* a commit not later than the last (0 in a new store), or a read or scan later than the last */
-    DESKROOK_BUSY = 14,        /* 8 transactions, or 16 scans, open */
+    DESKROOK_BUSY = 14,        /* 8 transactions, or 5 scans, open */
     DESKROOK_NUMBER = 15,      /* 65,535 numbers given */
     DESKROOK_REACH = 16,       /* merge not above what the page holds, or above the records used */
     DESKROOK_OPEN = 17,        /* a record up to the one merged through belongs to an open transaction */

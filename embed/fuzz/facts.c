@@ -108,7 +108,7 @@ static const char *failing_scans(const uint8_t *mem, const deskrook_scan_entry *
             return fact;
         open++;
     }
-    return open > DESKROOK_SCANS ? "at most 16 scans are open" : NULL;
+    return open > DESKROOK_SCANS ? "at most 5 scans are open" : NULL;
 }
 
 static const char *failing_opens(const struct layout *l, const uint8_t *mem) {
@@ -161,7 +161,7 @@ static const char *failing_word(const struct layout *l, const uint8_t *mem) {
 
 const char *failing_fact(struct layout *l, const uint8_t *mem, size_t mem_length, const deskrook_scan_entry *scans, size_t scans_length) {
     if (scans_length < DESKROOK_SCANS)
-        return "the scan list has 16 entries";
+        return "the scan list has 5 entries";
     if (mem_length < HEADER_WORDS * 4 || !layout_of(l, word_at(mem, COLUMNS), word_at(mem, RANGES), word_at(mem, CAPACITY), word_at(mem, SPARES)))
         return "the measures lie within their limits";
     if (mem_length < layout_need(l))

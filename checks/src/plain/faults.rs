@@ -34,3 +34,7 @@ pub const STAMP_OF_THE_UPDATER: u8 = 21;
 pub const PENDING_AT_THE_LAST: u8 = 22;
 /// An aborted setting above the one that is read gives the stamp.
 pub const STAMP_OF_AN_ABORTED: u8 = 23;
+/// As many scans can be open as the list has entries.
+pub const SCANS_BY_ENTRIES: u8 = 24;
+/// As many transactions can be open as scans.
+pub const TRANSACTIONS_AS_SCANS: u8 = 25;

@@ -80,7 +80,7 @@ impl<'m> Facts<'m> {
         !bad
     }
 
-    /// Open scans are at most 16, among those given, differ, and have a stamp and a count of
+    /// Open scans are at most `SCANS`, among those given, differ, and have a stamp and a count of
     /// merges that were there.
     fn scans(&self, list: &[ScanEntry]) -> bool {
         let mut open = [0; SCANS];

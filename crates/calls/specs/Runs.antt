@@ -133,7 +133,7 @@ MakingFrees = (S : Shape) (m m′ : List ℕ) (ps ps′ : List ScanEntry) → Ma
 unfoldable pub OneEntry : Type 0
 OneEntry = (m m′ : List ℕ) (ps ps′ : List ScanEntry) (c : Call) (r : Answer) → Serves m ps c r m′ ps′ → (i : ℕ) × (p : ScanEntry) × (ps′ ≡ set ps i p)
 
--- a list under 16 entries is refused with 2, whatever the memory
+-- a list of fewer than `mostScans` entries is refused with 2, whatever the memory
 unfoldable pub ShortRefused : Type 0
 ShortRefused =
     (m m′ : List ℕ) (ps ps′ : List ScanEntry) (c : Call) (r : Answer) → length ps < mostScans → Serves m ps c r m′ ps′ → r ≡ Answer.Refused Refusal.Memory

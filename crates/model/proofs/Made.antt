@@ -168,7 +168,7 @@ simulated-from {S} {v} {ps} {h} o k (cons {x = c} {l = cs} y ys) =
     let one = one-call S v ps h c y o k in
     rw (one .answered, simulated-from (one .shown) (one .well-formed) ys)
 
--- The store, from a making with any scan list of at least 16 entries, answers every list of calls as the plain history does.
+-- The store, from a making with any scan list of `mostScans` entries or more, answers every list of calls as the plain history does.
 pub simulated : (S : Shape) → T (withinLimits S) → (n : ℕ) → mostScans ≤ n → (cs : List Call) → All Typed cs
     → sayAll S (madeView S) (replicate n freeEntry) cs ≡ answers S start cs
 simulated S t n enough cs ys =

@@ -34,7 +34,7 @@ Accepted S m ps = made S (length ps) m .0 ≡ Answer.Done
 abbrev pub memoryMade : Shape → List ℕ → List ScanEntry → List ℕ
 memoryMade S m ps = made S (length ps) m .1
 
--- Every shape within the limits, memory of the bytes needed and list of 16 entries is accepted, so that the claims below speak of all of them.
+-- Every shape within the limits, memory of the bytes needed and list of `mostScans` entries or more is accepted, so that the claims below speak of all of them.
 unfoldable pub MakingAccepted : Type 0
 MakingAccepted = (S : Shape) (m : List ℕ) (ps : List ScanEntry) → T (withinLimits S) → bytesNeeded S ≤ length m → mostScans ≤ length ps → Accepted S m ps
 

@@ -16,7 +16,7 @@ pub const RANGE_ROWS: usize = 64;
 // open at a time
 pub const MOST_TRANSACTIONS: usize = 8;
 
-pub const MOST_SCANS: usize = 16;
+pub const MOST_SCANS: usize = 5;
 
 // the transaction numbers that a store gives, and likewise its scan numbers
 pub const MOST_NUMBERS: u32 = 65535;

@@ -9,7 +9,7 @@ use std::fmt;
 pub enum Refusal {
     /// A measure outside its limits.
     Shape = 1,
-    /// Memory shorter than the shape needs, a scan list under 16 entries, or a stored fact fails.
+    /// Memory shorter than the shape needs, a scan list under 5 entries, or a stored fact fails.
     Memory = 2,
     /// The transaction's number is not open.
     Transaction = 3,
@@ -33,7 +33,7 @@ pub enum Refusal {
     Tail = 12,
     /// A commit not later than the last (0 in a new store), or a read or scan later than the last.
     Time = 13,
-    /// 8 transactions, or 16 scans, are open.
+    /// 8 transactions, or 5 scans, are open.
     Busy = 14,
     /// 65,535 numbers are given.
     Number = 15,

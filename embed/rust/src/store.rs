@@ -4,7 +4,7 @@ use crate::c::{self, Reply};
 use crate::{Lineage, Mask, Refusal, Row, ScanNumber, Stamp, Sum, Tail, Transaction, Version};
 
 /// The fewest entries of a scan list, which is also how many scans can be open.
-pub const SCANS: usize = 16;
+pub const SCANS: usize = 5;
 
 /// An entry of the lent list of open scans.
 #[repr(C)]

@@ -1,7 +1,7 @@
-//! The refusals here beside those of the C header. That the functions are the same shows in checks/,
-//! which compares both with the exports (tests/declared.rs).
+//! The refusals here beside those of the C header. That the functions, structs and limits are the same
+//! shows in checks/, which compares both with the exports (tests/declared.rs).
 
-use deskrook::{c, Refusal, SCANS};
+use deskrook::{c, Refusal};
 
 const HEADER: &str = include_str!("../../c/deskrook.h");
 
@@ -25,5 +25,4 @@ fn the_refusals_have_the_headers_names_and_numbers() {
     }
     expected.push(("none".to_string(), c::NONE));
     assert_eq!(results(), expected);
-    assert!(HEADER.contains(&format!("#define DESKROOK_SCANS {SCANS}\n")));
 }

@@ -115,7 +115,7 @@ fn open_ones_and_numbers() {
         assert_eq!(lent.store().begin(), Ok(Transaction(number)));
     }
     lent.refuses(Refusal::Busy, |store| store.begin());
-    for number in 1..=16 {
+    for number in 1..=5 {
         assert_eq!(lent.store().open_scan(Stamp(0)), Ok(ScanNumber(number)));
     }
     lent.refuses(Refusal::Busy, |store| store.open_scan(Stamp(0)));
@@ -126,6 +126,33 @@ fn open_ones_and_numbers() {
         store.abort(Transaction(number)).unwrap();
     }
     lent.refuses(Refusal::Number, |store| store.begin());
+}
+
+/// Five entries serve and four do not. Open scans count, in whatever entries they stand: a list with
+/// more entries takes five, and with six open every call is refused.
+#[test]
+fn lists() {
+    let mut lent = Lent::made(SHAPE);
+    assert_eq!(lent.scans.len(), 5);
+    lent.store().check().unwrap();
+    lent.scans.pop();
+    lent.refuses(Refusal::Memory, |store| store.check());
+    lent.refuses(Refusal::Memory, |store| store.open_scan(Stamp(0)));
+    lent.scans.resize(16, ScanEntry::FREE);
+    for number in 1..=5 {
+        assert_eq!(lent.store().open_scan(Stamp(0)), Ok(ScanNumber(number)));
+    }
+    lent.scans.swap(0, 15);
+    lent.refuses(Refusal::Busy, |store| store.open_scan(Stamp(0)));
+    lent.store().close_scan(ScanNumber(1)).unwrap();
+    assert_eq!(lent.store().open_scan(Stamp(0)), Ok(ScanNumber(6)));
+    lent.scans[15] = ScanEntry { number: 1, ..ScanEntry::FREE };
+    lent.refuses(Refusal::Memory, |store| store.check());
+    lent.refuses(Refusal::Memory, |store| store.open_scan(Stamp(0)));
+    lent.refuses(Refusal::Memory, |store| store.close_scan(ScanNumber(1)));
+    lent.refuses(Refusal::Memory, |store| store.release());
+    lent.scans[15] = ScanEntry::FREE;
+    lent.store().check().unwrap();
 }
 
 #[test]

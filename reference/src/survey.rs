@@ -1,12 +1,13 @@
-//! Counts what the generated streams meet: how often each answer came, for each command, and how
-//! often each situation of a single-cell read in which a wrong stamp shows.
+//! Counts what the generated streams meet: how often each answer came, for each command, how often
+//! each situation of a single-cell read in which a wrong stamp shows, and how many scans were open
+//! at the calls that scans bear on.
 
 use std::collections::{BTreeMap, BTreeSet};
 use std::fmt;
 
 use crate::command;
 use crate::generate;
-use crate::history::Situation;
+use crate::history::{Situation, OPEN_SCANS};
 use crate::program;
 use crate::text::NAMES;
 
@@ -25,10 +26,25 @@ pub struct Survey {
     /// Single-cell reads by their situation and command byte, and the streams that have one.
     situations: BTreeMap<(Situation, u8), u64>,
     situation_streams: BTreeMap<Situation, u64>,
+    /// Calls by the scans open before them, the command byte and the refusal, and the streams that
+    /// have a call with so many scans open; without the long streams.
+    by_scans: BTreeMap<(usize, u8, Option<u8>), u64>,
+    by_scans_streams: BTreeMap<usize, u64>,
 }
 
 /// The command bytes of the single-cell reads.
 const READS: [u8; 4] = [0x07, 0x08, 0x09, 0x0B];
+
+/// The calls of the table by open scans: an opening that is accepted or finds no place, and the
+/// accepted calls that read by a scan, or whose old page a scan can keep.
+const BY_SCANS: [(&str, u8, Option<u8>); 6] = [
+    ("0A", 0x0A, None),
+    ("0A no 14", 0x0A, Some(14)),
+    ("0B", 0x0B, None),
+    ("0C", 0x0C, None),
+    ("0E", 0x0E, None),
+    ("0F", 0x0F, None),
+];
 
 impl Survey {
     /// Runs the streams of so many seeds.
@@ -45,6 +61,7 @@ impl Survey {
         let mut output = Vec::new();
         let mut rest = stream;
         let mut met = BTreeSet::new();
+        let mut met_scans = BTreeSet::new();
         let taken = "memory takes every line";
         if let Some(mut history) = program::start(&mut rest, &mut output).expect(taken) {
             let columns = history.shape().columns as usize;
@@ -54,6 +71,12 @@ impl Survey {
                         *self.situations.entry((situation, rest[0])).or_default() += 1;
                         met.insert(situation);
                     }
+                    if !long {
+                        let open = history.open_scans().len();
+                        let kind = (open, rest[0], history.refusal(&call));
+                        *self.by_scans.entry(kind).or_default() += 1;
+                        met_scans.insert(open);
+                    }
                 }
                 if !program::turn(&mut history, &mut rest, &mut output).expect(taken) {
                     break;
@@ -62,6 +85,9 @@ impl Survey {
         }
         for situation in met {
             *self.situation_streams.entry(situation).or_default() += 1;
+        }
+        for open in met_scans {
+            *self.by_scans_streams.entry(open).or_default() += 1;
         }
         self.add(&String::from_utf8(output).expect("the lines are ASCII"), long);
     }
@@ -98,6 +124,16 @@ impl Survey {
     /// How many reads of a command byte were in a situation.
     pub fn met(&self, situation: Situation, byte: u8) -> u64 {
         self.situations.get(&(situation, byte)).copied().unwrap_or(0)
+    }
+
+    /// How many calls of a command byte had this refusal, or none, with so many scans open.
+    pub fn with_scans(&self, open: usize, byte: u8, refusal: Option<u8>) -> u64 {
+        self.by_scans.get(&(open, byte, refusal)).copied().unwrap_or(0)
+    }
+
+    /// How many streams have a call with so many scans open; long streams left out.
+    pub fn streams_with_scans(&self, open: usize) -> u64 {
+        self.by_scans_streams.get(&open).copied().unwrap_or(0)
     }
 
     /// Calls, shape lines left out, and how many of them were accepted; long streams left out.
@@ -151,6 +187,18 @@ impl fmt::Display for Survey {
             }
             let streams = self.situation_streams.get(&situation).copied().unwrap_or(0);
             writeln!(out, "{streams:9}")?;
+        }
+        write!(out, "calls by open scans")?;
+        for (name, _, _) in BY_SCANS {
+            write!(out, "{name:>10}")?;
+        }
+        writeln!(out, "   streams")?;
+        for open in 0..=OPEN_SCANS {
+            write!(out, "    {open:<15}")?;
+            for (_, byte, refusal) in BY_SCANS {
+                write!(out, "{:10}", self.with_scans(open, byte, refusal))?;
+            }
+            writeln!(out, "{:10}", self.streams_with_scans(open))?;
         }
         Ok(())
     }

@@ -166,7 +166,7 @@ fn transactions_run_out() -> Vec<u8> {
     bytes_of(&SMALLEST, &calls)
 }
 
-/// Every scan number given, the last sixteen left open; then openings that are refused.
+/// Every scan number given, the last five left open; then openings that are refused.
 fn scans_run_out() -> Vec<u8> {
     let mut calls = Vec::new();
     for scan in 1..=NUMBERS as u32 {

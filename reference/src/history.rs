@@ -1,5 +1,6 @@
 //! The plain version history of document 01 ("The plain history, call by call"): its lists, what an
-//! accepted call does to them, and the reads, which give the stamps of document 02's Item 1 too.
+//! accepted call does to them, and the reads, which give the stamps of document 02's Item 1 too. At
+//! most five scans are open, as Item 2 has it.
 //! The tests of each call are in `refusals`; `situations` looks at reads for the survey.
 
 mod refusals;
@@ -9,9 +10,11 @@ use crate::call::{Answer, Call, Shape, RANGE_ROWS};
 
 pub use self::situations::Situation;
 
-/// "At most 8 transactions and 16 scans are open."
+/// "At most 8 transactions [..] are open."
 pub const OPEN_TRANSACTIONS: usize = 8;
-pub const OPEN_SCANS: usize = 16;
+/// The same sentence has "16 scans"; document 02, Item 2: "Make five the limit in place of sixteen;
+/// a sixth is answered 14." The transactions stay.
+pub const OPEN_SCANS: usize = 5;
 /// "Transaction numbers run 1 to 65,535, scan numbers likewise in a series of their own."
 pub const NUMBERS: usize = 65_535;
 

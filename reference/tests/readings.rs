@@ -28,9 +28,9 @@ fn page_cell_takes_and_tests_the_column_first() {
 fn open_scan_tests_the_stamp_before_the_places() {
     // B1; a refused open or begin uses no number.
     script(&format!(
-        "shape 1 1 1 0\n{}open-scan 1 => no 13\nopen-scan 0 => no 14\nclose 3\nopen-scan 0 => ok 17\n\
+        "shape 1 1 1 0\n{}open-scan 1 => no 13\nopen-scan 0 => no 14\nclose 3\nopen-scan 0 => ok 6\n\
          {}begin => no 14\nabort 8\nbegin => ok 9",
-        "open-scan 0\n".repeat(16),
+        "open-scan 0\n".repeat(5),
         "begin\n".repeat(8)
     ));
 }

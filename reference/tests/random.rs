@@ -10,7 +10,7 @@ use std::collections::HashMap;
 
 use common::SITUATIONS;
 use pages::Pages;
-use reference::history::Situation;
+use reference::history::{Situation, OPEN_SCANS};
 use reference::survey::Survey;
 use reference::{command, generate, trace, Answer, Call, History, Shape};
 use versions::Versions;
@@ -149,7 +149,7 @@ fn refused_calls_and_reads_alter_no_list() {
 
 #[test]
 fn streams_meet_every_refusal_but_2_and_accept_most_calls() {
-    let survey = Survey::of(0, 120);
+    let survey = Survey::of(0, 240);
     for number in (1..=20).filter(|number| *number != 2) {
         assert!(survey.refused(number) > 0, "no refusal {number}");
     }
@@ -188,6 +188,28 @@ fn streams_meet_every_situation_of_a_read_by_every_command_that_can() {
             let expected = if commands.contains(&byte) { met >= 10 } else { met == 0 };
             assert!(expected, "{situation:?} by {byte:02X}: {met}");
         }
+    }
+}
+
+#[test]
+fn streams_of_every_workload_have_all_scans_open_and_few_openings_without_a_place() {
+    for workload in 0..generate::WORKLOADS {
+        let seeds = (workload..).step_by(generate::WORKLOADS as usize);
+        let mut survey = Survey::default();
+        for seed in seeds.filter(|seed| !generate::is_long(*seed)).take(60) {
+            survey.run(&generate::stream(seed), false);
+        }
+        let streams = survey.streams_with_scans(OPEN_SCANS);
+        assert!(streams >= 15, "{streams} streams of workload {workload}");
+        for byte in [0x0B, 0x0C, 0x0E, 0x0F] {
+            let calls = survey.with_scans(OPEN_SCANS, byte, None);
+            assert!(calls > 0, "{byte:02X} in workload {workload}");
+        }
+        let opened: u64 = (0..OPEN_SCANS).map(|open| survey.with_scans(open, 0x0A, None)).sum();
+        let busy = survey.with_scans(OPEN_SCANS, 0x0A, Some(14));
+        assert!(busy > 0 && busy * 4 <= opened, "{busy} and {opened} in workload {workload}");
+        assert_eq!(survey.with_scans(OPEN_SCANS, 0x0A, None), 0);
+        assert_eq!(survey.streams_with_scans(OPEN_SCANS + 1), 0);
     }
 }
 

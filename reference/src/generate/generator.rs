@@ -3,7 +3,7 @@
 
 use super::workload::Workload;
 use crate::call::{Answer, Call, Shape, RANGE_ROWS};
-use crate::history::History;
+use crate::history::{History, OPEN_SCANS};
 use crate::random::Random;
 
 /// A generator of calls; each is also made on its history.
@@ -16,6 +16,8 @@ pub struct Generator {
     /// Rows changed by open transactions, and the stamps of commits.
     changed: Vec<(u32, u32)>,
     stamps: Vec<u32>,
+    /// Whether scans are opened early, until all places for them are taken.
+    fills_scans: bool,
     /// Whether numbers wider than the command bytes may be chosen.
     wide: bool,
 }
@@ -26,16 +28,23 @@ const UNTRIED: u32 = 50;
 const TRIES: u32 = 12;
 /// Operands chosen to be refused, in percent, where an open one could be had.
 const STRAY: u32 = 5;
+/// Lists in which scans are opened early, in percent. In the others all places are seldom taken
+/// before the list ends.
+const FILLS_SCANS: u32 = 50;
+/// Openings that become a close where all places are taken, in percent. If none did, the same
+/// scans would stay open and most openings would be answered 14.
+const MAKES_PLACE: u32 = 60;
 
 impl Generator {
     pub fn new(
-        random: Random,
+        mut random: Random,
         workload: &'static Workload,
         shape: Shape,
         count: usize,
         wide: bool,
     ) -> Generator {
         let early_rows = (shape.rows() * workload.early_rows / 100).min(count as u32 / 2);
+        let fills_scans = random.percent(FILLS_SCANS);
         Generator {
             random,
             workload,
@@ -43,6 +52,7 @@ impl Generator {
             early_rows,
             changed: Vec::new(),
             stamps: vec![0],
+            fills_scans,
             wide,
         }
     }
@@ -117,7 +127,7 @@ impl Generator {
             0x0A => Call::OpenScan { stamp: self.read_stamp() },
             0x0B => Call::ScanRead { scan: self.scan(), row: self.row(), column: self.column() },
             0x0C => Call::Sum { scan: self.scan(), column: self.column() },
-            0x0D => Call::Close { scan: self.scan() },
+            0x0D => Call::Close { scan: self.scan_to_close() },
             0x0E => self.merge(),
             0x0F => Call::Release,
             0x10 => Call::PageCell { column: self.column(), row: self.row() },
@@ -126,7 +136,8 @@ impl Generator {
     }
 
     /// A command byte by the workload's weights, or mostly an insert while early rows are missing.
-    /// Where what it needs is missing, mostly the command that makes it comes first.
+    /// Where what it needs is missing, mostly the command that makes it comes first; where no place
+    /// for a scan is free, a close often comes in place of an opening.
     pub fn command(&mut self) -> u8 {
         let early = self.early_rows > 0 && self.random.percent(90);
         let byte = if early { 0x02 } else { self.weighted() };
@@ -135,9 +146,12 @@ impl Generator {
         }
         let needs_row = matches!(byte, 0x03 | 0x04 | 0x07..=0x09 | 0x0B | 0x0E | 0x10);
         let byte = if needs_row && self.history.rows_given() == 0 { 0x02 } else { byte };
+        let scans = self.history.open_scans().len();
+        let fill = self.fills_scans && scans < OPEN_SCANS && self.random.percent(50);
         match byte {
             0x02..=0x06 | 0x09 if self.history.open_transactions().is_empty() => 0x01,
-            0x0B..=0x0D if self.history.open_scans().is_empty() => 0x0A,
+            0x0A if scans == OPEN_SCANS && self.random.percent(MAKES_PLACE) => 0x0D,
+            0x0B..=0x0D if scans == 0 || fill => 0x0A,
             _ => byte,
         }
     }
@@ -195,6 +209,14 @@ impl Generator {
             self.not_open(&open)
         } else {
             self.random.pick(&open)
+        }
+    }
+
+    /// An open scan, often the oldest, so that a release frees pages while later scans keep others.
+    fn scan_to_close(&mut self) -> u32 {
+        match self.history.open_scans().first() {
+            Some(&oldest) if self.random.percent(50) => oldest,
+            _ => self.scan(),
         }
     }
 

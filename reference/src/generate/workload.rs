@@ -36,9 +36,11 @@ const SMALL_TAIL: Workload = Workload {
     ..EVEN
 };
 
+/// Many of the places taken, and merges between the openings. Old scans keep pages, so there are
+/// more spares.
 const MANY_SCANS: Workload = Workload {
-    weights: [6, 6, 12, 2, 7, 2, 2, 4, 2, 24, 10, 6, 4, 8, 5, 3, 2],
-    spares: (1, 6),
+    weights: [6, 5, 16, 2, 9, 2, 2, 4, 2, 20, 10, 6, 4, 12, 6, 3, 2],
+    spares: (1, 12),
     ..EVEN
 };
 
@@ -53,7 +55,6 @@ const MANY_MERGES: Workload = Workload {
     columns: (1, 3),
     ranges: (1, 1),
     capacity: (32, 64),
-    spares: (0, 4),
     ..EVEN
 };
 

@@ -1,6 +1,6 @@
 //! One test for each reading of document 01 that an input can tell apart, with the reading's
-//! letter, and of document 02's Item 1. Those of section A are in `input`, and B1 and B2 also there
-//! for exhausted series.
+//! letter, and of document 02's Items 1 and 2. Those of section A are in `input`, and B1 and B2 also
+//! there for exhausted series.
 
 mod common;
 use common::script;
@@ -1104,4 +1104,224 @@ fn sum_page_cell_and_lineage_gain_no_stamp() {
          page-cell 1 0 => ok 50
          lineage 0 0 => ok 2 2",
     );
+}
+
+// Document 02, Item 2: "Make five the limit in place of sixteen; a sixth is answered 14."
+
+#[test]
+fn five_scans_are_open_and_a_sixth_takes_no_number() {
+    // The first, one between and the last make place for one each.
+    script(
+        "shape 1 1 1 0
+         open-scan 0 => ok 1
+         open-scan 0 => ok 2
+         open-scan 0 => ok 3
+         open-scan 0 => ok 4
+         open-scan 0 => ok 5
+         open-scan 0 => no 14
+         open-scan 0 => no 14
+         close 1
+         open-scan 0 => ok 6
+         open-scan 0 => no 14
+         close 4
+         open-scan 0 => ok 7
+         open-scan 0 => no 14
+         close 7
+         open-scan 0 => ok 8
+         open-scan 0 => no 14
+         close 2
+         close 3
+         close 5
+         close 6
+         close 8
+         close 8 => no 4
+         open-scan 0 => ok 9
+         open-scan 0 => ok 10
+         open-scan 0 => ok 11
+         open-scan 0 => ok 12
+         open-scan 0 => ok 13
+         open-scan 0 => no 14",
+    );
+}
+
+#[test]
+fn the_limits_of_scans_and_of_transactions_are_apart() {
+    // With five scans open a sixth transaction is accepted; the end of one makes no place for the
+    // other.
+    script(
+        "shape 1 1 1 0
+         open-scan 0 => ok 1
+         open-scan 0 => ok 2
+         open-scan 0 => ok 3
+         open-scan 0 => ok 4
+         open-scan 0 => ok 5
+         begin => ok 1
+         begin => ok 2
+         begin => ok 3
+         begin => ok 4
+         begin => ok 5
+         begin => ok 6
+         open-scan 0 => no 14
+         begin => ok 7
+         begin => ok 8
+         begin => no 14
+         close 2
+         begin => no 14
+         open-scan 0 => ok 6
+         commit 3 1
+         open-scan 0 => no 14
+         open-scan 2 => no 13
+         begin => ok 9
+         begin => no 14
+         close 1
+         close 3
+         close 4
+         close 5
+         close 6
+         begin => no 14
+         open-scan 1 => ok 7",
+    );
+}
+
+#[test]
+fn five_scans_are_read_and_summed_while_a_sixth_is_refused() {
+    script(
+        "shape 1 1 8 4
+         begin
+         insert 1 1
+         commit 1 10
+         open-scan 10 => ok 1
+         begin
+         update 2 0 mask 1 2
+         commit 2 20
+         merge 0 0 2
+         open-scan 20 => ok 2
+         begin
+         update 3 0 mask 1 3
+         commit 3 30
+         merge 0 0 3
+         open-scan 30 => ok 3
+         begin
+         update 4 0 mask 1 4
+         commit 4 40
+         merge 0 0 4
+         open-scan 40 => ok 4
+         begin
+         update 5 0 mask 1 5
+         commit 5 50
+         merge 0 0 5
+         open-scan 50 => ok 5
+         open-scan 50 => no 14
+         release => ok 0
+         scan-read 1 0 0 => ok 1 10
+         sum 1 0 => ok 1 1
+         scan-read 2 0 0 => ok 2 20
+         sum 2 0 => ok 1 2
+         scan-read 3 0 0 => ok 3 30
+         sum 3 0 => ok 1 3
+         scan-read 4 0 0 => ok 4 40
+         sum 4 0 => ok 1 4
+         scan-read 5 0 0 => ok 5 50
+         sum 5 0 => ok 1 5
+         scan-read 6 0 0 => no 4
+         sum 6 0 => no 4
+         close 6 => no 4
+         close 3
+         open-scan 25 => ok 6
+         open-scan 50 => no 14
+         scan-read 1 0 0 => ok 1 10
+         scan-read 2 0 0 => ok 2 20
+         scan-read 3 0 0 => no 4
+         scan-read 4 0 0 => ok 4 40
+         scan-read 5 0 0 => ok 5 50
+         scan-read 6 0 0 => ok 2 20
+         sum 3 0 => no 4
+         sum 6 0 => ok 1 2",
+    );
+}
+
+/// Seven tail records of one commit, merged through the first before any scan and through one more
+/// after each of five. The refused scan keeps no page.
+const UNDER_FIVE_SCANS: &str = "shape 1 1 8 6
+    begin
+    insert 1 0
+    update 1 0 mask 1 1 => ok 2
+    update 1 0 mask 1 2
+    update 1 0 mask 1 3
+    update 1 0 mask 1 4
+    update 1 0 mask 1 5
+    update 1 0 mask 1 6 => ok 7
+    commit 1 10
+    merge 0 0 1
+    open-scan 10
+    merge 0 0 2
+    open-scan 10
+    merge 0 0 3
+    open-scan 10
+    merge 0 0 4
+    open-scan 10
+    merge 0 0 5
+    open-scan 10
+    merge 0 0 6
+    open-scan 10 => no 14
+    merge 0 0 7 => no 18
+    release => ok 1
+";
+
+#[test]
+fn pages_under_five_scans_are_freed_one_by_one_as_the_oldest_closes() {
+    // Scan 6 has the place of scan 1, and was opened after all merges but the last.
+    script(&format!(
+        "{UNDER_FIVE_SCANS}
+         close 1
+         release => ok 1
+         open-scan 10 => ok 6
+         close 2
+         release => ok 1
+         close 3
+         release => ok 1
+         close 4
+         release => ok 1
+         close 5
+         release => ok 1
+         merge 0 0 7
+         release => ok 0
+         close 6
+         release => ok 1"
+    ));
+}
+
+#[test]
+fn pages_under_five_scans_wait_for_the_oldest() {
+    script(&format!(
+        "{UNDER_FIVE_SCANS}
+         close 5
+         release => ok 0
+         close 4
+         release => ok 0
+         close 3
+         release => ok 0
+         close 2
+         release => ok 0
+         scan-read 1 0 0 => ok 6 10
+         close 1
+         release => ok 5"
+    ));
+}
+
+#[test]
+fn pages_under_five_scans_wait_for_the_oldest_of_those_left() {
+    script(&format!(
+        "{UNDER_FIVE_SCANS}
+         close 3
+         release => ok 0
+         close 1
+         release => ok 1
+         close 2
+         release => ok 2
+         close 5
+         release => ok 0
+         close 4
+         release => ok 2"
+    ));
 }

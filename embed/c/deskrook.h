@@ -26,7 +26,7 @@
 extern "C" {
 #endif
 
-/* The fewest entries of a scan list, which is also how many scans can be open. */
+/* The fewest entries of a scan list, and how many scans can be open at a time, however many entries the list has. */
 #define DESKROOK_SCANS 5
 
 /* An entry of the list of open scans. Number 0 marks a free entry. */

@@ -3,7 +3,8 @@
 use crate::c::{self, Reply};
 use crate::{Lineage, Mask, Refusal, Row, ScanNumber, Stamp, Sum, Tail, Transaction, Version};
 
-/// The fewest entries of a scan list, which is also how many scans can be open.
+/// The fewest entries of a scan list, and how many scans can be open at a time, however many entries
+/// the list has.
 pub const SCANS: usize = 5;
 
 /// An entry of the lent list of open scans.

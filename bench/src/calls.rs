@@ -1,7 +1,7 @@
-//! Each call at a shape, empty, half and full; and update, delete and merge with eight transactions
-//! open.
+//! Each call at a shape, empty, half and full; update, delete and merge with eight transactions open;
+//! and a scan opened, read by and closed where all others are open.
 
-use checks::memory::OPENS;
+use checks::memory::{OPENS, SCANS};
 use reference::{text, Call, Shape};
 
 use crate::filled::Filled;
@@ -13,25 +13,32 @@ const FILLINGS: [(&str, u32); 3] = [("empty", 0), ("half", 50), ("full", 100)];
 /// How often all calls of a shape are measured: a stretch of seconds in which the machine is slow meets a call once.
 const PASSES: usize = 4;
 
-/// A call that is timed, by its byte, and the transactions that are open beside the caller.
+/// A call that is timed, by its byte, and how many transactions and scans are open.
 struct Timed {
     byte: u8,
-    others: u32,
+    transactions: usize,
+    scans: usize,
 }
 
-/// Each call; and where every place of an open transaction is taken, those whose tests look through
-/// all of them.
+/// Each call; where every place of an open transaction is taken, those whose tests look through all
+/// of them; and where as many scans are open as can be, those that look for a scan, or for a place.
 fn timed() -> impl Iterator<Item = Timed> {
-    let alone = (1..=text::NAMES.len() as u8).map(|byte| Timed { byte, others: 0 });
-    alone.chain([0x03, 0x04, 0x0E].map(|byte| Timed { byte, others: OPENS as u32 - 1 }))
+    let names = 1..=text::NAMES.len() as u8;
+    let alone = names.map(|byte| Timed { byte, transactions: 1, scans: 1 });
+    let transactions = [0x03, 0x04, 0x0E];
+    let scans = [(0x0A, SCANS - 1), (0x0B, SCANS), (0x0D, SCANS)];
+    alone
+        .chain(transactions.map(|byte| Timed { byte, transactions: OPENS, scans: 1 }))
+        .chain(scans.map(|(byte, scans)| Timed { byte, transactions: 1, scans }))
 }
 
 impl Timed {
     fn name(&self) -> String {
         let name = text::NAMES[usize::from(self.byte) - 1];
-        match self.others {
-            0 => name.to_string(),
-            others => format!("{name}, {} open", others + 1),
+        match (self.transactions, self.scans) {
+            (1, 1) => name.to_string(),
+            (1, scans) => format!("{name}, {scans} scans"),
+            (transactions, _) => format!("{name}, {transactions} open"),
         }
     }
 }
@@ -43,7 +50,7 @@ pub struct Ratios {
 }
 
 pub fn measure(stores: &[Named], shape: Shape, report: &mut Report) -> Ratios {
-    report.heading(&format!("Each call at shape {}", named(&shape)), "Nanoseconds of a call, and how many times the plain store's they are. Empty is one row with one setting; full leaves room for one row and one record. With eight open the seven others have set rows of their own where there is room.");
+    report.heading(&format!("Each call at shape {}", named(&shape)), "Nanoseconds of a call, and how many times the plain store's they are. Empty is one row with one setting; full leaves room for one row and one record. With eight open the seven other transactions have set rows of their own where there is room. With scans open the one that is read by or closed is the last in the list.");
     let mut heads = vec!["call".to_string()];
     for (filling, _) in FILLINGS {
         heads.push(format!("{filling}: {}", stores[0].0));
@@ -87,7 +94,7 @@ pub fn measure(stores: &[Named], shape: Shape, report: &mut Report) -> Ratios {
 
 /// A call that is accepted, with the store in which it is timed.
 fn prepared(shape: Shape, percent: u32, timed: &Timed) -> (Filled, Call) {
-    let mut filled = Filled::crowded(shape, percent, timed.others);
+    let mut filled = Filled::crowded(shape, percent, timed.transactions, timed.scans);
     let (transaction, scan, last) = (filled.open, filled.scan, filled.last);
     let (row, column) = (filled.rows / 2, 0);
     let values = vec![1; filled.shape.columns as usize];

@@ -42,11 +42,13 @@ impl Filled {
     /// but always a row with a setting, and always room for one row and one record more. One
     /// transaction is open, with one setting of row 0, and one scan.
     pub fn new(shape: Shape, percent: u32) -> Filled {
-        Filled::crowded(shape, percent, 0)
+        Filled::crowded(shape, percent, 1, 1)
     }
 
-    /// The same with so many other transactions open beside it.
-    pub fn crowded(shape: Shape, percent: u32, others: u32) -> Filled {
+    /// The same with so many transactions and scans open, of which the caller has the first
+    /// transaction and the last scan.
+    pub fn crowded(shape: Shape, percent: u32, transactions: usize, open_scans: usize) -> Filled {
+        let others = transactions as u32 - 1;
         let layout = Layout::of(&shape);
         let (memory, scans) = (vec![0; layout.need()], vec![ScanEntry::FREE; SCANS]);
         let rows = (shape.rows() * percent / 100).clamp(1, shape.rows() - 1);
@@ -71,7 +73,9 @@ impl Filled {
         for row in 1..=others {
             filled.open_beside(row);
         }
-        filled.scan = filled.number(&Call::OpenScan { stamp: filled.last });
+        for _ in 0..open_scans {
+            filled.scan = filled.number(&Call::OpenScan { stamp: filled.last });
+        }
         filled
     }
 

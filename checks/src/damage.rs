@@ -1,5 +1,5 @@
 //! What must hold of every call on bytes that no call made: 2 exactly where a stored fact fails, any
-//! other refusal exactly where document 01's words give it, no byte changed by a refused call, and an
+//! other refusal exactly where the papers' words give it, no byte changed by a refused call, and an
 //! answer always.
 
 use reference::random::Random;

@@ -1,6 +1,6 @@
-//! The stored facts, one after the other: document 01's paragraph "The stored facts are these".
-//! Written from that paragraph and the layout alone, to judge a store's answer 2, so it is plain
-//! rather than quick.
+//! The stored facts, one after the other: document 01's paragraph "The stored facts are these", with
+//! Item 2 of document 02 for the list. Written from these and the layout alone, to judge a store's
+//! answer 2, so it is plain rather than quick.
 
 use crate::memory::{header, page, word, Layout, Region, ScanEntry};
 use crate::memory::{NUMBERS, OPENS, ROWS, SCANS};
@@ -34,8 +34,8 @@ pub fn names() -> impl Iterator<Item = &'static str> {
 
 // These are looked at first: without them there is no word to look at.
 
-/// "a scan list under 16 entries", with Item 2: "The list then needs five places"
-const LIST: &str = "the scan list has 5 entries";
+/// "a scan list under 16 places"; Item 2: "The list then needs five places"
+const LIST: &str = "the scan list has at least 5 entries";
 /// "the stored measures lie within their limits"; a memory too short for them has none.
 const MEASURES: &str = "the measures lie within their limits";
 /// "shorter than the shape needs"
@@ -55,6 +55,7 @@ const FACTS: [Fact; 22] = [
         s.header(header::TRANSACTIONS_GIVEN) <= NUMBERS
     }),
     ("scan numbers given are at most 65,535", |s| s.header(header::SCANS_GIVEN) <= NUMBERS),
+    // Item 2: "one that holds more open scans is answered 2"
     ("at most 5 scans are open", |s| s.scans.len() <= SCANS),
     // "a used tail record names a given row of its range"
     ("a used record names a given row of its range", |s| {

@@ -7,8 +7,9 @@ use reference::{call::RANGE_ROWS, Shape};
 pub const WORD: usize = 4;
 /// Rows in a range, cells in a page.
 pub const ROWS: usize = RANGE_ROWS as usize;
-/// Entries for open transactions, and the fewest entries of a scan list.
+/// Entries for open transactions.
 pub const OPENS: usize = 8;
+/// The fewest entries of a scan list, and how many scans can be open.
 pub const SCANS: usize = 5;
 /// The greatest transaction or scan number.
 pub const NUMBERS: u32 = 65_535;

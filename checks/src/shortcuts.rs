@@ -1,5 +1,5 @@
 //! Shortcuts to the conditions of 9, 10, 17 and 18: right in every store that calls alone have
-//! written, and not by document 01's words elsewhere. They serve to count the memories in which the
+//! written, and not by the papers' words elsewhere. They serve to count the memories in which the
 //! two differ, and to see that the checks tell a store apart that takes one.
 
 use reference::Call;

@@ -1,6 +1,7 @@
-//! The refusals by document 01's words: its table "What a refused call returns" and its paragraph
-//! "Tests run in this order", read of the words of a usable memory, whoever wrote them. Written from
-//! these two alone, to judge a store's refusals, so it is plain rather than quick.
+//! The refusals by the papers' words: document 01's table "What a refused call returns" and its
+//! paragraph "Tests run in this order", with Item 2 of document 02 for 14, read of the words of a
+//! usable memory, whoever wrote them. Written from these alone, to judge a store's refusals, so it is
+//! plain rather than quick.
 //!
 //! Two words are settled: open is a number in the list of open numbers, whatever state words say; and
 //! what is not open is committed where its state word says so, and aborted otherwise.
@@ -74,7 +75,7 @@ pub fn judge(due: Option<u8>, answer: &Answer) -> Result<(), String> {
     }
     let (answer, due) = (trace::answer_words(answer), due.map(Answer::Refused));
     let due = due.map_or("an accepted call".to_string(), |due| trace::answer_words(&due));
-    Err(format!("answer {answer}, by document 01's words {due} is due"))
+    Err(format!("answer {answer}, by the papers' words {due} is due"))
 }
 
 /// Whether a number's condition applies to a call of which the tests before it have passed.
@@ -105,8 +106,7 @@ pub fn applies(s: &Stored, number: u8, call: &Call, n: &Numbers) -> bool {
             Call::Commit { .. } => n.stamp <= s.header(header::LAST_STAMP),
             _ => n.stamp > s.header(header::LAST_STAMP),
         },
-        // "8 transactions, or 16 scans, open", with Item 2: "Make five the limit in place of
-        // sixteen"
+        // "8 transactions, or 16 scans, open"; Item 2: "Make five the limit in place of sixteen"
         14 => match call {
             Call::Begin => s.open().len() >= OPENS,
             _ => s.scans.len() >= SCANS,

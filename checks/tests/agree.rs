@@ -1,6 +1,7 @@
 //! The plain page store and the definitions against the plain history, and against each other.
 
 use checks::defined::Defined;
+use checks::memory::{OPENS, SCANS};
 use checks::plain::Plain;
 use checks::{agree, same};
 use reference::{Call, Shape};
@@ -28,10 +29,10 @@ fn numbers_run_out() {
     for number in 1..=65_535 {
         transactions.push(Call::Begin);
         scans.push(Call::OpenScan { stamp: 0 });
-        if number <= 65_527 {
+        if number <= 65_535 - OPENS as u32 {
             transactions.push(Call::Abort { transaction: number });
         }
-        if number <= 65_530 {
+        if number <= 65_535 - SCANS as u32 {
             scans.push(Call::Close { scan: number });
         }
     }

@@ -38,7 +38,7 @@ struct Interface {
     /// The fields of `ScanEntry` and `Reply`.
     structs: BTreeMap<String, Vec<Named>>,
     /// How many scans can be open, by which a caller sizes the list.
-    limits: BTreeMap<String, String>,
+    most_scans: String,
 }
 
 /// The files that declare the interface.
@@ -72,7 +72,10 @@ fn compare(texts: &Texts) -> Result<(), String> {
     for (file, other) in [("deskrook.h", header), ("c.rs", declared)] {
         alike(file, &exports.functions, &other.functions)?;
         alike(file, &exports.structs, &other.structs)?;
-        alike(file, &exports.limits, &other.limits)?;
+        let (one, two) = (&exports.most_scans, &other.most_scans);
+        if one != two {
+            return Err(format!("{one} scans can be open in the exports, {two} in {file}"));
+        }
     }
     Ok(())
 }
@@ -109,10 +112,10 @@ fn cut<'t>(text: &'t str, mark: &str) -> Result<(&'t str, &'t str), String> {
     text.split_once(mark).ok_or_else(|| format!("no '{mark}' in '{start}'"))
 }
 
-/// The limit on open scans, which stands between two marks.
-fn limit(text: &str, from: &str, to: &str) -> Result<BTreeMap<String, String>, String> {
+/// What stands between two marks.
+fn between(text: &str, from: &str, to: &str) -> Result<String, String> {
     let (_, rest) = cut(text, from)?;
-    Ok(BTreeMap::from([("the most open scans".to_string(), cut(rest, to)?.0.to_string())]))
+    Ok(cut(rest, to)?.0.to_string())
 }
 
 /// Without each stretch from one mark through the next other one.
@@ -142,7 +145,7 @@ fn list<T>(text: &str, one: impl Fn(&str) -> Result<T, String>) -> Result<Vec<T>
 
 fn exported(texts: &Texts) -> Result<Interface, String> {
     let mut interface = Interface::default();
-    interface.limits = limit(&texts.limits, "pub const MOST_SCANS: usize = ", ";")?;
+    interface.most_scans = between(&texts.limits, "pub const MOST_SCANS: usize = ", ";")?;
     let text = plain(&texts.exports);
     for export in text.split("#[no_mangle] pub extern \"C\" fn ").skip(1) {
         let (name, rest) = cut(export, "(")?;
@@ -213,7 +216,7 @@ fn fields(text: &str, name: &str, language: usize) -> Result<Vec<Named>, String>
 
 fn header(text: &str) -> Result<Interface, String> {
     let mut interface = Interface::default();
-    interface.limits = limit(text, "#define DESKROOK_SCANS ", "\n")?;
+    interface.most_scans = between(text, "#define DESKROOK_SCANS ", "\n")?;
     // Without comments, the preprocessor's lines and functions with a body.
     let text = without(text, "/*", "*/")?;
     let lines: Vec<&str> = text.lines().filter(|line| !line.starts_with('#')).collect();
@@ -252,7 +255,7 @@ fn c_named(text: &str) -> Result<Named, String> {
 
 fn declared(texts: &Texts) -> Result<Interface, String> {
     let mut interface = Interface::default();
-    interface.limits = limit(&texts.store, "pub const SCANS: usize = ", ";")?;
+    interface.most_scans = between(&texts.store, "pub const SCANS: usize = ", ";")?;
     let text = plain(&texts.declared);
     // The macro's body is one declaration with holes, which each line of its use fills.
     let (_, body) = cut(&text, "macro_rules! lent {")?;

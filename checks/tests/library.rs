@@ -1,4 +1,4 @@
-//! The compiled library against the plain history, the stored facts, document 01's words and the plain
+//! The compiled library against the plain history, the stored facts, the papers' words and the plain
 //! page store.
 //! Longer runs: the binaries with the stores `library` and `wrapper`.
 #![cfg(feature = "library")]

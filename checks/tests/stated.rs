@@ -1,4 +1,4 @@
-//! Refusals on memories that no call made: each follows document 01's words, whatever links, lineages
+//! Refusals on memories that no call made: each follows the papers' words, whatever links, lineages
 //! and state words say. Known memories for 9, 10, 17 and 18, and stores that take a shortcut to one of
 //! them, which are told apart.
 
@@ -131,7 +131,7 @@ impl Store for Shortcut {
 }
 
 fn by_the_words(difference: Result<impl Sized, String>) -> bool {
-    difference.is_err_and(|difference| difference.contains("by document 01's words"))
+    difference.is_err_and(|difference| difference.contains("by the papers' words"))
 }
 
 #[test]

@@ -1,5 +1,5 @@
-//! Wrong stores: each fault of the plain page store must be told apart by the comparisons, and the
-//! right store by none.
+//! Wrong stores: each fault of the plain page store, and each store that sees a part of the list
+//! alone, must be told apart by the comparisons, and the right store by none.
 
 use checks::memory::{ScanEntry, SCANS};
 use checks::plain::{faults, Plain};
@@ -81,10 +81,10 @@ fn a_list_of_the_fewest_entries_is_refused() {
     told_apart(&Seeing(|list| if list.len() == SCANS { &mut [] } else { list }));
 }
 
-/// Calls alone never open a scan past the first entries, since the first free one is taken. So lists
-/// that no call made tell it apart: those with six open scans, one of them behind, pass there.
+/// A scan is opened in the first free entry, so after calls alone none stands past the fifth, and
+/// `agree` sees no difference. Lists that no call made have scans there.
 #[test]
-fn open_scans_count_in_the_first_entries_alone() {
+fn only_the_first_entries_are_looked_at() {
     let wrong = Seeing(|list| {
         let first = list.len().min(SCANS);
         &mut list[..first]

@@ -8,7 +8,7 @@
  *   scans, scans_length  the list of open scans: an array of at least DESKROOK_SCANS entries.
  * The pointers are not null, also where the length is 0. Memory, list and values do not overlap. Lend the same memory and list to every call on a store, and
  * write to neither in between. A call that meets other bytes than the last one left, even random ones, still answers, touches nothing outside what it was
- * lent, and answers DESKROOK_MEMORY wherever a stored fact fails.
+ * lent, and answers DESKROOK_MEMORY wherever a stored fact fails: also where more than DESKROOK_SCANS are open in the list.
  *
  * ANSWERS. `result` is DESKROOK_OK, DESKROOK_NONE or the number of a refusal. A refused call changes no byte of memory and list. The other fields are said with
  * each call; a field of which nothing is said is 0, and all of them are 0 where the result is not DESKROOK_OK. Where a read of one cell gives a value,

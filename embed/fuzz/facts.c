@@ -1,4 +1,4 @@
-/* Written from document 01's paragraph "The stored facts are these" and from the layout (docs/DECISIONS.md, part 4) alone. */
+/* Written from document 01's paragraph "The stored facts are these", Item 2 of document 02 and the layout (docs/DECISIONS.md, part 4) alone. */
 #include "facts.h"
 
 enum { ROWS = 64, OPEN_PLACES = 8, NUMBERS = 65535, PAGE_FREE = 0, PAGE_CURRENT = 1 };
@@ -161,7 +161,7 @@ static const char *failing_word(const struct layout *l, const uint8_t *mem) {
 
 const char *failing_fact(struct layout *l, const uint8_t *mem, size_t mem_length, const deskrook_scan_entry *scans, size_t scans_length) {
     if (scans_length < DESKROOK_SCANS)
-        return "the scan list has 5 entries";
+        return "the scan list has at least 5 entries";
     if (mem_length < HEADER_WORDS * 4 || !layout_of(l, word_at(mem, COLUMNS), word_at(mem, RANGES), word_at(mem, CAPACITY), word_at(mem, SPARES)))
         return "the measures lie within their limits";
     if (mem_length < layout_need(l))

@@ -1,4 +1,4 @@
-/* The layout of a store's memory and the stored facts of document 01, read independently of the library: plain rather than quick. */
+/* The layout of a store's memory and the stored facts of documents 01 and 02, read independently of the library: plain rather than quick. */
 #ifndef FACTS_H
 #define FACTS_H
 

@@ -1,4 +1,4 @@
-//! A store's refusals against the stored facts and document 01's words on bytes that no call made: for
+//! A store's refusals against the stored facts and the papers' words on bytes that no call made: for
 //! each of COUNT seeds every byte of a good store, random memories, and stores with words changed that
 //! the facts leave free. `damage FIRST COUNT [STORE]`.
 

@@ -1,5 +1,5 @@
 //! A store against the plain page store, answers and bytes, on random lists and on memories that
-//! no call made, and there against document 01's words too: `same FIRST COUNT STORE`.
+//! no call made, and there against the papers' words too: `same FIRST COUNT STORE`.
 
 use std::process::ExitCode;
 

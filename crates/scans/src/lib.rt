@@ -109,7 +109,7 @@ pub fn find_scan(t: Scans, number: u32) -> Found
     Found::Nothing
 }
 
-// Whether each number of a column of the table is at most a bound. Unused ones are 0, so all are looked at, and one flag is carried to the end: so the loop vectorises.
+// Whether each number of a column of the table is at most a bound. Unused ones are 0, so all are looked at, and one flag is carried to the end: so no branch stands between two tests.
 pub fn at_most(numbers: [u32; MOST_SCANS], bound: u32) -> bool
     ensures { λ r. ⌜ r ≡ allBetween 0 bound numbers ⌝ }
 {

@@ -1,5 +1,5 @@
-//! The refusals here beside those of the C header. That the functions, structs and limits are the same
-//! shows in checks/, which compares both with the exports (tests/declared.rs).
+//! The refusals here beside those of the C header. That the functions, the structs and the limit on
+//! open scans are the same shows in checks/, which compares both with the exports (tests/declared.rs).
 
 use deskrook::{c, Refusal};
 

@@ -16,7 +16,7 @@ pub struct Generator {
     /// Rows changed by open transactions, and the stamps of commits.
     changed: Vec<(u32, u32)>,
     stamps: Vec<u32>,
-    /// Whether scans are opened early, until all places for them are taken.
+    /// Whether the places for scans are kept filled.
     fills_scans: bool,
     /// Whether numbers wider than the command bytes may be chosen.
     wide: bool,
@@ -28,9 +28,10 @@ const UNTRIED: u32 = 50;
 const TRIES: u32 = 12;
 /// Operands chosen to be refused, in percent, where an open one could be had.
 const STRAY: u32 = 5;
-/// Lists in which scans are opened early, in percent. In the others all places are seldom taken
-/// before the list ends.
+/// Lists in which the places for scans are kept filled, in percent, and calls on a scan that become
+/// an opening there while a place is free. In the other lists all places are seldom taken.
 const FILLS_SCANS: u32 = 50;
+const OPENS_ANOTHER: u32 = 50;
 /// Openings that become a close where all places are taken, in percent. If none did, the same
 /// scans would stay open and most openings would be answered 14.
 const MAKES_PLACE: u32 = 60;
@@ -137,7 +138,8 @@ impl Generator {
 
     /// A command byte by the workload's weights, or mostly an insert while early rows are missing.
     /// Where what it needs is missing, mostly the command that makes it comes first; where no place
-    /// for a scan is free, a close often comes in place of an opening.
+    /// for a scan is free, a close often comes in place of an opening, and where one is, in a list
+    /// that keeps them filled, an opening in place of a call on a scan.
     pub fn command(&mut self) -> u8 {
         let early = self.early_rows > 0 && self.random.percent(90);
         let byte = if early { 0x02 } else { self.weighted() };
@@ -147,13 +149,18 @@ impl Generator {
         let needs_row = matches!(byte, 0x03 | 0x04 | 0x07..=0x09 | 0x0B | 0x0E | 0x10);
         let byte = if needs_row && self.history.rows_given() == 0 { 0x02 } else { byte };
         let scans = self.history.open_scans().len();
-        let fill = self.fills_scans && scans < OPEN_SCANS && self.random.percent(50);
         match byte {
             0x02..=0x06 | 0x09 if self.history.open_transactions().is_empty() => 0x01,
             0x0A if scans == OPEN_SCANS && self.random.percent(MAKES_PLACE) => 0x0D,
-            0x0B..=0x0D if scans == 0 || fill => 0x0A,
+            0x0B..=0x0D if scans == 0 || self.opens_another() => 0x0A,
             _ => byte,
         }
+    }
+
+    /// Whether an opening comes in place of a call on a scan.
+    fn opens_another(&mut self) -> bool {
+        let free = self.history.open_scans().len() < OPEN_SCANS;
+        self.fills_scans && free && self.random.percent(OPENS_ANOTHER)
     }
 
     fn weighted(&mut self) -> u8 {
@@ -212,7 +219,7 @@ impl Generator {
         }
     }
 
-    /// An open scan, often the oldest, so that a release frees pages while later scans keep others.
+    /// Mostly an open scan, often the oldest, so that a release frees pages while later scans keep others.
     fn scan_to_close(&mut self) -> u32 {
         match self.history.open_scans().first() {
             Some(&oldest) if self.random.percent(50) => oldest,

@@ -129,7 +129,8 @@ fn open_ones_and_numbers() {
 }
 
 /// Five entries serve and four do not. Open scans count, in whatever entries they stand: a list with
-/// more entries takes five, and with six open every call is refused.
+/// more entries takes five, and with six open every call on the store is refused. Making looks at the
+/// length alone.
 #[test]
 fn lists() {
     let mut lent = Lent::made(SHAPE);
@@ -151,8 +152,8 @@ fn lists() {
     lent.refuses(Refusal::Memory, |store| store.open_scan(Stamp(0)));
     lent.refuses(Refusal::Memory, |store| store.close_scan(ScanNumber(1)));
     lent.refuses(Refusal::Memory, |store| store.release());
-    lent.scans[15] = ScanEntry::FREE;
-    lent.store().check().unwrap();
+    Store::make(&mut lent.memory, &mut lent.scans, SHAPE).expect("enough is lent");
+    assert_eq!(lent.scans, [ScanEntry::FREE; 16]);
 }
 
 #[test]

@@ -10,9 +10,6 @@ use crate::{named, time, Named};
 
 const FILLINGS: [(&str, u32); 3] = [("empty", 0), ("half", 50), ("full", 100)];
 
-/// How often all calls of a shape are measured: a stretch of seconds in which the machine is slow meets a call once.
-const PASSES: usize = 4;
-
 /// A call that is timed, by its byte, and how many transactions and scans are open.
 struct Timed {
     byte: u8,
@@ -62,7 +59,7 @@ pub fn measure(stores: &[Named], shape: Shape, report: &mut Report) -> Ratios {
     let prepared: Vec<_> =
         timed().map(|call| FILLINGS.map(|(_, percent)| prepared(shape, percent, &call))).collect();
     let mut least = vec![vec![vec![f64::INFINITY; stores.len()]; FILLINGS.len()]; prepared.len()];
-    for _ in 0..PASSES {
+    for _ in 0..time::PASSES {
         for (of_call, prepared) in least.iter_mut().zip(&prepared) {
             for (times, (filled, call)) in of_call.iter_mut().zip(prepared) {
                 time::lesser(

@@ -26,21 +26,18 @@ pub fn measure(stores: &[Named], report: &mut Report) -> Vec<Curve> {
             curves.push(Curve { name: format!("{name}, {store}"), points: Vec::new() });
         }
     }
+    let steps: Vec<u32> = (0..=100).step_by(10).collect();
+    let filled: Vec<Filled> = steps.iter().map(|step| Filled::new(LARGEST, *step)).collect();
+    let mut least = vec![vec![f64::INFINITY; curves.len()]; filled.len()];
+    for _ in 0..time::PASSES {
+        for (least, filled) in least.iter_mut().zip(&filled) {
+            time::lesser(least, &times(stores, filled));
+        }
+    }
     let mut rows = Vec::new();
-    for percent in (0..=100).step_by(10) {
-        let filled = Filled::new(LARGEST, percent);
+    for ((percent, filled), times) in steps.iter().zip(&filled).zip(least) {
         let runs = used_words(&filled.memory);
         let words = runs.iter().map(|run| run.len() / WORD).sum::<usize>() as f64;
-        let (row, column) = (filled.rows / 2, 0);
-        let calls = [
-            Call::Latest { row, column },
-            Call::Commit { transaction: filled.open, stamp: filled.last + 1 },
-            Call::Sum { scan: filled.scan, column },
-        ];
-        let mut times = vec![read(&runs)];
-        for call in &calls {
-            times.extend(time::rounds(stores, |store| time::calls(store, &filled, &[call])));
-        }
         for (curve, time) in curves.iter_mut().zip(&times) {
             curve.points.push((words, *time));
         }
@@ -51,6 +48,21 @@ pub fn measure(stores: &[Named], report: &mut Report) -> Vec<Curve> {
     report.table(&heads, &rows);
     merged(stores, report);
     curves
+}
+
+/// A plain read of the used words, then each call with each store.
+fn times(stores: &[Named], filled: &Filled) -> Vec<f64> {
+    let (row, column) = (filled.rows / 2, 0);
+    let calls = [
+        Call::Latest { row, column },
+        Call::Commit { transaction: filled.open, stamp: filled.last + 1 },
+        Call::Sum { scan: filled.scan, column },
+    ];
+    let mut times = vec![read(&used_words(&filled.memory))];
+    for call in &calls {
+        times.extend(time::rounds(stores, |store| time::calls(store, filled, &[call])));
+    }
+    times
 }
 
 fn merged(stores: &[Named], report: &mut Report) {

@@ -86,7 +86,7 @@ fn ratio_panel(ratios: &[Ratios], top: f64) -> String {
     let x = Scale { least: 0.0, most: calls.len() as f64, from: LEFT, to: RIGHT };
     let panel = Panel { x, y: upward(top, &ticks) };
     let mut svg = panel.title_y("times the plain store’s time");
-    svg += &panel.title_x(74.0, "for each call from left to right: empty, half, full");
+    svg += &panel.title_x(98.0, "for each call from left to right: empty, half, full");
     for (value, label) in &ticks {
         svg += &panel.tick_y(*value, "grid", label);
     }

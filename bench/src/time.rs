@@ -14,6 +14,9 @@ use crate::Named;
 
 /// Rounds in which the stores are timed in turn, so that a busy stretch of the machine meets all.
 const ROUNDS: usize = 9;
+/// How often a whole table is measured: a stretch of seconds in which the machine is slow meets a
+/// figure once.
+pub const PASSES: usize = 4;
 /// The memory lies elsewhere in each round, at one of so many blocks, so that no figure hangs on one place.
 const PLACES: usize = 64;
 static PLACE: AtomicUsize = AtomicUsize::new(0);

@@ -186,7 +186,7 @@ fn streams_meet_every_situation_of_a_read_by_every_command_that_can() {
     for (situation, commands) in SITUATIONS {
         for byte in 0x01..=0x11 {
             let met = survey.met(situation, byte);
-            let expected = if commands.contains(&byte) { met >= 10 } else { met == 0 };
+            let expected = if commands.contains(&byte) { met >= 20 } else { met == 0 };
             assert!(expected, "{situation:?} by {byte:02X}: {met}");
         }
     }

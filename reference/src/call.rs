@@ -61,7 +61,8 @@ pub enum Answer {
     /// A transaction, row, tail record or scan number, or the count of pages that a release freed.
     Number(u32),
     /// The value read, and the stamp of the commit that set that column in that row, 0 where the
-    /// value is the reader's own and pending: latest, read at, own read, scan read.
+    /// value is the reader's own and pending: latest, read at, own read, scan read. A commit can
+    /// have the stamp 0 too, so 0 does not tell the two apart.
     Version {
         value: i32,
         stamp: u32,

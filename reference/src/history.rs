@@ -1,6 +1,7 @@
 //! The plain version history of document 01 ("The plain history, call by call"): its lists, what an
 //! accepted call does to them, and the reads, which give the stamps of document 02's Item 1 too. At
-//! most five scans are open, as Item 2 has it.
+//! most five scans are open, as Item 2 has it. Several commits may have one stamp, as Item 3 has it:
+//! an ordinal tells them apart, and a scan knows how many were made before it.
 //! The tests of each call are in `refusals`; `situations` looks at reads for the survey.
 
 mod refusals;
@@ -47,15 +48,25 @@ enum Holds {
 enum State {
     Open,
     Aborted,
-    Committed(u32),
+    Committed(Commit),
 }
 
-/// "scans, open or closed, with stamp and merges made before"; a scan is open while its number is
-/// among the open ones.
+/// A commit. Its ordinal is the count of commits made up to and with it. Document 02, Item 3:
+/// "Within one minute the history runs in order of commit", so of commits with one stamp the ordinal
+/// says which is the newer.
+#[derive(Clone, Copy, Debug, PartialEq)]
+struct Commit {
+    stamp: u32,
+    ordinal: u32,
+}
+
+/// "scans, open or closed, with stamp and merges made before"; Item 3: "its place in the list gains
+/// the count of all commits made before it". A scan is open while its number is among the open ones.
 #[derive(Clone, Copy, Debug, PartialEq)]
 struct Scan {
     stamp: u32,
     merges_before: usize,
+    commits_before: u32,
 }
 
 /// "merges with range, column and n, waiting or freed"
@@ -77,10 +88,25 @@ pub struct History {
     scans: Vec<Scan>,
     merges: Vec<Merge>,
     last_stamp: u32,
+    /// The commits made.
+    commits: u32,
     /// The numbers of the open transactions and scans, so that they are found without going
     /// through the whole lists.
     open_transactions: Vec<u32>,
     open_scans: Vec<u32>,
+}
+
+/// Which commits a reader sees: those up to a stamp, of the first so many that were made.
+#[derive(Clone, Copy, Debug, PartialEq)]
+struct View {
+    stamp: u32,
+    commits: u32,
+}
+
+impl View {
+    fn sees(&self, commit: &Commit) -> bool {
+        commit.stamp <= self.stamp && commit.ordinal <= self.commits
+    }
 }
 
 /// A value of a row and column, and the transaction that set it: that of the setting, or the row's
@@ -113,6 +139,7 @@ impl History {
             scans: Vec::new(),
             merges: Vec::new(),
             last_stamp: 0,
+            commits: 0,
             open_transactions: Vec::new(),
             open_scans: Vec::new(),
         }
@@ -192,7 +219,11 @@ impl History {
                 Answer::Number(number)
             }
             Call::OpenScan { stamp } => {
-                self.scans.push(Scan { stamp, merges_before: self.merges.len() });
+                self.scans.push(Scan {
+                    stamp,
+                    merges_before: self.merges.len(),
+                    commits_before: self.commits,
+                });
                 let number = self.scans.len() as u32;
                 self.open_scans.push(number);
                 Answer::Number(number)
@@ -222,7 +253,9 @@ impl History {
             // "Commit, abort and close mark theirs and answer no field."
             Call::Commit { transaction, stamp } => {
                 self.last_stamp = stamp;
-                self.end_transaction(transaction, State::Committed(stamp))
+                self.commits += 1;
+                let commit = Commit { stamp, ordinal: self.commits };
+                self.end_transaction(transaction, State::Committed(commit))
             }
             Call::Abort { transaction } => self.end_transaction(transaction, State::Aborted),
             Call::Close { scan } => {
@@ -237,11 +270,15 @@ impl History {
             Call::Release => Answer::Number(self.release()),
             // "Reads follow the rules above and alter nothing"
             Call::Latest { row, column } => self.read(self.latest(row, column)),
-            Call::ReadAt { stamp, row, column } => self.read(self.version_at(stamp, row, column)),
+            Call::ReadAt { stamp, row, column } => {
+                self.read(self.version_in(self.view_at(stamp), row, column))
+            }
             Call::OwnRead { transaction, row, column } => {
                 self.read(self.own_version(transaction, row, column))
             }
-            Call::ScanRead { scan, row, column } => self.read(self.scan_version(scan, row, column)),
+            Call::ScanRead { scan, row, column } => {
+                self.read(self.version_in(self.view_of_scan(scan), row, column))
+            }
             Call::Sum { scan, column } => self.sum(scan, column),
             Call::PageCell { column, row } => Answer::Value(self.page_cell(column, row)),
             // "Lineage is the n of the last merge there, else 0, and the records used."
@@ -307,8 +344,8 @@ impl History {
 
     /// The version of a row and column for a reader to whom the changes of some transactions count.
     /// An open transaction holds the rows it changed, so the records of one row stand in the order
-    /// of their commits, with those of an open transaction after them: the last record that
-    /// counts holds the last value, and an end comes after every value.
+    /// of their commits, within one minute too, with those of an open transaction after them: the
+    /// last record that counts holds the last value, and an end comes after every value.
     fn version(&self, row: u32, column: u32, counts: impl Fn(u32) -> bool) -> Option<Version> {
         let Row { inserter, ref values } = self.rows[row as usize];
         if !counts(inserter) {
@@ -326,28 +363,42 @@ impl History {
         Some(version)
     }
 
+    /// The version of a row and column among the commits of a view.
+    fn version_in(&self, view: View, row: u32, column: u32) -> Option<Version> {
+        self.version(row, column, |transaction| self.seen(view, transaction))
+    }
+
+    /// Whether a transaction is committed, and its commit is in a view.
+    fn seen(&self, view: View, transaction: u32) -> bool {
+        self.commit_of(transaction).is_some_and(|commit| view.sees(&commit))
+    }
+
     /// "A read at stamp t gives the last such value at or before t, or "none" if the row was not
-    /// inserted by t or ended by t."
-    fn version_at(&self, stamp: u32, row: u32, column: u32) -> Option<Version> {
-        let counts = |transaction: u32| {
-            self.stamp_of(transaction).is_some_and(|committed| committed <= stamp)
-        };
-        self.version(row, column, counts)
+    /// inserted by t or ended by t." Item 3: "a read at that minute gives the newest", so all
+    /// commits made so far are seen.
+    fn view_at(&self, stamp: u32) -> View {
+        View { stamp, commits: self.commits }
     }
 
     /// "The latest is the read at the last commit's stamp, 0 in a new store."
+    fn view_of_latest(&self) -> View {
+        self.view_at(self.last_stamp)
+    }
+
+    /// "A scan keeps the stamp it was opened with." Item 3: "A scan [..] sees of the commits up to
+    /// its stamp those made before its opening and no more".
+    fn view_of_scan(&self, scan: u32) -> View {
+        let Scan { stamp, commits_before, .. } = self.scans[scan as usize - 1];
+        View { stamp, commits: commits_before }
+    }
+
     fn latest(&self, row: u32, column: u32) -> Option<Version> {
-        self.version_at(self.last_stamp, row, column)
+        self.version_in(self.view_of_latest(), row, column)
     }
 
     /// "A transaction's own read sees its pending changes above the latest."
     fn own_version(&self, own: u32, row: u32, column: u32) -> Option<Version> {
         self.version(row, column, |transaction| transaction == own || self.committed(transaction))
-    }
-
-    /// "A scan keeps the stamp it was opened with."
-    fn scan_version(&self, scan: u32, row: u32, column: u32) -> Option<Version> {
-        self.version_at(self.scans[scan as usize - 1].stamp, row, column)
     }
 
     /// What a single-cell read answers. Document 02, Item 1: "Every single-cell read that gives a
@@ -356,7 +407,7 @@ impl History {
     fn read(&self, version: Option<Version>) -> Answer {
         let Some(Version { value, setter }) = version else { return Answer::None };
         let stamp = match self.state(setter) {
-            State::Committed(stamp) => stamp,
+            State::Committed(commit) => commit.stamp,
             // Nobody but the transaction itself reads what it has not committed.
             State::Open => 0,
             State::Aborted => unreachable!("no reader counts an aborted change"),
@@ -370,7 +421,7 @@ impl History {
         let mut count = 0;
         let mut sum = 0;
         for row in 0..self.rows_given() {
-            if let Some(version) = self.scan_version(scan, row, column) {
+            if let Some(version) = self.version_in(self.view_of_scan(scan), row, column) {
                 count += 1;
                 sum += i64::from(version.value);
             }
@@ -392,13 +443,13 @@ impl History {
     }
 
     fn committed(&self, transaction: u32) -> bool {
-        self.stamp_of(transaction).is_some()
+        self.commit_of(transaction).is_some()
     }
 
-    /// The stamp of a transaction's commit.
-    fn stamp_of(&self, transaction: u32) -> Option<u32> {
+    /// A transaction's commit, if it has been made.
+    fn commit_of(&self, transaction: u32) -> Option<Commit> {
         match self.state(transaction) {
-            State::Committed(stamp) => Some(stamp),
+            State::Committed(commit) => Some(commit),
             State::Open | State::Aborted => None,
         }
     }

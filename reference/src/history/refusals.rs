@@ -1,5 +1,5 @@
 //! When a call is refused: the tests of document 01's table, "What a refused call returns", for
-//! each call in the stated order.
+//! each call in the stated order, with the changes of document 02.
 
 use super::{names, History, Record, State, NUMBERS, OPEN_SCANS, OPEN_TRANSACTIONS};
 use crate::call::{Call, RANGE_ROWS};
@@ -44,10 +44,11 @@ impl History {
                 self.test_gone(transaction, row)?;
                 self.test_tail(row, 1)
             }
-            // Commit: 3, 13.
+            // Commit: 3, 13. Document 02, Item 3: "A commit may now carry the last commit's stamp
+            // again, 0 in a new store; only an earlier one is answered 13".
             Call::Commit { transaction, stamp } => {
                 self.test_transaction(transaction)?;
-                require(stamp > self.last_stamp, 13)
+                require(stamp >= self.last_stamp, 13)
             }
             // Abort: 3.
             Call::Abort { transaction } => self.test_transaction(transaction),

@@ -1,7 +1,7 @@
 //! The situations of a single-cell read in which a wrong reading of document 02's Item 1 gives
 //! another stamp, or gives one with none. The survey counts them in generated streams.
 
-use super::{merged_through, History, Holds, Record, Scan, State, Version};
+use super::{merged_through, History, Holds, Record, State, Version, View};
 use crate::call::{Call, RANGE_ROWS};
 
 /// A situation of a single-cell read. Several can hold of one read.
@@ -65,7 +65,7 @@ impl Situation {
 struct Reader {
     row: u32,
     column: u32,
-    stamp: u32,
+    view: View,
     /// The transaction of an own read.
     own: Option<u32>,
     /// How many merges were made before the pages read were current.
@@ -78,27 +78,27 @@ impl History {
         if self.refusal(call).is_some() {
             return Vec::new();
         }
-        let (stamp, own, merges) = (self.last_stamp, None, self.merges.len());
+        let (view, own, merges) = (self.view_of_latest(), None, self.merges.len());
         self.situations_of(&match *call {
-            Call::Latest { row, column } => Reader { row, column, stamp, own, merges },
-            Call::ReadAt { stamp, row, column } => Reader { row, column, stamp, own, merges },
+            Call::Latest { row, column } => Reader { row, column, view, own, merges },
+            Call::ReadAt { stamp, row, column } => {
+                Reader { row, column, view: self.view_at(stamp), own, merges }
+            }
             Call::OwnRead { transaction, row, column } => {
-                Reader { row, column, stamp, own: Some(transaction), merges }
+                Reader { row, column, view, own: Some(transaction), merges }
             }
             // "An open scan reads the pages that were current at its opening."
             Call::ScanRead { scan, row, column } => {
-                let Scan { stamp, merges_before } = self.scans[scan as usize - 1];
-                Reader { row, column, stamp, own, merges: merges_before }
+                let merges = self.scans[scan as usize - 1].merges_before;
+                Reader { row, column, view: self.view_of_scan(scan), own, merges }
             }
             _ => return Vec::new(),
         })
     }
 
     fn situations_of(&self, reader: &Reader) -> Vec<Situation> {
-        let Reader { row, column, stamp, own, merges } = *reader;
-        let counts = |transaction: u32| {
-            own == Some(transaction) || self.stamp_of(transaction).is_some_and(|at| at <= stamp)
-        };
+        let Reader { row, column, view, own, merges } = *reader;
+        let counts = |transaction: u32| own == Some(transaction) || self.seen(view, transaction);
         let Some(Version { setter, .. }) = self.version(row, column, counts) else {
             return vec![Absent];
         };
@@ -114,8 +114,11 @@ impl History {
             Holds::Original(values) => record.row == row && values[column as usize].is_some(),
             Holds::Setting(_) | Holds::Delete => false,
         };
-        let later = |record: &Record| match self.stamp_of(setter) {
-            Some(read) => self.stamp_of(record.transaction).is_some_and(|at| at > read),
+        // Later by the order of commits, which within one minute the stamps do not tell.
+        let later = |record: &Record| match self.commit_of(setter) {
+            Some(read) => self
+                .commit_of(record.transaction)
+                .is_some_and(|commit| commit.ordinal > read.ordinal),
             None => false,
         };
         let pending = |record: &Record| own == Some(record.transaction);

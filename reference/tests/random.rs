@@ -6,7 +6,7 @@ mod pages;
 #[path = "common/versions.rs"]
 mod versions;
 
-use std::collections::HashMap;
+use std::collections::{BTreeMap, HashMap};
 
 use common::SITUATIONS;
 use pages::Pages;
@@ -101,33 +101,174 @@ fn striking_merges_and_releases_changes_no_other_answer() {
     }
 }
 
+/// The answers to a read of every column of the first so many rows, row by row.
+fn picture(history: &mut History, rows: u32, read: impl Fn(u32, u32) -> Call) -> Vec<Answer> {
+    let columns = history.shape().columns;
+    let cells = (0..rows).flat_map(|row| (0..columns).map(move |column| (row, column)));
+    cells.map(|(row, column)| history.call(&read(row, column))).collect()
+}
+
+/// The same for a stamp.
+fn picture_at(history: &mut History, rows: u32, stamp: u32) -> Vec<Answer> {
+    picture(history, rows, |row, column| Call::ReadAt { stamp, row, column })
+}
+
+/// Document 02, Item 3: "a reader may rely on an unchanging answer, refusals aside, for minutes
+/// before the last commit's", that is, before it at the first reading. A scan opened in the last
+/// commit's minute is a reader of its own; the next test is of such scans too.
 #[test]
-fn what_was_read_for_a_stamp_is_read_ever_after() {
+fn what_was_read_for_a_minute_before_the_last_commits_is_read_ever_after() {
+    // How often a later commit of a minute changed a cell, which its readers could not rely on yet;
+    // how many cells of minutes that were over a commit of a later minute changed; how many reads
+    // in the lists were of such cells.
+    let (mut within, mut after, mut reads) = (0, 0, 0);
     for (shape, calls) in lists() {
         let mut history = History::new(shape);
         let mut scans = HashMap::new();
         let mut seen = HashMap::new();
         for call in &calls {
-            let last = history.last_stamp();
+            let (last, rows) = (history.last_stamp(), history.rows_given());
+            let commit = matches!(call, Call::Commit { .. });
+            let before = if commit { picture_at(&mut history, rows, last) } else { Vec::new() };
             let answer = history.call(call);
             if answer.is_refused() {
                 continue;
             }
             let (stamp, row, column) = match *call {
-                Call::OpenScan { stamp } => {
+                Call::Commit { stamp, .. } if stamp == last => {
+                    let now = picture_at(&mut history, rows, last);
+                    within += before.iter().zip(now).filter(|(before, now)| *before != now).count();
+                    continue;
+                }
+                Call::Commit { .. } => {
+                    // The minute is over, and this commit changes none of its answers.
+                    assert_eq!(picture_at(&mut history, rows, last), before, "{call:?}");
+                    for (place, answer) in (0..).zip(before) {
+                        let cell = (last, place / shape.columns, place % shape.columns);
+                        seen.insert(cell, answer);
+                    }
+                    continue;
+                }
+                Call::OpenScan { stamp } if stamp < last => {
                     scans.insert(history.open_scans().last().copied().unwrap(), stamp);
                     continue;
                 }
-                Call::Latest { row, column } => (last, row, column),
-                Call::ReadAt { stamp, row, column } => (stamp, row, column),
-                Call::ScanRead { scan, row, column } => (scans[&scan], row, column),
+                Call::ReadAt { stamp, row, column } if stamp < last => (stamp, row, column),
+                Call::ScanRead { scan, row, column } if scans.contains_key(&scan) => {
+                    (scans[&scan], row, column)
+                }
                 _ => continue,
             };
-            assert_eq!(*seen.entry((stamp, row, column)).or_insert(answer), answer);
+            assert_eq!(*seen.entry((stamp, row, column)).or_insert(answer), answer, "{call:?}");
+            reads += u32::from(history.call(&Call::Latest { row, column }) != answer);
         }
         for ((stamp, row, column), answer) in seen {
             assert_eq!(history.call(&Call::ReadAt { stamp, row, column }), answer);
+            after += u32::from(history.call(&Call::Latest { row, column }) != answer);
         }
+    }
+    assert!(within > 400, "{within}");
+    assert!(after > 30_000, "{after}");
+    assert!(reads > 1_500, "{reads}");
+}
+
+/// A scan as it was at its opening: how many rows were given, and what its cells and sums gave.
+struct Opened {
+    stamp: u32,
+    rows: u32,
+    cells: Vec<Answer>,
+    sums: Vec<Answer>,
+}
+
+impl Opened {
+    fn of(history: &mut History, scan: u32, stamp: u32, rows: u32) -> Opened {
+        let cells = picture(history, rows, |row, column| Call::ScanRead { scan, row, column });
+        let columns = 0..history.shape().columns;
+        let sums = columns.map(|column| history.call(&Call::Sum { scan, column })).collect();
+        Opened { stamp, rows, cells, sums }
+    }
+
+    /// Reads the scan again, which gives the same.
+    fn check(&self, history: &mut History, scan: u32) {
+        let again = Opened::of(history, scan, self.stamp, self.rows);
+        assert_eq!(self.cells, again.cells, "scan {scan}");
+        assert_eq!(self.sums, again.sums, "scan {scan}");
+    }
+}
+
+/// Item 3: "and for every open scan". Whatever is called between, commits of the scan's minute
+/// included.
+#[test]
+fn an_open_scan_is_read_and_summed_the_same_until_it_is_closed() {
+    // Cells that a later commit of the scan's minute set, inserted or ended, so that a read at the
+    // scan's stamp has come to give another answer than the scan; reads of such cells, and sums of
+    // such columns, in the lists.
+    let (mut set, mut inserted, mut ended) = (0, 0, 0);
+    let (mut reads, mut sums) = (0, 0);
+    for (shape, calls) in lists() {
+        let mut history = History::new(shape);
+        let mut scans: BTreeMap<u32, Opened> = BTreeMap::new();
+        // At the end every scan is closed, so that each is looked at before it is.
+        let closes = (1..=calls.len() as u32).map(|scan| Call::Close { scan });
+        for call in calls.iter().cloned().chain(closes) {
+            if let Call::Close { scan } = call {
+                if let Some(opened) = scans.remove(&scan) {
+                    opened.check(&mut history, scan);
+                    let rows = history.rows_given();
+                    let at = picture_at(&mut history, rows, opened.stamp);
+                    let by = picture(&mut history, rows, |row, column| Call::ScanRead {
+                        scan,
+                        row,
+                        column,
+                    });
+                    for pair in by.iter().zip(&at).filter(|(by, at)| by != at) {
+                        match pair {
+                            (Answer::None, _) => inserted += 1,
+                            (_, Answer::None) => ended += 1,
+                            _ => set += 1,
+                        }
+                    }
+                }
+            }
+            let answer = history.call(&call);
+            if answer.is_refused() {
+                continue;
+            }
+            match call {
+                Call::OpenScan { stamp } => {
+                    let (scan, rows) =
+                        (*history.open_scans().last().unwrap(), history.rows_given());
+                    scans.insert(scan, Opened::of(&mut history, scan, stamp, rows));
+                }
+                Call::Commit { .. } | Call::Merge { .. } | Call::Release => {
+                    for (scan, opened) in &scans {
+                        opened.check(&mut history, *scan);
+                    }
+                }
+                Call::ScanRead { scan, row, column } => {
+                    // A row given after the opening was committed after it, if ever.
+                    let Opened { stamp, cells, .. } = &scans[&scan];
+                    let place = (row * shape.columns + column) as usize;
+                    assert_eq!(answer, *cells.get(place).unwrap_or(&Answer::None), "{call:?}");
+                    let at = history.call(&Call::ReadAt { stamp: *stamp, row, column });
+                    reads += u32::from(at != answer);
+                }
+                Call::Sum { scan, column } => {
+                    let opened = &scans[&scan];
+                    assert_eq!(answer, opened.sums[column as usize], "{call:?}");
+                    let (stamp, rows) = (opened.stamp, history.rows_given());
+                    let changed = |row: u32| {
+                        let at = history.call(&Call::ReadAt { stamp, row, column });
+                        history.call(&Call::ScanRead { scan, row, column }) != at
+                    };
+                    sums += u32::from((0..rows).any(changed));
+                }
+                _ => {}
+            }
+        }
+    }
+    for (count, least) in [(set, 8), (inserted, 100), (ended, 5), (reads, 10), (sums, 8)] {
+        assert!(count >= least, "{set}, {inserted}, {ended}; {reads}, {sums}");
     }
 }
 
@@ -162,22 +303,40 @@ fn streams_meet_every_refusal_but_2_and_accept_most_calls() {
 
 #[test]
 fn situations_are_those_of_accepted_reads_and_fit_the_answers() {
+    // Reads of a value committed at 0, whose stamp is that of a pending one.
+    let mut committed_at_0 = 0;
     for (shape, calls) in lists() {
         let mut history = History::new(shape);
+        let mut commit_at_0 = false;
         for call in &calls {
             let found = history.situations(call);
             let is = |situation| found.contains(&situation);
             let pending = is(Situation::PendingSetting) || is(Situation::PendingInsert);
-            match history.call(call) {
+            let answer = history.call(call);
+            match answer {
                 Answer::None => assert_eq!(found, [Situation::Absent], "{call:?}"),
-                // No commit has stamp 0.
                 Answer::Version { stamp, .. } => {
-                    assert!(!is(Situation::Absent) && pending == (stamp == 0), "{call:?}");
+                    assert!(!is(Situation::Absent), "{call:?}");
+                    assert!(
+                        if pending { stamp == 0 } else { stamp > 0 || commit_at_0 },
+                        "{call:?}"
+                    );
+                    committed_at_0 += u32::from(!pending && stamp == 0);
                 }
                 _ => assert_eq!(found, [], "{call:?}"),
             }
+            if let Call::OwnRead { row, column, .. } = *call {
+                // What is not pending is the latest.
+                let latest = history.call(&Call::Latest { row, column });
+                assert!(
+                    pending || is(Situation::Absent) || latest == answer || answer.is_refused()
+                );
+            }
+            let at_0 = matches!(call, Call::Commit { stamp: 0, .. });
+            commit_at_0 |= at_0 && !answer.is_refused();
         }
     }
+    assert!(committed_at_0 > 100, "{committed_at_0}");
 }
 
 #[test]

@@ -1,5 +1,5 @@
 //! One test for each reading of document 01 that an input can tell apart, with the reading's
-//! letter, and of document 02's Items 1 and 2. Those of section A are in `input`, and B1 and B2 also
+//! letter, and of document 02's Items 1 to 3. Those of section A are in `input`, and B1 and B2 also
 //! there for exhausted series.
 
 mod common;
@@ -129,7 +129,7 @@ fn a_commit_refused_for_its_time_remains_open() {
         "begin
          begin
          update 2 0 mask 1 6 0
-         commit 2 10 => no 13
+         commit 2 9 => no 13
          own-read 2 0 0 => ok 6 0
          update 3 0 mask 1 7 0 => no 9
          commit 2 11
@@ -177,7 +177,6 @@ fn a_new_store_has_last_stamp_0_and_an_empty_commit_moves_it() {
          open-scan 0
          open-scan 1 => no 13
          begin
-         commit 1 0 => no 13
          insert 1 5
          read-at 0 0 0 => ok none
          read-at 1 0 0 => no 13
@@ -185,7 +184,8 @@ fn a_new_store_has_last_stamp_0_and_an_empty_commit_moves_it() {
          commit 2 7
          read-at 7 0 0 => ok none
          open-scan 7
-         commit 1 7 => no 13",
+         commit 1 6 => no 13
+         commit 1 0 => no 13",
     );
 }
 
@@ -215,7 +215,7 @@ fn a_given_row_that_is_not_there_reads_none() {
 }
 
 #[test]
-fn after_the_greatest_stamp_nothing_can_be_committed() {
+fn after_the_greatest_stamp_commits_can_only_carry_it_again() {
     // B13
     script(
         "shape 1 1 4 1
@@ -224,10 +224,14 @@ fn after_the_greatest_stamp_nothing_can_be_committed() {
          commit 1 4294967295
          begin
          update 2 0 mask 1 6
-         commit 2 4294967295 => no 13
+         commit 2 4294967294 => no 13
          read-at 4294967295 0 0 => ok 5 4294967295
          read-at 4294967294 0 0 => ok none
          open-scan 4294967295
+         sum 1 0 => ok 1 5
+         commit 2 4294967295
+         read-at 4294967295 0 0 => ok 6 4294967295
+         read-at 4294967294 0 0 => ok none
          sum 1 0 => ok 1 5",
     );
 }
@@ -1324,4 +1328,526 @@ fn pages_under_five_scans_wait_for_the_oldest_of_those_left() {
          close 4
          release => ok 2"
     ));
+}
+
+// Document 02, Item 3: "A commit may now carry the last commit's stamp again, 0 in a new store; only
+// an earlier one is answered 13".
+
+#[test]
+fn a_commit_may_carry_the_last_stamp_again() {
+    // As often as one likes; a later one is accepted as before.
+    one_row(
+        9,
+        0,
+        "begin
+         update 2 0 mask 1 6 0
+         commit 2 10 => ok
+         begin
+         commit 3 10 => ok
+         begin
+         update 4 0 mask 2 0 60
+         commit 4 10 => ok
+         latest 0 0 => ok 6 10
+         latest 0 1 => ok 60 10
+         read-at 11 0 0 => no 13
+         begin
+         commit 5 11 => ok
+         read-at 11 0 0 => ok 6 10",
+    );
+}
+
+#[test]
+fn a_new_store_takes_commits_at_0() {
+    // The value is there for every reader at 0.
+    script(
+        "shape 1 1 9 0
+         begin
+         insert 1 5
+         commit 1 0 => ok
+         latest 0 0 => ok 5 0
+         read-at 0 0 0 => ok 5 0
+         begin
+         update 2 0 mask 1 6
+         commit 2 0 => ok
+         latest 0 0 => ok 6 0
+         open-scan 0
+         scan-read 1 0 0 => ok 6 0
+         sum 1 0 => ok 1 6
+         open-scan 1 => no 13
+         begin
+         commit 3 1 => ok
+         read-at 0 0 0 => ok 6 0",
+    );
+}
+
+#[test]
+fn only_an_earlier_commit_is_answered_13_and_its_transaction_remains_open() {
+    // Earlier than the last commit of all, not than the transaction's begin or its last update.
+    one_row(
+        9,
+        0,
+        "begin
+         update 2 0 mask 1 6 0
+         begin
+         commit 3 20
+         commit 2 19 => no 13
+         commit 2 10 => no 13
+         commit 2 0 => no 13
+         own-read 2 0 0 => ok 6 0
+         latest 0 0 => ok 5 10
+         begin
+         update 4 0 mask 1 7 0 => no 9
+         update 2 0 mask 2 0 60
+         commit 2 20 => ok
+         commit 2 20 => no 3
+         read-at 20 0 0 => ok 6 20
+         read-at 20 0 1 => ok 60 20
+         read-at 19 0 0 => ok 5 10",
+    );
+}
+
+// "Within one minute the history runs in order of commit and a read at that minute gives the newest."
+
+#[test]
+fn a_read_at_the_minute_gives_the_newest() {
+    // Read at, latest and own read; not the first of the minute, nor the greatest value.
+    one_row(
+        9,
+        0,
+        "begin
+         update 2 0 mask 1 9 0
+         commit 2 20
+         read-at 20 0 0 => ok 9 20
+         begin
+         update 3 0 mask 1 7 0
+         commit 3 20
+         begin
+         read-at 20 0 0 => ok 7 20
+         latest 0 0 => ok 7 20
+         own-read 4 0 0 => ok 7 20
+         update 4 0 mask 1 8 0
+         commit 4 20
+         read-at 20 0 0 => ok 8 20
+         latest 0 0 => ok 8 20
+         read-at 19 0 0 => ok 5 10",
+    );
+}
+
+#[test]
+fn the_newest_of_a_minute_is_that_of_the_last_commit_not_begin() {
+    // Transaction 3 sets the cell and commits first, then transaction 2, begun before it.
+    one_row(
+        9,
+        1,
+        "begin
+         begin
+         update 3 0 mask 1 7 0
+         commit 3 20
+         update 2 0 mask 1 6 0
+         commit 2 20
+         latest 0 0 => ok 6 20
+         read-at 20 0 0 => ok 6 20
+         merge 0 0 3
+         page-cell 0 0 => ok 6
+         latest 0 0 => ok 6 20
+         read-at 19 0 0 => ok 5 10",
+    );
+}
+
+#[test]
+fn a_row_inserted_and_ended_in_one_minute_is_none_at_that_minute() {
+    // By two transactions, so it was seen between them, and a scan of that time sees it still.
+    one_row(
+        9,
+        0,
+        "begin
+         insert 2 7 70
+         commit 2 20
+         read-at 20 1 0 => ok 7 20
+         open-scan 20
+         begin
+         delete 3 1
+         commit 3 20
+         read-at 20 1 0 => ok none
+         latest 1 0 => ok none
+         read-at 19 1 0 => ok none
+         begin
+         own-read 4 1 0 => ok none
+         update 4 1 mask 1 8 0 => no 10
+         delete 4 1 => no 10
+         scan-read 1 1 0 => ok 7 20
+         sum 1 0 => ok 2 12
+         open-scan 20
+         sum 2 0 => ok 1 5",
+    );
+}
+
+#[test]
+fn a_rows_end_at_the_minute_of_its_setting_is_an_end() {
+    // Set by one transaction and ended by the next; the setting is then no minute's value.
+    one_row(
+        9,
+        1,
+        "begin
+         update 2 0 mask 1 6 0
+         commit 2 20
+         begin
+         delete 3 0
+         latest 0 0 => ok 6 20
+         commit 3 20
+         latest 0 0 => ok none
+         read-at 20 0 0 => ok none
+         read-at 19 0 0 => ok 5 10
+         merge 0 0 3
+         page-cell 0 0 => ok 6
+         read-at 20 0 0 => ok none",
+    );
+}
+
+// "A scan [..] sees of the commits up to its stamp those made before its opening and no more".
+
+/// Rows 0 and 1 with one commit at 20 after that at 10, then scan 1 at 20, then three more commits
+/// at 20: a setting of row 0, an insert of row 2, an end of row 1.
+const BETWEEN: &str = "shape 2 1 16 4
+    begin
+    insert 1 5 50
+    insert 1 7 70
+    commit 1 10
+    begin
+    update 2 0 mask 1 6 0 => ok 2
+    commit 2 20
+    open-scan 20 => ok 1
+    begin
+    update 3 0 mask 3 8 80 => ok 4
+    commit 3 20
+    begin
+    insert 4 9 90 => ok 2
+    commit 4 20
+    begin
+    delete 5 1 => ok 5
+    commit 5 20
+    ";
+
+/// What scan 1 of `BETWEEN` sees, whatever is called after.
+const BETWEEN_SEEN: &str = "scan-read 1 0 0 => ok 6 20
+    scan-read 1 0 1 => ok 50 10
+    scan-read 1 1 0 => ok 7 10
+    scan-read 1 1 1 => ok 70 10
+    scan-read 1 2 0 => ok none
+    sum 1 0 => ok 2 13
+    sum 1 1 => ok 2 120
+    ";
+
+/// What a read at 20, and a scan opened after all commits of `BETWEEN`, gives.
+const AFTER_ALL: &str = "read-at 20 0 0 => ok 8 20
+    read-at 20 0 1 => ok 80 20
+    read-at 20 1 0 => ok none
+    read-at 20 2 0 => ok 9 20
+    scan-read 2 0 0 => ok 8 20
+    scan-read 2 0 1 => ok 80 20
+    scan-read 2 1 0 => ok none
+    scan-read 2 2 0 => ok 9 20
+    sum 2 0 => ok 2 17
+    sum 2 1 => ok 2 170
+    ";
+
+#[test]
+fn a_scan_leaves_out_later_settings_inserts_and_ends_of_its_minute() {
+    // A second scan at the same stamp, opened later, sees them.
+    script(&format!("{BETWEEN}{BETWEEN_SEEN}open-scan 20 => ok 2\n{AFTER_ALL}{BETWEEN_SEEN}"));
+}
+
+#[test]
+fn a_scan_leaves_them_out_when_its_minute_is_over_too() {
+    // The minute's answer then no longer changes, and it is not this scan's.
+    let over = "begin
+        update 6 0 mask 3 1 1
+        insert 6 3 3
+        delete 6 2
+        commit 6 30
+        ";
+    script(&format!("{BETWEEN}open-scan 20 => ok 2\n{over}{BETWEEN_SEEN}{AFTER_ALL}"));
+}
+
+#[test]
+fn a_merge_of_a_later_commit_of_its_minute_changes_nothing_for_a_scan() {
+    // Through the later setting, then through all. Scan 2 reads the new pages, and their old ones
+    // wait for scan 1.
+    let merges = [
+        "merge 0 0 4\n",
+        "merge 0 0 5\nmerge 0 1 5\nrelease => ok 0\n",
+        "open-scan 20 => ok 2\nrelease => ok 0\n",
+    ];
+    let mut lines = BETWEEN.to_string();
+    for merge in merges {
+        lines += &format!("{merge}{BETWEEN_SEEN}");
+    }
+    lines += AFTER_ALL;
+    lines += "page-cell 0 0 => ok 8\npage-cell 1 0 => ok 80\npage-cell 0 1 => ok 7\n";
+    lines += "close 1\nrelease => ok 3\n";
+    lines += AFTER_ALL;
+    script(&lines);
+}
+
+#[test]
+fn a_scan_opened_after_a_merge_within_the_minute_leaves_out_the_settings_after_it() {
+    // The page of its opening holds the setting that it sees; the next page holds a later one.
+    one_row(
+        9,
+        2,
+        "begin
+         update 2 0 mask 1 6 0 => ok 2
+         commit 2 20
+         merge 0 0 2
+         open-scan 20
+         begin
+         update 3 0 mask 1 7 0 => ok 3
+         commit 3 20
+         scan-read 1 0 0 => ok 6 20
+         merge 0 0 3
+         scan-read 1 0 0 => ok 6 20
+         sum 1 0 => ok 1 6
+         release => ok 1
+         scan-read 1 0 0 => ok 6 20
+         latest 0 0 => ok 7 20",
+    );
+}
+
+#[test]
+fn a_scan_goes_by_the_commit_not_by_the_update_or_begin() {
+    // Transaction 2 begins and updates before the opening and commits after it; transaction 3
+    // begins later and commits before it. All in one minute.
+    script(
+        "shape 1 1 9 0
+         begin
+         insert 1 5
+         insert 1 6
+         commit 1 10
+         begin
+         begin
+         update 2 0 mask 1 7
+         insert 2 9
+         update 3 1 mask 1 8
+         commit 3 10
+         open-scan 10
+         commit 2 10
+         scan-read 1 0 0 => ok 5 10
+         scan-read 1 1 0 => ok 8 10
+         scan-read 1 2 0 => ok none
+         sum 1 0 => ok 2 13
+         read-at 10 0 0 => ok 7 10
+         read-at 10 2 0 => ok 9 10",
+    );
+}
+
+#[test]
+fn a_scan_counts_commits_alone() {
+    // Neither an abort nor a refused commit between two scans is one; a commit that sets nothing
+    // is, and shows nothing.
+    script(
+        "shape 1 1 9 0
+         begin
+         insert 1 5
+         commit 1 10
+         begin
+         abort 2
+         begin
+         begin
+         open-scan 10
+         commit 3 9 => no 13
+         commit 3 10
+         update 4 0 mask 1 6
+         commit 4 10
+         open-scan 10
+         begin
+         update 5 0 mask 1 7
+         abort 5
+         begin
+         update 6 0 mask 1 8
+         commit 6 10
+         open-scan 10
+         scan-read 1 0 0 => ok 5 10
+         scan-read 2 0 0 => ok 6 10
+         scan-read 3 0 0 => ok 8 10
+         sum 1 0 => ok 1 5
+         sum 2 0 => ok 1 6
+         sum 3 0 => ok 1 8",
+    );
+}
+
+#[test]
+fn a_scan_in_a_place_given_back_has_a_count_of_its_own() {
+    // Scan 6 takes the place of scan 1.
+    one_row(
+        9,
+        0,
+        "open-scan 10
+         open-scan 10
+         open-scan 10
+         open-scan 10
+         open-scan 10
+         begin
+         update 2 0 mask 1 6 0
+         commit 2 10
+         scan-read 1 0 0 => ok 5 10
+         close 1
+         open-scan 10 => ok 6
+         scan-read 6 0 0 => ok 6 10
+         scan-read 2 0 0 => ok 5 10
+         scan-read 5 0 0 => ok 5 10
+         sum 6 0 => ok 1 6
+         sum 5 0 => ok 1 5",
+    );
+}
+
+#[test]
+fn a_scan_of_a_new_store_sees_no_commit_at_0() {
+    // It was opened before the first commit; a scan opened after it sees it.
+    script(
+        "shape 1 1 9 0
+         open-scan 0
+         begin
+         insert 1 5
+         commit 1 0
+         scan-read 1 0 0 => ok none
+         sum 1 0 => ok 0 0
+         latest 0 0 => ok 5 0
+         open-scan 0
+         scan-read 2 0 0 => ok 5 0
+         sum 2 0 => ok 1 5
+         begin
+         delete 2 0
+         commit 2 0
+         scan-read 1 0 0 => ok none
+         scan-read 2 0 0 => ok 5 0
+         latest 0 0 => ok none",
+    );
+}
+
+#[test]
+fn a_scan_at_an_earlier_stamp_than_the_last_commits_is_as_before() {
+    // It sees every commit of its minute, as all were made before it, and none of a later stamp,
+    // though some were made before it too; a stamp between two minutes likewise.
+    one_row(
+        16,
+        0,
+        "begin
+         update 2 0 mask 1 6 0
+         commit 2 10
+         begin
+         update 3 0 mask 1 7 0
+         insert 3 9 90
+         commit 3 20
+         open-scan 10
+         open-scan 15
+         open-scan 9
+         begin
+         update 4 0 mask 1 8 0
+         insert 4 11 110
+         commit 4 20
+         scan-read 1 0 0 => ok 6 10
+         scan-read 1 1 0 => ok none
+         scan-read 2 0 0 => ok 6 10
+         scan-read 2 2 0 => ok none
+         scan-read 3 0 0 => ok none
+         sum 1 0 => ok 1 6
+         sum 2 0 => ok 1 6
+         sum 3 0 => ok 0 0
+         read-at 10 0 0 => ok 6 10
+         read-at 15 0 0 => ok 6 10",
+    );
+}
+
+// "So, in place of the last sentence of demand 3, a reader may rely on an unchanging answer,
+// refusals aside, for minutes before the last commit's, and for every open scan."
+
+#[test]
+fn the_answer_for_the_last_minute_may_change_and_for_an_earlier_one_not() {
+    // A value and an absence, each read before and after a second commit of minute 20.
+    one_row(
+        9,
+        1,
+        "begin
+         insert 2 7 70
+         commit 2 20
+         latest 0 0 => ok 5 10
+         read-at 20 0 0 => ok 5 10
+         read-at 19 0 0 => ok 5 10
+         read-at 10 0 0 => ok 5 10
+         latest 1 0 => ok 7 20
+         read-at 19 1 0 => ok none
+         begin
+         update 3 0 mask 1 6 0
+         delete 3 1
+         insert 3 9 90
+         latest 2 0 => ok none
+         commit 3 20
+         latest 0 0 => ok 6 20
+         read-at 20 0 0 => ok 6 20
+         read-at 19 0 0 => ok 5 10
+         read-at 10 0 0 => ok 5 10
+         latest 1 0 => ok none
+         read-at 20 1 0 => ok none
+         read-at 19 1 0 => ok none
+         latest 2 0 => ok 9 20
+         merge 0 0 3
+         read-at 19 0 0 => ok 5 10
+         latest 0 0 => ok 6 20",
+    );
+}
+
+#[test]
+fn a_minute_is_settled_by_a_commit_of_a_later_one_alone() {
+    // Read at 20 changes until the last commit is at 21, and then no more. In a new store the
+    // minute 0 is the last commit's: a read at 0 may change.
+    script(
+        "shape 1 1 9 0
+         begin
+         insert 1 5
+         read-at 0 0 0 => ok none
+         commit 1 0
+         read-at 0 0 0 => ok 5 0
+         begin
+         update 2 0 mask 1 6
+         commit 2 20
+         read-at 20 0 0 => ok 6 20
+         begin
+         begin
+         update 3 0 mask 1 7
+         commit 3 20
+         read-at 20 0 0 => ok 7 20
+         commit 4 21
+         begin
+         update 5 0 mask 1 8
+         commit 5 20 => no 13
+         commit 5 21
+         read-at 20 0 0 => ok 7 20
+         read-at 21 0 0 => ok 8 21",
+    );
+}
+
+#[test]
+fn a_value_committed_at_0_has_the_stamp_0_as_a_pending_one_has() {
+    // So 0 no longer tells the two apart: an own read gives 0 for a value that is pending, and for
+    // one that was committed at 0, by oneself never, as one is open still.
+    script(
+        "shape 2 1 9 0
+         begin
+         insert 1 5 50
+         commit 1 0
+         begin
+         own-read 2 0 0 => ok 5 0
+         update 2 0 mask 1 6 0
+         own-read 2 0 0 => ok 6 0
+         own-read 2 0 1 => ok 50 0
+         begin
+         own-read 3 0 0 => ok 5 0
+         latest 0 0 => ok 5 0
+         commit 2 0
+         own-read 3 0 0 => ok 6 0
+         latest 0 0 => ok 6 0
+         commit 3 7
+         latest 0 0 => ok 6 0
+         read-at 0 0 1 => ok 50 0",
+    );
 }

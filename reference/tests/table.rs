@@ -1,4 +1,5 @@
-//! The worked example of document 01 and the twelve cases of its "Proved table".
+//! The worked example of document 01 and the twelve cases of its "Proved table", P2 and P3 as
+//! document 02's Item 3 has them.
 
 mod common;
 use common::{output, script};
@@ -32,6 +33,7 @@ fn p1_the_eleven_answers() {
 
 #[test]
 fn p2_stamp_0_reads_none() {
+    // "P2 has no commit at 0"
     script(
         "shape 2 1 4 1
          begin
@@ -42,14 +44,17 @@ fn p2_stamp_0_reads_none() {
 }
 
 #[test]
-fn p3_commit_at_10_after_10_is_refused_at_11_accepted() {
+fn p3_commit_at_10_after_10_is_accepted_at_9_refused() {
+    // "case P3 becomes: at 10 ok, at 9 refused"; refused, it can still be committed at 10.
     script(
         "shape 1 1 4 1
          begin
          commit 1 10
          begin
-         commit 2 10 => no 13
-         commit 2 11 => ok",
+         commit 2 10 => ok
+         begin
+         commit 3 9 => no 13
+         commit 3 10 => ok",
     );
 }
 

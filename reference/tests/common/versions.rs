@@ -1,6 +1,7 @@
 //! The plain history a second way, from its first paragraph in document 01: every transaction
-//! keeps its pending changes, and a commit gives rows their values with its stamp. Reads alone;
-//! calls are fed to it after the history has accepted them.
+//! keeps its pending changes, and a commit gives rows their values with its stamp. A scan keeps a
+//! copy of what was committed at its opening. Reads alone; calls are fed to it after the history has
+//! accepted them.
 
 use std::collections::BTreeMap;
 
@@ -17,13 +18,22 @@ struct Pending {
     deleted: Vec<u32>,
 }
 
+/// What commits gave.
+#[derive(Clone, Default)]
+struct Committed {
+    /// The values of a row and column with their stamps, in order of commit, and the stamps at
+    /// which rows ended.
+    values: BTreeMap<(u32, u32), Vec<(u32, i32)>>,
+    ends: BTreeMap<u32, u32>,
+}
+
 #[derive(Default)]
 pub struct Versions {
     open: BTreeMap<u32, Pending>,
-    /// The values of a row and column with their stamps, and the stamps at which rows ended.
-    values: BTreeMap<(u32, u32), Vec<(u32, i32)>>,
-    ends: BTreeMap<u32, u32>,
-    scans: BTreeMap<u32, u32>,
+    committed: Committed,
+    /// The stamps of scans, and what was committed at their opening: "sees of the commits up to its
+    /// stamp those made before its opening and no more".
+    scans: BTreeMap<u32, (u32, Committed)>,
     rows: u32,
     last: u32,
 }
@@ -52,7 +62,7 @@ impl Versions {
                 self.open.remove(transaction);
             }
             Call::OpenScan { stamp } => {
-                self.scans.insert(number(answer), *stamp);
+                self.scans.insert(number(answer), (*stamp, self.committed.clone()));
             }
             Call::Latest { row, column } => return Some(self.read(self.last, *row, *column)),
             Call::ReadAt { stamp, row, column } => return Some(self.read(*stamp, *row, *column)),
@@ -60,10 +70,10 @@ impl Versions {
                 return Some(self.own_read(*transaction, *row, *column))
             }
             Call::ScanRead { scan, row, column } => {
-                return Some(self.read(self.scans[scan], *row, *column))
+                return Some(self.scan_read(*scan, *row, *column))
             }
             Call::Sum { scan, column } => {
-                let reads = (0..self.rows).map(|row| self.read(self.scans[scan], row, *column));
+                let reads = (0..self.rows).map(|row| self.scan_read(*scan, row, *column));
                 let seen: Vec<i64> = reads
                     .filter_map(|answer| match answer {
                         Answer::Version { value, .. } => Some(value.into()),
@@ -89,7 +99,7 @@ impl Versions {
             if pending.inserted.remove(row).is_some() {
                 pending.set.retain(|(of, _), _| of != row);
             } else {
-                self.ends.insert(*row, stamp);
+                self.committed.ends.insert(*row, stamp);
             }
         }
         // "each row it inserted gets a value in all columns at s, and each column it set gets its
@@ -100,17 +110,17 @@ impl Versions {
         }
         given.extend(pending.set);
         for (place, value) in given {
-            self.values.entry(place).or_default().push((stamp, value));
+            self.committed.values.entry(place).or_default().push((stamp, value));
         }
     }
 
     pub fn read(&self, stamp: u32, row: u32, column: u32) -> Answer {
-        if self.ends.get(&row).is_some_and(|end| *end <= stamp) {
-            return Answer::None;
-        }
-        let values = self.values.get(&(row, column)).into_iter().flatten();
-        let by_then = values.filter(|(at, _)| *at <= stamp).max_by_key(|(at, _)| *at);
-        by_then.map_or(Answer::None, |(at, value)| Answer::Version { value: *value, stamp: *at })
+        self.committed.read(stamp, row, column)
+    }
+
+    fn scan_read(&self, scan: u32, row: u32, column: u32) -> Answer {
+        let (stamp, committed) = &self.scans[&scan];
+        committed.read(*stamp, row, column)
     }
 
     fn own_read(&self, transaction: u32, row: u32, column: u32) -> Answer {
@@ -123,6 +133,21 @@ impl Versions {
             Answer::Version { value: values[column as usize], stamp: PENDING }
         } else {
             self.read(self.last, row, column)
+        }
+    }
+}
+
+impl Committed {
+    /// "Within one minute the history runs in order of commit and a read at that minute gives the
+    /// newest."
+    fn read(&self, stamp: u32, row: u32, column: u32) -> Answer {
+        if self.ends.get(&row).is_some_and(|end| *end <= stamp) {
+            return Answer::None;
+        }
+        let values = self.values.get(&(row, column)).into_iter().flatten();
+        match values.rev().find(|(at, _)| *at <= stamp) {
+            Some((at, value)) => Answer::Version { value: *value, stamp: *at },
+            None => Answer::None,
         }
     }
 }

@@ -2,13 +2,15 @@
 //! accepted call does to them, and the reads, which give the stamps of document 02's Item 1 too. At
 //! most five scans are open, as Item 2 has it. Several commits may have one stamp, as Item 3 has it:
 //! an ordinal tells them apart, and a scan knows how many were made before it.
-//! The tests of each call are in `refusals`; `situations` looks at reads for the survey.
+//! The tests of each call are in `refusals`; `situations` and `minutes` look at reads for the survey.
 
+mod minutes;
 mod refusals;
 mod situations;
 
 use crate::call::{Answer, Call, Shape, RANGE_ROWS};
 
+pub use self::minutes::InMinute;
 pub use self::situations::Situation;
 
 /// "At most 8 transactions [..] are open."
@@ -87,9 +89,8 @@ pub struct History {
     transactions: Vec<State>,
     scans: Vec<Scan>,
     merges: Vec<Merge>,
-    last_stamp: u32,
-    /// The commits made.
-    commits: u32,
+    /// The stamps of the commits made, in order: that of ordinal n is element n - 1.
+    commits: Vec<u32>,
     /// The numbers of the open transactions and scans, so that they are found without going
     /// through the whole lists.
     open_transactions: Vec<u32>,
@@ -138,8 +139,7 @@ impl History {
             transactions: Vec::new(),
             scans: Vec::new(),
             merges: Vec::new(),
-            last_stamp: 0,
-            commits: 0,
+            commits: Vec::new(),
             open_transactions: Vec::new(),
             open_scans: Vec::new(),
         }
@@ -169,8 +169,13 @@ impl History {
         self.rows.len() as u32
     }
 
+    /// "0 in a new store"
     pub fn last_stamp(&self) -> u32 {
-        self.last_stamp
+        self.commits.last().copied().unwrap_or(0)
+    }
+
+    pub fn commits_made(&self) -> u32 {
+        self.commits.len() as u32
     }
 
     pub fn open_transactions(&self) -> &[u32] {
@@ -181,9 +186,19 @@ impl History {
         &self.open_scans
     }
 
+    /// The stamp of a scan that was opened.
+    pub fn scan_stamp(&self, scan: u32) -> u32 {
+        self.scans[scan as usize - 1].stamp
+    }
+
     /// Whether a latest read of the row gives a value.
     pub fn is_there(&self, row: u32) -> bool {
         self.latest(row, 0).is_some()
+    }
+
+    /// Whether a scan that was opened sees the row.
+    pub fn sees(&self, scan: u32, row: u32) -> bool {
+        self.version_in(self.view_of_scan(scan), row, 0).is_some()
     }
 
     /// The tail records used in a range.
@@ -222,7 +237,7 @@ impl History {
                 self.scans.push(Scan {
                     stamp,
                     merges_before: self.merges.len(),
-                    commits_before: self.commits,
+                    commits_before: self.commits_made(),
                 });
                 let number = self.scans.len() as u32;
                 self.open_scans.push(number);
@@ -252,9 +267,8 @@ impl History {
             Call::Delete { transaction, row } => self.append(transaction, row, Holds::Delete),
             // "Commit, abort and close mark theirs and answer no field."
             Call::Commit { transaction, stamp } => {
-                self.last_stamp = stamp;
-                self.commits += 1;
-                let commit = Commit { stamp, ordinal: self.commits };
+                self.commits.push(stamp);
+                let commit = Commit { stamp, ordinal: self.commits_made() };
                 self.end_transaction(transaction, State::Committed(commit))
             }
             Call::Abort { transaction } => self.end_transaction(transaction, State::Aborted),
@@ -377,12 +391,12 @@ impl History {
     /// inserted by t or ended by t." Item 3: "a read at that minute gives the newest", so all
     /// commits made so far are seen.
     fn view_at(&self, stamp: u32) -> View {
-        View { stamp, commits: self.commits }
+        View { stamp, commits: self.commits_made() }
     }
 
     /// "The latest is the read at the last commit's stamp, 0 in a new store."
     fn view_of_latest(&self) -> View {
-        self.view_at(self.last_stamp)
+        self.view_at(self.last_stamp())
     }
 
     /// "A scan keeps the stamp it was opened with." Item 3: "A scan [..] sees of the commits up to

@@ -1,13 +1,15 @@
 //! Counts what the generated streams meet: how often each answer came, for each command, how often
-//! each situation of a single-cell read in which a wrong stamp shows, and how many scans were open
-//! at the calls that scans bear on.
+//! each situation of a single-cell read in which a wrong stamp shows, how many scans were open at the
+//! calls that scans bear on, which stamps the commits had, and how often each situation in which the
+//! commits of one minute show.
 
 use std::collections::{BTreeMap, BTreeSet};
 use std::fmt;
 
+use crate::call::Call;
 use crate::command;
 use crate::generate;
-use crate::history::{Situation, OPEN_SCANS};
+use crate::history::{History, InMinute, Situation, OPEN_SCANS};
 use crate::program;
 use crate::text::NAMES;
 
@@ -30,10 +32,58 @@ pub struct Survey {
     /// have a call with so many scans open; without the long streams.
     by_scans: BTreeMap<(usize, u8, Option<u8>), u64>,
     by_scans_streams: BTreeMap<usize, u64>,
+    /// Commits by their stamp, and the streams that have one; without the long streams.
+    commits: BTreeMap<CommitStamp, u64>,
+    commit_streams: BTreeMap<CommitStamp, u64>,
+    /// Single-cell reads and sums by their situation in a minute and command byte, and the streams
+    /// that have one.
+    in_minute: BTreeMap<(InMinute, u8), u64>,
+    in_minute_streams: BTreeMap<InMinute, u64>,
+}
+
+/// The stamp of a commit by an open transaction.
+#[derive(Clone, Copy, Debug, PartialEq, Eq, PartialOrd, Ord)]
+pub enum CommitStamp {
+    /// Later than the last commit's.
+    Later,
+    /// The last commit's again.
+    Again,
+    /// 0 in a new store.
+    NewStore,
+    /// Earlier than the last commit's: refused.
+    Earlier,
+}
+
+impl CommitStamp {
+    const ALL: [CommitStamp; 4] =
+        [CommitStamp::Later, CommitStamp::Again, CommitStamp::NewStore, CommitStamp::Earlier];
+
+    fn of(history: &History, call: &Call) -> Option<CommitStamp> {
+        let Call::Commit { stamp, .. } = *call else { return None };
+        match history.refusal(call) {
+            Some(13) => Some(CommitStamp::Earlier),
+            Some(_) => None,
+            None if stamp > history.last_stamp() => Some(CommitStamp::Later),
+            None if history.commits_made() == 0 => Some(CommitStamp::NewStore),
+            None => Some(CommitStamp::Again),
+        }
+    }
+
+    fn name(self) -> &'static str {
+        match self {
+            CommitStamp::Later => "later than the last",
+            CommitStamp::Again => "the last one's again",
+            CommitStamp::NewStore => "0 in a new store",
+            CommitStamp::Earlier => "no 13",
+        }
+    }
 }
 
 /// The command bytes of the single-cell reads.
 const READS: [u8; 4] = [0x07, 0x08, 0x09, 0x0B];
+
+/// The command bytes of the calls with situations in a minute.
+const IN_MINUTE: [u8; 5] = [0x07, 0x08, 0x09, 0x0B, 0x0C];
 
 /// The calls of the table by open scans: an opening that is accepted or finds no place, and the
 /// accepted calls that read by a scan, or whose old page a scan can keep.
@@ -62,6 +112,8 @@ impl Survey {
         let mut rest = stream;
         let mut met = BTreeSet::new();
         let mut met_scans = BTreeSet::new();
+        let mut met_commits = BTreeSet::new();
+        let mut met_in_minute = BTreeSet::new();
         let taken = "memory takes every line";
         if let Some(mut history) = program::start(&mut rest, &mut output).expect(taken) {
             let columns = history.shape().columns as usize;
@@ -71,7 +123,15 @@ impl Survey {
                         *self.situations.entry((situation, rest[0])).or_default() += 1;
                         met.insert(situation);
                     }
+                    for situation in history.in_minute(&call) {
+                        *self.in_minute.entry((situation, rest[0])).or_default() += 1;
+                        met_in_minute.insert(situation);
+                    }
                     if !long {
+                        if let Some(stamp) = CommitStamp::of(&history, &call) {
+                            *self.commits.entry(stamp).or_default() += 1;
+                            met_commits.insert(stamp);
+                        }
                         let open = history.open_scans().len();
                         let kind = (open, rest[0], history.refusal(&call));
                         *self.by_scans.entry(kind).or_default() += 1;
@@ -88,6 +148,12 @@ impl Survey {
         }
         for open in met_scans {
             *self.by_scans_streams.entry(open).or_default() += 1;
+        }
+        for stamp in met_commits {
+            *self.commit_streams.entry(stamp).or_default() += 1;
+        }
+        for situation in met_in_minute {
+            *self.in_minute_streams.entry(situation).or_default() += 1;
         }
         self.add(&String::from_utf8(output).expect("the lines are ASCII"), long);
     }
@@ -134,6 +200,17 @@ impl Survey {
     /// How many streams have a call with so many scans open; long streams left out.
     pub fn streams_with_scans(&self, open: usize) -> u64 {
         self.by_scans_streams.get(&open).copied().unwrap_or(0)
+    }
+
+    /// How many commits had such a stamp, and how many streams have one; long streams left out.
+    pub fn commits(&self, stamp: CommitStamp) -> (u64, u64) {
+        let of = |counts: &BTreeMap<CommitStamp, u64>| counts.get(&stamp).copied().unwrap_or(0);
+        (of(&self.commits), of(&self.commit_streams))
+    }
+
+    /// How many calls of a command byte were in a situation in a minute.
+    pub fn met_in_minute(&self, situation: InMinute, byte: u8) -> u64 {
+        self.in_minute.get(&(situation, byte)).copied().unwrap_or(0)
     }
 
     /// Calls, shape lines left out, and how many of them were accepted; long streams left out.
@@ -199,6 +276,24 @@ impl fmt::Display for Survey {
                 write!(out, "{:10}", self.with_scans(open, byte, refusal))?;
             }
             writeln!(out, "{:10}", self.streams_with_scans(open))?;
+        }
+        writeln!(out, "commits by stamp              calls  streams")?;
+        for stamp in CommitStamp::ALL {
+            let (calls, streams) = self.commits(stamp);
+            writeln!(out, "    {:23}{calls:8}{streams:9}", stamp.name())?;
+        }
+        write!(out, "reads by what their minute has ")?;
+        for byte in IN_MINUTE {
+            write!(out, "      {byte:02X}")?;
+        }
+        writeln!(out, "  streams")?;
+        for situation in InMinute::ALL {
+            write!(out, "    {:27}", situation.name())?;
+            for byte in IN_MINUTE {
+                write!(out, "{:8}", self.met_in_minute(situation, byte))?;
+            }
+            let streams = self.in_minute_streams.get(&situation).copied().unwrap_or(0);
+            writeln!(out, "{streams:9}")?;
         }
         Ok(())
     }

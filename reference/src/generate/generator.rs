@@ -13,9 +13,11 @@ pub struct Generator {
     history: History,
     /// The rows still to be inserted early.
     early_rows: u32,
-    /// Rows changed by open transactions, and the stamps of commits.
+    /// Rows changed by open transactions, and the stamps of commits, each once.
     changed: Vec<(u32, u32)>,
     stamps: Vec<u32>,
+    /// Open scans with the rows that a commit of their minute changed after their opening.
+    left_out: Vec<(u32, u32)>,
     /// Whether the places for scans are kept filled.
     fills_scans: bool,
     /// Whether numbers wider than the command bytes may be chosen.
@@ -36,6 +38,16 @@ const OPENS_ANOTHER: u32 = 50;
 /// scans would stay open and most openings would be answered 14.
 const MAKES_PLACE: u32 = 60;
 
+/// Commits with an earlier stamp than the last commit's, in percent, those with its stamp again, and
+/// the latter while a scan is open at that stamp, which leaves such a commit out.
+const EARLIER: u32 = 8;
+const AGAIN: u32 = 35;
+const AGAIN_AFTER_OPENING: u32 = 60;
+/// Scan reads and sums, in percent, of what a scan leaves out, where there is anything.
+const OF_LEFT_OUT: u32 = 30;
+/// Openings at the last commit's stamp, in percent, while a scan leaves a commit of it out.
+const SECOND_SCAN: u32 = 25;
+
 impl Generator {
     pub fn new(
         mut random: Random,
@@ -53,6 +65,7 @@ impl Generator {
             early_rows,
             changed: Vec::new(),
             stamps: vec![0],
+            left_out: Vec::new(),
             fills_scans,
             wide,
         }
@@ -94,9 +107,16 @@ impl Generator {
                 self.changed.push((*transaction, *row))
             }
             (Call::Commit { transaction, stamp }, _) => {
-                self.stamps.push(*stamp);
+                if self.stamps.last() != Some(stamp) {
+                    self.stamps.push(*stamp);
+                }
+                for scan in self.scans_at(*stamp) {
+                    let rows = self.changed.iter().filter(|(by, _)| by == transaction);
+                    self.left_out.extend(rows.map(|(_, row)| (scan, *row)));
+                }
                 self.changed.retain(|(by, _)| by != transaction);
             }
+            (Call::Close { scan }, _) => self.left_out.retain(|(by, _)| by != scan),
             (Call::Abort { transaction }, _) => self.changed.retain(|(by, _)| by != transaction),
             _ => {}
         }
@@ -125,9 +145,12 @@ impl Generator {
                 let (transaction, row) = self.transaction_and_row();
                 Call::OwnRead { transaction, row, column: self.column() }
             }
-            0x0A => Call::OpenScan { stamp: self.read_stamp() },
-            0x0B => Call::ScanRead { scan: self.scan(), row: self.row(), column: self.column() },
-            0x0C => Call::Sum { scan: self.scan(), column: self.column() },
+            0x0A => Call::OpenScan { stamp: self.scan_stamp() },
+            0x0B => {
+                let (scan, row) = self.scan_and_row();
+                Call::ScanRead { scan, row, column: self.column() }
+            }
+            0x0C => Call::Sum { scan: self.scan_and_row().0, column: self.column() },
             0x0D => Call::Close { scan: self.scan_to_close() },
             0x0E => self.merge(),
             0x0F => Call::Release,
@@ -208,6 +231,28 @@ impl Generator {
         } else {
             self.random.pick(&open)
         }
+    }
+
+    /// The open scans with a stamp.
+    fn scans_at(&self, stamp: u32) -> Vec<u32> {
+        let open = self.history.open_scans().iter().copied();
+        open.filter(|scan| self.history.scan_stamp(*scan) == stamp).collect()
+    }
+
+    /// A scan and a row, often one that the scan leaves a change of out; mostly a setting or an end
+    /// of a row that it sees, as there are more inserts.
+    fn scan_and_row(&mut self) -> (u32, u32) {
+        if self.left_out.is_empty() || !self.random.percent(OF_LEFT_OUT) {
+            return (self.scan(), self.row());
+        }
+        let mut found = self.random.pick(&self.left_out);
+        for _ in 0..self.random.below(4) {
+            if self.history.sees(found.0, found.1) {
+                break;
+            }
+            found = self.random.pick(&self.left_out);
+        }
+        found
     }
 
     fn scan(&mut self) -> u32 {
@@ -315,12 +360,31 @@ impl Generator {
         }
     }
 
+    /// A stamp for a commit: often the last one's again, 0 in a new store, and now and then an
+    /// earlier one.
     fn commit_stamp(&mut self) -> u32 {
         let last = self.history.last_stamp();
-        if self.stray() {
-            return self.random.pick(&[last, last.saturating_sub(1), 0]);
+        if self.random.percent(EARLIER) {
+            let stamp = self.random.pick(&self.stamps);
+            return self.random.pick(&[stamp.saturating_sub(1), last.saturating_sub(1), 0]);
+        }
+        let again = if self.scans_at(last).is_empty() { AGAIN } else { AGAIN_AFTER_OPENING };
+        if self.random.percent(again) {
+            return last;
         }
         last.saturating_add(self.random.between(1, self.workload.step))
+    }
+
+    /// A stamp for a scan: while one leaves a commit of the last minute out, often that minute's,
+    /// so that a second scan sees it.
+    fn scan_stamp(&mut self) -> u32 {
+        let last = self.history.last_stamp();
+        let left_out = self.left_out.iter().any(|(scan, _)| self.history.scan_stamp(*scan) == last);
+        if left_out && self.random.percent(SECOND_SCAN) {
+            last
+        } else {
+            self.read_stamp()
+        }
     }
 
     /// A stamp at or beside that of a commit.

@@ -85,7 +85,7 @@ const LATE_STAMPS: Workload = Workload { step: 1 << 29, ..EVEN };
 /// A few rows of several columns, set, merged and read back at old stamps and by old scans. In a
 /// small tail, or with few pages, there would be little to read back.
 const OLD_VERSIONS: Workload = Workload {
-    weights: [5, 3, 28, 1, 24, 4, 4, 16, 10, 4, 16, 1, 1, 24, 2, 2, 1],
+    weights: [5, 3, 28, 1, 24, 4, 4, 16, 10, 5, 20, 1, 1, 24, 2, 2, 1],
     columns: (2, 3),
     ranges: (1, 1),
     capacity: (32, 64),

@@ -48,7 +48,7 @@ impl History {
             // again, 0 in a new store; only an earlier one is answered 13".
             Call::Commit { transaction, stamp } => {
                 self.test_transaction(transaction)?;
-                require(stamp >= self.last_stamp, 13)
+                require(stamp >= self.last_stamp(), 13)
             }
             // Abort: 3.
             Call::Abort { transaction } => self.test_transaction(transaction),
@@ -59,7 +59,7 @@ impl History {
             }
             // Read at: 13, 5, 6.
             Call::ReadAt { stamp, row, column } => {
-                require(stamp <= self.last_stamp, 13)?;
+                require(stamp <= self.last_stamp(), 13)?;
                 self.test_row(row)?;
                 self.test_column(column)
             }
@@ -71,7 +71,7 @@ impl History {
             }
             // Open scan: 13, 15, 14.
             Call::OpenScan { stamp } => {
-                require(stamp <= self.last_stamp, 13)?;
+                require(stamp <= self.last_stamp(), 13)?;
                 require(self.scans.len() < NUMBERS, 15)?;
                 require(self.open_scans.len() < OPEN_SCANS, 14)
             }

@@ -4,6 +4,7 @@
 
 #![allow(dead_code)]
 
+use reference::history::InMinute::{self, *};
 use reference::history::Situation::{self, *};
 use reference::{command, program, text, Call, History};
 
@@ -19,6 +20,17 @@ pub const SITUATIONS: [(Situation, &[u8]); 10] = [
     (BesidePending, &[0x09]),
     (BelowAborted, &[0x07, 0x08, 0x09, 0x0B]),
     (BeforeFirstUpdate, &[0x08, 0x0B]),
+];
+
+/// The situations of reads and sums in a minute, with the commands that can be in them.
+pub const IN_MINUTE: [(InMinute, &[u8]); 7] = [
+    (Newest, &[0x07, 0x08, 0x09, 0x0B, 0x0C]),
+    (LaterCommit, &[0x0B, 0x0C]),
+    (LaterSetting, &[0x0B, 0x0C]),
+    (LaterSettingMerged, &[0x0B, 0x0C]),
+    (LaterInsert, &[0x0B, 0x0C]),
+    (LaterEnd, &[0x0B, 0x0C]),
+    (TwoScans, &[0x0B, 0x0C]),
 ];
 
 /// The lines that the program writes for bytes.

@@ -7,7 +7,7 @@ use std::fs;
 use std::path::Path;
 use std::sync::OnceLock;
 
-use common::{output, SITUATIONS};
+use common::{output, IN_MINUTE, SITUATIONS};
 use reference::pack::{self, Digest, Kind, Record};
 use reference::survey::Survey;
 use reference::{command, generate};
@@ -161,6 +161,24 @@ fn streams_by_hand_meet_every_situation_of_a_read_by_every_command_that_can() {
             assert!(survey.met(situation, *byte) > 0, "{situation:?} by {byte:02X}");
         }
     }
+    for (situation, commands) in IN_MINUTE {
+        for byte in commands {
+            assert!(survey.met_in_minute(situation, *byte) > 0, "{situation:?} by {byte:02X}");
+        }
+    }
+}
+
+#[test]
+fn every_transaction_can_commit_in_one_minute_and_a_scan_leaves_out_the_last() {
+    let title = "65535 commits in one minute";
+    let lines = lines().iter().skip_while(|line| *line != title);
+    let lines: Vec<&str> = lines.map(String::as_str).collect();
+    let numbers = ["01 ok 65534", "03 ok 2", "05 ok", "0A ok 1"];
+    let last = ["01 ok 65535", "03 ok 3", "05 ok", "0A ok 2"];
+    let reads = ["0B ok 6 0", "0C ok 1 6", "0B ok 7 0", "0C ok 1 7", "07 ok 7 0", "01 no 15"];
+    assert_eq!(lines[1..5], ["shape ok", "01 ok 1", "02 ok 0", "05 ok"]);
+    assert!(lines[5].starts_with("131064 lines "), "{}", lines[5]);
+    assert_eq!(lines[6..20], [&numbers[..], &last, &reads].concat());
 }
 
 #[test]

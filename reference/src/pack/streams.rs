@@ -171,6 +171,39 @@ impl Pack {
             self.calls(&vec![Call::OpenScan { stamp: 0 }; OPEN_SCANS + 1]);
             self.calls(&after(turns as u32 + 1));
         }
+        self.one_minute();
+    }
+
+    /// As many commits as there can be, all in one minute; one scan leaves out the last of them.
+    fn one_minute(&mut self) {
+        let [first, next, last] = [1, NUMBERS as u32 - 1, NUMBERS as u32];
+        let stamp = 0;
+        let setting = |transaction: u32, value: i32| {
+            let update = Call::Update { transaction, row: 0, mask: 1, values: vec![value] };
+            [Call::Begin, update, Call::Commit { transaction, stamp }, Call::OpenScan { stamp }]
+        };
+        self.stream(&format!("{NUMBERS} commits in one minute"), &[1, 1, 4, 0, 0, 0]);
+        self.calls(&[
+            Call::Begin,
+            Call::Insert { transaction: first, values: vec![5] },
+            Call::Commit { transaction: first, stamp },
+        ]);
+        let turn = bytes_of(&[Call::Begin, Call::Commit { transaction: first + 1, stamp }]);
+        self.records.push(Record {
+            kind: Kind::Folded,
+            times: (next - first - 1) as u16,
+            places: [2, NO_PLACE],
+            bytes: turn,
+        });
+        self.calls(&setting(next, 6));
+        self.calls(&setting(last, 7));
+        for scan in [1, 2] {
+            self.calls(&[
+                Call::ScanRead { scan, row: 0, column: 0 },
+                Call::Sum { scan, column: 0 },
+            ]);
+        }
+        self.calls(&[Call::Latest { row: 0, column: 0 }, Call::Begin]);
     }
 
     /// A stream that gives so many numbers; `places` are those of the numbers in `second`.

@@ -1828,8 +1828,8 @@ fn a_minute_is_settled_by_a_commit_of_a_later_one_alone() {
 
 #[test]
 fn a_value_committed_at_0_has_the_stamp_0_as_a_pending_one_has() {
-    // So 0 no longer tells the two apart: an own read gives 0 for a value that is pending, and for
-    // one that was committed at 0, by oneself never, as one is open still.
+    // So 0 no longer tells the two apart: an own read gives 0 for its own pending value, and for one
+    // that another transaction has committed at 0.
     script(
         "shape 2 1 9 0
          begin

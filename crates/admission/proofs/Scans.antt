@@ -73,7 +73,7 @@ module _ (k : ℕ) where
     pub scan-at : (j : ℕ) → findIn (tableOf ps) k ≡ At j → firstIndex (isScan k) ps ≡ getD (tableOf ps .indices) j 0
     scan-at j e = sym (table-finds ps few k j e .index-is)
 
-    -- the scan's stamp and merges, as the table has them
+    -- the scan's stamp, merges and commits, as the table has them
     pub scan-stamp : (j : ℕ) → findIn (tableOf ps) k ≡ At j → getD (tableOf ps .stamps) j 0 ≡ scanEntry ps k .stamp
     unfolding scanEntry
     scan-stamp j e = table-finds ps few k j e .stamp-is
@@ -81,6 +81,10 @@ module _ (k : ℕ) where
     pub scan-merges : (j : ℕ) → findIn (tableOf ps) k ≡ At j → getD (tableOf ps .merges) j 0 ≡ scanEntry ps k .merges
     unfolding scanEntry
     scan-merges j e = table-finds ps few k j e .merges-is
+
+    pub scan-commits : (j : ℕ) → findIn (tableOf ps) k ≡ At j → getD (tableOf ps .commits) j 0 ≡ scanEntry ps k .commits
+    unfolding scanEntry
+    scan-commits j e = table-finds ps few k j e .commits-is
 
     pub scan-number : (j : ℕ) → findIn (tableOf ps) k ≡ At j → k ≡ scanEntry ps k .number
     unfolding scanEntry

@@ -1,11 +1,13 @@
 // What every call begins with: the test of the lent memory and of the scan list, and what the call's own tests find. The conditions here are
 // rules 3.5, 3.6, 3.7 and 3.13 of docs/SPECIFICATION.md, which several calls share. What follows for a whole call is in specs/ and proofs/.
+use layout::HEADER_COMMITS;
 use layout::HEADER_ROWS;
 use layout::HEADER_STAMP;
 use layout::Region;
 use layout::Sizes;
 use layout::words_needed;
 use loops::Found;
+use model::Reader;
 use pages::check::Checked;
 use pages::check::check;
 use regions::read;
@@ -14,11 +16,13 @@ use scans::Scans;
 use terms::Refusal;
 use terms::Row;
 use terms::Stamp;
+use terms::Transaction;
 ghost use mathlib.Core.Path.{_≡_};
 ghost use Prim.Native.Nat.{_*_};
-ghost use Rattle.layout.specs.View.{lastStamp, viewOf, Suffices};
+ghost use Rattle.layout.specs.View.{viewOf, Suffices};
 ghost use Rattle.history.specs.History.{noColumn, noRange};
-ghost use Rattle.model.specs.Calls.{notLaterIn, laterIn};
+ghost use Rattle.model.specs.Reading.{reader, snapshotIn, latestIn};
+ghost use Rattle.model.specs.Calls.{earlierIn, laterIn};
 ghost use Rattle.model.specs.Preconditions.{shapeIn};
 ghost use Rattle.admission.specs.Admitted.{Admits};
 ghost use Rattle.admission.specs.Given.{rangeGiven};
@@ -45,12 +49,25 @@ pub fn admit(mem: &[u8], t: Scans) -> Admission
     Admission::Fit(s, words_needed(s) * 4)
 }
 
-// The stamp of the last commit.
-pub fn last_stamp(mem: &[u8], s: Sizes) -> Stamp
+// The reader at a stamp, of all commits made, with the changes of a transaction (0: of none).
+pub fn reader_at(mem: &[u8], s: Sizes, stamp: Stamp, me: Transaction) -> Reader
     requires { ⌜ Suffices s (now mem) ⌝ }
-    ensures { λ r. ⌜ r .0 ≡ lastStamp (viewOf s (now (mem .entry))) ⌝ }
+    ensures { λ r. ⌜ r ≡ reader (snapshotIn (viewOf s (now (mem .entry))) (stamp .0)) (me .0) ⌝ }
 {
-    Stamp(read(mem, s, Region::Header, HEADER_STAMP))
+    Reader {
+        stamp: stamp,
+        commits: read(mem, s, Region::Header, HEADER_COMMITS),
+        me: me,
+    }
+}
+
+// The reader at the last commit's stamp.
+pub fn latest_reader(mem: &[u8], s: Sizes, me: Transaction) -> Reader
+    requires { ⌜ Suffices s (now mem) ⌝ }
+    ensures { λ r. ⌜ r ≡ reader (latestIn (viewOf s (now (mem .entry)))) (me .0) ⌝ }
+{
+    let last = Stamp(read(mem, s, Region::Header, HEADER_STAMP));
+    reader_at(mem, s, last, me)
 }
 
 // The range of a row, or nothing where the row's number is not yet given: 5.
@@ -78,12 +95,12 @@ pub fn no_range(s: Sizes, range: u32) -> bool
     s.ranges <= range as usize
 }
 
-// 13, for a commit: not later than the last.
-pub fn not_later(mem: &[u8], s: Sizes, stamp: Stamp) -> bool
+// 13, for a commit: earlier than the last.
+pub fn earlier(mem: &[u8], s: Sizes, stamp: Stamp) -> bool
     requires { ⌜ Suffices s (now mem) ⌝ }
-    ensures { λ r. ⌜ r ≡ notLaterIn (viewOf s (now (mem .entry))) (stamp .0) ⌝ }
+    ensures { λ r. ⌜ r ≡ earlierIn (viewOf s (now (mem .entry))) (stamp .0) ⌝ }
 {
-    stamp.0 <= read(mem, s, Region::Header, HEADER_STAMP)
+    stamp.0 < read(mem, s, Region::Header, HEADER_STAMP)
 }
 
 // 13, for a read or a scan: later than the last commit.

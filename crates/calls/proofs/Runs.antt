@@ -26,14 +26,14 @@ use Rattle.history.specs.History.{Call, Verdict, accept, refuse}
 use Rattle.history.specs.Claims.{isPlain, kind, strike, plainAnswers}
 use Rattle.model.specs.Calls.{entriesAfter, entriesIf, entriesNext}
 use Rattle.promise.specs.Promise.{storeView, Lent, answerOf, memoryAfter, listAfter, answersOf, Serves, Makes, lend, left}
-use Rattle.promise.specs.Demands.{Accepted, storeAnswers, storeLeft, storeAnswerAt, ReadIn, Refuses, RefusedKeeps, ReadsCommitted, PagesCommitted, Demand3, StrikingStore, StabilityStore}
+use Rattle.promise.specs.Demands.{Accepted, storeAnswers, storeLeft, storeAnswerAt, AcceptsIn, Refuses, RefusedKeeps, ReadsCommitted, PagesCommitted, Demand3, StrikingStore, MinutesStableStore, ScansStableStore}
 use Rattle.promise.specs.Stated.{conditions}
-use Rattle.promise.proofs.Demands.{demand3, reads-committed, pages-committed, striking-store, stability-store}
+use Rattle.promise.proofs.Demands.{demand3, reads-committed, pages-committed, striking-store, minutes-stable-store, scans-stable-store}
 use Rattle.promise.proofs.Refused.{refused-keeps}
 use Rattle.promise.proofs.Stated.{refuses}
 use Rattle.making.specs.Made.{made}
 use Rattle.scans.specs.Entries.{freedIf}
-use Rattle.calls.specs.Runs.{Run, ends, goes, Interface, ReadAmong, returnedAt, RefusedSo, RefusedKept, UnmadeKept, ReadsSo, PagesSo, AnswersSo, StruckSame, ReadsStable, calls, LentRefused, LentKept, MakingKept, LentReads, LentPages, LentAnswers, LentStriking, LentStability, MakingFrees, OneEntry, ShortRefused}
+use Rattle.calls.specs.Runs.{Run, ends, goes, Interface, AcceptsAmong, returnedAt, RefusedSo, RefusedKept, UnmadeKept, ReadsSo, PagesSo, AnswersSo, StruckSame, MinutesSo, ScansSo, calls, LentRefused, LentKept, MakingKept, LentReads, LentPages, LentAnswers, LentStriking, LentMinutes, LentScans, MakingFrees, OneEntry, ShortRefused}
 
 -- ---- what a run answers and leaves
 left-on : (x : Lent) (c : Call) (cs : List Call) {m′ : List ℕ} {ps′ : List ScanEntry} → m′ ≡ memoryAfter x c → ps′ ≡ listAfter x c → left (lend m′ ps′) cs ≡ left x (c ∷ cs)
@@ -179,21 +179,32 @@ module _ (F : Interface) (ok : Faithful F) where
       let k = stored S m₀ ps₀ h g p in
       rw (l .1, k .1, plain-map (F .returns) cs (storeAnswers S m₀ ps₀ cs), plain-map (F .returns) (strike cs) (storeAnswers S m₀ ps₀ (strike cs))) (ap (map (F .returns)) (striking-store S m₀ ps₀ (l .0) cs ys))
 
-  pub reads-stable : ReadsStable F
-  unfolding ReadsStable StabilityStore storeAnswerAt
-  reads-stable S m₀ m m′ ps₀ ps ps′ z cs rs h g ys q i j t r c x y =
-      at i ∙ ap (F .returns) (stability-store S m₀ ps₀ (l .0) cs ys i j t r c (read-in i x) (read-in j y)) ∙ sym (at j)
-    where
-      l : Accepted S m₀ ps₀ × (rs ≡ map (F .returns) (storeAnswers S m₀ ps₀ cs)) × (m′ ≡ storeLeft S m₀ ps₀ cs .memory) × (ps′ ≡ storeLeft S m₀ ps₀ cs .list)
-      l = stored S m₀ ps₀ h g q
+  -- a run's returned values by index, and its accepted calls, are the store's
+  module _ (S : Shape) (m₀ : List ℕ) (ps₀ : List ScanEntry) {m m′ : List ℕ} {ps ps′ : List ScanEntry} {z : F .Returned} {cs : List Call} {rs : List (F .Returned)}
+      (h : F .makes m₀ ps₀ S z m ps) (g : F .Accepts z) (q : Run (F .serves) m ps cs rs m′ ps′) where
+    at : (k : ℕ) → returnedAt F rs k ≡ F .returns (storeAnswerAt S m₀ ps₀ cs k)
+    unfolding storeAnswerAt
+    at k = ap (λ (u : List (F .Returned)). returnedAt F u k) (stored S m₀ ps₀ h g q .1) ∙ List·getD-map (F .returns) (storeAnswers S m₀ ps₀ cs) k Answer.Done
 
-      at : (k : ℕ) → returnedAt F rs k ≡ F .returns (storeAnswerAt S m₀ ps₀ cs k)
-      at k = ap (λ (u : List (F .Returned)). returnedAt F u k) (l .1) ∙ List·getD-map (F .returns) (storeAnswers S m₀ ps₀ cs) k Answer.Done
+    accepts-in : (k : ℕ) (x : Call) → AcceptsAmong F cs rs k x → AcceptsIn S m₀ ps₀ cs k x
+    accepts-in k x u =
+        let n : isRefused (storeAnswerAt S m₀ ps₀ cs k) ≡ false = not-refused (returnedAt F rs k) (storeAnswerAt S m₀ ps₀ cs k) (at k) (u .2) in
+        record { inside = u .0; is = u .1; accepted = rw n tt }
 
-      read-in : (k : ℕ) → ReadAmong F S cs rs k t r c → ReadIn S m₀ ps₀ cs k t r c
-      read-in k u =
-          let n : isRefused (storeAnswerAt S m₀ ps₀ cs k) ≡ false = not-refused (returnedAt F rs k) (storeAnswerAt S m₀ ps₀ cs k) (at k) (u .2) in
-          record { inside = u .0; reads = u .1; accepted = rw n tt }
+    same-at : (i j : ℕ) → storeAnswerAt S m₀ ps₀ cs i ≡ storeAnswerAt S m₀ ps₀ cs j → returnedAt F rs i ≡ returnedAt F rs j
+    same-at i j e = at i ∙ ap (F .returns) e ∙ sym (at j)
+
+  pub minutes-so : MinutesSo F
+  unfolding MinutesSo MinutesStableStore
+  minutes-so S m₀ m m′ ps₀ ps ps′ z cs rs h g ys q i j t r c b past x y =
+      same-at S m₀ ps₀ h g q i j
+      (minutes-stable-store S m₀ ps₀ (stored S m₀ ps₀ h g q .0) cs ys i j t r c b past (accepts-in S m₀ ps₀ h g q i _ x) (accepts-in S m₀ ps₀ h g q j _ y))
+
+  pub scans-so : ScansSo F
+  unfolding ScansSo ScansStableStore
+  scans-so S m₀ m m′ ps₀ ps ps′ z cs rs h g ys q i j x k u w =
+      same-at S m₀ ps₀ h g q i j
+      (scans-stable-store S m₀ ps₀ (stored S m₀ ps₀ h g q .0) cs ys i j x k (accepts-in S m₀ ps₀ h g q i x u) (accepts-in S m₀ ps₀ h g q j x w))
 
 -- ---- of the calls
 faithful : Faithful calls
@@ -220,8 +231,11 @@ lent-answers = answers-so calls faithful
 pub lent-striking : LentStriking
 lent-striking = struck-same calls faithful
 
-pub lent-stability : LentStability
-lent-stability = reads-stable calls faithful
+pub lent-minutes : LentMinutes
+lent-minutes = minutes-so calls faithful
+
+pub lent-scans : LentScans
+lent-scans = scans-so calls faithful
 
 -- ---- at most one entry
 

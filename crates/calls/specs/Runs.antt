@@ -1,6 +1,6 @@
 -- The demands of the lent memory and list themselves: what follows from promises alone, whatever program made the calls. They are said once, of any
 -- interface that returns the answer (`Interface`): the calls return it as it is, and the exports as a reply (crates/deskrook/specs/Runs.antt). proofs/Runs.antt proves them.
-use Prim.Native.Nat.{ℕ, _<_}
+use Prim.Native.Nat.{ℕ, _≤_, _<_}
 use mathlib.Core.Path.{_≡_}
 use mathlib.Core.Logic.{_↔_}
 use mathlib.Core.Bool.{false}
@@ -13,8 +13,8 @@ use Rattle.terms.specs.declared.ScanEntry.{ScanEntry}
 use Rattle.terms.specs.declared.Refusal.{Refusal}
 use Rattle.words.specs.Words.{Bytes}
 use Rattle.scans.specs.Entries.{allFreed}
-use Rattle.history.specs.History.{Call, start, answers}
-use Rattle.history.specs.Claims.{strike, plainAnswers, Reads, historyBefore, callAt}
+use Rattle.history.specs.History.{Call, readAt, Snapshot, start, answers}
+use Rattle.history.specs.Claims.{strike, plainAnswers, Reads, AsksScan, historyBefore, callAt}
 use Rattle.history.specs.Latest.{lastCommitted}
 use Rattle.history.specs.Lists.{All}
 use Rattle.model.specs.Calls.{Typed}
@@ -63,12 +63,12 @@ module _ (F : Interface) where
   UnmadeKept = (S : Shape) (m m′ : List ℕ) (ps ps′ : List ScanEntry) (r : F .Returned) (n : Refusal) → F .makes m ps S r m′ ps′ → F .Refuses r n → (m′ ≡ m) × (ps′ ≡ ps)
 
   -- ---- demand 2
-  -- a read after a run that is not refused answers the value last committed at or before the stamp read
+  -- a read after a run that is not refused answers the value last committed by the commits of its snapshot
   unfoldable pub ReadsSo : Type 0
   ReadsSo =
       EveryRun
       (λ S m ps cs rs m′ ps′.
-      (x : Call) (t r c : ℕ) (a : F .Returned) (m″ : List ℕ) (ps″ : List ScanEntry) → Typed x → Reads (historyAfter S cs) x t r c → F .serves m′ ps′ x a m″ ps″
+      (x : Call) (t : Snapshot) (r c : ℕ) (a : F .Returned) (m″ : List ℕ) (ps″ : List ScanEntry) → Typed x → Reads (historyAfter S cs) x t r c → F .serves m′ ps′ x a m″ ps″
       → F .Accepts a → a ≡ F .returns (lastCommitted (historyAfter S cs) t r c))
 
   -- each current page of the memory that a run leaves holds what was committed last
@@ -87,15 +87,23 @@ module _ (F : Interface) where
       (λ S m ps cs rs m′ ps′.
       (rs′ : List (F .Returned)) (m″ : List ℕ) (ps″ : List ScanEntry) → Run (F .serves) m ps (strike cs) rs′ m″ ps″ → plainAnswers cs rs ≡ plainAnswers (strike cs) rs′)
 
-  -- any two reads of a run for one stamp, row and column that are not refused answer the same
+  -- what call i of a run returned; and that it is x, and is not refused
   abbrev pub returnedAt : List (F .Returned) → ℕ → F .Returned
   returnedAt rs i = getD rs i (F .returns Answer.Done)
 
-  abbrev pub ReadAmong : Shape → List Call → List (F .Returned) → ℕ → (stamp row column : ℕ) → Type 0
-  ReadAmong S cs rs i t r c = (i < length cs) × Reads (historyBefore S cs i) (callAt cs i) t r c × F .Accepts (returnedAt rs i)
+  abbrev pub AcceptsAmong : List Call → List (F .Returned) → ℕ → Call → Type 0
+  AcceptsAmong cs rs i x = (i < length cs) × (callAt cs i ≡ x) × F .Accepts (returnedAt rs i)
 
-  unfoldable pub ReadsStable : Type 0
-  ReadsStable = EveryRun (λ S m ps cs rs m′ ps′. (i j t r c : ℕ) → ReadAmong S cs rs i t r c → ReadAmong S cs rs j t r c → returnedAt rs i ≡ returnedAt rs j)
+  -- a read at a minute before the last commit's returns what every later one does
+  unfoldable pub MinutesSo : Type 0
+  MinutesSo =
+      EveryRun
+      (λ S m ps cs rs m′ ps′.
+      (i j t r c : ℕ) → i ≤ j → t < historyBefore S cs i .last .stamp → AcceptsAmong cs rs i (readAt t r c) → AcceptsAmong cs rs j (readAt t r c) → returnedAt rs i ≡ returnedAt rs j)
+
+  -- whatever is asked of a scan twice returns the same
+  unfoldable pub ScansSo : Type 0
+  ScansSo = EveryRun (λ S m ps cs rs m′ ps′. (i j : ℕ) (x : Call) → AsksScan x → AcceptsAmong cs rs i x → AcceptsAmong cs rs j x → returnedAt rs i ≡ returnedAt rs j)
 
 -- ---- of the calls
 abbrev pub calls : Interface
@@ -122,8 +130,11 @@ LentAnswers = AnswersSo calls
 abbrev pub LentStriking : Type 0
 LentStriking = StruckSame calls
 
-abbrev pub LentStability : Type 0
-LentStability = ReadsStable calls
+abbrev pub LentMinutes : Type 0
+LentMinutes = MinutesSo calls
+
+abbrev pub LentScans : Type 0
+LentScans = ScansSo calls
 
 -- ---- the list
 -- an accepted making frees every entry; every other call changes at most one

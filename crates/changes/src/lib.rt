@@ -4,7 +4,7 @@ use admission::Admission;
 use admission::Tested;
 use admission::admit;
 use admission::given_range;
-use admission::not_later;
+use admission::earlier;
 use conditions::bad_mask;
 use conditions::gone;
 use conditions::held;
@@ -224,7 +224,7 @@ fn commit_tests(mem: &[u8], s: Sizes, t: Transaction, stamp: Stamp) -> Tested
     let Found::At(at) = open_index(mem, s, t) else {
         return Tested::Failed(Refusal::Transaction);
     };
-    if not_later(mem, s, stamp) {
+    if earlier(mem, s, stamp) {
         return Tested::Failed(Refusal::Time);
     }
     Tested::Passed(at)

@@ -1,9 +1,9 @@
 -- The demands of the exports: a reply tells the answer of the call that the export hands on to.
 use mathlib.Core.Path.{ap}
 use Rattle.terms.specs.declared.Answer.{Answer}
-use Rattle.calls.proofs.Runs.{Faithful, refused-so, refused-kept, unmade-kept, reads-so, pages-so, answers-so, struck-same, reads-stable}
+use Rattle.calls.proofs.Runs.{Faithful, refused-so, refused-kept, unmade-kept, reads-so, pages-so, answers-so, struck-same, minutes-so, scans-so}
 use Rattle.deskrook.specs.Replies.{replyOf, Replies, RepliesMade}
-use Rattle.deskrook.specs.Runs.{exports, ExportRefused, ExportKept, ExportMakingKept, ExportReads, ExportPages, ExportAnswers, ExportStriking, ExportStability}
+use Rattle.deskrook.specs.Runs.{exports, ExportRefused, ExportKept, ExportMakingKept, ExportReads, ExportPages, ExportAnswers, ExportStriking, ExportMinutes, ExportScans}
 use Rattle.deskrook.proofs.Results.{refused-result, accepted-result}
 
 faithful : Faithful exports
@@ -37,5 +37,8 @@ export-answers = answers-so exports faithful
 pub export-striking : ExportStriking
 export-striking = struck-same exports faithful
 
-pub export-stability : ExportStability
-export-stability = reads-stable exports faithful
+pub export-minutes : ExportMinutes
+export-minutes = minutes-so exports faithful
+
+pub export-scans : ExportScans
+export-scans = scans-so exports faithful

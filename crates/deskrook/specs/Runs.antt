@@ -3,7 +3,7 @@
 use mathlib.Core.Path.{_≡_}
 use mathlib.Core.Logic.{_⊎_}
 use Rattle.terms.specs.Refusals.{refusalNumber}
-use Rattle.calls.specs.Runs.{Interface, RefusedSo, RefusedKept, UnmadeKept, ReadsSo, PagesSo, AnswersSo, StruckSame, ReadsStable}
+use Rattle.calls.specs.Runs.{Interface, RefusedSo, RefusedKept, UnmadeKept, ReadsSo, PagesSo, AnswersSo, StruckSame, MinutesSo, ScansSo}
 use Rattle.deskrook.specs.declared.reply.Reply.{Reply}
 use Rattle.deskrook.specs.Replies.{replyOf, Replies, RepliesMade}
 
@@ -35,5 +35,8 @@ ExportAnswers = AnswersSo exports
 abbrev pub ExportStriking : Type 0
 ExportStriking = StruckSame exports
 
-abbrev pub ExportStability : Type 0
-ExportStability = ReadsStable exports
+abbrev pub ExportMinutes : Type 0
+ExportMinutes = MinutesSo exports
+
+abbrev pub ExportScans : Type 0
+ExportScans = ScansSo exports

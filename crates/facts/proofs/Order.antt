@@ -10,34 +10,35 @@ use Rattle.scans.specs.Entries.{everyOpen, differ}
 use Rattle.layout.specs.declared.Sizes.{Sizes}
 use Rattle.layout.specs.declared.Region.the-variants.{Opens, RowTransaction, RowStamp, TailTransaction, TailStamp, PageReplaced, PageNewest}
 use Rattle.layout.specs.View.{View, rowsGiven, transactionsGiven, scansGiven, lastStamp, mergesMade}
-use Rattle.facts.specs.Facts.{each, rowsBetween, rowLinked, rangeNamesRows, rangeBetween, rangeLinked, currentAtMost, waitingAtMost, currentLineage, waitingLineage, chunkCurrent, storedWithin, countsWithin, recordsNameRows, numbersGiven, linksHold, stampsWithin, mergesWithin, openDiffer, chunksCurrent, lineagesWithin, factsHold}
-use Rattle.facts.specs.Tests.{MemoryFacts, rangeHolds, rowsHold, currentHolds, waitingHold, pagesHold, opensHold, scansHold}
+use Rattle.facts.specs.Facts.{each, rowsBetween, rowLinked, rangeNamesRows, rangeBetween, rangeLinked, currentAtMost, waitingAtMost, currentLineage, waitingLineage, chunkCurrent, storedWithin, countsWithin, recordsNameRows, numbersGiven, linksHold, stampsWithin, mergesWithin, commitsWithin, openDiffer, chunksCurrent, lineagesWithin, factsHold}
+use Rattle.facts.specs.Tests.{MemoryFacts, rangeHolds, rowsHold, currentHolds, waitingHold, pagesHold, opensHold, scanCountsHold, scansHold}
 use Rattle.facts.proofs.Each.{each-both}
 
-regroup : (k n rt tt op sn rl tl rs ts cn wn ss sm pr od sd pl cl wl : Bool)
-    → (k && (n && ((rt && (tt && (op && sn))) && ((rl && tl) && ((rs && (ts && ((cn && wn) && ss))) && ((sm && pr) && ((od && sd) && (pl && (cl && wl)))))))))
-    ≡ (k && ((n && (tt && (tl && ts))) && ((rt && (rl && rs)) && (((pl && (cn && cl)) && (wn && (pr && wl))) && ((op && od) && (sn && (ss && (sm && sd))))))))
-regroup false n rt tt op sn rl tl rs ts cn wn ss sm pr od sd pl cl wl = refl
-regroup true false rt tt op sn rl tl rs ts cn wn ss sm pr od sd pl cl wl = refl
-regroup true true false tt op sn rl tl rs ts cn wn ss sm pr od sd pl cl wl = simp and-false
-regroup true true true false op sn rl tl rs ts cn wn ss sm pr od sd pl cl wl = simp and-false
-regroup true true true true false sn rl tl rs ts cn wn ss sm pr od sd pl cl wl = simp and-false
-regroup true true true true true false rl tl rs ts cn wn ss sm pr od sd pl cl wl = simp and-false
-regroup true true true true true true false tl rs ts cn wn ss sm pr od sd pl cl wl = simp and-false
-regroup true true true true true true true false rs ts cn wn ss sm pr od sd pl cl wl = simp and-false
-regroup true true true true true true true true false ts cn wn ss sm pr od sd pl cl wl = simp and-false
-regroup true true true true true true true true true false cn wn ss sm pr od sd pl cl wl = simp and-false
-regroup true true true true true true true true true true false wn ss sm pr od sd pl cl wl = simp and-false
-regroup true true true true true true true true true true true false ss sm pr od sd pl cl wl = simp and-false
-regroup true true true true true true true true true true true true false sm pr od sd pl cl wl = simp and-false
-regroup true true true true true true true true true true true true true false pr od sd pl cl wl = simp and-false
-regroup true true true true true true true true true true true true true true false od sd pl cl wl = simp and-false
-regroup true true true true true true true true true true true true true true true false sd pl cl wl = simp and-false
-regroup true true true true true true true true true true true true true true true true false pl cl wl = simp and-false
-regroup true true true true true true true true true true true true true true true true true false cl wl = simp and-false
-regroup true true true true true true true true true true true true true true true true true true false wl = simp and-false
-regroup true true true true true true true true true true true true true true true true true true true false = simp and-false
-regroup true true true true true true true true true true true true true true true true true true true true = refl
+regroup : (k n rt tt op sn rl tl rs ts cn wn ss sm pr sc od sd pl cl wl : Bool)
+    → (k && (n && ((rt && (tt && (op && sn))) && ((rl && tl) && ((rs && (ts && ((cn && wn) && ss))) && ((sm && pr) && (sc && ((od && sd) && (pl && (cl && wl))))))))))
+    ≡ (k && ((n && (tt && (tl && ts))) && ((rt && (rl && rs)) && (((pl && (cn && cl)) && (wn && (pr && wl))) && ((op && od) && (sn && (ss && ((sm && sc) && sd))))))))
+regroup false n rt tt op sn rl tl rs ts cn wn ss sm pr sc od sd pl cl wl = refl
+regroup true false rt tt op sn rl tl rs ts cn wn ss sm pr sc od sd pl cl wl = refl
+regroup true true false tt op sn rl tl rs ts cn wn ss sm pr sc od sd pl cl wl = simp and-false
+regroup true true true false op sn rl tl rs ts cn wn ss sm pr sc od sd pl cl wl = simp and-false
+regroup true true true true false sn rl tl rs ts cn wn ss sm pr sc od sd pl cl wl = simp and-false
+regroup true true true true true false rl tl rs ts cn wn ss sm pr sc od sd pl cl wl = simp and-false
+regroup true true true true true true false tl rs ts cn wn ss sm pr sc od sd pl cl wl = simp and-false
+regroup true true true true true true true false rs ts cn wn ss sm pr sc od sd pl cl wl = simp and-false
+regroup true true true true true true true true false ts cn wn ss sm pr sc od sd pl cl wl = simp and-false
+regroup true true true true true true true true true false cn wn ss sm pr sc od sd pl cl wl = simp and-false
+regroup true true true true true true true true true true false wn ss sm pr sc od sd pl cl wl = simp and-false
+regroup true true true true true true true true true true true false ss sm pr sc od sd pl cl wl = simp and-false
+regroup true true true true true true true true true true true true false sm pr sc od sd pl cl wl = simp and-false
+regroup true true true true true true true true true true true true true false pr sc od sd pl cl wl = simp and-false
+regroup true true true true true true true true true true true true true true false sc od sd pl cl wl = simp and-false
+regroup true true true true true true true true true true true true true true true false od sd pl cl wl = simp and-false
+regroup true true true true true true true true true true true true true true true true false sd pl cl wl = simp and-false
+regroup true true true true true true true true true true true true true true true true true false pl cl wl = simp and-false
+regroup true true true true true true true true true true true true true true true true true true false cl wl = simp and-false
+regroup true true true true true true true true true true true true true true true true true true true false wl = simp and-false
+regroup true true true true true true true true true true true true true true true true true true true true false = simp and-false
+regroup true true true true true true true true true true true true true true true true true true true true true = refl
 
 -- the records of all ranges, fact by fact
 pub ranges-are : (s : Sizes) (v : View) → each (s .ranges) (rangeHolds s v)
@@ -65,7 +66,7 @@ currents-are s v =
 
 pub facts-are : (s : Sizes) (v : View) (ps : List ScanEntry)
     → factsHold s v ps ≡ (countsWithin s v ps && (each (s .ranges) (rangeHolds s v) && (rowsHold s v && (pagesHold s v && (opensHold v && scansHold v ps)))))
-unfolding factsHold numbersGiven linksHold stampsWithin mergesWithin openDiffer lineagesWithin rowsHold waitingHold pagesHold opensHold scansHold
+unfolding factsHold numbersGiven linksHold stampsWithin mergesWithin openDiffer lineagesWithin rowsHold waitingHold pagesHold opensHold scanCountsHold scansHold
 facts-are s v ps =
     rw (ranges-are s v, currents-are s v)
     (regroup
@@ -84,6 +85,7 @@ facts-are s v ps =
     (everyOpen (λ p. leb (p .stamp) (lastStamp v)) ps)
     (everyOpen (λ p. leb (p .merges) (mergesMade v)) ps)
     (each (s .pages) (waitingAtMost v PageReplaced (mergesMade v)))
+    (commitsWithin v ps)
     (differ (v Opens))
     (differ (map (λ p. p .number) ps))
     (chunksCurrent s v)

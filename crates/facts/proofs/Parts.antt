@@ -64,5 +64,9 @@ module _ (t : Scans) (ps : List ScanEntry) (same : t ≡ tableOf ps) where
   unfolding tableOf
   merges-between b few = rw same (table-at-most ps few (λ p. p .merges) b)
 
+  pub commits-between : (b : ℕ) → openCount ps ≤ mostScans → allBetween 0 b (t .commits) ≡ everyOpen (λ p. leb (p .commits) b) ps
+  unfolding tableOf
+  commits-between b few = rw same (table-at-most ps few (λ p. p .commits) b)
+
   pub numbers-differ : openCount ps ≤ mostScans → differ (take (t .count) (t .numbers)) ≡ differ (map (λ p. p .number) ps)
   numbers-differ few = rw same (table-differ ps few)

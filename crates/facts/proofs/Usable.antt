@@ -21,11 +21,11 @@ use Rattle.layout.specs.declared.Sizes.{Sizes}
 use Rattle.layout.specs.declared.Region.{Region}
 use Rattle.layout.specs.declared.Region.the-variants.{Opens, RowTransaction, RowStamp, RowLink, TailTransaction, TailRow, TailLink, TailStamp, Current, PageState, PageChunk, PageReplaced, PageLineage, PageNewest}
 use Rattle.layout.specs.Regions.{len, need, firstSlot}
-use Rattle.layout.specs.View.{View, rowsGiven, transactionsGiven, scansGiven, lastStamp, mergesMade, usedIn, Long, viewOf, Suffices}
+use Rattle.layout.specs.View.{View, rowsGiven, transactionsGiven, scansGiven, lastStamp, mergesMade, commitsMade, usedIn, Long, viewOf, Suffices}
 use Rattle.layout.proofs.View.{view-long}
 use Rattle.terms.specs.Entries.{freeEntry}
 use Rattle.scans.specs.Entries.{openCount, everyOpen, among, differ}
-use Rattle.facts.specs.Facts.{each, rowsBetween, rangeBetween, currentAtMost, waitingAtMost, countsWithin, rowNamed, rangeNamesRows, recordsNameRows, numbersGiven, linkHolds, rowLinked, recordLinked, rangeLinked, linksHold, stampsWithin, mergesWithin, openDiffer, chunkCurrent, chunksCurrent, pageRange, currentLineage, waitingLineage, lineagesWithin, factsHold}
+use Rattle.facts.specs.Facts.{each, rowsBetween, rangeBetween, currentAtMost, waitingAtMost, countsWithin, rowNamed, rangeNamesRows, recordsNameRows, numbersGiven, linkHolds, rowLinked, recordLinked, rangeLinked, linksHold, stampsWithin, mergesWithin, commitsWithin, openDiffer, chunkCurrent, chunksCurrent, pageRange, currentLineage, waitingLineage, lineagesWithin, factsHold}
 use Rattle.facts.specs.Usable.{storedShape, storedSizes, measuresBytes, usable}
 use Rattle.layout.specs.Sizes.{Proper}
 use Rattle.facts.proofs.Each.{each-tells}
@@ -57,6 +57,7 @@ pub record Usable (s : Sizes) (v : View) (ps : List ScanEntry) : Type 0 where
   pub waiting-stamps : (p : ℕ) → p < s .pages → asWaiting ≤ getD (v PageState) p 0 → getD (v PageNewest) p 0 ≤ lastStamp v
   pub scan-stamps : (j : ℕ) → getD ps j freeEntry .number ≢ 0 → getD ps j freeEntry .stamp ≤ lastStamp v
   pub scan-merges : (j : ℕ) → getD ps j freeEntry .number ≢ 0 → getD ps j freeEntry .merges ≤ mergesMade v
+  pub scan-commits : (j : ℕ) → getD ps j freeEntry .number ≢ 0 → getD ps j freeEntry .commits ≤ commitsMade v
   pub waiting-merges : (p : ℕ) → p < s .pages → asWaiting ≤ getD (v PageState) p 0 → getD (v PageReplaced) p 0 ≤ mergesMade v
   pub open-differ : (i j : ℕ) → i < j → getD (v Opens) i 0 ≡ getD (v Opens) j 0 → getD (v Opens) i 0 ≡ 0
   pub scans-differ : (i j : ℕ) → i < j → getD ps i freeEntry .number ≡ getD ps j freeEntry .number → getD ps i freeEntry .number ≡ 0
@@ -166,7 +167,7 @@ module _ (s : Sizes) (v : View) (ps : List ScanEntry) (z : Proper s) (long : Lon
       stretch-tells s v long k (firstSlot (s .capacity) g) (usedIn v g) low high (omega (arith, tail-in s z g h, c .records-to g)) (each-tells (rangeBetween s v k low high) (s .ranges) e g h) i j
 
   pub facts-tell : factsHold s v ps ≡ true → Usable s v ps
-  unfolding factsHold countsWithin recordsNameRows rangeNamesRows rowNamed numbersGiven linksHold rowLinked rangeLinked recordLinked stampsWithin mergesWithin openDiffer chunksCurrent lineagesWithin currentLineage waitingLineage
+  unfolding factsHold countsWithin recordsNameRows rangeNamesRows rowNamed numbersGiven linksHold rowLinked rangeLinked recordLinked stampsWithin mergesWithin commitsWithin openDiffer chunksCurrent lineagesWithin currentLineage waitingLineage
   facts-tell e =
       let a1 = and-true _ _ e in
       let a2 = and-true _ _ (a1 .1) in
@@ -176,6 +177,7 @@ module _ (s : Sizes) (v : View) (ps : List ScanEntry) (z : Proper s) (long : Lon
       let a6 = and-true _ _ (a5 .1) in
       let a7 = and-true _ _ (a6 .1) in
       let a8 = and-true _ _ (a7 .1) in
+      let a9 = and-true _ _ (a8 .1) in
       let c1 = and-true _ _ (a1 .0) in
       let c = stored s v (c1 .0) in
       let n1 = and-true _ _ (a3 .0) in
@@ -187,8 +189,8 @@ module _ (s : Sizes) (v : View) (ps : List ScanEntry) (z : Proper s) (long : Lon
       let t3 = and-true _ _ (t2 .1) in
       let t4 = and-true _ _ (t3 .0) in
       let m = and-true _ _ (a6 .0) in
-      let d = and-true _ _ (a7 .0) in
-      let g = and-true _ _ (a8 .1) in
+      let d = and-true _ _ (a8 .0) in
+      let g = and-true _ _ (a9 .1) in
       record {
         counts = c;
         open-few = leb-true (openCount ps) mostScans (c1 .1);
@@ -205,12 +207,13 @@ module _ (s : Sizes) (v : View) (ps : List ScanEntry) (z : Proper s) (long : Lon
         waiting-stamps = λ p h. waiting-tells v PageNewest (lastStamp v) p (each-tells (waitingAtMost v PageNewest (lastStamp v)) (s .pages) (t4 .1) p h);
         scan-stamps = λ j n. leb-true _ (lastStamp v) (every-tells (λ p. leb (p .stamp) (lastStamp v)) ps (t3 .1) j n);
         scan-merges = λ j n. leb-true _ (mergesMade v) (every-tells (λ p. leb (p .merges) (mergesMade v)) ps (m .0) j n);
+        scan-commits = λ j n. leb-true _ (commitsMade v) (every-tells (λ p. leb (p .commits) (commitsMade v)) ps (a7 .0) j n);
         waiting-merges = λ p h. waiting-tells v PageReplaced (mergesMade v) p (each-tells (waitingAtMost v PageReplaced (mergesMade v)) (s .pages) (m .1) p h);
         open-differ = differ-tells (v Opens) (d .0);
         scans-differ = λ i j h q. sym (numbers-at ps i) ∙ differ-tells (map (λ p. p .number) ps) (d .1) i j h (numbers-at ps i ∙ q ∙ sym (numbers-at ps j));
-        current-in = λ i h. (chunk-current-tells s v i (each-tells (chunkCurrent s v) (s .chunks) (a8 .0) i h)) .0;
-        current-state = λ i h. (chunk-current-tells s v i (each-tells (chunkCurrent s v) (s .chunks) (a8 .0) i h)) .1;
-        current-chunk = λ i h. (chunk-current-tells s v i (each-tells (chunkCurrent s v) (s .chunks) (a8 .0) i h)) .2;
+        current-in = λ i h. (chunk-current-tells s v i (each-tells (chunkCurrent s v) (s .chunks) (a9 .0) i h)) .0;
+        current-state = λ i h. (chunk-current-tells s v i (each-tells (chunkCurrent s v) (s .chunks) (a9 .0) i h)) .1;
+        current-chunk = λ i h. (chunk-current-tells s v i (each-tells (chunkCurrent s v) (s .chunks) (a9 .0) i h)) .2;
         current-lineages = λ i h. current-tells v PageLineage _ i (each-tells (currentLineage s v) (s .chunks) (g .0) i h);
         waiting-lineages = λ p h. waiting-tells v PageLineage _ p (each-tells (waitingLineage s v) (s .pages) (g .1) p h);
       }

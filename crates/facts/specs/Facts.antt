@@ -15,7 +15,7 @@ use Rattle.loops.specs.Search.{region, allBetween}
 use Rattle.layout.specs.declared.Sizes.{Sizes}
 use Rattle.layout.specs.declared.Region.{Region}
 use Rattle.layout.specs.declared.Region.the-variants.{Opens, RowTransaction, RowStamp, RowLink, TailTransaction, TailRow, TailLink, TailStamp, Used, Current, PageState, PageChunk, PageReplaced, PageLineage, PageNewest}
-use Rattle.layout.specs.View.{View, rowsGiven, transactionsGiven, scansGiven, lastStamp, mergesMade, usedIn}
+use Rattle.layout.specs.View.{View, rowsGiven, transactionsGiven, scansGiven, lastStamp, mergesMade, commitsMade, usedIn}
 use Rattle.scans.specs.Entries.{openCount, everyOpen, differ}
 
 -- ---- for all
@@ -95,10 +95,13 @@ stampsWithin s v ps =
     && ((each (s .chunks) (currentAtMost v PageNewest (lastStamp v)) && each (s .pages) (waitingAtMost v PageNewest (lastStamp v)))
     && everyOpen (λ p. leb (p .stamp) (lastStamp v)) ps))
 
--- ---- 9.6: counts of merges
+-- ---- 9.6: counts of merges and of commits
 unfoldable pub mergesWithin : Sizes → View → List ScanEntry → Bool
 mergesWithin s v ps =
     everyOpen (λ p. leb (p .merges) (mergesMade v)) ps && each (s .pages) (waitingAtMost v PageReplaced (mergesMade v))
+
+unfoldable pub commitsWithin : View → List ScanEntry → Bool
+commitsWithin v ps = everyOpen (λ p. leb (p .commits) (commitsMade v)) ps
 
 -- ---- 9.7: open numbers differ
 unfoldable pub openDiffer : View → List ScanEntry → Bool
@@ -134,4 +137,4 @@ factsHold s v ps =
     && (recordsNameRows s v
     && (numbersGiven s v ps
     && (linksHold s v
-    && (stampsWithin s v ps && (mergesWithin s v ps && (openDiffer v ps && (chunksCurrent s v && lineagesWithin s v)))))))
+    && (stampsWithin s v ps && (mergesWithin s v ps && (commitsWithin v ps && (openDiffer v ps && (chunksCurrent s v && lineagesWithin s v))))))))

@@ -14,7 +14,7 @@ use Rattle.loops.specs.Search.{allBetween}
 use Rattle.layout.specs.View.{View, rowsGiven, transactionsGiven, scansGiven, lastStamp, mergesMade, usedIn, viewOf, Suffices}
 use Rattle.facts.specs.Usable.{storedShape, storedSizes}
 use Rattle.scans.specs.Entries.{everyOpen, differ}
-use Rattle.facts.specs.Facts.{storedWithin, linksHold, chunksCurrent, each, rowLinked, rowsBetween, rangeBetween, rangeNamesRows, rangeLinked, chunkCurrent, currentAtMost, currentLineage, waitingAtMost, waitingLineage}
+use Rattle.facts.specs.Facts.{storedWithin, commitsWithin, linksHold, chunksCurrent, each, rowLinked, rowsBetween, rangeBetween, rangeNamesRows, rangeLinked, chunkCurrent, currentAtMost, currentLineage, waitingAtMost, waitingLineage}
 
 -- a memory in which every access to what is given and used lies within it: the counts of rows and of records are within the sizes
 pub record Ready (s : Sizes) (m : List ℕ) : Type 0 where
@@ -66,9 +66,12 @@ pagesHold s v = each (s .chunks) (currentHolds s v) && waitingHold s v
 unfoldable pub opensHold : View → Bool
 opensHold v = allBetween 0 (transactionsGiven v) (v Opens) && differ (v Opens)
 
--- the open scans
+-- the open scans: their counts, and all of them
+unfoldable pub scanCountsHold : View → List ScanEntry → Bool
+scanCountsHold v ps = everyOpen (λ p. leb (p .merges) (mergesMade v)) ps && commitsWithin v ps
+
 unfoldable pub scansHold : View → List ScanEntry → Bool
 scansHold v ps =
     everyOpen (λ p. leb (p .number) (scansGiven v)) ps
     && (everyOpen (λ p. leb (p .stamp) (lastStamp v)) ps
-    && (everyOpen (λ p. leb (p .merges) (mergesMade v)) ps && differ (map (λ p. p .number) ps)))
+    && (scanCountsHold v ps && differ (map (λ p. p .number) ps)))

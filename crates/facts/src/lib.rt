@@ -1,5 +1,6 @@
 // The code that tests the stored facts, part by part: here the counts, and the open transactions and scans; the rows and tail records in crate records, the
 // pages in crate pages. The facts themselves are specs/Facts.antt. The tests over words carry their flags to the end, so that they vectorise.
+use layout::HEADER_COMMITS;
 use layout::HEADER_MERGES;
 use layout::HEADER_ROWS;
 use layout::HEADER_SCANS;
@@ -29,7 +30,7 @@ ghost use Rattle.layout.specs.View.{viewOf, Suffices};
 ghost use Rattle.scans.specs.Entries.{openCount};
 ghost use Rattle.scans.specs.Table.{tableOf};
 ghost use Rattle.facts.specs.Facts.{storedWithin};
-ghost use Rattle.facts.specs.Tests.{opensHold, scansHold};
+ghost use Rattle.facts.specs.Tests.{opensHold, scanCountsHold, scansHold};
 
 // ---- the counts
 
@@ -83,6 +84,18 @@ fn entries_used(t: Scans) -> usize
     }
 }
 
+// The counts of the open scans: the merges and the commits made before each.
+fn scan_counts_hold(mem: &[u8], s: Sizes, t: Scans) -> bool
+    requires { ⌜ Suffices s (now mem) ⌝ }
+    ensures { λ r. ⌜ ((ps : List ScanEntry) → t ≡ tableOf ps → openCount ps ≤ mostScans → r ≡ scanCountsHold (viewOf s (now (mem .entry))) ps) ⌝ }
+{
+    let merges = t.merges;
+    let commits = t.commits;
+    let merge = at_most(merges, read(mem, s, Region::Header, HEADER_MERGES));
+    let commit = at_most(commits, read(mem, s, Region::Header, HEADER_COMMITS));
+    both(merge, commit)
+}
+
 // The facts of the open scans.
 pub fn scans_hold(mem: &[u8], s: Sizes, t: Scans) -> bool
     requires { ⌜ Suffices s (now mem) ⌝ }
@@ -90,13 +103,11 @@ pub fn scans_hold(mem: &[u8], s: Sizes, t: Scans) -> bool
 {
     let given = read(mem, s, Region::Header, HEADER_SCANS);
     let last = read(mem, s, Region::Header, HEADER_STAMP);
-    let made = read(mem, s, Region::Header, HEADER_MERGES);
     let numbers = t.numbers;
     let stamps = t.stamps;
-    let merges = t.merges;
     let number = at_most(numbers, given);
     let stamp = at_most(stamps, last);
-    let merge = at_most(merges, made);
+    let counts = scan_counts_hold(mem, s, t);
     let differ = all_differ(&numbers, entries_used(t));
-    both(number, both(stamp, both(merge, differ)))
+    both(number, both(stamp, both(counts, differ)))
 }

@@ -7,13 +7,15 @@ use lib.Dec.{T}
 use lib.ListN.{length, take}
 use lib.IntN.{ℤ}
 use Rattle.terms.specs.Measures.{Shape, rangeRows, mostColumns, mostTransactions, mostScans, mostNumbers}
-use Rattle.history.specs.History.{History, Row, Record, State, unknown, active, aborted, committed, original, count, isActive, stateOf, rowAt, scanAt, sets, ends, recordsOf, mergedThrough, waitingPages}
+use Rattle.history.specs.History.{History, Row, Record, Commit, Snapshot, State, unknown, active, aborted, committed, original, count, isActive, isCommitted, stateOf, rowAt, scanAt, sets, ends, recordsOf, mergedThrough, waitingPages}
 use Rattle.history.specs.Lists.{All, Pairs}
 use Rattle.history.specs.Records.{isOriginal, wasSet, hasOriginal}
 
 -- ---- nothing passes the measures: the room for rows, records, active transactions, running scans and pages is enough
 pub record Limits (S : Shape) (h : History) : Type 0 where
   pub transactions : length (h .transactions) ≤ mostNumbers
+  -- an ordinal for each transaction that is committed, and no more
+  pub commits : h .last .ordinal ≡ count isCommitted (h .transactions)
   pub actives : count isActive (h .transactions) ≤ mostTransactions
   pub rows : length (h .rows) ≤ S .ranges * rangeRows
   pub records : (g : ℕ) → length (recordsOf h g) ≤ S .capacity
@@ -34,14 +36,19 @@ isClosed active = false
 isClosed aborted = true
 isClosed (committed s) = true
 
--- no stamp exceeds the last commit's
+-- an earlier commit and a later one, or the same: neither stamp nor ordinal falls
+pub record UpTo (a b : Commit) : Type 0 where
+  pub stamps : a .stamp ≤ b .stamp
+  pub ordinals : a .ordinal ≤ b .ordinal
+
+-- no commit is after the last
 unfoldable pub Stamped : History → Type 0
-Stamped h = (k s : ℕ) → stateOf h k ≡ committed s → s ≤ h .last
+Stamped h = (k : ℕ) (s : Commit) → stateOf h k ≡ committed s → UpTo s (h .last)
 
 -- an earlier change of a row, by transaction j, and a later one, by k
 pub record Before (st : ℕ → State) (j k : ℕ) : Type 0 where
   pub holder : st j ≡ active → k ≡ j
-  pub rises : (a b : ℕ) → st j ≡ committed a → st k ≡ committed b → a ≤ b
+  pub rises : (a b : Commit) → st j ≡ committed a → st k ≡ committed b → UpTo a b
 
 -- an earlier record x and a later one y of one row
 pub record Follows (st : ℕ → State) (x y : Record) : Type 0 where
@@ -76,9 +83,13 @@ pub record Through (h : History) (g n : ℕ) : Type 0 where
 unfoldable pub PagesSettled : History → Type 0
 PagesSettled h = (g c : ℕ) → Through h g (mergedThrough h g c)
 
--- ---- no scan's stamp exceeds the last commit's
+-- ---- no scan's snapshot has a later stamp than the last commit's, or more commits than were made
+pub record Taken (t : Snapshot) (last : Commit) : Type 0 where
+  pub stamp : t .stamp ≤ last .stamp
+  pub commits : t .commits ≤ last .ordinal
+
 unfoldable pub Timely : History → Type 0
-Timely h = (k : ℕ) → (scanAt h k) .stamp ≤ h .last
+Timely h = (k : ℕ) → Taken ((scanAt h k) .snapshot) (h .last)
 
 -- ---- each merge raises the lineage of one page
 -- the sum of f over the numbers below n

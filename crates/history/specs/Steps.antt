@@ -9,7 +9,7 @@ use lib.Dec.{T}
 use lib.ListN.{length, take}
 use lib.IntN.{ℤ}
 use Rattle.terms.specs.Measures.{Shape, rangeRows, mostTransactions, mostScans, mostNumbers}
-use Rattle.history.specs.History.{Call, merge, History, Record, State, active, aborted, committed, Scan, Merge, ends, count, change, isActive, stateOf, rowAt, scanAt, stopped, rangeOf, recordsOf, mergedThrough, waitingPages, afterRelease, seenBy, badMask, updateRecords, deleteRecords, withRows, withTail, withTransactions, withScans, withMerges}
+use Rattle.history.specs.History.{Call, merge, History, Record, Commit, State, active, aborted, committed, Scan, Merge, snapshotAt, nextCommit, ends, count, change, isActive, stateOf, rowAt, scanAt, stopped, rangeOf, recordsOf, mergedThrough, waitingPages, afterRelease, seenBy, badMask, updateRecords, deleteRecords, withRows, withTail, withTransactions, withScans, withMerges}
 use Rattle.history.specs.Lists.{All}
 
 -- Transaction t is active and may change row r: no other active one has, and in t's own view the row is inserted and not ended.
@@ -25,19 +25,19 @@ pub data Made (S : Shape) (h : History) (t r : ℕ) : List Record → Type 0 whe
   by-update : (m : ℕ) (vs : List ℤ) → T (not (badMask S m)) → Made S h t r (updateRecords h t r m vs)
   by-delete : Made S h t r (deleteRecords t r)
 
--- a transaction's last state, and the last commit's stamp with it
-pub data Closing (h : History) : State → ℕ → Type 0 where
-  by-commit : {s : ℕ} → h .last < s → Closing h (committed s) s
+-- a transaction's last state, and the last commit with it
+pub data Closing (h : History) : State → Commit → Type 0 where
+  by-commit : {s : ℕ} → h .last .stamp ≤ s → Closing h (committed (nextCommit h s)) (nextCommit h s)
   by-abort : Closing h aborted (h .last)
 
 -- the nine ways: none, two that end with new states, a row more, records more, two with new scans, two with new merges
-pub data NewStates (h : History) : List State → ℕ → Type 0 where
+pub data NewStates (h : History) : List State → Commit → Type 0 where
   began : length (h .transactions) < mostNumbers → count isActive (h .transactions) < mostTransactions → NewStates h (h .transactions ++ active ∷ []) (h .last)
-  closed : (t : ℕ) {x : State} {s : ℕ} → stateOf h t ≡ active → Closing h x s → NewStates h (change (h .transactions) t x) s
+  closed : (t : ℕ) {x : State} {s : Commit} → stateOf h t ≡ active → Closing h x s → NewStates h (change (h .transactions) t x) s
 
 pub data NewScans (h : History) : List Scan → Type 0 where
-  scanOpened : {s : ℕ} → s ≤ h .last → length (h .scans) < mostNumbers → count (λ s. s .running) (h .scans) < mostScans
-      → NewScans h (h .scans ++ record { running = true; stamp = s; merges = length (h .merges) } ∷ [])
+  scanOpened : {s : ℕ} → s ≤ h .last .stamp → length (h .scans) < mostNumbers → count (λ s. s .running) (h .scans) < mostScans
+      → NewScans h (h .scans ++ record { running = true; snapshot = snapshotAt h s; merges = length (h .merges) } ∷ [])
   scanClosed : (k : ℕ) → T (scanAt h k .running) → NewScans h (change (h .scans) k (stopped (scanAt h k)))
 
 -- Range g may be merged through record n into column c's page.
@@ -55,7 +55,7 @@ pub data NewMerges (S : Shape) (h : History) : Call → List Merge → Type 0 wh
 
 pub data Step (S : Shape) (h : History) : Call → History → Type 0 where
   nothing : {c : Call} → Step S h c h
-  newStates : {c : Call} {l : List State} {s : ℕ} → NewStates h l s → Step S h c (withTransactions h l s)
+  newStates : {c : Call} {l : List State} {s : Commit} → NewStates h l s → Step S h c (withTransactions h l s)
   rowGiven : {c : Call} (t : ℕ) (vs : List ℤ) → stateOf h t ≡ active → length (h .rows) < S .ranges * rangeRows
       → Step S h c (withRows h (h .rows ++ record { inserter = t; values = vs } ∷ []))
   recordsMade : {c : Call} (t r : ℕ) {m : List Record} → Writable h t r → Made S h t r m → length (recordsOf h (rangeOf r)) + length m ≤ S .capacity

@@ -59,6 +59,8 @@ named m Region.PageLineage = refl
 named m Region.PageNewest = refl
 named m Region.Cells = refl
 named m Region.Changes = refl
+named m Region.RowOrdinal = refl
+named m Region.TailOrdinal = refl
 
 lengths : (s : Sizes) (m : View) → Long s m → map length (map m all) ≡ lens s
 lengths s m h = ap (λ (f : Region → ℕ). map f all) (fun-ext h)

@@ -34,6 +34,8 @@ index Region.PageLineage = 21
 index Region.PageNewest = 22
 index Region.Cells = 23
 index Region.Changes = 24
+index Region.RowOrdinal = 25
+index Region.TailOrdinal = 26
 
 abbrev pub headerWords : ℕ
 headerWords = 16
@@ -50,6 +52,8 @@ lens s =
     ∷ s .pages ∷ s .pages ∷ s .pages ∷ s .pages ∷ s .pages ∷ s .pages
     ∷ s .pages * rangeRows
     ∷ mostTransactions
+    ∷ s .rows
+    ∷ s .slots
     ∷ []
 
 abbrev pub all : List Region
@@ -64,6 +68,8 @@ all =
     ∷ Region.PageState ∷ Region.PageChunk ∷ Region.PageMade ∷ Region.PageReplaced ∷ Region.PageLineage ∷ Region.PageNewest
     ∷ Region.Cells
     ∷ Region.Changes
+    ∷ Region.RowOrdinal
+    ∷ Region.TailOrdinal
     ∷ []
 
 abbrev pub len : Sizes → Region → ℕ
@@ -99,7 +105,7 @@ capacityAt = 2
 abbrev pub sparesAt : ℕ
 sparesAt = 3
 
--- the rows, transaction numbers and scan numbers given, the last commit's stamp, the merges made
+-- the rows, transaction numbers and scan numbers given, the last commit's stamp, the merges and the commits made
 abbrev pub rowsAt : ℕ
 rowsAt = 4
 
@@ -114,3 +120,6 @@ stampAt = 7
 
 abbrev pub mergesAt : ℕ
 mergesAt = 8
+
+abbrev pub commitsAt : ℕ
+commitsAt = 9

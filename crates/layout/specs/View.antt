@@ -13,7 +13,7 @@ use Rattle.layout.specs.declared.Sizes.{Sizes}
 use Rattle.layout.specs.declared.Region.{Region}
 use Rattle.layout.specs.declared.Region.the-variants.{Header, Used}
 use Rattle.layout.specs.Cut.{join}
-use Rattle.layout.specs.Regions.{index, all, len, base, need, rowsAt, transactionsAt, scansAt, stampAt, mergesAt}
+use Rattle.layout.specs.Regions.{index, all, len, base, need, rowsAt, transactionsAt, scansAt, stampAt, mergesAt, commitsAt}
 
 abbrev pub View : Type 0
 View = Region → List ℕ
@@ -77,6 +77,9 @@ lastStamp v = getD (v Header) stampAt 0
 
 abbrev pub mergesMade : View → ℕ
 mergesMade v = getD (v Header) mergesAt 0
+
+abbrev pub commitsMade : View → ℕ
+commitsMade v = getD (v Header) commitsAt 0
 
 -- the records used of range g
 abbrev pub usedIn : View → ℕ → ℕ

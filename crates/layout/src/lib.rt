@@ -58,9 +58,12 @@ pub enum Region {
     Cells,
     // how many changes each open transaction has made, entry by entry as in Opens
     Changes,
+    // the ordinal of the commit of each row's insert and of each tail record: the commits made up to and with it
+    RowOrdinal,
+    TailOrdinal,
 }
 
-// The header's length, and its words; those from 9 on are not used.
+// The header's length, and its words; those from 10 on are not used.
 pub const HEADER_WORDS: usize = 16;
 
 pub const HEADER_COLUMNS: usize = 0;
@@ -80,6 +83,8 @@ pub const HEADER_SCANS: usize = 6;
 pub const HEADER_STAMP: usize = 7;
 
 pub const HEADER_MERGES: usize = 8;
+
+pub const HEADER_COMMITS: usize = 9;
 
 // Where the rows' regions begin, in every shape.
 const ROWS_FROM: usize = HEADER_WORDS + MOST_TRANSACTIONS;
@@ -169,6 +174,8 @@ fn start(s: Sizes, k: Region) -> usize
     let page_lineage = page_replaced + pages;
     let page_newest = page_lineage + pages;
     let cells = page_newest + pages;
+    let changes = cells + pages * RANGE_ROWS;
+    let row_ordinal = changes + MOST_TRANSACTIONS;
     match k {
         Region::Header => 0,
         Region::Opens => HEADER_WORDS,
@@ -194,7 +201,9 @@ fn start(s: Sizes, k: Region) -> usize
         Region::PageLineage => page_lineage,
         Region::PageNewest => page_newest,
         Region::Cells => cells,
-        Region::Changes => cells + pages * RANGE_ROWS,
+        Region::Changes => changes,
+        Region::RowOrdinal => row_ordinal,
+        Region::TailOrdinal => row_ordinal + rows,
     }
 }
 
@@ -211,7 +220,7 @@ pub fn words_needed(s: Sizes) -> usize
     requires { ⌜ need s < 2 ^ 62 ⌝ }
     ensures { λ r. ⌜ r ≡ need s ⌝ }
 {
-    start(s, Region::Changes) + MOST_TRANSACTIONS
+    start(s, Region::TailOrdinal) + s.slots
 }
 
 // The bytes that a shape needs, within the bound of rule 8.3 of docs/SPECIFICATION.md.

@@ -15,14 +15,15 @@ use Rattle.terms.specs.declared.ScanEntry.{ScanEntry}
 use Rattle.loops.specs.declared.Found.{Found}
 use Rattle.layout.specs.declared.Sizes.{Sizes}
 use Rattle.layout.specs.declared.Region.the-variants.{PageLineage}
-use Rattle.layout.specs.View.{View, rowsGiven, lastStamp, usedIn, viewOf}
-use Rattle.history.specs.History.{Call, verdict, noColumn, rangeOf}
+use Rattle.layout.specs.View.{View, rowsGiven, usedIn, viewOf}
+use Rattle.history.specs.History.{Call, Snapshot, verdict, noColumn, rangeOf}
 use Rattle.scans.specs.declared.Scans.{Scans}
 use Rattle.scans.specs.Entries.{openCount}
 use Rattle.scans.specs.Table.{tableOf}
 use Rattle.model.specs.Stored.{scanEntry, openIndex, currentIn, pageIn, cellIn}
 use Rattle.model.specs.Calls.{testsIn}
-use Rattle.model.specs.Reading.{reader, readIn, readCurrent, scanPage, sumIn}
+use Rattle.model.specs.Reading.{reader, snapshotOf, readIn, readCurrent, scanPage, sumIn}
+use Rattle.model.specs.declared.Reader.{Reader}
 use Rattle.model.specs.Preconditions.{shapeIn, OpenAt}
 use Rattle.rows.proofs.Indices.{row-in}
 use Rattle.admission.specs.declared.Tested.{Tested}
@@ -31,7 +32,7 @@ use Rattle.admission.specs.Given.{rangeGiven, ScanAt}
 use Rattle.admission.specs.Tested.{Says, Finds, IfPassed, Tests}
 use Rattle.admission.proofs.Served.{found, if-passed}
 use Rattle.admission.proofs.Decided.{row-below, column-below}
-use Rattle.admission.proofs.Scans.{in-table, scan-stamp, scan-merges, scan-number}
+use Rattle.admission.proofs.Scans.{in-table, scan-stamp, scan-merges, scan-commits, scan-number}
 use Rattle.lookups.specs.Lookups.{rowTests, CellThere, IsScan}
 
 pub cell-there : (s : Sizes) (m : List ℕ) (r c g : ℕ) (f : Found) (b : Bool) → Fitted s m → f ≡ rangeGiven (viewOf s m) r → f ≡ Found.At g
@@ -62,18 +63,20 @@ unfolding Tests testsIn
 latest-tests s m r c d h = λ ps. h
 
 -- ---- the scan that an entry of the table stands for
-pub is-scan : (t : Scans) (k j x y : ℕ) → x ≡ getD (t .stamps) j 0 → y ≡ getD (t .merges) j 0
-    → IsScan t k j record { number = k; stamp = x; merges = y }
+pub is-scan : (t : Scans) (k j x y z : ℕ) → x ≡ getD (t .stamps) j 0 → y ≡ getD (t .merges) j 0 → z ≡ getD (t .commits) j 0
+    → IsScan t k j record { number = k; stamp = x; merges = y; commits = z }
 unfolding IsScan
-is-scan t k j x y p q = λ e ps same few.
+is-scan t k j x y z p q r = λ e ps same few.
     let f = in-table t ps same k (Found.At j) e in
     let a : k ≡ scanEntry ps k .number = scan-number k ps few j f in
     let b : x ≡ scanEntry ps k .stamp = p ∙ ap (λ (u : Scans). getD (u .stamps) j 0) same ∙ scan-stamp k ps few j f in
     let d : y ≡ scanEntry ps k .merges = q ∙ ap (λ (u : Scans). getD (u .merges) j 0) same ∙ scan-merges k ps few j f in
-    whole k x y (scanEntry ps k) a b d
+    let g : z ≡ scanEntry ps k .commits = r ∙ ap (λ (u : Scans). getD (u .commits) j 0) same ∙ scan-commits k ps few j f in
+    whole k x y z (scanEntry ps k) a b d g
   where
-    whole : (n x y : ℕ) (p : ScanEntry) → n ≡ p .number → x ≡ p .stamp → y ≡ p .merges → _≡_ {A = ScanEntry} record { number = n; stamp = x; merges = y } p
-    whole n x y p a b d = rw (a, b, d)
+    whole : (n x y z : ℕ) (p : ScanEntry) → n ≡ p .number → x ≡ p .stamp → y ≡ p .merges → z ≡ p .commits
+        → _≡_ {A = ScanEntry} record { number = n; stamp = x; merges = y; commits = z } p
+    whole n x y z p a b d g = rw (a, b, d, g)
 
 -- what is read for that scan is what is read for the scan of the list
 module _ (d : Tested) (t : Scans) (k j : ℕ) (p : ScanEntry) (n : IsScan t k j p) (x : d ≡ Tested.Passed j) (y : Finds d (ScanAt t k))
@@ -85,14 +88,13 @@ module _ (d : Tested) (t : Scans) (k j : ℕ) (p : ScanEntry) (n : IsScan t k j 
   pub sum-scanned : a ≡ sumIn S v p c → a ≡ sumIn S v (scanEntry ps k) c
   sum-scanned h = rw same at h
 
-  pub cell-scanned : (r g w : ℕ) → w ≡ scanPage S v (p .merges) g c → g ≡ rangeOf r → a ≡ readIn S v (reader (p .stamp) 0) w r c
-      → a ≡ readIn S v (reader (scanEntry ps k .stamp) 0) (scanPage S v (scanEntry ps k .merges) (rangeOf r) c) r c
-  cell-scanned r g w e f h = h ∙ rw (e, f, same)
+  pub cell-scanned : (r g w : ℕ) → w ≡ scanPage S v (p .merges) g c → g ≡ rangeOf r → (who : Reader) → who ≡ reader (snapshotOf p) 0 → a ≡ readIn S v who w r c
+      → a ≡ readIn S v (reader (snapshotOf (scanEntry ps k)) 0) (scanPage S v (scanEntry ps k .merges) (rangeOf r) c) r c
+  cell-scanned r g w e f who q h = h ∙ rw (q, e, f, same)
 
 -- ---- what the calls answer, by what they read
-pub latest-answer : (S : Shape) (v : View) (a : Answer) (x r c : ℕ) → x ≡ lastStamp v → a ≡ readCurrent S v (reader x 0) r c
-    → a ≡ readCurrent S v (reader (lastStamp v) 0) r c
-latest-answer S v a x r c e h = rw e at h
+pub reader-answer : (S : Shape) (v : View) (a : Answer) (who : Reader) (t : Snapshot) (m r c : ℕ) → who ≡ reader t m → a ≡ readCurrent S v who r c → a ≡ readCurrent S v (reader t m) r c
+reader-answer S v a who t m r c e h = rw e at h
 
 pub index-open : (d : Tested) (v : View) (t j : ℕ) → d ≡ Tested.Passed j → Finds d (OpenAt v t) → j ≡ openIndex v t
 index-open d v t j p q = found d (OpenAt v t) j p q .found

@@ -4,21 +4,22 @@ use admission::Admission;
 use admission::Tested;
 use admission::admit;
 use admission::given_range;
-use admission::last_stamp;
+use admission::latest_reader;
 use admission::later;
 use admission::no_column;
 use admission::no_range;
+use admission::reader_at;
 use conditions::open_index;
 use conditions::own_changes;
 use layout::Region;
 use layout::Sizes;
 use loops::Found;
-use model::Reader;
 use reading::base_pages::cell;
 use reading::base_pages::current_page;
 use reading::base_pages::scan_page;
 use reading::read_cell;
 use reading::read_current;
+use reading::scan_reader;
 use regions::read;
 use rows::range_of;
 use scans::Scans;
@@ -71,10 +72,7 @@ pub fn latest(mem: &[u8], t: Scans, row: Row, column: u32) -> Answer
     match row_tests(mem, s, row, column) {
         Tested::Failed(x) => Answer::Refused(x),
         Tested::Passed(_) => {
-            let who = Reader {
-                stamp: last_stamp(mem, s),
-                me: Transaction(0),
-            };
+            let who = latest_reader(mem, s, Transaction(0));
             read_current(mem, s, who, row, column)
         }
     }
@@ -102,10 +100,7 @@ pub fn read_at(mem: &[u8], t: Scans, stamp: Stamp, row: Row, column: u32) -> Ans
     match read_at_tests(mem, s, stamp, row, column) {
         Tested::Failed(x) => Answer::Refused(x),
         Tested::Passed(_) => {
-            let who = Reader {
-                stamp: stamp,
-                me: Transaction(0),
-            };
+            let who = reader_at(mem, s, stamp, Transaction(0));
             read_current(mem, s, who, row, column)
         }
     }
@@ -137,10 +132,7 @@ pub fn own_read(mem: &[u8], t: Scans, transaction: Transaction, row: Row, column
     match own_read_tests(mem, s, transaction, row, column) {
         Tested::Failed(x) => Answer::Refused(x),
         Tested::Passed(at) => {
-            let who = Reader {
-                stamp: last_stamp(mem, s),
-                me: own_changes(mem, s, at),
-            };
+            let who = latest_reader(mem, s, own_changes(mem, s, at));
             read_current(mem, s, who, row, column)
         }
     }
@@ -155,10 +147,12 @@ fn scan_at(t: Scans, j: usize, scan: u32) -> ScanEntry
 {
     let stamps = t.stamps;
     let merges = t.merges;
+    let commits = t.commits;
     ScanEntry {
         number: scan,
         stamp: stamps[j],
         merges: merges[j],
+        commits: commits[j],
     }
 }
 
@@ -190,11 +184,7 @@ pub fn scan_read(mem: &[u8], t: Scans, scan: u32, row: Row, column: u32) -> Answ
         Tested::Passed(j) => {
             let found = scan_at(t, j, scan);
             let page = scan_page(mem, s, found.merges, range_of(row), column);
-            let who = Reader {
-                stamp: Stamp(found.stamp),
-                me: Transaction(0),
-            };
-            read_cell(mem, s, who, page, row, column)
+            read_cell(mem, s, scan_reader(found), page, row, column)
         }
     }
 }

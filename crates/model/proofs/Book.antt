@@ -11,7 +11,7 @@ use lib.Dec.{T, ltb, eqb, eqb·suc-zero}
 use lib.ListN.{length, getD, set}
 use borrow.Author.Tests.{ne-eqb}
 use Rattle.history.specs.History.{any, count, nth, change}
-use Rattle.history.proofs.Lists.{by-cases, by-test, eqb-same, eqb-equal, is-true, any-at}
+use Rattle.history.proofs.Lists.{by-cases, by-test, eqb-same, eqb-equal, is-true, any-at, one-few}
 use Rattle.terms.specs.Entries.{firstIndex, bears}
 use Rattle.model.proofs.Lists.{one, count-set, any-count, count-rest, count-from, from-snoc, from-set, from-none, from-at, first-below, first-passes, count-pos}
 use Rattle.model.specs.Represents.{countFrom}
@@ -19,10 +19,6 @@ use Rattle.model.specs.Represents.{countFrom}
 one-pos : (b : Bool) → ltb 0 (one b) ≡ b
 one-pos true = refl
 one-pos false = refl
-
-one-few : (b : Bool) → one b ≤ 1
-one-few true = omega arith
-one-few false = omega arith
 
 -- what is live is inside, and has a number that was given
 pub live-inside : {A : Type 0} (live : A → Bool) (l : List A) (k : ℕ) (d : A) → live d ≡ false → T (live (getD l k d)) → k < length l

@@ -5,7 +5,7 @@ use mathlib.Core.Bool.{Bool, not, cond, _&&_, _||_}
 use mathlib.Core.List.{List, [], _∷_, _++_}
 use Prim.Native.Nat.{ℕ, zero, suc, _+_, _*_, _-_, _≤_, _<_}
 use native.Mathlib.Omega.{arith}
-use native.Mathlib.Nat.{add-zero, le-refl}
+use native.Mathlib.Nat.{add-zero, le-refl, le-trans}
 use native.Mathlib.Numerals.{add-one}
 use lib.Dec.{T, leb, ltb, eqb, eqb→eq, nleb→lt, nltb→le}
 use lib.ListN.{length, getD, length-append}
@@ -17,13 +17,14 @@ use Rattle.terms.specs.Measures.{Shape, rangeRows, mostNumbers, mostScans}
 use Rattle.terms.specs.declared.Refusal.{Refusal}
 use Rattle.terms.specs.declared.Answer.{Answer}
 use Rattle.history.specs.History as H
-use Rattle.history.specs.History.{Call, begin, insert, update, delete, commit, abort, latest, readAt, ownRead, openScan, scanRead, sum, close, merge, release, pageCell, lineage, History, Record, active, Test, _when_, Verdict, accept, refuse, verdict, tests, reply, effect, answer, next, answerIf, nextIf, any, filterb, count, upTo, total, stateOf, rowAt, rangeOf, recordsOf, seenAt, seenBy, ended, visible, versionOf, shown, read, scanAt, inserted, lastSetting, cellValue, notActive, notRunning, notGiven, noColumn, noRange, lacksRecords, notLater, later, outOfReach, noPage, cellThrough}
+use Rattle.history.specs.History.{Call, begin, insert, update, delete, commit, abort, latest, readAt, ownRead, openScan, scanRead, sum, close, merge, release, pageCell, lineage, History, Record, Snapshot, snapshotAt, latestSnapshot, active, Test, _when_, Verdict, accept, refuse, verdict, tests, reply, effect, answer, next, answerIf, nextIf, any, filterb, count, upTo, total, stateOf, rowAt, rangeOf, recordsOf, seenAt, seenBy, ended, visible, versionOf, shown, read, scanAt, inserted, lastSetting, cellValue, notActive, notRunning, notGiven, noColumn, noRange, lacksRecords, earlier, later, outOfReach, noPage, cellThrough}
 use Rattle.history.proofs.Lists.{by-test, all-map, all-at, filterb-append, any-agree, not-not, parts}
 use Rattle.history.proofs.Accepted.{Passed, passed}
 use Rattle.history.proofs.Steps.{mergeable, is-active, within-reach, step, made-new}
 use Rattle.history.specs.Steps.{by-update, by-delete}
 use Rattle.history.proofs.Ranges.{last-agree}
 use Rattle.history.proofs.Pages.{cell-is}
+use Rattle.history.specs.Invariants.{Stamped}
 use Rattle.history.proofs.Invariants.{invariants-next}
 use Rattle.layout.specs.View.{View, lastStamp, usedIn}
 use Rattle.layout.specs.declared.Region.the-variants.{Opens, Changes}
@@ -31,8 +32,8 @@ use Rattle.terms.specs.declared.ScanEntry.{ScanEntry}
 use Rattle.terms.specs.Entries.{bears, firstIndex}
 use Rattle.model.specs.Stored.{cellIn, currentIn, within, openIndex, scanEntry}
 use Rattle.model.specs.declared.Reader.{Reader}
-use Rattle.model.specs.Reading.{reader, readIn, readCurrent, ownChanges, wordIn, scanPage, Tally, tally, sumIn}
-use Rattle.model.specs.Calls.{testsIn, replyIn, actIn, entriesAfter, viewIf, entriesIf, say, viewNext, entriesNext, notOpenIn, noScanIn, notGivenIn, lacksIn, notLaterIn, laterIn, outOfReachIn, Typed}
+use Rattle.model.specs.Reading.{reader, snapshotIn, latestIn, snapshotOf, readIn, readCurrent, ownChanges, wordIn, scanPage, Tally, tally, sumIn}
+use Rattle.model.specs.Calls.{testsIn, replyIn, actIn, entriesAfter, viewIf, entriesIf, say, viewNext, entriesNext, notOpenIn, noScanIn, notGivenIn, lacksIn, earlierIn, laterIn, outOfReachIn, Typed}
 use Rattle.model.specs.Represents.{everyRow, CurrentOf, Unchanged, scanAs, Represents, WellFormed, SameCall, StepKept}
 use Rattle.model.proofs.Opens.{opens-is, opens-full, open-there, active-given}
 use Rattle.model.proofs.changes.Transactions.{begin-kept, commit-kept, abort-kept}
@@ -57,20 +58,20 @@ agree-verdict (test {n} {b = b} {ts} {us} e f) = rw e
     (by-test (λ z. cond z (refuse n) (verdict ts) ≡ cond z (refuse n) (verdict us)) b (λ _. refl) (λ u. agree-verdict (f u)))
 
 -- ---- a transaction that changed nothing reads the latest
-own-latest : (h : History) (t r c : ℕ) → r < length (h .rows) → Unchanged (h .rows) (h .tail) t → read (seenAt h (h .last)) h r c ≡ read (seenBy h t) h r c
+own-latest : (h : History) (t r c : ℕ) → r < length (h .rows) → Unchanged (h .rows) (h .tail) t → read (seenAt h (latestSnapshot h)) h r c ≡ read (seenBy h t) h r c
 unfolding read visible versionOf ended
 own-latest h t r c b u =
-    ap₂ (λ (x y : Bool). cond (x && not y) (shown h (lastSetting (seenAt h (h .last)) r c (inserted h r c) (h .tail))) Answer.None) first second
+    ap₂ (λ (x y : Bool). cond (x && not y) (shown h (lastSetting (seenAt h (latestSnapshot h)) r c (inserted h r c) (h .tail))) Answer.None) first second
     ∙ ap (λ (y : H.Version). cond (visible (seenBy h t) h r) (shown h y) Answer.None)
-    (last-agree (seenAt h (h .last)) r c (seenBy h t) (inserted h r c) (all-map (λ (y : Record) n _. same (y .transaction) n) (u .no-record)))
+    (last-agree (seenAt h (latestSnapshot h)) r c (seenBy h t) (inserted h r c) (all-map (λ (y : Record) n _. same (y .transaction) n) (u .no-record)))
   where
-    same : (k : ℕ) → k ≢ t → seenAt h (h .last) k ≡ seenBy h t k
+    same : (k : ℕ) → k ≢ t → seenAt h (latestSnapshot h) k ≡ seenBy h t k
     same k n = unfold seenBy in (rw (ne-eqb k t n))
 
-    first : seenAt h (h .last) ((rowAt h r) .inserter) ≡ seenBy h t ((rowAt h r) .inserter)
+    first : seenAt h (latestSnapshot h) ((rowAt h r) .inserter) ≡ seenBy h t ((rowAt h r) .inserter)
     first = same _ (unfold rowAt in (all-at (u .no-row) r record { inserter = 0; values = [] } b))
 
-    second : any (λ y. eqb (y .row) r && (H.ends (y .content) && seenAt h (h .last) (y .transaction))) (h .tail) ≡ any (λ y. eqb (y .row) r && (H.ends (y .content) && seenBy h t (y .transaction))) (h .tail)
+    second : any (λ y. eqb (y .row) r && (H.ends (y .content) && seenAt h (latestSnapshot h) (y .transaction))) (h .tail) ≡ any (λ y. eqb (y .row) r && (H.ends (y .content) && seenBy h t (y .transaction))) (h .tail)
     second = any-agree (all-map (λ (y : Record) n. ap (λ (z : Bool). eqb (y .row) r && (H.ends (y .content) && z)) (same (y .transaction) n)) (u .no-record))
 
 -- ---- sums
@@ -97,9 +98,9 @@ module _ {S : Shape} {v : View} {ps : List ScanEntry} {h : History} (o : Represe
   unfolding laterIn later
   later-is s = ap (λ (n : ℕ). ltb n s) (o .header .last-stamp)
 
-  not-later-is : (s : ℕ) → notLaterIn v s ≡ notLater h s
-  unfolding notLaterIn notLater
-  not-later-is s = ap (leb s) (o .header .last-stamp)
+  earlier-is : (s : ℕ) → earlierIn v s ≡ earlier h s
+  unfolding earlierIn earlier
+  earlier-is s = ap (ltb s) (o .header .last-stamp)
 
   scan-running : (i : ℕ) → noScanIn ps i ≡ notRunning h i
   unfolding noScanIn notRunning scanAt
@@ -127,7 +128,7 @@ module _ {S : Shape} {v : View} {ps : List ScanEntry} {h : History} (o : Represe
   tests-agree (delete t r) =
       test (open-is t) (λ p. test (given-is r) (λ u. let b = nleb→lt (length (h .rows)) r u in
       test (held-is o k r b t) (λ f. test (gone-is o k r b t) (λ q. test (lacks-is r 1 1 b refl) (λ z. done)))))
-  tests-agree (commit t s) = test (open-is t) (λ p. test (not-later-is s) (λ q. done))
+  tests-agree (commit t s) = test (open-is t) (λ p. test (earlier-is s) (λ q. done))
   tests-agree (abort t) = test (open-is t) (λ p. done)
   tests-agree (latest r c) = test (given-is r) (λ p. test refl (λ q. done))
   tests-agree (readAt s r c) = test (later-is s) (λ z. test (given-is r) (λ p. test refl (λ q. done)))
@@ -147,17 +148,30 @@ module _ {S : Shape} {v : View} {ps : List ScanEntry} {h : History} (o : Represe
   tests-agree (lineage g c) = test refl (λ p. test refl (λ q. done))
 
   -- ---- the answers
-  pub current-read : (who : Reader) (r c : ℕ) (f : ℕ → Bool) → SeesAs h who f → r < length (h .rows) → c < S .columns → readCurrent S v who r c ≡ read f h r c
-  unfolding readCurrent
-  current-read who r c f w b d =
-      read-is o k who f w r b c d (currentIn S v (rangeOf r) c) everyRow (o .currents (rangeOf r) c (in-range k r b) d .holds) (λ z. tt)
+  -- a reader whose snapshot has every commit made
+  current-read : (who : Reader) (r c : ℕ) (f : ℕ → Bool) → SeesAs h who f → h .last .ordinal ≤ who .commits → r < length (h .rows) → c < S .columns → readCurrent S v who r c ≡ read f h r c
+  unfolding readCurrent Stamped
+  current-read who r c f w a b d =
+      let x = o .currents (rangeOf r) c (in-range k r b) d .holds in
+      read-is o k who f w r b c d (currentIn S v (rangeOf r) c) everyRow x
+      (all-map (λ y _ s e. le-trans (k .invariants .order .stamps (y .transaction) s e .ordinals) a) (x .through .closed-all)) (λ z. tt)
 
-  own-read : (t r c : ℕ) → stateOf h t ≡ active → r < length (h .rows) → c < S .columns → readCurrent S v (reader (lastStamp v) (ownChanges v t)) r c ≡ read (seenBy h t) h r c
+  snapshot-is : (s : ℕ) → snapshotIn v s ≡ snapshotAt h s
+  snapshot-is s = rw (o .header .commits-made)
+
+  latest-is : latestIn v ≡ latestSnapshot h
+  latest-is = rw (o .header .last-stamp, o .header .commits-made)
+
+  -- for the snapshot taken now
+  now-read : (s r c : ℕ) → r < length (h .rows) → c < S .columns → readCurrent S v (reader (snapshotAt h s) 0) r c ≡ read (seenAt h (snapshotAt h s)) h r c
+  now-read s r c b d = current-read (reader (snapshotAt h s) 0) r c (seenAt h (snapshotAt h s)) (sees-at h (snapshotAt h s)) (le-refl _) b d
+
+  own-read : (t r c : ℕ) → stateOf h t ≡ active → r < length (h .rows) → c < S .columns → readCurrent S v (reader (latestIn v) (ownChanges v t)) r c ≡ read (seenBy h t) h r c
   unfolding ownChanges openIndex
-  own-read t r c a b d = ap (λ (s : ℕ). readCurrent S v (reader s (cond (eqb noted 0) 0 t)) r c) (o .header .last-stamp) ∙
-      by-test (λ z. readCurrent S v (reader (h .last) (cond z 0 t)) r c ≡ read (seenBy h t) h r c) (eqb noted 0)
-      (λ z. current-read (reader (h .last) 0) r c (seenAt h (h .last)) (sees-at h (h .last)) b d ∙ own-latest h t r c b (unchanged (eqb→eq noted 0 z)))
-      (λ _. current-read (reader (h .last) t) r c (seenBy h t) (sees-own h t a) b d)
+  own-read t r c a b d = ap (λ (s : Snapshot). readCurrent S v (reader s (cond (eqb noted 0) 0 t)) r c) latest-is ∙
+      by-test (λ z. readCurrent S v (reader (latestSnapshot h) (cond z 0 t)) r c ≡ read (seenBy h t) h r c) (eqb noted 0)
+      (λ z. current-read (reader (latestSnapshot h) 0) r c (seenAt h (latestSnapshot h)) (sees-at h (latestSnapshot h)) (le-refl _) b d ∙ own-latest h t r c b (unchanged (eqb→eq noted 0 z)))
+      (λ _. current-read (reader (latestSnapshot h) t) r c (seenBy h t) (sees-own h t a) (le-refl _) b d)
     where
       j : ℕ
       j = firstIndex (bears t) (v Opens)
@@ -178,17 +192,18 @@ module _ {S : Shape} {v : View} {ps : List ScanEntry} {h : History} (o : Represe
   unfolding scanAt
   found i t = scan-found (h .scans) ps (o .scans) i t
 
-  seen-row : (s r : ℕ) → T (visible (seenAt h s) h r) → T (seenAt h s ((rowAt h r) .inserter))
+  seen-row : (s : Snapshot) (r : ℕ) → T (visible (seenAt h s) h r) → T (seenAt h s ((rowAt h r) .inserter))
   unfolding visible
   seen-row s r z = parts (seenAt h s ((rowAt h r) .inserter)) _ z .0
 
   pub scan-read : (i r c : ℕ) → T (scanAt h i .running) → r < length (h .rows) → c < S .columns
-      → readIn S v (reader (scanAt h i .stamp) 0) (scanPage S v (scanAt h i .merges) (rangeOf r) c) r c ≡ read (seenAt h (scanAt h i .stamp)) h r c
+      → readIn S v (reader (scanAt h i .snapshot) 0) (scanPage S v (scanAt h i .merges) (rangeOf r) c) r c ≡ read (seenAt h (scanAt h i .snapshot)) h r c
   scan-read i r c t b d =
-      read-is o k (reader (scanAt h i .stamp) 0) _ (sees-at h (scanAt h i .stamp)) r b c d _ _ (o .scanPages i t (rangeOf r) c (in-range k r b) d .holds) (seen-row (scanAt h i .stamp) r)
+      let x = o .scanPages i t (rangeOf r) c (in-range k r b) d in
+      read-is o k (reader (scanAt h i .snapshot) 0) _ (sees-at h (scanAt h i .snapshot)) r b c d _ _ (x .holds) (x .among) (seen-row (scanAt h i .snapshot) r)
 
   tally-is : (i c : ℕ) → T (scanAt h i .running) → c < S .columns → (n : ℕ) → n ≤ length (h .rows)
-      → tally S v (scanAs i (scanAt h i)) c n ≡ tallied h (seenAt h (scanAt h i .stamp)) c n
+      → tally S v (scanAs i (scanAt h i)) c n ≡ tallied h (seenAt h (scanAt h i .snapshot)) c n
   unfolding tally total
   tally-is i c t d zero b = refl
   tally-is i c t d (suc n) b =
@@ -196,7 +211,7 @@ module _ {S : Shape} {v : View} {ps : List ScanEntry} {h : History} (o : Represe
         filterb-append (visible f h) (upTo n) (n ∷ []),
         length-append rows (filterb (visible f h) (n ∷ [])),
         total-append value rows (filterb (visible f h) (n ∷ [])),
-        visible-is o k n b (reader (scanAt h i .stamp) 0) f (sees-at h (scanAt h i .stamp)),
+        visible-is o k n b (reader (scanAt h i .snapshot) 0) f (sees-at h (scanAt h i .snapshot)),
         tally-is i c t d n (omega arith),
       )
       (by-test (λ z. _≡_ {A = Tally} (cond z record { count = suc (length rows); total = total value rows +ℤ toZ w32 word } record { count = length rows; total = total value rows })
@@ -205,7 +220,7 @@ module _ {S : Shape} {v : View} {ps : List ScanEntry} {h : History} (o : Represe
       (λ _. rw (add-zero (length rows), +ℤ-idr (total value rows))))
     where
       f : ℕ → Bool
-      f = seenAt h (scanAt h i .stamp)
+      f = seenAt h (scanAt h i .snapshot)
 
       value : ℕ → ℤ
       value r = versionOf f h r c .value
@@ -214,12 +229,14 @@ module _ {S : Shape} {v : View} {ps : List ScanEntry} {h : History} (o : Represe
       rows = filterb (visible f h) (upTo n)
 
       word : ℕ
-      word = wordIn S v (reader (scanAt h i .stamp) 0) (scanPage S v (scanAt h i .merges) (rangeOf n) c) n c
+      word = wordIn S v (reader (scanAt h i .snapshot) 0) (scanPage S v (scanAt h i .merges) (rangeOf n) c) n c
 
       same : T (visible f h n) → toZ w32 word ≡ value n
-      same z = word-is o k (reader (scanAt h i .stamp) 0) f (sees-at h (scanAt h i .stamp)) n b c d _ _ (o .scanPages i t (rangeOf n) c (in-range k n b) d .holds) (seen-row (scanAt h i .stamp) n z)
+      same z =
+          let x = o .scanPages i t (rangeOf n) c (in-range k n b) d in
+          word-is o k (reader (scanAt h i .snapshot) 0) f (sees-at h (scanAt h i .snapshot)) n b c d _ _ (x .holds) (x .among) (seen-row (scanAt h i .snapshot) n z)
 
-  sum-same : (i c : ℕ) → T (scanAt h i .running) → c < S .columns → sumIn S v (scanEntry ps i) c ≡ H.sumOf (seenAt h (scanAt h i .stamp)) h c
+  sum-same : (i c : ℕ) → T (scanAt h i .running) → c < S .columns → sumIn S v (scanEntry ps i) c ≡ H.sumOf (seenAt h (scanAt h i .snapshot)) h c
   unfolding sumIn H.sumOf H.rowsSeen
   sum-same i c t d =
       rw (found i t, o .header .rows-given, tally-is i c t d (length (h .rows)) (le-refl _))
@@ -239,12 +256,12 @@ module _ {S : Shape} {v : View} {ps : List ScanEntry} {h : History} (o : Represe
   reply-same (commit t s) p = refl
   reply-same (abort t) p = refl
   reply-same (latest r c) p =
-      ap (λ (s : ℕ). readCurrent S v (reader s 0) r c) (o .header .last-stamp) ∙ current-read (reader (h .last) 0) r c (seenAt h (h .last)) (sees-at h (h .last)) (search nleb→lt) (search nleb→lt)
-  reply-same (readAt s r c) p = current-read (reader s 0) r c (seenAt h s) (sees-at h s) (search nleb→lt) (search nleb→lt)
+      ap (λ (t : Snapshot). readCurrent S v (reader t 0) r c) latest-is ∙ now-read (h .last .stamp) r c (search nleb→lt) (search nleb→lt)
+  reply-same (readAt s r c) p = ap (λ (t : Snapshot). readCurrent S v (reader t 0) r c) (snapshot-is s) ∙ now-read s r c (search nleb→lt) (search nleb→lt)
   reply-same (ownRead t r c) p = own-read t r c (search is-active) (search nleb→lt) (search nleb→lt)
   reply-same (openScan s) p = ap Answer.Number (omega (arith, o .header .scans-given))
   reply-same (scanRead i r c) p =
-      ap (λ (s : ScanEntry). readIn S v (reader (s .stamp) 0) (scanPage S v (s .merges) (rangeOf r) c) r c) (found i (not-not (scanAt h i .running) (search)))
+      ap (λ (s : ScanEntry). readIn S v (reader (snapshotOf s) 0) (scanPage S v (s .merges) (rangeOf r) c) r c) (found i (not-not (scanAt h i .running) (search)))
       ∙ scan-read i r c (not-not (scanAt h i .running) (search)) (search nleb→lt) (search nleb→lt)
   reply-same (sum i c) p = sum-same i c (not-not (scanAt h i .running) (search)) (search nleb→lt)
   reply-same (close i) p = refl
@@ -259,7 +276,7 @@ module _ {S : Shape} {v : View} {ps : List ScanEntry} {h : History} (o : Represe
   free-entry q = not-not (any (λ i. eqb i 0) (v Opens)) (rw (opens-full (h .transactions) (v Opens) (o .whole .long Opens) (o .opens)) q)
 
   pub act-kept : (c : Call) → Typed c → Passed (tests S h c) → Represents S (actIn S v ps c) (entriesAfter v ps c) (effect S h c)
-  unfolding actIn entriesAfter effect tests notGiven notRunning lacksRecords H.allGiven notLater H.allRunning later
+  unfolding actIn entriesAfter effect tests notGiven notRunning lacksRecords H.allGiven earlier H.allRunning later
   act-kept begin y p = begin-kept o k (free-entry (search)) (step S h begin p) (search nleb→lt)
   act-kept (insert t vs) y p = insert-kept o k t vs (search is-active) (search nleb→lt) (y .1) (step S h (insert t vs) p)
   act-kept (update t r m vs) y p =
@@ -267,7 +284,7 @@ module _ {S : Shape} {v : View} {ps : List ScanEntry} {h : History} (o : Represe
       (made-new {S = S} (by-update m vs (search)))
   act-kept (delete t r) y p =
       delete-kept o k t r (search is-active) (search nleb→lt) (search nltb→le) (step S h (delete t r) p) (made-new {S = S} by-delete)
-  act-kept (commit t s) y p = commit-kept o k t s (search is-active) (search nleb→lt) (y .1) (step S h (commit t s) p)
+  act-kept (commit t s) y p = commit-kept o k t s (search is-active) (search nltb→le) (y .1) (step S h (commit t s) p)
   act-kept (abort t) y p = abort-kept o k t (search is-active) (step S h (abort t) p)
   act-kept (latest r c) y p = o
   act-kept (readAt s r c) y p = o

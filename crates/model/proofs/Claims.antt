@@ -1,4 +1,4 @@
--- Demand 2 holds: what is read and what the pages hold follows from the relation, which every list of calls keeps.
+-- Demand 2 holds of the pages: what they hold follows from the relation, which every list of calls keeps.
 use mathlib.Core.Path.{_≡_, refl, sym, _∙_, ap}
 use mathlib.Core.List.{List}
 use Prim.Native.Nat.{ℕ, suc, _+_, _*_, _^_, _≤_, _<_}
@@ -10,11 +10,10 @@ use mir.Syntax.{w32}
 use mir.Val.{toZ, ofZ}
 use mir.ValLaws.{ofZ-toZ}
 use Rattle.terms.specs.Measures.{Shape, rangeRows, mostScans, withinLimits}
-use Rattle.history.specs.History.{Call, openScan, effect, nextIf, tests, verdict, Verdict, accept, refuse, Scan, withScans, History, next, run, seenAt, rangeOf, mergedThrough, scanAt, cellThrough}
+use Rattle.history.specs.History.{Call, openScan, effect, nextIf, tests, verdict, Verdict, accept, refuse, Scan, noScan, withScans, History, next, run, rangeOf, mergedThrough, scanAt, cellThrough}
 use Rattle.history.specs.Lists.{All, nil, cons}
 use Rattle.history.proofs.Lists.{nth-last}
-use Rattle.history.proofs.Steps.{noScan}
-use Rattle.history.proofs.Latest.{read-committed, cell-taken}
+use Rattle.history.proofs.Latest.{cell-taken}
 use Rattle.history.proofs.Invariants.{invariants-start}
 use Rattle.layout.specs.View.{View, put, renew}
 use Rattle.layout.specs.declared.Region.the-variants.{Cells}
@@ -22,13 +21,12 @@ use Rattle.terms.specs.declared.ScanEntry.{ScanEntry}
 use Rattle.terms.specs.Entries.{freeEntry}
 use Rattle.model.specs.Stored.{pageIn, cellIn, currentIn, within}
 use Rattle.model.specs.Writing.{madeView}
-use Rattle.model.specs.Reading.{reader, scanPage, wasCurrent}
+use Rattle.model.specs.Reading.{scanPage, wasCurrent}
 use Rattle.model.specs.Calls.{testsIn, actIn, viewIf, Typed, viewNext, entriesNext, viewAfter, entriesAfterAll}
-use Rattle.model.specs.Claims.{storeAfter, historyAfter, ReadsGive, PageHolds, PagesHold, PageKept, ScansKeep}
+use Rattle.model.specs.Claims.{storeAfter, historyAfter, PageHolds, PagesHold, PageKept, ScansKeep}
 use Rattle.model.specs.Represents.{CurrentOf, Represents, WellFormed}
 use Rattle.model.proofs.Holding.{cell-absent}
-use Rattle.model.proofs.lookups.Heads.{sees-at}
-use Rattle.model.proofs.Calls.{current-read, one-call}
+use Rattle.model.proofs.Calls.{one-call}
 use Rattle.model.proofs.upkeep.Scans.{scan-current}
 use Rattle.model.proofs.Openings.{SamePage, same-after, scan-later}
 use Rattle.model.proofs.Made.{small-shape, made-represents}
@@ -47,14 +45,6 @@ pub represented : (S : Shape) → T (withinLimits S) → (n : ℕ) → mostScans
 unfolding storeAfter historyAfter
 represented S t n enough ys =
     represents-after (made-represents S (small-shape S t) n enough) record { small = small-shape S t; invariants = invariants-start S } ys
-
--- ---- reads
-pub reads : ReadsGive
-unfolding ReadsGive
-reads S l n enough cs ys t r c b d =
-    let q = represented S l n enough ys in
-    current-read (q .0) (q .1) (reader t 0) r c (seenAt (historyAfter S cs) t) (sees-at (historyAfter S cs) t) b d
-    ∙ read-committed (historyAfter S cs) (q .1 .invariants .order) t r c
 
 -- ---- pages
 zero-word : (w : ℕ) → w < 2 ^ 32 → toZ w32 w ≡ pos 0 → w ≡ 0

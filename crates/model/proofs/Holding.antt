@@ -18,14 +18,14 @@ use Rattle.history.specs.History.{Call, History, Row, Record, Version, isCommit
 use Rattle.history.specs.Lists.{All}
 use Rattle.history.proofs.Lists.{by-cases, all-map, all-map₂, all-filterb, all-take, filterb-append, length-change}
 use Rattle.history.specs.Steps.{scanOpened, scanClosed, merged, released, Step, nothing, newStates, rowGiven, recordsMade, newScans, newMerges}
-use Rattle.history.proofs.States.{states-last}
+use Rattle.history.proofs.States.{up-refl, states-last}
 use Rattle.history.proofs.Ranges.{last-unfound}
 use Rattle.history.proofs.Merges.{length-released}
 use Rattle.history.proofs.Order.{order-step}
-use Rattle.history.specs.Invariants.{InOrder, Through}
+use Rattle.history.specs.Invariants.{UpTo, InOrder, Through}
 use Rattle.history.proofs.Pages.{through-step, Settled, settled-step, cell-stays}
 use Rattle.model.specs.Stored.{PageWords, within}
-use Rattle.model.specs.Represents.{Holds, NotAfter, everyRow}
+use Rattle.model.specs.Represents.{Holds, NotAfter, everyRow, Among}
 
 -- ---- a row that was not given has no records, and 0 in every cell
 pub last-other : (sees : ℕ → Bool) (r c : ℕ) (v : Version) {l : List Record} → All (λ (x : Record). x .row ≢ r) l → lastSetting sees r c v l ≡ v
@@ -46,7 +46,7 @@ cell-absent h c r n i b =
 
 -- ---- what no step lowers
 pub record Grown (h h′ : History) : Type 0 where
-  pub last : h .last ≤ h′ .last
+  pub last : UpTo (h .last) (h′ .last)
   pub rows : length (h .rows) ≤ length (h′ .rows)
   pub records : (g : ℕ) → length (recordsOf h g) ≤ length (recordsOf h′ g)
   pub scans : length (h .scans) ≤ length (h′ .scans)
@@ -61,14 +61,21 @@ records-longer h m g = simp (filterb-append, length-append) (omega arith)
 
 pub grown : {S : Shape} {x : Call} {h h′ : History} → Step S h x h′ → Grown h h′
 unfolding recordsOf withTransactions withRows withTail withScans withMerges
-grown nothing = search le-refl
+grown nothing = search (le-refl, up-refl)
 grown (newStates n) = search (le-refl, states-last n)
-grown (rowGiven _ _ _ _) = search (le-refl, one-longer)
-grown {h = h} (recordsMade _ _ {m} _ _ _) = search (le-refl, records-longer h m)
-grown (newScans (scanOpened _ _ _)) = search (le-refl, one-longer)
-grown (newScans (scanClosed k _)) = search (le-refl, length-change)
-grown (newMerges (merged _)) = search (le-refl, one-longer)
-grown (newMerges released) = search (le-refl, length-released)
+grown (rowGiven _ _ _ _) = search (le-refl, up-refl, one-longer)
+grown {h = h} (recordsMade _ _ {m} _ _ _) = search (le-refl, up-refl, records-longer h m)
+grown (newScans (scanOpened _ _ _)) = search (le-refl, up-refl, one-longer)
+grown (newScans (scanClosed k _)) = search (le-refl, up-refl, length-change)
+grown (newMerges (merged _)) = search (le-refl, up-refl, one-longer)
+grown (newMerges released) = search (le-refl, up-refl, length-released)
+
+-- the commits that a page has taken in are among the first n for ever: their transactions are closed
+pub among-step : {S : Shape} {y : Call} {h h′ : History} → InOrder h → Step S h y h′ → (g n : ℕ) {k : ℕ} → Through h g k → All (Among (stateOf h) n) (take k (recordsOf h g))
+    → All (Among (stateOf h′) n) (take k (recordsOf h′ g))
+among-step i step g n t a =
+    let q = settled-step i t step in
+    rw (q .records) (all-map₂ (λ y e f s u. f s (sym e ∙ u)) (q .states) a)
 
 -- ---- a step that gives none of the rows in question
 module _ {S : Shape} {y : Call} {h h′ : History} (i : InOrder h) (step : Step S h y h′) (g c : ℕ) (x : PageWords) where
@@ -90,7 +97,7 @@ module _ {S : Shape} {y : Call} {h h′ : History} (i : InOrder h) (step : Step 
       record {
         through = through-step i (o .through) step;
         newest = newest-step (o .through) (o .newest);
-        stamped = le-trans (o .stamped) (grown step .last);
+        stamped = le-trans (o .stamped) (grown step .last .stamps);
         cells = λ r e q.
             let p = f r e q in
             o .cells r e (p .0) ∙ sym (cell-step r e (o .through) (p .1));
@@ -145,7 +152,7 @@ holds-insert {h = h} w g c x {cell} {cell′} i step e new old o =
     record {
       through = through-step i (o .through) step;
       newest = newest-step i step g c x (o .through) (o .newest);
-      stamped = le-trans (o .stamped) (grown step .last);
+      stamped = le-trans (o .stamped) (grown step .last .stamps);
       cells = λ r q u. by-cases (ℕ-discrete r (length (h .rows)))
           (λ z. rw z (new ∙ sym (cell-new h w c (x .lineage) i)))
           (λ f. ap (toZ w32) (old (within r) (omega arith) (λ z. f (omega arith))) ∙ o .cells r q tt ∙ sym (cell-step i step g c x r q (o .through) (other-row h w r f)));

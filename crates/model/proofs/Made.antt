@@ -137,7 +137,7 @@ module _ (S : Shape) (small : Small S) where
   pub made-represents : (n : ℕ) → mostScans ≤ n → Represents S (madeView S) (replicate n freeEntry) start
   made-represents n enough =
       record {
-        header = unfold madeView blank put renew start in record { columns = refl; ranges = refl; capacity = refl; spares = refl; rows-given = refl; transactions-given = refl; scans-given = refl; last-stamp = refl; merges-made = refl };
+        header = unfold madeView blank put renew start in record { columns = refl; ranges = refl; capacity = refl; spares = refl; rows-given = refl; transactions-given = refl; scans-given = refl; last-stamp = refl; commits-made = refl; merges-made = refl };
         opens = unfold madeView blank put renew start in (λ q. refl);
         notes = λ j b f. absurd (f (no-open j));
         rows = λ r b. absurd (no-rows r b);

@@ -22,7 +22,7 @@ use Rattle.layout.specs.declared.Region.the-variants.{RowMask}
 use Rattle.terms.specs.declared.ScanEntry.{ScanEntry}
 use Rattle.model.specs.Stored.{rowIn, pageIn, cellIn, currentIn, within, openIndex}
 use Rattle.model.specs.Reading.{scanPage, wasCurrent}
-use Rattle.model.specs.Writing.{begun, noted, settled, freed, committedIn, abortedIn, insertedAt, insertedIn, appended, filledIn, newBitsIn, originalAppended, settingAppended, updatedIn, deletedIn, mergedIn, releasedIn}
+use Rattle.model.specs.Writing.{begun, noted, markAll, settled, freed, committedIn, abortedIn, insertedAt, insertedIn, appended, filledIn, newBitsIn, originalAppended, settingAppended, updatedIn, deletedIn, mergedIn, releasedIn}
 use Rattle.model.specs.Calls.{Typed, actIn, viewIf, viewNext, entriesNext, viewAfter}
 use Rattle.model.specs.Represents.{ScanPageOf, Represents, WellFormed}
 use Rattle.model.proofs.changes.Insert.{cell-kept, scan-apart}
@@ -81,7 +81,7 @@ module _ {S : Shape} {v : View} {ps : List ScanEntry} {h : History} (o : Represe
       }
 
   act-same : (x : Call) → Typed x → Passed (tests S h x) → PageStays (actIn S v ps x)
-  unfolding actIn begun noted deletedIn appended committedIn abortedIn freed settled put renew scanPage wasCurrent currentIn pageIn cellIn
+  unfolding actIn begun noted deletedIn appended committedIn abortedIn freed markAll settled put renew scanPage wasCurrent currentIn pageIn cellIn
   act-same begin y p = record { page = refl; cells = λ r b e. refl }
   act-same (insert t vs) y p = insert-same t vs (unfold tests in (p .0)) (unfold tests in (p .1 .0)) y
   act-same (update t r n vs) y p = update-same t r n vs

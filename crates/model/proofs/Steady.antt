@@ -1,26 +1,27 @@
 -- What a step of the history leaves of the pages: the current pages, the waiting ones and those of the running scans, as long as their words stay.
-use mathlib.Core.Path.{_≡_, sym, _∙_, ap}
+use mathlib.Core.Path.{_≡_, refl, sym, _∙_, ap}
 use mathlib.Core.Logic.{_⊎_, inl}
-use mathlib.Core.List.{List, []}
+use mathlib.Core.Bool.{Bool, true, false}
+use mathlib.Core.List.{List}
 use Prim.Native.Nat.{ℕ, _≤_, _<_}
 use native.Mathlib.Omega.{arith}
 use native.Mathlib.Nat.{le-refl, le-trans}
 use native.Mathlib.Decide.{ℕ-discrete, decLt}
 use lib.Dec.{T}
-use lib.ListN.{length, List·getD-eq-default}
+use lib.ListN.{length}
 use Rattle.terms.specs.Measures.{Shape}
 use Rattle.history.specs.History as H
-use Rattle.history.specs.History.{Call, History, Row, Scan, nth, change, committedBy, stateOf, rowAt, rangeOf, mergedThrough, seenAt, scanAt, stopped, withRows, withTail, withTransactions, withScans, withMerges}
+use Rattle.history.specs.History.{Call, History, Scan, Snapshot, noScan, nth, change, rowAt, rangeOf, mergedThrough, seenAt, scanAt, stopped}
 use Rattle.history.proofs.Lists.{by-cases, nth-other, nth-changed}
-use Rattle.history.proofs.Steps.{noScan, running-known}
-use Rattle.history.specs.Steps.{Step, nothing, newStates, rowGiven, recordsMade, newScans, newMerges}
-use Rattle.history.proofs.States.{active-unseen, seen-moved}
+use Rattle.history.proofs.Steps.{running-known}
+use Rattle.history.specs.Steps.{Step}
+use Rattle.history.proofs.Unseen.{no-row, unseen-step}
 use Rattle.history.specs.Invariants.{InOrder, Timely}
 use Rattle.layout.specs.View.{View}
 use Rattle.terms.specs.declared.ScanEntry.{ScanEntry}
 use Rattle.model.specs.Stored.{PageWords, within}
 use Rattle.model.specs.Represents.{Holds, everyRow, CurrentIs, CurrentsAre, WaitingIs, WaitingAre, ScanPageIs, ScanPageOf, ScanPagesAre, Represents, WellFormed}
-use Rattle.model.proofs.Holding.{grown, holds-step, holds-cells, same-rows, withRow, row-new, row-old, rows-more}
+use Rattle.model.proofs.Holding.{grown, among-step, holds-step, holds-cells, same-rows}
 
 -- ---- the pages
 pub current-step : {S : Shape} {y : Call} {h h′ : History} {g c p : ℕ} {x : PageWords} {cell : ℕ → ℕ} → InOrder h → Step S h y h′ → length (h .rows) ≡ length (h′ .rows)
@@ -38,7 +39,7 @@ waiting-step step later o =
       replaced-by = le-trans (o .replaced-by) (grown step .merges);
       early = λ g c a b e. le-trans (o .early g c a b e) (later g c a b);
       reach = λ g c a b e. le-trans (o .reach g c a b e) (grown step .records g);
-      stamped = le-trans (o .stamped) (grown step .last);
+      stamped = le-trans (o .stamped) (grown step .last .stamps);
     }
 
 -- other cells
@@ -47,43 +48,30 @@ pub current-cells : {S : Shape} {h : History} {g c p : ℕ} {x : PageWords} {cel
 current-cells f o = record { inside = o .inside; state = o .state; chunk = o .chunk; made = o .made; lineage = o .lineage; holds = holds-cells (λ r _ _. f r) (o .holds) }
 
 pub scan-cells : {S : Shape} {h : History} {s : Scan} {g c p : ℕ} {x : PageWords} {cell cell′ : ℕ → ℕ}
-    → ((r : ℕ) → rangeOf r ≡ g → T (seenAt h (s .stamp) ((rowAt h r) .inserter)) → cell′ (within r) ≡ cell (within r)) → ScanPageIs S h s g c p x cell → ScanPageIs S h s g c p x cell′
-scan-cells f o = record { inside = o .inside; early = o .early; chunk = o .chunk; made = o .made; holds = holds-cells f (o .holds) }
+    → ((r : ℕ) → rangeOf r ≡ g → T (seenAt h (s .snapshot) ((rowAt h r) .inserter)) → cell′ (within r) ≡ cell (within r)) → ScanPageIs S h s g c p x cell → ScanPageIs S h s g c p x cell′
+scan-cells f o = record { inside = o .inside; early = o .early; chunk = o .chunk; made = o .made; among = o .among; holds = holds-cells f (o .holds) }
 
--- ---- a row seen at a stamp that is not after the last commit was seen before
-no-row : (h : History) (r : ℕ) → length (h .rows) ≤ r → (rowAt h r) .inserter ≡ 0
-unfolding rowAt
-no-row h r b = rw (List·getD-eq-default (h .rows) record { inserter = 0; values = [] } b)
+-- ---- a row that a snapshot of commits made sees was seen before, and was given
+pub seen-given : (h : History) (s : Snapshot) (r : ℕ) → T (seenAt h s ((rowAt h r) .inserter)) → r < length (h .rows)
+seen-given h s r u = by-cases (decLt r (length (h .rows))) (λ b. b) (λ f. absurd (rw (no-row h s r (omega arith)) at u))
 
--- such a row was given
-pub seen-given : (h : History) (s r : ℕ) → T (seenAt h s ((rowAt h r) .inserter)) → r < length (h .rows)
-unfolding seenAt stateOf committedBy
-seen-given h s r u = by-cases (decLt r (length (h .rows))) (λ b. b) (λ f. absurd (rw (no-row h r (omega arith)) at u))
-
-row-seen : {S : Shape} {y : Call} {h h′ : History} → Step S h y h′ → (s r : ℕ) → s ≤ h .last → T (seenAt h′ s ((rowAt h′ r) .inserter)) → T (seenAt h s ((rowAt h r) .inserter))
-unfolding seenAt committedBy stateOf rowAt withRows withTail withTransactions withScans withMerges
-row-seen nothing s r b u = u
-row-seen (newStates n) s r b u = rw (seen-moved n s _ b) at u
-row-seen {h = h} (rowGiven t vs a _) s r b u = by-cases (ℕ-discrete r (length (h .rows)))
-    (λ e. absurd (rw (e, row-new h w, active-unseen h s t a) at u))
-    (λ f. by-cases (decLt r (length (h .rows))) (λ b. rw (row-old h w r b) at u) (λ b. absurd (rw (no-row (withRow h w) r (omega (arith, rows-more h w))) at u)))
+row-seen : {S : Shape} {y : Call} {h h′ : History} → Step S h y h′ → (s : Snapshot) (r : ℕ) → s .commits ≤ h .last .ordinal → T (seenAt h′ s ((rowAt h′ r) .inserter)) → T (seenAt h s ((rowAt h r) .inserter))
+row-seen {h = h} step s r b u = go (seenAt h s ((rowAt h r) .inserter)) refl
   where
-    w : Row
-    w = record { inserter = t; values = vs }
-row-seen (recordsMade _ _ _ _ _) s r b u = u
-row-seen (newScans _) s r b u = u
-row-seen (newMerges _) s r b u = u
+    go : (q : Bool) → seenAt h s ((rowAt h r) .inserter) ≡ q → T q
+    go true e = tt
+    go false e = absurd (rw (unseen-step step s r b e) at u)
 
-pub seen-step : {S : Shape} {y : Call} {h h′ : History} → Step S h y h′ → (s r : ℕ) → s ≤ h .last → T (seenAt h′ s ((rowAt h′ r) .inserter))
+pub seen-step : {S : Shape} {y : Call} {h h′ : History} → Step S h y h′ → (s : Snapshot) (r : ℕ) → s .commits ≤ h .last .ordinal → T (seenAt h′ s ((rowAt h′ r) .inserter))
     → T (seenAt h s ((rowAt h r) .inserter)) × ((r < length (h .rows)) ⊎ (length (h′ .rows) ≤ r))
 seen-step {h = h} step s r b u = let old = row-seen step s r b u in (old, inl (seen-given h s r old))
 
 -- a running scan's page
-pub scan-page-step : {S : Shape} {y : Call} {h h′ : History} {s : Scan} {g c p : ℕ} {x : PageWords} {cell : ℕ → ℕ} → InOrder h → Step S h y h′ → s .stamp ≤ h .last
+pub scan-page-step : {S : Shape} {y : Call} {h h′ : History} {s : Scan} {g c p : ℕ} {x : PageWords} {cell : ℕ → ℕ} → InOrder h → Step S h y h′ → s .snapshot .commits ≤ h .last .ordinal
     → ScanPageIs S h s g c p x cell → ScanPageIs S h′ s g c p x cell
 scan-page-step {h′ = h′} {s = s} {g = g} {c = c} {x = x} {cell = cell} i step b o =
-    let holds : Holds h′ g c (λ r. T (seenAt h′ (s .stamp) ((rowAt h′ r) .inserter))) x cell = holds-step i step g c x (λ r e u. seen-step step (s .stamp) r b u) (o .holds) in
-    search (holds, le-trans (o .early) (grown step .merges))
+    let holds : Holds h′ g c (λ r. T (seenAt h′ (s .snapshot) ((rowAt h′ r) .inserter))) x cell = holds-step i step g c x (λ r e u. seen-step step (s .snapshot) r b u) (o .holds) in
+    search (holds, le-trans (o .early) (grown step .merges), among-step i step g (s .snapshot .commits) (o .holds .through) (o .among))
 
 -- a scan that runs after another was closed is as it was
 pub still-running : (l : List Scan) (k i : ℕ) → T ((nth l k noScan) .running) → T ((nth (change l k (stopped (nth l k noScan))) i noScan) .running)
@@ -105,7 +93,7 @@ module _ {S : Shape} {v : View} {ps : List ScanEntry} {h h′ : History} {y : Ca
       → ScanPageOf S h′ v (scanAt h′ i) g c
   unfolding Timely
   scan-stays i e t g c a b =
-      rw e (scan-page-step (k .invariants .order) step (k .invariants .timely i) (o .scanPages i (rw e at t) g c a b))
+      rw e (scan-page-step (k .invariants .order) step (k .invariants .timely i .commits) (o .scanPages i (rw e at t) g c a b))
 
   -- all of them, where the step gives no row and leaves the scans
   pub pages-stay : length (h .rows) ≡ length (h′ .rows) → ((i : ℕ) → scanAt h′ i ≡ scanAt h i) → CurrentsAre S h′ v × WaitingAre S h′ v × ScanPagesAre S h′ v

@@ -21,6 +21,7 @@ use Rattle.layout.specs.declared.Region.{Region}
 use Rattle.layout.specs.declared.Region.the-variants.{Changes}
 use Rattle.layout.specs.Sizes.{sizesOf}
 use Rattle.model.specs.Writing.{noted}
+use Rattle.history.specs.History.{Commit}
 use Rattle.history.proofs.Lists.{by-cases, eqb-same}
 use Rattle.model.specs.Represents.{Whole, HeaderIs}
 
@@ -47,9 +48,10 @@ changed-start f n l i a b =
 word-put : (ws : List ℕ) (i k n : ℕ) → i < length ws → getD (set ws i n) k 0 ≡ cond (eqb k i) n (getD ws k 0)
 word-put ws i k n b = by-cases (ℕ-discrete k i) (λ e. rw (e, eqb-same i) (getD-set-same ws i n 0 b)) (λ f. rw (ne-eqb k i f) (getD-set-other ws i k n 0 f))
 
-module _ {S : Shape} {r t s l m : ℕ} where
+module _ {S : Shape} {r t s : ℕ} {l : Commit} {m : ℕ} where
   pub header-put : (ws : List ℕ) (i n : ℕ) → i < length ws → 4 ≤ i → HeaderIs S r t s l m (λ k. getD ws k 0)
-      → HeaderIs S (cond (eqb 4 i) n r) (cond (eqb 5 i) n t) (cond (eqb 6 i) n s) (cond (eqb 7 i) n l) (cond (eqb 8 i) n m) (λ k. getD (set ws i n) k 0)
+      → HeaderIs S (cond (eqb 4 i) n r) (cond (eqb 5 i) n t) (cond (eqb 6 i) n s) record { stamp = cond (eqb 7 i) n (l .stamp); ordinal = cond (eqb 9 i) n (l .ordinal) } (cond (eqb 8 i) n m)
+      (λ k. getD (set ws i n) k 0)
   header-put ws i n b d o =
       record {
         columns = getD-set-other ws i 0 n 0 (λ e. omega arith) ∙ o .columns;
@@ -60,6 +62,7 @@ module _ {S : Shape} {r t s l m : ℕ} where
         transactions-given = word-put ws i 5 n b ∙ ap (cond (eqb 5 i) n) (o .transactions-given);
         scans-given = word-put ws i 6 n b ∙ ap (cond (eqb 6 i) n) (o .scans-given);
         last-stamp = word-put ws i 7 n b ∙ ap (cond (eqb 7 i) n) (o .last-stamp);
+        commits-made = word-put ws i 9 n b ∙ ap (cond (eqb 9 i) n) (o .commits-made);
         merges-made = word-put ws i 8 n b ∙ ap (cond (eqb 8 i) n) (o .merges-made);
       }
 

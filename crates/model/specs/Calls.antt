@@ -14,13 +14,13 @@ use Rattle.terms.specs.declared.Refusal.{Refusal}
 use Rattle.terms.specs.declared.Answer.{Answer}
 use Rattle.history.specs.History.{Call, begin, insert, update, delete, commit, abort, latest, readAt, ownRead, openScan, scanRead, sum, close, merge, release, pageCell, lineage, Test, _when_, verdict, Verdict, accept, refuse, answerIf, any, count, noColumn, noRange, badMask, rangeOf}
 use Rattle.history.specs.Lists.{All}
-use Rattle.layout.specs.View.{View, put, rowsGiven, transactionsGiven, scansGiven, lastStamp, mergesMade, usedIn}
+use Rattle.layout.specs.View.{View, put, rowsGiven, transactionsGiven, scansGiven, lastStamp, mergesMade, commitsMade, usedIn}
 use Rattle.layout.specs.declared.Region.the-variants.{Header, Opens}
 use Rattle.terms.specs.declared.ScanEntry.{ScanEntry}
 use Rattle.terms.specs.Entries.{freeEntry, firstIndex, bears, isScan}
 use Rattle.layout.specs.Regions.{scansAt}
 use Rattle.model.specs.Stored.{RecordWords, rowIn, recordIn, pageIn, currentIn, cellIn, within, committedState, deleteKind, scanEntry, pagesOf, anyBelow, countBelow, wordLimit}
-use Rattle.model.specs.Reading.{reader, readIn, readCurrent, ownChanges, scanPage, sumIn}
+use Rattle.model.specs.Reading.{reader, snapshotIn, latestIn, snapshotOf, readIn, readCurrent, ownChanges, scanPage, sumIn}
 use Rattle.model.specs.Writing.{begun, committedIn, abortedIn, insertedIn, updatedIn, deletedIn, mergedIn, releasedIn, releasable, recordsWanted, freeIn}
 
 -- ---- the conditions of the refusals (section 3 of docs/SPECIFICATION.md), read in the memory
@@ -67,8 +67,8 @@ unfoldable pub lacksIn : Shape → View → ℕ → ℕ → Bool
 lacksIn S v r n = ltb (S .capacity) (usedIn v (rangeOf r) + n)
 
 -- 13
-unfoldable pub notLaterIn : View → ℕ → Bool
-notLaterIn v s = leb s (lastStamp v)
+unfoldable pub earlierIn : View → ℕ → Bool
+earlierIn v s = ltb s (lastStamp v)
 
 unfoldable pub laterIn : View → ℕ → Bool
 laterIn v s = ltb (lastStamp v) s
@@ -102,7 +102,7 @@ testsIn S v ps (delete t r) =
     ∷ Refusal.Gone when goneIn S v t r
     ∷ Refusal.Tail when lacksIn S v r 1
     ∷ []
-testsIn S v ps (commit t s) = Refusal.Transaction when notOpenIn v t ∷ Refusal.Time when notLaterIn v s ∷ []
+testsIn S v ps (commit t s) = Refusal.Transaction when notOpenIn v t ∷ Refusal.Time when earlierIn v s ∷ []
 testsIn S v ps (abort t) = Refusal.Transaction when notOpenIn v t ∷ []
 testsIn S v ps (latest r c) = Refusal.Row when notGivenIn v r ∷ Refusal.Column when noColumn S c ∷ []
 testsIn S v ps (readAt s r c) =
@@ -137,13 +137,13 @@ replyIn S v ps (update t r m vs) = Answer.Number (usedIn v (rangeOf r) + records
 replyIn S v ps (delete t r) = Answer.Number (usedIn v (rangeOf r) + 1)
 replyIn S v ps (commit t s) = Answer.Done
 replyIn S v ps (abort t) = Answer.Done
-replyIn S v ps (latest r c) = readCurrent S v (reader (lastStamp v) 0) r c
-replyIn S v ps (readAt s r c) = readCurrent S v (reader s 0) r c
-replyIn S v ps (ownRead t r c) = readCurrent S v (reader (lastStamp v) (ownChanges v t)) r c
+replyIn S v ps (latest r c) = readCurrent S v (reader (latestIn v) 0) r c
+replyIn S v ps (readAt s r c) = readCurrent S v (reader (snapshotIn v s) 0) r c
+replyIn S v ps (ownRead t r c) = readCurrent S v (reader (latestIn v) (ownChanges v t)) r c
 replyIn S v ps (openScan s) = Answer.Number (scansGiven v + 1)
 replyIn S v ps (scanRead k r c) =
     let s = scanEntry ps k in
-    readIn S v (reader (s .stamp) 0) (scanPage S v (s .merges) (rangeOf r) c) r c
+    readIn S v (reader (snapshotOf s) 0) (scanPage S v (s .merges) (rangeOf r) c) r c
 replyIn S v ps (sum k c) = sumIn S v (scanEntry ps k) c
 replyIn S v ps (close k) = Answer.Done
 replyIn S v ps (merge g c n) = Answer.Done
@@ -172,6 +172,10 @@ actIn S v ps (pageCell c r) = v
 actIn S v ps (lineage g c) = v
 
 -- ---- and the scan list: an opened scan takes the first free entry, a closed one leaves a free entry
+-- the entry of a scan that is opened now at stamp s
+abbrev pub newEntry : View → ℕ → ScanEntry
+newEntry v s = record { number = scansGiven v + 1; stamp = s; merges = mergesMade v; commits = commitsMade v }
+
 unfoldable pub entriesAfter : View → List ScanEntry → Call → List ScanEntry
 entriesAfter v ps begin = ps
 entriesAfter v ps (insert t vs) = ps
@@ -183,7 +187,7 @@ entriesAfter v ps (latest r c) = ps
 entriesAfter v ps (readAt s r c) = ps
 entriesAfter v ps (ownRead t r c) = ps
 entriesAfter v ps (openScan s) =
-    set ps (firstIndex (λ p. eqb (p .number) 0) ps) record { number = scansGiven v + 1; stamp = s; merges = mergesMade v }
+    set ps (firstIndex (λ p. eqb (p .number) 0) ps) (newEntry v s)
 entriesAfter v ps (scanRead k r c) = ps
 entriesAfter v ps (sum k c) = ps
 entriesAfter v ps (close k) = set ps (firstIndex (isScan k) ps) freeEntry

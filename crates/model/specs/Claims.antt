@@ -1,6 +1,6 @@
--- Demand 2, stated of a store just made on which calls alone have worked: `ReadsGive` is rule 11.3 of docs/SPECIFICATION.md,
--- `PagesHold` 11.4, `ScansKeep` 11.5. The history after the same calls says what was committed, by its stamps (`lastCommitted` and `lastTaken`, the history's
--- Latest); the store's words say what is read and what the pages hold. proofs/Claims.antt proves them.
+-- Demand 2 of the pages, stated of a store just made on which calls alone have worked: `PagesHold` is rule 11.4 of docs/SPECIFICATION.md, `ScansKeep` 11.5. The history
+-- after the same calls says what was committed, by its commits (`lastTaken`, the history's Latest); the store's words say what the pages hold. proofs/Claims.antt proves
+-- them. What reads give (11.3) needs no claim here: the store answers as the history does (`StepKept`, Represents), and the history's Latest says what that is.
 use mathlib.Core.Path.{_≡_}
 use mathlib.Core.List.{List, _∷_}
 use Prim.Native.Nat.{ℕ, suc, _+_, _*_, _≤_, _<_}
@@ -11,11 +11,11 @@ use mir.Val.{toZ}
 use Rattle.terms.specs.Measures.{Shape, rangeRows, mostScans, withinLimits}
 use Rattle.history.specs.History.{Call, openScan, History, start, run, tests, verdict, accept, mergedThrough, scanAt, rangeOf}
 use Rattle.history.specs.Lists.{All}
-use Rattle.history.specs.Latest.{lastCommitted, lastTaken}
+use Rattle.history.specs.Latest.{lastTaken}
 use Rattle.layout.specs.View.{View}
 use Rattle.terms.specs.Entries.{freeEntry}
 use Rattle.model.specs.Stored.{pageIn, cellIn, currentIn, within}
-use Rattle.model.specs.Reading.{reader, readCurrent, scanPage}
+use Rattle.model.specs.Reading.{scanPage}
 use Rattle.model.specs.Writing.{madeView}
 use Rattle.model.specs.Calls.{Typed, viewAfter, entriesAfterAll}
 
@@ -25,12 +25,6 @@ storeAfter S n cs = viewAfter S (madeView S) (replicate n freeEntry) cs
 
 unfoldable pub historyAfter : Shape → List Call → History
 historyAfter S cs = run S start cs
-
--- rule 11.3: what a read gives
-unfoldable pub ReadsGive : Type 0
-ReadsGive =
-    (S : Shape) → T (withinLimits S) → (n : ℕ) → mostScans ≤ n → (cs : List Call) → All Typed cs → (t r c : ℕ)
-    → r < length ((historyAfter S cs) .rows) → c < S .columns → readCurrent S (storeAfter S n cs) (reader t 0) r c ≡ lastCommitted (historyAfter S cs) t r c
 
 -- 11.4: what a current page holds. The records that it has taken in are those up to its lineage.
 pub record PageHolds (S : Shape) (v : View) (h : History) (g c : ℕ) : Type 0 where

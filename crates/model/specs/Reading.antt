@@ -1,4 +1,4 @@
--- What a reader finds in the store. Latest read, read at, own read, scan read and sum are one definition: who sees a row or record is told by a stamp
+-- What a reader finds in the store. Latest read, read at, own read, scan read and sum are one definition: who sees a row or record is told by a snapshot
 -- and by the transaction whose own changes count, and the value is found in a page, in the tail records above the page's lineage, and further down only
 -- where the page is newer than the stamp. Whoever set it is found in the records alone: a page has no room for the stamps of its cells.
 use mathlib.Core.Bool.{Bool, not, cond, _&&_, _||_}
@@ -10,9 +10,9 @@ use mir.Syntax.{w32}
 use mir.Val.{toZ}
 use Rattle.terms.specs.Measures.{Shape}
 use Rattle.terms.specs.declared.Answer.{Answer}
-use Rattle.history.specs.History.{bit, rangeOf}
+use Rattle.history.specs.History.{Snapshot, bit, rangeOf}
 use Rattle.loops.specs.declared.Found.{Found}
-use Rattle.layout.specs.View.{View, rowsGiven}
+use Rattle.layout.specs.View.{View, rowsGiven, lastStamp, commitsMade}
 use Rattle.layout.specs.declared.Region.the-variants.{Changes}
 use Rattle.terms.specs.declared.ScanEntry.{ScanEntry}
 use Rattle.model.specs.declared.Reader.{Reader}
@@ -21,20 +21,31 @@ use Rattle.model.specs.declared.Version.{Version}
 use Rattle.model.specs.Stored.{RowWords, RecordWords, PageWords, rowIn, recordIn, pageIn, valueIn, currentIn, chunkOf, chunksOf, pagesOf, cellIn, within, openState, committedState, originalKind, settingKind, deleteKind, waitingPage, firstFrom, openIndex}
 use Rattle.layout.specs.Regions.{slot}
 
--- a reader by its stamp and the transaction whose own changes count (0: none)
-abbrev pub reader : ℕ → ℕ → Reader
-reader t me = record { stamp = record { 0 = t }; me = record { 0 = me } }
+-- a reader by its snapshot and the transaction whose own changes count (0: none)
+abbrev pub reader : Snapshot → ℕ → Reader
+reader t me = record { stamp = record { 0 = t .stamp }; commits = t .commits; me = record { 0 = me } }
 
--- Whether a reader sees a row or record of this state, stamp and transaction.
-unfoldable pub sees : Reader → ℕ → ℕ → ℕ → Bool
-sees who state stamp transaction =
-    (committedState state && leb stamp (who .stamp .0)) || (openState state && (not (eqb (who .me .0) 0) && eqb transaction (who .me .0)))
+-- the snapshot taken now at stamp s, and at the last commit's; a scan's was taken when it was opened
+abbrev pub snapshotIn : View → ℕ → Snapshot
+snapshotIn v s = record { stamp = s; commits = commitsMade v }
+
+abbrev pub latestIn : View → Snapshot
+latestIn v = snapshotIn v (lastStamp v)
+
+abbrev pub snapshotOf : ScanEntry → Snapshot
+snapshotOf s = record { stamp = s .stamp; commits = s .commits }
+
+-- Whether a reader sees a row or record of this state, stamp, ordinal and transaction.
+unfoldable pub sees : Reader → ℕ → ℕ → ℕ → ℕ → Bool
+sees who state stamp ordinal transaction =
+    (committedState state && (leb stamp (who .stamp .0) && leb ordinal (who .commits)))
+    || (openState state && (not (eqb (who .me .0) 0) && eqb transaction (who .me .0)))
 
 abbrev pub seesRow : Reader → RowWords → Bool
-seesRow who x = sees who (x .state) (x .stamp) (x .transaction)
+seesRow who x = sees who (x .state) (x .stamp) (x .ordinal) (x .transaction)
 
 abbrev pub seesRecord : Reader → RecordWords → Bool
-seesRecord who x = sees who (x .state) (x .stamp) (x .transaction)
+seesRecord who x = sees who (x .state) (x .stamp) (x .ordinal) (x .transaction)
 
 -- ---- the newest record of a row tells whether the row is ended: a delete that is not aborted is the last record of its row
 unfoldable pub headIn : Shape → View → ℕ → RecordWords
@@ -79,7 +90,8 @@ orElse Found.Nothing at x = x
 abbrev pub floor : ℕ
 floor = 0
 
--- How far down a reader looks for a value: the records up to a page's lineage are in its cells, unless the page holds a setting later than the stamp.
+-- How far down a reader looks for a value: the records up to a page's lineage are in its cells, unless the page holds a setting later than the stamp. The stamp is
+-- enough: what a scan's own page holds was committed before the scan was opened, and every other reader's snapshot has all commits made.
 unfoldable pub downTo : Reader → PageWords → ℕ
 downTo who page = cond (leb (page .newest) (who .stamp .0)) (page .lineage) floor
 
@@ -150,9 +162,9 @@ unfoldable pub tally : Shape → View → ScanEntry → ℕ → ℕ → Tally
 tally S v s c zero = record { count = 0; total = pos 0 }
 tally S v s c (suc r) =
     let before = tally S v s c r in
-    let w = wordIn S v (reader (s .stamp) 0) (scanPage S v (s .merges) (rangeOf r) c) r c in
+    let w = wordIn S v (reader (snapshotOf s) 0) (scanPage S v (s .merges) (rangeOf r) c) r c in
     let more : Tally = record { count = suc (before .count); total = before .total +ℤ toZ w32 w } in
-    cond (visibleIn S v (reader (s .stamp) 0) r) more before
+    cond (visibleIn S v (reader (snapshotOf s) 0) r) more before
 
 unfoldable pub sumIn : Shape → View → ScanEntry → ℕ → Answer
 sumIn S v s c =

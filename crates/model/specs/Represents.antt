@@ -12,7 +12,7 @@ use lib.IntN.{pos}
 use mir.Syntax.{w32}
 use mir.Val.{toZ}
 use Rattle.terms.specs.Measures.{Shape, mostColumns, mostRanges, mostRecords, mostSpares, mostTransactions, mostScans}
-use Rattle.history.specs.History.{History, Row, Record, State, unknown, active, aborted, committed, Content, original, setting, ending, Scan, Merge, isActive, stateOf, rowAt, bit, sets, rangeOf, recordsOf, mergedThrough, scanAt, seenAt, cellThrough, count, Call, answer, next, stampOf}
+use Rattle.history.specs.History.{History, Row, Record, Commit, State, unknown, active, aborted, committed, Content, original, setting, ending, Scan, Merge, isActive, stateOf, rowAt, bit, sets, rangeOf, recordsOf, mergedThrough, scanAt, seenAt, cellThrough, count, Call, answer, next, commitOf}
 use Rattle.history.specs.Lists.{All}
 use Rattle.history.specs.Records.{among, wasSet, noRecord, lastOf}
 use Rattle.history.specs.Invariants.{Through, Invariants}
@@ -20,7 +20,7 @@ use Rattle.layout.specs.View.{View, usedIn, Long, Fits}
 use Rattle.layout.specs.declared.Region.the-variants.{Opens, Changes}
 use Rattle.terms.specs.declared.ScanEntry.{ScanEntry}
 use Rattle.layout.specs.Sizes.{sizesOf}
-use Rattle.layout.specs.Regions.{rowsAt, transactionsAt, scansAt, stampAt, mergesAt}
+use Rattle.layout.specs.Regions.{rowsAt, transactionsAt, scansAt, stampAt, mergesAt, commitsAt}
 use Rattle.model.specs.Stored.{RowWords, RecordWords, PageWords, rowIn, recordIn, pageIn, valueIn, currentIn, cellIn, within, chunkOf, chunksOf, pagesOf, headerIn, currentPage, waitingPage, countBelow}
 use Rattle.layout.specs.Codes.{asOpen, asCommitted, asAborted, asOriginal, asSetting, asDelete, asCurrent}
 use Rattle.model.specs.Reading.{scanPage}
@@ -38,7 +38,8 @@ stateWord (committed s) = asCommitted
 pub record RowIs (st : ℕ → State) (w : Row) (recs : List Record) (r : ℕ) (x : RowWords) : Type 0 where
   pub transaction : x .transaction ≡ w .inserter
   pub state : x .state ≡ stateWord (st (w .inserter))
-  pub stamp : x .stamp ≡ stampOf (st (w .inserter))
+  pub stamp : x .stamp ≡ commitOf (st (w .inserter)) .stamp
+  pub ordinal : x .ordinal ≡ commitOf (st (w .inserter)) .ordinal
   pub link : x .link ≡ lastOf recs r (length recs)
   pub mask : (c : ℕ) → bit (x .mask) c ≡ wasSet recs r c
 
@@ -54,7 +55,8 @@ pub record RecordIs (C : ℕ) (st : ℕ → State) (y : Record) (x : RecordWords
   pub transaction : x .transaction ≡ y .transaction
   pub row : x .row ≡ y .row
   pub state : x .state ≡ stateWord (st (y .transaction))
-  pub stamp : x .stamp ≡ stampOf (st (y .transaction))
+  pub stamp : x .stamp ≡ commitOf (st (y .transaction)) .stamp
+  pub ordinal : x .ordinal ≡ commitOf (st (y .transaction)) .ordinal
   pub content : ContentIs C (y .content) (x .kind) (x .mask) value
 
 -- the records of one range; the record with number k + 1 is `rec k`
@@ -80,14 +82,14 @@ RowsAre h v = (r : ℕ) → r < length (h .rows) → RowIs (stateOf h) (rowAt h 
 -- ---- pages
 -- no setting of column c in record y is committed after n
 abbrev pub NotAfter : (ℕ → State) → ℕ → ℕ → Record → Type 0
-NotAfter st c n y = T (sets c (y .content)) → (s : ℕ) → st (y .transaction) ≡ committed s → s ≤ n
+NotAfter st c n y = T (sets c (y .content)) → (s : Commit) → st (y .transaction) ≡ committed s → s .stamp ≤ n
 
 -- What a page of range g and column c holds, of the rows that pass Q: the value committed last among the records up to its lineage, else the inserted
 -- value, else 0 where no row was inserted.
 pub record Holds (h : History) (g c : ℕ) (Q : ℕ → Type 0) (x : PageWords) (cell : ℕ → ℕ) : Type 0 where
   pub through : Through h g (x .lineage)
   pub newest : All (NotAfter (stateOf h) c (x .newest)) (take (x .lineage) (recordsOf h g))
-  pub stamped : x .newest ≤ h .last
+  pub stamped : x .newest ≤ h .last .stamp
   pub cells : (r : ℕ) → rangeOf r ≡ g → Q r → toZ w32 (cell (within r)) ≡ cellThrough h c r (x .lineage)
 
 abbrev pub everyRow : ℕ → Type 0
@@ -115,7 +117,7 @@ pub record WaitingIs (S : Shape) (h : History) (made : ℕ → ℕ → ℕ) (x :
   pub replaced-by : x .replaced ≤ length (h .merges)
   pub early : (g c : ℕ) → g < S .ranges → c < S .columns → x .chunk ≡ chunkOf S g c → x .replaced ≤ made g c
   pub reach : (g c : ℕ) → g < S .ranges → c < S .columns → x .chunk ≡ chunkOf S g c → x .lineage ≤ length (recordsOf h g)
-  pub stamped : x .newest ≤ h .last
+  pub stamped : x .newest ≤ h .last .stamp
 
 abbrev pub madeIn : Shape → View → ℕ → ℕ → ℕ
 madeIn S v g c = (pageIn v (currentIn S v g c)) .made
@@ -139,7 +141,7 @@ abbrev pub OpensAre : List State → List ℕ → Type 0
 OpensAre ts l = (q : ℕ → Bool) → count (λ k. not (eqb k 0) && q k) l ≡ countFrom (λ i s. isActive s && q i) 1 ts
 
 abbrev pub scanAs : ℕ → Scan → ScanEntry
-scanAs i s = record { number = i; stamp = s .stamp; merges = s .merges }
+scanAs i s = record { number = i; stamp = s .snapshot .stamp; merges = s .merges; commits = s .snapshot .commits }
 
 pub record ScansAre (ss : List Scan) (l : List ScanEntry) : Type 0 where
   pub room : mostScans ≤ length l
@@ -159,13 +161,18 @@ pub record NotedIs (rows : List Row) (tail : List Record) (t n : ℕ) : Type 0 w
 abbrev pub NotesAre : List Row → List Record → List ℕ → List ℕ → Type 0
 NotesAre rows tail opens notes = (j : ℕ) → j < mostTransactions → getD opens j 0 ≢ 0 → NotedIs rows tail (getD opens j 0) (getD notes j 0)
 
--- ---- a scan's page holds the rows that the scan may see. It was made before the scan was opened.
+-- no commit of record y is after the first n
+abbrev pub Among : (ℕ → State) → ℕ → Record → Type 0
+Among st n y = (s : Commit) → st (y .transaction) ≡ committed s → s .ordinal ≤ n
+
+-- ---- a scan's page holds the rows that the scan may see. It was made before the scan was opened, and so was every commit that it has taken in.
 pub record ScanPageIs (S : Shape) (h : History) (s : Scan) (g c p : ℕ) (x : PageWords) (cell : ℕ → ℕ) : Type 0 where
   pub inside : p < pagesOf S
   pub early : s .merges ≤ length (h .merges)
   pub chunk : x .chunk ≡ chunkOf S g c
   pub made : x .made ≤ s .merges
-  pub holds : Holds h g c (λ r. T (seenAt h (s .stamp) ((rowAt h r) .inserter))) x cell
+  pub among : All (Among (stateOf h) (s .snapshot .commits)) (take (x .lineage) (recordsOf h g))
+  pub holds : Holds h g c (λ r. T (seenAt h (s .snapshot) ((rowAt h r) .inserter))) x cell
 
 abbrev pub ScanPageOf : Shape → History → View → Scan → ℕ → ℕ → Type 0
 ScanPageOf S h v s g c = ScanPageIs S h s g c (scanPage S v (s .merges) g c) (pageIn v (scanPage S v (s .merges) g c)) (cellIn v (scanPage S v (s .merges) g c))
@@ -174,7 +181,7 @@ abbrev pub ScanPagesAre : Shape → History → View → Type 0
 ScanPagesAre S h v = (k : ℕ) → T (scanAt h k .running) → (g c : ℕ) → g < S .ranges → c < S .columns → ScanPageOf S h v (scanAt h k) g c
 
 -- ---- the header
-pub record HeaderIs (S : Shape) (rows transactions scans last merges : ℕ) (word : ℕ → ℕ) : Type 0 where
+pub record HeaderIs (S : Shape) (rows transactions scans : ℕ) (last : Commit) (merges : ℕ) (word : ℕ → ℕ) : Type 0 where
   pub columns : word 0 ≡ S .columns
   pub ranges : word 1 ≡ S .ranges
   pub capacity : word 2 ≡ S .capacity
@@ -182,7 +189,8 @@ pub record HeaderIs (S : Shape) (rows transactions scans last merges : ℕ) (wor
   pub rows-given : word rowsAt ≡ rows
   pub transactions-given : word transactionsAt ≡ transactions
   pub scans-given : word scansAt ≡ scans
-  pub last-stamp : word stampAt ≡ last
+  pub last-stamp : word stampAt ≡ last .stamp
+  pub commits-made : word commitsAt ≡ last .ordinal
   pub merges-made : word mergesAt ≡ merges
 
 abbrev pub HeaderFor : Shape → History → View → Type 0

@@ -8,7 +8,7 @@ use lib.ListN.{getD}
 use Rattle.terms.specs.Measures.{Shape, rangeRows}
 use Rattle.layout.specs.Codes.{asOpen, asCommitted, asOriginal, asSetting, asFree, asCurrent}
 use Rattle.layout.specs.View.{View}
-use Rattle.layout.specs.declared.Region.the-variants.{Header, Opens, RowTransaction, RowState, RowStamp, RowLink, RowMask, TailTransaction, TailRow, TailKind, TailMask, TailLink, TailState, TailStamp, TailValues, Current, PageState, PageChunk, PageMade, PageReplaced, PageLineage, PageNewest, Cells}
+use Rattle.layout.specs.declared.Region.the-variants.{Header, Opens, RowTransaction, RowState, RowStamp, RowLink, RowMask, TailTransaction, TailRow, TailKind, TailMask, TailLink, TailState, TailStamp, TailValues, Current, PageState, PageChunk, PageMade, PageReplaced, PageLineage, PageNewest, Cells, RowOrdinal, TailOrdinal}
 use Rattle.terms.specs.declared.ScanEntry.{ScanEntry}
 use Rattle.terms.specs.Entries.{freeEntry, firstIndex, bears, isScan}
 
@@ -60,6 +60,7 @@ pub record RowWords : Type 0 where
   pub transaction : ℕ
   pub state : ℕ
   pub stamp : ℕ
+  pub ordinal : ℕ
   pub link : ℕ
   pub mask : ℕ
 
@@ -71,6 +72,7 @@ pub record RecordWords : Type 0 where
   pub link : ℕ
   pub state : ℕ
   pub stamp : ℕ
+  pub ordinal : ℕ
 
 -- `chunk` is that of the range and column; `made` and `replaced` are numbers of merges.
 pub record PageWords : Type 0 where
@@ -87,6 +89,7 @@ rowIn v r =
       transaction = getD (v RowTransaction) r 0;
       state = getD (v RowState) r 0;
       stamp = getD (v RowStamp) r 0;
+      ordinal = getD (v RowOrdinal) r 0;
       link = getD (v RowLink) r 0;
       mask = getD (v RowMask) r 0;
     }
@@ -101,6 +104,7 @@ recordIn v s =
       link = getD (v TailLink) s 0;
       state = getD (v TailState) s 0;
       stamp = getD (v TailStamp) s 0;
+      ordinal = getD (v TailOrdinal) s 0;
     }
 
 unfoldable pub pageIn : View → ℕ → PageWords

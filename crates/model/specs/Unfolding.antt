@@ -5,9 +5,9 @@ use Rattle.layout.specs.View.{put, renew, blank}
 use Rattle.model.specs.Stored.{anyBelow, rowIn, recordIn, pageIn, valueIn, currentIn, cellIn, openIndex, scanEntry}
 use Rattle.layout.specs.Regions.{slot}
 use Rattle.model.specs.Reading.{sees, headIn, visibleIn, answersFor, walk, foundIn, downTo, wordIn, setterAt, setterIn, commitStamp, setterStamp, lookupIn, shownIn, readIn, readCurrent, ownChanges, wasCurrent, scanPage, tally, sumIn}
-use Rattle.model.specs.Writing.{begun, noted, settled, freed, committedIn, abortedIn, insertedAt, insertedIn, nextSlot, appended, filledIn, newBitsIn, recordsWanted, originalAppended, settingAppended, updatedIn, deletedIn, applies, applied, newestOf, namedIn, strayIn, freeIn, mergedIn, releasable, releasedIn, madeView}
-use Rattle.model.specs.Calls.{notOpenIn, noScanIn, notGivenIn, openOther, heldIn, goneIn, lacksIn, notLaterIn, laterIn, outOfReachIn, openAmongIn, testsIn, replyIn, actIn, entriesAfter, viewIf, entriesIf, say, viewNext, entriesNext, sayAll}
+use Rattle.model.specs.Writing.{begun, noted, markAll, settled, freed, committedIn, abortedIn, insertedAt, insertedIn, nextSlot, appended, filledIn, newBitsIn, recordsWanted, originalAppended, settingAppended, updatedIn, deletedIn, applies, applied, newestOf, namedIn, strayIn, freeIn, mergedIn, releasable, releasedIn, madeView}
+use Rattle.model.specs.Calls.{notOpenIn, noScanIn, notGivenIn, openOther, heldIn, goneIn, lacksIn, earlierIn, laterIn, outOfReachIn, openAmongIn, testsIn, replyIn, actIn, entriesAfter, viewIf, entriesIf, say, viewNext, entriesNext, sayAll}
 
 unfoldable pub execution : Unit {0}
-unfolding put renew changed anyBelow rowIn recordIn pageIn slot valueIn currentIn cellIn openIndex scanEntry sees headIn visibleIn answersFor walk foundIn downTo wordIn setterAt setterIn commitStamp setterStamp lookupIn shownIn readIn readCurrent ownChanges wasCurrent scanPage tally sumIn begun noted settled freed committedIn abortedIn insertedAt insertedIn nextSlot appended filledIn newBitsIn recordsWanted originalAppended settingAppended updatedIn deletedIn applies applied newestOf namedIn strayIn freeIn mergedIn releasable releasedIn blank madeView notOpenIn noScanIn notGivenIn openOther heldIn goneIn lacksIn notLaterIn laterIn outOfReachIn openAmongIn testsIn replyIn actIn entriesAfter viewIf entriesIf say viewNext entriesNext sayAll verdict answerIf
+unfolding put renew changed anyBelow rowIn recordIn pageIn slot valueIn currentIn cellIn openIndex scanEntry sees headIn visibleIn answersFor walk foundIn downTo wordIn setterAt setterIn commitStamp setterStamp lookupIn shownIn readIn readCurrent ownChanges wasCurrent scanPage tally sumIn begun noted markAll settled freed committedIn abortedIn insertedAt insertedIn nextSlot appended filledIn newBitsIn recordsWanted originalAppended settingAppended updatedIn deletedIn applies applied newestOf namedIn strayIn freeIn mergedIn releasable releasedIn blank madeView notOpenIn noScanIn notGivenIn openOther heldIn goneIn lacksIn earlierIn laterIn outOfReachIn openAmongIn testsIn replyIn actIn entriesAfter viewIf entriesIf say viewNext entriesNext sayAll verdict answerIf
 execution = tt

@@ -9,11 +9,12 @@ use lib.Bits.{bitOr, bitXor}
 use mir.Syntax.{w32}
 use mir.Val.{ofZ}
 use Rattle.terms.specs.Measures.{Shape, rangeRows}
-use Rattle.history.specs.History.{any, bit, rangeOf}
+use Rattle.history.specs.History.{Commit, noCommit, any, bit, rangeOf}
 use Rattle.loops.specs.Change.{changed, filled, numbered, copied, marked}
-use Rattle.layout.specs.Regions.{columnsAt, rangesAt, capacityAt, sparesAt, rowsAt, transactionsAt, stampAt, mergesAt, firstSlot, slot}
-use Rattle.layout.specs.View.{View, blank, renew, put, rowsGiven, transactionsGiven, mergesMade, usedIn}
-use Rattle.layout.specs.declared.Region.the-variants.{Header, Opens, RowTransaction, RowState, RowStamp, RowLink, RowMask, TailTransaction, TailRow, TailKind, TailMask, TailLink, TailState, TailStamp, TailValues, Used, Current, PageState, PageChunk, PageMade, PageReplaced, PageLineage, PageNewest, Cells, Changes}
+use Rattle.layout.specs.Regions.{columnsAt, rangesAt, capacityAt, sparesAt, rowsAt, transactionsAt, stampAt, mergesAt, commitsAt, firstSlot, slot}
+use Rattle.layout.specs.View.{View, blank, renew, put, rowsGiven, transactionsGiven, mergesMade, commitsMade, usedIn}
+use Rattle.layout.specs.declared.Region.{Region}
+use Rattle.layout.specs.declared.Region.the-variants.{Header, Opens, RowTransaction, RowState, RowStamp, RowLink, RowMask, TailTransaction, TailRow, TailKind, TailMask, TailLink, TailState, TailStamp, TailValues, Used, Current, PageState, PageChunk, PageMade, PageReplaced, PageLineage, PageNewest, Cells, Changes, RowOrdinal, TailOrdinal}
 use Rattle.terms.specs.declared.ScanEntry.{ScanEntry}
 use Rattle.layout.specs.Sizes.{sizesOf}
 use Rattle.terms.specs.Entries.{firstIndex}
@@ -40,14 +41,15 @@ markTails S used ks t w zero l = l
 markTails S used ks t w (suc g) l =
     marked ks (firstSlot (S .capacity) g) (getD used g 0) t (firstSlot (S .capacity) g) w (markTails S used ks t w g l)
 
--- commit and abort: every given row and used record that bears t gets the state and the stamp
-unfoldable pub settled : Shape → ℕ → ℕ → ℕ → View → View
-settled S t state stamp v =
-    let given = rowsGiven v in
-    renew TailStamp (markTails S (v Used) (v TailTransaction) t stamp (S .ranges) (v TailStamp))
-    (renew TailState (markTails S (v Used) (v TailTransaction) t state (S .ranges) (v TailState))
-    (renew RowStamp (marked (v RowTransaction) 0 given t 0 stamp (v RowStamp))
-    (renew RowState (marked (v RowTransaction) 0 given t 0 state (v RowState)) v)))
+-- every given row and used record that bears t gets w: the rows in one region, the records in another
+unfoldable pub markAll : Shape → ℕ → Region → Region → ℕ → View → View
+markAll S t rows tails w v =
+    renew tails (markTails S (v Used) (v TailTransaction) t w (S .ranges) (v tails)) (renew rows (marked (v RowTransaction) 0 (rowsGiven v) t 0 w (v rows)) v)
+
+-- commit and abort: they get the state, and the stamp and the ordinal of the commit
+unfoldable pub settled : Shape → ℕ → ℕ → Commit → View → View
+settled S t state s v =
+    markAll S t RowOrdinal TailOrdinal (s .ordinal) (markAll S t RowStamp TailStamp (s .stamp) (markAll S t RowState TailState state v))
 
 -- the entry of t is free again
 unfoldable pub freed : ℕ → View → View
@@ -55,11 +57,16 @@ freed t v =
     let j = openIndex v t in
     put Changes j 0 (put Opens j 0 v)
 
+-- the commit that comes next, at stamp s
+abbrev pub nextIn : View → ℕ → Commit
+nextIn v s = record { stamp = s; ordinal = nextWord (commitsMade v) }
+
 unfoldable pub committedIn : Shape → ℕ → ℕ → View → View
-committedIn S t stamp v = put Header stampAt stamp (freed t (settled S t asCommitted stamp v))
+committedIn S t s v =
+    put Header commitsAt (nextIn v s .ordinal) (put Header stampAt s (freed t (settled S t asCommitted (nextIn v s) v)))
 
 unfoldable pub abortedIn : Shape → ℕ → View → View
-abortedIn S t v = freed t (settled S t asAborted 0 v)
+abortedIn S t v = freed t (settled S t asAborted noCommit v)
 
 -- ---- insert
 -- the values of the first n columns go into cell i of the current pages of range g
@@ -74,7 +81,7 @@ insertedAt S t vs r v =
     noted t
     (put Header rowsAt (r + 1)
     (renew Cells (putCells S (v Current) (rangeOf r) (within r) vs (S .columns) (v Cells))
-    (put RowMask r 0 (put RowLink r 0 (put RowStamp r 0 (put RowState r asOpen (put RowTransaction r t v)))))))
+    (put RowMask r 0 (put RowLink r 0 (put RowOrdinal r 0 (put RowStamp r 0 (put RowState r asOpen (put RowTransaction r t v))))))))
 
 unfoldable pub insertedIn : Shape → ℕ → List ℤ → View → View
 insertedIn S t vs v = insertedAt S t vs (rowsGiven v) v
@@ -92,9 +99,10 @@ appended S t r kind mask v =
     let s = nextSlot S v g in
     put RowLink r k
     (put Used g k
+    (put TailOrdinal s 0
     (put TailStamp s 0
     (put TailState s asOpen
-    (put TailLink s ((rowIn v r) .link) (put TailMask s mask (put TailKind s kind (put TailRow s r (put TailTransaction s t v))))))))
+    (put TailLink s ((rowIn v r) .link) (put TailMask s mask (put TailKind s kind (put TailRow s r (put TailTransaction s t v)))))))))
 
 -- the words of all columns of the record at slot s
 unfoldable pub filledIn : Shape → ℕ → (ℕ → ℕ) → View → View

@@ -6,9 +6,11 @@ use terms::Transaction;
 ghost use mathlib.Core.Path.{_≡_};
 ghost use Rattle.terms.specs.Entries.{freeEntry};
 
-// A reader: it sees what was committed at or before its stamp, and what transaction `me` has changed so far (number 0: no such changes).
+// A reader: it sees what was committed at or before its stamp by one of the first so many commits, and what transaction `me` has changed so far (number 0: no such
+// changes).
 pub struct Reader {
     pub stamp: Stamp,
+    pub commits: u32,
     pub me: Transaction,
 }
 
@@ -31,5 +33,6 @@ pub fn free_entry() -> ScanEntry
         number: 0,
         stamp: 0,
         merges: 0,
+        commits: 0,
     }
 }

@@ -13,27 +13,26 @@ use Rattle.terms.specs.declared.Refusal.{Refusal}
 use Rattle.layout.specs.Sizes.{sizesOf, bytesNeeded}
 use Rattle.layout.specs.View.{View, lay, viewOf}
 use Rattle.layout.proofs.Lay.{view-lay}
-use Rattle.history.specs.History.{Call, History, start, answer, run, tests, verdict, accept, seenAt}
-use Rattle.history.specs.Claims.{strike, answerAt, ReadAt, Striking, Stability}
+use Rattle.history.specs.History.{Call, History, start, answer, run, tests, verdict, accept}
+use Rattle.history.specs.Claims.{strike, answerAt, Accepts, Striking, MinutesStable, ScansStable}
 use Rattle.history.specs.Lists.{All, nil, cons}
 use Rattle.history.proofs.Lists.{both-test, le-test, all-filterb, is-true, clash}
-use Rattle.history.proofs.Accepted.{passed}
 use Rattle.history.proofs.Striking.{striking}
-use Rattle.history.proofs.Stability.{stability, accepted, replies, reads-reply, reads-bounds}
+use Rattle.history.proofs.Stability.{minutes-stable, scans-stable, accepted, replies, reads-reply}
+use Rattle.history.proofs.Latest.{read-committed}
+use Rattle.history.proofs.Invariants.{invariants}
 use Rattle.facts.specs.Usable.{usable}
 use Rattle.making.specs.Made.{made, madeList}
 use Rattle.making.proofs.Answers.{made-done}
 use Rattle.terms.specs.Entries.{freeEntry}
-use Rattle.model.specs.Reading.{reader}
 use Rattle.model.specs.Calls.{Typed, viewNext, viewAfter, entriesAfterAll as modelList}
-use Rattle.model.specs.Claims.{storeAfter, historyAfter, ReadsGive}
-use Rattle.model.proofs.lookups.Heads.{sees-at}
-use Rattle.model.proofs.Calls.{current-read, one-call}
+use Rattle.model.specs.Claims.{storeAfter, historyAfter}
+use Rattle.model.proofs.Calls.{one-call}
 use Rattle.model.proofs.Made.{small-shape, made-represents}
-use Rattle.model.proofs.Claims.{represented, reads, pages-hold, scans-keep}
+use Rattle.model.proofs.Claims.{pages-hold, scans-keep}
 use Rattle.promise.specs.Represents.{MemoryRepresents}
 use Rattle.promise.specs.Promise.{storeView, answerOf, memoryAfter, lend, left}
-use Rattle.promise.specs.Demands.{Accepted, memoryMade, storeAnswers, storeLeft, MakingAccepted, ReadsCommitted, PagesCommitted, ScansKept, Demand3, StrikingStore, storeAnswerAt, ReadIn, StabilityStore}
+use Rattle.promise.specs.Demands.{Accepted, memoryMade, storeAnswers, storeLeft, MakingAccepted, ReadsCommitted, PagesCommitted, ScansKept, Demand3, StrikingStore, storeAnswerAt, AcceptsIn, MinutesStableStore, ScansStableStore}
 use Rattle.promise.proofs.Represents.{made-starts, represents-usable, view-is, memory-is, list-is, represents-call, represents-answers}
 
 -- ---- an accepted making: its measures are within their limits, and memory and list are long enough
@@ -85,17 +84,23 @@ unfolding StrikingStore Demand3 strike Striking
 striking-store S m ps a cs ys =
     rw (demand3 S m ps a cs ys, demand3 S m ps a (strike cs) (all-filterb _ ys)) (striking S cs)
 
--- a read of the store's list is one of the history's
-read-in : (S : Shape) (m : List ℕ) (ps : List ScanEntry) → Accepted S m ps → (cs : List Call) → All Typed cs → (i t r c : ℕ) → ReadIn S m ps cs i t r c → ReadAt S cs i t r c
+-- a call that the store accepts is accepted by the history
+accepts-in : (S : Shape) (m : List ℕ) (ps : List ScanEntry) → Accepted S m ps → (cs : List Call) → All Typed cs → (i : ℕ) (x : Call) → AcceptsIn S m ps cs i x → Accepts S cs i x
 unfolding Demand3 storeAnswerAt answerAt
-read-in S m ps a cs ys i t r c x =
-    record { inside = x .inside; reads = x .reads; accepted = rw (demand3 S m ps a cs ys) at (x .accepted) }
+accepts-in S m ps a cs ys i x p =
+    record { inside = p .inside; is = p .is; accepted = rw (demand3 S m ps a cs ys) at (p .accepted) }
 
-pub stability-store : StabilityStore
-unfolding StabilityStore Demand3 storeAnswerAt answerAt Stability
-stability-store S m ps a cs ys i j t r c x y =
+pub minutes-stable-store : MinutesStableStore
+unfolding MinutesStableStore Demand3 storeAnswerAt answerAt MinutesStable
+minutes-stable-store S m ps a cs ys i j t r c b past x y =
     rw (demand3 S m ps a cs ys)
-    (stability S cs i j t r c (read-in S m ps a cs ys i t r c x) (read-in S m ps a cs ys j t r c y))
+    (minutes-stable S cs i j t r c b past (accepts-in S m ps a cs ys i _ x) (accepts-in S m ps a cs ys j _ y))
+
+pub scans-stable-store : ScansStableStore
+unfolding ScansStableStore Demand3 storeAnswerAt answerAt ScansStable
+scans-stable-store S m ps a cs ys i j x q u w =
+    rw (demand3 S m ps a cs ys)
+    (scans-stable S cs i j x q (accepts-in S m ps a cs ys i x u) (accepts-in S m ps a cs ys j x w))
 
 -- ---- the memory and the list after a list of calls
 record Left (m : List ℕ) (ps : List ScanEntry) (S : Shape) (h : History) (cs : List Call) : Type 0 where
@@ -151,18 +156,13 @@ module _ (S : Shape) (m : List ℕ) (ps : List ScanEntry) (a : Accepted S m ps) 
 
 -- ---- demand 2
 pub reads-committed : ReadsCommitted
-unfolding ReadsCommitted ReadsGive
+unfolding ReadsCommitted historyAfter
 reads-committed S m ps a cs ys x t r c y q n =
     let h = historyAfter S cs in
     let e : answerOf (storeLeft S m ps cs) x ≡ answer S h x =
     represents-call (store-same S m ps a ys) x y .0 in
     let w : verdict (tests S h x) ≡ accept = accepted S h x (rw e at n) in
-    let u = enough S m ps a in
-    let o = represented S (rw (u .within) tt) (length ps) (u .entries) ys in
-    let b = reads-bounds S h q (o .1 .invariants .timely) (passed (tests S h x) w) in
-    e ∙ replies S h x w ∙ reads-reply S h q
-    ∙ sym (current-read (o .0) (o .1) (reader t 0) r c (seenAt h t) (sees-at h t) (b .1) (b .2))
-    ∙ reads S (rw (u .within) tt) (length ps) (u .entries) cs ys t r c (b .1) (b .2)
+    e ∙ replies S h x w ∙ reads-reply S h q ∙ read-committed h (invariants S cs .order) t r c
 
 pub pages-committed : PagesCommitted
 unfolding PagesCommitted Rattle.model.specs.Claims.PagesHold

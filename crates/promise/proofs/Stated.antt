@@ -33,7 +33,7 @@ use Rattle.model.specs.Stored.{RecordWords, rowIn, recordIn, pageIn, pagesOf, a
 use Rattle.layout.specs.Regions.{slot}
 use Rattle.model.specs.Preconditions.{ChunksCurrent}
 use Rattle.model.specs.Writing.{newBitsIn, recordsWanted, freeIn}
-use Rattle.model.specs.Calls.{openIn, openOther, standsFor, anyRecord, notOpenIn, noScanIn, notGivenIn, heldIn, goneIn, lacksIn, notLaterIn, laterIn, outOfReachIn, openAmongIn, testsIn, replyIn, say}
+use Rattle.model.specs.Calls.{openIn, openOther, standsFor, anyRecord, notOpenIn, noScanIn, notGivenIn, heldIn, goneIn, lacksIn, earlierIn, laterIn, outOfReachIn, openAmongIn, testsIn, replyIn, say}
 use Rattle.model.proofs.Lists.{first-below, first-passes, any-count, count-rest}
 use Rattle.model.proofs.lookups.Heads.{slot-is}
 use Rattle.model.proofs.changes.Insert.{bit-none}
@@ -244,7 +244,7 @@ module _ (S : Shape) (v : View) (ps : List ScanEntry) (long : length (v Opens) �
   is-open t n = open-test t .0 (by-test (λ b. T b) (openIn v t) (λ _. tt) (λ z. n (λ p. T-not (openIn v t) z (open-test t .1 p))))
 
   meets : (c : Call) → Meets (testsIn S v ps c) (stated S v ps c)
-  unfolding testsIn stated notGivenIn noColumn noRange laterIn notLaterIn outOfReachIn
+  unfolding testsIn stated notGivenIn noColumn noRange laterIn earlierIn outOfReachIn
   meets begin = test (le-test _ _) (λ _. test busy-test (λ _. done))
   meets (insert t vs) = test (closed-test t) (λ _. test (le-test _ _) (λ _. done))
   meets (update t r m vs) =

@@ -13,13 +13,13 @@ use Rattle.layout.specs.Codes.{asWaiting}
 use Rattle.terms.specs.Measures.{Shape, rangeRows, withinLimits}
 use Rattle.terms.specs.declared.ScanEntry.{ScanEntry}
 use Rattle.layout.specs.declared.Region.the-variants.{Opens, TailRow, Used}
-use Rattle.layout.specs.View.{View, rowsGiven, transactionsGiven, lastStamp, mergesMade, usedIn}
+use Rattle.layout.specs.View.{View, rowsGiven, transactionsGiven, lastStamp, mergesMade, commitsMade, usedIn}
 use Rattle.layout.specs.Sizes.{sizesOf}
 use Rattle.layout.proofs.Limits.{proper}
-use Rattle.history.specs.History.{History, unknown, count, stateOf, rowAt, rangeOf, recordsOf, scanAt, stampOf}
+use Rattle.history.specs.History.{History, unknown, count, stateOf, rowAt, rangeOf, recordsOf, scanAt, commitOf}
 use Rattle.history.proofs.Lists.{all-at, by-cases, cond-ap}
 use Rattle.history.specs.Invariants.{isGiven, RecordSound, Timely}
-use Rattle.history.proofs.States.{stamp-last}
+use Rattle.history.proofs.States.{commit-last}
 use Rattle.history.proofs.Order.{sound-at}
 use Rattle.history.proofs.Ranges.{records-range}
 use Rattle.history.proofs.Links.{last-of-row}
@@ -67,8 +67,8 @@ module _ {S : Shape} {v : View} {ps : List ScanEntry} {h : History} (o : Represe
   unfolding stateOf
   transaction-given t g = let r = live-given isGiven (h .transactions) t unknown refl g in (r .0, omega (arith, r .1, o .header .transactions-given))
 
-  stamp-within : (t : ℕ) → stampOf (stateOf h t) ≤ lastStamp v
-  stamp-within t = omega (arith, stamp-last h (k .invariants .order .stamps) t, o .header .last-stamp)
+  stamp-within : (t : ℕ) → commitOf (stateOf h t) .stamp ≤ lastStamp v
+  stamp-within t = omega (arith, commit-last h (k .invariants .order .stamps) t .stamps, o .header .last-stamp)
 
   stored : Stored (sizesOf S) v
   stored =
@@ -92,7 +92,7 @@ module _ {S : Shape} {v : View} {ps : List ScanEntry} {h : History} (o : Represe
   scan-stamps : (j : ℕ) → getD ps j freeEntry .number ≢ 0 → getD ps j freeEntry .stamp ≤ lastStamp v
   unfolding Timely scanAt
   scan-stamps j n =
-      omega (arith, ap (λ (p : ScanEntry). p .stamp) (entry-stands scanKind (h .scans) ps (o .scans .same) j n), k .invariants .timely (getD ps j freeEntry .number), o .header .last-stamp)
+      omega (arith, ap (λ (p : ScanEntry). p .stamp) (entry-stands scanKind (h .scans) ps (o .scans .same) j n), k .invariants .timely (getD ps j freeEntry .number) .stamp, o .header .last-stamp)
 
   scan-merges : (j : ℕ) → getD ps j freeEntry .number ≢ 0 → getD ps j freeEntry .merges ≤ mergesMade v
   unfolding scanAt
@@ -103,6 +103,11 @@ module _ {S : Shape} {v : View} {ps : List ScanEntry} {h : History} (o : Represe
         o .scanPages (getD ps j freeEntry .number) (number-live scanKind (h .scans) ps (o .scans .same) j n) 0 0 (k .small .some-range) (k .small .some-column) .early,
         o .header .merges-made,
       )
+
+  scan-commits : (j : ℕ) → getD ps j freeEntry .number ≢ 0 → getD ps j freeEntry .commits ≤ commitsMade v
+  unfolding Timely scanAt
+  scan-commits j n =
+      omega (arith, ap (λ (p : ScanEntry). p .commits) (entry-stands scanKind (h .scans) ps (o .scans .same) j n), k .invariants .timely (getD ps j freeEntry .number) .commits, o .header .commits-made)
 
   -- ---- pages
   waits-at : (p : ℕ) → p < pagesOf S → asWaiting ≤ (pageIn v p) .state → WaitingIs S h (madeIn S v) (pageIn v p)
@@ -138,6 +143,7 @@ module _ {S : Shape} {v : View} {ps : List ScanEntry} {h : History} (o : Represe
         waiting-stamps = λ p b u. omega (arith, waits-at p b u .stamped, o .header .last-stamp);
         scan-stamps = scan-stamps;
         scan-merges = scan-merges;
+        scan-commits = scan-commits;
         waiting-merges = λ p b u. omega (arith, waits-at p b u .replaced-by, o .header .merges-made);
         open-differ = numbers-apart openKind (h .transactions) (v Opens) (o .opens);
         scans-differ = numbers-apart scanKind (h .scans) ps (o .scans .same);

@@ -18,10 +18,10 @@ use Rattle.layout.specs.declared.Sizes.{Sizes}
 use Rattle.layout.specs.declared.Region.{Region}
 use Rattle.layout.specs.declared.Region.the-variants.{Opens, RowTransaction, RowStamp, TailTransaction, TailStamp, Used, PageState, PageReplaced, PageLineage, PageNewest}
 use Rattle.layout.specs.Regions.{len, firstSlot}
-use Rattle.layout.specs.View.{View, rowsGiven, transactionsGiven, scansGiven, lastStamp, mergesMade, usedIn, Long}
+use Rattle.layout.specs.View.{View, rowsGiven, transactionsGiven, scansGiven, lastStamp, mergesMade, commitsMade, usedIn, Long}
 use Rattle.terms.specs.Entries.{freeEntry}
 use Rattle.scans.specs.Entries.{everyOpen, among, differ}
-use Rattle.facts.specs.Facts.{each, rowsBetween, rangeBetween, currentAtMost, waitingAtMost, storedWithin, countsWithin, rowNamed, rangeNamesRows, recordsNameRows, numbersGiven, linkHolds, rowLinked, recordLinked, rangeLinked, linksHold, stampsWithin, mergesWithin, openDiffer, chunkCurrent, chunksCurrent, currentLineage, waitingLineage, lineagesWithin, factsHold}
+use Rattle.facts.specs.Facts.{each, rowsBetween, rangeBetween, currentAtMost, waitingAtMost, storedWithin, countsWithin, rowNamed, rangeNamesRows, recordsNameRows, numbersGiven, linkHolds, rowLinked, recordLinked, rangeLinked, linksHold, stampsWithin, mergesWithin, commitsWithin, openDiffer, chunkCurrent, chunksCurrent, currentLineage, waitingLineage, lineagesWithin, factsHold}
 use Rattle.layout.specs.Sizes.{Proper}
 use Rattle.facts.proofs.Each.{each-true}
 use Rattle.layout.proofs.Indices.{tail-in}
@@ -138,6 +138,10 @@ module _ (s : Sizes) (v : View) (ps : List ScanEntry) (z : Proper s) (long : Lon
       both (every-open (λ p. leb (p .merges) (mergesMade v)) ps (λ j n. le-leb _ _ (u .scan-merges j n)))
       (each-true (waitingAtMost v PageReplaced (mergesMade v)) (s .pages) (λ p h. waiting-holds v PageReplaced (mergesMade v) p (u .waiting-merges p h)))
 
+  commits : commitsWithin v ps ≡ true
+  unfolding commitsWithin
+  commits = every-open (λ p. leb (p .commits) (commitsMade v)) ps (λ j n. le-leb _ _ (u .scan-commits j n))
+
   opens-differ : openDiffer v ps ≡ true
   unfolding openDiffer
   opens-differ =
@@ -159,4 +163,4 @@ module _ (s : Sizes) (v : View) (ps : List ScanEntry) (z : Proper s) (long : Lon
 
   pub facts-hold : factsHold s v ps ≡ true
   unfolding factsHold
-  facts-hold = rw (counts, named, numbers, links, stamps, merges, opens-differ, chunks-current, lineages)
+  facts-hold = rw (counts, named, numbers, links, stamps, merges, commits, opens-differ, chunks-current, lineages)

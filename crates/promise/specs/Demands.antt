@@ -16,9 +16,9 @@ use Rattle.terms.specs.declared.ScanEntry.{ScanEntry}
 use Rattle.terms.specs.declared.Refusal.{Refusal}
 use Rattle.words.specs.Words.{Bytes}
 use Rattle.layout.specs.Sizes.{bytesNeeded}
-use Rattle.history.specs.History.{Call, openScan, start, answers, run, tests, verdict, accept, scanAt}
+use Rattle.history.specs.History.{Call, readAt, openScan, Snapshot, start, answers, run, tests, verdict, accept, scanAt}
 use Rattle.terms.specs.Refusals.{isRefused}
-use Rattle.history.specs.Claims.{strike, plainAnswers, Reads, historyBefore, callAt}
+use Rattle.history.specs.Claims.{strike, plainAnswers, Reads, AsksScan, historyBefore, callAt}
 use Rattle.history.specs.Lists.{All}
 use Rattle.history.specs.Latest.{lastCommitted}
 use Rattle.making.specs.Made.{made, madeList}
@@ -71,7 +71,7 @@ unfoldable pub ReadsCommitted : Type 0
 ReadsCommitted =
     Every
     (λ S m ps cs.
-    (x : Call) (t r c : ℕ) → Typed x → Reads (historyAfter S cs) x t r c → T (not (isRefused (answerOf (storeLeft S m ps cs) x)))
+    (x : Call) (t : Snapshot) (r c : ℕ) → Typed x → Reads (historyAfter S cs) x t r c → T (not (isRefused (answerOf (storeLeft S m ps cs) x)))
     → answerOf (storeLeft S m ps cs) x ≡ lastCommitted (historyAfter S cs) t r c)
 
 -- 11.4: what current pages hold (`PageHolds`)
@@ -101,18 +101,27 @@ Demand3 = Every (λ S m ps cs. storeAnswers S m ps cs ≡ answers S start cs)
 unfoldable pub StrikingStore : Type 0
 StrikingStore = Every (λ S m ps cs. plainAnswers cs (storeAnswers S m ps cs) ≡ plainAnswers (strike cs) (storeAnswers S m ps (strike cs)))
 
--- 11.7: stability, of any two reads in the
--- list for one stamp, row and column that are not refused
+-- 11.7: stability, of reads in the list that are not refused
 unfoldable pub storeAnswerAt : Shape → List ℕ → List ScanEntry → List Call → ℕ → Answer
 storeAnswerAt S m ps cs i = getD (storeAnswers S m ps cs) i Answer.Done
 
-pub record ReadIn (S : Shape) (m : List ℕ) (ps : List ScanEntry) (cs : List Call) (i t r c : ℕ) : Type 0 where
+-- call i is x, and is not refused
+pub record AcceptsIn (S : Shape) (m : List ℕ) (ps : List ScanEntry) (cs : List Call) (i : ℕ) (x : Call) : Type 0 where
   pub inside : i < length cs
-  pub reads : Reads (historyBefore S cs i) (callAt cs i) t r c
+  pub is : callAt cs i ≡ x
   pub accepted : T (not (isRefused (storeAnswerAt S m ps cs i)))
 
-unfoldable pub StabilityStore : Type 0
-StabilityStore =
+-- a read at a minute before the last commit's answers what every later one does
+unfoldable pub MinutesStableStore : Type 0
+MinutesStableStore =
     Every
     (λ S m ps cs.
-    (i j t r c : ℕ) → ReadIn S m ps cs i t r c → ReadIn S m ps cs j t r c → storeAnswerAt S m ps cs i ≡ storeAnswerAt S m ps cs j)
+    (i j t r c : ℕ) → i ≤ j → t < historyBefore S cs i .last .stamp → AcceptsIn S m ps cs i (readAt t r c) → AcceptsIn S m ps cs j (readAt t r c)
+    → storeAnswerAt S m ps cs i ≡ storeAnswerAt S m ps cs j)
+
+-- whatever is asked of a scan twice has one answer
+unfoldable pub ScansStableStore : Type 0
+ScansStableStore =
+    Every
+    (λ S m ps cs.
+    (i j : ℕ) (x : Call) → AsksScan x → AcceptsIn S m ps cs i x → AcceptsIn S m ps cs j x → storeAnswerAt S m ps cs i ≡ storeAnswerAt S m ps cs j)

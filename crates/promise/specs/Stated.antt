@@ -119,7 +119,7 @@ stated S v ps (delete t r) =
     ∷ Refusal.Gone on Gone S v t r
     ∷ Refusal.Tail on Lacks S v r 1
     ∷ []
-stated S v ps (commit t s) = Refusal.Transaction on (¬ Open v t) ∷ Refusal.Time on (s ≤ lastStamp v) ∷ []
+stated S v ps (commit t s) = Refusal.Transaction on (¬ Open v t) ∷ Refusal.Time on (s < lastStamp v) ∷ []
 stated S v ps (abort t) = Refusal.Transaction on (¬ Open v t) ∷ []
 stated S v ps (latest r c) = Refusal.Row on (rowsGiven v ≤ r) ∷ Refusal.Column on (S .columns ≤ c) ∷ []
 stated S v ps (readAt s r c) =

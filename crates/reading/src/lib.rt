@@ -21,7 +21,10 @@ use rows::slot_of;
 use rows::visible;
 use terms::Answer;
 use terms::Row;
+use terms::ScanEntry;
+use terms::Stamp;
 use terms::Tail;
+use terms::Transaction;
 use words::of_word;
 ghost use mathlib.Core.Path.{_≡_};
 ghost use Prim.Native.Nat.{_+_, _≤_, _<_};
@@ -29,7 +32,7 @@ ghost use lib.Dec.{leb};
 ghost use Rattle.layout.specs.Regions.{firstSlot};
 ghost use Rattle.layout.specs.View.{rowsGiven, usedIn, viewOf, Suffices};
 ghost use Rattle.model.specs.Stored.{recordIn, pageIn, valueIn};
-ghost use Rattle.model.specs.Reading.{answersFor, walk, floor, downTo, foundIn, wordIn, setterAt, commitStamp, setterStamp, lookupIn, shownIn, readIn, readCurrent};
+ghost use Rattle.model.specs.Reading.{reader, snapshotOf, answersFor, walk, floor, downTo, foundIn, wordIn, setterAt, commitStamp, setterStamp, lookupIn, shownIn, readIn, readCurrent};
 ghost use Rattle.layout.specs.Sizes.{Proper};
 ghost use Rattle.model.specs.Preconditions.{shapeIn, Linked, Pooled};
 ghost use Rattle.rows.specs.Finders.{Inside};
@@ -46,6 +49,17 @@ pub fn value(mem: &[u8], s: Sizes, at: usize, c: u32) -> u32
     ensures { λ r. ⌜ r ≡ valueIn (shapeIn s) (viewOf s (now (mem .entry))) at c ⌝ }
 {
     read(mem, s, Region::TailValues, at * s.columns + c as usize)
+}
+
+// The reader of an open scan: of the commits made before its opening.
+pub fn scan_reader(scan: ScanEntry) -> Reader
+    ensures { λ r. ⌜ r ≡ reader (snapshotOf scan) 0 ⌝ }
+{
+    Reader {
+        stamp: Stamp(scan.stamp),
+        commits: scan.commits,
+        me: Transaction(0),
+    }
 }
 
 // Whether the tail record at a slot answers for column c: it holds the original value, or is a setting that the reader sees.

@@ -1,4 +1,4 @@
-// The scan list in bytes, three words to an entry, as `gatebook` keeps it: its buffers are arrays of bytes. It may be of any length.
+// The scan list in bytes, four words to an entry, as `gatebook` keeps it: its buffers are arrays of bytes. It may be of any length.
 use loops::fill;
 use scans::Scans;
 use scans::add_open;
@@ -18,7 +18,7 @@ ghost use Rattle.scans.specs.Table.{tableOf};
 ghost use Rattle.requests.specs.Packed.{entryBytes, entriesOf};
 
 // The words of an entry, and its bytes, four to a word.
-const ENTRY_WORDS: usize = 3;
+const ENTRY_WORDS: usize = 4;
 
 pub const ENTRY_BYTES: usize = 4 * ENTRY_WORDS;
 
@@ -31,6 +31,7 @@ fn entry_at(list: &[u8], i: usize) -> ScanEntry
         number: get(list, w),
         stamp: get(list, w + 1),
         merges: get(list, w + 2),
+        commits: get(list, w + 3),
     }
 }
 
@@ -60,6 +61,7 @@ pub fn put_entry(list: &mut [u8], i: usize, p: ScanEntry)
         put(list, w, p.number);
         put(list, w + 1, p.stamp);
         put(list, w + 2, p.merges);
+        put(list, w + 3, p.commits);
     }
 }
 

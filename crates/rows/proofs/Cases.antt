@@ -1,14 +1,14 @@
 -- The answers of a few tests, one lemma for each way through the code.
 use Prim.Native.Nat.{ℕ, _≤_, _<_}
 use mathlib.Core.Path.{_≡_, refl, sym, _∙_, ap}
-use mathlib.Core.Bool.{Bool, true, false, not, cond, or-false, and-false, and-true}
+use mathlib.Core.Bool.{Bool, true, false, not, cond, _&&_, or-false, and-false, and-true}
 use native.Mathlib.Omega.{arith}
 use lib.Dec.{leb, ltb, eqb}
 use lib.ListN.{getD}
 use borrow.Author.Tests.{eq-eqb, ne-eqb, lt-ltb, le-ltb, not-true, not-false}
 use Rattle.terms.specs.Measures.{Shape}
 use Rattle.loops.specs.declared.Found.{Found}
-use Rattle.layout.specs.declared.Region.the-variants.{RowTransaction, RowState, RowStamp, RowLink, TailTransaction, TailKind, TailState, TailStamp}
+use Rattle.layout.specs.declared.Region.the-variants.{RowTransaction, RowState, RowStamp, RowLink, TailTransaction, TailKind, TailState, TailStamp, RowOrdinal, TailOrdinal}
 use Rattle.layout.specs.View.{View}
 use Rattle.history.specs.History.{rangeOf}
 use Rattle.model.specs.declared.Reader.{Reader}
@@ -17,32 +17,32 @@ use Rattle.layout.specs.Regions.{slot}
 use Rattle.model.specs.Reading.{sees, seesRow, seesRecord, hasRecord, headIn, visibleIn}
 use Rattle.rows.specs.Finders.{headAt, Inside}
 
-module _ (who : Reader) (state stamp transaction : ℕ) where
-  pub sees-committed : state ≡ 1 → leb stamp (who .stamp .0) ≡ sees who state stamp transaction
+module _ (who : Reader) (state stamp ordinal transaction : ℕ) where
+  pub sees-committed : (b : Bool) → b ≡ (leb stamp (who .stamp .0) && leb ordinal (who .commits)) → state ≡ 1 → b ≡ sees who state stamp ordinal transaction
   unfolding sees
-  sees-committed e = rw e (sym (or-false (leb stamp (who .stamp .0))))
+  sees-committed b q e = q ∙ rw e (sym (or-false (leb stamp (who .stamp .0) && leb ordinal (who .commits))))
 
-  pub sees-ended : (state ≡ 1 → ⊥) → (state ≡ 0 → ⊥) → false ≡ sees who state stamp transaction
+  pub sees-ended : (state ≡ 1 → ⊥) → (state ≡ 0 → ⊥) → false ≡ sees who state stamp ordinal transaction
   unfolding sees
   sees-ended h k = rw (ne-eqb state 1 h, ne-eqb state 0 k)
 
-  pub sees-other : state ≡ 0 → (transaction ≡ who .me .0 → ⊥) → false ≡ sees who state stamp transaction
+  pub sees-other : state ≡ 0 → (transaction ≡ who .me .0 → ⊥) → false ≡ sees who state stamp ordinal transaction
   unfolding sees
   sees-other e h = rw (e, ne-eqb transaction (who .me .0) h, and-false (not (eqb (who .me .0) 0)))
 
-  pub sees-own : state ≡ 0 → transaction ≡ who .me .0 → not (eqb transaction 0) ≡ sees who state stamp transaction
+  pub sees-own : state ≡ 0 → transaction ≡ who .me .0 → not (eqb transaction 0) ≡ sees who state stamp ordinal transaction
   unfolding sees
   sees-own e h = rw (e, h, eq-eqb (who .me .0) (who .me .0) refl, and-true (not (eqb (who .me .0) 0)))
 
 -- the row or record i, word by word
-module _ (v : View) (who : Reader) (i state stamp transaction : ℕ) (x : Bool) (e : x ≡ sees who state stamp transaction) where
-  pub row-sees : state ≡ getD (v RowState) i 0 → stamp ≡ getD (v RowStamp) i 0 → transaction ≡ getD (v RowTransaction) i 0 → x ≡ seesRow who (rowIn v i)
+module _ (v : View) (who : Reader) (i state stamp ordinal transaction : ℕ) (x : Bool) (e : x ≡ sees who state stamp ordinal transaction) where
+  pub row-sees : state ≡ getD (v RowState) i 0 → stamp ≡ getD (v RowStamp) i 0 → ordinal ≡ getD (v RowOrdinal) i 0 → transaction ≡ getD (v RowTransaction) i 0 → x ≡ seesRow who (rowIn v i)
   unfolding rowIn
-  row-sees a b c = e ∙ rw (a, b, c)
+  row-sees a b c d = e ∙ rw (a, b, c, d)
 
-  pub record-sees : state ≡ getD (v TailState) i 0 → stamp ≡ getD (v TailStamp) i 0 → transaction ≡ getD (v TailTransaction) i 0 → x ≡ seesRecord who (recordIn v i)
+  pub record-sees : state ≡ getD (v TailState) i 0 → stamp ≡ getD (v TailStamp) i 0 → ordinal ≡ getD (v TailOrdinal) i 0 → transaction ≡ getD (v TailTransaction) i 0 → x ≡ seesRecord who (recordIn v i)
   unfolding recordIn
-  record-sees a b c = e ∙ rw (a, b, c)
+  record-sees a b c d = e ∙ rw (a, b, c, d)
 
 -- ---- what a finder tells whose answer hangs on one test
 module _ (b : Bool) (j : ℕ) where

@@ -6,6 +6,7 @@ use layout::codes::COMMITTED;
 use layout::codes::DELETE;
 use layout::codes::OPEN;
 use loops::Found;
+use loops::both;
 use model::Reader;
 use regions::read;
 use terms::Row;
@@ -32,12 +33,12 @@ pub fn has_bit(mask: u32, c: u32) -> bool
     (mask >> c) & 1 == 1
 }
 
-// Whether the reader sees a row or record of this state, stamp and transaction.
-pub fn sees(who: Reader, state: u32, stamp: Stamp, transaction: Transaction) -> bool
-    ensures { λ r. ⌜ r ≡ sees who state (stamp .0) (transaction .0) ⌝ }
+// Whether the reader sees a row or record of this state, stamp, ordinal and transaction.
+pub fn sees(who: Reader, state: u32, stamp: Stamp, ordinal: u32, transaction: Transaction) -> bool
+    ensures { λ r. ⌜ r ≡ sees who state (stamp .0) ordinal (transaction .0) ⌝ }
 {
     if state == COMMITTED {
-        return stamp.0 <= who.stamp.0;
+        return both(stamp.0 <= who.stamp.0, ordinal <= who.commits);
     }
     if state != OPEN {
         return false;
@@ -59,8 +60,9 @@ pub fn sees_row(mem: &[u8], s: Sizes, who: Reader, row: Row) -> bool
     let i = row.0 as usize;
     let state = read(mem, s, Region::RowState, i);
     let stamp = Stamp(read(mem, s, Region::RowStamp, i));
+    let ordinal = read(mem, s, Region::RowOrdinal, i);
     let transaction = Transaction(read(mem, s, Region::RowTransaction, i));
-    sees(who, state, stamp, transaction)
+    sees(who, state, stamp, ordinal, transaction)
 }
 
 // Whether the reader sees the tail record at a slot.
@@ -71,8 +73,9 @@ pub fn sees_record(mem: &[u8], s: Sizes, who: Reader, slot: usize) -> bool
 {
     let state = read(mem, s, Region::TailState, slot);
     let stamp = Stamp(read(mem, s, Region::TailStamp, slot));
+    let ordinal = read(mem, s, Region::TailOrdinal, slot);
     let transaction = Transaction(read(mem, s, Region::TailTransaction, slot));
-    sees(who, state, stamp, transaction)
+    sees(who, state, stamp, ordinal, transaction)
 }
 
 // The range of a row.

@@ -121,6 +121,7 @@ pub record Located (ps : List ScanEntry) (k j : ℕ) : Type 0 where
   pub index-is : getD (tableOf ps .indices) j 0 ≡ firstIndex (isScan k) ps
   pub stamp-is : getD (tableOf ps .stamps) j 0 ≡ getD ps (firstIndex (isScan k) ps) freeEntry .stamp
   pub merges-is : getD (tableOf ps .merges) j 0 ≡ getD ps (firstIndex (isScan k) ps) freeEntry .merges
+  pub commits-is : getD (tableOf ps .commits) j 0 ≡ getD ps (firstIndex (isScan k) ps) freeEntry .commits
 
 module _ (ps : List ScanEntry) (few : openCount ps ≤ mostScans) where
   field-column : (f : ScanEntry → ℕ) → column (map f (opened ps)) ≡ map f (opened ps) ++ replicate (mostScans - openCount ps) 0
@@ -167,6 +168,7 @@ module _ (ps : List ScanEntry) (few : openCount ps ≤ mostScans) where
               index-is = indices-at j (t .2) ∙ omega (arith, t .0);
               stamp-is = field-at (λ p. p .stamp) j refl (t .2) ∙ ap (λ (p : ScanEntry). p .stamp) (sym (t .1));
               merges-is = field-at (λ p. p .merges) j refl (t .2) ∙ ap (λ (p : ScanEntry). p .merges) (sym (t .1));
+              commits-is = field-at (λ p. p .commits) j refl (t .2) ∙ ap (λ (p : ScanEntry). p .commits) (sym (t .1));
             }
       ] refl e
 

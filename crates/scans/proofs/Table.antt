@@ -101,14 +101,14 @@ with-entry-table ps p = go (eqb (p .number) 0) refl (ltb n mostScans) refl
         let m′ : min mostScans (n + 1) ≡ n + 1 = omega arith in
         rw (e, m, f, length-append ps (p ∷ []), opened-snoc ps p, openedAt-snoc 0 ps p, free-snoc ps p, e, zero-add (length ps), length-append (opened ps) (p ∷ []), m′)
         (simp map-append
-        (rw (room (map (λ q. q .number) (opened ps)) (p .number) (length-map (opened ps) _) h, room (map (λ q. q .stamp) (opened ps)) (p .stamp) (length-map (opened ps) _) h, room (map (λ q. q .merges) (opened ps)) (p .merges) (length-map (opened ps) _) h, room (openedAt 0 ps) (length ps) (at-length 0 ps) h, le-ltb mostScans n (omega arith), le-ltb mostScans (n + 1) (omega arith))))
+        (rw (room (map (λ q. q .number) (opened ps)) (p .number) (length-map (opened ps) _) h, room (map (λ q. q .stamp) (opened ps)) (p .stamp) (length-map (opened ps) _) h, room (map (λ q. q .merges) (opened ps)) (p .merges) (length-map (opened ps) _) h, room (map (λ q. q .commits) (opened ps)) (p .commits) (length-map (opened ps) _) h, room (openedAt 0 ps) (length ps) (at-length 0 ps) h, le-ltb mostScans n (omega arith), le-ltb mostScans (n + 1) (omega arith))))
     go false e false f =
         let h : mostScans ≤ n = ltb-false n mostScans f in
         let m : min mostScans n ≡ mostScans = omega arith in
         let m′ : min mostScans (n + 1) ≡ mostScans = omega arith in
         rw (e, m, length-append ps (p ∷ []), opened-snoc ps p, openedAt-snoc 0 ps p, free-snoc ps p, e, zero-add (length ps), length-append (opened ps) (p ∷ []), m′)
         (simp map-append
-        (rw (full (map (λ q. q .number) (opened ps)) (p .number) (length-map (opened ps) _) h, full (map (λ q. q .stamp) (opened ps)) (p .stamp) (length-map (opened ps) _) h, full (map (λ q. q .merges) (opened ps)) (p .merges) (length-map (opened ps) _) h, full (openedAt 0 ps) (length ps) (at-length 0 ps) h, lt-ltb mostScans (n + 1) (omega arith))))
+        (rw (full (map (λ q. q .number) (opened ps)) (p .number) (length-map (opened ps) _) h, full (map (λ q. q .stamp) (opened ps)) (p .stamp) (length-map (opened ps) _) h, full (map (λ q. q .merges) (opened ps)) (p .merges) (length-map (opened ps) _) h, full (map (λ q. q .commits) (opened ps)) (p .commits) (length-map (opened ps) _) h, full (openedAt 0 ps) (length ps) (at-length 0 ps) h, lt-ltb mostScans (n + 1) (omega arith))))
 
 pub table-length : (t : Scans) (ps : List ScanEntry) → t ≡ tableOf ps → t .length ≡ length ps
 unfolding tableOf

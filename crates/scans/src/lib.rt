@@ -20,11 +20,12 @@ ghost use Rattle.scans.specs.Table.{tableOf, withEntry, ofLength, findIn
 pub struct Scans {
     // how many entries were lent
     pub length: usize,
-    // the open scans among them, at most MOST_SCANS: how many, and of each its number, stamp and merges and its index in the list
+    // the open scans among them, at most MOST_SCANS: how many, and of each its number, stamp, merges and commits and its index in the list
     pub count: usize,
     pub numbers: [u32; MOST_SCANS],
     pub stamps: [u32; MOST_SCANS],
     pub merges: [u32; MOST_SCANS],
+    pub commits: [u32; MOST_SCANS],
     pub indices: [usize; MOST_SCANS],
     // the first free entry, or the length where there is none
     pub free: usize,
@@ -50,6 +51,7 @@ pub fn blank() -> Scans
         numbers: [0; MOST_SCANS],
         stamps: [0; MOST_SCANS],
         merges: [0; MOST_SCANS],
+        commits: [0; MOST_SCANS],
         indices: [0; MOST_SCANS],
         free: 0,
         more: false,
@@ -75,6 +77,7 @@ pub fn add_open(t: Scans, i: usize, p: ScanEntry) -> Scans
         u.numbers[n] = p.number;
         u.stamps[n] = p.stamp;
         u.merges[n] = p.merges;
+        u.commits[n] = p.commits;
         u.indices[n] = i;
         u.count = n + 1;
     } else {

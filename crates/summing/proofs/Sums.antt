@@ -18,7 +18,8 @@ use Rattle.layout.specs.Sizes.{Proper}
 use Rattle.model.specs.Preconditions.{Linked}
 use Rattle.rows.proofs.Indices.{range-in}
 use Rattle.model.specs.Reading as R
-use Rattle.model.specs.Reading.{reader, wordIn, visibleIn, scanPage, tally, sumIn}
+use Rattle.model.specs.declared.Reader.{Reader}
+use Rattle.model.specs.Reading.{reader, snapshotOf, wordIn, visibleIn, scanPage, tally, sumIn}
 use Rattle.summing.specs.declared.Tally.{Tally}
 use Rattle.summing.specs.Sums.{Tallied}
 use Rattle.summing.proofs.Signed.{sum-size, word-size, size-fits}
@@ -45,7 +46,7 @@ module _ (s : Sizes) (proper : Proper s) (v : View) (linked : Linked s v) (n : �
 
 module _ (S : Shape) (v : View) (scan : ScanEntry) (c : ℕ) where
   abbrev value : ℕ → ℤ
-  value r = toZ w32 (wordIn S v (reader (scan .stamp) 0) (scanPage S v (scan .merges) (rangeOf r) c) r c)
+  value r = toZ w32 (wordIn S v (reader (snapshotOf scan) 0) (scanPage S v (scan .merges) (rangeOf r) c) r c)
 
   abbrev before : ℕ → R.Tally
   before r = tally S v scan c r
@@ -56,12 +57,12 @@ module _ (S : Shape) (v : View) (scan : ScanEntry) (c : ℕ) where
   pub tally-bound : (n : ℕ) → (tally S v scan c n .count ≤ n) × (natAbs (tally S v scan c n .total) ≤ n * 2147483648)
   unfolding tally
   tally-bound zero = (omega arith, omega arith)
-  tally-bound (suc r) = go (visibleIn S v (reader (scan .stamp) 0) r) (tally-bound r)
+  tally-bound (suc r) = go (visibleIn S v (reader (snapshotOf scan) 0) r) (tally-bound r)
     where
       go : (b : Bool) → (before r .count ≤ r) × (natAbs (before r .total) ≤ r * 2147483648)
           → (cond b (more r) (before r) .count ≤ suc r) × (natAbs (cond b (more r) (before r) .total) ≤ suc r * 2147483648)
       go true h =
-          (omega (arith, h .0), omega (arith, h .1, sum-size (before r .total) (value r), word-size (wordIn S v (reader (scan .stamp) 0) (scanPage S v (scan .merges) (rangeOf r) c) r c)))
+          (omega (arith, h .0), omega (arith, h .1, sum-size (before r .total) (value r), word-size (wordIn S v (reader (snapshotOf scan) 0) (scanPage S v (scan .merges) (rangeOf r) c) r c)))
       go false h = (omega (arith, h .0), omega (arith, h .1))
 
   pub none-tallied : Tallied S v scan c 0 record { count = 0; total = pos 0 }
@@ -81,9 +82,9 @@ module _ (S : Shape) (v : View) (scan : ScanEntry) (c : ℕ) where
     unfolding sumIn
     sum-is n e a b l = let all : r ≡ n = omega arith in rw (tallied-kept (omega arith), h .count-is, h .total-is, all, e)
 
-    pub row-unseen : (seen : Bool) → seen ≡ visibleIn S v (reader (scan .stamp) 0) r → seen ≡ false → Tallied S v scan c (r + 1) t
+    pub row-unseen : (who : Reader) → who ≡ reader (snapshotOf scan) 0 → (seen : Bool) → seen ≡ visibleIn S v who r → seen ≡ false → Tallied S v scan c (r + 1) t
     unfolding tally
-    row-unseen seen u f = rw add-one record { count-is = rw (← u, f) (h .count-is); total-is = rw (← u, f) (h .total-is) }
+    row-unseen who w seen u f = rw add-one record { count-is = rw (← w, ← u, f) (h .count-is); total-is = rw (← w, ← u, f) (h .total-is) }
 
     module _ (few : r ≤ mostRows) where
       pub count-few : t .count ≤ mostRows
@@ -92,14 +93,14 @@ module _ (S : Shape) (v : View) (scan : ScanEntry) (c : ℕ) where
       pub total-small : natAbs (toZ w64 (ofZ w64 (t .total))) ≤ 2 ^ 62
       total-small = rw (tallied-kept few) (omega (arith, tallied-small few .1))
 
-      pub row-seen : (page word : ℕ) (value total : ℤ) (seen : Bool) → seen ≡ visibleIn S v (reader (scan .stamp) 0) r → seen ≡ true
-          → page ≡ scanPage S v (scan .merges) (rangeOf r) c → word ≡ wordIn S v (reader (scan .stamp) 0) page r c
+      pub row-seen : (page word : ℕ) (value total : ℤ) (who : Reader) → who ≡ reader (snapshotOf scan) 0 → (seen : Bool) → seen ≡ visibleIn S v who r → seen ≡ true
+          → page ≡ scanPage S v (scan .merges) (rangeOf r) c → word ≡ wordIn S v who page r c
           → SFits w32 value → value ≡ toZ w32 word → SFits w64 total → total ≡ toZ w64 (ofZ w64 (t .total)) +ℤ toZ w32 (ofZ w32 value)
           → Tallied S v scan c (r + 1) record { count = t .count + 1; total = toZ w64 (ofZ w64 total) }
       unfolding tally
-      row-seen page word value total seen u y p q f a g b =
+      row-seen page word value total who w seen u y p q f a g b =
           rw (add-one r)
           record {
-            count-is = add-one (t .count) ∙ rw (← u, y) (ap suc (h .count-is));
-            total-is = toZ-ofZ w64 total g ∙ b ∙ rw (tallied-kept few, toZ-ofZ w32 value f, a, ← u, y, ← p, ← q, h .total-is);
+            count-is = add-one (t .count) ∙ rw (← w, ← u, y) (ap suc (h .count-is));
+            total-is = toZ-ofZ w64 total g ∙ b ∙ rw (tallied-kept few, toZ-ofZ w32 value f, a, ← w, ← u, y, ← p, ← q, h .total-is);
           }

@@ -2,8 +2,8 @@
 use layout::HEADER_ROWS;
 use layout::Region;
 use layout::Sizes;
-use model::Reader;
 use reading::base_pages::scan_page;
+use reading::scan_reader;
 use reading::word_of;
 use regions::read;
 use rows::range_of;
@@ -11,8 +11,6 @@ use rows::visible;
 use terms::Answer;
 use terms::Row;
 use terms::ScanEntry;
-use terms::Stamp;
-use terms::Transaction;
 use terms::limits::RANGE_ROWS;
 use words::of_word;
 ghost use mathlib.Core.Path.{_≡_};
@@ -50,10 +48,7 @@ fn add_row(mem: &[u8], s: Sizes, scan: ScanEntry, page: usize, row: Row, c: u32,
     requires { ⌜ Tallied (shapeIn s) (viewOf s (now mem)) scan c (row .0) t ⌝ }
     ensures { λ r. ⌜ Tallied (shapeIn s) (viewOf s (now (mem .entry))) scan c (row .0 + 1) r ⌝ }
 {
-    let who = Reader {
-        stamp: Stamp(scan.stamp),
-        me: Transaction(0),
-    };
+    let who = scan_reader(scan);
     if visible(mem, s, who, row) {
         let w = of_word(word_of(mem, s, who, page, row, c));
         return Tally {

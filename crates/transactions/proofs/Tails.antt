@@ -5,6 +5,7 @@ use mathlib.Core.Logic.{_≢_}
 use mathlib.Core.List.{List}
 use native.Mathlib.Omega.{arith}
 use native.Mathlib.Numerals.{add-one}
+use lib.Dec.{T}
 use lib.ListN.{getD}
 use Rattle.terms.specs.Measures.{Shape}
 use Rattle.layout.specs.declared.Sizes.{Sizes}
@@ -12,9 +13,9 @@ use Rattle.layout.specs.declared.Region.{Region}
 use Rattle.layout.specs.Regions.{index}
 use Rattle.layout.specs.View.{View, renew, mark, rowsGiven, usedIn}
 use Rattle.layout.proofs.View.{renew-here, renew-there}
-use Rattle.model.specs.Writing.{markTails, settled}
+use Rattle.model.specs.Writing.{markTails, markAll}
 use Rattle.model.specs.Preconditions.{Counted}
-use Rattle.transactions.specs.Steps.{tailMarked, tailsMarked}
+use Rattle.transactions.specs.Steps.{markable, tailMarked, tailsMarked}
 use Rattle.layout.proofs.Renewed.{renew-none, renew-again}
 
 module _ (S : Shape) (t : ℕ) (k : Region) (w : ℕ) (v : View) where
@@ -48,27 +49,28 @@ pub counted-kept : (s : Sizes) (v w : View) → w Region.Header ≡ v Region.Hea
 counted-kept s v w h u c =
     record { rows-given = rw h (c .rows-given); records-used = λ g l. rw u (c .records-used g l) }
 
--- ---- the steps of a settlement: the states and the stamps of the rows, then of the records
+-- ---- what is marked is apart from what the marks go by
+pub record Apart (k : Region) : Type 0 where
+  pub header : index k ≢ index Region.Header
+  pub rows : index k ≢ index Region.RowTransaction
+  pub records : index k ≢ index Region.TailTransaction
+  pub used : index k ≢ index Region.Used
 
--- what the records are marked by is neither of the two, and neither is a count of records
-pub states-apart : (index Region.TailTransaction ≡ index Region.TailState → ⊥) × (index Region.TailState ≡ index Region.Used → ⊥)
-states-apart = (λ e. omega arith, λ e. omega arith)
+pub apart : (k : Region) → T (markable k) → Apart k
+apart k t = record { header = λ e. rw e at t; rows = λ e. rw e at t; records = λ e. rw e at t; used = λ e. rw e at t }
 
-pub stamps-apart : (index Region.TailTransaction ≡ index Region.TailStamp → ⊥) × (index Region.TailStamp ≡ index Region.Used → ⊥)
-stamps-apart = (λ e. omega arith, λ e. omega arith)
+module _ (t w n : ℕ) (rows : Region) (r : T (markable rows)) (v x : View) (a : x ≡ mark Region.RowTransaction t rows 0 n w v) where
+  pub rows-counted : (s : Sizes) → Counted s v → Counted s x
+  unfolding mark
+  rows-counted s k = rw a (counted-kept s v _ (renew-there rows Region.Header _ v (apart rows r .header)) (renew-there rows Region.Used _ v (apart rows r .used)) k)
 
-module _ (t state stamp n : ℕ) (v v₁ v₂ : View) (a : v₁ ≡ mark Region.RowTransaction t Region.RowState 0 n state v)
-    (b : v₂ ≡ mark Region.RowTransaction t Region.RowStamp 0 n stamp v₁) where
-  pub rows-counted : (s : Sizes) → Counted s v → Counted s v₂
-  unfolding mark renew
-  rows-counted s k = rw (b, a) (counted-kept s v _ refl refl k)
+  pub marked-all : (S : Shape) (tails : Region) (y : View) → index rows ≢ index tails → y ≡ tailsMarked S t tails w x → n ≡ rowsGiven v → y ≡ markAll S t rows tails w v
+  unfolding mark markAll tailsMarked
+  marked-all S tails y d b e = rw (b, a, e, renew-there rows Region.Used _ v (apart rows r .used), renew-there rows Region.TailTransaction _ v (apart rows r .records), renew-there rows tails _ v d)
 
-  module _ (S : Shape) (v₃ : View) (c : v₃ ≡ tailsMarked S t Region.TailState state v₂) where
-    pub tails-counted : (s : Sizes) → Counted s v → Counted s v₃
-    unfolding mark renew tailsMarked
-    tails-counted s k = rw (c, b, a) (counted-kept s v _ refl refl k)
-
-    pub settled-is : (v₄ : View) → v₄ ≡ tailsMarked S t Region.TailStamp stamp v₃ → n ≡ rowsGiven v
-        → v₄ ≡ settled S t state stamp v
-    unfolding settled mark renew tailsMarked
-    settled-is v₄ d e = rw (d, c, b, a, e)
+pub counted-marked : (S : Shape) (t w : ℕ) (rows tails : Region) → T (markable rows) → T (markable tails) → (v x : View) → x ≡ markAll S t rows tails w v
+    → (s : Sizes) → Counted s v → Counted s x
+unfolding markAll
+counted-marked S t w rows tails r q v x a s k = rw a
+    (counted-kept s v _ (renew-there tails Region.Header _ _ (apart tails q .header) ∙ renew-there rows Region.Header _ v (apart rows r .header))
+    (renew-there tails Region.Used _ _ (apart tails q .used) ∙ renew-there rows Region.Used _ v (apart rows r .used)) k)

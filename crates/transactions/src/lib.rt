@@ -3,6 +3,7 @@
 // model's definition of the memory that is left.
 pub mod pending;
 
+use layout::HEADER_COMMITS;
 use layout::HEADER_ROWS;
 use layout::HEADER_STAMP;
 use layout::HEADER_TRANSACTIONS;
@@ -13,6 +14,7 @@ use layout::codes::COMMITTED;
 use loops::Found;
 use pending::Pending;
 use pending::free_record;
+use pending::next_word;
 use pending::pending_at;
 use pending::put_pending;
 use regions::find_in;
@@ -24,17 +26,17 @@ use terms::Transaction;
 use terms::limits::MOST_TRANSACTIONS;
 ghost use mathlib.Core.Path.{_≡_};
 ghost use Prim.Native.Nat.{ℕ, _+_, _*_, _≤_, _<_};
-ghost use lib.Dec.{eqb};
+ghost use lib.Dec.{T, eqb};
 ghost use Rattle.terms.specs.Measures.{mostTransactions, mostNumbers};
 ghost use Rattle.loops.specs.Search.{foundAt};
 ghost use Rattle.layout.specs.declared.Region.{Region};
 ghost use Rattle.layout.specs.Regions.{index, len};
 ghost use Rattle.layout.specs.View.{transactionsGiven, usedIn, viewOf, Suffices};
 ghost use Rattle.terms.specs.Entries.{firstIndex};
-ghost use Rattle.model.specs.Writing.{begun, settled, committedIn, abortedIn, freed};
+ghost use Rattle.model.specs.Writing.{begun, markAll, settled, committedIn, abortedIn, freed};
 ghost use Rattle.layout.specs.Sizes.{Proper};
 ghost use Rattle.model.specs.Preconditions.{shapeIn, Counted, FreeAt, OpenAt};
-ghost use Rattle.transactions.specs.Steps.{notedAt, tailMarked, tailsMarked};
+ghost use Rattle.transactions.specs.Steps.{notedAt, markable, tailMarked, tailsMarked, commitAt};
 
 // The first free entry for an open transaction.
 pub fn free_index(mem: &[u8], s: Sizes) -> Found
@@ -99,47 +101,40 @@ fn mark_tails(mem: &mut [u8], s: Sizes, t: Transaction, k: Region, w: u32)
     }
 }
 
-// Every given row and used record of a transaction gets a state and a stamp.
-fn settle(mem: &mut [u8], s: Sizes, t: Transaction, state: u32, stamp: Stamp)
+// w for every given row and used record that bears transaction t: in one region for the rows, in another for the records.
+fn mark_all(mem: &mut [u8], s: Sizes, t: Transaction, rows: Region, tails: Region, w: u32)
     requires { ⌜ Suffices s (now mem) ⌝ }
     requires { ⌜ Proper s ⌝ }
     requires { ⌜ Counted s (viewOf s (now mem)) ⌝ }
-    ensures { λ _. ⌜ viewOf s (now (mem .exit)) ≡ settled (shapeIn s) (t .0) state (stamp .0) (viewOf s (now (mem .entry))) ⌝ }
+    requires { ⌜ (len s rows ≡ s .rows) × (len s tails ≡ s .slots) × T (markable rows) × T (markable tails) × (index rows ≡ index tails → ⊥) ⌝ }
+    ensures { λ _. ⌜ viewOf s (now (mem .exit)) ≡ markAll (shapeIn s) (t .0) rows tails w (viewOf s (now (mem .entry))) ⌝ }
 {
     let given = read(mem, s, Region::Header, HEADER_ROWS) as usize;
-    mark_in(
-        mem,
-        s,
-        Region::RowTransaction,
-        t.0,
-        Region::RowState,
-        0,
-        given,
-        state,
-    );
-    mark_in(
-        mem,
-        s,
-        Region::RowTransaction,
-        t.0,
-        Region::RowStamp,
-        0,
-        given,
-        stamp.0,
-    );
-    mark_tails(mem, s, t, Region::TailState, state);
-    mark_tails(mem, s, t, Region::TailStamp, stamp.0);
+    mark_in(mem, s, Region::RowTransaction, t.0, rows, 0, given, w);
+    mark_tails(mem, s, t, tails, w);
 }
 
-// The open transaction at an index is handed back: what it has written gets a state and a stamp, and its entry is free.
-fn end_open(mem: &mut [u8], s: Sizes, at: usize, state: u32, stamp: Stamp)
+// Every given row and used record of a transaction gets a state, and the stamp and the ordinal of its commit.
+fn settle(mem: &mut [u8], s: Sizes, t: Transaction, state: u32, stamp: Stamp, ordinal: u32)
+    requires { ⌜ Suffices s (now mem) ⌝ }
+    requires { ⌜ Proper s ⌝ }
+    requires { ⌜ Counted s (viewOf s (now mem)) ⌝ }
+    ensures { λ _. ⌜ viewOf s (now (mem .exit)) ≡ settled (shapeIn s) (t .0) state (commitAt (stamp .0) ordinal) (viewOf s (now (mem .entry))) ⌝ }
+{
+    mark_all(mem, s, t, Region::RowState, Region::TailState, state);
+    mark_all(mem, s, t, Region::RowStamp, Region::TailStamp, stamp.0);
+    mark_all(mem, s, t, Region::RowOrdinal, Region::TailOrdinal, ordinal);
+}
+
+// The open transaction at an index is handed back: what it has written gets a state, a stamp and an ordinal, and its entry is free.
+fn end_open(mem: &mut [u8], s: Sizes, at: usize, state: u32, stamp: Stamp, ordinal: u32)
     requires { ⌜ Suffices s (now mem) ⌝ }
     requires { ⌜ Proper s ⌝ }
     requires { ⌜ Counted s (viewOf s (now mem)) × (at < mostTransactions) ⌝ }
-    ensures { λ _. ⌜ ((t : ℕ) → OpenAt (viewOf s (now (mem .entry))) t at → viewOf s (now (mem .exit)) ≡ freed t (settled (shapeIn s) t state (stamp .0) (viewOf s (now (mem .entry))))) ⌝ }
+    ensures { λ _. ⌜ ((t : ℕ) → OpenAt (viewOf s (now (mem .entry))) t at → viewOf s (now (mem .exit)) ≡ freed t (settled (shapeIn s) t state (commitAt (stamp .0) ordinal) (viewOf s (now (mem .entry))))) ⌝ }
 {
     let t = pending_at(mem, s, at).hand_back();
-    settle(mem, s, t, state, stamp);
+    settle(mem, s, t, state, stamp, ordinal);
     put_pending(mem, s, at, free_record());
 }
 
@@ -150,8 +145,10 @@ pub fn commit(mem: &mut [u8], s: Sizes, at: usize, stamp: Stamp)
     requires { ⌜ Counted s (viewOf s (now mem)) × (at < mostTransactions) ⌝ }
     ensures { λ _. ⌜ ((t : ℕ) → OpenAt (viewOf s (now (mem .entry))) t at → viewOf s (now (mem .exit)) ≡ committedIn (shapeIn s) t (stamp .0) (viewOf s (now (mem .entry)))) ⌝ }
 {
-    end_open(mem, s, at, COMMITTED, stamp);
+    let ordinal = next_word(read(mem, s, Region::Header, HEADER_COMMITS));
+    end_open(mem, s, at, COMMITTED, stamp, ordinal);
     write(mem, s, Region::Header, HEADER_STAMP, stamp.0);
+    write(mem, s, Region::Header, HEADER_COMMITS, ordinal);
 }
 
 // The open transaction at an index ends, and what it has written is aborted.
@@ -161,5 +158,5 @@ pub fn abort(mem: &mut [u8], s: Sizes, at: usize)
     requires { ⌜ Counted s (viewOf s (now mem)) × (at < mostTransactions) ⌝ }
     ensures { λ _. ⌜ ((t : ℕ) → OpenAt (viewOf s (now (mem .entry))) t at → viewOf s (now (mem .exit)) ≡ abortedIn (shapeIn s) t (viewOf s (now (mem .entry)))) ⌝ }
 {
-    end_open(mem, s, at, ABORTED, Stamp(0));
+    end_open(mem, s, at, ABORTED, Stamp(0), 0);
 }

@@ -14,14 +14,14 @@ use Rattle.terms.specs.declared.Answer.{Answer}
 use Rattle.terms.specs.Entries.{firstIndex, freeEntry, isScan}
 use Rattle.loops.specs.declared.Found.the-variants.{At}
 use Rattle.layout.specs.declared.Sizes.{Sizes}
-use Rattle.layout.specs.View.{View, scansGiven, mergesMade, viewOf}
+use Rattle.layout.specs.View.{View, scansGiven, viewOf}
 use Rattle.history.specs.History.{Call, count}
 use Rattle.scans.specs.declared.Scans.{Scans}
 use Rattle.scans.specs.Entries.{openCount, opened}
 use Rattle.scans.specs.Table.{tableOf}
 use Rattle.scans.proofs.Table.{table-length}
 use Rattle.scans.proofs.Answers.{table-count}
-use Rattle.model.specs.Calls.{entriesAfter}
+use Rattle.model.specs.Calls.{newEntry, entriesAfter}
 use Rattle.promise.specs.Promise.{Serves, ServesBy, kept}
 use Rattle.admission.specs.declared.Admission.{Admission}
 use Rattle.admission.specs.declared.Tested.{Tested}
@@ -69,14 +69,17 @@ unlisted-serves t m c a r u h = λ ps q.
 
 -- an opened scan stands in the first free entry
 pub opened-list : (t : Scans) (ps : List ScanEntry) (v : View) (stamp i : ℕ) (p : ScanEntry) → t ≡ tableOf ps → i ≡ t .free
-    → p ≡ record { number = scansGiven v + 1; stamp = stamp; merges = mergesMade v } → set ps i p ≡ entriesAfter v ps (Call.openScan stamp)
+    → p ≡ newEntry v stamp → set ps i p ≡ entriesAfter v ps (Call.openScan stamp)
 unfolding entriesAfter
 opened-list t ps v stamp i p q e y = rw (e ∙ free-is t ps q, y)
 
 -- a number is left for it
+pub number-left : (s : Sizes) (m : List ℕ) (d : Tested) (i : ℕ) → d ≡ Tested.Passed i → IfPassed d (scansGiven (viewOf s m) < mostNumbers) → scansGiven (viewOf s m) < mostNumbers
+number-left s m d i x h = if-passed d _ i x h
+
 pub number-in-part : (e : Admission) (s : Sizes) (n : ℕ) (m : List ℕ) (t : Scans) (d : Tested) (i : ℕ) → e ≡ Admission.Fit s n → Admits e m t → d ≡ Tested.Passed i
     → IfPassed d (scansGiven (viewOf s m) < mostNumbers) → scansGiven (viewOf s (take n m)) < mostNumbers
-number-in-part e s n m t d i a b x h = rw (part-seen (admitted e s n m t a b)) (if-passed d _ i x h)
+number-in-part e s n m t d i a b x h = rw (part-seen (admitted e s n m t a b)) (number-left s m d i x h)
 
 -- a closed one leaves its entry free
 pub closed-list : (t : Scans) (ps : List ScanEntry) (v : View) (d : Tested) (k j : ℕ) → t ≡ tableOf ps → openCount ps ≤ mostScans → d ≡ Tested.Passed j

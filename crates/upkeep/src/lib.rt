@@ -8,6 +8,7 @@ use admission::later;
 use admission::no_column;
 use admission::no_range;
 use conditions::any_open;
+use layout::HEADER_COMMITS;
 use layout::HEADER_MERGES;
 use layout::HEADER_SCANS;
 use layout::Region;
@@ -37,6 +38,7 @@ ghost use Rattle.layout.specs.declared.Region.{Region};
 ghost use Rattle.terms.specs.declared.ScanEntry.{ScanEntry};
 ghost use Rattle.layout.specs.Regions.{scansAt};
 ghost use Rattle.history.specs.History.{Call, verdict};
+ghost use Rattle.model.specs.Calls.{newEntry};
 ghost use Rattle.model.specs.Stored.{pageIn, currentIn};
 ghost use Rattle.model.specs.Preconditions.{shapeIn};
 ghost use Rattle.merging.specs.Steps.{MergeReady};
@@ -158,6 +160,7 @@ fn unlisted(scans: Scans, why: Refusal) -> ListChange
             number: 0,
             stamp: 0,
             merges: 0,
+            commits: 0,
         },
     }
 }
@@ -192,6 +195,20 @@ fn give_scan(mem: &mut [u8], s: Sizes) -> u32
     n
 }
 
+// The entry of a scan that is opened now at a stamp.
+fn new_entry(mem: &[u8], s: Sizes, stamp: Stamp) -> ScanEntry
+    requires { ⌜ Suffices s (now mem) ⌝ }
+    requires { ⌜ scansGiven (viewOf s (now mem)) < mostNumbers ⌝ }
+    ensures { λ r. ⌜ r ≡ newEntry (viewOf s (now (mem .entry))) (stamp .0) ⌝ }
+{
+    ScanEntry {
+        number: read(mem, s, Region::Header, HEADER_SCANS) + 1,
+        stamp: stamp.0,
+        merges: read(mem, s, Region::Header, HEADER_MERGES),
+        commits: read(mem, s, Region::Header, HEADER_COMMITS),
+    }
+}
+
 // A scan is opened at a stamp; the answer is its number.
 pub fn open_scan(mem: &mut [u8], scans: Scans, stamp: Stamp) -> ListChange
     ensures { λ r. ⌜ ServesBy scans (now (mem .entry)) (Call.openScan (stamp .0)) (r .answer) (now (mem .exit)) (changedAt r) ⌝ }
@@ -202,16 +219,11 @@ pub fn open_scan(mem: &mut [u8], scans: Scans, stamp: Stamp) -> ListChange
     match open_tests(mem, s, scans, stamp) {
         Tested::Failed(x) => unlisted(scans, x),
         Tested::Passed(index) => {
-            let merges = read(mem, s, Region::Header, HEADER_MERGES);
-            let number = give_scan(&mut mem[..n], s);
+            let entry = new_entry(mem, s, stamp);
             ListChange {
-                answer: Answer::Number(number),
+                answer: Answer::Number(give_scan(&mut mem[..n], s)),
                 index: index,
-                entry: ScanEntry {
-                    number: number,
-                    stamp: stamp.0,
-                    merges: merges,
-                },
+                entry: entry,
             }
         }
     }
@@ -246,6 +258,7 @@ pub fn close_scan(mem: &[u8], scans: Scans, scan: u32) -> ListChange
                     number: 0,
                     stamp: 0,
                     merges: 0,
+                    commits: 0,
                 },
             }
         }

@@ -33,7 +33,7 @@ use Rattle.model.specs.Preconditions.{shapeIn, OpenAt}
 use Rattle.transactions.specs.Steps.{notedAt}
 use Rattle.layout.proofs.Renewed.{renew-none, turn-put, change-none, change-next}
 use Rattle.layout.proofs.Indices.{range-in}
-use Rattle.writing.specs.Steps.{rowPut, cellsPut, recordPut, cellWords, newestFilled, originalPut, recordsPut, Room, Newest}
+use Rattle.writing.specs.Steps.{openPut, rowPut, cellsPut, recordPut, cellWords, newestFilled, originalPut, recordsPut, Room, Newest}
 
 -- a note at the entry of t, after a step that left the open transactions as they were
 noted-at : (v w : View) (t j : ℕ) → OpenAt v t j → w Region.Opens ≡ v Region.Opens → notedAt j w ≡ noted t w
@@ -75,7 +75,7 @@ appended-used S t r kind mask v h = getD-set-same (v Region.Used) (r / rangeRows
 pub appended-is : (S : Shape) (t r kind mask u link : ℕ) (v x y z : View) → u ≡ getD (v Region.Used) (r / rangeRows) 0 → link ≡ getD (v Region.RowLink) r 0
     → x ≡ recordPut (r / rangeRows * S .capacity + u) t r kind mask link v → y ≡ put Region.Used (r / rangeRows) (u + 1) x → z ≡ put Region.RowLink r (u + 1) y
     → z ≡ appended S t r kind mask v
-unfolding appended nextSlot recordPut slot rangeOf rowIn
+unfolding appended nextSlot openPut recordPut slot rangeOf rowIn
 appended-is S t r kind mask u link v x y z e f a b c =
     let q : getD (v Region.Used) (r / rangeRows) 0 + 1 - 1 ≡ getD (v Region.Used) (r / rangeRows) 0 = omega arith in
     rw (c, b, a, f, e, q)
@@ -205,7 +205,7 @@ module _ (S : Shape) (t j : ℕ) (v : View) (o : OpenAt v t j) where
 
   pub inserted-is : (n : ℕ) (vs : List ℤ) (w x y z : View) → n ≡ rowsGiven v → w ≡ rowPut t n v → x ≡ cellsPut S (n / rangeRows) (n % rangeRows) vs w
       → y ≡ put Region.Header rowsAt (n + 1) x → z ≡ notedAt j y → z ≡ insertedIn S t vs v
-  unfolding insertedIn insertedAt cellsPut rowPut rangeOf put renew
+  unfolding insertedIn insertedAt cellsPut openPut rowPut rangeOf put renew
   inserted-is n vs w x y z e a b c d = rw (d, c, b, a, e) (noted-at v _ t j o refl)
 
   pub deleted-is : (r : ℕ) (x z : View) → x ≡ appended S t r asDelete 0 v → z ≡ notedAt j x → z ≡ deletedIn S t r v

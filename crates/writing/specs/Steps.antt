@@ -17,11 +17,14 @@ use Rattle.layout.specs.Codes.{asOpen, asOriginal}
 use Rattle.layout.specs.Regions.{slot}
 use Rattle.model.specs.Writing.{putCells, nextSlot, appended, filledIn, newBitsIn, originalAppended, settingAppended}
 
+-- the words of what an open transaction has made, at an index of the regions for state, stamp and ordinal
+unfoldable pub openPut : Region → Region → Region → ℕ → View → View
+openPut state stamp ordinal i v = put ordinal i 0 (put stamp i 0 (put state i asOpen v))
+
 -- the words of row r, inserted by transaction t and not yet changed
 unfoldable pub rowPut : ℕ → ℕ → View → View
 rowPut t r v =
-    put Region.RowMask r 0
-    (put Region.RowLink r 0 (put Region.RowStamp r 0 (put Region.RowState r asOpen (put Region.RowTransaction r t v))))
+    put Region.RowMask r 0 (put Region.RowLink r 0 (openPut Region.RowState Region.RowStamp Region.RowOrdinal r (put Region.RowTransaction r t v)))
 
 -- the values of a row into cell i of the current pages of range g
 unfoldable pub cellsPut : Shape → ℕ → ℕ → List ℤ → View → View
@@ -30,10 +33,9 @@ cellsPut S g i vs v = renew Region.Cells (putCells S (v Region.Current) g i vs (
 -- the words of the tail record at slot s, not yet settled
 unfoldable pub recordPut : ℕ → ℕ → ℕ → ℕ → ℕ → ℕ → View → View
 recordPut s t r kind mask link v =
-    put Region.TailStamp s 0
-    (put Region.TailState s asOpen
+    openPut Region.TailState Region.TailStamp Region.TailOrdinal s
     (put Region.TailLink s link
-    (put Region.TailMask s mask (put Region.TailKind s kind (put Region.TailRow s r (put Region.TailTransaction s t v))))))
+    (put Region.TailMask s mask (put Region.TailKind s kind (put Region.TailRow s r (put Region.TailTransaction s t v)))))
 
 -- the words of a row in the current pages of its range, and of a call's values: what a record's columns are filled with
 unfoldable pub cellWords : Shape → View → ℕ → ℕ → ℕ → ℕ

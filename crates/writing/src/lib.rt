@@ -21,13 +21,24 @@ ghost use Prim.Native.Nat.{_+_, _*_, _≤_, _<_};
 ghost use lib.ListN.{getD};
 ghost use Rattle.terms.specs.Measures.{rangeRows};
 ghost use Rattle.history.specs.History.{rangeOf};
-ghost use Rattle.layout.specs.Regions.{slot};
+ghost use Rattle.layout.specs.Regions.{len, slot};
 ghost use Rattle.layout.specs.declared.Region.{Region};
 ghost use Rattle.layout.specs.View.{put, rowsGiven, usedIn, viewOf, Suffices};
 ghost use Rattle.model.specs.Writing.{insertedIn, appended, newBits, recordsWanted, settingAppended, updatedIn, deletedIn};
 ghost use Rattle.layout.specs.Sizes.{Proper};
 ghost use Rattle.model.specs.Preconditions.{shapeIn, Pooled, OpenAt};
-ghost use Rattle.writing.specs.Steps.{rowPut, cellsPut, recordPut, cellWords, valueWords, newestFilled, originalPut, recordsPut, Room, Newest};
+ghost use Rattle.writing.specs.Steps.{openPut, rowPut, cellsPut, recordPut, cellWords, valueWords, newestFilled, originalPut, recordsPut, Room, Newest};
+
+// The words of what an open transaction has made, at an index of three regions: open, with no commit yet.
+fn put_open(mem: &mut [u8], s: Sizes, state: Region, stamp: Region, ordinal: Region, i: usize)
+    requires { ⌜ Suffices s (now mem) ⌝ }
+    requires { ⌜ (i < len s state) × (i < len s stamp) × (i < len s ordinal) ⌝ }
+    ensures { λ _. ⌜ viewOf s (now (mem .exit)) ≡ openPut state stamp ordinal i (viewOf s (now (mem .entry))) ⌝ }
+{
+    write(mem, s, state, i, OPEN);
+    write(mem, s, stamp, i, 0);
+    write(mem, s, ordinal, i, 0);
+}
 
 // ---- insert
 
@@ -39,8 +50,7 @@ fn put_row(mem: &mut [u8], s: Sizes, t: Transaction, row: Row)
 {
     let i = row.0 as usize;
     write(mem, s, Region::RowTransaction, i, t.0);
-    write(mem, s, Region::RowState, i, OPEN);
-    write(mem, s, Region::RowStamp, i, 0);
+    put_open(mem, s, Region::RowState, Region::RowStamp, Region::RowOrdinal, i);
     write(mem, s, Region::RowLink, i, 0);
     write(mem, s, Region::RowMask, i, 0);
 }
@@ -109,8 +119,14 @@ fn put_record(
     write(mem, s, Region::TailKind, slot, kind);
     write(mem, s, Region::TailMask, slot, mask);
     write(mem, s, Region::TailLink, slot, link.0);
-    write(mem, s, Region::TailState, slot, OPEN);
-    write(mem, s, Region::TailStamp, slot, 0);
+    put_open(
+        mem,
+        s,
+        Region::TailState,
+        Region::TailStamp,
+        Region::TailOrdinal,
+        slot,
+    );
 }
 
 // One tail record more for a row, of open transaction t: it links to the row's newest one and is the row's newest now.

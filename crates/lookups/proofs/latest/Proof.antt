@@ -2,13 +2,13 @@
 use borrow.Author.Needs.{needs}
 use Rattle.model.specs.Calls.{replyIn, actIn, entriesAfter}
 use Rattle.admission.proofs.Served.{serving}
-use Rattle.lookups.proofs.Answers.{cell-inside, latest-tests, latest-answer}
+use Rattle.lookups.proofs.Answers.{cell-inside, latest-tests, reader-answer}
 use Rattle.lookups.proofs.latest.Statement.{statement}
 use Rattle.lookups.proofs.latest.Tie as tie
 
 returns-3 : tie.Need-returns-3
 unfolding replyIn actIn entriesAfter
-returns-3 c = search (serving, latest-tests, latest-answer)
+returns-3 c = search (serving, latest-tests, reader-answer)
 
 pub latest-spec : {M : Type 1} → statement M
 latest-spec =

@@ -9,8 +9,8 @@ use Rattle.lookups.proofs.own_read.Tie as tie
 returns-3 : tie.Need-returns-3
 unfolding replyIn actIn entriesAfter
 returns-3 c =
-    let mine = let start : tie.Start = search in c .before .own-changes .ensures (start .args .transaction .0) (search index-open) in
-    let read = rw (mine, c .before .before .last-stamp .ensures) at (c .read-current .ensures) in
+    let mine = let start : tie.Start = search in c .before .before .own-changes .ensures (start .args .transaction .0) (search index-open) in
+    let read = rw (c .before .latest-reader .ensures, mine) at (c .read-current .ensures) in
     search serving
 
 pub own-read-spec : {M : Type 1} → statement M
@@ -24,8 +24,8 @@ own-read-spec =
     (λ c κs. search serving)
     (λ c. search needs)
     (λ c. search needs)
-    (λ c κs. search serving)
     (λ c κs. (search serving, search open-below))
+    (λ c κs. search serving)
     (λ c κs. (search serving, (search serving, ((search serving, search serving), (search cell-inside, search cell-inside)))))
     (λ c. search serving)
     returns-3)

@@ -24,6 +24,7 @@ scan-read-spec =
     (λ c κs. search scan-below)
     (λ c κs. search needs)
     (λ c κs. (search serving, (search serving, (search serving, (search cell-inside, search cell-inside)))))
+    (λ c κs. search needs)
     (λ c κs. (search serving, (search serving, (search serving, (search needs, search cell-inside, search cell-inside)))))
     (λ c. search serving)
     returns-3)

@@ -21,7 +21,7 @@ use Rattle.layout.specs.View.{View, renew, put, usedIn}
 use Rattle.layout.specs.Regions.{len, slot}
 use Rattle.layout.specs.Sizes.{sizesOf}
 use Rattle.layout.specs.declared.Region.{Region}
-use Rattle.layout.specs.declared.Region.the-variants.{RowLink, TailTransaction, TailRow, TailKind, TailMask, TailLink, TailState, TailStamp, TailValues, Used}
+use Rattle.layout.specs.declared.Region.the-variants.{RowLink, TailTransaction, TailRow, TailKind, TailMask, TailLink, TailState, TailStamp, TailValues, Used, TailOrdinal}
 use Rattle.model.specs.Stored.{RecordWords, rowIn, recordIn, valueIn}
 use Rattle.layout.specs.Codes.{asOpen}
 use Rattle.model.specs.Writing.{nextSlot, appended, filledIn}
@@ -39,7 +39,7 @@ content-values C ending kind mask value value′ e o = o
 record-same : {C : ℕ} {st : ℕ → State} {y : Record} {x x′ : RecordWords} {value value′ : ℕ → ℕ} → x′ ≡ x → ((c : ℕ) → c < C → value′ c ≡ value c) → RecordIs C st y x value
     → RecordIs C st y x′ value′
 record-same {C} {y = y} {value = value} {value′ = value′} e f o =
-    rw e record { transaction = o .transaction; row = o .row; state = o .state; stamp = o .stamp; content = content-values C (y .content) _ _ value value′ f (o .content) }
+    rw e record { transaction = o .transaction; row = o .row; state = o .state; stamp = o .stamp; ordinal = o .ordinal; content = content-values C (y .content) _ _ value value′ f (o .content) }
 
 tail-same : {C : ℕ} {st : ℕ → State} {recs : List Record} {used used′ : ℕ} {rec rec′ : ℕ → RecordWords} {value value′ : ℕ → ℕ → ℕ} → used′ ≡ used
     → ((k : ℕ) → k < length recs → rec′ k ≡ rec k) → ((k c : ℕ) → k < length recs → c < C → value′ k c ≡ value k c) → TailIs C st recs used rec value → TailIs C st recs used′ rec′ value′
@@ -104,7 +104,7 @@ module _ {S : Shape} {v : View} (o : Whole S v) (t r kind mask : ℕ) (inside : 
   in-tail i e = omega (arith, o .long i, e, slot-in)
 
   pub appended-here : recordIn (appended S t r kind mask v) slot′
-      ≡ record { transaction = t; row = r; kind = kind; mask = mask; link = (rowIn v r) .link; state = asOpen; stamp = 0 }
+      ≡ record { transaction = t; row = r; kind = kind; mask = mask; link = (rowIn v r) .link; state = asOpen; stamp = 0; ordinal = 0 }
   unfolding appended put renew recordIn
   appended-here = simp (here-word, in-tail)
 
@@ -137,9 +137,10 @@ module _ {S : Shape} {v : View} (o : Whole S v) (t r kind mask : ℕ) (inside : 
   appended-whole a b c d e =
       put-whole RowLink r _ (omega arith)
       (put-whole Used _ _ (omega arith)
+      (put-whole TailOrdinal _ 0 (omega arith)
       (put-whole TailStamp _ 0 (omega arith)
       (put-whole TailState _ 0 (omega arith)
-      (put-whole TailLink _ _ link-fits (put-whole TailMask _ mask d (put-whole TailKind _ kind c (put-whole TailRow _ r b (put-whole TailTransaction _ t a o))))))))
+      (put-whole TailLink _ _ link-fits (put-whole TailMask _ mask d (put-whole TailKind _ kind c (put-whole TailRow _ r b (put-whole TailTransaction _ t a o)))))))))
 
 -- ---- the words of its columns
 module _ {S : Shape} {v : View} (o : Whole S v) (s : ℕ) (f : ℕ → ℕ) (inside : s < S .ranges * S .capacity) where

@@ -17,7 +17,7 @@ use mir.Syntax.{w32}
 use mir.Val.{toZ, ofZ, SFits}
 use mir.ValLaws.{toZ-ofZ, ofZ-fits}
 use Rattle.terms.specs.Measures.{Shape, rangeRows}
-use Rattle.history.specs.History.{insert, History, Row, Record, active, stateOf, rowAt, bit, sets, rangeOf, recordsOf, mergedThrough, scanAt, seenAt, withRows, stampOf}
+use Rattle.history.specs.History.{insert, History, Row, Record, State, active, stateOf, rowAt, bit, sets, rangeOf, recordsOf, mergedThrough, scanAt, seenAt, withRows, commitOf}
 use Rattle.history.specs.Lists.{All, nil, cons}
 use Rattle.history.proofs.Lists.{at-append, by-cases, all-append, all-map, all-at, any-none}
 use Rattle.history.specs.Steps.{Step}
@@ -27,7 +27,7 @@ use Rattle.history.specs.Invariants.{Timely}
 use Rattle.words.specs.Words.{Fit}
 use Rattle.loops.proofs.Change.{set-fit}
 use Rattle.layout.specs.View.{View, renew, put}
-use Rattle.layout.specs.declared.Region.the-variants.{Header, Opens, RowTransaction, RowState, RowStamp, RowLink, RowMask, Current, Cells, Changes}
+use Rattle.layout.specs.declared.Region.the-variants.{Header, Opens, RowTransaction, RowState, RowStamp, RowLink, RowMask, Current, Cells, Changes, RowOrdinal}
 use Rattle.terms.specs.declared.ScanEntry.{ScanEntry}
 use Rattle.terms.specs.Entries.{bears, firstIndex}
 use Rattle.layout.specs.Regions.{rowsAt}
@@ -123,7 +123,8 @@ module _ {S : Shape} {v : View} {ps : List ScanEntry} {h : History} (o : Represe
       record {
         transaction = getD-set-same (v RowTransaction) r t 0 (omega (arith, o .whole .long RowTransaction));
         state = getD-set-same (v RowState) r asOpen 0 (omega (arith, o .whole .long RowState)) ∙ sym (ap stateWord a);
-        stamp = getD-set-same (v RowStamp) r 0 0 (omega (arith, o .whole .long RowStamp)) ∙ sym (ap stampOf a);
+        stamp = getD-set-same (v RowStamp) r 0 0 (omega (arith, o .whole .long RowStamp)) ∙ sym (ap (λ (x : State). commitOf x .stamp) a);
+        ordinal = getD-set-same (v RowOrdinal) r 0 0 (omega (arith, o .whole .long RowOrdinal)) ∙ sym (ap (λ (x : State). commitOf x .ordinal) a);
         link = getD-set-same (v RowLink) r 0 0 (omega (arith, o .whole .long RowLink)) ∙ sym (no-link (recordsOf h (rangeOf r)) r _ (le-refl _) fresh);
         mask = λ c. ap (λ (m : ℕ). bit m c) (getD-set-same (v RowMask) r 0 0 (omega (arith, o .whole .long RowMask))) ∙ bit-none c ∙ sym (never-set (recordsOf h (rangeOf r)) r c fresh);
       }
@@ -181,11 +182,11 @@ module _ {S : Shape} {v : View} {ps : List ScanEntry} {h : History} (o : Represe
   insert-scans step i run g c b d =
       let p : ℕ = scanPage S v (scanAt h i .merges) g c in
       let x : ScanPageOf S h v (scanAt h i) g c = o .scanPages i (unfold withRows in run) g c b d in
-      scan-cells (λ j e q. cell-kept p (within j) (omega arith) (scan-apart g c p d (x .chunk) j e (seen j q))) (scan-page-step (k .invariants .order) step (k .invariants .timely i) x)
+      scan-cells (λ j e q. cell-kept p (within j) (omega arith) (scan-apart g c p d (x .chunk) j e (seen j q))) (scan-page-step (k .invariants .order) step (k .invariants .timely i .commits) x)
     where
       -- a row that the scan sees is not the new one, which is open
-      seen : (j : ℕ) → T (seenAt h′ (scanAt h i .stamp) ((rowAt h′ j) .inserter)) → j ≢ r
-      seen j q e = rw (e, row-new h row, active-unseen h′ (scanAt h i .stamp) t (unfold stateOf withRows in a)) at q
+      seen : (j : ℕ) → T (seenAt h′ (scanAt h i .snapshot) ((rowAt h′ j) .inserter)) → j ≢ r
+      seen j q e = rw (e, row-new h row, active-unseen h′ (scanAt h i .snapshot) t (unfold stateOf withRows in a)) at q
 
   insert-notes : NotesAre (h .rows ++ row ∷ []) (h .tail) (v Opens) (set (v Changes) (firstIndex (bears t) (v Opens)) (nextWord (getD (v Changes) (firstIndex (bears t) (v Opens)) 0)))
   unfolding stateOf
@@ -201,7 +202,7 @@ module _ {S : Shape} {v : View} {ps : List ScanEntry} {h : History} (o : Represe
       (put-whole Header rowsAt (r + 1) (omega (arith, k .small .ranges))
       (renew-whole Cells cells′ (cells-length S (v Current) (rangeOf r) (within r) vs (v Cells) (S .columns) ∙ o .whole .long Cells)
       (cells-fit S (v Current) (rangeOf r) (within r) vs (v Cells) (λ c. ofZ-fits w32 (getD vs c (pos 0)) (value-fits vs typed c) .fits) (o .whole .fits Cells) (S .columns))
-      (put-whole RowMask r 0 (omega arith) (put-whole RowLink r 0 (omega arith) (put-whole RowStamp r 0 (omega arith) (put-whole RowState r 0 (omega arith) (put-whole RowTransaction r t number (o .whole))))))))
+      (put-whole RowMask r 0 (omega arith) (put-whole RowLink r 0 (omega arith) (put-whole RowOrdinal r 0 (omega arith) (put-whole RowStamp r 0 (omega arith) (put-whole RowState r 0 (omega arith) (put-whole RowTransaction r t number (o .whole)))))))))
 
   insert-at : Step S h (insert t vs) h′ → Represents S v′ ps h′
   unfolding insertedAt noted openIndex put renew withRows recordIn valueIn pageIn stateOf recordsOf currentIn

@@ -13,7 +13,7 @@ use lib.ListN.{length, getD, set, length-append}
 use lib.Seq.{getD-append-seam, getD-append-add}
 use borrow.Author.Tests.{ne-eqb}
 use Rattle.terms.specs.Measures.{Shape}
-use Rattle.history.specs.History.{delete, History, Record, active, Content, ending, stateOf, rowAt, bit, sets, rangeOf, recordsOf, scanAt, deleteRecords, withTail, stampOf}
+use Rattle.history.specs.History.{delete, History, Record, State, active, Content, ending, stateOf, rowAt, bit, sets, rangeOf, recordsOf, scanAt, deleteRecords, withTail, commitOf}
 use Rattle.history.specs.Lists.{All, nil}
 use Rattle.history.proofs.Lists.{by-cases, eqb-same, all-map, all-at, all-append, any-append, by-test}
 use Rattle.history.proofs.Steps.{New}
@@ -57,7 +57,7 @@ last-of-new l y =
 
 -- a row's words with another link and mask
 abbrev pub relinked : RowWords → ℕ → ℕ → RowWords
-relinked x l m = record { transaction = x .transaction; state = x .state; stamp = x .stamp; link = l; mask = m }
+relinked x l m = record { transaction = x .transaction; state = x .state; stamp = x .stamp; ordinal = x .ordinal; link = l; mask = m }
 
 -- ---- the records that a call makes on row r, one after another
 -- those of range g, with ms at the end of the row's range
@@ -88,6 +88,7 @@ module _ {S : Shape} {v : View} {ps : List ScanEntry} {h : History} (o : Represe
         transaction = p .transaction;
         state = p .state;
         stamp = p .stamp;
+        ordinal = p .ordinal;
         link = p .link ∙ sym (rw length-append (last-of-others (recordsOf h (rangeOf i)) more i (length more) (le-refl _) apart));
         mask = λ c. p .mask c ∙ sym (set-append (recordsOf h (rangeOf i)) more i c ∙ rw (never-set more i c apart) (or-false _));
       }
@@ -108,6 +109,7 @@ module _ {S : Shape} {v : View} {ps : List ScanEntry} {h : History} (o : Represe
         transaction = o .rows r b .transaction;
         state = o .rows r b .state;
         stamp = o .rows r b .stamp;
+        ordinal = o .rows r b .ordinal;
         link = E .link;
         mask = λ c. f c ∙ rw (o .rows r b .mask c) (sym (set-append (recordsOf h (rangeOf r)) ms r c));
       })
@@ -184,14 +186,14 @@ module _ {S : Shape} {h : History} {v : View} {r : ℕ} {ms : List Record} {u : 
   end-is : rangeOf r * S .capacity + usedIn u (rangeOf r) ≡ end
   end-is = ap (λ (i : ℕ). rangeOf r * S .capacity + i) used-is
 
-  here : recordIn (appended S t r kind mask u) end ≡ record { transaction = t; row = r; kind = kind; mask = mask; link = (rowIn u r) .link; state = asOpen; stamp = 0 }
+  here : recordIn (appended S t r kind mask u) end ≡ record { transaction = t; row = r; kind = kind; mask = mask; link = (rowIn u r) .link; state = asOpen; stamp = 0; ordinal = 0 }
   here = rw end-is at (appended-here (E .whole) t r kind mask inside room-in)
 
   there : (j : ℕ) → j ≢ end → recordIn (appended S t r kind mask u) j ≡ recordIn u j
   there j f = appended-there (E .whole) t r kind mask inside room-in j (λ e. f (e ∙ end-is))
 
   open-record : (value : ℕ → ℕ) → ContentIs (S .columns) content kind mask value → RecordIs (S .columns) (stateOf h) y (recordIn (appended S t r kind mask u) end) value
-  open-record value c = rw here record { transaction = refl; row = refl; state = sym (ap stateWord a); stamp = sym (ap stampOf a); content = c }
+  open-record value c = rw here record { transaction = refl; row = refl; state = sym (ap stateWord a); stamp = sym (ap (λ (x : State). commitOf x .stamp) a); ordinal = sym (ap (λ (x : State). commitOf x .ordinal) a); content = c }
 
   new-link : (recordIn (appended S t r kind mask u) end) .link ≡ lastOf (made (rangeOf r)) r (length (made (rangeOf r)))
   unfolding rowIn

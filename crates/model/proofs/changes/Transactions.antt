@@ -5,44 +5,52 @@ use mathlib.Core.Bool.{true, false, cond}
 use mathlib.Core.List.{List, [], _∷_, _++_}
 use Prim.Native.Nat.{ℕ, zero, suc, _+_, _*_, _^_, _≤_, _<_, zero-le}
 use native.Mathlib.Omega.{arith}
-use native.Mathlib.Nat.{le-refl, le-trans, not-suc-le-zero, zero-add, mul-le-mul-right, suc-mul}
+use native.Mathlib.Nat.{le-refl, le-trans, not-suc-le-zero, zero-add, mul-le-mul-right, mod-eq-of-lt, suc-mul}
 use native.Mathlib.Decide.{ℕ-discrete}
 use lib.Dec.{T, eqb}
-use lib.ListN.{length, getD, set, length-append}
+use lib.ListN.{length, getD, set, length-append, length-set}
 use lib.Seq.{getD-set-same, getD-set-other}
 use borrow.Author.Tests.{ne-eqb, eq-eqb}
-use Rattle.terms.specs.Measures.{Shape, mostNumbers}
-use Rattle.history.specs.History.{begin, commit, abort, History, Row, Record, State, unknown, active, aborted, committed, any, nth, change, stateOf, rowAt, rangeOf, recordsOf, scanAt, withTransactions, stampOf}
+use Rattle.terms.specs.Measures.{Shape, rangeRows, mostNumbers}
+use Rattle.history.specs.History.{begin, commit, abort, History, Row, Record, Commit, nextCommit, State, unknown, active, aborted, committed, any, nth, change, stateOf, rowAt, rangeOf, recordsOf, scanAt, withTransactions, commitOf}
 use Rattle.history.proofs.Lists.{by-cases, all-each, nth-beyond, clash, all-map, nth-changed, nth-other, length-change}
 use Rattle.history.specs.Steps.{Step, Closing, by-commit, by-abort}
 use Rattle.history.proofs.States.{given-known, state-began}
-use Rattle.history.proofs.Limits.{closing-inactive}
+use Rattle.history.proofs.Limits.{closing-inactive, commits-few}
 use Rattle.history.proofs.Order.{sound-at}
-use Rattle.history.specs.Invariants.{InOrder}
+use Rattle.history.specs.Invariants.{InOrder, Limits}
 use Rattle.history.specs.Records.{noRecord}
 use Rattle.loops.specs.Change.{marked}
 use Rattle.words.specs.Words.{Fit}
 use Rattle.loops.proofs.Change.{changed-length, changed-outside, changed-at, changed-fit}
-use Rattle.layout.specs.View.{View, renew, put, rowsGiven, transactionsGiven, usedIn}
-use Rattle.layout.specs.declared.Region.the-variants.{Header, Opens, RowTransaction, RowState, RowStamp, TailTransaction, TailState, TailStamp, Used, Changes}
+use Rattle.layout.specs.View.{View, renew, put, rowsGiven, transactionsGiven, commitsMade, usedIn}
+use Rattle.layout.specs.declared.Region.the-variants.{Header, Opens, RowTransaction, RowState, RowStamp, TailTransaction, TailState, TailStamp, Used, Changes, RowOrdinal, TailOrdinal}
+use Rattle.layout.specs.declared.Region.{Region}
+use Rattle.layout.specs.Sizes.{sizesOf}
 use Rattle.terms.specs.declared.ScanEntry.{ScanEntry}
 use Rattle.terms.specs.Entries.{firstIndex}
-use Rattle.layout.specs.Regions.{transactionsAt, stampAt}
+use Rattle.layout.specs.Regions.{len, transactionsAt, stampAt, commitsAt}
 use Rattle.model.proofs.Opens.{opens-begin, opens-close, open-there}
-use Rattle.model.specs.Stored.{RowWords, RecordWords, rowIn, recordIn, valueIn, pageIn, cellIn, currentIn, openIndex}
+use Rattle.model.specs.Stored.{RowWords, RecordWords, rowIn, recordIn, valueIn, pageIn, cellIn, currentIn, openIndex, nextWord}
 use Rattle.model.specs.Reading.{scanPage, wasCurrent}
-use Rattle.model.specs.Writing.{begun, markTails, settled, freed, committedIn, abortedIn}
+use Rattle.model.specs.Writing.{begun, markTails, markAll, settled, freed, committedIn, abortedIn}
 use Rattle.model.proofs.Lists.{first-below, part-in}
 use Rattle.model.specs.Represents.{stateWord, RowIs, RecordIs, TailOf, RowsAre, TailsAre, OpensAre, Unchanged, NotesAre, HeaderFor, Represents, WellFormed, Whole}
 use Rattle.model.proofs.Views.{renew-whole, put-whole, changed-start, header-put, header-same}
 use Rattle.model.proofs.Steady.{pages-stay}
 
 -- ---- rows and records under new states
+abbrev stampOf : State → ℕ
+stampOf x = commitOf x .stamp
+
+abbrev ordinalOf : State → ℕ
+ordinalOf x = commitOf x .ordinal
+
 row-states : {st st′ : ℕ → State} {w : Row} {recs : List Record} {r : ℕ} {x : RowWords} → st′ (w .inserter) ≡ st (w .inserter) → RowIs st w recs r x → RowIs st′ w recs r x
-row-states e o = search (o .state ∙ ap stateWord (sym e), o .stamp ∙ ap stampOf (sym e))
+row-states e o = search (o .state ∙ ap stateWord (sym e), o .stamp ∙ ap stampOf (sym e), o .ordinal ∙ ap ordinalOf (sym e))
 
 record-states : {C : ℕ} {st st′ : ℕ → State} {y : Record} {x : RecordWords} {value : ℕ → ℕ} → st′ (y .transaction) ≡ st (y .transaction) → RecordIs C st y x value → RecordIs C st′ y x value
-record-states e o = search (o .state ∙ ap stateWord (sym e), o .stamp ∙ ap stampOf (sym e))
+record-states e o = search (o .state ∙ ap stateWord (sym e), o .stamp ∙ ap stampOf (sym e), o .ordinal ∙ ap ordinalOf (sym e))
 
 -- ---- begin
 -- a number not yet given has made nothing
@@ -150,13 +158,16 @@ marks-fit : (S : Shape) (used ks : List ℕ) (t w n : ℕ) (l : List ℕ) → w 
 marks-fit S used ks t w zero l b f = f
 marks-fit S used ks t w (suc n) l b f = marked-fit ks (n * S .capacity) (getD used n 0) t w (markTails S used ks t w n l) b (marks-fit S used ks t w n l b f)
 
-pub settled-whole : {S : Shape} {v : View} (t state stamp : ℕ) → state < 2 ^ 32 → stamp < 2 ^ 32 → Whole S v → Whole S (settled S t state stamp v)
+mark-all-whole : {S : Shape} {v : View} (t : ℕ) (rows tails : Region) (w : ℕ) → w < 2 ^ 32 → Whole S v → Whole S (markAll S t rows tails w v)
+unfolding markAll
+mark-all-whole {S} {v} t rows tails w b o =
+    renew-whole tails _ (marks-length S (v Used) (v TailTransaction) t w (S .ranges) (v tails) ∙ o .long tails) (marks-fit S (v Used) (v TailTransaction) t w (S .ranges) (v tails) b (o .fits tails))
+    (renew-whole rows _ (changed-length _ 0 (v rows) (rowsGiven v) ∙ o .long rows) (marked-fit (v RowTransaction) 0 (rowsGiven v) t w (v rows) b (o .fits rows)) o)
+
+pub settled-whole : {S : Shape} {v : View} (t state : ℕ) (s : Commit) → state < 2 ^ 32 → s .stamp < 2 ^ 32 → s .ordinal < 2 ^ 32 → Whole S v → Whole S (settled S t state s v)
 unfolding settled
-settled-whole {S} {v} t state stamp a b o =
-    renew-whole TailStamp _ (marks-length S (v Used) (v TailTransaction) t stamp (S .ranges) (v TailStamp) ∙ o .long TailStamp) (marks-fit S (v Used) (v TailTransaction) t stamp (S .ranges) (v TailStamp) b (o .fits TailStamp))
-    (renew-whole TailState _ (marks-length S (v Used) (v TailTransaction) t state (S .ranges) (v TailState) ∙ o .long TailState) (marks-fit S (v Used) (v TailTransaction) t state (S .ranges) (v TailState) a (o .fits TailState))
-    (renew-whole RowStamp _ (changed-length _ 0 (v RowStamp) (rowsGiven v) ∙ o .long RowStamp) (marked-fit (v RowTransaction) 0 (rowsGiven v) t stamp (v RowStamp) b (o .fits RowStamp))
-    (renew-whole RowState _ (changed-length _ 0 (v RowState) (rowsGiven v) ∙ o .long RowState) (marked-fit (v RowTransaction) 0 (rowsGiven v) t state (v RowState) a (o .fits RowState)) o)))
+settled-whole t state s a b c o =
+    mark-all-whole t RowOrdinal TailOrdinal (s .ordinal) c (mark-all-whole t RowStamp TailStamp (s .stamp) b (mark-all-whole t RowState TailState state a o))
 
 -- a function of a transaction's state, after t is closed with x
 closed-is : {A : Type 0} (f : State → A) (ts : List State) (t : ℕ) (x : State) (k : ℕ) → nth ts t unknown ≡ active
@@ -165,26 +176,30 @@ closed-is f ts t x k a = by-cases (ℕ-discrete k t)
     (λ e. rw (eq-eqb k t e, e, nth-changed unknown ts t x (λ u. clash (cc))))
     (λ n. rw (ne-eqb k t n, nth-other unknown ts t x k n))
 
-module _ {S : Shape} {v : View} {ps : List ScanEntry} {h : History} (o : Represents S v ps h) (k : WellFormed S h) (t : ℕ) {x : State} {s : ℕ} (a : stateOf h t ≡ active) (c : Closing h x s) where
+module _ {S : Shape} {v : View} {ps : List ScanEntry} {h : History} (o : Represents S v ps h) (k : WellFormed S h) (t : ℕ) {x : State} {s : Commit} (a : stateOf h t ≡ active) (c : Closing h x s) where
   abbrev closedHistory : History
   closedHistory = withTransactions h (change (h .transactions) t x) s
 
   abbrev marks : View
-  marks = settled S t (stateWord x) (stampOf x) v
+  marks = settled S t (stateWord x) (commitOf x) v
+
+  -- what a word of region i says of row r's inserter, after the marks; and of the transaction of record n of range g
+  row-word : (f : State → ℕ) (i : Region) (r : ℕ) → len (sizesOf S) i ≡ S .ranges * rangeRows → r < length (h .rows) → getD (v i) r 0 ≡ f (stateOf h ((rowAt h r) .inserter))
+      → getD (marked (v RowTransaction) 0 (rowsGiven v) t 0 (f x) (v i)) r 0 ≡ f (stateOf closedHistory ((rowAt h r) .inserter))
+  unfolding stateOf rowIn withTransactions
+  row-word f i r e b q =
+      marked-at (v RowTransaction) (rowsGiven v) t (f x) (v i) r (omega (arith, o .header .rows-given, o .whole .long i, e, k .invariants .limits .rows)) (omega (arith, o .header .rows-given))
+      ∙ rw (o .rows r b .transaction, q) (sym (closed-is f (h .transactions) t x ((rowAt h r) .inserter) a))
 
   closed-rows : RowsAre closedHistory marks
-  unfolding stateOf rowAt recordsOf withTransactions settled renew rowIn
+  unfolding rowAt recordsOf withTransactions markAll settled renew rowIn
   closed-rows r b =
       let y : RowIs (stateOf h) (rowAt h r) (recordsOf h (rangeOf r)) r (rowIn v r) = o .rows r b in
-      let given : r < rowsGiven v = omega (arith, o .header .rows-given) in
       record {
         transaction = y .transaction;
-        state =
-            marked-at (v RowTransaction) (rowsGiven v) t (stateWord x) (v RowState) r (omega (arith, o .header .rows-given, o .whole .long RowState, k .invariants .limits .rows)) given
-            ∙ rw (y .transaction, y .state) (sym (closed-is stateWord (h .transactions) t x ((rowAt h r) .inserter) a));
-        stamp =
-            marked-at (v RowTransaction) (rowsGiven v) t (stampOf x) (v RowStamp) r (omega (arith, o .header .rows-given, o .whole .long RowStamp, k .invariants .limits .rows)) given
-            ∙ rw (y .transaction, y .stamp) (sym (closed-is stampOf (h .transactions) t x ((rowAt h r) .inserter) a));
+        state = row-word stateWord RowState r refl b (y .state);
+        stamp = row-word stampOf RowStamp r refl b (y .stamp);
+        ordinal = row-word ordinalOf RowOrdinal r refl b (y .ordinal);
         link = y .link;
         mask = y .mask;
       }
@@ -192,24 +207,29 @@ module _ {S : Shape} {v : View} {ps : List ScanEntry} {h : History} (o : Represe
   used-few : (g : ℕ) → g < S .ranges → usedIn v g ≤ S .capacity
   used-few g b = omega (arith, o .tails g b .used-all, k .invariants .limits .records g)
 
+  record-word : (f : State → ℕ) (i : Region) (g n : ℕ) → len (sizesOf S) i ≡ S .ranges * S .capacity → g < S .ranges → n < length (recordsOf h g)
+      → getD (v i) (g * S .capacity + n) 0 ≡ f (stateOf h ((getD (recordsOf h g) n noRecord) .transaction))
+      → getD (markTails S (v Used) (v TailTransaction) t (f x) (S .ranges) (v i)) (g * S .capacity + n) 0 ≡ f (stateOf closedHistory ((getD (recordsOf h g) n noRecord) .transaction))
+  unfolding stateOf recordIn withTransactions
+  record-word f i g n e b u q =
+      let y : TailOf S (stateOf h) (recordsOf h g) v g = o .tails g b in
+      marks-at S (v Used) (v TailTransaction) t (f x) (v i) used-few (omega (arith, o .whole .long i, e)) (S .ranges) g n (le-refl _) b (omega (arith, y .used-all))
+      ∙ rw (y .each n u .transaction, q) (sym (closed-is f (h .transactions) t x ((getD (recordsOf h g) n noRecord) .transaction) a))
+
   closed-tails : TailsAre S closedHistory marks
-  unfolding stateOf recordsOf withTransactions settled renew recordIn valueIn
+  unfolding recordsOf withTransactions markAll settled renew recordIn valueIn
   closed-tails g b =
       let y : TailOf S (stateOf h) (recordsOf h g) v g = o .tails g b in
       record {
         used-all = y .used-all;
         each = λ i u.
             let z : RecordIs (S .columns) (stateOf h) (getD (recordsOf h g) i noRecord) (recordIn v (g * S .capacity + i)) (valueIn S v (g * S .capacity + i)) = y .each i u in
-            let d : i < usedIn v g = omega (arith, y .used-all) in
             record {
               transaction = z .transaction;
               row = z .row;
-              state =
-                  marks-at S (v Used) (v TailTransaction) t (stateWord x) (v TailState) used-few (omega (arith, o .whole .long TailState)) (S .ranges) g i (le-refl _) b d
-                  ∙ rw (z .transaction, z .state) (sym (closed-is stateWord (h .transactions) t x ((getD (recordsOf h g) i noRecord) .transaction) a));
-              stamp =
-                  marks-at S (v Used) (v TailTransaction) t (stampOf x) (v TailStamp) used-few (omega (arith, o .whole .long TailStamp)) (S .ranges) g i (le-refl _) b d
-                  ∙ rw (z .transaction, z .stamp) (sym (closed-is stampOf (h .transactions) t x ((getD (recordsOf h g) i noRecord) .transaction) a));
+              state = record-word stateWord TailState g i refl b u (z .state);
+              stamp = record-word stampOf TailStamp g i refl b u (z .stamp);
+              ordinal = record-word ordinalOf TailOrdinal g i refl b u (z .ordinal);
               content = z .content;
             };
         links = y .links;
@@ -218,7 +238,7 @@ module _ {S : Shape} {v : View} {ps : List ScanEntry} {h : History} (o : Represe
   -- the open entry is free again, and every row and record is marked
   closed-parts : OpensAre (change (h .transactions) t x) (freed t marks Opens) × NotesAre (h .rows) (h .tail) (freed t marks Opens) (freed t marks Changes) × RowsAre closedHistory (freed t marks)
       × TailsAre S closedHistory (freed t marks)
-  unfolding stateOf freed openIndex put renew settled rowIn recordIn valueIn
+  unfolding stateOf freed openIndex put renew markAll settled rowIn recordIn valueIn
   closed-parts =
       let inside = open-there (h .transactions) (v Opens) (o .opens) t a .0 in (
         opens-close (h .transactions) (v Opens) t x (o .opens) a (closing-inactive c),
@@ -227,31 +247,39 @@ module _ {S : Shape} {v : View} {ps : List ScanEntry} {h : History} (o : Represe
         closed-tails,
       )
 
-  closed-whole : stateWord x < 2 ^ 32 → stampOf x < 2 ^ 32 → Whole S (freed t marks)
+  closed-whole : stateWord x < 2 ^ 32 → stampOf x < 2 ^ 32 → ordinalOf x < 2 ^ 32 → Whole S (freed t marks)
   unfolding freed
-  closed-whole b d = put-whole Changes _ 0 (omega arith) (put-whole Opens _ 0 (omega arith) (settled-whole t (stateWord x) (stampOf x) b d (o .whole)))
+  closed-whole b d e = put-whole Changes _ 0 (omega arith) (put-whole Opens _ 0 (omega arith) (settled-whole t (stateWord x) (commitOf x) b d e (o .whole)))
 
 pub abort-kept : {S : Shape} {v : View} {ps : List ScanEntry} {h : History} → Represents S v ps h → WellFormed S h → (t : ℕ) → stateOf h t ≡ active
     → Step S h (abort t) (withTransactions h (change (h .transactions) t aborted) (h .last))
     → Represents S (abortedIn S t v) ps (withTransactions h (change (h .transactions) t aborted) (h .last))
-unfolding abortedIn freed openIndex settled put renew withTransactions rowIn recordIn valueIn pageIn cellIn currentIn scanPage wasCurrent scanAt
+unfolding abortedIn freed openIndex markAll settled put renew withTransactions rowIn recordIn valueIn pageIn cellIn currentIn scanPage wasCurrent scanAt
 abort-kept {S} {v} {ps} {h} o k t a step =
     search (
       header-same {t′ = length (change (h .transactions) t aborted)} refl (sym (length-change (h .transactions) t aborted)) refl refl (o .header),
       closed-parts o k t a by-abort,
-      closed-whole o k t a by-abort (omega arith) (omega arith),
+      closed-whole o k t a by-abort (omega arith) (omega arith) (omega arith),
       pages-stay o k step refl refl (λ i. refl),
     )
 
-pub commit-kept : {S : Shape} {v : View} {ps : List ScanEntry} {h : History} → Represents S v ps h → WellFormed S h → (t s : ℕ) → stateOf h t ≡ active → h .last < s → s < 2 ^ 32
-    → Step S h (commit t s) (withTransactions h (change (h .transactions) t (committed s)) s)
-    → Represents S (committedIn S t s v) ps (withTransactions h (change (h .transactions) t (committed s)) s)
-unfolding committedIn freed openIndex settled put renew withTransactions rowIn recordIn valueIn pageIn cellIn currentIn scanPage wasCurrent scanAt
+-- the count of commits has not gone round
+next-ordinal : {S : Shape} (v : View) {h : History} → HeaderFor S h v → Limits S h → (nextWord (commitsMade v) ≡ suc (h .last .ordinal)) × (suc (h .last .ordinal) < 2 ^ 32)
+next-ordinal v {h} o l =
+    let b : suc (h .last .ordinal) < 2 ^ 32 = omega (arith, commits-few l, l .transactions) in
+    (mod-eq-of-lt (omega (arith, o .commits-made)) ∙ omega (arith, o .commits-made), b)
+
+pub commit-kept : {S : Shape} {v : View} {ps : List ScanEntry} {h : History} → Represents S v ps h → WellFormed S h → (t s : ℕ) → stateOf h t ≡ active → h .last .stamp ≤ s → s < 2 ^ 32
+    → Step S h (commit t s) (withTransactions h (change (h .transactions) t (committed (nextCommit h s))) (nextCommit h s))
+    → Represents S (committedIn S t s v) ps (withTransactions h (change (h .transactions) t (committed (nextCommit h s))) (nextCommit h s))
+unfolding committedIn freed openIndex markAll settled put renew withTransactions rowIn recordIn valueIn pageIn cellIn currentIn scanPage wasCurrent scanAt
 commit-kept {S} {v} {ps} {h} o k t s a later fit step =
-    search (
-      header-same {t′ = length (change (h .transactions) t (committed s))} refl (sym (length-change (h .transactions) t (committed s))) refl refl
-          (header-put (v Header) 7 s (omega (arith, o .whole .long Header)) (omega arith) (o .header)),
+    let e = next-ordinal v (o .header) (k .invariants .limits) in
+    rw (e .0)
+    (search (
+      header-same {t′ = length (change (h .transactions) t (committed (nextCommit h s)))} refl (sym (length-change (h .transactions) t (committed (nextCommit h s)))) refl refl
+          (header-put (set (v Header) stampAt s) 9 (suc (h .last .ordinal)) (rw length-set (omega (arith, o .whole .long Header))) (omega arith) (header-put (v Header) 7 s (omega (arith, o .whole .long Header)) (omega arith) (o .header))),
       closed-parts o k t a (by-commit later),
-      put-whole Header stampAt s fit (closed-whole o k t a (by-commit later) (omega arith) fit),
+      put-whole Header commitsAt (suc (h .last .ordinal)) (e .1) (put-whole Header stampAt s fit (closed-whole o k t a (by-commit later) (omega arith) fit (e .1))),
       pages-stay o k step refl refl (λ i. refl),
-    )
+    ))

@@ -11,9 +11,9 @@ use borrow.Author.Tests.{le-leb, ne-eqb}
 use lib.ListN.{length, getD}
 use lib.Seq.{take-length}
 use Rattle.terms.specs.Measures.{Shape}
-use Rattle.history.specs.History.{History, Record, State, unknown, active, aborted, committed, Content, original, setting, ending, committedBy, stateOf, rowAt, ends, rangeOf, recordsOf, seenAt, seenBy, ended, visible, activeOther, held, gone, stampOf}
+use Rattle.history.specs.History.{History, Record, Commit, Snapshot, latestSnapshot, State, unknown, active, aborted, committed, Content, original, setting, ending, committedBy, stateOf, rowAt, ends, rangeOf, recordsOf, seenAt, seenBy, ended, visible, activeOther, held, gone, commitOf}
 use Rattle.history.proofs.Lists.{clash}
-use Rattle.history.specs.Invariants.{Stamped}
+use Rattle.history.specs.Invariants.{UpTo, Stamped}
 use Rattle.history.specs.Records.{anyOfRow, noRecord, lastOf}
 use Rattle.history.proofs.Ranges.{any-range}
 use Rattle.history.proofs.Links.{last-of-row}
@@ -52,14 +52,14 @@ not-and-not false b = refl
 
 -- ---- a reader, by the words and by the history
 unfoldable pub SeesAs : History → Reader → (ℕ → Bool) → Type 0
-SeesAs h who f = (k : ℕ) → sees who (stateWord (stateOf h k)) (stampOf (stateOf h k)) k ≡ f k
+SeesAs h who f = (k : ℕ) → sees who (stateWord (stateOf h k)) (commitOf (stateOf h k) .stamp) (commitOf (stateOf h k) .ordinal) k ≡ f k
 
-pub sees-at : (h : History) (t : ℕ) → SeesAs h (reader t 0) (seenAt h t)
+pub sees-at : (h : History) (t : Snapshot) → SeesAs h (reader t 0) (seenAt h t)
 unfolding SeesAs sees seenAt committedBy
-sees-at h t k = elim (stateOf h k) as (λ x. sees (reader t 0) (stateWord x) (stampOf x) k ≡ committedBy t x)
-    [ unknown ↦ refl | active ↦ refl | aborted ↦ refl | committed s ↦ or-false (leb s t) ]
+sees-at h t k = elim (stateOf h k) as (λ x. sees (reader t 0) (stateWord x) (commitOf x .stamp) (commitOf x .ordinal) k ≡ committedBy t x)
+    [ unknown ↦ refl | active ↦ refl | aborted ↦ refl | committed s ↦ or-false (leb (s .stamp) (t .stamp) && leb (s .ordinal) (t .commits)) ]
 
-pub sees-own : (h : History) (me : ℕ) → stateOf h me ≡ active → SeesAs h (reader (h .last) me) (seenBy h me)
+pub sees-own : (h : History) (me : ℕ) → stateOf h me ≡ active → SeesAs h (reader (latestSnapshot h) me) (seenBy h me)
 unfolding SeesAs sees seenBy seenAt committedBy stateOf
 sees-own h zero a k = clash (cc)
 sees-own h (suc me) a k = go (stateOf h k) refl
@@ -67,11 +67,11 @@ sees-own h (suc me) a k = go (stateOf h k) refl
     not-me : (s : State) → stateOf h k ≡ s → s ≢ active → eqb k (suc me) ≡ false
     not-me s e f = ne-eqb k (suc me) (λ q. f (sym e ∙ ap (stateOf h) q ∙ a))
 
-    go : (s : State) → stateOf h k ≡ s → sees (reader (h .last) (suc me)) (stateWord s) (stampOf s) k ≡ (eqb k (suc me) || committedBy (h .last) s)
+    go : (s : State) → stateOf h k ≡ s → sees (reader (latestSnapshot h) (suc me)) (stateWord s) (commitOf s .stamp) (commitOf s .ordinal) k ≡ (eqb k (suc me) || committedBy (latestSnapshot h) s)
     go unknown e = rw (not-me unknown e (λ z. clash (cc)))
     go active e = rw (eqb·suc-zero me) (sym (or-false (eqb k (suc me))))
     go aborted e = rw (not-me aborted e (λ z. clash (cc)))
-    go (committed s) e = rw (not-me (committed s) e (λ z. clash (cc))) (or-false (leb s (h .last)))
+    go (committed s) e = rw (not-me (committed s) e (λ z. clash (cc))) (or-false (leb (s .stamp) (h .last .stamp) && leb (s .ordinal) (h .last .ordinal)))
 
 pub sees-not-aborted : (h : History) (who : Reader) (f : ℕ → Bool) → SeesAs h who f → (k : ℕ) → stateOf h k ≡ aborted → f k ≡ false
 unfolding SeesAs sees
@@ -133,8 +133,11 @@ module _ {S : Shape} {v : View} {ps : List ScanEntry} {h : History} (o : Represe
   stands-is : (t n : ℕ) → standsFor t n (stateWord (stateOf h n)) ≡ seenBy h t n
   unfolding seenBy seenAt committedBy Stamped
   stands-is t n = ap (λ (b : Bool). eqb n t || b)
-      (elim (stateOf h n) as (λ x. stateOf h n ≡ x → committedState (stateWord x) ≡ committedBy (h .last) x)
-      [ unknown ↦ λ e. refl | active ↦ λ e. refl | aborted ↦ λ e. refl | committed s ↦ λ e. sym (le-leb s (h .last) (k .invariants .order .stamps n s e)) ] refl)
+      (elim (stateOf h n) as (λ x. stateOf h n ≡ x → committedState (stateWord x) ≡ committedBy (latestSnapshot h) x)
+      [ unknown ↦ λ e. refl | active ↦ λ e. refl | aborted ↦ λ e. refl | committed s ↦ λ e. made s (k .invariants .order .stamps n s e) ] refl)
+    where
+      made : (s : Commit) → UpTo s (h .last) → true ≡ (leb (s .stamp) (h .last .stamp) && leb (s .ordinal) (h .last .ordinal))
+      made s u = rw (le-leb (s .stamp) (h .last .stamp) (u .stamps), le-leb (s .ordinal) (h .last .ordinal) (u .ordinals))
 
   pub gone-is : (t : ℕ) → goneIn S v t r ≡ gone h t r
   unfolding goneIn gone visible ended
@@ -153,8 +156,8 @@ module _ {S : Shape} {v : View} {ps : List ScanEntry} {h : History} (o : Represe
   pub visible-is : (who : Reader) (f : ℕ → Bool) → SeesAs h who f → visibleIn S v who r ≡ visible f h r
   unfolding visibleIn visible SeesAs
   visible-is who f w =
-      rw (row .state, row .stamp, row .transaction, w ((rowAt h r) .inserter), head-is (λ y. deleteKind (y .kind) && seesRecord who y) (λ x. ends (x .content) && f (x .transaction)) same)
+      rw (row .state, row .stamp, row .ordinal, row .transaction, w ((rowAt h r) .inserter), head-is (λ y. deleteKind (y .kind) && seesRecord who y) (λ x. ends (x .content) && f (x .transaction)) same)
       (rw (ended-newest h f r (k .invariants .order) (sees-not-aborted h who f w)))
     where
       same : Alike (λ y. deleteKind (y .kind) && seesRecord who y) (λ x. ends (x .content) && f (x .transaction))
-      same i u = let x = tail .each i u in rw (delete-is i u, x .state, x .stamp, x .transaction, w ((rec i) .transaction))
+      same i u = let x = tail .each i u in rw (delete-is i u, x .state, x .stamp, x .ordinal, x .transaction, w ((rec i) .transaction))

@@ -16,8 +16,9 @@ use mir.Syntax.{w32}
 use mir.Val.{toZ}
 use Rattle.terms.specs.Measures.{Shape}
 use Rattle.terms.specs.declared.Answer.{Answer}
-use Rattle.history.specs.History.{History, Record, Version, State, unknown, active, aborted, committed, Content, original, setting, ending, any, isCommitted, stateOf, bit, sets, newValue, insertedValue, inserted, versionIn, lastSetting, rangeOf, rowAt, recordsOf, visible, versionOf, shown, read, cellThrough, stampOf}
-use Rattle.history.proofs.Lists.{by-test, parts, all-map₂, any-none, all-take, not-any}
+use Rattle.history.specs.History.{History, Record, Version, State, unknown, active, aborted, committed, Content, original, setting, ending, any, isCommitted, Commit, stateOf, bit, sets, newValue, insertedValue, inserted, versionIn, lastSetting, rangeOf, rowAt, recordsOf, visible, versionOf, shown, read, cellThrough, commitOf}
+use Rattle.history.proofs.Lists.{by-test, parts, all-map₂, all-both, any-none, all-take, not-any}
+use Rattle.history.specs.Lists.{All}
 use Rattle.history.specs.Records.{among, isOriginal, wasSet, hasOriginal, noRecord, lastOf}
 use Rattle.history.specs.Invariants.{isClosed, InOrder}
 use Rattle.history.proofs.Order.{sound-at}
@@ -32,7 +33,7 @@ use Rattle.model.specs.declared.Setter.{Setter}
 use Rattle.model.specs.Stored.{PageWords, rowIn, recordIn, valueIn, pageIn, cellIn, within, originalKind, settingKind}
 use Rattle.model.specs.Reading.{sees, answersFor, walk, foundIn, orElse, floor, downTo, wordIn, setterAt, setterIn, commitStamp, setterStamp, lookupIn, shownIn, readIn}
 use Rattle.model.proofs.Lists.{take-next}
-use Rattle.model.specs.Represents.{stateWord, ContentIs, RecordIs, TailOf, Holds, Represents, WellFormed}
+use Rattle.model.specs.Represents.{stateWord, ContentIs, RecordIs, TailOf, Holds, Among, Represents, WellFormed}
 use Rattle.model.proofs.lookups.Heads.{slot-is, in-range, SeesAs, visible-is}
 
 -- ---- one record
@@ -94,7 +95,7 @@ module _ (S : Shape) (v : View) (h : History) (i : InOrder h) (g r c : ℕ) (who
     unfolding walk answersFor SeesAs
     walk-go low n k rest b u e =
         let x : RecordIs (S .columns) (stateOf h) (getD recs k noRecord) (recordIn v (g * S .capacity + k)) (valueIn S v (g * S .capacity + k)) = o .each k u in
-        rw (lt-leb (suc k) low (omega arith), slot-is S g k, x .state, x .stamp, x .transaction, w ((getD recs k noRecord) .transaction), o .links k u, e, found-or)
+        rw (lt-leb (suc k) low (omega arith), slot-is S g k, x .state, x .stamp, x .ordinal, x .transaction, w ((getD recs k noRecord) .transaction), o .links k u, e, found-or)
         (record-answers (S .columns) c ((getD recs k noRecord) .content) _ _ _ (f ((getD recs k noRecord) .transaction)) _ _ _ _ (x .content)
         (λ q. setting-at k (u, e, q)) (λ q. original-at k (u, e, q)))
 
@@ -157,15 +158,16 @@ unfolding isOriginal
 original-value C c d ins (original cs vs) kind mask value o e t = o .2 c d (rw (o .1 c) t) ∙ e cs vs refl
 
 -- ---- a row and column on a page
--- what a page that is not newer than the stamp holds is seen
-page-seen : (h : History) (who : Reader) (n : ℕ) (f : ℕ → Bool) → SeesAs h who f → n ≤ who .stamp .0 → (k : ℕ) → T (isClosed (stateOf h k)) → ((s : ℕ) → stateOf h k ≡ committed s → s ≤ n)
-    → isCommitted (stateOf h k) ≡ f k
+-- what a page that is not newer than the stamp holds is seen, if the reader's snapshot has the commits that it has taken in
+page-seen : (h : History) (who : Reader) (n : ℕ) (f : ℕ → Bool) → SeesAs h who f → n ≤ who .stamp .0 → (k : ℕ) → T (isClosed (stateOf h k))
+    → ((s : Commit) → stateOf h k ≡ committed s → (s .stamp ≤ n) × (s .ordinal ≤ who .commits)) → isCommitted (stateOf h k) ≡ f k
 unfolding SeesAs sees isCommitted
 page-seen h who n f w b k p u = go (stateOf h k) p u ∙ w k
   where
-    go : (s : State) → T (isClosed s) → ((a : ℕ) → s ≡ committed a → a ≤ n) → isCommitted s ≡ sees who (stateWord s) (stampOf s) k
+    go : (s : State) → T (isClosed s) → ((a : Commit) → s ≡ committed a → (a .stamp ≤ n) × (a .ordinal ≤ who .commits))
+        → isCommitted s ≡ sees who (stateWord s) (commitOf s .stamp) (commitOf s .ordinal) k
     go aborted p u = refl
-    go (committed s) p u = sym (or-false (leb s (who .stamp .0)) ∙ le-leb s (who .stamp .0) (le-trans (u s refl) b))
+    go (committed s) p u = rw (le-leb (s .stamp) (who .stamp .0) (le-trans (u s refl .0) b), le-leb (s .ordinal) (who .commits) (u s refl .1))
 
 pub unset-take : (l : List Record) (r c n : ℕ) → wasSet l r c ≡ false → wasSet (take n l) r c ≡ false
 unfolding wasSet
@@ -173,7 +175,8 @@ unset-take l r c n e =
     any-none (λ (x : Record). eqb (x .row) r && sets c (x .content)) (all-take n (not-any (λ (x : Record). eqb (x .row) r && sets c (x .content)) l (rw e tt)))
 
 module _ {S : Shape} {v : View} {ps : List ScanEntry} {h : History} (o : Represents S v ps h) (k : WellFormed S h) (who : Reader) (f : ℕ → Bool) (w : SeesAs h who f) (r : ℕ)
-    (b : r < length (h .rows)) (c : ℕ) (inside : c < S .columns) (p : ℕ) (Q : ℕ → Type 0) (held : Holds h (rangeOf r) c Q (pageIn v p) (cellIn v p)) where
+    (b : r < length (h .rows)) (c : ℕ) (inside : c < S .columns) (p : ℕ) (Q : ℕ → Type 0) (held : Holds h (rangeOf r) c Q (pageIn v p) (cellIn v p))
+    (taken : All (Among (stateOf h) (who .commits)) (take ((pageIn v p) .lineage) (recordsOf h (rangeOf r)))) where
   abbrev g : ℕ
   g = rangeOf r
 
@@ -228,7 +231,7 @@ module _ {S : Shape} {v : View} {ps : List ScanEntry} {h : History} (o : Represe
       cell-is q
       ∙ ap (λ (y : Version). y .value)
       (last-agree (λ k. isCommitted (stateOf h k)) r c f (inserted h r c)
-      (all-map₂ (λ (y : Record) a d s. page-seen h who (page .newest) f w n (y .transaction) a (d s)) (held .through .closed-all) (held .newest)))
+      (all-map₂ (λ (y : Record) a d s. page-seen h who (page .newest) f w n (y .transaction) (a .0) (λ z e. (d s z e, a .1 z e))) (all-both (held .through .closed-all) taken) (held .newest)))
 
   has-original : wasSet list r c ≡ true → hasOriginal list r c ≡ true
   has-original e = sym (originals-of h r c (k .invariants .order) (omega (arith, k .small .columns)) refl) ∙ e
@@ -260,14 +263,14 @@ module _ {S : Shape} {v : View} {ps : List ScanEntry} {h : History} (o : Represe
           ∙ ap (λ (y : Version). y .value) (last-unset _ r c (inserted h r c) (take (page .lineage) list) (unset-take list r c (page .lineage) (sym e)) ∙ sym (last-unset f r c (inserted h r c) list (sym e)))
 
   -- ---- who set it, by the stamp that is shown
-  commit-stamp : (s : State) → commitStamp (stateWord s) (stampOf s) ≡ stampOf s
+  commit-stamp : (s : State) → commitStamp (stateWord s) (commitOf s .stamp) ≡ commitOf s .stamp
   unfolding commitStamp
   commit-stamp unknown = refl
   commit-stamp active = refl
   commit-stamp aborted = refl
   commit-stamp (committed s) = refl
 
-  insert-stamp : setterStamp v r Setter.Insert ≡ stampOf (stateOf h (inserted h r c .setter))
+  insert-stamp : setterStamp v r Setter.Insert ≡ commitOf (stateOf h (inserted h r c .setter)) .stamp
   unfolding setterStamp inserted
   insert-stamp = rw (o .rows r b .state, o .rows r b .stamp) (commit-stamp (stateOf h ((rowAt h r) .inserter)))
 
@@ -280,29 +283,29 @@ module _ {S : Shape} {v : View} {ps : List ScanEntry} {h : History} (o : Represe
   kind-original (original cs vs) kind mask value e t = rw (e .0)
 
   setting-stamp : (i : ℕ) → i < length list → T (sets c ((getD list i noRecord) .content))
-      → setterStamp v r (setterAt v (g * S .capacity + i)) ≡ stampOf (stateOf h (versionIn c (getD list i noRecord) .setter))
+      → setterStamp v r (setterAt v (g * S .capacity + i)) ≡ commitOf (stateOf h (versionIn c (getD list i noRecord) .setter)) .stamp
   unfolding setterAt setterStamp versionIn
   setting-stamp i u t =
       let x = lok .each i u in
       rw (kind-setting _ _ _ _ (x .content) t, x .state, x .stamp) (commit-stamp (stateOf h ((getD list i noRecord) .transaction)))
 
   original-stamp : (i : ℕ) → i < length list → T (isOriginal c ((getD list i noRecord) .content))
-      → setterStamp v r (setterAt v (g * S .capacity + i)) ≡ stampOf (stateOf h (inserted h r c .setter))
+      → setterStamp v r (setterAt v (g * S .capacity + i)) ≡ commitOf (stateOf h (inserted h r c .setter)) .stamp
   unfolding setterAt
   original-stamp i u t = rw (kind-original _ _ _ _ (lok .each i u .content) t) insert-stamp
 
-  stamp-is : setterStamp v r (setterIn S v who r c) ≡ stampOf (stateOf h (versionOf f h r c .setter))
+  stamp-is : setterStamp v r (setterIn S v who r c) ≡ commitOf (stateOf h (versionOf f h r c .setter)) .stamp
   unfolding setterIn foundIn lastSetting
-  stamp-is = go (bit ((rowIn v r) .mask) c) (o .rows r b .mask c) ∙ ap (λ (y : Version). stampOf (stateOf h (y .setter))) (version-range h f r c)
+  stamp-is = go (bit ((rowIn v r) .mask) c) (o .rows r b .mask c) ∙ ap (λ (y : Version). commitOf (stateOf h (y .setter)) .stamp) (version-range h f r c)
     where
       go : (a : Bool) → a ≡ wasSet list r c
           → setterStamp v r (orElse (cond a (walk S v who g c floor ((rowIn v r) .link) ((rowIn v r) .link)) Found.Nothing) (setterAt v) Setter.Insert)
-          ≡ stampOf (stateOf h (lastSetting f r c (inserted h r c) list .setter))
+          ≡ commitOf (stateOf h (lastSetting f r c (inserted h r c) list .setter)) .stamp
       go true e =
           or-map (setterStamp v r) (walk S v who g c floor ((rowIn v r) .link) ((rowIn v r) .link)) (setterAt v) Setter.Insert
-          ∙ walked (λ i. setterStamp v r (setterAt v i)) (λ y. stampOf (stateOf h (y .setter))) floor (setterStamp v r Setter.Insert)
+          ∙ walked (λ i. setterStamp v r (setterAt v i)) (λ y. commitOf (stateOf h (y .setter)) .stamp) floor (setterStamp v r Setter.Insert)
           setting-stamp (λ i u _ t. original-stamp i u t) zero-le (λ _. insert-stamp)
-      go false e = insert-stamp ∙ ap (λ (y : Version). stampOf (stateOf h (y .setter))) (sym (last-unset f r c (inserted h r c) list (sym e)))
+      go false e = insert-stamp ∙ ap (λ (y : Version). commitOf (stateOf h (y .setter)) .stamp) (sym (last-unset f r c (inserted h r c) list (sym e)))
 
   pub read-is : (T (visible f h r) → Q r) → readIn S v who p r c ≡ read f h r c
   unfolding readIn lookupIn shownIn read shown

@@ -15,11 +15,11 @@ use borrow.Author.Tests.{ne-eqb, eq-eqb}
 use mir.Syntax.{w32}
 use mir.Val.{toZ}
 use Rattle.terms.specs.Measures.{Shape, rangeRows}
-use Rattle.history.specs.History.{History, Record, State, unknown, active, aborted, committed, Content, original, setting, ending, isCommitted, stateOf, bit, sets, newValue, inserted, versionIn, lastSetting, rangeOf, recordsOf, stampOf}
+use Rattle.history.specs.History.{History, Record, Commit, State, unknown, active, aborted, committed, Content, original, setting, ending, isCommitted, stateOf, bit, sets, newValue, inserted, versionIn, lastSetting, rangeOf, recordsOf, commitOf}
 use Rattle.history.specs.Lists.{All, nil, cons}
 use Rattle.history.proofs.Lists.{by-cases, by-test, all-append, all-map, all-at}
 use Rattle.history.specs.Invariants.{InOrder}
-use Rattle.history.proofs.States.{stamp-last}
+use Rattle.history.proofs.States.{commit-last}
 use Rattle.history.proofs.Ranges.{last-next, records-range}
 use Rattle.history.specs.Records.{noRecord}
 use Rattle.words.specs.Words.{Fit}
@@ -149,14 +149,14 @@ module _ (S : Shape) (v : View) (h : History) (g c p low : ℕ) (inside : c < S 
       old = newestOf S v g c low k s
 
       st : ℕ
-      st = stampOf (stateOf h ((rec k) .transaction))
+      st = commitOf (stateOf h ((rec k) .transaction)) .stamp
 
       grows : (a : Bool) → old ≤ cond (a && ltb old st) st old
       grows true = by-test (λ d. old ≤ cond d st old) (ltb old st) (λ t. omega (arith, ltb→lt old st t)) (λ _. le-refl _)
       grows false = le-refl _
 
-      covers : (x : State) (q : Bool) → T q → (a : ℕ) → x ≡ committed a → a ≤ cond (q && isCommitted x && ltb old (stampOf x)) (stampOf x) old
-      covers x true t a e = rw e (unfold isCommitted in (by-test (λ d. a ≤ cond d a old) (ltb old a) (λ _. le-refl _) (nltb→le old a)))
+      covers : (x : State) (q : Bool) → T q → (a : Commit) → x ≡ committed a → a .stamp ≤ cond (q && isCommitted x && ltb old (commitOf x .stamp)) (commitOf x .stamp) old
+      covers x true t a e = rw e (unfold isCommitted in (by-test (λ d. a .stamp ≤ cond d (a .stamp) old) (ltb old (a .stamp)) (λ _. le-refl _) (nltb→le old (a .stamp))))
 
   -- what the first stamp and those of the records have in common
   newest-keeps : (P : ℕ → Type 0) (s : ℕ) → P s → (k : ℕ) → ((j : ℕ) → j < k → P ((recordIn v (slot S g (suc (low + j)))) .stamp)) → P (newestOf S v g c low k s)
@@ -172,5 +172,5 @@ module _ (S : Shape) (v : View) (h : History) (g c p low : ℕ) (inside : c < S 
   newest-fit s b f k = newest-keeps (λ n. n < 2 ^ 32) s b k (λ j _. f _)
 
   -- no stamp is after the last commit's
-  pub newest-last : InOrder h → (s : ℕ) → s ≤ h .last → (k : ℕ) → low + k ≤ length recs → newestOf S v g c low k s ≤ h .last
-  newest-last i s b k d = newest-keeps (λ n. n ≤ h .last) s b k (λ j u. omega (arith, record-at j (omega arith) .stamp, stamp-last h (i .stamps) ((rec j) .transaction)))
+  pub newest-last : InOrder h → (s : ℕ) → s ≤ h .last .stamp → (k : ℕ) → low + k ≤ length recs → newestOf S v g c low k s ≤ h .last .stamp
+  newest-last i s b k d = newest-keeps (λ n. n ≤ h .last .stamp) s b k (λ j u. omega (arith, record-at j (omega arith) .stamp, commit-last h (i .stamps) ((rec j) .transaction) .stamps))

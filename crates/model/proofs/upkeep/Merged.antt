@@ -366,7 +366,7 @@ module _ {S : Shape} {v : View} {ps : List ScanEntry} {h : History} (o : Represe
   merge-scans step i t a d u w =
       let q : ℕ = scanPage S v (scanAt h i .merges) a d in
       let x : ScanPageIs S h (scanAt h i) a d q (pageIn v q) (cellIn v q) = o .scanPages i t a d u w in
-      let y : ScanPageIs S h′ (scanAt h i) a d q (pageIn v q) (cellIn v q) = scan-page-step (k .invariants .order) step (k .invariants .timely i) x in
+      let y : ScanPageIs S h′ (scanAt h i) a d q (pageIn v q) (cellIn v q) = scan-page-step (k .invariants .order) step (k .invariants .timely i .commits) x in
       rw (scan-same (scanAt h i .merges) a d u w (x .early) (x .made)) (kept (scanAt h i) a d q (scan-not-free (scanAt h i .merges) a d u w (x .made)) y)
     where
       kept : (s : Scan) (a d q : ℕ) → q ≢ p → ScanPageIs S h′ s a d q (pageIn v q) (cellIn v q) → ScanPageIs S h′ s a d q (pageIn v′ q) (cellIn v′ q)

@@ -9,7 +9,7 @@ use native.Mathlib.Nat.{le-refl}
 use lib.Dec.{leb·suc-suc, T, leb, ltb, eqb, eqb→eq, le→leb, ltb→lt, T-not}
 use lib.ListN.{length}
 use Rattle.terms.specs.Measures.{Shape}
-use Rattle.history.specs.History.{release, History, Scan, Merge, any, nth, stateOf, rowAt, recordsOf, mergedThrough, scanAt, neededBy, afterRelease, releasedCount, withMerges}
+use Rattle.history.specs.History.{release, History, Scan, Merge, any, nth, stateOf, rowAt, recordsOf, mergedThrough, noScan, scanAt, neededBy, afterRelease, releasedCount, withMerges}
 use Rattle.history.proofs.Lists.{any-at, clash, refuted, parts, both}
 use Rattle.history.specs.Steps.{Step}
 use Rattle.history.specs.Invariants.{Timely}
@@ -91,7 +91,7 @@ module _ {S : Shape} {v : View} {ps : List ScanEntry} {h : History} (o : Represe
   needed i zero t b = absurd (omega arith)
   needed i (suc n) t b =
       rw (needed-is (h .scans) ps (o .scans) n)
-      (any-nth (λ s. s .running && leb (s .merges) n) (h .scans) i record { running = false; stamp = 0; merges = 0 } refl
+      (any-nth (λ s. s .running && leb (s .merges) n) (h .scans) i noScan refl
       (both (scanAt h i .running) _ t (le→leb (scanAt h i .merges) n (omega arith))))
 
   found-kept : (i pl q : ℕ) → T (scanAt h i .running) → WasCurrent S (scanAt h i .merges) pl (pageIn v q) → releasable ps v q ≡ false
@@ -190,7 +190,7 @@ module _ {S : Shape} {v : View} {ps : List ScanEntry} {h : History} (o : Represe
   release-scans step i t a d u w =
       let q : ℕ = scanPage S v (scanAt h i .merges) a d in
       let x : ScanPageIs S h (scanAt h i) a d q (pageIn v q) (cellIn v q) = o .scanPages i t a d u w in
-      let y : ScanPageIs S h′ (scanAt h i) a d q (pageIn v q) (cellIn v q) = scan-page-step (k .invariants .order) step (k .invariants .timely i) x in
+      let y : ScanPageIs S h′ (scanAt h i) a d q (pageIn v q) (cellIn v q) = scan-page-step (k .invariants .order) step (k .invariants .timely i .commits) x in
       rw (scan-page-kept i a d t, page-kept q (x .inside) (scan-releasable i a d u w t (x .made))) (same-cells (scanAt h i) a d q y)
     where
       same-cells : (s : Scan) (a d q : ℕ) → ScanPageIs S h′ s a d q (pageIn v q) (cellIn v q) → ScanPageIs S h′ s a d q (pageIn v q) (cellIn v′ q)

@@ -11,17 +11,18 @@ use lib.Dec.{T, eqb, lt→ltb}
 use lib.ListN.{length, set, length-append, length-set}
 use borrow.Author.Tests.{le-leb}
 use Rattle.terms.specs.Measures.{Shape, mostScans, mostNumbers}
-use Rattle.history.specs.History.{openScan, close, History, Scan, any, count, nth, change, stateOf, rowAt, recordsOf, scanAt, stopped, withScans}
-use Rattle.history.proofs.Lists.{by-cases, length-change, nth-last, nth-before}
-use Rattle.history.proofs.Steps.{noScan}
+use Rattle.history.specs.History.{openScan, close, History, Scan, noScan, snapshotAt, any, count, nth, change, stateOf, rowAt, recordsOf, scanAt, stopped, withScans}
+use Rattle.history.proofs.Lists.{by-cases, all-map, length-change, nth-last, nth-before}
 use Rattle.history.specs.Steps.{Step}
-use Rattle.layout.specs.View.{View, renew, put, scansGiven, mergesMade}
+use Rattle.history.specs.Invariants.{Stamped}
+use Rattle.layout.specs.View.{View, renew, put, scansGiven}
 use Rattle.layout.specs.declared.Region.the-variants.{Header}
 use Rattle.terms.specs.declared.ScanEntry.{ScanEntry}
 use Rattle.terms.specs.Entries.{firstIndex, freeEntry, isScan}
 use Rattle.layout.specs.Regions.{scansAt}
 use Rattle.model.specs.Stored.{rowIn, recordIn, valueIn, pageIn, cellIn, currentIn, scanEntry}
 use Rattle.model.specs.Reading.{scanPage, wasCurrent}
+use Rattle.model.specs.Calls.{newEntry}
 use Rattle.model.proofs.Lists.{any-count}
 use Rattle.model.proofs.Book.{Kind, book-is, book-room, book-count, book-add, book-drop, book-found}
 use Rattle.model.specs.Represents.{CurrentOf, ScanPageOf, ScanPagesAre, ScansAre, scanAs, HeaderFor, Represents, WellFormed}
@@ -31,7 +32,7 @@ use Rattle.model.proofs.Views.{put-whole, header-put, header-same}
 
 -- ---- the entries of scans are a book
 pub same-entry : (p q : ScanEntry) → ((f : ScanEntry → ℕ) → f p ≡ f q) → p ≡ q
-same-entry p q f = λ i. record { number = f (λ z. z .number) i; stamp = f (λ z. z .stamp) i; merges = f (λ z. z .merges) i }
+same-entry p q f = λ i. record { number = f (λ z. z .number) i; stamp = f (λ z. z .stamp) i; merges = f (λ z. z .merges) i; commits = f (λ z. z .commits) i }
 
 abbrev pub scanKind : Kind ScanEntry Scan
 scanKind =
@@ -76,13 +77,13 @@ scan-current S v m g c b = rw (le-leb ((pageIn v (currentIn S v g c)) .made) m b
 module _ {S : Shape} {v : View} {ps : List ScanEntry} {h : History} (o : Represents S v ps h) (k : WellFormed S h) (s : ℕ) (room : count (λ s. s .running) (h .scans) < mostScans)
     (few : length (h .scans) < mostNumbers) where
   abbrev new : Scan
-  new = record { running = true; stamp = s; merges = length (h .merges) }
+  new = record { running = true; snapshot = snapshotAt h s; merges = length (h .merges) }
 
   abbrev after : History
   after = withScans h (h .scans ++ new ∷ [])
 
   new-page : Step S h (openScan s) after → (g c : ℕ) → g < S .ranges → c < S .columns → ScanPageOf S after v new g c
-  unfolding withScans
+  unfolding withScans stateOf recordsOf Stamped
   new-page step g c p q =
       let x : CurrentOf S h v g c = o .currents g c p q in
       rw (scan-current S v (length (h .merges)) g c (x .made))
@@ -91,6 +92,7 @@ module _ {S : Shape} {v : View} {ps : List ScanEntry} {h : History} (o : Represe
         early = le-refl _;
         chunk = x .chunk;
         made = x .made;
+        among = all-map (λ y _ z e. k .invariants .order .stamps (y .transaction) z e .ordinals) (x .holds .through .closed-all);
         holds = holds-step (k .invariants .order) step g c (pageIn v (currentIn S v g c)) (λ r e u. (tt, same-rows (length (h .rows)) (length (h .rows)) r refl)) (x .holds);
       }
 
@@ -102,7 +104,7 @@ module _ {S : Shape} {v : View} {ps : List ScanEntry} {h : History} (o : Represe
 
   pub open-kept : Step S h (openScan s) after
       → Represents S (put Header scansAt (scansGiven v + 1) v)
-      (set ps (firstIndex (λ p. eqb (p .number) 0) ps) record { number = scansGiven v + 1; stamp = s; merges = mergesMade v }) after
+      (set ps (firstIndex (λ p. eqb (p .number) 0) ps) (newEntry v s)) after
   unfolding put renew withScans rowIn recordIn valueIn pageIn cellIn currentIn scanPage wasCurrent stateOf rowAt recordsOf
   open-kept step =
       search (header, currents-stay o k step refl refl, waits-stay o k step refl, scans, open-pages step, put-whole Header 6 n (omega (arith, e)) (o .whole))
@@ -117,8 +119,8 @@ module _ {S : Shape} {v : View} {ps : List ScanEntry} {h : History} (o : Represe
       header = unfold put renew withScans in
           (header-same refl refl (e ∙ sym (simp length-append (omega arith))) refl (header-put (v Header) 6 n (omega (arith, o .whole .long Header)) (omega arith) (o .header)))
 
-      scans : ScansAre (h .scans ++ new ∷ []) (set ps (firstIndex (λ p. eqb (p .number) 0) ps) record { number = n; stamp = s; merges = mergesMade v })
-      scans = rw (e, o .header .merges-made) (scans-add (h .scans) ps new (o .scans) tt room)
+      scans : ScansAre (h .scans ++ new ∷ []) (set ps (firstIndex (λ p. eqb (p .number) 0) ps) (newEntry v s))
+      scans = rw (e, o .header .merges-made, o .header .commits-made) (scans-add (h .scans) ps new (o .scans) tt room)
 
 -- ---- close
 module _ {S : Shape} {v : View} {ps : List ScanEntry} {h : History} (o : Represents S v ps h) (k : WellFormed S h) (i : ℕ) (run : T (scanAt h i .running)) where

@@ -5,4 +5,4 @@ use Rattle.rows.proofs.sees.Tie as tie
 
 pub sees-spec : {M : Type 1} → statement M
 sees-spec =
-    tie.close (tie.spec (λ c. search sees-committed) (λ c. search sees-ended) (λ c. search sees-other) (λ c. search sees-own))
+    tie.close (tie.spec (λ c κs. search) (λ c. search sees-committed) (λ c. search sees-ended) (λ c. search sees-other) (λ c. search sees-own))

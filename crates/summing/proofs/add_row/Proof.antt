@@ -17,6 +17,7 @@ add-row-spec =
     (λ c κs. search needs)
     (λ c κs. search needs)
     (λ c κs. search needs)
+    (λ c κs. search needs)
     (λ c. record { fits = omega (arith, few search) })
     (λ c κs. search (total-small, row-few))
     (λ c. search (row-seen, row-few))

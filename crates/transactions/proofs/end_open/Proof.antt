@@ -2,14 +2,14 @@
 use borrow.Author.Needs.{needs}
 use Rattle.layout.specs.View.{renew}
 use Rattle.model.specs.Stored.{openIndex}
-use Rattle.model.specs.Writing.{settled, freed}
+use Rattle.model.specs.Writing.{markAll, settled, freed}
 use Rattle.transactions.specs.Pending.{pendingPut}
 use Rattle.transactions.proofs.Number.{number-there}
 use Rattle.transactions.proofs.end_open.Statement.{statement}
 use Rattle.transactions.proofs.end_open.Tie as tie
 
 returns : tie.Need-returns
-unfolding freed settled openIndex renew pendingPut
+unfolding freed markAll settled openIndex renew pendingPut
 returns c =
     let keeping : tie.After-put-pending = search in
     let record-at : tie.After-free-record = search in

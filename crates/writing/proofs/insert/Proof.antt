@@ -3,14 +3,14 @@ use native.Mathlib.Omega.{arith}
 use borrow.Author.Needs.{needs}
 use Rattle.layout.specs.View.{put, renew}
 use Rattle.layout.proofs.Indices.{range-in}
-use Rattle.writing.specs.Steps.{rowPut}
+use Rattle.writing.specs.Steps.{openPut, rowPut}
 use Rattle.writing.proofs.Steps.{inserted-is}
 use Rattle.writing.proofs.insert.Statement.{statement}
 use Rattle.writing.proofs.insert.Tie as tie
 
 -- the words of the row are not among the current pages
 put-cells-requires : tie.Need-put-cells-requires
-unfolding rowPut put renew
+unfolding openPut rowPut put renew
 put-cells-requires c κs =
     let start : tie.Start = search in
     let given : tie.After-read = search in

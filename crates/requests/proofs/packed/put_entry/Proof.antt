@@ -15,9 +15,10 @@ returns c =
     let one : tie.After-put = search in
     let two : tie.After-put2 = search in
     let three : tie.After-put3 = search in
+    let four : tie.After-put4 = search in
     let start : tie.Start = search in
     let list = start .args .list .now in
-    rw (three .put3 .ensures, two .put2 .ensures, one .put .ensures) (entries-put (words list) (start .args .i) _ _ _ (omega (arith, length-words list)))
+    rw (four .put4 .ensures, three .put3 .ensures, two .put2 .ensures, one .put .ensures) (entries-put (words list) (start .args .i) _ _ _ _ (omega (arith, length-words list)))
 
 returns-2 : tie.Need-returns-2
 returns-2 c =
@@ -29,6 +30,8 @@ pub put-entry-spec : {M : Type 1} → statement M
 put-entry-spec =
     tie.close
     (tie.spec
+    (λ c. search needs)
+    (λ c κs. search needs)
     (λ c. search needs)
     (λ c κs. search needs)
     (λ c. search needs)

@@ -6,7 +6,7 @@ use reference::{generate, trace, Answer, Call, History, Shape};
 
 use crate::facts;
 use crate::lent::Lent;
-use crate::memory::{Layout, ScanEntry, SCANS};
+use crate::memory::{header, word, Layout, ScanEntry, SCANS};
 use crate::store::{writes, writes_list, Store};
 
 /// What the lists of a run came to.
@@ -16,6 +16,35 @@ pub struct Tally {
     pub calls: u64,
     pub accepted: u64,
     pub largest: u64,
+    /// Accepted commits; those at the last commit's stamp, the first at 0 included; and of these those
+    /// that a scan is open at the same stamp to tell apart.
+    pub commits: u64,
+    pub repeated: u64,
+    pub under_scans: u64,
+}
+
+impl Tally {
+    fn add(&mut self, other: Tally) {
+        self.lists += other.lists;
+        self.calls += other.calls;
+        self.accepted += other.accepted;
+        self.largest += other.largest;
+        self.commits += other.commits;
+        self.repeated += other.repeated;
+        self.under_scans += other.under_scans;
+    }
+
+    /// Counts an accepted call on these bytes, as they were before it.
+    fn count(&mut self, memory: &[u8], list: &[ScanEntry], call: &Call) {
+        self.accepted += 1;
+        if let Call::Commit { stamp, .. } = *call {
+            let repeated = stamp == word(memory, header::LAST_STAMP);
+            let under_scan = list.iter().any(|scan| scan.is_open() && scan.stamp == stamp);
+            self.commits += 1;
+            self.repeated += u64::from(repeated);
+            self.under_scans += u64::from(repeated && under_scan);
+        }
+    }
 }
 
 pub const LARGEST: Shape = Shape { columns: 16, ranges: 16, capacity: 512, spares: 256 };
@@ -32,12 +61,35 @@ pub fn list(seed: u64) -> (Shape, Vec<Call>) {
         place if place % 64 == 0 => 700,
         _ => 40 + random.below(160) as usize,
     };
-    let calls = if random.percent(50) {
-        generate::wide_calls(seed, shape, count)
-    } else {
-        generate::calls(seed, shape, count)
+    let wide = random.percent(50);
+    (shape, calls(seed, &shape, count, wide))
+}
+
+/// Minutes of so many of the generator's stamps, of which each list takes one. The generator seldom
+/// goes further than three from a commit to the next, so that four of ten commits come in the minute of
+/// the last. The greatest stamp is a multiple of each.
+const MINUTES: [u32; 4] = [1, 3, 5, 15];
+
+/// So many random calls for a store of a shape, in which commits often come in one minute, and scans
+/// are opened at that minute between them: every commit is put off to the end of its minute, and of the
+/// reads and scans three of four. So no stamp that was not later than the last commit's becomes so.
+pub fn calls(seed: u64, shape: &Shape, count: usize, wide: bool) -> Vec<Call> {
+    let mut random = Random::new(seed ^ 0x6D69_6E75_7465_0000);
+    let mut calls = match wide {
+        true => generate::wide_calls(seed, *shape, count),
+        false => generate::calls(seed, *shape, count),
     };
-    (shape, calls)
+    let minute = random.pick(&MINUTES);
+    for call in &mut calls {
+        match call {
+            Call::Commit { stamp, .. } => *stamp = stamp.div_ceil(minute) * minute,
+            Call::ReadAt { stamp, .. } | Call::OpenScan { stamp } if random.percent(75) => {
+                *stamp = stamp.div_ceil(minute) * minute;
+            }
+            _ => {}
+        }
+    }
+    calls
 }
 
 /// Runs the lists of so many seeds; an error is the first difference.
@@ -45,12 +97,9 @@ pub fn run(store: &dyn Store, first: u64, count: u64) -> Result<Tally, String> {
     let mut tally = Tally::default();
     for seed in first..first.saturating_add(count) {
         let (shape, calls) = list(seed);
-        let accepted = compare(store, seed, &shape, &calls)
+        let counted = compare(store, seed, &shape, &calls)
             .map_err(|difference| format!("seed {seed}, {shape:?}: {difference}"))?;
-        tally.lists += 1;
-        tally.calls += calls.len() as u64;
-        tally.accepted += accepted;
-        tally.largest += u64::from(shape == LARGEST);
+        tally.add(counted);
     }
     Ok(tally)
 }
@@ -146,20 +195,28 @@ impl Watched {
     }
 }
 
-/// One list; answers how many calls were accepted, or the difference.
-pub fn compare(store: &dyn Store, seed: u64, shape: &Shape, calls: &[Call]) -> Result<u64, String> {
+/// One list; answers what it came to, or the difference.
+pub fn compare(
+    store: &dyn Store,
+    seed: u64,
+    shape: &Shape,
+    calls: &[Call],
+) -> Result<Tally, String> {
     let mut random = Random::new(seed ^ 0x6C65_6E74_0000_0000);
     let (mut watched, need) = made(store, shape, &mut random)?;
     let mut history = History::new(*shape);
-    let mut accepted = 0;
+    let mut tally = Tally { lists: 1, calls: calls.len() as u64, ..Tally::default() };
+    tally.largest = u64::from(*shape == LARGEST);
     for (place, call) in calls.iter().enumerate() {
         let expected = history.call(call);
+        if !expected.is_refused() {
+            tally.count(watched.memory.get(), watched.scans.get(), call);
+        }
         let found = store.call(watched.memory.get_mut(), watched.scans.get_mut(), call);
         let checked = after_call(&mut watched, call, need, &expected, &found);
         checked.map_err(|error| format!("call {place}, {}: {error}", trace::call_words(call)))?;
-        accepted += u64::from(!found.is_refused());
     }
-    Ok(accepted)
+    Ok(tally)
 }
 
 fn after_call(

@@ -3,9 +3,9 @@
 //! answer always.
 
 use reference::random::Random;
-use reference::{generate, trace, Answer, Call, Shape};
+use reference::{trace, Answer, Call, Shape};
 
-use crate::agree::{made, Watched};
+use crate::agree::{self, made, Watched};
 use crate::facts::{self, Stored};
 use crate::memory::{header, list_word, word, Layout, ScanEntry, SCANS, SCAN_WORDS, WORD};
 use crate::operands::{call_for, COMMANDS};
@@ -100,7 +100,7 @@ fn grown(
     random: &mut Random,
 ) -> Result<Watched, String> {
     let (mut watched, _) = made(store, shape, random)?;
-    for call in generate::calls(seed, *shape, count) {
+    for call in agree::calls(seed, shape, count, false) {
         store.call(watched.memory.get_mut(), watched.scans.get_mut(), &call);
     }
     watched.keep();
@@ -247,8 +247,12 @@ fn judge(
     let memory = watched.memory.get();
     let layout = Layout::stored(memory).ok_or("the measures are gone")?;
     watched.changed_by(call, layout.need())?;
-    // An accepted call keeps the facts, but for a count of merges that goes round to 0.
-    let round = matches!(call, Call::Merge { .. }) && word(memory, header::MERGES_MADE) == 0;
+    // An accepted call keeps the facts, but for a count of merges or commits that goes round to 0.
+    let round = match call {
+        Call::Merge { .. } => word(memory, header::MERGES_MADE) == 0,
+        Call::Commit { .. } => word(memory, header::COMMITS_MADE) == 0,
+        _ => false,
+    };
     match facts::failing(memory, watched.scans.get()) {
         Some(fact) if !round => Err(format!("'{fact}' fails afterwards")),
         _ => Ok(()),

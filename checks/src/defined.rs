@@ -79,6 +79,7 @@ struct RowWords {
     transaction: u32,
     state: u32,
     stamp: u32,
+    ordinal: u32,
     link: u32,
     mask: u32,
 }
@@ -92,6 +93,7 @@ struct RecordWords {
     link: u32,
     state: u32,
     stamp: u32,
+    ordinal: u32,
 }
 
 #[derive(Clone, Copy)]
@@ -102,6 +104,29 @@ struct PageWords {
     replaced: u32,
     lineage: u32,
     newest: u32,
+}
+
+/// A commit's stamp and its ordinal.
+#[derive(Clone, Copy)]
+struct Commit {
+    stamp: u32,
+    ordinal: u32,
+}
+
+const NO_COMMIT: Commit = Commit { stamp: 0, ordinal: 0 };
+
+/// Of the first so many commits those with a stamp at or before this one.
+#[derive(Clone, Copy)]
+struct Snapshot {
+    stamp: u32,
+    commits: u32,
+}
+
+#[derive(Clone, Copy)]
+struct Reader {
+    stamp: u32,
+    commits: u32,
+    me: u32,
 }
 
 /// The number below the first record of a range.
@@ -200,11 +225,16 @@ impl View {
         self.header(8)
     }
 
+    fn commits_made(&self) -> u32 {
+        self.header(9)
+    }
+
     fn row_in(&self, row: usize) -> RowWords {
         RowWords {
             transaction: self.get(Region::RowTransaction, row),
             state: self.get(Region::RowState, row),
             stamp: self.get(Region::RowStamp, row),
+            ordinal: self.get(Region::RowOrdinal, row),
             link: self.get(Region::RowLink, row),
             mask: self.get(Region::RowMask, row),
         }
@@ -219,6 +249,7 @@ impl View {
             link: self.get(Region::TailLink, slot),
             state: self.get(Region::TailState, slot),
             stamp: self.get(Region::TailStamp, slot),
+            ordinal: self.get(Region::TailOrdinal, slot),
         }
     }
 
@@ -272,8 +303,47 @@ fn scan_entry(places: &[ScanEntry], number: u32) -> ScanEntry {
 }
 
 // Reading
-fn sees(stamp: u32, own: u32, state: u32, at: u32, transaction: u32) -> bool {
-    (state == 1 && at <= stamp) || (state == 0 && own != 0 && transaction == own)
+fn reader(t: Snapshot, me: u32) -> Reader {
+    Reader { stamp: t.stamp, commits: t.commits, me }
+}
+
+impl View {
+    fn snapshot_in(&self, stamp: u32) -> Snapshot {
+        Snapshot { stamp, commits: self.commits_made() }
+    }
+
+    fn latest_in(&self) -> Snapshot {
+        self.snapshot_in(self.last_stamp())
+    }
+}
+
+fn snapshot_of(scan: ScanEntry) -> Snapshot {
+    Snapshot { stamp: scan.stamp, commits: scan.commits }
+}
+
+fn sees(who: Reader, state: u32, stamp: u32, ordinal: u32, transaction: u32) -> bool {
+    (state == 1 && stamp <= who.stamp && ordinal <= who.commits)
+        || (state == 0 && who.me != 0 && transaction == who.me)
+}
+
+fn sees_row(who: Reader, x: &RowWords) -> bool {
+    sees(who, x.state, x.stamp, x.ordinal, x.transaction)
+}
+
+fn sees_record(who: Reader, x: &RecordWords) -> bool {
+    sees(who, x.state, x.stamp, x.ordinal, x.transaction)
+}
+
+fn answers_for(who: Reader, c: usize, x: &RecordWords) -> bool {
+    bit(x.mask, c) && (x.kind == 0 || (x.kind == 1 && sees_record(who, x)))
+}
+
+fn down_to(who: Reader, page: &PageWords) -> u32 {
+    if page.newest <= who.stamp {
+        page.lineage
+    } else {
+        FLOOR
+    }
 }
 
 impl View {
@@ -285,18 +355,17 @@ impl View {
         self.row_in(row).link != 0
     }
 
-    fn visible_in(&self, stamp: u32, own: u32, row: usize) -> bool {
+    fn visible_in(&self, who: Reader, row: usize) -> bool {
         let (x, y) = (self.row_in(row), self.head_in(row));
-        let ended = y.kind > 1 && sees(stamp, own, y.state, y.stamp, y.transaction);
-        sees(stamp, own, x.state, x.stamp, x.transaction) && !(self.has_record(row) && ended)
+        let ended = y.kind > 1 && sees_record(who, &y);
+        sees_row(who, &x) && !(self.has_record(row) && ended)
     }
 
-    fn walk(&self, g: usize, c: usize, stamp: u32, own: u32, low: usize, k: usize) -> Found {
+    fn walk(&self, who: Reader, g: usize, c: usize, low: usize, k: usize) -> Found {
         let (mut steps, mut k) = (k, k);
         while steps > 0 && k > low {
             let x = self.record_in(self.slot(g, k));
-            let seen = sees(stamp, own, x.state, x.stamp, x.transaction);
-            if bit(x.mask, c) && (x.kind == 0 || (x.kind == 1 && seen)) {
+            if answers_for(who, c, &x) {
                 return Found::At(self.slot(g, k));
             }
             k = x.link as usize;
@@ -305,19 +374,17 @@ impl View {
         Found::Nothing
     }
 
-    fn found_in(&self, stamp: u32, own: u32, low: u32, row: usize, c: usize) -> Found {
+    fn found_in(&self, who: Reader, low: u32, row: usize, c: usize) -> Found {
         let x = self.row_in(row);
         if bit(x.mask, c) {
-            self.walk(range_of(row), c, stamp, own, low as usize, x.link as usize)
+            self.walk(who, range_of(row), c, low as usize, x.link as usize)
         } else {
             Found::Nothing
         }
     }
 
-    fn word_in(&self, stamp: u32, own: u32, page: usize, row: usize, c: usize) -> u32 {
-        let p = self.page_in(page);
-        let down_to = if p.newest <= stamp { p.lineage } else { FLOOR };
-        match self.found_in(stamp, own, down_to, row, c) {
+    fn word_in(&self, who: Reader, page: usize, row: usize, c: usize) -> u32 {
+        match self.found_in(who, down_to(who, &self.page_in(page)), row, c) {
             Found::At(slot) => self.value_in(slot, c),
             Found::Nothing => self.cell_in(page, within(row)),
         }
@@ -330,8 +397,8 @@ impl View {
         }
     }
 
-    fn setter_in(&self, stamp: u32, own: u32, row: usize, c: usize) -> Setter {
-        match self.found_in(stamp, own, FLOOR, row, c) {
+    fn setter_in(&self, who: Reader, row: usize, c: usize) -> Setter {
+        match self.found_in(who, FLOOR, row, c) {
             Found::At(slot) => self.setter_at(slot),
             Found::Nothing => Setter::Insert,
         }
@@ -346,11 +413,8 @@ impl View {
         }
     }
 
-    fn lookup_in(&self, stamp: u32, own: u32, page: usize, row: usize, c: usize) -> Version {
-        Version {
-            word: self.word_in(stamp, own, page, row, c),
-            setter: self.setter_in(stamp, own, row, c),
-        }
+    fn lookup_in(&self, who: Reader, page: usize, row: usize, c: usize) -> Version {
+        Version { word: self.word_in(who, page, row, c), setter: self.setter_in(who, row, c) }
     }
 
     fn shown_in(&self, row: usize, version: Version) -> Answer {
@@ -358,16 +422,16 @@ impl View {
         Answer::Version { value: version.word as i32, stamp }
     }
 
-    fn read_in(&self, stamp: u32, own: u32, page: usize, row: usize, c: usize) -> Answer {
-        if self.visible_in(stamp, own, row) {
-            self.shown_in(row, self.lookup_in(stamp, own, page, row, c))
+    fn read_in(&self, who: Reader, page: usize, row: usize, c: usize) -> Answer {
+        if self.visible_in(who, row) {
+            self.shown_in(row, self.lookup_in(who, page, row, c))
         } else {
             Answer::None
         }
     }
 
-    fn read_current(&self, stamp: u32, own: u32, row: usize, c: usize) -> Answer {
-        self.read_in(stamp, own, self.current_in(range_of(row), c), row, c)
+    fn read_current(&self, who: Reader, row: usize, c: usize) -> Answer {
+        self.read_in(who, self.current_in(range_of(row), c), row, c)
     }
 
     fn own_changes(&self, transaction: u32) -> u32 {
@@ -397,11 +461,12 @@ impl View {
 
     fn sum_in(&self, scan: ScanEntry, c: usize) -> Answer {
         let (mut count, mut sum) = (0, 0);
+        let who = reader(snapshot_of(scan), 0);
         for row in 0..self.rows_given() as usize {
-            if self.visible_in(scan.stamp, 0, row) {
+            if self.visible_in(who, row) {
                 let page = self.scan_page(scan.merges, range_of(row), c);
                 count += 1;
-                sum += i64::from(self.word_in(scan.stamp, 0, page, row, c) as i32);
+                sum += i64::from(self.word_in(who, page, row, c) as i32);
             }
         }
         Answer::Sum { count, sum }
@@ -426,11 +491,12 @@ impl View {
         self
     }
 
-    fn settled(mut self, transaction: u32, state: u32, stamp: u32) -> View {
+    fn settled(mut self, transaction: u32, state: u32, commit: Commit) -> View {
         for row in 0..self.rows_given() as usize {
             if self.get(Region::RowTransaction, row) == transaction {
                 self.put(Region::RowState, row, state);
-                self.put(Region::RowStamp, row, stamp);
+                self.put(Region::RowStamp, row, commit.stamp);
+                self.put(Region::RowOrdinal, row, commit.ordinal);
             }
         }
         for range in 0..self.layout.ranges {
@@ -438,7 +504,8 @@ impl View {
                 let slot = self.slot(range, number);
                 if self.get(Region::TailTransaction, slot) == transaction {
                     self.put(Region::TailState, slot, state);
-                    self.put(Region::TailStamp, slot, stamp);
+                    self.put(Region::TailStamp, slot, commit.stamp);
+                    self.put(Region::TailOrdinal, slot, commit.ordinal);
                 }
             }
         }
@@ -452,6 +519,22 @@ impl View {
         self
     }
 
+    fn next_in(&self, stamp: u32) -> Commit {
+        Commit { stamp, ordinal: self.commits_made().wrapping_add(1) }
+    }
+
+    fn committed_in(self, transaction: u32, stamp: u32) -> View {
+        let next = self.next_in(stamp);
+        let mut after = self.settled(transaction, 1, next).freed(transaction);
+        after.put(Region::Header, 7, stamp);
+        after.put(Region::Header, 9, next.ordinal);
+        after
+    }
+
+    fn aborted_in(self, transaction: u32) -> View {
+        self.settled(transaction, 2, NO_COMMIT).freed(transaction)
+    }
+
     fn inserted_in(mut self, transaction: u32, values: &[i32]) -> View {
         let number = self.rows_given();
         let row = number as usize;
@@ -460,6 +543,7 @@ impl View {
         self.put(Region::RowStamp, row, 0);
         self.put(Region::RowLink, row, 0);
         self.put(Region::RowMask, row, 0);
+        self.put(Region::RowOrdinal, row, 0);
         for c in 0..self.layout.columns {
             let at = self.current_in(range_of(row), c) * RANGE_ROWS + within(row);
             self.put(Region::Cells, at, value_of(values, c));
@@ -480,6 +564,7 @@ impl View {
         self.put(Region::TailLink, slot, link);
         self.put(Region::TailState, slot, 0);
         self.put(Region::TailStamp, slot, 0);
+        self.put(Region::TailOrdinal, slot, 0);
         self.put(Region::Used, range, number);
         self.put(Region::RowLink, row, number);
         self
@@ -660,6 +745,14 @@ impl View {
         (self.layout.capacity as u32) < self.used_in(range_of(row as usize)) + wanted
     }
 
+    fn earlier_in(&self, stamp: u32) -> bool {
+        stamp < self.last_stamp()
+    }
+
+    fn later_in(&self, stamp: u32) -> bool {
+        self.last_stamp() < stamp
+    }
+
     fn lineage_in(&self, g: usize, c: usize) -> u32 {
         self.page_in(self.current_in(g, c)).lineage
     }
@@ -704,7 +797,7 @@ impl View {
             }
             Call::Commit { transaction, stamp } => {
                 test(3, &|| self.not_open_in(transaction));
-                test(13, &|| stamp <= self.last_stamp());
+                test(13, &|| self.earlier_in(stamp));
             }
             Call::Abort { transaction } => test(3, &|| self.not_open_in(transaction)),
             Call::Latest { row, column } => {
@@ -712,7 +805,7 @@ impl View {
                 test(6, &|| self.no_column(column));
             }
             Call::ReadAt { stamp, row, column } => {
-                test(13, &|| self.last_stamp() < stamp);
+                test(13, &|| self.later_in(stamp));
                 test(5, &|| self.not_given_in(row));
                 test(6, &|| self.no_column(column));
             }
@@ -722,7 +815,7 @@ impl View {
                 test(6, &|| self.no_column(column));
             }
             Call::OpenScan { stamp } => {
-                test(13, &|| self.last_stamp() < stamp);
+                test(13, &|| self.later_in(stamp));
                 test(15, &|| MOST_NUMBERS <= self.scans_given());
                 let open = || places.iter().filter(|scan| scan.number != 0).count();
                 test(14, &|| SCANS <= open());
@@ -771,20 +864,21 @@ impl View {
                 Answer::Done
             }
             Call::Latest { row, column } => {
-                self.read_current(self.last_stamp(), 0, row as usize, column as usize)
+                self.read_current(reader(self.latest_in(), 0), row as usize, column as usize)
             }
             Call::ReadAt { stamp, row, column } => {
-                self.read_current(stamp, 0, row as usize, column as usize)
+                let who = reader(self.snapshot_in(stamp), 0);
+                self.read_current(who, row as usize, column as usize)
             }
             Call::OwnRead { transaction, row, column } => {
-                let own = self.own_changes(transaction);
-                self.read_current(self.last_stamp(), own, row as usize, column as usize)
+                let who = reader(self.latest_in(), self.own_changes(transaction));
+                self.read_current(who, row as usize, column as usize)
             }
             Call::OpenScan { .. } => Answer::Number(self.scans_given() + 1),
             Call::ScanRead { scan, row, column } => {
                 let (scan, row, c) = (scan_entry(places, scan), row as usize, column as usize);
                 let page = self.scan_page(scan.merges, range_of(row), c);
-                self.read_in(scan.stamp, 0, page, row, c)
+                self.read_in(reader(snapshot_of(scan), 0), page, row, c)
             }
             Call::Sum { scan, column } => self.sum_in(scan_entry(places, scan), column as usize),
             Call::Release => {
@@ -812,12 +906,8 @@ impl View {
             Call::Delete { transaction, row } => {
                 self.appended(transaction, row as usize, 2, 0).noted(transaction)
             }
-            Call::Commit { transaction, stamp } => {
-                let mut after = self.settled(transaction, 1, stamp).freed(transaction);
-                after.put(Region::Header, 7, stamp);
-                after
-            }
-            Call::Abort { transaction } => self.settled(transaction, 2, 0).freed(transaction),
+            Call::Commit { transaction, stamp } => self.committed_in(transaction, stamp),
+            Call::Abort { transaction } => self.aborted_in(transaction),
             Call::OpenScan { .. } => {
                 let mut after = self;
                 let number = after.scans_given() + 1;
@@ -844,7 +934,12 @@ impl View {
         let (found, new) = match *call {
             Call::OpenScan { stamp } => (
                 places.iter().position(|scan| scan.number == 0),
-                ScanEntry { number: self.scans_given() + 1, stamp, merges: self.merges_made() },
+                ScanEntry {
+                    number: self.scans_given() + 1,
+                    stamp,
+                    merges: self.merges_made(),
+                    commits: self.commits_made(),
+                },
             ),
             Call::Close { scan: number } => {
                 (places.iter().position(|scan| bears(number, scan.number)), FREE_ENTRY)

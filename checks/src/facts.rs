@@ -1,5 +1,5 @@
 //! The stored facts, one after the other: document 01's paragraph "The stored facts are these", with
-//! Item 2 of document 02 for the list. Written from these and the layout alone, to judge a store's
+//! Items 2 and 3 of document 02 for the list. Written from these and the layout alone, to judge a store's
 //! answer 2, so it is plain rather than quick.
 
 use crate::memory::{header, page, word, Layout, Region, ScanEntry};
@@ -43,7 +43,7 @@ const LENGTH: &str = "the memory is as long as the shape needs";
 
 type Fact = (&'static str, fn(&Stored) -> bool);
 
-const FACTS: [Fact; 22] = [
+const FACTS: [Fact; 23] = [
     // "counts within the measures"
     ("rows given are no more than the rows", |s| {
         s.header(header::ROWS_GIVEN) as usize <= s.layout.rows
@@ -108,6 +108,11 @@ const FACTS: [Fact; 22] = [
     // "no scan's or waiting page's merge count exceeds the merges made"
     ("an open scan's merges are among those made", |s| {
         s.scans.iter().all(|scan| scan.merges <= s.header(header::MERGES_MADE))
+    }),
+    // Item 3: "the count of all commits made before it, which as a stored fact does not exceed the
+    // commits made"
+    ("an open scan's commits are among those made", |s| {
+        s.scans.iter().all(|scan| scan.commits <= s.header(header::COMMITS_MADE))
     }),
     ("a waiting page's merge is among those made", |s| {
         let made = s.header(header::MERGES_MADE);

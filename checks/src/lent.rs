@@ -30,15 +30,23 @@ impl Content for u8 {
 }
 
 impl Content for ScanEntry {
-    const MARK: ScanEntry =
-        ScanEntry { number: 0xA5A5_A5A5, stamp: 0xA5A5_A5A5, merges: 0xA5A5_A5A5 };
+    const MARK: ScanEntry = ScanEntry {
+        number: 0xA5A5_A5A5,
+        stamp: 0xA5A5_A5A5,
+        merges: 0xA5A5_A5A5,
+        commits: 0xA5A5_A5A5,
+    };
     const SHIFTS: u32 = 1;
 
     fn fill(all: &mut [ScanEntry], random: &mut Random) {
         for scan in all {
             let (one, other) = (random.word(), random.word());
-            *scan =
-                ScanEntry { number: one as u32, stamp: (one >> 32) as u32, merges: other as u32 };
+            *scan = ScanEntry {
+                number: one as u32,
+                stamp: (one >> 32) as u32,
+                merges: other as u32,
+                commits: (other >> 32) as u32,
+            };
         }
     }
 }

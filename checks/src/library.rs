@@ -181,7 +181,7 @@ fn shaped(shape: &Shape) -> deskrook::Shape {
 
 /// The list in the crate's type.
 fn list(scans: &mut [ScanEntry]) -> &mut [deskrook::ScanEntry] {
-    // SAFETY: both types are three 32-bit words by `repr(C)`, and the borrow is handed on.
+    // SAFETY: both types are four 32-bit words by `repr(C)`, and the borrow is handed on.
     unsafe { std::slice::from_raw_parts_mut(scans.as_mut_ptr().cast(), scans.len()) }
 }
 

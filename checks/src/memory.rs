@@ -46,9 +46,11 @@ pub enum Region {
     PageNewest,
     Cells,
     Changes,
+    RowOrdinal,
+    TailOrdinal,
 }
 
-pub const REGIONS: usize = Region::Changes as usize + 1;
+pub const REGIONS: usize = Region::TailOrdinal as usize + 1;
 
 /// The words of the header.
 pub mod header {
@@ -61,6 +63,7 @@ pub mod header {
     pub const SCANS_GIVEN: usize = 6;
     pub const LAST_STAMP: usize = 7;
     pub const MERGES_MADE: usize = 8;
+    pub const COMMITS_MADE: usize = 9;
     pub const WORDS: usize = 16;
 }
 
@@ -134,6 +137,8 @@ impl Layout {
             pages,
             pages * ROWS,
             OPENS,
+            rows,
+            slots,
         ];
         let mut bases = [0; REGIONS + 1];
         for (region, length) in lengths.iter().enumerate() {
@@ -219,11 +224,12 @@ pub struct ScanEntry {
     pub number: u32,
     pub stamp: u32,
     pub merges: u32,
+    pub commits: u32,
 }
 
 impl ScanEntry {
     /// A free entry as the store writes it.
-    pub const FREE: ScanEntry = ScanEntry { number: 0, stamp: 0, merges: 0 };
+    pub const FREE: ScanEntry = ScanEntry { number: 0, stamp: 0, merges: 0, commits: 0 };
 
     pub fn is_open(&self) -> bool {
         self.number != 0
@@ -231,7 +237,7 @@ impl ScanEntry {
 }
 
 /// Words in an entry of the scan list.
-pub const SCAN_WORDS: usize = 3;
+pub const SCAN_WORDS: usize = 4;
 
 /// Word i of a scan list.
 pub fn list_word(list: &mut [ScanEntry], i: usize) -> &mut u32 {
@@ -239,6 +245,7 @@ pub fn list_word(list: &mut [ScanEntry], i: usize) -> &mut u32 {
     match i % SCAN_WORDS {
         0 => &mut scan.number,
         1 => &mut scan.stamp,
-        _ => &mut scan.merges,
+        2 => &mut scan.merges,
+        _ => &mut scan.commits,
     }
 }

@@ -41,7 +41,7 @@ impl Operands<'_> {
                 values: self.values(),
             },
             0x04 => Call::Delete { transaction: self.transaction(), row: self.row() },
-            0x05 => Call::Commit { transaction: self.transaction(), stamp: self.later() },
+            0x05 => Call::Commit { transaction: self.transaction(), stamp: self.commit_stamp() },
             0x06 => Call::Abort { transaction: self.transaction() },
             0x07 => Call::Latest { row: self.row(), column: self.column() },
             0x08 => Call::ReadAt { stamp: self.stamp(), row: self.row(), column: self.column() },
@@ -162,15 +162,16 @@ impl Operands<'_> {
         }
     }
 
-    fn later(&mut self) -> u32 {
+    /// A stamp to commit at: often the last commit's again, seldom an earlier one.
+    fn commit_stamp(&mut self) -> u32 {
         if self.any {
             return self.any();
         }
         let last = self.header(header::LAST_STAMP);
-        if self.random.percent(10) {
-            last
-        } else {
-            last.saturating_add(self.random.between(1, 3))
+        match self.random.below(20) {
+            0 | 1 => last.saturating_sub(self.random.between(1, 3)),
+            2..=9 => last,
+            _ => last.saturating_add(self.random.between(1, 3)),
         }
     }
 

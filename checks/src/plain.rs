@@ -16,6 +16,7 @@ use crate::memory::{header, kind, page, put_word, state, word, words};
 use crate::memory::{Layout, Region, ScanEntry, NUMBERS, OPENS, ROWS, SCANS, WORD};
 use crate::store::Store;
 
+use reading::Snapshot;
 pub use sound::sound;
 
 /// The store. `FAULT` is one of the numbers in `faults`.
@@ -152,7 +153,10 @@ impl<const FAULT: u8> Table<'_, FAULT> {
             }
             Call::Commit { transaction, stamp } => {
                 let open = self.open(transaction)?;
-                require(stamp > self.header(header::LAST_STAMP), 13)?;
+                let last = self.header(header::LAST_STAMP);
+                require(stamp >= last || FAULT == faults::EARLIER_COMMIT_ACCEPTED, 13)?;
+                require(stamp != last || FAULT != faults::COMMIT_MUST_BE_LATER, 13)?;
+                require(stamp != 0 || FAULT != faults::COMMIT_AT_0_REFUSED, 13)?;
                 Ok(self.commit(transaction, open, stamp))
             }
             Call::Abort { transaction } => {
@@ -162,13 +166,13 @@ impl<const FAULT: u8> Table<'_, FAULT> {
             Call::Latest { row, column } => {
                 let row = self.given(row)?;
                 let column = self.column(column)?;
-                Ok(self.read(self.header(header::LAST_STAMP), 0, row, column))
+                Ok(self.read(self.latest(), 0, row, column))
             }
             Call::ReadAt { stamp, row, column } => {
                 require(stamp <= self.header(header::LAST_STAMP), 13)?;
                 let row = self.given(row)?;
                 let column = self.column(column)?;
-                Ok(self.read(stamp, 0, row, column))
+                Ok(self.read(self.snapshot(stamp), 0, row, column))
             }
             Call::OwnRead { transaction, row, column } => {
                 let open = self.open(transaction)?;
@@ -176,7 +180,7 @@ impl<const FAULT: u8> Table<'_, FAULT> {
                 let column = self.column(column)?;
                 // With nothing noted it is the latest read.
                 let own = if self.get(Region::Changes, open) == 0 { 0 } else { transaction };
-                Ok(self.read(self.header(header::LAST_STAMP), own, row, column))
+                Ok(self.read(self.latest(), own, row, column))
             }
             Call::OpenScan { stamp } => self.open_scan(stamp),
             Call::ScanRead { scan, row, column } => {
@@ -184,7 +188,7 @@ impl<const FAULT: u8> Table<'_, FAULT> {
                 let row = self.given(row)?;
                 let column = self.column(column)?;
                 let at = self.scan_page(scan.merges, row / ROWS, column);
-                Ok(self.read_page(scan.stamp, 0, at, row, column))
+                Ok(self.read_page(Self::scanned(scan), 0, at, row, column))
             }
             Call::Sum { scan, column } => {
                 let (_, scan) = self.scan(scan)?;
@@ -244,9 +248,40 @@ impl<const FAULT: u8> Table<'_, FAULT> {
         require(open < SCANS || FAULT == faults::SCANS_BY_ENTRIES, 14)?;
         let place = self.scans.iter().position(|scan| !scan.is_open()).ok_or(14)?;
         let merges = self.header(header::MERGES_MADE);
-        self.scans[place] = ScanEntry { number: given + 1, stamp, merges };
+        let commits = match FAULT {
+            faults::SCAN_NOTES_NO_COMMITS => 0,
+            _ => self.header(header::COMMITS_MADE),
+        };
+        self.scans[place] = ScanEntry { number: given + 1, stamp, merges, commits };
         self.put(Region::Header, header::SCANS_GIVEN, given + 1);
         Ok(Answer::Number(given + 1))
+    }
+
+    /// What a read at a stamp may see: of all commits made those up to the stamp.
+    fn snapshot(&self, stamp: u32) -> Snapshot {
+        let commits = match FAULT {
+            faults::OLDEST_OF_THE_MINUTE => self.oldest_ordinal(stamp),
+            _ => self.header(header::COMMITS_MADE),
+        };
+        Snapshot { stamp, commits }
+    }
+
+    /// What a latest read may see.
+    fn latest(&self) -> Snapshot {
+        let stamp = self.header(header::LAST_STAMP);
+        Snapshot { stamp, commits: self.header(header::COMMITS_MADE) }
+    }
+
+    /// What a scan may see: what was committed up to its stamp before it was opened.
+    fn scanned(scan: ScanEntry) -> Snapshot {
+        let ScanEntry { stamp, commits, .. } = scan;
+        match FAULT {
+            faults::SCAN_MISSES_LAST_COMMIT => {
+                Snapshot { stamp, commits: commits.saturating_sub(1) }
+            }
+            faults::SCAN_FORGETS_STAMP => Snapshot { stamp: u32::MAX, commits },
+            _ => Snapshot { stamp, commits },
+        }
     }
 
     /// The place of an open transaction. Number 0 marks a free entry, so it is never found.

@@ -1,7 +1,7 @@
 //! The refusals by the papers' words: document 01's table "What a refused call returns" and its
-//! paragraph "Tests run in this order", with Item 2 of document 02 for 14, read of the words of a
-//! usable memory, whoever wrote them. Written from these alone, to judge a store's refusals, so it is
-//! plain rather than quick.
+//! paragraph "Tests run in this order", with Item 2 of document 02 for 14 and Item 3 for 13, read of
+//! the words of a usable memory, whoever wrote them. Written from these alone, to judge a store's
+//! refusals, so it is plain rather than quick.
 //!
 //! Two words are settled: open is a number in the list of open numbers, whatever state words say; and
 //! what is not open is committed where its state word says so, and aborted otherwise.
@@ -101,9 +101,10 @@ pub fn applies(s: &Stored, number: u8, call: &Call, n: &Numbers) -> bool {
         // "the range lacks the one or two records wanted"
         12 => s.used(range_of(n)) + wanted(s, call, n) > s.header(header::CAPACITY),
         // "a commit not later than the last (0 in a new store), or a read or scan later than the
-        // last"
+        // last"; Item 3: "A commit may now carry the last commit's stamp again, 0 in a new store; only
+        // an earlier one is answered 13"
         13 => match call {
-            Call::Commit { .. } => n.stamp <= s.header(header::LAST_STAMP),
+            Call::Commit { .. } => n.stamp < s.header(header::LAST_STAMP),
             _ => n.stamp > s.header(header::LAST_STAMP),
         },
         // "8 transactions, or 16 scans, open"; Item 2: "Make five the limit in place of sixteen"

@@ -137,7 +137,7 @@ pub fn passing(random: &mut Random) -> (Vec<u8>, Vec<ScanEntry>) {
 
 /// Changes words that the facts leave free, in a memory whose facts hold. Whether there is a change.
 pub fn disturbed(memory: &mut [u8], random: &mut Random) -> bool {
-    let count = random.between(1, 6);
+    let count = random.between(1, 8);
     let mut builder = Builder::of(memory, random);
     for _ in 0..count {
         builder.disturb();
@@ -145,6 +145,15 @@ pub fn disturbed(memory: &mut [u8], random: &mut Random) -> bool {
     let changed = memory != builder.bytes;
     memory.copy_from_slice(&builder.bytes);
     changed
+}
+
+/// A count of commits that were made before a scan: as many as there are, a few less, or any.
+fn before(made: u32, random: &mut Random) -> u32 {
+    match random.below(3) {
+        0 => made,
+        1 => made.saturating_sub(random.between(1, 3)),
+        _ => (random.word() % (u64::from(made) + 1)) as u32,
+    }
 }
 
 /// Writes words that pass the facts into random bytes.
@@ -157,6 +166,9 @@ struct Builder<'r> {
     scans: u32,
     last: u32,
     merges: u32,
+    commits: u32,
+    /// The count of commits that most scans have, about which the ordinals lie.
+    before: u32,
     open: Vec<u32>,
     /// How many of a hundred rows and records bear an open transaction, at least.
     share: u32,
@@ -180,13 +192,28 @@ impl Builder<'_> {
         let scans = random.pick(&[0, 2, 20, NUMBERS - 1, NUMBERS]);
         let last = random.pick(&[0, 5, 30, u32::MAX]);
         let merges = random.pick(&[0, 3, 12, u32::MAX - 1, u32::MAX]);
+        let commits = random.pick(&[0, 1, 3, 12, u32::MAX - 1, u32::MAX]);
+        let before = before(commits, random);
         put_word(&mut bytes, header::ROWS_GIVEN, rows);
         put_word(&mut bytes, header::TRANSACTIONS_GIVEN, transactions);
         put_word(&mut bytes, header::SCANS_GIVEN, scans);
         put_word(&mut bytes, header::LAST_STAMP, last);
         put_word(&mut bytes, header::MERGES_MADE, merges);
-        let (open, share) = (Vec::new(), random.pick(&SHARES));
-        Builder { bytes, layout, random, rows, transactions, scans, last, merges, open, share }
+        put_word(&mut bytes, header::COMMITS_MADE, commits);
+        Builder {
+            bytes,
+            layout,
+            share: random.pick(&SHARES),
+            random,
+            rows,
+            transactions,
+            scans,
+            last,
+            merges,
+            commits,
+            before,
+            open: Vec::new(),
+        }
     }
 
     /// With the words that a memory has, whose facts hold.
@@ -194,6 +221,7 @@ impl Builder<'_> {
         let layout = Layout::stored(memory).expect("the measures lie within their limits");
         let header = |i| word(memory, i);
         let opens = (0..OPENS).map(|place| word(memory, layout.base(Region::Opens) + place));
+        let before = before(header(header::COMMITS_MADE), random);
         Builder {
             bytes: memory.to_vec(),
             layout,
@@ -204,18 +232,28 @@ impl Builder<'_> {
             scans: header(header::SCANS_GIVEN),
             last: header(header::LAST_STAMP),
             merges: header(header::MERGES_MADE),
+            commits: header(header::COMMITS_MADE),
+            before,
             open: opens.filter(|number| *number != 0).collect(),
         }
     }
 
     /// Another word in the place of one that the facts leave free.
     fn disturb(&mut self) {
-        match self.random.below(9) {
+        match self.random.below(10) {
             0 => self.other_open(),
             1 | 2 => self.other_page(),
             3 => self.other_lineage(),
+            4 => self.more_commits(),
             _ => self.other_record(),
         }
+    }
+
+    /// A greater count of commits made, which may be about to go round: no scan's is above it then.
+    fn more_commits(&mut self) {
+        let more = self.random.pick(&[self.commits.saturating_add(1), u32::MAX - 1, u32::MAX]);
+        self.commits = self.commits.max(more);
+        self.put(Region::Header, header::COMMITS_MADE, self.commits);
     }
 
     /// Another number, or none, in a place of the open transactions.
@@ -259,13 +297,15 @@ impl Builder<'_> {
         let number = 1 + self.random.below(used);
         let slot = self.layout.slot(range, number as usize);
         let row = self.get(Region::TailRow, slot);
-        let (region, at, word) = match self.random.below(7) {
+        let (region, at, word) = match self.random.below(9) {
             0 => (Region::RowLink, row as usize, self.linked(range, row, used)),
             1 => (Region::RowTransaction, row as usize, self.transaction()),
             2 => (Region::RowState, row as usize, self.code()),
             3 => (Region::TailLink, slot, self.linked(range, row, number - 1)),
             4 => (Region::TailTransaction, slot, self.transaction()),
             5 => (Region::TailState, slot, self.code()),
+            6 => (Region::RowOrdinal, row as usize, self.ordinal()),
+            7 => (Region::TailOrdinal, slot, self.ordinal()),
             _ => (Region::TailKind, slot, self.code()),
         };
         self.put(region, at, word);
@@ -283,6 +323,22 @@ impl Builder<'_> {
     fn up_to(&mut self, most: u32) -> u32 {
         let limit = if self.random.percent(50) { most.min(8) } else { most };
         (self.random.word() % (u64::from(limit) + 1)) as u32
+    }
+
+    /// An ordinal: mostly the last that most scans see or the first that they do not, else about the
+    /// commits made, which it may exceed, or anything.
+    fn ordinal(&mut self) -> u32 {
+        let (before, made) = (self.before, self.commits);
+        match self.random.below(10) {
+            0 | 1 => before,
+            2 | 3 => before.wrapping_add(1),
+            4 => before.wrapping_sub(1),
+            5 => made,
+            6 => made.wrapping_add(1),
+            7 => self.random.pick(&[0, u32::MAX]),
+            8 => self.up_to(made),
+            _ => self.random.word() as u32,
+        }
     }
 
     /// A state or kind: mostly one that the store writes.
@@ -339,7 +395,7 @@ impl Builder<'_> {
             let link = self.linked(range, row, number - 1);
             let (transaction, state) = (self.transaction(), self.code());
             let (kind, mask) = (self.code(), self.mask());
-            let stamp = self.up_to(self.last);
+            let (stamp, ordinal) = (self.up_to(self.last), self.ordinal());
             self.put(Region::TailTransaction, slot, transaction);
             self.put(Region::TailRow, slot, row);
             self.put(Region::TailKind, slot, kind);
@@ -347,6 +403,7 @@ impl Builder<'_> {
             self.put(Region::TailLink, slot, link);
             self.put(Region::TailState, slot, state);
             self.put(Region::TailStamp, slot, stamp);
+            self.put(Region::TailOrdinal, slot, ordinal);
         }
     }
 
@@ -370,11 +427,15 @@ impl Builder<'_> {
             let link = self.linked(at / ROWS, row, used);
             let (transaction, state) = (self.transaction(), self.code());
             let (stamp, mask) = (self.up_to(self.last), self.mask());
+            // Mostly seen by most scans, so that these have records to see or not.
+            let seen = self.random.percent(60);
+            let ordinal = if seen { self.up_to(self.before) } else { self.ordinal() };
             self.put(Region::RowTransaction, at, transaction);
             self.put(Region::RowState, at, state);
             self.put(Region::RowStamp, at, stamp);
             self.put(Region::RowLink, at, link);
             self.put(Region::RowMask, at, mask);
+            self.put(Region::RowOrdinal, at, ordinal);
         }
     }
 
@@ -430,7 +491,13 @@ impl Builder<'_> {
             }
             open.push(number);
             let (stamp, merges) = (self.up_to(self.last), self.up_to(self.merges));
-            *place = ScanEntry { number, stamp, merges };
+            let stamp = if self.random.percent(50) { self.last } else { stamp };
+            let commits = match self.random.below(4) {
+                0 => self.commits,
+                1 => self.up_to(self.commits),
+                _ => self.before,
+            };
+            *place = ScanEntry { number, stamp, merges, commits };
         }
         list
     }

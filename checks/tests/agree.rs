@@ -13,6 +13,15 @@ fn answers_are_those_of_the_plain_history() {
     assert!(tally.accepted * 10 > tally.calls * 8, "{tally:?}");
 }
 
+/// A third of the commits and more come in the minute of the last, and of these there are thousands
+/// under a scan that was opened at that minute before them.
+#[test]
+fn lists_have_several_commits_in_one_minute() {
+    let tally = agree::run(&Plain::<0>, 0, 1100).expect("no difference");
+    assert!(tally.repeated * 3 > tally.commits, "{tally:?}");
+    assert!(tally.under_scans > 1000, "{tally:?}");
+}
+
 #[test]
 fn bytes_are_those_of_the_definitions() {
     let tally = same::run(&Plain::<0>, &Defined, 0, 200).expect("no difference");
@@ -40,7 +49,7 @@ fn numbers_run_out() {
     let open = Call::OpenScan { stamp: 0 };
     scans.extend([open.clone(), Call::Close { scan: 65_535 }, open]);
     for calls in [transactions, scans] {
-        let accepted = agree::compare(&Plain::<0>, 0, &SMALLEST, &calls).expect("no difference");
-        assert_eq!(accepted, calls.len() as u64 - 2);
+        let tally = agree::compare(&Plain::<0>, 0, &SMALLEST, &calls).expect("no difference");
+        assert_eq!(tally.accepted, calls.len() as u64 - 2);
     }
 }

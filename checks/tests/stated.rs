@@ -1,11 +1,11 @@
 //! Refusals on memories that no call made: each follows the papers' words, whatever links, lineages
-//! and state words say. Known memories for 9, 10, 17 and 18, and stores that take a shortcut to one of
-//! them, which are told apart.
+//! and state words say. Known memories for 9, 10, 13, 17 and 18, and stores that take a shortcut to one
+//! of 9, 10, 17 and 18, which are told apart; and what reads give where ordinals were changed.
 
 use checks::defined::Defined;
 #[cfg(feature = "library")]
 use checks::library::Library;
-use checks::memory::{put_word, Layout, Region, ScanEntry, SCANS};
+use checks::memory::{header, put_word, Layout, Region, ScanEntry, SCANS};
 use checks::plain::Plain;
 use checks::{agree, damage, facts, same, shortcuts, stated, Store};
 use reference::{Answer, Call, Shape};
@@ -101,6 +101,70 @@ fn a_page_that_no_place_names_is_free() {
         Answer::Done,
     );
     answers(&settled(), &[(Region::PageState, 1, 2)], merge, Answer::Refused(18));
+}
+
+#[test]
+fn only_a_commit_before_the_last_is_refused() {
+    let commit = |transaction, stamp| Call::Commit { transaction, stamp };
+    answers(&[Call::Begin], &[], commit(1, 0), Answer::Done);
+    answers(&settled(), &[], commit(3, 20), Answer::Done);
+    answers(&settled(), &[], commit(3, 19), Answer::Refused(13));
+    answers(&settled(), &[], commit(3, 0), Answer::Refused(13));
+    let last = [(Region::Header, header::LAST_STAMP, u32::MAX)];
+    answers(&settled(), &last, commit(3, u32::MAX), Answer::Done);
+    answers(&settled(), &last, commit(3, u32::MAX - 1), Answer::Refused(13));
+}
+
+/// Two commits are made. What bears a later ordinal no reader sees, up to the last ordinal of all.
+#[test]
+fn an_ordinal_above_the_commits_made_is_not_seen() {
+    let latest = Call::Latest { row: 0, column: 0 };
+    let read_at = Call::ReadAt { stamp: 20, row: 0, column: 0 };
+    let own_read = Call::OwnRead { transaction: 3, row: 0, column: 0 };
+    let (inserted, set) =
+        (Answer::Version { value: 5, stamp: 10 }, Answer::Version { value: 7, stamp: 20 });
+    for read in [latest, read_at, own_read] {
+        for ordinal in [0, 2] {
+            let put = [(Region::TailOrdinal, 1, ordinal), (Region::RowOrdinal, 0, ordinal)];
+            answers(&settled(), &put, read.clone(), set.clone());
+        }
+        for ordinal in [3, u32::MAX] {
+            let record = [(Region::TailOrdinal, 1, ordinal)];
+            answers(&settled(), &record, read.clone(), inserted.clone());
+            let row = [(Region::RowOrdinal, 0, ordinal)];
+            answers(&settled(), &row, read.clone(), Answer::None);
+            let made = [record[0], (Region::Header, header::COMMITS_MADE, ordinal)];
+            answers(&settled(), &made, read.clone(), set.clone());
+        }
+    }
+}
+
+/// A scan goes by its own count: by the ordinal it sees a commit at its stamp or not.
+#[test]
+fn a_scan_sees_up_to_its_own_count() {
+    let mut calls = settled();
+    calls.push(Call::OpenScan { stamp: 20 });
+    let read = Call::ScanRead { scan: 1, row: 0, column: 0 };
+    let sum = Call::Sum { scan: 1, column: 0 };
+    let made = (Region::Header, header::COMMITS_MADE, u32::MAX);
+    let (inserted, set) =
+        (Answer::Version { value: 5, stamp: 10 }, Answer::Version { value: 7, stamp: 20 });
+    for (ordinal, version, total) in [(2, set, 7), (3, inserted, 5)] {
+        let put = [made, (Region::TailOrdinal, 1, ordinal)];
+        answers(&calls, &put, read.clone(), version);
+        answers(&calls, &put, sum.clone(), Answer::Sum { count: 1, sum: total });
+    }
+    // The setting made a delete.
+    for (ordinal, version, count) in
+        [(2, Answer::None, 0), (3, Answer::Version { value: 5, stamp: 10 }, 1)]
+    {
+        let put = [made, (Region::TailKind, 1, 2), (Region::TailOrdinal, 1, ordinal)];
+        answers(&calls, &put, read.clone(), version);
+        answers(&calls, &put, sum.clone(), Answer::Sum { count, sum: 5 * i64::from(count) });
+    }
+    let put = [made, (Region::RowOrdinal, 0, 3)];
+    answers(&calls, &put, read, Answer::None);
+    answers(&calls, &put, sum, Answer::Sum { count: 0, sum: 0 });
 }
 
 /// The plain page store with one of the conditions by its shortcut.

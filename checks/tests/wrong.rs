@@ -48,6 +48,17 @@ wrong_stores! {
     stamp_of_an_aborted: STAMP_OF_AN_ABORTED,
     scans_by_entries: SCANS_BY_ENTRIES,
     transactions_as_scans: TRANSACTIONS_AS_SCANS,
+    scan_sees_later_setting: SCAN_SEES_LATER_SETTING,
+    scan_sees_later_insert: SCAN_SEES_LATER_INSERT,
+    scan_sees_later_end: SCAN_SEES_LATER_END,
+    oldest_of_the_minute: OLDEST_OF_THE_MINUTE,
+    earlier_commit_accepted: EARLIER_COMMIT_ACCEPTED,
+    commit_must_be_later: COMMIT_MUST_BE_LATER,
+    commit_at_0_refused: COMMIT_AT_0_REFUSED,
+    scan_notes_no_commits: SCAN_NOTES_NO_COMMITS,
+    scan_misses_last_commit: SCAN_MISSES_LAST_COMMIT,
+    scan_forgets_stamp: SCAN_FORGETS_STAMP,
+    scan_on_current_page: SCAN_ON_CURRENT_PAGE,
 }
 
 /// An original holds what the page has before any setting of its row and column, and a merge goes
@@ -56,6 +67,15 @@ wrong_stores! {
 #[test]
 fn merge_applies_originals() {
     let wrong = Plain::<{ faults::MERGE_APPLIES_ORIGINALS }>;
+    assert!(same::run(&Plain::<0>, &wrong, 0, LISTS).is_err());
+}
+
+/// By a lesser count of commits no reader sees more or less, as long as it counts those that changed
+/// something, in their order. The bytes tell it apart: a scan's entry has the count of all commits.
+#[test]
+fn empty_commit_not_counted() {
+    let wrong = Plain::<{ faults::EMPTY_COMMIT_NOT_COUNTED }>;
+    agree::run(&wrong, 0, 200).expect("no difference");
     assert!(same::run(&Plain::<0>, &wrong, 0, LISTS).is_err());
 }
 

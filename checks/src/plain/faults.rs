@@ -38,3 +38,26 @@ pub const STAMP_OF_AN_ABORTED: u8 = 23;
 pub const SCANS_BY_ENTRIES: u8 = 24;
 /// As many transactions can be open as scans.
 pub const TRANSACTIONS_AS_SCANS: u8 = 25;
+/// A scan sees what a later commit of its minute has set.
+pub const SCAN_SEES_LATER_SETTING: u8 = 26;
+/// A scan sees the rows that a later commit of its minute has inserted.
+pub const SCAN_SEES_LATER_INSERT: u8 = 27;
+/// For a scan a row is ended by a later commit of its minute.
+pub const SCAN_SEES_LATER_END: u8 = 28;
+/// Of the commits of its minute a read at sees the oldest alone.
+pub const OLDEST_OF_THE_MINUTE: u8 = 29;
+pub const EARLIER_COMMIT_ACCEPTED: u8 = 30;
+/// A commit at the last commit's stamp is refused.
+pub const COMMIT_MUST_BE_LATER: u8 = 31;
+/// A commit at 0 is refused; any other stamp may come again.
+pub const COMMIT_AT_0_REFUSED: u8 = 32;
+/// An opened scan has 0 as the count of commits made before it.
+pub const SCAN_NOTES_NO_COMMITS: u8 = 33;
+/// A scan misses the last of the commits made before it.
+pub const SCAN_MISSES_LAST_COMMIT: u8 = 34;
+/// A scan sees every commit made before it, also those later than its stamp.
+pub const SCAN_FORGETS_STAMP: u8 = 35;
+/// A scan reads the current page, which may hold a later commit of its minute.
+pub const SCAN_ON_CURRENT_PAGE: u8 = 36;
+/// A commit of a transaction that has changed nothing is not counted.
+pub const EMPTY_COMMIT_NOT_COUNTED: u8 = 37;

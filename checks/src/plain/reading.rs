@@ -7,9 +7,16 @@ use reference::Answer;
 use super::{faults, Table};
 use crate::memory::{header, kind, page, state, words, Region, ScanEntry, ROWS};
 
+/// Which commits a reader has: of the first so many those with a stamp at or before this one.
+#[derive(Clone, Copy)]
+pub(super) struct Snapshot {
+    pub(super) stamp: u32,
+    pub(super) commits: u32,
+}
+
 /// Who reads what.
 struct Reader {
-    stamp: u32,
+    snapshot: Snapshot,
     own: u32,
     range: usize,
     column: usize,
@@ -23,24 +30,24 @@ struct Page {
 
 impl<const FAULT: u8> Table<'_, FAULT> {
     /// The read of the current page.
-    pub(super) fn read(&self, stamp: u32, own: u32, row: usize, column: usize) -> Answer {
-        self.read_page(stamp, own, self.current(row / ROWS, column), row, column)
+    pub(super) fn read(&self, snapshot: Snapshot, own: u32, row: usize, column: usize) -> Answer {
+        self.read_page(snapshot, own, self.current(row / ROWS, column), row, column)
     }
 
     pub(super) fn read_page(
         &self,
-        stamp: u32,
+        snapshot: Snapshot,
         own: u32,
         at: usize,
         row: usize,
         column: usize,
     ) -> Answer {
-        if !self.visible(stamp, own, row) {
+        if !self.visible(snapshot, own, row) {
             return Answer::None;
         }
         let cell = self.cell(at, row);
         let page = self.page(at);
-        let reader = Reader { stamp, own, range: row / ROWS, column };
+        let reader = Reader { snapshot, own, range: row / ROWS, column };
         // One walk serves both: where it ends at a record not above `down_to`, the page has the value.
         let found = self
             .is_set(row, column)
@@ -60,43 +67,54 @@ impl<const FAULT: u8> Table<'_, FAULT> {
         self.get(Region::RowLink, row) as usize
     }
 
-    /// Committed by the stamp, or the reader's own.
+    /// A commit of the snapshot. For a fault all that bear its minute count, whenever made.
     #[inline(always)]
-    fn sees(stamp: u32, own: u32, state: u32, at: u32, transaction: u32) -> bool {
-        match state {
-            state::COMMITTED => at <= stamp,
-            state::OPEN => own != 0 && transaction == own,
+    fn has(snapshot: Snapshot, stamp: u32, ordinal: u32, fault: u8) -> bool {
+        stamp <= snapshot.stamp && (ordinal <= snapshot.commits || FAULT == fault)
+    }
+
+    /// By a commit of the snapshot, or the reader's own.
+    #[inline(always)]
+    fn sees_row(&self, snapshot: Snapshot, own: u32, row: usize) -> bool {
+        match self.get(Region::RowState, row) {
+            state::COMMITTED => {
+                let stamp = self.get(Region::RowStamp, row);
+                let ordinal = self.get(Region::RowOrdinal, row);
+                Self::has(snapshot, stamp, ordinal, faults::SCAN_SEES_LATER_INSERT)
+            }
+            state::OPEN => own != 0 && self.get(Region::RowTransaction, row) == own,
             _ => false,
         }
     }
 
     #[inline(always)]
-    fn sees_record(&self, stamp: u32, own: u32, slot: usize) -> bool {
-        let state = self.get(Region::TailState, slot);
-        let at = self.get(Region::TailStamp, slot);
-        Self::sees(stamp, own, state, at, self.get(Region::TailTransaction, slot))
+    fn sees_record(&self, snapshot: Snapshot, own: u32, slot: usize, fault: u8) -> bool {
+        match self.get(Region::TailState, slot) {
+            state::COMMITTED => {
+                let stamp = self.get(Region::TailStamp, slot);
+                let ordinal = self.get(Region::TailOrdinal, slot);
+                Self::has(snapshot, stamp, ordinal, fault)
+            }
+            state::OPEN => own != 0 && self.get(Region::TailTransaction, slot) == own,
+            _ => false,
+        }
     }
 
     /// The row is seen, and its newest record is no delete that is seen.
-    fn visible(&self, stamp: u32, own: u32, row: usize) -> bool {
-        let inserted = Self::sees(
-            stamp,
-            own,
-            self.get(Region::RowState, row),
-            self.get(Region::RowStamp, row),
-            self.get(Region::RowTransaction, row),
-        );
-        inserted && !self.head(row).is_some_and(|head| self.ends(stamp, own, head))
+    fn visible(&self, snapshot: Snapshot, own: u32, row: usize) -> bool {
+        self.sees_row(snapshot, own, row)
+            && !self.head(row).is_some_and(|head| self.ends(snapshot, own, head))
     }
 
     /// Whether a row's newest record ends it for the reader.
     #[inline(always)]
-    fn ends(&self, stamp: u32, own: u32, head: usize) -> bool {
+    fn ends(&self, snapshot: Snapshot, own: u32, head: usize) -> bool {
         if self.get(Region::TailKind, head) < kind::DELETE {
             return false;
         }
         let aborted = self.get(Region::TailState, head) >= state::ABORTED;
-        (FAULT == faults::ABORTED_DELETE_ENDS && aborted) || self.sees_record(stamp, own, head)
+        (FAULT == faults::ABORTED_DELETE_ENDS && aborted)
+            || self.sees_record(snapshot, own, head, faults::SCAN_SEES_LATER_END)
     }
 
     pub(super) fn cell(&self, at: usize, row: usize) -> u32 {
@@ -111,10 +129,11 @@ impl<const FAULT: u8> Table<'_, FAULT> {
         }
     }
 
-    /// How far down the reader looks for a value.
+    /// How far down the reader looks for a value. The ordinals need no look: a scan's page holds what
+    /// was committed before the scan, and any other reader has all commits made.
     #[inline(always)]
     fn down_to(reader: &Reader, page: &Page) -> usize {
-        if page.newest <= reader.stamp || FAULT == faults::NO_NEWEST_TEST {
+        if page.newest <= reader.snapshot.stamp || FAULT == faults::NO_NEWEST_TEST {
             page.lineage
         } else {
             0
@@ -172,14 +191,14 @@ impl<const FAULT: u8> Table<'_, FAULT> {
     /// a fault an aborted setting too.
     #[inline(always)]
     fn walk(&self, reader: &Reader, low: usize, mut k: usize, aborted: bool) -> Option<usize> {
-        let Reader { stamp, own, range, column } = *reader;
+        let Reader { snapshot, own, range, column } = *reader;
         while k > low {
             let slot = self.layout.slot(range, k);
             let answers = self.get(Region::TailMask, slot) >> column & 1 != 0
                 && match self.get(Region::TailKind, slot) {
                     kind::ORIGINAL => true,
                     kind::SETTING => {
-                        self.sees_record(stamp, own, slot)
+                        self.sees_record(snapshot, own, slot, faults::SCAN_SEES_LATER_SETTING)
                             || (aborted && self.get(Region::TailState, slot) >= state::ABORTED)
                     }
                     _ => false,
@@ -195,7 +214,7 @@ impl<const FAULT: u8> Table<'_, FAULT> {
     /// The page of a place that was current when so many merges had been made.
     pub(super) fn scan_page(&self, merges: u32, range: usize, column: usize) -> usize {
         let current = self.current(range, column);
-        if self.get(Region::PageMade, current) <= merges {
+        if self.get(Region::PageMade, current) <= merges || FAULT == faults::SCAN_ON_CURRENT_PAGE {
             return current;
         }
         let place = self.layout.chunk(range, column);
@@ -212,6 +231,7 @@ impl<const FAULT: u8> Table<'_, FAULT> {
     /// The count and sum of the rows that a scan sees. Each range's page is found once, and the
     /// rows' words are taken in their order.
     pub(super) fn sum(&self, scan: ScanEntry, column: usize) -> Answer {
+        let snapshot = Self::scanned(scan);
         let given = self.header(header::ROWS_GIVEN) as usize;
         let mut count = 0;
         let mut sum = 0;
@@ -220,17 +240,19 @@ impl<const FAULT: u8> Table<'_, FAULT> {
             let range = first / ROWS;
             let at = self.scan_page(scan.merges, range, column);
             let page = self.page(at);
-            let reader = Reader { stamp: scan.stamp, own: 0, range, column };
+            let reader = Reader { snapshot, own: 0, range, column };
             let states = words(self.run(Region::RowState, first, rows));
             let stamps = words(self.run(Region::RowStamp, first, rows));
+            let ordinals = words(self.run(Region::RowOrdinal, first, rows));
             let links = words(self.run(Region::RowLink, first, rows));
             let masks = words(self.run(Region::RowMask, first, rows));
             let cells = words(self.run(Region::Cells, at * ROWS, rows));
-            let all = states.zip(stamps).zip(links).zip(masks).zip(cells);
-            for ((((state, stamp), link), mask), cell) in all {
+            let all = states.zip(stamps).zip(ordinals).zip(links).zip(masks).zip(cells);
+            for (((((state, stamp), ordinal), link), mask), cell) in all {
                 let link = link as usize;
-                let seen = state == state::COMMITTED && stamp <= scan.stamp;
-                let ended = || link != 0 && self.ends(scan.stamp, 0, self.layout.slot(range, link));
+                let seen = state == state::COMMITTED
+                    && Self::has(snapshot, stamp, ordinal, faults::SCAN_SEES_LATER_INSERT);
+                let ended = || link != 0 && self.ends(snapshot, 0, self.layout.slot(range, link));
                 if !seen || ended() {
                     continue;
                 }
@@ -245,5 +267,30 @@ impl<const FAULT: u8> Table<'_, FAULT> {
             }
         }
         Answer::Sum { count, sum }
+    }
+
+    // Part of a wrong store.
+
+    /// The ordinal of the oldest commit of a minute, of which a row or record is left; the commits made
+    /// where there is none.
+    pub(super) fn oldest_ordinal(&self, minute: u32) -> u32 {
+        let given = self.header(header::ROWS_GIVEN) as usize;
+        let rows = (0..given).map(|row| {
+            let [state, stamp, ordinal] = [Region::RowState, Region::RowStamp, Region::RowOrdinal]
+                .map(|region| self.get(region, row));
+            (state, stamp, ordinal)
+        });
+        let records = (0..self.layout.ranges).flat_map(|range| {
+            (1..=self.used(range) as usize).map(move |k| {
+                let slot = self.layout.slot(range, k);
+                let regions = [Region::TailState, Region::TailStamp, Region::TailOrdinal];
+                let [state, stamp, ordinal] = regions.map(|region| self.get(region, slot));
+                (state, stamp, ordinal)
+            })
+        });
+        let made = self.header(header::COMMITS_MADE);
+        rows.chain(records)
+            .filter(|(state, stamp, _)| *state == state::COMMITTED && *stamp == minute)
+            .fold(made, |oldest, (_, _, ordinal)| oldest.min(ordinal))
     }
 }

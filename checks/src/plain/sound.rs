@@ -32,6 +32,7 @@ struct Facts<'m> {
     scans: u32,
     last: u32,
     merges: u32,
+    commits: u32,
     used: [u32; MOST_RANGES],
 }
 
@@ -49,6 +50,7 @@ impl<'m> Facts<'m> {
             scans: word(memory, header::SCANS_GIVEN),
             last: word(memory, header::LAST_STAMP),
             merges: word(memory, header::MERGES_MADE),
+            commits: word(memory, header::COMMITS_MADE),
             used,
         };
         let holds = facts.rows <= layout.rows
@@ -80,13 +82,15 @@ impl<'m> Facts<'m> {
         !bad
     }
 
-    /// Open scans are at most `SCANS`, among those given, differ, and have a stamp and a count of
-    /// merges that were there.
+    /// Open scans are at most `SCANS`, among those given, differ, and have a stamp and counts of
+    /// merges and commits that were there.
     fn scans(&self, list: &[ScanEntry]) -> bool {
         let mut open = [0; SCANS];
         for (count, scan) in list.iter().filter(|scan| scan.is_open()).enumerate() {
-            let known =
-                scan.number <= self.scans && scan.stamp <= self.last && scan.merges <= self.merges;
+            let known = scan.number <= self.scans
+                && scan.stamp <= self.last
+                && scan.merges <= self.merges
+                && scan.commits <= self.commits;
             if count == SCANS || !known || open[..count].contains(&scan.number) {
                 return false;
             }

@@ -8,6 +8,20 @@ use crate::memory::{header, kind, page, state, words, Region, OPENS, ROWS, WORD}
 /// Words looked at together by the passes that seldom find what they look for.
 const STEP: usize = 16;
 
+/// What the rows and records of a transaction get when it ends.
+#[derive(Clone, Copy)]
+struct Settled {
+    state: u32,
+    stamp: u32,
+    ordinal: u32,
+}
+
+/// Whose they are, and what they get, in the order of the regions in memory.
+const OF_ROWS: [Region; 4] =
+    [Region::RowTransaction, Region::RowState, Region::RowStamp, Region::RowOrdinal];
+const OF_RECORDS: [Region; 4] =
+    [Region::TailTransaction, Region::TailState, Region::TailStamp, Region::TailOrdinal];
+
 impl<const FAULT: u8> Table<'_, FAULT> {
     /// Counts a row or record made by the transaction in an open place.
     fn note(&mut self, open: usize) {
@@ -23,6 +37,7 @@ impl<const FAULT: u8> Table<'_, FAULT> {
         self.put(Region::RowStamp, row, 0);
         self.put(Region::RowLink, row, 0);
         self.put(Region::RowMask, row, 0);
+        self.put(Region::RowOrdinal, row, 0);
         for column in 0..self.layout.columns {
             let at = self.current(row / ROWS, column);
             self.put(Region::Cells, at * ROWS + row % ROWS, word_of(values, column));
@@ -82,15 +97,21 @@ impl<const FAULT: u8> Table<'_, FAULT> {
         self.put(Region::TailLink, slot, link);
         self.put(Region::TailState, slot, state::OPEN);
         self.put(Region::TailStamp, slot, 0);
+        self.put(Region::TailOrdinal, slot, 0);
         self.put(Region::Used, range, k);
         self.put(Region::RowLink, row, k);
         slot
     }
 
     pub(super) fn commit(&mut self, transaction: u32, open: usize, stamp: u32) -> Answer {
-        self.settle(transaction, state::COMMITTED, stamp);
+        let empty = self.get(Region::Changes, open) == 0;
+        let counted = !(empty && FAULT == faults::EMPTY_COMMIT_NOT_COUNTED);
+        let made = self.header(header::COMMITS_MADE);
+        let ordinal = made.wrapping_add(u32::from(counted));
+        self.settle(transaction, Settled { state: state::COMMITTED, stamp, ordinal });
         self.free(open);
         self.put(Region::Header, header::LAST_STAMP, stamp);
+        self.put(Region::Header, header::COMMITS_MADE, ordinal);
         Answer::Done
     }
 
@@ -98,7 +119,7 @@ impl<const FAULT: u8> Table<'_, FAULT> {
         if FAULT == faults::ABORT_TAKES_MASK_BITS {
             self.take_mask_bits(transaction);
         }
-        self.settle(transaction, state::ABORTED, 0);
+        self.settle(transaction, Settled { state: state::ABORTED, stamp: 0, ordinal: 0 });
         self.free(open);
         Answer::Done
     }
@@ -108,19 +129,17 @@ impl<const FAULT: u8> Table<'_, FAULT> {
         self.put(Region::Changes, open, 0);
     }
 
-    /// Every given row and used record of the transaction gets the state and the stamp.
-    fn settle(&mut self, transaction: u32, state: u32, stamp: u32) {
+    /// Every given row and used record of the transaction gets the state, the stamp and the ordinal.
+    fn settle(&mut self, transaction: u32, settled: Settled) {
         let given = self.header(header::ROWS_GIVEN) as usize;
-        let rows = [Region::RowTransaction, Region::RowState, Region::RowStamp];
-        self.mark(rows, 0, given, transaction, state, stamp);
-        if FAULT == faults::COMMIT_FORGETS_RECORDS && state == state::COMMITTED {
+        self.mark(OF_ROWS, 0, given, transaction, settled);
+        if FAULT == faults::COMMIT_FORGETS_RECORDS && settled.state == state::COMMITTED {
             return;
         }
-        let records = [Region::TailTransaction, Region::TailState, Region::TailStamp];
         for range in 0..self.layout.ranges {
             let first = range * self.layout.capacity;
             let used = self.used(range) as usize;
-            self.mark(records, first, used, transaction, state, stamp);
+            self.mark(OF_RECORDS, first, used, transaction, settled);
         }
     }
 
@@ -128,33 +147,38 @@ impl<const FAULT: u8> Table<'_, FAULT> {
     /// so each is first looked through as a whole.
     fn mark(
         &mut self,
-        [keys, states, stamps]: [Region; 3],
+        regions: [Region; 4],
         from: usize,
         n: usize,
         transaction: u32,
-        state: u32,
-        stamp: u32,
+        settled: Settled,
     ) {
-        let (first, second) = (self.layout.base(states), self.layout.base(stamps));
-        let from_keys = (self.layout.base(keys) + from) * WORD;
-        let (below, rest) = self.memory.split_at_mut(first * WORD);
-        let (states, stamps) = rest.split_at_mut((second - first) * WORD);
-        let keys = &below[from_keys..from_keys + n * WORD];
-        let states = &mut states[from * WORD..(from + n) * WORD];
-        let stamps = &mut stamps[from * WORD..(from + n) * WORD];
+        let [keys, states, stamps, ordinals] = regions.map(|region| self.layout.base(region));
+        let (below, rest) = self.memory.split_at_mut(states * WORD);
+        let (below_stamps, rest) = rest.split_at_mut((stamps - states) * WORD);
+        let (below_ordinals, above) = rest.split_at_mut((ordinals - stamps) * WORD);
+        let keys = &below[(keys + from) * WORD..(keys + from + n) * WORD];
+        let states = &mut below_stamps[from * WORD..(from + n) * WORD];
+        let stamps = &mut below_ordinals[from * WORD..(from + n) * WORD];
+        let ordinals = &mut above[from * WORD..(from + n) * WORD];
         let stretches = keys
             .chunks(STEP * WORD)
             .zip(states.chunks_mut(STEP * WORD))
-            .zip(stamps.chunks_mut(STEP * WORD));
-        for ((keys, states), stamps) in stretches {
+            .zip(stamps.chunks_mut(STEP * WORD))
+            .zip(ordinals.chunks_mut(STEP * WORD));
+        for (((keys, states), stamps), ordinals) in stretches {
             if !words(keys).fold(false, |any, key| any | (key == transaction)) {
                 continue;
             }
-            let both = states.chunks_exact_mut(WORD).zip(stamps.chunks_exact_mut(WORD));
-            for (key, (old_state, old_stamp)) in words(keys).zip(both) {
+            let old = states
+                .chunks_exact_mut(WORD)
+                .zip(stamps.chunks_exact_mut(WORD))
+                .zip(ordinals.chunks_exact_mut(WORD));
+            for (key, ((state, stamp), ordinal)) in words(keys).zip(old) {
                 if key == transaction {
-                    old_state.copy_from_slice(&state.to_le_bytes());
-                    old_stamp.copy_from_slice(&stamp.to_le_bytes());
+                    state.copy_from_slice(&settled.state.to_le_bytes());
+                    stamp.copy_from_slice(&settled.stamp.to_le_bytes());
+                    ordinal.copy_from_slice(&settled.ordinal.to_le_bytes());
                 }
             }
         }

@@ -394,6 +394,10 @@ fn another_struct_is_told_apart() {
     let number = "    /// The scan's number; 0 marks a free entry.\n    pub number: u32,\n";
     let stamp = "    /// The stamp that it was opened with.\n    pub stamp: u32,\n";
     told_apart(|t| &mut t.store, &(number.to_owned() + stamp), &(stamp.to_owned() + number));
+    told_apart(|t| &mut t.terms, "    pub commits: u32,\n", "");
+    told_apart(|t| &mut t.store, "    pub commits: u32,\n", "");
+    told_apart(|t| &mut t.header, "    uint32_t commits;", "   ");
+    told_apart(|t| &mut t.header, "uint32_t commits;", "uint16_t commits;");
     told_apart(|t| &mut t.replies, "pub sum: i64", "pub sum: i32");
     told_apart(|t| &mut t.header, "int64_t sum", "int32_t sum");
     told_apart(|t| &mut t.declared, "pub sum: i64", "pub sum: i32");

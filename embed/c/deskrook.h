@@ -12,10 +12,13 @@
  *
  * ANSWERS. `result` is DESKROOK_OK, DESKROOK_NONE or the number of a refusal. A refused call changes no byte of memory and list. The other fields are said with
  * each call; a field of which nothing is said is 0, and all of them are 0 where the result is not DESKROOK_OK. Where a read of one cell gives a value,
- * `stamp` is the stamp of the commit that set this column in this row, by an update or by the insert; 0 while that is pending.
+ * `stamp` is the stamp of the commit that set this column in this row, by an update or by the insert; 0 while that is pending, as where it was committed at 0.
  *
  * NUMBERS. Rows and columns count from 0, ranges too; row r lies in range r / 64. Transactions, scans and tail records count from 1. A stamp is a count of minutes
- * since 1 January 2000 UTC. Any number may be passed: one that is not there is refused. Each call says its refusals in the order in which they are tested. */
+ * since 1 January 2000 UTC. Any number may be passed: one that is not there is refused. Each call says its refusals in the order in which they are tested.
+ *
+ * ONE MINUTE. Several commits may have one stamp; among them the later made is the newer. A read at a minute gives the newest of it so far. The answer for a minute
+ * before the last commit's never changes, and no answer of an open scan does: it sees the commits up to its stamp that were made before it was opened, and no more. */
 #ifndef DESKROOK_H
 #define DESKROOK_H
 
@@ -33,7 +36,8 @@ extern "C" {
 typedef struct deskrook_scan_entry {
     uint32_t number;
     uint32_t stamp;
-    uint32_t merges; /* the merges made before the scan was opened */
+    uint32_t merges;  /* the merges made before the scan was opened */
+    uint32_t commits; /* the commits made before it, all of them */
 } deskrook_scan_entry;
 
 /* What a call answers. */
@@ -59,7 +63,7 @@ enum deskrook_result {
     DESKROOK_GONE = 10,        /* not held, and the row is deleted or its insert aborted, in the caller's own view */
     DESKROOK_FULL = 11,        /* all rows given */
     DESKROOK_TAIL = 12,        /* the range lacks the one or two tail records wanted */
-    DESKROOK_TIME = 13,        /* a commit not later than the last (0 in a new store), or a read or scan later than the last */
+    DESKROOK_TIME = 13,        /* a commit earlier than the last, or a read or scan later than the last (0 in a new store) */
     DESKROOK_BUSY = 14,        /* 8 transactions, or 5 scans, open */
     DESKROOK_NUMBER = 15,      /* 65,535 numbers given */
     DESKROOK_REACH = 16,       /* merge not above what the page holds, or above the records used */
@@ -105,7 +109,7 @@ deskrook_reply deskrook_update(uint8_t *mem, size_t mem_length, const deskrook_s
 /* Deletes a row. first: the number of the delete's tail record. Refusals: MEMORY, TRANSACTION, ROW, HELD, GONE, TAIL. */
 deskrook_reply deskrook_delete(uint8_t *mem, size_t mem_length, const deskrook_scan_entry *scans, size_t scans_length, uint32_t transaction, uint32_t row);
 
-/* Commits a transaction at a stamp, which must be later than the last commit's. Refused, the transaction remains open.
+/* Commits a transaction at a stamp, which must not be earlier than the last commit's; it may be the same. Refused, the transaction remains open.
  * Refusals: MEMORY, TRANSACTION, TIME. */
 deskrook_reply deskrook_commit(uint8_t *mem, size_t mem_length, const deskrook_scan_entry *scans, size_t scans_length, uint32_t transaction, uint32_t stamp);
 
@@ -117,8 +121,8 @@ deskrook_reply deskrook_abort(uint8_t *mem, size_t mem_length, const deskrook_sc
 /* The value at the last commit. first: the value (deskrook_value); stamp: of the commit that set it; or NONE. Refusals: MEMORY, ROW, COLUMN. */
 deskrook_reply deskrook_latest(const uint8_t *mem, size_t mem_length, const deskrook_scan_entry *scans, size_t scans_length, uint32_t row, uint32_t column);
 
-/* The value at a stamp, which must not be later than the last commit's. first: the value; stamp: of the commit that set it; or NONE.
- * Refusals: MEMORY, TIME, ROW, COLUMN. */
+/* The value at a stamp, which must not be later than the last commit's; of several commits at that stamp the newest counts. first: the value; stamp: of the commit
+ * that set it; or NONE. Refusals: MEMORY, TIME, ROW, COLUMN. */
 deskrook_reply deskrook_read_at(const uint8_t *mem, size_t mem_length, const deskrook_scan_entry *scans, size_t scans_length, uint32_t stamp, uint32_t row,
                                 uint32_t column);
 
@@ -129,11 +133,12 @@ deskrook_reply deskrook_own_read(const uint8_t *mem, size_t mem_length, const de
 
 /* ---- scans ---- */
 
-/* Opens a scan at a stamp, which must not be later than the last commit's. It takes a free entry of the list. first: the scan's number.
+/* Opens a scan at a stamp, which must not be later than the last commit's. It sees the commits made so far with that stamp or an earlier one, and none that comes
+ * after, be it at the same stamp. It takes a free entry of the list. first: the scan's number.
  * Refusals: MEMORY, TIME, NUMBER, BUSY. */
 deskrook_reply deskrook_open_scan(uint8_t *mem, size_t mem_length, deskrook_scan_entry *scans, size_t scans_length, uint32_t stamp);
 
-/* The value at a scan's stamp, read in the pages that were current at its opening. first: the value; stamp: of the commit that set it; or NONE.
+/* The value that a scan sees, read in the pages that were current at its opening. first: the value; stamp: of the commit that set it; or NONE.
  * Refusals: MEMORY, SCAN, ROW, COLUMN. */
 deskrook_reply deskrook_scan_read(const uint8_t *mem, size_t mem_length, const deskrook_scan_entry *scans, size_t scans_length, uint32_t scan, uint32_t row,
                                   uint32_t column);

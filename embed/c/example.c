@@ -1,5 +1,6 @@
 /* The worked example (rule 12.9 of docs/SPECIFICATION.md) in C, on memory of its own: one gate with two columns, an update, and its merge into the page. Prints a line for each call
- * as the program gatebook does: the command byte, "ok" and the answer's fields, or "no" and the refusal's number. */
+ * as the program gatebook does: the command byte, "ok" and the answer's fields, or "no" and the refusal's number. After the example, and without a
+ * line, comes one more commit in the minute of the last, with a scan between the two. */
 #include <inttypes.h>
 #include <stdio.h>
 #include <stdlib.h>
@@ -71,6 +72,15 @@ int main(void) {
     /* The page holds this record already. */
     show("0E", deskrook_merge(mem, length, scans, entries, 0, 0, updated.first), "");
 
+    /* A scan opened between two commits of one minute keeps what it was opened on; a read at that minute gives the newest. */
+    const uint32_t scan = deskrook_open_scan(mem, length, scans, entries, 20).first;
+    begun = deskrook_begin(mem, length, scans, entries);
+    const int32_t lowered[] = {1230, 0};
+    deskrook_update(mem, length, scans, entries, begun.first, gate, 1, lowered, 2);
+    deskrook_commit(mem, length, scans, entries, begun.first, 20);
+    const int32_t kept = deskrook_value(deskrook_scan_read(mem, length, scans, entries, scan, gate, 0));
+    const int32_t newest = deskrook_value(deskrook_read_at(mem, length, scans, entries, 20, gate, 0));
+
     free(mem);
-    return EXIT_SUCCESS;
+    return kept == 1250 && newest == 1230 ? EXIT_SUCCESS : EXIT_FAILURE;
 }

@@ -1,8 +1,9 @@
 /* Damaged memory from outside: an input's bytes become a store, words written into it at will, and calls with any numbers over any bytes and any list, through the C
- * interface. Of every call: the result is 2 exactly where facts.c finds a failing fact; it is one that the call may answer; fields that it has not are 0; the stamp of a
- * value read is not after its reader's; a refusal changes no byte; an accepted call changes only what it may, and the facts hold again. Memory, list and values end or begin
- * at a page that cannot be read, and the rest of their own pages is marked, so that neither a read nor a write outside goes unseen though the library itself is not
- * instrumented.
+ * interface. Of every call: the result is 2 exactly where facts.c finds a failing fact; it is one that the call may answer; it is 13 just where the stamp is on
+ * the wrong side of the last commit's; fields that it has not are 0; the stamp of a value read is not after its reader's; a refusal changes no byte; an accepted call changes
+ * only what it may, and the facts hold again; a commit counts itself, and an opened scan's entry has the counts made before it. In a store that calls alone have made and
+ * written, no commit, merge or release changes the sum of an open scan. Memory, list and values end or begin at a page that cannot be read, and the rest of their own pages
+ * is marked, so that neither a read nor a write outside goes unseen though the library itself is not instrumented.
  *
  * LLVMFuzzerTestOneInput is called by libFuzzer, or by random.c with random bytes. */
 #define _DEFAULT_SOURCE
@@ -18,7 +19,7 @@ int LLVMFuzzerTestOneInput(const uint8_t *data, size_t size);
 
 /* ---- what is said at the end, and at a fault ---- */
 
-static uint64_t inputs, calls, damaged, accepted, nones, refused[19];
+static uint64_t inputs, calls, damaged, accepted, nones, scans_kept, refused[19];
 
 static void say_counts(void) {
     uint64_t all = 0;
@@ -28,6 +29,7 @@ static void say_counts(void) {
             inputs, calls, damaged, accepted, nones, all);
     for (int number = 1; number <= 18; number++)
         fprintf(stderr, " %d %" PRIu64 "%s", number, refused[number], number < 18 ? "," : "\n");
+    fprintf(stderr, "open scans that a later commit of their minute left as they were: %" PRIu64 "\n", scans_kept);
 }
 
 static void fail(const char *name, const char *what) {
@@ -152,9 +154,11 @@ static uint32_t number(struct input *in, char kind) {
     case 't': /* transaction: the numbers of the open ones come right after the header */
         return memory.length < (HEADER_WORDS + 8) * 4 ? first : word_at(memory.first, HEADER_WORDS + first % 8);
     case 's': /* scan */
-        return entries() == 0 ? first : word_at(list.first, first % entries() * 3);
+        return entries() == 0 ? first : word_at(list.first, first % entries() * (sizeof(deskrook_scan_entry) / 4));
     case 'd': /* stamp: the last, the next, or an earlier one */
-        return header(LAST_STAMP) + first % 3 - first / 32 % 2 * (first / 4);
+        return header(LAST_STAMP) + (first < 0x40 ? 0 : first % 3 - first / 32 % 2 * (first / 4));
+    case 'p': /* stamp of a commit: as often the last again as a later one, now and then the one before */
+        return first % 8 == 7 ? header(LAST_STAMP) - (header(LAST_STAMP) > 0) : header(LAST_STAMP) + first % 2 * (1 + first / 64);
     case 'r': /* row */
         return header(ROWS_GIVEN) == 0 || first < 0x80 ? first % 4 : first % header(ROWS_GIVEN);
     case 'c': /* column */
@@ -209,7 +213,7 @@ static const struct {
     [INSERT] = {"insert", "t", WRITES_MEMORY | HAS_FIRST, MAY(3) | MAY(11)},
     [UPDATE] = {"update", "trm", WRITES_MEMORY | HAS_FIRST, MAY(3) | MAY(5) | MAY(8) | MAY(9) | MAY(10) | MAY(12)},
     [DELETE] = {"delete", "tr", WRITES_MEMORY | HAS_FIRST, MAY(3) | MAY(5) | MAY(9) | MAY(10) | MAY(12)},
-    [COMMIT] = {"commit", "td", WRITES_MEMORY, MAY(3) | MAY(13)},
+    [COMMIT] = {"commit", "tp", WRITES_MEMORY, MAY(3) | MAY(13)},
     [ABORT] = {"abort", "t", WRITES_MEMORY, MAY(3)},
     [LATEST] = {"latest", "rc", HAS_FIRST | HAS_STAMP | MAY_BE_NONE, MAY(5) | MAY(6)},
     [READ_AT] = {"read_at", "drc", HAS_FIRST | HAS_STAMP | MAY_BE_NONE, MAY(13) | MAY(5) | MAY(6)},
@@ -295,8 +299,10 @@ static void judge_accepted(enum call call) {
         fail(name, "a call that opens or closes no scan changed the list");
     if (call != MAKE && entries_changed() > 1)
         fail(name, "more than one entry of the list changed");
-    /* The count of merges made goes round at 2^32, and then those recorded may be above it. */
-    if (call == MERGE && word_at(memory.first, MERGES_MADE) == 0)
+    if (call == COMMIT && word_at(memory.first, COMMITS_MADE) != word_at(memory.before, COMMITS_MADE) + 1)
+        fail(name, "the commit is not counted");
+    /* The counts of merges and commits made go round at 2^32, and then those recorded may be above them. */
+    if ((call == MERGE && word_at(memory.first, MERGES_MADE) == 0) || (call == COMMIT && word_at(memory.first, COMMITS_MADE) == 0))
         return;
     const char *fact = failing(&layout);
     if (fact != NULL)
@@ -331,6 +337,67 @@ static uint32_t latest_stamp(enum call call, const uint32_t numbers[4]) {
             return s[at].stamp;
     fail(about[call].name, "a value from a scan that is not open");
     return 0;
+}
+
+/* 13: a commit earlier than the last, a read or a scan later than the last. A commit tests its transaction before, the others nothing. */
+static void judge_time(enum call call, const uint32_t numbers[4], uint32_t result) {
+    if (call != COMMIT && call != READ_AT && call != OPEN_SCAN)
+        return;
+    uint32_t last = word_at(memory.before, LAST_STAMP);
+    int outside = call == COMMIT ? numbers[1] < last : numbers[0] > last;
+    if (outside != (result == DESKROOK_TIME) && result != DESKROOK_TRANSACTION)
+        fail(about[call].name, outside ? "another answer than 13" : "13 at a stamp that fits");
+}
+
+/* The entry of an open scan. */
+static const deskrook_scan_entry *entry_of(uint32_t scan) {
+    const deskrook_scan_entry *s = (const deskrook_scan_entry *)(const void *)list.first;
+    for (size_t at = 0; at < entries(); at++)
+        if (s[at].number == scan)
+            return s + at;
+    fail("open_scan", "the list lacks the scan");
+    return s;
+}
+
+/* Whether nothing but calls has written in memory and list since they were lent. Then an open scan's sum stays what it is right after the opening; that of column 0 is noted
+ * here, and number 0 marks a free place. */
+static int by_calls_alone;
+static struct {
+    uint32_t number, rows;
+    int64_t sum;
+} opened[DESKROOK_SCANS];
+
+static deskrook_reply sum_of(uint32_t scan) {
+    return deskrook_sum(memory.first, memory.length, (const deskrook_scan_entry *)(const void *)list.first, entries(), scan, 0);
+}
+
+static void judge_scans(enum call call, const uint32_t numbers[4], deskrook_reply reply) {
+    if (call == OPEN_SCAN) {
+        const deskrook_scan_entry *entry = entry_of(reply.first);
+        if (entry->stamp != numbers[0] || entry->merges != word_at(memory.before, MERGES_MADE) || entry->commits != word_at(memory.before, COMMITS_MADE))
+            fail("open_scan", "the scan's entry has another stamp or count");
+    }
+    if (!by_calls_alone)
+        return;
+    if (call == MAKE)
+        memset(opened, 0, sizeof opened);
+    for (size_t i = 0; i < DESKROOK_SCANS; i++) {
+        if (call == OPEN_SCAN && opened[i].number == 0) {
+            deskrook_reply first = sum_of(reply.first);
+            opened[i].number = reply.first;
+            opened[i].rows = first.first;
+            opened[i].sum = first.sum;
+            return;
+        }
+        if (call == CLOSE_SCAN && opened[i].number == numbers[0])
+            opened[i].number = 0;
+        if ((call == COMMIT || call == MERGE || call == RELEASE) && opened[i].number != 0) {
+            deskrook_reply again = sum_of(opened[i].number);
+            if (again.result != DESKROOK_OK || again.first != opened[i].rows || again.sum != opened[i].sum)
+                fail(about[call].name, "an open scan has another sum");
+            scans_kept += call == COMMIT && entry_of(opened[i].number)->stamp == numbers[1];
+        }
+    }
 }
 
 static void call_and_judge(enum call call, struct input *in) {
@@ -368,6 +435,8 @@ static void call_and_judge(enum call call, struct input *in) {
         fail(name, "a refusal that the call does not have");
     } else if (result == DESKROOK_NONE && !(does & MAY_BE_NONE)) {
         fail(name, "none from a call that reads no row");
+    } else {
+        judge_time(call, numbers, result);
     }
     int ok = result == DESKROOK_OK;
     if ((reply.first != 0 && !(ok && does & HAS_FIRST)) || (reply.second != 0 && !(ok && does & HAS_SECOND)) || (reply.stamp != 0 && !(ok && does & HAS_STAMP)) ||
@@ -381,10 +450,12 @@ static void call_and_judge(enum call call, struct input *in) {
     look_around(name, &values);
     if (changed(&values))
         fail(name, "a value changed");
-    if (ok && call != BYTES_NEEDED)
+    if (ok && call != BYTES_NEEDED) {
         judge_accepted(call);
-    else if (changed(&memory) || changed(&list))
+        judge_scans(call, numbers, reply);
+    } else if (changed(&memory) || changed(&list)) {
         fail(name, "a byte changed, though nothing was to be done");
+    }
 
     accepted += ok;
     nones += result == DESKROOK_NONE;
@@ -443,7 +514,9 @@ static void begin_input(struct input *in) {
     memory.length = list.length = 0;
     lend(&memory, bytes, flags & AT_END);
     lend(&list, count * sizeof(deskrook_scan_entry), flags & LIST_AT_END);
-    if (!all_of(flags, RAW)) {
+    memset(opened, 0, sizeof opened);
+    by_calls_alone = !all_of(flags, RAW);
+    if (by_calls_alone) {
         deskrook_make(memory.first, memory.length, (deskrook_scan_entry *)(void *)list.first, entries(), measures[0], measures[1], measures[2], measures[3]);
         if (take(in, 1) >= 0xC0)
             fill_rows();
@@ -468,10 +541,12 @@ int LLVMFuzzerTestOneInput(const uint8_t *data, size_t size) {
     struct input in = {data, size};
     begin_input(&in);
     int undo = -1; /* the step at which memory and list are again as they were before the damage */
+    int saved_by_calls_alone = 0;
     for (int step = 0; step < MOST_STEPS && in.left > 0; step++) {
         if (step == undo) {
             restore(&memory, step & 1);
             restore(&list, step & 2);
+            by_calls_alone = saved_by_calls_alone;
             undo = -1;
         }
         /* A zero byte is an update: libFuzzer likes runs of them, and begin is soon refused. */
@@ -485,8 +560,10 @@ int LLVMFuzzerTestOneInput(const uint8_t *data, size_t size) {
             if (undo < step && steps > 0) {
                 save(&memory);
                 save(&list);
+                saved_by_calls_alone = by_calls_alone;
                 undo = step + 1 + (int)(steps % 8);
             }
+            by_calls_alone = 0;
             if (what == 28)
                 damage(&memory, &in);
             else if (what == 29)

@@ -1,4 +1,4 @@
-/* Written from document 01's paragraph "The stored facts are these", Item 2 of document 02 and the layout (docs/DECISIONS.md, part 4) alone. */
+/* Written from document 01's paragraph "The stored facts are these", Items 2 and 3 of document 02 and the layout (docs/DECISIONS.md, part 4) alone. */
 #include "facts.h"
 
 enum { ROWS = 64, OPEN_PLACES = 8, NUMBERS = 65535, PAGE_FREE = 0, PAGE_CURRENT = 1 };
@@ -20,6 +20,7 @@ int layout_of(struct layout *layout, uint32_t columns, uint32_t ranges, uint32_t
         [USED] = ranges, [CURRENT] = chunks,
         [PAGE_STATE] = pages, [PAGE_CHUNK] = pages, [PAGE_MADE] = pages, [PAGE_REPLACED] = pages, [PAGE_LINEAGE] = pages, [PAGE_NEWEST] = pages,
         [CELLS] = pages * ROWS,
+        [ROW_ORDINAL] = rows, [TAIL_ORDINAL] = slots,
     };
     *layout = (struct layout){columns, ranges, capacity, rows, slots, chunks, pages, {0}};
     for (int i = 0; i < REGIONS; i++)
@@ -92,6 +93,8 @@ static const char *failing_scan(const uint8_t *mem, const deskrook_scan_entry *s
         return "an open scan's stamp is not after the last commit's";
     if (scan.merges > word_at(mem, MERGES_MADE))
         return "an open scan's merges are among those made";
+    if (scan.commits > word_at(mem, COMMITS_MADE))
+        return "an open scan's commits are among those made";
     for (size_t other = 0; other < at; other++)
         if (scans[other].number == scan.number)
             return "open scans differ";

@@ -31,11 +31,13 @@ enum region {
     PAGE_NEWEST,
     CELLS,
     CHANGES,
+    ROW_ORDINAL,
+    TAIL_ORDINAL,
     REGIONS
 };
 
 /* The words of the header. */
-enum { COLUMNS, RANGES, CAPACITY, SPARES, ROWS_GIVEN, TRANSACTIONS_GIVEN, SCANS_GIVEN, LAST_STAMP, MERGES_MADE, HEADER_WORDS = 16 };
+enum { COLUMNS, RANGES, CAPACITY, SPARES, ROWS_GIVEN, TRANSACTIONS_GIVEN, SCANS_GIVEN, LAST_STAMP, MERGES_MADE, COMMITS_MADE, HEADER_WORDS = 16 };
 
 struct layout {
     uint32_t columns, ranges, capacity, rows, slots, chunks, pages;

@@ -44,7 +44,8 @@ impl Mask {
     }
 }
 
-/// A value, and the stamp of the commit that set it, `Stamp(0)` while that commit is still to come.
+/// A value, and the stamp of the commit that set it, `Stamp(0)` while that commit is still to come. A
+/// commit can have the stamp 0 too.
 #[derive(Clone, Copy, Debug, PartialEq, Eq)]
 pub struct Version {
     pub value: i32,

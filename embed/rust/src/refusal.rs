@@ -31,7 +31,7 @@ pub enum Refusal {
     Full = 11,
     /// The range lacks the one or two tail records wanted.
     Tail = 12,
-    /// A commit not later than the last (0 in a new store), or a read or scan later than the last.
+    /// A commit earlier than the last, or a read or scan later than the last (0 in a new store).
     Time = 13,
     /// 8 transactions, or 5 scans, are open.
     Busy = 14,

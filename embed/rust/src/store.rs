@@ -17,11 +17,13 @@ pub struct ScanEntry {
     pub stamp: u32,
     /// The merges made before it.
     pub merges: u32,
+    /// The commits made before it, all of them.
+    pub commits: u32,
 }
 
 impl ScanEntry {
     /// A free entry.
-    pub const FREE: ScanEntry = ScanEntry { number: 0, stamp: 0, merges: 0 };
+    pub const FREE: ScanEntry = ScanEntry { number: 0, stamp: 0, merges: 0, commits: 0 };
 }
 
 /// The measures of a store.
@@ -220,7 +222,8 @@ impl<'a> Store<'a> {
         Ok(Tail(accepted(call!(mut self, deskrook_delete, transaction.0, row.0))?.first))
     }
 
-    /// Commits a transaction at a stamp later than the last commit's. Refused, it remains open.
+    /// Commits a transaction at a stamp not earlier than the last commit's; several commits may have
+    /// one stamp, and the later made is the newer. Refused, the transaction remains open.
     ///
     /// ```
     /// use deskrook::{Refusal, ScanEntry, Shape, Stamp, Store, SCANS};
@@ -229,10 +232,11 @@ impl<'a> Store<'a> {
     /// # let shape = Shape { columns: 1, ranges: 1, capacity: 1, spares: 0 };
     /// # let (mut memory, mut scans) = (vec![0; shape.bytes_needed()?], [ScanEntry::FREE; SCANS]);
     /// # let mut store = Store::make(&mut memory, &mut scans, shape)?;
-    /// let transaction = store.begin()?;
-    /// assert_eq!(store.commit(transaction, Stamp(0)), Err(Refusal::Time));
-    /// store.commit(transaction, Stamp(1))?;
-    /// assert_eq!(store.commit(transaction, Stamp(2)), Err(Refusal::Transaction));
+    /// let (first, second) = (store.begin()?, store.begin()?);
+    /// store.commit(first, Stamp(10))?;
+    /// assert_eq!(store.commit(second, Stamp(9)), Err(Refusal::Time));
+    /// store.commit(second, Stamp(10))?;
+    /// assert_eq!(store.commit(second, Stamp(11)), Err(Refusal::Transaction));
     /// # Ok(())
     /// # }
     /// ```
@@ -264,7 +268,8 @@ impl<'a> Store<'a> {
     }
 
     /// The value at a stamp not later than the last commit's, with the stamp of the commit that set
-    /// it, or none.
+    /// it, or none. Of several commits at that stamp the newest counts, so that at the last commit's
+    /// stamp a further commit may change the answer; for earlier ones it never changes.
     ///
     /// # Errors
     ///
@@ -275,7 +280,7 @@ impl<'a> Store<'a> {
 
     /// The value that a transaction sees, its own pending changes above the latest, or none. The
     /// stamp is that of the commit that set the value; `Stamp(0)` for a pending one, as is every
-    /// value of a row that the transaction inserted.
+    /// value of a row that the transaction inserted, and for one committed at 0.
     ///
     /// # Errors
     ///
@@ -289,7 +294,9 @@ impl<'a> Store<'a> {
         read(call!(ref self, deskrook_own_read, transaction.0, row.0, column))
     }
 
-    /// Opens a scan at a stamp not later than the last commit's.
+    /// Opens a scan at a stamp not later than the last commit's. It sees the commits made so far with
+    /// that stamp or an earlier one, and none that comes after, be it at the same stamp: while it is
+    /// open its answers never change.
     ///
     /// ```
     /// use deskrook::{Mask, ScanEntry, Shape, Stamp, Store, Sum, Version, SCANS};
@@ -304,12 +311,14 @@ impl<'a> Store<'a> {
     /// store.commit(transaction, Stamp(10))?;
     /// let scan = store.open_scan(Stamp(10))?;
     ///
+    /// // In the same minute, and after the scan.
     /// let transaction = store.begin()?;
     /// let last = store.update(transaction, gate, Mask(1), &[1250])?;
-    /// store.commit(transaction, Stamp(20))?;
+    /// store.commit(transaction, Stamp(10))?;
     /// store.merge(0, 0, last)?;
     ///
-    /// let old = Version { value: 1200, stamp: Stamp(10) };
+    /// let [old, new] = [1200, 1250].map(|value| Version { value, stamp: Stamp(10) });
+    /// assert_eq!(store.read_at(Stamp(10), gate, 0)?, Some(new));
     /// assert_eq!(store.scan_read(scan, gate, 0)?, Some(old));
     /// assert_eq!(store.sum(scan, 0)?, Sum { rows: 2, sum: 1170 });
     /// assert_eq!(store.release()?, 0); // the scan still reads the old page
@@ -326,8 +335,8 @@ impl<'a> Store<'a> {
         Ok(ScanNumber(accepted(call!(mut self, deskrook_open_scan, stamp.0))?.first))
     }
 
-    /// The value at a scan's stamp, read in the pages that were current at its opening, with the
-    /// stamp of the commit that set it, or none.
+    /// The value that a scan sees, read in the pages that were current at its opening, with the stamp
+    /// of the commit that set it, or none.
     ///
     /// # Errors
     ///

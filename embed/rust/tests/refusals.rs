@@ -74,6 +74,32 @@ fn damage() {
     lent.store().abort(transaction).unwrap();
 }
 
+/// One commit is made, before the scan that is opened. A scan cannot have more before it.
+#[test]
+fn more_commits_before_a_scan_than_were_made() {
+    let (mut lent, transaction) = updated();
+    let scan = lent.store().open_scan(Stamp(10)).unwrap();
+    assert_eq!(lent.scans[0], ScanEntry { number: 1, stamp: 10, merges: 0, commits: 1 });
+    for commits in [2, u32::MAX] {
+        lent.scans[0].commits = commits;
+        lent.refuses(Refusal::Memory, |store| store.check());
+        lent.refuses(Refusal::Memory, |store| store.commit(transaction, Stamp(10)));
+        lent.refuses(Refusal::Memory, |store| store.close_scan(scan));
+    }
+    for commits in [0, 1] {
+        lent.scans[0].commits = commits;
+        lent.store().check().unwrap();
+    }
+    lent.store().commit(transaction, Stamp(10)).unwrap();
+    lent.scans[0].commits = 2;
+    lent.store().check().unwrap();
+    // What a free entry has does not count.
+    lent.store().close_scan(scan).unwrap();
+    assert_eq!(lent.scans[0], ScanEntry::FREE);
+    lent.scans[0].commits = u32::MAX;
+    lent.store().check().unwrap();
+}
+
 #[test]
 fn numbers_that_are_not_there() {
     let (mut lent, transaction) = updated();
@@ -103,7 +129,11 @@ fn rows() {
 #[test]
 fn stamps() {
     let (mut lent, transaction) = updated();
-    lent.refuses(Refusal::Time, |store| store.commit(transaction, Stamp(10)));
+    lent.refuses(Refusal::Time, |store| store.commit(transaction, Stamp(9)));
+    lent.refuses(Refusal::Time, |store| store.commit(transaction, Stamp(0)));
+    lent.refuses(Refusal::Time, |store| store.read_at(Stamp(11), Row(0), 0));
+    lent.refuses(Refusal::Time, |store| store.open_scan(Stamp(11)));
+    lent.store().commit(transaction, Stamp(10)).unwrap();
     lent.refuses(Refusal::Time, |store| store.read_at(Stamp(11), Row(0), 0));
     lent.refuses(Refusal::Time, |store| store.open_scan(Stamp(11)));
 }

@@ -124,7 +124,7 @@ fn bounded_words(memory: &[u8]) -> Vec<Bounded<'_>> {
 pub fn used_words(memory: &[u8]) -> Vec<&[u8]> {
     let layout = Layout::stored(memory).expect("a good store");
     let mut runs = vec![
-        run(memory, Region::Header, 0, header::MERGES_MADE + 1),
+        run(memory, Region::Header, 0, header::COMMITS_MADE + 1),
         run(memory, Region::Opens, 0, OPENS),
         run(memory, Region::Used, 0, layout.ranges),
         run(memory, Region::Current, 0, layout.chunks),

@@ -1,5 +1,6 @@
 //! Each call at a shape, empty, half and full; update, delete and merge with eight transactions open;
-//! and a scan opened, read by and closed where all others are open.
+//! a scan opened, read by and closed where all others are open; and a commit in the minute of the last,
+//! and a read by a scan in whose minute such a commit came after it.
 
 use checks::memory::{OPENS, SCANS};
 use reference::{text, Call, Shape};
@@ -10,29 +11,36 @@ use crate::{named, time, Named};
 
 const FILLINGS: [(&str, u32); 3] = [("empty", 0), ("half", 50), ("full", 100)];
 
-/// A call that is timed, by its byte, and how many transactions and scans are open.
+/// A call that is timed, by its byte, how many transactions and scans are open, and whether there are
+/// several commits in the last minute.
 struct Timed {
     byte: u8,
     transactions: usize,
     scans: usize,
+    one_minute: bool,
 }
 
 /// Each call; where every place of an open transaction is taken, those whose tests look through all
-/// of them; and where as many scans are open as can be, those that look for a scan, or for a place.
+/// of them; where as many scans are open as can be, those that look for a scan, or for a place; and
+/// with several commits in one minute the one that makes them, and a read that tells them apart.
 fn timed() -> impl Iterator<Item = Timed> {
+    let alone = |byte| Timed { byte, transactions: 1, scans: 1, one_minute: false };
     let names = 1..=text::NAMES.len() as u8;
-    let alone = names.map(|byte| Timed { byte, transactions: 1, scans: 1 });
     let transactions = [0x03, 0x04, 0x0E];
     let scans = [(0x0A, SCANS - 1), (0x0B, SCANS), (0x0D, SCANS)];
-    alone
-        .chain(transactions.map(|byte| Timed { byte, transactions: OPENS, scans: 1 }))
-        .chain(scans.map(|(byte, scans)| Timed { byte, transactions: 1, scans }))
+    let one_minute = [0x05, 0x0B];
+    names
+        .map(alone)
+        .chain(transactions.map(move |byte| Timed { transactions: OPENS, ..alone(byte) }))
+        .chain(scans.map(move |(byte, scans)| Timed { scans, ..alone(byte) }))
+        .chain(one_minute.map(move |byte| Timed { one_minute: true, ..alone(byte) }))
 }
 
 impl Timed {
     fn name(&self) -> String {
         let name = text::NAMES[usize::from(self.byte) - 1];
         match (self.transactions, self.scans) {
+            _ if self.one_minute => format!("{name}, 1 minute"),
             (1, 1) => name.to_string(),
             (1, scans) => format!("{name}, {scans} scans"),
             (transactions, _) => format!("{name}, {transactions} open"),
@@ -47,7 +55,7 @@ pub struct Ratios {
 }
 
 pub fn measure(stores: &[Named], shape: Shape, report: &mut Report) -> Ratios {
-    report.heading(&format!("Each call at shape {}", named(&shape)), "Nanoseconds of a call, and how many times the plain store's they are. Empty is one row with one setting; full leaves room for one row and one record. With eight open the seven other transactions have set rows of their own where there is room. With scans open the one that is read by or closed is the last in the list.");
+    report.heading(&format!("Each call at shape {}", named(&shape)), "Nanoseconds of a call, and how many times the plain store's they are. Empty is one row with one setting; full leaves room for one row and one record. With eight open the seven other transactions have set rows of their own where there is room. With scans open the one that is read by or closed is the last in the list. In one minute: a commit at the last commit's stamp; and a read of a row that such a commit has set since its scan was opened.");
     let mut heads = vec!["call".to_string()];
     for (filling, _) in FILLINGS {
         heads.push(format!("{filling}: {}", stores[0].0));
@@ -101,12 +109,17 @@ fn prepared(shape: Shape, percent: u32, timed: &Timed) -> (Filled, Call) {
         0x02 => Call::Insert { transaction, values },
         0x03 => Call::Update { transaction, row: 0, mask: 1, values },
         0x04 => Call::Delete { transaction, row: 0 },
-        0x05 => Call::Commit { transaction, stamp: last + 1 },
+        0x05 => Call::Commit { transaction, stamp: last + u32::from(!timed.one_minute) },
         0x06 => Call::Abort { transaction },
         0x07 => Call::Latest { row, column },
         0x08 => Call::ReadAt { stamp: last / 2, row, column },
         0x09 => Call::OwnRead { transaction, row: 0, column },
         0x0A => Call::OpenScan { stamp: last },
+        0x0B if timed.one_minute => {
+            // The scan was opened at the last stamp, before this commit, which sets row 0.
+            filled.call(&Call::Commit { transaction, stamp: last });
+            Call::ScanRead { scan, row: 0, column }
+        }
         0x0B => Call::ScanRead { scan, row, column },
         0x0C => Call::Sum { scan, column },
         0x0D => Call::Close { scan },

@@ -5,13 +5,14 @@ use checks::plain::Plain;
 use checks::Store;
 use reference::{Answer, Call, Shape};
 
-/// A value that a row and column got at a stamp.
+/// A value that a row and column got at a stamp, by the commit of an ordinal.
 #[derive(Clone)]
 #[cfg_attr(not(feature = "sqlite"), allow(dead_code))]
 pub struct Version {
     pub row: u32,
     pub column: u32,
     pub stamp: u32,
+    pub ordinal: u32,
     pub value: i32,
 }
 
@@ -24,14 +25,17 @@ pub struct Filled {
     /// Rows given, and the records used in range 0 before the open transaction's one.
     pub rows: u32,
     pub settled: u32,
-    /// The transaction and the scan that are open, and the last commit's stamp.
+    /// The transaction and the scan that are open, the last commit's stamp, and the commits made.
     pub open: u32,
     pub scan: u32,
     pub last: u32,
+    pub commits: u32,
     /// What the committed transactions of the filling have set.
     pub versions: Vec<Version>,
 }
 
+/// What the open transaction sets in row 0.
+pub const SET: i32 = 7;
 /// Updates in one transaction of the filling.
 const UPDATES: usize = 16;
 /// One of so many of these transactions is aborted.
@@ -52,8 +56,18 @@ impl Filled {
         let layout = Layout::of(&shape);
         let (memory, scans) = (vec![0; layout.need()], vec![ScanEntry::FREE; SCANS]);
         let rows = (shape.rows() * percent / 100).clamp(1, shape.rows() - 1);
-        let (settled, open, scan, last, versions) = (0, 0, 0, 0, Vec::new());
-        let mut filled = Filled { memory, scans, shape, rows, settled, open, scan, last, versions };
+        let mut filled = Filled {
+            memory,
+            scans,
+            shape,
+            rows,
+            settled: 0,
+            open: 0,
+            scan: 0,
+            last: 0,
+            commits: 0,
+            versions: Vec::new(),
+        };
         let made = Plain::<0>.make(&mut filled.memory, &mut filled.scans, &shape);
         assert_eq!(made, Answer::Done);
         filled.insert_rows();
@@ -68,7 +82,7 @@ impl Filled {
         }
         filled.settled = filled.used(0);
         filled.open = filled.number(&Call::Begin);
-        let values = vec![7; shape.columns as usize];
+        let values = vec![SET; shape.columns as usize];
         filled.number(&Call::Update { transaction: filled.open, row: 0, mask: 1, values });
         for row in 1..=others {
             filled.open_beside(row);
@@ -116,6 +130,7 @@ impl Filled {
 
     fn commit(&mut self, transaction: u32) {
         self.last += 10;
+        self.commits += 1;
         self.call(&Call::Commit { transaction, stamp: self.last });
     }
 
@@ -124,9 +139,15 @@ impl Filled {
         for row in 0..self.rows {
             let value = |column: u32| (row * 31 + column * 7) as i32 - 500;
             let values: Vec<i32> = (0..self.shape.columns).map(value).collect();
-            // The stamp of the first commit.
-            let version =
-                |(column, value): (u32, &i32)| Version { row, column, stamp: 10, value: *value };
+            // Stamp and ordinal of the first commit.
+            let (stamp, ordinal) = (10, 1);
+            let version = |(column, value): (u32, &i32)| Version {
+                row,
+                column,
+                stamp,
+                ordinal,
+                value: *value,
+            };
             self.versions.extend((0..).zip(&values).map(version));
             self.number(&Call::Insert { transaction, values });
         }
@@ -159,8 +180,8 @@ impl Filled {
                 self.call(&Call::Abort { transaction });
             } else {
                 self.commit(transaction);
-                let stamp = self.last;
-                let version = |(row, value)| Version { row, column: 0, stamp, value };
+                let (stamp, ordinal) = (self.last, self.commits);
+                let version = |(row, value)| Version { row, column: 0, stamp, ordinal, value };
                 self.versions.extend(set.into_iter().map(version));
             }
         }

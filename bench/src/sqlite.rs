@@ -9,7 +9,7 @@ use std::time::Instant;
 
 use reference::{Answer, Call};
 
-use crate::filled::Filled;
+use crate::filled::{Filled, Version, SET};
 use crate::plot::Beside;
 use crate::report::{ns, Report};
 use crate::{named, time, Named, LARGEST, PROGRAM};
@@ -36,18 +36,20 @@ const OK: c_int = 0;
 const ROW: c_int = 100;
 const DONE: c_int = 101;
 
-/// The key begins with the column, so that a sum goes over one column's versions alone.
-const TABLE: &str = "CREATE TABLE versions (col INTEGER, row INTEGER, stamp INTEGER, value INTEGER,
-    PRIMARY KEY (col, row, stamp)) WITHOUT ROWID";
-const INSERT: &str = "INSERT OR REPLACE INTO versions VALUES (?, ?, ?, ?)";
-const DELETE: &str = "DELETE FROM versions WHERE col = ? AND row = ? AND stamp = ?";
-const LATEST: &str =
-    "SELECT value, stamp FROM versions WHERE col = ? AND row = ? ORDER BY stamp DESC LIMIT 1";
+/// The key begins with the column, so that a sum goes over one column's versions alone. It ends with
+/// the commit's ordinal, which tells the commits of one minute apart: a scan sees those made before it.
+const TABLE: &str = "CREATE TABLE versions (col INTEGER, row INTEGER, stamp INTEGER,
+    ordinal INTEGER, value INTEGER, PRIMARY KEY (col, row, stamp, ordinal)) WITHOUT ROWID";
+const INSERT: &str = "INSERT OR REPLACE INTO versions VALUES (?, ?, ?, ?, ?)";
+const DELETE: &str = "DELETE FROM versions WHERE col = ? AND row = ? AND stamp = ? AND ordinal = ?";
+const LATEST: &str = "SELECT value, stamp FROM versions WHERE col = ? AND row = ?
+    ORDER BY stamp DESC, ordinal DESC LIMIT 1";
 const READ_AT: &str = "SELECT value, stamp FROM versions WHERE col = ? AND row = ? AND stamp <= ?
-    ORDER BY stamp DESC LIMIT 1";
-/// With max() SQLite takes the other columns from the row that has the greatest.
-const SUM: &str = "SELECT count(*), sum(value) FROM (SELECT value, max(stamp) FROM versions
-    WHERE col = ? AND stamp <= ? GROUP BY row)";
+    ORDER BY stamp DESC, ordinal DESC LIMIT 1";
+/// With max() SQLite takes the other columns from the row that has the greatest; a later ordinal has no
+/// earlier stamp.
+const SUM: &str = "SELECT count(*), sum(value) FROM (SELECT value, max(ordinal) FROM versions
+    WHERE col = ? AND stamp <= ? AND ordinal <= ? GROUP BY row)";
 
 struct Database(*mut c_void);
 
@@ -110,7 +112,7 @@ impl Drop for Statement {
 pub fn measure(stores: &[Named], report: &mut Report) -> Vec<Beside> {
     // SAFETY: the text that SQLite gives ends with 0 and stays.
     let version = unsafe { CStr::from_ptr(sqlite3_libversion()) }.to_string_lossy();
-    let note = format!("SQLite {version}, in memory, the same versions in one table with the key (column, row, stamp), statements prepared: nanoseconds, and how many times the store's they are. Update and commit is begin, update, commit; SQLite's is BEGIN, INSERT, COMMIT.");
+    let note = format!("SQLite {version}, in memory, the same versions in one table with the key (column, row, stamp, ordinal), statements prepared: nanoseconds, and how many times the store's they are. Update and commit is begin, update, commit; SQLite's is BEGIN, INSERT, COMMIT.");
     report.heading("Beside SQLite", &note);
     let mut heads = vec!["full".to_string(), "SQLite".to_string()];
     for (name, _) in stores {
@@ -145,8 +147,9 @@ fn kinds(filled: &Filled) -> Vec<(&'static str, f64, Vec<Call>)> {
     let (insert, delete) = (database.prepare(INSERT), database.prepare(DELETE));
     begin.run(&[]);
     for version in &filled.versions {
-        let [column, row, stamp] = [version.column, version.row, version.stamp].map(i64::from);
-        insert.run(&[column, row, stamp, version.value.into()]);
+        let Version { row, column, stamp, ordinal, value } = *version;
+        let [column, row, stamp, ordinal] = [column, row, stamp, ordinal].map(i64::from);
+        insert.run(&[column, row, stamp, ordinal, value.into()]);
     }
     commit.run(&[]);
     let (latest, read_at) = (database.prepare(LATEST), database.prepare(READ_AT));
@@ -159,15 +162,27 @@ fn kinds(filled: &Filled) -> Vec<(&'static str, f64, Vec<Call>)> {
         Call::Sum { scan: filled.scan, column },
     ];
     let answers = calls.each_ref().map(|call| filled.clone().call(call));
-    let [r, s, last] = [row, half, filled.last].map(i64::from);
+    let [r, s, last, commits] = [row, half, filled.last, filled.commits].map(i64::from);
     let version = |found: Option<(i64, i64)>| {
         let (value, stamp) = found.expect("a version");
         Answer::Version { value: value as i32, stamp: stamp as u32 }
     };
     assert_eq!(answers[0], version(latest.run(&[0, r])));
     assert_eq!(answers[1], version(read_at.run(&[0, r, s])));
-    let (count, total) = sum.run(&[0, last]).expect("a sum");
-    assert_eq!(answers[2], Answer::Sum { count: count as u32, sum: total });
+    let summed = || {
+        let (count, sum) = sum.run(&[0, last, commits]).expect("a sum");
+        Answer::Sum { count: count as u32, sum }
+    };
+    assert_eq!(answers[2], summed());
+    // After one more commit in the last minute, which sets row 0: the latest is new, the scan's sum old.
+    let (mut later, row_0) = (filled.clone(), Call::Latest { row: 0, column });
+    later.call(&Call::Commit { transaction: filled.open, stamp: filled.last });
+    insert.run(&[0, 0, last, commits + 1, SET.into()]);
+    assert_eq!(later.call(&row_0), version(latest.run(&[0, 0])));
+    assert_ne!(later.call(&row_0), filled.clone().call(&row_0));
+    assert_eq!(later.call(&calls[2]), summed());
+    assert_eq!(answers[2], summed());
+    delete.run(&[0, 0, last, commits + 1]);
 
     let [latest_call, read_at_call, sum_call] = calls;
     let values = vec![1; filled.shape.columns as usize];
@@ -182,16 +197,16 @@ fn kinds(filled: &Filled) -> Vec<(&'static str, f64, Vec<Call>)> {
     let updated = time::least(|| {
         let start = Instant::now();
         begin.run(&[]);
-        insert.run(black_box(&[0, 1, next, 1]));
+        insert.run(black_box(&[0, 1, next, commits + 1, 1]));
         commit.run(&[]);
         let time = start.elapsed().as_nanos() as f64;
-        delete.run(&[0, 1, next]);
+        delete.run(&[0, 1, next, commits + 1]);
         time
     });
     vec![
         ("latest", batched(|| latest.run(&[0, r])), vec![latest_call]),
         ("read at", batched(|| read_at.run(&[0, r, s])), vec![read_at_call]),
-        ("sum", batched(|| sum.run(&[0, last])), vec![sum_call]),
+        ("sum", batched(|| sum.run(&[0, last, commits])), vec![sum_call]),
         ("update and commit", updated, update),
     ]
 }

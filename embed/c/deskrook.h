@@ -12,7 +12,7 @@
  *
  * ANSWERS. `result` is DESKROOK_OK, DESKROOK_NONE or the number of a refusal. A refused call changes no byte of memory and list. The other fields are said with
  * each call; a field of which nothing is said is 0, and all of them are 0 where the result is not DESKROOK_OK. Where a read of one cell gives a value,
- * `stamp` is the stamp of the commit that set this column in this row, by an update or by the insert; 0 while that is pending, as where it was committed at 0.
+ * `stamp` is the stamp of the commit that set this column in this row, by an update or by the insert; 0 while that is pending, and where it was committed at 0.
  *
  * NUMBERS. Rows and columns count from 0, ranges too; row r lies in range r / 64. Transactions, scans and tail records count from 1. A stamp is a count of minutes
  * since 1 January 2000 UTC. Any number may be passed: one that is not there is refused. Each call says its refusals in the order in which they are tested.

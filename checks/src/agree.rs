@@ -61,35 +61,12 @@ pub fn list(seed: u64) -> (Shape, Vec<Call>) {
         place if place % 64 == 0 => 700,
         _ => 40 + random.below(160) as usize,
     };
-    let wide = random.percent(50);
-    (shape, calls(seed, &shape, count, wide))
-}
-
-/// Minutes of so many of the generator's stamps, of which each list takes one. The generator seldom
-/// goes further than three from a commit to the next, so that four of ten commits come in the minute of
-/// the last. The greatest stamp is a multiple of each.
-const MINUTES: [u32; 4] = [1, 3, 5, 15];
-
-/// So many random calls for a store of a shape, in which commits often come in one minute, and scans
-/// are opened at that minute between them: every commit is put off to the end of its minute, and of the
-/// reads and scans three of four. So no stamp that was not later than the last commit's becomes so.
-pub fn calls(seed: u64, shape: &Shape, count: usize, wide: bool) -> Vec<Call> {
-    let mut random = Random::new(seed ^ 0x6D69_6E75_7465_0000);
-    let mut calls = match wide {
-        true => generate::wide_calls(seed, *shape, count),
-        false => generate::calls(seed, *shape, count),
+    let calls = if random.percent(50) {
+        generate::wide_calls(seed, shape, count)
+    } else {
+        generate::calls(seed, shape, count)
     };
-    let minute = random.pick(&MINUTES);
-    for call in &mut calls {
-        match call {
-            Call::Commit { stamp, .. } => *stamp = stamp.div_ceil(minute) * minute,
-            Call::ReadAt { stamp, .. } | Call::OpenScan { stamp } if random.percent(75) => {
-                *stamp = stamp.div_ceil(minute) * minute;
-            }
-            _ => {}
-        }
-    }
-    calls
+    (shape, calls)
 }
 
 /// Runs the lists of so many seeds; an error is the first difference.

@@ -3,9 +3,9 @@
 //! answer always.
 
 use reference::random::Random;
-use reference::{trace, Answer, Call, Shape};
+use reference::{generate, trace, Answer, Call, Shape};
 
-use crate::agree::{self, made, Watched};
+use crate::agree::{made, Watched};
 use crate::facts::{self, Stored};
 use crate::memory::{header, list_word, word, Layout, ScanEntry, SCANS, SCAN_WORDS, WORD};
 use crate::operands::{call_for, COMMANDS};
@@ -100,7 +100,7 @@ fn grown(
     random: &mut Random,
 ) -> Result<Watched, String> {
     let (mut watched, _) = made(store, shape, random)?;
-    for call in agree::calls(seed, shape, count, false) {
+    for call in generate::calls(seed, *shape, count) {
         store.call(watched.memory.get_mut(), watched.scans.get_mut(), &call);
     }
     watched.keep();

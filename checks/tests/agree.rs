@@ -19,7 +19,7 @@ fn answers_are_those_of_the_plain_history() {
 fn lists_have_several_commits_in_one_minute() {
     let tally = agree::run(&Plain::<0>, 0, 1100).expect("no difference");
     assert!(tally.repeated * 3 > tally.commits, "{tally:?}");
-    assert!(tally.under_scans > 1000, "{tally:?}");
+    assert!(tally.under_scans > 2000, "{tally:?}");
 }
 
 #[test]

@@ -491,25 +491,27 @@ impl View {
         self
     }
 
-    fn settled(mut self, transaction: u32, state: u32, commit: Commit) -> View {
+    fn mark_all(mut self, transaction: u32, rows: Region, tails: Region, word: u32) -> View {
         for row in 0..self.rows_given() as usize {
             if self.get(Region::RowTransaction, row) == transaction {
-                self.put(Region::RowState, row, state);
-                self.put(Region::RowStamp, row, commit.stamp);
-                self.put(Region::RowOrdinal, row, commit.ordinal);
+                self.put(rows, row, word);
             }
         }
         for range in 0..self.layout.ranges {
             for number in 1..=self.used_in(range) as usize {
                 let slot = self.slot(range, number);
                 if self.get(Region::TailTransaction, slot) == transaction {
-                    self.put(Region::TailState, slot, state);
-                    self.put(Region::TailStamp, slot, commit.stamp);
-                    self.put(Region::TailOrdinal, slot, commit.ordinal);
+                    self.put(tails, slot, word);
                 }
             }
         }
         self
+    }
+
+    fn settled(self, transaction: u32, state: u32, commit: Commit) -> View {
+        self.mark_all(transaction, Region::RowState, Region::TailState, state)
+            .mark_all(transaction, Region::RowStamp, Region::TailStamp, commit.stamp)
+            .mark_all(transaction, Region::RowOrdinal, Region::TailOrdinal, commit.ordinal)
     }
 
     fn freed(mut self, transaction: u32) -> View {
@@ -541,9 +543,9 @@ impl View {
         self.put(Region::RowTransaction, row, transaction);
         self.put(Region::RowState, row, 0);
         self.put(Region::RowStamp, row, 0);
+        self.put(Region::RowOrdinal, row, 0);
         self.put(Region::RowLink, row, 0);
         self.put(Region::RowMask, row, 0);
-        self.put(Region::RowOrdinal, row, 0);
         for c in 0..self.layout.columns {
             let at = self.current_in(range_of(row), c) * RANGE_ROWS + within(row);
             self.put(Region::Cells, at, value_of(values, c));

@@ -35,9 +35,9 @@ impl<const FAULT: u8> Table<'_, FAULT> {
         self.put(Region::RowTransaction, row, transaction);
         self.put(Region::RowState, row, state::OPEN);
         self.put(Region::RowStamp, row, 0);
+        self.put(Region::RowOrdinal, row, 0);
         self.put(Region::RowLink, row, 0);
         self.put(Region::RowMask, row, 0);
-        self.put(Region::RowOrdinal, row, 0);
         for column in 0..self.layout.columns {
             let at = self.current(row / ROWS, column);
             self.put(Region::Cells, at * ROWS + row % ROWS, word_of(values, column));

@@ -3,8 +3,8 @@
 use admission::Admission;
 use admission::Tested;
 use admission::admit;
-use admission::given_range;
 use admission::earlier;
+use admission::given_range;
 use conditions::bad_mask;
 use conditions::gone;
 use conditions::held;

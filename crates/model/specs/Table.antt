@@ -1,4 +1,4 @@
--- The proved cases, P1 to P14 (section 13 of docs/SPECIFICATION.md), on a store just made: the store's definitions give the same answers as the table asks of the plain history.
+-- The proved cases, P1 to P15 (section 13 of docs/SPECIFICATION.md), on a store just made: the store's definitions give the same answers as the table asks of the plain history.
 use mathlib.Core.Path.{_≡_, refl}
 use mathlib.Core.List.{List, map}
 use lib.ListN.{replicate}

@@ -50,7 +50,14 @@ fn put_row(mem: &mut [u8], s: Sizes, t: Transaction, row: Row)
 {
     let i = row.0 as usize;
     write(mem, s, Region::RowTransaction, i, t.0);
-    put_open(mem, s, Region::RowState, Region::RowStamp, Region::RowOrdinal, i);
+    put_open(
+        mem,
+        s,
+        Region::RowState,
+        Region::RowStamp,
+        Region::RowOrdinal,
+        i,
+    );
     write(mem, s, Region::RowLink, i, 0);
     write(mem, s, Region::RowMask, i, 0);
 }

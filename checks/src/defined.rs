@@ -307,14 +307,8 @@ fn reader(t: Snapshot, me: u32) -> Reader {
     Reader { stamp: t.stamp, commits: t.commits, me }
 }
 
-impl View {
-    fn snapshot_in(&self, stamp: u32) -> Snapshot {
-        Snapshot { stamp, commits: self.commits_made() }
-    }
-
-    fn latest_in(&self) -> Snapshot {
-        self.snapshot_in(self.last_stamp())
-    }
+fn all_up_to(stamp: u32) -> Snapshot {
+    Snapshot { stamp, commits: u32::MAX }
 }
 
 fn snapshot_of(scan: ScanEntry) -> Snapshot {
@@ -866,14 +860,14 @@ impl View {
                 Answer::Done
             }
             Call::Latest { row, column } => {
-                self.read_current(reader(self.latest_in(), 0), row as usize, column as usize)
+                self.read_current(reader(all_up_to(self.last_stamp()), 0), row as usize, column as usize)
             }
             Call::ReadAt { stamp, row, column } => {
-                let who = reader(self.snapshot_in(stamp), 0);
+                let who = reader(all_up_to(stamp), 0);
                 self.read_current(who, row as usize, column as usize)
             }
             Call::OwnRead { transaction, row, column } => {
-                let who = reader(self.latest_in(), self.own_changes(transaction));
+                let who = reader(all_up_to(self.last_stamp()), self.own_changes(transaction));
                 self.read_current(who, row as usize, column as usize)
             }
             Call::OpenScan { .. } => Answer::Number(self.scans_given() + 1),

@@ -257,11 +257,11 @@ impl<const FAULT: u8> Table<'_, FAULT> {
         Ok(Answer::Number(given + 1))
     }
 
-    /// What a read at a stamp may see: of all commits made those up to the stamp.
+    /// What a read at a stamp may see: every commit up to the stamp, whatever its ordinal.
     fn snapshot(&self, stamp: u32) -> Snapshot {
         let commits = match FAULT {
             faults::OLDEST_OF_THE_MINUTE => self.oldest_ordinal(stamp),
-            _ => self.header(header::COMMITS_MADE),
+            _ => u32::MAX,
         };
         Snapshot { stamp, commits }
     }
@@ -269,7 +269,7 @@ impl<const FAULT: u8> Table<'_, FAULT> {
     /// What a latest read may see.
     fn latest(&self) -> Snapshot {
         let stamp = self.header(header::LAST_STAMP);
-        Snapshot { stamp, commits: self.header(header::COMMITS_MADE) }
+        Snapshot { stamp, commits: u32::MAX }
     }
 
     /// What a scan may see: what was committed up to its stamp before it was opened.

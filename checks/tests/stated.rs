@@ -115,26 +115,27 @@ fn only_a_commit_before_the_last_is_refused() {
     answers(&settled(), &last, commit(3, u32::MAX - 1), Answer::Refused(13));
 }
 
-/// Two commits are made. What bears a later ordinal no reader sees, up to the last ordinal of all.
+/// Only scans go by ordinals: for the other readers a commit counts by its stamp, whatever its ordinal
+/// is and however many commits were made.
 #[test]
-fn an_ordinal_above_the_commits_made_is_not_seen() {
+fn an_ordinal_is_nothing_to_the_other_readers() {
     let latest = Call::Latest { row: 0, column: 0 };
     let read_at = Call::ReadAt { stamp: 20, row: 0, column: 0 };
     let own_read = Call::OwnRead { transaction: 3, row: 0, column: 0 };
     let (inserted, set) =
         (Answer::Version { value: 5, stamp: 10 }, Answer::Version { value: 7, stamp: 20 });
-    for read in [latest, read_at, own_read] {
-        for ordinal in [0, 2] {
-            let put = [(Region::TailOrdinal, 1, ordinal), (Region::RowOrdinal, 0, ordinal)];
-            answers(&settled(), &put, read.clone(), set.clone());
-        }
-        for ordinal in [3, u32::MAX] {
-            let record = [(Region::TailOrdinal, 1, ordinal)];
-            answers(&settled(), &record, read.clone(), inserted.clone());
-            let row = [(Region::RowOrdinal, 0, ordinal)];
-            answers(&settled(), &row, read.clone(), Answer::None);
-            let made = [record[0], (Region::Header, header::COMMITS_MADE, ordinal)];
-            answers(&settled(), &made, read.clone(), set.clone());
+    for ordinal in [0, 2, 3, u32::MAX] {
+        for made in [0, 2, u32::MAX] {
+            let put = [
+                (Region::TailOrdinal, 1, ordinal),
+                (Region::RowOrdinal, 0, ordinal),
+                (Region::Header, header::COMMITS_MADE, made),
+            ];
+            for read in [&latest, &read_at, &own_read] {
+                answers(&settled(), &put, read.clone(), set.clone());
+            }
+            let earlier = Call::ReadAt { stamp: 19, row: 0, column: 0 };
+            answers(&settled(), &put, earlier, inserted.clone());
         }
     }
 }

@@ -130,7 +130,7 @@ impl<const FAULT: u8> Table<'_, FAULT> {
     }
 
     /// How far down the reader looks for a value. The ordinals need no look: a scan's page holds what
-    /// was committed before the scan, and any other reader has all commits made.
+    /// was committed before the scan, and any other reader has all commits.
     #[inline(always)]
     fn down_to(reader: &Reader, page: &Page) -> usize {
         if page.newest <= reader.snapshot.stamp || FAULT == faults::NO_NEWEST_TEST {

@@ -1,6 +1,5 @@
 // What every call begins with: the test of the lent memory and of the scan list, and what the call's own tests find. The conditions here are
 // rules 3.5, 3.6, 3.7 and 3.13 of docs/SPECIFICATION.md, which several calls share. What follows for a whole call is in specs/ and proofs/.
-use layout::HEADER_COMMITS;
 use layout::HEADER_ROWS;
 use layout::HEADER_STAMP;
 use layout::Region;
@@ -19,9 +18,9 @@ use terms::Stamp;
 use terms::Transaction;
 ghost use mathlib.Core.Path.{_≡_};
 ghost use Prim.Native.Nat.{_*_};
-ghost use Rattle.layout.specs.View.{viewOf, Suffices};
+ghost use Rattle.layout.specs.View.{lastStamp, viewOf, Suffices};
 ghost use Rattle.history.specs.History.{noColumn, noRange};
-ghost use Rattle.model.specs.Reading.{reader, snapshotIn, latestIn};
+ghost use Rattle.model.specs.Reading.{reader, allUpTo};
 ghost use Rattle.model.specs.Calls.{earlierIn, laterIn};
 ghost use Rattle.model.specs.Preconditions.{shapeIn};
 ghost use Rattle.admission.specs.Admitted.{Admits};
@@ -49,14 +48,13 @@ pub fn admit(mem: &[u8], t: Scans) -> Admission
     Admission::Fit(s, words_needed(s) * 4)
 }
 
-// The reader at a stamp, of all commits made, with the changes of a transaction (0: of none).
-pub fn reader_at(mem: &[u8], s: Sizes, stamp: Stamp, me: Transaction) -> Reader
-    requires { ⌜ Suffices s (now mem) ⌝ }
-    ensures { λ r. ⌜ r ≡ reader (snapshotIn (viewOf s (now (mem .entry))) (stamp .0)) (me .0) ⌝ }
+// The reader of all commits at a stamp or before, with the changes of a transaction (0: of none). No ordinal is above the highest word.
+pub fn reader_at(stamp: Stamp, me: Transaction) -> Reader
+    ensures { λ r. ⌜ r ≡ reader (allUpTo (stamp .0)) (me .0) ⌝ }
 {
     Reader {
         stamp: stamp,
-        commits: read(mem, s, Region::Header, HEADER_COMMITS),
+        commits: 0xffff_ffff,
         me: me,
     }
 }
@@ -64,10 +62,9 @@ pub fn reader_at(mem: &[u8], s: Sizes, stamp: Stamp, me: Transaction) -> Reader
 // The reader at the last commit's stamp.
 pub fn latest_reader(mem: &[u8], s: Sizes, me: Transaction) -> Reader
     requires { ⌜ Suffices s (now mem) ⌝ }
-    ensures { λ r. ⌜ r ≡ reader (latestIn (viewOf s (now (mem .entry)))) (me .0) ⌝ }
+    ensures { λ r. ⌜ r ≡ reader (allUpTo (lastStamp (viewOf s (now (mem .entry))))) (me .0) ⌝ }
 {
-    let last = Stamp(read(mem, s, Region::Header, HEADER_STAMP));
-    reader_at(mem, s, last, me)
+    reader_at(Stamp(read(mem, s, Region::Header, HEADER_STAMP)), me)
 }
 
 // The range of a row, or nothing where the row's number is not yet given: 5.

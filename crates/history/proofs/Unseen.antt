@@ -1,13 +1,13 @@
 -- What a reader does not see changes nothing for it: a row that a snapshot does not see it never will, records of transactions that it does not see leave every read
 -- as it was, and neither change a sum. Stability wants it, and so does the store's proof, where an open scan's pages hold the rows that the scan may see.
-use mathlib.Core.Path.{_≡_, refl, sym, _∙_, ap, fun-ext}
-use mathlib.Core.Bool.{Bool, false, not, cond, _&&_, and-false, or-false}
+use mathlib.Core.Path.{_≡_, refl, _∙_, ap, fun-ext}
+use mathlib.Core.Bool.{Bool, false, not, _&&_, and-false, or-false}
 use mathlib.Core.List.{List, [], _∷_, _++_, append-nil}
 use Prim.Native.Nat.{ℕ, zero, suc, _≤_, _<_}
 use native.Mathlib.Omega.{arith}
 use native.Mathlib.Nat.{le-refl, le-trans}
 use native.Mathlib.Decide.{ℕ-discrete, decLt}
-use lib.Dec.{T, eqb}
+use lib.Dec.{eqb}
 use lib.ListN.{length, length-append, List·getD-append, List·getD-eq-default}
 use lib.Seq.{getD-append-seam}
 use lib.IntN.{ℤ}

@@ -100,7 +100,7 @@ pub fn read_at(mem: &[u8], t: Scans, stamp: Stamp, row: Row, column: u32) -> Ans
     match read_at_tests(mem, s, stamp, row, column) {
         Tested::Failed(x) => Answer::Refused(x),
         Tested::Passed(_) => {
-            let who = reader_at(mem, s, stamp, Transaction(0));
+            let who = reader_at(stamp, Transaction(0));
             read_current(mem, s, who, row, column)
         }
     }

@@ -26,19 +26,20 @@ use Rattle.history.proofs.Ranges.{last-agree}
 use Rattle.history.proofs.Pages.{cell-is}
 use Rattle.history.specs.Invariants.{Stamped}
 use Rattle.history.proofs.Invariants.{invariants-next}
+use Rattle.history.proofs.Limits.{commits-few}
 use Rattle.layout.specs.View.{View, lastStamp, usedIn}
 use Rattle.layout.specs.declared.Region.the-variants.{Opens, Changes}
 use Rattle.terms.specs.declared.ScanEntry.{ScanEntry}
 use Rattle.terms.specs.Entries.{bears, firstIndex}
-use Rattle.model.specs.Stored.{cellIn, currentIn, within, openIndex, scanEntry}
+use Rattle.model.specs.Stored.{cellIn, currentIn, within, openIndex, scanEntry, wordLimit}
 use Rattle.model.specs.declared.Reader.{Reader}
-use Rattle.model.specs.Reading.{reader, snapshotIn, latestIn, snapshotOf, readIn, readCurrent, ownChanges, wordIn, scanPage, Tally, tally, sumIn}
+use Rattle.model.specs.Reading.{reader, allUpTo, snapshotOf, readIn, readCurrent, ownChanges, wordIn, scanPage, Tally, tally, sumIn}
 use Rattle.model.specs.Calls.{testsIn, replyIn, actIn, entriesAfter, viewIf, entriesIf, say, viewNext, entriesNext, notOpenIn, noScanIn, notGivenIn, lacksIn, earlierIn, laterIn, outOfReachIn, Typed}
 use Rattle.model.specs.Represents.{everyRow, CurrentOf, Unchanged, scanAs, Represents, WellFormed, SameCall, StepKept}
 use Rattle.model.proofs.Opens.{opens-is, opens-full, open-there, active-given}
 use Rattle.model.proofs.changes.Transactions.{begin-kept, commit-kept, abort-kept}
 use Rattle.model.proofs.changes.Insert.{insert-kept}
-use Rattle.model.proofs.lookups.Heads.{in-range, SeesAs, sees-at, sees-own, held-is, gone-is, visible-is}
+use Rattle.model.proofs.lookups.Heads.{in-range, SeesAs, sees-at, sees-own, sees-all, held-is, gone-is, visible-is}
 use Rattle.model.proofs.lookups.Read.{word-is, read-is}
 use Rattle.model.proofs.changes.Records.{delete-kept}
 use Rattle.model.proofs.changes.Update.{wanted-is, update-kept}
@@ -156,22 +157,22 @@ module _ {S : Shape} {v : View} {ps : List ScanEntry} {h : History} (o : Represe
       read-is o k who f w r b c d (currentIn S v (rangeOf r) c) everyRow x
       (all-map (λ y _ s e. le-trans (k .invariants .order .stamps (y .transaction) s e .ordinals) a) (x .through .closed-all)) (λ z. tt)
 
-  snapshot-is : (s : ℕ) → snapshotIn v s ≡ snapshotAt h s
-  snapshot-is s = rw (o .header .commits-made)
+  -- a reader of all commits, with the changes of transaction m
+  made-few : h .last .ordinal ≤ wordLimit - 1
+  made-few = omega (arith, commits-few (k .invariants .limits), k .invariants .limits .transactions)
 
-  latest-is : latestIn v ≡ latestSnapshot h
-  latest-is = rw (o .header .last-stamp, o .header .commits-made)
+  all-read : (s m r c : ℕ) (f : ℕ → Bool) → SeesAs h (reader (snapshotAt h s) m) f → r < length (h .rows) → c < S .columns → readCurrent S v (reader (allUpTo s) m) r c ≡ read f h r c
+  all-read s m r c f w b d = current-read (reader (allUpTo s) m) r c f (sees-all h s m (wordLimit - 1) f (k .invariants .order .stamps) made-few w) made-few b d
 
-  -- for the snapshot taken now
-  now-read : (s r c : ℕ) → r < length (h .rows) → c < S .columns → readCurrent S v (reader (snapshotAt h s) 0) r c ≡ read (seenAt h (snapshotAt h s)) h r c
-  now-read s r c b d = current-read (reader (snapshotAt h s) 0) r c (seenAt h (snapshotAt h s)) (sees-at h (snapshotAt h s)) (le-refl _) b d
+  read-at : (s r c : ℕ) → r < length (h .rows) → c < S .columns → readCurrent S v (reader (allUpTo s) 0) r c ≡ read (seenAt h (snapshotAt h s)) h r c
+  read-at s r c b d = all-read s 0 r c (seenAt h (snapshotAt h s)) (sees-at h (snapshotAt h s)) b d
 
-  own-read : (t r c : ℕ) → stateOf h t ≡ active → r < length (h .rows) → c < S .columns → readCurrent S v (reader (latestIn v) (ownChanges v t)) r c ≡ read (seenBy h t) h r c
+  own-read : (t r c : ℕ) → stateOf h t ≡ active → r < length (h .rows) → c < S .columns → readCurrent S v (reader (allUpTo (lastStamp v)) (ownChanges v t)) r c ≡ read (seenBy h t) h r c
   unfolding ownChanges openIndex
-  own-read t r c a b d = ap (λ (s : Snapshot). readCurrent S v (reader s (cond (eqb noted 0) 0 t)) r c) latest-is ∙
-      by-test (λ z. readCurrent S v (reader (latestSnapshot h) (cond z 0 t)) r c ≡ read (seenBy h t) h r c) (eqb noted 0)
-      (λ z. current-read (reader (latestSnapshot h) 0) r c (seenAt h (latestSnapshot h)) (sees-at h (latestSnapshot h)) (le-refl _) b d ∙ own-latest h t r c b (unchanged (eqb→eq noted 0 z)))
-      (λ _. current-read (reader (latestSnapshot h) t) r c (seenBy h t) (sees-own h t a) (le-refl _) b d)
+  own-read t r c a b d = ap (λ (s : ℕ). readCurrent S v (reader (allUpTo s) (cond (eqb noted 0) 0 t)) r c) (o .header .last-stamp) ∙
+      by-test (λ z. readCurrent S v (reader (allUpTo (h .last .stamp)) (cond z 0 t)) r c ≡ read (seenBy h t) h r c) (eqb noted 0)
+      (λ z. read-at (h .last .stamp) r c b d ∙ own-latest h t r c b (unchanged (eqb→eq noted 0 z)))
+      (λ _. all-read (h .last .stamp) t r c (seenBy h t) (sees-own h t a) b d)
     where
       j : ℕ
       j = firstIndex (bears t) (v Opens)
@@ -256,8 +257,8 @@ module _ {S : Shape} {v : View} {ps : List ScanEntry} {h : History} (o : Represe
   reply-same (commit t s) p = refl
   reply-same (abort t) p = refl
   reply-same (latest r c) p =
-      ap (λ (t : Snapshot). readCurrent S v (reader t 0) r c) latest-is ∙ now-read (h .last .stamp) r c (search nleb→lt) (search nleb→lt)
-  reply-same (readAt s r c) p = ap (λ (t : Snapshot). readCurrent S v (reader t 0) r c) (snapshot-is s) ∙ now-read s r c (search nleb→lt) (search nleb→lt)
+      ap (λ (s : ℕ). readCurrent S v (reader (allUpTo s) 0) r c) (o .header .last-stamp) ∙ read-at (h .last .stamp) r c (search nleb→lt) (search nleb→lt)
+  reply-same (readAt s r c) p = read-at s r c (search nleb→lt) (search nleb→lt)
   reply-same (ownRead t r c) p = own-read t r c (search is-active) (search nleb→lt) (search nleb→lt)
   reply-same (openScan s) p = ap Answer.Number (omega (arith, o .header .scans-given))
   reply-same (scanRead i r c) p =

@@ -7,7 +7,7 @@ use Prim.Native.Nat.{ℕ, suc, _+_, _≤_, _<_}
 use native.Mathlib.Omega.{arith}
 use native.Mathlib.Nat.{le-refl, le-trans}
 use native.Mathlib.Decide.{ℕ-discrete, decLt}
-use lib.ListN.{length, getD, take, length-append, List·getD-append, List·getD-eq-default}
+use lib.ListN.{length, getD, take, length-append, List·getD-eq-default}
 use lib.Seq.{getD-append-seam}
 use lib.IntN.{pos}
 use borrow.Author.Tests.{ne-eqb}
@@ -124,10 +124,6 @@ withRow h w = withRows h (h .rows ++ w ∷ [])
 pub row-new : (h : History) (w : Row) → rowAt (withRow h w) (length (h .rows)) ≡ w
 unfolding rowAt withRows
 row-new h w = getD-append-seam (h .rows) w [] record { inserter = 0; values = [] }
-
-pub row-old : (h : History) (w : Row) (r : ℕ) → r < length (h .rows) → rowAt (withRow h w) r ≡ rowAt h r
-unfolding rowAt withRows
-row-old h w r b = List·getD-append (h .rows) (w ∷ []) record { inserter = 0; values = [] } r b
 
 pub rows-more : (h : History) (w : Row) → length ((withRow h w) .rows) ≡ suc (length (h .rows))
 unfolding withRows

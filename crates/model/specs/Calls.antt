@@ -20,7 +20,7 @@ use Rattle.terms.specs.declared.ScanEntry.{ScanEntry}
 use Rattle.terms.specs.Entries.{freeEntry, firstIndex, bears, isScan}
 use Rattle.layout.specs.Regions.{scansAt}
 use Rattle.model.specs.Stored.{RecordWords, rowIn, recordIn, pageIn, currentIn, cellIn, within, committedState, deleteKind, scanEntry, pagesOf, anyBelow, countBelow, wordLimit}
-use Rattle.model.specs.Reading.{reader, snapshotIn, latestIn, snapshotOf, readIn, readCurrent, ownChanges, scanPage, sumIn}
+use Rattle.model.specs.Reading.{reader, allUpTo, snapshotOf, readIn, readCurrent, ownChanges, scanPage, sumIn}
 use Rattle.model.specs.Writing.{begun, committedIn, abortedIn, insertedIn, updatedIn, deletedIn, mergedIn, releasedIn, releasable, recordsWanted, freeIn}
 
 -- ---- the conditions of the refusals (section 3 of docs/SPECIFICATION.md), read in the memory
@@ -137,9 +137,9 @@ replyIn S v ps (update t r m vs) = Answer.Number (usedIn v (rangeOf r) + records
 replyIn S v ps (delete t r) = Answer.Number (usedIn v (rangeOf r) + 1)
 replyIn S v ps (commit t s) = Answer.Done
 replyIn S v ps (abort t) = Answer.Done
-replyIn S v ps (latest r c) = readCurrent S v (reader (latestIn v) 0) r c
-replyIn S v ps (readAt s r c) = readCurrent S v (reader (snapshotIn v s) 0) r c
-replyIn S v ps (ownRead t r c) = readCurrent S v (reader (latestIn v) (ownChanges v t)) r c
+replyIn S v ps (latest r c) = readCurrent S v (reader (allUpTo (lastStamp v)) 0) r c
+replyIn S v ps (readAt s r c) = readCurrent S v (reader (allUpTo s) 0) r c
+replyIn S v ps (ownRead t r c) = readCurrent S v (reader (allUpTo (lastStamp v)) (ownChanges v t)) r c
 replyIn S v ps (openScan s) = Answer.Number (scansGiven v + 1)
 replyIn S v ps (scanRead k r c) =
     let s = scanEntry ps k in

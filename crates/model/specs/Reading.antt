@@ -2,7 +2,7 @@
 -- and by the transaction whose own changes count, and the value is found in a page, in the tail records above the page's lineage, and further down only
 -- where the page is newer than the stamp. Whoever set it is found in the records alone: a page has no room for the stamps of its cells.
 use mathlib.Core.Bool.{Bool, not, cond, _&&_, _||_}
-use Prim.Native.Nat.{ℕ, zero, suc, _+_, _%_}
+use Prim.Native.Nat.{ℕ, zero, suc, _+_, _-_, _%_}
 use lib.Dec.{leb, ltb, eqb}
 use lib.ListN.{getD}
 use lib.IntN.{ℤ, pos, _+ℤ_}
@@ -12,25 +12,22 @@ use Rattle.terms.specs.Measures.{Shape}
 use Rattle.terms.specs.declared.Answer.{Answer}
 use Rattle.history.specs.History.{Snapshot, bit, rangeOf}
 use Rattle.loops.specs.declared.Found.{Found}
-use Rattle.layout.specs.View.{View, rowsGiven, lastStamp, commitsMade}
+use Rattle.layout.specs.View.{View, rowsGiven}
 use Rattle.layout.specs.declared.Region.the-variants.{Changes}
 use Rattle.terms.specs.declared.ScanEntry.{ScanEntry}
 use Rattle.model.specs.declared.Reader.{Reader}
 use Rattle.model.specs.declared.Setter.{Setter}
 use Rattle.model.specs.declared.Version.{Version}
-use Rattle.model.specs.Stored.{RowWords, RecordWords, PageWords, rowIn, recordIn, pageIn, valueIn, currentIn, chunkOf, chunksOf, pagesOf, cellIn, within, openState, committedState, originalKind, settingKind, deleteKind, waitingPage, firstFrom, openIndex}
+use Rattle.model.specs.Stored.{RowWords, RecordWords, PageWords, rowIn, recordIn, pageIn, valueIn, currentIn, chunkOf, chunksOf, pagesOf, cellIn, within, openState, committedState, originalKind, settingKind, deleteKind, waitingPage, firstFrom, openIndex, wordLimit}
 use Rattle.layout.specs.Regions.{slot}
 
 -- a reader by its snapshot and the transaction whose own changes count (0: none)
 abbrev pub reader : Snapshot → ℕ → Reader
 reader t me = record { stamp = record { 0 = t .stamp }; commits = t .commits; me = record { 0 = me } }
 
--- the snapshot taken now at stamp s, and at the last commit's; a scan's was taken when it was opened
-abbrev pub snapshotIn : View → ℕ → Snapshot
-snapshotIn v s = record { stamp = s; commits = commitsMade v }
-
-abbrev pub latestIn : View → Snapshot
-latestIn v = snapshotIn v (lastStamp v)
+-- Every commit at stamp s or before: no word is above the highest, so that no ordinal is left out, in whatever memory. A scan's snapshot has those made before its opening.
+abbrev pub allUpTo : ℕ → Snapshot
+allUpTo s = record { stamp = s; commits = wordLimit - 1 }
 
 abbrev pub snapshotOf : ScanEntry → Snapshot
 snapshotOf s = record { stamp = s .stamp; commits = s .commits }
@@ -91,7 +88,7 @@ abbrev pub floor : ℕ
 floor = 0
 
 -- How far down a reader looks for a value: the records up to a page's lineage are in its cells, unless the page holds a setting later than the stamp. The stamp is
--- enough: what a scan's own page holds was committed before the scan was opened, and every other reader's snapshot has all commits made.
+-- enough: what a scan's own page holds was committed before the scan was opened, and every other reader has all commits.
 unfoldable pub downTo : Reader → PageWords → ℕ
 downTo who page = cond (leb (page .newest) (who .stamp .0)) (page .lineage) floor
 

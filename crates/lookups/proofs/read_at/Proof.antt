@@ -21,7 +21,7 @@ read-at-spec =
     (λ c κs. search serving)
     (λ c. search needs)
     (λ c. search needs)
-    (λ c κs. search serving)
+    (λ c κs. search needs)
     (λ c κs. (search serving, (search serving, ((search serving, search serving), (search cell-inside, search cell-inside)))))
     (λ c. search serving)
     returns-3)

@@ -3,15 +3,15 @@ use mathlib.Core.Path.{_≡_, refl, sym, _∙_, ap, ap₂}
 use mathlib.Core.Logic.{_≢_}
 use mathlib.Core.Bool.{Bool, true, false, not, _&&_, _||_, or-false}
 use mathlib.Core.List.{List}
-use Prim.Native.Nat.{ℕ, zero, suc, _+_, _*_, _-_, _<_}
+use Prim.Native.Nat.{ℕ, zero, suc, _+_, _*_, _-_, _≤_, _<_}
 use native.Mathlib.Omega.{arith}
-use native.Mathlib.Nat.{le-refl}
+use native.Mathlib.Nat.{le-refl, le-trans}
 use lib.Dec.{leb, eqb, eqb·suc-zero}
 use borrow.Author.Tests.{le-leb, ne-eqb}
 use lib.ListN.{length, getD}
 use lib.Seq.{take-length}
 use Rattle.terms.specs.Measures.{Shape}
-use Rattle.history.specs.History.{History, Record, Commit, Snapshot, latestSnapshot, State, unknown, active, aborted, committed, Content, original, setting, ending, committedBy, stateOf, rowAt, ends, rangeOf, recordsOf, seenAt, seenBy, ended, visible, activeOther, held, gone, commitOf}
+use Rattle.history.specs.History.{History, Record, Commit, Snapshot, snapshotAt, latestSnapshot, State, unknown, active, aborted, committed, Content, original, setting, ending, committedBy, stateOf, rowAt, ends, rangeOf, recordsOf, seenAt, seenBy, ended, visible, activeOther, held, gone, commitOf}
 use Rattle.history.proofs.Lists.{clash}
 use Rattle.history.specs.Invariants.{UpTo, Stamped}
 use Rattle.history.specs.Records.{anyOfRow, noRecord, lastOf}
@@ -72,6 +72,18 @@ sees-own h (suc me) a k = go (stateOf h k) refl
     go active e = rw (eqb·suc-zero me) (sym (or-false (eqb k (suc me))))
     go aborted e = rw (not-me aborted e (λ z. clash (cc)))
     go (committed s) e = rw (not-me (committed s) e (λ z. clash (cc))) (or-false (leb (s .stamp) (h .last .stamp) && leb (s .ordinal) (h .last .ordinal)))
+
+-- a reader with all commits made sees no more with more
+pub sees-all : (h : History) (s me n : ℕ) (f : ℕ → Bool) → Stamped h → h .last .ordinal ≤ n → SeesAs h (reader (snapshotAt h s) me) f → SeesAs h (reader record { stamp = s; commits = n } me) f
+unfolding SeesAs sees Stamped
+sees-all h s me n f i b w k = go (stateOf h k) refl ∙ w k
+  where
+    go : (x : State) → stateOf h k ≡ x → sees (reader record { stamp = s; commits = n } me) (stateWord x) (commitOf x .stamp) (commitOf x .ordinal) k
+        ≡ sees (reader (snapshotAt h s) me) (stateWord x) (commitOf x .stamp) (commitOf x .ordinal) k
+    go unknown e = refl
+    go active e = refl
+    go aborted e = refl
+    go (committed a) e = let u = i k a e .ordinals in rw (le-leb (a .ordinal) n (le-trans u b), le-leb (a .ordinal) (h .last .ordinal) u)
 
 pub sees-not-aborted : (h : History) (who : Reader) (f : ℕ → Bool) → SeesAs h who f → (k : ℕ) → stateOf h k ≡ aborted → f k ≡ false
 unfolding SeesAs sees

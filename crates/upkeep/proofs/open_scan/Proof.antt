@@ -1,5 +1,4 @@
 -- `upkeep::open_scan` meets its contract: each answer follows from the tests that led to it.
-use native.Mathlib.Omega.{arith}
 use borrow.Author.Needs.{needs}
 use mathlib.Core.Path.{ap}
 use Rattle.terms.specs.declared.Answer.{Answer}

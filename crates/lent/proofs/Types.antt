@@ -1,4 +1,5 @@
 -- The plain types of the list: an entry, the table, what a call changes of the list, and an answer.
+use Prim.Native.Nat.{ℕ}
 use Rattle.terms.proofs.ScanEntry as ScanEntry
 use Rattle.terms.proofs.ScanEntry.Laws as ScanEntry′
 use Rattle.scans.proofs.Scans as Scans
@@ -8,6 +9,10 @@ use Rattle.upkeep.proofs.ListChange.Laws as ListChange′
 use Rattle.terms.proofs.Answer as Answer
 use Rattle.terms.proofs.Answer.Laws as Answer′
 use Rattle.lent.proofs.Plain.{Plain, struct-of, enum-of}
+
+-- the bytes of an entry, four words
+abbrev pub entryBytes : ℕ
+entryBytes = 16
 
 abbrev pub p : Plain
 p = struct-of ScanEntry.the-type ScanEntry′.the-laws ScanEntry′.the-copy ScanEntry′.the-plain

@@ -1,4 +1,4 @@
--- `lent::entry_at` meets its contract: a walk of its MIR, by hand. `list[i]` stands 16 * i past the pointer, and the record is read there, whole.
+-- `lent::entry_at` meets its contract: a walk of its MIR, by hand. `list[i]` stands i entries past the pointer, and the record is read there, whole.
 -- Assumes nothing.
 use mathlib.Core.Path.{refl, sym}
 use Prim.Native.Nat.{ℕ, _<_, _*_, _^_}
@@ -40,6 +40,7 @@ use Rattle.terms.proofs.ScanEntry as T
 use Rattle.terms.proofs.ScanEntry.Laws as T′
 use Rattle.lent.proofs.Written.{world, assumed}
 use Rattle.lent.proofs.Walked.{runs, walk-closes}
+use Rattle.lent.proofs.Types.{entryBytes}
 use Rattle.lent.proofs.entry_at.Key.{name as #lent·entry-at}
 use Rattle.lent.proofs.entry_at as f
 use Rattle.lent.proofs.entry_at.Statement as stated
@@ -80,22 +81,22 @@ module _ {M : Type 1} (𝓤 : URA M) (H : Heap 𝓤) (A : Atoms 𝓤) (W : Given
   module _ (C : Calls 𝓤 H) (Λ : Loops 𝓤 H) where
     walk : Room T.the-row (length ys) → i < 2 ^ 64 → i < length ys → ent 𝓤 (onEntry 𝓤 H A f.signature (κ, tt) (q, tt) (s, (i, tt)) at) (WpFn 𝓤 H C Λ code.function (v ∷ vint w64 i ∷ []) Post)
     walk gn gi l =
-        let near : i * 16 < 2 ^ 64 = omega (arith, gn .1) in
+        let near : i * entryBytes < 2 ^ 64 = omega (arith, gn .1) in
         qed W ((‵ (flft κ q) ⊛ ‵ ftrue) ∷ ‵ (owns (ShrSlice (named 0) κ T.the-row ∷ usize ∷ []) (s, (i, tt)) at) ∷ []) ∵ enter ! C Λ code.function (v ∷ vint w64 i ∷ []) _ $
         alloc1 ! (λ l₀. alloc1 ! (λ l₁. alloc1 ! (λ l₂. alloc1 ! (λ l₃. alloc1 ! (λ l₄. alloc1 ! (λ l₅. alloc0 ! $ params1 ! $
         pass1 ! (init ! 8 refl (tt, (tt, (record { fits = gn .0 }, tt)))) $ pass1 ! (init ! 6 refl (tt, record { fits = gi })) $ pass0 ! $
         -- [_5; …; _4; …; _3; …; _2; …; _1; …; room for _0; …; the token; what list and i own]
         assigns ! (bin ! (load ! (from ! (stop !)) (look ! 6 refl)) (lit ! tt) (record { fits = near })) (from ! (stop !)) (init ! 4 refl (tt, record { fits = near })) $
         assigns ! (bin ! (load ! (from ! (fld ! refl (stop !))) (look-in ! 8 (sub ! 0 refl (whole !)))) (load ! (from ! (stop !)) (look ! 4 refl)) tt) (from ! (stop !)) (init ! 2 refl (tt, tt)) $
-        rewrite ! 2 (λ (p : ℕ). ‵ (fat fullShare tyPtr l₄ 0 (vptr b p))) (sym (place-is 16 o i)) refl $
+        rewrite ! 2 (λ (p : ℕ). ‵ (fat fullShare tyPtr l₄ 0 (vptr b p))) (sym (place-is entryBytes o i)) refl $
         move ! (13 ∷ []) $ fsplit ! $ fsplit ! $ move ! (1 ∷ []) $ fsplit ! $ move ! (16 ∷ []) $ split ! $ move ! (3 ∷ 0 ∷ []) $
         looks-slice ! tt T.the-row (Is T.the-row) (shows 𝓤 H A T.the-row) (LL.vals T.the-type T′.the-laws) (LL.tells T.the-type T′.the-laws) (LL.copy T.the-type T′.the-copy 𝓤 H A W) ys b o (λ q′.
         elem-out ! T.the-row (Is T.the-row) (shows 𝓤 H A T.the-row) (LL.vals T.the-type T′.the-laws) (LL.tells T.the-type T′.the-laws) q′ ys i freeEntry b o l (λ g.
-        use1 W (‵ (fat q′ T′.mir b (place 16 o i) mach)) (W .laws .raw-at q′ T′.mir b (place 16 o i) mach) $
+        use1 W (‵ (fat q′ T′.mir b (place entryBytes o i) mach)) (W .laws .raw-at q′ T′.mir b (place entryBytes o i) mach) $
         -- [list[i]; what it owns; the others; what shuts; the fractured borrow; true; res; list's fact; i's; _5; …; _4; …; _3; …; _2; …; _1; …; _0; …]
         assigns ! (of-opd ! (load ! (from ! (hop ! (look ! 11 refl) (stop !))) (look ! 0 refl))) (from ! (stop !)) (init ! 9 refl (LL.lawful T.the-type T′.the-laws 𝓤 H A W .typed elem _ g .0)) $
         assigns ! (of-opd ! (load ! (from ! (stop !)) (look ! 9 refl))) (from ! (stop !)) (init ! 19 refl (LL.lawful T.the-type T′.the-laws 𝓤 H A W .typed elem _ g .0)) $
-        use1 W (‵ (cellAt q′ (T.the-row .mir) (mach ∷ []) b (place 16 o i))) (W .laws .at-raw q′ T′.mir b (place 16 o i) mach) $
+        use1 W (‵ (cellAt q′ (T.the-row .mir) (mach ∷ []) b (place entryBytes o i))) (W .laws .at-raw q′ T′.mir b (place entryBytes o i) mach) $
         elem-back ! T.the-row q′ ys i freeEntry (mach ∷ []) b o l $ shuts-slice ! tt T.the-row q′ ys b o $
         returns ! (look ! 16 refl) $ forget ! 6 refl $ forget ! 8 refl $ forget ! 10 refl $ forget ! 12 refl $ forget ! 14 refl $ forget ! 16 refl $
         move ! (16 ∷ 17 ∷ []) $ free1 ! $ move ! (14 ∷ 15 ∷ []) $ free1 ! $ move ! (12 ∷ 13 ∷ []) $ free1 ! $ move ! (10 ∷ 11 ∷ []) $ free1 ! $ move ! (8 ∷ 9 ∷ []) $ free1 ! $ move ! (6 ∷ 7 ∷ []) $ free1 ! $ free0 ! $

@@ -42,6 +42,7 @@ use Rattle.terms.proofs.ScanEntry as T
 use Rattle.terms.proofs.ScanEntry.Laws as T′
 use Rattle.lent.proofs.Written.{world, assumed}
 use Rattle.lent.proofs.Walked.{runs, walk-closes}
+use Rattle.lent.proofs.Types.{entryBytes}
 use Rattle.lent.proofs.put_entry.Key.{name as #lent·put-entry}
 use Rattle.lent.proofs.put_entry as f
 use Rattle.lent.proofs.put_entry.Statement as stated
@@ -82,20 +83,20 @@ module _ {M : Type 1} (𝓤 : URA M) (H : Heap 𝓤) (A : Atoms 𝓤) (W : Given
     walk : Room T.the-row (length ys) → i < 2 ^ 64 → Is T.the-row e (mach ∷ []) → i < length ys → ent 𝓤 (onEntry 𝓤 H A f.signature (κ, tt) (q, tt) (s ys, (i, (e, tt))) at)
         (WpFn 𝓤 H C Λ code.function (v ∷ vint w64 i ∷ mach ∷ []) Post)
     walk gn gi ge l =
-        let near : i * 16 < 2 ^ 64 = omega (arith, gn .1) in
+        let near : i * entryBytes < 2 ^ 64 = omega (arith, gn .1) in
         qed W ((‵ (flft κ q) ⊛ ‵ ftrue) ∷ ‵ (owns (MutSlice (named 0) κ T.the-row ∷ usize ∷ T.the-row ∷ []) (s ys, (i, (e, tt))) at) ∷ []) ∵ enter ! C Λ code.function (v ∷ vint w64 i ∷ mach ∷ []) _ $
         alloc1 ! (λ l₀. alloc1 ! (λ l₁. alloc1 ! (λ l₂. alloc1 ! (λ l₃. alloc1 ! (λ l₄. alloc1 ! (λ l₅. alloc0 ! $ params1 ! $
         pass1 ! (init ! 8 refl (tt, (tt, (record { fits = gn .0 }, tt)))) $ pass1 ! (init ! 6 refl (tt, record { fits = gi })) $ pass1 ! (init ! 4 refl (LL.lawful T.the-type T′.the-laws 𝓤 H A W .typed e _ ge .0)) $ pass0 ! $
         -- [_5; …; _4; …; _3; …; _2; …; _1; …; room for _0; …; the token; what list, i and s own]
         assigns ! (bin ! (load ! (from ! (stop !)) (look ! 6 refl)) (lit ! tt) (record { fits = near })) (from ! (stop !)) (init ! 2 refl (tt, record { fits = near })) $
         assigns ! (bin ! (load ! (from ! (fld ! refl (stop !))) (look-in ! 8 (sub ! 0 refl (whole !)))) (load ! (from ! (stop !)) (look ! 2 refl)) tt) (from ! (stop !)) (init ! 0 refl (tt, tt)) $
-        rewrite ! 0 (λ (p : ℕ). ‵ (fat fullShare tyPtr l₅ 0 (vptr b p))) (sym (place-is 16 o i)) refl $
+        rewrite ! 0 (λ (p : ℕ). ‵ (fat fullShare tyPtr l₅ 0 (vptr b p))) (sym (place-is entryBytes o i)) refl $
         move ! (13 ∷ []) $ fsplit ! $ fsplit ! $ move ! (1 ∷ []) $ fsplit ! $ move ! (16 ∷ []) $ split ! $ move ! (2 ∷ 3 ∷ 0 ∷ []) $
         opens-slice ! tt T.the-row ys b o $ elem-out ! T.the-row (Is T.the-row) (shows 𝓤 H A T.the-row) (LL.vals T.the-type T′.the-laws) (LL.tells T.the-type T′.the-laws) fullShare ys i freeEntry b o l (λ _.
-        use1 W (‵ (fat fullShare T′.mir b (place 16 o i) _)) (W .laws .raw-at fullShare T′.mir b (place 16 o i) _) $
+        use1 W (‵ (fat fullShare T′.mir b (place entryBytes o i) _)) (W .laws .raw-at fullShare T′.mir b (place entryBytes o i) _) $
         -- [list[i]; what it owns; the others; the open borrow; obs; auth; true; list's fact; i's and s's; _5; …; _4; …; _3; …; _2; …; _1; …; _0; …]
         assigns ! (of-opd ! (load ! (from ! (stop !)) (look ! 13 refl))) (from ! (hop ! (look ! 9 refl) (stop !))) (store ! 0 refl (LL.lawful T.the-type T′.the-laws 𝓤 H A W .typed e _ ge .0)) $
-        use1 W (‵ (cellAt fullShare (T.the-row .mir) (mach ∷ []) b (place 16 o i))) (W .laws .at-raw fullShare T′.mir b (place 16 o i) mach) $
+        use1 W (‵ (cellAt fullShare (T.the-row .mir) (mach ∷ []) b (place entryBytes o i))) (W .laws .at-raw fullShare T′.mir b (place entryBytes o i) mach) $
         move ! (1 ∷ []) $ drop ! $ owned ! T.the-row (Is T.the-row) (LL.makes T.the-type T′.the-plain 𝓤 H A) e _ ge $ move ! (1 ∷ 0 ∷ []) $ elem-put ! T.the-row fullShare ys i e (mach ∷ []) b o l $
         closes-slice ! tt T.the-row ys zs (length-set ys i e) b o $
         assigns ! (of-opd ! (unit-lit !)) (from ! (stop !)) (init ! 16 refl (tt, tt)) $

@@ -859,9 +859,11 @@ impl View {
             Call::Commit { .. } | Call::Abort { .. } | Call::Close { .. } | Call::Merge { .. } => {
                 Answer::Done
             }
-            Call::Latest { row, column } => {
-                self.read_current(reader(all_up_to(self.last_stamp()), 0), row as usize, column as usize)
-            }
+            Call::Latest { row, column } => self.read_current(
+                reader(all_up_to(self.last_stamp()), 0),
+                row as usize,
+                column as usize,
+            ),
             Call::ReadAt { stamp, row, column } => {
                 let who = reader(all_up_to(stamp), 0);
                 self.read_current(who, row as usize, column as usize)
@@ -925,18 +927,21 @@ impl View {
         }
     }
 
+    fn new_entry(&self, stamp: u32) -> ScanEntry {
+        ScanEntry {
+            number: self.scans_given() + 1,
+            stamp,
+            merges: self.merges_made(),
+            commits: self.commits_made(),
+        }
+    }
+
     fn entries_after(&self, places: &[ScanEntry], call: &Call) -> Vec<ScanEntry> {
         let mut after = places.to_vec();
         let (found, new) = match *call {
-            Call::OpenScan { stamp } => (
-                places.iter().position(|scan| scan.number == 0),
-                ScanEntry {
-                    number: self.scans_given() + 1,
-                    stamp,
-                    merges: self.merges_made(),
-                    commits: self.commits_made(),
-                },
-            ),
+            Call::OpenScan { stamp } => {
+                (places.iter().position(|scan| scan.number == 0), self.new_entry(stamp))
+            }
             Call::Close { scan: number } => {
                 (places.iter().position(|scan| bears(number, scan.number)), FREE_ENTRY)
             }

@@ -249,7 +249,7 @@ impl<const FAULT: u8> Table<'_, FAULT> {
         let place = self.scans.iter().position(|scan| !scan.is_open()).ok_or(14)?;
         let merges = self.header(header::MERGES_MADE);
         let commits = match FAULT {
-            faults::SCAN_NOTES_NO_COMMITS => 0,
+            faults::SCAN_HAS_NO_COMMITS => 0,
             _ => self.header(header::COMMITS_MADE),
         };
         self.scans[place] = ScanEntry { number: given + 1, stamp, merges, commits };

@@ -152,7 +152,7 @@ fn the_count_of_commits_goes_round() {
     set_and_commit(&mut memory, &mut list);
     assert_eq!(word(&memory, header::COMMITS_MADE), 1);
     put_word(&mut memory, header::COMMITS_MADE, u32::MAX);
-    let ordinal = |memory: &[u8]| word(memory, layout.base(Region::RowOrdinal) + 1);
+    let ordinal = |memory: &[u8], row: usize| word(memory, layout.base(Region::RowOrdinal) + row);
     for (transaction, made) in [(2, 0), (3, 1)] {
         for call in [
             Call::Begin,
@@ -162,7 +162,7 @@ fn the_count_of_commits_goes_round() {
             assert!(!store.call(&mut memory, &mut list, &call).is_refused());
         }
         assert_eq!(word(&memory, header::COMMITS_MADE), made);
-        assert_eq!(ordinal(&memory), 0);
+        assert_eq!(ordinal(&memory, transaction as usize - 1), made);
     }
 }
 

@@ -118,7 +118,7 @@ fn only_a_commit_before_the_last_is_refused() {
 /// Only scans go by ordinals: for the other readers a commit counts by its stamp, whatever its ordinal
 /// is and however many commits were made.
 #[test]
-fn an_ordinal_is_nothing_to_the_other_readers() {
+fn other_readers_go_by_stamps_alone() {
     let latest = Call::Latest { row: 0, column: 0 };
     let read_at = Call::ReadAt { stamp: 20, row: 0, column: 0 };
     let own_read = Call::OwnRead { transaction: 3, row: 0, column: 0 };

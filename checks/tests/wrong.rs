@@ -55,7 +55,7 @@ wrong_stores! {
     earlier_commit_accepted: EARLIER_COMMIT_ACCEPTED,
     commit_must_be_later: COMMIT_MUST_BE_LATER,
     commit_at_0_refused: COMMIT_AT_0_REFUSED,
-    scan_notes_no_commits: SCAN_NOTES_NO_COMMITS,
+    scan_has_no_commits: SCAN_HAS_NO_COMMITS,
     scan_misses_last_commit: SCAN_MISSES_LAST_COMMIT,
     scan_forgets_stamp: SCAN_FORGETS_STAMP,
     scan_on_current_page: SCAN_ON_CURRENT_PAGE,

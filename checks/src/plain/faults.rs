@@ -52,7 +52,7 @@ pub const COMMIT_MUST_BE_LATER: u8 = 31;
 /// A commit at 0 is refused; any other stamp may come again.
 pub const COMMIT_AT_0_REFUSED: u8 = 32;
 /// An opened scan has 0 as the count of commits made before it.
-pub const SCAN_NOTES_NO_COMMITS: u8 = 33;
+pub const SCAN_HAS_NO_COMMITS: u8 = 33;
 /// A scan misses the last of the commits made before it.
 pub const SCAN_MISSES_LAST_COMMIT: u8 = 34;
 /// A scan sees every commit made before it, also those later than its stamp.

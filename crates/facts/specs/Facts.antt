@@ -1,4 +1,4 @@
--- The stored facts: section 9 of docs/SPECIFICATION.md, one definition for each of its rules, in its order, over
+-- The stored facts: section 9 of docs/SPECIFICATION.md, one definition for each of its rules, for 9.6 two, in its order, over
 -- the view of a memory and the list of open scans. A call answers 2 where one of them fails, and besides only for the lengths and measures of 8.8 (Usable): they speak of given rows, used tail
 -- records, current and waiting pages and open numbers alone, and what stands elsewhere may be anything.
 -- What a word counts as that no fact governs: the chunk of a waiting page is taken modulo columns × ranges (rule 8.4).

@@ -201,7 +201,7 @@ module _ {S : Shape} {v : View} {ps : List ScanEntry} {h : History} (o : Represe
       → readIn S v (reader (scanAt h i .snapshot) 0) (scanPage S v (scanAt h i .merges) (rangeOf r) c) r c ≡ read (seenAt h (scanAt h i .snapshot)) h r c
   scan-read i r c t b d =
       let x = o .scanPages i t (rangeOf r) c (in-range k r b) d in
-      read-is o k (reader (scanAt h i .snapshot) 0) _ (sees-at h (scanAt h i .snapshot)) r b c d _ _ (x .holds) (x .among) (seen-row (scanAt h i .snapshot) r)
+      read-is o k (reader (scanAt h i .snapshot) 0) _ (sees-at h (scanAt h i .snapshot)) r b c d _ _ (x .holds) (x .taken-before) (seen-row (scanAt h i .snapshot) r)
 
   tally-is : (i c : ℕ) → T (scanAt h i .running) → c < S .columns → (n : ℕ) → n ≤ length (h .rows)
       → tally S v (scanAs i (scanAt h i)) c n ≡ tallied h (seenAt h (scanAt h i .snapshot)) c n
@@ -235,7 +235,7 @@ module _ {S : Shape} {v : View} {ps : List ScanEntry} {h : History} (o : Represe
       same : T (visible f h n) → toZ w32 word ≡ value n
       same z =
           let x = o .scanPages i t (rangeOf n) c (in-range k n b) d in
-          word-is o k (reader (scanAt h i .snapshot) 0) f (sees-at h (scanAt h i .snapshot)) n b c d _ _ (x .holds) (x .among) (seen-row (scanAt h i .snapshot) n z)
+          word-is o k (reader (scanAt h i .snapshot) 0) f (sees-at h (scanAt h i .snapshot)) n b c d _ _ (x .holds) (x .taken-before) (seen-row (scanAt h i .snapshot) n z)
 
   sum-same : (i c : ℕ) → T (scanAt h i .running) → c < S .columns → sumIn S v (scanEntry ps i) c ≡ H.sumOf (seenAt h (scanAt h i .snapshot)) h c
   unfolding sumIn H.sumOf H.rowsSeen

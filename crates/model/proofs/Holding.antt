@@ -25,7 +25,7 @@ use Rattle.history.proofs.Order.{order-step}
 use Rattle.history.specs.Invariants.{UpTo, InOrder, Through}
 use Rattle.history.proofs.Pages.{through-step, Settled, settled-step, cell-stays}
 use Rattle.model.specs.Stored.{PageWords, within}
-use Rattle.model.specs.Represents.{Holds, NotAfter, everyRow, Among}
+use Rattle.model.specs.Represents.{Holds, NotAfter, everyRow, TakenBefore}
 
 -- ---- a row that was not given has no records, and 0 in every cell
 pub last-other : (sees : ℕ → Bool) (r c : ℕ) (v : Version) {l : List Record} → All (λ (x : Record). x .row ≢ r) l → lastSetting sees r c v l ≡ v
@@ -71,9 +71,9 @@ grown (newMerges (merged _)) = search (le-refl, up-refl, one-longer)
 grown (newMerges released) = search (le-refl, up-refl, length-released)
 
 -- the commits that a page has taken in are among the first n for ever: their transactions are closed
-pub among-step : {S : Shape} {y : Call} {h h′ : History} → InOrder h → Step S h y h′ → (g n : ℕ) {k : ℕ} → Through h g k → All (Among (stateOf h) n) (take k (recordsOf h g))
-    → All (Among (stateOf h′) n) (take k (recordsOf h′ g))
-among-step i step g n t a =
+pub taken-step : {S : Shape} {y : Call} {h h′ : History} → InOrder h → Step S h y h′ → (g n : ℕ) {k : ℕ} → Through h g k → All (TakenBefore (stateOf h) n) (take k (recordsOf h g))
+    → All (TakenBefore (stateOf h′) n) (take k (recordsOf h′ g))
+taken-step i step g n t a =
     let q = settled-step i t step in
     rw (q .records) (all-map₂ (λ y e f s u. f s (sym e ∙ u)) (q .states) a)
 

@@ -21,7 +21,7 @@ use Rattle.layout.specs.View.{View}
 use Rattle.terms.specs.declared.ScanEntry.{ScanEntry}
 use Rattle.model.specs.Stored.{PageWords, within}
 use Rattle.model.specs.Represents.{Holds, everyRow, CurrentIs, CurrentsAre, WaitingIs, WaitingAre, ScanPageIs, ScanPageOf, ScanPagesAre, Represents, WellFormed}
-use Rattle.model.proofs.Holding.{grown, among-step, holds-step, holds-cells, same-rows}
+use Rattle.model.proofs.Holding.{grown, taken-step, holds-step, holds-cells, same-rows}
 
 -- ---- the pages
 pub current-step : {S : Shape} {y : Call} {h h′ : History} {g c p : ℕ} {x : PageWords} {cell : ℕ → ℕ} → InOrder h → Step S h y h′ → length (h .rows) ≡ length (h′ .rows)
@@ -49,7 +49,7 @@ current-cells f o = record { inside = o .inside; state = o .state; chunk = o .ch
 
 pub scan-cells : {S : Shape} {h : History} {s : Scan} {g c p : ℕ} {x : PageWords} {cell cell′ : ℕ → ℕ}
     → ((r : ℕ) → rangeOf r ≡ g → T (seenAt h (s .snapshot) ((rowAt h r) .inserter)) → cell′ (within r) ≡ cell (within r)) → ScanPageIs S h s g c p x cell → ScanPageIs S h s g c p x cell′
-scan-cells f o = record { inside = o .inside; early = o .early; chunk = o .chunk; made = o .made; among = o .among; holds = holds-cells f (o .holds) }
+scan-cells f o = record { inside = o .inside; early = o .early; chunk = o .chunk; made = o .made; taken-before = o .taken-before; holds = holds-cells f (o .holds) }
 
 -- ---- a row that a snapshot of commits made sees was seen before, and was given
 pub seen-given : (h : History) (s : Snapshot) (r : ℕ) → T (seenAt h s ((rowAt h r) .inserter)) → r < length (h .rows)
@@ -71,7 +71,7 @@ pub scan-page-step : {S : Shape} {y : Call} {h h′ : History} {s : Scan} {g c p
     → ScanPageIs S h s g c p x cell → ScanPageIs S h′ s g c p x cell
 scan-page-step {h′ = h′} {s = s} {g = g} {c = c} {x = x} {cell = cell} i step b o =
     let holds : Holds h′ g c (λ r. T (seenAt h′ (s .snapshot) ((rowAt h′ r) .inserter))) x cell = holds-step i step g c x (λ r e u. seen-step step (s .snapshot) r b u) (o .holds) in
-    search (holds, le-trans (o .early) (grown step .merges), among-step i step g (s .snapshot .commits) (o .holds .through) (o .among))
+    search (holds, le-trans (o .early) (grown step .merges), taken-step i step g (s .snapshot .commits) (o .holds .through) (o .taken-before))
 
 -- a scan that runs after another was closed is as it was
 pub still-running : (l : List Scan) (k i : ℕ) → T ((nth l k noScan) .running) → T ((nth (change l k (stopped (nth l k noScan))) i noScan) .running)

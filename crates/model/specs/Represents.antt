@@ -162,8 +162,8 @@ abbrev pub NotesAre : List Row → List Record → List ℕ → List ℕ → Typ
 NotesAre rows tail opens notes = (j : ℕ) → j < mostTransactions → getD opens j 0 ≢ 0 → NotedIs rows tail (getD opens j 0) (getD notes j 0)
 
 -- no commit of record y is after the first n
-abbrev pub Among : (ℕ → State) → ℕ → Record → Type 0
-Among st n y = (s : Commit) → st (y .transaction) ≡ committed s → s .ordinal ≤ n
+abbrev pub TakenBefore : (ℕ → State) → ℕ → Record → Type 0
+TakenBefore st n y = (s : Commit) → st (y .transaction) ≡ committed s → s .ordinal ≤ n
 
 -- ---- a scan's page holds the rows that the scan may see. It was made before the scan was opened, and so was every commit that it has taken in.
 pub record ScanPageIs (S : Shape) (h : History) (s : Scan) (g c p : ℕ) (x : PageWords) (cell : ℕ → ℕ) : Type 0 where
@@ -171,7 +171,7 @@ pub record ScanPageIs (S : Shape) (h : History) (s : Scan) (g c p : ℕ) (x : Pa
   pub early : s .merges ≤ length (h .merges)
   pub chunk : x .chunk ≡ chunkOf S g c
   pub made : x .made ≤ s .merges
-  pub among : All (Among (stateOf h) (s .snapshot .commits)) (take (x .lineage) (recordsOf h g))
+  pub taken-before : All (TakenBefore (stateOf h) (s .snapshot .commits)) (take (x .lineage) (recordsOf h g))
   pub holds : Holds h g c (λ r. T (seenAt h (s .snapshot) ((rowAt h r) .inserter))) x cell
 
 abbrev pub ScanPageOf : Shape → History → View → Scan → ℕ → ℕ → Type 0

@@ -33,7 +33,7 @@ use Rattle.model.specs.declared.Setter.{Setter}
 use Rattle.model.specs.Stored.{PageWords, rowIn, recordIn, valueIn, pageIn, cellIn, within, originalKind, settingKind}
 use Rattle.model.specs.Reading.{sees, answersFor, walk, foundIn, orElse, floor, downTo, wordIn, setterAt, setterIn, commitStamp, setterStamp, lookupIn, shownIn, readIn}
 use Rattle.model.proofs.Lists.{take-next}
-use Rattle.model.specs.Represents.{stateWord, ContentIs, RecordIs, TailOf, Holds, Among, Represents, WellFormed}
+use Rattle.model.specs.Represents.{stateWord, ContentIs, RecordIs, TailOf, Holds, TakenBefore, Represents, WellFormed}
 use Rattle.model.proofs.lookups.Heads.{slot-is, in-range, SeesAs, visible-is}
 
 -- ---- one record
@@ -176,7 +176,7 @@ unset-take l r c n e =
 
 module _ {S : Shape} {v : View} {ps : List ScanEntry} {h : History} (o : Represents S v ps h) (k : WellFormed S h) (who : Reader) (f : ℕ → Bool) (w : SeesAs h who f) (r : ℕ)
     (b : r < length (h .rows)) (c : ℕ) (inside : c < S .columns) (p : ℕ) (Q : ℕ → Type 0) (held : Holds h (rangeOf r) c Q (pageIn v p) (cellIn v p))
-    (taken : All (Among (stateOf h) (who .commits)) (take ((pageIn v p) .lineage) (recordsOf h (rangeOf r)))) where
+    (taken : All (TakenBefore (stateOf h) (who .commits)) (take ((pageIn v p) .lineage) (recordsOf h (rangeOf r)))) where
   abbrev g : ℕ
   g = rangeOf r
 

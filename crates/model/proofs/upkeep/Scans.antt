@@ -1,4 +1,4 @@
--- Open scan and close keep the relation: a scan takes an entry of the list with the merges made before it, so that its pages are the current ones; a closed scan
+-- Open scan and close keep the relation: a scan takes an entry of the list with the merges and the commits made before it, so that its pages are the current ones; a closed scan
 -- leaves a free entry.
 use mathlib.Core.Path.{_≡_, refl, sym, _∙_}
 use mathlib.Core.Bool.{true, false, not, and-true}
@@ -92,7 +92,7 @@ module _ {S : Shape} {v : View} {ps : List ScanEntry} {h : History} (o : Represe
         early = le-refl _;
         chunk = x .chunk;
         made = x .made;
-        among = all-map (λ y _ z e. k .invariants .order .stamps (y .transaction) z e .ordinals) (x .holds .through .closed-all);
+        taken-before = all-map (λ y _ z e. k .invariants .order .stamps (y .transaction) z e .ordinals) (x .holds .through .closed-all);
         holds = holds-step (k .invariants .order) step g c (pageIn v (currentIn S v g c)) (λ r e u. (tt, same-rows (length (h .rows)) (length (h .rows)) r refl)) (x .holds);
       }
 

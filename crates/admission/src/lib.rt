@@ -16,6 +16,7 @@ use terms::Refusal;
 use terms::Row;
 use terms::Stamp;
 use terms::Transaction;
+use words::HIGHEST_WORD;
 ghost use mathlib.Core.Path.{_≡_};
 ghost use Prim.Native.Nat.{_*_};
 ghost use Rattle.layout.specs.View.{lastStamp, viewOf, Suffices};
@@ -54,7 +55,7 @@ pub fn reader_at(stamp: Stamp, me: Transaction) -> Reader
 {
     Reader {
         stamp: stamp,
-        commits: 0xffff_ffff,
+        commits: HIGHEST_WORD,
         me: me,
     }
 }

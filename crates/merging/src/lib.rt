@@ -24,6 +24,7 @@ use terms::Tail;
 use terms::limits::MOST_SCANS;
 use terms::limits::RANGE_ROWS;
 use transactions::pending::next_word;
+use words::HIGHEST_WORD;
 ghost use mathlib.Core.Path.{_≡_};
 ghost use mathlib.Core.Bool.{cond};
 ghost use mathlib.Core.List.{List};
@@ -214,7 +215,7 @@ fn least(counts: [u32; MOST_SCANS], n: usize) -> u32
     requires { ⌜ n ≤ mostScans ⌝ }
     ensures { λ r. ⌜ r ≡ leastOf counts n ⌝ }
 {
-    let mut r = 0xffff_ffff;
+    let mut r = HIGHEST_WORD;
     let mut i = 0;
     while i < n {
         let count = counts[i];

@@ -6,6 +6,7 @@ use layout::Sizes;
 use regions::read;
 use regions::write;
 use terms::Transaction;
+use words::HIGHEST_WORD;
 ghost use mathlib.Core.Path.{_≡_};
 ghost use Prim.Native.Nat.{_<_};
 ghost use Rattle.terms.specs.Measures.{mostTransactions};
@@ -22,7 +23,7 @@ pub struct Pending {
 pub fn next_word(n: u32) -> u32
     ensures { λ r. ⌜ r ≡ nextWord n ⌝ }
 {
-    if n == 0xffff_ffff { 0 } else { n + 1 }
+    if n == HIGHEST_WORD { 0 } else { n + 1 }
 }
 
 impl Pending {

@@ -65,23 +65,31 @@ pub fn is_open(p: ScanEntry) -> bool
 }
 
 // The table of the first i entries, with entry i, an open one. What t has as its length is not looked at: free entries are passed over without it.
+// The loop finds the one index to write, n, so that each store has an index that the compiler knows: it then keeps the table in registers. A store at n itself has it copy the whole table
+// for each open scan.
 pub fn add_open(t: Scans, i: usize, p: ScanEntry) -> Scans
     requires { ⌜ (i < 4611686018427387904) × (isOpen p ≡ true) ⌝ }
     ensures { λ r. ⌜ r ≡ withEntry (ofLength i t) p ⌝ }
 {
+    let n = t.count;
     let mut u = t;
     u.length = i + 1;
     u.free = free_after(t.free, i);
-    let n = t.count;
-    if n < MOST_SCANS {
-        u.numbers[n] = p.number;
-        u.stamps[n] = p.stamp;
-        u.merges[n] = p.merges;
-        u.commits[n] = p.commits;
-        u.indices[n] = i;
-        u.count = n + 1;
-    } else {
+    if n >= MOST_SCANS {
         u.more = true;
+        return u;
+    }
+    u.count = n + 1;
+    let mut k = 0;
+    while k < MOST_SCANS {
+        if k == n {
+            u.numbers[k] = p.number;
+            u.stamps[k] = p.stamp;
+            u.merges[k] = p.merges;
+            u.commits[k] = p.commits;
+            u.indices[k] = i;
+        }
+        k += 1;
     }
     u
 }

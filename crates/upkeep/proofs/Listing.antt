@@ -82,10 +82,10 @@ pub number-in-part : (e : Admission) (s : Sizes) (n : ℕ) (m : List ℕ) (t : S
 number-in-part e s n m t d i a b x h = rw (part-seen (admitted e s n m t a b)) (number-left s m d i x h)
 
 -- a closed one leaves its entry free
-pub closed-list : (t : Scans) (ps : List ScanEntry) (v : View) (d : Tested) (k j : ℕ) → t ≡ tableOf ps → openCount ps ≤ mostScans → d ≡ Tested.Passed j
-    → Finds d (ScanAt t k) → set ps (getD (t .indices) j 0) freeEntry ≡ entriesAfter v ps (Call.close k)
+pub closed-list : (t : Scans) (ps : List ScanEntry) (v : View) (d : Tested) (k j : ℕ) (p : ScanEntry) → t ≡ tableOf ps → openCount ps ≤ mostScans → d ≡ Tested.Passed j
+    → Finds d (ScanAt t k) → p ≡ freeEntry → set ps (getD (t .indices) j 0) p ≡ entriesAfter v ps (Call.close k)
 unfolding entriesAfter
-closed-list t ps v d k j q few x f =
+closed-list t ps v d k j p q few x f e =
     let g = found d (ScanAt t k) j x f .found in
     let i : getD (t .indices) j 0 ≡ firstIndex (isScan k) ps = ap (λ (x : Scans). getD (x .indices) j 0) q ∙ sym (scan-at k ps few j (in-table t ps q k (At j) g)) in
-    rw i
+    rw (i, e)

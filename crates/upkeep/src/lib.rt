@@ -15,6 +15,7 @@ use layout::Region;
 use layout::Sizes;
 use loops::Found;
 use merging::free_page;
+use model::free_entry;
 use regions::read;
 use regions::write;
 use scans::Scans;
@@ -156,12 +157,7 @@ fn unlisted(scans: Scans, why: Refusal) -> ListChange
     ListChange {
         answer: Answer::Refused(why),
         index: scans.length,
-        entry: ScanEntry {
-            number: 0,
-            stamp: 0,
-            merges: 0,
-            commits: 0,
-        },
+        entry: free_entry(),
     }
 }
 
@@ -254,12 +250,7 @@ pub fn close_scan(mem: &[u8], scans: Scans, scan: u32) -> ListChange
             ListChange {
                 answer: Answer::Done,
                 index: indices[i],
-                entry: ScanEntry {
-                    number: 0,
-                    stamp: 0,
-                    merges: 0,
-                    commits: 0,
-                },
+                entry: free_entry(),
             }
         }
     }

@@ -38,5 +38,6 @@ close-scan-spec =
     (λ c. search needs)
     (λ c. omega (arith, inside c))
     (λ c. omega (arith, inside c))
+    (λ c κs. search needs)
     returns-2
     returns-3)

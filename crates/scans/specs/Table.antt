@@ -30,17 +30,35 @@ tableOf ps =
       more = ltb mostScans (openCount ps);
     }
 
--- a table whose list has another length
-abbrev pub ofLength : ℕ → Scans → Scans
-ofLength n t =
+-- a table with the same entries, of a list of another length, with other counts
+abbrev pub counting : (length count free : ℕ) → (more : Bool) → Scans → Scans
+counting n k f b t =
     record {
       length = n;
-      count = t .count;
+      count = k;
       numbers = t .numbers;
       stamps = t .stamps;
       merges = t .merges;
       commits = t .commits;
       indices = t .indices;
+      free = f;
+      more = b;
+    }
+
+abbrev pub ofLength : ℕ → Scans → Scans
+ofLength n t = counting n (t .count) (t .free) (t .more) t
+
+-- a table with an open scan as its entry k, which has index i in the list
+abbrev pub placed : (k i : ℕ) → ScanEntry → Scans → Scans
+placed k i p t =
+    record {
+      length = t .length;
+      count = t .count;
+      numbers = set (t .numbers) k (p .number);
+      stamps = set (t .stamps) k (p .stamp);
+      merges = set (t .merges) k (p .merges);
+      commits = set (t .commits) k (p .commits);
+      indices = set (t .indices) k i;
       free = t .free;
       more = t .more;
     }
@@ -48,33 +66,12 @@ ofLength n t =
 -- the table with the next entry of the list: a free one, an open one that has room, and one for which the table has no room
 unfoldable pub withEntry : Scans → ScanEntry → Scans
 withEntry t p =
-    let free = cond (eqb (t .free) (t .length)) (t .length + 1) (t .free) in
+    let i = t .length in
     let n = t .count in
+    let free = cond (eqb (t .free) i) (i + 1) (t .free) in
     cond (eqb (p .number) 0)
-    (ofLength (t .length + 1) t)
-    (cond (ltb n mostScans)
-    (record {
-      length = t .length + 1;
-      count = n + 1;
-      numbers = set (t .numbers) n (p .number);
-      stamps = set (t .stamps) n (p .stamp);
-      merges = set (t .merges) n (p .merges);
-      commits = set (t .commits) n (p .commits);
-      indices = set (t .indices) n (t .length);
-      free = free;
-      more = t .more;
-    })
-    (record {
-      length = t .length + 1;
-      count = n;
-      numbers = t .numbers;
-      stamps = t .stamps;
-      merges = t .merges;
-      commits = t .commits;
-      indices = t .indices;
-      free = free;
-      more = true;
-    }))
+    (ofLength (i + 1) t)
+    (cond (ltb n mostScans) (placed n i p (counting (i + 1) (n + 1) free (t .more) t)) (counting (i + 1) n free true t))
 
 -- the index of an open scan in the table. No scan has the number 0, which marks free entries of the list and unused ones of the table.
 unfoldable pub findIn : Scans → ℕ → Found

@@ -5,30 +5,14 @@ use mathlib.Core.Logic.{⊎-elim}
 use mathlib.Core.Bool.{true, false, cond}
 use native.Mathlib.Omega.{arith}
 use lib.Dec.{eqb, ltb}
-use lib.ListN.{set}
 use borrow.Author.Needs.{needs}
 use borrow.Author.Tests.{not-true, lt-ltb, le-ltb, ltb-true, ltb-false}
 use Rattle.terms.specs.Measures.{mostScans}
 use Rattle.terms.specs.declared.ScanEntry.{ScanEntry}
 use Rattle.scans.specs.declared.Scans.{Scans}
-use Rattle.scans.specs.Table.{withEntry}
+use Rattle.scans.specs.Table.{placed, withEntry}
 use Rattle.scans.proofs.add_open.Statement.{statement}
 use Rattle.scans.proofs.add_open.Tie as tie
-
--- the table with an entry at index n of it and i of the list
-abbrev placed : ℕ → ℕ → ScanEntry → Scans → Scans
-placed n i p t =
-    record {
-      length = t .length;
-      count = t .count;
-      numbers = set (t .numbers) n (p .number);
-      stamps = set (t .stamps) n (p .stamp);
-      merges = set (t .merges) n (p .merges);
-      commits = set (t .commits) n (p .commits);
-      indices = set (t .indices) n i;
-      free = t .free;
-      more = t .more;
-    }
 
 abbrev Inv-loop : tie.InvT-loop
 Inv-loop i p n u₀ k₀ u k = (k ≤ mostScans) × (u ≡ cond (ltb n k) (placed n i p u₀) u₀)

@@ -30,9 +30,9 @@ tableOf ps =
       more = ltb mostScans (openCount ps);
     }
 
--- a table with the same entries, of a list of another length, with other counts
-abbrev pub counting : (length count free : ℕ) → (more : Bool) → Scans → Scans
-counting n k f b t =
+-- a table with the same open scans and another head, which is all that it has beside them
+abbrev pub withHead : (length count free : ℕ) → (more : Bool) → Scans → Scans
+withHead n k f b t =
     record {
       length = n;
       count = k;
@@ -45,8 +45,9 @@ counting n k f b t =
       more = b;
     }
 
+-- a table whose list has another length
 abbrev pub ofLength : ℕ → Scans → Scans
-ofLength n t = counting n (t .count) (t .free) (t .more) t
+ofLength n t = withHead n (t .count) (t .free) (t .more) t
 
 -- a table with an open scan as its entry k, which has index i in the list
 abbrev pub placed : (k i : ℕ) → ScanEntry → Scans → Scans
@@ -71,7 +72,7 @@ withEntry t p =
     let free = cond (eqb (t .free) i) (i + 1) (t .free) in
     cond (eqb (p .number) 0)
     (ofLength (i + 1) t)
-    (cond (ltb n mostScans) (placed n i p (counting (i + 1) (n + 1) free (t .more) t)) (counting (i + 1) n free true t))
+    (cond (ltb n mostScans) (placed n i p (withHead (i + 1) (n + 1) free (t .more) t)) (withHead (i + 1) n free true t))
 
 -- the index of an open scan in the table. No scan has the number 0, which marks free entries of the list and unused ones of the table.
 unfoldable pub findIn : Scans → ℕ → Found

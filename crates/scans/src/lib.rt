@@ -65,8 +65,8 @@ pub fn is_open(p: ScanEntry) -> bool
 }
 
 // The table of the first i entries, with entry i, an open one. What t has as its length is not looked at: free entries are passed over without it.
-// The loop finds the one index to write, n, so that each store has an index that the compiler knows: it then keeps the table in registers. A store at n itself has it copy the whole table
-// for each open scan.
+// The loop looks for the one index to write, n, so that each store has an index that the compiler knows: the compiled code then jumps by n to the five stores of an open scan. A store at n
+// itself makes it copy the whole table for each.
 pub fn add_open(t: Scans, i: usize, p: ScanEntry) -> Scans
     requires { ⌜ (i < 4611686018427387904) × (isOpen p ≡ true) ⌝ }
     ensures { λ r. ⌜ r ≡ withEntry (ofLength i t) p ⌝ }

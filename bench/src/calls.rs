@@ -7,7 +7,7 @@ use reference::{text, Call, Shape};
 
 use crate::filled::Filled;
 use crate::report::{ns, Report};
-use crate::{named, time, Named};
+use crate::{named, time, Named, PLACES};
 
 const FILLINGS: [(&str, u32); 3] = [("empty", 0), ("half", 50), ("full", 100)];
 
@@ -55,7 +55,7 @@ pub struct Ratios {
 }
 
 pub fn measure(stores: &[Named], shape: Shape, report: &mut Report) -> Ratios {
-    report.heading(&format!("Each call at shape {}", named(&shape)), "Nanoseconds of a call, and how many times the plain store's they are. Empty is one row with one setting; full leaves room for one row and one record. With eight open the seven other transactions have set rows of their own where there is room. With scans open the one that is read by or closed is the last in the list. In one minute: a commit at the last commit's stamp; and a read of a row that such a commit has set since its scan was opened.");
+    report.heading(&format!("Each call at shape {}", named(&shape)), "Nanoseconds of a call, and how many times the plain store's they are. Empty is one row with one setting; full leaves room for one row and one record. With eight open the seven other transactions have set rows of their own where there is room. With scans open the one that is read by or closed is the last in the list. In one minute: a commit at the last commit's stamp; and a read of a row that such a commit has set since its scan was opened. Crossings are those of the row that latest reads, in all minutes, by the greatest of its values.");
     let mut heads = vec!["call".to_string()];
     for (filling, _) in FILLINGS {
         heads.push(format!("{filling}: {}", stores[0].0));
@@ -130,7 +130,9 @@ fn prepared(shape: Shape, percent: u32, timed: &Timed) -> (Filled, Call) {
             Call::Release
         }
         0x10 => Call::PageCell { column, row },
-        _ => Call::Lineage { range: 0, column },
+        0x11 => Call::Lineage { range: 0, column },
+        0x12 => filled.crossings(row, column, PLACES),
+        byte => unreachable!("no call is timed for the command {byte:02X}"),
     };
     filled.clone().call(&call);
     (filled, call)

@@ -34,8 +34,18 @@ pub struct Filled {
     pub versions: Vec<Version>,
 }
 
+/// The stamps that a call is lent.
+pub fn places(call: &Call) -> usize {
+    match call {
+        Call::Crossings { places, .. } => *places as usize,
+        _ => 0,
+    }
+}
+
 /// What the open transaction sets in row 0.
 pub const SET: i32 = 7;
+/// What takes turns in a row that has all records.
+pub const TURNS: [i32; 2] = [1200, 1250];
 /// Updates in one transaction of the filling.
 const UPDATES: usize = 16;
 /// One of so many of these transactions is aborted.
@@ -54,22 +64,8 @@ impl Filled {
     pub fn crowded(shape: Shape, percent: u32, transactions: usize, open_scans: usize) -> Filled {
         let others = transactions as u32 - 1;
         let layout = Layout::of(&shape);
-        let (memory, scans) = (vec![0; layout.need()], vec![ScanEntry::FREE; SCANS]);
         let rows = (shape.rows() * percent / 100).clamp(1, shape.rows() - 1);
-        let mut filled = Filled {
-            memory,
-            scans,
-            shape,
-            rows,
-            settled: 0,
-            open: 0,
-            scan: 0,
-            last: 0,
-            commits: 0,
-            versions: Vec::new(),
-        };
-        let made = Plain::<0>.make(&mut filled.memory, &mut filled.scans, &shape);
-        assert_eq!(made, Answer::Done);
+        let mut filled = Filled::made(shape, rows);
         filled.insert_rows();
         // Two places less: one for the open transaction, one for the call that is timed. And where
         // there is room, one for each of the others and one that the last of them looks for.
@@ -93,6 +89,56 @@ impl Filled {
         filled
     }
 
+    /// One row with so many records, all that there are. Each setting is committed in a minute of its
+    /// own; two values take turns, so that each setting is a crossing of the greater one. Nothing is
+    /// open.
+    pub fn one_row(capacity: u32) -> Filled {
+        let mut filled = Filled::made(Shape { columns: 1, ranges: 1, capacity, spares: 0 }, 1);
+        // After the insert one setting less than records: the first takes two.
+        for (value, setting) in TURNS.into_iter().cycle().zip(0..capacity) {
+            let (transaction, values) = (filled.number(&Call::Begin), vec![value]);
+            filled.number(&match setting {
+                0 => Call::Insert { transaction, values },
+                _ => Call::Update { transaction, row: 0, mask: 1, values },
+            });
+            filled.commit(transaction);
+            let (stamp, ordinal) = (filled.last, filled.commits);
+            filled.versions.push(Version { row: 0, column: 0, stamp, ordinal, value });
+        }
+        filled.settled = filled.used(0);
+        assert_eq!(filled.settled, capacity);
+        filled
+    }
+
+    /// A new store, and how many rows it is to have.
+    fn made(shape: Shape, rows: u32) -> Filled {
+        let mut filled = Filled {
+            memory: vec![0; Layout::of(&shape).need()],
+            scans: vec![ScanEntry::FREE; SCANS],
+            shape,
+            rows,
+            settled: 0,
+            open: 0,
+            scan: 0,
+            last: 0,
+            commits: 0,
+            versions: Vec::new(),
+        };
+        let made = Plain::<0>.make(&mut filled.memory, &mut filled.scans, &shape);
+        assert_eq!(made, Answer::Done);
+        filled
+    }
+
+    /// The crossings of a row and column in all minutes, by the greatest of its values: where it had
+    /// another, there is one.
+    pub fn crossings(&self, row: u32, column: u32, places: u32) -> Call {
+        let values = (self.versions.iter())
+            .filter(|version| (version.row, version.column) == (row, column))
+            .map(|version| version.value);
+        let mark = values.max().expect("an inserted value");
+        Call::Crossings { row, column, mark, from: 0, to: self.last, places }
+    }
+
     /// One open transaction more, with a row of its own in range 0: this one, or a new one where it
     /// is not given yet. It sets the row while there are three places: the first setting of a row
     /// takes two records, and one is for the call that is timed.
@@ -109,9 +155,23 @@ impl Filled {
     }
 
     pub fn call(&mut self, call: &Call) -> Answer {
-        let answer = Plain::<0>.call(&mut self.memory, &mut self.scans, call);
+        self.call_with(&mut vec![0; places(call)], call)
+    }
+
+    fn call_with(&mut self, stamps: &mut [u32], call: &Call) -> Answer {
+        let answer = Plain::<0>.call_with(&mut self.memory, &mut self.scans, stamps, call);
         assert!(!answer.is_refused(), "{call:?} is refused in the filling: {answer:?}");
         answer
+    }
+
+    /// The stamps that a call lists.
+    pub fn listed(&mut self, call: &Call) -> Vec<u32> {
+        let mut stamps = vec![0; places(call)];
+        match self.call_with(&mut stamps, call) {
+            Answer::Number(count) => stamps.truncate(count as usize),
+            answer => panic!("{call:?} answers {answer:?}"),
+        }
+        stamps
     }
 
     fn number(&mut self, call: &Call) -> u32 {

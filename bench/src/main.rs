@@ -1,11 +1,13 @@
 //! The benchmark. Each call at four shapes and three fillings, the bound tests of the stored facts
-//! beside a plain read, how the cost grows with what is used, and SQLite holding the same versions.
+//! beside a plain read, how the cost grows with what is used, crossings of a row with as many records
+//! as can be, and SQLite holding the same versions.
 //! The plain page store is the measure; with the feature `library` the compiled library stands beside
 //! it, with the ratio. Everything is measured in one run and printed; `write FOLDER` also writes the
 //! tables and a plot.
 
 mod bounds;
 mod calls;
+mod crossings;
 mod filled;
 mod growth;
 #[cfg(feature = "library")]
@@ -33,6 +35,9 @@ const SHAPES: [Shape; 4] = [
 #[cfg(feature = "sqlite")]
 const PROGRAM: Shape = SHAPES[1];
 const LARGEST: Shape = SHAPES[3];
+
+/// The stamps lent for crossings, as many as gatebook lends.
+const PLACES: u32 = 16;
 
 /// A store with its name.
 type Named = (&'static str, Box<dyn Store>);
@@ -64,6 +69,7 @@ fn main() {
     }
     bounds::measure(&stores, &mut report);
     let curves = growth::measure(&stores, &mut report);
+    crossings::measure(&stores, &mut report);
     #[cfg(feature = "library")]
     interfaces::measure(&mut report);
     #[cfg(feature = "sqlite")]

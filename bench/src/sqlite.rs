@@ -12,7 +12,7 @@ use reference::{Answer, Call};
 use crate::filled::{Filled, Version, SET};
 use crate::plot::Beside;
 use crate::report::{ns, Report};
-use crate::{named, time, Named, LARGEST, PROGRAM};
+use crate::{named, time, Named, LARGEST, PLACES, PROGRAM};
 
 extern "C" {
     fn sqlite3_libversion() -> *const c_char;
@@ -51,6 +51,19 @@ const READ_AT: &str = "SELECT value, stamp FROM versions WHERE col = ? AND row =
 const SUM: &str = "SELECT count(*), sum(value) FROM (SELECT value, max(ordinal) FROM versions
     WHERE col = ? AND stamp <= ? AND ordinal <= ? GROUP BY row)";
 
+/// The versions that crossings are found by, in their order: up to `to` (?4), from the minute of the last
+/// one before `from` (?3) on.
+const VERSIONS: &str = "SELECT stamp, value FROM versions WHERE col = ?1 AND row = ?2 AND stamp <= ?4
+    AND stamp >= ifnull((SELECT max(stamp) FROM versions WHERE col = ?1 AND row = ?2 AND stamp < ?3), 0)
+    ORDER BY stamp, ordinal";
+/// The crossings of a mark (?5) themselves. The first version has none before it, so that the comparison
+/// is null.
+const CROSSINGS: &str = "SELECT stamp FROM (SELECT stamp,
+    (value >= ?5) <> lag(value >= ?5) OVER (ORDER BY stamp, ordinal) AS crossed
+    FROM versions WHERE col = ?1 AND row = ?2 AND stamp <= ?4
+    AND stamp >= ifnull((SELECT max(stamp) FROM versions WHERE col = ?1 AND row = ?2 AND stamp < ?3), 0))
+    WHERE crossed AND stamp >= ?3 ORDER BY stamp";
+
 struct Database(*mut c_void);
 
 struct Statement(*mut c_void);
@@ -74,6 +87,21 @@ impl Database {
         assert_eq!(result, OK, "SQLite does not take {text:?}");
         Statement(statement)
     }
+
+    /// The table with these versions.
+    fn with(versions: &[Version]) -> Database {
+        let database = Database::open();
+        database.prepare(TABLE).run(&[]);
+        let insert = database.prepare(INSERT);
+        database.prepare("BEGIN").run(&[]);
+        for Version { row, column, stamp, ordinal, value } in versions {
+            let [column, row, stamp, ordinal] =
+                [column, row, stamp, ordinal].map(|n| i64::from(*n));
+            insert.run(&[column, row, stamp, ordinal, i64::from(*value)]);
+        }
+        database.prepare("COMMIT").run(&[]);
+        database
+    }
 }
 
 impl Drop for Database {
@@ -86,19 +114,43 @@ impl Drop for Database {
 impl Statement {
     /// Runs it with these values; the first row's first two columns, if there is a row.
     fn run(&self, values: &[i64]) -> Option<(i64, i64)> {
+        self.bind(values);
+        let row = self.step();
+        self.reset();
+        row
+    }
+
+    /// Runs it with these values and hands the first two columns of each row on.
+    fn each(&self, values: &[i64], mut take: impl FnMut((i64, i64))) {
+        self.bind(values);
+        while let Some(row) = self.step() {
+            take(row);
+        }
+        self.reset();
+    }
+
+    fn bind(&self, values: &[i64]) {
+        for (place, value) in (1..).zip(values) {
+            // SAFETY: the statement is prepared and its database open.
+            assert_eq!(unsafe { sqlite3_bind_int64(self.0, place, *value) }, OK);
+        }
+    }
+
+    /// The next row's first two columns, if there is a row.
+    fn step(&self) -> Option<(i64, i64)> {
         // SAFETY: the statement is prepared and its database open; a column that is not there is 0.
         unsafe {
-            for (place, value) in (1..).zip(values) {
-                assert_eq!(sqlite3_bind_int64(self.0, place, *value), OK);
-            }
-            let row = match sqlite3_step(self.0) {
+            match sqlite3_step(self.0) {
                 ROW => Some((sqlite3_column_int64(self.0, 0), sqlite3_column_int64(self.0, 1))),
                 DONE => None,
                 error => panic!("SQLite answers {error}"),
-            };
-            sqlite3_reset(self.0);
-            row
+            }
         }
+    }
+
+    fn reset(&self) {
+        // SAFETY: the statement is prepared and its database open.
+        unsafe { sqlite3_reset(self.0) };
     }
 }
 
@@ -109,10 +161,95 @@ impl Drop for Statement {
     }
 }
 
+/// Crossings: by the versions in their order, each compared with the one before it here, which is
+/// quicker, or by lag() in the statement. What is asked are the statements' numbers: column, row, from,
+/// to, mark.
+struct Crossings {
+    versions: Statement,
+    by_lag: Statement,
+}
+
+impl Crossings {
+    fn of(database: &Database) -> Crossings {
+        Crossings { versions: database.prepare(VERSIONS), by_lag: database.prepare(CROSSINGS) }
+    }
+
+    fn compared(&self, asked: &[i64; 5], stamps: &mut Vec<u32>) {
+        let [column, row, from, to, mark] = *asked;
+        stamps.clear();
+        let mut before = None;
+        self.versions.each(&[column, row, from, to], |(stamp, value)| {
+            let above = value >= mark;
+            if before.is_some_and(|before| before != above) && stamp >= from {
+                stamps.push(stamp as u32);
+            }
+            before = Some(above);
+        });
+    }
+
+    fn by_lag(&self, asked: &[i64; 5], stamps: &mut Vec<u32>) {
+        stamps.clear();
+        self.by_lag.each(asked, |(stamp, _)| stamps.push(stamp as u32));
+    }
+
+    /// Both ways list what the store does.
+    fn compare(&self, filled: &mut Filled, call: &Call) {
+        let (mut one, mut other) = (Vec::new(), Vec::new());
+        self.compared(&asked(call), &mut one);
+        self.by_lag(&asked(call), &mut other);
+        assert_eq!(one, other, "SQLite's two ways, of {call:?}");
+        assert_eq!(filled.listed(call), one);
+    }
+
+    /// The time of one of them.
+    fn time(&self, call: &Call, list: impl Fn(&Crossings, &[i64; 5], &mut Vec<u32>)) -> f64 {
+        let (asked, mut stamps) = (asked(call), Vec::new());
+        batched(|| list(self, black_box(&asked), &mut stamps))
+    }
+}
+
+fn asked(call: &Call) -> [i64; 5] {
+    match *call {
+        Call::Crossings { row, column, mark, from, to, .. } => {
+            [column.into(), row.into(), from.into(), to.into(), mark.into()]
+        }
+        _ => panic!("{call:?} asks for no crossings"),
+    }
+}
+
+/// The time of a latest read, of a read at or of crossings, of these by lag() too, in SQLite with a
+/// filling's versions.
+pub fn times(filled: &Filled, call: &Call) -> Vec<f64> {
+    let database = Database::with(&filled.versions);
+    let (statement, numbers): (_, Vec<i64>) = match *call {
+        Call::Latest { row, column } => (LATEST, vec![column.into(), row.into()]),
+        Call::ReadAt { stamp, row, column } => {
+            (READ_AT, vec![column.into(), row.into(), stamp.into()])
+        }
+        _ => {
+            let crossings = Crossings::of(&database);
+            crossings.compare(&mut filled.clone(), call);
+            return vec![
+                crossings.time(call, Crossings::compared),
+                crossings.time(call, Crossings::by_lag),
+            ];
+        }
+    };
+    let read = database.prepare(statement);
+    assert_eq!(filled.clone().call(call), version(read.run(&numbers)));
+    vec![batched(|| read.run(black_box(&numbers)))]
+}
+
+/// The answer that a version stands for.
+fn version(found: Option<(i64, i64)>) -> Answer {
+    let (value, stamp) = found.expect("a version");
+    Answer::Version { value: value as i32, stamp: stamp as u32 }
+}
+
 pub fn measure(stores: &[Named], report: &mut Report) -> Vec<Beside> {
     // SAFETY: the text that SQLite gives ends with 0 and stays.
     let version = unsafe { CStr::from_ptr(sqlite3_libversion()) }.to_string_lossy();
-    let note = format!("SQLite {version}, in memory, the same versions in one table with the key (column, row, stamp, ordinal), statements prepared: nanoseconds, and how many times the store's they are. Update and commit is begin, update, commit; SQLite's is BEGIN, INSERT, COMMIT.");
+    let note = format!("SQLite {version}, in memory, the same versions in one table with the key (column, row, stamp, ordinal), statements prepared: nanoseconds, and how many times the store's they are. Update and commit is begin, update, commit; SQLite's is BEGIN, INSERT, COMMIT. Crossings are those of one row in all minutes; SQLite gives its versions in their order, and they are compared here.");
     report.heading("Beside SQLite", &note);
     let mut heads = vec!["full".to_string(), "SQLite".to_string()];
     for (name, _) in stores {
@@ -141,19 +278,12 @@ pub fn measure(stores: &[Named], report: &mut Report) -> Vec<Beside> {
 
 /// What is compared: a name, SQLite's time, and the store's calls.
 fn kinds(filled: &Filled) -> Vec<(&'static str, f64, Vec<Call>)> {
-    let database = Database::open();
-    database.prepare(TABLE).run(&[]);
+    let database = Database::with(&filled.versions);
     let (begin, commit) = (database.prepare("BEGIN"), database.prepare("COMMIT"));
     let (insert, delete) = (database.prepare(INSERT), database.prepare(DELETE));
-    begin.run(&[]);
-    for version in &filled.versions {
-        let Version { row, column, stamp, ordinal, value } = *version;
-        let [column, row, stamp, ordinal] = [column, row, stamp, ordinal].map(i64::from);
-        insert.run(&[column, row, stamp, ordinal, value.into()]);
-    }
-    commit.run(&[]);
     let (latest, read_at) = (database.prepare(LATEST), database.prepare(READ_AT));
     let sum = database.prepare(SUM);
+    let crossings = Crossings::of(&database);
 
     let (row, column, half) = (filled.rows / 2, 0, filled.last / 2);
     let calls = [
@@ -163,10 +293,6 @@ fn kinds(filled: &Filled) -> Vec<(&'static str, f64, Vec<Call>)> {
     ];
     let answers = calls.each_ref().map(|call| filled.clone().call(call));
     let [r, s, last, commits] = [row, half, filled.last, filled.commits].map(i64::from);
-    let version = |found: Option<(i64, i64)>| {
-        let (value, stamp) = found.expect("a version");
-        Answer::Version { value: value as i32, stamp: stamp as u32 }
-    };
     assert_eq!(answers[0], version(latest.run(&[0, r])));
     assert_eq!(answers[1], version(read_at.run(&[0, r, s])));
     let summed = || {
@@ -174,15 +300,24 @@ fn kinds(filled: &Filled) -> Vec<(&'static str, f64, Vec<Call>)> {
         Answer::Sum { count: count as u32, sum }
     };
     assert_eq!(answers[2], summed());
-    // After one more commit in the last minute, which sets row 0: the latest is new, the scan's sum old.
+    // After one more commit in the last minute, which sets row 0: the latest is new, the scan's sum old,
+    // and the minute has a crossing more.
     let (mut later, row_0) = (filled.clone(), Call::Latest { row: 0, column });
     later.call(&Call::Commit { transaction: filled.open, stamp: filled.last });
     insert.run(&[0, 0, last, commits + 1, SET.into()]);
     assert_eq!(later.call(&row_0), version(latest.run(&[0, 0])));
     assert_ne!(later.call(&row_0), filled.clone().call(&row_0));
+    let (to, places) = (filled.last, PLACES);
+    let crossed = Call::Crossings { row: 0, column, mark: SET, from: to, to, places };
+    crossings.compare(&mut later, &crossed);
+    assert_ne!(later.listed(&crossed), filled.clone().listed(&crossed));
     assert_eq!(later.call(&calls[2]), summed());
     assert_eq!(answers[2], summed());
     delete.run(&[0, 0, last, commits + 1]);
+
+    let crossings_call = filled.crossings(row, column, PLACES);
+    crossings.compare(&mut filled.clone(), &crossings_call);
+    let compared = crossings.time(&crossings_call, Crossings::compared);
 
     let [latest_call, read_at_call, sum_call] = calls;
     let values = vec![1; filled.shape.columns as usize];
@@ -207,11 +342,12 @@ fn kinds(filled: &Filled) -> Vec<(&'static str, f64, Vec<Call>)> {
         ("latest", batched(|| latest.run(&[0, r])), vec![latest_call]),
         ("read at", batched(|| read_at.run(&[0, r, s])), vec![read_at_call]),
         ("sum", batched(|| sum.run(&[0, last, commits])), vec![sum_call]),
+        ("crossings", compared, vec![crossings_call]),
         ("update and commit", updated, update),
     ]
 }
 
-fn batched(run: impl Fn() -> Option<(i64, i64)>) -> f64 {
+fn batched<T>(mut run: impl FnMut() -> T) -> f64 {
     time::least(|| {
         let start = Instant::now();
         for _ in 0..time::BATCH {

@@ -9,7 +9,7 @@ use std::time::{Duration, Instant};
 use checks::Store;
 use reference::Call;
 
-use crate::filled::Filled;
+use crate::filled::{places, Filled};
 use crate::Named;
 
 /// Rounds in which the stores are timed in turn, so that a busy stretch of the machine meets all.
@@ -57,9 +57,11 @@ pub fn calls(store: &dyn Store, filled: &Filled, calls: &[&Call]) -> f64 {
     let memory = &mut placed[skipped..];
     memory.copy_from_slice(&filled.memory);
     let mut bytes = filled.clone();
-    let made = |memory: &mut [u8], bytes: &mut Filled| {
+    let mut stamps = vec![0; calls.iter().map(|call| places(call)).max().unwrap_or(0)];
+    let mut made = |memory: &mut [u8], bytes: &mut Filled| {
         for call in calls {
-            black_box(store.call(memory, &mut bytes.scans, black_box(call)));
+            let stamps = &mut stamps[..places(call)];
+            black_box(store.call_with(memory, &mut bytes.scans, stamps, black_box(call)));
         }
     };
     made(memory, &mut bytes);

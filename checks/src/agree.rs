@@ -5,9 +5,9 @@ use reference::random::Random;
 use reference::{generate, trace, Answer, Call, History, Shape};
 
 use crate::facts;
-use crate::lent::Lent;
+use crate::lent::{self, stamps_for, Lent};
 use crate::memory::{header, word, Layout, ScanEntry, SCANS};
-use crate::store::{writes, writes_list, Store};
+use crate::store::{told, writes, writes_list, Store};
 
 /// What the lists of a run came to.
 #[derive(Clone, Copy, Debug, Default, PartialEq, Eq)]
@@ -21,6 +21,11 @@ pub struct Tally {
     pub commits: u64,
     pub repeated: u64,
     pub under_scans: u64,
+    /// Lists of crossings that were not empty; those of them that filled their slice; and how many were
+    /// refused, as they outnumbered it.
+    pub crossings: u64,
+    pub filled: u64,
+    pub outnumbered: u64,
 }
 
 impl Tally {
@@ -32,6 +37,21 @@ impl Tally {
         self.commits += other.commits;
         self.repeated += other.repeated;
         self.under_scans += other.under_scans;
+        self.crossings += other.crossings;
+        self.filled += other.filled;
+        self.outnumbered += other.outnumbered;
+    }
+
+    /// Counts a call for crossings by what the plain history answers.
+    fn count_crossings(&mut self, call: &Call, answer: &Answer) {
+        match (call, answer) {
+            (Call::Crossings { places, .. }, Answer::Crossings(stamps)) if !stamps.is_empty() => {
+                self.crossings += 1;
+                self.filled += u64::from(stamps.len() == *places as usize);
+            }
+            (_, Answer::Refused(21)) => self.outnumbered += 1,
+            _ => {}
+        }
     }
 
     /// Counts an accepted call on these bytes, as they were before it.
@@ -49,16 +69,16 @@ impl Tally {
 
 pub const LARGEST: Shape = Shape { columns: 16, ranges: 16, capacity: 512, spares: 256 };
 
-/// The shape and calls of a seed. Every 512th list is a long one on the largest shape, every 64th
-/// one has 700 calls; the greater numbers of calls fill rows and tails, and a few lists are long
-/// enough to fill those of the largest shape.
+/// The shape and calls of a seed. Every 512th list is a long one on the largest shape, every 61st
+/// one, of each workload in turn, has 700 calls; the greater numbers of calls fill rows and tails, and a
+/// few lists are long enough to fill those of the largest shape.
 pub fn list(seed: u64) -> (Shape, Vec<Call>) {
     let mut random = Random::new(seed ^ 0x6167_7265_6500_0000);
     let shape = if seed % 512 == 511 { LARGEST } else { generate::shape(seed) };
     let count = match seed % 32_768 {
         32_767 => 16_000,
         place if place % 512 == 511 => 1500,
-        place if place % 64 == 0 => 700,
+        place if place % 61 == 0 => 700,
         _ => 40 + random.below(160) as usize,
     };
     let calls = if random.percent(50) {
@@ -81,31 +101,45 @@ pub fn run(store: &dyn Store, first: u64, count: u64) -> Result<Tally, String> {
     Ok(tally)
 }
 
-/// A store's lent bytes with those before the call, to see what a call changed.
+/// A store's lent bytes, and the stamps lent to the last call, with those before the call, to see what a
+/// call changed.
 pub struct Watched {
     pub memory: Lent<u8>,
     pub scans: Lent<ScanEntry>,
+    pub stamps: Lent<u32>,
     memory_before: Vec<u8>,
     scans_before: Vec<ScanEntry>,
+    stamps_before: Vec<u32>,
 }
 
 impl Watched {
     pub fn new(memory: Lent<u8>, scans: Lent<ScanEntry>) -> Watched {
         let memory_before = memory.get().to_vec();
         let scans_before = scans.get().to_vec();
-        Watched { memory, scans, memory_before, scans_before }
+        let (stamps, stamps_before) = (Lent::none(), Vec::new());
+        Watched { memory, scans, stamps, memory_before, scans_before, stamps_before }
+    }
+
+    /// Makes a call, with stamps of random content.
+    pub fn call(&mut self, store: &dyn Store, call: &Call, random: &mut Random) -> Answer {
+        self.stamps = stamps_for(call, random);
+        self.stamps_before = self.stamps.get().to_vec();
+        let (memory, scans) = (self.memory.get_mut(), self.scans.get_mut());
+        store.call_with(memory, scans, self.stamps.get_mut(), call)
     }
 
     /// The bytes before the last call, to which `restore` goes back.
     pub fn restore(&mut self) {
         self.memory.get_mut().copy_from_slice(&self.memory_before);
         self.scans.get_mut().copy_from_slice(&self.scans_before);
+        self.stamps.get_mut().copy_from_slice(&self.stamps_before);
     }
 
     /// From now on changes are looked for against these bytes.
     pub fn keep(&mut self) {
         self.memory_before.copy_from_slice(self.memory.get());
         self.scans_before.copy_from_slice(self.scans.get());
+        self.stamps_before.copy_from_slice(self.stamps.get());
     }
 
     fn memory_changed(&self) -> bool {
@@ -116,13 +150,18 @@ impl Watched {
         self.scans.get() != self.scans_before
     }
 
-    /// No byte may have changed.
+    /// No byte may have changed, and no stamp.
     pub fn unchanged(&self) -> Result<(), String> {
         self.guards()?;
         if self.memory_changed() || self.list_changed() {
             return Err("it changed a byte".to_string());
         }
-        Ok(())
+        self.listed(&[])
+    }
+
+    /// The lent stamps must begin with these, and their rest be unchanged.
+    pub fn listed(&self, list: &[u32]) -> Result<(), String> {
+        lent::listed(list, &self.stamps_before, self.stamps.get())
     }
 
     /// What an accepted making may have changed: bytes below the need, and all places, which are
@@ -142,7 +181,8 @@ impl Watched {
     }
 
     fn guards(&self) -> Result<(), String> {
-        if self.memory.guarded_well() && self.scans.guarded_well() {
+        let lists = self.scans.guarded_well() && self.stamps.guarded_well();
+        if self.memory.guarded_well() && lists {
             return Ok(());
         }
         Err("a byte beside the lent bytes changed".to_string())
@@ -189,8 +229,9 @@ pub fn compare(
         if !expected.is_refused() {
             tally.count(watched.memory.get(), watched.scans.get(), call);
         }
-        let found = store.call(watched.memory.get_mut(), watched.scans.get_mut(), call);
-        let checked = after_call(&mut watched, call, need, &expected, &found);
+        tally.count_crossings(call, &expected);
+        let found = watched.call(store, call, &mut random);
+        let checked = after_call(&mut watched, call, need, expected, &found);
         checked.map_err(|error| format!("call {place}, {}: {error}", trace::call_words(call)))?;
     }
     Ok(tally)
@@ -200,13 +241,15 @@ fn after_call(
     watched: &mut Watched,
     call: &Call,
     need: usize,
-    expected: &Answer,
+    expected: Answer,
     found: &Answer,
 ) -> Result<(), String> {
-    if found != expected {
-        let (found, expected) = (trace::answer_words(found), trace::answer_words(expected));
+    let (expected, stamps) = told(expected);
+    if *found != expected {
+        let (found, expected) = (trace::answer_words(found), trace::answer_words(&expected));
         return Err(format!("answer {found}, the history says {expected}"));
     }
+    watched.listed(&stamps)?;
     if found.is_refused() {
         return watched.unchanged();
     }

@@ -1,6 +1,6 @@
 //! What must hold of every call on bytes that no call made: 2 exactly where a stored fact fails, any
-//! other refusal exactly where the papers' words give it, no byte changed by a refused call, and an
-//! answer always.
+//! other refusal exactly where the papers' words give it, the crossings that the words give, no byte
+//! changed by a refused call, and an answer always.
 
 use reference::random::Random;
 use reference::{generate, trace, Answer, Call, Shape};
@@ -29,6 +29,8 @@ pub struct Tally {
     pub failing: u64,
     pub calls: u64,
     pub accepted: u64,
+    /// Lists of crossings that were not empty.
+    pub crossings: u64,
     pub differing: Differing,
 }
 
@@ -38,6 +40,7 @@ impl Tally {
         self.failing += other.failing;
         self.calls += other.calls;
         self.accepted += other.accepted;
+        self.crossings += other.crossings;
         self.differing.add(other.differing);
     }
 }
@@ -168,12 +171,16 @@ fn every_call(
     for byte in COMMANDS {
         let call = call_for(byte, memory, list, random);
         let due = due(&usable, &call, &mut differs);
-        calls.push((call, due));
+        let listed = usable.as_ref().map_or(Vec::new(), |stored| stated::listed(stored, &call));
+        calls.push((call, due, listed));
     }
     tally.differing.count(differs);
-    for (call, due) in calls {
-        let answer = store.call(watched.memory.get_mut(), watched.scans.get_mut(), &call);
+    for (call, due, listed) in calls {
+        let answer = watched.call(store, &call, random);
+        tally.crossings += u64::from(!listed.is_empty());
         judge(watched, &call, &answer, due, failing)
+            .and_then(|()| stated::judge_count(&call, &listed, &answer))
+            .and_then(|()| watched.listed(&listed))
             .map_err(|error| format!("{}: {error}", trace::call_words(&call)))?;
         tally.calls += 1;
         tally.accepted += u64::from(!answer.is_refused());

@@ -1,6 +1,6 @@
-//! The model's definitions of the calls (crates/model/specs: Stored, Reading, Writing, Calls), put
-//! into Rust one for one over a list of words for each region, under their own names. Slow, and
-//! only there to compare the bytes that another store leaves with what the definitions say.
+//! The model's definitions of the calls (crates/model/specs: Stored, Reading, Versions, Writing,
+//! Calls), put into Rust one for one over a list of words for each region, under their own names.
+//! Slow, and only there to compare the bytes that another store leaves with what the definitions say.
 
 use reference::{Answer, Call, Shape};
 
@@ -51,16 +51,24 @@ impl Store for Defined {
         Answer::Done
     }
 
-    fn call(&self, memory: &mut [u8], list: &mut [ScanEntry], call: &Call) -> Answer {
+    fn call_with(
+        &self,
+        memory: &mut [u8],
+        list: &mut [ScanEntry],
+        stamps: &mut [u32],
+        call: &Call,
+    ) -> Answer {
         if facts::failing(memory, list).is_some() {
             return Answer::Refused(2);
         }
         let view = View::of(memory, Layout::stored(memory).expect("the facts hold"));
         let places = list.to_vec();
-        if let Some((number, _)) = view.tests_in(&places, call).into_iter().find(|test| test.1) {
+        let tests = view.tests_in(&places, stamps, call);
+        if let Some((number, _)) = tests.into_iter().find(|test| test.1) {
             return Answer::Refused(number);
         }
         let answer = view.reply_in(&places, call);
+        stamps.copy_from_slice(&view.stamps_in(stamps, call));
         list.copy_from_slice(&view.entries_after(&places, call));
         view.act_in(&places, call).lay(memory);
         answer
@@ -467,6 +475,74 @@ impl View {
     }
 }
 
+// Versions
+
+/// A value, with the transaction that set it and the stamp of that one's commit.
+#[derive(Clone, Copy)]
+struct Dated {
+    setter: u32,
+    stamp: u32,
+    value: i32,
+}
+
+fn last_of_each(values: &[Dated]) -> Vec<Dated> {
+    let setter = |k: usize| values.get(k).map(|value| value.setter);
+    let stays = |k: &usize| setter(*k) != setter(k + 1);
+    (0..values.len()).filter(stays).map(|k| values[k]).collect()
+}
+
+fn above(mark: i32, v: &Dated) -> bool {
+    mark <= v.value
+}
+
+fn crossings_from(mark: i32, from: u32, values: &[Dated]) -> Vec<u32> {
+    let mut stamps = Vec::new();
+    for pair in values.windows(2) {
+        let (v, w) = (&pair[0], &pair[1]);
+        if above(mark, v) != above(mark, w) && from <= w.stamp {
+            stamps.push(w.stamp);
+        }
+    }
+    stamps
+}
+
+impl View {
+    fn tells(&self, who: Reader, row: usize, c: usize, x: &RecordWords) -> bool {
+        x.row as usize == row
+            && answers_for(who, c, x)
+            && (x.kind != 0 || sees_row(who, &self.row_in(row)))
+    }
+
+    fn setter_number(&self, row: usize, setter: Setter) -> u32 {
+        match setter {
+            Setter::Insert => self.row_in(row).transaction,
+            Setter::Update(slot) => self.record_in(slot).transaction,
+        }
+    }
+
+    fn dated_in(&self, row: usize, c: usize, slot: usize) -> Dated {
+        Dated {
+            setter: self.setter_number(row, self.setter_at(slot)),
+            stamp: self.setter_stamp(row, self.setter_at(slot)),
+            value: self.value_in(slot, c) as i32,
+        }
+    }
+
+    fn values_in(&self, who: Reader, row: usize, c: usize, n: usize) -> Vec<Dated> {
+        (1..=n)
+            .map(|k| self.slot(range_of(row), k))
+            .filter(|slot| self.tells(who, row, c, &self.record_in(*slot)))
+            .map(|slot| self.dated_in(row, c, slot))
+            .collect()
+    }
+
+    fn crossings_in(&self, row: usize, c: usize, mark: i32, from: u32, to: u32) -> Vec<u32> {
+        let n = self.used_in(range_of(row)) as usize;
+        let values = self.values_in(reader(all_up_to(to), 0), row, c, n);
+        crossings_from(mark, from, &last_of_each(&values))
+    }
+}
+
 // Writing
 impl View {
     fn begun(mut self) -> View {
@@ -691,6 +767,10 @@ fn value_of(values: &[i32], column: usize) -> u32 {
 }
 
 // Calls
+fn outnumber(found: &[u32], stamps: &[u32]) -> bool {
+    stamps.len() < found.len()
+}
+
 impl View {
     fn not_open_in(&self, transaction: u32) -> bool {
         !self.open_in(transaction)
@@ -749,6 +829,10 @@ impl View {
         self.last_stamp() < stamp
     }
 
+    fn no_span_in(&self, from: u32, to: u32) -> bool {
+        to < from || self.later_in(to)
+    }
+
     fn lineage_in(&self, g: usize, c: usize) -> u32 {
         self.page_in(self.current_in(g, c)).lineage
     }
@@ -759,7 +843,7 @@ impl View {
 
     /// The refusals in the stated order, each with whether it applies. A test is only looked at
     /// where those before it pass, as it may stand on them.
-    fn tests_in(&self, places: &[ScanEntry], call: &Call) -> Vec<(u8, bool)> {
+    fn tests_in(&self, places: &[ScanEntry], stamps: &[u32], call: &Call) -> Vec<(u8, bool)> {
         let no_scan = |number| !places.iter().any(|scan| bears(number, scan.number));
         let mut tests: Vec<(u8, bool)> = Vec::new();
         let mut test = |number: u8, applies: &dyn Fn() -> bool| {
@@ -843,6 +927,13 @@ impl View {
                 test(7, &|| self.no_range(range));
                 test(6, &|| self.no_column(column));
             }
+            Call::Crossings { row, column, mark, from, to, .. } => {
+                test(5, &|| self.not_given_in(row));
+                test(6, &|| self.no_column(column));
+                test(13, &|| self.no_span_in(from, to));
+                let found = || self.crossings_in(row as usize, column as usize, mark, from, to);
+                test(21, &|| outnumber(&found(), stamps));
+            }
         }
         tests
     }
@@ -891,6 +982,21 @@ impl View {
                 through: self.lineage_in(range as usize, column as usize),
                 used: self.used_in(range as usize),
             },
+            Call::Crossings { row, column, mark, from, to, .. } => {
+                let found = self.crossings_in(row as usize, column as usize, mark, from, to);
+                Answer::Number(found.len() as u32)
+            }
+        }
+    }
+
+    /// The lent stamps as an accepted call leaves them.
+    fn stamps_in(&self, stamps: &[u32], call: &Call) -> Vec<u32> {
+        match *call {
+            Call::Crossings { row, column, mark, from, to, .. } => {
+                let found = self.crossings_in(row as usize, column as usize, mark, from, to);
+                [&found, &stamps[found.len()..]].concat()
+            }
+            _ => stamps.to_vec(),
         }
     }
 
@@ -923,7 +1029,8 @@ impl View {
             | Call::Sum { .. }
             | Call::Close { .. }
             | Call::PageCell { .. }
-            | Call::Lineage { .. } => self,
+            | Call::Lineage { .. }
+            | Call::Crossings { .. } => self,
         }
     }
 

@@ -2,12 +2,13 @@
 //! must never change.
 
 use reference::random::Random;
+use reference::Call;
 
 use crate::memory::ScanEntry;
 
 const GUARD: usize = 64;
 
-/// What memory and scan list are made of.
+/// What memory, scan list and stamps are made of.
 pub trait Content: Copy + PartialEq {
     /// What stands in the guard zones.
     const MARK: Self;
@@ -51,7 +52,18 @@ impl Content for ScanEntry {
     }
 }
 
-/// Bytes to lend, at any distance from an even address, or places of a scan list.
+impl Content for u32 {
+    const MARK: u32 = 0xA5A5_A5A5;
+    const SHIFTS: u32 = 1;
+
+    fn fill(all: &mut [u32], random: &mut Random) {
+        for stamp in all {
+            *stamp = random.word() as u32;
+        }
+    }
+}
+
+/// Bytes to lend, at any distance from an even address, places of a scan list, or stamps.
 #[derive(Clone, Debug)]
 pub struct Lent<T> {
     all: Vec<T>,
@@ -59,7 +71,29 @@ pub struct Lent<T> {
     length: usize,
 }
 
+/// The stamps that a call is lent, of random content.
+pub fn stamps_for(call: &Call, random: &mut Random) -> Lent<u32> {
+    match call {
+        Call::Crossings { places, .. } => Lent::dirty(*places as usize, random),
+        _ => Lent::none(),
+    }
+}
+
+/// Lent stamps must begin with this list, and their rest be as it was before.
+pub fn listed(list: &[u32], before: &[u32], after: &[u32]) -> Result<(), String> {
+    let due = list.iter().chain(before.iter().skip(list.len()));
+    match after.iter().zip(due).position(|(stamp, due)| stamp != due) {
+        None => Ok(()),
+        Some(at) => Err(format!("stamp {at} of {after:?}, which was {before:?}: {list:?} is due")),
+    }
+}
+
 impl<T: Content> Lent<T> {
+    /// Nothing, for a call that takes none.
+    pub fn none() -> Lent<T> {
+        Lent { all: Vec::new(), first: 0, length: 0 }
+    }
+
     /// So much of random content.
     pub fn dirty(length: usize, random: &mut Random) -> Lent<T> {
         let mut lent = Lent::guarded(length, random);

@@ -43,16 +43,22 @@ impl Store for Library {
         }
     }
 
-    fn call(&self, memory: &mut [u8], scans: &mut [ScanEntry], call: &Call) -> Answer {
-        answer(call, &reply(memory, scans, call))
+    fn call_with(
+        &self,
+        memory: &mut [u8],
+        scans: &mut [ScanEntry],
+        stamps: &mut [u32],
+        call: &Call,
+    ) -> Answer {
+        answer(call, &reply(memory, scans, stamps, call))
     }
 }
 
 /// The call by its name.
-fn reply(memory: &mut [u8], scans: &mut [ScanEntry], call: &Call) -> Reply {
+fn reply(memory: &mut [u8], scans: &mut [ScanEntry], stamps: &mut [u32], call: &Call) -> Reply {
     let (mem, bytes) = (memory.as_mut_ptr(), memory.len());
     let (list, entries) = (scans.as_mut_ptr().cast(), scans.len());
-    // SAFETY: pointers and lengths are those of slices borrowed for the call, memory and list
+    // SAFETY: pointers and lengths are those of slices borrowed for the call, memory, list and stamps
     // alone; `ScanEntry` is declared as the library's.
     unsafe {
         match *call {
@@ -99,12 +105,18 @@ fn reply(memory: &mut [u8], scans: &mut [ScanEntry], call: &Call) -> Reply {
             Call::Lineage { range, column } => {
                 c::deskrook_lineage(mem, bytes, list, entries, range, column)
             }
+            Call::Crossings { row, column, mark, from, to, .. } => {
+                let (first, count) = (stamps.as_mut_ptr(), stamps.len());
+                c::deskrook_crossings(
+                    mem, bytes, list, entries, first, count, row, column, mark, from, to,
+                )
+            }
         }
     }
 }
 
 fn refusal(number: u32) -> u8 {
-    assert!((1..=18).contains(&number), "{number} is no refusal");
+    assert!(matches!(number, 1..=18 | 21), "{number} is no refusal");
     number as u8
 }
 
@@ -168,8 +180,14 @@ impl Store for Wrapper {
         }
     }
 
-    fn call(&self, memory: &mut [u8], scans: &mut [ScanEntry], call: &Call) -> Answer {
-        wrapped(&mut deskrook::Store::lent(memory, list(scans)), call)
+    fn call_with(
+        &self,
+        memory: &mut [u8],
+        scans: &mut [ScanEntry],
+        stamps: &mut [u32],
+        call: &Call,
+    ) -> Answer {
+        wrapped(&mut deskrook::Store::lent(memory, list(scans)), stamps, call)
             .unwrap_or_else(|refusal| Answer::Refused(refusal.number() as u8))
     }
 }
@@ -185,7 +203,17 @@ fn list(scans: &mut [ScanEntry]) -> &mut [deskrook::ScanEntry] {
     unsafe { std::slice::from_raw_parts_mut(scans.as_mut_ptr().cast(), scans.len()) }
 }
 
-fn wrapped(store: &mut deskrook::Store, call: &Call) -> Result<Answer, Refusal> {
+/// The stamps in the crate's type.
+fn minutes(stamps: &mut [u32]) -> &mut [Stamp] {
+    // SAFETY: `Stamp` is a 32-bit word by `repr(transparent)`, and the borrow is handed on.
+    unsafe { std::slice::from_raw_parts_mut(stamps.as_mut_ptr().cast(), stamps.len()) }
+}
+
+fn wrapped(
+    store: &mut deskrook::Store,
+    stamps: &mut [u32],
+    call: &Call,
+) -> Result<Answer, Refusal> {
     let done = |()| Answer::Done;
     let version = |found: Option<Version>| {
         found.map_or(Answer::None, |it| Answer::Version { value: it.value, stamp: it.stamp.0 })
@@ -231,5 +259,14 @@ fn wrapped(store: &mut deskrook::Store, call: &Call) -> Result<Answer, Refusal> 
         Call::Lineage { range, column } => store
             .lineage(range, column)
             .map(|lineage| Answer::Lineage { through: lineage.through.0, used: lineage.used }),
+        Call::Crossings { row, column, mark, from, to, .. } => {
+            let (first, lent) = (stamps.as_ptr(), minutes(stamps));
+            let listed = store.crossings(Row(row), column, mark, Stamp(from), Stamp(to), lent)?;
+            assert!(
+                std::ptr::eq(listed.as_ptr().cast(), first),
+                "the list is not the lent stamps'"
+            );
+            Ok(Answer::Number(listed.len() as u32))
+        }
     }
 }

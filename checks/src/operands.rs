@@ -1,13 +1,11 @@
 //! Random calls with numbers chosen by looking at a memory and list, so that they are often accepted
 //! there, whoever made the bytes.
 
+pub use reference::command::COMMANDS;
 use reference::random::Random;
 use reference::Call;
 
 use crate::memory::{header, word, words, Layout, Region, ScanEntry, OPENS, ROWS, WORD};
-
-/// The command bytes of the calls.
-pub const COMMANDS: std::ops::RangeInclusive<u8> = 0x01..=0x11;
 
 /// A call of a command byte with numbers that fit these bytes, so that it is often accepted.
 pub fn call_for(byte: u8, memory: &[u8], list: &[ScanEntry], random: &mut Random) -> Call {
@@ -57,7 +55,8 @@ impl Operands<'_> {
             0x0E => self.merge(),
             0x0F => Call::Release,
             0x10 => Call::PageCell { column: self.column(), row: self.row() },
-            _ => Call::Lineage { range: self.range(), column: self.column() },
+            0x11 => Call::Lineage { range: self.range(), column: self.column() },
+            _ => self.crossings(),
         }
     }
 
@@ -172,6 +171,62 @@ impl Operands<'_> {
             0 | 1 => last.saturating_sub(self.random.between(1, 3)),
             2..=9 => last,
             _ => last.saturating_add(self.random.between(1, 3)),
+        }
+    }
+
+    /// Crossings of a cell, by a mark at or beside a value that some record of its range has there, in
+    /// minutes that mostly are those of records.
+    fn crossings(&mut self) -> Call {
+        let (row, column) = (self.row_of_record(), self.column());
+        let one = self.record_near(row, column);
+        let mark = match self.random.below(8) {
+            0 => self.any() as i32,
+            1 => self.random.pick(&[i32::MIN, 0, i32::MAX]),
+            2 | 3 => one.0.saturating_add(1),
+            _ => one.0,
+        };
+        let (from, to) = match self.random.below(8) {
+            0..=3 => (0, self.header(header::LAST_STAMP)),
+            4 => (self.stamp(), self.stamp()),
+            5 => (one.1, self.header(header::LAST_STAMP)),
+            _ => {
+                let other = self.record_near(row, column).1;
+                (one.1.min(other), one.1.max(other))
+            }
+        };
+        // Seldom more than a few crossings: a tail of such a memory is short.
+        let places = if self.odd() { self.random.below(20) } else { self.random.below(4) };
+        Call::Crossings { row, column, mark, from, to, places }
+    }
+
+    /// The slot of a used record of a range, and the layout, if there is one.
+    fn record_of(&mut self, range: usize) -> Option<(usize, Layout)> {
+        let layout = self.layout.filter(|layout| range < layout.ranges)?;
+        let used = word(self.memory, layout.base(Region::Used) + range) as usize;
+        let used = used.min(layout.capacity) as u32;
+        (used > 0).then(|| (layout.slot(range, 1 + self.random.below(used) as usize), layout))
+    }
+
+    /// Mostly a row that a record names.
+    fn row_of_record(&mut self) -> u32 {
+        let range = self.range() as usize;
+        match self.record_of(range) {
+            Some((slot, layout)) if !self.odd() => {
+                word(self.memory, layout.base(Region::TailRow) + slot)
+            }
+            _ => self.row(),
+        }
+    }
+
+    /// The value in a column, and the stamp, of some record in a row's range; 0 where there is none.
+    fn record_near(&mut self, row: u32, column: u32) -> (i32, u32) {
+        match self.record_of(row as usize / ROWS) {
+            Some((slot, layout)) if (column as usize) < layout.columns => {
+                let value = slot * layout.columns + column as usize;
+                let at = |region, i| word(self.memory, layout.base(region) + i);
+                (at(Region::TailValues, value) as i32, at(Region::TailStamp, slot))
+            }
+            _ => (0, 0),
         }
     }
 

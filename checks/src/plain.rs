@@ -5,6 +5,7 @@
 //! The parameter switches on one of the wrong behaviours in `faults`, for the checks to find; the
 //! store itself is `Plain<NONE>`. A constant, so that the right store pays nothing for it.
 
+mod crossings;
 pub mod faults;
 mod reading;
 mod sound;
@@ -16,6 +17,7 @@ use crate::memory::{header, kind, page, put_word, state, word, words};
 use crate::memory::{Layout, Region, ScanEntry, NUMBERS, OPENS, ROWS, SCANS, WORD};
 use crate::store::Store;
 
+use crossings::Asked;
 use reading::Snapshot;
 pub use sound::sound;
 
@@ -33,11 +35,17 @@ impl<const FAULT: u8> Store for Plain<FAULT> {
         answer(make(memory, scans, shape))
     }
 
-    fn call(&self, memory: &mut [u8], scans: &mut [ScanEntry], call: &Call) -> Answer {
+    fn call_with(
+        &self,
+        memory: &mut [u8],
+        scans: &mut [ScanEntry],
+        stamps: &mut [u32],
+        call: &Call,
+    ) -> Answer {
         let Some(layout) = sound(memory, scans) else {
             return Answer::Refused(2);
         };
-        answer(Table::<FAULT> { memory, scans, layout }.call(call))
+        answer(Table::<FAULT> { memory, scans, layout }.call(call, stamps))
     }
 }
 
@@ -122,9 +130,9 @@ impl<const FAULT: u8> Table<'_, FAULT> {
     }
 }
 
-/// The calls: the tests in document 01's order, then the work.
+/// The calls: the tests in the papers' order, then the work.
 impl<const FAULT: u8> Table<'_, FAULT> {
-    fn call(&mut self, call: &Call) -> Outcome {
+    fn call(&mut self, call: &Call, stamps: &mut [u32]) -> Outcome {
         match *call {
             Call::Begin => self.begin(),
             Call::Insert { transaction, ref values } => {
@@ -225,6 +233,14 @@ impl<const FAULT: u8> Table<'_, FAULT> {
                 let through = self.lineage(range, column, at);
                 Ok(Answer::Lineage { through, used: self.used(range) })
             }
+            Call::Crossings { row, column, mark, from, to, .. } => {
+                let minutes = self.are_minutes(from, to);
+                require(minutes || FAULT != faults::MINUTES_TESTED_FIRST, 13)?;
+                let row = self.given(row)?;
+                let column = self.column(column)?;
+                require(minutes, 13)?;
+                self.list(&Asked { row, column, mark, from, to }, stamps)
+            }
         }
     }
 
@@ -304,6 +320,12 @@ impl<const FAULT: u8> Table<'_, FAULT> {
     fn column(&self, column: u32) -> Result<usize, u8> {
         require((column as usize) < self.layout.columns, 6)?;
         Ok(column as usize)
+    }
+
+    /// Whether these are minutes from one to another, up to the last commit's.
+    fn are_minutes(&self, from: u32, to: u32) -> bool {
+        (from <= to || FAULT == faults::FROM_AFTER_TO_ACCEPTED)
+            && (to <= self.header(header::LAST_STAMP) || FAULT == faults::LATER_TO_ACCEPTED)
     }
 
     fn range(&self, range: u32) -> Result<usize, u8> {

@@ -1,6 +1,6 @@
 //! Two stores on the same layout, call for call: the same answers, and the same bytes of memory
-//! and list after each call. On memories that no call made the refusals are also those of document
-//! 01's words.
+//! and list and the same lent stamps after each call. On memories that no call made the refusals, and
+//! the crossings listed, are also those of the papers' words.
 
 use reference::random::Random;
 use reference::{trace, Answer, Call, Shape};
@@ -8,7 +8,7 @@ use reference::{trace, Answer, Call, Shape};
 use crate::agree;
 use crate::damage::{due, good};
 use crate::facts;
-use crate::lent::Lent;
+use crate::lent::{self, stamps_for, Lent};
 use crate::memory::{Layout, ScanEntry, REGIONS, SCANS, WORD};
 use crate::operands::{call_for, COMMANDS};
 use crate::shortcuts::{Differing, Differs};
@@ -39,7 +39,7 @@ pub fn run(one: &dyn Store, other: &dyn Store, first: u64, count: u64) -> Result
         let (shape, calls) = agree::list(seed);
         let mut pair = Pair::made(one, other, &shape, &mut random).map_err(named)?;
         for call in &calls {
-            pair.call(call, &mut tally).map_err(named)?;
+            pair.call(call, &mut random, &mut tally).map_err(named)?;
         }
         tally.lists += 1;
         for _ in 0..MEMORIES {
@@ -69,6 +69,9 @@ struct Pair<'s> {
     other: &'s dyn Store,
     memory: [Lent<u8>; 2],
     scans: [Lent<ScanEntry>; 2],
+    /// The stamps lent to the last call, and as they were before it.
+    stamps: [Lent<u32>; 2],
+    stamps_before: Vec<u32>,
 }
 
 impl<'s> Pair<'s> {
@@ -79,7 +82,8 @@ impl<'s> Pair<'s> {
         scans: Lent<ScanEntry>,
     ) -> Pair<'s> {
         let (memory, scans) = ([memory.clone(), memory], [scans.clone(), scans]);
-        Pair { one, other, memory, scans }
+        let (stamps, stamps_before) = ([Lent::none(), Lent::none()], Vec::new());
+        Pair { one, other, memory, scans, stamps, stamps_before }
     }
 
     /// Both made in the same dirty memory.
@@ -113,9 +117,13 @@ impl<'s> Pair<'s> {
             let byte = random.between(u32::from(*COMMANDS.start()), u32::from(*COMMANDS.end()));
             let (memory, list) = (self.memory[0].get(), self.scans[0].get());
             let call = call_for(byte as u8, memory, list, random);
-            let due = due(&facts::usable(memory, list), &call, &mut differs);
-            let answer = self.call(&call, tally)?;
+            let usable = facts::usable(memory, list);
+            let due = due(&usable, &call, &mut differs);
+            let listed = usable.map_or(Vec::new(), |stored| stated::listed(&stored, &call));
+            let answer = self.call(&call, random, tally)?;
             stated::judge(due, &answer)
+                .and_then(|()| stated::judge_count(&call, &listed, &answer))
+                .and_then(|()| lent::listed(&listed, &self.stamps_before, self.stamps[0].get()))
                 .map_err(|error| format!("{}: {error}", trace::call_words(&call)))?;
             // A memory counts once, and an accepted call that writes makes another one.
             if !answer.is_refused() && writes(&call) {
@@ -127,11 +135,22 @@ impl<'s> Pair<'s> {
         Ok(())
     }
 
-    fn call(&mut self, call: &Call, tally: &mut Tally) -> Result<Answer, String> {
+    fn call(
+        &mut self,
+        call: &Call,
+        random: &mut Random,
+        tally: &mut Tally,
+    ) -> Result<Answer, String> {
+        let stamps = stamps_for(call, random);
+        self.stamps_before = stamps.get().to_vec();
+        self.stamps = [stamps.clone(), stamps];
         let [first, second] = &mut self.memory;
         let [list, other_list] = &mut self.scans;
-        let first = self.one.call(first.get_mut(), list.get_mut(), call);
-        let second = self.other.call(second.get_mut(), other_list.get_mut(), call);
+        let [stamps, other_stamps] = &mut self.stamps;
+        let (memory, lists) = (first.get_mut(), list.get_mut());
+        let first = self.one.call_with(memory, lists, stamps.get_mut(), call);
+        let (memory, lists) = (second.get_mut(), other_list.get_mut());
+        let second = self.other.call_with(memory, lists, other_stamps.get_mut(), call);
         tally.calls += 1;
         tally.accepted += u64::from(!first.is_refused());
         self.alike(&first, &second)
@@ -152,8 +171,13 @@ impl<'s> Pair<'s> {
         if list.get() != other_list.get() {
             return Err("the scan lists differ".to_string());
         }
+        let [stamps, other_stamps] = &self.stamps;
+        if stamps.get() != other_stamps.get() {
+            return Err(format!("the stamps are {:?} and {:?}", stamps.get(), other_stamps.get()));
+        }
         let guarded = one.guarded_well() && other.guarded_well();
-        if guarded && list.guarded_well() && other_list.guarded_well() {
+        let listed = stamps.guarded_well() && other_stamps.guarded_well();
+        if guarded && listed && list.guarded_well() && other_list.guarded_well() {
             return Ok(());
         }
         Err("a byte beside the lent bytes changed".to_string())

@@ -1,10 +1,12 @@
 //! The refusals by the papers' words: document 01's table "What a refused call returns" and its
-//! paragraph "Tests run in this order", with Item 2 of document 02 for 14 and Item 3 for 13, read of
-//! the words of a usable memory, whoever wrote them. Written from these alone, to judge a store's
-//! refusals, so it is plain rather than quick.
+//! paragraph "Tests run in this order", with Item 2 of document 02 for 14, Item 3 for 13 and Item 4 for
+//! its call, read of the words of a usable memory, whoever wrote them; and the crossings that this call
+//! lists. Written from these alone, to judge a store's refusals and lists, so it is plain rather than
+//! quick.
 //!
 //! Two words are settled: open is a number in the list of open numbers, whatever state words say; and
-//! what is not open is committed where its state word says so, and aborted otherwise.
+//! what is not open is committed where its state word says so, and aborted otherwise. A value is
+//! committed where its state word says so, as reads have it.
 
 use reference::{trace, Answer, Call};
 
@@ -22,6 +24,10 @@ pub struct Numbers {
     pub mask: u16,
     pub stamp: u32,
     pub through: u32,
+    pub mark: i32,
+    pub from: u32,
+    pub to: u32,
+    pub places: u32,
 }
 
 /// A call's tests after 2, in their order, and its numbers.
@@ -55,6 +61,9 @@ pub fn tests(call: &Call) -> (&'static [u8], Numbers) {
         Call::Release => (&[], none),
         Call::PageCell { column, row } => (&[6, 5], Numbers { column, row, ..none }),
         Call::Lineage { range, column } => (&[7, 6], Numbers { range, column, ..none }),
+        Call::Crossings { row, column, mark, from, to, places } => {
+            (&[5, 6, 13, 21], Numbers { row, column, mark, from, to, places, ..none })
+        }
     }
 }
 
@@ -62,6 +71,16 @@ pub fn tests(call: &Call) -> (&'static [u8], Numbers) {
 pub fn refusal(stored: &Stored, call: &Call) -> Option<u8> {
     let (tests, numbers) = tests(call);
     tests.iter().copied().find(|number| applies(stored, *number, call, &numbers))
+}
+
+/// What an accepted call lists, which is what it writes to the lent stamps; nothing for any other call.
+pub fn listed(stored: &Stored, call: &Call) -> Vec<u32> {
+    match call {
+        Call::Crossings { .. } if refusal(stored, call).is_none() => {
+            crossings(stored, &tests(call).1)
+        }
+        _ => Vec::new(),
+    }
 }
 
 /// Whether an answer is refused with the number that is due, or accepted where none is.
@@ -76,6 +95,15 @@ pub fn judge(due: Option<u8>, answer: &Answer) -> Result<(), String> {
     let (answer, due) = (trace::answer_words(answer), due.map(Answer::Refused));
     let due = due.map_or("an accepted call".to_string(), |due| trace::answer_words(&due));
     Err(format!("answer {answer}, by the papers' words {due} is due"))
+}
+
+/// Whether an accepted call for crossings answers how many it lists.
+pub fn judge_count(call: &Call, listed: &[u32], answer: &Answer) -> Result<(), String> {
+    let counts = matches!(call, Call::Crossings { .. }) && !answer.is_refused();
+    if !counts || *answer == Answer::Number(listed.len() as u32) {
+        return Ok(());
+    }
+    Err(format!("answer {}, by the papers' words {listed:?} are due", trace::answer_words(answer)))
 }
 
 /// Whether a number's condition applies to a call of which the tests before it have passed.
@@ -102,9 +130,11 @@ pub fn applies(s: &Stored, number: u8, call: &Call, n: &Numbers) -> bool {
         12 => s.used(range_of(n)) + wanted(s, call, n) > s.header(header::CAPACITY),
         // "a commit not later than the last (0 in a new store), or a read or scan later than the
         // last"; Item 3: "A commit may now carry the last commit's stamp again, 0 in a new store; only
-        // an earlier one is answered 13"
+        // an earlier one is answered 13"; Item 4: "13 if from exceeds to or to is later than the last
+        // commit"
         13 => match call {
             Call::Commit { .. } => n.stamp < s.header(header::LAST_STAMP),
+            Call::Crossings { .. } => n.from > n.to || n.to > s.header(header::LAST_STAMP),
             _ => n.stamp > s.header(header::LAST_STAMP),
         },
         // "8 transactions, or 16 scans, open"; Item 2: "Make five the limit in place of sixteen"
@@ -125,6 +155,8 @@ pub fn applies(s: &Stored, number: u8, call: &Call, n: &Numbers) -> bool {
         }),
         // "no free page"; "Free pages are the spares less those waiting"
         18 => s.header(header::SPARES) as usize <= waiting(s),
+        // "exactly if the crossings outnumber the slice"
+        21 => crossings(s, n).len() > n.places as usize,
         _ => unreachable!("{number} is no number of a call on a store"),
     }
 }
@@ -188,4 +220,56 @@ pub fn lineage(s: &Stored, n: &Numbers) -> u32 {
 
 fn waiting(s: &Stored) -> usize {
     (0..s.layout.pages).filter(|at| s.get(Region::PageState, *at) >= page::WAITING).count()
+}
+
+/// A committed value of the row and column.
+#[derive(Clone, Copy)]
+struct Value {
+    by: u32,
+    value: i32,
+    stamp: u32,
+}
+
+/// "the stamps between from and to, both counted, at which a committed value lies on the other side of the
+/// mark from the one before it in that row and column"; "At or above is one side, below the other."
+fn crossings(s: &Stored, n: &Numbers) -> Vec<u32> {
+    let above = |value: &Value| value.value >= n.mark;
+    let values = values(s, n);
+    let pairs = values.windows(2).filter(|pair| above(&pair[0]) != above(&pair[1]));
+    pairs.map(|pair| pair[1].stamp).filter(|stamp| n.from <= *stamp).collect()
+}
+
+/// The values of the row and column that are committed at `to` or before, in the order of the records.
+/// The inserted one stands in the record of original values; "each column it set gets its last value", so
+/// that of neighbours by one transaction the last counts.
+///
+/// In a store that calls have written there is one original at most, before all settings, and the stamps
+/// rise along a row's records. In any other memory an original is a value wherever it stands, of the row's
+/// inserter and with the insert's stamp, and what is later than `to` stands between no two values.
+fn values(s: &Stored, n: &Numbers) -> Vec<Value> {
+    let mut values: Vec<Value> = Vec::new();
+    for record in records(s, n) {
+        let of = |region| s.of_record(region, range_of(n), record);
+        if of(Region::TailMask) >> n.column & 1 == 0 {
+            continue;
+        }
+        let [by, state, stamp] = match of(Region::TailKind) {
+            kind::ORIGINAL => [Region::RowTransaction, Region::RowState, Region::RowStamp]
+                .map(|region| row(s, region, n)),
+            kind::SETTING => {
+                [Region::TailTransaction, Region::TailState, Region::TailStamp].map(of)
+            }
+            _ => continue,
+        };
+        if state != state::COMMITTED || stamp > n.to {
+            continue;
+        }
+        if values.last().is_some_and(|last| last.by == by) {
+            values.pop();
+        }
+        let slot = s.layout.slot(range_of(n), record as usize);
+        let at = slot * s.layout.columns + n.column as usize;
+        values.push(Value { by, value: s.get(Region::TailValues, at) as i32, stamp });
+    }
+    values
 }

@@ -1,4 +1,5 @@
-//! A store as the checks use it: numbers, lent memory and a lent scan list in, an answer out.
+//! A store as the checks use it: numbers, lent memory, a lent scan list and a lent slice of stamps in, an
+//! answer out.
 
 use reference::{Answer, Call, Shape};
 
@@ -12,8 +13,28 @@ pub trait Store {
     /// Makes a store; `Done` or a refusal.
     fn make(&self, memory: &mut [u8], scans: &mut [ScanEntry], shape: &Shape) -> Answer;
 
-    /// One of the calls 01 to 11 (hexadecimal).
-    fn call(&self, memory: &mut [u8], scans: &mut [ScanEntry], call: &Call) -> Answer;
+    /// One of the calls 01 to 12 (hexadecimal). 12 is lent the stamps, and answers `Number`: how many of
+    /// them it wrote, from the first on. No other call is lent them.
+    fn call_with(
+        &self,
+        memory: &mut [u8],
+        scans: &mut [ScanEntry],
+        stamps: &mut [u32],
+        call: &Call,
+    ) -> Answer;
+
+    /// The same with no place for a stamp.
+    fn call(&self, memory: &mut [u8], scans: &mut [ScanEntry], call: &Call) -> Answer {
+        self.call_with(memory, scans, &mut [], call)
+    }
+}
+
+/// What a store answers where the plain history gives this answer, and what it writes to the lent stamps.
+pub fn told(answer: Answer) -> (Answer, Vec<u32>) {
+    match answer {
+        Answer::Crossings(stamps) => (Answer::Number(stamps.len() as u32), stamps),
+        answer => (answer, Vec::new()),
+    }
 }
 
 /// Whether an accepted call may change the lent memory.
@@ -26,7 +47,8 @@ pub fn writes(call: &Call) -> bool {
         | Call::Sum { .. }
         | Call::Close { .. }
         | Call::PageCell { .. }
-        | Call::Lineage { .. } => false,
+        | Call::Lineage { .. }
+        | Call::Crossings { .. } => false,
         Call::Begin
         | Call::Insert { .. }
         | Call::Update { .. }

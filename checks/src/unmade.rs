@@ -6,7 +6,8 @@ use reference::random::Random;
 use reference::Shape;
 
 use crate::lent::{Content, Lent};
-use crate::memory::{header, list_word, page, put_word, word, Layout, Region, ScanEntry};
+use crate::memory::{header, kind, list_word, page, put_word, state, word};
+use crate::memory::{Layout, Region, ScanEntry};
 use crate::memory::{NUMBERS, OPENS, ROWS, SCANS, SCAN_WORDS, WORD};
 
 /// Random memory and list: good ones, nearly good ones, and anything.
@@ -172,10 +173,15 @@ struct Builder<'r> {
     open: Vec<u32>,
     /// How many of a hundred rows and records bear an open transaction, at least.
     share: u32,
+    /// How many of a hundred records are committed settings of every column of one row, or of a
+    /// hundred rows committed, at least.
+    settings: u32,
 }
 
 /// Shares of which each memory has one: a merge wants records that no open transaction made.
 const SHARES: [u32; 3] = [0, 10, 50];
+/// The same of `settings`: for a crossing there must be several of one row.
+const SETTINGS: [u32; 2] = [0, 70];
 
 impl Builder<'_> {
     fn new<'r>(shape: &Shape, random: &'r mut Random) -> Builder<'r> {
@@ -204,6 +210,7 @@ impl Builder<'_> {
             bytes,
             layout,
             share: random.pick(&SHARES),
+            settings: random.pick(&SETTINGS),
             random,
             rows,
             transactions,
@@ -226,6 +233,7 @@ impl Builder<'_> {
             bytes: memory.to_vec(),
             layout,
             share: random.pick(&SHARES),
+            settings: 0,
             random,
             rows: header(header::ROWS_GIVEN),
             transactions: header(header::TRANSACTIONS_GIVEN),
@@ -297,7 +305,7 @@ impl Builder<'_> {
         let number = 1 + self.random.below(used);
         let slot = self.layout.slot(range, number as usize);
         let row = self.get(Region::TailRow, slot);
-        let (region, at, word) = match self.random.below(9) {
+        let (region, at, word) = match self.random.below(12) {
             0 => (Region::RowLink, row as usize, self.linked(range, row, used)),
             1 => (Region::RowTransaction, row as usize, self.transaction()),
             2 => (Region::RowState, row as usize, self.code()),
@@ -306,6 +314,9 @@ impl Builder<'_> {
             5 => (Region::TailState, slot, self.code()),
             6 => (Region::RowOrdinal, row as usize, self.ordinal()),
             7 => (Region::TailOrdinal, slot, self.ordinal()),
+            8 => (Region::TailMask, slot, self.mask()),
+            9 => (Region::TailStamp, slot, self.up_to(self.last)),
+            10 => (Region::RowStamp, row as usize, self.up_to(self.last)),
             _ => (Region::TailKind, slot, self.code()),
         };
         self.put(region, at, word);
@@ -386,15 +397,22 @@ impl Builder<'_> {
         let first = (range * ROWS) as u32;
         let given = self.rows.saturating_sub(first).min(ROWS as u32);
         let capacity = self.layout.capacity as u32;
-        let used = if given == 0 { 0 } else { self.random.below(capacity + 1) };
+        let used = match given {
+            0 => 0,
+            _ if self.random.percent(self.settings) => capacity,
+            _ => self.random.below(capacity + 1),
+        };
         self.put(Region::Used, range, used);
         for number in 1..=used {
             let slot = self.layout.slot(range, number as usize);
             // Few rows, so that links find records.
-            let row = first + self.random.below(given.min(3));
+            let mut row = first + self.random.below(given.min(3));
+            let (mut kind, mut mask, mut state) = (self.code(), self.mask(), self.code());
+            if self.random.percent(self.settings) {
+                (row, kind, mask, state) = (first, kind::SETTING, u32::MAX, state::COMMITTED);
+            }
             let link = self.linked(range, row, number - 1);
-            let (transaction, state) = (self.transaction(), self.code());
-            let (kind, mask) = (self.code(), self.mask());
+            let transaction = self.transaction();
             let (stamp, ordinal) = (self.up_to(self.last), self.ordinal());
             self.put(Region::TailTransaction, slot, transaction);
             self.put(Region::TailRow, slot, row);
@@ -425,7 +443,10 @@ impl Builder<'_> {
             let at = row as usize;
             let used = self.get(Region::Used, at / ROWS);
             let link = self.linked(at / ROWS, row, used);
-            let (transaction, state) = (self.transaction(), self.code());
+            let (transaction, mut state) = (self.transaction(), self.code());
+            if self.random.percent(self.settings) {
+                state = state::COMMITTED;
+            }
             let (stamp, mask) = (self.up_to(self.last), self.mask());
             // Mostly seen by most scans, so that these have records to see or not.
             let seen = self.random.percent(60);

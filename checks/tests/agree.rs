@@ -22,6 +22,15 @@ fn lists_have_several_commits_in_one_minute() {
     assert!(tally.under_scans > 2000, "{tally:?}");
 }
 
+/// There are lists of crossings, of which a third and more fill the slice, and some that outnumber it.
+#[test]
+fn lists_have_crossings_as_many_as_places_and_more() {
+    let tally = agree::run(&Plain::<0>, 0, 1100).expect("no difference");
+    assert!(tally.crossings > 900, "{tally:?}");
+    assert!(tally.filled * 3 > tally.crossings, "{tally:?}");
+    assert!(tally.outnumbered > 100, "{tally:?}");
+}
+
 #[test]
 fn bytes_are_those_of_the_definitions() {
     let tally = same::run(&Plain::<0>, &Defined, 0, 200).expect("no difference");

@@ -14,6 +14,7 @@ use reference::{Answer, Call};
 fn refusals_are_those_of_the_facts_and_of_the_words() {
     let tally = damage::run(&Plain::<0>, 0, 2).expect("no difference");
     assert!(tally.failing > 1100 && tally.accepted > 110_000, "{tally:?}");
+    assert!(tally.crossings > 2200, "{tally:?}");
     let differing = &tally.differing;
     let each = [differing.by_9, differing.by_10, differing.by_17, differing.by_18];
     assert!(each.iter().all(|count| *count > 220), "{tally:?}");

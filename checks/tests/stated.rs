@@ -1,6 +1,7 @@
 //! Refusals on memories that no call made: each follows the papers' words, whatever links, lineages
 //! and state words say. Known memories for 9, 10, 13, 17 and 18, and stores that take a shortcut to one
-//! of 9, 10, 17 and 18, which are told apart; and what reads give where ordinals were changed.
+//! of 9, 10, 17 and 18, which are told apart; what reads give where ordinals were changed; and what is
+//! listed as crossings where records were.
 
 use checks::defined::Defined;
 #[cfg(feature = "library")]
@@ -22,8 +23,12 @@ fn library() -> Vec<Box<dyn Store>> {
     Vec::new()
 }
 
-/// Each store gives this answer to `call`, after `calls` and the words put.
-fn answers(calls: &[Call], put: &[(Region, usize, u32)], call: Call, wanted: Answer) {
+/// Shows each store with a memory and list, after `calls` and the words put.
+fn each_store(
+    calls: &[Call],
+    put: &[(Region, usize, u32)],
+    look: impl Fn(&dyn Store, &mut [u8], &mut [ScanEntry]),
+) {
     let rust: Vec<Box<dyn Store>> = vec![Box::new(Plain::<0>), Box::new(Defined)];
     for store in rust.into_iter().chain(library()) {
         let layout = Layout::of(&SHAPE);
@@ -36,10 +41,17 @@ fn answers(calls: &[Call], put: &[(Region, usize, u32)], call: Call, wanted: Ans
         for (region, at, word) in put {
             put_word(&mut memory, layout.base(*region) + at, *word);
         }
-        let stored = facts::usable(&memory, &list).expect("no fact fails");
-        assert_eq!(stated::judge(stated::refusal(&stored, &call), &wanted), Ok(()));
-        assert_eq!(store.call(&mut memory, &mut list, &call), wanted);
+        look(store.as_ref(), &mut memory, &mut list);
     }
+}
+
+/// Each store gives this answer to `call`, after `calls` and the words put.
+fn answers(calls: &[Call], put: &[(Region, usize, u32)], call: Call, wanted: Answer) {
+    each_store(calls, put, |store, memory, list| {
+        let stored = facts::usable(memory, list).expect("no fact fails");
+        assert_eq!(stated::judge(stated::refusal(&stored, &call), &wanted), Ok(()));
+        assert_eq!(store.call(memory, list, &call), wanted);
+    });
 }
 
 fn update(transaction: u32) -> Call {
@@ -168,6 +180,142 @@ fn a_scan_sees_up_to_its_own_count() {
     answers(&calls, &put, sum, Answer::Sum { count: 0, sum: 0 });
 }
 
+/// Row 0 is inserted with 5 at 10, and set to 9 at 20 and to 4 at 30: record 0 is the original, record 1
+/// the setting of 9 by transaction 2, record 2 that of 4 by transaction 3.
+fn swung() -> Vec<Call> {
+    let set = |transaction, value, stamp| {
+        let values = vec![value];
+        let update = Call::Update { transaction, row: 0, mask: 1, values };
+        [Call::Begin, update, Call::Commit { transaction, stamp }]
+    };
+    let insert = Call::Insert { transaction: 1, values: vec![5] };
+    let inserted = [Call::Begin, insert, Call::Commit { transaction: 1, stamp: 10 }];
+    [inserted, set(2, 9, 20), set(3, 4, 30)].concat()
+}
+
+/// Each store lists these crossings of 7 from one minute to another, after `swung` and the words put, in
+/// as many places and in more, and refuses to in less.
+fn crosses(put: &[(Region, usize, u32)], (from, to): (u32, u32), wanted: &[u32]) {
+    let lent = [u32::MAX, 1, 2, 3];
+    each_store(&swung(), put, |store, memory, list| {
+        for places in 0..=lent.len() {
+            let call =
+                Call::Crossings { row: 0, column: 0, mark: 7, from, to, places: places as u32 };
+            let (due, left) = if wanted.len() <= places {
+                let left = [wanted, &lent[wanted.len()..places]].concat();
+                (Answer::Number(wanted.len() as u32), left)
+            } else {
+                (Answer::Refused(21), lent[..places].to_vec())
+            };
+            let stored = facts::usable(memory, list).expect("no fact fails");
+            assert_eq!(stated::judge(stated::refusal(&stored, &call), &due), Ok(()));
+            let listed = if due.is_refused() { &[] } else { wanted };
+            assert_eq!(stated::listed(&stored, &call), listed);
+            let mut stamps = lent[..places].to_vec();
+            assert_eq!(store.call_with(memory, list, &mut stamps, &call), due, "{put:?}");
+            assert_eq!(stamps, left, "{put:?}");
+        }
+    });
+}
+
+const ALL: (u32, u32) = (0, 30);
+
+#[test]
+fn crossings_are_those_of_committed_records_of_the_column() {
+    crosses(&[], ALL, &[20, 30]);
+    // Aborted by whatever word, or open: 4 comes after 5.
+    for state in [0, 2, 3, u32::MAX] {
+        crosses(&[(Region::TailState, 1, state)], ALL, &[]);
+        crosses(&[(Region::TailState, 2, state)], ALL, &[20]);
+        // Then there is no inserted value.
+        crosses(&[(Region::RowState, 0, state)], ALL, &[30]);
+    }
+    // Of another column, and of every one.
+    for mask in [0, 2, u32::MAX - 1] {
+        crosses(&[(Region::TailMask, 0, mask)], ALL, &[30]);
+        crosses(&[(Region::TailMask, 1, mask)], ALL, &[]);
+    }
+    crosses(&[(Region::TailMask, 1, u32::MAX)], ALL, &[20, 30]);
+    // A delete, by whatever word.
+    for kind in [2, 3, u32::MAX] {
+        crosses(&[(Region::TailKind, 1, kind)], ALL, &[]);
+    }
+}
+
+#[test]
+fn crossings_have_one_value_for_each_transaction() {
+    // Both settings by one, and the first or both by the row's inserter.
+    crosses(&[(Region::TailTransaction, 2, 2)], ALL, &[]);
+    crosses(&[(Region::TailTransaction, 1, 1)], ALL, &[30]);
+    crosses(&[(Region::RowTransaction, 0, 2)], ALL, &[30]);
+    crosses(&[(Region::TailTransaction, 1, 1), (Region::TailTransaction, 2, 1)], ALL, &[]);
+    // The last by the inserter, with another between.
+    crosses(&[(Region::TailTransaction, 2, 1)], ALL, &[20, 30]);
+    // An original's own transaction and state are no matter.
+    crosses(&[(Region::TailTransaction, 0, 3)], ALL, &[20, 30]);
+    crosses(&[(Region::TailState, 0, 2)], ALL, &[20, 30]);
+}
+
+#[test]
+fn crossings_are_listed_in_the_order_of_records_by_their_own_stamps() {
+    crosses(&[(Region::TailStamp, 2, 15)], ALL, &[20, 15]);
+    crosses(&[(Region::TailStamp, 2, 15)], (16, 30), &[20]);
+    crosses(&[(Region::TailStamp, 1, 0)], ALL, &[0, 30]);
+    crosses(&[(Region::TailStamp, 0, 30), (Region::RowStamp, 0, 30)], ALL, &[20, 30]);
+    crosses(&[], (20, 29), &[20]);
+    crosses(&[], (21, 30), &[30]);
+}
+
+#[test]
+fn crossings_have_no_value_that_is_later() {
+    // The 9 is, so that 4 comes after 5.
+    crosses(&[(Region::TailStamp, 2, 15)], (0, 19), &[]);
+    crosses(&[(Region::TailStamp, 2, 15)], (0, 20), &[20, 15]);
+    // The 5 is, so that 9 is a first value.
+    crosses(&[(Region::RowStamp, 0, 21)], (0, 20), &[]);
+    crosses(&[(Region::RowStamp, 0, 21)], (0, 21), &[20]);
+    // The 9 is, and no longer replaces the 5 of its transaction.
+    let put =
+        [(Region::TailTransaction, 1, 1), (Region::TailStamp, 1, 30), (Region::TailStamp, 2, 15)];
+    crosses(&put, (0, 30), &[15]);
+    crosses(&put, (0, 29), &[]);
+}
+
+#[test]
+fn crossings_have_an_original_for_a_value_of_the_inserter() {
+    // The 9 is another one, and replaces the 5.
+    crosses(&[(Region::TailKind, 1, 0)], ALL, &[30]);
+    // The 4 is, with the insert's stamp.
+    crosses(&[(Region::TailKind, 2, 0)], ALL, &[20, 10]);
+    crosses(&[(Region::TailKind, 2, 0)], (11, 30), &[20]);
+    crosses(&[(Region::TailKind, 2, 0)], (0, 19), &[]);
+    crosses(&[(Region::TailKind, 2, 0), (Region::RowStamp, 0, 30)], ALL, &[20, 30]);
+    // It replaces a setting of the inserter.
+    crosses(&[(Region::TailKind, 2, 0), (Region::RowTransaction, 0, 2)], ALL, &[]);
+    // Without a committed insert an original stands for no value.
+    crosses(&[(Region::TailKind, 1, 0), (Region::RowState, 0, 2)], ALL, &[]);
+    // No original at all.
+    crosses(&[(Region::TailKind, 0, 1), (Region::TailState, 0, 1)], ALL, &[30]);
+}
+
+#[test]
+fn crossings_go_by_no_link_mask_ordinal_or_open_number() {
+    let put = [
+        (Region::RowLink, 0, 0),
+        (Region::RowMask, 0, 0),
+        (Region::RowOrdinal, 0, u32::MAX),
+        (Region::TailLink, 2, 0),
+        (Region::TailOrdinal, 1, u32::MAX),
+        (Region::TailOrdinal, 2, 0),
+        (Region::Opens, 0, 2),
+        (Region::Header, header::COMMITS_MADE, 0),
+    ];
+    for one in put {
+        crosses(&[one], ALL, &[20, 30]);
+    }
+    crosses(&put, ALL, &[20, 30]);
+}
+
 /// The plain page store with one of the conditions by its shortcut.
 struct Shortcut(u8);
 
@@ -180,14 +328,20 @@ impl Store for Shortcut {
         Plain::<0>.make(memory, scans, shape)
     }
 
-    fn call(&self, memory: &mut [u8], scans: &mut [ScanEntry], call: &Call) -> Answer {
+    fn call_with(
+        &self,
+        memory: &mut [u8],
+        scans: &mut [ScanEntry],
+        stamps: &mut [u32],
+        call: &Call,
+    ) -> Answer {
         let refused = match facts::usable(memory, scans) {
             Err(_) => Some(2),
             Ok(stored) => shortcuts::refusal(&stored, call, self.0),
         };
         match refused.map(Answer::Refused) {
             Some(answer) => answer,
-            None => match Plain::<0>.call(memory, scans, call) {
+            None => match Plain::<0>.call_with(memory, scans, stamps, call) {
                 Answer::Refused(_) => Answer::Done,
                 answer => answer,
             },

@@ -59,6 +59,30 @@ wrong_stores! {
     scan_misses_last_commit: SCAN_MISSES_LAST_COMMIT,
     scan_forgets_stamp: SCAN_FORGETS_STAMP,
     scan_on_current_page: SCAN_ON_CURRENT_PAGE,
+    first_value_crosses: FIRST_VALUE_CROSSES,
+    crossing_at_from_lost: CROSSING_AT_FROM_LOST,
+    crossing_at_to_lost: CROSSING_AT_TO_LOST,
+    value_before_from_forgotten: VALUE_BEFORE_FROM_FORGOTTEN,
+    full_slice_refused: FULL_SLICE_REFUSED,
+    replaced_setting_counts: REPLACED_SETTING_COUNTS,
+    aborted_setting_counts: ABORTED_SETTING_COUNTS,
+    pending_setting_counts: PENDING_SETTING_COUNTS,
+    stamp_past_the_count: STAMP_PAST_THE_COUNT,
+    stamps_though_refused: STAMPS_THOUGH_REFUSED,
+    above_alone: ABOVE_ALONE,
+    mark_without_sign: MARK_WITHOUT_SIGN,
+    minute_stands_once: MINUTE_STANDS_ONCE,
+    last_of_the_minute_counts: LAST_OF_THE_MINUTE_COUNTS,
+    newest_first: NEWEST_FIRST,
+    inserted_value_forgotten: INSERTED_VALUE_FORGOTTEN,
+    original_is_the_updaters: ORIGINAL_IS_THE_UPDATERS,
+    inserter_gives_two: INSERTER_GIVES_TWO,
+    other_column_counts: OTHER_COLUMN_COUNTS,
+    merged_setting_passed_over: MERGED_SETTING_PASSED_OVER,
+    ended_row_has_none: ENDED_ROW_HAS_NONE,
+    minutes_tested_first: MINUTES_TESTED_FIRST,
+    from_after_to_accepted: FROM_AFTER_TO_ACCEPTED,
+    later_to_accepted: LATER_TO_ACCEPTED,
 }
 
 /// An original holds what the page has before any setting of its row and column, and a merge goes
@@ -79,6 +103,60 @@ fn empty_commit_not_counted() {
     assert!(same::run(&Plain::<0>, &wrong, 0, LISTS).is_err());
 }
 
+/// On memories that no call made, and on no others.
+fn told_apart_where_unmade(wrong: &impl Store) {
+    agree::run(wrong, 0, 200).expect("no difference");
+    assert!(damage::random_memories(wrong, 0, LISTS).is_err());
+    assert!(damage::disturbed_stores(wrong, 0, LISTS).is_err());
+    assert!(same::run(&Plain::<0>, wrong, 0, LISTS).is_err());
+}
+
+/// Calls put the original of a column before its first setting, and no second one.
+#[test]
+fn later_original() {
+    told_apart_where_unmade(&Plain::<{ faults::LATER_ORIGINAL }>);
+}
+
+/// Calls put the settings of a row in the order of their stamps, so that those later than `to` stand
+/// behind all others.
+#[test]
+fn later_value_counts() {
+    told_apart_where_unmade(&Plain::<{ faults::LATER_VALUE_COUNTS }>);
+}
+
+/// The plain store with another count of crossings, though it lists the right ones.
+struct Miscounting;
+
+impl Store for Miscounting {
+    fn need(&self, shape: &Shape) -> Result<usize, u8> {
+        Plain::<0>.need(shape)
+    }
+
+    fn make(&self, memory: &mut [u8], scans: &mut [ScanEntry], shape: &Shape) -> Answer {
+        Plain::<0>.make(memory, scans, shape)
+    }
+
+    fn call_with(
+        &self,
+        memory: &mut [u8],
+        scans: &mut [ScanEntry],
+        stamps: &mut [u32],
+        call: &Call,
+    ) -> Answer {
+        match (call, Plain::<0>.call_with(memory, scans, stamps, call)) {
+            (Call::Crossings { .. }, Answer::Number(count)) => Answer::Number(count + 1),
+            (_, answer) => answer,
+        }
+    }
+}
+
+#[test]
+fn another_count_of_crossings() {
+    told_apart(&Miscounting);
+    assert!(damage::random_memories(&Miscounting, 0, LISTS).is_err());
+    assert!(same::run(&Miscounting, &Miscounting, 0, LISTS).is_err());
+}
+
 /// The plain store with a part of the list that is lent to its calls.
 struct Seeing(fn(&mut [ScanEntry]) -> &mut [ScanEntry]);
 
@@ -91,8 +169,14 @@ impl Store for Seeing {
         Plain::<0>.make(memory, scans, shape)
     }
 
-    fn call(&self, memory: &mut [u8], scans: &mut [ScanEntry], call: &Call) -> Answer {
-        Plain::<0>.call(memory, (self.0)(scans), call)
+    fn call_with(
+        &self,
+        memory: &mut [u8],
+        scans: &mut [ScanEntry],
+        stamps: &mut [u32],
+        call: &Call,
+    ) -> Answer {
+        Plain::<0>.call_with(memory, (self.0)(scans), stamps, call)
     }
 }
 

@@ -6,11 +6,11 @@
  * LENDING. Every call on a store takes
  *   mem, mem_length      the memory: bytes at any address, at least as many as deskrook_bytes_needed answers;
  *   scans, scans_length  the list of open scans: an array of at least DESKROOK_SCANS entries.
- * The pointers are not null, also where the length is 0. Memory, list and values do not overlap. Lend the same memory and list to every call on a store, and
+ * The pointers are not null, also where the length is 0. Memory, list, values and stamps do not overlap. Lend the same memory and list to every call on a store, and
  * write to neither in between. A call that meets other bytes than the last one left, even random ones, still answers, touches nothing outside what it was
  * lent, and answers DESKROOK_MEMORY wherever a stored fact fails: also where more than DESKROOK_SCANS are open in the list.
  *
- * ANSWERS. `result` is DESKROOK_OK, DESKROOK_NONE or the number of a refusal. A refused call changes no byte of memory and list. The other fields are said with
+ * ANSWERS. `result` is DESKROOK_OK, DESKROOK_NONE or the number of a refusal. A refused call changes no byte of what it was lent. The other fields are said with
  * each call; a field of which nothing is said is 0, and all of them are 0 where the result is not DESKROOK_OK. Where a read of one cell gives a value,
  * `stamp` is the stamp of the commit that set this column in this row, by an update or by the insert; 0 while that is pending, and where it was committed at 0.
  *
@@ -63,12 +63,13 @@ enum deskrook_result {
     DESKROOK_GONE = 10,        /* not held, and the row is deleted or its insert aborted, in the caller's own view */
     DESKROOK_FULL = 11,        /* all rows given */
     DESKROOK_TAIL = 12,        /* the range lacks the one or two tail records wanted */
-    DESKROOK_TIME = 13,        /* a commit earlier than the last, or a read or scan later than the last (0 in a new store) */
+    DESKROOK_TIME = 13,        /* a commit earlier than the last, a read, scan or crossings later than the last (0 in a new store), or crossings from a stamp to an earlier one */
     DESKROOK_BUSY = 14,        /* 8 transactions, or 5 scans, open */
     DESKROOK_NUMBER = 15,      /* 65,535 numbers given */
     DESKROOK_REACH = 16,       /* merge not above what the page holds, or above the records used */
     DESKROOK_OPEN = 17,        /* a record up to the one merged through belongs to an open transaction */
     DESKROOK_NO_PAGE = 18,     /* no free page */
+    DESKROOK_LIST = 21,        /* fewer places lent than there are crossings */
     DESKROOK_NONE = 32         /* accepted, and the answer is none: the row is not there for this reader */
 };
 
@@ -130,6 +131,14 @@ deskrook_reply deskrook_read_at(const uint8_t *mem, size_t mem_length, const des
  * value of a row that it inserted and has not committed; or NONE. Refusals: MEMORY, TRANSACTION, ROW, COLUMN. */
 deskrook_reply deskrook_own_read(const uint8_t *mem, size_t mem_length, const deskrook_scan_entry *scans, size_t scans_length, uint32_t transaction, uint32_t row,
                                  uint32_t column);
+
+/* Lists the crossings of a mark, oldest first: the stamps from `from` to `to`, both counted, of the commits that gave a row and column a value on the other side of
+ * the mark from the value before it there. At or above the mark is one side, below it the other. The value before may be from before `from`; a first value is no
+ * crossing. Of a transaction's own values the last counts; what is pending or aborted does not. A minute with two crossings stands twice. A row's end is no crossing, and
+ * hides none. first: the count. So many places of `stamps` are written, from the first on; the others stay as they are, and where the call is refused all do.
+ * Refusals: MEMORY, ROW, COLUMN, TIME (`from` after `to`, or `to` later than the last commit's), LIST (more crossings than places). */
+deskrook_reply deskrook_crossings(const uint8_t *mem, size_t mem_length, const deskrook_scan_entry *scans, size_t scans_length, uint32_t *stamps, size_t stamps_length,
+                                  uint32_t row, uint32_t column, int32_t mark, uint32_t from, uint32_t to);
 
 /* ---- scans ---- */
 

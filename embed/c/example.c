@@ -1,6 +1,6 @@
 /* The worked example (rule 12.9 of docs/SPECIFICATION.md) in C, on memory of its own: one gate with two columns, an update, and its merge into the page. Prints a line for each call
  * as the program gatebook does: the command byte, "ok" and the answer's fields, or "no" and the refusal's number. After the example, and without a
- * line, comes one more commit in the minute of the last, with a scan between the two. */
+ * line, comes one more commit in the minute of the last, with a scan between the two, and the list of the level's crossings. */
 #include <inttypes.h>
 #include <stdio.h>
 #include <stdlib.h>
@@ -81,6 +81,11 @@ int main(void) {
     const int32_t kept = deskrook_value(deskrook_scan_read(mem, length, scans, entries, scan, gate, 0));
     const int32_t newest = deskrook_value(deskrook_read_at(mem, length, scans, entries, 20, gate, 0));
 
+    /* In that minute the level rose above 1240 and fell below it again, so the minute stands twice. Four entries are lent, two are written. */
+    uint32_t stamps[4] = {0};
+    const deskrook_reply crossed = deskrook_crossings(mem, length, scans, entries, stamps, 4, gate, 0, 1240, 0, 20);
+    const int twice = crossed.result == DESKROOK_OK && crossed.first == 2 && stamps[0] == 20 && stamps[1] == 20;
+
     free(mem);
-    return kept == 1250 && newest == 1230 ? EXIT_SUCCESS : EXIT_FAILURE;
+    return kept == 1250 && newest == 1230 && twice ? EXIT_SUCCESS : EXIT_FAILURE;
 }

@@ -1,9 +1,11 @@
 /* Damaged memory from outside: an input's bytes become a store, words written into it at will, and calls with any numbers over any bytes and any list, through the C
  * interface. Of every call: the result is 2 exactly where facts.c finds a failing fact; it is one that the call may answer; it is 13 just where the stamp is on
  * the wrong side of the last commit's; fields that it has not are 0; the stamp of a value read is not after its reader's; a refusal changes no byte; an accepted call changes
- * only what it may, and the facts hold again; a commit counts itself, and an opened scan's entry has the counts made before it. In a store that calls alone have made and
- * written, no commit, merge or release changes the sum of an open scan. Memory, list and values end or begin at a page that cannot be read, and the rest of their own pages
- * is marked, so that neither a read nor a write outside goes unseen though the library itself is not instrumented.
+ * only what it may, and the facts hold again; a commit counts itself, and an opened scan's entry has the counts made before it. Crossings are refused as their operands have it,
+ * with 21 exactly where more are listed once there are places for all; the stamps listed are between the two, and the places behind them are unchanged. In a store that
+ * calls alone have made and written, no commit, merge or release changes the sum of an open scan, and the crossings are those of crossings.c. Memory, list, values and stamps
+ * end or begin at a page that cannot be read, and the rest of their own pages is marked, so that neither a read nor a write outside goes unseen though the library itself is
+ * not instrumented.
  *
  * LLVMFuzzerTestOneInput is called by libFuzzer, or by random.c with random bytes. */
 #define _DEFAULT_SOURCE
@@ -13,23 +15,33 @@
 #include <string.h>
 #include <sys/mman.h>
 
+#include "crossings.h"
 #include "facts.h"
 
 int LLVMFuzzerTestOneInput(const uint8_t *data, size_t size);
 
 /* ---- what is said at the end, and at a fault ---- */
 
-static uint64_t inputs, calls, damaged, accepted, nones, scans_kept, refused[19];
+enum { REFUSALS = DESKROOK_LIST + 1 };
+
+static uint64_t inputs, calls, damaged, accepted, nones, scans_kept, crossings, crossings_again, refused[REFUSALS];
+
+/* Whether it is a refusal's number. 19 and 20 are gatebook's. */
+static int is_refusal(uint32_t number) {
+    return (number >= DESKROOK_SHAPE && number <= DESKROOK_NO_PAGE) || number == DESKROOK_LIST;
+}
 
 static void say_counts(void) {
     uint64_t all = 0;
-    for (int number = 1; number <= 18; number++)
+    for (int number = 0; number < REFUSALS; number++)
         all += refused[number];
     fprintf(stderr, "inputs %" PRIu64 ", calls %" PRIu64 ", of them on memory or list with a failing fact %" PRIu64 "; accepted %" PRIu64 ", none %" PRIu64 ", refused %" PRIu64 ":",
             inputs, calls, damaged, accepted, nones, all);
-    for (int number = 1; number <= 18; number++)
-        fprintf(stderr, " %d %" PRIu64 "%s", number, refused[number], number < 18 ? "," : "\n");
+    for (int number = 0; number < REFUSALS; number++)
+        if (is_refusal((uint32_t)number))
+            fprintf(stderr, " %d %" PRIu64 "%s", number, refused[number], number < DESKROOK_LIST ? "," : "\n");
     fprintf(stderr, "open scans that a later commit of their minute left as they were: %" PRIu64 "\n", scans_kept);
+    fprintf(stderr, "crossings in stores that calls alone have written: %" PRIu64 ", in the minute of the one before: %" PRIu64 "\n", crossings, crossings_again);
 }
 
 static void fail(const char *name, const char *what) {
@@ -45,7 +57,8 @@ static void fail_by_fact(const char *name, const char *when, const char *fact) {
 
 /* ---- the lent bytes ---- */
 
-enum { PAGE = 4096, MARK = 0xA5, MOST_PLACES = 64, MOST_VALUES = 48 };
+/* A page has more stamps than a row can have crossings, each of which is by a record of its own. */
+enum { PAGE = 4096, MARK = 0xA5, UNWRITTEN = 0xC3, MOST_PLACES = 64, MOST_VALUES = 48, MOST_STAMPS = PAGE / 4 };
 
 /* Pages between two that cannot be read; what is lent ends at the last or begins at the first of them. */
 struct lent {
@@ -58,7 +71,7 @@ struct lent {
     size_t saved_length;
 };
 
-static struct lent memory, list, values;
+static struct lent memory, list, values, stamps;
 
 static void reserve(struct lent *lent, size_t pages) {
     uint8_t *all = mmap(NULL, (pages + 2) * PAGE, PROT_NONE, MAP_PRIVATE | MAP_ANONYMOUS, -1, 0);
@@ -159,6 +172,10 @@ static uint32_t number(struct input *in, char kind) {
         return header(LAST_STAMP) + (first < 0x40 ? 0 : first % 3 - first / 32 % 2 * (first / 4));
     case 'p': /* stamp of a commit: as often the last again as a later one, now and then the one before */
         return first % 8 == 7 ? header(LAST_STAMP) - (header(LAST_STAMP) > 0) : header(LAST_STAMP) + first % 2 * (1 + first / 64);
+    case 'f': /* stamp to begin at: the first one, or one of the last */
+        return first < 0x80 ? 0 : header(LAST_STAMP) - (first % 8 < header(LAST_STAMP) ? first % 8 : 0);
+    case 'k': /* mark: a small number of either sign */
+        return first - 0x70;
     case 'r': /* row */
         return header(ROWS_GIVEN) == 0 || first < 0x80 ? first % 4 : first % header(ROWS_GIVEN);
     case 'c': /* column */
@@ -192,17 +209,21 @@ enum call {
     RELEASE,
     PAGE_CELL,
     LINEAGE,
+    CROSSINGS,
     CHECK,
     MAKE,
     BYTES_NEEDED,
     CALLS
 };
 
+/* The most numbers that a call takes. */
+enum { MOST_NUMBERS = 5 };
+
 enum { WRITES_MEMORY = 1, WRITES_LIST = 2, MAY_BE_NONE = 4, HAS_FIRST = 8, HAS_SECOND = 16, HAS_STAMP = 32, HAS_SUM = 64 };
 
 #define MAY(number) (UINT32_C(1) << (number))
 
-/* What each call may do, and the refusals that document 01 gives it besides 2. */
+/* What each call may do, and the refusals that documents 01 and 02 give it besides 2. */
 static const struct {
     const char *name;
     const char *kinds; /* of its numbers, as `number` has them */
@@ -226,6 +247,7 @@ static const struct {
     [RELEASE] = {"release", "", WRITES_MEMORY | HAS_FIRST, 0},
     [PAGE_CELL] = {"page_cell", "cr", HAS_FIRST, MAY(6) | MAY(5)},
     [LINEAGE] = {"lineage", "gc", HAS_FIRST | HAS_SECOND, MAY(7) | MAY(6)},
+    [CROSSINGS] = {"crossings", "rckfd", HAS_FIRST, MAY(5) | MAY(6) | MAY(13) | MAY(21)},
     [CHECK] = {"check", "", 0, 0},
     [MAKE] = {"make", "nnnn", WRITES_MEMORY | WRITES_LIST, MAY(1)},
     [BYTES_NEEDED] = {"bytes_needed", "nnnn", HAS_FIRST, MAY(1)},
@@ -240,7 +262,21 @@ static void lend_values(struct input *in) {
     keep(&values);
 }
 
-static deskrook_reply make_call(enum call call, const uint32_t numbers[4]) {
+/* Lends stamps for the crossings, most often so few that there may be more crossings. */
+static void lend_stamps(struct input *in) {
+    uint32_t first = take(in, 1);
+    lend(&stamps, 4 * (first < 0xE0 ? first % 8 : first), first & 8);
+    memset(stamps.first, UNWRITTEN, stamps.length);
+    keep(&stamps);
+}
+
+/* The crossings, listed in so many entries. */
+static deskrook_reply list_crossings(const uint32_t numbers[MOST_NUMBERS], uint32_t *first, size_t count) {
+    const deskrook_scan_entry *s = (const deskrook_scan_entry *)(const void *)list.first;
+    return deskrook_crossings(memory.first, memory.length, s, entries(), first, count, numbers[0], numbers[1], (int32_t)numbers[2], numbers[3], numbers[4]);
+}
+
+static deskrook_reply make_call(enum call call, const uint32_t numbers[MOST_NUMBERS]) {
     uint8_t *m = memory.first;
     size_t n = memory.length, k = entries();
     deskrook_scan_entry *s = (deskrook_scan_entry *)(void *)list.first;
@@ -265,6 +301,7 @@ static deskrook_reply make_call(enum call call, const uint32_t numbers[4]) {
     case RELEASE: return deskrook_release(m, n, s, k);
     case PAGE_CELL: return deskrook_page_cell(m, n, s, k, a, b);
     case LINEAGE: return deskrook_lineage(m, n, s, k, a, b);
+    case CROSSINGS: return list_crossings(numbers, (uint32_t *)(void *)stamps.first, stamps.length / 4);
     case CHECK: return deskrook_check(m, n, s, k);
     case MAKE: return deskrook_make(m, n, s, k, a, b, c, d);
     case BYTES_NEEDED: return deskrook_bytes_needed(a, b, c, d);
@@ -326,7 +363,7 @@ static uint32_t due(enum call call, const uint32_t measures[4], uint32_t *need) 
 
 /* The latest stamp that a read may give: its reader's. What set the value was seen by this reader, or is the insert of a row that it sees. It sees what was committed
  * by its stamp, and of what is pending its own, for which the stamp given is 0, whatever the memory has in that place. */
-static uint32_t latest_stamp(enum call call, const uint32_t numbers[4]) {
+static uint32_t latest_stamp(enum call call, const uint32_t numbers[MOST_NUMBERS]) {
     const deskrook_scan_entry *s = (const deskrook_scan_entry *)(const void *)list.first;
     if (call == READ_AT)
         return numbers[0];
@@ -339,8 +376,8 @@ static uint32_t latest_stamp(enum call call, const uint32_t numbers[4]) {
     return 0;
 }
 
-/* 13: a commit earlier than the last, a read or a scan later than the last. A commit tests its transaction before, the others nothing. */
-static void judge_time(enum call call, const uint32_t numbers[4], uint32_t result) {
+/* 13: a commit earlier than the last, a read or a scan later than the last. A commit tests its transaction before, the others nothing. Crossings are judged apart. */
+static void judge_time(enum call call, const uint32_t numbers[MOST_NUMBERS], uint32_t result) {
     if (call != COMMIT && call != READ_AT && call != OPEN_SCAN)
         return;
     uint32_t last = word_at(memory.before, LAST_STAMP);
@@ -371,7 +408,7 @@ static deskrook_reply sum_of(uint32_t scan) {
     return deskrook_sum(memory.first, memory.length, (const deskrook_scan_entry *)(const void *)list.first, entries(), scan, 0);
 }
 
-static void judge_scans(enum call call, const uint32_t numbers[4], deskrook_reply reply) {
+static void judge_scans(enum call call, const uint32_t numbers[MOST_NUMBERS], deskrook_reply reply) {
     if (call == OPEN_SCAN) {
         const deskrook_scan_entry *entry = entry_of(reply.first);
         if (entry->stamp != numbers[0] || entry->merges != word_at(memory.before, MERGES_MADE) || entry->commits != word_at(memory.before, COMMITS_MADE))
@@ -400,23 +437,73 @@ static void judge_scans(enum call call, const uint32_t numbers[4], deskrook_repl
     }
 }
 
-static void call_and_judge(enum call call, struct input *in) {
+/* The refusal that crossings must have before any is counted, by their operands. */
+static uint32_t due_before_list(const uint32_t numbers[MOST_NUMBERS]) {
+    if (numbers[0] >= word_at(memory.first, ROWS_GIVEN))
+        return DESKROOK_ROW;
+    if (numbers[1] >= word_at(memory.first, COLUMNS))
+        return DESKROOK_COLUMN;
+    return numbers[3] > numbers[4] || numbers[4] > word_at(memory.first, LAST_STAMP) ? DESKROOK_TIME : DESKROOK_OK;
+}
+
+/* The whole list, with entries for all: whether the call that was lent fewer has answered by it, and in a store that calls alone have written whether it is right. */
+static void judge_list(const struct layout *layout, const uint32_t numbers[MOST_NUMBERS], deskrook_reply reply) {
+    const char *name = about[CROSSINGS].name;
+    static uint32_t all[MOST_STAMPS], right[MOST_STAMPS];
+    deskrook_reply whole = list_crossings(numbers, all, MOST_STAMPS);
+    if (whole.result != DESKROOK_OK || whole.first > MOST_STAMPS)
+        fail(name, "refused, though there are entries for all crossings");
+    if ((reply.result == DESKROOK_LIST) != (whole.first > stamps.length / 4))
+        fail(name, "21 is not exactly where the crossings outnumber the entries");
+    if (reply.result == DESKROOK_OK && (reply.first != whole.first || memcmp(all, stamps.first, whole.first * sizeof *all) != 0))
+        fail(name, "another list where more entries are lent");
+    if (!by_calls_alone)
+        return;
+    size_t count = crossings_of(layout, memory.first, numbers[0], numbers[1], (int32_t)numbers[2], numbers[3], numbers[4], right);
+    if (count != whole.first || memcmp(all, right, count * sizeof *all) != 0)
+        fail(name, "other crossings than the commits have");
+    crossings += count;
+    for (size_t i = 1; i < count; i++)
+        crossings_again += right[i] == right[i - 1];
+}
+
+/* After crossings in a usable store. */
+static void judge_crossings(const struct layout *layout, const uint32_t numbers[MOST_NUMBERS], deskrook_reply reply) {
+    const char *name = about[CROSSINGS].name;
+    uint32_t due = due_before_list(numbers);
+    if (due != DESKROOK_OK ? reply.result != due : reply.result != DESKROOK_OK && reply.result != DESKROOK_LIST)
+        fail(name, "another refusal is due");
+    for (size_t i = 0; i < reply.first && i < stamps.length / 4; i++) {
+        uint32_t stamp = word_at(stamps.first, i);
+        if (stamp < numbers[3] || stamp > numbers[4])
+            fail(name, "a stamp that is not between the two");
+    }
+    if (due == DESKROOK_OK)
+        judge_list(layout, numbers, reply);
+}
+
+/* Whether the places of stamps behind the list changed; where the call is refused nothing is listed. */
+static void look_behind_list(deskrook_reply reply) {
+    size_t listed = (size_t)reply.first * 4;
+    if (listed > stamps.length)
+        fail(about[CROSSINGS].name, "more crossings than entries");
+    if (memcmp(stamps.before + listed, stamps.first + listed, stamps.length - listed) != 0)
+        fail(about[CROSSINGS].name, "an entry behind the list changed");
+}
+
+/* Makes a call with these numbers, and with values and stamps as they are lent, and judges it. */
+static deskrook_reply judged_call(enum call call, const uint32_t numbers[MOST_NUMBERS]) {
     const char *name = about[call].name;
     int does = about[call].does;
     struct layout layout;
     const char *fact = failing(&layout);
-    uint32_t numbers[4] = {0};
-    for (size_t i = 0; about[call].kinds[i] != 0; i++)
-        numbers[i] = number(in, about[call].kinds[i]);
-    if (call == INSERT || call == UPDATE)
-        lend_values(in);
     keep(&memory);
     keep(&list);
     deskrook_reply reply = make_call(call, numbers);
     uint32_t result = reply.result;
     calls++;
     damaged += fact != NULL;
-    if (result > 18 && result != DESKROOK_NONE)
+    if (result != DESKROOK_OK && result != DESKROOK_NONE && !is_refusal(result))
         fail(name, "no such result");
     ways[call * 64 + result] = 1;
 
@@ -448,8 +535,14 @@ static void call_and_judge(enum call call, struct input *in) {
     look_around(name, &memory);
     look_around(name, &list);
     look_around(name, &values);
+    look_around(name, &stamps);
     if (changed(&values))
         fail(name, "a value changed");
+    if (call == CROSSINGS) {
+        look_behind_list(reply);
+        if (fact == NULL)
+            judge_crossings(&layout, numbers, reply);
+    }
     if (ok && call != BYTES_NEEDED) {
         judge_accepted(call);
         judge_scans(call, numbers, reply);
@@ -461,9 +554,62 @@ static void call_and_judge(enum call call, struct input *in) {
     nones += result == DESKROOK_NONE;
     if (!ok && result != DESKROOK_NONE)
         refused[result]++;
+    return reply;
 }
 
 /* ---- an input ---- */
+
+/* Most often the crossings are of a cell that some record has set, by a mark that is the value or the number above it. */
+static void aim_at_record(struct input *in, uint32_t numbers[MOST_NUMBERS]) {
+    struct layout layout;
+    uint32_t first = take(in, 1);
+    if (first >= 0xE0 || failing(&layout) != NULL)
+        return;
+    uint32_t range = first % layout.ranges, used = word_at(memory.first, layout.base[USED] + range);
+    if (used == 0)
+        return;
+    size_t slot = (size_t)range * layout.capacity + take(in, 1) % used;
+    uint32_t column = 0, mask = word_at(memory.first, layout.base[TAIL_MASK] + slot);
+    while (column + 1 < layout.columns && (mask >> column & 1) == 0)
+        column++;
+    numbers[0] = word_at(memory.first, layout.base[TAIL_ROW] + slot);
+    numbers[1] = column;
+    numbers[2] = word_at(memory.first, layout.base[TAIL_VALUES] + slot * layout.columns + column) + (first >> 4 & 1);
+}
+
+static void call_from_input(enum call call, struct input *in) {
+    uint32_t numbers[MOST_NUMBERS] = {0};
+    for (size_t i = 0; about[call].kinds[i] != 0; i++)
+        numbers[i] = number(in, about[call].kinds[i]);
+    if (call == INSERT || call == UPDATE)
+        lend_values(in);
+    if (call == CROSSINGS) {
+        lend_stamps(in);
+        aim_at_record(in, numbers);
+    }
+    judged_call(call, numbers);
+}
+
+/* A transaction of its own sets a column of a row, or inserts one where the row is not given, now and then sets it again, and commits: single calls seldom come to that. */
+static void commit_setting(struct input *in) {
+    uint32_t row = number(in, 'r'), mask = UINT32_C(1) << number(in, 'c') % 16, stamp = number(in, 'p');
+    int again = take(in, 1) % 4 == 3;
+    deskrook_reply begun = judged_call(BEGIN, (const uint32_t[MOST_NUMBERS]){0});
+    if (begun.result != DESKROOK_OK)
+        return;
+    lend_values(in);
+    if (row < header(ROWS_GIVEN))
+        judged_call(UPDATE, (const uint32_t[MOST_NUMBERS]){begun.first, row, mask});
+    else
+        row = judged_call(INSERT, (const uint32_t[MOST_NUMBERS]){begun.first}).first;
+    if (again) {
+        lend_values(in);
+        judged_call(UPDATE, (const uint32_t[MOST_NUMBERS]){begun.first, row, mask});
+    }
+    /* Refused, it would hold its row from then on. */
+    if (judged_call(COMMIT, (const uint32_t[MOST_NUMBERS]){begun.first, stamp}).result != DESKROOK_OK)
+        judged_call(ABORT, (const uint32_t[MOST_NUMBERS]){begun.first});
+}
 
 /* A word of memory or list becomes any number, another word of it, a number beside the one that is there, or the greatest transaction or scan number. */
 static void damage(struct lent *lent, struct input *in) {
@@ -535,7 +681,9 @@ int LLVMFuzzerTestOneInput(const uint8_t *data, size_t size) {
         reserve(&memory, 4);
         reserve(&list, 1);
         reserve(&values, 1);
+        reserve(&stamps, 1);
         lend(&values, 0, 1);
+        lend(&stamps, 0, 1);
         atexit(say_counts);
     }
     struct input in = {data, size};
@@ -549,12 +697,14 @@ int LLVMFuzzerTestOneInput(const uint8_t *data, size_t size) {
             by_calls_alone = saved_by_calls_alone;
             undo = -1;
         }
-        /* A zero byte is an update: libFuzzer likes runs of them, and begin is soon refused. */
-        uint32_t what = (take(&in, 1) + UPDATE) % 32;
-        if (what < CALLS) {
-            call_and_judge((enum call)what, &in);
-        } else if (what < 28) { /* the calls that make a history: begin to read_at, and again begin and insert */
-            call_and_judge((enum call)((what - CALLS) % 8), &in);
+        /* A zero byte is a setting: libFuzzer likes runs of them, and begin is soon refused. */
+        uint32_t what = take(&in, 1) % 32;
+        if (what == 0) {
+            commit_setting(&in);
+        } else if (what <= CALLS) {
+            call_from_input((enum call)(what - 1), &in);
+        } else if (what < 28) { /* again the calls that make a history, begin to abort */
+            call_from_input((enum call)((what - CALLS - 1) % 6), &in);
         } else {
             uint32_t steps = take(&in, 1) % 32;
             if (undo < step && steps > 0) {

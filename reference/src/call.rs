@@ -1,4 +1,4 @@
-//! A store's shape, the seventeen calls on a store, and their answers.
+//! A store's shape, the eighteen calls on a store, and their answers.
 
 /// Rows in one range: "Ranges 1 to 16, each of 64 rows."
 pub const RANGE_ROWS: u32 = 64;
@@ -33,26 +33,84 @@ impl Shape {
 #[derive(Clone, Debug, PartialEq, Eq)]
 pub enum Call {
     Begin,
-    Insert { transaction: u32, values: Vec<i32> },
-    Update { transaction: u32, row: u32, mask: u16, values: Vec<i32> },
-    Delete { transaction: u32, row: u32 },
-    Commit { transaction: u32, stamp: u32 },
-    Abort { transaction: u32 },
-    Latest { row: u32, column: u32 },
-    ReadAt { stamp: u32, row: u32, column: u32 },
-    OwnRead { transaction: u32, row: u32, column: u32 },
-    OpenScan { stamp: u32 },
-    ScanRead { scan: u32, row: u32, column: u32 },
-    Sum { scan: u32, column: u32 },
-    Close { scan: u32 },
-    Merge { range: u32, column: u32, through: u32 },
+    Insert {
+        transaction: u32,
+        values: Vec<i32>,
+    },
+    Update {
+        transaction: u32,
+        row: u32,
+        mask: u16,
+        values: Vec<i32>,
+    },
+    Delete {
+        transaction: u32,
+        row: u32,
+    },
+    Commit {
+        transaction: u32,
+        stamp: u32,
+    },
+    Abort {
+        transaction: u32,
+    },
+    Latest {
+        row: u32,
+        column: u32,
+    },
+    ReadAt {
+        stamp: u32,
+        row: u32,
+        column: u32,
+    },
+    OwnRead {
+        transaction: u32,
+        row: u32,
+        column: u32,
+    },
+    OpenScan {
+        stamp: u32,
+    },
+    ScanRead {
+        scan: u32,
+        row: u32,
+        column: u32,
+    },
+    Sum {
+        scan: u32,
+        column: u32,
+    },
+    Close {
+        scan: u32,
+    },
+    Merge {
+        range: u32,
+        column: u32,
+        through: u32,
+    },
     Release,
-    PageCell { column: u32, row: u32 },
-    Lineage { range: u32, column: u32 },
+    PageCell {
+        column: u32,
+        row: u32,
+    },
+    Lineage {
+        range: u32,
+        column: u32,
+    },
+    /// Document 02, Item 4. `places` is the length of the lent slice of stamps: a call is fed "with the
+    /// length of anything lent besides memory and scan list".
+    Crossings {
+        row: u32,
+        column: u32,
+        mark: i32,
+        from: u32,
+        to: u32,
+        places: u32,
+    },
 }
 
 /// What a call answers.
-#[derive(Clone, Copy, Debug, PartialEq, Eq)]
+#[derive(Clone, Debug, PartialEq, Eq)]
 pub enum Answer {
     /// Refused, with the number of document 01.
     Refused(u8),
@@ -79,6 +137,10 @@ pub enum Answer {
         through: u32,
         used: u32,
     },
+    /// The stamps of the crossings, oldest first, as they stand at the beginning of the lent slice. There
+    /// are no more of them than places, and the slice's rest is unchanged; all of it where the call is
+    /// refused.
+    Crossings(Vec<u32>),
 }
 
 impl Answer {

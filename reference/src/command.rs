@@ -1,7 +1,13 @@
 //! The commands of gatebook as bytes: which operands follow a command byte, and calls to bytes
 //! and back.
 
+use std::ops::RangeInclusive;
+
 use crate::call::Call;
+use crate::program::LENT_STAMPS;
+
+/// The command bytes.
+pub const COMMANDS: RangeInclusive<u8> = 0x01..=0x12;
 
 /// One operand of a command.
 #[derive(Clone, Copy, Debug, PartialEq, Eq)]
@@ -15,6 +21,9 @@ pub enum Field {
     Scan,
     Range,
     Through,
+    Mark,
+    From,
+    To,
 }
 
 impl Field {
@@ -23,7 +32,7 @@ impl Field {
         match self {
             Field::Column | Field::Range => 1,
             Field::Transaction | Field::Row | Field::Mask | Field::Scan | Field::Through => 2,
-            Field::Value | Field::Stamp => 4,
+            Field::Value | Field::Stamp | Field::Mark | Field::From | Field::To => 4,
         }
     }
 
@@ -38,14 +47,23 @@ impl Field {
             Field::Scan => "scan",
             Field::Range => "range",
             Field::Through => "through",
+            Field::Mark => "mark",
+            Field::From => "from",
+            Field::To => "to",
         }
     }
 
-    /// Whether a number can be written in the operand's bytes. Values alone are signed.
+    /// Values, and the mark beside which they lie, are signed; the other numbers are not.
+    fn signed(self) -> bool {
+        matches!(self, Field::Value | Field::Mark)
+    }
+
+    /// Whether a number can be written in the operand's bytes.
     pub fn fits(self, number: i64) -> bool {
-        match self {
-            Field::Value => i32::try_from(number).is_ok(),
-            _ => (0..1 << (8 * self.width())).contains(&number),
+        if self.signed() {
+            i32::try_from(number).is_ok()
+        } else {
+            (0..1 << (8 * self.width())).contains(&number)
         }
     }
 }
@@ -71,6 +89,7 @@ pub fn operands(byte: u8, columns: usize) -> Option<Vec<Field>> {
         0x0E => (&[Range, Column, Through], false),
         0x10 => (&[Column, Row], false),
         0x11 => (&[Range, Column], false),
+        0x12 => (&[Row, Column, Mark, From, To], false),
         _ => return None,
     };
     let mut fields = fixed.to_vec();
@@ -91,10 +110,7 @@ pub fn numbers(fields: &[Field], mut bytes: &[u8]) -> Vec<i64> {
     for field in fields {
         let (operand, rest) = bytes.split_at(field.width());
         let number = operand.iter().rev().fold(0u32, |number, byte| number << 8 | u32::from(*byte));
-        numbers.push(match field {
-            Field::Value => i64::from(number as i32),
-            _ => i64::from(number),
-        });
+        numbers.push(if field.signed() { i64::from(number as i32) } else { i64::from(number) });
         bytes = rest;
     }
     numbers
@@ -127,6 +143,14 @@ pub fn call(byte: u8, numbers: &[i64]) -> Call {
         0x0F => Call::Release,
         0x10 => Call::PageCell { column: number(0), row: number(1) },
         0x11 => Call::Lineage { range: number(0), column: number(1) },
+        0x12 => Call::Crossings {
+            row: number(0),
+            column: number(1),
+            mark: numbers[2] as i32,
+            from: number(3),
+            to: number(4),
+            places: LENT_STAMPS,
+        },
         _ => unreachable!("command {byte:02X} has no call"),
     }
 }
@@ -140,7 +164,7 @@ pub fn first(bytes: &[u8], columns: usize) -> Option<(Call, &[u8])> {
     Some((call(*byte, &numbers(&fields, operand_bytes)), rest))
 }
 
-/// A call's command byte and the numbers of its operands.
+/// A call's command byte and the numbers of its operands. What is lent besides is no operand.
 pub fn parts(call: &Call) -> (u8, Vec<i64>) {
     let (byte, fixed, values): (u8, &[u32], &[i32]) = match call {
         Call::Begin => (0x01, &[], &[]),
@@ -162,6 +186,10 @@ pub fn parts(call: &Call) -> (u8, Vec<i64>) {
         Call::Release => (0x0F, &[], &[]),
         Call::PageCell { column, row } => (0x10, &[*column, *row], &[]),
         Call::Lineage { range, column } => (0x11, &[*range, *column], &[]),
+        Call::Crossings { row, column, mark, from, to, places: _ } => {
+            let [row, column, from, to] = [*row, *column, *from, *to].map(i64::from);
+            return (0x12, vec![row, column, i64::from(*mark), from, to]);
+        }
     };
     let fixed = fixed.iter().map(|number| i64::from(*number));
     let values = values.iter().map(|value| i64::from(*value));

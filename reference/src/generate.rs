@@ -4,7 +4,7 @@
 mod generator;
 mod workload;
 
-use self::generator::Generator;
+use self::generator::{Generator, Numbers};
 pub use self::workload::COUNT as WORKLOADS;
 use crate::call::{Call, Shape};
 use crate::command;
@@ -13,16 +13,16 @@ use crate::program::LENT;
 use crate::random::Random;
 
 /// A list of so many calls for a store of any shape within the limits. Every number fits the
-/// command bytes.
+/// command bytes; slices are lent of any length.
 pub fn calls(seed: u64, shape: Shape, count: usize) -> Vec<Call> {
     let random = Random::new(seed ^ 0x6361_6C6C_7300_0000);
-    Generator::new(random, workload::of(seed), shape, count, false).take(count)
+    Generator::new(random, workload::of(seed), shape, count, Numbers::Narrow).take(count)
 }
 
 /// The same, with some numbers that are too wide for the command bytes.
 pub fn wide_calls(seed: u64, shape: Shape, count: usize) -> Vec<Call> {
     let random = Random::new(seed ^ 0x7769_6465_0000_0000);
-    Generator::new(random, workload::of(seed), shape, count, true).take(count)
+    Generator::new(random, workload::of(seed), shape, count, Numbers::Wide).take(count)
 }
 
 /// A shape within the limits, mostly small, or mostly within the bounds of a workload that asks for
@@ -65,9 +65,9 @@ pub fn stream(seed: u64) -> Vec<u8> {
         capacity: random.between(workload.capacity.0, workload.capacity.1),
         spares: random.between(workload.spares.0, workload.spares.1),
     };
-    let count =
-        40 + random.below(160) as usize + (shape.rows() * workload.early_rows / 50) as usize;
-    let mut generator = Generator::new(random, workload, shape, count, false);
+    let more = workload.more + shape.rows() * workload.early_rows / 50;
+    let count = (40 + random.below(160) + more) as usize;
+    let mut generator = Generator::new(random, workload, shape, count, Numbers::Commands);
     let calls = generator.take(count);
     let byte = generator.command();
     let last = generator.candidate(byte);
@@ -81,8 +81,9 @@ pub fn stream(seed: u64) -> Vec<u8> {
     match random.below(40) {
         // An unknown command byte, with bytes behind it.
         0 | 1 => {
-            let unknown = random.between(0x11, 0xFF) as u8;
-            bytes.push(if unknown == 0x11 { 0 } else { unknown });
+            let known = *command::COMMANDS.end();
+            let unknown = random.between(known.into(), 0xFF) as u8;
+            bytes.push(if unknown == known { 0 } else { unknown });
             for _ in 0..random.below(6) {
                 bytes.push(random.word() as u8);
             }
@@ -127,7 +128,8 @@ pub fn stream(seed: u64) -> Vec<u8> {
 /// more that is cut.
 pub fn largest(seed: u64, commands: usize) -> Vec<u8> {
     let random = Random::new(seed ^ 0x6C61_7267_6573_7400);
-    let mut generator = Generator::new(random, workload::of(seed), LENT, commands, false);
+    let workload = workload::of(seed);
+    let mut generator = Generator::new(random, workload, LENT, commands, Numbers::Commands);
     let mut bytes = bytes_of(&LENT, &generator.take(commands));
     let update = generator.candidate(0x03);
     let whole = bytes.len();

@@ -1,15 +1,21 @@
 //! The plain version history of document 01 ("The plain history, call by call"): its lists, what an
 //! accepted call does to them, and the reads, which give the stamps of document 02's Item 1 too. At
 //! most five scans are open, as Item 2 has it. Several commits may have one stamp, as Item 3 has it:
-//! an ordinal tells them apart, and a scan knows how many were made before it.
-//! The tests of each call are in `refusals`; `situations` and `minutes` look at reads for the survey.
+//! an ordinal tells them apart, and a scan knows how many were made before it. The crossings of a level
+//! are Item 4's. The tests of each call are in `refusals`; `situations`, `minutes` and `crossings` look
+//! at calls for the survey.
 
+mod crossings;
 mod minutes;
 mod refusals;
 mod situations;
 
+use std::collections::BTreeMap;
+use std::iter;
+
 use crate::call::{Answer, Call, Shape, RANGE_ROWS};
 
+pub use self::crossings::InCrossings;
 pub use self::minutes::InMinute;
 pub use self::situations::Situation;
 
@@ -108,6 +114,13 @@ impl View {
     fn sees(&self, commit: &Commit) -> bool {
         commit.stamp <= self.stamp && commit.ordinal <= self.commits
     }
+}
+
+/// A value that a commit gave a row and column, with the commit's stamp.
+#[derive(Clone, Copy, Debug, PartialEq, Eq)]
+pub struct Given {
+    pub stamp: u32,
+    pub value: i32,
 }
 
 /// A value of a row and column, and the transaction that set it: that of the setting, or the row's
@@ -300,6 +313,9 @@ impl History {
                 through: self.merged_through(range, column),
                 used: self.used(range),
             },
+            Call::Crossings { row, column, mark, from, to, .. } => {
+                Answer::Crossings(self.crossings(row, column, mark, from, to))
+            }
         }
     }
 
@@ -456,6 +472,32 @@ impl History {
             .unwrap_or(self.rows[row as usize].values[column as usize])
     }
 
+    /// The values that commits gave a row and column, in the order of commits; both must be there. "each
+    /// row it inserted gets a value in all columns at s, and each column it set gets its last value at s.
+    /// [..] A column that its row's inserter also set gets one value, the last." So a commit gives one at
+    /// most. A row inserted and deleted in one transaction has none by these words, and here one, which
+    /// nothing shows: no other commit changes that row, and a first value is no crossing.
+    pub fn given(&self, row: u32, column: u32) -> Vec<Given> {
+        let Row { inserter, ref values } = self.rows[row as usize];
+        let set = self.records_of(row);
+        let set = set.filter_map(|record| Some((record.transaction, record.setting(column)?)));
+        let mut by_commit = BTreeMap::new();
+        for (setter, value) in iter::once((inserter, values[column as usize])).chain(set) {
+            if let Some(Commit { stamp, ordinal }) = self.commit_of(setter) {
+                by_commit.insert(ordinal, Given { stamp, value });
+            }
+        }
+        by_commit.into_values().collect()
+    }
+
+    /// Document 02, Item 4: "It lists, oldest first, the stamps between from and to, both counted, at
+    /// which a committed value lies on the other side of the mark from the one before it in that row and
+    /// column; a minute with two crossings stands twice. [..] A first value is no crossing." The one
+    /// before it may lie before `from`. Row and column must be there.
+    pub fn crossings(&self, row: u32, column: u32, mark: i32, from: u32, to: u32) -> Vec<u32> {
+        listed(&self.given(row, column), |value| value >= mark, from, to)
+    }
+
     fn committed(&self, transaction: u32) -> bool {
         self.commit_of(transaction).is_some()
     }
@@ -467,6 +509,14 @@ impl History {
             State::Open | State::Aborted => None,
         }
     }
+}
+
+/// The stamps between `from` and `to` of the values that lie on another side than the one before them:
+/// "At or above is one side, below the other", which `upper` says.
+fn listed(values: &[Given], upper: impl Fn(i32) -> bool, from: u32, to: u32) -> Vec<u32> {
+    let crosses = |pair: &&[Given]| upper(pair[0].value) != upper(pair[1].value);
+    let stamps = values.windows(2).filter(crosses).map(|pair| pair[1].stamp);
+    stamps.filter(|stamp| (from..=to).contains(stamp)).collect()
 }
 
 /// The n of the last of these merges there, else 0.

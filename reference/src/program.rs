@@ -1,4 +1,5 @@
-//! The input and output of gatebook on top of the plain history ("Commands" in document 01).
+//! The input and output of gatebook on top of the plain history ("Commands" in document 01, with the
+//! command of document 02's Item 4).
 
 use std::io::{self, ErrorKind, Read, Write};
 
@@ -9,6 +10,9 @@ use crate::history::History;
 /// "`gatebook` lends memory for 4 columns, 4 ranges, 64 tail records, 16 spares and answers 1
 /// above that."
 pub const LENT: Shape = Shape { columns: 4, ranges: 4, capacity: 64, spares: 16 };
+
+/// Item 4: "`gatebook` lends 16": the places of the slice of stamps.
+pub const LENT_STAMPS: u32 = 16;
 
 /// The bytes of a shape: columns (1), ranges (1), capacity (2), spares (2).
 pub const SHAPE_BYTES: usize = 6;
@@ -38,7 +42,7 @@ pub fn start(input: &mut impl Read, output: &mut impl Write) -> io::Result<Optio
 }
 
 /// Reads one command and writes its line; whether the program goes on. "It goes on after 2 to 18
-/// and ends after the others."
+/// and ends after the others"; Item 4: it "goes on after 21", so after every answer of a call.
 pub fn turn(
     history: &mut History,
     input: &mut impl Read,
@@ -85,7 +89,7 @@ fn within_lent(shape: &Shape) -> bool {
 }
 
 /// "ok" and the answer's fields in decimal ("none" for none), or "no" and the number. Document 02,
-/// Item 1: "The printed lines gain this number after the value".
+/// Item 1: "The printed lines gain this number after the value"; Item 4: it "prints count and stamps".
 pub fn fields_of(answer: &Answer) -> String {
     match answer {
         Answer::Refused(number) => format!("no {number}"),
@@ -96,7 +100,17 @@ pub fn fields_of(answer: &Answer) -> String {
         Answer::Value(value) => format!("ok {value}"),
         Answer::Sum { count, sum } => format!("ok {count} {sum}"),
         Answer::Lineage { through, used } => format!("ok {through} {used}"),
+        Answer::Crossings(stamps) => format!("ok {}", count_and_stamps(stamps)),
     }
+}
+
+/// The count of some stamps, and the stamps, with blanks between.
+pub fn count_and_stamps(stamps: &[u32]) -> String {
+    let mut words = stamps.len().to_string();
+    for stamp in stamps {
+        words += &format!(" {stamp}");
+    }
+    words
 }
 
 /// Reads until the buffer is full or the input ends; answers the bytes read.

@@ -28,14 +28,15 @@ merge RANGE COLUMN THROUGH
 release
 page-cell COLUMN ROW
 lineage RANGE COLUMN
+crossings ROW COLUMN MARK FROM TO
 byte HH..                            raw bytes, two hexadecimal digits each
 
 T is a transaction number. Numbers are decimal; MASK may also be written 0b0101 or 0x5, and the
 word mask may be left out. # starts a comment; blank lines are ignored.
 ";
 
-/// The names of the commands 01 to 11 (hexadecimal), in order.
-pub const NAMES: [&str; 17] = [
+/// The names of the commands 01 to 12 (hexadecimal), in order.
+pub const NAMES: [&str; 18] = [
     "begin",
     "insert",
     "update",
@@ -53,6 +54,7 @@ pub const NAMES: [&str; 17] = [
     "release",
     "page-cell",
     "lineage",
+    "crossings",
 ];
 
 /// Raw bytes on one decoded line.

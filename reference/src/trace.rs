@@ -8,13 +8,15 @@
 //!        | "own-read" T row column | "open-scan" stamp | "scan-read" scan row column
 //!        | "sum" scan column | "close" scan | "merge" range column through | "release"
 //!        | "page-cell" column row | "lineage" range column
+//!        | "crossings" row column mark from to places
 //! answer = "refused" number | "done" | "number" number | "version" value stamp | "none"
-//!        | "value" value | "sum" count sum | "lineage" through used
+//!        | "value" value | "sum" count sum | "lineage" through used | "crossings" count stamp*
 //! ```
 //!
 //! "version" and "none" answer the four single-cell reads, "value" a page cell.
-//! All numbers are decimal; values and sums may have a minus sign. `value*` is one value for each
-//! column. Every number fits the width that the command bytes give it.
+//! All numbers are decimal; values, sums and marks may have a minus sign. `value*` is one value for each
+//! column, `stamp*` as many stamps as the count says. `places` is the length of the lent slice that these
+//! go to. Every other number fits the width that the command bytes give it.
 
 use std::io::{self, Write};
 
@@ -22,6 +24,7 @@ use crate::call::{Answer, Call};
 use crate::command;
 use crate::generate;
 use crate::history::History;
+use crate::program::count_and_stamps;
 use crate::text::NAMES;
 
 /// Writes the run of a seed with so many calls.
@@ -46,6 +49,9 @@ pub fn call_words(call: &Call) -> String {
     for number in numbers {
         words += &format!(" {number}");
     }
+    if let Call::Crossings { places, .. } = call {
+        words += &format!(" {places}");
+    }
     words
 }
 
@@ -59,5 +65,6 @@ pub fn answer_words(answer: &Answer) -> String {
         Answer::Value(value) => format!("value {value}"),
         Answer::Sum { count, sum } => format!("sum {count} {sum}"),
         Answer::Lineage { through, used } => format!("lineage {through} {used}"),
+        Answer::Crossings(stamps) => format!("crossings {}", count_and_stamps(stamps)),
     }
 }

@@ -45,7 +45,7 @@ fn any_measure_above_what_is_lent_or_outside_the_limits_is_1() {
 #[test]
 fn an_unknown_byte_is_printed_in_capitals_and_ends_the_run() {
     // A3, A5.
-    for byte in (0..=255u8).filter(|byte| !(0x01..=0x11).contains(byte)) {
+    for byte in (0..=255u8).filter(|byte| !command::COMMANDS.contains(byte)) {
         let input = [1, 1, 1, 0, 0, 0, byte, 1, 1];
         assert_eq!(output(&input), ["shape ok".to_string(), format!("{byte:02X} no 19")]);
     }
@@ -55,7 +55,7 @@ fn an_unknown_byte_is_printed_in_capitals_and_ends_the_run() {
 fn every_command_cut_at_every_place_is_20_and_does_nothing() {
     // A4, A7: the widths follow this shape's columns, and cut comes before every other refusal.
     for columns in 1..=4u8 {
-        for byte in 0x01..=0x11 {
+        for byte in command::COMMANDS {
             let width = command::width(&command::operands(byte, columns.into()).unwrap());
             let mut input = vec![columns, 1, 4, 0, 1, 0, byte];
             for cut in 0..width {
@@ -73,10 +73,25 @@ fn every_command_cut_at_every_place_is_20_and_does_nothing() {
 }
 
 #[test]
-fn operand_widths_are_those_of_document_01() {
-    let widths: Vec<usize> =
-        (0x01..=0x11).map(|byte| command::width(&command::operands(byte, 2).unwrap())).collect();
-    assert_eq!(widths, [0, 10, 14, 4, 6, 2, 3, 7, 5, 4, 5, 3, 2, 4, 0, 3, 2]);
+fn operand_widths_are_those_of_the_documents() {
+    let width = |byte| command::width(&command::operands(byte, 2).unwrap());
+    let widths: Vec<usize> = command::COMMANDS.map(width).collect();
+    // Document 02, Item 4: "row, column (1 byte), mark (4, signed), from and to (stamps)".
+    assert_eq!(widths, [0, 10, 14, 4, 6, 2, 3, 7, 5, 4, 5, 3, 2, 4, 0, 3, 2, 15]);
+    assert_eq!(command::COMMANDS, 0x01..=0x12);
+}
+
+#[test]
+fn the_program_goes_on_after_21() {
+    // Document 02, Item 4: it "lends 16, prints count and stamps and goes on after 21".
+    let mut script = "shape 1 1 20 0\nbegin\ninsert 1 0\ncommit 1 0\n".to_string();
+    for swing in 0..17 {
+        let (transaction, value) = (swing + 2, if swing % 2 == 0 { 1 } else { 0 });
+        script +=
+            &format!("begin\nupdate {transaction} 0 mask 1 {value}\ncommit {transaction} 7\n");
+    }
+    let lines = lines(&(script + "crossings 0 0 1 0 7\ncrossings 0 0 2 0 7\nrelease"));
+    assert_eq!(lines[lines.len() - 3..], ["12 no 21", "12 ok 0", "0F ok 0"]);
 }
 
 #[test]

@@ -8,6 +8,7 @@ use std::path::Path;
 use std::sync::OnceLock;
 
 use common::{output, IN_MINUTE, SITUATIONS};
+use reference::history::InCrossings;
 use reference::pack::{self, Digest, Kind, Record};
 use reference::survey::Survey;
 use reference::{command, generate};
@@ -61,8 +62,9 @@ fn a_pack_gives_what_its_streams_give_one_by_one() {
     }
 }
 
-/// The refusals of document 01 ("Tests run in this order") that a stream can reach: all but 2.
-const REFUSALS: [(u8, &[u8]); 17] = [
+/// The refusals of document 01 ("Tests run in this order") that a stream can reach: all but 2; and of
+/// document 02's Item 4.
+const REFUSALS: [(u8, &[u8]); 18] = [
     (0x01, &[14, 15]),
     (0x02, &[3, 11]),
     (0x03, &[3, 5, 8, 9, 10, 12]),
@@ -80,6 +82,7 @@ const REFUSALS: [(u8, &[u8]); 17] = [
     (0x0F, &[]),
     (0x10, &[5, 6]),
     (0x11, &[6, 7]),
+    (0x12, &[5, 6, 13, 21]),
 ];
 
 #[test]
@@ -112,7 +115,7 @@ fn is_answer(line: &str) -> bool {
 fn every_command_is_cut_at_every_place() {
     let titles: BTreeSet<String> = streams(all()).into_iter().map(|(title, _)| title).collect();
     for columns in 1..=4usize {
-        for byte in 0x01..=0x11u8 {
+        for byte in command::COMMANDS {
             let width = command::width(&command::operands(byte, columns).unwrap());
             for cut in 1..=width {
                 let title = format!("{byte:02X} of {columns} columns cut after {cut}");
@@ -148,7 +151,7 @@ fn there_are_random_streams_of_every_workload() {
 }
 
 #[test]
-fn streams_by_hand_meet_every_situation_of_a_read_by_every_command_that_can() {
+fn streams_by_hand_meet_every_situation_by_every_command_that_can() {
     let mut survey = Survey::default();
     for (title, records) in streams(&pack::short()) {
         if !title.starts_with("random ") {
@@ -166,6 +169,17 @@ fn streams_by_hand_meet_every_situation_of_a_read_by_every_command_that_can() {
             assert!(survey.met_in_minute(situation, *byte) > 0, "{situation:?} by {byte:02X}");
         }
     }
+    for situation in InCrossings::ALL {
+        assert!(survey.met_in_crossings(situation).0 > 0, "{situation:?}");
+    }
+}
+
+/// The longest line of all: as many stamps as are lent places, each of ten digits.
+#[test]
+fn a_slice_full_of_the_longest_stamps_is_printed() {
+    let full = |line: &&String| line.starts_with("12 ok 16 ");
+    let longest = lines().iter().filter(full).map(|line| line.len()).max();
+    assert_eq!(longest, Some("12 ok 16".len() + 16 * " 4294967295".len()));
 }
 
 #[test]

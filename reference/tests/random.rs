@@ -10,19 +10,19 @@ use std::collections::{BTreeMap, HashMap};
 
 use common::{IN_MINUTE, SITUATIONS};
 use pages::Pages;
-use reference::history::{InMinute, Situation, OPEN_SCANS};
+use reference::history::{InCrossings, InMinute, Situation, OPEN_SCANS};
 use reference::survey::{CommitStamp, Survey};
 use reference::{command, generate, trace, Answer, Call, History, Shape};
 use versions::Versions;
 
 /// Random lists with their shapes: small ones, and some with rows in several ranges.
 fn lists() -> impl Iterator<Item = (Shape, Vec<Call>)> {
-    (0..360).map(|seed| {
+    (0..504).map(|seed| {
         let shape = match seed % 3 {
             0 => Shape { columns: 2, ranges: 3, capacity: 20, spares: 2 },
             _ => generate::shape(seed),
         };
-        (shape, generate::calls(seed, shape, 220))
+        (shape, generate::calls(seed, shape, 240))
     })
 }
 
@@ -59,6 +59,52 @@ fn reads_agree_with_versions_kept_by_stamp() {
 }
 
 #[test]
+fn crossings_agree_with_versions_kept_by_stamp() {
+    // Lists of one and of several stamps, and those that outnumber their places.
+    let (mut single, mut several, mut refused) = (0, 0, 0);
+    for (shape, calls) in lists() {
+        let mut history = History::new(shape);
+        let mut versions = Versions::default();
+        for call in &calls {
+            let answer = history.call(call);
+            if let Call::Crossings { row, column, mark, from, to, places } = *call {
+                let all = versions.crossings(row, column, mark, from, to);
+                match &answer {
+                    Answer::Crossings(stamps) => {
+                        assert_eq!(*stamps, all, "{call:?}");
+                        assert!(all.len() <= places as usize, "{call:?}");
+                        single += u32::from(all.len() == 1);
+                        several += u32::from(all.len() > 1);
+                    }
+                    Answer::Refused(21) => {
+                        assert!(all.len() > places as usize, "{call:?}");
+                        refused += 1;
+                    }
+                    answer => assert!(answer.is_refused(), "{call:?}"),
+                }
+            }
+            if !answer.is_refused() {
+                versions.call(call, &answer);
+            }
+        }
+        // At the end, every cell by a few marks, in all minutes and in some.
+        let last = history.last_stamp();
+        for (from, to) in [(0, last), (last / 2, last), (0, last / 2), (last, last)] {
+            for row in 0..history.rows_given() {
+                for mark in [i32::MIN, 0, 1000, i32::MAX] {
+                    let call = Call::Crossings { row, column: 0, mark, from, to, places: 512 };
+                    let all = versions.crossings(row, 0, mark, from, to);
+                    assert_eq!(history.call(&call), Answer::Crossings(all));
+                }
+            }
+        }
+    }
+    for (count, least) in [(single, 300), (several, 300), (refused, 100)] {
+        assert!(count >= least, "{single}, {several}, {refused}");
+    }
+}
+
+#[test]
 fn page_calls_agree_with_pages_that_are_really_copied() {
     let mut merges = 0;
     for (shape, calls) in lists() {
@@ -80,7 +126,7 @@ fn page_calls_agree_with_pages_that_are_really_copied() {
             for column in 0..shape.columns {
                 let call = Call::PageCell { column, row };
                 let answer = history.call(&call);
-                assert_eq!(Some(answer), pages.call(&call, &answer));
+                assert_eq!(pages.call(&call, &answer), Some(answer));
             }
         }
     }
@@ -159,7 +205,8 @@ fn what_was_read_for_a_minute_before_the_last_commits_is_read_ever_after() {
                 }
                 _ => continue,
             };
-            assert_eq!(*seen.entry((stamp, row, column)).or_insert(answer), answer, "{call:?}");
+            let first = seen.entry((stamp, row, column)).or_insert(answer.clone());
+            assert_eq!(*first, answer, "{call:?}");
             reads += u32::from(history.call(&Call::Latest { row, column }) != answer);
         }
         for ((stamp, row, column), answer) in seen {
@@ -272,6 +319,39 @@ fn an_open_scan_is_read_and_summed_the_same_until_it_is_closed() {
     }
 }
 
+/// Item 3: "a reader may rely on an unchanging answer, refusals aside, for minutes before the last
+/// commit's". So every list of crossings of minutes that are over is the same ever after, whatever is
+/// called between.
+#[test]
+fn crossings_of_minutes_before_the_last_commits_are_listed_the_same_ever_after() {
+    // How many lists there were; how many of them held crossings; how many of these cells have crossed
+    // the mark since, which another range of minutes shows.
+    let (mut lists_seen, mut held, mut since) = (0, 0, 0);
+    for (shape, calls) in lists() {
+        let mut history = History::new(shape);
+        let mut seen: Vec<(Call, Answer)> = Vec::new();
+        for call in &calls {
+            let answer = history.call(call);
+            let Call::Crossings { to, .. } = *call else { continue };
+            if to < history.last_stamp() && !answer.is_refused() {
+                seen.push((call.clone(), answer));
+            }
+        }
+        for (call, answer) in seen {
+            assert_eq!(history.call(&call), answer, "{call:?}");
+            let Call::Crossings { row, column, mark, from, .. } = call else { unreachable!() };
+            let (to, places) = (history.last_stamp(), 512);
+            let now = Call::Crossings { row, column, mark, from, to, places };
+            lists_seen += 1;
+            held += u32::from(answer != Answer::Crossings(Vec::new()));
+            since += u32::from(history.call(&now) != answer);
+        }
+    }
+    for (count, least) in [(lists_seen, 800), (held, 200), (since, 200)] {
+        assert!(count >= least, "{lists_seen}, {held}, {since}");
+    }
+}
+
 #[test]
 fn refused_calls_and_reads_alter_no_list() {
     for (shape, calls) in lists().step_by(6) {
@@ -280,7 +360,8 @@ fn refused_calls_and_reads_alter_no_list() {
             let before = history.clone();
             let answer = history.call(call);
             assert_eq!(before.refusal(call).is_some(), answer.is_refused());
-            let read = matches!(command::parts(call).0, 0x07..=0x09 | 0x0B | 0x0C | 0x10 | 0x11);
+            let byte = command::parts(call).0;
+            let read = matches!(byte, 0x07..=0x09 | 0x0B | 0x0C | 0x10..=0x12);
             if read || answer.is_refused() {
                 assert_eq!(history, before, "{call:?}");
             }
@@ -292,7 +373,7 @@ fn refused_calls_and_reads_alter_no_list() {
 fn streams_meet_every_refusal_but_2_and_accept_most_calls() {
     // So many seeds that a shape outside the limits, the rarest, is among them.
     let survey = Survey::of(0, 240);
-    for number in (1..=20).filter(|number| *number != 2) {
+    for number in (1..=21).filter(|number| *number != 2) {
         assert!(survey.refused(number) > 0, "no refusal {number}");
     }
     assert_eq!(survey.refused(2), 0);
@@ -343,7 +424,7 @@ fn situations_are_those_of_accepted_reads_and_fit_the_answers() {
 fn streams_meet_every_situation_of_a_read_by_every_command_that_can() {
     let survey = Survey::of(0, 480);
     for (situation, commands) in SITUATIONS {
-        for byte in 0x01..=0x11 {
+        for byte in command::COMMANDS {
             let met = survey.met(situation, byte);
             let expected = if commands.contains(&byte) { met >= 20 } else { met == 0 };
             assert!(expected, "{situation:?} by {byte:02X}: {met}");
@@ -401,11 +482,78 @@ fn situations_in_a_minute_are_those_of_accepted_reads_and_fit_the_answers() {
 fn streams_meet_every_situation_in_a_minute_by_every_command_that_can() {
     let survey = Survey::of(0, 480);
     for (situation, commands) in IN_MINUTE {
-        for byte in 0x01..=0x11 {
+        for byte in command::COMMANDS {
             let met = survey.met_in_minute(situation, byte);
             let expected = if commands.contains(&byte) { met >= 20 } else { met == 0 };
             assert!(expected, "{situation:?} by {byte:02X}: {met}");
         }
+    }
+}
+
+#[test]
+fn situations_of_crossings_are_those_of_the_call_and_fit_the_answers() {
+    let mut slices = 0;
+    for (shape, calls) in lists() {
+        let mut history = History::new(shape);
+        for call in &calls {
+            let found = history.in_crossings(call);
+            let is = |situation| found.contains(&situation);
+            let answer = history.call(call);
+            let Call::Crossings { from, to, places, .. } = *call else {
+                assert_eq!(found, [], "{call:?}");
+                continue;
+            };
+            let too_many = is(InCrossings::OneTooMany) || is(InCrossings::ManyTooMany);
+            match answer {
+                Answer::Crossings(stamps) => {
+                    slices += 1;
+                    let twice = stamps.windows(2).any(|pair| pair[0] == pair[1]);
+                    let fits = !stamps.is_empty() && stamps.len() == places as usize;
+                    assert!(!too_many, "{call:?}");
+                    assert_eq!(is(InCrossings::Nothing), stamps.is_empty(), "{call:?}");
+                    assert_eq!(is(InCrossings::AtFrom), stamps.contains(&from), "{call:?}");
+                    assert_eq!(is(InCrossings::AtTo), stamps.contains(&to), "{call:?}");
+                    assert_eq!(is(InCrossings::Twice), twice, "{call:?}");
+                    assert_eq!(is(InCrossings::ExactFit), fits, "{call:?}");
+                    assert!(stamps.windows(2).all(|pair| pair[0] <= pair[1]), "{call:?}");
+                    assert!(stamps.iter().all(|stamp| (from..=to).contains(stamp)), "{call:?}");
+                }
+                Answer::Refused(21) => assert!(too_many, "{call:?}"),
+                Answer::Refused(13) => {
+                    let late = [InCrossings::ToLater];
+                    let none = [InCrossings::FromAfterTo];
+                    assert_eq!(found, if from > to { none } else { late }, "{call:?}");
+                }
+                Answer::Refused(5 | 6) => assert_eq!(found, [], "{call:?}"),
+                answer => panic!("{call:?}: {answer:?}"),
+            }
+        }
+    }
+    assert!(slices > 2_000, "{slices}");
+}
+
+#[test]
+fn streams_meet_every_situation_of_crossings() {
+    // Only a stream in which a cell is set again and again has as many crossings as gatebook lends
+    // places for, so more are looked through.
+    let survey = Survey::of(0, 960);
+    for situation in InCrossings::ALL {
+        let (calls, streams) = survey.met_in_crossings(situation);
+        assert!(calls >= 20 && streams >= 12, "{situation:?}: {calls} in {streams} streams");
+    }
+}
+
+#[test]
+fn streams_of_every_workload_list_crossings() {
+    for workload in 0..generate::WORKLOADS {
+        let seeds = (workload..).step_by(generate::WORKLOADS as usize);
+        let mut survey = Survey::default();
+        for seed in seeds.filter(|seed| !generate::is_long(*seed)).take(60) {
+            survey.run(&generate::stream(seed), false);
+        }
+        let (first, _) = survey.met_in_crossings(InCrossings::FirstValue);
+        let (crossed, _) = survey.met_in_crossings(InCrossings::AtTo);
+        assert!(first >= 60 && crossed >= 5, "{first}, {crossed} in workload {workload}");
     }
 }
 
@@ -508,6 +656,12 @@ fn a_trace_has_the_documented_form() {
         // The calls of a trace can be encoded, and give the answers that the trace has.
         let calls: Vec<&str> =
             text.lines().map(|line| line.split(" => ").next().unwrap()).collect();
+        // But for the places that are lent, which are no operand.
+        let operands = |call: &&str| match call.strip_prefix("crossings ") {
+            Some(words) => format!("crossings {}", words.rsplit_once(' ').unwrap().0),
+            None => call.to_string(),
+        };
+        let calls: Vec<String> = calls.iter().map(operands).collect();
         let bytes = reference::text::encode(&calls.join("\n")).unwrap();
         assert_eq!(reference::text::decode(&bytes).replace(" mask", ""), calls.join("\n") + "\n");
     }
@@ -517,4 +671,8 @@ fn a_trace_has_the_documented_form() {
     let version = Answer::Version { value: -30, stamp: 10 };
     assert_eq!(trace::answer_words(&version), "version -30 10");
     assert_eq!(trace::answer_words(&Answer::Value(-30)), "value -30");
+    let crossings = Call::Crossings { row: 1, column: 0, mark: -7, from: 2, to: 9, places: 3 };
+    assert_eq!(trace::call_words(&crossings), "crossings 1 0 -7 2 9 3");
+    assert_eq!(trace::answer_words(&Answer::Crossings(vec![])), "crossings 0");
+    assert_eq!(trace::answer_words(&Answer::Crossings(vec![4, 4])), "crossings 2 4 4");
 }

@@ -1,9 +1,10 @@
 //! One test for each reading of document 01 that an input can tell apart, with the reading's
-//! letter, and of document 02's Items 1 to 3. Those of section A are in `input`, and B1 and B2 also
+//! letter, and of document 02's Items 1 to 4. Those of section A are in `input`, and B1 and B2 also
 //! there for exhausted series.
 
 mod common;
-use common::script;
+use common::{calls, script};
+use reference::{program, text, Answer, Call, History};
 
 /// Two columns; row 0 inserted with 5 and 50 and committed at 10.
 fn one_row(capacity: u32, spares: u32, rest: &str) {
@@ -1849,5 +1850,397 @@ fn a_value_committed_at_0_has_the_stamp_0_as_a_pending_one_has() {
          commit 3 7
          latest 0 0 => ok 6 0
          read-at 0 0 1 => ok 50 0",
+    );
+}
+
+// Document 02, Item 4: "the stamps between from and to, both counted, at which a committed value lies on
+// the other side of the mark from the one before it in that row and column".
+
+#[test]
+fn a_first_value_is_no_crossing() {
+    // On whatever side it lies, also at `from`, and of a column that no update has set.
+    one_row(
+        9,
+        0,
+        "crossings 0 0 5 0 10 => ok 0
+         crossings 0 0 6 0 10 => ok 0
+         crossings 0 0 5 10 10 => ok 0
+         begin
+         update 2 0 mask 1 5 0
+         commit 2 20
+         crossings 0 0 5 0 20 => ok 0
+         crossings 0 0 6 0 20 => ok 0
+         crossings 0 1 50 0 20 => ok 0
+         crossings 0 1 51 0 20 => ok 0",
+    );
+}
+
+#[test]
+fn both_ends_of_the_minutes_are_counted() {
+    one_row(
+        9,
+        0,
+        "begin
+         update 2 0 mask 1 9 0
+         commit 2 20
+         begin
+         update 3 0 mask 1 4 0
+         commit 3 30
+         crossings 0 0 7 0 30 => ok 2 20 30
+         crossings 0 0 7 20 30 => ok 2 20 30
+         crossings 0 0 7 21 30 => ok 1 30
+         crossings 0 0 7 20 29 => ok 1 20
+         crossings 0 0 7 21 29 => ok 0
+         crossings 0 0 7 20 20 => ok 1 20
+         crossings 0 0 7 30 30 => ok 1 30
+         crossings 0 0 7 0 19 => ok 0",
+    );
+}
+
+#[test]
+fn the_value_before_may_lie_before_from() {
+    // The inserted one, and one that was set.
+    one_row(
+        9,
+        0,
+        "begin
+         update 2 0 mask 1 9 0
+         commit 2 20
+         crossings 0 0 7 11 20 => ok 1 20
+         begin
+         update 3 0 mask 1 8 0
+         commit 3 30
+         crossings 0 0 7 21 30 => ok 0
+         begin
+         update 4 0 mask 1 4 0
+         commit 4 40
+         crossings 0 0 7 31 40 => ok 1 40
+         crossings 0 0 7 40 40 => ok 1 40",
+    );
+}
+
+#[test]
+fn a_value_equal_to_the_mark_is_at_or_above_it() {
+    // The least mark has nothing below it.
+    script(
+        "shape 1 1 9 0
+         begin
+         insert 1 5
+         commit 1 10
+         begin
+         update 2 0 mask 1 6
+         commit 2 20
+         begin
+         update 3 0 mask 1 -2147483648
+         commit 3 30
+         begin
+         update 4 0 mask 1 2147483647
+         commit 4 40
+         crossings 0 0 5 0 40 => ok 2 30 40
+         crossings 0 0 6 0 40 => ok 3 20 30 40
+         crossings 0 0 7 0 40 => ok 1 40
+         crossings 0 0 2147483647 0 40 => ok 1 40
+         crossings 0 0 -2147483647 0 40 => ok 2 30 40
+         crossings 0 0 -2147483648 0 40 => ok 0",
+    );
+}
+
+#[test]
+fn a_minute_with_two_crossings_stands_twice() {
+    // Also where its last value lies on the side of the one before it.
+    one_row(
+        9,
+        0,
+        "begin
+         update 2 0 mask 1 9 0
+         commit 2 20
+         begin
+         update 3 0 mask 1 4 0
+         commit 3 20
+         read-at 20 0 0 => ok 4 20
+         crossings 0 0 7 0 20 => ok 2 20 20
+         crossings 0 0 7 20 20 => ok 2 20 20
+         begin
+         update 4 0 mask 1 8 0
+         commit 4 20
+         begin
+         update 5 0 mask 1 3 0
+         commit 5 30
+         crossings 0 0 7 0 30 => ok 4 20 20 20 30
+         crossings 0 0 7 21 30 => ok 1 30",
+    );
+}
+
+#[test]
+fn values_are_compared_in_the_order_of_commits() {
+    // One value for each transaction. Transaction 4 commits before 2, which commits before 1; their
+    // values in the order of begins would cross at 30.
+    script(
+        "shape 1 1 9 0
+         begin
+         begin
+         begin
+         insert 3 5
+         commit 3 10
+         begin
+         update 4 0 mask 1 9
+         commit 4 20
+         update 2 0 mask 1 8
+         commit 2 30
+         update 1 0 mask 1 4
+         commit 1 40
+         crossings 0 0 7 0 40 => ok 2 20 40",
+    );
+}
+
+#[test]
+fn a_setting_that_its_transaction_replaced_is_no_value() {
+    // There and back in one transaction crosses nothing, and the last of several crosses once.
+    one_row(
+        16,
+        0,
+        "begin
+         update 2 0 mask 1 9 0
+         update 2 0 mask 1 4 0
+         commit 2 20
+         crossings 0 0 7 0 20 => ok 0
+         begin
+         update 3 0 mask 1 9 0
+         update 3 0 mask 1 3 0
+         update 3 0 mask 3 8 80
+         commit 3 30
+         crossings 0 0 7 0 30 => ok 1 30
+         crossings 0 1 60 0 30 => ok 1 30",
+    );
+}
+
+#[test]
+fn the_inserters_own_setting_takes_the_inserted_values_place() {
+    // Column 0 is first 9, column 1 first 5, both at 10.
+    script(
+        "shape 2 1 9 0
+         begin
+         insert 1 5 5
+         update 1 0 mask 1 9 0
+         commit 1 10
+         crossings 0 0 7 0 10 => ok 0
+         begin
+         update 2 0 mask 3 8 8
+         commit 2 20
+         crossings 0 0 7 0 20 => ok 0
+         crossings 0 1 7 0 20 => ok 1 20
+         crossings 0 0 9 0 20 => ok 1 20",
+    );
+}
+
+#[test]
+fn aborted_and_pending_settings_are_no_values() {
+    // Neither the first update of the column, whose original stays, nor a later one.
+    one_row(
+        16,
+        0,
+        "begin
+         update 2 0 mask 1 9 0
+         crossings 0 0 7 0 10 => ok 0
+         abort 2
+         crossings 0 0 7 0 10 => ok 0
+         begin
+         update 3 0 mask 1 4 0
+         commit 3 20
+         crossings 0 0 7 0 20 => ok 0
+         begin
+         update 4 0 mask 1 9 0
+         abort 4
+         begin
+         update 5 0 mask 1 8 0
+         crossings 0 0 7 0 20 => ok 0
+         commit 5 30
+         crossings 0 0 7 0 30 => ok 1 30
+         crossings 0 0 5 0 30 => ok 2 20 30",
+    );
+}
+
+#[test]
+fn a_row_that_is_not_committed_has_no_crossings() {
+    // Its insert open, aborted, or deleted by its own transaction; the call is accepted.
+    script(
+        "shape 1 1 9 0
+         begin
+         insert 1 5
+         update 1 0 mask 1 9
+         crossings 0 0 7 0 0 => ok 0
+         begin
+         insert 2 5
+         update 2 1 mask 1 9
+         abort 2
+         crossings 1 0 7 0 0 => ok 0
+         begin
+         insert 3 5
+         update 3 2 mask 1 9
+         delete 3 2
+         commit 3 10
+         crossings 2 0 7 0 10 => ok 0
+         crossings 0 0 7 0 10 => ok 0
+         commit 1 20
+         crossings 0 0 7 0 20 => ok 0",
+    );
+}
+
+#[test]
+fn an_end_is_no_crossing_and_those_before_it_stay() {
+    one_row(
+        9,
+        0,
+        "begin
+         update 2 0 mask 1 9 0
+         commit 2 20
+         begin
+         delete 3 0
+         crossings 0 0 7 0 20 => ok 1 20
+         commit 3 30
+         latest 0 0 => ok none
+         crossings 0 0 7 0 30 => ok 1 20
+         crossings 0 0 7 30 30 => ok 0",
+    );
+}
+
+#[test]
+fn a_value_set_and_ended_by_one_commit_is_a_committed_value() {
+    // Though no read ever gives it.
+    one_row(
+        9,
+        0,
+        "begin
+         update 2 0 mask 1 9 0
+         delete 2 0
+         commit 2 20
+         read-at 20 0 0 => ok none
+         crossings 0 0 7 0 20 => ok 1 20",
+    );
+}
+
+#[test]
+fn crossings_test_row_then_column_then_minutes() {
+    one_row(
+        9,
+        0,
+        "crossings 9 9 0 11 10 => no 5
+         crossings 0 9 0 11 10 => no 6
+         crossings 0 0 0 11 10 => no 13
+         crossings 0 0 0 10 9 => no 13
+         crossings 0 0 0 0 11 => no 13
+         crossings 0 0 0 11 11 => no 13
+         crossings 0 0 0 10 10 => ok 0
+         crossings 0 0 0 0 10 => ok 0",
+    );
+}
+
+#[test]
+fn in_a_new_store_the_minutes_from_0_to_0_are_accepted() {
+    script(
+        "shape 1 1 9 0
+         crossings 0 0 0 0 0 => no 5
+         begin
+         insert 1 5
+         crossings 0 0 0 0 0 => ok 0
+         crossings 0 0 0 0 1 => no 13
+         crossings 0 0 0 1 0 => no 13
+         commit 1 0
+         begin
+         update 2 0 mask 1 -5
+         commit 2 0
+         crossings 0 0 0 0 0 => ok 1 0",
+    );
+}
+
+/// Row 0 is inserted with 5 at 100 and set by so many commits after it, one a minute, to 9 and 5 in turn.
+fn swings(count: u32) -> String {
+    let mut lines = "shape 1 1 64 1\nbegin\ninsert 1 5\ncommit 1 100\n".to_string();
+    for swing in 1..=count {
+        let (transaction, value) = (swing + 1, if swing % 2 == 1 { 9 } else { 5 });
+        lines += &format!("begin\nupdate {transaction} 0 mask 1 {value}\n");
+        lines += &format!("commit {transaction} {}\n", 100 + swing);
+    }
+    lines
+}
+
+#[test]
+fn sixteen_crossings_are_listed_and_seventeen_refused() {
+    // Those between from and to count; the program goes on after 21.
+    let first: Vec<String> = (101..=116).map(|stamp: u32| stamp.to_string()).collect();
+    let last: Vec<String> = (102..=117).map(|stamp: u32| stamp.to_string()).collect();
+    script(&format!(
+        "{}crossings 0 0 7 0 117 => no 21
+         crossings 0 0 7 101 117 => no 21
+         crossings 0 0 7 0 116 => ok 16 {}
+         crossings 0 0 7 102 117 => ok 16 {}
+         crossings 0 0 10 0 117 => ok 0
+         crossings 0 1 7 0 117 => no 6
+         crossings 0 0 7 0 118 => no 13
+         latest 0 0 => ok 9 117",
+        swings(17),
+        first.join(" "),
+        last.join(" ")
+    ));
+}
+
+#[test]
+fn the_crossings_may_be_as_many_as_the_places_lent() {
+    let bytes = text::encode(&swings(3)).unwrap();
+    let mut history = History::new(program::shape(bytes[..6].try_into().unwrap()));
+    for call in calls(&bytes) {
+        history.call(&call);
+    }
+    let mut lent = |from, to, places| {
+        history.call(&Call::Crossings { row: 0, column: 0, mark: 7, from, to, places })
+    };
+    for places in [3, 4, 16, u32::MAX] {
+        assert_eq!(lent(0, 103, places), Answer::Crossings(vec![101, 102, 103]));
+    }
+    for places in [0, 1, 2] {
+        assert_eq!(lent(0, 103, places), Answer::Refused(21));
+    }
+    assert_eq!(lent(102, 102, 1), Answer::Crossings(vec![102]));
+    assert_eq!(lent(102, 102, 0), Answer::Refused(21));
+    assert_eq!(lent(0, 100, 0), Answer::Crossings(vec![]));
+    assert_eq!(lent(0, 104, 0), Answer::Refused(13));
+}
+
+#[test]
+fn merges_and_releases_change_no_crossings() {
+    script(&format!(
+        "{}crossings 0 0 7 0 104 => ok 4 101 102 103 104
+         merge 0 0 3
+         crossings 0 0 7 0 104 => ok 4 101 102 103 104
+         release
+         merge 0 0 5
+         crossings 0 0 7 0 104 => ok 4 101 102 103 104
+         crossings 0 0 7 102 103 => ok 2 102 103
+         release
+         crossings 0 0 7 104 104 => ok 1 104",
+        swings(4)
+    ));
+}
+
+#[test]
+fn crossings_are_those_of_one_row_and_column() {
+    one_row(
+        16,
+        0,
+        "begin
+         insert 2 50 5
+         commit 2 20
+         begin
+         update 3 0 mask 1 50 0
+         update 3 1 mask 2 0 50
+         commit 3 30
+         begin
+         update 4 0 mask 2 0 5
+         update 4 1 mask 1 5 0
+         commit 4 40
+         crossings 0 0 7 0 40 => ok 1 30
+         crossings 0 1 7 0 40 => ok 1 40
+         crossings 1 0 7 0 40 => ok 1 40
+         crossings 1 1 7 0 40 => ok 1 30",
     );
 }

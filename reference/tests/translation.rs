@@ -41,7 +41,8 @@ fn every_line_form_goes_both_ways() {
     let lines = "shape 1 2 300 4\nbegin\ninsert 1 -2147483648\nupdate 1 2 mask 3 2147483647\n\
         delete 1 2\ncommit 1 4294967295\nabort 65535\nlatest 1 255\nread-at 1 2 3\n\
         own-read 1 2 3\nopen-scan 1\nscan-read 1 2 3\nsum 1 2\nclose 1\nmerge 1 2 3\n\
-        release\npage-cell 1 2\nlineage 1 2\nbyte AB CD\n";
+        release\npage-cell 1 2\nlineage 1 2\ncrossings 65535 255 -2147483648 0 4294967295\n\
+        crossings 1 2 2147483647 4294967295 0\nbyte AB CD\n";
     assert_eq!(text::decode(&text::encode(lines).unwrap()), lines);
     for line in lines.lines() {
         let name = line.split(' ').next().unwrap();
@@ -63,6 +64,10 @@ fn errors_name_the_line() {
     assert_eq!(after("latest 65536 0"), "line 4: row 65536 does not fit in 2 bytes");
     assert_eq!(after("latest -1 0"), "line 4: row -1 does not fit in 2 bytes");
     assert_eq!(after("insert 1 2147483648 0"), "line 4: value 2147483648 does not fit in 4 bytes");
+    let mark = "line 4: mark 2147483648 does not fit in 4 bytes";
+    assert_eq!(after("crossings 0 0 2147483648 0 0"), mark);
+    assert_eq!(after("crossings 0 0 0 -1 0"), "line 4: from -1 does not fit in 4 bytes");
+    assert_eq!(after("crossings 0 0 0 0"), "line 4: to is missing");
     assert_eq!(after("abort one"), "line 4: transaction 'one' is not a number");
     assert_eq!(after("byte 1"), "line 4: '1' is not a byte of two hexadecimal digits");
     assert_eq!(after("byte +1"), "line 4: '+1' is not a byte of two hexadecimal digits");

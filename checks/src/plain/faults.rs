@@ -61,3 +61,51 @@ pub const SCAN_FORGETS_STAMP: u8 = 35;
 pub const SCAN_ON_CURRENT_PAGE: u8 = 36;
 /// A commit of a transaction that has changed nothing is not counted.
 pub const EMPTY_COMMIT_NOT_COUNTED: u8 = 37;
+/// A first value is taken for a crossing.
+pub const FIRST_VALUE_CROSSES: u8 = 38;
+/// Of the stamps from one to another the first does not count.
+pub const CROSSING_AT_FROM_LOST: u8 = 39;
+/// The last does not.
+pub const CROSSING_AT_TO_LOST: u8 = 40;
+/// The first value since `from` is compared with none.
+pub const VALUE_BEFORE_FROM_FORGOTTEN: u8 = 41;
+/// As many crossings as places are refused.
+pub const FULL_SLICE_REFUSED: u8 = 42;
+/// Each setting of a transaction is a value.
+pub const REPLACED_SETTING_COUNTS: u8 = 43;
+pub const ABORTED_SETTING_COUNTS: u8 = 44;
+pub const PENDING_SETTING_COUNTS: u8 = 45;
+/// One place behind the list is written.
+pub const STAMP_PAST_THE_COUNT: u8 = 46;
+/// Stamps are written before the crossings are found to outnumber the places.
+pub const STAMPS_THOUGH_REFUSED: u8 = 47;
+/// A value equal to the mark lies below it.
+pub const ABOVE_ALONE: u8 = 48;
+pub const MARK_WITHOUT_SIGN: u8 = 49;
+/// A minute with two crossings is listed once.
+pub const MINUTE_STANDS_ONCE: u8 = 50;
+/// Of the values of a minute the last alone is one.
+pub const LAST_OF_THE_MINUTE_COUNTS: u8 = 51;
+pub const NEWEST_FIRST: u8 = 52;
+/// The inserted value is no value.
+pub const INSERTED_VALUE_FORGOTTEN: u8 = 53;
+/// The inserted value is taken for one of the update that wrote it down.
+pub const ORIGINAL_IS_THE_UPDATERS: u8 = 54;
+/// The inserted value is a value besides the inserter's own setting.
+pub const INSERTER_GIVES_TWO: u8 = 55;
+/// The settings of every column count.
+pub const OTHER_COLUMN_COUNTS: u8 = 56;
+/// Settings that the current page holds do not count.
+pub const MERGED_SETTING_PASSED_OVER: u8 = 57;
+/// Of a row that has ended no crossing is listed.
+pub const ENDED_ROW_HAS_NONE: u8 = 58;
+/// The minutes are tested before row and column.
+pub const MINUTES_TESTED_FIRST: u8 = 59;
+/// Minutes of which the first is later than the last are none, and not refused.
+pub const FROM_AFTER_TO_ACCEPTED: u8 = 60;
+/// Minutes later than the last commit's are not refused.
+pub const LATER_TO_ACCEPTED: u8 = 61;
+/// An original behind a value of its column is passed over, where calls put none.
+pub const LATER_ORIGINAL: u8 = 62;
+/// A value later than `to` is one, though no crossing is listed that is later.
+pub const LATER_VALUE_COUNTS: u8 = 63;

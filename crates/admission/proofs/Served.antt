@@ -2,7 +2,7 @@
 -- reads, or it was lent the needed bytes and wrote them. The premises are stated as the points of a call have them, so that a call's proof names the law and no
 -- point: `search serving`.
 use Prim.Native.Nat.{ℕ, _≤_, _<_}
-use mathlib.Core.Path.{_≡_, ap, sym, _∙_}
+use mathlib.Core.Path.{_≡_, refl, ap, sym, _∙_}
 use mathlib.Core.Bool.{false}
 use mathlib.Core.List.{List, _++_}
 use native.Mathlib.Omega.{arith}
@@ -18,14 +18,14 @@ use Rattle.layout.specs.declared.Sizes.{Sizes}
 use Rattle.layout.specs.Sizes.{Proper}
 use Rattle.layout.specs.View.{View, lay, viewOf, Suffices}
 use Rattle.layout.proofs.Lay.{lay-view, view-part, lent}
-use Rattle.history.specs.History.{Call, accept, refuse, verdict, answerIf}
+use Rattle.history.specs.History.{Call, Verdict, accept, refuse, verdict, answerIf, given, sliceOf, lentTo}
 use Rattle.scans.specs.declared.Scans.{Scans}
 use Rattle.scans.specs.Entries.{openCount}
 use Rattle.scans.specs.Table.{tableOf}
 use Rattle.facts.specs.Usable.{storedShape, storedSizes, usable}
-use Rattle.model.specs.Calls.{testsIn, replyIn, actIn, entriesAfter, say, viewIf, viewNext, entriesIf, entriesNext}
+use Rattle.model.specs.Calls.{testsIn, replyIn, actIn, entriesAfter, say, viewIf, viewNext, entriesIf, entriesNext, stampsNext}
 use Rattle.model.specs.Preconditions.{shapeIn, Linked, Pooled, OpenAt}
-use Rattle.promise.specs.Promise.{storeView, answerOf, memoryAfter, listAfter, Serves, ServesBy, kept, lend}
+use Rattle.promise.specs.Promise.{storeView, answerOf, memoryAfter, listAfter, stampsLeft, Serves, ServesBy, Gives, GivesBy, kept, lend}
 use Rattle.admission.specs.declared.Admission.{Admission}
 use Rattle.admission.specs.declared.Tested.{Tested}
 use Rattle.admission.specs.Admitted.{Fitted, PassedWith, Admitted, Admits}
@@ -95,7 +95,24 @@ pub unfit-serves : (e : Admission) (m : List ℕ) (t : Scans) (c : Call) → e �
 unfolding ServesBy Serves answerOf memoryAfter listAfter
 unfit-serves e m t c f h = λ ps q. let u : usable m ps ≡ false = (rw f at h) ps q in (rw u, rw u, rw u)
 
+-- and a slice that was lent is as it was
+pub unfit-gives : (e : Admission) (m : List ℕ) (t : Scans) (c : Call) → e ≡ Admission.Unfit → Admits e m t
+    → GivesBy t m c (given (Answer.Refused Refusal.Memory) (lentTo (sliceOf c))) m kept
+unfolding GivesBy Gives ServesBy stampsLeft
+unfit-gives e m t c f h = λ ps q. let u : usable m ps ≡ false = (rw f at h) ps q in (unfit-serves e m t c f h ps q, rw u)
+
 -- ---- it is, and the tests tell
+
+-- what is left as it was, whatever they tell
+view-kept : (w : Verdict) (v v′ : View) → v′ ≡ v → viewIf w v v′ ≡ v
+unfolding viewIf
+view-kept accept v v′ e = e
+view-kept (refuse n) v v′ e = refl
+
+list-kept : (w : Verdict) (ps ps′ : List ScanEntry) → ps′ ≡ ps → entriesIf w ps ps′ ≡ ps
+unfolding entriesIf
+list-kept accept ps ps′ e = e
+list-kept (refuse n) ps ps′ e = refl
 
 -- a call that does not look at the list has the same verdict by every list
 pub by-any : (s : Sizes) (m : List ℕ) (t : Scans) (c : Call) (d : Tested) → Tests s m c d → TestsBy t s m c d
@@ -157,6 +174,10 @@ module _ (e : Admission) (s : Sizes) (n : ℕ) (m : List ℕ) (t : Scans) (f : e
       unfolding listAfter storeView storedSizes storedShape
       list-is = rw (p .passed, p .sizes-are)
 
+      stamps-are : stampsNext (shapeIn s) (viewOf s m) ps c ≡ stampsLeft (lend m ps) c
+      unfolding stampsLeft storeView storedSizes storedShape
+      stamps-are = rw (p .passed, p .sizes-are)
+
     -- a test failed
     pub failed-serves : (d : Tested) (x : Refusal) → d ≡ Tested.Failed x → TestsBy t s m c d → FitBytes m → ServesBy t m c (Answer.Refused x) m kept
     unfolding ServesBy Serves TestsBy say viewNext viewIf entriesNext entriesIf answerIf
@@ -169,6 +190,22 @@ module _ (e : Admission) (s : Sizes) (n : ℕ) (m : List ℕ) (t : Scans) (f : e
           a ∙ answer-is ps l,
           sym (lay-view s m (λ i. b i .fits) room) ∙ ap (λ (v : View). lay s v m) v ∙ memory-is ps l,
           y ∙ list-is ps l,
+        )
+
+    -- a call that only reads the memory, and is lent a slice to write
+    pub read-gives : (r : Answer) (out : List ℕ) → FitBytes m
+        → ((ps : List ScanEntry) → (actIn (shapeIn s) (viewOf s m) ps c ≡ viewOf s m) × (entriesAfter (viewOf s m) ps c ≡ ps))
+        → ((ps : List ScanEntry) → (r ≡ say (shapeIn s) (viewOf s m) ps c) × (out ≡ stampsNext (shapeIn s) (viewOf s m) ps c)) → GivesBy t m c (given r out) m kept
+    unfolding GivesBy Gives Serves viewNext entriesNext
+    read-gives r out b reads z = λ ps q.
+        let l = facts .listed ps q in
+        let k = reads ps in (
+          (
+            z ps .0 ∙ answer-is ps l,
+            sym (lay-view s m (λ i. b i .fits) room) ∙ ap (λ (v : View). lay s v m) (sym (view-kept (verdict (testsIn (shapeIn s) (viewOf s m) ps c)) _ _ (k .0))) ∙ memory-is ps l,
+            sym (list-kept (verdict (testsIn (shapeIn s) (viewOf s m) ps c)) _ _ (k .1)) ∙ list-is ps l,
+          ),
+          z ps .1 ∙ stamps-are ps l,
         )
 
     -- none failed

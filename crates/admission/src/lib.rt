@@ -6,6 +6,7 @@ use layout::Region;
 use layout::Sizes;
 use layout::words_needed;
 use loops::Found;
+use loops::either;
 use model::Reader;
 use pages::check::Checked;
 use pages::check::check;
@@ -22,7 +23,7 @@ ghost use Prim.Native.Nat.{_*_};
 ghost use Rattle.layout.specs.View.{lastStamp, viewOf, Suffices};
 ghost use Rattle.history.specs.History.{noColumn, noRange};
 ghost use Rattle.model.specs.Reading.{reader, allUpTo};
-ghost use Rattle.model.specs.Calls.{earlierIn, laterIn};
+ghost use Rattle.model.specs.Calls.{earlierIn, laterIn, noSpanIn};
 ghost use Rattle.model.specs.Preconditions.{shapeIn};
 ghost use Rattle.admission.specs.Admitted.{Admits};
 ghost use Rattle.admission.specs.Given.{rangeGiven};
@@ -99,6 +100,15 @@ pub fn earlier(mem: &[u8], s: Sizes, stamp: Stamp) -> bool
     ensures { λ r. ⌜ r ≡ earlierIn (viewOf s (now (mem .entry))) (stamp .0) ⌝ }
 {
     stamp.0 < read(mem, s, Region::Header, HEADER_STAMP)
+}
+
+// 13, for two stamps: the first after the second, or the second later than the last commit.
+pub fn no_span(mem: &[u8], s: Sizes, from: Stamp, to: Stamp) -> bool
+    requires { ⌜ Suffices s (now mem) ⌝ }
+    ensures { λ r. ⌜ r ≡ noSpanIn (viewOf s (now (mem .entry))) (from .0) (to .0) ⌝ }
+{
+    let ahead = later(mem, s, to);
+    either(to.0 < from.0, ahead)
 }
 
 // 13, for a read or a scan: later than the last commit.

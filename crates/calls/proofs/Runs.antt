@@ -22,42 +22,42 @@ use Rattle.terms.specs.Entries.{freeEntry}
 use Rattle.facts.specs.Usable.{storedShape, usable}
 use Rattle.facts.proofs.Usable.{usable-tells}
 use Rattle.history.proofs.Lists.{is-true, refuted, clash}
-use Rattle.history.specs.History.{Call, Verdict, accept, refuse}
-use Rattle.history.specs.Claims.{isPlain, kind, strike, plainAnswers}
+use Rattle.history.specs.History.{Call, Outcome, alone, given, Verdict, accept, refuse}
+use Rattle.history.specs.Claims.{isPlain, kind, strike, plainOutcomes}
 use Rattle.model.specs.Calls.{entriesAfter, entriesIf, entriesNext}
-use Rattle.promise.specs.Promise.{storeView, Lent, answerOf, memoryAfter, listAfter, answersOf, Serves, Makes, lend, left}
-use Rattle.promise.specs.Demands.{Accepted, storeAnswers, storeLeft, storeAnswerAt, AcceptsIn, Refuses, RefusedKeeps, ReadsCommitted, PagesCommitted, Demand3, StrikingStore, MinutesStableStore, ScansStableStore}
+use Rattle.promise.specs.Promise.{storeView, Lent, answerOf, memoryAfter, listAfter, outcomesOf, Serves, Gives, Makes, lend, left}
+use Rattle.promise.specs.Demands.{Accepted, storeOutcomes, storeLeft, storeOutcomeAt, AcceptsIn, Refuses, RefusedKeeps, ReadsCommitted, PagesCommitted, Demand3, StrikingStore, MinutesStableStore, ScansStableStore}
 use Rattle.promise.specs.Stated.{conditions}
 use Rattle.promise.proofs.Demands.{demand3, reads-committed, pages-committed, striking-store, minutes-stable-store, scans-stable-store}
 use Rattle.promise.proofs.Refused.{refused-keeps}
 use Rattle.promise.proofs.Stated.{refuses}
 use Rattle.making.specs.Made.{made}
 use Rattle.scans.specs.Entries.{freedIf}
-use Rattle.calls.specs.Runs.{Run, ends, goes, Interface, AcceptsAmong, returnedAt, RefusedSo, RefusedKept, UnmadeKept, ReadsSo, PagesSo, AnswersSo, StruckSame, MinutesSo, ScansSo, calls, LentRefused, LentKept, MakingKept, LentReads, LentPages, LentAnswers, LentStriking, LentMinutes, LentScans, MakingFrees, OneEntry, ShortRefused}
+use Rattle.calls.specs.Runs.{Run, ends, goes, Interface, returnedFor, AcceptsAmong, returnedAt, RefusedSo, RefusedKept, UnmadeKept, ReadsSo, PagesSo, OutcomesSo, StruckSame, MinutesSo, ScansSo, calls, LentRefused, LentKept, MakingKept, LentReads, LentPages, LentOutcomes, LentStriking, LentMinutes, LentScans, MakingFrees, OneEntry, ShortRefused}
 
 -- ---- what a run answers and leaves
 left-on : (x : Lent) (c : Call) (cs : List Call) {m′ : List ℕ} {ps′ : List ScanEntry} → m′ ≡ memoryAfter x c → ps′ ≡ listAfter x c → left (lend m′ ps′) cs ≡ left x (c ∷ cs)
 unfolding left
 left-on x c cs e f = rw (e, f) refl
 
-run-left : {m m′ : List ℕ} {ps ps′ : List ScanEntry} {cs : List Call} {rs : List Answer} → Run Serves m ps cs rs m′ ps′
-    → (rs ≡ answersOf (lend m ps) cs) × (m′ ≡ left (lend m ps) cs .memory) × (ps′ ≡ left (lend m ps) cs .list)
-unfolding Serves answersOf left
+run-left : {m m′ : List ℕ} {ps ps′ : List ScanEntry} {cs : List Call} {os : List (Outcome Answer)} → Run Gives m ps cs os m′ ps′
+    → (os ≡ outcomesOf (lend m ps) cs) × (m′ ≡ left (lend m ps) cs .memory) × (ps′ ≡ left (lend m ps) cs .list)
+unfolding Gives Serves outcomesOf left
 run-left ends = (refl, refl, refl)
 run-left (goes {c = c} {cs = cs} s q) =
     let l = run-left q in
-    let k = left-on _ c cs (s .1) (s .2) in
-    (rw (← s .0, ← s .1, ← s .2) (rw (l .0)), l .1 ∙ ap (λ (x : Lent). x .memory) k, l .2 ∙ ap (λ (x : Lent). x .list) k)
+    let k = left-on _ c cs (s .0 .1) (s .0 .2) in
+    (rw (← s .0 .0, ← s .1, ← s .0 .1, ← s .0 .2) (rw (l .0)), l .1 ∙ ap (λ (x : Lent). x .memory) k, l .2 ∙ ap (λ (x : Lent). x .list) k)
 
 pub making-frees : MakingFrees
 unfolding MakingFrees Makes
 making-frees S m m′ ps ps′ h = h .2 ∙ ap (λ (x : Answer). freedIf (isAccepted x) ps) (sym (h .0))
 
 -- after an accepted making: what the demands are stated of
-store-left : (S : Shape) (m₀ : List ℕ) (ps₀ : List ScanEntry) {m m′ : List ℕ} {ps ps′ : List ScanEntry} {cs : List Call} {rs : List Answer}
-    → Makes m₀ ps₀ S Answer.Done m ps → Run Serves m ps cs rs m′ ps′
-    → Accepted S m₀ ps₀ × (rs ≡ storeAnswers S m₀ ps₀ cs) × (m′ ≡ storeLeft S m₀ ps₀ cs .memory) × (ps′ ≡ storeLeft S m₀ ps₀ cs .list)
-unfolding Makes MakingFrees storeAnswers storeLeft
+store-left : (S : Shape) (m₀ : List ℕ) (ps₀ : List ScanEntry) {m m′ : List ℕ} {ps ps′ : List ScanEntry} {cs : List Call} {os : List (Outcome Answer)}
+    → Makes m₀ ps₀ S Answer.Done m ps → Run Gives m ps cs os m′ ps′
+    → Accepted S m₀ ps₀ × (os ≡ storeOutcomes S m₀ ps₀ cs) × (m′ ≡ storeLeft S m₀ ps₀ cs .memory) × (ps′ ≡ storeLeft S m₀ ps₀ cs .list)
+unfolding Makes MakingFrees storeOutcomes storeLeft
 store-left S m₀ ps₀ {m} {ps = ps} h q =
     let l = rw (h .1, making-frees S m₀ m ps₀ ps h) at (run-left q) in
     (sym (h .0), l .0, l .1, l .2)
@@ -80,18 +80,18 @@ made-done m false b l e = clash (cc)
 
 -- ---- a form that tells the answer of a call, and of a making
 pub record Faithful (F : Interface) : Type 0 where
-  pub served : {m m′ : List ℕ} {ps ps′ : List ScanEntry} {c : Call} {r : F .Returned} → F .serves m ps c r m′ ps′ → (a : Answer) × Serves m ps c a m′ ps′ × (r ≡ F .returns a)
+  pub served : {m m′ : List ℕ} {ps ps′ : List ScanEntry} {c : Call} {o : Outcome (F .Returned)} → F .gives m ps c o m′ ps′ → (a : Answer) × Gives m ps c (given a (o .stamps)) m′ ps′ × (o .answer ≡ F .returns a)
   pub making : {m m′ : List ℕ} {ps ps′ : List ScanEntry} {S : Shape} {r : F .Returned} → F .makes m ps S r m′ ps′ → (a : Answer) × Makes m ps S a m′ ps′ × (r ≡ F .returns a)
   pub refusing : (a : Answer) (n : Refusal) → F .Refuses (F .returns a) n ↔ (a ≡ Answer.Refused n)
   pub accepting : (a : Answer) → F .Accepts (F .returns a) ↔ (isRefused a ≡ false)
 
-plain-map : {R : Type 0} (f : Answer → R) (cs : List Call) (l : List Answer) → plainAnswers cs (map f l) ≡ map f (plainAnswers cs l)
-unfolding plainAnswers
+plain-map : {A R : Type 0} (f : A → R) (cs : List Call) (l : List A) → plainOutcomes cs (map f l) ≡ map f (plainOutcomes cs l)
+unfolding plainOutcomes
 plain-map f [] l = refl
 plain-map f (c ∷ cs) [] = refl
 plain-map f (c ∷ cs) (a ∷ l) =
     rw (plain-map f cs l)
-    (elim (isPlain (kind c)) as (λ b. cond b (f a ∷ map f (plainAnswers cs l)) (map f (plainAnswers cs l)) ≡ map f (cond b (a ∷ plainAnswers cs l) (plainAnswers cs l)))
+    (elim (isPlain (kind c)) as (λ b. cond b (f a ∷ map f (plainOutcomes cs l)) (map f (plainOutcomes cs l)) ≡ map f (cond b (a ∷ plainOutcomes cs l) (plainOutcomes cs l)))
     [ true ↦ refl | false ↦ refl ])
 
 module _ (F : Interface) (ok : Faithful F) where
@@ -101,17 +101,21 @@ module _ (F : Interface) (ok : Faithful F) where
   not-refused : (r : F .Returned) (a : Answer) → r ≡ F .returns a → F .Accepts r → isRefused a ≡ false
   not-refused r a e h = ok .accepting a .0 (subst (F .Accepts) e h)
 
-  as-answers : {m m′ : List ℕ} {ps ps′ : List ScanEntry} {cs : List Call} {rs : List (F .Returned)} → Run (F .serves) m ps cs rs m′ ps′
-      → (as′ : List Answer) × Run Serves m ps cs as′ m′ ps′ × (rs ≡ map (F .returns) as′)
+  -- what was returned for an outcome, with the slice as it is
+  whole : {o : Outcome (F .Returned)} {a : Answer} → o .answer ≡ F .returns a → o ≡ returnedFor F (given a (o .stamps))
+  whole {o} e = ap (λ (y : F .Returned). given y (o .stamps)) e
+
+  as-answers : {m m′ : List ℕ} {ps ps′ : List ScanEntry} {cs : List Call} {os : List (Outcome (F .Returned))} → Run (F .gives) m ps cs os m′ ps′
+      → (as′ : List (Outcome Answer)) × Run Gives m ps cs as′ m′ ps′ × (os ≡ map (returnedFor F) as′)
   as-answers ends = ([], ends, refl)
-  as-answers (goes {rs = rs} s q) =
+  as-answers (goes {o = o} {os = os} s q) =
       let x = ok .served s in
       let l = as-answers q in
-      (x .0 ∷ l .0, goes (x .1) (l .1), ap (λ (y : F .Returned). y ∷ rs) (x .2) ∙ ap (λ (y : List (F .Returned)). F .returns (x .0) ∷ y) (l .2))
+      (given (x .0) (o .stamps) ∷ l .0, goes (x .1) (l .1), ap (λ (y : Outcome (F .Returned)). y ∷ os) (whole (x .2)) ∙ ap (λ (y : List (Outcome (F .Returned))). returnedFor F (given (x .0) (o .stamps)) ∷ y) (l .2))
 
-  stored : (S : Shape) (m₀ : List ℕ) (ps₀ : List ScanEntry) {m m′ : List ℕ} {ps ps′ : List ScanEntry} {z : F .Returned} {cs : List Call} {rs : List (F .Returned)}
-      → F .makes m₀ ps₀ S z m ps → F .Accepts z → Run (F .serves) m ps cs rs m′ ps′
-      → Accepted S m₀ ps₀ × (rs ≡ map (F .returns) (storeAnswers S m₀ ps₀ cs)) × (m′ ≡ storeLeft S m₀ ps₀ cs .memory) × (ps′ ≡ storeLeft S m₀ ps₀ cs .list)
+  stored : (S : Shape) (m₀ : List ℕ) (ps₀ : List ScanEntry) {m m′ : List ℕ} {ps ps′ : List ScanEntry} {z : F .Returned} {cs : List Call} {os : List (Outcome (F .Returned))}
+      → F .makes m₀ ps₀ S z m ps → F .Accepts z → Run (F .gives) m ps cs os m′ ps′
+      → Accepted S m₀ ps₀ × (os ≡ map (returnedFor F) (storeOutcomes S m₀ ps₀ cs)) × (m′ ≡ storeLeft S m₀ ps₀ cs .memory) × (ps′ ≡ storeLeft S m₀ ps₀ cs .list)
   unfolding Makes made answered
   stored S m₀ ps₀ {z = z} h g q =
       let x = ok .making h in
@@ -119,15 +123,15 @@ module _ (F : Interface) (ok : Faithful F) where
       made-done m₀ (withinLimits S) (leb (bytesNeeded S) (length m₀) && leb mostScans (length ps₀)) (lay (sizesOf S) (madeView S) m₀) (ap isRefused (sym (x .1 .0)) ∙ not-refused z (x .0) (x .2) g) in
       let l = as-answers q in
       let k = store-left S m₀ ps₀ (sym done, x .1 .1, x .1 .2) (l .1) in
-      (k .0, l .2 ∙ ap (map (F .returns)) (k .1), k .2, k .3)
+      (k .0, l .2 ∙ ap (map (returnedFor F)) (k .1), k .2, k .3)
 
   -- ---- demand 1
   pub refused-so : RefusedSo F
-  unfolding RefusedSo Serves Refuses
-  refused-so m m′ ps ps′ c r s =
+  unfolding RefusedSo Gives Serves Refuses
+  refused-so m m′ ps ps′ c o s =
       let x = ok .served s in
       let k = refuses m ps c in
-      let e : r ≡ F .returns (answerOf (lend m ps) c) = x .2 ∙ ap (F .returns) (x .1 .0) in
+      let e : o .answer ≡ F .returns (answerOf (lend m ps) c) = x .2 ∙ ap (F .returns) (x .1 .0 .0) in
       rw e
       ((
         λ n. (λ h. k .0 n .0 (ok .refusing (answerOf (lend m ps) c) n .0 h), λ h. ok .refusing (answerOf (lend m ps) c) n .1 (k .0 n .1 h)),
@@ -135,11 +139,11 @@ module _ (F : Interface) (ok : Faithful F) where
       ))
 
   pub refused-kept : RefusedKept F
-  unfolding RefusedKept Serves RefusedKeeps
-  refused-kept m m′ ps ps′ c r n b s h =
+  unfolding RefusedKept Gives Serves RefusedKeeps
+  refused-kept m m′ ps ps′ c o n b s h =
       let x = ok .served s in
-      let k = refused-keeps m ps c n b (sym (x .1 .0) ∙ is-refusal r (x .0) n (x .2) h) in
-      (x .1 .1 ∙ k .0, x .1 .2 ∙ k .1)
+      let k = refused-keeps m ps c n b (sym (x .1 .0 .0) ∙ is-refusal (o .answer) (x .0) n (x .2) h) in
+      (x .1 .0 .1 ∙ k .0, x .1 .0 .2 ∙ k .1, x .1 .1 ∙ k .2)
 
   pub unmade-kept : UnmadeKept F
   unfolding UnmadeKept Makes made answered
@@ -150,65 +154,66 @@ module _ (F : Interface) (ok : Faithful F) where
 
   -- ---- demand 2
   pub reads-so : ReadsSo F
-  unfolding ReadsSo Serves ReadsCommitted
-  reads-so S m₀ m m′ ps₀ ps ps′ z cs rs h g ys q x t r c a m″ ps″ y w s k =
+  unfolding ReadsSo Gives Serves ReadsCommitted
+  reads-so S m₀ m m′ ps₀ ps ps′ z cs os h g ys q x t r c o m″ ps″ y w s k =
       let l = stored S m₀ ps₀ h g q in
       let b = ok .served s in
       let e : b .0 ≡ answerOf (storeLeft S m₀ ps₀ cs) x =
-      b .1 .0 ∙ ap (λ (u : List ℕ). answerOf (lend u ps′) x) (l .2) ∙ ap (λ (u : List ScanEntry). answerOf (lend (storeLeft S m₀ ps₀ cs .memory) u) x) (l .3) in
-      let n : isRefused (answerOf (storeLeft S m₀ ps₀ cs) x) ≡ false = ap isRefused (sym e) ∙ not-refused a (b .0) (b .2) k in
+      b .1 .0 .0 ∙ ap (λ (u : List ℕ). answerOf (lend u ps′) x) (l .2) ∙ ap (λ (u : List ScanEntry). answerOf (lend (storeLeft S m₀ ps₀ cs .memory) u) x) (l .3) in
+      let n : isRefused (answerOf (storeLeft S m₀ ps₀ cs) x) ≡ false = ap isRefused (sym e) ∙ not-refused (o .answer) (b .0) (b .2) k in
       b .2 ∙ ap (F .returns) (e ∙ reads-committed S m₀ ps₀ (l .0) cs ys x t r c y w (rw n tt))
 
   pub pages-so : PagesSo F
   unfolding PagesSo PagesCommitted
-  pages-so S m₀ m m′ ps₀ ps ps′ z cs rs h g ys q i c b d =
+  pages-so S m₀ m m′ ps₀ ps ps′ z cs os h g ys q i c b d =
       let l = stored S m₀ ps₀ h g q in
       rw (l .2) (pages-committed S m₀ ps₀ (l .0) cs ys i c b d)
 
   -- ---- demand 3
-  pub answers-so : AnswersSo F
-  unfolding AnswersSo Demand3
-  answers-so S m₀ m m′ ps₀ ps ps′ z cs rs h g ys q =
+  pub outcomes-so : OutcomesSo F
+  unfolding OutcomesSo Demand3
+  outcomes-so S m₀ m m′ ps₀ ps ps′ z cs os h g ys q =
       let l = stored S m₀ ps₀ h g q in
-      l .1 ∙ ap (map (F .returns)) (demand3 S m₀ ps₀ (l .0) cs ys)
+      l .1 ∙ ap (map (returnedFor F)) (demand3 S m₀ ps₀ (l .0) cs ys)
 
   pub struck-same : StruckSame F
   unfolding StruckSame StrikingStore
-  struck-same S m₀ m m′ ps₀ ps ps′ z cs rs h g ys q rs′ m″ ps″ p =
+  struck-same S m₀ m m′ ps₀ ps ps′ z cs os h g ys q os′ m″ ps″ p =
       let l = stored S m₀ ps₀ h g q in
       let k = stored S m₀ ps₀ h g p in
-      rw (l .1, k .1, plain-map (F .returns) cs (storeAnswers S m₀ ps₀ cs), plain-map (F .returns) (strike cs) (storeAnswers S m₀ ps₀ (strike cs))) (ap (map (F .returns)) (striking-store S m₀ ps₀ (l .0) cs ys))
+      rw (l .1, k .1, plain-map (returnedFor F) cs (storeOutcomes S m₀ ps₀ cs), plain-map (returnedFor F) (strike cs) (storeOutcomes S m₀ ps₀ (strike cs))) (ap (map (returnedFor F)) (striking-store S m₀ ps₀ (l .0) cs ys))
 
   -- a run's returned values by index, and its accepted calls, are the store's
-  module _ (S : Shape) (m₀ : List ℕ) (ps₀ : List ScanEntry) {m m′ : List ℕ} {ps ps′ : List ScanEntry} {z : F .Returned} {cs : List Call} {rs : List (F .Returned)}
-      (h : F .makes m₀ ps₀ S z m ps) (g : F .Accepts z) (q : Run (F .serves) m ps cs rs m′ ps′) where
-    at : (k : ℕ) → returnedAt F rs k ≡ F .returns (storeAnswerAt S m₀ ps₀ cs k)
-    unfolding storeAnswerAt
-    at k = ap (λ (u : List (F .Returned)). returnedAt F u k) (stored S m₀ ps₀ h g q .1) ∙ List·getD-map (F .returns) (storeAnswers S m₀ ps₀ cs) k Answer.Done
+  module _ (S : Shape) (m₀ : List ℕ) (ps₀ : List ScanEntry) {m m′ : List ℕ} {ps ps′ : List ScanEntry} {z : F .Returned} {cs : List Call} {os : List (Outcome (F .Returned))}
+      (h : F .makes m₀ ps₀ S z m ps) (g : F .Accepts z) (q : Run (F .gives) m ps cs os m′ ps′) where
+    at : (k : ℕ) → returnedAt F os k ≡ returnedFor F (storeOutcomeAt S m₀ ps₀ cs k)
+    unfolding storeOutcomeAt
+    at k = ap (λ (u : List (Outcome (F .Returned))). returnedAt F u k) (stored S m₀ ps₀ h g q .1) ∙ List·getD-map (returnedFor F) (storeOutcomes S m₀ ps₀ cs) k (alone Answer.Done)
 
-    accepts-in : (k : ℕ) (x : Call) → AcceptsAmong F cs rs k x → AcceptsIn S m₀ ps₀ cs k x
+    accepts-in : (k : ℕ) (x : Call) → AcceptsAmong F cs os k x → AcceptsIn S m₀ ps₀ cs k x
     accepts-in k x u =
-        let n : isRefused (storeAnswerAt S m₀ ps₀ cs k) ≡ false = not-refused (returnedAt F rs k) (storeAnswerAt S m₀ ps₀ cs k) (at k) (u .2) in
+        let e = ap (λ (o : Outcome (F .Returned)). o .answer) (at k) in
+        let n : isRefused (storeOutcomeAt S m₀ ps₀ cs k .answer) ≡ false = not-refused (returnedAt F os k .answer) (storeOutcomeAt S m₀ ps₀ cs k .answer) e (u .2) in
         record { inside = u .0; is = u .1; accepted = rw n tt }
 
-    same-at : (i j : ℕ) → storeAnswerAt S m₀ ps₀ cs i ≡ storeAnswerAt S m₀ ps₀ cs j → returnedAt F rs i ≡ returnedAt F rs j
-    same-at i j e = at i ∙ ap (F .returns) e ∙ sym (at j)
+    same-at : (i j : ℕ) → storeOutcomeAt S m₀ ps₀ cs i ≡ storeOutcomeAt S m₀ ps₀ cs j → returnedAt F os i ≡ returnedAt F os j
+    same-at i j e = at i ∙ ap (returnedFor F) e ∙ sym (at j)
 
   pub minutes-so : MinutesSo F
   unfolding MinutesSo MinutesStableStore
-  minutes-so S m₀ m m′ ps₀ ps ps′ z cs rs h g ys q i j t r c b past x y =
+  minutes-so S m₀ m m′ ps₀ ps ps′ z cs os h g ys q i j t x k b past u w =
       same-at S m₀ ps₀ h g q i j
-      (minutes-stable-store S m₀ ps₀ (stored S m₀ ps₀ h g q .0) cs ys i j t r c b past (accepts-in S m₀ ps₀ h g q i _ x) (accepts-in S m₀ ps₀ h g q j _ y))
+      (minutes-stable-store S m₀ ps₀ (stored S m₀ ps₀ h g q .0) cs ys i j t x k b past (accepts-in S m₀ ps₀ h g q i x u) (accepts-in S m₀ ps₀ h g q j x w))
 
   pub scans-so : ScansSo F
   unfolding ScansSo ScansStableStore
-  scans-so S m₀ m m′ ps₀ ps ps′ z cs rs h g ys q i j x k u w =
+  scans-so S m₀ m m′ ps₀ ps ps′ z cs os h g ys q i j x k u w =
       same-at S m₀ ps₀ h g q i j
       (scans-stable-store S m₀ ps₀ (stored S m₀ ps₀ h g q .0) cs ys i j x k (accepts-in S m₀ ps₀ h g q i x u) (accepts-in S m₀ ps₀ h g q j x w))
 
 -- ---- of the calls
 faithful : Faithful calls
-faithful = record { served = λ {r = r} s. (r, s, refl); making = λ {r = r} s. (r, s, refl); refusing = λ a n. (λ e. e, λ e. e); accepting = λ a. (λ e. e, λ e. e) }
+faithful = record { served = λ {o = o} s. (o .answer, s, refl); making = λ {r = r} s. (r, s, refl); refusing = λ a n. (λ e. e, λ e. e); accepting = λ a. (λ e. e, λ e. e) }
 
 pub lent-refused : LentRefused
 lent-refused = refused-so calls faithful
@@ -225,8 +230,8 @@ lent-reads = reads-so calls faithful
 pub lent-pages : LentPages
 lent-pages = pages-so calls faithful
 
-pub lent-answers : LentAnswers
-lent-answers = answers-so calls faithful
+pub lent-outcomes : LentOutcomes
+lent-outcomes = outcomes-so calls faithful
 
 pub lent-striking : LentStriking
 lent-striking = struck-same calls faithful
@@ -265,6 +270,7 @@ after-changed v ps (Call.merge g c n) = none-changed ps
 after-changed v ps Call.release = none-changed ps
 after-changed v ps (Call.pageCell c r) = none-changed ps
 after-changed v ps (Call.lineage g c) = none-changed ps
+after-changed v ps (Call.crossings r c mark from to stamps) = none-changed ps
 
 if-changed : (w : Verdict) (ps ps′ : List ScanEntry) → Changed ps ps′ → Changed ps (entriesIf w ps ps′)
 unfolding entriesIf

@@ -1,5 +1,6 @@
 -- From what a core promises to what its call promises: the laws of the calls over the lent list (crates/lent/proofs/laws), for calls that serve.
 --     served     a call that leaves the list, by a core that was given its table
+--     listed     a call that leaves the list and writes into a slice, by a core that was given the list's table
 --     changed    a call that changes an entry of the list, as its core says
 --     made-so    a making
 use Prim.Native.Nat.{ℕ}
@@ -14,10 +15,10 @@ use Rattle.terms.specs.declared.Answer.{Answer}
 use Rattle.terms.specs.declared.ScanEntry.{ScanEntry}
 use Rattle.scans.specs.declared.Scans.{Scans}
 use Rattle.scans.specs.Table.{tableOf}
-use Rattle.history.specs.History.{Call}
+use Rattle.history.specs.History.{Call, given}
 use Rattle.making.specs.Made.{made}
 use Rattle.promise.proofs.Makes.{made-makes}
-use Rattle.promise.specs.Promise.{Serves, ServesBy, Makes, kept}
+use Rattle.promise.specs.Promise.{Serves, ServesBy, Gives, GivesBy, Makes, kept}
 use Rattle.upkeep.specs.declared.ListChange.{ListChange}
 use Rattle.upkeep.specs.Lists.{changedAt}
 use Rattle.terms.specs.Refusals.{isAccepted}
@@ -32,6 +33,8 @@ use Rattle.lent.proofs.Callees.{KnownIn}
 use Rattle.lent.proofs.Written.{Code, Meets}
 use Rattle.lent.proofs.laws.list_kept as list-kept
 use Rattle.lent.proofs.laws.list_changed as list-changed
+use Rattle.lent.proofs.laws.slice_filled as slice-filled
+use Rattle.lent.proofs.Filling as F
 use Rattle.lent.proofs.table.Symbol as load
 use Rattle.lent.proofs.apply_change.Symbol as apply-change
 use Rattle.calls.proofs.Types.{answer, table, change}
@@ -47,6 +50,18 @@ module _ (m : Access) (l : ℕ) (fs : List (Further 2 1 (loans m) l)) (c : Vals 
       → Meets (up 2 l) (slices m reads (heres fs)) (res answer) (list-kept.Q-call l core answer m fs (λ b p x. Serves b p (c x))) w (γ k)
   unfolding ServesBy
   served code e-table k-core = list-kept.meets l core answer m fs promised (λ b p x. Serves b p (c x)) (λ b p x t z b′ e h. h p e) w γ k code e-table k-core
+
+-- c: the call that the further arguments and the slice make
+module _ (l : ℕ) (fs : List (Further 3 2 1 l)) (c : Vals fs → List ℕ → Call) (w : World) (γ : Env) (k core : Name) where
+  abbrev fills : List ℕ → Scans → List ℕ → Vals fs → Answer → List ℕ → Type 0
+  fills b t s x z s′ = GivesBy t b (c x s) (given z s′) b kept
+
+  pub listed : Code w γ k (fnOf (up 3 l) (F.slices (heres fs)) (res answer) (slice-filled.xs l core answer) 0 [] (slice-filled.body l core answer fs))
+      → γ load.name ≡ load.routine
+      → KnownIn w γ (slice-filled.decides l core answer fs fills)
+      → Meets (up 3 l) (F.slices (heres fs)) (res answer) (slice-filled.Q-call l core answer fs (λ b p s x z s′. Gives b p (c x s) (given z s′) b p)) w (γ k)
+  unfolding GivesBy
+  listed code e-table k-core = slice-filled.meets l core answer fs fills (λ b p s x z s′. Gives b p (c x s) (given z s′) b p) (λ b p s x t z s′ e h. h p e) w γ k code e-table k-core
 
 module _ (m : Access) (l : ℕ) (fs : List (Further 2 1 (up 2 (loans m)) l)) (c : Vals fs → Call) (w : World) (γ : Env) (k core : Name) where
   abbrev decided : List ℕ → Scans → Vals fs → ListChange → List ℕ → Type 0

@@ -1,6 +1,6 @@
 -- The plain types of the calls' arguments and answers.
 use mir.Syntax.{w16, w32, w64}
-use Rattle.lent.proofs.Plain.{Plain, number, struct-of}
+use Rattle.lent.proofs.Plain.{Plain, number, integer, struct-of}
 use Rattle.lent.proofs.Types as list
 use Rattle.terms.proofs.Transaction as Transaction
 use Rattle.terms.proofs.Transaction.Laws as Transaction′
@@ -37,6 +37,9 @@ usize = number w64
 
 abbrev pub u32 : Plain
 u32 = number w32
+
+abbrev pub i32 : Plain
+i32 = integer w32
 
 abbrev pub u16 : Plain
 u16 = number w16

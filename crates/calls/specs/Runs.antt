@@ -13,21 +13,21 @@ use Rattle.terms.specs.declared.ScanEntry.{ScanEntry}
 use Rattle.terms.specs.declared.Refusal.{Refusal}
 use Rattle.words.specs.Words.{Bytes}
 use Rattle.scans.specs.Entries.{allFreed}
-use Rattle.history.specs.History.{Call, readAt, Snapshot, start, answers}
-use Rattle.history.specs.Claims.{strike, plainAnswers, Reads, AsksScan, historyBefore, callAt}
+use Rattle.history.specs.History.{Call, Snapshot, Outcome, alone, sliceOf, lentTo, start, outcomes}
+use Rattle.history.specs.Claims.{strike, plainOutcomes, Reads, AsksMinutes, AsksScan, historyBefore, callAt}
 use Rattle.history.specs.Latest.{lastCommitted}
 use Rattle.history.specs.Lists.{All}
 use Rattle.model.specs.Calls.{Typed}
 use Rattle.model.specs.Claims.{historyAfter, PageHolds}
-use Rattle.promise.specs.Promise.{storeView, Serves, Makes}
+use Rattle.promise.specs.Promise.{storeView, Gives, Serves, Makes}
 use Rattle.promise.specs.Stated.{conditions, First, NoneApplies}
 
--- A run (rule 11.1 of docs/SPECIFICATION.md): calls over one memory and one list, each lent what the call before left, with their answers and what the last
--- one left. What one call promises is `serves`: of these calls it is `Serves`.
-pub data Run {R : Type 0} (serves : List ℕ → List ScanEntry → Call → R → List ℕ → List ScanEntry → Type 0) : List ℕ → List ScanEntry → List Call → List R → List ℕ → List ScanEntry → Type 0 where
-  ends : {m : List ℕ} {ps : List ScanEntry} → Run serves m ps [] [] m ps
-  goes : {m m′ m″ : List ℕ} {ps ps′ ps″ : List ScanEntry} {c : Call} {r : R} {cs : List Call} {rs : List R}
-      → serves m ps c r m′ ps′ → Run serves m′ ps′ cs rs m″ ps″ → Run serves m ps (c ∷ cs) (r ∷ rs) m″ ps″
+-- A run (rule 11.1 of docs/SPECIFICATION.md): calls over one memory and one list, each lent what the call before left, with their outcomes, which are what they returned and what they
+-- left in a slice that they were lent to write, and with what the last one left. What one call promises is `gives`: of these calls it is `Gives`.
+pub data Run {R : Type 0} (gives : List ℕ → List ScanEntry → Call → Outcome R → List ℕ → List ScanEntry → Type 0) : List ℕ → List ScanEntry → List Call → List (Outcome R) → List ℕ → List ScanEntry → Type 0 where
+  ends : {m : List ℕ} {ps : List ScanEntry} → Run gives m ps [] [] m ps
+  goes : {m m′ m″ : List ℕ} {ps ps′ ps″ : List ScanEntry} {c : Call} {o : Outcome R} {cs : List Call} {os : List (Outcome R)}
+      → gives m ps c o m′ ps′ → Run gives m′ ps′ cs os m″ ps″ → Run gives m ps (c ∷ cs) (o ∷ os) m″ ps″
 
 -- an interface: what it returns for an answer, when that is a refusal and when none, and what a call and a making promise
 pub record Interface : Type 1 where
@@ -35,29 +35,33 @@ pub record Interface : Type 1 where
   pub returns : Answer → Returned
   pub Refuses : Returned → Refusal → Type 0
   pub Accepts : Returned → Type 0
-  pub serves : List ℕ → List ScanEntry → Call → Returned → List ℕ → List ScanEntry → Type 0
+  pub gives : List ℕ → List ScanEntry → Call → Outcome Returned → List ℕ → List ScanEntry → Type 0
   pub makes : List ℕ → List ScanEntry → Shape → Returned → List ℕ → List ScanEntry → Type 0
 
+-- what it returns for the outcome of a call
+abbrev pub returnedFor : (F : Interface) → Outcome Answer → Outcome (F .Returned)
+returnedFor F o = record { answer = F .returns (o .answer); stamps = o .stamps }
+
 module _ (F : Interface) where
-  -- a claim for every run after an accepted making, whatever memory and list held before: of the shape, the memory and list made, the calls, what they returned, and the
+  -- a claim for every run after an accepted making, whatever memory and list held before: of the shape, the memory and list made, the calls, their outcomes, and the
   -- memory and list left
-  abbrev pub EveryRun : (Shape → List ℕ → List ScanEntry → List Call → List (F .Returned) → List ℕ → List ScanEntry → Type 0) → Type 0
+  abbrev pub EveryRun : (Shape → List ℕ → List ScanEntry → List Call → List (Outcome (F .Returned)) → List ℕ → List ScanEntry → Type 0) → Type 0
   EveryRun P =
-      (S : Shape) (m₀ m m′ : List ℕ) (ps₀ ps ps′ : List ScanEntry) (z : F .Returned) (cs : List Call) (rs : List (F .Returned))
-      → F .makes m₀ ps₀ S z m ps → F .Accepts z → All Typed cs → Run (F .serves) m ps cs rs m′ ps′ → P S m ps cs rs m′ ps′
+      (S : Shape) (m₀ m m′ : List ℕ) (ps₀ ps ps′ : List ScanEntry) (z : F .Returned) (cs : List Call) (os : List (Outcome (F .Returned)))
+      → F .makes m₀ ps₀ S z m ps → F .Accepts z → All Typed cs → Run (F .gives) m ps cs os m′ ps′ → P S m ps cs os m′ ps′
 
   -- ---- demand 1
   -- a call is refused on the stated condition only
   unfoldable pub RefusedSo : Type 0
   RefusedSo =
-      (m m′ : List ℕ) (ps ps′ : List ScanEntry) (c : Call) (r : F .Returned) → F .serves m ps c r m′ ps′
-      → ((n : Refusal) → F .Refuses r n ↔ First (conditions m ps c) n) × (F .Accepts r ↔ NoneApplies (conditions m ps c))
+      (m m′ : List ℕ) (ps ps′ : List ScanEntry) (c : Call) (o : Outcome (F .Returned)) → F .gives m ps c o m′ ps′
+      → ((n : Refusal) → F .Refuses (o .answer) n ↔ First (conditions m ps c) n) × (F .Accepts (o .answer) ↔ NoneApplies (conditions m ps c))
 
-  -- a refused call changes no byte of the memory and no entry of the list, and a refused making neither
+  -- a refused call changes no byte of the memory, no entry of the list and no place of its slice, and a refused making no byte and no entry
   unfoldable pub RefusedKept : Type 0
   RefusedKept =
-      (m m′ : List ℕ) (ps ps′ : List ScanEntry) (c : Call) (r : F .Returned) (n : Refusal)
-      → Bytes m → F .serves m ps c r m′ ps′ → F .Refuses r n → (m′ ≡ m) × (ps′ ≡ ps)
+      (m m′ : List ℕ) (ps ps′ : List ScanEntry) (c : Call) (o : Outcome (F .Returned)) (n : Refusal)
+      → Bytes m → F .gives m ps c o m′ ps′ → F .Refuses (o .answer) n → (m′ ≡ m) × (ps′ ≡ ps) × (o .stamps ≡ lentTo (sliceOf c))
 
   unfoldable pub UnmadeKept : Type 0
   UnmadeKept = (S : Shape) (m m′ : List ℕ) (ps ps′ : List ScanEntry) (r : F .Returned) (n : Refusal) → F .makes m ps S r m′ ps′ → F .Refuses r n → (m′ ≡ m) × (ps′ ≡ ps)
@@ -67,47 +71,47 @@ module _ (F : Interface) where
   unfoldable pub ReadsSo : Type 0
   ReadsSo =
       EveryRun
-      (λ S m ps cs rs m′ ps′.
-      (x : Call) (t : Snapshot) (r c : ℕ) (a : F .Returned) (m″ : List ℕ) (ps″ : List ScanEntry) → Typed x → Reads (historyAfter S cs) x t r c → F .serves m′ ps′ x a m″ ps″
-      → F .Accepts a → a ≡ F .returns (lastCommitted (historyAfter S cs) t r c))
+      (λ S m ps cs os m′ ps′.
+      (x : Call) (t : Snapshot) (r c : ℕ) (o : Outcome (F .Returned)) (m″ : List ℕ) (ps″ : List ScanEntry) → Typed x → Reads (historyAfter S cs) x t r c → F .gives m′ ps′ x o m″ ps″
+      → F .Accepts (o .answer) → o .answer ≡ F .returns (lastCommitted (historyAfter S cs) t r c))
 
   -- each current page of the memory that a run leaves holds what was committed last
   unfoldable pub PagesSo : Type 0
-  PagesSo = EveryRun (λ S m ps cs rs m′ ps′. (g c : ℕ) → g < S .ranges → c < S .columns → PageHolds S (storeView m′) (historyAfter S cs) g c)
+  PagesSo = EveryRun (λ S m ps cs os m′ ps′. (g c : ℕ) → g < S .ranges → c < S .columns → PageHolds S (storeView m′) (historyAfter S cs) g c)
 
   -- ---- demand 3
-  -- a run answers as the plain history does
-  unfoldable pub AnswersSo : Type 0
-  AnswersSo = EveryRun (λ S m ps cs rs m′ ps′. rs ≡ map (F .returns) (answers S start cs))
+  -- a run has the outcomes that the plain history has
+  unfoldable pub OutcomesSo : Type 0
+  OutcomesSo = EveryRun (λ S m ps cs os m′ ps′. os ≡ map (returnedFor F) (outcomes S start cs))
 
-  -- a run of the calls without merges and releases, from the same making, gives the plain calls the same answers
+  -- a run of the calls without merges and releases, from the same making, gives the plain calls the same outcomes
   unfoldable pub StruckSame : Type 0
   StruckSame =
       EveryRun
-      (λ S m ps cs rs m′ ps′.
-      (rs′ : List (F .Returned)) (m″ : List ℕ) (ps″ : List ScanEntry) → Run (F .serves) m ps (strike cs) rs′ m″ ps″ → plainAnswers cs rs ≡ plainAnswers (strike cs) rs′)
+      (λ S m ps cs os m′ ps′.
+      (os′ : List (Outcome (F .Returned))) (m″ : List ℕ) (ps″ : List ScanEntry) → Run (F .gives) m ps (strike cs) os′ m″ ps″ → plainOutcomes cs os ≡ plainOutcomes (strike cs) os′)
 
-  -- what call i of a run returned; and that it is x, and is not refused
-  abbrev pub returnedAt : List (F .Returned) → ℕ → F .Returned
-  returnedAt rs i = getD rs i (F .returns Answer.Done)
+  -- the outcome of call i of a run; and that it is x, and is not refused
+  abbrev pub returnedAt : List (Outcome (F .Returned)) → ℕ → Outcome (F .Returned)
+  returnedAt os i = getD os i (alone (F .returns Answer.Done))
 
-  abbrev pub AcceptsAmong : List Call → List (F .Returned) → ℕ → Call → Type 0
-  AcceptsAmong cs rs i x = (i < length cs) × (callAt cs i ≡ x) × F .Accepts (returnedAt rs i)
+  abbrev pub AcceptsAmong : List Call → List (Outcome (F .Returned)) → ℕ → Call → Type 0
+  AcceptsAmong cs os i x = (i < length cs) × (callAt cs i ≡ x) × F .Accepts (returnedAt os i .answer)
 
-  -- a read at a minute before the last commit's returns what every later one does
+  -- whatever is asked of minutes before the last commit's has the outcome that it has later
   unfoldable pub MinutesSo : Type 0
   MinutesSo =
       EveryRun
-      (λ S m ps cs rs m′ ps′.
-      (i j t r c : ℕ) → i ≤ j → t < historyBefore S cs i .last .stamp → AcceptsAmong cs rs i (readAt t r c) → AcceptsAmong cs rs j (readAt t r c) → returnedAt rs i ≡ returnedAt rs j)
+      (λ S m ps cs os m′ ps′.
+      (i j t : ℕ) (x : Call) → AsksMinutes x t → i ≤ j → t < historyBefore S cs i .last .stamp → AcceptsAmong cs os i x → AcceptsAmong cs os j x → returnedAt os i ≡ returnedAt os j)
 
-  -- whatever is asked of a scan twice returns the same
+  -- whatever is asked of a scan twice has one outcome
   unfoldable pub ScansSo : Type 0
-  ScansSo = EveryRun (λ S m ps cs rs m′ ps′. (i j : ℕ) (x : Call) → AsksScan x → AcceptsAmong cs rs i x → AcceptsAmong cs rs j x → returnedAt rs i ≡ returnedAt rs j)
+  ScansSo = EveryRun (λ S m ps cs os m′ ps′. (i j : ℕ) (x : Call) → AsksScan x → AcceptsAmong cs os i x → AcceptsAmong cs os j x → returnedAt os i ≡ returnedAt os j)
 
 -- ---- of the calls
 abbrev pub calls : Interface
-calls = record { Returned = Answer; returns = λ a. a; Refuses = λ r n. r ≡ Answer.Refused n; Accepts = λ r. isRefused r ≡ false; serves = Serves; makes = Makes }
+calls = record { Returned = Answer; returns = λ a. a; Refuses = λ r n. r ≡ Answer.Refused n; Accepts = λ r. isRefused r ≡ false; gives = Gives; makes = Makes }
 
 abbrev pub LentRefused : Type 0
 LentRefused = RefusedSo calls
@@ -124,8 +128,8 @@ LentReads = ReadsSo calls
 abbrev pub LentPages : Type 0
 LentPages = PagesSo calls
 
-abbrev pub LentAnswers : Type 0
-LentAnswers = AnswersSo calls
+abbrev pub LentOutcomes : Type 0
+LentOutcomes = OutcomesSo calls
 
 abbrev pub LentStriking : Type 0
 LentStriking = StruckSame calls

@@ -19,8 +19,8 @@ ghost use lib.IntN.{pos};
 ghost use lib.ListN.{getD};
 ghost use Rattle.terms.specs.Measures.{mostColumns};
 ghost use Rattle.layout.specs.Sizes.{shapeOf, BytesAnswered};
-ghost use Rattle.history.specs.History.{Call};
-ghost use Rattle.promise.specs.Promise.{Serves, ServesBy, kept, Makes};
+ghost use Rattle.history.specs.History.{Call, given};
+ghost use Rattle.promise.specs.Promise.{Serves, ServesBy, kept, Gives, Makes};
 ghost use Rattle.calls.specs.Values.{padded};
 
 // ---- the values lent with a call
@@ -249,4 +249,21 @@ pub fn close_scan(mem: &[u8], scans: &mut [ScanEntry], scan: u32) -> Answer
     let t = table(scans);
     let change = upkeep::close_scan(mem, t, scan);
     apply_change(scans, change)
+}
+
+// The stamps at which a row and column crossed a mark, between two stamps, into the lent slice; the answer is their number.
+pub fn crossings(
+    mem: &[u8],
+    scans: &[ScanEntry],
+    stamps: &mut [u32],
+    row: Row,
+    column: u32,
+    mark: i32,
+    from: Stamp,
+    to: Stamp,
+) -> Answer
+    ensures { λ r. ⌜ Gives (now (mem .entry)) (now (scans .entry)) (Call.crossings (row .0) column mark (from .0) (to .0) (now (stamps .entry))) (given r (now (stamps .exit))) (now (mem .entry)) (now (scans .entry)) ⌝ }
+{
+    let t = table(scans);
+    lookups::crossings(mem, t, stamps, row, column, mark, from, to)
 }

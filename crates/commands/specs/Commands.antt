@@ -3,15 +3,15 @@ use mathlib.Core.Bool.{Bool, true, false, cond}
 use mathlib.Core.List.{List, [], _∷_, map}
 use Prim.Native.Nat.{ℕ, zero, suc, _+_, _*_, _≤_}
 use lib.Dec.{leb}
-use lib.ListN.{length, getD, take, drop}
+use lib.ListN.{length, getD, take, drop, replicate}
 use lib.Seq.{slice}
 use lib.IntN.{ℤ}
 use mir.Syntax.{w32}
 use mir.Val.{toZ}
-use Rattle.terms.specs.Measures.{Shape, mostColumns}
+use Rattle.terms.specs.Measures.{Shape, mostColumns, lentStamps}
 use Rattle.terms.specs.declared.Refusal.{Refusal}
 use Rattle.words.specs.Words.{words}
-use Rattle.history.specs.History.{Call, begin, insert, update, delete, commit, abort, latest, readAt, ownRead, openScan, scanRead, sum, close, merge, release, pageCell, lineage}
+use Rattle.history.specs.History.{Call, begin, insert, update, delete, commit, abort, latest, readAt, ownRead, openScan, scanRead, sum, close, merge, release, pageCell, lineage, crossings}
 use Rattle.commands.specs.declared.Read.{Read}
 use Rattle.commands.specs.declared.Write.{Write}
 use Rattle.commands.specs.declared.Kind.{Kind}
@@ -19,7 +19,7 @@ use Rattle.commands.specs.declared.Form.{Form}
 use Rattle.commands.specs.declared.Chosen.{Chosen}
 
 -- ---- widths
--- Room for the operands of a command, of which none has more than three so far, and the most bytes of one.
+-- the most operands of a command, and the most bytes of one
 abbrev pub mostOperands : ℕ
 mostOperands = 5
 
@@ -97,6 +97,8 @@ commands =
     ∷ numbers (Kind.Read Read.PageCell) (1 ∷ 2 ∷ [])
     -- 11 lineage: range, column
     ∷ numbers (Kind.Read Read.Lineage) (1 ∷ 1 ∷ [])
+    -- 12 crossings: row, column, mark (4, signed), from, to
+    ∷ numbers Kind.Crossings (2 ∷ 1 ∷ 4 ∷ 4 ∷ 4 ∷ [])
     ∷ []
 
 -- 3.19: a byte that is no command
@@ -154,6 +156,12 @@ second ns = getD ns 1 0
 abbrev pub third : List ℕ → ℕ
 third ns = getD ns 2 0
 
+abbrev pub fourth : List ℕ → ℕ
+fourth ns = getD ns 3 0
+
+abbrev pub fifth : List ℕ → ℕ
+fifth ns = getD ns 4 0
+
 unfoldable pub readOf : Read → List ℕ → Call
 readOf Read.Latest ns = latest (first ns) (second ns)
 readOf Read.ReadAt ns = readAt (first ns) (second ns) (third ns)
@@ -178,6 +186,7 @@ callOf (Kind.Read k) ns vs = readOf k ns
 callOf (Kind.Write k) ns vs = writeOf k ns vs
 callOf Kind.OpenScan ns vs = openScan (first ns)
 callOf Kind.Close ns vs = close (first ns)
+callOf Kind.Crossings ns vs = crossings (first ns) (second ns) (toZ w32 (third ns)) (fourth ns) (fifth ns) (replicate lentStamps 0)
 
 -- the call of a command whose operands are at the front of bs
 unfoldable pub callFrom : ℕ → Form → List ℕ → Call

@@ -34,15 +34,16 @@ pub enum Write {
     Release,
 }
 
-// All calls: these, and the two that change the list.
+// All calls: these, the two that change the list, and the one that writes into a slice.
 pub enum Kind {
     Read(Read),
     Write(Write),
     OpenScan,
     Close,
+    Crossings,
 }
 
-// Room for the operands of a command, of which none has more than three so far; and the bytes of a value.
+// The most operands of a command, and the bytes of a value.
 pub const MOST_OPERANDS: usize = 5;
 
 const VALUE_BYTES: usize = 4;
@@ -115,7 +116,8 @@ pub fn choose(byte: u8) -> Chosen
         0x0f => numbers(Kind::Write(Write::Release), [0, 0, 0, 0, 0]),
         0x10 => numbers(Kind::Read(Read::PageCell), [1, 2, 0, 0, 0]),
         0x11 => numbers(Kind::Read(Read::Lineage), [1, 1, 0, 0, 0]),
-        0x00 | 0x12..=0xff => Chosen::Refused(Refusal::Command),
+        0x12 => numbers(Kind::Crossings, [2, 1, 4, 4, 4]),
+        0x00 | 0x13..=0xff => Chosen::Refused(Refusal::Command),
     }
 }
 

@@ -5,7 +5,7 @@ use mathlib.Core.Path.{_≡_, refl, ap, sym, _∙_}
 use mathlib.Core.List.{List, [], _∷_, _++_, append-assoc}
 use native.Mathlib.Omega.{arith}
 use native.Mathlib.Nat.{pow-succ'}
-use lib.ListN.{length, drop, set, length-set}
+use lib.ListN.{length, drop, set, length-set, length-append}
 use lib.Seq.{drop-cons, getD-set-same, drop-set-lt}
 use Rattle.decimal.specs.Decimal.{digit, digits, decimal}
 
@@ -31,6 +31,22 @@ front-last (suc n) h = ap (λ (l : List ℕ). l ++ digit (suc n % 10) ∷ []) (e
 pub decimal-last : (n : ℕ) → front (n / 10) ++ digit (n % 10) ∷ [] ≡ decimal n
 unfolding decimal
 decimal-last n = ap (λ (l : List ℕ). l ++ digit (n % 10) ∷ []) (enough (n / 10) n (n / 10) (omega arith) (omega arith))
+
+-- a number below 10 ^ k has at most k digits, and 0 has one
+front-short : (k n : ℕ) → n < 10 ^ k → length (front n) ≤ k
+unfolding digits
+front-short zero zero h = omega arith
+front-short zero (suc n) h = absurd (omega arith)
+front-short (suc k) zero h = omega arith
+front-short (suc k) (suc n) h =
+    let shorter : length (front (suc n / 10)) ≤ k = front-short k (suc n / 10) (omega (arith, pow-succ' 10 k)) in
+    rw (front-last (suc n) (omega arith), length-append) (omega arith)
+
+pub decimal-short : (k n : ℕ) → 0 < k → n < 10 ^ k → length (decimal n) ≤ k
+decimal-short zero n p h = absurd (omega arith)
+decimal-short (suc k) n p h =
+    let shorter : length (front (n / 10)) ≤ k = front-short k (n / 10) (omega (arith, pow-succ' 10 k)) in
+    rw (← decimal-last n, length-append) (omega arith)
 
 -- a character stored before a stretch
 stored : (ds : List ℕ) (i g : ℕ) → i < length ds → drop i (set ds i g) ≡ g ∷ drop (suc i) ds

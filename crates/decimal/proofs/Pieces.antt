@@ -1,17 +1,13 @@
 -- Bytes written one behind the other are the joined bytes written once.
-use Prim.Native.Nat.{ℕ, suc, _+_, _-_, _<_}
+use Prim.Native.Nat.{ℕ, _+_, _-_, _<_}
 use mathlib.Core.Path.{_≡_, ap, sym, _∙_}
 use mathlib.Core.List.{List, [], _∷_, _++_}
 use native.Mathlib.Omega.{arith}
 use native.Mathlib.Numerals.{add-one}
 use lib.ListN.{length, take, drop, set, getD, length-append, length-drop}
 use lib.Seq.{sets, take-suc, take-all, length-take-le}
+use Rattle.words.proofs.Sets.{sets-append}
 use Rattle.decimal.specs.Written.{Written}
-
-sets-append : (s t l : List ℕ) (i : ℕ) → sets (sets l i s) (i + length s) t ≡ sets l i (s ++ t)
-sets-append [] t l i = ap (λ (k : ℕ). sets l k t) (omega arith)
-sets-append (a ∷ s) t l i =
-    ap (λ (k : ℕ). sets (sets (set l i a) (suc i) s) k t) (omega arith) ∙ sets-append s t (set l i a) (suc i)
 
 -- a turn of `put`
 pub sets-next : (l s : List ℕ) (at i : ℕ) → i < length s → set (sets l at (take i s)) (at + i) (getD s i 0) ≡ sets l at (take (i + 1) s)

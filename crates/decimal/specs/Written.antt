@@ -1,15 +1,16 @@
 -- The buffer of a line, the most bytes of a number in it, and what the functions that write into it promise.
 use mathlib.Core.Path.{_≡_}
 use mathlib.Core.List.{List}
-use Prim.Native.Nat.{ℕ, _+_}
+use Prim.Native.Nat.{ℕ, _+_, _*_}
 use lib.ListN.{length}
 use lib.Seq.{sets}
+use Rattle.terms.specs.Measures.{lentStamps}
+use Rattle.decimal.specs.Decimal.{text}
 
--- the buffer of a line
-abbrev pub lineBytes : ℕ
-lineBytes = 64
+-- the digits of the greatest number of 32 bits, and of 64
+abbrev pub naturalDigits : ℕ
+naturalDigits = 10
 
--- the digits of the greatest number of 64 bits
 abbrev pub mostDigits : ℕ
 mostDigits = 20
 
@@ -17,12 +18,16 @@ mostDigits = 20
 abbrev pub signedBytes : ℕ
 signedBytes = 1 + mostDigits
 
--- a field, with the space before it: a natural number, and one with a sign
+-- a field, with the space before it: a natural number of 32 bits, and one of 64 with a sign
 abbrev pub naturalField : ℕ
-naturalField = 1 + mostDigits
+naturalField = 1 + naturalDigits
 
 abbrev pub integerField : ℕ
 integerField = 1 + signedBytes
+
+-- the buffer of a line. None is longer than that of crossings, with as many stamps as are lent: the byte and the word, the count, the stamps, the line's end
+abbrev pub lineBytes : ℕ
+lineBytes = length (text "12 ok") + (1 + lentStamps) * naturalField + length (text "\n")
 
 -- The bytes s were written from `at` over `old`, and `end` is the index behind them.
 pub record Written (old new : List ℕ) (at : ℕ) (s : List ℕ) (end : ℕ) : Type 0 where

@@ -6,7 +6,7 @@ ghost use Rattle.decimal.specs.Decimal.{decimal, signed, field, digit as
 ghost use Rattle.decimal.specs.Written.{lineBytes, mostDigits, signedBytes, naturalField, integerField, Written};
 
 // The buffer of a line.
-pub const LINE_BYTES: usize = 64;
+pub const LINE_BYTES: usize = 193;
 
 // The digits of the greatest number of 64 bits.
 const MOST_DIGITS: usize = 20;
@@ -56,8 +56,8 @@ fn in_decimal(n: u64) -> Decimal
 }
 
 fn put_decimal(out: &mut [u8; LINE_BYTES], at: usize, n: u64) -> usize
-    requires { ⌜ at + mostDigits ≤ lineBytes ⌝ }
-    ensures { λ r. ⌜ Written (now (out .entry)) (now (out .exit)) at (decimal n) r × (r ≤ at + mostDigits) ⌝ }
+    requires { ⌜ at + length (decimal n) ≤ lineBytes ⌝ }
+    ensures { λ r. ⌜ Written (now (out .entry)) (now (out .exit)) at (decimal n) r ⌝ }
 {
     let d = in_decimal(n);
     let from = d.from;

@@ -1,4 +1,4 @@
--- The law of the exports: one that hands memory, list and further arguments on to a call, and encodes its answer, replies as the call promises.
+-- The law of the exports: one that hands memory, list and further arguments on to a call, and encodes its answer, replies as the call promises; and one that hands on a slice that is written besides.
 use Prim.Native.Nat.{ℕ}
 use mathlib.Core.Path.{_≡_}
 use mathlib.Core.List.{List, []}
@@ -15,6 +15,8 @@ use Rattle.lent.proofs.Slices.{Access, slices, loans}
 use Rattle.lent.proofs.Callees.{Callee}
 use Rattle.lent.proofs.Written.{Code, Meets, known-free}
 use Rattle.lent.proofs.laws.handed as law
+use Rattle.lent.proofs.laws.slice_handed as slice-law
+use Rattle.lent.proofs.Filling as F
 use Rattle.calls.proofs.Types.{answer}
 use Rattle.deskrook.specs.declared.reply.Reply.{Reply}
 use Rattle.deskrook.specs.Replies.{replyOf}
@@ -42,4 +44,18 @@ module _ (m q : Access) (l : ℕ) (fs : List (Further 2 2 (up (loans m) (loans q
       → Meets (up 2 l) (slices m q (heres fs)) (res reply) (law.Q-call l call encode.name answer reply encoded m q fs promised) w (γ k)
   exported code e met e-encode =
       law.meets l call encode.name answer reply encoded m q fs promised w γ k code (known-free (up 2 l) (called .params) (res answer) (called .tells) w γ call ρ e met)
+      (encode-reads.known w γ encode.name encode.routine e-encode (encode-thm.met (w .𝓤) (w .H) (w .𝓜) (w .𝓖) (w .𝓡)))
+
+-- the same with a slice that is written
+module _ (l : ℕ) (fs : List (Further 3 3 1 l)) (promised : List ℕ → List ScanEntry → List ℕ → Vals fs → Answer → List ℕ → Type 0) (w : World) (γ : Env) (k call : Name) (ρ : Routine) where
+  abbrev filling : Callee
+  filling = slice-law.calls-on l call encode.name answer reply fs promised
+
+  pub filled : Code w γ k (fnOf (up 3 l) (F.slices (heres fs)) (res reply) (slice-law.xs l call encode.name answer reply) 0 [] (slice-law.body l call encode.name answer reply fs))
+      → γ call ≡ ρ
+      → Meets (up 3 l) (filling .params) (res answer) (filling .tells) w ρ
+      → γ encode.name ≡ encode.routine
+      → Meets (up 3 l) (F.slices (heres fs)) (res reply) (slice-law.Q-call l call encode.name answer reply encoded fs promised) w (γ k)
+  filled code e met e-encode =
+      slice-law.meets l call encode.name answer reply encoded fs promised w γ k code (known-free (up 3 l) (filling .params) (res answer) (filling .tells) w γ call ρ e met)
       (encode-reads.known w γ encode.name encode.routine e-encode (encode-thm.met (w .𝓤) (w .H) (w .𝓜) (w .𝓖) (w .𝓡)))

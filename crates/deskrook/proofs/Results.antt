@@ -35,6 +35,7 @@ refusals =
     ∷ Refusal.NoPage
     ∷ Refusal.Command
     ∷ Refusal.Cut
+    ∷ Refusal.List
     ∷ []
 
 refusalOf : ℕ → Answer
@@ -62,6 +63,7 @@ known Refusal.Open = refl
 known Refusal.NoPage = refl
 known Refusal.Command = refl
 known Refusal.Cut = refl
+known Refusal.List = refl
 
 by-result : (a : Answer) → refusalOf ((replyOf a) .result) ≡ cond (isRefused a) a Answer.Done
 unfolding refusalOf refusals
@@ -73,6 +75,7 @@ by-result (Answer.Value v) = refl
 by-result Answer.None = refl
 by-result (Answer.Sum n v) = refl
 by-result (Answer.Lineage n m) = refl
+by-result (Answer.Listed n) = refl
 
 pub refused-result : (a : Answer) (n : Refusal) → (replyOf a) .result ≡ refusalNumber n → a ≡ Answer.Refused n
 refused-result a n e =
@@ -96,3 +99,4 @@ accepted-result a = (λ g. go (isRefused a) refl (sym (by-result a) ∙ ⊎-elim
     back Answer.None e = inr refl
     back (Answer.Sum n v) e = inl refl
     back (Answer.Lineage n m) e = inl refl
+    back (Answer.Listed n) e = inl refl

@@ -1,13 +1,13 @@
 -- The demands of the exports: a reply tells the answer of the call that the export hands on to.
 use mathlib.Core.Path.{ap}
 use Rattle.terms.specs.declared.Answer.{Answer}
-use Rattle.calls.proofs.Runs.{Faithful, refused-so, refused-kept, unmade-kept, reads-so, pages-so, answers-so, struck-same, minutes-so, scans-so}
-use Rattle.deskrook.specs.Replies.{replyOf, Replies, RepliesMade}
-use Rattle.deskrook.specs.Runs.{exports, ExportRefused, ExportKept, ExportMakingKept, ExportReads, ExportPages, ExportAnswers, ExportStriking, ExportMinutes, ExportScans}
+use Rattle.calls.proofs.Runs.{Faithful, refused-so, refused-kept, unmade-kept, reads-so, pages-so, outcomes-so, struck-same, minutes-so, scans-so}
+use Rattle.deskrook.specs.Replies.{replyOf, RepliesWith, RepliesMade}
+use Rattle.deskrook.specs.Runs.{exports, ExportRefused, ExportKept, ExportMakingKept, ExportReads, ExportPages, ExportOutcomes, ExportStriking, ExportMinutes, ExportScans}
 use Rattle.deskrook.proofs.Results.{refused-result, accepted-result}
 
 faithful : Faithful exports
-unfolding Replies RepliesMade
+unfolding RepliesWith RepliesMade
 faithful =
     record {
       served = λ s. s;
@@ -31,8 +31,8 @@ export-reads = reads-so exports faithful
 pub export-pages : ExportPages
 export-pages = pages-so exports faithful
 
-pub export-answers : ExportAnswers
-export-answers = answers-so exports faithful
+pub export-outcomes : ExportOutcomes
+export-outcomes = outcomes-so exports faithful
 
 pub export-striking : ExportStriking
 export-striking = struck-same exports faithful

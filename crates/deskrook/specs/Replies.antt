@@ -12,8 +12,8 @@ use Rattle.terms.specs.declared.Answer.{Answer}
 use Rattle.terms.specs.declared.ScanEntry.{ScanEntry}
 use Rattle.terms.specs.declared.Refusal.{Refusal}
 use Rattle.facts.specs.Usable.{usable}
-use Rattle.history.specs.History.{Call}
-use Rattle.promise.specs.Promise.{Serves, Makes}
+use Rattle.history.specs.History.{Call, Outcome, given}
+use Rattle.promise.specs.Promise.{Serves, Gives, Makes}
 use Rattle.deskrook.specs.declared.reply.Reply.{Reply}
 
 abbrev pub replyOf : Answer → Reply
@@ -25,6 +25,7 @@ replyOf (Answer.Value v) = record { result = 0; first = ofZ w32 v; second = 0; s
 replyOf Answer.None = record { result = 32; first = 0; second = 0; stamp = 0; sum = pos 0 }
 replyOf (Answer.Sum n v) = record { result = 0; first = n; second = 0; stamp = 0; sum = v }
 replyOf (Answer.Lineage n m) = record { result = 0; first = n; second = m; stamp = 0; sum = pos 0 }
+replyOf (Answer.Listed n) = record { result = 0; first = n; second = 0; stamp = 0; sum = pos 0 }
 
 -- the reply is that of an answer of which P holds
 abbrev pub Replied : (Answer → Type 0) → Reply → Type 0
@@ -32,6 +33,10 @@ Replied P r = (a : Answer) × P a × (r ≡ replyOf a)
 
 unfoldable pub Replies : List ℕ → List ScanEntry → Call → Reply → List ℕ → List ScanEntry → Type 0
 Replies m ps c r m′ ps′ = Replied (λ a. Serves m ps c a m′ ps′) r
+
+-- with the slice that a call is lent to write
+unfoldable pub RepliesWith : List ℕ → List ScanEntry → Call → Outcome Reply → List ℕ → List ScanEntry → Type 0
+RepliesWith m ps c o m′ ps′ = Replied (λ a. Gives m ps c (given a (o .stamps)) m′ ps′) (o .answer)
 
 unfoldable pub RepliesMade : List ℕ → List ScanEntry → Shape → Reply → List ℕ → List ScanEntry → Type 0
 RepliesMade m ps S r m′ ps′ = Replied (λ a. Makes m ps S a m′ ps′) r

@@ -3,16 +3,16 @@
 use mathlib.Core.Path.{_≡_}
 use mathlib.Core.Logic.{_⊎_}
 use Rattle.terms.specs.Refusals.{refusalNumber}
-use Rattle.calls.specs.Runs.{Interface, RefusedSo, RefusedKept, UnmadeKept, ReadsSo, PagesSo, AnswersSo, StruckSame, MinutesSo, ScansSo}
+use Rattle.calls.specs.Runs.{Interface, RefusedSo, RefusedKept, UnmadeKept, ReadsSo, PagesSo, OutcomesSo, StruckSame, MinutesSo, ScansSo}
 use Rattle.deskrook.specs.declared.reply.Reply.{Reply}
-use Rattle.deskrook.specs.Replies.{replyOf, Replies, RepliesMade}
+use Rattle.deskrook.specs.Replies.{replyOf, RepliesWith, RepliesMade}
 
 -- a reply that is no refusal: its result is 0, or 32 for none
 abbrev pub AcceptedReply : Reply → Type 0
 AcceptedReply r = (r .result ≡ 0) ⊎ (r .result ≡ 32)
 
 abbrev pub exports : Interface
-exports = record { Returned = Reply; returns = replyOf; Refuses = λ r n. r .result ≡ refusalNumber n; Accepts = AcceptedReply; serves = Replies; makes = RepliesMade }
+exports = record { Returned = Reply; returns = replyOf; Refuses = λ r n. r .result ≡ refusalNumber n; Accepts = AcceptedReply; gives = RepliesWith; makes = RepliesMade }
 
 abbrev pub ExportRefused : Type 0
 ExportRefused = RefusedSo exports
@@ -29,8 +29,8 @@ ExportReads = ReadsSo exports
 abbrev pub ExportPages : Type 0
 ExportPages = PagesSo exports
 
-abbrev pub ExportAnswers : Type 0
-ExportAnswers = AnswersSo exports
+abbrev pub ExportOutcomes : Type 0
+ExportOutcomes = OutcomesSo exports
 
 abbrev pub ExportStriking : Type 0
 ExportStriking = StruckSame exports

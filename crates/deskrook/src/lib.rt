@@ -14,9 +14,9 @@ use terms::Tail;
 use terms::Transaction;
 ghost use mathlib.Core.Path.{_≡_};
 ghost use Rattle.layout.specs.Sizes.{shapeOf, BytesAnswered};
-ghost use Rattle.history.specs.History.{Call};
+ghost use Rattle.history.specs.History.{Call, given};
 ghost use Rattle.calls.specs.Values.{padded};
-ghost use Rattle.deskrook.specs.Replies.{replyOf, usability, Replied, Replies, RepliesMade};
+ghost use Rattle.deskrook.specs.Replies.{replyOf, usability, Replied, Replies, RepliesWith, RepliesMade};
 
 // A transaction is opened; the answer is its number.
 #[no_mangle]
@@ -196,6 +196,23 @@ pub extern "C" fn deskrook_lineage(
     ensures { λ r. ⌜ Replies (now (mem .entry)) (now (scans .entry)) (Call.lineage range column) r (now (mem .entry)) (now (scans .entry)) ⌝ }
 {
     encode(calls::lineage(mem, scans, range, column))
+}
+
+// The stamps at which a row and column crossed a mark, between two stamps, into the lent slice; the answer is their number.
+#[no_mangle]
+pub extern "C" fn deskrook_crossings(
+    mem: &[u8],
+    scans: &[ScanEntry],
+    stamps: &mut [u32],
+    row: Row,
+    column: u32,
+    mark: i32,
+    from: Stamp,
+    to: Stamp,
+) -> Reply
+    ensures { λ r. ⌜ RepliesWith (now (mem .entry)) (now (scans .entry)) (Call.crossings (row .0) column mark (from .0) (to .0) (now (stamps .entry))) (given r (now (stamps .exit))) (now (mem .entry)) (now (scans .entry)) ⌝ }
+{
+    encode(calls::crossings(mem, scans, stamps, row, column, mark, from, to))
 }
 
 // A scan is opened at a stamp; the answer is its number.

@@ -86,6 +86,13 @@ pub fn encode(answer: Answer) -> Reply
             stamp: stamp,
             sum: 0,
         },
+        Answer::Listed(n) => Reply {
+            result: 0,
+            first: n,
+            second: 0,
+            stamp: 0,
+            sum: 0,
+        },
     }
 }
 

@@ -11,6 +11,7 @@ pub mod Tokens
 pub mod Further
 pub mod Hands
 pub mod Slices
+pub mod Filling
 pub mod Entries
 pub mod ListFunctions
 pub mod laws

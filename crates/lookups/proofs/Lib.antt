@@ -1,2 +1,3 @@
 -- Laws of the reading calls.
 pub mod Answers
+pub mod Listing

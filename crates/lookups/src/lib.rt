@@ -1,4 +1,4 @@
-// The calls that only read, over the lent memory and the table of the lent scan list: latest, read at, own read, scan read, sum, page cell and lineage. Each call is
+// The calls that only read, over the lent memory and the table of the lent scan list: latest, read at, own read, scan read, sum, page cell, lineage and crossings. Each call is
 // the test of memory and list, the call's own tests in the order of section 4 of docs/SPECIFICATION.md, and then the function that reads.
 use admission::Admission;
 use admission::Tested;
@@ -8,9 +8,12 @@ use admission::later;
 use admission::latest_reader;
 use admission::no_column;
 use admission::no_range;
+use admission::no_span;
 use admission::reader_at;
 use conditions::open_index;
 use conditions::own_changes;
+use crossing::Query;
+use crossing::list_crossings;
 use layout::Region;
 use layout::Sizes;
 use loops::Found;
@@ -37,13 +40,15 @@ ghost use mathlib.Core.List.{List};
 ghost use Prim.Native.Nat.{ℕ, _<_};
 ghost use Rattle.terms.specs.Measures.{mostScans};
 ghost use Rattle.layout.specs.View.{viewOf};
-ghost use Rattle.history.specs.History.{Call, verdict, rangeOf};
+ghost use Rattle.history.specs.History.{Call, given, verdict, rangeOf};
+ghost use Rattle.model.specs.Versions.{crossingsIn};
 ghost use Rattle.model.specs.Preconditions.{shapeIn, OpenAt};
-ghost use Rattle.promise.specs.Promise.{ServesBy, kept};
+ghost use Rattle.crossing.specs.Steps.{ListsAll};
+ghost use Rattle.promise.specs.Promise.{ServesBy, GivesBy, kept};
 ghost use Rattle.admission.specs.Admitted.{Fitted};
 ghost use Rattle.admission.specs.Tested.{Says, Finds, IfPassed, Tests, TestsBy};
 ghost use Rattle.admission.specs.Given.{ScanAt};
-ghost use Rattle.lookups.specs.Lookups.{rowTests, CellThere, IsScan};
+ghost use Rattle.lookups.specs.Lookups.{rowTests, spanTests, CellThere, IsScan, Outcomes};
 
 // ---- latest, read at, own read
 
@@ -284,4 +289,88 @@ pub fn lineage(mem: &[u8], t: Scans, range: u32, column: u32) -> Answer
             )
         }
     }
+}
+
+// ---- crossings
+
+// The tests of crossings but for the last, which takes their number; where they are passed, the row's range.
+fn crossings_tests(mem: &[u8], s: Sizes, row: Row, column: u32, from: Stamp, to: Stamp) -> Tested
+    requires { ⌜ Fitted s (now mem) ⌝ }
+    ensures { λ r. ⌜ Says r (verdict (spanTests (shapeIn s) (viewOf s (now (mem .entry))) (row .0) column (from .0) (to .0))) ⌝ }
+    ensures { λ r. ⌜ IfPassed r (CellThere s (viewOf s (now (mem .entry))) (row .0) column) ⌝ }
+{
+    let Found::At(g) = given_range(mem, s, row) else {
+        return Tested::Failed(Refusal::Row);
+    };
+    if no_column(s, column) {
+        return Tested::Failed(Refusal::Column);
+    }
+    if no_span(mem, s, from, to) {
+        return Tested::Failed(Refusal::Time);
+    }
+    Tested::Passed(g)
+}
+
+// The crossings of a row and column that are there, by the commits up to `to`.
+fn list_between(
+    mem: &[u8],
+    s: Sizes,
+    row: Row,
+    column: u32,
+    mark: i32,
+    from: Stamp,
+    to: Stamp,
+    stamps: &mut [u32],
+) -> Answer
+    requires { ⌜ Fitted s (now mem) ⌝ }
+    requires { ⌜ CellThere s (viewOf s (now mem)) (row .0) column ⌝ }
+    ensures { λ r. ⌜ ListsAll (crossingsIn (shapeIn s) (viewOf s (now (mem .entry))) (row .0) column mark (from .0) (to .0)) r (now (stamps .entry)) (now (stamps .exit)) ⌝ }
+{
+    let who = reader_at(to, Transaction(0));
+    let q = Query {
+        row,
+        column,
+        mark,
+        from,
+    };
+    list_crossings(mem, s, who, q, stamps)
+}
+
+// The call, on a memory that passed the test.
+fn tested_crossings(
+    mem: &[u8],
+    s: Sizes,
+    row: Row,
+    column: u32,
+    mark: i32,
+    from: Stamp,
+    to: Stamp,
+    stamps: &mut [u32],
+) -> Answer
+    requires { ⌜ Fitted s (now mem) ⌝ }
+    ensures { λ r. ⌜ Outcomes s (now (mem .entry)) (Call.crossings (row .0) column mark (from .0) (to .0) (now (stamps .entry))) r (now (stamps .exit)) ⌝ }
+{
+    match crossings_tests(mem, s, row, column, from, to) {
+        Tested::Failed(x) => Answer::Refused(x),
+        Tested::Passed(_) => list_between(mem, s, row, column, mark, from, to, stamps),
+    }
+}
+
+// The stamps at which a row and column crossed a mark, between two stamps: how many, and the stamps from the slice's first place on.
+pub fn crossings(
+    mem: &[u8],
+    t: Scans,
+    stamps: &mut [u32],
+    row: Row,
+    column: u32,
+    mark: i32,
+    from: Stamp,
+    to: Stamp,
+) -> Answer
+    ensures { λ r. ⌜ GivesBy t (now (mem .entry)) (Call.crossings (row .0) column mark (from .0) (to .0) (now (stamps .entry))) (given r (now (stamps .exit))) (now (mem .entry)) kept ⌝ }
+{
+    let Admission::Fit(s, _) = admit(mem, t) else {
+        return Answer::Refused(Refusal::Memory);
+    };
+    tested_crossings(mem, s, row, column, mark, from, to, stamps)
 }

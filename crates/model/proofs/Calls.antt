@@ -9,6 +9,7 @@ use native.Mathlib.Nat.{add-zero, le-refl, le-trans}
 use native.Mathlib.Numerals.{add-one}
 use lib.Dec.{T, leb, ltb, eqb, eqb→eq, nleb→lt, nltb→le}
 use lib.ListN.{length, getD, length-append}
+use lib.Seq as Seq
 use lib.IntN.{ℤ, _+ℤ_, +ℤ-assoc, +ℤ-idl, +ℤ-idr}
 use borrow.Author.Tests.{ne-eqb}
 use mir.Syntax.{w32}
@@ -17,12 +18,13 @@ use Rattle.terms.specs.Measures.{Shape, rangeRows, mostNumbers, mostScans}
 use Rattle.terms.specs.declared.Refusal.{Refusal}
 use Rattle.terms.specs.declared.Answer.{Answer}
 use Rattle.history.specs.History as H
-use Rattle.history.specs.History.{Call, begin, insert, update, delete, commit, abort, latest, readAt, ownRead, openScan, scanRead, sum, close, merge, release, pageCell, lineage, History, Record, Snapshot, snapshotAt, latestSnapshot, active, Test, _when_, Verdict, accept, refuse, verdict, tests, reply, effect, answer, next, answerIf, nextIf, any, filterb, count, upTo, total, stateOf, rowAt, rangeOf, recordsOf, seenAt, seenBy, ended, visible, versionOf, shown, read, scanAt, inserted, lastSetting, cellValue, notActive, notRunning, notGiven, noColumn, noRange, lacksRecords, earlier, later, outOfReach, noPage, cellThrough}
+use Rattle.history.specs.History.{Call, begin, insert, update, delete, commit, abort, latest, readAt, ownRead, openScan, scanRead, sum, close, merge, release, pageCell, lineage, crossings, History, Record, Snapshot, snapshotAt, latestSnapshot, active, Test, _when_, Verdict, accept, refuse, verdict, tests, reply, effect, answer, next, answerIf, nextIf, stampsAfter, stampsIf, sliceOf, filled, crossingsBetween, noSpan, outnumber, any, filterb, count, upTo, total, stateOf, rowAt, rangeOf, recordsOf, seenAt, seenBy, ended, visible, versionOf, shown, read, scanAt, inserted, lastSetting, cellValue, notActive, notRunning, notGiven, noColumn, noRange, lacksRecords, earlier, later, outOfReach, noPage, cellThrough}
 use Rattle.history.proofs.Lists.{by-test, all-map, all-at, filterb-append, any-agree, not-not, parts}
 use Rattle.history.proofs.Accepted.{Passed, passed}
 use Rattle.history.proofs.Steps.{mergeable, is-active, within-reach, step, made-new}
 use Rattle.history.specs.Steps.{by-update, by-delete}
 use Rattle.history.proofs.Ranges.{last-agree}
+use Rattle.history.proofs.Versions.{crossings-told}
 use Rattle.history.proofs.Pages.{cell-is}
 use Rattle.history.specs.Invariants.{Stamped}
 use Rattle.history.proofs.Invariants.{invariants-next}
@@ -34,13 +36,15 @@ use Rattle.terms.specs.Entries.{bears, firstIndex}
 use Rattle.model.specs.Stored.{cellIn, currentIn, within, openIndex, scanEntry, wordLimit}
 use Rattle.model.specs.declared.Reader.{Reader}
 use Rattle.model.specs.Reading.{reader, allUpTo, snapshotOf, readIn, readCurrent, ownChanges, wordIn, scanPage, Tally, tally, sumIn}
-use Rattle.model.specs.Calls.{testsIn, replyIn, actIn, entriesAfter, viewIf, entriesIf, say, viewNext, entriesNext, notOpenIn, noScanIn, notGivenIn, lacksIn, earlierIn, laterIn, outOfReachIn, Typed}
+use Rattle.model.specs.Versions.{crossingsIn}
+use Rattle.model.specs.Calls.{testsIn, replyIn, stampsIn, stampsNext, actIn, entriesAfter, viewIf, entriesIf, say, viewNext, entriesNext, notOpenIn, noScanIn, notGivenIn, lacksIn, earlierIn, laterIn, noSpanIn, outOfReachIn, Typed}
 use Rattle.model.specs.Represents.{everyRow, CurrentOf, Unchanged, scanAs, Represents, WellFormed, SameCall, StepKept}
 use Rattle.model.proofs.Opens.{opens-is, opens-full, open-there, active-given}
 use Rattle.model.proofs.changes.Transactions.{begin-kept, commit-kept, abort-kept}
 use Rattle.model.proofs.changes.Insert.{insert-kept}
 use Rattle.model.proofs.lookups.Heads.{in-range, SeesAs, sees-at, sees-own, sees-all, held-is, gone-is, visible-is}
 use Rattle.model.proofs.lookups.Read.{word-is, read-is}
+use Rattle.model.proofs.lookups.Versions.{values-is}
 use Rattle.model.proofs.changes.Records.{delete-kept}
 use Rattle.model.proofs.changes.Update.{wanted-is, update-kept}
 use Rattle.model.proofs.upkeep.Scans.{scan-is, scan-count, scan-found, open-kept, close-kept}
@@ -103,6 +107,23 @@ module _ {S : Shape} {v : View} {ps : List ScanEntry} {h : History} (o : Represe
   unfolding earlierIn earlier
   earlier-is s = ap (ltb s) (o .header .last-stamp)
 
+  span-is : (from to : ℕ) → noSpanIn v from to ≡ noSpan h from to
+  unfolding noSpanIn noSpan
+  span-is from to = ap (λ (z : Bool). ltb to from || z) (later-is to)
+
+  -- a reader of all commits at s or before
+  made-few : h .last .ordinal ≤ wordLimit - 1
+  made-few = omega (arith, commits-few (k .invariants .limits), k .invariants .limits .transactions)
+
+  all-seen : (s : ℕ) → SeesAs h (reader (allUpTo s) 0) (seenAt h (snapshotAt h s))
+  all-seen s = sees-all h s 0 (wordLimit - 1) (seenAt h (snapshotAt h s)) (k .invariants .order .stamps) made-few (sees-at h (snapshotAt h s))
+
+  crossings-is : (r c : ℕ) (mark : ℤ) (from to : ℕ) → r < length (h .rows) → c < S .columns → crossingsIn S v r c mark from to ≡ crossingsBetween h r c mark from to
+  unfolding crossingsIn crossingsBetween
+  crossings-is r c mark from to b d =
+      rw (values-is o k (reader (allUpTo to) 0) (seenAt h (snapshotAt h to)) (all-seen to) r b c d)
+      (crossings-told h (k .invariants .order) (seenAt h (snapshotAt h to)) r c (omega (arith, k .small .columns)) mark from)
+
   scan-running : (i : ℕ) → noScanIn ps i ≡ notRunning h i
   unfolding noScanIn notRunning scanAt
   scan-running i = ap not (scan-is (h .scans) ps (o .scans) i)
@@ -147,6 +168,9 @@ module _ {S : Shape} {v : View} {ps : List ScanEntry} {h : History} (o : Represe
   tests-agree release = done
   tests-agree (pageCell c r) = test refl (λ p. test (given-is r) (λ q. done))
   tests-agree (lineage g c) = test refl (λ p. test refl (λ q. done))
+  tests-agree (crossings r c mark from to stamps) =
+      test (given-is r) (λ p. test refl (λ q. test (span-is from to) (λ z.
+      test (ap (λ (l : List ℕ). outnumber l stamps) (crossings-is r c mark from to (nleb→lt _ _ p) (nleb→lt _ _ q))) (λ u. done))))
 
   -- ---- the answers
   -- a reader whose snapshot has every commit made
@@ -158,9 +182,6 @@ module _ {S : Shape} {v : View} {ps : List ScanEntry} {h : History} (o : Represe
       (all-map (λ y _ s e. le-trans (k .invariants .order .stamps (y .transaction) s e .ordinals) a) (x .through .closed-all)) (λ z. tt)
 
   -- a reader of all commits, with the changes of transaction m
-  made-few : h .last .ordinal ≤ wordLimit - 1
-  made-few = omega (arith, commits-few (k .invariants .limits), k .invariants .limits .transactions)
-
   all-read : (s m r c : ℕ) (f : ℕ → Bool) → SeesAs h (reader (snapshotAt h s) m) f → r < length (h .rows) → c < S .columns → readCurrent S v (reader (allUpTo s) m) r c ≡ read f h r c
   all-read s m r c f w b d = current-read (reader (allUpTo s) m) r c f (sees-all h s m (wordLimit - 1) f (k .invariants .order .stamps) made-few w) made-few b d
 
@@ -270,6 +291,28 @@ module _ {S : Shape} {v : View} {ps : List ScanEntry} {h : History} (o : Represe
   reply-same release p = ap Answer.Number (release-count o)
   reply-same (pageCell c r) p = ap Answer.Value (cell-same c r (search nleb→lt) (search nleb→lt))
   reply-same (lineage g c) p = ap₂ Answer.Lineage (o .currents g c (search nleb→lt) (search nleb→lt) .lineage) (o .tails g (search nleb→lt) .used-all)
+  reply-same (crossings r c mark from to stamps) p = ap (λ (l : List ℕ). Answer.Listed (length l)) (crossings-is r c mark from to (search nleb→lt) (search nleb→lt))
+
+  pub filled-same : (c : Call) → Passed (tests S h c) → stampsIn S v (sliceOf c) ≡ filled h (sliceOf c)
+  unfolding stampsIn filled tests notGiven noColumn
+  filled-same begin p = refl
+  filled-same (insert t vs) p = refl
+  filled-same (update t r m vs) p = refl
+  filled-same (delete t r) p = refl
+  filled-same (commit t s) p = refl
+  filled-same (abort t) p = refl
+  filled-same (latest r c) p = refl
+  filled-same (readAt s r c) p = refl
+  filled-same (ownRead t r c) p = refl
+  filled-same (openScan s) p = refl
+  filled-same (scanRead i r c) p = refl
+  filled-same (sum i c) p = refl
+  filled-same (close i) p = refl
+  filled-same (merge g c n) p = refl
+  filled-same release p = refl
+  filled-same (pageCell c r) p = refl
+  filled-same (lineage g c) p = refl
+  filled-same (crossings r c mark from to stamps) p = ap (λ (l : List ℕ). Seq.sets stamps 0 l) (crossings-is r c mark from to (search nleb→lt) (search nleb→lt))
 
   -- ---- what a call leaves
   free-entry : T (not (H.allActive h)) → T (any (λ i. eqb i 0) (v Opens))
@@ -299,10 +342,11 @@ module _ {S : Shape} {v : View} {ps : List ScanEntry} {h : History} (o : Represe
   act-kept release y p = release-kept o k (step S h release p)
   act-kept (pageCell c r) y p = o
   act-kept (lineage g c) y p = o
+  act-kept (crossings r c mark from to stamps) y p = o
 
 -- ---- one call
 pub one-call : StepKept
-unfolding say viewNext entriesNext answer next answerIf viewIf entriesIf nextIf
+unfolding say viewNext entriesNext stampsNext answer next stampsAfter answerIf viewIf entriesIf nextIf stampsIf
 one-call S v ps h c y o k = go (verdict (tests S h c)) refl
   where
     same : verdict (testsIn S v ps c) ≡ verdict (tests S h c)
@@ -314,5 +358,5 @@ one-call S v ps h c y o k = go (verdict (tests S h c)) refl
     go : (w : Verdict) → verdict (tests S h c) ≡ w → SameCall S v ps h c
     go accept e =
         let p = passed (tests S h c) e in
-        record { answered = rw (same, e) (reply-same o k c p); shown = rw (same, e) (act-kept o k c y p); well-formed = well-formed }
-    go (refuse n) e = record { answered = rw (same, e); shown = rw (same, e) o; well-formed = well-formed }
+        record { answered = rw (same, e) (reply-same o k c p); filled = rw (same, e) (filled-same o k c p); shown = rw (same, e) (act-kept o k c y p); well-formed = well-formed }
+    go (refuse n) e = record { answered = rw (same, e); filled = rw (same, e); shown = rw (same, e) o; well-formed = well-formed }

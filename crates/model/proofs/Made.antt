@@ -12,7 +12,7 @@ use lib.ListN.{length, getD, replicate, length-replicate}
 use mir.Syntax.{w32}
 use mir.Val.{toZ}
 use Rattle.terms.specs.Measures.{Shape, rangeRows, mostScans, withinLimits, mostTransactions, mostChunks}
-use Rattle.history.specs.History.{Call, History, start, answers, count, rowAt, insertedValue, inserted, lastSetting, recordsOf, lastThrough, mergedThrough, scanAt, cellThrough}
+use Rattle.history.specs.History.{Call, History, start, outcomes, count, rowAt, insertedValue, inserted, lastSetting, recordsOf, lastThrough, mergedThrough, scanAt, cellThrough}
 use Rattle.history.specs.Lists.{All, nil, cons}
 use Rattle.history.proofs.Lists.{by-cases, both-test, le-test}
 use Rattle.history.proofs.Invariants.{invariants-start}
@@ -28,7 +28,7 @@ use Rattle.layout.specs.Sizes.{sizesOf}
 use Rattle.terms.specs.Entries.{freeEntry}
 use Rattle.model.specs.Stored.{pageIn, cellIn, currentIn, chunkOf, chunksOf, pagesOf, within, waitingPage, currentPage, countBelow}
 use Rattle.model.specs.Writing.{madeView}
-use Rattle.model.specs.Calls.{Typed, sayAll}
+use Rattle.model.specs.Calls.{Typed, outcomesIn}
 use Rattle.layout.specs.Codes.{asCurrent}
 use Rattle.model.proofs.Lists.{below-none}
 use Rattle.model.specs.Represents.{Holds, everyRow, CurrentsAre, PoolIs, Represents, Small, WellFormed, Whole}
@@ -161,15 +161,15 @@ module _ (S : Shape) (small : Small S) where
       no-scan (suc k) t = unfold scanAt start in t
 
 -- ---- every list of calls
-simulated-from : {S : Shape} {v : View} {ps : List ScanEntry} {h : History} → Represents S v ps h → WellFormed S h → {cs : List Call} → All Typed cs → sayAll S v ps cs ≡ answers S h cs
-unfolding sayAll answers
+simulated-from : {S : Shape} {v : View} {ps : List ScanEntry} {h : History} → Represents S v ps h → WellFormed S h → {cs : List Call} → All Typed cs → outcomesIn S v ps cs ≡ outcomes S h cs
+unfolding outcomesIn outcomes
 simulated-from {S} {v} {ps} {h} o k nil = refl
 simulated-from {S} {v} {ps} {h} o k (cons {x = c} {l = cs} y ys) =
     let one = one-call S v ps h c y o k in
-    rw (one .answered, simulated-from (one .shown) (one .well-formed) ys)
+    rw (one .answered, one .filled, simulated-from (one .shown) (one .well-formed) ys)
 
 -- The store, from a making with any scan list of `mostScans` entries or more, answers every list of calls as the plain history does.
 pub simulated : (S : Shape) → T (withinLimits S) → (n : ℕ) → mostScans ≤ n → (cs : List Call) → All Typed cs
-    → sayAll S (madeView S) (replicate n freeEntry) cs ≡ answers S start cs
+    → outcomesIn S (madeView S) (replicate n freeEntry) cs ≡ outcomes S start cs
 simulated S t n enough cs ys =
     simulated-from (made-represents S (small-shape S t) n enough) record { small = small-shape S t; invariants = invariants-start S } ys

@@ -11,7 +11,7 @@ use lib.IntN.{ℤ}
 use lib.Bits.{bitOr}
 use Rattle.terms.specs.Measures.{Shape, rangeRows}
 use Rattle.history.specs.History as H
-use Rattle.history.specs.History.{Call, begin, insert, update, delete, commit, abort, latest, readAt, ownRead, openScan, scanRead, sum, close, merge, release, pageCell, lineage, History, Verdict, accept, refuse, verdict, tests, next, run, rangeOf, scanAt, withScans}
+use Rattle.history.specs.History.{Call, begin, insert, update, delete, commit, abort, latest, readAt, ownRead, openScan, scanRead, sum, close, merge, release, pageCell, lineage, crossings, History, Verdict, accept, refuse, verdict, tests, next, run, rangeOf, scanAt, withScans}
 use Rattle.history.specs.Lists.{All, nil, cons}
 use Rattle.history.proofs.Lists.{nth-before}
 use Rattle.history.proofs.Accepted.{Passed, passed}
@@ -99,6 +99,7 @@ module _ {S : Shape} {v : View} {ps : List ScanEntry} {h : History} (o : Represe
   act-same release y p = record { page = scan-page-kept o k i g c run; cells = λ r b e. (unfold releasedIn renew cellIn in refl) }
   act-same (pageCell x r) y p = unmoved S v _ _ g c
   act-same (lineage a x) y p = unmoved S v _ _ g c
+  act-same (crossings r x mark from to stamps) y p = unmoved S v _ _ g c
 
   pub next-same : (x : Call) → Typed x → PageStays (viewNext S v ps x)
   unfolding viewNext

@@ -1,3 +1,4 @@
--- The calls that read: whether a row is there (Heads), and the value of a cell (Read).
+-- The calls that read: whether a row is there (Heads), the value of a cell (Read), and a cell's values one after another (Versions).
 pub mod Heads
 pub mod Read
+pub mod Versions

@@ -1,18 +1,19 @@
--- The calls on a store, as the plain history has them: `testsIn` are a call's refusals in the stated order, `replyIn` what it answers if none applies, `actIn` and
--- `entriesAfter` the memory and the scan list that it leaves then. All four are total and look at the memory alone. The test of the stored facts,
+-- The calls on a store, as the plain history has them: `testsIn` are a call's refusals in the stated order, `replyIn` what it answers if none applies, `actIn`, `entriesAfter` and
+-- `stampsIn` the memory, the scan list and the lent slice that it leaves then. All five are total and look at the memory alone. The test of the stored facts,
 -- which every call makes first, is not here: it is the same for all.
 use mathlib.Core.Bool.{Bool, not, _&&_, _||_}
 use mathlib.Core.List.{List, [], _∷_}
 use Prim.Native.Nat.{ℕ, _+_, _*_, _^_, _<_}
 use lib.Dec.{leb, ltb, eqb}
-use lib.ListN.{set}
+use lib.ListN.{length, set}
+use lib.Seq as Seq
 use lib.IntN.{ℤ}
 use mir.Syntax.{w32}
 use mir.Val.{toZ, SFits}
 use Rattle.terms.specs.Measures.{Shape, rangeRows, mostScans, mostNumbers, mostColumns}
 use Rattle.terms.specs.declared.Refusal.{Refusal}
 use Rattle.terms.specs.declared.Answer.{Answer}
-use Rattle.history.specs.History.{Call, begin, insert, update, delete, commit, abort, latest, readAt, ownRead, openScan, scanRead, sum, close, merge, release, pageCell, lineage, Test, _when_, verdict, Verdict, accept, refuse, answerIf, any, count, noColumn, noRange, badMask, rangeOf}
+use Rattle.history.specs.History.{Call, begin, insert, update, delete, commit, abort, latest, readAt, ownRead, openScan, scanRead, sum, close, merge, release, pageCell, lineage, crossings, Test, _when_, verdict, Verdict, accept, refuse, answerIf, Outcome, Slice, none, ofCrossings, sliceOf, lentTo, stampsIf, any, count, noColumn, noRange, badMask, outnumber, rangeOf}
 use Rattle.history.specs.Lists.{All}
 use Rattle.layout.specs.View.{View, put, rowsGiven, transactionsGiven, scansGiven, lastStamp, mergesMade, commitsMade, usedIn}
 use Rattle.layout.specs.declared.Region.the-variants.{Header, Opens}
@@ -21,6 +22,7 @@ use Rattle.terms.specs.Entries.{freeEntry, firstIndex, bears, isScan}
 use Rattle.layout.specs.Regions.{scansAt}
 use Rattle.model.specs.Stored.{RecordWords, rowIn, recordIn, pageIn, currentIn, cellIn, within, committedState, deleteKind, scanEntry, pagesOf, anyBelow, countBelow, wordLimit}
 use Rattle.model.specs.Reading.{reader, allUpTo, snapshotOf, readIn, readCurrent, ownChanges, scanPage, sumIn}
+use Rattle.model.specs.Versions.{crossingsIn}
 use Rattle.model.specs.Writing.{begun, committedIn, abortedIn, insertedIn, updatedIn, deletedIn, mergedIn, releasedIn, releasable, recordsWanted, freeIn}
 
 -- ---- the conditions of the refusals (section 3 of docs/SPECIFICATION.md), read in the memory
@@ -72,6 +74,10 @@ earlierIn v s = ltb s (lastStamp v)
 
 unfoldable pub laterIn : View → ℕ → Bool
 laterIn v s = ltb (lastStamp v) s
+
+-- 13, of two stamps
+unfoldable pub noSpanIn : View → ℕ → ℕ → Bool
+noSpanIn v from to = ltb to from || laterIn v to
 
 -- 16
 unfoldable pub outOfReachIn : Shape → View → ℕ → ℕ → ℕ → Bool
@@ -128,6 +134,12 @@ testsIn S v ps (merge g c n) =
 testsIn S v ps release = []
 testsIn S v ps (pageCell c r) = Refusal.Column when noColumn S c ∷ Refusal.Row when notGivenIn v r ∷ []
 testsIn S v ps (lineage g c) = Refusal.Range when noRange S g ∷ Refusal.Column when noColumn S c ∷ []
+testsIn S v ps (crossings r c mark from to stamps) =
+    Refusal.Row when notGivenIn v r
+    ∷ Refusal.Column when noColumn S c
+    ∷ Refusal.Time when noSpanIn v from to
+    ∷ Refusal.List when outnumber (crossingsIn S v r c mark from to) stamps
+    ∷ []
 
 -- ---- what an accepted call answers
 unfoldable pub replyIn : Shape → View → List ScanEntry → Call → Answer
@@ -150,6 +162,12 @@ replyIn S v ps (merge g c n) = Answer.Done
 replyIn S v ps release = Answer.Number (countBelow (releasable ps v) (pagesOf S))
 replyIn S v ps (pageCell c r) = Answer.Value (toZ w32 (cellIn v (currentIn S v (rangeOf r) c) (within r)))
 replyIn S v ps (lineage g c) = Answer.Lineage ((pageIn v (currentIn S v g c)) .lineage) (usedIn v g)
+replyIn S v ps (crossings r c mark from to stamps) = Answer.Listed (length (crossingsIn S v r c mark from to))
+
+-- ---- and the slice that it was lent
+unfoldable pub stampsIn : Shape → View → Slice → List ℕ
+stampsIn S v none = []
+stampsIn S v (ofCrossings r c mark from to stamps) = Seq.sets stamps 0 (crossingsIn S v r c mark from to)
 
 -- ---- the memory that an accepted call leaves
 unfoldable pub actIn : Shape → View → List ScanEntry → Call → View
@@ -170,6 +188,7 @@ actIn S v ps (merge g c n) = mergedIn S g c n v
 actIn S v ps release = releasedIn S ps v
 actIn S v ps (pageCell c r) = v
 actIn S v ps (lineage g c) = v
+actIn S v ps (crossings r c mark from to stamps) = v
 
 -- ---- and the scan list: an opened scan takes the first free entry, a closed one leaves a free entry
 -- the entry of a scan that is opened now at stamp s
@@ -195,6 +214,7 @@ entriesAfter v ps (merge g c n) = ps
 entriesAfter v ps release = ps
 entriesAfter v ps (pageCell c r) = ps
 entriesAfter v ps (lineage g c) = ps
+entriesAfter v ps (crossings r c mark from to stamps) = ps
 
 -- ---- a call, and a list of calls
 unfoldable pub viewIf : Verdict → View → View → View
@@ -214,9 +234,15 @@ viewNext S v ps c = viewIf (verdict (testsIn S v ps c)) v (actIn S v ps c)
 unfoldable pub entriesNext : Shape → View → List ScanEntry → Call → List ScanEntry
 entriesNext S v ps c = entriesIf (verdict (testsIn S v ps c)) ps (entriesAfter v ps c)
 
-unfoldable pub sayAll : Shape → View → List ScanEntry → List Call → List Answer
-sayAll S v ps [] = []
-sayAll S v ps (c ∷ cs) = say S v ps c ∷ sayAll S (viewNext S v ps c) (entriesNext S v ps c) cs
+unfoldable pub stampsNext : Shape → View → List ScanEntry → Call → List ℕ
+stampsNext S v ps c = stampsIf (verdict (testsIn S v ps c)) (lentTo (sliceOf c)) (stampsIn S v (sliceOf c))
+
+abbrev pub outcomeIn : Shape → View → List ScanEntry → Call → Outcome Answer
+outcomeIn S v ps c = record { answer = say S v ps c; stamps = stampsNext S v ps c }
+
+unfoldable pub outcomesIn : Shape → View → List ScanEntry → List Call → List (Outcome Answer)
+outcomesIn S v ps [] = []
+outcomesIn S v ps (c ∷ cs) = outcomeIn S v ps c ∷ outcomesIn S (viewNext S v ps c) (entriesNext S v ps c) cs
 
 -- the memory and the scan list after a list of calls
 unfoldable pub viewAfter : Shape → View → List ScanEntry → List Call → View
@@ -255,3 +281,5 @@ Typed (merge g c n) = Word g × Word c × Word n
 Typed release = Unit {0}
 Typed (pageCell c r) = Word c × Word r
 Typed (lineage g c) = Word g × Word c
+-- what the lent slice holds may be anything
+Typed (crossings r c mark from to stamps) = Word r × Word c × SFits w32 mark × Word from × Word to

@@ -2,6 +2,7 @@
 -- code asks. Represents is the relation between memory and history that every call keeps; Unfolding is for proofs alone.
 pub mod Stored
 pub mod Reading
+pub mod Versions
 pub mod Writing
 pub mod Calls
 pub mod Claims

@@ -12,7 +12,7 @@ use lib.IntN.{pos}
 use mir.Syntax.{w32}
 use mir.Val.{toZ}
 use Rattle.terms.specs.Measures.{Shape, mostColumns, mostRanges, mostRecords, mostSpares, mostTransactions, mostScans}
-use Rattle.history.specs.History.{History, Row, Record, Commit, State, unknown, active, aborted, committed, Content, original, setting, ending, Scan, Merge, isActive, stateOf, rowAt, bit, sets, rangeOf, recordsOf, mergedThrough, scanAt, seenAt, cellThrough, count, Call, answer, next, commitOf}
+use Rattle.history.specs.History.{History, Row, Record, Commit, State, unknown, active, aborted, committed, Content, original, setting, ending, Scan, Merge, isActive, stateOf, rowAt, bit, sets, rangeOf, recordsOf, mergedThrough, scanAt, seenAt, cellThrough, count, Call, answer, stampsAfter, next, commitOf}
 use Rattle.history.specs.Lists.{All}
 use Rattle.history.specs.Records.{among, wasSet, noRecord, lastOf}
 use Rattle.history.specs.Invariants.{Through, Invariants}
@@ -24,7 +24,7 @@ use Rattle.layout.specs.Regions.{rowsAt, transactionsAt, scansAt, stampAt, merg
 use Rattle.model.specs.Stored.{RowWords, RecordWords, PageWords, rowIn, recordIn, pageIn, valueIn, currentIn, cellIn, within, chunkOf, chunksOf, pagesOf, headerIn, currentPage, waitingPage, countBelow}
 use Rattle.layout.specs.Codes.{asOpen, asCommitted, asAborted, asOriginal, asSetting, asDelete, asCurrent}
 use Rattle.model.specs.Reading.{scanPage}
-use Rattle.model.specs.Calls.{Typed, say, viewNext, entriesNext}
+use Rattle.model.specs.Calls.{Typed, say, stampsNext, viewNext, entriesNext}
 
 -- ---- rows and tail records
 -- A number that was not given has no row and no record; its word does not matter.
@@ -228,9 +228,10 @@ pub record WellFormed (S : Shape) (h : History) : Type 0 where
   pub small : Small S
   pub invariants : Invariants S h
 
--- ---- one call on a store that represents a history: it answers as the history does, and what it leaves represents the next history
+-- ---- one call on a store that represents a history: it answers as the history does, fills its slice alike, and what it leaves represents the next history
 pub record SameCall (S : Shape) (v : View) (ps : List ScanEntry) (h : History) (c : Call) : Type 0 where
   pub answered : say S v ps c ≡ answer S h c
+  pub filled : stampsNext S v ps c ≡ stampsAfter S h c
   pub shown : Represents S (viewNext S v ps c) (entriesNext S v ps c) (next S h c)
   pub well-formed : WellFormed S (next S h c)
 

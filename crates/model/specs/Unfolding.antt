@@ -1,13 +1,14 @@
 -- One name for what a list of calls unfolds to, for a proof's `unfolding` line. Nothing here needs to be believed: a name says nothing, and opens what it lists.
-use Rattle.history.specs.History.{verdict, answerIf}
+use Rattle.history.specs.History.{verdict, answerIf, stampsIf}
 use Rattle.loops.specs.Change.{changed}
 use Rattle.layout.specs.View.{put, renew, blank}
 use Rattle.model.specs.Stored.{anyBelow, rowIn, recordIn, pageIn, valueIn, currentIn, cellIn, openIndex, scanEntry}
 use Rattle.layout.specs.Regions.{slot}
 use Rattle.model.specs.Reading.{sees, headIn, visibleIn, answersFor, walk, foundIn, downTo, wordIn, setterAt, setterIn, commitStamp, setterStamp, lookupIn, shownIn, readIn, readCurrent, ownChanges, wasCurrent, scanPage, tally, sumIn}
+use Rattle.model.specs.Versions.{tells, setterNumber, datedIn, valuesIn, crossingsIn}
 use Rattle.model.specs.Writing.{begun, noted, markAll, settled, freed, committedIn, abortedIn, insertedAt, insertedIn, nextSlot, appended, filledIn, newBitsIn, recordsWanted, originalAppended, settingAppended, updatedIn, deletedIn, applies, applied, newestOf, namedIn, strayIn, freeIn, mergedIn, releasable, releasedIn, madeView}
-use Rattle.model.specs.Calls.{notOpenIn, noScanIn, notGivenIn, openOther, heldIn, goneIn, lacksIn, earlierIn, laterIn, outOfReachIn, openAmongIn, testsIn, replyIn, actIn, entriesAfter, viewIf, entriesIf, say, viewNext, entriesNext, sayAll}
+use Rattle.model.specs.Calls.{notOpenIn, noScanIn, notGivenIn, openOther, heldIn, goneIn, lacksIn, earlierIn, laterIn, noSpanIn, outOfReachIn, openAmongIn, testsIn, replyIn, stampsIn, actIn, entriesAfter, viewIf, entriesIf, say, viewNext, entriesNext, stampsNext, outcomesIn}
 
 unfoldable pub execution : Unit {0}
-unfolding put renew changed anyBelow rowIn recordIn pageIn slot valueIn currentIn cellIn openIndex scanEntry sees headIn visibleIn answersFor walk foundIn downTo wordIn setterAt setterIn commitStamp setterStamp lookupIn shownIn readIn readCurrent ownChanges wasCurrent scanPage tally sumIn begun noted markAll settled freed committedIn abortedIn insertedAt insertedIn nextSlot appended filledIn newBitsIn recordsWanted originalAppended settingAppended updatedIn deletedIn applies applied newestOf namedIn strayIn freeIn mergedIn releasable releasedIn blank madeView notOpenIn noScanIn notGivenIn openOther heldIn goneIn lacksIn earlierIn laterIn outOfReachIn openAmongIn testsIn replyIn actIn entriesAfter viewIf entriesIf say viewNext entriesNext sayAll verdict answerIf
+unfolding put renew changed anyBelow rowIn recordIn pageIn slot valueIn currentIn cellIn openIndex scanEntry sees headIn visibleIn answersFor walk foundIn downTo wordIn setterAt setterIn commitStamp setterStamp lookupIn shownIn readIn readCurrent ownChanges wasCurrent scanPage tally sumIn tells setterNumber datedIn valuesIn crossingsIn begun noted markAll settled freed committedIn abortedIn insertedAt insertedIn nextSlot appended filledIn newBitsIn recordsWanted originalAppended settingAppended updatedIn deletedIn applies applied newestOf namedIn strayIn freeIn mergedIn releasable releasedIn blank madeView notOpenIn noScanIn notGivenIn openOther heldIn goneIn lacksIn earlierIn laterIn noSpanIn outOfReachIn openAmongIn testsIn replyIn stampsIn actIn entriesAfter viewIf entriesIf say viewNext entriesNext stampsNext outcomesIn verdict answerIf stampsIf
 execution = tt

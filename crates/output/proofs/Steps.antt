@@ -10,7 +10,7 @@ use borrow.Author.Tests.{leb-false, leb-true, le-leb}
 use Rattle.terms.specs.Measures.{Shape, between, withinLimits, mostColumns, mostRanges, mostRecords, mostSpares}
 use Rattle.terms.specs.declared.Refusal.{Refusal}
 use Rattle.terms.specs.declared.Answer.{Answer}
-use Rattle.history.specs.History.{Call, begin, insert, update, delete, commit, abort, latest, readAt, ownRead, openScan, scanRead, sum, close, merge, release, pageCell, lineage, History, start, Test, tests, verdict, refuse, reply, shown, read, visible, versionOf, sumOf, answer, answers, answerIf, next}
+use Rattle.history.specs.History.{Call, begin, insert, update, delete, commit, abort, latest, readAt, ownRead, openScan, scanRead, sum, close, merge, release, pageCell, lineage, crossings, History, alone, outcome, outcomes, start, Test, tests, verdict, refuse, reply, shown, read, visible, versionOf, sumOf, answer, answerIf, next}
 use Rattle.lines.specs.Lines.{line, shapeLine}
 use Rattle.commands.specs.declared.Chosen.{Chosen}
 use Rattle.commands.specs.Commands.{chosen, width, callFrom, Item, itemAt, behind, items, script, cutShape, parse, shapeBytes, shapeFrom}
@@ -18,7 +18,7 @@ use Rattle.commands.proofs.Items.{items-none}
 use Rattle.commands.proofs.Parts.{whole, call-part}
 use Rattle.output.specs.Output.{lentColumns, lentRanges, lentRecords, lentSpares, lent, shapeAnswer, goesOn, calls, linesOf, outputOf, output}
 use Rattle.model.specs.Machine.{Machine, historyOf}
-use Rattle.output.specs.Steps.{operandsOf, answerTo, stateAfter, steps, linesFrom, written}
+use Rattle.output.specs.Steps.{operandsOf, outcomeTo, lineOf, stateAfter, steps, linesFrom, written}
 use Rattle.loops.proofs.Search.{and-true, between-tells}
 
 -- ---- no answer of the plain history ends the program
@@ -57,6 +57,7 @@ call-goes-on s h (merge g c n) = (refl, refl)
 call-goes-on s h release = (refl, refl)
 call-goes-on s h (pageCell c r) = (refl, refl)
 call-goes-on s h (lineage g c) = (refl, refl)
+call-goes-on s h (crossings r c mark from to stamps) = (refl, refl)
 
 pub answer-goes-on : (s : Shape) (h : History) (c : Call) → goesOn (answer s h c) ≡ true
 unfolding answer
@@ -68,25 +69,25 @@ unfolding steps
 steps-none zero m columns x = refl
 steps-none (suc most) m columns x = refl
 
--- the lines of a list of items, with the plain history's answers
+-- the lines of a list of items, with the plain history's outcomes
 abbrev printed : Shape → History → List Item → List ℕ
-printed s h is = linesOf is (answers s h (calls is))
+printed s h is = linesOf is (outcomes s h (calls is))
 
 -- behind a refused byte nothing is left
 last-step : (most : ℕ) (s : Shape) (h : History) (byte : ℕ) (r : Refusal) (b : Bool) (k : History)
-    → line byte (Answer.Refused r) ++ cond b (steps most (historyOf s) (s .columns) k []) []
-    ≡ line byte (Answer.Refused r) ++ printed s h (items most (s .columns) [])
+    → line byte (Answer.Refused r) [] ++ cond b (steps most (historyOf s) (s .columns) k []) []
+    ≡ line byte (Answer.Refused r) [] ++ printed s h (items most (s .columns) [])
 unfolding linesOf
 last-step most s h byte r true k = rw (steps-none most (historyOf s) (s .columns) k, items-none most (s .columns))
 last-step most s h byte r false k = rw (items-none most (s .columns))
 
 one-step : (most : ℕ) (s : Shape) (h : History) (byte : ℕ) (bs : List ℕ) (k : Chosen)
     → ((h′ : History) (bs′ : List ℕ) → steps most (historyOf s) (s .columns) h′ bs′ ≡ printed s h′ (items most (s .columns) bs′))
-    → line byte (answerTo (historyOf s) (s .columns) h k (operandsOf (s .columns) k bs))
-    ++ cond (goesOn (answerTo (historyOf s) (s .columns) h k (operandsOf (s .columns) k bs)))
+    → lineOf byte (outcomeTo (historyOf s) (s .columns) h k (operandsOf (s .columns) k bs))
+    ++ cond (goesOn (outcomeTo (historyOf s) (s .columns) h k (operandsOf (s .columns) k bs) .answer))
     (steps most (historyOf s) (s .columns) (stateAfter (historyOf s) (s .columns) h k (operandsOf (s .columns) k bs)) (behind (s .columns) k bs)) []
     ≡ printed s h (itemAt (s .columns) byte k bs ∷ items most (s .columns) (behind (s .columns) k bs))
-unfolding operandsOf answerTo stateAfter behind itemAt linesOf calls answers
+unfolding operandsOf outcomeTo stateAfter behind itemAt linesOf calls outcomes
 one-step most s h byte bs (Chosen.Refused r) ih = last-step most s h byte r (goesOn (Answer.Refused r)) h
 one-step most s h byte bs (Chosen.Known f) ih = rw (whole (width (s .columns) f) bs) (go (leb (width (s .columns) f) (length bs)) refl)
   where
@@ -100,12 +101,12 @@ one-step most s h byte bs (Chosen.Known f) ih = rw (whole (width (s .columns) f)
     d = callFrom (s .columns) f (take w bs)
 
     go : (b : Bool) → leb w (length bs) ≡ b
-        → line byte (cond b (answer s h d) (Answer.Refused Refusal.Cut))
-        ++ cond (goesOn (cond b (answer s h d) (Answer.Refused Refusal.Cut))) (steps most (historyOf s) (s .columns) (cond b (next s h d) h) (drop w bs)) []
+        → lineOf byte (cond b (outcome s h d) (alone (Answer.Refused Refusal.Cut)))
+        ++ cond (goesOn (cond b (outcome s h d) (alone (Answer.Refused Refusal.Cut)) .answer)) (steps most (historyOf s) (s .columns) (cond b (next s h d) h) (drop w bs)) []
         ≡ printed s h (cond b (Item.command byte c) (Item.refused byte Refusal.Cut) ∷ items most (s .columns) (drop w bs))
     go true e =
         rw (call-part (s .columns) f bs (leb-true w (length bs) e), answer-goes-on s h c)
-        (ap (λ (l : List ℕ). line byte (answer s h c) ++ l) (ih (next s h c) (drop w bs)))
+        (ap (λ (l : List ℕ). lineOf byte (outcome s h c) ++ l) (ih (next s h c) (drop w bs)))
     go false e =
         let short : length bs ≤ w = omega (arith, leb-false w (length bs) e) in
         let none : drop w bs ≡ [] = drop-of-length-le bs short in

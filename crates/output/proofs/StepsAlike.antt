@@ -9,27 +9,27 @@ use lib.ListN.{length, take}
 use Rattle.terms.specs.declared.Refusal.{Refusal}
 use Rattle.terms.specs.declared.Answer.{Answer}
 use Rattle.words.specs.Words.{Bytes}
-use Rattle.lines.specs.Lines.{line}
+use Rattle.history.specs.History.{Outcome, alone}
 use Rattle.commands.specs.declared.Chosen.{Chosen}
 use Rattle.commands.specs.Commands.{chosen, width, callFrom, behind}
 use Rattle.output.specs.Output.{goesOn}
 use Rattle.model.specs.Machine.{Machine, Alike}
-use Rattle.output.specs.Steps.{operandsOf, answerTo, stateAfter, steps}
+use Rattle.output.specs.Steps.{operandsOf, outcomeTo, lineOf, stateAfter, steps}
 use Rattle.model.proofs.Alike.{alike-now, alike-next}
 use Rattle.output.proofs.Typed.{typed, bytes-take, bytes-drop}
 
 module _ {A B : Type 0} (m : Machine A) (n : Machine B) where
-  -- one command: its answer, what it leaves, and the bytes behind it
+  -- one command: its outcome, what it leaves, and the bytes behind it
   command-alike : (byte columns : ℕ) (x : A) (y : B) (k : Chosen) (bs : List ℕ) → chosen byte ≡ k → Bytes bs → Alike m n x y
-      → (answerTo m columns x k (operandsOf columns k bs) ≡ answerTo n columns y k (operandsOf columns k bs))
+      → (outcomeTo m columns x k (operandsOf columns k bs) ≡ outcomeTo n columns y k (operandsOf columns k bs))
       × Alike m n (stateAfter m columns x k (operandsOf columns k bs)) (stateAfter n columns y k (operandsOf columns k bs))
       × Bytes (behind columns k bs)
-  unfolding operandsOf answerTo stateAfter behind
+  unfolding operandsOf outcomeTo stateAfter behind
   command-alike byte columns x y (Chosen.Known f) bs e b a =
       let os = take (width columns f) bs in
       let c = callFrom columns f os in
       let t = typed byte columns f os e (bytes-take (width columns f) bs b) in (
-        ap (λ (z : Answer). cond (leb (width columns f) (length os)) z (Answer.Refused Refusal.Cut)) (alike-now m n x y c a t),
+        ap (λ (z : Outcome Answer). cond (leb (width columns f) (length os)) z (alone (Answer.Refused Refusal.Cut))) (alike-now m n x y c a t),
         elim (leb (width columns f) (length os)) as (λ w. Alike m n (cond w (m .next x c) x) (cond w (n .next y c) y)) [ true ↦ alike-next m n x y c a t | false ↦ a ],
         bytes-drop (width columns f) bs b,
       )
@@ -45,5 +45,5 @@ module _ {A B : Type 0} (m : Machine A) (n : Machine B) where
       let os = operandsOf columns k bs in
       let one = command-alike byte columns x y k bs refl (λ i. b (suc i)) a in
       let same = steps-alike most columns (stateAfter m columns x k os) (stateAfter n columns y k os) (behind columns k bs) (one .2) (one .1) in
-      ap (λ (z : Answer). line byte z ++ cond (goesOn z) (steps most m columns (stateAfter m columns x k os) (behind columns k bs)) []) (one .0)
-      ∙ ap (λ (l : List ℕ). line byte (answerTo n columns y k os) ++ cond (goesOn (answerTo n columns y k os)) l []) same
+      ap (λ (z : Outcome Answer). lineOf byte z ++ cond (goesOn (z .answer)) (steps most m columns (stateAfter m columns x k os) (behind columns k bs)) []) (one .0)
+      ∙ ap (λ (l : List ℕ). lineOf byte (outcomeTo n columns y k os) ++ cond (goesOn (outcomeTo n columns y k os .answer)) l []) same

@@ -89,6 +89,7 @@ each-typed =
     & (λ columns os b. tt)
     & (λ columns os b. (one os b 0, two os b 1))
     & (λ columns os b. (one os b 0, one os b 1))
+    & (λ columns os b. (two os b 0, one os b 2, toZ-fits w32 _ (record { fits = four os b 3 }), four os b 7, four os b 11))
     & All.nil
 
 pub typed : (byte columns : ℕ) (f : Form) (os : List ℕ) → chosen byte ≡ Chosen.Known f → Bytes os → Typed (callFrom columns f os)

@@ -4,14 +4,14 @@ use mathlib.Core.List.{[], _∷_, _++_}
 use Rattle.history.specs.Unfolding.{execution}
 use Rattle.words.specs.Words.{words}
 use Rattle.decimal.specs.Decimal.{text, digits, decimal, signed}
-use Rattle.lines.specs.Lines.{capitals, outcome, line, shapeLine}
+use Rattle.lines.specs.Lines.{capitals, fields, outcome, line, shapeLine}
 use Rattle.commands.specs.Commands.{commands, chosen, littleEndian, operand, operands, values, readOf, writeOf, callOf, callFrom, itemAt, behind, items, shapeFrom, parse}
 use Rattle.output.specs.Output.{lent, shapeAnswer, goesOn, calls, linesOf, outputOf, output}
 use Rattle.output.specs.Example.{shape, example, lines}
 
 -- all that an output computes by
 unfoldable computing : Unit {0}
-unfolding execution words digits decimal signed capitals outcome line shapeLine commands chosen littleEndian operand operands values readOf writeOf callOf callFrom itemAt behind items shapeFrom parse lent shapeAnswer goesOn calls linesOf outputOf output
+unfolding execution words digits decimal signed capitals fields outcome line shapeLine commands chosen littleEndian operand operands values readOf writeOf callOf callFrom itemAt behind items shapeFrom parse lent shapeAnswer goesOn calls linesOf outputOf output
 computing = tt
 
 pub worked-example : output example ≡ lines

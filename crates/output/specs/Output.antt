@@ -1,13 +1,13 @@
--- What `gatebook` must write for an input: section 12 of docs/SPECIFICATION.md. The input is parsed, the plain history answers its calls, and each answer is a line.
+-- What `gatebook` must write for an input: section 12 of docs/SPECIFICATION.md. The input is parsed, the plain history answers its calls, and each outcome is a line.
 -- Every definition here is executable.
-use mathlib.Core.Bool.{Bool, true, cond, _&&_}
+use mathlib.Core.Bool.{Bool, true, cond, _&&_, _||_}
 use mathlib.Core.List.{List, [], _∷_, _++_}
 use Prim.Native.Nat.{ℕ}
 use Rattle.terms.specs.Measures.{Shape, between}
 use Rattle.terms.specs.Refusals.{refusalNumber}
 use Rattle.terms.specs.declared.Refusal.{Refusal}
 use Rattle.terms.specs.declared.Answer.{Answer}
-use Rattle.history.specs.History.{Call, start, answers}
+use Rattle.history.specs.History.{Call, Outcome, start, outcomes}
 use Rattle.lines.specs.Lines.{line, shapeLine}
 use Rattle.commands.specs.Commands.{Item, command, refused, Script, cutShape, script, parse}
 
@@ -35,7 +35,7 @@ shapeAnswer s = cond (lent s) Answer.Done (Answer.Refused Refusal.Shape)
 
 -- 12.7: whether gatebook goes on after an answer
 unfoldable pub goesOn : Answer → Bool
-goesOn (Answer.Refused r) = between 2 18 (refusalNumber r)
+goesOn (Answer.Refused r) = between 2 18 (refusalNumber r) || between 21 21 (refusalNumber r)
 goesOn Answer.Done = true
 goesOn (Answer.Number n) = true
 goesOn (Answer.Version v s) = true
@@ -43,6 +43,7 @@ goesOn (Answer.Value v) = true
 goesOn Answer.None = true
 goesOn (Answer.Sum n s) = true
 goesOn (Answer.Lineage n used) = true
+goesOn (Answer.Listed n) = true
 
 -- the calls among the items
 unfoldable pub calls : List Item → List Call
@@ -50,17 +51,17 @@ calls [] = []
 calls (command byte c ∷ is) = c ∷ calls is
 calls (refused byte r ∷ is) = calls is
 
--- A line for each item: the calls have the given answers, in order. A cut command still has its byte printed (12.6).
-unfoldable pub linesOf : List Item → List Answer → List ℕ
+-- A line for each item: the calls have the given outcomes, in order. A cut command still has its byte printed (12.6).
+unfoldable pub linesOf : List Item → List (Outcome Answer) → List ℕ
 linesOf [] given = []
 linesOf (command byte c ∷ is) [] = []
-linesOf (command byte c ∷ is) (a ∷ given) = line byte a ++ linesOf is given
-linesOf (refused byte r ∷ is) given = line byte (Answer.Refused r) ++ linesOf is given
+linesOf (command byte c ∷ is) (o ∷ given) = line byte (o .answer) (o .stamps) ++ linesOf is given
+linesOf (refused byte r ∷ is) given = line byte (Answer.Refused r) [] ++ linesOf is given
 
 unfoldable pub outputOf : Script → List ℕ
 outputOf cutShape = shapeLine (Answer.Refused Refusal.Cut)
 outputOf (script s is) =
-    shapeLine (shapeAnswer s) ++ cond (lent s) (linesOf is (answers s start (calls is))) []
+    shapeLine (shapeAnswer s) ++ cond (lent s) (linesOf is (outcomes s start (calls is))) []
 
 -- 12.6, 12.7: a cut shape; an end between two commands adds no line
 unfoldable pub output : List ℕ → List ℕ

@@ -1,4 +1,4 @@
--- The same output as a program gives it that reads as it goes: the bytes of the shape, then a command byte and its operands, an answer and its line,
+-- The same output as a program gives it that reads as it goes: the bytes of the shape, then a command byte and its operands, an outcome and its line,
 -- until an answer after which it ends or the end of the input. What answers the calls is a parameter here: the plain history, or a store.
 -- proofs/Steps.antt has the theorem that with the plain history this is `output`.
 use mathlib.Core.Bool.{Bool, cond}
@@ -8,7 +8,7 @@ use lib.Dec.{leb}
 use lib.ListN.{length, take, drop}
 use Rattle.terms.specs.declared.Refusal.{Refusal}
 use Rattle.terms.specs.declared.Answer.{Answer}
-use Rattle.history.specs.History.{start}
+use Rattle.history.specs.History.{Outcome, alone, start}
 use Rattle.lines.specs.Lines.{line, shapeLine}
 use Rattle.commands.specs.declared.Chosen.{Chosen}
 use Rattle.commands.specs.Commands.{chosen, width, callFrom, behind, shapeBytes, shapeFrom}
@@ -20,11 +20,11 @@ unfoldable pub operandsOf : ℕ → Chosen → List ℕ → List ℕ
 operandsOf columns (Chosen.Known f) bs = take (width columns f) bs
 operandsOf columns (Chosen.Refused r) bs = []
 
--- What a command byte with the operands os is answered, and the state after it. A cut command does nothing.
-unfoldable pub answerTo : {State : Type 0} → Machine State → ℕ → State → Chosen → List ℕ → Answer
-answerTo m columns x (Chosen.Known f) os =
-    cond (leb (width columns f) (length os)) (m .answer x (callFrom columns f os)) (Answer.Refused Refusal.Cut)
-answerTo m columns x (Chosen.Refused r) os = Answer.Refused r
+-- The outcome of a command byte with the operands os, and the state after it. A cut command does nothing.
+unfoldable pub outcomeTo : {State : Type 0} → Machine State → ℕ → State → Chosen → List ℕ → Outcome Answer
+outcomeTo m columns x (Chosen.Known f) os =
+    cond (leb (width columns f) (length os)) (m .outcome x (callFrom columns f os)) (alone (Answer.Refused Refusal.Cut))
+outcomeTo m columns x (Chosen.Refused r) os = alone (Answer.Refused r)
 
 unfoldable pub stateAfter : {State : Type 0} → Machine State → ℕ → State → Chosen → List ℕ → State
 stateAfter m columns x (Chosen.Known f) os = cond (leb (width columns f) (length os)) (m .next x (callFrom columns f os)) x
@@ -36,10 +36,14 @@ pub record Step (State : Type 0) : Type 0 where
   pub on : Bool
   pub state : State
 
+-- the line of an outcome
+abbrev pub lineOf : ℕ → Outcome Answer → List ℕ
+lineOf byte o = line byte (o .answer) (o .stamps)
+
 abbrev pub step : {State : Type 0} → Machine State → ℕ → State → ℕ → List ℕ → Step State
 step m columns x byte os = record {
-  line = line byte (answerTo m columns x (chosen byte) os);
-  on = goesOn (answerTo m columns x (chosen byte) os);
+  line = lineOf byte (outcomeTo m columns x (chosen byte) os);
+  on = goesOn (outcomeTo m columns x (chosen byte) os .answer);
   state = stateAfter m columns x (chosen byte) os;
 }
 

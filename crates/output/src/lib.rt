@@ -1,6 +1,7 @@
 // The two decisions of `gatebook` that no call of the store makes: which shapes it lends memory for, and after which answers it goes on.
 use commands::Measures;
 use loops::and_between;
+use loops::either;
 use terms::Answer;
 use terms::number;
 ghost use mathlib.Core.Path.{_≡_};
@@ -31,7 +32,11 @@ pub fn goes_on(answer: Answer) -> bool
     ensures { λ r. ⌜ r ≡ goesOn answer ⌝ }
 {
     match answer {
-        Answer::Refused(why) => and_between(true, 2, 18, number(why)),
+        Answer::Refused(why) => {
+            let n = number(why);
+            let of_store = and_between(true, 2, 18, n);
+            either(of_store, and_between(true, 21, 21, n))
+        }
         _ => true,
     }
 }

@@ -14,7 +14,7 @@ use Rattle.layout.specs.Sizes.{sizesOf, bytesNeeded}
 use Rattle.layout.specs.View.{View, lay, viewOf}
 use Rattle.layout.proofs.Lay.{view-lay}
 use Rattle.history.specs.History.{Call, History, start, answer, run, tests, verdict, accept}
-use Rattle.history.specs.Claims.{strike, answerAt, Accepts, Striking, MinutesStable, ScansStable}
+use Rattle.history.specs.Claims.{strike, outcomeAt, Accepts, Striking, MinutesStable, ScansStable}
 use Rattle.history.specs.Lists.{All, nil, cons}
 use Rattle.history.proofs.Lists.{both-test, le-test, all-filterb, is-true, clash}
 use Rattle.history.proofs.Striking.{striking}
@@ -32,8 +32,8 @@ use Rattle.model.proofs.Made.{small-shape, made-represents}
 use Rattle.model.proofs.Claims.{pages-hold, scans-keep}
 use Rattle.promise.specs.Represents.{MemoryRepresents}
 use Rattle.promise.specs.Promise.{storeView, answerOf, memoryAfter, lend, left}
-use Rattle.promise.specs.Demands.{Accepted, memoryMade, storeAnswers, storeLeft, MakingAccepted, ReadsCommitted, PagesCommitted, ScansKept, Demand3, StrikingStore, storeAnswerAt, AcceptsIn, MinutesStableStore, ScansStableStore}
-use Rattle.promise.proofs.Represents.{made-starts, represents-usable, view-is, memory-is, list-is, represents-call, represents-answers}
+use Rattle.promise.specs.Demands.{Accepted, memoryMade, storeOutcomes, storeLeft, MakingAccepted, ReadsCommitted, PagesCommitted, ScansKept, Demand3, StrikingStore, storeOutcomeAt, AcceptsIn, MinutesStableStore, ScansStableStore}
+use Rattle.promise.proofs.Represents.{made-starts, represents-usable, view-is, memory-is, list-is, represents-call, represents-outcomes}
 
 -- ---- an accepted making: its measures are within their limits, and memory and list are long enough
 record Enough (S : Shape) (m : List ℕ) (ps : List ScanEntry) : Type 0 where
@@ -76,8 +76,8 @@ made-then-usable p m qs e = represents-usable (from-making p m qs e)
 
 -- ---- demand 3
 pub demand3 : Demand3
-unfolding Demand3 storeAnswers
-demand3 S m ps a cs ys = represents-answers (from-making S m ps a) ys
+unfolding Demand3 storeOutcomes
+demand3 S m ps a cs ys = represents-outcomes (from-making S m ps a) ys
 
 pub striking-store : StrikingStore
 unfolding StrikingStore Demand3 strike Striking
@@ -86,18 +86,18 @@ striking-store S m ps a cs ys =
 
 -- a call that the store accepts is accepted by the history
 accepts-in : (S : Shape) (m : List ℕ) (ps : List ScanEntry) → Accepted S m ps → (cs : List Call) → All Typed cs → (i : ℕ) (x : Call) → AcceptsIn S m ps cs i x → Accepts S cs i x
-unfolding Demand3 storeAnswerAt answerAt
+unfolding Demand3 storeOutcomeAt outcomeAt
 accepts-in S m ps a cs ys i x p =
     record { inside = p .inside; is = p .is; accepted = rw (demand3 S m ps a cs ys) at (p .accepted) }
 
 pub minutes-stable-store : MinutesStableStore
-unfolding MinutesStableStore Demand3 storeAnswerAt answerAt MinutesStable
-minutes-stable-store S m ps a cs ys i j t r c b past x y =
+unfolding MinutesStableStore Demand3 storeOutcomeAt outcomeAt MinutesStable
+minutes-stable-store S m ps a cs ys i j t x q b past u w =
     rw (demand3 S m ps a cs ys)
-    (minutes-stable S cs i j t r c b past (accepts-in S m ps a cs ys i _ x) (accepts-in S m ps a cs ys j _ y))
+    (minutes-stable S cs i j t x q b past (accepts-in S m ps a cs ys i x u) (accepts-in S m ps a cs ys j x w))
 
 pub scans-stable-store : ScansStableStore
-unfolding ScansStableStore Demand3 storeAnswerAt answerAt ScansStable
+unfolding ScansStableStore Demand3 storeOutcomeAt outcomeAt ScansStable
 scans-stable-store S m ps a cs ys i j x q u w =
     rw (demand3 S m ps a cs ys)
     (scans-stable S cs i j x q (accepts-in S m ps a cs ys i x u) (accepts-in S m ps a cs ys j x w))

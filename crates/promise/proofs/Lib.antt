@@ -6,3 +6,4 @@ pub mod Demands
 pub mod Refused
 pub mod Stated
 pub mod Makes
+pub mod Alone

@@ -1,4 +1,4 @@
--- A refused call leaves every byte and every entry as it was: of any memory and list, also of those that no call made.
+-- A refused call leaves every byte, every entry and every place of its slice as it was: of any memory and list, also of those that no call made.
 use Prim.Native.Nat.{ℕ}
 use mathlib.Core.Path.{_≡_, refl, ap, sym, _∙_}
 use mathlib.Core.Bool.{Bool, true, false, cond, true≢false}
@@ -13,13 +13,13 @@ use Rattle.words.specs.Words.{words}
 use Rattle.layout.specs.declared.Sizes.{Sizes}
 use Rattle.layout.specs.View.{View, lay}
 use Rattle.layout.proofs.Lay.{lay-view}
-use Rattle.history.specs.History.{Call, begin, insert, update, delete, commit, abort, latest, readAt, ownRead, openScan, scanRead, sum, close, merge, release, pageCell, lineage, Verdict, accept, refuse, answerIf}
+use Rattle.history.specs.History.{Call, begin, insert, update, delete, commit, abort, latest, readAt, ownRead, openScan, scanRead, sum, close, merge, release, pageCell, lineage, crossings, Verdict, accept, refuse, answerIf, sliceOf, lentTo, stampsIf}
 use Rattle.history.proofs.Lists.{by-test, is-true}
 use Rattle.facts.specs.Usable.{storedShape, storedSizes, usable}
 use Rattle.facts.proofs.Usable.{usable-tells}
 use Rattle.model.specs.Reading.{shownIn, readIn, readCurrent, sumIn, visibleIn}
-use Rattle.model.specs.Calls.{replyIn, viewIf, entriesIf, say, viewNext, entriesNext}
-use Rattle.promise.specs.Promise.{storeView, answerOf, memoryAfter, listAfter}
+use Rattle.model.specs.Calls.{replyIn, viewIf, entriesIf, say, viewNext, entriesNext, stampsNext}
+use Rattle.promise.specs.Promise.{storeView, answerOf, memoryAfter, listAfter, stampsLeft}
 use Rattle.promise.specs.Demands.{RefusedKeeps}
 
 -- no accepted call answers a refusal
@@ -46,6 +46,7 @@ not-refused S v ps (merge g c n) = refl
 not-refused S v ps release = refl
 not-refused S v ps (pageCell c r) = refl
 not-refused S v ps (lineage g c) = refl
+not-refused S v ps (crossings r c mark from to stamps) = refl
 
 -- so an answer that is a refusal is the verdict's
 pub refused-by : (S : Shape) (v : View) (ps : List ScanEntry) (c : Call) (w : Verdict) {n : Refusal} → answerIf w (replyIn S v ps c) ≡ Answer.Refused n → w ≡ refuse n
@@ -54,10 +55,11 @@ refused-by S v ps c accept e = absurd (true≢false (sym (ap isRefused e) ∙ no
 refused-by S v ps c (refuse r) e = cc
 
 pub refused-keeps : RefusedKeeps
-unfolding RefusedKeeps answerOf memoryAfter listAfter say viewNext entriesNext viewIf entriesIf storeView
+unfolding RefusedKeeps answerOf memoryAfter listAfter stampsLeft say viewNext entriesNext stampsNext viewIf entriesIf stampsIf storeView
 refused-keeps m ps c n b =
-    by-test (λ u. cond u (say S v ps c) (Answer.Refused Refusal.Memory) ≡ Answer.Refused n → (cond u (lay s (viewNext S v ps c) m) m ≡ m) × (cond u (entriesNext S v ps c) ps ≡ ps)) (usable m ps)
-    (λ t e. rw (refused-by S v ps c _ e) (lay-view s m b (usable-tells m ps (is-true (usable m ps) t) .room), refl)) (λ _ e. (refl, refl))
+    by-test (λ u. cond u (say S v ps c) (Answer.Refused Refusal.Memory) ≡ Answer.Refused n
+    → (cond u (lay s (viewNext S v ps c) m) m ≡ m) × (cond u (entriesNext S v ps c) ps ≡ ps) × (cond u (stampsNext S v ps c) (lentTo (sliceOf c)) ≡ lentTo (sliceOf c))) (usable m ps)
+    (λ t e. rw (refused-by S v ps c _ e) (lay-view s m b (usable-tells m ps (is-true (usable m ps) t) .room), refl, refl)) (λ _ e. (refl, refl, refl))
   where
     S : Shape
     S = storedShape (words m)

@@ -1,4 +1,4 @@
--- Every call keeps a lent memory and scan list representing a history of a shape (specs/Represents.antt), and answers as the history does.
+-- Every call keeps a lent memory and scan list representing a history of a shape (specs/Represents.antt), and has the outcome that the history has.
 use Prim.Native.Nat.{ℕ, _+_, _*_, _≤_, _<_}
 use mathlib.Core.Path.{_≡_, refl, ap, sym, _∙_, fun-ext}
 use mathlib.Core.Bool.{true, cond}
@@ -21,18 +21,18 @@ use Rattle.layout.specs.View.{View, lay, Long, viewOf, Suffices}
 use Rattle.layout.proofs.Cut.{join-length}
 use Rattle.layout.proofs.View.{view-at}
 use Rattle.layout.proofs.Lay.{view-lay}
-use Rattle.history.specs.History.{Call, History, start, answer, answers, next}
+use Rattle.history.specs.History.{Call, History, start, answer, outcomes, stampsAfter, next}
 use Rattle.history.specs.Lists.{All, nil, cons}
 use Rattle.history.proofs.Invariants.{invariants-start}
 use Rattle.facts.specs.Usable.{measuresBytes, storedShape, storedSizes, usable}
 use Rattle.making.specs.Made.{madeList}
 use Rattle.model.specs.Writing.{madeView}
-use Rattle.model.specs.Calls.{Typed, say, viewNext, entriesNext}
+use Rattle.model.specs.Calls.{Typed, say, viewNext, entriesNext, stampsNext}
 use Rattle.model.specs.Represents.{Represents, WellFormed}
 use Rattle.model.proofs.Calls.{one-call}
 use Rattle.model.proofs.Made.{small-shape, made-represents}
 use Rattle.promise.specs.Represents.{MemoryRepresents}
-use Rattle.promise.specs.Promise.{storeView, answerOf, memoryAfter, listAfter, answersOf, lend}
+use Rattle.promise.specs.Promise.{storeView, answerOf, memoryAfter, listAfter, stampsLeft, outcomesOf, lend}
 use Rattle.promise.proofs.Stored.{represented-facts}
 
 -- ---- what is laid is as long as it was
@@ -114,16 +114,22 @@ module _ {m : List ℕ} {ps : List ScanEntry} {S : Shape} {h : History} (o : Mem
   unfolding listAfter
   list-is c = by-usable (λ p v. entriesNext p v ps c) _
 
-  -- one call: it answers as the history does, and what it leaves represents the history after it
-  pub represents-call : (c : Call) → Typed c → (answerOf (lend m ps) c ≡ answer S h c) × MemoryRepresents (memoryAfter (lend m ps) c) (listAfter (lend m ps) c) S (next S h c)
+  pub stamps-are : (c : Call) → stampsLeft (lend m ps) c ≡ stampsNext S seen ps c
+  unfolding stampsLeft
+  stamps-are c = by-usable (λ p v. stampsNext p v ps c) _
+
+  -- one call: it answers as the history does, fills its slice alike, and what it leaves represents the history after it
+  pub represents-call : (c : Call) → Typed c
+      → (answerOf (lend m ps) c ≡ answer S h c) × MemoryRepresents (memoryAfter (lend m ps) c) (listAfter (lend m ps) c) S (next S h c) × (stampsLeft (lend m ps) c ≡ stampsAfter S h c)
   represents-call c y =
       let one = one-call S seen ps h c y (o .shown) (o .well-formed) in (
         answer-is c ∙ one .answered,
         rw (memory-is c, list-is c) (laid S (viewNext S seen ps c) m (entriesNext S seen ps c) (next S h c) (o .within) (o .room) (one .well-formed) (one .shown)),
+        stamps-are c ∙ one .filled,
       )
 
 -- every list of calls
-pub represents-answers : {m : List ℕ} {ps : List ScanEntry} {S : Shape} {h : History} → MemoryRepresents m ps S h → {cs : List Call} → All Typed cs → answersOf (lend m ps) cs ≡ answers S h cs
-unfolding answersOf answers
-represents-answers o nil = refl
-represents-answers o (cons {x = c} y ys) = let one = represents-call o c y in rw (one .0, represents-answers (one .1) ys)
+pub represents-outcomes : {m : List ℕ} {ps : List ScanEntry} {S : Shape} {h : History} → MemoryRepresents m ps S h → {cs : List Call} → All Typed cs → outcomesOf (lend m ps) cs ≡ outcomes S h cs
+unfolding outcomesOf outcomes
+represents-outcomes o nil = refl
+represents-outcomes o (cons {x = c} y ys) = let one = represents-call o c y in rw (one .0, one .2, represents-outcomes (one .1) ys)

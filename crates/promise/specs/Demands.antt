@@ -1,4 +1,4 @@
--- The three demands (section 11 of docs/SPECIFICATION.md), stated of the bytes that the calls leave and of the answers that they give; the conditions of the refusals are in Stated.
+-- The three demands (section 11 of docs/SPECIFICATION.md), stated of the bytes that the calls leave, of the answers that they give and of what they write into a slice of stamps; the conditions of the refusals are in Stated.
 -- proofs/Refused.antt and proofs/Stated.antt prove those of demand 1, proofs/Demands.antt the others.
 -- What a call answers and leaves is in Promise, which the contracts of the calls cite, and what a making answers and leaves is `made`, which the contract of
 -- `make` cites. The plain history is History; what is committed is said in the history's Latest, and what a page holds in the model's Claims.
@@ -16,15 +16,15 @@ use Rattle.terms.specs.declared.ScanEntry.{ScanEntry}
 use Rattle.terms.specs.declared.Refusal.{Refusal}
 use Rattle.words.specs.Words.{Bytes}
 use Rattle.layout.specs.Sizes.{bytesNeeded}
-use Rattle.history.specs.History.{Call, readAt, openScan, Snapshot, start, answers, run, tests, verdict, accept, scanAt}
+use Rattle.history.specs.History.{Call, openScan, Snapshot, Outcome, alone, sliceOf, lentTo, start, outcomes, run, tests, verdict, accept, scanAt}
 use Rattle.terms.specs.Refusals.{isRefused}
-use Rattle.history.specs.Claims.{strike, plainAnswers, Reads, AsksScan, historyBefore, callAt}
+use Rattle.history.specs.Claims.{strike, plainOutcomes, Reads, AsksMinutes, AsksScan, historyBefore, callAt}
 use Rattle.history.specs.Lists.{All}
 use Rattle.history.specs.Latest.{lastCommitted}
 use Rattle.making.specs.Made.{made, madeList}
 use Rattle.model.specs.Calls.{Typed}
 use Rattle.model.specs.Claims.{historyAfter, PageHolds, PageKept}
-use Rattle.promise.specs.Promise.{storeView, Lent, answerOf, memoryAfter, listAfter, answersOf, lend, left}
+use Rattle.promise.specs.Promise.{storeView, Lent, answerOf, memoryAfter, listAfter, stampsLeft, outcomesOf, lend, left}
 use Rattle.promise.specs.Stated.{First, NoneApplies, conditions}
 
 -- ---- 11.1: a run begins with an accepted making. m and ps are what memory and list held before it
@@ -42,9 +42,9 @@ MakingAccepted = (S : Shape) (m : List ℕ) (ps : List ScanEntry) → T (withinL
 abbrev pub Every : (Shape → List ℕ → List ScanEntry → List Call → Type 0) → Type 0
 Every P = (S : Shape) (m : List ℕ) (ps : List ScanEntry) → Accepted S m ps → (cs : List Call) → All Typed cs → P S m ps cs
 
--- the answers of the store to a list of calls, and what it leaves of memory and list
-unfoldable pub storeAnswers : Shape → List ℕ → List ScanEntry → List Call → List Answer
-storeAnswers S m ps cs = answersOf (lend (memoryMade S m ps) (madeList ps)) cs
+-- the outcomes of a list of calls on the store, and what it leaves of memory and list
+unfoldable pub storeOutcomes : Shape → List ℕ → List ScanEntry → List Call → List (Outcome Answer)
+storeOutcomes S m ps cs = outcomesOf (lend (memoryMade S m ps) (madeList ps)) cs
 
 unfoldable pub storeLeft : Shape → List ℕ → List ScanEntry → List Call → Lent
 storeLeft S m ps cs = left (lend (memoryMade S m ps) (madeList ps)) cs
@@ -58,11 +58,11 @@ Refuses =
     → ((n : Refusal) → (answerOf (lend m ps) c ≡ Answer.Refused n) ↔ First (conditions m ps c) n)
     × ((isRefused (answerOf (lend m ps) c) ≡ false) ↔ NoneApplies (conditions m ps c))
 
--- 11.9: a refused call changes nothing
+-- 11.9: a refused call changes nothing: no byte, no entry, no place of its slice
 unfoldable pub RefusedKeeps : Type 0
 RefusedKeeps =
     (m : List ℕ) (ps : List ScanEntry) (c : Call) (n : Refusal) → Bytes m → answerOf (lend m ps) c ≡ Answer.Refused n
-    → (memoryAfter (lend m ps) c ≡ m) × (listAfter (lend m ps) c ≡ ps)
+    → (memoryAfter (lend m ps) c ≡ m) × (listAfter (lend m ps) c ≡ ps) × (stampsLeft (lend m ps) c ≡ lentTo (sliceOf c))
 
 -- ---- demand 2
 -- 11.3: a latest read, a read at and a scan read that is not
@@ -93,35 +93,35 @@ ScansKept =
     (run S (historyAfter S cs) (openScan s ∷ later)) (suc (length ((historyAfter S cs) .scans))) g c (length ((historyAfter S cs) .rows)))
 
 -- ---- demand 3
--- 11.2: every answer is the plain history's
+-- 11.2: every answer is the plain history's, and so is what is written into a lent slice
 unfoldable pub Demand3 : Type 0
-Demand3 = Every (λ S m ps cs. storeAnswers S m ps cs ≡ answers S start cs)
+Demand3 = Every (λ S m ps cs. storeOutcomes S m ps cs ≡ outcomes S start cs)
 
 -- 11.6: striking
 unfoldable pub StrikingStore : Type 0
-StrikingStore = Every (λ S m ps cs. plainAnswers cs (storeAnswers S m ps cs) ≡ plainAnswers (strike cs) (storeAnswers S m ps (strike cs)))
+StrikingStore = Every (λ S m ps cs. plainOutcomes cs (storeOutcomes S m ps cs) ≡ plainOutcomes (strike cs) (storeOutcomes S m ps (strike cs)))
 
--- 11.7: stability, of reads in the list that are not refused
-unfoldable pub storeAnswerAt : Shape → List ℕ → List ScanEntry → List Call → ℕ → Answer
-storeAnswerAt S m ps cs i = getD (storeAnswers S m ps cs) i Answer.Done
+-- 11.7: stability, of calls in the list that are not refused
+unfoldable pub storeOutcomeAt : Shape → List ℕ → List ScanEntry → List Call → ℕ → Outcome Answer
+storeOutcomeAt S m ps cs i = getD (storeOutcomes S m ps cs) i (alone Answer.Done)
 
 -- call i is x, and is not refused
 pub record AcceptsIn (S : Shape) (m : List ℕ) (ps : List ScanEntry) (cs : List Call) (i : ℕ) (x : Call) : Type 0 where
   pub inside : i < length cs
   pub is : callAt cs i ≡ x
-  pub accepted : T (not (isRefused (storeAnswerAt S m ps cs i)))
+  pub accepted : T (not (isRefused (storeOutcomeAt S m ps cs i .answer)))
 
--- a read at a minute before the last commit's answers what every later one does
+-- whatever is asked of minutes before the last commit's has the outcome that it has later
 unfoldable pub MinutesStableStore : Type 0
 MinutesStableStore =
     Every
     (λ S m ps cs.
-    (i j t r c : ℕ) → i ≤ j → t < historyBefore S cs i .last .stamp → AcceptsIn S m ps cs i (readAt t r c) → AcceptsIn S m ps cs j (readAt t r c)
-    → storeAnswerAt S m ps cs i ≡ storeAnswerAt S m ps cs j)
+    (i j t : ℕ) (x : Call) → AsksMinutes x t → i ≤ j → t < historyBefore S cs i .last .stamp → AcceptsIn S m ps cs i x → AcceptsIn S m ps cs j x
+    → storeOutcomeAt S m ps cs i ≡ storeOutcomeAt S m ps cs j)
 
--- whatever is asked of a scan twice has one answer
+-- whatever is asked of a scan twice has one outcome
 unfoldable pub ScansStableStore : Type 0
 ScansStableStore =
     Every
     (λ S m ps cs.
-    (i j : ℕ) (x : Call) → AsksScan x → AcceptsIn S m ps cs i x → AcceptsIn S m ps cs j x → storeAnswerAt S m ps cs i ≡ storeAnswerAt S m ps cs j)
+    (i j : ℕ) (x : Call) → AsksScan x → AcceptsIn S m ps cs i x → AcceptsIn S m ps cs j x → storeOutcomeAt S m ps cs i ≡ storeOutcomeAt S m ps cs j)

@@ -13,13 +13,13 @@ use Rattle.terms.specs.declared.Refusal.{Refusal}
 use Rattle.terms.specs.declared.Answer.{Answer}
 use Rattle.words.specs.Words.{words}
 use Rattle.layout.specs.View.{View, lay, viewOf}
-use Rattle.history.specs.History.{Call}
+use Rattle.history.specs.History.{Call, Outcome, sliceOf, lentTo}
 use Rattle.scans.specs.declared.Scans.{Scans}
 use Rattle.scans.specs.Entries.{freedIf}
 use Rattle.scans.specs.Table.{tableOf}
 use Rattle.making.specs.Made.{made}
 use Rattle.facts.specs.Usable.{storedShape, storedSizes, usable}
-use Rattle.model.specs.Calls.{say, viewNext, entriesNext}
+use Rattle.model.specs.Calls.{say, viewNext, entriesNext, stampsNext}
 use Rattle.model.specs.Machine.{Machine}
 
 -- the view of a memory by the shape that it holds
@@ -53,13 +53,23 @@ listAfter x c =
     let ps = x .list in
     cond (usable m ps) (entriesNext (storedShape (words m)) (storeView m) ps c) ps
 
+-- and of the slice of stamps that it is lent to write
+unfoldable pub stampsLeft : Lent → Call → List ℕ
+stampsLeft x c =
+    let m = x .memory in
+    let ps = x .list in
+    cond (usable m ps) (stampsNext (storedShape (words m)) (storeView m) ps c) (lentTo (sliceOf c))
+
+abbrev pub outcomeOf : Lent → Call → Outcome Answer
+outcomeOf x c = record { answer = answerOf x c; stamps = stampsLeft x c }
+
 abbrev pub leftBy : Lent → Call → Lent
 leftBy x c = record { memory = memoryAfter x c; list = listAfter x c }
 
 -- ---- a list of calls: each is lent what the last one left
-unfoldable pub answersOf : Lent → List Call → List Answer
-answersOf x [] = []
-answersOf x (c ∷ cs) = answerOf x c ∷ answersOf (leftBy x c) cs
+unfoldable pub outcomesOf : Lent → List Call → List (Outcome Answer)
+outcomesOf x [] = []
+outcomesOf x (c ∷ cs) = outcomeOf x c ∷ outcomesOf (leftBy x c) cs
 
 unfoldable pub left : Lent → List Call → Lent
 left x [] = x
@@ -67,7 +77,7 @@ left x (c ∷ cs) = left (leftBy x c) cs
 
 -- It answers calls as a machine does.
 abbrev pub lentMachine : Machine Lent
-lentMachine = record { answer = answerOf; next = leftBy }
+lentMachine = record { outcome = outcomeOf; next = leftBy }
 
 -- ---- what a call promises
 -- a call over the memory m and the list ps answers r, and leaves the memory m′ and the list ps′
@@ -78,6 +88,13 @@ Serves m ps c r m′ ps′ = (r ≡ answerOf (lend m ps) c) × (m′ ≡ memoryA
 -- of that list.
 unfoldable pub ServesBy : Scans → List ℕ → Call → Answer → List ℕ → (List ScanEntry → List ScanEntry) → Type 0
 ServesBy t m c r m′ next = (ps : List ScanEntry) → t ≡ tableOf ps → Serves m ps c r m′ (next ps)
+
+-- With the slice that a call is lent to write: what it gives is its answer and the slice as it leaves it.
+unfoldable pub Gives : List ℕ → List ScanEntry → Call → Outcome Answer → List ℕ → List ScanEntry → Type 0
+Gives m ps c o m′ ps′ = Serves m ps c (o .answer) m′ ps′ × (o .stamps ≡ stampsLeft (lend m ps) c)
+
+unfoldable pub GivesBy : Scans → List ℕ → Call → Outcome Answer → List ℕ → (List ScanEntry → List ScanEntry) → Type 0
+GivesBy t m c o m′ next = (ps : List ScanEntry) → t ≡ tableOf ps → Gives m ps c o m′ (next ps)
 
 -- a list that is left as it is
 abbrev pub kept : List ScanEntry → List ScanEntry

@@ -1,6 +1,6 @@
 -- The refusals (sections 3 and 4 of docs/SPECIFICATION.md), said of what a lent memory and a lent scan list hold, each in the words of its rule and in the order of
 -- the call's tests. Nothing here cites a test of the model, of the history or of the code: a condition speaks of the words of the memory and the entries of the list.
--- `Refuses` (Demands) says that a call answers by these conditions. Two words are settled here. Open is what stands in the list of open numbers, and nothing
+-- `Refuses` (Demands) says that a call answers by these conditions; which stamps are crossings is the model's to say (Versions). Two words are settled here. Open is what stands in the list of open numbers, and nothing
 -- else: state words do not make a number open. What is not open is committed where its state word says so, and aborted otherwise.
 use mathlib.Core.Path.{_≡_}
 use mathlib.Core.Logic.{_≢_, _⊎_}
@@ -16,8 +16,9 @@ use Rattle.terms.specs.declared.Refusal.{Refusal}
 use Rattle.words.specs.Words.{words}
 use Rattle.layout.specs.View.{View, rowsGiven, transactionsGiven, scansGiven, lastStamp, usedIn}
 use Rattle.layout.specs.declared.Region.the-variants.{Opens}
-use Rattle.history.specs.History.{Call, begin, insert, update, delete, commit, abort, latest, readAt, ownRead, openScan, scanRead, sum, close, merge, release, pageCell, lineage, bit, count, rangeOf}
+use Rattle.history.specs.History.{Call, begin, insert, update, delete, commit, abort, latest, readAt, ownRead, openScan, scanRead, sum, close, merge, release, pageCell, lineage, crossings, bit, count, rangeOf}
 use Rattle.facts.specs.Usable.{storedShape, usable}
+use Rattle.model.specs.Versions.{crossingsIn}
 use Rattle.model.specs.Stored.{RecordWords, rowIn, recordIn, pageIn, currentIn, pagesOf, countBelow, deleteKind, waitingPage}
 use Rattle.layout.specs.Codes.{asCommitted}
 use Rattle.layout.specs.Regions.{slot}
@@ -79,6 +80,10 @@ transactionsOpen v = count (λ t. not (eqb t 0)) (v Opens)
 
 abbrev pub scansOpen : List ScanEntry → ℕ
 scansOpen ps = count (λ p. not (eqb (p .number) 0)) ps
+
+-- 3.13, of two stamps
+abbrev pub NoSpan : View → ℕ → ℕ → Type 0
+NoSpan v from to = (to < from) ⊎ (lastStamp v < to)
 
 -- 3.16: merged through n already, or n above the records used
 abbrev pub OutOfReach : Shape → View → ℕ → ℕ → ℕ → Type 0
@@ -142,6 +147,12 @@ stated S v ps (merge g c n) =
 stated S v ps release = []
 stated S v ps (pageCell c r) = Refusal.Column on (S .columns ≤ c) ∷ Refusal.Row on (rowsGiven v ≤ r) ∷ []
 stated S v ps (lineage g c) = Refusal.Range on (S .ranges ≤ g) ∷ Refusal.Column on (S .columns ≤ c) ∷ []
+stated S v ps (crossings r c mark from to stamps) =
+    Refusal.Row on (rowsGiven v ≤ r)
+    ∷ Refusal.Column on (S .columns ≤ c)
+    ∷ Refusal.Time on NoSpan v from to
+    ∷ Refusal.List on (length stamps < length (crossingsIn S v r c mark from to))
+    ∷ []
 
 -- 2.5: refusal 2 is the first test of each call
 unfoldable pub conditions : List ℕ → List ScanEntry → Call → List Clause

@@ -151,7 +151,7 @@ fn find(mem: &[u8], s: Sizes, who: Reader, row: Row, c: u32) -> Found
 }
 
 // Who set what the tail record at a slot answers with: an original holds what was inserted.
-fn setter_at(mem: &[u8], s: Sizes, at: usize) -> Setter
+pub fn setter_at(mem: &[u8], s: Sizes, at: usize) -> Setter
     requires { ⌜ Suffices s (now mem) ⌝ }
     requires { ⌜ at < s .slots ⌝ }
     ensures { λ r. ⌜ r ≡ setterAt (viewOf s (now (mem .entry))) at ⌝ }
@@ -164,7 +164,7 @@ fn setter_at(mem: &[u8], s: Sizes, at: usize) -> Setter
 }
 
 // The stamp of a setter's commit; 0 while it has none.
-fn setter_stamp(mem: &[u8], s: Sizes, row: Row, setter: Setter) -> u32
+pub fn setter_stamp(mem: &[u8], s: Sizes, row: Row, setter: Setter) -> u32
     requires { ⌜ Suffices s (now mem) ⌝ }
     requires { ⌜ (row .0 < s .rows) × RecordInside setter (s .slots) ⌝ }
     ensures { λ r. ⌜ r ≡ setterStamp (viewOf s (now (mem .entry))) (row .0) setter ⌝ }

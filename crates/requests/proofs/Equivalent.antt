@@ -1,5 +1,5 @@
 -- Two calls that a lent memory does not tell apart: what is due for the one is due for the other.
-use mathlib.Core.Path.{_≡_, refl}
+use mathlib.Core.Path.{_≡_, refl, sym, _∙_}
 use mathlib.Core.Bool.{Bool, true, false}
 use mathlib.Core.List.{List}
 use Prim.Native.Nat.{ℕ}
@@ -9,9 +9,10 @@ use Rattle.terms.specs.declared.ScanEntry.{ScanEntry}
 use Rattle.words.specs.Words.{words}
 use Rattle.layout.specs.View.{View}
 use Rattle.facts.specs.Usable.{storedShape, usable}
-use Rattle.history.specs.History.{Call, Verdict, accept, refuse, verdict, answerIf}
+use Rattle.history.specs.History.{Call, Verdict, accept, refuse, verdict, answerIf, none, sliceOf, Outcome}
 use Rattle.model.specs.Calls.{testsIn, replyIn, actIn, viewIf, entriesIf, entriesAfter, say, viewNext, entriesNext}
-use Rattle.promise.specs.Promise.{storeView, answerOf, memoryAfter, listAfter, Serves}
+use Rattle.promise.specs.Promise.{lend, storeView, answerOf, memoryAfter, listAfter, Serves, Gives}
+use Rattle.promise.proofs.Alone.{none-left}
 
 -- They meet the same first refusal, and where there is none they answer and leave the same.
 pub record Equivalent (S : Shape) (v : View) (ps : List ScanEntry) (x y : Call) : Type 0 where
@@ -41,3 +42,10 @@ served-equivalent m ps x y r m′ ps′ same w = go (usable m ps) refl
         let next = equivalent-next (storedShape (words m)) (storeView m) ps x y (same u) in
         rw (u, ← next .0, ← next .1, ← next .2) (rw u at w)
     go false u = rw u (rw u at w)
+
+-- and what is given, where neither is lent a slice
+pub given-equivalent : (m : List ℕ) (ps : List ScanEntry) (x y : Call) (o : Outcome Answer) (m′ : List ℕ) (ps′ : List ScanEntry) → sliceOf x ≡ none → sliceOf y ≡ none
+    → (usable m ps ≡ true → Equivalent (storedShape (words m)) (storeView m) ps x y) → Gives m ps x o m′ ps′ → Gives m ps y o m′ ps′
+unfolding Gives
+given-equivalent m ps x y o m′ ps′ p q same w =
+    (served-equivalent m ps x y (o .answer) m′ ps′ same (w .0), w .1 ∙ none-left (lend m ps) x p ∙ sym (none-left (lend m ps) y q))

@@ -14,7 +14,7 @@ use Rattle.terms.specs.declared.Answer.{Answer}
 use Rattle.terms.specs.declared.ScanEntry.{ScanEntry}
 use Rattle.layout.specs.View.{View}
 use Rattle.layout.specs.declared.Region.the-variants.{Current}
-use Rattle.history.specs.History.{rangeOf}
+use Rattle.history.specs.History.{rangeOf, Outcome}
 use Rattle.layout.specs.Codes.{asSetting}
 use Rattle.model.specs.Writing.{putCells, insertedAt, insertedIn, settingAppended, originalAppended, updatedIn, filledIn, nextSlot, appended}
 use Rattle.model.specs.Calls.{testsIn, replyIn, actIn, entriesAfter}
@@ -23,9 +23,9 @@ use Rattle.commands.specs.declared.Kind.{Kind}
 use Rattle.commands.specs.declared.Request.{Request}
 use Rattle.commands.specs.Commands.{first, second, third, writeOf, callOf}
 use Rattle.commands.specs.Decoded.{callIn, ZerosPast}
-use Rattle.promise.specs.Promise.{Serves}
+use Rattle.promise.specs.Promise.{Gives}
 use Rattle.requests.specs.Requested.{requested}
-use Rattle.requests.proofs.Equivalent.{served-equivalent}
+use Rattle.requests.proofs.Equivalent.{given-equivalent}
 
 abbrev Agree : List ℤ → List ℤ → Type 0
 Agree vs us = (c : ℕ) → getD vs c (pos 0) ≡ getD us c (pos 0)
@@ -49,23 +49,24 @@ module _ (vs us : List ℤ) (e : Agree vs us) (S : Shape) where
   unfolding updatedIn
   updated-agree t r mask v = rw (setting-agree t r mask (originalAppended S t r mask v), setting-agree t r mask v)
 
--- What is due for a call with one list of values is due for it with another that agrees: no test and no answer looks at them.
-served-values : (m : List ℕ) (ps : List ScanEntry) (k : Kind) (ns : List ℕ) (vs us : List ℤ) (r : Answer) (m′ : List ℕ) (ps′ : List ScanEntry) → Agree vs us
-    → Serves m ps (callOf k ns vs) r m′ ps′ → Serves m ps (callOf k ns us) r m′ ps′
+-- What is given for a call with one list of values is given for it with another that agrees: no test and no answer looks at them.
+given-values : (m : List ℕ) (ps : List ScanEntry) (k : Kind) (ns : List ℕ) (vs us : List ℤ) (o : Outcome Answer) (m′ : List ℕ) (ps′ : List ScanEntry) → Agree vs us
+    → Gives m ps (callOf k ns vs) o m′ ps′ → Gives m ps (callOf k ns us) o m′ ps′
 unfolding callOf writeOf testsIn replyIn actIn entriesAfter
-served-values m ps (Kind.Read k) ns vs us r m′ ps′ e w = w
-served-values m ps (Kind.Write Write.Begin) ns vs us r m′ ps′ e w = w
-served-values m ps (Kind.Write Write.Insert) ns vs us r m′ ps′ e w =
-    served-equivalent _ _ _ _ _ _ _ (λ u. record { verdicts = refl; accepted = λ z. (refl, inserted-agree vs us e _ (first ns) _, refl) }) w
-served-values m ps (Kind.Write Write.Update) ns vs us r m′ ps′ e w =
-    served-equivalent _ _ _ _ _ _ _ (λ u. record { verdicts = refl; accepted = λ z. (refl, updated-agree vs us e _ (first ns) (second ns) (third ns) _, refl) }) w
-served-values m ps (Kind.Write Write.Delete) ns vs us r m′ ps′ e w = w
-served-values m ps (Kind.Write Write.Commit) ns vs us r m′ ps′ e w = w
-served-values m ps (Kind.Write Write.Abort) ns vs us r m′ ps′ e w = w
-served-values m ps (Kind.Write Write.Merge) ns vs us r m′ ps′ e w = w
-served-values m ps (Kind.Write Write.Release) ns vs us r m′ ps′ e w = w
-served-values m ps Kind.OpenScan ns vs us r m′ ps′ e w = w
-served-values m ps Kind.Close ns vs us r m′ ps′ e w = w
+given-values m ps (Kind.Read k) ns vs us o m′ ps′ e w = w
+given-values m ps (Kind.Write Write.Begin) ns vs us o m′ ps′ e w = w
+given-values m ps (Kind.Write Write.Insert) ns vs us o m′ ps′ e w =
+    given-equivalent _ _ _ _ _ _ _ refl refl (λ u. record { verdicts = refl; accepted = λ z. (refl, inserted-agree vs us e _ (first ns) _, refl) }) w
+given-values m ps (Kind.Write Write.Update) ns vs us o m′ ps′ e w =
+    given-equivalent _ _ _ _ _ _ _ refl refl (λ u. record { verdicts = refl; accepted = λ z. (refl, updated-agree vs us e _ (first ns) (second ns) (third ns) _, refl) }) w
+given-values m ps (Kind.Write Write.Delete) ns vs us o m′ ps′ e w = w
+given-values m ps (Kind.Write Write.Commit) ns vs us o m′ ps′ e w = w
+given-values m ps (Kind.Write Write.Abort) ns vs us o m′ ps′ e w = w
+given-values m ps (Kind.Write Write.Merge) ns vs us o m′ ps′ e w = w
+given-values m ps (Kind.Write Write.Release) ns vs us o m′ ps′ e w = w
+given-values m ps Kind.OpenScan ns vs us o m′ ps′ e w = w
+given-values m ps Kind.Close ns vs us o m′ ps′ e w = w
+given-values m ps Kind.Crossings ns vs us o m′ ps′ e w = w
 
 -- The first n values agree with all where those past them are 0.
 zeros-agree : (vs : List ℤ) (n : ℕ) → ZerosPast n vs → Agree vs (take n vs)
@@ -78,8 +79,8 @@ zeros-agree vs n z c = go (decLe n c)
     go (yes l) = z c l ∙ sym (List·getD-eq-default (take n vs) (pos 0) (omega (arith, short)))
     go (no l) = sym (getD-take n vs c (pos 0) (omega arith))
 
--- What is due for all the values of a request is due for the call that it stands for.
-pub served-call : (m : List ℕ) (ps : List ScanEntry) (q : Request) (r : Answer) (m′ : List ℕ) (ps′ : List ScanEntry) → ZerosPast (q .count) (q .values)
-    → Serves m ps (requested q) r m′ ps′ → Serves m ps (callIn q) r m′ ps′
-served-call m ps q r m′ ps′ z w =
-    served-values m ps (q .kind) (q .operands) (q .values) (take (q .count) (q .values)) r m′ ps′ (zeros-agree (q .values) (q .count) z) w
+-- What is given for all the values of a request is given for the call that it stands for.
+pub given-call : (m : List ℕ) (ps : List ScanEntry) (q : Request) (o : Outcome Answer) (m′ : List ℕ) (ps′ : List ScanEntry) → ZerosPast (q .count) (q .values)
+    → Gives m ps (requested q) o m′ ps′ → Gives m ps (callIn q) o m′ ps′
+given-call m ps q o m′ ps′ z w =
+    given-values m ps (q .kind) (q .operands) (q .values) (take (q .count) (q .values)) o m′ ps′ (zeros-agree (q .values) (q .count) z) w

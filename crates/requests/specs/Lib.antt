@@ -1,3 +1,3 @@
--- The scan list in bytes, and what a request asks for.
+-- The scan list in bytes, what a request asks for, and what its call gives.
 pub mod Packed
 pub mod Requested

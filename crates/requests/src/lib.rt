@@ -1,4 +1,4 @@
-// One call on a store, asked for by a request, a decoded command: the seventeen calls behind one function, with the scan list as bytes.
+// One call on a store, asked for by a request, a decoded command: the eighteen calls behind one function, with the scan list as bytes.
 pub mod packed;
 
 use changes::abort;
@@ -12,6 +12,7 @@ use commands::MOST_OPERANDS;
 use commands::Read;
 use commands::Request;
 use commands::Write;
+use lookups::crossings;
 use lookups::latest;
 use lookups::lineage;
 use lookups::own_read;
@@ -30,22 +31,25 @@ use terms::Stamp;
 use terms::Tail;
 use terms::Transaction;
 use terms::accepted;
+use terms::limits::LENT_STAMPS;
 use terms::limits::MOST_COLUMNS;
 use upkeep::close_scan;
 use upkeep::merge;
 use upkeep::open_scan;
 use upkeep::release;
+use words::of_word;
 ghost use mathlib.Core.Path.{_≡_};
 ghost use mathlib.Core.Bool.{cond};
+ghost use mathlib.Core.List.{[]};
 ghost use lib.Dec.{ltb};
 ghost use Rattle.words.specs.Words.{words};
 ghost use Rattle.requests.specs.Packed.{entriesOf};
 ghost use Rattle.scans.specs.Table.{tableOf};
 ghost use Rattle.layout.specs.Sizes.{shapeOf};
-ghost use Rattle.history.specs.History.{Call};
-ghost use Rattle.commands.specs.Commands.{readOf, writeOf};
-ghost use Rattle.promise.specs.Promise.{Serves, ServesBy, Makes, kept};
-ghost use Rattle.requests.specs.Requested.{mostMask, requested};
+ghost use Rattle.history.specs.History.{Call, alone as aloneOf};
+ghost use Rattle.commands.specs.Commands.{readOf, writeOf, callOf};
+ghost use Rattle.promise.specs.Promise.{Serves, ServesBy, Gives, GivesBy, Makes, kept};
+ghost use Rattle.requests.specs.Requested.{mostMask, requested, givenBy};
 
 // A store is made, and with it every entry of the list becomes free.
 pub fn make_store(
@@ -145,18 +149,55 @@ fn change(
     }
 }
 
+// An answer, the slice that the call was lent, and how many of its places were lent: none but to crossings.
+pub struct Called {
+    pub answer: Answer,
+    pub stamps: [u32; LENT_STAMPS],
+    pub lent: usize,
+}
+
+// The answer of a call that is lent no slice.
+pub fn alone(answer: Answer) -> Called
+    ensures { λ r. ⌜ givenBy r ≡ aloneOf answer ⌝ }
+{
+    Called {
+        answer,
+        stamps: [0; LENT_STAMPS],
+        lent: 0,
+    }
+}
+
+// The call that writes into a slice: it is lent one of zeros.
+fn lent_crossings(mem: &[u8], t: Scans, operands: [u32; MOST_OPERANDS]) -> Called
+    ensures { λ r. ⌜ GivesBy t (now (mem .entry)) (callOf Kind.Crossings operands []) (givenBy r) (now (mem .entry)) kept ⌝ }
+{
+    let row = Row(operands[0]);
+    let column = operands[1];
+    let mark = of_word(operands[2]);
+    let from = Stamp(operands[3]);
+    let to = Stamp(operands[4]);
+    let mut stamps = [0; LENT_STAMPS];
+    let answer = crossings(mem, t, &mut stamps, row, column, mark, from, to);
+    Called {
+        answer,
+        stamps,
+        lent: LENT_STAMPS,
+    }
+}
+
 // The answer to a request.
-pub fn call(mem: &mut [u8], scans: &mut [u8], request: Request) -> Answer
-    ensures { λ r. ⌜ Serves (now (mem .entry)) (entriesOf (words (now (scans .entry)))) (requested request) r (now (mem .exit)) (entriesOf (words (now (scans .exit)))) ⌝ }
+pub fn call(mem: &mut [u8], scans: &mut [u8], request: Request) -> Called
+    ensures { λ r. ⌜ Gives (now (mem .entry)) (entriesOf (words (now (scans .entry)))) (requested request) (givenBy r) (now (mem .exit)) (entriesOf (words (now (scans .exit)))) ⌝ }
 {
     let t = table(scans);
     let kind = request.kind;
     let operands = request.operands;
     let values = request.values;
     match kind {
-        Kind::Read(read) => look(mem, t, read, operands),
-        Kind::Write(write) => change(mem, t, write, operands, values),
-        Kind::OpenScan => open_listed(mem, scans, t, operands[0]),
-        Kind::Close => close_listed(mem, scans, t, operands[0]),
+        Kind::Read(read) => alone(look(mem, t, read, operands)),
+        Kind::Write(write) => alone(change(mem, t, write, operands, values)),
+        Kind::OpenScan => alone(open_listed(mem, scans, t, operands[0])),
+        Kind::Close => alone(close_listed(mem, scans, t, operands[0])),
+        Kind::Crossings => lent_crossings(mem, t, operands),
     }
 }

@@ -17,7 +17,7 @@ use Rattle.commands.proofs.Items.{behind-shorter}
 use Rattle.commands.proofs.Table.{chosen-passes}
 use Rattle.output.specs.Output.{goesOn}
 use Rattle.model.specs.Machine.{Machine}
-use Rattle.output.specs.Steps.{Step, operandsOf, answerTo, stateAfter, step, steps, linesFrom}
+use Rattle.output.specs.Steps.{Step, operandsOf, outcomeTo, lineOf, stateAfter, step, steps, linesFrom}
 use Rattle.output.proofs.Steps.{steps-none}
 use Rattle.promise.specs.Promise.{Lent, lentMachine}
 use Rattle.turns.specs.Turns.{firstStore, firstStep, columnsFrom, capped, operandWidth}
@@ -51,12 +51,12 @@ module _ {State : Type 0} (m : Machine State) (columns : ℕ) where
   -- a command's line, with the operands os, and what is due for the bytes behind
   abbrev lineThen : State → ℕ → Chosen → List ℕ → ℕ → List ℕ → List ℕ
   lineThen x byte k os most left =
-      line byte (answerTo m columns x k os) ++ cond (goesOn (answerTo m columns x k os)) (steps most m columns (stateAfter m columns x k os) left) []
+      lineOf byte (outcomeTo m columns x k os) ++ cond (goesOn (outcomeTo m columns x k os .answer)) (steps most m columns (stateAfter m columns x k os) left) []
 
   whole-step : (x : State) (byte : ℕ) (k : Chosen) (tail rest : List ℕ) → T (ends k) → operandWidth columns k ≤ length tail
       → lineThen x byte k (operandsOf columns k (tail ++ rest)) (length (tail ++ rest)) (behind columns k (tail ++ rest))
       ≡ lineThen x byte k (take (operandWidth columns k) tail) (length (drop (operandWidth columns k) tail ++ rest)) (drop (operandWidth columns k) tail ++ rest)
-  unfolding operandsOf behind operandWidth answerTo
+  unfolding operandsOf behind operandWidth outcomeTo
   whole-step x byte (Chosen.Known f) tail rest e h =
       let w : ℕ = width columns f in
       rw (

@@ -20,3 +20,6 @@ pub const MOST_SCANS: usize = 5;
 
 // the transaction numbers that a store gives, and likewise its scan numbers
 pub const MOST_NUMBERS: u32 = 65535;
+
+// the places of the slice that gatebook lends for crossings (12.4)
+pub const LENT_STAMPS: usize = 16;

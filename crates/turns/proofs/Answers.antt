@@ -1,7 +1,7 @@
--- How many bytes the operands of a command can have, what a called request leaves, and a turn from its answer.
+-- How many bytes the operands of a command can have, what a called request leaves, and a turn from its outcome.
 use Prim.Native.Nat.{ℕ, _+_, _*_, _≤_}
 use native.Mathlib.Omega.{arith}
-use mathlib.Core.Path.{_≡_, ap, sym, _∙_}
+use mathlib.Core.Path.{_≡_, ap, ap₂, sym, _∙_}
 use mathlib.Core.Bool.{Bool, true, false, cond}
 use mathlib.Core.List.{List}
 use lib.ListN.{length}
@@ -16,10 +16,11 @@ use Rattle.commands.specs.Commands.{valueBytes, operandsBytes, total, widthsOf,
 use Rattle.commands.proofs.Bytes.{total-most}
 use Rattle.commands.specs.Decoded.{callIn, ZerosPast}
 use Rattle.output.specs.Output.{goesOn}
-use Rattle.output.specs.Steps.{answerTo, stateAfter, Step}
-use Rattle.promise.specs.Promise.{Serves, Lent}
+use Rattle.output.specs.Steps.{outcomeTo, stateAfter, Step}
+use Rattle.promise.specs.Promise.{Gives, Serves, Lent}
+use Rattle.history.specs.History.{Outcome, given}
 use Rattle.requests.specs.Requested.{requested}
-use Rattle.requests.proofs.Values.{served-call}
+use Rattle.requests.proofs.Values.{given-call}
 use Rattle.turns.specs.Turns.{Does, Turned}
 
 -- the operands of a command and the values behind them
@@ -29,17 +30,18 @@ width-most columns f h =
     elim (f .values) as (λ b. total (widthsOf f) + valueBytes * cond b columns 0 ≤ operandsBytes) [ true ↦ omega (arith, h .1) | false ↦ omega arith ]
 
 -- a request that is decoded from the operands, called
-pub form-called : (x : Lent) (columns : ℕ) (f : Form) (os : List ℕ) (q : Request) (r : Answer) (m′ : List ℕ) (ps′ : List ScanEntry) → width columns f ≤ length os
-    → (callIn q ≡ callFrom columns f os) × ZerosPast (q .count) (q .values) → Serves (x .memory) (x .list) (requested q) r m′ ps′
-    → Does x columns (Chosen.Known f) os r (record { memory = m′; list = ps′ })
-unfolding Does answerTo stateAfter Serves
-form-called x columns f os q r m′ ps′ h p w =
+pub form-called : (x : Lent) (columns : ℕ) (f : Form) (os : List ℕ) (q : Request) (o : Outcome Answer) (m′ : List ℕ) (ps′ : List ScanEntry) → width columns f ≤ length os
+    → (callIn q ≡ callFrom columns f os) × ZerosPast (q .count) (q .values) → Gives (x .memory) (x .list) (requested q) o m′ ps′
+    → Does x columns (Chosen.Known f) os o (record { memory = m′; list = ps′ })
+unfolding Does outcomeTo stateAfter Gives Serves
+form-called x columns f os q o m′ ps′ h p w =
     let e = le-leb (width columns f) (length os) h in
-    let s = served-call (x .memory) (x .list) q r m′ ps′ (p .1) w in (rw (e, ← p .0) (s .0), rw (e, ← p .0, s .1, s .2))
+    let s = given-call (x .memory) (x .list) q o m′ ps′ (p .1) w in
+    (rw (e, ← p .0) (ap₂ given (s .0 .0) (s .1)), rw (e, ← p .0, s .0 .1, s .0 .2))
 
--- a turn from its answer
-pub turned : (s : Step Lent) (f : Answer → List ℕ) (old new : List ℕ) (n : ℕ) (b : Bool) (a a′ : Answer) (x : Lent)
-    → s .line ≡ f a → s .on ≡ goesOn a → a′ ≡ a → Rendered old new (f a′) n → b ≡ goesOn a′ → x ≡ s .state
+-- a turn from what was answered: the shape an answer, a command an outcome, `f` its line and `g` the answer in it
+pub turned : {A : Type 0} (s : Step Lent) (f : A → List ℕ) (g : A → Answer) (old new : List ℕ) (n : ℕ) (b : Bool) (a a′ : A) (x : Lent)
+    → s .line ≡ f a → s .on ≡ goesOn (g a) → a′ ≡ a → Rendered old new (f a′) n → b ≡ goesOn (g a′) → x ≡ s .state
     → Turned s old new record { length = n; on = b } x
-turned s f old new n b a a′ x l o e h g q =
-    record { rendered = rw (l, ← e) h; goes = g ∙ ap goesOn e ∙ sym o; left = q }
+turned {A} s f g old new n b a a′ x l o e h k q =
+    record { rendered = rw (l, ← e) h; goes = k ∙ ap (λ (z : A). goesOn (g z)) e ∙ sym o; left = q }

@@ -1,4 +1,4 @@
--- `gatebook` writes what it must write, for every input: demand 3 says that the store's answers are the plain history's.
+-- `gatebook` writes what it must write, for every input: demand 3 says that the store's outcomes are the plain history's.
 use Prim.Native.Nat.{ℕ, _*_, _≤_}
 use mathlib.Core.Path.{_≡_, refl, sym, _∙_}
 use mathlib.Core.Bool.{Bool, true, false, cond}
@@ -23,15 +23,15 @@ use Rattle.output.specs.Output.{lentColumns, lentRanges, lentRecords, lentSpare
 use Rattle.model.specs.Machine.{historyOf, Alike}
 use Rattle.output.specs.Steps.{linesFrom, written}
 use Rattle.output.proofs.Steps.{lent-each, lent-within, written-is-output}
-use Rattle.model.proofs.Alike.{history-answers}
+use Rattle.model.proofs.Alike.{history-outcomes}
 use Rattle.output.proofs.Typed.{bytes-drop}
 use Rattle.output.proofs.StepsAlike.{steps-alike}
-use Rattle.promise.specs.Demands.{Accepted, memoryMade, storeAnswers, MakingAccepted, Demand3}
+use Rattle.promise.specs.Demands.{Accepted, memoryMade, storeOutcomes, MakingAccepted, Demand3}
 use Rattle.promise.proofs.Demands.{making-accepted, demand3}
 use Rattle.promise.specs.Promise.{Lent, lentMachine, lend}
 use Rattle.turns.specs.Turns.{makingAnswer, madeStore, firstAnswer, firstStore, columnsFrom, capped}
 use Rattle.turns.specs.Gatebook.{gatebook, largest, GatebookWrites}
-use Rattle.turns.proofs.Store.{store-answers}
+use Rattle.turns.proofs.Store.{store-outcomes}
 
 -- ---- what is lent is enough
 lent-to : (S : Shape) → lent S ≡ true → (S .columns ≤ lentColumns) × (S .ranges ≤ lentRanges) × (S .capacity ≤ lentRecords) × (S .spares ≤ lentSpares)
@@ -58,9 +58,9 @@ accepted x S e h k =
 -- ---- the store answers as the plain history
 store-alike : (x : Lent) (S : Shape) → Accepted S (x .memory) (x .list)
     → Alike lentMachine (historyOf S) record { memory = memoryMade S (x .memory) (x .list); list = madeList (x .list) } start
-unfolding Demand3 storeAnswers
+unfolding Demand3 storeOutcomes
 store-alike x S a cs t =
-    store-answers (lend (memoryMade S (x .memory) (x .list)) (madeList (x .list))) cs ∙ demand3 S (x .memory) (x .list) a cs t ∙ sym (history-answers S start cs)
+    store-outcomes (lend (memoryMade S (x .memory) (x .list)) (madeList (x .list))) cs ∙ demand3 S (x .memory) (x .list) a cs t ∙ sym (history-outcomes S start cs)
 
 -- ---- all lines of an input
 small-columns : (S : Shape) → lent S ≡ true → capped (S .columns) ≡ S .columns

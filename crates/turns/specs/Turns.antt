@@ -1,4 +1,4 @@
--- What a turn of `gatebook` answers and leaves, for any memory, scan list and bytes. A turn is a step as the output's definitions have it, with the calls
+-- What a turn of `gatebook` gives and leaves, for any memory, scan list and bytes. A turn is a step as the output's definitions have it, with the calls
 -- answered by a store in lent memory.
 use Prim.Native.Nat.{ℕ}
 use mathlib.Core.Path.{_≡_}
@@ -17,7 +17,8 @@ use Rattle.lines.specs.Written.{Rendered}
 use Rattle.commands.specs.declared.Chosen.{Chosen}
 use Rattle.commands.specs.Commands.{width, shapeBytes, shapeFrom}
 use Rattle.output.specs.Output.{lent, goesOn}
-use Rattle.output.specs.Steps.{Step, answerTo, stateAfter}
+use Rattle.output.specs.Steps.{Step, outcomeTo, stateAfter}
+use Rattle.history.specs.History as H
 use Rattle.terms.specs.Refusals.{isAccepted}
 use Rattle.scans.specs.Entries.{freedIf}
 use Rattle.promise.specs.Promise.{Lent, lentMachine}
@@ -62,9 +63,9 @@ operandWidth columns (Chosen.Known f) = width columns f
 operandWidth columns (Chosen.Refused r) = 0
 
 -- ---- what the code promises
--- an answer, and the store after it
-unfoldable pub Does : Lent → ℕ → Chosen → List ℕ → Answer → Lent → Type 0
-Does x columns k os r x′ = (r ≡ answerTo lentMachine columns x k os) × (x′ ≡ stateAfter lentMachine columns x k os)
+-- an outcome, and the store after it
+unfoldable pub Does : Lent → ℕ → Chosen → List ℕ → H.Outcome Answer → Lent → Type 0
+Does x columns k os o x′ = (o ≡ outcomeTo lentMachine columns x k os) × (x′ ≡ stateAfter lentMachine columns x k os)
 
 -- The buffer of a line that was `old` starts with the line of a step, the turn tells the line's length and whether the program goes on, and the store is as
 -- the step leaves it.

@@ -12,6 +12,8 @@ use lines::render_line;
 use lines::render_shape;
 use output::goes_on;
 use output::lends;
+use requests::Called;
+use requests::alone;
 use requests::call;
 use requests::make_store;
 use requests::packed::ENTRY_BYTES;
@@ -26,6 +28,7 @@ ghost use Rattle.terms.specs.Measures.{mostColumns, mostScans};
 ghost use Rattle.words.specs.Words.{words};
 ghost use Rattle.layout.specs.Sizes.{bytesNeeded};
 ghost use Rattle.requests.specs.Packed.{entriesOf};
+ghost use Rattle.requests.specs.Requested.{givenBy};
 ghost use Rattle.commands.specs.Commands.{operandsBytes, Small, chosen};
 ghost use Rattle.commands.specs.Decoded.{measured};
 ghost use Rattle.output.specs.Steps.{step};
@@ -120,37 +123,37 @@ pub fn operand_width(byte: u8, columns: usize) -> usize
     }
 }
 
-// What a command of a known form is answered.
+// What a command of a known form gives.
 fn answer_to_form(
     mem: &mut [u8],
     scans: &mut [u8],
     columns: usize,
     form: Form,
     operands: &[u8],
-) -> Answer
+) -> Called
     requires { ⌜ Small columns form ⌝ }
-    ensures { λ r. ⌜ Does (storeIn (now (mem .entry)) (now (scans .entry))) columns (Chosen.Known form) (now (operands .entry)) r (storeIn (now (mem .exit)) (now (scans .exit))) ⌝ }
+    ensures { λ r. ⌜ Does (storeIn (now (mem .entry)) (now (scans .entry))) columns (Chosen.Known form) (now (operands .entry)) (givenBy r) (storeIn (now (mem .exit)) (now (scans .exit))) ⌝ }
 {
     if operands.len() < width(form, columns) {
-        return Answer::Refused(Refusal::Cut);
+        return alone(Answer::Refused(Refusal::Cut));
     }
     call(mem, scans, decode(form, columns, operands))
 }
 
-// What a command is answered.
+// What a command gives.
 fn answer_to_command(
     mem: &mut [u8],
     scans: &mut [u8],
     columns: usize,
     byte: u8,
     operands: &[u8],
-) -> Answer
-    ensures { λ r. ⌜ Does (storeIn (now (mem .entry)) (now (scans .entry))) (cappedAt columns) (chosen byte) (now (operands .entry)) r (storeIn (now (mem .exit)) (now (scans .exit))) ⌝ }
+) -> Called
+    ensures { λ r. ⌜ Does (storeIn (now (mem .entry)) (now (scans .entry))) (cappedAt columns) (chosen byte) (now (operands .entry)) (givenBy r) (storeIn (now (mem .exit)) (now (scans .exit))) ⌝ }
 {
     let chosen = choose(byte);
     match chosen {
         Chosen::Known(form) => answer_to_form(mem, scans, capped(columns), form, operands),
-        Chosen::Refused(why) => Answer::Refused(why),
+        Chosen::Refused(why) => alone(Answer::Refused(why)),
     }
 }
 
@@ -165,8 +168,11 @@ pub fn turn(
 ) -> Outcome
     ensures { λ r. ⌜ Turned (step lentMachine (cappedAt columns) (storeIn (now (mem .entry)) (now (scans .entry))) byte (now (operands .entry))) (now (out .entry)) (now (out .exit)) r (storeIn (now (mem .exit)) (now (scans .exit))) ⌝ }
 {
-    let answer = answer_to_command(mem, scans, columns, byte, operands);
-    let length = render_line(out, byte, answer);
+    let called = answer_to_command(mem, scans, columns, byte, operands);
+    let answer = called.answer;
+    let stamps = called.stamps;
+    let lent = called.lent;
+    let length = render_line(out, byte, answer, stamps, lent);
     Outcome {
         length,
         on: goes_on(answer),

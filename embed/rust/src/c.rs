@@ -3,9 +3,9 @@
 //!
 //! # Safety
 //!
-//! Of each function: a pointer is not null and goes with a length in bytes (memory), entries (list)
-//! or values, all of which may be read, and written where the pointer is `*mut`; the three do not
-//! overlap. Nothing is asked of their content or of the numbers.
+//! Of each function: a pointer is not null and goes with a length in bytes (memory), entries (list),
+//! values or stamps, all of which may be read, and written where the pointer is `*mut`; no two of
+//! them overlap. Nothing is asked of their content or of the numbers.
 
 use crate::ScanEntry;
 
@@ -64,6 +64,15 @@ lent! {
     const const deskrook_latest(row: u32, column: u32);
     const const deskrook_read_at(stamp: u32, row: u32, column: u32);
     const const deskrook_own_read(transaction: u32, row: u32, column: u32);
+    const const deskrook_crossings(
+        stamps: *mut u32,
+        stamps_length: usize,
+        row: u32,
+        column: u32,
+        mark: i32,
+        from: u32,
+        to: u32
+    );
     mut mut deskrook_open_scan(stamp: u32);
     const const deskrook_scan_read(scan: u32, row: u32, column: u32);
     const const deskrook_sum(scan: u32, column: u32);

@@ -17,7 +17,8 @@ pub struct Tail(pub u32);
 #[derive(Clone, Copy, Debug, PartialEq, Eq, PartialOrd, Ord, Hash)]
 pub struct ScanNumber(pub u32);
 
-/// Minutes since 1 January 2000 UTC.
+/// Minutes since 1 January 2000 UTC. It is laid as its number is, so that stamps are lent as numbers.
+#[repr(transparent)]
 #[derive(Clone, Copy, Debug, PartialEq, Eq, PartialOrd, Ord, Hash)]
 pub struct Stamp(pub u32);
 

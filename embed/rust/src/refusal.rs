@@ -3,7 +3,7 @@
 use std::error::Error;
 use std::fmt;
 
-/// Why a call was refused. A refused call changes no byte of memory and list.
+/// Why a call was refused. A refused call changes no byte of what it was lent.
 #[derive(Clone, Copy, Debug, PartialEq, Eq, Hash)]
 #[repr(u8)]
 pub enum Refusal {
@@ -31,7 +31,8 @@ pub enum Refusal {
     Full = 11,
     /// The range lacks the one or two tail records wanted.
     Tail = 12,
-    /// A commit earlier than the last, or a read or scan later than the last (0 in a new store).
+    /// A commit earlier than the last, a read, scan or crossings later than the last (0 in a new
+    /// store), or crossings from a stamp to an earlier one.
     Time = 13,
     /// 8 transactions, or 5 scans, are open.
     Busy = 14,
@@ -43,11 +44,13 @@ pub enum Refusal {
     Open = 17,
     /// There is no free page.
     NoPage = 18,
+    /// Fewer places are lent than there are crossings.
+    List = 21,
 }
 
 impl Refusal {
     /// All refusals, in the order of their numbers.
-    pub const ALL: [Refusal; 18] = [
+    pub const ALL: [Refusal; 19] = [
         Refusal::Shape,
         Refusal::Memory,
         Refusal::Transaction,
@@ -66,6 +69,7 @@ impl Refusal {
         Refusal::Reach,
         Refusal::Open,
         Refusal::NoPage,
+        Refusal::List,
     ];
 
     /// The refusal's number.
@@ -83,6 +87,7 @@ impl Refusal {
     /// use deskrook::Refusal;
     /// assert_eq!(Refusal::from_number(18), Some(Refusal::NoPage));
     /// assert_eq!(Refusal::from_number(19), None);
+    /// assert_eq!(Refusal::from_number(21), Some(Refusal::List));
     /// ```
     pub fn from_number(number: u32) -> Option<Refusal> {
         Refusal::ALL.into_iter().find(|refusal| refusal.number() == number)
@@ -104,12 +109,13 @@ impl fmt::Display for Refusal {
             Refusal::Gone => "the row is deleted or its insert aborted",
             Refusal::Full => "all rows are given",
             Refusal::Tail => "the range lacks the tail records wanted",
-            Refusal::Time => "the stamp does not fit the last commit's",
+            Refusal::Time => "the stamps do not fit the last commit's or each other",
             Refusal::Busy => "as many transactions or scans as can be are open",
             Refusal::Number => "all numbers are given",
             Refusal::Reach => "the merge does not reach above the page, or past the records used",
             Refusal::Open => "a record to be merged belongs to an open transaction",
             Refusal::NoPage => "there is no free page",
+            Refusal::List => "there are more crossings than places lent for them",
         })
     }
 }

@@ -93,7 +93,7 @@ fn read(reply: Reply) -> Result<Option<Version>, Refusal> {
 ///
 /// SAFETY of all uses: pointers and lengths are those of the store's two slices, which are
 /// borrowed alone where the method takes `&mut self` and shared where it takes `&self` and the
-/// function takes `*const`; slices of values are another borrow of the call.
+/// function takes `*const`; slices of values and of stamps are another borrow of the call.
 macro_rules! call {
     (mut $store:ident, $name:ident $(, $number:expr)*) => {
         unsafe {
@@ -292,6 +292,63 @@ impl<'a> Store<'a> {
         column: u32,
     ) -> Result<Option<Version>, Refusal> {
         read(call!(ref self, deskrook_own_read, transaction.0, row.0, column))
+    }
+
+    /// Lists the crossings of a mark, oldest first: the stamps from `from` to `to`, both counted, of
+    /// the commits that gave a row and column a value on the other side of the mark from the value
+    /// before it there. At or above the mark is one side, below it the other.
+    ///
+    /// The value before may be from before `from`; a first value is no crossing. Of a transaction's
+    /// own values the last counts; what is pending or aborted does not. A minute with two crossings
+    /// stands twice. A row's end is no crossing, and hides none.
+    ///
+    /// The answer is the part of `stamps` that was written, at its beginning; the places behind it
+    /// stay as they are, and where the call is refused all do.
+    ///
+    /// ```
+    /// use deskrook::{Mask, Refusal, ScanEntry, Shape, Stamp, Store, SCANS};
+    ///
+    /// # fn main() -> Result<(), Refusal> {
+    /// # let shape = Shape { columns: 1, ranges: 1, capacity: 4, spares: 0 };
+    /// # let (mut memory, mut scans) = (vec![0; shape.bytes_needed()?], [ScanEntry::FREE; SCANS]);
+    /// # let mut store = Store::make(&mut memory, &mut scans, shape)?;
+    /// let transaction = store.begin()?;
+    /// let gate = store.insert(transaction, &[1200])?;
+    /// store.commit(transaction, Stamp(10))?;
+    /// for (level, minute) in [(1250, 20), (1300, 30), (1230, 40)] {
+    ///     let transaction = store.begin()?;
+    ///     store.update(transaction, gate, Mask(1), &[level])?;
+    ///     store.commit(transaction, Stamp(minute))?;
+    /// }
+    ///
+    /// // Upward at 20, downward at 40.
+    /// let mut stamps = [Stamp(0); 16];
+    /// let crossings = store.crossings(gate, 0, 1240, Stamp(0), Stamp(40), &mut stamps)?;
+    /// assert_eq!(crossings, [Stamp(20), Stamp(40)]);
+    /// let refused = store.crossings(gate, 0, 1240, Stamp(0), Stamp(40), &mut stamps[..1]);
+    /// assert_eq!(refused, Err(Refusal::List));
+    /// # Ok(())
+    /// # }
+    /// ```
+    ///
+    /// # Errors
+    ///
+    /// [`Refusal::Row`], [`Refusal::Column`], [`Refusal::Time`] (`from` after `to`, or `to` later
+    /// than the last commit's), [`Refusal::List`] (more crossings than places).
+    pub fn crossings<'s>(
+        &self,
+        row: Row,
+        column: u32,
+        mark: i32,
+        from: Stamp,
+        to: Stamp,
+        stamps: &'s mut [Stamp],
+    ) -> Result<&'s [Stamp], Refusal> {
+        let (first, length) = (stamps.as_mut_ptr().cast(), stamps.len());
+        let (row, from, to) = (row.0, from.0, to.0);
+        let reply = call!(ref self, deskrook_crossings, first, length, row, column, mark, from, to);
+        let count = accepted(reply)?.first as usize;
+        Ok(&stamps[..count])
     }
 
     /// Opens a scan at a stamp not later than the last commit's. It sees the commits made so far with

@@ -139,6 +139,18 @@ fn stamps() {
 }
 
 #[test]
+fn crossings() {
+    let (mut lent, transaction) = updated();
+    lent.store().commit(transaction, Stamp(20)).unwrap();
+    let listed = |store: &mut Store, row, from| {
+        store.crossings(row, 0, 1240, from, Stamp(20), &mut []).map(<[Stamp]>::len)
+    };
+    lent.refuses(Refusal::Row, |store| listed(store, Row(1), Stamp(0)));
+    lent.refuses(Refusal::Time, |store| listed(store, Row(0), Stamp(21)));
+    lent.refuses(Refusal::List, |store| listed(store, Row(0), Stamp(20)));
+}
+
+#[test]
 fn open_ones_and_numbers() {
     let mut lent = Lent::made(SHAPE);
     for number in 1..=8 {

@@ -3,8 +3,20 @@
 
 use super::workload::Workload;
 use crate::call::{Answer, Call, Shape, RANGE_ROWS};
-use crate::history::{History, OPEN_SCANS};
+use crate::history::{Given, History, OPEN_SCANS};
+use crate::program::LENT_STAMPS;
 use crate::random::Random;
+
+/// Which numbers a list's calls may have.
+#[derive(Clone, Copy, Debug, PartialEq, Eq)]
+pub enum Numbers {
+    /// Those of gatebook's commands, and as many places for stamps as it lends.
+    Commands,
+    /// Those that fit the command bytes, and any number of places.
+    Narrow,
+    /// Some that are wider too.
+    Wide,
+}
 
 /// A generator of calls; each is also made on its history.
 pub struct Generator {
@@ -16,12 +28,13 @@ pub struct Generator {
     /// Rows changed by open transactions, and the stamps of commits, each once.
     changed: Vec<(u32, u32)>,
     stamps: Vec<u32>,
+    /// Rows that were deleted; where the delete was aborted, they are there still.
+    deleted: Vec<u32>,
     /// Open scans with the rows that a commit of their minute changed after their opening.
     left_out: Vec<(u32, u32)>,
     /// Whether the places for scans are kept filled.
     fills_scans: bool,
-    /// Whether numbers wider than the command bytes may be chosen.
-    wide: bool,
+    numbers: Numbers,
 }
 
 /// Calls chosen without regard to a refusal, in percent of all; the others are tried again.
@@ -48,13 +61,25 @@ const OF_LEFT_OUT: u32 = 30;
 /// Openings at the last commit's stamp, in percent, while a scan leaves a commit of it out.
 const SECOND_SCAN: u32 = 25;
 
+/// The level about which values swing, and the settings that change its side, in percent. Other values
+/// lie below it about as often as above.
+const LEVEL: i32 = 1000;
+const SWING: u32 = 85;
+/// The records used before a row is deleted whose values swing.
+const LATE: u32 = 40;
+/// Calls for crossings of a row that was deleted, in percent, where there is one.
+const OF_DELETED: u32 = 15;
+/// Calls for crossings whose minutes are chosen to hold as many crossings as there are places, or one
+/// more, in percent, where there are so many.
+const FITTED: u32 = 40;
+
 impl Generator {
     pub fn new(
         mut random: Random,
         workload: &'static Workload,
         shape: Shape,
         count: usize,
-        wide: bool,
+        numbers: Numbers,
     ) -> Generator {
         let early_rows = (shape.rows() * workload.early_rows / 100).min(count as u32 / 2);
         let fills_scans = random.percent(FILLS_SCANS);
@@ -65,9 +90,10 @@ impl Generator {
             early_rows,
             changed: Vec::new(),
             stamps: vec![0],
+            deleted: Vec::new(),
             left_out: Vec::new(),
             fills_scans,
-            wide,
+            numbers,
         }
     }
 
@@ -103,8 +129,10 @@ impl Generator {
                 self.changed.push((*transaction, *row));
                 self.early_rows = self.early_rows.saturating_sub(1);
             }
-            (Call::Update { transaction, row, .. } | Call::Delete { transaction, row }, _) => {
-                self.changed.push((*transaction, *row))
+            (Call::Update { transaction, row, .. }, _) => self.changed.push((*transaction, *row)),
+            (Call::Delete { transaction, row }, _) => {
+                self.changed.push((*transaction, *row));
+                self.deleted.push(*row);
             }
             (Call::Commit { transaction, stamp }, _) => {
                 if self.stamps.last() != Some(stamp) {
@@ -129,7 +157,8 @@ impl Generator {
             0x02 => Call::Insert { transaction: self.transaction(), values: self.values() },
             0x03 => {
                 let (transaction, row) = self.transaction_and_row();
-                Call::Update { transaction, row, mask: self.mask(), values: self.values() }
+                let row = if self.workload.swings { self.often_set(row, 0) } else { row };
+                Call::Update { transaction, row, mask: self.mask(), values: self.settings(row) }
             }
             0x04 => {
                 let (transaction, row) = self.transaction_and_row();
@@ -155,7 +184,8 @@ impl Generator {
             0x0E => self.merge(),
             0x0F => Call::Release,
             0x10 => Call::PageCell { column: self.column(), row: self.row() },
-            _ => Call::Lineage { range: self.range(), column: self.column() },
+            0x11 => Call::Lineage { range: self.range(), column: self.column() },
+            _ => self.crossings(),
         }
     }
 
@@ -169,11 +199,14 @@ impl Generator {
         if self.random.percent(15) {
             return byte;
         }
-        let needs_row = matches!(byte, 0x03 | 0x04 | 0x07..=0x09 | 0x0B | 0x0E | 0x10);
+        let needs_row = matches!(byte, 0x03 | 0x04 | 0x07..=0x09 | 0x0B | 0x0E | 0x10 | 0x12);
         let byte = if needs_row && self.history.rows_given() == 0 { 0x02 } else { byte };
         let scans = self.history.open_scans().len();
         match byte {
             0x02..=0x06 | 0x09 if self.history.open_transactions().is_empty() => 0x01,
+            // Commits of nothing, and early deletes, would leave few crossings.
+            0x05 if self.workload.swings && self.changed.is_empty() => 0x03,
+            0x04 if self.workload.swings && self.history.used(0) < LATE => 0x03,
             0x0A if scans == OPEN_SCANS && self.random.percent(MAKES_PLACE) => 0x0D,
             0x0B..=0x0D if scans == 0 || self.opens_another() => 0x0A,
             _ => byte,
@@ -216,7 +249,7 @@ impl Generator {
 
     /// Sometimes the same number with higher bits, where wide numbers may be chosen.
     fn widen(&mut self, number: u32) -> u32 {
-        if self.wide && self.random.percent(50) {
+        if self.numbers == Numbers::Wide && self.random.percent(50) {
             let low = number & 0xFF;
             self.random.pick(&[low | 0x1_0000, low | 0x8000_0000, u32::MAX])
         } else {
@@ -360,6 +393,23 @@ impl Generator {
         }
     }
 
+    /// The values of an update: any, or, where they swing, mostly on the other side of the level than those
+    /// that the row has.
+    fn settings(&mut self, row: u32) -> Vec<i32> {
+        let mut values = self.values();
+        if self.workload.swings && row < self.history.rows_given() {
+            for (column, value) in (0..).zip(&mut values) {
+                let given = self.history.given(row, column);
+                if let (Some(last), true) = (given.last(), self.random.percent(SWING)) {
+                    let distance = self.random.below(3) as i32;
+                    let above = last.value >= LEVEL;
+                    *value = if above { LEVEL - 1 - distance } else { LEVEL + distance };
+                }
+            }
+        }
+        values
+    }
+
     /// A stamp for a commit: often the last one's again, 0 in a new store, and now and then an
     /// earlier one.
     fn commit_stamp(&mut self) -> u32 {
@@ -406,6 +456,116 @@ impl Generator {
         }
     }
 
+    /// Crossings of a cell that several commits have set, where there is one, with a mark at or beside one
+    /// of its values, in minutes of every kind.
+    fn crossings(&mut self) -> Call {
+        let column = self.column();
+        let row = if !self.deleted.is_empty() && self.random.percent(OF_DELETED) {
+            self.random.pick(&self.deleted)
+        } else {
+            let row = self.row();
+            self.often_set(row, column)
+        };
+        let is_there = row < self.history.rows_given() && column < self.history.shape().columns;
+        let values = if is_there { self.history.given(row, column) } else { Vec::new() };
+        let mark = self.mark(&values);
+        let mut stamps = Vec::new();
+        if is_there {
+            stamps = self.history.crossings(row, column, mark, 0, u32::MAX);
+        }
+        let (from, to) = self.minutes(&stamps);
+        stamps.retain(|stamp| (from..=to).contains(stamp));
+        let places = match self.numbers {
+            Numbers::Commands => LENT_STAMPS,
+            Numbers::Narrow | Numbers::Wide => self.places(stamps.len() as u32),
+        };
+        Call::Crossings { row, column, mark, from, to, places }
+    }
+
+    /// A row, or another one whose column more commits have given a value.
+    fn often_set(&mut self, row: u32, column: u32) -> u32 {
+        let given = self.history.rows_given();
+        let mut row = row;
+        if row < given && column < self.history.shape().columns {
+            for _ in 0..self.random.below(8) {
+                let other = self.any_row(given);
+                let values = |row| self.history.given(row, column).len();
+                if values(other) > values(row) {
+                    row = other;
+                }
+            }
+        }
+        row
+    }
+
+    /// A mark: mostly one of these values, or a number beside it.
+    fn mark(&mut self, values: &[Given]) -> i32 {
+        match self.random.below(10) {
+            0 => self.random.pick(&[i32::MIN, i32::MIN + 1, -1, 0, i32::MAX]),
+            1 => self.value(),
+            _ if values.is_empty() => self.value(),
+            2..=5 if self.workload.swings => LEVEL,
+            2..=6 => self.random.pick(values).value,
+            7 => self.random.pick(values).value.saturating_sub(1),
+            _ => self.random.pick(values).value.saturating_add(1),
+        }
+    }
+
+    /// From and to, for crossings at these stamps: all minutes, one, those from one crossing to another,
+    /// or any; now and then none or later ones than the last commit's.
+    fn minutes(&mut self, crossings: &[u32]) -> (u32, u32) {
+        let last = self.history.last_stamp();
+        if self.stray() {
+            let to = self.read_stamp();
+            return self.random.pick(&[
+                (to.saturating_add(1), to),
+                (u32::MAX, 0),
+                (0, last.saturating_add(1)),
+                (last.saturating_add(1), last.saturating_add(1)),
+                (to.min(last), u32::MAX),
+            ]);
+        }
+        if self.random.percent(FITTED) {
+            // Those that are refused are often tried again, so they are chosen more often.
+            let one_more = self.random.percent(65);
+            let fitted = fitted(crossings, LENT_STAMPS as usize + usize::from(one_more));
+            if !fitted.is_empty() {
+                return self.random.pick(&fitted);
+            }
+        }
+        let ends = match self.random.below(8) {
+            0 | 1 => (0, last),
+            2..=5 if !crossings.is_empty() => {
+                (self.random.pick(crossings), self.random.pick(crossings))
+            }
+            6 => {
+                let minute = self.read_stamp();
+                (minute, minute)
+            }
+            _ => (self.read_stamp(), self.read_stamp()),
+        };
+        let (from, to) = (ends.0.min(ends.1), ends.0.max(ends.1));
+        match self.random.below(8) {
+            0 => (from.saturating_add(1).min(to), to),
+            1 => (from, to.saturating_sub(1).max(from)),
+            2 => (from, last.max(to)),
+            3 => (0, to),
+            _ => (from, to),
+        }
+    }
+
+    /// Places for so many stamps: often as many, one less or one more.
+    fn places(&mut self, count: u32) -> u32 {
+        match self.random.below(8) {
+            0..=2 => count,
+            3 => count.saturating_sub(1),
+            4 => count + 1,
+            5 => LENT_STAMPS,
+            6 => self.random.below(count + 1),
+            _ => self.random.below(40),
+        }
+    }
+
     fn merge(&mut self) -> Call {
         let range = self.range();
         let column = self.column();
@@ -426,4 +586,13 @@ impl Generator {
         };
         Call::Merge { range, column, through }
     }
+}
+
+/// The minutes, each from one of these stamps to another, that hold just so many of them.
+fn fitted(stamps: &[u32], wanted: usize) -> Vec<(u32, u32)> {
+    let ends = stamps.windows(wanted).map(|window| (window[0], window[wanted - 1]));
+    let holds = |(from, to): &(u32, u32)| {
+        stamps.iter().filter(|stamp| (*from..=*to).contains(*stamp)).count() == wanted
+    };
+    ends.filter(holds).collect()
 }

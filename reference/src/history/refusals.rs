@@ -114,6 +114,15 @@ impl History {
                 self.test_range(range)?;
                 self.test_column(column)
             }
+            // Document 02, Item 4: "Checks: after 5 and 6, 13 if from exceeds to or to is later than the
+            // last commit; then 21 List, exactly if the crossings outnumber the slice."
+            Call::Crossings { row, column, mark, from, to, places } => {
+                self.test_row(row)?;
+                self.test_column(column)?;
+                require(from <= to && to <= self.last_stamp(), 13)?;
+                let crossings = self.crossings(row, column, mark, from, to);
+                require(crossings.len() <= places as usize, 21)
+            }
         }
     }
 

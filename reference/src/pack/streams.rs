@@ -114,7 +114,7 @@ impl Pack {
         for columns in 1..=4 {
             let mut shape = SMALLEST;
             shape[0] = columns;
-            for byte in 0x01..=0x11 {
+            for byte in command::COMMANDS {
                 let fields = command::operands(byte, columns.into()).expect("the byte is known");
                 let whole = vec![byte; 1 + command::width(&fields)];
                 for cut in 1..whole.len() {
@@ -128,7 +128,7 @@ impl Pack {
 
     /// Every byte that is no command, each after a begin and with bytes behind it.
     fn unknown_bytes(&mut self) {
-        for byte in (0x00..=0xFF).filter(|byte| !(0x01..=0x11).contains(byte)) {
+        for byte in (0x00..=0xFF).filter(|byte| !command::COMMANDS.contains(byte)) {
             self.stream(&format!("byte {byte:02X}"), &SMALLEST);
             self.commands(Kind::Commands, &[0x01, byte, 0x01, 0x0F]);
         }

@@ -1,7 +1,7 @@
 //! The plain history a second way, from its first paragraph in document 01: every transaction
 //! keeps its pending changes, and a commit gives rows their values with its stamp. A scan keeps a
-//! copy of what was committed at its opening. Reads alone; calls are fed to it after the history has
-//! accepted them.
+//! copy of what was committed at its opening. Reads and crossings alone; calls are fed to it after the
+//! history has accepted them.
 
 use std::collections::BTreeMap;
 
@@ -39,7 +39,7 @@ pub struct Versions {
 }
 
 impl Versions {
-    /// Takes in an accepted call and gives its answer if it is a read.
+    /// Takes in an accepted call and gives its answer if it is a read or one for crossings.
     pub fn call(&mut self, call: &Call, answer: &Answer) -> Option<Answer> {
         match call {
             Call::Begin => {
@@ -82,6 +82,9 @@ impl Versions {
                     .collect();
                 return Some(Answer::Sum { count: seen.len() as u32, sum: seen.iter().sum() });
             }
+            Call::Crossings { row, column, mark, from, to, .. } => {
+                return Some(Answer::Crossings(self.crossings(*row, *column, *mark, *from, *to)));
+            }
             _ => {}
         }
         None
@@ -116,6 +119,20 @@ impl Versions {
 
     pub fn read(&self, stamp: u32, row: u32, column: u32) -> Answer {
         self.committed.read(stamp, row, column)
+    }
+
+    /// Document 02, Item 4, one value after the other.
+    pub fn crossings(&self, row: u32, column: u32, mark: i32, from: u32, to: u32) -> Vec<u32> {
+        let mut stamps = Vec::new();
+        let mut before = None;
+        for (stamp, value) in self.committed.values.get(&(row, column)).into_iter().flatten() {
+            let above = *value >= mark;
+            if before == Some(!above) && from <= *stamp && *stamp <= to {
+                stamps.push(*stamp);
+            }
+            before = Some(above);
+        }
+        stamps
     }
 
     fn scan_read(&self, scan: u32, row: u32, column: u32) -> Answer {

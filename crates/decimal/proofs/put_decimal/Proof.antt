@@ -1,18 +1,17 @@
 -- `decimal::put_decimal` meets its contract: the part of the array is all from `from` on.
+use Prim.Native.Nat.{_-_}
+use mathlib.Core.Path.{_≡_, _∙_}
 use native.Mathlib.Omega.{arith}
 use borrow.Author.Needs.{needs}
-use lib.ListN.{length-drop}
+use lib.ListN.{take, drop}
+use Rattle.decimal.specs.Decimal.{decimal}
 use Rattle.decimal.specs.Written.{mostDigits}
 use Rattle.decimal.proofs.Pieces.{rest-of}
 use Rattle.decimal.proofs.put_decimal.Statement.{statement}
 use Rattle.decimal.proofs.put_decimal.Tie as tie
 
-returns : tie.Need-returns
-returns c =
-    let found : tie.After-in-decimal = search in
-    let d = found .in-decimal in
-    let w = rw (rest-of mostDigits (d .result .digits) (d .result .from) (d .ensures .2)) at (c .put .ensures) in
-    (rw (d .ensures .0) at w, omega (arith, w .ends, length-drop (d .result .from) (d .result .digits), d .ensures .2))
+part : (c : tie.After-in-decimal) → take (mostDigits - c .in-decimal .result .from) (drop (c .in-decimal .result .from) (c .in-decimal .result .digits)) ≡ decimal (c .before .args .n)
+part c = let d = c .in-decimal in rest-of mostDigits (d .result .digits) (d .result .from) (d .ensures .2) ∙ d .ensures .0
 
 pub put-decimal-spec : {M : Type 1} → statement M
 put-decimal-spec =
@@ -22,5 +21,5 @@ put-decimal-spec =
     (λ c. search needs)
     (λ c. search needs)
     (λ c. let found : tie.After-in-decimal = search in omega (arith, found .in-decimal .ensures .2))
-    (λ c κs. search needs)
-    returns)
+    (λ c κs. let found : tie.After-in-decimal = search in rw (part found) (omega arith))
+    (λ c. let found : tie.After-in-decimal = search in rw (part found) at (c .put .ensures)))

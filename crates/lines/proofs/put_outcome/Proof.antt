@@ -7,6 +7,7 @@ use borrow.Author.Needs.{needs}
 use Rattle.decimal.proofs.Pieces.{joined}
 use Rattle.decimal.proofs.Signs.{wide, wider}
 use Rattle.lines.specs.Lines.{outcome}
+use Rattle.lines.proofs.Pieces.{take-least}
 use Rattle.lines.proofs.put_outcome.Statement.{statement}
 use Rattle.lines.proofs.put_outcome.Tie as tie
 
@@ -72,6 +73,15 @@ version c =
     let shown = rw (toZ-ofZ w32 _ (version-fits case), toZ-ofZ w64 _ (wide _ (version-fits case))) at (value .put-integer3 .ensures .0) in
     rw (case .before .answer6 .given .1) (joined (word .put8 .ensures) (joined shown (c .put-natural6 .ensures .0)), omega (arith, word .put8 .ensures .ends))
 
+listed : tie.Need-returns-9
+unfolding outcome
+listed c =
+    let case : tie.After-answer7 = search in
+    let word : tie.After-put9 = search in
+    let count : tie.After-put-natural7 = search in
+    let stamps = rw (c .before .least .ensures, take-least) at (c .put-stamps .ensures .0) in
+    rw (case .answer7 .given .1) (joined (word .put9 .ensures) (joined (count .put-natural7 .ensures .0) stamps), omega (arith, word .put9 .ensures .ends))
+
 pub put-outcome-spec : {M : Type 1} → statement M
 put-outcome-spec =
     tie.close
@@ -112,6 +122,13 @@ put-outcome-spec =
     (λ c. let case : tie.After-known-told6 = search in wider _ (version-fits case))
     (λ c κs. search needs)
     (λ c κs. search needs)
+    (λ c. search needs)
+    (λ c. search needs)
+    (λ c κs. search needs)
+    (λ c κs. search needs)
+    (λ c. search needs)
+    (λ c κs. search needs)
+    (λ c κs. search needs)
     refused
     done
     number
@@ -119,4 +136,5 @@ put-outcome-spec =
     none
     sum
     lineage
-    version)
+    version
+    listed)

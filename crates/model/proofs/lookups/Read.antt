@@ -38,7 +38,7 @@ use Rattle.model.proofs.lookups.Heads.{slot-is, in-range, SeesAs, visib
 
 -- ---- one record
 -- `found` is what is read of it: of a seen setting `new`, of a record of original values `ins`
-record-answers : {A : Type 0} (C c : ℕ) (y : Content) (kind mask : ℕ) (value : ℕ → ℕ) (b : Bool) (found new ins further : A) → ContentIs C y kind mask value
+pub record-answers : {A : Type 0} (C c : ℕ) (y : Content) (kind mask : ℕ) (value : ℕ → ℕ) (b : Bool) (found new ins further : A) → ContentIs C y kind mask value
     → (T (sets c y && b) → found ≡ new) → (T (isOriginal c y) → found ≡ ins)
     → cond (bit mask c && (originalKind kind || (settingKind kind && b))) found further ≡ cond (sets c y && b) new (cond (isOriginal c y) ins further)
 unfolding sets isOriginal
@@ -152,7 +152,7 @@ pub setting-value : (C c : ℕ) → c < C → (y : Content) (kind mask : ℕ) (v
 unfolding sets newValue
 setting-value C c d (setting m vs) kind mask value o t = o .2 c d t
 
-original-value : (C c : ℕ) → c < C → (ins : ℤ) (y : Content) (kind mask : ℕ) (value : ℕ → ℕ) → ContentIs C y kind mask value
+pub original-value : (C c : ℕ) → c < C → (ins : ℤ) (y : Content) (kind mask : ℕ) (value : ℕ → ℕ) → ContentIs C y kind mask value
     → ((cs : List ℕ) (vs : List ℤ) → y ≡ original cs vs → getD vs c (pos 0) ≡ ins) → T (isOriginal c y) → toZ w32 (value c) ≡ ins
 unfolding isOriginal
 original-value C c d ins (original cs vs) kind mask value o e t = o .2 c d (rw (o .1 c) t) ∙ e cs vs refl
@@ -175,24 +175,17 @@ unset-take l r c n e =
     any-none (λ (x : Record). eqb (x .row) r && sets c (x .content)) (all-take n (not-any (λ (x : Record). eqb (x .row) r && sets c (x .content)) l (rw e tt)))
 
 module _ {S : Shape} {v : View} {ps : List ScanEntry} {h : History} (o : Represents S v ps h) (k : WellFormed S h) (who : Reader) (f : ℕ → Bool) (w : SeesAs h who f) (r : ℕ)
-    (b : r < length (h .rows)) (c : ℕ) (inside : c < S .columns) (p : ℕ) (Q : ℕ → Type 0) (held : Holds h (rangeOf r) c Q (pageIn v p) (cellIn v p))
-    (taken : All (TakenBefore (stateOf h) (who .commits)) (take ((pageIn v p) .lineage) (recordsOf h (rangeOf r)))) where
+    (b : r < length (h .rows)) (c : ℕ) (inside : c < S .columns) where
   abbrev g : ℕ
   g = rangeOf r
 
   abbrev list : List Record
   list = recordsOf h (rangeOf r)
 
-  abbrev page : PageWords
-  page = pageIn v p
-
-  abbrev cell : ℕ
-  cell = cellIn v p (within r)
-
-  lok : TailOf S (stateOf h) (recordsOf h (rangeOf r)) v (rangeOf r)
+  pub lok : TailOf S (stateOf h) (recordsOf h (rangeOf r)) v (rangeOf r)
   lok = o .tails (rangeOf r) (in-range k r b)
 
-  original-there : (i : ℕ) → i < length list → (getD list i noRecord) .row ≡ r → (cs : List ℕ) (vs : List ℤ) → (getD list i noRecord) .content ≡ original cs vs
+  pub original-there : (i : ℕ) → i < length list → (getD list i noRecord) .row ≡ r → (cs : List ℕ) (vs : List ℤ) → (getD list i noRecord) .content ≡ original cs vs
       → getD vs c (pos 0) ≡ insertedValue h r c
   unfolding insertedValue
   original-there i u e cs vs q = rw (sound-at h g (k .invariants .order) i noRecord u .values cs vs q, e)
@@ -210,58 +203,6 @@ module _ {S : Shape} {v : View} {ps : List ScanEntry} {h : History} (o : Represe
       (λ i u. x i (u .0) (parts (sets c ((getD list i noRecord) .content)) _ (u .2) .0)) (λ i u. y i (u .0) (u .1) (u .2))
       low rest (length list) (lastOf list r (length list)) a (le-refl _) (le-refl _) (rw take-length z)))
 
-  -- read for the value
-  walk-value : (low : ℕ) → low ≤ length list
-      → (hasOriginal list r c ≡ hasOriginal (take low list) r c → toZ w32 cell ≡ lastSetting f r c (inserted h r c) (take low list) .value)
-      → toZ w32 (orElse (walk S v who g c low ((rowIn v r) .link) ((rowIn v r) .link)) (λ i. valueIn S v i c) cell) ≡ lastSetting f r c (inserted h r c) list .value
-  walk-value low a z =
-      or-map (toZ w32) (walk S v who g c low ((rowIn v r) .link) ((rowIn v r) .link)) (λ i. valueIn S v i c) cell
-      ∙ walked (λ i. toZ w32 (valueIn S v i c)) (λ y. y .value) low (toZ w32 cell)
-      (λ i u t. setting-value (S .columns) c inside _ _ _ _ (lok .each i u .content) t ∙ (unfold versionIn in refl))
-      (λ i u e t. original-value (S .columns) c inside (insertedValue h r c) _ _ _ _ (lok .each i u .content) (original-there i u e) t ∙ (unfold inserted in refl))
-      a z
-
-  cell-is : Q r → toZ w32 cell ≡ lastSetting (λ k. isCommitted (stateOf h k)) r c (inserted h r c) (take (page .lineage) list) .value
-  unfolding cellThrough
-  cell-is q = held .cells r refl q
-
-  -- a page that is not newer than the stamp
-  cell-seen : Q r → page .newest ≤ who .stamp .0 → toZ w32 cell ≡ lastSetting f r c (inserted h r c) (take (page .lineage) list) .value
-  cell-seen q n =
-      cell-is q
-      ∙ ap (λ (y : Version). y .value)
-      (last-agree (λ k. isCommitted (stateOf h k)) r c f (inserted h r c)
-      (all-map₂ (λ (y : Record) a d s. page-seen h who (page .newest) f w n (y .transaction) (a .0) (λ z e. (d s z e, a .1 z e))) (all-both (held .through .closed-all) taken) (held .newest)))
-
-  has-original : wasSet list r c ≡ true → hasOriginal list r c ≡ true
-  has-original e = sym (originals-of h r c (k .invariants .order) (omega (arith, k .small .columns)) refl) ∙ e
-
-  down-within : downTo who page ≤ length list
-  unfolding downTo
-  down-within = by-test (λ a. cond a (page .lineage) 0 ≤ length list) (leb (page .newest) (who .stamp .0)) (λ _. held .through .within) (λ _. zero-le)
-
-  -- where no record answers, the page is not newer than the stamp: further down the column's original had answered
-  cell-answers : Q r → wasSet list r c ≡ true → hasOriginal list r c ≡ hasOriginal (take (downTo who page) list) r c
-      → toZ w32 cell ≡ lastSetting f r c (inserted h r c) (take (downTo who page) list) .value
-  unfolding downTo
-  cell-answers q s =
-      by-test (λ a. hasOriginal list r c ≡ hasOriginal (take (cond a (page .lineage) 0) list) r c
-      → toZ w32 cell ≡ lastSetting f r c (inserted h r c) (take (cond a (page .lineage) 0) list) .value) (leb (page .newest) (who .stamp .0))
-      (λ n _. cell-seen q (leb→le (page .newest) (who .stamp .0) n))
-      (λ _ e. absurd (true≢false (sym (has-original s) ∙ e ∙ (unfold hasOriginal in refl))))
-
-  pub word-is : Q r → toZ w32 (wordIn S v who p r c) ≡ versionOf f h r c .value
-  unfolding wordIn foundIn
-  word-is q = go (bit ((rowIn v r) .mask) c) (o .rows r b .mask c) ∙ ap (λ (y : Version). y .value) (version-range h f r c)
-    where
-      go : (a : Bool) → a ≡ wasSet list r c
-          → toZ w32 (orElse (cond a (walk S v who g c (downTo who page) ((rowIn v r) .link) ((rowIn v r) .link)) Found.Nothing) (λ i. valueIn S v i c) cell)
-          ≡ lastSetting f r c (inserted h r c) list .value
-      go true e = walk-value (downTo who page) down-within (cell-answers q (sym e))
-      go false e =
-          cell-is q
-          ∙ ap (λ (y : Version). y .value) (last-unset _ r c (inserted h r c) (take (page .lineage) list) (unset-take list r c (page .lineage) (sym e)) ∙ sym (last-unset f r c (inserted h r c) list (sym e)))
-
   -- ---- who set it, by the stamp that is shown
   commit-stamp : (s : State) → commitStamp (stateWord s) (commitOf s .stamp) ≡ commitOf s .stamp
   unfolding commitStamp
@@ -274,22 +215,22 @@ module _ {S : Shape} {v : View} {ps : List ScanEntry} {h : History} (o : Represe
   unfolding setterStamp inserted
   insert-stamp = rw (o .rows r b .state, o .rows r b .stamp) (commit-stamp (stateOf h ((rowAt h r) .inserter)))
 
-  kind-setting : (y : Content) (kind mask : ℕ) (value : ℕ → ℕ) → ContentIs (S .columns) y kind mask value → T (sets c y) → originalKind kind ≡ false
+  pub kind-setting : (y : Content) (kind mask : ℕ) (value : ℕ → ℕ) → ContentIs (S .columns) y kind mask value → T (sets c y) → originalKind kind ≡ false
   unfolding sets
   kind-setting (setting m vs) kind mask value e t = rw (e .0)
 
-  kind-original : (y : Content) (kind mask : ℕ) (value : ℕ → ℕ) → ContentIs (S .columns) y kind mask value → T (isOriginal c y) → originalKind kind ≡ true
+  pub kind-original : (y : Content) (kind mask : ℕ) (value : ℕ → ℕ) → ContentIs (S .columns) y kind mask value → T (isOriginal c y) → originalKind kind ≡ true
   unfolding isOriginal
   kind-original (original cs vs) kind mask value e t = rw (e .0)
 
-  setting-stamp : (i : ℕ) → i < length list → T (sets c ((getD list i noRecord) .content))
+  pub setting-stamp : (i : ℕ) → i < length list → T (sets c ((getD list i noRecord) .content))
       → setterStamp v r (setterAt v (g * S .capacity + i)) ≡ commitOf (stateOf h (versionIn c (getD list i noRecord) .setter)) .stamp
   unfolding setterAt setterStamp versionIn
   setting-stamp i u t =
       let x = lok .each i u in
       rw (kind-setting _ _ _ _ (x .content) t, x .state, x .stamp) (commit-stamp (stateOf h ((getD list i noRecord) .transaction)))
 
-  original-stamp : (i : ℕ) → i < length list → T (isOriginal c ((getD list i noRecord) .content))
+  pub original-stamp : (i : ℕ) → i < length list → T (isOriginal c ((getD list i noRecord) .content))
       → setterStamp v r (setterAt v (g * S .capacity + i)) ≡ commitOf (stateOf h (inserted h r c .setter)) .stamp
   unfolding setterAt
   original-stamp i u t = rw (kind-original _ _ _ _ (lok .each i u .content) t) insert-stamp
@@ -307,8 +248,69 @@ module _ {S : Shape} {v : View} {ps : List ScanEntry} {h : History} (o : Represe
           setting-stamp (λ i u _ t. original-stamp i u t) zero-le (λ _. insert-stamp)
       go false e = insert-stamp ∙ ap (λ (y : Version). commitOf (stateOf h (y .setter)) .stamp) (sym (last-unset f r c (inserted h r c) list (sym e)))
 
-  pub read-is : (T (visible f h r) → Q r) → readIn S v who p r c ≡ read f h r c
-  unfolding readIn lookupIn shownIn read shown
-  read-is q = rw (visible-is o k r b who f w)
-      (by-test (λ a. cond a (Answer.Version (toZ w32 (wordIn S v who p r c)) (setterStamp v r (setterIn S v who r c))) Answer.None ≡ cond a (shown h (versionOf f h r c)) Answer.None) (visible f h r)
-      (λ z. ap₂ Answer.Version (word-is (q z)) stamp-is) (λ _. refl))
+  -- ---- and what it is, on page p
+  module _ (p : ℕ) (Q : ℕ → Type 0) (held : Holds h (rangeOf r) c Q (pageIn v p) (cellIn v p))
+      (taken : All (TakenBefore (stateOf h) (who .commits)) (take ((pageIn v p) .lineage) (recordsOf h (rangeOf r)))) where
+    abbrev page : PageWords
+    page = pageIn v p
+
+    abbrev cell : ℕ
+    cell = cellIn v p (within r)
+
+    -- read for the value
+    walk-value : (low : ℕ) → low ≤ length list
+        → (hasOriginal list r c ≡ hasOriginal (take low list) r c → toZ w32 cell ≡ lastSetting f r c (inserted h r c) (take low list) .value)
+        → toZ w32 (orElse (walk S v who g c low ((rowIn v r) .link) ((rowIn v r) .link)) (λ i. valueIn S v i c) cell) ≡ lastSetting f r c (inserted h r c) list .value
+    walk-value low a z =
+        or-map (toZ w32) (walk S v who g c low ((rowIn v r) .link) ((rowIn v r) .link)) (λ i. valueIn S v i c) cell
+        ∙ walked (λ i. toZ w32 (valueIn S v i c)) (λ y. y .value) low (toZ w32 cell)
+        (λ i u t. setting-value (S .columns) c inside _ _ _ _ (lok .each i u .content) t ∙ (unfold versionIn in refl))
+        (λ i u e t. original-value (S .columns) c inside (insertedValue h r c) _ _ _ _ (lok .each i u .content) (original-there i u e) t ∙ (unfold inserted in refl))
+        a z
+
+    cell-is : Q r → toZ w32 cell ≡ lastSetting (λ k. isCommitted (stateOf h k)) r c (inserted h r c) (take (page .lineage) list) .value
+    unfolding cellThrough
+    cell-is q = held .cells r refl q
+
+    -- a page that is not newer than the stamp
+    cell-seen : Q r → page .newest ≤ who .stamp .0 → toZ w32 cell ≡ lastSetting f r c (inserted h r c) (take (page .lineage) list) .value
+    cell-seen q n =
+        cell-is q
+        ∙ ap (λ (y : Version). y .value)
+        (last-agree (λ k. isCommitted (stateOf h k)) r c f (inserted h r c)
+        (all-map₂ (λ (y : Record) a d s. page-seen h who (page .newest) f w n (y .transaction) (a .0) (λ z e. (d s z e, a .1 z e))) (all-both (held .through .closed-all) taken) (held .newest)))
+
+    has-original : wasSet list r c ≡ true → hasOriginal list r c ≡ true
+    has-original e = sym (originals-of h r c (k .invariants .order) (omega (arith, k .small .columns)) refl) ∙ e
+
+    down-within : downTo who page ≤ length list
+    unfolding downTo
+    down-within = by-test (λ a. cond a (page .lineage) 0 ≤ length list) (leb (page .newest) (who .stamp .0)) (λ _. held .through .within) (λ _. zero-le)
+
+    -- where no record answers, the page is not newer than the stamp: further down the column's original had answered
+    cell-answers : Q r → wasSet list r c ≡ true → hasOriginal list r c ≡ hasOriginal (take (downTo who page) list) r c
+        → toZ w32 cell ≡ lastSetting f r c (inserted h r c) (take (downTo who page) list) .value
+    unfolding downTo
+    cell-answers q s =
+        by-test (λ a. hasOriginal list r c ≡ hasOriginal (take (cond a (page .lineage) 0) list) r c
+        → toZ w32 cell ≡ lastSetting f r c (inserted h r c) (take (cond a (page .lineage) 0) list) .value) (leb (page .newest) (who .stamp .0))
+        (λ n _. cell-seen q (leb→le (page .newest) (who .stamp .0) n))
+        (λ _ e. absurd (true≢false (sym (has-original s) ∙ e ∙ (unfold hasOriginal in refl))))
+
+    pub word-is : Q r → toZ w32 (wordIn S v who p r c) ≡ versionOf f h r c .value
+    unfolding wordIn foundIn
+    word-is q = go (bit ((rowIn v r) .mask) c) (o .rows r b .mask c) ∙ ap (λ (y : Version). y .value) (version-range h f r c)
+      where
+        go : (a : Bool) → a ≡ wasSet list r c
+            → toZ w32 (orElse (cond a (walk S v who g c (downTo who page) ((rowIn v r) .link) ((rowIn v r) .link)) Found.Nothing) (λ i. valueIn S v i c) cell)
+            ≡ lastSetting f r c (inserted h r c) list .value
+        go true e = walk-value (downTo who page) down-within (cell-answers q (sym e))
+        go false e =
+            cell-is q
+            ∙ ap (λ (y : Version). y .value) (last-unset _ r c (inserted h r c) (take (page .lineage) list) (unset-take list r c (page .lineage) (sym e)) ∙ sym (last-unset f r c (inserted h r c) list (sym e)))
+
+    pub read-is : (T (visible f h r) → Q r) → readIn S v who p r c ≡ read f h r c
+    unfolding readIn lookupIn shownIn read shown
+    read-is q = rw (visible-is o k r b who f w)
+        (by-test (λ a. cond a (Answer.Version (toZ w32 (wordIn S v who p r c)) (setterStamp v r (setterIn S v who r c))) Answer.None ≡ cond a (shown h (versionOf f h r c)) Answer.None) (visible f h r)
+        (λ z. ap₂ Answer.Version (word-is (q z)) stamp-is) (λ _. refl))

@@ -7,6 +7,15 @@ use Rattle.output.specs.Output.{goesOn}
 use Rattle.output.proofs.goes_on.Statement.{statement}
 use Rattle.output.proofs.goes_on.Tie as tie
 
+refused : tie.Need-returns
+unfolding goesOn
+refused c =
+    let case : tie.After-answer = search in
+    let n : tie.After-number = search in
+    let low : tie.After-and-between = search in
+    let high : tie.After-and-between2 = search in
+    rw (case .answer .given .1, c .either .ensures, low .and-between .ensures, high .and-between2 .ensures, n .number .ensures)
+
 pub goes-on-spec : {M : Type 1} → statement M
 unfolding goesOn
 goes-on-spec =
@@ -15,5 +24,7 @@ goes-on-spec =
     (λ c. search needs)
     (λ c κs. search needs)
     (λ c κs. search needs)
-    (λ c. rw (c .before .before .before .answer .given .1, c .and-between .ensures, c .before .number .ensures))
-    (λ c. others (λ a. true ≡ goesOn a) refl (λ n. refl) (λ v s. refl) (λ v. refl) refl (λ n v. refl) (λ n m. refl) (c .before .args .answer) (c .match .keys2)))
+    (λ c κs. search needs)
+    (λ c κs. search needs)
+    refused
+    (λ c. others (λ a. true ≡ goesOn a) refl (λ n. refl) (λ v s. refl) (λ v. refl) refl (λ n v. refl) (λ n m. refl) (λ n. refl) (c .before .args .answer) (c .match .keys2)))

@@ -13,4 +13,4 @@ accepted-spec =
     (tie.spec
     (λ c. search needs)
     (λ c. search needs)
-    (λ c. others (λ a. true ≡ isAccepted a) refl (λ n. refl) (λ v s. refl) (λ v. refl) refl (λ n v. refl) (λ n m. refl) (c .before .args .answer) (c .match .keys2)))
+    (λ c. others (λ a. true ≡ isAccepted a) refl (λ n. refl) (λ v s. refl) (λ v. refl) refl (λ n v. refl) (λ n m. refl) (λ n. refl) (c .before .args .answer) (c .match .keys2)))

@@ -2,7 +2,7 @@
 use borrow.Author.Needs.{needs}
 use mathlib.Core.Path.{sym, _∙_}
 use Rattle.commands.proofs.Table.{chosen-narrow}
-use Rattle.output.specs.Steps.{answerTo, stateAfter}
+use Rattle.output.specs.Steps.{outcomeTo, stateAfter}
 use Rattle.turns.specs.Turns.{Does}
 use Rattle.turns.proofs.answer_to_command.Statement.{statement}
 use Rattle.turns.proofs.answer_to_command.Tie as tie
@@ -21,10 +21,11 @@ returns c =
     rw (sym (choice .choose .ensures) ∙ form .chosen .given .1, ← answered .before .capped .ensures .0) (answered .answer-to-form .ensures)
 
 returns-2 : tie.Need-returns-2
-unfolding Does answerTo stateAfter
+unfolding Does outcomeTo stateAfter
 returns-2 c =
     let choice : tie.After-choose = search in
-    let e = sym (choice .choose .ensures) ∙ c .before .chosen2 .given .1 in (rw e, rw e)
+    let refused : tie.After-chosen2 = search in
+    let e = sym (choice .choose .ensures) ∙ refused .chosen2 .given .1 in (rw (e, ← c .alone .ensures), rw e)
 
 pub answer-to-command-spec : {M : Type 1} → statement M
 answer-to-command-spec =
@@ -35,6 +36,7 @@ answer-to-command-spec =
     (λ c κs. search needs)
     answer-to-form-requires
     (λ c. search needs)
+    (λ c κs. search needs)
     (λ c. search needs)
     (λ c. search needs)
     returns

@@ -1,15 +1,17 @@
 -- `turns::answer_to_form` meets its contract.
 use borrow.Author.Needs.{needs}
 use borrow.Author.Tests.{lt-leb}
-use Rattle.output.specs.Steps.{answerTo, stateAfter}
+use Rattle.output.specs.Steps.{outcomeTo, stateAfter}
 use Rattle.turns.specs.Turns.{Does}
 use Rattle.turns.proofs.Answers.{form-called}
 use Rattle.turns.proofs.answer_to_form.Statement.{statement}
 use Rattle.turns.proofs.answer_to_form.Tie as tie
 
 returns : tie.Need-returns
-unfolding Does answerTo stateAfter
-returns c = let cut = lt-leb _ _ (rw (c .before .width .ensures) at (c .if1 .taken)) in (rw cut, rw cut)
+unfolding Does outcomeTo stateAfter
+returns c =
+    let short : tie.Then1 = search in
+    let cut = lt-leb _ _ (rw (short .before .width .ensures) at (short .if1 .taken)) in (rw (cut, ← c .alone .ensures), rw cut)
 
 returns-2 : tie.Need-returns-2
 returns-2 c =
@@ -22,6 +24,7 @@ pub answer-to-form-spec : {M : Type 1} → statement M
 answer-to-form-spec =
     tie.close
     (tie.spec
+    (λ c κs. search needs)
     (λ c κs. search needs)
     returns
     (λ c κs. search needs)

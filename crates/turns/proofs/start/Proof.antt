@@ -10,7 +10,7 @@ returns : tie.Need-returns
 returns c =
     let answered : tie.After-answer-to-shape = search in
     let a = answered .answer-to-shape in
-    turned _ shapeLine _ _ _ _ _ (a .result) _ refl refl (a .ensures .0) (c .before .render-shape .ensures) (c .goes-on .ensures) (a .ensures .1)
+    turned _ shapeLine (λ a. a) _ _ _ _ _ (a .result) _ refl refl (a .ensures .0) (c .before .render-shape .ensures) (c .goes-on .ensures) (a .ensures .1)
 
 pub start-spec : {M : Type 1} → statement M
 start-spec =

@@ -1,0 +1,2 @@
+-- The steps of the pass that lists crossings.
+pub mod Steps

@@ -1,0 +1,29 @@
+-- A call that is lent no slice leaves none: what it serves is all that it gives.
+use Prim.Native.Nat.{ℕ}
+use mathlib.Core.Path.{_≡_, refl, sym}
+use mathlib.Core.Bool.{Bool, true, false, cond}
+use mathlib.Core.List.{List, []}
+use Rattle.terms.specs.declared.Answer.{Answer}
+use Rattle.terms.specs.declared.ScanEntry.{ScanEntry}
+use Rattle.history.specs.History.{Call, Verdict, accept, refuse, none, sliceOf, alone, stampsIf}
+use Rattle.facts.specs.Usable.{usable}
+use Rattle.model.specs.Calls.{stampsIn, stampsNext}
+use Rattle.promise.specs.Promise.{Lent, lend, stampsLeft, Serves, Gives}
+
+by-none : (w : Verdict) → stampsIf w [] [] ≡ []
+unfolding stampsIf
+by-none accept = refl
+by-none (refuse n) = refl
+
+either-way : (u : Bool) (l : List ℕ) → cond u l l ≡ l
+either-way true l = refl
+either-way false l = refl
+
+pub none-left : (x : Lent) (c : Call) → sliceOf c ≡ none → stampsLeft x c ≡ []
+unfolding stampsLeft stampsNext stampsIn
+none-left x c e = rw (e, by-none) (either-way (usable (x .memory) (x .list)) [])
+
+pub serves-gives : (m : List ℕ) (ps : List ScanEntry) (c : Call) (r : Answer) (m′ : List ℕ) (ps′ : List ScanEntry) → sliceOf c ≡ none
+    → Serves m ps c r m′ ps′ → Gives m ps c (alone r) m′ ps′
+unfolding Gives
+serves-gives m ps c r m′ ps′ e h = (h, sym (none-left (lend m ps) c e))

@@ -5,6 +5,7 @@ use reference::random::Random;
 use reference::{generate, trace, Answer, Call, History, Shape};
 
 use crate::facts;
+use crate::footprint::Footprint;
 use crate::lent::{self, stamps_for, Lent};
 use crate::memory::{header, word, Layout, ScanEntry, SCANS};
 use crate::store::{told, writes, writes_list, Store};
@@ -142,18 +143,10 @@ impl Watched {
         self.stamps_before.copy_from_slice(self.stamps.get());
     }
 
-    fn memory_changed(&self) -> bool {
-        self.memory.get() != self.memory_before
-    }
-
-    fn list_changed(&self) -> bool {
-        self.scans.get() != self.scans_before
-    }
-
     /// No byte may have changed, and no stamp.
     pub fn unchanged(&self) -> Result<(), String> {
         self.guards()?;
-        if self.memory_changed() || self.list_changed() {
+        if self.memory.get() != self.memory_before || self.scans.get() != self.scans_before {
             return Err("it changed a byte".to_string());
         }
         self.listed(&[])
@@ -188,27 +181,12 @@ impl Watched {
         Err("a byte beside the lent bytes changed".to_string())
     }
 
-    /// What an accepted call may have changed: bytes below the need if it writes, one place of
-    /// the list if it opens or closes a scan.
-    pub fn changed_by(&self, call: &Call, need: usize) -> Result<(), String> {
+    /// What an accepted call changed lies in its footprint.
+    pub fn changed_by(&self, call: &Call) -> Result<(), String> {
         self.guards()?;
-        if !writes(call) && self.memory_changed() {
-            return Err("a call that writes nothing changed the memory".to_string());
-        }
-        if self.memory.get()[need..] != self.memory_before[need..] {
-            return Err("a byte past the need changed".to_string());
-        }
-        if !self.list_changed() {
-            return Ok(());
-        }
-        if !writes_list(call) {
-            return Err("a call that opens or closes no scan changed the list".to_string());
-        }
-        let both = self.scans_before.iter().zip(self.scans.get());
-        if both.filter(|(before, after)| before != after).count() > 1 {
-            return Err("more than one place of the list changed".to_string());
-        }
-        Ok(())
+        let footprint = Footprint::of(&self.memory_before, &self.scans_before, call)?;
+        footprint.judge_memory(&self.memory_before, self.memory.get())?;
+        footprint.judge_list(&self.scans_before, self.scans.get())
     }
 }
 
@@ -220,7 +198,7 @@ pub fn compare(
     calls: &[Call],
 ) -> Result<Tally, String> {
     let mut random = Random::new(seed ^ 0x6C65_6E74_0000_0000);
-    let (mut watched, need) = made(store, shape, &mut random)?;
+    let mut watched = made(store, shape, &mut random)?;
     let mut history = History::new(*shape);
     let mut tally = Tally { lists: 1, calls: calls.len() as u64, ..Tally::default() };
     tally.largest = u64::from(*shape == LARGEST);
@@ -231,7 +209,7 @@ pub fn compare(
         }
         tally.count_crossings(call, &expected);
         let found = watched.call(store, call, &mut random);
-        let checked = after_call(&mut watched, call, need, expected, &found);
+        let checked = after_call(&mut watched, call, expected, &found);
         checked.map_err(|error| format!("call {place}, {}: {error}", trace::call_words(call)))?;
     }
     Ok(tally)
@@ -240,7 +218,6 @@ pub fn compare(
 fn after_call(
     watched: &mut Watched,
     call: &Call,
-    need: usize,
     expected: Answer,
     found: &Answer,
 ) -> Result<(), String> {
@@ -253,7 +230,7 @@ fn after_call(
     if found.is_refused() {
         return watched.unchanged();
     }
-    watched.changed_by(call, need)?;
+    watched.changed_by(call)?;
     if writes(call) || writes_list(call) {
         if let Some(fact) = facts::failing(watched.memory.get(), watched.scans.get()) {
             return Err(format!("the fact '{fact}' fails"));
@@ -264,11 +241,7 @@ fn after_call(
 }
 
 /// A store made in dirty memory, with the refusals of making tried on the same bytes before.
-pub fn made(
-    store: &dyn Store,
-    shape: &Shape,
-    random: &mut Random,
-) -> Result<(Watched, usize), String> {
+pub fn made(store: &dyn Store, shape: &Shape, random: &mut Random) -> Result<Watched, String> {
     let need = store.need(shape).map_err(|number| format!("the need is refused with {number}"))?;
     within_bound(shape, need)?;
     let memory = Lent::dirty(need + random.below(64) as usize, random);
@@ -282,7 +255,7 @@ pub fn made(
     }
     watched.made(need)?;
     watched.keep();
-    Ok((watched, need))
+    Ok(watched)
 }
 
 /// "they are at most 4,096, and 320 for each page, 64 for each row, 64 + 4 x columns for each tail

@@ -102,7 +102,7 @@ fn grown(
     count: usize,
     random: &mut Random,
 ) -> Result<Watched, String> {
-    let (mut watched, _) = made(store, shape, random)?;
+    let mut watched = made(store, shape, random)?;
     for call in generate::calls(seed, *shape, count) {
         store.call(watched.memory.get_mut(), watched.scans.get_mut(), &call);
     }
@@ -251,9 +251,8 @@ fn judge(
     if answer.is_refused() {
         return watched.unchanged();
     }
+    watched.changed_by(call)?;
     let memory = watched.memory.get();
-    let layout = Layout::stored(memory).ok_or("the measures are gone")?;
-    watched.changed_by(call, layout.need())?;
     // An accepted call keeps the facts, but for a count of merges or commits that goes round to 0.
     let round = match call {
         Call::Merge { .. } => word(memory, header::MERGES_MADE) == 0,

@@ -116,7 +116,7 @@ const FACTS: [Fact; 23] = [
     }),
     ("a waiting page's merge is among those made", |s| {
         let made = s.header(header::MERGES_MADE);
-        s.kept_pages().filter(|at| s.waits(*at)).all(|at| s.get(Region::PageReplaced, at) <= made)
+        s.waiting_pages().all(|at| s.get(Region::PageReplaced, at) <= made)
     }),
     // "open numbers differ, each within its own series"
     ("open transactions differ", |s| differ(&s.open())),
@@ -152,7 +152,9 @@ pub struct Stored<'m> {
 }
 
 impl Stored<'_> {
-    fn of<'m>(memory: &'m [u8], list: &[ScanEntry]) -> Result<Stored<'m>, &'static str> {
+    /// What is stored, whether the facts hold or not, or the name of the fact without which there is no
+    /// word to look at.
+    pub fn of<'m>(memory: &'m [u8], list: &[ScanEntry]) -> Result<Stored<'m>, &'static str> {
         if list.len() < SCANS {
             return Err(LIST);
         }
@@ -180,7 +182,8 @@ impl Stored<'_> {
         0..self.layout.ranges
     }
 
-    fn rows(&self) -> std::ops::Range<usize> {
+    /// The given rows.
+    pub fn rows(&self) -> std::ops::Range<usize> {
         0..self.layout.rows.min(self.header(header::ROWS_GIVEN) as usize)
     }
 
@@ -193,17 +196,27 @@ impl Stored<'_> {
         self.ranges().flat_map(|range| (1..=self.used(range)).map(move |number| (range, number)))
     }
 
-    fn slots(&self) -> impl Iterator<Item = usize> + '_ {
+    /// The slots of the used records.
+    pub fn slots(&self) -> impl Iterator<Item = usize> + '_ {
         self.records().map(|(range, number)| self.layout.slot(range, number as usize))
     }
 
     /// The current and the waiting pages: those that a place names, and those marked as waiting.
     /// Any other page is free, whatever it says.
     fn kept_pages(&self) -> impl Iterator<Item = usize> + '_ {
-        let named = |at: &usize| {
-            (0..self.layout.chunks).any(|place| self.get(Region::Current, place) as usize == *at)
-        };
-        (0..self.layout.pages).filter(move |at| named(at) || self.waits(*at))
+        (0..self.layout.pages).filter(|at| self.is_current(*at) || self.waits(*at))
+    }
+
+    pub fn free_pages(&self) -> impl Iterator<Item = usize> + '_ {
+        (0..self.layout.pages).filter(|at| !self.is_current(*at) && !self.waits(*at))
+    }
+
+    pub fn waiting_pages(&self) -> impl Iterator<Item = usize> + '_ {
+        (0..self.layout.pages).filter(|at| self.waits(*at))
+    }
+
+    fn is_current(&self, at: usize) -> bool {
+        (0..self.layout.chunks).any(|place| self.get(Region::Current, place) as usize == at)
     }
 
     fn waits(&self, at: usize) -> bool {

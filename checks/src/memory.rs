@@ -19,7 +19,7 @@ pub const MOST_RANGES: usize = 16;
 pub const MOST_RECORDS: usize = 512;
 
 /// The regions in their order in memory.
-#[derive(Clone, Copy, Debug, PartialEq, Eq)]
+#[derive(Clone, Copy, Debug, PartialEq, Eq, PartialOrd, Ord)]
 pub enum Region {
     Header,
     Opens,
@@ -51,6 +51,38 @@ pub enum Region {
 }
 
 pub const REGIONS: usize = Region::TailOrdinal as usize + 1;
+
+impl Region {
+    pub const ALL: [Region; REGIONS] = [
+        Region::Header,
+        Region::Opens,
+        Region::RowTransaction,
+        Region::RowState,
+        Region::RowStamp,
+        Region::RowLink,
+        Region::RowMask,
+        Region::TailTransaction,
+        Region::TailRow,
+        Region::TailKind,
+        Region::TailMask,
+        Region::TailLink,
+        Region::TailState,
+        Region::TailStamp,
+        Region::TailValues,
+        Region::Used,
+        Region::Current,
+        Region::PageState,
+        Region::PageChunk,
+        Region::PageMade,
+        Region::PageReplaced,
+        Region::PageLineage,
+        Region::PageNewest,
+        Region::Cells,
+        Region::Changes,
+        Region::RowOrdinal,
+        Region::TailOrdinal,
+    ];
+}
 
 /// The words of the header.
 pub mod header {
@@ -183,6 +215,13 @@ impl Layout {
         self.bases[REGIONS] * WORD
     }
 
+    /// The region of a word of the memory, and which of the region's words it is. A word past the need
+    /// has none.
+    pub fn place_of(&self, at: usize) -> Option<(Region, usize)> {
+        let region = Region::ALL.into_iter().rev().find(|region| self.base(*region) <= at)?;
+        (at < self.bases[REGIONS]).then(|| (region, at - self.base(region)))
+    }
+
     /// Where record k (from 1) of a range stands.
     #[inline(always)]
     pub fn slot(&self, range: usize, k: usize) -> usize {
@@ -215,6 +254,30 @@ pub fn words(bytes: &[u8]) -> impl ExactSizeIterator<Item = u32> + '_ {
     bytes
         .chunks_exact(WORD)
         .map(|word| u32::from_le_bytes(word.try_into().expect("a word has four bytes")))
+}
+
+/// Words that are first compared together: most of two memories is alike.
+const STRETCH: usize = 256;
+
+/// The words in which two memories of one length differ, from the first on. The last may have fewer bytes
+/// than a word, past the need.
+pub fn differing<'m>(one: &'m [u8], other: &'m [u8]) -> impl Iterator<Item = usize> + 'm {
+    let stretches = one.chunks(STRETCH * WORD).zip(other.chunks(STRETCH * WORD)).enumerate();
+    stretches.filter(|(_, (one, other))| one != other).flat_map(|(place, (one, other))| {
+        let words = one.chunks(WORD).zip(other.chunks(WORD)).enumerate();
+        words.filter(|(_, (one, other))| one != other).map(move |(at, _)| place * STRETCH + at)
+    })
+}
+
+/// Where a word stands in which two memories differ, by the measures of the first, and what it is in each.
+pub fn where_differ(one: &[u8], other: &[u8], at: usize) -> String {
+    let place = match Layout::stored(one).map(|layout| layout.place_of(at)) {
+        None => format!("at word {at}"),
+        Some(None) => format!("at word {at}, past the need"),
+        Some(Some((region, place))) => format!("at word {place} of {region:?}"),
+    };
+    let bytes = |memory: &[u8]| memory[at * WORD..].iter().take(WORD).copied().collect::<Vec<u8>>();
+    format!("{place}: {:?} and {:?}", bytes(one), bytes(other))
 }
 
 /// An entry of the scan list, as the C interface has it; number 0 marks a free one.

@@ -9,7 +9,7 @@ use crate::agree;
 use crate::damage::{due, good};
 use crate::facts;
 use crate::lent::{self, stamps_for, Lent};
-use crate::memory::{Layout, ScanEntry, REGIONS, SCANS, WORD};
+use crate::memory::{differing, where_differ, ScanEntry, SCANS};
 use crate::operands::{call_for, COMMANDS};
 use crate::shortcuts::{Differing, Differs};
 use crate::stated;
@@ -164,8 +164,9 @@ impl<'s> Pair<'s> {
             return Err(format!("answers {first} and {second}"));
         }
         let [one, other] = &self.memory;
-        if one.get() != other.get() {
-            return Err(format!("the memories differ {}", where_differ(one.get(), other.get())));
+        if let Some(at) = differing(one.get(), other.get()).next() {
+            let place = where_differ(one.get(), other.get(), at);
+            return Err(format!("the memories differ {place}"));
         }
         let [list, other_list] = &self.scans;
         if list.get() != other_list.get() {
@@ -182,18 +183,4 @@ impl<'s> Pair<'s> {
         }
         Err("a byte beside the lent bytes changed".to_string())
     }
-}
-
-/// The first word in which two memories differ, with both words.
-fn where_differ(one: &[u8], other: &[u8]) -> String {
-    let at = one.iter().zip(other).position(|(one, other)| one != other).unwrap_or(0) / WORD;
-    let Some(layout) = Layout::stored(one) else {
-        return format!("at word {at}");
-    };
-    let Some(region) = (0..REGIONS).rev().find(|region| layout.first(*region) <= at) else {
-        return format!("at word {at}");
-    };
-    let place = at - layout.first(region);
-    let bytes = |memory: &[u8]| memory[at * WORD..].iter().take(WORD).copied().collect::<Vec<u8>>();
-    format!("at word {place} of region {region}: {:?} and {:?}", bytes(one), bytes(other))
 }

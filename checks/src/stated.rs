@@ -11,7 +11,7 @@
 use reference::{trace, Answer, Call};
 
 use crate::facts::Stored;
-use crate::memory::{header, kind, page, state, Region, NUMBERS, OPENS, ROWS, SCANS};
+use crate::memory::{header, kind, state, Region, NUMBERS, OPENS, ROWS, SCANS};
 
 /// The numbers of a call. What a call does not have is 0, and no test of it looks there.
 #[derive(Clone, Copy, Default)]
@@ -154,7 +154,7 @@ pub fn applies(s: &Stored, number: u8, call: &Call, n: &Numbers) -> bool {
             s.open().contains(&s.of_record(Region::TailTransaction, n.range as usize, record))
         }),
         // "no free page"; "Free pages are the spares less those waiting"
-        18 => s.header(header::SPARES) as usize <= waiting(s),
+        18 => s.header(header::SPARES) as usize <= s.waiting_pages().count(),
         // "exactly if the crossings outnumber the slice"
         21 => crossings(s, n).len() > n.places as usize,
         _ => unreachable!("{number} is no number of a call on a store"),
@@ -203,7 +203,7 @@ fn insert_aborted(s: &Stored, n: &Numbers) -> bool {
 
 /// Two records for an update of a column "that no earlier accepted update of that row has set", which
 /// the row's mask notes, else one.
-fn wanted(s: &Stored, call: &Call, n: &Numbers) -> u32 {
+pub fn wanted(s: &Stored, call: &Call, n: &Numbers) -> u32 {
     let set = row(s, Region::RowMask, n);
     let new = (0..16).any(|bit| n.mask >> bit & 1 == 1 && set >> bit & 1 == 0);
     match call {
@@ -216,10 +216,6 @@ fn wanted(s: &Stored, call: &Call, n: &Numbers) -> u32 {
 pub fn lineage(s: &Stored, n: &Numbers) -> u32 {
     let place = s.layout.chunk(n.range as usize, n.column as usize);
     s.get(Region::PageLineage, s.get(Region::Current, place) as usize)
-}
-
-fn waiting(s: &Stored) -> usize {
-    (0..s.layout.pages).filter(|at| s.get(Region::PageState, *at) >= page::WAITING).count()
 }
 
 /// A committed value of the row and column.

@@ -1,10 +1,11 @@
 //! Wrong stores: each fault of the plain page store, and each store that sees a part of the list
 //! alone, must be told apart by the comparisons, and the right store by none.
 
-use checks::memory::{ScanEntry, SCANS};
+use checks::memory::{Layout, Region, ScanEntry, SCANS};
 use checks::plain::{faults, Plain};
-use checks::{agree, damage, same, Store};
-use reference::{Answer, Call, Shape};
+use checks::store::told;
+use checks::{agree, damage, facts, same, Store};
+use reference::{Answer, Call, History, Shape};
 
 /// Lists that are tried before a fault counts as not found.
 const LISTS: u64 = 4000;
@@ -124,6 +125,69 @@ fn later_value_counts() {
     told_apart_where_unmade(&Plain::<{ faults::LATER_VALUE_COUNTS }>);
 }
 
+/// On the lists of so many seeds every answer is the plain history's, and after each list no fact fails.
+fn answers_rightly(store: &dyn Store, seeds: u64) {
+    for seed in 0..seeds {
+        let (shape, calls) = agree::list(seed);
+        let mut history = History::new(shape);
+        let (mut memory, mut list) = (vec![0; Layout::of(&shape).need()], [ScanEntry::FREE; SCANS]);
+        assert_eq!(store.make(&mut memory, &mut list, &shape), Answer::Done);
+        for call in &calls {
+            let mut stamps = match call {
+                Call::Crossings { places, .. } => vec![0; *places as usize],
+                _ => Vec::new(),
+            };
+            let answer = store.call_with(&mut memory, &mut list, &mut stamps, call);
+            assert_eq!(answer, told(history.call(call)).0, "seed {seed}, {call:?}");
+        }
+        assert_eq!(facts::failing(&memory, &list), None, "seed {seed}");
+    }
+}
+
+/// The difference is a word of this region that a merge changed.
+fn is_of_a_merge(difference: Result<impl std::fmt::Debug, String>, region: Region) {
+    let difference = difference.expect_err("the fault was not found");
+    let footprint = "the memory changed outside the call's footprint";
+    assert!(difference.contains("merge"), "{difference}");
+    assert!(difference.contains(footprint), "{difference}");
+    assert!(difference.contains(&format!("of {region:?}: ")), "{difference}");
+}
+
+/// A merge notes the rows that it meets. No answer is another and no fact fails, so that of all that `agree`
+/// and `damage` look at the footprint alone tells it apart.
+fn told_apart_by_footprint(wrong: &dyn Store, region: Region) {
+    answers_rightly(wrong, 200);
+    is_of_a_merge(agree::run(wrong, 0, LISTS), region);
+    is_of_a_merge(damage::random_memories(wrong, 0, LISTS), region);
+}
+
+/// No call looks at the spare words.
+#[test]
+fn merge_notes_in_header() {
+    told_apart_by_footprint(&Plain::<{ faults::MERGE_NOTES_IN_HEADER }>, Region::Header);
+}
+
+/// The cells of a free page are not looked at before a merge has written all of them.
+#[test]
+fn merge_notes_in_free_page() {
+    told_apart_by_footprint(&Plain::<{ faults::MERGE_NOTES_IN_FREE_PAGE }>, Region::Cells);
+}
+
+/// Of a mask no bit is looked at that stands for no column.
+#[test]
+fn merge_notes_in_mask() {
+    told_apart_by_footprint(&Plain::<{ faults::MERGE_NOTES_IN_MASK }>, Region::RowMask);
+}
+
+/// Making puts 0 in the spare words and no call writes them, so that a merge which leaves 0 there has
+/// changed nothing: `agree` sees no difference. In memories that no call made they hold anything.
+#[test]
+fn merge_clears_its_notes() {
+    let wrong = Plain::<{ faults::MERGE_CLEARS_ITS_NOTES }>;
+    agree::run(&wrong, 0, 200).expect("no difference");
+    is_of_a_merge(damage::random_memories(&wrong, 0, LISTS), Region::Header);
+}
+
 /// The plain store with another count of crossings, though it lists the right ones.
 struct Miscounting;
 
@@ -155,6 +219,43 @@ fn another_count_of_crossings() {
     told_apart(&Miscounting);
     assert!(damage::random_memories(&Miscounting, 0, LISTS).is_err());
     assert!(same::run(&Miscounting, &Miscounting, 0, LISTS).is_err());
+}
+
+/// The plain store with sums that leave their count in a free entry of the list. What such an entry holds
+/// besides number 0 is no matter to any answer or fact.
+struct Scribbling;
+
+impl Store for Scribbling {
+    fn need(&self, shape: &Shape) -> Result<usize, u8> {
+        Plain::<0>.need(shape)
+    }
+
+    fn make(&self, memory: &mut [u8], scans: &mut [ScanEntry], shape: &Shape) -> Answer {
+        Plain::<0>.make(memory, scans, shape)
+    }
+
+    fn call_with(
+        &self,
+        memory: &mut [u8],
+        scans: &mut [ScanEntry],
+        stamps: &mut [u32],
+        call: &Call,
+    ) -> Answer {
+        let answer = Plain::<0>.call_with(memory, scans, stamps, call);
+        let free = scans.iter_mut().find(|scan| !scan.is_open());
+        if let (Answer::Sum { count, .. }, Some(free)) = (&answer, free) {
+            free.commits = *count;
+        }
+        answer
+    }
+}
+
+#[test]
+fn a_sum_writes_in_a_free_entry() {
+    answers_rightly(&Scribbling, 200);
+    let footprint = "the list changed outside the call's footprint";
+    let difference = agree::run(&Scribbling, 0, LISTS).expect_err("the fault was not found");
+    assert!(difference.contains("sum") && difference.contains(footprint), "{difference}");
 }
 
 /// The plain store with a part of the list that is lent to its calls.

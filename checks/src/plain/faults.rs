@@ -109,3 +109,11 @@ pub const LATER_TO_ACCEPTED: u8 = 61;
 pub const LATER_ORIGINAL: u8 = 62;
 /// A value later than `to` is one, though no crossing is listed that is later.
 pub const LATER_VALUE_COUNTS: u8 = 63;
+/// A merge notes the rows that it meets in spare words of the header, a bit for each.
+pub const MERGE_NOTES_IN_HEADER: u8 = 64;
+/// It notes them in the cells of another free page, where there is one.
+pub const MERGE_NOTES_IN_FREE_PAGE: u8 = 65;
+/// It notes them in a spare bit of the row's mask.
+pub const MERGE_NOTES_IN_MASK: u8 = 66;
+/// It notes them in the same words of the header, and leaves 0 there.
+pub const MERGE_CLEARS_ITS_NOTES: u8 = 67;

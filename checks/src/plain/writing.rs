@@ -3,10 +3,15 @@
 use reference::Answer;
 
 use super::{faults, Table};
-use crate::memory::{header, kind, page, state, words, Region, OPENS, ROWS, WORD};
+use crate::memory::{header, kind, page, state, words, Region, MOST_COLUMNS, OPENS, ROWS, WORD};
 
 /// Words looked at together by the passes that seldom find what they look for.
 const STEP: usize = 16;
+
+/// Bits in a word, and the first of the spare words of the header in which a wrong store has one for each
+/// row of a range.
+const BITS: usize = 8 * WORD;
+const NOTES: usize = header::WORDS - ROWS / BITS;
 
 /// What the rows and records of a transaction get when it ends.
 #[derive(Clone, Copy)]
@@ -231,6 +236,7 @@ impl<const FAULT: u8> Table<'_, FAULT> {
             {
                 break;
             }
+            self.note_met(slot, new);
             if self.applies(column, slot) {
                 let row = self.get(Region::TailRow, slot) as usize % ROWS;
                 let word = self.get(Region::TailValues, slot * self.layout.columns + column);
@@ -241,6 +247,9 @@ impl<const FAULT: u8> Table<'_, FAULT> {
                     newest = newest.max(self.get(Region::TailStamp, slot));
                 }
             }
+        }
+        if FAULT == faults::MERGE_CLEARS_ITS_NOTES {
+            self.run_mut(Region::Header, NOTES, ROWS / BITS).fill(0);
         }
         let merges = self.header(header::MERGES_MADE).wrapping_add(1);
         let place = self.layout.chunk(range, column);
@@ -296,6 +305,30 @@ impl<const FAULT: u8> Table<'_, FAULT> {
     }
 
     // Parts of the wrong stores.
+
+    /// Notes the row of a record that a merge into page `new` meets.
+    #[inline(always)]
+    fn note_met(&mut self, slot: usize, new: usize) {
+        let met = |table: &Self| table.get(Region::TailRow, slot) as usize;
+        match FAULT {
+            faults::MERGE_NOTES_IN_HEADER | faults::MERGE_CLEARS_ITS_NOTES => {
+                let at = NOTES + met(self) % ROWS / BITS;
+                self.put(Region::Header, at, self.header(at) | 1 << (met(self) % BITS));
+            }
+            faults::MERGE_NOTES_IN_FREE_PAGE => {
+                let free = |at: &usize| self.get(Region::PageState, *at) == page::FREE;
+                let other = (0..self.layout.pages).filter(free).find(|at| *at != new);
+                if let Some(other) = other {
+                    self.put(Region::Cells, other * ROWS + met(self) % ROWS, 1);
+                }
+            }
+            faults::MERGE_NOTES_IN_MASK => {
+                let mask = self.get(Region::RowMask, met(self));
+                self.put(Region::RowMask, met(self), mask | 1 << MOST_COLUMNS);
+            }
+            _ => {}
+        }
+    }
 
     fn take_mask_bits(&mut self, transaction: u32) {
         for range in 0..self.layout.ranges {

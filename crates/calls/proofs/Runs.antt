@@ -4,36 +4,33 @@ use mathlib.Core.Path.{_≡_, refl, sym, subst, ap, _∙_}
 use mathlib.Core.Bool.{Bool, true, false, cond, _&&_}
 use mathlib.Core.Logic.{inl, _↔_}
 use mathlib.Core.List.{List, [], _∷_, map}
-use native.Mathlib.Nat.{le-refl}
 use native.Mathlib.Omega.{arith}
 use lib.Dec.{leb}
-use lib.ListN.{length, set, List·getD-map}
-use lib.Seq.{set-out}
+use lib.ListN.{length, List·getD-map}
 use Rattle.model.specs.Writing.{madeView}
 use Rattle.terms.specs.Measures.{Shape, withinLimits, mostScans}
 use Rattle.terms.specs.Refusals.{isRefused, isAccepted}
 use Rattle.terms.specs.declared.Answer.{Answer}
 use Rattle.terms.specs.declared.ScanEntry.{ScanEntry}
 use Rattle.terms.specs.declared.Refusal.{Refusal}
-use Rattle.words.specs.Words.{words}
 use Rattle.layout.specs.Sizes.{sizesOf, bytesNeeded}
-use Rattle.layout.specs.View.{View, lay}
-use Rattle.terms.specs.Entries.{freeEntry}
-use Rattle.facts.specs.Usable.{storedShape, usable}
+use Rattle.layout.specs.View.{lay}
+use Rattle.facts.specs.Usable.{usable}
 use Rattle.facts.proofs.Usable.{usable-tells}
 use Rattle.history.proofs.Lists.{is-true, refuted, clash}
-use Rattle.history.specs.History.{Call, Outcome, alone, given, Verdict, accept, refuse}
+use Rattle.history.specs.History.{Call, Outcome, alone, given}
 use Rattle.history.specs.Claims.{isPlain, kind, strike, plainOutcomes}
-use Rattle.model.specs.Calls.{entriesAfter, entriesIf, entriesNext}
-use Rattle.promise.specs.Promise.{storeView, Lent, answerOf, memoryAfter, listAfter, outcomesOf, Serves, Gives, Makes, lend, left}
+use Rattle.promise.specs.Promise.{Lent, answerOf, memoryAfter, listAfter, outcomesOf, Serves, Gives, Makes, lend, left}
 use Rattle.promise.specs.Demands.{Accepted, storeOutcomes, storeLeft, storeOutcomeAt, AcceptsIn, Refuses, RefusedKeeps, ReadsCommitted, PagesCommitted, Demand3, StrikingStore, MinutesStableStore, ScansStableStore}
+use Rattle.promise.specs.Footprint.{ChangesOnly, MergeChangesOnly, MakingChangesOnly}
 use Rattle.promise.specs.Stated.{conditions}
 use Rattle.promise.proofs.Demands.{demand3, reads-committed, pages-committed, striking-store, minutes-stable-store, scans-stable-store}
 use Rattle.promise.proofs.Refused.{refused-keeps}
+use Rattle.promise.proofs.Footprint.{changes-only, merge-changes-only, making-changes-only}
 use Rattle.promise.proofs.Stated.{refuses}
 use Rattle.making.specs.Made.{made}
 use Rattle.scans.specs.Entries.{freedIf}
-use Rattle.calls.specs.Runs.{Run, ends, goes, Interface, returnedFor, AcceptsAmong, returnedAt, RefusedSo, RefusedKept, UnmadeKept, ReadsSo, PagesSo, OutcomesSo, StruckSame, MinutesSo, ScansSo, calls, LentRefused, LentKept, MakingKept, LentReads, LentPages, LentOutcomes, LentStriking, LentMinutes, LentScans, MakingFrees, OneEntry, ShortRefused}
+use Rattle.calls.specs.Runs.{Run, ends, goes, Interface, returnedFor, AcceptsAmong, returnedAt, RefusedSo, RefusedKept, UnmadeKept, ChangedSo, MergedSo, MadeSo, ReadsSo, PagesSo, OutcomesSo, StruckSame, MinutesSo, ScansSo, calls, LentRefused, LentKept, MakingKept, LentChanged, LentMerged, MakingChanged, LentReads, LentPages, LentOutcomes, LentStriking, LentMinutes, LentScans, MakingFrees, ShortRefused}
 
 -- ---- what a run answers and leaves
 left-on : (x : Lent) (c : Call) (cs : List Call) {m′ : List ℕ} {ps′ : List ScanEntry} → m′ ≡ memoryAfter x c → ps′ ≡ listAfter x c → left (lend m′ ps′) cs ≡ left x (c ∷ cs)
@@ -152,6 +149,19 @@ module _ (F : Interface) (ok : Faithful F) where
       let e : made S (length ps) m .0 ≡ Answer.Refused n = sym (x .1 .0) ∙ is-refusal r (x .0) n (x .2) h in
       (x .1 .1 ∙ unmade-same m (withinLimits S) (leb (bytesNeeded S) (length m) && leb mostScans (length ps)) (lay (sizesOf S) (madeView S) m) n e, x .1 .2 ∙ ap (λ (y : Answer). freedIf (isAccepted y) ps) e)
 
+  -- ---- what is changed
+  pub changed-so : ChangedSo F
+  unfolding ChangedSo Gives Serves ChangesOnly
+  changed-so m m′ ps ps′ c o b s = let x = ok .served s in rw (x .1 .0 .1, x .1 .0 .2) (changes-only m ps c b)
+
+  pub merged-so : MergedSo F
+  unfolding MergedSo Gives Serves MergeChangesOnly
+  merged-so m m′ ps ps′ g c n o b s = let x = ok .served s in rw (x .1 .0 .1, x .1 .0 .2) (merge-changes-only m ps g c n b)
+
+  pub made-so : MadeSo F
+  unfolding MadeSo Makes MakingChangesOnly
+  made-so S m m′ ps ps′ r s = let x = ok .making s in rw (x .1 .1) (making-changes-only S m ps)
+
   -- ---- demand 2
   pub reads-so : ReadsSo F
   unfolding ReadsSo Gives Serves ReadsCommitted
@@ -224,6 +234,15 @@ lent-kept = refused-kept calls faithful
 pub making-kept : MakingKept
 making-kept = unmade-kept calls faithful
 
+pub lent-changed : LentChanged
+lent-changed = changed-so calls faithful
+
+pub lent-merged : LentMerged
+lent-merged = merged-so calls faithful
+
+pub making-changed : MakingChanged
+making-changed = made-so calls faithful
+
 pub lent-reads : LentReads
 lent-reads = reads-so calls faithful
 
@@ -241,51 +260,6 @@ lent-minutes = minutes-so calls faithful
 
 pub lent-scans : LentScans
 lent-scans = scans-so calls faithful
-
--- ---- at most one entry
-
-Changed : List ScanEntry → List ScanEntry → Type 0
-Changed ps ps′ = (i : ℕ) × (p : ScanEntry) × (ps′ ≡ set ps i p)
-
-none-changed : (ps : List ScanEntry) → Changed ps ps
-unfolding Changed
-none-changed ps = (length ps, freeEntry, sym (set-out ps (length ps) freeEntry (le-refl (length ps))))
-
-after-changed : (v : View) (ps : List ScanEntry) (c : Call) → Changed ps (entriesAfter v ps c)
-unfolding Changed entriesAfter
-after-changed v ps Call.begin = none-changed ps
-after-changed v ps (Call.insert t vs) = none-changed ps
-after-changed v ps (Call.update t r m vs) = none-changed ps
-after-changed v ps (Call.delete t r) = none-changed ps
-after-changed v ps (Call.commit t s) = none-changed ps
-after-changed v ps (Call.abort t) = none-changed ps
-after-changed v ps (Call.latest r c) = none-changed ps
-after-changed v ps (Call.readAt s r c) = none-changed ps
-after-changed v ps (Call.ownRead t r c) = none-changed ps
-after-changed v ps (Call.openScan s) = (_, _, refl)
-after-changed v ps (Call.scanRead k r c) = none-changed ps
-after-changed v ps (Call.sum k c) = none-changed ps
-after-changed v ps (Call.close k) = (_, _, refl)
-after-changed v ps (Call.merge g c n) = none-changed ps
-after-changed v ps Call.release = none-changed ps
-after-changed v ps (Call.pageCell c r) = none-changed ps
-after-changed v ps (Call.lineage g c) = none-changed ps
-after-changed v ps (Call.crossings r c mark from to stamps) = none-changed ps
-
-if-changed : (w : Verdict) (ps ps′ : List ScanEntry) → Changed ps ps′ → Changed ps (entriesIf w ps ps′)
-unfolding entriesIf
-if-changed accept ps ps′ h = h
-if-changed (refuse n) ps ps′ h = none-changed ps
-
-list-changed : (m : List ℕ) (ps : List ScanEntry) (c : Call) → Changed ps (listAfter (lend m ps) c)
-unfolding listAfter entriesNext
-list-changed m ps c =
-    elim (usable m ps) as (λ b. Changed ps (cond b (entriesNext (storedShape (words m)) (storeView m) ps c) ps))
-    [ true ↦ if-changed _ ps _ (after-changed (storeView m) ps c) | false ↦ none-changed ps ]
-
-pub one-entry : OneEntry
-unfolding OneEntry Serves Changed
-one-entry m m′ ps ps′ c r s = subst (Changed ps) (sym (s .2)) (list-changed m ps c)
 
 -- ---- a short list
 

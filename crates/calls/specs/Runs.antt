@@ -5,7 +5,7 @@ use mathlib.Core.Path.{_≡_}
 use mathlib.Core.Logic.{_↔_}
 use mathlib.Core.Bool.{false}
 use mathlib.Core.List.{List, [], _∷_, map}
-use lib.ListN.{length, getD, set}
+use lib.ListN.{length, getD}
 use Rattle.terms.specs.Measures.{Shape, mostScans}
 use Rattle.terms.specs.Refusals.{isRefused}
 use Rattle.terms.specs.declared.Answer.{Answer}
@@ -13,13 +13,14 @@ use Rattle.terms.specs.declared.ScanEntry.{ScanEntry}
 use Rattle.terms.specs.declared.Refusal.{Refusal}
 use Rattle.words.specs.Words.{Bytes}
 use Rattle.scans.specs.Entries.{allFreed}
-use Rattle.history.specs.History.{Call, Snapshot, Outcome, alone, sliceOf, lentTo, start, outcomes}
+use Rattle.history.specs.History.{Call, merge, Snapshot, Outcome, alone, sliceOf, lentTo, start, outcomes}
 use Rattle.history.specs.Claims.{strike, plainOutcomes, Reads, AsksMinutes, AsksScan, historyBefore, callAt}
 use Rattle.history.specs.Latest.{lastCommitted}
 use Rattle.history.specs.Lists.{All}
 use Rattle.model.specs.Calls.{Typed}
 use Rattle.model.specs.Claims.{historyAfter, PageHolds}
 use Rattle.promise.specs.Promise.{storeView, Gives, Serves, Makes}
+use Rattle.promise.specs.Footprint.{WithinFootprint, MergeWithin, MakingWithin}
 use Rattle.promise.specs.Stated.{conditions, First, NoneApplies}
 
 -- A run (rule 11.1 of docs/SPECIFICATION.md): calls over one memory and one list, each lent what the call before left, with their outcomes, which are what they returned and what they
@@ -65,6 +66,16 @@ module _ (F : Interface) where
 
   unfoldable pub UnmadeKept : Type 0
   UnmadeKept = (S : Shape) (m m′ : List ℕ) (ps ps′ : List ScanEntry) (r : F .Returned) (n : Refusal) → F .makes m ps S r m′ ps′ → F .Refuses r n → (m′ ≡ m) × (ps′ ≡ ps)
+
+  -- ---- what is changed: by a call its footprint at most, by a merge what Item 5 of document 02 names, by a making the bytes that its shape needs
+  unfoldable pub ChangedSo : Type 0
+  ChangedSo = (m m′ : List ℕ) (ps ps′ : List ScanEntry) (c : Call) (o : Outcome (F .Returned)) → Bytes m → F .gives m ps c o m′ ps′ → WithinFootprint m ps c m′ ps′
+
+  unfoldable pub MergedSo : Type 0
+  MergedSo = (m m′ : List ℕ) (ps ps′ : List ScanEntry) (g c n : ℕ) (o : Outcome (F .Returned)) → Bytes m → F .gives m ps (merge g c n) o m′ ps′ → MergeWithin m ps g c m′ ps′
+
+  unfoldable pub MadeSo : Type 0
+  MadeSo = (S : Shape) (m m′ : List ℕ) (ps ps′ : List ScanEntry) (r : F .Returned) → F .makes m ps S r m′ ps′ → MakingWithin S m m′
 
   -- ---- demand 2
   -- a read after a run that is not refused answers the value last committed by the commits of its snapshot
@@ -122,6 +133,15 @@ LentKept = RefusedKept calls
 abbrev pub MakingKept : Type 0
 MakingKept = UnmadeKept calls
 
+abbrev pub LentChanged : Type 0
+LentChanged = ChangedSo calls
+
+abbrev pub LentMerged : Type 0
+LentMerged = MergedSo calls
+
+abbrev pub MakingChanged : Type 0
+MakingChanged = MadeSo calls
+
 abbrev pub LentReads : Type 0
 LentReads = ReadsSo calls
 
@@ -141,12 +161,9 @@ abbrev pub LentScans : Type 0
 LentScans = ScansSo calls
 
 -- ---- the list
--- an accepted making frees every entry; every other call changes at most one
+-- an accepted making frees every entry
 unfoldable pub MakingFrees : Type 0
 MakingFrees = (S : Shape) (m m′ : List ℕ) (ps ps′ : List ScanEntry) → Makes m ps S Answer.Done m′ ps′ → ps′ ≡ allFreed ps
-
-unfoldable pub OneEntry : Type 0
-OneEntry = (m m′ : List ℕ) (ps ps′ : List ScanEntry) (c : Call) (r : Answer) → Serves m ps c r m′ ps′ → (i : ℕ) × (p : ScanEntry) × (ps′ ≡ set ps i p)
 
 -- a list of fewer than `mostScans` entries is refused with 2, whatever the memory
 unfoldable pub ShortRefused : Type 0

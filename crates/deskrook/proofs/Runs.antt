@@ -1,9 +1,9 @@
 -- The demands of the exports: a reply tells the answer of the call that the export hands on to.
 use mathlib.Core.Path.{ap}
 use Rattle.terms.specs.declared.Answer.{Answer}
-use Rattle.calls.proofs.Runs.{Faithful, refused-so, refused-kept, unmade-kept, reads-so, pages-so, outcomes-so, struck-same, minutes-so, scans-so}
+use Rattle.calls.proofs.Runs.{Faithful, refused-so, refused-kept, unmade-kept, changed-so, merged-so, made-so, reads-so, pages-so, outcomes-so, struck-same, minutes-so, scans-so}
 use Rattle.deskrook.specs.Replies.{replyOf, RepliesWith, RepliesMade}
-use Rattle.deskrook.specs.Runs.{exports, ExportRefused, ExportKept, ExportMakingKept, ExportReads, ExportPages, ExportOutcomes, ExportStriking, ExportMinutes, ExportScans}
+use Rattle.deskrook.specs.Runs.{exports, ExportRefused, ExportKept, ExportMakingKept, ExportChanged, ExportMerged, ExportMakingChanged, ExportReads, ExportPages, ExportOutcomes, ExportStriking, ExportMinutes, ExportScans}
 use Rattle.deskrook.proofs.Results.{refused-result, accepted-result}
 
 faithful : Faithful exports
@@ -24,6 +24,15 @@ export-kept = refused-kept exports faithful
 
 pub export-making-kept : ExportMakingKept
 export-making-kept = unmade-kept exports faithful
+
+pub export-changed : ExportChanged
+export-changed = changed-so exports faithful
+
+pub export-merged : ExportMerged
+export-merged = merged-so exports faithful
+
+pub export-making-changed : ExportMakingChanged
+export-making-changed = made-so exports faithful
 
 pub export-reads : ExportReads
 export-reads = reads-so exports faithful

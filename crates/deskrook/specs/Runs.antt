@@ -3,7 +3,7 @@
 use mathlib.Core.Path.{_≡_}
 use mathlib.Core.Logic.{_⊎_}
 use Rattle.terms.specs.Refusals.{refusalNumber}
-use Rattle.calls.specs.Runs.{Interface, RefusedSo, RefusedKept, UnmadeKept, ReadsSo, PagesSo, OutcomesSo, StruckSame, MinutesSo, ScansSo}
+use Rattle.calls.specs.Runs.{Interface, RefusedSo, RefusedKept, UnmadeKept, ChangedSo, MergedSo, MadeSo, ReadsSo, PagesSo, OutcomesSo, StruckSame, MinutesSo, ScansSo}
 use Rattle.deskrook.specs.declared.reply.Reply.{Reply}
 use Rattle.deskrook.specs.Replies.{replyOf, RepliesWith, RepliesMade}
 
@@ -22,6 +22,15 @@ ExportKept = RefusedKept exports
 
 abbrev pub ExportMakingKept : Type 0
 ExportMakingKept = UnmadeKept exports
+
+abbrev pub ExportChanged : Type 0
+ExportChanged = ChangedSo exports
+
+abbrev pub ExportMerged : Type 0
+ExportMerged = MergedSo exports
+
+abbrev pub ExportMakingChanged : Type 0
+ExportMakingChanged = MadeSo exports
 
 abbrev pub ExportReads : Type 0
 ExportReads = ReadsSo exports

@@ -1,6 +1,6 @@
 -- The laws of a cut: pieces do not overlap, words that change inside one piece leave every other, and the pieces together are the words.
 -- Nothing here is said for each region, and nothing for each pair of regions.
-use Prim.Native.Nat.{ℕ, zero, suc, _+_, _≤_, _<_}
+use Prim.Native.Nat.{ℕ, zero, suc, _+_, _-_, _≤_, _<_}
 use mathlib.Core.Path.{_≡_, refl, ap, sym, _∙_}
 use mathlib.Core.Bool.{true, false, cond}
 use mathlib.Core.Logic.{_≢_, _⊎_, inl, inr, ⊎-swap}
@@ -46,6 +46,16 @@ pub sides : (b : ℕ) (ns : List ℕ) (i j : ℕ) → i ≢ j
 sides b ns i j h =
     elim (decLt i j) as (λ _. (startFrom b ns i + getD ns i 0 ≤ startFrom b ns j) ⊎ (startFrom b ns j + getD ns j 0 ≤ startFrom b ns i))
     [ yes f ↦ inl (apart b ns i j f) | no f ↦ inr (apart b ns j i (omega arith)) ]
+
+-- every word is one of a piece
+pub located : (b : ℕ) (ns : List ℕ) (w : ℕ) → b ≤ w → w < endFrom b ns
+    → (i : ℕ) × (j : ℕ) × (i < length ns) × (j < getD ns i 0) × (w ≡ startFrom b ns i + j)
+located b [] w p q = absurd (omega arith)
+located b (n ∷ ns) w p q =
+    elim (decLt w (b + n)) as (λ _. (i : ℕ) × (j : ℕ) × (i < suc (length ns)) × (j < getD (n ∷ ns) i 0) × (w ≡ startFrom b (n ∷ ns) i + j)) [
+      | yes h ↦ (0, w - b, omega arith, omega arith, omega arith)
+      | no h ↦ let t = located (b + n) ns w (omega arith) q in (suc (t .0), t .1, omega (arith, t .2), t .3, t .4)
+    ]
 
 -- words that changed inside piece k only: every other piece is as it was
 pub inside : (ns ws ws′ : List ℕ) (k l : ℕ)

@@ -33,46 +33,51 @@ lay-part s m p v b h e =
 -- ---- seeing what was laid
 
 -- `index` and `all` have the same order
-pub named : (m : View) (k : Region) → getD (map m all) (index k) [] ≡ m k
-named m Region.Header = refl
-named m Region.Opens = refl
-named m Region.RowTransaction = refl
-named m Region.RowState = refl
-named m Region.RowStamp = refl
-named m Region.RowLink = refl
-named m Region.RowMask = refl
-named m Region.TailTransaction = refl
-named m Region.TailRow = refl
-named m Region.TailKind = refl
-named m Region.TailMask = refl
-named m Region.TailLink = refl
-named m Region.TailState = refl
-named m Region.TailStamp = refl
-named m Region.TailValues = refl
-named m Region.Used = refl
-named m Region.Current = refl
-named m Region.PageState = refl
-named m Region.PageChunk = refl
-named m Region.PageMade = refl
-named m Region.PageReplaced = refl
-named m Region.PageLineage = refl
-named m Region.PageNewest = refl
-named m Region.Cells = refl
-named m Region.Changes = refl
-named m Region.RowOrdinal = refl
-named m Region.TailOrdinal = refl
+pub named : {A : Type 0} (m : Region → A) (d : A) (k : Region) → getD (map m all) (index k) d ≡ m k
+named m d Region.Header = refl
+named m d Region.Opens = refl
+named m d Region.RowTransaction = refl
+named m d Region.RowState = refl
+named m d Region.RowStamp = refl
+named m d Region.RowLink = refl
+named m d Region.RowMask = refl
+named m d Region.TailTransaction = refl
+named m d Region.TailRow = refl
+named m d Region.TailKind = refl
+named m d Region.TailMask = refl
+named m d Region.TailLink = refl
+named m d Region.TailState = refl
+named m d Region.TailStamp = refl
+named m d Region.TailValues = refl
+named m d Region.Used = refl
+named m d Region.Current = refl
+named m d Region.PageState = refl
+named m d Region.PageChunk = refl
+named m d Region.PageMade = refl
+named m d Region.PageReplaced = refl
+named m d Region.PageLineage = refl
+named m d Region.PageNewest = refl
+named m d Region.Cells = refl
+named m d Region.Changes = refl
+named m d Region.RowOrdinal = refl
+named m d Region.TailOrdinal = refl
 
-lengths : (s : Sizes) (m : View) → Long s m → map length (map m all) ≡ lens s
+-- no two regions have one number
+pub same-region : (k l : Region) → index k ≡ index l → k ≡ l
+same-region k l e =
+    sym (named (λ r. r) Region.Header k) ∙ ap (λ (i : ℕ). getD (map (λ r. r) all) i Region.Header) e ∙ named (λ r. r) Region.Header l
+
+pub lengths : (s : Sizes) (m : View) → Long s m → map length (map m all) ≡ lens s
 lengths s m h = ap (λ (f : Region → ℕ). map f all) (fun-ext h)
 
-view-of-join : (s : Sizes) (m : View) (r : List ℕ) → Long s m → view s (join (map m all) ++ r) ≡ m
+pub view-of-join : (s : Sizes) (m : View) (r : List ℕ) → Long s m → view s (join (map m all) ++ r) ≡ m
 unfolding view base
 view-of-join s m r h =
     fun-ext
     (λ k.
     ap (λ (ns : List ℕ). piece ns (join (map m all) ++ r) (index k)) (sym (lengths s m h))
     ∙ piece-join (map m all) r (index k)
-    ∙ named m k)
+    ∙ named m [] k)
 
 join-fit : (m : View) → Fits m → (ks : List Region) → Fit (join (map m ks))
 join-fit m f [] i = omega arith

@@ -5,3 +5,4 @@ pub mod Lay
 pub mod Limits
 pub mod Renewed
 pub mod Indices
+pub mod Parts

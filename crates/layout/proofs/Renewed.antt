@@ -2,17 +2,17 @@
 use Prim.Native.Nat.{ℕ, _+_}
 use mathlib.Core.Path.{_≡_, refl, ap, sym, _∙_, fun-ext}
 use mathlib.Core.Bool.{Bool, true, false, cond}
-use mathlib.Core.List.{List, [], map}
+use mathlib.Core.List.{List}
 use lib.Dec.{eqb}
 use lib.ListN.{getD, set}
 use borrow.Author.Tests.{eqb-true}
 use Rattle.loops.specs.Change.{changed}
 use Rattle.loops.proofs.Change.{changed-next, changed-none}
 use Rattle.layout.specs.declared.Region.{Region}
-use Rattle.layout.specs.Regions.{index, all}
+use Rattle.layout.specs.Regions.{index}
 use Rattle.layout.specs.View.{View, renew, put, mark}
 use Rattle.layout.proofs.View.{renew-here}
-use Rattle.layout.proofs.Lay.{named}
+use Rattle.layout.proofs.Lay.{same-region}
 
 -- a region renewed by what it holds
 pub renew-none : (k : Region) (v : View) → v ≡ renew k (v k) v
@@ -21,7 +21,7 @@ renew-none k v = fun-ext (λ j. go j (eqb (index k) (index j)) refl)
   where
     go : (j : Region) (b : Bool) → eqb (index k) (index j) ≡ b → v j ≡ cond b (v k) (v j)
     go j true q =
-        sym (named v j) ∙ ap (λ (i : ℕ). getD (map v all) i []) (sym (eqb-true (index k) (index j) q)) ∙ named v k
+        ap v (same-region j k (sym (eqb-true (index k) (index j) q)))
     go j false q = refl
 
 -- no words marked

@@ -4,3 +4,4 @@ pub mod Codes
 pub mod Regions
 pub mod View
 pub mod Sizes
+pub mod Parts

@@ -14,3 +14,4 @@ pub mod Calls
 pub mod Openings
 pub mod Made
 pub mod Claims
+pub mod Footprint

@@ -11,3 +11,4 @@ pub mod Preconditions
 pub mod Represents
 pub mod Unfolding
 pub mod Machine
+pub mod Footprint

@@ -7,3 +7,4 @@ pub mod Refused
 pub mod Stated
 pub mod Makes
 pub mod Alone
+pub mod Footprint

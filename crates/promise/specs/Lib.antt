@@ -3,3 +3,4 @@ pub mod Demands
 pub mod Promise
 pub mod Stated
 pub mod Represents
+pub mod Footprint

@@ -62,7 +62,7 @@ module _ (S : Shape) (current : List ℕ) (g i : ℕ) (vs : List ℤ) (cells : L
   abbrev page : ℕ → ℕ
   page c = getD current (chunkOf S g c) 0
 
-  cells-length : (n : ℕ) → length (putCells S current g i vs n cells) ≡ length cells
+  pub cells-length : (n : ℕ) → length (putCells S current g i vs n cells) ≡ length cells
   cells-length zero = refl
   cells-length (suc n) = length-set (putCells S current g i vs n cells) _ _ ∙ cells-length n
 

@@ -126,7 +126,7 @@ pub marked-at : (ks : List ℕ) (n t w : ℕ) (l : List ℕ) (r : ℕ) → n ≤
 marked-at ks n t w l r a b =
     changed-start (λ i x. cond (eqb (getD ks (0 + i) 0) t) w x) n l r a b ∙ ap (λ (j : ℕ). cond (eqb (getD ks j 0) t) w (getD l r 0)) (zero-add r)
 
-marks-length : (S : Shape) (used ks : List ℕ) (t w n : ℕ) (l : List ℕ) → length (markTails S used ks t w n l) ≡ length l
+pub marks-length : (S : Shape) (used ks : List ℕ) (t w n : ℕ) (l : List ℕ) → length (markTails S used ks t w n l) ≡ length l
 marks-length S used ks t w zero l = refl
 marks-length S used ks t w (suc n) l = changed-length _ (n * S .capacity) (markTails S used ks t w n l) (getD used n 0) ∙ marks-length S used ks t w n l
 

@@ -44,31 +44,8 @@ setting-word C c (original cs vs) kind mask value b o = rw (o .0) (and-false (bi
 setting-word C c (setting m vs) kind mask value b o = rw (o .0, o .1)
 setting-word C c ending kind mask value b o = rw o (and-false (bit mask c))
 
--- ---- the forward pass
-module _ (S : Shape) (v : View) (h : History) (g c p low : ℕ) (inside : c < S .columns) (o : TailOf S (stateOf h) (recordsOf h g) v g) where
-  abbrev recs : List Record
-  recs = recordsOf h g
-
-  abbrev done : ℕ → Bool
-  done k = isCommitted (stateOf h k)
-
-  -- the record after `low` and k more
-  abbrev rec : ℕ → Record
-  rec k = getD (recordsOf h g) (low + k) noRecord
-
-  take-at : (k : ℕ) → low + suc k ≡ suc (low + k)
-  take-at k = omega arith
-
-  record-at : (k : ℕ) → low + k < length recs
-      → RecordIs (S .columns) (stateOf h) (rec k) (recordIn v (slot S g (suc (low + k)))) (valueIn S v (slot S g (suc (low + k))))
-  record-at k b = rw (slot-is S g (low + k)) (o .each (low + k) b)
-
-  applies-is : (k : ℕ) → low + k < length recs → applies c (recordIn v (slot S g (suc (low + k)))) ≡ (sets c ((rec k) .content) && done ((rec k) .transaction))
-  unfolding applies
-  applies-is k b =
-      let x : RecordIs (S .columns) (stateOf h) (rec k) (recordIn v (slot S g (suc (low + k)))) (valueIn S v (slot S g (suc (low + k)))) = record-at k b in
-      rw (x .state, committed-word (stateOf h ((rec k) .transaction))) (setting-word (S .columns) c ((rec k) .content) _ _ _ (done ((rec k) .transaction)) (x .content))
-
+-- ---- what the forward pass writes, in any memory
+module _ (S : Shape) (v : View) (g c p low : ℕ) where
   -- what every put into the page keeps
   applied-keeps : (P : List ℕ → Type 0) → ((l : List ℕ) (r s : ℕ) → P l → P (set l (p * rangeRows + within r) (valueIn S v s c))) → (k : ℕ) (l : List ℕ) → P l
       → P (applied S v g c p low k l)
@@ -97,6 +74,31 @@ module _ (S : Shape) (v : View) (h : History) (g c p low : ℕ) (inside : c < S 
       apart r (inl u) z = omega arith
       apart r (inr u) z = omega arith
 
+-- ---- and over the records of a history
+module _ (S : Shape) (v : View) (h : History) (g c p low : ℕ) (inside : c < S .columns) (o : TailOf S (stateOf h) (recordsOf h g) v g) where
+  abbrev recs : List Record
+  recs = recordsOf h g
+
+  abbrev done : ℕ → Bool
+  done k = isCommitted (stateOf h k)
+
+  -- the record after `low` and k more
+  abbrev rec : ℕ → Record
+  rec k = getD (recordsOf h g) (low + k) noRecord
+
+  take-at : (k : ℕ) → low + suc k ≡ suc (low + k)
+  take-at k = omega arith
+
+  record-at : (k : ℕ) → low + k < length recs
+      → RecordIs (S .columns) (stateOf h) (rec k) (recordIn v (slot S g (suc (low + k)))) (valueIn S v (slot S g (suc (low + k))))
+  record-at k b = rw (slot-is S g (low + k)) (o .each (low + k) b)
+
+  applies-is : (k : ℕ) → low + k < length recs → applies c (recordIn v (slot S g (suc (low + k)))) ≡ (sets c ((rec k) .content) && done ((rec k) .transaction))
+  unfolding applies
+  applies-is k b =
+      let x : RecordIs (S .columns) (stateOf h) (rec k) (recordIn v (slot S g (suc (low + k)))) (valueIn S v (slot S g (suc (low + k)))) = record-at k b in
+      rw (x .state, committed-word (stateOf h ((rec k) .transaction))) (setting-word (S .columns) c ((rec k) .content) _ _ _ (done ((rec k) .transaction)) (x .content))
+
   pub applied-is : (l : List ℕ) → p * rangeRows + rangeRows ≤ length l → (r : ℕ) → rangeOf r ≡ g
       → toZ w32 (getD l (p * rangeRows + within r) 0) ≡ lastSetting done r c (inserted h r c) (take low recs) .value
       → (k : ℕ) → low + k ≤ length recs
@@ -118,7 +120,7 @@ module _ (S : Shape) (v : View) (h : History) (g c p low : ℕ) (inside : c < S 
       put-at : low + k < length recs → (x : ℕ) → getD (set before (p * rangeRows + within ((recordIn v s) .row)) x) (p * rangeRows + within r) 0
           ≡ cond (eqb ((rec k) .row) r) x (getD before (p * rangeRows + within r) 0)
       put-at u x = by-cases (ℕ-discrete ((rec k) .row) r)
-          (λ q. rw (eq-eqb ((rec k) .row) r q, record-at k u .row ∙ q) (getD-set-same before (p * rangeRows + within r) x 0 (omega (arith, applied-length k l))))
+          (λ q. rw (eq-eqb ((rec k) .row) r q, record-at k u .row ∙ q) (getD-set-same before (p * rangeRows + within r) x 0 (omega (arith, applied-length S v g c p low k l))))
           (λ f. rw (ne-eqb ((rec k) .row) r f)
           (getD-set-other before (p * rangeRows + within ((recordIn v s) .row)) (p * rangeRows + within r) x 0
           (λ z. f (same-row ((rec k) .row) r (all-at (records-range h g) (low + k) noRecord u ∙ sym e) (omega (arith, record-at k u .row, z))))))

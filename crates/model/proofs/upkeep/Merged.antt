@@ -206,7 +206,7 @@ module _ {S : Shape} {v : View} {ps : List ScanEntry} {h : History} (o : Represe
   unfolding mergedIn put renew cellIn
   cells-other q i f b =
       let d : (q * rangeRows + i < p * rangeRows) ⊎ (p * rangeRows + rangeRows ≤ q * rangeRows + i) = by-cases (decLt q p) (λ u. inl (omega arith)) (λ u. inr (omega arith)) in
-      applied-outside S v h g c p low (ok .column-in) tail (n - low) copy (q * rangeRows + i) d
+      applied-outside S v g c p low (n - low) copy (q * rangeRows + i) d
       ∙ changed-outside (λ i x. getD (v Cells) (old * rangeRows + i) 0) (p * rangeRows) (v Cells) rangeRows (q * rangeRows + i) d
 
   -- ---- what the new page holds
@@ -392,8 +392,8 @@ module _ {S : Shape} {v : View} {ps : List ScanEntry} {h : History} (o : Represe
       (put-whole PageChunk p (chunkOf S g c) spot
       (put-whole PageState p asCurrent (omega arith)
       (renew-whole Cells (applied S v g c p low (n - low) copy)
-      (applied-length S v h g c p low (ok .column-in) tail (n - low) copy ∙ changed-length (λ i x. getD (v Cells) (old * rangeRows + i) 0) (p * rangeRows) (v Cells) rangeRows ∙ o .whole .long Cells)
-      (applied-fit S v h g c p low (ok .column-in) tail (o .whole .fits TailValues) (n - low) copy
+      (applied-length S v g c p low (n - low) copy ∙ changed-length (λ i x. getD (v Cells) (old * rangeRows + i) 0) (p * rangeRows) (v Cells) rangeRows ∙ o .whole .long Cells)
+      (applied-fit S v g c p low (o .whole .fits TailValues) (n - low) copy
       (changed-fit (λ i x. getD (v Cells) (old * rangeRows + i) 0) (p * rangeRows) rangeRows (v Cells) (λ i x _ _. o .whole .fits Cells (old * rangeRows + i)) (o .whole .fits Cells)))
       (o .whole))))))))))
     where

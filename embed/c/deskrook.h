@@ -161,6 +161,7 @@ deskrook_reply deskrook_close_scan(const uint8_t *mem, size_t mem_length, deskro
 /* ---- pages ---- */
 
 /* Merges the committed settings among the tail records 1 to `through` of a range into a new page of one column; the old page waits.
+ * Of the memory it changes that page, the words that say which page is current or waits, and the count of merges; it keeps no table of rows.
  * Refusals: MEMORY, RANGE, COLUMN, REACH, OPEN, NO_PAGE. */
 deskrook_reply deskrook_merge(uint8_t *mem, size_t mem_length, const deskrook_scan_entry *scans, size_t scans_length, uint32_t range, uint32_t column,
                               uint32_t through);

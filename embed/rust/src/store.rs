@@ -427,7 +427,9 @@ impl<'a> Store<'a> {
     }
 
     /// Merges the committed settings among a range's tail records up to `through` into a new page
-    /// of one column. The old page waits for a [`release`](Store::release).
+    /// of one column. The old page waits for a [`release`](Store::release). Of the memory it changes that
+    /// page, the words that say which page is current or waits, and the count of merges; it keeps no
+    /// table of rows.
     ///
     /// # Errors
     ///

@@ -122,7 +122,8 @@ filled-within {v′ = v′} S s n k f from to g o =
     by-stretch (s * C) (n * C) j
     (λ d. changed-outside _ (k * C) (v′ TailValues) C j (⊎-map (λ u. omega (arith, mul-le-mul-right C from)) (λ u. omega (arith, mul-le-mul-right C to, suc-mul k C, add-mul s n C)) d)) (g j)) o
 
--- ---- the cells of an insert
+-- ---- insert
+-- its cells
 cells-within : (S : Shape) (v : View) (r : ℕ) (vs : List ℤ) (n j : ℕ)
     → (getD (putCells S (v Current) (rangeOf r) (within r) vs n (v Cells)) j 0 ≡ getD (v Cells) j 0) ⊎ T (among Cells j (cellsWritten S v r n))
 unfolding currentIn
@@ -134,7 +135,18 @@ cells-within S v r vs (suc n) j =
     at : ℕ → ℕ
     at c = currentIn S v (rangeOf r) c * rangeRows + within r
 
--- ---- merge: the cells of its page, a copy to which the settings are applied, and ten words
+inserted-within : (ps : List ScanEntry) (S : Shape) (t : ℕ) (vs : List ℤ) (v : View) → ChangedWithin (footprint S v ps (insert t vs)) v (insertedIn S t vs v)
+unfolding footprint insertedIn insertedAt put renew openIndex
+inserted-within ps S t vs v =
+    noted-within t (simp word-here tt)
+    (put-within Header rowsAt _ tt
+    (renew-within Cells _ (cells-length S (v Current) _ _ vs (v Cells) (S .columns)) (cells-within S v (rowsGiven v) vs (S .columns))
+    (put-within RowMask _ 0 (simp word-here tt)
+    (put-within RowLink _ 0 (simp word-here tt)
+    (put-within RowOrdinal _ 0 (simp word-here tt)
+    (put-within RowStamp _ 0 (simp word-here tt) (put-within RowState _ _ (simp word-here tt) (put-within RowTransaction _ t (simp word-here tt) nothing-changed))))))))
+
+-- ---- merge: the cells of its page, a copy to which the settings are applied, and nine words
 merge-within : (S : Shape) (v : View) (g c n : ℕ) → ChangedWithin (mergeFootprint S v g c) v (mergedIn S g c n v)
 unfolding mergedIn mergeFootprint
 merge-within S v g c n =
@@ -159,17 +171,6 @@ merge-within S v g c n =
 
     low : ℕ
     low = (pageIn v old) .lineage
-
-inserted-within : (ps : List ScanEntry) (S : Shape) (t : ℕ) (vs : List ℤ) (v : View) → ChangedWithin (footprint S v ps (insert t vs)) v (insertedIn S t vs v)
-unfolding footprint insertedIn insertedAt put renew openIndex
-inserted-within ps S t vs v =
-    noted-within t (simp word-here tt)
-    (put-within Header rowsAt _ tt
-    (renew-within Cells _ (cells-length S (v Current) _ _ vs (v Cells) (S .columns)) (cells-within S v (rowsGiven v) vs (S .columns))
-    (put-within RowMask _ 0 (simp word-here tt)
-    (put-within RowLink _ 0 (simp word-here tt)
-    (put-within RowOrdinal _ 0 (simp word-here tt)
-    (put-within RowStamp _ 0 (simp word-here tt) (put-within RowState _ _ (simp word-here tt) (put-within RowTransaction _ t (simp word-here tt) nothing-changed))))))))
 
 -- ---- update and delete: the slot of a second record is that of the first or the next
 next-slot : (S : Shape) (v v′ : View) (g : ℕ) → v′ Used ≡ set (v Used) g (usedIn v g + 1) → (nextSlot S v g ≤ nextSlot S v′ g) × (nextSlot S v′ g < nextSlot S v g + 2)

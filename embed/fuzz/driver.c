@@ -1,7 +1,7 @@
 /* Damaged memory from outside: an input's bytes become a store, words written into it at will, and calls with any numbers over any bytes and any list, through the C
  * interface. Of every call: the result is 2 exactly where facts.c finds a failing fact; it is one that the call may answer; it is 13 just where the stamp is on
  * the wrong side of the last commit's; fields that it has not are 0; the stamp of a value read is not after its reader's; a refusal changes no byte; an accepted call changes
- * only what it may, and the facts hold again; a commit counts itself, and an opened scan's entry has the counts made before it. Crossings are refused as their operands have it,
+ * only what it may, a merge no other byte than Item 5 of document 02 names, and the facts hold again; a commit counts itself, and an opened scan's entry has the counts made before it. Crossings are refused as their operands have it,
  * with 21 exactly where more are listed once there are places for all; the stamps listed are between the two, and the places behind them are unchanged. In a store that
  * calls alone have made and written, no commit, merge or release changes the sum of an open scan, and the crossings are those of crossings.c. Memory, list, values and stamps
  * end or begin at a page that cannot be read, and the rest of their own pages is marked, so that neither a read nor a write outside goes unseen though the library itself is
@@ -491,6 +491,40 @@ static void look_behind_list(deskrook_reply reply) {
         fail(about[CROSSINGS].name, "an entry behind the list changed");
 }
 
+/* "an accepted merge changes no lent byte but those of the page it writes and those that say which page is current, waiting or free, the lineage and the merges made" (Item 5 of
+ * document 02). The page is the one that the chunk names now; it was free: it did not wait, and no chunk named it. */
+static void judge_merge(const struct layout *l, const uint32_t numbers[MOST_NUMBERS]) {
+    const char *name = about[MERGE].name;
+    uint32_t chunk = numbers[0] * l->columns + numbers[1];
+    uint32_t old = word_at(memory.before, l->base[CURRENT] + chunk), new = word_at(memory.first, l->base[CURRENT] + chunk);
+    if (new >= l->pages || word_at(memory.before, l->base[PAGE_STATE] + new) > 1)
+        fail(name, "the page taken was not free");
+    for (uint32_t other = 0; other < l->chunks; other++)
+        if (word_at(memory.before, l->base[CURRENT] + other) == new)
+            fail(name, "the page taken was current");
+    const uint32_t words[] = {
+        MERGES_MADE,
+        l->base[CURRENT] + chunk,
+        l->base[PAGE_STATE] + old,
+        l->base[PAGE_REPLACED] + old,
+        l->base[PAGE_STATE] + new,
+        l->base[PAGE_CHUNK] + new,
+        l->base[PAGE_MADE] + new,
+        l->base[PAGE_LINEAGE] + new,
+        l->base[PAGE_NEWEST] + new,
+    };
+    for (size_t at = 0; at < memory.length; at++) {
+        if (memory.before[at] == memory.first[at])
+            continue;
+        size_t word = at / 4, cells = l->base[CELLS] + (size_t)new * 64;
+        int may = word >= cells && word < cells + 64;
+        for (size_t i = 0; i < sizeof words / sizeof words[0]; i++)
+            may |= word == words[i];
+        if (!may)
+            fail(name, "a byte changed that is none of the merge's");
+    }
+}
+
 /* Makes a call with these numbers, and with values and stamps as they are lent, and judges it. */
 static deskrook_reply judged_call(enum call call, const uint32_t numbers[MOST_NUMBERS]) {
     const char *name = about[call].name;
@@ -545,6 +579,8 @@ static deskrook_reply judged_call(enum call call, const uint32_t numbers[MOST_NU
     }
     if (ok && call != BYTES_NEEDED) {
         judge_accepted(call);
+        if (call == MERGE)
+            judge_merge(&layout, numbers);
         judge_scans(call, numbers, reply);
     } else if (changed(&memory) || changed(&list)) {
         fail(name, "a byte changed, though nothing was to be done");

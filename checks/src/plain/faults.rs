@@ -117,3 +117,14 @@ pub const MERGE_NOTES_IN_FREE_PAGE: u8 = 65;
 pub const MERGE_NOTES_IN_MASK: u8 = 66;
 /// It notes them in the same words of the header, and leaves 0 there.
 pub const MERGE_CLEARS_ITS_NOTES: u8 = 67;
+
+/// Whether a fault is that of a merge which notes the rows that it meets.
+pub const fn notes_rows(fault: u8) -> bool {
+    matches!(
+        fault,
+        MERGE_NOTES_IN_HEADER
+            | MERGE_NOTES_IN_FREE_PAGE
+            | MERGE_NOTES_IN_MASK
+            | MERGE_CLEARS_ITS_NOTES
+    )
+}

@@ -236,7 +236,9 @@ impl<const FAULT: u8> Table<'_, FAULT> {
             {
                 break;
             }
-            self.note_met(slot, new);
+            if faults::notes_rows(FAULT) {
+                self.note_met(slot, new);
+            }
             if self.applies(column, slot) {
                 let row = self.get(Region::TailRow, slot) as usize % ROWS;
                 let word = self.get(Region::TailValues, slot * self.layout.columns + column);
@@ -307,7 +309,6 @@ impl<const FAULT: u8> Table<'_, FAULT> {
     // Parts of the wrong stores.
 
     /// Notes the row of a record that a merge into page `new` meets.
-    #[inline(always)]
     fn note_met(&mut self, slot: usize, new: usize) {
         let met = |table: &Self| table.get(Region::TailRow, slot) as usize;
         match FAULT {

@@ -24,3 +24,19 @@ pub mod unmade;
 
 pub use plain::Plain;
 pub use store::Store;
+
+/// The stores that must be right: the two in Rust, and the compiled library where it is linked.
+pub fn right_stores() -> Vec<Box<dyn Store>> {
+    let rust: Vec<Box<dyn Store>> = vec![Box::new(Plain::<0>), Box::new(defined::Defined)];
+    rust.into_iter().chain(compiled()).collect()
+}
+
+#[cfg(feature = "library")]
+fn compiled() -> Vec<Box<dyn Store>> {
+    vec![Box::new(library::Library)]
+}
+
+#[cfg(not(feature = "library"))]
+fn compiled() -> Vec<Box<dyn Store>> {
+    Vec::new()
+}

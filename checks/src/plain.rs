@@ -49,6 +49,32 @@ impl<const FAULT: u8> Store for Plain<FAULT> {
     }
 }
 
+/// The plain store with other calls, for wrong stores that the parameter does not make.
+pub struct Altered<F>(pub F);
+
+impl<F> Store for Altered<F>
+where
+    F: Fn(&mut [u8], &mut [ScanEntry], &mut [u32], &Call) -> Answer,
+{
+    fn need(&self, shape: &Shape) -> Result<usize, u8> {
+        Plain::<{ faults::NONE }>.need(shape)
+    }
+
+    fn make(&self, memory: &mut [u8], scans: &mut [ScanEntry], shape: &Shape) -> Answer {
+        Plain::<{ faults::NONE }>.make(memory, scans, shape)
+    }
+
+    fn call_with(
+        &self,
+        memory: &mut [u8],
+        scans: &mut [ScanEntry],
+        stamps: &mut [u32],
+        call: &Call,
+    ) -> Answer {
+        (self.0)(memory, scans, stamps, call)
+    }
+}
+
 /// An accepted call's answer, or the refusal's number.
 type Outcome = Result<Answer, u8>;
 

@@ -4,28 +4,15 @@
 
 use std::collections::BTreeSet;
 
-use checks::defined::Defined;
 use checks::footprint::Footprint;
-#[cfg(feature = "library")]
-use checks::library::Library;
 use checks::memory::{differing, header, page, put_word, word};
 use checks::memory::{Layout, Region, ScanEntry, ROWS, SCANS};
 use checks::operands::{call_for, COMMANDS};
 use checks::plain::Plain;
 use checks::unmade::any_lent;
-use checks::{agree, facts, Store};
+use checks::{agree, facts, right_stores, Store};
 use reference::random::Random;
 use reference::{Answer, Call, Shape};
-
-#[cfg(feature = "library")]
-fn library() -> Vec<Box<dyn Store>> {
-    vec![Box::new(Library)]
-}
-
-#[cfg(not(feature = "library"))]
-fn library() -> Vec<Box<dyn Store>> {
-    Vec::new()
-}
 
 /// A store's memory and list after these calls, each of them accepted.
 fn after(store: &dyn Store, shape: &Shape, calls: &[Call]) -> (Vec<u8>, Vec<ScanEntry>) {
@@ -67,8 +54,7 @@ fn before_the_merge() -> Vec<Call> {
 /// and page 2, the spare one, the new.
 #[test]
 fn the_merge_of_the_worked_example_changes_these_bytes() {
-    let rust: Vec<Box<dyn Store>> = vec![Box::new(Plain::<0>), Box::new(Defined)];
-    for store in rust.into_iter().chain(library()) {
+    for store in right_stores() {
         let (mut memory, mut list) = after(store.as_ref(), &SHAPE, &before_the_merge());
         let (before, entries) = (memory.clone(), list.clone());
         assert_eq!(before.len(), 669 * 4);

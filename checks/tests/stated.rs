@@ -3,25 +3,12 @@
 //! of 9, 10, 17 and 18, which are told apart; what reads give where ordinals were changed; and what is
 //! listed as crossings where records were.
 
-use checks::defined::Defined;
-#[cfg(feature = "library")]
-use checks::library::Library;
 use checks::memory::{header, put_word, Layout, Region, ScanEntry, SCANS};
-use checks::plain::Plain;
-use checks::{agree, damage, facts, same, shortcuts, stated, Store};
+use checks::plain::{Altered, Plain};
+use checks::{agree, damage, facts, right_stores, same, shortcuts, stated, Store};
 use reference::{Answer, Call, Shape};
 
 const SHAPE: Shape = Shape { columns: 1, ranges: 1, capacity: 4, spares: 1 };
-
-#[cfg(feature = "library")]
-fn library() -> Vec<Box<dyn Store>> {
-    vec![Box::new(Library)]
-}
-
-#[cfg(not(feature = "library"))]
-fn library() -> Vec<Box<dyn Store>> {
-    Vec::new()
-}
 
 /// Shows each store with a memory and list, after `calls` and the words put.
 fn each_store(
@@ -29,8 +16,7 @@ fn each_store(
     put: &[(Region, usize, u32)],
     look: impl Fn(&dyn Store, &mut [u8], &mut [ScanEntry]),
 ) {
-    let rust: Vec<Box<dyn Store>> = vec![Box::new(Plain::<0>), Box::new(Defined)];
-    for store in rust.into_iter().chain(library()) {
+    for store in right_stores() {
         let layout = Layout::of(&SHAPE);
         let (mut memory, mut list) = (vec![0; layout.need()], vec![ScanEntry::FREE; SCANS]);
         assert_eq!(store.make(&mut memory, &mut list, &SHAPE), Answer::Done);
@@ -317,27 +303,11 @@ fn crossings_go_by_no_link_mask_ordinal_or_open_number() {
 }
 
 /// The plain page store with one of the conditions by its shortcut.
-struct Shortcut(u8);
-
-impl Store for Shortcut {
-    fn need(&self, shape: &Shape) -> Result<usize, u8> {
-        Plain::<0>.need(shape)
-    }
-
-    fn make(&self, memory: &mut [u8], scans: &mut [ScanEntry], shape: &Shape) -> Answer {
-        Plain::<0>.make(memory, scans, shape)
-    }
-
-    fn call_with(
-        &self,
-        memory: &mut [u8],
-        scans: &mut [ScanEntry],
-        stamps: &mut [u32],
-        call: &Call,
-    ) -> Answer {
+fn shortcut(number: u8) -> impl Store {
+    Altered(move |memory: &mut [u8], scans: &mut [ScanEntry], stamps: &mut [u32], call: &Call| {
         let refused = match facts::usable(memory, scans) {
             Err(_) => Some(2),
-            Ok(stored) => shortcuts::refusal(&stored, call, self.0),
+            Ok(stored) => shortcuts::refusal(&stored, call, number),
         };
         match refused.map(Answer::Refused) {
             Some(answer) => answer,
@@ -346,7 +316,7 @@ impl Store for Shortcut {
                 answer => answer,
             },
         }
-    }
+    })
 }
 
 fn by_the_words(difference: Result<impl Sized, String>) -> bool {
@@ -356,7 +326,7 @@ fn by_the_words(difference: Result<impl Sized, String>) -> bool {
 #[test]
 fn a_shortcut_is_told_apart() {
     for number in shortcuts::NUMBERS {
-        let store = Shortcut(number);
+        let store = shortcut(number);
         assert!(by_the_words(damage::random_memories(&store, 0, 4000)), "{number}: random");
         assert!(by_the_words(damage::disturbed_stores(&store, 0, 4000)), "{number}: disturbed");
         assert!(by_the_words(same::run(&store, &store, 0, 400)), "{number}: same");
@@ -367,6 +337,6 @@ fn a_shortcut_is_told_apart() {
 #[test]
 fn a_shortcut_is_right_after_calls_alone() {
     for number in shortcuts::NUMBERS {
-        agree::run(&Shortcut(number), 0, 200).expect("no difference");
+        agree::run(&shortcut(number), 0, 200).expect("no difference");
     }
 }

@@ -2,10 +2,10 @@
 //! alone, must be told apart by the comparisons, and the right store by none.
 
 use checks::memory::{Layout, Region, ScanEntry, SCANS};
-use checks::plain::{faults, Plain};
+use checks::plain::{faults, Altered, Plain};
 use checks::store::told;
 use checks::{agree, damage, facts, same, Store};
-use reference::{Answer, Call, History, Shape};
+use reference::{Answer, Call, History};
 
 /// Lists that are tried before a fault counts as not found.
 const LISTS: u64 = 4000;
@@ -189,108 +189,58 @@ fn merge_clears_its_notes() {
 }
 
 /// The plain store with another count of crossings, though it lists the right ones.
-struct Miscounting;
-
-impl Store for Miscounting {
-    fn need(&self, shape: &Shape) -> Result<usize, u8> {
-        Plain::<0>.need(shape)
-    }
-
-    fn make(&self, memory: &mut [u8], scans: &mut [ScanEntry], shape: &Shape) -> Answer {
-        Plain::<0>.make(memory, scans, shape)
-    }
-
-    fn call_with(
-        &self,
-        memory: &mut [u8],
-        scans: &mut [ScanEntry],
-        stamps: &mut [u32],
-        call: &Call,
-    ) -> Answer {
-        match (call, Plain::<0>.call_with(memory, scans, stamps, call)) {
-            (Call::Crossings { .. }, Answer::Number(count)) => Answer::Number(count + 1),
-            (_, answer) => answer,
-        }
-    }
-}
-
 #[test]
 fn another_count_of_crossings() {
-    told_apart(&Miscounting);
-    assert!(damage::random_memories(&Miscounting, 0, LISTS).is_err());
-    assert!(same::run(&Miscounting, &Miscounting, 0, LISTS).is_err());
+    let wrong = Altered(
+        |memory: &mut [u8], scans: &mut [ScanEntry], stamps: &mut [u32], call: &Call| match (
+            call,
+            Plain::<0>.call_with(memory, scans, stamps, call),
+        ) {
+            (Call::Crossings { .. }, Answer::Number(count)) => Answer::Number(count + 1),
+            (_, answer) => answer,
+        },
+    );
+    told_apart(&wrong);
+    assert!(damage::random_memories(&wrong, 0, LISTS).is_err());
+    assert!(same::run(&wrong, &wrong, 0, LISTS).is_err());
 }
 
 /// The plain store with sums that leave their count in a free entry of the list. What such an entry holds
 /// besides number 0 is no matter to any answer or fact.
-struct Scribbling;
-
-impl Store for Scribbling {
-    fn need(&self, shape: &Shape) -> Result<usize, u8> {
-        Plain::<0>.need(shape)
-    }
-
-    fn make(&self, memory: &mut [u8], scans: &mut [ScanEntry], shape: &Shape) -> Answer {
-        Plain::<0>.make(memory, scans, shape)
-    }
-
-    fn call_with(
-        &self,
-        memory: &mut [u8],
-        scans: &mut [ScanEntry],
-        stamps: &mut [u32],
-        call: &Call,
-    ) -> Answer {
-        let answer = Plain::<0>.call_with(memory, scans, stamps, call);
-        let free = scans.iter_mut().find(|scan| !scan.is_open());
-        if let (Answer::Sum { count, .. }, Some(free)) = (&answer, free) {
-            free.commits = *count;
-        }
-        answer
-    }
-}
-
 #[test]
 fn a_sum_writes_in_a_free_entry() {
-    answers_rightly(&Scribbling, 200);
+    let wrong =
+        Altered(|memory: &mut [u8], scans: &mut [ScanEntry], stamps: &mut [u32], call: &Call| {
+            let answer = Plain::<0>.call_with(memory, scans, stamps, call);
+            let free = scans.iter_mut().find(|scan| !scan.is_open());
+            if let (Answer::Sum { count, .. }, Some(free)) = (&answer, free) {
+                free.commits = *count;
+            }
+            answer
+        });
+    answers_rightly(&wrong, 200);
     let footprint = "the list changed outside the call's footprint";
-    let difference = agree::run(&Scribbling, 0, LISTS).expect_err("the fault was not found");
+    let difference = agree::run(&wrong, 0, LISTS).expect_err("the fault was not found");
     assert!(difference.contains("sum") && difference.contains(footprint), "{difference}");
 }
 
 /// The plain store with a part of the list that is lent to its calls.
-struct Seeing(fn(&mut [ScanEntry]) -> &mut [ScanEntry]);
-
-impl Store for Seeing {
-    fn need(&self, shape: &Shape) -> Result<usize, u8> {
-        Plain::<0>.need(shape)
-    }
-
-    fn make(&self, memory: &mut [u8], scans: &mut [ScanEntry], shape: &Shape) -> Answer {
-        Plain::<0>.make(memory, scans, shape)
-    }
-
-    fn call_with(
-        &self,
-        memory: &mut [u8],
-        scans: &mut [ScanEntry],
-        stamps: &mut [u32],
-        call: &Call,
-    ) -> Answer {
-        Plain::<0>.call_with(memory, (self.0)(scans), stamps, call)
-    }
+fn seeing(part: fn(&mut [ScanEntry]) -> &mut [ScanEntry]) -> impl Store {
+    Altered(move |memory: &mut [u8], scans: &mut [ScanEntry], stamps: &mut [u32], call: &Call| {
+        Plain::<0>.call_with(memory, part(scans), stamps, call)
+    })
 }
 
 #[test]
 fn a_list_of_the_fewest_entries_is_refused() {
-    told_apart(&Seeing(|list| if list.len() == SCANS { &mut [] } else { list }));
+    told_apart(&seeing(|list| if list.len() == SCANS { &mut [] } else { list }));
 }
 
 /// A scan is opened in the first free entry, so after calls alone none stands past the fifth, and
 /// `agree` sees no difference. Lists that no call made have scans there.
 #[test]
 fn only_the_first_entries_are_looked_at() {
-    let wrong = Seeing(|list| {
+    let wrong = seeing(|list| {
         let first = list.len().min(SCANS);
         &mut list[..first]
     });

@@ -22,8 +22,12 @@ use Rattle.model.specs.Writing.{madeView}
 use Rattle.model.specs.Calls.{outcomesIn, viewAfter, viewNext}
 use Rattle.model.specs.Unfolding.{execution}
 
+-- the list of a store just made
+abbrev pub freeList : List ScanEntry
+freeList = replicate mostScans freeEntry
+
 abbrev pub givenByStore : List Case → List (List (Outcome Answer))
-givenByStore = map (λ p. outcomesIn (p .shape) (madeView (p .shape)) (replicate mostScans freeEntry) (map (λ l. l .call) (p .lines)))
+givenByStore = map (λ p. outcomesIn (p .shape) (madeView (p .shape)) freeList (map (λ l. l .call) (p .lines)))
 
 pub proved-table : givenByStore table ≡ wanted table
 unfolding table execution definitions
@@ -44,9 +48,6 @@ differing (k ∷ ks) v v′ = differingFrom k 0 (v k) (v′ k) ++ differing ks v
 -- two spares; the row, and its column 1 set to 40 by transaction 2, committed at 20
 abbrev pub twoSpares : Shape
 twoSpares = record { columns = 2; ranges = 1; capacity = 4; spares = 2 }
-
-abbrev pub freeList : List ScanEntry
-freeList = replicate mostScans freeEntry
 
 abbrev pub beforeMerge : View
 beforeMerge = viewAfter twoSpares (madeView twoSpares) freeList (map (λ l. l .call) oneRow ++ begin ∷ update 2 0 2 (two 0 40) ∷ commit 2 20 ∷ [])

@@ -5,7 +5,7 @@
 use checks::memory::{OPENS, SCANS};
 use reference::{text, Call, Shape};
 
-use crate::filled::Filled;
+use crate::filled::{keeper, Filled};
 use crate::report::{ns, Report};
 use crate::{named, time, Named, PLACES};
 
@@ -55,7 +55,7 @@ pub struct Ratios {
 }
 
 pub fn measure(stores: &[Named], shape: Shape, report: &mut Report) -> Ratios {
-    report.heading(&format!("Each call at shape {}", named(&shape)), "Nanoseconds of a call, and how many times the plain store's they are. Empty is one row with one setting; full leaves room for one row and one record. With eight open the seven other transactions have set rows of their own where there is room. With scans open the one that is read by or closed is the last in the list. In one minute: a commit at the last commit's stamp; and a read of a row that such a commit has set since its scan was opened. Crossings are those of the row that latest reads, in all minutes, by the greatest of its values.");
+    report.heading(&format!("Each call at shape {}", named(&shape)), "Nanoseconds of a call, and how many times the plain store's they are. Empty is one row with one setting; full leaves room for one row and one record. With eight open the seven other transactions have set rows of their own where there is room. With scans open the one that is read by or closed is the last in the list. In one minute: a commit at the last commit's stamp; and a read of a row that such a commit has set since its scan was opened. Crossings are those of the row that latest reads, in all minutes, by the greatest of its values. Begin-as is begin with a keeper, and keeper-at is asked for the row and the minute that read-at reads.");
     let mut heads = vec!["call".to_string()];
     for (filling, _) in FILLINGS {
         heads.push(format!("{filling}: {}", stores[0].0));
@@ -132,6 +132,8 @@ fn prepared(shape: Shape, percent: u32, timed: &Timed) -> (Filled, Call) {
         0x10 => Call::PageCell { column, row },
         0x11 => Call::Lineage { range: 0, column },
         0x12 => filled.crossings(row, column, PLACES),
+        0x13 => Call::BeginAs { keeper: keeper(filled.commits + 1) },
+        0x14 => Call::KeeperAt { stamp: last / 2, row, column },
         byte => unreachable!("no call is timed for the command {byte:02X}"),
     };
     filled.clone().call(&call);

@@ -12,7 +12,7 @@ use crate::{time, Named, PLACES};
 const RECORDS: u32 = 512;
 
 pub fn measure(stores: &[Named], report: &mut Report) {
-    report.heading("Crossings of a row with 512 records", "One row has all 512 records of a memory: nanoseconds of a call, and how many latest reads of the row they are. The row has 511 settings, each in a minute of its own and on the other side of the mark from the one before. Read-at passes over all of them. None: the mark is below all values. The last 16: from is the minute of the sixteenth from the last. SQLite, where it is compared, has the same versions; for crossings it gives them in their order, and they are compared here, or it gives the crossings themselves, by lag().");
+    report.heading("Crossings of a row with 512 records", "One row has all 512 records of a memory: nanoseconds of a call, and how many latest reads of the row they are. The row has 511 settings, each in a minute of its own and on the other side of the mark from the one before. Read-at and keeper-at pass over all of them. None: the mark is below all values. The last 16: from is the minute of the sixteenth from the last. SQLite, where it is compared, has the same versions; for crossings it gives them in their order, and they are compared here, or it gives the crossings themselves, by lag().");
     let mut heads = vec!["call".to_string()];
     for (name, _) in stores {
         heads.extend([name.to_string(), "latest reads".to_string()]);
@@ -58,6 +58,7 @@ fn calls(filled: &Filled) -> Vec<(String, Call)> {
     let mut calls = vec![
         ("latest".to_string(), Call::Latest { row, column }),
         ("read-at, the first minute".to_string(), Call::ReadAt { stamp: first, row, column }),
+        ("keeper-at, the first minute".to_string(), Call::KeeperAt { stamp: first, row, column }),
     ];
     for (which, count, call) in listed {
         assert_eq!(filled.clone().listed(&call).len() as u32, count);

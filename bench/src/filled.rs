@@ -16,6 +16,14 @@ pub struct Version {
     pub value: i32,
 }
 
+#[cfg_attr(not(feature = "sqlite"), allow(dead_code))]
+impl Version {
+    /// Who set it.
+    pub fn keeper(&self) -> u16 {
+        keeper(self.ordinal)
+    }
+}
+
 /// A store's memory and scan list. All stores have one layout, so one filling serves them all.
 #[derive(Clone)]
 pub struct Filled {
@@ -40,6 +48,12 @@ pub fn places(call: &Call) -> usize {
         Call::Crossings { places, .. } => *places as usize,
         _ => 0,
     }
+}
+
+/// The keeper of the transaction that makes the commit of an ordinal: three take turns, and none is
+/// unknown.
+pub fn keeper(ordinal: u32) -> u16 {
+    (1 + ordinal % 3) as u16
 }
 
 /// What the open transaction sets in row 0.
@@ -77,7 +91,7 @@ impl Filled {
             filled.update_rows(range, records);
         }
         filled.settled = filled.used(0);
-        filled.open = filled.number(&Call::Begin);
+        filled.open = filled.begin();
         let values = vec![SET; shape.columns as usize];
         filled.number(&Call::Update { transaction: filled.open, row: 0, mask: 1, values });
         for row in 1..=others {
@@ -96,7 +110,7 @@ impl Filled {
         let mut filled = Filled::made(Shape { columns: 1, ranges: 1, capacity, spares: 0 }, 1);
         // After the insert one setting less than records: the first takes two.
         for (value, setting) in TURNS.into_iter().cycle().zip(0..capacity) {
-            let (transaction, values) = (filled.number(&Call::Begin), vec![value]);
+            let (transaction, values) = (filled.begin(), vec![value]);
             filled.number(&match setting {
                 0 => Call::Insert { transaction, values },
                 _ => Call::Update { transaction, row: 0, mask: 1, values },
@@ -143,7 +157,7 @@ impl Filled {
     /// is not given yet. It sets the row while there are three places: the first setting of a row
     /// takes two records, and one is for the call that is timed.
     fn open_beside(&mut self, row: u32) {
-        let transaction = self.number(&Call::Begin);
+        let transaction = self.begin();
         let values = vec![9; self.shape.columns as usize];
         if row == self.rows {
             self.number(&Call::Insert { transaction, values: values.clone() });
@@ -188,6 +202,11 @@ impl Filled {
         }
     }
 
+    /// Begins a transaction with the keeper of the commit that comes next.
+    fn begin(&mut self) -> u32 {
+        self.number(&Call::BeginAs { keeper: keeper(self.commits + 1) })
+    }
+
     fn commit(&mut self, transaction: u32) {
         self.last += 10;
         self.commits += 1;
@@ -195,7 +214,7 @@ impl Filled {
     }
 
     fn insert_rows(&mut self) {
-        let transaction = self.number(&Call::Begin);
+        let transaction = self.begin();
         for row in 0..self.rows {
             let value = |column: u32| (row * 31 + column * 7) as i32 - 500;
             let values: Vec<i32> = (0..self.shape.columns).map(value).collect();
@@ -221,7 +240,7 @@ impl Filled {
         let mut rows = (0..given).cycle();
         let mut made = 0;
         while self.used(range) < records {
-            let transaction = self.number(&Call::Begin);
+            let transaction = self.begin();
             let mut set = Vec::new();
             for row in rows.by_ref().take(UPDATES) {
                 // The first setting of a row takes two records: with one place left row 0, which

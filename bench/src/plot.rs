@@ -10,8 +10,10 @@ const WIDTH: f64 = 900.0;
 const LEFT: f64 = 70.0;
 const RIGHT: f64 = 720.0;
 const LEFT_OF_NAMED: f64 = 290.0;
-/// The height of a panel, and where each begins.
+/// The height of a panel, that of a row with a name in the panel that has such rows, and where each
+/// panel begins.
 const PANEL: f64 = 260.0;
+const NAMED_ROW: f64 = 26.0;
 const TOPS: [f64; 3] = [50.0, 460.0, 820.0];
 /// What is under a panel for ticks and a title.
 const FOOT: f64 = 56.0;
@@ -64,10 +66,11 @@ pub struct Beside {
 /// The whole plot; without SQLite's figures it has no panel of them.
 pub fn page(ratios: &[Ratios], curves: &[Curve], beside: &[Beside]) -> String {
     let mut panels = vec![ratio_panel(ratios, TOPS[0]), growth_panel(curves, TOPS[1])];
+    let mut height = TOPS[1] + PANEL + FOOT;
     if !beside.is_empty() {
         panels.push(beside_panel(beside, TOPS[2]));
+        height = TOPS[2] + NAMED_ROW * beside.len() as f64 + FOOT;
     }
-    let height = TOPS[panels.len() - 1] + PANEL + FOOT;
     format!(
         "<svg xmlns='http://www.w3.org/2000/svg' width='{WIDTH}' height='{height}' viewBox='0 0 {WIDTH} {height}' role='img'>
   <title>The figures of docs/BENCHMARK.md</title>
@@ -167,7 +170,8 @@ fn beside_panel(beside: &[Beside], top: f64) -> String {
     let least = powers().fold(f64::INFINITY, f64::min).floor();
     let most = powers().fold(least + 1.0, f64::max).ceil();
     let x = Scale { least, most, from: LEFT_OF_NAMED, to: RIGHT };
-    let y = Scale { least: 0.0, most: beside.len() as f64, from: top, to: top + PANEL };
+    let rows = beside.len() as f64;
+    let y = Scale { least: 0.0, most: rows, from: top, to: top + NAMED_ROW * rows };
     let panel = Panel { x, y };
     let mut svg = panel.title_x(38.0, "microseconds, each line ten times the one before");
     for tick in least as i32..=most as i32 {
@@ -225,20 +229,23 @@ impl Panel {
         self.y.from.min(self.y.to)
     }
 
+    fn bottom(&self) -> f64 {
+        self.y.from.max(self.y.to)
+    }
+
     /// The axes and the panel's title, over the lines of the ticks.
     fn frame(&self, title: &str) -> String {
-        let (left, top) = (self.x.from, self.top());
-        let bottom = top + PANEL;
+        let (left, top, bottom) = (self.x.from, self.top(), self.bottom());
         let frame = format!("  <path class='axis' d='M{left} {top}V{bottom}H{RIGHT}'/>\n");
         words(20.0, top - 20.0, "head", title) + &frame
     }
 
     fn title_x(&self, below: f64, title: &str) -> String {
-        words((self.x.from + RIGHT) / 2.0, self.top() + PANEL + below, "mid", title)
+        words((self.x.from + RIGHT) / 2.0, self.bottom() + below, "mid", title)
     }
 
     fn title_y(&self, title: &str) -> String {
-        let (x, y) = (28.0, self.top() + PANEL / 2.0);
+        let (x, y) = (28.0, (self.top() + self.bottom()) / 2.0);
         format!(
             "  <text x='{x}' y='{y}' class='mid' transform='rotate(-90 {x} {y})'>{title}</text>\n"
         )
@@ -251,12 +258,12 @@ impl Panel {
     }
 
     fn line_x(&self, value: f64) -> String {
-        let (x, top) = (tenth(self.x.at(value)), self.top());
-        format!("  <path class='grid' d='M{x} {top}V{}'/>\n", top + PANEL)
+        let (x, top, bottom) = (tenth(self.x.at(value)), self.top(), self.bottom());
+        format!("  <path class='grid' d='M{x} {top}V{bottom}'/>\n")
     }
 
     fn tick_x(&self, value: f64, label: &str) -> String {
-        self.line_x(value) + &words(self.x.at(value), self.top() + PANEL + 18.0, "mid", label)
+        self.line_x(value) + &words(self.x.at(value), self.bottom() + 18.0, "mid", label)
     }
 
     /// Dots as one path: each is a line of no length with round ends.
@@ -270,7 +277,7 @@ impl Panel {
 
     /// Where the last key stands at the panel's lower end.
     fn foot(&self) -> f64 {
-        self.top() + PANEL - 8.0
+        self.bottom() - 8.0
     }
 
     /// What each class of dots or curves stands for, beside the panel, with the last one at `low`.

@@ -9,7 +9,7 @@ use std::time::Instant;
 
 use reference::{Answer, Call};
 
-use crate::filled::{Filled, Version, SET};
+use crate::filled::{keeper, Filled, Version, SET};
 use crate::plot::Beside;
 use crate::report::{ns, Report};
 use crate::{named, time, Named, LARGEST, PLACES, PROGRAM};
@@ -39,12 +39,15 @@ const DONE: c_int = 101;
 /// The key begins with the column, so that a sum goes over one column's versions alone. It ends with
 /// the commit's ordinal, which tells the commits of one minute apart: a scan sees those made before it.
 const TABLE: &str = "CREATE TABLE versions (col INTEGER, row INTEGER, stamp INTEGER,
-    ordinal INTEGER, value INTEGER, PRIMARY KEY (col, row, stamp, ordinal)) WITHOUT ROWID";
-const INSERT: &str = "INSERT OR REPLACE INTO versions VALUES (?, ?, ?, ?, ?)";
+    ordinal INTEGER, value INTEGER, keeper INTEGER, PRIMARY KEY (col, row, stamp, ordinal))
+    WITHOUT ROWID";
+const INSERT: &str = "INSERT OR REPLACE INTO versions VALUES (?, ?, ?, ?, ?, ?)";
 const DELETE: &str = "DELETE FROM versions WHERE col = ? AND row = ? AND stamp = ? AND ordinal = ?";
 const LATEST: &str = "SELECT value, stamp FROM versions WHERE col = ? AND row = ?
     ORDER BY stamp DESC, ordinal DESC LIMIT 1";
 const READ_AT: &str = "SELECT value, stamp FROM versions WHERE col = ? AND row = ? AND stamp <= ?
+    ORDER BY stamp DESC, ordinal DESC LIMIT 1";
+const KEEPER_AT: &str = "SELECT keeper FROM versions WHERE col = ? AND row = ? AND stamp <= ?
     ORDER BY stamp DESC, ordinal DESC LIMIT 1";
 /// With max() SQLite takes the other columns from the row that has the greatest; a later ordinal has no
 /// earlier stamp.
@@ -94,10 +97,12 @@ impl Database {
         database.prepare(TABLE).run(&[]);
         let insert = database.prepare(INSERT);
         database.prepare("BEGIN").run(&[]);
-        for Version { row, column, stamp, ordinal, value } in versions {
+        for version in versions {
+            let Version { row, column, stamp, ordinal, value } = version;
             let [column, row, stamp, ordinal] =
                 [column, row, stamp, ordinal].map(|n| i64::from(*n));
-            insert.run(&[column, row, stamp, ordinal, i64::from(*value)]);
+            let (value, keeper) = (i64::from(*value), i64::from(version.keeper()));
+            insert.run(&[column, row, stamp, ordinal, value, keeper]);
         }
         database.prepare("COMMIT").run(&[]);
         database
@@ -217,14 +222,20 @@ fn asked(call: &Call) -> [i64; 5] {
     }
 }
 
-/// The time of a latest read, of a read at or of crossings, of these by lag() too, in SQLite with a
-/// filling's versions.
+/// How the first two columns of a row that SQLite gives become an answer.
+type Answered = fn(Option<(i64, i64)>) -> Answer;
+
+/// The time of a latest read, of a read at, of a keeper at or of crossings, of these by lag() too, in
+/// SQLite with a filling's versions.
 pub fn times(filled: &Filled, call: &Call) -> Vec<f64> {
     let database = Database::with(&filled.versions);
-    let (statement, numbers): (_, Vec<i64>) = match *call {
-        Call::Latest { row, column } => (LATEST, vec![column.into(), row.into()]),
+    let (statement, answered, numbers): (_, Answered, Vec<i64>) = match *call {
+        Call::Latest { row, column } => (LATEST, version, vec![column.into(), row.into()]),
         Call::ReadAt { stamp, row, column } => {
-            (READ_AT, vec![column.into(), row.into(), stamp.into()])
+            (READ_AT, version, vec![column.into(), row.into(), stamp.into()])
+        }
+        Call::KeeperAt { stamp, row, column } => {
+            (KEEPER_AT, kept_by, vec![column.into(), row.into(), stamp.into()])
         }
         _ => {
             let crossings = Crossings::of(&database);
@@ -236,7 +247,7 @@ pub fn times(filled: &Filled, call: &Call) -> Vec<f64> {
         }
     };
     let read = database.prepare(statement);
-    assert_eq!(filled.clone().call(call), version(read.run(&numbers)));
+    assert_eq!(filled.clone().call(call), answered(read.run(&numbers)));
     vec![batched(|| read.run(black_box(&numbers)))]
 }
 
@@ -246,10 +257,16 @@ fn version(found: Option<(i64, i64)>) -> Answer {
     Answer::Version { value: value as i32, stamp: stamp as u32 }
 }
 
+/// The answer that a version's keeper stands for.
+fn kept_by(found: Option<(i64, i64)>) -> Answer {
+    let (keeper, _) = found.expect("a version");
+    Answer::Number(keeper as u32)
+}
+
 pub fn measure(stores: &[Named], report: &mut Report) -> Vec<Beside> {
     // SAFETY: the text that SQLite gives ends with 0 and stays.
     let version = unsafe { CStr::from_ptr(sqlite3_libversion()) }.to_string_lossy();
-    let note = format!("SQLite {version}, in memory, the same versions in one table with the key (column, row, stamp, ordinal), statements prepared: nanoseconds, and how many times the store's they are. Update and commit is begin, update, commit; SQLite's is BEGIN, INSERT, COMMIT. Crossings are those of one row in all minutes; SQLite gives its versions in their order, and they are compared here.");
+    let note = format!("SQLite {version}, in memory, the same versions in one table with the key (column, row, stamp, ordinal), statements prepared: nanoseconds, and how many times the store's they are. Update and commit is begin, update, commit; update by a keeper is begin as, update, commit; SQLite's is BEGIN, INSERT, COMMIT, with the keeper in the version, unknown or known. Crossings are those of one row in all minutes; SQLite gives its versions in their order, and they are compared here.");
     report.heading("Beside SQLite", &note);
     let mut heads = vec!["full".to_string(), "SQLite".to_string()];
     for (name, _) in stores {
@@ -282,68 +299,78 @@ fn kinds(filled: &Filled) -> Vec<(&'static str, f64, Vec<Call>)> {
     let (begin, commit) = (database.prepare("BEGIN"), database.prepare("COMMIT"));
     let (insert, delete) = (database.prepare(INSERT), database.prepare(DELETE));
     let (latest, read_at) = (database.prepare(LATEST), database.prepare(READ_AT));
-    let sum = database.prepare(SUM);
+    let (keeper_at, sum) = (database.prepare(KEEPER_AT), database.prepare(SUM));
     let crossings = Crossings::of(&database);
 
     let (row, column, half) = (filled.rows / 2, 0, filled.last / 2);
     let calls = [
         Call::Latest { row, column },
         Call::ReadAt { stamp: half, row, column },
+        Call::KeeperAt { stamp: half, row, column },
         Call::Sum { scan: filled.scan, column },
     ];
     let answers = calls.each_ref().map(|call| filled.clone().call(call));
     let [r, s, last, commits] = [row, half, filled.last, filled.commits].map(i64::from);
     assert_eq!(answers[0], version(latest.run(&[0, r])));
     assert_eq!(answers[1], version(read_at.run(&[0, r, s])));
+    assert_eq!(answers[2], kept_by(keeper_at.run(&[0, r, s])));
     let summed = || {
         let (count, sum) = sum.run(&[0, last, commits]).expect("a sum");
         Answer::Sum { count: count as u32, sum }
     };
-    assert_eq!(answers[2], summed());
-    // After one more commit in the last minute, which sets row 0: the latest is new, the scan's sum old,
-    // and the minute has a crossing more.
+    assert_eq!(answers[3], summed());
+    // After one more commit in the last minute, which sets row 0: the latest is new and its keeper's, the
+    // scan's sum old, and the minute has a crossing more.
     let (mut later, row_0) = (filled.clone(), Call::Latest { row: 0, column });
     later.call(&Call::Commit { transaction: filled.open, stamp: filled.last });
-    insert.run(&[0, 0, last, commits + 1, SET.into()]);
+    let next_keeper = keeper(filled.commits + 1);
+    insert.run(&[0, 0, last, commits + 1, SET.into(), next_keeper.into()]);
     assert_eq!(later.call(&row_0), version(latest.run(&[0, 0])));
     assert_ne!(later.call(&row_0), filled.clone().call(&row_0));
+    let kept = Call::KeeperAt { stamp: filled.last, row: 0, column };
+    assert_eq!(later.call(&kept), Answer::Number(next_keeper.into()));
+    assert_eq!(later.call(&kept), kept_by(keeper_at.run(&[0, 0, last])));
     let (to, places) = (filled.last, PLACES);
     let crossed = Call::Crossings { row: 0, column, mark: SET, from: to, to, places };
     crossings.compare(&mut later, &crossed);
     assert_ne!(later.listed(&crossed), filled.clone().listed(&crossed));
-    assert_eq!(later.call(&calls[2]), summed());
-    assert_eq!(answers[2], summed());
+    assert_eq!(later.call(&calls[3]), summed());
+    assert_eq!(answers[3], summed());
     delete.run(&[0, 0, last, commits + 1]);
 
     let crossings_call = filled.crossings(row, column, PLACES);
     crossings.compare(&mut filled.clone(), &crossings_call);
     let compared = crossings.time(&crossings_call, Crossings::compared);
 
-    let [latest_call, read_at_call, sum_call] = calls;
-    let values = vec![1; filled.shape.columns as usize];
+    let [latest_call, read_at_call, keeper_at_call, sum_call] = calls;
     let transaction = filled.open + 1;
     // Row 0 is held by the open transaction.
-    let update = vec![
-        Call::Begin,
-        Call::Update { transaction, row: 1, mask: 1, values },
-        Call::Commit { transaction, stamp: filled.last + 1 },
-    ];
+    let update_by = |begin| {
+        let values = vec![1; filled.shape.columns as usize];
+        let update = Call::Update { transaction, row: 1, mask: 1, values };
+        vec![begin, update, Call::Commit { transaction, stamp: filled.last + 1 }]
+    };
     let next = last + 1;
-    let updated = time::least(|| {
-        let start = Instant::now();
-        begin.run(&[]);
-        insert.run(black_box(&[0, 1, next, commits + 1, 1]));
-        commit.run(&[]);
-        let time = start.elapsed().as_nanos() as f64;
-        delete.run(&[0, 1, next, commits + 1]);
-        time
-    });
+    let updated_by = |keeper: u16| {
+        time::least(|| {
+            let start = Instant::now();
+            begin.run(&[]);
+            insert.run(black_box(&[0, 1, next, commits + 1, 1, keeper.into()]));
+            commit.run(&[]);
+            let time = start.elapsed().as_nanos() as f64;
+            delete.run(&[0, 1, next, commits + 1]);
+            time
+        })
+    };
+    let begin_as = Call::BeginAs { keeper: next_keeper };
     vec![
         ("latest", batched(|| latest.run(&[0, r])), vec![latest_call]),
         ("read at", batched(|| read_at.run(&[0, r, s])), vec![read_at_call]),
+        ("keeper at", batched(|| keeper_at.run(&[0, r, s])), vec![keeper_at_call]),
         ("sum", batched(|| sum.run(&[0, last, commits])), vec![sum_call]),
         ("crossings", compared, vec![crossings_call]),
-        ("update and commit", updated, update),
+        ("update and commit", updated_by(0), update_by(Call::Begin)),
+        ("update by a keeper", updated_by(next_keeper), update_by(begin_as)),
     ]
 }
 

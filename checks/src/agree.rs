@@ -1,6 +1,7 @@
 //! Random lists of calls on a store, each answer compared with the plain history's, and the lent
 //! bytes looked at after every call.
 
+use reference::history::InKeepers;
 use reference::random::Random;
 use reference::{generate, trace, Answer, Call, History, Shape};
 
@@ -27,6 +28,76 @@ pub struct Tally {
     pub crossings: u64,
     pub filled: u64,
     pub outnumbered: u64,
+    pub keepers: Keepers,
+}
+
+/// Accepted calls for a keeper: those that gave one, those that gave none, and of the first those at which
+/// a wrong reading of Item 6 gives another keeper, by any reading and by each of these.
+#[derive(Clone, Copy, Debug, Default, PartialEq, Eq)]
+pub struct Keepers {
+    pub given: u64,
+    pub none: u64,
+    pub telling: u64,
+    /// The row's inserter has another keeper.
+    pub not_the_inserters: u64,
+    /// The row's last setting that is seen, one of another column, has.
+    pub not_another_columns: u64,
+    /// The value is the inserted one, and the update that wrote it down has.
+    pub not_the_updaters: u64,
+    /// A later setting of the column has, by a transaction that is aborted, or open, or committed.
+    pub not_an_aborted: u64,
+    pub not_a_pending: u64,
+    pub not_the_latest: u64,
+    /// The page holds the setting, and the row's inserter has.
+    pub merged: u64,
+}
+
+impl Keepers {
+    /// Those of one call in these situations.
+    fn of(met: &[InKeepers]) -> Keepers {
+        let has = |situation| u64::from(met.contains(&situation));
+        let none = has(InKeepers::Nothing);
+        let mut keepers = Keepers {
+            given: u64::from(!met.is_empty()) - none,
+            none,
+            telling: 0,
+            not_the_inserters: has(InKeepers::Inserter),
+            not_another_columns: has(InKeepers::OtherColumn),
+            not_the_updaters: has(InKeepers::Original),
+            not_an_aborted: has(InKeepers::Aborted),
+            not_a_pending: has(InKeepers::Pending),
+            not_the_latest: has(InKeepers::Latest),
+            merged: has(InKeepers::Merged),
+        };
+        keepers.telling = u64::from(keepers.readings().iter().any(|count| *count > 0));
+        keepers
+    }
+
+    /// The counts for each wrong reading.
+    pub fn readings(&self) -> [u64; 7] {
+        [
+            self.not_the_inserters,
+            self.not_another_columns,
+            self.not_the_updaters,
+            self.not_an_aborted,
+            self.not_a_pending,
+            self.not_the_latest,
+            self.merged,
+        ]
+    }
+
+    fn add(&mut self, other: Keepers) {
+        self.given += other.given;
+        self.none += other.none;
+        self.telling += other.telling;
+        self.not_the_inserters += other.not_the_inserters;
+        self.not_another_columns += other.not_another_columns;
+        self.not_the_updaters += other.not_the_updaters;
+        self.not_an_aborted += other.not_an_aborted;
+        self.not_a_pending += other.not_a_pending;
+        self.not_the_latest += other.not_the_latest;
+        self.merged += other.merged;
+    }
 }
 
 impl Tally {
@@ -41,6 +112,7 @@ impl Tally {
         self.crossings += other.crossings;
         self.filled += other.filled;
         self.outnumbered += other.outnumbered;
+        self.keepers.add(other.keepers);
     }
 
     /// Counts a call for crossings by what the plain history answers.
@@ -203,6 +275,7 @@ pub fn compare(
     let mut tally = Tally { lists: 1, calls: calls.len() as u64, ..Tally::default() };
     tally.largest = u64::from(*shape == LARGEST);
     for (place, call) in calls.iter().enumerate() {
+        tally.keepers.add(Keepers::of(&history.in_keepers(call)));
         let expected = history.call(call);
         if !expected.is_refused() {
             tally.count(watched.memory.get(), watched.scans.get(), call);

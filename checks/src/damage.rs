@@ -1,6 +1,6 @@
 //! What must hold of every call on bytes that no call made: 2 exactly where a stored fact fails, any
-//! other refusal exactly where the papers' words give it, the crossings that the words give, no byte
-//! changed by a refused call, and an answer always.
+//! other refusal exactly where the papers' words give it, the crossings and keepers that the words give,
+//! no byte changed by a refused call, and an answer always.
 
 use reference::random::Random;
 use reference::{generate, trace, Answer, Call, Shape};
@@ -31,6 +31,8 @@ pub struct Tally {
     pub accepted: u64,
     /// Lists of crossings that were not empty.
     pub crossings: u64,
+    /// Keepers that were given.
+    pub keepers: u64,
     pub differing: Differing,
 }
 
@@ -41,6 +43,7 @@ impl Tally {
         self.calls += other.calls;
         self.accepted += other.accepted;
         self.crossings += other.crossings;
+        self.keepers += other.keepers;
         self.differing.add(other.differing);
     }
 }
@@ -172,18 +175,21 @@ fn every_call(
         let call = call_for(byte, memory, list, random);
         let due = due(&usable, &call, &mut differs);
         let listed = usable.as_ref().map_or(Vec::new(), |stored| stated::listed(stored, &call));
-        calls.push((call, due, listed));
+        let stated = usable.as_ref().ok().and_then(|stored| stated::answer(stored, &call));
+        calls.push((call, due, listed, stated));
     }
     tally.differing.count(differs);
-    for (call, due, listed) in calls {
+    for (call, due, listed, stated) in calls {
         let answer = watched.call(store, &call, random);
         tally.crossings += u64::from(!listed.is_empty());
         judge(watched, &call, &answer, due, failing)
-            .and_then(|()| stated::judge_count(&call, &listed, &answer))
+            .and_then(|()| stated::judge_answer(stated.as_ref(), &answer))
             .and_then(|()| watched.listed(&listed))
             .map_err(|error| format!("{}: {error}", trace::call_words(&call)))?;
         tally.calls += 1;
         tally.accepted += u64::from(!answer.is_refused());
+        let keeper = matches!((&call, &answer), (Call::KeeperAt { .. }, Answer::Number(_)));
+        tally.keepers += u64::from(keeper);
         if !answer.is_refused() {
             watched.restore();
         }

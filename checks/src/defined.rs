@@ -5,11 +5,14 @@
 use reference::{Answer, Call, Shape};
 
 use crate::facts;
-use crate::memory::{put_word, word, Layout, Region, ScanEntry, REGIONS, SCANS};
+use crate::memory::{columns_word, put_word, word};
+use crate::memory::{Layout, Region, ScanEntry, FORM, REGIONS, SCANS};
 use crate::store::Store;
 
 const RANGE_ROWS: usize = 64;
 const MOST_NUMBERS: u32 = 65_535;
+const KEEPER_LIMIT: u32 = 1 << 16;
+const UNKNOWN_KEEPER: u32 = 0;
 const FREE_ENTRY: ScanEntry = ScanEntry::FREE;
 
 /// The definitions as a store.
@@ -37,7 +40,7 @@ impl Store for Defined {
         for region in 0..REGIONS {
             view.lists.push(vec![0; layout.first(region + 1) - layout.first(region)]);
         }
-        view.put(Region::Header, 0, shape.columns);
+        view.put(Region::Header, 0, columns_word(shape.columns, FORM));
         view.put(Region::Header, 1, shape.ranges);
         view.put(Region::Header, 2, shape.capacity);
         view.put(Region::Header, 3, shape.spares);
@@ -304,6 +307,18 @@ impl View {
         let opens = self.opens();
         opens.iter().position(|word| bears(transaction, *word)).unwrap_or(opens.len())
     }
+
+    fn row_keeper(&self, row: usize) -> u32 {
+        self.get(Region::RowKeeper, row)
+    }
+
+    fn record_keeper(&self, slot: usize) -> u32 {
+        self.get(Region::TailKeeper, slot)
+    }
+
+    fn open_keeper(&self, transaction: u32) -> u32 {
+        self.get(Region::OpenKeeper, self.open_index(transaction))
+    }
 }
 
 fn scan_entry(places: &[ScanEntry], number: u32) -> ScanEntry {
@@ -436,6 +451,21 @@ impl View {
         self.read_in(who, self.current_in(range_of(row), c), row, c)
     }
 
+    fn keeper_word(&self, who: Reader, row: usize, c: usize) -> u32 {
+        match self.found_in(who, FLOOR, row, c) {
+            Found::At(slot) => self.record_keeper(slot),
+            Found::Nothing => self.row_keeper(row),
+        }
+    }
+
+    fn keeper_in(&self, who: Reader, row: usize, c: usize) -> Answer {
+        if self.visible_in(who, row) {
+            Answer::Number(self.keeper_word(who, row, c) % KEEPER_LIMIT)
+        } else {
+            Answer::None
+        }
+    }
+
     fn own_changes(&self, transaction: u32) -> u32 {
         match self.get(Region::Changes, self.open_index(transaction)) {
             0 => 0,
@@ -545,11 +575,12 @@ impl View {
 
 // Writing
 impl View {
-    fn begun(mut self) -> View {
+    fn begun(mut self, keeper: u32) -> View {
         let number = self.transactions_given() + 1;
         let place = self.opens().iter().position(|word| *word == 0).unwrap_or(self.opens().len());
         self.put(Region::Opens, place, number);
         self.put(Region::Changes, place, 0);
+        self.put(Region::OpenKeeper, place, keeper);
         self.put(Region::Header, 5, number);
         self
     }
@@ -588,6 +619,7 @@ impl View {
         let place = self.open_index(transaction);
         self.put(Region::Opens, place, 0);
         self.put(Region::Changes, place, 0);
+        self.put(Region::OpenKeeper, place, 0);
         self
     }
 
@@ -607,24 +639,29 @@ impl View {
         self.settled(transaction, 2, NO_COMMIT).freed(transaction)
     }
 
-    fn inserted_in(mut self, transaction: u32, values: &[i32]) -> View {
-        let number = self.rows_given();
-        let row = number as usize;
+    fn inserted_at(mut self, transaction: u32, values: &[i32], row: usize) -> View {
+        let keeper = self.open_keeper(transaction);
         self.put(Region::RowTransaction, row, transaction);
         self.put(Region::RowState, row, 0);
         self.put(Region::RowStamp, row, 0);
         self.put(Region::RowOrdinal, row, 0);
         self.put(Region::RowLink, row, 0);
         self.put(Region::RowMask, row, 0);
+        self.put(Region::RowKeeper, row, keeper);
         for c in 0..self.layout.columns {
             let at = self.current_in(range_of(row), c) * RANGE_ROWS + within(row);
             self.put(Region::Cells, at, value_of(values, c));
         }
-        self.put(Region::Header, 4, number + 1);
+        self.put(Region::Header, 4, row as u32 + 1);
         self.noted(transaction)
     }
 
-    fn appended(mut self, transaction: u32, row: usize, kind: u32, mask: u32) -> View {
+    fn inserted_in(self, transaction: u32, values: &[i32]) -> View {
+        let row = self.rows_given() as usize;
+        self.inserted_at(transaction, values, row)
+    }
+
+    fn appended(mut self, transaction: u32, keeper: u32, row: usize, kind: u32, mask: u32) -> View {
         let range = range_of(row);
         let number = self.used_in(range) + 1;
         let slot = self.slot(range, number as usize);
@@ -637,6 +674,7 @@ impl View {
         self.put(Region::TailState, slot, 0);
         self.put(Region::TailStamp, slot, 0);
         self.put(Region::TailOrdinal, slot, 0);
+        self.put(Region::TailKeeper, slot, keeper);
         self.put(Region::Used, range, number);
         self.put(Region::RowLink, row, number);
         self
@@ -671,26 +709,38 @@ impl View {
         let slot = self.next_slot(range);
         let cell = |c| self.cell_in(self.current_in(range, c), within(row));
         let cells: Vec<u32> = (0..self.layout.columns).map(cell).collect();
-        let new = self.new_bits_in(row, mask);
-        self.appended(transaction, row, 0, new).filled_in(slot, &cells)
+        let (new, keeper) = (self.new_bits_in(row, mask), self.row_keeper(row));
+        self.appended(transaction, keeper, row, 0, new).filled_in(slot, &cells)
     }
 
-    fn setting_appended(self, transaction: u32, row: usize, mask: u32, values: &[i32]) -> View {
+    fn setting_appended(
+        self,
+        transaction: u32,
+        keeper: u32,
+        row: usize,
+        mask: u32,
+        values: &[i32],
+    ) -> View {
         let slot = self.next_slot(range_of(row));
         let words: Vec<u32> = (0..self.layout.columns).map(|c| value_of(values, c)).collect();
-        self.appended(transaction, row, 1, mask).filled_in(slot, &words)
+        self.appended(transaction, keeper, row, 1, mask).filled_in(slot, &words)
     }
 
     fn updated_in(self, transaction: u32, row: usize, mask: u32, values: &[i32]) -> View {
-        let old = self.row_in(row).mask;
+        let (old, keeper) = (self.row_in(row).mask, self.open_keeper(transaction));
         let before = if self.new_bits_in(row, mask) == 0 {
             self
         } else {
             self.original_appended(transaction, row, mask)
         };
-        let mut after = before.setting_appended(transaction, row, mask, values);
+        let mut after = before.setting_appended(transaction, keeper, row, mask, values);
         after.put(Region::RowMask, row, mask | old);
         after.noted(transaction)
+    }
+
+    fn deleted_in(self, transaction: u32, row: usize) -> View {
+        let keeper = self.open_keeper(transaction);
+        self.appended(transaction, keeper, row, 2, 0).noted(transaction)
     }
 
     fn applies(c: usize, x: &RecordWords) -> bool {
@@ -851,7 +901,7 @@ impl View {
             tests.push((number, !refused && applies()));
         };
         match *call {
-            Call::Begin => {
+            Call::Begin | Call::BeginAs { .. } => {
                 test(15, &|| MOST_NUMBERS <= self.transactions_given());
                 test(14, &|| !self.opens().contains(&0));
             }
@@ -884,7 +934,7 @@ impl View {
                 test(5, &|| self.not_given_in(row));
                 test(6, &|| self.no_column(column));
             }
-            Call::ReadAt { stamp, row, column } => {
+            Call::ReadAt { stamp, row, column } | Call::KeeperAt { stamp, row, column } => {
                 test(13, &|| self.later_in(stamp));
                 test(5, &|| self.not_given_in(row));
                 test(6, &|| self.no_column(column));
@@ -941,7 +991,7 @@ impl View {
     fn reply_in(&self, places: &[ScanEntry], call: &Call) -> Answer {
         let used = |row: u32| self.used_in(range_of(row as usize));
         match *call {
-            Call::Begin => Answer::Number(self.transactions_given() + 1),
+            Call::Begin | Call::BeginAs { .. } => Answer::Number(self.transactions_given() + 1),
             Call::Insert { .. } => Answer::Number(self.rows_given()),
             Call::Update { row, mask, .. } => {
                 Answer::Number(used(row) + self.records_wanted(row as usize, u32::from(mask)))
@@ -986,6 +1036,9 @@ impl View {
                 let found = self.crossings_in(row as usize, column as usize, mark, from, to);
                 Answer::Number(found.len() as u32)
             }
+            Call::KeeperAt { stamp, row, column } => {
+                self.keeper_in(reader(all_up_to(stamp), 0), row as usize, column as usize)
+            }
         }
     }
 
@@ -1002,14 +1055,13 @@ impl View {
 
     fn act_in(self, places: &[ScanEntry], call: &Call) -> View {
         match *call {
-            Call::Begin => self.begun(),
+            Call::Begin => self.begun(UNKNOWN_KEEPER),
+            Call::BeginAs { keeper } => self.begun(u32::from(keeper)),
             Call::Insert { transaction, ref values } => self.inserted_in(transaction, values),
             Call::Update { transaction, row, mask, ref values } => {
                 self.updated_in(transaction, row as usize, u32::from(mask), values)
             }
-            Call::Delete { transaction, row } => {
-                self.appended(transaction, row as usize, 2, 0).noted(transaction)
-            }
+            Call::Delete { transaction, row } => self.deleted_in(transaction, row as usize),
             Call::Commit { transaction, stamp } => self.committed_in(transaction, stamp),
             Call::Abort { transaction } => self.aborted_in(transaction),
             Call::OpenScan { .. } => {
@@ -1030,7 +1082,8 @@ impl View {
             | Call::Close { .. }
             | Call::PageCell { .. }
             | Call::Lineage { .. }
-            | Call::Crossings { .. } => self,
+            | Call::Crossings { .. }
+            | Call::KeeperAt { .. } => self,
         }
     }
 

@@ -1,5 +1,5 @@
 //! What an accepted call may change, its footprint: words of the memory, and an entry of the scan list.
-//! By document 01, Items 3 and 5 of document 02, and docs/SPECIFICATION.md: section 8 for what is stored,
+//! By document 01, Items 3, 5 and 6 of document 02, and docs/SPECIFICATION.md: section 8 for what is stored,
 //! rules 8.7 and 10.2 where the papers leave open which free page or entry is taken. Written from these
 //! alone, over `facts` and `stated`, to judge what a store changed, so it is plain rather than quick.
 //!
@@ -74,7 +74,7 @@ fn entry(list: &[ScanEntry], call: &Call) -> Option<usize> {
 }
 
 /// The words of a record but its values.
-const OF_RECORD: [Region; 8] = [
+const OF_RECORD: [Region; 9] = [
     Region::TailTransaction,
     Region::TailRow,
     Region::TailKind,
@@ -83,14 +83,16 @@ const OF_RECORD: [Region; 8] = [
     Region::TailState,
     Region::TailStamp,
     Region::TailOrdinal,
+    Region::TailKeeper,
 ];
-const OF_ROW: [Region; 6] = [
+const OF_ROW: [Region; 7] = [
     Region::RowTransaction,
     Region::RowState,
     Region::RowStamp,
     Region::RowOrdinal,
     Region::RowLink,
     Region::RowMask,
+    Region::RowKeeper,
 ];
 /// The words of a page that a merge writes: all but the merge that replaced it, since none has.
 const OF_NEW_PAGE: [Region; 5] = [
@@ -111,9 +113,9 @@ impl Traced<'_, '_> {
     fn call(&mut self, call: &Call) {
         let (_, n) = stated::tests(call);
         match call {
-            // "Transaction numbers run 1 to 65,535 .. none is used again"; with the open numbers stands
-            // the count of the transaction's changes.
-            Call::Begin => {
+            // "Transaction numbers run 1 to 65,535 .. none is used again"; with the open numbers stand
+            // the count of the transaction's changes and its keeper.
+            Call::Begin | Call::BeginAs { .. } => {
                 self.add(Region::Header, header::TRANSACTIONS_GIVEN);
                 self.open_entry(0);
             }
@@ -158,7 +160,8 @@ impl Traced<'_, '_> {
             | Call::Close { .. }
             | Call::PageCell { .. }
             | Call::Lineage { .. }
-            | Call::Crossings { .. } => {}
+            | Call::Crossings { .. }
+            | Call::KeeperAt { .. } => {}
         }
     }
 
@@ -176,11 +179,12 @@ impl Traced<'_, '_> {
         (0..OPENS).find(|entry| self.stored.get(Region::Opens, *entry) == number)
     }
 
-    /// An open entry that is taken or given back, and its count of changes.
+    /// An open entry that is taken or given back, its count of changes and its keeper.
     fn open_entry(&mut self, number: u32) {
         if let Some(entry) = self.entry_of(number) {
-            self.add(Region::Opens, entry);
-            self.add(Region::Changes, entry);
+            for region in [Region::Opens, Region::Changes, Region::OpenKeeper] {
+                self.add(region, entry);
+            }
         }
     }
 

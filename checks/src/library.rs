@@ -63,6 +63,7 @@ fn reply(memory: &mut [u8], scans: &mut [ScanEntry], stamps: &mut [u32], call: &
     unsafe {
         match *call {
             Call::Begin => c::deskrook_begin(mem, bytes, list, entries),
+            Call::BeginAs { keeper } => c::deskrook_begin_as(mem, bytes, list, entries, keeper),
             Call::Insert { transaction, ref values } => {
                 let (first, count) = (values.as_ptr(), values.len());
                 c::deskrook_insert(mem, bytes, list, entries, transaction, first, count)
@@ -111,6 +112,9 @@ fn reply(memory: &mut [u8], scans: &mut [ScanEntry], stamps: &mut [u32], call: &
                     mem, bytes, list, entries, first, count, row, column, mark, from, to,
                 )
             }
+            Call::KeeperAt { stamp, row, column } => {
+                c::deskrook_keeper_at(mem, bytes, list, entries, stamp, row, column)
+            }
         }
     }
 }
@@ -134,7 +138,8 @@ fn answer(call: &Call, reply: &Reply) -> Answer {
     let (answer, fields) = match reply.result {
         c::OK => accepted(call, reply),
         c::NONE => {
-            assert!(reads(call), "{call:?} does not answer none");
+            let may = reads(call) || matches!(call, Call::KeeperAt { .. });
+            assert!(may, "{call:?} does not answer none");
             (Answer::None, (0, 0, 0, 0))
         }
         number => (Answer::Refused(refusal(number)), (0, 0, 0, 0)),
@@ -160,7 +165,7 @@ fn accepted(call: &Call, reply: &Reply) -> (Answer, Fields) {
     }
 }
 
-/// The calls that may answer none.
+/// The calls that give a value or none.
 fn reads(call: &Call) -> bool {
     matches!(
         call,
@@ -221,6 +226,9 @@ fn wrapped(
     let record = |tail: Tail| Answer::Number(tail.0);
     match *call {
         Call::Begin => store.begin().map(|transaction| Answer::Number(transaction.0)),
+        Call::BeginAs { keeper } => {
+            store.begin_as(keeper).map(|transaction| Answer::Number(transaction.0))
+        }
         Call::Insert { transaction, ref values } => {
             store.insert(Transaction(transaction), values).map(|row| Answer::Number(row.0))
         }
@@ -268,5 +276,8 @@ fn wrapped(
             );
             Ok(Answer::Number(listed.len() as u32))
         }
+        Call::KeeperAt { stamp, row, column } => store
+            .keeper_at(Stamp(stamp), Row(row), column)
+            .map(|found| found.map_or(Answer::None, |keeper| Answer::Number(keeper.into()))),
     }
 }

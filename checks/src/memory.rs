@@ -17,6 +17,12 @@ pub const NUMBERS: u32 = 65_535;
 pub const MOST_COLUMNS: usize = 16;
 pub const MOST_RANGES: usize = 16;
 pub const MOST_RECORDS: usize = 512;
+/// The stored form that making gives and that the calls work on.
+pub const FORM: u32 = 2;
+/// What each form above the first adds to the columns in their word.
+const FORM_UNIT: u32 = 1 << 16;
+/// A keeper is a number of two bytes; of a word that holds one, the lower two count.
+pub const KEEPER_LIMIT: u32 = 1 << 16;
 
 /// The regions in their order in memory.
 #[derive(Clone, Copy, Debug, PartialEq, Eq, PartialOrd, Ord)]
@@ -48,9 +54,13 @@ pub enum Region {
     Changes,
     RowOrdinal,
     TailOrdinal,
+    // Form 2 has these behind all that form 1 has.
+    RowKeeper,
+    TailKeeper,
+    OpenKeeper,
 }
 
-pub const REGIONS: usize = Region::TailOrdinal as usize + 1;
+pub const REGIONS: usize = Region::OpenKeeper as usize + 1;
 
 impl Region {
     pub const ALL: [Region; REGIONS] = [
@@ -81,11 +91,15 @@ impl Region {
         Region::Changes,
         Region::RowOrdinal,
         Region::TailOrdinal,
+        Region::RowKeeper,
+        Region::TailKeeper,
+        Region::OpenKeeper,
     ];
 }
 
-/// The words of the header.
+/// The words of the header. Those behind the commits made are unused and may hold anything.
 pub mod header {
+    /// The columns, and the form less 1 in the upper half, so that form 1 has the columns alone.
     pub const COLUMNS: usize = 0;
     pub const RANGES: usize = 1;
     pub const CAPACITY: usize = 2;
@@ -171,6 +185,9 @@ impl Layout {
             OPENS,
             rows,
             slots,
+            rows,
+            slots,
+            OPENS,
         ];
         let mut bases = [0; REGIONS + 1];
         for (region, length) in lengths.iter().enumerate() {
@@ -179,13 +196,14 @@ impl Layout {
         Layout { columns, ranges, capacity, rows, slots, chunks, pages, bases }
     }
 
-    /// The shape that the memory's first words say, if it lies within the limits.
+    /// The shape that the memory's first words say, if it lies within the limits, laid out in this form
+    /// whatever form they say.
     pub fn stored(memory: &[u8]) -> Option<Layout> {
         if memory.len() < header::WORDS * WORD {
             return None;
         }
         let shape = Shape {
-            columns: word(memory, header::COLUMNS),
+            columns: word(memory, header::COLUMNS) % FORM_UNIT,
             ranges: word(memory, header::RANGES),
             capacity: word(memory, header::CAPACITY),
             spares: word(memory, header::SPARES),
@@ -215,6 +233,11 @@ impl Layout {
         self.bases[REGIONS] * WORD
     }
 
+    /// The bytes that the shape needed in form 1.
+    pub fn need_in_form_1(&self) -> usize {
+        self.base(Region::RowKeeper) * WORD
+    }
+
     /// The region of a word of the memory, and which of the region's words it is. A word past the need
     /// has none.
     pub fn place_of(&self, at: usize) -> Option<(Region, usize)> {
@@ -233,6 +256,17 @@ impl Layout {
     pub fn chunk(&self, range: usize, column: usize) -> usize {
         range * self.columns + column
     }
+}
+
+/// The columns' word in a memory of a form.
+pub const fn columns_word(columns: u32, form: u32) -> u32 {
+    columns + FORM_UNIT * (form - 1)
+}
+
+/// Whether the columns' word says `FORM`.
+#[inline(always)]
+pub fn is_in_form(memory: &[u8]) -> bool {
+    word(memory, header::COLUMNS) / FORM_UNIT + 1 == FORM
 }
 
 /// Word i of some bytes.

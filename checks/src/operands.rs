@@ -56,7 +56,9 @@ impl Operands<'_> {
             0x0F => Call::Release,
             0x10 => Call::PageCell { column: self.column(), row: self.row() },
             0x11 => Call::Lineage { range: self.range(), column: self.column() },
-            _ => self.crossings(),
+            0x12 => self.crossings(),
+            0x13 => Call::BeginAs { keeper: self.random.word() as u16 },
+            _ => self.keeper_at(),
         }
     }
 
@@ -197,6 +199,19 @@ impl Operands<'_> {
         // Seldom more than a few crossings: a tail of such a memory is short.
         let places = if self.odd() { self.random.below(20) } else { self.random.below(4) };
         Call::Crossings { row, column, mark, from, to, places }
+    }
+
+    /// A keeper of a cell, mostly at the stamp of some record of its range or just before it.
+    fn keeper_at(&mut self) -> Call {
+        let (row, column) = (self.row_of_record(), self.column());
+        let of_record = self.record_near(row, column).1;
+        let stamp = match self.random.below(8) {
+            0 | 1 => self.stamp(),
+            2 => of_record.saturating_sub(1),
+            3 | 4 => of_record,
+            _ => self.header(header::LAST_STAMP),
+        };
+        Call::KeeperAt { stamp, row, column }
     }
 
     /// The slot of a used record of a range, and the layout, if there is one.

@@ -13,8 +13,9 @@ mod writing;
 
 use reference::{Answer, Call, Shape};
 
-use crate::memory::{header, kind, page, put_word, state, word, words};
-use crate::memory::{Layout, Region, ScanEntry, NUMBERS, OPENS, ROWS, SCANS, WORD};
+use crate::memory::{columns_word, header, is_in_form, kind, page, put_word, state, word};
+use crate::memory::{words, Layout, Region, ScanEntry};
+use crate::memory::{FORM, MOST_COLUMNS, NUMBERS, OPENS, ROWS, SCANS, WORD};
 use crate::store::Store;
 
 use crossings::Asked;
@@ -42,10 +43,33 @@ impl<const FAULT: u8> Store for Plain<FAULT> {
         stamps: &mut [u32],
         call: &Call,
     ) -> Answer {
+        if FAULT == faults::FORM_1_ACCEPTED && memory.len() >= WORD && !is_in_form(memory) {
+            return self.as_in_form(memory, scans, stamps, call);
+        }
         let Some(layout) = sound(memory, scans) else {
             return Answer::Refused(2);
         };
         answer(Table::<FAULT> { memory, scans, layout }.call(call, stamps))
+    }
+}
+
+impl<const FAULT: u8> Plain<FAULT> {
+    /// Part of a wrong store: a call on a memory of form 1 that is taken for one of this form.
+    fn as_in_form(
+        &self,
+        memory: &mut [u8],
+        scans: &mut [ScanEntry],
+        stamps: &mut [u32],
+        call: &Call,
+    ) -> Answer {
+        let first = word(memory, header::COLUMNS);
+        if !(1..=MOST_COLUMNS as u32).contains(&first) {
+            return Answer::Refused(2);
+        }
+        put_word(memory, header::COLUMNS, columns_word(first, FORM));
+        let answer = self.call_with(memory, scans, stamps, call);
+        put_word(memory, header::COLUMNS, first);
+        answer
     }
 }
 
@@ -98,7 +122,7 @@ fn make(memory: &mut [u8], scans: &mut [ScanEntry], shape: &Shape) -> Outcome {
     require(memory.len() >= layout.need() && scans.len() >= SCANS, 2)?;
     memory[..layout.need()].fill(0);
     scans.fill(ScanEntry::FREE);
-    put_word(memory, header::COLUMNS, shape.columns);
+    put_word(memory, header::COLUMNS, columns_word(shape.columns, FORM));
     put_word(memory, header::RANGES, shape.ranges);
     put_word(memory, header::CAPACITY, shape.capacity);
     put_word(memory, header::SPARES, shape.spares);
@@ -160,7 +184,8 @@ impl<const FAULT: u8> Table<'_, FAULT> {
 impl<const FAULT: u8> Table<'_, FAULT> {
     fn call(&mut self, call: &Call, stamps: &mut [u32]) -> Outcome {
         match *call {
-            Call::Begin => self.begin(),
+            Call::Begin => self.begin(None),
+            Call::BeginAs { keeper } => self.begin(Some(keeper)),
             Call::Insert { transaction, ref values } => {
                 let open = self.open(transaction)?;
                 require((self.header(header::ROWS_GIVEN) as usize) < self.layout.rows, 11)?;
@@ -267,10 +292,20 @@ impl<const FAULT: u8> Table<'_, FAULT> {
                 require(minutes, 13)?;
                 self.list(&Asked { row, column, mark, from, to }, stamps)
             }
+            Call::KeeperAt { stamp, row, column } => {
+                let last = self.header(header::LAST_STAMP);
+                let ahead = stamp > last && FAULT != faults::KEEPER_AHEAD_ACCEPTED;
+                require(!ahead || FAULT == faults::KEEPER_TESTS_STAMP_LAST, 13)?;
+                let row = self.given(row)?;
+                let column = self.column(column)?;
+                require(!ahead, 13)?;
+                Ok(self.keeper(self.snapshot(stamp), row, column))
+            }
         }
     }
 
-    fn begin(&mut self) -> Outcome {
+    /// Without a keeper it is begun with 0.
+    fn begin(&mut self, keeper: Option<u16>) -> Outcome {
         let given = self.header(header::TRANSACTIONS_GIVEN);
         require(given < NUMBERS, 15)?;
         let most = if FAULT == faults::TRANSACTIONS_AS_SCANS { SCANS } else { OPENS };
@@ -278,6 +313,9 @@ impl<const FAULT: u8> Table<'_, FAULT> {
         let open = open.ok_or(14)?;
         self.put(Region::Opens, open, given + 1);
         self.put(Region::Changes, open, 0);
+        if keeper.is_some() || !faults::begins_without_keeper(FAULT) {
+            self.put(Region::OpenKeeper, open, u32::from(keeper.unwrap_or(0)));
+        }
         self.put(Region::Header, header::TRANSACTIONS_GIVEN, given + 1);
         Ok(Answer::Number(given + 1))
     }

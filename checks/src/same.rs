@@ -1,6 +1,6 @@
 //! Two stores on the same layout, call for call: the same answers, and the same bytes of memory
-//! and list and the same lent stamps after each call. On memories that no call made the refusals, and
-//! the crossings listed, are also those of the papers' words.
+//! and list and the same lent stamps after each call. On memories that no call made the refusals, the
+//! crossings listed and the keepers are also those of the papers' words.
 
 use reference::random::Random;
 use reference::{trace, Answer, Call, Shape};
@@ -119,10 +119,13 @@ impl<'s> Pair<'s> {
             let call = call_for(byte as u8, memory, list, random);
             let usable = facts::usable(memory, list);
             let due = due(&usable, &call, &mut differs);
-            let listed = usable.map_or(Vec::new(), |stored| stated::listed(&stored, &call));
+            let (listed, stated) = match usable {
+                Ok(stored) => (stated::listed(&stored, &call), stated::answer(&stored, &call)),
+                Err(_) => (Vec::new(), None),
+            };
             let answer = self.call(&call, random, tally)?;
             stated::judge(due, &answer)
-                .and_then(|()| stated::judge_count(&call, &listed, &answer))
+                .and_then(|()| stated::judge_answer(stated.as_ref(), &answer))
                 .and_then(|()| lent::listed(&listed, &self.stamps_before, self.stamps[0].get()))
                 .map_err(|error| format!("{}: {error}", trace::call_words(&call)))?;
             // A memory counts once, and an accepted call that writes makes another one.

@@ -1,17 +1,20 @@
 //! The refusals by the papers' words: document 01's table "What a refused call returns" and its
-//! paragraph "Tests run in this order", with Item 2 of document 02 for 14, Item 3 for 13 and Item 4 for
-//! its call, read of the words of a usable memory, whoever wrote them; and the crossings that this call
-//! lists. Written from these alone, to judge a store's refusals and lists, so it is plain rather than
-//! quick.
+//! paragraph "Tests run in this order", with Item 2 of document 02 for 14, Item 3 for 13 and Items 4 and 6
+//! for their calls, read of the words of a usable memory, whoever wrote them; and the crossings that Item
+//! 4's call lists and the keepers that Item 6's answers. Written from these alone, to judge a store's
+//! refusals, lists and keepers, so it is plain rather than quick.
 //!
 //! Two words are settled: open is a number in the list of open numbers, whatever state words say; and
 //! what is not open is committed where its state word says so, and aborted otherwise. A value is
-//! committed where its state word says so, as reads have it.
+//! committed where its state word says so, as reads have it. A row's newest record is the one that its
+//! link names, and the one before a record the one that the record's link names, as reads have it too.
+
+use std::iter;
 
 use reference::{trace, Answer, Call};
 
 use crate::facts::Stored;
-use crate::memory::{header, kind, state, Region, NUMBERS, OPENS, ROWS, SCANS};
+use crate::memory::{header, kind, state, Region, KEEPER_LIMIT, NUMBERS, OPENS, ROWS, SCANS};
 
 /// The numbers of a call. What a call does not have is 0, and no test of it looks there.
 #[derive(Clone, Copy, Default)]
@@ -34,7 +37,7 @@ pub struct Numbers {
 pub fn tests(call: &Call) -> (&'static [u8], Numbers) {
     let none = Numbers::default();
     match *call {
-        Call::Begin => (&[15, 14], none),
+        Call::Begin | Call::BeginAs { .. } => (&[15, 14], none),
         Call::Insert { transaction, .. } => (&[3, 11], Numbers { transaction, ..none }),
         Call::Update { transaction, row, mask, .. } => {
             (&[3, 5, 8, 9, 10, 12], Numbers { transaction, row, mask, ..none })
@@ -45,7 +48,8 @@ pub fn tests(call: &Call) -> (&'static [u8], Numbers) {
         Call::Commit { transaction, stamp } => (&[3, 13], Numbers { transaction, stamp, ..none }),
         Call::Abort { transaction } => (&[3], Numbers { transaction, ..none }),
         Call::Latest { row, column } => (&[5, 6], Numbers { row, column, ..none }),
-        Call::ReadAt { stamp, row, column } => {
+        // Item 6: "refused as 08 is"
+        Call::ReadAt { stamp, row, column } | Call::KeeperAt { stamp, row, column } => {
             (&[13, 5, 6], Numbers { stamp, row, column, ..none })
         }
         Call::OwnRead { transaction, row, column } => {
@@ -97,13 +101,28 @@ pub fn judge(due: Option<u8>, answer: &Answer) -> Result<(), String> {
     Err(format!("answer {answer}, by the papers' words {due} is due"))
 }
 
-/// Whether an accepted call for crossings answers how many it lists.
-pub fn judge_count(call: &Call, listed: &[u32], answer: &Answer) -> Result<(), String> {
-    let counts = matches!(call, Call::Crossings { .. }) && !answer.is_refused();
-    if !counts || *answer == Answer::Number(listed.len() as u32) {
-        return Ok(());
+/// What an accepted call for crossings answers, which is how many it lists, and one for a keeper; nothing
+/// for any other call.
+pub fn answer(stored: &Stored, call: &Call) -> Option<Answer> {
+    if refusal(stored, call).is_some() {
+        return None;
     }
-    Err(format!("answer {}, by the papers' words {listed:?} are due", trace::answer_words(answer)))
+    match call {
+        Call::Crossings { .. } => Some(Answer::Number(listed(stored, call).len() as u32)),
+        Call::KeeperAt { .. } => Some(keeper(stored, &tests(call).1)),
+        _ => None,
+    }
+}
+
+/// Whether an answer is the one that is due, if one is.
+pub fn judge_answer(due: Option<&Answer>, answer: &Answer) -> Result<(), String> {
+    match due.filter(|due| *due != answer).map(trace::answer_words) {
+        None => Ok(()),
+        Some(due) => {
+            let answer = trace::answer_words(answer);
+            Err(format!("answer {answer}, by the papers' words {due} is due"))
+        }
+    }
 }
 
 /// Whether a number's condition applies to a call of which the tests before it have passed.
@@ -115,12 +134,12 @@ pub fn applies(s: &Stored, number: u8, call: &Call, n: &Numbers) -> bool {
         // "row number not yet given"
         5 => n.row >= s.header(header::ROWS_GIVEN),
         // "not below the column count", "not below the range count"
-        6 => n.column >= s.header(header::COLUMNS),
+        6 => n.column >= s.layout.columns as u32,
         7 => n.range >= s.header(header::RANGES),
         // "no bit, or a bit at or above the column count"
         8 => {
             let bits: Vec<u32> = (0..16).filter(|bit| n.mask >> bit & 1 == 1).collect();
-            bits.is_empty() || bits.iter().any(|bit| *bit >= s.header(header::COLUMNS))
+            bits.is_empty() || bits.iter().any(|bit| *bit >= s.layout.columns as u32)
         }
         9 => held(s, n),
         10 => !held(s, n) && (deleted(s, n) || insert_aborted(s, n)),
@@ -139,12 +158,12 @@ pub fn applies(s: &Stored, number: u8, call: &Call, n: &Numbers) -> bool {
         },
         // "8 transactions, or 16 scans, open"; Item 2: "Make five the limit in place of sixteen"
         14 => match call {
-            Call::Begin => s.open().len() >= OPENS,
+            Call::Begin | Call::BeginAs { .. } => s.open().len() >= OPENS,
             _ => s.scans.len() >= SCANS,
         },
         // "65,535 numbers given"
         15 => match call {
-            Call::Begin => s.header(header::TRANSACTIONS_GIVEN) >= NUMBERS,
+            Call::Begin | Call::BeginAs { .. } => s.header(header::TRANSACTIONS_GIVEN) >= NUMBERS,
             _ => s.header(header::SCANS_GIVEN) >= NUMBERS,
         },
         // "merge not above what the page holds, or above the records used"
@@ -268,4 +287,53 @@ fn values(s: &Stored, n: &Numbers) -> Vec<Value> {
         values.push(Value { by, value: s.get(Region::TailValues, at) as i32, stamp });
     }
     values
+}
+
+/// The row's records from its newest one on, by its links: for a row that calls have written all of them.
+fn newest_first<'s>(s: &'s Stored, n: &Numbers) -> impl Iterator<Item = u32> + 's {
+    let range = range_of(n);
+    let named = |link: u32| (link != 0).then_some(link);
+    iter::successors(named(row(s, Region::RowLink, n)), move |record| {
+        named(s.of_record(Region::TailLink, range, *record))
+    })
+}
+
+/// Whether a read at the stamp sees what has this state and stamp: committed, and not later.
+fn is_seen(n: &Numbers, state: u32, stamp: u32) -> bool {
+    state == state::COMMITTED && stamp <= n.stamp
+}
+
+fn record_is_seen(s: &Stored, n: &Numbers, record: u32) -> bool {
+    let of = |region| s.of_record(region, range_of(n), record);
+    is_seen(n, of(Region::TailState), of(Region::TailStamp))
+}
+
+/// "the keeper of the value that 08 would show, or none". 08 shows the last setting of the column that it
+/// sees, and else the inserted value, which an original has once an update has set the column: then the
+/// row's mask has it. "original values carry the inserter", so that each record has the keeper itself.
+fn keeper(s: &Stored, n: &Numbers) -> Answer {
+    let of = |region, record| s.of_record(region, range_of(n), record);
+    let inserted = is_seen(n, row(s, Region::RowState, n), row(s, Region::RowStamp, n));
+    // "A deleted row ends": nothing comes after its delete.
+    let newest = newest_first(s, n).next();
+    let ended = newest.is_some_and(|newest| {
+        of(Region::TailKind, newest) >= kind::DELETE && record_is_seen(s, n, newest)
+    });
+    if !inserted || ended {
+        return Answer::None;
+    }
+    let has_column = |mask: u32| mask >> n.column & 1 == 1;
+    let shown = |record: &u32| match of(Region::TailKind, *record) {
+        _ if !has_column(of(Region::TailMask, *record)) => false,
+        kind::ORIGINAL => true,
+        kind::SETTING => record_is_seen(s, n, *record),
+        _ => false,
+    };
+    let set = has_column(row(s, Region::RowMask, n));
+    let record = newest_first(s, n).find(shown).filter(|_| set);
+    let word = match record {
+        Some(record) => of(Region::TailKeeper, record),
+        None => row(s, Region::RowKeeper, n),
+    };
+    Answer::Number(word % KEEPER_LIMIT)
 }

@@ -13,7 +13,7 @@ pub trait Store {
     /// Makes a store; `Done` or a refusal.
     fn make(&self, memory: &mut [u8], scans: &mut [ScanEntry], shape: &Shape) -> Answer;
 
-    /// One of the calls 01 to 12 (hexadecimal). 12 is lent the stamps, and answers `Number`: how many of
+    /// One of the calls 01 to 14 (hexadecimal). 12 is lent the stamps, and answers `Number`: how many of
     /// them it wrote, from the first on. No other call is lent them.
     fn call_with(
         &self,
@@ -48,8 +48,10 @@ pub fn writes(call: &Call) -> bool {
         | Call::Close { .. }
         | Call::PageCell { .. }
         | Call::Lineage { .. }
-        | Call::Crossings { .. } => false,
+        | Call::Crossings { .. }
+        | Call::KeeperAt { .. } => false,
         Call::Begin
+        | Call::BeginAs { .. }
         | Call::Insert { .. }
         | Call::Update { .. }
         | Call::Delete { .. }

@@ -1,14 +1,14 @@
 //! Random memories and scan lists that no call made: anything, words of which every stored fact
-//! holds, such words with a few of them changed, and stores in which words are changed that the facts
-//! leave free.
+//! holds, such words with a few of them changed or in another form, and stores in which words are changed
+//! that the facts leave free.
 
 use reference::random::Random;
 use reference::Shape;
 
 use crate::lent::{Content, Lent};
-use crate::memory::{header, kind, list_word, page, put_word, state, word};
+use crate::memory::{columns_word, header, kind, list_word, page, put_word, state, word};
 use crate::memory::{Layout, Region, ScanEntry};
-use crate::memory::{NUMBERS, OPENS, ROWS, SCANS, SCAN_WORDS, WORD};
+use crate::memory::{FORM, KEEPER_LIMIT, NUMBERS, OPENS, ROWS, SCANS, SCAN_WORDS, WORD};
 
 /// Random memory and list: good ones, nearly good ones, and anything.
 pub fn any_lent(random: &mut Random) -> (Lent<u8>, Lent<ScanEntry>) {
@@ -36,6 +36,7 @@ pub fn any_lent(random: &mut Random) -> (Lent<u8>, Lent<ScanEntry>) {
                 list.truncate(cut(list.len(), random));
             }
         }
+        2 if random.percent(20) => other_form(&mut memory, random),
         _ => {}
     }
     (Lent::copy(&memory, random), Lent::copy(&list, random))
@@ -49,6 +50,18 @@ fn change_memory(memory: &mut [u8], random: &mut Random) {
         let at = random.below(among) as usize;
         let new = odd_word(word(memory, at), random);
         put_word(memory, at, new);
+    }
+}
+
+/// Another form under the same measures. Form 1 has all of its words where this form has them, so that
+/// with the bytes that it needed the memory is a good one of form 1, if it was a good one.
+fn other_form(memory: &mut Vec<u8>, random: &mut Random) {
+    let Some(layout) = Layout::stored(memory) else { return };
+    // The last is the greatest that the word has room for.
+    let form = random.pick(&[1, 1, FORM + 1, FORM + 2, 1 << 16]);
+    put_word(memory, header::COLUMNS, columns_word(layout.columns as u32, form));
+    if form == 1 && random.percent(50) {
+        memory.truncate(layout.need_in_form_1());
     }
 }
 
@@ -116,7 +129,7 @@ fn measured(random: &mut Random) -> Vec<u8> {
 }
 
 fn put_measures(bytes: &mut [u8], shape: &Shape) {
-    put_word(bytes, header::COLUMNS, shape.columns);
+    put_word(bytes, header::COLUMNS, columns_word(shape.columns, FORM));
     put_word(bytes, header::RANGES, shape.ranges);
     put_word(bytes, header::CAPACITY, shape.capacity);
     put_word(bytes, header::SPARES, shape.spares);
@@ -131,6 +144,7 @@ pub fn passing(random: &mut Random) -> (Vec<u8>, Vec<ScanEntry>) {
         builder.records(range);
     }
     builder.rows();
+    builder.keepers();
     builder.pages();
     let list = builder.scans();
     (builder.bytes, list)
@@ -182,6 +196,8 @@ struct Builder<'r> {
 const SHARES: [u32; 3] = [0, 10, 50];
 /// The same of `settings`: for a crossing there must be several of one row.
 const SETTINGS: [u32; 2] = [0, 70];
+/// The regions of keepers.
+const KEEPERS: [Region; 3] = [Region::RowKeeper, Region::TailKeeper, Region::OpenKeeper];
 
 impl Builder<'_> {
     fn new<'r>(shape: &Shape, random: &'r mut Random) -> Builder<'r> {
@@ -248,12 +264,42 @@ impl Builder<'_> {
 
     /// Another word in the place of one that the facts leave free.
     fn disturb(&mut self) {
-        match self.random.below(10) {
+        match self.random.below(12) {
             0 => self.other_open(),
             1 | 2 => self.other_page(),
             3 => self.other_lineage(),
             4 => self.more_commits(),
+            5 | 6 => self.other_keeper(),
             _ => self.other_record(),
+        }
+    }
+
+    /// Another keeper of a row, a record or an entry of the open transactions, used or not.
+    fn other_keeper(&mut self) {
+        let region = self.random.pick(&KEEPERS);
+        // The rows that records name are the first of a range.
+        let all = self.layout.length(region) as u32;
+        let most = if self.random.percent(50) { all.min(3) } else { all };
+        let (at, keeper) = (self.random.below(most) as usize, self.keeper());
+        self.put(region, at, keeper);
+    }
+
+    fn keepers(&mut self) {
+        for region in KEEPERS {
+            for at in 0..self.layout.length(region) {
+                let keeper = self.keeper();
+                self.put(region, at, keeper);
+            }
+        }
+    }
+
+    /// A keeper's word: mostly a number of 16 bits, as the store writes it.
+    fn keeper(&mut self) -> u32 {
+        let word = self.random.word() as u32;
+        if self.random.percent(70) {
+            word % KEEPER_LIMIT
+        } else {
+            word
         }
     }
 

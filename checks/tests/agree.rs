@@ -31,21 +31,41 @@ fn lists_have_crossings_as_many_as_places_and_more() {
     assert!(tally.outnumbered > 100, "{tally:?}");
 }
 
+/// There are thousands of calls for a keeper, and at most of those that give one a wrong reading of Item 6
+/// gives another, each at many.
+#[test]
+fn lists_have_keepers_that_tell_wrong_readings() {
+    let tally = agree::run(&Plain::<0>, 0, 1100).expect("no difference");
+    let keepers = &tally.keepers;
+    assert!(keepers.given > 3000 && keepers.none > 1000, "{tally:?}");
+    assert!(keepers.telling * 2 > keepers.given, "{tally:?}");
+    assert!(keepers.readings().iter().all(|count| *count > 200), "{tally:?}");
+}
+
 #[test]
 fn bytes_are_those_of_the_definitions() {
     let tally = same::run(&Plain::<0>, &Defined, 0, 200).expect("no difference");
     assert!(tally.accepted * 10 > tally.calls * 4, "{tally:?}");
 }
 
+/// One of the calls that begin a transaction, in turn.
+fn begin(number: u32) -> Call {
+    if number % 2 == 0 {
+        Call::Begin
+    } else {
+        Call::BeginAs { keeper: number as u16 }
+    }
+}
+
 const SMALLEST: Shape = Shape { columns: 1, ranges: 1, capacity: 1, spares: 0 };
 
-/// 65,535 numbers, the last ones left open, and then 15 before 14.
+/// 65,535 numbers, the last ones left open, and then 15 before 14, however the transaction is begun.
 #[test]
 fn numbers_run_out() {
     let mut transactions = Vec::new();
     let mut scans = Vec::new();
     for number in 1..=65_535 {
-        transactions.push(Call::Begin);
+        transactions.push(begin(number));
         scans.push(Call::OpenScan { stamp: 0 });
         if number <= 65_535 - OPENS as u32 {
             transactions.push(Call::Abort { transaction: number });
@@ -54,11 +74,13 @@ fn numbers_run_out() {
             scans.push(Call::Close { scan: number });
         }
     }
-    transactions.extend([Call::Begin, Call::Abort { transaction: 65_535 }, Call::Begin]);
+    transactions.extend([begin(0), begin(1), Call::Abort { transaction: 65_535 }]);
+    transactions.extend([begin(0), begin(1)]);
     let open = Call::OpenScan { stamp: 0 };
     scans.extend([open.clone(), Call::Close { scan: 65_535 }, open]);
     for calls in [transactions, scans] {
         let tally = agree::compare(&Plain::<0>, 0, &SMALLEST, &calls).expect("no difference");
-        assert_eq!(tally.accepted, calls.len() as u64 - 2);
+        let refused = if calls[0] == begin(1) { 4 } else { 2 };
+        assert_eq!(tally.accepted, calls.len() as u64 - refused);
     }
 }

@@ -301,7 +301,7 @@ fn rust_named(text: &str) -> Result<Named, String> {
 #[test]
 fn the_declarations_are_those_of_the_exports() {
     let exports = exported(&texts()).expect("the exports are read");
-    assert_eq!(exports.functions.len(), 21);
+    assert_eq!(exports.functions.len(), 23);
     compare(&texts()).expect("no difference");
 }
 
@@ -328,13 +328,16 @@ fn another_type_of_a_parameter_is_told_apart() {
     told_apart(|t| &mut t.exports, "scans: &mut [ScanEntry]", "scans: &[ScanEntry]");
     told_apart(|t| &mut t.exports, "stamps: &mut [u32]", "stamps: &[u32]");
     told_apart(|t| &mut t.exports, "mark: i32", "mark: u32");
+    told_apart(|t| &mut t.exports, "keeper: u16", "keeper: u32");
     told_apart(|t| &mut t.header, "uint16_t mask", "uint32_t mask");
+    told_apart(|t| &mut t.header, "uint16_t keeper", "uint32_t keeper");
     told_apart(|t| &mut t.header, "size_t values_length", "uint32_t values_length");
     told_apart(|t| &mut t.header, "const deskrook_scan_entry *scans", "deskrook_scan_entry *scans");
     told_apart(|t| &mut t.header, "const int32_t *values", "const uint32_t *values");
     told_apart(|t| &mut t.header, "uint32_t *stamps", "const uint32_t *stamps");
     told_apart(|t| &mut t.header, "int32_t mark", "uint32_t mark");
     told_apart(|t| &mut t.declared, "mask: u16", "mask: u32");
+    told_apart(|t| &mut t.declared, "keeper: u16", "keeper: u32");
     told_apart(|t| &mut t.declared, "mem: *$memory u8", "mem: *const u8");
     told_apart(|t| &mut t.declared, "mem_length: usize", "mem_length: u32");
     told_apart(|t| &mut t.declared, "stamps: *mut u32", "stamps: *const u32");

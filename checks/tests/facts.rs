@@ -3,7 +3,8 @@
 use std::collections::BTreeSet;
 
 use checks::damage::{flip, good, SMALL};
-use checks::memory::{header, page, put_word, word, Layout, Region, ScanEntry, SCAN_WORDS, WORD};
+use checks::memory::{columns_word, header, page, put_word, word};
+use checks::memory::{Layout, Region, ScanEntry, SCAN_WORDS, WORD};
 use checks::plain::{sound, Plain};
 use checks::unmade::{any_lent, passing};
 use checks::{damage, facts, Store};
@@ -15,6 +16,7 @@ fn refusals_are_those_of_the_facts_and_of_the_words() {
     let tally = damage::run(&Plain::<0>, 0, 2).expect("no difference");
     assert!(tally.failing > 1100 && tally.accepted > 110_000, "{tally:?}");
     assert!(tally.crossings > 2200, "{tally:?}");
+    assert!(tally.keepers > 4000, "{tally:?}");
     let differing = &tally.differing;
     let each = [differing.by_9, differing.by_10, differing.by_17, differing.by_18];
     assert!(each.iter().all(|count| *count > 220), "{tally:?}");
@@ -133,6 +135,48 @@ fn ordinals_are_no_fact() {
     }
 }
 
+/// The header's first word has the columns and the form: with any other form, and with any other columns in
+/// this one, no call is accepted.
+#[test]
+fn the_form_is_2() {
+    let (mut memory, mut list, _) = small();
+    assert_eq!(word(&memory, header::COLUMNS), SMALL.columns + 65_536);
+    assert_eq!(facts::failing(&memory, &list), None);
+    for form in [1, 3, 4, 257, 65_536] {
+        let other = columns_word(SMALL.columns, form);
+        assert_eq!(other, SMALL.columns + 65_536 * (form - 1));
+        put_word(&mut memory, header::COLUMNS, other);
+        let before = memory.clone();
+        assert_eq!(facts::all_failing(&memory, &list), ["the memory is in form 2"]);
+        assert!(sound(&memory, &list).is_none());
+        assert_eq!(Plain::<0>.call(&mut memory, &mut list, &Call::Begin), Answer::Refused(2));
+        assert_eq!(memory, before);
+    }
+    for columns in [0, 17, 65_535] {
+        put_word(&mut memory, header::COLUMNS, columns + 65_536);
+        assert_eq!(facts::all_failing(&memory, &list), ["the measures lie within their limits"]);
+        assert!(sound(&memory, &list).is_none());
+    }
+}
+
+/// Keepers of rows, records and open transactions are no stored fact: whatever they are, the memory is
+/// usable.
+#[test]
+fn keepers_are_no_fact() {
+    let (mut memory, mut list, layout) = small();
+    set_and_commit(&mut memory, &mut list);
+    assert_eq!(Plain::<0>.call(&mut memory, &mut list, &Call::Begin), Answer::Number(2));
+    for keeper in [1, 65_535, 65_536, u32::MAX] {
+        for region in [Region::RowKeeper, Region::TailKeeper, Region::OpenKeeper] {
+            for at in 0..layout.length(region) {
+                put_word(&mut memory, layout.base(region) + at, keeper);
+            }
+        }
+        assert_eq!(facts::failing(&memory, &list), None);
+        assert!(sound(&memory, &list).is_some());
+    }
+}
+
 /// Row 0 with a setting of its column 0, by the first commit.
 fn set_and_commit(memory: &mut [u8], list: &mut [ScanEntry]) {
     for call in [
@@ -195,6 +239,9 @@ fn unused_words_may_hold_anything() {
         (Region::Changes, 1),
         (Region::RowOrdinal, 0),
         (Region::TailOrdinal, 2),
+        (Region::RowKeeper, 0),
+        (Region::TailKeeper, 2),
+        (Region::OpenKeeper, 1),
         (Region::Header, 10),
         (Region::Header, 15),
     ];

@@ -57,7 +57,7 @@ fn the_merge_of_the_worked_example_changes_these_bytes() {
     for store in right_stores() {
         let (mut memory, mut list) = after(store.as_ref(), &SHAPE, &before_the_merge());
         let (before, entries) = (memory.clone(), list.clone());
-        assert_eq!(before.len(), 669 * 4);
+        assert_eq!(before.len(), 745 * 4);
 
         let footprint = Footprint::of(&before, &entries, &MERGE).expect("words to look at");
         let by_hand = [8, 381, 383, 385, 388, 391, 392, 397, 400].into_iter().chain(529..593);
@@ -98,15 +98,27 @@ fn each_call_has_these_words() {
     let update =
         |transaction, value| Call::Update { transaction, row: 0, mask: 1, values: vec![value, 0] };
     let record = |slot| {
-        [TailTransaction, TailRow, TailKind, TailMask, TailLink, TailState, TailStamp, TailOrdinal]
-            .map(|region| (region, slot))
+        [
+            TailTransaction,
+            TailRow,
+            TailKind,
+            TailMask,
+            TailLink,
+            TailState,
+            TailStamp,
+            TailOrdinal,
+            TailKeeper,
+        ]
+        .map(|region| (region, slot))
     };
     let settled = |slot| [TailState, TailStamp, TailOrdinal].map(|region| (region, slot));
-    let begun = vec![(Header, header::TRANSACTIONS_GIVEN), (Opens, 0), (Changes, 0)];
+    let begun =
+        vec![(Header, header::TRANSACTIONS_GIVEN), (Opens, 0), (Changes, 0), (OpenKeeper, 0)];
     let last = [(Header, header::LAST_STAMP), (Header, header::COMMITS_MADE)];
-    let ended = [(Opens, 0), (Changes, 0)];
+    let ended = [(Opens, 0), (Changes, 0), (OpenKeeper, 0)];
     let taken = [(RowLink, 0), (Used, 0), (Changes, 0)];
-    let row = [RowTransaction, RowState, RowStamp, RowLink, RowMask, RowOrdinal].map(|r| (r, 0));
+    let row = [RowTransaction, RowState, RowStamp, RowLink, RowMask, RowOrdinal, RowKeeper]
+        .map(|region| (region, 0));
     let inserted = [(Header, header::ROWS_GIVEN), (Cells, 0), (Cells, ROWS), (Changes, 0)];
     let values = |first: usize| [(TailValues, first), (TailValues, first + 1)];
 
@@ -125,7 +137,7 @@ fn each_call_has_these_words() {
         ),
         // Row 0 is not of transaction 2.
         (commit(2, 20), [&settled(0)[..], &settled(1), &last, &ended].concat()),
-        (Call::Begin, begun),
+        (Call::BeginAs { keeper: 7 }, begun),
         // A setting alone: the row's mask has the column.
         (update(3, 1260), [&record(2)[..], &values(4), &taken].concat()),
         (Call::Delete { transaction: 3, row: 0 }, [&record(3)[..], &taken].concat()),
@@ -155,14 +167,14 @@ fn each_byte_is_judged_by_its_word() {
     }
     // A word outside is seen behind others that may change, and named.
     let mut after = before.clone();
-    for (at, byte) in [(32, 1), (4 * 15 + 1, 2), (4 * 669 + 5, 8)] {
+    for (at, byte) in [(32, 1), (4 * 15 + 1, 2), (4 * 745 + 5, 8)] {
         after[at] = byte;
     }
     let outside = "the memory changed outside the call's footprint, at word ";
     let header = format!("{outside}15 of Header: [0, 0, 0, 0] and [0, 2, 0, 0]");
     assert_eq!(footprint.judge_memory(&before, &after), Err(header));
     after[4 * 15 + 1] = 0;
-    let past = format!("{outside}670, past the need: [7, 7] and [7, 8]");
+    let past = format!("{outside}746, past the need: [7, 7] and [7, 8]");
     assert_eq!(footprint.judge_memory(&before, &after), Err(past));
 }
 
@@ -205,6 +217,7 @@ fn reads_have_no_footprint() {
         Call::PageCell { column: 0, row: 0 },
         Call::Lineage { range: 0, column: 0 },
         Call::Crossings { row: 0, column: 0, mark: 1220, from: 0, to: 20, places: 1 },
+        Call::KeeperAt { stamp: 10, row: 0, column: 0 },
     ] {
         let footprint = Footprint::of(&memory, &list, &call).expect("words to look at");
         assert_eq!((footprint.words(), footprint.entry()), (&[][..], None), "{call:?}");
@@ -356,7 +369,7 @@ fn every_kind_of_word_of_a_call_changes() {
     }
     assert_eq!(changed, allowed);
     let commands: BTreeSet<u8> = allowed.iter().map(|(command, _)| *command).collect();
-    let writing = [0x01, 0x02, 0x03, 0x04, 0x05, 0x06, 0x0A, 0x0E, 0x0F];
+    let writing = [0x01, 0x02, 0x03, 0x04, 0x05, 0x06, 0x0A, 0x0E, 0x0F, 0x13];
     assert_eq!(commands, BTreeSet::from(writing));
     assert!(allowed.contains(&(0x0E, (Region::Header, header::MERGES_MADE))));
 }

@@ -1,9 +1,9 @@
 //! Refusals on memories that no call made: each follows the papers' words, whatever links, lineages
 //! and state words say. Known memories for 9, 10, 13, 17 and 18, and stores that take a shortcut to one
-//! of 9, 10, 17 and 18, which are told apart; what reads give where ordinals were changed; and what is
-//! listed as crossings where records were.
+//! of 9, 10, 17 and 18, which are told apart; what reads give where ordinals were changed; what is listed
+//! as crossings where records were; and which keepers are given and written where their words were.
 
-use checks::memory::{header, put_word, Layout, Region, ScanEntry, SCANS};
+use checks::memory::{header, put_word, word, Layout, Region, ScanEntry, SCANS};
 use checks::plain::{Altered, Plain};
 use checks::{agree, damage, facts, right_stores, same, shortcuts, stated, Store};
 use reference::{Answer, Call, Shape};
@@ -167,15 +167,17 @@ fn a_scan_sees_up_to_its_own_count() {
 }
 
 /// Row 0 is inserted with 5 at 10, and set to 9 at 20 and to 4 at 30: record 0 is the original, record 1
-/// the setting of 9 by transaction 2, record 2 that of 4 by transaction 3.
+/// the setting of 9 by transaction 2, record 2 that of 4 by transaction 3. The keepers of the three are 101,
+/// 102 and 103.
 fn swung() -> Vec<Call> {
-    let set = |transaction, value, stamp| {
-        let values = vec![value];
-        let update = Call::Update { transaction, row: 0, mask: 1, values };
-        [Call::Begin, update, Call::Commit { transaction, stamp }]
+    let begin = |transaction| Call::BeginAs { keeper: 100 + transaction };
+    let set = |transaction: u16, value, stamp| {
+        let (begin, transaction) = (begin(transaction), transaction.into());
+        let update = Call::Update { transaction, row: 0, mask: 1, values: vec![value] };
+        [begin, update, Call::Commit { transaction, stamp }]
     };
     let insert = Call::Insert { transaction: 1, values: vec![5] };
-    let inserted = [Call::Begin, insert, Call::Commit { transaction: 1, stamp: 10 }];
+    let inserted = [begin(1), insert, Call::Commit { transaction: 1, stamp: 10 }];
     [inserted, set(2, 9, 20), set(3, 4, 30)].concat()
 }
 
@@ -300,6 +302,120 @@ fn crossings_go_by_no_link_mask_ordinal_or_open_number() {
         crosses(&[one], ALL, &[20, 30]);
     }
     crosses(&put, ALL, &[20, 30]);
+}
+
+/// Each store gives the keepers of 9, 10, 19, 20, 29 and 30, after `swung` and the words put; where it is 0,
+/// none.
+fn keeps(put: &[(Region, usize, u32)], wanted: [u32; 6]) {
+    each_store(&swung(), put, |store, memory, list| {
+        for (stamp, wanted) in [9, 10, 19, 20, 29, 30].into_iter().zip(wanted) {
+            let call = Call::KeeperAt { stamp, row: 0, column: 0 };
+            let due = if wanted == 0 { Answer::None } else { Answer::Number(wanted) };
+            let stored = facts::usable(memory, list).expect("no fact fails");
+            assert_eq!(stated::answer(&stored, &call), Some(due.clone()), "{put:?}, {stamp}");
+            assert_eq!(store.call(memory, list, &call), due, "{put:?}, {stamp}");
+        }
+    });
+}
+
+#[test]
+fn a_keeper_is_that_of_the_value_read() {
+    keeps(&[], [0, 101, 101, 102, 102, 103]);
+    // Aborted by whatever word, or open.
+    for state in [0, 2, 3, u32::MAX] {
+        keeps(&[(Region::TailState, 1, state)], [0, 101, 101, 101, 101, 103]);
+        keeps(&[(Region::TailState, 2, state)], [0, 101, 101, 102, 102, 102]);
+        keeps(&[(Region::RowState, 0, state)], [0; 6]);
+    }
+    // Of another column.
+    keeps(&[(Region::TailMask, 2, 2)], [0, 101, 101, 102, 102, 102]);
+    // A delete, by whatever word; and one below the newest record, which ends nothing.
+    for kind in [2, 3, u32::MAX] {
+        keeps(&[(Region::TailKind, 2, kind)], [0, 101, 101, 102, 102, 0]);
+        keeps(&[(Region::TailKind, 1, kind)], [0, 101, 101, 101, 101, 103]);
+    }
+}
+
+/// Each record has its own word, an original too, and of a word the lower two bytes count.
+#[test]
+fn a_keeper_is_the_lower_half_of_its_word() {
+    for (word, low) in [(7, 7), (65_535, 65_535), (65_536 + 8, 8), (u32::MAX, 65_535)] {
+        keeps(&[(Region::TailKeeper, 0, word)], [0, low, low, 102, 102, 103]);
+        keeps(&[(Region::TailKeeper, 1, word)], [0, 101, 101, low, low, 103]);
+        keeps(&[(Region::TailKeeper, 2, word)], [0, 101, 101, 102, 102, low]);
+        // The row's own counts where no record answers.
+        let row = (Region::RowKeeper, 0, word);
+        keeps(&[row], [0, 101, 101, 102, 102, 103]);
+        keeps(&[row, (Region::RowMask, 0, 0)], [0, low, low, low, low, low]);
+        keeps(&[row, (Region::RowLink, 0, 0)], [0, low, low, low, low, low]);
+        keeps(&[row, (Region::TailLink, 2, 0)], [0, low, low, low, low, 103]);
+    }
+}
+
+#[test]
+fn a_keeper_goes_by_no_transaction_ordinal_page_or_open_number() {
+    let put = [
+        (Region::RowTransaction, 0, 2),
+        (Region::TailTransaction, 0, 3),
+        (Region::TailTransaction, 2, 1),
+        (Region::RowOrdinal, 0, u32::MAX),
+        (Region::TailOrdinal, 1, u32::MAX),
+        (Region::PageLineage, 0, 3),
+        (Region::PageNewest, 0, 30),
+        (Region::Opens, 0, 2),
+        (Region::OpenKeeper, 0, 9),
+        (Region::Header, header::COMMITS_MADE, 0),
+    ];
+    for one in put {
+        keeps(&[one], [0, 101, 101, 102, 102, 103]);
+    }
+    keeps(&put, [0, 101, 101, 102, 102, 103]);
+}
+
+#[test]
+fn a_keeper_is_refused_as_the_read_is() {
+    let at = |stamp, row, column| Call::KeeperAt { stamp, row, column };
+    answers(&swung(), &[], at(30, 0, 0), Answer::Number(103));
+    answers(&swung(), &[], at(31, 0, 0), Answer::Refused(13));
+    answers(&swung(), &[], at(31, 1, 1), Answer::Refused(13));
+    answers(&swung(), &[], at(30, 1, 1), Answer::Refused(5));
+    answers(&swung(), &[], at(30, 0, 1), Answer::Refused(6));
+}
+
+/// The word of the open transaction, whatever it is, goes to the row, to the setting and to the delete, and
+/// the row's to the original. The end of the transaction and a begin leave a number of 16 bits.
+#[test]
+fn a_keeper_is_written_as_its_word_stands() {
+    let put = [(Region::OpenKeeper, 0, u32::MAX), (Region::OpenKeeper, 1, 65_537)];
+    let begun = [Call::BeginAs { keeper: 1 }, Call::BeginAs { keeper: 2 }];
+    let layout = Layout::of(&SHAPE);
+    each_store(&begun, &put, |store, memory, list| {
+        let mut after = |call: Call, words: &[(Region, usize, u32)]| {
+            let answer = store.call(memory, list, &call);
+            assert!(!answer.is_refused(), "{call:?}: {answer:?}");
+            for (region, at, wanted) in words {
+                let found = word(memory, layout.base(*region) + at);
+                assert_eq!(found, *wanted, "{call:?}, {region:?} {at}");
+            }
+        };
+        let row = (Region::RowKeeper, 0, u32::MAX);
+        after(Call::Insert { transaction: 1, values: vec![5] }, &[row]);
+        let freed = (Region::OpenKeeper, 0, 0);
+        after(Call::Commit { transaction: 1, stamp: 10 }, &[row, freed]);
+        let records = [(Region::TailKeeper, 0, u32::MAX), (Region::TailKeeper, 1, 65_537)];
+        after(update(2), &[records[0], records[1], row]);
+        let deleted = (Region::TailKeeper, 2, 65_537);
+        after(Call::Delete { transaction: 2, row: 0 }, &[records[0], records[1], deleted]);
+        after(Call::BeginAs { keeper: 65_535 }, &[(Region::OpenKeeper, 0, 65_535)]);
+        after(Call::Abort { transaction: 2 }, &[deleted, (Region::OpenKeeper, 1, 0)]);
+    });
+    let free = [(Region::OpenKeeper, 0, u32::MAX)];
+    for (call, keeper) in [(Call::Begin, 0), (Call::BeginAs { keeper: 3 }, 3)] {
+        each_store(&[], &free, |store, memory, list| {
+            assert_eq!(store.call(memory, list, &call), Answer::Number(1));
+            assert_eq!(word(memory, layout.base(Region::OpenKeeper)), keeper);
+        });
+    }
 }
 
 /// The plain page store with one of the conditions by its shortcut.

@@ -84,6 +84,17 @@ wrong_stores! {
     minutes_tested_first: MINUTES_TESTED_FIRST,
     from_after_to_accepted: FROM_AFTER_TO_ACCEPTED,
     later_to_accepted: LATER_TO_ACCEPTED,
+    keeper_of_the_updater: KEEPER_OF_THE_UPDATER,
+    keeper_of_the_row: KEEPER_OF_THE_ROW,
+    keeper_of_an_aborted: KEEPER_OF_AN_ABORTED,
+    keeper_of_the_newest: KEEPER_OF_THE_NEWEST,
+    keeper_of_another_column: KEEPER_OF_ANOTHER_COLUMN,
+    keeper_lost_by_merge: KEEPER_LOST_BY_MERGE,
+    keeper_of_an_unseen_row: KEEPER_OF_AN_UNSEEN_ROW,
+    keeper_ahead_accepted: KEEPER_AHEAD_ACCEPTED,
+    keeper_tests_stamp_last: KEEPER_TESTS_STAMP_LAST,
+    keeper_of_one_byte: KEEPER_OF_ONE_BYTE,
+    former_keeper_stays: FORMER_KEEPER_STAYS,
 }
 
 /// An original holds what the page has before any setting of its row and column, and a merge goes
@@ -102,6 +113,31 @@ fn empty_commit_not_counted() {
     let wrong = Plain::<{ faults::EMPTY_COMMIT_NOT_COUNTED }>;
     agree::run(&wrong, 0, 200).expect("no difference");
     assert!(same::run(&Plain::<0>, &wrong, 0, LISTS).is_err());
+}
+
+/// By the bytes alone, which `same` compares.
+fn told_apart_by_bytes(wrong: &impl Store, region: Region) {
+    agree::run(wrong, 0, 200).expect("no difference");
+    let difference = same::run(&Plain::<0>, wrong, 0, LISTS).expect_err("the fault was not found");
+    assert!(difference.contains(&format!("of {region:?}: ")), "{difference}");
+}
+
+/// After calls alone the keeper of a free place is 0 whether or not a begin writes it.
+#[test]
+fn begin_writes_no_keeper() {
+    told_apart_by_bytes(&Plain::<{ faults::BEGIN_WRITES_NO_KEEPER }>, Region::OpenKeeper);
+}
+
+/// The keeper of a free place goes into no answer, since a begin writes it.
+#[test]
+fn end_leaves_the_keeper() {
+    told_apart_by_bytes(&Plain::<{ faults::END_LEAVES_THE_KEEPER }>, Region::OpenKeeper);
+}
+
+/// A delete sets no value, so that its keeper is not asked for.
+#[test]
+fn delete_without_keeper() {
+    told_apart_by_bytes(&Plain::<{ faults::DELETE_WITHOUT_KEEPER }>, Region::TailKeeper);
 }
 
 /// On memories that no call made, and on no others.
@@ -123,6 +159,32 @@ fn later_original() {
 #[test]
 fn later_value_counts() {
     told_apart_where_unmade(&Plain::<{ faults::LATER_VALUE_COUNTS }>);
+}
+
+/// Calls write keepers of 16 bits.
+#[test]
+fn whole_word_of_a_keeper() {
+    told_apart_where_unmade(&Plain::<{ faults::WHOLE_WORD_OF_A_KEEPER }>);
+}
+
+/// Calls note each column of an update in the row's mask.
+#[test]
+fn keeper_without_the_mask() {
+    told_apart_where_unmade(&Plain::<{ faults::KEEPER_WITHOUT_THE_MASK }>);
+}
+
+/// Making gives form 2, and no call another.
+#[test]
+fn form_1_accepted() {
+    let wrong = Plain::<{ faults::FORM_1_ACCEPTED }>;
+    let by_form = |difference: Result<damage::Tally, String>| {
+        let difference = difference.expect_err("the fault was not found");
+        assert!(difference.contains("'the memory is in form 2' fails"), "{difference}");
+    };
+    agree::run(&wrong, 0, 200).expect("no difference");
+    by_form(damage::every_byte(&wrong, 0));
+    by_form(damage::random_memories(&wrong, 0, LISTS));
+    assert!(same::run(&Plain::<0>, &wrong, 0, LISTS).is_err());
 }
 
 /// On the lists of so many seeds every answer is the plain history's, and after each list no fact fails.

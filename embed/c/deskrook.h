@@ -8,7 +8,8 @@
  *   scans, scans_length  the list of open scans: an array of at least DESKROOK_SCANS entries.
  * The pointers are not null, also where the length is 0. Memory, list, values and stamps do not overlap. Lend the same memory and list to every call on a store, and
  * write to neither in between. A call that meets other bytes than the last one left, even random ones, still answers, touches nothing outside what it was
- * lent, and answers DESKROOK_MEMORY wherever a stored fact fails: also where more than DESKROOK_SCANS are open in the list.
+ * lent, and answers DESKROOK_MEMORY wherever a stored fact fails: also where more than DESKROOK_SCANS are open in the list, and where the memory is not in stored form 2,
+ * which has the keepers. Form 1 is what was made before there were any; no call works on it, and deskrook_make makes form 2, whatever the memory held.
  *
  * ANSWERS. `result` is DESKROOK_OK, DESKROOK_NONE or the number of a refusal. A refused call changes no byte of what it was lent. The other fields are said with
  * each call; a field of which nothing is said is 0, and all of them are 0 where the result is not DESKROOK_OK. Where a read of one cell gives a value,
@@ -18,7 +19,10 @@
  * since 1 January 2000 UTC. Any number may be passed: one that is not there is refused. Each call says its refusals in the order in which they are tested.
  *
  * ONE MINUTE. Several commits may have one stamp; among them the later made is the newer. A read at a minute gives the newest of it so far. The answer for a minute
- * before the last commit's never changes, and no answer of an open scan does: it sees the commits up to its stamp that were made before it was opened, and no more. */
+ * before the last commit's never changes, and no answer of an open scan does: it sees the commits up to its stamp that were made before it was opened, and no more.
+ *
+ * KEEPERS. A transaction has a keeper, a number of 2 bytes that tells who made it: deskrook_begin_as takes any, and deskrook_begin takes 0, unknown. Each row and tail
+ * record carries its transaction's keeper, and original values that of the row's insert; deskrook_keeper_at answers the keeper of the value that deskrook_read_at shows. */
 #ifndef DESKROOK_H
 #define DESKROOK_H
 
@@ -52,7 +56,7 @@ typedef struct deskrook_reply {
 enum deskrook_result {
     DESKROOK_OK = 0,           /* accepted */
     DESKROOK_SHAPE = 1,        /* a measure outside its limits */
-    DESKROOK_MEMORY = 2,       /* memory shorter than the shape needs, a scan list under 5 entries, or a stored fact fails */
+    DESKROOK_MEMORY = 2,       /* memory shorter than the shape needs, a scan list under 5 entries, or a stored fact fails, of which one is that the memory is in stored form 2 */
     DESKROOK_TRANSACTION = 3,  /* the transaction's number is not open */
     DESKROOK_SCAN = 4,         /* the scan's number is not open */
     DESKROOK_ROW = 5,          /* row number not yet given */
@@ -94,8 +98,11 @@ deskrook_reply deskrook_check(const uint8_t *mem, size_t mem_length, const deskr
 
 /* ---- transactions ---- */
 
-/* Begins a transaction. first: its number. Refusals: MEMORY, NUMBER, BUSY. */
+/* Begins a transaction with keeper 0, unknown. first: its number. Refusals: MEMORY, NUMBER, BUSY. */
 deskrook_reply deskrook_begin(uint8_t *mem, size_t mem_length, const deskrook_scan_entry *scans, size_t scans_length);
+
+/* Begins a transaction with a keeper. first: its number. Refusals: MEMORY, NUMBER, BUSY. */
+deskrook_reply deskrook_begin_as(uint8_t *mem, size_t mem_length, const deskrook_scan_entry *scans, size_t scans_length, uint16_t keeper);
 
 /* Inserts a row, with a value for each column; where fewer are lent the rest are 0, and those past the columns are not looked at.
  * first: the row's number. Refusals: MEMORY, TRANSACTION, FULL. */
@@ -126,6 +133,11 @@ deskrook_reply deskrook_latest(const uint8_t *mem, size_t mem_length, const desk
  * that set it; or NONE. Refusals: MEMORY, TIME, ROW, COLUMN. */
 deskrook_reply deskrook_read_at(const uint8_t *mem, size_t mem_length, const deskrook_scan_entry *scans, size_t scans_length, uint32_t stamp, uint32_t row,
                                 uint32_t column);
+
+/* The keeper of the value that deskrook_read_at shows for the same numbers: of the update that set it, or of the insert where none has. first: the keeper, below 65,536;
+ * or NONE, exactly where that read is none. Refusals, as that read's: MEMORY, TIME, ROW, COLUMN. */
+deskrook_reply deskrook_keeper_at(const uint8_t *mem, size_t mem_length, const deskrook_scan_entry *scans, size_t scans_length, uint32_t stamp, uint32_t row,
+                                  uint32_t column);
 
 /* The value that a transaction sees: its own pending changes above the latest. first: the value; stamp: of the commit that set it, 0 for a pending value, as is every
  * value of a row that it inserted and has not committed; or NONE. Refusals: MEMORY, TRANSACTION, ROW, COLUMN. */

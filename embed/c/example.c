@@ -1,6 +1,6 @@
 /* The worked example (rule 12.9 of docs/SPECIFICATION.md) in C, on memory of its own: one gate with two columns, an update, and its merge into the page. Prints a line for each call
  * as the program gatebook does: the command byte, "ok" and the answer's fields, or "no" and the refusal's number. After the example, and without a
- * line, comes one more commit in the minute of the last, with a scan between the two, and the list of the level's crossings. */
+ * line, comes one more commit in the minute of the last, by a keeper, with a scan between the two, the list of the level's crossings, and who set the level. */
 #include <inttypes.h>
 #include <stdio.h>
 #include <stdlib.h>
@@ -74,7 +74,8 @@ int main(void) {
 
     /* A scan opened between two commits of one minute keeps what it was opened on; a read at that minute gives the newest. */
     const uint32_t scan = deskrook_open_scan(mem, length, scans, entries, 20).first;
-    begun = deskrook_begin(mem, length, scans, entries);
+    const uint16_t keeper = 3;
+    begun = deskrook_begin_as(mem, length, scans, entries, keeper);
     const int32_t lowered[] = {1230, 0};
     deskrook_update(mem, length, scans, entries, begun.first, gate, 1, lowered, 2);
     deskrook_commit(mem, length, scans, entries, begun.first, 20);
@@ -86,6 +87,11 @@ int main(void) {
     const deskrook_reply crossed = deskrook_crossings(mem, length, scans, entries, stamps, 4, gate, 0, 1240, 0, 20);
     const int twice = crossed.result == DESKROOK_OK && crossed.first == 2 && stamps[0] == 20 && stamps[1] == 20;
 
+    /* The newest level is the keeper's. The inserted one is by a transaction whose keeper is unknown, which is 0. */
+    const deskrook_reply setter = deskrook_keeper_at(mem, length, scans, entries, 20, gate, 0);
+    const deskrook_reply inserter = deskrook_keeper_at(mem, length, scans, entries, 10, gate, 0);
+    const int known = setter.result == DESKROOK_OK && setter.first == keeper && inserter.result == DESKROOK_OK && inserter.first == 0;
+
     free(mem);
-    return kept == 1250 && newest == 1230 && twice ? EXIT_SUCCESS : EXIT_FAILURE;
+    return kept == 1250 && newest == 1230 && twice && known ? EXIT_SUCCESS : EXIT_FAILURE;
 }

@@ -2,10 +2,11 @@
  * interface. Of every call: the result is 2 exactly where facts.c finds a failing fact; it is one that the call may answer; it is 13 just where the stamp is on
  * the wrong side of the last commit's; fields that it has not are 0; the stamp of a value read is not after its reader's; a refusal changes no byte; an accepted call changes
  * only what it may, a merge no other byte than Item 5 of document 02 names, and the facts hold again; a commit counts itself, and an opened scan's entry has the counts made before it. Crossings are refused as their operands have it,
- * with 21 exactly where more are listed once there are places for all; the stamps listed are between the two, and the places behind them are unchanged. In a store that
- * calls alone have made and written, no commit, merge or release changes the sum of an open scan, and the crossings are those of crossings.c. Memory, list, values and stamps
- * end or begin at a page that cannot be read, and the rest of their own pages is marked, so that neither a read nor a write outside goes unseen though the library itself is
- * not instrumented.
+ * with 21 exactly where more are listed once there are places for all; the stamps listed are between the two, and the places behind them are unchanged. A keeper at is, in
+ * every memory, refused exactly as the read at with the same numbers, none exactly where that is, and otherwise below 65,536; an accepted call writes the words of keepers that
+ * Item 6 of document 02 has it write, and no other. In a store that calls alone have made and written, no commit, merge or release changes the sum of an open scan, the
+ * crossings are those of crossings.c, and the keepers those of keepers.c. Memory, list, values and stamps end or begin at a page that cannot be read, and the rest of their own
+ * pages is marked, so that neither a read nor a write outside goes unseen though the library itself is not instrumented.
  *
  * LLVMFuzzerTestOneInput is called by libFuzzer, or by random.c with random bytes. */
 #define _DEFAULT_SOURCE
@@ -17,6 +18,7 @@
 
 #include "crossings.h"
 #include "facts.h"
+#include "keepers.h"
 
 int LLVMFuzzerTestOneInput(const uint8_t *data, size_t size);
 
@@ -24,7 +26,7 @@ int LLVMFuzzerTestOneInput(const uint8_t *data, size_t size);
 
 enum { REFUSALS = DESKROOK_LIST + 1 };
 
-static uint64_t inputs, calls, damaged, accepted, nones, scans_kept, crossings, crossings_again, refused[REFUSALS];
+static uint64_t inputs, calls, damaged, accepted, nones, scans_kept, crossings, crossings_again, keepers, keepers_known, refused[REFUSALS];
 
 /* Whether it is a refusal's number. 19 and 20 are gatebook's. */
 static int is_refusal(uint32_t number) {
@@ -42,6 +44,7 @@ static void say_counts(void) {
             fprintf(stderr, " %d %" PRIu64 "%s", number, refused[number], number < DESKROOK_LIST ? "," : "\n");
     fprintf(stderr, "open scans that a later commit of their minute left as they were: %" PRIu64 "\n", scans_kept);
     fprintf(stderr, "crossings in stores that calls alone have written: %" PRIu64 ", in the minute of the one before: %" PRIu64 "\n", crossings, crossings_again);
+    fprintf(stderr, "keepers in such stores: %" PRIu64 ", other than 0: %" PRIu64 "\n", keepers, keepers_known);
 }
 
 static void fail(const char *name, const char *what) {
@@ -158,6 +161,11 @@ static uint32_t header(size_t i) {
     return memory.length < HEADER_WORDS * 4 ? 0 : word_at(memory.first, i);
 }
 
+/* The columns in the header, whatever the form. */
+static uint32_t columns(void) {
+    return header(COLUMNS_AND_FORM) % HALF;
+}
+
 /* A number of a kind: mostly one that the lent words make likely to be accepted, else any. */
 static uint32_t number(struct input *in, char kind) {
     uint32_t first = take(in, 1);
@@ -179,11 +187,13 @@ static uint32_t number(struct input *in, char kind) {
     case 'r': /* row */
         return header(ROWS_GIVEN) == 0 || first < 0x80 ? first % 4 : first % header(ROWS_GIVEN);
     case 'c': /* column */
-        return header(COLUMNS) == 0 ? first : first % header(COLUMNS);
+        return columns() == 0 ? first : first % columns();
     case 'g': /* range */
         return header(RANGES) == 0 ? first : first % header(RANGES);
     case 'm': /* mask: a few bits */
         return first % 16;
+    case 'w': /* keeper: who; one of a few, and the greatest */
+        return first % 8 == 7 ? 65535 : first % 8;
     default: /* tail record, measure */
         return first % 9;
     }
@@ -210,6 +220,8 @@ enum call {
     PAGE_CELL,
     LINEAGE,
     CROSSINGS,
+    BEGIN_AS,
+    KEEPER_AT,
     CHECK,
     MAKE,
     BYTES_NEEDED,
@@ -248,6 +260,8 @@ static const struct {
     [PAGE_CELL] = {"page_cell", "cr", HAS_FIRST, MAY(6) | MAY(5)},
     [LINEAGE] = {"lineage", "gc", HAS_FIRST | HAS_SECOND, MAY(7) | MAY(6)},
     [CROSSINGS] = {"crossings", "rckfd", HAS_FIRST, MAY(5) | MAY(6) | MAY(13) | MAY(21)},
+    [BEGIN_AS] = {"begin_as", "w", WRITES_MEMORY | HAS_FIRST, MAY(15) | MAY(14)},
+    [KEEPER_AT] = {"keeper_at", "drc", HAS_FIRST | MAY_BE_NONE, MAY(13) | MAY(5) | MAY(6)},
     [CHECK] = {"check", "", 0, 0},
     [MAKE] = {"make", "nnnn", WRITES_MEMORY | WRITES_LIST, MAY(1)},
     [BYTES_NEEDED] = {"bytes_needed", "nnnn", HAS_FIRST, MAY(1)},
@@ -302,6 +316,8 @@ static deskrook_reply make_call(enum call call, const uint32_t numbers[MOST_NUMB
     case PAGE_CELL: return deskrook_page_cell(m, n, s, k, a, b);
     case LINEAGE: return deskrook_lineage(m, n, s, k, a, b);
     case CROSSINGS: return list_crossings(numbers, (uint32_t *)(void *)stamps.first, stamps.length / 4);
+    case BEGIN_AS: return deskrook_begin_as(m, n, s, k, (uint16_t)a);
+    case KEEPER_AT: return deskrook_keeper_at(m, n, s, k, a, b, c);
     case CHECK: return deskrook_check(m, n, s, k);
     case MAKE: return deskrook_make(m, n, s, k, a, b, c, d);
     case BYTES_NEEDED: return deskrook_bytes_needed(a, b, c, d);
@@ -378,7 +394,7 @@ static uint32_t latest_stamp(enum call call, const uint32_t numbers[MOST_NUMBERS
 
 /* 13: a commit earlier than the last, a read or a scan later than the last. A commit tests its transaction before, the others nothing. Crossings are judged apart. */
 static void judge_time(enum call call, const uint32_t numbers[MOST_NUMBERS], uint32_t result) {
-    if (call != COMMIT && call != READ_AT && call != OPEN_SCAN)
+    if (call != COMMIT && call != READ_AT && call != KEEPER_AT && call != OPEN_SCAN)
         return;
     uint32_t last = word_at(memory.before, LAST_STAMP);
     int outside = call == COMMIT ? numbers[1] < last : numbers[0] > last;
@@ -441,7 +457,7 @@ static void judge_scans(enum call call, const uint32_t numbers[MOST_NUMBERS], de
 static uint32_t due_before_list(const uint32_t numbers[MOST_NUMBERS]) {
     if (numbers[0] >= word_at(memory.first, ROWS_GIVEN))
         return DESKROOK_ROW;
-    if (numbers[1] >= word_at(memory.first, COLUMNS))
+    if (numbers[1] >= columns())
         return DESKROOK_COLUMN;
     return numbers[3] > numbers[4] || numbers[4] > word_at(memory.first, LAST_STAMP) ? DESKROOK_TIME : DESKROOK_OK;
 }
@@ -525,6 +541,75 @@ static void judge_merge(const struct layout *l, const uint32_t numbers[MOST_NUMB
     }
 }
 
+/* After a read at or a keeper at, on any memory and list: the other one with the same numbers goes with it. There is a layout where they are usable. */
+static void judge_keeper(const struct layout *layout, enum call call, const uint32_t numbers[MOST_NUMBERS], deskrook_reply reply) {
+    const char *name = about[KEEPER_AT].name;
+    deskrook_reply other = make_call(call == READ_AT ? KEEPER_AT : READ_AT, numbers), keeper = call == READ_AT ? other : reply;
+    if (other.result != reply.result)
+        fail(name, "refused or none, and the read at is not, or the other way about");
+    if (keeper.first >= 65536)
+        fail(name, "a keeper of more than 2 bytes");
+    if (!by_calls_alone || layout == NULL || keeper.result != DESKROOK_OK)
+        return;
+    if (keeper.first != keeper_of_value(layout, memory.first, numbers[0], numbers[1], numbers[2]))
+        fail(name, "another keeper than the one who set the value");
+    keepers++;
+    keepers_known += keeper.first != 0;
+}
+
+/* The entry of an open transaction, by the words of a memory. */
+static size_t open_entry(const char *name, const struct layout *l, const uint8_t *mem, uint32_t transaction) {
+    for (size_t entry = 0; entry < l->base[OPENS + 1] - l->base[OPENS]; entry++)
+        if (word_at(mem, l->base[OPENS] + entry) == transaction)
+            return entry;
+    fail(name, "the transaction is not among the open ones");
+    return 0;
+}
+
+/* After an accepted call on a store that was there before it. Begin writes the keeper of the transaction's entry, and commit and abort write 0 there; a row, a setting and a delete
+ * get what is there, an original what the row has. No other word of keepers changes. */
+static void judge_keeper_words(enum call call, const struct layout *l, const uint32_t numbers[MOST_NUMBERS], deskrook_reply reply) {
+    const char *name = about[call].name;
+    const uint32_t *base = l->base;
+    struct {
+        size_t at;
+        uint32_t word;
+    } due[2] = {{0, 0}, {0, 0}}; /* word 0 is the header's, and none of keepers */
+    if (call == BEGIN || call == BEGIN_AS) {
+        due[0].at = base[OPEN_KEEPER] + open_entry(name, l, memory.first, reply.first);
+        due[0].word = call == BEGIN ? 0 : (uint16_t)numbers[0];
+    } else if (call >= INSERT && call <= ABORT) {
+        size_t own = base[OPEN_KEEPER] + open_entry(name, l, memory.before, numbers[0]);
+        due[0].word = word_at(memory.before, own);
+        if (call == COMMIT || call == ABORT) {
+            due[0].at = own;
+            due[0].word = 0;
+        } else if (call == INSERT) {
+            due[0].at = base[ROW_KEEPER] + (size_t)reply.first;
+        } else {
+            uint32_t range = numbers[1] / (l->rows / l->ranges);
+            due[0].at = base[TAIL_KEEPER] + (size_t)range * l->capacity + reply.first - 1;
+            if (word_at(memory.first, base[USED] + range) == word_at(memory.before, base[USED] + range) + 2) {
+                due[1].at = due[0].at - 1;
+                due[1].word = word_at(memory.before, base[ROW_KEEPER] + numbers[1]);
+            }
+        }
+    }
+    for (size_t at = base[ROW_KEEPER]; at < base[REGIONS]; at++) {
+        uint32_t word = at == due[0].at ? due[0].word : at == due[1].at ? due[1].word : word_at(memory.before, at);
+        if (word_at(memory.first, at) != word)
+            fail(name, "a word of keepers is another than is due");
+    }
+}
+
+/* After an accepted begin: the number is the last given, and who has it is noted. */
+static void note_begun(enum call call, const uint32_t numbers[MOST_NUMBERS], deskrook_reply reply) {
+    if (reply.first != word_at(memory.first, TRANSACTIONS_GIVEN))
+        fail(about[call].name, "another number than the last given");
+    if (by_calls_alone)
+        note_keeper(reply.first, call == BEGIN ? 0 : (uint16_t)numbers[0]);
+}
+
 /* Makes a call with these numbers, and with values and stamps as they are lent, and judges it. */
 static deskrook_reply judged_call(enum call call, const uint32_t numbers[MOST_NUMBERS]) {
     const char *name = about[call].name;
@@ -577,10 +662,16 @@ static deskrook_reply judged_call(enum call call, const uint32_t numbers[MOST_NU
         if (fact == NULL)
             judge_crossings(&layout, numbers, reply);
     }
+    if (call == READ_AT || call == KEEPER_AT)
+        judge_keeper(fact == NULL ? &layout : NULL, call, numbers, reply);
     if (ok && call != BYTES_NEEDED) {
         judge_accepted(call);
         if (call == MERGE)
             judge_merge(&layout, numbers);
+        if (call != MAKE)
+            judge_keeper_words(call, &layout, numbers, reply);
+        if (call == BEGIN || call == BEGIN_AS)
+            note_begun(call, numbers, reply);
         judge_scans(call, numbers, reply);
     } else if (changed(&memory) || changed(&list)) {
         fail(name, "a byte changed, though nothing was to be done");
@@ -626,11 +717,12 @@ static void call_from_input(enum call call, struct input *in) {
     judged_call(call, numbers);
 }
 
-/* A transaction of its own sets a column of a row, or inserts one where the row is not given, now and then sets it again, and commits: single calls seldom come to that. */
+/* A transaction of its own sets a column of a row, or inserts one where the row is not given, now and then sets it again, and commits: single calls seldom come to that. Its
+ * keeper is unknown, or one of a few. */
 static void commit_setting(struct input *in) {
-    uint32_t row = number(in, 'r'), mask = UINT32_C(1) << number(in, 'c') % 16, stamp = number(in, 'p');
+    uint32_t row = number(in, 'r'), mask = UINT32_C(1) << number(in, 'c') % 16, stamp = number(in, 'p'), keeper = number(in, 'w');
     int again = take(in, 1) % 4 == 3;
-    deskrook_reply begun = judged_call(BEGIN, (const uint32_t[MOST_NUMBERS]){0});
+    deskrook_reply begun = judged_call(keeper == 0 ? BEGIN : BEGIN_AS, (const uint32_t[MOST_NUMBERS]){keeper});
     if (begun.result != DESKROOK_OK)
         return;
     lend_values(in);
@@ -647,7 +739,13 @@ static void commit_setting(struct input *in) {
         judged_call(ABORT, (const uint32_t[MOST_NUMBERS]){begun.first});
 }
 
-/* A word of memory or list becomes any number, another word of it, a number beside the one that is there, or the greatest transaction or scan number. */
+static void put_word(struct lent *lent, size_t at, uint32_t word) {
+    for (int i = 0; i < 4; i++)
+        lent->first[4 * at + i] = (uint8_t)(word >> (8 * i));
+}
+
+/* A word of memory or list becomes any number, another word of it, a number beside the one that is there, its low half, which makes form 1 of the header's first, or the greatest
+ * transaction or scan number. */
 static void damage(struct lent *lent, struct input *in) {
     size_t words = lent->length / 4;
     if (words == 0)
@@ -656,16 +754,29 @@ static void damage(struct lent *lent, struct input *in) {
     uint32_t first = take(in, 1);
     size_t at = (first < 0x40 ? first % HEADER_WORDS : take(in, 2)) % words;
     uint32_t old = word_at(lent->first, at), way = take(in, 1), new;
-    switch (way % 5) {
+    switch (way % 6) {
     case 0: new = any(in); break;
     case 1: new = word_at(lent->first, take(in, 2) % words); break;
     case 2: new = old + 1; break;
     case 3: new = old - 1; break;
+    case 4: new = old % HALF; break;
     default: new = 65535; break;
     }
-    for (int i = 0; i < 4; i++)
-        lent->first[4 * at + i] = (uint8_t)(new >> (8 * i));
+    put_word(lent, at, new);
 }
+
+/* All words of keepers become other numbers, by which no fact fails. */
+static void damage_keepers(struct input *in) {
+    struct layout layout;
+    uint32_t first = any(in);
+    if (failing(&layout) != NULL)
+        return;
+    for (uint32_t at = layout.base[ROW_KEEPER]; at < layout.base[REGIONS]; at++)
+        put_word(&memory, at, first * (2 * at + 1));
+}
+
+/* What a step is: 0 a setting, then each call, then again those that make a history, begin to abort, then the damages. */
+enum { AGAIN = CALLS + 1, DAMAGES = AGAIN + ABORT + 1, DAMAGE_MEMORY = DAMAGES, DAMAGE_LIST, DAMAGE_KEEPERS, OTHER_LENGTH, OTHER_PLACES, STEPS };
 
 enum { AT_END = 0x01, LIST_AT_END = 0x02, RAW = 0x0C, ANY_LENGTH = 0x30, ANY_PLACES = 0xC0, MEASURED = 0x03, MOST_STEPS = 400 };
 
@@ -673,6 +784,7 @@ enum { AT_END = 0x01, LIST_AT_END = 0x02, RAW = 0x0C, ANY_LENGTH = 0x30, ANY_PLA
 static void fill_rows(void) {
     const deskrook_scan_entry *s = (const deskrook_scan_entry *)(const void *)list.first;
     uint32_t transaction = deskrook_begin(memory.first, memory.length, s, entries()).first;
+    note_keeper(transaction, 0);
     while (deskrook_insert(memory.first, memory.length, s, entries(), transaction, (const int32_t *)(const void *)values.first, 0).result == DESKROOK_OK) {
     }
     deskrook_commit(memory.first, memory.length, s, entries(), transaction, 1);
@@ -708,6 +820,7 @@ static void begin_input(struct input *in) {
     memcpy(memory.first, in->data, own);
     in->data += own;
     in->left -= own;
+    measures[0] += HALF * (FORM - 1);
     for (size_t i = 0; !all_of(flags, MEASURED) && i < 16 && i < bytes; i++)
         memory.first[i] = (uint8_t)(measures[i / 4] >> (8 * (i % 4)));
 }
@@ -734,13 +847,13 @@ int LLVMFuzzerTestOneInput(const uint8_t *data, size_t size) {
             undo = -1;
         }
         /* A zero byte is a setting: libFuzzer likes runs of them, and begin is soon refused. */
-        uint32_t what = take(&in, 1) % 32;
+        uint32_t what = take(&in, 1) % STEPS;
         if (what == 0) {
             commit_setting(&in);
-        } else if (what <= CALLS) {
+        } else if (what < AGAIN) {
             call_from_input((enum call)(what - 1), &in);
-        } else if (what < 28) { /* again the calls that make a history, begin to abort */
-            call_from_input((enum call)((what - CALLS - 1) % 6), &in);
+        } else if (what < DAMAGES) {
+            call_from_input((enum call)(what - AGAIN), &in);
         } else {
             uint32_t steps = take(&in, 1) % 32;
             if (undo < step && steps > 0) {
@@ -750,11 +863,13 @@ int LLVMFuzzerTestOneInput(const uint8_t *data, size_t size) {
                 undo = step + 1 + (int)(steps % 8);
             }
             by_calls_alone = 0;
-            if (what == 28)
+            if (what == DAMAGE_MEMORY)
                 damage(&memory, &in);
-            else if (what == 29)
+            else if (what == DAMAGE_LIST)
                 damage(&list, &in);
-            else if (what == 30)
+            else if (what == DAMAGE_KEEPERS)
+                damage_keepers(&in);
+            else if (what == OTHER_LENGTH)
                 lend(&memory, any(&in) % (memory.size + 1), step & 1);
             else
                 lend(&list, take(&in, 1) % (MOST_PLACES + 1) * sizeof(deskrook_scan_entry), step & 1);

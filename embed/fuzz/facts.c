@@ -1,4 +1,4 @@
-/* Written from document 01's paragraph "The stored facts are these", Items 2 and 3 of document 02 and the layout (docs/DECISIONS.md, part 4) alone. */
+/* Written from document 01's paragraph "The stored facts are these", Items 2, 3 and 6 of document 02 and the layout (docs/DECISIONS.md, part 4) alone. */
 #include "facts.h"
 
 enum { ROWS = 64, OPEN_PLACES = 8, NUMBERS = 65535, PAGE_FREE = 0, PAGE_CURRENT = 1 };
@@ -21,6 +21,7 @@ int layout_of(struct layout *layout, uint32_t columns, uint32_t ranges, uint32_t
         [PAGE_STATE] = pages, [PAGE_CHUNK] = pages, [PAGE_MADE] = pages, [PAGE_REPLACED] = pages, [PAGE_LINEAGE] = pages, [PAGE_NEWEST] = pages,
         [CELLS] = pages * ROWS,
         [ROW_ORDINAL] = rows, [TAIL_ORDINAL] = slots,
+        [ROW_KEEPER] = rows, [TAIL_KEEPER] = slots, [OPEN_KEEPER] = OPEN_PLACES,
     };
     *layout = (struct layout){columns, ranges, capacity, rows, slots, chunks, pages, {0}};
     for (int i = 0; i < REGIONS; i++)
@@ -165,7 +166,11 @@ static const char *failing_word(const struct layout *l, const uint8_t *mem) {
 const char *failing_fact(struct layout *l, const uint8_t *mem, size_t mem_length, const deskrook_scan_entry *scans, size_t scans_length) {
     if (scans_length < DESKROOK_SCANS)
         return "the scan list has at least 5 entries";
-    if (mem_length < HEADER_WORDS * 4 || !layout_of(l, word_at(mem, COLUMNS), word_at(mem, RANGES), word_at(mem, CAPACITY), word_at(mem, SPARES)))
+    if (mem_length < HEADER_WORDS * 4)
+        return "the memory is as long as the header";
+    if (word_at(mem, COLUMNS_AND_FORM) / HALF != FORM - 1)
+        return "the memory is in stored form 2";
+    if (!layout_of(l, word_at(mem, COLUMNS_AND_FORM) % HALF, word_at(mem, RANGES), word_at(mem, CAPACITY), word_at(mem, SPARES)))
         return "the measures lie within their limits";
     if (mem_length < layout_need(l))
         return "the memory is as long as the shape needs";

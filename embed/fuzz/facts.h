@@ -33,11 +33,17 @@ enum region {
     CHANGES,
     ROW_ORDINAL,
     TAIL_ORDINAL,
+    ROW_KEEPER,
+    TAIL_KEEPER,
+    OPEN_KEEPER,
     REGIONS
 };
 
-/* The words of the header. */
-enum { COLUMNS, RANGES, CAPACITY, SPARES, ROWS_GIVEN, TRANSACTIONS_GIVEN, SCANS_GIVEN, LAST_STAMP, MERGES_MADE, COMMITS_MADE, HEADER_WORDS = 16 };
+/* The words of the header. The first has the columns in its low half and the stored form less 1 in the high one, so that form 1 has the columns alone. */
+enum { COLUMNS_AND_FORM, RANGES, CAPACITY, SPARES, ROWS_GIVEN, TRANSACTIONS_GIVEN, SCANS_GIVEN, LAST_STAMP, MERGES_MADE, COMMITS_MADE, HEADER_WORDS = 16 };
+
+/* "for now every call works on form 2 alone" (Item 6 of document 02). What stands in the high half of a word counts so many times. */
+enum { FORM = 2, HALF = 65536 };
 
 struct layout {
     uint32_t columns, ranges, capacity, rows, slots, chunks, pages;

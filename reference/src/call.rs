@@ -1,4 +1,4 @@
-//! A store's shape, the eighteen calls on a store, and their answers.
+//! A store's shape, the twenty calls on a store, and their answers.
 
 /// Rows in one range: "Ranges 1 to 16, each of 64 rows."
 pub const RANGE_ROWS: u32 = 64;
@@ -107,6 +107,17 @@ pub enum Call {
         to: u32,
         places: u32,
     },
+    /// Document 02, Item 6: "Command 13 begins a transaction with a keeper (2 bytes)".
+    BeginAs {
+        keeper: u16,
+    },
+    /// Document 02, Item 6: "Command 14: stamp, row, column; it answers the keeper of the value that 08
+    /// would show, or none".
+    KeeperAt {
+        stamp: u32,
+        row: u32,
+        column: u32,
+    },
 }
 
 /// What a call answers.
@@ -116,7 +127,8 @@ pub enum Answer {
     Refused(u8),
     /// Accepted, no field: commit, abort, close, merge.
     Done,
-    /// A transaction, row, tail record or scan number, or the count of pages that a release freed.
+    /// A transaction, row, tail record or scan number, the count of pages that a release freed, or a
+    /// keeper.
     Number(u32),
     /// The value read, and the stamp of the commit that set that column in that row, 0 where the
     /// value is the reader's own and pending: latest, read at, own read, scan read. A commit can

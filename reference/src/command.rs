@@ -7,7 +7,7 @@ use crate::call::Call;
 use crate::program::LENT_STAMPS;
 
 /// The command bytes.
-pub const COMMANDS: RangeInclusive<u8> = 0x01..=0x12;
+pub const COMMANDS: RangeInclusive<u8> = 0x01..=0x14;
 
 /// One operand of a command.
 #[derive(Clone, Copy, Debug, PartialEq, Eq)]
@@ -24,6 +24,7 @@ pub enum Field {
     Mark,
     From,
     To,
+    Keeper,
 }
 
 impl Field {
@@ -31,7 +32,8 @@ impl Field {
     pub fn width(self) -> usize {
         match self {
             Field::Column | Field::Range => 1,
-            Field::Transaction | Field::Row | Field::Mask | Field::Scan | Field::Through => 2,
+            Field::Transaction | Field::Row | Field::Mask | Field::Scan => 2,
+            Field::Through | Field::Keeper => 2,
             Field::Value | Field::Stamp | Field::Mark | Field::From | Field::To => 4,
         }
     }
@@ -50,6 +52,7 @@ impl Field {
             Field::Mark => "mark",
             Field::From => "from",
             Field::To => "to",
+            Field::Keeper => "keeper",
         }
     }
 
@@ -80,7 +83,7 @@ pub fn operands(byte: u8, columns: usize) -> Option<Vec<Field>> {
         0x05 => (&[Transaction, Stamp], false),
         0x06 => (&[Transaction], false),
         0x07 => (&[Row, Column], false),
-        0x08 => (&[Stamp, Row, Column], false),
+        0x08 | 0x14 => (&[Stamp, Row, Column], false),
         0x09 => (&[Transaction, Row, Column], false),
         0x0A => (&[Stamp], false),
         0x0B => (&[Scan, Row, Column], false),
@@ -90,6 +93,7 @@ pub fn operands(byte: u8, columns: usize) -> Option<Vec<Field>> {
         0x10 => (&[Column, Row], false),
         0x11 => (&[Range, Column], false),
         0x12 => (&[Row, Column, Mark, From, To], false),
+        0x13 => (&[Keeper], false),
         _ => return None,
     };
     let mut fields = fixed.to_vec();
@@ -151,6 +155,8 @@ pub fn call(byte: u8, numbers: &[i64]) -> Call {
             to: number(4),
             places: LENT_STAMPS,
         },
+        0x13 => Call::BeginAs { keeper: number(0) as u16 },
+        0x14 => Call::KeeperAt { stamp: number(0), row: number(1), column: number(2) },
         _ => unreachable!("command {byte:02X} has no call"),
     }
 }
@@ -190,6 +196,8 @@ pub fn parts(call: &Call) -> (u8, Vec<i64>) {
             let [row, column, from, to] = [*row, *column, *from, *to].map(i64::from);
             return (0x12, vec![row, column, i64::from(*mark), from, to]);
         }
+        Call::BeginAs { keeper } => (0x13, &[u32::from(*keeper)], &[]),
+        Call::KeeperAt { stamp, row, column } => (0x14, &[*stamp, *row, *column], &[]),
     };
     let fixed = fixed.iter().map(|number| i64::from(*number));
     let values = values.iter().map(|value| i64::from(*value));

@@ -161,8 +161,10 @@ fn transactions_run_out() -> Vec<u8> {
     }
     let transaction = NUMBERS as u32;
     calls.push(Call::Begin);
+    calls.push(Call::BeginAs { keeper: 1 });
     calls.push(Call::Commit { transaction, stamp: 1 });
     calls.push(Call::Begin);
+    calls.push(Call::BeginAs { keeper: 1 });
     calls.push(Call::Abort { transaction });
     calls.push(Call::OpenScan { stamp: 1 });
     bytes_of(&SMALLEST, &calls)

@@ -2,10 +2,11 @@
 //! accepted call does to them, and the reads, which give the stamps of document 02's Item 1 too. At
 //! most five scans are open, as Item 2 has it. Several commits may have one stamp, as Item 3 has it:
 //! an ordinal tells them apart, and a scan knows how many were made before it. The crossings of a level
-//! are Item 4's. The tests of each call are in `refusals`; `situations`, `minutes` and `crossings` look
-//! at calls for the survey.
+//! are Item 4's, the keepers of transactions Item 6's. The tests of each call are in `refusals`;
+//! `situations`, `minutes`, `crossings` and `keepers` look at calls for the survey.
 
 mod crossings;
+mod keepers;
 mod minutes;
 mod refusals;
 mod situations;
@@ -16,6 +17,7 @@ use std::iter;
 use crate::call::{Answer, Call, Shape, RANGE_ROWS};
 
 pub use self::crossings::InCrossings;
+pub use self::keepers::InKeepers;
 pub use self::minutes::InMinute;
 pub use self::situations::Situation;
 
@@ -26,6 +28,8 @@ pub const OPEN_TRANSACTIONS: usize = 8;
 pub const OPEN_SCANS: usize = 5;
 /// "Transaction numbers run 1 to 65,535, scan numbers likewise in a series of their own."
 pub const NUMBERS: usize = 65_535;
+/// Document 02, Item 6: "01 begins with keeper 0, unknown."
+pub const UNKNOWN_KEEPER: u16 = 0;
 
 /// "rows with inserter and values"
 #[derive(Clone, Debug, PartialEq)]
@@ -51,7 +55,15 @@ enum Holds {
     Delete,
 }
 
-/// "transactions, open, aborted or committed with a stamp"
+/// "transactions, open, aborted or committed with a stamp"; document 02, Item 6: begun "with a
+/// keeper". An inserted value or a setting has its transaction's, so no other list keeps any; an original
+/// is an inserted value.
+#[derive(Clone, Copy, Debug, PartialEq)]
+struct Transaction {
+    keeper: u16,
+    state: State,
+}
+
 #[derive(Clone, Copy, Debug, PartialEq)]
 enum State {
     Open,
@@ -92,7 +104,7 @@ pub struct History {
     shape: Shape,
     rows: Vec<Row>,
     tails: Vec<Vec<Record>>,
-    transactions: Vec<State>,
+    transactions: Vec<Transaction>,
     scans: Vec<Scan>,
     merges: Vec<Merge>,
     /// The stamps of the commits made, in order: that of ordinal n is element n - 1.
@@ -230,12 +242,8 @@ impl History {
     fn perform(&mut self, call: &Call) -> Answer {
         match *call {
             // "begin, insert and open scan add one and answer its number"
-            Call::Begin => {
-                self.transactions.push(State::Open);
-                let number = self.transactions.len() as u32;
-                self.open_transactions.push(number);
-                Answer::Number(number)
-            }
+            Call::Begin => self.begin(UNKNOWN_KEEPER),
+            Call::BeginAs { keeper } => self.begin(keeper),
             Call::Insert { transaction, ref values } => {
                 // "An insert gives the next row number."
                 let number = self.rows_given();
@@ -306,6 +314,9 @@ impl History {
             Call::ScanRead { scan, row, column } => {
                 self.read(self.version_in(self.view_of_scan(scan), row, column))
             }
+            Call::KeeperAt { stamp, row, column } => {
+                self.keeper(self.version_in(self.view_at(stamp), row, column))
+            }
             Call::Sum { scan, column } => self.sum(scan, column),
             Call::PageCell { column, row } => Answer::Value(self.page_cell(column, row)),
             // "Lineage is the n of the last merge there, else 0, and the records used."
@@ -319,8 +330,15 @@ impl History {
         }
     }
 
+    fn begin(&mut self, keeper: u16) -> Answer {
+        self.transactions.push(Transaction { keeper, state: State::Open });
+        let number = self.transactions.len() as u32;
+        self.open_transactions.push(number);
+        Answer::Number(number)
+    }
+
     fn end_transaction(&mut self, transaction: u32, state: State) -> Answer {
-        self.transactions[transaction as usize - 1] = state;
+        self.transactions[transaction as usize - 1].state = state;
         self.open_transactions.retain(|open| *open != transaction);
         Answer::Done
     }
@@ -352,7 +370,11 @@ impl History {
     // Reading the lists.
 
     fn state(&self, transaction: u32) -> State {
-        self.transactions[transaction as usize - 1]
+        self.transactions[transaction as usize - 1].state
+    }
+
+    fn keeper_of(&self, transaction: u32) -> u16 {
+        self.transactions[transaction as usize - 1].keeper
     }
 
     /// The tail records of a row, in order.
@@ -443,6 +465,13 @@ impl History {
             State::Aborted => unreachable!("no reader counts an aborted change"),
         };
         Answer::Version { value, stamp }
+    }
+
+    /// Document 02, Item 6: "it answers the keeper of the value that 08 would show, or none"; "original
+    /// values carry the inserter", whose keeper the inserted value has.
+    fn keeper(&self, version: Option<Version>) -> Answer {
+        let Some(Version { setter, .. }) = version else { return Answer::None };
+        Answer::Number(self.keeper_of(setter).into())
     }
 
     /// "Its sum gives the count of rows seen and the 64-bit signed sum of one column": "a sum

@@ -1,5 +1,5 @@
 //! The input and output of gatebook on top of the plain history ("Commands" in document 01, with the
-//! command of document 02's Item 4).
+//! commands of document 02's Items 4 and 6).
 
 use std::io::{self, ErrorKind, Read, Write};
 

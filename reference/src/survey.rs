@@ -1,7 +1,7 @@
 //! Counts what the generated streams meet: how often each answer came, for each command, how often
 //! each situation of a single-cell read in which a wrong stamp shows, how many scans were open at the
 //! calls that scans bear on, which stamps the commits had, and how often each situation in which the
-//! commits of one minute show, or in which a wrong list of crossings does.
+//! commits of one minute show, or in which a wrong list of crossings or a wrong keeper does.
 
 use std::collections::{BTreeMap, BTreeSet};
 use std::fmt;
@@ -9,7 +9,7 @@ use std::fmt;
 use crate::call::Call;
 use crate::command;
 use crate::generate;
-use crate::history::{History, InCrossings, InMinute, Situation, OPEN_SCANS};
+use crate::history::{History, InCrossings, InKeepers, InMinute, Situation, OPEN_SCANS};
 use crate::program;
 use crate::text::NAMES;
 
@@ -42,6 +42,9 @@ pub struct Survey {
     /// Calls for crossings by their situation, and the streams that have one.
     in_crossings: BTreeMap<InCrossings, u64>,
     in_crossings_streams: BTreeMap<InCrossings, u64>,
+    /// Calls for a keeper by their situation, and the streams that have one.
+    in_keepers: BTreeMap<InKeepers, u64>,
+    in_keepers_streams: BTreeMap<InKeepers, u64>,
 }
 
 /// The stamp of a commit by an open transaction.
@@ -118,6 +121,7 @@ impl Survey {
         let mut met_commits = BTreeSet::new();
         let mut met_in_minute = BTreeSet::new();
         let mut met_in_crossings = BTreeSet::new();
+        let mut met_in_keepers = BTreeSet::new();
         let taken = "memory takes every line";
         if let Some(mut history) = program::start(&mut rest, &mut output).expect(taken) {
             let columns = history.shape().columns as usize;
@@ -134,6 +138,10 @@ impl Survey {
                     for situation in history.in_crossings(&call) {
                         *self.in_crossings.entry(situation).or_default() += 1;
                         met_in_crossings.insert(situation);
+                    }
+                    for situation in history.in_keepers(&call) {
+                        *self.in_keepers.entry(situation).or_default() += 1;
+                        met_in_keepers.insert(situation);
                     }
                     if !long {
                         if let Some(stamp) = CommitStamp::of(&history, &call) {
@@ -165,6 +173,9 @@ impl Survey {
         }
         for situation in met_in_crossings {
             *self.in_crossings_streams.entry(situation).or_default() += 1;
+        }
+        for situation in met_in_keepers {
+            *self.in_keepers_streams.entry(situation).or_default() += 1;
         }
         self.add(&String::from_utf8(output).expect("the lines are ASCII"), long);
     }
@@ -228,6 +239,12 @@ impl Survey {
     pub fn met_in_crossings(&self, situation: InCrossings) -> (u64, u64) {
         let of = |counts: &BTreeMap<InCrossings, u64>| counts.get(&situation).copied().unwrap_or(0);
         (of(&self.in_crossings), of(&self.in_crossings_streams))
+    }
+
+    /// How many calls for a keeper were in a situation, and how many streams have one.
+    pub fn met_in_keepers(&self, situation: InKeepers) -> (u64, u64) {
+        let of = |counts: &BTreeMap<InKeepers, u64>| counts.get(&situation).copied().unwrap_or(0);
+        (of(&self.in_keepers), of(&self.in_keepers_streams))
     }
 
     /// Calls, shape lines left out, and how many of them were accepted; long streams left out.
@@ -315,6 +332,11 @@ impl fmt::Display for Survey {
         writeln!(out, "calls for crossings                 calls  streams")?;
         for situation in InCrossings::ALL {
             let (calls, streams) = self.met_in_crossings(situation);
+            writeln!(out, "    {:29}{calls:8}{streams:9}", situation.name())?;
+        }
+        writeln!(out, "calls for a keeper                  calls  streams")?;
+        for situation in InKeepers::ALL {
+            let (calls, streams) = self.met_in_keepers(situation);
             writeln!(out, "    {:29}{calls:8}{streams:9}", situation.name())?;
         }
         Ok(())

@@ -29,14 +29,16 @@ release
 page-cell COLUMN ROW
 lineage RANGE COLUMN
 crossings ROW COLUMN MARK FROM TO
+begin-as KEEPER
+keeper-at STAMP ROW COLUMN
 byte HH..                            raw bytes, two hexadecimal digits each
 
 T is a transaction number. Numbers are decimal; MASK may also be written 0b0101 or 0x5, and the
 word mask may be left out. # starts a comment; blank lines are ignored.
 ";
 
-/// The names of the commands 01 to 12 (hexadecimal), in order.
-pub const NAMES: [&str; 18] = [
+/// The names of the commands 01 to 14 (hexadecimal), in order.
+pub const NAMES: [&str; 20] = [
     "begin",
     "insert",
     "update",
@@ -55,6 +57,8 @@ pub const NAMES: [&str; 18] = [
     "page-cell",
     "lineage",
     "crossings",
+    "begin-as",
+    "keeper-at",
 ];
 
 /// Raw bytes on one decoded line.

@@ -8,12 +8,14 @@
 //!        | "own-read" T row column | "open-scan" stamp | "scan-read" scan row column
 //!        | "sum" scan column | "close" scan | "merge" range column through | "release"
 //!        | "page-cell" column row | "lineage" range column
-//!        | "crossings" row column mark from to places
+//!        | "crossings" row column mark from to places | "begin-as" keeper
+//!        | "keeper-at" stamp row column
 //! answer = "refused" number | "done" | "number" number | "version" value stamp | "none"
 //!        | "value" value | "sum" count sum | "lineage" through used | "crossings" count stamp*
 //! ```
 //!
-//! "version" and "none" answer the four single-cell reads, "value" a page cell.
+//! "version" and "none" answer the four single-cell reads, "number" and "none" a call for a keeper,
+//! "value" a page cell.
 //! All numbers are decimal; values, sums and marks may have a minus sign. `value*` is one value for each
 //! column, `stamp*` as many stamps as the count says. `places` is the length of the lent slice that these
 //! go to. Every other number fits the width that the command bytes give it.

@@ -76,9 +76,41 @@ fn every_command_cut_at_every_place_is_20_and_does_nothing() {
 fn operand_widths_are_those_of_the_documents() {
     let width = |byte| command::width(&command::operands(byte, 2).unwrap());
     let widths: Vec<usize> = command::COMMANDS.map(width).collect();
-    // Document 02, Item 4: "row, column (1 byte), mark (4, signed), from and to (stamps)".
-    assert_eq!(widths, [0, 10, 14, 4, 6, 2, 3, 7, 5, 4, 5, 3, 2, 4, 0, 3, 2, 15]);
-    assert_eq!(command::COMMANDS, 0x01..=0x12);
+    // Document 02, Item 4: "row, column (1 byte), mark (4, signed), from and to (stamps)"; Item 6: "a
+    // keeper (2 bytes)", and "stamp, row, column", as 08 has them.
+    assert_eq!(widths, [0, 10, 14, 4, 6, 2, 3, 7, 5, 4, 5, 3, 2, 4, 0, 3, 2, 15, 2, 7]);
+    assert_eq!(command::COMMANDS, 0x01..=0x14);
+}
+
+#[test]
+fn a_keeper_is_two_bytes_little_endian_and_printed_alone() {
+    // Item 6: 14 shows no stamp; keeper 0, which 01 begins with, is printed as a number.
+    let mut input = vec![1, 1, 4, 0, 0, 0];
+    input.extend([0x13, 0x02, 0x01, 0x02, 1, 0, 5, 0, 0, 0, 0x05, 1, 0, 3, 0, 0, 0]);
+    input.extend([0x01, 0x02, 2, 0, 6, 0, 0, 0, 0x05, 2, 0, 4, 0, 0, 0]);
+    input.extend([0x14, 4, 0, 0, 0, 0, 0, 0, 0x14, 4, 0, 0, 0, 1, 0, 0]);
+    input.extend([0x14, 3, 0, 0, 0, 1, 0, 0, 0x14, 5, 0, 0, 0, 0, 0, 0, 0x14, 4]);
+    let shape_and_writes =
+        ["shape ok", "13 ok 1", "02 ok 0", "05 ok", "01 ok 2", "02 ok 1", "05 ok"];
+    let keepers = ["14 ok 258", "14 ok 0", "14 ok none", "14 no 13", "14 no 20"];
+    assert_eq!(output(&input), [&shape_and_writes[..], &keepers].concat());
+}
+
+#[test]
+fn the_program_goes_on_after_every_refusal_of_the_commands_with_keepers() {
+    let script = format!("shape 1 1 1 0\n{}", "begin-as 5\n".repeat(9));
+    let after = lines(&(script + "keeper-at 1 0 0\nkeeper-at 0 0 0\ncommit 1 0\nrelease"));
+    assert_eq!(after[8..], ["13 ok 8", "13 no 14", "14 no 13", "14 no 5", "05 ok", "0F ok 0"]);
+}
+
+#[test]
+fn streams_end_inside_the_commands_with_keepers() {
+    let last = |seed: u64| output(&generate::stream(seed)).pop().unwrap();
+    let lines: Vec<String> = (0..960).filter(|seed| !generate::is_long(*seed)).map(last).collect();
+    for cut in ["13 no 20", "14 no 20"] {
+        let count = lines.iter().filter(|line| *line == cut).count();
+        assert!(count >= 2, "{cut}: {count}");
+    }
 }
 
 #[test]
@@ -105,8 +137,10 @@ fn input_that_ends_between_commands_adds_no_line() {
 fn the_transaction_numbers_run_out() {
     // B1: 15 before 14; a refused begin uses no number.
     let lines = output(&generate::stream(15));
-    let end = &lines[lines.len() - 6..];
-    assert_eq!(end, ["01 ok 65535", "01 no 15", "05 ok", "01 no 15", "06 no 3", "0A ok 1"]);
+    let end = &lines[lines.len() - 8..];
+    let refused = ["01 ok 65535", "01 no 15", "13 no 15"];
+    let after = ["05 ok", "01 no 15", "13 no 15", "06 no 3", "0A ok 1"];
+    assert_eq!(end, [&refused[..], &after].concat());
 }
 
 #[test]

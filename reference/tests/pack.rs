@@ -8,7 +8,7 @@ use std::path::Path;
 use std::sync::OnceLock;
 
 use common::{output, IN_MINUTE, SITUATIONS};
-use reference::history::InCrossings;
+use reference::history::{InCrossings, InKeepers};
 use reference::pack::{self, Digest, Kind, Record};
 use reference::survey::Survey;
 use reference::{command, generate};
@@ -63,8 +63,8 @@ fn a_pack_gives_what_its_streams_give_one_by_one() {
 }
 
 /// The refusals of document 01 ("Tests run in this order") that a stream can reach: all but 2; and of
-/// document 02's Item 4.
-const REFUSALS: [(u8, &[u8]); 18] = [
+/// document 02's Items 4 and 6.
+const REFUSALS: [(u8, &[u8]); 20] = [
     (0x01, &[14, 15]),
     (0x02, &[3, 11]),
     (0x03, &[3, 5, 8, 9, 10, 12]),
@@ -83,6 +83,8 @@ const REFUSALS: [(u8, &[u8]); 18] = [
     (0x10, &[5, 6]),
     (0x11, &[6, 7]),
     (0x12, &[5, 6, 13, 21]),
+    (0x13, &[14, 15]),
+    (0x14, &[5, 6, 13]),
 ];
 
 #[test]
@@ -130,7 +132,9 @@ fn every_command_is_cut_at_every_place() {
 
 #[test]
 fn both_number_series_run_out() {
-    for given in ["01 ok 65535", "0A ok 65535", "01 no 15", "0A no 15", "01 no 14", "0A no 14"] {
+    let last = ["01 ok 65535", "13 ok 65535", "0A ok 65535"];
+    let refused = ["01 no 15", "13 no 15", "0A no 15", "01 no 14", "13 no 14", "0A no 14"];
+    for given in [&last[..], &refused].concat() {
         assert!(lines().iter().any(|line| line == given), "{given}");
     }
 }
@@ -171,6 +175,9 @@ fn streams_by_hand_meet_every_situation_by_every_command_that_can() {
     }
     for situation in InCrossings::ALL {
         assert!(survey.met_in_crossings(situation).0 > 0, "{situation:?}");
+    }
+    for situation in InKeepers::ALL {
+        assert!(survey.met_in_keepers(situation).0 > 0, "{situation:?}");
     }
 }
 

@@ -6,11 +6,11 @@ mod pages;
 #[path = "common/versions.rs"]
 mod versions;
 
-use std::collections::{BTreeMap, HashMap};
+use std::collections::{BTreeMap, BTreeSet, HashMap};
 
 use common::{IN_MINUTE, SITUATIONS};
 use pages::Pages;
-use reference::history::{InCrossings, InMinute, Situation, OPEN_SCANS};
+use reference::history::{InCrossings, InKeepers, InMinute, Situation, OPEN_SCANS};
 use reference::survey::{CommitStamp, Survey};
 use reference::{command, generate, trace, Answer, Call, History, Shape};
 use versions::Versions;
@@ -56,6 +56,99 @@ fn reads_agree_with_versions_kept_by_stamp() {
         }
     }
     assert!(compared > 10_000, "{compared}");
+}
+
+#[test]
+fn keepers_agree_with_versions_kept_by_stamp() {
+    // How many calls of the lists showed a keeper; how many lists left more than three different ones.
+    let (mut shown, mut several) = (0, 0);
+    for (shape, calls) in lists() {
+        let mut history = History::new(shape);
+        let mut versions = Versions::default();
+        for call in &calls {
+            let answer = history.call(call);
+            if answer.is_refused() {
+                continue;
+            }
+            let expected = versions.call(call, &answer);
+            if matches!(call, Call::KeeperAt { .. }) {
+                assert_eq!(Some(&answer), expected.as_ref(), "{call:?}");
+                shown += u32::from(answer != Answer::None);
+            }
+        }
+        // At the end, the keepers of every cell at a few stamps.
+        let last = history.last_stamp();
+        let mut found = BTreeSet::new();
+        for stamp in [0, last / 3, last / 2, last - last / 4, last.saturating_sub(1), last] {
+            for row in 0..history.rows_given() {
+                for column in 0..shape.columns {
+                    let answer = history.call(&Call::KeeperAt { stamp, row, column });
+                    assert_eq!(answer, versions.keeper(stamp, row, column));
+                    if let Answer::Number(keeper) = answer {
+                        found.insert(keeper);
+                    }
+                }
+            }
+        }
+        several += u32::from(found.len() > 3);
+    }
+    assert!(shown > 2_000 && several > 200, "{shown}, {several}");
+}
+
+/// Document 02, Item 6: "the keeper of the value that 08 would show, or none, refused as 08 is".
+#[test]
+fn a_keeper_is_shown_refused_or_none_as_a_read_at_the_same_stamp_is() {
+    let (mut shown, mut none) = (0, 0);
+    let mut refused = BTreeMap::new();
+    for (shape, calls) in lists() {
+        let mut history = History::new(shape);
+        for call in &calls {
+            let twin = match *call {
+                Call::ReadAt { stamp, row, column } => Call::KeeperAt { stamp, row, column },
+                Call::KeeperAt { stamp, row, column } => Call::ReadAt { stamp, row, column },
+                _ => {
+                    history.call(call);
+                    continue;
+                }
+            };
+            match (history.call(call), history.call(&twin)) {
+                (Answer::Version { .. }, Answer::Number(_))
+                | (Answer::Number(_), Answer::Version { .. }) => shown += 1,
+                (Answer::None, Answer::None) => none += 1,
+                (Answer::Refused(number), Answer::Refused(other)) if number == other => {
+                    *refused.entry(number).or_insert(0) += 1;
+                }
+                answers => panic!("{call:?}: {answers:?}"),
+            }
+        }
+    }
+    assert!(shown > 4_000 && none > 4_000, "{shown}, {none}");
+    assert!(refused.keys().eq(&[5, 6, 13]), "{refused:?}");
+    assert!(refused.values().all(|count| *count > 100), "{refused:?}");
+}
+
+/// Item 6: 13 begins as 01 does. Only calls for a keeper tell the two apart.
+#[test]
+fn without_keepers_no_answer_changes_but_the_keepers() {
+    let mut changed = 0;
+    for (shape, calls) in lists() {
+        let plain = |call: &Call| match call {
+            Call::BeginAs { .. } => Call::Begin,
+            call => call.clone(),
+        };
+        let unknown: Vec<Call> = calls.iter().map(plain).collect();
+        let both = answers(shape, &calls).into_iter().zip(answers(shape, &unknown));
+        for (call, (with, without)) in calls.iter().zip(both) {
+            match (call, &without) {
+                (Call::KeeperAt { .. }, Answer::Number(keeper)) => {
+                    assert!(*keeper == 0 && matches!(with, Answer::Number(_)), "{call:?}");
+                    changed += u32::from(with != without);
+                }
+                _ => assert_eq!(with, without, "{call:?}"),
+            }
+        }
+    }
+    assert!(changed > 1_500, "{changed}");
 }
 
 #[test]
@@ -352,6 +445,54 @@ fn crossings_of_minutes_before_the_last_commits_are_listed_the_same_ever_after()
     }
 }
 
+/// The same of keepers: what a call for one answers for a minute that is over, it answers ever after.
+#[test]
+fn keepers_of_minutes_before_the_last_commits_are_the_same_ever_after() {
+    // How often a later commit of a minute changed a cell's keeper; how many keepers were shown in the
+    // lists for a minute that was over; how many cells of such minutes have got another keeper since.
+    let (mut within, mut shown, mut since) = (0, 0, 0);
+    let at = |stamp: u32| move |row, column| Call::KeeperAt { stamp, row, column };
+    for (shape, calls) in lists() {
+        let mut history = History::new(shape);
+        let mut seen = BTreeMap::new();
+        for call in &calls {
+            let (last, rows) = (history.last_stamp(), history.rows_given());
+            let commit = matches!(call, Call::Commit { .. });
+            let before = if commit { picture(&mut history, rows, at(last)) } else { Vec::new() };
+            let answer = history.call(call);
+            if answer.is_refused() {
+                continue;
+            }
+            match *call {
+                Call::Commit { stamp, .. } => {
+                    let now = picture(&mut history, rows, at(last));
+                    if stamp == last {
+                        within += before.iter().zip(now).filter(|(old, new)| *old != new).count();
+                    } else {
+                        assert_eq!(before, now, "{call:?}");
+                        let cells = (0..).zip(before).map(|(place, answer)| {
+                            ((last, place / shape.columns, place % shape.columns), answer)
+                        });
+                        seen.extend(cells);
+                    }
+                }
+                Call::KeeperAt { stamp, row, column } if stamp < last => {
+                    let first = seen.entry((stamp, row, column)).or_insert(answer.clone());
+                    assert_eq!(*first, answer, "{call:?}");
+                    shown += u32::from(answer != Answer::None);
+                }
+                _ => {}
+            }
+        }
+        let last = history.last_stamp();
+        for ((stamp, row, column), answer) in seen {
+            assert_eq!(history.call(&at(stamp)(row, column)), answer);
+            since += u32::from(history.call(&at(last)(row, column)) != answer);
+        }
+    }
+    assert!(within > 8_000 && shown > 800 && since > 15_000, "{within}, {shown}, {since}");
+}
+
 #[test]
 fn refused_calls_and_reads_alter_no_list() {
     for (shape, calls) in lists().step_by(6) {
@@ -361,7 +502,7 @@ fn refused_calls_and_reads_alter_no_list() {
             let answer = history.call(call);
             assert_eq!(before.refusal(call).is_some(), answer.is_refused());
             let byte = command::parts(call).0;
-            let read = matches!(byte, 0x07..=0x09 | 0x0B | 0x0C | 0x10..=0x12);
+            let read = matches!(byte, 0x07..=0x09 | 0x0B | 0x0C | 0x10..=0x12 | 0x14);
             if read || answer.is_refused() {
                 assert_eq!(history, before, "{call:?}");
             }
@@ -395,6 +536,7 @@ fn situations_are_those_of_accepted_reads_and_fit_the_answers() {
             let pending = is(Situation::PendingSetting) || is(Situation::PendingInsert);
             let answer = history.call(call);
             match answer {
+                _ if matches!(call, Call::KeeperAt { .. }) => assert_eq!(found, [], "{call:?}"),
                 Answer::None => assert_eq!(found, [Situation::Absent], "{call:?}"),
                 Answer::Version { stamp, .. } => {
                     assert!(!is(Situation::Absent), "{call:?}");
@@ -544,6 +686,89 @@ fn streams_meet_every_situation_of_crossings() {
 }
 
 #[test]
+fn situations_of_keepers_are_those_of_the_call_and_fit_the_answers() {
+    let mut shown = 0;
+    for (shape, calls) in lists() {
+        let mut history = History::new(shape);
+        // Kept beside the history: the keeper of each transaction, and the inserter of each row.
+        let mut keepers = BTreeMap::new();
+        let mut inserters = Vec::new();
+        for call in &calls {
+            let found = history.in_keepers(call);
+            let is = |situation| found.contains(&situation);
+            let answer = history.call(call);
+            match (call, &answer) {
+                (Call::Begin, Answer::Number(transaction)) => {
+                    keepers.insert(*transaction, 0);
+                }
+                (Call::BeginAs { keeper }, Answer::Number(transaction)) => {
+                    keepers.insert(*transaction, u32::from(*keeper));
+                }
+                (Call::Insert { transaction, .. }, Answer::Number(_)) => {
+                    inserters.push(*transaction);
+                }
+                _ => {}
+            }
+            let Call::KeeperAt { row, column, .. } = *call else {
+                assert_eq!(found, [], "{call:?}");
+                continue;
+            };
+            let nothing = is(InKeepers::Nothing);
+            match answer {
+                Answer::None => assert!(nothing && found.len() <= 2, "{call:?}: {found:?}"),
+                Answer::Number(keeper) => {
+                    shown += 1;
+                    assert!(!nothing && !is(InKeepers::Ended), "{call:?}");
+                    let inserters = keepers[&inserters[row as usize]];
+                    assert_eq!(is(InKeepers::Inserter), inserters != keeper, "{call:?}");
+                    let last_begun = keepers[&(keepers.len() as u32)];
+                    assert_eq!(is(InKeepers::LastBegun), last_begun != keeper, "{call:?}");
+                    let stamp = history.last_stamp();
+                    let latest = history.call(&Call::KeeperAt { stamp, row, column });
+                    let other = latest != answer && latest != Answer::None;
+                    assert_eq!(is(InKeepers::Latest), other, "{call:?}");
+                    assert_eq!(is(InKeepers::TwoBytes), keeper >= 256, "{call:?}");
+                    let swapped = keeper % 256 * 256 + keeper / 256;
+                    assert_eq!(is(InKeepers::ByteOrder), swapped != keeper, "{call:?}");
+                    assert!(!is(InKeepers::Unknown) || keeper == 0, "{call:?}");
+                    // What is set by a merged setting is not what the inserter gave.
+                    assert!(!is(InKeepers::Merged) || is(InKeepers::Inserter), "{call:?}");
+                    assert!(!is(InKeepers::OriginalOfAborted) || is(InKeepers::Original));
+                    assert!(!is(InKeepers::Original) || !is(InKeepers::Inserter), "{call:?}");
+                }
+                answer => assert!(answer.is_refused() && found.is_empty(), "{call:?}"),
+            }
+        }
+    }
+    assert!(shown > 2_000, "{shown}");
+}
+
+#[test]
+fn streams_meet_every_situation_of_keepers() {
+    let survey = Survey::of(0, 480);
+    for situation in InKeepers::ALL {
+        let (calls, streams) = survey.met_in_keepers(situation);
+        assert!(calls >= 20 && streams >= 12, "{situation:?}: {calls} in {streams} streams");
+    }
+}
+
+#[test]
+fn streams_of_every_workload_show_keepers_that_differ() {
+    for workload in 0..generate::WORKLOADS {
+        let seeds = (workload..).step_by(generate::WORKLOADS as usize);
+        let mut survey = Survey::default();
+        for seed in seeds.filter(|seed| !generate::is_long(*seed)).take(60) {
+            survey.run(&generate::stream(seed), false);
+        }
+        let met = |situation| survey.met_in_keepers(situation).0;
+        let counts = [InKeepers::Inserter, InKeepers::Latest, InKeepers::LastBegun].map(met);
+        let [inserter, latest, last_begun] = counts;
+        let enough = inserter >= 10 && latest > 0 && last_begun >= 60;
+        assert!(enough, "{counts:?} in workload {workload}");
+    }
+}
+
+#[test]
 fn streams_of_every_workload_list_crossings() {
     for workload in 0..generate::WORKLOADS {
         let seeds = (workload..).step_by(generate::WORKLOADS as usize);
@@ -673,6 +898,9 @@ fn a_trace_has_the_documented_form() {
     assert_eq!(trace::answer_words(&Answer::Value(-30)), "value -30");
     let crossings = Call::Crossings { row: 1, column: 0, mark: -7, from: 2, to: 9, places: 3 };
     assert_eq!(trace::call_words(&crossings), "crossings 1 0 -7 2 9 3");
+    assert_eq!(trace::call_words(&Call::BeginAs { keeper: 65_535 }), "begin-as 65535");
+    let keeper_at = Call::KeeperAt { stamp: 10, row: 1, column: 0 };
+    assert_eq!(trace::call_words(&keeper_at), "keeper-at 10 1 0");
     assert_eq!(trace::answer_words(&Answer::Crossings(vec![])), "crossings 0");
     assert_eq!(trace::answer_words(&Answer::Crossings(vec![4, 4])), "crossings 2 4 4");
 }

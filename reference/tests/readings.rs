@@ -1,5 +1,5 @@
 //! One test for each reading of document 01 that an input can tell apart, with the reading's
-//! letter, and of document 02's Items 1 to 4. Those of section A are in `input`, and B1 and B2 also
+//! letter, and of document 02's Items 1 to 6. Those of section A are in `input`, and B1 and B2 also
 //! there for exhausted series.
 
 mod common;
@@ -2242,5 +2242,401 @@ fn crossings_are_those_of_one_row_and_column() {
          crossings 0 1 7 0 40 => ok 1 40
          crossings 1 0 7 0 40 => ok 1 40
          crossings 1 1 7 0 40 => ok 1 30",
+    );
+}
+
+// Document 02, Item 6: "Command 14: stamp, row, column; it answers the keeper of the value that 08 would
+// show, or none, refused as 08 is."
+
+/// Two columns; row 0 inserted by keeper 7 with 5 and 50 and committed at 10.
+fn kept_row(capacity: u32, spares: u32, rest: &str) {
+    script(&format!(
+        "shape 2 1 {capacity} {spares}\nbegin-as 7\ninsert 1 5 50\ncommit 1 10\n{rest}"
+    ));
+}
+
+#[test]
+fn an_inserted_value_has_the_inserters_keeper() {
+    kept_row(
+        4,
+        0,
+        "keeper-at 9 0 0 => ok none
+         keeper-at 10 0 0 => ok 7
+         keeper-at 10 0 1 => ok 7",
+    );
+}
+
+#[test]
+fn the_keeper_is_that_of_the_columns_setting_not_of_the_rows_last_change() {
+    // I6-a: the row's last change is 9's at 20, and 8's at 30.
+    kept_row(
+        9,
+        0,
+        "begin-as 9
+         update 2 0 mask 1 6 0
+         commit 2 20
+         keeper-at 20 0 0 => ok 9
+         keeper-at 20 0 1 => ok 7
+         begin-as 8
+         update 3 0 mask 2 0 60
+         commit 3 30
+         keeper-at 30 0 0 => ok 9
+         keeper-at 30 0 1 => ok 8
+         keeper-at 29 0 1 => ok 7
+         keeper-at 20 0 0 => ok 9
+         keeper-at 19 0 0 => ok 7",
+    );
+}
+
+#[test]
+fn an_original_has_the_inserters_keeper_though_its_record_is_an_updates() {
+    // I6-c: "original values carry the inserter", the update committed, open or aborted.
+    kept_row(
+        9,
+        2,
+        "begin-as 9
+         update 2 0 mask 1 6 0
+         keeper-at 10 0 0 => ok 7
+         commit 2 20
+         keeper-at 10 0 0 => ok 7
+         keeper-at 19 0 0 => ok 7
+         merge 0 0 1
+         keeper-at 10 0 0 => ok 7
+         keeper-at 20 0 0 => ok 9
+         merge 0 0 2
+         release => ok 2
+         keeper-at 10 0 0 => ok 7
+         keeper-at 20 0 0 => ok 9
+         begin-as 8
+         update 3 0 mask 2 0 60
+         abort 3
+         keeper-at 20 0 1 => ok 7",
+    );
+}
+
+#[test]
+fn an_aborted_settings_keeper_is_not_shown() {
+    // I6-a: of the column's first update, which leaves its original, and of a later one.
+    kept_row(
+        9,
+        1,
+        "begin-as 8
+         update 2 0 mask 1 6 0
+         abort 2
+         keeper-at 10 0 0 => ok 7
+         begin-as 9
+         update 3 0 mask 1 6 0
+         commit 3 20
+         begin-as 8
+         update 4 0 mask 1 6 0
+         abort 4
+         keeper-at 20 0 0 => ok 9
+         keeper-at 19 0 0 => ok 7
+         merge 0 0 4
+         keeper-at 20 0 0 => ok 9
+         keeper-at 19 0 0 => ok 7",
+    );
+}
+
+#[test]
+fn a_pending_settings_keeper_is_not_shown() {
+    // Not for the transaction itself either: 14 is as 08, and no own read.
+    kept_row(
+        9,
+        0,
+        "begin-as 9
+         update 2 0 mask 1 6 0
+         insert 2 1 1
+         own-read 2 0 0 => ok 6 0
+         keeper-at 10 0 0 => ok 7
+         keeper-at 10 1 0 => ok none
+         commit 2 20
+         keeper-at 20 0 0 => ok 9
+         keeper-at 20 1 0 => ok 9
+         keeper-at 19 1 0 => ok none",
+    );
+}
+
+#[test]
+fn the_keeper_is_refused_as_a_read_at_is() {
+    // I6-b: 13, 5, 6.
+    kept_row(
+        4,
+        0,
+        "keeper-at 11 9 9 => no 13
+         keeper-at 10 9 9 => no 5
+         keeper-at 10 0 9 => no 6
+         keeper-at 10 0 2 => no 6
+         keeper-at 10 1 0 => no 5
+         keeper-at 11 0 0 => no 13
+         keeper-at 4294967295 0 0 => no 13
+         keeper-at 10 0 1 => ok 7",
+    );
+    // In a new store the last stamp is 0.
+    script(
+        "shape 1 1 4 0
+         keeper-at 1 0 0 => no 13
+         keeper-at 0 0 0 => no 5
+         begin-as 7
+         insert 1 5
+         keeper-at 0 0 0 => ok none
+         keeper-at 0 0 1 => no 6
+         commit 1 0
+         keeper-at 0 0 0 => ok 7",
+    );
+}
+
+#[test]
+fn a_begin_with_a_keeper_answers_as_a_begin() {
+    // I6-b: one series of numbers and one limit for both. 15, and its order, are in `input`.
+    script(
+        "shape 1 1 1 0
+         begin => ok 1
+         begin-as 9 => ok 2
+         begin-as 9 => ok 3
+         begin => ok 4
+         begin-as 0 => ok 5
+         begin-as 65535 => ok 6
+         begin => ok 7
+         begin-as 9 => ok 8
+         begin-as 9 => no 14
+         begin => no 14
+         abort 3
+         begin-as 1 => ok 9
+         begin-as 1 => no 14
+         commit 9 0
+         begin => ok 10
+         begin-as 1 => no 14",
+    );
+}
+
+#[test]
+fn a_begin_without_a_keeper_has_keeper_0() {
+    // Also after one with a keeper; an unknown keeper takes a known one's place.
+    kept_row(
+        9,
+        0,
+        "begin
+         update 2 0 mask 1 6 0
+         insert 2 1 1
+         commit 2 20
+         keeper-at 20 0 0 => ok 0
+         keeper-at 20 0 1 => ok 7
+         keeper-at 20 1 0 => ok 0
+         begin-as 0
+         update 3 0 mask 2 0 60
+         commit 3 30
+         keeper-at 30 0 1 => ok 0",
+    );
+}
+
+#[test]
+fn a_keeper_is_any_number_of_two_bytes() {
+    let mut lines = "shape 1 1 64 0\nbegin\ninsert 1 0\ncommit 1 0\n".to_string();
+    let keepers = [1, 255, 256, 257, 258, 513, 32_767, 32_768, 65_280, 65_535];
+    for (transaction, keeper) in (2..).zip(keepers) {
+        lines += &format!("begin-as {keeper}\nupdate {transaction} 0 mask 1 0\n");
+        lines += &format!("commit {transaction} {transaction}\n");
+        lines += &format!("keeper-at {transaction} 0 0 => ok {keeper}\n");
+    }
+    for (transaction, keeper) in (2..).zip(keepers) {
+        lines += &format!("keeper-at {transaction} 0 0 => ok {keeper}\n");
+    }
+    script(&lines);
+}
+
+#[test]
+fn each_transaction_has_a_keeper_of_its_own() {
+    // Not that of the last begin, nor of the last commit; two transactions may have one keeper.
+    kept_row(
+        16,
+        0,
+        "begin-as 1
+         begin-as 2
+         begin-as 1
+         insert 2 1 1
+         insert 3 2 2
+         insert 4 3 3
+         commit 3 20
+         commit 4 30
+         commit 2 40
+         keeper-at 40 0 0 => ok 7
+         keeper-at 40 1 0 => ok 1
+         keeper-at 40 2 0 => ok 2
+         keeper-at 40 3 0 => ok 1
+         keeper-at 30 1 0 => ok none
+         keeper-at 30 3 0 => ok 1
+         keeper-at 20 2 1 => ok 2",
+    );
+}
+
+#[test]
+fn settings_of_one_transaction_have_its_keeper() {
+    // The inserter's own setting too. A column set twice has one value, and the same keeper.
+    script(
+        "shape 2 1 16 0
+         begin-as 7
+         insert 1 5 50
+         update 1 0 mask 1 6 0
+         commit 1 10
+         keeper-at 10 0 0 => ok 7
+         keeper-at 10 0 1 => ok 7
+         begin-as 9
+         update 2 0 mask 1 1 0
+         update 2 0 mask 1 2 0
+         update 2 0 mask 3 3 30
+         commit 2 20
+         keeper-at 20 0 0 => ok 9
+         keeper-at 20 0 1 => ok 9
+         keeper-at 19 0 1 => ok 7",
+    );
+}
+
+#[test]
+fn setting_the_same_value_again_gives_the_later_keeper() {
+    // D6
+    kept_row(
+        4,
+        1,
+        "begin-as 9
+         update 2 0 mask 1 5 0
+         commit 2 20
+         read-at 20 0 0 => ok 5 20
+         keeper-at 20 0 0 => ok 9
+         keeper-at 19 0 0 => ok 7
+         merge 0 0 2
+         keeper-at 20 0 0 => ok 9
+         keeper-at 19 0 0 => ok 7",
+    );
+}
+
+#[test]
+fn a_deletes_keeper_is_never_shown() {
+    kept_row(
+        9,
+        0,
+        "begin-as 9
+         delete 2 0
+         keeper-at 10 0 0 => ok 7
+         abort 2
+         keeper-at 10 0 0 => ok 7
+         begin-as 8
+         update 3 0 mask 1 6 0
+         delete 3 0
+         commit 3 20
+         keeper-at 19 0 0 => ok 7
+         keeper-at 20 0 0 => ok none
+         begin-as 6
+         insert 4 1 1
+         delete 4 1
+         commit 4 30
+         begin-as 6
+         insert 5 2 2
+         abort 5
+         keeper-at 30 0 1 => ok none
+         keeper-at 30 1 0 => ok none
+         keeper-at 30 2 0 => ok none
+         keeper-at 30 3 0 => no 5",
+    );
+}
+
+#[test]
+fn a_keeper_at_a_minute_is_that_of_its_newest_commit() {
+    // The order is that of commits, not of begins. A scan of the minute sees 3's value still.
+    kept_row(
+        9,
+        0,
+        "begin-as 2
+         begin-as 3
+         update 3 0 mask 1 6 0
+         commit 3 20
+         keeper-at 20 0 0 => ok 3
+         open-scan 20
+         update 2 0 mask 1 8 0
+         commit 2 20
+         keeper-at 20 0 0 => ok 2
+         scan-read 1 0 0 => ok 6 20
+         keeper-at 19 0 0 => ok 7
+         begin-as 4
+         update 4 0 mask 1 9 0
+         commit 4 30
+         keeper-at 20 0 0 => ok 2
+         keeper-at 29 0 0 => ok 2
+         keeper-at 30 0 0 => ok 4",
+    );
+}
+
+#[test]
+fn merges_and_releases_change_no_keeper() {
+    // With a scan open that keeps the old pages, and after it.
+    let keepers = "keeper-at 9 0 0 => ok none
+         keeper-at 10 0 0 => ok 7
+         keeper-at 20 0 0 => ok 9
+         keeper-at 30 0 0 => ok 8
+         keeper-at 30 0 1 => ok 9
+         keeper-at 10 0 1 => ok 7\n";
+    kept_row(
+        9,
+        3,
+        &format!(
+            "begin-as 9
+             update 2 0 mask 3 6 60
+             commit 2 20
+             begin-as 8
+             update 3 0 mask 1 4 0
+             commit 3 30
+             {keepers}open-scan 20
+             merge 0 0 2
+             {keepers}merge 0 0 3
+             {keepers}merge 0 1 3
+             {keepers}release => ok 0
+             {keepers}close 1
+             release => ok 3
+             {keepers}"
+        ),
+    );
+}
+
+#[test]
+fn keepers_are_those_of_one_row_and_column() {
+    kept_row(
+        16,
+        0,
+        "begin-as 9
+         insert 2 1 1
+         commit 2 20
+         begin-as 3
+         update 3 0 mask 1 50 0
+         commit 3 30
+         begin-as 4
+         update 4 1 mask 2 0 5
+         commit 4 40
+         keeper-at 40 0 0 => ok 3
+         keeper-at 40 0 1 => ok 7
+         keeper-at 40 1 0 => ok 9
+         keeper-at 40 1 1 => ok 4",
+    );
+}
+
+#[test]
+fn the_other_reads_sums_and_pages_show_no_keeper() {
+    kept_row(
+        9,
+        1,
+        "begin-as 9
+         update 2 0 mask 1 6 0 => ok 2
+         own-read 2 0 1 => ok 50 10
+         commit 2 20 => ok
+         latest 0 0 => ok 6 20
+         read-at 10 0 0 => ok 5 10
+         open-scan 20 => ok 1
+         scan-read 1 0 0 => ok 6 20
+         sum 1 0 => ok 1 6
+         close 1 => ok
+         merge 0 0 2 => ok
+         release => ok 1
+         page-cell 0 0 => ok 6
+         lineage 0 0 => ok 2 2
+         crossings 0 0 6 0 20 => ok 1 20",
     );
 }

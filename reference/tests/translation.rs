@@ -9,7 +9,7 @@ fn decoding_then_encoding_gives_the_same_bytes() {
     for _ in 0..4000 {
         // Random bytes, most of them small so that commands are met; small and large columns.
         let length = random.below(80);
-        let limit = random.pick(&[3, 18, 256]);
+        let limit = random.pick(&[3, 21, 256]);
         let bytes: Vec<u8> = (0..length).map(|_| random.below(limit) as u8).collect();
         assert_eq!(text::encode(&text::decode(&bytes)).unwrap(), bytes);
     }
@@ -42,7 +42,8 @@ fn every_line_form_goes_both_ways() {
         delete 1 2\ncommit 1 4294967295\nabort 65535\nlatest 1 255\nread-at 1 2 3\n\
         own-read 1 2 3\nopen-scan 1\nscan-read 1 2 3\nsum 1 2\nclose 1\nmerge 1 2 3\n\
         release\npage-cell 1 2\nlineage 1 2\ncrossings 65535 255 -2147483648 0 4294967295\n\
-        crossings 1 2 2147483647 4294967295 0\nbyte AB CD\n";
+        crossings 1 2 2147483647 4294967295 0\nbegin-as 0\nbegin-as 65535\n\
+        keeper-at 0 1 2\nkeeper-at 4294967295 65535 255\nbyte AB CD\n";
     assert_eq!(text::decode(&text::encode(lines).unwrap()), lines);
     for line in lines.lines() {
         let name = line.split(' ').next().unwrap();
@@ -68,6 +69,12 @@ fn errors_name_the_line() {
     assert_eq!(after("crossings 0 0 2147483648 0 0"), mark);
     assert_eq!(after("crossings 0 0 0 -1 0"), "line 4: from -1 does not fit in 4 bytes");
     assert_eq!(after("crossings 0 0 0 0"), "line 4: to is missing");
+    assert_eq!(after("begin-as"), "line 4: keeper is missing");
+    assert_eq!(after("begin-as 65536"), "line 4: keeper 65536 does not fit in 2 bytes");
+    assert_eq!(after("begin-as -1"), "line 4: keeper -1 does not fit in 2 bytes");
+    assert_eq!(after("begin 7"), "line 4: '7' is one word too many");
+    assert_eq!(after("keeper-at 10 0"), "line 4: column is missing");
+    assert_eq!(after("keeper-at 10 0 256"), "line 4: column 256 does not fit in 1 bytes");
     assert_eq!(after("abort one"), "line 4: transaction 'one' is not a number");
     assert_eq!(after("byte 1"), "line 4: '1' is not a byte of two hexadecimal digits");
     assert_eq!(after("byte +1"), "line 4: '+1' is not a byte of two hexadecimal digits");

@@ -118,6 +118,52 @@ pub const MERGE_NOTES_IN_MASK: u8 = 66;
 /// It notes them in the same words of the header, and leaves 0 there.
 pub const MERGE_CLEARS_ITS_NOTES: u8 = 67;
 
+/// An original bears the keeper of the update that wrote it down.
+pub const KEEPER_OF_THE_UPDATER: u8 = 68;
+/// The keeper of the row's inserter is given for every setting.
+pub const KEEPER_OF_THE_ROW: u8 = 69;
+/// That of an aborted setting above the one that is read.
+pub const KEEPER_OF_AN_ABORTED: u8 = 70;
+/// That of the column's newest setting, whether a reader sees it or not.
+pub const KEEPER_OF_THE_NEWEST: u8 = 71;
+/// That of the newest setting that is seen, of whatever column.
+pub const KEEPER_OF_ANOTHER_COLUMN: u8 = 72;
+/// That of the inserter where the page holds the setting.
+pub const KEEPER_LOST_BY_MERGE: u8 = 73;
+/// Where a row is not seen, a keeper is given all the same.
+pub const KEEPER_OF_AN_UNSEEN_ROW: u8 = 74;
+/// A keeper is asked for at a stamp ahead of the last commit's and not refused.
+pub const KEEPER_AHEAD_ACCEPTED: u8 = 75;
+/// For a keeper the stamp is tested behind row and column.
+pub const KEEPER_TESTS_STAMP_LAST: u8 = 76;
+/// Of a keeper one byte is written down.
+pub const KEEPER_OF_ONE_BYTE: u8 = 77;
+/// A transaction has the keeper of the one before it in its place, if it is begun without one: neither
+/// the end of that one nor the begin writes 0.
+pub const FORMER_KEEPER_STAYS: u8 = 78;
+/// A begin without a keeper writes none, which the end of the transaction before it did.
+pub const BEGIN_WRITES_NO_KEEPER: u8 = 79;
+/// The end of a transaction leaves its keeper, which the next begin in the place writes over.
+pub const END_LEAVES_THE_KEEPER: u8 = 80;
+/// A delete bears no keeper.
+pub const DELETE_WITHOUT_KEEPER: u8 = 81;
+/// Of a keeper's word the upper two bytes count too.
+pub const WHOLE_WORD_OF_A_KEEPER: u8 = 82;
+/// For a keeper the records are looked through though the row's mask lacks the column.
+pub const KEEPER_WITHOUT_THE_MASK: u8 = 83;
+/// A memory of form 1 is taken for one of form 2.
+pub const FORM_1_ACCEPTED: u8 = 84;
+
+/// Whether a fault is that of a begin without a keeper that writes none.
+pub const fn begins_without_keeper(fault: u8) -> bool {
+    matches!(fault, FORMER_KEEPER_STAYS | BEGIN_WRITES_NO_KEEPER)
+}
+
+/// Whether a fault is that of a transaction's end which leaves the keeper.
+pub const fn leaves_keeper(fault: u8) -> bool {
+    matches!(fault, FORMER_KEEPER_STAYS | END_LEAVES_THE_KEEPER)
+}
+
 /// Whether a fault is that of a merge which notes the rows that it meets.
 pub const fn notes_rows(fault: u8) -> bool {
     matches!(

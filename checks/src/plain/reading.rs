@@ -1,11 +1,13 @@
 //! What a reader finds: the page's cell, the tail records above the page's lineage, and the
 //! records further down only where the page is newer than the reader's stamp; and who set it, which
-//! the records alone say.
+//! the records alone say, and by whose keeper.
+
+use std::iter;
 
 use reference::Answer;
 
 use super::{faults, Table};
-use crate::memory::{header, kind, page, state, words, Region, ScanEntry, ROWS};
+use crate::memory::{header, kind, page, state, words, Region, ScanEntry, KEEPER_LIMIT, ROWS};
 
 /// Which commits a reader has: of the first so many those with a stamp at or before this one.
 #[derive(Clone, Copy)]
@@ -49,12 +51,38 @@ impl<const FAULT: u8> Table<'_, FAULT> {
         let page = self.page(at);
         let reader = Reader { snapshot, own, range: row / ROWS, column };
         // One walk serves both: where it ends at a record not above `down_to`, the page has the value.
-        let found = self
-            .is_set(row, column)
-            .then(|| self.walk(&reader, 0, self.link(row), false))
-            .flatten();
+        let found = self.found(&reader, row);
         let value = self.word(&reader, &page, cell, found) as i32;
         Answer::Version { value, stamp: self.stamp(&reader, &page, row, found) }
+    }
+
+    /// The keeper of the value that such a read of the current page shows.
+    pub(super) fn keeper(&self, snapshot: Snapshot, row: usize, column: usize) -> Answer {
+        if !self.visible(snapshot, 0, row) && FAULT != faults::KEEPER_OF_AN_UNSEEN_ROW {
+            return Answer::None;
+        }
+        let reader = Reader { snapshot, own: 0, range: row / ROWS, column };
+        let found = match FAULT {
+            faults::NONE => self.found(&reader, row),
+            _ => self.found_by_fault(&reader, row),
+        };
+        let keeper = match found {
+            Some(k) => self.get(Region::TailKeeper, self.layout.slot(reader.range, k)),
+            None => self.get(Region::RowKeeper, row),
+        };
+        match FAULT {
+            faults::WHOLE_WORD_OF_A_KEEPER => Answer::Number(keeper),
+            _ => Answer::Number(keeper % KEEPER_LIMIT),
+        }
+    }
+
+    /// The number of the newest record that answers, if the records and not the page alone have the
+    /// column's value.
+    #[inline(always)]
+    fn found(&self, reader: &Reader, row: usize) -> Option<usize> {
+        self.is_set(row, reader.column)
+            .then(|| self.walk(reader, 0, self.link(row), false))
+            .flatten()
     }
 
     /// Whether an update has set the column. One that none has set is in the page alone.
@@ -269,7 +297,35 @@ impl<const FAULT: u8> Table<'_, FAULT> {
         Answer::Sum { count, sum }
     }
 
-    // Part of a wrong store.
+    // Parts of the wrong stores.
+
+    /// The number of the record whose keeper is given; where there is none, the row's is.
+    fn found_by_fault(&self, reader: &Reader, row: usize) -> Option<usize> {
+        let Reader { snapshot, range, column, .. } = *reader;
+        let newest = |passes: &dyn Fn(usize) -> bool| {
+            let next = |k: &usize| {
+                let slot = self.layout.slot(range, *k);
+                Some(self.get(Region::TailLink, slot) as usize).filter(|k| *k != 0)
+            };
+            let mut links = iter::successors(Some(self.link(row)).filter(|k| *k != 0), next);
+            links.find(|k| passes(self.layout.slot(range, *k)))
+        };
+        let setting = |slot: usize| self.get(Region::TailKind, slot) == kind::SETTING;
+        let of_column = |slot: usize| self.get(Region::TailMask, slot) >> column & 1 != 0;
+        let seen = |slot: usize| self.sees_record(snapshot, 0, slot, faults::NONE);
+        match FAULT {
+            faults::KEEPER_OF_THE_ROW => None,
+            faults::KEEPER_OF_AN_ABORTED => self.walk(reader, 0, self.link(row), true),
+            faults::KEEPER_OF_THE_NEWEST => newest(&|slot| setting(slot) && of_column(slot)),
+            faults::KEEPER_OF_ANOTHER_COLUMN => newest(&|slot| setting(slot) && seen(slot)),
+            faults::KEEPER_LOST_BY_MERGE => {
+                let page = self.page(self.current(range, column));
+                self.found(reader, row).filter(|k| *k > page.lineage)
+            }
+            faults::KEEPER_WITHOUT_THE_MASK => self.walk(reader, 0, self.link(row), false),
+            _ => self.found(reader, row),
+        }
+    }
 
     /// The ordinal of the oldest commit of a minute, of which a row or record is left; the commits made
     /// where there is none.

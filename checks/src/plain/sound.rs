@@ -2,7 +2,7 @@
 //! it is the greatest part of a call in a full store: one flag is carried to the end of each pass
 //! instead of an early exit, which lets the compiler test several words at once.
 
-use crate::memory::{header, page, word, words, Layout, Region, ScanEntry};
+use crate::memory::{header, is_in_form, page, word, words, Layout, Region, ScanEntry};
 use crate::memory::{MOST_COLUMNS, MOST_RANGES, MOST_RECORDS, NUMBERS, OPENS, ROWS, SCANS, WORD};
 
 /// A range with no more records takes a smaller array to look them up in, which is sooner cleared.
@@ -11,7 +11,7 @@ const FEW_RECORDS: usize = 32;
 /// The layout of a store whose facts hold.
 pub fn sound(memory: &[u8], list: &[ScanEntry]) -> Option<Layout> {
     let layout = Layout::stored(memory)?;
-    if memory.len() < layout.need() || list.len() < SCANS {
+    if memory.len() < layout.need() || list.len() < SCANS || !is_in_form(memory) {
         return None;
     }
     let facts = Facts::of(memory, layout)?;

@@ -43,6 +43,7 @@ impl<const FAULT: u8> Table<'_, FAULT> {
         self.put(Region::RowOrdinal, row, 0);
         self.put(Region::RowLink, row, 0);
         self.put(Region::RowMask, row, 0);
+        self.put(Region::RowKeeper, row, self.keeper_of(open));
         for column in 0..self.layout.columns {
             let at = self.current(row / ROWS, column);
             self.put(Region::Cells, at * ROWS + row % ROWS, word_of(values, column));
@@ -62,14 +63,19 @@ impl<const FAULT: u8> Table<'_, FAULT> {
     ) -> Answer {
         let old = self.get(Region::RowMask, row);
         if mask & !old != 0 {
-            let slot = self.append(transaction, row, kind::ORIGINAL, mask & !old);
+            let keeper = match FAULT {
+                faults::KEEPER_OF_THE_UPDATER => self.keeper_of(open),
+                _ => self.get(Region::RowKeeper, row),
+            };
+            let slot = self.append(transaction, row, kind::ORIGINAL, mask & !old, keeper);
             for column in 0..self.layout.columns {
                 // No setting of these columns is in the page yet.
                 let cell = self.cell(self.current(row / ROWS, column), row);
                 self.put(Region::TailValues, slot * self.layout.columns + column, cell);
             }
         }
-        let slot = self.append(transaction, row, kind::SETTING, mask);
+        let keeper = self.keeper_of(open);
+        let slot = self.append(transaction, row, kind::SETTING, mask, keeper);
         for column in 0..self.layout.columns {
             let word = word_of(values, column);
             self.put(Region::TailValues, slot * self.layout.columns + column, word);
@@ -80,7 +86,11 @@ impl<const FAULT: u8> Table<'_, FAULT> {
     }
 
     pub(super) fn delete(&mut self, transaction: u32, open: usize, row: usize) -> Answer {
-        self.append(transaction, row, kind::DELETE, 0);
+        let keeper = match FAULT {
+            faults::DELETE_WITHOUT_KEEPER => 0,
+            _ => self.keeper_of(open),
+        };
+        self.append(transaction, row, kind::DELETE, 0, keeper);
         if FAULT == faults::DELETE_ZEROES_CELL {
             let at = self.current(row / ROWS, 0);
             self.put(Region::Cells, at * ROWS + row % ROWS, 0);
@@ -89,8 +99,17 @@ impl<const FAULT: u8> Table<'_, FAULT> {
         Answer::Number(self.used(row / ROWS))
     }
 
+    /// The keeper of the transaction in an open place, the word as it stands.
+    fn keeper_of(&self, open: usize) -> u32 {
+        let keeper = self.get(Region::OpenKeeper, open);
+        match FAULT {
+            faults::KEEPER_OF_ONE_BYTE => keeper % 256,
+            _ => keeper,
+        }
+    }
+
     /// One tail record more, the row's newest now; answers its slot.
-    fn append(&mut self, transaction: u32, row: usize, kind: u32, mask: u32) -> usize {
+    fn append(&mut self, transaction: u32, row: usize, kind: u32, mask: u32, keeper: u32) -> usize {
         let range = row / ROWS;
         let k = self.used(range) + 1;
         let slot = self.layout.slot(range, k as usize);
@@ -103,6 +122,7 @@ impl<const FAULT: u8> Table<'_, FAULT> {
         self.put(Region::TailState, slot, state::OPEN);
         self.put(Region::TailStamp, slot, 0);
         self.put(Region::TailOrdinal, slot, 0);
+        self.put(Region::TailKeeper, slot, keeper);
         self.put(Region::Used, range, k);
         self.put(Region::RowLink, row, k);
         slot
@@ -132,6 +152,9 @@ impl<const FAULT: u8> Table<'_, FAULT> {
     fn free(&mut self, open: usize) {
         self.put(Region::Opens, open, 0);
         self.put(Region::Changes, open, 0);
+        if !faults::leaves_keeper(FAULT) {
+            self.put(Region::OpenKeeper, open, 0);
+        }
     }
 
     /// Every given row and used record of the transaction gets the state, the stamp and the ordinal.

@@ -68,6 +68,13 @@ fn update_values(
     changes::update(mem, t, transaction, row, mask, taken)
 }
 
+// A begin over the table, with the keeper as a word: a function of its own for the same reason.
+fn begin_kept(mem: &mut [u8], t: Scans, keeper: u16) -> Answer
+    ensures { λ r. ⌜ ServesBy t (now (mem .entry)) (Call.beginAs keeper) r (now (mem .exit)) kept ⌝ }
+{
+    changes::begin_as(mem, t, keeper as u32)
+}
+
 // ---- a store
 
 // The bytes that a store of a shape needs, within the bound of rule 8.3 of docs/SPECIFICATION.md.
@@ -95,12 +102,20 @@ pub fn make(
 
 // ---- the calls on it
 
-// A transaction is opened; the answer is its number.
+// A transaction of no known keeper is opened; the answer is its number.
 pub fn begin(mem: &mut [u8], scans: &[ScanEntry]) -> Answer
     ensures { λ r. ⌜ Serves (now (mem .entry)) (now (scans .entry)) Call.begin r (now (mem .exit)) (now (scans .entry)) ⌝ }
 {
     let t = table(scans);
     changes::begin(mem, t)
+}
+
+// A transaction of a keeper is opened; the answer is its number.
+pub fn begin_as(mem: &mut [u8], scans: &[ScanEntry], keeper: u16) -> Answer
+    ensures { λ r. ⌜ Serves (now (mem .entry)) (now (scans .entry)) (Call.beginAs keeper) r (now (mem .exit)) (now (scans .entry)) ⌝ }
+{
+    let t = table(scans);
+    begin_kept(mem, t, keeper)
 }
 
 // A row with a value for each column; the answer is its number. Values past the column count are not looked at; where fewer are lent, the others are 0.
@@ -185,6 +200,14 @@ pub fn read_at(mem: &[u8], scans: &[ScanEntry], stamp: Stamp, row: Row, column: 
 {
     let t = table(scans);
     lookups::read_at(mem, t, stamp, row, column)
+}
+
+// The keeper of the version of a row and column at a stamp.
+pub fn keeper_at(mem: &[u8], scans: &[ScanEntry], stamp: Stamp, row: Row, column: u32) -> Answer
+    ensures { λ r. ⌜ Serves (now (mem .entry)) (now (scans .entry)) (Call.keeperAt (stamp .0) (row .0) column) r (now (mem .entry)) (now (scans .entry)) ⌝ }
+{
+    let t = table(scans);
+    lookups::keeper_at(mem, t, stamp, row, column)
 }
 
 // The version of a row and column for an open transaction, its own changes among what it sees.

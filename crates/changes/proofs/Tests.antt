@@ -15,11 +15,11 @@ use Rattle.words.proofs.Words.{length-words}
 use Rattle.layout.specs.declared.Region.{Region}
 use Rattle.layout.specs.View.{View, rowsGiven, transactionsGiven, usedIn, viewOf, Suffices}
 use Rattle.layout.proofs.View.{view-long}
-use Rattle.history.specs.History.{verdict, any, rangeOf}
+use Rattle.history.specs.History.{Call, verdict, any, rangeOf}
 use Rattle.terms.specs.Entries.{firstIndex}
 use Rattle.scans.specs.declared.Scans.{Scans}
 use Rattle.model.specs.Writing.{recordsWanted}
-use Rattle.model.specs.Calls.{lacksIn}
+use Rattle.model.specs.Calls.{beginTestsIn, testsIn, lacksIn}
 use Rattle.layout.specs.Sizes.{Proper}
 use Rattle.model.specs.Preconditions.{shapeIn, Counted, Linked, FreeAt, OpenAt}
 use Rattle.loops.specs.Search.{foundAt}
@@ -28,7 +28,7 @@ use Rattle.rows.proofs.Indices.{row-in}
 use Rattle.admission.specs.declared.Admission.{Admission}
 use Rattle.admission.specs.declared.Tested.{Tested}
 use Rattle.admission.specs.Admitted.{Fitted, Admits}
-use Rattle.admission.specs.Tested.{Says, Finds, IfPassed}
+use Rattle.admission.specs.Tested.{Says, Finds, IfPassed, Tests}
 use Rattle.admission.proofs.Served.{admitted, part-seen, found, if-passed}
 use Rattle.changes.specs.Steps.{appendTests}
 
@@ -145,5 +145,14 @@ module _ (e : Admission) (s : Sizes) (n : ℕ) (m : List ℕ) (t : Scans) (a : e
   pub wanted-in-part : (r k : ℕ) → IfPassed d (Room s (viewOf s m) r (recordsWanted (viewOf s m) r k))
       → Room s (viewOf s (take n m)) r (recordsWanted (viewOf s (take n m)) r k)
   wanted-in-part r k h = rw seen (if-passed d _ j p h)
+
+-- the tests of begin, with a keeper or without
+pub begin-tests : (s : Sizes) (m : List ℕ) (d : Tested) → Says d (verdict (beginTestsIn (viewOf s m))) → Tests s m Call.begin d
+unfolding Tests testsIn
+begin-tests s m d h = λ ps. h
+
+pub begin-as-tests : (s : Sizes) (m : List ℕ) (x : ℕ) (d : Tested) → Says d (verdict (beginTestsIn (viewOf s m))) → Tests s m (Call.beginAs x) d
+unfolding Tests testsIn
+begin-as-tests s m x d h = λ ps. h
 
 pub ruleset in-part = (free-in-part, open-in-part, number-in-part, row-in-part, room-in-part, wanted-in-part, counted)

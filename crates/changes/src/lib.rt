@@ -1,4 +1,4 @@
-// The calls that change transactions and rows, over a lent memory and the table of the scan list: begin, insert, update, delete, commit, abort. Each call is the
+// The calls that change transactions and rows, over a lent memory and the table of the scan list: begin, begin as, insert, update, delete, commit, abort. Each call is the
 // test of memory and list, the call's own tests in the order of section 4 of docs/SPECIFICATION.md, and then the function that writes, over the needed bytes.
 use admission::Admission;
 use admission::Tested;
@@ -33,6 +33,7 @@ ghost use Prim.Native.Nat.{_<_};
 ghost use Rattle.terms.specs.Measures.{mostNumbers};
 ghost use Rattle.layout.specs.View.{rowsGiven, transactionsGiven, viewOf};
 ghost use Rattle.history.specs.History.{Call, verdict, rangeOf};
+ghost use Rattle.model.specs.Calls.{beginTestsIn};
 ghost use Rattle.model.specs.Writing.{recordsWanted};
 ghost use Rattle.model.specs.Preconditions.{shapeIn, FreeAt, OpenAt};
 ghost use Rattle.writing.specs.Steps.{Room};
@@ -43,10 +44,13 @@ ghost use Rattle.changes.specs.Steps.{appendTests};
 
 // ---- begin
 
-// The tests of begin; where they are passed, the index of the first free open entry.
+// The keeper of a transaction that is begun without one.
+const UNKNOWN_KEEPER: u32 = 0;
+
+// The tests of begin, with a keeper or without; where they are passed, the index of the first free open entry.
 fn begin_tests(mem: &[u8], s: Sizes) -> Tested
     requires { ⌜ Fitted s (now mem) ⌝ }
-    ensures { λ r. ⌜ Tests s (now (mem .entry)) Call.begin r ⌝ }
+    ensures { λ r. ⌜ Says r (verdict (beginTestsIn (viewOf s (now (mem .entry))))) ⌝ }
     ensures { λ r. ⌜ Finds r (FreeAt (viewOf s (now (mem .entry)))) ⌝ }
     ensures { λ r. ⌜ IfPassed r (transactionsGiven (viewOf s (now (mem .entry))) < mostNumbers) ⌝ }
 {
@@ -59,7 +63,7 @@ fn begin_tests(mem: &[u8], s: Sizes) -> Tested
     Tested::Passed(free)
 }
 
-// A transaction is opened; the answer is its number.
+// A transaction of no known keeper is opened; the answer is its number.
 pub fn begin(mem: &mut [u8], scans: Scans) -> Answer
     ensures { λ r. ⌜ ServesBy scans (now (mem .entry)) Call.begin r (now (mem .exit)) kept ⌝ }
 {
@@ -68,7 +72,24 @@ pub fn begin(mem: &mut [u8], scans: Scans) -> Answer
     };
     match begin_tests(mem, s) {
         Tested::Failed(x) => Answer::Refused(x),
-        Tested::Passed(free) => Answer::Number(transactions::begin(&mut mem[..n], s, free).0),
+        Tested::Passed(free) => Answer::Number(
+            transactions::begin(&mut mem[..n], s, free, UNKNOWN_KEEPER).0,
+        ),
+    }
+}
+
+// A transaction of a keeper is opened; the answer is its number.
+pub fn begin_as(mem: &mut [u8], scans: Scans, keeper: u32) -> Answer
+    ensures { λ r. ⌜ ServesBy scans (now (mem .entry)) (Call.beginAs keeper) r (now (mem .exit)) kept ⌝ }
+{
+    let Admission::Fit(s, n) = admit(mem, scans) else {
+        return Answer::Refused(Refusal::Memory);
+    };
+    match begin_tests(mem, s) {
+        Tested::Failed(x) => Answer::Refused(x),
+        Tested::Passed(free) => Answer::Number(
+            transactions::begin(&mut mem[..n], s, free, keeper).0,
+        ),
     }
 }
 

@@ -26,11 +26,11 @@ above zero x h r = h
 above (suc n) x h r = let l = above n x h (r .0) in let d = r .1 in omega arith
 
 -- a byte that is none of those that have a command
-pub past : (byte : ℕ) → NoneTo 18 byte × (byte ≡ 0 → ⊥) → Chosen.Refused Refusal.Command ≡ chosen byte
+pub past : (byte : ℕ) → NoneTo 20 byte × (byte ≡ 0 → ⊥) → Chosen.Refused Refusal.Command ≡ chosen byte
 unfolding chosen commands
 past byte r =
     let z = r .1 in
-    let h : 18 < byte = above 18 byte (omega arith) (r .0) in
+    let h : 20 < byte = above 20 byte (omega arith) (r .0) in
     sym (List·getD-eq-default commands (Chosen.Refused Refusal.Command) h)
 
 -- ---- what holds of each entry, and of no command, holds of every byte

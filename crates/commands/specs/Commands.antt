@@ -11,7 +11,7 @@ use mir.Val.{toZ}
 use Rattle.terms.specs.Measures.{Shape, mostColumns, lentStamps}
 use Rattle.terms.specs.declared.Refusal.{Refusal}
 use Rattle.words.specs.Words.{words}
-use Rattle.history.specs.History.{Call, begin, insert, update, delete, commit, abort, latest, readAt, ownRead, openScan, scanRead, sum, close, merge, release, pageCell, lineage, crossings}
+use Rattle.history.specs.History.{Call, begin, insert, update, delete, commit, abort, latest, readAt, ownRead, openScan, scanRead, sum, close, merge, release, pageCell, lineage, crossings, beginAs, keeperAt}
 use Rattle.commands.specs.declared.Read.{Read}
 use Rattle.commands.specs.declared.Write.{Write}
 use Rattle.commands.specs.declared.Kind.{Kind}
@@ -99,6 +99,10 @@ commands =
     ∷ numbers (Kind.Read Read.Lineage) (1 ∷ 1 ∷ [])
     -- 12 crossings: row, column, mark (4, signed), from, to
     ∷ numbers Kind.Crossings (2 ∷ 1 ∷ 4 ∷ 4 ∷ 4 ∷ [])
+    -- 13 begin as: keeper (2)
+    ∷ numbers (Kind.Write Write.BeginAs) (2 ∷ [])
+    -- 14 keeper at: stamp, row, column
+    ∷ numbers (Kind.Read Read.KeeperAt) (4 ∷ 2 ∷ 1 ∷ [])
     ∷ []
 
 -- 3.19: a byte that is no command
@@ -170,6 +174,7 @@ readOf Read.ScanRead ns = scanRead (first ns) (second ns) (third ns)
 readOf Read.Sum ns = sum (first ns) (second ns)
 readOf Read.PageCell ns = pageCell (first ns) (second ns)
 readOf Read.Lineage ns = lineage (first ns) (second ns)
+readOf Read.KeeperAt ns = keeperAt (first ns) (second ns) (third ns)
 
 unfoldable pub writeOf : Write → List ℕ → List ℤ → Call
 writeOf Write.Begin ns vs = begin
@@ -180,6 +185,7 @@ writeOf Write.Commit ns vs = commit (first ns) (second ns)
 writeOf Write.Abort ns vs = abort (first ns)
 writeOf Write.Merge ns vs = merge (first ns) (second ns) (third ns)
 writeOf Write.Release ns vs = release
+writeOf Write.BeginAs ns vs = beginAs (first ns)
 
 unfoldable pub callOf : Kind → List ℕ → List ℤ → Call
 callOf (Kind.Read k) ns vs = readOf k ns

@@ -20,6 +20,7 @@ pub enum Read {
     Sum,
     PageCell,
     Lineage,
+    KeeperAt,
 }
 
 // Those that change the memory and leave the scan list.
@@ -32,6 +33,7 @@ pub enum Write {
     Abort,
     Merge,
     Release,
+    BeginAs,
 }
 
 // All calls: these, the two that change the list, and the one that writes into a slice.
@@ -117,7 +119,9 @@ pub fn choose(byte: u8) -> Chosen
         0x10 => numbers(Kind::Read(Read::PageCell), [1, 2, 0, 0, 0]),
         0x11 => numbers(Kind::Read(Read::Lineage), [1, 1, 0, 0, 0]),
         0x12 => numbers(Kind::Crossings, [2, 1, 4, 4, 4]),
-        0x00 | 0x13..=0xff => Chosen::Refused(Refusal::Command),
+        0x13 => numbers(Kind::Write(Write::BeginAs), [2, 0, 0, 0, 0]),
+        0x14 => numbers(Kind::Read(Read::KeeperAt), [4, 2, 1, 0, 0]),
+        0x00 | 0x15..=0xff => Chosen::Refused(Refusal::Command),
     }
 }
 

@@ -18,12 +18,20 @@ ghost use Rattle.history.specs.History.{Call, given};
 ghost use Rattle.calls.specs.Values.{padded};
 ghost use Rattle.deskrook.specs.Replies.{replyOf, usability, Replied, Replies, RepliesWith, RepliesMade};
 
-// A transaction is opened; the answer is its number.
+// A transaction of no known keeper is opened; the answer is its number.
 #[no_mangle]
 pub extern "C" fn deskrook_begin(mem: &mut [u8], scans: &[ScanEntry]) -> Reply
     ensures { λ r. ⌜ Replies (now (mem .entry)) (now (scans .entry)) Call.begin r (now (mem .exit)) (now (scans .entry)) ⌝ }
 {
     encode(calls::begin(mem, scans))
+}
+
+// A transaction of a keeper is opened; the answer is its number.
+#[no_mangle]
+pub extern "C" fn deskrook_begin_as(mem: &mut [u8], scans: &[ScanEntry], keeper: u16) -> Reply
+    ensures { λ r. ⌜ Replies (now (mem .entry)) (now (scans .entry)) (Call.beginAs keeper) r (now (mem .exit)) (now (scans .entry)) ⌝ }
+{
+    encode(calls::begin_as(mem, scans, keeper))
 }
 
 // A row with a value for each column; the answer is its number. Values past the column count are not looked at; where fewer are lent, the others are 0.
@@ -134,6 +142,20 @@ pub extern "C" fn deskrook_read_at(
     ensures { λ r. ⌜ Replies (now (mem .entry)) (now (scans .entry)) (Call.readAt (stamp .0) (row .0) column) r (now (mem .entry)) (now (scans .entry)) ⌝ }
 {
     encode(calls::read_at(mem, scans, stamp, row, column))
+}
+
+// The keeper of the version of a row and column at a stamp.
+#[no_mangle]
+pub extern "C" fn deskrook_keeper_at(
+    mem: &[u8],
+    scans: &[ScanEntry],
+    stamp: Stamp,
+    row: Row,
+    column: u32,
+) -> Reply
+    ensures { λ r. ⌜ Replies (now (mem .entry)) (now (scans .entry)) (Call.keeperAt (stamp .0) (row .0) column) r (now (mem .entry)) (now (scans .entry)) ⌝ }
+{
+    encode(calls::keeper_at(mem, scans, stamp, row, column))
 }
 
 // The version of a row and column for an open transaction, its own changes among what it sees.

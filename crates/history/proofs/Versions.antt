@@ -78,10 +78,10 @@ pub record ValuesStay (t : Snapshot) (r c : ℕ) (l : List Dated) (h : History) 
   pub given : r < length (h .rows)
 
 module _ {t : Snapshot} {r c : ℕ} {l : List Dated} {h : History} (s : ValuesStay t r c l h) where
-  states-stay : {ts : List State} {last : Commit} → NewStates h ts last → ValuesStay t r c l (withTransactions h ts last)
+  states-stay : {ts : List State} {ks : List ℕ} {last : Commit} → NewStates h ts ks last → ValuesStay t r c l (withTransactions h ts ks last)
   unfolding valuesSeen seenAt stateOf rowAt inserted insertedValue withTransactions dated
-  states-stay {ts} {last} n =
-      let h′ : History = withTransactions h ts last in
+  states-stay {ts} {ks} {last} n =
+      let h′ : History = withTransactions h ts ks last in
       let k : ℕ = (rowAt h r) .inserter in
       record {
         same = rw (

@@ -14,6 +14,8 @@ use Rattle.history.specs.Records.{isOriginal, wasSet, hasOriginal}
 -- ---- nothing passes the measures: the room for rows, records, active transactions, running scans and pages is enough
 pub record Limits (S : Shape) (h : History) : Type 0 where
   pub transactions : length (h .transactions) ≤ mostNumbers
+  -- a keeper for each
+  pub keepers : length (h .keepers) ≡ length (h .transactions)
   -- an ordinal for each transaction that is committed, and no more
   pub commits : h .last .ordinal ≡ count isCommitted (h .transactions)
   pub actives : count isActive (h .transactions) ≤ mostTransactions

@@ -31,9 +31,10 @@ pub data Closing (h : History) : State → Commit → Type 0 where
   by-abort : Closing h aborted (h .last)
 
 -- the nine ways: none, two that end with new states, a row more, records more, two with new scans, two with new merges
-pub data NewStates (h : History) : List State → Commit → Type 0 where
-  began : length (h .transactions) < mostNumbers → count isActive (h .transactions) < mostTransactions → NewStates h (h .transactions ++ active ∷ []) (h .last)
-  closed : (t : ℕ) {x : State} {s : Commit} → stateOf h t ≡ active → Closing h x s → NewStates h (change (h .transactions) t x) s
+pub data NewStates (h : History) : List State → List ℕ → Commit → Type 0 where
+  began : (k : ℕ) → length (h .transactions) < mostNumbers → count isActive (h .transactions) < mostTransactions
+      → NewStates h (h .transactions ++ active ∷ []) (h .keepers ++ k ∷ []) (h .last)
+  closed : (t : ℕ) {x : State} {s : Commit} → stateOf h t ≡ active → Closing h x s → NewStates h (change (h .transactions) t x) (h .keepers) s
 
 pub data NewScans (h : History) : List Scan → Type 0 where
   scanOpened : {s : ℕ} → s ≤ h .last .stamp → length (h .scans) < mostNumbers → count (λ s. s .running) (h .scans) < mostScans
@@ -55,7 +56,7 @@ pub data NewMerges (S : Shape) (h : History) : Call → List Merge → Type 0 wh
 
 pub data Step (S : Shape) (h : History) : Call → History → Type 0 where
   nothing : {c : Call} → Step S h c h
-  newStates : {c : Call} {l : List State} {s : Commit} → NewStates h l s → Step S h c (withTransactions h l s)
+  newStates : {c : Call} {l : List State} {ks : List ℕ} {s : Commit} → NewStates h l ks s → Step S h c (withTransactions h l ks s)
   rowGiven : {c : Call} (t : ℕ) (vs : List ℤ) → stateOf h t ≡ active → length (h .rows) < S .ranges * rangeRows
       → Step S h c (withRows h (h .rows ++ record { inserter = t; values = vs } ∷ []))
   recordsMade : {c : Call} (t r : ℕ) {m : List Record} → Writable h t r → Made S h t r m → length (recordsOf h (rangeOf r)) + length m ≤ S .capacity

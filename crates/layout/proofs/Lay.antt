@@ -61,6 +61,9 @@ named m d Region.Cells = refl
 named m d Region.Changes = refl
 named m d Region.RowOrdinal = refl
 named m d Region.TailOrdinal = refl
+named m d Region.RowKeeper = refl
+named m d Region.TailKeeper = refl
+named m d Region.OpenKeeper = refl
 
 -- no two regions have one number
 pub same-region : (k l : Region) → index k ≡ index l → k ≡ l

@@ -1,6 +1,6 @@
 -- The table of regions: the number, the length and the order of each, and what follows of it: where each starts, and the words needed.
 -- A new region is a line at the end of each of `index`, `lens` and `all`, a case of the code's `Region` and a line of its `start` and `words_needed` (src/lib.rt).
-use Prim.Native.Nat.{ℕ, _+_, _*_, _-_}
+use Prim.Native.Nat.{ℕ, _+_, _*_, _-_, _/_, _%_}
 use mathlib.Core.List.{List, [], _∷_}
 use lib.ListN.{getD}
 use Rattle.terms.specs.Measures.{Shape, rangeRows, mostTransactions}
@@ -36,6 +36,9 @@ index Region.Cells = 23
 index Region.Changes = 24
 index Region.RowOrdinal = 25
 index Region.TailOrdinal = 26
+index Region.RowKeeper = 27
+index Region.TailKeeper = 28
+index Region.OpenKeeper = 29
 
 abbrev pub headerWords : ℕ
 headerWords = 16
@@ -54,6 +57,9 @@ lens s =
     ∷ mostTransactions
     ∷ s .rows
     ∷ s .slots
+    ∷ s .rows
+    ∷ s .slots
+    ∷ mostTransactions
     ∷ []
 
 abbrev pub all : List Region
@@ -70,6 +76,9 @@ all =
     ∷ Region.Changes
     ∷ Region.RowOrdinal
     ∷ Region.TailOrdinal
+    ∷ Region.RowKeeper
+    ∷ Region.TailKeeper
+    ∷ Region.OpenKeeper
     ∷ []
 
 abbrev pub len : Sizes → Region → ℕ
@@ -93,6 +102,7 @@ slot S g k = firstSlot (S .capacity) g + (k - 1)
 
 -- ---- the words of the header
 
+-- the columns, and in the upper half of the word the stored form
 abbrev pub columnsAt : ℕ
 columnsAt = 0
 
@@ -123,3 +133,21 @@ mergesAt = 8
 
 abbrev pub commitsAt : ℕ
 commitsAt = 9
+
+-- ---- the stored form (8.11): form 1 has the columns alone in their word, at most 16; each later form adds one of these
+abbrev pub formUnit : ℕ
+formUnit = 65536
+
+-- form 2: form 1 with the regions of keepers behind the others
+abbrev pub newestForm : ℕ
+newestForm = 2
+
+-- the columns' word in a memory of a form
+abbrev pub columnsWord : ℕ → ℕ → ℕ
+columnsWord form columns = (form - 1) * formUnit + columns
+
+abbrev pub formIn : ℕ → ℕ
+formIn word = word / formUnit + 1
+
+abbrev pub columnsIn : ℕ → ℕ
+columnsIn word = word % formUnit

@@ -61,9 +61,14 @@ pub enum Region {
     // the ordinal of the commit of each row's insert and of each tail record: the commits made up to and with it
     RowOrdinal,
     TailOrdinal,
+    // the keeper of each row's inserter; of each tail record's transaction, but of the row's inserter where the record holds original values; and of each open
+    // transaction, entry by entry as in Opens
+    RowKeeper,
+    TailKeeper,
+    OpenKeeper,
 }
 
-// The header's length, and its words; those from 10 on are not used.
+// The header's length, and its words; those from 10 on are not used. The columns' word has the stored form in its upper half.
 pub const HEADER_WORDS: usize = 16;
 
 pub const HEADER_COLUMNS: usize = 0;
@@ -85,6 +90,11 @@ pub const HEADER_STAMP: usize = 7;
 pub const HEADER_MERGES: usize = 8;
 
 pub const HEADER_COMMITS: usize = 9;
+
+// The stored form is told by what is added to the columns in their word: nothing in form 1, this for each later one. A store is in form 2.
+pub const FORM_UNIT: u32 = 65_536;
+
+pub const FORM: u32 = 2;
 
 // Where the rows' regions begin, in every shape.
 const ROWS_FROM: usize = HEADER_WORDS + MOST_TRANSACTIONS;
@@ -176,6 +186,9 @@ fn start(s: Sizes, k: Region) -> usize
     let cells = page_newest + pages;
     let changes = cells + pages * RANGE_ROWS;
     let row_ordinal = changes + MOST_TRANSACTIONS;
+    let tail_ordinal = row_ordinal + rows;
+    let row_keeper = tail_ordinal + slots;
+    let tail_keeper = row_keeper + rows;
     match k {
         Region::Header => 0,
         Region::Opens => HEADER_WORDS,
@@ -203,7 +216,10 @@ fn start(s: Sizes, k: Region) -> usize
         Region::Cells => cells,
         Region::Changes => changes,
         Region::RowOrdinal => row_ordinal,
-        Region::TailOrdinal => row_ordinal + rows,
+        Region::TailOrdinal => tail_ordinal,
+        Region::RowKeeper => row_keeper,
+        Region::TailKeeper => tail_keeper,
+        Region::OpenKeeper => tail_keeper + slots,
     }
 }
 
@@ -220,7 +236,7 @@ pub fn words_needed(s: Sizes) -> usize
     requires { ⌜ need s < 2 ^ 62 ⌝ }
     ensures { λ r. ⌜ r ≡ need s ⌝ }
 {
-    start(s, Region::TailOrdinal) + s.slots
+    start(s, Region::OpenKeeper) + MOST_TRANSACTIONS
 }
 
 // The bytes that a shape needs, within the bound of rule 8.3 of docs/SPECIFICATION.md.

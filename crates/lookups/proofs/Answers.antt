@@ -21,8 +21,8 @@ use Rattle.scans.specs.declared.Scans.{Scans}
 use Rattle.scans.specs.Entries.{openCount}
 use Rattle.scans.specs.Table.{tableOf}
 use Rattle.model.specs.Stored.{scanEntry, openIndex, currentIn, pageIn, cellIn}
-use Rattle.model.specs.Calls.{testsIn}
-use Rattle.model.specs.Reading.{reader, snapshotOf, readIn, readCurrent, scanPage, sumIn}
+use Rattle.model.specs.Calls.{readAtTestsIn, testsIn}
+use Rattle.model.specs.Reading.{reader, snapshotOf, readIn, readCurrent, keeperIn, scanPage, sumIn}
 use Rattle.model.specs.declared.Reader.{Reader}
 use Rattle.model.specs.Preconditions.{shapeIn, OpenAt}
 use Rattle.rows.proofs.Indices.{row-in}
@@ -62,6 +62,15 @@ pub latest-tests : (s : Sizes) (m : List ℕ) (r c : ℕ) (d : Tested) → Says 
 unfolding Tests testsIn
 latest-tests s m r c d h = λ ps. h
 
+-- the tests of read at are those of its keeper
+pub read-at-tests : (s : Sizes) (m : List ℕ) (t r c : ℕ) (d : Tested) → Says d (verdict (readAtTestsIn (shapeIn s) (viewOf s m) t r c)) → Tests s m (Call.readAt t r c) d
+unfolding Tests testsIn
+read-at-tests s m t r c d h = λ ps. h
+
+pub keeper-at-tests : (s : Sizes) (m : List ℕ) (t r c : ℕ) (d : Tested) → Says d (verdict (readAtTestsIn (shapeIn s) (viewOf s m) t r c)) → Tests s m (Call.keeperAt t r c) d
+unfolding Tests testsIn
+keeper-at-tests s m t r c d h = λ ps. h
+
 -- ---- the scan that an entry of the table stands for
 pub is-scan : (t : Scans) (k j x y z : ℕ) → x ≡ getD (t .stamps) j 0 → y ≡ getD (t .merges) j 0 → z ≡ getD (t .commits) j 0
     → IsScan t k j record { number = k; stamp = x; merges = y; commits = z }
@@ -95,6 +104,9 @@ module _ (d : Tested) (t : Scans) (k j : ℕ) (p : ScanEntry) (n : IsScan t k j 
 -- ---- what the calls answer, by what they read
 pub reader-answer : (S : Shape) (v : View) (a : Answer) (who : Reader) (t : Snapshot) (m r c : ℕ) → who ≡ reader t m → a ≡ readCurrent S v who r c → a ≡ readCurrent S v (reader t m) r c
 reader-answer S v a who t m r c e h = rw e at h
+
+pub keeper-answer : (S : Shape) (v : View) (a : Answer) (who : Reader) (t : Snapshot) (m r c : ℕ) → who ≡ reader t m → a ≡ keeperIn S v who r c → a ≡ keeperIn S v (reader t m) r c
+keeper-answer S v a who t m r c e h = rw e at h
 
 pub index-open : (d : Tested) (v : View) (t j : ℕ) → d ≡ Tested.Passed j → Finds d (OpenAt v t) → j ≡ openIndex v t
 index-open d v t j p q = found d (OpenAt v t) j p q .found

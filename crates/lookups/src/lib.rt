@@ -1,4 +1,4 @@
-// The calls that only read, over the lent memory and the table of the lent scan list: latest, read at, own read, scan read, sum, page cell, lineage and crossings. Each call is
+// The calls that only read, over the lent memory and the table of the lent scan list: latest, read at, keeper at, own read, scan read, sum, page cell, lineage and crossings. Each call is
 // the test of memory and list, the call's own tests in the order of section 4 of docs/SPECIFICATION.md, and then the function that reads.
 use admission::Admission;
 use admission::Tested;
@@ -22,6 +22,7 @@ use reading::base_pages::current_page;
 use reading::base_pages::scan_page;
 use reading::read_cell;
 use reading::read_current;
+use reading::read_keeper;
 use reading::scan_reader;
 use regions::read;
 use rows::range_of;
@@ -41,6 +42,7 @@ ghost use Prim.Native.Nat.{ℕ, _<_};
 ghost use Rattle.terms.specs.Measures.{mostScans};
 ghost use Rattle.layout.specs.View.{viewOf};
 ghost use Rattle.history.specs.History.{Call, given, verdict, rangeOf};
+ghost use Rattle.model.specs.Calls.{readAtTestsIn};
 ghost use Rattle.model.specs.Versions.{crossingsIn};
 ghost use Rattle.model.specs.Preconditions.{shapeIn, OpenAt};
 ghost use Rattle.crossing.specs.Steps.{ListsAll};
@@ -83,10 +85,10 @@ pub fn latest(mem: &[u8], t: Scans, row: Row, column: u32) -> Answer
     }
 }
 
-// The tests of read at; where they are passed, the row's range.
+// The tests of read at, and of its keeper; where they are passed, the row's range.
 fn read_at_tests(mem: &[u8], s: Sizes, stamp: Stamp, row: Row, column: u32) -> Tested
     requires { ⌜ Fitted s (now mem) ⌝ }
-    ensures { λ r. ⌜ Tests s (now (mem .entry)) (Call.readAt (stamp .0) (row .0) column) r ⌝ }
+    ensures { λ r. ⌜ Says r (verdict (readAtTestsIn (shapeIn s) (viewOf s (now (mem .entry))) (stamp .0) (row .0) column)) ⌝ }
     ensures { λ r. ⌜ IfPassed r (CellThere s (viewOf s (now (mem .entry))) (row .0) column) ⌝ }
 {
     if later(mem, s, stamp) {
@@ -107,6 +109,22 @@ pub fn read_at(mem: &[u8], t: Scans, stamp: Stamp, row: Row, column: u32) -> Ans
         Tested::Passed(_) => {
             let who = reader_at(stamp, Transaction(0));
             read_current(mem, s, who, row, column)
+        }
+    }
+}
+
+// The keeper of the version of a row and column at a stamp.
+pub fn keeper_at(mem: &[u8], t: Scans, stamp: Stamp, row: Row, column: u32) -> Answer
+    ensures { λ r. ⌜ ServesBy t (now (mem .entry)) (Call.keeperAt (stamp .0) (row .0) column) r (now (mem .entry)) kept ⌝ }
+{
+    let Admission::Fit(s, _) = admit(mem, t) else {
+        return Answer::Refused(Refusal::Memory);
+    };
+    match read_at_tests(mem, s, stamp, row, column) {
+        Tested::Failed(x) => Answer::Refused(x),
+        Tested::Passed(_) => {
+            let who = reader_at(stamp, Transaction(0));
+            read_keeper(mem, s, who, row, column)
         }
     }
 }

@@ -1,5 +1,7 @@
 // Making a store in a lent memory: the lengths are tested, and then every word that the shape needs is written, so that nothing of what the memory held before
 // is left in it.
+use layout::FORM;
+use layout::FORM_UNIT;
 use layout::HEADER_CAPACITY;
 use layout::HEADER_COLUMNS;
 use layout::HEADER_RANGES;
@@ -20,7 +22,7 @@ use terms::limits::MOST_SCANS;
 ghost use mathlib.Core.Path.{_≡_};
 ghost use Prim.Native.Nat.{_*_, _≤_, _<_};
 ghost use lib.ListN.{length};
-ghost use Rattle.terms.specs.Measures.{mostPages};
+ghost use Rattle.terms.specs.Measures.{mostColumns, mostPages};
 ghost use Rattle.model.specs.Writing.{madeView};
 ghost use Rattle.layout.specs.Regions.{need, columnsAt, rangesAt, capacityAt, sparesAt};
 ghost use Rattle.layout.specs.declared.Region.the-variants.{Header};
@@ -49,25 +51,27 @@ fn name_pages(mem: &mut [u8], s: Sizes)
     count_in(mem, s, Region::Current, 0, n);
 }
 
-fn put_measures(mem: &mut [u8], s: Sizes, columns: u32, ranges: u32, capacity: u32, spares: u32)
+// The measures; the first is the word of the columns, with the form.
+fn put_measures(mem: &mut [u8], s: Sizes, word: u32, ranges: u32, capacity: u32, spares: u32)
     requires { ⌜ Suffices s (now mem) ⌝ }
-    ensures { λ _. ⌜ viewOf s (now (mem .exit)) ≡ put Header columnsAt columns (put Header rangesAt ranges (put Header capacityAt capacity (put Header sparesAt spares (viewOf s (now (mem .entry)))))) ⌝ }
+    ensures { λ _. ⌜ viewOf s (now (mem .exit)) ≡ put Header columnsAt word (put Header rangesAt ranges (put Header capacityAt capacity (put Header sparesAt spares (viewOf s (now (mem .entry)))))) ⌝ }
 {
     write(mem, s, Region::Header, HEADER_SPARES, spares);
     write(mem, s, Region::Header, HEADER_CAPACITY, capacity);
     write(mem, s, Region::Header, HEADER_RANGES, ranges);
-    write(mem, s, Region::Header, HEADER_COLUMNS, columns);
+    write(mem, s, Region::Header, HEADER_COLUMNS, word);
 }
 
 // The needed part of a memory, made.
 fn lay_out(mem: &mut [u8], s: Sizes, columns: u32, ranges: u32, capacity: u32, spares: u32)
     requires { ⌜ (Suffices s (now mem)) × (need s < tooManyWords) ⌝ }
-    requires { ⌜ (s ≡ sizesOf (shapeOf columns ranges capacity spares)) × (s .chunks ≤ s .pages) × (s .pages ≤ mostPages) ⌝ }
+    requires { ⌜ (s ≡ sizesOf (shapeOf columns ranges capacity spares)) × (s .chunks ≤ s .pages) × (s .pages ≤ mostPages) × (columns ≤ mostColumns) ⌝ }
     ensures { λ _. ⌜ viewOf s (now (mem .exit)) ≡ madeView (shapeOf columns ranges capacity spares) ⌝ }
 {
     clear(mem, s);
     name_pages(mem, s);
-    put_measures(mem, s, columns, ranges, capacity, spares);
+    let word = (FORM - 1) * FORM_UNIT + columns;
+    put_measures(mem, s, word, ranges, capacity, spares);
 }
 
 // A store of a shape, in a memory and with a scan list of so many entries.

@@ -18,7 +18,7 @@ use Rattle.terms.specs.Measures.{Shape, rangeRows, mostNumbers, mostScans}
 use Rattle.terms.specs.declared.Refusal.{Refusal}
 use Rattle.terms.specs.declared.Answer.{Answer}
 use Rattle.history.specs.History as H
-use Rattle.history.specs.History.{Call, begin, insert, update, delete, commit, abort, latest, readAt, ownRead, openScan, scanRead, sum, close, merge, release, pageCell, lineage, crossings, History, Record, Snapshot, snapshotAt, latestSnapshot, active, Test, _when_, Verdict, accept, refuse, verdict, tests, reply, effect, answer, next, answerIf, nextIf, stampsAfter, stampsIf, sliceOf, filled, crossingsBetween, noSpan, outnumber, any, filterb, count, upTo, total, stateOf, rowAt, rangeOf, recordsOf, seenAt, seenBy, ended, visible, versionOf, shown, read, scanAt, inserted, lastSetting, cellValue, notActive, notRunning, notGiven, noColumn, noRange, lacksRecords, earlier, later, outOfReach, noPage, cellThrough}
+use Rattle.history.specs.History.{Call, begin, insert, update, delete, commit, abort, latest, readAt, ownRead, openScan, scanRead, sum, close, merge, release, pageCell, lineage, crossings, beginAs, keeperAt, History, Record, Snapshot, snapshotAt, latestSnapshot, active, Test, _when_, Verdict, accept, refuse, verdict, tests, reply, effect, answer, next, answerIf, nextIf, stampsAfter, stampsIf, sliceOf, filled, crossingsBetween, noSpan, outnumber, any, filterb, count, upTo, total, stateOf, rowAt, rangeOf, recordsOf, seenAt, seenBy, ended, visible, versionOf, shown, read, scanAt, inserted, lastSetting, cellValue, notActive, notRunning, notGiven, noColumn, noRange, lacksRecords, earlier, later, outOfReach, noPage, cellThrough}
 use Rattle.history.proofs.Lists.{by-test, all-map, all-at, filterb-append, any-agree, not-not, parts}
 use Rattle.history.proofs.Accepted.{Passed, passed}
 use Rattle.history.proofs.Steps.{mergeable, is-active, within-reach, step, made-new}
@@ -37,13 +37,13 @@ use Rattle.model.specs.Stored.{cellIn, currentIn, within, openIndex, sca
 use Rattle.model.specs.declared.Reader.{Reader}
 use Rattle.model.specs.Reading.{reader, allUpTo, snapshotOf, readIn, readCurrent, ownChanges, wordIn, scanPage, Tally, tally, sumIn}
 use Rattle.model.specs.Versions.{crossingsIn}
-use Rattle.model.specs.Calls.{testsIn, replyIn, stampsIn, stampsNext, actIn, entriesAfter, viewIf, entriesIf, say, viewNext, entriesNext, notOpenIn, noScanIn, notGivenIn, lacksIn, earlierIn, laterIn, noSpanIn, outOfReachIn, Typed}
+use Rattle.model.specs.Calls.{beginTestsIn, readAtTestsIn, testsIn, replyIn, stampsIn, stampsNext, actIn, entriesAfter, viewIf, entriesIf, say, viewNext, entriesNext, notOpenIn, noScanIn, notGivenIn, lacksIn, earlierIn, laterIn, noSpanIn, outOfReachIn, Typed}
 use Rattle.model.specs.Represents.{everyRow, CurrentOf, Unchanged, scanAs, Represents, WellFormed, SameCall, StepKept}
 use Rattle.model.proofs.Opens.{opens-is, opens-full, open-there, active-given}
 use Rattle.model.proofs.changes.Transactions.{begin-kept, commit-kept, abort-kept}
 use Rattle.model.proofs.changes.Insert.{insert-kept}
 use Rattle.model.proofs.lookups.Heads.{in-range, SeesAs, sees-at, sees-own, sees-all, held-is, gone-is, visible-is}
-use Rattle.model.proofs.lookups.Read.{word-is, read-is}
+use Rattle.model.proofs.lookups.Read.{word-is, keeper-is, read-is}
 use Rattle.model.proofs.lookups.Versions.{values-is}
 use Rattle.model.proofs.changes.Records.{delete-kept}
 use Rattle.model.proofs.changes.Update.{wanted-is, update-kept}
@@ -139,10 +139,17 @@ module _ {S : Shape} {v : View} {ps : List ScanEntry} {h : History} (o : Represe
   unfolding outOfReachIn outOfReach
   reach-is g c n a b = ap₂ (λ (x y : ℕ). leb n x || ltb y n) (o .currents g c a b .lineage) (o .tails g a .used-all)
 
+  begin-agrees : Agree (beginTestsIn v) (H.beginTests h)
+  unfolding beginTestsIn H.beginTests H.allActive
+  begin-agrees = test (ap (leb mostNumbers) (o .header .transactions-given)) (λ p. test (opens-full (h .transactions) (v Opens) (o .whole .long Opens) (o .opens)) (λ q. done))
+
+  read-at-agrees : (s r c : ℕ) → Agree (readAtTestsIn S v s r c) (H.readAtTests S h s r c)
+  unfolding readAtTestsIn H.readAtTests
+  read-at-agrees s r c = test (later-is s) (λ z. test (given-is r) (λ p. test refl (λ q. done)))
+
   pub tests-agree : (c : Call) → Agree (testsIn S v ps c) (tests S h c)
-  unfolding testsIn tests notGiven noColumn noRange noPage H.allActive H.allGiven H.allRunning
-  tests-agree begin =
-      test (ap (leb mostNumbers) (o .header .transactions-given)) (λ p. test (opens-full (h .transactions) (v Opens) (o .whole .long Opens) (o .opens)) (λ q. done))
+  unfolding testsIn tests notGiven noColumn noRange noPage H.allGiven H.allRunning
+  tests-agree begin = begin-agrees
   tests-agree (insert t vs) = test (open-is t) (λ p. test (ap (leb (S .ranges * rangeRows)) (o .header .rows-given)) (λ q. done))
   tests-agree (update t r m vs) =
       test (open-is t) (λ p. test (given-is r) (λ u. let b = nleb→lt (length (h .rows)) r u in
@@ -153,7 +160,7 @@ module _ {S : Shape} {v : View} {ps : List ScanEntry} {h : History} (o : Represe
   tests-agree (commit t s) = test (open-is t) (λ p. test (earlier-is s) (λ q. done))
   tests-agree (abort t) = test (open-is t) (λ p. done)
   tests-agree (latest r c) = test (given-is r) (λ p. test refl (λ q. done))
-  tests-agree (readAt s r c) = test (later-is s) (λ z. test (given-is r) (λ p. test refl (λ q. done)))
+  tests-agree (readAt s r c) = read-at-agrees s r c
   tests-agree (ownRead t r c) = test (open-is t) (λ z. test (given-is r) (λ p. test refl (λ q. done)))
   tests-agree (openScan s) =
       test (later-is s) (λ z. test (ap (leb mostNumbers) (o .header .scans-given)) (λ p. test (ap (leb mostScans) (scan-count (h .scans) ps (o .scans))) (λ q. done)))
@@ -171,6 +178,8 @@ module _ {S : Shape} {v : View} {ps : List ScanEntry} {h : History} (o : Represe
   tests-agree (crossings r c mark from to stamps) =
       test (given-is r) (λ p. test refl (λ q. test (span-is from to) (λ z.
       test (ap (λ (l : List ℕ). outnumber l stamps) (crossings-is r c mark from to (nleb→lt _ _ p) (nleb→lt _ _ q))) (λ u. done))))
+  tests-agree (beginAs x) = begin-agrees
+  tests-agree (keeperAt s r c) = read-at-agrees s r c
 
   -- ---- the answers
   -- a reader whose snapshot has every commit made
@@ -269,7 +278,7 @@ module _ {S : Shape} {v : View} {ps : List ScanEntry} {h : History} (o : Represe
       x .holds .cells r refl tt ∙ ap (cellThrough h c r) (x .lineage) ∙ sym (cell-is h c r)
 
   pub reply-same : (c : Call) → Passed (tests S h c) → replyIn S v ps c ≡ reply S h c
-  unfolding replyIn reply tests notGiven noColumn noRange notRunning
+  unfolding replyIn reply tests H.readAtTests notGiven noColumn noRange notRunning
   reply-same begin p = ap Answer.Number (omega (arith, o .header .transactions-given))
   reply-same (insert t vs) p = ap Answer.Number (o .header .rows-given)
   reply-same (update t r m vs) p =
@@ -292,6 +301,8 @@ module _ {S : Shape} {v : View} {ps : List ScanEntry} {h : History} (o : Represe
   reply-same (pageCell c r) p = ap Answer.Value (cell-same c r (search nleb→lt) (search nleb→lt))
   reply-same (lineage g c) p = ap₂ Answer.Lineage (o .currents g c (search nleb→lt) (search nleb→lt) .lineage) (o .tails g (search nleb→lt) .used-all)
   reply-same (crossings r c mark from to stamps) p = ap (λ (l : List ℕ). Answer.Listed (length l)) (crossings-is r c mark from to (search nleb→lt) (search nleb→lt))
+  reply-same (beginAs x) p = ap Answer.Number (omega (arith, o .header .transactions-given))
+  reply-same (keeperAt s r c) p = keeper-is o k (reader (allUpTo s) 0) (seenAt h (snapshotAt h s)) (all-seen s) r (search nleb→lt) c (search nleb→lt)
 
   pub filled-same : (c : Call) → Passed (tests S h c) → stampsIn S v (sliceOf c) ≡ filled h (sliceOf c)
   unfolding stampsIn filled tests notGiven noColumn
@@ -312,6 +323,8 @@ module _ {S : Shape} {v : View} {ps : List ScanEntry} {h : History} (o : Represe
   filled-same release p = refl
   filled-same (pageCell c r) p = refl
   filled-same (lineage g c) p = refl
+  filled-same (beginAs x) p = refl
+  filled-same (keeperAt s r c) p = refl
   filled-same (crossings r c mark from to stamps) p = ap (λ (l : List ℕ). Seq.sets stamps 0 l) (crossings-is r c mark from to (search nleb→lt) (search nleb→lt))
 
   -- ---- what a call leaves
@@ -320,8 +333,8 @@ module _ {S : Shape} {v : View} {ps : List ScanEntry} {h : History} (o : Represe
   free-entry q = not-not (any (λ i. eqb i 0) (v Opens)) (rw (opens-full (h .transactions) (v Opens) (o .whole .long Opens) (o .opens)) q)
 
   pub act-kept : (c : Call) → Typed c → Passed (tests S h c) → Represents S (actIn S v ps c) (entriesAfter v ps c) (effect S h c)
-  unfolding actIn entriesAfter effect tests notGiven notRunning lacksRecords H.allGiven earlier H.allRunning later
-  act-kept begin y p = begin-kept o k (free-entry (search)) (step S h begin p) (search nleb→lt)
+  unfolding actIn entriesAfter effect tests H.beginTests notGiven notRunning lacksRecords H.allGiven earlier H.allRunning later
+  act-kept begin y p = begin-kept o k H.unknownKeeper (free-entry (search)) (step S h begin p) (search nleb→lt) (omega arith)
   act-kept (insert t vs) y p = insert-kept o k t vs (search is-active) (search nleb→lt) (y .1) (step S h (insert t vs) p)
   act-kept (update t r m vs) y p =
       update-kept o k t r m vs (search is-active) (search nleb→lt) (search) (y .2) (y .3) (search nltb→le) (step S h (update t r m vs) p)
@@ -343,6 +356,8 @@ module _ {S : Shape} {v : View} {ps : List ScanEntry} {h : History} (o : Represe
   act-kept (pageCell c r) y p = o
   act-kept (lineage g c) y p = o
   act-kept (crossings r c mark from to stamps) y p = o
+  act-kept (beginAs x) y p = begin-kept o k x (free-entry (search)) (step S h (beginAs x) p) (search nleb→lt) y
+  act-kept (keeperAt s r c) y p = o
 
 -- ---- one call
 pub one-call : StepKept

@@ -15,23 +15,23 @@ use lib.Bits.{bitOr}
 use Rattle.terms.specs.Measures.{Shape, rangeRows}
 use Rattle.terms.specs.declared.ScanEntry.{ScanEntry}
 use Rattle.terms.specs.Entries.{freeEntry}
-use Rattle.history.specs.History.{Call, begin, insert, update, delete, commit, abort, latest, readAt, ownRead, openScan, scanRead, sum, close, merge, release, pageCell, lineage, crossings, Commit, noCommit, rangeOf}
+use Rattle.history.specs.History.{Call, begin, insert, update, delete, commit, abort, latest, readAt, ownRead, openScan, scanRead, sum, close, merge, release, pageCell, lineage, crossings, beginAs, keeperAt, Commit, noCommit, unknownKeeper, rangeOf}
 use Rattle.history.proofs.Lists.{by-cases, is-true, eqb-same, or-left, or-right, le-test}
 use Rattle.loops.specs.Change.{changed, marked}
 use Rattle.loops.proofs.Change.{changed-length, changed-outside}
 use Rattle.layout.specs.Regions.{rowsAt, transactionsAt, scansAt, stampAt, mergesAt, commitsAt}
 use Rattle.layout.specs.View.{View, put, renew, rowsGiven, usedIn}
 use Rattle.layout.specs.declared.Region.{Region}
-use Rattle.layout.specs.declared.Region.the-variants.{Header, Opens, RowTransaction, RowState, RowStamp, RowLink, RowMask, TailTransaction, TailRow, TailKind, TailMask, TailLink, TailState, TailStamp, TailValues, Used, Current, PageState, PageChunk, PageMade, PageReplaced, PageLineage, PageNewest, Cells, Changes, RowOrdinal, TailOrdinal}
+use Rattle.layout.specs.declared.Region.the-variants.{Header, Opens, RowTransaction, RowState, RowStamp, RowLink, RowMask, TailTransaction, TailRow, TailKind, TailMask, TailLink, TailState, TailStamp, TailValues, Used, Current, PageState, PageChunk, PageMade, PageReplaced, PageLineage, PageNewest, Cells, Changes, RowOrdinal, TailOrdinal, RowKeeper, TailKeeper, OpenKeeper}
 use Rattle.layout.specs.Parts.{Part, word, wordsWhere, has, among, ChangedWithin}
 use Rattle.layout.proofs.View.{renew-there}
 use Rattle.layout.proofs.Parts.{among-append, nothing-changed, renew-within, put-within}
-use Rattle.model.specs.Stored.{rowIn, pageIn, pagesOf, currentIn, within, openIndex}
+use Rattle.model.specs.Stored.{rowIn, pageIn, pagesOf, currentIn, within, openIndex, openKeeper}
 use Rattle.model.specs.Writing.{begun, noted, markTails, markAll, settled, freed, nextIn, committedIn, abortedIn, putCells, insertedAt, insertedIn, appended, filledIn, newBitsIn, recordsWanted, originalAppended, settingAppended, updatedIn, deletedIn, mergedIn, releasable, releasedIn, nextSlot, freeIn}
 use Rattle.layout.specs.Regions.{index, firstSlot, slot}
 use Rattle.layout.specs.Codes.{asDelete, asOriginal, asSetting, asCommitted, asAborted, asFree}
 use Rattle.model.specs.Calls.{actIn, newEntry, entriesAfter}
-use Rattle.model.specs.Footprint.{mergeFootprint, cellsWritten, recordsWritten, valuesWritten, rowChanged, bearsAt, recordsBearing, bearing, openWritten, endWritten, footprint, entriesWritten, EntriesWithin}
+use Rattle.model.specs.Footprint.{mergeFootprint, cellsWritten, recordsWritten, valuesWritten, rowChanged, bearsAt, recordsBearing, bearing, openWritten, endWritten, beginWritten, footprint, entriesWritten, EntriesWithin}
 use Rattle.model.proofs.changes.Insert.{cells-length}
 use Rattle.model.proofs.changes.Transactions.{marks-length}
 use Rattle.model.proofs.upkeep.Merge.{applied-length, applied-outside}
@@ -87,21 +87,23 @@ module _ {xs : List Part} {v v′ : View} where
   unfolding noted
   noted-within t a o = put-within Changes (openIndex v′ t) _ a o
 
-  freed-within : (t : ℕ) → T (among Opens (openIndex v′ t) xs) → T (among Changes (openIndex v′ t) xs) → ChangedWithin xs v v′ → ChangedWithin xs v (freed t v′)
+  freed-within : (t : ℕ) → T (among Opens (openIndex v′ t) xs) → T (among Changes (openIndex v′ t) xs) → T (among OpenKeeper (openIndex v′ t) xs) → ChangedWithin xs v v′
+      → ChangedWithin xs v (freed t v′)
   unfolding freed
-  freed-within t a b o = put-within Changes (openIndex v′ t) 0 b (put-within Opens (openIndex v′ t) 0 a o)
+  freed-within t a b c o = put-within OpenKeeper (openIndex v′ t) 0 c (put-within Changes (openIndex v′ t) 0 b (put-within Opens (openIndex v′ t) 0 a o))
 
 -- ---- one tail record more, at a slot of the n from s on
 module _ (xs : List Part) (s n : ℕ) where
-  appended-within : {v v′ : View} (S : Shape) (t r kind mask : ℕ) → T (among RowLink r xs) → T (among Used (rangeOf r) xs) → s ≤ nextSlot S v′ (rangeOf r) → nextSlot S v′ (rangeOf r) < s + n
-      → ChangedWithin (xs ++ recordsWritten s n) v v′ → ChangedWithin (xs ++ recordsWritten s n) v (appended S t r kind mask v′)
+  appended-within : {v v′ : View} (S : Shape) (t keeper r kind mask : ℕ) → T (among RowLink r xs) → T (among Used (rangeOf r) xs) → s ≤ nextSlot S v′ (rangeOf r) → nextSlot S v′ (rangeOf r) < s + n
+      → ChangedWithin (xs ++ recordsWritten s n) v v′ → ChangedWithin (xs ++ recordsWritten s n) v (appended S t keeper r kind mask v′)
   unfolding appended
-  appended-within {v′ = v′} S t r kind mask a b from to o =
+  appended-within {v′ = v′} S t keeper r kind mask a b from to o =
       let i = nextSlot S v′ (rangeOf r) in
       let q = in-stretch s n (nextSlot S v′ (rangeOf r)) from to in
       let records = recordsWritten s n in
       put-within RowLink r _ (in-front RowLink r xs records a)
       (put-within Used (rangeOf r) _ (in-front Used (rangeOf r) xs records b)
+      (put-within TailKeeper i keeper (behind TailKeeper i xs records (simp q tt))
       (put-within TailOrdinal i 0 (behind TailOrdinal i xs records (simp q tt))
       (put-within TailStamp i 0 (behind TailStamp i xs records (simp q tt))
       (put-within TailState i _ (behind TailState i xs records (simp q tt))
@@ -109,7 +111,7 @@ module _ (xs : List Part) (s n : ℕ) where
       (put-within TailMask i mask (behind TailMask i xs records (simp q tt))
       (put-within TailKind i kind (behind TailKind i xs records (simp q tt))
       (put-within TailRow i r (behind TailRow i xs records (simp q tt))
-      (put-within TailTransaction i t (behind TailTransaction i xs records (simp q tt)) o)))))))))
+      (put-within TailTransaction i t (behind TailTransaction i xs records (simp q tt)) o))))))))))
 
 -- its values
 filled-within : {xs : List Part} {v v′ : View} (S : Shape) (s n k : ℕ) (f : ℕ → ℕ) → s ≤ k → k < s + n
@@ -143,8 +145,9 @@ inserted-within ps S t vs v =
     (renew-within Cells _ (cells-length S (v Current) _ _ vs (v Cells) (S .columns)) (cells-within S v (rowsGiven v) vs (S .columns))
     (put-within RowMask _ 0 (simp word-here tt)
     (put-within RowLink _ 0 (simp word-here tt)
+    (put-within RowKeeper _ _ (simp word-here tt)
     (put-within RowOrdinal _ 0 (simp word-here tt)
-    (put-within RowStamp _ 0 (simp word-here tt) (put-within RowState _ _ (simp word-here tt) (put-within RowTransaction _ t (simp word-here tt) nothing-changed))))))))
+    (put-within RowStamp _ 0 (simp word-here tt) (put-within RowState _ _ (simp word-here tt) (put-within RowTransaction _ t (simp word-here tt) nothing-changed)))))))))
 
 -- ---- merge: the cells of its page, a copy to which the settings are applied, and nine words
 merge-within : (S : Shape) (v : View) (g c n : ℕ) → ChangedWithin (mergeFootprint S v g c) v (mergedIn S g c n v)
@@ -197,23 +200,23 @@ updated-within ps S t r m vs v = go (eqb (newBitsIn v r m) 0)
     first = originalAppended S t r m v
 
     -- one record more
-    taken : {u : View} (n kind mask : ℕ) (f : ℕ → ℕ) → s ≤ nextSlot S u g → nextSlot S u g < s + n → ChangedWithin (parts n) v u → ChangedWithin (parts n) v (filledIn S (nextSlot S u g) f (appended S t r kind mask u))
-    taken {u} n kind mask f from to o =
+    taken : {u : View} (n keeper kind mask : ℕ) (f : ℕ → ℕ) → s ≤ nextSlot S u g → nextSlot S u g < s + n → ChangedWithin (parts n) v u → ChangedWithin (parts n) v (filledIn S (nextSlot S u g) f (appended S t keeper r kind mask u))
+    taken {u} n keeper kind mask f from to o =
         filled-within S s n (nextSlot S u g) f from to (λ j q. simp q tt)
-        (appended-within (word RowMask r ∷ valuesWritten S s n ∷ rowChanged v t r) s n S t r kind mask (simp word-here tt) (simp word-here tt) from to o)
+        (appended-within (word RowMask r ∷ valuesWritten S s n ∷ rowChanged v t r) s n S t keeper r kind mask (simp word-here tt) (simp word-here tt) from to o)
 
-    go : (b : Bool) → ChangedWithin (parts (cond b 1 2)) v (noted t (put RowMask r (bitOr m ((rowIn v r) .mask)) (cond b (settingAppended S t r m vs v) (settingAppended S t r m vs first))))
-    go true = noted-within t (simp word-here tt) (put-within RowMask r _ (simp word-here tt) (taken 1 asSetting m _ (omega arith) (omega arith) nothing-changed))
+    go : (b : Bool) → ChangedWithin (parts (cond b 1 2)) v (noted t (put RowMask r (bitOr m ((rowIn v r) .mask)) (cond b (settingAppended S t (openKeeper v t) r m vs v) (settingAppended S t (openKeeper v t) r m vs first))))
+    go true = noted-within t (simp word-here tt) (put-within RowMask r _ (simp word-here tt) (taken 1 _ asSetting m _ (omega arith) (omega arith) nothing-changed))
     go false =
         let q = next-slot S v first g refl in
         noted-within t (simp word-here tt)
-        (put-within RowMask r _ (simp word-here tt) (taken 2 asSetting m _ (q .0) (q .1) (taken 2 asOriginal (newBitsIn v r m) _ (omega arith) (omega arith) nothing-changed)))
+        (put-within RowMask r _ (simp word-here tt) (taken 2 _ asSetting m _ (q .0) (q .1) (taken 2 _ asOriginal (newBitsIn v r m) _ (omega arith) (omega arith) nothing-changed)))
 
 deleted-within : (ps : List ScanEntry) (S : Shape) (t r : ℕ) (v : View) → ChangedWithin (footprint S v ps (delete t r)) v (deletedIn S t r v)
 unfolding footprint deletedIn appended put renew openIndex
 deleted-within ps S t r v =
     noted-within t (simp word-here tt)
-    (appended-within (rowChanged v t r) (nextSlot S v (rangeOf r)) 1 S t r asDelete 0 (simp word-here tt) (simp word-here tt) (omega arith) (omega arith) nothing-changed)
+    (appended-within (rowChanged v t r) (nextSlot S v (rangeOf r)) 1 S t _ r asDelete 0 (simp word-here tt) (simp word-here tt) (omega arith) (omega arith) nothing-changed)
 
 -- ---- commit and abort
 records-within : (S : Shape) (used ks : List ℕ) (t w : ℕ) (k : Region) (l : List ℕ) (n j : ℕ) → (getD (markTails S used ks t w n l) j 0 ≡ getD l j 0) ⊎ T (among k j (recordsBearing S used ks t k n))
@@ -254,16 +257,24 @@ unfolding footprint committedIn settled markAll renew openIndex
 committed-within ps S t s v =
     put-within Header commitsAt _ tt
     (put-within Header stampAt s tt
-    (freed-within t (simp word-here tt) (simp word-here tt) (settled-within (word Header stampAt ∷ word Header commitsAt ∷ openWritten (openIndex v t)) S v t asCommitted (nextIn v s))))
+    (freed-within t (simp word-here tt) (simp word-here tt) (simp word-here tt) (settled-within (word Header stampAt ∷ word Header commitsAt ∷ openWritten (openIndex v t)) S v t asCommitted (nextIn v s))))
 
 aborted-within : (ps : List ScanEntry) (S : Shape) (t : ℕ) (v : View) → ChangedWithin (footprint S v ps (abort t)) v (abortedIn S t v)
 unfolding footprint abortedIn settled markAll renew openIndex
-aborted-within ps S t v = freed-within t (simp word-here tt) (simp word-here tt) (settled-within (openWritten (openIndex v t)) S v t asAborted noCommit)
+aborted-within ps S t v = freed-within t (simp word-here tt) (simp word-here tt) (simp word-here tt) (settled-within (openWritten (openIndex v t)) S v t asAborted noCommit)
+
+-- ---- begin
+begun-within : (x : ℕ) (v : View) → ChangedWithin (beginWritten v) v (begun x v)
+unfolding begun
+begun-within x v =
+    put-within Header transactionsAt _ tt (put-within OpenKeeper _ x (simp word-here tt) (put-within Changes _ 0 (simp word-here tt) (put-within Opens _ _ (simp word-here tt) nothing-changed)))
 
 -- ---- every call
 pub act-within : (S : Shape) (v : View) (ps : List ScanEntry) (c : Call) → ChangedWithin (footprint S v ps c) v (actIn S v ps c)
-unfolding actIn footprint begun releasedIn
-act-within S v ps begin = (put-within Header transactionsAt _ tt (put-within Changes _ 0 (simp word-here tt) (put-within Opens _ _ (simp word-here tt) nothing-changed)))
+unfolding actIn footprint releasedIn
+act-within S v ps begin = begun-within unknownKeeper v
+act-within S v ps (beginAs x) = begun-within x v
+act-within S v ps (keeperAt s r c) = nothing-changed
 act-within S v ps (insert t vs) = inserted-within ps S t vs v
 act-within S v ps (update t r m vs) = updated-within ps S t r m vs v
 act-within S v ps (delete t r) = deleted-within ps S t r v
@@ -308,3 +319,5 @@ entries-within v ps release = (refl, λ i. inl refl)
 entries-within v ps (pageCell c r) = (refl, λ i. inl refl)
 entries-within v ps (lineage g c) = (refl, λ i. inl refl)
 entries-within v ps (crossings r c mark from to stamps) = (refl, λ i. inl refl)
+entries-within v ps (beginAs x) = (refl, λ i. inl refl)
+entries-within v ps (keeperAt s r c) = (refl, λ i. inl refl)

@@ -12,21 +12,21 @@ use lib.ListN.{length, getD, replicate, length-replicate}
 use mir.Syntax.{w32}
 use mir.Val.{toZ}
 use Rattle.terms.specs.Measures.{Shape, rangeRows, mostScans, withinLimits, mostTransactions, mostChunks}
-use Rattle.history.specs.History.{Call, History, start, outcomes, count, rowAt, insertedValue, inserted, lastSetting, recordsOf, lastThrough, mergedThrough, scanAt, cellThrough}
+use Rattle.history.specs.History.{Call, History, start, outcomes, count, rowAt, insertedValue, inserted, lastSetting, recordsOf, keeperOf, lastThrough, mergedThrough, scanAt, cellThrough}
 use Rattle.history.specs.Lists.{All, nil, cons}
 use Rattle.history.proofs.Lists.{by-cases, both-test, le-test}
 use Rattle.history.proofs.Invariants.{invariants-start}
 use Rattle.loops.specs.Change.{numbered}
 use Rattle.words.specs.Words.{Fit}
 use Rattle.loops.proofs.Change.{changed-length, changed-outside, changed-fit, zeros}
-use Rattle.layout.specs.Regions.{len}
+use Rattle.layout.specs.Regions.{len, newestForm, columnsWord}
 use Rattle.layout.specs.View.{View, blank, renew, put}
 use Rattle.layout.specs.declared.Region.{Region}
 use Rattle.layout.specs.declared.Region.the-variants.{Header, Opens, Current, PageState, PageChunk}
 use Rattle.terms.specs.declared.ScanEntry.{ScanEntry}
 use Rattle.layout.specs.Sizes.{sizesOf}
 use Rattle.terms.specs.Entries.{freeEntry}
-use Rattle.model.specs.Stored.{pageIn, cellIn, currentIn, chunkOf, chunksOf, pagesOf, within, waitingPage, currentPage, countBelow}
+use Rattle.model.specs.Stored.{pageIn, cellIn, currentIn, chunkOf, chunksOf, pagesOf, within, waitingPage, currentPage, countBelow, keeperLimit}
 use Rattle.model.specs.Writing.{madeView}
 use Rattle.model.specs.Calls.{Typed, outcomesIn}
 use Rattle.layout.specs.Codes.{asCurrent}
@@ -125,7 +125,7 @@ module _ (S : Shape) (small : Small S) where
   made-whole : Whole S (madeView S)
   unfolding madeView
   made-whole =
-      put-whole Header 0 (S .columns) (omega (arith, small .columns))
+      put-whole Header 0 (columnsWord newestForm (S .columns)) (omega (arith, small .columns))
       (put-whole Header 1 (S .ranges) (omega (arith, small .ranges))
       (put-whole Header 2 (S .capacity) (omega (arith, small .capacity))
       (put-whole Header 3 (S .spares) (omega (arith, small .spares))
@@ -140,6 +140,12 @@ module _ (S : Shape) (small : Small S) where
         header = unfold madeView blank put renew start in record { columns = refl; ranges = refl; capacity = refl; spares = refl; rows-given = refl; transactions-given = refl; scans-given = refl; last-stamp = refl; commits-made = refl; merges-made = refl };
         opens = unfold madeView blank put renew start in (λ q. refl);
         notes = λ j b f. absurd (f (no-open j));
+        keepers = record {
+          of-rows = λ r b. absurd (no-rows r b);
+          of-records = λ g j b u. absurd (no-records g j u);
+          of-opens = λ j f. absurd (f (no-open j));
+          small = no-keeper;
+        };
         rows = λ r b. absurd (no-rows r b);
         tails = λ g b. unfold madeView blank put renew start recordsOf in record { used-all = zeros (S .ranges) g; each = λ k u. absurd (not-suc-le-zero u); links = λ k u. absurd (not-suc-le-zero u) };
         currents = currents-made;
@@ -155,6 +161,13 @@ module _ (S : Shape) (small : Small S) where
 
       no-rows : (r : ℕ) → r < length (start .rows) → ⊥
       no-rows r b = unfold start in (not-suc-le-zero b)
+
+      no-records : (g j : ℕ) → j < length (recordsOf start g) → ⊥
+      no-records g j b = unfold start recordsOf in (not-suc-le-zero b)
+
+      no-keeper : (t : ℕ) → keeperOf start t < keeperLimit
+      no-keeper zero = unfold keeperOf start in (omega arith)
+      no-keeper (suc t) = unfold keeperOf start in (omega arith)
 
       no-scan : (k : ℕ) → T (scanAt start k .running) → ⊥
       no-scan zero t = unfold scanAt start in t

@@ -11,7 +11,7 @@ use lib.IntN.{ℤ}
 use lib.Bits.{bitOr}
 use Rattle.terms.specs.Measures.{Shape, rangeRows}
 use Rattle.history.specs.History as H
-use Rattle.history.specs.History.{Call, begin, insert, update, delete, commit, abort, latest, readAt, ownRead, openScan, scanRead, sum, close, merge, release, pageCell, lineage, crossings, History, Verdict, accept, refuse, verdict, tests, next, run, rangeOf, scanAt, withScans}
+use Rattle.history.specs.History.{Call, begin, insert, update, delete, commit, abort, latest, readAt, ownRead, openScan, scanRead, sum, close, merge, release, pageCell, lineage, crossings, beginAs, keeperAt, History, Verdict, accept, refuse, verdict, tests, next, run, rangeOf, scanAt, withScans}
 use Rattle.history.specs.Lists.{All, nil, cons}
 use Rattle.history.proofs.Lists.{nth-before}
 use Rattle.history.proofs.Accepted.{Passed, passed}
@@ -20,7 +20,7 @@ use Rattle.history.specs.Steps.{Mergeable, scanOpened, scanClosed, Step, nothin
 use Rattle.layout.specs.View.{View, renew, put}
 use Rattle.layout.specs.declared.Region.the-variants.{RowMask}
 use Rattle.terms.specs.declared.ScanEntry.{ScanEntry}
-use Rattle.model.specs.Stored.{rowIn, pageIn, cellIn, currentIn, within, openIndex}
+use Rattle.model.specs.Stored.{rowIn, pageIn, cellIn, currentIn, within, openIndex, openKeeper}
 use Rattle.model.specs.Reading.{scanPage, wasCurrent}
 use Rattle.model.specs.Writing.{begun, noted, markAll, settled, freed, committedIn, abortedIn, insertedAt, insertedIn, appended, filledIn, newBitsIn, originalAppended, settingAppended, updatedIn, deletedIn, mergedIn, releasedIn}
 use Rattle.model.specs.Calls.{Typed, actIn, viewIf, viewNext, entriesNext, viewAfter}
@@ -70,7 +70,7 @@ module _ {S : Shape} {v : View} {ps : List ScanEntry} {h : History} (o : Represe
   unfolding updatedIn settingAppended originalAppended filledIn appended noted put renew scanPage wasCurrent currentIn pageIn cellIn
   update-same t r n vs =
       elim (eqb (newBitsIn v r n) 0)
-      as (λ z. PageStays (noted t (put RowMask r (bitOr n ((rowIn v r) .mask)) (cond z (settingAppended S t r n vs v) (settingAppended S t r n vs (originalAppended S t r n v))))))
+      as (λ z. PageStays (noted t (put RowMask r (bitOr n ((rowIn v r) .mask)) (cond z (settingAppended S t (openKeeper v t) r n vs v) (settingAppended S t (openKeeper v t) r n vs (originalAppended S t r n v))))))
       [ true ↦ record { page = refl; cells = λ r b e. refl } | false ↦ record { page = refl; cells = λ r b e. refl } ]
 
   merge-same : (a d n : ℕ) → Mergeable S h a d n → PageStays (mergedIn S a d n v)
@@ -100,6 +100,8 @@ module _ {S : Shape} {v : View} {ps : List ScanEntry} {h : History} (o : Represe
   act-same (pageCell x r) y p = unmoved S v _ _ g c
   act-same (lineage a x) y p = unmoved S v _ _ g c
   act-same (crossings r x mark from to stamps) y p = unmoved S v _ _ g c
+  act-same (beginAs x) y p = record { page = refl; cells = λ r b e. refl }
+  act-same (keeperAt s r x) y p = unmoved S v _ _ g c
 
   pub next-same : (x : Call) → Typed x → PageStays (viewNext S v ps x)
   unfolding viewNext

@@ -13,15 +13,15 @@ use mir.Val.{toZ, SFits}
 use Rattle.terms.specs.Measures.{Shape, rangeRows, mostScans, mostNumbers, mostColumns}
 use Rattle.terms.specs.declared.Refusal.{Refusal}
 use Rattle.terms.specs.declared.Answer.{Answer}
-use Rattle.history.specs.History.{Call, begin, insert, update, delete, commit, abort, latest, readAt, ownRead, openScan, scanRead, sum, close, merge, release, pageCell, lineage, crossings, Test, _when_, verdict, Verdict, accept, refuse, answerIf, Outcome, Slice, none, ofCrossings, sliceOf, lentTo, stampsIf, any, count, noColumn, noRange, badMask, outnumber, rangeOf}
+use Rattle.history.specs.History.{Call, begin, insert, update, delete, commit, abort, latest, readAt, ownRead, openScan, scanRead, sum, close, merge, release, pageCell, lineage, crossings, beginAs, keeperAt, unknownKeeper, Test, _when_, verdict, Verdict, accept, refuse, answerIf, Outcome, Slice, none, ofCrossings, sliceOf, lentTo, stampsIf, any, count, noColumn, noRange, badMask, outnumber, rangeOf}
 use Rattle.history.specs.Lists.{All}
 use Rattle.layout.specs.View.{View, put, rowsGiven, transactionsGiven, scansGiven, lastStamp, mergesMade, commitsMade, usedIn}
 use Rattle.layout.specs.declared.Region.the-variants.{Header, Opens}
 use Rattle.terms.specs.declared.ScanEntry.{ScanEntry}
 use Rattle.terms.specs.Entries.{freeEntry, firstIndex, bears, isScan}
 use Rattle.layout.specs.Regions.{scansAt}
-use Rattle.model.specs.Stored.{RecordWords, rowIn, recordIn, pageIn, currentIn, cellIn, within, committedState, deleteKind, scanEntry, pagesOf, anyBelow, countBelow, wordLimit}
-use Rattle.model.specs.Reading.{reader, allUpTo, snapshotOf, readIn, readCurrent, ownChanges, scanPage, sumIn}
+use Rattle.model.specs.Stored.{RecordWords, rowIn, recordIn, pageIn, currentIn, cellIn, within, committedState, deleteKind, scanEntry, pagesOf, anyBelow, countBelow, wordLimit, keeperLimit}
+use Rattle.model.specs.Reading.{reader, allUpTo, snapshotOf, readIn, readCurrent, keeperIn, ownChanges, scanPage, sumIn}
 use Rattle.model.specs.Versions.{crossingsIn}
 use Rattle.model.specs.Writing.{begun, committedIn, abortedIn, insertedIn, updatedIn, deletedIn, mergedIn, releasedIn, releasable, recordsWanted, freeIn}
 
@@ -88,9 +88,14 @@ unfoldable pub openAmongIn : Shape → View → ℕ → ℕ → Bool
 openAmongIn S v g n = anyBelow (λ i. openIn v ((recordIn v (g * S .capacity + i)) .transaction)) n
 
 -- ---- the tests, in the order of section 4
+unfoldable pub beginTestsIn : View → List Test
+beginTestsIn v = Refusal.Number when leb mostNumbers (transactionsGiven v) ∷ Refusal.Busy when not (any (λ k. eqb k 0) (v Opens)) ∷ []
+
+unfoldable pub readAtTestsIn : Shape → View → ℕ → ℕ → ℕ → List Test
+readAtTestsIn S v s r c = Refusal.Time when laterIn v s ∷ Refusal.Row when notGivenIn v r ∷ Refusal.Column when noColumn S c ∷ []
+
 unfoldable pub testsIn : Shape → View → List ScanEntry → Call → List Test
-testsIn S v ps begin =
-    Refusal.Number when leb mostNumbers (transactionsGiven v) ∷ Refusal.Busy when not (any (λ k. eqb k 0) (v Opens)) ∷ []
+testsIn S v ps begin = beginTestsIn v
 testsIn S v ps (insert t vs) =
     Refusal.Transaction when notOpenIn v t ∷ Refusal.Full when leb (S .ranges * rangeRows) (rowsGiven v) ∷ []
 testsIn S v ps (update t r m vs) =
@@ -111,8 +116,7 @@ testsIn S v ps (delete t r) =
 testsIn S v ps (commit t s) = Refusal.Transaction when notOpenIn v t ∷ Refusal.Time when earlierIn v s ∷ []
 testsIn S v ps (abort t) = Refusal.Transaction when notOpenIn v t ∷ []
 testsIn S v ps (latest r c) = Refusal.Row when notGivenIn v r ∷ Refusal.Column when noColumn S c ∷ []
-testsIn S v ps (readAt s r c) =
-    Refusal.Time when laterIn v s ∷ Refusal.Row when notGivenIn v r ∷ Refusal.Column when noColumn S c ∷ []
+testsIn S v ps (readAt s r c) = readAtTestsIn S v s r c
 testsIn S v ps (ownRead t r c) =
     Refusal.Transaction when notOpenIn v t ∷ Refusal.Row when notGivenIn v r ∷ Refusal.Column when noColumn S c ∷ []
 testsIn S v ps (openScan s) =
@@ -140,6 +144,8 @@ testsIn S v ps (crossings r c mark from to stamps) =
     ∷ Refusal.Time when noSpanIn v from to
     ∷ Refusal.List when outnumber (crossingsIn S v r c mark from to) stamps
     ∷ []
+testsIn S v ps (beginAs k) = beginTestsIn v
+testsIn S v ps (keeperAt s r c) = readAtTestsIn S v s r c
 
 -- ---- what an accepted call answers
 unfoldable pub replyIn : Shape → View → List ScanEntry → Call → Answer
@@ -163,6 +169,8 @@ replyIn S v ps release = Answer.Number (countBelow (releasable ps v) (pagesOf S)
 replyIn S v ps (pageCell c r) = Answer.Value (toZ w32 (cellIn v (currentIn S v (rangeOf r) c) (within r)))
 replyIn S v ps (lineage g c) = Answer.Lineage ((pageIn v (currentIn S v g c)) .lineage) (usedIn v g)
 replyIn S v ps (crossings r c mark from to stamps) = Answer.Listed (length (crossingsIn S v r c mark from to))
+replyIn S v ps (beginAs k) = Answer.Number (transactionsGiven v + 1)
+replyIn S v ps (keeperAt s r c) = keeperIn S v (reader (allUpTo s) 0) r c
 
 -- ---- and the slice that it was lent
 unfoldable pub stampsIn : Shape → View → Slice → List ℕ
@@ -171,7 +179,7 @@ stampsIn S v (ofCrossings r c mark from to stamps) = Seq.sets stamps 0 (crossing
 
 -- ---- the memory that an accepted call leaves
 unfoldable pub actIn : Shape → View → List ScanEntry → Call → View
-actIn S v ps begin = begun v
+actIn S v ps begin = begun unknownKeeper v
 actIn S v ps (insert t vs) = insertedIn S t vs v
 actIn S v ps (update t r m vs) = updatedIn S t r m vs v
 actIn S v ps (delete t r) = deletedIn S t r v
@@ -189,6 +197,8 @@ actIn S v ps release = releasedIn S ps v
 actIn S v ps (pageCell c r) = v
 actIn S v ps (lineage g c) = v
 actIn S v ps (crossings r c mark from to stamps) = v
+actIn S v ps (beginAs k) = begun k v
+actIn S v ps (keeperAt s r c) = v
 
 -- ---- and the scan list: an opened scan takes the first free entry, a closed one leaves a free entry
 -- the entry of a scan that is opened now at stamp s
@@ -215,6 +225,8 @@ entriesAfter v ps release = ps
 entriesAfter v ps (pageCell c r) = ps
 entriesAfter v ps (lineage g c) = ps
 entriesAfter v ps (crossings r c mark from to stamps) = ps
+entriesAfter v ps (beginAs k) = ps
+entriesAfter v ps (keeperAt s r c) = ps
 
 -- ---- a call, and a list of calls
 unfoldable pub viewIf : Verdict → View → View → View
@@ -260,6 +272,9 @@ Word n = n < wordLimit
 abbrev pub Mask : ℕ → Type 0
 Mask m = m < 2 ^ mostColumns
 
+abbrev pub Keeper : ℕ → Type 0
+Keeper k = k < keeperLimit
+
 abbrev pub Values : List ℤ → Type 0
 Values vs = All (SFits w32) vs
 
@@ -283,3 +298,5 @@ Typed (pageCell c r) = Word c × Word r
 Typed (lineage g c) = Word g × Word c
 -- what the lent slice holds may be anything
 Typed (crossings r c mark from to stamps) = Word r × Word c × SFits w32 mark × Word from × Word to
+Typed (beginAs k) = Keeper k
+Typed (keeperAt s r c) = Word s × Word r × Word c

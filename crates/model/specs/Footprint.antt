@@ -7,11 +7,11 @@ use Prim.Native.Nat.{ℕ, zero, suc, _+_, _*_}
 use lib.Dec.{T, eqb}
 use lib.ListN.{length, getD}
 use Rattle.terms.specs.Measures.{Shape, rangeRows}
-use Rattle.history.specs.History.{Call, begin, insert, update, delete, commit, abort, latest, readAt, ownRead, openScan, scanRead, sum, close, merge, release, pageCell, lineage, crossings, any, rangeOf}
+use Rattle.history.specs.History.{Call, begin, insert, update, delete, commit, abort, latest, readAt, ownRead, openScan, scanRead, sum, close, merge, release, pageCell, lineage, crossings, beginAs, keeperAt, any, rangeOf}
 use Rattle.layout.specs.Regions.{firstSlot, rowsAt, transactionsAt, scansAt, stampAt, mergesAt, commitsAt}
 use Rattle.layout.specs.View.{View, rowsGiven}
 use Rattle.layout.specs.declared.Region.{Region}
-use Rattle.layout.specs.declared.Region.the-variants.{Header, Opens, RowTransaction, RowState, RowStamp, RowLink, RowMask, TailTransaction, TailRow, TailKind, TailMask, TailLink, TailState, TailStamp, TailValues, Used, Current, PageState, PageChunk, PageMade, PageReplaced, PageLineage, PageNewest, Cells, Changes, RowOrdinal, TailOrdinal}
+use Rattle.layout.specs.declared.Region.the-variants.{Header, Opens, RowTransaction, RowState, RowStamp, RowLink, RowMask, TailTransaction, TailRow, TailKind, TailMask, TailLink, TailState, TailStamp, TailValues, Used, Current, PageState, PageChunk, PageMade, PageReplaced, PageLineage, PageNewest, Cells, Changes, RowOrdinal, TailOrdinal, RowKeeper, TailKeeper, OpenKeeper}
 use Rattle.layout.specs.Parts.{Part, stretch, word, wordsWhere}
 use Rattle.terms.specs.declared.ScanEntry.{ScanEntry}
 use Rattle.terms.specs.Entries.{freeEntry, firstIndex, isScan}
@@ -43,7 +43,7 @@ mergeFootprint S v g c =
 -- ---- the other calls
 -- the words of row r
 abbrev pub rowWritten : ℕ → List Part
-rowWritten r = word RowTransaction r ∷ word RowState r ∷ word RowStamp r ∷ word RowOrdinal r ∷ word RowLink r ∷ word RowMask r ∷ []
+rowWritten r = word RowTransaction r ∷ word RowState r ∷ word RowStamp r ∷ word RowOrdinal r ∷ word RowLink r ∷ word RowMask r ∷ word RowKeeper r ∷ []
 
 -- the cells of row r in the current pages of its range, for the first n columns
 abbrev pub cellsWritten : Shape → View → ℕ → ℕ → List Part
@@ -61,6 +61,7 @@ recordsWritten s n =
     ∷ stretch TailState s n
     ∷ stretch TailStamp s n
     ∷ stretch TailOrdinal s n
+    ∷ stretch TailKeeper s n
     ∷ []
 
 -- and the values
@@ -92,10 +93,15 @@ endWritten S v t = bearing S v t RowState TailState ++ (bearing S v t RowStamp T
 
 -- the entry of an open transaction, at index j
 abbrev pub openWritten : ℕ → List Part
-openWritten j = word Opens j ∷ word Changes j ∷ []
+openWritten j = word Opens j ∷ word Changes j ∷ word OpenKeeper j ∷ []
+
+-- what a begin writes: the numbers given, and the first free entry
+abbrev pub beginWritten : View → List Part
+beginWritten v = word Header transactionsAt ∷ openWritten (firstIndex (λ k. eqb k 0) (v Opens))
 
 unfoldable pub footprint : Shape → View → List ScanEntry → Call → List Part
-footprint S v ps begin = word Header transactionsAt ∷ openWritten (firstIndex (λ k. eqb k 0) (v Opens))
+footprint S v ps begin = beginWritten v
+footprint S v ps (beginAs k) = beginWritten v
 footprint S v ps (insert t vs) = word Header rowsAt ∷ word Changes (openIndex v t) ∷ rowWritten (rowsGiven v) ++ cellsWritten S v (rowsGiven v) (S .columns)
 footprint S v ps (update t r m vs) =
     let s = nextSlot S v (rangeOf r) in
@@ -116,6 +122,7 @@ footprint S v ps (close k) = []
 footprint S v ps (pageCell c r) = []
 footprint S v ps (lineage g c) = []
 footprint S v ps (crossings r c mark from to stamps) = []
+footprint S v ps (keeperAt s r c) = []
 
 -- ---- and of the scan list: the indices of the entries that a call may change
 unfoldable pub entriesWritten : List ScanEntry → Call → List ℕ
@@ -137,6 +144,8 @@ entriesWritten ps release = []
 entriesWritten ps (pageCell c r) = []
 entriesWritten ps (lineage g c) = []
 entriesWritten ps (crossings r c mark from to stamps) = []
+entriesWritten ps (beginAs k) = []
+entriesWritten ps (keeperAt s r c) = []
 
 -- The list ps′ is the list ps but for entries of these indices.
 abbrev pub EntriesWithin : List ℕ → List ScanEntry → List ScanEntry → Type 0

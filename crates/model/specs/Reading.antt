@@ -18,7 +18,7 @@ use Rattle.terms.specs.declared.ScanEntry.{ScanEntry}
 use Rattle.model.specs.declared.Reader.{Reader}
 use Rattle.model.specs.declared.Setter.{Setter}
 use Rattle.model.specs.declared.Version.{Version}
-use Rattle.model.specs.Stored.{RowWords, RecordWords, PageWords, rowIn, recordIn, pageIn, valueIn, currentIn, chunkOf, chunksOf, pagesOf, cellIn, within, openState, committedState, originalKind, settingKind, deleteKind, waitingPage, firstFrom, openIndex, wordLimit}
+use Rattle.model.specs.Stored.{RowWords, RecordWords, PageWords, rowIn, recordIn, pageIn, valueIn, currentIn, chunkOf, chunksOf, pagesOf, cellIn, within, openState, committedState, originalKind, settingKind, deleteKind, waitingPage, firstFrom, openIndex, wordLimit, keeperLimit, rowKeeper, recordKeeper}
 use Rattle.layout.specs.Regions.{slot}
 
 -- a reader by its snapshot and the transaction whose own changes count (0: none)
@@ -126,6 +126,14 @@ unfoldable pub readIn : Shape → View → Reader → ℕ → ℕ → ℕ → An
 readIn S v who p r c =
     let x = lookupIn S v who p r c in
     cond (visibleIn S v who r) (shownIn v r x) Answer.None
+
+-- ---- the keeper
+-- Rule 10.10: the keeper that the record bears that answers for row r and column c, the insert's where none does. An original bears the insert's itself.
+unfoldable pub keeperWord : Shape → View → Reader → ℕ → ℕ → ℕ
+keeperWord S v who r c = orElse (foundIn S v who floor r c) (recordKeeper v) (rowKeeper v r)
+
+unfoldable pub keeperIn : Shape → View → Reader → ℕ → ℕ → Answer
+keeperIn S v who r c = cond (visibleIn S v who r) (Answer.Number (keeperWord S v who r c % keeperLimit)) Answer.None
 
 -- the read of the current page
 unfoldable pub readCurrent : Shape → View → Reader → ℕ → ℕ → Answer

@@ -12,16 +12,16 @@ use lib.IntN.{pos}
 use mir.Syntax.{w32}
 use mir.Val.{toZ}
 use Rattle.terms.specs.Measures.{Shape, mostColumns, mostRanges, mostRecords, mostSpares, mostTransactions, mostScans}
-use Rattle.history.specs.History.{History, Row, Record, Commit, State, unknown, active, aborted, committed, Content, original, setting, ending, Scan, Merge, isActive, stateOf, rowAt, bit, sets, rangeOf, recordsOf, mergedThrough, scanAt, seenAt, cellThrough, count, Call, answer, stampsAfter, next, commitOf}
+use Rattle.history.specs.History.{History, Row, Record, Commit, State, unknown, active, aborted, committed, Content, original, setting, ending, Scan, Merge, isActive, stateOf, keeperOf, rowAt, bit, sets, rangeOf, recordsOf, mergedThrough, scanAt, seenAt, cellThrough, count, Call, answer, stampsAfter, next, commitOf}
 use Rattle.history.specs.Lists.{All}
 use Rattle.history.specs.Records.{among, wasSet, noRecord, lastOf}
 use Rattle.history.specs.Invariants.{Through, Invariants}
 use Rattle.layout.specs.View.{View, usedIn, Long, Fits}
-use Rattle.layout.specs.declared.Region.the-variants.{Opens, Changes}
+use Rattle.layout.specs.declared.Region.the-variants.{Opens, Changes, RowKeeper, TailKeeper, OpenKeeper}
 use Rattle.terms.specs.declared.ScanEntry.{ScanEntry}
 use Rattle.layout.specs.Sizes.{sizesOf}
-use Rattle.layout.specs.Regions.{rowsAt, transactionsAt, scansAt, stampAt, mergesAt, commitsAt}
-use Rattle.model.specs.Stored.{RowWords, RecordWords, PageWords, rowIn, recordIn, pageIn, valueIn, currentIn, cellIn, within, chunkOf, chunksOf, pagesOf, headerIn, currentPage, waitingPage, countBelow}
+use Rattle.layout.specs.Regions.{newestForm, columnsWord, columnsAt, rangesAt, capacityAt, sparesAt, rowsAt, transactionsAt, scansAt, stampAt, mergesAt, commitsAt}
+use Rattle.model.specs.Stored.{RowWords, RecordWords, PageWords, rowIn, recordIn, pageIn, valueIn, currentIn, cellIn, within, chunkOf, chunksOf, pagesOf, headerIn, currentPage, waitingPage, countBelow, keeperLimit}
 use Rattle.layout.specs.Codes.{asOpen, asCommitted, asAborted, asOriginal, asSetting, asDelete, asCurrent}
 use Rattle.model.specs.Reading.{scanPage}
 use Rattle.model.specs.Calls.{Typed, say, stampsNext, viewNext, entriesNext}
@@ -161,6 +161,26 @@ pub record NotedIs (rows : List Row) (tail : List Record) (t n : ℕ) : Type 0 w
 abbrev pub NotesAre : List Row → List Record → List ℕ → List ℕ → Type 0
 NotesAre rows tail opens notes = (j : ℕ) → j < mostTransactions → getD opens j 0 ≢ 0 → NotedIs rows tail (getD opens j 0) (getD notes j 0)
 
+-- ---- keepers
+-- The transaction whose keeper a record bears: its own, but the row's inserter where it holds original values.
+abbrev pub borneBy : Content → (inserter own : ℕ) → ℕ
+borneBy (original cs vs) inserter own = inserter
+borneBy (setting m vs) inserter own = own
+borneBy ending inserter own = own
+
+abbrev pub bearer : (ℕ → Row) → Record → ℕ
+bearer row y = borneBy (y .content) ((row (y .row)) .inserter) (y .transaction)
+
+-- the keepers of the rows, of the records of every range and of the open transactions; `keeper` has that of each transaction
+pub record KeepersAre (S : Shape) (keeper : ℕ → ℕ) (row : ℕ → Row) (given : ℕ) (list : ℕ → List Record) (rowWords tailWords opens openWords : List ℕ) : Type 0 where
+  pub of-rows : (r : ℕ) → r < given → getD rowWords r 0 ≡ keeper ((row r) .inserter)
+  pub of-records : (g k : ℕ) → g < S .ranges → k < length (list g) → getD tailWords (g * S .capacity + k) 0 ≡ keeper (bearer row (getD (list g) k noRecord))
+  pub of-opens : (j : ℕ) → getD opens j 0 ≢ 0 → getD openWords j 0 ≡ keeper (getD opens j 0)
+  pub small : (t : ℕ) → keeper t < keeperLimit
+
+abbrev pub KeepersFor : Shape → History → View → Type 0
+KeepersFor S h v = KeepersAre S (keeperOf h) (rowAt h) (length (h .rows)) (recordsOf h) (v RowKeeper) (v TailKeeper) (v Opens) (v OpenKeeper)
+
 -- no commit of record y is after the first n
 abbrev pub TakenBefore : (ℕ → State) → ℕ → Record → Type 0
 TakenBefore st n y = (s : Commit) → st (y .transaction) ≡ committed s → s .ordinal ≤ n
@@ -182,10 +202,10 @@ ScanPagesAre S h v = (k : ℕ) → T (scanAt h k .running) → (g c : ℕ) → g
 
 -- ---- the header
 pub record HeaderIs (S : Shape) (rows transactions scans : ℕ) (last : Commit) (merges : ℕ) (word : ℕ → ℕ) : Type 0 where
-  pub columns : word 0 ≡ S .columns
-  pub ranges : word 1 ≡ S .ranges
-  pub capacity : word 2 ≡ S .capacity
-  pub spares : word 3 ≡ S .spares
+  pub columns : word columnsAt ≡ columnsWord newestForm (S .columns)
+  pub ranges : word rangesAt ≡ S .ranges
+  pub capacity : word capacityAt ≡ S .capacity
+  pub spares : word sparesAt ≡ S .spares
   pub rows-given : word rowsAt ≡ rows
   pub transactions-given : word transactionsAt ≡ transactions
   pub scans-given : word scansAt ≡ scans
@@ -205,6 +225,7 @@ pub record Represents (S : Shape) (v : View) (ps : List ScanEntry) (h : History)
   pub header : HeaderFor S h v
   pub opens : OpensAre (h .transactions) (v Opens)
   pub notes : NotesAre (h .rows) (h .tail) (v Opens) (v Changes)
+  pub keepers : KeepersFor S h v
   pub rows : RowsAre h v
   pub tails : TailsAre S h v
   pub currents : CurrentsAre S h v

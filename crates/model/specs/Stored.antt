@@ -8,7 +8,7 @@ use lib.ListN.{getD}
 use Rattle.terms.specs.Measures.{Shape, rangeRows}
 use Rattle.layout.specs.Codes.{asOpen, asCommitted, asOriginal, asSetting, asFree, asCurrent}
 use Rattle.layout.specs.View.{View}
-use Rattle.layout.specs.declared.Region.the-variants.{Header, Opens, RowTransaction, RowState, RowStamp, RowLink, RowMask, TailTransaction, TailRow, TailKind, TailMask, TailLink, TailState, TailStamp, TailValues, Current, PageState, PageChunk, PageMade, PageReplaced, PageLineage, PageNewest, Cells, RowOrdinal, TailOrdinal}
+use Rattle.layout.specs.declared.Region.the-variants.{Header, Opens, RowTransaction, RowState, RowStamp, RowLink, RowMask, TailTransaction, TailRow, TailKind, TailMask, TailLink, TailState, TailStamp, TailValues, Current, PageState, PageChunk, PageMade, PageReplaced, PageLineage, PageNewest, Cells, RowOrdinal, TailOrdinal, RowKeeper, TailKeeper, OpenKeeper}
 use Rattle.terms.specs.declared.ScanEntry.{ScanEntry}
 use Rattle.terms.specs.Entries.{freeEntry, firstIndex, bears, isScan}
 
@@ -29,6 +29,10 @@ wordLimit = 2 ^ 32
 
 abbrev pub nextWord : ℕ → ℕ
 nextWord n = (n + 1) % wordLimit
+
+-- a keeper is a number of two bytes; of a word that holds one, the lower two count
+abbrev pub keeperLimit : ℕ
+keeperLimit = 2 ^ 16
 
 -- ---- what a word means. Of states and kinds, any number above the first two is read as the third.
 abbrev pub openState : ℕ → Bool
@@ -156,6 +160,16 @@ countBelow f (suc n) = cond (f n) (suc (countBelow f n)) (countBelow f n)
 -- the index of open transaction t
 unfoldable pub openIndex : View → ℕ → ℕ
 openIndex v t = firstIndex (bears t) (v Opens)
+
+-- the keeper of row r's inserter, of the record at slot s, and of open transaction t: the words as they stand
+unfoldable pub rowKeeper : View → ℕ → ℕ
+rowKeeper v r = getD (v RowKeeper) r 0
+
+unfoldable pub recordKeeper : View → ℕ → ℕ
+recordKeeper v s = getD (v TailKeeper) s 0
+
+unfoldable pub openKeeper : View → ℕ → ℕ
+openKeeper v t = getD (v OpenKeeper) (openIndex v t) 0
 
 -- the entry of open scan k
 unfoldable pub scanEntry : List ScanEntry → ℕ → ScanEntry

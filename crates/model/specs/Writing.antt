@@ -11,23 +11,23 @@ use mir.Val.{ofZ}
 use Rattle.terms.specs.Measures.{Shape, rangeRows}
 use Rattle.history.specs.History.{Commit, noCommit, any, bit, rangeOf}
 use Rattle.loops.specs.Change.{changed, filled, numbered, copied, marked}
-use Rattle.layout.specs.Regions.{columnsAt, rangesAt, capacityAt, sparesAt, rowsAt, transactionsAt, stampAt, mergesAt, commitsAt, firstSlot, slot}
+use Rattle.layout.specs.Regions.{newestForm, columnsWord, columnsAt, rangesAt, capacityAt, sparesAt, rowsAt, transactionsAt, stampAt, mergesAt, commitsAt, firstSlot, slot}
 use Rattle.layout.specs.View.{View, blank, renew, put, rowsGiven, transactionsGiven, mergesMade, commitsMade, usedIn}
 use Rattle.layout.specs.declared.Region.{Region}
-use Rattle.layout.specs.declared.Region.the-variants.{Header, Opens, RowTransaction, RowState, RowStamp, RowLink, RowMask, TailTransaction, TailRow, TailKind, TailMask, TailLink, TailState, TailStamp, TailValues, Used, Current, PageState, PageChunk, PageMade, PageReplaced, PageLineage, PageNewest, Cells, Changes, RowOrdinal, TailOrdinal}
+use Rattle.layout.specs.declared.Region.the-variants.{Header, Opens, RowTransaction, RowState, RowStamp, RowLink, RowMask, TailTransaction, TailRow, TailKind, TailMask, TailLink, TailState, TailStamp, TailValues, Used, Current, PageState, PageChunk, PageMade, PageReplaced, PageLineage, PageNewest, Cells, Changes, RowOrdinal, TailOrdinal, RowKeeper, TailKeeper, OpenKeeper}
 use Rattle.terms.specs.declared.ScanEntry.{ScanEntry}
 use Rattle.layout.specs.Sizes.{sizesOf}
 use Rattle.terms.specs.Entries.{firstIndex}
-use Rattle.model.specs.Stored.{RecordWords, rowIn, recordIn, pageIn, valueIn, currentIn, chunkOf, chunksOf, pagesOf, cellIn, within, nextWord, committedState, settingKind, freePage, currentPage, waitingPage, firstFrom, openIndex}
+use Rattle.model.specs.Stored.{RecordWords, rowIn, recordIn, pageIn, valueIn, currentIn, chunkOf, chunksOf, pagesOf, cellIn, within, nextWord, committedState, settingKind, freePage, currentPage, waitingPage, firstFrom, openIndex, rowKeeper, openKeeper}
 use Rattle.layout.specs.Codes.{asOpen, asCommitted, asAborted, asOriginal, asSetting, asDelete, asFree, asCurrent, asWaiting}
 
 -- ---- open transactions
--- begin: the first free entry takes the next number, with nothing noted
-unfoldable pub begun : View → View
-begun v =
+-- begin: the first free entry takes the next number and the keeper, with nothing noted
+unfoldable pub begun : ℕ → View → View
+begun keeper v =
     let n = transactionsGiven v + 1 in
     let j = firstIndex (λ k. eqb k 0) (v Opens) in
-    put Header transactionsAt n (put Changes j 0 (put Opens j n v))
+    put Header transactionsAt n (put OpenKeeper j keeper (put Changes j 0 (put Opens j n v)))
 
 -- A row or record made by open transaction t is noted. One note for a call is enough: what is asked of the count is whether it is 0.
 unfoldable pub noted : ℕ → View → View
@@ -55,7 +55,7 @@ settled S t state s v =
 unfoldable pub freed : ℕ → View → View
 freed t v =
     let j = openIndex v t in
-    put Changes j 0 (put Opens j 0 v)
+    put OpenKeeper j 0 (put Changes j 0 (put Opens j 0 v))
 
 -- the commit that comes next, at stamp s
 abbrev pub nextIn : View → ℕ → Commit
@@ -75,13 +75,13 @@ putCells S current g i vs zero cells = cells
 putCells S current g i vs (suc c) cells =
     set (putCells S current g i vs c cells) (getD current (chunkOf S g c) 0 * rangeRows + i) (ofZ w32 (getD vs c (pos 0)))
 
--- row r of open transaction t
+-- row r of open transaction t, whose keeper it bears
 unfoldable pub insertedAt : Shape → ℕ → List ℤ → ℕ → View → View
 insertedAt S t vs r v =
     noted t
     (put Header rowsAt (r + 1)
     (renew Cells (putCells S (v Current) (rangeOf r) (within r) vs (S .columns) (v Cells))
-    (put RowMask r 0 (put RowLink r 0 (put RowOrdinal r 0 (put RowStamp r 0 (put RowState r asOpen (put RowTransaction r t v))))))))
+    (put RowMask r 0 (put RowLink r 0 (put RowKeeper r (openKeeper v t) (put RowOrdinal r 0 (put RowStamp r 0 (put RowState r asOpen (put RowTransaction r t v)))))))))
 
 unfoldable pub insertedIn : Shape → ℕ → List ℤ → View → View
 insertedIn S t vs v = insertedAt S t vs (rowsGiven v) v
@@ -91,18 +91,19 @@ insertedIn S t vs v = insertedAt S t vs (rowsGiven v) v
 unfoldable pub nextSlot : Shape → View → ℕ → ℕ
 nextSlot S v g = slot S g (usedIn v g + 1)
 
--- One tail record more for row r, of open transaction t: it links to the row's newest one and is the row's newest now.
-unfoldable pub appended : Shape → ℕ → ℕ → ℕ → ℕ → View → View
-appended S t r kind mask v =
+-- One tail record more for row r, of open transaction t, with a keeper: it links to the row's newest one and is the row's newest now.
+unfoldable pub appended : Shape → ℕ → ℕ → ℕ → ℕ → ℕ → View → View
+appended S t keeper r kind mask v =
     let g = rangeOf r in
     let k = usedIn v g + 1 in
     let s = nextSlot S v g in
     put RowLink r k
     (put Used g k
+    (put TailKeeper s keeper
     (put TailOrdinal s 0
     (put TailStamp s 0
     (put TailState s asOpen
-    (put TailLink s ((rowIn v r) .link) (put TailMask s mask (put TailKind s kind (put TailRow s r (put TailTransaction s t v)))))))))
+    (put TailLink s ((rowIn v r) .link) (put TailMask s mask (put TailKind s kind (put TailRow s r (put TailTransaction s t v))))))))))
 
 -- the words of all columns of the record at slot s
 unfoldable pub filledIn : Shape → ℕ → (ℕ → ℕ) → View → View
@@ -123,21 +124,23 @@ recordsWanted v r mask = cond (eqb (newBitsIn v r mask) 0) 1 2
 abbrev pub originalWord : Shape → View → ℕ → ℕ → ℕ
 originalWord S v r c = cellIn v (currentIn S v (rangeOf r) c) (within r)
 
+-- Original values bear the keeper of the row's inserter, whoever's update writes them down.
 unfoldable pub originalAppended : Shape → ℕ → ℕ → ℕ → View → View
-originalAppended S t r mask v = filledIn S (nextSlot S v (rangeOf r)) (originalWord S v r) (appended S t r asOriginal (newBitsIn v r mask) v)
+originalAppended S t r mask v = filledIn S (nextSlot S v (rangeOf r)) (originalWord S v r) (appended S t (rowKeeper v r) r asOriginal (newBitsIn v r mask) v)
 
-unfoldable pub settingAppended : Shape → ℕ → ℕ → ℕ → List ℤ → View → View
-settingAppended S t r mask vs v =
-    filledIn S (nextSlot S v (rangeOf r)) (λ c. ofZ w32 (getD vs c (pos 0))) (appended S t r asSetting mask v)
+unfoldable pub settingAppended : Shape → ℕ → ℕ → ℕ → ℕ → List ℤ → View → View
+settingAppended S t keeper r mask vs v =
+    filledIn S (nextSlot S v (rangeOf r)) (λ c. ofZ w32 (getD vs c (pos 0))) (appended S t keeper r asSetting mask v)
 
 unfoldable pub updatedIn : Shape → ℕ → ℕ → ℕ → List ℤ → View → View
 updatedIn S t r mask vs v =
-    let two = settingAppended S t r mask vs (originalAppended S t r mask v) in
-    let one = settingAppended S t r mask vs v in
+    let keeper = openKeeper v t in
+    let two = settingAppended S t keeper r mask vs (originalAppended S t r mask v) in
+    let one = settingAppended S t keeper r mask vs v in
     noted t (put RowMask r (bitOr mask ((rowIn v r) .mask)) (cond (eqb (newBitsIn v r mask) 0) one two))
 
 unfoldable pub deletedIn : Shape → ℕ → ℕ → View → View
-deletedIn S t r v = noted t (appended S t r asDelete 0 v)
+deletedIn S t r v = noted t (appended S t (openKeeper v t) r asDelete 0 v)
 
 -- ---- merge
 -- whether record x is a committed setting of column c
@@ -206,10 +209,10 @@ releasable ps v p =
 unfoldable pub releasedIn : Shape → List ScanEntry → View → View
 releasedIn S ps v = renew PageState (changed (λ p w. cond (releasable ps v p) asFree w) 0 (pagesOf S) (v PageState)) v
 
--- ---- making: every word is 0 but the measures, the current pages and their chunks
+-- ---- making: every word is 0 but the form and the measures, the current pages and their chunks
 unfoldable pub madeView : Shape → View
 madeView S =
-    put Header columnsAt (S .columns)
+    put Header columnsAt (columnsWord newestForm (S .columns))
     (put Header rangesAt (S .ranges)
     (put Header capacityAt (S .capacity)
     (put Header sparesAt (S .spares)

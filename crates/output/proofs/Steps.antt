@@ -10,7 +10,7 @@ use borrow.Author.Tests.{leb-false, leb-true, le-leb}
 use Rattle.terms.specs.Measures.{Shape, between, withinLimits, mostColumns, mostRanges, mostRecords, mostSpares}
 use Rattle.terms.specs.declared.Refusal.{Refusal}
 use Rattle.terms.specs.declared.Answer.{Answer}
-use Rattle.history.specs.History.{Call, begin, insert, update, delete, commit, abort, latest, readAt, ownRead, openScan, scanRead, sum, close, merge, release, pageCell, lineage, crossings, History, alone, outcome, outcomes, start, Test, tests, verdict, refuse, reply, shown, read, visible, versionOf, sumOf, answer, answerIf, next}
+use Rattle.history.specs.History.{Call, begin, insert, update, delete, commit, abort, latest, readAt, ownRead, openScan, scanRead, sum, close, merge, release, pageCell, lineage, crossings, beginAs, keeperAt, beginTests, readAtTests, keeperOf, keeperRead, History, alone, outcome, outcomes, start, Test, tests, verdict, refuse, reply, shown, read, visible, versionOf, sumOf, answer, answerIf, next}
 use Rattle.lines.specs.Lines.{line, shapeLine}
 use Rattle.commands.specs.declared.Chosen.{Chosen}
 use Rattle.commands.specs.Commands.{chosen, width, callFrom, Item, itemAt, behind, items, script, cutShape, parse, shapeBytes, shapeFrom}
@@ -37,9 +37,13 @@ read-goes-on : (sees : ℕ → Bool) (h : History) (r c : ℕ) → goesOn (read 
 unfolding read shown goesOn
 read-goes-on sees h r c = elim (visible sees h r) as (λ b. goesOn (cond b (shown h (versionOf sees h r c)) Answer.None) ≡ true) [ true ↦ refl | false ↦ refl ]
 
+keeper-goes-on : (sees : ℕ → Bool) (h : History) (r c : ℕ) → goesOn (keeperRead sees h r c) ≡ true
+unfolding keeperRead goesOn
+keeper-goes-on sees h r c = elim (visible sees h r) as (λ b. goesOn (cond b (Answer.Number (keeperOf h (versionOf sees h r c .setter))) Answer.None) ≡ true) [ true ↦ refl | false ↦ refl ]
+
 -- neither a refusal of a call nor its answer where it is accepted
 call-goes-on : (s : Shape) (h : History) (c : Call) → (allGoOn (tests s h c) ≡ true) × (goesOn (reply s h c) ≡ true)
-unfolding tests reply sumOf goesOn
+unfolding tests beginTests readAtTests reply sumOf goesOn
 call-goes-on s h begin = (refl, refl)
 call-goes-on s h (insert t vs) = (refl, refl)
 call-goes-on s h (update t r m vs) = (refl, refl)
@@ -58,6 +62,8 @@ call-goes-on s h release = (refl, refl)
 call-goes-on s h (pageCell c r) = (refl, refl)
 call-goes-on s h (lineage g c) = (refl, refl)
 call-goes-on s h (crossings r c mark from to stamps) = (refl, refl)
+call-goes-on s h (beginAs k) = (refl, refl)
+call-goes-on s h (keeperAt k r c) = (refl, keeper-goes-on _ h r c)
 
 pub answer-goes-on : (s : Shape) (h : History) (c : Call) → goesOn (answer s h c) ≡ true
 unfolding answer

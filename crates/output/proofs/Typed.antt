@@ -61,6 +61,9 @@ module _ (os : List ℕ) (b : Bytes os) where
   mask : (at : ℕ) → operand at 2 os < 65536
   mask at = operand-below at 2 os b
 
+  keeper : (at : ℕ) → operand at 2 os < 65536
+  keeper at = operand-below at 2 os b
+
   four : (at : ℕ) → operand at 4 os < 4294967296
   four at = operand-below at 4 os b
 
@@ -90,6 +93,8 @@ each-typed =
     & (λ columns os b. (one os b 0, two os b 1))
     & (λ columns os b. (one os b 0, one os b 1))
     & (λ columns os b. (two os b 0, one os b 2, toZ-fits w32 _ (record { fits = four os b 3 }), four os b 7, four os b 11))
+    & (λ columns os b. keeper os b 0)
+    & (λ columns os b. (four os b 0, two os b 4, one os b 6))
     & All.nil
 
 pub typed : (byte columns : ℕ) (f : Form) (os : List ℕ) → chosen byte ≡ Chosen.Known f → Bytes os → Typed (callFrom columns f os)

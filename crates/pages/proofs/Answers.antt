@@ -1,25 +1,26 @@
 -- The answers of `measure` and of `check`, test by test.
 use Prim.Native.Nat.{ℕ, _*_, _^_, _≤_, _<_}
 use mathlib.Core.Path.{_≡_, refl, ap, sym, _∙_}
+use mathlib.Core.Logic.{_≢_}
 use mir.Syntax.{w64}
 use mir.Val.{Fits}
 use mathlib.Core.Bool.{Bool, true, false, not, cond, _&&_, and-assoc}
 use mathlib.Core.List.{List}
 use native.Mathlib.Omega.{arith}
-use lib.Dec.{leb}
+use lib.Dec.{leb, eqb}
 use lib.ListN.{length, getD}
-use borrow.Author.Tests.{leb-true, le-leb, lt-leb, not-true, not-false}
+use borrow.Author.Tests.{ne-eqb, leb-true, le-leb, lt-leb, not-true, not-false}
 use Rattle.terms.specs.Measures.{withinLimits, mostScans}
 use Rattle.terms.specs.declared.ScanEntry.{ScanEntry}
 use Rattle.words.specs.Words.{words}
 use Rattle.loops.proofs.Search.{and-true}
 use Rattle.layout.specs.declared.Sizes.{Sizes}
-use Rattle.layout.specs.Regions.{need, columnsAt, rangesAt, capacityAt, sparesAt}
+use Rattle.layout.specs.Regions.{need, newestForm, formIn, columnsIn, columnsAt, rangesAt, capacityAt, sparesAt}
 use Rattle.layout.specs.Sizes.{shapeOf, sizesOf}
 use Rattle.layout.proofs.Limits.{need-small}
 use Rattle.layout.specs.View.{viewOf, Suffices}
 use Rattle.facts.specs.Facts.{factsHold}
-use Rattle.facts.specs.Usable.{measuresBytes, storedShape, storedSizes, usable}
+use Rattle.facts.specs.Usable.{measuresBytes, storedShape, storedSizes, measuresHold, usable}
 use Rattle.pages.specs.declared.check.Checked.the-variants.{Fit, Unfit}
 use Rattle.pages.specs.Checked.{roomy, measured, checked}
 
@@ -28,41 +29,50 @@ pub too-short : (m : List ℕ) → length m < measuresBytes → Unfit ≡ measur
 unfolding measured roomy
 too-short m h = rw (lt-leb measuresBytes (length m) h)
 
--- a to d were read as the measures, and tested
-module _ (m : List ℕ) (a b c d : ℕ) (ea : a ≡ getD (words m) columnsAt 0) (eb : b ≡ getD (words m) rangesAt 0) (ec : c ≡ getD (words m) capacityAt 0) (ed : d ≡ getD (words m) sparesAt 0)
-    (ok : Bool) (w : ok ≡ withinLimits (shapeOf a b c d)) where
-  shape-read : shapeOf a b c d ≡ storedShape (words m)
+-- w was read as the word of the columns, and its form tested; the other measures were read, and all tested
+pub other-form : (m : List ℕ) (w : ℕ) → w ≡ getD (words m) columnsAt 0 → measuresBytes ≤ length m → formIn w ≢ newestForm → Unfit ≡ measured m
+unfolding measured roomy measuresHold
+other-form m w e h f = rw (le-leb measuresBytes (length m) h, ← e, ne-eqb (formIn w) newestForm f)
+
+module _ (m : List ℕ) (w b c d : ℕ) (ew : w ≡ getD (words m) columnsAt 0) (eb : b ≡ getD (words m) rangesAt 0) (ec : c ≡ getD (words m) capacityAt 0) (ed : d ≡ getD (words m) sparesAt 0)
+    (form : formIn w ≡ newestForm) (ok : Bool) (within : ok ≡ withinLimits (shapeOf (columnsIn w) b c d)) where
+  shape-read : shapeOf (columnsIn w) b c d ≡ storedShape (words m)
   unfolding storedShape
-  shape-read = rw (ea, eb, ec, ed)
+  shape-read = rw (← ew, ← eb, ← ec, ← ed)
+
+  -- the test of form and measures is that of the measures
+  limits-read : measuresHold (words m) ≡ ok
+  unfolding measuresHold
+  limits-read = rw (← ew, form, ← shape-read, ← within)
 
   pub out-of-limits : measuresBytes ≤ length m → not ok ≡ true → Unfit ≡ measured m
   unfolding measured roomy
-  out-of-limits h t = rw (le-leb measuresBytes (length m) h, ← shape-read, ← w, not-true ok t)
+  out-of-limits h t = rw (le-leb measuresBytes (length m) h, limits-read, not-true ok t)
 
   module _ (t : not ok ≡ false) where
-    pub within-limits : withinLimits (shapeOf a b c d) ≡ true
-    within-limits = sym w ∙ not-false ok t
+    pub within-limits : withinLimits (shapeOf (columnsIn w) b c d) ≡ true
+    within-limits = sym within ∙ not-false ok t
 
-    module _ (s : Sizes) (z : s ≡ sizesOf (shapeOf a b c d)) where
+    module _ (s : Sizes) (z : s ≡ sizesOf (shapeOf (columnsIn w) b c d)) where
       sizes-read : s ≡ storedSizes (words m)
       unfolding storedSizes
       sizes-read = z ∙ ap sizesOf shape-read
 
       -- the words needed, and their bytes, are few
       pub words-few : need s < 2 ^ 62
-      words-few = rw z (omega (arith, need-small (shapeOf a b c d) within-limits))
+      words-few = rw z (omega (arith, need-small (shapeOf (columnsIn w) b c d) within-limits))
 
       module _ (n : ℕ) (e : n ≡ need s) where
         pub bytes-few : Fits w64 (n * 4)
-        bytes-few = record { fits = rw (e, z) (omega (arith, need-small (shapeOf a b c d) within-limits)) }
+        bytes-few = record { fits = rw (e, z) (omega (arith, need-small (shapeOf (columnsIn w) b c d) within-limits)) }
 
         pub no-room : measuresBytes ≤ length m → length m < n * 4 → Unfit ≡ measured m
         unfolding measured roomy
-        no-room h k = rw (le-leb measuresBytes (length m) h, ← shape-read, ← w, not-false ok t, ← sizes-read, ← e, lt-leb (n * 4) (length m) k)
+        no-room h k = rw (le-leb measuresBytes (length m) h, limits-read, not-false ok t, ← sizes-read, ← e, lt-leb (n * 4) (length m) k)
 
         pub fit : measuresBytes ≤ length m → n * 4 ≤ length m → Fit s ≡ measured m
         unfolding measured roomy
-        fit h k = rw (le-leb measuresBytes (length m) h, ← shape-read, ← w, not-false ok t, ← sizes-read, ← e, le-leb (n * 4) (length m) k)
+        fit h k = rw (le-leb measuresBytes (length m) h, limits-read, not-false ok t, ← sizes-read, ← e, le-leb (n * 4) (length m) k)
 
 -- ---- the scan list and the facts
 -- what is known of a memory whose measures passed
@@ -93,12 +103,12 @@ is-unfit m = go (roomy m)
     go false e = refl
 
 pub measured-tells : (m : List ℕ) (s : Sizes) → measured m ≡ Fit s → Measured m s
-unfolding roomy
+unfolding roomy measuresHold
 measured-tells m s e =
     let f = is-fit m s e in
     let a = and-true (leb measuresBytes (length m)) _ (f .0) in
-    let b = and-true (withinLimits (storedShape (words m))) _ (a .1) in
-    record { sizes-are = f .1; within = b .0; room = rw (f .1) (leb-true (need (storedSizes (words m)) * 4) (length m) (b .1)) }
+    let b = and-true (measuresHold (words m)) _ (a .1) in
+    record { sizes-are = f .1; within = and-true (eqb (formIn (getD (words m) columnsAt 0)) newestForm) _ (b .0) .1; room = rw (f .1) (leb-true (need (storedSizes (words m)) * 4) (length m) (b .1)) }
 
 module _ (m : List ℕ) (ps : List ScanEntry) where
   pub unmeasured : measured m ≡ Unfit → Unfit ≡ checked m ps

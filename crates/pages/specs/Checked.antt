@@ -4,18 +4,17 @@ use mathlib.Core.List.{List}
 use Prim.Native.Nat.{ℕ, _*_}
 use lib.Dec.{leb}
 use lib.ListN.{length}
-use Rattle.terms.specs.Measures.{withinLimits}
 use Rattle.terms.specs.declared.ScanEntry.{ScanEntry}
 use Rattle.words.specs.Words.{words}
 use Rattle.layout.specs.Regions.{need}
-use Rattle.facts.specs.Usable.{measuresBytes, storedShape, storedSizes, usable}
+use Rattle.facts.specs.Usable.{measuresBytes, measuresHold, storedSizes, usable}
 use Rattle.facts.specs.Tests.{Passed}
 use Rattle.pages.specs.declared.check.Checked.{Checked}
 use Rattle.pages.specs.declared.check.Checked.the-variants.{Fit, Unfit}
 
--- the tests that come before there is a view: the measures are there and within their limits, and so are the bytes that they need
+-- the tests that come before there is a view: the measures are there, in the form that calls work on and within their limits, and so are the bytes that they need
 unfoldable pub roomy : List ℕ → Bool
-roomy m = leb measuresBytes (length m) && (withinLimits (storedShape (words m)) && leb (need (storedSizes (words m)) * 4) (length m))
+roomy m = leb measuresBytes (length m) && (measuresHold (words m) && leb (need (storedSizes (words m)) * 4) (length m))
 
 unfoldable pub measured : List ℕ → Checked
 measured m = cond (roomy m) (Fit (storedSizes (words m))) Unfit

@@ -4,6 +4,8 @@ use super::pages_hold;
 use facts::counts_within;
 use facts::opens_hold;
 use facts::scans_hold;
+use layout::FORM;
+use layout::FORM_UNIT;
 use layout::HEADER_CAPACITY;
 use layout::HEADER_COLUMNS;
 use layout::HEADER_RANGES;
@@ -57,14 +59,18 @@ fn facts_hold(mem: &[u8], s: Sizes, t: Scans) -> bool
     }
 }
 
-// The sizes of the store that a memory holds, if its measures are there and within their limits and it has the bytes that they need.
+// The sizes of the store that a memory holds, if it is in the form that calls work on, its measures are there and within their limits and it has the bytes that they need.
 fn measure(mem: &[u8]) -> Checked
     ensures { λ r. ⌜ r ≡ measured (now (mem .entry)) ⌝ }
 {
     if mem.len() < MEASURES_BYTES {
         return Checked::Unfit;
     }
-    let columns = get(mem, HEADER_COLUMNS);
+    let word = get(mem, HEADER_COLUMNS);
+    if word / FORM_UNIT + 1 != FORM {
+        return Checked::Unfit;
+    }
+    let columns = word % FORM_UNIT;
     let ranges = get(mem, HEADER_RANGES);
     let capacity = get(mem, HEADER_CAPACITY);
     let spares = get(mem, HEADER_SPARES);

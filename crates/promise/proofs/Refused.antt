@@ -1,9 +1,7 @@
 -- A refused call leaves every byte, every entry and every place of its slice as it was: of any memory and list, also of those that no call made.
-use Prim.Native.Nat.{ℕ}
 use mathlib.Core.Path.{_≡_, refl, ap, sym, _∙_}
 use mathlib.Core.Bool.{Bool, true, false, cond, true≢false}
 use mathlib.Core.List.{List}
-use lib.IntN.{ℤ}
 use Rattle.terms.specs.Measures.{Shape}
 use Rattle.terms.specs.Refusals.{isRefused}
 use Rattle.terms.specs.declared.Answer.{Answer}
@@ -13,33 +11,33 @@ use Rattle.words.specs.Words.{words}
 use Rattle.layout.specs.declared.Sizes.{Sizes}
 use Rattle.layout.specs.View.{View, lay}
 use Rattle.layout.proofs.Lay.{lay-view}
-use Rattle.history.specs.History.{Call, begin, insert, update, delete, commit, abort, latest, readAt, ownRead, openScan, scanRead, sum, close, merge, release, pageCell, lineage, crossings, Verdict, accept, refuse, answerIf, sliceOf, lentTo, stampsIf}
+use Rattle.history.specs.History.{Call, begin, insert, update, delete, commit, abort, latest, readAt, ownRead, openScan, scanRead, sum, close, merge, release, pageCell, lineage, crossings, beginAs, keeperAt, Verdict, accept, refuse, answerIf, sliceOf, lentTo, stampsIf}
 use Rattle.history.proofs.Lists.{by-test, is-true}
 use Rattle.facts.specs.Usable.{storedShape, storedSizes, usable}
 use Rattle.facts.proofs.Usable.{usable-tells}
-use Rattle.model.specs.Reading.{shownIn, readIn, readCurrent, sumIn, visibleIn}
+use Rattle.model.specs.Reading.{shownIn, readIn, readCurrent, keeperIn, sumIn, visibleIn}
 use Rattle.model.specs.Calls.{replyIn, viewIf, entriesIf, say, viewNext, entriesNext, stampsNext}
 use Rattle.promise.specs.Promise.{storeView, answerOf, memoryAfter, listAfter, stampsLeft}
 use Rattle.promise.specs.Demands.{RefusedKeeps}
 
 -- no accepted call answers a refusal
-read-not : (b : Bool) (z : ℤ) (s : ℕ) → isRefused (cond b (Answer.Version z s) Answer.None) ≡ false
-read-not true z s = refl
-read-not false z s = refl
+read-not : (b : Bool) (a : Answer) → isRefused a ≡ false → isRefused (cond b a Answer.None) ≡ false
+read-not true a e = e
+read-not false a e = refl
 
 pub not-refused : (S : Shape) (v : View) (ps : List ScanEntry) (c : Call) → isRefused (replyIn S v ps c) ≡ false
-unfolding replyIn readCurrent readIn shownIn sumIn
+unfolding replyIn readCurrent readIn shownIn keeperIn sumIn
 not-refused S v ps begin = refl
 not-refused S v ps (insert t vs) = refl
 not-refused S v ps (update t r m vs) = refl
 not-refused S v ps (delete t r) = refl
 not-refused S v ps (commit t s) = refl
 not-refused S v ps (abort t) = refl
-not-refused S v ps (latest r c) = read-not (visibleIn S v _ r) _ _
-not-refused S v ps (readAt s r c) = read-not (visibleIn S v _ r) _ _
-not-refused S v ps (ownRead t r c) = read-not (visibleIn S v _ r) _ _
+not-refused S v ps (latest r c) = read-not (visibleIn S v _ r) _ refl
+not-refused S v ps (readAt s r c) = read-not (visibleIn S v _ r) _ refl
+not-refused S v ps (ownRead t r c) = read-not (visibleIn S v _ r) _ refl
 not-refused S v ps (openScan s) = refl
-not-refused S v ps (scanRead k r c) = read-not (visibleIn S v _ r) _ _
+not-refused S v ps (scanRead k r c) = read-not (visibleIn S v _ r) _ refl
 not-refused S v ps (sum k c) = refl
 not-refused S v ps (close k) = refl
 not-refused S v ps (merge g c n) = refl
@@ -47,6 +45,8 @@ not-refused S v ps release = refl
 not-refused S v ps (pageCell c r) = refl
 not-refused S v ps (lineage g c) = refl
 not-refused S v ps (crossings r c mark from to stamps) = refl
+not-refused S v ps (beginAs k) = refl
+not-refused S v ps (keeperAt s r c) = read-not (visibleIn S v _ r) _ refl
 
 -- so an answer that is a refusal is the verdict's
 pub refused-by : (S : Shape) (v : View) (ps : List ScanEntry) (c : Call) (w : Verdict) {n : Refusal} → answerIf w (replyIn S v ps c) ≡ Answer.Refused n → w ≡ refuse n

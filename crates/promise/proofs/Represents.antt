@@ -15,7 +15,7 @@ use Rattle.layout.specs.declared.Sizes.{Sizes}
 use Rattle.layout.specs.declared.Region.{Region}
 use Rattle.layout.specs.declared.Region.the-variants.{Header}
 use Rattle.layout.specs.Cut.{join, endFrom}
-use Rattle.layout.specs.Regions.{all, lens, need, base, headerWords}
+use Rattle.layout.specs.Regions.{newestForm, columnsWord, formIn, columnsIn, columnsAt, all, lens, need, base, headerWords}
 use Rattle.layout.specs.Sizes.{sizesOf, bytesNeeded}
 use Rattle.layout.specs.View.{View, lay, Long, viewOf, Suffices}
 use Rattle.layout.proofs.Cut.{join-length}
@@ -24,7 +24,7 @@ use Rattle.layout.proofs.Lay.{view-lay}
 use Rattle.history.specs.History.{Call, History, start, answer, outcomes, stampsAfter, next}
 use Rattle.history.specs.Lists.{All, nil, cons}
 use Rattle.history.proofs.Invariants.{invariants-start}
-use Rattle.facts.specs.Usable.{measuresBytes, storedShape, storedSizes, usable}
+use Rattle.facts.specs.Usable.{measuresBytes, measuresHold, storedShape, storedSizes, usable}
 use Rattle.making.specs.Made.{madeList}
 use Rattle.model.specs.Writing.{madeView}
 use Rattle.model.specs.Calls.{Typed, say, viewNext, entriesNext, stampsNext}
@@ -69,20 +69,31 @@ module _ {m : List ℕ} {ps : List ScanEntry} {S : Shape} {h : History} (o : Mem
   unfolding base
   header-at i b = sym (rw (zero-add i) at (view-at (sizesOf S) (words m) Header i b))
 
+  -- the word of the columns: it has them, and the form
+  word-said : getD (words m) columnsAt 0 ≡ columnsWord newestForm (S .columns)
+  word-said = header-at 0 (omega arith) ∙ o .shown .header .columns
+
+  columns-said : columnsIn (getD (words m) columnsAt 0) ≡ S .columns
+  columns-said = rw word-said (omega (arith, o .well-formed .small .columns))
+
+  form-said : formIn (getD (words m) columnsAt 0) ≡ newestForm
+  form-said = rw word-said (omega (arith, o .well-formed .small .columns))
+
   pub shape-said : storedShape (words m) ≡ S
   unfolding storedShape
   shape-said =
       let x = o .shown .header in
-      rw (header-at 0 (omega arith) ∙ x .columns, header-at 1 (omega arith) ∙ x .ranges, header-at 2 (omega arith) ∙ x .capacity, header-at 3 (omega arith) ∙ x .spares)
+      rw (columns-said, header-at 1 (omega arith) ∙ x .ranges, header-at 2 (omega arith) ∙ x .capacity, header-at 3 (omega arith) ∙ x .spares)
 
   measures-there : measuresBytes ≤ length m
   unfolding bytesNeeded need
   measures-there = omega (arith, o .room)
 
   pub represents-usable : usable m ps ≡ true
-  unfolding usable storedSizes bytesNeeded
+  unfolding usable measuresHold storedSizes bytesNeeded
   represents-usable =
       rw (
+        form-said,
         shape-said,
         o .within,
         le-leb measuresBytes (length m) measures-there,

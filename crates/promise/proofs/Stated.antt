@@ -24,7 +24,7 @@ use Rattle.layout.specs.View.{View, lastStamp, usedIn, viewOf}
 use Rattle.layout.proofs.View.{view-long}
 use Rattle.layout.proofs.Limits.{proper}
 use Rattle.layout.specs.declared.Region.the-variants.{Opens}
-use Rattle.history.specs.History.{Call, begin, insert, update, delete, commit, abort, latest, readAt, ownRead, openScan, scanRead, sum, close, merge, release, pageCell, lineage, crossings, Test, _when_, any, count, Verdict, accept, refuse, verdict, answerIf, bit, rangeOf, badMask, noColumn, noRange, outnumber}
+use Rattle.history.specs.History.{Call, begin, insert, update, delete, commit, abort, latest, readAt, ownRead, openScan, scanRead, sum, close, merge, release, pageCell, lineage, crossings, beginAs, keeperAt, Test, _when_, any, count, Verdict, accept, refuse, verdict, answerIf, bit, rangeOf, badMask, noColumn, noRange, outnumber}
 use Rattle.history.proofs.Lists.{by-cases, by-test, clash, is-true, is-false, refuted, both, parts, or-left, or-right, or-cases, eqb-equal, any-at, both-test, not-test, le-test, eq-test}
 use Rattle.history.proofs.Masks.{bit-low}
 use Rattle.facts.specs.Usable.{storedShape, storedSizes, usable}
@@ -33,7 +33,7 @@ use Rattle.model.specs.Stored.{RecordWords, rowIn, recordIn, pageIn, pagesOf, a
 use Rattle.layout.specs.Regions.{slot}
 use Rattle.model.specs.Preconditions.{ChunksCurrent}
 use Rattle.model.specs.Writing.{newBitsIn, recordsWanted, freeIn}
-use Rattle.model.specs.Calls.{openIn, openOther, standsFor, anyRecord, notOpenIn, noScanIn, notGivenIn, heldIn, goneIn, lacksIn, earlierIn, laterIn, noSpanIn, outOfReachIn, openAmongIn, testsIn, replyIn, say}
+use Rattle.model.specs.Calls.{beginTestsIn, readAtTestsIn, openIn, openOther, standsFor, anyRecord, notOpenIn, noScanIn, notGivenIn, heldIn, goneIn, lacksIn, earlierIn, laterIn, noSpanIn, outOfReachIn, openAmongIn, testsIn, replyIn, say}
 use Rattle.model.proofs.Lists.{first-below, first-passes, any-count, count-rest}
 use Rattle.model.proofs.lookups.Heads.{slot-is}
 use Rattle.model.proofs.changes.Insert.{bit-none}
@@ -244,7 +244,7 @@ module _ (S : Shape) (v : View) (ps : List ScanEntry) (long : length (v Opens) �
   is-open t n = open-test t .0 (by-test (λ b. T b) (openIn v t) (λ _. tt) (λ z. n (λ p. T-not (openIn v t) z (open-test t .1 p))))
 
   meets : (c : Call) → Meets (testsIn S v ps c) (stated S v ps c)
-  unfolding testsIn stated notGivenIn noColumn noRange laterIn earlierIn noSpanIn outnumber outOfReachIn
+  unfolding testsIn beginTestsIn readAtTestsIn stated notGivenIn noColumn noRange laterIn earlierIn noSpanIn outnumber outOfReachIn
   meets begin = test (le-test _ _) (λ _. test busy-test (λ _. done))
   meets (insert t vs) = test (closed-test t) (λ _. test (le-test _ _) (λ _. done))
   meets (update t r m vs) =
@@ -269,6 +269,8 @@ module _ (S : Shape) (v : View) (ps : List ScanEntry) (long : length (v Opens) �
   meets (lineage g c) = test (le-test _ _) (λ _. test (le-test _ _) (λ _. done))
   meets (crossings r c mark from to stamps) =
       test (le-test _ _) (λ _. test (le-test _ _) (λ _. test (or-test (ltb to from) (ltb (lastStamp v) to) (le-test _ _) (le-test _ _)) (λ _. test (le-test _ _) (λ _. done))))
+  meets (beginAs k) = test (le-test _ _) (λ _. test busy-test (λ _. done))
+  meets (keeperAt s r c) = test (le-test _ _) (λ _. test (le-test _ _) (λ _. test (le-test _ _) (λ _. done)))
 
 -- ---- of a usable memory
 is-accept : (w : Verdict) (a : Answer) → isRefused (answerIf w a) ≡ false → w ≡ accept

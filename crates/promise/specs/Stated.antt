@@ -16,7 +16,7 @@ use Rattle.terms.specs.declared.Refusal.{Refusal}
 use Rattle.words.specs.Words.{words}
 use Rattle.layout.specs.View.{View, rowsGiven, transactionsGiven, scansGiven, lastStamp, usedIn}
 use Rattle.layout.specs.declared.Region.the-variants.{Opens}
-use Rattle.history.specs.History.{Call, begin, insert, update, delete, commit, abort, latest, readAt, ownRead, openScan, scanRead, sum, close, merge, release, pageCell, lineage, crossings, bit, count, rangeOf}
+use Rattle.history.specs.History.{Call, begin, insert, update, delete, commit, abort, latest, readAt, ownRead, openScan, scanRead, sum, close, merge, release, pageCell, lineage, crossings, beginAs, keeperAt, bit, count, rangeOf}
 use Rattle.facts.specs.Usable.{storedShape, usable}
 use Rattle.model.specs.Versions.{crossingsIn}
 use Rattle.model.specs.Stored.{RecordWords, rowIn, recordIn, pageIn, currentIn, pagesOf, countBelow, deleteKind, waitingPage}
@@ -106,8 +106,16 @@ infix 68 _on_
 abbrev pub _on_ : Refusal → Type 0 → Clause
 n on P = record { refusal = n; applies = P }
 
+-- of begin, with a keeper or without
+abbrev pub statedBegin : View → List Clause
+statedBegin v = Refusal.Number on (mostNumbers ≤ transactionsGiven v) ∷ Refusal.Busy on (mostTransactions ≤ transactionsOpen v) ∷ []
+
+-- of a read at a stamp, and of its keeper
+abbrev pub statedReadAt : Shape → View → ℕ → ℕ → ℕ → List Clause
+statedReadAt S v s r c = Refusal.Time on (lastStamp v < s) ∷ Refusal.Row on (rowsGiven v ≤ r) ∷ Refusal.Column on (S .columns ≤ c) ∷ []
+
 unfoldable pub stated : Shape → View → List ScanEntry → Call → List Clause
-stated S v ps begin = Refusal.Number on (mostNumbers ≤ transactionsGiven v) ∷ Refusal.Busy on (mostTransactions ≤ transactionsOpen v) ∷ []
+stated S v ps begin = statedBegin v
 stated S v ps (insert t vs) = Refusal.Transaction on (¬ Open v t) ∷ Refusal.Full on (S .ranges * rangeRows ≤ rowsGiven v) ∷ []
 stated S v ps (update t r m vs) =
     Refusal.Transaction on (¬ Open v t)
@@ -127,8 +135,7 @@ stated S v ps (delete t r) =
 stated S v ps (commit t s) = Refusal.Transaction on (¬ Open v t) ∷ Refusal.Time on (s < lastStamp v) ∷ []
 stated S v ps (abort t) = Refusal.Transaction on (¬ Open v t) ∷ []
 stated S v ps (latest r c) = Refusal.Row on (rowsGiven v ≤ r) ∷ Refusal.Column on (S .columns ≤ c) ∷ []
-stated S v ps (readAt s r c) =
-    Refusal.Time on (lastStamp v < s) ∷ Refusal.Row on (rowsGiven v ≤ r) ∷ Refusal.Column on (S .columns ≤ c) ∷ []
+stated S v ps (readAt s r c) = statedReadAt S v s r c
 stated S v ps (ownRead t r c) =
     Refusal.Transaction on (¬ Open v t) ∷ Refusal.Row on (rowsGiven v ≤ r) ∷ Refusal.Column on (S .columns ≤ c) ∷ []
 stated S v ps (openScan s) =
@@ -153,6 +160,8 @@ stated S v ps (crossings r c mark from to stamps) =
     ∷ Refusal.Time on NoSpan v from to
     ∷ Refusal.List on (length stamps < length (crossingsIn S v r c mark from to))
     ∷ []
+stated S v ps (beginAs k) = statedBegin v
+stated S v ps (keeperAt s r c) = statedReadAt S v s r c
 
 -- 2.5: refusal 2 is the first test of each call
 unfoldable pub conditions : List ℕ → List ScanEntry → Call → List Clause

@@ -32,7 +32,7 @@ ghost use lib.Dec.{leb};
 ghost use Rattle.layout.specs.Regions.{firstSlot};
 ghost use Rattle.layout.specs.View.{rowsGiven, usedIn, viewOf, Suffices};
 ghost use Rattle.model.specs.Stored.{recordIn, pageIn, valueIn};
-ghost use Rattle.model.specs.Reading.{reader, snapshotOf, answersFor, walk, floor, downTo, foundIn, wordIn, setterAt, commitStamp, setterStamp, lookupIn, shownIn, readIn, readCurrent};
+ghost use Rattle.model.specs.Reading.{reader, snapshotOf, answersFor, walk, floor, downTo, foundIn, wordIn, setterAt, commitStamp, setterStamp, lookupIn, shownIn, readIn, keeperWord, keeperIn, readCurrent};
 ghost use Rattle.layout.specs.Sizes.{Proper};
 ghost use Rattle.model.specs.Preconditions.{shapeIn, Linked, Pooled};
 ghost use Rattle.rows.specs.Finders.{Inside};
@@ -40,6 +40,9 @@ ghost use Rattle.reading.specs.Setters.{RecordInside};
 
 // The number below the first record of a range.
 const FLOOR: u32 = 0;
+
+// Of a word for a keeper the lower two bytes count.
+const KEEPER_LIMIT: u32 = 65_536;
 
 // The word of column c in the tail record at a slot.
 pub fn value(mem: &[u8], s: Sizes, at: usize, c: u32) -> u32
@@ -253,6 +256,34 @@ pub fn read_cell(mem: &[u8], s: Sizes, who: Reader, page: usize, row: Row, c: u3
 {
     if visible(mem, s, who, row) {
         return shown(mem, s, row, lookup(mem, s, who, page, row, c));
+    }
+    Answer::None
+}
+
+// The keeper that the tail record bears that answers for a row and column, the row's where none does.
+fn keeper_word(mem: &[u8], s: Sizes, who: Reader, row: Row, c: u32) -> u32
+    requires { ⌜ Suffices s (now mem) ⌝ }
+    requires { ⌜ Proper s ⌝ }
+    requires { ⌜ Linked s (viewOf s (now mem)) ⌝ }
+    requires { ⌜ (c < s .columns) × (row .0 < rowsGiven (viewOf s (now mem))) ⌝ }
+    ensures { λ r. ⌜ r ≡ keeperWord (shapeIn s) (viewOf s (now (mem .entry))) who (row .0) c ⌝ }
+{
+    let Found::At(at) = find(mem, s, who, row, c) else {
+        return read(mem, s, Region::RowKeeper, row.0 as usize);
+    };
+    read(mem, s, Region::TailKeeper, at)
+}
+
+// The keeper of what the reader reads of a row and column.
+pub fn read_keeper(mem: &[u8], s: Sizes, who: Reader, row: Row, c: u32) -> Answer
+    requires { ⌜ Suffices s (now mem) ⌝ }
+    requires { ⌜ Proper s ⌝ }
+    requires { ⌜ Linked s (viewOf s (now mem)) ⌝ }
+    requires { ⌜ (c < s .columns) × (row .0 < rowsGiven (viewOf s (now mem))) ⌝ }
+    ensures { λ r. ⌜ r ≡ keeperIn (shapeIn s) (viewOf s (now (mem .entry))) who (row .0) c ⌝ }
+{
+    if visible(mem, s, who, row) {
+        return Answer::Number(keeper_word(mem, s, who, row, c) % KEEPER_LIMIT);
     }
     Answer::None
 }

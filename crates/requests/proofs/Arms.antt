@@ -38,6 +38,7 @@ read-unlent Read.ScanRead ns = refl
 read-unlent Read.Sum ns = refl
 read-unlent Read.PageCell ns = refl
 read-unlent Read.Lineage ns = refl
+read-unlent Read.KeeperAt ns = refl
 
 pub write-unlent : (k : Write) (ns : List ℕ) (vs : List ℤ) → sliceOf (writeOf k ns vs) ≡ none
 unfolding writeOf
@@ -49,6 +50,7 @@ write-unlent Write.Commit ns vs = refl
 write-unlent Write.Abort ns vs = refl
 write-unlent Write.Merge ns vs = refl
 write-unlent Write.Release ns vs = refl
+write-unlent Write.BeginAs ns vs = refl
 
 pub unlent : (m : List ℕ) (ps : List ScanEntry) (x : Call) (r : Answer) (o : Outcome Answer) (m′ : List ℕ) (ps′ : List ScanEntry) → o ≡ alone r → sliceOf x ≡ none
     → Serves m ps x r m′ ps′ → Gives m ps x o m′ ps′

@@ -17,6 +17,7 @@ use Rattle.layout.specs.declared.Region.the-variants.{Current}
 use Rattle.history.specs.History.{rangeOf, Outcome}
 use Rattle.layout.specs.Codes.{asSetting}
 use Rattle.model.specs.Writing.{putCells, insertedAt, insertedIn, settingAppended, originalAppended, updatedIn, filledIn, nextSlot, appended}
+use Rattle.model.specs.Stored.{openKeeper}
 use Rattle.model.specs.Calls.{testsIn, replyIn, actIn, entriesAfter}
 use Rattle.commands.specs.declared.Write.{Write}
 use Rattle.commands.specs.declared.Kind.{Kind}
@@ -40,14 +41,14 @@ module _ (vs us : List ℤ) (e : Agree vs us) (S : Shape) where
   unfolding insertedIn insertedAt
   inserted-agree t v = rw (cells-agree vs us e S (v Current))
 
-  setting-agree : (t r mask : ℕ) (v : View) → settingAppended S t r mask vs v ≡ settingAppended S t r mask us v
+  setting-agree : (t keeper r mask : ℕ) (v : View) → settingAppended S t keeper r mask vs v ≡ settingAppended S t keeper r mask us v
   unfolding settingAppended
-  setting-agree t r mask v =
-      ap (λ (f : ℕ → ℕ). filledIn S (nextSlot S v (rangeOf r)) f (appended S t r asSetting mask v)) (fun-ext (λ (c : ℕ). ap (ofZ w32) (e c)))
+  setting-agree t keeper r mask v =
+      ap (λ (f : ℕ → ℕ). filledIn S (nextSlot S v (rangeOf r)) f (appended S t keeper r asSetting mask v)) (fun-ext (λ (c : ℕ). ap (ofZ w32) (e c)))
 
   updated-agree : (t r mask : ℕ) (v : View) → updatedIn S t r mask vs v ≡ updatedIn S t r mask us v
   unfolding updatedIn
-  updated-agree t r mask v = rw (setting-agree t r mask (originalAppended S t r mask v), setting-agree t r mask v)
+  updated-agree t r mask v = rw (setting-agree t (openKeeper v t) r mask (originalAppended S t r mask v), setting-agree t (openKeeper v t) r mask v)
 
 -- What is given for a call with one list of values is given for it with another that agrees: no test and no answer looks at them.
 given-values : (m : List ℕ) (ps : List ScanEntry) (k : Kind) (ns : List ℕ) (vs us : List ℤ) (o : Outcome Answer) (m′ : List ℕ) (ps′ : List ScanEntry) → Agree vs us
@@ -64,6 +65,7 @@ given-values m ps (Kind.Write Write.Commit) ns vs us o m′ ps′ e w = w
 given-values m ps (Kind.Write Write.Abort) ns vs us o m′ ps′ e w = w
 given-values m ps (Kind.Write Write.Merge) ns vs us o m′ ps′ e w = w
 given-values m ps (Kind.Write Write.Release) ns vs us o m′ ps′ e w = w
+given-values m ps (Kind.Write Write.BeginAs) ns vs us o m′ ps′ e w = w
 given-values m ps Kind.OpenScan ns vs us o m′ ps′ e w = w
 given-values m ps Kind.Close ns vs us o m′ ps′ e w = w
 given-values m ps Kind.Crossings ns vs us o m′ ps′ e w = w

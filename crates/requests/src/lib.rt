@@ -3,6 +3,7 @@ pub mod packed;
 
 use changes::abort;
 use changes::begin;
+use changes::begin_as;
 use changes::commit;
 use changes::delete;
 use changes::insert;
@@ -13,6 +14,7 @@ use commands::Read;
 use commands::Request;
 use commands::Write;
 use lookups::crossings;
+use lookups::keeper_at;
 use lookups::latest;
 use lookups::lineage;
 use lookups::own_read;
@@ -121,6 +123,7 @@ fn look(mem: &[u8], t: Scans, kind: Read, operands: [u32; MOST_OPERANDS]) -> Ans
         Read::Sum => sum(mem, t, a, b),
         Read::PageCell => page_cell(mem, t, a, Row(b)),
         Read::Lineage => lineage(mem, t, a, b),
+        Read::KeeperAt => keeper_at(mem, t, Stamp(a), Row(b), c),
     }
 }
 
@@ -146,6 +149,7 @@ fn change(
         Write::Abort => abort(mem, t, Transaction(a)),
         Write::Merge => merge(mem, t, a, b, Tail(c)),
         Write::Release => release(mem, t),
+        Write::BeginAs => begin_as(mem, t, a),
     }
 }
 

@@ -46,15 +46,15 @@ pub fn free_index(mem: &[u8], s: Sizes) -> Found
     find_in(mem, s, Region::Opens, 0, MOST_TRANSACTIONS, 0)
 }
 
-// A new transaction takes a free entry, and gets the next number.
-pub fn begin(mem: &mut [u8], s: Sizes, free: usize) -> Transaction
+// A new transaction of a keeper takes a free entry, and gets the next number.
+pub fn begin(mem: &mut [u8], s: Sizes, free: usize, keeper: u32) -> Transaction
     requires { ⌜ Suffices s (now mem) ⌝ }
     requires { ⌜ FreeAt (viewOf s (now mem)) free ⌝ }
     requires { ⌜ transactionsGiven (viewOf s (now mem)) < mostNumbers ⌝ }
-    ensures { λ r. ⌜ (r .0 ≡ transactionsGiven (viewOf s (now (mem .entry))) + 1) × (viewOf s (now (mem .exit)) ≡ begun (viewOf s (now (mem .entry)))) ⌝ }
+    ensures { λ r. ⌜ (r .0 ≡ transactionsGiven (viewOf s (now (mem .entry))) + 1) × (viewOf s (now (mem .exit)) ≡ begun keeper (viewOf s (now (mem .entry)))) ⌝ }
 {
     let t = Transaction(read(mem, s, Region::Header, HEADER_TRANSACTIONS) + 1);
-    put_pending(mem, s, free, Pending::begin(t));
+    put_pending(mem, s, free, Pending::begin(t, keeper));
     write(mem, s, Region::Header, HEADER_TRANSACTIONS, t.0);
     t
 }

@@ -1,6 +1,6 @@
-// The record of an open transaction, by value: its number, and how many changes it has noted. Begin makes it, insert, update and delete note a change
-// in it, commit and abort take it back and settle what bears the number that it hands back; the own read asks it whose pending changes count. In the memory
-// it is one word of Opens and one of Changes.
+// The record of an open transaction, by value: its number, how many changes it has noted, and its keeper. Begin makes it; insert, update and delete take the keeper from it
+// and note a change in it; commit and abort take it back and settle what bears the number that it hands back; the own read asks it whose pending changes count. In the memory
+// it is one word each of Opens, Changes and OpenKeeper.
 use layout::Region;
 use layout::Sizes;
 use regions::read;
@@ -17,6 +17,7 @@ ghost use Rattle.transactions.specs.Pending.{fresh, oneMore, handedBack,
 pub struct Pending {
     pub number: Transaction,
     pub changes: u32,
+    pub keeper: u32,
 }
 
 // The number after n. The highest goes round, so that every memory has an answer.
@@ -28,12 +29,13 @@ pub fn next_word(n: u32) -> u32
 
 impl Pending {
     // A transaction that has changed nothing.
-    pub fn begin(t: Transaction) -> Pending
-        ensures { λ r. ⌜ r ≡ fresh t ⌝ }
+    pub fn begin(t: Transaction, keeper: u32) -> Pending
+        ensures { λ r. ⌜ r ≡ fresh t keeper ⌝ }
     {
         Pending {
             number: t,
             changes: 0,
+            keeper,
         }
     }
 
@@ -45,6 +47,7 @@ impl Pending {
         Pending {
             number: t,
             changes: next_word(self.changes),
+            keeper: self.keeper,
         }
     }
 
@@ -71,6 +74,7 @@ pub fn free_record() -> Pending
     Pending {
         number: Transaction(0),
         changes: 0,
+        keeper: 0,
     }
 }
 
@@ -83,6 +87,7 @@ pub fn pending_at(mem: &[u8], s: Sizes, index: usize) -> Pending
     Pending {
         number: Transaction(read(mem, s, Region::Opens, index)),
         changes: read(mem, s, Region::Changes, index),
+        keeper: read(mem, s, Region::OpenKeeper, index),
     }
 }
 
@@ -94,4 +99,5 @@ pub fn put_pending(mem: &mut [u8], s: Sizes, index: usize, p: Pending)
 {
     write(mem, s, Region::Opens, index, p.number.0);
     write(mem, s, Region::Changes, index, p.changes);
+    write(mem, s, Region::OpenKeeper, index, p.keeper);
 }

@@ -24,7 +24,7 @@ largest = shapeOf lentColumns lentRanges lentRecords lentSpares
 
 -- the bytes that are lent: that many for the largest shape (proofs/lent_memory), and an entry for each scan that can be open
 abbrev pub memoryBytes : ℕ
-memoryBytes = 27600
+memoryBytes = 29680
 
 abbrev pub listBytes : ℕ
 listBytes = entryBytes * mostScans

@@ -37,7 +37,7 @@ ghost use Rattle.promise.specs.Promise.{lentMachine};
 ghost use Rattle.turns.specs.Turns.{storeIn, makingAnswer, madeStore, firstAnswer, firstStore, firstStep, columnsFrom, capped as cappedAt, operandWidth, Does, Turned};
 
 // Memory for the largest shape that memory is lent for, and a scan list with an entry for each scan that can be open.
-pub const MEMORY_BYTES: usize = 27600;
+pub const MEMORY_BYTES: usize = 29680;
 
 pub const LIST_BYTES: usize = ENTRY_BYTES * MOST_SCANS;
 

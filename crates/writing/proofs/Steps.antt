@@ -25,7 +25,7 @@ use Rattle.words.proofs.Words.{length-words}
 use Rattle.layout.specs.Regions.{rowsAt, slot}
 use Rattle.layout.specs.View.{View, renew, put, rowsGiven, usedIn, viewOf, Suffices}
 use Rattle.layout.proofs.View.{view-long}
-use Rattle.model.specs.Stored.{openIndex, rowIn, cellIn, currentIn}
+use Rattle.model.specs.Stored.{rowKeeper, openKeeper, openIndex, rowIn, cellIn, currentIn}
 use Rattle.layout.specs.Codes.{asOriginal, asDelete}
 use Rattle.model.specs.Writing.{noted, putCells, nextSlot, appended, filledIn, newBits, newBitsIn, recordsWanted, originalAppended, settingAppended, updatedIn, insertedIn, insertedAt, deletedIn}
 use Rattle.layout.specs.Sizes.{Proper}
@@ -66,17 +66,17 @@ module _ (S : Shape) (g i : ℕ) (vs : List ℤ) (v : View) where
   cells-all x c e h m = let q : c ≡ S .columns = omega arith in e ∙ rw q
 
 -- ---- an appended record is the newest of its range
-appended-used : (S : Shape) (t r kind mask : ℕ) (v : View) → r / rangeRows < length (v Region.Used)
-    → usedIn (appended S t r kind mask v) (r / rangeRows) ≡ usedIn v (r / rangeRows) + 1
+appended-used : (S : Shape) (t keeper r kind mask : ℕ) (v : View) → r / rangeRows < length (v Region.Used)
+    → usedIn (appended S t keeper r kind mask v) (r / rangeRows) ≡ usedIn v (r / rangeRows) + 1
 unfolding appended rangeOf put renew
-appended-used S t r kind mask v h = getD-set-same (v Region.Used) (r / rangeRows) _ 0 h
+appended-used S t keeper r kind mask v h = getD-set-same (v Region.Used) (r / rangeRows) _ 0 h
 
 -- the words that are put, one after the other
-pub appended-is : (S : Shape) (t r kind mask u link : ℕ) (v x y z : View) → u ≡ getD (v Region.Used) (r / rangeRows) 0 → link ≡ getD (v Region.RowLink) r 0
-    → x ≡ recordPut (r / rangeRows * S .capacity + u) t r kind mask link v → y ≡ put Region.Used (r / rangeRows) (u + 1) x → z ≡ put Region.RowLink r (u + 1) y
-    → z ≡ appended S t r kind mask v
+pub appended-is : (S : Shape) (t keeper r kind mask u link : ℕ) (v x y z : View) → u ≡ getD (v Region.Used) (r / rangeRows) 0 → link ≡ getD (v Region.RowLink) r 0
+    → x ≡ recordPut (r / rangeRows * S .capacity + u) t keeper r kind mask link v → y ≡ put Region.Used (r / rangeRows) (u + 1) x → z ≡ put Region.RowLink r (u + 1) y
+    → z ≡ appended S t keeper r kind mask v
 unfolding appended nextSlot openPut recordPut slot rangeOf rowIn
-appended-is S t r kind mask u link v x y z e f a b c =
+appended-is S t keeper r kind mask u link v x y z e f a b c =
     let q : getD (v Region.Used) (r / rangeRows) 0 + 1 - 1 ≡ getD (v Region.Used) (r / rangeRows) 0 = omega arith in
     rw (c, b, a, f, e, q)
 
@@ -87,10 +87,10 @@ range-counted s m r h p l =
     let g : r / rangeRows < s .ranges = range-in s p r l in
     (g, omega (arith, view-long s (words m) (omega (arith, length-words m)) Region.Used))
 
-module _ (s : Sizes) (m : List ℕ) (t r kind mask : ℕ) (x : View) (e : x ≡ appended (shapeIn s) t r kind mask (viewOf s m))
+module _ (s : Sizes) (m : List ℕ) (t keeper r kind mask : ℕ) (x : View) (e : x ≡ appended (shapeIn s) t keeper r kind mask (viewOf s m))
     (h : Suffices s m) (p : Proper s) (o : Room s (viewOf s m) r 1) where
-  one-more : usedIn (appended (shapeIn s) t r kind mask (viewOf s m)) (r / rangeRows) ≡ usedIn (viewOf s m) (r / rangeRows) + 1
-  one-more = appended-used (shapeIn s) t r kind mask (viewOf s m) (range-counted s m r h p (o .row-below) .1)
+  one-more : usedIn (appended (shapeIn s) t keeper r kind mask (viewOf s m)) (r / rangeRows) ≡ usedIn (viewOf s m) (r / rangeRows) + 1
+  one-more = appended-used (shapeIn s) t keeper r kind mask (viewOf s m) (range-counted s m r h p (o .row-below) .1)
 
   pub appended-newest : Newest s x (r / rangeRows)
   appended-newest =
@@ -98,28 +98,28 @@ module _ (s : Sizes) (m : List ℕ) (t r kind mask : ℕ) (x : View) (e : x ≡ 
 
   -- so that filling the newest record fills the appended one
   pub appended-filled : (f : ℕ → ℕ) (y : View) → y ≡ newestFilled (shapeIn s) (r / rangeRows) f x
-      → y ≡ filledIn (shapeIn s) (nextSlot (shapeIn s) (viewOf s m) (r / rangeRows)) f (appended (shapeIn s) t r kind mask (viewOf s m))
+      → y ≡ filledIn (shapeIn s) (nextSlot (shapeIn s) (viewOf s m) (r / rangeRows)) f (appended (shapeIn s) t keeper r kind mask (viewOf s m))
   unfolding newestFilled nextSlot
   appended-filled f y q =
       q
       ∙ rw e
-      (ap (λ (k : ℕ). filledIn (shapeIn s) (slot (shapeIn s) (r / rangeRows) k) f (appended (shapeIn s) t r kind mask (viewOf s m))) one-more)
+      (ap (λ (k : ℕ). filledIn (shapeIn s) (slot (shapeIn s) (r / rangeRows) k) f (appended (shapeIn s) t keeper r kind mask (viewOf s m))) one-more)
 
 -- the record of the original values: the current pages are as they were
-pub original-is : (s : Sizes) (m : List ℕ) (t r fresh : ℕ) (x y : View) → x ≡ appended (shapeIn s) t r asOriginal fresh (viewOf s m)
+pub original-is : (s : Sizes) (m : List ℕ) (t keeper r fresh : ℕ) (x y : View) → keeper ≡ getD (viewOf s m Region.RowKeeper) r 0 → x ≡ appended (shapeIn s) t keeper r asOriginal fresh (viewOf s m)
     → y ≡ newestFilled (shapeIn s) (r / rangeRows) (cellWords (shapeIn s) x (r / rangeRows) (r % rangeRows)) x → Suffices s m → Proper s → Room s (viewOf s m) r 1
     → y ≡ originalPut (shapeIn s) t r fresh (viewOf s m)
-unfolding originalPut cellWords cellIn currentIn appended put renew rangeOf
-original-is s m t r fresh x y e q h p o =
-    appended-filled s m t r asOriginal fresh x e h p o (cellWords (shapeIn s) x (r / rangeRows) (r % rangeRows)) y q ∙ rw e
+unfolding originalPut cellWords cellIn currentIn rowKeeper appended put renew rangeOf
+original-is s m t keeper r fresh x y k e q h p o =
+    appended-filled s m t keeper r asOriginal fresh x e h p o (cellWords (shapeIn s) x (r / rangeRows) (r % rangeRows)) y q ∙ rw (e, k)
 
 -- the records of an update leave the open transactions as they were
-records-opens : (S : Shape) (t r mask : ℕ) (vs : List ℤ) (v : View) → recordsPut S t r mask vs v Region.Opens ≡ v Region.Opens
+records-opens : (S : Shape) (t keeper r mask : ℕ) (vs : List ℤ) (v : View) → recordsPut S t keeper r mask vs v Region.Opens ≡ v Region.Opens
 unfolding recordsPut settingAppended originalAppended filledIn appended put renew
-records-opens S t r mask vs v = go (eqb (newBitsIn v r mask) 0)
+records-opens S t keeper r mask vs v = go (eqb (newBitsIn v r mask) 0)
   where
     go : (b : Bool)
-        → cond {A = View} b (settingAppended S t r mask vs v) (settingAppended S t r mask vs (originalAppended S t r mask v)) Region.Opens ≡ v Region.Opens
+        → cond {A = View} b (settingAppended S t keeper r mask vs v) (settingAppended S t keeper r mask vs (originalAppended S t r mask v)) Region.Opens ≡ v Region.Opens
     go true = refl
     go false = refl
 
@@ -173,15 +173,15 @@ module _ (v : View) (r mask old fresh : ℕ) (e : old ≡ getD (v Region.RowMask
   unfolding newBitsIn rowIn
   fresh-is = q ∙ ap (newBits mask) e
 
-  pub records-one : (S : Shape) (t : ℕ) (vs : List ℤ) (y : View) → y ≡ settingAppended S t r mask vs v → fresh ≡ 0 → y ≡ recordsPut S t r mask vs v
+  pub records-one : (S : Shape) (t keeper : ℕ) (vs : List ℤ) (y : View) → y ≡ settingAppended S t keeper r mask vs v → fresh ≡ 0 → y ≡ recordsPut S t keeper r mask vs v
   unfolding recordsPut
-  records-one S t vs y a z = a ∙ rw (← fresh-is, eq-eqb fresh 0 z)
+  records-one S t keeper vs y a z = a ∙ rw (← fresh-is, eq-eqb fresh 0 z)
 
   module _ (n : fresh ≡ 0 → ⊥) where
-    pub records-two : (S : Shape) (t : ℕ) (vs : List ℤ) (x y : View) → x ≡ originalPut S t r fresh v → y ≡ settingAppended S t r mask vs x
-        → y ≡ recordsPut S t r mask vs v
+    pub records-two : (S : Shape) (t keeper : ℕ) (vs : List ℤ) (x y : View) → x ≡ originalPut S t r fresh v → y ≡ settingAppended S t keeper r mask vs x
+        → y ≡ recordsPut S t keeper r mask vs v
     unfolding recordsPut originalAppended originalPut cellWords
-    records-two S t vs x y a b = b ∙ rw (a, ← fresh-is, ne-eqb fresh 0 n)
+    records-two S t keeper vs x y a b = b ∙ rw (a, ← fresh-is, ne-eqb fresh 0 n)
 
     wanted-two : recordsWanted v r mask ≡ 2
     unfolding recordsWanted
@@ -193,24 +193,29 @@ pub original-room : (s : Sizes) (m : List ℕ) (t r mask old fresh : ℕ) (x : V
     → Room s (viewOf s m) r (recordsWanted (viewOf s m) r mask) → Room s x r 1
 unfolding originalPut filledIn rangeOf renew
 original-room s m t r mask old fresh x e a b n h p o =
-    let used = appended-used (shapeIn s) t r asOriginal fresh (viewOf s m) (range-counted s m r h p (o .row-below) .1) in
+    let used = appended-used (shapeIn s) t (rowKeeper (viewOf s m) r) r asOriginal fresh (viewOf s m) (range-counted s m r h p (o .row-below) .1) in
     rw e record { row-below = o .row-below; left = omega (arith, used, wanted-two (viewOf s m) r mask old fresh a b n, o .left) }
 
 -- ---- the steps of each call, one after the other: the last is the note
 module _ (S : Shape) (t j : ℕ) (v : View) (o : OpenAt v t j) where
-  pub updated-is : (r mask old : ℕ) (vs : List ℤ) (x y z : View) → old ≡ getD (v Region.RowMask) r 0 → x ≡ recordsPut S t r mask vs v
+  -- the keeper read at the entry
+  keeper-read : (keeper : ℕ) → keeper ≡ getD (v Region.OpenKeeper) j 0 → keeper ≡ openKeeper v t
+  unfolding openKeeper
+  keeper-read keeper k = rw (← o .found) k
+
+  pub updated-is : (r mask old keeper : ℕ) (vs : List ℤ) (x y z : View) → keeper ≡ getD (v Region.OpenKeeper) j 0 → old ≡ getD (v Region.RowMask) r 0 → x ≡ recordsPut S t keeper r mask vs v
       → y ≡ put Region.RowMask r (bitOr mask old) x → z ≡ notedAt j y → z ≡ updatedIn S t r mask vs v
   unfolding updatedIn recordsPut rowIn put renew
-  updated-is r mask old vs x y z e a b c = rw (c, b, a, e) (noted-at v _ t j o (records-opens S t r mask vs v))
+  updated-is r mask old keeper vs x y z k e a b c = rw (c, b, a, e, ← (keeper-read keeper k)) (noted-at v _ t j o (records-opens S t keeper r mask vs v))
 
-  pub inserted-is : (n : ℕ) (vs : List ℤ) (w x y z : View) → n ≡ rowsGiven v → w ≡ rowPut t n v → x ≡ cellsPut S (n / rangeRows) (n % rangeRows) vs w
+  pub inserted-is : (n keeper : ℕ) (vs : List ℤ) (w x y z : View) → keeper ≡ getD (v Region.OpenKeeper) j 0 → n ≡ rowsGiven v → w ≡ rowPut t keeper n v → x ≡ cellsPut S (n / rangeRows) (n % rangeRows) vs w
       → y ≡ put Region.Header rowsAt (n + 1) x → z ≡ notedAt j y → z ≡ insertedIn S t vs v
   unfolding insertedIn insertedAt cellsPut openPut rowPut rangeOf put renew
-  inserted-is n vs w x y z e a b c d = rw (d, c, b, a, e) (noted-at v _ t j o refl)
+  inserted-is n keeper vs w x y z k e a b c d = rw (d, c, b, a, e, ← (keeper-read keeper k)) (noted-at v _ t j o refl)
 
-  pub deleted-is : (r : ℕ) (x z : View) → x ≡ appended S t r asDelete 0 v → z ≡ notedAt j x → z ≡ deletedIn S t r v
+  pub deleted-is : (r keeper : ℕ) (x z : View) → keeper ≡ getD (v Region.OpenKeeper) j 0 → x ≡ appended S t keeper r asDelete 0 v → z ≡ notedAt j x → z ≡ deletedIn S t r v
   unfolding deletedIn appended put renew
-  deleted-is r x z a b = rw (b, a) (noted-at v _ t j o refl)
+  deleted-is r keeper x z k a b = rw (b, a, ← (keeper-read keeper k)) (noted-at v _ t j o refl)
 
 -- the word of a signed number that was read from an array
 pub word-of : (z : ℤ) (r : ℕ) → r ≡ ofZ w32 (toZ w32 (ofZ w32 z)) → mag z < 2 ^ hbits w32 → r ≡ ofZ w32 z

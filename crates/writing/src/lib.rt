@@ -15,6 +15,7 @@ use terms::Transaction;
 use terms::limits::MOST_COLUMNS;
 use terms::limits::RANGE_ROWS;
 use transactions::note;
+use transactions::pending::pending_at;
 use words::to_word;
 ghost use mathlib.Core.Path.{_≡_};
 ghost use Prim.Native.Nat.{_+_, _*_, _≤_, _<_};
@@ -29,24 +30,34 @@ ghost use Rattle.layout.specs.Sizes.{Proper};
 ghost use Rattle.model.specs.Preconditions.{shapeIn, Pooled, OpenAt};
 ghost use Rattle.writing.specs.Steps.{openPut, rowPut, cellsPut, recordPut, cellWords, valueWords, newestFilled, originalPut, recordsPut, Room, Newest};
 
-// The words of what an open transaction has made, at an index of three regions: open, with no commit yet.
-fn put_open(mem: &mut [u8], s: Sizes, state: Region, stamp: Region, ordinal: Region, i: usize)
+// The words of what an open transaction has made, at an index of four regions: open, with no commit yet, and a keeper.
+fn put_open(
+    mem: &mut [u8],
+    s: Sizes,
+    state: Region,
+    stamp: Region,
+    ordinal: Region,
+    keepers: Region,
+    i: usize,
+    keeper: u32,
+)
     requires { ⌜ Suffices s (now mem) ⌝ }
-    requires { ⌜ (i < len s state) × (i < len s stamp) × (i < len s ordinal) ⌝ }
-    ensures { λ _. ⌜ viewOf s (now (mem .exit)) ≡ openPut state stamp ordinal i (viewOf s (now (mem .entry))) ⌝ }
+    requires { ⌜ (i < len s state) × (i < len s stamp) × (i < len s ordinal) × (i < len s keepers) ⌝ }
+    ensures { λ _. ⌜ viewOf s (now (mem .exit)) ≡ openPut state stamp ordinal keepers i keeper (viewOf s (now (mem .entry))) ⌝ }
 {
     write(mem, s, state, i, OPEN);
     write(mem, s, stamp, i, 0);
     write(mem, s, ordinal, i, 0);
+    write(mem, s, keepers, i, keeper);
 }
 
 // ---- insert
 
-// The words of a row that transaction t inserts.
-fn put_row(mem: &mut [u8], s: Sizes, t: Transaction, row: Row)
+// The words of a row that transaction t of a keeper inserts.
+fn put_row(mem: &mut [u8], s: Sizes, t: Transaction, keeper: u32, row: Row)
     requires { ⌜ Suffices s (now mem) ⌝ }
     requires { ⌜ row .0 < s .rows ⌝ }
-    ensures { λ _. ⌜ viewOf s (now (mem .exit)) ≡ rowPut (t .0) (row .0) (viewOf s (now (mem .entry))) ⌝ }
+    ensures { λ _. ⌜ viewOf s (now (mem .exit)) ≡ rowPut (t .0) keeper (row .0) (viewOf s (now (mem .entry))) ⌝ }
 {
     let i = row.0 as usize;
     write(mem, s, Region::RowTransaction, i, t.0);
@@ -56,7 +67,9 @@ fn put_row(mem: &mut [u8], s: Sizes, t: Transaction, row: Row)
         Region::RowState,
         Region::RowStamp,
         Region::RowOrdinal,
+        Region::RowKeeper,
         i,
+        keeper,
     );
     write(mem, s, Region::RowLink, i, 0);
     write(mem, s, Region::RowMask, i, 0);
@@ -96,7 +109,7 @@ pub fn insert(mem: &mut [u8], s: Sizes, at: usize, t: Transaction, vs: [i32; MOS
     ensures { λ r. ⌜ (r .0 ≡ rowsGiven (viewOf s (now (mem .entry)))) × (viewOf s (now (mem .exit)) ≡ insertedIn (shapeIn s) (t .0) vs (viewOf s (now (mem .entry)))) ⌝ }
 {
     let row = Row(read(mem, s, Region::Header, HEADER_ROWS));
-    put_row(mem, s, t, row);
+    put_row(mem, s, t, pending_at(mem, s, at).keeper, row);
     let r = row.0 as usize;
     put_cells(mem, s, r / RANGE_ROWS, r % RANGE_ROWS, vs);
     write(mem, s, Region::Header, HEADER_ROWS, row.0 + 1);
@@ -106,12 +119,13 @@ pub fn insert(mem: &mut [u8], s: Sizes, at: usize, t: Transaction, vs: [i32; MOS
 
 // ---- update and delete
 
-// The words of a tail record of transaction t for a row.
+// The words of a tail record of transaction t for a row, with a keeper.
 fn put_record(
     mem: &mut [u8],
     s: Sizes,
     slot: usize,
     t: Transaction,
+    keeper: u32,
     row: Row,
     kind: u32,
     mask: u32,
@@ -119,7 +133,7 @@ fn put_record(
 )
     requires { ⌜ Suffices s (now mem) ⌝ }
     requires { ⌜ slot < s .slots ⌝ }
-    ensures { λ _. ⌜ viewOf s (now (mem .exit)) ≡ recordPut slot (t .0) (row .0) kind mask (link .0) (viewOf s (now (mem .entry))) ⌝ }
+    ensures { λ _. ⌜ viewOf s (now (mem .exit)) ≡ recordPut slot (t .0) keeper (row .0) kind mask (link .0) (viewOf s (now (mem .entry))) ⌝ }
 {
     write(mem, s, Region::TailTransaction, slot, t.0);
     write(mem, s, Region::TailRow, slot, row.0);
@@ -132,23 +146,25 @@ fn put_record(
         Region::TailState,
         Region::TailStamp,
         Region::TailOrdinal,
+        Region::TailKeeper,
         slot,
+        keeper,
     );
 }
 
-// One tail record more for a row, of open transaction t: it links to the row's newest one and is the row's newest now.
-fn append(mem: &mut [u8], s: Sizes, t: Transaction, row: Row, kind: u32, mask: u32)
+// One tail record more for a row, of open transaction t, with a keeper: it links to the row's newest one and is the row's newest now.
+fn append(mem: &mut [u8], s: Sizes, t: Transaction, keeper: u32, row: Row, kind: u32, mask: u32)
     requires { ⌜ Suffices s (now mem) ⌝ }
     requires { ⌜ Proper s ⌝ }
     requires { ⌜ Room s (viewOf s (now mem)) (row .0) 1 ⌝ }
-    ensures { λ _. ⌜ viewOf s (now (mem .exit)) ≡ appended (shapeIn s) (t .0) (row .0) kind mask (viewOf s (now (mem .entry))) ⌝ }
+    ensures { λ _. ⌜ viewOf s (now (mem .exit)) ≡ appended (shapeIn s) (t .0) keeper (row .0) kind mask (viewOf s (now (mem .entry))) ⌝ }
 {
     let r = row.0 as usize;
     let g = r / RANGE_ROWS;
     let used = read(mem, s, Region::Used, g);
     let link = Tail(read(mem, s, Region::RowLink, r));
     let slot = g * s.capacity + used as usize;
-    put_record(mem, s, slot, t, row, kind, mask, link);
+    put_record(mem, s, slot, t, keeper, row, kind, mask, link);
     write(mem, s, Region::Used, g, used + 1);
     write(mem, s, Region::RowLink, r, used + 1);
 }
@@ -208,15 +224,16 @@ fn fill_values(mem: &mut [u8], s: Sizes, g: usize, vs: [i32; MOST_COLUMNS])
     }
 }
 
-// The record of a row's original values, for the columns of the mask `fresh`.
+// The record of a row's original values, for the columns of the mask `fresh`. It bears the keeper of the row's inserter.
 fn append_original(mem: &mut [u8], s: Sizes, t: Transaction, row: Row, fresh: u32)
     requires { ⌜ Suffices s (now mem) ⌝ }
     requires { ⌜ Proper s × Pooled s (viewOf s (now mem)) ⌝ }
     requires { ⌜ Room s (viewOf s (now mem)) (row .0) 1 ⌝ }
     ensures { λ _. ⌜ viewOf s (now (mem .exit)) ≡ originalPut (shapeIn s) (t .0) (row .0) fresh (viewOf s (now (mem .entry))) ⌝ }
 {
-    append(mem, s, t, row, ORIGINAL, fresh);
     let r = row.0 as usize;
+    let keeper = read(mem, s, Region::RowKeeper, r);
+    append(mem, s, t, keeper, row, ORIGINAL, fresh);
     fill_cells(mem, s, r / RANGE_ROWS, r % RANGE_ROWS);
 }
 
@@ -225,6 +242,7 @@ fn append_setting(
     mem: &mut [u8],
     s: Sizes,
     t: Transaction,
+    keeper: u32,
     row: Row,
     mask: u32,
     vs: [i32; MOST_COLUMNS],
@@ -232,9 +250,9 @@ fn append_setting(
     requires { ⌜ Suffices s (now mem) ⌝ }
     requires { ⌜ Proper s ⌝ }
     requires { ⌜ Room s (viewOf s (now mem)) (row .0) 1 ⌝ }
-    ensures { λ _. ⌜ viewOf s (now (mem .exit)) ≡ settingAppended (shapeIn s) (t .0) (row .0) mask vs (viewOf s (now (mem .entry))) ⌝ }
+    ensures { λ _. ⌜ viewOf s (now (mem .exit)) ≡ settingAppended (shapeIn s) (t .0) keeper (row .0) mask vs (viewOf s (now (mem .entry))) ⌝ }
 {
-    append(mem, s, t, row, SETTING, mask);
+    append(mem, s, t, keeper, row, SETTING, mask);
     fill_values(mem, s, row.0 as usize / RANGE_ROWS, vs);
 }
 
@@ -260,6 +278,7 @@ fn append_records(
     mem: &mut [u8],
     s: Sizes,
     t: Transaction,
+    keeper: u32,
     row: Row,
     mask: u32,
     vs: [i32; MOST_COLUMNS],
@@ -267,15 +286,15 @@ fn append_records(
     requires { ⌜ Suffices s (now mem) ⌝ }
     requires { ⌜ Proper s × Pooled s (viewOf s (now mem)) ⌝ }
     requires { ⌜ Room s (viewOf s (now mem)) (row .0) (recordsWanted (viewOf s (now mem)) (row .0) mask) ⌝ }
-    ensures { λ _. ⌜ viewOf s (now (mem .exit)) ≡ recordsPut (shapeIn s) (t .0) (row .0) mask vs (viewOf s (now (mem .entry))) ⌝ }
+    ensures { λ _. ⌜ viewOf s (now (mem .exit)) ≡ recordsPut (shapeIn s) (t .0) keeper (row .0) mask vs (viewOf s (now (mem .entry))) ⌝ }
 {
     let fresh = new_bits(mask, read(mem, s, Region::RowMask, row.0 as usize));
     if fresh != 0 {
         append_original(mem, s, t, row, fresh);
-        append_setting(mem, s, t, row, mask, vs);
+        append_setting(mem, s, t, keeper, row, mask, vs);
         return;
     }
-    append_setting(mem, s, t, row, mask, vs);
+    append_setting(mem, s, t, keeper, row, mask, vs);
 }
 
 // Open transaction t, whose index is `at`, sets the columns of a mask in a row.
@@ -295,12 +314,12 @@ pub fn update(
 {
     let r = row.0 as usize;
     let used = read(mem, s, Region::Used, r / RANGE_ROWS);
-    let wanted = records_wanted(mem, s, row, mask);
+    let newest = used + records_wanted(mem, s, row, mask);
     let old = read(mem, s, Region::RowMask, r);
-    append_records(mem, s, t, row, mask, vs);
+    append_records(mem, s, t, pending_at(mem, s, at).keeper, row, mask, vs);
     write(mem, s, Region::RowMask, r, mask | old);
     note(mem, s, at);
-    Tail(used + wanted)
+    Tail(newest)
 }
 
 // Open transaction t, whose index is `at`, deletes a row.
@@ -311,7 +330,7 @@ pub fn delete(mem: &mut [u8], s: Sizes, at: usize, t: Transaction, row: Row) -> 
     ensures { λ r. ⌜ (r .0 ≡ usedIn (viewOf s (now (mem .entry))) (rangeOf (row .0)) + 1) × (viewOf s (now (mem .exit)) ≡ deletedIn (shapeIn s) (t .0) (row .0) (viewOf s (now (mem .entry)))) ⌝ }
 {
     let used = read(mem, s, Region::Used, row.0 as usize / RANGE_ROWS);
-    append(mem, s, t, row, DELETE, 0);
+    append(mem, s, t, pending_at(mem, s, at).keeper, row, DELETE, 0);
     note(mem, s, at);
     Tail(used + 1)
 }

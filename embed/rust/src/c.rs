@@ -50,6 +50,7 @@ lent! {
     mut mut deskrook_make(columns: u32, ranges: u32, capacity: u32, spares: u32);
     const const deskrook_check();
     mut const deskrook_begin();
+    mut const deskrook_begin_as(keeper: u16);
     mut const deskrook_insert(transaction: u32, values: *const i32, values_length: usize);
     mut const deskrook_update(
         transaction: u32,
@@ -63,6 +64,7 @@ lent! {
     mut const deskrook_abort(transaction: u32);
     const const deskrook_latest(row: u32, column: u32);
     const const deskrook_read_at(stamp: u32, row: u32, column: u32);
+    const const deskrook_keeper_at(stamp: u32, row: u32, column: u32);
     const const deskrook_own_read(transaction: u32, row: u32, column: u32);
     const const deskrook_crossings(
         stamps: *mut u32,

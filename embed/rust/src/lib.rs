@@ -1,7 +1,7 @@
 //! Deskrook: a settings store for tide-mill gates. Rows are gates, columns are whole numbers such
 //! as a sill level in millimetres; writers work in transactions, and readers see the latest values
-//! or those of an earlier minute. The store is proved: this crate is a thin layer over the static
-//! library that is built from its proved source.
+//! or those of an earlier minute, and who set them. The store is proved: this crate is a thin layer
+//! over the static library that is built from its proved source.
 //!
 //! A store lives in memory that the program lends, and so does its list of open scans. It allocates
 //! nothing, and keeps nothing elsewhere.
@@ -33,6 +33,14 @@
 //! # Ok(())
 //! # }
 //! ```
+//!
+//! # Keepers
+//!
+//! A transaction has a keeper, a number of 2 bytes that tells who made it: [`Store::begin_as`] takes
+//! any, and [`Store::begin`] takes 0, unknown. Each row and tail record carries its transaction's
+//! keeper, and original values that of the row's insert; [`Store::keeper_at`] answers the keeper of the
+//! value that [`Store::read_at`] shows. A memory with keepers is in stored form 2. Form 1 is what was made
+//! before there were any: no call works on it, and each answers [`Refusal::Memory`].
 //!
 //! # Refusals
 //!

@@ -9,7 +9,8 @@ use std::fmt;
 pub enum Refusal {
     /// A measure outside its limits.
     Shape = 1,
-    /// Memory shorter than the shape needs, a scan list under 5 entries, or a stored fact fails.
+    /// Memory shorter than the shape needs, a scan list under 5 entries, or a stored fact fails, of
+    /// which one is that the memory is in stored form 2.
     Memory = 2,
     /// The transaction's number is not open.
     Transaction = 3,

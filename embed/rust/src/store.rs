@@ -173,13 +173,23 @@ impl<'a> Store<'a> {
         accepted(call!(ref self, deskrook_check)).map(|_| ())
     }
 
-    /// Begins a transaction.
+    /// Begins a transaction with keeper 0, unknown.
     ///
     /// # Errors
     ///
     /// [`Refusal::Number`], [`Refusal::Busy`].
     pub fn begin(&mut self) -> Result<Transaction, Refusal> {
         Ok(Transaction(accepted(call!(mut self, deskrook_begin))?.first))
+    }
+
+    /// Begins a transaction with a keeper, a number that tells who made it. The rows and tail records
+    /// of the transaction carry it, and [`keeper_at`](Store::keeper_at) answers it.
+    ///
+    /// # Errors
+    ///
+    /// [`Refusal::Number`], [`Refusal::Busy`].
+    pub fn begin_as(&mut self, keeper: u16) -> Result<Transaction, Refusal> {
+        Ok(Transaction(accepted(call!(mut self, deskrook_begin_as, keeper))?.first))
     }
 
     /// Inserts a row with a value for each column. Where there are fewer values the rest are 0,
@@ -276,6 +286,42 @@ impl<'a> Store<'a> {
     /// [`Refusal::Time`], [`Refusal::Row`], [`Refusal::Column`].
     pub fn read_at(&self, stamp: Stamp, row: Row, column: u32) -> Result<Option<Version>, Refusal> {
         read(call!(ref self, deskrook_read_at, stamp.0, row.0, column))
+    }
+
+    /// The keeper of the value that [`read_at`](Store::read_at) shows for the same numbers, or none
+    /// where that read is none: the keeper of the transaction that set the column in the row by an
+    /// update, or of the one that inserted the row where none has.
+    ///
+    /// ```
+    /// use deskrook::{Mask, ScanEntry, Shape, Stamp, Store, SCANS};
+    ///
+    /// # fn main() -> Result<(), deskrook::Refusal> {
+    /// # let shape = Shape { columns: 2, ranges: 1, capacity: 4, spares: 0 };
+    /// # let (mut memory, mut scans) = (vec![0; shape.bytes_needed()?], [ScanEntry::FREE; SCANS]);
+    /// # let mut store = Store::make(&mut memory, &mut scans, shape)?;
+    /// let (inserter, setter) = (3, 7);
+    /// let transaction = store.begin_as(inserter)?;
+    /// let gate = store.insert(transaction, &[1200, -30])?;
+    /// store.commit(transaction, Stamp(10))?;
+    /// let transaction = store.begin_as(setter)?;
+    /// store.update(transaction, gate, Mask::of(&[0]), &[1250])?;
+    /// store.commit(transaction, Stamp(20))?;
+    ///
+    /// assert_eq!(store.keeper_at(Stamp(20), gate, 0)?, Some(setter));
+    /// assert_eq!(store.keeper_at(Stamp(19), gate, 0)?, Some(inserter));
+    /// assert_eq!(store.keeper_at(Stamp(20), gate, 1)?, Some(inserter));
+    /// assert_eq!(store.keeper_at(Stamp(9), gate, 0)?, None);
+    /// # Ok(())
+    /// # }
+    /// ```
+    ///
+    /// # Errors
+    ///
+    /// As of that read: [`Refusal::Time`], [`Refusal::Row`], [`Refusal::Column`].
+    pub fn keeper_at(&self, stamp: Stamp, row: Row, column: u32) -> Result<Option<u16>, Refusal> {
+        let reply = accepted(call!(ref self, deskrook_keeper_at, stamp.0, row.0, column))?;
+        // No bit is lost: the library answers a remainder by 65,536, whatever the memory holds.
+        Ok((reply.result == c::OK).then_some(reply.first as u16))
     }
 
     /// The value that a transaction sees, its own pending changes above the latest, or none. The

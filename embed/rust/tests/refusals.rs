@@ -107,6 +107,8 @@ fn numbers_that_are_not_there() {
     lent.refuses(Refusal::Scan, |store| store.sum(ScanNumber(1), 0));
     lent.refuses(Refusal::Row, |store| store.latest(Row(1), 0));
     lent.refuses(Refusal::Column, |store| store.latest(Row(0), 2));
+    lent.refuses(Refusal::Row, |store| store.keeper_at(Stamp(10), Row(1), 0));
+    lent.refuses(Refusal::Column, |store| store.keeper_at(Stamp(10), Row(0), 2));
     lent.refuses(Refusal::Range, |store| store.lineage(1, 0));
     lent.refuses(Refusal::Mask, |store| store.update(transaction, Row(0), Mask(4), &[]));
 }
@@ -132,9 +134,11 @@ fn stamps() {
     lent.refuses(Refusal::Time, |store| store.commit(transaction, Stamp(9)));
     lent.refuses(Refusal::Time, |store| store.commit(transaction, Stamp(0)));
     lent.refuses(Refusal::Time, |store| store.read_at(Stamp(11), Row(0), 0));
+    lent.refuses(Refusal::Time, |store| store.keeper_at(Stamp(11), Row(0), 0));
     lent.refuses(Refusal::Time, |store| store.open_scan(Stamp(11)));
     lent.store().commit(transaction, Stamp(10)).unwrap();
     lent.refuses(Refusal::Time, |store| store.read_at(Stamp(11), Row(0), 0));
+    lent.refuses(Refusal::Time, |store| store.keeper_at(Stamp(11), Row(0), 0));
     lent.refuses(Refusal::Time, |store| store.open_scan(Stamp(11)));
 }
 
@@ -157,6 +161,7 @@ fn open_ones_and_numbers() {
         assert_eq!(lent.store().begin(), Ok(Transaction(number)));
     }
     lent.refuses(Refusal::Busy, |store| store.begin());
+    lent.refuses(Refusal::Busy, |store| store.begin_as(7));
     for number in 1..=5 {
         assert_eq!(lent.store().open_scan(Stamp(0)), Ok(ScanNumber(number)));
     }
@@ -168,6 +173,7 @@ fn open_ones_and_numbers() {
         store.abort(Transaction(number)).unwrap();
     }
     lent.refuses(Refusal::Number, |store| store.begin());
+    lent.refuses(Refusal::Number, |store| store.begin_as(7));
 }
 
 /// Five entries serve and four do not. Open scans count, in whatever entries they stand: a list with

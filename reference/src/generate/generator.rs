@@ -3,7 +3,7 @@
 
 use super::workload::Workload;
 use crate::call::{Answer, Call, Shape, RANGE_ROWS};
-use crate::history::{Given, History, OPEN_SCANS};
+use crate::history::{Given, History, InKeepers, OPEN_SCANS, UNKNOWN_KEEPER};
 use crate::program::LENT_STAMPS;
 use crate::random::Random;
 
@@ -30,6 +30,8 @@ pub struct Generator {
     stamps: Vec<u32>,
     /// Rows that were deleted; where the delete was aborted, they are there still.
     deleted: Vec<u32>,
+    /// Rows that updates changed, with their masks, whatever became of the transactions.
+    updated: Vec<(u32, u16)>,
     /// Open scans with the rows that a commit of their minute changed after their opening.
     left_out: Vec<(u32, u32)>,
     /// Whether the places for scans are kept filled.
@@ -56,8 +58,10 @@ const MAKES_PLACE: u32 = 60;
 const EARLIER: u32 = 8;
 const AGAIN: u32 = 35;
 const AGAIN_AFTER_OPENING: u32 = 60;
-/// Scan reads and sums, in percent, of what a scan leaves out, where there is anything.
+/// Scan reads and sums, in percent, of what a scan leaves out, where there is anything, and those of
+/// them of an end, where there is one.
 const OF_LEFT_OUT: u32 = 30;
+const OF_LEFT_OUT_END: u32 = 20;
 /// Openings at the last commit's stamp, in percent, while a scan leaves a commit of it out.
 const SECOND_SCAN: u32 = 25;
 
@@ -65,10 +69,18 @@ const SECOND_SCAN: u32 = 25;
 /// lie below it about as often as above.
 const LEVEL: i32 = 1000;
 const SWING: u32 = 85;
+/// The other settings of the value that the row has already, in percent.
+const SAME: u32 = 8;
 /// The records used before a row is deleted whose values swing.
 const LATE: u32 = 40;
-/// Calls for crossings of a row that was deleted, in percent, where there is one.
+/// Calls for crossings or a keeper of a row that was deleted, in percent, where there is one.
 const OF_DELETED: u32 = 15;
+/// The other calls for a keeper, in percent, of a row that an update changed, where there is one, and
+/// those of them of a column that the update set.
+const OF_UPDATED: u32 = 75;
+const OF_SET_COLUMN: u32 = 70;
+/// A bound of the cells tried for one with several keepers.
+const KEEPER_TRIES: u32 = 6;
 /// Calls for crossings whose minutes are chosen to hold as many crossings as there are places, or one
 /// more, in percent, where there are so many.
 const FITTED: u32 = 40;
@@ -91,6 +103,7 @@ impl Generator {
             changed: Vec::new(),
             stamps: vec![0],
             deleted: Vec::new(),
+            updated: Vec::new(),
             left_out: Vec::new(),
             fills_scans,
             numbers,
@@ -129,7 +142,10 @@ impl Generator {
                 self.changed.push((*transaction, *row));
                 self.early_rows = self.early_rows.saturating_sub(1);
             }
-            (Call::Update { transaction, row, .. }, _) => self.changed.push((*transaction, *row)),
+            (Call::Update { transaction, row, mask, .. }, _) => {
+                self.changed.push((*transaction, *row));
+                self.updated.push((*row, *mask));
+            }
             (Call::Delete { transaction, row }, _) => {
                 self.changed.push((*transaction, *row));
                 self.deleted.push(*row);
@@ -154,6 +170,7 @@ impl Generator {
     pub fn candidate(&mut self, byte: u8) -> Call {
         match byte {
             0x01 => Call::Begin,
+            0x13 => Call::BeginAs { keeper: self.keeper() },
             0x02 => Call::Insert { transaction: self.transaction(), values: self.values() },
             0x03 => {
                 let (transaction, row) = self.transaction_and_row();
@@ -185,7 +202,8 @@ impl Generator {
             0x0F => Call::Release,
             0x10 => Call::PageCell { column: self.column(), row: self.row() },
             0x11 => Call::Lineage { range: self.range(), column: self.column() },
-            _ => self.crossings(),
+            0x12 => self.crossings(),
+            _ => self.keeper_at(),
         }
     }
 
@@ -199,17 +217,29 @@ impl Generator {
         if self.random.percent(15) {
             return byte;
         }
-        let needs_row = matches!(byte, 0x03 | 0x04 | 0x07..=0x09 | 0x0B | 0x0E | 0x10 | 0x12);
+        let needs_row =
+            matches!(byte, 0x03 | 0x04 | 0x07..=0x09 | 0x0B | 0x0E | 0x10 | 0x12 | 0x14);
         let byte = if needs_row && self.history.rows_given() == 0 { 0x02 } else { byte };
         let scans = self.history.open_scans().len();
         match byte {
-            0x02..=0x06 | 0x09 if self.history.open_transactions().is_empty() => 0x01,
+            0x02..=0x06 | 0x09 if self.history.open_transactions().is_empty() => self.begin(),
             // Commits of nothing, and early deletes, would leave few crossings.
             0x05 if self.workload.swings && self.changed.is_empty() => 0x03,
             0x04 if self.workload.swings && self.history.used(0) < LATE => 0x03,
             0x0A if scans == OPEN_SCANS && self.random.percent(MAKES_PLACE) => 0x0D,
             0x0B..=0x0D if scans == 0 || self.opens_another() => 0x0A,
             _ => byte,
+        }
+    }
+
+    /// A command byte that begins a transaction, by the workload's weights of the two.
+    fn begin(&mut self) -> u8 {
+        let weight = |byte: u8| self.workload.weights[usize::from(byte) - 1];
+        let (without, with) = (weight(0x01), weight(0x13));
+        if self.random.below(without + with) < without {
+            0x01
+        } else {
+            0x13
         }
     }
 
@@ -277,6 +307,11 @@ impl Generator {
     fn scan_and_row(&mut self) -> (u32, u32) {
         if self.left_out.is_empty() || !self.random.percent(OF_LEFT_OUT) {
             return (self.scan(), self.row());
+        }
+        let ended = self.left_out.iter().filter(|(_, row)| self.deleted.contains(row));
+        let ended: Vec<(u32, u32)> = ended.copied().collect();
+        if !ended.is_empty() && self.random.percent(OF_LEFT_OUT_END) {
+            return self.random.pick(&ended);
         }
         let mut found = self.random.pick(&self.left_out);
         for _ in 0..self.random.below(4) {
@@ -393,18 +428,22 @@ impl Generator {
         }
     }
 
-    /// The values of an update: any, or, where they swing, mostly on the other side of the level than those
-    /// that the row has.
+    /// The values of an update: any, now and then the one that the row has, so that only its stamp and
+    /// keeper change; where they swing, mostly on the other side of the level than those that the row has.
     fn settings(&mut self, row: u32) -> Vec<i32> {
         let mut values = self.values();
-        if self.workload.swings && row < self.history.rows_given() {
-            for (column, value) in (0..).zip(&mut values) {
-                let given = self.history.given(row, column);
-                if let (Some(last), true) = (given.last(), self.random.percent(SWING)) {
-                    let distance = self.random.below(3) as i32;
-                    let above = last.value >= LEVEL;
-                    *value = if above { LEVEL - 1 - distance } else { LEVEL + distance };
-                }
+        if row >= self.history.rows_given() {
+            return values;
+        }
+        for (column, value) in (0..).zip(&mut values) {
+            let given = self.history.given(row, column);
+            let Some(last) = given.last() else { continue };
+            if self.workload.swings && self.random.percent(SWING) {
+                let distance = self.random.below(3) as i32;
+                let above = last.value >= LEVEL;
+                *value = if above { LEVEL - 1 - distance } else { LEVEL + distance };
+            } else if self.random.percent(SAME) {
+                *value = last.value;
             }
         }
         values
@@ -480,6 +519,51 @@ impl Generator {
             Numbers::Narrow | Numbers::Wide => self.places(stamps.len() as u32),
         };
         Call::Crossings { row, column, mark, from, to, places }
+    }
+
+    /// A keeper: mostly one of three people who share a mill, so that the same ones meet again; often one
+    /// that is another number with its bytes in the other order, or with the lower byte alone.
+    fn keeper(&mut self) -> u16 {
+        match self.random.below(12) {
+            0 => UNKNOWN_KEEPER,
+            1 => u16::MAX,
+            2 | 3 => 256 * self.random.between(1, 3) as u16,
+            4 => self.random.pick(&[0x00FF, 0x0100, 0x0102, 0x0201, 0x7FFF, 0x8000, 0xFF00]),
+            5 => self.random.word() as u16,
+            _ => self.random.between(1, 3) as u16,
+        }
+    }
+
+    /// The keeper of a cell: often one beside which another keeper could be taken for it, which is rare
+    /// where few transactions set what others have inserted.
+    fn keeper_at(&mut self) -> Call {
+        use InKeepers::{Inserter, Latest, Original, OtherColumn};
+        let mut call = self.keeper_of_any();
+        for _ in 0..self.random.below(KEEPER_TRIES) {
+            let found = self.history.in_keepers(&call);
+            if found.iter().any(|one| matches!(one, Inserter | Latest | Original | OtherColumn)) {
+                break;
+            }
+            call = self.keeper_of_any();
+        }
+        call
+    }
+
+    /// The keeper of a cell that an update has set, where there is one, committed or not, of another column
+    /// beside it, or of a row that was deleted.
+    fn keeper_of_any(&mut self) -> Call {
+        let (mut row, mut column) = (self.row(), self.column());
+        if !self.deleted.is_empty() && self.random.percent(OF_DELETED) {
+            row = self.random.pick(&self.deleted);
+        } else if !self.updated.is_empty() && self.random.percent(OF_UPDATED) {
+            let (updated, mask) = self.random.pick(&self.updated);
+            row = updated;
+            if self.random.percent(OF_SET_COLUMN) {
+                let set: Vec<u32> = (0..16).filter(|bit| mask >> bit & 1 == 1).collect();
+                column = self.random.pick(&set);
+            }
+        }
+        Call::KeeperAt { stamp: self.read_stamp(), row, column }
     }
 
     /// A row, or another one whose column more commits have given a value.

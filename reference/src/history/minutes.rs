@@ -144,7 +144,7 @@ impl History {
     }
 
     /// The same view with no more than the first commit of the last minute that it sees.
-    fn first_of_minute(&self, view: View) -> View {
+    pub(super) fn first_of_minute(&self, view: View) -> View {
         let seen = self.commits_up_to(view) as usize;
         let Some(last) = self.commits[..seen].last() else { return view };
         let before = self.commits.partition_point(|stamp| stamp < last) as u32;

@@ -16,8 +16,8 @@ impl History {
     /// "Tests run in this order."
     pub(super) fn tests(&self, call: &Call) -> Result<(), u8> {
         match *call {
-            // Begin: 15, 14.
-            Call::Begin => {
+            // Begin: 15, 14. Command 13 of document 02's Item 6 begins too.
+            Call::Begin | Call::BeginAs { .. } => {
                 require(self.transactions.len() < NUMBERS, 15)?;
                 require(self.open_transactions.len() < OPEN_TRANSACTIONS, 14)
             }
@@ -57,8 +57,8 @@ impl History {
                 self.test_row(row)?;
                 self.test_column(column)
             }
-            // Read at: 13, 5, 6.
-            Call::ReadAt { stamp, row, column } => {
+            // Read at: 13, 5, 6. Command 14 of document 02's Item 6 is "refused as 08 is".
+            Call::ReadAt { stamp, row, column } | Call::KeeperAt { stamp, row, column } => {
                 require(stamp <= self.last_stamp(), 13)?;
                 self.test_row(row)?;
                 self.test_column(column)

@@ -144,8 +144,10 @@ impl Pack {
         let open = [0x0A, 0, 0, 0, 0];
         let close = [0x0D, 1, 0];
         let after = |number: u32| {
-            let first = Call::Abort { transaction: number };
-            [Call::Begin, first, Call::Begin, Call::Begin, Call::OpenScan { stamp: 0 }]
+            let (begin_as, first) =
+                (Call::BeginAs { keeper: 7 }, Call::Abort { transaction: number });
+            let open = Call::OpenScan { stamp: 0 };
+            [Call::Begin, begin_as.clone(), first, begin_as.clone(), begin_as, Call::Begin, open]
         };
         self.number_series("begins, each aborted", NUMBERS, &begin, &abort, &[1]);
         self.calls(&after(greatest));

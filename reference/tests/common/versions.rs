@@ -1,7 +1,7 @@
 //! The plain history a second way, from its first paragraph in document 01: every transaction
-//! keeps its pending changes, and a commit gives rows their values with its stamp. A scan keeps a
-//! copy of what was committed at its opening. Reads and crossings alone; calls are fed to it after the
-//! history has accepted them.
+//! keeps its pending changes, and a commit gives rows their values with its stamp and its keeper. A scan
+//! keeps a copy of what was committed at its opening. Reads, keepers and crossings alone; calls are fed
+//! to it after the history has accepted them.
 
 use std::collections::BTreeMap;
 
@@ -13,6 +13,7 @@ const PENDING: u32 = 0;
 /// What an open transaction has done.
 #[derive(Default)]
 struct Pending {
+    keeper: u16,
     inserted: BTreeMap<u32, Vec<i32>>,
     set: BTreeMap<(u32, u32), i32>,
     deleted: Vec<u32>,
@@ -21,10 +22,17 @@ struct Pending {
 /// What commits gave.
 #[derive(Clone, Default)]
 struct Committed {
-    /// The values of a row and column with their stamps, in order of commit, and the stamps at
-    /// which rows ended.
-    values: BTreeMap<(u32, u32), Vec<(u32, i32)>>,
+    /// The values of a row and column in order of commit, and the stamps at which rows ended.
+    values: BTreeMap<(u32, u32), Vec<Given>>,
     ends: BTreeMap<u32, u32>,
+}
+
+/// A value that a commit gave, with what is known of the commit.
+#[derive(Clone, Copy)]
+struct Given {
+    value: i32,
+    stamp: u32,
+    keeper: u16,
 }
 
 #[derive(Default)]
@@ -39,11 +47,15 @@ pub struct Versions {
 }
 
 impl Versions {
-    /// Takes in an accepted call and gives its answer if it is a read or one for crossings.
+    /// Takes in an accepted call and gives its answer if it is a read or one for a keeper or crossings.
     pub fn call(&mut self, call: &Call, answer: &Answer) -> Option<Answer> {
         match call {
             Call::Begin => {
                 self.open.insert(number(answer), Pending::default());
+            }
+            Call::BeginAs { keeper } => {
+                let pending = Pending { keeper: *keeper, ..Pending::default() };
+                self.open.insert(number(answer), pending);
             }
             Call::Insert { transaction, values } => {
                 self.rows += 1;
@@ -66,6 +78,9 @@ impl Versions {
             }
             Call::Latest { row, column } => return Some(self.read(self.last, *row, *column)),
             Call::ReadAt { stamp, row, column } => return Some(self.read(*stamp, *row, *column)),
+            Call::KeeperAt { stamp, row, column } => {
+                return Some(self.keeper(*stamp, *row, *column))
+            }
             Call::OwnRead { transaction, row, column } => {
                 return Some(self.own_read(*transaction, *row, *column))
             }
@@ -96,6 +111,7 @@ impl Versions {
 
     fn commit(&mut self, transaction: u32, stamp: u32) {
         let mut pending = self.open.remove(&transaction).unwrap();
+        let keeper = pending.keeper;
         self.last = stamp;
         // "A row inserted and deleted in one transaction is never seen and gets no value."
         for row in &pending.deleted {
@@ -113,7 +129,7 @@ impl Versions {
         }
         given.extend(pending.set);
         for (place, value) in given {
-            self.committed.values.entry(place).or_default().push((stamp, value));
+            self.committed.values.entry(place).or_default().push(Given { value, stamp, keeper });
         }
     }
 
@@ -121,14 +137,22 @@ impl Versions {
         self.committed.read(stamp, row, column)
     }
 
+    /// Document 02, Item 6: "the keeper of the value that 08 would show, or none".
+    pub fn keeper(&self, stamp: u32, row: u32, column: u32) -> Answer {
+        match self.committed.shown(stamp, row, column) {
+            Some(given) => Answer::Number(given.keeper.into()),
+            None => Answer::None,
+        }
+    }
+
     /// Document 02, Item 4, one value after the other.
     pub fn crossings(&self, row: u32, column: u32, mark: i32, from: u32, to: u32) -> Vec<u32> {
         let mut stamps = Vec::new();
         let mut before = None;
-        for (stamp, value) in self.committed.values.get(&(row, column)).into_iter().flatten() {
-            let above = *value >= mark;
-            if before == Some(!above) && from <= *stamp && *stamp <= to {
-                stamps.push(*stamp);
+        for given in self.committed.values.get(&(row, column)).into_iter().flatten() {
+            let above = given.value >= mark;
+            if before == Some(!above) && from <= given.stamp && given.stamp <= to {
+                stamps.push(given.stamp);
             }
             before = Some(above);
         }
@@ -157,13 +181,17 @@ impl Versions {
 impl Committed {
     /// "Within one minute the history runs in order of commit and a read at that minute gives the
     /// newest."
-    fn read(&self, stamp: u32, row: u32, column: u32) -> Answer {
+    fn shown(&self, stamp: u32, row: u32, column: u32) -> Option<Given> {
         if self.ends.get(&row).is_some_and(|end| *end <= stamp) {
-            return Answer::None;
+            return None;
         }
         let values = self.values.get(&(row, column)).into_iter().flatten();
-        match values.rev().find(|(at, _)| *at <= stamp) {
-            Some((at, value)) => Answer::Version { value: *value, stamp: *at },
+        values.rev().find(|given| given.stamp <= stamp).copied()
+    }
+
+    fn read(&self, stamp: u32, row: u32, column: u32) -> Answer {
+        match self.shown(stamp, row, column) {
+            Some(Given { value, stamp, .. }) => Answer::Version { value, stamp },
             None => Answer::None,
         }
     }

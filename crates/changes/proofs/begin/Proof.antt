@@ -2,13 +2,13 @@
 use borrow.Author.Needs.{needs}
 use Rattle.model.specs.Calls.{replyIn, actIn, entriesAfter}
 use Rattle.admission.proofs.Served.{serving}
-use Rattle.changes.proofs.Tests.{in-part}
+use Rattle.changes.proofs.Tests.{in-part, begin-tests}
 use Rattle.changes.proofs.begin.Statement.{statement}
 use Rattle.changes.proofs.begin.Tie as tie
 
 returns-3 : tie.Need-returns-3
 unfolding replyIn actIn entriesAfter
-returns-3 c = search serving
+returns-3 c = search (serving, begin-tests)
 
 pub begin-spec : {M : Type 1} → statement M
 begin-spec =
@@ -26,6 +26,6 @@ begin-spec =
     (λ c. search serving)
     (λ c κs. (search serving, (search in-part, search in-part)))
     (λ c. search needs)
-    (λ c. search serving)
+    (λ c. search (serving, begin-tests))
     (λ c. search needs)
     returns-3)

@@ -1,13 +1,13 @@
 -- `lookups::read_at_tests` meets its contract: each answer follows from the tests that led to it.
 use borrow.Author.Needs.{needs}
-use Rattle.model.specs.Calls.{testsIn}
-use Rattle.admission.specs.Tested.{Tests, IfPassed}
+use Rattle.model.specs.Calls.{readAtTestsIn}
+use Rattle.admission.specs.Tested.{IfPassed}
 use Rattle.admission.proofs.Decided.{deciding}
 use Rattle.lookups.proofs.read_at_tests.Statement.{statement}
 use Rattle.lookups.proofs.read_at_tests.Tie as tie
 
 pub read-at-tests-spec : {M : Type 1} → statement M
-unfolding Tests IfPassed testsIn
+unfolding IfPassed readAtTestsIn
 read-at-tests-spec =
     tie.close
     (tie.spec

@@ -1,4 +1,5 @@
 -- `making::lay_out` meets its contract.
+use native.Mathlib.Omega.{arith}
 use borrow.Author.Needs.{needs}
 use Rattle.layout.specs.View.{put, fill, number, renew}
 use Rattle.making.specs.Made.{namedView}
@@ -20,6 +21,9 @@ lay-out-spec =
     (tie.spec
     (λ c κs. search needs)
     (λ c κs. search needs)
+    (λ c. omega arith)
+    (λ c. omega arith)
+    (λ c. let start : tie.Start = search in omega (arith, start .pre))
     (λ c κs. search needs)
     (λ c. search needs)
     returns)

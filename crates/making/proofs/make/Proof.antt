@@ -18,7 +18,7 @@ lay-out-requires : tie.Need-lay-out-requires
 lay-out-requires c κs =
     let z : tie.After-sizes-of = search in
     let k : Proper (z .sizes-of .result) = search proper-sizes in
-    ((search part-room, few z), (z .sizes-of .ensures, omega (arith, k .pages-are), omega (arith, k .pages-to)))
+    ((search part-room, few z), (z .sizes-of .ensures, omega (arith, k .pages-are), omega (arith, k .pages-to), rw (z .sizes-of .ensures) at (k .columns-to)))
 
 returns-4 : tie.Need-returns-4
 returns-4 c =

@@ -21,7 +21,7 @@ use Rattle.layout.specs.View.{View, renew, put, usedIn}
 use Rattle.layout.specs.Regions.{len, slot}
 use Rattle.layout.specs.Sizes.{sizesOf}
 use Rattle.layout.specs.declared.Region.{Region}
-use Rattle.layout.specs.declared.Region.the-variants.{RowLink, TailTransaction, TailRow, TailKind, TailMask, TailLink, TailState, TailStamp, TailValues, Used, TailOrdinal}
+use Rattle.layout.specs.declared.Region.the-variants.{RowLink, TailTransaction, TailRow, TailKind, TailMask, TailLink, TailState, TailStamp, TailValues, Used, TailOrdinal, TailKeeper}
 use Rattle.model.specs.Stored.{RecordWords, rowIn, recordIn, valueIn}
 use Rattle.layout.specs.Codes.{asOpen}
 use Rattle.model.specs.Writing.{nextSlot, appended, filledIn}
@@ -83,7 +83,7 @@ module _ (S : Shape) (v w : View) (st : ℕ → State) (list list′ : ℕ → L
       apart k u z = same-part (S .capacity) a g k (length (list g)) (le-trans u (few a)) room z .0
 
 -- ---- the words of an appended record
-module _ {S : Shape} {v : View} (o : Whole S v) (t r kind mask : ℕ) (inside : rangeOf r < S .ranges) (room : usedIn v (rangeOf r) < S .capacity) where
+module _ {S : Shape} {v : View} (o : Whole S v) (t keeper r kind mask : ℕ) (inside : rangeOf r < S .ranges) (room : usedIn v (rangeOf r) < S .capacity) where
   abbrev slot′ : ℕ
   slot′ = rangeOf r * S .capacity + usedIn v (rangeOf r)
 
@@ -103,28 +103,32 @@ module _ {S : Shape} {v : View} (o : Whole S v) (t r kind mask : ℕ) (inside : 
   in-tail : (i : Region) → len (sizesOf S) i ≡ S .ranges * S .capacity → slot′ < length (v i)
   in-tail i e = omega (arith, o .long i, e, slot-in)
 
-  pub appended-here : recordIn (appended S t r kind mask v) slot′
+  pub appended-here : recordIn (appended S t keeper r kind mask v) slot′
       ≡ record { transaction = t; row = r; kind = kind; mask = mask; link = (rowIn v r) .link; state = asOpen; stamp = 0; ordinal = 0 }
   unfolding appended put renew recordIn
   appended-here = simp (here-word, in-tail)
 
-  pub appended-there : (j : ℕ) → j ≢ slot′ → recordIn (appended S t r kind mask v) j ≡ recordIn v j
+  pub appended-there : (j : ℕ) → j ≢ slot′ → recordIn (appended S t keeper r kind mask v) j ≡ recordIn v j
   unfolding appended put renew recordIn
   appended-there j n = simp there-word
 
-  pub used-here : usedIn (appended S t r kind mask v) (rangeOf r) ≡ suc (usedIn v (rangeOf r))
+  pub keeper-here : appended S t keeper r kind mask v TailKeeper ≡ set (v TailKeeper) slot′ keeper
+  unfolding appended put renew
+  keeper-here = rw slot-next
+
+  pub used-here : usedIn (appended S t keeper r kind mask v) (rangeOf r) ≡ suc (usedIn v (rangeOf r))
   unfolding appended put renew
   used-here = getD-set-same (v Used) (rangeOf r) _ 0 (omega (arith, o .long Used)) ∙ omega arith
 
-  pub used-there : (a : ℕ) → a ≢ rangeOf r → usedIn (appended S t r kind mask v) a ≡ usedIn v a
+  pub used-there : (a : ℕ) → a ≢ rangeOf r → usedIn (appended S t keeper r kind mask v) a ≡ usedIn v a
   unfolding appended put renew
   used-there a n = getD-set-other (v Used) (rangeOf r) a _ 0 n
 
-  pub link-here : r < S .ranges * rangeRows → getD (appended S t r kind mask v RowLink) r 0 ≡ suc (usedIn v (rangeOf r))
+  pub link-here : r < S .ranges * rangeRows → getD (appended S t keeper r kind mask v RowLink) r 0 ≡ suc (usedIn v (rangeOf r))
   unfolding appended put renew
   link-here b = getD-set-same (v RowLink) r _ 0 (omega (arith, o .long RowLink)) ∙ omega arith
 
-  pub link-there : (i : ℕ) → i ≢ r → getD (appended S t r kind mask v RowLink) i 0 ≡ getD (v RowLink) i 0
+  pub link-there : (i : ℕ) → i ≢ r → getD (appended S t keeper r kind mask v RowLink) i 0 ≡ getD (v RowLink) i 0
   unfolding appended put renew
   link-there i n = getD-set-other (v RowLink) r i _ 0 n
 
@@ -132,15 +136,16 @@ module _ {S : Shape} {v : View} (o : Whole S v) (t r kind mask : ℕ) (inside : 
   unfolding rowIn
   link-fits = o .fits RowLink r
 
-  pub appended-whole : t < 2 ^ 32 → r < 2 ^ 32 → kind < 2 ^ 32 → mask < 2 ^ 32 → S .capacity < 2 ^ 31 → Whole S (appended S t r kind mask v)
+  pub appended-whole : t < 2 ^ 32 → keeper < 2 ^ 32 → r < 2 ^ 32 → kind < 2 ^ 32 → mask < 2 ^ 32 → S .capacity < 2 ^ 31 → Whole S (appended S t keeper r kind mask v)
   unfolding appended
-  appended-whole a b c d e =
+  appended-whole a q b c d e =
       put-whole RowLink r _ (omega arith)
       (put-whole Used _ _ (omega arith)
+      (put-whole TailKeeper _ keeper q
       (put-whole TailOrdinal _ 0 (omega arith)
       (put-whole TailStamp _ 0 (omega arith)
       (put-whole TailState _ 0 (omega arith)
-      (put-whole TailLink _ _ link-fits (put-whole TailMask _ mask d (put-whole TailKind _ kind c (put-whole TailRow _ r b (put-whole TailTransaction _ t a o)))))))))
+      (put-whole TailLink _ _ link-fits (put-whole TailMask _ mask d (put-whole TailKind _ kind c (put-whole TailRow _ r b (put-whole TailTransaction _ t a o))))))))))
 
 -- ---- the words of its columns
 module _ {S : Shape} {v : View} (o : Whole S v) (s : ℕ) (f : ℕ → ℕ) (inside : s < S .ranges * S .capacity) where

@@ -8,7 +8,7 @@ use native.Mathlib.Omega.{arith}
 use native.Mathlib.Nat.{le-refl, not-suc-le-zero}
 use native.Mathlib.Decide.{ℕ-discrete}
 use lib.Dec.{T, eqb}
-use lib.ListN.{length, getD, set, length-append, length-set}
+use lib.ListN.{List·getD-append, length, getD, set, length-append, length-set}
 use lib.Seq.{getD-set-same, getD-set-other, take-length}
 use lib.IntN.{ℤ, pos}
 use lib.Pow.{shr-le}
@@ -17,7 +17,7 @@ use mir.Syntax.{w32}
 use mir.Val.{toZ, ofZ, SFits}
 use mir.ValLaws.{toZ-ofZ, ofZ-fits}
 use Rattle.terms.specs.Measures.{Shape, rangeRows}
-use Rattle.history.specs.History.{insert, History, Row, Record, State, active, stateOf, rowAt, bit, sets, rangeOf, recordsOf, mergedThrough, scanAt, seenAt, withRows, commitOf}
+use Rattle.history.specs.History.{insert, History, Row, Record, State, active, stateOf, keeperOf, rowAt, bit, sets, rangeOf, recordsOf, mergedThrough, scanAt, seenAt, withRows, commitOf}
 use Rattle.history.specs.Lists.{All, nil, cons}
 use Rattle.history.proofs.Lists.{at-append, by-cases, all-append, all-map, all-at, any-none}
 use Rattle.history.specs.Steps.{Step}
@@ -27,19 +27,20 @@ use Rattle.history.specs.Invariants.{Timely}
 use Rattle.words.specs.Words.{Fit}
 use Rattle.loops.proofs.Change.{set-fit}
 use Rattle.layout.specs.View.{View, renew, put}
-use Rattle.layout.specs.declared.Region.the-variants.{Header, Opens, RowTransaction, RowState, RowStamp, RowLink, RowMask, Current, Cells, Changes, RowOrdinal}
+use Rattle.layout.specs.declared.Region.the-variants.{Header, Opens, RowTransaction, RowState, RowStamp, RowLink, RowMask, Current, Cells, Changes, RowOrdinal, RowKeeper}
 use Rattle.terms.specs.declared.ScanEntry.{ScanEntry}
 use Rattle.terms.specs.Entries.{bears, firstIndex}
 use Rattle.layout.specs.Regions.{rowsAt}
-use Rattle.model.specs.Stored.{rowIn, recordIn, valueIn, pageIn, cellIn, currentIn, chunkOf, within, openIndex, nextWord}
+use Rattle.model.specs.Stored.{rowIn, recordIn, valueIn, pageIn, cellIn, currentIn, chunkOf, within, openIndex, openKeeper, nextWord}
 use Rattle.layout.specs.Codes.{asOpen}
 use Rattle.model.specs.Reading.{scanPage, wasCurrent}
 use Rattle.model.specs.Writing.{noted, putCells, insertedAt, insertedIn}
 use Rattle.model.proofs.Lists.{same-part}
-use Rattle.model.specs.Represents.{stateWord, RowIs, RowsAre, Holds, everyRow, CurrentIs, CurrentOf, CurrentsAre, ScanPageOf, ScanPagesAre, NotesAre, HeaderFor, Represents, WellFormed, Whole}
-use Rattle.model.proofs.Holding.{same-row, withRow, row-new, not-given, other-row, holds-step, holds-cells, holds-insert}
+use Rattle.model.specs.Represents.{stateWord, RowIs, RowsAre, Holds, everyRow, CurrentIs, CurrentOf, CurrentsAre, ScanPageOf, ScanPagesAre, NotesAre, KeepersFor, HeaderFor, Represents, WellFormed, Whole}
+use Rattle.model.proofs.Holding.{same-row, withRow, row-new, rows-more, not-given, other-row, holds-step, holds-cells, holds-insert}
 use Rattle.model.proofs.Steady.{scan-cells, scan-page-step, waits-stay}
 use Rattle.model.proofs.Views.{renew-whole, put-whole, noted-whole, header-put, header-same}
+use Rattle.model.proofs.changes.Keepers.{keeper-own, keepers-row}
 use Rattle.model.proofs.changes.Notes.{notes-more, few-changes}
 use Rattle.model.proofs.Opens.{active-given}
 
@@ -194,6 +195,17 @@ module _ {S : Shape} {v : View} {ps : List ScanEntry} {h : History} (o : Represe
       notes-more (h .rows) (h .rows ++ row ∷ []) (h .tail) (h .tail) (h .transactions) (v Opens) (v Changes) t (o .whole .long Opens) (o .whole .long Changes) (few-changes k)
       (simp length-append (omega arith)) (λ u f n. record { no-row = all-append (n .no-row) (cons (λ e. f (sym e)) nil); no-record = n .no-record }) (o .opens) a (o .notes)
 
+  -- the keeper that the row bears
+  own : (openKeeper v t ≡ keeperOf h t) × (openKeeper v t < 2 ^ 32)
+  unfolding openKeeper openIndex
+  own = let e = keeper-own (k .invariants) (o .opens) (o .keepers) t a in (e, omega (arith, e, o .keepers .small t))
+
+  insert-keepers : KeepersFor S h′ v′
+  unfolding insertedAt noted put renew keeperOf recordsOf withRows
+  insert-keepers =
+      rw (rows-more h row) (keepers-row (k .invariants) (o .opens) (o .keepers) t row (openKeeper v t) refl (own .0) (omega (arith, o .whole .long RowKeeper)) (rowAt h′) (row-new h row)
+      (λ i b. unfold rowAt withRows in (List·getD-append (h .rows) (row ∷ []) record { inserter = 0; values = [] } i b)))
+
   insert-whole : Whole S v′
   unfolding insertedAt stateOf
   insert-whole =
@@ -202,14 +214,14 @@ module _ {S : Shape} {v : View} {ps : List ScanEntry} {h : History} (o : Represe
       (put-whole Header rowsAt (r + 1) (omega (arith, k .small .ranges))
       (renew-whole Cells cells′ (cells-length S (v Current) (rangeOf r) (within r) vs (v Cells) (S .columns) ∙ o .whole .long Cells)
       (cells-fit S (v Current) (rangeOf r) (within r) vs (v Cells) (λ c. ofZ-fits w32 (getD vs c (pos 0)) (value-fits vs typed c) .fits) (o .whole .fits Cells) (S .columns))
-      (put-whole RowMask r 0 (omega arith) (put-whole RowLink r 0 (omega arith) (put-whole RowOrdinal r 0 (omega arith) (put-whole RowStamp r 0 (omega arith) (put-whole RowState r 0 (omega arith) (put-whole RowTransaction r t number (o .whole)))))))))
+      (put-whole RowMask r 0 (omega arith) (put-whole RowLink r 0 (omega arith) (put-whole RowKeeper r _ (own .1) (put-whole RowOrdinal r 0 (omega arith) (put-whole RowStamp r 0 (omega arith) (put-whole RowState r 0 (omega arith) (put-whole RowTransaction r t number (o .whole))))))))))
 
   insert-at : Step S h (insert t vs) h′ → Represents S v′ ps h′
   unfolding insertedAt noted openIndex put renew withRows recordIn valueIn pageIn stateOf recordsOf currentIn
   insert-at step =
       let header : HeaderFor S h′ v′ =
       header-same (sym (simp length-append (omega arith))) refl refl refl (header-put (v Header) 4 (r + 1) (omega (arith, o .whole .long Header)) (omega arith) (o .header)) in
-      search (header, insert-notes, insert-rows, insert-currents step, waits-stay o k step refl, insert-scans step, insert-whole)
+      search (header, insert-notes, insert-keepers, insert-rows, insert-currents step, waits-stay o k step refl, insert-scans step, insert-whole)
 
   pub insert-kept : Step S h (insert t vs) h′ → Represents S (insertedIn S t vs v) ps h′
   unfolding insertedIn

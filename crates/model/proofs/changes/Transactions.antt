@@ -12,7 +12,7 @@ use lib.ListN.{length, getD, set, length-append, length-set}
 use lib.Seq.{getD-set-same, getD-set-other}
 use borrow.Author.Tests.{ne-eqb, eq-eqb}
 use Rattle.terms.specs.Measures.{Shape, rangeRows, mostNumbers}
-use Rattle.history.specs.History.{begin, commit, abort, History, Row, Record, Commit, nextCommit, State, unknown, active, aborted, committed, any, nth, change, stateOf, rowAt, rangeOf, recordsOf, scanAt, withTransactions, commitOf}
+use Rattle.history.specs.History.{Call, commit, abort, History, Row, Record, Commit, nextCommit, State, unknown, active, aborted, committed, any, nth, change, stateOf, rowAt, rangeOf, recordsOf, scanAt, keeperOf, withBegun, withTransactions, commitOf}
 use Rattle.history.proofs.Lists.{by-cases, all-each, nth-beyond, clash, all-map, nth-changed, nth-other, length-change}
 use Rattle.history.specs.Steps.{Step, Closing, by-commit, by-abort}
 use Rattle.history.proofs.States.{given-known, state-began}
@@ -24,19 +24,20 @@ use Rattle.loops.specs.Change.{marked}
 use Rattle.words.specs.Words.{Fit}
 use Rattle.loops.proofs.Change.{changed-length, changed-outside, changed-at, changed-fit}
 use Rattle.layout.specs.View.{View, renew, put, rowsGiven, transactionsGiven, commitsMade, usedIn}
-use Rattle.layout.specs.declared.Region.the-variants.{Header, Opens, RowTransaction, RowState, RowStamp, TailTransaction, TailState, TailStamp, Used, Changes, RowOrdinal, TailOrdinal}
+use Rattle.layout.specs.declared.Region.the-variants.{Header, Opens, RowTransaction, RowState, RowStamp, TailTransaction, TailState, TailStamp, Used, Changes, RowOrdinal, TailOrdinal, OpenKeeper}
 use Rattle.layout.specs.declared.Region.{Region}
 use Rattle.layout.specs.Sizes.{sizesOf}
 use Rattle.terms.specs.declared.ScanEntry.{ScanEntry}
 use Rattle.terms.specs.Entries.{firstIndex}
 use Rattle.layout.specs.Regions.{len, transactionsAt, stampAt, commitsAt}
 use Rattle.model.proofs.Opens.{opens-begin, opens-close, open-there}
-use Rattle.model.specs.Stored.{RowWords, RecordWords, rowIn, recordIn, valueIn, pageIn, cellIn, currentIn, openIndex, nextWord}
+use Rattle.model.specs.Stored.{RowWords, RecordWords, rowIn, recordIn, valueIn, pageIn, cellIn, currentIn, openIndex, nextWord, keeperLimit}
 use Rattle.model.specs.Reading.{scanPage, wasCurrent}
 use Rattle.model.specs.Writing.{begun, markTails, markAll, settled, freed, committedIn, abortedIn}
 use Rattle.model.proofs.Lists.{first-below, part-in}
-use Rattle.model.specs.Represents.{stateWord, RowIs, RecordIs, TailOf, RowsAre, TailsAre, OpensAre, Unchanged, NotesAre, HeaderFor, Represents, WellFormed, Whole}
+use Rattle.model.specs.Represents.{stateWord, RowIs, RecordIs, TailOf, RowsAre, TailsAre, OpensAre, Unchanged, NotesAre, KeepersFor, HeaderFor, Represents, WellFormed, Whole}
 use Rattle.model.proofs.Views.{renew-whole, put-whole, changed-start, header-put, header-same}
+use Rattle.model.proofs.changes.Keepers.{keepers-begun, keepers-freed}
 use Rattle.model.proofs.Steady.{pages-stay}
 
 -- ---- rows and records under new states
@@ -69,33 +70,33 @@ notes-set rows tail l notes j t b c u o k d = by-cases (ℕ-discrete k j)
     (λ e. rw (e, getD-set-same l j t 0 b, getD-set-same notes j 0 0 c) (λ n. record { bound = zero-le; none = λ _. u n }))
     (λ f. rw (getD-set-other l j k t 0 f, getD-set-other notes j k 0 0 f) (o k d))
 
-module _ {S : Shape} {v : View} {ps : List ScanEntry} {h : History} (o : Represents S v ps h) (k : WellFormed S h) where
+module _ {S : Shape} {v : View} {ps : List ScanEntry} {h : History} (o : Represents S v ps h) (k : WellFormed S h) (x : ℕ) where
   abbrev begunHistory : History
-  begunHistory = withTransactions h (h .transactions ++ active ∷ []) (h .last)
+  begunHistory = withBegun h x
 
   begun-rows : RowsAre begunHistory v
-  unfolding rowAt recordsOf withTransactions
-  begun-rows r b = row-states {st = stateOf h} {st′ = stateOf begunHistory} (state-began h _ (k .invariants .order .inserters r b)) (o .rows r b)
+  unfolding rowAt recordsOf withBegun withTransactions
+  begun-rows r b = row-states {st = stateOf h} {st′ = stateOf begunHistory} (state-began h (h .keepers ++ x ∷ []) _ (k .invariants .order .inserters r b)) (o .rows r b)
 
   begun-tails : TailsAre S begunHistory v
-  unfolding recordsOf withTransactions
+  unfolding recordsOf withBegun withTransactions
   begun-tails g b =
       let t : TailOf S (stateOf h) (recordsOf h g) v g = o .tails g b in
       record {
         used-all = t .used-all;
-        each = λ i u. record-states {st = stateOf h} {st′ = stateOf begunHistory} (state-began h _ (sound-at h g (k .invariants .order) i noRecord u .giver)) (t .each i u);
+        each = λ i u. record-states {st = stateOf h} {st′ = stateOf begunHistory} (state-began h (h .keepers ++ x ∷ []) _ (sound-at h g (k .invariants .order) i noRecord u .giver)) (t .each i u);
         links = t .links;
       }
 
-  begun-whole : length (h .transactions) < mostNumbers → Whole S (begun v)
+  begun-whole : length (h .transactions) < mostNumbers → x < keeperLimit → Whole S (begun x v)
   unfolding begun
-  begun-whole few =
+  begun-whole few fits =
       let b : transactionsGiven v + 1 < 2 ^ 32 = omega (arith, o .header .transactions-given) in
-      put-whole Header transactionsAt _ b (put-whole Changes _ 0 (omega arith) (put-whole Opens _ _ b (o .whole)))
+      put-whole Header transactionsAt _ b (put-whole OpenKeeper _ x (omega arith) (put-whole Changes _ 0 (omega arith) (put-whole Opens _ _ b (o .whole))))
 
-  pub begin-kept : T (any (λ i. eqb i 0) (v Opens)) → Step S h begin begunHistory → length (h .transactions) < mostNumbers → Represents S (begun v) ps begunHistory
-  unfolding begun put renew withTransactions rowIn recordIn valueIn pageIn cellIn currentIn scanPage wasCurrent scanAt
-  begin-kept free step few = search (header, opens, notes, begun-rows, begun-tails, pages-stay o k step refl refl (λ i. refl), begun-whole few)
+  pub begin-kept : {c : Call} → T (any (λ i. eqb i 0) (v Opens)) → Step S h c begunHistory → length (h .transactions) < mostNumbers → x < keeperLimit → Represents S (begun x v) ps begunHistory
+  unfolding begun put renew withBegun withTransactions rowIn recordIn valueIn pageIn cellIn currentIn scanPage wasCurrent scanAt
+  begin-kept free step few fits = search (header, opens, notes, keepers, begun-rows, begun-tails, pages-stay o k step refl refl (λ i. refl), begun-whole few fits)
     where
       n : ℕ
       n = transactionsGiven v + 1
@@ -109,8 +110,8 @@ module _ {S : Shape} {v : View} {ps : List ScanEntry} {h : History} (o : Represe
       inside : j < length (v Opens)
       inside = first-below (λ i. eqb i 0) (v Opens) free
 
-      header : HeaderFor S begunHistory (begun v)
-      header = unfold begun put renew withTransactions in
+      header : HeaderFor S begunHistory (begun x v)
+      header = unfold begun put renew withBegun withTransactions in
           (header-same refl (e ∙ sym (simp length-append (omega arith))) refl refl (header-put (v Header) 5 n (omega (arith, o .whole .long Header)) (omega arith) (o .header)))
 
       opens : OpensAre (h .transactions ++ active ∷ []) (set (v Opens) j n)
@@ -120,6 +121,10 @@ module _ {S : Shape} {v : View} {ps : List ScanEntry} {h : History} (o : Represe
       notes =
           notes-set (h .rows) (h .tail) (v Opens) (v Changes) j n inside (omega (arith, inside, o .whole .long Opens, o .whole .long Changes))
           (λ _. rw e (not-begun h (k .invariants .order))) (o .notes)
+
+      keepers : KeepersFor S begunHistory (begun x v)
+      keepers = unfold begun put renew withBegun withTransactions keeperOf rowAt recordsOf in
+          (rw e (keepers-begun (k .invariants) (o .opens) (o .keepers) x j fits inside (omega (arith, inside, o .whole .long Opens, o .whole .long OpenKeeper))))
 
 -- ---- the marks
 pub marked-at : (ks : List ℕ) (n t w : ℕ) (l : List ℕ) (r : ℕ) → n ≤ length l → r < n → getD (marked ks 0 n t 0 w l) r 0 ≡ cond (eqb (getD ks r 0) t) w (getD l r 0)
@@ -178,7 +183,7 @@ closed-is f ts t x k a = by-cases (ℕ-discrete k t)
 
 module _ {S : Shape} {v : View} {ps : List ScanEntry} {h : History} (o : Represents S v ps h) (k : WellFormed S h) (t : ℕ) {x : State} {s : Commit} (a : stateOf h t ≡ active) (c : Closing h x s) where
   abbrev closedHistory : History
-  closedHistory = withTransactions h (change (h .transactions) t x) s
+  closedHistory = withTransactions h (change (h .transactions) t x) (h .keepers) s
 
   abbrev marks : View
   marks = settled S t (stateWord x) (commitOf x) v
@@ -237,23 +242,25 @@ module _ {S : Shape} {v : View} {ps : List ScanEntry} {h : History} (o : Represe
 
   -- the open entry is free again, and every row and record is marked
   closed-parts : OpensAre (change (h .transactions) t x) (freed t marks Opens) × NotesAre (h .rows) (h .tail) (freed t marks Opens) (freed t marks Changes) × RowsAre closedHistory (freed t marks)
-      × TailsAre S closedHistory (freed t marks)
-  unfolding stateOf freed openIndex put renew markAll settled rowIn recordIn valueIn
+      × TailsAre S closedHistory (freed t marks) × KeepersFor S closedHistory (freed t marks)
+  unfolding stateOf keeperOf rowAt recordsOf withTransactions freed openIndex put renew markAll settled rowIn recordIn valueIn
   closed-parts =
       let inside = open-there (h .transactions) (v Opens) (o .opens) t a .0 in (
         opens-close (h .transactions) (v Opens) t x (o .opens) a (closing-inactive c),
         notes-set (h .rows) (h .tail) (v Opens) (v Changes) _ 0 inside (omega (arith, o .whole .long Opens, o .whole .long Changes)) (λ f. absurd (f refl)) (o .notes),
         closed-rows,
         closed-tails,
+        keepers-freed (k .invariants) (o .opens) (o .keepers) _ inside,
       )
 
   closed-whole : stateWord x < 2 ^ 32 → stampOf x < 2 ^ 32 → ordinalOf x < 2 ^ 32 → Whole S (freed t marks)
   unfolding freed
-  closed-whole b d e = put-whole Changes _ 0 (omega arith) (put-whole Opens _ 0 (omega arith) (settled-whole t (stateWord x) (commitOf x) b d e (o .whole)))
+  closed-whole b d e =
+      put-whole OpenKeeper _ 0 (omega arith) (put-whole Changes _ 0 (omega arith) (put-whole Opens _ 0 (omega arith) (settled-whole t (stateWord x) (commitOf x) b d e (o .whole))))
 
 pub abort-kept : {S : Shape} {v : View} {ps : List ScanEntry} {h : History} → Represents S v ps h → WellFormed S h → (t : ℕ) → stateOf h t ≡ active
-    → Step S h (abort t) (withTransactions h (change (h .transactions) t aborted) (h .last))
-    → Represents S (abortedIn S t v) ps (withTransactions h (change (h .transactions) t aborted) (h .last))
+    → Step S h (abort t) (withTransactions h (change (h .transactions) t aborted) (h .keepers) (h .last))
+    → Represents S (abortedIn S t v) ps (withTransactions h (change (h .transactions) t aborted) (h .keepers) (h .last))
 unfolding abortedIn freed openIndex markAll settled put renew withTransactions rowIn recordIn valueIn pageIn cellIn currentIn scanPage wasCurrent scanAt
 abort-kept {S} {v} {ps} {h} o k t a step =
     search (
@@ -270,8 +277,8 @@ next-ordinal v {h} o l =
     (mod-eq-of-lt (omega (arith, o .commits-made)) ∙ omega (arith, o .commits-made), b)
 
 pub commit-kept : {S : Shape} {v : View} {ps : List ScanEntry} {h : History} → Represents S v ps h → WellFormed S h → (t s : ℕ) → stateOf h t ≡ active → h .last .stamp ≤ s → s < 2 ^ 32
-    → Step S h (commit t s) (withTransactions h (change (h .transactions) t (committed (nextCommit h s))) (nextCommit h s))
-    → Represents S (committedIn S t s v) ps (withTransactions h (change (h .transactions) t (committed (nextCommit h s))) (nextCommit h s))
+    → Step S h (commit t s) (withTransactions h (change (h .transactions) t (committed (nextCommit h s))) (h .keepers) (nextCommit h s))
+    → Represents S (committedIn S t s v) ps (withTransactions h (change (h .transactions) t (committed (nextCommit h s))) (h .keepers) (nextCommit h s))
 unfolding committedIn freed openIndex markAll settled put renew withTransactions rowIn recordIn valueIn pageIn cellIn currentIn scanPage wasCurrent scanAt
 commit-kept {S} {v} {ps} {h} o k t s a later fit step =
     let e = next-ordinal v (o .header) (k .invariants .limits) in

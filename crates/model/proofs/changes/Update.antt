@@ -14,7 +14,7 @@ use mir.Syntax.{w32}
 use mir.Val.{toZ, ofZ, SFits}
 use mir.ValLaws.{toZ-ofZ, ofZ-fits}
 use Rattle.terms.specs.Measures.{Shape, rangeRows, mostColumns}
-use Rattle.history.specs.History.{update, History, Record, Version, active, original, setting, isCommitted, upTo, stateOf, rowAt, insertedValue, inserted, bit, sets, rangeOf, recordsOf, badMask, newColumns, originalRecords, updateRecords, withTail, cellThrough, scanAt}
+use Rattle.history.specs.History.{update, History, Record, Version, active, original, setting, isCommitted, upTo, stateOf, keeperOf, rowAt, insertedValue, inserted, bit, sets, rangeOf, recordsOf, badMask, newColumns, originalRecords, updateRecords, withTail, cellThrough, scanAt}
 use Rattle.history.specs.Lists.{All}
 use Rattle.history.proofs.Lists.{eqb-same, is-true, is-false, refuted, parts, among-upTo}
 use Rattle.history.specs.Records.{among, wasSet}
@@ -26,7 +26,7 @@ use Rattle.history.proofs.Endings.{set-range}
 use Rattle.layout.specs.View.{View, renew, put}
 use Rattle.layout.specs.declared.Region.the-variants.{RowMask, Cells}
 use Rattle.terms.specs.declared.ScanEntry.{ScanEntry}
-use Rattle.model.specs.Stored.{rowIn, recordIn, valueIn, pageIn, cellIn, currentIn, openIndex}
+use Rattle.model.specs.Stored.{rowIn, recordIn, valueIn, pageIn, cellIn, currentIn, openIndex, rowKeeper, openKeeper}
 use Rattle.layout.specs.Codes.{asOriginal, asSetting}
 use Rattle.model.specs.Reading.{scanPage, wasCurrent}
 use Rattle.model.specs.Writing.{noted, appended, filledIn, newBitsIn, recordsWanted, originalAppended, originalWord, settingAppended, updatedIn}
@@ -37,7 +37,7 @@ use Rattle.model.proofs.lookups.Heads.{in-range}
 use Rattle.model.proofs.lookups.Read.{unset-take}
 use Rattle.model.proofs.changes.Masks.{bit-or, bit-new, no-bits}
 use Rattle.model.proofs.Steady.{pages-stay}
-use Rattle.model.proofs.changes.Records.{made-rows, made-parts, Extended, none-made, extend}
+use Rattle.model.proofs.changes.Records.{made-rows, made-parts, made-keepers, own-keeper, Extended, none-made, extend}
 
 -- ---- the columns that are set for the first time
 module _ {S : Shape} {v : View} {ps : List ScanEntry} {h : History} (o : Represents S v ps h) (k : WellFormed S h) (r m : ℕ) (b : r < length (h .rows)) (good : T (not (badMask S m))) where
@@ -122,9 +122,9 @@ module _ {S : Shape} {v : View} {ps : List ScanEntry} {h : History} (o : Represe
   union : (c : ℕ) → bit (bitOr m ((rowIn v r) .mask)) c ≡ (bit ((rowIn v r) .mask) c || (eqb r r && bit m c || false))
   union c = bit-or m ((rowIn v r) .mask) c ∙ rw (eqb-same r, or-false (bit m c)) (or-comm (bit m c) (bit ((rowIn v r) .mask) c))
 
-  add-setting : {ms : List Record} {u : View} → Extended S h v r ms u → length (recordsOf h (rangeOf r)) + length ms < S .capacity → Extended S h v r (ms ++ y ∷ []) (settingAppended S t r m vs u)
+  add-setting : {ms : List Record} {u : View} → Extended S h v r ms u → length (recordsOf h (rangeOf r)) + length ms < S .capacity → Extended S h v r (ms ++ y ∷ []) (settingAppended S t (openKeeper v t) r m vs u)
   unfolding settingAppended
-  add-setting E room = extend E k t a b (setting m vs) asSetting m room (omega arith) (omega arith) f₂ setting-is values-fit
+  add-setting E room = extend E k t a b (setting m vs) (openKeeper v t) (own-keeper o k t a .0) (own-keeper o k t a .1) asSetting m room (omega arith) (omega arith) f₂ setting-is values-fit
 
   -- the row's new mask, in a memory that has the records
   abbrev masked : View → View
@@ -141,21 +141,21 @@ module _ {S : Shape} {v : View} {ps : List ScanEntry} {h : History} (o : Represe
 
   -- ---- every column was set before
   update-one : length (recordsOf h (rangeOf r)) + 1 ≤ S .capacity → Step S h (update t r m vs) (withTail h (h .tail ++ y ∷ [])) → All (New h t r) (y ∷ [])
-      → Represents S (noted t (put RowMask r (bitOr m ((rowIn v r) .mask)) (settingAppended S t r m vs v))) ps (withTail h (h .tail ++ y ∷ []))
-  unfolding settingAppended filledIn noted openIndex put renew withTail recordIn valueIn pageIn cellIn currentIn scanPage wasCurrent appended stateOf rowAt scanAt
+      → Represents S (noted t (put RowMask r (bitOr m ((rowIn v r) .mask)) (settingAppended S t (openKeeper v t) r m vs v))) ps (withTail h (h .tail ++ y ∷ []))
+  unfolding settingAppended filledIn noted openIndex put renew withTail recordIn valueIn pageIn cellIn currentIn scanPage wasCurrent appended stateOf keeperOf rowAt scanAt
   update-one room step new =
       let made = add-setting (none-made o r b) (omega arith) in
-      search (made-parts o k a b new made (omega arith), masked-rows made new (λ c. unfold wasSet sets in refl), masked-whole made, pages-stay o k step refl refl (λ i. refl))
+      search (made-parts o k a b new made (omega arith), made-keepers o k a b new made, masked-rows made new (λ c. unfold wasSet sets in refl), masked-whole made, pages-stay o k step refl refl (λ i. refl))
 
   -- ---- a column is new: its original value goes first
   update-two : (d : ℕ) (cs : List ℕ) → newColumns h r m ≡ d ∷ cs → length (recordsOf h (rangeOf r)) + 2 ≤ S .capacity
       → Step S h (update t r m vs) (withTail h (h .tail ++ record { transaction = t; row = r; content = original (d ∷ cs) ((rowAt h r) .values) } ∷ y ∷ []))
       → All (New h t r) (record { transaction = t; row = r; content = original (d ∷ cs) ((rowAt h r) .values) } ∷ y ∷ [])
-      → Represents S (noted t (put RowMask r (bitOr m ((rowIn v r) .mask)) (settingAppended S t r m vs (originalAppended S t r m v)))) ps
+      → Represents S (noted t (put RowMask r (bitOr m ((rowIn v r) .mask)) (settingAppended S t (openKeeper v t) r m vs (originalAppended S t r m v)))) ps
       (withTail h (h .tail ++ record { transaction = t; row = r; content = original (d ∷ cs) ((rowAt h r) .values) } ∷ y ∷ []))
-  unfolding settingAppended originalAppended filledIn noted openIndex put renew withTail recordIn valueIn pageIn cellIn currentIn scanPage wasCurrent appended stateOf scanAt
+  unfolding settingAppended originalAppended filledIn noted openIndex put renew withTail recordIn valueIn pageIn cellIn currentIn scanPage wasCurrent appended stateOf keeperOf rowAt scanAt
   update-two d cs e room step new =
-      search (made-parts o k a b new two (omega arith), masked-rows two new (λ c. unfold wasSet sets in (rw (eqb-same r))), masked-whole two, pages-stay o k step refl refl (λ i. refl))
+      search (made-parts o k a b new two (omega arith), made-keepers o k a b new two, masked-rows two new (λ c. unfold wasSet sets in (rw (eqb-same r))), masked-whole two, pages-stay o k step refl refl (λ i. refl))
     where
       w : Record
       w = record { transaction = t; row = r; content = original (d ∷ cs) ((rowAt h r) .values) }
@@ -163,11 +163,14 @@ module _ {S : Shape} {v : View} {ps : List ScanEntry} {h : History} (o : Represe
       original-is : ContentIs (S .columns) (original (d ∷ cs) ((rowAt h r) .values)) asOriginal (newBitsIn v r m) (originalWord S v r)
       original-is = (refl, (λ c. original-bits o k r m b good c ∙ ap (among c) e), (λ c q u. original-cell o k r m b good c q u))
 
+      row-keeper : (rowKeeper v r ≡ keeperOf h ((rowAt h r) .inserter)) × (rowKeeper v r < 2 ^ 32)
+      row-keeper = unfold rowKeeper in (let q = o .keepers .of-rows r b in (q, omega (arith, q, o .keepers .small ((rowAt h r) .inserter))))
+
       one : Extended S h v r (w ∷ []) (originalAppended S t r m v)
-      one = extend (none-made o r b) k t a b (original (d ∷ cs) ((rowAt h r) .values)) asOriginal (newBitsIn v r m) (omega arith) (omega arith) (masks-fit S v r m (o .whole) mask .0)
+      one = extend (none-made o r b) k t a b (original (d ∷ cs) ((rowAt h r) .values)) (rowKeeper v r) (row-keeper .0) (row-keeper .1) asOriginal (newBitsIn v r m) (omega arith) (omega arith) (masks-fit S v r m (o .whole) mask .0)
           (originalWord S v r) original-is (λ c. o .whole .fits Cells _)
 
-      two : Extended S h v r (w ∷ y ∷ []) (settingAppended S t r m vs (originalAppended S t r m v))
+      two : Extended S h v r (w ∷ y ∷ []) (settingAppended S t (openKeeper v t) r m vs (originalAppended S t r m v))
       two = add-setting one (omega arith)
 
   pub update-kept : length (recordsOf h (rangeOf r)) + length (updateRecords h t r m vs) ≤ S .capacity → Step S h (update t r m vs) (withTail h (h .tail ++ updateRecords h t r m vs))

@@ -5,7 +5,7 @@ use mathlib.Core.Bool.{Bool, true, false, cond, _&&_, _||_, and-false, and-true,
 use mathlib.Core.List.{List}
 use Prim.Native.Nat.{ℕ, zero, suc, _+_, _*_, _≤_, _<_, zero-le}
 use native.Mathlib.Omega.{arith}
-use native.Mathlib.Nat.{le-refl, le-trans, not-suc-le-zero}
+use native.Mathlib.Nat.{mod-eq-of-lt, le-refl, le-trans, not-suc-le-zero}
 use native.Mathlib.Decide.{ℕ-discrete}
 use lib.Dec.{T, leb, eqb, eqb→eq, leb→le}
 use lib.ListN.{length, getD, take}
@@ -16,7 +16,7 @@ use mir.Syntax.{w32}
 use mir.Val.{toZ}
 use Rattle.terms.specs.Measures.{Shape}
 use Rattle.terms.specs.declared.Answer.{Answer}
-use Rattle.history.specs.History.{History, Record, Version, State, unknown, active, aborted, committed, Content, original, setting, ending, any, isCommitted, Commit, stateOf, bit, sets, newValue, insertedValue, inserted, versionIn, lastSetting, rangeOf, rowAt, recordsOf, visible, versionOf, shown, read, cellThrough, commitOf}
+use Rattle.history.specs.History.{History, Record, Version, State, unknown, active, aborted, committed, Content, original, setting, ending, any, isCommitted, Commit, stateOf, bit, sets, newValue, insertedValue, inserted, versionIn, lastSetting, rangeOf, rowAt, recordsOf, visible, versionOf, shown, read, keeperOf, keeperRead, cellThrough, commitOf}
 use Rattle.history.proofs.Lists.{by-test, parts, all-map₂, all-both, any-none, all-take, not-any}
 use Rattle.history.specs.Lists.{All}
 use Rattle.history.specs.Records.{among, isOriginal, wasSet, hasOriginal, noRecord, lastOf}
@@ -30,10 +30,10 @@ use Rattle.layout.specs.View.{View}
 use Rattle.terms.specs.declared.ScanEntry.{ScanEntry}
 use Rattle.model.specs.declared.Reader.{Reader}
 use Rattle.model.specs.declared.Setter.{Setter}
-use Rattle.model.specs.Stored.{PageWords, rowIn, recordIn, valueIn, pageIn, cellIn, within, originalKind, settingKind}
-use Rattle.model.specs.Reading.{sees, answersFor, walk, foundIn, orElse, floor, downTo, wordIn, setterAt, setterIn, commitStamp, setterStamp, lookupIn, shownIn, readIn}
+use Rattle.model.specs.Stored.{PageWords, rowIn, recordIn, valueIn, pageIn, cellIn, within, originalKind, settingKind, rowKeeper, recordKeeper}
+use Rattle.model.specs.Reading.{sees, answersFor, walk, foundIn, orElse, floor, downTo, wordIn, setterAt, setterIn, commitStamp, setterStamp, lookupIn, shownIn, readIn, keeperWord, keeperIn}
 use Rattle.model.proofs.Lists.{take-next}
-use Rattle.model.specs.Represents.{stateWord, ContentIs, RecordIs, TailOf, Holds, TakenBefore, Represents, WellFormed}
+use Rattle.model.specs.Represents.{stateWord, ContentIs, RecordIs, TailOf, Holds, TakenBefore, borneBy, Represents, WellFormed}
 use Rattle.model.proofs.lookups.Heads.{slot-is, in-range, SeesAs, visible-is}
 
 -- ---- one record
@@ -235,18 +235,55 @@ module _ {S : Shape} {v : View} {ps : List ScanEntry} {h : History} (o : Represe
   unfolding setterAt
   original-stamp i u t = rw (kind-original _ _ _ _ (lok .each i u .content) t) insert-stamp
 
-  stamp-is : setterStamp v r (setterIn S v who r c) ≡ commitOf (stateOf h (versionOf f h r c .setter)) .stamp
-  unfolding setterIn foundIn lastSetting
-  stamp-is = go (bit ((rowIn v r) .mask) c) (o .rows r b .mask c) ∙ ap (λ (y : Version). commitOf (stateOf h (y .setter)) .stamp) (version-range h f r c)
+  -- something of the record found from the floor on, else of the row
+  found-is : {A : Type 0} (at : ℕ → A) (of : Version → A) (rest : A)
+      → ((i : ℕ) → i < length list → T (sets c ((getD list i noRecord) .content)) → at (g * S .capacity + i) ≡ of (versionIn c (getD list i noRecord)))
+      → ((i : ℕ) → i < length list → (getD list i noRecord) .row ≡ r → T (isOriginal c ((getD list i noRecord) .content)) → at (g * S .capacity + i) ≡ of (inserted h r c))
+      → rest ≡ of (inserted h r c) → orElse (foundIn S v who floor r c) at rest ≡ of (versionOf f h r c)
+  unfolding foundIn lastSetting
+  found-is at of rest x y z = go (bit ((rowIn v r) .mask) c) (o .rows r b .mask c) ∙ ap of (version-range h f r c)
     where
       go : (a : Bool) → a ≡ wasSet list r c
-          → setterStamp v r (orElse (cond a (walk S v who g c floor ((rowIn v r) .link) ((rowIn v r) .link)) Found.Nothing) (setterAt v) Setter.Insert)
-          ≡ commitOf (stateOf h (lastSetting f r c (inserted h r c) list .setter)) .stamp
-      go true e =
-          or-map (setterStamp v r) (walk S v who g c floor ((rowIn v r) .link) ((rowIn v r) .link)) (setterAt v) Setter.Insert
-          ∙ walked (λ i. setterStamp v r (setterAt v i)) (λ y. commitOf (stateOf h (y .setter)) .stamp) floor (setterStamp v r Setter.Insert)
-          setting-stamp (λ i u _ t. original-stamp i u t) zero-le (λ _. insert-stamp)
-      go false e = insert-stamp ∙ ap (λ (y : Version). commitOf (stateOf h (y .setter)) .stamp) (sym (last-unset f r c (inserted h r c) list (sym e)))
+          → orElse (cond a (walk S v who g c floor ((rowIn v r) .link) ((rowIn v r) .link)) Found.Nothing) at rest ≡ of (lastSetting f r c (inserted h r c) list)
+      go true e = walked at of floor rest x y zero-le (λ _. z)
+      go false e = z ∙ ap of (sym (last-unset f r c (inserted h r c) list (sym e)))
+
+  stamp-is : setterStamp v r (setterIn S v who r c) ≡ commitOf (stateOf h (versionOf f h r c .setter)) .stamp
+  unfolding setterIn
+  stamp-is =
+      or-map (setterStamp v r) (foundIn S v who floor r c) (setterAt v) Setter.Insert
+      ∙ found-is (λ i. setterStamp v r (setterAt v i)) (λ y. commitOf (stateOf h (y .setter)) .stamp) (setterStamp v r Setter.Insert)
+      setting-stamp (λ i u _ t. original-stamp i u t) insert-stamp
+
+  -- ---- its keeper
+  insert-keeper : rowKeeper v r ≡ keeperOf h (inserted h r c .setter)
+  unfolding rowKeeper inserted
+  insert-keeper = o .keepers .of-rows r b
+
+  setting-keeper : (i : ℕ) → i < length list → T (sets c ((getD list i noRecord) .content)) → recordKeeper v (g * S .capacity + i) ≡ keeperOf h (versionIn c (getD list i noRecord) .setter)
+  unfolding recordKeeper versionIn
+  setting-keeper i u t = o .keepers .of-records g i (in-range k r b) u ∙ ap (keeperOf h) (bears-own ((getD list i noRecord) .content) _ _ t)
+    where
+      bears-own : (y : Content) (inserter own : ℕ) → T (sets c y) → borneBy y inserter own ≡ own
+      bears-own (setting m vs) inserter own q = refl
+      bears-own (original cs vs) inserter own q = absurd (unfold sets in q)
+      bears-own ending inserter own q = absurd (unfold sets in q)
+
+  original-keeper : (i : ℕ) → i < length list → (getD list i noRecord) .row ≡ r → T (isOriginal c ((getD list i noRecord) .content))
+      → recordKeeper v (g * S .capacity + i) ≡ keeperOf h (inserted h r c .setter)
+  unfolding recordKeeper inserted
+  original-keeper i u e t =
+      o .keepers .of-records g i (in-range k r b) u ∙ ap (keeperOf h) (bears-row ((getD list i noRecord) .content) _ _ t ∙ ap (λ (j : ℕ). (rowAt h j) .inserter) e)
+    where
+      bears-row : (y : Content) (inserter own : ℕ) → T (isOriginal c y) → borneBy y inserter own ≡ inserter
+      bears-row (original cs vs) inserter own q = refl
+      bears-row (setting m vs) inserter own q = absurd (unfold isOriginal in q)
+      bears-row ending inserter own q = absurd (unfold isOriginal in q)
+
+  pub keeper-is : keeperIn S v who r c ≡ keeperRead f h r c
+  unfolding keeperIn keeperRead keeperWord
+  keeper-is =
+      rw (visible-is o k r b who f w, found-is (recordKeeper v) (λ y. keeperOf h (y .setter)) (rowKeeper v r) setting-keeper original-keeper insert-keeper, mod-eq-of-lt (o .keepers .small (versionOf f h r c .setter)))
 
   -- ---- and what it is, on page p
   module _ (p : ℕ) (Q : ℕ → Type 0) (held : Holds h (rangeOf r) c Q (pageIn v p) (cellIn v p))

@@ -14,7 +14,7 @@ use lib.IntN.{ℤ}
 use mir.Syntax.{w32}
 use mir.Val.{toZ}
 use Rattle.terms.specs.Measures.{Shape, rangeRows, mostColumns, mostRanges, mostRecords, mostPages}
-use Rattle.history.specs.History.{merge, History, Record, Merge, Scan, isActive, isCommitted, stateOf, rowAt, rangeOf, recordsOf, mergedThrough, anyActive, waitingPages, scanAt, inserted, lastSetting, withMerges, cellThrough}
+use Rattle.history.specs.History.{merge, History, Record, Merge, Scan, isActive, isCommitted, stateOf, keeperOf, rowAt, rangeOf, recordsOf, mergedThrough, anyActive, waitingPages, scanAt, inserted, lastSetting, withMerges, cellThrough}
 use Rattle.history.proofs.Lists.{by-cases}
 use Rattle.history.specs.Steps.{Mergeable, Step}
 use Rattle.history.specs.Invariants.{Timely}
@@ -401,7 +401,7 @@ module _ {S : Shape} {v : View} {ps : List ScanEntry} {h : History} (o : Represe
       newest-fits = unfold pageIn in (o .whole .fits PageNewest old)
 
   pub merge-kept : Step S h (merge g c n) h′ → Represents S (mergedIn S g c n v) ps h′
-  unfolding withMerges stateOf rowAt recordsOf mergedIn put renew rowIn recordIn valueIn
+  unfolding withMerges stateOf keeperOf rowAt recordsOf mergedIn put renew rowIn recordIn valueIn
   merge-kept step =
       let header : HeaderFor S h′ v′ = header-same refl refl refl (m-is ∙ sym more-merges) (header-put (v Header) 8 m (omega (arith, o .whole .long Header)) (omega arith) (o .header)) in
       search (header, merge-currents step, merge-waits step, merge-pool, merge-scans step, merge-whole)

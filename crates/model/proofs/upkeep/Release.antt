@@ -9,7 +9,7 @@ use native.Mathlib.Nat.{le-refl}
 use lib.Dec.{leb·suc-suc, T, leb, ltb, eqb, eqb→eq, le→leb, ltb→lt, T-not}
 use lib.ListN.{length}
 use Rattle.terms.specs.Measures.{Shape}
-use Rattle.history.specs.History.{release, History, Scan, Merge, any, nth, stateOf, rowAt, recordsOf, mergedThrough, noScan, scanAt, neededBy, afterRelease, releasedCount, withMerges}
+use Rattle.history.specs.History.{release, History, Scan, Merge, any, nth, stateOf, keeperOf, rowAt, recordsOf, mergedThrough, noScan, scanAt, neededBy, afterRelease, releasedCount, withMerges}
 use Rattle.history.proofs.Lists.{any-at, clash, refuted, parts, both}
 use Rattle.history.specs.Steps.{Step}
 use Rattle.history.specs.Invariants.{Timely}
@@ -203,7 +203,7 @@ module _ {S : Shape} {v : View} {ps : List ScanEntry} {h : History} (o : Represe
       (changed-fit _ 0 (pagesOf S) (v PageState) (λ i x _ b. elim (releasable ps v i) as (λ z. cond z asFree x < 2 ^ 32) [ true ↦ omega arith | false ↦ b ]) (o .whole .fits PageState)) (o .whole)
 
   pub release-kept : Step S h release h′ → Represents S (releasedIn S ps v) ps h′
-  unfolding withMerges stateOf rowAt recordsOf releasedIn renew rowIn recordIn valueIn
+  unfolding withMerges stateOf keeperOf rowAt recordsOf releasedIn renew rowIn recordIn valueIn
   release-kept step =
       let header : HeaderFor S h′ v′ = header-same refl refl refl (sym merges-same) (o .header) in
       search (header, release-currents step, release-waits step, release-pool, release-scans step, release-whole)

@@ -11,7 +11,7 @@ use lib.Dec.{T, eqb, lt→ltb}
 use lib.ListN.{length, set, length-append, length-set}
 use borrow.Author.Tests.{le-leb}
 use Rattle.terms.specs.Measures.{Shape, mostScans, mostNumbers}
-use Rattle.history.specs.History.{openScan, close, History, Scan, noScan, snapshotAt, any, count, nth, change, stateOf, rowAt, recordsOf, scanAt, stopped, withScans}
+use Rattle.history.specs.History.{openScan, close, History, Scan, noScan, snapshotAt, any, count, nth, change, stateOf, keeperOf, rowAt, recordsOf, scanAt, stopped, withScans}
 use Rattle.history.proofs.Lists.{by-cases, all-map, length-change, nth-last, nth-before}
 use Rattle.history.specs.Steps.{Step}
 use Rattle.history.specs.Invariants.{Stamped}
@@ -105,7 +105,7 @@ module _ {S : Shape} {v : View} {ps : List ScanEntry} {h : History} (o : Represe
   pub open-kept : Step S h (openScan s) after
       → Represents S (put Header scansAt (scansGiven v + 1) v)
       (set ps (firstIndex (λ p. eqb (p .number) 0) ps) (newEntry v s)) after
-  unfolding put renew withScans rowIn recordIn valueIn pageIn cellIn currentIn scanPage wasCurrent stateOf rowAt recordsOf
+  unfolding put renew withScans rowIn recordIn valueIn pageIn cellIn currentIn scanPage wasCurrent stateOf keeperOf rowAt recordsOf
   open-kept step =
       search (header, currents-stay o k step refl refl, waits-stay o k step refl, scans, open-pages step, put-whole Header 6 n (omega (arith, e)) (o .whole))
     where
@@ -132,7 +132,7 @@ module _ {S : Shape} {v : View} {ps : List ScanEntry} {h : History} (o : Represe
   close-pages step j t = scan-stays o k step refl j (still-running (h .scans) i j run t) t
 
   pub close-kept : Step S h (close i) (withScans h ended) → Represents S v (set ps (firstIndex (isScan i) ps) freeEntry) (withScans h ended)
-  unfolding withScans rowIn recordIn valueIn stateOf rowAt recordsOf
+  unfolding withScans rowIn recordIn valueIn stateOf keeperOf rowAt recordsOf
   close-kept step =
       let header : HeaderFor S (withScans h ended) v = header-same refl refl (sym (length-change (h .scans) i (stopped (scanAt h i)))) refl (o .header) in
       let scans : ScansAre ended (set ps (firstIndex (isScan i) ps) freeEntry) = scans-drop (h .scans) ps i (stopped (scanAt h i)) (o .scans) (unfold scanAt in run) (unfold stopped in refl) in

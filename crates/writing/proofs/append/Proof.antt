@@ -30,7 +30,7 @@ returns c =
     let record-put : tie.After-put-record = search in
     let link : tie.After-read2 = search in
     let used : tie.After-read = search in
-    appended-is _ _ _ _ _ _ _ _ _ _ _ (used .read .ensures) (link .read2 .ensures) (record-put .put-record .ensures) (count .write .ensures) (linked .write2 .ensures)
+    appended-is _ _ _ _ _ _ _ _ _ _ _ _ (used .read .ensures) (link .read2 .ensures) (record-put .put-record .ensures) (count .write .ensures) (linked .write2 .ensures)
 
 pub append-spec : {M : Type 1} → statement M
 append-spec =

@@ -12,15 +12,29 @@ fill-cells-requires : tie.Need-fill-cells-requires
 unfolding appended put renew
 fill-cells-requires c κs =
     let record-put : tie.After-append = search in
+    let start : tie.Start = search in (
+      omega arith,
+      (
+        (search, rw (record-put .append .ensures) (start .pre .1 .0 .1)),
+        (appended-newest _ _ _ _ _ _ _ _ (record-put .append .ensures) (start .pre .0) (start .pre .1 .0 .0) (start .pre .1 .1), omega arith),
+      ),
+    )
+
+returns : tie.Need-returns
+returns c =
+    let filled : tie.After-fill-cells = search in
+    let record-put : tie.After-append = search in
+    let row : tie.After-read = search in
     let start : tie.Start = search in
-    (omega arith, ((search, rw (record-put .append .ensures) (start .pre .1 .0 .1)), (search appended-newest, omega arith)))
+    original-is _ _ _ _ _ _ _ _ (row .read .ensures) (record-put .append .ensures) (filled .fill-cells .ensures) (start .pre .0) (start .pre .1 .0 .0) (start .pre .1 .1)
 
 pub append-original-spec : {M : Type 1} → statement M
 append-original-spec =
     tie.close
     (tie.spec
-    (λ c κs. search needs)
     (λ c. search needs)
+    (λ c κs. let start : tie.Start = search in (omega arith, start .pre .1 .1 .row-below))
+    (λ c κs. search needs)
     fill-cells-requires
     (λ c. search needs)
-    (λ c. search original-is))
+    returns)

@@ -1,4 +1,5 @@
 -- `writing::insert` meets its contract.
+use mathlib.Core.Path.{ap}
 use native.Mathlib.Omega.{arith}
 use borrow.Author.Needs.{needs}
 use Rattle.layout.specs.View.{put, renew}
@@ -26,7 +27,8 @@ returns c =
     let row : tie.After-put-row = search in
     let given : tie.After-read = search in
     let start : tie.Start = search in
-    (given .read .ensures, inserted-is _ _ _ _ (start .pre .1 .1 .0) _ _ _ _ _ _ (given .read .ensures) (row .put-row .ensures) (cells .put-cells .ensures) (counted .write .ensures) (noted .note .ensures))
+    let at : tie.After-pending-at = search in
+    (given .read .ensures, inserted-is _ _ _ _ (start .pre .1 .1 .0) _ _ _ _ _ _ _ (ap (λ p. p .keeper) (at .pending-at .ensures)) (given .read .ensures) (row .put-row .ensures) (cells .put-cells .ensures) (counted .write .ensures) (noted .note .ensures))
 
 pub insert-spec : {M : Type 1} → statement M
 insert-spec =
@@ -34,10 +36,11 @@ insert-spec =
     (tie.spec
     (λ c κs. search needs)
     (λ c κs. search needs)
+    (λ c κs. search needs)
     (λ c. search needs)
     put-cells-requires
     (λ c. search needs)
     (λ c κs. search needs)
-    (λ c κs. search needs)
+    (λ c κs. let start : tie.Start = search in (omega arith, start .pre .1 .1 .0 .low))
     (λ c. search needs)
     returns)

@@ -1,6 +1,7 @@
 -- `pages::check::measure` meets its contract: the words read are the stored shape, and each answer follows from the tests that led to it.
+use native.Mathlib.Omega.{arith}
 use borrow.Author.Needs.{needs}
-use Rattle.pages.proofs.Answers.{too-short, out-of-limits, within-limits, words-few, bytes-few, no-room, fit}
+use Rattle.pages.proofs.Answers.{too-short, other-form, out-of-limits, within-limits, words-few, bytes-few, no-room, fit}
 use Rattle.pages.proofs.check.measure.Statement.{statement}
 use Rattle.pages.proofs.check.measure.Tie as tie
 
@@ -10,6 +11,8 @@ measure-spec =
     (tie.spec
     (λ c. search too-short)
     (λ c κs. search needs)
+    (λ c. omega arith)
+    (λ c. search other-form)
     (λ c κs. search needs)
     (λ c κs. search needs)
     (λ c κs. search needs)

@@ -4,4 +4,4 @@ use Rattle.transactions.proofs.pending.pending_at.Statement.{statement}
 use Rattle.transactions.proofs.pending.pending_at.Tie as tie
 
 pub pending-at-spec : {M : Type 1} → statement M
-pending-at-spec = tie.close (tie.spec (λ c κs. search needs) (λ c κs. search needs) (λ c. cc))
+pending-at-spec = tie.close (tie.spec (λ c κs. search needs) (λ c κs. search needs) (λ c κs. search needs) (λ c. cc))

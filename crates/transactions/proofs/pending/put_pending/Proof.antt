@@ -6,4 +6,4 @@ use Rattle.transactions.proofs.pending.put_pending.Tie as tie
 
 pub put-pending-spec : {M : Type 1} → statement M
 unfolding pendingPut
-put-pending-spec = tie.close (tie.spec (λ c κs. search needs) (λ c κs. search needs) (λ c. search needs) (λ c. cc))
+put-pending-spec = tie.close (tie.spec (λ c κs. search needs) (λ c κs. search needs) (λ c κs. search needs) (λ c. search needs) (λ c. cc))

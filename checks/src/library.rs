@@ -1,7 +1,7 @@
 //! The compiled library as a `Store`: through its C interface, and through the Rust crate over it.
 
 use deskrook::c::{self, Reply};
-use deskrook::{Mask, Refusal, Row, ScanNumber, Stamp, Tail, Transaction, Version};
+use deskrook::{Keeper, Mask, Refusal, Row, ScanNumber, Stamp, Tail, Transaction, Version};
 use reference::{Answer, Call, Shape};
 
 use crate::memory::ScanEntry;
@@ -227,7 +227,7 @@ fn wrapped(
     match *call {
         Call::Begin => store.begin().map(|transaction| Answer::Number(transaction.0)),
         Call::BeginAs { keeper } => {
-            store.begin_as(keeper).map(|transaction| Answer::Number(transaction.0))
+            store.begin_as(Keeper(keeper)).map(|transaction| Answer::Number(transaction.0))
         }
         Call::Insert { transaction, ref values } => {
             store.insert(Transaction(transaction), values).map(|row| Answer::Number(row.0))
@@ -278,6 +278,6 @@ fn wrapped(
         }
         Call::KeeperAt { stamp, row, column } => store
             .keeper_at(Stamp(stamp), Row(row), column)
-            .map(|found| found.map_or(Answer::None, |keeper| Answer::Number(keeper.into()))),
+            .map(|found| found.map_or(Answer::None, |keeper| Answer::Number(keeper.0.into()))),
     }
 }

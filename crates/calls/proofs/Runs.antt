@@ -165,13 +165,13 @@ module _ (F : Interface) (ok : Faithful F) where
   -- ---- demand 2
   pub reads-so : ReadsSo F
   unfolding ReadsSo Gives Serves ReadsCommitted
-  reads-so S m₀ m m′ ps₀ ps ps′ z cs os h g ys q x t r c o m″ ps″ y w s k =
+  reads-so S m₀ m m′ ps₀ ps ps′ z cs os h g ys q x show t r c o m″ ps″ y w s k =
       let l = stored S m₀ ps₀ h g q in
       let b = ok .served s in
       let e : b .0 ≡ answerOf (storeLeft S m₀ ps₀ cs) x =
       b .1 .0 .0 ∙ ap (λ (u : List ℕ). answerOf (lend u ps′) x) (l .2) ∙ ap (λ (u : List ScanEntry). answerOf (lend (storeLeft S m₀ ps₀ cs .memory) u) x) (l .3) in
       let n : isRefused (answerOf (storeLeft S m₀ ps₀ cs) x) ≡ false = ap isRefused (sym e) ∙ not-refused (o .answer) (b .0) (b .2) k in
-      b .2 ∙ ap (F .returns) (e ∙ reads-committed S m₀ ps₀ (l .0) cs ys x t r c y w (rw n tt))
+      b .2 ∙ ap (F .returns) (e ∙ reads-committed S m₀ ps₀ (l .0) cs ys x show t r c y w (rw n tt))
 
   pub pages-so : PagesSo F
   unfolding PagesSo PagesCommitted

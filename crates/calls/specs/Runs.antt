@@ -14,8 +14,8 @@ use Rattle.terms.specs.declared.Refusal.{Refusal}
 use Rattle.words.specs.Words.{Bytes}
 use Rattle.scans.specs.Entries.{allFreed}
 use Rattle.history.specs.History.{Call, merge, Snapshot, Outcome, alone, sliceOf, lentTo, start, outcomes}
-use Rattle.history.specs.Claims.{strike, plainOutcomes, Reads, AsksMinutes, AsksScan, historyBefore, callAt}
-use Rattle.history.specs.Latest.{lastCommitted}
+use Rattle.history.specs.Claims.{strike, plainOutcomes, Shows, AsksMinutes, AsksScan, historyBefore, callAt}
+use Rattle.history.specs.Latest.{ValueAt, lastCommitted}
 use Rattle.history.specs.Lists.{All}
 use Rattle.model.specs.Calls.{Typed}
 use Rattle.model.specs.Claims.{historyAfter, PageHolds}
@@ -78,13 +78,13 @@ module _ (F : Interface) where
   MadeSo = (S : Shape) (m m′ : List ℕ) (ps ps′ : List ScanEntry) (r : F .Returned) → F .makes m ps S r m′ ps′ → MakingWithin S m m′
 
   -- ---- demand 2
-  -- a read after a run that is not refused answers the value last committed by the commits of its snapshot
+  -- a read after a run that is not refused answers the value last committed by the commits of its snapshot, and keeper at that one's keeper
   unfoldable pub ReadsSo : Type 0
   ReadsSo =
       EveryRun
       (λ S m ps cs os m′ ps′.
-      (x : Call) (t : Snapshot) (r c : ℕ) (o : Outcome (F .Returned)) (m″ : List ℕ) (ps″ : List ScanEntry) → Typed x → Reads (historyAfter S cs) x t r c → F .gives m′ ps′ x o m″ ps″
-      → F .Accepts (o .answer) → o .answer ≡ F .returns (lastCommitted (historyAfter S cs) t r c))
+      (x : Call) (show : ValueAt → Answer) (t : Snapshot) (r c : ℕ) (o : Outcome (F .Returned)) (m″ : List ℕ) (ps″ : List ScanEntry) → Typed x → Shows (historyAfter S cs) x show t r c → F .gives m′ ps′ x o m″ ps″
+      → F .Accepts (o .answer) → o .answer ≡ F .returns (lastCommitted show (historyAfter S cs) t r c))
 
   -- each current page of the memory that a run leaves holds what was committed last
   unfoldable pub PagesSo : Type 0

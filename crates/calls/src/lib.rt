@@ -69,7 +69,7 @@ fn update_values(
 }
 
 // A begin over the table, with the keeper as a word: a function of its own for the same reason.
-fn begin_kept(mem: &mut [u8], t: Scans, keeper: u16) -> Answer
+fn begin_with_keeper(mem: &mut [u8], t: Scans, keeper: u16) -> Answer
     ensures { λ r. ⌜ ServesBy t (now (mem .entry)) (Call.beginAs keeper) r (now (mem .exit)) kept ⌝ }
 {
     changes::begin_as(mem, t, keeper as u32)
@@ -115,7 +115,7 @@ pub fn begin_as(mem: &mut [u8], scans: &[ScanEntry], keeper: u16) -> Answer
     ensures { λ r. ⌜ Serves (now (mem .entry)) (now (scans .entry)) (Call.beginAs keeper) r (now (mem .exit)) (now (scans .entry)) ⌝ }
 {
     let t = table(scans);
-    begin_kept(mem, t, keeper)
+    begin_with_keeper(mem, t, keeper)
 }
 
 // A row with a value for each column; the answer is its number. Values past the column count are not looked at; where fewer are lent, the others are 0.

@@ -18,8 +18,8 @@ use Rattle.history.specs.Claims.{strike, outcomeAt, Accepts, Striking, MinutesS
 use Rattle.history.specs.Lists.{All, nil, cons}
 use Rattle.history.proofs.Lists.{both-test, le-test, all-filterb, is-true, clash}
 use Rattle.history.proofs.Striking.{striking}
-use Rattle.history.proofs.Stability.{minutes-stable, scans-stable, accepted, replies, reads-reply}
-use Rattle.history.proofs.Latest.{read-committed}
+use Rattle.history.proofs.Stability.{minutes-stable, scans-stable, accepted, replies, shows-reply}
+use Rattle.history.proofs.Latest.{shown-committed}
 use Rattle.history.proofs.Invariants.{invariants}
 use Rattle.facts.specs.Usable.{usable}
 use Rattle.making.specs.Made.{made, madeList}
@@ -157,12 +157,12 @@ module _ (S : Shape) (m : List ℕ) (ps : List ScanEntry) (a : Accepted S m ps) 
 -- ---- demand 2
 pub reads-committed : ReadsCommitted
 unfolding ReadsCommitted historyAfter
-reads-committed S m ps a cs ys x t r c y q n =
+reads-committed S m ps a cs ys x show t r c y q n =
     let h = historyAfter S cs in
     let e : answerOf (storeLeft S m ps cs) x ≡ answer S h x =
     represents-call (store-same S m ps a ys) x y .0 in
     let w : verdict (tests S h x) ≡ accept = accepted S h x (rw e at n) in
-    e ∙ replies S h x w ∙ reads-reply S h q ∙ read-committed h (invariants S cs .order) t r c
+    e ∙ replies S h x w ∙ shows-reply S h q ∙ shown-committed show h (invariants S cs .order) t r c
 
 pub pages-committed : PagesCommitted
 unfolding PagesCommitted Rattle.model.specs.Claims.PagesHold

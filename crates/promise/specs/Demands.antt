@@ -18,9 +18,9 @@ use Rattle.words.specs.Words.{Bytes}
 use Rattle.layout.specs.Sizes.{bytesNeeded}
 use Rattle.history.specs.History.{Call, openScan, Snapshot, Outcome, alone, sliceOf, lentTo, start, outcomes, run, tests, verdict, accept, scanAt}
 use Rattle.terms.specs.Refusals.{isRefused}
-use Rattle.history.specs.Claims.{strike, plainOutcomes, Reads, AsksMinutes, AsksScan, historyBefore, callAt}
+use Rattle.history.specs.Claims.{strike, plainOutcomes, Shows, AsksMinutes, AsksScan, historyBefore, callAt}
 use Rattle.history.specs.Lists.{All}
-use Rattle.history.specs.Latest.{lastCommitted}
+use Rattle.history.specs.Latest.{ValueAt, lastCommitted}
 use Rattle.making.specs.Made.{made, madeList}
 use Rattle.model.specs.Calls.{Typed}
 use Rattle.model.specs.Claims.{historyAfter, PageHolds, PageKept}
@@ -65,14 +65,13 @@ RefusedKeeps =
     → (memoryAfter (lend m ps) c ≡ m) × (listAfter (lend m ps) c ≡ ps) × (stampsLeft (lend m ps) c ≡ lentTo (sliceOf c))
 
 -- ---- demand 2
--- 11.3: a latest read, a read at and a scan read that is not
--- refused, after any calls
+-- 11.3: a latest read, a read at, a scan read or a keeper at that is not refused, after any calls
 unfoldable pub ReadsCommitted : Type 0
 ReadsCommitted =
     Every
     (λ S m ps cs.
-    (x : Call) (t : Snapshot) (r c : ℕ) → Typed x → Reads (historyAfter S cs) x t r c → T (not (isRefused (answerOf (storeLeft S m ps cs) x)))
-    → answerOf (storeLeft S m ps cs) x ≡ lastCommitted (historyAfter S cs) t r c)
+    (x : Call) (show : ValueAt → Answer) (t : Snapshot) (r c : ℕ) → Typed x → Shows (historyAfter S cs) x show t r c → T (not (isRefused (answerOf (storeLeft S m ps cs) x)))
+    → answerOf (storeLeft S m ps cs) x ≡ lastCommitted show (historyAfter S cs) t r c)
 
 -- 11.4: what current pages hold (`PageHolds`)
 unfoldable pub PagesCommitted : Type 0

@@ -37,7 +37,7 @@
 //! # Keepers
 //!
 //! A transaction has a keeper, a number of 2 bytes that tells who made it: [`Store::begin_as`] takes
-//! any, and [`Store::begin`] takes 0, unknown. Each row and tail record carries its transaction's
+//! any [`Keeper`], and [`Store::begin`] takes [`Keeper::UNKNOWN`], 0. Each row and tail record carries its transaction's
 //! keeper, and original values that of the row's insert; [`Store::keeper_at`] answers the keeper of the
 //! value that [`Store::read_at`] shows. A memory with keepers is in stored form 2. Form 1 is what was made
 //! before there were any: no call works on it, and each answers [`Refusal::Memory`].
@@ -67,6 +67,6 @@ mod numbers;
 mod refusal;
 mod store;
 
-pub use numbers::{Lineage, Mask, Row, ScanNumber, Stamp, Sum, Tail, Transaction, Version};
+pub use numbers::{Keeper, Lineage, Mask, Row, ScanNumber, Stamp, Sum, Tail, Transaction, Version};
 pub use refusal::Refusal;
 pub use store::{ScanEntry, Shape, Store, SCANS};

@@ -22,6 +22,15 @@ pub struct ScanNumber(pub u32);
 #[derive(Clone, Copy, Debug, PartialEq, Eq, PartialOrd, Ord, Hash)]
 pub struct Stamp(pub u32);
 
+/// Who makes a transaction.
+#[derive(Clone, Copy, Debug, PartialEq, Eq, PartialOrd, Ord, Hash)]
+pub struct Keeper(pub u16);
+
+impl Keeper {
+    /// The keeper of a transaction that is begun without one.
+    pub const UNKNOWN: Keeper = Keeper(0);
+}
+
 /// The columns that an update sets: bit k for column k.
 #[derive(Clone, Copy, Debug, PartialEq, Eq, Hash)]
 pub struct Mask(pub u16);

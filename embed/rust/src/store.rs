@@ -1,7 +1,9 @@
 //! The store over lent memory.
 
 use crate::c::{self, Reply};
-use crate::{Lineage, Mask, Refusal, Row, ScanNumber, Stamp, Sum, Tail, Transaction, Version};
+use crate::{
+    Keeper, Lineage, Mask, Refusal, Row, ScanNumber, Stamp, Sum, Tail, Transaction, Version,
+};
 
 /// The fewest entries of a scan list, and how many scans can be open at a time, however many entries
 /// the list has.
@@ -188,8 +190,8 @@ impl<'a> Store<'a> {
     /// # Errors
     ///
     /// [`Refusal::Number`], [`Refusal::Busy`].
-    pub fn begin_as(&mut self, keeper: u16) -> Result<Transaction, Refusal> {
-        Ok(Transaction(accepted(call!(mut self, deskrook_begin_as, keeper))?.first))
+    pub fn begin_as(&mut self, keeper: Keeper) -> Result<Transaction, Refusal> {
+        Ok(Transaction(accepted(call!(mut self, deskrook_begin_as, keeper.0))?.first))
     }
 
     /// Inserts a row with a value for each column. Where there are fewer values the rest are 0,
@@ -293,13 +295,13 @@ impl<'a> Store<'a> {
     /// update, or of the one that inserted the row where none has.
     ///
     /// ```
-    /// use deskrook::{Mask, ScanEntry, Shape, Stamp, Store, SCANS};
+    /// use deskrook::{Keeper, Mask, ScanEntry, Shape, Stamp, Store, SCANS};
     ///
     /// # fn main() -> Result<(), deskrook::Refusal> {
     /// # let shape = Shape { columns: 2, ranges: 1, capacity: 4, spares: 0 };
     /// # let (mut memory, mut scans) = (vec![0; shape.bytes_needed()?], [ScanEntry::FREE; SCANS]);
     /// # let mut store = Store::make(&mut memory, &mut scans, shape)?;
-    /// let (inserter, setter) = (3, 7);
+    /// let (inserter, setter) = (Keeper(3), Keeper(7));
     /// let transaction = store.begin_as(inserter)?;
     /// let gate = store.insert(transaction, &[1200, -30])?;
     /// store.commit(transaction, Stamp(10))?;
@@ -318,10 +320,15 @@ impl<'a> Store<'a> {
     /// # Errors
     ///
     /// As of that read: [`Refusal::Time`], [`Refusal::Row`], [`Refusal::Column`].
-    pub fn keeper_at(&self, stamp: Stamp, row: Row, column: u32) -> Result<Option<u16>, Refusal> {
+    pub fn keeper_at(
+        &self,
+        stamp: Stamp,
+        row: Row,
+        column: u32,
+    ) -> Result<Option<Keeper>, Refusal> {
         let reply = accepted(call!(ref self, deskrook_keeper_at, stamp.0, row.0, column))?;
         // No bit is lost: the library answers a remainder by 65,536, whatever the memory holds.
-        Ok((reply.result == c::OK).then_some(reply.first as u16))
+        Ok((reply.result == c::OK).then_some(Keeper(reply.first as u16)))
     }
 
     /// The value that a transaction sees, its own pending changes above the latest, or none. The

@@ -2,17 +2,18 @@
 //! that has the keepers, without which no call works.
 
 use deskrook::{
-    c, Mask, Refusal, Row, ScanEntry, ScanNumber, Shape, Stamp, Store, Tail, Transaction, SCANS,
+    c, Keeper, Mask, Refusal, Row, ScanEntry, ScanNumber, Shape, Stamp, Store, Tail, Transaction,
+    SCANS,
 };
 
 const SHAPE: Shape = Shape { columns: 2, ranges: 1, capacity: 16, spares: 8 };
 const GATE: Row = Row(0);
 /// The keepers of the gate's insert and of its settings.
-const INSERTER: u16 = 3;
-const SETTER: u16 = 7;
-const OTHER: u16 = 65_535;
+const INSERTER: Keeper = Keeper(3);
+const SETTER: Keeper = Keeper(7);
+const OTHER: Keeper = Keeper(65_535);
 /// What `begin` takes.
-const UNKNOWN: u16 = 0;
+const UNKNOWN: Keeper = Keeper::UNKNOWN;
 
 /// Runs a test on a new store.
 fn with_store(test: impl FnOnce(Store)) {
@@ -30,7 +31,7 @@ fn with_gate(test: impl FnOnce(Store)) {
 }
 
 /// Inserts a row by a keeper's commit at a stamp.
-fn insert(store: &mut Store, keeper: u16, stamp: u32) -> Row {
+fn insert(store: &mut Store, keeper: Keeper, stamp: u32) -> Row {
     let transaction = store.begin_as(keeper).unwrap();
     let row = store.insert(transaction, &[1200]).unwrap();
     store.commit(transaction, Stamp(stamp)).unwrap();
@@ -38,7 +39,7 @@ fn insert(store: &mut Store, keeper: u16, stamp: u32) -> Row {
 }
 
 /// Sets one column of the gate by a keeper's commit at a stamp, and answers the setting's record.
-fn set(store: &mut Store, keeper: u16, column: u32, stamp: u32) -> Tail {
+fn set(store: &mut Store, keeper: Keeper, column: u32, stamp: u32) -> Tail {
     let transaction = store.begin_as(keeper).unwrap();
     let record = store.update(transaction, GATE, Mask::of(&[column]), &[1250, -30]).unwrap();
     store.commit(transaction, Stamp(stamp)).unwrap();
@@ -46,7 +47,7 @@ fn set(store: &mut Store, keeper: u16, column: u32, stamp: u32) -> Tail {
 }
 
 /// Sets both columns of the gate by a keeper's transaction that is aborted.
-fn set_in_vain(store: &mut Store, keeper: u16) -> Tail {
+fn set_in_vain(store: &mut Store, keeper: Keeper) -> Tail {
     let transaction = store.begin_as(keeper).unwrap();
     let record = store.update(transaction, GATE, Mask(3), &[1, 2]).unwrap();
     store.abort(transaction).unwrap();
@@ -54,7 +55,7 @@ fn set_in_vain(store: &mut Store, keeper: u16) -> Tail {
 }
 
 /// The keeper of a gate's column at a stamp.
-fn keeper(store: &Store, column: u32, stamp: u32) -> Result<Option<u16>, Refusal> {
+fn keeper(store: &Store, column: u32, stamp: u32) -> Result<Option<Keeper>, Refusal> {
     store.keeper_at(Stamp(stamp), GATE, column)
 }
 
@@ -156,7 +157,7 @@ fn merges_releases_and_scans_alter_nothing() {
         let second = set(&mut store, OTHER, 0, 30);
         let late = store.open_scan(Stamp(30)).unwrap();
         // Another row's later setting, so that the last page's newest stamp is not the gate's.
-        let transaction = store.begin_as(9).unwrap();
+        let transaction = store.begin_as(Keeper(9)).unwrap();
         let other = store.insert(transaction, &[7]).unwrap();
         let last = store.update(transaction, other, Mask(1), &[8]).unwrap();
         store.commit(transaction, Stamp(40)).unwrap();
@@ -165,8 +166,8 @@ fn merges_releases_and_scans_alter_nothing() {
                 assert_eq!(keeper(store, 0, stamp), Ok(Some(expected)));
                 assert_eq!(keeper(store, 1, stamp), Ok(Some(INSERTER)));
             }
-            assert_eq!(store.keeper_at(Stamp(40), other, 0), Ok(Some(9)));
-            assert_eq!(store.keeper_at(Stamp(40), other, 1), Ok(Some(9)));
+            assert_eq!(store.keeper_at(Stamp(40), other, 0), Ok(Some(Keeper(9))));
+            assert_eq!(store.keeper_at(Stamp(40), other, 1), Ok(Some(Keeper(9))));
             assert_eq!(store.keeper_at(Stamp(39), other, 0), Ok(None));
         };
         unchanged(&store);
@@ -273,15 +274,15 @@ fn begin_as_0_is_begin() {
         assert_eq!(begin(&mut store), Ok(Transaction(2)));
         memory
     };
-    assert_eq!(bytes(|store| store.begin_as(0)), bytes(|store| store.begin()));
-    assert_ne!(bytes(|store| store.begin_as(1)), bytes(|store| store.begin()));
+    assert_eq!(bytes(|store| store.begin_as(Keeper(0))), bytes(|store| store.begin()));
+    assert_ne!(bytes(|store| store.begin_as(Keeper(1))), bytes(|store| store.begin()));
 }
 
 /// With all eight open, each has its own keeper, in whatever order they write and end.
 #[test]
 fn each_open_transaction_has_its_own() {
     with_store(|mut store| {
-        let keepers = [5, 0, 65_535, 1, 256, 5, 32_768, 2];
+        let keepers = [5, 0, 65_535, 1, 256, 5, 32_768, 2].map(Keeper);
         let begun = keepers.map(|keeper| store.begin_as(keeper).unwrap());
         let mut rows = Vec::new();
         for place in [3, 7, 0, 5, 1, 6, 2, 4] {
@@ -320,12 +321,14 @@ fn several_settings_by_one_transaction() {
 #[test]
 fn every_number_of_two_bytes_is_a_keeper() {
     with_gate(|mut store| {
-        for (stamp, number) in (20..).zip([0, 1, 255, 256, 32_767, 32_768, 65_534, 65_535]) {
+        for (stamp, number) in
+            (20..).zip([0, 1, 255, 256, 32_767, 32_768, 65_534, 65_535].map(Keeper))
+        {
             set(&mut store, number, 0, stamp);
             assert_eq!(keeper(&store, 0, stamp), Ok(Some(number)));
         }
-        let row = insert(&mut store, 65_535, 40);
-        assert_eq!(store.keeper_at(Stamp(40), row, 0), Ok(Some(65_535)));
+        let row = insert(&mut store, OTHER, 40);
+        assert_eq!(store.keeper_at(Stamp(40), row, 0), Ok(Some(OTHER)));
     });
 }
 
@@ -396,7 +399,7 @@ fn any_word_is_a_keepers() {
             put(&mut memory, place, word);
             let store = Store::lent(&mut memory, &mut scans);
             assert_eq!(store.check(), Ok(()));
-            assert_eq!(keeper(&store, at, 20), Ok(Some(expected)));
+            assert_eq!(keeper(&store, at, 20), Ok(Some(Keeper(expected))));
             assert_eq!(answered(&memory, &scans, at), u32::from(expected));
         }
     }

@@ -1,7 +1,8 @@
 //! Each refusal, met through the crate, and that it changes no byte.
 
 use deskrook::{
-    Mask, Refusal, Row, ScanEntry, ScanNumber, Shape, Stamp, Store, Tail, Transaction, SCANS,
+    Keeper, Mask, Refusal, Row, ScanEntry, ScanNumber, Shape, Stamp, Store, Tail, Transaction,
+    SCANS,
 };
 
 const SHAPE: Shape = Shape { columns: 2, ranges: 1, capacity: 4, spares: 1 };
@@ -161,7 +162,7 @@ fn open_ones_and_numbers() {
         assert_eq!(lent.store().begin(), Ok(Transaction(number)));
     }
     lent.refuses(Refusal::Busy, |store| store.begin());
-    lent.refuses(Refusal::Busy, |store| store.begin_as(7));
+    lent.refuses(Refusal::Busy, |store| store.begin_as(Keeper(7)));
     for number in 1..=5 {
         assert_eq!(lent.store().open_scan(Stamp(0)), Ok(ScanNumber(number)));
     }
@@ -173,7 +174,7 @@ fn open_ones_and_numbers() {
         store.abort(Transaction(number)).unwrap();
     }
     lent.refuses(Refusal::Number, |store| store.begin());
-    lent.refuses(Refusal::Number, |store| store.begin_as(7));
+    lent.refuses(Refusal::Number, |store| store.begin_as(Keeper(7)));
 }
 
 /// Five entries serve and four do not. Open scans count, in whatever entries they stand: a list with

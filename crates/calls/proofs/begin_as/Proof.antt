@@ -6,9 +6,9 @@ use Rattle.history.specs.History.{Call}
 use Rattle.lent.proofs.Slices.{writes}
 use Rattle.lent.proofs.Written.{world}
 use Rattle.lent.proofs.Further.{value}
-use Rattle.calls.proofs.begin_kept.Symbol as core
-use Rattle.calls.proofs.begin_kept.Met as core-thm
-use Rattle.calls.proofs.begin_kept.Reads as core-reads
+use Rattle.calls.proofs.begin_with_keeper.Symbol as core
+use Rattle.calls.proofs.begin_with_keeper.Met as core-thm
+use Rattle.calls.proofs.begin_with_keeper.Reads as core-reads
 use Rattle.calls.proofs.Types.{u16}
 use Rattle.calls.proofs.Served.{served}
 use Rattle.calls.proofs.begin_as.Key as key
@@ -20,4 +20,4 @@ unfolding code.routine tablesOf
 begin-as-spec 𝓤 H 𝓜 𝓖 𝓡 =
     let w : World = world 𝓤 H 𝓜 𝓖 𝓡 in
     served writes 0 (value u16 ∷ []) (λ (x, _). Call.beginAs x) w code.env key.name core.name (code.unfolded 𝓤 H 𝓜 𝓡) code.calls-lent·table
-    (core-reads.known w code.env core.name core.routine code.calls-calls·begin-kept (core-thm.met 𝓤 H 𝓜 𝓖 𝓡))
+    (core-reads.known w code.env core.name core.routine code.calls-calls·begin-with-keeper (core-thm.met 𝓤 H 𝓜 𝓖 𝓡))

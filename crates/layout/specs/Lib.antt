@@ -2,6 +2,7 @@
 pub mod Cut
 pub mod Codes
 pub mod Regions
+pub mod Starts
 pub mod View
 pub mod Sizes
 pub mod Parts

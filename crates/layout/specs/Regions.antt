@@ -1,5 +1,5 @@
 -- The table of regions: the number, the length and the order of each, and what follows of it: where each starts, and the words needed.
--- A new region is a line at the end of each of `index`, `lens` and `all`, a case of the code's `Region` and a line of its `start` and `words_needed` (src/lib.rt).
+-- A new region is a line at the end of each of `index`, `lens` and `all`, a case of the code's `Region`, a line of its table `lies_before` and `words_needed` (src/lib.rt), of `beforeOf` (Starts) and of its proof.
 use Prim.Native.Nat.{ℕ, _+_, _*_, _-_, _/_, _%_}
 use mathlib.Core.List.{List, [], _∷_}
 use lib.ListN.{getD}

@@ -17,6 +17,7 @@ ghost use Prim.Native.Nat.{_+_, _*_, _^_, _≤_, _<_};
 ghost use Rattle.terms.specs.Measures.{withinLimits, mostRanges, mostRecords};
 ghost use Rattle.layout.specs.Cut.{startFrom, endFrom};
 ghost use Rattle.layout.specs.Regions.{index, lens, base, need};
+ghost use Rattle.layout.specs.Starts.{behind, beforeOf};
 ghost use Rattle.layout.specs.Sizes.{shapeOf, sizesOf, BytesAnswered};
 
 // The regions in the order in which they lie. A new one comes last, so that the others stay where they are.
@@ -99,6 +100,12 @@ pub const FORM: u32 = 2;
 // Where the rows' regions begin, in every shape.
 const ROWS_FROM: usize = HEADER_WORDS + MOST_TRANSACTIONS;
 
+// The words that no size counts before the ordinals and the keepers: those, and the changes noted.
+const ORDINALS_FROM: usize = ROWS_FROM + MOST_TRANSACTIONS;
+
+// The words of a page, its six fields and its cells.
+const PAGE_WORDS: usize = 6 + RANGE_ROWS;
+
 // A shape, and the lengths that its regions are made of. The products are fields, so that each region starts at a linear sum of them.
 pub struct Sizes {
     pub columns: usize,
@@ -154,73 +161,92 @@ pub fn sizes_of(columns: u32, ranges: u32, capacity: u32, spares: u32) -> Sizes
     }
 }
 
-// The word at which a region starts. Its contract is written with the sums, since each arm is one; `base` says it for callers.
+// What lies before a region: so many words, and so many times each length that regions are made of.
+pub struct Before {
+    pub words: usize,
+    pub rows: usize,
+    pub slots: usize,
+    pub values: usize,
+    pub ranges: usize,
+    pub chunks: usize,
+    pub pages: usize,
+}
+
+// A region that lies behind so many words and lengths.
+fn behind(
+    words: usize,
+    rows: usize,
+    slots: usize,
+    values: usize,
+    ranges: usize,
+    chunks: usize,
+    pages: usize,
+) -> Before
+    ensures { λ r. ⌜ r ≡ behind words rows slots values ranges chunks pages ⌝ }
+{
+    Before {
+        words,
+        rows,
+        slots,
+        values,
+        ranges,
+        chunks,
+        pages,
+    }
+}
+
+// The table of the regions, as numbers alone. A sum written out for each region says the same, but 30 of them are more than the compiler inlines, and every access
+// to a word would then be a call; one sum over numbers is inlined, and is a constant's sum where the region is named.
+fn lies_before(k: Region) -> Before
+    ensures { λ r. ⌜ r ≡ beforeOf k ⌝ }
+{
+    match k {
+        Region::Header => behind(0, 0, 0, 0, 0, 0, 0),
+        Region::Opens => behind(HEADER_WORDS, 0, 0, 0, 0, 0, 0),
+        Region::RowTransaction => behind(ROWS_FROM, 0, 0, 0, 0, 0, 0),
+        Region::RowState => behind(ROWS_FROM, 1, 0, 0, 0, 0, 0),
+        Region::RowStamp => behind(ROWS_FROM, 2, 0, 0, 0, 0, 0),
+        Region::RowLink => behind(ROWS_FROM, 3, 0, 0, 0, 0, 0),
+        Region::RowMask => behind(ROWS_FROM, 4, 0, 0, 0, 0, 0),
+        Region::TailTransaction => behind(ROWS_FROM, 5, 0, 0, 0, 0, 0),
+        Region::TailRow => behind(ROWS_FROM, 5, 1, 0, 0, 0, 0),
+        Region::TailKind => behind(ROWS_FROM, 5, 2, 0, 0, 0, 0),
+        Region::TailMask => behind(ROWS_FROM, 5, 3, 0, 0, 0, 0),
+        Region::TailLink => behind(ROWS_FROM, 5, 4, 0, 0, 0, 0),
+        Region::TailState => behind(ROWS_FROM, 5, 5, 0, 0, 0, 0),
+        Region::TailStamp => behind(ROWS_FROM, 5, 6, 0, 0, 0, 0),
+        Region::TailValues => behind(ROWS_FROM, 5, 7, 0, 0, 0, 0),
+        Region::Used => behind(ROWS_FROM, 5, 7, 1, 0, 0, 0),
+        Region::Current => behind(ROWS_FROM, 5, 7, 1, 1, 0, 0),
+        Region::PageState => behind(ROWS_FROM, 5, 7, 1, 1, 1, 0),
+        Region::PageChunk => behind(ROWS_FROM, 5, 7, 1, 1, 1, 1),
+        Region::PageMade => behind(ROWS_FROM, 5, 7, 1, 1, 1, 2),
+        Region::PageReplaced => behind(ROWS_FROM, 5, 7, 1, 1, 1, 3),
+        Region::PageLineage => behind(ROWS_FROM, 5, 7, 1, 1, 1, 4),
+        Region::PageNewest => behind(ROWS_FROM, 5, 7, 1, 1, 1, 5),
+        Region::Cells => behind(ROWS_FROM, 5, 7, 1, 1, 1, 6),
+        Region::Changes => behind(ROWS_FROM, 5, 7, 1, 1, 1, PAGE_WORDS),
+        Region::RowOrdinal => behind(ORDINALS_FROM, 5, 7, 1, 1, 1, PAGE_WORDS),
+        Region::TailOrdinal => behind(ORDINALS_FROM, 6, 7, 1, 1, 1, PAGE_WORDS),
+        Region::RowKeeper => behind(ORDINALS_FROM, 6, 8, 1, 1, 1, PAGE_WORDS),
+        Region::TailKeeper => behind(ORDINALS_FROM, 7, 8, 1, 1, 1, PAGE_WORDS),
+        Region::OpenKeeper => behind(ORDINALS_FROM, 7, 9, 1, 1, 1, PAGE_WORDS),
+    }
+}
+
+// The word at which a region starts. Its contract is written with the sums; `base` says it for callers.
 fn start(s: Sizes, k: Region) -> usize
     requires { ⌜ endFrom 0 (lens s) < 2 ^ 62 ⌝ }
     ensures { λ r. ⌜ r ≡ startFrom 0 (lens s) (index k) ⌝ }
 {
-    let rows = s.rows;
-    let slots = s.slots;
-    let pages = s.pages;
-    let row = ROWS_FROM;
-    let row_state = row + rows;
-    let row_stamp = row_state + rows;
-    let row_link = row_stamp + rows;
-    let row_mask = row_link + rows;
-    let tail = row_mask + rows;
-    let tail_row = tail + slots;
-    let tail_kind = tail_row + slots;
-    let tail_mask = tail_kind + slots;
-    let tail_link = tail_mask + slots;
-    let tail_state = tail_link + slots;
-    let tail_stamp = tail_state + slots;
-    let values = tail_stamp + slots;
-    let used = values + s.values;
-    let current = used + s.ranges;
-    let page = current + s.chunks;
-    let page_chunk = page + pages;
-    let page_made = page_chunk + pages;
-    let page_replaced = page_made + pages;
-    let page_lineage = page_replaced + pages;
-    let page_newest = page_lineage + pages;
-    let cells = page_newest + pages;
-    let changes = cells + pages * RANGE_ROWS;
-    let row_ordinal = changes + MOST_TRANSACTIONS;
-    let tail_ordinal = row_ordinal + rows;
-    let row_keeper = tail_ordinal + slots;
-    let tail_keeper = row_keeper + rows;
-    match k {
-        Region::Header => 0,
-        Region::Opens => HEADER_WORDS,
-        Region::RowTransaction => row,
-        Region::RowState => row_state,
-        Region::RowStamp => row_stamp,
-        Region::RowLink => row_link,
-        Region::RowMask => row_mask,
-        Region::TailTransaction => tail,
-        Region::TailRow => tail_row,
-        Region::TailKind => tail_kind,
-        Region::TailMask => tail_mask,
-        Region::TailLink => tail_link,
-        Region::TailState => tail_state,
-        Region::TailStamp => tail_stamp,
-        Region::TailValues => values,
-        Region::Used => used,
-        Region::Current => current,
-        Region::PageState => page,
-        Region::PageChunk => page_chunk,
-        Region::PageMade => page_made,
-        Region::PageReplaced => page_replaced,
-        Region::PageLineage => page_lineage,
-        Region::PageNewest => page_newest,
-        Region::Cells => cells,
-        Region::Changes => changes,
-        Region::RowOrdinal => row_ordinal,
-        Region::TailOrdinal => tail_ordinal,
-        Region::RowKeeper => row_keeper,
-        Region::TailKeeper => tail_keeper,
-        Region::OpenKeeper => tail_keeper + slots,
-    }
+    let b = lies_before(k);
+    b.words
+        + b.rows * s.rows
+        + b.slots * s.slots
+        + b.values * s.values
+        + b.ranges * s.ranges
+        + b.chunks * s.chunks
+        + b.pages * s.pages
 }
 
 // The word at which a region starts.

@@ -1,5 +1,5 @@
 -- The code's table of what lies before each region sums to where the region starts, and thus to no more than the words needed.
-use Prim.Native.Nat.{ℕ, _≤_}
+use Prim.Native.Nat.{_≤_}
 use mathlib.Core.Path.{_≡_, sym, _∙_, ap}
 use native.Mathlib.Omega.{arith}
 use Rattle.layout.specs.declared.Sizes.{Sizes}

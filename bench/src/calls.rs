@@ -1,9 +1,10 @@
-//! Each call at a shape, empty, half and full; update, delete and merge with eight transactions open;
+//! Each call at a shape, empty, half and full, the two moves too; update, delete and merge with eight
+//! transactions open;
 //! a scan opened, read by and closed where all others are open; and a commit in the minute of the last,
 //! and a read by a scan in whose minute such a commit came after it.
 
 use checks::memory::{OPENS, SCANS};
-use reference::{text, Call, Shape};
+use reference::{text, Call, Form, Shape};
 
 use crate::filled::{keeper, Filled};
 use crate::report::{ns, Report};
@@ -11,10 +12,17 @@ use crate::{named, time, Named, PLACES};
 
 const FILLINGS: [(&str, u32); 3] = [("empty", 0), ("half", 50), ("full", 100)];
 
-/// A call that is timed, by its byte, how many transactions and scans are open, and whether there are
-/// several commits in the last minute.
+/// A call by its command byte, or a move, which has none, by the form that it leads to.
+#[derive(Clone, Copy)]
+enum Which {
+    Command(u8),
+    MoveTo(Form),
+}
+
+/// A call that is timed, how many transactions and scans are open, and whether there are several commits
+/// in the last minute.
 struct Timed {
-    byte: u8,
+    which: Which,
     transactions: usize,
     scans: usize,
     one_minute: bool,
@@ -24,13 +32,16 @@ struct Timed {
 /// of them; where as many scans are open as can be, those that look for a scan, or for a place; and
 /// with several commits in one minute the one that makes them, and a read that tells them apart.
 fn timed() -> impl Iterator<Item = Timed> {
-    let alone = |byte| Timed { byte, transactions: 1, scans: 1, one_minute: false };
+    let timed = |which| Timed { which, transactions: 1, scans: 1, one_minute: false };
+    let alone = move |byte| timed(Which::Command(byte));
     let names = 1..=text::NAMES.len() as u8;
+    let moves = [Form::Newest, Form::First];
     let transactions = [0x03, 0x04, 0x0E];
     let scans = [(0x0A, SCANS - 1), (0x0B, SCANS), (0x0D, SCANS)];
     let one_minute = [0x05, 0x0B];
     names
         .map(alone)
+        .chain(moves.map(move |form| timed(Which::MoveTo(form))))
         .chain(transactions.map(move |byte| Timed { transactions: OPENS, ..alone(byte) }))
         .chain(scans.map(move |(byte, scans)| Timed { scans, ..alone(byte) }))
         .chain(one_minute.map(move |byte| Timed { one_minute: true, ..alone(byte) }))
@@ -38,7 +49,11 @@ fn timed() -> impl Iterator<Item = Timed> {
 
 impl Timed {
     fn name(&self) -> String {
-        let name = text::NAMES[usize::from(self.byte) - 1];
+        let name = match self.which {
+            Which::Command(byte) => text::NAMES[usize::from(byte) - 1],
+            Which::MoveTo(Form::Newest) => "upgrade",
+            Which::MoveTo(Form::First) => "downgrade",
+        };
         match (self.transactions, self.scans) {
             _ if self.one_minute => format!("{name}, 1 minute"),
             (1, 1) => name.to_string(),
@@ -55,7 +70,7 @@ pub struct Ratios {
 }
 
 pub fn measure(stores: &[Named], shape: Shape, report: &mut Report) -> Ratios {
-    report.heading(&format!("Each call at shape {}", named(&shape)), "Nanoseconds of a call, and how many times the plain store's they are. Empty is one row with one setting; full leaves room for one row and one record. With eight open the seven other transactions have set rows of their own where there is room. With scans open the one that is read by or closed is the last in the list. In one minute: a commit at the last commit's stamp; and a read of a row that such a commit has set since its scan was opened. Crossings are those of the row that latest reads, in all minutes, by the greatest of its values. Begin-as is begin with a keeper, and keeper-at is asked for the row and the minute that read-at reads.");
+    report.heading(&format!("Each call at shape {}", named(&shape)), "Nanoseconds of a call, and how many times the plain store's they are. Empty is one row with one setting; full leaves room for one row and one record. With eight open the seven other transactions have set rows of their own where there is room. With scans open the one that is read by or closed is the last in the list. In one minute: a commit at the last commit's stamp; and a read of a row that such a commit has set since its scan was opened. Crossings are those of the row that latest reads, in all minutes, by the greatest of its values. Begin-as is begin with a keeper, and keeper-at is asked for the row and the minute that read-at reads. Upgrade and downgrade move the store with no keeper but 0 into a second memory, to the newest form and back to form 1.");
     let mut heads = vec!["call".to_string()];
     for (filling, _) in FILLINGS {
         heads.push(format!("{filling}: {}", stores[0].0));
@@ -104,7 +119,15 @@ fn prepared(shape: Shape, percent: u32, timed: &Timed) -> (Filled, Call) {
     let (row, column) = (filled.rows / 2, 0);
     let values = vec![1; filled.shape.columns as usize];
     let merge = Call::Merge { range: 0, column, through: filled.settled };
-    let call = match timed.byte {
+    let byte = match timed.which {
+        Which::Command(byte) => byte,
+        Which::MoveTo(form) => {
+            let (filled, call) = filled.before_move(form);
+            filled.clone().moved(&call);
+            return (filled, call);
+        }
+    };
+    let call = match byte {
         0x01 => Call::Begin,
         0x02 => Call::Insert { transaction, values },
         0x03 => Call::Update { transaction, row: 0, mask: 1, values },

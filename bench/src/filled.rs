@@ -1,9 +1,9 @@
 //! Stores of a shape, filled to a share of their rows and tail records.
 
-use checks::memory::{Layout, ScanEntry, ROWS, SCANS};
+use checks::memory::{Layout, Region, ScanEntry, ROWS, SCANS, WORD};
 use checks::plain::Plain;
-use checks::Store;
-use reference::{Answer, Call, Shape};
+use checks::{moves, Store};
+use reference::{Answer, Call, Form, Shape};
 
 /// A value that a row and column got at a stamp, by the commit of an ordinal.
 #[derive(Clone)]
@@ -48,6 +48,11 @@ pub fn places(call: &Call) -> usize {
         Call::Crossings { places, .. } => *places as usize,
         _ => 0,
     }
+}
+
+/// The bytes of the second memory that a call is lent: as many as a move needs, and none for other calls.
+pub fn second_bytes(memory: &[u8], call: &Call) -> usize {
+    moves::need(memory, call).unwrap_or(0)
 }
 
 /// The keeper of the transaction that makes the commit of an ordinal: three take turns, and none is
@@ -166,6 +171,25 @@ impl Filled {
         if self.used(0) + 3 <= self.shape.capacity {
             self.number(&Call::Update { transaction, row, mask: 1, values });
         }
+    }
+
+    /// The store with no keeper but 0, in the form from which a move leads to this one, and that move.
+    pub fn before_move(mut self, form: Form) -> (Filled, Call) {
+        // The words of keepers are the last.
+        let keepers = Layout::of(&self.shape).base(Region::RowKeeper) * WORD;
+        self.memory[keepers..].fill(0);
+        match form {
+            Form::First => (self, Call::Downgrade),
+            Form::Newest => (self.moved(&Call::Downgrade), Call::Upgrade),
+        }
+    }
+
+    /// The store after a move: it is in the second memory.
+    pub fn moved(mut self, call: &Call) -> Filled {
+        let mut second = vec![0; second_bytes(&self.memory, call)];
+        let answer = Plain::<0>.move_with(&mut self.memory, &mut self.scans, &mut second, call);
+        assert_eq!(answer, Answer::Done, "{call:?}");
+        Filled { memory: second, ..self }
     }
 
     pub fn call(&mut self, call: &Call) -> Answer {

@@ -1,6 +1,6 @@
-//! The benchmark. Each call at four shapes and three fillings, the bound tests of the stored facts
-//! beside a plain read, how the cost grows with what is used, crossings of a row with as many records
-//! as can be, and SQLite holding the same versions.
+//! The benchmark. Each call and each move at four shapes and three fillings, the bound tests of the stored
+//! facts beside a plain read, how the cost grows with what is used, crossings of a row with as many
+//! records as can be, and SQLite holding the same versions.
 //! The plain page store is the measure; with the feature `library` the compiled library stands beside
 //! it, with the ratio. Everything is measured in one run and printed; `write FOLDER` also writes the
 //! tables and a plot.

@@ -7,7 +7,7 @@ use std::hint::black_box;
 use std::ptr::null_mut;
 use std::time::Instant;
 
-use reference::{Answer, Call};
+use reference::{Answer, Call, Form};
 
 use crate::filled::{keeper, Filled, Version, SET};
 use crate::plot::Beside;
@@ -66,6 +66,31 @@ const CROSSINGS: &str = "SELECT stamp FROM (SELECT stamp,
     FROM versions WHERE col = ?1 AND row = ?2 AND stamp <= ?4
     AND stamp >= ifnull((SELECT max(stamp) FROM versions WHERE col = ?1 AND row = ?2 AND stamp < ?3), 0))
     WHERE crossed AND stamp >= ?3 ORDER BY stamp";
+
+/// What a move is in SQLite: the versions as they were before there were keepers, a table of those with
+/// keepers in a second database, into which each version is copied with keeper 0, and a table to copy them
+/// back into after a look for another keeper. The quicker way, ALTER TABLE .. ADD COLUMN, copies nothing,
+/// so that there is no second table and the first is gone; it is not compared.
+const MOVED: [&str; 4] = [
+    "ATTACH ':memory:' AS second",
+    "CREATE TABLE fitted (col INTEGER, row INTEGER, stamp INTEGER, ordinal INTEGER, value INTEGER,
+        PRIMARY KEY (col, row, stamp, ordinal)) WITHOUT ROWID",
+    "CREATE TABLE second.moved (col INTEGER, row INTEGER, stamp INTEGER, ordinal INTEGER,
+        value INTEGER, keeper INTEGER, PRIMARY KEY (col, row, stamp, ordinal)) WITHOUT ROWID",
+    "CREATE TABLE returned (col INTEGER, row INTEGER, stamp INTEGER, ordinal INTEGER, value INTEGER,
+        PRIMARY KEY (col, row, stamp, ordinal)) WITHOUT ROWID",
+];
+const FIT: &str = "INSERT INTO fitted SELECT col, row, stamp, ordinal, value FROM versions";
+const UPGRADE: &str =
+    "INSERT INTO second.moved SELECT col, row, stamp, ordinal, value, 0 FROM fitted";
+const ANY_KEEPER: &str = "SELECT 1 FROM second.moved WHERE keeper <> 0 LIMIT 1";
+const DOWNGRADE: &str =
+    "INSERT INTO returned SELECT col, row, stamp, ordinal, value FROM second.moved";
+/// How many versions of one table are not in the other, or not alike.
+const UNLIKE: &str = "SELECT (SELECT count(*) FROM fitted) - (SELECT count(*) FROM returned)
+    + (SELECT count(*) FROM (SELECT * FROM fitted EXCEPT SELECT * FROM returned))";
+const MOVED_LATEST: &str = "SELECT value, stamp FROM second.moved WHERE col = ? AND row = ?
+    ORDER BY stamp DESC, ordinal DESC LIMIT 1";
 
 struct Database(*mut c_void);
 
@@ -266,7 +291,7 @@ fn kept_by(found: Option<(i64, i64)>) -> Answer {
 pub fn measure(stores: &[Named], report: &mut Report) -> Vec<Beside> {
     // SAFETY: the text that SQLite gives ends with 0 and stays.
     let version = unsafe { CStr::from_ptr(sqlite3_libversion()) }.to_string_lossy();
-    let note = format!("SQLite {version}, in memory, the same versions in one table with the key (column, row, stamp, ordinal), statements prepared: nanoseconds, and how many times the store's they are. Update and commit is begin, update, commit; update by a keeper is begin as, update, commit; SQLite's is BEGIN, INSERT, COMMIT, with the keeper in the version, unknown or known. Crossings are those of one row in all minutes; SQLite gives its versions in their order, and they are compared here.");
+    let note = format!("SQLite {version}, in memory, the same versions in one table with the key (column, row, stamp, ordinal), statements prepared: nanoseconds, and how many times the store's they are. Update and commit is begin, update, commit; update by a keeper is begin as, update, commit; SQLite's is BEGIN, INSERT, COMMIT, with the keeper in the version, unknown or known. Crossings are those of one row in all minutes; SQLite gives its versions in their order, and they are compared here. Upgrade and downgrade are the moves into a second memory; SQLite copies the versions from a table without keepers to one with keeper 0 in a second database, and back after a look for another keeper.");
     report.heading("Beside SQLite", &note);
     let mut heads = vec!["full".to_string(), "SQLite".to_string()];
     for (name, _) in stores {
@@ -275,9 +300,12 @@ pub fn measure(stores: &[Named], report: &mut Report) -> Vec<Beside> {
     let (mut rows, mut beside) = (Vec::new(), Vec::new());
     for shape in [PROGRAM, LARGEST] {
         let filled = Filled::new(shape, 100);
-        for (name, sqlite, calls) in kinds(&filled) {
+        let kinds = kinds(&filled).into_iter().map(|kind| (kind, None));
+        let moves = moves(&filled).into_iter().map(|(kind, moved)| (kind, Some(moved)));
+        for ((name, sqlite, calls), own) in kinds.chain(moves) {
             let calls: Vec<&Call> = calls.iter().collect();
-            let times = time::rounds(stores, |store| time::calls(store, &filled, &calls));
+            let filled = own.as_ref().unwrap_or(&filled);
+            let times = time::rounds(stores, |store| time::calls(store, filled, &calls));
             let name = format!("{name}, {}", named(&shape));
             let mut row = vec![name.clone(), ns(sqlite)];
             let mut of_each = vec![("SQLite", sqlite)];
@@ -294,7 +322,48 @@ pub fn measure(stores: &[Named], report: &mut Report) -> Vec<Beside> {
 }
 
 /// What is compared: a name, SQLite's time, and the store's calls.
-fn kinds(filled: &Filled) -> Vec<(&'static str, f64, Vec<Call>)> {
+type Kind = (&'static str, f64, Vec<Call>);
+
+/// The moves, each with the store that it is made on.
+fn moves(filled: &Filled) -> Vec<(Kind, Filled)> {
+    let database = Database::with(&filled.versions);
+    for text in MOVED {
+        database.prepare(text).run(&[]);
+    }
+    database.prepare(FIT).run(&[]);
+    let (upgrade, downgrade) = (database.prepare(UPGRADE), database.prepare(DOWNGRADE));
+    let any_keeper = database.prepare(ANY_KEEPER);
+    let (forget, forget_back) =
+        (database.prepare("DELETE FROM second.moved"), database.prepare("DELETE FROM returned"));
+
+    let there = time::least(|| {
+        forget.run(&[]);
+        let start = Instant::now();
+        upgrade.run(&[]);
+        start.elapsed().as_nanos() as f64
+    });
+    let back = time::least(|| {
+        forget_back.run(&[]);
+        let start = Instant::now();
+        assert_eq!(any_keeper.run(&[]), None);
+        downgrade.run(&[]);
+        start.elapsed().as_nanos() as f64
+    });
+    // What was moved reads as the moved store does, and what was moved back is what was there.
+    let (row, column) = (filled.rows / 2, 0);
+    let (first, call) = filled.clone().before_move(Form::Newest);
+    let mut newest = first.clone().moved(&call);
+    let latest = database.prepare(MOVED_LATEST).run(&[i64::from(column), row.into()]);
+    assert_eq!(newest.call(&Call::Latest { row, column }), version(latest));
+    assert_eq!(database.prepare(UNLIKE).run(&[]), Some((0, 0)));
+    vec![
+        (("upgrade", there, vec![call]), first),
+        (("downgrade", back, vec![Call::Downgrade]), newest),
+    ]
+}
+
+/// The calls.
+fn kinds(filled: &Filled) -> Vec<Kind> {
     let database = Database::with(&filled.versions);
     let (begin, commit) = (database.prepare("BEGIN"), database.prepare("COMMIT"));
     let (insert, delete) = (database.prepare(INSERT), database.prepare(DELETE));

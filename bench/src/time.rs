@@ -1,6 +1,6 @@
 //! The time of calls. Calls that write are undone after each time, so that every repetition meets
 //! the same bytes; only the blocks that they changed are put back, so that the rest stays in the
-//! processor's cache as it was.
+//! processor's cache as it was. A move writes the second memory alone, each time the same.
 
 use std::hint::black_box;
 use std::sync::atomic::{AtomicUsize, Ordering};
@@ -9,7 +9,7 @@ use std::time::{Duration, Instant};
 use checks::Store;
 use reference::Call;
 
-use crate::filled::{places, Filled};
+use crate::filled::{places, second_bytes, Filled};
 use crate::Named;
 
 /// Rounds in which the stores are timed in turn, so that a busy stretch of the machine meets all.
@@ -58,8 +58,15 @@ pub fn calls(store: &dyn Store, filled: &Filled, calls: &[&Call]) -> f64 {
     memory.copy_from_slice(&filled.memory);
     let mut bytes = filled.clone();
     let mut stamps = vec![0; calls.iter().map(|call| places(call)).max().unwrap_or(0)];
+    let second = calls.iter().map(|call| second_bytes(memory, call)).max().unwrap_or(0);
+    let mut second = vec![0; skipped + second];
     let mut made = |memory: &mut [u8], bytes: &mut Filled| {
         for call in calls {
+            if call.moves_to().is_some() {
+                let second = &mut second[skipped..];
+                black_box(store.move_with(memory, &mut bytes.scans, second, black_box(call)));
+                continue;
+            }
             let stamps = &mut stamps[..places(call)];
             black_box(store.call_with(memory, &mut bytes.scans, stamps, black_box(call)));
         }

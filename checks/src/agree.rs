@@ -1,15 +1,15 @@
-//! Random lists of calls on a store, each answer compared with the plain history's, and the lent
-//! bytes looked at after every call.
+//! Random lists of calls on a store in either form, with moves from one to the other, each answer compared
+//! with the plain history's, and the lent bytes looked at after every call.
 
 use reference::history::InKeepers;
 use reference::random::Random;
-use reference::{generate, trace, Answer, Call, History, Shape};
+use reference::{generate, trace, Answer, Call, Form, History, Shape};
 
-use crate::facts;
 use crate::footprint::Footprint;
-use crate::lent::{self, stamps_for, Lent};
-use crate::memory::{header, word, Layout, ScanEntry, SCANS};
+use crate::lent::{self, second_for, stamps_for, Lent};
+use crate::memory::{form_number, form_of, header, word, Layout, ScanEntry, SCANS};
 use crate::store::{told, writes, writes_list, Store};
+use crate::{facts, first, moves};
 
 /// What the lists of a run came to.
 #[derive(Clone, Copy, Debug, Default, PartialEq, Eq)]
@@ -29,6 +29,44 @@ pub struct Tally {
     pub filled: u64,
     pub outnumbered: u64,
     pub keepers: Keepers,
+    pub moves: Moves,
+}
+
+/// Lists that start in form 1, and calls on a memory in form 1, moves included; moves up, moves back, and
+/// of both those that come with no call between after another one; and ways back that are refused with 22.
+#[derive(Clone, Copy, Debug, Default, PartialEq, Eq)]
+pub struct Moves {
+    pub lists_from_form_1: u64,
+    pub calls_on_form_1: u64,
+    pub up: u64,
+    pub back: u64,
+    pub there_and_back: u64,
+    pub refused: u64,
+}
+
+impl Moves {
+    fn add(&mut self, other: Moves) {
+        self.lists_from_form_1 += other.lists_from_form_1;
+        self.calls_on_form_1 += other.calls_on_form_1;
+        self.up += other.up;
+        self.back += other.back;
+        self.there_and_back += other.there_and_back;
+        self.refused += other.refused;
+    }
+
+    /// Counts a call on a memory by what the plain history answers.
+    fn count(&mut self, watched: &Watched, call: &Call, answer: &Answer) {
+        let on_form_1 = form_of(watched.memory.get()) == Some(Form::First);
+        self.calls_on_form_1 += u64::from(on_form_1);
+        match (call, answer) {
+            (Call::Upgrade, Answer::Done) => self.up += 1,
+            (Call::Downgrade, Answer::Done) => self.back += 1,
+            (Call::Downgrade, Answer::Refused(22)) => self.refused += 1,
+            _ => return,
+        }
+        let again = watched.moved_from.is_some() && !answer.is_refused();
+        self.there_and_back += u64::from(again);
+    }
 }
 
 /// Accepted calls for a keeper: those that gave one, those that gave none, and of the first those at which
@@ -113,6 +151,7 @@ impl Tally {
         self.filled += other.filled;
         self.outnumbered += other.outnumbered;
         self.keepers.add(other.keepers);
+        self.moves.add(other.moves);
     }
 
     /// Counts a call for crossings by what the plain history answers.
@@ -142,10 +181,18 @@ impl Tally {
 
 pub const LARGEST: Shape = Shape { columns: 16, ranges: 16, capacity: 512, spares: 256 };
 
-/// The shape and calls of a seed. Every 512th list is a long one on the largest shape, every 61st
+/// Calls on a store of a shape, which is in a form at the first of them.
+#[derive(Clone, Debug)]
+pub struct List {
+    pub shape: Shape,
+    pub form: Form,
+    pub calls: Vec<Call>,
+}
+
+/// The list of a seed. Every 512th list is a long one on the largest shape, every 61st
 /// one, of each workload in turn, has 700 calls; the greater numbers of calls fill rows and tails, and a
 /// few lists are long enough to fill those of the largest shape.
-pub fn list(seed: u64) -> (Shape, Vec<Call>) {
+pub fn list(seed: u64) -> List {
     let mut random = Random::new(seed ^ 0x6167_7265_6500_0000);
     let shape = if seed % 512 == 511 { LARGEST } else { generate::shape(seed) };
     let count = match seed % 32_768 {
@@ -159,46 +206,92 @@ pub fn list(seed: u64) -> (Shape, Vec<Call>) {
     } else {
         generate::calls(seed, shape, count)
     };
-    (shape, calls)
+    List { shape, form: generate::form(seed), calls }
 }
 
 /// Runs the lists of so many seeds; an error is the first difference.
 pub fn run(store: &dyn Store, first: u64, count: u64) -> Result<Tally, String> {
     let mut tally = Tally::default();
     for seed in first..first.saturating_add(count) {
-        let (shape, calls) = list(seed);
-        let counted = compare(store, seed, &shape, &calls)
-            .map_err(|difference| format!("seed {seed}, {shape:?}: {difference}"))?;
-        tally.add(counted);
+        let list = list(seed);
+        let named = |difference| format!("seed {seed}, {:?}: {difference}", list.shape);
+        tally.add(compare(store, seed, &list).map_err(named)?);
     }
     Ok(tally)
 }
 
-/// A store's lent bytes, and the stamps lent to the last call, with those before the call, to see what a
-/// call changed.
+/// A store's lent bytes, and the stamps or the second memory lent to the last call, with those before the
+/// call, to see what a call changed.
 pub struct Watched {
     pub memory: Lent<u8>,
     pub scans: Lent<ScanEntry>,
     pub stamps: Lent<u32>,
+    pub second: Lent<u8>,
     memory_before: Vec<u8>,
     scans_before: Vec<ScanEntry>,
     stamps_before: Vec<u32>,
+    second_before: Vec<u8>,
+    /// The memory that the store was moved from, as long as no call has changed anything since.
+    moved_from: Option<Vec<u8>>,
 }
 
 impl Watched {
     pub fn new(memory: Lent<u8>, scans: Lent<ScanEntry>) -> Watched {
         let memory_before = memory.get().to_vec();
         let scans_before = scans.get().to_vec();
-        let (stamps, stamps_before) = (Lent::none(), Vec::new());
-        Watched { memory, scans, stamps, memory_before, scans_before, stamps_before }
+        Watched {
+            memory,
+            scans,
+            stamps: Lent::none(),
+            second: Lent::none(),
+            memory_before,
+            scans_before,
+            stamps_before: Vec::new(),
+            second_before: Vec::new(),
+            moved_from: None,
+        }
     }
 
-    /// Makes a call, with stamps of random content.
+    /// Makes a call, with stamps, or a second memory that is long enough, of random content.
     pub fn call(&mut self, store: &dyn Store, call: &Call, random: &mut Random) -> Answer {
+        let second = second_for(call, self.memory.get(), random);
+        self.call_with(store, call, second, random)
+    }
+
+    /// The same with this second memory.
+    pub fn call_with(
+        &mut self,
+        store: &dyn Store,
+        call: &Call,
+        second: Lent<u8>,
+        random: &mut Random,
+    ) -> Answer {
         self.stamps = stamps_for(call, random);
         self.stamps_before = self.stamps.get().to_vec();
+        self.second = second;
+        self.second_before = self.second.get().to_vec();
         let (memory, scans) = (self.memory.get_mut(), self.scans.get_mut());
-        store.call_with(memory, scans, self.stamps.get_mut(), call)
+        match call.moves_to() {
+            Some(_) => store.move_with(memory, scans, self.second.get_mut(), call),
+            None => store.call_with(memory, scans, self.stamps.get_mut(), call),
+        }
+    }
+
+    /// Makes a call, and goes on in the second memory after an accepted move.
+    pub fn follow(&mut self, store: &dyn Store, call: &Call, random: &mut Random) {
+        let answer = self.call(store, call, random);
+        if call.moves_to().is_some() && !answer.is_refused() {
+            self.memory = std::mem::replace(&mut self.second, Lent::none());
+            self.restart();
+        }
+    }
+
+    /// From now on these are the bytes, of whatever length.
+    fn restart(&mut self) {
+        self.memory_before = self.memory.get().to_vec();
+        self.scans_before = self.scans.get().to_vec();
+        (self.second, self.second_before) = (Lent::none(), Vec::new());
+        self.moved_from = None;
     }
 
     /// The bytes before the last call, to which `restore` goes back.
@@ -206,6 +299,7 @@ impl Watched {
         self.memory.get_mut().copy_from_slice(&self.memory_before);
         self.scans.get_mut().copy_from_slice(&self.scans_before);
         self.stamps.get_mut().copy_from_slice(&self.stamps_before);
+        self.second.get_mut().copy_from_slice(&self.second_before);
     }
 
     /// From now on changes are looked for against these bytes.
@@ -213,13 +307,18 @@ impl Watched {
         self.memory_before.copy_from_slice(self.memory.get());
         self.scans_before.copy_from_slice(self.scans.get());
         self.stamps_before.copy_from_slice(self.stamps.get());
+        self.second_before.copy_from_slice(self.second.get());
+        self.moved_from = None;
     }
 
-    /// No byte may have changed, and no stamp.
+    /// No byte may have changed, of the second memory neither, and no stamp.
     pub fn unchanged(&self) -> Result<(), String> {
         self.guards()?;
         if self.memory.get() != self.memory_before || self.scans.get() != self.scans_before {
             return Err("it changed a byte".to_string());
+        }
+        if self.second.get() != self.second_before {
+            return Err("it changed a byte of the second memory".to_string());
         }
         self.listed(&[])
     }
@@ -247,33 +346,50 @@ impl Watched {
 
     fn guards(&self) -> Result<(), String> {
         let lists = self.scans.guarded_well() && self.stamps.guarded_well();
-        if self.memory.guarded_well() && lists {
+        if self.memory.guarded_well() && self.second.guarded_well() && lists {
             return Ok(());
         }
         Err("a byte beside the lent bytes changed".to_string())
     }
 
-    /// What an accepted call changed lies in its footprint.
+    /// What an accepted call changed lies in its footprint, and a move left in the second memory what it
+    /// is to leave there.
     pub fn changed_by(&self, call: &Call) -> Result<(), String> {
         self.guards()?;
         let footprint = Footprint::of(&self.memory_before, &self.scans_before, call)?;
         footprint.judge_memory(&self.memory_before, self.memory.get())?;
-        footprint.judge_list(&self.scans_before, self.scans.get())
+        footprint.judge_list(&self.scans_before, self.scans.get())?;
+        match call.moves_to() {
+            Some(form) => {
+                moves::judge(&self.memory_before, &self.second_before, self.second.get(), form)
+            }
+            None => Ok(()),
+        }
+    }
+
+    /// The memory that an accepted move led to is the store from now on. If nothing has changed since the
+    /// move before it, this one went back, to the bytes that were moved first.
+    fn moved(&mut self) -> Result<(), String> {
+        let second = std::mem::replace(&mut self.second, Lent::none());
+        if let Some(first) = &self.moved_from {
+            moves::needed_alike(first, second.get())?;
+        }
+        let from = std::mem::replace(&mut self.memory, second);
+        self.restart();
+        self.moved_from = Some(from.get().to_vec());
+        Ok(())
     }
 }
 
 /// One list; answers what it came to, or the difference.
-pub fn compare(
-    store: &dyn Store,
-    seed: u64,
-    shape: &Shape,
-    calls: &[Call],
-) -> Result<Tally, String> {
+pub fn compare(store: &dyn Store, seed: u64, list: &List) -> Result<Tally, String> {
+    let List { shape, form, calls } = list;
     let mut random = Random::new(seed ^ 0x6C65_6E74_0000_0000);
-    let mut watched = made(store, shape, &mut random)?;
+    let mut watched = made_in(store, shape, *form, &mut random)?;
     let mut history = History::new(*shape);
     let mut tally = Tally { lists: 1, calls: calls.len() as u64, ..Tally::default() };
     tally.largest = u64::from(*shape == LARGEST);
+    tally.moves.lists_from_form_1 = u64::from(*form == Form::First);
     for (place, call) in calls.iter().enumerate() {
         tally.keepers.add(Keepers::of(&history.in_keepers(call)));
         let expected = history.call(call);
@@ -281,11 +397,25 @@ pub fn compare(
             tally.count(watched.memory.get(), watched.scans.get(), call);
         }
         tally.count_crossings(call, &expected);
+        tally.moves.count(&watched, call, &expected);
         let found = watched.call(store, call, &mut random);
         let checked = after_call(&mut watched, call, expected, &found);
-        checked.map_err(|error| format!("call {place}, {}: {error}", trace::call_words(call)))?;
+        checked
+            .and_then(|()| says_form(store, &watched))
+            .map_err(|error| format!("call {place}, {}: {error}", trace::call_words(call)))?;
     }
     Ok(tally)
+}
+
+/// The check of a good store answers the form that it is in.
+fn says_form(store: &dyn Store, watched: &Watched) -> Result<(), String> {
+    let memory = watched.memory.get();
+    let form = form_of(memory).map(|form| Answer::Number(form_number(form)));
+    let check = store.check(memory, watched.scans.get());
+    if form.as_ref() == Some(&check) {
+        return Ok(());
+    }
+    Err(format!("then the check answers {}", trace::answer_words(&check)))
 }
 
 fn after_call(
@@ -304,13 +434,37 @@ fn after_call(
         return watched.unchanged();
     }
     watched.changed_by(call)?;
-    if writes(call) || writes_list(call) {
+    let moved = call.moves_to().is_some();
+    if moved {
+        watched.moved()?;
+    }
+    if moved || writes(call) || writes_list(call) {
         if let Some(fact) = facts::failing(watched.memory.get(), watched.scans.get()) {
             return Err(format!("the fact '{fact}' fails"));
         }
+    }
+    if writes(call) || writes_list(call) {
         watched.keep();
     }
     Ok(())
+}
+
+/// A store of a shape in a form: the newest as `made` has it, the first as its making left it.
+pub fn made_in(
+    store: &dyn Store,
+    shape: &Shape,
+    form: Form,
+    random: &mut Random,
+) -> Result<Watched, String> {
+    let mut watched = made(store, shape, random)?;
+    if form == Form::First {
+        let need = Layout::in_form(shape, form).need();
+        watched.memory = Lent::dirty(need + random.below(64) as usize, random);
+        watched.scans = Lent::dirty(SCANS + random.below(6) as usize, random);
+        first::make(watched.memory.get_mut(), watched.scans.get_mut(), shape);
+        watched.restart();
+    }
+    Ok(watched)
 }
 
 /// A store made in dirty memory, with the refusals of making tried on the same bytes before.

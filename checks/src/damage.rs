@@ -1,14 +1,17 @@
-//! What must hold of every call on bytes that no call made: 2 exactly where a stored fact fails, any
-//! other refusal exactly where the papers' words give it, the crossings and keepers that the words give,
-//! no byte changed by a refused call, and an answer always.
+//! What must hold of every call on bytes that no call made: 2 exactly where a stored fact fails, the call
+//! does not work on the form or a move's second memory is too short, any other refusal exactly where the
+//! papers' words give it, the crossings and keepers that the words give, what a move is to leave, no byte
+//! changed by a refused call, and an answer always.
 
 use reference::random::Random;
-use reference::{generate, trace, Answer, Call, Shape};
+use reference::{generate, trace, Answer, Call, Form, Shape};
 
-use crate::agree::{made, Watched};
+use crate::agree::{made_in, Watched};
 use crate::facts::{self, Stored};
-use crate::memory::{header, list_word, word, Layout, ScanEntry, SCANS, SCAN_WORDS, WORD};
-use crate::operands::{call_for, COMMANDS};
+use crate::lent::any_second_for;
+use crate::memory::{form_number, header, list_word, word};
+use crate::memory::{Layout, ScanEntry, SCANS, SCAN_WORDS, WORD};
+use crate::operands::every_call_for;
 use crate::shortcuts::{self, Differing, Differs};
 use crate::stated;
 use crate::store::Store;
@@ -33,7 +36,39 @@ pub struct Tally {
     pub crossings: u64,
     /// Keepers that were given.
     pub keepers: u64,
+    pub moves: Moves,
     pub differing: Differing,
+}
+
+/// Usable memories in form 1; accepted moves up and back; of a usable memory in the form that a move works on
+/// those refused with 2, for the second memory's length, and ways back refused with 22.
+#[derive(Clone, Copy, Debug, Default, PartialEq, Eq)]
+pub struct Moves {
+    pub on_form_1: u64,
+    pub up: u64,
+    pub back: u64,
+    pub too_short: u64,
+    pub refused: u64,
+}
+
+impl Moves {
+    fn add(&mut self, other: Moves) {
+        self.on_form_1 += other.on_form_1;
+        self.up += other.up;
+        self.back += other.back;
+        self.too_short += other.too_short;
+        self.refused += other.refused;
+    }
+
+    fn count(&mut self, call: &Call, answer: &Answer, works: bool) {
+        match (call, answer) {
+            (Call::Upgrade, Answer::Done) => self.up += 1,
+            (Call::Downgrade, Answer::Done) => self.back += 1,
+            (Call::Upgrade | Call::Downgrade, Answer::Refused(2)) if works => self.too_short += 1,
+            (Call::Downgrade, Answer::Refused(22)) => self.refused += 1,
+            _ => {}
+        }
+    }
 }
 
 impl Tally {
@@ -44,6 +79,7 @@ impl Tally {
         self.accepted += other.accepted;
         self.crossings += other.crossings;
         self.keepers += other.keepers;
+        self.moves.add(other.moves);
         self.differing.add(other.differing);
     }
 }
@@ -97,7 +133,7 @@ pub fn good(store: &dyn Store, seed: u64, random: &mut Random) -> Result<Watched
     grown(store, seed, &SMALL, count, random)
 }
 
-/// A store of a shape after so many random calls.
+/// A store of a shape after so many random calls, in whatever form these leave it.
 fn grown(
     store: &dyn Store,
     seed: u64,
@@ -105,9 +141,9 @@ fn grown(
     count: usize,
     random: &mut Random,
 ) -> Result<Watched, String> {
-    let mut watched = made(store, shape, random)?;
+    let mut watched = made_in(store, shape, generate::form(seed), random)?;
     for call in generate::calls(seed, *shape, count) {
-        store.call(watched.memory.get_mut(), watched.scans.get_mut(), &call);
+        watched.follow(store, &call, random);
     }
     watched.keep();
     Ok(watched)
@@ -144,16 +180,18 @@ pub fn disturbed_stores(store: &dyn Store, seed: u64, count: u64) -> Result<Tall
     Ok(tally)
 }
 
-/// The refusal that is due to a call. Where it is not that of a shortcut, this is noted.
+/// The refusal that is due to a call, a move with so many bytes of a second memory. Where it is not that of a
+/// shortcut, this is noted.
 pub fn due(
     usable: &Result<Stored, &'static str>,
     call: &Call,
+    second: usize,
     differs: &mut Differs,
 ) -> Option<u8> {
     let Ok(stored) = usable else {
         return Some(2);
     };
-    let due = stated::refusal(stored, call);
+    let due = stated::refusal_with(stored, call, second);
     shortcuts::note(differs, stored, call, due);
     due
 }
@@ -169,18 +207,24 @@ fn every_call(
     let failing = usable.as_ref().err().copied();
     let mut tally =
         Tally { memories: 1, failing: u64::from(failing.is_some()), ..Tally::default() };
+    let form = usable.as_ref().ok().map(|stored| stored.layout.form);
+    tally.moves.on_form_1 += u64::from(form == Some(Form::First));
+    let check = form.map_or(Answer::Refused(2), |form| Answer::Number(form_number(form)));
+    stated::judge_answer(Some(&check), &store.check(memory, list))
+        .map_err(|error| format!("check: {error}"))?;
     let mut differs = Differs::default();
     let mut calls = Vec::new();
-    for byte in COMMANDS {
-        let call = call_for(byte, memory, list, random);
-        let due = due(&usable, &call, &mut differs);
+    for call in every_call_for(memory, list, random) {
+        let second = any_second_for(&call, memory, random);
+        let due = due(&usable, &call, second.get().len(), &mut differs);
         let listed = usable.as_ref().map_or(Vec::new(), |stored| stated::listed(stored, &call));
         let stated = usable.as_ref().ok().and_then(|stored| stated::answer(stored, &call));
-        calls.push((call, due, listed, stated));
+        calls.push((call, second, due, listed, stated));
     }
     tally.differing.count(differs);
-    for (call, due, listed, stated) in calls {
-        let answer = watched.call(store, &call, random);
+    for (call, second, due, listed, stated) in calls {
+        let answer = watched.call_with(store, &call, second, random);
+        tally.moves.count(&call, &answer, form.is_some_and(|form| call.works_on(form)));
         tally.crossings += u64::from(!listed.is_empty());
         judge(watched, &call, &answer, due, failing)
             .and_then(|()| stated::judge_answer(stated.as_ref(), &answer))
@@ -198,7 +242,7 @@ fn every_call(
     let answer = store.make(watched.memory.get_mut(), watched.scans.get_mut(), &shape);
     judge_making(store, watched, &shape, &answer)
         .map_err(|error| format!("making {shape:?}: {error}"))?;
-    tally.calls += 2;
+    tally.calls += 3;
     if answer == Answer::Done {
         tally.accepted += 1;
         watched.restore();
@@ -258,7 +302,8 @@ fn judge(
         return watched.unchanged();
     }
     watched.changed_by(call)?;
-    let memory = watched.memory.get();
+    let moved = call.moves_to().is_some();
+    let memory = if moved { watched.second.get() } else { watched.memory.get() };
     // An accepted call keeps the facts, but for a count of merges or commits that goes round to 0.
     let round = match call {
         Call::Merge { .. } => word(memory, header::MERGES_MADE) == 0,

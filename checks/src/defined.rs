@@ -2,11 +2,11 @@
 //! Calls), put into Rust one for one over a list of words for each region, under their own names.
 //! Slow, and only there to compare the bytes that another store leaves with what the definitions say.
 
-use reference::{Answer, Call, Shape};
+use reference::{Answer, Call, Form, Shape};
 
 use crate::facts;
-use crate::memory::{columns_word, put_word, word};
-use crate::memory::{Layout, Region, ScanEntry, FORM, REGIONS, SCANS};
+use crate::memory::{columns_word, form_number, put_word, word};
+use crate::memory::{Layout, Region, ScanEntry, FORM, OPENS, REGIONS, SCANS};
 use crate::store::Store;
 
 const RANGE_ROWS: usize = 64;
@@ -61,10 +61,9 @@ impl Store for Defined {
         stamps: &mut [u32],
         call: &Call,
     ) -> Answer {
-        if facts::failing(memory, list).is_some() {
+        let Some(view) = View::usable(memory, list).filter(|view| view.takes(call)) else {
             return Answer::Refused(2);
-        }
-        let view = View::of(memory, Layout::stored(memory).expect("the facts hold"));
+        };
         let places = list.to_vec();
         let tests = view.tests_in(&places, stamps, call);
         if let Some((number, _)) = tests.into_iter().find(|test| test.1) {
@@ -76,9 +75,38 @@ impl Store for Defined {
         view.act_in(&places, call).lay(memory);
         answer
     }
+
+    fn move_with(
+        &self,
+        memory: &mut [u8],
+        list: &mut [ScanEntry],
+        second: &mut [u8],
+        call: &Call,
+    ) -> Answer {
+        let view = View::usable(memory, list).filter(|view| view.takes(call));
+        let Some((view, form)) = view.zip(call.moves_to()) else {
+            return Answer::Refused(2);
+        };
+        let moved = view.moved_to(form);
+        if second.len() < moved.layout.need() {
+            return Answer::Refused(2);
+        }
+        if form == Form::First && view.bears_keeper() {
+            return Answer::Refused(22);
+        }
+        moved.lay(second);
+        Answer::Done
+    }
+
+    fn check(&self, memory: &[u8], list: &[ScanEntry]) -> Answer {
+        match View::usable(memory, list) {
+            Some(view) => Answer::Number(form_number(view.layout.form)),
+            None => Answer::Refused(2),
+        }
+    }
 }
 
-/// One list for each region.
+/// One list for each region; the list of a region that the form lacks is empty.
 #[derive(Clone)]
 struct View {
     layout: Layout,
@@ -192,6 +220,22 @@ impl View {
             (layout.first(region)..layout.first(region + 1)).map(|at| word(memory, at)).collect()
         };
         View { layout, lists: (0..REGIONS).map(list).collect() }
+    }
+
+    /// In whatever form some call works on.
+    fn usable(memory: &[u8], list: &[ScanEntry]) -> Option<View> {
+        let usable = facts::failing(memory, list).is_none();
+        usable.then(|| View::of(memory, Layout::stored(memory).expect("the facts hold")))
+    }
+
+    /// Whether a call works on the form.
+    fn takes(&self, call: &Call) -> bool {
+        let forms: &[Form] = match call {
+            Call::Upgrade => &[Form::First],
+            Call::Downgrade | Call::BeginAs { .. } | Call::KeeperAt { .. } => &[Form::Newest],
+            _ => &[Form::First, Form::Newest],
+        };
+        forms.contains(&self.layout.form)
     }
 
     fn lay(&self, memory: &mut [u8]) {
@@ -318,6 +362,32 @@ impl View {
 
     fn open_keeper(&self, transaction: u32) -> u32 {
         self.get(Region::OpenKeeper, self.open_index(transaction))
+    }
+}
+
+// Moves
+impl View {
+    /// Each region's list in another form: the same words, none where that form lacks the region, and zeros
+    /// where this one does.
+    fn moved_to(&self, form: Form) -> View {
+        let layout = self.layout.moved_to(form);
+        let lists = Region::ALL
+            .map(|region| (0..layout.length(region)).map(|at| self.get(region, at)).collect());
+        let mut moved = View { layout, lists: lists.to_vec() };
+        moved.put(Region::Header, 0, columns_word(layout.columns as u32, form_number(form)));
+        moved
+    }
+
+    fn bears_keeper(&self) -> bool {
+        let other = |word: u32| word % KEEPER_LIMIT != UNKNOWN_KEEPER;
+        let row = (0..self.rows_given() as usize).any(|row| other(self.row_keeper(row)));
+        let record = (0..self.layout.ranges).any(|range| {
+            (1..=self.used_in(range) as usize)
+                .any(|number| other(self.record_keeper(self.slot(range, number))))
+        });
+        let open =
+            (0..OPENS).any(|at| self.opens()[at] != 0 && other(self.get(Region::OpenKeeper, at)));
+        row || record || open
     }
 }
 
@@ -984,6 +1054,8 @@ impl View {
                 let found = || self.crossings_in(row as usize, column as usize, mark, from, to);
                 test(21, &|| outnumber(&found(), stamps));
             }
+            // Without a byte of a second memory.
+            Call::Upgrade | Call::Downgrade => test(2, &|| true),
         }
         tests
     }
@@ -1000,6 +1072,7 @@ impl View {
             Call::Commit { .. } | Call::Abort { .. } | Call::Close { .. } | Call::Merge { .. } => {
                 Answer::Done
             }
+            Call::Upgrade | Call::Downgrade => Answer::Done,
             Call::Latest { row, column } => self.read_current(
                 reader(all_up_to(self.last_stamp()), 0),
                 row as usize,
@@ -1083,7 +1156,9 @@ impl View {
             | Call::PageCell { .. }
             | Call::Lineage { .. }
             | Call::Crossings { .. }
-            | Call::KeeperAt { .. } => self,
+            | Call::KeeperAt { .. }
+            | Call::Upgrade
+            | Call::Downgrade => self,
         }
     }
 

@@ -1,8 +1,9 @@
 //! The stored facts, one after the other: document 01's paragraph "The stored facts are these", with
-//! Items 2 and 3 of document 02 for the list and Item 6 for the form. Written from these and the layout
+//! Items 2 and 3 of document 02 for the list and Items 6 and 7 for the form, here whether some call works on
+//! it; which do is for `stated` to say. Written from these and the layout
 //! alone, to judge a store's answer 2, so it is plain rather than quick.
 
-use crate::memory::{header, is_in_form, page, word, Layout, Region, ScanEntry};
+use crate::memory::{form_of, header, page, word, Layout, Region, ScanEntry};
 use crate::memory::{NUMBERS, OPENS, ROWS, SCANS};
 
 /// What is stored, or the name of the first fact that fails.
@@ -44,9 +45,9 @@ const LENGTH: &str = "the memory is as long as the shape needs";
 type Fact = (&'static str, fn(&Stored) -> bool);
 
 const FACTS: [Fact; 24] = [
-    // Item 6: "for now every call works on form 2 alone, and a memory not in a form that the call works
-    // on fails a stored fact"
-    ("the memory is in form 2", |s| is_in_form(s.memory)),
+    // Item 6: "a memory not in a form that the call works on fails a stored fact"; Item 7: the calls work
+    // "on form 1" or "the newest"
+    ("the memory is in form 1 or 2", |s| form_of(s.memory).is_some()),
     // "counts within the measures"
     ("rows given are no more than the rows", |s| {
         s.header(header::ROWS_GIVEN) as usize <= s.layout.rows

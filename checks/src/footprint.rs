@@ -1,5 +1,5 @@
 //! What an accepted call may change, its footprint: words of the memory, and an entry of the scan list.
-//! By document 01, Items 3, 5 and 6 of document 02, and docs/SPECIFICATION.md: section 8 for what is stored,
+//! By document 01, Items 3 and 5 to 7 of document 02, and docs/SPECIFICATION.md: section 8 for what is stored,
 //! rules 8.7 and 10.2 where the papers leave open which free page or entry is taken. Written from these
 //! alone, over `facts` and `stated`, to judge what a store changed, so it is plain rather than quick.
 //!
@@ -162,6 +162,9 @@ impl Traced<'_, '_> {
             | Call::Lineage { .. }
             | Call::Crossings { .. }
             | Call::KeeperAt { .. } => {}
+            // Item 7: "the one moved from, its bytes unchanged, is none". What a move leaves in the second
+            // memory is told by `moves`.
+            Call::Upgrade | Call::Downgrade => {}
         }
     }
 
@@ -170,8 +173,12 @@ impl Traced<'_, '_> {
     }
 
     fn run(&mut self, region: Region, from: usize, count: usize) {
-        let first = self.stored.layout.base(region) + from;
-        self.words.extend(first..first + count);
+        let layout = &self.stored.layout;
+        let first = layout.base(region) + from;
+        // Form 1 has no word for a keeper.
+        if from + count <= layout.length(region) {
+            self.words.extend(first..first + count);
+        }
     }
 
     /// The first open entry with a number; 0 is that of a free one.

@@ -5,6 +5,7 @@ use reference::random::Random;
 use reference::Call;
 
 use crate::memory::ScanEntry;
+use crate::moves;
 
 const GUARD: usize = 64;
 
@@ -77,6 +78,42 @@ pub fn stamps_for(call: &Call, random: &mut Random) -> Lent<u32> {
         Call::Crossings { places, .. } => Lent::dirty(*places as usize, random),
         _ => Lent::none(),
     }
+}
+
+/// The second memory that a move of a good store is lent, of random content and long enough, often just so.
+pub fn second_for(call: &Call, memory: &[u8], random: &mut Random) -> Lent<u8> {
+    match moves::need(memory, call) {
+        Some(need) if random.percent(30) => Lent::dirty(need, random),
+        Some(need) => Lent::dirty(need + random.below(64) as usize, random),
+        None => Lent::none(),
+    }
+}
+
+/// A second memory of any length, mostly about as long as a move of the memory needs, and of any content, a
+/// store's too.
+pub fn any_second_for(call: &Call, memory: &[u8], random: &mut Random) -> Lent<u8> {
+    if call.moves_to().is_none() {
+        return Lent::none();
+    }
+    let need = moves::need(memory, call).unwrap_or(0);
+    let length = match random.below(12) {
+        0 => need.saturating_sub(1),
+        1 => need.saturating_sub(random.between(1, 70) as usize),
+        2 => random.below(need as u32 + 1) as usize,
+        3 => memory.len(),
+        4 => random.below(100) as usize,
+        5 => 0,
+        6 | 7 => need,
+        _ => need + random.below(600) as usize,
+    };
+    let mut second = Lent::dirty(length, random);
+    if random.percent(20) {
+        second.get_mut().fill(0);
+    } else if random.percent(30) {
+        let both = length.min(memory.len());
+        second.get_mut()[..both].copy_from_slice(&memory[..both]);
+    }
+    second
 }
 
 /// Lent stamps must begin with this list, and their rest be as it was before.

@@ -1,19 +1,21 @@
-//! Checks of the store over its bytes and answers: the layout of the lent memory, an independent
-//! reading of the stored facts, of the refusals and of what calls may change, a plain page store in Rust,
-//! the compiled library, and the comparisons of these with each other and with the second program's plain
-//! history.
+//! Checks of the store over its bytes and answers: the layout of the lent memory in its forms, an independent
+//! reading of the stored facts, of the refusals, of what calls may change and of what moves leave, a plain
+//! page store in Rust, the compiled library, and the comparisons of these with each other and with the second
+//! program's plain history.
 
 pub mod agree;
 pub mod command_line;
 pub mod damage;
 pub mod defined;
 pub mod facts;
+pub mod first;
 pub mod footprint;
 pub mod lent;
 #[cfg(feature = "library")]
 pub mod library;
 pub mod live;
 pub mod memory;
+pub mod moves;
 pub mod operands;
 pub mod plain;
 pub mod same;

@@ -1,10 +1,12 @@
 //! The compiled library as a `Store`: through its C interface, and through the Rust crate over it.
 
 use deskrook::c::{self, Reply};
-use deskrook::{Keeper, Mask, Refusal, Row, ScanNumber, Stamp, Tail, Transaction, Version};
-use reference::{Answer, Call, Shape};
+use deskrook::{
+    Keeper, Mask, Refusal, Row, ScanNumber, Stamp, Tail, Transaction, Unmoved, Version,
+};
+use reference::{Answer, Call, Form, Shape};
 
-use crate::memory::ScanEntry;
+use crate::memory::{form_number, ScanEntry};
 use crate::store::Store;
 
 /// The library through its C interface.
@@ -50,16 +52,46 @@ impl Store for Library {
         stamps: &mut [u32],
         call: &Call,
     ) -> Answer {
-        answer(call, &reply(memory, scans, stamps, call))
+        answer(call, &reply(memory, scans, stamps, &mut [], call))
+    }
+
+    fn move_with(
+        &self,
+        memory: &mut [u8],
+        scans: &mut [ScanEntry],
+        second: &mut [u8],
+        call: &Call,
+    ) -> Answer {
+        answer(call, &reply(memory, scans, &mut [], second, call))
+    }
+
+    fn check(&self, memory: &[u8], scans: &[ScanEntry]) -> Answer {
+        let (mem, bytes) = (memory.as_ptr(), memory.len());
+        let (list, entries) = (scans.as_ptr().cast(), scans.len());
+        // SAFETY: pointers and lengths are those of two slices borrowed for the call.
+        let reply = unsafe { c::deskrook_check(mem, bytes, list, entries) };
+        let (answer, first) = match reply.result {
+            c::OK => (Answer::Number(reply.first), reply.first),
+            number => (Answer::Refused(refusal(number)), 0),
+        };
+        filled(&reply, (first, 0, 0, 0));
+        answer
     }
 }
 
 /// The call by its name.
-fn reply(memory: &mut [u8], scans: &mut [ScanEntry], stamps: &mut [u32], call: &Call) -> Reply {
+fn reply(
+    memory: &mut [u8],
+    scans: &mut [ScanEntry],
+    stamps: &mut [u32],
+    second: &mut [u8],
+    call: &Call,
+) -> Reply {
     let (mem, bytes) = (memory.as_mut_ptr(), memory.len());
     let (list, entries) = (scans.as_mut_ptr().cast(), scans.len());
-    // SAFETY: pointers and lengths are those of slices borrowed for the call, memory, list and stamps
-    // alone; `ScanEntry` is declared as the library's.
+    let (moved, moved_bytes) = (second.as_mut_ptr(), second.len());
+    // SAFETY: pointers and lengths are those of slices borrowed for the call, memory, list, stamps and second
+    // memory alone; `ScanEntry` is declared as the library's.
     unsafe {
         match *call {
             Call::Begin => c::deskrook_begin(mem, bytes, list, entries),
@@ -115,12 +147,14 @@ fn reply(memory: &mut [u8], scans: &mut [ScanEntry], stamps: &mut [u32], call: &
             Call::KeeperAt { stamp, row, column } => {
                 c::deskrook_keeper_at(mem, bytes, list, entries, stamp, row, column)
             }
+            Call::Upgrade => c::deskrook_upgrade(mem, bytes, list, entries, moved, moved_bytes),
+            Call::Downgrade => c::deskrook_downgrade(mem, bytes, list, entries, moved, moved_bytes),
         }
     }
 }
 
 fn refusal(number: u32) -> u8 {
-    assert!(matches!(number, 1..=18 | 21), "{number} is no refusal");
+    assert!(matches!(number, 1..=18 | 21 | 22), "{number} is no refusal");
     number as u8
 }
 
@@ -159,6 +193,7 @@ fn accepted(call: &Call, reply: &Reply) -> (Answer, Fields) {
         Call::Commit { .. } | Call::Abort { .. } | Call::Close { .. } | Call::Merge { .. } => {
             (Answer::Done, (0, 0, 0, 0))
         }
+        Call::Upgrade | Call::Downgrade => (Answer::Done, (0, 0, 0, 0)),
         Call::PageCell { .. } => (Answer::Value(first as i32), (first, 0, 0, 0)),
         _ if reads(call) => (Answer::Version { value: first as i32, stamp }, (first, 0, stamp, 0)),
         _ => (Answer::Number(first), (first, 0, 0, 0)),
@@ -192,8 +227,44 @@ impl Store for Wrapper {
         stamps: &mut [u32],
         call: &Call,
     ) -> Answer {
+        if call.moves_to().is_some() {
+            return self.move_with(memory, scans, &mut [], call);
+        }
         wrapped(&mut deskrook::Store::lent(memory, list(scans)), stamps, call)
             .unwrap_or_else(|refusal| Answer::Refused(refusal.number() as u8))
+    }
+
+    /// What is handed back lies in the memory moved to, or moved from where the move is refused.
+    fn move_with(
+        &self,
+        memory: &mut [u8],
+        scans: &mut [ScanEntry],
+        second: &mut [u8],
+        call: &Call,
+    ) -> Answer {
+        let store = deskrook::Store::lent(memory, list(scans));
+        let moved = match call.moves_to() {
+            Some(Form::Newest) => store.upgrade(second),
+            Some(Form::First) => store.downgrade(second),
+            None => unreachable!("{call:?} is no move"),
+        };
+        match moved {
+            Ok(store) => {
+                let form = store.check().map(deskrook::Form::number);
+                assert_eq!(form, Ok(call.moves_to().map_or(0, form_number)), "the store moved to");
+                Answer::Done
+            }
+            Err(Unmoved { refusal, .. }) => Answer::Refused(refusal.number() as u8),
+        }
+    }
+
+    fn check(&self, memory: &[u8], scans: &[ScanEntry]) -> Answer {
+        // A store is lent bytes that it may write.
+        let (mut memory, mut scans) = (memory.to_vec(), scans.to_vec());
+        match deskrook::Store::lent(&mut memory, list(&mut scans)).check() {
+            Ok(form) => Answer::Number(form.number()),
+            Err(refusal) => Answer::Refused(refusal.number() as u8),
+        }
     }
 }
 
@@ -279,5 +350,6 @@ fn wrapped(
         Call::KeeperAt { stamp, row, column } => store
             .keeper_at(Stamp(stamp), Row(row), column)
             .map(|found| found.map_or(Answer::None, |keeper| Answer::Number(keeper.0.into()))),
+        Call::Upgrade | Call::Downgrade => unreachable!("a move uses the store up"),
     }
 }

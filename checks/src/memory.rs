@@ -1,7 +1,7 @@
-//! The layout of a store's lent memory: little-endian 32-bit words in regions one after the other,
-//! and the lent list of scans.
+//! The layout of a store's lent memory: little-endian 32-bit words in regions one after the other, of which
+//! form 1 lacks the last; and the lent list of scans.
 
-use reference::{call::RANGE_ROWS, Shape};
+use reference::{call::RANGE_ROWS, Form, Shape};
 
 /// Bytes in a word.
 pub const WORD: usize = 4;
@@ -17,7 +17,7 @@ pub const NUMBERS: u32 = 65_535;
 pub const MOST_COLUMNS: usize = 16;
 pub const MOST_RANGES: usize = 16;
 pub const MOST_RECORDS: usize = 512;
-/// The stored form that making gives and that the calls work on.
+/// The number of the newest stored form, which making gives.
 pub const FORM: u32 = 2;
 /// What each form above the first adds to the columns in their word.
 const FORM_UNIT: u32 = 1 << 16;
@@ -54,7 +54,7 @@ pub enum Region {
     Changes,
     RowOrdinal,
     TailOrdinal,
-    // Form 2 has these behind all that form 1 has.
+    // Form 2 has these behind all that form 1 has, where they are absent.
     RowKeeper,
     TailKeeper,
     OpenKeeper,
@@ -134,9 +134,11 @@ pub mod page {
     pub const WAITING: u32 = 2;
 }
 
-/// The sizes that a shape makes, and where each region begins, in words.
+/// The sizes that a shape makes, and where each region begins, in words. A region that the form lacks is
+/// empty.
 #[derive(Clone, Copy, Debug)]
 pub struct Layout {
+    pub form: Form,
     pub columns: usize,
     pub ranges: usize,
     pub capacity: usize,
@@ -148,8 +150,13 @@ pub struct Layout {
 }
 
 impl Layout {
-    /// The layout of a shape within the limits.
+    /// The layout of a shape within the limits in the newest form.
     pub fn of(shape: &Shape) -> Layout {
+        Layout::in_form(shape, Form::Newest)
+    }
+
+    /// The layout of a shape within the limits in a form.
+    pub fn in_form(shape: &Shape, form: Form) -> Layout {
         debug_assert!(shape.within_limits());
         let (columns, ranges) = (shape.columns as usize, shape.ranges as usize);
         let capacity = shape.capacity as usize;
@@ -157,6 +164,8 @@ impl Layout {
         let slots = ranges * capacity;
         let chunks = columns * ranges;
         let pages = chunks + shape.spares as usize;
+        // 0 times a length where the form lacks the region.
+        let keepers = usize::from(form == Form::Newest);
         let lengths: [usize; REGIONS] = [
             header::WORDS,
             OPENS,
@@ -185,19 +194,30 @@ impl Layout {
             OPENS,
             rows,
             slots,
-            rows,
-            slots,
-            OPENS,
+            rows * keepers,
+            slots * keepers,
+            OPENS * keepers,
         ];
         let mut bases = [0; REGIONS + 1];
         for (region, length) in lengths.iter().enumerate() {
             bases[region + 1] = bases[region] + length;
         }
-        Layout { columns, ranges, capacity, rows, slots, chunks, pages, bases }
+        Layout { form, columns, ranges, capacity, rows, slots, chunks, pages, bases }
     }
 
-    /// The shape that the memory's first words say, if it lies within the limits, laid out in this form
-    /// whatever form they say.
+    /// The same measures in a form.
+    pub fn moved_to(&self, form: Form) -> Layout {
+        let shape = Shape {
+            columns: self.columns as u32,
+            ranges: self.ranges as u32,
+            capacity: self.capacity as u32,
+            spares: (self.pages - self.chunks) as u32,
+        };
+        Layout::in_form(&shape, form)
+    }
+
+    /// The shape that the memory's first words say, if it lies within the limits, laid out in the form that
+    /// they say, and in the newest where they say one that no call works on.
     pub fn stored(memory: &[u8]) -> Option<Layout> {
         if memory.len() < header::WORDS * WORD {
             return None;
@@ -208,7 +228,8 @@ impl Layout {
             capacity: word(memory, header::CAPACITY),
             spares: word(memory, header::SPARES),
         };
-        shape.within_limits().then(|| Layout::of(&shape))
+        let form = form_of(memory).unwrap_or(Form::Newest);
+        shape.within_limits().then(|| Layout::in_form(&shape, form))
     }
 
     /// The first word of a region.
@@ -228,21 +249,18 @@ impl Layout {
         self.bases[region as usize + 1] - self.bases[region as usize]
     }
 
-    /// The bytes that the shape needs.
+    /// The bytes that the shape needs in the form.
     pub fn need(&self) -> usize {
         self.bases[REGIONS] * WORD
-    }
-
-    /// The bytes that the shape needed in form 1.
-    pub fn need_in_form_1(&self) -> usize {
-        self.base(Region::RowKeeper) * WORD
     }
 
     /// The region of a word of the memory, and which of the region's words it is. A word past the need
     /// has none.
     pub fn place_of(&self, at: usize) -> Option<(Region, usize)> {
-        let region = Region::ALL.into_iter().rev().find(|region| self.base(*region) <= at)?;
-        (at < self.bases[REGIONS]).then(|| (region, at - self.base(region)))
+        let has = |region: &Region| {
+            (self.base(*region)..self.base(*region) + self.length(*region)).contains(&at)
+        };
+        Region::ALL.into_iter().find(has).map(|region| (region, at - self.base(region)))
     }
 
     /// Where record k (from 1) of a range stands.
@@ -258,15 +276,30 @@ impl Layout {
     }
 }
 
+/// The number of a form.
+pub const fn form_number(form: Form) -> u32 {
+    match form {
+        Form::First => 1,
+        Form::Newest => FORM,
+    }
+}
+
 /// The columns' word in a memory of a form.
 pub const fn columns_word(columns: u32, form: u32) -> u32 {
     columns + FORM_UNIT * (form - 1)
 }
 
-/// Whether the columns' word says `FORM`.
+/// The form that the columns' word says, if some call works on it.
 #[inline(always)]
-pub fn is_in_form(memory: &[u8]) -> bool {
-    word(memory, header::COLUMNS) / FORM_UNIT + 1 == FORM
+pub fn form_of(memory: &[u8]) -> Option<Form> {
+    let said = word(memory, header::COLUMNS) / FORM_UNIT + 1;
+    Form::ALL.into_iter().find(|form| form_number(*form) == said)
+}
+
+/// The keeper that a word holds: its lower two bytes.
+#[inline(always)]
+pub const fn keeper(word: u32) -> u32 {
+    word % KEEPER_LIMIT
 }
 
 /// Word i of some bytes.

@@ -7,6 +7,25 @@ use reference::Call;
 
 use crate::memory::{header, word, words, Layout, Region, ScanEntry, OPENS, ROWS, WORD};
 
+/// The calls without a command byte.
+pub const MOVES: [Call; 2] = [Call::Upgrade, Call::Downgrade];
+
+/// A call of each kind, with numbers that fit these bytes.
+pub fn every_call_for(memory: &[u8], list: &[ScanEntry], random: &mut Random) -> Vec<Call> {
+    let commands = COMMANDS.map(|byte| call_for(byte, memory, list, random));
+    commands.chain(MOVES).collect()
+}
+
+/// A call of any kind, with numbers that fit these bytes.
+pub fn any_call_for(memory: &[u8], list: &[ScanEntry], random: &mut Random) -> Call {
+    let (first, last) = (u32::from(*COMMANDS.start()), u32::from(*COMMANDS.end()));
+    let kind = random.between(first, last + MOVES.len() as u32);
+    match kind.checked_sub(last + 1) {
+        Some(place) => MOVES[place as usize].clone(),
+        None => call_for(kind as u8, memory, list, random),
+    }
+}
+
 /// A call of a command byte with numbers that fit these bytes, so that it is often accepted.
 pub fn call_for(byte: u8, memory: &[u8], list: &[ScanEntry], random: &mut Random) -> Call {
     let any = random.percent(5);

@@ -4,21 +4,28 @@
 //!
 //! The parameter switches on one of the wrong behaviours in `faults`, for the checks to find; the
 //! store itself is `Plain<NONE>`. A constant, so that the right store pays nothing for it.
+//!
+//! One code serves both forms: a region that the form lacks is empty, reads as 0, and a write into it is
+//! nothing.
 
 mod crossings;
 pub mod faults;
+mod moving;
 mod reading;
 mod sound;
 mod writing;
 
 use reference::{Answer, Call, Shape};
 
-use crate::memory::{columns_word, header, is_in_form, kind, page, put_word, state, word};
+use crate::memory::{
+    columns_word, form_number, form_of, header, kind, page, put_word, state, word,
+};
 use crate::memory::{words, Layout, Region, ScanEntry};
-use crate::memory::{FORM, MOST_COLUMNS, NUMBERS, OPENS, ROWS, SCANS, WORD};
+use crate::memory::{FORM, NUMBERS, OPENS, ROWS, SCANS, WORD};
 use crate::store::Store;
 
 use crossings::Asked;
+use moving::works_on;
 use reading::Snapshot;
 pub use sound::sound;
 
@@ -43,19 +50,44 @@ impl<const FAULT: u8> Store for Plain<FAULT> {
         stamps: &mut [u32],
         call: &Call,
     ) -> Answer {
-        if FAULT == faults::FORM_1_ACCEPTED && memory.len() >= WORD && !is_in_form(memory) {
-            return self.as_in_form(memory, scans, stamps, call);
+        if FAULT == faults::LATER_FORM_ACCEPTED && says_later_form(memory) {
+            return self.as_the_newest(memory, scans, stamps, call);
         }
-        let Some(layout) = sound(memory, scans) else {
-            return Answer::Refused(2);
-        };
-        answer(Table::<FAULT> { memory, scans, layout }.call(call, stamps))
+        match Table::<FAULT>::of(memory, scans, call) {
+            Some(mut table) => answer(table.call(call, stamps)),
+            None => Answer::Refused(2),
+        }
+    }
+
+    fn move_with(
+        &self,
+        memory: &mut [u8],
+        scans: &mut [ScanEntry],
+        second: &mut [u8],
+        call: &Call,
+    ) -> Answer {
+        match (Table::<FAULT>::of(memory, scans, call), call.moves_to()) {
+            (Some(mut table), Some(form)) => answer(table.move_to(form, second)),
+            _ => Answer::Refused(2),
+        }
+    }
+
+    fn check(&self, memory: &[u8], scans: &[ScanEntry]) -> Answer {
+        match sound(memory, scans) {
+            Some(layout) => Answer::Number(form_number(layout.form)),
+            None => Answer::Refused(2),
+        }
     }
 }
 
+/// Whether the columns' word says a form that no call works on.
+fn says_later_form(memory: &[u8]) -> bool {
+    memory.len() >= WORD && form_of(memory).is_none()
+}
+
 impl<const FAULT: u8> Plain<FAULT> {
-    /// Part of a wrong store: a call on a memory of form 1 that is taken for one of this form.
-    fn as_in_form(
+    /// Part of a wrong store: a call on a memory of a later form that is taken for one of the newest.
+    fn as_the_newest(
         &self,
         memory: &mut [u8],
         scans: &mut [ScanEntry],
@@ -63,17 +95,14 @@ impl<const FAULT: u8> Plain<FAULT> {
         call: &Call,
     ) -> Answer {
         let first = word(memory, header::COLUMNS);
-        if !(1..=MOST_COLUMNS as u32).contains(&first) {
-            return Answer::Refused(2);
-        }
-        put_word(memory, header::COLUMNS, columns_word(first, FORM));
+        put_word(memory, header::COLUMNS, columns_word(first % (1 << 16), FORM));
         let answer = self.call_with(memory, scans, stamps, call);
         put_word(memory, header::COLUMNS, first);
         answer
     }
 }
 
-/// The plain store with other calls, for wrong stores that the parameter does not make.
+/// The plain store with other calls, the moves excepted, for wrong stores that the parameter does not make.
 pub struct Altered<F>(pub F);
 
 impl<F> Store for Altered<F>
@@ -96,6 +125,20 @@ where
         call: &Call,
     ) -> Answer {
         (self.0)(memory, scans, stamps, call)
+    }
+
+    fn move_with(
+        &self,
+        memory: &mut [u8],
+        scans: &mut [ScanEntry],
+        second: &mut [u8],
+        call: &Call,
+    ) -> Answer {
+        Plain::<{ faults::NONE }>.move_with(memory, scans, second, call)
+    }
+
+    fn check(&self, memory: &[u8], scans: &[ScanEntry]) -> Answer {
+        Plain::<{ faults::NONE }>.check(memory, scans)
     }
 }
 
@@ -141,6 +184,15 @@ struct Table<'m, const FAULT: u8> {
     layout: Layout,
 }
 
+impl<'m, const FAULT: u8> Table<'m, FAULT> {
+    /// The store for a call, if the facts hold and it works on the form.
+    #[inline(always)]
+    fn of(memory: &'m mut [u8], scans: &'m mut [ScanEntry], call: &Call) -> Option<Self> {
+        let layout = sound(memory, scans).filter(|it| works_on::<FAULT>(call, it.form))?;
+        Some(Table { memory, scans, layout })
+    }
+}
+
 /// Words.
 impl<const FAULT: u8> Table<'_, FAULT> {
     #[inline(always)]
@@ -151,6 +203,24 @@ impl<const FAULT: u8> Table<'_, FAULT> {
     #[inline(always)]
     fn put(&mut self, region: Region, i: usize, word: u32) {
         put_word(self.memory, self.layout.base(region) + i, word);
+    }
+
+    /// A word of a region that form 1 lacks: there it is 0.
+    #[inline(always)]
+    fn get_later(&self, region: Region, i: usize) -> u32 {
+        if i < self.layout.length(region) {
+            self.get(region, i)
+        } else {
+            0
+        }
+    }
+
+    /// The same: there nothing is written.
+    #[inline(always)]
+    fn put_later(&mut self, region: Region, i: usize, word: u32) {
+        if i < self.layout.length(region) {
+            self.put(region, i, word);
+        }
     }
 
     /// The bytes of n words of a region.
@@ -301,6 +371,8 @@ impl<const FAULT: u8> Table<'_, FAULT> {
                 require(!ahead, 13)?;
                 Ok(self.keeper(self.snapshot(stamp), row, column))
             }
+            // Without a byte of a second memory.
+            Call::Upgrade | Call::Downgrade => Err(2),
         }
     }
 
@@ -314,7 +386,7 @@ impl<const FAULT: u8> Table<'_, FAULT> {
         self.put(Region::Opens, open, given + 1);
         self.put(Region::Changes, open, 0);
         if keeper.is_some() || !faults::begins_without_keeper(FAULT) {
-            self.put(Region::OpenKeeper, open, u32::from(keeper.unwrap_or(0)));
+            self.put_later(Region::OpenKeeper, open, u32::from(keeper.unwrap_or(0)));
         }
         self.put(Region::Header, header::TRANSACTIONS_GIVEN, given + 1);
         Ok(Answer::Number(given + 1))

@@ -1,20 +1,21 @@
-//! Two stores on the same layout, call for call: the same answers, and the same bytes of memory
-//! and list and the same lent stamps after each call. On memories that no call made the refusals, the
+//! Two stores on the same layout, call for call: the same answers, and the same bytes of memory, list and
+//! second memory and the same lent stamps after each call, in either form and from one to the other. On memories that no call made the refusals, the
 //! crossings listed and the keepers are also those of the papers' words.
 
 use reference::random::Random;
-use reference::{trace, Answer, Call, Shape};
+use reference::{trace, Answer, Call, Form, Shape};
 
 use crate::agree;
+use crate::agree::List;
 use crate::damage::{due, good};
-use crate::facts;
-use crate::lent::{self, stamps_for, Lent};
-use crate::memory::{differing, where_differ, ScanEntry, SCANS};
-use crate::operands::{call_for, COMMANDS};
+use crate::lent::{self, any_second_for, second_for, stamps_for, Lent};
+use crate::memory::{differing, where_differ, Layout, ScanEntry, SCANS};
+use crate::operands::any_call_for;
 use crate::shortcuts::{Differing, Differs};
 use crate::stated;
 use crate::store::{writes, Store};
 use crate::unmade::{any_lent, disturbed};
+use crate::{facts, first};
 
 /// What a run came to.
 #[derive(Clone, Copy, Debug, Default, PartialEq, Eq)]
@@ -22,6 +23,9 @@ pub struct Tally {
     pub lists: u64,
     pub calls: u64,
     pub accepted: u64,
+    /// Accepted moves, and those refused with 22.
+    pub moved: u64,
+    pub refused_moves: u64,
     pub differing: Differing,
 }
 
@@ -36,10 +40,14 @@ pub fn run(one: &dyn Store, other: &dyn Store, first: u64, count: u64) -> Result
     for seed in first..first.saturating_add(count) {
         let named = |difference| format!("seed {seed}: {difference}");
         let mut random = Random::new(seed ^ 0x7361_6D65_0000_0000);
-        let (shape, calls) = agree::list(seed);
+        let List { shape, form, calls } = agree::list(seed);
         let mut pair = Pair::made(one, other, &shape, &mut random).map_err(named)?;
+        if form == Form::First {
+            pair = Pair::first(one, other, &shape, &mut random);
+        }
         for call in &calls {
-            pair.call(call, &mut random, &mut tally).map_err(named)?;
+            let second = second_for(call, pair.memory[0].get(), &mut random);
+            pair.call(call, second, &mut random, &mut tally).map_err(named)?;
         }
         tally.lists += 1;
         for _ in 0..MEMORIES {
@@ -72,6 +80,8 @@ struct Pair<'s> {
     /// The stamps lent to the last call, and as they were before it.
     stamps: [Lent<u32>; 2],
     stamps_before: Vec<u32>,
+    /// The second memory lent to the last call.
+    second: [Lent<u8>; 2],
 }
 
 impl<'s> Pair<'s> {
@@ -83,7 +93,22 @@ impl<'s> Pair<'s> {
     ) -> Pair<'s> {
         let (memory, scans) = ([memory.clone(), memory], [scans.clone(), scans]);
         let (stamps, stamps_before) = ([Lent::none(), Lent::none()], Vec::new());
-        Pair { one, other, memory, scans, stamps, stamps_before }
+        let second = [Lent::none(), Lent::none()];
+        Pair { one, other, memory, scans, stamps, stamps_before, second }
+    }
+
+    /// Both in what form 1's making left.
+    fn first(
+        one: &'s dyn Store,
+        other: &'s dyn Store,
+        shape: &Shape,
+        random: &mut Random,
+    ) -> Pair<'s> {
+        let need = Layout::in_form(shape, Form::First).need();
+        let mut memory = Lent::dirty(need + random.below(64) as usize, random);
+        let mut scans = Lent::dirty(SCANS + random.below(6) as usize, random);
+        first::make(memory.get_mut(), scans.get_mut(), shape);
+        Pair::of(one, other, memory, scans)
     }
 
     /// Both made in the same dirty memory.
@@ -114,22 +139,22 @@ impl<'s> Pair<'s> {
         tally.lists += 1;
         let mut differs = Differs::default();
         for _ in 0..STEPS {
-            let byte = random.between(u32::from(*COMMANDS.start()), u32::from(*COMMANDS.end()));
             let (memory, list) = (self.memory[0].get(), self.scans[0].get());
-            let call = call_for(byte as u8, memory, list, random);
+            let call = any_call_for(memory, list, random);
+            let second = any_second_for(&call, memory, random);
             let usable = facts::usable(memory, list);
-            let due = due(&usable, &call, &mut differs);
+            let due = due(&usable, &call, second.get().len(), &mut differs);
             let (listed, stated) = match usable {
                 Ok(stored) => (stated::listed(&stored, &call), stated::answer(&stored, &call)),
                 Err(_) => (Vec::new(), None),
             };
-            let answer = self.call(&call, random, tally)?;
+            let answer = self.call(&call, second, random, tally)?;
             stated::judge(due, &answer)
                 .and_then(|()| stated::judge_answer(stated.as_ref(), &answer))
                 .and_then(|()| lent::listed(&listed, &self.stamps_before, self.stamps[0].get()))
                 .map_err(|error| format!("{}: {error}", trace::call_words(&call)))?;
-            // A memory counts once, and an accepted call that writes makes another one.
-            if !answer.is_refused() && writes(&call) {
+            // A memory counts once, and an accepted call that writes makes another one, as a move does.
+            if !answer.is_refused() && (writes(&call) || call.moves_to().is_some()) {
                 tally.differing.count(differs);
                 differs = Differs::default();
             }
@@ -138,26 +163,44 @@ impl<'s> Pair<'s> {
         Ok(())
     }
 
+    /// A call on both. After an accepted move the memories moved to are the stores.
     fn call(
         &mut self,
         call: &Call,
+        second: Lent<u8>,
         random: &mut Random,
         tally: &mut Tally,
     ) -> Result<Answer, String> {
+        self.second = [second.clone(), second];
         let stamps = stamps_for(call, random);
         self.stamps_before = stamps.get().to_vec();
         self.stamps = [stamps.clone(), stamps];
         let [first, second] = &mut self.memory;
         let [list, other_list] = &mut self.scans;
         let [stamps, other_stamps] = &mut self.stamps;
-        let (memory, lists) = (first.get_mut(), list.get_mut());
-        let first = self.one.call_with(memory, lists, stamps.get_mut(), call);
-        let (memory, lists) = (second.get_mut(), other_list.get_mut());
-        let second = self.other.call_with(memory, lists, other_stamps.get_mut(), call);
+        let [moved, other_moved] = &mut self.second;
+        let answer = |store: &dyn Store,
+                      memory: &mut Lent<u8>,
+                      list: &mut Lent<ScanEntry>,
+                      stamps: &mut Lent<u32>,
+                      second: &mut Lent<u8>| {
+            let (memory, list) = (memory.get_mut(), list.get_mut());
+            match call.moves_to() {
+                Some(_) => store.move_with(memory, list, second.get_mut(), call),
+                None => store.call_with(memory, list, stamps.get_mut(), call),
+            }
+        };
+        let first = answer(self.one, first, list, stamps, moved);
+        let second = answer(self.other, second, other_list, other_stamps, other_moved);
         tally.calls += 1;
         tally.accepted += u64::from(!first.is_refused());
+        tally.refused_moves += u64::from(first == Answer::Refused(22));
         self.alike(&first, &second)
             .map_err(|error| format!("{}: {error}", trace::call_words(call)))?;
+        if call.moves_to().is_some() && !first.is_refused() {
+            tally.moved += 1;
+            self.memory = std::mem::replace(&mut self.second, [Lent::none(), Lent::none()]);
+        }
         Ok(first)
     }
 
@@ -171,6 +214,11 @@ impl<'s> Pair<'s> {
             let place = where_differ(one.get(), other.get(), at);
             return Err(format!("the memories differ {place}"));
         }
+        let [moved, other_moved] = &self.second;
+        if let Some(at) = differing(moved.get(), other_moved.get()).next() {
+            let place = where_differ(moved.get(), other_moved.get(), at);
+            return Err(format!("the second memories differ {place}"));
+        }
         let [list, other_list] = &self.scans;
         if list.get() != other_list.get() {
             return Err("the scan lists differ".to_string());
@@ -179,7 +227,8 @@ impl<'s> Pair<'s> {
         if stamps.get() != other_stamps.get() {
             return Err(format!("the stamps are {:?} and {:?}", stamps.get(), other_stamps.get()));
         }
-        let guarded = one.guarded_well() && other.guarded_well();
+        let memories = [one, other, moved, other_moved];
+        let guarded = memories.iter().all(|memory| memory.guarded_well());
         let listed = stamps.guarded_well() && other_stamps.guarded_well();
         if guarded && listed && list.guarded_well() && other_list.guarded_well() {
             return Ok(());

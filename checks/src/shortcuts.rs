@@ -14,6 +14,9 @@ pub const NUMBERS: [u8; 4] = [9, 10, 17, 18];
 /// The number that a call is refused with where one condition goes by its shortcut and the others by
 /// the words.
 pub fn refusal(stored: &Stored, call: &Call, shortcut: u8) -> Option<u8> {
+    if !stated::works_on(stored, call) {
+        return Some(2);
+    }
     let (tests, numbers) = stated::tests(call);
     tests.iter().copied().find(|number| {
         if *number == shortcut {

@@ -1,7 +1,8 @@
 //! The refusals by the papers' words: document 01's table "What a refused call returns" and its
-//! paragraph "Tests run in this order", with Item 2 of document 02 for 14, Item 3 for 13 and Items 4 and 6
-//! for their calls, read of the words of a usable memory, whoever wrote them; and the crossings that Item
-//! 4's call lists and the keepers that Item 6's answers. Written from these alone, to judge a store's
+//! paragraph "Tests run in this order", with Item 2 of document 02 for 14, Item 3 for 13, Items 4 and 6 for
+//! their calls and Item 7 for the moves and for which call works on which form, read of the words of a usable
+//! memory, whoever wrote them; and the crossings that Item 4's call lists and the keepers that Item 6's
+//! answers. Written from these alone, to judge a store's
 //! refusals, lists and keepers, so it is plain rather than quick.
 //!
 //! Two words are settled: open is a number in the list of open numbers, whatever state words say; and
@@ -11,10 +12,11 @@
 
 use std::iter;
 
-use reference::{trace, Answer, Call};
+use reference::{trace, Answer, Call, Form};
 
 use crate::facts::Stored;
-use crate::memory::{header, kind, state, Region, KEEPER_LIMIT, NUMBERS, OPENS, ROWS, SCANS};
+use crate::memory::{header, keeper as keeper_in, kind, state, Region};
+use crate::memory::{NUMBERS, OPENS, ROWS, SCANS};
 
 /// The numbers of a call. What a call does not have is 0, and no test of it looks there.
 #[derive(Clone, Copy, Default)]
@@ -68,13 +70,38 @@ pub fn tests(call: &Call) -> (&'static [u8], Numbers) {
         Call::Crossings { row, column, mark, from, to, places } => {
             (&[5, 6, 13, 21], Numbers { row, column, mark, from, to, places, ..none })
         }
+        // Item 7: "Checks: 2 for either memory [..]; then, on moving back, 22 Keeper"
+        Call::Upgrade => (&[], none),
+        Call::Downgrade => (&[22], none),
     }
 }
 
-/// The number that the call is refused with: the first whose condition applies.
+/// The number that the call is refused with: 2 where it does not work on the memory's form, and else the
+/// first whose condition applies. A move's second memory is long enough.
 pub fn refusal(stored: &Stored, call: &Call) -> Option<u8> {
+    refusal_with(stored, call, usize::MAX)
+}
+
+/// The same with so many bytes of a second memory. Item 7: "2 for either memory (the second by its length
+/// alone)".
+pub fn refusal_with(stored: &Stored, call: &Call, second: usize) -> Option<u8> {
+    let short = call.moves_to().is_some_and(|form| second < stored.layout.moved_to(form).need());
+    if !works_on(stored, call) || short {
+        return Some(2);
+    }
     let (tests, numbers) = tests(call);
     tests.iter().copied().find(|number| applies(stored, *number, call, &numbers))
+}
+
+/// Item 6: "a memory not in a form that the call works on fails a stored fact"; Item 7: "The first move works
+/// on form 1, calls 01 to 12 on form 1 and the newest, which making gives, all others on the newest alone."
+pub fn works_on(stored: &Stored, call: &Call) -> bool {
+    let command = reference::command::parts(call).map(|(byte, _)| byte);
+    match (call, command) {
+        (Call::Upgrade, _) => stored.layout.form == Form::First,
+        (_, Some(0x01..=0x12)) => true,
+        _ => stored.layout.form == Form::Newest,
+    }
 }
 
 /// What an accepted call lists, which is what it writes to the lent stamps; nothing for any other call.
@@ -176,6 +203,14 @@ pub fn applies(s: &Stored, number: u8, call: &Call, n: &Numbers) -> bool {
         18 => s.header(header::SPARES) as usize <= s.waiting_pages().count(),
         // "exactly if the crossings outnumber the slice"
         21 => crossings(s, n).len() > n.places as usize,
+        // "exactly if a row, a tail record or an open transaction bears a keeper other than 0"
+        22 => {
+            let mut open = (0..OPENS).filter(|entry| s.get(Region::Opens, *entry) != 0);
+            let bears = |region, at| keeper_in(s.get(region, at)) != 0;
+            s.rows().any(|row| bears(Region::RowKeeper, row))
+                || s.slots().any(|slot| bears(Region::TailKeeper, slot))
+                || open.any(|entry| bears(Region::OpenKeeper, entry))
+        }
         _ => unreachable!("{number} is no number of a call on a store"),
     }
 }
@@ -335,5 +370,5 @@ fn keeper(s: &Stored, n: &Numbers) -> Answer {
         Some(record) => of(Region::TailKeeper, record),
         None => row(s, Region::RowKeeper, n),
     };
-    Answer::Number(word % KEEPER_LIMIT)
+    Answer::Number(keeper_in(word))
 }

@@ -1,5 +1,5 @@
-//! A store as the checks use it: numbers, lent memory, a lent scan list and a lent slice of stamps in, an
-//! answer out.
+//! A store as the checks use it: numbers, lent memory, a lent scan list and a lent slice of stamps or second
+//! memory in, an answer out.
 
 use reference::{Answer, Call, Shape};
 
@@ -14,7 +14,7 @@ pub trait Store {
     fn make(&self, memory: &mut [u8], scans: &mut [ScanEntry], shape: &Shape) -> Answer;
 
     /// One of the calls 01 to 14 (hexadecimal). 12 is lent the stamps, and answers `Number`: how many of
-    /// them it wrote, from the first on. No other call is lent them.
+    /// them it wrote, from the first on. No other call is lent them. A move has a second memory of no byte.
     fn call_with(
         &self,
         memory: &mut [u8],
@@ -23,7 +23,20 @@ pub trait Store {
         call: &Call,
     ) -> Answer;
 
-    /// The same with no place for a stamp.
+    /// One of the moves, with the second memory. An accepted one writes there alone; memory and list are
+    /// lent to be written all the same, for a wrong store to do so.
+    fn move_with(
+        &self,
+        memory: &mut [u8],
+        scans: &mut [ScanEntry],
+        second: &mut [u8],
+        call: &Call,
+    ) -> Answer;
+
+    /// The check whether memory and list are usable: `Number`, the stored form's, or a refusal.
+    fn check(&self, memory: &[u8], scans: &[ScanEntry]) -> Answer;
+
+    /// A call with no place for a stamp.
     fn call(&self, memory: &mut [u8], scans: &mut [ScanEntry], call: &Call) -> Answer {
         self.call_with(memory, scans, &mut [], call)
     }
@@ -37,7 +50,7 @@ pub fn told(answer: Answer) -> (Answer, Vec<u32>) {
     }
 }
 
-/// Whether an accepted call may change the lent memory.
+/// Whether an accepted call may change the lent memory. A move does not: another memory is the store then.
 pub fn writes(call: &Call) -> bool {
     match call {
         Call::Latest { .. }
@@ -49,7 +62,9 @@ pub fn writes(call: &Call) -> bool {
         | Call::PageCell { .. }
         | Call::Lineage { .. }
         | Call::Crossings { .. }
-        | Call::KeeperAt { .. } => false,
+        | Call::KeeperAt { .. }
+        | Call::Upgrade
+        | Call::Downgrade => false,
         Call::Begin
         | Call::BeginAs { .. }
         | Call::Insert { .. }

@@ -1,12 +1,13 @@
-//! Random memories and scan lists that no call made: anything, words of which every stored fact
-//! holds, such words with a few of them changed or in another form, and stores in which words are changed
-//! that the facts leave free.
+//! Random memories and scan lists that no call made, in either form: anything, words of which every stored
+//! fact holds, such words with a few of them changed or in another form, and stores in which words are
+//! changed that the facts leave free.
 
 use reference::random::Random;
-use reference::Shape;
+use reference::{Form, Shape};
 
 use crate::lent::{Content, Lent};
-use crate::memory::{columns_word, header, kind, list_word, page, put_word, state, word};
+use crate::memory::word;
+use crate::memory::{columns_word, form_number, header, kind, list_word, page, put_word, state};
 use crate::memory::{Layout, Region, ScanEntry};
 use crate::memory::{FORM, KEEPER_LIMIT, NUMBERS, OPENS, ROWS, SCANS, SCAN_WORDS, WORD};
 
@@ -53,15 +54,16 @@ fn change_memory(memory: &mut [u8], random: &mut Random) {
     }
 }
 
-/// Another form under the same measures. Form 1 has all of its words where this form has them, so that
-/// with the bytes that it needed the memory is a good one of form 1, if it was a good one.
+/// Another form under the same measures. Form 1 has all of its words where the newest has them, so that a
+/// good memory is a good one of form 1 too, and with the bytes that it lacks one of the newest.
 fn other_form(memory: &mut Vec<u8>, random: &mut Random) {
     let Some(layout) = Layout::stored(memory) else { return };
     // The last is the greatest that the word has room for.
-    let form = random.pick(&[1, 1, FORM + 1, FORM + 2, 1 << 16]);
+    let form = random.pick(&[1, FORM, FORM + 1, FORM + 2, 1 << 16]);
     put_word(memory, header::COLUMNS, columns_word(layout.columns as u32, form));
-    if form == 1 && random.percent(50) {
-        memory.truncate(layout.need_in_form_1());
+    if random.percent(50) {
+        let need = Layout::stored(memory).map_or(0, |layout| layout.need());
+        memory.resize(need, random.word() as u8);
     }
 }
 
@@ -116,20 +118,25 @@ pub fn small_shape(random: &mut Random) -> Shape {
     }
 }
 
+/// A form, more often the newest, on which more calls work.
+fn any_form(random: &mut Random) -> Form {
+    random.pick(&[Form::First, Form::Newest, Form::Newest])
+}
+
 /// Random bytes under measures within the limits, about as long as they need.
 fn measured(random: &mut Random) -> Vec<u8> {
-    let shape = small_shape(random);
-    let length = Layout::of(&shape).need() + random.below(40) as usize;
+    let (shape, form) = (small_shape(random), any_form(random));
+    let length = Layout::in_form(&shape, form).need() + random.below(40) as usize;
     let mut bytes = vec![0; length];
     if random.percent(50) {
         Content::fill(&mut bytes[..], random);
     }
-    put_measures(&mut bytes, &shape);
+    put_measures(&mut bytes, &shape, form);
     bytes
 }
 
-fn put_measures(bytes: &mut [u8], shape: &Shape) {
-    put_word(bytes, header::COLUMNS, columns_word(shape.columns, FORM));
+fn put_measures(bytes: &mut [u8], shape: &Shape, form: Form) {
+    put_word(bytes, header::COLUMNS, columns_word(shape.columns, form_number(form)));
     put_word(bytes, header::RANGES, shape.ranges);
     put_word(bytes, header::CAPACITY, shape.capacity);
     put_word(bytes, header::SPARES, shape.spares);
@@ -137,8 +144,8 @@ fn put_measures(bytes: &mut [u8], shape: &Shape) {
 
 /// A memory and list of which every stored fact holds, and else anything.
 pub fn passing(random: &mut Random) -> (Vec<u8>, Vec<ScanEntry>) {
-    let shape = small_shape(random);
-    let mut builder = Builder::new(&shape, random);
+    let (shape, form) = (small_shape(random), any_form(random));
+    let mut builder = Builder::new(&shape, form, random);
     builder.opens();
     for range in 0..shape.ranges as usize {
         builder.records(range);
@@ -200,11 +207,11 @@ const SETTINGS: [u32; 2] = [0, 70];
 const KEEPERS: [Region; 3] = [Region::RowKeeper, Region::TailKeeper, Region::OpenKeeper];
 
 impl Builder<'_> {
-    fn new<'r>(shape: &Shape, random: &'r mut Random) -> Builder<'r> {
-        let layout = Layout::of(shape);
+    fn new<'r>(shape: &Shape, form: Form, random: &'r mut Random) -> Builder<'r> {
+        let layout = Layout::in_form(shape, form);
         let mut bytes = vec![0; layout.need() + random.below(40) as usize];
         Content::fill(&mut bytes[..], random);
-        put_measures(&mut bytes, shape);
+        put_measures(&mut bytes, shape, form);
         let rows = match random.below(4) {
             0 => layout.rows as u32,
             _ => random.below(layout.rows as u32 + 1),
@@ -269,7 +276,9 @@ impl Builder<'_> {
             1 | 2 => self.other_page(),
             3 => self.other_lineage(),
             4 => self.more_commits(),
-            5 | 6 => self.other_keeper(),
+            5 => self.other_keeper(),
+            6 if self.random.percent(50) => self.unknown_keepers(),
+            6 => self.other_keeper(),
             _ => self.other_record(),
         }
     }
@@ -277,8 +286,11 @@ impl Builder<'_> {
     /// Another keeper of a row, a record or an entry of the open transactions, used or not.
     fn other_keeper(&mut self) {
         let region = self.random.pick(&KEEPERS);
-        // The rows that records name are the first of a range.
         let all = self.layout.length(region) as u32;
+        if all == 0 {
+            return;
+        }
+        // The rows that records name are the first of a range.
         let most = if self.random.percent(50) { all.min(3) } else { all };
         let (at, keeper) = (self.random.below(most) as usize, self.keeper());
         self.put(region, at, keeper);
@@ -290,6 +302,37 @@ impl Builder<'_> {
                 let keeper = self.keeper();
                 self.put(region, at, keeper);
             }
+        }
+        // One that bears a keeper, or an unused place that holds one, among many that bear none.
+        if self.random.percent(40) {
+            self.unknown_keepers();
+            if self.random.percent(40) {
+                self.other_keeper();
+            }
+        }
+    }
+
+    /// No row, record or open transaction bears a keeper other than 0, so that the way back to form 1 is
+    /// open. What is not used keeps its words, and in some memories the upper half of a word holds something.
+    fn unknown_keepers(&mut self) {
+        if self.layout.form == Form::First {
+            return;
+        }
+        let rows = (0..self.rows as usize).map(|row| (Region::RowKeeper, row));
+        let ranges = 0..self.layout.ranges;
+        let slots = ranges.flat_map(|range| {
+            let used = self.get(Region::Used, range) as usize;
+            let layout = self.layout;
+            (1..=used).map(move |number| (Region::TailKeeper, layout.slot(range, number)))
+        });
+        let opens = (0..OPENS).filter(|open| self.get(Region::Opens, *open) != 0);
+        let opens = opens.map(|open| (Region::OpenKeeper, open));
+        let borne: Vec<(Region, usize)> = rows.chain(slots).chain(opens).collect();
+        let upper = if self.random.percent(30) { 20 } else { 0 };
+        for (region, at) in borne {
+            let half = self.random.below(KEEPER_LIMIT);
+            let word = if self.random.percent(upper) { half * KEEPER_LIMIT } else { 0 };
+            self.put(region, at, word);
         }
     }
 

@@ -4,7 +4,7 @@ use checks::defined::Defined;
 use checks::memory::{OPENS, SCANS};
 use checks::plain::Plain;
 use checks::{agree, same};
-use reference::{Call, Shape};
+use reference::{Call, Form, Shape};
 
 #[test]
 fn answers_are_those_of_the_plain_history() {
@@ -35,17 +35,30 @@ fn lists_have_crossings_as_many_as_places_and_more() {
 /// gives another, each at many.
 #[test]
 fn lists_have_keepers_that_tell_wrong_readings() {
-    let tally = agree::run(&Plain::<0>, 0, 1100).expect("no difference");
+    let tally = agree::run(&Plain::<0>, 0, 2200).expect("no difference");
     let keepers = &tally.keepers;
     assert!(keepers.given > 3000 && keepers.none > 1000, "{tally:?}");
     assert!(keepers.telling * 2 > keepers.given, "{tally:?}");
     assert!(keepers.readings().iter().all(|count| *count > 200), "{tally:?}");
 }
 
+/// A third of the lists start from what form 1's making left, and a fourth of all calls is on form 1; there are
+/// moves of every kind in hundreds of places.
+#[test]
+fn lists_have_moves_of_every_kind() {
+    let tally = agree::run(&Plain::<0>, 0, 1100).expect("no difference");
+    let moves = &tally.moves;
+    assert!(moves.lists_from_form_1 * 4 > tally.lists, "{tally:?}");
+    assert!(moves.calls_on_form_1 * 4 > tally.calls, "{tally:?}");
+    assert!(moves.up > 1200 && moves.back > 1200 && moves.refused > 1200, "{tally:?}");
+    assert!(moves.there_and_back > 600, "{tally:?}");
+}
+
 #[test]
 fn bytes_are_those_of_the_definitions() {
     let tally = same::run(&Plain::<0>, &Defined, 0, 200).expect("no difference");
     assert!(tally.accepted * 10 > tally.calls * 4, "{tally:?}");
+    assert!(tally.moved > 800 && tally.refused_moves > 300, "{tally:?}");
 }
 
 /// One of the calls that begin a transaction, in turn.
@@ -79,8 +92,9 @@ fn numbers_run_out() {
     let open = Call::OpenScan { stamp: 0 };
     scans.extend([open.clone(), Call::Close { scan: 65_535 }, open]);
     for calls in [transactions, scans] {
-        let tally = agree::compare(&Plain::<0>, 0, &SMALLEST, &calls).expect("no difference");
-        let refused = if calls[0] == begin(1) { 4 } else { 2 };
-        assert_eq!(tally.accepted, calls.len() as u64 - refused);
+        let list = agree::List { shape: SMALLEST, form: Form::Newest, calls };
+        let tally = agree::compare(&Plain::<0>, 0, &list).expect("no difference");
+        let refused = if list.calls[0] == begin(1) { 4 } else { 2 };
+        assert_eq!(tally.accepted, list.calls.len() as u64 - refused);
     }
 }

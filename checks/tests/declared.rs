@@ -301,7 +301,7 @@ fn rust_named(text: &str) -> Result<Named, String> {
 #[test]
 fn the_declarations_are_those_of_the_exports() {
     let exports = exported(&texts()).expect("the exports are read");
-    assert_eq!(exports.functions.len(), 23);
+    assert_eq!(exports.functions.len(), 25);
     compare(&texts()).expect("no difference");
 }
 
@@ -336,12 +336,16 @@ fn another_type_of_a_parameter_is_told_apart() {
     told_apart(|t| &mut t.header, "const int32_t *values", "const uint32_t *values");
     told_apart(|t| &mut t.header, "uint32_t *stamps", "const uint32_t *stamps");
     told_apart(|t| &mut t.header, "int32_t mark", "uint32_t mark");
+    told_apart(|t| &mut t.header, "uint8_t *second", "const uint8_t *second");
+    told_apart(|t| &mut t.header, "size_t second_length", "uint32_t second_length");
     told_apart(|t| &mut t.declared, "mask: u16", "mask: u32");
     told_apart(|t| &mut t.declared, "keeper: u16", "keeper: u32");
     told_apart(|t| &mut t.declared, "mem: *$memory u8", "mem: *const u8");
     told_apart(|t| &mut t.declared, "mem_length: usize", "mem_length: u32");
     told_apart(|t| &mut t.declared, "stamps: *mut u32", "stamps: *const u32");
     told_apart(|t| &mut t.declared, "mark: i32", "mark: u32");
+    told_apart(|t| &mut t.declared, "second: *mut u8", "second: *const u8");
+    told_apart(|t| &mut t.declared, "second_length: usize", "second_length: u32");
     told_apart(|t| &mut t.declared, "const mut deskrook_close", "const const deskrook_close");
 }
 

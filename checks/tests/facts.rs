@@ -9,14 +9,17 @@ use checks::plain::{sound, Plain};
 use checks::unmade::{any_lent, passing};
 use checks::{damage, facts, Store};
 use reference::random::Random;
-use reference::{Answer, Call};
+use reference::{Answer, Call, Form};
 
 #[test]
 fn refusals_are_those_of_the_facts_and_of_the_words() {
     let tally = damage::run(&Plain::<0>, 0, 2).expect("no difference");
     assert!(tally.failing > 1100 && tally.accepted > 110_000, "{tally:?}");
-    assert!(tally.crossings > 2200, "{tally:?}");
+    assert!(tally.crossings > 1800, "{tally:?}");
     assert!(tally.keepers > 4000, "{tally:?}");
+    let moves = &tally.moves;
+    assert!(moves.on_form_1 > 5000 && moves.up > 2000 && moves.back > 1000, "{tally:?}");
+    assert!(moves.too_short > 2000 && moves.refused > 2000, "{tally:?}");
     let differing = &tally.differing;
     let each = [differing.by_9, differing.by_10, differing.by_17, differing.by_18];
     assert!(each.iter().all(|count| *count > 220), "{tally:?}");
@@ -135,28 +138,40 @@ fn ordinals_are_no_fact() {
     }
 }
 
-/// The header's first word has the columns and the form: with any other form, and with any other columns in
-/// this one, no call is accepted.
+/// The header's first word has the columns and the form: with any other form than 1 and 2, and with any other
+/// columns in these, no call is accepted.
 #[test]
-fn the_form_is_2() {
-    let (mut memory, mut list, _) = small();
+fn the_form_is_1_or_2() {
+    let (mut memory, mut list, layout) = small();
     assert_eq!(word(&memory, header::COLUMNS), SMALL.columns + 65_536);
     assert_eq!(facts::failing(&memory, &list), None);
-    for form in [1, 3, 4, 257, 65_536] {
+    for form in [3, 4, 257, 65_536] {
         let other = columns_word(SMALL.columns, form);
         assert_eq!(other, SMALL.columns + 65_536 * (form - 1));
         put_word(&mut memory, header::COLUMNS, other);
         let before = memory.clone();
-        assert_eq!(facts::all_failing(&memory, &list), ["the memory is in form 2"]);
+        assert_eq!(facts::all_failing(&memory, &list), ["the memory is in form 1 or 2"]);
         assert!(sound(&memory, &list).is_none());
         assert_eq!(Plain::<0>.call(&mut memory, &mut list, &Call::Begin), Answer::Refused(2));
         assert_eq!(memory, before);
     }
-    for columns in [0, 17, 65_535] {
-        put_word(&mut memory, header::COLUMNS, columns + 65_536);
+    for (columns, form) in [0, 17, 65_535].into_iter().flat_map(|n| [(n, 0), (n, 65_536)]) {
+        put_word(&mut memory, header::COLUMNS, columns + form);
         assert_eq!(facts::all_failing(&memory, &list), ["the measures lie within their limits"]);
         assert!(sound(&memory, &list).is_none());
     }
+    // Form 1 needs less, and what stands behind is no matter.
+    put_word(&mut memory, header::COLUMNS, SMALL.columns);
+    let need = layout.moved_to(Form::First).need();
+    for length in [need, need + 1, memory.len()] {
+        assert_eq!(facts::failing(&memory[..length], &list), None);
+        assert!(sound(&memory[..length], &list).is_some());
+    }
+    let short = ["the memory is as long as the shape needs"];
+    assert_eq!(facts::all_failing(&memory[..need - 1], &list), short);
+    put_word(&mut memory, header::COLUMNS, SMALL.columns + 65_536);
+    assert_eq!(facts::all_failing(&memory[..need], &list), short);
+    assert_eq!(facts::all_failing(&memory[..layout.need() - 1], &list), short);
 }
 
 /// Keepers of rows, records and open transactions are no stored fact: whatever they are, the memory is

@@ -316,10 +316,11 @@ fn every_kind_of_word_of_a_merge_changes() {
     ]);
     let (mut allowed, mut changed) = (BTreeSet::new(), BTreeSet::new());
     for seed in 0..100 {
-        let (shape, calls) = agree::list(seed);
+        let agree::List { shape, calls, .. } = agree::list(seed);
         let layout = Layout::of(&shape);
         let (mut memory, mut list) = after(&Plain::<0>, &shape, &[]);
-        for call in &calls {
+        // Without the moves, on the newest form alone: what a merge may change is the same in either.
+        for call in calls.iter().filter(|call| call.moves_to().is_none()) {
             let (before, entries) = (memory.clone(), list.clone());
             let answer = Plain::<0>.call(&mut memory, &mut list, call);
             let Call::Merge { range, column, .. } = *call else { continue };

@@ -14,7 +14,8 @@ fn answers_are_those_of_the_plain_history() {
 
 #[test]
 fn refusals_are_those_of_the_facts_and_of_the_words() {
-    damage::run(&Library, 0, 1).expect("no difference");
+    // The store that the first seed damages is in form 1, that of the second in the newest.
+    damage::run(&Library, 0, 2).expect("no difference");
 }
 
 #[test]

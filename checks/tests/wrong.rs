@@ -4,8 +4,11 @@
 use checks::memory::{Layout, Region, ScanEntry, SCANS};
 use checks::plain::{faults, Altered, Plain};
 use checks::store::told;
-use checks::{agree, damage, facts, same, Store};
-use reference::{Answer, Call, History};
+use checks::{agree, damage, facts, first, moves, same, Store};
+use reference::{Answer, Call, Form, History};
+
+/// A seed of which the small store that is damaged is in the newest form.
+const IN_THE_NEWEST: u64 = 1;
 
 /// Lists that are tried before a fault counts as not found.
 const LISTS: u64 = 4000;
@@ -128,16 +131,27 @@ fn begin_writes_no_keeper() {
     told_apart_by_bytes(&Plain::<{ faults::BEGIN_WRITES_NO_KEEPER }>, Region::OpenKeeper);
 }
 
-/// The keeper of a free place goes into no answer, since a begin writes it.
+/// The keeper of a free place goes into no answer, since a begin writes it, and does not close the way back.
+/// But form 1 has no word for it, so that back and up again it is lost.
 #[test]
 fn end_leaves_the_keeper() {
-    told_apart_by_bytes(&Plain::<{ faults::END_LEAVES_THE_KEEPER }>, Region::OpenKeeper);
+    let wrong = Plain::<{ faults::END_LEAVES_THE_KEEPER }>;
+    answers_rightly(&wrong, 200);
+    let difference = agree::run(&wrong, 0, LISTS).expect_err("the fault was not found");
+    assert!(difference.contains("moved there and back the memory is another"), "{difference}");
+    let difference = same::run(&Plain::<0>, &wrong, 0, LISTS).expect_err("the fault was not found");
+    assert!(difference.contains(" of OpenKeeper: "), "{difference}");
 }
 
-/// A delete sets no value, so that its keeper is not asked for.
+/// A delete sets no value, so that its keeper is not asked for; the way back alone heeds it.
 #[test]
 fn delete_without_keeper() {
-    told_apart_by_bytes(&Plain::<{ faults::DELETE_WITHOUT_KEEPER }>, Region::TailKeeper);
+    let wrong = Plain::<{ faults::DELETE_WITHOUT_KEEPER }>;
+    let difference = wrong_answer(&wrong, LISTS).expect("a wrong answer");
+    assert!(difference.contains("Downgrade: Done, where Refused(22) is due"), "{difference}");
+    told_apart(&wrong);
+    let difference = same::run(&Plain::<0>, &wrong, 0, LISTS).expect_err("the fault was not found");
+    assert!(difference.contains(" of TailKeeper: "), "{difference}");
 }
 
 /// On memories that no call made, and on no others.
@@ -173,37 +187,164 @@ fn keeper_without_the_mask() {
     told_apart_where_unmade(&Plain::<{ faults::KEEPER_WITHOUT_THE_MASK }>);
 }
 
-/// Making gives form 2, and no call another.
+/// Making gives form 2, and no call one above it.
 #[test]
-fn form_1_accepted() {
-    let wrong = Plain::<{ faults::FORM_1_ACCEPTED }>;
+fn later_form_accepted() {
+    let wrong = Plain::<{ faults::LATER_FORM_ACCEPTED }>;
     let by_form = |difference: Result<damage::Tally, String>| {
         let difference = difference.expect_err("the fault was not found");
-        assert!(difference.contains("'the memory is in form 2' fails"), "{difference}");
+        assert!(difference.contains("'the memory is in form 1 or 2' fails"), "{difference}");
     };
     agree::run(&wrong, 0, 200).expect("no difference");
-    by_form(damage::every_byte(&wrong, 0));
+    // The bytes of a store in the newest form.
+    by_form(damage::every_byte(&wrong, IN_THE_NEWEST));
     by_form(damage::random_memories(&wrong, 0, LISTS));
     assert!(same::run(&Plain::<0>, &wrong, 0, LISTS).is_err());
 }
 
+/// The first answer on the lists of so many seeds that is not the plain history's, and failing facts after a
+/// list; no byte is looked at else. A move is followed into the second memory, which held something else.
+fn wrong_answer(store: &dyn Store, seeds: u64) -> Option<String> {
+    for seed in 0..seeds {
+        let agree::List { shape, form, calls } = agree::list(seed);
+        let mut history = History::new(shape);
+        let need = Layout::in_form(&shape, form).need();
+        let (mut memory, mut list) = (vec![0; need], [ScanEntry::FREE; SCANS]);
+        match form {
+            Form::First => first::make(&mut memory, &mut list, &shape),
+            Form::Newest => assert_eq!(store.make(&mut memory, &mut list, &shape), Answer::Done),
+        }
+        for call in &calls {
+            let due = told(history.call(call)).0;
+            let answer = if let Some(need) = moves::need(&memory, call) {
+                let mut second = vec![0x11; need];
+                let answer = store.move_with(&mut memory, &mut list, &mut second, call);
+                if !answer.is_refused() {
+                    memory = second;
+                }
+                answer
+            } else {
+                let mut stamps = match call {
+                    Call::Crossings { places, .. } => vec![0; *places as usize],
+                    _ => Vec::new(),
+                };
+                store.call_with(&mut memory, &mut list, &mut stamps, call)
+            };
+            if answer != due {
+                return Some(format!("seed {seed}, {call:?}: {answer:?}, where {due:?} is due"));
+            }
+        }
+        if let Some(fact) = facts::failing(&memory, &list) {
+            return Some(format!("seed {seed}: '{fact}' fails"));
+        }
+    }
+    None
+}
+
 /// On the lists of so many seeds every answer is the plain history's, and after each list no fact fails.
 fn answers_rightly(store: &dyn Store, seeds: u64) {
-    for seed in 0..seeds {
-        let (shape, calls) = agree::list(seed);
-        let mut history = History::new(shape);
-        let (mut memory, mut list) = (vec![0; Layout::of(&shape).need()], [ScanEntry::FREE; SCANS]);
-        assert_eq!(store.make(&mut memory, &mut list, &shape), Answer::Done);
-        for call in &calls {
-            let mut stamps = match call {
-                Call::Crossings { places, .. } => vec![0; *places as usize],
-                _ => Vec::new(),
-            };
-            let answer = store.call_with(&mut memory, &mut list, &mut stamps, call);
-            assert_eq!(answer, told(history.call(call)).0, "seed {seed}, {call:?}");
+    assert_eq!(wrong_answer(store, seeds), None);
+}
+
+/// Told apart by an answer, and by `agree` and `same`, which look at bytes too.
+fn told_apart_by_answers(wrong: &dyn Store) {
+    let found = wrong_answer(wrong, LISTS);
+    assert!(found.is_some(), "no answer was wrong in {LISTS} lists");
+    told_apart(wrong);
+    assert!(same::run(&Plain::<0>, wrong, 0, LISTS).is_err());
+}
+
+macro_rules! wrong_moves {
+    ($($name:ident: $fault:ident,)*) => {$(
+        #[test]
+        fn $name() {
+            told_apart_by_answers(&Plain::<{ faults::$fault }>);
         }
-        assert_eq!(facts::failing(&memory, &list), None, "seed {seed}");
-    }
+    )*};
+}
+
+wrong_moves! {
+    form_1_refused_by_latest: FORM_1_REFUSED_BY_LATEST,
+    move_forgets_open_transactions: MOVE_FORGETS_OPEN_TRANSACTIONS,
+    move_forgets_changes: MOVE_FORGETS_CHANGES,
+    move_forgets_waiting_pages: MOVE_FORGETS_WAITING_PAGES,
+    move_loses_made: MOVE_LOSES_MADE,
+    move_loses_replaced: MOVE_LOSES_REPLACED,
+    move_forgets_ordinals: MOVE_FORGETS_ORDINALS,
+    move_closes_scans: MOVE_CLOSES_SCANS,
+    move_leaves_keepers: MOVE_LEAVES_KEEPERS,
+    move_forgets_the_form: MOVE_FORGETS_THE_FORM,
+    back_without_keeper_test: BACK_WITHOUT_KEEPER_TEST,
+    back_heeds_no_rows: BACK_HEEDS_NO_ROWS,
+    back_heeds_no_records: BACK_HEEDS_NO_RECORDS,
+    back_heeds_no_aborted: BACK_HEEDS_NO_ABORTED,
+    back_heeds_no_deletes: BACK_HEEDS_NO_DELETES,
+    back_heeds_no_open: BACK_HEEDS_NO_OPEN,
+    back_wants_the_newest_need: BACK_WANTS_THE_NEWEST_NEED,
+}
+
+/// No answer is another, so that the bytes alone tell it apart: `agree` finds it, by these words.
+fn told_apart_by_moved_bytes(wrong: &dyn Store, words: &str) {
+    answers_rightly(wrong, 200);
+    let difference = agree::run(wrong, 0, LISTS).expect_err("the fault was not found");
+    assert!(difference.contains(words), "{difference}");
+    assert!(damage::random_memories(wrong, 0, LISTS).is_err());
+    assert!(same::run(&Plain::<0>, wrong, 0, LISTS).is_err());
+}
+
+/// The cells of a free page are not looked at before a merge has written all of them, but they are needed bytes.
+#[test]
+fn move_leaves_free_cells() {
+    let wrong = Plain::<{ faults::MOVE_LEAVES_FREE_CELLS }>;
+    told_apart_by_moved_bytes(&wrong, "the second memory is not as the move leaves it, at word ");
+}
+
+#[test]
+fn move_past_the_need() {
+    let wrong = Plain::<{ faults::MOVE_PAST_THE_NEED }>;
+    told_apart_by_moved_bytes(&wrong, "past the need");
+}
+
+/// No call is lent the memory moved from any more.
+#[test]
+fn move_writes_the_first() {
+    let wrong = Plain::<{ faults::MOVE_WRITES_THE_FIRST }>;
+    told_apart_by_moved_bytes(&wrong, "the memory changed outside the call's footprint");
+}
+
+#[test]
+fn writes_though_refused() {
+    let wrong = Plain::<{ faults::WRITES_THOUGH_REFUSED }>;
+    told_apart_by_moved_bytes(&wrong, "it changed a byte of the second memory");
+}
+
+/// On memories that no call made, on second memories that are too short or hold a store, or in a form that the
+/// call does not work on: lists of calls lend no such thing.
+fn told_apart_where_not_listed(wrong: &dyn Store) {
+    agree::run(wrong, 0, 400).expect("no difference");
+    assert!(damage::random_memories(wrong, 0, LISTS).is_err());
+    assert!(same::run(&Plain::<0>, wrong, 0, LISTS).is_err());
+}
+
+macro_rules! unlisted_moves {
+    ($($name:ident: $fault:ident,)*) => {$(
+        #[test]
+        fn $name() {
+            told_apart_where_not_listed(&Plain::<{ faults::$fault }>);
+        }
+    )*};
+}
+
+unlisted_moves! {
+    keeper_at_on_form_1: KEEPER_AT_ON_FORM_1,
+    begin_as_on_form_1: BEGIN_AS_ON_FORM_1,
+    upgrade_of_the_newest: UPGRADE_OF_THE_NEWEST,
+    downgrade_of_form_1: DOWNGRADE_OF_FORM_1,
+    move_clears_unused_header: MOVE_CLEARS_UNUSED_HEADER,
+    back_heeds_unused: BACK_HEEDS_UNUSED,
+    back_heeds_whole_words: BACK_HEEDS_WHOLE_WORDS,
+    back_tests_keepers_first: BACK_TESTS_KEEPERS_FIRST,
+    second_store_refused: SECOND_STORE_REFUSED,
 }
 
 /// The difference is a word of this region that a merge changed.

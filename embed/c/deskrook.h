@@ -6,10 +6,10 @@
  * LENDING. Every call on a store takes
  *   mem, mem_length      the memory: bytes at any address, at least as many as deskrook_bytes_needed answers;
  *   scans, scans_length  the list of open scans: an array of at least DESKROOK_SCANS entries.
- * The pointers are not null, also where the length is 0. Memory, list, values and stamps do not overlap. Lend the same memory and list to every call on a store, and
- * write to neither in between. A call that meets other bytes than the last one left, even random ones, still answers, touches nothing outside what it was
- * lent, and answers DESKROOK_MEMORY wherever a stored fact fails: also where more than DESKROOK_SCANS are open in the list, and where the memory is not in stored form 2,
- * which has the keepers. Form 1 is what was made before there were any; no call works on it, and deskrook_make makes form 2, whatever the memory held.
+ * The pointers are not null, also where the length is 0. Memory, list, values, stamps and the second memory of a move do not overlap. Lend the same memory and list to
+ * every call on a store, and write to neither in between. A call that meets other bytes than the last one left, even random ones, still answers, touches nothing outside
+ * what it was lent, and answers DESKROOK_MEMORY wherever a stored fact fails: also where more than DESKROOK_SCANS are open in the list, and where the memory is in a
+ * stored form that the call does not work on.
  *
  * ANSWERS. `result` is DESKROOK_OK, DESKROOK_NONE or the number of a refusal. A refused call changes no byte of what it was lent. The other fields are said with
  * each call; a field of which nothing is said is 0, and all of them are 0 where the result is not DESKROOK_OK. Where a read of one cell gives a value,
@@ -22,7 +22,12 @@
  * before the last commit's never changes, and no answer of an open scan does: it sees the commits up to its stamp that were made before it was opened, and no more.
  *
  * KEEPERS. A transaction has a keeper, a number of 2 bytes that tells who made it: deskrook_begin_as takes any, and deskrook_begin takes 0, unknown. Each row and tail
- * record carries its transaction's keeper, and original values that of the row's insert; deskrook_keeper_at answers the keeper of the value that deskrook_read_at shows. */
+ * record carries its transaction's keeper, and original values that of the row's insert; deskrook_keeper_at answers the keeper of the value that deskrook_read_at shows.
+ *
+ * FORMS. A memory is in a stored form. Form 1 is what fitted panels hold: it was made before there were keepers, has none, and needs fewer bytes. Form 2 is the newest and
+ * has them; deskrook_make makes it, whatever the memory held, and it is what deskrook_bytes_needed tells the bytes of. deskrook_upgrade moves a store from form 1 to the
+ * newest, into a second memory, and works on form 1 alone. deskrook_downgrade moves it back, and works on the newest alone, as deskrook_begin_as and deskrook_keeper_at
+ * do. Every other call on a store works on both, and leaves the form as it is; deskrook_check says which one it is. */
 #ifndef DESKROOK_H
 #define DESKROOK_H
 
@@ -56,7 +61,7 @@ typedef struct deskrook_reply {
 enum deskrook_result {
     DESKROOK_OK = 0,           /* accepted */
     DESKROOK_SHAPE = 1,        /* a measure outside its limits */
-    DESKROOK_MEMORY = 2,       /* memory shorter than the shape needs, a scan list under 5 entries, or a stored fact fails, of which one is that the memory is in stored form 2 */
+    DESKROOK_MEMORY = 2,       /* a memory shorter than the shape needs, a scan list under 5 entries, or a stored fact fails, also where the call does not work on the memory's form */
     DESKROOK_TRANSACTION = 3,  /* the transaction's number is not open */
     DESKROOK_SCAN = 4,         /* the scan's number is not open */
     DESKROOK_ROW = 5,          /* row number not yet given */
@@ -74,6 +79,7 @@ enum deskrook_result {
     DESKROOK_OPEN = 17,        /* a record up to the one merged through belongs to an open transaction */
     DESKROOK_NO_PAGE = 18,     /* no free page */
     DESKROOK_LIST = 21,        /* fewer places lent than there are crossings */
+    DESKROOK_KEEPER = 22,      /* on moving back to form 1, a row, a tail record or an open transaction has a keeper other than 0 */
     DESKROOK_NONE = 32         /* accepted, and the answer is none: the row is not there for this reader */
 };
 
@@ -84,24 +90,39 @@ static inline int32_t deskrook_value(deskrook_reply reply) {
 
 /* ---- a store's shape ---- */
 
-/* The bytes that a shape needs: columns 1 to 16, ranges 1 to 16 of 64 rows each, capacity 1 to 512 tail records for each range, spares 0 to 256 pages.
- * first: the bytes. Refusals: SHAPE. */
+/* The bytes that a shape needs in the newest form: columns 1 to 16, ranges 1 to 16 of 64 rows each, capacity 1 to 512 tail records for each range, spares 0 to 256
+ * pages. Form 1 needs fewer. first: the bytes. Refusals: SHAPE. */
 deskrook_reply deskrook_bytes_needed(uint32_t columns, uint32_t ranges, uint32_t capacity, uint32_t spares);
 
-/* Makes an empty store of a shape, whatever memory and list held before, and frees every entry of the list. Bytes past those needed stay as they are.
+/* Makes an empty store of a shape in the newest form, whatever memory and list held before, and frees every entry of the list. Bytes past those needed stay as they are.
  * Refusals: SHAPE, MEMORY (too few bytes or entries). */
 deskrook_reply deskrook_make(uint8_t *mem, size_t mem_length, deskrook_scan_entry *scans, size_t scans_length, uint32_t columns, uint32_t ranges, uint32_t capacity,
                              uint32_t spares);
 
-/* Whether memory and list are usable, which every call on a store asks first. Refusals: MEMORY. */
+/* Whether memory and list are usable, in whatever form some call works on; every call on a store asks it first, of the forms that it works on itself.
+ * first: the stored form, 1 or 2, of which 2 is the newest. Refusals: MEMORY. */
 deskrook_reply deskrook_check(const uint8_t *mem, size_t mem_length, const deskrook_scan_entry *scans, size_t scans_length);
+
+/* ---- moves: from one stored form to the other ---- */
+
+/* Moves a store in form 1 into a second memory, in the newest form, with keeper 0 throughout. The second memory is then the store, with the same list: open transactions
+ * and scans go on there under their numbers, and waiting pages wait. The first memory and the list are read alone. The first keeps its bytes and is no store any more:
+ * lend it to no further call as one. Of the second memory, whatever it held, as many bytes are written as the newest form needs; those past them stay as they are, and
+ * where the call is refused all do. deskrook_bytes_needed tells how many are enough, for either move.
+ * Refusals: MEMORY (also where the second memory is too short). */
+deskrook_reply deskrook_upgrade(const uint8_t *mem, size_t mem_length, const deskrook_scan_entry *scans, size_t scans_length, uint8_t *second, size_t second_length);
+
+/* Moves a store in the newest form back to form 1, into a second memory, as deskrook_upgrade moves it there. A store that was moved there and back, with no call between,
+ * has the bytes that it had. Form 1 has no place for keepers, so they all have to be 0; the keeper of a transaction that has ended and left neither row nor tail record
+ * does not count. Refusals: MEMORY (also where the second memory is shorter than form 1 needs), KEEPER. */
+deskrook_reply deskrook_downgrade(const uint8_t *mem, size_t mem_length, const deskrook_scan_entry *scans, size_t scans_length, uint8_t *second, size_t second_length);
 
 /* ---- transactions ---- */
 
 /* Begins a transaction with keeper 0, unknown. first: its number. Refusals: MEMORY, NUMBER, BUSY. */
 deskrook_reply deskrook_begin(uint8_t *mem, size_t mem_length, const deskrook_scan_entry *scans, size_t scans_length);
 
-/* Begins a transaction with a keeper. first: its number. Refusals: MEMORY, NUMBER, BUSY. */
+/* Begins a transaction with a keeper, in the newest form alone. first: its number. Refusals: MEMORY, NUMBER, BUSY. */
 deskrook_reply deskrook_begin_as(uint8_t *mem, size_t mem_length, const deskrook_scan_entry *scans, size_t scans_length, uint16_t keeper);
 
 /* Inserts a row, with a value for each column; where fewer are lent the rest are 0, and those past the columns are not looked at.
@@ -134,8 +155,8 @@ deskrook_reply deskrook_latest(const uint8_t *mem, size_t mem_length, const desk
 deskrook_reply deskrook_read_at(const uint8_t *mem, size_t mem_length, const deskrook_scan_entry *scans, size_t scans_length, uint32_t stamp, uint32_t row,
                                 uint32_t column);
 
-/* The keeper of the value that deskrook_read_at shows for the same numbers: of the update that set it, or of the insert where none has. first: the keeper, below 65,536;
- * or NONE, exactly where that read is none. Refusals, as that read's: MEMORY, TIME, ROW, COLUMN. */
+/* The keeper of the value that deskrook_read_at shows for the same numbers: of the update that set it, or of the insert where none has; in the newest form alone. first:
+ * the keeper, below 65,536; or NONE, exactly where that read is none. Refusals, as that read's: MEMORY, TIME, ROW, COLUMN. */
 deskrook_reply deskrook_keeper_at(const uint8_t *mem, size_t mem_length, const deskrook_scan_entry *scans, size_t scans_length, uint32_t stamp, uint32_t row,
                                   uint32_t column);
 

@@ -3,10 +3,14 @@
  * the wrong side of the last commit's; fields that it has not are 0; the stamp of a value read is not after its reader's; a refusal changes no byte; an accepted call changes
  * only what it may, a merge no other byte than Item 5 of document 02 names, and the facts hold again; a commit counts itself, and an opened scan's entry has the counts made before it. Crossings are refused as their operands have it,
  * with 21 exactly where more are listed once there are places for all; the stamps listed are between the two, and the places behind them are unchanged. A keeper at is, in
- * every memory, refused exactly as the read at with the same numbers, none exactly where that is, and otherwise below 65,536; an accepted call writes the words of keepers that
- * Item 6 of document 02 has it write, and no other. In a store that calls alone have made and written, no commit, merge or release changes the sum of an open scan, the
- * crossings are those of crossings.c, and the keepers those of keepers.c. Memory, list, values and stamps end or begin at a page that cannot be read, and the rest of their own
- * pages is marked, so that neither a read nor a write outside goes unseen though the library itself is not instrumented.
+ * every memory of the newest form, refused exactly as the read at with the same numbers, none exactly where that is, and otherwise below 65,536; an accepted call writes the words
+ * of keepers that Item 6 of document 02 has it write, and no other. A memory may be of form 1, of the newest or of any other form; a call that does not work on its form answers 2,
+ * and a check says which it is. A move is lent a second memory of any length and content: it is refused with 2 and 22 exactly where Item 7 of document 02 has it, and then the
+ * second memory is as it was; accepted, it leaves the first memory and the list as they are, and of the second the bytes past the need, the second is a store of the other form
+ * with the same words and keeper 0, and the way back gives the needed bytes again. The calls then go on in the second memory. In a store that calls alone have made and written,
+ * no commit, merge, release or move changes the sum of an open scan, the crossings are those of crossings.c, and the keepers, and whether there are any, those of keepers.c.
+ * Memories, list, values and stamps end or begin at a page that cannot be read, and the rest of their own pages is marked, so that neither a read nor a write outside goes
+ * unseen though the library itself is not instrumented.
  *
  * LLVMFuzzerTestOneInput is called by libFuzzer, or by random.c with random bytes. */
 #define _DEFAULT_SOURCE
@@ -24,13 +28,14 @@ int LLVMFuzzerTestOneInput(const uint8_t *data, size_t size);
 
 /* ---- what is said at the end, and at a fault ---- */
 
-enum { REFUSALS = DESKROOK_LIST + 1 };
+enum { REFUSALS = DESKROOK_KEEPER + 1 };
 
 static uint64_t inputs, calls, damaged, accepted, nones, scans_kept, crossings, crossings_again, keepers, keepers_known, refused[REFUSALS];
+static uint64_t on_first, upgraded, downgraded, moved_by_calls_alone, moved_open;
 
 /* Whether it is a refusal's number. 19 and 20 are gatebook's. */
 static int is_refusal(uint32_t number) {
-    return (number >= DESKROOK_SHAPE && number <= DESKROOK_NO_PAGE) || number == DESKROOK_LIST;
+    return (number >= DESKROOK_SHAPE && number <= DESKROOK_NO_PAGE) || number == DESKROOK_LIST || number == DESKROOK_KEEPER;
 }
 
 static void say_counts(void) {
@@ -41,10 +46,12 @@ static void say_counts(void) {
             inputs, calls, damaged, accepted, nones, all);
     for (int number = 0; number < REFUSALS; number++)
         if (is_refusal((uint32_t)number))
-            fprintf(stderr, " %d %" PRIu64 "%s", number, refused[number], number < DESKROOK_LIST ? "," : "\n");
+            fprintf(stderr, " %d %" PRIu64 "%s", number, refused[number], number < DESKROOK_KEEPER ? "," : "\n");
     fprintf(stderr, "open scans that a later commit of their minute left as they were: %" PRIu64 "\n", scans_kept);
     fprintf(stderr, "crossings in stores that calls alone have written: %" PRIu64 ", in the minute of the one before: %" PRIu64 "\n", crossings, crossings_again);
     fprintf(stderr, "keepers in such stores: %" PRIu64 ", other than 0: %" PRIu64 "\n", keepers, keepers_known);
+    fprintf(stderr, "accepted in form 1: %" PRIu64 "; moved to the newest form: %" PRIu64 ", and back: %" PRIu64 ", of both in such stores: %" PRIu64 ", with open transactions or scans: %" PRIu64 "\n",
+            on_first, upgraded, downgraded, moved_by_calls_alone, moved_open);
 }
 
 static void fail(const char *name, const char *what) {
@@ -74,7 +81,8 @@ struct lent {
     size_t saved_length;
 };
 
-static struct lent memory, list, values, stamps;
+/* A move is lent the memory and the second one; `back` is for the way back from there. */
+static struct lent memory, second, back, list, values, stamps;
 
 static void reserve(struct lent *lent, size_t pages) {
     uint8_t *all = mmap(NULL, (pages + 2) * PAGE, PROT_NONE, MAP_PRIVATE | MAP_ANONYMOUS, -1, 0);
@@ -130,6 +138,10 @@ static size_t entries(void) {
     return list.length / sizeof(deskrook_scan_entry);
 }
 
+static const deskrook_scan_entry *lent_scans(void) {
+    return (const deskrook_scan_entry *)(const void *)list.first;
+}
+
 /* ---- the input's bytes as numbers ---- */
 
 struct input {
@@ -166,6 +178,14 @@ static uint32_t columns(void) {
     return header(COLUMNS_AND_FORM) % HALF;
 }
 
+/* The form in the header. */
+static uint32_t form(void) {
+    return header(COLUMNS_AND_FORM) / HALF + 1;
+}
+
+/* Whether the keepers of the input are unknown for the most part, so that there is a way back to form 1. */
+static int mostly_unknown;
+
 /* A number of a kind: mostly one that the lent words make likely to be accepted, else any. */
 static uint32_t number(struct input *in, char kind) {
     uint32_t first = take(in, 1);
@@ -193,7 +213,7 @@ static uint32_t number(struct input *in, char kind) {
     case 'm': /* mask: a few bits */
         return first % 16;
     case 'w': /* keeper: who; one of a few, and the greatest */
-        return first % 8 == 7 ? 65535 : first % 8;
+        return mostly_unknown ? 0 : first % 8 == 7 ? 65535 : first % 8;
     default: /* tail record, measure */
         return first % 9;
     }
@@ -222,6 +242,8 @@ enum call {
     CROSSINGS,
     BEGIN_AS,
     KEEPER_AT,
+    UPGRADE,
+    DOWNGRADE,
     CHECK,
     MAKE,
     BYTES_NEEDED,
@@ -235,36 +257,39 @@ enum { WRITES_MEMORY = 1, WRITES_LIST = 2, MAY_BE_NONE = 4, HAS_FIRST = 8, HAS_S
 
 #define MAY(number) (UINT32_C(1) << (number))
 
-/* What each call may do, and the refusals that documents 01 and 02 give it besides 2. */
+/* What each call may do, the forms that it works on, and the refusals that documents 01 and 02 give it besides 2. */
 static const struct {
     const char *name;
     const char *kinds; /* of its numbers, as `number` has them */
+    int forms;
     int does;
     uint32_t refusals;
 } about[CALLS] = {
-    [BEGIN] = {"begin", "", WRITES_MEMORY | HAS_FIRST, MAY(15) | MAY(14)},
-    [INSERT] = {"insert", "t", WRITES_MEMORY | HAS_FIRST, MAY(3) | MAY(11)},
-    [UPDATE] = {"update", "trm", WRITES_MEMORY | HAS_FIRST, MAY(3) | MAY(5) | MAY(8) | MAY(9) | MAY(10) | MAY(12)},
-    [DELETE] = {"delete", "tr", WRITES_MEMORY | HAS_FIRST, MAY(3) | MAY(5) | MAY(9) | MAY(10) | MAY(12)},
-    [COMMIT] = {"commit", "tp", WRITES_MEMORY, MAY(3) | MAY(13)},
-    [ABORT] = {"abort", "t", WRITES_MEMORY, MAY(3)},
-    [LATEST] = {"latest", "rc", HAS_FIRST | HAS_STAMP | MAY_BE_NONE, MAY(5) | MAY(6)},
-    [READ_AT] = {"read_at", "drc", HAS_FIRST | HAS_STAMP | MAY_BE_NONE, MAY(13) | MAY(5) | MAY(6)},
-    [OWN_READ] = {"own_read", "trc", HAS_FIRST | HAS_STAMP | MAY_BE_NONE, MAY(3) | MAY(5) | MAY(6)},
-    [OPEN_SCAN] = {"open_scan", "d", WRITES_MEMORY | WRITES_LIST | HAS_FIRST, MAY(13) | MAY(15) | MAY(14)},
-    [SCAN_READ] = {"scan_read", "src", HAS_FIRST | HAS_STAMP | MAY_BE_NONE, MAY(4) | MAY(5) | MAY(6)},
-    [SUM] = {"sum", "sc", HAS_FIRST | HAS_SUM, MAY(4) | MAY(6)},
-    [CLOSE_SCAN] = {"close_scan", "s", WRITES_LIST, MAY(4)},
-    [MERGE] = {"merge", "gcn", WRITES_MEMORY, MAY(7) | MAY(6) | MAY(16) | MAY(17) | MAY(18)},
-    [RELEASE] = {"release", "", WRITES_MEMORY | HAS_FIRST, 0},
-    [PAGE_CELL] = {"page_cell", "cr", HAS_FIRST, MAY(6) | MAY(5)},
-    [LINEAGE] = {"lineage", "gc", HAS_FIRST | HAS_SECOND, MAY(7) | MAY(6)},
-    [CROSSINGS] = {"crossings", "rckfd", HAS_FIRST, MAY(5) | MAY(6) | MAY(13) | MAY(21)},
-    [BEGIN_AS] = {"begin_as", "w", WRITES_MEMORY | HAS_FIRST, MAY(15) | MAY(14)},
-    [KEEPER_AT] = {"keeper_at", "drc", HAS_FIRST | MAY_BE_NONE, MAY(13) | MAY(5) | MAY(6)},
-    [CHECK] = {"check", "", 0, 0},
-    [MAKE] = {"make", "nnnn", WRITES_MEMORY | WRITES_LIST, MAY(1)},
-    [BYTES_NEEDED] = {"bytes_needed", "nnnn", HAS_FIRST, MAY(1)},
+    [BEGIN] = {"begin", "", ON_BOTH, WRITES_MEMORY | HAS_FIRST, MAY(15) | MAY(14)},
+    [INSERT] = {"insert", "t", ON_BOTH, WRITES_MEMORY | HAS_FIRST, MAY(3) | MAY(11)},
+    [UPDATE] = {"update", "trm", ON_BOTH, WRITES_MEMORY | HAS_FIRST, MAY(3) | MAY(5) | MAY(8) | MAY(9) | MAY(10) | MAY(12)},
+    [DELETE] = {"delete", "tr", ON_BOTH, WRITES_MEMORY | HAS_FIRST, MAY(3) | MAY(5) | MAY(9) | MAY(10) | MAY(12)},
+    [COMMIT] = {"commit", "tp", ON_BOTH, WRITES_MEMORY, MAY(3) | MAY(13)},
+    [ABORT] = {"abort", "t", ON_BOTH, WRITES_MEMORY, MAY(3)},
+    [LATEST] = {"latest", "rc", ON_BOTH, HAS_FIRST | HAS_STAMP | MAY_BE_NONE, MAY(5) | MAY(6)},
+    [READ_AT] = {"read_at", "drc", ON_BOTH, HAS_FIRST | HAS_STAMP | MAY_BE_NONE, MAY(13) | MAY(5) | MAY(6)},
+    [OWN_READ] = {"own_read", "trc", ON_BOTH, HAS_FIRST | HAS_STAMP | MAY_BE_NONE, MAY(3) | MAY(5) | MAY(6)},
+    [OPEN_SCAN] = {"open_scan", "d", ON_BOTH, WRITES_MEMORY | WRITES_LIST | HAS_FIRST, MAY(13) | MAY(15) | MAY(14)},
+    [SCAN_READ] = {"scan_read", "src", ON_BOTH, HAS_FIRST | HAS_STAMP | MAY_BE_NONE, MAY(4) | MAY(5) | MAY(6)},
+    [SUM] = {"sum", "sc", ON_BOTH, HAS_FIRST | HAS_SUM, MAY(4) | MAY(6)},
+    [CLOSE_SCAN] = {"close_scan", "s", ON_BOTH, WRITES_LIST, MAY(4)},
+    [MERGE] = {"merge", "gcn", ON_BOTH, WRITES_MEMORY, MAY(7) | MAY(6) | MAY(16) | MAY(17) | MAY(18)},
+    [RELEASE] = {"release", "", ON_BOTH, WRITES_MEMORY | HAS_FIRST, 0},
+    [PAGE_CELL] = {"page_cell", "cr", ON_BOTH, HAS_FIRST, MAY(6) | MAY(5)},
+    [LINEAGE] = {"lineage", "gc", ON_BOTH, HAS_FIRST | HAS_SECOND, MAY(7) | MAY(6)},
+    [CROSSINGS] = {"crossings", "rckfd", ON_BOTH, HAS_FIRST, MAY(5) | MAY(6) | MAY(13) | MAY(21)},
+    [BEGIN_AS] = {"begin_as", "w", ON_NEWEST, WRITES_MEMORY | HAS_FIRST, MAY(15) | MAY(14)},
+    [KEEPER_AT] = {"keeper_at", "drc", ON_NEWEST, HAS_FIRST | MAY_BE_NONE, MAY(13) | MAY(5) | MAY(6)},
+    [UPGRADE] = {"upgrade", "", ON_FIRST, 0, 0},
+    [DOWNGRADE] = {"downgrade", "", ON_NEWEST, 0, MAY(22)},
+    [CHECK] = {"check", "", ON_BOTH, HAS_FIRST, 0},
+    [MAKE] = {"make", "nnnn", ON_NEWEST, WRITES_MEMORY | WRITES_LIST, MAY(1)},
+    [BYTES_NEEDED] = {"bytes_needed", "nnnn", ON_BOTH, HAS_FIRST, MAY(1)},
 };
 
 /* Lends values for an insert or update, as many as any shape has columns or any number of them. */
@@ -282,6 +307,28 @@ static void lend_stamps(struct input *in) {
     lend(&stamps, 4 * (first < 0xE0 ? first % 8 : first), first & 8);
     memset(stamps.first, UNWRITTEN, stamps.length);
     keep(&stamps);
+}
+
+static const char *failing(struct layout *layout, int forms) {
+    return failing_fact(layout, forms, memory.first, memory.length, lent_scans(), entries());
+}
+
+/* Lends a second memory for a move: most often as long as the other form needs, a little longer, or one byte shorter. It holds what it held, or other bytes. */
+static void lend_second(struct input *in) {
+    struct layout layout, other;
+    uint32_t first = take(in, 1);
+    size_t length = 0;
+    if (first < 0xE0 && failing(&layout, ON_BOTH) == NULL) {
+        other = other_form(&layout);
+        length = layout_need(&other) + first % 8 - 1;
+    } else {
+        length = take(in, 2) % (second.size + 1);
+    }
+    lend(&second, length, first & 8);
+    uint8_t filling = (uint8_t)take(in, 1);
+    for (size_t i = 0; first & 16 && i < second.length; i++)
+        second.first[i] = (uint8_t)(filling * (i + 1));
+    keep(&second);
 }
 
 /* The crossings, listed in so many entries. */
@@ -318,6 +365,8 @@ static deskrook_reply make_call(enum call call, const uint32_t numbers[MOST_NUMB
     case CROSSINGS: return list_crossings(numbers, (uint32_t *)(void *)stamps.first, stamps.length / 4);
     case BEGIN_AS: return deskrook_begin_as(m, n, s, k, (uint16_t)a);
     case KEEPER_AT: return deskrook_keeper_at(m, n, s, k, a, b, c);
+    case UPGRADE: return deskrook_upgrade(m, n, s, k, second.first, second.length);
+    case DOWNGRADE: return deskrook_downgrade(m, n, s, k, second.first, second.length);
     case CHECK: return deskrook_check(m, n, s, k);
     case MAKE: return deskrook_make(m, n, s, k, a, b, c, d);
     case BYTES_NEEDED: return deskrook_bytes_needed(a, b, c, d);
@@ -338,10 +387,6 @@ static size_t entries_changed(void) {
     return count;
 }
 
-static const char *failing(struct layout *layout) {
-    return failing_fact(layout, memory.first, memory.length, (const deskrook_scan_entry *)(const void *)list.first, entries());
-}
-
 /* After an accepted call on a usable store. */
 static void judge_accepted(enum call call) {
     const char *name = about[call].name;
@@ -357,7 +402,7 @@ static void judge_accepted(enum call call) {
     /* The counts of merges and commits made go round at 2^32, and then those recorded may be above them. */
     if ((call == MERGE && word_at(memory.first, MERGES_MADE) == 0) || (call == COMMIT && word_at(memory.first, COMMITS_MADE) == 0))
         return;
-    const char *fact = failing(&layout);
+    const char *fact = failing(&layout, about[call].forms);
     if (fact != NULL)
         fail_by_fact(name, "afterwards this", fact);
     size_t need = layout_need(&layout);
@@ -371,7 +416,7 @@ static void judge_accepted(enum call call) {
 /* The result that making and the need must have, by the measures and the lengths. */
 static uint32_t due(enum call call, const uint32_t measures[4], uint32_t *need) {
     struct layout layout;
-    if (!layout_of(&layout, measures[0], measures[1], measures[2], measures[3]))
+    if (!layout_of(&layout, NEWEST_FORM, measures[0], measures[1], measures[2], measures[3]))
         return DESKROOK_SHAPE;
     *need = (uint32_t)layout_need(&layout);
     return call == MAKE && (memory.length < *need || entries() < DESKROOK_SCANS) ? DESKROOK_MEMORY : DESKROOK_OK;
@@ -420,6 +465,10 @@ static struct {
     int64_t sum;
 } opened[DESKROOK_SCANS];
 
+static int is_move(enum call call) {
+    return call == UPGRADE || call == DOWNGRADE;
+}
+
 static deskrook_reply sum_of(uint32_t scan) {
     return deskrook_sum(memory.first, memory.length, (const deskrook_scan_entry *)(const void *)list.first, entries(), scan, 0);
 }
@@ -444,7 +493,7 @@ static void judge_scans(enum call call, const uint32_t numbers[MOST_NUMBERS], de
         }
         if (call == CLOSE_SCAN && opened[i].number == numbers[0])
             opened[i].number = 0;
-        if ((call == COMMIT || call == MERGE || call == RELEASE) && opened[i].number != 0) {
+        if ((call == COMMIT || call == MERGE || call == RELEASE || is_move(call)) && opened[i].number != 0) {
             deskrook_reply again = sum_of(opened[i].number);
             if (again.result != DESKROOK_OK || again.first != opened[i].rows || again.sum != opened[i].sum)
                 fail(about[call].name, "an open scan has another sum");
@@ -541,10 +590,16 @@ static void judge_merge(const struct layout *l, const uint32_t numbers[MOST_NUMB
     }
 }
 
-/* After a read at or a keeper at, on any memory and list: the other one with the same numbers goes with it. There is a layout where they are usable. */
+/* After a read at or a keeper at, on any memory and list: the other one with the same numbers goes with it, but not in form 1, which has no keepers. There is a layout where they
+ * are usable. */
 static void judge_keeper(const struct layout *layout, enum call call, const uint32_t numbers[MOST_NUMBERS], deskrook_reply reply) {
     const char *name = about[KEEPER_AT].name;
     deskrook_reply other = make_call(call == READ_AT ? KEEPER_AT : READ_AT, numbers), keeper = call == READ_AT ? other : reply;
+    if (form() == FIRST_FORM) {
+        if (keeper.result != DESKROOK_MEMORY)
+            fail(name, "another answer than 2 in form 1");
+        return;
+    }
     if (other.result != reply.result)
         fail(name, "refused or none, and the read at is not, or the other way about");
     if (keeper.first >= 65536)
@@ -566,8 +621,8 @@ static size_t open_entry(const char *name, const struct layout *l, const uint8_t
     return 0;
 }
 
-/* After an accepted call on a store that was there before it. Begin writes the keeper of the transaction's entry, and commit and abort write 0 there; a row, a setting and a delete
- * get what is there, an original what the row has. No other word of keepers changes. */
+/* After an accepted call on a store of the newest form that was there before it. Begin writes the keeper of the transaction's entry, and commit and abort write 0 there; a row, a
+ * setting and a delete get what is there, an original what the row has. No other word of keepers changes. */
 static void judge_keeper_words(enum call call, const struct layout *l, const uint32_t numbers[MOST_NUMBERS], deskrook_reply reply) {
     const char *name = about[call].name;
     const uint32_t *base = l->base;
@@ -610,12 +665,97 @@ static void note_begun(enum call call, const uint32_t numbers[MOST_NUMBERS], des
         note_keeper(reply.first, call == BEGIN ? 0 : (uint16_t)numbers[0]);
 }
 
-/* Makes a call with these numbers, and with values and stamps as they are lent, and judges it. */
+/* Whether "a row, a tail record or an open transaction bears a keeper other than 0" (Item 7 of document 02), by the words of keepers in the newest form. A keeper has 2 bytes: of
+ * a word with more the lower half counts. */
+static int bears_keeper(const struct layout *l) {
+    const uint32_t *base = l->base;
+    const uint8_t *m = memory.first;
+    int any = 0;
+    for (size_t row = 0; row < word_at(m, ROWS_GIVEN); row++)
+        any |= word_at(m, base[ROW_KEEPER] + row) % HALF != 0;
+    for (size_t range = 0; range < l->ranges; range++)
+        for (size_t slot = range * l->capacity; slot < range * l->capacity + word_at(m, base[USED] + range); slot++)
+            any |= word_at(m, base[TAIL_KEEPER] + slot) % HALF != 0;
+    for (size_t entry = 0; entry < base[OPENS + 1] - base[OPENS]; entry++)
+        any |= word_at(m, base[OPENS] + entry) != 0 && word_at(m, base[OPEN_KEEPER] + entry) % HALF != 0;
+    return any;
+}
+
+/* The result that a move of a usable store must have: "2 for either memory (the second by its length alone)", then 22 on moving back. */
+static uint32_t due_of_move(enum call call, const struct layout *from) {
+    struct layout to = other_form(from);
+    int any = call == DOWNGRADE && bears_keeper(from);
+    if (call == DOWNGRADE && by_calls_alone && any != any_keeper(from, memory.first))
+        fail(about[call].name, "the words of keepers are not by those who began the transactions");
+    return second.length < layout_need(&to) ? DESKROOK_MEMORY : any ? DESKROOK_KEEPER : DESKROOK_OK;
+}
+
+/* After an accepted move: the way back, "with no call between", gives the needed bytes again. From the newest form these are all words but those of keepers, which become 0; in a
+ * store that calls alone have written they were 0, where the move was accepted. */
+static void judge_way_back(enum call call, const struct layout *from) {
+    const char *name = about[call].name;
+    size_t need = layout_need(from), shared = (size_t)from->base[ROW_KEEPER] * 4;
+    lend(&back, need, second.first == second.room);
+    memset(back.first, UNWRITTEN, back.length);
+    keep(&second);
+    deskrook_reply reply = call == UPGRADE ? deskrook_downgrade(second.first, second.length, lent_scans(), entries(), back.first, back.length)
+                                           : deskrook_upgrade(second.first, second.length, lent_scans(), entries(), back.first, back.length);
+    if (reply.result != DESKROOK_OK)
+        fail(name, "there is no way back");
+    look_around(name, &back);
+    look_around(name, &second);
+    if (changed(&second) || changed(&memory) || changed(&list))
+        fail(name, "the way back changed another byte than those it is lent to write");
+    if (memcmp(back.first, memory.first, by_calls_alone ? need : shared) != 0)
+        fail(name, "there and back the bytes are others");
+    for (size_t at = shared; at < need; at++)
+        if (back.first[at] != 0)
+            fail(name, "there and back there is a keeper");
+}
+
+/* After an accepted move of a store of this layout. */
+static void judge_move(enum call call, const struct layout *from) {
+    const char *name = about[call].name;
+    struct layout to = other_form(from), found;
+    size_t need = layout_need(&to), shared = (size_t)from->base[ROW_KEEPER] * 4;
+    const char *fact = failing_fact(&found, ON_BOTH, second.first, second.length, lent_scans(), entries());
+    if (fact != NULL)
+        fail_by_fact(name, "in the second memory this", fact);
+    deskrook_reply checked = deskrook_check(second.first, second.length, lent_scans(), entries());
+    if (checked.result != DESKROOK_OK || checked.first != to.form)
+        fail(name, "the second memory is no store of the other form");
+    if (memcmp(second.before + need, second.first + need, second.length - need) != 0)
+        fail(name, "a byte past the need of the second memory changed");
+    if (word_at(second.first, COLUMNS_AND_FORM) % HALF != to.columns || memcmp(second.first + 4, memory.first + 4, shared - 4) != 0)
+        fail(name, "the second memory has other words than the first");
+    for (size_t at = shared; at < need; at++)
+        if (second.first[at] != 0)
+            fail(name, "the second memory has a keeper");
+    judge_way_back(call, from);
+
+    int open = 0;
+    for (size_t at = from->base[OPENS]; at < from->base[OPENS + 1]; at++)
+        open |= word_at(memory.first, at) != 0;
+    for (size_t at = 0; at < entries(); at++)
+        open |= lent_scans()[at].number != 0;
+    upgraded += call == UPGRADE;
+    downgraded += call == DOWNGRADE;
+    moved_by_calls_alone += by_calls_alone;
+    moved_open += open;
+}
+
+/* "The memory moved to is then the store": what was moved is lent as the memory from now on. */
+static void go_on_in_second(void) {
+    lend(&memory, second.length, second.first != second.room);
+    memcpy(memory.first, second.first, second.length);
+}
+
+/* Makes a call with these numbers, and with values, stamps and second memory as they are lent, and judges it. */
 static deskrook_reply judged_call(enum call call, const uint32_t numbers[MOST_NUMBERS]) {
     const char *name = about[call].name;
     int does = about[call].does;
     struct layout layout;
-    const char *fact = failing(&layout);
+    const char *fact = failing(&layout, about[call].forms);
     keep(&memory);
     keep(&list);
     deskrook_reply reply = make_call(call, numbers);
@@ -635,6 +775,9 @@ static deskrook_reply judged_call(enum call call, const uint32_t numbers[MOST_NU
     } else if (fact != NULL) {
         if (result != DESKROOK_MEMORY)
             fail_by_fact(name, "another answer than 2 where this", fact);
+    } else if (is_move(call)) {
+        if (result != due_of_move(call, &layout))
+            fail(name, "another result is due");
     } else if (result == DESKROOK_MEMORY) {
         fail(name, "2 where no fact fails");
     } else if (result != DESKROOK_OK && result != DESKROOK_NONE && !(about[call].refusals & MAY(result))) {
@@ -664,15 +807,27 @@ static deskrook_reply judged_call(enum call call, const uint32_t numbers[MOST_NU
     }
     if (call == READ_AT || call == KEEPER_AT)
         judge_keeper(fact == NULL ? &layout : NULL, call, numbers, reply);
+    if (call == CHECK && ok && reply.first != layout.form)
+        fail(name, "another form than the memory's");
+    if (is_move(call)) {
+        look_around(name, &second);
+        if (!ok && changed(&second))
+            fail(name, "a byte of the second memory changed, though nothing was to be moved");
+    }
     if (ok && call != BYTES_NEEDED) {
         judge_accepted(call);
         if (call == MERGE)
             judge_merge(&layout, numbers);
-        if (call != MAKE)
+        if (call != MAKE && layout.form != FIRST_FORM)
             judge_keeper_words(call, &layout, numbers, reply);
         if (call == BEGIN || call == BEGIN_AS)
             note_begun(call, numbers, reply);
+        if (is_move(call)) {
+            judge_move(call, &layout);
+            go_on_in_second();
+        }
         judge_scans(call, numbers, reply);
+        on_first += call != MAKE && layout.form == FIRST_FORM;
     } else if (changed(&memory) || changed(&list)) {
         fail(name, "a byte changed, though nothing was to be done");
     }
@@ -690,7 +845,7 @@ static deskrook_reply judged_call(enum call call, const uint32_t numbers[MOST_NU
 static void aim_at_record(struct input *in, uint32_t numbers[MOST_NUMBERS]) {
     struct layout layout;
     uint32_t first = take(in, 1);
-    if (first >= 0xE0 || failing(&layout) != NULL)
+    if (first >= 0xE0 || failing(&layout, ON_BOTH) != NULL)
         return;
     uint32_t range = first % layout.ranges, used = word_at(memory.first, layout.base[USED] + range);
     if (used == 0)
@@ -714,15 +869,17 @@ static void call_from_input(enum call call, struct input *in) {
         lend_stamps(in);
         aim_at_record(in, numbers);
     }
+    if (is_move(call))
+        lend_second(in);
     judged_call(call, numbers);
 }
 
 /* A transaction of its own sets a column of a row, or inserts one where the row is not given, now and then sets it again, and commits: single calls seldom come to that. Its
- * keeper is unknown, or one of a few. */
+ * keeper is unknown, as it must be in form 1, or one of a few. */
 static void commit_setting(struct input *in) {
     uint32_t row = number(in, 'r'), mask = UINT32_C(1) << number(in, 'c') % 16, stamp = number(in, 'p'), keeper = number(in, 'w');
     int again = take(in, 1) % 4 == 3;
-    deskrook_reply begun = judged_call(keeper == 0 ? BEGIN : BEGIN_AS, (const uint32_t[MOST_NUMBERS]){keeper});
+    deskrook_reply begun = judged_call(keeper == 0 || form() == FIRST_FORM ? BEGIN : BEGIN_AS, (const uint32_t[MOST_NUMBERS]){keeper});
     if (begun.result != DESKROOK_OK)
         return;
     lend_values(in);
@@ -744,8 +901,8 @@ static void put_word(struct lent *lent, size_t at, uint32_t word) {
         lent->first[4 * at + i] = (uint8_t)(word >> (8 * i));
 }
 
-/* A word of memory or list becomes any number, another word of it, a number beside the one that is there, its low half, which makes form 1 of the header's first, or the greatest
- * transaction or scan number. */
+/* A word of memory or list becomes any number, another word of it, a number beside the one that is there, one with another high half, which makes the other form of the header's
+ * first, or the greatest transaction or scan number. */
 static void damage(struct lent *lent, struct input *in) {
     size_t words = lent->length / 4;
     if (words == 0)
@@ -759,7 +916,7 @@ static void damage(struct lent *lent, struct input *in) {
     case 1: new = word_at(lent->first, take(in, 2) % words); break;
     case 2: new = old + 1; break;
     case 3: new = old - 1; break;
-    case 4: new = old % HALF; break;
+    case 4: new = old ^ HALF; break;
     default: new = 65535; break;
     }
     put_word(lent, at, new);
@@ -769,7 +926,7 @@ static void damage(struct lent *lent, struct input *in) {
 static void damage_keepers(struct input *in) {
     struct layout layout;
     uint32_t first = any(in);
-    if (failing(&layout) != NULL)
+    if (failing(&layout, ON_NEWEST) != NULL)
         return;
     for (uint32_t at = layout.base[ROW_KEEPER]; at < layout.base[REGIONS]; at++)
         put_word(&memory, at, first * (2 * at + 1));
@@ -794,24 +951,45 @@ static int all_of(uint32_t flags, uint32_t some) {
     return (flags & some) == some;
 }
 
-/* The first bytes choose what is lent: a store of a small shape, or the input's own bytes, with or without good measures. */
+/* Makes a store of this layout in the lent memory, where it is long enough. Form 1 is made no more, but has the words that the newest form's making leaves, without the keepers
+ * and with the columns alone in the first. The bytes past the need can be any, and so can the words of the header that are not used. */
+static void make_in_form(const struct layout *l) {
+    struct layout newest = l->form == FIRST_FORM ? other_form(l) : *l;
+    size_t length = memory.length, need = layout_need(l);
+    int at_end = memory.first != memory.room;
+    if (length < need)
+        return;
+    if (length < layout_need(&newest))
+        lend(&memory, layout_need(&newest), at_end);
+    deskrook_make(memory.first, memory.length, (deskrook_scan_entry *)(void *)list.first, entries(), l->columns, l->ranges, l->capacity, l->pages - l->chunks);
+    lend(&memory, length, at_end);
+    put_word(&memory, COLUMNS_AND_FORM, l->columns + HALF * (l->form - 1));
+    for (size_t at = COMMITS_MADE + 1; at < HEADER_WORDS; at++)
+        put_word(&memory, at, UINT32_C(0x9E3779B9) * (uint32_t)at);
+    memset(memory.first + need, UNWRITTEN, length - need);
+}
+
+enum { IN_NEWEST = 0x01, UNKNOWN = 0x02 };
+
+/* The first bytes choose what is lent: a store of a small shape in form 1 or the newest, or the input's own bytes, with or without good measures. */
 static void begin_input(struct input *in) {
-    uint32_t flags = take(in, 1);
+    uint32_t flags = take(in, 1), forms = take(in, 1);
     uint32_t measures[4] = {1 + take(in, 1) % 4, 1 + take(in, 1) % 3, 1 + take(in, 1) % 8, take(in, 1) % 5};
     struct layout layout;
-    layout_of(&layout, measures[0], measures[1], measures[2], measures[3]);
+    mostly_unknown = (forms & UNKNOWN) != 0;
+    layout_of(&layout, forms & IN_NEWEST ? NEWEST_FORM : FIRST_FORM, measures[0], measures[1], measures[2], measures[3]);
     size_t need = layout_need(&layout), bytes = need + take(in, 1) % 8, count = DESKROOK_SCANS + take(in, 1) % 8;
     if (all_of(flags, ANY_LENGTH))
         bytes = take(in, 2) % (memory.size + 1);
     if (all_of(flags, ANY_PLACES))
         count = take(in, 1) % (MOST_PLACES + 1);
-    memory.length = list.length = 0;
+    memory.length = second.length = list.length = 0;
     lend(&memory, bytes, flags & AT_END);
     lend(&list, count * sizeof(deskrook_scan_entry), flags & LIST_AT_END);
     memset(opened, 0, sizeof opened);
     by_calls_alone = !all_of(flags, RAW);
     if (by_calls_alone) {
-        deskrook_make(memory.first, memory.length, (deskrook_scan_entry *)(void *)list.first, entries(), measures[0], measures[1], measures[2], measures[3]);
+        make_in_form(&layout);
         if (take(in, 1) >= 0xC0)
             fill_rows();
         return;
@@ -820,7 +998,7 @@ static void begin_input(struct input *in) {
     memcpy(memory.first, in->data, own);
     in->data += own;
     in->left -= own;
-    measures[0] += HALF * (FORM - 1);
+    measures[0] += HALF * (layout.form - 1);
     for (size_t i = 0; !all_of(flags, MEASURED) && i < 16 && i < bytes; i++)
         memory.first[i] = (uint8_t)(measures[i / 4] >> (8 * (i % 4)));
 }
@@ -828,6 +1006,8 @@ static void begin_input(struct input *in) {
 int LLVMFuzzerTestOneInput(const uint8_t *data, size_t size) {
     if (inputs++ == 0) {
         reserve(&memory, 4);
+        reserve(&second, 4);
+        reserve(&back, 4);
         reserve(&list, 1);
         reserve(&values, 1);
         reserve(&stamps, 1);

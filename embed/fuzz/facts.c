@@ -1,4 +1,4 @@
-/* Written from document 01's paragraph "The stored facts are these", Items 2, 3 and 6 of document 02 and the layout (docs/DECISIONS.md, part 4) alone. */
+/* Written from document 01's paragraph "The stored facts are these", Items 2, 3, 6 and 7 of document 02 and the layout (docs/DECISIONS.md, part 4) alone. */
 #include "facts.h"
 
 enum { ROWS = 64, OPEN_PLACES = 8, NUMBERS = 65535, PAGE_FREE = 0, PAGE_CURRENT = 1 };
@@ -8,10 +8,10 @@ uint32_t word_at(const uint8_t *mem, size_t i) {
     return b[0] | (uint32_t)b[1] << 8 | (uint32_t)b[2] << 16 | (uint32_t)b[3] << 24;
 }
 
-int layout_of(struct layout *layout, uint32_t columns, uint32_t ranges, uint32_t capacity, uint32_t spares) {
+int layout_of(struct layout *layout, uint32_t form, uint32_t columns, uint32_t ranges, uint32_t capacity, uint32_t spares) {
     if (columns < 1 || columns > 16 || ranges < 1 || ranges > 16 || capacity < 1 || capacity > 512 || spares > 256)
         return 0;
-    uint32_t rows = ranges * ROWS, slots = ranges * capacity, chunks = columns * ranges, pages = chunks + spares;
+    uint32_t rows = ranges * ROWS, slots = ranges * capacity, chunks = columns * ranges, pages = chunks + spares, kept = form == FIRST_FORM ? 0 : 1;
     const uint32_t lengths[REGIONS] = {
         [HEADER] = HEADER_WORDS, [OPENS] = OPEN_PLACES, [CHANGES] = OPEN_PLACES,
         [ROW_TRANSACTION] = rows, [ROW_STATE] = rows, [ROW_STAMP] = rows, [ROW_LINK] = rows, [ROW_MASK] = rows,
@@ -21,12 +21,18 @@ int layout_of(struct layout *layout, uint32_t columns, uint32_t ranges, uint32_t
         [PAGE_STATE] = pages, [PAGE_CHUNK] = pages, [PAGE_MADE] = pages, [PAGE_REPLACED] = pages, [PAGE_LINEAGE] = pages, [PAGE_NEWEST] = pages,
         [CELLS] = pages * ROWS,
         [ROW_ORDINAL] = rows, [TAIL_ORDINAL] = slots,
-        [ROW_KEEPER] = rows, [TAIL_KEEPER] = slots, [OPEN_KEEPER] = OPEN_PLACES,
+        [ROW_KEEPER] = kept * rows, [TAIL_KEEPER] = kept * slots, [OPEN_KEEPER] = kept * OPEN_PLACES,
     };
-    *layout = (struct layout){columns, ranges, capacity, rows, slots, chunks, pages, {0}};
+    *layout = (struct layout){form, columns, ranges, capacity, rows, slots, chunks, pages, {0}};
     for (int i = 0; i < REGIONS; i++)
         layout->base[i + 1] = layout->base[i] + lengths[i];
     return 1;
+}
+
+struct layout other_form(const struct layout *l) {
+    struct layout other;
+    layout_of(&other, l->form == FIRST_FORM ? NEWEST_FORM : FIRST_FORM, l->columns, l->ranges, l->capacity, l->pages - l->chunks);
+    return other;
 }
 
 size_t layout_need(const struct layout *layout) {
@@ -163,14 +169,15 @@ static const char *failing_word(const struct layout *l, const uint8_t *mem) {
     return fact;
 }
 
-const char *failing_fact(struct layout *l, const uint8_t *mem, size_t mem_length, const deskrook_scan_entry *scans, size_t scans_length) {
+const char *failing_fact(struct layout *l, int forms, const uint8_t *mem, size_t mem_length, const deskrook_scan_entry *scans, size_t scans_length) {
     if (scans_length < DESKROOK_SCANS)
         return "the scan list has at least 5 entries";
     if (mem_length < HEADER_WORDS * 4)
         return "the memory is as long as the header";
-    if (word_at(mem, COLUMNS_AND_FORM) / HALF != FORM - 1)
-        return "the memory is in stored form 2";
-    if (!layout_of(l, word_at(mem, COLUMNS_AND_FORM) % HALF, word_at(mem, RANGES), word_at(mem, CAPACITY), word_at(mem, SPARES)))
+    uint32_t form = word_at(mem, COLUMNS_AND_FORM) / HALF + 1;
+    if (form > NEWEST_FORM || (forms >> (form - 1) & 1) == 0)
+        return "the memory is in a form that the call works on";
+    if (!layout_of(l, form, word_at(mem, COLUMNS_AND_FORM) % HALF, word_at(mem, RANGES), word_at(mem, CAPACITY), word_at(mem, SPARES)))
         return "the measures lie within their limits";
     if (mem_length < layout_need(l))
         return "the memory is as long as the shape needs";

@@ -1,4 +1,5 @@
-//! A store's shape, the twenty calls on a store, and their answers.
+//! A store's shape, the twenty-two calls on a store, the forms of a memory that they work on, and their
+//! answers.
 
 /// Rows in one range: "Ranges 1 to 16, each of 64 rows."
 pub const RANGE_ROWS: u32 = 64;
@@ -118,6 +119,48 @@ pub enum Call {
         row: u32,
         column: u32,
     },
+    /// Document 02, Item 7: "A call moves a form 1 memory into a second lent memory as form 2, with keeper
+    /// 0 throughout". The history is not told the second memory's length, since lists lend "no move too
+    /// short a second memory".
+    Upgrade,
+    /// Item 7: ".. and another moves it back."
+    Downgrade,
+}
+
+/// The form of a lent memory. The plain history keeps none: "In the plain history a move alters nothing."
+/// But a list of calls has a form at each call, since the lists of Item 7 "lend no call a form that it does
+/// not work on".
+#[derive(Clone, Copy, Debug, PartialEq, Eq, PartialOrd, Ord)]
+pub enum Form {
+    /// Form 1, "what stood before" the keepers of Item 6, which "fitted panels hold".
+    First,
+    /// "the newest, which making gives"
+    Newest,
+}
+
+impl Form {
+    pub const ALL: [Form; 2] = [Form::First, Form::Newest];
+}
+
+impl Call {
+    /// Document 02, Item 7: "The first move works on form 1, calls 01 to 12 on form 1 and the newest, which
+    /// making gives, all others on the newest alone."
+    pub fn works_on(&self, form: Form) -> bool {
+        match self {
+            Call::Upgrade => form == Form::First,
+            Call::BeginAs { .. } | Call::KeeperAt { .. } | Call::Downgrade => form == Form::Newest,
+            _ => true,
+        }
+    }
+
+    /// The form of the second memory after a move, which "is then the store"; nothing for other calls.
+    pub fn moves_to(&self) -> Option<Form> {
+        match self {
+            Call::Upgrade => Some(Form::Newest),
+            Call::Downgrade => Some(Form::First),
+            _ => None,
+        }
+    }
 }
 
 /// What a call answers.
@@ -125,7 +168,7 @@ pub enum Call {
 pub enum Answer {
     /// Refused, with the number of document 01.
     Refused(u8),
-    /// Accepted, no field: commit, abort, close, merge.
+    /// Accepted, no field: commit, abort, close, merge, the two moves.
     Done,
     /// A transaction, row, tail record or scan number, the count of pages that a release freed, or a
     /// keeper.

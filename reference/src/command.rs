@@ -1,5 +1,5 @@
 //! The commands of gatebook as bytes: which operands follow a command byte, and calls to bytes
-//! and back.
+//! and back. The moves of document 02's Item 7 have no command byte.
 
 use std::ops::RangeInclusive;
 
@@ -170,8 +170,9 @@ pub fn first(bytes: &[u8], columns: usize) -> Option<(Call, &[u8])> {
     Some((call(*byte, &numbers(&fields, operand_bytes)), rest))
 }
 
-/// A call's command byte and the numbers of its operands. What is lent besides is no operand.
-pub fn parts(call: &Call) -> (u8, Vec<i64>) {
+/// A call's command byte and the numbers of its operands, if it has a command byte. What is lent besides is
+/// no operand.
+pub fn parts(call: &Call) -> Option<(u8, Vec<i64>)> {
     let (byte, fixed, values): (u8, &[u32], &[i32]) = match call {
         Call::Begin => (0x01, &[], &[]),
         Call::Insert { transaction, values } => (0x02, &[*transaction], values),
@@ -194,14 +195,15 @@ pub fn parts(call: &Call) -> (u8, Vec<i64>) {
         Call::Lineage { range, column } => (0x11, &[*range, *column], &[]),
         Call::Crossings { row, column, mark, from, to, places: _ } => {
             let [row, column, from, to] = [*row, *column, *from, *to].map(i64::from);
-            return (0x12, vec![row, column, i64::from(*mark), from, to]);
+            return Some((0x12, vec![row, column, i64::from(*mark), from, to]));
         }
         Call::BeginAs { keeper } => (0x13, &[u32::from(*keeper)], &[]),
         Call::KeeperAt { stamp, row, column } => (0x14, &[*stamp, *row, *column], &[]),
+        Call::Upgrade | Call::Downgrade => return None,
     };
     let fixed = fixed.iter().map(|number| i64::from(*number));
     let values = values.iter().map(|value| i64::from(*value));
-    (byte, fixed.chain(values).collect())
+    Some((byte, fixed.chain(values).collect()))
 }
 
 /// Writes one number in an operand's bytes; it must fit.
@@ -209,10 +211,10 @@ pub fn put(output: &mut Vec<u8>, width: usize, number: i64) {
     output.extend_from_slice(&number.to_le_bytes()[..width]);
 }
 
-/// Writes a call as command bytes. False, with nothing written, if a number does not fit or the
-/// list of values is not as long as the columns.
+/// Writes a call as command bytes. False, with nothing written, if it has none, a number does not fit or
+/// the list of values is not as long as the columns.
 pub fn write(output: &mut Vec<u8>, call: &Call, columns: usize) -> bool {
-    let (byte, numbers) = parts(call);
+    let Some((byte, numbers)) = parts(call) else { return false };
     let fields = operands(byte, columns).expect("the byte of a call is known");
     let mut both = fields.iter().zip(&numbers);
     if fields.len() != numbers.len() || !both.all(|(field, number)| field.fits(*number)) {

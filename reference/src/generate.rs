@@ -6,24 +6,40 @@ mod workload;
 
 use self::generator::{Generator, Numbers};
 pub use self::workload::COUNT as WORKLOADS;
-use crate::call::{Call, Shape};
+use crate::call::{Call, Form, Shape};
 use crate::command;
 use crate::history::{NUMBERS, OPEN_SCANS, OPEN_TRANSACTIONS};
 use crate::program::LENT;
 use crate::random::Random;
 
-/// A list of so many calls for a store of any shape within the limits. Every number fits the
-/// command bytes; slices are lent of any length.
+/// A list of so many calls for a store of any shape within the limits, in the form of the seed at the first
+/// of them. Every number fits the command bytes; slices are lent of any length.
 pub fn calls(seed: u64, shape: Shape, count: usize) -> Vec<Call> {
     let random = Random::new(seed ^ 0x6361_6C6C_7300_0000);
-    Generator::new(random, workload::of(seed), shape, count, Numbers::Narrow).take(count)
+    let (workload, form) = (workload::of(seed), form(seed));
+    Generator::new(random, workload, shape, form, count, Numbers::Narrow).take(count)
 }
 
 /// The same, with some numbers that are too wide for the command bytes.
 pub fn wide_calls(seed: u64, shape: Shape, count: usize) -> Vec<Call> {
     let random = Random::new(seed ^ 0x7769_6465_0000_0000);
-    Generator::new(random, workload::of(seed), shape, count, Numbers::Wide).take(count)
+    let (workload, form) = (workload::of(seed), form(seed));
+    Generator::new(random, workload, shape, form, count, Numbers::Wide).take(count)
 }
+
+/// The form of the memory at the first call of a seed's list. Document 02, Item 7: "Demand 3's lists may also
+/// start from what form 1's making left". A stream's is always the newest, which gatebook makes.
+pub fn form(seed: u64) -> Form {
+    let mut random = Random::new(seed ^ 0x666F_726D_0000_0000);
+    if random.percent(FIRST_FORM) {
+        Form::First
+    } else {
+        Form::Newest
+    }
+}
+
+/// Lists that start in form 1, in percent.
+const FIRST_FORM: u32 = 35;
 
 /// A shape within the limits, mostly small, or mostly within the bounds of a workload that asks for
 /// them.
@@ -67,7 +83,8 @@ pub fn stream(seed: u64) -> Vec<u8> {
     };
     let more = workload.more + shape.rows() * workload.early_rows / 50;
     let count = (40 + random.below(160) + more) as usize;
-    let mut generator = Generator::new(random, workload, shape, count, Numbers::Commands);
+    let mut generator =
+        Generator::new(random, workload, shape, Form::Newest, count, Numbers::Commands);
     let calls = generator.take(count);
     let byte = generator.command();
     let last = generator.candidate(byte);
@@ -129,7 +146,8 @@ pub fn stream(seed: u64) -> Vec<u8> {
 pub fn largest(seed: u64, commands: usize) -> Vec<u8> {
     let random = Random::new(seed ^ 0x6C61_7267_6573_7400);
     let workload = workload::of(seed);
-    let mut generator = Generator::new(random, workload, LENT, commands, Numbers::Commands);
+    let mut generator =
+        Generator::new(random, workload, LENT, Form::Newest, commands, Numbers::Commands);
     let mut bytes = bytes_of(&LENT, &generator.take(commands));
     let update = generator.candidate(0x03);
     let whole = bytes.len();

@@ -2,8 +2,9 @@
 //! accepted call does to them, and the reads, which give the stamps of document 02's Item 1 too. At
 //! most five scans are open, as Item 2 has it. Several commits may have one stamp, as Item 3 has it:
 //! an ordinal tells them apart, and a scan knows how many were made before it. The crossings of a level
-//! are Item 4's, the keepers of transactions Item 6's. The tests of each call are in `refusals`;
-//! `situations`, `minutes`, `crossings` and `keepers` look at calls for the survey.
+//! are Item 4's, the keepers of transactions Item 6's. By Item 7 a move of the memory alters nothing here.
+//! The tests of each call are in `refusals`; `situations`, `minutes`, `crossings` and `keepers` look at
+//! calls for the survey.
 
 mod crossings;
 mod keepers;
@@ -327,6 +328,9 @@ impl History {
             Call::Crossings { row, column, mark, from, to, .. } => {
                 Answer::Crossings(self.crossings(row, column, mark, from, to))
             }
+            // Document 02, Item 7: "a call with no answer named answers no field. In the plain history a
+            // move alters nothing."
+            Call::Upgrade | Call::Downgrade => Answer::Done,
         }
     }
 
@@ -375,6 +379,20 @@ impl History {
 
     fn keeper_of(&self, transaction: u32) -> u16 {
         self.transactions[transaction as usize - 1].keeper
+    }
+
+    /// Document 02, Item 7: "a row, a tail record or an open transaction bears a keeper other than 0". By
+    /// Item 6 "Base rows and tail records carry their transaction's keeper", whatever became of the
+    /// transaction, "original values carry the inserter"; an update leaves a setting beside the original.
+    fn bears_keeper(&self) -> bool {
+        let borne = |transaction: u32| self.keeper_of(transaction) != UNKNOWN_KEEPER;
+        let of_record = |record: &Record| match record.holds {
+            Holds::Original(_) => borne(self.rows[record.row as usize].inserter),
+            Holds::Setting(_) | Holds::Delete => borne(record.transaction),
+        };
+        self.rows.iter().any(|row| borne(row.inserter))
+            || self.tails.iter().flatten().any(of_record)
+            || self.open_transactions.iter().any(|open| borne(*open))
     }
 
     /// The tail records of a row, in order.

@@ -12,12 +12,12 @@ use common::{IN_MINUTE, SITUATIONS};
 use pages::Pages;
 use reference::history::{InCrossings, InKeepers, InMinute, Situation, OPEN_SCANS};
 use reference::survey::{CommitStamp, Survey};
-use reference::{command, generate, trace, Answer, Call, History, Shape};
+use reference::{command, generate, trace, Answer, Call, Form, History, Shape};
 use versions::Versions;
 
 /// Random lists with their shapes: small ones, and some with rows in several ranges.
 fn lists() -> impl Iterator<Item = (Shape, Vec<Call>)> {
-    (0..504).map(|seed| {
+    (0..840).map(|seed| {
         let shape = match seed % 3 {
             0 => Shape { columns: 2, ranges: 3, capacity: 20, spares: 2 },
             _ => generate::shape(seed),
@@ -127,10 +127,10 @@ fn a_keeper_is_shown_refused_or_none_as_a_read_at_the_same_stamp_is() {
     assert!(refused.values().all(|count| *count > 100), "{refused:?}");
 }
 
-/// Item 6: 13 begins as 01 does. Only calls for a keeper tell the two apart.
+/// Item 6: 13 begins as 01 does. Only calls for a keeper tell the two apart, and ways back.
 #[test]
 fn without_keepers_no_answer_changes_but_the_keepers() {
-    let mut changed = 0;
+    let (mut changed, mut refused) = (0, 0);
     for (shape, calls) in lists() {
         let plain = |call: &Call| match call {
             Call::BeginAs { .. } => Call::Begin,
@@ -144,11 +144,143 @@ fn without_keepers_no_answer_changes_but_the_keepers() {
                     assert!(*keeper == 0 && matches!(with, Answer::Number(_)), "{call:?}");
                     changed += u32::from(with != without);
                 }
+                (Call::Downgrade, without) => {
+                    assert_eq!(*without, Answer::Done, "with keeper 0 throughout");
+                    refused += u32::from(with == Answer::Refused(22));
+                }
                 _ => assert_eq!(with, without, "{call:?}"),
             }
         }
     }
-    assert!(changed > 1_500, "{changed}");
+    assert!(changed > 1_500 && refused > 500, "{changed}, {refused}");
+}
+
+/// A list of a seed with the form of the memory at each call.
+fn with_forms(seed: u64, shape: Shape, calls: Vec<Call>) -> Vec<(Form, Call, Answer)> {
+    let mut form = generate::form(seed);
+    let answers = answers(shape, &calls);
+    let lent = |(call, answer): (Call, Answer)| {
+        let lent = form;
+        if !answer.is_refused() {
+            form = call.moves_to().unwrap_or(form);
+        }
+        (lent, call, answer)
+    };
+    calls.into_iter().zip(answers).map(lent).collect()
+}
+
+/// Item 7: lists start from either form, "they lend no call a form that it does not work on", and have
+/// moves of every kind: up, back, back where that is refused, and there and back with no call between.
+#[test]
+fn lists_lend_each_call_a_form_that_it_works_on() {
+    let (mut starts, mut on_form_1, mut up, mut back, mut refused) = ([0; 2], 0, 0, 0, 0);
+    let (mut with_keeper_back, mut there_and_back) = (0, 0);
+    for seed in 0..504 {
+        let shape = generate::shape(seed);
+        for calls in [generate::calls(seed, shape, 240), generate::wide_calls(seed, shape, 240)] {
+            let list = with_forms(seed, shape, calls);
+            starts[usize::from(list[0].0 == Form::Newest)] += 1;
+            for (form, call, answer) in &list {
+                assert!(call.works_on(*form), "{call:?} on {form:?}");
+                on_form_1 += u32::from(*form == Form::First);
+                match (call, answer) {
+                    (Call::Upgrade, answer) => {
+                        assert_eq!(*answer, Answer::Done);
+                        up += 1;
+                    }
+                    (Call::Downgrade, Answer::Done) => back += 1,
+                    (Call::Downgrade, answer) => {
+                        assert_eq!(*answer, Answer::Refused(22));
+                        refused += 1;
+                    }
+                    _ => {}
+                }
+            }
+            let moved = |(_, call, answer): &&(Form, Call, Answer)| {
+                call.moves_to().is_some() && !answer.is_refused()
+            };
+            there_and_back +=
+                list.windows(2).filter(|two| two.iter().all(|one| moved(&one))).count();
+            // Where a transaction was begun with a keeper, and the way back is open all the same.
+            let begun = |(_, call, _): &(Form, Call, Answer)| matches!(call, Call::BeginAs { keeper } if *keeper != 0);
+            let first = list.iter().position(begun).unwrap_or(list.len());
+            let back = |(_, call, answer): &(Form, Call, Answer)| {
+                *call == Call::Downgrade && *answer == Answer::Done
+            };
+            with_keeper_back += list[first..].iter().filter(|one| back(one)).count();
+        }
+    }
+    assert!(starts.iter().all(|lists| *lists > 300), "{starts:?}");
+    assert!(on_form_1 > 50_000, "{on_form_1}");
+    assert!(up > 1_500 && back > 1_500 && refused > 1_500, "{up}, {back}, {refused}");
+    assert!(there_and_back > 700, "{there_and_back}");
+    assert!(with_keeper_back > 20, "{with_keeper_back}");
+}
+
+/// Item 7: "In the plain history a move alters nothing." So the other calls answer the same without it.
+#[test]
+fn striking_the_moves_changes_no_answer() {
+    let mut struck = 0;
+    for (shape, calls) in lists() {
+        let moves = |call: &Call| call.moves_to().is_some();
+        let rest: Vec<Call> = calls.iter().filter(|call| !moves(call)).cloned().collect();
+        struck += calls.len() - rest.len();
+        let whole = calls.iter().zip(answers(shape, &calls));
+        let kept = whole.filter(|(call, _)| !moves(call)).map(|(_, answer)| answer);
+        assert!(kept.eq(answers(shape, &rest)), "{shape:?}");
+    }
+    assert!(struck > 2_000, "{struck}");
+}
+
+/// The way back is refused exactly where some row, some record or some open transaction bears a keeper,
+/// which is kept here beside the history, by the calls alone.
+#[test]
+fn the_way_back_agrees_with_keepers_kept_by_calls() {
+    // How often the way back was open and refused, and refused by one of the three alone.
+    let (mut open, mut alone) = (0, [0; 3]);
+    for (shape, calls) in lists() {
+        let mut history = History::new(shape);
+        let mut begun: BTreeMap<u32, u16> = BTreeMap::new();
+        let (mut rows, mut records) = (BTreeSet::new(), BTreeSet::new());
+        for call in &calls {
+            let answer = history.call(call);
+            match (call, &answer) {
+                (_, Answer::Refused(_)) => {}
+                (Call::Begin, Answer::Number(number)) => {
+                    begun.insert(*number, 0);
+                }
+                (Call::BeginAs { keeper }, Answer::Number(number)) => {
+                    begun.insert(*number, *keeper);
+                }
+                (Call::Insert { transaction, .. }, _) => {
+                    rows.insert(begun[transaction]);
+                }
+                (Call::Update { transaction, .. } | Call::Delete { transaction, .. }, _) => {
+                    records.insert(begun[transaction]);
+                }
+                (Call::Commit { transaction, .. } | Call::Abort { transaction }, _) => {
+                    begun.remove(transaction);
+                }
+                _ => {}
+            }
+            let borne = [
+                rows.iter().any(|keeper| *keeper != 0),
+                records.iter().any(|keeper| *keeper != 0),
+                begun.values().any(|keeper| *keeper != 0),
+            ];
+            let due = if borne.contains(&true) { Some(22) } else { None };
+            assert_eq!(history.refusal(&Call::Downgrade), due, "{call:?}");
+            assert_eq!(history.refusal(&Call::Upgrade), None);
+            if *call == Call::Downgrade {
+                open += u32::from(due.is_none());
+                for (place, count) in alone.iter_mut().enumerate() {
+                    let only = (0..3).all(|other| borne[other] == (other == place));
+                    *count += u32::from(only);
+                }
+            }
+        }
+    }
+    assert!(open > 500 && alone.iter().all(|count| *count > 10), "{open}, {alone:?}");
 }
 
 #[test]
@@ -501,8 +633,10 @@ fn refused_calls_and_reads_alter_no_list() {
             let before = history.clone();
             let answer = history.call(call);
             assert_eq!(before.refusal(call).is_some(), answer.is_refused());
-            let byte = command::parts(call).0;
-            let read = matches!(byte, 0x07..=0x09 | 0x0B | 0x0C | 0x10..=0x12 | 0x14);
+            // Moves have no command byte.
+            let read = command::parts(call).is_none_or(
+                |(byte, _)| matches!(byte, 0x07..=0x09 | 0x0B | 0x0C | 0x10..=0x12 | 0x14),
+            );
             if read || answer.is_refused() {
                 assert_eq!(history, before, "{call:?}");
             }
@@ -836,7 +970,8 @@ fn lists_can_be_had_for_the_greatest_and_the_smallest_shape() {
             let calls = generate::calls(seed, shape, 300);
             assert_eq!(calls, generate::calls(seed, shape, 300), "the same for the same seed");
             let mut bytes = Vec::new();
-            assert!(calls.iter().all(|call| command::write(&mut bytes, call, columns as usize)));
+            let mut commands = calls.iter().filter(|call| call.moves_to().is_none());
+            assert!(commands.all(|call| command::write(&mut bytes, call, columns as usize)));
             let accepted = answers(shape, &calls).iter().filter(|a| !a.is_refused()).count();
             assert!(accepted > 180, "{accepted}");
         }
@@ -850,7 +985,8 @@ fn wide_numbers_are_refused_like_others() {
     for seed in 0..24 {
         let calls = generate::wide_calls(seed, shape, 300);
         for (call, answer) in calls.iter().zip(answers(shape, &calls)) {
-            if !command::write(&mut Vec::new(), call, 3) {
+            let fits = command::write(&mut Vec::new(), call, 3);
+            if !fits && call.moves_to().is_none() {
                 assert!(answer.is_refused(), "{call:?}");
                 wide += 1;
             }
@@ -878,9 +1014,13 @@ fn a_trace_has_the_documented_form() {
         trace::write(seed, 50, &mut lines).unwrap();
         let text = String::from_utf8(lines).unwrap();
         assert_eq!(text.lines().count(), 51);
-        // The calls of a trace can be encoded, and give the answers that the trace has.
+        // The calls of a trace can be encoded, but for the moves, and give the answers that the trace has.
         let calls: Vec<&str> =
             text.lines().map(|line| line.split(" => ").next().unwrap()).collect();
+        let (shape, form) = calls[0].split_once(" form ").unwrap();
+        assert_eq!(form, if generate::form(seed) == Form::First { "first" } else { "newest" });
+        let commands = calls[1..].iter().filter(|call| !call.ends_with("grade"));
+        let calls: Vec<&str> = [shape].into_iter().chain(commands.copied()).collect();
         // But for the places that are lent, which are no operand.
         let operands = |call: &&str| match call.strip_prefix("crossings ") {
             Some(words) => format!("crossings {}", words.rsplit_once(' ').unwrap().0),
@@ -901,6 +1041,8 @@ fn a_trace_has_the_documented_form() {
     assert_eq!(trace::call_words(&Call::BeginAs { keeper: 65_535 }), "begin-as 65535");
     let keeper_at = Call::KeeperAt { stamp: 10, row: 1, column: 0 };
     assert_eq!(trace::call_words(&keeper_at), "keeper-at 10 1 0");
+    assert_eq!(trace::call_words(&Call::Upgrade), "upgrade");
+    assert_eq!(trace::call_words(&Call::Downgrade), "downgrade");
     assert_eq!(trace::answer_words(&Answer::Crossings(vec![])), "crossings 0");
     assert_eq!(trace::answer_words(&Answer::Crossings(vec![4, 4])), "crossings 2 4 4");
 }

@@ -1,5 +1,5 @@
 //! One test for each reading of document 01 that an input can tell apart, with the reading's
-//! letter, and of document 02's Items 1 to 6. Those of section A are in `input`, and B1 and B2 also
+//! letter, and of document 02's Items 1 to 7. Those of section A are in `input`, and B1 and B2 also
 //! there for exhausted series.
 
 mod common;
@@ -2638,5 +2638,234 @@ fn the_other_reads_sums_and_pages_show_no_keeper() {
          page-cell 0 0 => ok 6
          lineage 0 0 => ok 2 2
          crossings 0 0 6 0 20 => ok 1 20",
+    );
+}
+
+// Item 7.
+
+#[test]
+fn a_move_there_and_back_is_accepted_and_answers_no_field() {
+    script(
+        "shape 2 1 4 1
+         upgrade => ok
+         downgrade => ok
+         upgrade => ok",
+    );
+}
+
+#[test]
+fn the_way_back_is_refused_for_a_row_with_a_keeper() {
+    // While its insert is pending, committed, aborted, and when it has ended.
+    for end in ["", "commit 1 10\n", "abort 1\n"] {
+        script(&format!(
+            "shape 2 1 4 1\ndowngrade => ok\nupgrade\nbegin-as 1\ninsert 1 5 50\n{end}downgrade => no 22"
+        ));
+    }
+    kept_row(
+        4,
+        1,
+        "downgrade => no 22
+         begin
+         delete 2 0
+         commit 2 20
+         downgrade => no 22",
+    );
+}
+
+#[test]
+fn the_way_back_is_refused_for_a_record_with_a_keeper() {
+    // The row has keeper 0. A setting and a delete, committed and aborted; what another transaction with
+    // keeper 0 does after it is no matter.
+    for change in ["update 2 0 mask 1 6 0", "delete 2 0"] {
+        for end in ["commit 2 20", "abort 2"] {
+            one_row(
+                9,
+                1,
+                &format!(
+                    "downgrade => ok
+                     upgrade
+                     begin-as 256
+                     {change}
+                     downgrade => no 22
+                     {end}
+                     downgrade => no 22
+                     begin
+                     insert 3 1 2
+                     commit 3 30
+                     downgrade => no 22"
+                ),
+            );
+        }
+    }
+}
+
+#[test]
+fn the_way_back_is_refused_for_a_merged_or_replaced_setting_with_a_keeper() {
+    // The record stays, whatever is read.
+    one_row(
+        9,
+        2,
+        "begin-as 65535
+         update 2 0 mask 1 6 0
+         commit 2 20
+         begin
+         update 3 0 mask 1 7 0
+         commit 3 30
+         merge 0 0 3
+         release => ok 1
+         keeper-at 30 0 0 => ok 0
+         downgrade => no 22",
+    );
+}
+
+#[test]
+fn the_way_back_is_refused_for_an_open_transaction_with_a_keeper_and_not_after_its_end() {
+    // It has made nothing, or a change was refused.
+    for end in ["abort 2", "commit 2 20"] {
+        one_row(
+            1,
+            0,
+            &format!(
+                "begin-as 7
+                 downgrade => no 22
+                 update 2 0 mask 1 6 0 => no 12
+                 downgrade => no 22
+                 begin
+                 begin-as 8
+                 {end}
+                 downgrade => no 22
+                 abort 4
+                 downgrade => ok
+                 upgrade
+                 begin-as 7 => ok 5
+                 downgrade => no 22"
+            ),
+        );
+    }
+}
+
+#[test]
+fn the_way_back_is_open_with_keeper_0_however_it_was_begun() {
+    script(
+        "shape 2 1 9 1
+         begin-as 0
+         insert 1 5 50
+         update 1 0 mask 1 6 0
+         downgrade => ok
+         upgrade => ok
+         commit 1 10
+         begin
+         delete 2 0
+         downgrade => ok
+         upgrade => ok
+         abort 2
+         keeper-at 10 0 0 => ok 0
+         downgrade => ok",
+    );
+}
+
+#[test]
+fn a_row_inserted_before_the_keepers_has_keeper_0() {
+    // Form 1, then moved: the update's original carries the inserter, the setting its own.
+    script(
+        "shape 2 1 9 1
+         begin
+         insert 1 5 50
+         commit 1 10
+         upgrade
+         begin-as 7
+         update 2 0 mask 1 6 0
+         commit 2 20
+         keeper-at 10 0 0 => ok 0
+         keeper-at 20 0 0 => ok 7
+         keeper-at 20 0 1 => ok 0
+         downgrade => no 22",
+    );
+}
+
+#[test]
+fn open_transactions_numbers_and_holds_go_on_after_moves() {
+    // From form 1: up, back, up; an own read sees its pending values, a held row is held, the next number
+    // is the next.
+    script(
+        "shape 2 1 9 1
+         begin
+         insert 1 5 50
+         commit 1 10
+         begin => ok 2
+         update 2 0 mask 1 6 0 => ok 2
+         begin => ok 3
+         upgrade
+         own-read 2 0 0 => ok 6 0
+         latest 0 0 => ok 5 10
+         delete 3 0 => no 9
+         begin-as 0 => ok 4
+         downgrade
+         own-read 2 0 0 => ok 6 0
+         insert 4 7 70 => ok 1
+         upgrade
+         update 2 0 mask 1 8 0 => ok 3
+         commit 2 9 => no 13
+         commit 2 20
+         update 3 0 mask 2 0 60 => ok 5
+         downgrade
+         own-read 3 0 0 => ok 8 20
+         own-read 4 1 0 => ok 7 0
+         commit 3 20
+         abort 4
+         latest 0 1 => ok 60 20
+         latest 1 0 => ok none
+         begin => ok 5",
+    );
+}
+
+#[test]
+fn eight_open_transactions_and_five_scans_stay_the_limit_after_a_move() {
+    script(&format!(
+        "shape 1 1 1 0\n{}{}upgrade\nbegin => no 14\nbegin-as 0 => no 14\nopen-scan 0 => no 14\n\
+         downgrade\nbegin => no 14\nopen-scan 0 => no 14\nabort 3\nclose 2\nupgrade\n\
+         begin-as 0 => ok 9\nopen-scan 0 => ok 6",
+        "begin\n".repeat(8),
+        "open-scan 0\n".repeat(5),
+    ));
+}
+
+#[test]
+fn scans_and_waiting_pages_go_on_after_moves() {
+    // Scan 1 keeps the first page and what it saw, scan 2 the second; merges made before and after moves
+    // count together.
+    one_row(
+        9,
+        2,
+        "begin
+         open-scan 10 => ok 1
+         update 2 0 mask 1 6 0
+         commit 2 10
+         merge 0 0 2
+         downgrade
+         scan-read 1 0 0 => ok 5 10
+         open-scan 10 => ok 2
+         begin
+         update 3 0 mask 1 7 0
+         commit 3 20
+         upgrade
+         merge 0 0 3
+         merge 0 1 3 => no 18
+         downgrade
+         scan-read 1 0 0 => ok 5 10
+         scan-read 2 0 0 => ok 6 10
+         sum 2 0 => ok 1 6
+         page-cell 0 0 => ok 7
+         lineage 0 0 => ok 3 3
+         release => ok 0
+         close 1
+         upgrade
+         release => ok 1
+         scan-read 2 0 0 => ok 6 10
+         close 2
+         downgrade
+         release => ok 1
+         merge 0 1 3
+         crossings 0 0 6 0 20 => ok 1 10",
     );
 }

@@ -151,8 +151,69 @@ pub const DELETE_WITHOUT_KEEPER: u8 = 81;
 pub const WHOLE_WORD_OF_A_KEEPER: u8 = 82;
 /// For a keeper the records are looked through though the row's mask lacks the column.
 pub const KEEPER_WITHOUT_THE_MASK: u8 = 83;
-/// A memory of form 1 is taken for one of form 2.
-pub const FORM_1_ACCEPTED: u8 = 84;
+/// A memory of a form above the newest is taken for one of the newest.
+pub const LATER_FORM_ACCEPTED: u8 = 84;
+
+/// A latest read does not work on form 1.
+pub const FORM_1_REFUSED_BY_LATEST: u8 = 85;
+/// A call for a keeper works on form 1, and the keeper is 0.
+pub const KEEPER_AT_ON_FORM_1: u8 = 86;
+/// A begin with a keeper works on form 1, and the keeper is lost.
+pub const BEGIN_AS_ON_FORM_1: u8 = 87;
+/// The move to the newest form works on the newest too.
+pub const UPGRADE_OF_THE_NEWEST: u8 = 88;
+/// The way back works on form 1 too.
+pub const DOWNGRADE_OF_FORM_1: u8 = 89;
+/// After a move no transaction is open.
+pub const MOVE_FORGETS_OPEN_TRANSACTIONS: u8 = 90;
+/// After a move the open transactions have changed nothing.
+pub const MOVE_FORGETS_CHANGES: u8 = 91;
+/// After a move the pages that waited are free.
+pub const MOVE_FORGETS_WAITING_PAGES: u8 = 92;
+/// After a move no page has the merge that made it, by which a scan finds its page.
+pub const MOVE_LOSES_MADE: u8 = 93;
+/// Nor the merge that replaced it.
+pub const MOVE_LOSES_REPLACED: u8 = 94;
+/// After a move no row or record has its commit's ordinal, by which a scan sees it or not.
+pub const MOVE_FORGETS_ORDINALS: u8 = 95;
+/// A move closes the scans.
+pub const MOVE_CLOSES_SCANS: u8 = 96;
+/// The cells of free pages do not come over.
+pub const MOVE_LEAVES_FREE_CELLS: u8 = 97;
+/// The unused words of the header do not.
+pub const MOVE_CLEARS_UNUSED_HEADER: u8 = 98;
+/// The keepers' words are left as the second memory has them.
+pub const MOVE_LEAVES_KEEPERS: u8 = 99;
+/// The memory moved to says the form of the one moved from.
+pub const MOVE_FORGETS_THE_FORM: u8 = 100;
+/// Bytes of the second memory past the need become 0.
+pub const MOVE_PAST_THE_NEED: u8 = 101;
+/// The memory moved from is made to say that it is none.
+pub const MOVE_WRITES_THE_FIRST: u8 = 102;
+/// The way back drops keepers.
+pub const BACK_WITHOUT_KEEPER_TEST: u8 = 103;
+/// It drops those of rows.
+pub const BACK_HEEDS_NO_ROWS: u8 = 104;
+/// It drops those of records.
+pub const BACK_HEEDS_NO_RECORDS: u8 = 105;
+/// It drops those of aborted records.
+pub const BACK_HEEDS_NO_ABORTED: u8 = 106;
+/// It drops those of deletes.
+pub const BACK_HEEDS_NO_DELETES: u8 = 107;
+/// It drops those of open transactions.
+pub const BACK_HEEDS_NO_OPEN: u8 = 108;
+/// It is refused for keepers of rows not given, of records not used and of free entries too.
+pub const BACK_HEEDS_UNUSED: u8 = 109;
+/// It is refused for a keeper's word whose lower two bytes are 0 and the upper are not.
+pub const BACK_HEEDS_WHOLE_WORDS: u8 = 110;
+/// The way back wants a second memory as long as the newest form needs.
+pub const BACK_WANTS_THE_NEWEST_NEED: u8 = 111;
+/// The keepers are tested before the second memory's length.
+pub const BACK_TESTS_KEEPERS_FIRST: u8 = 112;
+/// A second memory that holds a store is refused.
+pub const SECOND_STORE_REFUSED: u8 = 113;
+/// A way back that is refused for a keeper has written in the second memory.
+pub const WRITES_THOUGH_REFUSED: u8 = 114;
 
 /// Whether a fault is that of a begin without a keeper that writes none.
 pub const fn begins_without_keeper(fault: u8) -> bool {

@@ -7,7 +7,7 @@ use std::iter;
 use reference::Answer;
 
 use super::{faults, Table};
-use crate::memory::{header, kind, page, state, words, Region, ScanEntry, KEEPER_LIMIT, ROWS};
+use crate::memory::{self, header, kind, page, state, words, Region, ScanEntry, ROWS};
 
 /// Which commits a reader has: of the first so many those with a stamp at or before this one.
 #[derive(Clone, Copy)]
@@ -67,12 +67,12 @@ impl<const FAULT: u8> Table<'_, FAULT> {
             _ => self.found_by_fault(&reader, row),
         };
         let keeper = match found {
-            Some(k) => self.get(Region::TailKeeper, self.layout.slot(reader.range, k)),
-            None => self.get(Region::RowKeeper, row),
+            Some(k) => self.get_later(Region::TailKeeper, self.layout.slot(reader.range, k)),
+            None => self.get_later(Region::RowKeeper, row),
         };
         match FAULT {
             faults::WHOLE_WORD_OF_A_KEEPER => Answer::Number(keeper),
-            _ => Answer::Number(keeper % KEEPER_LIMIT),
+            _ => Answer::Number(memory::keeper(keeper)),
         }
     }
 

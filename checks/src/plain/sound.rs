@@ -2,16 +2,16 @@
 //! it is the greatest part of a call in a full store: one flag is carried to the end of each pass
 //! instead of an early exit, which lets the compiler test several words at once.
 
-use crate::memory::{header, is_in_form, page, word, words, Layout, Region, ScanEntry};
+use crate::memory::{form_of, header, page, word, words, Layout, Region, ScanEntry};
 use crate::memory::{MOST_COLUMNS, MOST_RANGES, MOST_RECORDS, NUMBERS, OPENS, ROWS, SCANS, WORD};
 
 /// A range with no more records takes a smaller array to look them up in, which is sooner cleared.
 const FEW_RECORDS: usize = 32;
 
-/// The layout of a store whose facts hold.
+/// The layout of a store whose facts hold, in its form.
 pub fn sound(memory: &[u8], list: &[ScanEntry]) -> Option<Layout> {
     let layout = Layout::stored(memory)?;
-    if memory.len() < layout.need() || list.len() < SCANS || !is_in_form(memory) {
+    if memory.len() < layout.need() || list.len() < SCANS || form_of(memory).is_none() {
         return None;
     }
     let facts = Facts::of(memory, layout)?;

@@ -43,7 +43,7 @@ impl<const FAULT: u8> Table<'_, FAULT> {
         self.put(Region::RowOrdinal, row, 0);
         self.put(Region::RowLink, row, 0);
         self.put(Region::RowMask, row, 0);
-        self.put(Region::RowKeeper, row, self.keeper_of(open));
+        self.put_later(Region::RowKeeper, row, self.keeper_of(open));
         for column in 0..self.layout.columns {
             let at = self.current(row / ROWS, column);
             self.put(Region::Cells, at * ROWS + row % ROWS, word_of(values, column));
@@ -65,7 +65,7 @@ impl<const FAULT: u8> Table<'_, FAULT> {
         if mask & !old != 0 {
             let keeper = match FAULT {
                 faults::KEEPER_OF_THE_UPDATER => self.keeper_of(open),
-                _ => self.get(Region::RowKeeper, row),
+                _ => self.get_later(Region::RowKeeper, row),
             };
             let slot = self.append(transaction, row, kind::ORIGINAL, mask & !old, keeper);
             for column in 0..self.layout.columns {
@@ -101,7 +101,7 @@ impl<const FAULT: u8> Table<'_, FAULT> {
 
     /// The keeper of the transaction in an open place, the word as it stands.
     fn keeper_of(&self, open: usize) -> u32 {
-        let keeper = self.get(Region::OpenKeeper, open);
+        let keeper = self.get_later(Region::OpenKeeper, open);
         match FAULT {
             faults::KEEPER_OF_ONE_BYTE => keeper % 256,
             _ => keeper,
@@ -122,7 +122,7 @@ impl<const FAULT: u8> Table<'_, FAULT> {
         self.put(Region::TailState, slot, state::OPEN);
         self.put(Region::TailStamp, slot, 0);
         self.put(Region::TailOrdinal, slot, 0);
-        self.put(Region::TailKeeper, slot, keeper);
+        self.put_later(Region::TailKeeper, slot, keeper);
         self.put(Region::Used, range, k);
         self.put(Region::RowLink, row, k);
         slot
@@ -153,7 +153,7 @@ impl<const FAULT: u8> Table<'_, FAULT> {
         self.put(Region::Opens, open, 0);
         self.put(Region::Changes, open, 0);
         if !faults::leaves_keeper(FAULT) {
-            self.put(Region::OpenKeeper, open, 0);
+            self.put_later(Region::OpenKeeper, open, 0);
         }
     }
 

@@ -10,13 +10,13 @@ use Rattle.words.specs.Words.{words}
 use Rattle.layout.specs.declared.Sizes.{Sizes}
 use Rattle.layout.specs.declared.Region.the-variants.{Current, PageState, PageChunk}
 use Rattle.layout.specs.Regions.{need, slot}
-use Rattle.layout.specs.Sizes.{Proper, tooManyWords}
+use Rattle.layout.specs.Sizes.{sizesOf, Proper, tooManyWords}
 use Rattle.layout.specs.View.{View, rowsGiven, usedIn, viewOf}
 use Rattle.layout.proofs.Limits.{need-small, proper as proper-of}
 use Rattle.loops.proofs.Search.{and-true}
 use Rattle.history.specs.History.{rangeOf}
 use Rattle.facts.specs.Facts.{linksHold, rowLinked, rangeLinked, recordLinked, chunksCurrent, chunkCurrent}
-use Rattle.facts.specs.Usable.{storedShape, storedSizes, usable}
+use Rattle.facts.specs.Usable.{storedShape, storedForm, storedSizes, usable}
 use Rattle.facts.specs.Tests.{MemoryFacts, Passed}
 use Rattle.facts.proofs.Each.{each-tells}
 use Rattle.facts.proofs.Ready.{stored}
@@ -84,11 +84,12 @@ module _ (r : Checked) (m : List ℕ) where
     fit-tells h =
         let x : Passed s m = rw e at h in
         let v = viewOf s m in
-        let proper : Proper s = subst Proper (sym (x .sizes-are)) (proper-of (storedShape (words m)) (x .within)) in
+        let proper : Proper s = subst Proper (sym (x .sizes-are)) (proper-of (storedForm (words m)) (storedShape (words m)) (x .within)) in
         let k = stored s v (x .facts .counts) in
         record {
           room = x .room;
-          small = subst (λ z. need z < tooManyWords) (sym (x .sizes-are)) (need-small (storedShape (words m)) (x .within));
+          small = subst (λ z. need z < tooManyWords) (sym (x .sizes-are)) (need-small (storedForm (words m)) (storedShape (words m)) (x .within));
+          sizes-are = subst (λ z. z ≡ sizesOf (z .form) (shapeIn z)) (sym (x .sizes-are)) refl;
           proper = proper;
           linked = linked-of s v proper (x .facts);
           pooled = λ i h. (at-chunk s v proper (x .facts) i h) .0;

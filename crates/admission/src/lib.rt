@@ -13,6 +13,7 @@ use pages::check::check;
 use regions::read;
 use rows::range_of;
 use scans::Scans;
+use terms::Form;
 use terms::Refusal;
 use terms::Row;
 use terms::Stamp;
@@ -22,10 +23,11 @@ ghost use mathlib.Core.Path.{_≡_};
 ghost use Prim.Native.Nat.{_*_};
 ghost use Rattle.layout.specs.View.{lastStamp, viewOf, Suffices};
 ghost use Rattle.history.specs.History.{noColumn, noRange};
+ghost use Rattle.history.specs.Forms.{isForm};
 ghost use Rattle.model.specs.Reading.{reader, allUpTo};
 ghost use Rattle.model.specs.Calls.{earlierIn, laterIn, noSpanIn};
 ghost use Rattle.model.specs.Preconditions.{shapeIn};
-ghost use Rattle.admission.specs.Admitted.{Admits};
+ghost use Rattle.admission.specs.Admitted.{Admits, everyForm};
 ghost use Rattle.admission.specs.Given.{rangeGiven};
 
 // What the test of the lent memory and scan list finds: the store's sizes and the number of bytes that they need, or that the memory is not usable.
@@ -42,12 +44,43 @@ pub enum Tested {
 
 // The test of a memory and of the scan list that a table stands for.
 pub fn admit(mem: &[u8], t: Scans) -> Admission
-    ensures { λ r. ⌜ Admits r (now (mem .entry)) t ⌝ }
+    ensures { λ r. ⌜ Admits everyForm r (now (mem .entry)) t ⌝ }
 {
     let Checked::Fit(s) = check(mem, t) else {
         return Admission::Unfit;
     };
     Admission::Fit(s, words_needed(s) * 4)
+}
+
+// Whether two forms are one.
+fn same_form(a: Form, b: Form) -> bool
+    ensures { λ r. ⌜ r ≡ isForm a b ⌝ }
+{
+    match a {
+        Form::First => match b {
+            Form::First => true,
+            Form::Newest => false,
+        },
+        Form::Newest => match b {
+            Form::First => false,
+            Form::Newest => true,
+        },
+    }
+}
+
+// The same test, for calls that work on one form alone.
+pub fn admit_in(mem: &[u8], t: Scans, form: Form) -> Admission
+    ensures { λ r. ⌜ Admits (isForm form) r (now (mem .entry)) t ⌝ }
+{
+    let Admission::Fit(s, n) = admit(mem, t) else {
+        return Admission::Unfit;
+    };
+    let stored = s.form;
+    if same_form(form, stored) {
+        Admission::Fit(s, n)
+    } else {
+        Admission::Unfit
+    }
 }
 
 // The reader of all commits at a stamp or before, with the changes of a transaction (0: of none). No ordinal is above the highest word.

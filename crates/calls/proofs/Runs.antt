@@ -5,7 +5,7 @@ use mathlib.Core.Bool.{Bool, true, false, cond, _&&_}
 use mathlib.Core.Logic.{inl, _↔_}
 use mathlib.Core.List.{List, [], _∷_, map}
 use native.Mathlib.Omega.{arith}
-use lib.Dec.{leb}
+use lib.Dec.{T, leb}
 use lib.ListN.{length, List·getD-map}
 use Rattle.model.specs.Writing.{madeView}
 use Rattle.terms.specs.Measures.{Shape, withinLimits, mostScans}
@@ -13,51 +13,104 @@ use Rattle.terms.specs.Refusals.{isRefused, isAccepted}
 use Rattle.terms.specs.declared.Answer.{Answer}
 use Rattle.terms.specs.declared.ScanEntry.{ScanEntry}
 use Rattle.terms.specs.declared.Refusal.{Refusal}
+use Rattle.terms.specs.declared.Form.{Form}
+use Rattle.words.specs.Words.{words}
 use Rattle.layout.specs.Sizes.{sizesOf, bytesNeeded}
 use Rattle.layout.specs.View.{lay}
-use Rattle.facts.specs.Usable.{usable}
+use Rattle.facts.specs.Usable.{storedShape, usable}
 use Rattle.facts.proofs.Usable.{usable-tells}
 use Rattle.history.proofs.Lists.{is-true, refuted, clash}
-use Rattle.history.specs.History.{Call, Outcome, alone, given}
+use Rattle.history.specs.History.{Call, move, Outcome, alone, given, Verdict, accept, refuse, verdict}
+use Rattle.history.specs.Forms.{FormUse, either, newest, formUse}
+use Rattle.model.specs.Calls.{testsIn, entriesAfter, entriesIf, entriesNext}
 use Rattle.history.specs.Claims.{isPlain, kind, strike, plainOutcomes}
-use Rattle.promise.specs.Promise.{Lent, answerOf, memoryAfter, listAfter, outcomesOf, Serves, Gives, Makes, lend, left}
-use Rattle.promise.specs.Demands.{Accepted, storeOutcomes, storeLeft, storeOutcomeAt, AcceptsIn, Refuses, RefusedKeeps, ReadsCommitted, PagesCommitted, Demand3, StrikingStore, MinutesStableStore, ScansStableStore}
-use Rattle.promise.specs.Footprint.{ChangesOnly, MergeChangesOnly, MakingChangesOnly}
+use Rattle.promise.specs.Promise.{Lent, storeView, admits, answerOf, memoryAfter, listAfter, secondAfter, storeOf, outcomeOf, leftBy, outcomesOf, Serves, Gives, Moves, Makes, lend, left}
+use Rattle.promise.specs.Demands.{Accepted, memoryMade, storeOutcomes, storeLeft, storeOutcomeAt, AcceptsIn, Refuses, RefusedKeeps, ReadsCommitted, PagesCommitted, Demand3, StrikingStore, MinutesStableStore, ScansStableStore}
+use Rattle.promise.specs.Footprint.{ChangesOnly, MergeChangesOnly, MakingChangesOnly, MoveChangesOnly}
 use Rattle.promise.specs.Stated.{conditions}
 use Rattle.promise.proofs.Demands.{demand3, reads-committed, pages-committed, striking-store, minutes-stable-store, scans-stable-store}
 use Rattle.promise.proofs.Refused.{refused-keeps}
 use Rattle.promise.proofs.Footprint.{changes-only, merge-changes-only, making-changes-only}
+use Rattle.promise.proofs.Moves.{move-changes-only}
+use Rattle.promise.proofs.Alone.{none-left}
 use Rattle.promise.proofs.Stated.{refuses}
 use Rattle.making.specs.Made.{made}
-use Rattle.scans.specs.Entries.{freedIf}
-use Rattle.calls.specs.Runs.{Run, ends, goes, Interface, returnedFor, AcceptsAmong, returnedAt, RefusedSo, RefusedKept, UnmadeKept, ChangedSo, MergedSo, MadeSo, ReadsSo, PagesSo, OutcomesSo, StruckSame, MinutesSo, ScansSo, calls, LentRefused, LentKept, MakingKept, LentChanged, LentMerged, MakingChanged, LentReads, LentPages, LentOutcomes, LentStriking, LentMinutes, LentScans, MakingFrees, ShortRefused}
+use Rattle.scans.specs.Entries.{allFreed, freedIf}
+use Rattle.calls.specs.Runs.{staysPut, Run, ends, goes, moves-on, stays, Begun, by-making, of-first, Interface, returnedFor, AcceptsAmong, returnedAt, RefusedSo, RefusedKept, UnmadeKept, ChangedSo, MergedSo, MadeSo, UnmovedKept, MovedSo, UnmovedSo, ReadsSo, PagesSo, OutcomesSo, StruckSame, MinutesSo, ScansSo, calls, LentRefused, LentKept, MakingKept, LentChanged, LentMerged, MakingChanged, MoveKept, MoveChanged, MoveRefused, LentReads, LentPages, LentOutcomes, LentStriking, LentMinutes, LentScans, MakingFrees, ShortRefused}
 
 -- ---- what a run answers and leaves
-left-on : (x : Lent) (c : Call) (cs : List Call) {m′ : List ℕ} {ps′ : List ScanEntry} → m′ ≡ memoryAfter x c → ps′ ≡ listAfter x c → left (lend m′ ps′) cs ≡ left x (c ∷ cs)
+-- what a call that is no move leaves is the store
+put-there : (u : FormUse) → T (staysPut u) → (a : Bool) (before after second : List ℕ) → storeOf u a before after second ≡ after
+put-there either t a before after second = refl
+put-there newest t a before after second = refl
+
+-- a move leaves the list
+move-list : (m : List ℕ) (ps : List ScanEntry) (to : Form) (second : List ℕ) → listAfter (lend m ps) (move to second) ≡ ps
+unfolding listAfter entriesNext entriesAfter entriesIf
+move-list m ps to second = go (admits (lend m ps) (move to second)) (verdict (testsIn (storedShape (words m)) (storeView m) ps (move to second)))
+  where
+    go : (b : Bool) (w : Verdict) → cond b (entriesIf w ps ps) ps ≡ ps
+    go true accept = refl
+    go true (refuse n) = refl
+    go false w = refl
+
+left-on : (x : Lent) (c : Call) (cs : List Call) {m′ : List ℕ} {ps′ : List ScanEntry} → m′ ≡ leftBy x c .memory → ps′ ≡ leftBy x c .list → left (lend m′ ps′) cs ≡ left x (c ∷ cs)
 unfolding left
 left-on x c cs e f = rw (e, f) refl
 
-run-left : {m m′ : List ℕ} {ps ps′ : List ScanEntry} {cs : List Call} {os : List (Outcome Answer)} → Run Gives m ps cs os m′ ps′
+outcomes-on : (x : Lent) (c : Call) (cs : List Call) (o : Outcome Answer) (os : List (Outcome Answer)) {m′ : List ℕ} {ps′ : List ScanEntry} → o ≡ outcomeOf x c → m′ ≡ leftBy x c .memory → ps′ ≡ leftBy x c .list → os ≡ outcomesOf (lend m′ ps′) cs
+    → o ∷ os ≡ outcomesOf x (c ∷ cs)
+unfolding outcomesOf
+outcomes-on x c cs o os e f g h = rw (e, h, f, g) refl
+
+-- the outcome of a call, and the store that it leaves
+as-left : (x : Lent) (c : Call) (o : Outcome Answer) {m′ : List ℕ} {ps′ : List ScanEntry} → T (staysPut (formUse c)) → Gives (x .memory) (x .list) c o m′ ps′ → (o ≡ outcomeOf x c) × (m′ ≡ leftBy x c .memory) × (ps′ ≡ leftBy x c .list)
+unfolding Gives Serves
+as-left x c o put s =
+    (rw (← s .0 .0, ← s .1), s .0 .1 ∙ sym (put-there (formUse c) put (isAccepted (answerOf x c)) (x .memory) (memoryAfter x c) (secondAfter x c)), s .0 .2)
+
+alone-is : (m : List ℕ) (ps : List ScanEntry) (to : Form) (second : List ℕ) (r : Answer) → r ≡ answerOf (lend m ps) (move to second) → alone r ≡ outcomeOf (lend m ps) (move to second)
+alone-is m ps to second r e = rw (← e, none-left (lend m ps) (move to second) refl)
+
+moved-left : (m : List ℕ) (ps : List ScanEntry) (to : Form) (second : List ℕ) (r : Answer) (second′ : List ℕ) → Moves m ps (move to second) r second′ → isRefused r ≡ false
+    → (alone r ≡ outcomeOf (lend m ps) (move to second)) × (second′ ≡ leftBy (lend m ps) (move to second) .memory) × (ps ≡ leftBy (lend m ps) (move to second) .list)
+unfolding Moves
+moved-left m ps to second r second′ s a = (alone-is m ps to second r (s .0), rw (← s .0, a) (s .1), sym (move-list m ps to second))
+
+unmoved-left : (m : List ℕ) (ps : List ScanEntry) (to : Form) (second : List ℕ) (r : Answer) (second′ : List ℕ) (n : Refusal) → Moves m ps (move to second) r second′ → r ≡ Answer.Refused n
+    → (alone r ≡ outcomeOf (lend m ps) (move to second)) × (m ≡ leftBy (lend m ps) (move to second) .memory) × (ps ≡ leftBy (lend m ps) (move to second) .list)
+unfolding Moves
+unmoved-left m ps to second r second′ n s a = (alone-is m ps to second r (s .0), rw (← s .0, a), sym (move-list m ps to second))
+
+run-left : {m m′ : List ℕ} {ps ps′ : List ScanEntry} {cs : List Call} {os : List (Outcome Answer)} → Run calls m ps cs os m′ ps′
     → (os ≡ outcomesOf (lend m ps) cs) × (m′ ≡ left (lend m ps) cs .memory) × (ps′ ≡ left (lend m ps) cs .list)
-unfolding Gives Serves outcomesOf left
-run-left ends = (refl, refl, refl)
-run-left (goes {c = c} {cs = cs} s q) =
+run-left ends = unfold outcomesOf left in (refl, refl, refl)
+run-left (goes {m = m} {ps = ps} {c = c} {o = o} {cs = cs} {os = os} put s q) =
     let l = run-left q in
-    let k = left-on _ c cs (s .0 .1) (s .0 .2) in
-    (rw (← s .0 .0, ← s .1, ← s .0 .1, ← s .0 .2) (rw (l .0)), l .1 ∙ ap (λ (x : Lent). x .memory) k, l .2 ∙ ap (λ (x : Lent). x .list) k)
+    let g = as-left (lend m ps) c o put s in
+    let k = left-on (lend m ps) c cs (g .1) (g .2) in
+    (outcomes-on (lend m ps) c cs o os (g .0) (g .1) (g .2) (l .0), l .1 ∙ ap (λ (x : Lent). x .memory) k, l .2 ∙ ap (λ (x : Lent). x .list) k)
+run-left (moves-on {m = m} {second = second} {ps = ps} {to = to} {r = r} {cs = cs} {os = os} s a q) =
+    let l = run-left q in
+    let g = moved-left m ps to second r _ s a in
+    let k = left-on (lend m ps) (move to second) cs (g .1) (g .2) in
+    (outcomes-on (lend m ps) (move to second) cs (alone r) os (g .0) (g .1) (g .2) (l .0), l .1 ∙ ap (λ (x : Lent). x .memory) k, l .2 ∙ ap (λ (x : Lent). x .list) k)
+run-left (stays {m = m} {second = second} {ps = ps} {to = to} {r = r} {n = n} {cs = cs} {os = os} s a q) =
+    let l = run-left q in
+    let g = unmoved-left m ps to second r _ n s a in
+    let k = left-on (lend m ps) (move to second) cs (g .1) (g .2) in
+    (outcomes-on (lend m ps) (move to second) cs (alone r) os (g .0) (g .1) (g .2) (l .0), l .1 ∙ ap (λ (x : Lent). x .memory) k, l .2 ∙ ap (λ (x : Lent). x .list) k)
 
 pub making-frees : MakingFrees
 unfolding MakingFrees Makes
 making-frees S m m′ ps ps′ h = h .2 ∙ ap (λ (x : Answer). freedIf (isAccepted x) ps) (sym (h .0))
 
 -- after an accepted making: what the demands are stated of
-store-left : (S : Shape) (m₀ : List ℕ) (ps₀ : List ScanEntry) {m m′ : List ℕ} {ps ps′ : List ScanEntry} {cs : List Call} {os : List (Outcome Answer)}
-    → Makes m₀ ps₀ S Answer.Done m ps → Run Gives m ps cs os m′ ps′
-    → Accepted S m₀ ps₀ × (os ≡ storeOutcomes S m₀ ps₀ cs) × (m′ ≡ storeLeft S m₀ ps₀ cs .memory) × (ps′ ≡ storeLeft S m₀ ps₀ cs .list)
-unfolding Makes MakingFrees storeOutcomes storeLeft
-store-left S m₀ ps₀ {m} {ps = ps} h q =
-    let l = rw (h .1, making-frees S m₀ m ps₀ ps h) at (run-left q) in
-    (sym (h .0), l .0, l .1, l .2)
+store-left : (X : Form) (S : Shape) (m₀ : List ℕ) (ps₀ : List ScanEntry) {m m′ : List ℕ} {ps ps′ : List ScanEntry} {cs : List Call} {os : List (Outcome Answer)}
+    → m ≡ memoryMade X S m₀ ps₀ → ps ≡ allFreed ps₀ → Run calls m ps cs os m′ ps′
+    → (os ≡ storeOutcomes X S m₀ ps₀ cs) × (m′ ≡ storeLeft X S m₀ ps₀ cs .memory) × (ps′ ≡ storeLeft X S m₀ ps₀ cs .list)
+unfolding storeOutcomes storeLeft
+store-left X S m₀ ps₀ e f q = rw (e, f) at (run-left q)
 
 -- ---- a making answers done, or a refusal that leaves all as it was
 answered : List ℕ → Bool → Bool → List ℕ → Answer × List ℕ
@@ -78,6 +131,7 @@ made-done m false b l e = clash (cc)
 -- ---- a form that tells the answer of a call, and of a making
 pub record Faithful (F : Interface) : Type 0 where
   pub served : {m m′ : List ℕ} {ps ps′ : List ScanEntry} {c : Call} {o : Outcome (F .Returned)} → F .gives m ps c o m′ ps′ → (a : Answer) × Gives m ps c (given a (o .stamps)) m′ ps′ × (o .answer ≡ F .returns a)
+  pub moving : {m second second′ : List ℕ} {ps : List ScanEntry} {to : Form} {r : F .Returned} → F .moves m ps to second r second′ → (a : Answer) × Moves m ps (move to second) a second′ × (r ≡ F .returns a)
   pub making : {m m′ : List ℕ} {ps ps′ : List ScanEntry} {S : Shape} {r : F .Returned} → F .makes m ps S r m′ ps′ → (a : Answer) × Makes m ps S a m′ ps′ × (r ≡ F .returns a)
   pub refusing : (a : Answer) (n : Refusal) → F .Refuses (F .returns a) n ↔ (a ≡ Answer.Refused n)
   pub accepting : (a : Answer) → F .Accepts (F .returns a) ↔ (isRefused a ≡ false)
@@ -102,25 +156,45 @@ module _ (F : Interface) (ok : Faithful F) where
   whole : {o : Outcome (F .Returned)} {a : Answer} → o .answer ≡ F .returns a → o ≡ returnedFor F (given a (o .stamps))
   whole {o} e = ap (λ (y : F .Returned). given y (o .stamps)) e
 
-  as-answers : {m m′ : List ℕ} {ps ps′ : List ScanEntry} {cs : List Call} {os : List (Outcome (F .Returned))} → Run (F .gives) m ps cs os m′ ps′
-      → (as′ : List (Outcome Answer)) × Run Gives m ps cs as′ m′ ps′ × (os ≡ map (returnedFor F) as′)
+  as-answers : {m m′ : List ℕ} {ps ps′ : List ScanEntry} {cs : List Call} {os : List (Outcome (F .Returned))} → Run F m ps cs os m′ ps′
+      → (as′ : List (Outcome Answer)) × Run calls m ps cs as′ m′ ps′ × (os ≡ map (returnedFor F) as′)
   as-answers ends = ([], ends, refl)
-  as-answers (goes {o = o} {os = os} s q) =
+  as-answers (goes {o = o} {os = os} put s q) =
       let x = ok .served s in
       let l = as-answers q in
-      (given (x .0) (o .stamps) ∷ l .0, goes (x .1) (l .1), ap (λ (y : Outcome (F .Returned)). y ∷ os) (whole (x .2)) ∙ ap (λ (y : List (Outcome (F .Returned))). returnedFor F (given (x .0) (o .stamps)) ∷ y) (l .2))
-
-  stored : (S : Shape) (m₀ : List ℕ) (ps₀ : List ScanEntry) {m m′ : List ℕ} {ps ps′ : List ScanEntry} {z : F .Returned} {cs : List Call} {os : List (Outcome (F .Returned))}
-      → F .makes m₀ ps₀ S z m ps → F .Accepts z → Run (F .gives) m ps cs os m′ ps′
-      → Accepted S m₀ ps₀ × (os ≡ map (returnedFor F) (storeOutcomes S m₀ ps₀ cs)) × (m′ ≡ storeLeft S m₀ ps₀ cs .memory) × (ps′ ≡ storeLeft S m₀ ps₀ cs .list)
-  unfolding Makes made answered
-  stored S m₀ ps₀ {z = z} h g q =
-      let x = ok .making h in
-      let done : made S (length ps₀) m₀ .0 ≡ Answer.Done =
-      made-done m₀ (withinLimits S) (leb (bytesNeeded S) (length m₀) && leb mostScans (length ps₀)) (lay (sizesOf S) (madeView S) m₀) (ap isRefused (sym (x .1 .0)) ∙ not-refused z (x .0) (x .2) g) in
+      (given (x .0) (o .stamps) ∷ l .0, goes put (x .1) (l .1), ap (λ (y : Outcome (F .Returned)). y ∷ os) (whole (x .2)) ∙ ap (λ (y : List (Outcome (F .Returned))). returnedFor F (given (x .0) (o .stamps)) ∷ y) (l .2))
+  as-answers (moves-on {r = r} {os = os} s a q) =
+      let x = ok .moving s in
       let l = as-answers q in
-      let k = store-left S m₀ ps₀ (sym done, x .1 .1, x .1 .2) (l .1) in
-      (k .0, l .2 ∙ ap (map (returnedFor F)) (k .1), k .2, k .3)
+      (alone (x .0) ∷ l .0, moves-on (x .1) (not-refused r (x .0) (x .2) a) (l .1), ap (λ (y : F .Returned). alone y ∷ os) (x .2) ∙ ap (λ (y : List (Outcome (F .Returned))). returnedFor F (alone (x .0)) ∷ y) (l .2))
+  as-answers (stays {r = r} {n = n} {os = os} s a q) =
+      let x = ok .moving s in
+      let l = as-answers q in
+      (alone (x .0) ∷ l .0, stays (x .1) (is-refusal r (x .0) n (x .2) a) (l .1), ap (λ (y : F .Returned). alone y ∷ os) (x .2) ∙ ap (λ (y : List (Outcome (F .Returned))). returnedFor F (alone (x .0)) ∷ y) (l .2))
+
+  -- what a run begins with: what a making of the form left of some memory and list
+  record From (X : Form) (S : Shape) (m : List ℕ) (ps : List ScanEntry) : Type 0 where
+    m₀ : List ℕ
+    ps₀ : List ScanEntry
+    accepted : Accepted X S m₀ ps₀
+    memory : m ≡ memoryMade X S m₀ ps₀
+    list : ps ≡ allFreed ps₀
+
+  from : {X : Form} {S : Shape} {m : List ℕ} {ps : List ScanEntry} → Begun F X S m ps → From X S m ps
+  unfolding Makes made answered MakingFrees
+  from (by-making {S = S} {m₀ = m₀} {m = m} {ps₀ = ps₀} {ps = ps} {z = z} h g) =
+      let x = ok .making h in
+      let done : made Form.Newest S (length ps₀) m₀ .0 ≡ Answer.Done =
+      made-done m₀ (withinLimits S) (leb (bytesNeeded Form.Newest S) (length m₀) && leb mostScans (length ps₀)) (lay (sizesOf Form.Newest S) (madeView Form.Newest S) m₀) (ap isRefused (sym (x .1 .0)) ∙ not-refused z (x .0) (x .2) g) in
+      record { m₀ = m₀; ps₀ = ps₀; accepted = done; memory = x .1 .1; list = making-frees S m₀ m ps₀ ps (sym done, x .1 .1, x .1 .2) }
+  from (of-first m₀ ps₀ a) = record { m₀ = m₀; ps₀ = ps₀; accepted = a; memory = refl; list = refl }
+
+  stored : {X : Form} {S : Shape} {m m′ : List ℕ} {ps ps′ : List ScanEntry} {cs : List Call} {os : List (Outcome (F .Returned))} (b : From X S m ps) → Run F m ps cs os m′ ps′
+      → (os ≡ map (returnedFor F) (storeOutcomes X S (b .m₀) (b .ps₀) cs)) × (m′ ≡ storeLeft X S (b .m₀) (b .ps₀) cs .memory) × (ps′ ≡ storeLeft X S (b .m₀) (b .ps₀) cs .list)
+  stored {X} {S} b q =
+      let l = as-answers q in
+      let k = store-left X S (b .m₀) (b .ps₀) (b .memory) (b .list) (l .1) in
+      (l .2 ∙ ap (map (returnedFor F)) (k .0), k .1, k .2)
 
   -- ---- demand 1
   pub refused-so : RefusedSo F
@@ -146,8 +220,8 @@ module _ (F : Interface) (ok : Faithful F) where
   unfolding UnmadeKept Makes made answered
   unmade-kept S m m′ ps ps′ r n s h =
       let x = ok .making s in
-      let e : made S (length ps) m .0 ≡ Answer.Refused n = sym (x .1 .0) ∙ is-refusal r (x .0) n (x .2) h in
-      (x .1 .1 ∙ unmade-same m (withinLimits S) (leb (bytesNeeded S) (length m) && leb mostScans (length ps)) (lay (sizesOf S) (madeView S) m) n e, x .1 .2 ∙ ap (λ (y : Answer). freedIf (isAccepted y) ps) e)
+      let e : made Form.Newest S (length ps) m .0 ≡ Answer.Refused n = sym (x .1 .0) ∙ is-refusal r (x .0) n (x .2) h in
+      (x .1 .1 ∙ unmade-same m (withinLimits S) (leb (bytesNeeded Form.Newest S) (length m) && leb mostScans (length ps)) (lay (sizesOf Form.Newest S) (madeView Form.Newest S) m) n e, x .1 .2 ∙ ap (λ (y : Answer). freedIf (isAccepted y) ps) e)
 
   -- ---- what is changed
   pub changed-so : ChangedSo F
@@ -160,70 +234,92 @@ module _ (F : Interface) (ok : Faithful F) where
 
   pub made-so : MadeSo F
   unfolding MadeSo Makes MakingChangesOnly
-  made-so S m m′ ps ps′ r s = let x = ok .making s in rw (x .1 .1) (making-changes-only S m ps)
+  made-so S m m′ ps ps′ r s = let x = ok .making s in rw (x .1 .1) (making-changes-only Form.Newest S m ps)
+
+  pub unmoved-kept : UnmovedKept F
+  unfolding UnmovedKept Moves RefusedKeeps
+  unmoved-kept m second second′ ps to r n b s h =
+      let x = ok .moving s in
+      x .1 .1 ∙ refused-keeps m ps (move to second) n b (sym (x .1 .0) ∙ is-refusal r (x .0) n (x .2) h) .3
+
+  pub moved-so : MovedSo F
+  unfolding MovedSo Moves MoveChangesOnly
+  moved-so m second second′ ps to r s = let x = ok .moving s in rw (x .1 .1) (move-changes-only to m ps second)
+
+  pub unmoved-so : UnmovedSo F
+  unfolding UnmovedSo Moves Refuses
+  unmoved-so m second second′ ps to r s =
+      let x = ok .moving s in
+      let a = answerOf (lend m ps) (move to second) in
+      let k = refuses m ps (move to second) in
+      rw (x .2 ∙ ap (F .returns) (x .1 .0))
+      ((
+        λ n. (λ h. k .0 n .0 (ok .refusing a n .0 h), λ h. ok .refusing a n .1 (k .0 n .1 h)),
+        (λ h. k .1 .0 (ok .accepting a .0 h), λ h. ok .accepting a .1 (k .1 .1 h)),
+      ))
 
   -- ---- demand 2
   pub reads-so : ReadsSo F
   unfolding ReadsSo Gives Serves ReadsCommitted
-  reads-so S m₀ m m′ ps₀ ps ps′ z cs os h g ys q x show t r c o m″ ps″ y w s k =
-      let l = stored S m₀ ps₀ h g q in
+  reads-so X S m m′ ps ps′ cs os h ys q x show t r c o m″ ps″ y w s k =
+      let f = from h in
+      let l = stored f q in
       let b = ok .served s in
-      let e : b .0 ≡ answerOf (storeLeft S m₀ ps₀ cs) x =
-      b .1 .0 .0 ∙ ap (λ (u : List ℕ). answerOf (lend u ps′) x) (l .2) ∙ ap (λ (u : List ScanEntry). answerOf (lend (storeLeft S m₀ ps₀ cs .memory) u) x) (l .3) in
-      let n : isRefused (answerOf (storeLeft S m₀ ps₀ cs) x) ≡ false = ap isRefused (sym e) ∙ not-refused (o .answer) (b .0) (b .2) k in
-      b .2 ∙ ap (F .returns) (e ∙ reads-committed S m₀ ps₀ (l .0) cs ys x show t r c y w (rw n tt))
+      let e : b .0 ≡ answerOf (storeLeft X S (f .m₀) (f .ps₀) cs) x =
+      b .1 .0 .0 ∙ ap (λ (u : List ℕ). answerOf (lend u ps′) x) (l .1) ∙ ap (λ (u : List ScanEntry). answerOf (lend (storeLeft X S (f .m₀) (f .ps₀) cs .memory) u) x) (l .2) in
+      let n : isRefused (answerOf (storeLeft X S (f .m₀) (f .ps₀) cs) x) ≡ false = ap isRefused (sym e) ∙ not-refused (o .answer) (b .0) (b .2) k in
+      b .2 ∙ ap (F .returns) (e ∙ reads-committed X S (f .m₀) (f .ps₀) (f .accepted) cs ys x show t r c y w (rw n tt))
 
   pub pages-so : PagesSo F
   unfolding PagesSo PagesCommitted
-  pages-so S m₀ m m′ ps₀ ps ps′ z cs os h g ys q i c b d =
-      let l = stored S m₀ ps₀ h g q in
-      rw (l .2) (pages-committed S m₀ ps₀ (l .0) cs ys i c b d)
+  pages-so X S m m′ ps ps′ cs os h ys q i c b d =
+      let f = from h in
+      rw (stored f q .1) (pages-committed X S (f .m₀) (f .ps₀) (f .accepted) cs ys i c b d)
 
   -- ---- demand 3
   pub outcomes-so : OutcomesSo F
   unfolding OutcomesSo Demand3
-  outcomes-so S m₀ m m′ ps₀ ps ps′ z cs os h g ys q =
-      let l = stored S m₀ ps₀ h g q in
-      l .1 ∙ ap (map (returnedFor F)) (demand3 S m₀ ps₀ (l .0) cs ys)
+  outcomes-so X S m m′ ps ps′ cs os h ys q =
+      let f = from h in
+      stored f q .0 ∙ ap (map (returnedFor F)) (demand3 X S (f .m₀) (f .ps₀) (f .accepted) cs ys)
 
   pub struck-same : StruckSame F
   unfolding StruckSame StrikingStore
-  struck-same S m₀ m m′ ps₀ ps ps′ z cs os h g ys q os′ m″ ps″ p =
-      let l = stored S m₀ ps₀ h g q in
-      let k = stored S m₀ ps₀ h g p in
-      rw (l .1, k .1, plain-map (returnedFor F) cs (storeOutcomes S m₀ ps₀ cs), plain-map (returnedFor F) (strike cs) (storeOutcomes S m₀ ps₀ (strike cs))) (ap (map (returnedFor F)) (striking-store S m₀ ps₀ (l .0) cs ys))
+  struck-same X S m m′ ps ps′ cs os h ys q os′ m″ ps″ p =
+      let f = from h in
+      rw (stored f q .0, stored f p .0, plain-map (returnedFor F) cs (storeOutcomes X S (f .m₀) (f .ps₀) cs), plain-map (returnedFor F) (strike cs) (storeOutcomes X S (f .m₀) (f .ps₀) (strike cs)))
+      (ap (map (returnedFor F)) (striking-store X S (f .m₀) (f .ps₀) (f .accepted) cs ys))
 
   -- a run's returned values by index, and its accepted calls, are the store's
-  module _ (S : Shape) (m₀ : List ℕ) (ps₀ : List ScanEntry) {m m′ : List ℕ} {ps ps′ : List ScanEntry} {z : F .Returned} {cs : List Call} {os : List (Outcome (F .Returned))}
-      (h : F .makes m₀ ps₀ S z m ps) (g : F .Accepts z) (q : Run (F .gives) m ps cs os m′ ps′) where
-    at : (k : ℕ) → returnedAt F os k ≡ returnedFor F (storeOutcomeAt S m₀ ps₀ cs k)
+  module _ {X : Form} {S : Shape} {m m′ : List ℕ} {ps ps′ : List ScanEntry} {cs : List Call} {os : List (Outcome (F .Returned))} (f : From X S m ps) (q : Run F m ps cs os m′ ps′) where
+    at : (k : ℕ) → returnedAt F os k ≡ returnedFor F (storeOutcomeAt X S (f .m₀) (f .ps₀) cs k)
     unfolding storeOutcomeAt
-    at k = ap (λ (u : List (Outcome (F .Returned))). returnedAt F u k) (stored S m₀ ps₀ h g q .1) ∙ List·getD-map (returnedFor F) (storeOutcomes S m₀ ps₀ cs) k (alone Answer.Done)
+    at k = ap (λ (u : List (Outcome (F .Returned))). returnedAt F u k) (stored f q .0) ∙ List·getD-map (returnedFor F) (storeOutcomes X S (f .m₀) (f .ps₀) cs) k (alone Answer.Done)
 
-    accepts-in : (k : ℕ) (x : Call) → AcceptsAmong F cs os k x → AcceptsIn S m₀ ps₀ cs k x
+    accepts-in : (k : ℕ) (x : Call) → AcceptsAmong F cs os k x → AcceptsIn X S (f .m₀) (f .ps₀) cs k x
     accepts-in k x u =
         let e = ap (λ (o : Outcome (F .Returned)). o .answer) (at k) in
-        let n : isRefused (storeOutcomeAt S m₀ ps₀ cs k .answer) ≡ false = not-refused (returnedAt F os k .answer) (storeOutcomeAt S m₀ ps₀ cs k .answer) e (u .2) in
+        let n : isRefused (storeOutcomeAt X S (f .m₀) (f .ps₀) cs k .answer) ≡ false = not-refused (returnedAt F os k .answer) (storeOutcomeAt X S (f .m₀) (f .ps₀) cs k .answer) e (u .2) in
         record { inside = u .0; is = u .1; accepted = rw n tt }
 
-    same-at : (i j : ℕ) → storeOutcomeAt S m₀ ps₀ cs i ≡ storeOutcomeAt S m₀ ps₀ cs j → returnedAt F os i ≡ returnedAt F os j
+    same-at : (i j : ℕ) → storeOutcomeAt X S (f .m₀) (f .ps₀) cs i ≡ storeOutcomeAt X S (f .m₀) (f .ps₀) cs j → returnedAt F os i ≡ returnedAt F os j
     same-at i j e = at i ∙ ap (returnedFor F) e ∙ sym (at j)
 
   pub minutes-so : MinutesSo F
   unfolding MinutesSo MinutesStableStore
-  minutes-so S m₀ m m′ ps₀ ps ps′ z cs os h g ys q i j t x k b past u w =
-      same-at S m₀ ps₀ h g q i j
-      (minutes-stable-store S m₀ ps₀ (stored S m₀ ps₀ h g q .0) cs ys i j t x k b past (accepts-in S m₀ ps₀ h g q i x u) (accepts-in S m₀ ps₀ h g q j x w))
+  minutes-so X S m m′ ps ps′ cs os h ys q i j t x k b past u w =
+      let f = from h in
+      same-at f q i j (minutes-stable-store X S (f .m₀) (f .ps₀) (f .accepted) cs ys i j t x k b past (accepts-in f q i x u) (accepts-in f q j x w))
 
   pub scans-so : ScansSo F
   unfolding ScansSo ScansStableStore
-  scans-so S m₀ m m′ ps₀ ps ps′ z cs os h g ys q i j x k u w =
-      same-at S m₀ ps₀ h g q i j
-      (scans-stable-store S m₀ ps₀ (stored S m₀ ps₀ h g q .0) cs ys i j x k (accepts-in S m₀ ps₀ h g q i x u) (accepts-in S m₀ ps₀ h g q j x w))
+  scans-so X S m m′ ps ps′ cs os h ys q i j x k u w =
+      let f = from h in
+      same-at f q i j (scans-stable-store X S (f .m₀) (f .ps₀) (f .accepted) cs ys i j x k (accepts-in f q i x u) (accepts-in f q j x w))
 
 -- ---- of the calls
 faithful : Faithful calls
-faithful = record { served = λ {o = o} s. (o .answer, s, refl); making = λ {r = r} s. (r, s, refl); refusing = λ a n. (λ e. e, λ e. e); accepting = λ a. (λ e. e, λ e. e) }
+faithful = record { served = λ {o = o} s. (o .answer, s, refl); moving = λ {r = r} s. (r, s, refl); making = λ {r = r} s. (r, s, refl); refusing = λ a n. (λ e. e, λ e. e); accepting = λ a. (λ e. e, λ e. e) }
 
 pub lent-refused : LentRefused
 lent-refused = refused-so calls faithful
@@ -242,6 +338,15 @@ lent-merged = merged-so calls faithful
 
 pub making-changed : MakingChanged
 making-changed = made-so calls faithful
+
+pub move-kept : MoveKept
+move-kept = unmoved-kept calls faithful
+
+pub move-changed : MoveChanged
+move-changed = moved-so calls faithful
+
+pub move-refused : MoveRefused
+move-refused = unmoved-so calls faithful
 
 pub lent-reads : LentReads
 lent-reads = reads-so calls faithful

@@ -3,7 +3,8 @@
 use Prim.Native.Nat.{ℕ, _≤_, _<_}
 use mathlib.Core.Path.{_≡_}
 use mathlib.Core.Logic.{_↔_}
-use mathlib.Core.Bool.{false}
+use mathlib.Core.Bool.{Bool, true, false}
+use lib.Dec.{T}
 use mathlib.Core.List.{List, [], _∷_, map}
 use lib.ListN.{length, getD}
 use Rattle.terms.specs.Measures.{Shape, mostScans}
@@ -11,45 +12,63 @@ use Rattle.terms.specs.Refusals.{isRefused}
 use Rattle.terms.specs.declared.Answer.{Answer}
 use Rattle.terms.specs.declared.ScanEntry.{ScanEntry}
 use Rattle.terms.specs.declared.Refusal.{Refusal}
-use Rattle.words.specs.Words.{Bytes}
+use Rattle.terms.specs.declared.Form.{Form}
+use Rattle.words.specs.Words.{words, Bytes}
 use Rattle.scans.specs.Entries.{allFreed}
-use Rattle.history.specs.History.{Call, merge, Snapshot, Outcome, alone, sliceOf, lentTo, start, outcomes}
+use Rattle.history.specs.History.{Call, merge, move, Snapshot, Outcome, alone, sliceOf, lentTo, start, outcomes}
 use Rattle.history.specs.Claims.{strike, plainOutcomes, Shows, AsksMinutes, AsksScan, historyBefore, callAt}
 use Rattle.history.specs.Latest.{ValueAt, lastCommitted}
-use Rattle.history.specs.Lists.{All}
+use Rattle.history.specs.Forms.{FormUse, either, newest, moving, formUse}
+use Rattle.facts.specs.Usable.{storedShape}
 use Rattle.model.specs.Calls.{Typed}
 use Rattle.model.specs.Claims.{historyAfter, PageHolds}
-use Rattle.promise.specs.Promise.{storeView, Gives, Serves, Makes}
+use Rattle.promise.specs.Promise.{storeView, Gives, Serves, Moves, Makes}
+use Rattle.promise.specs.Demands.{Accepted, memoryMade, Lends}
 use Rattle.promise.specs.Footprint.{WithinFootprint, MergeWithin, MakingWithin}
 use Rattle.promise.specs.Stated.{conditions, First, NoneApplies}
 
--- A run (rule 11.1 of docs/SPECIFICATION.md): calls over one memory and one list, each lent what the call before left, with their outcomes, which are what they returned and what they
--- left in a slice that they were lent to write, and with what the last one left. What one call promises is `gives`: of these calls it is `Gives`.
-pub data Run {R : Type 0} (gives : List ℕ → List ScanEntry → Call → Outcome R → List ℕ → List ScanEntry → Type 0) : List ℕ → List ScanEntry → List Call → List (Outcome R) → List ℕ → List ScanEntry → Type 0 where
-  ends : {m : List ℕ} {ps : List ScanEntry} → Run gives m ps [] [] m ps
-  goes : {m m′ m″ : List ℕ} {ps ps′ ps″ : List ScanEntry} {c : Call} {o : Outcome R} {cs : List Call} {os : List (Outcome R)}
-      → gives m ps c o m′ ps′ → Run gives m′ ps′ cs os m″ ps″ → Run gives m ps (c ∷ cs) (o ∷ os) m″ ps″
-
--- an interface: what it returns for an answer, when that is a refusal and when none, and what a call and a making promise
+-- an interface: what it returns for an answer, when that is a refusal and when none, and what a call, a move and a making promise
 pub record Interface : Type 1 where
   pub Returned : Type 0
   pub returns : Answer → Returned
   pub Refuses : Returned → Refusal → Type 0
   pub Accepts : Returned → Type 0
   pub gives : List ℕ → List ScanEntry → Call → Outcome Returned → List ℕ → List ScanEntry → Type 0
+  pub moves : List ℕ → List ScanEntry → (to : Form) (second : List ℕ) → Returned → List ℕ → Type 0
   pub makes : List ℕ → List ScanEntry → Shape → Returned → List ℕ → List ScanEntry → Type 0
 
 -- what it returns for the outcome of a call
 abbrev pub returnedFor : (F : Interface) → Outcome Answer → Outcome (F .Returned)
 returnedFor F o = record { answer = F .returns (o .answer); stamps = o .stamps }
 
+-- A run (rule 11.1 of docs/SPECIFICATION.md): calls over one store, each lent what the call before left, with their outcomes, which are what they returned and what they
+-- left in a slice that they were lent to write, and with what the last one left. After an accepted move the second memory is the store, with the list; after a refused one the first still is.
+abbrev pub staysPut : FormUse → Bool
+staysPut either = true
+staysPut newest = true
+staysPut (moving to) = false
+
+pub data Run (F : Interface) : List ℕ → List ScanEntry → List Call → List (Outcome (F .Returned)) → List ℕ → List ScanEntry → Type 0 where
+  ends : {m : List ℕ} {ps : List ScanEntry} → Run F m ps [] [] m ps
+  goes : {m m′ m″ : List ℕ} {ps ps′ ps″ : List ScanEntry} {c : Call} {o : Outcome (F .Returned)} {cs : List Call} {os : List (Outcome (F .Returned))}
+      → T (staysPut (formUse c)) → F .gives m ps c o m′ ps′ → Run F m′ ps′ cs os m″ ps″ → Run F m ps (c ∷ cs) (o ∷ os) m″ ps″
+  moves-on : {m second second′ m″ : List ℕ} {ps ps″ : List ScanEntry} {to : Form} {r : F .Returned} {cs : List Call} {os : List (Outcome (F .Returned))}
+      → F .moves m ps to second r second′ → F .Accepts r → Run F second′ ps cs os m″ ps″ → Run F m ps (move to second ∷ cs) (alone r ∷ os) m″ ps″
+  stays : {m second second′ m″ : List ℕ} {ps ps″ : List ScanEntry} {to : Form} {r : F .Returned} {n : Refusal} {cs : List Call} {os : List (Outcome (F .Returned))}
+      → F .moves m ps to second r second′ → F .Refuses r n → Run F m ps cs os m″ ps″ → Run F m ps (move to second ∷ cs) (alone r ∷ os) m″ ps″
+
+-- It begins with an accepted making, which gives the newest form, or with what a making of the first form left.
+pub data Begun (F : Interface) : Form → Shape → List ℕ → List ScanEntry → Type 0 where
+  by-making : {S : Shape} {m₀ m : List ℕ} {ps₀ ps : List ScanEntry} {z : F .Returned} → F .makes m₀ ps₀ S z m ps → F .Accepts z → Begun F Form.Newest S m ps
+  of-first : {S : Shape} (m₀ : List ℕ) (ps₀ : List ScanEntry) → Accepted Form.First S m₀ ps₀ → Begun F Form.First S (memoryMade Form.First S m₀ ps₀) (allFreed ps₀)
+
 module _ (F : Interface) where
-  -- a claim for every run after an accepted making, whatever memory and list held before: of the shape, the memory and list made, the calls, their outcomes, and the
+  -- a claim for every run, whatever memory and list held before: of form and shape, the memory and list that it begins with, the calls, their outcomes, and the
   -- memory and list left
-  abbrev pub EveryRun : (Shape → List ℕ → List ScanEntry → List Call → List (Outcome (F .Returned)) → List ℕ → List ScanEntry → Type 0) → Type 0
+  abbrev pub EveryRun : (Form → Shape → List ℕ → List ScanEntry → List Call → List (Outcome (F .Returned)) → List ℕ → List ScanEntry → Type 0) → Type 0
   EveryRun P =
-      (S : Shape) (m₀ m m′ : List ℕ) (ps₀ ps ps′ : List ScanEntry) (z : F .Returned) (cs : List Call) (os : List (Outcome (F .Returned)))
-      → F .makes m₀ ps₀ S z m ps → F .Accepts z → All Typed cs → Run (F .gives) m ps cs os m′ ps′ → P S m ps cs os m′ ps′
+      (X : Form) (S : Shape) (m m′ : List ℕ) (ps ps′ : List ScanEntry) (cs : List Call) (os : List (Outcome (F .Returned)))
+      → Begun F X S m ps → Lends X S start cs → Run F m ps cs os m′ ps′ → P X S m ps cs os m′ ps′
 
   -- ---- demand 1
   -- a call is refused on the stated condition only
@@ -75,32 +94,46 @@ module _ (F : Interface) where
   MergedSo = (m m′ : List ℕ) (ps ps′ : List ScanEntry) (g c n : ℕ) (o : Outcome (F .Returned)) → Bytes m → F .gives m ps (merge g c n) o m′ ps′ → MergeWithin m ps g c m′ ps′
 
   unfoldable pub MadeSo : Type 0
-  MadeSo = (S : Shape) (m m′ : List ℕ) (ps ps′ : List ScanEntry) (r : F .Returned) → F .makes m ps S r m′ ps′ → MakingWithin S m m′
+  MadeSo = (S : Shape) (m m′ : List ℕ) (ps ps′ : List ScanEntry) (r : F .Returned) → F .makes m ps S r m′ ps′ → MakingWithin Form.Newest S m m′
+
+  -- a refused move changes no byte of the second memory, and an accepted one none past those that the form moved to needs
+  unfoldable pub UnmovedKept : Type 0
+  UnmovedKept =
+      (m second second′ : List ℕ) (ps : List ScanEntry) (to : Form) (r : F .Returned) (n : Refusal) → Bytes m → F .moves m ps to second r second′ → F .Refuses r n → second′ ≡ second
+
+  unfoldable pub MovedSo : Type 0
+  MovedSo = (m second second′ : List ℕ) (ps : List ScanEntry) (to : Form) (r : F .Returned) → F .moves m ps to second r second′ → MakingWithin to (storedShape (words m)) second second′
+
+  -- and a move is refused on the stated condition only
+  unfoldable pub UnmovedSo : Type 0
+  UnmovedSo =
+      (m second second′ : List ℕ) (ps : List ScanEntry) (to : Form) (r : F .Returned) → F .moves m ps to second r second′
+      → ((n : Refusal) → F .Refuses r n ↔ First (conditions m ps (move to second)) n) × (F .Accepts r ↔ NoneApplies (conditions m ps (move to second)))
 
   -- ---- demand 2
   -- a read after a run that is not refused answers the value last committed by the commits of its snapshot, and keeper at that one's keeper
   unfoldable pub ReadsSo : Type 0
   ReadsSo =
       EveryRun
-      (λ S m ps cs os m′ ps′.
+      (λ X S m ps cs os m′ ps′.
       (x : Call) (show : ValueAt → Answer) (t : Snapshot) (r c : ℕ) (o : Outcome (F .Returned)) (m″ : List ℕ) (ps″ : List ScanEntry) → Typed x → Shows (historyAfter S cs) x show t r c → F .gives m′ ps′ x o m″ ps″
       → F .Accepts (o .answer) → o .answer ≡ F .returns (lastCommitted show (historyAfter S cs) t r c))
 
   -- each current page of the memory that a run leaves holds what was committed last
   unfoldable pub PagesSo : Type 0
-  PagesSo = EveryRun (λ S m ps cs os m′ ps′. (g c : ℕ) → g < S .ranges → c < S .columns → PageHolds S (storeView m′) (historyAfter S cs) g c)
+  PagesSo = EveryRun (λ X S m ps cs os m′ ps′. (g c : ℕ) → g < S .ranges → c < S .columns → PageHolds S (storeView m′) (historyAfter S cs) g c)
 
   -- ---- demand 3
   -- a run has the outcomes that the plain history has
   unfoldable pub OutcomesSo : Type 0
-  OutcomesSo = EveryRun (λ S m ps cs os m′ ps′. os ≡ map (returnedFor F) (outcomes S start cs))
+  OutcomesSo = EveryRun (λ X S m ps cs os m′ ps′. os ≡ map (returnedFor F) (outcomes S start cs))
 
   -- a run of the calls without merges and releases, from the same making, gives the plain calls the same outcomes
   unfoldable pub StruckSame : Type 0
   StruckSame =
       EveryRun
-      (λ S m ps cs os m′ ps′.
-      (os′ : List (Outcome (F .Returned))) (m″ : List ℕ) (ps″ : List ScanEntry) → Run (F .gives) m ps (strike cs) os′ m″ ps″ → plainOutcomes cs os ≡ plainOutcomes (strike cs) os′)
+      (λ X S m ps cs os m′ ps′.
+      (os′ : List (Outcome (F .Returned))) (m″ : List ℕ) (ps″ : List ScanEntry) → Run F m ps (strike cs) os′ m″ ps″ → plainOutcomes cs os ≡ plainOutcomes (strike cs) os′)
 
   -- the outcome of call i of a run; and that it is x, and is not refused
   abbrev pub returnedAt : List (Outcome (F .Returned)) → ℕ → Outcome (F .Returned)
@@ -113,16 +146,16 @@ module _ (F : Interface) where
   unfoldable pub MinutesSo : Type 0
   MinutesSo =
       EveryRun
-      (λ S m ps cs os m′ ps′.
+      (λ X S m ps cs os m′ ps′.
       (i j t : ℕ) (x : Call) → AsksMinutes x t → i ≤ j → t < historyBefore S cs i .last .stamp → AcceptsAmong cs os i x → AcceptsAmong cs os j x → returnedAt os i ≡ returnedAt os j)
 
   -- whatever is asked of a scan twice has one outcome
   unfoldable pub ScansSo : Type 0
-  ScansSo = EveryRun (λ S m ps cs os m′ ps′. (i j : ℕ) (x : Call) → AsksScan x → AcceptsAmong cs os i x → AcceptsAmong cs os j x → returnedAt os i ≡ returnedAt os j)
+  ScansSo = EveryRun (λ X S m ps cs os m′ ps′. (i j : ℕ) (x : Call) → AsksScan x → AcceptsAmong cs os i x → AcceptsAmong cs os j x → returnedAt os i ≡ returnedAt os j)
 
 -- ---- of the calls
 abbrev pub calls : Interface
-calls = record { Returned = Answer; returns = λ a. a; Refuses = λ r n. r ≡ Answer.Refused n; Accepts = λ r. isRefused r ≡ false; gives = Gives; makes = Makes }
+calls = record { Returned = Answer; returns = λ a. a; Refuses = λ r n. r ≡ Answer.Refused n; Accepts = λ r. isRefused r ≡ false; gives = Gives; moves = λ m ps to second r second′. Moves m ps (move to second) r second′; makes = Makes }
 
 abbrev pub LentRefused : Type 0
 LentRefused = RefusedSo calls
@@ -141,6 +174,15 @@ LentMerged = MergedSo calls
 
 abbrev pub MakingChanged : Type 0
 MakingChanged = MadeSo calls
+
+abbrev pub MoveKept : Type 0
+MoveKept = UnmovedKept calls
+
+abbrev pub MoveChanged : Type 0
+MoveChanged = MovedSo calls
+
+abbrev pub MoveRefused : Type 0
+MoveRefused = UnmovedSo calls
 
 abbrev pub LentReads : Type 0
 LentReads = ReadsSo calls

@@ -19,8 +19,9 @@ ghost use lib.IntN.{pos};
 ghost use lib.ListN.{getD};
 ghost use Rattle.terms.specs.Measures.{mostColumns};
 ghost use Rattle.layout.specs.Sizes.{shapeOf, BytesAnswered};
+ghost use Rattle.terms.specs.declared.Form.{Form};
 ghost use Rattle.history.specs.History.{Call, given};
-ghost use Rattle.promise.specs.Promise.{Serves, ServesBy, kept, Gives, Makes};
+ghost use Rattle.promise.specs.Promise.{Serves, ServesBy, kept, Gives, Moves, Makes};
 ghost use Rattle.calls.specs.Values.{padded};
 
 // ---- the values lent with a call
@@ -289,4 +290,22 @@ pub fn crossings(
 {
     let t = table(scans);
     lookups::crossings(mem, t, stamps, row, column, mark, from, to)
+}
+
+// ---- moves
+
+// A store in the first form is moved into a second memory, in the newest form. The second memory is then the store, with this list; the first keeps its bytes and is none.
+pub fn upgrade(mem: &[u8], scans: &[ScanEntry], second: &mut [u8]) -> Answer
+    ensures { λ r. ⌜ Moves (now (mem .entry)) (now (scans .entry)) (Call.move Form.Newest (now (second .entry))) r (now (second .exit)) ⌝ }
+{
+    let t = table(scans);
+    moving::upgrade(mem, t, second)
+}
+
+// And back, in the first form.
+pub fn downgrade(mem: &[u8], scans: &[ScanEntry], second: &mut [u8]) -> Answer
+    ensures { λ r. ⌜ Moves (now (mem .entry)) (now (scans .entry)) (Call.move Form.First (now (second .entry))) r (now (second .exit)) ⌝ }
+{
+    let t = table(scans);
+    moving::downgrade(mem, t, second)
 }

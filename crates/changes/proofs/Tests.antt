@@ -7,6 +7,7 @@ use native.Mathlib.Omega.{arith}
 use lib.Dec.{eqb, leb, ltb, leb·suc-suc}
 use lib.ListN.{length, take}
 use borrow.Author.Tests.{ltb-true, ltb-false, le-leb, lt-leb, lt-ltb}
+use Rattle.terms.specs.declared.Form.{Form}
 use Rattle.terms.specs.Measures.{rangeRows, mostTransactions, mostNumbers}
 use Rattle.loops.specs.declared.Found.{Found}
 use Rattle.layout.specs.declared.Sizes.{Sizes}
@@ -123,9 +124,9 @@ module _ (s : Sizes) (m : List ℕ) (h : Suffices s m) where
     free-at j e = first-free j (sym q ∙ e) .1
 
 -- ---- what the functions that write ask for of the lent part, by what the tests found
-module _ (e : Admission) (s : Sizes) (n : ℕ) (m : List ℕ) (t : Scans) (a : e ≡ Admission.Fit s n) (b : Admits e m t) (d : Tested) (j : ℕ) (p : d ≡ Tested.Passed j) where
+module _ (on : Form → Bool) (e : Admission) (s : Sizes) (n : ℕ) (m : List ℕ) (t : Scans) (a : e ≡ Admission.Fit s n) (b : Admits on e m t) (d : Tested) (j : ℕ) (p : d ≡ Tested.Passed j) where
   seen : viewOf s (take n m) ≡ viewOf s m
-  seen = part-seen (admitted e s n m t a b)
+  seen = part-seen (admitted on e s n m t a b .0)
 
   pub free-in-part : Finds d (FreeAt (viewOf s m)) → FreeAt (viewOf s (take n m)) j
   free-in-part h = rw seen (found d _ j p h)

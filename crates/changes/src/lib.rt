@@ -3,6 +3,7 @@
 use admission::Admission;
 use admission::Tested;
 use admission::admit;
+use admission::admit_in;
 use admission::earlier;
 use admission::given_range;
 use conditions::bad_mask;
@@ -18,6 +19,7 @@ use loops::Found;
 use regions::read;
 use scans::Scans;
 use terms::Answer;
+use terms::Form;
 use terms::Refusal;
 use terms::Row;
 use terms::Stamp;
@@ -82,7 +84,7 @@ pub fn begin(mem: &mut [u8], scans: Scans) -> Answer
 pub fn begin_as(mem: &mut [u8], scans: Scans, keeper: u32) -> Answer
     ensures { λ r. ⌜ ServesBy scans (now (mem .entry)) (Call.beginAs keeper) r (now (mem .exit)) kept ⌝ }
 {
-    let Admission::Fit(s, n) = admit(mem, scans) else {
+    let Admission::Fit(s, n) = admit_in(mem, scans, Form::Newest) else {
         return Answer::Refused(Refusal::Memory);
     };
     match begin_tests(mem, s) {

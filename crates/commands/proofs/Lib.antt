@@ -3,3 +3,4 @@ pub mod Table
 pub mod Bytes
 pub mod Items
 pub mod Parts
+pub mod Uses

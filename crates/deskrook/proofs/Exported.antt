@@ -2,6 +2,7 @@
 use Prim.Native.Nat.{ℕ}
 use mathlib.Core.Path.{_≡_}
 use mathlib.Core.List.{List, []}
+use mir.Syntax.{Width}
 use prog.Routine.{Env, Name, Routine}
 use borrow.Fn.Function.{fnOf}
 use borrow.Fn.World.{World}
@@ -46,16 +47,16 @@ module _ (m q : Access) (l : ℕ) (fs : List (Further 2 2 (up (loans m) (loans q
       law.meets l call encode.name answer reply encoded m q fs promised w γ k code (known-free (up 2 l) (called .params) (res answer) (called .tells) w γ call ρ e met)
       (encode-reads.known w γ encode.name encode.routine e-encode (encode-thm.met (w .𝓤) (w .H) (w .𝓜) (w .𝓖) (w .𝓡)))
 
--- the same with a slice that is written
-module _ (l : ℕ) (fs : List (Further 3 3 1 l)) (promised : List ℕ → List ScanEntry → List ℕ → Vals fs → Answer → List ℕ → Type 0) (w : World) (γ : Env) (k call : Name) (ρ : Routine) where
+-- the same with a slice that is written, of numbers of the width e
+module _ (e : Width) (l : ℕ) (fs : List (Further 3 3 1 l)) (promised : List ℕ → List ScanEntry → List ℕ → Vals fs → Answer → List ℕ → Type 0) (w : World) (γ : Env) (k call : Name) (ρ : Routine) where
   abbrev filling : Callee
-  filling = slice-law.calls-on l call encode.name answer reply fs promised
+  filling = slice-law.calls-on e l call encode.name answer reply fs promised
 
-  pub filled : Code w γ k (fnOf (up 3 l) (F.slices (heres fs)) (res reply) (slice-law.xs l call encode.name answer reply) 0 [] (slice-law.body l call encode.name answer reply fs))
+  pub filled : Code w γ k (fnOf (up 3 l) (F.slices e (heres fs)) (res reply) (slice-law.xs e l call encode.name answer reply) 0 [] (slice-law.body e l call encode.name answer reply fs))
       → γ call ≡ ρ
       → Meets (up 3 l) (filling .params) (res answer) (filling .tells) w ρ
       → γ encode.name ≡ encode.routine
-      → Meets (up 3 l) (F.slices (heres fs)) (res reply) (slice-law.Q-call l call encode.name answer reply encoded fs promised) w (γ k)
-  filled code e met e-encode =
-      slice-law.meets l call encode.name answer reply encoded fs promised w γ k code (known-free (up 3 l) (filling .params) (res answer) (filling .tells) w γ call ρ e met)
+      → Meets (up 3 l) (F.slices e (heres fs)) (res reply) (slice-law.Q-call e l call encode.name answer reply encoded fs promised) w (γ k)
+  filled code e-call met e-encode =
+      slice-law.meets e l call encode.name answer reply encoded fs promised w γ k code (known-free (up 3 l) (filling .params) (res answer) (filling .tells) w γ call ρ e-call met)
       (encode-reads.known w γ encode.name encode.routine e-encode (encode-thm.met (w .𝓤) (w .H) (w .𝓜) (w .𝓖) (w .𝓡)))

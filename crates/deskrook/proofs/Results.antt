@@ -36,6 +36,7 @@ refusals =
     ∷ Refusal.Command
     ∷ Refusal.Cut
     ∷ Refusal.List
+    ∷ Refusal.Keeper
     ∷ []
 
 refusalOf : ℕ → Answer
@@ -64,6 +65,7 @@ known Refusal.NoPage = refl
 known Refusal.Command = refl
 known Refusal.Cut = refl
 known Refusal.List = refl
+known Refusal.Keeper = refl
 
 by-result : (a : Answer) → refusalOf ((replyOf a) .result) ≡ cond (isRefused a) a Answer.Done
 unfolding refusalOf refusals

@@ -1,16 +1,17 @@
 -- The demands of the exports: a reply tells the answer of the call that the export hands on to.
 use mathlib.Core.Path.{ap}
 use Rattle.terms.specs.declared.Answer.{Answer}
-use Rattle.calls.proofs.Runs.{Faithful, refused-so, refused-kept, unmade-kept, changed-so, merged-so, made-so, reads-so, pages-so, outcomes-so, struck-same, minutes-so, scans-so}
-use Rattle.deskrook.specs.Replies.{replyOf, RepliesWith, RepliesMade}
-use Rattle.deskrook.specs.Runs.{exports, ExportRefused, ExportKept, ExportMakingKept, ExportChanged, ExportMerged, ExportMakingChanged, ExportReads, ExportPages, ExportOutcomes, ExportStriking, ExportMinutes, ExportScans}
+use Rattle.calls.proofs.Runs.{Faithful, refused-so, refused-kept, unmade-kept, changed-so, merged-so, made-so, unmoved-kept, moved-so, unmoved-so, reads-so, pages-so, outcomes-so, struck-same, minutes-so, scans-so}
+use Rattle.deskrook.specs.Replies.{replyOf, RepliesWith, RepliesMoved, RepliesMade}
+use Rattle.deskrook.specs.Runs.{exports, ExportRefused, ExportKept, ExportMakingKept, ExportChanged, ExportMerged, ExportMakingChanged, ExportMoveKept, ExportMoveChanged, ExportMoveRefused, ExportReads, ExportPages, ExportOutcomes, ExportStriking, ExportMinutes, ExportScans}
 use Rattle.deskrook.proofs.Results.{refused-result, accepted-result}
 
 faithful : Faithful exports
-unfolding RepliesWith RepliesMade
+unfolding RepliesWith RepliesMoved RepliesMade
 faithful =
     record {
       served = λ s. s;
+      moving = λ s. s;
       making = λ s. s;
       refusing = λ a n. (refused-result a n, ap (λ (x : Answer). (replyOf x) .result));
       accepting = accepted-result;
@@ -33,6 +34,15 @@ export-merged = merged-so exports faithful
 
 pub export-making-changed : ExportMakingChanged
 export-making-changed = made-so exports faithful
+
+pub export-move-kept : ExportMoveKept
+export-move-kept = unmoved-kept exports faithful
+
+pub export-move-changed : ExportMoveChanged
+export-move-changed = moved-so exports faithful
+
+pub export-move-refused : ExportMoveRefused
+export-move-refused = unmoved-so exports faithful
 
 pub export-reads : ExportReads
 export-reads = reads-so exports faithful

@@ -11,9 +11,12 @@ use Rattle.terms.specs.Refusals.{refusalNumber}
 use Rattle.terms.specs.declared.Answer.{Answer}
 use Rattle.terms.specs.declared.ScanEntry.{ScanEntry}
 use Rattle.terms.specs.declared.Refusal.{Refusal}
-use Rattle.facts.specs.Usable.{usable}
-use Rattle.history.specs.History.{Call, Outcome, given}
-use Rattle.promise.specs.Promise.{Serves, Gives, Makes}
+use Rattle.terms.specs.declared.Form.{Form}
+use Rattle.words.specs.Words.{words}
+use Rattle.layout.specs.Regions.{formNumber}
+use Rattle.facts.specs.Usable.{storedForm, usable}
+use Rattle.history.specs.History.{Call, move, Outcome, given}
+use Rattle.promise.specs.Promise.{Serves, Gives, Moves, Makes}
 use Rattle.deskrook.specs.declared.reply.Reply.{Reply}
 
 abbrev pub replyOf : Answer → Reply
@@ -41,6 +44,9 @@ RepliesWith m ps c o m′ ps′ = Replied (λ a. Gives m ps c (given a (o .stamp
 unfoldable pub RepliesMade : List ℕ → List ScanEntry → Shape → Reply → List ℕ → List ScanEntry → Type 0
 RepliesMade m ps S r m′ ps′ = Replied (λ a. Makes m ps S a m′ ps′) r
 
--- whether memory and list are usable, as an answer
+unfoldable pub RepliesMoved : List ℕ → List ScanEntry → (to : Form) (second : List ℕ) → Reply → List ℕ → Type 0
+RepliesMoved m ps to second r second′ = Replied (λ a. Moves m ps (move to second) a second′) r
+
+-- whether memory and list are usable, as an answer: the number of the form that the memory is in
 unfoldable pub usability : List ℕ → List ScanEntry → Answer
-usability m ps = cond (usable m ps) Answer.Done (Answer.Refused Refusal.Memory)
+usability m ps = cond (usable m ps) (Answer.Number (formNumber (storedForm (words m)))) (Answer.Refused Refusal.Memory)

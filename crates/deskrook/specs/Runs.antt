@@ -3,16 +3,16 @@
 use mathlib.Core.Path.{_≡_}
 use mathlib.Core.Logic.{_⊎_}
 use Rattle.terms.specs.Refusals.{refusalNumber}
-use Rattle.calls.specs.Runs.{Interface, RefusedSo, RefusedKept, UnmadeKept, ChangedSo, MergedSo, MadeSo, ReadsSo, PagesSo, OutcomesSo, StruckSame, MinutesSo, ScansSo}
+use Rattle.calls.specs.Runs.{Interface, RefusedSo, RefusedKept, UnmadeKept, ChangedSo, MergedSo, MadeSo, UnmovedKept, MovedSo, UnmovedSo, ReadsSo, PagesSo, OutcomesSo, StruckSame, MinutesSo, ScansSo}
 use Rattle.deskrook.specs.declared.reply.Reply.{Reply}
-use Rattle.deskrook.specs.Replies.{replyOf, RepliesWith, RepliesMade}
+use Rattle.deskrook.specs.Replies.{replyOf, RepliesWith, RepliesMoved, RepliesMade}
 
 -- a reply that is no refusal: its result is 0, or 32 for none
 abbrev pub AcceptedReply : Reply → Type 0
 AcceptedReply r = (r .result ≡ 0) ⊎ (r .result ≡ 32)
 
 abbrev pub exports : Interface
-exports = record { Returned = Reply; returns = replyOf; Refuses = λ r n. r .result ≡ refusalNumber n; Accepts = AcceptedReply; gives = RepliesWith; makes = RepliesMade }
+exports = record { Returned = Reply; returns = replyOf; Refuses = λ r n. r .result ≡ refusalNumber n; Accepts = AcceptedReply; gives = RepliesWith; moves = RepliesMoved; makes = RepliesMade }
 
 abbrev pub ExportRefused : Type 0
 ExportRefused = RefusedSo exports
@@ -31,6 +31,15 @@ ExportMerged = MergedSo exports
 
 abbrev pub ExportMakingChanged : Type 0
 ExportMakingChanged = MadeSo exports
+
+abbrev pub ExportMoveKept : Type 0
+ExportMoveKept = UnmovedKept exports
+
+abbrev pub ExportMoveChanged : Type 0
+ExportMoveChanged = MovedSo exports
+
+abbrev pub ExportMoveRefused : Type 0
+ExportMoveRefused = UnmovedSo exports
 
 abbrev pub ExportReads : Type 0
 ExportReads = ReadsSo exports

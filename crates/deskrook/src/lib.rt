@@ -13,10 +13,11 @@ use terms::Stamp;
 use terms::Tail;
 use terms::Transaction;
 ghost use mathlib.Core.Path.{_≡_};
+ghost use Rattle.terms.specs.declared.Form.{Form};
 ghost use Rattle.layout.specs.Sizes.{shapeOf, BytesAnswered};
 ghost use Rattle.history.specs.History.{Call, given};
 ghost use Rattle.calls.specs.Values.{padded};
-ghost use Rattle.deskrook.specs.Replies.{replyOf, usability, Replied, Replies, RepliesWith, RepliesMade};
+ghost use Rattle.deskrook.specs.Replies.{replyOf, usability, Replied, Replies, RepliesWith, RepliesMoved, RepliesMade};
 
 // A transaction of no known keeper is opened; the answer is its number.
 #[no_mangle]
@@ -253,6 +254,22 @@ pub extern "C" fn deskrook_close_scan(mem: &[u8], scans: &mut [ScanEntry], scan:
     encode(calls::close_scan(mem, scans, scan))
 }
 
+// A store in the first form is moved into a second memory, in the newest form.
+#[no_mangle]
+pub extern "C" fn deskrook_upgrade(mem: &[u8], scans: &[ScanEntry], second: &mut [u8]) -> Reply
+    ensures { λ r. ⌜ RepliesMoved (now (mem .entry)) (now (scans .entry)) Form.Newest (now (second .entry)) r (now (second .exit)) ⌝ }
+{
+    encode(calls::upgrade(mem, scans, second))
+}
+
+// And back, in the first form.
+#[no_mangle]
+pub extern "C" fn deskrook_downgrade(mem: &[u8], scans: &[ScanEntry], second: &mut [u8]) -> Reply
+    ensures { λ r. ⌜ RepliesMoved (now (mem .entry)) (now (scans .entry)) Form.First (now (second .entry)) r (now (second .exit)) ⌝ }
+{
+    encode(calls::downgrade(mem, scans, second))
+}
+
 // A store of a shape is made in the memory, and every entry of the list is free.
 #[no_mangle]
 pub extern "C" fn deskrook_make(
@@ -281,7 +298,7 @@ pub extern "C" fn deskrook_bytes_needed(
     encode(calls::bytes_needed(columns, ranges, capacity, spares))
 }
 
-// Whether memory and list are usable: 2 where a call on them would be refused so.
+// Whether memory and list are usable: the number of the stored form, or 2 where every call on them would be refused so.
 #[no_mangle]
 pub extern "C" fn deskrook_check(mem: &[u8], scans: &[ScanEntry]) -> Reply
     ensures { λ r. ⌜ r ≡ replyOf (usability (now (mem .entry)) (now (scans .entry))) ⌝ }

@@ -1,14 +1,18 @@
 // The answer as C takes it, and the test of memory and list.
+use layout::FIRST_FORM;
+use layout::NEWEST_FORM;
 use pages::check::Checked;
 use pages::check::check;
 use scans::Scans;
 use terms::Answer;
+use terms::Form;
 use terms::Refusal;
 use terms::number;
 use words::to_word;
 ghost use mathlib.Core.Path.{_≡_};
 ghost use mathlib.Core.List.{List};
 ghost use Rattle.terms.specs.declared.ScanEntry.{ScanEntry};
+ghost use Rattle.layout.specs.Regions.{formNumber};
 ghost use Rattle.scans.specs.Table.{tableOf};
 ghost use Rattle.deskrook.specs.Replies.{replyOf, usability};
 
@@ -96,11 +100,24 @@ pub fn encode(answer: Answer) -> Reply
     }
 }
 
+// The number of a stored form.
+fn form_number(form: Form) -> u32
+    ensures { λ r. ⌜ r ≡ formNumber form ⌝ }
+{
+    match form {
+        Form::First => FIRST_FORM,
+        Form::Newest => NEWEST_FORM,
+    }
+}
+
 pub fn check_reply(mem: &[u8], t: Scans) -> Reply
     ensures { λ r. ⌜ ((ps : List ScanEntry) → t ≡ tableOf ps → r ≡ replyOf (usability (now (mem .entry)) ps)) ⌝ }
 {
     match check(mem, t) {
-        Checked::Fit(_) => encode(Answer::Done),
+        Checked::Fit(s) => {
+            let form = s.form;
+            encode(Answer::Number(form_number(form)))
+        }
         Checked::Unfit => encode(Answer::Refused(Refusal::Memory)),
     }
 }

@@ -20,13 +20,13 @@ use Rattle.loops.proofs.Region.{region-at, region-length}
 use Rattle.layout.specs.declared.Sizes.{Sizes}
 use Rattle.layout.specs.declared.Region.{Region}
 use Rattle.layout.specs.declared.Region.the-variants.{Opens, RowTransaction, RowStamp, RowLink, TailTransaction, TailRow, TailLink, TailStamp, Current, PageState, PageChunk, PageReplaced, PageLineage, PageNewest}
-use Rattle.layout.specs.Regions.{newestForm, formIn, columnsAt, len, need, firstSlot}
+use Rattle.layout.specs.Regions.{formKnown, columnsAt, len, need, firstSlot}
 use Rattle.layout.specs.View.{View, rowsGiven, transactionsGiven, scansGiven, lastStamp, mergesMade, commitsMade, usedIn, Long, viewOf, Suffices}
 use Rattle.layout.proofs.View.{view-long}
 use Rattle.terms.specs.Entries.{freeEntry}
 use Rattle.scans.specs.Entries.{openCount, everyOpen, among, differ}
 use Rattle.facts.specs.Facts.{each, rowsBetween, rangeBetween, currentAtMost, waitingAtMost, countsWithin, rowNamed, rangeNamesRows, recordsNameRows, numbersGiven, linkHolds, rowLinked, recordLinked, rangeLinked, linksHold, stampsWithin, mergesWithin, commitsWithin, openDiffer, chunkCurrent, chunksCurrent, pageRange, currentLineage, waitingLineage, lineagesWithin, factsHold}
-use Rattle.facts.specs.Usable.{storedShape, storedSizes, measuresBytes, measuresHold, usable}
+use Rattle.facts.specs.Usable.{storedShape, storedForm, storedSizes, measuresBytes, measuresHold, usable}
 use Rattle.layout.specs.Sizes.{Proper}
 use Rattle.facts.proofs.Each.{each-tells}
 use Rattle.layout.proofs.Limits.{proper}
@@ -232,7 +232,7 @@ usable-tells m ps e =
     let s = storedSizes (words m) in
     let a = and-true (leb measuresBytes (length m)) _ e in
     let b = and-true _ _ (a .1) in
-    let f = and-true (eqb (formIn (getD (words m) columnsAt 0)) newestForm) _ (b .0) in
+    let f = and-true (formKnown (getD (words m) columnsAt 0)) _ (b .0) in
     let c = and-true _ _ (b .1) in
     let d = and-true _ _ (c .1) in
     let r : Suffices s m = leb-true (need s * 4) (length m) (c .0) in
@@ -240,5 +240,5 @@ usable-tells m ps e =
       within = f .1;
       room = r;
       entries = leb-true mostScans (length ps) (d .0);
-      facts = facts-tell s (viewOf s m) ps (proper (storedShape (words m)) (f .1)) (view-long s (words m) (omega (arith, length-words m))) (d .1);
+      facts = facts-tell s (viewOf s m) ps (proper (storedForm (words m)) (storedShape (words m)) (f .1)) (view-long s (words m) (omega (arith, length-words m))) (d .1);
     }

@@ -7,6 +7,7 @@ use lib.Dec.{eqb, ltb}
 use lib.ListN.{length, take}
 use Rattle.terms.specs.Measures.{mostScans}
 use Rattle.words.specs.Words.{Bytes}
+use Rattle.terms.specs.declared.Form.{Form}
 use Rattle.layout.specs.Sizes.{bytesNeeded}
 use Rattle.decimal.specs.Written.{lineBytes}
 use Rattle.output.specs.Output.{output}
@@ -90,5 +91,5 @@ pub record Ended (x₀ : Lent) (c : Course) (x : Lent) (input : List ℕ) : Type
 -- Once the program has ended, the lines sent are those of the bytes received, whatever else the input holds.
 unfoldable pub RanWrites : Type 0
 RanWrites =
-    (x₀ : Lent) (c : Course) (x : Lent) (input rest : List ℕ) (r : Ran x₀ c x input) → Bytes (r .received ++ rest) → bytesNeeded largest ≤ length (x₀ .memory)
+    (x₀ : Lent) (c : Course) (x : Lent) (input rest : List ℕ) (r : Ran x₀ c x input) → Bytes (r .received ++ rest) → bytesNeeded Form.Newest largest ≤ length (x₀ .memory)
     → mostScans ≤ length (x₀ .list) → c .on ≡ false → (c .last ≡ true → rest ≡ []) → r .lines ≡ output (r .received ++ rest)

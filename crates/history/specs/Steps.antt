@@ -1,4 +1,4 @@
--- What an accepted call does to the history, in nine ways and not in eighteen calls, each with the tests that it passed as facts about numbers and states. Every call,
+-- What an accepted call does to the history, in nine ways and not in twenty-one calls, each with the tests that it passed as facts about numbers and states. Every call,
 -- refused or not, is such a step (`next-step`, proofs/Steps.antt), and every invariant is kept by these.
 use mathlib.Core.Path.{_≡_}
 use mathlib.Core.Logic.{_≢_}

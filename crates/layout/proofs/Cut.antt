@@ -28,7 +28,7 @@ end-least b [] = omega arith
 end-least b (n ∷ ns) = omega (arith, end-least (b + n) ns)
 
 -- a piece ends before a later one starts, and before the end
-apart : (b : ℕ) (ns : List ℕ) (i j : ℕ) → i < j → startFrom b ns i + getD ns i 0 ≤ startFrom b ns j
+pub apart : (b : ℕ) (ns : List ℕ) (i j : ℕ) → i < j → startFrom b ns i + getD ns i 0 ≤ startFrom b ns j
 apart b [] i j h = omega arith
 apart b (n ∷ ns) zero zero h = absurd (omega arith)
 apart b (n ∷ ns) zero (suc j) h = start-least (b + n) ns j
@@ -56,6 +56,17 @@ located b (n ∷ ns) w p q =
       | yes h ↦ (0, w - b, omega arith, omega arith, omega arith)
       | no h ↦ let t = located (b + n) ns w (omega arith) q in (suc (t .0), t .1, omega (arith, t .2), t .3, t .4)
     ]
+
+-- where a piece starts depends on those before it alone
+start-none : (b : ℕ) (ns : List ℕ) → startFrom b ns 0 ≡ b
+start-none b [] = refl
+start-none b (n ∷ ns) = refl
+
+pub start-agree : (b : ℕ) (xs ys zs : List ℕ) (i : ℕ) → i ≤ length xs → startFrom b (xs ++ ys) i ≡ startFrom b (xs ++ zs) i
+start-agree b [] ys zs zero h = start-none b ys ∙ sym (start-none b zs)
+start-agree b [] ys zs (suc i) h = absurd (omega arith)
+start-agree b (x ∷ xs) ys zs zero h = refl
+start-agree b (x ∷ xs) ys zs (suc i) h = start-agree (b + x) xs ys zs i (omega arith)
 
 -- words that changed inside piece k only: every other piece is as it was
 pub inside : (ns ws ws′ : List ℕ) (k l : ℕ)

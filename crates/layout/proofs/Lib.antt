@@ -7,3 +7,4 @@ pub mod Limits
 pub mod Renewed
 pub mod Indices
 pub mod Parts
+pub mod Moved

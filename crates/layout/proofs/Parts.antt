@@ -96,7 +96,7 @@ module _ (s : Sizes) (v : View) (h : Long s v) where
   unfolding need
   words-long = sym (zero-add _) ∙ join-length 0 (map v all) ∙ ap (endFrom 0) (lengths s v h)
 
-  laid-long : length (bytes (join (map v all))) ≡ need s * 4
+  pub laid-long : length (bytes (join (map v all))) ≡ need s * 4
   laid-long = length-bytes (join (map v all)) ∙ rw words-long
 
   pub lay-length : (m : List ℕ) → need s * 4 ≤ length m → length (lay s v m) ≡ length m

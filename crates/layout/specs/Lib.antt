@@ -5,4 +5,5 @@ pub mod Regions
 pub mod Starts
 pub mod View
 pub mod Sizes
+pub mod Moved
 pub mod Parts

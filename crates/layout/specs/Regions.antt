@@ -1,9 +1,12 @@
 -- The table of regions: the number, the length and the order of each, and what follows of it: where each starts, and the words needed.
--- A new region is a line at the end of each of `index`, `lens` and `all`, a case of the code's `Region`, a line of its table `lies_before` and `words_needed` (src/lib.rt), of `beforeOf` (Starts) and of its proof.
+-- A new region is a line at the end of each of `index`, `laterLens` and `all`, a case of the code's `Region`, a line of its table `lies_before` and `words_needed` (src/lib.rt), and of its proof.
 use Prim.Native.Nat.{ℕ, _+_, _*_, _-_, _/_, _%_}
-use mathlib.Core.List.{List, [], _∷_}
+use mathlib.Core.Bool.{Bool, cond, _||_}
+use mathlib.Core.List.{List, [], _∷_, _++_}
+use lib.Dec.{eqb}
 use lib.ListN.{getD}
 use Rattle.terms.specs.Measures.{Shape, rangeRows, mostTransactions}
+use Rattle.terms.specs.declared.Form.{Form}
 use Rattle.layout.specs.declared.Sizes.{Sizes}
 use Rattle.layout.specs.declared.Region.{Region}
 use Rattle.layout.specs.Cut.{startFrom, endFrom}
@@ -43,8 +46,9 @@ index Region.OpenKeeper = 29
 abbrev pub headerWords : ℕ
 headerWords = 16
 
-abbrev pub lens : Sizes → List ℕ
-lens s =
+-- the lengths of the regions that every form has
+abbrev pub olderLens : Sizes → List ℕ
+olderLens s =
     headerWords
     ∷ mostTransactions
     ∷ s .rows ∷ s .rows ∷ s .rows ∷ s .rows ∷ s .rows
@@ -57,10 +61,14 @@ lens s =
     ∷ mostTransactions
     ∷ s .rows
     ∷ s .slots
-    ∷ s .rows
-    ∷ s .slots
-    ∷ mostTransactions
     ∷ []
+
+-- and of those that the first form does not have: they are empty there
+abbrev pub laterLens : Sizes → List ℕ
+laterLens s = s .later .rows ∷ s .later .slots ∷ s .later .opens ∷ []
+
+abbrev pub lens : Sizes → List ℕ
+lens s = olderLens s ++ laterLens s
 
 abbrev pub all : List Region
 all =
@@ -139,15 +147,23 @@ abbrev pub formUnit : ℕ
 formUnit = 65536
 
 -- form 2: form 1 with the regions of keepers behind the others
-abbrev pub newestForm : ℕ
-newestForm = 2
+abbrev pub formNumber : Form → ℕ
+formNumber Form.First = 1
+formNumber Form.Newest = 2
 
 -- the columns' word in a memory of a form
-abbrev pub columnsWord : ℕ → ℕ → ℕ
-columnsWord form columns = (form - 1) * formUnit + columns
+abbrev pub columnsWord : Form → ℕ → ℕ
+columnsWord form columns = (formNumber form - 1) * formUnit + columns
 
-abbrev pub formIn : ℕ → ℕ
-formIn word = word / formUnit + 1
+-- the number of the form that a columns' word says, whether it is one that calls work on, and the form if it is
+abbrev pub formSaid : ℕ → ℕ
+formSaid word = word / formUnit + 1
+
+abbrev pub formKnown : ℕ → Bool
+formKnown word = eqb (formSaid word) (formNumber Form.First) || eqb (formSaid word) (formNumber Form.Newest)
+
+abbrev pub formIn : ℕ → Form
+formIn word = cond (eqb (formSaid word) (formNumber Form.First)) Form.First Form.Newest
 
 abbrev pub columnsIn : ℕ → ℕ
 columnsIn word = word % formUnit

@@ -23,7 +23,7 @@ use Rattle.crossing.specs.Steps.{listedIn, ListsAll}
 use Rattle.promise.specs.Promise.{GivesBy, kept}
 use Rattle.admission.specs.declared.Admission.{Admission}
 use Rattle.admission.specs.declared.Tested.{Tested}
-use Rattle.admission.specs.Admitted.{Admits}
+use Rattle.admission.specs.Admitted.{Admits, everyForm}
 use Rattle.admission.specs.Tested.{Says}
 use Rattle.admission.proofs.Served.{FitBytes, unfit-gives, read-gives}
 use Rattle.lookups.specs.Lookups.{spanTests, Outcomes}
@@ -48,6 +48,10 @@ accept-first (t ∷ ts) us =
     by-test (λ b. cond b (refuse (t .refusal)) (verdict ts) ≡ accept → cond b (refuse (t .refusal)) (verdict (ts ++ us)) ≡ verdict us) (t .fails) (λ _ e. clash (cc)) (λ _ e. accept-first ts us e)
 
 -- ---- the call
+pub unfit-listing : (e : Admission) (m : List ℕ) (t : Scans) (r c : ℕ) (mark : ℤ) (from to : ℕ) (stamps : List ℕ) → e ≡ Admission.Unfit → Admits everyForm e m t
+    → GivesBy t m (Call.crossings r c mark from to stamps) (given (Answer.Refused Refusal.Memory) stamps) m kept
+unfit-listing e m t r c mark from to stamps f h = unfit-gives e m t (Call.crossings r c mark from to stamps) f h
+
 module _ (s : Sizes) (m : List ℕ) (r c : ℕ) (mark : ℤ) (from to : ℕ) (stamps : List ℕ) where
   abbrev asked : Call
   asked = Call.crossings r c mark from to stamps
@@ -76,11 +80,8 @@ module _ (s : Sizes) (m : List ℕ) (r c : ℕ) (mark : ℤ) (from to : ℕ) (st
         × (cond b stamps (sets stamps 0 found) ≡ stampsIf (cond b (refuse Refusal.List) accept) stamps (sets stamps 0 found)))
         (outnumber found stamps) (λ _. (refl, refl)) (λ _. (refl, refl)))
 
-  module _ (e : Admission) (t : Scans) (h : Admits e m t) where
-    pub unfit-listing : e ≡ Admission.Unfit → GivesBy t m (Call.crossings r c mark from to stamps) (given (Answer.Refused Refusal.Memory) stamps) m kept
-    unfit-listing f = unfit-gives e m t asked f h
-
-    pub fit-listing : (n : ℕ) → e ≡ Admission.Fit s n → FitBytes m → (z : ℤ) → z ≡ mark → (a : Answer) (out : List ℕ) → Outcomes s m (Call.crossings r c z from to stamps) a out
+  module _ (e : Admission) (t : Scans) where
+    pub fit-listing : (n : ℕ) → e ≡ Admission.Fit s n → Admits everyForm e m t → FitBytes m → (z : ℤ) → z ≡ mark → (a : Answer) (out : List ℕ) → Outcomes s m (Call.crossings r c z from to stamps) a out
         → GivesBy t m (Call.crossings r c mark from to stamps) (given a out) m kept
     unfolding Outcomes actIn entriesAfter
-    fit-listing n f b z q a out o = read-gives e s n m t f h asked a out b (λ ps. (refl, refl)) (rw q at o)
+    fit-listing n f h b z q a out o = read-gives e s n m t f asked h refl a out b (λ ps. (refl, refl)) (rw q at o)

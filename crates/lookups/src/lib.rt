@@ -3,6 +3,7 @@
 use admission::Admission;
 use admission::Tested;
 use admission::admit;
+use admission::admit_in;
 use admission::given_range;
 use admission::later;
 use admission::latest_reader;
@@ -30,6 +31,7 @@ use scans::Scans;
 use scans::find_scan;
 use summing::sum_rows;
 use terms::Answer;
+use terms::Form;
 use terms::Refusal;
 use terms::Row;
 use terms::ScanEntry;
@@ -117,7 +119,7 @@ pub fn read_at(mem: &[u8], t: Scans, stamp: Stamp, row: Row, column: u32) -> Ans
 pub fn keeper_at(mem: &[u8], t: Scans, stamp: Stamp, row: Row, column: u32) -> Answer
     ensures { λ r. ⌜ ServesBy t (now (mem .entry)) (Call.keeperAt (stamp .0) (row .0) column) r (now (mem .entry)) kept ⌝ }
 {
-    let Admission::Fit(s, _) = admit(mem, t) else {
+    let Admission::Fit(s, _) = admit_in(mem, t, Form::Newest) else {
         return Answer::Refused(Refusal::Memory);
     };
     match read_at_tests(mem, s, stamp, row, column) {

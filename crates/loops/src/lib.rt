@@ -52,6 +52,19 @@ pub fn copy(mem: &mut [u8], from: usize, n: usize, to: usize)
     }
 }
 
+// The first n words of another slice.
+pub fn copy_from(from: &[u8], n: usize, to: &mut [u8])
+    requires { ⌜ (n * 4 ≤ length (now from)) × (n * 4 ≤ length (now to)) ⌝ }
+    ensures { λ _. ⌜ words (now (to .exit)) ≡ copied (words (now (from .entry))) 0 n 0 (words (now (to .entry))) ⌝ }
+{
+    let mut i = 0;
+    while i < n {
+        let v = get(from, i);
+        put(to, i, v);
+        i += 1;
+    }
+}
+
 // Both of two flags. Both are computed before, with no way out early, so that a loop over it vectorises; `either` and `select` likewise.
 pub fn both(a: bool, b: bool) -> bool
     ensures { λ r. ⌜ r ≡ (a && b) ⌝ }

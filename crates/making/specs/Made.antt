@@ -10,6 +10,7 @@ use Rattle.model.specs.Writing.{madeView}
 use Rattle.layout.specs.Codes.{asCurrent}
 use Rattle.terms.specs.Measures.{Shape, withinLimits, mostScans}
 use Rattle.terms.specs.declared.Answer.{Answer}
+use Rattle.terms.specs.declared.Form.{Form}
 use Rattle.terms.specs.declared.ScanEntry.{ScanEntry}
 use Rattle.terms.specs.declared.Refusal.{Refusal}
 use Rattle.layout.specs.declared.Sizes.{Sizes}
@@ -22,11 +23,11 @@ use Rattle.scans.specs.Entries.{allFreed}
 unfoldable pub namedView : Sizes → View
 namedView s = number Current 0 (s .chunks) (number PageChunk 0 (s .chunks) (fill PageState 0 (s .chunks) asCurrent (blank s)))
 
--- the answer for a scan list of so many entries, and the memory afterwards
-unfoldable pub made : Shape → ℕ → List ℕ → Answer × List ℕ
-made p entries m =
+-- the answer for a scan list of so many entries, and the memory afterwards. The code makes the newest form; the first is what earlier versions left in fitted panels.
+unfoldable pub made : Form → Shape → ℕ → List ℕ → Answer × List ℕ
+made f p entries m =
     cond (withinLimits p)
-    (cond (leb (bytesNeeded p) (length m) && leb mostScans entries) (Answer.Done, lay (sizesOf p) (madeView p) m) (Answer.Refused Refusal.Memory, m))
+    (cond (leb (bytesNeeded f p) (length m) && leb mostScans entries) (Answer.Done, lay (sizesOf f p) (madeView f p) m) (Answer.Refused Refusal.Memory, m))
     (Answer.Refused Refusal.Shape, m)
 
 -- and the scan list

@@ -1,7 +1,5 @@
 // Making a store in a lent memory: the lengths are tested, and then every word that the shape needs is written, so that nothing of what the memory held before
 // is left in it.
-use layout::FORM;
-use layout::FORM_UNIT;
 use layout::HEADER_CAPACITY;
 use layout::HEADER_COLUMNS;
 use layout::HEADER_RANGES;
@@ -9,6 +7,7 @@ use layout::HEADER_SPARES;
 use layout::Region;
 use layout::Sizes;
 use layout::codes::PAGE_CURRENT;
+use layout::columns_word;
 use layout::sizes_of;
 use layout::within_limits;
 use layout::words_needed;
@@ -17,12 +16,14 @@ use regions::count_in;
 use regions::fill_in;
 use regions::write;
 use terms::Answer;
+use terms::Form;
 use terms::Refusal;
 use terms::limits::MOST_SCANS;
 ghost use mathlib.Core.Path.{_≡_};
 ghost use Prim.Native.Nat.{_*_, _≤_, _<_};
 ghost use lib.ListN.{length};
 ghost use Rattle.terms.specs.Measures.{mostColumns, mostPages};
+ghost use Rattle.terms.specs.declared.Form.{Form};
 ghost use Rattle.model.specs.Writing.{madeView};
 ghost use Rattle.layout.specs.Regions.{need, columnsAt, rangesAt, capacityAt, sparesAt};
 ghost use Rattle.layout.specs.declared.Region.the-variants.{Header};
@@ -65,16 +66,16 @@ fn put_measures(mem: &mut [u8], s: Sizes, word: u32, ranges: u32, capacity: u32,
 // The needed part of a memory, made.
 fn lay_out(mem: &mut [u8], s: Sizes, columns: u32, ranges: u32, capacity: u32, spares: u32)
     requires { ⌜ (Suffices s (now mem)) × (need s < tooManyWords) ⌝ }
-    requires { ⌜ (s ≡ sizesOf (shapeOf columns ranges capacity spares)) × (s .chunks ≤ s .pages) × (s .pages ≤ mostPages) × (columns ≤ mostColumns) ⌝ }
-    ensures { λ _. ⌜ viewOf s (now (mem .exit)) ≡ madeView (shapeOf columns ranges capacity spares) ⌝ }
+    requires { ⌜ (s ≡ sizesOf Form.Newest (shapeOf columns ranges capacity spares)) × (s .chunks ≤ s .pages) × (s .pages ≤ mostPages) × (columns ≤ mostColumns) ⌝ }
+    ensures { λ _. ⌜ viewOf s (now (mem .exit)) ≡ madeView Form.Newest (shapeOf columns ranges capacity spares) ⌝ }
 {
     clear(mem, s);
     name_pages(mem, s);
-    let word = (FORM - 1) * FORM_UNIT + columns;
+    let word = columns_word(Form::Newest, columns);
     put_measures(mem, s, word, ranges, capacity, spares);
 }
 
-// A store of a shape, in a memory and with a scan list of so many entries.
+// A store of a shape in the newest form, in a memory and with a scan list of so many entries.
 pub fn make(
     mem: &mut [u8],
     length: usize,
@@ -83,12 +84,12 @@ pub fn make(
     capacity: u32,
     spares: u32,
 ) -> Answer
-    ensures { λ r. ⌜ (r, now (mem .exit)) ≡ made (shapeOf columns ranges capacity spares) length (now (mem .entry)) ⌝ }
+    ensures { λ r. ⌜ (r, now (mem .exit)) ≡ made Form.Newest (shapeOf columns ranges capacity spares) length (now (mem .entry)) ⌝ }
 {
     if !within_limits(columns, ranges, capacity, spares) {
         return Answer::Refused(Refusal::Shape);
     }
-    let s = sizes_of(columns, ranges, capacity, spares);
+    let s = sizes_of(Form::Newest, columns, ranges, capacity, spares);
     let n = words_needed(s) * 4;
     if mem.len() < n {
         return Answer::Refused(Refusal::Memory);

@@ -15,10 +15,11 @@ use borrow.Author.Tests.{ne-eqb}
 use mir.Syntax.{w32}
 use mir.Val.{toZ}
 use Rattle.terms.specs.Measures.{Shape, rangeRows, mostNumbers, mostScans}
+use Rattle.terms.specs.declared.Form.{Form}
 use Rattle.terms.specs.declared.Refusal.{Refusal}
 use Rattle.terms.specs.declared.Answer.{Answer}
 use Rattle.history.specs.History as H
-use Rattle.history.specs.History.{Call, begin, insert, update, delete, commit, abort, latest, readAt, ownRead, openScan, scanRead, sum, close, merge, release, pageCell, lineage, crossings, beginAs, keeperAt, History, Record, Snapshot, snapshotAt, latestSnapshot, active, Test, _when_, Verdict, accept, refuse, verdict, tests, reply, effect, answer, next, answerIf, nextIf, stampsAfter, stampsIf, sliceOf, filled, crossingsBetween, noSpan, outnumber, any, filterb, count, upTo, total, stateOf, rowAt, rangeOf, recordsOf, seenAt, seenBy, ended, visible, versionOf, shown, read, scanAt, inserted, lastSetting, cellValue, notActive, notRunning, notGiven, noColumn, noRange, lacksRecords, earlier, later, outOfReach, noPage, cellThrough}
+use Rattle.history.specs.History.{Call, begin, insert, update, delete, commit, abort, latest, readAt, ownRead, openScan, scanRead, sum, close, merge, release, pageCell, lineage, crossings, beginAs, keeperAt, move, History, Record, Snapshot, snapshotAt, latestSnapshot, active, Test, _when_, Verdict, accept, refuse, verdict, tests, reply, effect, answer, next, answerIf, nextIf, stampsAfter, stampsIf, sliceOf, filled, crossingsBetween, noSpan, outnumber, any, filterb, count, upTo, total, stateOf, rowAt, rangeOf, recordsOf, seenAt, seenBy, ended, visible, versionOf, shown, read, scanAt, inserted, lastSetting, cellValue, notActive, notRunning, notGiven, noColumn, noRange, lacksRecords, earlier, later, outOfReach, noPage, cellThrough}
 use Rattle.history.proofs.Lists.{by-test, all-map, all-at, filterb-append, any-agree, not-not, parts}
 use Rattle.history.proofs.Accepted.{Passed, passed}
 use Rattle.history.proofs.Steps.{mergeable, is-active, within-reach, step, made-new}
@@ -37,11 +38,13 @@ use Rattle.model.specs.Stored.{cellIn, currentIn, within, openIndex, sca
 use Rattle.model.specs.declared.Reader.{Reader}
 use Rattle.model.specs.Reading.{reader, allUpTo, snapshotOf, readIn, readCurrent, ownChanges, wordIn, scanPage, Tally, tally, sumIn}
 use Rattle.model.specs.Versions.{crossingsIn}
-use Rattle.model.specs.Calls.{beginTestsIn, readAtTestsIn, testsIn, replyIn, stampsIn, stampsNext, actIn, entriesAfter, viewIf, entriesIf, say, viewNext, entriesNext, notOpenIn, noScanIn, notGivenIn, lacksIn, earlierIn, laterIn, noSpanIn, outOfReachIn, Typed}
+use Rattle.model.specs.Calls.{beginTestsIn, readAtTestsIn, moveTestsIn, testsIn, replyIn, stampsIn, stampsNext, actIn, storeAct, entriesAfter, viewIf, entriesIf, say, storeNext, entriesNext, notOpenIn, noScanIn, notGivenIn, lacksIn, earlierIn, laterIn, noSpanIn, outOfReachIn, Typed}
 use Rattle.model.specs.Represents.{everyRow, CurrentOf, Unchanged, scanAs, Represents, WellFormed, SameCall, StepKept}
 use Rattle.model.proofs.Opens.{opens-is, opens-full, open-there, active-given}
 use Rattle.model.proofs.changes.Transactions.{begin-kept, commit-kept, abort-kept}
+use Rattle.history.specs.Forms.{FormUse, either, newest, moving, worksOn, formUse, formAfter, formIf, formNext}
 use Rattle.model.proofs.changes.Insert.{insert-kept}
+use Rattle.model.proofs.changes.Moved.{borne-is, borne-none, moved-represents}
 use Rattle.model.proofs.lookups.Heads.{in-range, SeesAs, sees-at, sees-own, sees-all, held-is, gone-is, visible-is}
 use Rattle.model.proofs.lookups.Read.{word-is, keeper-is, read-is}
 use Rattle.model.proofs.lookups.Versions.{values-is}
@@ -89,7 +92,7 @@ total-append f (x ∷ l) m = ap (λ (z : ℤ). f x +ℤ z) (total-append f l m) 
 abbrev tallied : History → (ℕ → Bool) → ℕ → ℕ → Tally
 tallied h f c n = record { count = length (filterb (visible f h) (upTo n)); total = total (λ r. versionOf f h r c .value) (filterb (visible f h) (upTo n)) }
 
-module _ {S : Shape} {v : View} {ps : List ScanEntry} {h : History} (o : Represents S v ps h) (k : WellFormed S h) where
+module _ {F : Form} {S : Shape} {v : View} {ps : List ScanEntry} {h : History} (o : Represents F S v ps h) (k : WellFormed S h) where
   -- ---- the conditions, one for one
   open-is : (t : ℕ) → notOpenIn v t ≡ notActive h t
   unfolding notOpenIn notActive stateOf
@@ -147,6 +150,11 @@ module _ {S : Shape} {v : View} {ps : List ScanEntry} {h : History} (o : Represe
   unfolding readAtTestsIn H.readAtTests
   read-at-agrees s r c = test (later-is s) (λ z. test (given-is r) (λ p. test refl (λ q. done)))
 
+  move-agrees : (to : Form) → Agree (moveTestsIn to S v) (H.moveTests to h)
+  unfolding moveTestsIn H.moveTests
+  move-agrees Form.First = test (borne-is o k) (λ p. done)
+  move-agrees Form.Newest = done
+
   pub tests-agree : (c : Call) → Agree (testsIn S v ps c) (tests S h c)
   unfolding testsIn tests notGiven noColumn noRange noPage H.allGiven H.allRunning
   tests-agree begin = begin-agrees
@@ -180,6 +188,7 @@ module _ {S : Shape} {v : View} {ps : List ScanEntry} {h : History} (o : Represe
       test (ap (λ (l : List ℕ). outnumber l stamps) (crossings-is r c mark from to (nleb→lt _ _ p) (nleb→lt _ _ q))) (λ u. done))))
   tests-agree (beginAs x) = begin-agrees
   tests-agree (keeperAt s r c) = read-at-agrees s r c
+  tests-agree (move to second) = move-agrees to
 
   -- ---- the answers
   -- a reader whose snapshot has every commit made
@@ -302,6 +311,7 @@ module _ {S : Shape} {v : View} {ps : List ScanEntry} {h : History} (o : Represe
   reply-same (lineage g c) p = ap₂ Answer.Lineage (o .currents g c (search nleb→lt) (search nleb→lt) .lineage) (o .tails g (search nleb→lt) .used-all)
   reply-same (crossings r c mark from to stamps) p = ap (λ (l : List ℕ). Answer.Listed (length l)) (crossings-is r c mark from to (search nleb→lt) (search nleb→lt))
   reply-same (beginAs x) p = ap Answer.Number (omega (arith, o .header .transactions-given))
+  reply-same (move to second) p = refl
   reply-same (keeperAt s r c) p = keeper-is o k (reader (allUpTo s) 0) (seenAt h (snapshotAt h s)) (all-seen s) r (search nleb→lt) c (search nleb→lt)
 
   pub filled-same : (c : Call) → Passed (tests S h c) → stampsIn S v (sliceOf c) ≡ filled h (sliceOf c)
@@ -325,6 +335,7 @@ module _ {S : Shape} {v : View} {ps : List ScanEntry} {h : History} (o : Represe
   filled-same (lineage g c) p = refl
   filled-same (beginAs x) p = refl
   filled-same (keeperAt s r c) p = refl
+  filled-same (move to second) p = refl
   filled-same (crossings r c mark from to stamps) p = ap (λ (l : List ℕ). Seq.sets stamps 0 l) (crossings-is r c mark from to (search nleb→lt) (search nleb→lt))
 
   -- ---- what a call leaves
@@ -332,37 +343,45 @@ module _ {S : Shape} {v : View} {ps : List ScanEntry} {h : History} (o : Represe
   unfolding H.allActive
   free-entry q = not-not (any (λ i. eqb i 0) (v Opens)) (rw (opens-full (h .transactions) (v Opens) (o .whole .long Opens) (o .opens)) q)
 
-  pub act-kept : (c : Call) → Typed c → Passed (tests S h c) → Represents S (actIn S v ps c) (entriesAfter v ps c) (effect S h c)
+  pub act-kept : (c : Call) → Typed c → T (worksOn c F) → Passed (tests S h c) → Represents (formAfter (formUse c) accept F) S (storeAct S v ps c) (entriesAfter v ps c) (effect S h c)
   unfolding actIn entriesAfter effect tests H.beginTests notGiven notRunning lacksRecords H.allGiven earlier H.allRunning later
-  act-kept begin y p = begin-kept o k H.unknownKeeper (free-entry (search)) (step S h begin p) (search nleb→lt) (omega arith)
-  act-kept (insert t vs) y p = insert-kept o k t vs (search is-active) (search nleb→lt) (y .1) (step S h (insert t vs) p)
-  act-kept (update t r m vs) y p =
+  act-kept begin y q p = begin-kept o k H.unknownKeeper (free-entry (search)) (step S h begin p) (search nleb→lt) (omega arith) (λ _. refl)
+  act-kept (insert t vs) y q p = insert-kept o k t vs (search is-active) (search nleb→lt) (y .1) (step S h (insert t vs) p)
+  act-kept (update t r m vs) y q p =
       update-kept o k t r m vs (search is-active) (search nleb→lt) (search) (y .2) (y .3) (search nltb→le) (step S h (update t r m vs) p)
       (made-new {S = S} (by-update m vs (search)))
-  act-kept (delete t r) y p =
+  act-kept (delete t r) y q p =
       delete-kept o k t r (search is-active) (search nleb→lt) (search nltb→le) (step S h (delete t r) p) (made-new {S = S} by-delete)
-  act-kept (commit t s) y p = commit-kept o k t s (search is-active) (search nltb→le) (y .1) (step S h (commit t s) p)
-  act-kept (abort t) y p = abort-kept o k t (search is-active) (step S h (abort t) p)
-  act-kept (latest r c) y p = o
-  act-kept (readAt s r c) y p = o
-  act-kept (ownRead t r c) y p = o
-  act-kept (openScan s) y p =
+  act-kept (commit t s) y q p = commit-kept o k t s (search is-active) (search nltb→le) (y .1) (step S h (commit t s) p)
+  act-kept (abort t) y q p = abort-kept o k t (search is-active) (step S h (abort t) p)
+  act-kept (latest r c) y q p = o
+  act-kept (readAt s r c) y q p = o
+  act-kept (ownRead t r c) y q p = o
+  act-kept (openScan s) y q p =
       open-kept o k s (search nleb→lt) (search nleb→lt) (step S h (openScan s) p)
-  act-kept (scanRead i r c) y p = o
-  act-kept (sum i c) y p = o
-  act-kept (close i) y p = close-kept o k i (not-not (scanAt h i .running) (search)) (step S h (close i) p)
-  act-kept (merge g c n) y p = merge-kept o k (mergeable S h g c n p) (step S h (merge g c n) p)
-  act-kept release y p = release-kept o k (step S h release p)
-  act-kept (pageCell c r) y p = o
-  act-kept (lineage g c) y p = o
-  act-kept (crossings r c mark from to stamps) y p = o
-  act-kept (beginAs x) y p = begin-kept o k x (free-entry (search)) (step S h (beginAs x) p) (search nleb→lt) y
-  act-kept (keeperAt s r c) y p = o
+  act-kept (scanRead i r c) y q p = o
+  act-kept (sum i c) y q p = o
+  act-kept (close i) y q p = close-kept o k i (not-not (scanAt h i .running) (search)) (step S h (close i) p)
+  act-kept (merge g c n) y q p = merge-kept o k (mergeable S h g c n p) (step S h (merge g c n) p)
+  act-kept release y q p = release-kept o k (step S h release p)
+  act-kept (pageCell c r) y q p = o
+  act-kept (lineage g c) y q p = o
+  act-kept (crossings r c mark from to stamps) y q p = o
+  act-kept (beginAs x) y q p = begin-kept o k x (free-entry (search)) (step S h (beginAs x) p) (search nleb→lt) y (λ f. absurd (rw f at q))
+  act-kept (keeperAt s r c) y q p = o
+  act-kept (move to second) y q p = unfold formIf in (moved-represents o k to (borne-none o k to q p))
+
+-- a refused call leaves the form
+refused-form : (u : FormUse) (n : Refusal) (F : Form) → formAfter u (refuse n) F ≡ F
+unfolding formIf
+refused-form either n F = refl
+refused-form newest n F = refl
+refused-form (moving to) n F = refl
 
 -- ---- one call
 pub one-call : StepKept
-unfolding say viewNext entriesNext stampsNext answer next stampsAfter answerIf viewIf entriesIf nextIf stampsIf
-one-call S v ps h c y o k = go (verdict (tests S h c)) refl
+unfolding say storeNext entriesNext stampsNext formNext formIf answer next stampsAfter answerIf viewIf entriesIf nextIf stampsIf
+one-call F S v ps h c y q o k = go (verdict (tests S h c)) refl
   where
     same : verdict (testsIn S v ps c) ≡ verdict (tests S h c)
     same = agree-verdict (tests-agree o k c)
@@ -370,8 +389,8 @@ one-call S v ps h c y o k = go (verdict (tests S h c)) refl
     well-formed : WellFormed S (next S h c)
     well-formed = record { small = k .small; invariants = invariants-next c (k .invariants) }
 
-    go : (w : Verdict) → verdict (tests S h c) ≡ w → SameCall S v ps h c
+    go : (w : Verdict) → verdict (tests S h c) ≡ w → SameCall F S v ps h c
     go accept e =
         let p = passed (tests S h c) e in
-        record { answered = rw (same, e) (reply-same o k c p); filled = rw (same, e) (filled-same o k c p); shown = rw (same, e) (act-kept o k c y p); well-formed = well-formed }
-    go (refuse n) e = record { answered = rw (same, e); filled = rw (same, e); shown = rw (same, e) o; well-formed = well-formed }
+        record { answered = rw (same, e) (reply-same o k c p); filled = rw (same, e) (filled-same o k c p); shown = rw (same, e) (act-kept o k c y q p); well-formed = well-formed }
+    go (refuse n) e = record { answered = rw (same, e); filled = rw (same, e); shown = rw (same, e, refused-form (formUse c) n F) o; well-formed = well-formed }

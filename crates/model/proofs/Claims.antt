@@ -1,50 +1,33 @@
--- Demand 2 holds of the pages: what they hold follows from the relation, which every list of calls keeps.
+-- What the pages of a store hold follows from the relation with the history, which every list of calls keeps.
 use mathlib.Core.Path.{_≡_, refl, sym, _∙_, ap}
-use mathlib.Core.List.{List}
+use mathlib.Core.List.{List, _∷_}
 use Prim.Native.Nat.{ℕ, suc, _+_, _*_, _^_, _≤_, _<_}
 use native.Mathlib.Omega.{arith}
 use lib.Dec.{T}
-use lib.ListN.{length, replicate, length-append}
+use lib.ListN.{length, length-append}
 use lib.IntN.{pos}
 use mir.Syntax.{w32}
 use mir.Val.{toZ, ofZ}
 use mir.ValLaws.{ofZ-toZ}
-use Rattle.terms.specs.Measures.{Shape, rangeRows, mostScans, withinLimits}
+use Rattle.terms.specs.Measures.{Shape, rangeRows}
+use Rattle.terms.specs.declared.Form.{Form}
 use Rattle.history.specs.History.{Call, openScan, effect, nextIf, tests, verdict, Verdict, accept, refuse, Scan, noScan, withScans, History, next, run, rangeOf, mergedThrough, scanAt, cellThrough}
-use Rattle.history.specs.Lists.{All, nil, cons}
+use Rattle.history.specs.Lists.{All}
+use Rattle.history.specs.Forms.{Suited, formNext}
 use Rattle.history.proofs.Lists.{nth-last}
 use Rattle.history.proofs.Latest.{cell-taken}
-use Rattle.history.proofs.Invariants.{invariants-start}
 use Rattle.layout.specs.View.{View, put, renew}
 use Rattle.layout.specs.declared.Region.the-variants.{Cells}
 use Rattle.terms.specs.declared.ScanEntry.{ScanEntry}
-use Rattle.terms.specs.Entries.{freeEntry}
 use Rattle.model.specs.Stored.{pageIn, cellIn, currentIn, within}
-use Rattle.model.specs.Writing.{madeView}
 use Rattle.model.specs.Reading.{scanPage, wasCurrent}
-use Rattle.model.specs.Calls.{testsIn, actIn, viewIf, Typed, viewNext, entriesNext, viewAfter, entriesAfterAll}
-use Rattle.model.specs.Claims.{storeAfter, historyAfter, PageHolds, PagesHold, PageKept, ScansKeep}
+use Rattle.model.specs.Calls.{testsIn, actIn, storeAct, viewIf, Typed, storeNext, entriesNext, viewAfter}
+use Rattle.model.specs.Claims.{PageHolds, PageKept}
 use Rattle.model.specs.Represents.{CurrentOf, Represents, WellFormed}
 use Rattle.model.proofs.Holding.{cell-absent}
 use Rattle.model.proofs.Calls.{one-call}
 use Rattle.model.proofs.upkeep.Scans.{scan-current}
 use Rattle.model.proofs.Openings.{SamePage, same-after, scan-later}
-use Rattle.model.proofs.Made.{small-shape, made-represents}
-
--- ---- the relation after a list of calls
-pub represents-after : {S : Shape} {v : View} {ps : List ScanEntry} {h : History} → Represents S v ps h → WellFormed S h → {cs : List Call} → All Typed cs
-    → Represents S (viewAfter S v ps cs) (entriesAfterAll S v ps cs) (run S h cs) × WellFormed S (run S h cs)
-unfolding viewAfter entriesAfterAll run
-represents-after {S} {v} {ps} {h} o k nil = (o, k)
-represents-after {S} {v} {ps} {h} o k (cons {x = c} {l = cs} y ys) =
-    let one = one-call S v ps h c y o k in
-    represents-after (one .shown) (one .well-formed) ys
-
-pub represented : (S : Shape) → T (withinLimits S) → (n : ℕ) → mostScans ≤ n → {cs : List Call} → All Typed cs
-    → Represents S (storeAfter S n cs) (entriesAfterAll S (madeView S) (replicate n freeEntry) cs) (historyAfter S cs) × WellFormed S (historyAfter S cs)
-unfolding storeAfter historyAfter
-represented S t n enough ys =
-    represents-after (made-represents S (small-shape S t) n enough) record { small = small-shape S t; invariants = invariants-start S } ys
 
 -- ---- pages
 zero-word : (w : ℕ) → w < 2 ^ 32 → toZ w32 w ≡ pos 0 → w ≡ 0
@@ -54,8 +37,8 @@ row-of : (g i : ℕ) → i < rangeRows → (rangeOf (g * rangeRows + i) ≡ g) �
 unfolding rangeOf
 row-of g i b = (omega arith, omega arith)
 
-page-holds : {S : Shape} {v : View} {ps : List ScanEntry} {h : History} → Represents S v ps h → WellFormed S h → (g c : ℕ) → g < S .ranges → c < S .columns → PageHolds S v h g c
-page-holds {S} {v} {ps} {h} o k g c a b = record {
+pub page-holds : {F : Form} {S : Shape} {v : View} {ps : List ScanEntry} {h : History} → Represents F S v ps h → WellFormed S h → (g c : ℕ) → g < S .ranges → c < S .columns → PageHolds S v h g c
+page-holds {F} {S} {v} {ps} {h} o k g c a b = record {
   taken = x .lineage;
   every-row = λ i u. held i u ∙ cell-taken h (k .invariants .order) c (g * rangeRows + i) (mergedThrough h g c);
   never-inserted = λ i u n. zero-word (cellIn v (currentIn S v g c) i) (fits i) (held i u ∙ cell-absent h c (g * rangeRows + i) (mergedThrough h g c) (k .invariants .order) n);
@@ -72,12 +55,6 @@ page-holds {S} {v} {ps} {h} o k g c a b = record {
         ap (λ (j : ℕ). toZ w32 (cellIn v (currentIn S v g c) j)) (sym (row-of g i u .1)) ∙ x .holds .cells (g * rangeRows + i) (row-of g i u .0) tt
         ∙ ap (cellThrough h c (g * rangeRows + i)) (x .lineage)
 
-pub pages-hold : PagesHold
-unfolding PagesHold
-pages-hold S l n enough cs ys g c a b =
-    let q = represented S l n enough ys in
-    page-holds (q .0) (q .1) g c a b
-
 -- ---- the pages of open scans
 -- the scan that has the next number, and what stays
 abbrev Opened : History → History → Type 0
@@ -90,18 +67,18 @@ unfolding next nextIf effect withScans scanAt
 scan-opened S h s e = rw e (ap (λ (x : Scan). x .merges) (nth-last noScan (h .scans) _), simp length-append (omega arith), refl)
 
 -- opening a scan changes no page
-opened-same : (S : Shape) (v : View) (ps : List ScanEntry) (s m g c : ℕ) → (scanPage S (viewNext S v ps (openScan s)) m g c ≡ scanPage S v m g c) × ((q i : ℕ) → cellIn (viewNext S v ps (openScan s)) q i ≡ cellIn v q i)
-unfolding viewNext
+opened-same : (S : Shape) (v : View) (ps : List ScanEntry) (s m g c : ℕ) → (scanPage S (storeNext S v ps (openScan s)) m g c ≡ scanPage S v m g c) × ((q i : ℕ) → cellIn (storeNext S v ps (openScan s)) q i ≡ cellIn v q i)
+unfolding storeNext
 opened-same S v ps s m g c = go (verdict (testsIn S v ps (openScan s)))
   where
-    go : (w : Verdict) → (scanPage S (viewIf w v (actIn S v ps (openScan s))) m g c ≡ scanPage S v m g c) × ((q i : ℕ) → cellIn (viewIf w v (actIn S v ps (openScan s))) q i ≡ cellIn v q i)
+    go : (w : Verdict) → (scanPage S (viewIf w v (storeAct S v ps (openScan s))) m g c ≡ scanPage S v m g c) × ((q i : ℕ) → cellIn (viewIf w v (storeAct S v ps (openScan s))) q i ≡ cellIn v q i)
     go accept = unfold viewIf actIn put renew scanPage wasCurrent currentIn pageIn cellIn in (refl, λ q i. refl)
     go (refuse n) = unfold viewIf in (refl, λ q i. refl)
 
-pages-kept : {S : Shape} {v : View} {ps : List ScanEntry} {h : History} → Represents S v ps h → WellFormed S h → (s : ℕ) (cs : List Call) → Typed (openScan s) → All Typed cs → verdict (tests S h (openScan s)) ≡ accept
+pub pages-kept : {F : Form} {S : Shape} {v : View} {ps : List ScanEntry} {h : History} → Represents F S v ps h → WellFormed S h → (s : ℕ) (cs : List Call) → Typed (openScan s) → All Typed cs → Suited S F h (openScan s ∷ cs) → verdict (tests S h (openScan s)) ≡ accept
     → T (scanAt (run S (next S h (openScan s)) cs) (suc (length (h .scans))) .running) → (g c : ℕ) → g < S .ranges → c < S .columns
-    → PageKept S v (viewAfter S (viewNext S v ps (openScan s)) (entriesNext S v ps (openScan s)) cs) (run S (next S h (openScan s)) cs) (suc (length (h .scans))) g c (length (h .rows))
-pages-kept {S} {v} {ps} {h} o k s cs y ys e t g c bg bc =
+    → PageKept S v (viewAfter S (storeNext S v ps (openScan s)) (entriesNext S v ps (openScan s)) cs) (run S (next S h (openScan s)) cs) (suc (length (h .scans))) g c (length (h .rows))
+pages-kept {F} {S} {v} {ps} {h} o k s cs y ys suited e t g c bg bc =
     record {
       page = ap (λ (j : ℕ). scanPage S v₂ j g c) merges-are ∙ (rw (new .0) at (same .page)) ∙ first;
       cells = λ r u f.
@@ -109,6 +86,9 @@ pages-kept {S} {v} {ps} {h} o k s cs y ys e t g c bg bc =
           ∙ opened-same S v ps s (length (h .merges)) g c .1 (currentIn S v g c) (within r);
     }
   where
+    suited-on : Suited S F h (openScan s ∷ cs) → Suited S (formNext S h (openScan s) F) (next S h (openScan s)) cs
+    suited-on = unfold Suited in (λ x. x .1)
+
     i : ℕ
     i = suc (length (h .scans))
 
@@ -116,25 +96,19 @@ pages-kept {S} {v} {ps} {h} o k s cs y ys e t g c bg bc =
     h₁ = next S h (openScan s)
 
     v₁ : View
-    v₁ = viewNext S v ps (openScan s)
+    v₁ = storeNext S v ps (openScan s)
 
     v₂ : View
-    v₂ = viewAfter S (viewNext S v ps (openScan s)) (entriesNext S v ps (openScan s)) cs
+    v₂ = viewAfter S (storeNext S v ps (openScan s)) (entriesNext S v ps (openScan s)) cs
 
     new : Opened h (next S h (openScan s))
     new = scan-opened S h s e
 
     same : SamePage S v₁ v₂ (scanAt h₁ i .merges) (length (h₁ .rows)) g c
-    same = let one = one-call S v ps h (openScan s) y o k in same-after (one .shown) (one .well-formed) i (new .1) ys t g c bg bc
+    same = let one = one-call F S v ps h (openScan s) y tt o k in same-after (one .shown) (one .well-formed) i (new .1) ys (suited-on suited) t g c bg bc
 
     merges-are : scanAt (run S h₁ cs) i .merges ≡ length (h .merges)
     merges-are = ap (λ (x : Scan). x .merges) (scan-later S h₁ cs i (new .1) t) ∙ new .0
 
     first : scanPage S v₁ (length (h .merges)) g c ≡ currentIn S v g c
     first = opened-same S v ps s (length (h .merges)) g c .0 ∙ scan-current S v (length (h .merges)) g c (o .currents g c bg bc .made)
-
-pub scans-keep : ScansKeep
-unfolding ScansKeep run viewAfter
-scans-keep S l n enough before after s ys (cons y zs) e t g c bg bc =
-    let q = represented S l n enough ys in
-    pages-kept (q .0) (q .1) s after y zs e t g c bg bc

@@ -15,7 +15,7 @@ use lib.Bits.{bitOr}
 use Rattle.terms.specs.Measures.{Shape, rangeRows}
 use Rattle.terms.specs.declared.ScanEntry.{ScanEntry}
 use Rattle.terms.specs.Entries.{freeEntry}
-use Rattle.history.specs.History.{Call, begin, insert, update, delete, commit, abort, latest, readAt, ownRead, openScan, scanRead, sum, close, merge, release, pageCell, lineage, crossings, beginAs, keeperAt, Commit, noCommit, unknownKeeper, rangeOf}
+use Rattle.history.specs.History.{Call, begin, insert, update, delete, commit, abort, latest, readAt, ownRead, openScan, scanRead, sum, close, merge, release, pageCell, lineage, crossings, beginAs, keeperAt, move, Commit, noCommit, unknownKeeper, rangeOf}
 use Rattle.history.proofs.Lists.{by-cases, is-true, eqb-same, or-left, or-right, le-test}
 use Rattle.loops.specs.Change.{changed, marked}
 use Rattle.loops.proofs.Change.{changed-length, changed-outside}
@@ -293,6 +293,7 @@ act-within S v ps release =
 act-within S v ps (pageCell c r) = nothing-changed
 act-within S v ps (lineage g c) = nothing-changed
 act-within S v ps (crossings r c mark from to stamps) = nothing-changed
+act-within S v ps (move to second) = nothing-changed
 
 -- ---- the scan list: an opened scan takes one entry, a closed one leaves one
 entry-within : (ps : List ScanEntry) (i : ℕ) (e : ScanEntry) → EntriesWithin (i ∷ []) ps (set ps i e)
@@ -321,3 +322,4 @@ entries-within v ps (lineage g c) = (refl, λ i. inl refl)
 entries-within v ps (crossings r c mark from to stamps) = (refl, λ i. inl refl)
 entries-within v ps (beginAs x) = (refl, λ i. inl refl)
 entries-within v ps (keeperAt s r c) = (refl, λ i. inl refl)
+entries-within v ps (move to second) = (refl, λ i. inl refl)

@@ -1,6 +1,6 @@
 -- Lists and numbers in general, beyond what the history's proofs have: counts of a list by index, counts and searches over the numbers below a bound, and
 -- the index of a part in a region of equal parts. Nothing here speaks of the store.
-use mathlib.Core.Path.{_≡_, refl, sym, _∙_, ap}
+use mathlib.Core.Path.{_≡_, refl, sym, _∙_, ap, ap₂}
 use mathlib.Core.Logic.{_≢_}
 use mathlib.Core.Bool.{Bool, true, false, not, cond, _&&_, _||_, and-false, and-true, or-false}
 use mathlib.Core.List.{List, [], _∷_, _++_}
@@ -14,7 +14,7 @@ use lib.ListN.{length, getD, set, take}
 use lib.Seq.{take-suc}
 use Rattle.history.specs.History.{any, count}
 pub use Rattle.history.proofs.Lists.{one}
-use Rattle.history.proofs.Lists.{by-cases, by-test, cond-suc, any-append, is-true, refuted, eqb-equal, eqb-same}
+use Rattle.history.proofs.Lists.{by-cases, by-test, cond-suc, any-append, is-true, refuted, or-left, or-right, or-cases, eqb-equal, eqb-same}
 use Rattle.terms.specs.Entries.{firstIndex}
 use Rattle.model.specs.Stored.{firstFrom, anyBelow, countBelow}
 use Rattle.model.specs.Represents.{countFrom}
@@ -208,3 +208,18 @@ pub same-part : (n a b i j : ℕ) → i < n → j < n → a * n + i ≡ b * n + 
 same-part n a b i j u w e = by-cases (decLt a b) (λ p. absurd (omega (arith, parts-apart n a b i j u w p))) (λ p. by-cases (decLt b a)
     (λ q. absurd (omega (arith, parts-apart n b a j i w u q)))
     (λ q. let z : a ≡ b = omega arith in (z, omega (arith, ap (λ (k : ℕ). k * n) z))))
+
+-- ---- whether one of the numbers below n passes
+pub below-found : (f : ℕ → Bool) (n : ℕ) → T (anyBelow f n) → (i : ℕ) × (i < n) × T (f i)
+unfolding anyBelow
+below-found f (suc n) t = or-cases (anyBelow f n) (f n) t (λ u. let x = below-found f n u in (x .0, omega (arith, x .1), x .2)) (λ u. (n, omega arith, u))
+
+pub below-at : (f : ℕ → Bool) (n i : ℕ) → i < n → T (f i) → T (anyBelow f n)
+unfolding anyBelow
+below-at f zero i b t = absurd (omega arith)
+below-at f (suc n) i b t = by-cases (ℕ-discrete i n) (λ e. or-right (anyBelow f n) (f n) (rw e at t)) (λ e. or-left (anyBelow f n) (f n) (below-at f n i (omega arith) t))
+
+pub below-same : (f g : ℕ → Bool) (n : ℕ) → ((i : ℕ) → i < n → f i ≡ g i) → anyBelow f n ≡ anyBelow g n
+unfolding anyBelow
+below-same f g zero e = refl
+below-same f g (suc n) e = ap₂ _||_ (below-same f g n (λ i b. e i (omega arith))) (e n (omega arith))

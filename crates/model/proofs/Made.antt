@@ -1,4 +1,4 @@
--- A store just made represents the empty history, and every list of calls on it is answered as the history answers it.
+-- A store just made, in either form, represents the empty history.
 use mathlib.Core.Path.{_≡_, refl, _∙_, ap}
 use mathlib.Core.Logic.{inr}
 use mathlib.Core.Bool.{Bool, true, false, not, _&&_}
@@ -12,29 +12,27 @@ use lib.ListN.{length, getD, replicate, length-replicate}
 use mir.Syntax.{w32}
 use mir.Val.{toZ}
 use Rattle.terms.specs.Measures.{Shape, rangeRows, mostScans, withinLimits, mostTransactions, mostChunks}
-use Rattle.history.specs.History.{Call, History, start, outcomes, count, rowAt, insertedValue, inserted, lastSetting, recordsOf, keeperOf, lastThrough, mergedThrough, scanAt, cellThrough}
-use Rattle.history.specs.Lists.{All, nil, cons}
+use Rattle.terms.specs.declared.Form.{Form}
+use Rattle.history.specs.History.{start, count, rowAt, insertedValue, inserted, lastSetting, recordsOf, keeperOf, lastThrough, mergedThrough, scanAt, cellThrough}
+use Rattle.history.specs.Lists.{nil}
 use Rattle.history.proofs.Lists.{by-cases, both-test, le-test}
-use Rattle.history.proofs.Invariants.{invariants-start}
 use Rattle.loops.specs.Change.{numbered}
 use Rattle.words.specs.Words.{Fit}
 use Rattle.loops.proofs.Change.{changed-length, changed-outside, changed-fit, zeros}
-use Rattle.layout.specs.Regions.{len, newestForm, columnsWord}
-use Rattle.layout.specs.View.{View, blank, renew, put}
+use Rattle.layout.specs.Regions.{len, columnsWord}
+use Rattle.layout.proofs.Moved.{columns-fit}
+use Rattle.layout.specs.View.{blank, renew, put}
 use Rattle.layout.specs.declared.Region.{Region}
 use Rattle.layout.specs.declared.Region.the-variants.{Header, Opens, Current, PageState, PageChunk}
-use Rattle.terms.specs.declared.ScanEntry.{ScanEntry}
 use Rattle.layout.specs.Sizes.{sizesOf}
 use Rattle.terms.specs.Entries.{freeEntry}
 use Rattle.model.specs.Stored.{pageIn, cellIn, currentIn, chunkOf, chunksOf, pagesOf, within, waitingPage, currentPage, countBelow, keeperLimit}
 use Rattle.model.specs.Writing.{madeView}
-use Rattle.model.specs.Calls.{Typed, outcomesIn}
 use Rattle.layout.specs.Codes.{asCurrent}
 use Rattle.model.proofs.Lists.{below-none}
-use Rattle.model.specs.Represents.{Holds, everyRow, CurrentsAre, PoolIs, Represents, Small, WellFormed, Whole}
+use Rattle.model.specs.Represents.{Holds, everyRow, CurrentsAre, PoolIs, Represents, Small, Whole}
 use Rattle.model.proofs.Views.{renew-whole, put-whole, changed-start}
 use Rattle.model.proofs.upkeep.Merged.{chunk-in}
-use Rattle.model.proofs.Calls.{one-call}
 
 -- ---- a stretch from the start
 none-counted : {A : Type 0} (f : A → Bool) (n : ℕ) (x : A) → f x ≡ false → count f (replicate n x) ≡ 0
@@ -53,24 +51,24 @@ pub small-shape : (S : Shape) → T (withinLimits S) → Small S
 unfolding withinLimits
 small-shape S t = let limits = simp (both-test, le-test) at t in search limits
 
-module _ (S : Shape) (small : Small S) where
+module _ (F : Form) (S : Shape) (small : Small S) where
   few-chunks : chunksOf S ≤ mostChunks
   few-chunks = mul-le-mul (small .columns) (small .ranges)
 
   -- ---- the words of the pages
-  state-first : (p : ℕ) → p < chunksOf S → (pageIn (madeView S) p) .state ≡ asCurrent
+  state-first : (p : ℕ) → p < chunksOf S → (pageIn (madeView F S) p) .state ≡ asCurrent
   unfolding madeView blank put renew pageIn
   state-first p b = changed-start (λ i x. asCurrent) (chunksOf S) (replicate (pagesOf S) 0) p (rw length-replicate (omega arith)) b
 
-  state-rest : (p : ℕ) → chunksOf S ≤ p → (pageIn (madeView S) p) .state ≡ 0
+  state-rest : (p : ℕ) → chunksOf S ≤ p → (pageIn (madeView F S) p) .state ≡ 0
   unfolding madeView blank put renew pageIn
   state-rest p b = changed-outside (λ i x. asCurrent) 0 (replicate (pagesOf S) 0) (chunksOf S) p (inr (omega arith)) ∙ zeros (pagesOf S) p
 
-  page-made : (p : ℕ) → p < chunksOf S → pageIn (madeView S) p ≡ record { state = asCurrent; chunk = p; made = 0; replaced = 0; lineage = 0; newest = 0 }
+  page-made : (p : ℕ) → p < chunksOf S → pageIn (madeView F S) p ≡ record { state = asCurrent; chunk = p; made = 0; replaced = 0; lineage = 0; newest = 0 }
   unfolding madeView blank put renew pageIn
   page-made p b = let room : chunksOf S ≤ length {A = ℕ} (replicate (pagesOf S) 0) = rw length-replicate (omega arith) in simp (changed-start, zeros)
 
-  current-made : (g c : ℕ) → g < S .ranges → c < S .columns → currentIn S (madeView S) g c ≡ chunkOf S g c
+  current-made : (g c : ℕ) → g < S .ranges → c < S .columns → currentIn S (madeView F S) g c ≡ chunkOf S g c
   unfolding madeView blank put renew currentIn
   current-made g c a b = changed-start (λ i x. i) (chunksOf S) (replicate (chunksOf S) 0) (chunkOf S g c) (rw length-replicate (le-refl _)) (chunk-in S g c a b)
 
@@ -84,11 +82,11 @@ module _ (S : Shape) (small : Small S) where
         cells = λ r e q. ap (toZ w32) (z (within r));
       }
 
-  cells-made : (p i : ℕ) → cellIn (madeView S) p i ≡ 0
+  cells-made : (p i : ℕ) → cellIn (madeView F S) p i ≡ 0
   unfolding madeView blank put renew cellIn
   cells-made p i = zeros (pagesOf S * rangeRows) (p * rangeRows + i)
 
-  currents-made : CurrentsAre S start (madeView S)
+  currents-made : CurrentsAre S start (madeView F S)
   currents-made g c a b =
       rw (current-made g c a b, page-made (chunkOf S g c) (chunk-in S g c a b))
       record {
@@ -97,44 +95,44 @@ module _ (S : Shape) (small : Small S) where
         chunk = refl;
         made = zero-le;
         lineage = unfold mergedThrough lastThrough start in refl;
-        holds = holds-made g c (cellIn (madeView S) (chunkOf S g c)) (cells-made (chunkOf S g c)) (chunkOf S g c);
+        holds = holds-made g c (cellIn (madeView F S) (chunkOf S g c)) (cells-made (chunkOf S g c)) (chunkOf S g c);
       }
 
-  state-not-waiting : (p : ℕ) → waitingPage ((pageIn (madeView S) p) .state) ≡ false
+  state-not-waiting : (p : ℕ) → waitingPage ((pageIn (madeView F S) p) .state) ≡ false
   state-not-waiting p = by-cases (decLt p (chunksOf S)) (λ b. ap waitingPage (state-first p b)) (λ b. ap waitingPage (state-rest p (omega arith)))
 
-  pool-made : PoolIs S [] (pageIn (madeView S))
+  pool-made : PoolIs S [] (pageIn (madeView F S))
   pool-made =
       record {
         current =
-            below-first (λ p. currentPage ((pageIn (madeView S) p) .state)) (chunksOf S) (pagesOf S) (omega arith)
+            below-first (λ p. currentPage ((pageIn (madeView F S) p) .state)) (chunksOf S) (pagesOf S) (omega arith)
             (λ p b. ap currentPage (state-first p b)) (λ p a b. ap currentPage (state-rest p a));
-        waiting = λ q. below-none (λ p. waitingPage ((pageIn (madeView S) p) .state) && q ((pageIn (madeView S) p) .replaced)) (pagesOf S) (λ p b. ap (λ (w : Bool). w && q ((pageIn (madeView S) p) .replaced)) (state-not-waiting p));
+        waiting = λ q. below-none (λ p. waitingPage ((pageIn (madeView F S) p) .state) && q ((pageIn (madeView F S) p) .replaced)) (pagesOf S) (λ p b. ap (λ (w : Bool). w && q ((pageIn (madeView F S) p) .replaced)) (state-not-waiting p));
       }
 
-  blank-whole : Whole S (blank (sizesOf S))
+  blank-whole : Whole F S (blank (sizesOf F S))
   unfolding blank
-  blank-whole = record { long = λ k. length-replicate (len (sizesOf S) k) 0; fits = λ k i. rw (zeros (len (sizesOf S) k) i) (omega arith) }
+  blank-whole = record { long = λ k. length-replicate (len (sizesOf F S) k) 0; fits = λ k i. rw (zeros (len (sizesOf F S) k) i) (omega arith) }
 
-  blank-long : (k : Region) → length (blank (sizesOf S) k) ≡ len (sizesOf S) k
+  blank-long : (k : Region) → length (blank (sizesOf F S) k) ≡ len (sizesOf F S) k
   blank-long k = blank-whole .long k
 
   number-fit : (l : List ℕ) → Fit l → Fit (numbered 0 (chunksOf S) l)
   number-fit l f = changed-fit (λ i x. i) 0 (chunksOf S) l (λ i x a b. omega (arith, few-chunks)) f
 
-  made-whole : Whole S (madeView S)
+  made-whole : Whole F S (madeView F S)
   unfolding madeView
   made-whole =
-      put-whole Header 0 (columnsWord newestForm (S .columns)) (omega (arith, small .columns))
+      put-whole Header 0 (columnsWord F (S .columns)) (columns-fit F (S .columns) (small .columns))
       (put-whole Header 1 (S .ranges) (omega (arith, small .ranges))
       (put-whole Header 2 (S .capacity) (omega (arith, small .capacity))
       (put-whole Header 3 (S .spares) (omega (arith, small .spares))
-      (renew-whole Current _ (changed-length (λ i x. i) 0 (blank (sizesOf S) Current) (chunksOf S) ∙ blank-long Current) (number-fit (blank (sizesOf S) Current) (blank-whole .fits Current))
-      (renew-whole PageChunk _ (changed-length (λ i x. i) 0 (blank (sizesOf S) PageChunk) (chunksOf S) ∙ blank-long PageChunk) (number-fit (blank (sizesOf S) PageChunk) (blank-whole .fits PageChunk))
-      (renew-whole PageState _ (changed-length (λ i x. asCurrent) 0 (blank (sizesOf S) PageState) (chunksOf S) ∙ blank-long PageState)
-      (changed-fit (λ i x. asCurrent) 0 (chunksOf S) (blank (sizesOf S) PageState) (λ i x a b. omega arith) (blank-whole .fits PageState)) blank-whole))))))
+      (renew-whole Current _ (changed-length (λ i x. i) 0 (blank (sizesOf F S) Current) (chunksOf S) ∙ blank-long Current) (number-fit (blank (sizesOf F S) Current) (blank-whole .fits Current))
+      (renew-whole PageChunk _ (changed-length (λ i x. i) 0 (blank (sizesOf F S) PageChunk) (chunksOf S) ∙ blank-long PageChunk) (number-fit (blank (sizesOf F S) PageChunk) (blank-whole .fits PageChunk))
+      (renew-whole PageState _ (changed-length (λ i x. asCurrent) 0 (blank (sizesOf F S) PageState) (chunksOf S) ∙ blank-long PageState)
+      (changed-fit (λ i x. asCurrent) 0 (chunksOf S) (blank (sizesOf F S) PageState) (λ i x a b. omega arith) (blank-whole .fits PageState)) blank-whole))))))
 
-  pub made-represents : (n : ℕ) → mostScans ≤ n → Represents S (madeView S) (replicate n freeEntry) start
+  pub made-represents : (n : ℕ) → mostScans ≤ n → Represents F S (madeView F S) (replicate n freeEntry) start
   made-represents n enough =
       record {
         header = unfold madeView blank put renew start in record { columns = refl; ranges = refl; capacity = refl; spares = refl; rows-given = refl; transactions-given = refl; scans-given = refl; last-stamp = refl; commits-made = refl; merges-made = refl };
@@ -156,7 +154,7 @@ module _ (S : Shape) (small : Small S) where
         whole = made-whole;
       }
     where
-      no-open : (j : ℕ) → getD (madeView S Opens) j 0 ≡ 0
+      no-open : (j : ℕ) → getD (madeView F S Opens) j 0 ≡ 0
       no-open j = unfold madeView blank put renew in (zeros mostTransactions j)
 
       no-rows : (r : ℕ) → r < length (start .rows) → ⊥
@@ -172,17 +170,3 @@ module _ (S : Shape) (small : Small S) where
       no-scan : (k : ℕ) → T (scanAt start k .running) → ⊥
       no-scan zero t = unfold scanAt start in t
       no-scan (suc k) t = unfold scanAt start in t
-
--- ---- every list of calls
-simulated-from : {S : Shape} {v : View} {ps : List ScanEntry} {h : History} → Represents S v ps h → WellFormed S h → {cs : List Call} → All Typed cs → outcomesIn S v ps cs ≡ outcomes S h cs
-unfolding outcomesIn outcomes
-simulated-from {S} {v} {ps} {h} o k nil = refl
-simulated-from {S} {v} {ps} {h} o k (cons {x = c} {l = cs} y ys) =
-    let one = one-call S v ps h c y o k in
-    rw (one .answered, one .filled, simulated-from (one .shown) (one .well-formed) ys)
-
--- The store, from a making with any scan list of `mostScans` entries or more, answers every list of calls as the plain history does.
-pub simulated : (S : Shape) → T (withinLimits S) → (n : ℕ) → mostScans ≤ n → (cs : List Call) → All Typed cs
-    → outcomesIn S (madeView S) (replicate n freeEntry) cs ≡ outcomes S start cs
-simulated S t n enough cs ys =
-    simulated-from (made-represents S (small-shape S t) n enough) record { small = small-shape S t; invariants = invariants-start S } ys

@@ -10,20 +10,23 @@ use lib.ListN.{length}
 use lib.IntN.{ℤ}
 use lib.Bits.{bitOr}
 use Rattle.terms.specs.Measures.{Shape, rangeRows}
+use Rattle.terms.specs.declared.Form.{Form}
 use Rattle.history.specs.History as H
-use Rattle.history.specs.History.{Call, begin, insert, update, delete, commit, abort, latest, readAt, ownRead, openScan, scanRead, sum, close, merge, release, pageCell, lineage, crossings, beginAs, keeperAt, History, Verdict, accept, refuse, verdict, tests, next, run, rangeOf, scanAt, withScans}
+use Rattle.history.specs.History.{Call, begin, insert, update, delete, commit, abort, latest, readAt, ownRead, openScan, scanRead, sum, close, merge, release, pageCell, lineage, crossings, beginAs, keeperAt, move, History, Verdict, accept, refuse, verdict, tests, next, run, rangeOf, scanAt, withScans}
 use Rattle.history.specs.Lists.{All, nil, cons}
+use Rattle.history.specs.Forms.{Suited}
 use Rattle.history.proofs.Lists.{nth-before}
 use Rattle.history.proofs.Accepted.{Passed, passed}
 use Rattle.history.proofs.Steps.{mergeable, is-active, next-step}
 use Rattle.history.specs.Steps.{Mergeable, scanOpened, scanClosed, Step, nothing, newStates, rowGiven, recordsMade, newScans, newMerges}
 use Rattle.layout.specs.View.{View, renew, put}
+use Rattle.layout.specs.Moved.{laterZero, moved}
 use Rattle.layout.specs.declared.Region.the-variants.{RowMask}
 use Rattle.terms.specs.declared.ScanEntry.{ScanEntry}
 use Rattle.model.specs.Stored.{rowIn, pageIn, cellIn, currentIn, within, openIndex, openKeeper}
 use Rattle.model.specs.Reading.{scanPage, wasCurrent}
 use Rattle.model.specs.Writing.{begun, noted, markAll, settled, freed, committedIn, abortedIn, insertedAt, insertedIn, appended, filledIn, newBitsIn, originalAppended, settingAppended, updatedIn, deletedIn, mergedIn, releasedIn}
-use Rattle.model.specs.Calls.{Typed, actIn, viewIf, viewNext, entriesNext, viewAfter}
+use Rattle.model.specs.Calls.{Typed, actIn, storeAct, viewIf, storeNext, entriesNext, viewAfter}
 use Rattle.model.specs.Represents.{ScanPageOf, Represents, WellFormed}
 use Rattle.model.proofs.changes.Insert.{cell-kept, scan-apart}
 use Rattle.model.proofs.upkeep.Merged.{scan-same, scan-not-free, cells-other}
@@ -40,7 +43,7 @@ pub record SamePage (S : Shape) (v w : View) (m n g c : ℕ) : Type 0 where
 unmoved : (S : Shape) (v : View) (m n g c : ℕ) → SamePage S v v m n g c
 unmoved S v m n g c = record { page = refl; cells = λ r b e. refl }
 
-module _ {S : Shape} {v : View} {ps : List ScanEntry} {h : History} (o : Represents S v ps h) (k : WellFormed S h) (i : ℕ) (run : T (scanAt h i .running)) (g c : ℕ) (bg : g < S .ranges) (bc : c < S .columns) where
+module _ {F : Form} {S : Shape} {v : View} {ps : List ScanEntry} {h : History} (o : Represents F S v ps h) (k : WellFormed S h) (i : ℕ) (run : T (scanAt h i .running)) (g c : ℕ) (bg : g < S .ranges) (bc : c < S .columns) where
   abbrev PageStays : View → Type 0
   PageStays w = SamePage S v w (scanAt h i .merges) (length (h .rows)) g c
 
@@ -80,8 +83,8 @@ module _ {S : Shape} {v : View} {ps : List ScanEntry} {h : History} (o : Represe
         cells = λ r b e. cells-other o k ok q (within r) (scan-not-free o k ok (scanAt h i .merges) g c bg bc (page .made)) (omega arith);
       }
 
-  act-same : (x : Call) → Typed x → Passed (tests S h x) → PageStays (actIn S v ps x)
-  unfolding actIn begun noted deletedIn appended committedIn abortedIn freed markAll settled put renew scanPage wasCurrent currentIn pageIn cellIn
+  act-same : (x : Call) → Typed x → Passed (tests S h x) → PageStays (storeAct S v ps x)
+  unfolding actIn moved laterZero begun noted deletedIn appended committedIn abortedIn freed markAll settled put renew scanPage wasCurrent currentIn pageIn cellIn
   act-same begin y p = record { page = refl; cells = λ r b e. refl }
   act-same (insert t vs) y p = insert-same t vs (unfold tests in (p .0)) (unfold tests in (p .1 .0)) y
   act-same (update t r n vs) y p = update-same t r n vs
@@ -102,12 +105,13 @@ module _ {S : Shape} {v : View} {ps : List ScanEntry} {h : History} (o : Represe
   act-same (crossings r x mark from to stamps) y p = unmoved S v _ _ g c
   act-same (beginAs x) y p = record { page = refl; cells = λ r b e. refl }
   act-same (keeperAt s r x) y p = unmoved S v _ _ g c
+  act-same (move to second) y p = record { page = refl; cells = λ r b e. refl }
 
-  pub next-same : (x : Call) → Typed x → PageStays (viewNext S v ps x)
-  unfolding viewNext
+  pub next-same : (x : Call) → Typed x → PageStays (storeNext S v ps x)
+  unfolding storeNext
   next-same x y = rw (agree-verdict (tests-agree o k x)) (go (verdict (tests S h x)) refl)
     where
-      go : (w : Verdict) → verdict (tests S h x) ≡ w → PageStays (viewIf w v (actIn S v ps x))
+      go : (w : Verdict) → verdict (tests S h x) ≡ w → PageStays (viewIf w v (storeAct S v ps x))
       go accept e = unfold viewIf in (act-same x y (passed (tests S h x) e))
       go (refuse n) e = unfold viewIf in (unmoved S v _ _ g c)
 
@@ -130,18 +134,18 @@ scan-later S h (x ∷ cs) i b t =
     let e = scan-later S (next S h x) cs i (le-trans b (grown s .scans)) t in
     e ∙ scan-before s i b (rw e at t)
 
-pub same-after : {S : Shape} {v : View} {ps : List ScanEntry} {h : History} → Represents S v ps h → WellFormed S h → (i : ℕ) → i ≤ length (h .scans) → {cs : List Call} → All Typed cs → T (scanAt (run S h cs) i .running)
+pub same-after : {F : Form} {S : Shape} {v : View} {ps : List ScanEntry} {h : History} → Represents F S v ps h → WellFormed S h → (i : ℕ) → i ≤ length (h .scans) → {cs : List Call} → All Typed cs → Suited S F h cs → T (scanAt (run S h cs) i .running)
     → (g c : ℕ) → g < S .ranges → c < S .columns → SamePage S v (viewAfter S v ps cs) (scanAt h i .merges) (length (h .rows)) g c
-unfolding run viewAfter
-same-after {S} {v} {ps} {h} o k i b nil t g c bg bc = unmoved S v _ _ g c
-same-after {S} {v} {ps} {h} o k i b (cons {x = x} {l = cs} y ys) t g c bg bc =
+unfolding run viewAfter Suited
+same-after {F} {S} {v} {ps} {h} o k i b nil suited t g c bg bc = unmoved S v _ _ g c
+same-after {F} {S} {v} {ps} {h} o k i b (cons {x = x} {l = cs} y ys) suited t g c bg bc =
     let s = next-step S h x in
-    let one = one-call S v ps h x y o k in
+    let one = one-call F S v ps h x y (suited .0) o k in
     let later : T (scanAt (next S h x) i .running) = rw (scan-later S (next S h x) cs i (le-trans b (grown s .scans)) t) at t in
     let e : scanAt (next S h x) i ≡ scanAt h i = scan-before s i b later in
-    let first : SamePage S v (viewNext S v ps x) (scanAt h i .merges) (length (h .rows)) g c = next-same o k i (rw e at later) g c bg bc x y in
-    let rest : SamePage S (viewNext S v ps x) (viewAfter S (viewNext S v ps x) (entriesNext S v ps x) cs) (scanAt h i .merges) (length ((next S h x) .rows)) g c =
-    rw e at (same-after (one .shown) (one .well-formed) i (le-trans b (grown s .scans)) ys t g c bg bc) in
+    let first : SamePage S v (storeNext S v ps x) (scanAt h i .merges) (length (h .rows)) g c = next-same o k i (rw e at later) g c bg bc x y in
+    let rest : SamePage S (storeNext S v ps x) (viewAfter S (storeNext S v ps x) (entriesNext S v ps x) cs) (scanAt h i .merges) (length ((next S h x) .rows)) g c =
+    rw e at (same-after (one .shown) (one .well-formed) i (le-trans b (grown s .scans)) ys (suited .1) t g c bg bc) in
     record {
       page = rest .page ∙ first .page;
       cells = λ r u f. (rw (first .page) at (rest .cells r (le-trans u (grown s .rows)) f)) ∙ first .cells r u f;

@@ -10,6 +10,7 @@ use native.Mathlib.Decide.{ℕ-discrete, decLt}
 use lib.Dec.{T}
 use lib.ListN.{length}
 use Rattle.terms.specs.Measures.{Shape}
+use Rattle.terms.specs.declared.Form.{Form}
 use Rattle.history.specs.History as H
 use Rattle.history.specs.History.{Call, History, Scan, Snapshot, noScan, nth, change, rowAt, rangeOf, mergedThrough, seenAt, scanAt, stopped}
 use Rattle.history.proofs.Lists.{by-cases, nth-other, nth-changed}
@@ -80,7 +81,7 @@ unfolding stopped
 still-running l k i run t = by-cases (ℕ-discrete i k) (λ e. absurd (rw (e, nth-changed noScan l k (stopped (nth l k noScan)) (running-known l k run)) at t)) (nth-other noScan l k _ i)
 
 -- ---- a step that makes no merge, in a memory whose pages stay
-module _ {S : Shape} {v : View} {ps : List ScanEntry} {h h′ : History} {y : Call} (o : Represents S v ps h) (k : WellFormed S h) (step : Step S h y h′) (same : h′ .merges ≡ h .merges) where
+module _ {F : Form} {S : Shape} {v : View} {ps : List ScanEntry} {h h′ : History} {y : Call} (o : Represents F S v ps h) (k : WellFormed S h) (step : Step S h y h′) (same : h′ .merges ≡ h .merges) where
   pub currents-stay : length (h .rows) ≡ length (h′ .rows) → CurrentsAre S h′ v
   unfolding mergedThrough
   currents-stay e g c a b = current-step (k .invariants .order) step e (ap (H.lastThrough g c 0) same) (o .currents g c a b)

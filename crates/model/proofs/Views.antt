@@ -9,6 +9,7 @@ use native.Mathlib.Decide.{ℕ-discrete}
 use lib.Dec.{eqb}
 use lib.ListN.{length, getD, set, length-set}
 use Rattle.terms.specs.Measures.{Shape}
+use Rattle.terms.specs.declared.Form.{Form}
 use lib.Seq.{getD-set-same, getD-set-other}
 use borrow.Author.Tests.{ne-eqb}
 use Rattle.words.specs.Words.{Fit}
@@ -25,17 +26,17 @@ use Rattle.history.specs.History.{Commit}
 use Rattle.history.proofs.Lists.{by-cases, eqb-same}
 use Rattle.model.specs.Represents.{Whole, HeaderIs}
 
-pub renew-whole : {S : Shape} {v : View} (k : Region) (l : List ℕ) → length l ≡ len (sizesOf S) k → Fit l → Whole S v → Whole S (renew k l v)
-renew-whole {S} {v} k l e f o = record {
-  long = renew-long (sizesOf S) k l v e (o .long);
+pub renew-whole : {F : Form} {S : Shape} {v : View} (k : Region) (l : List ℕ) → length l ≡ len (sizesOf F S) k → Fit l → Whole F S v → Whole F S (renew k l v)
+renew-whole {F} {S} {v} k l e f o = record {
+  long = renew-long (sizesOf F S) k l v e (o .long);
   fits = unfold renew in (λ j. elim (eqb (index k) (index j)) as (λ b. Fit (cond b l (v j))) [ true ↦ f | false ↦ o .fits j ]);
 }
 
-pub put-whole : {S : Shape} {v : View} (k : Region) (i w : ℕ) → w < 2 ^ 32 → Whole S v → Whole S (put k i w v)
+pub put-whole : {F : Form} {S : Shape} {v : View} (k : Region) (i w : ℕ) → w < 2 ^ 32 → Whole F S v → Whole F S (put k i w v)
 unfolding put
 put-whole {v = v} k i w b o = renew-whole k (set (v k) i w) (length-set (v k) i w ∙ o .long k) (set-fit (v k) i w (o .fits k) b) o
 
-pub noted-whole : {S : Shape} {v : View} (t : ℕ) → Whole S v → Whole S (noted t v)
+pub noted-whole : {F : Form} {S : Shape} {v : View} (t : ℕ) → Whole F S v → Whole F S (noted t v)
 unfolding noted
 noted-whole t = put-whole Changes _ _ (omega arith)
 
@@ -48,9 +49,9 @@ changed-start f n l i a b =
 word-put : (ws : List ℕ) (i k n : ℕ) → i < length ws → getD (set ws i n) k 0 ≡ cond (eqb k i) n (getD ws k 0)
 word-put ws i k n b = by-cases (ℕ-discrete k i) (λ e. rw (e, eqb-same i) (getD-set-same ws i n 0 b)) (λ f. rw (ne-eqb k i f) (getD-set-other ws i k n 0 f))
 
-module _ {S : Shape} {r t s : ℕ} {l : Commit} {m : ℕ} where
-  pub header-put : (ws : List ℕ) (i n : ℕ) → i < length ws → 4 ≤ i → HeaderIs S r t s l m (λ k. getD ws k 0)
-      → HeaderIs S (cond (eqb 4 i) n r) (cond (eqb 5 i) n t) (cond (eqb 6 i) n s) record { stamp = cond (eqb 7 i) n (l .stamp); ordinal = cond (eqb 9 i) n (l .ordinal) } (cond (eqb 8 i) n m)
+module _ {F : Form} {S : Shape} {r t s : ℕ} {l : Commit} {m : ℕ} where
+  pub header-put : (ws : List ℕ) (i n : ℕ) → i < length ws → 4 ≤ i → HeaderIs F S r t s l m (λ k. getD ws k 0)
+      → HeaderIs F S (cond (eqb 4 i) n r) (cond (eqb 5 i) n t) (cond (eqb 6 i) n s) record { stamp = cond (eqb 7 i) n (l .stamp); ordinal = cond (eqb 9 i) n (l .ordinal) } (cond (eqb 8 i) n m)
       (λ k. getD (set ws i n) k 0)
   header-put ws i n b d o =
       record {
@@ -66,5 +67,5 @@ module _ {S : Shape} {r t s : ℕ} {l : Commit} {m : ℕ} where
         merges-made = word-put ws i 8 n b ∙ ap (cond (eqb 8 i) n) (o .merges-made);
       }
 
-  pub header-same : {r′ t′ s′ m′ : ℕ} {word : ℕ → ℕ} → r ≡ r′ → t ≡ t′ → s ≡ s′ → m ≡ m′ → HeaderIs S r t s l m word → HeaderIs S r′ t′ s′ l m′ word
+  pub header-same : {r′ t′ s′ m′ : ℕ} {word : ℕ → ℕ} → r ≡ r′ → t ≡ t′ → s ≡ s′ → m ≡ m′ → HeaderIs F S r t s l m word → HeaderIs F S r′ t′ s′ l m′ word
   header-same a b c d o = rw (← a, ← b, ← c, ← d) o

@@ -3,24 +3,27 @@
 -- which every call makes first, is not here: it is the same for all.
 use mathlib.Core.Bool.{Bool, not, _&&_, _||_}
 use mathlib.Core.List.{List, [], _∷_}
-use Prim.Native.Nat.{ℕ, _+_, _*_, _^_, _<_}
+use Prim.Native.Nat.{ℕ, _+_, _*_, _^_, _%_, _<_}
 use lib.Dec.{leb, ltb, eqb}
-use lib.ListN.{length, set}
+use lib.ListN.{length, getD, set}
 use lib.Seq as Seq
 use lib.IntN.{ℤ}
 use mir.Syntax.{w32}
 use mir.Val.{toZ, SFits}
-use Rattle.terms.specs.Measures.{Shape, rangeRows, mostScans, mostNumbers, mostColumns}
+use Rattle.terms.specs.Measures.{Shape, rangeRows, mostTransactions, mostScans, mostNumbers, mostColumns}
+use Rattle.terms.specs.declared.Form.{Form}
 use Rattle.terms.specs.declared.Refusal.{Refusal}
 use Rattle.terms.specs.declared.Answer.{Answer}
-use Rattle.history.specs.History.{Call, begin, insert, update, delete, commit, abort, latest, readAt, ownRead, openScan, scanRead, sum, close, merge, release, pageCell, lineage, crossings, beginAs, keeperAt, unknownKeeper, Test, _when_, verdict, Verdict, accept, refuse, answerIf, Outcome, Slice, none, ofCrossings, sliceOf, lentTo, stampsIf, any, count, noColumn, noRange, badMask, outnumber, rangeOf}
+use Rattle.history.specs.History.{Call, begin, insert, update, delete, commit, abort, latest, readAt, ownRead, openScan, scanRead, sum, close, merge, release, pageCell, lineage, crossings, beginAs, keeperAt, move, unknownKeeper, Test, _when_, verdict, Verdict, accept, refuse, answerIf, Outcome, Slice, none, ofCrossings, sliceOf, lentTo, stampsIf, any, count, noColumn, noRange, badMask, outnumber, rangeOf}
 use Rattle.history.specs.Lists.{All}
+use Rattle.history.specs.Forms.{FormUse, either, newest, moving, formUse}
 use Rattle.layout.specs.View.{View, put, rowsGiven, transactionsGiven, scansGiven, lastStamp, mergesMade, commitsMade, usedIn}
-use Rattle.layout.specs.declared.Region.the-variants.{Header, Opens}
+use Rattle.layout.specs.Moved.{moved}
+use Rattle.layout.specs.declared.Region.the-variants.{Header, Opens, OpenKeeper}
 use Rattle.terms.specs.declared.ScanEntry.{ScanEntry}
 use Rattle.terms.specs.Entries.{freeEntry, firstIndex, bears, isScan}
 use Rattle.layout.specs.Regions.{scansAt}
-use Rattle.model.specs.Stored.{RecordWords, rowIn, recordIn, pageIn, currentIn, cellIn, within, committedState, deleteKind, scanEntry, pagesOf, anyBelow, countBelow, wordLimit, keeperLimit}
+use Rattle.model.specs.Stored.{RecordWords, rowIn, recordIn, pageIn, currentIn, cellIn, within, committedState, deleteKind, rowKeeper, recordKeeper, scanEntry, pagesOf, anyBelow, countBelow, wordLimit, keeperLimit}
 use Rattle.model.specs.Reading.{reader, allUpTo, snapshotOf, readIn, readCurrent, keeperIn, ownChanges, scanPage, sumIn}
 use Rattle.model.specs.Versions.{crossingsIn}
 use Rattle.model.specs.Writing.{begun, committedIn, abortedIn, insertedIn, updatedIn, deletedIn, mergedIn, releasedIn, releasable, recordsWanted, freeIn}
@@ -87,7 +90,21 @@ outOfReachIn S v g c n = leb n ((pageIn v (currentIn S v g c)) .lineage) || ltb 
 unfoldable pub openAmongIn : Shape → View → ℕ → ℕ → Bool
 openAmongIn S v g n = anyBelow (λ i. openIn v ((recordIn v (g * S .capacity + i)) .transaction)) n
 
+-- 22: one of the given rows, of the used tail records or of the open transactions bears a keeper other than 0
+abbrev pub bearsKeeper : ℕ → Bool
+bearsKeeper word = not (eqb (word % keeperLimit) unknownKeeper)
+
+unfoldable pub keeperBorneIn : Shape → View → Bool
+keeperBorneIn S v =
+    anyBelow (λ r. bearsKeeper (rowKeeper v r)) (rowsGiven v)
+    || (anyBelow (λ g. anyBelow (λ i. bearsKeeper (recordKeeper v (g * S .capacity + i))) (usedIn v g)) (S .ranges)
+    || anyBelow (λ j. not (eqb (getD (v Opens) j 0) 0) && bearsKeeper (getD (v OpenKeeper) j 0)) mostTransactions)
+
 -- ---- the tests, in the order of section 4
+unfoldable pub moveTestsIn : Form → Shape → View → List Test
+moveTestsIn Form.First S v = Refusal.Keeper when keeperBorneIn S v ∷ []
+moveTestsIn Form.Newest S v = []
+
 unfoldable pub beginTestsIn : View → List Test
 beginTestsIn v = Refusal.Number when leb mostNumbers (transactionsGiven v) ∷ Refusal.Busy when not (any (λ k. eqb k 0) (v Opens)) ∷ []
 
@@ -146,6 +163,7 @@ testsIn S v ps (crossings r c mark from to stamps) =
     ∷ []
 testsIn S v ps (beginAs k) = beginTestsIn v
 testsIn S v ps (keeperAt s r c) = readAtTestsIn S v s r c
+testsIn S v ps (move to second) = moveTestsIn to S v
 
 -- ---- what an accepted call answers
 unfoldable pub replyIn : Shape → View → List ScanEntry → Call → Answer
@@ -171,6 +189,7 @@ replyIn S v ps (lineage g c) = Answer.Lineage ((pageIn v (currentIn S v g c)) .l
 replyIn S v ps (crossings r c mark from to stamps) = Answer.Listed (length (crossingsIn S v r c mark from to))
 replyIn S v ps (beginAs k) = Answer.Number (transactionsGiven v + 1)
 replyIn S v ps (keeperAt s r c) = keeperIn S v (reader (allUpTo s) 0) r c
+replyIn S v ps (move to second) = Answer.Done
 
 -- ---- and the slice that it was lent
 unfoldable pub stampsIn : Shape → View → Slice → List ℕ
@@ -199,6 +218,16 @@ actIn S v ps (lineage g c) = v
 actIn S v ps (crossings r c mark from to stamps) = v
 actIn S v ps (beginAs k) = begun k v
 actIn S v ps (keeperAt s r c) = v
+actIn S v ps (move to second) = v
+
+-- and the store that the next call is lent: after a move to a form that is the second memory
+abbrev pub intoForm : FormUse → Shape → View → View
+intoForm either S v = v
+intoForm newest S v = v
+intoForm (moving to) S v = moved to S v
+
+abbrev pub storeAct : Shape → View → List ScanEntry → Call → View
+storeAct S v ps c = intoForm (formUse c) S (actIn S v ps c)
 
 -- ---- and the scan list: an opened scan takes the first free entry, a closed one leaves a free entry
 -- the entry of a scan that is opened now at stamp s
@@ -227,6 +256,7 @@ entriesAfter v ps (lineage g c) = ps
 entriesAfter v ps (crossings r c mark from to stamps) = ps
 entriesAfter v ps (beginAs k) = ps
 entriesAfter v ps (keeperAt s r c) = ps
+entriesAfter v ps (move to second) = ps
 
 -- ---- a call, and a list of calls
 unfoldable pub viewIf : Verdict → View → View → View
@@ -243,6 +273,9 @@ say S v ps c = answerIf (verdict (testsIn S v ps c)) (replyIn S v ps c)
 unfoldable pub viewNext : Shape → View → List ScanEntry → Call → View
 viewNext S v ps c = viewIf (verdict (testsIn S v ps c)) v (actIn S v ps c)
 
+unfoldable pub storeNext : Shape → View → List ScanEntry → Call → View
+storeNext S v ps c = viewIf (verdict (testsIn S v ps c)) v (storeAct S v ps c)
+
 unfoldable pub entriesNext : Shape → View → List ScanEntry → Call → List ScanEntry
 entriesNext S v ps c = entriesIf (verdict (testsIn S v ps c)) ps (entriesAfter v ps c)
 
@@ -254,16 +287,12 @@ outcomeIn S v ps c = record { answer = say S v ps c; stamps = stampsNext S v ps 
 
 unfoldable pub outcomesIn : Shape → View → List ScanEntry → List Call → List (Outcome Answer)
 outcomesIn S v ps [] = []
-outcomesIn S v ps (c ∷ cs) = outcomeIn S v ps c ∷ outcomesIn S (viewNext S v ps c) (entriesNext S v ps c) cs
+outcomesIn S v ps (c ∷ cs) = outcomeIn S v ps c ∷ outcomesIn S (storeNext S v ps c) (entriesNext S v ps c) cs
 
--- the memory and the scan list after a list of calls
+-- the store's memory after a list of calls
 unfoldable pub viewAfter : Shape → View → List ScanEntry → List Call → View
 viewAfter S v ps [] = v
-viewAfter S v ps (c ∷ cs) = viewAfter S (viewNext S v ps c) (entriesNext S v ps c) cs
-
-unfoldable pub entriesAfterAll : Shape → View → List ScanEntry → List Call → List ScanEntry
-entriesAfterAll S v ps [] = ps
-entriesAfterAll S v ps (c ∷ cs) = entriesAfterAll S (viewNext S v ps c) (entriesNext S v ps c) cs
+viewAfter S v ps (c ∷ cs) = viewAfter S (storeNext S v ps c) (entriesNext S v ps c) cs
 
 -- ---- the numbers fit the call's types
 abbrev pub Word : ℕ → Type 0
@@ -300,3 +329,5 @@ Typed (lineage g c) = Word g × Word c
 Typed (crossings r c mark from to stamps) = Word r × Word c × SFits w32 mark × Word from × Word to
 Typed (beginAs k) = Keeper k
 Typed (keeperAt s r c) = Word s × Word r × Word c
+-- and so may the second memory
+Typed (move to second) = Unit {0}

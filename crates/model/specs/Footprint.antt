@@ -7,7 +7,7 @@ use Prim.Native.Nat.{ℕ, zero, suc, _+_, _*_}
 use lib.Dec.{T, eqb}
 use lib.ListN.{length, getD}
 use Rattle.terms.specs.Measures.{Shape, rangeRows}
-use Rattle.history.specs.History.{Call, begin, insert, update, delete, commit, abort, latest, readAt, ownRead, openScan, scanRead, sum, close, merge, release, pageCell, lineage, crossings, beginAs, keeperAt, any, rangeOf}
+use Rattle.history.specs.History.{Call, begin, insert, update, delete, commit, abort, latest, readAt, ownRead, openScan, scanRead, sum, close, merge, release, pageCell, lineage, crossings, beginAs, keeperAt, move, any, rangeOf}
 use Rattle.layout.specs.Regions.{firstSlot, rowsAt, transactionsAt, scansAt, stampAt, mergesAt, commitsAt}
 use Rattle.layout.specs.View.{View, rowsGiven}
 use Rattle.layout.specs.declared.Region.{Region}
@@ -123,6 +123,7 @@ footprint S v ps (pageCell c r) = []
 footprint S v ps (lineage g c) = []
 footprint S v ps (crossings r c mark from to stamps) = []
 footprint S v ps (keeperAt s r c) = []
+footprint S v ps (move to second) = []
 
 -- ---- and of the scan list: the indices of the entries that a call may change
 unfoldable pub entriesWritten : List ScanEntry → Call → List ℕ
@@ -146,6 +147,7 @@ entriesWritten ps (lineage g c) = []
 entriesWritten ps (crossings r c mark from to stamps) = []
 entriesWritten ps (beginAs k) = []
 entriesWritten ps (keeperAt s r c) = []
+entriesWritten ps (move to second) = []
 
 -- The list ps′ is the list ps but for entries of these indices.
 abbrev pub EntriesWithin : List ℕ → List ScanEntry → List ScanEntry → Type 0

@@ -1,11 +1,8 @@
--- What answers calls, and when two that answer are alike: the plain history, a store in lent memory, or whatever else has an outcome and a next state for each call.
-use mathlib.Core.Path.{_≡_}
+-- What answers calls: the plain history, a store in lent memory, or whatever else has an outcome and a next state for each call.
 use mathlib.Core.List.{List, [], _∷_}
 use Rattle.terms.specs.Measures.{Shape}
 use Rattle.terms.specs.declared.Answer.{Answer}
 use Rattle.history.specs.History.{Call, History, Outcome, outcome, next}
-use Rattle.history.specs.Lists.{All}
-use Rattle.model.specs.Calls.{Typed}
 
 -- In each state the outcome of a call, and the state after it.
 pub record Machine (State : Type 0) : Type 0 where
@@ -19,7 +16,3 @@ historyOf s = record { outcome = outcome s; next = next s }
 unfoldable pub outcomesFrom : {State : Type 0} → Machine State → State → List Call → List (Outcome Answer)
 outcomesFrom m x [] = []
 outcomesFrom m x (c ∷ cs) = m .outcome x c ∷ outcomesFrom m (m .next x c) cs
-
--- Two machines, each in a state, have the same outcomes for every list of calls whose numbers fit their types.
-abbrev pub Alike : {A B : Type 0} → Machine A → Machine B → A → B → Type 0
-Alike m n x y = (cs : List Call) → All Typed cs → outcomesFrom m x cs ≡ outcomesFrom n y cs

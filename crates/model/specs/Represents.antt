@@ -12,19 +12,21 @@ use lib.IntN.{pos}
 use mir.Syntax.{w32}
 use mir.Val.{toZ}
 use Rattle.terms.specs.Measures.{Shape, mostColumns, mostRanges, mostRecords, mostSpares, mostTransactions, mostScans}
-use Rattle.history.specs.History.{History, Row, Record, Commit, State, unknown, active, aborted, committed, Content, original, setting, ending, Scan, Merge, isActive, stateOf, keeperOf, rowAt, bit, sets, rangeOf, recordsOf, mergedThrough, scanAt, seenAt, cellThrough, count, Call, answer, stampsAfter, next, commitOf}
+use Rattle.terms.specs.declared.Form.{Form}
+use Rattle.history.specs.History.{History, Row, Record, Commit, State, unknown, active, aborted, committed, Content, original, setting, ending, Scan, Merge, isActive, stateOf, keeperOf, bearer, rowAt, bit, sets, rangeOf, recordsOf, mergedThrough, scanAt, seenAt, cellThrough, count, Call, answer, stampsAfter, next, commitOf}
 use Rattle.history.specs.Lists.{All}
+use Rattle.history.specs.Forms.{worksOn, formNext}
 use Rattle.history.specs.Records.{among, wasSet, noRecord, lastOf}
 use Rattle.history.specs.Invariants.{Through, Invariants}
 use Rattle.layout.specs.View.{View, usedIn, Long, Fits}
 use Rattle.layout.specs.declared.Region.the-variants.{Opens, Changes, RowKeeper, TailKeeper, OpenKeeper}
 use Rattle.terms.specs.declared.ScanEntry.{ScanEntry}
 use Rattle.layout.specs.Sizes.{sizesOf}
-use Rattle.layout.specs.Regions.{newestForm, columnsWord, columnsAt, rangesAt, capacityAt, sparesAt, rowsAt, transactionsAt, scansAt, stampAt, mergesAt, commitsAt}
+use Rattle.layout.specs.Regions.{columnsWord, columnsAt, rangesAt, capacityAt, sparesAt, rowsAt, transactionsAt, scansAt, stampAt, mergesAt, commitsAt}
 use Rattle.model.specs.Stored.{RowWords, RecordWords, PageWords, rowIn, recordIn, pageIn, valueIn, currentIn, cellIn, within, chunkOf, chunksOf, pagesOf, headerIn, currentPage, waitingPage, countBelow, keeperLimit}
 use Rattle.layout.specs.Codes.{asOpen, asCommitted, asAborted, asOriginal, asSetting, asDelete, asCurrent}
 use Rattle.model.specs.Reading.{scanPage}
-use Rattle.model.specs.Calls.{Typed, say, stampsNext, viewNext, entriesNext}
+use Rattle.model.specs.Calls.{Typed, say, stampsNext, storeNext, entriesNext}
 
 -- ---- rows and tail records
 -- A number that was not given has no row and no record; its word does not matter.
@@ -162,15 +164,6 @@ abbrev pub NotesAre : List Row → List Record → List ℕ → List ℕ → Typ
 NotesAre rows tail opens notes = (j : ℕ) → j < mostTransactions → getD opens j 0 ≢ 0 → NotedIs rows tail (getD opens j 0) (getD notes j 0)
 
 -- ---- keepers
--- The transaction whose keeper a record bears: its own, but the row's inserter where it holds original values.
-abbrev pub borneBy : Content → (inserter own : ℕ) → ℕ
-borneBy (original cs vs) inserter own = inserter
-borneBy (setting m vs) inserter own = own
-borneBy ending inserter own = own
-
-abbrev pub bearer : (ℕ → Row) → Record → ℕ
-bearer row y = borneBy (y .content) ((row (y .row)) .inserter) (y .transaction)
-
 -- the keepers of the rows, of the records of every range and of the open transactions; `keeper` has that of each transaction
 pub record KeepersAre (S : Shape) (keeper : ℕ → ℕ) (row : ℕ → Row) (given : ℕ) (list : ℕ → List Record) (rowWords tailWords opens openWords : List ℕ) : Type 0 where
   pub of-rows : (r : ℕ) → r < given → getD rowWords r 0 ≡ keeper ((row r) .inserter)
@@ -201,8 +194,8 @@ abbrev pub ScanPagesAre : Shape → History → View → Type 0
 ScanPagesAre S h v = (k : ℕ) → T (scanAt h k .running) → (g c : ℕ) → g < S .ranges → c < S .columns → ScanPageOf S h v (scanAt h k) g c
 
 -- ---- the header
-pub record HeaderIs (S : Shape) (rows transactions scans : ℕ) (last : Commit) (merges : ℕ) (word : ℕ → ℕ) : Type 0 where
-  pub columns : word columnsAt ≡ columnsWord newestForm (S .columns)
+pub record HeaderIs (F : Form) (S : Shape) (rows transactions scans : ℕ) (last : Commit) (merges : ℕ) (word : ℕ → ℕ) : Type 0 where
+  pub columns : word columnsAt ≡ columnsWord F (S .columns)
   pub ranges : word rangesAt ≡ S .ranges
   pub capacity : word capacityAt ≡ S .capacity
   pub spares : word sparesAt ≡ S .spares
@@ -213,16 +206,16 @@ pub record HeaderIs (S : Shape) (rows transactions scans : ℕ) (last : Commit) 
   pub commits-made : word commitsAt ≡ last .ordinal
   pub merges-made : word mergesAt ≡ merges
 
-abbrev pub HeaderFor : Shape → History → View → Type 0
-HeaderFor S h v = HeaderIs S (length (h .rows)) (length (h .transactions)) (length (h .scans)) (h .last) (length (h .merges)) (headerIn v)
+abbrev pub HeaderFor : Form → Shape → History → View → Type 0
+HeaderFor F S h v = HeaderIs F S (length (h .rows)) (length (h .transactions)) (length (h .scans)) (h .last) (length (h .merges)) (headerIn v)
 
--- every region has its length, and every word fits 32 bits
-pub record Whole (S : Shape) (v : View) : Type 0 where
-  pub long : Long (sizesOf S) v
+-- every region has its length in the form F, and every word fits 32 bits
+pub record Whole (F : Form) (S : Shape) (v : View) : Type 0 where
+  pub long : Long (sizesOf F S) v
   pub fits : Fits v
 
-pub record Represents (S : Shape) (v : View) (ps : List ScanEntry) (h : History) : Type 0 where
-  pub header : HeaderFor S h v
+pub record Represents (F : Form) (S : Shape) (v : View) (ps : List ScanEntry) (h : History) : Type 0 where
+  pub header : HeaderFor F S h v
   pub opens : OpensAre (h .transactions) (v Opens)
   pub notes : NotesAre (h .rows) (h .tail) (v Opens) (v Changes)
   pub keepers : KeepersFor S h v
@@ -233,7 +226,7 @@ pub record Represents (S : Shape) (v : View) (ps : List ScanEntry) (h : History)
   pub pool : PoolIs S (h .merges) (pageIn v)
   pub scans : ScansAre (h .scans) ps
   pub scanPages : ScanPagesAre S h v
-  pub whole : Whole S v
+  pub whole : Whole F S v
 
 -- ---- the shape's limits as numbers, and what the history keeps
 pub record Small (S : Shape) : Type 0 where
@@ -249,12 +242,12 @@ pub record WellFormed (S : Shape) (h : History) : Type 0 where
   pub small : Small S
   pub invariants : Invariants S h
 
--- ---- one call on a store that represents a history: it answers as the history does, fills its slice alike, and what it leaves represents the next history
-pub record SameCall (S : Shape) (v : View) (ps : List ScanEntry) (h : History) (c : Call) : Type 0 where
+-- ---- one call that works on the form F, on a store in it that represents a history: it answers as the history does, fills its slice alike, and what it leaves represents the next history
+pub record SameCall (F : Form) (S : Shape) (v : View) (ps : List ScanEntry) (h : History) (c : Call) : Type 0 where
   pub answered : say S v ps c ≡ answer S h c
   pub filled : stampsNext S v ps c ≡ stampsAfter S h c
-  pub shown : Represents S (viewNext S v ps c) (entriesNext S v ps c) (next S h c)
+  pub shown : Represents (formNext S h c F) S (storeNext S v ps c) (entriesNext S v ps c) (next S h c)
   pub well-formed : WellFormed S (next S h c)
 
 abbrev pub StepKept : Type 0
-StepKept = (S : Shape) (v : View) (ps : List ScanEntry) (h : History) (c : Call) → Typed c → Represents S v ps h → WellFormed S h → SameCall S v ps h c
+StepKept = (F : Form) (S : Shape) (v : View) (ps : List ScanEntry) (h : History) (c : Call) → Typed c → T (worksOn c F) → Represents F S v ps h → WellFormed S h → SameCall F S v ps h c

@@ -1,4 +1,4 @@
--- The proved cases (section 13 of docs/SPECIFICATION.md) on a store just made. Of P1 to P16 and P18 the store's definitions give the same outcomes as the table asks of the plain history; 13.17 is of the store alone:
+-- The proved cases (section 13 of docs/SPECIFICATION.md) on a store just made. Of P1 to P16 and P18 to P24 the store's definitions give the same outcomes as the table asks of the plain history; 13.17 is of the store alone:
 -- which words of the memory a merge changes.
 use mathlib.Core.Path.{_≡_, refl}
 use mathlib.Core.Bool.{cond}
@@ -8,6 +8,7 @@ use lib.Dec.{eqb}
 use lib.ListN.{replicate}
 use Rattle.terms.specs.Measures.{Shape, mostScans}
 use Rattle.terms.specs.declared.Answer.{Answer}
+use Rattle.terms.specs.declared.Form.{Form}
 use Rattle.terms.specs.declared.ScanEntry.{ScanEntry}
 use Rattle.layout.specs.declared.Region.{Region}
 use Rattle.layout.specs.declared.Region.the-variants.{Header, Current, PageState, PageChunk, PageMade, PageReplaced, PageLineage, PageNewest, Cells}
@@ -27,7 +28,7 @@ abbrev pub freeList : List ScanEntry
 freeList = replicate mostScans freeEntry
 
 abbrev pub givenByStore : List Case → List (List (Outcome Answer))
-givenByStore = map (λ p. outcomesIn (p .shape) (madeView (p .shape)) freeList (map (λ l. l .call) (p .lines)))
+givenByStore = map (λ p. outcomesIn (p .shape) (madeView Form.Newest (p .shape)) freeList (map (λ l. l .call) (p .lines)))
 
 pub proved-table : givenByStore table ≡ wanted table
 unfolding table execution definitions
@@ -50,7 +51,7 @@ abbrev pub twoSpares : Shape
 twoSpares = record { columns = 2; ranges = 1; capacity = 4; spares = 2 }
 
 abbrev pub beforeMerge : View
-beforeMerge = viewAfter twoSpares (madeView twoSpares) freeList (map (λ l. l .call) oneRow ++ begin ∷ update 2 0 2 (two 0 40) ∷ commit 2 20 ∷ [])
+beforeMerge = viewAfter twoSpares (madeView Form.Newest twoSpares) freeList (map (λ l. l .call) oneRow ++ begin ∷ update 2 0 2 (two 0 40) ∷ commit 2 20 ∷ [])
 
 -- the merges made; the page that chunk 1 names; pages 1, which waits, and 2, which is current; of page 2 the chunk and the merge that made it, of page 1 the merge that replaced it; lineage and newest stamp of page 2, and its cell of the row
 pub proved-words : differing all beforeMerge (viewNext twoSpares beforeMerge freeList (merge 0 1 2))

@@ -9,9 +9,10 @@ use lib.Bits.{bitOr, bitXor}
 use mir.Syntax.{w32}
 use mir.Val.{ofZ}
 use Rattle.terms.specs.Measures.{Shape, rangeRows}
+use Rattle.terms.specs.declared.Form.{Form}
 use Rattle.history.specs.History.{Commit, noCommit, any, bit, rangeOf}
 use Rattle.loops.specs.Change.{changed, filled, numbered, copied, marked}
-use Rattle.layout.specs.Regions.{newestForm, columnsWord, columnsAt, rangesAt, capacityAt, sparesAt, rowsAt, transactionsAt, stampAt, mergesAt, commitsAt, firstSlot, slot}
+use Rattle.layout.specs.Regions.{columnsWord, columnsAt, rangesAt, capacityAt, sparesAt, rowsAt, transactionsAt, stampAt, mergesAt, commitsAt, firstSlot, slot}
 use Rattle.layout.specs.View.{View, blank, renew, put, rowsGiven, transactionsGiven, mergesMade, commitsMade, usedIn}
 use Rattle.layout.specs.declared.Region.{Region}
 use Rattle.layout.specs.declared.Region.the-variants.{Header, Opens, RowTransaction, RowState, RowStamp, RowLink, RowMask, TailTransaction, TailRow, TailKind, TailMask, TailLink, TailState, TailStamp, TailValues, Used, Current, PageState, PageChunk, PageMade, PageReplaced, PageLineage, PageNewest, Cells, Changes, RowOrdinal, TailOrdinal, RowKeeper, TailKeeper, OpenKeeper}
@@ -209,13 +210,13 @@ releasable ps v p =
 unfoldable pub releasedIn : Shape → List ScanEntry → View → View
 releasedIn S ps v = renew PageState (changed (λ p w. cond (releasable ps v p) asFree w) 0 (pagesOf S) (v PageState)) v
 
--- ---- making: every word is 0 but the form and the measures, the current pages and their chunks
-unfoldable pub madeView : Shape → View
-madeView S =
-    put Header columnsAt (columnsWord newestForm (S .columns))
+-- ---- making, in a form: every word is 0 but the form and the measures, the current pages and their chunks
+unfoldable pub madeView : Form → Shape → View
+madeView F S =
+    put Header columnsAt (columnsWord F (S .columns))
     (put Header rangesAt (S .ranges)
     (put Header capacityAt (S .capacity)
     (put Header sparesAt (S .spares)
-    (renew Current (numbered 0 (chunksOf S) (blank (sizesOf S) Current))
-    (renew PageChunk (numbered 0 (chunksOf S) (blank (sizesOf S) PageChunk))
-    (renew PageState (filled 0 (chunksOf S) asCurrent (blank (sizesOf S) PageState)) (blank (sizesOf S))))))))
+    (renew Current (numbered 0 (chunksOf S) (blank (sizesOf F S) Current))
+    (renew PageChunk (numbered 0 (chunksOf S) (blank (sizesOf F S) PageChunk))
+    (renew PageState (filled 0 (chunksOf S) asCurrent (blank (sizesOf F S) PageState)) (blank (sizesOf F S))))))))

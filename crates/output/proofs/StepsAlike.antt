@@ -1,22 +1,43 @@
--- Two machines that are alike write the same lines for every input.
+-- Two machines that have the same outcomes for every list of calls that commands can make write the same lines for every input.
 use Prim.Native.Nat.{ℕ, zero, suc}
 use mathlib.Core.Path.{_≡_, refl, ap, _∙_}
 use mathlib.Core.Bool.{true, false, cond}
 use mathlib.Core.List.{List, [], _∷_, _++_}
 use native.Mathlib.Omega.{arith}
-use lib.Dec.{leb}
+use lib.Dec.{T, leb}
 use lib.ListN.{length, take}
 use Rattle.terms.specs.declared.Refusal.{Refusal}
 use Rattle.terms.specs.declared.Answer.{Answer}
 use Rattle.words.specs.Words.{Bytes}
-use Rattle.history.specs.History.{Outcome, alone}
+use Rattle.history.specs.History.{Call, Outcome, alone}
+use Rattle.history.specs.Forms.{formUse}
+use Rattle.history.specs.Lists.{All}
 use Rattle.commands.specs.declared.Chosen.{Chosen}
 use Rattle.commands.specs.Commands.{chosen, width, callFrom, behind}
+use Rattle.commands.proofs.Uses.{stays, command-stays}
 use Rattle.output.specs.Output.{goesOn}
-use Rattle.model.specs.Machine.{Machine, Alike}
+use Rattle.model.specs.Calls.{Typed}
+use Rattle.model.specs.Machine.{Machine, outcomesFrom}
 use Rattle.output.specs.Steps.{operandsOf, outcomeTo, lineOf, stateAfter, steps}
-use Rattle.model.proofs.Alike.{alike-now, alike-next}
 use Rattle.output.proofs.Typed.{typed, bytes-take, bytes-drop}
+
+-- what a command can make: a call whose numbers fit the types of its operands, and that is no move
+abbrev pub Commanded : Call → Type 0
+Commanded c = Typed c × T (stays (formUse c))
+
+-- two machines, each in a state, have the same outcomes for every list of such calls
+abbrev pub Alike : {A B : Type 0} → Machine A → Machine B → A → B → Type 0
+Alike m n x y = (cs : List Call) → All Commanded cs → outcomesFrom m x cs ≡ outcomesFrom n y cs
+
+-- they have the same outcome of a call, and are alike after it
+module _ {A B : Type 0} (m : Machine A) (n : Machine B) (x : A) (y : B) (c : Call) (a : Alike m n x y) (t : Commanded c) where
+  alike-now : m .outcome x c ≡ n .outcome y c
+  unfolding outcomesFrom
+  alike-now = let e = a (c ∷ []) (All.cons t All.nil) in cc
+
+  alike-next : Alike m n (m .next x c) (n .next y c)
+  unfolding outcomesFrom
+  alike-next cs ts = let e = a (c ∷ cs) (All.cons t ts) in cc
 
 module _ {A B : Type 0} (m : Machine A) (n : Machine B) where
   -- one command: its outcome, what it leaves, and the bytes behind it
@@ -28,7 +49,7 @@ module _ {A B : Type 0} (m : Machine A) (n : Machine B) where
   command-alike byte columns x y (Chosen.Known f) bs e b a =
       let os = take (width columns f) bs in
       let c = callFrom columns f os in
-      let t = typed byte columns f os e (bytes-take (width columns f) bs b) in (
+      let t : Commanded c = (typed byte columns f os e (bytes-take (width columns f) bs b), command-stays columns f os) in (
         ap (λ (z : Outcome Answer). cond (leb (width columns f) (length os)) z (alone (Answer.Refused Refusal.Cut))) (alike-now m n x y c a t),
         elim (leb (width columns f) (length os)) as (λ w. Alike m n (cond w (m .next x c) x) (cond w (n .next y c) y)) [ true ↦ alike-next m n x y c a t | false ↦ a ],
         bytes-drop (width columns f) bs b,

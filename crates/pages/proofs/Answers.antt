@@ -1,26 +1,26 @@
 -- The answers of `measure` and of `check`, test by test.
 use Prim.Native.Nat.{ℕ, _*_, _^_, _≤_, _<_}
-use mathlib.Core.Path.{_≡_, refl, ap, sym, _∙_}
-use mathlib.Core.Logic.{_≢_}
+use mathlib.Core.Path.{_≡_, refl, sym, _∙_}
 use mir.Syntax.{w64}
 use mir.Val.{Fits}
 use mathlib.Core.Bool.{Bool, true, false, not, cond, _&&_, and-assoc}
 use mathlib.Core.List.{List}
 use native.Mathlib.Omega.{arith}
-use lib.Dec.{leb, eqb}
+use lib.Dec.{leb}
 use lib.ListN.{length, getD}
-use borrow.Author.Tests.{ne-eqb, leb-true, le-leb, lt-leb, not-true, not-false}
-use Rattle.terms.specs.Measures.{withinLimits, mostScans}
+use borrow.Author.Tests.{leb-true, le-leb, lt-leb, not-true, not-false}
+use Rattle.terms.specs.Measures.{Shape, withinLimits, mostScans}
 use Rattle.terms.specs.declared.ScanEntry.{ScanEntry}
+use Rattle.terms.specs.declared.Form.{Form}
 use Rattle.words.specs.Words.{words}
 use Rattle.loops.proofs.Search.{and-true}
 use Rattle.layout.specs.declared.Sizes.{Sizes}
-use Rattle.layout.specs.Regions.{need, newestForm, formIn, columnsIn, columnsAt, rangesAt, capacityAt, sparesAt}
+use Rattle.layout.specs.Regions.{need, formKnown, formIn, columnsIn, columnsAt, rangesAt, capacityAt, sparesAt}
 use Rattle.layout.specs.Sizes.{shapeOf, sizesOf}
 use Rattle.layout.proofs.Limits.{need-small}
 use Rattle.layout.specs.View.{viewOf, Suffices}
 use Rattle.facts.specs.Facts.{factsHold}
-use Rattle.facts.specs.Usable.{measuresBytes, storedShape, storedSizes, measuresHold, usable}
+use Rattle.facts.specs.Usable.{measuresBytes, storedShape, storedForm, storedSizes, measuresHold, usable}
 use Rattle.pages.specs.declared.check.Checked.the-variants.{Fit, Unfit}
 use Rattle.pages.specs.Checked.{roomy, measured, checked}
 
@@ -30,12 +30,15 @@ unfolding measured roomy
 too-short m h = rw (lt-leb measuresBytes (length m) h)
 
 -- w was read as the word of the columns, and its form tested; the other measures were read, and all tested
-pub other-form : (m : List ℕ) (w : ℕ) → w ≡ getD (words m) columnsAt 0 → measuresBytes ≤ length m → formIn w ≢ newestForm → Unfit ≡ measured m
+pub other-form : (m : List ℕ) (w : ℕ) (known : Bool) → w ≡ getD (words m) columnsAt 0 → known ≡ formKnown w → measuresBytes ≤ length m → not known ≡ true → Unfit ≡ measured m
 unfolding measured roomy measuresHold
-other-form m w e h f = rw (le-leb measuresBytes (length m) h, ← e, ne-eqb (formIn w) newestForm f)
+other-form m w known e k h f = rw (le-leb measuresBytes (length m) h, ← e, ← k, not-true known f)
+
+pub limits-passed : (S : Shape) (ok : Bool) → ok ≡ withinLimits S → not ok ≡ false → withinLimits S ≡ true
+limits-passed S ok within t = sym within ∙ not-false ok t
 
 module _ (m : List ℕ) (w b c d : ℕ) (ew : w ≡ getD (words m) columnsAt 0) (eb : b ≡ getD (words m) rangesAt 0) (ec : c ≡ getD (words m) capacityAt 0) (ed : d ≡ getD (words m) sparesAt 0)
-    (form : formIn w ≡ newestForm) (ok : Bool) (within : ok ≡ withinLimits (shapeOf (columnsIn w) b c d)) where
+    (known : Bool) (said : known ≡ formKnown w) (form : not known ≡ false) (ok : Bool) (within : ok ≡ withinLimits (shapeOf (columnsIn w) b c d)) where
   shape-read : shapeOf (columnsIn w) b c d ≡ storedShape (words m)
   unfolding storedShape
   shape-read = rw (← ew, ← eb, ← ec, ← ed)
@@ -43,28 +46,28 @@ module _ (m : List ℕ) (w b c d : ℕ) (ew : w ≡ getD (words m) columnsAt 0) 
   -- the test of form and measures is that of the measures
   limits-read : measuresHold (words m) ≡ ok
   unfolding measuresHold
-  limits-read = rw (← ew, form, ← shape-read, ← within)
+  limits-read = rw (← ew, ← said, not-false known form, ← shape-read, ← within)
 
   pub out-of-limits : measuresBytes ≤ length m → not ok ≡ true → Unfit ≡ measured m
   unfolding measured roomy
   out-of-limits h t = rw (le-leb measuresBytes (length m) h, limits-read, not-true ok t)
 
   module _ (t : not ok ≡ false) where
-    pub within-limits : withinLimits (shapeOf (columnsIn w) b c d) ≡ true
-    within-limits = sym within ∙ not-false ok t
+    within-limits : withinLimits (shapeOf (columnsIn w) b c d) ≡ true
+    within-limits = limits-passed (shapeOf (columnsIn w) b c d) ok within t
 
-    module _ (s : Sizes) (z : s ≡ sizesOf (shapeOf (columnsIn w) b c d)) where
+    module _ (f : Form) (ef : f ≡ formIn w) (s : Sizes) (z : s ≡ sizesOf f (shapeOf (columnsIn w) b c d)) where
       sizes-read : s ≡ storedSizes (words m)
-      unfolding storedSizes
-      sizes-read = z ∙ ap sizesOf shape-read
+      unfolding storedSizes storedForm
+      sizes-read = z ∙ rw (ef, ew, ← shape-read, ew)
 
       -- the words needed, and their bytes, are few
       pub words-few : need s < 2 ^ 62
-      words-few = rw z (omega (arith, need-small (shapeOf (columnsIn w) b c d) within-limits))
+      words-few = rw z (omega (arith, need-small f (shapeOf (columnsIn w) b c d) within-limits))
 
       module _ (n : ℕ) (e : n ≡ need s) where
         pub bytes-few : Fits w64 (n * 4)
-        bytes-few = record { fits = rw (e, z) (omega (arith, need-small (shapeOf (columnsIn w) b c d) within-limits)) }
+        bytes-few = record { fits = rw (e, z) (omega (arith, need-small f (shapeOf (columnsIn w) b c d) within-limits)) }
 
         pub no-room : measuresBytes ≤ length m → length m < n * 4 → Unfit ≡ measured m
         unfolding measured roomy
@@ -108,7 +111,7 @@ measured-tells m s e =
     let f = is-fit m s e in
     let a = and-true (leb measuresBytes (length m)) _ (f .0) in
     let b = and-true (measuresHold (words m)) _ (a .1) in
-    record { sizes-are = f .1; within = and-true (eqb (formIn (getD (words m) columnsAt 0)) newestForm) _ (b .0) .1; room = rw (f .1) (leb-true (need (storedSizes (words m)) * 4) (length m) (b .1)) }
+    record { sizes-are = f .1; within = and-true (formKnown (getD (words m) columnsAt 0)) _ (b .0) .1; room = rw (f .1) (leb-true (need (storedSizes (words m)) * 4) (length m) (b .1)) }
 
 module _ (m : List ℕ) (ps : List ScanEntry) where
   pub unmeasured : measured m ≡ Unfit → Unfit ≡ checked m ps

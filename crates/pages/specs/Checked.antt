@@ -12,7 +12,7 @@ use Rattle.facts.specs.Tests.{Passed}
 use Rattle.pages.specs.declared.check.Checked.{Checked}
 use Rattle.pages.specs.declared.check.Checked.the-variants.{Fit, Unfit}
 
--- the tests that come before there is a view: the measures are there, in the form that calls work on and within their limits, and so are the bytes that they need
+-- the tests that come before there is a view: the measures are there, in a form that calls work on and within their limits, and so are the bytes that they need
 unfoldable pub roomy : List ℕ → Bool
 roomy m = leb measuresBytes (length m) && (measuresHold (words m) && leb (need (storedSizes (words m)) * 4) (length m))
 

@@ -4,13 +4,14 @@ use super::pages_hold;
 use facts::counts_within;
 use facts::opens_hold;
 use facts::scans_hold;
-use layout::FORM;
 use layout::FORM_UNIT;
 use layout::HEADER_CAPACITY;
 use layout::HEADER_COLUMNS;
 use layout::HEADER_RANGES;
 use layout::HEADER_SPARES;
 use layout::Sizes;
+use layout::form_in;
+use layout::form_known;
 use layout::sizes_of;
 use layout::within_limits;
 use layout::words_needed;
@@ -59,7 +60,7 @@ fn facts_hold(mem: &[u8], s: Sizes, t: Scans) -> bool
     }
 }
 
-// The sizes of the store that a memory holds, if it is in the form that calls work on, its measures are there and within their limits and it has the bytes that they need.
+// The sizes of the store that a memory holds, if it is in a form that calls work on, its measures are there and within their limits and it has the bytes that they need.
 fn measure(mem: &[u8]) -> Checked
     ensures { λ r. ⌜ r ≡ measured (now (mem .entry)) ⌝ }
 {
@@ -67,9 +68,10 @@ fn measure(mem: &[u8]) -> Checked
         return Checked::Unfit;
     }
     let word = get(mem, HEADER_COLUMNS);
-    if word / FORM_UNIT + 1 != FORM {
+    if !form_known(word) {
         return Checked::Unfit;
     }
+    let form = form_in(word);
     let columns = word % FORM_UNIT;
     let ranges = get(mem, HEADER_RANGES);
     let capacity = get(mem, HEADER_CAPACITY);
@@ -77,7 +79,7 @@ fn measure(mem: &[u8]) -> Checked
     if !within_limits(columns, ranges, capacity, spares) {
         return Checked::Unfit;
     }
-    let s = sizes_of(columns, ranges, capacity, spares);
+    let s = sizes_of(form, columns, ranges, capacity, spares);
     if mem.len() < words_needed(s) * 4 {
         return Checked::Unfit;
     }

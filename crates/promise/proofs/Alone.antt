@@ -6,9 +6,8 @@ use mathlib.Core.List.{List, []}
 use Rattle.terms.specs.declared.Answer.{Answer}
 use Rattle.terms.specs.declared.ScanEntry.{ScanEntry}
 use Rattle.history.specs.History.{Call, Verdict, accept, refuse, none, sliceOf, alone, stampsIf}
-use Rattle.facts.specs.Usable.{usable}
 use Rattle.model.specs.Calls.{stampsIn, stampsNext}
-use Rattle.promise.specs.Promise.{Lent, lend, stampsLeft, Serves, Gives}
+use Rattle.promise.specs.Promise.{Lent, lend, admits, stampsLeft, Serves, Gives}
 
 by-none : (w : Verdict) → stampsIf w [] [] ≡ []
 unfolding stampsIf
@@ -21,7 +20,7 @@ either-way false l = refl
 
 pub none-left : (x : Lent) (c : Call) → sliceOf c ≡ none → stampsLeft x c ≡ []
 unfolding stampsLeft stampsNext stampsIn
-none-left x c e = rw (e, by-none) (either-way (usable (x .memory) (x .list)) [])
+none-left x c e = rw (e, by-none) (either-way (admits x c) [])
 
 pub serves-gives : (m : List ℕ) (ps : List ScanEntry) (c : Call) (r : Answer) (m′ : List ℕ) (ps′ : List ScanEntry) → sliceOf c ≡ none
     → Serves m ps c r m′ ps′ → Gives m ps c (alone r) m′ ps′

@@ -24,8 +24,8 @@ use Rattle.layout.proofs.View.{view-long}
 use Rattle.layout.proofs.Lay.{lay-view}
 use Rattle.layout.proofs.Parts.{among-append, nothing-changed, lay-length, lay-past, within-bytes}
 use Rattle.history.specs.History.{Call, merge, accept, refuse, verdict}
-use Rattle.history.proofs.Lists.{by-test, is-true, or-cases, both-test, le-test}
-use Rattle.facts.specs.Usable.{storedShape, storedSizes, usable}
+use Rattle.history.proofs.Lists.{by-test, or-cases, both-test, le-test}
+use Rattle.facts.specs.Usable.{storedShape, storedSizes}
 use Rattle.facts.proofs.Usable.{usable-tells}
 use Rattle.making.specs.Made.{made}
 use Rattle.model.specs.Calls.{testsIn, actIn, entriesAfter, viewIf, entriesIf, viewNext, entriesNext}
@@ -34,7 +34,8 @@ use Rattle.model.specs.Stored.{currentIn, chunkOf}
 use Rattle.model.specs.Writing.{freeIn, madeView}
 use Rattle.model.proofs.Footprint.{act-within, entries-within}
 use Rattle.model.proofs.Made.{small-shape, made-represents}
-use Rattle.promise.specs.Promise.{storeView, lend, memoryAfter, listAfter}
+use Rattle.promise.proofs.Refused.{admitted-usable}
+use Rattle.promise.specs.Promise.{storeView, lend, admits, memoryAfter, listAfter}
 use Rattle.promise.specs.Footprint.{BytesWithin, WithinFootprint, ChangesOnly, MergeWithin, MergeChangesOnly, MakingWithin, MakingChangesOnly}
 
 -- a call, accepted or not
@@ -49,8 +50,8 @@ next-within S v ps c =
 pub changes-only : ChangesOnly
 unfolding ChangesOnly WithinFootprint memoryAfter listAfter storeView
 changes-only m ps c b =
-    by-test (λ u. BytesWithin s (footprint S v ps c) m (cond u (lay s (viewNext S v ps c) m) m) × EntriesWithin (entriesWritten ps c) ps (cond u (entriesNext S v ps c) ps)) (usable m ps)
-    (λ t. good (usable-tells m ps (is-true (usable m ps) t) .room)) (λ t. ((refl, λ i. inl refl), (refl, λ i. inl refl)))
+    by-test (λ u. BytesWithin s (footprint S v ps c) m (cond u (lay s (viewNext S v ps c) m) m) × EntriesWithin (entriesWritten ps c) ps (cond u (entriesNext S v ps c) ps)) (admits (lend m ps) c)
+    (λ t. good (usable-tells m ps (admitted-usable (lend m ps) c t) .room)) (λ t. ((refl, λ i. inl refl), (refl, λ i. inl refl)))
   where
     S : Shape
     S = storedShape (words m)
@@ -110,17 +111,17 @@ merge-changes-only m ps g c n b =
 -- ---- a making
 pub making-changes-only : MakingChangesOnly
 unfolding MakingChangesOnly MakingWithin made bytesNeeded
-making-changes-only S m ps =
-    by-test (λ u. MakingWithin S m (cond {A = Answer × List ℕ} u (cond enough (Answer.Done, lay (sizesOf S) (madeView S) m) (Answer.Refused Refusal.Memory, m)) (Answer.Refused Refusal.Shape, m) .1)) (withinLimits S)
-    (λ w. by-test (λ u. MakingWithin S m (cond {A = Answer × List ℕ} u (Answer.Done, lay (sizesOf S) (madeView S) m) (Answer.Refused Refusal.Memory, m) .1)) enough (λ t. laid w (simp (both-test, le-test) at t)) (λ _. same)) (λ _. same)
+making-changes-only F S m ps =
+    by-test (λ u. MakingWithin F S m (cond {A = Answer × List ℕ} u (cond enough (Answer.Done, lay (sizesOf F S) (madeView F S) m) (Answer.Refused Refusal.Memory, m)) (Answer.Refused Refusal.Shape, m) .1)) (withinLimits S)
+    (λ w. by-test (λ u. MakingWithin F S m (cond {A = Answer × List ℕ} u (Answer.Done, lay (sizesOf F S) (madeView F S) m) (Answer.Refused Refusal.Memory, m) .1)) enough (λ t. laid w (simp (both-test, le-test) at t)) (λ _. same)) (λ _. same)
   where
     enough : Bool
-    enough = leb (bytesNeeded S) (length m) && leb mostScans (length ps)
+    enough = leb (bytesNeeded F S) (length m) && leb mostScans (length ps)
 
-    same : MakingWithin S m m
+    same : MakingWithin F S m m
     same = (refl, λ i b. refl)
 
-    laid : T (withinLimits S) → (bytesNeeded S ≤ length m) × (mostScans ≤ length ps) → MakingWithin S m (lay (sizesOf S) (madeView S) m)
+    laid : T (withinLimits S) → (bytesNeeded F S ≤ length m) × (mostScans ≤ length ps) → MakingWithin F S m (lay (sizesOf F S) (madeView F S) m)
     laid w f =
-        let whole = made-represents S (small-shape S w) (length ps) (f .1) .whole in
-        (lay-length (sizesOf S) (madeView S) (whole .long) m (f .0), λ i b. lay-past (sizesOf S) (madeView S) (whole .long) m i b)
+        let whole = made-represents F S (small-shape S w) (length ps) (f .1) .whole in
+        (lay-length (sizesOf F S) (madeView F S) (whole .long) m (f .0), λ i b. lay-past (sizesOf F S) (madeView F S) (whole .long) m i b)

@@ -8,3 +8,4 @@ pub mod Stated
 pub mod Makes
 pub mod Alone
 pub mod Footprint
+pub mod Moves

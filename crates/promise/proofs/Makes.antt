@@ -6,6 +6,7 @@ use mathlib.Core.List.{List}
 use lib.ListN.{length}
 use Rattle.terms.specs.Measures.{Shape}
 use Rattle.terms.specs.declared.Answer.{Answer}
+use Rattle.terms.specs.declared.Form.{Form}
 use Rattle.terms.specs.declared.ScanEntry.{ScanEntry}
 use Rattle.terms.specs.Refusals.{isAccepted}
 use Rattle.scans.specs.Entries.{freedIf}
@@ -13,10 +14,10 @@ use Rattle.making.specs.Made.{made}
 use Rattle.promise.specs.Promise.{Makes}
 
 pub made-makes : (m : List ℕ) (ps : List ScanEntry) (S : Shape) (n : ℕ) (r : Answer) (m′ : List ℕ) (b : Bool) (ps′ : List ScanEntry)
-    → (r, m′) ≡ made S n m → n ≡ length ps → b ≡ isAccepted r → ps′ ≡ freedIf b ps → Makes m ps S r m′ ps′
+    → (r, m′) ≡ made Form.Newest S n m → n ≡ length ps → b ≡ isAccepted r → ps′ ≡ freedIf b ps → Makes m ps S r m′ ps′
 unfolding Makes
 made-makes m ps S n r m′ b ps′ e l a q =
-    let whole : (r, m′) ≡ made S (length ps) m = rw l at e in
+    let whole : (r, m′) ≡ made Form.Newest S (length ps) m = rw l at e in
     let answer = ap (λ (z : Answer × List ℕ). z .0) whole in (
       answer,
       ap (λ (z : Answer × List ℕ). z .1) whole,

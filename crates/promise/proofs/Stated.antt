@@ -8,7 +8,7 @@ use Prim.Native.Nat.{ℕ, zero, suc, _+_, _*_, _-_, _/_, _^_, _≤_, _<_}
 use native.Mathlib.Omega.{arith}
 use native.Mathlib.Nat.{div-eq-sub-div}
 use native.Mathlib.Decide.{ℕ-discrete}
-use lib.Dec.{T, T-not, not-T, leb, ltb, eqb, eqb→eq, leb→le, ltb→lt, nltb→le}
+use lib.Dec.{T, T-not, not-T, leb, ltb, eqb, eqb→eq, leb→le, ltb→lt, nleb→lt, nltb→le}
 use lib.ListN.{length, getD}
 use lib.Pow.{pow-pos, shr-shr}
 use Rattle.terms.specs.Measures.{Shape, mostTransactions}
@@ -17,30 +17,32 @@ use Rattle.terms.specs.Refusals.{isRefused}
 use Rattle.terms.specs.declared.Answer.{Answer}
 use Rattle.terms.specs.declared.ScanEntry.{ScanEntry}
 use Rattle.terms.specs.declared.Refusal.{Refusal}
+use Rattle.terms.specs.declared.Form.{Form}
+use Rattle.history.specs.Forms.{FormUse, either, newest, moving, formUse, worksOn}
 use Rattle.words.specs.Words.{words}
 use Rattle.words.proofs.Words.{length-words}
-use Rattle.layout.specs.Sizes.{sizesOf, Proper}
-use Rattle.layout.specs.View.{View, lastStamp, usedIn, viewOf}
+use Rattle.layout.specs.Sizes.{sizesOf, bytesNeeded, Proper}
+use Rattle.layout.specs.View.{View, rowsGiven, lastStamp, usedIn, viewOf}
 use Rattle.layout.proofs.View.{view-long}
 use Rattle.layout.proofs.Limits.{proper}
-use Rattle.layout.specs.declared.Region.the-variants.{Opens}
-use Rattle.history.specs.History.{Call, begin, insert, update, delete, commit, abort, latest, readAt, ownRead, openScan, scanRead, sum, close, merge, release, pageCell, lineage, crossings, beginAs, keeperAt, Test, _when_, any, count, Verdict, accept, refuse, verdict, answerIf, bit, rangeOf, badMask, noColumn, noRange, outnumber}
+use Rattle.layout.specs.declared.Region.the-variants.{Opens, OpenKeeper}
+use Rattle.history.specs.History.{Call, begin, insert, update, delete, commit, abort, latest, readAt, ownRead, openScan, scanRead, sum, close, merge, release, pageCell, lineage, crossings, beginAs, keeperAt, move, Test, _when_, any, count, Verdict, accept, refuse, verdict, answerIf, bit, rangeOf, badMask, noColumn, noRange, outnumber}
 use Rattle.history.proofs.Lists.{by-cases, by-test, clash, is-true, is-false, refuted, both, parts, or-left, or-right, or-cases, eqb-equal, any-at, both-test, not-test, le-test, eq-test}
 use Rattle.history.proofs.Masks.{bit-low}
-use Rattle.facts.specs.Usable.{storedShape, storedSizes, usable}
+use Rattle.facts.specs.Usable.{storedShape, storedForm, storedSizes, usable}
 use Rattle.facts.proofs.Usable.{Usable, usable-tells}
-use Rattle.model.specs.Stored.{RecordWords, rowIn, recordIn, pageIn, pagesOf, anyBelow, committedState, deleteKind}
+use Rattle.model.specs.Stored.{RecordWords, rowIn, recordIn, pageIn, pagesOf, anyBelow, committedState, deleteKind, rowKeeper, recordKeeper}
 use Rattle.layout.specs.Regions.{slot}
 use Rattle.model.specs.Preconditions.{ChunksCurrent}
 use Rattle.model.specs.Writing.{newBitsIn, recordsWanted, freeIn}
-use Rattle.model.specs.Calls.{beginTestsIn, readAtTestsIn, openIn, openOther, standsFor, anyRecord, notOpenIn, noScanIn, notGivenIn, heldIn, goneIn, lacksIn, earlierIn, laterIn, noSpanIn, outOfReachIn, openAmongIn, testsIn, replyIn, say}
-use Rattle.model.proofs.Lists.{first-below, first-passes, any-count, count-rest}
+use Rattle.model.specs.Calls.{beginTestsIn, readAtTestsIn, openIn, openOther, standsFor, anyRecord, notOpenIn, noScanIn, notGivenIn, heldIn, goneIn, lacksIn, earlierIn, laterIn, noSpanIn, outOfReachIn, openAmongIn, bearsKeeper, keeperBorneIn, moveTestsIn, testsIn, replyIn, say}
+use Rattle.model.proofs.Lists.{first-below, first-passes, any-count, count-rest, below-found, below-at}
 use Rattle.model.proofs.lookups.Heads.{slot-is}
 use Rattle.model.proofs.changes.Insert.{bit-none}
 use Rattle.model.proofs.changes.Masks.{bit-new, no-bits, below-bits, below-power}
 use Rattle.model.proofs.upkeep.Free.{free-none}
-use Rattle.promise.specs.Promise.{storeView, answerOf}
-use Rattle.promise.specs.Stated.{Open, ScanOpen, Committed, Aborted, RecordUpTo, RecordOf, Touched, WrongMask, Held, Gone, Lacks, LacksWanted, transactionsOpen, OpenUpTo, NoneFree, Clause, _on_, stated, conditions, First, NoneApplies}
+use Rattle.promise.specs.Promise.{storeView, secondOf, roomFor, admits, answerOf}
+use Rattle.promise.specs.Stated.{Open, ScanOpen, Committed, Aborted, RecordUpTo, RecordOf, Touched, WrongMask, Held, Gone, Lacks, LacksWanted, transactionsOpen, OpenUpTo, NoneFree, Bears, KeeperBorne, Clause, _on_, statedMove, TooShort, stated, conditions, First, NoneApplies}
 use Rattle.promise.specs.Demands.{Refuses}
 use Rattle.promise.proofs.Refused.{refused-by, not-refused}
 
@@ -79,12 +81,13 @@ module _ {P : Type 0} where
   and-test a b e f = (λ t. let z = parts a b t in (e .0 (z .0), f (e .0 (z .0)) .0 (z .1)), λ q. both a b (e .1 (q .0)) (f (q .0) .1 (q .1)))
 
 below-test : (f : ℕ → Bool) (n : ℕ) → T (anyBelow f n) ↔ ((i : ℕ) × (i < n) × T (f i))
-unfolding anyBelow
-below-test f zero = (λ t. absurd t, λ q. absurd (omega (arith, q .1)))
-below-test f (suc n) = (
-  λ t. or-cases (anyBelow f n) (f n) t (λ u. let q = below-test f n .0 u in (q .0, omega (arith, q .1), q .2)) (λ u. (n, omega arith, u)),
-  λ q. by-cases (ℕ-discrete (q .0) n) (λ e. or-right (anyBelow f n) (f n) (rw e at (q .2)))
-      (λ d. or-left (anyBelow f n) (f n) (below-test f n .1 (q .0, omega (arith, q .1), q .2))),
+below-test f n = (below-found f n, λ q. below-at f n (q .0) (q .1) (q .2))
+
+-- one of the numbers below n is as P has it
+some-test : (f : ℕ → Bool) (P : ℕ → Type 0) (n : ℕ) → ((i : ℕ) → i < n → T (f i) ↔ P i) → T (anyBelow f n) ↔ ((i : ℕ) × (i < n) × P i)
+some-test f P n e = (
+  λ t. let q = below-found f n t in (q .0, q .1, e (q .0) (q .1) .0 (q .2)),
+  λ q. below-at f n (q .0) (q .1) (e (q .0) (q .1) .1 (q .2)),
 )
 
 -- a number in a list of entries
@@ -122,19 +125,24 @@ module _ (S : Shape) (v : View) (ps : List ScanEntry) (long : length (v Opens) �
   open-test : (t : ℕ) → T (openIn v t) ↔ Open v t
   open-test t = rw long at (list-test (λ k. k) (v Opens) 0 t)
 
+  -- one of the records 1 to n of a range, by where its words lie
+  slots-test : (g n : ℕ) (f : ℕ → Bool) (P : ℕ → Type 0) → ((k : ℕ) → 1 ≤ k → k ≤ n → T (f (slot S g k)) ↔ P (slot S g k))
+      → T (anyBelow (λ i. f (g * S .capacity + i)) n) ↔ ((k : ℕ) × (1 ≤ k) × (k ≤ n) × P (slot S g k))
+  slots-test g n f P e = (
+    λ t.
+        let q = below-found (λ i. f (g * S .capacity + i)) n t in
+        (suc (q .0), omega arith, omega (arith, q .1), e (suc (q .0)) (omega arith) (omega (arith, q .1)) .0 (rw (slot-is S g (q .0)) (q .2))),
+    λ q. below-test (λ i. f (g * S .capacity + i)) n .1 (back (q .0) (q .1) (q .2) (q .3)),
+  )
+    where
+      back : (k : ℕ) → 1 ≤ k → k ≤ n → P (slot S g k) → (i : ℕ) × (i < n) × T (f (g * S .capacity + i))
+      back zero a b p = absurd (omega arith)
+      back (suc i) a b p = (i, omega arith, rw (slot-is S g i) at (e (suc i) a b .1 p))
+
   records-test : (g n : ℕ) (f : RecordWords → Bool) (P : RecordWords → Type 0)
       → ((k : ℕ) → 1 ≤ k → k ≤ n → T (f (recordIn v (slot S g k))) ↔ P (recordIn v (slot S g k)))
       → T (anyBelow (λ i. f (recordIn v (g * S .capacity + i))) n) ↔ RecordUpTo S v g n P
-  records-test g n f P e = (
-    λ t.
-        let q = below-test (λ i. f (recordIn v (g * S .capacity + i))) n .0 t in
-        (suc (q .0), omega arith, omega (arith, q .1), e (suc (q .0)) (omega arith) (omega (arith, q .1)) .0 (rw (slot-is S g (q .0)) (q .2))),
-    λ q. below-test (λ i. f (recordIn v (g * S .capacity + i))) n .1 (back (q .0) (q .1) (q .2) (q .3)),
-  )
-    where
-      back : (k : ℕ) → 1 ≤ k → k ≤ n → P (recordIn v (slot S g k)) → (i : ℕ) × (i < n) × T (f (recordIn v (g * S .capacity + i)))
-      back zero a b p = absurd (omega arith)
-      back (suc i) a b p = (i, omega arith, rw (slot-is S g i) at (e (suc i) a b .1 p))
+  records-test g n f P e = slots-test g n (λ j. f (recordIn v j)) (λ j. P (recordIn v j)) e
 
   row-test : (r : ℕ) (f : RecordWords → Bool) (P : RecordWords → Type 0)
       → ((k : ℕ) → 1 ≤ k → k ≤ usedIn v (rangeOf r) → (recordIn v (slot S (rangeOf r) k)) .row ≡ r → T (f (recordIn v (slot S (rangeOf r) k))) ↔ P (recordIn v (slot S (rangeOf r) k)))
@@ -231,6 +239,24 @@ module _ (S : Shape) (v : View) (ps : List ScanEntry) (long : length (v Opens) �
   free-test : T (leb (pagesOf S) (freeIn S v)) ↔ NoneFree S v
   free-test = rw (free-none S v pool) (le-test _ _)
 
+  bears-test : (word : ℕ) → T (bearsKeeper word) ↔ Bears word
+  bears-test word = simp (not-test, eq-test) Iff·rfl
+
+  borne-test : T (keeperBorneIn S v) ↔ KeeperBorne S v
+  unfolding keeperBorneIn
+  borne-test =
+      or-test (anyBelow (λ r. bearsKeeper (rowKeeper v r)) (rowsGiven v)) _ (some-test (λ r. bearsKeeper (rowKeeper v r)) (λ r. Bears (rowKeeper v r)) (rowsGiven v) (λ r _. bears-test _))
+      (or-test (anyBelow (λ g. anyBelow (λ i. bearsKeeper (recordKeeper v (g * S .capacity + i))) (usedIn v g)) (S .ranges)) _
+      (some-test (λ g. anyBelow (λ i. bearsKeeper (recordKeeper v (g * S .capacity + i))) (usedIn v g)) (λ g. (k : ℕ) × (1 ≤ k) × (k ≤ usedIn v g) × Bears (recordKeeper v (slot S g k))) (S .ranges)
+      (λ g _. slots-test g (usedIn v g) (λ j. bearsKeeper (recordKeeper v j)) (λ j. Bears (recordKeeper v j)) (λ k _ _. bears-test _)))
+      (some-test (λ j. not (eqb (getD (v Opens) j 0) 0) && bearsKeeper (getD (v OpenKeeper) j 0)) (λ j. (getD (v Opens) j 0 ≢ 0) × Bears (getD (v OpenKeeper) j 0)) mostTransactions
+      (λ j _. and-test (not (eqb (getD (v Opens) j 0) 0)) (bearsKeeper (getD (v OpenKeeper) j 0)) (simp (not-test, eq-test) Iff·rfl) (λ _. bears-test _))))
+
+  move-meets : (to : Form) → Meets (moveTestsIn to S v) (statedMove to S v)
+  unfolding moveTestsIn
+  move-meets Form.First = test borne-test (λ _. done)
+  move-meets Form.Newest = done
+
   closed-test : (t : ℕ) → T (notOpenIn v t) ↔ (¬ Open v t)
   unfolding notOpenIn
   closed-test t = simp (not-test, open-test) Iff·rfl
@@ -271,6 +297,7 @@ module _ (S : Shape) (v : View) (ps : List ScanEntry) (long : length (v Opens) �
       test (le-test _ _) (λ _. test (le-test _ _) (λ _. test (or-test (ltb to from) (ltb (lastStamp v) to) (le-test _ _) (le-test _ _)) (λ _. test (le-test _ _) (λ _. done))))
   meets (beginAs k) = test (le-test _ _) (λ _. test busy-test (λ _. done))
   meets (keeperAt s r c) = test (le-test _ _) (λ _. test (le-test _ _) (λ _. test (le-test _ _) (λ _. done)))
+  meets (move to second) = move-meets to
 
 -- ---- of a usable memory
 is-accept : (w : Verdict) (a : Answer) → isRefused (answerIf w a) ≡ false → w ≡ accept
@@ -278,9 +305,9 @@ unfolding answerIf
 is-accept accept a e = refl
 is-accept (refuse n) a e = absurd (true≢false e)
 
-chunks-current : (S : Shape) (v : View) (ps : List ScanEntry) → Proper (sizesOf S) → Usable (sizesOf S) v ps → ChunksCurrent S v
+chunks-current : (F : Form) (S : Shape) (v : View) (ps : List ScanEntry) → Proper (sizesOf F S) → Usable (sizesOf F S) v ps → ChunksCurrent S v
 unfolding pageIn
-chunks-current S v ps z u = record {
+chunks-current F S v ps z u = record {
   inside = λ i b. omega (arith, u .current-in i (omega (arith, z .chunks-are)), z .pages-are, z .chunks-are);
   state = λ i b. u .current-state i (omega (arith, z .chunks-are));
   chunk = λ i b. u .current-chunk i (omega (arith, z .chunks-are));
@@ -290,13 +317,20 @@ on-usable : (m : List ℕ) (ps : List ScanEntry) (c : Call) → usable m ps ≡ 
 unfolding storedSizes storeView
 on-usable m ps c u =
     let S : Shape = storedShape (words m) in
-    let v : View = viewOf (sizesOf S) m in
+    let F : Form = storedForm (words m) in
+    let v : View = viewOf (sizesOf F S) m in
     let t = usable-tells m ps u in
-    meets S v ps (view-long (sizesOf S) (words m) (omega (arith, length-words m, t .room)) Opens) (chunks-current S v ps (proper S (t .within)) (t .facts)) c
+    meets S v ps (view-long (sizesOf F S) (words m) (omega (arith, length-words m, t .room)) Opens) (chunks-current F S v ps (proper F S (t .within)) (t .facts)) c
+
+-- the three conditions of refusal 2
+room-test : (u : FormUse) (S : Shape) (l : List ℕ) → T (not (roomFor u S l)) ↔ TooShort u S l
+room-test either S l = (λ t. t, λ e. absurd e)
+room-test newest S l = (λ t. t, λ e. absurd e)
+room-test (moving to) S l = (λ t. nleb→lt (bytesNeeded to S) (length l) t, λ b. not-T (leb (bytesNeeded to S) (length l)) (λ t. omega (arith, leb→le (bytesNeeded to S) (length l) t)))
 
 pub refuses : Refuses
-unfolding Refuses conditions answerOf say
-refuses m ps c = go (usable m ps) (on-usable m ps c)
+unfolding Refuses conditions answerOf admits say
+refuses m ps c = go (worksOn c (storedForm (words m))) (roomFor (formUse c) S (secondOf c)) (usable m ps) (room-test (formUse c) S (secondOf c)) (on-usable m ps c)
   where
     S : Shape
     S = storedShape (words m)
@@ -307,17 +341,42 @@ refuses m ps c = go (usable m ps) (on-usable m ps c)
     said : Bool → Answer
     said u = cond u (answerIf (verdict (testsIn S v ps c)) (replyIn S v ps c)) (Answer.Refused Refusal.Memory)
 
-    clauses : Bool → List Clause
-    clauses u = Refusal.Memory on (u ≡ false) ∷ stated S v ps c
+    short : Type 0
+    short = TooShort (formUse c) S (secondOf c)
 
-    go : (u : Bool) → (u ≡ true → Meets (testsIn S v ps c) (stated S v ps c))
-        → ((n : Refusal) → (said u ≡ Answer.Refused n) ↔ First (clauses u) n) × ((isRefused (said u) ≡ false) ↔ NoneApplies (clauses u))
-    go true f =
-        let e = f refl in (
+    clauses : Bool → Bool → List Clause
+    clauses w u = Refusal.Memory on (u ≡ false) ∷ Refusal.Memory on (w ≡ false) ∷ Refusal.Memory on short ∷ stated S v ps c
+
+    Right : Bool → Bool → Bool → Type 0
+    Right w r u = ((n : Refusal) → (said (w && (r && u)) ≡ Answer.Refused n) ↔ First (clauses w u) n) × ((isRefused (said (w && (r && u))) ≡ false) ↔ NoneApplies (clauses w u))
+
+    two : {n : Refusal} → Answer.Refused Refusal.Memory ≡ Answer.Refused n → Refusal.Memory ≡ n
+    two e = cc
+
+    go : (w r u : Bool) → T (not r) ↔ short → (u ≡ true → Meets (testsIn S v ps c) (stated S v ps c)) → Right w r u
+    go true true true s f =
+        let e = f refl in
+        let long : ¬ short = λ x. s .1 x in (
           λ n. (
-            λ q. inr (true≢false, meets-first e n .0 (refused-by S v ps c _ q)),
-            ⊎-elim (λ q. absurd (true≢false (q .0))) (λ q. rw (meets-first e n .1 (q .1)) (unfold answerIf in refl)),
+            λ q. inr (true≢false, inr (true≢false, inr (long, meets-first e n .0 (refused-by S v ps c _ q)))),
+            ⊎-elim (λ q. absurd (true≢false (q .0))) (λ q. ⊎-elim (λ z. absurd (true≢false (z .0))) (λ z. ⊎-elim (λ y. absurd (long (y .0))) (λ y. rw (meets-first e n .1 (y .1)) (unfold answerIf in refl)) (z .1)) (q .1)),
           ),
-          (λ q. (true≢false, meets-none e .0 (is-accept _ _ q)), λ q. rw (meets-none e .1 (q .1)) (unfold answerIf in (not-refused S v ps c))),
+          (λ q. (true≢false, (true≢false, (long, meets-none e .0 (is-accept _ _ q)))), λ q. rw (meets-none e .1 (q .1 .1 .1)) (unfold answerIf in (not-refused S v ps c))),
         )
-    go false f = (λ n. (λ q. inl (refl, cc), ⊎-elim (λ q. ap Answer.Refused (q .1)) (λ q. absurd (q .0 refl))), (λ q. absurd (true≢false q), λ q. absurd (q .0 refl)))
+    go true true false s f = (λ n. (λ q. inl (refl, two q), ⊎-elim (λ q. ap Answer.Refused (q .1)) (λ q. absurd (q .0 refl))), (λ q. absurd (true≢false q), λ q. absurd (q .0 refl)))
+    go true false u s f = (λ n. (λ q. short-first u n (two q), λ q. ap Answer.Refused (short-only u n q)), (λ q. absurd (true≢false q), λ q. absurd (q .1 .1 .0 (s .0 tt))))
+      where
+        short-first : (u : Bool) (n : Refusal) → Refusal.Memory ≡ n → First (clauses true u) n
+        short-first true n e = inr (true≢false, inr (true≢false, inl (s .0 tt, e)))
+        short-first false n e = inl (refl, e)
+
+        short-only : (u : Bool) (n : Refusal) → First (clauses true u) n → Refusal.Memory ≡ n
+        short-only u n = ⊎-elim (λ q. q .1) (λ q. ⊎-elim (λ z. z .1) (λ z. ⊎-elim (λ y. y .1) (λ y. absurd (y .0 (s .0 tt))) (z .1)) (q .1))
+    go false r u s f = (λ n. (λ q. other-first u n (two q), λ q. ap Answer.Refused (other-only u n q)), (λ q. absurd (true≢false q), λ q. absurd (q .1 .0 refl)))
+      where
+        other-first : (u : Bool) (n : Refusal) → Refusal.Memory ≡ n → First (clauses false u) n
+        other-first true n e = inr (true≢false, inl (refl, e))
+        other-first false n e = inl (refl, e)
+
+        other-only : (u : Bool) (n : Refusal) → First (clauses false u) n → Refusal.Memory ≡ n
+        other-only u n = ⊎-elim (λ q. q .1) (λ q. ⊎-elim (λ z. z .1) (λ z. absurd (z .0 refl)) (q .1))

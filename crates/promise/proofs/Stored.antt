@@ -11,6 +11,7 @@ use lib.Dec.{T, eqb, lt→ltb}
 use lib.ListN.{length, getD, List·getD-eq-default}
 use Rattle.layout.specs.Codes.{asWaiting}
 use Rattle.terms.specs.Measures.{Shape, rangeRows, withinLimits}
+use Rattle.terms.specs.declared.Form.{Form}
 use Rattle.terms.specs.declared.ScanEntry.{ScanEntry}
 use Rattle.layout.specs.declared.Region.the-variants.{Opens, TailRow, Used}
 use Rattle.layout.specs.View.{View, rowsGiven, transactionsGiven, lastStamp, mergesMade, commitsMade, usedIn}
@@ -44,7 +45,7 @@ opened-count (p ∷ ps) = cond-ap length (not (eqb (p .number) 0)) (p ∷ opened
 
 -- ---- the facts, part by part
 
-module _ {S : Shape} {v : View} {ps : List ScanEntry} {h : History} (o : Represents S v ps h) (k : WellFormed S h) where
+module _ {F : Form} {S : Shape} {v : View} {ps : List ScanEntry} {h : History} (o : Represents F S v ps h) (k : WellFormed S h) where
   -- used records are those of the history
   used-few : (g i : ℕ) → g < S .ranges → i < usedIn v g → i < length (recordsOf h g)
   used-few g i a b = omega (arith, o .tails g a .used-all)
@@ -70,7 +71,7 @@ module _ {S : Shape} {v : View} {ps : List ScanEntry} {h : History} (o : Represe
   stamp-within : (t : ℕ) → commitOf (stateOf h t) .stamp ≤ lastStamp v
   stamp-within t = omega (arith, commit-last h (k .invariants .order .stamps) t .stamps, o .header .last-stamp)
 
-  stored : Stored (sizesOf S) v
+  stored : Stored (sizesOf F S) v
   stored =
       record {
         rows-to = omega (arith, o .header .rows-given, k .invariants .limits .rows);
@@ -81,7 +82,7 @@ module _ {S : Shape} {v : View} {ps : List ScanEntry} {h : History} (o : Represe
       }
 
   -- a link is the row's last record among the first n
-  linked : (g r n link : ℕ) → g < S .ranges → n ≤ usedIn v g → link ≡ lastOf (recordsOf h g) r n → Linked (sizesOf S) v g n r link
+  linked : (g r n link : ℕ) → g < S .ranges → n ≤ usedIn v g → link ≡ lastOf (recordsOf h g) r n → Linked (sizesOf F S) v g n r link
   linked g r n zero a b e = record { low = omega arith; same = λ f. absurd (f refl) }
   linked g r n (suc i) a b e =
       let t = last-of-row (recordsOf h g) r n i (sym e) in
@@ -124,7 +125,7 @@ module _ {S : Shape} {v : View} {ps : List ScanEntry} {h : History} (o : Represe
       rw (mod-eq-of-lt (w .chunk)) (lineage-used _ _ (t .0) (w .reach _ _ (t .0) (t .1) (sym (t .2))))
 
   -- ---- all together
-  pub represented-usable : Usable (sizesOf S) v ps
+  pub represented-usable : Usable (sizesOf F S) v ps
   unfolding rowIn recordIn pageIn rangeOf
   represented-usable =
       record {
@@ -154,5 +155,5 @@ module _ {S : Shape} {v : View} {ps : List ScanEntry} {h : History} (o : Represe
         waiting-lineages = waiting-lineages;
       }
 
-  pub represented-facts : withinLimits S ≡ true → factsHold (sizesOf S) v ps ≡ true
-  represented-facts w = facts-hold (sizesOf S) v ps (proper S w) (o .whole .long) represented-usable
+  pub represented-facts : withinLimits S ≡ true → factsHold (sizesOf F S) v ps ≡ true
+  represented-facts w = facts-hold (sizesOf F S) v ps (proper F S w) (o .whole .long) represented-usable

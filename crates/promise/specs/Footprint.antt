@@ -6,18 +6,19 @@ use mathlib.Core.List.{List}
 use Prim.Native.Nat.{ℕ, _≤_}
 use lib.ListN.{length, getD}
 use Rattle.terms.specs.Measures.{Shape}
+use Rattle.terms.specs.declared.Form.{Form}
 use Rattle.terms.specs.declared.ScanEntry.{ScanEntry}
 use Rattle.words.specs.Words.{words, Bytes}
 use Rattle.layout.specs.declared.Sizes.{Sizes}
 use Rattle.layout.specs.Sizes.{bytesNeeded}
 use Rattle.layout.specs.Parts.{Part, OneOf}
-use Rattle.history.specs.History.{Call, merge}
+use Rattle.history.specs.History.{Call, merge, move}
 use Rattle.facts.specs.Usable.{storedShape, storedSizes}
 use Rattle.making.specs.Made.{made}
 use Rattle.model.specs.Stored.{currentIn, chunkOf}
 use Rattle.model.specs.Writing.{freeIn}
 use Rattle.model.specs.Footprint.{footprint, pageWritten, standingWritten, lineageWritten, mergesWritten, entriesWritten, EntriesWithin}
-use Rattle.promise.specs.Promise.{storeView, lend, memoryAfter, listAfter}
+use Rattle.promise.specs.Promise.{storeView, lend, memoryAfter, listAfter, secondAfter}
 
 -- The memory m′ is the memory m but for bytes of the parts.
 abbrev pub BytesWithin : Sizes → List Part → List ℕ → List ℕ → Type 0
@@ -50,9 +51,13 @@ MergeWithin m ps g c m′ ps′ =
 unfoldable pub MergeChangesOnly : Type 0
 MergeChangesOnly = (m : List ℕ) (ps : List ScanEntry) (g c n : ℕ) → Bytes m → MergeWithin m ps g c (memoryAfter (lend m ps) (merge g c n)) (listAfter (lend m ps) (merge g c n))
 
--- and a making of shape S no byte past those that the shape needs
-unfoldable pub MakingWithin : Shape → List ℕ → List ℕ → Type 0
-MakingWithin S m m′ = (length m′ ≡ length m) × ((i : ℕ) → bytesNeeded S ≤ i → getD m′ i 0 ≡ getD m i 0)
+-- and a making of shape S in the form F no byte past those that the shape needs in it
+unfoldable pub MakingWithin : Form → Shape → List ℕ → List ℕ → Type 0
+MakingWithin F S m m′ = (length m′ ≡ length m) × ((i : ℕ) → bytesNeeded F S ≤ i → getD m′ i 0 ≡ getD m i 0)
 
 unfoldable pub MakingChangesOnly : Type 0
-MakingChangesOnly = (S : Shape) (m : List ℕ) (ps : List ScanEntry) → MakingWithin S m (made S (length ps) m .1)
+MakingChangesOnly = (F : Form) (S : Shape) (m : List ℕ) (ps : List ScanEntry) → MakingWithin F S m (made F S (length ps) m .1)
+
+-- nor a move to the form F any byte of the second memory past those; of the first one it changes none (`footprint`)
+unfoldable pub MoveChangesOnly : Type 0
+MoveChangesOnly = (F : Form) (m : List ℕ) (ps : List ScanEntry) (second : List ℕ) → MakingWithin F (storedShape (words m)) second (secondAfter (lend m ps) (move F second))

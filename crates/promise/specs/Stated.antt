@@ -6,23 +6,26 @@ use mathlib.Core.Path.{_≡_}
 use mathlib.Core.Logic.{_≢_, _⊎_}
 use mathlib.Core.Bool.{false, not}
 use mathlib.Core.List.{List, [], _∷_}
-use Prim.Native.Nat.{ℕ, _+_, _*_, _≤_, _<_}
+use Prim.Native.Nat.{ℕ, _+_, _*_, _%_, _≤_, _<_}
 use lib.Dec.{T, eqb}
 use lib.ListN.{length, getD}
 use Rattle.terms.specs.Measures.{Shape, rangeRows, mostTransactions, mostScans, mostNumbers}
 use Rattle.terms.specs.Entries.{freeEntry}
 use Rattle.terms.specs.declared.ScanEntry.{ScanEntry}
 use Rattle.terms.specs.declared.Refusal.{Refusal}
+use Rattle.terms.specs.declared.Form.{Form}
 use Rattle.words.specs.Words.{words}
+use Rattle.layout.specs.Sizes.{bytesNeeded}
 use Rattle.layout.specs.View.{View, rowsGiven, transactionsGiven, scansGiven, lastStamp, usedIn}
-use Rattle.layout.specs.declared.Region.the-variants.{Opens}
-use Rattle.history.specs.History.{Call, begin, insert, update, delete, commit, abort, latest, readAt, ownRead, openScan, scanRead, sum, close, merge, release, pageCell, lineage, crossings, beginAs, keeperAt, bit, count, rangeOf}
-use Rattle.facts.specs.Usable.{storedShape, usable}
+use Rattle.layout.specs.declared.Region.the-variants.{Opens, OpenKeeper}
+use Rattle.history.specs.History.{Call, begin, insert, update, delete, commit, abort, latest, readAt, ownRead, openScan, scanRead, sum, close, merge, release, pageCell, lineage, crossings, beginAs, keeperAt, move, bit, count, rangeOf}
+use Rattle.history.specs.Forms.{FormUse, either, newest, moving, formUse, worksOn}
+use Rattle.facts.specs.Usable.{storedShape, storedForm, usable}
 use Rattle.model.specs.Versions.{crossingsIn}
-use Rattle.model.specs.Stored.{RecordWords, rowIn, recordIn, pageIn, currentIn, pagesOf, countBelow, deleteKind, waitingPage}
+use Rattle.model.specs.Stored.{RecordWords, rowIn, recordIn, pageIn, currentIn, pagesOf, countBelow, deleteKind, waitingPage, rowKeeper, recordKeeper, keeperLimit}
 use Rattle.layout.specs.Codes.{asCommitted}
 use Rattle.layout.specs.Regions.{slot}
-use Rattle.promise.specs.Promise.{storeView}
+use Rattle.promise.specs.Promise.{storeView, secondOf}
 
 -- ---- what the memory holds
 -- transaction t is open; number 0 marks a free entry
@@ -97,6 +100,16 @@ OpenUpTo S v g n = RecordUpTo S v g n (λ x. Open v (x .transaction))
 abbrev pub NoneFree : Shape → View → Type 0
 NoneFree S v = S .spares ≤ countBelow (λ p. waitingPage ((pageIn v p) .state)) (pagesOf S)
 
+-- 3.22: a given row, a used tail record or an open transaction bears a keeper other than 0; a keeper is the lower two bytes of its word
+abbrev pub Bears : ℕ → Type 0
+Bears word = word % keeperLimit ≢ 0
+
+abbrev pub KeeperBorne : Shape → View → Type 0
+KeeperBorne S v =
+    ((r : ℕ) × (r < rowsGiven v) × Bears (rowKeeper v r))
+    ⊎ ((g : ℕ) × (g < S .ranges) × ((k : ℕ) × (1 ≤ k) × (k ≤ usedIn v g) × Bears (recordKeeper v (slot S g k))))
+    ⊎ ((j : ℕ) × (j < mostTransactions) × ((getD (v Opens) j 0 ≢ 0) × Bears (getD (v OpenKeeper) j 0)))
+
 -- ---- each call's conditions, in the order of its tests
 pub record Clause : Type 1 where
   pub refusal : Refusal
@@ -113,6 +126,11 @@ statedBegin v = Refusal.Number on (mostNumbers ≤ transactionsGiven v) ∷ Refu
 -- of a read at a stamp, and of its keeper
 abbrev pub statedReadAt : Shape → View → ℕ → ℕ → ℕ → List Clause
 statedReadAt S v s r c = Refusal.Time on (lastStamp v < s) ∷ Refusal.Row on (rowsGiven v ≤ r) ∷ Refusal.Column on (S .columns ≤ c) ∷ []
+
+-- of a move: to the newest form there is none
+abbrev pub statedMove : Form → Shape → View → List Clause
+statedMove Form.First S v = Refusal.Keeper on KeeperBorne S v ∷ []
+statedMove Form.Newest S v = []
 
 unfoldable pub stated : Shape → View → List ScanEntry → Call → List Clause
 stated S v ps begin = statedBegin v
@@ -162,10 +180,20 @@ stated S v ps (crossings r c mark from to stamps) =
     ∷ []
 stated S v ps (beginAs k) = statedBegin v
 stated S v ps (keeperAt s r c) = statedReadAt S v s r c
+stated S v ps (move to second) = statedMove to S v
 
--- 2.5: refusal 2 is the first test of each call
+-- 2.5: refusal 2 is the first test of each call: for memory and list, for a form that the call does not work on, and for a second memory that is too short
+abbrev pub TooShort : FormUse → Shape → List ℕ → Type 0
+TooShort either S second = ⊥
+TooShort newest S second = ⊥
+TooShort (moving to) S second = length second < bytesNeeded to S
+
 unfoldable pub conditions : List ℕ → List ScanEntry → Call → List Clause
-conditions m ps c = Refusal.Memory on (usable m ps ≡ false) ∷ stated (storedShape (words m)) (storeView m) ps c
+conditions m ps c =
+    Refusal.Memory on (usable m ps ≡ false)
+    ∷ Refusal.Memory on (worksOn c (storedForm (words m)) ≡ false)
+    ∷ Refusal.Memory on TooShort (formUse c) (storedShape (words m)) (secondOf c)
+    ∷ stated (storedShape (words m)) (storeView m) ps c
 
 -- the first condition that applies is n's
 abbrev pub First : List Clause → Refusal → Type 0

@@ -14,6 +14,7 @@ use model::Reader;
 use model::Setter;
 use model::Version;
 use regions::read;
+use regions::read_later;
 use rows::has_bit;
 use rows::range_of;
 use rows::sees_record;
@@ -269,9 +270,9 @@ fn keeper_word(mem: &[u8], s: Sizes, who: Reader, row: Row, c: u32) -> u32
     ensures { λ r. ⌜ r ≡ keeperWord (shapeIn s) (viewOf s (now (mem .entry))) who (row .0) c ⌝ }
 {
     let Found::At(at) = find(mem, s, who, row, c) else {
-        return read(mem, s, Region::RowKeeper, row.0 as usize);
+        return read_later(mem, s, Region::RowKeeper, s.later.rows, row.0 as usize);
     };
-    read(mem, s, Region::TailKeeper, at)
+    read_later(mem, s, Region::TailKeeper, s.later.slots, at)
 }
 
 // The keeper of what the reader reads of a row and column.

@@ -38,6 +38,26 @@ pub fn write(mem: &mut [u8], s: Sizes, k: Region, i: usize, v: u32)
     put(mem, base(s, k) + i, v);
 }
 
+// Word i of region k, of n words, or 0 past its end: for the regions that the first form does not have, which are empty there. One path serves both forms.
+pub fn read_later(mem: &[u8], s: Sizes, k: Region, n: usize, i: usize) -> u32
+    requires { ⌜ Suffices s (now mem) ⌝ }
+    requires { ⌜ n ≡ len s k ⌝ }
+    ensures { λ r. ⌜ r ≡ getD (viewOf s (now (mem .entry)) k) i 0 ⌝ }
+{
+    if i < n { read(mem, s, k, i) } else { 0 }
+}
+
+// Word i of region k, of n words, becomes v, and nothing changes past its end.
+pub fn write_later(mem: &mut [u8], s: Sizes, k: Region, n: usize, i: usize, v: u32)
+    requires { ⌜ Suffices s (now mem) ⌝ }
+    requires { ⌜ n ≡ len s k ⌝ }
+    ensures { λ _. ⌜ viewOf s (now (mem .exit)) ≡ put k i v (viewOf s (now (mem .entry))) ⌝ }
+{
+    if i < n {
+        write(mem, s, k, i, v);
+    }
+}
+
 // Whether each of n words of region k, from `at` on, is from low to high.
 pub fn between_in(mem: &[u8], s: Sizes, k: Region, at: usize, n: usize, low: u32, high: u32) -> bool
     requires { ⌜ Suffices s (now mem) ⌝ }

@@ -9,10 +9,12 @@ use Rattle.terms.specs.declared.ScanEntry.{ScanEntry}
 use Rattle.words.specs.Words.{words}
 use Rattle.layout.specs.View.{View}
 use Rattle.facts.specs.Usable.{storedShape, usable}
+use Rattle.history.specs.Forms.{formUse}
 use Rattle.history.specs.History.{Call, Verdict, accept, refuse, verdict, answerIf, none, sliceOf, Outcome}
 use Rattle.model.specs.Calls.{testsIn, replyIn, actIn, viewIf, entriesIf, entriesAfter, say, viewNext, entriesNext}
-use Rattle.promise.specs.Promise.{lend, storeView, answerOf, memoryAfter, listAfter, Serves, Gives}
+use Rattle.promise.specs.Promise.{lend, storeView, secondOf, admits, answerOf, memoryAfter, listAfter, Serves, Gives}
 use Rattle.promise.proofs.Alone.{none-left}
+use Rattle.promise.proofs.Refused.{admitted-usable}
 
 -- They meet the same first refusal, and where there is none they answer and leave the same.
 pub record Equivalent (S : Shape) (v : View) (ps : List ScanEntry) (x y : Call) : Type 0 where
@@ -32,20 +34,29 @@ equivalent-next S v ps x y a = rw (← a .verdicts) (go (verdict (testsIn S v ps
     go accept e = a .accepted e
     go (refuse n) e = (refl, refl, refl)
 
-pub served-equivalent : (m : List ℕ) (ps : List ScanEntry) (x y : Call) (r : Answer) (m′ : List ℕ) (ps′ : List ScanEntry)
+-- They are the same to the forms, and are lent the same second memory: they are admitted alike.
+pub record SameLent (x y : Call) : Type 0 where
+  pub uses : formUse x ≡ formUse y
+  pub seconds : secondOf x ≡ secondOf y
+
+admitted-alike : (m : List ℕ) (ps : List ScanEntry) (x y : Call) → SameLent x y → admits (lend m ps) x ≡ admits (lend m ps) y
+unfolding admits
+admitted-alike m ps x y l = rw (l .uses, l .seconds)
+
+pub served-equivalent : (m : List ℕ) (ps : List ScanEntry) (x y : Call) (r : Answer) (m′ : List ℕ) (ps′ : List ScanEntry) → SameLent x y
     → (usable m ps ≡ true → Equivalent (storedShape (words m)) (storeView m) ps x y) → Serves m ps x r m′ ps′ → Serves m ps y r m′ ps′
 unfolding Serves answerOf memoryAfter listAfter
-served-equivalent m ps x y r m′ ps′ same w = go (usable m ps) refl
+served-equivalent m ps x y r m′ ps′ l same w = go (admits (lend m ps) x) refl
   where
-    go : (f : Bool) → usable m ps ≡ f → Serves m ps y r m′ ps′
+    go : (f : Bool) → admits (lend m ps) x ≡ f → Serves m ps y r m′ ps′
     go true u =
-        let next = equivalent-next (storedShape (words m)) (storeView m) ps x y (same u) in
-        rw (u, ← next .0, ← next .1, ← next .2) (rw u at w)
-    go false u = rw u (rw u at w)
+        let next = equivalent-next (storedShape (words m)) (storeView m) ps x y (same (admitted-usable (lend m ps) x (rw u tt))) in
+        rw (← admitted-alike m ps x y l, u, ← next .0, ← next .1, ← next .2) (rw u at w)
+    go false u = rw (← admitted-alike m ps x y l, u) (rw u at w)
 
 -- and what is given, where neither is lent a slice
-pub given-equivalent : (m : List ℕ) (ps : List ScanEntry) (x y : Call) (o : Outcome Answer) (m′ : List ℕ) (ps′ : List ScanEntry) → sliceOf x ≡ none → sliceOf y ≡ none
+pub given-equivalent : (m : List ℕ) (ps : List ScanEntry) (x y : Call) (o : Outcome Answer) (m′ : List ℕ) (ps′ : List ScanEntry) → sliceOf x ≡ none → sliceOf y ≡ none → SameLent x y
     → (usable m ps ≡ true → Equivalent (storedShape (words m)) (storeView m) ps x y) → Gives m ps x o m′ ps′ → Gives m ps y o m′ ps′
 unfolding Gives
-given-equivalent m ps x y o m′ ps′ p q same w =
-    (served-equivalent m ps x y (o .answer) m′ ps′ same (w .0), w .1 ∙ none-left (lend m ps) x p ∙ sym (none-left (lend m ps) y q))
+given-equivalent m ps x y o m′ ps′ p q l same w =
+    (served-equivalent m ps x y (o .answer) m′ ps′ l same (w .0), w .1 ∙ none-left (lend m ps) x p ∙ sym (none-left (lend m ps) y q))

@@ -15,7 +15,7 @@ use Rattle.words.specs.Words.{words}
 use Rattle.scans.specs.declared.Scans.{Scans}
 use Rattle.layout.specs.View.{View}
 use Rattle.layout.proofs.Limits.{proper}
-use Rattle.facts.specs.Usable.{storedShape, usable}
+use Rattle.facts.specs.Usable.{storedShape, storedForm, usable}
 use Rattle.history.specs.History.{update, Verdict, accept, refuse, verdict, badMask}
 use Rattle.model.specs.Calls.{notOpenIn, notGivenIn, testsIn}
 use Rattle.promise.specs.Promise.{ServesBy, kept}
@@ -50,7 +50,7 @@ module _ (S : Shape) (v : View) (ps : List ScanEntry) (a b : ℕ) (vs : List ℤ
 wide-bad : (m : List ℕ) (ps : List ScanEntry) (c : ℕ) → usable m ps ≡ true → mostMask < c → badMask (storedShape (words m)) c ≡ true
 unfolding badMask
 wide-bad m ps c u h =
-    let l = proper (storedShape (words m)) (usable-tells m ps u .within) in
+    let l = proper (storedForm (words m)) (storedShape (words m)) (usable-tells m ps u .within) in
     let p : 2 ^ (storedShape (words m)) .columns ≤ 2 ^ mostColumns = pow-le-pow-right (omega arith) (l .columns-to) in
     let q : 2 ^ (storedShape (words m)) .columns ≤ c = omega arith in
     rw (ne-eqb c 0 (λ e. omega arith), le-leb _ c q)
@@ -67,5 +67,5 @@ masked m t a b c n vs r m′ z s = go (ltb mostMask c) refl z
   where
     go : (f : Bool) → ltb mostMask c ≡ f → n ≡ cond f 0 c → ServesBy t m (update a b c vs) r m′ kept
     go true e q = λ ps p.
-        served-equivalent _ _ _ _ _ _ _ (λ u. both-bad _ _ ps a b vs 0 c (none-bad _) (wide-bad m ps c u (ltb-true mostMask c e))) (rw q at (s ps p))
+        served-equivalent _ _ _ _ _ _ _ record { uses = refl; seconds = refl } (λ u. both-bad _ _ ps a b vs 0 c (none-bad _) (wide-bad m ps c u (ltb-true mostMask c e))) (rw q at (s ps p))
     go false e q = rw q at s

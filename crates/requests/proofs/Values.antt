@@ -57,9 +57,9 @@ unfolding callOf writeOf testsIn replyIn actIn entriesAfter
 given-values m ps (Kind.Read k) ns vs us o m′ ps′ e w = w
 given-values m ps (Kind.Write Write.Begin) ns vs us o m′ ps′ e w = w
 given-values m ps (Kind.Write Write.Insert) ns vs us o m′ ps′ e w =
-    given-equivalent _ _ _ _ _ _ _ refl refl (λ u. record { verdicts = refl; accepted = λ z. (refl, inserted-agree vs us e _ (first ns) _, refl) }) w
+    given-equivalent _ _ _ _ _ _ _ refl refl record { uses = refl; seconds = refl } (λ u. record { verdicts = refl; accepted = λ z. (refl, inserted-agree vs us e _ (first ns) _, refl) }) w
 given-values m ps (Kind.Write Write.Update) ns vs us o m′ ps′ e w =
-    given-equivalent _ _ _ _ _ _ _ refl refl (λ u. record { verdicts = refl; accepted = λ z. (refl, updated-agree vs us e _ (first ns) (second ns) (third ns) _, refl) }) w
+    given-equivalent _ _ _ _ _ _ _ refl refl record { uses = refl; seconds = refl } (λ u. record { verdicts = refl; accepted = λ z. (refl, updated-agree vs us e _ (first ns) (second ns) (third ns) _, refl) }) w
 given-values m ps (Kind.Write Write.Delete) ns vs us o m′ ps′ e w = w
 given-values m ps (Kind.Write Write.Commit) ns vs us o m′ ps′ e w = w
 given-values m ps (Kind.Write Write.Abort) ns vs us o m′ ps′ e w = w

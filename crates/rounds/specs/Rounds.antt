@@ -6,6 +6,7 @@ use mathlib.Core.List.{List, [], _∷_, _++_}
 use lib.ListN.{length}
 use Rattle.terms.specs.Measures.{mostScans}
 use Rattle.words.specs.Words.{Bytes}
+use Rattle.terms.specs.declared.Form.{Form}
 use Rattle.layout.specs.Sizes.{bytesNeeded}
 use Rattle.output.specs.Output.{output}
 use Rattle.promise.specs.Promise.{Lent}
@@ -32,5 +33,5 @@ pub data Rounds : Flow → Lent → List ℕ → List (List ℕ) → List ℕ �
 -- However the input is cut into pieces, the lines of the rounds one after another are those of the whole input.
 unfoldable pub RoundsWrite : Type 0
 RoundsWrite =
-    (x : Lent) (ps : List (List ℕ)) (lines : List ℕ) → Bytes (together ps) → bytesNeeded largest ≤ length (x .memory) → mostScans ≤ length (x .list)
+    (x : Lent) (ps : List (List ℕ)) (lines : List ℕ) → Bytes (together ps) → bytesNeeded Form.Newest largest ≤ length (x .memory) → mostScans ≤ length (x .list)
     → Rounds opening x [] ps lines → lines ≡ output (together ps)

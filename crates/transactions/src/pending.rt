@@ -4,7 +4,9 @@
 use layout::Region;
 use layout::Sizes;
 use regions::read;
+use regions::read_later;
 use regions::write;
+use regions::write_later;
 use terms::Transaction;
 use words::HIGHEST_WORD;
 ghost use mathlib.Core.Path.{_≡_};
@@ -87,7 +89,7 @@ pub fn pending_at(mem: &[u8], s: Sizes, index: usize) -> Pending
     Pending {
         number: Transaction(read(mem, s, Region::Opens, index)),
         changes: read(mem, s, Region::Changes, index),
-        keeper: read(mem, s, Region::OpenKeeper, index),
+        keeper: read_later(mem, s, Region::OpenKeeper, s.later.opens, index),
     }
 }
 
@@ -99,5 +101,5 @@ pub fn put_pending(mem: &mut [u8], s: Sizes, index: usize, p: Pending)
 {
     write(mem, s, Region::Opens, index, p.number.0);
     write(mem, s, Region::Changes, index, p.changes);
-    write(mem, s, Region::OpenKeeper, index, p.keeper);
+    write_later(mem, s, Region::OpenKeeper, s.later.opens, index, p.keeper);
 }

@@ -11,6 +11,7 @@ use borrow.Author.Tests.{lt-ltb}
 use Rattle.terms.specs.Measures.{Shape, mostScans, mostColumns}
 use Rattle.terms.specs.declared.Answer.{Answer}
 use Rattle.terms.specs.declared.Refusal.{Refusal}
+use Rattle.terms.specs.declared.Form.{Form}
 use Rattle.words.specs.Words.{Bytes}
 use Rattle.loops.proofs.Search.{between-tells}
 use Rattle.layout.specs.Regions.{need}
@@ -20,18 +21,18 @@ use Rattle.history.specs.History.{start}
 use Rattle.commands.specs.Commands.{shapeBytes, shapeFrom}
 use Rattle.commands.proofs.Parts.{whole, shape-part}
 use Rattle.output.specs.Output.{lentColumns, lentRanges, lentRecords, lentSpares, lent, shapeAnswer, goesOn}
-use Rattle.model.specs.Machine.{historyOf, Alike}
+use Rattle.model.specs.Machine.{historyOf}
 use Rattle.output.specs.Steps.{linesFrom, written}
 use Rattle.output.proofs.Steps.{lent-each, lent-within, written-is-output}
 use Rattle.model.proofs.Alike.{history-outcomes}
 use Rattle.output.proofs.Typed.{bytes-drop}
-use Rattle.output.proofs.StepsAlike.{steps-alike}
+use Rattle.output.proofs.StepsAlike.{Alike, steps-alike}
 use Rattle.promise.specs.Demands.{Accepted, memoryMade, storeOutcomes, MakingAccepted, Demand3}
 use Rattle.promise.proofs.Demands.{making-accepted, demand3}
 use Rattle.promise.specs.Promise.{Lent, lentMachine, lend}
 use Rattle.turns.specs.Turns.{makingAnswer, madeStore, firstAnswer, firstStore, columnsFrom, capped}
 use Rattle.turns.specs.Gatebook.{gatebook, largest, GatebookWrites}
-use Rattle.turns.proofs.Store.{store-outcomes}
+use Rattle.turns.proofs.Store.{store-outcomes, commanded-lends}
 
 -- ---- what is lent is enough
 lent-to : (S : Shape) → lent S ≡ true → (S .columns ≤ lentColumns) × (S .ranges ≤ lentRanges) × (S .capacity ≤ lentRecords) × (S .spares ≤ lentSpares)
@@ -40,7 +41,7 @@ lent-to S e =
     (between-tells 1 lentColumns _ (l .0) .1, between-tells 1 lentRanges _ (l .1) .1, between-tells 1 lentRecords _ (l .2) .1, between-tells 0 lentSpares _ (l .3) .1)
 
 -- no shape that memory is lent for needs more bytes than the largest
-pub enough : (S : Shape) → lent S ≡ true → bytesNeeded S ≤ bytesNeeded largest
+pub enough : (S : Shape) → lent S ≡ true → bytesNeeded Form.Newest S ≤ bytesNeeded Form.Newest largest
 unfolding bytesNeeded need
 enough S e =
     let l = lent-to S e in
@@ -49,25 +50,25 @@ enough S e =
     let d : S .columns * S .ranges ≤ lentColumns * lentRanges = mul-le-mul (l .0) (l .1) in
     omega arith
 
-accepted : (x : Lent) (S : Shape) → lent S ≡ true → bytesNeeded largest ≤ length (x .memory) → mostScans ≤ length (x .list) → Accepted S (x .memory) (x .list)
+accepted : (x : Lent) (S : Shape) → lent S ≡ true → bytesNeeded Form.Newest largest ≤ length (x .memory) → mostScans ≤ length (x .list) → Accepted Form.Newest S (x .memory) (x .list)
 unfolding MakingAccepted
 accepted x S e h k =
-    let l : bytesNeeded S ≤ length (x .memory) = omega (arith, enough S e) in
-    making-accepted S (x .memory) (x .list) (rw (lent-within S e) tt) l k
+    let l : bytesNeeded Form.Newest S ≤ length (x .memory) = omega (arith, enough S e) in
+    making-accepted Form.Newest S (x .memory) (x .list) (rw (lent-within S e) tt) l k
 
 -- ---- the store answers as the plain history
-store-alike : (x : Lent) (S : Shape) → Accepted S (x .memory) (x .list)
-    → Alike lentMachine (historyOf S) record { memory = memoryMade S (x .memory) (x .list); list = madeList (x .list) } start
+store-alike : (x : Lent) (S : Shape) → Accepted Form.Newest S (x .memory) (x .list)
+    → Alike lentMachine (historyOf S) record { memory = memoryMade Form.Newest S (x .memory) (x .list); list = madeList (x .list) } start
 unfolding Demand3 storeOutcomes
 store-alike x S a cs t =
-    store-outcomes (lend (memoryMade S (x .memory) (x .list)) (madeList (x .list))) cs ∙ demand3 S (x .memory) (x .list) a cs t ∙ sym (history-outcomes S start cs)
+    store-outcomes (lend (memoryMade Form.Newest S (x .memory) (x .list)) (madeList (x .list))) cs ∙ demand3 Form.Newest S (x .memory) (x .list) a cs (commanded-lends S start t) ∙ sym (history-outcomes S start cs)
 
 -- ---- all lines of an input
 small-columns : (S : Shape) → lent S ≡ true → capped (S .columns) ≡ S .columns
 unfolding capped
 small-columns S e = let l = lent-to S e in rw (lt-ltb (S .columns) mostColumns (omega arith))
 
-made-lines : (x : Lent) (S : Shape) (bs : List ℕ) → Bytes bs → bytesNeeded largest ≤ length (x .memory) → mostScans ≤ length (x .list)
+made-lines : (x : Lent) (S : Shape) (bs : List ℕ) → Bytes bs → bytesNeeded Form.Newest largest ≤ length (x .memory) → mostScans ≤ length (x .list)
     → linesFrom (makingAnswer x S) lentMachine (capped (S .columns)) (madeStore x S) bs ≡ linesFrom (shapeAnswer S) (historyOf S) (S .columns) start bs
 unfolding linesFrom makingAnswer madeStore shapeAnswer goesOn
 made-lines x S bs b h k = go (lent S) refl
@@ -76,7 +77,7 @@ made-lines x S bs b h k = go (lent S) refl
         → linesFrom (makingAnswer x S) lentMachine (capped (S .columns)) (madeStore x S) bs ≡ linesFrom (shapeAnswer S) (historyOf S) (S .columns) start bs
     go true e =
         let a = accepted x S e h k in
-        let made : Lent = record { memory = memoryMade S (x .memory) (x .list); list = madeList (x .list) } in
+        let made : Lent = record { memory = memoryMade Form.Newest S (x .memory) (x .list); list = madeList (x .list) } in
         let same = steps-alike lentMachine (historyOf S) (length bs) (S .columns) made start (drop shapeBytes bs) (bytes-drop shapeBytes bs b) (store-alike x S a) in
         rw (e, a, small-columns S e, same)
     go false e = rw e

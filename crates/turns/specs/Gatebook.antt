@@ -4,6 +4,7 @@ use mathlib.Core.Path.{_≡_}
 use mathlib.Core.List.{List}
 use lib.ListN.{length, take}
 use Rattle.terms.specs.Measures.{Shape, mostScans}
+use Rattle.terms.specs.declared.Form.{Form}
 use Rattle.words.specs.Words.{Bytes}
 use Rattle.layout.specs.Sizes.{shapeOf, bytesNeeded}
 use Rattle.commands.specs.Commands.{shapeBytes}
@@ -22,7 +23,7 @@ gatebook x bs =
 abbrev pub largest : Shape
 largest = shapeOf lentColumns lentRanges lentRecords lentSpares
 
--- the bytes that are lent: that many for the largest shape (proofs/lent_memory), and an entry for each scan that can be open
+-- the bytes that are lent: that many for the largest shape in the newest form (proofs/lent_memory), and an entry for each scan that can be open
 abbrev pub memoryBytes : ℕ
 memoryBytes = 29680
 
@@ -33,4 +34,4 @@ listBytes = entryBytes * mostScans
 -- answers to the commands.
 unfoldable pub GatebookWrites : Type 0
 GatebookWrites =
-    (x : Lent) (bs : List ℕ) → Bytes bs → bytesNeeded largest ≤ length (x .memory) → mostScans ≤ length (x .list) → gatebook x bs ≡ output bs
+    (x : Lent) (bs : List ℕ) → Bytes bs → bytesNeeded Form.Newest largest ≤ length (x .memory) → mostScans ≤ length (x .list) → gatebook x bs ≡ output bs

@@ -9,6 +9,7 @@ use lib.ListN.{length}
 use Rattle.terms.specs.Measures.{Shape, mostColumns}
 use Rattle.terms.specs.declared.Answer.{Answer}
 use Rattle.terms.specs.declared.Refusal.{Refusal}
+use Rattle.terms.specs.declared.Form.{Form}
 use Rattle.words.specs.Words.{words}
 use Rattle.requests.specs.Packed.{entriesOf}
 use Rattle.making.specs.Made.{made}
@@ -29,14 +30,14 @@ abbrev pub storeIn : List ℕ → List ℕ → Lent
 storeIn m l = record { memory = m; list = entriesOf (words l) }
 
 -- ---- the shape's turn, over the bytes bs
--- a store of shape S is made where memory is lent for it
+-- a store of shape S is made, in the newest form, where memory is lent for it
 unfoldable pub makingAnswer : Lent → Shape → Answer
-makingAnswer x S = cond (lent S) (made S (length (x .list)) (x .memory) .0) (Answer.Refused Refusal.Shape)
+makingAnswer x S = cond (lent S) (made Form.Newest S (length (x .list)) (x .memory) .0) (Answer.Refused Refusal.Shape)
 
 unfoldable pub madeStore : Lent → Shape → Lent
 madeStore x S =
     cond (lent S)
-    record { memory = made S (length (x .list)) (x .memory) .1; list = freedIf (isAccepted (made S (length (x .list)) (x .memory) .0)) (x .list) }
+    record { memory = made Form.Newest S (length (x .list)) (x .memory) .1; list = freedIf (isAccepted (made Form.Newest S (length (x .list)) (x .memory) .0)) (x .list) }
     x
 
 unfoldable pub firstAnswer : Lent → List ℕ → Answer

@@ -25,6 +25,7 @@ ghost use mathlib.Core.Path.{_≡_};
 ghost use Prim.Native.Nat.{_≤_};
 ghost use lib.ListN.{length};
 ghost use Rattle.terms.specs.Measures.{mostColumns, mostScans};
+ghost use Rattle.terms.specs.declared.Form.{Form as StoredForm};
 ghost use Rattle.words.specs.Words.{words};
 ghost use Rattle.layout.specs.Sizes.{bytesNeeded};
 ghost use Rattle.requests.specs.Packed.{entriesOf};
@@ -42,7 +43,7 @@ pub const MEMORY_BYTES: usize = 29680;
 pub const LIST_BYTES: usize = ENTRY_BYTES * MOST_SCANS;
 
 pub fn lent_memory() -> [u8; MEMORY_BYTES]
-    ensures { λ r. ⌜ length r ≡ bytesNeeded largest ⌝ }
+    ensures { λ r. ⌜ length r ≡ bytesNeeded StoredForm.Newest largest ⌝ }
 {
     [0; MEMORY_BYTES]
 }

@@ -8,6 +8,7 @@ use lib.Dec.{eqb, leb}
 use lib.ListN.{length, getD, set, take}
 use lib.Seq.{set-out}
 use borrow.Author.Tests.{le-leb, lt-leb}
+use Rattle.terms.specs.declared.Form.{Form}
 use Rattle.terms.specs.Measures.{mostNumbers, mostScans}
 use Rattle.terms.specs.declared.ScanEntry.{ScanEntry}
 use Rattle.terms.specs.declared.Answer.{Answer}
@@ -77,9 +78,9 @@ opened-list t ps v stamp i p q e y = rw (e ∙ free-is t ps q, y)
 pub number-left : (s : Sizes) (m : List ℕ) (d : Tested) (i : ℕ) → d ≡ Tested.Passed i → IfPassed d (scansGiven (viewOf s m) < mostNumbers) → scansGiven (viewOf s m) < mostNumbers
 number-left s m d i x h = if-passed d _ i x h
 
-pub number-in-part : (e : Admission) (s : Sizes) (n : ℕ) (m : List ℕ) (t : Scans) (d : Tested) (i : ℕ) → e ≡ Admission.Fit s n → Admits e m t → d ≡ Tested.Passed i
+pub number-in-part : (on : Form → Bool) (e : Admission) (s : Sizes) (n : ℕ) (m : List ℕ) (t : Scans) (d : Tested) (i : ℕ) → e ≡ Admission.Fit s n → Admits on e m t → d ≡ Tested.Passed i
     → IfPassed d (scansGiven (viewOf s m) < mostNumbers) → scansGiven (viewOf s (take n m)) < mostNumbers
-number-in-part e s n m t d i a b x h = rw (part-seen (admitted e s n m t a b)) (number-left s m d i x h)
+number-in-part on e s n m t d i a b x h = rw (part-seen (admitted on e s n m t a b .0)) (number-left s m d i x h)
 
 -- a closed one leaves its entry free
 pub closed-list : (t : Scans) (ps : List ScanEntry) (v : View) (d : Tested) (k j : ℕ) (p : ScanEntry) → t ≡ tableOf ps → openCount ps ≤ mostScans → d ≡ Tested.Passed j

@@ -8,6 +8,7 @@ use native.Mathlib.Nat.{min-le-left}
 use lib.Dec.{leb, ltb}
 use lib.ListN.{take}
 use borrow.Author.Tests.{ltb-true, ltb-false, le-leb, lt-leb, lt-ltb, le-ltb}
+use Rattle.terms.specs.declared.Form.{Form}
 use Rattle.terms.specs.Measures.{Shape, mostScans}
 use Rattle.terms.specs.declared.ScanEntry.{ScanEntry}
 use Rattle.loops.specs.declared.Found.{Found}
@@ -101,6 +102,6 @@ unfolding tableOf
 table-few t ps e = rw e (min-le-left mostScans (openCount ps))
 
 -- ---- what a merge asks for, by what its tests found
-pub mergeable : (e : Admission) (s : Sizes) (n : ℕ) (m : List ℕ) (t : Scans) (d : Tested) (g c k p : ℕ) → e ≡ Admission.Fit s n → Admits e m t → d ≡ Tested.Passed p
+pub mergeable : (on : Form → Bool) (e : Admission) (s : Sizes) (n : ℕ) (m : List ℕ) (t : Scans) (d : Tested) (g c k p : ℕ) → e ≡ Admission.Fit s n → Admits on e m t → d ≡ Tested.Passed p
     → Finds d (MergeReady s (viewOf s m) g c k) → MergeReady s (viewOf s (take n m)) g c k p
-mergeable e s n m t d g c k p a b x y = rw (part-seen (admitted e s n m t a b)) (found d _ p x y)
+mergeable on e s n m t d g c k p a b x y = rw (part-seen (admitted on e s n m t a b .0)) (found d _ p x y)

@@ -8,7 +8,9 @@ use layout::codes::OPEN;
 use layout::codes::ORIGINAL;
 use layout::codes::SETTING;
 use regions::read;
+use regions::read_later;
 use regions::write;
+use regions::write_later;
 use terms::Row;
 use terms::Tail;
 use terms::Transaction;
@@ -30,7 +32,7 @@ ghost use Rattle.layout.specs.Sizes.{Proper};
 ghost use Rattle.model.specs.Preconditions.{shapeIn, Pooled, OpenAt};
 ghost use Rattle.writing.specs.Steps.{openPut, rowPut, cellsPut, recordPut, cellWords, valueWords, newestFilled, originalPut, recordsPut, Room, Newest};
 
-// The words of what an open transaction has made, at an index of four regions: open, with no commit yet, and a keeper.
+// The words of what an open transaction has made, at an index of four regions: open, with no commit yet, and a keeper where the form has the n words of keepers.
 fn put_open(
     mem: &mut [u8],
     s: Sizes,
@@ -38,17 +40,18 @@ fn put_open(
     stamp: Region,
     ordinal: Region,
     keepers: Region,
+    n: usize,
     i: usize,
     keeper: u32,
 )
     requires { ⌜ Suffices s (now mem) ⌝ }
-    requires { ⌜ (i < len s state) × (i < len s stamp) × (i < len s ordinal) × (i < len s keepers) ⌝ }
+    requires { ⌜ (i < len s state) × (i < len s stamp) × (i < len s ordinal) × (n ≡ len s keepers) ⌝ }
     ensures { λ _. ⌜ viewOf s (now (mem .exit)) ≡ openPut state stamp ordinal keepers i keeper (viewOf s (now (mem .entry))) ⌝ }
 {
     write(mem, s, state, i, OPEN);
     write(mem, s, stamp, i, 0);
     write(mem, s, ordinal, i, 0);
-    write(mem, s, keepers, i, keeper);
+    write_later(mem, s, keepers, n, i, keeper);
 }
 
 // ---- insert
@@ -68,6 +71,7 @@ fn put_row(mem: &mut [u8], s: Sizes, t: Transaction, keeper: u32, row: Row)
         Region::RowStamp,
         Region::RowOrdinal,
         Region::RowKeeper,
+        s.later.rows,
         i,
         keeper,
     );
@@ -147,6 +151,7 @@ fn put_record(
         Region::TailStamp,
         Region::TailOrdinal,
         Region::TailKeeper,
+        s.later.slots,
         slot,
         keeper,
     );
@@ -232,7 +237,7 @@ fn append_original(mem: &mut [u8], s: Sizes, t: Transaction, row: Row, fresh: u3
     ensures { λ _. ⌜ viewOf s (now (mem .exit)) ≡ originalPut (shapeIn s) (t .0) (row .0) fresh (viewOf s (now (mem .entry))) ⌝ }
 {
     let r = row.0 as usize;
-    let keeper = read(mem, s, Region::RowKeeper, r);
+    let keeper = read_later(mem, s, Region::RowKeeper, s.later.rows, r);
     append(mem, s, t, keeper, row, ORIGINAL, fresh);
     fill_cells(mem, s, r / RANGE_ROWS, r % RANGE_ROWS);
 }

@@ -3,9 +3,9 @@
 //!
 //! # Safety
 //!
-//! Of each function: a pointer is not null and goes with a length in bytes (memory), entries (list),
-//! values or stamps, all of which may be read, and written where the pointer is `*mut`; no two of
-//! them overlap. Nothing is asked of their content or of the numbers.
+//! Of each function: a pointer is not null and goes with a length in bytes (memory, a move's second
+//! one too), entries (list), values or stamps, all of which may be read, and written where the pointer
+//! is `*mut`; no two of them overlap. Nothing is asked of their content or of the numbers.
 
 use crate::ScanEntry;
 
@@ -49,6 +49,8 @@ extern "C" {
 lent! {
     mut mut deskrook_make(columns: u32, ranges: u32, capacity: u32, spares: u32);
     const const deskrook_check();
+    const const deskrook_upgrade(second: *mut u8, second_length: usize);
+    const const deskrook_downgrade(second: *mut u8, second_length: usize);
     mut const deskrook_begin();
     mut const deskrook_begin_as(keeper: u16);
     mut const deskrook_insert(transaction: u32, values: *const i32, values_length: usize);

@@ -39,8 +39,16 @@
 //! A transaction has a keeper, a number of 2 bytes that tells who made it: [`Store::begin_as`] takes
 //! any [`Keeper`], and [`Store::begin`] takes [`Keeper::UNKNOWN`], 0. Each row and tail record carries its transaction's
 //! keeper, and original values that of the row's insert; [`Store::keeper_at`] answers the keeper of the
-//! value that [`Store::read_at`] shows. A memory with keepers is in stored form 2. Form 1 is what was made
-//! before there were any: no call works on it, and each answers [`Refusal::Memory`].
+//! value that [`Store::read_at`] shows.
+//!
+//! # Forms
+//!
+//! A memory is in a stored form. [`Form::First`] is what fitted panels hold: it was made before there
+//! were keepers, has none, and needs fewer bytes. [`Form::Newest`], form 2, has them, and making gives
+//! it. [`Store::upgrade`] moves a store from form 1 to the newest, into a second memory, and works on
+//! form 1 alone. [`Store::downgrade`] moves it back, and works on the newest alone, as
+//! [`Store::begin_as`] and [`Store::keeper_at`] do. Every other call works on both, and leaves the form
+//! as it is; [`Store::check`] says which one it is.
 //!
 //! # Refusals
 //!
@@ -67,6 +75,8 @@ mod numbers;
 mod refusal;
 mod store;
 
-pub use numbers::{Keeper, Lineage, Mask, Row, ScanNumber, Stamp, Sum, Tail, Transaction, Version};
+pub use numbers::{
+    Form, Keeper, Lineage, Mask, Row, ScanNumber, Stamp, Sum, Tail, Transaction, Version,
+};
 pub use refusal::Refusal;
-pub use store::{ScanEntry, Shape, Store, SCANS};
+pub use store::{ScanEntry, Shape, Store, Unmoved, SCANS};

@@ -22,6 +22,27 @@ pub struct ScanNumber(pub u32);
 #[derive(Clone, Copy, Debug, PartialEq, Eq, PartialOrd, Ord, Hash)]
 pub struct Stamp(pub u32);
 
+/// The stored form of a memory.
+#[derive(Clone, Copy, Debug, PartialEq, Eq, PartialOrd, Ord, Hash)]
+#[repr(u8)]
+pub enum Form {
+    /// Form 1, which fitted panels hold. It was made before there were keepers and has none.
+    First = 1,
+    /// Form 2, which has the keepers and which making gives.
+    Newest = 2,
+}
+
+impl Form {
+    /// The form's number.
+    ///
+    /// ```
+    /// assert_eq!(deskrook::Form::First.number(), 1);
+    /// ```
+    pub fn number(self) -> u32 {
+        self as u32
+    }
+}
+
 /// Who makes a transaction.
 #[derive(Clone, Copy, Debug, PartialEq, Eq, PartialOrd, Ord, Hash)]
 pub struct Keeper(pub u16);

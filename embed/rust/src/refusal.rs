@@ -9,8 +9,8 @@ use std::fmt;
 pub enum Refusal {
     /// A measure outside its limits.
     Shape = 1,
-    /// Memory shorter than the shape needs, a scan list under 5 entries, or a stored fact fails, of
-    /// which one is that the memory is in stored form 2.
+    /// Memory shorter than the shape needs, a move's second one too, a scan list under 5 entries, or a
+    /// stored fact fails, of which one is that the memory is in a stored form that the call works on.
     Memory = 2,
     /// The transaction's number is not open.
     Transaction = 3,
@@ -47,11 +47,13 @@ pub enum Refusal {
     NoPage = 18,
     /// Fewer places are lent than there are crossings.
     List = 21,
+    /// On moving back to form 1, a row, a tail record or an open transaction has a keeper other than 0.
+    Keeper = 22,
 }
 
 impl Refusal {
     /// All refusals, in the order of their numbers.
-    pub const ALL: [Refusal; 19] = [
+    pub const ALL: [Refusal; 20] = [
         Refusal::Shape,
         Refusal::Memory,
         Refusal::Transaction,
@@ -71,6 +73,7 @@ impl Refusal {
         Refusal::Open,
         Refusal::NoPage,
         Refusal::List,
+        Refusal::Keeper,
     ];
 
     /// The refusal's number.
@@ -89,6 +92,7 @@ impl Refusal {
     /// assert_eq!(Refusal::from_number(18), Some(Refusal::NoPage));
     /// assert_eq!(Refusal::from_number(19), None);
     /// assert_eq!(Refusal::from_number(21), Some(Refusal::List));
+    /// assert_eq!(Refusal::from_number(22), Some(Refusal::Keeper));
     /// ```
     pub fn from_number(number: u32) -> Option<Refusal> {
         Refusal::ALL.into_iter().find(|refusal| refusal.number() == number)
@@ -117,6 +121,7 @@ impl fmt::Display for Refusal {
             Refusal::Open => "a record to be merged belongs to an open transaction",
             Refusal::NoPage => "there is no free page",
             Refusal::List => "there are more crossings than places lent for them",
+            Refusal::Keeper => "form 1 has no place for a keeper other than 0",
         })
     }
 }

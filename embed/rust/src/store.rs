@@ -2,7 +2,7 @@
 
 use crate::c::{self, Reply};
 use crate::{
-    Keeper, Lineage, Mask, Refusal, Row, ScanNumber, Stamp, Sum, Tail, Transaction, Version,
+    Form, Keeper, Lineage, Mask, Refusal, Row, ScanNumber, Stamp, Sum, Tail, Transaction, Version,
 };
 
 /// The fewest entries of a scan list, and how many scans can be open at a time, however many entries
@@ -42,7 +42,8 @@ pub struct Shape {
 }
 
 impl Shape {
-    /// The bytes that a store of this shape needs.
+    /// The bytes that a store of this shape needs in the newest form. Form 1 needs fewer, so that as
+    /// many are enough for either move.
     ///
     /// ```
     /// use deskrook::{Refusal, Shape};
@@ -66,11 +67,27 @@ impl Shape {
 /// A store in lent memory.
 ///
 /// Each call first tests memory and list, and answers [`Refusal::Memory`] where they are not
-/// usable. The errors of a call are listed in the order in which they are tested, after that one.
+/// usable, or where the memory is in a stored form that the call does not work on. The errors of a
+/// call are listed in the order in which they are tested, after that one.
 #[derive(Debug)]
 pub struct Store<'a> {
     memory: &'a mut [u8],
     scans: &'a mut [ScanEntry],
+}
+
+/// A move that was refused: the store is still where it was.
+#[derive(Debug)]
+pub struct Unmoved<'a> {
+    /// The store, in the memory that it was to be moved from.
+    pub store: Store<'a>,
+    /// Why it was not moved.
+    pub refusal: Refusal,
+}
+
+impl From<Unmoved<'_>> for Refusal {
+    fn from(unmoved: Unmoved<'_>) -> Refusal {
+        unmoved.refusal
+    }
 }
 
 /// An accepted reply, or the refusal.
@@ -95,7 +112,8 @@ fn read(reply: Reply) -> Result<Option<Version>, Refusal> {
 ///
 /// SAFETY of all uses: pointers and lengths are those of the store's two slices, which are
 /// borrowed alone where the method takes `&mut self` and shared where it takes `&self` and the
-/// function takes `*const`; slices of values and of stamps are another borrow of the call.
+/// function takes `*const`; slices of values and of stamps, and the second memory of a move, are
+/// another borrow of the call.
 macro_rules! call {
     (mut $store:ident, $name:ident $(, $number:expr)*) => {
         unsafe {
@@ -122,8 +140,8 @@ macro_rules! call {
 }
 
 impl<'a> Store<'a> {
-    /// Makes an empty store, whatever memory and list held before. Every entry of the list becomes
-    /// free; bytes past those that the shape needs stay as they are.
+    /// Makes an empty store in the newest form, whatever memory and list held before. Every entry of
+    /// the list becomes free; bytes past those that the shape needs stay as they are.
     ///
     /// ```
     /// use deskrook::{Refusal, ScanEntry, Shape, Store, SCANS};
@@ -166,13 +184,111 @@ impl<'a> Store<'a> {
         Store { memory, scans }
     }
 
-    /// Whether memory and list are usable, which every other call asks first.
+    /// Whether memory and list are usable, which every other call asks first of the forms that it works
+    /// on itself; and the stored form, by which a panel tells whether it has to be
+    /// [moved](Store::upgrade).
     ///
     /// # Errors
     ///
     /// [`Refusal::Memory`].
-    pub fn check(&self) -> Result<(), Refusal> {
-        accepted(call!(ref self, deskrook_check)).map(|_| ())
+    pub fn check(&self) -> Result<Form, Refusal> {
+        match accepted(call!(ref self, deskrook_check))?.first {
+            1 => Ok(Form::First),
+            2 => Ok(Form::Newest),
+            form => unreachable!("the library answers form {form}, which its contract rules out"),
+        }
+    }
+
+    /// Moves a store in form 1 into a second memory, in the newest form, with keeper 0 throughout. The
+    /// second memory is then the store, with the same list: open transactions and scans go on there
+    /// under their numbers, and waiting pages wait. The memory moved from keeps its bytes and is no
+    /// store any more, so that this one is used up; refused, it is handed back and still the store.
+    ///
+    /// Of the second memory, whatever it held, as many bytes are written as the newest form needs. Those
+    /// past them stay as they are, and where the move is refused all do.
+    ///
+    /// ```
+    /// use deskrook::{Form, Keeper, Refusal, ScanEntry, Shape, Store, SCANS};
+    ///
+    /// # fn main() -> Result<(), Refusal> {
+    /// # let shape = Shape { columns: 1, ranges: 1, capacity: 4, spares: 0 };
+    /// # let bytes = shape.bytes_needed()?;
+    /// # let (mut made, mut scans) = (vec![0; bytes], [ScanEntry::FREE; SCANS]);
+    /// # let mut panel = vec![0; bytes];
+    /// # Store::make(&mut made, &mut scans, shape)?.downgrade(&mut panel)?;
+    /// // The memory and the list that a panel holds.
+    /// let mut store = Store::lent(&mut panel, &mut scans);
+    /// let mut second = vec![0; shape.bytes_needed()?];
+    /// if store.check()? == Form::First {
+    ///     assert_eq!(store.begin_as(Keeper(3)), Err(Refusal::Memory));
+    ///     store = store.upgrade(&mut second)?;
+    /// }
+    /// assert_eq!(store.check()?, Form::Newest);
+    /// assert!(store.begin_as(Keeper(3)).is_ok());
+    /// # Ok(())
+    /// # }
+    /// ```
+    ///
+    /// # Errors
+    ///
+    /// [`Refusal::Memory`], also where the second memory is too short.
+    pub fn upgrade<'b>(self, second: &'b mut [u8]) -> Result<Store<'b>, Unmoved<'a>>
+    where
+        'a: 'b,
+    {
+        let (first, length) = (second.as_mut_ptr(), second.len());
+        let reply = call!(ref self, deskrook_upgrade, first, length);
+        self.moved(second, reply)
+    }
+
+    /// Moves a store in the newest form back to form 1, into a second memory, as
+    /// [`upgrade`](Store::upgrade) moves it there. A store that was moved there and back, with no call
+    /// between, has the bytes that it had.
+    ///
+    /// Form 1 has no place for keepers, so they all have to be 0. The keeper of a transaction that has
+    /// ended and left neither row nor tail record does not count.
+    ///
+    /// ```
+    /// use deskrook::{Form, Keeper, Refusal, ScanEntry, Shape, Store, Unmoved, SCANS};
+    ///
+    /// # fn main() -> Result<(), Refusal> {
+    /// # let shape = Shape { columns: 1, ranges: 1, capacity: 4, spares: 0 };
+    /// # let (mut memory, mut scans) = (vec![0; shape.bytes_needed()?], [ScanEntry::FREE; SCANS]);
+    /// # let mut store = Store::make(&mut memory, &mut scans, shape)?;
+    /// let transaction = store.begin_as(Keeper(3))?;
+    /// let mut second = vec![0; shape.bytes_needed()?];
+    /// let Err(Unmoved { mut store, refusal }) = store.downgrade(&mut second) else {
+    ///     panic!("a transaction with a keeper is open");
+    /// };
+    /// assert_eq!(refusal, Refusal::Keeper);
+    /// store.abort(transaction)?;
+    /// assert_eq!(store.downgrade(&mut second)?.check()?, Form::First);
+    /// # Ok(())
+    /// # }
+    /// ```
+    ///
+    /// # Errors
+    ///
+    /// [`Refusal::Memory`], also where the second memory is shorter than form 1 needs, and
+    /// [`Refusal::Keeper`].
+    pub fn downgrade<'b>(self, second: &'b mut [u8]) -> Result<Store<'b>, Unmoved<'a>>
+    where
+        'a: 'b,
+    {
+        let (first, length) = (second.as_mut_ptr(), second.len());
+        let reply = call!(ref self, deskrook_downgrade, first, length);
+        self.moved(second, reply)
+    }
+
+    /// The store where a move's reply says that it is now.
+    fn moved<'b>(self, second: &'b mut [u8], reply: Reply) -> Result<Store<'b>, Unmoved<'a>>
+    where
+        'a: 'b,
+    {
+        match accepted(reply) {
+            Ok(_) => Ok(Store { memory: second, scans: self.scans }),
+            Err(refusal) => Err(Unmoved { store: self, refusal }),
+        }
     }
 
     /// Begins a transaction with keeper 0, unknown.
@@ -185,7 +301,8 @@ impl<'a> Store<'a> {
     }
 
     /// Begins a transaction with a keeper, a number that tells who made it. The rows and tail records
-    /// of the transaction carry it, and [`keeper_at`](Store::keeper_at) answers it.
+    /// of the transaction carry it, and [`keeper_at`](Store::keeper_at) answers it. It works on the
+    /// newest form alone.
     ///
     /// # Errors
     ///
@@ -292,7 +409,7 @@ impl<'a> Store<'a> {
 
     /// The keeper of the value that [`read_at`](Store::read_at) shows for the same numbers, or none
     /// where that read is none: the keeper of the transaction that set the column in the row by an
-    /// update, or of the one that inserted the row where none has.
+    /// update, or of the one that inserted the row where none has. It works on the newest form alone.
     ///
     /// ```
     /// use deskrook::{Keeper, Mask, ScanEntry, Shape, Stamp, Store, SCANS};

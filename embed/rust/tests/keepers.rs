@@ -1,9 +1,8 @@
-//! The keeper of a value: that of the transaction that set the column in the row. And the stored form
-//! that has the keepers, without which no call works.
+//! The keeper of a value: that of the transaction that set the column in the row. The stored form that
+//! has no keepers, and the moves from it and back, are in moves.rs.
 
 use deskrook::{
-    c, Keeper, Mask, Refusal, Row, ScanEntry, ScanNumber, Shape, Stamp, Store, Tail, Transaction,
-    SCANS,
+    c, Form, Keeper, Mask, Refusal, Row, ScanEntry, Shape, Stamp, Store, Tail, Transaction, SCANS,
 };
 
 const SHAPE: Shape = Shape { columns: 2, ranges: 1, capacity: 16, spares: 8 };
@@ -398,7 +397,7 @@ fn any_word_is_a_keepers() {
         for (place, at) in [(first, 1), (first + rows + record.0 as usize - 1, 0)] {
             put(&mut memory, place, word);
             let store = Store::lent(&mut memory, &mut scans);
-            assert_eq!(store.check(), Ok(()));
+            assert_eq!(store.check(), Ok(Form::Newest));
             assert_eq!(keeper(&store, at, 20), Ok(Some(Keeper(expected))));
             assert_eq!(answered(&memory, &scans, at), u32::from(expected));
         }
@@ -408,88 +407,11 @@ fn any_word_is_a_keepers() {
     }
     // Beginning writes the keeper over what was there, an unknown one too.
     let mut store = Store::lent(&mut memory, &mut scans);
-    assert_eq!(store.check(), Ok(()));
+    assert_eq!(store.check(), Ok(Form::Newest));
     let (unknown, known) = (store.begin().unwrap(), store.begin_as(SETTER).unwrap());
     for (stamp, transaction, expected) in [(30, unknown, UNKNOWN), (40, known, SETTER)] {
         store.update(transaction, GATE, Mask(1), &[1250]).unwrap();
         store.commit(transaction, Stamp(stamp)).unwrap();
         assert_eq!(keeper(&store, 0, stamp), Ok(Some(expected)));
     }
-}
-
-/// A call with its numbers; what it answers does not matter, but whether it is refused.
-type Call = fn(&mut Store) -> Result<(), Refusal>;
-
-/// Each call on a store, with numbers that are accepted in the one below.
-const CALLS: [Call; 21] = [
-    |store| store.check(),
-    |store| store.begin().map(drop),
-    |store| store.begin_as(SETTER).map(drop),
-    |store| store.insert(Transaction(2), &[7]).map(drop),
-    |store| store.update(Transaction(2), GATE, Mask(1), &[7]).map(drop),
-    |store| store.delete(Transaction(2), GATE).map(drop),
-    |store| store.commit(Transaction(2), Stamp(10)),
-    |store| store.abort(Transaction(2)),
-    |store| store.latest(GATE, 0).map(drop),
-    |store| store.read_at(Stamp(10), GATE, 0).map(drop),
-    |store| store.keeper_at(Stamp(10), GATE, 0).map(drop),
-    |store| store.own_read(Transaction(2), GATE, 0).map(drop),
-    |store| store.crossings(GATE, 0, 0, Stamp(0), Stamp(10), &mut []).map(drop),
-    |store| store.open_scan(Stamp(10)).map(drop),
-    |store| store.scan_read(ScanNumber(1), GATE, 0).map(drop),
-    |store| store.sum(ScanNumber(1), 0).map(drop),
-    |store| store.close_scan(ScanNumber(1)),
-    |store| store.merge(0, 0, Tail(2)),
-    |store| store.release().map(drop),
-    |store| store.page_cell(0, GATE).map(drop),
-    |store| store.lineage(0, 0).map(drop),
-];
-
-/// Word 0 has the columns in its low half and the form less 1 in the high one. A memory in any other form
-/// than 2, of that length or of form 1's own, is refused by every call and stays as it is.
-#[test]
-fn no_call_works_on_another_form() {
-    let mut memory = vec![0; SHAPE.bytes_needed().expect("a good shape")];
-    let mut scans = [ScanEntry::FREE; SCANS];
-    let mut store = Store::make(&mut memory, &mut scans, SHAPE).expect("enough is lent");
-    insert(&mut store, INSERTER, 0);
-    let transaction = store.begin_as(SETTER).unwrap();
-    let aborted = store.begin().unwrap();
-    store.update(aborted, GATE, Mask(1), &[7]).unwrap();
-    store.abort(aborted).unwrap();
-    store.open_scan(Stamp(0)).unwrap();
-    let empty = store.begin().unwrap();
-    store.commit(empty, Stamp(10)).unwrap();
-    assert_eq!(transaction, Transaction(2));
-
-    let columns = SHAPE.columns;
-    assert_eq!(memory[..4], (65_536 + columns).to_le_bytes());
-    for call in CALLS {
-        let (mut memory, mut scans) = (memory.clone(), scans);
-        assert_eq!(call(&mut Store::lent(&mut memory, &mut scans)), Ok(()));
-    }
-    let without_keepers = memory.len() - 4 * (64 + SHAPE.capacity as usize + 8);
-    for form in [1, 3, 4, 65_536] {
-        put(&mut memory, 0, 65_536 * (form - 1) + columns);
-        for length in [memory.len(), without_keepers] {
-            let mut lent = (memory[..length].to_vec(), scans);
-            let before = lent.clone();
-            for call in CALLS {
-                let mut store = Store::lent(&mut lent.0, &mut lent.1);
-                assert_eq!(call(&mut store), Err(Refusal::Memory));
-            }
-            assert_eq!(lent, before);
-        }
-    }
-    // In form 2 as well where the words of keepers are missing.
-    put(&mut memory, 0, 65_536 + columns);
-    assert_eq!(Store::lent(&mut memory, &mut scans).check(), Ok(()));
-    for call in CALLS {
-        let mut store = Store::lent(&mut memory[..without_keepers], &mut scans);
-        assert_eq!(call(&mut store), Err(Refusal::Memory));
-    }
-    // Making gives form 2, whatever was there.
-    put(&mut memory, 0, columns);
-    Store::make(&mut memory, &mut scans, SHAPE).expect("enough is lent");
-    assert_eq!(memory[..4], (65_536 + columns).to_le_bytes());
 }

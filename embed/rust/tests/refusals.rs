@@ -155,6 +155,28 @@ fn crossings() {
     lent.refuses(Refusal::List, |store| listed(store, Row(0), Stamp(20)));
 }
 
+/// A move uses the store up, so that it is not among those of `refuses`.
+#[test]
+fn keepers() {
+    let mut lent = Lent::made(SHAPE);
+    let transaction = lent.store().begin_as(Keeper(7)).unwrap();
+    let before = lent.clone();
+    let mut second = vec![0xA5; lent.memory.len()];
+    let mut refused = |bytes: usize| {
+        let moved = lent.store().downgrade(&mut second[..bytes]);
+        moved.expect_err("it is to be refused").refusal
+    };
+    assert_eq!(refused(before.memory.len()), Refusal::Keeper);
+    assert_eq!(refused(64), Refusal::Memory);
+    assert_eq!(lent, before);
+    let moved = lent.store().upgrade(&mut second);
+    assert_eq!(moved.map(drop).map_err(Refusal::from), Err(Refusal::Memory));
+    assert_eq!(lent, before);
+    assert!(second.iter().all(|byte| *byte == 0xA5), "a refused move changed a byte");
+    lent.store().abort(transaction).unwrap();
+    lent.store().downgrade(&mut second).expect("no keeper but 0");
+}
+
 #[test]
 fn open_ones_and_numbers() {
     let mut lent = Lent::made(SHAPE);

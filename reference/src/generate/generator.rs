@@ -2,7 +2,7 @@
 //! generator's own, so that most numbers can be chosen to be accepted.
 
 use super::workload::Workload;
-use crate::call::{Answer, Call, Shape, RANGE_ROWS};
+use crate::call::{Answer, Call, Form, Shape, RANGE_ROWS};
 use crate::history::{Given, History, InKeepers, OPEN_SCANS, UNKNOWN_KEEPER};
 use crate::program::LENT_STAMPS;
 use crate::random::Random;
@@ -10,7 +10,8 @@ use crate::random::Random;
 /// Which numbers a list's calls may have.
 #[derive(Clone, Copy, Debug, PartialEq, Eq)]
 pub enum Numbers {
-    /// Those of gatebook's commands, and as many places for stamps as it lends.
+    /// Those of gatebook's commands, and as many places for stamps as it lends. No moves, which are no
+    /// commands.
     Commands,
     /// Those that fit the command bytes, and any number of places.
     Narrow,
@@ -37,6 +38,13 @@ pub struct Generator {
     /// Whether the places for scans are kept filled.
     fills_scans: bool,
     numbers: Numbers,
+    /// The form of the memory that the next call is lent.
+    form: Form,
+    /// Transactions begun with a keeper that is 0, in percent, so that a way back is open.
+    unknown: u32,
+    /// Whether a way back is refused, and whether this has changed by the last call or that was a move.
+    refused_back: bool,
+    turned: bool,
 }
 
 /// Calls chosen without regard to a refusal, in percent of all; the others are tried again.
@@ -81,6 +89,14 @@ const OF_UPDATED: u32 = 75;
 const OF_SET_COLUMN: u32 = 70;
 /// A bound of the cells tried for one with several keepers.
 const KEEPER_TRIES: u32 = 6;
+/// Moves, in percent of the calls, and where the last call was a move or has changed whether the way back
+/// is refused: there and back with no call between, and the way back just before a keeper is borne and just
+/// after, and after the end of a transaction that alone bore one.
+const MOVES: u32 = 3;
+const MOVES_AT_A_TURN: u32 = 30;
+/// Of the transactions begun with a keeper those whose keeper is 0, in percent, of which each list has one.
+/// One keeper that a row or record bears closes the way back for good.
+const UNKNOWN: [u32; 5] = [0, 0, 0, 92, 100];
 /// Calls for crossings whose minutes are chosen to hold as many crossings as there are places, or one
 /// more, in percent, where there are so many.
 const FITTED: u32 = 40;
@@ -90,11 +106,13 @@ impl Generator {
         mut random: Random,
         workload: &'static Workload,
         shape: Shape,
+        form: Form,
         count: usize,
         numbers: Numbers,
     ) -> Generator {
         let early_rows = (shape.rows() * workload.early_rows / 100).min(count as u32 / 2);
         let fills_scans = random.percent(FILLS_SCANS);
+        let unknown = if numbers == Numbers::Commands { 0 } else { random.pick(&UNKNOWN) };
         Generator {
             random,
             workload,
@@ -107,6 +125,10 @@ impl Generator {
             left_out: Vec::new(),
             fills_scans,
             numbers,
+            form,
+            unknown,
+            refused_back: false,
+            turned: false,
         }
     }
 
@@ -116,6 +138,28 @@ impl Generator {
 
     /// Chooses the next call and makes it on the history.
     fn next(&mut self) -> Call {
+        let call = if self.moves() { self.move_on() } else { self.command_call() };
+        let answer = self.history.call(&call);
+        self.note(&call, &answer);
+        call
+    }
+
+    /// Whether the next call is a move.
+    fn moves(&mut self) -> bool {
+        let share = if self.turned { MOVES_AT_A_TURN } else { MOVES };
+        self.numbers != Numbers::Commands && self.random.percent(share)
+    }
+
+    /// The move that works on the form; the way back may be refused.
+    fn move_on(&self) -> Call {
+        match self.form {
+            Form::First => Call::Upgrade,
+            Form::Newest => Call::Downgrade,
+        }
+    }
+
+    /// A call of some command, mostly one that is accepted.
+    fn command_call(&mut self) -> Call {
         let tries = if self.random.percent(UNTRIED) { 1 } else { TRIES };
         let mut byte = self.command();
         let mut call = self.candidate(byte);
@@ -129,13 +173,14 @@ impl Generator {
             }
             call = self.candidate(byte);
         }
-        let answer = self.history.call(&call);
-        self.note(&call, &answer);
         call
     }
 
     /// Keeps what later choices look at.
     fn note(&mut self, call: &Call, answer: &Answer) {
+        if self.numbers != Numbers::Commands {
+            self.note_form(call, answer);
+        }
         match (call, answer) {
             (_, Answer::Refused(_)) => {}
             (Call::Insert { transaction, .. }, Answer::Number(row)) => {
@@ -164,6 +209,15 @@ impl Generator {
             (Call::Abort { transaction }, _) => self.changed.retain(|(by, _)| by != transaction),
             _ => {}
         }
+    }
+
+    /// Keeps the form, and whether a move is of interest next.
+    fn note_form(&mut self, call: &Call, answer: &Answer) {
+        let moved = call.moves_to().filter(|_| !answer.is_refused());
+        self.form = moved.unwrap_or(self.form);
+        let refused_back = self.history.refusal(&Call::Downgrade).is_some();
+        self.turned = moved.is_some() || refused_back != self.refused_back;
+        self.refused_back = refused_back;
     }
 
     /// A call of a command byte; it may well be refused.
@@ -207,11 +261,21 @@ impl Generator {
         }
     }
 
+    /// A command byte whose call works on the form: a begin without a keeper in place of one with a keeper
+    /// where it does not, and a read in place of a call for a keeper.
+    pub fn command(&mut self) -> u8 {
+        match (self.any_command(), self.form) {
+            (0x13, Form::First) => 0x01,
+            (0x14, Form::First) => 0x08,
+            (byte, _) => byte,
+        }
+    }
+
     /// A command byte by the workload's weights, or mostly an insert while early rows are missing.
     /// Where what it needs is missing, mostly the command that makes it comes first; where no place
     /// for a scan is free, a close often comes in place of an opening, and where one is, in a list
     /// that keeps them filled, an opening in place of a call on a scan.
-    pub fn command(&mut self) -> u8 {
+    fn any_command(&mut self) -> u8 {
         let early = self.early_rows > 0 && self.random.percent(90);
         let byte = if early { 0x02 } else { self.weighted() };
         if self.random.percent(15) {
@@ -522,8 +586,12 @@ impl Generator {
     }
 
     /// A keeper: mostly one of three people who share a mill, so that the same ones meet again; often one
-    /// that is another number with its bytes in the other order, or with the lower byte alone.
+    /// that is another number with its bytes in the other order, or with the lower byte alone. In some lists
+    /// nearly all or all are 0.
     fn keeper(&mut self) -> u16 {
+        if self.unknown > 0 && self.random.percent(self.unknown) {
+            return UNKNOWN_KEEPER;
+        }
         match self.random.below(12) {
             0 => UNKNOWN_KEEPER,
             1 => u16::MAX,

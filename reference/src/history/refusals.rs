@@ -123,6 +123,10 @@ impl History {
                 let crossings = self.crossings(row, column, mark, from, to);
                 require(crossings.len() <= places as usize, 21)
             }
+            // Document 02, Item 7: "Checks: 2 for either memory [..]; then, on moving back, 22 Keeper
+            // exactly if a row, a tail record or an open transaction bears a keeper other than 0."
+            Call::Upgrade => Ok(()),
+            Call::Downgrade => require(!self.bears_keeper(), 22),
         }
     }
 

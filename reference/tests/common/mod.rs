@@ -1,6 +1,7 @@
 //! Runs a script: readable lines, each with "=> no 13" or the like where the answer matters. A
-//! line without it must be accepted. Scripts run on the history itself and, where gatebook lends
-//! enough, through the command bytes as well.
+//! line without it must be accepted. The lines "upgrade" and "downgrade" are the moves. Scripts run on the
+//! history itself and, where gatebook lends enough, through the command bytes as well, then without the
+//! moves, which have none and alter nothing.
 
 #![allow(dead_code)]
 
@@ -61,19 +62,25 @@ pub fn script(script: &str) {
         .filter(|(line, _)| !line.is_empty())
         .collect();
     let plain: Vec<&str> = lines.iter().map(|(line, _)| *line).collect();
-    let bytes = text::encode(&plain.join("\n")).unwrap();
+    let commands: Vec<&str> =
+        plain.iter().copied().filter(|line| move_of(line).is_none()).collect();
+    let bytes = text::encode(&commands.join("\n")).unwrap();
     let shape = program::shape(bytes[..6].try_into().unwrap());
     let mut history = History::new(shape);
     let mut answers = vec!["ok".to_string()];
-    for call in calls(&bytes) {
+    let mut encoded = calls(&bytes).into_iter();
+    for line in &plain[1..] {
         let before = history.clone();
+        let moved = move_of(line);
+        let alters = moved.is_none();
+        let call = moved.unwrap_or_else(|| encoded.next().expect("a call for each line"));
         let answer = history.call(&call);
-        if answer.is_refused() {
-            assert_eq!(history, before, "a refused call alters no list: {call:?}");
+        if answer.is_refused() || !alters {
+            assert_eq!(history, before, "a refused call or a move alters no list: {call:?}");
         }
         answers.push(program::fields_of(&answer));
     }
-    assert_eq!(answers.len(), lines.len());
+    assert_eq!(encoded.next(), None);
     for ((line, expected), answer) in lines.iter().zip(&answers) {
         if expected.is_empty() {
             assert!(answer.starts_with("ok"), "{line} => {answer}");
@@ -84,6 +91,17 @@ pub fn script(script: &str) {
     let written = output(&bytes);
     if written != ["shape no 1"] {
         let words = written.iter().map(|line| line.split_once(' ').unwrap().1);
-        assert!(words.eq(answers), "the program answers as the history does");
+        let of_commands = plain.iter().zip(&answers).filter(|(line, _)| move_of(line).is_none());
+        let of_commands = of_commands.map(|(_, answer)| answer.as_str());
+        assert!(words.eq(of_commands), "the program answers as the history does");
+    }
+}
+
+/// The move that a line names.
+fn move_of(line: &str) -> Option<Call> {
+    match line {
+        "upgrade" => Some(Call::Upgrade),
+        "downgrade" => Some(Call::Downgrade),
+        _ => None,
     }
 }

@@ -5,6 +5,7 @@ use lib.ListN.{length}
 use contract.Running.{tablesOf}
 use borrow.Fn.World.{World}
 use Rattle.layout.specs.Sizes.{shapeOf}
+use Rattle.terms.specs.declared.Form.{Form}
 use Rattle.making.specs.Made.{made}
 use Rattle.terms.specs.Refusals.{isAccepted}
 use Rattle.scans.specs.Entries.{freedIf}
@@ -30,7 +31,7 @@ unfolding code.routine tablesOf
 make-spec 𝓤 H 𝓜 𝓖 𝓡 =
     let w : World = world 𝓤 H 𝓜 𝓖 𝓡 in
     law.meets 0 len-of.name core.name free-made.name type.usize type.answer type.answer (λ l n. n ≡ length l) (λ l x z l′. (z ≡ x) × (l′ ≡ freedIf (isAccepted x) l))
-    writes (value type.u32 ∷ value type.u32 ∷ value type.u32 ∷ value type.u32 ∷ []) (λ m n (a, (b, (c, (d, _)))) x m′. (x, m′) ≡ made (shapeOf a b c d) n m)
+    writes (value type.u32 ∷ value type.u32 ∷ value type.u32 ∷ value type.u32 ∷ []) (λ m n (a, (b, (c, (d, _)))) x m′. (x, m′) ≡ made Form.Newest (shapeOf a b c d) n m)
     (λ m l (a, (b, (c, (d, _)))). Makes m l (shapeOf a b c d)) (λ m l (a, (b, (c, (d, _)))) n x z m′ l′. made-so (shapeOf a b c d) m n x z m′ l l′)
     w code.env key.name (code.unfolded 𝓤 H 𝓜 𝓡) (len-known w code.env code.calls-lent·len-of)
     (core-reads.known w code.env core.name core.routine code.calls-making·make (core-thm.met 𝓤 H 𝓜 𝓖 𝓡)) (made-known w code.env code.calls-lent·free-made)

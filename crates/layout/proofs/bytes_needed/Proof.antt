@@ -15,7 +15,7 @@ within : (c : tie.Then1) → withinLimits (shapeOf (c .before .before .args .col
 within c = sym (c .before .within-limits .ensures) ∙ c .if1 .taken
 
 small : (c : tie.After-sizes-of) → need (c .sizes-of .result) < tooManyWords
-small c = rw (c .sizes-of .ensures) (need-small _ (within (c .before)))
+small c = rw (c .sizes-of .ensures) (need-small _ _ (within (c .before)))
 
 pub bytes-needed-spec : {M : Type 1} → statement M
 bytes-needed-spec =

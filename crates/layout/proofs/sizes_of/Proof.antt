@@ -6,8 +6,8 @@ use Rattle.layout.proofs.Limits.{proper}
 use Rattle.layout.proofs.sizes_of.Statement.{statement}
 use Rattle.layout.proofs.sizes_of.Tie as tie
 
-within : (c : tie.Start) → Proper (sizesOf (shapeOf (c .args .columns) (c .args .ranges) (c .args .capacity) (c .args .spares)))
-within c = proper (shapeOf (c .args .columns) (c .args .ranges) (c .args .capacity) (c .args .spares)) (c .pre)
+within : (c : tie.Start) → Proper (sizesOf (c .args .form) (shapeOf (c .args .columns) (c .args .ranges) (c .args .capacity) (c .args .spares)))
+within c = proper (c .args .form) (shapeOf (c .args .columns) (c .args .ranges) (c .args .capacity) (c .args .spares)) (c .pre)
 
 pub sizes-of-spec : {M : Type 1} → statement M
 sizes-of-spec =
@@ -18,4 +18,5 @@ sizes-of-spec =
     (λ c. search needs)
     (λ c κs. omega (arith, within (c .before .before)))
     (λ c. search needs)
+    (λ c κs. search needs)
     (λ c. cc))

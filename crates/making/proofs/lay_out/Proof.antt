@@ -1,5 +1,4 @@
 -- `making::lay_out` meets its contract.
-use native.Mathlib.Omega.{arith}
 use borrow.Author.Needs.{needs}
 use Rattle.layout.specs.View.{put, fill, number, renew}
 use Rattle.making.specs.Made.{namedView}
@@ -13,7 +12,8 @@ returns c =
     let measured : tie.After-put-measures = search in
     let named : tie.After-name-pages = search in
     let start : tie.Start = search in
-    rw (measured .put-measures .ensures, named .name-pages .ensures, start .pre .1 .0)
+    let word : tie.After-columns-word = search in
+    rw (measured .put-measures .ensures, named .name-pages .ensures, word .columns-word .ensures, start .pre .1 .0)
 
 pub lay-out-spec : {M : Type 1} → statement M
 lay-out-spec =
@@ -21,9 +21,7 @@ lay-out-spec =
     (tie.spec
     (λ c κs. search needs)
     (λ c κs. search needs)
-    (λ c. omega arith)
-    (λ c. omega arith)
-    (λ c. let start : tie.Start = search in omega (arith, start .pre))
+    (λ c κs. let start : tie.Start = search in start .pre .1 .3)
     (λ c κs. search needs)
     (λ c. search needs)
     returns)

@@ -2,6 +2,7 @@
 use native.Mathlib.Omega.{arith}
 use borrow.Author.Needs.{needs}
 use Prim.Native.Nat.{_*_, _<_}
+use Rattle.terms.specs.declared.Form.{Form}
 use Rattle.model.specs.Writing.{madeView}
 use Rattle.layout.specs.Regions.{need}
 use Rattle.layout.specs.Sizes.{shapeOf, Proper, tooManyWords}
@@ -28,7 +29,7 @@ returns-4 c =
     let n : tie.After-words-needed = search in
     let z : tie.After-sizes-of = search in
     let room : Suffices (z .sizes-of .result) (start .args .mem .now) = rw (n .words-needed .ensures) at (test .if2 .left) in
-    let whole = lent (z .sizes-of .result) (n .words-needed .result * 4) (start .args .mem .now) (call .lay-out .last .0) (λ u. madeView (shapeOf (start .args .columns) (start .args .ranges) (start .args .capacity) (start .args .spares))) (call .lay-out .ensures) (call .lay-out .kept .0)
+    let whole = lent (z .sizes-of .result) (n .words-needed .result * 4) (start .args .mem .now) (call .lay-out .last .0) (λ u. madeView Form.Newest (shapeOf (start .args .columns) (start .args .ranges) (start .args .capacity) (start .args .spares))) (call .lay-out .ensures) (call .lay-out .kept .0)
     (λ k. omega (arith, c .slice-known2 .given k)) (omega (arith, n .words-needed .ensures)) room in
     search (laid, whole)
 

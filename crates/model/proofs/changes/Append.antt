@@ -12,6 +12,7 @@ use lib.ListN.{length, getD, set, length-append}
 use lib.Seq.{getD-set-same, getD-set-other}
 use borrow.Author.Tests.{ne-eqb}
 use Rattle.terms.specs.Measures.{Shape, rangeRows}
+use Rattle.terms.specs.declared.Form.{Form}
 use Rattle.history.specs.History.{Record, State, Content, original, setting, ending, rangeOf}
 use Rattle.history.proofs.Lists.{at-append, by-cases, eqb-same}
 use Rattle.history.proofs.Links.{last-of-append}
@@ -83,7 +84,7 @@ module _ (S : Shape) (v w : View) (st : ℕ → State) (list list′ : ℕ → L
       apart k u z = same-part (S .capacity) a g k (length (list g)) (le-trans u (few a)) room z .0
 
 -- ---- the words of an appended record
-module _ {S : Shape} {v : View} (o : Whole S v) (t keeper r kind mask : ℕ) (inside : rangeOf r < S .ranges) (room : usedIn v (rangeOf r) < S .capacity) where
+module _ {F : Form} {S : Shape} {v : View} (o : Whole F S v) (t keeper r kind mask : ℕ) (inside : rangeOf r < S .ranges) (room : usedIn v (rangeOf r) < S .capacity) where
   abbrev slot′ : ℕ
   slot′ = rangeOf r * S .capacity + usedIn v (rangeOf r)
 
@@ -100,7 +101,7 @@ module _ {S : Shape} {v : View} (o : Whole S v) (t keeper r kind mask : ℕ) (in
   there-word : (l : List ℕ) (x j : ℕ) → j ≢ slot′ → getD (set l (nextSlot S v (rangeOf r)) x) j 0 ≡ getD l j 0
   there-word l x j n = rw slot-next (getD-set-other l slot′ j x 0 n)
 
-  in-tail : (i : Region) → len (sizesOf S) i ≡ S .ranges * S .capacity → slot′ < length (v i)
+  in-tail : (i : Region) → len (sizesOf F S) i ≡ S .ranges * S .capacity → slot′ < length (v i)
   in-tail i e = omega (arith, o .long i, e, slot-in)
 
   pub appended-here : recordIn (appended S t keeper r kind mask v) slot′
@@ -136,7 +137,7 @@ module _ {S : Shape} {v : View} (o : Whole S v) (t keeper r kind mask : ℕ) (in
   unfolding rowIn
   link-fits = o .fits RowLink r
 
-  pub appended-whole : t < 2 ^ 32 → keeper < 2 ^ 32 → r < 2 ^ 32 → kind < 2 ^ 32 → mask < 2 ^ 32 → S .capacity < 2 ^ 31 → Whole S (appended S t keeper r kind mask v)
+  pub appended-whole : t < 2 ^ 32 → keeper < 2 ^ 32 → r < 2 ^ 32 → kind < 2 ^ 32 → mask < 2 ^ 32 → S .capacity < 2 ^ 31 → Whole F S (appended S t keeper r kind mask v)
   unfolding appended
   appended-whole a q b c d e =
       put-whole RowLink r _ (omega arith)
@@ -148,7 +149,7 @@ module _ {S : Shape} {v : View} (o : Whole S v) (t keeper r kind mask : ℕ) (in
       (put-whole TailLink _ _ link-fits (put-whole TailMask _ mask d (put-whole TailKind _ kind c (put-whole TailRow _ r b (put-whole TailTransaction _ t a o))))))))))
 
 -- ---- the words of its columns
-module _ {S : Shape} {v : View} (o : Whole S v) (s : ℕ) (f : ℕ → ℕ) (inside : s < S .ranges * S .capacity) where
+module _ {F : Form} {S : Shape} {v : View} (o : Whole F S v) (s : ℕ) (f : ℕ → ℕ) (inside : s < S .ranges * S .capacity) where
   pub filled-here : (c : ℕ) → c < S .columns → valueIn S (filledIn S s f v) s c ≡ f c
   unfolding filledIn renew valueIn
   filled-here c b =
@@ -160,7 +161,7 @@ module _ {S : Shape} {v : View} (o : Whole S v) (s : ℕ) (f : ℕ → ℕ) (ins
       (λ u. inl (omega (arith, mul-le-mul-right (S .columns) u, suc-mul j (S .columns))))
       (λ u. let d : suc s ≤ j = omega arith in inr (omega (arith, mul-le-mul-right (S .columns) d, suc-mul s (S .columns)))))
 
-  pub filled-whole : ((c : ℕ) → f c < 2 ^ 32) → Whole S (filledIn S s f v)
+  pub filled-whole : ((c : ℕ) → f c < 2 ^ 32) → Whole F S (filledIn S s f v)
   unfolding filledIn
   filled-whole fit =
       renew-whole TailValues _ (changed-length (λ c w. f c) (s * S .columns) (v TailValues) (S .columns) ∙ o .long TailValues)

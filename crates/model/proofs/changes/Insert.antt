@@ -17,6 +17,7 @@ use mir.Syntax.{w32}
 use mir.Val.{toZ, ofZ, SFits}
 use mir.ValLaws.{toZ-ofZ, ofZ-fits}
 use Rattle.terms.specs.Measures.{Shape, rangeRows}
+use Rattle.terms.specs.declared.Form.{Form}
 use Rattle.history.specs.History.{insert, History, Row, Record, State, active, stateOf, keeperOf, rowAt, bit, sets, rangeOf, recordsOf, mergedThrough, scanAt, seenAt, withRows, commitOf}
 use Rattle.history.specs.Lists.{All, nil, cons}
 use Rattle.history.proofs.Lists.{at-append, by-cases, all-append, all-map, all-at, any-none}
@@ -30,7 +31,8 @@ use Rattle.layout.specs.View.{View, renew, put}
 use Rattle.layout.specs.declared.Region.the-variants.{Header, Opens, RowTransaction, RowState, RowStamp, RowLink, RowMask, Current, Cells, Changes, RowOrdinal, RowKeeper}
 use Rattle.terms.specs.declared.ScanEntry.{ScanEntry}
 use Rattle.terms.specs.Entries.{bears, firstIndex}
-use Rattle.layout.specs.Regions.{rowsAt}
+use Rattle.layout.specs.Regions.{rowsAt, len}
+use Rattle.layout.specs.Sizes.{sizesOf}
 use Rattle.model.specs.Stored.{rowIn, recordIn, valueIn, pageIn, cellIn, currentIn, chunkOf, within, openIndex, openKeeper, nextWord}
 use Rattle.layout.specs.Codes.{asOpen}
 use Rattle.model.specs.Reading.{scanPage, wasCurrent}
@@ -40,7 +42,7 @@ use Rattle.model.specs.Represents.{stateWord, RowIs, RowsAre, Holds, eve
 use Rattle.model.proofs.Holding.{same-row, withRow, row-new, rows-more, not-given, other-row, holds-step, holds-cells, holds-insert}
 use Rattle.model.proofs.Steady.{scan-cells, scan-page-step, waits-stay}
 use Rattle.model.proofs.Views.{renew-whole, put-whole, noted-whole, header-put, header-same}
-use Rattle.model.proofs.changes.Keepers.{keeper-own, keepers-row}
+use Rattle.model.proofs.changes.Keepers.{keepers-row, later-put, own-keeper}
 use Rattle.model.proofs.changes.Notes.{notes-more, few-changes}
 use Rattle.model.proofs.Opens.{active-given}
 
@@ -96,7 +98,7 @@ pub current-apart : (S : Shape) (v : View) (h : History) → CurrentsAre S h v �
 current-apart S v h o g c g′ c′ a b a′ b′ e =
     same-part (S .columns) g g′ c c′ b b′ (sym (o g c a b .chunk) ∙ ap (λ (p : ℕ). (pageIn v p) .chunk) e ∙ o g′ c′ a′ b′ .chunk)
 
-module _ {S : Shape} {v : View} {ps : List ScanEntry} {h : History} (o : Represents S v ps h) (k : WellFormed S h) (t : ℕ) (vs : List ℤ) (a : stateOf h t ≡ active)
+module _ {F : Form} {S : Shape} {v : View} {ps : List ScanEntry} {h : History} (o : Represents F S v ps h) (k : WellFormed S h) (t : ℕ) (vs : List ℤ) (a : stateOf h t ≡ active)
     (room : length (h .rows) < S .ranges * rangeRows) (typed : All (SFits w32) vs) where
   abbrev row : Row
   row = record { inserter = t; values = vs }
@@ -196,17 +198,16 @@ module _ {S : Shape} {v : View} {ps : List ScanEntry} {h : History} (o : Represe
       (simp length-append (omega arith)) (λ u f n. record { no-row = all-append (n .no-row) (cons (λ e. f (sym e)) nil); no-record = n .no-record }) (o .opens) a (o .notes)
 
   -- the keeper that the row bears
-  own : (openKeeper v t ≡ keeperOf h t) × (openKeeper v t < 2 ^ 32)
-  unfolding openKeeper openIndex
-  own = let e = keeper-own (k .invariants) (o .opens) (o .keepers) t a in (e, omega (arith, e, o .keepers .small t))
+  own : (openKeeper v t ≡ keeperOf h t) × (openKeeper v t < 2 ^ 32) × (F ≡ Form.First → openKeeper v t ≡ 0)
+  own = own-keeper o k t a
 
   insert-keepers : KeepersFor S h′ v′
   unfolding insertedAt noted put renew keeperOf recordsOf withRows
   insert-keepers =
-      rw (rows-more h row) (keepers-row (k .invariants) (o .opens) (o .keepers) t row (openKeeper v t) refl (own .0) (omega (arith, o .whole .long RowKeeper)) (rowAt h′) (row-new h row)
+      rw (rows-more h row) (keepers-row (k .invariants) (o .opens) (o .keepers) t row (openKeeper v t) refl (own .0) (later-put F (λ f. len (sizesOf f S) RowKeeper) refl (v RowKeeper) r (openKeeper v t) (o .whole .long RowKeeper) room (own .2)) (rowAt h′) (row-new h row)
       (λ i b. unfold rowAt withRows in (List·getD-append (h .rows) (row ∷ []) record { inserter = 0; values = [] } i b)))
 
-  insert-whole : Whole S v′
+  insert-whole : Whole F S v′
   unfolding insertedAt stateOf
   insert-whole =
       let number : t < 2 ^ 32 = omega (arith, active-given (h .transactions) t a .1, k .invariants .limits .transactions) in
@@ -216,13 +217,13 @@ module _ {S : Shape} {v : View} {ps : List ScanEntry} {h : History} (o : Represe
       (cells-fit S (v Current) (rangeOf r) (within r) vs (v Cells) (λ c. ofZ-fits w32 (getD vs c (pos 0)) (value-fits vs typed c) .fits) (o .whole .fits Cells) (S .columns))
       (put-whole RowMask r 0 (omega arith) (put-whole RowLink r 0 (omega arith) (put-whole RowKeeper r _ (own .1) (put-whole RowOrdinal r 0 (omega arith) (put-whole RowStamp r 0 (omega arith) (put-whole RowState r 0 (omega arith) (put-whole RowTransaction r t number (o .whole))))))))))
 
-  insert-at : Step S h (insert t vs) h′ → Represents S v′ ps h′
+  insert-at : Step S h (insert t vs) h′ → Represents F S v′ ps h′
   unfolding insertedAt noted openIndex put renew withRows recordIn valueIn pageIn stateOf recordsOf currentIn
   insert-at step =
-      let header : HeaderFor S h′ v′ =
+      let header : HeaderFor F S h′ v′ =
       header-same (sym (simp length-append (omega arith))) refl refl refl (header-put (v Header) 4 (r + 1) (omega (arith, o .whole .long Header)) (omega arith) (o .header)) in
       search (header, insert-notes, insert-keepers, insert-rows, insert-currents step, waits-stay o k step refl, insert-scans step, insert-whole)
 
-  pub insert-kept : Step S h (insert t vs) h′ → Represents S (insertedIn S t vs v) ps h′
+  pub insert-kept : Step S h (insert t vs) h′ → Represents F S (insertedIn S t vs v) ps h′
   unfolding insertedIn
   insert-kept step = rw (o .header .rows-given) (insert-at step)

@@ -13,7 +13,8 @@ use lib.ListN.{length, getD, set, length-append}
 use lib.Seq.{getD-append-seam, getD-append-add}
 use borrow.Author.Tests.{ne-eqb}
 use Rattle.terms.specs.Measures.{Shape}
-use Rattle.history.specs.History.{delete, History, Record, State, active, Content, ending, stateOf, keeperOf, rowAt, bit, sets, rangeOf, recordsOf, scanAt, deleteRecords, withTail, commitOf}
+use Rattle.terms.specs.declared.Form.{Form}
+use Rattle.history.specs.History.{delete, History, Record, State, active, Content, ending, stateOf, keeperOf, borneBy, rowAt, bit, sets, rangeOf, recordsOf, scanAt, deleteRecords, withTail, commitOf}
 use Rattle.history.specs.Lists.{All, nil}
 use Rattle.history.proofs.Lists.{by-cases, eqb-same, all-map, all-at, all-append, any-append, by-test}
 use Rattle.history.proofs.Steps.{New}
@@ -24,7 +25,6 @@ use Rattle.history.proofs.Links.{last-of-append}
 use Rattle.layout.specs.View.{View, renew, put, usedIn}
 use Rattle.layout.specs.Regions.{len}
 use Rattle.layout.specs.Sizes.{sizesOf}
-use Rattle.layout.specs.declared.Region.{Region}
 use Rattle.layout.specs.declared.Region.the-variants.{Opens, Changes, RowLink, RowKeeper, TailKeeper, OpenKeeper}
 use Rattle.terms.specs.declared.ScanEntry.{ScanEntry}
 use Rattle.terms.specs.Entries.{bears, firstIndex}
@@ -32,10 +32,10 @@ use Rattle.model.specs.Stored.{RowWords, RecordWords, rowIn, recordIn, v
 use Rattle.layout.specs.Codes.{asOpen, asDelete}
 use Rattle.model.specs.Reading.{scanPage, wasCurrent}
 use Rattle.model.specs.Writing.{noted, nextSlot, appended, filledIn, deletedIn}
-use Rattle.model.specs.Represents.{stateWord, RowIs, RowsAre, ContentIs, RecordIs, TailsFor, TailsAre, NotesAre, borneBy, KeepersAre, Represents, WellFormed, Whole}
+use Rattle.model.specs.Represents.{stateWord, RowIs, RowsAre, ContentIs, RecordIs, TailsFor, TailsAre, NotesAre, KeepersAre, Represents, WellFormed, Whole}
 use Rattle.model.proofs.Steady.{pages-stay}
 use Rattle.model.proofs.Views.{noted-whole}
-use Rattle.model.proofs.changes.Keepers.{WordsBear, words-more, keeper-own}
+use Rattle.model.proofs.changes.Keepers.{WordsBear, words-more, later-put, own-keeper}
 use Rattle.model.proofs.changes.Notes.{notes-more, few-changes}
 use Rattle.model.proofs.Opens.{active-given}
 use Rattle.model.proofs.changes.Insert.{never-set}
@@ -69,8 +69,8 @@ abbrev withMade : History → ℕ → List Record → ℕ → List Record
 withMade h r ms g = recordsOf h g ++ cond (eqb (rangeOf r) g) ms []
 
 -- Memory u has the records ms of row r besides those of v: the tails hold them, the row's link leads to the last, and nothing else of the rows differs.
-pub record Extended (S : Shape) (h : History) (v : View) (r : ℕ) (ms : List Record) (u : View) : Type 0 where
-  pub whole : Whole S u
+pub record Extended (F : Form) (S : Shape) (h : History) (v : View) (r : ℕ) (ms : List Record) (u : View) : Type 0 where
+  pub whole : Whole F S u
   pub tails : TailsFor S (stateOf h) (withMade h r ms) u
   pub keepers : WordsBear S (keeperOf h) (rowAt h) (withMade h r ms) (u TailKeeper)
   pub link : getD (u RowLink) r 0 ≡ lastOf (recordsOf h (rangeOf r) ++ ms) r (length (recordsOf h (rangeOf r) ++ ms))
@@ -81,7 +81,7 @@ set-append : (l m : List Record) (r c : ℕ) → wasSet (l ++ m) r c ≡ (wasSet
 unfolding wasSet
 set-append l m r c = any-append (λ x. eqb (x .row) r && sets c (x .content)) l m
 
-module _ {S : Shape} {v : View} {ps : List ScanEntry} {h : History} (o : Represents S v ps h) (k : WellFormed S h) {t r : ℕ} (a : stateOf h t ≡ active) (b : r < length (h .rows)) {ms : List Record}
+module _ {F : Form} {S : Shape} {v : View} {ps : List ScanEntry} {h : History} (o : Represents F S v ps h) (k : WellFormed S h) {t r : ℕ} (a : stateOf h t ≡ active) (b : r < length (h .rows)) {ms : List Record}
     (new : All (New h t r) ms) where
   abbrev h′ : History
   h′ = withTail h (h .tail ++ ms)
@@ -105,7 +105,7 @@ module _ {S : Shape} {v : View} {ps : List ScanEntry} {h : History} (o : Represe
       apart = elim (eqb (rangeOf r) (rangeOf i)) as (λ q. All (λ (x : Record). x .row ≢ i) (cond q ms [])) [ true ↦ all-map (λ x p e. n (sym e ∙ p .row)) new | false ↦ nil ]
 
   -- in a memory x that differs from u in the mask of row r alone
-  pub made-rows : {u : View} → Extended S h v r ms u → (x : View) (m : ℕ) → ((i : ℕ) → i ≢ r → rowIn x i ≡ rowIn u i) → rowIn x r ≡ relinked (rowIn u r) (getD (u RowLink) r 0) m
+  pub made-rows : {u : View} → Extended F S h v r ms u → (x : View) (m : ℕ) → ((i : ℕ) → i ≢ r → rowIn x i ≡ rowIn u i) → rowIn x r ≡ relinked (rowIn u r) (getD (u RowLink) r 0) m
       → ((c : ℕ) → bit m c ≡ (bit ((rowIn v r) .mask) c || wasSet ms r c)) → RowsAre h′ x
   unfolding stateOf rowAt withTail
   made-rows E x m other own f i u = by-cases (ℕ-discrete i r)
@@ -121,7 +121,7 @@ module _ {S : Shape} {v : View} {ps : List ScanEntry} {h : History} (o : Represe
       (λ n. rw (other i n, E .rows i, E .others i n) (row-other i _ n (unfold rowIn in (o .rows i u))))
 
   -- the call is noted, and the tails hold its records
-  pub made-parts : {u : View} → Extended S h v r ms u → 0 < length ms
+  pub made-parts : {u : View} → Extended F S h v r ms u → 0 < length ms
       → NotesAre (h .rows) (h .tail ++ ms) (v Opens) (set (v Changes) (firstIndex (bears t) (v Opens)) (nextWord (getD (v Changes) (firstIndex (bears t) (v Opens)) 0))) × TailsAre S h′ u
   unfolding stateOf withTail
   made-parts E some = (
@@ -132,7 +132,7 @@ module _ {S : Shape} {v : View} {ps : List ScanEntry} {h : History} (o : Represe
     λ g u. rw (records-made h g new) (E .tails g u),
   )
 
-  pub made-keepers : {u : View} → Extended S h v r ms u → KeepersAre S (keeperOf h) (rowAt h) (length (h .rows)) (recordsOf h′) (v RowKeeper) (u TailKeeper) (v Opens) (v OpenKeeper)
+  pub made-keepers : {u : View} → Extended F S h v r ms u → KeepersAre S (keeperOf h) (rowAt h) (length (h .rows)) (recordsOf h′) (v RowKeeper) (u TailKeeper) (v Opens) (v OpenKeeper)
   made-keepers E = record {
     of-rows = o .keepers .of-rows;
     of-records = λ g i u. rw (records-made h g new) (E .keepers g i u);
@@ -144,9 +144,9 @@ pub number-fits : {S : Shape} {h : History} → WellFormed S h → (t : ℕ) →
 unfolding stateOf
 number-fits {h = h} k t a = omega (arith, active-given (h .transactions) t a .1, k .invariants .limits .transactions)
 
-pub none-made : {S : Shape} {v : View} {ps : List ScanEntry} {h : History} → Represents S v ps h → (r : ℕ) → r < length (h .rows) → Extended S h v r [] v
+pub none-made : {F : Form} {S : Shape} {v : View} {ps : List ScanEntry} {h : History} → Represents F S v ps h → (r : ℕ) → r < length (h .rows) → Extended F S h v r [] v
 unfolding rowIn
-none-made {S} {v} {ps} {h} o r b = record {
+none-made {F} {S} {v} {ps} {h} o r b = record {
   whole = o .whole;
   tails = λ g u. rw (elim (eqb (rangeOf r) g) as (λ q. recordsOf h g ++ cond q [] [] ≡ recordsOf h g) [ true ↦ append-nil (recordsOf h g) | false ↦ append-nil (recordsOf h g) ]) (o .tails g u);
   keepers = λ g i u. rw (elim (eqb (rangeOf r) g) as (λ q. recordsOf h g ++ cond q [] [] ≡ recordsOf h g) [ true ↦ append-nil (recordsOf h g) | false ↦ append-nil (recordsOf h g) ]) (o .keepers .of-records g i u);
@@ -155,8 +155,8 @@ none-made {S} {v} {ps} {h} o r b = record {
   rows = λ i. refl;
 }
 
-module _ {S : Shape} {h : History} {v : View} {r : ℕ} {ms : List Record} {u : View} (E : Extended S h v r ms u) (k : WellFormed S h) (t : ℕ) (a : stateOf h t ≡ active) (b : r < length (h .rows))
-    (content : Content) (keeper : ℕ) (own : keeper ≡ keeperOf h (borneBy content ((rowAt h r) .inserter) t)) (keeper-fits : keeper < 2 ^ 32) (kind mask : ℕ)
+module _ {F : Form} {S : Shape} {h : History} {v : View} {r : ℕ} {ms : List Record} {u : View} (E : Extended F S h v r ms u) (k : WellFormed S h) (t : ℕ) (a : stateOf h t ≡ active) (b : r < length (h .rows))
+    (content : Content) (keeper : ℕ) (own : keeper ≡ keeperOf h (borneBy content ((rowAt h r) .inserter) t)) (keeper-fits : keeper < 2 ^ 32) (keeper-none : F ≡ Form.First → keeper ≡ 0) (kind mask : ℕ)
     (room : length (recordsOf h (rangeOf r)) + length ms < S .capacity) (kind-fits : kind < 2 ^ 32) (mask-fits : mask < 2 ^ 32) where
   abbrev y : Record
   y = record { transaction = t; row = r; content = content }
@@ -191,18 +191,19 @@ module _ {S : Shape} {h : History} {v : View} {r : ℕ} {ms : List Record} {u : 
   room-in : usedIn u (rangeOf r) < S .capacity
   room-in = omega (arith, used-is, made-room)
 
-  appended-fits : Whole S (appended S t keeper r kind mask u)
+  appended-fits : Whole F S (appended S t keeper r kind mask u)
   appended-fits = appended-whole (E .whole) t keeper r kind mask inside room-in (omega (arith, number-fits k t a)) keeper-fits (omega (arith, k .invariants .limits .rows, k .small .ranges)) kind-fits mask-fits (omega (arith, k .small .capacity))
 
   -- the record's words
   abbrev end : ℕ
   end = rangeOf r * S .capacity + length (made (rangeOf r))
 
-  words-in : (i : Region) → len (sizesOf S) i ≡ S .ranges * S .capacity → rangeOf r * S .capacity + usedIn u (rangeOf r) < length (u i)
-  words-in i e = omega (arith, E .whole .long i, e, slot-in (E .whole) t keeper r kind mask inside room-in)
-
   end-is : rangeOf r * S .capacity + usedIn u (rangeOf r) ≡ end
   end-is = ap (λ (i : ℕ). rangeOf r * S .capacity + i) used-is
+
+  keeper-taken : getD (set (u TailKeeper) end keeper) end 0 ≡ keeper
+  keeper-taken =
+      later-put F (λ f. len (sizesOf f S) TailKeeper) refl (u TailKeeper) end keeper (E .whole .long TailKeeper) (rw end-is at (slot-in (E .whole) t keeper r kind mask inside room-in)) keeper-none
 
   here : recordIn (appended S t keeper r kind mask u) end ≡ record { transaction = t; row = r; kind = kind; mask = mask; link = (rowIn u r) .link; state = asOpen; stamp = 0; ordinal = 0 }
   here = rw end-is at (appended-here (E .whole) t keeper r kind mask inside room-in)
@@ -218,13 +219,13 @@ module _ {S : Shape} {h : History} {v : View} {r : ℕ} {ms : List Record} {u : 
   new-link = ap (λ (x : RecordWords). x .link) here ∙ E .link ∙ rw (eqb-same (rangeOf r))
 
   -- what a memory has that differs from the appended one in the words of the columns alone
-  extended : (w : View) → Whole S w → w TailKeeper ≡ appended S t keeper r kind mask u TailKeeper → ((j : ℕ) → recordIn w j ≡ recordIn (appended S t keeper r kind mask u) j) → ((g : ℕ) → usedIn w g ≡ usedIn (appended S t keeper r kind mask u) g)
+  extended : (w : View) → Whole F S w → w TailKeeper ≡ appended S t keeper r kind mask u TailKeeper → ((j : ℕ) → recordIn w j ≡ recordIn (appended S t keeper r kind mask u) j) → ((g : ℕ) → usedIn w g ≡ usedIn (appended S t keeper r kind mask u) g)
       → ((i : ℕ) → getD (w RowLink) i 0 ≡ getD (appended S t keeper r kind mask u RowLink) i 0) → ((i : ℕ) → rowIn w i ≡ relinked (rowIn u i) (getD (w RowLink) i 0) ((rowIn u i) .mask))
-      → ((j c : ℕ) → j ≢ end → c < S .columns → valueIn S w j c ≡ valueIn S u j c) → ContentIs (S .columns) content kind mask (valueIn S w end) → Extended S h v r (ms ++ y ∷ []) w
+      → ((j c : ℕ) → j ≢ end → c < S .columns → valueIn S w j c ≡ valueIn S u j c) → ContentIs (S .columns) content kind mask (valueIn S w end) → Extended F S h v r (ms ++ y ∷ []) w
   extended w fits keepers records used links rows values c = record {
     whole = fits;
     keepers = rw (keepers, keeper-here (E .whole) t keeper r kind mask inside room-in, end-is)
-        (words-more S (keeperOf h) (rowAt h) made more (u TailKeeper) (rangeOf r) y keeper made-few made-room (rw end-is at (words-in TailKeeper refl)) made-grows own (E .keepers));
+        (words-more S (keeperOf h) (rowAt h) made more (u TailKeeper) (rangeOf r) y keeper made-few made-room keeper-taken made-grows own (E .keepers));
     tails = tails-more S u w (stateOf h) made more (rangeOf r) y inside made-few made-room made-grows
         (used (rangeOf r) ∙ used-here (E .whole) t keeper r kind mask inside room-in) (λ g f. used g ∙ used-there (E .whole) t keeper r kind mask inside room-in g f) (λ j f. records j ∙ there j f) values
         (rw (records end) (open-record _ c)) (ap (λ (x : RecordWords). x .link) (records end) ∙ new-link) (E .tails);
@@ -235,14 +236,14 @@ module _ {S : Shape} {h : History} {v : View} {r : ℕ} {ms : List Record} {u : 
   }
 
   -- without values
-  pub extend-plain : ((value : ℕ → ℕ) → ContentIs (S .columns) content kind mask value) → Extended S h v r (ms ++ y ∷ []) (appended S t keeper r kind mask u)
+  pub extend-plain : ((value : ℕ → ℕ) → ContentIs (S .columns) content kind mask value) → Extended F S h v r (ms ++ y ∷ []) (appended S t keeper r kind mask u)
   extend-plain c =
       extended (appended S t keeper r kind mask u) appended-fits refl (λ j. refl) (λ g. refl) (λ i. refl) (unfold rowIn appended put renew in (λ i. refl))
       (λ j c f d. unfold valueIn appended put renew in refl) (c _)
 
   -- with a word for each column
   pub extend : (f : ℕ → ℕ) → ContentIs (S .columns) content kind mask f → ((c : ℕ) → f c < 2 ^ 32)
-      → Extended S h v r (ms ++ y ∷ []) (filledIn S (nextSlot S u (rangeOf r)) f (appended S t keeper r kind mask u))
+      → Extended F S h v r (ms ++ y ∷ []) (filledIn S (nextSlot S u (rangeOf r)) f (appended S t keeper r kind mask u))
   extend f c fits =
       extended w (filled-whole appended-fits (nextSlot S u (rangeOf r)) f slot-inside fits) (unfold filledIn renew in refl) (unfold recordIn filledIn renew in (λ j. refl)) (unfold filledIn renew in (λ g. refl))
       (unfold filledIn renew in (λ i. refl)) (unfold rowIn filledIn appended put renew in (λ i. refl))
@@ -259,24 +260,18 @@ module _ {S : Shape} {h : History} {v : View} {r : ℕ} {ms : List Record} {u : 
       slot-inside : nextSlot S u (rangeOf r) < S .ranges * S .capacity
       slot-inside = rw (slot-next (E .whole) t keeper r kind mask inside room-in) (slot-in (E .whole) t keeper r kind mask inside room-in)
 
--- the keeper of an open transaction, as its entry has it
-pub own-keeper : {S : Shape} {v : View} {ps : List ScanEntry} {h : History} → Represents S v ps h → WellFormed S h → (t : ℕ) → stateOf h t ≡ active → (openKeeper v t ≡ keeperOf h t) × (openKeeper v t < 2 ^ 32)
-unfolding openKeeper openIndex
-own-keeper {v = v} {h = h} o k t a = let e = keeper-own (k .invariants) (o .opens) (o .keepers) t a in (e, omega (arith, e, o .keepers .small t))
-
--- ---- delete
-pub delete-kept : {S : Shape} {v : View} {ps : List ScanEntry} {h : History} → Represents S v ps h → WellFormed S h → (t r : ℕ) → stateOf h t ≡ active → r < length (h .rows)
+pub delete-kept : {F : Form} {S : Shape} {v : View} {ps : List ScanEntry} {h : History} → Represents F S v ps h → WellFormed S h → (t r : ℕ) → stateOf h t ≡ active → r < length (h .rows)
     → length (recordsOf h (rangeOf r)) + 1 ≤ S .capacity → Step S h (delete t r) (withTail h (h .tail ++ deleteRecords t r)) → All (New h t r) (deleteRecords t r)
-    → Represents S (deletedIn S t r v) ps (withTail h (h .tail ++ deleteRecords t r))
+    → Represents F S (deletedIn S t r v) ps (withTail h (h .tail ++ deleteRecords t r))
 unfolding deletedIn noted openIndex put renew withTail deleteRecords recordIn valueIn pageIn cellIn currentIn scanPage wasCurrent appended stateOf keeperOf rowAt scanAt
-delete-kept {S} {v} {ps} {h} o k t r a b room step new =
+delete-kept {F} {S} {v} {ps} {h} o k t r a b room step new =
     search (made-parts o k a b new made (omega arith), made-keepers o k a b new made, rows, noted-whole t (made .whole), pages-stay o k step refl refl (λ i. refl))
   where
     y : Record
     y = record { transaction = t; row = r; content = ending }
 
-    made : Extended S h v r (y ∷ []) (appended S t (openKeeper v t) r asDelete 0 v)
-    made = extend-plain (none-made o r b) k t a b ending (openKeeper v t) (own-keeper o k t a .0) (own-keeper o k t a .1) asDelete 0 (omega arith) (omega arith) (omega arith) (λ value. refl)
+    made : Extended F S h v r (y ∷ []) (appended S t (openKeeper v t) r asDelete 0 v)
+    made = extend-plain (none-made o r b) k t a b ending (openKeeper v t) (own-keeper o k t a .0) (own-keeper o k t a .1) (own-keeper o k t a .2) asDelete 0 (omega arith) (omega arith) (omega arith) (λ value. refl)
 
     rows : RowsAre (withTail h (h .tail ++ y ∷ [])) (deletedIn S t r v)
     rows = made-rows o k a b new made (deletedIn S t r v) ((rowIn v r) .mask) (λ i f. unfold rowIn in refl) (unfold rowIn in refl)

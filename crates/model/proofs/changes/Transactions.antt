@@ -12,6 +12,7 @@ use lib.ListN.{length, getD, set, length-append, length-set}
 use lib.Seq.{getD-set-same, getD-set-other}
 use borrow.Author.Tests.{ne-eqb, eq-eqb}
 use Rattle.terms.specs.Measures.{Shape, rangeRows, mostNumbers}
+use Rattle.terms.specs.declared.Form.{Form}
 use Rattle.history.specs.History.{Call, commit, abort, History, Row, Record, Commit, nextCommit, State, unknown, active, aborted, committed, any, nth, change, stateOf, rowAt, rangeOf, recordsOf, scanAt, keeperOf, withBegun, withTransactions, commitOf}
 use Rattle.history.proofs.Lists.{by-cases, all-each, nth-beyond, clash, all-map, nth-changed, nth-other, length-change}
 use Rattle.history.specs.Steps.{Step, Closing, by-commit, by-abort}
@@ -37,7 +38,7 @@ use Rattle.model.specs.Writing.{begun, markTails, markAll, settled, free
 use Rattle.model.proofs.Lists.{first-below, part-in}
 use Rattle.model.specs.Represents.{stateWord, RowIs, RecordIs, TailOf, RowsAre, TailsAre, OpensAre, Unchanged, NotesAre, KeepersFor, HeaderFor, Represents, WellFormed, Whole}
 use Rattle.model.proofs.Views.{renew-whole, put-whole, changed-start, header-put, header-same}
-use Rattle.model.proofs.changes.Keepers.{keepers-begun, keepers-freed}
+use Rattle.model.proofs.changes.Keepers.{keepers-begun, keepers-freed, later-put}
 use Rattle.model.proofs.Steady.{pages-stay}
 
 -- ---- rows and records under new states
@@ -70,7 +71,7 @@ notes-set rows tail l notes j t b c u o k d = by-cases (ℕ-discrete k j)
     (λ e. rw (e, getD-set-same l j t 0 b, getD-set-same notes j 0 0 c) (λ n. record { bound = zero-le; none = λ _. u n }))
     (λ f. rw (getD-set-other l j k t 0 f, getD-set-other notes j k 0 0 f) (o k d))
 
-module _ {S : Shape} {v : View} {ps : List ScanEntry} {h : History} (o : Represents S v ps h) (k : WellFormed S h) (x : ℕ) where
+module _ {F : Form} {S : Shape} {v : View} {ps : List ScanEntry} {h : History} (o : Represents F S v ps h) (k : WellFormed S h) (x : ℕ) where
   abbrev begunHistory : History
   begunHistory = withBegun h x
 
@@ -88,15 +89,15 @@ module _ {S : Shape} {v : View} {ps : List ScanEntry} {h : History} (o : Represe
         links = t .links;
       }
 
-  begun-whole : length (h .transactions) < mostNumbers → x < keeperLimit → Whole S (begun x v)
+  begun-whole : length (h .transactions) < mostNumbers → x < keeperLimit → Whole F S (begun x v)
   unfolding begun
   begun-whole few fits =
       let b : transactionsGiven v + 1 < 2 ^ 32 = omega (arith, o .header .transactions-given) in
       put-whole Header transactionsAt _ b (put-whole OpenKeeper _ x (omega arith) (put-whole Changes _ 0 (omega arith) (put-whole Opens _ _ b (o .whole))))
 
-  pub begin-kept : {c : Call} → T (any (λ i. eqb i 0) (v Opens)) → Step S h c begunHistory → length (h .transactions) < mostNumbers → x < keeperLimit → Represents S (begun x v) ps begunHistory
+  pub begin-kept : {c : Call} → T (any (λ i. eqb i 0) (v Opens)) → Step S h c begunHistory → length (h .transactions) < mostNumbers → x < keeperLimit → (F ≡ Form.First → x ≡ 0) → Represents F S (begun x v) ps begunHistory
   unfolding begun put renew withBegun withTransactions rowIn recordIn valueIn pageIn cellIn currentIn scanPage wasCurrent scanAt
-  begin-kept free step few fits = search (header, opens, notes, keepers, begun-rows, begun-tails, pages-stay o k step refl refl (λ i. refl), begun-whole few fits)
+  begin-kept free step few fits none = search (header, opens, notes, keepers, begun-rows, begun-tails, pages-stay o k step refl refl (λ i. refl), begun-whole few fits)
     where
       n : ℕ
       n = transactionsGiven v + 1
@@ -110,7 +111,7 @@ module _ {S : Shape} {v : View} {ps : List ScanEntry} {h : History} (o : Represe
       inside : j < length (v Opens)
       inside = first-below (λ i. eqb i 0) (v Opens) free
 
-      header : HeaderFor S begunHistory (begun x v)
+      header : HeaderFor F S begunHistory (begun x v)
       header = unfold begun put renew withBegun withTransactions in
           (header-same refl (e ∙ sym (simp length-append (omega arith))) refl refl (header-put (v Header) 5 n (omega (arith, o .whole .long Header)) (omega arith) (o .header)))
 
@@ -124,7 +125,8 @@ module _ {S : Shape} {v : View} {ps : List ScanEntry} {h : History} (o : Represe
 
       keepers : KeepersFor S begunHistory (begun x v)
       keepers = unfold begun put renew withBegun withTransactions keeperOf rowAt recordsOf in
-          (rw e (keepers-begun (k .invariants) (o .opens) (o .keepers) x j fits inside (omega (arith, inside, o .whole .long Opens, o .whole .long OpenKeeper))))
+          (rw e (keepers-begun (k .invariants) (o .opens) (o .keepers) x j fits inside
+          (later-put F (λ f. len (sizesOf f S) OpenKeeper) refl (v OpenKeeper) j x (o .whole .long OpenKeeper) (omega (arith, inside, o .whole .long Opens)) none)))
 
 -- ---- the marks
 pub marked-at : (ks : List ℕ) (n t w : ℕ) (l : List ℕ) (r : ℕ) → n ≤ length l → r < n → getD (marked ks 0 n t 0 w l) r 0 ≡ cond (eqb (getD ks r 0) t) w (getD l r 0)
@@ -163,13 +165,13 @@ marks-fit : (S : Shape) (used ks : List ℕ) (t w n : ℕ) (l : List ℕ) → w 
 marks-fit S used ks t w zero l b f = f
 marks-fit S used ks t w (suc n) l b f = marked-fit ks (n * S .capacity) (getD used n 0) t w (markTails S used ks t w n l) b (marks-fit S used ks t w n l b f)
 
-mark-all-whole : {S : Shape} {v : View} (t : ℕ) (rows tails : Region) (w : ℕ) → w < 2 ^ 32 → Whole S v → Whole S (markAll S t rows tails w v)
+mark-all-whole : {F : Form} {S : Shape} {v : View} (t : ℕ) (rows tails : Region) (w : ℕ) → w < 2 ^ 32 → Whole F S v → Whole F S (markAll S t rows tails w v)
 unfolding markAll
-mark-all-whole {S} {v} t rows tails w b o =
+mark-all-whole {F} {S} {v} t rows tails w b o =
     renew-whole tails _ (marks-length S (v Used) (v TailTransaction) t w (S .ranges) (v tails) ∙ o .long tails) (marks-fit S (v Used) (v TailTransaction) t w (S .ranges) (v tails) b (o .fits tails))
     (renew-whole rows _ (changed-length _ 0 (v rows) (rowsGiven v) ∙ o .long rows) (marked-fit (v RowTransaction) 0 (rowsGiven v) t w (v rows) b (o .fits rows)) o)
 
-pub settled-whole : {S : Shape} {v : View} (t state : ℕ) (s : Commit) → state < 2 ^ 32 → s .stamp < 2 ^ 32 → s .ordinal < 2 ^ 32 → Whole S v → Whole S (settled S t state s v)
+pub settled-whole : {F : Form} {S : Shape} {v : View} (t state : ℕ) (s : Commit) → state < 2 ^ 32 → s .stamp < 2 ^ 32 → s .ordinal < 2 ^ 32 → Whole F S v → Whole F S (settled S t state s v)
 unfolding settled
 settled-whole t state s a b c o =
     mark-all-whole t RowOrdinal TailOrdinal (s .ordinal) c (mark-all-whole t RowStamp TailStamp (s .stamp) b (mark-all-whole t RowState TailState state a o))
@@ -181,7 +183,7 @@ closed-is f ts t x k a = by-cases (ℕ-discrete k t)
     (λ e. rw (eq-eqb k t e, e, nth-changed unknown ts t x (λ u. clash (cc))))
     (λ n. rw (ne-eqb k t n, nth-other unknown ts t x k n))
 
-module _ {S : Shape} {v : View} {ps : List ScanEntry} {h : History} (o : Represents S v ps h) (k : WellFormed S h) (t : ℕ) {x : State} {s : Commit} (a : stateOf h t ≡ active) (c : Closing h x s) where
+module _ {F : Form} {S : Shape} {v : View} {ps : List ScanEntry} {h : History} (o : Represents F S v ps h) (k : WellFormed S h) (t : ℕ) {x : State} {s : Commit} (a : stateOf h t ≡ active) (c : Closing h x s) where
   abbrev closedHistory : History
   closedHistory = withTransactions h (change (h .transactions) t x) (h .keepers) s
 
@@ -189,7 +191,7 @@ module _ {S : Shape} {v : View} {ps : List ScanEntry} {h : History} (o : Represe
   marks = settled S t (stateWord x) (commitOf x) v
 
   -- what a word of region i says of row r's inserter, after the marks; and of the transaction of record n of range g
-  row-word : (f : State → ℕ) (i : Region) (r : ℕ) → len (sizesOf S) i ≡ S .ranges * rangeRows → r < length (h .rows) → getD (v i) r 0 ≡ f (stateOf h ((rowAt h r) .inserter))
+  row-word : (f : State → ℕ) (i : Region) (r : ℕ) → len (sizesOf F S) i ≡ S .ranges * rangeRows → r < length (h .rows) → getD (v i) r 0 ≡ f (stateOf h ((rowAt h r) .inserter))
       → getD (marked (v RowTransaction) 0 (rowsGiven v) t 0 (f x) (v i)) r 0 ≡ f (stateOf closedHistory ((rowAt h r) .inserter))
   unfolding stateOf rowIn withTransactions
   row-word f i r e b q =
@@ -212,7 +214,7 @@ module _ {S : Shape} {v : View} {ps : List ScanEntry} {h : History} (o : Represe
   used-few : (g : ℕ) → g < S .ranges → usedIn v g ≤ S .capacity
   used-few g b = omega (arith, o .tails g b .used-all, k .invariants .limits .records g)
 
-  record-word : (f : State → ℕ) (i : Region) (g n : ℕ) → len (sizesOf S) i ≡ S .ranges * S .capacity → g < S .ranges → n < length (recordsOf h g)
+  record-word : (f : State → ℕ) (i : Region) (g n : ℕ) → len (sizesOf F S) i ≡ S .ranges * S .capacity → g < S .ranges → n < length (recordsOf h g)
       → getD (v i) (g * S .capacity + n) 0 ≡ f (stateOf h ((getD (recordsOf h g) n noRecord) .transaction))
       → getD (markTails S (v Used) (v TailTransaction) t (f x) (S .ranges) (v i)) (g * S .capacity + n) 0 ≡ f (stateOf closedHistory ((getD (recordsOf h g) n noRecord) .transaction))
   unfolding stateOf recordIn withTransactions
@@ -253,16 +255,16 @@ module _ {S : Shape} {v : View} {ps : List ScanEntry} {h : History} (o : Represe
         keepers-freed (k .invariants) (o .opens) (o .keepers) _ inside,
       )
 
-  closed-whole : stateWord x < 2 ^ 32 → stampOf x < 2 ^ 32 → ordinalOf x < 2 ^ 32 → Whole S (freed t marks)
+  closed-whole : stateWord x < 2 ^ 32 → stampOf x < 2 ^ 32 → ordinalOf x < 2 ^ 32 → Whole F S (freed t marks)
   unfolding freed
   closed-whole b d e =
       put-whole OpenKeeper _ 0 (omega arith) (put-whole Changes _ 0 (omega arith) (put-whole Opens _ 0 (omega arith) (settled-whole t (stateWord x) (commitOf x) b d e (o .whole))))
 
-pub abort-kept : {S : Shape} {v : View} {ps : List ScanEntry} {h : History} → Represents S v ps h → WellFormed S h → (t : ℕ) → stateOf h t ≡ active
+pub abort-kept : {F : Form} {S : Shape} {v : View} {ps : List ScanEntry} {h : History} → Represents F S v ps h → WellFormed S h → (t : ℕ) → stateOf h t ≡ active
     → Step S h (abort t) (withTransactions h (change (h .transactions) t aborted) (h .keepers) (h .last))
-    → Represents S (abortedIn S t v) ps (withTransactions h (change (h .transactions) t aborted) (h .keepers) (h .last))
+    → Represents F S (abortedIn S t v) ps (withTransactions h (change (h .transactions) t aborted) (h .keepers) (h .last))
 unfolding abortedIn freed openIndex markAll settled put renew withTransactions rowIn recordIn valueIn pageIn cellIn currentIn scanPage wasCurrent scanAt
-abort-kept {S} {v} {ps} {h} o k t a step =
+abort-kept {F} {S} {v} {ps} {h} o k t a step =
     search (
       header-same {t′ = length (change (h .transactions) t aborted)} refl (sym (length-change (h .transactions) t aborted)) refl refl (o .header),
       closed-parts o k t a by-abort,
@@ -271,16 +273,16 @@ abort-kept {S} {v} {ps} {h} o k t a step =
     )
 
 -- the count of commits has not gone round
-next-ordinal : {S : Shape} (v : View) {h : History} → HeaderFor S h v → Limits S h → (nextWord (commitsMade v) ≡ suc (h .last .ordinal)) × (suc (h .last .ordinal) < 2 ^ 32)
+next-ordinal : {F : Form} {S : Shape} (v : View) {h : History} → HeaderFor F S h v → Limits S h → (nextWord (commitsMade v) ≡ suc (h .last .ordinal)) × (suc (h .last .ordinal) < 2 ^ 32)
 next-ordinal v {h} o l =
     let b : suc (h .last .ordinal) < 2 ^ 32 = omega (arith, commits-few l, l .transactions) in
     (mod-eq-of-lt (omega (arith, o .commits-made)) ∙ omega (arith, o .commits-made), b)
 
-pub commit-kept : {S : Shape} {v : View} {ps : List ScanEntry} {h : History} → Represents S v ps h → WellFormed S h → (t s : ℕ) → stateOf h t ≡ active → h .last .stamp ≤ s → s < 2 ^ 32
+pub commit-kept : {F : Form} {S : Shape} {v : View} {ps : List ScanEntry} {h : History} → Represents F S v ps h → WellFormed S h → (t s : ℕ) → stateOf h t ≡ active → h .last .stamp ≤ s → s < 2 ^ 32
     → Step S h (commit t s) (withTransactions h (change (h .transactions) t (committed (nextCommit h s))) (h .keepers) (nextCommit h s))
-    → Represents S (committedIn S t s v) ps (withTransactions h (change (h .transactions) t (committed (nextCommit h s))) (h .keepers) (nextCommit h s))
+    → Represents F S (committedIn S t s v) ps (withTransactions h (change (h .transactions) t (committed (nextCommit h s))) (h .keepers) (nextCommit h s))
 unfolding committedIn freed openIndex markAll settled put renew withTransactions rowIn recordIn valueIn pageIn cellIn currentIn scanPage wasCurrent scanAt
-commit-kept {S} {v} {ps} {h} o k t s a later fit step =
+commit-kept {F} {S} {v} {ps} {h} o k t s a later fit step =
     let e = next-ordinal v (o .header) (k .invariants .limits) in
     rw (e .0)
     (search (

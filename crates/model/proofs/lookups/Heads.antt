@@ -11,6 +11,7 @@ use borrow.Author.Tests.{le-leb, ne-eqb}
 use lib.ListN.{length, getD}
 use lib.Seq.{take-length}
 use Rattle.terms.specs.Measures.{Shape}
+use Rattle.terms.specs.declared.Form.{Form}
 use Rattle.history.specs.History.{History, Record, Commit, Snapshot, snapshotAt, latestSnapshot, State, unknown, active, aborted, committed, Content, original, setting, ending, committedBy, stateOf, rowAt, ends, rangeOf, recordsOf, seenAt, seenBy, ended, visible, activeOther, held, gone, commitOf}
 use Rattle.history.proofs.Lists.{clash}
 use Rattle.history.specs.Invariants.{UpTo, Stamped}
@@ -89,7 +90,7 @@ pub sees-not-aborted : (h : History) (who : Reader) (f : ℕ → Bool) → SeesA
 unfolding SeesAs sees
 sees-not-aborted h who f w k e = sym (w k) ∙ rw e
 
-module _ {S : Shape} {v : View} {ps : List ScanEntry} {h : History} (o : Represents S v ps h) (k : WellFormed S h) (r : ℕ) (b : r < length (h .rows)) where
+module _ {F : Form} {S : Shape} {v : View} {ps : List ScanEntry} {h : History} (o : Represents F S v ps h) (k : WellFormed S h) (r : ℕ) (b : r < length (h .rows)) where
   abbrev recs : List Record
   recs = recordsOf h (rangeOf r)
 

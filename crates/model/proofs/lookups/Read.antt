@@ -15,8 +15,9 @@ use borrow.Author.Tests.{le-leb, lt-leb}
 use mir.Syntax.{w32}
 use mir.Val.{toZ}
 use Rattle.terms.specs.Measures.{Shape}
+use Rattle.terms.specs.declared.Form.{Form}
 use Rattle.terms.specs.declared.Answer.{Answer}
-use Rattle.history.specs.History.{History, Record, Version, State, unknown, active, aborted, committed, Content, original, setting, ending, any, isCommitted, Commit, stateOf, bit, sets, newValue, insertedValue, inserted, versionIn, lastSetting, rangeOf, rowAt, recordsOf, visible, versionOf, shown, read, keeperOf, keeperRead, cellThrough, commitOf}
+use Rattle.history.specs.History.{History, Record, Version, State, unknown, active, aborted, committed, Content, original, setting, ending, any, isCommitted, Commit, stateOf, bit, sets, newValue, insertedValue, inserted, versionIn, lastSetting, rangeOf, rowAt, recordsOf, visible, versionOf, shown, read, keeperOf, borneBy, keeperRead, cellThrough, commitOf}
 use Rattle.history.proofs.Lists.{by-test, parts, all-map₂, all-both, any-none, all-take, not-any}
 use Rattle.history.specs.Lists.{All}
 use Rattle.history.specs.Records.{among, isOriginal, wasSet, hasOriginal, noRecord, lastOf}
@@ -33,7 +34,7 @@ use Rattle.model.specs.declared.Setter.{Setter}
 use Rattle.model.specs.Stored.{PageWords, rowIn, recordIn, valueIn, pageIn, cellIn, within, originalKind, settingKind, rowKeeper, recordKeeper}
 use Rattle.model.specs.Reading.{sees, answersFor, walk, foundIn, orElse, floor, downTo, wordIn, setterAt, setterIn, commitStamp, setterStamp, lookupIn, shownIn, readIn, keeperWord, keeperIn}
 use Rattle.model.proofs.Lists.{take-next}
-use Rattle.model.specs.Represents.{stateWord, ContentIs, RecordIs, TailOf, Holds, TakenBefore, borneBy, Represents, WellFormed}
+use Rattle.model.specs.Represents.{stateWord, ContentIs, RecordIs, TailOf, Holds, TakenBefore, Represents, WellFormed}
 use Rattle.model.proofs.lookups.Heads.{slot-is, in-range, SeesAs, visible-is}
 
 -- ---- one record
@@ -174,7 +175,7 @@ unfolding wasSet
 unset-take l r c n e =
     any-none (λ (x : Record). eqb (x .row) r && sets c (x .content)) (all-take n (not-any (λ (x : Record). eqb (x .row) r && sets c (x .content)) l (rw e tt)))
 
-module _ {S : Shape} {v : View} {ps : List ScanEntry} {h : History} (o : Represents S v ps h) (k : WellFormed S h) (who : Reader) (f : ℕ → Bool) (w : SeesAs h who f) (r : ℕ)
+module _ {F : Form} {S : Shape} {v : View} {ps : List ScanEntry} {h : History} (o : Represents F S v ps h) (k : WellFormed S h) (who : Reader) (f : ℕ → Bool) (w : SeesAs h who f) (r : ℕ)
     (b : r < length (h .rows)) (c : ℕ) (inside : c < S .columns) where
   abbrev g : ℕ
   g = rangeOf r

@@ -10,6 +10,7 @@ use lib.ListN.{length, getD, take}
 use lib.Seq.{take-length, take-suc}
 use lib.IntN.{ℤ}
 use Rattle.terms.specs.Measures.{Shape}
+use Rattle.terms.specs.declared.Form.{Form}
 use Rattle.history.specs.History.{History, Record, Dated, dated, stateOf, rowAt, rangeOf, recordsOf, sets, inserted, insertedValue, versionIn}
 use Rattle.history.specs.Records.{isOriginal, noRecord}
 use Rattle.history.proofs.Lists.{by-test, parts}
@@ -36,7 +37,7 @@ pub behind : {A : Type 0} (t : Bool) (l : List A) (x : A) → cond t (l ++ x ∷
 behind true l x = refl
 behind false l x = sym (append-nil l)
 
-module _ {S : Shape} {v : View} {ps : List ScanEntry} {h : History} (o : Represents S v ps h) (k : WellFormed S h) (who : Reader) (f : ℕ → Bool) (w : SeesAs h who f) (r : ℕ)
+module _ {F : Form} {S : Shape} {v : View} {ps : List ScanEntry} {h : History} (o : Represents F S v ps h) (k : WellFormed S h) (who : Reader) (f : ℕ → Bool) (w : SeesAs h who f) (r : ℕ)
     (b : r < length (h .rows)) (c : ℕ) (inside : c < S .columns) where
   abbrev g : ℕ
   g = rangeOf r

@@ -14,6 +14,7 @@ use lib.IntN.{ℤ}
 use mir.Syntax.{w32}
 use mir.Val.{toZ}
 use Rattle.terms.specs.Measures.{Shape, rangeRows, mostColumns, mostRanges, mostRecords, mostPages}
+use Rattle.terms.specs.declared.Form.{Form}
 use Rattle.history.specs.History.{merge, History, Record, Merge, Scan, isActive, isCommitted, stateOf, keeperOf, rowAt, rangeOf, recordsOf, mergedThrough, anyActive, waitingPages, scanAt, inserted, lastSetting, withMerges, cellThrough}
 use Rattle.history.proofs.Lists.{by-cases}
 use Rattle.history.specs.Steps.{Mergeable, Step}
@@ -57,7 +58,7 @@ chunk-parts S some i b =
     let c : i < S .ranges * S .columns = omega (arith, mul-comm (S .columns) (S .ranges)) in
     ((div-lt-iff-lt-mul {k = S .columns} {x = i} {y = S .ranges} some) .1 c, mod-lt i some, div-add-mod' i (S .columns))
 
-module _ {S : Shape} {v : View} {ps : List ScanEntry} {h : History} (o : Represents S v ps h) (k : WellFormed S h) where
+module _ {F : Form} {S : Shape} {v : View} {ps : List ScanEntry} {h : History} (o : Represents F S v ps h) (k : WellFormed S h) where
   -- the page that chunk i names
   pub named : (i : ℕ) → i < chunksOf S → CurrentIs S h (i / S .columns) (i % S .columns) (getD (v Current) i 0) (pageIn v (getD (v Current) i 0)) (cellIn v (getD (v Current) i 0))
   unfolding currentIn
@@ -94,7 +95,7 @@ merges-few {S} {h} k =
     let b : S .ranges * (S .columns * S .capacity) ≤ mostRanges * (mostColumns * mostRecords) = mul-le-mul (k .small .ranges) a in
     omega (arith, merges-most S h (k .invariants .merges) (k .invariants .pages) (k .invariants .limits))
 
-module _ {S : Shape} {v : View} {ps : List ScanEntry} {h : History} (o : Represents S v ps h) (k : WellFormed S h) {g c n : ℕ} (ok : Mergeable S h g c n) where
+module _ {F : Form} {S : Shape} {v : View} {ps : List ScanEntry} {h : History} (o : Represents F S v ps h) (k : WellFormed S h) {g c n : ℕ} (ok : Mergeable S h g c n) where
   room : freeIn S v < pagesOf S
   room = nleb→lt (pagesOf S) (freeIn S v)
       (rw (free-is o k) (not-T (leb (S .spares) (waitingPages (h .merges))) (λ t. omega (arith, leb→le (S .spares) (waitingPages (h .merges)) t, ok .spare))))
@@ -154,7 +155,7 @@ module _ {S : Shape} {v : View} {ps : List ScanEntry} {h : History} (o : Represe
       (λ e. let q : (a ≡ g) × (b ≡ c) = same-part (S .columns) a g b c w (ok .column-in) e in rw (q .0, q .1) here) (there a b u w)
 
   -- ---- the pages' words
-  in-page : (q : ℕ) → q < pagesOf S → (r : Region) → len (sizesOf S) r ≡ pagesOf S → q < length (v r)
+  in-page : (q : ℕ) → q < pagesOf S → (r : Region) → len (sizesOf F S) r ≡ pagesOf S → q < length (v r)
   in-page q b r e = omega (arith, o .whole .long r, e)
 
   page-free : pageIn v′ p ≡ record { state = asCurrent; chunk = chunkOf S g c; made = m; replaced = (pageIn v p) .replaced; lineage = n; newest = late }
@@ -376,7 +377,7 @@ module _ {S : Shape} {v : View} {ps : List ScanEntry} {h : History} (o : Represe
           (λ q f z _ y. rw (page-other q f z) (scan-cells (λ r e t. cells-other q (within r) f (omega arith)) y))
 
   -- ---- the whole
-  merge-whole : Whole S v′
+  merge-whole : Whole F S v′
   unfolding mergedIn
   merge-whole =
       let fit : m < 2 ^ 32 = omega (arith, m-is, merges-few k) in
@@ -400,8 +401,8 @@ module _ {S : Shape} {v : View} {ps : List ScanEntry} {h : History} (o : Represe
       newest-fits : (pageIn v old) .newest < 2 ^ 32
       newest-fits = unfold pageIn in (o .whole .fits PageNewest old)
 
-  pub merge-kept : Step S h (merge g c n) h′ → Represents S (mergedIn S g c n v) ps h′
+  pub merge-kept : Step S h (merge g c n) h′ → Represents F S (mergedIn S g c n v) ps h′
   unfolding withMerges stateOf keeperOf rowAt recordsOf mergedIn put renew rowIn recordIn valueIn
   merge-kept step =
-      let header : HeaderFor S h′ v′ = header-same refl refl refl (m-is ∙ sym more-merges) (header-put (v Header) 8 m (omega (arith, o .whole .long Header)) (omega arith) (o .header)) in
+      let header : HeaderFor F S h′ v′ = header-same refl refl refl (m-is ∙ sym more-merges) (header-put (v Header) 8 m (omega (arith, o .whole .long Header)) (omega arith) (o .header)) in
       search (header, merge-currents step, merge-waits step, merge-pool, merge-scans step, merge-whole)

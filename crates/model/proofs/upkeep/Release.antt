@@ -9,6 +9,7 @@ use native.Mathlib.Nat.{le-refl}
 use lib.Dec.{leb·suc-suc, T, leb, ltb, eqb, eqb→eq, le→leb, ltb→lt, T-not}
 use lib.ListN.{length}
 use Rattle.terms.specs.Measures.{Shape}
+use Rattle.terms.specs.declared.Form.{Form}
 use Rattle.history.specs.History.{release, History, Scan, Merge, any, nth, stateOf, keeperOf, rowAt, recordsOf, mergedThrough, noScan, scanAt, neededBy, afterRelease, releasedCount, withMerges}
 use Rattle.history.proofs.Lists.{any-at, clash, refuted, parts, both}
 use Rattle.history.specs.Steps.{Step}
@@ -58,11 +59,11 @@ any-nth f l zero d e t = absurd (rw e at t)
 any-nth f l (suc k) d e t = any-at f l d k (live-inside f l k d e t) t
 
 -- ---- the answer
-pub release-count : {S : Shape} {v : View} {ps : List ScanEntry} {h : History} → Represents S v ps h → countBelow (releasable ps v) (pagesOf S) ≡ releasedCount (h .scans) 0 (h .merges)
+pub release-count : {F : Form} {S : Shape} {v : View} {ps : List ScanEntry} {h : History} → Represents F S v ps h → countBelow (releasable ps v) (pagesOf S) ≡ releasedCount (h .scans) 0 (h .merges)
 unfolding releasable
-release-count {S} {v} {ps} {h} o = o .pool .waiting (λ i. not (neededIn ps i)) ∙ freed-count (h .scans) ps (o .scans) 0 (h .merges)
+release-count {F} {S} {v} {ps} {h} o = o .pool .waiting (λ i. not (neededIn ps i)) ∙ freed-count (h .scans) ps (o .scans) 0 (h .merges)
 
-module _ {S : Shape} {v : View} {ps : List ScanEntry} {h : History} (o : Represents S v ps h) (k : WellFormed S h) where
+module _ {F : Form} {S : Shape} {v : View} {ps : List ScanEntry} {h : History} (o : Represents F S v ps h) (k : WellFormed S h) where
   abbrev h′ : History
   h′ = withMerges h (afterRelease (h .scans) 0 (h .merges))
 
@@ -196,14 +197,14 @@ module _ {S : Shape} {v : View} {ps : List ScanEntry} {h : History} (o : Represe
       same-cells : (s : Scan) (a d q : ℕ) → ScanPageIs S h′ s a d q (pageIn v q) (cellIn v q) → ScanPageIs S h′ s a d q (pageIn v q) (cellIn v′ q)
       same-cells s a d q y = unfold cellIn releasedIn renew in y
 
-  release-whole : Whole S v′
+  release-whole : Whole F S v′
   unfolding releasedIn
   release-whole =
       renew-whole PageState _ (changed-length _ 0 (v PageState) (pagesOf S) ∙ o .whole .long PageState)
       (changed-fit _ 0 (pagesOf S) (v PageState) (λ i x _ b. elim (releasable ps v i) as (λ z. cond z asFree x < 2 ^ 32) [ true ↦ omega arith | false ↦ b ]) (o .whole .fits PageState)) (o .whole)
 
-  pub release-kept : Step S h release h′ → Represents S (releasedIn S ps v) ps h′
+  pub release-kept : Step S h release h′ → Represents F S (releasedIn S ps v) ps h′
   unfolding withMerges stateOf keeperOf rowAt recordsOf releasedIn renew rowIn recordIn valueIn
   release-kept step =
-      let header : HeaderFor S h′ v′ = header-same refl refl refl (sym merges-same) (o .header) in
+      let header : HeaderFor F S h′ v′ = header-same refl refl refl (sym merges-same) (o .header) in
       search (header, release-currents step, release-waits step, release-pool, release-scans step, release-whole)

@@ -11,6 +11,7 @@ use lib.Dec.{T, eqb, lt→ltb}
 use lib.ListN.{length, set, length-append, length-set}
 use borrow.Author.Tests.{le-leb}
 use Rattle.terms.specs.Measures.{Shape, mostScans, mostNumbers}
+use Rattle.terms.specs.declared.Form.{Form}
 use Rattle.history.specs.History.{openScan, close, History, Scan, noScan, snapshotAt, any, count, nth, change, stateOf, keeperOf, rowAt, recordsOf, scanAt, stopped, withScans}
 use Rattle.history.proofs.Lists.{by-cases, all-map, length-change, nth-last, nth-before}
 use Rattle.history.specs.Steps.{Step}
@@ -74,7 +75,7 @@ unfolding scanPage
 scan-current S v m g c b = rw (le-leb ((pageIn v (currentIn S v g c)) .made) m b)
 
 -- ---- open scan
-module _ {S : Shape} {v : View} {ps : List ScanEntry} {h : History} (o : Represents S v ps h) (k : WellFormed S h) (s : ℕ) (room : count (λ s. s .running) (h .scans) < mostScans)
+module _ {F : Form} {S : Shape} {v : View} {ps : List ScanEntry} {h : History} (o : Represents F S v ps h) (k : WellFormed S h) (s : ℕ) (room : count (λ s. s .running) (h .scans) < mostScans)
     (few : length (h .scans) < mostNumbers) where
   abbrev new : Scan
   new = record { running = true; snapshot = snapshotAt h s; merges = length (h .merges) }
@@ -103,7 +104,7 @@ module _ {S : Shape} {v : View} {ps : List ScanEntry} {h : History} (o : Represe
       (λ f. scan-stays o k step refl i (nth-before noScan (h .scans) new i f) t g c p q)
 
   pub open-kept : Step S h (openScan s) after
-      → Represents S (put Header scansAt (scansGiven v + 1) v)
+      → Represents F S (put Header scansAt (scansGiven v + 1) v)
       (set ps (firstIndex (λ p. eqb (p .number) 0) ps) (newEntry v s)) after
   unfolding put renew withScans rowIn recordIn valueIn pageIn cellIn currentIn scanPage wasCurrent stateOf keeperOf rowAt recordsOf
   open-kept step =
@@ -115,7 +116,7 @@ module _ {S : Shape} {v : View} {ps : List ScanEntry} {h : History} (o : Represe
       e : n ≡ suc (length (h .scans))
       e = omega (arith, o .header .scans-given)
 
-      header : HeaderFor S after (put Header scansAt n v)
+      header : HeaderFor F S after (put Header scansAt n v)
       header = unfold put renew withScans in
           (header-same refl refl (e ∙ sym (simp length-append (omega arith))) refl (header-put (v Header) 6 n (omega (arith, o .whole .long Header)) (omega arith) (o .header)))
 
@@ -123,7 +124,7 @@ module _ {S : Shape} {v : View} {ps : List ScanEntry} {h : History} (o : Represe
       scans = rw (e, o .header .merges-made, o .header .commits-made) (scans-add (h .scans) ps new (o .scans) tt room)
 
 -- ---- close
-module _ {S : Shape} {v : View} {ps : List ScanEntry} {h : History} (o : Represents S v ps h) (k : WellFormed S h) (i : ℕ) (run : T (scanAt h i .running)) where
+module _ {F : Form} {S : Shape} {v : View} {ps : List ScanEntry} {h : History} (o : Represents F S v ps h) (k : WellFormed S h) (i : ℕ) (run : T (scanAt h i .running)) where
   abbrev ended : List Scan
   ended = change (h .scans) i (stopped (scanAt h i))
 
@@ -131,9 +132,9 @@ module _ {S : Shape} {v : View} {ps : List ScanEntry} {h : History} (o : Represe
   unfolding scanAt withScans
   close-pages step j t = scan-stays o k step refl j (still-running (h .scans) i j run t) t
 
-  pub close-kept : Step S h (close i) (withScans h ended) → Represents S v (set ps (firstIndex (isScan i) ps) freeEntry) (withScans h ended)
+  pub close-kept : Step S h (close i) (withScans h ended) → Represents F S v (set ps (firstIndex (isScan i) ps) freeEntry) (withScans h ended)
   unfolding withScans rowIn recordIn valueIn stateOf keeperOf rowAt recordsOf
   close-kept step =
-      let header : HeaderFor S (withScans h ended) v = header-same refl refl (sym (length-change (h .scans) i (stopped (scanAt h i)))) refl (o .header) in
+      let header : HeaderFor F S (withScans h ended) v = header-same refl refl (sym (length-change (h .scans) i (stopped (scanAt h i)))) refl (o .header) in
       let scans : ScansAre ended (set ps (firstIndex (isScan i) ps) freeEntry) = scans-drop (h .scans) ps i (stopped (scanAt h i)) (o .scans) (unfold scanAt in run) (unfold stopped in refl) in
       search (header, scans, currents-stay o k step refl refl, waits-stay o k step refl, close-pages step)

@@ -1,6 +1,6 @@
 -- `upkeep::open_scan` meets its contract: each answer follows from the tests that led to it.
 use borrow.Author.Needs.{needs}
-use mathlib.Core.Path.{ap}
+use mathlib.Core.Path.{ap, refl}
 use Rattle.terms.specs.declared.Answer.{Answer}
 use Rattle.model.specs.Calls.{replyIn, actIn}
 use Rattle.admission.proofs.Served.{serving, admitted, part-seen, found, write-serves}
@@ -17,9 +17,9 @@ returns-3 c =
     let passed : tie.After-index = search in
     let entry : tie.After-new-entry = search in
     let act : tie.After-give-scan = search in
-    let seen = part-seen (admitted _ _ _ _ _ (known .s .given .1) (admit .admit .ensures)) in
+    let seen = part-seen (admitted _ _ _ _ _ _ (known .s .given .1) (admit .admit .ensures) .0) in
     let first = found _ _ _ (passed .index .given .1) (tests .open-tests .ensures .1 .0) in
-    write-serves _ _ _ _ _ (known .s .given .1) (admit .admit .ensures) _ (search serving) _ _ _ (act .give-scan .kept .0) (c .slice-known2 .given)
+    write-serves _ _ _ _ _ (known .s .given .1) _ (admit .admit .ensures) refl (search serving) _ _ _ (act .give-scan .kept .0) (c .slice-known2 .given)
     (λ ps q few. (ap Answer.Number (act .give-scan .ensures .0), act .give-scan .ensures .1, opened-list _ ps _ _ _ _ q first (rw seen (entry .new-entry .ensures))))
 
 pub open-scan-spec : {M : Type 1} → statement M

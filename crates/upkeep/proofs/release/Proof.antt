@@ -22,7 +22,7 @@ returns-3 c =
     let admit : tie.After-admit = search in
     let known : tie.After-s = search in
     let act : tie.After-release = search in
-    write-serves _ _ _ _ _ (known .s .given .1) (admit .admit .ensures) _ (λ ps q few. refl) _ _ _ (act .release .kept .0) (c .slice-known2 .given)
+    write-serves _ _ _ _ _ (known .s .given .1) _ (admit .admit .ensures) refl (λ ps q few. refl) _ _ _ (act .release .kept .0) (c .slice-known2 .given)
     (λ ps q few. let z = act .release .ensures ps q few in (ap Answer.Number (z .0), z .1, refl))
 
 pub release-spec : {M : Type 1} → statement M

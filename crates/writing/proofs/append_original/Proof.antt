@@ -24,16 +24,16 @@ returns : tie.Need-returns
 returns c =
     let filled : tie.After-fill-cells = search in
     let record-put : tie.After-append = search in
-    let row : tie.After-read = search in
+    let row : tie.After-read-later = search in
     let start : tie.Start = search in
-    original-is _ _ _ _ _ _ _ _ (row .read .ensures) (record-put .append .ensures) (filled .fill-cells .ensures) (start .pre .0) (start .pre .1 .0 .0) (start .pre .1 .1)
+    original-is _ _ _ _ _ _ _ _ (row .read-later .ensures) (record-put .append .ensures) (filled .fill-cells .ensures) (start .pre .0) (start .pre .1 .0 .0) (start .pre .1 .1)
 
 pub append-original-spec : {M : Type 1} → statement M
 append-original-spec =
     tie.close
     (tie.spec
     (λ c. search needs)
-    (λ c κs. let start : tie.Start = search in (omega arith, start .pre .1 .1 .row-below))
+    (λ c κs. search needs)
     (λ c κs. search needs)
     fill-cells-requires
     (λ c. search needs)

@@ -7,11 +7,11 @@ use Rattle.writing.proofs.put_open.Tie as tie
 returns : tie.Need-returns
 unfolding openPut
 returns c =
-    let write4 : tie.After-write4 = search in
+    let write4 : tie.After-write-later = search in
     let write3 : tie.After-write3 = search in
     let write2 : tie.After-write2 = search in
     let write : tie.After-write = search in
-    rw (write4 .write4 .ensures, write3 .write3 .ensures, write2 .write2 .ensures, write .write .ensures)
+    rw (write4 .write-later .ensures, write3 .write3 .ensures, write2 .write2 .ensures, write .write .ensures)
 
 pub put-open-spec : {M : Type 1} → statement M
 put-open-spec =

@@ -6,7 +6,7 @@ use Rattle.layout.specs.declared.Sizes.{Sizes}
 use Rattle.layout.specs.Sizes.{Proper}
 use Rattle.layout.proofs.Limits.{proper}
 use Rattle.scans.proofs.Table.{table-length}
-use Rattle.facts.specs.Usable.{storedShape, storedSizes}
+use Rattle.facts.specs.Usable.{storedShape, storedForm, storedSizes}
 use Rattle.pages.specs.declared.check.Checked.the-variants.{Fit}
 use Rattle.pages.specs.Checked.{measured}
 use Rattle.pages.proofs.Answers.{Measured, measured-tells, unmeasured, few-entries, by-facts}
@@ -28,7 +28,7 @@ known c = measured-tells _ _ (found c)
 
 whole : (c : tie.After-struct-known) → Proper (sizes c)
 unfolding storedSizes
-whole c = rw (known c .sizes-are) (proper (storedShape (words (begun c .args .mem .now))) (known c .within))
+whole c = rw (known c .sizes-are) (proper (storedForm (words (begun c .args .mem .now))) (storedShape (words (begun c .args .mem .now))) (known c .within))
 
 returns : tie.Need-returns
 returns c = let call = c .before .before in (λ ps e. unmeasured (call .before .before .args .mem .now) ps (sym (call .measure .ensures) ∙ c .enum-told .given .1), tt)

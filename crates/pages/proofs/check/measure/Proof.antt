@@ -1,7 +1,6 @@
 -- `pages::check::measure` meets its contract: the words read are the stored shape, and each answer follows from the tests that led to it.
-use native.Mathlib.Omega.{arith}
 use borrow.Author.Needs.{needs}
-use Rattle.pages.proofs.Answers.{too-short, other-form, out-of-limits, within-limits, words-few, bytes-few, no-room, fit}
+use Rattle.pages.proofs.Answers.{too-short, other-form, out-of-limits, limits-passed, words-few, bytes-few, no-room, fit}
 use Rattle.pages.proofs.check.measure.Statement.{statement}
 use Rattle.pages.proofs.check.measure.Tie as tie
 
@@ -11,14 +10,15 @@ measure-spec =
     (tie.spec
     (λ c. search too-short)
     (λ c κs. search needs)
-    (λ c. omega arith)
+    (λ c κs. search needs)
     (λ c. search other-form)
     (λ c κs. search needs)
     (λ c κs. search needs)
     (λ c κs. search needs)
     (λ c κs. search needs)
+    (λ c κs. search needs)
     (λ c. search out-of-limits)
-    (λ c κs. search within-limits)
+    (λ c κs. limits-passed _ _ (c .before .within-limits .ensures) (c .if3 .left))
     (λ c κs. search words-few)
     (λ c. search bytes-few)
     (λ c. search no-room)

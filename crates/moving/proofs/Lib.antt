@@ -1,0 +1,4 @@
+-- Lemmas of the moves.
+pub mod Borne
+pub mod Ends
+pub mod Laid

@@ -1,0 +1,2 @@
+-- What the functions that look for keepers are told.
+pub mod Borne

@@ -21,10 +21,10 @@ use Rattle.facts.specs.Usable.{storedShape, usable}
 use Rattle.facts.proofs.Usable.{usable-tells}
 use Rattle.history.proofs.Lists.{is-true, refuted, clash}
 use Rattle.history.specs.History.{Call, move, Outcome, alone, given, Verdict, accept, refuse, verdict}
-use Rattle.history.specs.Forms.{FormUse, either, newest, formUse}
+use Rattle.history.specs.Forms.{formUse, inPlace}
 use Rattle.model.specs.Calls.{testsIn, entriesAfter, entriesIf, entriesNext}
 use Rattle.history.specs.Claims.{isPlain, kind, strike, plainOutcomes}
-use Rattle.promise.specs.Promise.{Lent, storeView, admits, answerOf, memoryAfter, listAfter, secondAfter, storeOf, outcomeOf, leftBy, outcomesOf, Serves, Gives, Moves, Makes, lend, left}
+use Rattle.promise.specs.Promise.{Lent, storeView, admits, answerOf, listAfter, outcomeOf, leftBy, outcomesOf, Serves, Gives, Moves, Makes, lend, left}
 use Rattle.promise.specs.Demands.{Accepted, memoryMade, storeOutcomes, storeLeft, storeOutcomeAt, AcceptsIn, Refuses, RefusedKeeps, ReadsCommitted, PagesCommitted, Demand3, StrikingStore, MinutesStableStore, ScansStableStore}
 use Rattle.promise.specs.Footprint.{ChangesOnly, MergeChangesOnly, MakingChangesOnly, MoveChangesOnly}
 use Rattle.promise.specs.Stated.{conditions}
@@ -32,18 +32,13 @@ use Rattle.promise.proofs.Demands.{demand3, reads-committed, pages-committed, s
 use Rattle.promise.proofs.Refused.{refused-keeps}
 use Rattle.promise.proofs.Footprint.{changes-only, merge-changes-only, making-changes-only}
 use Rattle.promise.proofs.Moves.{move-changes-only}
-use Rattle.promise.proofs.Alone.{none-left}
+use Rattle.promise.proofs.Alone.{none-left, left-in-place}
 use Rattle.promise.proofs.Stated.{refuses}
 use Rattle.making.specs.Made.{made}
 use Rattle.scans.specs.Entries.{allFreed, freedIf}
-use Rattle.calls.specs.Runs.{staysPut, Run, ends, goes, moves-on, stays, Begun, by-making, of-first, Interface, returnedFor, AcceptsAmong, returnedAt, RefusedSo, RefusedKept, UnmadeKept, ChangedSo, MergedSo, MadeSo, UnmovedKept, MovedSo, UnmovedSo, ReadsSo, PagesSo, OutcomesSo, StruckSame, MinutesSo, ScansSo, calls, LentRefused, LentKept, MakingKept, LentChanged, LentMerged, MakingChanged, MoveKept, MoveChanged, MoveRefused, LentReads, LentPages, LentOutcomes, LentStriking, LentMinutes, LentScans, MakingFrees, ShortRefused}
+use Rattle.calls.specs.Runs.{Run, ends, goes, moves-on, stays, Begun, by-making, of-first, Interface, returnedFor, AcceptsAmong, returnedAt, RefusedSo, RefusedKept, UnmadeKept, ChangedSo, MergedSo, MadeSo, UnmovedKept, MovedSo, UnmovedSo, ReadsSo, PagesSo, OutcomesSo, StruckSame, MinutesSo, ScansSo, calls, LentRefused, LentKept, MakingKept, LentChanged, LentMerged, MakingChanged, MoveKept, MoveChanged, MoveRefused, LentReads, LentPages, LentOutcomes, LentStriking, LentMinutes, LentScans, MakingFrees, ShortRefused}
 
 -- ---- what a run answers and leaves
--- what a call that is no move leaves is the store
-put-there : (u : FormUse) → T (staysPut u) → (a : Bool) (before after second : List ℕ) → storeOf u a before after second ≡ after
-put-there either t a before after second = refl
-put-there newest t a before after second = refl
-
 -- a move leaves the list
 move-list : (m : List ℕ) (ps : List ScanEntry) (to : Form) (second : List ℕ) → listAfter (lend m ps) (move to second) ≡ ps
 unfolding listAfter entriesNext entriesAfter entriesIf
@@ -64,10 +59,10 @@ unfolding outcomesOf
 outcomes-on x c cs o os e f g h = rw (e, h, f, g) refl
 
 -- the outcome of a call, and the store that it leaves
-as-left : (x : Lent) (c : Call) (o : Outcome Answer) {m′ : List ℕ} {ps′ : List ScanEntry} → T (staysPut (formUse c)) → Gives (x .memory) (x .list) c o m′ ps′ → (o ≡ outcomeOf x c) × (m′ ≡ leftBy x c .memory) × (ps′ ≡ leftBy x c .list)
+as-left : (x : Lent) (c : Call) (o : Outcome Answer) {m′ : List ℕ} {ps′ : List ScanEntry} → T (inPlace (formUse c)) → Gives (x .memory) (x .list) c o m′ ps′ → (o ≡ outcomeOf x c) × (m′ ≡ leftBy x c .memory) × (ps′ ≡ leftBy x c .list)
 unfolding Gives Serves
 as-left x c o put s =
-    (rw (← s .0 .0, ← s .1), s .0 .1 ∙ sym (put-there (formUse c) put (isAccepted (answerOf x c)) (x .memory) (memoryAfter x c) (secondAfter x c)), s .0 .2)
+    (rw (← s .0 .0, ← s .1), s .0 .1 ∙ sym (left-in-place x c put), s .0 .2)
 
 alone-is : (m : List ℕ) (ps : List ScanEntry) (to : Form) (second : List ℕ) (r : Answer) → r ≡ answerOf (lend m ps) (move to second) → alone r ≡ outcomeOf (lend m ps) (move to second)
 alone-is m ps to second r e = rw (← e, none-left (lend m ps) (move to second) refl)

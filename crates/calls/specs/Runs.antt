@@ -3,7 +3,7 @@
 use Prim.Native.Nat.{ℕ, _≤_, _<_}
 use mathlib.Core.Path.{_≡_}
 use mathlib.Core.Logic.{_↔_}
-use mathlib.Core.Bool.{Bool, true, false}
+use mathlib.Core.Bool.{false}
 use lib.Dec.{T}
 use mathlib.Core.List.{List, [], _∷_, map}
 use lib.ListN.{length, getD}
@@ -18,7 +18,7 @@ use Rattle.scans.specs.Entries.{allFreed}
 use Rattle.history.specs.History.{Call, merge, move, Snapshot, Outcome, alone, sliceOf, lentTo, start, outcomes}
 use Rattle.history.specs.Claims.{strike, plainOutcomes, Shows, AsksMinutes, AsksScan, historyBefore, callAt}
 use Rattle.history.specs.Latest.{ValueAt, lastCommitted}
-use Rattle.history.specs.Forms.{FormUse, either, newest, moving, formUse}
+use Rattle.history.specs.Forms.{formUse, inPlace}
 use Rattle.facts.specs.Usable.{storedShape}
 use Rattle.model.specs.Calls.{Typed}
 use Rattle.model.specs.Claims.{historyAfter, PageHolds}
@@ -43,15 +43,10 @@ returnedFor F o = record { answer = F .returns (o .answer); stamps = o .stamps }
 
 -- A run (rule 11.1 of docs/SPECIFICATION.md): calls over one store, each lent what the call before left, with their outcomes, which are what they returned and what they
 -- left in a slice that they were lent to write, and with what the last one left. After an accepted move the second memory is the store, with the list; after a refused one the first still is.
-abbrev pub staysPut : FormUse → Bool
-staysPut either = true
-staysPut newest = true
-staysPut (moving to) = false
-
 pub data Run (F : Interface) : List ℕ → List ScanEntry → List Call → List (Outcome (F .Returned)) → List ℕ → List ScanEntry → Type 0 where
   ends : {m : List ℕ} {ps : List ScanEntry} → Run F m ps [] [] m ps
   goes : {m m′ m″ : List ℕ} {ps ps′ ps″ : List ScanEntry} {c : Call} {o : Outcome (F .Returned)} {cs : List Call} {os : List (Outcome (F .Returned))}
-      → T (staysPut (formUse c)) → F .gives m ps c o m′ ps′ → Run F m′ ps′ cs os m″ ps″ → Run F m ps (c ∷ cs) (o ∷ os) m″ ps″
+      → T (inPlace (formUse c)) → F .gives m ps c o m′ ps′ → Run F m′ ps′ cs os m″ ps″ → Run F m ps (c ∷ cs) (o ∷ os) m″ ps″
   moves-on : {m second second′ m″ : List ℕ} {ps ps″ : List ScanEntry} {to : Form} {r : F .Returned} {cs : List Call} {os : List (Outcome (F .Returned))}
       → F .moves m ps to second r second′ → F .Accepts r → Run F second′ ps cs os m″ ps″ → Run F m ps (move to second ∷ cs) (alone r ∷ os) m″ ps″
   stays : {m second second′ m″ : List ℕ} {ps ps″ : List ScanEntry} {to : Form} {r : F .Returned} {n : Refusal} {cs : List Call} {os : List (Outcome (F .Returned))}

@@ -13,7 +13,7 @@ use mir.Val.{toZ}
 use Rattle.words.specs.Words.{words}
 use Rattle.history.proofs.Lists.{by-cases}
 use Rattle.words.proofs.Words.{words-take}
-use Rattle.commands.specs.declared.Form.{Form}
+use Rattle.commands.specs.declared.Format.{Format}
 use Rattle.commands.specs.Commands.{valueBytes, widthsOf, total, width, valueCount, operand, operands, values, callFrom, littleEndian, shapeBytes, shapeFrom}
 
 -- whether the operands are whole can be told from them
@@ -39,7 +39,7 @@ unfolding operands
 operands-part at [] w bs h = refl
 operands-part at (x ∷ ws) w bs h = rw (operand-part at x w bs (omega arith), operands-part (at + x) ws w bs (omega arith))
 
-pub call-part : (columns : ℕ) (f : Form) (bs : List ℕ) → width columns f ≤ length bs → callFrom columns f (take (width columns f) bs) ≡ callFrom columns f bs
+pub call-part : (columns : ℕ) (f : Format) (bs : List ℕ) → width columns f ≤ length bs → callFrom columns f (take (width columns f) bs) ≡ callFrom columns f bs
 unfolding callFrom
 call-part columns f bs h =
     let w : ℕ = width columns f in

@@ -7,7 +7,7 @@ use native.Mathlib.Omega.{arith}
 use lib.Dec.{T, leb, leb→le}
 use lib.ListN.{getD, List·getD-eq-default}
 use Rattle.terms.specs.declared.Refusal.{Refusal}
-use Rattle.commands.specs.declared.Form.{Form}
+use Rattle.commands.specs.declared.Format.{Format}
 use Rattle.commands.specs.declared.Chosen.{Chosen}
 use Rattle.commands.specs.Commands.{operandBytes, Narrow, widthsOf, chosen, commands}
 use Rattle.history.specs.Lists.{All, nil, cons}
@@ -68,6 +68,6 @@ abbrev narrowForm : Chosen → Bool
 narrowForm (Chosen.Known f) = narrow (widthsOf f)
 narrowForm (Chosen.Refused r) = true
 
-pub chosen-narrow : (byte : ℕ) (f : Form) → chosen byte ≡ Chosen.Known f → Narrow (widthsOf f)
+pub chosen-narrow : (byte : ℕ) (f : Format) → chosen byte ≡ Chosen.Known f → Narrow (widthsOf f)
 unfolding commands
 chosen-narrow byte f e = narrow-tells (widthsOf f) (rw e at (chosen-passes narrowForm tt tt byte))

@@ -1,53 +1,46 @@
--- No command is a move: the call of a command works on the newest form, and leaves the form as it is.
+-- No command is a move: the call of a command leaves the store in its memory.
 use Prim.Native.Nat.{ℕ}
-use mathlib.Core.Bool.{Bool, true, false}
 use mathlib.Core.List.{List}
 use lib.Dec.{T}
 use lib.IntN.{ℤ}
-use Rattle.history.specs.Forms.{FormUse, either, newest, moving, formUse}
+use Rattle.history.specs.Forms.{formUse, inPlace}
 use Rattle.commands.specs.declared.Read.{Read}
 use Rattle.commands.specs.declared.Write.{Write}
 use Rattle.commands.specs.declared.Kind.{Kind}
-use Rattle.commands.specs.declared.Form.{Form}
+use Rattle.commands.specs.declared.Format.{Format}
 use Rattle.commands.specs.Commands.{readOf, writeOf, callOf, callFrom}
 
--- it is no move
-abbrev pub stays : FormUse → Bool
-stays either = true
-stays newest = true
-stays (moving to) = false
-
-read-stays : (k : Read) (ns : List ℕ) → T (stays (formUse (readOf k ns)))
+read-in-place : (k : Read) (ns : List ℕ) → T (inPlace (formUse (readOf k ns)))
 unfolding readOf
-read-stays Read.Latest ns = tt
-read-stays Read.ReadAt ns = tt
-read-stays Read.OwnRead ns = tt
-read-stays Read.ScanRead ns = tt
-read-stays Read.Sum ns = tt
-read-stays Read.PageCell ns = tt
-read-stays Read.Lineage ns = tt
-read-stays Read.KeeperAt ns = tt
+read-in-place Read.Latest ns = tt
+read-in-place Read.ReadAt ns = tt
+read-in-place Read.OwnRead ns = tt
+read-in-place Read.ScanRead ns = tt
+read-in-place Read.Sum ns = tt
+read-in-place Read.PageCell ns = tt
+read-in-place Read.Lineage ns = tt
+read-in-place Read.KeeperAt ns = tt
 
-write-stays : (k : Write) (ns : List ℕ) (vs : List ℤ) → T (stays (formUse (writeOf k ns vs)))
+write-in-place : (k : Write) (ns : List ℕ) (vs : List ℤ) → T (inPlace (formUse (writeOf k ns vs)))
 unfolding writeOf
-write-stays Write.Begin ns vs = tt
-write-stays Write.Insert ns vs = tt
-write-stays Write.Update ns vs = tt
-write-stays Write.Delete ns vs = tt
-write-stays Write.Commit ns vs = tt
-write-stays Write.Abort ns vs = tt
-write-stays Write.Merge ns vs = tt
-write-stays Write.Release ns vs = tt
-write-stays Write.BeginAs ns vs = tt
+write-in-place Write.Begin ns vs = tt
+write-in-place Write.Insert ns vs = tt
+write-in-place Write.Update ns vs = tt
+write-in-place Write.Delete ns vs = tt
+write-in-place Write.Commit ns vs = tt
+write-in-place Write.Abort ns vs = tt
+write-in-place Write.Merge ns vs = tt
+write-in-place Write.Release ns vs = tt
+write-in-place Write.BeginAs ns vs = tt
 
-call-stays : (k : Kind) (ns : List ℕ) (vs : List ℤ) → T (stays (formUse (callOf k ns vs)))
+call-in-place : (k : Kind) (ns : List ℕ) (vs : List ℤ) → T (inPlace (formUse (callOf k ns vs)))
 unfolding callOf
-call-stays (Kind.Read k) ns vs = read-stays k ns
-call-stays (Kind.Write k) ns vs = write-stays k ns vs
-call-stays Kind.OpenScan ns vs = tt
-call-stays Kind.Close ns vs = tt
-call-stays Kind.Crossings ns vs = tt
+call-in-place (Kind.Read k) ns vs = read-in-place k ns
+call-in-place (Kind.Write k) ns vs = write-in-place k ns vs
+call-in-place Kind.OpenScan ns vs = tt
+call-in-place Kind.Close ns vs = tt
+call-in-place Kind.Crossings ns vs = tt
 
-pub command-stays : (columns : ℕ) (f : Form) (bs : List ℕ) → T (stays (formUse (callFrom columns f bs)))
+pub command-in-place : (columns : ℕ) (f : Format) (bs : List ℕ) → T (inPlace (formUse (callFrom columns f bs)))
 unfolding callFrom
-command-stays columns f bs = call-stays (f .kind) _ _
+command-in-place columns f bs = call-in-place (f .kind) _ _

@@ -15,7 +15,7 @@ use Rattle.history.specs.History.{Call, begin, insert, update, delete, commit, 
 use Rattle.commands.specs.declared.Read.{Read}
 use Rattle.commands.specs.declared.Write.{Write}
 use Rattle.commands.specs.declared.Kind.{Kind}
-use Rattle.commands.specs.declared.Form.{Form}
+use Rattle.commands.specs.declared.Format.{Format}
 use Rattle.commands.specs.declared.Chosen.{Chosen}
 
 -- ---- widths
@@ -38,9 +38,9 @@ abbrev pub commandBytes : ℕ
 commandBytes = 1 + operandsBytes
 
 -- ---- the commands
--- the form of a call with operands of the given widths, and of none past them
-abbrev pub formOf : Kind → List ℕ → Bool → Form
-formOf k ws vs = record {
+-- the format of a call with operands of the given widths, and of none past them
+abbrev pub formatOf : Kind → List ℕ → Bool → Format
+formatOf k ws vs = record {
   kind = k;
   first = getD ws 0 0;
   second = getD ws 1 0;
@@ -50,14 +50,14 @@ formOf k ws vs = record {
   values = vs;
 }
 
-abbrev pub widthsOf : Form → List ℕ
+abbrev pub widthsOf : Format → List ℕ
 widthsOf f = f .first ∷ f .second ∷ f .third ∷ f .fourth ∷ f .fifth ∷ []
 
 abbrev pub numbers : Kind → List ℕ → Chosen
-numbers k ws = Chosen.Known (formOf k ws false)
+numbers k ws = Chosen.Known (formatOf k ws false)
 
 abbrev pub numbersAndValues : Kind → List ℕ → Chosen
-numbersAndValues k ws = Chosen.Known (formOf k ws true)
+numbersAndValues k ws = Chosen.Known (formatOf k ws true)
 
 -- Each command byte from 00 on: the call, the widths of its operands in bytes, and whether every column's value follows.
 unfoldable pub commands : List Chosen
@@ -114,12 +114,12 @@ abbrev pub Narrow : List ℕ → Type 0
 Narrow [] = Unit {0}
 Narrow (w ∷ ws) = (w ≤ operandBytes) × Narrow ws
 
--- what the code that decodes asks of a form and the columns
-abbrev pub Small : ℕ → Form → Type 0
+-- what the code that decodes asks of a format and the columns
+abbrev pub Small : ℕ → Format → Type 0
 Small columns f = Narrow (widthsOf f) × (columns ≤ mostColumns)
 
 -- 12.3: how many values follow the numbers, one for each column
-abbrev pub valueCount : ℕ → Form → ℕ
+abbrev pub valueCount : ℕ → Format → ℕ
 valueCount columns f = cond (f .values) columns 0
 
 -- the bytes of operands of the given widths
@@ -128,7 +128,7 @@ total [] = 0
 total (w ∷ ws) = w + total ws
 
 -- the bytes behind a command byte
-abbrev pub width : ℕ → Form → ℕ
+abbrev pub width : ℕ → Format → ℕ
 width columns f = total (widthsOf f) + valueBytes * valueCount columns f
 
 -- ---- numbers in bytes
@@ -195,7 +195,7 @@ callOf Kind.Close ns vs = close (first ns)
 callOf Kind.Crossings ns vs = crossings (first ns) (second ns) (toZ w32 (third ns)) (fourth ns) (fifth ns) (replicate lentStamps 0)
 
 -- the call of a command whose operands are at the front of bs
-unfoldable pub callFrom : ℕ → Form → List ℕ → Call
+unfoldable pub callFrom : ℕ → Format → List ℕ → Call
 callFrom columns f bs = callOf (f .kind) (operands 0 (widthsOf f) bs) (values (valueCount columns f) (drop (total (widthsOf f)) bs))
 
 -- ---- the input as a whole

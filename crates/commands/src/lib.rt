@@ -8,7 +8,7 @@ ghost use mathlib.Core.Bool.{true, false, cond};
 ghost use Prim.Native.Nat.{_+_, _*_, _≤_, _<_};
 ghost use lib.ListN.{length, take};
 ghost use Rattle.terms.specs.Measures.{mostColumns};
-ghost use Rattle.commands.specs.Commands.{mostOperands, operandBytes, valueBytes, Narrow, Small, formOf, widthsOf, chosen, total as totalOf, width as widthOf, operand, operands as operandsOf, values as valuesOf, callFrom, shapeBytes, shapeFrom};
+ghost use Rattle.commands.specs.Commands.{mostOperands, operandBytes, valueBytes, Narrow, Small, formatOf, widthsOf, chosen, total as totalOf, width as widthOf, operand, operands as operandsOf, values as valuesOf, callFrom, shapeBytes, shapeFrom};
 ghost use Rattle.commands.specs.Decoded.{measured, callIn, ZerosPast};
 
 // The calls that only read.
@@ -53,8 +53,8 @@ const VALUE_BYTES: usize = 4;
 pub const SHAPE_BYTES: usize = 6;
 
 // A command's call and the widths of its operands in bytes, 0 for one that the call has not, and whether every column's value follows. The widths are no array, since
-// `Chosen` holds a form.
-pub struct Form {
+// `Chosen` holds a format.
+pub struct Format {
     pub kind: Kind,
     pub first: usize,
     pub second: usize,
@@ -66,14 +66,14 @@ pub struct Form {
 
 // What a command byte stands for.
 pub enum Chosen {
-    Known(Form),
+    Known(Format),
     Refused(Refusal),
 }
 
 fn known(kind: Kind, widths: [usize; MOST_OPERANDS], values: bool) -> Chosen
-    ensures { λ r. ⌜ r ≡ Chosen.Known (formOf kind widths values) ⌝ }
+    ensures { λ r. ⌜ r ≡ Chosen.Known (formatOf kind widths values) ⌝ }
 {
-    Chosen::Known(Form {
+    Chosen::Known(Format {
         kind,
         first: widths[0],
         second: widths[1],
@@ -85,13 +85,13 @@ fn known(kind: Kind, widths: [usize; MOST_OPERANDS], values: bool) -> Chosen
 }
 
 fn numbers(kind: Kind, widths: [usize; MOST_OPERANDS]) -> Chosen
-    ensures { λ r. ⌜ r ≡ Chosen.Known (formOf kind widths false) ⌝ }
+    ensures { λ r. ⌜ r ≡ Chosen.Known (formatOf kind widths false) ⌝ }
 {
     known(kind, widths, false)
 }
 
 fn numbers_and_values(kind: Kind, widths: [usize; MOST_OPERANDS]) -> Chosen
-    ensures { λ r. ⌜ r ≡ Chosen.Known (formOf kind widths true) ⌝ }
+    ensures { λ r. ⌜ r ≡ Chosen.Known (formatOf kind widths true) ⌝ }
 {
     known(kind, widths, true)
 }
@@ -133,20 +133,20 @@ fn value_count(values: bool, columns: usize) -> usize
 }
 
 // The bytes of a command's operands before its values.
-fn total(form: Form) -> usize
-    requires { ⌜ Narrow (widthsOf form) ⌝ }
-    ensures { λ r. ⌜ (r ≡ totalOf (widthsOf form)) × (r ≤ mostOperands * operandBytes) ⌝ }
+fn total(format: Format) -> usize
+    requires { ⌜ Narrow (widthsOf format) ⌝ }
+    ensures { λ r. ⌜ (r ≡ totalOf (widthsOf format)) × (r ≤ mostOperands * operandBytes) ⌝ }
 {
-    form.first + form.second + form.third + form.fourth + form.fifth
+    format.first + format.second + format.third + format.fourth + format.fifth
 }
 
 // The bytes of a command behind its command byte.
-pub fn width(form: Form, columns: usize) -> usize
-    requires { ⌜ Small columns form ⌝ }
-    ensures { λ r. ⌜ r ≡ widthOf columns form ⌝ }
+pub fn width(format: Format, columns: usize) -> usize
+    requires { ⌜ Small columns format ⌝ }
+    ensures { λ r. ⌜ r ≡ widthOf columns format ⌝ }
 {
-    let count = value_count(form.values, columns);
-    total(form) + VALUE_BYTES * count
+    let count = value_count(format.values, columns);
+    total(format) + VALUE_BYTES * count
 }
 
 // A byte as a number. A function of its own, since a parameter's type says that the cast fits.
@@ -171,20 +171,20 @@ fn number(bytes: &[u8], at: usize, n: usize) -> u32
 }
 
 // The operands in the bytes, one behind the other.
-fn operands(form: Form, bytes: &[u8]) -> [u32; MOST_OPERANDS]
-    requires { ⌜ Narrow (widthsOf form) × (totalOf (widthsOf form) ≤ length (now bytes)) ⌝ }
-    ensures { λ r. ⌜ r ≡ operandsOf 0 (widthsOf form) (now (bytes .entry)) ⌝ }
+fn operands(format: Format, bytes: &[u8]) -> [u32; MOST_OPERANDS]
+    requires { ⌜ Narrow (widthsOf format) × (totalOf (widthsOf format) ≤ length (now bytes)) ⌝ }
+    ensures { λ r. ⌜ r ≡ operandsOf 0 (widthsOf format) (now (bytes .entry)) ⌝ }
 {
-    let second = form.first;
-    let third = second + form.second;
-    let fourth = third + form.third;
-    let fifth = fourth + form.fourth;
+    let second = format.first;
+    let third = second + format.second;
+    let fourth = third + format.third;
+    let fifth = fourth + format.fourth;
     [
-        number(bytes, 0, form.first),
-        number(bytes, second, form.second),
-        number(bytes, third, form.third),
-        number(bytes, fourth, form.fourth),
-        number(bytes, fifth, form.fifth),
+        number(bytes, 0, format.first),
+        number(bytes, second, format.second),
+        number(bytes, third, format.third),
+        number(bytes, fourth, format.fourth),
+        number(bytes, fifth, format.fifth),
     ]
 }
 
@@ -211,14 +211,14 @@ pub struct Request {
 }
 
 // The call of a command, from the bytes behind its command byte.
-pub fn decode(form: Form, columns: usize, bytes: &[u8]) -> Request
-    requires { ⌜ Small columns form × (widthOf columns form ≤ length (now bytes)) ⌝ }
-    ensures { λ r. ⌜ (callIn r ≡ callFrom columns form (now (bytes .entry))) × ZerosPast (r .count) (r .values) ⌝ }
+pub fn decode(format: Format, columns: usize, bytes: &[u8]) -> Request
+    requires { ⌜ Small columns format × (widthOf columns format ≤ length (now bytes)) ⌝ }
+    ensures { λ r. ⌜ (callIn r ≡ callFrom columns format (now (bytes .entry))) × ZerosPast (r .count) (r .values) ⌝ }
 {
-    let kind = form.kind;
-    let count = value_count(form.values, columns);
-    let values_at = total(form);
-    let operands = operands(form, bytes);
+    let kind = format.kind;
+    let count = value_count(format.values, columns);
+    let values_at = total(format);
+    let operands = operands(format, bytes);
     let values = values(&bytes[values_at..], count);
     Request {
         kind,

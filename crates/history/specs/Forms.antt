@@ -55,6 +55,12 @@ usesForm (moving to) f = isForm (otherForm to) f
 abbrev pub worksOn : Call → Form → Bool
 worksOn c f = usesForm (formUse c) f
 
+-- whether the store stays in the memory that the call is lent, as it does in every call but a move
+abbrev pub inPlace : FormUse → Bool
+inPlace either = true
+inPlace newest = true
+inPlace (moving to) = false
+
 -- ---- the form after a call: a refused move leaves it (5.2)
 unfoldable pub formIf : Verdict → Form → Form → Form
 formIf accept f f′ = f′

@@ -1,6 +1,6 @@
--- The numbers that stand for states and kinds in the memory. The code has them as constants (src/codes.rt). Where a word can hold more than the store writes,
+-- The numbers that stand for states and kinds in the memory, and how much of a word a keeper takes. The code has them as constants (src/codes.rt). Where a word can hold more than the store writes,
 -- the model says what every other number counts as.
-use Prim.Native.Nat.{ℕ}
+use Prim.Native.Nat.{ℕ, _^_}
 
 -- ---- the state of a row or a tail record: that of its transaction
 abbrev pub asOpen : ℕ
@@ -31,3 +31,7 @@ asCurrent = 1
 
 abbrev pub asWaiting : ℕ
 asWaiting = 2
+
+-- ---- a keeper is a number of two bytes; of a word that holds one, the lower two count
+abbrev pub keeperLimit : ℕ
+keeperLimit = 2 ^ 16

@@ -26,9 +26,9 @@ use Rattle.layout.specs.declared.Region.{Region}
 use Rattle.layout.specs.declared.Region.the-variants.{Header, Opens, Current, PageState, PageChunk}
 use Rattle.layout.specs.Sizes.{sizesOf}
 use Rattle.terms.specs.Entries.{freeEntry}
-use Rattle.model.specs.Stored.{pageIn, cellIn, currentIn, chunkOf, chunksOf, pagesOf, within, waitingPage, currentPage, countBelow, keeperLimit}
+use Rattle.model.specs.Stored.{pageIn, cellIn, currentIn, chunkOf, chunksOf, pagesOf, within, waitingPage, currentPage, countBelow}
 use Rattle.model.specs.Writing.{madeView}
-use Rattle.layout.specs.Codes.{asCurrent}
+use Rattle.layout.specs.Codes.{asCurrent, keeperLimit}
 use Rattle.model.proofs.Lists.{below-none}
 use Rattle.model.specs.Represents.{Holds, everyRow, CurrentsAre, PoolIs, Represents, Small, Whole}
 use Rattle.model.proofs.Views.{renew-whole, put-whole, changed-start}

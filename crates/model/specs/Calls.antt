@@ -23,7 +23,8 @@ use Rattle.layout.specs.declared.Region.the-variants.{Header, Opens, OpenKeeper
 use Rattle.terms.specs.declared.ScanEntry.{ScanEntry}
 use Rattle.terms.specs.Entries.{freeEntry, firstIndex, bears, isScan}
 use Rattle.layout.specs.Regions.{scansAt}
-use Rattle.model.specs.Stored.{RecordWords, rowIn, recordIn, pageIn, currentIn, cellIn, within, committedState, deleteKind, rowKeeper, recordKeeper, scanEntry, pagesOf, anyBelow, countBelow, wordLimit, keeperLimit}
+use Rattle.model.specs.Stored.{RecordWords, rowIn, recordIn, pageIn, currentIn, cellIn, within, committedState, deleteKind, rowKeeper, recordKeeper, scanEntry, pagesOf, anyBelow, countBelow, wordLimit}
+use Rattle.layout.specs.Codes.{keeperLimit}
 use Rattle.model.specs.Reading.{reader, allUpTo, snapshotOf, readIn, readCurrent, keeperIn, ownChanges, scanPage, sumIn}
 use Rattle.model.specs.Versions.{crossingsIn}
 use Rattle.model.specs.Writing.{begun, committedIn, abortedIn, insertedIn, updatedIn, deletedIn, mergedIn, releasedIn, releasable, recordsWanted, freeIn}

@@ -18,7 +18,8 @@ use Rattle.terms.specs.declared.ScanEntry.{ScanEntry}
 use Rattle.model.specs.declared.Reader.{Reader}
 use Rattle.model.specs.declared.Setter.{Setter}
 use Rattle.model.specs.declared.Version.{Version}
-use Rattle.model.specs.Stored.{RowWords, RecordWords, PageWords, rowIn, recordIn, pageIn, valueIn, currentIn, chunkOf, chunksOf, pagesOf, cellIn, within, openState, committedState, originalKind, settingKind, deleteKind, waitingPage, firstFrom, openIndex, wordLimit, keeperLimit, rowKeeper, recordKeeper}
+use Rattle.model.specs.Stored.{RowWords, RecordWords, PageWords, rowIn, recordIn, pageIn, valueIn, currentIn, chunkOf, chunksOf, pagesOf, cellIn, within, openState, committedState, originalKind, settingKind, deleteKind, waitingPage, firstFrom, openIndex, wordLimit, rowKeeper, recordKeeper}
+use Rattle.layout.specs.Codes.{keeperLimit}
 use Rattle.layout.specs.Regions.{slot}
 
 -- a reader by its snapshot and the transaction whose own changes count (0: none)

@@ -23,8 +23,8 @@ use Rattle.layout.specs.declared.Region.the-variants.{Opens, Changes, RowKeeper
 use Rattle.terms.specs.declared.ScanEntry.{ScanEntry}
 use Rattle.layout.specs.Sizes.{sizesOf}
 use Rattle.layout.specs.Regions.{columnsWord, columnsAt, rangesAt, capacityAt, sparesAt, rowsAt, transactionsAt, scansAt, stampAt, mergesAt, commitsAt}
-use Rattle.model.specs.Stored.{RowWords, RecordWords, PageWords, rowIn, recordIn, pageIn, valueIn, currentIn, cellIn, within, chunkOf, chunksOf, pagesOf, headerIn, currentPage, waitingPage, countBelow, keeperLimit}
-use Rattle.layout.specs.Codes.{asOpen, asCommitted, asAborted, asOriginal, asSetting, asDelete, asCurrent}
+use Rattle.model.specs.Stored.{RowWords, RecordWords, PageWords, rowIn, recordIn, pageIn, valueIn, currentIn, cellIn, within, chunkOf, chunksOf, pagesOf, headerIn, currentPage, waitingPage, countBelow}
+use Rattle.layout.specs.Codes.{asOpen, asCommitted, asAborted, asOriginal, asSetting, asDelete, asCurrent, keeperLimit}
 use Rattle.model.specs.Reading.{scanPage}
 use Rattle.model.specs.Calls.{Typed, say, stampsNext, storeNext, entriesNext}
 

@@ -30,10 +30,6 @@ wordLimit = 2 ^ 32
 abbrev pub nextWord : ℕ → ℕ
 nextWord n = (n + 1) % wordLimit
 
--- a keeper is a number of two bytes; of a word that holds one, the lower two count
-abbrev pub keeperLimit : ℕ
-keeperLimit = 2 ^ 16
-
 -- ---- what a word means. Of states and kinds, any number above the first two is read as the third.
 abbrev pub openState : ℕ → Bool
 openState w = eqb w asOpen

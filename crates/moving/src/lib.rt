@@ -7,6 +7,7 @@ use layout::HEADER_ROWS;
 use layout::Region;
 use layout::Sizes;
 use layout::base;
+use layout::codes::KEEPER_LIMIT;
 use layout::columns_word;
 use layout::in_form;
 use layout::words_needed;
@@ -40,9 +41,6 @@ ghost use Rattle.model.specs.Preconditions.{shapeIn};
 ghost use Rattle.promise.specs.Promise.{MovesBy};
 ghost use Rattle.admission.specs.Admitted.{Fitted};
 ghost use Rattle.moving.specs.Borne.{tailBorne, openBorne};
-
-// A keeper is the lower two bytes of its word.
-const KEEPER_LIMIT: u32 = 65_536;
 
 // ---- 22: whether a row, a tail record or an open transaction bears a keeper other than 0
 

@@ -4,26 +4,25 @@ use mathlib.Core.Path.{_≡_, refl, ap}
 use mathlib.Core.Bool.{Bool, true, false, cond, _&&_}
 use mathlib.Core.List.{List, [], _∷_, _++_, append-nil}
 use native.Mathlib.Omega.{arith}
-use lib.Dec.{T, leb}
+use lib.Dec.{leb}
 use lib.ListN.{length, take, drop, drop-of-length-le}
 use borrow.Author.Tests.{leb-false, leb-true, le-leb}
 use Rattle.terms.specs.Measures.{Shape, between, withinLimits, mostColumns, mostRanges, mostRecords, mostSpares}
 use Rattle.terms.specs.declared.Refusal.{Refusal}
 use Rattle.terms.specs.declared.Answer.{Answer}
-use Rattle.history.specs.History.{Call, begin, insert, update, delete, commit, abort, latest, readAt, ownRead, openScan, scanRead, sum, close, merge, release, pageCell, lineage, crossings, beginAs, keeperAt, move, beginTests, readAtTests, keeperOf, keeperRead, History, alone, outcome, outcomes, start, Test, tests, verdict, refuse, reply, shown, read, visible, versionOf, sumOf, answer, answerIf, next}
-use Rattle.history.specs.Forms.{formUse}
+use Rattle.terms.specs.declared.Form.{Form}
+use Rattle.history.specs.History.{Call, begin, insert, update, delete, commit, abort, latest, readAt, ownRead, openScan, scanRead, sum, close, merge, release, pageCell, lineage, crossings, beginAs, keeperAt, move, beginTests, readAtTests, moveTests, keeperOf, keeperRead, History, alone, outcome, outcomes, start, Test, tests, verdict, refuse, reply, shown, read, visible, versionOf, sumOf, answer, answerIf, next}
 use Rattle.lines.specs.Lines.{line, shapeLine}
 use Rattle.commands.specs.declared.Chosen.{Chosen}
 use Rattle.commands.specs.Commands.{chosen, width, callFrom, Item, itemAt, behind, items, script, cutShape, parse, shapeBytes, shapeFrom}
 use Rattle.commands.proofs.Items.{items-none}
 use Rattle.commands.proofs.Parts.{whole, call-part}
-use Rattle.commands.proofs.Uses.{stays, command-stays}
 use Rattle.output.specs.Output.{lentColumns, lentRanges, lentRecords, lentSpares, lent, shapeAnswer, goesOn, calls, linesOf, outputOf, output}
 use Rattle.model.specs.Machine.{Machine, historyOf}
 use Rattle.output.specs.Steps.{operandsOf, outcomeTo, lineOf, stateAfter, steps, linesFrom, written}
 use Rattle.loops.proofs.Search.{and-true, between-tells}
 
--- ---- no answer of the plain history to a command ends the program
+-- ---- no answer of the plain history ends the program
 abbrev allGoOn : List Test → Bool
 allGoOn [] = true
 allGoOn (t ∷ ts) = goesOn (Answer.Refused (t .refusal)) && allGoOn ts
@@ -43,34 +42,35 @@ keeper-goes-on : (sees : ℕ → Bool) (h : History) (r c : ℕ) → goesOn (kee
 unfolding keeperRead goesOn
 keeper-goes-on sees h r c = elim (visible sees h r) as (λ b. goesOn (cond b (Answer.Number (keeperOf h (versionOf sees h r c .setter))) Answer.None) ≡ true) [ true ↦ refl | false ↦ refl ]
 
--- neither a refusal of a call nor its answer where it is accepted, of all calls but the moves, which no command makes
-call-goes-on : (s : Shape) (h : History) (c : Call) → T (stays (formUse c)) → (allGoOn (tests s h c) ≡ true) × (goesOn (reply s h c) ≡ true)
-unfolding tests beginTests readAtTests reply sumOf goesOn
-call-goes-on s h begin p = (refl, refl)
-call-goes-on s h (insert t vs) p = (refl, refl)
-call-goes-on s h (update t r m vs) p = (refl, refl)
-call-goes-on s h (delete t r) p = (refl, refl)
-call-goes-on s h (commit t k) p = (refl, refl)
-call-goes-on s h (abort t) p = (refl, refl)
-call-goes-on s h (latest r c) p = (refl, read-goes-on _ h r c)
-call-goes-on s h (readAt k r c) p = (refl, read-goes-on _ h r c)
-call-goes-on s h (ownRead t r c) p = (refl, read-goes-on _ h r c)
-call-goes-on s h (openScan k) p = (refl, refl)
-call-goes-on s h (scanRead k r c) p = (refl, read-goes-on _ h r c)
-call-goes-on s h (sum k c) p = (refl, refl)
-call-goes-on s h (close k) p = (refl, refl)
-call-goes-on s h (merge g c n) p = (refl, refl)
-call-goes-on s h release p = (refl, refl)
-call-goes-on s h (pageCell c r) p = (refl, refl)
-call-goes-on s h (lineage g c) p = (refl, refl)
-call-goes-on s h (crossings r c mark from to stamps) p = (refl, refl)
-call-goes-on s h (beginAs k) p = (refl, refl)
-call-goes-on s h (keeperAt k r c) p = (refl, keeper-goes-on _ h r c)
-call-goes-on s h (move to second) p = absurd p
+-- neither a refusal of a call nor its answer where it is accepted
+call-goes-on : (s : Shape) (h : History) (c : Call) → (allGoOn (tests s h c) ≡ true) × (goesOn (reply s h c) ≡ true)
+unfolding tests beginTests readAtTests moveTests reply sumOf goesOn
+call-goes-on s h begin = (refl, refl)
+call-goes-on s h (insert t vs) = (refl, refl)
+call-goes-on s h (update t r m vs) = (refl, refl)
+call-goes-on s h (delete t r) = (refl, refl)
+call-goes-on s h (commit t k) = (refl, refl)
+call-goes-on s h (abort t) = (refl, refl)
+call-goes-on s h (latest r c) = (refl, read-goes-on _ h r c)
+call-goes-on s h (readAt k r c) = (refl, read-goes-on _ h r c)
+call-goes-on s h (ownRead t r c) = (refl, read-goes-on _ h r c)
+call-goes-on s h (openScan k) = (refl, refl)
+call-goes-on s h (scanRead k r c) = (refl, read-goes-on _ h r c)
+call-goes-on s h (sum k c) = (refl, refl)
+call-goes-on s h (close k) = (refl, refl)
+call-goes-on s h (merge g c n) = (refl, refl)
+call-goes-on s h release = (refl, refl)
+call-goes-on s h (pageCell c r) = (refl, refl)
+call-goes-on s h (lineage g c) = (refl, refl)
+call-goes-on s h (crossings r c mark from to stamps) = (refl, refl)
+call-goes-on s h (beginAs k) = (refl, refl)
+call-goes-on s h (keeperAt k r c) = (refl, keeper-goes-on _ h r c)
+call-goes-on s h (move Form.First second) = (refl, refl)
+call-goes-on s h (move Form.Newest second) = (refl, refl)
 
-pub answer-goes-on : (s : Shape) (h : History) (c : Call) → T (stays (formUse c)) → goesOn (answer s h c) ≡ true
+pub answer-goes-on : (s : Shape) (h : History) (c : Call) → goesOn (answer s h c) ≡ true
 unfolding answer
-answer-goes-on s h c p = let g = call-goes-on s h c p in verdict-goes-on (tests s h c) (reply s h c) (g .0) (g .1)
+answer-goes-on s h c = let g = call-goes-on s h c in verdict-goes-on (tests s h c) (reply s h c) (g .0) (g .1)
 
 -- ---- the steps and the items
 pub steps-none : {State : Type 0} (most : ℕ) (m : Machine State) (columns : ℕ) (x : State) → steps most m columns x [] ≡ []
@@ -114,7 +114,7 @@ one-step most s h byte bs (Chosen.Known f) ih = rw (whole (width (s .columns) f)
         ++ cond (goesOn (cond b (outcome s h d) (alone (Answer.Refused Refusal.Cut)) .answer)) (steps most (historyOf s) (s .columns) (cond b (next s h d) h) (drop w bs)) []
         ≡ printed s h (cond b (Item.command byte c) (Item.refused byte Refusal.Cut) ∷ items most (s .columns) (drop w bs))
     go true e =
-        rw (call-part (s .columns) f bs (leb-true w (length bs) e), answer-goes-on s h c (command-stays (s .columns) f bs))
+        rw (call-part (s .columns) f bs (leb-true w (length bs) e), answer-goes-on s h c)
         (ap (λ (l : List ℕ). lineOf byte (outcome s h c) ++ l) (ih (next s h c) (drop w bs)))
     go false e =
         let short : length bs ≤ w = omega (arith, leb-false w (length bs) e) in

@@ -10,11 +10,11 @@ use Rattle.terms.specs.declared.Refusal.{Refusal}
 use Rattle.terms.specs.declared.Answer.{Answer}
 use Rattle.words.specs.Words.{Bytes}
 use Rattle.history.specs.History.{Call, Outcome, alone}
-use Rattle.history.specs.Forms.{formUse}
+use Rattle.history.specs.Forms.{formUse, inPlace}
 use Rattle.history.specs.Lists.{All}
 use Rattle.commands.specs.declared.Chosen.{Chosen}
 use Rattle.commands.specs.Commands.{chosen, width, callFrom, behind}
-use Rattle.commands.proofs.Uses.{stays, command-stays}
+use Rattle.commands.proofs.Uses.{command-in-place}
 use Rattle.output.specs.Output.{goesOn}
 use Rattle.model.specs.Calls.{Typed}
 use Rattle.model.specs.Machine.{Machine, outcomesFrom}
@@ -23,7 +23,7 @@ use Rattle.output.proofs.Typed.{typed, bytes-take, bytes-drop}
 
 -- what a command can make: a call whose numbers fit the types of its operands, and that is no move
 abbrev pub Commanded : Call → Type 0
-Commanded c = Typed c × T (stays (formUse c))
+Commanded c = Typed c × T (inPlace (formUse c))
 
 -- two machines, each in a state, have the same outcomes for every list of such calls
 abbrev pub Alike : {A B : Type 0} → Machine A → Machine B → A → B → Type 0
@@ -49,7 +49,7 @@ module _ {A B : Type 0} (m : Machine A) (n : Machine B) where
   command-alike byte columns x y (Chosen.Known f) bs e b a =
       let os = take (width columns f) bs in
       let c = callFrom columns f os in
-      let t : Commanded c = (typed byte columns f os e (bytes-take (width columns f) bs b), command-stays columns f os) in (
+      let t : Commanded c = (typed byte columns f os e (bytes-take (width columns f) bs b), command-in-place columns f os) in (
         ap (λ (z : Outcome Answer). cond (leb (width columns f) (length os)) z (alone (Answer.Refused Refusal.Cut))) (alike-now m n x y c a t),
         elim (leb (width columns f) (length os)) as (λ w. Alike m n (cond w (m .next x c) x) (cond w (n .next y c) y)) [ true ↦ alike-next m n x y c a t | false ↦ a ],
         bytes-drop (width columns f) bs b,

@@ -13,7 +13,7 @@ use Rattle.words.specs.Words.{words, Bytes, Fit}
 use Rattle.words.proofs.Words.{words-fit, take-fit, front-bytes}
 use Rattle.history.specs.Lists.{All}
 use Rattle.model.specs.Calls.{Typed, Values}
-use Rattle.commands.specs.declared.Form.{Form}
+use Rattle.commands.specs.declared.Format.{Format}
 use Rattle.commands.specs.declared.Chosen.{Chosen}
 use Rattle.commands.specs.Commands.{littleEndian, operand, operands, values, readOf, writeOf, callOf, callFrom, chosen, commands}
 use Rattle.commands.proofs.Table.{chosen-each}
@@ -97,7 +97,7 @@ each-typed =
     & (λ columns os b. (four os b 0, two os b 4, one os b 6))
     & All.nil
 
-pub typed : (byte columns : ℕ) (f : Form) (os : List ℕ) → chosen byte ≡ Chosen.Known f → Bytes os → Typed (callFrom columns f os)
+pub typed : (byte columns : ℕ) (f : Format) (os : List ℕ) → chosen byte ≡ Chosen.Known f → Bytes os → Typed (callFrom columns f os)
 typed byte columns f os e b =
     let t : TypedForm (Chosen.Known f) = rw e at (chosen-each TypedForm each-typed tt byte) in
     t columns os b

@@ -1,6 +1,6 @@
 -- What `gatebook` must write for an input: section 12 of docs/SPECIFICATION.md. The input is parsed, the plain history answers its calls, and each outcome is a line.
 -- Every definition here is executable.
-use mathlib.Core.Bool.{Bool, true, cond, _&&_, _||_}
+use mathlib.Core.Bool.{Bool, true, cond, not, _&&_, _||_}
 use mathlib.Core.List.{List, [], _∷_, _++_}
 use Prim.Native.Nat.{ℕ}
 use Rattle.terms.specs.Measures.{Shape, between}
@@ -33,9 +33,9 @@ lent s =
 unfoldable pub shapeAnswer : Shape → Answer
 shapeAnswer s = cond (lent s) Answer.Done (Answer.Refused Refusal.Shape)
 
--- 12.7: whether gatebook goes on after an answer
+-- 12.7: whether gatebook goes on after an answer, as it does after all but 1, 19 and 20
 unfoldable pub goesOn : Answer → Bool
-goesOn (Answer.Refused r) = between 2 18 (refusalNumber r) || between 21 21 (refusalNumber r)
+goesOn (Answer.Refused r) = not (between 1 1 (refusalNumber r) || between 19 20 (refusalNumber r))
 goesOn Answer.Done = true
 goesOn (Answer.Number n) = true
 goesOn (Answer.Version v s) = true

@@ -34,8 +34,8 @@ pub fn goes_on(answer: Answer) -> bool
     match answer {
         Answer::Refused(why) => {
             let n = number(why);
-            let of_store = and_between(true, 2, 18, n);
-            either(of_store, and_between(true, 21, 21, n))
+            let of_shape = and_between(true, 1, 1, n);
+            !either(of_shape, and_between(true, 19, 20, n))
         }
         _ => true,
     }

@@ -22,8 +22,8 @@ use Rattle.history.specs.History.{Call, begin, insert, update, delete, commit, 
 use Rattle.history.specs.Forms.{FormUse, either, newest, moving, formUse, worksOn}
 use Rattle.facts.specs.Usable.{storedShape, storedForm, usable}
 use Rattle.model.specs.Versions.{crossingsIn}
-use Rattle.model.specs.Stored.{RecordWords, rowIn, recordIn, pageIn, currentIn, pagesOf, countBelow, deleteKind, waitingPage, rowKeeper, recordKeeper, keeperLimit}
-use Rattle.layout.specs.Codes.{asCommitted}
+use Rattle.model.specs.Stored.{RecordWords, rowIn, recordIn, pageIn, currentIn, pagesOf, countBelow, deleteKind, waitingPage, rowKeeper, recordKeeper}
+use Rattle.layout.specs.Codes.{asCommitted, keeperLimit}
 use Rattle.layout.specs.Regions.{slot}
 use Rattle.promise.specs.Promise.{storeView, secondOf}
 

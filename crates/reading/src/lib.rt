@@ -7,6 +7,7 @@ use base_pages::current_page;
 use layout::Region;
 use layout::Sizes;
 use layout::codes::COMMITTED;
+use layout::codes::KEEPER_LIMIT;
 use layout::codes::ORIGINAL;
 use layout::codes::SETTING;
 use loops::Found;
@@ -41,9 +42,6 @@ ghost use Rattle.reading.specs.Setters.{RecordInside};
 
 // The number below the first record of a range.
 const FLOOR: u32 = 0;
-
-// Of a word for a keeper the lower two bytes count.
-const KEEPER_LIMIT: u32 = 65_536;
 
 // The word of column c in the tail record at a slot.
 pub fn value(mem: &[u8], s: Sizes, at: usize, c: u32) -> u32

@@ -7,11 +7,10 @@ use Rattle.terms.specs.Measures.{Shape}
 use Rattle.terms.specs.declared.Answer.{Answer}
 use Rattle.terms.specs.declared.Form.{Form}
 use Rattle.history.specs.History.{Call, History, Outcome, Verdict, next, verdict, tests}
-use Rattle.history.specs.Forms.{FormUse, either, newest, moving, formUse, usesForm, formAfter, formNext, Suited}
+use Rattle.history.specs.Forms.{FormUse, either, newest, moving, formUse, usesForm, inPlace, formAfter, formNext, Suited}
 use Rattle.history.specs.Lists.{All, nil, cons}
 use Rattle.model.specs.Calls.{Typed}
 use Rattle.model.specs.Machine.{outcomesFrom}
-use Rattle.commands.proofs.Uses.{stays}
 use Rattle.output.proofs.StepsAlike.{Commanded}
 use Rattle.promise.specs.Promise.{Lent, secondOf, roomFor, outcomeOf, leftBy, outcomesOf, lentMachine}
 use Rattle.promise.specs.Demands.{Lends}
@@ -22,17 +21,17 @@ store-outcomes x [] = refl
 store-outcomes x (c ∷ cs) = ap (λ (l : List (Outcome Answer)). outcomeOf x c ∷ l) (store-outcomes (leftBy x c) cs)
 
 -- ---- a call that is no move works on the newest form, keeps it, and asks for no room in a second memory
-works : (u : FormUse) → T (stays u) → T (usesForm u Form.Newest)
+works : (u : FormUse) → T (inPlace u) → T (usesForm u Form.Newest)
 works either t = tt
 works newest t = tt
 works (moving to) t = absurd t
 
-keeps : (u : FormUse) (v : Verdict) → T (stays u) → formAfter u v Form.Newest ≡ Form.Newest
+keeps : (u : FormUse) (v : Verdict) → T (inPlace u) → formAfter u v Form.Newest ≡ Form.Newest
 keeps either v t = refl
 keeps newest v t = refl
 keeps (moving to) v t = absurd t
 
-rooms : (u : FormUse) (S : Shape) (second : List ℕ) → T (stays u) → T (roomFor u S second)
+rooms : (u : FormUse) (S : Shape) (second : List ℕ) → T (inPlace u) → T (roomFor u S second)
 rooms either S second t = tt
 rooms newest S second t = tt
 rooms (moving to) S second t = absurd t

@@ -1,6 +1,6 @@
 // What `gatebook` does between reading and writing: the answer to the shape, and the answer to one command, as lines in a buffer that is lent.
 use commands::Chosen;
-use commands::Form;
+use commands::Format;
 use commands::Measures;
 use commands::SHAPE_BYTES;
 use commands::choose;
@@ -25,7 +25,7 @@ ghost use mathlib.Core.Path.{_≡_};
 ghost use Prim.Native.Nat.{_≤_};
 ghost use lib.ListN.{length};
 ghost use Rattle.terms.specs.Measures.{mostColumns, mostScans};
-ghost use Rattle.terms.specs.declared.Form.{Form as StoredForm};
+ghost use Rattle.terms.specs.declared.Form.{Form};
 ghost use Rattle.words.specs.Words.{words};
 ghost use Rattle.layout.specs.Sizes.{bytesNeeded};
 ghost use Rattle.requests.specs.Packed.{entriesOf};
@@ -43,7 +43,7 @@ pub const MEMORY_BYTES: usize = 29680;
 pub const LIST_BYTES: usize = ENTRY_BYTES * MOST_SCANS;
 
 pub fn lent_memory() -> [u8; MEMORY_BYTES]
-    ensures { λ r. ⌜ length r ≡ bytesNeeded StoredForm.Newest largest ⌝ }
+    ensures { λ r. ⌜ length r ≡ bytesNeeded Form.Newest largest ⌝ }
 {
     [0; MEMORY_BYTES]
 }
@@ -119,26 +119,26 @@ pub fn operand_width(byte: u8, columns: usize) -> usize
 {
     let chosen = choose(byte);
     match chosen {
-        Chosen::Known(form) => width(form, capped(columns)),
+        Chosen::Known(format) => width(format, capped(columns)),
         Chosen::Refused(_) => 0,
     }
 }
 
-// What a command of a known form gives.
-fn answer_to_form(
+// What a command of a known format gives.
+fn answer_to_known(
     mem: &mut [u8],
     scans: &mut [u8],
     columns: usize,
-    form: Form,
+    format: Format,
     operands: &[u8],
 ) -> Called
-    requires { ⌜ Small columns form ⌝ }
-    ensures { λ r. ⌜ Does (storeIn (now (mem .entry)) (now (scans .entry))) columns (Chosen.Known form) (now (operands .entry)) (givenBy r) (storeIn (now (mem .exit)) (now (scans .exit))) ⌝ }
+    requires { ⌜ Small columns format ⌝ }
+    ensures { λ r. ⌜ Does (storeIn (now (mem .entry)) (now (scans .entry))) columns (Chosen.Known format) (now (operands .entry)) (givenBy r) (storeIn (now (mem .exit)) (now (scans .exit))) ⌝ }
 {
-    if operands.len() < width(form, columns) {
+    if operands.len() < width(format, columns) {
         return alone(Answer::Refused(Refusal::Cut));
     }
-    call(mem, scans, decode(form, columns, operands))
+    call(mem, scans, decode(format, columns, operands))
 }
 
 // What a command gives.
@@ -153,7 +153,7 @@ fn answer_to_command(
 {
     let chosen = choose(byte);
     match chosen {
-        Chosen::Known(form) => answer_to_form(mem, scans, capped(columns), form, operands),
+        Chosen::Known(format) => answer_to_known(mem, scans, capped(columns), format, operands),
         Chosen::Refused(why) => alone(Answer::Refused(why)),
     }
 }

@@ -14,7 +14,7 @@ returns c =
     let two : tie.After-number2 = search in
     let three : tie.After-number3 = search in
     let start : tie.Start = search in
-    let first : 0 + start .args .form .first ≡ start .args .form .first = omega arith in
+    let first : 0 + start .args .format .first ≡ start .args .format .first = omega arith in
     rw (first, one .number .ensures, two .number2 .ensures, three .number3 .ensures, c .before .number4 .ensures, c .number5 .ensures)
 
 pub operands-spec : {M : Type 1} → statement M

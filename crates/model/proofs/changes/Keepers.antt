@@ -25,7 +25,8 @@ use Rattle.layout.specs.Regions.{len}
 use Rattle.layout.specs.Sizes.{sizesOf}
 use Rattle.layout.specs.View.{View}
 use Rattle.layout.specs.declared.Region.the-variants.{OpenKeeper}
-use Rattle.model.specs.Stored.{keeperLimit, openIndex, openKeeper}
+use Rattle.model.specs.Stored.{openIndex, openKeeper}
+use Rattle.layout.specs.Codes.{keeperLimit}
 use Rattle.model.specs.Represents.{OpensAre, KeepersAre, Represents, WellFormed}
 use Rattle.model.proofs.Lists.{same-part}
 use Rattle.model.proofs.Book.{number-live}

@@ -32,7 +32,8 @@ use Rattle.terms.specs.declared.ScanEntry.{ScanEntry}
 use Rattle.terms.specs.Entries.{firstIndex}
 use Rattle.layout.specs.Regions.{len, transactionsAt, stampAt, commitsAt}
 use Rattle.model.proofs.Opens.{opens-begin, opens-close, open-there}
-use Rattle.model.specs.Stored.{RowWords, RecordWords, rowIn, recordIn, valueIn, pageIn, cellIn, currentIn, openIndex, nextWord, keeperLimit}
+use Rattle.model.specs.Stored.{RowWords, RecordWords, rowIn, recordIn, valueIn, pageIn, cellIn, currentIn, openIndex, nextWord}
+use Rattle.layout.specs.Codes.{keeperLimit}
 use Rattle.model.specs.Reading.{scanPage, wasCurrent}
 use Rattle.model.specs.Writing.{begun, markTails, markAll, settled, freed, committedIn, abortedIn}
 use Rattle.model.proofs.Lists.{first-below, part-in}

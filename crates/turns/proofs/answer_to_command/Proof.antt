@@ -7,18 +7,18 @@ use Rattle.turns.specs.Turns.{Does}
 use Rattle.turns.proofs.answer_to_command.Statement.{statement}
 use Rattle.turns.proofs.answer_to_command.Tie as tie
 
-answer-to-form-requires : tie.Need-answer-to-form-requires
-answer-to-form-requires c κs =
+answer-to-known-requires : tie.Need-answer-to-known-requires
+answer-to-known-requires c κs =
     let choice : tie.After-choose = search in
-    let form : tie.After-chosen = search in
-    (chosen-narrow _ _ (sym (choice .choose .ensures) ∙ form .chosen .given .1), c .capped .ensures .1)
+    let format : tie.After-chosen = search in
+    (chosen-narrow _ _ (sym (choice .choose .ensures) ∙ format .chosen .given .1), c .capped .ensures .1)
 
 returns : tie.Need-returns
 returns c =
     let choice : tie.After-choose = search in
-    let form : tie.After-chosen = search in
-    let answered : tie.After-answer-to-form = search in
-    rw (sym (choice .choose .ensures) ∙ form .chosen .given .1, ← answered .before .capped .ensures .0) (answered .answer-to-form .ensures)
+    let format : tie.After-chosen = search in
+    let answered : tie.After-answer-to-known = search in
+    rw (sym (choice .choose .ensures) ∙ format .chosen .given .1, ← answered .before .capped .ensures .0) (answered .answer-to-known .ensures)
 
 returns-2 : tie.Need-returns-2
 unfolding Does outcomeTo stateAfter
@@ -34,7 +34,7 @@ answer-to-command-spec =
     (λ c κs. search needs)
     (λ c. search needs)
     (λ c κs. search needs)
-    answer-to-form-requires
+    answer-to-known-requires
     (λ c. search needs)
     (λ c κs. search needs)
     (λ c. search needs)

@@ -20,8 +20,8 @@ returns : tie.Need-returns
 unfolding operandWidth
 returns c =
     let capped = c .before in
-    let form = capped .before .before in
-    (rw (known form, ← capped .capped .ensures .0) (c .width .ensures), rw (c .width .ensures) (width-most _ (form .chosen .given .0 .0) (small capped)))
+    let format = capped .before .before in
+    (rw (known format, ← capped .capped .ensures .0) (c .width .ensures), rw (c .width .ensures) (width-most _ (format .chosen .given .0 .0) (small capped)))
 
 returns-2 : tie.Need-returns-2
 unfolding operandWidth

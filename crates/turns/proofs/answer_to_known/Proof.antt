@@ -1,11 +1,11 @@
--- `turns::answer_to_form` meets its contract.
+-- `turns::answer_to_known` meets its contract.
 use borrow.Author.Needs.{needs}
 use borrow.Author.Tests.{lt-leb}
 use Rattle.output.specs.Steps.{outcomeTo, stateAfter}
 use Rattle.turns.specs.Turns.{Does}
-use Rattle.turns.proofs.Answers.{form-called}
-use Rattle.turns.proofs.answer_to_form.Statement.{statement}
-use Rattle.turns.proofs.answer_to_form.Tie as tie
+use Rattle.turns.proofs.Answers.{format-called}
+use Rattle.turns.proofs.answer_to_known.Statement.{statement}
+use Rattle.turns.proofs.answer_to_known.Tie as tie
 
 returns : tie.Need-returns
 unfolding Does outcomeTo stateAfter
@@ -18,10 +18,10 @@ returns-2 c =
     let test : tie.Else1 = search in
     let decoded : tie.After-decode = search in
     let called : tie.After-call = search in
-    form-called _ _ _ _ (decoded .decode .result) _ _ _ (rw (test .before .width .ensures) at (test .if1 .left)) (decoded .decode .ensures) (called .call .ensures)
+    format-called _ _ _ _ (decoded .decode .result) _ _ _ (rw (test .before .width .ensures) at (test .if1 .left)) (decoded .decode .ensures) (called .call .ensures)
 
-pub answer-to-form-spec : {M : Type 1} → statement M
-answer-to-form-spec =
+pub answer-to-known-spec : {M : Type 1} → statement M
+answer-to-known-spec =
     tie.close
     (tie.spec
     (λ c κs. search needs)

@@ -7,12 +7,13 @@ use native.Mathlib.Omega.{arith}
 use native.Mathlib.Nat.{zero-add}
 use native.Mathlib.Numerals.{add-one}
 use lib.Dec.{leb, ltb, eqb, ltb→lt, nltb→le}
-use lib.ListN.{length, set, take, length-append}
+use lib.ListN.{length, getD, set, take, length-append}
 use borrow.Author.Tests.{lt-ltb, le-ltb}
 use lib.Seq.{sets, length-sets, take-all, take-length, take-append-le}
 use lib.IntN.{ℤ}
 use Rattle.words.proofs.Sets.{sets-append}
 use Rattle.terms.specs.Measures.{Shape}
+use Rattle.layout.specs.declared.Region.{Region}
 use Rattle.layout.specs.View.{View, usedIn}
 use Rattle.terms.specs.declared.Answer.{Answer}
 use Rattle.terms.specs.declared.Refusal.{Refusal}
@@ -23,11 +24,11 @@ use Rattle.model.specs.Stored.{recordIn}
 use Rattle.model.specs.Versions.{tells, valuesIn}
 use Rattle.model.proofs.lookups.Heads.{slot-is}
 use Rattle.model.proofs.lookups.Versions.{behind as behind-told}
-use Rattle.crossing.proofs.Records.{so, not-so}
+use Rattle.crossing.proofs.Records.{so, not-so, other-row}
 use Rattle.crossing.specs.declared.Query.{Query}
 use Rattle.crossing.specs.declared.Told.{Told}
 use Rattle.crossing.specs.declared.Pass.{Pass}
-use Rattle.crossing.specs.Steps.{noPass, told, sameSetter, counted, noted, placed, replaced, followed, lasts, behind, standing, Stands, toldAt, Continues, listedIn, Lists, ListsAll}
+use Rattle.crossing.specs.Steps.{noPass, told, sameSetter, counted, noted, placed, replaced, followed, lasts, behind, standing, Stands, toldAt, Continues, NoneTold, listedIn, Lists, ListsAll}
 
 -- ---- the crossings, by what the code holds of values
 lasts-map : (mark : ℤ) (l : List Dated) → lasts (map (told mark) l) ≡ map (told mark) (lastOfEach l)
@@ -186,6 +187,11 @@ module _ (S : Shape) (v : View) (who : Reader) (q : Query) where
   unfolding valuesIn toldAt
   values-next i = rw (add-one i, slot-is S (rangeOf (q .row .0)) i) (sym (behind-told (tells v who (q .row .0) (q .column) (recordIn v (rangeOf (q .row .0) * S .capacity + i))) (values i) _))
 
+  -- over records that tell nothing the pass stands as it stood
+  pub stands-on : (limit i j : ℕ) (out : List ℕ) (p : Pass) (old : List ℕ) → NoneTold S v (q .row .0) i j → Stands q limit (values i) out p old → Stands q limit (values j) out p old
+  unfolding NoneTold
+  stands-on limit i j out p old n s = rw (n who (q .column)) s
+
   pub stands-next : (g limit i : ℕ) (out : List ℕ) (p p′ : Pass) (old new : List ℕ) → g ≡ rangeOf (q .row .0) → Stands q limit (values i) out p old
       → Continues q limit (toldAt S v who (q .row .0) (q .column) (g * S .capacity + i)) p old p′ new → Stands q limit (values (i + 1)) out p′ new
   unfolding Continues
@@ -197,6 +203,17 @@ module _ (S : Shape) (v : View) (who : Reader) (q : Query) where
   stands-listed limit n used i out p old new s e a b g w =
       let all : i ≡ usedIn v (rangeOf (q .row .0)) = omega arith in
       rw all at (stands-last q limit (values i) out p old s n new g w)
+
+-- ---- records of other rows
+module _ (S : Shape) (v : View) (r i : ℕ) where
+  pub none-yet : NoneTold S v r i i
+  unfolding NoneTold
+  none-yet who c = refl
+
+  pub none-told : (first k row : ℕ) → first ≡ rangeOf r * S .capacity → row ≡ getD (v Region.TailRow) (first + k) 0 → (row ≡ r → ⊥) → NoneTold S v r i k → NoneTold S v r i (k + 1)
+  unfolding NoneTold valuesIn
+  none-told first k row e w n t who c =
+      rw (add-one k, slot-is S (rangeOf r) k, ← other-row v who r c (rangeOf r * S .capacity + k) row (rw e at w) n) (t who c)
 
 -- ---- two passes: the first counts, the second writes
 module _ (l : List ℕ) (n : ℕ) (old out : List ℕ) (first : Lists l 0 n old out) where

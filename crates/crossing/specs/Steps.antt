@@ -86,6 +86,10 @@ toldAt S v who r c k = cond (tells v who r c (recordIn v k)) (datedIn S v r c k 
 unfoldable pub Continues : Query → ℕ → List Dated → Pass → List ℕ → Pass → List ℕ → Type 0
 Continues q limit new p old p′ old′ = (l : List Dated) (out : List ℕ) → Stands q limit l out p old → Stands q limit (l ++ new) out p′ old′
 
+-- of row r the records from number i up to j tell nothing, to whatever reader and of whatever column
+unfoldable pub NoneTold : Shape → View → (r i j : ℕ) → Type 0
+NoneTold S v r i j = (who : Reader) (c : ℕ) → valuesIn S v who r c j ≡ valuesIn S v who r c i
+
 -- ---- the whole pass
 unfoldable pub listedIn : Shape → View → Reader → Query → List ℕ
 listedIn S v who q = crossingsFrom (q .mark) (q .from .0) (lastOfEach (valuesIn S v who (q .row .0) (q .column) (usedIn v (rangeOf (q .row .0)))))

@@ -19,19 +19,19 @@ use terms::Row;
 use terms::Stamp;
 use words::of_word;
 ghost use mathlib.Core.Path.{_≡_};
-ghost use Prim.Native.Nat.{_+_, _≤_, _<_};
+ghost use Prim.Native.Nat.{_+_, _*_, _≤_, _<_};
 ghost use lib.ListN.{length};
 ghost use lib.Signed.{leZ};
 ghost use mir.Syntax.{w32};
 ghost use mir.Val.{SFits};
 ghost use Rattle.layout.specs.View.{rowsGiven, viewOf, Suffices};
 ghost use Rattle.layout.specs.Sizes.{Proper};
-ghost use Rattle.history.specs.History.{differ};
+ghost use Rattle.history.specs.History.{differ, rangeOf};
 ghost use Rattle.model.specs.Stored.{recordIn};
 ghost use Rattle.model.specs.Versions.{tells as tellsOf, setterNumber, datedIn};
 ghost use Rattle.model.specs.Preconditions.{shapeIn, Linked};
 ghost use Rattle.reading.specs.Setters.{RecordInside};
-ghost use Rattle.crossing.specs.Steps.{mostFound, noPass, told as toldOf, sameSetter, counted, noted, placed, replaced, followed, toldAt, Continues, listedIn, Lists, ListsAll};
+ghost use Rattle.crossing.specs.Steps.{mostFound, noPass, told as toldOf, sameSetter, counted, noted, placed, replaced, followed, toldAt, Continues, NoneTold, listedIn, Lists, ListsAll};
 
 // What is asked: the row and column, the mark, and the stamp from which on crossings are listed.
 pub struct Query {
@@ -225,6 +225,23 @@ fn turn(
     follow(p, x, found)
 }
 
+// The number of the first record of the row from i on, or `used` where none is left. A loop of its own, since where a range has many rows most of its records are passed over:
+// here nothing is carried along but the number.
+fn next_of_row(mem: &[u8], s: Sizes, row: Row, first: usize, i: usize, used: usize) -> usize
+    requires { ⌜ Suffices s (now mem) ⌝ }
+    requires { ⌜ (first ≡ rangeOf (row .0) * s .capacity) × (first + used ≤ s .slots) × (i ≤ used) ⌝ }
+    ensures { λ r. ⌜ (i ≤ r) × (r ≤ used) × NoneTold (shapeIn s) (viewOf s (now (mem .entry))) (row .0) i r ⌝ }
+{
+    let mut k = i;
+    while k < used {
+        if read(mem, s, Region::TailRow, first + k) == row.0 {
+            return k;
+        }
+        k += 1;
+    }
+    k
+}
+
 // The crossings that are asked for, of what a reader sees: how many there are, and the stamps of the first `limit` of them from the first place on.
 fn list_first(
     mem: &[u8],
@@ -246,10 +263,10 @@ fn list_first(
     let used = read(mem, s, Region::Used, g) as usize;
     let first = g * s.capacity;
     let mut p = no_pass();
-    let mut i = 0;
+    let mut i = next_of_row(mem, s, q.row, first, 0, used);
     while i < used {
         p = turn(mem, s, who, q, first + i, p, limit, stamps);
-        i += 1;
+        i = next_of_row(mem, s, q.row, first, i + 1, used);
     }
     note(p, q.from, limit, stamps)
 }

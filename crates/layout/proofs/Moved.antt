@@ -1,6 +1,7 @@
 -- Laws of a move between forms: the regions that both forms have lie at the same words, so that copying these words and clearing the rest moves the view; there and back is the view that was.
 use Prim.Native.Nat.{ℕ, _+_, _≤_, _<_, _^_}
 use mathlib.Core.Path.{_≡_, refl, ap, sym, _∙_, fun-ext}
+use mathlib.Core.Logic.{_≢_}
 use mathlib.Core.Bool.{true, false, cond}
 use mathlib.Core.List.{List, [], _∷_, map}
 use native.Mathlib.Omega.{arith}
@@ -8,7 +9,7 @@ use native.Mathlib.Nat.{zero-add}
 use native.Mathlib.Decide.{decLt, ℕ-discrete}
 use lib.Dec.{eqb}
 use lib.ListN.{length, getD, set, replicate, length-replicate, getD-replicate, length-set, List·getD-append, List·getD-eq-default}
-use lib.Seq.{ext-getD}
+use lib.Seq.{ext-getD, getD-set-same, getD-set-other}
 use borrow.Author.Tests.{eq-eqb, ne-eqb, eqb-true}
 use Rattle.terms.specs.Measures.{Shape, mostColumns}
 use Rattle.terms.specs.declared.Form.{Form}
@@ -138,6 +139,15 @@ module _ (f f′ : Form) (S : Shape) where
             | true ↦ λ e. length-set (v Header) columnsAt (columnsWord f′ (S .columns)) ∙ long Header ∙ sym (older-len Header (omega arith)) ∙ ap (λ (i : ℕ). getD (lens s′) i 0) (eqb-true 0 (index k) e)
             | false ↦ λ e. long k ∙ sym (older-len k b)
           ] refl)
+
+-- ---- the header of the view moved: the columns' word says the form, and the others are as they were
+pub moved-columns : (f : Form) (S : Shape) (v : View) → columnsAt < length (v Header) → getD (moved f S v Header) columnsAt 0 ≡ columnsWord f (S .columns)
+unfolding moved laterZero put renew
+moved-columns f S v b = getD-set-same (v Header) columnsAt _ 0 b
+
+pub moved-header : (f : Form) (S : Shape) (v : View) (i : ℕ) → i ≢ columnsAt → getD (moved f S v Header) i 0 ≡ getD (v Header) i 0
+unfolding moved laterZero put renew
+moved-header f S v i n = getD-set-other (v Header) columnsAt i _ 0 n
 
 -- the columns' word fits, and says its form
 pub columns-fit : (f : Form) (c : ℕ) → c ≤ mostColumns → columnsWord f c < 2 ^ 32

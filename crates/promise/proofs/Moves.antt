@@ -7,8 +7,8 @@ use mathlib.Core.List.{List, map}
 use native.Mathlib.Omega.{arith}
 use native.Mathlib.Nat.{zero-add}
 use lib.Dec.{T, leb, leb→le, eqb}
-use lib.ListN.{length, getD, set, take, drop, replicate}
-use lib.Seq.{getD-set-same, getD-set-other, take-at, drop-at}
+use lib.ListN.{length, getD, take, drop, replicate}
+use lib.Seq.{take-at, drop-at}
 use borrow.Author.Tests.{le-leb, eqb-true}
 use Rattle.terms.specs.Measures.{Shape, rangeRows, mostColumns, mostScans, mostTransactions}
 use Rattle.terms.specs.Refusals.{isRefused, isAccepted}
@@ -23,7 +23,7 @@ use Rattle.loops.proofs.Search.{and-true}
 use Rattle.layout.specs.declared.Sizes.{Sizes}
 use Rattle.layout.specs.declared.Region.the-variants.{Header, Opens}
 use Rattle.layout.specs.Cut.{join}
-use Rattle.layout.specs.Regions.{all, need, base, columnsAt, columnsWord, columnsIn, formSaid, formIn, headerWords}
+use Rattle.layout.specs.Regions.{all, need, base, columnsAt, rangesAt, capacityAt, sparesAt, rowsAt, transactionsAt, scansAt, stampAt, mergesAt, commitsAt, columnsWord, columnsIn, formSaid, formIn, headerWords}
 use Rattle.layout.specs.Sizes.{sizesOf, bytesNeeded}
 use Rattle.layout.specs.View.{View, put, renew, rowsGiven, usedIn, viewOf, lay, Long}
 use Rattle.layout.specs.Moved.{laterZero, moved}
@@ -31,7 +31,7 @@ use Rattle.layout.proofs.View.{view-at, view-long, view-join}
 use Rattle.layout.proofs.Lay.{view-lay, view-fits}
 use Rattle.layout.proofs.Limits.{proper}
 use Rattle.layout.proofs.Parts.{lay-length, lay-past, laid-long}
-use Rattle.layout.proofs.Moved.{columns-fit, columns-said, form-known, form-said, moved-long, moved-fits, moved-back}
+use Rattle.layout.proofs.Moved.{moved-columns, moved-header, columns-fit, columns-said, form-known, form-said, moved-long, moved-fits, moved-back}
 use Rattle.history.specs.History.{Call, move, Verdict, accept, refuse, verdict, answerIf}
 use Rattle.history.specs.Forms.{worksOn, isForm, otherForm}
 use Rattle.history.proofs.Lists.{clash, by-test, is-true, parts}
@@ -106,17 +106,14 @@ move-changes-only F m ps second =
 
 -- ---- the facts hold in the form moved to as they did: they speak of regions that both forms have, and of counts
 module _ (f : Form) (F : Form) (S : Shape) (v : View) (ps : List ScanEntry) where
-  count-same : (i : ℕ) → i ≢ 0 → getD (set (v Header) columnsAt (columnsWord F (S .columns))) i 0 ≡ getD (v Header) i 0
-  count-same i n = getD-set-other (v Header) columnsAt i _ 0 n
-
   names-same : recordsNameRows (sizesOf F S) (moved F S v) ≡ recordsNameRows (sizesOf f S) v
   unfolding moved laterZero put renew recordsNameRows rangeNamesRows rowNamed
-  names-same = ap (each (S .ranges)) (fun-ext (λ g. ap (each (usedIn v g)) (fun-ext (λ i. rw (count-same 4 (λ e. omega arith))))))
+  names-same = ap (each (S .ranges)) (fun-ext (λ g. ap (each (usedIn v g)) (fun-ext (λ i. rw (moved-header F S v rowsAt (λ e. omega arith))))))
 
   facts-same : factsHold (sizesOf F S) (moved F S v) ps ≡ factsHold (sizesOf f S) v ps
   unfolding moved laterZero put renew factsHold countsWithin storedWithin numbersGiven rowsBetween rangeBetween linksHold rowLinked linkHolds rangeLinked recordLinked stampsWithin currentAtMost waitingAtMost mergesWithin commitsWithin openDiffer chunksCurrent chunkCurrent lineagesWithin currentLineage waitingLineage
   facts-same =
-      rw (names-same, count-same 4 (λ e. omega arith), count-same 5 (λ e. omega arith), count-same 6 (λ e. omega arith), count-same 7 (λ e. omega arith), count-same 8 (λ e. omega arith), count-same 9 (λ e. omega arith))
+      rw (names-same, moved-header F S v rowsAt (λ e. omega arith), moved-header F S v transactionsAt (λ e. omega arith), moved-header F S v scansAt (λ e. omega arith), moved-header F S v stampAt (λ e. omega arith), moved-header F S v mergesAt (λ e. omega arith), moved-header F S v commitsAt (λ e. omega arith))
 
 -- they are part of what makes a memory usable
 usable-facts : (m : List ℕ) (ps : List ScanEntry) → usable m ps ≡ true → factsHold (storedSizes (words m)) (viewOf (storedSizes (words m)) m) ps ≡ true
@@ -203,24 +200,23 @@ module _ {F : Form} {m : List ℕ} {ps : List ScanEntry} {second : List ℕ} (fi
 
   -- its columns' word says the form, and the other words of its header are as they were
   there-word : getD (words there) columnsAt 0 ≡ columnsWord F (shape m .columns)
-  unfolding moved laterZero put renew
   there-word =
       header-at (sizesOf F (shape m)) there columnsAt (omega arith)
       ∙ ap (λ (w : View). getD (w Header) columnsAt 0) there-view
-      ∙ getD-set-same (storeView m Header) columnsAt _ 0 (omega (arith, here-long Header))
+      ∙ moved-columns F (shape m) (storeView m) (omega (arith, here-long Header))
 
   there-header : (i : ℕ) → i ≢ columnsAt → i < headerWords → getD (words there) i 0 ≡ getD (words m) i 0
-  unfolding storeView moved laterZero put renew
+  unfolding storeView
   there-header i n b =
       header-at (sizesOf F (shape m)) there i b
       ∙ ap (λ (w : View). getD (w Header) i 0) there-view
-      ∙ getD-set-other (storeView m Header) columnsAt i _ 0 n
+      ∙ moved-header F (shape m) (storeView m) i n
       ∙ sym (header-at (storedSizes (words m)) m i b)
 
   there-shape : shape there ≡ shape m
   unfolding storedShape
   there-shape =
-      rw (there-word, columns-said F (shape m .columns) few, there-header 1 (λ e. omega arith) (omega arith), there-header 2 (λ e. omega arith) (omega arith), there-header 3 (λ e. omega arith) (omega arith))
+      rw (there-word, columns-said F (shape m .columns) few, there-header rangesAt (λ e. omega arith) (omega arith), there-header capacityAt (λ e. omega arith) (omega arith), there-header sparesAt (λ e. omega arith) (omega arith))
 
   there-form : storedForm (words there) ≡ F
   unfolding storedForm

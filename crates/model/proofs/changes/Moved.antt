@@ -9,8 +9,8 @@ use native.Mathlib.Omega.{arith}
 use native.Mathlib.Nat.{le-refl, mod-eq-of-lt}
 use native.Mathlib.Decide.{decLt}
 use lib.Dec.{T, eqb, eqb→eq}
-use lib.ListN.{length, getD, set, List·getD-eq-default}
-use lib.Seq.{take-all, getD-set-same, getD-set-other}
+use lib.ListN.{length, getD, List·getD-eq-default}
+use lib.Seq.{take-all}
 use borrow.Author.Tests.{ne-eqb}
 use Rattle.terms.specs.Measures.{Shape, mostTransactions}
 use Rattle.terms.specs.declared.Form.{Form}
@@ -24,11 +24,11 @@ use Rattle.history.proofs.Lists.{by-cases, by-test, neither, both, parts, eqb-e
 use Rattle.history.proofs.Steps.{active-is}
 use Rattle.loops.proofs.Change.{zeros}
 use Rattle.layout.specs.declared.Region.the-variants.{Header, Opens, RowKeeper, TailKeeper, OpenKeeper}
-use Rattle.layout.specs.Regions.{len, columnsWord, columnsAt}
+use Rattle.layout.specs.Regions.{len, rangesAt, capacityAt, sparesAt, rowsAt, transactionsAt, scansAt, stampAt, mergesAt, commitsAt}
 use Rattle.layout.specs.Sizes.{sizesOf}
 use Rattle.layout.specs.View.{View, put, renew, rowsGiven, usedIn}
 use Rattle.layout.specs.Moved.{laterZero, moved}
-use Rattle.layout.proofs.Moved.{columns-fit, moved-long, moved-fits}
+use Rattle.layout.proofs.Moved.{columns-fit, moved-columns, moved-header, moved-long, moved-fits}
 use Rattle.model.specs.Stored.{anyBelow, rowIn, recordIn, valueIn, pageIn, cellIn, currentIn, rowKeeper, recordKeeper}
 use Rattle.model.specs.Reading.{scanPage, wasCurrent}
 use Rattle.model.specs.Calls.{bearsKeeper, keeperBorneIn}
@@ -207,20 +207,17 @@ module _ {F : Form} {S : Shape} {v : View} {ps : List ScanEntry} {h : History} (
       whole : Whole to S (moved to S v)
       whole = record { long = moved-long F to S v (o .whole .long); fits = moved-fits to S v (columns-fit to (S .columns) (k .small .columns)) (o .whole .fits) }
 
-      other : (i : ℕ) → i ≢ 0 → getD (set (v Header) columnsAt (columnsWord to (S .columns))) i 0 ≡ getD (v Header) i 0
-      other i n = getD-set-other (v Header) columnsAt i _ 0 n
-
       header : HeaderFor to S h (moved to S v)
-      header = unfold moved laterZero put renew in
+      header =
           record {
-            columns = getD-set-same (v Header) columnsAt _ 0 (omega (arith, o .whole .long Header));
-            ranges = other 1 (λ e. omega arith) ∙ o .header .ranges;
-            capacity = other 2 (λ e. omega arith) ∙ o .header .capacity;
-            spares = other 3 (λ e. omega arith) ∙ o .header .spares;
-            rows-given = other 4 (λ e. omega arith) ∙ o .header .rows-given;
-            transactions-given = other 5 (λ e. omega arith) ∙ o .header .transactions-given;
-            scans-given = other 6 (λ e. omega arith) ∙ o .header .scans-given;
-            last-stamp = other 7 (λ e. omega arith) ∙ o .header .last-stamp;
-            commits-made = other 9 (λ e. omega arith) ∙ o .header .commits-made;
-            merges-made = other 8 (λ e. omega arith) ∙ o .header .merges-made;
+            columns = moved-columns to S v (omega (arith, o .whole .long Header));
+            ranges = moved-header to S v rangesAt (λ e. omega arith) ∙ o .header .ranges;
+            capacity = moved-header to S v capacityAt (λ e. omega arith) ∙ o .header .capacity;
+            spares = moved-header to S v sparesAt (λ e. omega arith) ∙ o .header .spares;
+            rows-given = moved-header to S v rowsAt (λ e. omega arith) ∙ o .header .rows-given;
+            transactions-given = moved-header to S v transactionsAt (λ e. omega arith) ∙ o .header .transactions-given;
+            scans-given = moved-header to S v scansAt (λ e. omega arith) ∙ o .header .scans-given;
+            last-stamp = moved-header to S v stampAt (λ e. omega arith) ∙ o .header .last-stamp;
+            commits-made = moved-header to S v commitsAt (λ e. omega arith) ∙ o .header .commits-made;
+            merges-made = moved-header to S v mergesAt (λ e. omega arith) ∙ o .header .merges-made;
           }

@@ -22,25 +22,25 @@ use Rattle.model.specs.Preconditions.{shape_in, OpenAt}
 use Rattle.rows.specs.Finders.{Inside}
 use Rattle.rows.proofs.Cases.{found_at, found_nothing}
 use Rattle.conditions.specs.Opens.{openAt}
-use Rattle.conditions.proofs.Opens.{open_there, not-open}
+use Rattle.conditions.proofs.Opens.{open_there, not_open}
 use Rattle.admission.specs.declared.Tested.{Tested}
 use Rattle.admission.specs.Given.{range_given, ScanAt}
 use Rattle.admission.specs.Tested.{Says}
-use Rattle.admission.proofs.Scans.{scan-lacks, scan-open, in_table, found-scan}
+use Rattle.admission.proofs.Scans.{scan_lacks, scan_open, in_table, found_scan}
 
 -- ---- the first test, and those behind it
 module _ (x : Refusal) (b : Bool) (ts : List Test) where
-  pub first-fails : b ≡ true → verdict (x when b ∷ ts) ≡ refuse x
+  pub first_fails : b ≡ true → verdict (x when b ∷ ts) ≡ refuse x
   unfolding verdict
-  first-fails e = rw e
+  first_fails e = rw e
 
   pub first_passes : (w : Verdict) → b ≡ false → verdict ts ≡ w → verdict (x when b ∷ ts) ≡ w
   unfolding verdict
   first_passes w e h = rw e h
 
-  pub first-hands-on : (d : Tested) → b ≡ false → Says d (verdict ts) → Says d (verdict (x when b ∷ ts))
+  pub first_hands_on : (d : Tested) → b ≡ false → Says d (verdict ts) → Says d (verdict (x when b ∷ ts))
   unfolding verdict
-  first-hands-on d e h = rw e h
+  first_hands_on d e h = rw e h
 
 pub none_fails : verdict [] ≡ accept
 unfolding verdict
@@ -48,11 +48,11 @@ none_fails = refl
 
 -- what other tests said, which this function handed on
 module _ (d : Tested) (w : Verdict) where
-  pub said-refuse : (x : Refusal) → d ≡ Tested.Failed x → Says d w → w ≡ refuse x
-  said-refuse x e h = rw e at h
+  pub said_refuse : (x : Refusal) → d ≡ Tested.Failed x → Says d w → w ≡ refuse x
+  said_refuse x e h = rw e at h
 
-  pub said-accept : (j : ℕ) → d ≡ Tested.Passed j → Says d w → w ≡ accept
-  said-accept j e h = rw e at h
+  pub said_accept : (j : ℕ) → d ≡ Tested.Passed j → Says d w → w ≡ accept
+  said_accept j e h = rw e at h
 
 -- ---- what a condition is, by the flag that a function answered and a branch took
 pub flag_is : (a b w : Bool) → a ≡ b → a ≡ w → b ≡ w
@@ -60,35 +60,35 @@ flag_is a b w e f = sym e ∙ f
 
 -- a number that was read is at the limit, or below it
 module _ (n a k : ℕ) (e : n ≡ a) where
-  pub at-limit : k ≤ n → leb k a ≡ true
-  at-limit h = rw (← e) (le-leb k n h)
+  pub at_limit : k ≤ n → leb k a ≡ true
+  at_limit h = rw (← e) (le-leb k n h)
 
-  pub below-limit : n < k → leb k a ≡ false
-  below-limit h = rw (← e) (lt-leb k n h)
+  pub below_limit : n < k → leb k a ≡ false
+  below_limit h = rw (← e) (lt-leb k n h)
 
-  pub under-limit : n < k → a < k
-  under-limit h = rw e at h
+  pub under_limit : n < k → a < k
+  under_limit h = rw e at h
 
 -- ---- the row
 module _ (v : View) (r : ℕ) (f : Found) (e : f ≡ range_given v r) where
-  pub row-lacks : f ≡ Found.Nothing → not_given_in v r ≡ true
+  pub row_lacks : f ≡ Found.Nothing → not_given_in v r ≡ true
   unfolding range_given
-  row-lacks q = found_nothing (not_given_in v r) (range_of r) (sym e ∙ q)
+  row_lacks q = found_nothing (not_given_in v r) (range_of r) (sym e ∙ q)
 
   module _ (g : ℕ) (q : f ≡ Found.At g) where
     there : (not_given_in v r ≡ false) × (g ≡ range_of r)
     unfolding range_given
     there = found_at (not_given_in v r) (range_of r) g (sym e ∙ q)
 
-    pub row-there : not_given_in v r ≡ false
-    row-there = there.0
+    pub row_there : not_given_in v r ≡ false
+    row_there = there.0
 
     pub row_below : r < rows_given v
     unfolding not_given_in
     row_below = leb-false (rows_given v) r there.0
 
-    pub range-is : g ≡ range_of r
-    range-is = there.1
+    pub range_is : g ≡ range_of r
+    range_is = there.1
 
 -- ---- the column and the range
 pub column_below : (s : Sizes) (c : ℕ) (b : Bool) → b ≡ no_column (shape_in s) c → b ≡ false → c < s.columns
@@ -101,49 +101,49 @@ range_below s g b e f = leb-false s.ranges g (sym e ∙ f)
 
 -- ---- the open transaction
 module _ (v : View) (t : ℕ) (f : Found) (e : f ≡ openAt v t) where
-  pub open-lacks : f ≡ Found.Nothing → not_open_in v t ≡ true
-  open-lacks q = not-open v t (sym e ∙ q)
+  pub open_lacks : f ≡ Found.Nothing → not_open_in v t ≡ true
+  open_lacks q = not_open v t (sym e ∙ q)
 
   module _ (j : ℕ) (q : f ≡ Found.At j) where
     pub is_open : not_open_in v t ≡ false
     is_open = (open_there v t j (sym e ∙ q)).0
 
-    pub open-at : Inside f most_transactions → OpenAt v t j
-    open-at h = record { low = rw q at h; found = (open_there v t j (sym e ∙ q)).1 }
+    pub open_at_lem : Inside f most_transactions → OpenAt v t j
+    open_at_lem h = record { low = rw q at h; found = (open_there v t j (sym e ∙ q)).1 }
 
 -- ---- the open scan
 module _ (t : Scans) (k : ℕ) (f : Found) (e : f ≡ find_in t k) where
-  pub scan-closed : f ≡ Found.Nothing → (ps : List ScanEntry) → t ≡ table_of ps → open_count ps ≤ most_scans → no_scan_in ps k ≡ true
-  scan-closed q ps same few = scan-lacks k ps few (in_table t ps same k Found.Nothing (sym e ∙ q))
+  pub scan_closed_lem : f ≡ Found.Nothing → (ps : List ScanEntry) → t ≡ table_of ps → open_count ps ≤ most_scans → no_scan_in ps k ≡ true
+  scan_closed_lem q ps same few = scan_lacks k ps few (in_table t ps same k Found.Nothing (sym e ∙ q))
 
   module _ (j : ℕ) (q : f ≡ Found.At j) where
-    pub is-running : (ps : List ScanEntry) → t ≡ table_of ps → open_count ps ≤ most_scans → no_scan_in ps k ≡ false
-    is-running ps same few = scan-open k ps few j (in_table t ps same k (Found.At j) (sym e ∙ q))
+    pub is_running : (ps : List ScanEntry) → t ≡ table_of ps → open_count ps ≤ most_scans → no_scan_in ps k ≡ false
+    is_running ps same few = scan_open k ps few j (in_table t ps same k (Found.At j) (sym e ∙ q))
 
-    pub scan-entry : length t.numbers ≡ most_scans → ScanAt t k j
-    scan-entry n = found-scan t k j n (sym e ∙ q)
+    pub scan_entry_lem : length t.numbers ≡ most_scans → ScanAt t k j
+    scan_entry_lem n = found_scan t k j n (sym e ∙ q)
 
 -- the laws that the proofs of the tests are searched by
 pub ruleset deciding = (
-  first-fails,
+  first_fails,
   first_passes,
-  first-hands-on,
+  first_hands_on,
   none_fails,
-  said-refuse,
-  said-accept,
+  said_refuse,
+  said_accept,
   flag_is,
-  at-limit,
-  below-limit,
-  under-limit,
-  row-lacks,
-  row-there,
+  at_limit,
+  below_limit,
+  under_limit,
+  row_lacks,
+  row_there,
   row_below,
-  range-is,
+  range_is,
   column_below,
   range_below,
-  open-lacks,
+  open_lacks,
   is_open,
-  open-at,
-  scan-closed,
-  is-running,
+  open_at_lem,
+  scan_closed_lem,
+  is_running,
 )

@@ -45,43 +45,43 @@ module _ (s : Sizes) (v : View) (proper : Proper s) (facts : MemoryFacts s v) wh
       }
 
   -- what chunk i names
-  at-chunk : (i : ℕ) → i < s.chunks
+  at_chunk : (i : ℕ) → i < s.chunks
       → (get_or (v Current) i 0 < s.pages) × (get_or (v PageState) (get_or (v Current) i 0) 0 ≡ 1) × (get_or (v PageChunk) (get_or (v Current) i 0) 0 ≡ i)
   unfolding chunks_current
-  at-chunk i h = chunk_current_tells s v i (each_tells (chunk_current s v) s.chunks facts.chunks_are_current i h)
+  at_chunk i h = chunk_current_tells s v i (each_tells (chunk_current s v) s.chunks facts.chunks_are_current i h)
 
-  chunks-current-of : ChunksCurrent (shape_in s) v
+  chunks_current_of : ChunksCurrent (shape_in s) v
   unfolding page_in
-  chunks-current-of =
+  chunks_current_of =
       let here : (i : ℕ) → i < chunks_of (shape_in s) → i < s.chunks = λ i b. omega (arith, proper.chunks_are) in
       record {
-        inside = λ i b. omega (arith, proper.pages_are, proper.chunks_are, (at-chunk i (here i b)).0);
-        state = λ i b. (at-chunk i (here i b)).1;
-        chunk = λ i b. (at-chunk i (here i b)).2;
+        inside = λ i b. omega (arith, proper.pages_are, proper.chunks_are, (at_chunk i (here i b)).0);
+        state = λ i b. (at_chunk i (here i b)).1;
+        chunk = λ i b. (at_chunk i (here i b)).2;
       }
 
 -- ---- what the test of memory and list found
 module _ (r : Checked) (m : List ℕ) where
-  pub not-usable : (ps : List ScanEntry) → r ≡ Unfit → r ≡ checked m ps → usable m ps ≡ false
+  pub not_usable : (ps : List ScanEntry) → r ≡ Unfit → r ≡ checked m ps → usable m ps ≡ false
   unfolding checked
-  not-usable ps e f = go (usable m ps) (sym e ∙ f)
+  not_usable ps e f = go (usable m ps) (sym e ∙ f)
     where
       go : (b : Bool) → Unfit ≡ cond b (Fit (stored_sizes (words m))) Unfit → b ≡ false
       go true q = let z : ◌≡◌ {A = ℕ} 0 1 = cc in absurd (omega arith)
       go false q = refl
 
   module _ (s : Sizes) (e : r ≡ Fit s) where
-    pub list-known : (ps : List ScanEntry) → r ≡ checked m ps → PassedWith s m ps
+    pub list_known : (ps : List ScanEntry) → r ≡ checked m ps → PassedWith s m ps
     unfolding checked
-    list-known ps f = go (usable m ps) refl (sym e ∙ f)
+    list_known ps f = go (usable m ps) refl (sym e ∙ f)
       where
         go : (b : Bool) → usable m ps ≡ b → Fit s ≡ cond b (Fit (stored_sizes (words m))) Unfit → PassedWith s m ps
         go true u q = record { passed = u; sizes_are = cc; few = (usable_tells m ps u).facts.open_few }
         go false u q = let z : ◌≡◌ {A = ℕ} 0 1 = cc in absurd (omega arith)
 
-    pub fit-tells : Safe r m → Fitted s m
+    pub fit_tells : Safe r m → Fitted s m
     unfolding stored_sizes
-    fit-tells h =
+    fit_tells h =
         let x : Passed s m = rw e at h in
         let v = view_of s m in
         let proper : Proper s = subst Proper (sym x.sizes_are) (proper_of (stored_form (words m)) (stored_shape (words m)) x.within) in
@@ -92,11 +92,11 @@ module _ (r : Checked) (m : List ℕ) where
           sizes_are = subst (λ z. z ≡ sizes_of z.form (shape_in z)) (sym x.sizes_are) refl;
           proper = proper;
           linked = linked_of s v proper x.facts;
-          pooled = λ i h. (at-chunk s v proper x.facts i h).0;
-          chunks_are_current = chunks-current-of s v proper x.facts;
+          pooled = λ i h. (at_chunk s v proper x.facts i h).0;
+          chunks_are_current = chunks_current_of s v proper x.facts;
           transactions_to = k.transactions_to;
           scans_to = k.scans_to;
         }
 
-    pub need-few : Safe r m → need s < too_many_words
-    need-few h = (fit-tells h).small
+    pub need_few : Safe r m → need s < too_many_words
+    need_few h = (fit_tells h).small

@@ -17,7 +17,7 @@ use Rattle.history.specs.History.{any}
 use Rattle.scans.specs.declared.Scans.{Scans}
 use Rattle.scans.specs.Entries.{open_count}
 use Rattle.scans.specs.Table.{table_of, find_in}
-use Rattle.scans.proofs.Answers.{table-finds, table-lacks}
+use Rattle.scans.proofs.Answers.{table_finds, table_lacks}
 use Rattle.terms.specs.Entries.{free_entry, firstIndex, bears, is_scan}
 use Rattle.model.specs.Stored.{scan_entry}
 use Rattle.model.specs.Calls.{no_scan_in}
@@ -59,36 +59,36 @@ module _ (k : ℕ) where
       go false q = refl
 
   module _ (ps : List ScanEntry) (few : open_count ps ≤ most_scans) where
-    pub scan-lacks : find_in (table_of ps) k ≡ Nothing → no_scan_in ps k ≡ true
+    pub scan_lacks : find_in (table_of ps) k ≡ Nothing → no_scan_in ps k ≡ true
     unfolding no_scan_in
-    scan-lacks e = rw (none_passes (is_scan k) ps (table-lacks ps few k e))
+    scan_lacks e = rw (none_passes (is_scan k) ps (table_lacks ps few k e))
 
-    pub scan-open : (j : ℕ) → find_in (table_of ps) k ≡ At j → no_scan_in ps k ≡ false
+    pub scan_open : (j : ℕ) → find_in (table_of ps) k ≡ At j → no_scan_in ps k ≡ false
     unfolding no_scan_in
-    scan-open j e =
-        let t = table-finds ps few k j e in
+    scan_open j e =
+        let t = table_finds ps few k j e in
         let b : is_scan k (get_or ps (firstIndex (is_scan k) ps) free_entry) ≡ true = ap (bears k) t.number_is ∙ rw (numbered ps j e, eq-eqb k k refl) in
         rw (one_passes (is_scan k) ps refl b)
 
-    pub scan-at : (j : ℕ) → find_in (table_of ps) k ≡ At j → firstIndex (is_scan k) ps ≡ get_or (table_of ps).indices j 0
-    scan-at j e = sym (table-finds ps few k j e).index_is
+    pub scan_at_lem : (j : ℕ) → find_in (table_of ps) k ≡ At j → firstIndex (is_scan k) ps ≡ get_or (table_of ps).indices j 0
+    scan_at_lem j e = sym (table_finds ps few k j e).index_is
 
     -- the scan's stamp, merges and commits, as the table has them
-    pub scan-stamp : (j : ℕ) → find_in (table_of ps) k ≡ At j → get_or (table_of ps).stamps j 0 ≡ (scan_entry ps k).stamp
+    pub scan_stamp : (j : ℕ) → find_in (table_of ps) k ≡ At j → get_or (table_of ps).stamps j 0 ≡ (scan_entry ps k).stamp
     unfolding scan_entry
-    scan-stamp j e = (table-finds ps few k j e).stamp_is
+    scan_stamp j e = (table_finds ps few k j e).stamp_is
 
     pub scan_merges : (j : ℕ) → find_in (table_of ps) k ≡ At j → get_or (table_of ps).merges j 0 ≡ (scan_entry ps k).merges
     unfolding scan_entry
-    scan_merges j e = (table-finds ps few k j e).merges_is
+    scan_merges j e = (table_finds ps few k j e).merges_is
 
     pub scan_commits : (j : ℕ) → find_in (table_of ps) k ≡ At j → get_or (table_of ps).commits j 0 ≡ (scan_entry ps k).commits
     unfolding scan_entry
-    scan_commits j e = (table-finds ps few k j e).commits_is
+    scan_commits j e = (table_finds ps few k j e).commits_is
 
-    pub scan-number : (j : ℕ) → find_in (table_of ps) k ≡ At j → k ≡ (scan_entry ps k).number
+    pub scan_number : (j : ℕ) → find_in (table_of ps) k ≡ At j → k ≡ (scan_entry ps k).number
     unfolding scan_entry
-    scan-number j e = sym (table-finds ps few k j e).number_is
+    scan_number j e = sym (table_finds ps few k j e).number_is
 
 -- ---- a table and the list that it stands for
 
@@ -106,5 +106,5 @@ module _ (t : Scans) where
       go true q = let z : ◌≡◌ {A = ℕ} 0 1 = cc in absurd (omega arith)
       go false q = (first_at_lem k j t.numbers q).0
 
-  pub found-scan : (k j : ℕ) → length t.numbers ≡ most_scans → find_in t k ≡ Found.At j → ScanAt t k j
-  found-scan k j n e = record { below = omega (arith, entry_in k j e); found = e }
+  pub found_scan : (k j : ℕ) → length t.numbers ≡ most_scans → find_in t k ≡ Found.At j → ScanAt t k j
+  found_scan k j n e = record { below = omega (arith, entry_in k j e); found = e }

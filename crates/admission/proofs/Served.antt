@@ -47,25 +47,25 @@ admitted on e s n m t f h = rw f at h
 
 -- the part that is lent is seen as the whole is, and as fitted
 module _ {s : Sizes} {n : ℕ} {m : List ℕ} {t : Scans} (e : Admitted s n m t) where
-  part-inside : n ≤ length m
-  part-inside = omega (arith, e.bytes, e.fitted.room)
+  part_inside : n ≤ length m
+  part_inside = omega (arith, e.bytes, e.fitted.room)
 
-  pub part-seen : view_of s (take n m) ≡ view_of s m
-  part-seen = rw e.bytes (view_part s m e.fitted.room)
+  pub part_seen : view_of s (take n m) ≡ view_of s m
+  part_seen = rw e.bytes (view_part s m e.fitted.room)
 
-  pub part-fitted : Fitted s (take n m)
-  part-fitted =
+  pub part_fitted : Fitted s (take n m)
+  part_fitted =
       let f = e.fitted in
       record {
-        room = omega (arith, e.bytes, length-take-le n m part-inside);
+        room = omega (arith, e.bytes, length-take-le n m part_inside);
         small = f.small;
         sizes_are = f.sizes_are;
         proper = f.proper;
-        linked = rw part-seen f.linked;
-        pooled = rw part-seen f.pooled;
-        chunks_are_current = rw part-seen f.chunks_are_current;
-        transactions_to = rw part-seen f.transactions_to;
-        scans_to = rw part-seen f.scans_to;
+        linked = rw part_seen f.linked;
+        pooled = rw part_seen f.pooled;
+        chunks_are_current = rw part_seen f.chunks_are_current;
+        transactions_to = rw part_seen f.transactions_to;
+        scans_to = rw part_seen f.scans_to;
       }
 
 -- ---- what the tests found, and what holds where they are passed
@@ -166,16 +166,16 @@ module _ (on : Form → Bool) (e : Admission) (s : Sizes) (n : ℕ) (m : List �
   pooled = facts.fitted.pooled
 
   pub part_room : Suffices s (take n m)
-  part_room = (part-fitted facts).room
+  part_room = (part_fitted facts).room
 
-  pub part-linked : Linked s (view_of s (take n m))
-  part-linked = (part-fitted facts).linked
+  pub part_linked : Linked s (view_of s (take n m))
+  part_linked = (part_fitted facts).linked
 
-  pub part-pooled : Pooled s (view_of s (take n m))
-  part-pooled = (part-fitted facts).pooled
+  pub part_pooled : Pooled s (view_of s (take n m))
+  part_pooled = (part_fitted facts).pooled
 
   pub part_in : n ≤ length m
-  part_in = part-inside facts
+  part_in = part_inside facts
 
   pub part_long : n ≡ length (take n m)
   part_long = sym (length-take-le n m part_in)
@@ -187,98 +187,98 @@ module _ (e : Admission) (s : Sizes) (n : ℕ) (m : List ℕ) (t : Scans) (f : e
 
   -- what the definitions give is what the call answers and leaves
   module _ (ps : List ScanEntry) (p : PassedWith s m ps) where
-    admits-it : admits (lend m ps) c ≡ true
+    admits_it : admits (lend m ps) c ≡ true
     unfolding admits stored_sizes stored_shape
-    admits-it =
+    admits_it =
         let z = p.sizes_are in
         let w : works_on c (stored_form (words m)) ≡ true = ap (λ (x : Sizes). works_on c x.form) (sym z) ∙ (admitted (uses_form (form_use c)) e s n m t f h).1 in
         let r : room_for (form_use c) (stored_shape (words m)) (second_of c) ≡ true = ap (λ (x : Sizes). room_for (form_use c) (shape_in x) (second_of c)) (sym z) ∙ one in
         rw (w, r, p.passed)
 
-    answer-is : say (shape_in s) (view_of s m) ps c ≡ answer_of (lend m ps) c
+    answer_is : say (shape_in s) (view_of s m) ps c ≡ answer_of (lend m ps) c
     unfolding answer_of store_view stored_sizes stored_shape
-    answer-is = rw (admits-it, p.sizes_are)
+    answer_is = rw (admits_it, p.sizes_are)
 
-    memory-is : lay s (view_next (shape_in s) (view_of s m) ps c) m ≡ memory_after (lend m ps) c
+    memory_is : lay s (view_next (shape_in s) (view_of s m) ps c) m ≡ memory_after (lend m ps) c
     unfolding memory_after store_view stored_sizes stored_shape
-    memory-is = rw (admits-it, p.sizes_are)
+    memory_is = rw (admits_it, p.sizes_are)
 
-    list-is : entries_next (shape_in s) (view_of s m) ps c ≡ list_after (lend m ps) c
+    list_is : entries_next (shape_in s) (view_of s m) ps c ≡ list_after (lend m ps) c
     unfolding list_after store_view stored_sizes stored_shape
-    list-is = rw (admits-it, p.sizes_are)
+    list_is = rw (admits_it, p.sizes_are)
 
-    stamps-are : stamps_next (shape_in s) (view_of s m) ps c ≡ stamps_left (lend m ps) c
+    stamps_are : stamps_next (shape_in s) (view_of s m) ps c ≡ stamps_left (lend m ps) c
     unfolding stamps_left store_view stored_sizes stored_shape
-    stamps-are = rw (admits-it, p.sizes_are)
+    stamps_are = rw (admits_it, p.sizes_are)
 
   -- a test failed
-  pub failed-serves : (d : Tested) (x : Refusal) → d ≡ Tested.Failed x → TestsBy t s m c d → FitBytes m → ServesBy t m c (Answer.Refused x) m kept
+  pub failed_serves : (d : Tested) (x : Refusal) → d ≡ Tested.Failed x → TestsBy t s m c d → FitBytes m → ServesBy t m c (Answer.Refused x) m kept
   unfolding ServesBy Serves TestsBy say view_next view_if entries_next entries_if answer_if
-  failed-serves d x g k b = λ ps q.
+  failed_serves d x g k b = λ ps q.
       let l = known.listed ps q in
       let w : verdict (tests_in (shape_in s) (view_of s m) ps c) ≡ refuse x = (rw g at k) ps q l.few in
       let a : Answer.Refused x ≡ say (shape_in s) (view_of s m) ps c = rw w in
       let v : view_of s m ≡ view_next (shape_in s) (view_of s m) ps c = rw w in
       let y : ps ≡ entries_next (shape_in s) (view_of s m) ps c = rw w in (
-        a ∙ answer-is ps l,
-        sym (lay_view s m (λ i. (b i).fits) known.fitted.room) ∙ ap (λ (v : View). lay s v m) v ∙ memory-is ps l,
-        y ∙ list-is ps l,
+        a ∙ answer_is ps l,
+        sym (lay_view s m (λ i. (b i).fits) known.fitted.room) ∙ ap (λ (v : View). lay s v m) v ∙ memory_is ps l,
+        y ∙ list_is ps l,
       )
 
   -- a call that only reads the memory, and is lent a slice to write
-  pub read-gives : (r : Answer) (out : List ℕ) → FitBytes m
+  pub read_gives : (r : Answer) (out : List ℕ) → FitBytes m
       → ((ps : List ScanEntry) → (act_in (shape_in s) (view_of s m) ps c ≡ view_of s m) × (entries_after (view_of s m) ps c ≡ ps))
       → ((ps : List ScanEntry) → (r ≡ say (shape_in s) (view_of s m) ps c) × (out ≡ stamps_next (shape_in s) (view_of s m) ps c)) → GivesBy t m c (given r out) m kept
   unfolding GivesBy Gives Serves view_next entries_next
-  read-gives r out b reads z = λ ps q.
+  read_gives r out b reads z = λ ps q.
       let l = known.listed ps q in
       let k = reads ps in (
         (
-          (z ps).0 ∙ answer-is ps l,
-          sym (lay_view s m (λ i. (b i).fits) known.fitted.room) ∙ ap (λ (v : View). lay s v m) (sym (view_kept (verdict (tests_in (shape_in s) (view_of s m) ps c)) _ _ k.0)) ∙ memory-is ps l,
-          sym (list_kept (verdict (tests_in (shape_in s) (view_of s m) ps c)) _ _ k.1) ∙ list-is ps l,
+          (z ps).0 ∙ answer_is ps l,
+          sym (lay_view s m (λ i. (b i).fits) known.fitted.room) ∙ ap (λ (v : View). lay s v m) (sym (view_kept (verdict (tests_in (shape_in s) (view_of s m) ps c)) _ _ k.0)) ∙ memory_is ps l,
+          sym (list_kept (verdict (tests_in (shape_in s) (view_of s m) ps c)) _ _ k.1) ∙ list_is ps l,
         ),
-        (z ps).1 ∙ stamps-are ps l,
+        (z ps).1 ∙ stamps_are ps l,
       )
 
   -- none failed
   module _ (k : (ps : List ScanEntry) → t ≡ table_of ps → open_count ps ≤ most_scans → verdict (tests_in (shape_in s) (view_of s m) ps c) ≡ accept)
       (r : Answer) (next : List ScanEntry → List ScanEntry) where
-    accepted-serves : (m' : List ℕ)
+    accepted_serves : (m' : List ℕ)
         → ((ps : List ScanEntry) → t ≡ table_of ps → open_count ps ≤ most_scans
         → (r ≡ reply_in (shape_in s) (view_of s m) ps c) × (m' ≡ lay s (act_in (shape_in s) (view_of s m) ps c) m) × (next ps ≡ entries_after (view_of s m) ps c))
         → ServesBy t m c r m' next
     unfolding ServesBy Serves say view_next view_if entries_next entries_if answer_if
-    accepted-serves m' z = λ ps q.
+    accepted_serves m' z = λ ps q.
         let l = known.listed ps q in
         let w = k ps q l.few in
         let z = z ps q l.few in
         let a : r ≡ say (shape_in s) (view_of s m) ps c = rw w z.0 in
         let y : m' ≡ lay s (view_next (shape_in s) (view_of s m) ps c) m = rw w z.1 in
         let u : next ps ≡ entries_next (shape_in s) (view_of s m) ps c = rw w z.2 in
-        (a ∙ answer-is ps l, y ∙ memory-is ps l, u ∙ list-is ps l)
+        (a ∙ answer_is ps l, y ∙ memory_is ps l, u ∙ list_is ps l)
 
     -- and the call only reads the memory
-    pub read-serves : FitBytes m
+    pub read_serves : FitBytes m
         → ((ps : List ScanEntry) → t ≡ table_of ps → open_count ps ≤ most_scans
         → (r ≡ reply_in (shape_in s) (view_of s m) ps c) × (view_of s m ≡ act_in (shape_in s) (view_of s m) ps c) × (next ps ≡ entries_after (view_of s m) ps c))
         → ServesBy t m c r m next
-    read-serves b z =
-        accepted-serves m
+    read_serves b z =
+        accepted_serves m
         (λ ps q few. ((z ps q few).0, sym (lay_view s m (λ i. (b i).fits) known.fitted.room) ∙ ap (λ (v : View). lay s v m) (z ps q few).1, (z ps q few).2))
 
     -- or was lent the needed bytes, and left p there
-    pub write-serves : (p : List ℕ) → length p ≡ length (take n m) → FitBytes (p ++ drop n m)
+    pub write_serves : (p : List ℕ) → length p ≡ length (take n m) → FitBytes (p ++ drop n m)
         → ((ps : List ScanEntry) → t ≡ table_of ps → open_count ps ≤ most_scans
         → (r ≡ reply_in (shape_in s) (view_of s (take n m)) ps c) × (view_of s p ≡ act_in (shape_in s) (view_of s (take n m)) ps c) × (next ps ≡ entries_after (view_of s (take n m)) ps c))
         → ServesBy t m c r (p ++ drop n m) next
-    write-serves p l b z =
-        accepted-serves (p ++ drop n m)
+    write_serves p l b z =
+        accepted_serves (p ++ drop n m)
         (λ ps q few. let z = z ps q few in (
-          rw (part-seen known) at z.0,
+          rw (part_seen known) at z.0,
           lent s n m p (λ v. act_in (shape_in s) v ps c) z.1 l (λ i. (b i).fits) known.bytes known.fitted.room,
-          rw (part-seen known) at z.2,
+          rw (part_seen known) at z.2,
         ))
 
 -- the laws that the proofs of the calls are searched by
-pub ruleset serving = (fitted, room, proper, linked, pooled, part_in, part_long, part_room, part-linked, part-pooled, by_any, all_passed, unfit_serves, failed-serves, read-serves, write-serves)
+pub ruleset serving = (fitted, room, proper, linked, pooled, part_in, part_long, part_room, part_linked, part_pooled, by_any, all_passed, unfit_serves, failed_serves, read_serves, write_serves)

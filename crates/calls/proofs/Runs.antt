@@ -141,8 +141,8 @@ plain_map f (c ∷ cs) (a ∷ l) =
     [ true ↦ refl | false ↦ refl ])
 
 module _ (F : Interface) (ok : Faithful F) where
-  is-refusal : (r : F.Returned) (a : Answer) (n : Refusal) → r ≡ F.returns a → F.Refuses r n → a ≡ Answer.Refused n
-  is-refusal r a n e h = (ok.refusing a n).0 (subst (λ (x : F.Returned). F.Refuses x n) e h)
+  is_refusal : (r : F.Returned) (a : Answer) (n : Refusal) → r ≡ F.returns a → F.Refuses r n → a ≡ Answer.Refused n
+  is_refusal r a n e h = (ok.refusing a n).0 (subst (λ (x : F.Returned). F.Refuses x n) e h)
 
   not_refused : (r : F.Returned) (a : Answer) → r ≡ F.returns a → F.Accepts r → is_refused a ≡ false
   not_refused r a e h = (ok.accepting a).0 (subst F.Accepts e h)
@@ -151,21 +151,21 @@ module _ (F : Interface) (ok : Faithful F) where
   whole : {o : Outcome F.Returned} {a : Answer} → o.answer ≡ F.returns a → o ≡ returned_for F (given a o.stamps)
   whole {o} e = ap (λ (y : F.Returned). given y o.stamps) e
 
-  as-answers : {m m' : List ℕ} {ps ps' : List ScanEntry} {cs : List Call} {os : List (Outcome F.Returned)} → Run F m ps cs os m' ps'
+  as_answers : {m m' : List ℕ} {ps ps' : List ScanEntry} {cs : List Call} {os : List (Outcome F.Returned)} → Run F m ps cs os m' ps'
       → (as' : List (Outcome Answer)) × Run calls m ps cs as' m' ps' × (os ≡ map (returned_for F) as')
-  as-answers ends = ([], ends, refl)
-  as-answers (goes {o = o} {os = os} put s q) =
+  as_answers ends = ([], ends, refl)
+  as_answers (goes {o = o} {os = os} put s q) =
       let x = ok.served s in
-      let l = as-answers q in
+      let l = as_answers q in
       (given x.0 o.stamps ∷ l.0, goes put x.1 l.1, ap (λ (y : Outcome F.Returned). y ∷ os) (whole x.2) ∙ ap (λ (y : List (Outcome F.Returned)). returned_for F (given x.0 o.stamps) ∷ y) l.2)
-  as-answers (moves_on {r = r} {os = os} s a q) =
+  as_answers (moves_on {r = r} {os = os} s a q) =
       let x = ok.moving s in
-      let l = as-answers q in
+      let l = as_answers q in
       (alone x.0 ∷ l.0, moves_on x.1 (not_refused r x.0 x.2 a) l.1, ap (λ (y : F.Returned). alone y ∷ os) x.2 ∙ ap (λ (y : List (Outcome F.Returned)). returned_for F (alone x.0) ∷ y) l.2)
-  as-answers (stays {r = r} {n = n} {os = os} s a q) =
+  as_answers (stays {r = r} {n = n} {os = os} s a q) =
       let x = ok.moving s in
-      let l = as-answers q in
-      (alone x.0 ∷ l.0, stays x.1 (is-refusal r x.0 n x.2 a) l.1, ap (λ (y : F.Returned). alone y ∷ os) x.2 ∙ ap (λ (y : List (Outcome F.Returned)). returned_for F (alone x.0) ∷ y) l.2)
+      let l = as_answers q in
+      (alone x.0 ∷ l.0, stays x.1 (is_refusal r x.0 n x.2 a) l.1, ap (λ (y : F.Returned). alone y ∷ os) x.2 ∙ ap (λ (y : List (Outcome F.Returned)). returned_for F (alone x.0) ∷ y) l.2)
 
   -- what a run begins with: what a making of the form left of some memory and list
   record From (X : Form) (S : Shape) (m : List ℕ) (ps : List ScanEntry) : Type 0 where
@@ -187,14 +187,14 @@ module _ (F : Interface) (ok : Faithful F) where
   stored : {X : Form} {S : Shape} {m m' : List ℕ} {ps ps' : List ScanEntry} {cs : List Call} {os : List (Outcome F.Returned)} (b : From X S m ps) → Run F m ps cs os m' ps'
       → (os ≡ map (returned_for F) (store_outcomes X S b.m₀ b.ps₀ cs)) × (m' ≡ (store_left X S b.m₀ b.ps₀ cs).memory) × (ps' ≡ (store_left X S b.m₀ b.ps₀ cs).list)
   stored {X} {S} b q =
-      let l = as-answers q in
+      let l = as_answers q in
       let k = store_left_lem X S b.m₀ b.ps₀ b.memory b.list l.1 in
       (l.2 ∙ ap (map (returned_for F)) k.0, k.1, k.2)
 
   -- ---- demand 1
-  pub refused-so : RefusedSo F
+  pub refused_so : RefusedSo F
   unfolding RefusedSo Gives Serves Refuses
-  refused-so m m' ps ps' c o s =
+  refused_so m m' ps ps' c o s =
       let x = ok.served s in
       let k = refuses m ps c in
       let e : o.answer ≡ F.returns (answer_of (lend m ps) c) = x.2 ∙ ap F.returns x.1.0.0 in
@@ -204,46 +204,46 @@ module _ (F : Interface) (ok : Faithful F) where
         (λ h. k.1.0 ((ok.accepting (answer_of (lend m ps) c)).0 h), λ h. (ok.accepting (answer_of (lend m ps) c)).1 (k.1.1 h)),
       ))
 
-  pub refused-kept : RefusedKept F
+  pub refused_kept : RefusedKept F
   unfolding RefusedKept Gives Serves RefusedKeeps
-  refused-kept m m' ps ps' c o n b s h =
+  refused_kept m m' ps ps' c o n b s h =
       let x = ok.served s in
-      let k = refused_keeps m ps c n b (sym x.1.0.0 ∙ is-refusal o.answer x.0 n x.2 h) in
+      let k = refused_keeps m ps c n b (sym x.1.0.0 ∙ is_refusal o.answer x.0 n x.2 h) in
       (x.1.0.1 ∙ k.0, x.1.0.2 ∙ k.1, x.1.1 ∙ k.2)
 
-  pub unmade-kept : UnmadeKept F
+  pub unmade_kept : UnmadeKept F
   unfolding UnmadeKept Makes made answered
-  unmade-kept S m m' ps ps' r n s h =
+  unmade_kept S m m' ps ps' r n s h =
       let x = ok.making s in
-      let e : (made Form.Newest S (length ps) m).0 ≡ Answer.Refused n = sym x.1.0 ∙ is-refusal r x.0 n x.2 h in
+      let e : (made Form.Newest S (length ps) m).0 ≡ Answer.Refused n = sym x.1.0 ∙ is_refusal r x.0 n x.2 h in
       (x.1.1 ∙ unmade_same m (within_limits S) (leb (bytes_needed Form.Newest S) (length m) && leb most_scans (length ps)) (lay (sizes_of Form.Newest S) (made_view Form.Newest S) m) n e, x.1.2 ∙ ap (λ (y : Answer). freed_if (is_accepted y) ps) e)
 
   -- ---- what is changed
-  pub changed-so : ChangedSo F
+  pub changed_so : ChangedSo F
   unfolding ChangedSo Gives Serves ChangesOnly
-  changed-so m m' ps ps' c o b s = let x = ok.served s in rw (x.1.0.1, x.1.0.2) (changes_only m ps c b)
+  changed_so m m' ps ps' c o b s = let x = ok.served s in rw (x.1.0.1, x.1.0.2) (changes_only m ps c b)
 
-  pub merged-so : MergedSo F
+  pub merged_so : MergedSo F
   unfolding MergedSo Gives Serves MergeChangesOnly
-  merged-so m m' ps ps' g c n o b s = let x = ok.served s in rw (x.1.0.1, x.1.0.2) (merge_changes_only m ps g c n b)
+  merged_so m m' ps ps' g c n o b s = let x = ok.served s in rw (x.1.0.1, x.1.0.2) (merge_changes_only m ps g c n b)
 
   pub made_so : MadeSo F
   unfolding MadeSo Makes MakingChangesOnly
   made_so S m m' ps ps' r s = let x = ok.making s in rw x.1.1 (making_changes_only Form.Newest S m ps)
 
-  pub unmoved-kept : UnmovedKept F
+  pub unmoved_kept : UnmovedKept F
   unfolding UnmovedKept Moves RefusedKeeps
-  unmoved-kept m second second' ps to r n b s h =
+  unmoved_kept m second second' ps to r n b s h =
       let x = ok.moving s in
-      x.1.1 ∙ (refused_keeps m ps (move to second) n b (sym x.1.0 ∙ is-refusal r x.0 n x.2 h)).3
+      x.1.1 ∙ (refused_keeps m ps (move to second) n b (sym x.1.0 ∙ is_refusal r x.0 n x.2 h)).3
 
-  pub moved-so : MovedSo F
+  pub moved_so : MovedSo F
   unfolding MovedSo Moves MoveChangesOnly
-  moved-so m second second' ps to r s = let x = ok.moving s in rw x.1.1 (move_changes_only to m ps second)
+  moved_so m second second' ps to r s = let x = ok.moving s in rw x.1.1 (move_changes_only to m ps second)
 
-  pub unmoved-so : UnmovedSo F
+  pub unmoved_so : UnmovedSo F
   unfolding UnmovedSo Moves Refuses
-  unmoved-so m second second' ps to r s =
+  unmoved_so m second second' ps to r s =
       let x = ok.moving s in
       let a = answer_of (lend m ps) (move to second) in
       let k = refuses m ps (move to second) in
@@ -265,22 +265,22 @@ module _ (F : Interface) (ok : Faithful F) where
       let n : is_refused (answer_of (store_left X S f.m₀ f.ps₀ cs) x) ≡ false = ap is_refused (sym e) ∙ not_refused o.answer b.0 b.2 k in
       b.2 ∙ ap F.returns (e ∙ reads_committed X S f.m₀ f.ps₀ f.accepted cs ys x show t r c y w (rw n tt))
 
-  pub pages-so : PagesSo F
+  pub pages_so : PagesSo F
   unfolding PagesSo PagesCommitted
-  pages-so X S m m' ps ps' cs os h ys q i c b d =
+  pages_so X S m m' ps ps' cs os h ys q i c b d =
       let f = from h in
       rw (stored f q).1 (pages_committed X S f.m₀ f.ps₀ f.accepted cs ys i c b d)
 
   -- ---- demand 3
-  pub outcomes-so : OutcomesSo F
+  pub outcomes_so : OutcomesSo F
   unfolding OutcomesSo Demand3
-  outcomes-so X S m m' ps ps' cs os h ys q =
+  outcomes_so X S m m' ps ps' cs os h ys q =
       let f = from h in
       (stored f q).0 ∙ ap (map (returned_for F)) (demand3 X S f.m₀ f.ps₀ f.accepted cs ys)
 
-  pub struck-same : StruckSame F
+  pub struck_same : StruckSame F
   unfolding StruckSame StrikingStore
-  struck-same X S m m' ps ps' cs os h ys q os' m'' ps'' p =
+  struck_same X S m m' ps ps' cs os h ys q os' m'' ps'' p =
       let f = from h in
       rw ((stored f q).0, (stored f p).0, plain_map (returned_for F) cs (store_outcomes X S f.m₀ f.ps₀ cs), plain_map (returned_for F) (strike cs) (store_outcomes X S f.m₀ f.ps₀ (strike cs)))
       (ap (map (returned_for F)) (striking_store X S f.m₀ f.ps₀ f.accepted cs ys))
@@ -300,15 +300,15 @@ module _ (F : Interface) (ok : Faithful F) where
     same_at : (i j : ℕ) → store_outcome_at X S f.m₀ f.ps₀ cs i ≡ store_outcome_at X S f.m₀ f.ps₀ cs j → returnedAt F os i ≡ returnedAt F os j
     same_at i j e = at i ∙ ap (returned_for F) e ∙ sym (at j)
 
-  pub minutes-so : MinutesSo F
+  pub minutes_so : MinutesSo F
   unfolding MinutesSo MinutesStableStore
-  minutes-so X S m m' ps ps' cs os h ys q i j t x k b past u w =
+  minutes_so X S m m' ps ps' cs os h ys q i j t x k b past u w =
       let f = from h in
       same_at f q i j (minutes_stable_store X S f.m₀ f.ps₀ f.accepted cs ys i j t x k b past (accepts_in f q i x u) (accepts_in f q j x w))
 
-  pub scans-so : ScansSo F
+  pub scans_so : ScansSo F
   unfolding ScansSo ScansStableStore
-  scans-so X S m m' ps ps' cs os h ys q i j x k u w =
+  scans_so X S m m' ps ps' cs os h ys q i j x k u w =
       let f = from h in
       same_at f q i j (scans_stable_store X S f.m₀ f.ps₀ f.accepted cs ys i j x k (accepts_in f q i x u) (accepts_in f q j x w))
 
@@ -317,49 +317,49 @@ faithful : Faithful calls
 faithful = record { served = λ {o = o} s. (o.answer, s, refl); moving = λ {r = r} s. (r, s, refl); making = λ {r = r} s. (r, s, refl); refusing = λ a n. (λ e. e, λ e. e); accepting = λ a. (λ e. e, λ e. e) }
 
 pub lent_refused : LentRefused
-lent_refused = refused-so calls faithful
+lent_refused = refused_so calls faithful
 
 pub lent_kept : LentKept
-lent_kept = refused-kept calls faithful
+lent_kept = refused_kept calls faithful
 
 pub making_kept : MakingKept
-making_kept = unmade-kept calls faithful
+making_kept = unmade_kept calls faithful
 
 pub lent_changed : LentChanged
-lent_changed = changed-so calls faithful
+lent_changed = changed_so calls faithful
 
 pub lent_merged : LentMerged
-lent_merged = merged-so calls faithful
+lent_merged = merged_so calls faithful
 
 pub making_changed : MakingChanged
 making_changed = made_so calls faithful
 
 pub move_kept : MoveKept
-move_kept = unmoved-kept calls faithful
+move_kept = unmoved_kept calls faithful
 
 pub move_changed : MoveChanged
-move_changed = moved-so calls faithful
+move_changed = moved_so calls faithful
 
 pub move_refused : MoveRefused
-move_refused = unmoved-so calls faithful
+move_refused = unmoved_so calls faithful
 
 pub lent_reads : LentReads
 lent_reads = reads_so calls faithful
 
 pub lent_pages : LentPages
-lent_pages = pages-so calls faithful
+lent_pages = pages_so calls faithful
 
 pub lent_outcomes : LentOutcomes
-lent_outcomes = outcomes-so calls faithful
+lent_outcomes = outcomes_so calls faithful
 
 pub lent_striking : LentStriking
-lent_striking = struck-same calls faithful
+lent_striking = struck_same calls faithful
 
 pub lent_minutes : LentMinutes
-lent_minutes = minutes-so calls faithful
+lent_minutes = minutes_so calls faithful
 
 pub lent_scans : LentScans
-lent_scans = scans-so calls faithful
+lent_scans = scans_so calls faithful
 
 -- ---- a short list
 

@@ -31,7 +31,7 @@ use Rattle.lent.proofs.Further.{Further}
 use Rattle.lent.proofs.Hands.{heres, Vals}
 use Rattle.lent.proofs.Tokens.{up}
 use Rattle.lent.proofs.Slices.{Access, reads, writes, slices, loans}
-use Rattle.lent.proofs.ListFunctions.{table-known, apply-change-known}
+use Rattle.lent.proofs.ListFunctions.{table_known, apply_change_known}
 use Rattle.lent.proofs.Callees.{KnownIn}
 use Rattle.lent.proofs.Written.{Code, Meets}
 use Rattle.lent.proofs.laws.list_kept as list_kept
@@ -90,7 +90,7 @@ module _ (m : Access) (l : ℕ) (fs : List (Further 2 1 (up 2 (loans m)) l)) (c 
   unfolding ServesBy
   changed code e-table k-core e-apply =
       list_changed.meets l load.name core apply_change.name table change answer (λ p t. t ≡ table_of p) (λ p d z p'. (z ≡ d.answer) × (p' ≡ set p d.index d.entry)) m fs decided (λ b p x. Serves b p (c x))
-      (λ b p x t d z b' p' e h s. rw (s.1, s.0) (h p e)) w γ k code (table-known w γ e-table) k-core (apply-change-known w γ e-apply)
+      (λ b p x t d z b' p' e h s. rw (s.1, s.0) (h p e)) w γ k code (table_known w γ e-table) k-core (apply_change_known w γ e-apply)
 
 pub made_so : (S : Shape) (m : List ℕ) (n : ℕ) (x z : Answer) (m' : List ℕ) (ps ps' : List ScanEntry) → n ≡ length ps → (x, m') ≡ made Form.Newest S n m → (z ≡ x) × (ps' ≡ freed_if (is_accepted x) ps) → Makes m ps S z m' ps'
 made_so S m n x z m' ps ps' e h k = rw k.0 (made_makes m ps S n x m' (is_accepted x) ps' h e refl k.1)

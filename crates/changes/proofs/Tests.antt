@@ -25,23 +25,23 @@ use Rattle.layout.specs.Sizes.{Proper}
 use Rattle.model.specs.Preconditions.{shape_in, Counted, Linked, FreeAt, OpenAt}
 use Rattle.loops.specs.Search.{found_at}
 use Rattle.writing.specs.Steps.{Room}
-use Rattle.rows.proofs.Indices.{row-in}
+use Rattle.rows.proofs.Indices.{row_in_lem}
 use Rattle.admission.specs.declared.Admission.{Admission}
 use Rattle.admission.specs.declared.Tested.{Tested}
 use Rattle.admission.specs.Admitted.{Fitted, Admits}
 use Rattle.admission.specs.Tested.{Says, Finds, IfPassed, Tests}
-use Rattle.admission.proofs.Served.{admitted, part-seen, found, if_passed}
+use Rattle.admission.proofs.Served.{admitted, part_seen, found, if_passed}
 use Rattle.changes.specs.Steps.{append_tests}
 
 -- ---- the tail records that the range of a row has left
 module _ (s : Sizes) (v : View) (r g n : ℕ) (b : Bool) (e : g ≡ range_of r) (k : b ≡ ltb s.capacity (used_in v g + n)) where
-  pub lacks-is : (w : Bool) → b ≡ w → lacks_in (shape_in s) v r n ≡ w
+  pub lacks_is : (w : Bool) → b ≡ w → lacks_in (shape_in s) v r n ≡ w
   unfolding lacks_in
-  lacks-is w f = rw (← e, ← k) f
+  lacks_is w f = rw (← e, ← k) f
 
-  pub room-left : Linked s v → r < rows_given v → b ≡ false → Room s v r n
+  pub room_left : Linked s v → r < rows_given v → b ≡ false → Room s v r n
   unfolding range_of
-  room-left l h f =
+  room_left l h f =
       record {
         row_below = omega (arith, l.rows_few);
         left = ltb-false s.capacity (used_in v (r / range_rows) + n) (rw e at (sym k ∙ f));
@@ -49,11 +49,11 @@ module _ (s : Sizes) (v : View) (r g n : ℕ) (b : Bool) (e : g ≡ range_of r) 
 
 -- as many as an update wants
 module _ (d : Tested) (s : Sizes) (v : View) (t r n k : ℕ) (e : n ≡ k) where
-  pub wanted-says : Says d (verdict (append_tests (shape_in s) v t r n)) → Says d (verdict (append_tests (shape_in s) v t r k))
-  wanted-says h = rw e at h
+  pub wanted_says : Says d (verdict (append_tests (shape_in s) v t r n)) → Says d (verdict (append_tests (shape_in s) v t r k))
+  wanted_says h = rw e at h
 
-  pub wanted-left : IfPassed d (Room s v r n) → IfPassed d (Room s v r k)
-  wanted-left h = rw e at h
+  pub wanted_left : IfPassed d (Room s v r n) → IfPassed d (Room s v r k)
+  wanted_left h = rw e at h
 
 -- ---- a row that is given is there, and its range is one of the store's
 module _ (s : Sizes) (m : List ℕ) (r : ℕ) (w : Fitted s m) (h : r < rows_given (view_of s m)) where
@@ -61,7 +61,7 @@ module _ (s : Sizes) (m : List ℕ) (r : ℕ) (w : Fitted s m) (h : r < rows_giv
   row_inside = omega (arith, w.linked.rows_few)
 
   pub range_inside : (g : ℕ) → g ≡ range_of r → g < s.ranges
-  range_inside g e = rw e (row-in s w.proper (view_of s m) w.linked r h).1
+  range_inside g e = rw e (row_in_lem s w.proper (view_of s m) w.linked r h).1
 
 -- ---- the rows of a store are all given, or not
 module _ (s : Sizes) (v : View) (n : ℕ) (p : Proper s) (e : n ≡ rows_given v) where
@@ -93,18 +93,18 @@ module _ (s : Sizes) (m : List ℕ) (h : Suffices s m) where
   abbrev free : ℕ → Bool
   free k = eqb k 0
 
-  any-free : any free opens ≡ ltb (firstIndex free opens) most_transactions
-  any-free = any_first free opens ∙ ap (ltb (firstIndex free opens)) (opens_long s m h)
+  any_free : any free opens ≡ ltb (firstIndex free opens) most_transactions
+  any_free = any_first free opens ∙ ap (ltb (firstIndex free opens)) (opens_long s m h)
 
-  no-free : found_at most_transactions (firstIndex free opens) ≡ Found.Nothing → not (any free opens) ≡ true
-  no-free e = rw any-free (go (ltb (firstIndex free opens) most_transactions) e)
+  no_free : found_at most_transactions (firstIndex free opens) ≡ Found.Nothing → not (any free opens) ≡ true
+  no_free e = rw any_free (go (ltb (firstIndex free opens) most_transactions) e)
     where
       go : (b : Bool) → cond b (Found.At (firstIndex free opens)) Found.Nothing ≡ Found.Nothing → not b ≡ true
       go true q = let z : ◌≡◌ {A = ℕ} 0 1 = cc in absurd (omega arith)
       go false q = refl
 
-  first-free : (j : ℕ) → found_at most_transactions (firstIndex free opens) ≡ Found.At j → (not (any free opens) ≡ false) × FreeAt (view_of s m) j
-  first-free j e = rw any-free (go (ltb (firstIndex free opens) most_transactions) refl e)
+  first_free_lem : (j : ℕ) → found_at most_transactions (firstIndex free opens) ≡ Found.At j → (not (any free opens) ≡ false) × FreeAt (view_of s m) j
+  first_free_lem j e = rw any_free (go (ltb (firstIndex free opens) most_transactions) refl e)
     where
       go : (b : Bool) → ltb (firstIndex free opens) most_transactions ≡ b
           → cond b (Found.At (firstIndex free opens)) Found.Nothing ≡ Found.At j → (not b ≡ false) × FreeAt (view_of s m) j
@@ -115,37 +115,37 @@ module _ (s : Sizes) (m : List ℕ) (h : Suffices s m) where
 
   module _ (f : Found) (q : f ≡ found_at most_transactions (firstIndex free opens)) where
     pub none_free : f ≡ Found.Nothing → not (any free opens) ≡ true
-    none_free e = no-free (sym q ∙ e)
+    none_free e = no_free (sym q ∙ e)
 
     pub one_free : (j : ℕ) → f ≡ Found.At j → not (any free opens) ≡ false
-    one_free j e = (first-free j (sym q ∙ e)).0
+    one_free j e = (first_free_lem j (sym q ∙ e)).0
 
-    pub free-at : (j : ℕ) → f ≡ Found.At j → FreeAt (view_of s m) j
-    free-at j e = (first-free j (sym q ∙ e)).1
+    pub free_at : (j : ℕ) → f ≡ Found.At j → FreeAt (view_of s m) j
+    free_at j e = (first_free_lem j (sym q ∙ e)).1
 
 -- ---- what the functions that write ask for of the lent part, by what the tests found
 module _ (on : Form → Bool) (e : Admission) (s : Sizes) (n : ℕ) (m : List ℕ) (t : Scans) (a : e ≡ Admission.Fit s n) (b : Admits on e m t) (d : Tested) (j : ℕ) (p : d ≡ Tested.Passed j) where
   seen : view_of s (take n m) ≡ view_of s m
-  seen = part-seen (admitted on e s n m t a b).0
+  seen = part_seen (admitted on e s n m t a b).0
 
-  pub free-in-part : Finds d (FreeAt (view_of s m)) → FreeAt (view_of s (take n m)) j
-  free-in-part h = rw seen (found d _ j p h)
+  pub free_in_part : Finds d (FreeAt (view_of s m)) → FreeAt (view_of s (take n m)) j
+  free_in_part h = rw seen (found d _ j p h)
 
-  pub open-in-part : (k : ℕ) → Finds d (OpenAt (view_of s m) k) → OpenAt (view_of s (take n m)) k j
-  open-in-part k h = rw seen (found d _ j p h)
+  pub open_in_part : (k : ℕ) → Finds d (OpenAt (view_of s m) k) → OpenAt (view_of s (take n m)) k j
+  open_in_part k h = rw seen (found d _ j p h)
 
   pub number_in_part : IfPassed d (transactions_given (view_of s m) < most_numbers) → transactions_given (view_of s (take n m)) < most_numbers
   number_in_part h = rw seen (if_passed d _ j p h)
 
-  pub row-in-part : IfPassed d (rows_given (view_of s m) < s.rows) → rows_given (view_of s (take n m)) < s.rows
-  row-in-part h = rw seen (if_passed d _ j p h)
+  pub row_in_part : IfPassed d (rows_given (view_of s m) < s.rows) → rows_given (view_of s (take n m)) < s.rows
+  row_in_part h = rw seen (if_passed d _ j p h)
 
-  pub room-in-part : (r k : ℕ) → IfPassed d (Room s (view_of s m) r k) → Room s (view_of s (take n m)) r k
-  room-in-part r k h = rw seen (if_passed d _ j p h)
+  pub room_in_part : (r k : ℕ) → IfPassed d (Room s (view_of s m) r k) → Room s (view_of s (take n m)) r k
+  room_in_part r k h = rw seen (if_passed d _ j p h)
 
-  pub wanted-in-part : (r k : ℕ) → IfPassed d (Room s (view_of s m) r (records_wanted (view_of s m) r k))
+  pub wanted_in_part : (r k : ℕ) → IfPassed d (Room s (view_of s m) r (records_wanted (view_of s m) r k))
       → Room s (view_of s (take n m)) r (records_wanted (view_of s (take n m)) r k)
-  wanted-in-part r k h = rw seen (if_passed d _ j p h)
+  wanted_in_part r k h = rw seen (if_passed d _ j p h)
 
 -- the tests of begin, with a keeper or without
 pub begin_tests_lem : (s : Sizes) (m : List ℕ) (d : Tested) → Says d (verdict (begin_tests_in (view_of s m))) → Tests s m Call.begin d
@@ -156,4 +156,4 @@ pub begin_as_tests : (s : Sizes) (m : List ℕ) (x : ℕ) (d : Tested) → Says 
 unfolding Tests tests_in
 begin_as_tests s m x d h = λ ps. h
 
-pub ruleset in-part = (free-in-part, open-in-part, number_in_part, row-in-part, room-in-part, wanted-in-part, counted)
+pub ruleset in-part = (free_in_part, open_in_part, number_in_part, row_in_part, room_in_part, wanted_in_part, counted)

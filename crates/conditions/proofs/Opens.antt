@@ -36,16 +36,16 @@ unfolding open_at not_open_in
 open_none s ws t e = rw (e, none_bears (view s ws Opens))
 
 module _ (t : ℕ) (h : t ≡ 0 → ⊥) where
-  pub bears-is : (x : ℕ) → bears t x ≡ eqb x t
-  bears-is x = go (eqb x t) refl
+  pub bears_is : (x : ℕ) → bears t x ≡ eqb x t
+  bears_is x = go (eqb x t) refl
     where
       go : (b : Bool) → eqb x t ≡ b → (not (eqb x 0) && b) ≡ b
       go true q = let e = eqb-true x t q in rw (ne_eqb x 0 (λ z. h (sym e ∙ z)))
       go false q = and_false (not (eqb x 0))
 
-  first-bears : (i : ℕ) (l : List ℕ) → first_at t i l ≡ cond (not (any (bears t) l)) Found.Nothing (Found.At (i + firstIndex (bears t) l))
-  first-bears i [] = refl
-  first-bears i (x ∷ l) = rw (bears-is x) (go (eqb x t) (first-bears (i + 1) l))
+  first_bears : (i : ℕ) (l : List ℕ) → first_at t i l ≡ cond (not (any (bears t) l)) Found.Nothing (Found.At (i + firstIndex (bears t) l))
+  first_bears i [] = refl
+  first_bears i (x ∷ l) = rw (bears_is x) (go (eqb x t) (first_bears (i + 1) l))
     where
       go : (b : Bool) → first_at t (i + 1) l ≡ cond (not (any (bears t) l)) Found.Nothing (Found.At (i + 1 + firstIndex (bears t) l))
           → cond b (Found.At i) (first_at t (i + 1) l)
@@ -53,16 +53,16 @@ module _ (t : ℕ) (h : t ≡ 0 → ⊥) where
       go true ih = ap Found.At (sym (add-zero i))
       go false ih = let e : i + suc (firstIndex (bears t) l) ≡ i + 1 + firstIndex (bears t) l = omega arith in rw e ih
 
-  pub open-found : (s : Sizes) (m : List ℕ) (r : Found) → Suffices s m
+  pub open_found : (s : Sizes) (m : List ℕ) (r : Found) → Suffices s m
       → r ≡ first_at t 0 (region (view_of s m Opens) 0 most_transactions)
       → (r ≡ open_at (view_of s m) t) × Inside r most_transactions
   unfolding open_at not_open_in open_index
-  open-found s m r l e =
+  open_found s m r l e =
       let opens = view_of s m Opens in
       let long : length opens ≡ most_transactions = view_long s (words m) (omega (arith, length_words m)) Opens in
       let whole : region opens 0 most_transactions ≡ opens = take_all most_transactions opens (omega arith) in
       let e' : r ≡ first_at t 0 opens = rw whole at e in
-      (e' ∙ first-bears 0 opens ∙ rw (zero-add (firstIndex (bears t) opens)), inside r e')
+      (e' ∙ first_bears 0 opens ∙ rw (zero-add (firstIndex (bears t) opens)), inside r e')
     where
       inside : (f : Found) → f ≡ first_at t 0 (view_of s m Opens) → Inside f most_transactions
       inside (Found.At j) q =
@@ -76,6 +76,6 @@ module _ (v : View) (t : ℕ) where
   unfolding open_at
   open_there j e = found_at (not_open_in v t) (open_index v t) j e
 
-  pub not-open : open_at v t ≡ Found.Nothing → not_open_in v t ≡ true
+  pub not_open : open_at v t ≡ Found.Nothing → not_open_in v t ≡ true
   unfolding open_at
-  not-open e = found_nothing (not_open_in v t) (open_index v t) e
+  not_open e = found_nothing (not_open_in v t) (open_index v t) e

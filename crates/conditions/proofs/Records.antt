@@ -24,23 +24,23 @@ use Rattle.history.specs.History.{any, range_of}
 use Rattle.model.specs.Stored.{row_in, record_in, delete_kind, any_below}
 use Rattle.model.specs.Calls.{open_in, not_open_in, open_other, stands_for, held_in, gone_in, open_among_in}
 use Rattle.history.proofs.Lists.{by_cases, is_true, refuted, both, parts, or_left, or_right, or_cases, any_at}
-use Rattle.model.proofs.Lists.{any_below, first_below, first_passes}
+use Rattle.model.proofs.Lists.{any_below_lem, first_below, first_passes}
 use Rattle.model.specs.Preconditions.{Linked}
-use Rattle.layout.proofs.Indices.{slots-few}
-use Rattle.rows.proofs.Indices.{stretch_in, row-in}
+use Rattle.layout.proofs.Indices.{slots_few}
+use Rattle.rows.proofs.Indices.{stretch_in, row_in_lem}
 use Rattle.conditions.specs.Opens.{open_at}
 use Rattle.conditions.specs.Records.{is_other, holds_at, deletes_at, ends_at}
-use Rattle.conditions.proofs.Opens.{none_bears, bears-is, open_there, not-open}
+use Rattle.conditions.proofs.Opens.{none_bears, bears_is, open_there, not_open}
 
 -- ---- a loop that carries a flag to the end
 module _ (f : ℕ → Bool) where
-  pub no-turn : false ≡ any_below f 0
+  pub no_turn : false ≡ any_below f 0
   unfolding any_below
-  no-turn = refl
+  no_turn = refl
 
-  pub one-turn : (flag flag' x : Bool) (i : ℕ) → flag ≡ any_below f i → x ≡ f i → flag' ≡ (flag || x) → flag' ≡ any_below f (i + 1)
+  pub one_turn : (flag flag' x : Bool) (i : ℕ) → flag ≡ any_below f i → x ≡ f i → flag' ≡ (flag || x) → flag' ≡ any_below f (i + 1)
   unfolding any_below
-  one-turn flag flag' x i e a q = q ∙ rw (e, a, add-one)
+  one_turn flag flag' x i e a q = q ∙ rw (e, a, add-one)
 
   pub turned : (flag : Bool) (i n : ℕ) → flag ≡ any_below f i → i ≤ n → n ≤ i → flag ≡ any_below f n
   turned flag i n e h k = let z : i ≡ n = omega arith in e ∙ rw z
@@ -75,33 +75,33 @@ implied f g (suc n) h t =
 any_entries : (f : ℕ → Bool) (l : List ℕ) (n : ℕ) → length l ≡ n → any_below (λ j. f (get_or l j 0)) n ≡ any f l
 any_entries f l n e =
     ap (any_below (λ j. f (get_or l j 0))) (sym e)
-    ∙ any_below l 0 (λ j. f (get_or l j 0)) f (length l) (le_refl _) (λ i u. refl)
+    ∙ any_below_lem l 0 (λ j. f (get_or l j 0)) f (length l) (le_refl _) (λ i u. refl)
     ∙ ap (any f) (take-length l)
 
 pub open_is : (v : View) (k : ℕ) (flag : Bool) → length (v Opens) ≡ most_transactions → (k ≡ 0 → ⊥)
     → flag ≡ any_below (λ j. eqb (get_or (v Opens) j 0) k) most_transactions → flag ≡ open_in v k
 open_is v k flag l z e =
-    e ∙ any_entries (λ x. eqb x k) (v Opens) most_transactions l ∙ sym (ap (λ (h : ℕ → Bool). any h (v Opens)) (fun_ext (bears-is k z)))
+    e ∙ any_entries (λ x. eqb x k) (v Opens) most_transactions l ∙ sym (ap (λ (h : ℕ → Bool). any h (v Opens)) (fun_ext (bears_is k z)))
 
 pub open_zero : (v : View) (k : ℕ) → k ≡ 0 → false ≡ open_in v k
 open_zero v k e = rw (e, none_bears (v Opens))
 
 module _ (v : View) (t k : ℕ) where
-  pub other-self : k ≡ t → false ≡ open_other v t k
+  pub other_self : k ≡ t → false ≡ open_other v t k
   unfolding open_other
-  other-self e = rw (eq-eqb k t e) (sym (and_false (open_in v k)))
+  other_self e = rw (eq-eqb k t e) (sym (and_false (open_in v k)))
 
-  pub other-closed : (f : Found) → f ≡ open_at v k → f ≡ Found.Nothing → false ≡ open_other v t k
+  pub other_closed : (f : Found) → f ≡ open_at v k → f ≡ Found.Nothing → false ≡ open_other v t k
   unfolding not_open_in open_other
-  other-closed f e q = rw (not-off (open_in v k) (not-open v k (sym e ∙ q)))
+  other_closed f e q = rw (not_off (open_in v k) (not_open v k (sym e ∙ q)))
     where
-      not-off : (b : Bool) → not b ≡ true → b ≡ false
-      not-off true q = sym q
-      not-off false q = refl
+      not_off : (b : Bool) → not b ≡ true → b ≡ false
+      not_off true q = sym q
+      not_off false q = refl
 
-  pub other-open : (f : Found) (j : ℕ) → (k ≡ t → ⊥) → f ≡ open_at v k → f ≡ Found.At j → true ≡ open_other v t k
+  pub other_open : (f : Found) (j : ℕ) → (k ≡ t → ⊥) → f ≡ open_at v k → f ≡ Found.At j → true ≡ open_other v t k
   unfolding not_open_in open_other
-  other-open f j n e q = rw (ne_eqb k t n, not_on (open_in v k) (open_there v k j (sym e ∙ q)).0)
+  other_open f j n e q = rw (ne_eqb k t n, not_on (open_in v k) (open_there v k j (sym e ∙ q)).0)
     where
       not_on : (b : Bool) → not b ≡ false → b ≡ true
       not_on true q = refl
@@ -128,14 +128,14 @@ none_held v t r at n flag l e f =
         (any_at (is_other t) (v Opens) 0 p (first_below (bears k) (v Opens) w.0) (other k (get_or (v Opens) p 0) w.1 (first_passes (bears k) (v Opens) 0 w.0))))
 
 module _ (S : Shape) (v : View) (t r : ℕ) (inserter : ℕ) (q : inserter ≡ get_or (v RowTransaction) r 0) (other : Bool) (o : other ≡ open_other v t inserter) where
-  pub held-insert : other ≡ true → true ≡ held_in S v t r
+  pub held_insert : other ≡ true → true ≡ held_in S v t r
   unfolding held_in row_in
-  held-insert f = rw (← q, ← o, f)
+  held_insert f = rw (← q, ← o, f)
 
-  pub held-records : (g n : ℕ) (flag : Bool) → g ≡ range_of r → n ≡ used_in v g → other ≡ false
+  pub held_records : (g n : ℕ) (flag : Bool) → g ≡ range_of r → n ≡ used_in v g → other ≡ false
       → flag ≡ any_below (λ i. holds_at v t r (g * S.capacity + i)) n → flag ≡ held_in S v t r
   unfolding held_in row_in record_in holds_at
-  held-records g n flag a b f e = e ∙ rw (b, a, ← q, ← o, f)
+  held_records g n flag a b f e = e ∙ rw (b, a, ← q, ← o, f)
 
 -- ---- 10
 module _ (v : View) (t r slot named kind : ℕ) (is : Bool) (a : named ≡ get_or (v TailRow) slot 0) (b : kind ≡ get_or (v TailKind) slot 0)
@@ -150,9 +150,9 @@ module _ (v : View) (t r slot named kind : ℕ) (is : Bool) (a : named ≡ get_o
       go true false q = absurd (true≢false (sym q))
       go false b q = absurd (true≢false (sym q))
 
-  pub ends-not : is ≡ false → false ≡ ends_at v t r slot
+  pub ends_not : is ≡ false → false ≡ ends_at v t r slot
   unfolding ends_at
-  ends-not y = rw (← a, ← b) (go (eqb named r) (delete_kind kind) (sym e ∙ y))
+  ends_not y = rw (← a, ← b) (go (eqb named r) (delete_kind kind) (sym e ∙ y))
     where
       go : (a b : Bool) → (a && b) ≡ false → false ≡ (a && (b && stands_for t (get_or (v TailTransaction) slot 0) (get_or (v TailState) slot 0)))
       go true true q = absurd (true≢false q)
@@ -174,14 +174,14 @@ none_ends v t r at n flag e f =
         both named kind w.0 (parts kind _ w.1).0
 
 module _ (S : Shape) (v : View) (t r inserter state : ℕ) (flag : Bool) (q : inserter ≡ get_or (v RowTransaction) r 0) (w : state ≡ get_or (v RowState) r 0) (f : flag ≡ stands_for t inserter state) where
-  pub gone-insert : not flag ≡ true → true ≡ gone_in S v t r
+  pub gone_insert : not flag ≡ true → true ≡ gone_in S v t r
   unfolding gone_in row_in
-  gone-insert e = rw (← q, ← w, ← f, e)
+  gone_insert e = rw (← q, ← w, ← f, e)
 
-  pub gone-records : (g n : ℕ) (end : Bool) → not flag ≡ false → g ≡ range_of r → n ≡ used_in v g
+  pub gone_records : (g n : ℕ) (end : Bool) → not flag ≡ false → g ≡ range_of r → n ≡ used_in v g
       → end ≡ any_below (λ i. ends_at v t r (g * S.capacity + i)) n → end ≡ gone_in S v t r
   unfolding gone_in row_in record_in ends_at deletes_at
-  gone-records g n end e a b h = h ∙ rw (b, a, ← q, ← w, ← f, e)
+  gone_records g n end e a b h = h ∙ rw (b, a, ← q, ← w, ← f, e)
 
 -- ---- 17
 pub among_is : (S : Shape) (v : View) (g n : ℕ) (flag : Bool) → flag ≡ any_below (λ i. open_in v (get_or (v TailTransaction) (g * S.capacity + i) 0)) n
@@ -191,8 +191,8 @@ among_is S v g n flag e = e
 
 -- where the used records of a given row's range g lie
 module _ (s : Sizes) (p : Proper s) (v : View) (l : Linked s v) (r g : ℕ) (b : r < rows_given v) (e : g ≡ range_of r) where
-  pub stretch-used : (n : ℕ) → n ≡ used_in v g → g * s.capacity + n ≤ s.slots
-  stretch-used n q = rw (q, e) (let w = row-in s p v l r b in stretch_in s p (range_of r) (used_in v (range_of r)) w.1 w.3)
+  pub stretch_used : (n : ℕ) → n ≡ used_in v g → g * s.capacity + n ≤ s.slots
+  stretch_used n q = rw (q, e) (let w = row_in_lem s p v l r b in stretch_in s p (range_of r) (used_in v (range_of r)) w.1 w.3)
 
-  pub stretch-fits : Fits w64 (g * s.capacity)
-  stretch-fits = record { fits = omega (arith, stretch-used (used_in v g) refl, slots-few s p) }
+  pub stretch_fits : Fits w64 (g * s.capacity)
+  stretch_fits = record { fits = omega (arith, stretch_used (used_in v g) refl, slots_few s p) }

@@ -22,13 +22,13 @@ use Rattle.crossing.specs.Steps.{told}
 
 -- the transaction of a setter
 module _ (v : View) (r n : ℕ) (s : Setter) where
-  pub insert-number : s ≡ Setter.Insert → n ≡ get_or (v Region.RowTransaction) r 0 → n ≡ setter_number v r s
+  pub insert_number : s ≡ Setter.Insert → n ≡ get_or (v Region.RowTransaction) r 0 → n ≡ setter_number v r s
   unfolding setter_number row_in
-  insert-number e q = q ∙ rw e
+  insert_number e q = q ∙ rw e
 
-  pub update-number : (at : ℕ) → s ≡ Setter.Update at → n ≡ get_or (v Region.TailTransaction) at 0 → n ≡ setter_number v r s
+  pub update_number : (at : ℕ) → s ≡ Setter.Update at → n ≡ get_or (v Region.TailTransaction) at 0 → n ≡ setter_number v r s
   unfolding setter_number record_in
-  update-number at e q = q ∙ rw e
+  update_number at e q = q ∙ rw e
 
 -- a flag, from its opposite
 pub not_so : (a : Bool) → not a ≡ true → a ≡ false
@@ -46,18 +46,18 @@ module _ (v : View) (who : Reader) (r c k row : ℕ) (e : row ≡ get_or (v Regi
   other_row n = rw (← e, ne_eqb row r n)
 
   module _ (q : row ≡ r) (a : Bool) (f : a ≡ answers_for who c (record_in v k)) where
-    pub not-answering : not a ≡ true → false ≡ tells v who r c (record_in v k)
+    pub not_answering : not a ≡ true → false ≡ tells v who r c (record_in v k)
     unfolding tells record_in answers_for
-    not-answering g = rw (← e, eq-eqb row r q, ← f, not_so a g)
+    not_answering g = rw (← e, eq-eqb row r q, ← f, not_so a g)
 
     module _ (t : not a ≡ false) (kind : ℕ) (w : kind ≡ get_or (v Region.TailKind) k 0) where
-      pub tells-setting : (kind ≡ 0 → ⊥) → true ≡ tells v who r c (record_in v k)
+      pub tells_setting : (kind ≡ 0 → ⊥) → true ≡ tells v who r c (record_in v k)
       unfolding tells record_in answers_for
-      tells-setting n = rw (← e, eq-eqb row r q, ← f, so a t, ← w, ne_eqb kind 0 n)
+      tells_setting n = rw (← e, eq-eqb row r q, ← f, so a t, ← w, ne_eqb kind 0 n)
 
-      pub tells-original : kind ≡ 0 → (b : Bool) → b ≡ sees_row who (row_in v r) → b ≡ tells v who r c (record_in v k)
+      pub tells_original : kind ≡ 0 → (b : Bool) → b ≡ sees_row who (row_in v r) → b ≡ tells v who r c (record_in v k)
       unfolding tells record_in answers_for
-      tells-original o b s = rw (← e, eq-eqb row r q, ← f, so a t, ← w, eq-eqb kind 0 o) s
+      tells_original o b s = rw (← e, eq-eqb row r q, ← f, so a t, ← w, eq-eqb kind 0 o) s
 
 -- what it tells
 pub told_is : (S : Shape) (v : View) (r c k : ℕ) (mark : ℤ) (x : Setter) (word setter stamp : ℕ) (value : ℤ) (b : Bool) → x ≡ setter_at v k → word ≡ value_in S v k c

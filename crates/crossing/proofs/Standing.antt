@@ -82,13 +82,13 @@ value_more : (mark : ℤ) (l : List Dated) (d : Dated) (more : List Told) → ma
 value_more mark l d more = rw (map-append (told mark) l (d ∷ [])) (append_assoc (map (told mark) l) (told mark d ∷ []) more)
 
 module _ (q : Query) (limit : ℕ) (l : List Dated) (out : List ℕ) (p : Pass) (old : List ℕ) (s : Stands q limit l out p old) where
-  pub stands-still : Stands q limit (l ++ []) out p old
-  stands-still = rw (append-nil l) s
+  pub stands_still : Stands q limit (l ++ []) out p old
+  stands_still = rw (append-nil l) s
 
   -- the last value, which counts if one by another transaction follows
-  last-counts : (x : Told) (more : List Told) → same_setter p x ≡ false
+  last_counts : (x : Told) (more : List Told) → same_setter p x ≡ false
       → behind q.from.0 p.follows p.before (lasts (standing p ++ x ∷ more)) ≡ noted q.from.0 p ++ behind q.from.0 p.met p.above (lasts (x ∷ more))
-  last-counts x more = go p.met refl
+  last_counts x more = go p.met refl
     where
       unseen : (a b : Bool) (l : List Told) → behind q.from.0 false a l ≡ behind q.from.0 false b l
       unseen a b [] = refl
@@ -101,8 +101,8 @@ module _ (q : Query) (limit : ℕ) (l : List Dated) (out : List ℕ) (p : Pass) 
       go false e f = rw (s.fresh e) (unseen p.before p.above (lasts (x ∷ more)))
 
   module _ (d : Dated) (x : Told) (e : x ≡ told q.mark d) where
-    pub stands-replaced : same_setter p x ≡ true → Stands q limit (l ++ d ∷ []) out (replaced p x) old
-    stands-replaced same =
+    pub stands_replaced : same_setter p x ≡ true → Stands q limit (l ++ d ∷ []) out (replaced p x) old
+    stands_replaced same =
         record {
           listed = s.listed;
           found_is = s.found_is;
@@ -116,22 +116,22 @@ module _ (q : Query) (limit : ℕ) (l : List Dated) (out : List ℕ) (p : Pass) 
         go true more f = rw f
         go false more f = clash (cc)
 
-    pub stands-followed : same_setter p x ≡ false → (found : ℕ) (new : List ℕ) → found ≡ p.found + length (noted q.from.0 p)
+    pub stands_followed : same_setter p x ≡ false → (found : ℕ) (new : List ℕ) → found ≡ p.found + length (noted q.from.0 p)
         → new ≡ placed limit p.found (noted q.from.0 p) old → Stands q limit (l ++ d ∷ []) out (followed p x found) new
-    stands-followed other found new n w =
+    stands_followed other found new n w =
         record {
           listed = s.listed ++ noted q.from.0 p;
           found_is = n ∙ rw s.found_is (sym (length-append s.listed (noted q.from.0 p)));
           written = w ∙ rw (s.found_is, s.written) (placed_more limit out s.listed (counted q.from.0 p) p.stamp);
           fresh = λ f. clash (cc);
-          further = λ more. rw (value_more q.mark l d more, s.further (told q.mark d ∷ more), ← e, last-counts x more other)
+          further = λ more. rw (value_more q.mark l d more, s.further (told q.mark d ∷ more), ← e, last_counts x more other)
               (sym (append_assoc s.listed (noted q.from.0 p) (behind q.from.0 p.met p.above (lasts (x ∷ more)))));
         }
 
   -- at the end the last value counts too
-  pub stands-last : (n : ℕ) (new : List ℕ) → n ≡ p.found + length (noted q.from.0 p) → new ≡ placed limit p.found (noted q.from.0 p) old
+  pub stands_last : (n : ℕ) (new : List ℕ) → n ≡ p.found + length (noted q.from.0 p) → new ≡ placed limit p.found (noted q.from.0 p) old
       → Lists (crossings_from q.mark q.from.0 (last_of_each l)) limit n out new
-  stands-last n new e w =
+  stands_last n new e w =
       record {
         count = e ∙ rw s.found_is (sym (length-append s.listed (noted q.from.0 p)) ∙ ap length (sym all));
         written = w ∙ rw (s.found_is, s.written) (placed_more limit out s.listed (counted q.from.0 p) p.stamp) ∙ ap (λ (f : List ℕ). sets out 0 (take limit f)) (sym all);
@@ -158,11 +158,11 @@ module _ (p : Pass) (from limit : ℕ) (old : List ℕ) (b : Bool) (e : b ≡ co
     counts : counted from p ≡ true
     counts = sym e ∙ so b t
 
-    pub noted-below : p.found < limit → (p.found + 1 ≡ p.found + length (noted from p)) × (set old p.found p.stamp ≡ placed limit p.found (noted from p) old)
-    noted-below l = rw (counts, lt-ltb p.found limit l) (refl, refl)
+    pub noted_below : p.found < limit → (p.found + 1 ≡ p.found + length (noted from p)) × (set old p.found p.stamp ≡ placed limit p.found (noted from p) old)
+    noted_below l = rw (counts, lt-ltb p.found limit l) (refl, refl)
 
-    pub noted-past : limit ≤ p.found → (p.found + 1 ≡ p.found + length (noted from p)) × (old ≡ placed limit p.found (noted from p) old)
-    noted-past l = rw (counts, le-ltb p.found limit l) (refl, refl)
+    pub noted_past : limit ≤ p.found → (p.found + 1 ≡ p.found + length (noted from p)) × (old ≡ placed limit p.found (noted from p) old)
+    noted_past l = rw (counts, le-ltb p.found limit l) (refl, refl)
 
 pub noted_few : (from : ℕ) (p : Pass) → length (noted from p) ≤ 1
 noted_few from p = by_test (λ b. length (cond b (p.stamp ∷ []) []) ≤ 1) (counted from p) (λ _. omega arith) (λ _. omega arith)
@@ -179,30 +179,30 @@ module _ (S : Shape) (v : View) (who : Reader) (q : Query) where
   abbrev values : ℕ → List Dated
   values i = values_in S v who q.row.0 q.column i
 
-  pub values-first : [] ≡ values 0
+  pub values_first : [] ≡ values 0
   unfolding values_in
-  values-first = refl
+  values_first = refl
 
-  pub values-next : (i : ℕ) → values i ++ told_at S v who q.row.0 q.column (range_of q.row.0 * S.capacity + i) ≡ values (i + 1)
+  pub values_next : (i : ℕ) → values i ++ told_at S v who q.row.0 q.column (range_of q.row.0 * S.capacity + i) ≡ values (i + 1)
   unfolding values_in told_at
-  values-next i = rw (add-one i, slot_is S (range_of q.row.0) i) (sym (behind_told (tells v who q.row.0 q.column (record_in v (range_of q.row.0 * S.capacity + i))) (values i) _))
+  values_next i = rw (add-one i, slot_is S (range_of q.row.0) i) (sym (behind_told (tells v who q.row.0 q.column (record_in v (range_of q.row.0 * S.capacity + i))) (values i) _))
 
   -- over records that tell nothing the pass stands as it stood
   pub stands_on : (limit i j : ℕ) (out : List ℕ) (p : Pass) (old : List ℕ) → NoneTold S v q.row.0 i j → Stands q limit (values i) out p old → Stands q limit (values j) out p old
   unfolding NoneTold
   stands_on limit i j out p old n s = rw (n who q.column) s
 
-  pub stands-next : (g limit i : ℕ) (out : List ℕ) (p p' : Pass) (old new : List ℕ) → g ≡ range_of q.row.0 → Stands q limit (values i) out p old
+  pub stands_next : (g limit i : ℕ) (out : List ℕ) (p p' : Pass) (old new : List ℕ) → g ≡ range_of q.row.0 → Stands q limit (values i) out p old
       → Continues q limit (told_at S v who q.row.0 q.column (g * S.capacity + i)) p old p' new → Stands q limit (values (i + 1)) out p' new
   unfolding Continues
-  stands-next g limit i out p p' old new e s k = rw (e, values-next i) at (k (values i) out s)
+  stands_next g limit i out p p' old new e s k = rw (e, values_next i) at (k (values i) out s)
 
-  pub stands-listed : (limit n used i : ℕ) (out : List ℕ) (p : Pass) (old new : List ℕ) → Stands q limit (values i) out p old → used ≡ used_in v (range_of q.row.0) → i ≤ used → used ≤ i
+  pub stands_listed : (limit n used i : ℕ) (out : List ℕ) (p : Pass) (old new : List ℕ) → Stands q limit (values i) out p old → used ≡ used_in v (range_of q.row.0) → i ≤ used → used ≤ i
       → n ≡ p.found + length (noted q.from.0 p) → new ≡ placed limit p.found (noted q.from.0 p) old → Lists (listed_in S v who q) limit n out new
   unfolding listed_in
-  stands-listed limit n used i out p old new s e a b g w =
+  stands_listed limit n used i out p old new s e a b g w =
       let all : i ≡ used_in v (range_of q.row.0) = omega arith in
-      rw all at (stands-last q limit (values i) out p old s n new g w)
+      rw all at (stands_last q limit (values i) out p old s n new g w)
 
 -- ---- records of other rows
 module _ (S : Shape) (v : View) (r i : ℕ) where

@@ -14,7 +14,7 @@ use Rattle.lent.proofs.Hands.{heres, Vals}
 use Rattle.lent.proofs.Tokens.{up}
 use Rattle.lent.proofs.Slices.{Access, slices, loans}
 use Rattle.lent.proofs.Callees.{Callee}
-use Rattle.lent.proofs.Written.{Code, Meets, known-free}
+use Rattle.lent.proofs.Written.{Code, Meets, known_free}
 use Rattle.lent.proofs.laws.handed as law
 use Rattle.lent.proofs.laws.slice_handed as slice_law
 use Rattle.lent.proofs.Filling as F
@@ -44,7 +44,7 @@ module _ (m q : Access) (l : ℕ) (fs : List (Further 2 2 (up (loans m) (loans q
       → γ encode.name ≡ encode.routine
       → Meets (up 2 l) (slices m q (heres fs)) (res reply) (law.Q-call l call encode.name answer reply encoded m q fs promised) w (γ k)
   exported code e met e-encode =
-      law.meets l call encode.name answer reply encoded m q fs promised w γ k code (known-free (up 2 l) called.params (res answer) called.tells w γ call ρ e met)
+      law.meets l call encode.name answer reply encoded m q fs promised w γ k code (known_free (up 2 l) called.params (res answer) called.tells w γ call ρ e met)
       (encode_reads.known w γ encode.name encode.routine e-encode (encode_thm.met w.𝓤 w.𝓛 w.𝓜 w.𝓡))
 
 -- the same with a slice that is written, of numbers of the width e
@@ -58,5 +58,5 @@ module _ (e : Width) (l : ℕ) (fs : List (Further 3 3 1 l)) (promised : List �
       → γ encode.name ≡ encode.routine
       → Meets (up 3 l) (F.slices e (heres fs)) (res reply) (slice_law.Q-call e l call encode.name answer reply encoded fs promised) w (γ k)
   filled code e-call met e-encode =
-      slice_law.meets e l call encode.name answer reply encoded fs promised w γ k code (known-free (up 3 l) filling.params (res answer) filling.tells w γ call ρ e-call met)
+      slice_law.meets e l call encode.name answer reply encoded fs promised w γ k code (known_free (up 3 l) filling.params (res answer) filling.tells w γ call ρ e-call met)
       (encode_reads.known w γ encode.name encode.routine e-encode (encode_thm.met w.𝓤 w.𝓛 w.𝓜 w.𝓡))

@@ -1,7 +1,7 @@
 -- The demands of the exports: a reply tells the answer of the call that the export hands on to.
 use mathlib.Core.Path.{ap}
 use Rattle.terms.specs.declared.Answer.{Answer}
-use Rattle.calls.proofs.Runs.{Faithful, refused-so, refused-kept, unmade-kept, changed-so, merged-so, made_so, unmoved-kept, moved-so, unmoved-so, reads_so, pages-so, outcomes-so, struck-same, minutes-so, scans-so}
+use Rattle.calls.proofs.Runs.{Faithful, refused_so, refused_kept, unmade_kept, changed_so, merged_so, made_so, unmoved_kept, moved_so, unmoved_so, reads_so, pages_so, outcomes_so, struck_same, minutes_so, scans_so}
 use Rattle.deskrook.specs.Replies.{reply_of, RepliesWith, RepliesMoved, RepliesMade}
 use Rattle.deskrook.specs.Runs.{exports, ExportRefused, ExportKept, ExportMakingKept, ExportChanged, ExportMerged, ExportMakingChanged, ExportMoveKept, ExportMoveChanged, ExportMoveRefused, ExportReads, ExportPages, ExportOutcomes, ExportStriking, ExportMinutes, ExportScans}
 use Rattle.deskrook.proofs.Results.{refused_result, accepted_result}
@@ -18,46 +18,46 @@ faithful =
     }
 
 pub export_refused : ExportRefused
-export_refused = refused-so exports faithful
+export_refused = refused_so exports faithful
 
 pub export_kept : ExportKept
-export_kept = refused-kept exports faithful
+export_kept = refused_kept exports faithful
 
 pub export_making_kept : ExportMakingKept
-export_making_kept = unmade-kept exports faithful
+export_making_kept = unmade_kept exports faithful
 
 pub export_changed : ExportChanged
-export_changed = changed-so exports faithful
+export_changed = changed_so exports faithful
 
 pub export_merged : ExportMerged
-export_merged = merged-so exports faithful
+export_merged = merged_so exports faithful
 
 pub export_making_changed : ExportMakingChanged
 export_making_changed = made_so exports faithful
 
 pub export_move_kept : ExportMoveKept
-export_move_kept = unmoved-kept exports faithful
+export_move_kept = unmoved_kept exports faithful
 
 pub export_move_changed : ExportMoveChanged
-export_move_changed = moved-so exports faithful
+export_move_changed = moved_so exports faithful
 
 pub export_move_refused : ExportMoveRefused
-export_move_refused = unmoved-so exports faithful
+export_move_refused = unmoved_so exports faithful
 
 pub export_reads : ExportReads
 export_reads = reads_so exports faithful
 
 pub export_pages : ExportPages
-export_pages = pages-so exports faithful
+export_pages = pages_so exports faithful
 
 pub export_outcomes : ExportOutcomes
-export_outcomes = outcomes-so exports faithful
+export_outcomes = outcomes_so exports faithful
 
 pub export_striking : ExportStriking
-export_striking = struck-same exports faithful
+export_striking = struck_same exports faithful
 
 pub export_minutes : ExportMinutes
-export_minutes = minutes-so exports faithful
+export_minutes = minutes_so exports faithful
 
 pub export_scans : ExportScans
-export_scans = scans-so exports faithful
+export_scans = scans_so exports faithful

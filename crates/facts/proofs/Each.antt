@@ -13,7 +13,7 @@ use borrow.Author.Tests.{ne_eqb, le-leb}
 use Rattle.terms.specs.Measures.{between}
 use Rattle.loops.specs.Search.{region, all_between}
 use Rattle.loops.proofs.Search.{and_true, and_false, all_tells}
-use Rattle.loops.proofs.Region.{region-at, region-length}
+use Rattle.loops.proofs.Region.{region_at, region_length}
 use Rattle.facts.specs.Facts.{each}
 
 -- ---- a loop that carries a flag: after i of n turns it is that of the indices below i
@@ -21,17 +21,17 @@ abbrev pub Flagged : ℕ → (ℕ → Bool) → Bool → ℕ → Type 0
 Flagged n f ok i = (i ≤ n) × (ok ≡ each i f)
 
 module _ (n : ℕ) (f : ℕ → Bool) where
-  pub flag-raised : Flagged n f true 0
+  pub flag_raised : Flagged n f true 0
   unfolding each
-  flag-raised = (omega arith, refl)
+  flag_raised = (omega arith, refl)
 
   module _ (ok : Bool) (i : ℕ) (p : Flagged n f ok i) where
-    pub flag-next : (h r : Bool) → i < n → h ≡ f i → r ≡ (ok && h) → Flagged n f r (i + 1)
+    pub flag_next : (h r : Bool) → i < n → h ≡ f i → r ≡ (ok && h) → Flagged n f r (i + 1)
     unfolding each
-    flag-next h r l q e = (omega arith, e ∙ rw (add-one, p.1, q))
+    flag_next h r l q e = (omega arith, e ∙ rw (add-one, p.1, q))
 
-    pub flag-all : n ≤ i → ok ≡ each n f
-    flag-all k = let q : i ≡ n = omega arith in p.1 ∙ rw q
+    pub flag_all : n ≤ i → ok ≡ each n f
+    flag_all k = let q : i ≡ n = omega arith in p.1 ∙ rw q
 
 -- ---- what a raised flag tells
 module _ (f : ℕ → Bool) where
@@ -44,15 +44,15 @@ module _ (f : ℕ → Bool) where
       (λ l. each_tells n (and_true (each n f) (f n) e).0 i l)
       (eq-or-lt_of_le (le_of_suc-le-suc h))
 
-  pub each-true : (n : ℕ) → ((i : ℕ) → i < n → f i ≡ true) → each n f ≡ true
+  pub each_true : (n : ℕ) → ((i : ℕ) → i < n → f i ≡ true) → each n f ≡ true
   unfolding each
-  each-true zero h = refl
-  each-true (suc n) h = rw (each-true n (λ i l. h i (omega arith)), h n (omega arith))
+  each_true zero h = refl
+  each_true (suc n) h = rw (each_true n (λ i l. h i (omega arith)), h n (omega arith))
 
-  pub each-nothing : (n : ℕ) → ((i : ℕ) → i < n → f i ≡ false) → each n f ≡ eqb n 0
+  pub each_nothing : (n : ℕ) → ((i : ℕ) → i < n → f i ≡ false) → each n f ≡ eqb n 0
   unfolding each
-  each-nothing zero h = refl
-  each-nothing (suc n) h = rw (h n (omega arith)) (and_false (each n f) ∙ sym (ne_eqb (suc n) 0 (λ e. omega arith)))
+  each_nothing zero h = refl
+  each_nothing (suc n) h = rw (h n (omega arith)) (and_false (each n f) ∙ sym (ne_eqb (suc n) 0 (λ e. omega arith)))
 
 and_swap : (a b c d : Bool) → ((a && b) && (c && d)) ≡ ((a && c) && (b && d))
 and_swap true true c d = refl
@@ -79,11 +79,11 @@ all_true low high (x ∷ l) h = rw (h 0 (omega arith), all_true low high l (λ i
 pub each_between : (l : List ℕ) (at n low high : ℕ) (f : ℕ → Bool) → at + n ≤ length l → ((i : ℕ) → i < n → f i ≡ between low high (get_or l (at + i) 0))
     → each n f ≡ all_between low high (region l at n)
 each_between l at n low high f h k =
-    let long = region-length l at n h in
+    let long = region_length l at n h in
     same (each n f) (all_between low high (region l at n))
-    (λ e. all_true low high (region l at n) (λ i q. let j : i < n = omega arith in rw (region-at l at n i j) (sym (k i j) ∙ each_tells f n e i j)))
+    (λ e. all_true low high (region l at n) (λ i q. let j : i < n = omega arith in rw (region_at l at n i j) (sym (k i j) ∙ each_tells f n e i j)))
     (λ e.
-    each-true f n
+    each_true f n
     (λ i j.
-    let t = rw (region-at l at n i j) at (all_tells low high (region l at n) e i (omega arith)) in
+    let t = rw (region_at l at n i j) at (all_tells low high (region l at n) e i (omega arith)) in
     k i j ∙ rw (le-leb _ _ t.0, le-leb _ _ t.1)))

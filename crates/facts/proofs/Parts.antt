@@ -23,7 +23,7 @@ use Rattle.layout.proofs.View.{view_long}
 use Rattle.scans.specs.declared.Scans.{Scans}
 use Rattle.scans.specs.Entries.{open_count, every_open, differ}
 use Rattle.scans.specs.Table.{table_of}
-use Rattle.scans.proofs.Answers.{table-at-most, table-differ}
+use Rattle.scans.proofs.Answers.{table_at_most, table_differ}
 
 -- a region from its first word to its last is the region
 pub whole : (s : Sizes) (m : List ℕ) (k : Region) (n : ℕ) → Suffices s m → len s k ≡ n → region (view_of s m k) 0 n ≡ view_of s m k
@@ -44,29 +44,29 @@ few_open ps = go (leb (open_count ps) most_scans) refl
     go false e = rw (lt-ltb most_scans (open_count ps) (leb-false (open_count ps) most_scans e))
 
 module _ (t : Scans) (ps : List ScanEntry) (same : t ≡ table_of ps) where
-  pub more-open : not t.more ≡ leb (open_count ps) most_scans
+  pub more_open : not t.more ≡ leb (open_count ps) most_scans
   unfolding table_of
-  more-open = rw same (few_open ps)
+  more_open = rw same (few_open ps)
 
-  pub count-few : t.count ≤ most_scans
+  pub count_few : t.count ≤ most_scans
   unfolding table_of
-  count-few = rw same (omega arith)
+  count_few = rw same (omega arith)
 
-  pub numbers-between : (b : ℕ) → open_count ps ≤ most_scans → all_between 0 b t.numbers ≡ every_open (λ p. leb p.number b) ps
+  pub numbers_between : (b : ℕ) → open_count ps ≤ most_scans → all_between 0 b t.numbers ≡ every_open (λ p. leb p.number b) ps
   unfolding table_of
-  numbers-between b few = rw same (table-at-most ps few (λ p. p.number) b)
+  numbers_between b few = rw same (table_at_most ps few (λ p. p.number) b)
 
-  pub stamps-between : (b : ℕ) → open_count ps ≤ most_scans → all_between 0 b t.stamps ≡ every_open (λ p. leb p.stamp b) ps
+  pub stamps_between : (b : ℕ) → open_count ps ≤ most_scans → all_between 0 b t.stamps ≡ every_open (λ p. leb p.stamp b) ps
   unfolding table_of
-  stamps-between b few = rw same (table-at-most ps few (λ p. p.stamp) b)
+  stamps_between b few = rw same (table_at_most ps few (λ p. p.stamp) b)
 
-  pub merges-between : (b : ℕ) → open_count ps ≤ most_scans → all_between 0 b t.merges ≡ every_open (λ p. leb p.merges b) ps
+  pub merges_between : (b : ℕ) → open_count ps ≤ most_scans → all_between 0 b t.merges ≡ every_open (λ p. leb p.merges b) ps
   unfolding table_of
-  merges-between b few = rw same (table-at-most ps few (λ p. p.merges) b)
+  merges_between b few = rw same (table_at_most ps few (λ p. p.merges) b)
 
-  pub commits-between : (b : ℕ) → open_count ps ≤ most_scans → all_between 0 b t.commits ≡ every_open (λ p. leb p.commits b) ps
+  pub commits_between : (b : ℕ) → open_count ps ≤ most_scans → all_between 0 b t.commits ≡ every_open (λ p. leb p.commits b) ps
   unfolding table_of
-  commits-between b few = rw same (table-at-most ps few (λ p. p.commits) b)
+  commits_between b few = rw same (table_at_most ps few (λ p. p.commits) b)
 
-  pub numbers-differ : open_count ps ≤ most_scans → differ (take t.count t.numbers) ≡ differ (map (λ p. p.number) ps)
-  numbers-differ few = rw same (table-differ ps few)
+  pub numbers_differ : open_count ps ≤ most_scans → differ (take t.count t.numbers) ≡ differ (map (λ p. p.number) ps)
+  numbers_differ few = rw same (table_differ ps few)

@@ -20,7 +20,7 @@ use Rattle.scans.specs.Entries.{open_count}
 use Rattle.scans.specs.Table.{table_of}
 use Rattle.facts.specs.Facts.{stored_within, counts_within}
 use Rattle.facts.specs.Tests.{Ready}
-use Rattle.facts.proofs.Parts.{more-open}
+use Rattle.facts.proofs.Parts.{more_open}
 
 -- every word of a list that is bounded is, and so is what stands past its end
 pub at_most : (l : List ℕ) (b : ℕ) → all_between 0 b l ≡ true → (i : ℕ) → get_or l i 0 ≤ b
@@ -59,8 +59,8 @@ module _ (s : Sizes) (m : List ℕ) (t : Scans) (r : Bool) (flag : r ≡ (stored
 
   pub few : (ps : List ScanEntry) → t ≡ table_of ps → r ≡ true → open_count ps ≤ most_scans
   few ps q e =
-      leb-true (open_count ps) most_scans (sym (more-open t ps q) ∙ (and_true (stored_within s (view_of s m)) (not t.more) (sym flag ∙ e)).1)
+      leb-true (open_count ps) most_scans (sym (more_open t ps q) ∙ (and_true (stored_within s (view_of s m)) (not t.more) (sym flag ∙ e)).1)
 
-  pub counts-are : (ps : List ScanEntry) → t ≡ table_of ps → counts_within s (view_of s m) ps ≡ r
+  pub counts_are : (ps : List ScanEntry) → t ≡ table_of ps → counts_within s (view_of s m) ps ≡ r
   unfolding counts_within
-  counts-are ps q = ap (λ (b : Bool). stored_within s (view_of s m) && b) (sym (more-open t ps q)) ∙ sym flag
+  counts_are ps q = ap (λ (b : Bool). stored_within s (view_of s m) && b) (sym (more_open t ps q)) ∙ sym flag

@@ -16,7 +16,7 @@ use Rattle.words.specs.Words.{words}
 use Rattle.words.proofs.Words.{length_words}
 use Rattle.loops.specs.Search.{region, all_between}
 use Rattle.loops.proofs.Search.{and_true, all_tells}
-use Rattle.loops.proofs.Region.{region-at, region-length}
+use Rattle.loops.proofs.Region.{region_at, region_length}
 use Rattle.layout.specs.declared.Sizes.{Sizes}
 use Rattle.layout.specs.declared.Region.{Region}
 use Rattle.layout.specs.declared.Region.TheVariants.{Opens, RowTransaction, RowStamp, RowLink, TailTransaction, TailRow, TailLink, TailStamp, Current, PageState, PageChunk, PageReplaced, PageLineage, PageNewest}
@@ -31,7 +31,7 @@ use Rattle.layout.specs.Sizes.{Proper}
 use Rattle.facts.proofs.Each.{each_tells}
 use Rattle.layout.proofs.Limits.{proper}
 use Rattle.facts.proofs.Ready.{Stored, stored, at_most}
-use Rattle.layout.proofs.Indices.{tail-in}
+use Rattle.layout.proofs.Indices.{tail_in}
 
 -- a link, in range g, of row r: at most `most`, and if it is not 0 its record is of that row
 pub record Linked (s : Sizes) (v : View) (g most r link : ℕ) : Type 0 where
@@ -145,11 +145,11 @@ numbers_at ps j = get_or-map (λ p. p.number) ps j free_entry
 
 -- a bounded stretch of a region, word by word
 module _ (s : Sizes) (v : View) (long : Long s v) (k : Region) (at n low high : ℕ) (inside : at + n ≤ len s k) where
-  pub stretch-tells : all_between low high (region (v k) at n) ≡ true → (i : ℕ) → i < n → (low ≤ get_or (v k) (at + i) 0) × (get_or (v k) (at + i) 0 ≤ high)
-  stretch-tells e i h =
+  pub stretch_tells : all_between low high (region (v k) at n) ≡ true → (i : ℕ) → i < n → (low ≤ get_or (v k) (at + i) 0) × (get_or (v k) (at + i) 0 ≤ high)
+  stretch_tells e i h =
       let l : at + n ≤ length (v k) = omega (arith, long k) in
-      let t = all_tells low high (region (v k) at n) e i (omega (arith, region-length (v k) at n l)) in
-      rw region-at at t
+      let t = all_tells low high (region (v k) at n) e i (omega (arith, region_length (v k) at n l)) in
+      rw region_at at t
 
 -- ---- all clauses
 
@@ -158,17 +158,17 @@ module _ (s : Sizes) (v : View) (ps : List ScanEntry) (z : Proper s) (long : Lon
   rows_tell : (k : Region) (low high : ℕ) → Stored s v → len s k ≡ s.rows → rows_between v k low high ≡ true
       → (r : ℕ) → r < rows_given v → (low ≤ get_or (v k) r 0) × (get_or (v k) r 0 ≤ high)
   unfolding rows_between
-  rows_tell k low high c l e r h = rw (zero-add r) at (stretch-tells s v long k 0 (rows_given v) low high (omega (arith, c.rows_to)) e r h)
+  rows_tell k low high c l e r h = rw (zero-add r) at (stretch_tells s v long k 0 (rows_given v) low high (omega (arith, c.rows_to)) e r h)
 
-  records-tell : (k : Region) (low high : ℕ) → Stored s v → len s k ≡ s.slots → each s.ranges (range_between s v k low high) ≡ true
+  records_tell : (k : Region) (low high : ℕ) → Stored s v → len s k ≡ s.slots → each s.ranges (range_between s v k low high) ≡ true
       → (g i : ℕ) → g < s.ranges → i < used_in v g → (low ≤ get_or (v k) (first_slot s.capacity g + i) 0) × (get_or (v k) (first_slot s.capacity g + i) 0 ≤ high)
   unfolding range_between
-  records-tell k low high c l e g i h j =
-      stretch-tells s v long k (first_slot s.capacity g) (used_in v g) low high (omega (arith, tail-in s z g h, c.records_to g)) (each_tells (range_between s v k low high) s.ranges e g h) i j
+  records_tell k low high c l e g i h j =
+      stretch_tells s v long k (first_slot s.capacity g) (used_in v g) low high (omega (arith, tail_in s z g h, c.records_to g)) (each_tells (range_between s v k low high) s.ranges e g h) i j
 
-  pub facts-tell : facts_hold s v ps ≡ true → Usable s v ps
+  pub facts_tell : facts_hold s v ps ≡ true → Usable s v ps
   unfolding facts_hold counts_within records_name_rows range_names_rows row_named numbers_given links_hold row_linked range_linked record_linked stamps_within merges_within commits_within open_differ chunks_current lineages_within current_lineage waiting_lineage
-  facts-tell e =
+  facts_tell e =
       let a1 = and_true _ _ e in
       let a2 = and_true _ _ a1.1 in
       let a3 = and_true _ _ a2.1 in
@@ -196,13 +196,13 @@ module _ (s : Sizes) (v : View) (ps : List ScanEntry) (z : Proper s) (long : Lon
         open_few = leb-true (open_count ps) most_scans c1.1;
         named = λ g i h j. let t = and_true _ _ (each_tells (row_named s v g) (used_in v g) (each_tells (range_names_rows s v) s.ranges a2.0 g h) i j) in (ltb-true _ _ t.0, eqb-true _ g t.1);
         row_numbers = rows_tell RowTransaction 1 (transactions_given v) c refl n1.0;
-        record_numbers = records-tell TailTransaction 1 (transactions_given v) c refl n2.0;
+        record_numbers = records_tell TailTransaction 1 (transactions_given v) c refl n2.0;
         open_numbers = at_most (v Opens) (transactions_given v) n3.0;
         scan_numbers = numbers_tell ps (scans_given v) n3.1;
         row_links = λ r h. link_tells s v _ _ r _ (each_tells (row_linked s v) (rows_given v) l.0 r h);
         record_links = λ g i h j. link_tells s v g i _ _ (each_tells (record_linked s v g) (used_in v g) (each_tells (range_linked s v) s.ranges l.1 g h) i j);
         row_stamps = λ r h. (rows_tell RowStamp 0 (last_stamp v) c refl t1.0 r h).1;
-        record_stamps = λ g i h j. (records-tell TailStamp 0 (last_stamp v) c refl t2.0 g i h j).1;
+        record_stamps = λ g i h j. (records_tell TailStamp 0 (last_stamp v) c refl t2.0 g i h j).1;
         current_stamps = λ i h. current_tells v PageNewest (last_stamp v) i (each_tells (current_at_most v PageNewest (last_stamp v)) s.chunks t4.0 i h);
         waiting_stamps = λ p h. waiting_tells v PageNewest (last_stamp v) p (each_tells (waiting_at_most v PageNewest (last_stamp v)) s.pages t4.1 p h);
         scan_stamps = λ j n. leb-true _ (last_stamp v) (every_tells (λ p. leb p.stamp (last_stamp v)) ps t3.1 j n);
@@ -240,5 +240,5 @@ usable_tells m ps e =
       within = f.1;
       room = r;
       entries = leb-true most_scans (length ps) d.0;
-      facts = facts-tell s (view_of s m) ps (proper (stored_form (words m)) (stored_shape (words m)) f.1) (view_long s (words m) (omega (arith, length_words m))) d.1;
+      facts = facts_tell s (view_of s m) ps (proper (stored_form (words m)) (stored_shape (words m)) f.1) (view_long s (words m) (omega (arith, length_words m))) d.1;
     }

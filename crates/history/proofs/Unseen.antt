@@ -15,11 +15,11 @@ use Rattle.terms.specs.Measures.{Shape}
 use Rattle.terms.specs.declared.Answer.{Answer}
 use Rattle.history.specs.History.{Call, History, Row, Record, Snapshot, Version, filterb, up_to, total, rows_seen, sum_of, visible, version_of, inserted, inserted_value, row_at, seen_at, committed_by, state_of, ends, ended, last_setting, with_rows, with_tail, with_transactions, with_scans, with_merges}
 use Rattle.history.specs.Lists.{All, nil, cons}
-use Rattle.history.proofs.Lists.{by_cases, all_map, all_append, all-filterb, any_append, any_none, filterb-append}
+use Rattle.history.proofs.Lists.{by_cases, all_map, all_append, all_filterb, any_append, any_none, filterb_append}
 use Rattle.history.specs.Steps.{Step, nothing, new_states, row_given, records_made, new_scans, new_merges}
 use Rattle.history.proofs.Steps.{made_new}
-use Rattle.history.proofs.States.{states_last, active_unseen, seen-moved}
-use Rattle.history.proofs.Ranges.{last-append, last-unfound}
+use Rattle.history.proofs.States.{states_last, active_unseen, seen_moved}
+use Rattle.history.proofs.Ranges.{last_append, last_unfound}
 
 -- ---- records that are not seen change no read
 module _ (sees : ℕ → Bool) (r : ℕ) (l : List Record) {m : List Record} (unseen : All (λ (x : Record). sees x.transaction ≡ false) m) where
@@ -29,8 +29,8 @@ module _ (sees : ℕ → Bool) (r : ℕ) (l : List Record) {m : List Record} (un
       any_append _ l m
       ∙ rw (any_none (λ x. eqb x.row r && (ends x.content && sees x.transaction)) (all_map (λ x (e : sees x.transaction ≡ false). simp (e, and_false) tt) unseen)) (or-false _)
 
-  pub last-same : (c : ℕ) (v : Version) → last_setting sees r c v (l ++ m) ≡ last_setting sees r c v l
-  last-same c v = last-append sees r c v l m ∙ last-unfound sees r c _ (all_map (λ x (e : sees x.transaction ≡ false). simp (e, and_false)) unseen)
+  pub last_same : (c : ℕ) (v : Version) → last_setting sees r c v (l ++ m) ≡ last_setting sees r c v l
+  last_same c v = last_append sees r c v l m ∙ last_unfound sees r c _ (all_map (λ x (e : sees x.transaction ≡ false). simp (e, and_false)) unseen)
 
 -- ---- a sum for snapshot t, which has no more commits than were made
 pub record SumStays (t : Snapshot) (c : ℕ) (a : Answer) (h : History) : Type 0 where
@@ -52,25 +52,25 @@ filter_agree (cons e es) = rw (e, filter_agree es)
 
 summed_agree : {f f' : ℕ → Bool} {g g' : ℕ → ℤ} {l : List ℕ} → All (λ r. f r ≡ f' r) l → All (λ r. g r ≡ g' r) l → summed f g l ≡ summed f' g' l
 unfolding summed
-summed_agree {f' = f'} a b = rw (filter_agree a, total_agree (all-filterb f' b))
+summed_agree {f' = f'} a b = rw (filter_agree a, total_agree (all_filterb f' b))
 
 -- a last row that is not seen
 summed_unseen : (f : ℕ → Bool) (g : ℕ → ℤ) (l : List ℕ) (r : ℕ) → f r ≡ false → summed f g (l ++ r ∷ []) ≡ summed f g l
 unfolding summed
-summed_unseen f g l r e = rw (filterb-append, e, append-nil)
+summed_unseen f g l r e = rw (filterb_append, e, append-nil)
 
 up_to_below : (n : ℕ) → All (λ r. r < n) (up_to n)
 up_to_below zero = nil
 up_to_below (suc n) = all_append (all_map (λ r b. omega arith) (up_to_below n)) (cons (le_refl _) nil)
 
 module _ {t : Snapshot} {c : ℕ} {a : Answer} {h : History} (s : SumStays t c a h) where
-  sum-tail : {m : List Record} → All (λ (x : Record). seen_at h t x.transaction ≡ false) m → SumStays t c a (with_tail h (h.tail ++ m))
+  sum_tail : {m : List Record} → All (λ (x : Record). seen_at h t x.transaction ≡ false) m → SumStays t c a (with_tail h (h.tail ++ m))
   unfolding sum_of rows_seen summed visible version_of inserted seen_at state_of row_at inserted_value with_tail
-  sum-tail u =
+  sum_tail u =
       record {
         same = summed_agree {l = up_to (length h.rows)}
             (all_map (λ r _. ap (λ (b : Bool). seen_at h t (row_at h r).inserter && not b) (ended_same (seen_at h t) r h.tail u)) (up_to_below (length h.rows)))
-            (all_map (λ r _. ap (λ (v : Version). v.value) (last-same (seen_at h t) r h.tail u c (inserted h r c))) (up_to_below (length h.rows)))
+            (all_map (λ r _. ap (λ (v : Version). v.value) (last_same (seen_at h t) r h.tail u c (inserted h r c))) (up_to_below (length h.rows)))
             ∙ s.same;
         made = s.made;
       }
@@ -95,12 +95,12 @@ unfolding sum_of rows_seen visible version_of inserted seen_at state_of row_at i
 sum_step s nothing = s
 sum_step {t = t} {c = c} {h = h} s (new_states n) =
     record {
-      same = ap (λ (sees : ℕ → Bool). sum_of sees h c) (fun_ext (λ j. seen-moved n t j s.made)) ∙ s.same;
+      same = ap (λ (sees : ℕ → Bool). sum_of sees h c) (fun_ext (λ j. seen_moved n t j s.made)) ∙ s.same;
       made = le_trans s.made (states_last n).ordinals;
     }
 sum_step {t = t} {h = h} s (row_given k vs o _) = sum_row s _ (active_unseen h t k o)
 sum_step {t = t} {h = h} s (records_made k r w m _) =
-    sum-tail s (all_map (λ x n. ap (seen_at h t) n.transaction ∙ active_unseen h t k w.active_own) (made_new m))
+    sum_tail s (all_map (λ x n. ap (seen_at h t) n.transaction ∙ active_unseen h t k w.active_own) (made_new m))
 sum_step s (new_scans _) = record { same = s.same; made = s.made }
 sum_step s (new_merges _) = record { same = s.same; made = s.made }
 
@@ -113,7 +113,7 @@ pub unseen_step : {S : Shape} {x : Call} {h h' : History} → Step S h x h' → 
     → seen_at h' t (row_at h' r).inserter ≡ false
 unfolding seen_at state_of row_at with_transactions with_rows with_tail with_scans with_merges
 unseen_step nothing t r b u = u
-unseen_step {h = h} (new_states n) t r b u = seen-moved n t (row_at h r).inserter b ∙ u
+unseen_step {h = h} (new_states n) t r b u = seen_moved n t (row_at h r).inserter b ∙ u
 unseen_step {h = h} (row_given k vs o _) t r b u = by_cases (ℕ_discrete r (length h.rows))
     (λ e. rw (e, get_or-append_seam h.rows record { inserter = k; values = vs } [] record { inserter = 0; values = [] }) (active_unseen h t k o))
     (λ f. by_cases (dec_lt r (length h.rows))

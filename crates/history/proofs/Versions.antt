@@ -18,7 +18,7 @@ use Rattle.history.specs.Invariants.{RowFollows, InOrder}
 use Rattle.history.proofs.Lists.{by_test, parts, all_map, is_true, is_false, refuted, clash}
 use Rattle.history.specs.Steps.{NewStates, Step, nothing, new_states, row_given, records_made, new_scans, new_merges}
 use Rattle.history.proofs.Steps.{made_new}
-use Rattle.history.proofs.States.{states_last, active_unseen, seen-moved, seen-stays}
+use Rattle.history.proofs.States.{states_last, active_unseen, seen_moved, seen_stays}
 use Rattle.history.proofs.Ranges.{found, elsewhere}
 
 -- ---- the last value is the one read
@@ -78,26 +78,26 @@ pub record ValuesStay (t : Snapshot) (r c : ℕ) (l : List Dated) (h : History) 
   pub given : r < length h.rows
 
 module _ {t : Snapshot} {r c : ℕ} {l : List Dated} {h : History} (s : ValuesStay t r c l h) where
-  states-stay : {ts : List State} {ks : List ℕ} {last : Commit} → NewStates h ts ks last → ValuesStay t r c l (with_transactions h ts ks last)
+  states_stay : {ts : List State} {ks : List ℕ} {last : Commit} → NewStates h ts ks last → ValuesStay t r c l (with_transactions h ts ks last)
   unfolding values_seen seen_at state_of row_at inserted inserted_value with_transactions dated
-  states-stay {ts} {ks} {last} n =
+  states_stay {ts} {ks} {last} n =
       let h' : History = with_transactions h ts ks last in
       let k : ℕ = (row_at h r).inserter in
       record {
         same = rw (
-          seen-moved n t k s.made,
-          settings_agree (seen_at h t) (seen_at h' t) (state_of h) (state_of h') r c h.tail (λ j. seen-moved n t j s.made) (λ j u. seen-stays n t j s.made u),
+          seen_moved n t k s.made,
+          settings_agree (seen_at h t) (seen_at h' t) (state_of h) (state_of h') r c h.tail (λ j. seen_moved n t j s.made) (λ j u. seen_stays n t j s.made u),
         )
             (by_test (λ b. cond b (dated (state_of h') (inserted h r c) ∷ []) [] ++ settings_seen (seen_at h t) (state_of h) r c h.tail ≡ l) (seen_at h t k)
-            (λ u. rw (seen-stays n t k s.made u) (rw (is_true (seen_at h t k) u) at s.same))
+            (λ u. rw (seen_stays n t k s.made u) (rw (is_true (seen_at h t k) u) at s.same))
             (λ u. rw (is_false (seen_at h t k) u) at s.same));
         made = le_trans s.made (states_last n).ordinals;
         given = s.given;
       }
 
-  tail-stays : {m : List Record} → All (λ (x : Record). seen_at h t x.transaction ≡ false) m → ValuesStay t r c l (with_tail h (h.tail ++ m))
+  tail_stays : {m : List Record} → All (λ (x : Record). seen_at h t x.transaction ≡ false) m → ValuesStay t r c l (with_tail h (h.tail ++ m))
   unfolding values_seen seen_at state_of row_at inserted inserted_value with_tail dated
-  tail-stays u = record { same = rw (settings_same (seen_at h t) (state_of h) r c h.tail u) s.same; made = s.made; given = s.given }
+  tail_stays u = record { same = rw (settings_same (seen_at h t) (state_of h) r c h.tail u) s.same; made = s.made; given = s.given }
 
   rows_stay : (x : Row) → ValuesStay t r c l (with_rows h (h.rows ++ x ∷ []))
   unfolding values_seen seen_at state_of row_at inserted inserted_value with_rows dated
@@ -108,10 +108,10 @@ module _ {t : Snapshot} {r c : ℕ} {l : List Dated} {h : History} (s : ValuesSt
 pub values_step : {S : Shape} {t : Snapshot} {r c : ℕ} {l : List Dated} {h h' : History} {x : Call} → ValuesStay t r c l h → Step S h x h' → ValuesStay t r c l h'
 unfolding values_seen seen_at state_of row_at inserted inserted_value with_scans with_merges dated
 values_step s nothing = s
-values_step s (new_states n) = states-stay s n
+values_step s (new_states n) = states_stay s n
 values_step s (row_given k vs _ _) = rows_stay s _
 values_step {t = t} {h = h} s (records_made k r' w m _) =
-    tail-stays s (all_map (λ x n. ap (seen_at h t) n.transaction ∙ active_unseen h t k w.active_own) (made_new m))
+    tail_stays s (all_map (λ x n. ap (seen_at h t) n.transaction ∙ active_unseen h t k w.active_own) (made_new m))
 values_step s (new_scans _) = search
 values_step s (new_merges _) = search
 
@@ -143,9 +143,9 @@ module _ (f : ℕ → Bool) (st : ℕ → State) (insert : Version) (r c : ℕ) 
   allTold [] = []
   allTold (x ∷ l) = told x ++ allTold l
 
-  pub told-append : (l m : List Record) → allTold (l ++ m) ≡ allTold l ++ allTold m
-  told-append [] m = refl
-  told-append (x ∷ l) m = rw (told-append l m) (sym (append_assoc (told x) (allTold l) (allTold m)))
+  pub told_append : (l m : List Record) → allTold (l ++ m) ≡ allTold l ++ allTold m
+  told_append [] m = refl
+  told_append (x ∷ l) m = rw (told_append l m) (sym (append_assoc (told x) (allTold l) (allTold m)))
 
   abbrev settings : List Record → List Dated
   settings l = settings_seen f st r c l
@@ -157,9 +157,9 @@ module _ (f : ℕ → Bool) (st : ℕ → State) (insert : Version) (r c : ℕ) 
   settingHere x = eqb x.row r && sets c x.content
 
   -- a record that holds no original tells what it sets
-  told-setting : (x : Record) → originalHere x ≡ false → (l : List Record) → told x ++ settings l ≡ settings (x ∷ l)
+  told_setting : (x : Record) → originalHere x ≡ false → (l : List Record) → told x ++ settings l ≡ settings (x ∷ l)
   unfolding settings_seen
-  told-setting x e l = go (eqb x.row r) (sets c x.content && f x.transaction) (is_original c x.content) e
+  told_setting x e l = go (eqb x.row r) (sets c x.content && f x.transaction) (is_original c x.content) e
     where
       go : (a s o : Bool) → (a && o) ≡ false
           → cond a (cond s (dated st (version_in c x) ∷ []) (cond o inserts [])) [] ++ settings l ≡ cond (a && s) (dated st (version_in c x) ∷ settings l) (settings l)
@@ -168,16 +168,16 @@ module _ (f : ℕ → Bool) (st : ℕ → State) (insert : Version) (r c : ℕ) 
       go false s o e = refl
 
   -- and one that holds the original tells that, and sets nothing
-  told-original : (x : Record) → T (originalHere x) → (l : List Record) → (told x ≡ inserts) × (settings (x ∷ l) ≡ settings l)
+  told_original : (x : Record) → T (originalHere x) → (l : List Record) → (told x ≡ inserts) × (settings (x ∷ l) ≡ settings l)
   unfolding settings_seen
-  told-original x t l =
+  told_original x t l =
       let p = parts (eqb x.row r) _ t in
       rw (is_true (eqb x.row r) p.0, sets_original c x.content p.1, is_true (is_original c x.content) p.1) (refl, refl)
 
-  no-original : {l : List Record} → All (λ x. originalHere x ≡ false) l → allTold l ≡ settings l
+  no_original : {l : List Record} → All (λ x. originalHere x ≡ false) l → allTold l ≡ settings l
   unfolding settings_seen
-  no-original nil = refl
-  no-original (cons {x = x} {l = l} e es) = rw (no-original es) (told-setting x e l)
+  no_original nil = refl
+  no_original (cons {x = x} {l = l} e es) = rw (no_original es) (told_setting x e l)
 
   -- a record that sets nothing of it tells nothing behind the original
   silent : (x : Record) → originalHere x ≡ false → settingHere x ≡ false → (l : List Record) → (told x ≡ []) × (settings (x ∷ l) ≡ settings l)
@@ -191,62 +191,62 @@ module _ (f : ℕ → Bool) (st : ℕ → State) (insert : Version) (r c : ℕ) 
       go false s o e q = (refl, refl)
 
   -- the original comes before every setting of the column
-  pub original-told : {l : List Record} → Pairs (RowFollows st) l → has_original l r c ≡ true → allTold l ≡ inserts ++ settings l
+  pub original_told : {l : List Record} → Pairs (RowFollows st) l → has_original l r c ≡ true → allTold l ≡ inserts ++ settings l
   unfolding has_original
-  original-told empty e = clash (cc)
-  original-told (ahead {x = x} {l = l} p ps) e =
-      by-cases-on (originalHere x) (λ t. first t) (λ q. later (rw q at e) (original-told ps (rw q at e)) q)
+  original_told empty e = clash (cc)
+  original_told (ahead {x = x} {l = l} p ps) e =
+      by_cases_on (originalHere x) (λ t. first t) (λ q. later (rw q at e) (original_told ps (rw q at e)) q)
     where
-      by-cases-on : (b : Bool) → (T b → allTold (x ∷ l) ≡ inserts ++ settings (x ∷ l)) → (b ≡ false → allTold (x ∷ l) ≡ inserts ++ settings (x ∷ l)) → allTold (x ∷ l) ≡ inserts ++ settings (x ∷ l)
-      by-cases-on true g k = g tt
-      by-cases-on false g k = k refl
+      by_cases_on : (b : Bool) → (T b → allTold (x ∷ l) ≡ inserts ++ settings (x ∷ l)) → (b ≡ false → allTold (x ∷ l) ≡ inserts ++ settings (x ∷ l)) → allTold (x ∷ l) ≡ inserts ++ settings (x ∷ l)
+      by_cases_on true g k = g tt
+      by_cases_on false g k = k refl
 
       -- both records of row r
-      one-row : (y : Record) → T (eqb x.row r) → T (originalHere y) → x.row ≡ y.row
-      one-row y t u = eqb→eq x.row r t ∙ sym (eqb→eq y.row r (parts (eqb y.row r) _ u).0)
+      one_row_lem : (y : Record) → T (eqb x.row r) → T (originalHere y) → x.row ≡ y.row
+      one_row_lem y t u = eqb→eq x.row r t ∙ sym (eqb→eq y.row r (parts (eqb y.row r) _ u).0)
 
       first : T (originalHere x) → allTold (x ∷ l) ≡ inserts ++ settings (x ∷ l)
       first t =
-          let o = told-original x t l in
+          let o = told_original x t l in
           let none : All (λ y. originalHere y ≡ false) l = all_map (λ y (g : RowFollows st x y). refuted (originalHere y)
-          (λ u. subst T ((g (one-row y (parts (eqb x.row r) _ t).0 u)).original_first c (parts (eqb y.row r) _ u).1).1 (parts (eqb x.row r) _ t).1)) p in
-          rw (o.0, o.1, no-original none)
+          (λ u. subst T ((g (one_row_lem y (parts (eqb x.row r) _ t).0 u)).original_first c (parts (eqb y.row r) _ u).1).1 (parts (eqb x.row r) _ t).1)) p in
+          rw (o.0, o.1, no_original none)
 
       later : any originalHere l ≡ true → allTold l ≡ inserts ++ settings l → originalHere x ≡ false → allTold (x ∷ l) ≡ inserts ++ settings (x ∷ l)
       later u rest q =
           let unset : settingHere x ≡ false = from_any originalHere (settingHere x ≡ false) p u
-          (λ y (g : RowFollows st x y) w. refuted (settingHere x) (λ t. subst T ((g (one-row y (parts (eqb x.row r) _ t).0 w)).original_first c (parts (eqb y.row r) _ w).1).0 (parts (eqb x.row r) _ t).1)) in
+          (λ y (g : RowFollows st x y) w. refuted (settingHere x) (λ t. subst T ((g (one_row_lem y (parts (eqb x.row r) _ t).0 w)).original_first c (parts (eqb y.row r) _ w).1).0 (parts (eqb x.row r) _ t).1)) in
           let o = silent x q unset l in
           rw (o.0, o.1) rest
 
   -- a column that was never set has no original, and no setting
-  pub unset-told : (l : List Record) → has_original l r c ≡ false → was_set l r c ≡ false → (allTold l ≡ []) × (settings l ≡ [])
+  pub unset_told : (l : List Record) → has_original l r c ≡ false → was_set l r c ≡ false → (allTold l ≡ []) × (settings l ≡ [])
   unfolding has_original was_set settings_seen
-  unset-told [] e q = (refl, refl)
-  unset-told (x ∷ l) e q =
+  unset_told [] e q = (refl, refl)
+  unset_told (x ∷ l) e q =
       let a = none_true (originalHere x) _ e in
       let b = none_true (settingHere x) _ q in
       let o = silent x a.0 b.0 l in
-      let rest = unset-told l a.1 b.1 in
+      let rest = unset_told l a.1 b.1 in
       rw (o.0, o.1) rest
 
   -- the records of the row's range tell all
-  near-told : (l : List Record) → allTold (filterb (λ x. eqb (range_of x.row) (range_of r)) l) ≡ allTold l
-  near-told [] = refl
-  near-told (x ∷ l) = by_test (λ b. allTold (cond b (x ∷ filterb (λ x. eqb (range_of x.row) (range_of r)) l) (filterb (λ x. eqb (range_of x.row) (range_of r)) l)) ≡ told x ++ allTold l)
-      (eqb (range_of x.row) (range_of r)) (λ _. rw (near-told l)) (λ n. rw (elsewhere r x n, near-told l))
+  near_told : (l : List Record) → allTold (filterb (λ x. eqb (range_of x.row) (range_of r)) l) ≡ allTold l
+  near_told [] = refl
+  near_told (x ∷ l) = by_test (λ b. allTold (cond b (x ∷ filterb (λ x. eqb (range_of x.row) (range_of r)) l) (filterb (λ x. eqb (range_of x.row) (range_of r)) l)) ≡ told x ++ allTold l)
+      (eqb (range_of x.row) (range_of r)) (λ _. rw (near_told l)) (λ n. rw (elsewhere r x n, near_told l))
 
 -- the crossings of what the records of row r's range tell
 pub crossings_told : (h : History) → InOrder h → (f : ℕ → Bool) (r c : ℕ) → c < most_columns → (mark : ℤ) (from : ℕ)
     → crossings_from mark from (last_of_each (allTold f (state_of h) (inserted h r c) r c (records_of h (range_of r)))) ≡ crossings_from mark from (versions f h r c)
 unfolding versions values_seen records_of inserted
 crossings_told h i f r c b mark from =
-    rw (near-told f (state_of h) (inserted h r c) r c h.tail) (go (has_original h.tail r c) refl)
+    rw (near_told f (state_of h) (inserted h r c) r c h.tail) (go (has_original h.tail r c) refl)
   where
     go : (o : Bool) → has_original h.tail r c ≡ o
         → crossings_from mark from (last_of_each (allTold f (state_of h) (inserted h r c) r c h.tail)) ≡ crossings_from mark from (last_of_each (values_seen f h r c))
-    go true e = ap (λ (l : List Dated). crossings_from mark from (last_of_each l)) (original-told f (state_of h) (inserted h r c) r c i.follow e)
+    go true e = ap (λ (l : List Dated). crossings_from mark from (last_of_each l)) (original_told f (state_of h) (inserted h r c) r c i.follow e)
     go false e =
-        let none = unset-told f (state_of h) (inserted h r c) r c h.tail e (i.originals r c b ∙ e) in
+        let none = unset_told f (state_of h) (inserted h r c) r c h.tail e (i.originals r c b ∙ e) in
         rw (none.0, none.1) (by_test (λ s. crossings_from mark from (last_of_each []) ≡ (crossings_from mark from (last_of_each (cond s (dated (state_of h) (inserted h r c) ∷ []) [] ++ []))))
         (f (row_at h r).inserter) (λ _. unfold crossings_from last_of_each in refl) (λ _. unfold crossings_from last_of_each in refl))

@@ -13,33 +13,33 @@ block_in p n size h = omega (arith, mul-le-mul_right size h, suc-mul p size)
 
 module _ (s : Sizes) (p : Proper s) where
   -- the records of a range
-  pub tail-in : (g : ℕ) → g < s.ranges → g * s.capacity + s.capacity ≤ s.slots
-  tail-in g h = omega (arith, p.slots_are, block_in g s.ranges s.capacity h)
+  pub tail_in : (g : ℕ) → g < s.ranges → g * s.capacity + s.capacity ≤ s.slots
+  tail_in g h = omega (arith, p.slots_are, block_in g s.ranges s.capacity h)
 
   -- the values of a record
-  pub values-in : (k : ℕ) → k < s.slots → k * s.columns + s.columns ≤ s.values
-  values-in k h = omega (arith, p.values_are, block_in k s.slots s.columns h)
+  pub values_in_lem : (k : ℕ) → k < s.slots → k * s.columns + s.columns ≤ s.values
+  values_in_lem k h = omega (arith, p.values_are, block_in k s.slots s.columns h)
 
   -- the current pages of a range
-  pub chunks-in : (g : ℕ) → g < s.ranges → g * s.columns + s.columns ≤ s.chunks
-  chunks-in g h = omega (arith, p.chunks_are, mul_comm s.columns s.ranges, block_in g s.ranges s.columns h)
+  pub chunks_in : (g : ℕ) → g < s.ranges → g * s.columns + s.columns ≤ s.chunks
+  chunks_in g h = omega (arith, p.chunks_are, mul_comm s.columns s.ranges, block_in g s.ranges s.columns h)
 
   -- the range of a row
   pub range_in : (r : ℕ) → r < s.rows → r / range_rows < s.ranges
   range_in r h = omega (arith, p.rows_are)
 
-  pub slots-few : s.slots ≤ most_slots
-  slots-few = omega (arith, p.slots_are, mul-le-mul p.ranges_to p.capacity_to)
+  pub slots_few : s.slots ≤ most_slots
+  slots_few = omega (arith, p.slots_are, mul-le-mul p.ranges_to p.capacity_to)
 
-  pub chunks-some : 1 ≤ s.chunks
-  chunks-some = omega (arith, p.chunks_are, mul-le-mul p.columns_from p.ranges_from)
+  pub chunks_some : 1 ≤ s.chunks
+  chunks_some = omega (arith, p.chunks_are, mul-le-mul p.columns_from p.ranges_from)
 
-  pub chunks-few : s.chunks ≤ most_chunks
-  chunks-few = omega (arith, p.chunks_are, mul-le-mul p.columns_to p.ranges_to)
+  pub chunks_few : s.chunks ≤ most_chunks
+  chunks_few = omega (arith, p.chunks_are, mul-le-mul p.columns_to p.ranges_to)
 
   -- the range of a chunk
-  pub chunk-range : (i : ℕ) → i < s.chunks → i / s.columns < s.ranges
-  chunk-range i b =
+  pub chunk_range : (i : ℕ) → i < s.chunks → i / s.columns < s.ranges
+  chunk_range i b =
       let c : i < s.ranges * s.columns = omega (arith, p.chunks_are, mul_comm s.columns s.ranges) in
       (div-lt_iff_lt-mul {k = s.columns} {x = i} {y = s.ranges} p.columns_from).1 c
 

@@ -15,7 +15,7 @@ use Rattle.terms.specs.Measures.{Shape, most_columns}
 use Rattle.terms.specs.declared.Form.{Form}
 use Rattle.words.specs.Words.{Fit}
 use Rattle.loops.specs.Change.{filled, copied}
-use Rattle.loops.proofs.Change.{changed-length, changed-at, set_fit, zeros}
+use Rattle.loops.proofs.Change.{changed_length, changed_at_lem, set_fit, zeros}
 use Rattle.layout.specs.declared.Sizes.{Sizes}
 use Rattle.layout.specs.declared.Region.{Region}
 use Rattle.layout.specs.declared.Region.TheVariants.{Header, RowKeeper, TailKeeper, OpenKeeper}
@@ -31,10 +31,10 @@ use Rattle.layout.proofs.Lay.{named, same_region}
 -- a list that is filled with 0 throughout
 cleared : (n : ℕ) (l : List ℕ) → length l ≡ n → filled 0 n 0 l ≡ replicate n 0
 cleared n l e =
-    ext_get_or 0 (filled 0 n 0 l) (replicate n 0) (changed-length (λ i x. 0) 0 l n ∙ e ∙ sym (length-replicate n 0))
+    ext_get_or 0 (filled 0 n 0 l) (replicate n 0) (changed_length (λ i x. 0) 0 l n ∙ e ∙ sym (length-replicate n 0))
     (λ i b.
-    let c : i < n = omega (arith, changed-length (λ i x. 0) 0 l n) in
-    (rw (zero-add i) at (changed-at (λ i x. 0) 0 l n i (omega arith) c)) ∙ sym (get_or-replicate n i 0 0 c))
+    let c : i < n = omega (arith, changed_length (λ i x. 0) 0 l n) in
+    (rw (zero-add i) at (changed_at_lem (λ i x. 0) 0 l n i (omega arith) c)) ∙ sym (get_or-replicate n i 0 0 c))
 
 empty_of : (l : List ℕ) → length l ≡ 0 → l ≡ []
 empty_of [] e = refl
@@ -72,47 +72,47 @@ module _ (f f' : Form) (S : Shape) where
   s' = sizes_of f' S
 
   -- they start at the same words and are as long, before all the others
-  older-base : (k : Region) → index k < index RowKeeper → base s' k ≡ base s k
+  older_base : (k : Region) → index k < index RowKeeper → base s' k ≡ base s k
   unfolding base
-  older-base k b = start_agree 0 (older_lens s) (later_lens s') (later_lens s) (index k) (omega arith)
+  older_base k b = start_agree 0 (older_lens s) (later_lens s') (later_lens s) (index k) (omega arith)
 
-  older-len : (k : Region) → index k < index RowKeeper → len s' k ≡ len s k
-  older-len k b = get_or-append (older_lens s) (later_lens s') 0 (index k) b ∙ sym (get_or-append (older_lens s) (later_lens s) 0 (index k) b)
+  older_len : (k : Region) → index k < index RowKeeper → len s' k ≡ len s k
+  older_len k b = get_or-append (older_lens s) (later_lens s') 0 (index k) b ∙ sym (get_or-append (older_lens s) (later_lens s) 0 (index k) b)
 
-  older-before : (k : Region) → index k < index RowKeeper → base s' k + len s' k ≤ base s' RowKeeper
+  older_before_lem : (k : Region) → index k < index RowKeeper → base s' k + len s' k ≤ base s' RowKeeper
   unfolding base
-  older-before k b = apart 0 (lens s') (index k) (index RowKeeper) b
+  older_before_lem k b = apart 0 (lens s') (index k) (index RowKeeper) b
 
   -- the words before the others are as many in both
-  pub older-words : base s' RowKeeper ≡ base s RowKeeper
+  pub older_words : base s' RowKeeper ≡ base s RowKeeper
   unfolding base
-  older-words = start_agree 0 (older_lens s) (later_lens s') (later_lens s) (index RowKeeper) (omega arith)
+  older_words = start_agree 0 (older_lens s) (later_lens s') (later_lens s) (index RowKeeper) (omega arith)
 
   module _ (ws ws' : List ℕ) (room : need s ≤ length ws) (room' : need s' ≤ length ws') where
     abbrev copy : List ℕ
     copy = copied ws 0 (base s' RowKeeper) 0 ws'
 
-    copy-long : length copy ≡ length ws'
-    copy-long = changed-length (λ i x. get_or ws (0 + i) 0) 0 ws' (base s' RowKeeper)
+    copy_long : length copy ≡ length ws'
+    copy_long = changed_length (λ i x. get_or ws (0 + i) 0) 0 ws' (base s' RowKeeper)
 
     copy_at : (j : ℕ) → j < base s' RowKeeper → get_or copy j 0 ≡ get_or ws j 0
     copy_at j b =
-        rw (zero-add j) at (changed-at (λ i x. get_or ws (0 + i) 0) 0 ws' (base s' RowKeeper) j (omega (arith, base_in s' RowKeeper)) b)
+        rw (zero-add j) at (changed_at_lem (λ i x. get_or ws (0 + i) 0) 0 ws' (base s' RowKeeper) j (omega (arith, base_in s' RowKeeper)) b)
 
-    older-copied : (k : Region) → index k < index RowKeeper → view s' copy k ≡ view s ws k
-    older-copied k b =
-        let long : length (view s' copy k) ≡ len s' k = view_long s' copy (omega (arith, copy-long)) k in
+    older_copied : (k : Region) → index k < index RowKeeper → view s' copy k ≡ view s ws k
+    older_copied k b =
+        let long : length (view s' copy k) ≡ len s' k = view_long s' copy (omega (arith, copy_long)) k in
         let long₀ : length (view s ws k) ≡ len s k = view_long s ws room k in
-        ext_get_or 0 (view s' copy k) (view s ws k) (long ∙ older-len k b ∙ sym long₀)
+        ext_get_or 0 (view s' copy k) (view s ws k) (long ∙ older_len k b ∙ sym long₀)
         (λ i h.
         let a : i < len s' k = omega arith in
-        view_at s' copy k i a ∙ copy_at (base s' k + i) (omega (arith, older-before k b)) ∙ rw (older-base k b) (sym (view_at s ws k i (omega (arith, older-len k b)))))
+        view_at s' copy k i a ∙ copy_at (base s' k + i) (omega (arith, older_before_lem k b)) ∙ rw (older_base k b) (sym (view_at s ws k i (omega (arith, older_len k b)))))
 
     -- what the code does: the copied words, with 0 in the other regions and the form in the columns' word
-    pub copied-moved : put Header columns_at (columns_word f' S.columns) (fill OpenKeeper 0 s'.later.opens 0 (fill TailKeeper 0 s'.later.slots 0 (fill RowKeeper 0 s'.later.rows 0 (view s' copy))))
+    pub copied_moved : put Header columns_at (columns_word f' S.columns) (fill OpenKeeper 0 s'.later.opens 0 (fill TailKeeper 0 s'.later.slots 0 (fill RowKeeper 0 s'.later.rows 0 (view s' copy))))
         ≡ moved f' S (view s ws)
     unfolding moved later_zero put fill renew
-    copied-moved =
+    copied_moved =
         fun_ext
         (by_age (λ k. put Header columns_at word (fill OpenKeeper 0 s'.later.opens 0 (fill TailKeeper 0 s'.later.slots 0 (fill RowKeeper 0 s'.later.rows 0 (view s' copy)))) k ≡ moved f' S (view s ws) k)
         older (cleared s'.later.rows _ (long RowKeeper)) (cleared s'.later.slots _ (long TailKeeper)) (cleared s'.later.opens _ (long OpenKeeper)))
@@ -121,23 +121,23 @@ module _ (f f' : Form) (S : Shape) where
         word = columns_word f' S.columns
 
         long : Long s' (view s' copy)
-        long = view_long s' copy (omega (arith, copy-long))
+        long = view_long s' copy (omega (arith, copy_long))
 
         older : (k : Region) → index k < index RowKeeper
             → put Header columns_at word (fill OpenKeeper 0 s'.later.opens 0 (fill TailKeeper 0 s'.later.slots 0 (fill RowKeeper 0 s'.later.rows 0 (view s' copy)))) k ≡ moved f' S (view s ws) k
-        older k b = rw (ne_eqb (index RowKeeper) (index k) (λ e. omega arith), ne_eqb (index TailKeeper) (index k) (λ e. omega arith), ne_eqb (index OpenKeeper) (index k) (λ e. omega arith), older-copied Header (omega arith), older-copied k b)
+        older k b = rw (ne_eqb (index RowKeeper) (index k) (λ e. omega arith), ne_eqb (index TailKeeper) (index k) (λ e. omega arith), ne_eqb (index OpenKeeper) (index k) (λ e. omega arith), older_copied Header (omega arith), older_copied k b)
 
   -- ---- the view moved is one that the sizes moved to have
-  pub moved-long : (v : View) → Long s v → Long s' (moved f' S v)
+  pub moved_long : (v : View) → Long s v → Long s' (moved f' S v)
   unfolding moved later_zero put renew
-  moved-long v long = by_age (λ k. length (moved f' S v k) ≡ len s' k) older (length-replicate s'.later.rows 0) (length-replicate s'.later.slots 0) (length-replicate s'.later.opens 0)
+  moved_long v long = by_age (λ k. length (moved f' S v k) ≡ len s' k) older (length-replicate s'.later.rows 0) (length-replicate s'.later.slots 0) (length-replicate s'.later.opens 0)
     where
       older : (k : Region) → index k < index RowKeeper → length (moved f' S v k) ≡ len s' k
       older k b =
           rw (ne_eqb (index RowKeeper) (index k) (λ e. omega arith), ne_eqb (index TailKeeper) (index k) (λ e. omega arith), ne_eqb (index OpenKeeper) (index k) (λ e. omega arith))
           (elim (eqb 0 (index k)) as (λ c. eqb 0 (index k) ≡ c → length (cond c (set (v Header) columns_at (columns_word f' S.columns)) (v k)) ≡ len s' k) [
-            | true ↦ λ e. length-set (v Header) columns_at (columns_word f' S.columns) ∙ long Header ∙ sym (older-len Header (omega arith)) ∙ ap (λ (i : ℕ). get_or (lens s') i 0) (eqb-true 0 (index k) e)
-            | false ↦ λ e. long k ∙ sym (older-len k b)
+            | true ↦ λ e. length-set (v Header) columns_at (columns_word f' S.columns) ∙ long Header ∙ sym (older_len Header (omega arith)) ∙ ap (λ (i : ℕ). get_or (lens s') i 0) (eqb-true 0 (index k) e)
+            | false ↦ λ e. long k ∙ sym (older_len k b)
           ] refl)
 
 -- ---- the header of the view moved: the columns' word says the form, and the others are as they were

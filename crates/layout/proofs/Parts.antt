@@ -14,7 +14,7 @@ use borrow.Author.Tests.{eqb-true}
 use Rattle.words.specs.Words.{bytes}
 use Rattle.words.proofs.Words.{length_bytes}
 use Rattle.loops.specs.Change.{changed, numbered}
-use Rattle.loops.proofs.Change.{changed-at}
+use Rattle.loops.proofs.Change.{changed_at_lem}
 use Rattle.layout.specs.declared.Sizes.{Sizes}
 use Rattle.layout.specs.declared.Region.{Region}
 use Rattle.layout.specs.Cut.{end_from, join}
@@ -75,7 +75,7 @@ unfolding changed
 numbered_all i b =
     sym (get_or-map index all i Region.Header)
     ∙ ap (λ (j : ℕ). get_or (numbered 0 (length all) (replicate (length all) 0)) j 0) (sym (zero-add i))
-    ∙ changed-at (λ i x. i) 0 (replicate (length all) 0) (length all) i (omega arith) b
+    ∙ changed_at_lem (λ i x. i) 0 (replicate (length all) 0) (length all) i (omega arith) b
 
 -- every word that the sizes need is one of a region
 word_of : (s : Sizes) (w : ℕ) → w < need s → (k : Region) × (j : ℕ) × (j < len s k) × (w ≡ base s k + j)
@@ -96,18 +96,18 @@ module _ (s : Sizes) (v : View) (h : Long s v) where
   unfolding need
   words_long = sym (zero-add _) ∙ join_length 0 (map v all) ∙ ap (end_from 0) (lengths s v h)
 
-  pub laid-long : length (bytes (join (map v all))) ≡ need s * 4
-  laid-long = length_bytes (join (map v all)) ∙ rw words_long
+  pub laid_long : length (bytes (join (map v all))) ≡ need s * 4
+  laid_long = length_bytes (join (map v all)) ∙ rw words_long
 
   pub lay_length : (m : List ℕ) → need s * 4 ≤ length m → length (lay s v m) ≡ length m
   unfolding lay
-  lay_length m b = length-append (bytes (join (map v all))) (drop (need s * 4) m) ∙ omega (arith, laid-long, length-drop (need s * 4) m)
+  lay_length m b = length-append (bytes (join (map v all))) (drop (need s * 4) m) ∙ omega (arith, laid_long, length-drop (need s * 4) m)
 
   -- a byte past those that the sizes need
-  pub lay-past : (m : List ℕ) (i : ℕ) → need s * 4 ≤ i → get_or (lay s v m) i 0 ≡ get_or m i 0
+  pub lay_past : (m : List ℕ) (i : ℕ) → need s * 4 ≤ i → get_or (lay s v m) i 0 ≡ get_or m i 0
   unfolding lay
-  lay-past m i b =
-      let e : i ≡ length (bytes (join (map v all))) + (i - need s * 4) = omega (arith, laid-long) in
+  lay_past m i b =
+      let e : i ≡ length (bytes (join (map v all))) + (i - need s * 4) = omega (arith, laid_long) in
       let q : need s * 4 + (i - need s * 4) ≡ i = omega arith in
       ap (λ (j : ℕ). get_or (lay s v m) j 0) e
       ∙ get_or-append-add (bytes (join (map v all))) (drop (need s * 4) m) (i - need s * 4) 0
@@ -128,11 +128,11 @@ within_bytes s v v' m {xs} h o i = go (dec_lt i (need s * 4))
     ws' = join (map v' all)
 
     -- a byte of a word that is as it was
-    byte-same : i < need s * 4 → get_or ws' (i / 4) 0 ≡ get_or ws (i / 4) 0 → get_or (lay s v' m) i 0 ≡ get_or (lay s v m) i 0
-    byte-same b e =
-        get_or-append (bytes ws') _ 0 i (omega (arith, laid-long s v' h'))
+    byte_same : i < need s * 4 → get_or ws' (i / 4) 0 ≡ get_or ws (i / 4) 0 → get_or (lay s v' m) i 0 ≡ get_or (lay s v m) i 0
+    byte_same b e =
+        get_or-append (bytes ws') _ 0 i (omega (arith, laid_long s v' h'))
         ∙ bytes_same ws' ws i (words_long s v' h' ∙ sym (words_long s v h)) e
-        ∙ sym (get_or-append (bytes ws) _ 0 i (omega (arith, laid-long s v h)))
+        ∙ sym (get_or-append (bytes ws) _ 0 i (omega (arith, laid_long s v h)))
 
     go : Dec (i < need s * 4) → (get_or (lay s v' m) i 0 ≡ get_or (lay s v m) i 0) ⊎ OneOf s xs i
     go (yes b) =
@@ -140,5 +140,5 @@ within_bytes s v v' m {xs} h o i = go (dec_lt i (need s * 4))
         let k = t.0 in
         let j = t.1 in
         let e : i / 4 ≡ base s k + j = t.3 in
-        ⊎_map (λ a. byte-same b (rw e (word_at s v' h' k j t.2 ∙ a ∙ sym (word_at s v h k j t.2)))) (λ a. (k, j, (t.2, e), a)) (o.only k j)
-    go (no b) = inl (lay-past s v' h' m i (omega arith) ∙ sym (lay-past s v h m i (omega arith)))
+        ⊎_map (λ a. byte_same b (rw e (word_at s v' h' k j t.2 ∙ a ∙ sym (word_at s v h k j t.2)))) (λ a. (k, j, (t.2, e), a)) (o.only k j)
+    go (no b) = inl (lay_past s v' h' m i (omega arith) ∙ sym (lay_past s v h m i (omega arith)))

@@ -7,7 +7,7 @@ use lib.Dec.{eqb}
 use lib.ListN.{get_or, set}
 use borrow.Author.Tests.{eqb-true}
 use Rattle.loops.specs.Change.{changed}
-use Rattle.loops.proofs.Change.{changed-next, changed-none}
+use Rattle.loops.proofs.Change.{changed_next, changed_none}
 use Rattle.layout.specs.declared.Region.{Region}
 use Rattle.layout.specs.Regions.{index}
 use Rattle.layout.specs.View.{View, renew, put, mark}
@@ -50,11 +50,11 @@ turn_put k l v w w' i x e p = p ∙ ap (put k i x) e ∙ put_renew k l v i x
 
 -- a loop whose turn i changes word at + i
 module _ (k : Region) (f : ℕ → ℕ → ℕ) (at : ℕ) (v : View) where
-  pub change-none : v ≡ renew k (changed f at 0 (v k)) v
-  change-none = renew_none k v ∙ ap (λ (l : List ℕ). renew k l v) (changed-none f at (v k))
+  pub change_none : v ≡ renew k (changed f at 0 (v k)) v
+  change_none = renew_none k v ∙ ap (λ (l : List ℕ). renew k l v) (changed_none f at (v k))
 
-  pub change-next : (w w' : View) (i x : ℕ) → w ≡ renew k (changed f at i (v k)) v → x ≡ f i (get_or (v k) (at + i) 0)
+  pub change_next : (w w' : View) (i x : ℕ) → w ≡ renew k (changed f at i (v k)) v → x ≡ f i (get_or (v k) (at + i) 0)
       → w' ≡ put k (at + i) x w → w' ≡ renew k (changed f at (i + 1) (v k)) v
-  change-next w w' i x e q p =
+  change_next w w' i x e q p =
       turn_put k (changed f at i (v k)) v w w' (at + i) x e p
-      ∙ ap (λ (l : List ℕ). renew k l v) (changed-next f at (v k) (changed f at i (v k)) _ i x refl q refl)
+      ∙ ap (λ (l : List ℕ). renew k l v) (changed_next f at (v k) (changed f at i (v k)) _ i x refl q refl)

@@ -10,8 +10,8 @@ use lib.ListN.{length, get_or, set, take}
 use borrow.Author.Tests.{eq-eqb, ne_eqb, eqb-true}
 use Rattle.loops.specs.Search.{region}
 use Rattle.loops.specs.Change.{changed, copied, marked}
-use Rattle.loops.proofs.Region.{region-at, region-length, region-put, region-before, region-after, region_region}
-use Rattle.loops.proofs.Change.{changed-apart, changed_inside, changed_same}
+use Rattle.loops.proofs.Region.{region_at, region_length, region_put, region_before, region_after, region_region}
+use Rattle.loops.proofs.Change.{changed_apart, changed_inside, changed_same}
 use Rattle.layout.specs.declared.Sizes.{Sizes}
 use Rattle.layout.specs.declared.Region.{Region}
 use Rattle.layout.specs.Cut.{join}
@@ -49,7 +49,7 @@ stretch_in s k at n h = omega (arith, base_in s k)
 
 pub view_at : (s : Sizes) (ws : List ℕ) (k : Region) (i : ℕ) → i < len s k → get_or (view s ws k) i 0 ≡ get_or ws (base s k + i) 0
 unfolding view
-view_at s ws k i h = region-at ws (base s k) (len s k) i h
+view_at s ws k i h = region_at ws (base s k) (len s k) i h
 
 pub view_region : (s : Sizes) (ws : List ℕ) (k : Region) (at n : ℕ) → at + n ≤ len s k
     → region (view s ws k) at n ≡ region ws (base s k + at) n
@@ -69,25 +69,25 @@ pub view_put : (s : Sizes) (ws : List ℕ) (k : Region) (i v : ℕ) → i < len 
     → view s (set ws (base s k + i) v) ≡ put k i v (view s ws)
 unfolding view put
 view_put s ws k i v h =
-    view_inside s ws _ k (λ b n. ⊎_elim (λ a. region-after ws b n _ v (omega arith)) (λ a. region-before ws b n _ v (omega arith)))
-    ∙ ap (λ (l : List ℕ). renew k l (view s ws)) (region-put ws (base s k) (len s k) i v h)
+    view_inside s ws _ k (λ b n. ⊎_elim (λ a. region_after ws b n _ v (omega arith)) (λ a. region_before ws b n _ v (omega arith)))
+    ∙ ap (λ (l : List ℕ). renew k l (view s ws)) (region_put ws (base s k) (len s k) i v h)
 
 -- a change of a stretch, which is what every loop that writes does
 pub view_changed : (s : Sizes) (ws : List ℕ) (k : Region) (f : ℕ → ℕ → ℕ) (at n : ℕ) → at + n ≤ len s k
     → view s (changed f (base s k + at) n ws) ≡ renew k (changed f at n (view s ws k)) (view s ws)
 unfolding view
 view_changed s ws k f at n h =
-    view_inside s ws _ k (λ b m c. changed-apart f (base s k + at) ws n b m (⊎_map (λ a. omega arith) (λ a. omega arith) c))
+    view_inside s ws _ k (λ b m c. changed_apart f (base s k + at) ws n b m (⊎_map (λ a. omega arith) (λ a. omega arith) c))
     ∙ ap (λ (l : List ℕ). renew k l (view s ws)) (changed_inside f ws (base s k) (len s k) at n h)
 
 module _ (s : Sizes) (ws : List ℕ) (k : Region) (at n : ℕ) (h : at + n ≤ len s k) where
-  pub view-fill : (v : ℕ) → view s (changed (λ i x. v) (base s k + at) n ws) ≡ fill k at n v (view s ws)
+  pub view_fill : (v : ℕ) → view s (changed (λ i x. v) (base s k + at) n ws) ≡ fill k at n v (view s ws)
   unfolding fill
-  view-fill v = view_changed s ws k (λ i x. v) at n h
+  view_fill v = view_changed s ws k (λ i x. v) at n h
 
-  pub view-number : view s (changed (λ i x. i) (base s k + at) n ws) ≡ number k at n (view s ws)
+  pub view_number : view s (changed (λ i x. i) (base s k + at) n ws) ≡ number k at n (view s ws)
   unfolding number
-  view-number = view_changed s ws k (λ i x. i) at n h
+  view_number = view_changed s ws k (λ i x. i) at n h
 
   -- word from + i of a region, as the words have it and as the view has it
   from_view : (j : Region) (from i : ℕ) → from + n ≤ len s j → i < n
@@ -96,17 +96,17 @@ module _ (s : Sizes) (ws : List ℕ) (k : Region) (at n : ℕ) (h : at + n ≤ l
       let e : base s j + from + i ≡ base s j + (from + i) = omega arith in
       rw e (sym (view_at s ws j (from + i) (omega arith)))
 
-  pub view-copy : (from : ℕ) → from + n ≤ len s k
+  pub view_copy : (from : ℕ) → from + n ≤ len s k
       → view s (copied ws (base s k + from) n (base s k + at) ws) ≡ copy k from n at (view s ws)
   unfolding copy
-  view-copy from g =
+  view_copy from g =
       ap (view s) (changed_same _ _ (base s k + at) n ws (λ i x b. from_view k from i g b))
       ∙ view_changed s ws k (λ i x. get_or (view s ws k) (from + i) 0) at n h
 
-  pub view-mark : (keys : Region) (key v : ℕ) → at + n ≤ len s keys
+  pub view_mark : (keys : Region) (key v : ℕ) → at + n ≤ len s keys
       → view s (marked ws (base s keys + at) n key (base s k + at) v ws) ≡ mark keys key k at n v (view s ws)
   unfolding mark
-  view-mark keys key v g =
+  view_mark keys key v g =
       ap (view s) (changed_same _ _ (base s k + at) n ws (λ i x b. ap (λ (w : ℕ). cond (eqb w key) v x) (from_view keys at i g b)))
       ∙ view_changed s ws k (λ i x. cond (eqb (get_or (view s ws keys) (at + i) 0) key) v x) at n h
 
@@ -128,7 +128,7 @@ view_join s ws = join_pieces 0 (lens s) ws
 
 pub view_long : (s : Sizes) (ws : List ℕ) → need s ≤ length ws → Long s (view s ws)
 unfolding view
-view_long s ws h k = region-length ws (base s k) (len s k) (omega (arith, base_in s k))
+view_long s ws h k = region_length ws (base s k) (len s k) (omega (arith, base_in s k))
 
 pub renew_long : (s : Sizes) (k : Region) (l : List ℕ) (m : View) → length l ≡ len s k → Long s m → Long s (renew k l m)
 unfolding renew

@@ -25,11 +25,11 @@ abbrev pub put_callee : Callee
 put_callee = record { lifetimes = 1; params = p_mut_s entry 0 tt ∷ p_num w64 ∷ arg p ∷ []; result = r_unit; asks = λ κs a. a.1.0 < length (now a.0); tells = λ κs a z e. now e.0 ≡ set (now a.0) a.1.0 a.1.1.0; name = put_entry.name }
 
 module _ (w : World) (γ : routine.Env) where
-  pub len-known : γ len_of_lem.name ≡ len_of_lem.routine → KnownIn w γ len_callee
-  len-known e = written.known-free 1 len_callee.params len_callee.result len_callee.tells w γ len_of_lem.name len_of_lem.routine e (len_of_thm.met w.𝓤 w.𝓛 w.𝓜 w.𝓡)
+  pub len_known : γ len_of_lem.name ≡ len_of_lem.routine → KnownIn w γ len_callee
+  len_known e = written.known_free 1 len_callee.params len_callee.result len_callee.tells w γ len_of_lem.name len_of_lem.routine e (len_of_thm.met w.𝓤 w.𝓛 w.𝓜 w.𝓡)
 
-  pub at-known : γ entry_at.name ≡ entry_at.routine → KnownIn w γ at_callee
-  at-known e = written.known 1 at_callee.params at_callee.result at_callee.tells at_callee.asks w γ entry_at.name entry_at.routine e (entry_at_thm.met w.𝓤 w.𝓛 w.𝓜 w.𝓡)
+  pub at_known : γ entry_at.name ≡ entry_at.routine → KnownIn w γ at_callee
+  at_known e = written.known 1 at_callee.params at_callee.result at_callee.tells at_callee.asks w γ entry_at.name entry_at.routine e (entry_at_thm.met w.𝓤 w.𝓛 w.𝓜 w.𝓡)
 
-  pub put-known : γ put_entry.name ≡ put_entry.routine → KnownIn w γ put_callee
-  put-known e = written.known 1 put_callee.params put_callee.result put_callee.tells put_callee.asks w γ put_entry.name put_entry.routine e (put_entry_thm.met w.𝓤 w.𝓛 w.𝓜 w.𝓡)
+  pub put_known : γ put_entry.name ≡ put_entry.routine → KnownIn w γ put_callee
+  put_known e = written.known 1 put_callee.params put_callee.result put_callee.tells put_callee.asks w γ put_entry.name put_entry.routine e (put_entry_thm.met w.𝓤 w.𝓛 w.𝓜 w.𝓡)

@@ -17,7 +17,7 @@ use borrow.Fn.Kinds.{Dens}
 use Rattle.lent.proofs.Rules.{◌≡◌, refl, List, [], ◌∷◌, ℕ, Ura, Ty, Body, ty_int, Env, Lfts, Shares, RattleType, now, rt_f, f_int, Row, p_shr_s, p_mut_s, EnvOf, tys_p, ParamKind, Out, ty_r, ScanEntry, byte, entry, pointer, erased, mut}
 use Rattle.lent.proofs.Plain.{Plain, full, gone, res}
 use Rattle.lent.proofs.Further.{Further}
-use Rattle.lent.proofs.Hands.{heres, beyond, Spots, spots, spot-free, nth, Nth, entered, laid, left, layU, liftU, lays, lifts}
+use Rattle.lent.proofs.Hands.{heres, beyond, Spots, spots, spot_free, nth, Nth, entered, laid, left, layU, liftU, lays, lifts}
 use Rattle.lent.proofs.Slices as S
 use Rattle.lent.proofs.Tokens.{up, ins, del}
 
@@ -61,14 +61,14 @@ module _ {d o l : ℕ} (e : Width) (r : Plain) (fs : List (Further 3 d o l)) (xs
   here = refl
 
   pub spot : (k : ℕ) → Nth k xs → (spot_of 𝓤 H E (local fs k)).0 ≡ nth k xs
-  spot = spot-free 𝓛 E 4 fs xs (tl (tl (tl (tl bs)))) here
+  spot = spot_free 𝓛 E 4 fs xs (tl (tl (tl (tl bs)))) here
 
-  pub further-spots : Spots 𝓤 H E 4 fs
-  further-spots = spots 𝓛 E 4 fs xs (tl (tl (tl (tl bs)))) here
+  pub further_spots : Spots 𝓤 H E 4 fs
+  further_spots = spots 𝓛 E 4 fs xs (tl (tl (tl (tl bs)))) here
 
   module _ (κs : Lfts (up 3 l)) (qs : Shares (up 3 l)) where
-    abbrev in-front : Row → List Entry
-    in-front = front e l κs
+    abbrev in_front : Row → List Entry
+    in_front = front e l κs
 
     moved_in : (ρ : Rho) (u : St (front e l κs (gone r))) → ent 𝓤 (own 𝓛 E ρ (front e l κs (gone r)) u) (own 𝓛 E (ins 3 o ρ) (front e l κs (gone r)) u)
     unfolding own
@@ -78,8 +78,8 @@ module _ {d o l : ℕ} (e : Width) (r : Plain) (fs : List (Further 3 d o l)) (xs
     unfolding own
     moved_out ρ u = id⊢ 𝓤 _
 
-    pub enters : Ghost 𝓛 E (entered 𝓛 E κs qs (in-front (gone r)) 4 fs xs) (laid 𝓛 E κs qs (in-front (gone r)) 4 fs xs) (pass (entered 𝓛 E κs qs (in-front (gone r)) 4 fs xs) (laid 𝓛 E κs qs (in-front (gone r)) 4 fs xs) (layU κs (in-front (gone r)) 4 fs xs))
-    enters = lays 𝓛 E κs qs (in-front (gone r)) 4 fs xs moved_in
+    pub enters : Ghost 𝓛 E (entered 𝓛 E κs qs (in_front (gone r)) 4 fs xs) (laid 𝓛 E κs qs (in_front (gone r)) 4 fs xs) (pass (entered 𝓛 E κs qs (in_front (gone r)) 4 fs xs) (laid 𝓛 E κs qs (in_front (gone r)) 4 fs xs) (layU κs (in_front (gone r)) 4 fs xs))
+    enters = lays 𝓛 E κs qs (in_front (gone r)) 4 fs xs moved_in
 
-    pub leaves : Ghost 𝓛 E (laid 𝓛 E κs qs (in-front (full r)) 4 fs xs) (left 𝓛 E κs qs (in-front (full r)) 4 fs xs) (pass (laid 𝓛 E κs qs (in-front (full r)) 4 fs xs) (left 𝓛 E κs qs (in-front (full r)) 4 fs xs) (liftU κs (in-front (full r)) 4 fs xs))
-    leaves = lifts 𝓛 E κs qs (in-front (full r)) 4 fs xs moved_out
+    pub leaves : Ghost 𝓛 E (laid 𝓛 E κs qs (in_front (full r)) 4 fs xs) (left 𝓛 E κs qs (in_front (full r)) 4 fs xs) (pass (laid 𝓛 E κs qs (in_front (full r)) 4 fs xs) (left 𝓛 E κs qs (in_front (full r)) 4 fs xs) (liftU κs (in_front (full r)) 4 fs xs))
+    leaves = lifts 𝓛 E κs qs (in_front (full r)) 4 fs xs moved_out

@@ -102,17 +102,17 @@ module _ {c d o l : ℕ} (f : Further c d o l) where
     reads_in : (P R Y Z : SProp 𝓤) → ent 𝓤 P (sep 𝓤 R (wand 𝓤 R P)) → ent 𝓤 (sep 𝓤 P Y) Z → ent 𝓤 (sep 𝓤 R (sep 𝓤 (wand 𝓤 R P) Y)) Z
     reads_in P R Y Z acc k = via 𝓤 (sep 𝓤 P Y) (via 𝓤 (sep 𝓤 (sep 𝓤 R (wand 𝓤 R P)) Y) (assoc' 𝓤 R (wand 𝓤 R P) Y) (mono_l 𝓤 Y (apply∗ 𝓤 R P))) k
 
-    lent-beside : (P R Y Z : SProp 𝓤) → ent 𝓤 P (sep 𝓤 R (wand 𝓤 R P)) → ent 𝓤 (sep 𝓤 R (sep 𝓤 (wand 𝓤 R P) Y)) Z → ent 𝓤 (sep 𝓤 P Y) Z
-    lent-beside P R Y Z acc k = via 𝓤 (sep 𝓤 (sep 𝓤 R (wand 𝓤 R P)) Y) (mono_l 𝓤 Y acc) (via 𝓤 (sep 𝓤 R (sep 𝓤 (wand 𝓤 R P) Y)) (assoc∗ 𝓤 R (wand 𝓤 R P) Y) k)
+    lent_beside : (P R Y Z : SProp 𝓤) → ent 𝓤 P (sep 𝓤 R (wand 𝓤 R P)) → ent 𝓤 (sep 𝓤 R (sep 𝓤 (wand 𝓤 R P) Y)) Z → ent 𝓤 (sep 𝓤 P Y) Z
+    lent_beside P R Y Z acc k = via 𝓤 (sep 𝓤 (sep 𝓤 R (wand 𝓤 R P)) Y) (mono_l 𝓤 Y acc) (via 𝓤 (sep 𝓤 R (sep 𝓤 (wand 𝓤 R P) Y)) (assoc∗ 𝓤 R (wand 𝓤 R P) Y) k)
 
-    gathers-in : (P R S : SProp 𝓤) (G : Type 0) → ent 𝓤 P (sep 𝓤 R (wand 𝓤 R P)) → ent 𝓤 R (guard 𝓤 G (sep 𝓤 (sep 𝓤 (emp 𝓤) S) R)) → ent 𝓤 P (guard 𝓤 G (sep 𝓤 (sep 𝓤 (emp 𝓤) S) P))
-    gathers-in P R S G acc g =
+    gathers_in : (P R S : SProp 𝓤) (G : Type 0) → ent 𝓤 P (sep 𝓤 R (wand 𝓤 R P)) → ent 𝓤 R (guard 𝓤 G (sep 𝓤 (sep 𝓤 (emp 𝓤) S) R)) → ent 𝓤 P (guard 𝓤 G (sep 𝓤 (sep 𝓤 (emp 𝓤) S) P))
+    gathers_in P R S G acc g =
         qed 𝓛 (raw P ∷ []) {P = guard 𝓤 G (sep 𝓤 (sep 𝓤 (emp 𝓤) S) P)} (
         use1 𝓛 (raw R ⊛ raw (wand 𝓤 R P)) acc $ split ! $ use1 𝓛 (given G (raw (sep 𝓤 (emp 𝓤) S) ⊛ raw R)) g $ learn ! (λ e. check ! e $ split ! $
         move ! (1 ∷ 2 ∷ []) $ use2 𝓛 (raw P) (apply∗ 𝓤 R P) $ move ! (1 ∷ 0 ∷ []) $ done !))
 
-    pub handed-laws : Laws 𝓛 (up d l) handed-kind
-    handed-laws =
+    pub handed_laws : Laws 𝓛 (up d l) handed-kind
+    handed_laws =
         let law : Laws 𝓛 (up d l) f.there.is = f.there.laws M 𝓤 𝓛 in
         record {
           own_in = law.own_in;
@@ -126,17 +126,17 @@ module _ {c d o l : ℕ} (f : Further c d o l) where
           fits = law.fits;
           has_rest = λ E βs σ L a X h. h.1;
           reads = λ E ρ βs σ L a u X h Y K k.
-              lent-beside (own 𝓛 E ρ L u) (own 𝓛 E ρ ((a.loc, f.row) ∷ []) (a.part u, tt)) Y (eval_opd 𝓤 H E (copy (place a.loc [])) K) (h.0.0 ρ u)
+              lent_beside (own 𝓛 E ρ L u) (own 𝓛 E ρ ((a.loc, f.row) ∷ []) (a.part u, tt)) Y (eval_opd 𝓤 H E (copy (place a.loc [])) K) (h.0.0 ρ u)
               (f.reads M 𝓤 𝓛 E ρ βs h.0.2 a.loc (a.part u) h.0.1 (sep 𝓤 (wand 𝓤 (own 𝓛 E ρ ((a.loc, f.row) ∷ []) (a.part u, tt)) (own 𝓛 E ρ L u)) Y) K
               (reads_in (own 𝓛 E ρ L u) (own 𝓛 E ρ ((a.loc, f.row) ∷ []) (a.part u, tt)) Y _ (h.0.0 ρ u) k));
           gather = λ E ρ βs σ inc L a u X h.
-              gathers-in (own 𝓛 E ρ L u) (own 𝓛 E ρ ((a.loc, f.row) ∷ []) (a.part u, tt)) (sem 𝓛 (f.there.is.ownᵒ (κsOf (up d l) ρ βs) (f.hands (κsOf (up d l) ρ βs) (a.part u)))) (f.there.is.Good (κsOf (up d l) ρ βs) (f.hands (κsOf (up d l) ρ βs) (a.part u))) (h.0.0 ρ u)
+              gathers_in (own 𝓛 E ρ L u) (own 𝓛 E ρ ((a.loc, f.row) ∷ []) (a.part u, tt)) (sem 𝓛 (f.there.is.ownᵒ (κsOf (up d l) ρ βs) (f.hands (κsOf (up d l) ρ βs) (a.part u)))) (f.there.is.Good (κsOf (up d l) ρ βs) (f.hands (κsOf (up d l) ρ βs) (a.part u))) (h.0.0 ρ u)
               (f.gathers M 𝓤 𝓛 E ρ βs h.0.2 a.loc (a.part u) h.0.1);
           give = λ E ρ βs σ L a u X h e ft base acc. snd∗ 𝓤 (sep 𝓤 (emp 𝓤) (sem 𝓛 (f.there.is.leftᵒ (κsOf (up d l) ρ βs) (f.hands (κsOf (up d l) ρ βs) (a.part u)) e))) (own 𝓛 E ρ base acc);
         }
 
   abbrev pub handed : ParamKind (up d l)
-  handed = record { is = handed-kind; mir_is = f.there.mir_is; laws = λ M 𝓤 𝓛. handed-laws 𝓛 }
+  handed = record { is = handed-kind; mir_is = f.there.mir_is; laws = λ M 𝓤 𝓛. handed_laws 𝓛 }
 
 -- ---- a plain value
 abbrev pub value : {c d o l : ℕ} → Plain → Further c d o l

@@ -74,9 +74,9 @@ module _ {c d o l : ℕ} where
   names i [] L g = tt
   names i (f ∷ fs) L g = (record { loc = i; part = λ u. (g u).0 }, names (suc i) fs L (λ u. (g u).1))
 
-  pub ops-are : (i : ℕ) (fs : List (Further c d o l)) (L : List Entry) (g : St L → St (rows_from i (rows fs))) → ops_v (handeds fs) L (names i fs L g) ≡ ats i fs
-  ops-are i [] L g = refl
-  ops-are i (f ∷ fs) L g = ap (λ (os : List Opd). copy (place i []) ∷ os) (ops-are (suc i) fs L (λ u. (g u).1))
+  pub ops_are : (i : ℕ) (fs : List (Further c d o l)) (L : List Entry) (g : St L → St (rows_from i (rows fs))) → ops_v (handeds fs) L (names i fs L g) ≡ ats i fs
+  ops_are i [] L g = refl
+  ops_are i (f ∷ fs) L g = ap (λ (os : List Opd). copy (place i []) ∷ os) (ops_are (suc i) fs L (λ u. (g u).1))
 
   -- handing the arguments on changes nothing in the table
   pub still : (i : ℕ) (fs : List (Further c d o l)) (L : List Entry) (g : St L → St (rows_from i (rows fs))) (Y : Lfts (up d l) → St L → Type 0)
@@ -92,10 +92,10 @@ module _ {c d o l : ℕ} where
   shown κs i [] w = tt
   shown κs i (f ∷ fs) w = (f.sees κs (f.hands κs w.0), shown κs (suc i) fs w.1)
 
-  pub sees-shown : (κs : Lfts (up d l)) (i : ℕ) (fs : List (Further c d o l)) (L : List Entry) (g : St L → St (rows_from i (rows fs))) (u : St L)
+  pub sees_shown : (κs : Lfts (up d l)) (i : ℕ) (fs : List (Further c d o l)) (L : List Entry) (g : St L → St (rows_from i (rows fs))) (u : St L)
       → sees_all κs fs (args_v κs (handeds fs) L (names i fs L g) u) ≡ shown κs i fs (g u)
-  sees-shown κs i [] L g u = refl
-  sees-shown κs i (f ∷ fs) L g u = ap (λ (x : Vals fs). (f.sees κs (f.hands κs (g u).0), x)) (sees-shown κs (suc i) fs L (λ u. (g u).1) u)
+  sees_shown κs i [] L g u = refl
+  sees_shown κs i (f ∷ fs) L g u = ap (λ (x : Vals fs). (f.sees κs (f.hands κs (g u).0), x)) (sees_shown κs (suc i) fs L (λ u. (g u).1) u)
 
   module _ (κs : Lfts (up c l)) where
     abbrev pub restU : (i : ℕ) (fs : List (Further c d o l)) (xs : List Ty) → St (rows_from i (rows_in_p κs (heres fs) xs)) → St (rows_from (beyond i fs) (any_g xs))
@@ -110,11 +110,11 @@ module _ {c d o l : ℕ} where
     backU i [] xs v w = v
     backU i (f ∷ fs) xs v w = (f.leaves κs w.0, backU (suc i) fs xs v w.1)
 
-    pub shown-see : (κs' : Lfts (up d l)) (i : ℕ) (fs : List (Further c d o l)) (xs : List Ty) (a : Dens κs (heres fs)) → shown κs' i fs (tookU i fs xs (parts_p κs i (heres fs) xs a)) ≡ see-all κs fs a
-    shown-see κs' i [] xs a = refl
-    shown-see κs' i (f ∷ fs) xs a =
+    pub shown_see : (κs' : Lfts (up d l)) (i : ℕ) (fs : List (Further c d o l)) (xs : List Ty) (a : Dens κs (heres fs)) → shown κs' i fs (tookU i fs xs (parts_p κs i (heres fs) xs a)) ≡ see-all κs fs a
+    shown_see κs' i [] xs a = refl
+    shown_see κs' i (f ∷ fs) xs a =
         ap (λ (x : f.Den). (x, shown κs' (suc i) fs (tookU (suc i) fs xs (parts_p κs (suc i) (heres fs) xs a.1)))) (f.same κs κs' a.0)
-        ∙ ap (λ (x : Vals fs). (f.see κs a.0, x)) (shown-see κs' (suc i) fs xs a.1)
+        ∙ ap (λ (x : Vals fs). (f.see κs a.0, x)) (shown_see κs' (suc i) fs xs a.1)
 
     pub fixes : (i : ℕ) (fs : List (Further c d o l)) (xs : List Ty) (a : Dens κs (heres fs)) (v : St (rows_from (beyond i fs) (any_g xs)))
         → Fixs κs i (heres fs) xs a (backU i fs xs v (tookU i fs xs (parts_p κs i (heres fs) xs a)))
@@ -199,32 +199,32 @@ Spots 𝓤 H E i (f ∷ fs) = ((spot_of 𝓤 H E i).0 ≡ f.here.is.ty) × Spots
 module _ {M : Type 1} {𝓤 : Ura M} (𝓛 : Logic 𝓤) where
   open 𝓛 use {H}
 
-  pub spot-of : (E : Env 𝓤 H) (i : ℕ) (τ : Ty) (b : ℕ) (Es : Env 𝓤 H) → from i E ≡ ((τ, b) ∷ Es) → (spot_of 𝓤 H E i).0 ≡ τ
-  spot-of E i τ b Es e = ap (λ (p : Ty × ℕ). p.0) (get_from i E (no_local 𝓤 H) ∙ ap (hd' (no_local 𝓤 H)) e)
+  pub spot_of : (E : Env 𝓤 H) (i : ℕ) (τ : Ty) (b : ℕ) (Es : Env 𝓤 H) → from i E ≡ ((τ, b) ∷ Es) → (spot_of 𝓤 H E i).0 ≡ τ
+  spot_of E i τ b Es e = ap (λ (p : Ty × ℕ). p.0) (get_from i E (no_local 𝓤 H) ∙ ap (hd' (no_local 𝓤 H)) e)
 
   pub from_next : (E : Env 𝓤 H) (i : ℕ) (τ : Ty) (b : ℕ) (Es : Env 𝓤 H) → from i E ≡ ((τ, b) ∷ Es) → from (suc i) E ≡ Es
   from_next E i τ b Es e = from_suc i E ∙ ap tl' e
 
   pub spots : {c d o l : ℕ} (E : Env 𝓤 H) (i : ℕ) (fs : List (Further c d o l)) (xs : List Ty) (bs : List ℕ) → from i E ≡ EnvOf 𝓛 (tys_p (heres fs) xs) bs → Spots 𝓤 H E i fs
   spots E i [] xs bs e = tt
-  spots E i (f ∷ fs) xs bs e = (spot-of E i f.here.is.ty (hd 0 bs) _ e, spots E (suc i) fs xs (tl bs) (from_next E i f.here.is.ty (hd 0 bs) _ e))
+  spots E i (f ∷ fs) xs bs e = (spot_of E i f.here.is.ty (hd 0 bs) _ e, spots E (suc i) fs xs (tl bs) (from_next E i f.here.is.ty (hd 0 bs) _ e))
 
   abbrev pub tls : {c d o l : ℕ} → List (Further c d o l) → List ℕ → List ℕ
   tls [] bs = bs
   tls (f ∷ fs) bs = tls fs (tl bs)
 
-  pub after-them : {c d o l : ℕ} (E : Env 𝓤 H) (i : ℕ) (fs : List (Further c d o l)) (xs : List Ty) (bs : List ℕ) → from i E ≡ EnvOf 𝓛 (tys_p (heres fs) xs) bs → from (beyond i fs) E ≡ EnvOf 𝓛 xs (tls fs bs)
-  after-them E i [] xs bs e = e
-  after-them E i (f ∷ fs) xs bs e = after-them E (suc i) fs xs (tl bs) (from_next E i f.here.is.ty (hd 0 bs) _ e)
+  pub after_them : {c d o l : ℕ} (E : Env 𝓤 H) (i : ℕ) (fs : List (Further c d o l)) (xs : List Ty) (bs : List ℕ) → from i E ≡ EnvOf 𝓛 (tys_p (heres fs) xs) bs → from (beyond i fs) E ≡ EnvOf 𝓛 xs (tls fs bs)
+  after_them E i [] xs bs e = e
+  after_them E i (f ∷ fs) xs bs e = after_them E (suc i) fs xs (tl bs) (from_next E i f.here.is.ty (hd 0 bs) _ e)
 
   -- of which type the k-th local after them is
-  spot-at : (E : Env 𝓤 H) (k j : ℕ) (xs : List Ty) (bs : List ℕ) → from j E ≡ EnvOf 𝓛 xs bs → Nth k xs → (spot_of 𝓤 H E (up k j)).0 ≡ nth k xs
-  spot-at E k j [] bs e h = absurd (no_nth k h)
-  spot-at E zero j (τ ∷ xs) bs e h = spot-of E j τ (hd 0 bs) _ e
-  spot-at E (suc k) j (τ ∷ xs) bs e h = subst (λ (i : ℕ). (spot_of 𝓤 H E i).0 ≡ nth k xs) (up_suc k j) (spot-at E k (suc j) xs (tl bs) (from_next E j τ (hd 0 bs) _ e) h)
+  spot_at : (E : Env 𝓤 H) (k j : ℕ) (xs : List Ty) (bs : List ℕ) → from j E ≡ EnvOf 𝓛 xs bs → Nth k xs → (spot_of 𝓤 H E (up k j)).0 ≡ nth k xs
+  spot_at E k j [] bs e h = absurd (no_nth k h)
+  spot_at E zero j (τ ∷ xs) bs e h = spot_of E j τ (hd 0 bs) _ e
+  spot_at E (suc k) j (τ ∷ xs) bs e h = subst (λ (i : ℕ). (spot_of 𝓤 H E i).0 ≡ nth k xs) (up_suc k j) (spot_at E k (suc j) xs (tl bs) (from_next E j τ (hd 0 bs) _ e) h)
 
-  pub spot-free : {c d o l : ℕ} (E : Env 𝓤 H) (i : ℕ) (fs : List (Further c d o l)) (xs : List Ty) (bs : List ℕ) → from i E ≡ EnvOf 𝓛 (tys_p (heres fs) xs) bs → (k : ℕ) → Nth k xs → (spot_of 𝓤 H E (up k (beyond i fs))).0 ≡ nth k xs
-  spot-free E i fs xs bs e k h = spot-at E k (beyond i fs) xs (tls fs bs) (after-them E i fs xs bs e) h
+  pub spot_free : {c d o l : ℕ} (E : Env 𝓤 H) (i : ℕ) (fs : List (Further c d o l)) (xs : List Ty) (bs : List ℕ) → from i E ≡ EnvOf 𝓛 (tys_p (heres fs) xs) bs → (k : ℕ) → Nth k xs → (spot_of 𝓤 H E (up k (beyond i fs))).0 ≡ nth k xs
+  spot_free E i fs xs bs e k h = spot_at E k (beyond i fs) xs (tls fs bs) (after_them E i fs xs bs e) h
 
   -- ---- lending a part of a table
   to_part : (P R S : SProp 𝓤) → ent 𝓤 P (sep 𝓤 R (wand 𝓤 R P)) → ent 𝓤 R (sep 𝓤 S (wand 𝓤 S R)) → ent 𝓤 P (sep 𝓤 S (wand 𝓤 S P))
@@ -243,11 +243,11 @@ module _ {M : Type 1} {𝓤 : Ura M} (𝓛 : Logic 𝓤) where
       (mono_r 𝓤 (sep 𝓤 P (emp 𝓤)) (wand_i 𝓤 Q (sep 𝓤 P (emp 𝓤)) (sep 𝓤 P Q) (via 𝓤 (sep 𝓤 (sep 𝓤 P (emp 𝓤)) Q) (comm∗ 𝓤 Q (sep 𝓤 P (emp 𝓤))) (mono_l 𝓤 Q (fst∗ 𝓤 P (emp 𝓤))))))
 
   module _ (E : Env 𝓤 H) where
-    pub lends-past : (k : ℕ) (L : List Entry) → Lends 𝓛 E L (past k L) (past_u k L)
+    pub lends_past : (k : ℕ) (L : List Entry) → Lends 𝓛 E L (past k L) (past_u k L)
     unfolding own
-    lends-past zero L ρ u = whole_part (own 𝓛 E ρ L u)
-    lends-past (suc k) [] ρ u = whole_part (emp 𝓤)
-    lends-past (suc k) (e ∷ L) ρ u = under 𝓛 (mean 𝓛 (row_j 𝓛 E ρ e u.0)) (own 𝓛 E ρ L u.1) (own 𝓛 E ρ (past k L) (past_u k L u.1)) (lends-past k L ρ u.1)
+    lends_past zero L ρ u = whole_part (own 𝓛 E ρ L u)
+    lends_past (suc k) [] ρ u = whole_part (emp 𝓤)
+    lends_past (suc k) (e ∷ L) ρ u = under 𝓛 (mean 𝓛 (row_j 𝓛 E ρ e u.0)) (own 𝓛 E ρ L u.1) (own 𝓛 E ρ (past k L) (past_u k L u.1)) (lends_past k L ρ u.1)
 
     lends_first : (e : Entry) (L : List Entry) → Lends 𝓛 E (e ∷ L) (e ∷ []) (λ u. (u.0, tt))
     unfolding own
@@ -259,48 +259,48 @@ module _ {M : Type 1} {𝓤 : Ura M} (𝓛 : Logic 𝓤) where
     has_all βs σ i (f ∷ fs) L g l sp ok = (
       (λ ρ u. to_part (own 𝓛 E ρ L u) (own 𝓛 E ρ ((i, f.row) ∷ rows_from (suc i) (rows fs)) (g u)) (own 𝓛 E ρ ((i, f.row) ∷ []) ((g u).0, tt)) (l ρ u) (lends_first (i, f.row) (rows_from (suc i) (rows fs)) ρ (g u)), sp.0, ok),
       has_all βs σ (suc i) fs L (λ u. (g u).1)
-          (λ ρ u. to_part (own 𝓛 E ρ L u) (own 𝓛 E ρ ((i, f.row) ∷ rows_from (suc i) (rows fs)) (g u)) (own 𝓛 E ρ (rows_from (suc i) (rows fs)) (g u).1) (l ρ u) (lends-past 1 ((i, f.row) ∷ rows_from (suc i) (rows fs)) ρ (g u)))
+          (λ ρ u. to_part (own 𝓛 E ρ L u) (own 𝓛 E ρ ((i, f.row) ∷ rows_from (suc i) (rows fs)) (g u)) (own 𝓛 E ρ (rows_from (suc i) (rows fs)) (g u).1) (l ρ u) (lends_past 1 ((i, f.row) ∷ rows_from (suc i) (rows fs)) ρ (g u)))
           sp.1 ok,
     )
 
     -- ---- the table laid out anew
-    sep-own : (K L : List Entry) (ρ : Rho) (u : St K) (w : St L) → ent 𝓤 (sep 𝓤 (own 𝓛 E ρ K u) (own 𝓛 E ρ L w)) (own 𝓛 E ρ (before K L) (beside_u K L u w))
+    sep_own : (K L : List Entry) (ρ : Rho) (u : St K) (w : St L) → ent 𝓤 (sep 𝓤 (own 𝓛 E ρ K u) (own 𝓛 E ρ L w)) (own 𝓛 E ρ (before K L) (beside_u K L u w))
     unfolding own
-    sep-own [] L ρ u w = via 𝓤 (sep 𝓤 (own 𝓛 E ρ L w) (emp 𝓤)) (comm∗ 𝓤 (emp 𝓤) (own 𝓛 E ρ L w)) (fst∗ 𝓤 (own 𝓛 E ρ L w) (emp 𝓤))
-    sep-own (e ∷ K) L ρ u w =
+    sep_own [] L ρ u w = via 𝓤 (sep 𝓤 (own 𝓛 E ρ L w) (emp 𝓤)) (comm∗ 𝓤 (emp 𝓤) (own 𝓛 E ρ L w)) (fst∗ 𝓤 (own 𝓛 E ρ L w) (emp 𝓤))
+    sep_own (e ∷ K) L ρ u w =
         via 𝓤 (sep 𝓤 (mean 𝓛 (row_j 𝓛 E ρ e u.0)) (sep 𝓤 (own 𝓛 E ρ K u.1) (own 𝓛 E ρ L w))) (assoc∗ 𝓤 (mean 𝓛 (row_j 𝓛 E ρ e u.0)) (own 𝓛 E ρ K u.1) (own 𝓛 E ρ L w))
-        (mono_r 𝓤 (mean 𝓛 (row_j 𝓛 E ρ e u.0)) (sep-own K L ρ u.1 w))
+        (mono_r 𝓤 (mean 𝓛 (row_j 𝓛 E ρ e u.0)) (sep_own K L ρ u.1 w))
 
-    own-sep : (K L : List Entry) (ρ : Rho) (u : St (before K L)) → ent 𝓤 (own 𝓛 E ρ (before K L) u) (sep 𝓤 (own 𝓛 E ρ K (front_u K L u)) (own 𝓛 E ρ L (rear_u K L u)))
+    own_sep : (K L : List Entry) (ρ : Rho) (u : St (before K L)) → ent 𝓤 (own 𝓛 E ρ (before K L) u) (sep 𝓤 (own 𝓛 E ρ K (front_u K L u)) (own 𝓛 E ρ L (rear_u K L u)))
     unfolding own
-    own-sep [] L ρ u = emp∗ 𝓤 (own 𝓛 E ρ L u)
-    own-sep (e ∷ K) L ρ u =
-        via 𝓤 (sep 𝓤 (mean 𝓛 (row_j 𝓛 E ρ e u.0)) (sep 𝓤 (own 𝓛 E ρ K (front_u K L u.1)) (own 𝓛 E ρ L (rear_u K L u.1)))) (mono_r 𝓤 (mean 𝓛 (row_j 𝓛 E ρ e u.0)) (own-sep K L ρ u.1))
+    own_sep [] L ρ u = emp∗ 𝓤 (own 𝓛 E ρ L u)
+    own_sep (e ∷ K) L ρ u =
+        via 𝓤 (sep 𝓤 (mean 𝓛 (row_j 𝓛 E ρ e u.0)) (sep 𝓤 (own 𝓛 E ρ K (front_u K L u.1)) (own 𝓛 E ρ L (rear_u K L u.1)))) (mono_r 𝓤 (mean 𝓛 (row_j 𝓛 E ρ e u.0)) (own_sep K L ρ u.1))
         (assoc' 𝓤 (mean 𝓛 (row_j 𝓛 E ρ e u.0)) (own 𝓛 E ρ K (front_u K L u.1)) (own 𝓛 E ρ L (rear_u K L u.1)))
 
     swap : (P Q R : SProp 𝓤) → ent 𝓤 (sep 𝓤 P (sep 𝓤 Q R)) (sep 𝓤 Q (sep 𝓤 P R))
     swap P Q R = via 𝓤 (sep 𝓤 (sep 𝓤 P Q) R) (assoc' 𝓤 P Q R) (via 𝓤 (sep 𝓤 (sep 𝓤 Q P) R) (mono_l 𝓤 R (comm∗ 𝓤 P Q)) (assoc∗ 𝓤 Q P R))
 
     -- what is owned moves to another context
-    g-moves : (Γ Γ' : Cx) (η : Rho → Rho) (h : Mo Γ → Mo Γ') → ((ρ : Rho) (u : Mo Γ) → ent 𝓤 (own 𝓛 E ρ Γ.locals u) (own 𝓛 E (η ρ) Γ'.locals (h u)))
+    g_moves : (Γ Γ' : Cx) (η : Rho → Rho) (h : Mo Γ → Mo Γ') → ((ρ : Rho) (u : Mo Γ) → ent 𝓤 (own 𝓛 E ρ Γ.locals u) (own 𝓛 E (η ρ) Γ'.locals (h u)))
         → ((ρ : Rho) → ent 𝓤 (own_s 𝓛 ρ Γ.slots) (own_s 𝓛 (η ρ) Γ'.slots)) → Ghost 𝓛 E Γ Γ' (pass Γ Γ' h)
-    g-moves Γ Γ' η h e f =
+    g_moves Γ Γ' η h e f =
         record {
           go = λ Ψ ρ u p. via 𝓤 (sep 𝓤 (own 𝓛 E (η ρ) Γ'.locals (h u)) (own_s 𝓛 (η ρ) Γ'.slots)) (mono∗ 𝓤 (e ρ u) (f ρ))
               (via 𝓤 (holds 𝓛 E Γ' Ψ) (holds_i 𝓛 E Γ' Ψ (η ρ) (h u) p) (𝓛.laws.⇛_intro (holds 𝓛 E Γ' Ψ)));
         }
 
     -- a table whose first part keeps its entries and whose second part gets others
-    re-laid : (F K K' : List Entry) (η : Rho → Rho) (h : St K → St K') → ((ρ : Rho) (u : St F) → ent 𝓤 (own 𝓛 E ρ F u) (own 𝓛 E (η ρ) F u)) → ((ρ : Rho) (w : St K) → ent 𝓤 (own 𝓛 E ρ K w) (own 𝓛 E (η ρ) K' (h w)))
+    re_laid : (F K K' : List Entry) (η : Rho → Rho) (h : St K → St K') → ((ρ : Rho) (u : St F) → ent 𝓤 (own 𝓛 E ρ F u) (own 𝓛 E (η ρ) F u)) → ((ρ : Rho) (w : St K) → ent 𝓤 (own 𝓛 E ρ K w) (own 𝓛 E (η ρ) K' (h w)))
         → (ρ : Rho) (u : St (before F K)) → ent 𝓤 (own 𝓛 E ρ (before F K) u) (own 𝓛 E (η ρ) (before F K') (beside_u F K' (front_u F K u) (h (rear_u F K u))))
-    re-laid F K K' η h front rear ρ u =
-        via 𝓤 (sep 𝓤 (own 𝓛 E ρ F (front_u F K u)) (own 𝓛 E ρ K (rear_u F K u))) (own-sep F K ρ u)
-        (via 𝓤 (sep 𝓤 (own 𝓛 E (η ρ) F (front_u F K u)) (own 𝓛 E (η ρ) K' (h (rear_u F K u)))) (mono∗ 𝓤 (front ρ (front_u F K u)) (rear ρ (rear_u F K u))) (sep-own F K' (η ρ) (front_u F K u) (h (rear_u F K u))))
+    re_laid F K K' η h front rear ρ u =
+        via 𝓤 (sep 𝓤 (own 𝓛 E ρ F (front_u F K u)) (own 𝓛 E ρ K (rear_u F K u))) (own_sep F K ρ u)
+        (via 𝓤 (sep 𝓤 (own 𝓛 E (η ρ) F (front_u F K u)) (own 𝓛 E (η ρ) K' (h (rear_u F K u)))) (mono∗ 𝓤 (front ρ (front_u F K u)) (rear ρ (rear_u F K u))) (sep_own F K' (η ρ) (front_u F K u) (h (rear_u F K u))))
 
-    gone-anyhow : (ρ ρ' : Rho) (i : ℕ) (xs : List Ty) (u : St (rows_from i (any_g xs))) → ent 𝓤 (own 𝓛 E ρ (rows_from i (any_g xs)) u) (own 𝓛 E ρ' (rows_from i (any_g xs)) u)
+    gone_anyhow : (ρ ρ' : Rho) (i : ℕ) (xs : List Ty) (u : St (rows_from i (any_g xs))) → ent 𝓤 (own 𝓛 E ρ (rows_from i (any_g xs)) u) (own 𝓛 E ρ' (rows_from i (any_g xs)) u)
     unfolding own
-    gone-anyhow ρ ρ' i [] u = id⊢ 𝓤 (emp 𝓤)
-    gone-anyhow ρ ρ' i (τ ∷ xs) u = mono_r 𝓤 (mean 𝓛 (row_i 𝓛 ρ (any_gone τ) u.0 (spot_of 𝓤 H E i).1)) (gone-anyhow ρ ρ' (suc i) xs u.1)
+    gone_anyhow ρ ρ' i [] u = id⊢ 𝓤 (emp 𝓤)
+    gone_anyhow ρ ρ' i (τ ∷ xs) u = mono_r 𝓤 (mean 𝓛 (row_i 𝓛 ρ (any_gone τ) u.0 (spot_of 𝓤 H E i).1)) (gone_anyhow ρ ρ' (suc i) xs u.1)
 
     module _ {c d o l : ℕ} (κs : Lfts (up c l)) where
       took : (i : ℕ) (fs : List (Further c d o l)) (xs : List Ty) (ρ : Rho) (u : St (rows_from i (rows_in_p κs (heres fs) xs)))
@@ -308,7 +308,7 @@ module _ {M : Type 1} {𝓤 : Ura M} (𝓛 : Logic 𝓤) where
       unfolding own
       took i [] xs ρ u =
           let P : SProp 𝓤 = own 𝓛 E (ins c o ρ) (rows_from i (any_g xs)) u in
-          via 𝓤 P (gone-anyhow ρ (ins c o ρ) i xs u) (via 𝓤 (sep 𝓤 (emp 𝓤) P) (emp∗ 𝓤 P) (comm∗ 𝓤 (emp 𝓤) P))
+          via 𝓤 P (gone_anyhow ρ (ins c o ρ) i xs u) (via 𝓤 (sep 𝓤 (emp 𝓤) P) (emp∗ 𝓤 P) (comm∗ 𝓤 (emp 𝓤) P))
       took i (f ∷ fs) xs ρ u =
           let P : SProp 𝓤 = mean 𝓛 (row_i 𝓛 (ins c o ρ) f.row (f.takes κs u.0) (spot_of 𝓤 H E i).1) in
           let Q : SProp 𝓤 = own 𝓛 E (ins c o ρ) (rows_from (beyond (suc i) fs) (any_g xs)) (restU κs (suc i) fs xs u.1) in
@@ -318,7 +318,7 @@ module _ {M : Type 1} {𝓤 : Ura M} (𝓛 : Logic 𝓤) where
       given_back : (i : ℕ) (fs : List (Further c d o l)) (xs : List Ty) (ρ : Rho) (v : St (rows_from (beyond i fs) (any_g xs))) (w : St (rows_from i (rows fs)))
           → ent 𝓤 (sep 𝓤 (own 𝓛 E ρ (rows_from (beyond i fs) (any_g xs)) v) (own 𝓛 E ρ (rows_from i (rows fs)) w)) (own 𝓛 E (del c o ρ) (rows_from i (rows_ret_p κs (heres fs) xs)) (backU κs i fs xs v w))
       unfolding own
-      given_back i [] xs ρ v w = via 𝓤 (own 𝓛 E ρ (rows_from i (any_g xs)) v) (fst∗ 𝓤 (own 𝓛 E ρ (rows_from i (any_g xs)) v) (emp 𝓤)) (gone-anyhow ρ (del c o ρ) i xs v)
+      given_back i [] xs ρ v w = via 𝓤 (own 𝓛 E ρ (rows_from i (any_g xs)) v) (fst∗ 𝓤 (own 𝓛 E ρ (rows_from i (any_g xs)) v) (emp 𝓤)) (gone_anyhow ρ (del c o ρ) i xs v)
       given_back i (f ∷ fs) xs ρ v w =
           let P : SProp 𝓤 = mean 𝓛 (row_i 𝓛 ρ f.row w.0 (spot_of 𝓤 H E i).1) in
           let Q : SProp 𝓤 = own 𝓛 E ρ (rows_from (beyond (suc i) fs) (any_g xs)) v in
@@ -341,16 +341,16 @@ module _ {M : Type 1} {𝓤 : Ura M} (𝓛 : Logic 𝓤) where
 
         pub lays : ((ρ : Rho) (u : St F) → ent 𝓤 (own 𝓛 E ρ F u) (own 𝓛 E (ins c o ρ) F u)) → Ghost 𝓛 E entered laid (pass entered laid (layU κs F i fs xs))
         lays front =
-            g-moves entered laid (ins c o) (layU κs F i fs xs)
-            (re-laid F (rows_from i (rows_in_p κs (heres fs) xs)) (before Fr (rows_from i (rows fs))) (ins c o) (λ w. beside_u Fr (rows_from i (rows fs)) (restU κs i fs xs w) (tookU κs i fs xs w)) front
-            (λ ρ w. via 𝓤 (sep 𝓤 (own 𝓛 E (ins c o ρ) Fr (restU κs i fs xs w)) (own 𝓛 E (ins c o ρ) (rows_from i (rows fs)) (tookU κs i fs xs w))) (took i fs xs ρ w) (sep-own Fr (rows_from i (rows fs)) (ins c o ρ) (restU κs i fs xs w) (tookU κs i fs xs w))))
+            g_moves entered laid (ins c o) (layU κs F i fs xs)
+            (re_laid F (rows_from i (rows_in_p κs (heres fs) xs)) (before Fr (rows_from i (rows fs))) (ins c o) (λ w. beside_u Fr (rows_from i (rows fs)) (restU κs i fs xs w) (tookU κs i fs xs w)) front
+            (λ ρ w. via 𝓤 (sep 𝓤 (own 𝓛 E (ins c o ρ) Fr (restU κs i fs xs w)) (own 𝓛 E (ins c o ρ) (rows_from i (rows fs)) (tookU κs i fs xs w))) (took i fs xs ρ w) (sep_own Fr (rows_from i (rows fs)) (ins c o ρ) (restU κs i fs xs w) (tookU κs i fs xs w))))
             (opens 𝓛 c o l κs qs)
 
         pub lifts : ((ρ : Rho) (u : St F) → ent 𝓤 (own 𝓛 E ρ F u) (own 𝓛 E (del c o ρ) F u)) → Ghost 𝓛 E laid left (pass laid left (liftU κs F i fs xs))
         lifts front =
-            g-moves laid left (del c o) (liftU κs F i fs xs)
-            (re-laid F (before Fr (rows_from i (rows fs))) (rows_from i (rows_ret_p κs (heres fs) xs)) (del c o) (λ w. backU κs i fs xs (front_u Fr (rows_from i (rows fs)) w) (rear_u Fr (rows_from i (rows fs)) w)) front
-            (λ ρ w. via 𝓤 (sep 𝓤 (own 𝓛 E ρ Fr (front_u Fr (rows_from i (rows fs)) w)) (own 𝓛 E ρ (rows_from i (rows fs)) (rear_u Fr (rows_from i (rows fs)) w))) (own-sep Fr (rows_from i (rows fs)) ρ w) (given_back i fs xs ρ (front_u Fr (rows_from i (rows fs)) w) (rear_u Fr (rows_from i (rows fs)) w))))
+            g_moves laid left (del c o) (liftU κs F i fs xs)
+            (re_laid F (before Fr (rows_from i (rows fs))) (rows_from i (rows_ret_p κs (heres fs) xs)) (del c o) (λ w. backU κs i fs xs (front_u Fr (rows_from i (rows fs)) w) (rear_u Fr (rows_from i (rows fs)) w)) front
+            (λ ρ w. via 𝓤 (sep 𝓤 (own 𝓛 E ρ Fr (front_u Fr (rows_from i (rows fs)) w)) (own 𝓛 E ρ (rows_from i (rows fs)) (rear_u Fr (rows_from i (rows fs)) w))) (own_sep Fr (rows_from i (rows fs)) ρ w) (given_back i fs xs ρ (front_u Fr (rows_from i (rows fs)) w) (rear_u Fr (rows_from i (rows fs)) w))))
             (shuts 𝓛 c o l κs qs)
 
 -- ---- the rule of a call: first arguments ks of any kinds, then the further ones
@@ -367,9 +367,9 @@ module _ {c d o l : ℕ} (fs : List (Further c d o l)) (i : ℕ) where
   ops-then [] L af os = os
   ops-then (k ∷ ks) L af os = k.is.op L af.0 ∷ ops-then ks (k.is.outs L af.0) af.1 os
 
-  all-ops : (ks : List (ParamKind (up d l))) (L : List Entry) (af : ArgsT ks L) (g : St (outs_m ks L af) → St (rows_from i (rows fs))) → ops_v (all-args ks) L (all-names ks L af g) ≡ ops-then ks L af (ats i fs)
-  all-ops [] L af g = ops-are i fs L g
-  all-ops (k ∷ ks) L af g = ap (λ (os : List Opd). k.is.op L af.0 ∷ os) (all-ops ks (k.is.outs L af.0) af.1 g)
+  all_ops : (ks : List (ParamKind (up d l))) (L : List Entry) (af : ArgsT ks L) (g : St (outs_m ks L af) → St (rows_from i (rows fs))) → ops_v (all-args ks) L (all-names ks L af g) ≡ ops-then ks L af (ats i fs)
+  all_ops [] L af g = ops_are i fs L g
+  all_ops (k ∷ ks) L af g = ap (λ (os : List Opd). k.is.op L af.0 ∷ os) (all_ops ks (k.is.outs L af.0) af.1 g)
 
   abbrev Lefts : (ks : List (ParamKind (up d l))) (L : List Entry) (af : ArgsT ks L) → (St (outs_m ks L af) → St (rows_from i (rows fs))) → Lfts (up d l) → St L → Type 0
   Lefts ks L af g κs u = Fins κs (slots (all-args ks)) (kepts (all-args ks)) (args_v κs (all-args ks) L (all-names ks L af g) u)
@@ -378,13 +378,13 @@ module _ {c d o l : ℕ} (fs : List (Further c d o l)) (i : ℕ) where
   first-left [] L af g κs u ws = tt
   first-left (k ∷ ks) L af g κs u ws = (ws.0, first-left ks (k.is.outs L af.0) af.1 g κs (k.is.out_u L af.0 u) ws.1)
 
-  all-still : (ks : List (ParamKind (up d l))) (L : List Entry) (af : ArgsT ks L) (g : St (outs_m ks L af) → St (rows_from i (rows fs)))
+  all_still : (ks : List (ParamKind (up d l))) (L : List Entry) (af : ArgsT ks L) (g : St (outs_m ks L af) → St (rows_from i (rows fs)))
       (C : (L' : List Entry) → (St L → St L') → (B : List Entry → List Entry) → ((κs : Lfts (up d l)) (u : St L) → Lefts ks L af g κs u → (base : List Entry) → St base → St (B base)) → Type 2)
       → C (outs_m ks L af) (outs_u ks L af) (back_m ks L af) (λ κs u ws base acc. upd_m κs ks L af u (first-left ks L af g κs u ws) base acc)
       → C (outs_m (all-args ks) L (all-names ks L af g)) (outs_u (all-args ks) L (all-names ks L af g)) (back_m (all-args ks) L (all-names ks L af g)) (λ κs u ws base acc. upd_m κs (all-args ks) L (all-names ks L af g) u ws base acc)
-  all-still [] L af g C c = still i fs L g (λ κs u. Lefts [] L af g κs u) (λ κs u ws. ws) C c
-  all-still (k ∷ ks) L af g C c =
-      all-still ks (k.is.outs L af.0) af.1 g
+  all_still [] L af g C c = still i fs L g (λ κs u. Lefts [] L af g κs u) (λ κs u ws. ws) C c
+  all_still (k ∷ ks) L af g C c =
+      all_still ks (k.is.outs L af.0) af.1 g
       (λ L' U B X. C L' (λ u. U (k.is.out_u L af.0 u)) (λ base. k.is.back L af.0 (B base))
       (λ κs u ws base acc. k.is.upd κs L af.0 u ws.0 (B base) (X κs (k.is.out_u L af.0 u) ws.1 base acc))) c
 
@@ -426,10 +426,10 @@ module _ {c d o l : ℕ} (fs : List (Further c d o l)) (i : ℕ) where
       abbrev Wanted : List Opd → Type 2
       Wanted os = Goes os L₂ (outs_u ks Γ.locals af) (back_m ks Γ.locals af) made
 
-      pub t-call-further : Known 𝓛 𝓣 (up d l) (all-args ks) r (λ κs a. Unit {0}) Q k → (σ : ℕ → ℕ → ℕ) → SubOk 𝓛 σ Γ.slots → Has 𝓛 E (up d l) βs σ (all-args ks) Γ.locals ar → HasH (up d l) βs Γ.slots → Wanted (ops-then ks Γ.locals af (ats i fs))
-      t-call-further known σ sb ha ht =
-          subst Wanted (all-ops ks Γ.locals af g)
-          (all-still ks Γ.locals af g (λ L' U B X. Goes (ops_v (all-args ks) Γ.locals ar) L' U B X → Wanted (ops_v (all-args ks) Γ.locals ar)) (λ s. s)
+      pub t_call_further : Known 𝓛 𝓣 (up d l) (all-args ks) r (λ κs a. Unit {0}) Q k → (σ : ℕ → ℕ → ℕ) → SubOk 𝓛 σ Γ.slots → Has 𝓛 E (up d l) βs σ (all-args ks) Γ.locals ar → HasH (up d l) βs Γ.slots → Wanted (ops-then ks Γ.locals af (ats i fs))
+      t_call_further known σ sb ha ht =
+          subst Wanted (all_ops ks Γ.locals af g)
+          (all_still ks Γ.locals af g (λ L' U B X. Goes (ops_v (all-args ks) Γ.locals ar) L' U B X → Wanted (ops_v (all-args ks) Γ.locals ar)) (λ s. s)
           (λ tr de. t_call_plain 𝓛 𝓣 (up d l) (all-args ks) r (λ κs a. Unit {0}) Q k known E σ Γ ar nd βs sb ha tr ht de))
 
 -- the same where the further arguments' rows are those of the table from the n-th on, once the first arguments have gone out: `as_rows` and `as_lent` say so, by computation
@@ -444,8 +444,8 @@ module _ {c d o l : ℕ} (fs : List (Further c d o l)) (i n : ℕ) (ks : List (P
   module _ {M : Type 1} {𝓤 : Ura M} (𝓛 : Logic 𝓤) (𝓣 : Tables 𝓤 𝓛.H) (k : Name) (E : Env 𝓤 𝓛.H) where
     open 𝓛 use {H}
 
-    pub t-hands : Known 𝓛 𝓣 (up d l) (all-args fs i ks) r (λ κs a. Unit {0}) Q k → (Lends 𝓛 E L (past n L) (past_u n L) → Lends 𝓛 E L (rows_from i (rows fs)) them) → Spots 𝓤 H E i fs → HandsOn c d o l βs
+    pub t_hands : Known 𝓛 𝓣 (up d l) (all-args fs i ks) r (λ κs a. Unit {0}) Q k → (Lends 𝓛 E L (past n L) (past_u n L) → Lends 𝓛 E L (rows_from i (rows fs)) them) → Spots 𝓤 H E i fs → HandsOn c d o l βs
         → (Has 𝓛 E (up d l) βs (λ pos β. β) (handeds fs) L (names i fs L them) → Has 𝓛 E (up d l) βs (λ pos β. β) (all-args fs i ks) Γ.locals (all-names fs i ks Γ.locals af them))
         → HasH (up d l) βs Γ.slots → Wanted fs i ks r Q Γ af them nd βs 𝓛 𝓣 k E (ops-then fs i ks Γ.locals af (ats i fs))
-    t-hands known as_lent sp ok first ht =
-        t-call-further fs i ks r Q Γ af them nd βs 𝓛 𝓣 k E known (λ pos β. β) (sub_id 𝓛 Γ.slots) (first (has_all 𝓛 E βs (λ pos β. β) i fs L them (as_lent (lends-past 𝓛 E n L)) sp ok)) ht
+    t_hands known as_lent sp ok first ht =
+        t_call_further fs i ks r Q Γ af them nd βs 𝓛 𝓣 k E known (λ pos β. β) (sub_id 𝓛 Γ.slots) (first (has_all 𝓛 E βs (λ pos β. β) i fs L them (as_lent (lends_past 𝓛 E n L)) sp ok)) ht

@@ -17,7 +17,7 @@ use borrow.Fn.Kinds.{Dens}
 use Rattle.lent.proofs.Rules.{◌≡◌, refl, List, [], ◌∷◌, ℕ, Ura, Ty, Body, mut, erased, seq, assign, place, field, deref, addr_of, aggregate, copy, Env, Lfts, Shares, RattleType, now, slice_ty, Row, p_shr_s, p_mut_s, EnvOf, tys_p, ParamKind, Out, ty_r, ScanEntry, byte, entry, pointer, at}
 use Rattle.lent.proofs.Plain.{Plain, full, gone, arg, res}
 use Rattle.lent.proofs.Further.{Further}
-use Rattle.lent.proofs.Hands.{heres, beyond, Spots, spots, spot-free, nth, Nth, entered, laid, left, layU, liftU, lays, lifts}
+use Rattle.lent.proofs.Hands.{heres, beyond, Spots, spots, spot_free, nth, Nth, entered, laid, left, layU, liftU, lays, lifts}
 use Rattle.lent.proofs.Tokens.{up, ins, del}
 
 pub data Access : Type 0 where
@@ -75,14 +75,14 @@ module _ {d o l : ℕ} (m q : Access) (r : Plain) (fs : List (Further 2 d o l)) 
   here = refl
 
   pub spot : (k : ℕ) → Nth k xs → (spot_of 𝓤 H E (local fs k)).0 ≡ nth k xs
-  spot = spot-free 𝓛 E 3 fs xs (tl (tl (tl bs))) here
+  spot = spot_free 𝓛 E 3 fs xs (tl (tl (tl bs))) here
 
-  pub further-spots : Spots 𝓤 H E 3 fs
-  further-spots = spots 𝓛 E 3 fs xs (tl (tl (tl bs))) here
+  pub further_spots : Spots 𝓤 H E 3 fs
+  further_spots = spots 𝓛 E 3 fs xs (tl (tl (tl bs))) here
 
   module _ (κs : Lfts (up 2 l)) (qs : Shares (up 2 l)) where
-    abbrev in-front : Row → List Entry
-    in-front = front l m q κs
+    abbrev in_front : Row → List Entry
+    in_front = front l m q κs
 
     moved_in : (m q : Access) (ρ : Rho) (u : St (front l m q κs (gone r))) → ent 𝓤 (own 𝓛 E ρ (front l m q κs (gone r)) u) (own 𝓛 E (ins 2 o ρ) (front l m q κs (gone r)) u)
     unfolding own
@@ -98,8 +98,8 @@ module _ {d o l : ℕ} (m q : Access) (r : Plain) (fs : List (Further 2 d o l)) 
     moved_out reads writes ρ u = id⊢ 𝓤 _
     moved_out writes writes ρ u = id⊢ 𝓤 _
 
-    pub enters : Ghost 𝓛 E (entered 𝓛 E κs qs (in-front (gone r)) 3 fs xs) (laid 𝓛 E κs qs (in-front (gone r)) 3 fs xs) (pass (entered 𝓛 E κs qs (in-front (gone r)) 3 fs xs) (laid 𝓛 E κs qs (in-front (gone r)) 3 fs xs) (layU κs (in-front (gone r)) 3 fs xs))
-    enters = lays 𝓛 E κs qs (in-front (gone r)) 3 fs xs (moved_in m q)
+    pub enters : Ghost 𝓛 E (entered 𝓛 E κs qs (in_front (gone r)) 3 fs xs) (laid 𝓛 E κs qs (in_front (gone r)) 3 fs xs) (pass (entered 𝓛 E κs qs (in_front (gone r)) 3 fs xs) (laid 𝓛 E κs qs (in_front (gone r)) 3 fs xs) (layU κs (in_front (gone r)) 3 fs xs))
+    enters = lays 𝓛 E κs qs (in_front (gone r)) 3 fs xs (moved_in m q)
 
-    pub leaves : Ghost 𝓛 E (laid 𝓛 E κs qs (in-front (full r)) 3 fs xs) (left 𝓛 E κs qs (in-front (full r)) 3 fs xs) (pass (laid 𝓛 E κs qs (in-front (full r)) 3 fs xs) (left 𝓛 E κs qs (in-front (full r)) 3 fs xs) (liftU κs (in-front (full r)) 3 fs xs))
-    leaves = lifts 𝓛 E κs qs (in-front (full r)) 3 fs xs (moved_out m q)
+    pub leaves : Ghost 𝓛 E (laid 𝓛 E κs qs (in_front (full r)) 3 fs xs) (left 𝓛 E κs qs (in_front (full r)) 3 fs xs) (pass (laid 𝓛 E κs qs (in_front (full r)) 3 fs xs) (left 𝓛 E κs qs (in_front (full r)) 3 fs xs) (liftU κs (in_front (full r)) 3 fs xs))
+    leaves = lifts 𝓛 E κs qs (in_front (full r)) 3 fs xs (moved_out m q)

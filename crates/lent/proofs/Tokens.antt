@@ -91,25 +91,25 @@ opened zero o l κs qs = offs_then o (leases l κs qs 0)
 opened (suc c) o l κs qs = lease κs.0 qs.0 ∷ opened c o l κs.1 qs.1
 
 module _ {M : Type 1} {𝓤 : Ura M} (𝓛 : Logic 𝓤) where
-  offs-in : (o : ℕ) (ρ : Rho) (S : List Life) → ent 𝓤 (own_s 𝓛 ρ S) (own_s 𝓛 (pads o ρ) (offs_then o S))
+  offs_in : (o : ℕ) (ρ : Rho) (S : List Life) → ent 𝓤 (own_s 𝓛 ρ S) (own_s 𝓛 (pads o ρ) (offs_then o S))
   unfolding own_s
-  offs-in zero ρ S = id⊢ 𝓤 (own_s 𝓛 ρ S)
-  offs-in (suc o) ρ S = via 𝓤 (own_s 𝓛 (pads o ρ) (offs_then o S)) (offs-in o ρ S) (emp∗ 𝓤 (own_s 𝓛 (pads o ρ) (offs_then o S)))
+  offs_in zero ρ S = id⊢ 𝓤 (own_s 𝓛 ρ S)
+  offs_in (suc o) ρ S = via 𝓤 (own_s 𝓛 (pads o ρ) (offs_then o S)) (offs_in o ρ S) (emp∗ 𝓤 (own_s 𝓛 (pads o ρ) (offs_then o S)))
 
-  offs-out : (o : ℕ) (ρ : Rho) (S : List Life) → ent 𝓤 (own_s 𝓛 ρ (offs_then o S)) (own_s 𝓛 (drops o ρ) S)
+  offs_out : (o : ℕ) (ρ : Rho) (S : List Life) → ent 𝓤 (own_s 𝓛 ρ (offs_then o S)) (own_s 𝓛 (drops o ρ) S)
   unfolding own_s
-  offs-out zero ρ S = id⊢ 𝓤 (own_s 𝓛 ρ S)
-  offs-out (suc o) ρ S =
-      via 𝓤 (own_s 𝓛 (tl ρ) (offs_then o S)) (via 𝓤 (sep 𝓤 (own_s 𝓛 (tl ρ) (offs_then o S)) (emp 𝓤)) (comm∗ 𝓤 (emp 𝓤) (own_s 𝓛 (tl ρ) (offs_then o S))) (fst∗ 𝓤 (own_s 𝓛 (tl ρ) (offs_then o S)) (emp 𝓤))) (offs-out o (tl ρ) S)
+  offs_out zero ρ S = id⊢ 𝓤 (own_s 𝓛 ρ S)
+  offs_out (suc o) ρ S =
+      via 𝓤 (own_s 𝓛 (tl ρ) (offs_then o S)) (via 𝓤 (sep 𝓤 (own_s 𝓛 (tl ρ) (offs_then o S)) (emp 𝓤)) (comm∗ 𝓤 (emp 𝓤) (own_s 𝓛 (tl ρ) (offs_then o S))) (fst∗ 𝓤 (own_s 𝓛 (tl ρ) (offs_then o S)) (emp 𝓤))) (offs_out o (tl ρ) S)
 
   pub opens : (c o l : ℕ) (κs : Lfts (up c l)) (qs : Shares (up c l)) (ρ : Rho) → ent 𝓤 (own_s 𝓛 ρ (leases (up c l) κs qs 0)) (own_s 𝓛 (ins c o ρ) (opened c o l κs qs))
   unfolding own_s
-  opens zero o l κs qs ρ = offs-in o ρ (leases l κs qs 0)
+  opens zero o l κs qs ρ = offs_in o ρ (leases l κs qs 0)
   opens (suc c) o l κs qs ρ = mono_r 𝓤 (mean 𝓛 (life_i 𝓛 (hd [] ρ) (lease κs.0 qs.0))) (opens c o l κs.1 qs.1 (tl ρ))
 
   pub shuts : (c o l : ℕ) (κs : Lfts (up c l)) (qs : Shares (up c l)) (ρ : Rho) → ent 𝓤 (own_s 𝓛 ρ (opened c o l κs qs)) (own_s 𝓛 (del c o ρ) (leases (up c l) κs qs 0))
   unfolding own_s
-  shuts zero o l κs qs ρ = offs-out o ρ (leases l κs qs 0)
+  shuts zero o l κs qs ρ = offs_out o ρ (leases l κs qs 0)
   shuts (suc c) o l κs qs ρ = mono_r 𝓤 (mean 𝓛 (life_i 𝓛 (hd [] ρ) (lease κs.0 qs.0))) (shuts c o l κs.1 qs.1 (tl ρ))
 
 -- ---- l slots from i on, handed to a core after d others
@@ -122,11 +122,11 @@ HandsOn c d o l βs = drops d βs ≡ ups (up c o) l
 
 rd_ups : (s l i : ℕ) → Within l i → rd 0 i (ups s l) ≡ up s i
 rd_ups s zero i w = absurd w
-rd_ups s (suc l) zero w = up-zero s
+rd_ups s (suc l) zero w = up_zero s
   where
-    up-zero : (s : ℕ) → s ≡ up s zero
-    up-zero zero = refl
-    up-zero (suc s) = ap suc (up-zero s)
+    up_zero : (s : ℕ) → s ≡ up s zero
+    up_zero zero = refl
+    up_zero (suc s) = ap suc (up_zero s)
 rd_ups s (suc l) (suc i) w = rd_ups (suc s) l i w ∙ sym (up_suc s i)
 
 pub hands_rd : (c d o l i : ℕ) (βs : List ℕ) → HandsOn c d o l βs → Within l i → rd 0 (up d i) βs ≡ up c (up o i)

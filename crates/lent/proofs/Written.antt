@@ -94,8 +94,8 @@ module _ (n : ℕ) (ps : List (ParamKind n)) (r : ResultKind n) where
     abbrev pub Meets : World → Routine → Type 1
     Meets w ρ = Written.Holds n ps r (Unit {0}) free ens w (w.𝓡.run ρ)
 
-    pub known-free : (w : World) (γ : Env) (k : Name) (ρ : Routine) → γ k ≡ ρ → Meets w ρ → Knows w γ k
-    known-free w γ k ρ same met =
+    pub known_free : (w : World) (γ : Env) (k : Name) (ρ : Routine) → γ k ≡ ρ → Meets w ρ → Knows w γ k
+    known_free w γ k ρ same met =
         Written.cited n ps r (Unit {0}) free ens rq-free Pins Owns en w γ k ρ same (λ κs a. tt) (λ κs a. id⊢ w.𝓤 (emp w.𝓤)) (λ κs a z ws ft p. tt) (λ κs. no_pins (S n ps r [] 0) κs w) met
 
     -- xs: the locals after the parameters; loans: how many times it lends; b: its code

@@ -25,37 +25,37 @@ use Rattle.model.specs.Calls.{read_at_tests_in, tests_in}
 use Rattle.model.specs.Reading.{reader, snapshot_of, read_in, read_current, keeper_in, scan_page, sum_in}
 use Rattle.model.specs.declared.Reader.{Reader}
 use Rattle.model.specs.Preconditions.{shape_in, OpenAt}
-use Rattle.rows.proofs.Indices.{row-in}
+use Rattle.rows.proofs.Indices.{row_in_lem}
 use Rattle.admission.specs.declared.Tested.{Tested}
 use Rattle.admission.specs.Admitted.{Fitted}
 use Rattle.admission.specs.Given.{range_given, ScanAt}
 use Rattle.admission.specs.Tested.{Says, Finds, IfPassed, Tests}
 use Rattle.admission.proofs.Served.{found, if_passed}
 use Rattle.admission.proofs.Decided.{row_below, column_below}
-use Rattle.admission.proofs.Scans.{in_table, scan-stamp, scan_merges, scan_commits, scan-number}
+use Rattle.admission.proofs.Scans.{in_table, scan_stamp, scan_merges, scan_commits, scan_number}
 use Rattle.lookups.specs.Lookups.{row_tests, CellThere, IsScan}
 
 pub cell_there : (s : Sizes) (m : List ℕ) (r c g : ℕ) (f : Found) (b : Bool) → Fitted s m → f ≡ range_given (view_of s m) r → f ≡ Found.At g
     → b ≡ no_column (shape_in s) c → b ≡ false → CellThere s (view_of s m) r c
 cell_there s m r c g f b w e q h k =
     let l = row_below (view_of s m) r f e g q in
-    record { given = l; range_below = (row-in s w.proper (view_of s m) w.linked r l).1; column_below = column_below s c b h k }
+    record { given = l; range_below = (row_in_lem s w.proper (view_of s m) w.linked r l).1; column_below = column_below s c b h k }
 
 -- ---- what the tests found, as the functions that read ask for it
 module _ (d : Tested) (j : ℕ) (s : Sizes) (v : View) (r c : ℕ) (p : d ≡ Tested.Passed j) (h : IfPassed d (CellThere s v r c)) where
-  pub cell-handed-on : CellThere s v r c
-  cell-handed-on = if_passed d (CellThere s v r c) j p h
+  pub cell_handed_on : CellThere s v r c
+  cell_handed_on = if_passed d (CellThere s v r c) j p h
 
-  pub column-inside : c < s.columns
-  column-inside = cell-handed-on.column_below
+  pub column_inside : c < s.columns
+  column_inside = cell_handed_on.column_below
 
   pub row_inside : r < rows_given v
-  row_inside = cell-handed-on.given
+  row_inside = cell_handed_on.given
 
   pub range_inside : (g : ℕ) → g ≡ range_of r → g < s.ranges
-  range_inside g e = rw e cell-handed-on.range_below
+  range_inside g e = rw e cell_handed_on.range_below
 
-pub ruleset cell-inside = (column-inside, row_inside, range_inside)
+pub ruleset cell-inside = (column_inside, row_inside, range_inside)
 
 -- the tests of latest are those of a row and a column
 pub latest_tests : (s : Sizes) (m : List ℕ) (r c : ℕ) (d : Tested) → Says d (verdict (row_tests (shape_in s) (view_of s m) r c)) → Tests s m (Call.latest r c) d
@@ -77,8 +77,8 @@ pub is_scan_lem : (t : Scans) (k j x y z : ℕ) → x ≡ get_or t.stamps j 0 �
 unfolding IsScan
 is_scan_lem t k j x y z p q r = λ e ps same few.
     let f = in_table t ps same k (Found.At j) e in
-    let a : k ≡ (scan_entry ps k).number = scan-number k ps few j f in
-    let b : x ≡ (scan_entry ps k).stamp = p ∙ ap (λ (u : Scans). get_or u.stamps j 0) same ∙ scan-stamp k ps few j f in
+    let a : k ≡ (scan_entry ps k).number = scan_number k ps few j f in
+    let b : x ≡ (scan_entry ps k).stamp = p ∙ ap (λ (u : Scans). get_or u.stamps j 0) same ∙ scan_stamp k ps few j f in
     let d : y ≡ (scan_entry ps k).merges = q ∙ ap (λ (u : Scans). get_or u.merges j 0) same ∙ scan_merges k ps few j f in
     let g : z ≡ (scan_entry ps k).commits = r ∙ ap (λ (u : Scans). get_or u.commits j 0) same ∙ scan_commits k ps few j f in
     whole k x y z (scan_entry ps k) a b d g
@@ -94,12 +94,12 @@ module _ (d : Tested) (t : Scans) (k j : ℕ) (p : ScanEntry) (n : IsScan t k j 
   unfolding IsScan
   same = n (found d (ScanAt t k) j x y).found ps q few
 
-  pub sum-scanned : a ≡ sum_in S v p c → a ≡ sum_in S v (scan_entry ps k) c
-  sum-scanned h = rw same at h
+  pub sum_scanned : a ≡ sum_in S v p c → a ≡ sum_in S v (scan_entry ps k) c
+  sum_scanned h = rw same at h
 
-  pub cell-scanned : (r g w : ℕ) → w ≡ scan_page S v p.merges g c → g ≡ range_of r → (who : Reader) → who ≡ reader (snapshot_of p) 0 → a ≡ read_in S v who w r c
+  pub cell_scanned : (r g w : ℕ) → w ≡ scan_page S v p.merges g c → g ≡ range_of r → (who : Reader) → who ≡ reader (snapshot_of p) 0 → a ≡ read_in S v who w r c
       → a ≡ read_in S v (reader (snapshot_of (scan_entry ps k)) 0) (scan_page S v (scan_entry ps k).merges (range_of r) c) r c
-  cell-scanned r g w e f who q h = h ∙ rw (q, e, f, same)
+  cell_scanned r g w e f who q h = h ∙ rw (q, e, f, same)
 
 -- ---- what the calls answer, by what they read
 pub reader_answer : (S : Shape) (v : View) (a : Answer) (who : Reader) (t : Snapshot) (m r c : ℕ) → who ≡ reader t m → a ≡ read_current S v who r c → a ≡ read_current S v (reader t m) r c
@@ -112,13 +112,13 @@ pub index_open : (d : Tested) (v : View) (t j : ℕ) → d ≡ Tested.Passed j �
 index_open d v t j p q = (found d (OpenAt v t) j p q).found
 
 module _ (S : Shape) (v : View) (d : Tested) (g k c p : ℕ) (x : d ≡ Tested.Passed g) (y : Finds d (λ i. i ≡ k)) (e : p ≡ current_in S v g c) where
-  page-is : p ≡ current_in S v k c
-  page-is = rw (found d (λ i. i ≡ k) g x y) at e
+  page_is : p ≡ current_in S v k c
+  page_is = rw (found d (λ i. i ≡ k) g x y) at e
 
-  pub lineage-answer : (a b : ℕ) → a ≡ get_or (v PageLineage) p 0 → b ≡ used_in v g → Answer.Lineage a b ≡ Answer.Lineage (page_in v (current_in S v k c)).lineage (used_in v k)
+  pub lineage_answer : (a b : ℕ) → a ≡ get_or (v PageLineage) p 0 → b ≡ used_in v g → Answer.Lineage a b ≡ Answer.Lineage (page_in v (current_in S v k c)).lineage (used_in v k)
   unfolding page_in
-  lineage-answer a b h u = rw (h, u, page-is, found d (λ i. i ≡ k) g x y)
+  lineage_answer a b h u = rw (h, u, page_is, found d (λ i. i ≡ k) g x y)
 
-  pub cell-answer : (z : ℤ) (w i : ℕ) → mag z < 2 ^ hbits w32 → z ≡ to_z w32 w → w ≡ cell_in v p i
+  pub cell_answer : (z : ℤ) (w i : ℕ) → mag z < 2 ^ hbits w32 → z ≡ to_z w32 w → w ≡ cell_in v p i
       → Answer.Value (to_z w32 (of_z w32 z)) ≡ Answer.Value (to_z w32 (cell_in v (current_in S v k c) i))
-  cell-answer z w i l h u = ap Answer.Value (to_z-of_z w32 z record { sfits = l } ∙ h ∙ rw (u, page-is))
+  cell_answer z w i l h u = ap Answer.Value (to_z-of_z w32 z record { sfits = l } ∙ h ∙ rw (u, page_is))

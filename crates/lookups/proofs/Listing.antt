@@ -25,7 +25,7 @@ use Rattle.admission.specs.declared.Admission.{Admission}
 use Rattle.admission.specs.declared.Tested.{Tested}
 use Rattle.admission.specs.Admitted.{Admits, every_form}
 use Rattle.admission.specs.Tested.{Says}
-use Rattle.admission.proofs.Served.{FitBytes, unfit_gives, read-gives}
+use Rattle.admission.proofs.Served.{FitBytes, unfit_gives, read_gives}
 use Rattle.lookups.specs.Lookups.{span_tests, Outcomes}
 
 -- ---- the pass of a query, whose mark the code took from its operand
@@ -64,9 +64,9 @@ module _ (s : Sizes) (m : List ℕ) (r c : ℕ) (mark : ℤ) (from to : ℕ) (st
 
   module _ (d : Tested) (said : Says d (verdict (span_tests (shape_in s) (view_of s m) r c from to))) where
     -- one of the first tests failed
-    pub span-fails : (x : Refusal) → d ≡ Tested.Failed x → Outcomes s m asked (Answer.Refused x) stamps
+    pub span_fails : (x : Refusal) → d ≡ Tested.Failed x → Outcomes s m asked (Answer.Refused x) stamps
     unfolding Outcomes say stamps_next tests_in answer_if stamps_if
-    span-fails x g = λ ps. let w = refuse_first span (Refusal.List when outnumber found stamps ∷ []) x (rw g at said) in (rw w, rw w)
+    span_fails x g = λ ps. let w = refuse_first span (Refusal.List when outnumber found stamps ∷ []) x (rw g at said) in (rw w, rw w)
 
     -- they were passed, and the crossings are listed, or too many
     pub listing : (j : ℕ) → d ≡ Tested.Passed j → (z : ℤ) → z ≡ mark → (a : Answer) (out : List ℕ) → ListsAll (crossings_in (shape_in s) (view_of s m) r c z from to) a stamps out
@@ -81,7 +81,7 @@ module _ (s : Sizes) (m : List ℕ) (r c : ℕ) (mark : ℤ) (from to : ℕ) (st
         (outnumber found stamps) (λ _. (refl, refl)) (λ _. (refl, refl)))
 
   module _ (e : Admission) (t : Scans) where
-    pub fit-listing : (n : ℕ) → e ≡ Admission.Fit s n → Admits every_form e m t → FitBytes m → (z : ℤ) → z ≡ mark → (a : Answer) (out : List ℕ) → Outcomes s m (Call.crossings r c z from to stamps) a out
+    pub fit_listing : (n : ℕ) → e ≡ Admission.Fit s n → Admits every_form e m t → FitBytes m → (z : ℤ) → z ≡ mark → (a : Answer) (out : List ℕ) → Outcomes s m (Call.crossings r c z from to stamps) a out
         → GivesBy t m (Call.crossings r c mark from to stamps) (given a out) m kept
     unfolding Outcomes act_in entries_after
-    fit-listing n f h b z q a out o = read-gives e s n m t f asked h refl a out b (λ ps. (refl, refl)) (rw q at o)
+    fit_listing n f h b z q a out o = read_gives e s n m t f asked h refl a out b (λ ps. (refl, refl)) (rw q at o)

@@ -5,51 +5,51 @@ use mathlib.Core.Logic.{⊎_map}
 use Rattle.loops.specs.Change.{changed, copied, marked}
 use Rattle.loops.specs.Search.{region}
 use Rattle.words.specs.Words.{Fit}
-use Rattle.loops.proofs.Region.{region-at, region-put, region-before, region-after}
+use Rattle.loops.proofs.Region.{region_at, region_put, region_before, region_after}
 
 module _ (f : ℕ → ℕ → ℕ) (at : ℕ) (l : List ℕ) where
-  pub changed-none : l ≡ changed f at 0 l
+  pub changed_none : l ≡ changed f at 0 l
   unfolding changed
-  changed-none = refl
+  changed_none = refl
 
   -- one turn of a loop: x at word at + i
-  pub changed-next : (w w' : List ℕ) (i x : ℕ) → w ≡ changed f at i l → x ≡ f i (get_or l (at + i) 0) → w' ≡ set w (at + i) x
+  pub changed_next : (w w' : List ℕ) (i x : ℕ) → w ≡ changed f at i l → x ≡ f i (get_or l (at + i) 0) → w' ≡ set w (at + i) x
       → w' ≡ changed f at (i + 1) l
   unfolding changed
-  changed-next w w' i x e q s = rw (s, add-one, e, q)
+  changed_next w w' i x e q s = rw (s, add-one, e, q)
 
-  pub changed-all : (w : List ℕ) (i n : ℕ) → i ≤ n → n ≤ i → w ≡ changed f at i l → w ≡ changed f at n l
-  changed-all w i n h k e = let q : i ≡ n = omega arith in e ∙ rw q
+  pub changed_all : (w : List ℕ) (i n : ℕ) → i ≤ n → n ≤ i → w ≡ changed f at i l → w ≡ changed f at n l
+  changed_all w i n h k e = let q : i ≡ n = omega arith in e ∙ rw q
 
-  pub changed-length : (n : ℕ) → length (changed f at n l) ≡ length l
+  pub changed_length : (n : ℕ) → length (changed f at n l) ≡ length l
   unfolding changed
-  changed-length zero = refl
-  changed-length (suc n) = rw length-set (changed-length n)
+  changed_length zero = refl
+  changed_length (suc n) = rw length-set (changed_length n)
 
   -- a word below or above is as it was
-  pub changed-outside : (n j : ℕ) → (j < at) ⊎ (at + n ≤ j) → get_or (changed f at n l) j 0 ≡ get_or l j 0
+  pub changed_outside : (n j : ℕ) → (j < at) ⊎ (at + n ≤ j) → get_or (changed f at n l) j 0 ≡ get_or l j 0
   unfolding changed
-  changed-outside zero j d = refl
-  changed-outside (suc n) j (inl h) =
-      get_or-set_other (changed f at n l) (at + n) j _ 0 (omega arith) ∙ changed-outside n j (inl h)
-  changed-outside (suc n) j (inr h) =
-      get_or-set_other (changed f at n l) (at + n) j _ 0 (omega arith) ∙ changed-outside n j (inr (omega arith))
+  changed_outside zero j d = refl
+  changed_outside (suc n) j (inl h) =
+      get_or-set_other (changed f at n l) (at + n) j _ 0 (omega arith) ∙ changed_outside n j (inl h)
+  changed_outside (suc n) j (inr h) =
+      get_or-set_other (changed f at n l) (at + n) j _ 0 (omega arith) ∙ changed_outside n j (inr (omega arith))
 
-  pub changed-at : (n i : ℕ) → at + n ≤ length l → i < n → get_or (changed f at n l) (at + i) 0 ≡ f i (get_or l (at + i) 0)
+  pub changed_at_lem : (n i : ℕ) → at + n ≤ length l → i < n → get_or (changed f at n l) (at + i) 0 ≡ f i (get_or l (at + i) 0)
   unfolding changed
-  changed-at zero i h k = absurd (omega arith)
-  changed-at (suc n) i h k =
+  changed_at_lem zero i h k = absurd (omega arith)
+  changed_at_lem (suc n) i h k =
       ⊎_elim
-      (λ e. rw e (get_or-set_same (changed f at n l) (at + n) _ 0 (omega (arith, changed-length n))))
-      (λ b. get_or-set_other (changed f at n l) (at + n) (at + i) _ 0 (omega arith) ∙ changed-at n i (omega arith) b)
+      (λ e. rw e (get_or-set_same (changed f at n l) (at + n) _ 0 (omega (arith, changed_length n))))
+      (λ b. get_or-set_other (changed f at n l) (at + n) (at + i) _ 0 (omega arith) ∙ changed_at_lem n i (omega arith) b)
       (eq-or-lt_of_le (le_of_suc-le-suc k))
 
   -- a region below or above is as it was
-  pub changed-apart : (n b k : ℕ) → (b + k ≤ at) ⊎ (at + n ≤ b) → region (changed f at n l) b k ≡ region l b k
+  pub changed_apart : (n b k : ℕ) → (b + k ≤ at) ⊎ (at + n ≤ b) → region (changed f at n l) b k ≡ region l b k
   unfolding changed
-  changed-apart zero b k d = refl
-  changed-apart (suc n) b k (inl h) = region-after _ b k _ _ (omega arith) ∙ changed-apart n b k (inl h)
-  changed-apart (suc n) b k (inr h) = region-before _ b k _ _ (omega arith) ∙ changed-apart n b k (inr (omega arith))
+  changed_apart zero b k d = refl
+  changed_apart (suc n) b k (inl h) = region_after _ b k _ _ (omega arith) ∙ changed_apart n b k (inl h)
+  changed_apart (suc n) b k (inr h) = region_before _ b k _ _ (omega arith) ∙ changed_apart n b k (inr (omega arith))
 
 -- a change inside a region is the same change of the region
 pub changed_inside : (f : ℕ → ℕ → ℕ) (l : List ℕ) (b k at n : ℕ) → at + n ≤ k
@@ -58,7 +58,7 @@ unfolding changed
 changed_inside f l b k at zero h = refl
 changed_inside f l b k at (suc n) h =
     let e : b + at + n ≡ b + (at + n) = omega arith in
-    rw (e, region-put _ b k (at + n) _ (omega arith), region-at l b k (at + n) (omega arith), changed_inside f l b k at n (omega arith))
+    rw (e, region_put _ b k (at + n) _ (omega arith), region_at l b k (at + n) (omega arith), changed_inside f l b k at n (omega arith))
 
 -- words that fit stay so
 pub set_fit : (l : List ℕ) (i v : ℕ) → Fit l → v < 2 ^ 32 → Fit (set l i v)
@@ -97,14 +97,14 @@ module _ (ws w w' : List ℕ) (from n to i : ℕ) where
   pub copied_next : (r : ℕ) → w ≡ copied ws from i to ws → r ≡ get_or w (from + i) 0 → w' ≡ set w (to + i) r → i < n
       → (from + n ≤ to) ⊎ (to + n ≤ from) → w' ≡ copied ws from (i + 1) to ws
   copied_next r e q s b d =
-      changed-next (λ j x. get_or ws (from + j) 0) to ws w w' i r e
-      (q ∙ ap (λ (v : List ℕ). get_or v (from + i) 0) e ∙ changed-outside (λ j x. get_or ws (from + j) 0) to ws i (from + i) (clear from to n i b d)) s
+      changed_next (λ j x. get_or ws (from + j) 0) to ws w w' i r e
+      (q ∙ ap (λ (v : List ℕ). get_or v (from + i) 0) e ∙ changed_outside (λ j x. get_or ws (from + j) 0) to ws i (from + i) (clear from to n i b d)) s
 
   pub marked_next : (key v k old r : ℕ) → w ≡ marked ws from i key to v ws → k ≡ get_or w (from + i) 0 → old ≡ get_or w (to + i) 0
       → r ≡ cond (eqb k key) v old → w' ≡ set w (to + i) r → i < n → (from + n ≤ to) ⊎ (to + n ≤ from)
       → w' ≡ marked ws from (i + 1) key to v ws
   marked_next key v k old r e p q t s b d =
       let g : ℕ → ℕ → ℕ = λ j x. cond (eqb (get_or ws (from + j) 0) key) v x in
-      let a : k ≡ get_or ws (from + i) 0 = p ∙ ap (λ (l : List ℕ). get_or l (from + i) 0) e ∙ changed-outside g to ws i (from + i) (clear from to n i b d) in
-      let c : old ≡ get_or ws (to + i) 0 = q ∙ ap (λ (l : List ℕ). get_or l (to + i) 0) e ∙ changed-outside g to ws i (to + i) (inr (omega arith)) in
-      changed-next g to ws w w' i r e (rw (t, a, c)) s
+      let a : k ≡ get_or ws (from + i) 0 = p ∙ ap (λ (l : List ℕ). get_or l (from + i) 0) e ∙ changed_outside g to ws i (from + i) (clear from to n i b d) in
+      let c : old ≡ get_or ws (to + i) 0 = q ∙ ap (λ (l : List ℕ). get_or l (to + i) 0) e ∙ changed_outside g to ws i (to + i) (inr (omega arith)) in
+      changed_next g to ws w w' i r e (rw (t, a, c)) s

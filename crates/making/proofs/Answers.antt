@@ -27,9 +27,9 @@ made_done f p entries m e h k = rw (e, le-leb (need (sizes_of f p) * 4) (length 
 
 -- The premises are what the points of the code know: the flag b of the limits, the sizes s, the words w that they need, and which way the tests went.
 module _ (p : Shape) (entries : ℕ) (m : List ℕ) (b : Bool) (e : b ≡ within_limits p) where
-  pub out-of-limits : not b ≡ true → (Answer.Refused Refusal.Shape, m) ≡ made Form.Newest p entries m
+  pub out_of_limits : not b ≡ true → (Answer.Refused Refusal.Shape, m) ≡ made Form.Newest p entries m
   unfolding made
-  out-of-limits h = rw (← e, not-true b h)
+  out_of_limits h = rw (← e, not-true b h)
 
   module _ (h : not b ≡ false) where
     pub within : within_limits p ≡ true
@@ -39,8 +39,8 @@ module _ (p : Shape) (entries : ℕ) (m : List ℕ) (b : Bool) (e : b ≡ within
       pub small : need s < too_many_words
       small = rw q (need_small Form.Newest p within)
 
-      pub proper-sizes : Proper s
-      proper-sizes = rw q (proper Form.Newest p within)
+      pub proper_sizes : Proper s
+      proper_sizes = rw q (proper Form.Newest p within)
 
       module _ (w : ℕ) (z : w ≡ need s) where
         -- the bytes needed
@@ -52,9 +52,9 @@ module _ (p : Shape) (entries : ℕ) (m : List ℕ) (b : Bool) (e : b ≡ within
         no_room l = rw (within, lt-leb (need (sizes_of Form.Newest p) * 4) (length m) (rw bytes at l))
 
         module _ (l : w * 4 ≤ length m) where
-          pub few-entries : entries < most_scans → (Answer.Refused Refusal.Memory, m) ≡ made Form.Newest p entries m
+          pub few_entries : entries < most_scans → (Answer.Refused Refusal.Memory, m) ≡ made Form.Newest p entries m
           unfolding made bytes_needed
-          few-entries k = rw (within, le-leb (need (sizes_of Form.Newest p) * 4) (length m) (rw bytes at l), lt-leb most_scans entries k)
+          few_entries k = rw (within, le-leb (need (sizes_of Form.Newest p) * 4) (length m) (rw bytes at l), lt-leb most_scans entries k)
 
           -- the part that is lent is as long as it is to be
           pub part_long : w * 4 ≡ length (take (w * 4) m)

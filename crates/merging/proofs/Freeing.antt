@@ -12,7 +12,7 @@ use lib.Seq.{take-suc}
 use borrow.Author.Tests.{lt-ltb, le-ltb, ltb-true, ltb-false}
 use Rattle.terms.specs.Measures.{most_scans}
 use Rattle.terms.specs.declared.ScanEntry.{ScanEntry}
-use Rattle.loops.proofs.Change.{changed-outside}
+use Rattle.loops.proofs.Change.{changed_outside}
 use Rattle.layout.specs.declared.Sizes.{Sizes}
 use Rattle.layout.specs.declared.Region.{Region}
 use Rattle.layout.specs.View.{View, renew, put}
@@ -25,7 +25,7 @@ use Rattle.scans.specs.Table.{table_of, some_less}
 use Rattle.scans.proofs.Answers.{table_before}
 use Rattle.layout.specs.Sizes.{Proper}
 use Rattle.model.specs.Preconditions.{shape_in}
-use Rattle.layout.proofs.Renewed.{change-none, change-next}
+use Rattle.layout.proofs.Renewed.{change_none, change_next}
 use Rattle.merging.specs.Steps.{least_of, freeable, freeables_freed}
 
 -- ---- the least
@@ -71,36 +71,36 @@ least_tells l (suc n) m h k =
 
 -- ---- the loop
 module _ (least : ℕ) (v : View) where
-  pub freed-none : v ≡ freeables_freed least 0 v
+  pub freed_none : v ≡ freeables_freed least 0 v
   unfolding freeables_freed
-  freed-none = change-none Region.PageState (λ p w. cond (freeable least v p) as_free w) 0 v
+  freed_none = change_none Region.PageState (λ p w. cond (freeable least v p) as_free w) 0 v
 
   -- the words of page p are as they were when its turn comes
-  pub freeable-same : (x : View) (p : ℕ) → x ≡ freeables_freed least p v → freeable least x p ≡ freeable least v p
+  pub freeable_same : (x : View) (p : ℕ) → x ≡ freeables_freed least p v → freeable least x p ≡ freeable least v p
   unfolding freeables_freed freeable renew
-  freeable-same x p e =
-      let w = changed-outside (λ p w. cond (freeable least v p) as_free w) 0 (v Region.PageState) p p (inr (omega arith)) in
+  freeable_same x p e =
+      let w = changed_outside (λ p w. cond (freeable least v p) as_free w) 0 (v Region.PageState) p p (inr (omega arith)) in
       rw (e, w)
 
-  pub state-same : (x : View) (p : ℕ) → x ≡ freeables_freed least p v → get_or (x Region.PageState) p 0 ≡ get_or (v Region.PageState) p 0
+  pub state_same : (x : View) (p : ℕ) → x ≡ freeables_freed least p v → get_or (x Region.PageState) p 0 ≡ get_or (v Region.PageState) p 0
   unfolding freeables_freed renew
-  state-same x p e =
-      let w = changed-outside (λ p w. cond (freeable least v p) as_free w) 0 (v Region.PageState) p p (inr (omega arith)) in
+  state_same x p e =
+      let w = changed_outside (λ p w. cond (freeable least v p) as_free w) 0 (v Region.PageState) p p (inr (omega arith)) in
       rw (e, w)
 
   turn : (x x' : View) (p : ℕ) → x ≡ freeables_freed least p v → x' ≡ put Region.PageState p (cond (freeable least v p) 0 (get_or (v Region.PageState) p 0)) x
       → 0 + p ≡ p → x' ≡ freeables_freed least (p + 1) v
   unfolding freeables_freed
   turn x x' p e w z =
-      change-next Region.PageState (λ p w. cond (freeable least v p) as_free w) 0 v x x' p (cond (freeable least v p) 0 (get_or (v Region.PageState) p 0)) e (rw z) (rw z w)
+      change_next Region.PageState (λ p w. cond (freeable least v p) as_free w) 0 v x x' p (cond (freeable least v p) 0 (get_or (v Region.PageState) p 0)) e (rw z) (rw z w)
 
-  pub freed-next : (x x' : View) (p : ℕ) → x ≡ freeables_freed least p v
+  pub freed_next : (x x' : View) (p : ℕ) → x ≡ freeables_freed least p v
       → x' ≡ put Region.PageState p (cond (freeable least x p) 0 (get_or (x Region.PageState) p 0)) x → x' ≡ freeables_freed least (p + 1) v
-  freed-next x x' p e q = turn x x' p e (q ∙ rw (freeable-same x p e, state-same x p e)) (omega arith)
+  freed_next x x' p e q = turn x x' p e (q ∙ rw (freeable_same x p e, state_same x p e)) (omega arith)
 
   pub count_next : (x : View) (p n n' : ℕ) → x ≡ freeables_freed least p v → n ≡ count_below (freeable least v) p
       → n' ≡ cond (freeable least x p) (n + 1) n → n' ≡ count_below (freeable least v) (p + 1)
-  count_next x p n n' e c q = q ∙ rw (freeable-same x p e, c, add-one, add-one)
+  count_next x p n n' e c q = q ∙ rw (freeable_same x p e, c, add-one, add-one)
 
   pub count_most : (n : ℕ) → count_below (freeable least v) n ≤ n
   count_most zero = omega arith
@@ -111,9 +111,9 @@ module _ (least : ℕ) (v : View) where
       go true h = omega arith
       go false h = omega arith
 
-  pub freed-end : (n : ℕ) (x : View) (c p : ℕ) → x ≡ freeables_freed least p v → c ≡ count_below (freeable least v) p → p ≤ n → n ≤ p
+  pub freed_end : (n : ℕ) (x : View) (c p : ℕ) → x ≡ freeables_freed least p v → c ≡ count_below (freeable least v) p → p ≤ n → n ≤ p
       → (c ≡ count_below (freeable least v) n) × (x ≡ freeables_freed least n v)
-  freed-end n x c p e k h m = let q : p ≡ n = omega arith in (k ∙ rw q, e ∙ rw q)
+  freed_end n x c p e k h m = let q : p ≡ n = omega arith in (k ∙ rw q, e ∙ rw q)
 
 -- ---- what the scan list says
 needed_some : (m : ℕ) (ps : List ScanEntry) → needed_in ps m ≡ some_open (λ p. ltb p.merges m) ps

@@ -23,7 +23,7 @@ use Rattle.terms.specs.Entries.{firstIndex}
 use Rattle.model.specs.Stored.{record_in, value_in, page_in, current_in, chunks_of, pages_of, within, free_page, first_from, next_word}
 use Rattle.layout.specs.Regions.{merges_at, slot}
 use Rattle.model.specs.Writing.{applies, applied, newest_of, named_in, stray_in, free_in, merged_in}
-use Rattle.model.proofs.upkeep.Free.{free-unnamed}
+use Rattle.model.proofs.upkeep.Free.{free_unnamed}
 use Rattle.history.specs.History.{bit}
 use Rattle.history.proofs.Lists.{both, eqb_equal}
 use Rattle.rows.proofs.Indices.{chunk_in}
@@ -58,14 +58,14 @@ module _ (S : Shape) (g c p low : ℕ) (v : View) where
   unfolding slot
   at_slot i = omega arith
 
-  pub applied-none : v ≡ applied_all S g c p low 0 v
+  pub applied_none : v ≡ applied_all S g c p low 0 v
   unfolding applied_all applied
-  applied-none = renew_none Region.Cells v
+  applied_none = renew_none Region.Cells v
 
-  pub applied-next : (x x' : View) (i : ℕ) → x ≡ applied_all S g c p low i v → x' ≡ applied_one S (g * S.capacity + low + i) c p x
+  pub applied_next : (x x' : View) (i : ℕ) → x ≡ applied_all S g c p low i v → x' ≡ applied_one S (g * S.capacity + low + i) c p x
       → x' ≡ applied_all S g c p low (i + 1) v
   unfolding applied_all applied_one applied record_in value_in renew
-  applied-next x x' i e q = q ∙ rw (e, add-one, at_slot i) (go (applies c (record_in v (g * S.capacity + low + i))))
+  applied_next x x' i e q = q ∙ rw (e, add-one, at_slot i) (go (applies c (record_in v (g * S.capacity + low + i))))
     where
       go : (b : Bool)
           → cond {A = View} b
@@ -80,10 +80,10 @@ module _ (S : Shape) (g c p low : ℕ) (v : View) where
       go true = put_renew Region.Cells (applied S v g c p low i (v Region.Cells)) v _ _
       go false = refl
 
-  pub newest-next : (stamp : ℕ) (x : View) (i r r' : ℕ) → x ≡ applied_all S g c p low i v → r ≡ newest_of S v g c low i stamp
+  pub newest_next : (stamp : ℕ) (x : View) (i r r' : ℕ) → x ≡ applied_all S g c p low i v → r ≡ newest_of S v g c low i stamp
       → r' ≡ later_one (g * S.capacity + low + i) c x r → r' ≡ newest_of S v g c low (i + 1) stamp
   unfolding applied_all later_one newest_of record_in renew
-  newest-next stamp x i r r' e q t = t ∙ rw (e, q, add-one, at_slot i)
+  newest_next stamp x i r r' e q t = t ∙ rw (e, q, add-one, at_slot i)
 
 -- what the pass leaves after its last turn
 pub pass_end : (S : Shape) (g c p low stamp : ℕ) (v x : View) (r i n : ℕ) → x ≡ applied_all S g c p low i v → r ≡ newest_of S v g c low i stamp → i ≤ n → n ≤ i
@@ -92,30 +92,30 @@ pass_end S g c p low stamp v x r i n e q h m = let z : i ≡ n = omega arith in 
 
 -- ---- one record: it applies or not
 module _ (S : Shape) (v : View) (k c p stamp : ℕ) (b : Bool) (e : b ≡ applies c (record_in v k)) where
-  pub one-applied : (at row w r : ℕ) (x : View) → b ≡ true → at ≡ get_or (v Region.TailStamp) k 0 → row ≡ get_or (v Region.TailRow) k 0
+  pub one_applied : (at row w r : ℕ) (x : View) → b ≡ true → at ≡ get_or (v Region.TailStamp) k 0 → row ≡ get_or (v Region.TailRow) k 0
       → w ≡ get_or (v Region.TailValues) (k * S.columns + c) 0 → r ≡ cond (ltb stamp at) at stamp
       → x ≡ put Region.Cells (p * range_rows + row % range_rows) w v → (r ≡ later_one k c v stamp) × (x ≡ applied_one S k c p v)
   unfolding later_one applied_one record_in value_in
-  one-applied at row w r x t a i u q f = (q ∙ rw (a, sym e ∙ t), f ∙ rw (i, u, sym e ∙ t))
+  one_applied at row w r x t a i u q f = (q ∙ rw (a, sym e ∙ t), f ∙ rw (i, u, sym e ∙ t))
 
-  pub one-skipped : b ≡ false → (stamp ≡ later_one k c v stamp) × (v ≡ applied_one S k c p v)
+  pub one_skipped : b ≡ false → (stamp ≡ later_one k c v stamp) × (v ≡ applied_one S k c p v)
   unfolding later_one applied_one
-  one-skipped f = (rw (sym e ∙ f), rw (sym e ∙ f))
+  one_skipped f = (rw (sym e ∙ f), rw (sym e ∙ f))
 
 -- a record's words tell whether it applies
 module _ (v : View) (k c mask : ℕ) (has : Bool) (e : mask ≡ get_or (v Region.TailMask) k 0) (b : has ≡ bit mask c) where
-  pub applies-not : has ≡ false → false ≡ applies c (record_in v k)
+  pub applies_not : has ≡ false → false ≡ applies c (record_in v k)
   unfolding applies record_in
-  applies-not f = rw (← e, ← b, f)
+  applies_not f = rw (← e, ← b, f)
 
   module _ (kind : ℕ) (t : has ≡ true) (q : kind ≡ get_or (v Region.TailKind) k 0) where
-    pub applies-other : (kind ≡ 1 → ⊥) → false ≡ applies c (record_in v k)
+    pub applies_other : (kind ≡ 1 → ⊥) → false ≡ applies c (record_in v k)
     unfolding applies record_in
-    applies-other n = rw (← e, ← b, t, ← q, ne_eqb kind 1 n)
+    applies_other n = rw (← e, ← b, t, ← q, ne_eqb kind 1 n)
 
-    pub applies-committed : (state : ℕ) → kind ≡ 1 → state ≡ get_or (v Region.TailState) k 0 → eqb state 1 ≡ applies c (record_in v k)
+    pub applies_committed : (state : ℕ) → kind ≡ 1 → state ≡ get_or (v Region.TailState) k 0 → eqb state 1 ≡ applies c (record_in v k)
     unfolding applies record_in
-    applies-committed state o w = rw (← e, ← b, t, ← q, eq-eqb kind 1 o, ← w)
+    applies_committed state o w = rw (← e, ← b, t, ← q, eq-eqb kind 1 o, ← w)
 
 -- ---- over a copy of a page
 copy_here : (S : Shape) (g c p low n : ℕ) (v : View) (l : List ℕ)
@@ -173,26 +173,26 @@ module _ (s : Sizes) (m : List ℕ) (room : Suffices s m) (proper : Proper s) (f
   abbrev second : ℕ
   second = first_from (stray_in (shape_in s) (view_of s m)) s.pages 0
 
-  free-first : f ≡ found_at s.pages first
+  free_first : f ≡ found_at s.pages first
   unfolding page_in
-  free-first =
+  free_first =
       let states = view_of s m Region.PageState in
       let long : length states ≡ s.pages = view_long s (words m) (omega (arith, length_words m)) Region.PageState in
       e ∙ find_index 0 states s.pages long ∙ ap (found_at s.pages) (sym (first_list 0 states s.pages long))
 
-  free-both : free_in (shape_in s) (view_of s m) ≡ cond (ltb first s.pages) first second
+  free_both : free_in (shape_in s) (view_of s m) ≡ cond (ltb first s.pages) first second
   unfolding free_in
-  free-both = let q : s.pages ≡ pages_of (shape_in s) = omega (arith, proper.pages_are, proper.chunks_are) in rw q
+  free_both = let q : s.pages ≡ pages_of (shape_in s) = omega (arith, proper.pages_are, proper.chunks_are) in rw q
 
-  pub free-here : (j : ℕ) → f ≡ Found.At j → Found.At j ≡ found_at s.pages (free_in (shape_in s) (view_of s m))
-  free-here j q = rw free-both (go (ltb first s.pages) refl (sym free-first ∙ q))
+  pub free_here : (j : ℕ) → f ≡ Found.At j → Found.At j ≡ found_at s.pages (free_in (shape_in s) (view_of s m))
+  free_here j q = rw free_both (go (ltb first s.pages) refl (sym free_first ∙ q))
     where
       go : (b : Bool) → ltb first s.pages ≡ b → cond b (Found.At first) Found.Nothing ≡ Found.At j → Found.At j ≡ found_at s.pages (cond b first second)
       go true q f = rw q (sym f)
       go false q f = let z : ◌≡◌ {A = ℕ} 0 1 = cc in absurd (omega arith)
 
-  pub free-stray : (r : Found) → f ≡ Found.Nothing → r ≡ found_at s.pages second → r ≡ found_at s.pages (free_in (shape_in s) (view_of s m))
-  free-stray r q h = h ∙ rw free-both (go (ltb first s.pages) (sym free-first ∙ q))
+  pub free_stray : (r : Found) → f ≡ Found.Nothing → r ≡ found_at s.pages second → r ≡ found_at s.pages (free_in (shape_in s) (view_of s m))
+  free_stray r q h = h ∙ rw free_both (go (ltb first s.pages) (sym free_first ∙ q))
     where
       go : (b : Bool) → cond b (Found.At first) Found.Nothing ≡ Found.Nothing → found_at s.pages second ≡ found_at s.pages (cond b first second)
       go true f = let z : ◌≡◌ {A = ℕ} 0 1 = cc in absurd (omega arith)
@@ -203,29 +203,29 @@ module _ (f : ℕ → Bool) (n p : ℕ) (h : p < n) where
   step : first_from f (n - p) p ≡ cond (f p) p (first_from f (n - (p + 1)) (p + 1))
   step = let e : n - p ≡ suc (n - (p + 1)) = omega arith in let q : suc p ≡ p + 1 = omega arith in rw (e, q)
 
-  pub stray-here : (x : ℕ) (b : Bool) → x ≡ first_from f (n - p) p → b ≡ f p → b ≡ true → Found.At p ≡ found_at n x
-  stray-here x b e q t = let z : x ≡ p = e ∙ step ∙ rw (← q, t) in rw (z, lt-ltb p n h)
+  pub stray_here : (x : ℕ) (b : Bool) → x ≡ first_from f (n - p) p → b ≡ f p → b ≡ true → Found.At p ≡ found_at n x
+  stray_here x b e q t = let z : x ≡ p = e ∙ step ∙ rw (← q, t) in rw (z, lt-ltb p n h)
 
-  pub stray-later : (x : ℕ) (b : Bool) → x ≡ first_from f (n - p) p → b ≡ f p → b ≡ false → x ≡ first_from f (n - (p + 1)) (p + 1)
-  stray-later x b e q t = e ∙ step ∙ rw (← q, t)
+  pub stray_later : (x : ℕ) (b : Bool) → x ≡ first_from f (n - p) p → b ≡ f p → b ≡ false → x ≡ first_from f (n - (p + 1)) (p + 1)
+  stray_later x b e q t = e ∙ step ∙ rw (← q, t)
 
 pub stray_none : (f : ℕ → Bool) (n p x : ℕ) → x ≡ first_from f (n - p) p → p ≤ n → n ≤ p → Found.Nothing ≡ found_at n x
 stray_none f n p x e h k = let z : n - p ≡ 0 = omega arith in let y : x ≡ p = e ∙ rw z in rw (y, le-ltb p n k)
 
 -- a page's words tell whether it is stray
 module _ (s : Sizes) (v : View) (proper : Proper s) (p state : ℕ) (e : state ≡ get_or (v Region.PageState) p 0) where
-  pub stray-not : (state ≡ 1 → ⊥) → false ≡ stray_in (shape_in s) v p
+  pub stray_not : (state ≡ 1 → ⊥) → false ≡ stray_in (shape_in s) v p
   unfolding stray_in page_in
-  stray-not n = rw (← e, ne_eqb state 1 n)
+  stray_not n = rw (← e, ne_eqb state 1 n)
 
   module _ (s1 : state ≡ 1) (at : ℕ) (w : at ≡ get_or (v Region.PageChunk) p 0) where
-    pub stray-high : s.chunks ≤ at → true ≡ stray_in (shape_in s) v p
+    pub stray_high : s.chunks ≤ at → true ≡ stray_in (shape_in s) v p
     unfolding stray_in named_in page_in
-    stray-high h = rw (← e, eq-eqb state 1 s1, ← w, le-ltb at (chunks_of (shape_in s)) (omega (arith, proper.chunks_are)))
+    stray_high h = rw (← e, eq-eqb state 1 s1, ← w, le-ltb at (chunks_of (shape_in s)) (omega (arith, proper.chunks_are)))
 
-    pub stray-other : (page : ℕ) → at < s.chunks → page ≡ get_or (v Region.Current) at 0 → not (eqb page p) ≡ stray_in (shape_in s) v p
+    pub stray_other : (page : ℕ) → at < s.chunks → page ≡ get_or (v Region.Current) at 0 → not (eqb page p) ≡ stray_in (shape_in s) v p
     unfolding stray_in named_in page_in
-    stray-other page h q = rw (← e, eq-eqb state 1 s1, ← w, lt-ltb at (chunks_of (shape_in s)) (omega (arith, proper.chunks_are)), ← q)
+    stray_other page h q = rw (← e, eq-eqb state 1 s1, ← w, lt-ltb at (chunks_of (shape_in s)) (omega (arith, proper.chunks_are)), ← q)
 
 -- ---- the whole merge, as the code has it: a copy of page `old` takes the records after `low`, and is put in its place
 pub merged_is : (S : Shape) (g c n p old low newest m latest : ℕ) (v x y z w : View) → p ≡ free_in S v → old ≡ get_or (v Region.Current) (g * S.columns + c) 0
@@ -246,7 +246,7 @@ not_free s v g c n p old w m e q =
     let k : p < pages_of S = omega (arith, w.pages_are, w.chunks_are, m.page_below) in
     let b : i < chunks_of S = omega (arith, w.chunks_are, chunk_in s w g c m.range_below m.column_below) in
     let at : (page_in v old).chunk ≡ i = rw (← e) at (m.chunks_are_current.chunk i b) in
-    T_not (named_in S v (free_in S v)) (free-unnamed S v m.chunks_are_current (omega (arith, m.free)))
+    T_not (named_in S v (free_in S v)) (free_unnamed S v m.chunks_are_current (omega (arith, m.free)))
     (subst (λ (x : ℕ). T (named_in S v x)) (q ∙ m.free) (both (ltb (page_in v old).chunk (chunks_of S)) (eqb (get_or (v Region.Current) (page_in v old).chunk 0) old) (lt→ltb (page_in v old).chunk (chunks_of S) (omega (arith, at))) (eqb_equal (get_or (v Region.Current) (page_in v old).chunk 0) old (ap (λ (j : ℕ). get_or (v Region.Current) j 0) at ∙ sym e))))
 
 -- and its lineage is at most n

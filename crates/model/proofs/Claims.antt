@@ -80,14 +80,14 @@ pub pages_kept : {F : Form} {S : Shape} {v : View} {ps : List ScanEntry} {h : Hi
     → PageKept S v (view_after S (store_next S v ps (open_scan s)) (entries_next S v ps (open_scan s)) cs) (run S (next S h (open_scan s)) cs) (suc (length h.scans)) g c (length h.rows)
 pages_kept {F} {S} {v} {ps} {h} o k s cs y ys suited e t g c bg bc =
     record {
-      page = ap (λ (j : ℕ). scan_page S v₂ j g c) merges-are ∙ (rw new.0 at same.page) ∙ first;
+      page = ap (λ (j : ℕ). scan_page S v₂ j g c) merges_are ∙ (rw new.0 at same.page) ∙ first;
       cells = λ r u f.
           (rw (new.0, first) at (same.cells r (omega (arith, new.2)) f))
           ∙ (opened_same S v ps s (length h.merges) g c).1 (current_in S v g c) (within r);
     }
   where
-    suited-on : Suited S F h (open_scan s ∷ cs) → Suited S (form_next S h (open_scan s) F) (next S h (open_scan s)) cs
-    suited-on = unfold Suited in (λ x. x.1)
+    suited_on : Suited S F h (open_scan s ∷ cs) → Suited S (form_next S h (open_scan s) F) (next S h (open_scan s)) cs
+    suited_on = unfold Suited in (λ x. x.1)
 
     i : ℕ
     i = suc (length h.scans)
@@ -105,10 +105,10 @@ pages_kept {F} {S} {v} {ps} {h} o k s cs y ys suited e t g c bg bc =
     new = scan_opened_lem S h s e
 
     same : SamePage S v₁ v₂ (scan_at h₁ i).merges (length h₁.rows) g c
-    same = let one = one_call F S v ps h (open_scan s) y tt o k in same_after one.shown one.well_formed i new.1 ys (suited-on suited) t g c bg bc
+    same = let one = one_call F S v ps h (open_scan s) y tt o k in same_after one.shown one.well_formed i new.1 ys (suited_on suited) t g c bg bc
 
-    merges-are : (scan_at (run S h₁ cs) i).merges ≡ length h.merges
-    merges-are = ap (λ (x : Scan). x.merges) (scan_later S h₁ cs i new.1 t) ∙ new.0
+    merges_are : (scan_at (run S h₁ cs) i).merges ≡ length h.merges
+    merges_are = ap (λ (x : Scan). x.merges) (scan_later S h₁ cs i new.1 t) ∙ new.0
 
     first : scan_page S v₁ (length h.merges) g c ≡ current_in S v g c
     first = (opened_same S v ps s (length h.merges) g c).0 ∙ scan_current S v (length h.merges) g c (o.currents g c bg bc).made

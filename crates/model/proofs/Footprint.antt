@@ -18,7 +18,7 @@ use Rattle.terms.specs.Entries.{free_entry}
 use Rattle.history.specs.History.{Call, begin, insert, update, delete, commit, abort, latest, read_at, own_read, open_scan, scan_read, sum, close, merge, release, page_cell, lineage, crossings, begin_as, keeper_at, move, Commit, no_commit, unknown_keeper, range_of}
 use Rattle.history.proofs.Lists.{by_cases, is_true, eqb_same, or_left, or_right, le_test}
 use Rattle.loops.specs.Change.{changed, marked}
-use Rattle.loops.proofs.Change.{changed-length, changed-outside}
+use Rattle.loops.proofs.Change.{changed_length, changed_outside}
 use Rattle.layout.specs.Regions.{rows_at, transactions_at, scans_at, stamp_at, merges_at, commits_at}
 use Rattle.layout.specs.View.{View, put, renew, rows_given, used_in}
 use Rattle.layout.specs.declared.Region.{Region}
@@ -32,14 +32,14 @@ use Rattle.layout.specs.Regions.{index, first_slot, slot}
 use Rattle.layout.specs.Codes.{as_delete, as_original, as_setting, as_committed, as_aborted, as_free}
 use Rattle.model.specs.Calls.{act_in, new_entry, entries_after}
 use Rattle.model.specs.Footprint.{merge_footprint, cells_written, records_written, values_written, row_changed, bears_at, records_bearing, bearing, open_written, end_written, begin_written, footprint, entries_written, EntriesWithin}
-use Rattle.model.proofs.changes.Insert.{cells-length}
+use Rattle.model.proofs.changes.Insert.{cells_length}
 use Rattle.model.proofs.changes.Transactions.{marks_length}
-use Rattle.model.proofs.upkeep.Merge.{applied-length, applied-outside}
+use Rattle.model.proofs.upkeep.Merge.{applied_length, applied_outside}
 
 -- ---- parts of two lists
 module _ (k : Region) (j : ℕ) (xs ys : List Part) where
-  in-front : T (among k j xs) → T (among k j (xs ++ ys))
-  in-front t = rw (among_append k j xs ys) (or_left (among k j xs) (among k j ys) t)
+  in_front : T (among k j xs) → T (among k j (xs ++ ys))
+  in_front t = rw (among_append k j xs ys) (or_left (among k j xs) (among k j ys) t)
 
   behind : T (among k j ys) → T (among k j (xs ++ ys))
   behind t = rw (among_append k j xs ys) (or_right (among k j xs) (among k j ys) t)
@@ -83,26 +83,26 @@ pass_within f w k i l (suc n) j = go (f n) (pass_within f w k i l n j)
     go false before = ⊎_map (λ q. set_back done l (i + n) j q) (λ a. a) before
 
 module _ {xs : List Part} {v v' : View} where
-  noted-within : (t : ℕ) → T (among Changes (open_index v' t) xs) → ChangedWithin xs v v' → ChangedWithin xs v (noted t v')
+  noted_within : (t : ℕ) → T (among Changes (open_index v' t) xs) → ChangedWithin xs v v' → ChangedWithin xs v (noted t v')
   unfolding noted
-  noted-within t a o = put_within Changes (open_index v' t) _ a o
+  noted_within t a o = put_within Changes (open_index v' t) _ a o
 
-  freed-within : (t : ℕ) → T (among Opens (open_index v' t) xs) → T (among Changes (open_index v' t) xs) → T (among OpenKeeper (open_index v' t) xs) → ChangedWithin xs v v'
+  freed_within : (t : ℕ) → T (among Opens (open_index v' t) xs) → T (among Changes (open_index v' t) xs) → T (among OpenKeeper (open_index v' t) xs) → ChangedWithin xs v v'
       → ChangedWithin xs v (freed t v')
   unfolding freed
-  freed-within t a b c o = put_within OpenKeeper (open_index v' t) 0 c (put_within Changes (open_index v' t) 0 b (put_within Opens (open_index v' t) 0 a o))
+  freed_within t a b c o = put_within OpenKeeper (open_index v' t) 0 c (put_within Changes (open_index v' t) 0 b (put_within Opens (open_index v' t) 0 a o))
 
 -- ---- one tail record more, at a slot of the n from s on
 module _ (xs : List Part) (s n : ℕ) where
-  appended-within : {v v' : View} (S : Shape) (t keeper r kind mask : ℕ) → T (among RowLink r xs) → T (among Used (range_of r) xs) → s ≤ next_slot S v' (range_of r) → next_slot S v' (range_of r) < s + n
+  appended_within : {v v' : View} (S : Shape) (t keeper r kind mask : ℕ) → T (among RowLink r xs) → T (among Used (range_of r) xs) → s ≤ next_slot S v' (range_of r) → next_slot S v' (range_of r) < s + n
       → ChangedWithin (xs ++ records_written s n) v v' → ChangedWithin (xs ++ records_written s n) v (appended S t keeper r kind mask v')
   unfolding appended
-  appended-within {v' = v'} S t keeper r kind mask a b from to o =
+  appended_within {v' = v'} S t keeper r kind mask a b from to o =
       let i = next_slot S v' (range_of r) in
       let q = in_stretch s n (next_slot S v' (range_of r)) from to in
       let records = records_written s n in
-      put_within RowLink r _ (in-front RowLink r xs records a)
-      (put_within Used (range_of r) _ (in-front Used (range_of r) xs records b)
+      put_within RowLink r _ (in_front RowLink r xs records a)
+      (put_within Used (range_of r) _ (in_front Used (range_of r) xs records b)
       (put_within TailKeeper i keeper (behind TailKeeper i xs records (simp q tt))
       (put_within TailOrdinal i 0 (behind TailOrdinal i xs records (simp q tt))
       (put_within TailStamp i 0 (behind TailStamp i xs records (simp q tt))
@@ -119,10 +119,10 @@ filled_within : {xs : List Part} {v v' : View} (S : Shape) (s n k : ℕ) (f : �
 unfolding filled_in
 filled_within {v' = v'} S s n k f from to g o =
     let C = S.columns in
-    renew_within TailValues _ (changed-length _ (k * C) (v' TailValues) C)
+    renew_within TailValues _ (changed_length _ (k * C) (v' TailValues) C)
     (λ j.
     by_stretch (s * C) (n * C) j
-    (λ d. changed-outside _ (k * C) (v' TailValues) C j (⊎_map (λ u. omega (arith, mul-le-mul_right C from)) (λ u. omega (arith, mul-le-mul_right C to, suc-mul k C, add-mul s n C)) d)) (g j)) o
+    (λ d. changed_outside _ (k * C) (v' TailValues) C j (⊎_map (λ u. omega (arith, mul-le-mul_right C from)) (λ u. omega (arith, mul-le-mul_right C to, suc-mul k C, add-mul s n C)) d)) (g j)) o
 
 -- ---- insert
 -- its cells
@@ -140,9 +140,9 @@ cells_within S v r vs (suc n) j =
 inserted_within : (ps : List ScanEntry) (S : Shape) (t : ℕ) (vs : List ℤ) (v : View) → ChangedWithin (footprint S v ps (insert t vs)) v (inserted_in S t vs v)
 unfolding footprint inserted_in inserted_at put renew open_index
 inserted_within ps S t vs v =
-    noted-within t (simp word_here tt)
+    noted_within t (simp word_here tt)
     (put_within Header rows_at _ tt
-    (renew_within Cells _ (cells-length S (v Current) _ _ vs (v Cells) S.columns) (cells_within S v (rows_given v) vs S.columns)
+    (renew_within Cells _ (cells_length S (v Current) _ _ vs (v Cells) S.columns) (cells_within S v (rows_given v) vs S.columns)
     (put_within RowMask _ 0 (simp word_here tt)
     (put_within RowLink _ 0 (simp word_here tt)
     (put_within RowKeeper _ _ (simp word_here tt)
@@ -162,9 +162,9 @@ merge_within S v g c n =
     (put_within PageMade _ _ (simp word_here tt)
     (put_within PageChunk _ _ (simp word_here tt)
     (put_within PageState _ _ (simp word_here tt)
-    (renew_within Cells _ (applied-length S v g c p low (n - low) _ ∙ changed-length _ (p * range_rows) (v Cells) range_rows) (λ j.
+    (renew_within Cells _ (applied_length S v g c p low (n - low) _ ∙ changed_length _ (p * range_rows) (v Cells) range_rows) (λ j.
     by_stretch (p * range_rows) range_rows j
-    (λ d. applied-outside S v g c p low (n - low) _ j d ∙ changed-outside _ (p * range_rows) (v Cells) range_rows j d) (λ q. simp q tt)) nothing_changed)))))))))
+    (λ d. applied_outside S v g c p low (n - low) _ j d ∙ changed_outside _ (p * range_rows) (v Cells) range_rows j d) (λ q. simp q tt)) nothing_changed)))))))))
   where
     old : ℕ
     old = current_in S v g c
@@ -203,20 +203,20 @@ updated_within ps S t r m vs v = go (eqb (new_bits_in v r m) 0)
     taken : {u : View} (n keeper kind mask : ℕ) (f : ℕ → ℕ) → s ≤ next_slot S u g → next_slot S u g < s + n → ChangedWithin (parts n) v u → ChangedWithin (parts n) v (filled_in S (next_slot S u g) f (appended S t keeper r kind mask u))
     taken {u} n keeper kind mask f from to o =
         filled_within S s n (next_slot S u g) f from to (λ j q. simp q tt)
-        (appended-within (word RowMask r ∷ values_written S s n ∷ row_changed v t r) s n S t keeper r kind mask (simp word_here tt) (simp word_here tt) from to o)
+        (appended_within (word RowMask r ∷ values_written S s n ∷ row_changed v t r) s n S t keeper r kind mask (simp word_here tt) (simp word_here tt) from to o)
 
     go : (b : Bool) → ChangedWithin (parts (cond b 1 2)) v (noted t (put RowMask r (bit_or m (row_in v r).mask) (cond b (setting_appended S t (open_keeper v t) r m vs v) (setting_appended S t (open_keeper v t) r m vs first))))
-    go true = noted-within t (simp word_here tt) (put_within RowMask r _ (simp word_here tt) (taken 1 _ as_setting m _ (omega arith) (omega arith) nothing_changed))
+    go true = noted_within t (simp word_here tt) (put_within RowMask r _ (simp word_here tt) (taken 1 _ as_setting m _ (omega arith) (omega arith) nothing_changed))
     go false =
         let q = next_slot_lem S v first g refl in
-        noted-within t (simp word_here tt)
+        noted_within t (simp word_here tt)
         (put_within RowMask r _ (simp word_here tt) (taken 2 _ as_setting m _ q.0 q.1 (taken 2 _ as_original (new_bits_in v r m) _ (omega arith) (omega arith) nothing_changed)))
 
 deleted_within : (ps : List ScanEntry) (S : Shape) (t r : ℕ) (v : View) → ChangedWithin (footprint S v ps (delete t r)) v (deleted_in S t r v)
 unfolding footprint deleted_in appended put renew open_index
 deleted_within ps S t r v =
-    noted-within t (simp word_here tt)
-    (appended-within (row_changed v t r) (next_slot S v (range_of r)) 1 S t _ r as_delete 0 (simp word_here tt) (simp word_here tt) (omega arith) (omega arith) nothing_changed)
+    noted_within t (simp word_here tt)
+    (appended_within (row_changed v t r) (next_slot S v (range_of r)) 1 S t _ r as_delete 0 (simp word_here tt) (simp word_here tt) (omega arith) (omega arith) nothing_changed)
 
 -- ---- commit and abort
 records_within : (S : Shape) (used ks : List ℕ) (t w : ℕ) (k : Region) (l : List ℕ) (n j : ℕ) → (get_or (mark_tails S used ks t w n l) j 0 ≡ get_or l j 0) ⊎ T (among k j (records_bearing S used ks t k n))
@@ -225,7 +225,7 @@ records_within S used ks t w k l (suc g) j =
     let first = first_slot S.capacity g in
     let here = words_where (bears_at ks first t) k first (get_or used g 0) in
     let others = records_bearing S used ks t k g in
-    ⊎_elim (λ e. ⊎_map (λ q. e ∙ q) (behind k j here others) (records_within S used ks t w k l g j)) (λ a. inr (in-front k j here others a))
+    ⊎_elim (λ e. ⊎_map (λ q. e ∙ q) (behind k j here others) (records_within S used ks t w k l g j)) (λ a. inr (in_front k j here others a))
     (pass_within (bears_at ks first t) (λ i. w) k first (mark_tails S used ks t w g l) (get_or used g 0) j)
 
 marks_within : {xs : List Part} {v v' : View} (S : Shape) (t : ℕ) (rows tails : Region) (w : ℕ) → index rows ≢ index tails
@@ -239,8 +239,8 @@ marks_within {v' = v'} S t rows tails w apart f o =
     let e = renew_there rows tails marked-rows v' apart in
     renew_within tails marked-tails (rw e (marks_length S (v' Used) (v' TailTransaction) t w S.ranges (v' tails)))
     (λ j. rw e (⊎_map (λ q. q) (λ a. f tails j (behind tails j given used a)) (records_within S (v' Used) (v' TailTransaction) t w tails (v' tails) S.ranges j)))
-    (renew_within rows marked-rows (changed-length _ 0 (v' rows) (rows_given v'))
-    (λ j. ⊎_map (λ q. q) (λ a. f rows j (in-front rows j given used a)) (pass_within (bears_at (v' RowTransaction) 0 t) (λ i. w) rows 0 (v' rows) (rows_given v') j)) o)
+    (renew_within rows marked-rows (changed_length _ 0 (v' rows) (rows_given v'))
+    (λ j. ⊎_map (λ q. q) (λ a. f rows j (in_front rows j given used a)) (pass_within (bears_at (v' RowTransaction) 0 t) (λ i. w) rows 0 (v' rows) (rows_given v') j)) o)
 
 settled_within : (xs : List Part) (S : Shape) (v : View) (t state : ℕ) (s : Commit) → ChangedWithin (xs ++ end_written S v t) v (settled S t state s v)
 unfolding settled mark_all renew
@@ -249,19 +249,19 @@ settled_within xs S v t state s =
     let stamps = bearing S v t RowStamp TailStamp in
     let ordinals = bearing S v t RowOrdinal TailOrdinal in
     marks_within S t RowOrdinal TailOrdinal _ (λ e. omega arith) (λ k j a. behind k j xs (states ++ (stamps ++ ordinals)) (behind k j states (stamps ++ ordinals) (behind k j stamps ordinals a)))
-    (marks_within S t RowStamp TailStamp _ (λ e. omega arith) (λ k j a. behind k j xs (states ++ (stamps ++ ordinals)) (behind k j states (stamps ++ ordinals) (in-front k j stamps ordinals a)))
-    (marks_within S t RowState TailState _ (λ e. omega arith) (λ k j a. behind k j xs (states ++ (stamps ++ ordinals)) (in-front k j states (stamps ++ ordinals) a)) nothing_changed))
+    (marks_within S t RowStamp TailStamp _ (λ e. omega arith) (λ k j a. behind k j xs (states ++ (stamps ++ ordinals)) (behind k j states (stamps ++ ordinals) (in_front k j stamps ordinals a)))
+    (marks_within S t RowState TailState _ (λ e. omega arith) (λ k j a. behind k j xs (states ++ (stamps ++ ordinals)) (in_front k j states (stamps ++ ordinals) a)) nothing_changed))
 
 committed_within : (ps : List ScanEntry) (S : Shape) (t s : ℕ) (v : View) → ChangedWithin (footprint S v ps (commit t s)) v (committed_in S t s v)
 unfolding footprint committed_in settled mark_all renew open_index
 committed_within ps S t s v =
     put_within Header commits_at _ tt
     (put_within Header stamp_at s tt
-    (freed-within t (simp word_here tt) (simp word_here tt) (simp word_here tt) (settled_within (word Header stamp_at ∷ word Header commits_at ∷ open_written (open_index v t)) S v t as_committed (next_in v s))))
+    (freed_within t (simp word_here tt) (simp word_here tt) (simp word_here tt) (settled_within (word Header stamp_at ∷ word Header commits_at ∷ open_written (open_index v t)) S v t as_committed (next_in v s))))
 
 aborted_within : (ps : List ScanEntry) (S : Shape) (t : ℕ) (v : View) → ChangedWithin (footprint S v ps (abort t)) v (aborted_in S t v)
 unfolding footprint aborted_in settled mark_all renew open_index
-aborted_within ps S t v = freed-within t (simp word_here tt) (simp word_here tt) (simp word_here tt) (settled_within (open_written (open_index v t)) S v t as_aborted no_commit)
+aborted_within ps S t v = freed_within t (simp word_here tt) (simp word_here tt) (simp word_here tt) (settled_within (open_written (open_index v t)) S v t as_aborted no_commit)
 
 -- ---- begin
 begun_within : (x : ℕ) (v : View) → ChangedWithin (begin_written v) v (begun x v)
@@ -289,7 +289,7 @@ act_within S v ps (sum k c) = nothing_changed
 act_within S v ps (close k) = nothing_changed
 act_within S v ps (merge g c n) = merge_within S v g c n
 act_within S v ps release =
-    renew_within PageState _ (changed-length _ 0 (v PageState) (pages_of S)) (pass_within (releasable ps v) (λ p. as_free) PageState 0 (v PageState) (pages_of S)) nothing_changed
+    renew_within PageState _ (changed_length _ 0 (v PageState) (pages_of S)) (pass_within (releasable ps v) (λ p. as_free) PageState 0 (v PageState) (pages_of S)) nothing_changed
 act_within S v ps (page_cell c r) = nothing_changed
 act_within S v ps (lineage g c) = nothing_changed
 act_within S v ps (crossings r c mark from to stamps) = nothing_changed

@@ -16,10 +16,10 @@ use mir.Val.{to_z}
 use Rattle.terms.specs.Measures.{Shape, range_rows}
 use Rattle.history.specs.History.{Call, History, Row, Record, Version, is_committed, state_of, row_at, inserted_value, inserted, last_setting, range_of, records_of, with_rows, with_tail, with_transactions, with_scans, with_merges, cell_through}
 use Rattle.history.specs.Lists.{All}
-use Rattle.history.proofs.Lists.{by_cases, all_map, all-map₂, all-filterb, all_take, filterb-append, length-change}
+use Rattle.history.proofs.Lists.{by_cases, all_map, all-map₂, all_filterb, all_take, filterb_append, length_change}
 use Rattle.history.specs.Steps.{scan_opened, scan_closed, merged, released, Step, nothing, new_states, row_given, records_made, new_scans, new_merges}
 use Rattle.history.proofs.States.{up_refl, states_last}
-use Rattle.history.proofs.Ranges.{last-unfound}
+use Rattle.history.proofs.Ranges.{last_unfound}
 use Rattle.history.proofs.Merges.{length_released}
 use Rattle.history.proofs.Order.{order_step}
 use Rattle.history.specs.Invariants.{UpTo, InOrder, Through}
@@ -29,11 +29,11 @@ use Rattle.model.specs.Represents.{Holds, NotAfter, every_row, TakenBefore}
 
 -- ---- a row that was not given has no records, and 0 in every cell
 pub last_other : (sees : ℕ → Bool) (r c : ℕ) (v : Version) {l : List Record} → All (λ (x : Record). x.row ≢ r) l → last_setting sees r c v l ≡ v
-last_other sees r c v a = last-unfound sees r c v (all_map (λ x n. rw (ne_eqb x.row r n)) a)
+last_other sees r c v a = last_unfound sees r c v (all_map (λ x n. rw (ne_eqb x.row r n)) a)
 
 pub not_given_lem : (h : History) (g n r : ℕ) → InOrder h → length h.rows ≤ r → All (λ (x : Record). x.row ≢ r) (take n (records_of h g))
 unfolding records_of
-not_given_lem h g n r i b = all_take n (all-filterb _ (all_map (λ x p e. omega (arith, p.inside)) i.records))
+not_given_lem h g n r i b = all_take n (all_filterb _ (all_map (λ x p e. omega (arith, p.inside)) i.records))
 
 pub absent_inserted : (h : History) (r c : ℕ) → length h.rows ≤ r → inserted_value h r c ≡ pos 0
 unfolding inserted_value row_at
@@ -57,7 +57,7 @@ one_longer l x = simp length-append (omega arith)
 
 records_longer : (h : History) (m : List Record) (g : ℕ) → length (records_of h g) ≤ length (records_of (with_tail h (h.tail ++ m)) g)
 unfolding records_of with_tail
-records_longer h m g = simp (filterb-append, length-append) (omega arith)
+records_longer h m g = simp (filterb_append, length-append) (omega arith)
 
 pub grown : {S : Shape} {x : Call} {h h' : History} → Step S h x h' → Grown h h'
 unfolding records_of with_transactions with_rows with_tail with_scans with_merges
@@ -66,7 +66,7 @@ grown (new_states n) = search (le_refl, states_last n)
 grown (row_given _ _ _ _) = search (le_refl, up_refl, one_longer)
 grown {h = h} (records_made _ _ {m} _ _ _) = search (le_refl, up_refl, records_longer h m)
 grown (new_scans (scan_opened _ _ _)) = search (le_refl, up_refl, one_longer)
-grown (new_scans (scan_closed k _)) = search (le_refl, up_refl, length-change)
+grown (new_scans (scan_closed k _)) = search (le_refl, up_refl, length_change)
 grown (new_merges (merged _)) = search (le_refl, up_refl, one_longer)
 grown (new_merges released) = search (le_refl, up_refl, length_released)
 
@@ -79,28 +79,28 @@ taken_step i step g n t a =
 
 -- ---- a step that gives none of the rows in question
 module _ {S : Shape} {y : Call} {h h' : History} (i : InOrder h) (step : Step S h y h') (g c : ℕ) (x : PageWords) where
-  newest-step : Through h g x.lineage → All (NotAfter (state_of h) c x.newest) (take x.lineage (records_of h g))
+  newest_step : Through h g x.lineage → All (NotAfter (state_of h) c x.newest) (take x.lineage (records_of h g))
       → All (NotAfter (state_of h') c x.newest) (take x.lineage (records_of h' g))
-  newest-step t a =
+  newest_step t a =
       let q : Settled h h' g x.lineage = settled_step i t step in
       rw q.records (all-map₂ (λ y e f s n u. f s n (sym e ∙ u)) q.states a)
 
-  cell-step : (r : ℕ) → range_of r ≡ g → Through h g x.lineage → (r < length h.rows) ⊎ (length h'.rows ≤ r)
+  cell_step : (r : ℕ) → range_of r ≡ g → Through h g x.lineage → (r < length h.rows) ⊎ (length h'.rows ≤ r)
       → cell_through h' c r x.lineage ≡ cell_through h c r x.lineage
-  cell-step r e t (inl b) = cell_stays c r x.lineage i (rw e t) b step
-  cell-step r e t (inr b) = cell_absent h' c r x.lineage (order_step i step) b ∙ sym (cell_absent h c r x.lineage i (le_trans (grown step).rows b))
+  cell_step r e t (inl b) = cell_stays c r x.lineage i (rw e t) b step
+  cell_step r e t (inr b) = cell_absent h' c r x.lineage (order_step i step) b ∙ sym (cell_absent h c r x.lineage i (le_trans (grown step).rows b))
 
-  pub holds-step : {Q Q' : ℕ → Type 0} {cell : ℕ → ℕ}
+  pub holds_step : {Q Q' : ℕ → Type 0} {cell : ℕ → ℕ}
       → ((r : ℕ) → range_of r ≡ g → Q' r → Q r × ((r < length h.rows) ⊎ (length h'.rows ≤ r)))
       → Holds h g c Q x cell → Holds h' g c Q' x cell
-  holds-step f o =
+  holds_step f o =
       record {
         through = through_step i o.through step;
-        newest = newest-step o.through o.newest;
+        newest = newest_step o.through o.newest;
         stamped = le_trans o.stamped (grown step).last.stamps;
         cells = λ r e q.
             let p = f r e q in
-            o.cells r e p.0 ∙ sym (cell-step r e o.through p.1);
+            o.cells r e p.0 ∙ sym (cell_step r e o.through p.1);
       }
 
 -- a row is given or not, where a step gives none
@@ -147,9 +147,9 @@ unfolding range_of
 holds_insert {h = h} w g c x {cell} {cell'} i step e new old o =
     record {
       through = through_step i o.through step;
-      newest = newest-step i step g c x o.through o.newest;
+      newest = newest_step i step g c x o.through o.newest;
       stamped = le_trans o.stamped (grown step).last.stamps;
       cells = λ r q u. by_cases (ℕ_discrete r (length h.rows))
           (λ z. rw z (new ∙ sym (cell_new h w c x.lineage i)))
-          (λ f. ap (to_z w32) (old (within r) (omega arith) (λ z. f (omega arith))) ∙ o.cells r q tt ∙ sym (cell-step i step g c x r q o.through (other_row h w r f)));
+          (λ f. ap (to_z w32) (old (within r) (omega arith) (λ z. f (omega arith))) ∙ o.cells r q tt ∙ sym (cell_step i step g c x r q o.through (other_row h w r f)));
     }

@@ -27,55 +27,55 @@ same_truth false false f g = refl
 
 -- ---- counts
 module _ {A : Type 0} where
-  pub any-count : (f : A → Bool) (l : List A) → any f l ≡ ltb 0 (count f l)
-  any-count f [] = refl
-  any-count f (x ∷ l) = rw (any-count f l)
+  pub any_count : (f : A → Bool) (l : List A) → any f l ≡ ltb 0 (count f l)
+  any_count f [] = refl
+  any_count f (x ∷ l) = rw (any_count f l)
       (elim (f x) as (λ b. (b || ltb 0 (count f l)) ≡ ltb 0 (cond b (suc (count f l)) (count f l))) [ true ↦ sym (lt-ltb 0 (suc (count f l)) (omega arith)) | false ↦ refl ])
 
-  pub count-rest : (f : A → Bool) (l : List A) → count f l + count (λ x. not (f x) && true) l ≡ length l
-  count-rest f [] = refl
-  count-rest f (x ∷ l) =
+  pub count_rest : (f : A → Bool) (l : List A) → count f l + count (λ x. not (f x) && true) l ≡ length l
+  count_rest f [] = refl
+  count_rest f (x ∷ l) =
       omega (
         arith,
         cond_suc (f x) (count f l),
         cond_suc (not (f x) && true) (count (λ x. not (f x) && true) l),
-        count-rest f l,
+        count_rest f l,
         elim (f x) as (λ b. one b + one (not b && true) ≡ 1) [ true ↦ refl | false ↦ refl ],
       )
 
-  pub from-count : (f : A → Bool) (i : ℕ) (l : List A) → count_from (λ k x. f x) i l ≡ count f l
-  from-count f i [] = refl
-  from-count f i (x ∷ l) = rw (from-count f (suc i) l)
+  pub from_count : (f : A → Bool) (i : ℕ) (l : List A) → count_from (λ k x. f x) i l ≡ count f l
+  from_count f i [] = refl
+  from_count f i (x ∷ l) = rw (from_count f (suc i) l)
 
-  pub count-from : (f : A → Bool) (i : ℕ) (l : List A) → count f l ≡ count_from (λ k x. f x && true) i l
-  count-from f i l = simp and_true (sym (from-count f i l))
+  pub count_from_lem : (f : A → Bool) (i : ℕ) (l : List A) → count f l ≡ count_from (λ k x. f x && true) i l
+  count_from_lem f i l = simp and_true (sym (from_count f i l))
 
-  pub from-snoc : (p : ℕ → A → Bool) (i : ℕ) (l : List A) (x : A)
+  pub from_snoc : (p : ℕ → A → Bool) (i : ℕ) (l : List A) (x : A)
       → count_from p i (l ++ x ∷ []) ≡ count_from p i l + one (p (i + length l) x)
-  from-snoc p i [] x = cond_suc (p i x) 0 ∙ ap (λ (k : ℕ). 0 + one (p k x)) (sym (add-zero i))
-  from-snoc p i (y ∷ l) x =
+  from_snoc p i [] x = cond_suc (p i x) 0 ∙ ap (λ (k : ℕ). 0 + one (p k x)) (sym (add-zero i))
+  from_snoc p i (y ∷ l) x =
       let e : count_from p (suc i) (l ++ x ∷ []) ≡ count_from p (suc i) l + one (p (i + suc (length l)) x) =
-      from-snoc p (suc i) l x ∙ ap (λ (k : ℕ). count_from p (suc i) l + one (p k x)) (omega arith) in
+      from_snoc p (suc i) l x ∙ ap (λ (k : ℕ). count_from p (suc i) l + one (p k x)) (omega arith) in
       omega (arith, cond_suc (p i y) (count_from p (suc i) (l ++ x ∷ [])), cond_suc (p i y) (count_from p (suc i) l))
 
-  pub from-set : (p : ℕ → A → Bool) (i : ℕ) (l : List A) (k : ℕ) (x d : A) → k < length l
+  pub from_set : (p : ℕ → A → Bool) (i : ℕ) (l : List A) (k : ℕ) (x d : A) → k < length l
       → count_from p i (set l k x) + one (p (i + k) (get_or l k d)) ≡ count_from p i l + one (p (i + k) x)
-  from-set p i [] k x d b = absurd (not-suc-le-zero b)
-  from-set p i (y ∷ l) zero x d b =
+  from_set p i [] k x d b = absurd (not-suc-le-zero b)
+  from_set p i (y ∷ l) zero x d b =
       rw add-zero (omega (arith, cond_suc (p i x) (count_from p (suc i) l), cond_suc (p i y) (count_from p (suc i) l)))
-  from-set p i (y ∷ l) (suc k) x d b =
+  from_set p i (y ∷ l) (suc k) x d b =
       let e : count_from p (suc i) (set l k x) + one (p (i + suc k) (get_or l k d)) ≡ count_from p (suc i) l + one (p (i + suc k) x) =
-      rw (add-suc, ← suc-add) (from-set p (suc i) l k x d (omega arith)) in
+      rw (add-suc, ← suc-add) (from_set p (suc i) l k x d (omega arith)) in
       omega (arith, cond_suc (p i y) (count_from p (suc i) (set l k x)), cond_suc (p i y) (count_from p (suc i) l))
 
   pub count_set : (f : A → Bool) (l : List A) (i : ℕ) (x d : A) → i < length l
       → count f (set l i x) + one (f (get_or l i d)) ≡ count f l + one (f x)
-  count_set f l i x d b = omega (arith, from-set (λ k x. f x) 0 l i x d b, from-count f 0 (set l i x), from-count f 0 l)
+  count_set f l i x d b = omega (arith, from_set (λ k x. f x) 0 l i x d b, from_count f 0 (set l i x), from_count f 0 l)
 
-  pub from-none : (p : ℕ → A → Bool) (i : ℕ) (l : List A) → ((n : ℕ) (x : A) → i ≤ n → n < i + length l → p n x ≡ false)
+  pub from_none : (p : ℕ → A → Bool) (i : ℕ) (l : List A) → ((n : ℕ) (x : A) → i ≤ n → n < i + length l → p n x ≡ false)
       → count_from p i l ≡ 0
-  from-none p i [] f = refl
-  from-none p i (x ∷ l) f = rw (f i x (le_refl i) (omega arith)) (from-none p (suc i) l (λ n y a b. f n y (omega arith) (omega arith)))
+  from_none p i [] f = refl
+  from_none p i (x ∷ l) f = rw (f i x (le_refl i) (omega arith)) (from_none p (suc i) l (λ n y a b. f n y (omega arith) (omega arith)))
 
   pub from_at : (g : ℕ → A → Bool) (i : ℕ) (l : List A) (k : ℕ) (d : A) → ((n : ℕ) → g n d ≡ false)
       → count_from (λ n x. g n x && eqb n (i + k)) i l ≡ one (g (i + k) (get_or l k d))
@@ -85,25 +85,25 @@ module _ {A : Type 0} where
         add-zero,
         eqb_same i,
         and_true (g i x),
-        from-none (λ n x. g n x && eqb n i) (suc i) l (λ n y a b. rw (ne_eqb n i (λ e. omega arith), and_false (g n y))),
+        from_none (λ n x. g n x && eqb n i) (suc i) l (λ n y a b. rw (ne_eqb n i (λ e. omega arith), and_false (g n y))),
       )
   from_at g i (x ∷ l) (suc k) d z =
       rw (add-suc, ne_eqb i (suc (i + k)) (λ e. omega arith), and_false (g i x), ← suc-add) (from_at g (suc i) l k d z)
 
-  pub count-pos : (f : A → Bool) (l : List A) (i : ℕ) (d : A) → i < length l → T (f (get_or l i d)) → 0 < count f l
-  count-pos f [] i d b t = absurd (not-suc-le-zero b)
-  count-pos f (x ∷ l) zero d b t = rw (is_true (f x) t) (omega arith)
-  count-pos f (x ∷ l) (suc i) d b t = omega (arith, cond_suc (f x) (count f l), count-pos f l i d (omega arith) t)
+  pub count_pos : (f : A → Bool) (l : List A) (i : ℕ) (d : A) → i < length l → T (f (get_or l i d)) → 0 < count f l
+  count_pos f [] i d b t = absurd (not-suc-le-zero b)
+  count_pos f (x ∷ l) zero d b t = rw (is_true (f x) t) (omega arith)
+  count_pos f (x ∷ l) (suc i) d b t = omega (arith, cond_suc (f x) (count f l), count_pos f l i d (omega arith) t)
 
   pub take_next : (l : List A) (n : ℕ) (d : A) → n < length l → (f : A → Bool) → any f (take (suc n) l) ≡ (any f (take n l) || (f (get_or l n d) || false))
   take_next l n d b f = rw (take-suc l n d b, any_append)
 
   -- a test of the first n by their index
-  pub any_below : (l : List A) (d : A) (F : ℕ → Bool) (f : A → Bool) (n : ℕ) → n ≤ length l → ((i : ℕ) → i < n → F i ≡ f (get_or l i d)) → any_below F n ≡ any f (take n l)
+  pub any_below_lem : (l : List A) (d : A) (F : ℕ → Bool) (f : A → Bool) (n : ℕ) → n ≤ length l → ((i : ℕ) → i < n → F i ≡ f (get_or l i d)) → any_below F n ≡ any f (take n l)
   unfolding any_below
-  any_below l d F f zero b e = refl
-  any_below l d F f (suc n) b e =
-      rw (take_next l n d b f, or-false (f (get_or l n d)), any_below l d F f n (omega arith) (λ i u. e i (omega arith)), e n (omega arith))
+  any_below_lem l d F f zero b e = refl
+  any_below_lem l d F f (suc n) b e =
+      rw (take_next l n d b f, or-false (f (get_or l n d)), any_below_lem l d F f n (omega arith) (λ i u. e i (omega arith)), e n (omega arith))
 
   -- ---- the index that is found
   pub first_below : (f : A → Bool) (l : List A) → T (any f l) → firstIndex f l < length l
@@ -122,14 +122,14 @@ module _ (f : ℕ → Bool) where
       (λ q. absurd (T_not (f j) (rw q at u) t))
       (λ q. omega (arith, first_found n (suc i) j (omega arith) (omega arith) t)))
 
-  pub first-is : (n i : ℕ) → first_from f n i < i + n → T (f (first_from f n i))
-  first-is zero i = λ b. absurd (omega arith)
-  first-is (suc n) i = by_test (λ c. cond c i (first_from f n (suc i)) < i + suc n → T (f (cond c i (first_from f n (suc i))))) (f i) (λ t _. t) (λ _ b. first-is n (suc i) (omega arith))
+  pub first_is : (n i : ℕ) → first_from f n i < i + n → T (f (first_from f n i))
+  first_is zero i = λ b. absurd (omega arith)
+  first_is (suc n) i = by_test (λ c. cond c i (first_from f n (suc i)) < i + suc n → T (f (cond c i (first_from f n (suc i))))) (f i) (λ t _. t) (λ _ b. first_is n (suc i) (omega arith))
 
-  pub first-only : (n j : ℕ) → j < n → T (f j) → ((k : ℕ) → k < n → T (f k) → k ≡ j) → first_from f n 0 ≡ j
-  first-only n j b t u =
+  pub first_only : (n j : ℕ) → j < n → T (f j) → ((k : ℕ) → k < n → T (f k) → k ≡ j) → first_from f n 0 ≡ j
+  first_only n j b t u =
       let c : first_from f n 0 < 0 + n = first_found n 0 j zero-le (omega arith) t in
-      u _ (omega arith) (first-is n 0 c)
+      u _ (omega arith) (first_is n 0 c)
 
 pub first_ext : (f g : ℕ → Bool) (n i : ℕ) → ((k : ℕ) → i ≤ k → k < i + n → f k ≡ g k) → first_from f n i ≡ first_from g n i
 first_ext f g zero i e = refl
@@ -195,7 +195,7 @@ pub first_none : (f : ℕ → Bool) (n : ℕ) → leb n (first_from f n 0) ≡ e
 first_none f n = same_truth _ _
     (λ t. let a : n ≤ first_from f n 0 = leb→le n _ t in
     eqb_equal (count_below f n) 0 (below_none f n (λ k b. refuted (f k) (λ t. omega (arith, first_found f n 0 k zero-le (omega arith) t)))))
-    (λ t. by_cases (dec_lt (first_from f n 0) n) (λ a. absurd (omega (arith, eqb→eq (count_below f n) 0 t, below_pos f n _ a (first-is f n 0 (omega arith))))) (λ b. le→leb n _ (omega arith)))
+    (λ t. by_cases (dec_lt (first_from f n 0) n) (λ a. absurd (omega (arith, eqb→eq (count_below f n) 0 t, below_pos f n _ a (first_is f n 0 (omega arith))))) (λ b. le→leb n _ (omega arith)))
 
 -- ---- equal parts of length n, one after the other: part a starts at a * n
 pub part_in : (m n a i : ℕ) → a < m → i < n → a * n + i < m * n

@@ -18,7 +18,7 @@ use Rattle.history.specs.Lists.{nil}
 use Rattle.history.proofs.Lists.{by_cases, both_test, le_test}
 use Rattle.loops.specs.Change.{numbered}
 use Rattle.words.specs.Words.{Fit}
-use Rattle.loops.proofs.Change.{changed-length, changed-outside, changed_fit, zeros}
+use Rattle.loops.proofs.Change.{changed_length, changed_outside, changed_fit, zeros}
 use Rattle.layout.specs.Regions.{len, columns_word}
 use Rattle.layout.proofs.Moved.{columns_fit}
 use Rattle.layout.specs.View.{blank, renew, put}
@@ -52,29 +52,29 @@ unfolding within_limits
 small_shape S t = let limits = simp (both_test, le_test) at t in search limits
 
 module _ (F : Form) (S : Shape) (small : Small S) where
-  few-chunks : chunks_of S ≤ most_chunks
-  few-chunks = mul-le-mul small.columns small.ranges
+  few_chunks : chunks_of S ≤ most_chunks
+  few_chunks = mul-le-mul small.columns small.ranges
 
   -- ---- the words of the pages
-  state-first : (p : ℕ) → p < chunks_of S → (page_in (made_view F S) p).state ≡ as_current
+  state_first : (p : ℕ) → p < chunks_of S → (page_in (made_view F S) p).state ≡ as_current
   unfolding made_view blank put renew page_in
-  state-first p b = changed_start (λ i x. as_current) (chunks_of S) (replicate (pages_of S) 0) p (rw length-replicate (omega arith)) b
+  state_first p b = changed_start (λ i x. as_current) (chunks_of S) (replicate (pages_of S) 0) p (rw length-replicate (omega arith)) b
 
-  state-rest : (p : ℕ) → chunks_of S ≤ p → (page_in (made_view F S) p).state ≡ 0
+  state_rest : (p : ℕ) → chunks_of S ≤ p → (page_in (made_view F S) p).state ≡ 0
   unfolding made_view blank put renew page_in
-  state-rest p b = changed-outside (λ i x. as_current) 0 (replicate (pages_of S) 0) (chunks_of S) p (inr (omega arith)) ∙ zeros (pages_of S) p
+  state_rest p b = changed_outside (λ i x. as_current) 0 (replicate (pages_of S) 0) (chunks_of S) p (inr (omega arith)) ∙ zeros (pages_of S) p
 
-  page-made : (p : ℕ) → p < chunks_of S → page_in (made_view F S) p ≡ record { state = as_current; chunk = p; made = 0; replaced = 0; lineage = 0; newest = 0 }
+  page_made : (p : ℕ) → p < chunks_of S → page_in (made_view F S) p ≡ record { state = as_current; chunk = p; made = 0; replaced = 0; lineage = 0; newest = 0 }
   unfolding made_view blank put renew page_in
-  page-made p b = let room : chunks_of S ≤ length {A = ℕ} (replicate (pages_of S) 0) = rw length-replicate (omega arith) in simp (changed_start, zeros)
+  page_made p b = let room : chunks_of S ≤ length {A = ℕ} (replicate (pages_of S) 0) = rw length-replicate (omega arith) in simp (changed_start, zeros)
 
-  current-made : (g c : ℕ) → g < S.ranges → c < S.columns → current_in S (made_view F S) g c ≡ chunk_of S g c
+  current_made : (g c : ℕ) → g < S.ranges → c < S.columns → current_in S (made_view F S) g c ≡ chunk_of S g c
   unfolding made_view blank put renew current_in
-  current-made g c a b = changed_start (λ i x. i) (chunks_of S) (replicate (chunks_of S) 0) (chunk_of S g c) (rw length-replicate (le_refl _)) (chunk_in S g c a b)
+  current_made g c a b = changed_start (λ i x. i) (chunks_of S) (replicate (chunks_of S) 0) (chunk_of S g c) (rw length-replicate (le_refl _)) (chunk_in S g c a b)
 
-  holds-made : (g c : ℕ) (cell : ℕ → ℕ) → ((i : ℕ) → cell i ≡ 0) → (p : ℕ) → Holds start g c every_row record { state = as_current; chunk = p; made = 0; replaced = 0; lineage = 0; newest = 0 } cell
+  holds_made : (g c : ℕ) (cell : ℕ → ℕ) → ((i : ℕ) → cell i ≡ 0) → (p : ℕ) → Holds start g c every_row record { state = as_current; chunk = p; made = 0; replaced = 0; lineage = 0; newest = 0 } cell
   unfolding start cell_through records_of last_setting inserted inserted_value row_at
-  holds-made g c cell z p =
+  holds_made g c cell z p =
       record {
         through = record { within = zero-le; closed_all = nil };
         newest = nil;
@@ -82,91 +82,91 @@ module _ (F : Form) (S : Shape) (small : Small S) where
         cells = λ r e q. ap (to_z w32) (z (within r));
       }
 
-  cells-made : (p i : ℕ) → cell_in (made_view F S) p i ≡ 0
+  cells_made : (p i : ℕ) → cell_in (made_view F S) p i ≡ 0
   unfolding made_view blank put renew cell_in
-  cells-made p i = zeros (pages_of S * range_rows) (p * range_rows + i)
+  cells_made p i = zeros (pages_of S * range_rows) (p * range_rows + i)
 
-  currents-made : CurrentsAre S start (made_view F S)
-  currents-made g c a b =
-      rw (current-made g c a b, page-made (chunk_of S g c) (chunk_in S g c a b))
+  currents_made : CurrentsAre S start (made_view F S)
+  currents_made g c a b =
+      rw (current_made g c a b, page_made (chunk_of S g c) (chunk_in S g c a b))
       record {
         inside = omega (arith, chunk_in S g c a b);
         state = refl;
         chunk = refl;
         made = zero-le;
         lineage = unfold merged_through last_through start in refl;
-        holds = holds-made g c (cell_in (made_view F S) (chunk_of S g c)) (cells-made (chunk_of S g c)) (chunk_of S g c);
+        holds = holds_made g c (cell_in (made_view F S) (chunk_of S g c)) (cells_made (chunk_of S g c)) (chunk_of S g c);
       }
 
-  state-not-waiting : (p : ℕ) → waiting_page (page_in (made_view F S) p).state ≡ false
-  state-not-waiting p = by_cases (dec_lt p (chunks_of S)) (λ b. ap waiting_page (state-first p b)) (λ b. ap waiting_page (state-rest p (omega arith)))
+  state_not_waiting : (p : ℕ) → waiting_page (page_in (made_view F S) p).state ≡ false
+  state_not_waiting p = by_cases (dec_lt p (chunks_of S)) (λ b. ap waiting_page (state_first p b)) (λ b. ap waiting_page (state_rest p (omega arith)))
 
-  pool-made : PoolIs S [] (page_in (made_view F S))
-  pool-made =
+  pool_made : PoolIs S [] (page_in (made_view F S))
+  pool_made =
       record {
         current =
             below_first (λ p. current_page (page_in (made_view F S) p).state) (chunks_of S) (pages_of S) (omega arith)
-            (λ p b. ap current_page (state-first p b)) (λ p a b. ap current_page (state-rest p a));
-        waiting = λ q. below_none (λ p. waiting_page (page_in (made_view F S) p).state && q (page_in (made_view F S) p).replaced) (pages_of S) (λ p b. ap (λ (w : Bool). w && q (page_in (made_view F S) p).replaced) (state-not-waiting p));
+            (λ p b. ap current_page (state_first p b)) (λ p a b. ap current_page (state_rest p a));
+        waiting = λ q. below_none (λ p. waiting_page (page_in (made_view F S) p).state && q (page_in (made_view F S) p).replaced) (pages_of S) (λ p b. ap (λ (w : Bool). w && q (page_in (made_view F S) p).replaced) (state_not_waiting p));
       }
 
-  blank-whole : Whole F S (blank (sizes_of F S))
+  blank_whole : Whole F S (blank (sizes_of F S))
   unfolding blank
-  blank-whole = record { long = λ k. length-replicate (len (sizes_of F S) k) 0; fits = λ k i. rw (zeros (len (sizes_of F S) k) i) (omega arith) }
+  blank_whole = record { long = λ k. length-replicate (len (sizes_of F S) k) 0; fits = λ k i. rw (zeros (len (sizes_of F S) k) i) (omega arith) }
 
-  blank-long : (k : Region) → length (blank (sizes_of F S) k) ≡ len (sizes_of F S) k
-  blank-long k = blank-whole.long k
+  blank_long : (k : Region) → length (blank (sizes_of F S) k) ≡ len (sizes_of F S) k
+  blank_long k = blank_whole.long k
 
-  number-fit : (l : List ℕ) → Fit l → Fit (numbered 0 (chunks_of S) l)
-  number-fit l f = changed_fit (λ i x. i) 0 (chunks_of S) l (λ i x a b. omega (arith, few-chunks)) f
+  number_fit : (l : List ℕ) → Fit l → Fit (numbered 0 (chunks_of S) l)
+  number_fit l f = changed_fit (λ i x. i) 0 (chunks_of S) l (λ i x a b. omega (arith, few_chunks)) f
 
-  made-whole : Whole F S (made_view F S)
+  made_whole : Whole F S (made_view F S)
   unfolding made_view
-  made-whole =
+  made_whole =
       put_whole Header 0 (columns_word F S.columns) (columns_fit F S.columns small.columns)
       (put_whole Header 1 S.ranges (omega (arith, small.ranges))
       (put_whole Header 2 S.capacity (omega (arith, small.capacity))
       (put_whole Header 3 S.spares (omega (arith, small.spares))
-      (renew_whole Current _ (changed-length (λ i x. i) 0 (blank (sizes_of F S) Current) (chunks_of S) ∙ blank-long Current) (number-fit (blank (sizes_of F S) Current) (blank-whole.fits Current))
-      (renew_whole PageChunk _ (changed-length (λ i x. i) 0 (blank (sizes_of F S) PageChunk) (chunks_of S) ∙ blank-long PageChunk) (number-fit (blank (sizes_of F S) PageChunk) (blank-whole.fits PageChunk))
-      (renew_whole PageState _ (changed-length (λ i x. as_current) 0 (blank (sizes_of F S) PageState) (chunks_of S) ∙ blank-long PageState)
-      (changed_fit (λ i x. as_current) 0 (chunks_of S) (blank (sizes_of F S) PageState) (λ i x a b. omega arith) (blank-whole.fits PageState)) blank-whole))))))
+      (renew_whole Current _ (changed_length (λ i x. i) 0 (blank (sizes_of F S) Current) (chunks_of S) ∙ blank_long Current) (number_fit (blank (sizes_of F S) Current) (blank_whole.fits Current))
+      (renew_whole PageChunk _ (changed_length (λ i x. i) 0 (blank (sizes_of F S) PageChunk) (chunks_of S) ∙ blank_long PageChunk) (number_fit (blank (sizes_of F S) PageChunk) (blank_whole.fits PageChunk))
+      (renew_whole PageState _ (changed_length (λ i x. as_current) 0 (blank (sizes_of F S) PageState) (chunks_of S) ∙ blank_long PageState)
+      (changed_fit (λ i x. as_current) 0 (chunks_of S) (blank (sizes_of F S) PageState) (λ i x a b. omega arith) (blank_whole.fits PageState)) blank_whole))))))
 
-  pub made-represents : (n : ℕ) → most_scans ≤ n → Represents F S (made_view F S) (replicate n free_entry) start
-  made-represents n enough =
+  pub made_represents : (n : ℕ) → most_scans ≤ n → Represents F S (made_view F S) (replicate n free_entry) start
+  made_represents n enough =
       record {
         header = unfold made_view blank put renew start in record { columns = refl; ranges = refl; capacity = refl; spares = refl; rows_given = refl; transactions_given = refl; scans_given = refl; last_stamp = refl; commits_made = refl; merges_made = refl };
         opens = unfold made_view blank put renew start in (λ q. refl);
-        notes = λ j b f. absurd (f (no-open j));
+        notes = λ j b f. absurd (f (no_open j));
         keepers = record {
           of_rows = λ r b. absurd (no_rows r b);
-          of_records = λ g j b u. absurd (no-records g j u);
-          of_opens = λ j f. absurd (f (no-open j));
+          of_records = λ g j b u. absurd (no_records g j u);
+          of_opens = λ j f. absurd (f (no_open j));
           small = no_keeper;
         };
         rows = λ r b. absurd (no_rows r b);
         tails = λ g b. unfold made_view blank put renew start records_of in record { used_all = zeros S.ranges g; each = λ k u. absurd (not-suc-le-zero u); links = λ k u. absurd (not-suc-le-zero u) };
-        currents = currents-made;
-        waits = λ p b t. absurd (rw (state-not-waiting p) at t);
-        pool = unfold start in pool-made;
+        currents = currents_made;
+        waits = λ p b t. absurd (rw (state_not_waiting p) at t);
+        pool = unfold start in pool_made;
         scans = unfold start in record { room = rw length-replicate enough; same = λ q. none_counted (λ p. not (eqb p.number 0) && q p) n free_entry refl };
-        scan_pages = λ k t. absurd (no-scan k t);
-        whole = made-whole;
+        scan_pages = λ k t. absurd (no_scan_lem k t);
+        whole = made_whole;
       }
     where
-      no-open : (j : ℕ) → get_or (made_view F S Opens) j 0 ≡ 0
-      no-open j = unfold made_view blank put renew in (zeros most_transactions j)
+      no_open : (j : ℕ) → get_or (made_view F S Opens) j 0 ≡ 0
+      no_open j = unfold made_view blank put renew in (zeros most_transactions j)
 
       no_rows : (r : ℕ) → r < length start.rows → ⊥
       no_rows r b = unfold start in (not-suc-le-zero b)
 
-      no-records : (g j : ℕ) → j < length (records_of start g) → ⊥
-      no-records g j b = unfold start records_of in (not-suc-le-zero b)
+      no_records : (g j : ℕ) → j < length (records_of start g) → ⊥
+      no_records g j b = unfold start records_of in (not-suc-le-zero b)
 
       no_keeper : (t : ℕ) → keeper_of start t < keeper_limit
       no_keeper zero = unfold keeper_of start in (omega arith)
       no_keeper (suc t) = unfold keeper_of start in (omega arith)
 
-      no-scan : (k : ℕ) → T (scan_at start k).running → ⊥
-      no-scan zero t = unfold scan_at start in t
-      no-scan (suc k) t = unfold scan_at start in t
+      no_scan_lem : (k : ℕ) → T (scan_at start k).running → ⊥
+      no_scan_lem zero t = unfold scan_at start in t
+      no_scan_lem (suc k) t = unfold scan_at start in t

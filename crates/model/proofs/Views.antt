@@ -14,7 +14,7 @@ use lib.Seq.{get_or-set_same, get_or-set_other}
 use borrow.Author.Tests.{ne_eqb}
 use Rattle.words.specs.Words.{Fit}
 use Rattle.loops.specs.Change.{changed}
-use Rattle.loops.proofs.Change.{changed-at, set_fit}
+use Rattle.loops.proofs.Change.{changed_at_lem, set_fit}
 use Rattle.layout.specs.Regions.{index, len}
 use Rattle.layout.specs.View.{View, renew, put}
 use Rattle.layout.proofs.View.{renew_long}
@@ -43,17 +43,17 @@ noted_whole t = put_whole Changes _ _ (omega arith)
 -- ---- a pass over a region from its start
 pub changed_start : (f : ℕ → ℕ → ℕ) (n : ℕ) (l : List ℕ) (i : ℕ) → n ≤ length l → i < n → get_or (changed f 0 n l) i 0 ≡ f i (get_or l i 0)
 changed_start f n l i a b =
-    ap (λ (j : ℕ). get_or (changed f 0 n l) j 0) (sym (zero-add i)) ∙ changed-at f 0 l n i (omega arith) b ∙ ap (λ (j : ℕ). f i (get_or l j 0)) (zero-add i)
+    ap (λ (j : ℕ). get_or (changed f 0 n l) j 0) (sym (zero-add i)) ∙ changed_at_lem f 0 l n i (omega arith) b ∙ ap (λ (j : ℕ). f i (get_or l j 0)) (zero-add i)
 
 -- ---- the header: one of its counts is written, and counts that are equal
 word_put : (ws : List ℕ) (i k n : ℕ) → i < length ws → get_or (set ws i n) k 0 ≡ cond (eqb k i) n (get_or ws k 0)
 word_put ws i k n b = by_cases (ℕ_discrete k i) (λ e. rw (e, eqb_same i) (get_or-set_same ws i n 0 b)) (λ f. rw (ne_eqb k i f) (get_or-set_other ws i k n 0 f))
 
 module _ {F : Form} {S : Shape} {r t s : ℕ} {l : Commit} {m : ℕ} where
-  pub header-put : (ws : List ℕ) (i n : ℕ) → i < length ws → 4 ≤ i → HeaderIs F S r t s l m (λ k. get_or ws k 0)
+  pub header_put : (ws : List ℕ) (i n : ℕ) → i < length ws → 4 ≤ i → HeaderIs F S r t s l m (λ k. get_or ws k 0)
       → HeaderIs F S (cond (eqb 4 i) n r) (cond (eqb 5 i) n t) (cond (eqb 6 i) n s) record { stamp = cond (eqb 7 i) n l.stamp; ordinal = cond (eqb 9 i) n l.ordinal } (cond (eqb 8 i) n m)
       (λ k. get_or (set ws i n) k 0)
-  header-put ws i n b d o =
+  header_put ws i n b d o =
       record {
         columns = get_or-set_other ws i 0 n 0 (λ e. omega arith) ∙ o.columns;
         ranges = get_or-set_other ws i 1 n 0 (λ e. omega arith) ∙ o.ranges;
@@ -67,5 +67,5 @@ module _ {F : Form} {S : Shape} {r t s : ℕ} {l : Commit} {m : ℕ} where
         merges_made = word_put ws i 8 n b ∙ ap (cond (eqb 8 i) n) o.merges_made;
       }
 
-  pub header-same : {r' t' s' m' : ℕ} {word : ℕ → ℕ} → r ≡ r' → t ≡ t' → s ≡ s' → m ≡ m' → HeaderIs F S r t s l m word → HeaderIs F S r' t' s' l m' word
-  header-same a b c d o = rw (← a, ← b, ← c, ← d) o
+  pub header_same : {r' t' s' m' : ℕ} {word : ℕ → ℕ} → r ≡ r' → t ≡ t' → s ≡ s' → m ≡ m' → HeaderIs F S r t s l m word → HeaderIs F S r' t' s' l m' word
+  header_same a b c d o = rw (← a, ← b, ← c, ← d) o

@@ -64,53 +64,53 @@ module _ (to other : Form) (o : other ≡ other_form to) (e : Admission) (m : Li
     pub fitted : Fitted s m
     fitted = known.fitted
 
-    other-is : is_form (other_form to) s.form ≡ true
-    other-is = rw o at (admitted (is_form other) e s n m t f h).1
+    other_is : is_form (other_form to) s.form ≡ true
+    other_is = rw o at (admitted (is_form other) e s n m t f h).1
 
     module _ (r : Sizes) (q : r ≡ in_form to s) where
       pub small : need r < too_many_words
       small = rw q (moved_small to s known.fitted.proper)
 
-      moved-is : r ≡ sizes_of to (shape_in s)
-      moved-is = q ∙ ap (in_form to) known.fitted.sizes_are
+      moved_is : r ≡ sizes_of to (shape_in s)
+      moved_is = q ∙ ap (in_form to) known.fitted.sizes_are
 
-      pub sizes-moved : r ≡ sizes_of r.form (shape_in s)
-      sizes-moved = subst (λ (x : Sizes). x ≡ sizes_of x.form (shape_in s)) (sym moved-is) refl
+      pub sizes_moved : r ≡ sizes_of r.form (shape_in s)
+      sizes_moved = subst (λ (x : Sizes). x ≡ sizes_of x.form (shape_in s)) (sym moved_is) refl
 
       pub word_moved : (word : ℕ) → word ≡ columns_word to s.columns → word ≡ columns_word r.form s.columns
       word_moved word d = d ∙ ap (λ (x : Sizes). columns_word x.form s.columns) (sym q)
 
       -- the words needed
       module _ (w : ℕ) (z : w ≡ need r) (second : List ℕ) where
-        bytes-are : w * 4 ≡ bytes_needed to (shape_in s)
+        bytes_are : w * 4 ≡ bytes_needed to (shape_in s)
         unfolding bytes_needed
-        bytes-are = rw (z, moved-is)
+        bytes_are = rw (z, moved_is)
 
         -- ---- the second memory is too short
         pub short : length second < w * 4 → MovesBy t m (Call.move to second) (Answer.Refused Refusal.Memory) second
         unfolding MovesBy Moves answer_of second_after admits stored_sizes
         short b = λ ps l.
             let p = known.listed ps l in
-            let few : leb (bytes_needed to (stored_shape (words m))) (length second) ≡ false = ap (λ (x : Sizes). leb (bytes_needed to (shape_in x)) (length second)) (sym p.sizes_are) ∙ lt-leb (bytes_needed to (shape_in s)) (length second) (rw bytes-are at b) in
+            let few : leb (bytes_needed to (stored_shape (words m))) (length second) ≡ false = ap (λ (x : Sizes). leb (bytes_needed to (shape_in x)) (length second)) (sym p.sizes_are) ∙ lt-leb (bytes_needed to (shape_in s)) (length second) (rw bytes_are at b) in
             (rw (few, and_false (is_form (other_form to) (stored_form (words m)))), rw (few, and_false (is_form (other_form to) (stored_form (words m)))))
 
         -- ---- it is long enough
         module _ (room : w * 4 ≤ length second) where
           module _ (ps : List ScanEntry) (p : PassedWith s m ps) where
-            admits-it : admits (lend m ps) (move to second) ≡ true
+            admits_it : admits (lend m ps) (move to second) ≡ true
             unfolding admits stored_sizes
-            admits-it =
-                let a : is_form (other_form to) (stored_form (words m)) ≡ true = ap (λ (x : Sizes). is_form (other_form to) x.form) (sym p.sizes_are) ∙ other-is in
-                let b : leb (bytes_needed to (stored_shape (words m))) (length second) ≡ true = ap (λ (x : Sizes). leb (bytes_needed to (shape_in x)) (length second)) (sym p.sizes_are) ∙ le-leb (bytes_needed to (shape_in s)) (length second) (rw bytes-are at room) in
+            admits_it =
+                let a : is_form (other_form to) (stored_form (words m)) ≡ true = ap (λ (x : Sizes). is_form (other_form to) x.form) (sym p.sizes_are) ∙ other_is in
+                let b : leb (bytes_needed to (stored_shape (words m))) (length second) ≡ true = ap (λ (x : Sizes). leb (bytes_needed to (shape_in x)) (length second)) (sym p.sizes_are) ∙ le-leb (bytes_needed to (shape_in s)) (length second) (rw bytes_are at room) in
                 rw (a, b, p.passed)
 
-            answer-is : say (shape_in s) (view_of s m) ps (move to second) ≡ answer_of (lend m ps) (move to second)
+            answer_is : say (shape_in s) (view_of s m) ps (move to second) ≡ answer_of (lend m ps) (move to second)
             unfolding answer_of store_view stored_sizes stored_shape
-            answer-is = rw (admits-it, p.sizes_are)
+            answer_is = rw (admits_it, p.sizes_are)
 
             second_is : laid_into (form_use (move to second)) (is_accepted (say (shape_in s) (view_of s m) ps (move to second))) (shape_in s) (store_next (shape_in s) (view_of s m) ps (move to second)) second ≡ second_after (lend m ps) (move to second)
             unfolding second_after store_view stored_sizes stored_shape
-            second_is = rw (admits-it, p.sizes_are)
+            second_is = rw (admits_it, p.sizes_are)
 
           module _ (b : Bool) (k : b ≡ (is_form Form.First to && keeper_borne_in (shape_in s) (view_of s m))) where
             -- a keeper would be lost
@@ -120,7 +120,7 @@ module _ (to other : Form) (o : other ≡ other_form to) (e : Admission) (m : Li
                 let p = known.listed ps l in
                 let x = lost_verdict to (shape_in s) (view_of s m) b k y in
                 let a : Answer.Refused Refusal.Keeper ≡ say (shape_in s) (view_of s m) ps (move to second) = rw x in
-                (a ∙ answer-is ps p, ap (λ (u : Answer). laid_into (form_use (move to second)) (is_accepted u) (shape_in s) (store_next (shape_in s) (view_of s m) ps (move to second)) second) a ∙ second_is ps p)
+                (a ∙ answer_is ps p, ap (λ (u : Answer). laid_into (form_use (move to second)) (is_accepted u) (shape_in s) (store_next (shape_in s) (view_of s m) ps (move to second)) second) a ∙ second_is ps p)
 
             -- none is, and p was left in the bytes needed
             pub done : b ≡ false → (p : List ℕ) → view_of r p ≡ moved r.form (shape_in s) (view_of s m) → length p ≡ length (take (w * 4) second) → FitBytes (p ++ drop (w * 4) second)
@@ -132,6 +132,6 @@ module _ (to other : Form) (o : other ≡ other_form to) (e : Admission) (m : Li
                 let a : Answer.Done ≡ say (shape_in s) (view_of s m) ps (move to second) = rw x in
                 let seen : view_of r p ≡ moved to (shape_in s) (view_of s m) = d ∙ ap (λ (x : Sizes). moved x.form (shape_in s) (view_of s m)) q in
                 let laid : p ++ drop (w * 4) second ≡ lay r (moved to (shape_in s) (view_of s m)) second = lent r (w * 4) second p (λ v. moved to (shape_in s) (view_of s m)) seen g (λ i. (u i).fits) (omega (arith, z)) (omega (arith, z)) in
-                let left : p ++ drop (w * 4) second ≡ lay (sizes_of to (shape_in s)) (moved to (shape_in s) (view_of s m)) second = laid ∙ ap (λ (x : Sizes). lay x (moved to (shape_in s) (view_of s m)) second) moved-is in
+                let left : p ++ drop (w * 4) second ≡ lay (sizes_of to (shape_in s)) (moved to (shape_in s) (view_of s m)) second = laid ∙ ap (λ (x : Sizes). lay x (moved to (shape_in s) (view_of s m)) second) moved_is in
                 let there : lay (sizes_of to (shape_in s)) (moved to (shape_in s) (view_of s m)) second ≡ laid_into (form_use (move to second)) (is_accepted (say (shape_in s) (view_of s m) ps (move to second))) (shape_in s) (store_next (shape_in s) (view_of s m) ps (move to second)) second = rw x in
-                (a ∙ answer-is ps passed, left ∙ there ∙ second_is ps passed)
+                (a ∙ answer_is ps passed, left ∙ there ∙ second_is ps passed)

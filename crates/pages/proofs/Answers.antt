@@ -39,43 +39,43 @@ limits_passed S ok within t = sym within ∙ not-false ok t
 
 module _ (m : List ℕ) (w b c d : ℕ) (ew : w ≡ get_or (words m) columns_at 0) (eb : b ≡ get_or (words m) ranges_at 0) (ec : c ≡ get_or (words m) capacity_at 0) (ed : d ≡ get_or (words m) spares_at 0)
     (known : Bool) (said : known ≡ form_known w) (form : not known ≡ false) (ok : Bool) (within : ok ≡ within_limits (shape_of (columns_in w) b c d)) where
-  shape-read : shape_of (columns_in w) b c d ≡ stored_shape (words m)
+  shape_read : shape_of (columns_in w) b c d ≡ stored_shape (words m)
   unfolding stored_shape
-  shape-read = rw (← ew, ← eb, ← ec, ← ed)
+  shape_read = rw (← ew, ← eb, ← ec, ← ed)
 
   -- the test of form and measures is that of the measures
-  limits-read : measures_hold (words m) ≡ ok
+  limits_read : measures_hold (words m) ≡ ok
   unfolding measures_hold
-  limits-read = rw (← ew, ← said, not-false known form, ← shape-read, ← within)
+  limits_read = rw (← ew, ← said, not-false known form, ← shape_read, ← within)
 
-  pub out-of-limits : measures_bytes ≤ length m → not ok ≡ true → Unfit ≡ measured m
+  pub out_of_limits : measures_bytes ≤ length m → not ok ≡ true → Unfit ≡ measured m
   unfolding measured roomy
-  out-of-limits h t = rw (le-leb measures_bytes (length m) h, limits-read, not-true ok t)
+  out_of_limits h t = rw (le-leb measures_bytes (length m) h, limits_read, not-true ok t)
 
   module _ (t : not ok ≡ false) where
-    within-limits : within_limits (shape_of (columns_in w) b c d) ≡ true
-    within-limits = limits_passed (shape_of (columns_in w) b c d) ok within t
+    within_limits_lem : within_limits (shape_of (columns_in w) b c d) ≡ true
+    within_limits_lem = limits_passed (shape_of (columns_in w) b c d) ok within t
 
     module _ (f : Form) (ef : f ≡ form_in w) (s : Sizes) (z : s ≡ sizes_of f (shape_of (columns_in w) b c d)) where
-      sizes-read : s ≡ stored_sizes (words m)
+      sizes_read : s ≡ stored_sizes (words m)
       unfolding stored_sizes stored_form
-      sizes-read = z ∙ rw (ef, ew, ← shape-read, ew)
+      sizes_read = z ∙ rw (ef, ew, ← shape_read, ew)
 
       -- the words needed, and their bytes, are few
-      pub words-few : need s < 2 ^ 62
-      words-few = rw z (omega (arith, need_small f (shape_of (columns_in w) b c d) within-limits))
+      pub words_few : need s < 2 ^ 62
+      words_few = rw z (omega (arith, need_small f (shape_of (columns_in w) b c d) within_limits_lem))
 
       module _ (n : ℕ) (e : n ≡ need s) where
-        pub bytes-few : Fits w64 (n * 4)
-        bytes-few = record { fits = rw (e, z) (omega (arith, need_small f (shape_of (columns_in w) b c d) within-limits)) }
+        pub bytes_few : Fits w64 (n * 4)
+        bytes_few = record { fits = rw (e, z) (omega (arith, need_small f (shape_of (columns_in w) b c d) within_limits_lem)) }
 
         pub no_room : measures_bytes ≤ length m → length m < n * 4 → Unfit ≡ measured m
         unfolding measured roomy
-        no_room h k = rw (le-leb measures_bytes (length m) h, limits-read, not-false ok t, ← sizes-read, ← e, lt-leb (n * 4) (length m) k)
+        no_room h k = rw (le-leb measures_bytes (length m) h, limits_read, not-false ok t, ← sizes_read, ← e, lt-leb (n * 4) (length m) k)
 
         pub fit : measures_bytes ≤ length m → n * 4 ≤ length m → Fit s ≡ measured m
         unfolding measured roomy
-        fit h k = rw (le-leb measures_bytes (length m) h, limits-read, not-false ok t, ← sizes-read, ← e, le-leb (n * 4) (length m) k)
+        fit h k = rw (le-leb measures_bytes (length m) h, limits_read, not-false ok t, ← sizes_read, ← e, le-leb (n * 4) (length m) k)
 
 -- ---- the scan list and the facts
 -- what is known of a memory whose measures passed
@@ -119,10 +119,10 @@ module _ (m : List ℕ) (ps : List ScanEntry) where
   unmeasured e = rw (usable_is m ps, is_unfit m e)
 
   module _ (s : Sizes) (e : measured m ≡ Fit s) where
-    pub few-entries : length ps < most_scans → Unfit ≡ checked m ps
+    pub few_entries : length ps < most_scans → Unfit ≡ checked m ps
     unfolding checked
-    few-entries k = rw (usable_is m ps, (is_fit m s e).0, lt-leb most_scans (length ps) k)
+    few_entries k = rw (usable_is m ps, (is_fit m s e).0, lt-leb most_scans (length ps) k)
 
-    pub by-facts : most_scans ≤ length ps → checked m ps ≡ cond (facts_hold s (view_of s m) ps) (Fit s) Unfit
+    pub by_facts : most_scans ≤ length ps → checked m ps ≡ cond (facts_hold s (view_of s m) ps) (Fit s) Unfit
     unfolding checked
-    by-facts k = rw (usable_is m ps, (is_fit m s e).0, (is_fit m s e).1, le-leb most_scans (length ps) k)
+    by_facts k = rw (usable_is m ps, (is_fit m s e).0, (is_fit m s e).1, le-leb most_scans (length ps) k)

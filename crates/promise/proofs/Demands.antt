@@ -19,7 +19,7 @@ use Rattle.history.specs.Claims.{strike, outcome_at, Accepts, Striking, MinutesS
 use Rattle.history.specs.Forms.{form_use, works_on, Suited, form_run, StrikingSuited}
 use Rattle.history.specs.Latest.{ValueAt}
 use Rattle.history.specs.Lists.{All, nil, cons}
-use Rattle.history.proofs.Lists.{by_test, both_test, le_test, all-filterb, is_true, clash}
+use Rattle.history.proofs.Lists.{by_test, both_test, le_test, all_filterb, is_true, clash}
 use Rattle.history.proofs.Striking.{striking, striking_suited}
 use Rattle.history.proofs.Stability.{minutes_stable, scans_stable, accepted, replies, shows_reply}
 use Rattle.history.proofs.Latest.{shown_committed}
@@ -33,7 +33,7 @@ use Rattle.model.proofs.Claims.{page_holds, pages_kept}
 use Rattle.promise.specs.Represents.{MemoryRepresents}
 use Rattle.promise.specs.Promise.{store_view, second_of, room_for, admits, answer_of, lend, left}
 use Rattle.promise.specs.Demands.{Accepted, memory_made, Lends, store_outcomes, store_left, MakingAccepted, ReadsCommitted, PagesCommitted, ScansKept, Demand3, StrikingStore, store_outcome_at, AcceptsIn, MinutesStableStore, ScansStableStore}
-use Rattle.promise.proofs.Represents.{made_starts, represents-usable, form-is, view-is, list-is, store-seen, represents-call, represents_outcomes}
+use Rattle.promise.proofs.Represents.{made_starts, represents_usable, form_is, view_is, list_is, store_seen, represents_call, represents_outcomes}
 
 -- ---- an accepted making: its measures are within their limits, and memory and list are long enough
 record Enough (F : Form) (S : Shape) (m : List ℕ) (ps : List ScanEntry) : Type 0 where
@@ -71,7 +71,7 @@ from_making F S m ps a = let e = enough F S m ps a in rw e.laid (made_starts F S
 
 -- and is usable, with a scan list whose entries were all freed
 pub made_then_usable : (F : Form) (S : Shape) (m : List ℕ) (qs : List ScanEntry) → (made F S (length qs) m).0 ≡ Answer.Done → usable (made F S (length qs) m).1 (made_list qs) ≡ true
-made_then_usable F S m qs e = represents-usable (from_making F S m qs e)
+made_then_usable F S m qs e = represents_usable (from_making F S m qs e)
 
 -- ---- demand 3
 pub demand3 : Demand3
@@ -81,7 +81,7 @@ demand3 F S m ps a cs l = represents_outcomes (from_making F S m ps a) l.typed l
 -- a list without its merges and releases lends as it should
 struck_lends : (F : Form) (S : Shape) (cs : List Call) → Lends F S start cs → Lends F S start (strike cs)
 unfolding strike StrikingSuited
-struck_lends F S cs l = record { typed = all-filterb _ l.typed; suited = striking_suited S F cs l.suited; roomy = all-filterb _ l.roomy }
+struck_lends F S cs l = record { typed = all_filterb _ l.typed; suited = striking_suited S F cs l.suited; roomy = all_filterb _ l.roomy }
 
 pub striking_store : StrikingStore
 unfolding StrikingStore Demand3 Striking
@@ -114,8 +114,8 @@ calls_left : {m : List ℕ} {ps : List ScanEntry} {F : Form} {S : Shape} {h : Hi
 unfolding left run form_run view_after Suited
 calls_left o nil s r = record { same = o; shown = refl }
 calls_left o (cons {x = c} y ys) s (cons r rs) =
-    let l = calls_left (represents-call o c s.0 r y).1 ys s.1 rs in
-    record { same = l.same; shown = l.shown ∙ rw (store-seen o c s.0 r y, list-is o c s.0 r) }
+    let l = calls_left (represents_call o c s.0 r y).1 ys s.1 rs in
+    record { same = l.same; shown = l.shown ∙ rw (store_seen o c s.0 r y, list_is o c s.0 r) }
 
 module _ (F : Form) (S : Shape) (m : List ℕ) (ps : List ScanEntry) (a : Accepted F S m ps) {cs : List Call} (l : Lends F S start cs) where
   -- the store's memory and list, as the demands name them
@@ -124,18 +124,18 @@ module _ (F : Form) (S : Shape) (m : List ℕ) (ps : List ScanEntry) (a : Accept
   store_same = (calls_left (from_making F S m ps a) l.typed l.suited l.roomy).same
 
   -- what they see, and after further calls
-  view-left : store_view (store_left F S m ps cs).memory ≡ view_of (sizes_of (form_run S F start cs) S) (store_left F S m ps cs).memory
-  view-left = view-is store_same
+  view_left : store_view (store_left F S m ps cs).memory ≡ view_of (sizes_of (form_run S F start cs) S) (store_left F S m ps cs).memory
+  view_left = view_is store_same
 
-  view-later : {ds : List Call} → Lends (form_run S F start cs) S (history_after S cs) ds
+  view_later : {ds : List Call} → Lends (form_run S F start cs) S (history_after S cs) ds
       → store_view (left (store_left F S m ps cs) ds).memory ≡ view_after S (view_of (sizes_of (form_run S F start cs) S) (store_left F S m ps cs).memory) (store_left F S m ps cs).list ds
-  view-later z = let x = calls_left store_same z.typed z.suited z.roomy in view-is x.same ∙ x.shown
+  view_later z = let x = calls_left store_same z.typed z.suited z.roomy in view_is x.same ∙ x.shown
 
 -- ---- demand 2
 -- a call that is not refused works on the form
 works_for : {m : List ℕ} {ps : List ScanEntry} {F : Form} {S : Shape} {h : History} → MemoryRepresents m ps F S h → (x : Call) → T (not (is_refused (answer_of (lend m ps) x))) → T (works_on x F)
 unfolding answer_of admits
-works_for {F = F} o x n = by_test (λ b. works_on x F ≡ b → T b) (works_on x F) (λ _ _. tt) (λ _ e. rw (form-is o, e) at n) refl
+works_for {F = F} o x n = by_test (λ b. works_on x F ≡ b → T b) (works_on x F) (λ _ _. tt) (λ _ e. rw (form_is o, e) at n) refl
 
 -- and what shows a value is no move
 shows_roomy : {h : History} {x : Call} {show : ValueAt → Answer} {t : Snapshot} {r c : ℕ} (S : Shape) → Shows h x show t r c → T (room_for (form_use x) S (second_of x))
@@ -150,7 +150,7 @@ reads_committed F S m ps a cs l x show t r c y q n =
     let h = history_after S cs in
     let s = store_same F S m ps a l in
     let e : answer_of (store_left F S m ps cs) x ≡ answer S h x =
-    (represents-call s x (works_for s x n) (shows_roomy S q) y).0 in
+    (represents_call s x (works_for s x n) (shows_roomy S q) y).0 in
     let w : verdict (tests S h x) ≡ accept = accepted S h x (rw e at n) in
     e ∙ replies S h x w ∙ shows_reply S h q ∙ shown_committed show h (invariants S cs).order t r c
 
@@ -158,12 +158,12 @@ pub pages_committed : PagesCommitted
 unfolding PagesCommitted
 pages_committed F S m ps a cs l g c b d =
     let s = store_same F S m ps a l in
-    rw (view-left F S m ps a l) (page_holds s.shown s.well_formed g c b d)
+    rw (view_left F S m ps a l) (page_holds s.shown s.well_formed g c b d)
 
 pub scans_kept : ScansKept
 unfolding ScansKept run view_after
 scans_kept F S m ps a cs l s later z e t g c b d =
-    rw (view-left F S m ps a l, view-later F S m ps a l z) (kept z.typed)
+    rw (view_left F S m ps a l, view_later F S m ps a l z) (kept z.typed)
   where
     o : MemoryRepresents (store_left F S m ps cs).memory (store_left F S m ps cs).list (form_run S F start cs) S (history_after S cs)
     o = store_same F S m ps a l

@@ -22,7 +22,7 @@ use Rattle.layout.specs.View.{View, lay, Long}
 use Rattle.layout.specs.Parts.{Part, among, OneOf, ChangedWithin}
 use Rattle.layout.proofs.View.{view_long}
 use Rattle.layout.proofs.Lay.{lay_view}
-use Rattle.layout.proofs.Parts.{among_append, nothing_changed, lay_length, lay-past, within_bytes}
+use Rattle.layout.proofs.Parts.{among_append, nothing_changed, lay_length, lay_past, within_bytes}
 use Rattle.history.specs.History.{Call, merge, accept, refuse, verdict}
 use Rattle.history.proofs.Lists.{by_test, or_cases, both_test, le_test}
 use Rattle.facts.specs.Usable.{stored_shape, stored_sizes}
@@ -33,7 +33,7 @@ use Rattle.model.specs.Footprint.{footprint, page_written, standing_written, lin
 use Rattle.model.specs.Stored.{current_in, chunk_of}
 use Rattle.model.specs.Writing.{free_in, made_view}
 use Rattle.model.proofs.Footprint.{act_within, entries_within}
-use Rattle.model.proofs.Made.{small_shape, made-represents}
+use Rattle.model.proofs.Made.{small_shape, made_represents}
 use Rattle.promise.proofs.Refused.{admitted_usable}
 use Rattle.promise.specs.Promise.{store_view, lend, admits, memory_after, list_after}
 use Rattle.promise.specs.Footprint.{BytesWithin, WithinFootprint, ChangesOnly, MergeWithin, MergeChangesOnly, MakingWithin, MakingChangesOnly}
@@ -123,5 +123,5 @@ making_changes_only F S m ps =
 
     laid : T (within_limits S) → (bytes_needed F S ≤ length m) × (most_scans ≤ length ps) → MakingWithin F S m (lay (sizes_of F S) (made_view F S) m)
     laid w f =
-        let whole = (made-represents F S (small_shape S w) (length ps) f.1).whole in
-        (lay_length (sizes_of F S) (made_view F S) whole.long m f.0, λ i b. lay-past (sizes_of F S) (made_view F S) whole.long m i b)
+        let whole = (made_represents F S (small_shape S w) (length ps) f.1).whole in
+        (lay_length (sizes_of F S) (made_view F S) whole.long m f.0, λ i b. lay_past (sizes_of F S) (made_view F S) whole.long m i b)

@@ -30,8 +30,8 @@ use Rattle.layout.specs.Moved.{later_zero, moved}
 use Rattle.layout.proofs.View.{view_at, view_long, view_join}
 use Rattle.layout.proofs.Lay.{view_lay, view_fits}
 use Rattle.layout.proofs.Limits.{proper}
-use Rattle.layout.proofs.Parts.{lay_length, lay-past, laid-long}
-use Rattle.layout.proofs.Moved.{moved_columns, moved_header, columns_fit, columns_said, form_known_lem, form_said_lem, moved-long, moved_fits, moved_back}
+use Rattle.layout.proofs.Parts.{lay_length, lay_past, laid_long}
+use Rattle.layout.proofs.Moved.{moved_columns, moved_header, columns_fit, columns_said, form_known_lem, form_said_lem, moved_long, moved_fits, moved_back}
 use Rattle.history.specs.History.{Call, move, Verdict, accept, refuse, verdict, answer_if}
 use Rattle.history.specs.Forms.{works_on, is_form, other_form}
 use Rattle.history.proofs.Lists.{clash, by_test, is_true, parts}
@@ -63,28 +63,28 @@ module _ (F : Form) (m : List ℕ) (ps : List ScanEntry) (second : List ℕ) whe
   abbrev v : View
   v = view_of (sizes_of (stored_form (words m)) (stored_shape (words m))) m
 
-  pub admits-tells : T (admits (lend m ps) (move F second)) → Moving F m ps second
+  pub admits_tells : T (admits (lend m ps) (move F second)) → Moving F m ps second
   unfolding admits
-  admits-tells t =
+  admits_tells t =
       let a = parts (works_on (move F second) (stored_form (words m))) (leb (bytes_needed F S) (length second) && usable m ps) t in
       let b = parts (leb (bytes_needed F S) (length second)) (usable m ps) a.1 in
       let u = is_true (usable m ps) b.1 in
       record { holds = u; tells = usable_tells m ps u; other = a.0; room = leb→le (bytes_needed F S) (length second) b.0 }
 
   module _ (t : Moving F m ps second) where
-    seen-long : Long (sizes_of (stored_form (words m)) (stored_shape (words m))) v
+    seen_long : Long (sizes_of (stored_form (words m)) (stored_shape (words m))) v
     unfolding stored_sizes
-    seen-long = view_long (sizes_of (stored_form (words m)) S) (words m) (omega (arith, length_words m, t.tells.room))
+    seen_long = view_long (sizes_of (stored_form (words m)) S) (words m) (omega (arith, length_words m, t.tells.room))
 
-    pub left-long : Long (sizes_of F S) (moved F S v)
-    left-long = moved-long (stored_form (words m)) F S v seen-long
+    pub left_long : Long (sizes_of F S) (moved F S v)
+    left_long = moved_long (stored_form (words m)) F S v seen_long
 
 -- ---- no byte past the need
 pub move_changes_only : MoveChangesOnly
 unfolding MoveChangesOnly MakingWithin second_after store_view stored_sizes bytes_needed say store_next
 move_changes_only F m ps second =
     by_test (λ u. MakingWithin F S' second (cond u (cond (is_accepted (say S' w ps c)) (lay (sizes_of F S') (store_next S' w ps c) second) second) second)) (admits (lend m ps) c)
-    (λ t. by-verdict (verdict (tests_in S' w ps c)) (admits-tells F m ps second t)) (λ _. same)
+    (λ t. by_verdict (verdict (tests_in S' w ps c)) (admits_tells F m ps second t)) (λ _. same)
   where
     c : Call
     c = move F second
@@ -98,11 +98,11 @@ move_changes_only F m ps second =
     same : MakingWithin F S' second second
     same = (refl, λ i b. refl)
 
-    by-verdict : (z : Verdict) → Moving F m ps second
+    by_verdict : (z : Verdict) → Moving F m ps second
         → MakingWithin F S' second (cond (is_accepted (answer_if z (reply_in S' w ps (move F second)))) (lay (sizes_of F S') (view_if z w (store_act S' w ps (move F second))) second) second)
-    by-verdict accept t = unfold answer_if view_if reply_in act_in in
-        (lay_length (sizes_of F S') (moved F S' _) (left-long F m ps second t) second t.room, λ i b. lay-past (sizes_of F S') (moved F S' _) (left-long F m ps second t) second i b)
-    by-verdict (refuse n) t = unfold answer_if in same
+    by_verdict accept t = unfold answer_if view_if reply_in act_in in
+        (lay_length (sizes_of F S') (moved F S' _) (left_long F m ps second t) second t.room, λ i b. lay_past (sizes_of F S') (moved F S' _) (left_long F m ps second t) second i b)
+    by_verdict (refuse n) t = unfold answer_if in same
 
 -- ---- the facts hold in the form moved to as they did: they speak of regions that both forms have, and of counts
 module _ (f : Form) (F : Form) (S : Shape) (v : View) (ps : List ScanEntry) where
@@ -110,9 +110,9 @@ module _ (f : Form) (F : Form) (S : Shape) (v : View) (ps : List ScanEntry) wher
   unfolding moved later_zero put renew records_name_rows range_names_rows row_named
   names_same = ap (each S.ranges) (fun_ext (λ g. ap (each (used_in v g)) (fun_ext (λ i. rw (moved_header F S v rows_at (λ e. omega arith))))))
 
-  facts-same : facts_hold (sizes_of F S) (moved F S v) ps ≡ facts_hold (sizes_of f S) v ps
+  facts_same : facts_hold (sizes_of F S) (moved F S v) ps ≡ facts_hold (sizes_of f S) v ps
   unfolding moved later_zero put renew facts_hold counts_within stored_within numbers_given rows_between range_between links_hold row_linked link_holds range_linked record_linked stamps_within current_at_most waiting_at_most merges_within commits_within open_differ chunks_current chunk_current lineages_within current_lineage waiting_lineage
-  facts-same =
+  facts_same =
       rw (names_same, moved_header F S v rows_at (λ e. omega arith), moved_header F S v transactions_at (λ e. omega arith), moved_header F S v scans_at (λ e. omega arith), moved_header F S v stamp_at (λ e. omega arith), moved_header F S v merges_at (λ e. omega arith), moved_header F S v commits_at (λ e. omega arith))
 
 -- they are part of what makes a memory usable
@@ -126,18 +126,18 @@ usable_facts m ps e =
 
 -- ---- what is laid: the bytes needed are the view's, and the others are as they were
 module _ (s : Sizes) (v : View) (long : Long s v) (l : List ℕ) where
-  laid-front : take (need s * 4) (lay s v l) ≡ bytes (join (map v all))
+  laid_front : take (need s * 4) (lay s v l) ≡ bytes (join (map v all))
   unfolding lay
-  laid-front = take_at (bytes (join (map v all))) (drop (need s * 4) l) (need s * 4) (laid-long s v long)
+  laid_front = take_at (bytes (join (map v all))) (drop (need s * 4) l) (need s * 4) (laid_long s v long)
 
-  laid-rest : drop (need s * 4) (lay s v l) ≡ drop (need s * 4) l
+  laid_rest : drop (need s * 4) (lay s v l) ≡ drop (need s * 4) l
   unfolding lay
-  laid-rest = drop_at (bytes (join (map v all))) (drop (need s * 4) l) (need s * 4) (laid-long s v long)
+  laid_rest = drop_at (bytes (join (map v all))) (drop (need s * 4) l) (need s * 4) (laid_long s v long)
 
 -- what was seen of a memory, laid over another: the bytes needed are the memory's
 laid_seen : (s : Sizes) (m l : List ℕ) → Bytes m → need s * 4 ≤ length m → take (need s * 4) (lay s (view_of s m) l) ≡ take (need s * 4) m
 laid_seen s m l b h =
-    laid-front s (view_of s m) (view_long s (words m) (omega (arith, length_words m))) l ∙ ap bytes (view_join s (words m)) ∙ bytes_words (need s) m b h
+    laid_front s (view_of s m) (view_long s (words m) (omega (arith, length_words m))) l ∙ ap bytes (view_join s (words m)) ∙ bytes_words (need s) m b h
 
 -- ---- a move that is done was admitted
 done_admits : (x : Lent) (c : Call) → answer_of x c ≡ Answer.Done → T (admits x c)
@@ -148,13 +148,13 @@ done_admits x c =
 
 -- and one that is admitted and passes its tests is done, and lays the view moved
 module _ (F : Form) (m : List ℕ) (ps : List ScanEntry) (second : List ℕ) (t : T (admits (lend m ps) (move F second))) (passed : verdict (move_tests_in F (shape m) (store_view m)) ≡ accept) where
-  move-done : answer_of (lend m ps) (move F second) ≡ Answer.Done
+  move_done : answer_of (lend m ps) (move F second) ≡ Answer.Done
   unfolding answer_of say tests_in answer_if reply_in
-  move-done = rw (is_true (admits (lend m ps) (move F second)) t, passed)
+  move_done = rw (is_true (admits (lend m ps) (move F second)) t, passed)
 
-  move-lays : second_after (lend m ps) (move F second) ≡ lay (sizes_of F (shape m)) (moved F (shape m) (store_view m)) second
+  move_lays : second_after (lend m ps) (move F second) ≡ lay (sizes_of F (shape m)) (moved F (shape m) (store_view m)) second
   unfolding second_after say store_next tests_in answer_if reply_in view_if act_in
-  move-lays = rw (is_true (admits (lend m ps) (move F second)) t, passed)
+  move_lays = rw (is_true (admits (lend m ps) (move F second)) t, passed)
 
 -- ---- right after a move to the newest form no keeper is borne: each of their words is 0
 none_below : (f : ℕ → Bool) (n : ℕ) → ((i : ℕ) → f i ≡ false) → any_below f n ≡ false
@@ -182,73 +182,73 @@ module _ {F : Form} {m : List ℕ} {ps : List ScanEntry} {second : List ℕ} (fi
   few : (shape m).columns ≤ most_columns
   few = (proper F (shape m) t.tells.within).columns_to
 
-  here-long : Long (sizes_of (stored_form (words m)) (shape m)) (store_view m)
+  here_long : Long (sizes_of (stored_form (words m)) (shape m)) (store_view m)
   unfolding store_view stored_sizes
-  here-long = seen-long F m ps second t
+  here_long = seen_long F m ps second t
 
-  there-long : Long (sizes_of F (shape m)) (moved F (shape m) (store_view m))
+  there_long : Long (sizes_of F (shape m)) (moved F (shape m) (store_view m))
   unfolding store_view stored_sizes
-  there-long = left-long F m ps second t
+  there_long = left_long F m ps second t
 
   abbrev there : List ℕ
   there = lay (sizes_of F (shape m)) (moved F (shape m) (store_view m)) second
 
-  there-view : view_of (sizes_of F (shape m)) there ≡ moved F (shape m) (store_view m)
+  there_view : view_of (sizes_of F (shape m)) there ≡ moved F (shape m) (store_view m)
   unfolding store_view
-  there-view =
-      view_lay (sizes_of F (shape m)) _ second there-long (moved_fits F (shape m) (store_view m) (columns_fit F (shape m).columns few) (view_fits (stored_sizes (words m)) m fits))
+  there_view =
+      view_lay (sizes_of F (shape m)) _ second there_long (moved_fits F (shape m) (store_view m) (columns_fit F (shape m).columns few) (view_fits (stored_sizes (words m)) m fits))
 
   -- its columns' word says the form, and the other words of its header are as they were
-  there-word : get_or (words there) columns_at 0 ≡ columns_word F (shape m).columns
-  there-word =
+  there_word : get_or (words there) columns_at 0 ≡ columns_word F (shape m).columns
+  there_word =
       header_at (sizes_of F (shape m)) there columns_at (omega arith)
-      ∙ ap (λ (w : View). get_or (w Header) columns_at 0) there-view
-      ∙ moved_columns F (shape m) (store_view m) (omega (arith, here-long Header))
+      ∙ ap (λ (w : View). get_or (w Header) columns_at 0) there_view
+      ∙ moved_columns F (shape m) (store_view m) (omega (arith, here_long Header))
 
-  there-header : (i : ℕ) → i ≢ columns_at → i < header_words → get_or (words there) i 0 ≡ get_or (words m) i 0
+  there_header : (i : ℕ) → i ≢ columns_at → i < header_words → get_or (words there) i 0 ≡ get_or (words m) i 0
   unfolding store_view
-  there-header i n b =
+  there_header i n b =
       header_at (sizes_of F (shape m)) there i b
-      ∙ ap (λ (w : View). get_or (w Header) i 0) there-view
+      ∙ ap (λ (w : View). get_or (w Header) i 0) there_view
       ∙ moved_header F (shape m) (store_view m) i n
       ∙ sym (header_at (stored_sizes (words m)) m i b)
 
-  there-shape : shape there ≡ shape m
+  there_shape : shape there ≡ shape m
   unfolding stored_shape
-  there-shape =
-      rw (there-word, columns_said F (shape m).columns few, there-header ranges_at (λ e. omega arith) (omega arith), there-header capacity_at (λ e. omega arith) (omega arith), there-header spares_at (λ e. omega arith) (omega arith))
+  there_shape =
+      rw (there_word, columns_said F (shape m).columns few, there_header ranges_at (λ e. omega arith) (omega arith), there_header capacity_at (λ e. omega arith) (omega arith), there_header spares_at (λ e. omega arith) (omega arith))
 
-  there-form : stored_form (words there) ≡ F
+  there_form : stored_form (words there) ≡ F
   unfolding stored_form
-  there-form = rw there-word (form_said_lem F (shape m).columns few)
+  there_form = rw there_word (form_said_lem F (shape m).columns few)
 
-  there-seen : store_view there ≡ moved F (shape m) (store_view m)
+  there_seen : store_view there ≡ moved F (shape m) (store_view m)
   unfolding store_view stored_sizes
-  there-seen = rw (there-form, there-shape) there-view
+  there_seen = rw (there_form, there_shape) there_view
 
-  there-room : need (sizes_of F (shape m)) * 4 ≤ length there
+  there_room : need (sizes_of F (shape m)) * 4 ≤ length there
   unfolding bytes_needed
-  there-room = omega (arith, lay_length (sizes_of F (shape m)) (moved F (shape m) (store_view m)) there-long second t.room, t.room)
+  there_room = omega (arith, lay_length (sizes_of F (shape m)) (moved F (shape m) (store_view m)) there_long second t.room, t.room)
 
-  there-facts : facts_hold (sizes_of F (shape m)) (moved F (shape m) (store_view m)) ps ≡ true
+  there_facts : facts_hold (sizes_of F (shape m)) (moved F (shape m) (store_view m)) ps ≡ true
   unfolding store_view stored_sizes
-  there-facts = facts-same (stored_form (words m)) F (shape m) (store_view m) ps ∙ usable_facts m ps t.holds
+  there_facts = facts_same (stored_form (words m)) F (shape m) (store_view m) ps ∙ usable_facts m ps t.holds
 
-  there-usable : usable there ps ≡ true
+  there_usable : usable there ps ≡ true
   unfolding usable measures_hold stored_sizes need
-  there-usable =
+  there_usable =
       rw (
-        there-word,
+        there_word,
         form_known_lem F (shape m).columns few,
-        there-form,
-        there-shape,
+        there_form,
+        there_shape,
         t.tells.within,
-        le-leb measures_bytes (length there) (omega (arith, there-room)),
-        le-leb (need (sizes_of F (shape m)) * 4) (length there) there-room,
+        le-leb measures_bytes (length there) (omega (arith, there_room)),
+        le-leb (need (sizes_of F (shape m)) * 4) (length there) there_room,
         le-leb most_scans (length ps) t.tells.entries,
-        there-view,
+        there_view,
       )
-      there-facts
+      there_facts
 
 -- ---- there and back
 -- a columns' word that says the first form is the columns alone
@@ -258,49 +258,49 @@ first_word w =
     (λ _ q _. let e : form_said w ≡ 1 = eqb-true (form_said w) 1 q in omega arith) (λ _ _ e. clash cc) refl
 
 module _ {m second : List ℕ} {ps : List ScanEntry} (fits : Bytes m) (t : Moving Form.Newest m ps second) where
-  was-first : stored_form (words m) ≡ Form.First
-  was-first = moved_from_first (stored_form (words m)) t.other
+  was_first : stored_form (words m) ≡ Form.First
+  was_first = moved_from_first (stored_form (words m)) t.other
 
-  first-sizes : stored_sizes (words m) ≡ sizes_of Form.First (shape m)
+  first_sizes : stored_sizes (words m) ≡ sizes_of Form.First (shape m)
   unfolding stored_sizes
-  first-sizes = rw was-first
+  first_sizes = rw was_first
 
-  first-long : Long (sizes_of Form.First (shape m)) (store_view m)
-  first-long = rw was-first at (here-long fits t)
+  first_long : Long (sizes_of Form.First (shape m)) (store_view m)
+  first_long = rw was_first at (here_long fits t)
 
-  view-back : moved Form.First (shape m) (moved Form.Newest (shape m) (store_view m)) ≡ store_view m
+  view_back : moved Form.First (shape m) (moved Form.Newest (shape m) (store_view m)) ≡ store_view m
   unfolding store_view stored_form stored_shape
-  view-back = moved_back (shape m) (store_view m) first-long (sym (header_at (stored_sizes (words m)) m columns_at (omega arith)) ∙ first_word (get_or (words m) columns_at 0) was-first)
+  view_back = moved_back (shape m) (store_view m) first_long (sym (header_at (stored_sizes (words m)) m columns_at (omega arith)) ∙ first_word (get_or (words m) columns_at 0) was_first)
 
   -- the move back, into a memory of the bytes needed
   module _ (third : List ℕ) (room : bytes_needed Form.First (shape m) ≤ length third) where
-    back-admitted : T (admits (lend (there fits t) ps) (move Form.First third))
+    back_admitted : T (admits (lend (there fits t) ps) (move Form.First third))
     unfolding admits
-    back-admitted = rw (there-form fits t, there-shape fits t, there-usable fits t, le-leb (bytes_needed Form.First (shape m)) (length third) room) tt
+    back_admitted = rw (there_form fits t, there_shape fits t, there_usable fits t, le-leb (bytes_needed Form.First (shape m)) (length third) room) tt
 
-    back-passed : verdict (move_tests_in Form.First (shape (there fits t)) (store_view (there fits t))) ≡ accept
+    back_passed : verdict (move_tests_in Form.First (shape (there fits t)) (store_view (there fits t))) ≡ accept
     unfolding verdict move_tests_in
-    back-passed = rw (there-shape fits t, there-seen fits t, no_keeper (shape m) (store_view m))
+    back_passed = rw (there_shape fits t, there_seen fits t, no_keeper (shape m) (store_view m))
 
     back_done : answer_of (lend (there fits t) ps) (move Form.First third) ≡ Answer.Done
-    back_done = move-done Form.First (there fits t) ps third back-admitted back-passed
+    back_done = move_done Form.First (there fits t) ps third back_admitted back_passed
 
-    back-lays : second_after (lend (there fits t) ps) (move Form.First third) ≡ lay (sizes_of Form.First (shape m)) (store_view m) third
-    back-lays = move-lays Form.First (there fits t) ps third back-admitted back-passed ∙ rw (there-shape fits t, there-seen fits t, view-back)
+    back_lays : second_after (lend (there fits t) ps) (move Form.First third) ≡ lay (sizes_of Form.First (shape m)) (store_view m) third
+    back_lays = move_lays Form.First (there fits t) ps third back_admitted back_passed ∙ rw (there_shape fits t, there_seen fits t, view_back)
 
-    back-front : take (bytes_needed Form.First (shape m)) (lay (sizes_of Form.First (shape m)) (store_view m) third) ≡ take (bytes_needed Form.First (shape m)) m
+    back_front : take (bytes_needed Form.First (shape m)) (lay (sizes_of Form.First (shape m)) (store_view m) third) ≡ take (bytes_needed Form.First (shape m)) m
     unfolding bytes_needed store_view
-    back-front =
-        subst (λ (s : Sizes). take (need s * 4) (lay s (store_view m) third) ≡ take (need s * 4) m) first-sizes (laid_seen (stored_sizes (words m)) m third fits t.tells.room)
+    back_front =
+        subst (λ (s : Sizes). take (need s * 4) (lay s (store_view m) third) ≡ take (need s * 4) m) first_sizes (laid_seen (stored_sizes (words m)) m third fits t.tells.room)
 
-    back-rest : drop (bytes_needed Form.First (shape m)) (lay (sizes_of Form.First (shape m)) (store_view m) third) ≡ drop (bytes_needed Form.First (shape m)) third
+    back_rest : drop (bytes_needed Form.First (shape m)) (lay (sizes_of Form.First (shape m)) (store_view m) third) ≡ drop (bytes_needed Form.First (shape m)) third
     unfolding bytes_needed
-    back-rest = laid-rest (sizes_of Form.First (shape m)) (store_view m) first-long third
+    back_rest = laid_rest (sizes_of Form.First (shape m)) (store_view m) first_long third
 
 pub there_and_back : ThereAndBack
 unfolding ThereAndBack bytes_needed move_tests_in verdict
 there_and_back m second third ps fits e =
     let a = done_admits (lend m ps) (move Form.Newest second) e in
-    let t = admits-tells Form.Newest m ps second a in
-    rw (move-lays Form.Newest m ps second a refl)
-    (laid-rest (sizes_of Form.Newest (shape m)) _ (there-long fits t) second, λ room. rw (back-lays fits t third room) (back_done fits t third room, back-front fits t third room, back-rest fits t third room))
+    let t = admits_tells Form.Newest m ps second a in
+    rw (move_lays Form.Newest m ps second a refl)
+    (laid_rest (sizes_of Form.Newest (shape m)) _ (there_long fits t) second, λ room. rw (back_lays fits t third room) (back_done fits t third room, back_front fits t third room, back_rest fits t third room))

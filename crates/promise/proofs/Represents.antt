@@ -37,10 +37,10 @@ use Rattle.model.specs.Writing.{made_view}
 use Rattle.model.specs.Calls.{Typed, tests_in, view_if, entries_if, say, view_next, store_next, entries_next, stamps_next}
 use Rattle.model.specs.Represents.{Represents, WellFormed, SameCall}
 use Rattle.model.proofs.Calls.{agree_verdict, tests_agree, one_call}
-use Rattle.model.proofs.Made.{small_shape, made-represents}
+use Rattle.model.proofs.Made.{small_shape, made_represents}
 use Rattle.promise.specs.Represents.{MemoryRepresents}
 use Rattle.promise.specs.Promise.{store_view, second_of, room_for, admits, answer_of, memory_after, list_after, stamps_left, laid_into, second_after, store_of, left_by, outcomes_of, lend}
-use Rattle.promise.proofs.Stored.{represented-facts}
+use Rattle.promise.proofs.Stored.{represented_facts}
 use Rattle.promise.proofs.Refused.{not_refused}
 
 -- ---- what is laid is as long as it was
@@ -65,7 +65,7 @@ pub made_starts : (F : Form) (S : Shape) (m : List ℕ) (ps : List ScanEntry) �
 made_starts F S m ps w b n =
     let small = small_shape S (rw w tt) in
     (laid F S (made_view F S) m (made_list ps) start w b record { small = small; invariants = invariants_start S }
-    (made-represents F S small (length ps) n)).0
+    (made_represents F S small (length ps) n)).0
 
 -- ---- a memory that represents a history
 module _ {m : List ℕ} {ps : List ScanEntry} {F : Form} {S : Shape} {h : History} (o : MemoryRepresents m ps F S h) where
@@ -74,74 +74,74 @@ module _ {m : List ℕ} {ps : List ScanEntry} {F : Form} {S : Shape} {h : Histor
   header_at i b = sym (rw (zero-add i) at (view_at (sizes_of F S) (words m) Header i b))
 
   -- the word of the columns: it has them, and the form
-  word-said : get_or (words m) columns_at 0 ≡ columns_word F S.columns
-  word-said = header_at 0 (omega arith) ∙ o.shown.header.columns
+  word_said : get_or (words m) columns_at 0 ≡ columns_word F S.columns
+  word_said = header_at 0 (omega arith) ∙ o.shown.header.columns
 
-  pub shape-said : stored_shape (words m) ≡ S
+  pub shape_said : stored_shape (words m) ≡ S
   unfolding stored_shape
-  shape-said =
+  shape_said =
       let x = o.shown.header in
-      rw (word-said, columns_said F S.columns o.well_formed.small.columns, header_at 1 (omega arith) ∙ x.ranges, header_at 2 (omega arith) ∙ x.capacity, header_at 3 (omega arith) ∙ x.spares)
+      rw (word_said, columns_said F S.columns o.well_formed.small.columns, header_at 1 (omega arith) ∙ x.ranges, header_at 2 (omega arith) ∙ x.capacity, header_at 3 (omega arith) ∙ x.spares)
 
-  pub form-is : stored_form (words m) ≡ F
+  pub form_is : stored_form (words m) ≡ F
   unfolding stored_form
-  form-is = rw word-said (form_said_lem F S.columns o.well_formed.small.columns)
+  form_is = rw word_said (form_said_lem F S.columns o.well_formed.small.columns)
 
-  measures-there : measures_bytes ≤ length m
+  measures_there : measures_bytes ≤ length m
   unfolding bytes_needed need
-  measures-there = omega (arith, o.room)
+  measures_there = omega (arith, o.room)
 
-  pub represents-usable : usable m ps ≡ true
+  pub represents_usable : usable m ps ≡ true
   unfolding usable measures_hold stored_sizes bytes_needed
-  represents-usable =
+  represents_usable =
       rw (
-        word-said,
+        word_said,
         form_known_lem F S.columns o.well_formed.small.columns,
-        form-is,
-        shape-said,
+        form_is,
+        shape_said,
         o.within,
-        le-leb measures_bytes (length m) measures-there,
+        le-leb measures_bytes (length m) measures_there,
         le-leb (need (sizes_of F S) * 4) (length m) o.room,
         le-leb most_scans (length ps) o.shown.scans.room,
       )
-      (represented-facts o.shown o.well_formed o.within)
+      (represented_facts o.shown o.well_formed o.within)
 
   abbrev seen : View
   seen = view_of (sizes_of F S) m
 
-  pub view-is : store_view m ≡ seen
+  pub view_is : store_view m ≡ seen
   unfolding store_view stored_sizes
-  view-is = rw (form-is, shape-said)
+  view_is = rw (form_is, shape_said)
 
   -- ---- a call that works on the form, with room in the second memory if it is a move
   module _ (c : Call) (works : T (works_on c F)) (roomy : T (room_for (form_use c) S (second_of c))) where
     admitted : admits (lend m ps) c ≡ true
     unfolding admits
-    admitted = rw (form-is, shape-said, is_true (works_on c F) works, is_true (room_for (form_use c) S (second_of c)) roomy, represents-usable)
+    admitted = rw (form_is, shape_said, is_true (works_on c F) works, is_true (room_for (form_use c) S (second_of c)) roomy, represents_usable)
 
     -- what is promised of it, by the shape that the memory says and its view
-    by-admitted : {A : Type 0} (f : Shape → View → A) (z : A) → cond (admits (lend m ps) c) (f (stored_shape (words m)) (store_view m)) z ≡ f S seen
-    by-admitted f z = rw (admitted, shape-said, view-is)
+    by_admitted : {A : Type 0} (f : Shape → View → A) (z : A) → cond (admits (lend m ps) c) (f (stored_shape (words m)) (store_view m)) z ≡ f S seen
+    by_admitted f z = rw (admitted, shape_said, view_is)
 
-    pub answer-is : answer_of (lend m ps) c ≡ say S seen ps c
+    pub answer_is : answer_of (lend m ps) c ≡ say S seen ps c
     unfolding answer_of
-    answer-is = by-admitted (λ p v. say p v ps c) _
+    answer_is = by_admitted (λ p v. say p v ps c) _
 
-    pub memory-is : memory_after (lend m ps) c ≡ lay (sizes_of F S) (view_next S seen ps c) m
+    pub memory_is : memory_after (lend m ps) c ≡ lay (sizes_of F S) (view_next S seen ps c) m
     unfolding memory_after stored_sizes
-    memory-is = by-admitted (λ p v. lay (sizes_of (stored_form (words m)) p) (view_next p v ps c) m) _ ∙ rw form-is
+    memory_is = by_admitted (λ p v. lay (sizes_of (stored_form (words m)) p) (view_next p v ps c) m) _ ∙ rw form_is
 
-    pub list-is : list_after (lend m ps) c ≡ entries_next S seen ps c
+    pub list_is : list_after (lend m ps) c ≡ entries_next S seen ps c
     unfolding list_after
-    list-is = by-admitted (λ p v. entries_next p v ps c) _
+    list_is = by_admitted (λ p v. entries_next p v ps c) _
 
-    pub stamps-are : stamps_left (lend m ps) c ≡ stamps_next S seen ps c
+    pub stamps_are : stamps_left (lend m ps) c ≡ stamps_next S seen ps c
     unfolding stamps_left
-    stamps-are = by-admitted (λ p v. stamps_next p v ps c) _
+    stamps_are = by_admitted (λ p v. stamps_next p v ps c) _
 
     pub second_is : second_after (lend m ps) c ≡ laid_into (form_use c) (is_accepted (say S seen ps c)) S (store_next S seen ps c) (second_of c)
     unfolding second_after
-    second_is = by-admitted (λ p v. laid_into (form_use c) (is_accepted (say p v ps c)) p (store_next p v ps c) (second_of c)) _
+    second_is = by_admitted (λ p v. laid_into (form_use c) (is_accepted (say p v ps c)) p (store_next p v ps c) (second_of c)) _
 
     -- one call: it answers as the history does, fills its slice alike, and the store that it leaves represents the history after it
     module _ (y : Typed c) where
@@ -155,9 +155,9 @@ module _ {m : List ℕ} {ps : List ScanEntry} {F : Form} {S : Shape} {h : Histor
       Kept : List ℕ → Type 0
       Kept l = MemoryRepresents l (entries_next S seen ps c) (form_next S h c F) S (next S h c) × (view_of (sizes_of (form_next S h c F) S) l ≡ store_next S seen ps c)
 
-      refused-move : (to : Form) → form_use c ≡ moving to → (n : Refusal) → verdict (tests S h c) ≡ refuse n → Kept m
+      refused_move : (to : Form) → form_use c ≡ moving to → (n : Refusal) → verdict (tests S h c) ≡ refuse n → Kept m
       unfolding Kept form_next form_if store_next view_if entries_next entries_if next next_if
-      refused-move to e n q = rw (e, q, same, q) (o, refl)
+      refused_move to e n q = rw (e, q, same, q) (o, refl)
 
       store_kept : (u : FormUse) → form_use c ≡ u
           → Kept (store_of u (is_accepted (say S seen ps c)) m (lay (sizes_of F S) (view_next S seen ps c) m) (laid_into u (is_accepted (say S seen ps c)) S (store_next S seen ps c) (second_of c)))
@@ -169,31 +169,31 @@ module _ {m : List ℕ} {ps : List ScanEntry} {F : Form} {S : Shape} {h : Histor
           go : (w : Verdict) → verdict (tests S h c) ≡ w
               → Kept (cond (is_accepted (say S seen ps c)) (cond (is_accepted (say S seen ps c)) (lay (sizes_of to S) (store_next S seen ps c) (second_of c)) (second_of c)) m)
           go accept q =
-              rw (e, q, accepted-say q)
+              rw (e, q, accepted_say q)
               (laid to S _ (second_of c) (entries_next S seen ps c) (next S h c) o.within (leb→le (bytes_needed to S) (length (second_of c)) (rw e at roomy)) one.well_formed (rw (e, q) at one.shown))
             where
-              accepted-say : verdict (tests S h c) ≡ accept → is_accepted (say S seen ps c) ≡ true
-              accepted-say q = unfold say answer_if in (rw (same, q, not_refused S seen ps c))
-          go (refuse n) q = unfold Kept form_next store_next in (rw (refused-say q) (refused-move to e n q))
+              accepted_say : verdict (tests S h c) ≡ accept → is_accepted (say S seen ps c) ≡ true
+              accepted_say q = unfold say answer_if in (rw (same, q, not_refused S seen ps c))
+          go (refuse n) q = unfold Kept form_next store_next in (rw (refused_say q) (refused_move to e n q))
             where
-              refused-say : verdict (tests S h c) ≡ refuse n → is_accepted (say S seen ps c) ≡ false
-              refused-say q = unfold say answer_if in (rw (same, q))
+              refused_say : verdict (tests S h c) ≡ refuse n → is_accepted (say S seen ps c) ≡ false
+              refused_say q = unfold say answer_if in (rw (same, q))
 
       kept : Kept (left_by (lend m ps) c).memory
-      kept = rw (answer-is, memory-is, second_is) (store_kept (form_use c) refl)
+      kept = rw (answer_is, memory_is, second_is) (store_kept (form_use c) refl)
 
       -- what the next call sees is what the model says of it
-      pub store-seen : view_of (sizes_of (form_next S h c F) S) (left_by (lend m ps) c).memory ≡ store_next S seen ps c
+      pub store_seen : view_of (sizes_of (form_next S h c F) S) (left_by (lend m ps) c).memory ≡ store_next S seen ps c
       unfolding Kept
-      store-seen = kept.1
+      store_seen = kept.1
 
-      pub represents-call : (answer_of (lend m ps) c ≡ answer S h c) × MemoryRepresents (left_by (lend m ps) c).memory (left_by (lend m ps) c).list (form_next S h c F) S (next S h c) × (stamps_left (lend m ps) c ≡ stamps_after S h c)
+      pub represents_call : (answer_of (lend m ps) c ≡ answer S h c) × MemoryRepresents (left_by (lend m ps) c).memory (left_by (lend m ps) c).list (form_next S h c F) S (next S h c) × (stamps_left (lend m ps) c ≡ stamps_after S h c)
       unfolding Kept
-      represents-call = (answer-is ∙ one.answered, rw list-is kept.0, stamps-are ∙ one.filled)
+      represents_call = (answer_is ∙ one.answered, rw list_is kept.0, stamps_are ∙ one.filled)
 
 -- every list of calls that lends as it should
 pub represents_outcomes : {m : List ℕ} {ps : List ScanEntry} {F : Form} {S : Shape} {h : History} → MemoryRepresents m ps F S h → {cs : List Call} → All Typed cs → Suited S F h cs → All (λ c. T (room_for (form_use c) S (second_of c))) cs
     → outcomes_of (lend m ps) cs ≡ outcomes S h cs
 unfolding outcomes_of outcomes Suited
 represents_outcomes o nil s r = refl
-represents_outcomes o (cons {x = c} y ys) s (cons r rs) = let one = represents-call o c s.0 r y in rw (represents_outcomes one.1 ys s.1 rs, one.0, one.2)
+represents_outcomes o (cons {x = c} y ys) s (cons r rs) = let one = represents_call o c s.0 r y in rw (represents_outcomes one.1 ys s.1 rs, one.0, one.2)

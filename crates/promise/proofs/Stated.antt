@@ -37,11 +37,11 @@ use Rattle.layout.specs.Regions.{slot}
 use Rattle.model.specs.Preconditions.{ChunksCurrent}
 use Rattle.model.specs.Writing.{new_bits_in, records_wanted, free_in}
 use Rattle.model.specs.Calls.{begin_tests_in, read_at_tests_in, open_in, open_other, stands_for, any_record, not_open_in, no_scan_in, not_given_in, held_in, gone_in, lacks_in, earlier_in, later_in, no_span_in, out_of_reach_in, open_among_in, bears_keeper, keeper_borne_in, move_tests_in, tests_in, reply_in, say}
-use Rattle.model.proofs.Lists.{first_below, first_passes, any-count, count-rest, below_found, below_at}
+use Rattle.model.proofs.Lists.{first_below, first_passes, any_count, count_rest, below_found, below_at}
 use Rattle.model.proofs.lookups.Heads.{slot_is}
 use Rattle.model.proofs.changes.Insert.{bit_none}
 use Rattle.model.proofs.changes.Masks.{bit_new, no_bits, below_bits, below_power}
-use Rattle.model.proofs.upkeep.Free.{free-none}
+use Rattle.model.proofs.upkeep.Free.{free_none}
 use Rattle.promise.specs.Promise.{store_view, second_of, room_for, admits, answer_of}
 use Rattle.promise.specs.Stated.{Open, ScanOpen, Committed, Aborted, RecordUpTo, RecordOf, Touched, WrongMask, Held, Gone, Lacks, LacksWanted, transactions_open, OpenUpTo, NoneFree, Bears, KeeperBorne, Clause, ◌on◌, stated_move, TooShort, stated, conditions, First, NoneApplies}
 use Rattle.promise.specs.Demands.{Refuses}
@@ -75,11 +75,11 @@ same_test : (b : Bool) → T b ↔ T b
 same_test b = (λ t. t, λ t. t)
 
 module _ {P : Type 0} where
-  or-test : (a b : Bool) {Q : Type 0} → T a ↔ P → T b ↔ Q → T (a || b) ↔ (P ⊎ Q)
-  or-test a b e f = (λ t. or_cases a b t (λ x. inl (e.0 x)) (λ x. inr (f.0 x)), ⊎_elim (λ p. or_left a b (e.1 p)) (λ q. or_right a b (f.1 q)))
+  or_test : (a b : Bool) {Q : Type 0} → T a ↔ P → T b ↔ Q → T (a || b) ↔ (P ⊎ Q)
+  or_test a b e f = (λ t. or_cases a b t (λ x. inl (e.0 x)) (λ x. inr (f.0 x)), ⊎_elim (λ p. or_left a b (e.1 p)) (λ q. or_right a b (f.1 q)))
 
-  and-test : (a b : Bool) {Q : Type 0} → T a ↔ P → (P → T b ↔ Q) → T (a && b) ↔ (P × Q)
-  and-test a b e f = (λ t. let z = parts a b t in (e.0 z.0, (f (e.0 z.0)).0 z.1), λ q. both a b (e.1 q.0) ((f q.0).1 q.1))
+  and_test : (a b : Bool) {Q : Type 0} → T a ↔ P → (P → T b ↔ Q) → T (a && b) ↔ (P × Q)
+  and_test a b e f = (λ t. let z = parts a b t in (e.0 z.0, (f (e.0 z.0)).0 z.1), λ q. both a b (e.1 q.0) ((f q.0).1 q.1))
 
 below_test : (f : ℕ → Bool) (n : ℕ) → T (any_below f n) ↔ ((i : ℕ) × (i < n) × T (f i))
 below_test f n = (below_found f n, λ q. below_at f n q.0 q.1 q.2)
@@ -93,8 +93,8 @@ some_test f P n e = (
 
 -- a number in a list of entries
 module _ {A : Type 0} (number : A → ℕ) (l : List A) (d : A) where
-  list-test : (t : ℕ) → T (any (λ p. bears t (number p)) l) ↔ ((t ≢ 0) × ((j : ℕ) × (j < length l) × (number (get_or l j d) ≡ t)))
-  list-test t =
+  list_test : (t : ℕ) → T (any (λ p. bears t (number p)) l) ↔ ((t ≢ 0) × ((j : ℕ) × (j < length l) × (number (get_or l j d) ≡ t)))
+  list_test t =
       let f : A → Bool = λ p. bears t (number p) in (
         λ b. let q = simp (both_test, not_test, eq_test) at (first_passes f l d b) in (λ z. q.0 (q.1 ∙ z), (firstIndex f l, first_below f l b, q.1)),
         λ q. any_at f l d q.1.0 q.1.1 (simp (both_test, not_test, eq_test) (λ z. q.0 (sym q.1.2 ∙ z), q.1.2)),
@@ -123,13 +123,13 @@ mask_test S m = (
 
 -- ---- the conditions
 module _ (S : Shape) (v : View) (ps : List ScanEntry) (long : length (v Opens) ≡ most_transactions) (pool : ChunksCurrent S v) where
-  open-test : (t : ℕ) → T (open_in v t) ↔ Open v t
-  open-test t = rw long at (list-test (λ k. k) (v Opens) 0 t)
+  open_test : (t : ℕ) → T (open_in v t) ↔ Open v t
+  open_test t = rw long at (list_test (λ k. k) (v Opens) 0 t)
 
   -- one of the records 1 to n of a range, by where its words lie
-  slots-test : (g n : ℕ) (f : ℕ → Bool) (P : ℕ → Type 0) → ((k : ℕ) → 1 ≤ k → k ≤ n → T (f (slot S g k)) ↔ P (slot S g k))
+  slots_test : (g n : ℕ) (f : ℕ → Bool) (P : ℕ → Type 0) → ((k : ℕ) → 1 ≤ k → k ≤ n → T (f (slot S g k)) ↔ P (slot S g k))
       → T (any_below (λ i. f (g * S.capacity + i)) n) ↔ ((k : ℕ) × (1 ≤ k) × (k ≤ n) × P (slot S g k))
-  slots-test g n f P e = (
+  slots_test g n f P e = (
     λ t.
         let q = below_found (λ i. f (g * S.capacity + i)) n t in
         (suc q.0, omega arith, omega (arith, q.1), (e (suc q.0) (omega arith) (omega (arith, q.1))).0 (rw (slot_is S g q.0) q.2)),
@@ -140,21 +140,21 @@ module _ (S : Shape) (v : View) (ps : List ScanEntry) (long : length (v Opens) �
       back zero a b p = absurd (omega arith)
       back (suc i) a b p = (i, omega arith, rw (slot_is S g i) at ((e (suc i) a b).1 p))
 
-  records-test : (g n : ℕ) (f : RecordWords → Bool) (P : RecordWords → Type 0)
+  records_test : (g n : ℕ) (f : RecordWords → Bool) (P : RecordWords → Type 0)
       → ((k : ℕ) → 1 ≤ k → k ≤ n → T (f (record_in v (slot S g k))) ↔ P (record_in v (slot S g k)))
       → T (any_below (λ i. f (record_in v (g * S.capacity + i))) n) ↔ RecordUpTo S v g n P
-  records-test g n f P e = slots-test g n (λ j. f (record_in v j)) (λ j. P (record_in v j)) e
+  records_test g n f P e = slots_test g n (λ j. f (record_in v j)) (λ j. P (record_in v j)) e
 
-  row-test : (r : ℕ) (f : RecordWords → Bool) (P : RecordWords → Type 0)
+  row_test : (r : ℕ) (f : RecordWords → Bool) (P : RecordWords → Type 0)
       → ((k : ℕ) → 1 ≤ k → k ≤ used_in v (range_of r) → (record_in v (slot S (range_of r) k)).row ≡ r → T (f (record_in v (slot S (range_of r) k))) ↔ P (record_in v (slot S (range_of r) k)))
       → T (any_record S v r f) ↔ RecordOf S v r P
-  row-test r f P e =
-      records-test (range_of r) (used_in v (range_of r)) (λ x. eqb x.row r && f x) (λ x. (x.row ≡ r) × P x)
-      (λ k a b. and-test (eqb (record_in v (slot S (range_of r) k)).row r) _ (eq_test _ r) (e k a b))
+  row_test r f P e =
+      records_test (range_of r) (used_in v (range_of r)) (λ x. eqb x.row r && f x) (λ x. (x.row ≡ r) × P x)
+      (λ k a b. and_test (eqb (record_in v (slot S (range_of r) k)).row r) _ (eq_test _ r) (e k a b))
 
   other_test : (t k : ℕ) → T (open_other v t k) ↔ (Open v k × (k ≢ t))
   unfolding open_other
-  other_test t k = simp (both_test, not_test, open-test, eq_test) Iff.rfl
+  other_test t k = simp (both_test, not_test, open_test, eq_test) Iff.rfl
 
   -- the inserter and the records apart
   abbrev Holds : ℕ → ℕ → Type 0
@@ -163,8 +163,8 @@ module _ (S : Shape) (v : View) (ps : List ScanEntry) (long : length (v Opens) �
   held_test : (t r : ℕ) → T (held_in S v t r) ↔ Held S v t r
   unfolding held_in
   held_test t r =
-      let e = or-test (open_other v t (row_in v r).transaction) (any_record S v r (λ x. open_other v t x.transaction)) (other_test t _)
-      (row-test r (λ x. open_other v t x.transaction) (λ x. Open v x.transaction × (x.transaction ≢ t)) (λ k a b q. other_test t _)) in
+      let e = or_test (open_other v t (row_in v r).transaction) (any_record S v r (λ x. open_other v t x.transaction)) (other_test t _)
+      (row_test r (λ x. open_other v t x.transaction) (λ x. Open v x.transaction × (x.transaction ≢ t)) (λ k a b q. other_test t _)) in
       (λ b. to (e.0 b), λ q. e.1 (from q.0 q.1 q.2 q.3))
     where
       to : Holds t r → Held S v t r
@@ -176,46 +176,46 @@ module _ (S : Shape) (v : View) (ps : List ScanEntry) (long : length (v Opens) �
       from k o n (inr q) = inr (q.0, q.1, q.2, (q.3.0, (subst (Open v) (sym q.3.1) o, λ z. n (sym q.3.1 ∙ z))))
 
   -- what touches a row that is not held is the caller's or not open
-  stands-test : (t k state : ℕ) → (k ≢ t → ¬ Open v k) → T (stands_for t k state) ↔ (Committed v k state ⊎ (k ≡ t))
-  stands-test t k state free = (
+  stands_test : (t k state : ℕ) → (k ≢ t → ¬ Open v k) → T (stands_for t k state) ↔ (Committed v k state ⊎ (k ≡ t))
+  stands_test t k state free = (
     λ b. by_cases (ℕ_discrete k t) (λ e. inr e) (λ n. inl (free n, or_cases (eqb k t) (committed_state state) b (λ u. absurd (n (eqb→eq k t u))) (eqb→eq state 1))),
     ⊎_elim (λ q. or_right (eqb k t) (committed_state state) (eqb_equal state 1 q.1)) (λ e. or_left (eqb k t) (committed_state state) (eqb_equal k t e)),
   )
 
-  gone-test : (t r : ℕ) → Open v t → ¬ Held S v t r → T (gone_in S v t r) ↔ Gone S v t r
+  gone_test : (t r : ℕ) → Open v t → ¬ Held S v t r → T (gone_in S v t r) ↔ Gone S v t r
   unfolding gone_in
-  gone-test t r o free =
-      let e = or-test (not (stands_for t (row_in v r).transaction (row_in v r).state)) (any_record S v r (λ x. delete_kind x.kind && stands_for t x.transaction x.state))
-      (insert-aborted)
-      (row-test r (λ x. delete_kind x.kind && stands_for t x.transaction x.state)
+  gone_test t r o free =
+      let e = or_test (not (stands_for t (row_in v r).transaction (row_in v r).state)) (any_record S v r (λ x. delete_kind x.kind && stands_for t x.transaction x.state))
+      (insert_aborted)
+      (row_test r (λ x. delete_kind x.kind && stands_for t x.transaction x.state)
       (λ x. T (delete_kind x.kind) × (Committed v x.transaction x.state ⊎ (x.transaction ≡ t)))
-      (λ k a b q. and-test (delete_kind (record_in v (slot S (range_of r) k)).kind) _ (same_test (delete_kind (record_in v (slot S (range_of r) k)).kind))
-      (λ _. stands-test t _ _ (λ n p. free (_, p, n, inr (k, a, b, (q, refl))))))) in
+      (λ k a b q. and_test (delete_kind (record_in v (slot S (range_of r) k)).kind) _ (same_test (delete_kind (record_in v (slot S (range_of r) k)).kind))
+      (λ _. stands_test t _ _ (λ n p. free (_, p, n, inr (k, a, b, (q, refl))))))) in
       (λ b. (free, ⊎_elim (λ q. inr q) (λ q. inl q) (e.0 b)), λ q. e.1 (⊎_elim (λ p. inr p) (λ p. inl p) q.1))
     where
-      row-stands : T (stands_for t (row_in v r).transaction (row_in v r).state) ↔ (Committed v (row_in v r).transaction (row_in v r).state ⊎ ((row_in v r).transaction ≡ t))
-      row-stands = stands-test t (row_in v r).transaction (row_in v r).state (λ n p. free ((row_in v r).transaction, p, n, inl refl))
+      row_stands : T (stands_for t (row_in v r).transaction (row_in v r).state) ↔ (Committed v (row_in v r).transaction (row_in v r).state ⊎ ((row_in v r).transaction ≡ t))
+      row_stands = stands_test t (row_in v r).transaction (row_in v r).state (λ n p. free ((row_in v r).transaction, p, n, inl refl))
 
-      insert-aborted : T (not (stands_for t (row_in v r).transaction (row_in v r).state)) ↔ Aborted v (row_in v r).transaction (row_in v r).state
-      insert-aborted =
-          let e = simp row-stands at (not_test (stands_for t (row_in v r).transaction (row_in v r).state)) in (
-            λ b. let not-open : ¬ Open v (row_in v r).transaction = λ p. free ((row_in v r).transaction, p, (λ z. e.0 b (inr z)), inl refl) in
-                (not-open, λ z. e.0 b (inl (not-open, z))),
+      insert_aborted : T (not (stands_for t (row_in v r).transaction (row_in v r).state)) ↔ Aborted v (row_in v r).transaction (row_in v r).state
+      insert_aborted =
+          let e = simp row_stands at (not_test (stands_for t (row_in v r).transaction (row_in v r).state)) in (
+            λ b. let not_open : ¬ Open v (row_in v r).transaction = λ p. free ((row_in v r).transaction, p, (λ z. e.0 b (inr z)), inl refl) in
+                (not_open, λ z. e.0 b (inl (not_open, z))),
             λ q. e.1 (⊎_elim (λ p. q.1 p.1) (λ z. q.0 (rw z o))),
           )
 
-  lacks-test : (r n : ℕ) → T (lacks_in S v r n) ↔ Lacks S v r n
+  lacks_test : (r n : ℕ) → T (lacks_in S v r n) ↔ Lacks S v r n
   unfolding lacks_in
-  lacks-test r n = le_test _ _
+  lacks_test r n = le_test _ _
 
-  wanted-test : (r m : ℕ) → T (lacks_in S v r (records_wanted v r m)) ↔ LacksWanted S v r m
+  wanted_test : (r m : ℕ) → T (lacks_in S v r (records_wanted v r m)) ↔ LacksWanted S v r m
   unfolding records_wanted new_bits_in
-  wanted-test r m =
+  wanted_test r m =
       by_test (λ b. T (lacks_in S v r (cond b 1 2)) ↔ LacksWanted S v r m) (eqb (new_bits_in v r m) 0)
-      (λ b. (λ t. inl ((lacks-test r 1).0 t), ⊎_elim (lacks-test r 1).1 (λ q. absurd (none (eqb→eq (new_bits_in v r m) 0 b) q.0.0 q.0.1 q.0.2))))
+      (λ b. (λ t. inl ((lacks_test r 1).0 t), ⊎_elim (lacks_test r 1).1 (λ q. absurd (none (eqb→eq (new_bits_in v r m) 0 b) q.0.0 q.0.1 q.0.2))))
       (λ b. (
-        λ t. inr (new (λ z. T_not (eqb (new_bits_in v r m) 0) b (eqb_equal (new_bits_in v r m) 0 z)), (lacks-test r 2).0 t),
-        ⊎_elim (λ q. (lacks-test r 2).1 (omega arith)) (λ q. (lacks-test r 2).1 q.1),
+        λ t. inr (new (λ z. T_not (eqb (new_bits_in v r m) 0) b (eqb_equal (new_bits_in v r m) 0 z)), (lacks_test r 2).0 t),
+        ⊎_elim (λ q. (lacks_test r 2).1 (omega arith)) (λ q. (lacks_test r 2).1 q.1),
       ))
     where
       none : new_bits_in v r m ≡ 0 → (c : ℕ) → T (bit m c) → bit (row_in v r).mask c ≡ false → ⊥
@@ -227,78 +227,78 @@ module _ (S : Shape) (v : View) (ps : List ScanEntry) (long : length (v Opens) �
           let p = parts (bit m q.0) (not (bit (row_in v r).mask q.0)) (rw (bit_new m (row_in v r).mask q.0) at q.1) in
           (q.0, p.0, is_false _ p.1)
 
-  busy-test : T (not (any (λ k. eqb k 0) (v Opens))) ↔ (most_transactions ≤ transactions_open v)
-  busy-test =
+  busy_test : T (not (any (λ k. eqb k 0) (v Opens))) ↔ (most_transactions ≤ transactions_open v)
+  busy_test =
       let none = count (λ k. eqb k 0) (v Opens) in
-      let all : none + transactions_open v ≡ length (v Opens) = simp and_true at (count-rest (λ k. eqb k 0) (v Opens)) in
-      rw (any-count (λ k. eqb k 0) (v Opens)) (λ t. omega (arith, nltb→le 0 none t), λ b. not_T (ltb 0 none) (λ t. omega (arith, ltb→lt 0 none t)))
+      let all : none + transactions_open v ≡ length (v Opens) = simp and_true at (count_rest (λ k. eqb k 0) (v Opens)) in
+      rw (any_count (λ k. eqb k 0) (v Opens)) (λ t. omega (arith, nltb→le 0 none t), λ b. not_T (ltb 0 none) (λ t. omega (arith, ltb→lt 0 none t)))
 
-  among-test : (g n : ℕ) → T (open_among_in S v g n) ↔ OpenUpTo S v g n
+  among_test : (g n : ℕ) → T (open_among_in S v g n) ↔ OpenUpTo S v g n
   unfolding open_among_in
-  among-test g n = records-test g n (λ x. open_in v x.transaction) (λ x. Open v x.transaction) (λ k a b. open-test _)
+  among_test g n = records_test g n (λ x. open_in v x.transaction) (λ x. Open v x.transaction) (λ k a b. open_test _)
 
-  free-test : T (leb (pages_of S) (free_in S v)) ↔ NoneFree S v
-  free-test = rw (free-none S v pool) (le_test _ _)
+  free_test : T (leb (pages_of S) (free_in S v)) ↔ NoneFree S v
+  free_test = rw (free_none S v pool) (le_test _ _)
 
-  bears-test : (word : ℕ) → T (bears_keeper word) ↔ Bears word
-  bears-test word = simp (not_test, eq_test) Iff.rfl
+  bears_test : (word : ℕ) → T (bears_keeper word) ↔ Bears word
+  bears_test word = simp (not_test, eq_test) Iff.rfl
 
-  borne-test : T (keeper_borne_in S v) ↔ KeeperBorne S v
+  borne_test : T (keeper_borne_in S v) ↔ KeeperBorne S v
   unfolding keeper_borne_in
-  borne-test =
-      or-test (any_below (λ r. bears_keeper (row_keeper v r)) (rows_given v)) _ (some_test (λ r. bears_keeper (row_keeper v r)) (λ r. Bears (row_keeper v r)) (rows_given v) (λ r _. bears-test _))
-      (or-test (any_below (λ g. any_below (λ i. bears_keeper (record_keeper v (g * S.capacity + i))) (used_in v g)) S.ranges) _
+  borne_test =
+      or_test (any_below (λ r. bears_keeper (row_keeper v r)) (rows_given v)) _ (some_test (λ r. bears_keeper (row_keeper v r)) (λ r. Bears (row_keeper v r)) (rows_given v) (λ r _. bears_test _))
+      (or_test (any_below (λ g. any_below (λ i. bears_keeper (record_keeper v (g * S.capacity + i))) (used_in v g)) S.ranges) _
       (some_test (λ g. any_below (λ i. bears_keeper (record_keeper v (g * S.capacity + i))) (used_in v g)) (λ g. (k : ℕ) × (1 ≤ k) × (k ≤ used_in v g) × Bears (record_keeper v (slot S g k))) S.ranges
-      (λ g _. slots-test g (used_in v g) (λ j. bears_keeper (record_keeper v j)) (λ j. Bears (record_keeper v j)) (λ k _ _. bears-test _)))
+      (λ g _. slots_test g (used_in v g) (λ j. bears_keeper (record_keeper v j)) (λ j. Bears (record_keeper v j)) (λ k _ _. bears_test _)))
       (some_test (λ j. not (eqb (get_or (v Opens) j 0) 0) && bears_keeper (get_or (v OpenKeeper) j 0)) (λ j. (get_or (v Opens) j 0 ≢ 0) × Bears (get_or (v OpenKeeper) j 0)) most_transactions
-      (λ j _. and-test (not (eqb (get_or (v Opens) j 0) 0)) (bears_keeper (get_or (v OpenKeeper) j 0)) (simp (not_test, eq_test) Iff.rfl) (λ _. bears-test _))))
+      (λ j _. and_test (not (eqb (get_or (v Opens) j 0) 0)) (bears_keeper (get_or (v OpenKeeper) j 0)) (simp (not_test, eq_test) Iff.rfl) (λ _. bears_test _))))
 
-  move-meets : (to : Form) → Meets (move_tests_in to S v) (stated_move to S v)
+  move_meets : (to : Form) → Meets (move_tests_in to S v) (stated_move to S v)
   unfolding move_tests_in
-  move-meets Form.First = test borne-test (λ _. done)
-  move-meets Form.Newest = done
+  move_meets Form.First = test borne_test (λ _. done)
+  move_meets Form.Newest = done
 
-  closed-test : (t : ℕ) → T (not_open_in v t) ↔ (¬ Open v t)
+  closed_test : (t : ℕ) → T (not_open_in v t) ↔ (¬ Open v t)
   unfolding not_open_in
-  closed-test t = simp (not_test, open-test) Iff.rfl
+  closed_test t = simp (not_test, open_test) Iff.rfl
 
-  no-scan-test : (k : ℕ) → T (no_scan_in ps k) ↔ (¬ ScanOpen ps k)
+  no_scan_test : (k : ℕ) → T (no_scan_in ps k) ↔ (¬ ScanOpen ps k)
   unfolding no_scan_in
-  no-scan-test k = simp (not_test, list-test (λ (p : ScanEntry). p.number) ps free_entry) Iff.rfl
+  no_scan_test k = simp (not_test, list_test (λ (p : ScanEntry). p.number) ps free_entry) Iff.rfl
 
   -- an open transaction, of one that is not shown to be closed
   is_open : (t : ℕ) → ¬ (¬ Open v t) → Open v t
-  is_open t n = (open-test t).0 (by_test (λ b. T b) (open_in v t) (λ _. tt) (λ z. n (λ p. T_not (open_in v t) z ((open-test t).1 p))))
+  is_open t n = (open_test t).0 (by_test (λ b. T b) (open_in v t) (λ _. tt) (λ z. n (λ p. T_not (open_in v t) z ((open_test t).1 p))))
 
   meets : (c : Call) → Meets (tests_in S v ps c) (stated S v ps c)
   unfolding tests_in begin_tests_in read_at_tests_in stated not_given_in no_column no_range later_in earlier_in no_span_in outnumber out_of_reach_in
-  meets begin = test (le_test _ _) (λ _. test busy-test (λ _. done))
-  meets (insert t vs) = test (closed-test t) (λ _. test (le_test _ _) (λ _. done))
+  meets begin = test (le_test _ _) (λ _. test busy_test (λ _. done))
+  meets (insert t vs) = test (closed_test t) (λ _. test (le_test _ _) (λ _. done))
   meets (update t r m vs) =
-      test (closed-test t) (λ o. test (le_test _ _) (λ _. test (mask_test S m) (λ _.
-      test (held_test t r) (λ h. test (gone-test t r (is_open t o) h) (λ _. test (wanted-test r m) (λ _. done))))))
+      test (closed_test t) (λ o. test (le_test _ _) (λ _. test (mask_test S m) (λ _.
+      test (held_test t r) (λ h. test (gone_test t r (is_open t o) h) (λ _. test (wanted_test r m) (λ _. done))))))
   meets (delete t r) =
-      test (closed-test t) (λ o. test (le_test _ _) (λ _.
-      test (held_test t r) (λ h. test (gone-test t r (is_open t o) h) (λ _. test (lacks-test r 1) (λ _. done)))))
-  meets (commit t s) = test (closed-test t) (λ _. test (le_test _ _) (λ _. done))
-  meets (abort t) = test (closed-test t) (λ _. done)
+      test (closed_test t) (λ o. test (le_test _ _) (λ _.
+      test (held_test t r) (λ h. test (gone_test t r (is_open t o) h) (λ _. test (lacks_test r 1) (λ _. done)))))
+  meets (commit t s) = test (closed_test t) (λ _. test (le_test _ _) (λ _. done))
+  meets (abort t) = test (closed_test t) (λ _. done)
   meets (latest r c) = test (le_test _ _) (λ _. test (le_test _ _) (λ _. done))
   meets (read_at s r c) = test (le_test _ _) (λ _. test (le_test _ _) (λ _. test (le_test _ _) (λ _. done)))
-  meets (own_read t r c) = test (closed-test t) (λ _. test (le_test _ _) (λ _. test (le_test _ _) (λ _. done)))
+  meets (own_read t r c) = test (closed_test t) (λ _. test (le_test _ _) (λ _. test (le_test _ _) (λ _. done)))
   meets (open_scan s) = test (le_test _ _) (λ _. test (le_test _ _) (λ _. test (le_test _ _) (λ _. done)))
-  meets (scan_read k r c) = test (no-scan-test k) (λ _. test (le_test _ _) (λ _. test (le_test _ _) (λ _. done)))
-  meets (sum k c) = test (no-scan-test k) (λ _. test (le_test _ _) (λ _. done))
-  meets (close k) = test (no-scan-test k) (λ _. done)
+  meets (scan_read k r c) = test (no_scan_test k) (λ _. test (le_test _ _) (λ _. test (le_test _ _) (λ _. done)))
+  meets (sum k c) = test (no_scan_test k) (λ _. test (le_test _ _) (λ _. done))
+  meets (close k) = test (no_scan_test k) (λ _. done)
   meets (merge g c n) =
-      test (le_test _ _) (λ _. test (le_test _ _) (λ _. test (or-test (leb n _) (ltb (used_in v g) n) (le_test n _) (le_test _ n)) (λ _. test (among-test g n) (λ _. test free-test (λ _. done)))))
+      test (le_test _ _) (λ _. test (le_test _ _) (λ _. test (or_test (leb n _) (ltb (used_in v g) n) (le_test n _) (le_test _ n)) (λ _. test (among_test g n) (λ _. test free_test (λ _. done)))))
   meets release = done
   meets (page_cell c r) = test (le_test _ _) (λ _. test (le_test _ _) (λ _. done))
   meets (lineage g c) = test (le_test _ _) (λ _. test (le_test _ _) (λ _. done))
   meets (crossings r c mark from to stamps) =
-      test (le_test _ _) (λ _. test (le_test _ _) (λ _. test (or-test (ltb to from) (ltb (last_stamp v) to) (le_test _ _) (le_test _ _)) (λ _. test (le_test _ _) (λ _. done))))
-  meets (begin_as k) = test (le_test _ _) (λ _. test busy-test (λ _. done))
+      test (le_test _ _) (λ _. test (le_test _ _) (λ _. test (or_test (ltb to from) (ltb (last_stamp v) to) (le_test _ _) (le_test _ _)) (λ _. test (le_test _ _) (λ _. done))))
+  meets (begin_as k) = test (le_test _ _) (λ _. test busy_test (λ _. done))
   meets (keeper_at s r c) = test (le_test _ _) (λ _. test (le_test _ _) (λ _. test (le_test _ _) (λ _. done)))
-  meets (move to second) = move-meets to
+  meets (move to second) = move_meets to
 
 -- ---- of a usable memory
 is_accept : (w : Verdict) (a : Answer) → is_refused (answer_if w a) ≡ false → w ≡ accept
@@ -365,19 +365,19 @@ refuses m ps c = go (works_on c (stored_form (words m))) (room_for (form_use c) 
           (λ q. (true≢false, (true≢false, (long, (meets_none e).0 (is_accept _ _ q)))), λ q. rw ((meets_none e).1 q.1.1.1) (unfold answer_if in (not_refused S v ps c))),
         )
     go true true false s f = (λ n. (λ q. inl (refl, two q), ⊎_elim (λ q. ap Answer.Refused q.1) (λ q. absurd (q.0 refl))), (λ q. absurd (true≢false q), λ q. absurd (q.0 refl)))
-    go true false u s f = (λ n. (λ q. short-first u n (two q), λ q. ap Answer.Refused (short-only u n q)), (λ q. absurd (true≢false q), λ q. absurd (q.1.1.0 (s.0 tt))))
+    go true false u s f = (λ n. (λ q. short_first u n (two q), λ q. ap Answer.Refused (short_only u n q)), (λ q. absurd (true≢false q), λ q. absurd (q.1.1.0 (s.0 tt))))
       where
-        short-first : (u : Bool) (n : Refusal) → Refusal.Memory ≡ n → First (clauses true u) n
-        short-first true n e = inr (true≢false, inr (true≢false, inl (s.0 tt, e)))
-        short-first false n e = inl (refl, e)
+        short_first : (u : Bool) (n : Refusal) → Refusal.Memory ≡ n → First (clauses true u) n
+        short_first true n e = inr (true≢false, inr (true≢false, inl (s.0 tt, e)))
+        short_first false n e = inl (refl, e)
 
-        short-only : (u : Bool) (n : Refusal) → First (clauses true u) n → Refusal.Memory ≡ n
-        short-only u n = ⊎_elim (λ q. q.1) (λ q. ⊎_elim (λ z. z.1) (λ z. ⊎_elim (λ y. y.1) (λ y. absurd (y.0 (s.0 tt))) z.1) q.1)
-    go false r u s f = (λ n. (λ q. other-first u n (two q), λ q. ap Answer.Refused (other-only u n q)), (λ q. absurd (true≢false q), λ q. absurd (q.1.0 refl)))
+        short_only : (u : Bool) (n : Refusal) → First (clauses true u) n → Refusal.Memory ≡ n
+        short_only u n = ⊎_elim (λ q. q.1) (λ q. ⊎_elim (λ z. z.1) (λ z. ⊎_elim (λ y. y.1) (λ y. absurd (y.0 (s.0 tt))) z.1) q.1)
+    go false r u s f = (λ n. (λ q. other_first u n (two q), λ q. ap Answer.Refused (other_only u n q)), (λ q. absurd (true≢false q), λ q. absurd (q.1.0 refl)))
       where
-        other-first : (u : Bool) (n : Refusal) → Refusal.Memory ≡ n → First (clauses false u) n
-        other-first true n e = inr (true≢false, inl (refl, e))
-        other-first false n e = inl (refl, e)
+        other_first : (u : Bool) (n : Refusal) → Refusal.Memory ≡ n → First (clauses false u) n
+        other_first true n e = inr (true≢false, inl (refl, e))
+        other_first false n e = inl (refl, e)
 
-        other-only : (u : Bool) (n : Refusal) → First (clauses false u) n → Refusal.Memory ≡ n
-        other-only u n = ⊎_elim (λ q. q.1) (λ q. ⊎_elim (λ z. z.1) (λ z. absurd (z.0 refl)) q.1)
+        other_only : (u : Bool) (n : Refusal) → First (clauses false u) n → Refusal.Memory ≡ n
+        other_only u n = ⊎_elim (λ q. q.1) (λ q. ⊎_elim (λ z. z.1) (λ z. absurd (z.0 refl)) q.1)

@@ -12,19 +12,19 @@ use Rattle.model.specs.Stored.{record_in}
 use Rattle.model.specs.Reading.{sees_record, answers_for}
 
 module _ (v : View) (who : Reader) (c at mask : ℕ) (x : Bool) (e : mask ≡ get_or (v TailMask) at 0) (b : x ≡ bit mask c) where
-  pub answers-not : x ≡ false → false ≡ answers_for who c (record_in v at)
+  pub answers_not : x ≡ false → false ≡ answers_for who c (record_in v at)
   unfolding answers_for record_in
-  answers-not h = rw (← e, ← b, h)
+  answers_not h = rw (← e, ← b, h)
 
   module _ (kind : ℕ) (h : x ≡ true) (k : kind ≡ get_or (v TailKind) at 0) where
-    pub answers-original : kind ≡ 0 → true ≡ answers_for who c (record_in v at)
+    pub answers_original : kind ≡ 0 → true ≡ answers_for who c (record_in v at)
     unfolding answers_for record_in
-    answers-original z = rw (← e, ← b, h, ← k, z)
+    answers_original z = rw (← e, ← b, h, ← k, z)
 
-    pub answers-setting : (seen : Bool) → kind ≡ 1 → seen ≡ sees_record who (record_in v at) → seen ≡ answers_for who c (record_in v at)
+    pub answers_setting : (seen : Bool) → kind ≡ 1 → seen ≡ sees_record who (record_in v at) → seen ≡ answers_for who c (record_in v at)
     unfolding answers_for record_in
-    answers-setting seen z q = rw (← e, ← b, h, ← k, z) q
+    answers_setting seen z q = rw (← e, ← b, h, ← k, z) q
 
-    pub answers-delete : (kind ≡ 0 → ⊥) → (kind ≡ 1 → ⊥) → false ≡ answers_for who c (record_in v at)
+    pub answers_delete : (kind ≡ 0 → ⊥) → (kind ≡ 1 → ⊥) → false ≡ answers_for who c (record_in v at)
     unfolding answers_for record_in
-    answers-delete z o = rw (← e, ← b, h, ← k, ne_eqb kind 0 z, ne_eqb kind 1 o)
+    answers_delete z o = rw (← e, ← b, h, ← k, ne_eqb kind 0 z, ne_eqb kind 1 o)

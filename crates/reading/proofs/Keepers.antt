@@ -11,10 +11,10 @@ use Rattle.model.specs.Stored.{row_keeper, record_keeper}
 use Rattle.model.specs.Reading.{floor, found_in, keeper_word}
 
 module _ (S : Shape) (v : View) (who : Reader) (r c : ℕ) (f : Found) (e : f ≡ found_in S v who floor r c) where
-  pub keeper-none : (w : ℕ) → f ≡ Found.Nothing → w ≡ get_or (v Region.RowKeeper) r 0 → w ≡ keeper_word S v who r c
+  pub keeper_none : (w : ℕ) → f ≡ Found.Nothing → w ≡ get_or (v Region.RowKeeper) r 0 → w ≡ keeper_word S v who r c
   unfolding keeper_word row_keeper
-  keeper-none w n q = q ∙ rw (← e, n)
+  keeper_none w n q = q ∙ rw (← e, n)
 
-  pub keeper-found : (w i : ℕ) → f ≡ Found.At i → w ≡ get_or (v Region.TailKeeper) i 0 → w ≡ keeper_word S v who r c
+  pub keeper_found : (w i : ℕ) → f ≡ Found.At i → w ≡ get_or (v Region.TailKeeper) i 0 → w ≡ keeper_word S v who r c
   unfolding keeper_word record_keeper
-  keeper-found w i n q = q ∙ rw (← e, n)
+  keeper_found w i n q = q ∙ rw (← e, n)

@@ -13,7 +13,7 @@ use Rattle.layout.specs.declared.Sizes.{Sizes}
 use Rattle.layout.specs.declared.Region.TheVariants.{TailLink, RowMask, RowLink, PageLineage, PageNewest}
 use Rattle.layout.specs.View.{View, rows_given, used_in}
 use Rattle.layout.specs.Sizes.{Proper}
-use Rattle.rows.proofs.Indices.{row-in}
+use Rattle.rows.proofs.Indices.{row_in_lem}
 use Rattle.model.specs.declared.Reader.{Reader}
 use Rattle.terms.specs.Measures.{Shape}
 use Rattle.history.specs.History.{bit, range_of}
@@ -48,28 +48,28 @@ module _ (s : Sizes) (v : View) (linked : Linked s v) (who : Reader) (g c low : 
       ap (turn k) (steps n m link (omega arith) (omega arith) (omega arith))
 
   -- the walk from record `from` has come to record k
-  pub walk-stop : (from k : ℕ) → walk (shape_in s) v who g c low from from ≡ walk (shape_in s) v who g c low k k → k ≤ low
+  pub walk_stop : (from k : ℕ) → walk (shape_in s) v who g c low from from ≡ walk (shape_in s) v who g c low k k → k ≤ low
       → Found.Nothing ≡ walk (shape_in s) v who g c low from from
   unfolding walk
-  walk-stop from zero on l = sym on
-  walk-stop from (suc j) on l = sym (on ∙ rw (le-leb (suc j) low l))
+  walk_stop from zero on l = sym on
+  walk_stop from (suc j) on l = sym (on ∙ rw (le-leb (suc j) low l))
 
-  pub walk-hit : (from k at : ℕ) (answers : Bool) → walk (shape_in s) v who g c low from from ≡ walk (shape_in s) v who g c low k k → low < k
+  pub walk_hit : (from k at : ℕ) (answers : Bool) → walk (shape_in s) v who g c low from from ≡ walk (shape_in s) v who g c low k k → low < k
       → at ≡ slot (shape_in s) g k → answers ≡ answers_for who c (record_in v at) → answers ≡ true → Found.At at ≡ walk (shape_in s) v who g c low from from
   unfolding walk
-  walk-hit from zero at answers on l e a y = absurd (omega arith)
-  walk-hit from (suc j) at answers on l e a y = sym (on ∙ rw (lt-leb (suc j) low l, ← e, ← a, y))
+  walk_hit from zero at answers on l e a y = absurd (omega arith)
+  walk_hit from (suc j) at answers on l e a y = sym (on ∙ rw (lt-leb (suc j) low l, ← e, ← a, y))
 
-  pub link-lower : (from k at link : ℕ) → low < k → k ≤ from → from ≤ used_in v g → at ≡ slot (shape_in s) g k → link ≡ get_or (v TailLink) at 0 → link < k
-  link-lower from k at link l u b e q = rw (q, e) (linked.links_lower g k h (omega arith) (omega arith))
+  pub link_lower : (from k at link : ℕ) → low < k → k ≤ from → from ≤ used_in v g → at ≡ slot (shape_in s) g k → link ≡ get_or (v TailLink) at 0 → link < k
+  link_lower from k at link l u b e q = rw (q, e) (linked.links_lower g k h (omega arith) (omega arith))
 
-  pub walk-on : (from k at link : ℕ) (answers : Bool) → walk (shape_in s) v who g c low from from ≡ walk (shape_in s) v who g c low k k → low < k
+  pub walk_on : (from k at link : ℕ) (answers : Bool) → walk (shape_in s) v who g c low from from ≡ walk (shape_in s) v who g c low k k → low < k
       → k ≤ from → from ≤ used_in v g → at ≡ slot (shape_in s) g k → answers ≡ answers_for who c (record_in v at) → answers ≡ false → link ≡ get_or (v TailLink) at 0
       → walk (shape_in s) v who g c low from from ≡ walk (shape_in s) v who g c low link link
   unfolding walk record_in
-  walk-on from zero at link answers on l u b e a y q = absurd (omega arith)
-  walk-on from (suc j) at link answers on l u b e a y q =
-      let lower : link < suc j = link-lower from (suc j) at link l u b e q in
+  walk_on from zero at link answers on l u b e a y q = absurd (omega arith)
+  walk_on from (suc j) at link answers on l u b e a y q =
+      let lower : link < suc j = link_lower from (suc j) at link l u b e q in
       on ∙ rw (lt-leb (suc j) low l, ← e, ← a, y, ← q) (steps j link link (omega arith) (omega arith) (omega arith))
 
 -- ---- the walk down to a number, by the walk over all records
@@ -108,11 +108,11 @@ module _ (s : Sizes) (v : View) (linked : Linked s v) (who : Reader) (g c : ℕ)
       (by_test (λ b. Inside (cond b (Found.At at) (walk S v who g c floor n link)) (first + suc j)) (answers_for who c (record_in v at))
       (λ _. omega arith) (λ _. inside_more (walk S v who g c floor n link) (omega arith) (walk_inside n link (omega arith))))
 
-  walk-above : (low n k : ℕ) → k ≤ used_in v g → walk S v who g c low n k ≡ above (first + low) (walk S v who g c floor n k)
+  walk_above : (low n k : ℕ) → k ≤ used_in v g → walk S v who g c low n k ≡ above (first + low) (walk S v who g c floor n k)
   unfolding walk record_in slot
-  walk-above low zero k l = refl
-  walk-above low (suc n) zero l = rw (le-leb 0 low (omega arith))
-  walk-above low (suc n) (suc j) l = by_cases (dec_le (suc j) low)
+  walk_above low zero k l = refl
+  walk_above low (suc n) zero l = rw (le-leb 0 low (omega arith))
+  walk_above low (suc n) (suc j) l = by_cases (dec_le (suc j) low)
       (λ p. rw (le-leb (suc j) low p) (sym (none_above (first + low) (walk S v who g c floor (suc n) (suc j)) (inside_more (walk S v who g c floor (suc n) (suc j)) (omega arith) (walk_inside (suc n) (suc j) l)))))
       (λ q.
       let at = slot S g (suc j) in
@@ -120,66 +120,66 @@ module _ (s : Sizes) (v : View) (linked : Linked s v) (who : Reader) (g c : ℕ)
       let lower : link < suc j = linked.links_lower g (suc j) h (omega arith) l in
       rw (lt-leb (suc j) low (omega (arith, q)), lt-leb (suc j) floor (omega arith))
       (by_test (λ b. cond b (Found.At at) (walk S v who g c low n link) ≡ above (first + low) (cond b (Found.At at) (walk S v who g c floor n link))) (answers_for who c (record_in v at))
-      (λ _. sym (found_above (first + low) at (omega (arith, q)))) (λ _. walk-above low n link (omega arith))))
+      (λ _. sym (found_above (first + low) at (omega (arith, q)))) (λ _. walk_above low n link (omega arith))))
 
 module _ (S : Shape) (v : View) (who : Reader) (c p : ℕ) where
   -- ---- how far down on page p
   module _ (newest : ℕ) (e : newest ≡ get_or (v PageNewest) p 0) where
-    pub down-lineage : (lineage : ℕ) → newest ≤ who.stamp.0 → lineage ≡ get_or (v PageLineage) p 0 → lineage ≡ down_to who (page_in v p)
+    pub down_lineage : (lineage : ℕ) → newest ≤ who.stamp.0 → lineage ≡ get_or (v PageLineage) p 0 → lineage ≡ down_to who (page_in v p)
     unfolding down_to page_in
-    down-lineage lineage l q = rw (← e, le-leb newest who.stamp.0 l) q
+    down_lineage lineage l q = rw (← e, le-leb newest who.stamp.0 l) q
 
-    pub down-all : who.stamp.0 < newest → 0 ≡ down_to who (page_in v p)
+    pub down_all : who.stamp.0 < newest → 0 ≡ down_to who (page_in v p)
     unfolding down_to page_in
-    down-all l = rw (← e, lt-leb newest who.stamp.0 l)
+    down_all l = rw (← e, lt-leb newest who.stamp.0 l)
 
 -- ---- the record that answers for row r, and the word on page p
 module _ (S : Shape) (v : View) (who : Reader) (c r mask : ℕ) (m : mask ≡ get_or (v RowMask) r 0) (has : Bool) (b : has ≡ bit mask c) where
-  pub found-unset : (low : ℕ) → has ≡ false → Found.Nothing ≡ found_in S v who low r c
+  pub found_unset : (low : ℕ) → has ≡ false → Found.Nothing ≡ found_in S v who low r c
   unfolding found_in row_in
-  found-unset low f = rw (← m, ← b, f)
+  found_unset low f = rw (← m, ← b, f)
 
-  pub word-alone : (p cell : ℕ) → has ≡ false → cell ≡ cell_in v p (within r) → cell ≡ word_in S v who p r c
+  pub word_alone : (p cell : ℕ) → has ≡ false → cell ≡ cell_in v p (within r) → cell ≡ word_in S v who p r c
   unfolding word_in
-  word-alone p cell f e = rw (← found-unset (down_to who (page_in v p)) f) e
+  word_alone p cell f e = rw (← found_unset (down_to who (page_in v p)) f) e
 
   module _ (g link low : ℕ) (w : Found) (t : has ≡ true) (i : g ≡ range_of r) (l : link ≡ get_or (v RowLink) r 0) (q : w ≡ walk S v who g c low link link) where
-    pub found-set : w ≡ found_in S v who low r c
+    pub found_set : w ≡ found_in S v who low r c
     unfolding found_in row_in
-    found-set = rw (← m, ← b, t, ← i, ← l) q
+    found_set = rw (← m, ← b, t, ← i, ← l) q
 
     module _ (p : ℕ) (n : low ≡ down_to who (page_in v p)) where
-      pub word-found : (j word : ℕ) → w ≡ Found.At j → word ≡ value_in S v j c → word ≡ word_in S v who p r c
+      pub word_found : (j word : ℕ) → w ≡ Found.At j → word ≡ value_in S v j c → word ≡ word_in S v who p r c
       unfolding word_in
-      word-found j word f d = rw (← n, ← found-set, f) d
+      word_found j word f d = rw (← n, ← found_set, f) d
 
       pub word_none : (cell : ℕ) → w ≡ Found.Nothing → cell ≡ cell_in v p (within r) → cell ≡ word_in S v who p r c
       unfolding word_in
-      word_none cell f e = rw (← n, ← found-set, f) e
+      word_none cell f e = rw (← n, ← found_set, f) e
 
 -- ---- the version of row r on page p, by one walk over all of its records
 module _ (s : Sizes) (proper : Proper s) (v : View) (linked : Linked s v) (who : Reader) (c p r held low : ℕ) (w : Found) (given : r < rows_given v) (e : held ≡ cell_in v p (within r))
     (n : low ≡ down_to who (page_in v p)) (q : w ≡ found_in (shape_in s) v who floor r c) where
-  found-down : found_in (shape_in s) v who low r c ≡ above (first_slot s.capacity (range_of r) + low) w
+  found_down : found_in (shape_in s) v who low r c ≡ above (first_slot s.capacity (range_of r) + low) w
   unfolding found_in
-  found-down =
+  found_down =
       rw q
       (by_test (λ b. cond b (walk (shape_in s) v who (range_of r) c low (row_in v r).link (row_in v r).link) Found.Nothing
       ≡ above (first_slot s.capacity (range_of r) + low) (cond b (walk (shape_in s) v who (range_of r) c floor (row_in v r).link (row_in v r).link) Found.Nothing)) (bit (row_in v r).mask c)
-      (λ _. walk-above s v linked who (range_of r) c (row-in s proper v linked r given).1 low (row_in v r).link (row_in v r).link (unfold row_in in (row-in s proper v linked r given).2))
+      (λ _. walk_above s v linked who (range_of r) c (row_in_lem s proper v linked r given).1 low (row_in v r).link (row_in v r).link (unfold row_in in (row_in_lem s proper v linked r given).2))
       (λ _. refl))
 
-  version-is : lookup_in (shape_in s) v who p r c
+  version_is : lookup_in (shape_in s) v who p r c
       ≡ record { word = or_else (above (first_slot s.capacity (range_of r) + low) w) (λ j. value_in (shape_in s) v j c) held; setter = or_else w (setter_at v) Setter.Insert }
   unfolding lookup_in word_in setter_in
-  version-is = rw (← n, found-down, ← q, ← e)
+  version_is = rw (← n, found_down, ← q, ← e)
 
-  pub version-none : w ≡ Found.Nothing → ◌≡◌ {A = Version} record { word = held; setter = Setter.Insert } (lookup_in (shape_in s) v who p r c)
-  version-none f = rw (version-is, f)
+  pub version_none : w ≡ Found.Nothing → ◌≡◌ {A = Version} record { word = held; setter = Setter.Insert } (lookup_in (shape_in s) v who p r c)
+  version_none f = rw (version_is, f)
 
   module _ (j g : ℕ) (x : Setter) (yes : Bool) (f : w ≡ Found.At j) (y : x ≡ setter_at v j) (i : g ≡ range_of r) (a : yes ≡ leb (first_slot s.capacity g + low) j) where
-    pub version-found : (word : ℕ) → yes ≡ true → word ≡ value_in (shape_in s) v j c → ◌≡◌ {A = Version} record { word = word; setter = x } (lookup_in (shape_in s) v who p r c)
-    version-found word k d = rw (version-is, f, ← i, ← a, k, y, d)
+    pub version_found : (word : ℕ) → yes ≡ true → word ≡ value_in (shape_in s) v j c → ◌≡◌ {A = Version} record { word = word; setter = x } (lookup_in (shape_in s) v who p r c)
+    version_found word k d = rw (version_is, f, ← i, ← a, k, y, d)
 
-    pub version-merged : yes ≡ false → ◌≡◌ {A = Version} record { word = held; setter = x } (lookup_in (shape_in s) v who p r c)
-    version-merged k = rw (version-is, f, ← i, ← a, k, y)
+    pub version_merged : yes ≡ false → ◌≡◌ {A = Version} record { word = held; setter = x } (lookup_in (shape_in s) v who p r c)
+    version_merged k = rw (version_is, f, ← i, ← a, k, y)

@@ -14,7 +14,7 @@ use Rattle.layout.specs.declared.Sizes.{Sizes}
 use Rattle.layout.specs.declared.Region.TheVariants.{TailRow}
 use Rattle.layout.specs.View.{View, rows_given, used_in}
 use Rattle.facts.specs.Facts.{row_named, range_names_rows}
-use Rattle.facts.proofs.Each.{same, each_between, each-nothing}
+use Rattle.facts.proofs.Each.{same, each_between, each_nothing}
 
 -- whether row r is given and of range g
 abbrev is_named : ℕ → ℕ → ℕ → Bool
@@ -42,12 +42,12 @@ named_none given g r h = go (ltb r given) refl
     go false q = refl
 
 module _ (s : Sizes) (v : View) (g : ℕ) where
-  pub names-between : (last : ℕ) → g * range_rows < rows_given v → last + 1 ≡ min (rows_given v) (g * range_rows + range_rows) → first_slot s.capacity g + used_in v g ≤ length (v TailRow)
+  pub names_between : (last : ℕ) → g * range_rows < rows_given v → last + 1 ≡ min (rows_given v) (g * range_rows + range_rows) → first_slot s.capacity g + used_in v g ≤ length (v TailRow)
       → range_names_rows s v g ≡ all_between (g * range_rows) last (region (v TailRow) (first_slot s.capacity g) (used_in v g))
   unfolding range_names_rows row_named
-  names-between last h e k =
+  names_between last h e k =
       each_between (v TailRow) (first_slot s.capacity g) (used_in v g) (g * range_rows) last (row_named s v g) k (λ i l. named_between (rows_given v) g last _ h e)
 
-  pub names-none : rows_given v ≤ g * range_rows → range_names_rows s v g ≡ eqb (used_in v g) 0
+  pub names_none : rows_given v ≤ g * range_rows → range_names_rows s v g ≡ eqb (used_in v g) 0
   unfolding range_names_rows row_named
-  names-none h = each-nothing (row_named s v g) (used_in v g) (λ i l. named_none (rows_given v) g _ h)
+  names_none h = each_nothing (row_named s v g) (used_in v g) (λ i l. named_none (rows_given v) g _ h)

@@ -7,7 +7,7 @@ use lib.ListN.{length, get_or, set, length-replicate, get_or-replicate}
 use lib.Seq.{ext_get_or}
 use Rattle.terms.specs.declared.ScanEntry.{ScanEntry}
 use Rattle.loops.specs.Change.{filled}
-use Rattle.loops.proofs.Change.{changed-length, changed-at}
+use Rattle.loops.proofs.Change.{changed_length, changed_at_lem}
 use Rattle.terms.specs.Entries.{free_entry}
 use Rattle.requests.specs.Packed.{entry_words, entries_of}
 use Rattle.scans.specs.Entries.{all_freed}
@@ -58,7 +58,7 @@ entries_put (x ∷ y ∷ z ∷ w ∷ ws) (suc i) a b c d h =
 pub entries_freed : (ws : List ℕ) (n : ℕ) → n ≡ length ws / entry_words * entry_words → entries_of (filled 0 n 0 ws) ≡ all_freed (entries_of ws)
 entries_freed ws n e =
     let f : ℕ → ℕ → ℕ = λ i x. 0 in
-    let l : length (filled 0 n 0 ws) ≡ length ws = changed-length f 0 ws n in
+    let l : length (filled 0 n 0 ws) ≡ length ws = changed_length f 0 ws n in
     let k = length_entries ws in
     let k' = length_entries (filled 0 n 0 ws) in
     let m : length (entries_of (filled 0 n 0 ws)) ≡ length (entries_of ws) = k' ∙ ap (λ (j : ℕ). j / entry_words) l ∙ sym k in
@@ -69,7 +69,7 @@ entries_freed ws n e =
     ∙ sym (get_or-replicate (length (entries_of ws)) i free_entry free_entry (omega arith)))
   where
     zeroed : (ws : List ℕ) (n j : ℕ) → n ≤ length ws → j < n → get_or (filled 0 n 0 ws) j 0 ≡ 0
-    zeroed ws n j h k = let q : 0 + j ≡ j = omega arith in rw q at (changed-at (λ i x. 0) 0 ws n j (omega arith) k)
+    zeroed ws n j h k = let q : 0 + j ≡ j = omega arith in rw q at (changed_at_lem (λ i x. 0) 0 ws n j (omega arith) k)
 
     each : (ws : List ℕ) (n i : ℕ) → n ≤ length ws → i * entry_words + 3 < n → entry_from (filled 0 n 0 ws) (i * entry_words) ≡ free_entry
     each ws n i h k =

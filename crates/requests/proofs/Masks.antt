@@ -35,14 +35,14 @@ never_accepted false true e = let z : ◌≡◌ {A = ℕ} 0 1 = cc in omega arit
 never_accepted false false e = let z : ◌≡◌ {A = ℕ} 0 1 = cc in omega arith
 
 module _ (S : Shape) (v : View) (ps : List ScanEntry) (a b : ℕ) (vs : List ℤ) where
-  bad-mask : (c : ℕ) → bad_mask S c ≡ true → verdict (tests_in S v ps (update a b c vs)) ≡ stopped (not_open_in v a) (not_given_in v b)
+  bad_mask_lem : (c : ℕ) → bad_mask S c ≡ true → verdict (tests_in S v ps (update a b c vs)) ≡ stopped (not_open_in v a) (not_given_in v b)
   unfolding verdict tests_in
-  bad-mask c e = rw e
+  bad_mask_lem c e = rw e
 
-  both-bad : (c d : ℕ) → bad_mask S c ≡ true → bad_mask S d ≡ true → Equivalent S v ps (update a b c vs) (update a b d vs)
-  both-bad c d p q = record {
-    verdicts = bad-mask c p ∙ sym (bad-mask d q);
-    accepted = λ e. absurd (never_accepted (not_open_in v a) (not_given_in v b) (sym (bad-mask c p) ∙ e));
+  both_bad : (c d : ℕ) → bad_mask S c ≡ true → bad_mask S d ≡ true → Equivalent S v ps (update a b c vs) (update a b d vs)
+  both_bad c d p q = record {
+    verdicts = bad_mask_lem c p ∙ sym (bad_mask_lem d q);
+    accepted = λ e. absurd (never_accepted (not_open_in v a) (not_given_in v b) (sym (bad_mask_lem c p) ∙ e));
   }
 
 -- ---- on a lent memory
@@ -67,5 +67,5 @@ masked m t a b c n vs r m' z s = go (ltb most_mask c) refl z
   where
     go : (f : Bool) → ltb most_mask c ≡ f → n ≡ cond f 0 c → ServesBy t m (update a b c vs) r m' kept
     go true e q = λ ps p.
-        served_equivalent _ _ _ _ _ _ _ record { uses = refl; seconds = refl } (λ u. both-bad _ _ ps a b vs 0 c (none_bad _) (wide_bad m ps c u (ltb-true most_mask c e))) (rw q at (s ps p))
+        served_equivalent _ _ _ _ _ _ _ record { uses = refl; seconds = refl } (λ u. both_bad _ _ ps a b vs 0 c (none_bad _) (wide_bad m ps c u (ltb-true most_mask c e))) (rw q at (s ps p))
     go false e q = rw q at s

@@ -37,18 +37,18 @@ cells_agree vs us e S current g i zero cells = refl
 cells_agree vs us e S current g i (suc n) cells = rw (cells_agree vs us e S current g i n cells, e n)
 
 module _ (vs us : List ℤ) (e : Agree vs us) (S : Shape) where
-  inserted-agree : (t : ℕ) (v : View) → inserted_in S t vs v ≡ inserted_in S t us v
+  inserted_agree : (t : ℕ) (v : View) → inserted_in S t vs v ≡ inserted_in S t us v
   unfolding inserted_in inserted_at
-  inserted-agree t v = rw (cells_agree vs us e S (v Current))
+  inserted_agree t v = rw (cells_agree vs us e S (v Current))
 
-  setting-agree : (t keeper r mask : ℕ) (v : View) → setting_appended S t keeper r mask vs v ≡ setting_appended S t keeper r mask us v
+  setting_agree : (t keeper r mask : ℕ) (v : View) → setting_appended S t keeper r mask vs v ≡ setting_appended S t keeper r mask us v
   unfolding setting_appended
-  setting-agree t keeper r mask v =
+  setting_agree t keeper r mask v =
       ap (λ (f : ℕ → ℕ). filled_in S (next_slot S v (range_of r)) f (appended S t keeper r as_setting mask v)) (fun_ext (λ (c : ℕ). ap (of_z w32) (e c)))
 
-  updated-agree : (t r mask : ℕ) (v : View) → updated_in S t r mask vs v ≡ updated_in S t r mask us v
+  updated_agree : (t r mask : ℕ) (v : View) → updated_in S t r mask vs v ≡ updated_in S t r mask us v
   unfolding updated_in
-  updated-agree t r mask v = rw (setting-agree t (open_keeper v t) r mask (original_appended S t r mask v), setting-agree t (open_keeper v t) r mask v)
+  updated_agree t r mask v = rw (setting_agree t (open_keeper v t) r mask (original_appended S t r mask v), setting_agree t (open_keeper v t) r mask v)
 
 -- What is given for a call with one list of values is given for it with another that agrees: no test and no answer looks at them.
 given_values : (m : List ℕ) (ps : List ScanEntry) (k : Kind) (ns : List ℕ) (vs us : List ℤ) (o : Outcome Answer) (m' : List ℕ) (ps' : List ScanEntry) → Agree vs us
@@ -57,9 +57,9 @@ unfolding call_of write_of tests_in reply_in act_in entries_after
 given_values m ps (Kind.Read k) ns vs us o m' ps' e w = w
 given_values m ps (Kind.Write Write.Begin) ns vs us o m' ps' e w = w
 given_values m ps (Kind.Write Write.Insert) ns vs us o m' ps' e w =
-    given_equivalent _ _ _ _ _ _ _ refl refl record { uses = refl; seconds = refl } (λ u. record { verdicts = refl; accepted = λ z. (refl, inserted-agree vs us e _ (first ns) _, refl) }) w
+    given_equivalent _ _ _ _ _ _ _ refl refl record { uses = refl; seconds = refl } (λ u. record { verdicts = refl; accepted = λ z. (refl, inserted_agree vs us e _ (first ns) _, refl) }) w
 given_values m ps (Kind.Write Write.Update) ns vs us o m' ps' e w =
-    given_equivalent _ _ _ _ _ _ _ refl refl record { uses = refl; seconds = refl } (λ u. record { verdicts = refl; accepted = λ z. (refl, updated-agree vs us e _ (first ns) (second ns) (third ns) _, refl) }) w
+    given_equivalent _ _ _ _ _ _ _ refl refl record { uses = refl; seconds = refl } (λ u. record { verdicts = refl; accepted = λ z. (refl, updated_agree vs us e _ (first ns) (second ns) (third ns) _, refl) }) w
 given_values m ps (Kind.Write Write.Delete) ns vs us o m' ps' e w = w
 given_values m ps (Kind.Write Write.Commit) ns vs us o m' ps' e w = w
 given_values m ps (Kind.Write Write.Abort) ns vs us o m' ps' e w = w

@@ -36,36 +36,36 @@ chosen_ends byte = chosen_passes ends tt tt byte
 -- ---- the steps
 module _ {State : Type 0} (m : Machine State) (columns : ℕ) where
   -- the bound does not matter from the number of bytes on
-  pub all-steps : (a b : ℕ) (x : State) (bs : List ℕ) → length bs ≤ a → length bs ≤ b → steps a m columns x bs ≡ steps b m columns x bs
+  pub all_steps : (a b : ℕ) (x : State) (bs : List ℕ) → length bs ≤ a → length bs ≤ b → steps a m columns x bs ≡ steps b m columns x bs
   unfolding steps
-  all-steps zero b x [] h k = sym (steps_none b m columns x)
-  all-steps zero b x (byte ∷ bs) h k = absurd (omega arith)
-  all-steps (suc a) b x [] h k = sym (steps_none b m columns x)
-  all-steps (suc a) zero x (byte ∷ bs) h k = absurd (omega arith)
-  all-steps (suc a) (suc b) x (byte ∷ bs) h k =
+  all_steps zero b x [] h k = sym (steps_none b m columns x)
+  all_steps zero b x (byte ∷ bs) h k = absurd (omega arith)
+  all_steps (suc a) b x [] h k = sym (steps_none b m columns x)
+  all_steps (suc a) zero x (byte ∷ bs) h k = absurd (omega arith)
+  all_steps (suc a) (suc b) x (byte ∷ bs) h k =
       let l = behind_shorter columns (chosen byte) bs in
       let s = step m columns x byte (operands_of columns (chosen byte) bs) in
       ap (λ (l : List ℕ). s.line ++ cond s.on l [])
-      (all-steps a b s.state (behind columns (chosen byte) bs) (omega arith) (omega arith))
+      (all_steps a b s.state (behind columns (chosen byte) bs) (omega arith) (omega arith))
 
   -- a command's line, with the operands os, and what is due for the bytes behind
   abbrev lineThen : State → ℕ → Chosen → List ℕ → ℕ → List ℕ → List ℕ
   lineThen x byte k os most left =
       line_of byte (outcome_to m columns x k os) ++ cond (goes_on (outcome_to m columns x k os).answer) (steps most m columns (state_after m columns x k os) left) []
 
-  whole-step : (x : State) (byte : ℕ) (k : Chosen) (tail rest : List ℕ) → T (ends k) → operand_width columns k ≤ length tail
+  whole_step : (x : State) (byte : ℕ) (k : Chosen) (tail rest : List ℕ) → T (ends k) → operand_width columns k ≤ length tail
       → lineThen x byte k (operands_of columns k (tail ++ rest)) (length (tail ++ rest)) (behind columns k (tail ++ rest))
       ≡ lineThen x byte k (take (operand_width columns k) tail) (length (drop (operand_width columns k) tail ++ rest)) (drop (operand_width columns k) tail ++ rest)
   unfolding operands_of behind operand_width outcome_to
-  whole-step x byte (Chosen.Known f) tail rest e h =
+  whole_step x byte (Chosen.Known f) tail rest e h =
       let w : ℕ = width columns f in
       rw (
         take-append-le w tail rest h,
         drop-append-le w tail rest h,
-        all-steps (length (tail ++ rest)) (length (drop w tail ++ rest)) (state_after m columns x (Chosen.Known f) (take w tail)) (drop w tail ++ rest)
+        all_steps (length (tail ++ rest)) (length (drop w tail ++ rest)) (state_after m columns x (Chosen.Known f) (take w tail)) (drop w tail ++ rest)
             (omega (arith, length-append (drop w tail) rest, length-append tail rest, length-drop w tail)) (omega arith),
       )
-  whole-step x byte (Chosen.Refused r) tail rest e h = rw (is_false (goes_on (Answer.Refused r)) e)
+  whole_step x byte (Chosen.Refused r) tail rest e h = rw (is_false (goes_on (Answer.Refused r)) e)
 
   cut_step : (x : State) (byte : ℕ) (k : Chosen) (tail : List ℕ) → length tail < operand_width columns k
       → lineThen x byte k (operands_of columns k tail) (length tail) (behind columns k tail) ≡ lineThen x byte k tail 0 []
@@ -116,7 +116,7 @@ whole_due f x bs rest at end on started h e l =
     let left : drop w (drop (suc at) bs) ≡ drop end bs = drop-drop w (suc at) bs ∙ ap (λ (n : ℕ). drop n bs) there in
     let enough : w ≤ length (drop (suc at) bs) = omega (arith, length-drop (suc at) bs) in
     rw (due_commands f x (drop at bs ++ rest) started, on, drop-cons bs at 0 h, one, wide, ← left)
-    (whole-step lent_machine (capped f.columns) x byte (chosen byte) (drop (suc at) bs) rest (chosen_ends byte) enough)
+    (whole_step lent_machine (capped f.columns) x byte (chosen byte) (drop (suc at) bs) rest (chosen_ends byte) enough)
 
 cut_due : (f : Flow) (x : Lent) (bs : List ℕ) (at end : ℕ) → f.on ≡ true → f.started ≡ true → at < length bs → length bs < end_at f.columns bs at → end ≡ length bs
     → let s = step_at f.columns x bs at end in
@@ -182,7 +182,7 @@ shape_moved last f g x y bs after end on started c =
       whole,
       take-append-le shape_bytes bs rest l,
       drop-append-le shape_bytes bs rest l,
-      all-steps lent_machine (capped (columns_from (take shape_bytes bs))) (length (bs ++ rest)) (length (drop shape_bytes bs ++ rest)) (first_store x (take shape_bytes bs)) (drop shape_bytes bs ++ rest)
+      all_steps lent_machine (capped (columns_from (take shape_bytes bs))) (length (bs ++ rest)) (length (drop shape_bytes bs ++ rest)) (first_store x (take shape_bytes bs)) (drop shape_bytes bs ++ rest)
           (omega (arith, length-append (drop shape_bytes bs) rest, length-append bs rest, length-drop shape_bytes bs)) (omega arith),
     ))
     (λ l.

@@ -46,14 +46,14 @@ module _ {last : Bool} {p q : Progress} {x y : Lent} {bs old new : List ℕ} (g 
         room = omega (arith, a.grown, a.taken, g.room);
       }
 
-  pub going-fits : (end : ℕ) → Found last q.columns bs q.taken end → (end ≡ q.taken → ⊥)
+  pub going_fits : (end : ℕ) → Found last q.columns bs q.taken end → (end ≡ q.taken → ⊥)
       → (q.taken < end) × (end ≤ length bs) × (q.written + line_bytes ≤ length new)
-  going-fits end f n =
+  going_fits end f n =
       let less : q.taken < end = omega (arith, f.order) in
       (less, f.inside, omega (arith, f.inside, g.room))
 
-  pub walked-off : q.on ≡ false → Walked last p q x y bs old new
-  walked-off e =
+  pub walked_off : q.on ≡ false → Walked last p q x y bs old new
+  walked_off e =
       record { moved = g.moved; ends = λ l. e; waits = λ t. absurd (never t e); few = λ t. absurd (never t e); inside = g.inside; fits = omega (arith, g.inside, g.room) }
 
   pub walked_stop : q.on ≡ true → NoCommand last q.columns bs q.taken → Walked last p (stopped last q) x y bs old new
@@ -102,9 +102,9 @@ took_nothing last f q x bs new h e =
     record { round = λ r. absurd (omega arith); full = λ r. (e.0, refl, e.1, e.2); inside = omega (arith, e.1); fits = omega (arith, e.2) }
 
 module _ {last : Bool} {f : Flow} {q : Progress} {x y : Lent} {bs old : List ℕ} (b : Begun last f q x y bs old) (h : room_for (length bs) ≤ length old) where
-  pub took-none : q.started ≡ false → Took last f q x y bs old
+  pub took_none : q.started ≡ false → Took last f q x y bs old
   unfolding wanted
-  took-none e =
+  took_none e =
       record {
         round = λ r. record { moved = b.moved; ends = b.ends e; waits = λ t. rw e (b.few e t); few = λ t. omega (arith, b.few e t) };
         full = λ r. absurd (omega arith);

@@ -18,17 +18,17 @@ use Rattle.model.specs.Reading.{sees, sees_row, sees_record, has_record, head_in
 use Rattle.rows.specs.Finders.{head_at, Inside}
 
 module _ (who : Reader) (state stamp ordinal transaction : ℕ) where
-  pub sees-committed : (b : Bool) → b ≡ (leb stamp who.stamp.0 && leb ordinal who.commits) → state ≡ 1 → b ≡ sees who state stamp ordinal transaction
+  pub sees_committed : (b : Bool) → b ≡ (leb stamp who.stamp.0 && leb ordinal who.commits) → state ≡ 1 → b ≡ sees who state stamp ordinal transaction
   unfolding sees
-  sees-committed b q e = q ∙ rw e (sym (or-false (leb stamp who.stamp.0 && leb ordinal who.commits)))
+  sees_committed b q e = q ∙ rw e (sym (or-false (leb stamp who.stamp.0 && leb ordinal who.commits)))
 
-  pub sees-ended : (state ≡ 1 → ⊥) → (state ≡ 0 → ⊥) → false ≡ sees who state stamp ordinal transaction
+  pub sees_ended : (state ≡ 1 → ⊥) → (state ≡ 0 → ⊥) → false ≡ sees who state stamp ordinal transaction
   unfolding sees
-  sees-ended h k = rw (ne_eqb state 1 h, ne_eqb state 0 k)
+  sees_ended h k = rw (ne_eqb state 1 h, ne_eqb state 0 k)
 
-  pub sees-other : state ≡ 0 → (transaction ≡ who.me.0 → ⊥) → false ≡ sees who state stamp ordinal transaction
+  pub sees_other : state ≡ 0 → (transaction ≡ who.me.0 → ⊥) → false ≡ sees who state stamp ordinal transaction
   unfolding sees
-  sees-other e h = rw (e, ne_eqb transaction who.me.0 h, and_false (not (eqb who.me.0 0)))
+  sees_other e h = rw (e, ne_eqb transaction who.me.0 h, and_false (not (eqb who.me.0 0)))
 
   pub sees_own : state ≡ 0 → transaction ≡ who.me.0 → not (eqb transaction 0) ≡ sees who state stamp ordinal transaction
   unfolding sees
@@ -36,13 +36,13 @@ module _ (who : Reader) (state stamp ordinal transaction : ℕ) where
 
 -- the row or record i, word by word
 module _ (v : View) (who : Reader) (i state stamp ordinal transaction : ℕ) (x : Bool) (e : x ≡ sees who state stamp ordinal transaction) where
-  pub row-sees : state ≡ get_or (v RowState) i 0 → stamp ≡ get_or (v RowStamp) i 0 → ordinal ≡ get_or (v RowOrdinal) i 0 → transaction ≡ get_or (v RowTransaction) i 0 → x ≡ sees_row who (row_in v i)
+  pub row_sees : state ≡ get_or (v RowState) i 0 → stamp ≡ get_or (v RowStamp) i 0 → ordinal ≡ get_or (v RowOrdinal) i 0 → transaction ≡ get_or (v RowTransaction) i 0 → x ≡ sees_row who (row_in v i)
   unfolding row_in
-  row-sees a b c d = e ∙ rw (a, b, c, d)
+  row_sees a b c d = e ∙ rw (a, b, c, d)
 
-  pub record-sees : state ≡ get_or (v TailState) i 0 → stamp ≡ get_or (v TailStamp) i 0 → ordinal ≡ get_or (v TailOrdinal) i 0 → transaction ≡ get_or (v TailTransaction) i 0 → x ≡ sees_record who (record_in v i)
+  pub record_sees : state ≡ get_or (v TailState) i 0 → stamp ≡ get_or (v TailStamp) i 0 → ordinal ≡ get_or (v TailOrdinal) i 0 → transaction ≡ get_or (v TailTransaction) i 0 → x ≡ sees_record who (record_in v i)
   unfolding record_in
-  record-sees a b c d = e ∙ rw (a, b, c, d)
+  record_sees a b c d = e ∙ rw (a, b, c, d)
 
 -- ---- what a finder tells whose answer hangs on one test
 module _ (b : Bool) (j : ℕ) where
@@ -65,18 +65,18 @@ found_inside f i n e h = rw e at h
 
 -- ---- what the finder of a row's newest record tells
 module _ (S : Shape) (v : View) (r : ℕ) where
-  pub head-there : (at : ℕ) → head_at S v r ≡ Found.At at → (has_record v r ≡ true) × (head_in S v r ≡ record_in v at)
+  pub head_there : (at : ℕ) → head_at S v r ≡ Found.At at → (has_record v r ≡ true) × (head_in S v r ≡ record_in v at)
   unfolding head_at head_in
-  head-there at e = go (has_record v r) refl e
+  head_there at e = go (has_record v r) refl e
     where
       go : (b : Bool) → has_record v r ≡ b → cond b (Found.At (slot S (range_of r) (row_in v r).link)) Found.Nothing ≡ Found.At at
           → (has_record v r ≡ true) × (record_in v (slot S (range_of r) (row_in v r).link) ≡ record_in v at)
       go true q f = let k : slot S (range_of r) (row_in v r).link ≡ at = cc in (q, ap (record_in v) k)
       go false q f = let z : ◌≡◌ {A = ℕ} 0 1 = cc in absurd (omega arith)
 
-  pub head-none : head_at S v r ≡ Found.Nothing → has_record v r ≡ false
+  pub head_none : head_at S v r ≡ Found.Nothing → has_record v r ≡ false
   unfolding head_at
-  head-none e = go (has_record v r) refl e
+  head_none e = go (has_record v r) refl e
     where
       go : (b : Bool) → has_record v r ≡ b → cond b (Found.At (slot S (range_of r) (row_in v r).link)) Found.Nothing ≡ Found.Nothing
           → has_record v r ≡ false
@@ -84,35 +84,35 @@ module _ (S : Shape) (v : View) (r : ℕ) where
       go false q f = q
 
   module _ (link : ℕ) (l : link ≡ get_or (v RowLink) r 0) where
-    pub head-empty : link ≡ 0 → Found.Nothing ≡ head_at S v r
+    pub head_empty : link ≡ 0 → Found.Nothing ≡ head_at S v r
     unfolding head_at row_in
-    head-empty e = rw (← l, eq-eqb link 0 e)
+    head_empty e = rw (← l, eq-eqb link 0 e)
 
-    pub head-found : (g at : ℕ) → (link ≡ 0 → ⊥) → g ≡ range_of r → at ≡ slot S g link → Found.At at ≡ head_at S v r
+    pub head_found : (g at : ℕ) → (link ≡ 0 → ⊥) → g ≡ range_of r → at ≡ slot S g link → Found.At at ≡ head_at S v r
     unfolding head_at row_in
-    head-found g at n i e = rw (← l, ne_eqb link 0 n, ← i, e)
+    head_found g at n i e = rw (← l, ne_eqb link 0 n, ← i, e)
 
   module _ (who : Reader) (row : Bool) (e : row ≡ sees_row who (row_in v r)) where
-    pub unseen-row : not row ≡ true → false ≡ visible_in S v who r
+    pub unseen_row : not row ≡ true → false ≡ visible_in S v who r
     unfolding visible_in
-    unseen-row h = rw (← e, not-true row h)
+    unseen_row h = rw (← e, not-true row h)
 
     module _ (head : Found) (h : not row ≡ false) (f : head ≡ head_at S v r) where
-      pub row-alone : head ≡ Found.Nothing → true ≡ visible_in S v who r
+      pub row_alone : head ≡ Found.Nothing → true ≡ visible_in S v who r
       unfolding visible_in
-      row-alone q = rw (← e, not-false row h, head-none (sym f ∙ q))
+      row_alone q = rw (← e, not-false row h, head_none (sym f ∙ q))
 
       module _ (at kind : ℕ) (q : head ≡ Found.At at) (k : kind ≡ get_or (v TailKind) at 0) where
         pub row_kept : kind < 2 → true ≡ visible_in S v who r
         unfolding visible_in record_in
         row_kept l =
-            let d = head-there at (sym f ∙ q) in
+            let d = head_there at (sym f ∙ q) in
             let no : ltb 1 (get_or (v TailKind) at 0) ≡ false = le-ltb 1 (get_or (v TailKind) at 0) (omega arith) in
             rw (← e, not-false row h, d.0, d.1, no)
 
-        pub row-deleted : (seen : Bool) → 2 ≤ kind → seen ≡ sees_record who (record_in v at) → not seen ≡ visible_in S v who r
+        pub row_deleted : (seen : Bool) → 2 ≤ kind → seen ≡ sees_record who (record_in v at) → not seen ≡ visible_in S v who r
         unfolding visible_in record_in
-        row-deleted seen l w =
-            let d = head-there at (sym f ∙ q) in
+        row_deleted seen l w =
+            let d = head_there at (sym f ∙ q) in
             let yes : ltb 1 (get_or (v TailKind) at 0) ≡ true = lt-ltb 1 (get_or (v TailKind) at 0) (omega arith) in
             rw (← e, not-false row h, d.0, d.1, yes, w)

@@ -79,9 +79,9 @@ module _ (k n : ℕ) (nonzero : eqb k 0 ≡ false) where
   abbrev Entry : ℕ → List ScanEntry → ℕ → Type 0
   Entry d ps j = (firstIndex (is_scan k) ps + d ≡ get_or (opened_at d ps) j 0) × (get_or ps (firstIndex (is_scan k) ps) free_entry ≡ get_or (opened ps) j free_entry) × (j < open_count ps)
 
-  found-index : (ps : List ScanEntry) (c d j : ℕ) → searched c ps ≡ At (c + j) → Entry d ps j
-  found-index [] c d j e = let z : ◌≡◌ {A = ℕ} 0 1 = cc (zeros_none k c n nonzero) in absurd (omega arith)
-  found-index (p ∷ ps) c d j e = go (eqb p.number 0) refl (eqb p.number k) refl (found-index ps) j e
+  found_index : (ps : List ScanEntry) (c d j : ℕ) → searched c ps ≡ At (c + j) → Entry d ps j
+  found_index [] c d j e = let z : ◌≡◌ {A = ℕ} 0 1 = cc (zeros_none k c n nonzero) in absurd (omega arith)
+  found_index (p ∷ ps) c d j e = go (eqb p.number 0) refl (eqb p.number k) refl (found_index ps) j e
     where
       at : (i : ℕ) → At c ≡ At i → c ≡ i
       at i q = cc
@@ -124,58 +124,58 @@ pub record Located (ps : List ScanEntry) (k j : ℕ) : Type 0 where
   pub commits_is : get_or (table_of ps).commits j 0 ≡ (get_or ps (firstIndex (is_scan k) ps) free_entry).commits
 
 module _ (ps : List ScanEntry) (few : open_count ps ≤ most_scans) where
-  field-column : (f : ScanEntry → ℕ) → column (map f (opened ps)) ≡ map f (opened ps) ++ replicate (most_scans - open_count ps) 0
-  field-column f = let e : length (map f (opened ps)) ≡ open_count ps = length-map (opened ps) f in rw (← e) (column_are (map f (opened ps)) (omega arith))
+  field_column : (f : ScanEntry → ℕ) → column (map f (opened ps)) ≡ map f (opened ps) ++ replicate (most_scans - open_count ps) 0
+  field_column f = let e : length (map f (opened ps)) ≡ open_count ps = length-map (opened ps) f in rw (← e) (column_are (map f (opened ps)) (omega arith))
 
   field_at : (f : ScanEntry → ℕ) (j : ℕ) → f free_entry ≡ 0 → j < open_count ps → get_or (column (map f (opened ps))) j 0 ≡ f (get_or (opened ps) j free_entry)
   field_at f j z h =
       let e : length (map f (opened ps)) ≡ open_count ps = length-map (opened ps) f in
-      rw (field-column f) (get_or-append (map f (opened ps)) _ 0 j (omega arith) ∙ ap (λ (d : ℕ). get_or (map f (opened ps)) j d) (sym z) ∙ get_or-map f (opened ps) j free_entry)
+      rw (field_column f) (get_or-append (map f (opened ps)) _ 0 j (omega arith) ∙ ap (λ (d : ℕ). get_or (map f (opened ps)) j d) (sym z) ∙ get_or-map f (opened ps) j free_entry)
 
-  indices-at : (j : ℕ) → j < open_count ps → get_or (column (opened_at 0 ps)) j 0 ≡ get_or (opened_at 0 ps) j 0
-  indices-at j h =
+  indices_at : (j : ℕ) → j < open_count ps → get_or (column (opened_at 0 ps)) j 0 ≡ get_or (opened_at 0 ps) j 0
+  indices_at j h =
       let e = at_length 0 ps in
       rw (column_are (opened_at 0 ps) (omega arith)) (get_or-append (opened_at 0 ps) _ 0 j (omega arith))
 
-  pub table-count : (table_of ps).count ≡ open_count ps
+  pub table_count : (table_of ps).count ≡ open_count ps
   unfolding table_of
-  table-count = omega arith
+  table_count = omega arith
 
-  pub table-at-most : (f : ScanEntry → ℕ) (b : ℕ) → all_between 0 b (column (map f (opened ps))) ≡ every_open (λ p. leb (f p) b) ps
-  table-at-most f b = rw (field-column f) (between_zeros b (most_scans - open_count ps) (map f (opened ps)) ∙ every_opened f b ps)
+  pub table_at_most : (f : ScanEntry → ℕ) (b : ℕ) → all_between 0 b (column (map f (opened ps))) ≡ every_open (λ p. leb (f p) b) ps
+  table_at_most f b = rw (field_column f) (between_zeros b (most_scans - open_count ps) (map f (opened ps)) ∙ every_opened f b ps)
 
-  field-taken : (f : ScanEntry → ℕ) → take (table_of ps).count (column (map f (opened ps))) ≡ map f (opened ps)
-  field-taken f = rw (table-count, field-column f) (take_at (map f (opened ps)) _ (open_count ps) (length-map (opened ps) f))
+  field_taken : (f : ScanEntry → ℕ) → take (table_of ps).count (column (map f (opened ps))) ≡ map f (opened ps)
+  field_taken f = rw (table_count, field_column f) (take_at (map f (opened ps)) _ (open_count ps) (length-map (opened ps) f))
 
-  pub table-differ : differ (take (table_of ps).count (table_of ps).numbers) ≡ differ (map (λ p. p.number) ps)
+  pub table_differ : differ (take (table_of ps).count (table_of ps).numbers) ≡ differ (map (λ p. p.number) ps)
   unfolding table_of
-  table-differ = rw (field-taken (λ p. p.number)) (differ_opened ps)
+  table_differ = rw (field_taken (λ p. p.number)) (differ_opened ps)
 
   pub table_before : (m : ℕ) → some_less m (take (table_of ps).count (table_of ps).merges) ≡ some_open (λ p. ltb p.merges m) ps
   unfolding table_of
-  table_before m = rw (field-taken (λ p. p.merges)) (some_opened m ps)
+  table_before m = rw (field_taken (λ p. p.merges)) (some_opened m ps)
 
-  pub table-finds : (k j : ℕ) → find_in (table_of ps) k ≡ At j → Located ps k j
+  pub table_finds : (k j : ℕ) → find_in (table_of ps) k ≡ At j → Located ps k j
   unfolding find_in table_of
-  table-finds k j e =
+  table_finds k j e =
       elim (eqb k 0) as (λ b. eqb k 0 ≡ b → cond b Nothing (first_at k 0 (table_of ps).numbers) ≡ At j → Located ps k j) [
         | true ↦ λ q f. let z : ◌≡◌ {A = ℕ} 0 1 = cc in absurd (omega arith)
         | false ↦ λ q f.
-            let t = found-index k (most_scans - open_count ps) q ps 0 0 j ((rw (field-column (λ p. p.number)) at f) ∙ ap At (omega arith)) in
+            let t = found_index k (most_scans - open_count ps) q ps 0 0 j ((rw (field_column (λ p. p.number)) at f) ∙ ap At (omega arith)) in
             record {
               entry = t.2;
               number_is = ap (λ (p : ScanEntry). p.number) t.1 ∙ sym (field_at (λ p. p.number) j refl t.2) ∙ (first_at_lem k j (table_of ps).numbers f).1;
-              index_is = indices-at j t.2 ∙ omega (arith, t.0);
+              index_is = indices_at j t.2 ∙ omega (arith, t.0);
               stamp_is = field_at (λ p. p.stamp) j refl t.2 ∙ ap (λ (p : ScanEntry). p.stamp) (sym t.1);
               merges_is = field_at (λ p. p.merges) j refl t.2 ∙ ap (λ (p : ScanEntry). p.merges) (sym t.1);
               commits_is = field_at (λ p. p.commits) j refl t.2 ∙ ap (λ (p : ScanEntry). p.commits) (sym t.1);
             }
       ] refl e
 
-  pub table-lacks : (k : ℕ) → find_in (table_of ps) k ≡ Nothing → firstIndex (is_scan k) ps ≡ length ps
+  pub table_lacks : (k : ℕ) → find_in (table_of ps) k ≡ Nothing → firstIndex (is_scan k) ps ≡ length ps
   unfolding find_in table_of
-  table-lacks k e =
+  table_lacks k e =
       elim (eqb k 0) as (λ b. eqb k 0 ≡ b → cond b Nothing (first_at k 0 (table_of ps).numbers) ≡ Nothing → firstIndex (is_scan k) ps ≡ length ps) [
         | true ↦ λ q f. let z : k ≡ 0 = eqb-true k 0 q in rw z (none_zero ps)
-        | false ↦ λ q f. found_none k (most_scans - open_count ps) q ps 0 (rw (field-column (λ p. p.number)) at f)
+        | false ↦ λ q f. found_none k (most_scans - open_count ps) q ps 0 (rw (field_column (λ p. p.number)) at f)
       ] refl e

@@ -81,8 +81,8 @@ with_entry_table ps p = go (eqb p.number 0) refl (ltb n most_scans) refl
     n : ℕ
     n = open_count ps
 
-    as-free : cond (eqb (first_free ps) (length ps)) (length ps) (first_free ps) ≡ first_free ps
-    as-free =
+    as_free_lem : cond (eqb (first_free ps) (length ps)) (length ps) (first_free ps) ≡ first_free ps
+    as_free_lem =
         elim (eqb (first_free ps) (length ps)) as (λ b. eqb (first_free ps) (length ps) ≡ b → cond b (length ps) (first_free ps) ≡ first_free ps)
         [ true ↦ λ e. sym (eqb-true (first_free ps) (length ps) e) | false ↦ λ e. refl ] refl
 
@@ -94,7 +94,7 @@ with_entry_table ps p = go (eqb p.number 0) refl (ltb n most_scans) refl
     full l x e h = column_full l x (omega arith)
 
     go : (b : Bool) → eqb p.number 0 ≡ b → (r : Bool) → ltb n most_scans ≡ r → with_entry (table_of ps) p ≡ table_of (ps ++ p ∷ [])
-    go true e r f = rw (e, length-append ps (p ∷ []), opened_snoc ps p, opened_at_snoc_lem 0 ps p, free_snoc ps p, e, append-nil (opened ps), append-nil (opened_at 0 ps), as-free)
+    go true e r f = rw (e, length-append ps (p ∷ []), opened_snoc ps p, opened_at_snoc_lem 0 ps p, free_snoc ps p, e, append-nil (opened ps), append-nil (opened_at 0 ps), as_free_lem)
     go false e true f =
         let h : n < most_scans = ltb-true n most_scans f in
         let m : min most_scans n ≡ n = omega arith in

@@ -49,8 +49,8 @@ module _ (total w : ℤ) (f : SFits w64 total) (g : SFits w32 w) (h : nat_abs to
   pub cast_fits : SFits w64 (to_z w32 (of_z w32 w))
   cast_fits = rw (to_z-of_z w32 w g) wide
 
-  pub plus-fits : SFits w64 (to_z w64 (of_z w64 total) +ℤ to_z w64 (of_z w64 (to_z w32 (of_z w32 w))))
-  plus-fits = rw (to_z-of_z w64 total f, to_z-of_z w32 w g, to_z-of_z w64 w wide) sum_fits
+  pub plus_fits : SFits w64 (to_z w64 (of_z w64 total) +ℤ to_z w64 (of_z w64 (to_z w32 (of_z w32 w))))
+  plus_fits = rw (to_z-of_z w64 total f, to_z-of_z w32 w g, to_z-of_z w64 w wide) sum_fits
 
-  pub plus-is : to_z w64 (of_z w64 (to_z w64 (of_z w64 total) +ℤ to_z w64 (of_z w64 (to_z w32 (of_z w32 w))))) ≡ total +ℤ w
-  plus-is = rw (to_z-of_z w64 total f, to_z-of_z w32 w g, to_z-of_z w64 w wide) (to_z-of_z w64 (total +ℤ w) sum_fits)
+  pub plus_is : to_z w64 (of_z w64 (to_z w64 (of_z w64 total) +ℤ to_z w64 (of_z w64 (to_z w32 (of_z w32 w))))) ≡ total +ℤ w
+  plus_is = rw (to_z-of_z w64 total f, to_z-of_z w32 w g, to_z-of_z w64 w wide) (to_z-of_z w64 (total +ℤ w) sum_fits)

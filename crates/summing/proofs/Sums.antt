@@ -35,14 +35,14 @@ page_of S v m r c page g e i = rw (← i) e
 
 -- the rows given, of which there are n, are at most all the rows that there are
 module _ (s : Sizes) (proper : Proper s) (v : View) (linked : Linked s v) (n : ℕ) (e : n ≡ rows_given v) where
-  pub given-few : n ≤ most_rows
-  given-few = omega (arith, proper.rows_are, proper.ranges_to, linked.rows_few)
+  pub given_few : n ≤ most_rows
+  given_few = omega (arith, proper.rows_are, proper.ranges_to, linked.rows_few)
 
-  pub row-few : (r : ℕ) → r < n → r ≤ most_rows
-  row-few r l = omega (arith, given-few)
+  pub row_few : (r : ℕ) → r < n → r ≤ most_rows
+  row_few r l = omega (arith, given_few)
 
-  pub given-range : (r g : ℕ) → r < n → g ≡ range_of r → g < s.ranges
-  given-range r g l i = rw i (range_in s proper r (omega (arith, linked.rows_few)))
+  pub given_range : (r g : ℕ) → r < n → g ≡ range_of r → g < s.ranges
+  given_range r g l i = rw i (range_in s proper r (omega (arith, linked.rows_few)))
 
 module _ (S : Shape) (v : View) (scan : ScanEntry) (c : ℕ) where
   abbrev value : ℕ → ℤ
@@ -54,10 +54,10 @@ module _ (S : Shape) (v : View) (scan : ScanEntry) (c : ℕ) where
   abbrev more : ℕ → R.Tally
   more r = record { count = suc (before r).count; total = (before r).total +ℤ value r }
 
-  pub tally-bound : (n : ℕ) → ((tally S v scan c n).count ≤ n) × (nat_abs (tally S v scan c n).total ≤ n * 2147483648)
+  pub tally_bound : (n : ℕ) → ((tally S v scan c n).count ≤ n) × (nat_abs (tally S v scan c n).total ≤ n * 2147483648)
   unfolding tally
-  tally-bound zero = (omega arith, omega arith)
-  tally-bound (suc r) = go (visible_in S v (reader (snapshot_of scan) 0) r) (tally-bound r)
+  tally_bound zero = (omega arith, omega arith)
+  tally_bound (suc r) = go (visible_in S v (reader (snapshot_of scan) 0) r) (tally_bound r)
     where
       go : (b : Bool) → ((before r).count ≤ r) × (nat_abs (before r).total ≤ r * 2147483648)
           → ((cond b (more r) (before r)).count ≤ suc r) × (nat_abs (cond b (more r) (before r)).total ≤ suc r * 2147483648)
@@ -65,33 +65,33 @@ module _ (S : Shape) (v : View) (scan : ScanEntry) (c : ℕ) where
           (omega (arith, h.0), omega (arith, h.1, sum_size (before r).total (value r), word_size (word_in S v (reader (snapshot_of scan) 0) (scan_page S v scan.merges (range_of r) c) r c)))
       go false h = (omega (arith, h.0), omega (arith, h.1))
 
-  pub none-tallied : Tallied S v scan c 0 record { count = 0; total = pos 0 }
+  pub none_tallied : Tallied S v scan c 0 record { count = 0; total = pos 0 }
   unfolding tally
-  none-tallied = record { count_is = refl; total_is = refl }
+  none_tallied = record { count_is = refl; total_is = refl }
 
   module _ (r : ℕ) (t : Tally) (h : Tallied S v scan c r t) where
     -- of at most all the rows that there are it is small, and the code keeps its total whole
-    pub tallied-small : r ≤ most_rows → (t.count ≤ most_rows) × (nat_abs t.total ≤ 2 ^ 41)
-    tallied-small l =
-        let bound = tally-bound r in (omega (arith, h.count_is, bound.0), omega (arith, ap nat_abs h.total_is, bound.1))
+    pub tallied_small : r ≤ most_rows → (t.count ≤ most_rows) × (nat_abs t.total ≤ 2 ^ 41)
+    tallied_small l =
+        let bound = tally_bound r in (omega (arith, h.count_is, bound.0), omega (arith, ap nat_abs h.total_is, bound.1))
 
-    pub tallied-kept : r ≤ most_rows → to_z w64 (of_z w64 t.total) ≡ t.total
-    tallied-kept l = to_z-of_z w64 t.total (size_fits t.total (omega (arith, (tallied-small l).1)))
+    pub tallied_kept : r ≤ most_rows → to_z w64 (of_z w64 t.total) ≡ t.total
+    tallied_kept l = to_z-of_z w64 t.total (size_fits t.total (omega (arith, (tallied_small l).1)))
 
     pub sum_is : (n : ℕ) → n ≡ rows_given v → r ≤ n → n ≤ r → n ≤ most_rows → Answer.Sum t.count (to_z w64 (of_z w64 t.total)) ≡ sum_in S v scan c
     unfolding sum_in
-    sum_is n e a b l = let all : r ≡ n = omega arith in rw (tallied-kept (omega arith), h.count_is, h.total_is, all, e)
+    sum_is n e a b l = let all : r ≡ n = omega arith in rw (tallied_kept (omega arith), h.count_is, h.total_is, all, e)
 
-    pub row-unseen : (who : Reader) → who ≡ reader (snapshot_of scan) 0 → (seen : Bool) → seen ≡ visible_in S v who r → seen ≡ false → Tallied S v scan c (r + 1) t
+    pub row_unseen : (who : Reader) → who ≡ reader (snapshot_of scan) 0 → (seen : Bool) → seen ≡ visible_in S v who r → seen ≡ false → Tallied S v scan c (r + 1) t
     unfolding tally
-    row-unseen who w seen u f = rw add-one record { count_is = rw (← w, ← u, f) h.count_is; total_is = rw (← w, ← u, f) h.total_is }
+    row_unseen who w seen u f = rw add-one record { count_is = rw (← w, ← u, f) h.count_is; total_is = rw (← w, ← u, f) h.total_is }
 
     module _ (few : r ≤ most_rows) where
-      pub count-few : t.count ≤ most_rows
-      count-few = (tallied-small few).0
+      pub count_few : t.count ≤ most_rows
+      count_few = (tallied_small few).0
 
-      pub total-small : nat_abs (to_z w64 (of_z w64 t.total)) ≤ 2 ^ 62
-      total-small = rw (tallied-kept few) (omega (arith, (tallied-small few).1))
+      pub total_small : nat_abs (to_z w64 (of_z w64 t.total)) ≤ 2 ^ 62
+      total_small = rw (tallied_kept few) (omega (arith, (tallied_small few).1))
 
       pub row_seen : (page word : ℕ) (value total : ℤ) (who : Reader) → who ≡ reader (snapshot_of scan) 0 → (seen : Bool) → seen ≡ visible_in S v who r → seen ≡ true
           → page ≡ scan_page S v scan.merges (range_of r) c → word ≡ word_in S v who page r c
@@ -102,5 +102,5 @@ module _ (S : Shape) (v : View) (scan : ScanEntry) (c : ℕ) where
           rw (add-one r)
           record {
             count_is = add-one t.count ∙ rw (← w, ← u, y) (ap suc h.count_is);
-            total_is = to_z-of_z w64 total g ∙ b ∙ rw (tallied-kept few, to_z-of_z w32 value f, a, ← w, ← u, y, ← p, ← q, h.total_is);
+            total_is = to_z-of_z w64 total g ∙ b ∙ rw (tallied_kept few, to_z-of_z w32 value f, a, ← w, ← u, y, ← p, ← q, h.total_is);
           }

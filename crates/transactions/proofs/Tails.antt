@@ -23,26 +23,26 @@ module _ (S : Shape) (t : ℕ) (k : Region) (w : ℕ) (v : View) where
   unfoldable pub marksTo : ℕ → View
   marksTo g = renew k (mark_tails S (v Region.Used) (v Region.TailTransaction) t w g (v k)) v
 
-  pub marks-none : v ≡ marksTo 0
+  pub marks_none : v ≡ marksTo 0
   unfolding marksTo
-  marks-none = renew_none k v
+  marks_none = renew_none k v
 
   -- what a turn reads is as it was
-  pub marks-used : (x : View) (g i : ℕ) → index k ≢ index Region.Used → x ≡ marksTo g → used_in x i ≡ used_in v i
+  pub marks_used : (x : View) (g i : ℕ) → index k ≢ index Region.Used → x ≡ marksTo g → used_in x i ≡ used_in v i
   unfolding marksTo
-  marks-used x g i d e =
+  marks_used x g i d e =
       ap (λ (y : View). get_or (y Region.Used) i 0) e ∙ ap (λ (l : List ℕ). get_or l i 0) (renew_there k Region.Used _ v d)
 
-  pub marks-next : (x x' : View) (g : ℕ) → index k ≢ index Region.TailTransaction → index k ≢ index Region.Used
+  pub marks_next : (x x' : View) (g : ℕ) → index k ≢ index Region.TailTransaction → index k ≢ index Region.Used
       → x ≡ marksTo g → x' ≡ tail_marked S t k w g x → x' ≡ marksTo (g + 1)
   unfolding marksTo tail_marked mark
-  marks-next x x' g d u e p =
+  marks_next x x' g d u e p =
       let l : List ℕ = mark_tails S (v Region.Used) (v Region.TailTransaction) t w g (v k) in
       p ∙ rw (e, renew_there k Region.TailTransaction l v d, renew_there k Region.Used l v u, renew_here k l v, renew_again, add-one)
 
-  pub marks-all : (x : View) (g : ℕ) → x ≡ marksTo g → g ≤ S.ranges → S.ranges ≤ g → x ≡ tails_marked S t k w v
+  pub marks_all : (x : View) (g : ℕ) → x ≡ marksTo g → g ≤ S.ranges → S.ranges ≤ g → x ≡ tails_marked S t k w v
   unfolding marksTo tails_marked
-  marks-all x g e h m = let q : g ≡ S.ranges = omega arith in e ∙ rw q
+  marks_all x g e h m = let q : g ≡ S.ranges = omega arith in e ∙ rw q
 
 -- the counts of a view with the same header and the same numbers of records
 pub counted_kept : (s : Sizes) (v w : View) → w Region.Header ≡ v Region.Header → w Region.Used ≡ v Region.Used → Counted s v → Counted s w
@@ -60,9 +60,9 @@ pub apart : (k : Region) → T (markable k) → Apart k
 apart k t = record { header = λ e. rw e at t; rows = λ e. rw e at t; records = λ e. rw e at t; used = λ e. rw e at t }
 
 module _ (t w n : ℕ) (rows : Region) (r : T (markable rows)) (v x : View) (a : x ≡ mark Region.RowTransaction t rows 0 n w v) where
-  pub rows-counted : (s : Sizes) → Counted s v → Counted s x
+  pub rows_counted : (s : Sizes) → Counted s v → Counted s x
   unfolding mark
-  rows-counted s k = rw a (counted_kept s v _ (renew_there rows Region.Header _ v (apart rows r).header) (renew_there rows Region.Used _ v (apart rows r).used) k)
+  rows_counted s k = rw a (counted_kept s v _ (renew_there rows Region.Header _ v (apart rows r).header) (renew_there rows Region.Used _ v (apart rows r).used) k)
 
   pub marked_all : (S : Shape) (tails : Region) (y : View) → index rows ≢ index tails → y ≡ tails_marked S t tails w x → n ≡ rows_given v → y ≡ mark_all S t rows tails w v
   unfolding mark mark_all tails_marked

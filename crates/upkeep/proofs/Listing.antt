@@ -21,7 +21,7 @@ use Rattle.scans.specs.declared.Scans.{Scans}
 use Rattle.scans.specs.Entries.{open_count, opened}
 use Rattle.scans.specs.Table.{table_of}
 use Rattle.scans.proofs.Table.{table_length}
-use Rattle.scans.proofs.Answers.{table-count}
+use Rattle.scans.proofs.Answers.{table_count}
 use Rattle.model.specs.Calls.{new_entry, entries_after}
 use Rattle.promise.specs.Promise.{Serves, ServesBy, kept}
 use Rattle.admission.specs.declared.Admission.{Admission}
@@ -29,8 +29,8 @@ use Rattle.admission.specs.declared.Tested.{Tested}
 use Rattle.admission.specs.Admitted.{Admits}
 use Rattle.admission.specs.Given.{ScanAt}
 use Rattle.admission.specs.Tested.{Finds, IfPassed}
-use Rattle.admission.proofs.Served.{admitted, part-seen, found, if_passed}
-use Rattle.admission.proofs.Scans.{in_table, scan-at}
+use Rattle.admission.proofs.Served.{admitted, part_seen, found, if_passed}
+use Rattle.admission.proofs.Scans.{in_table, scan_at_lem}
 use Rattle.upkeep.specs.declared.ListChange.{ListChange}
 use Rattle.upkeep.specs.Lists.{changed_at}
 
@@ -47,17 +47,17 @@ open_count_lem (p ∷ ps) = go (not (eqb p.number 0)) (open_count_lem ps)
 
 module _ (t : Scans) (ps : List ScanEntry) (q : t ≡ table_of ps) where
   counted : open_count ps ≤ most_scans → t.count ≡ count (λ p. not (eqb p.number 0)) ps
-  counted few = ap (λ (x : Scans). x.count) q ∙ table-count ps few ∙ sym (open_count_lem ps)
+  counted few = ap (λ (x : Scans). x.count) q ∙ table_count ps few ∙ sym (open_count_lem ps)
 
-  pub all-open : open_count ps ≤ most_scans → most_scans ≤ t.count → leb most_scans (count (λ p. not (eqb p.number 0)) ps) ≡ true
-  all-open few h = rw (← counted few) (le-leb most_scans t.count h)
+  pub all_open : open_count ps ≤ most_scans → most_scans ≤ t.count → leb most_scans (count (λ p. not (eqb p.number 0)) ps) ≡ true
+  all_open few h = rw (← counted few) (le-leb most_scans t.count h)
 
-  pub some-free : open_count ps ≤ most_scans → t.count < most_scans → leb most_scans (count (λ p. not (eqb p.number 0)) ps) ≡ false
-  some-free few h = rw (← counted few) (lt-leb most_scans t.count h)
+  pub some_free : open_count ps ≤ most_scans → t.count < most_scans → leb most_scans (count (λ p. not (eqb p.number 0)) ps) ≡ false
+  some_free few h = rw (← counted few) (lt-leb most_scans t.count h)
 
-  pub free-is : t.free ≡ firstIndex (λ p. eqb p.number 0) ps
+  pub free_is : t.free ≡ firstIndex (λ p. eqb p.number 0) ps
   unfolding table_of
-  free-is = ap (λ (x : Scans). x.free) q
+  free_is = ap (λ (x : Scans). x.free) q
 
 -- ---- what a call leaves
 -- a refused one names an index past the end, and so leaves the list
@@ -72,7 +72,7 @@ unlisted_serves t m c a r u h = λ ps q.
 pub opened_list : (t : Scans) (ps : List ScanEntry) (v : View) (stamp i : ℕ) (p : ScanEntry) → t ≡ table_of ps → i ≡ t.free
     → p ≡ new_entry v stamp → set ps i p ≡ entries_after v ps (Call.open_scan stamp)
 unfolding entries_after
-opened_list t ps v stamp i p q e y = rw (e ∙ free-is t ps q, y)
+opened_list t ps v stamp i p q e y = rw (e ∙ free_is t ps q, y)
 
 -- a number is left for it
 pub number_left : (s : Sizes) (m : List ℕ) (d : Tested) (i : ℕ) → d ≡ Tested.Passed i → IfPassed d (scans_given (view_of s m) < most_numbers) → scans_given (view_of s m) < most_numbers
@@ -80,7 +80,7 @@ number_left s m d i x h = if_passed d _ i x h
 
 pub number_in_part : (on : Form → Bool) (e : Admission) (s : Sizes) (n : ℕ) (m : List ℕ) (t : Scans) (d : Tested) (i : ℕ) → e ≡ Admission.Fit s n → Admits on e m t → d ≡ Tested.Passed i
     → IfPassed d (scans_given (view_of s m) < most_numbers) → scans_given (view_of s (take n m)) < most_numbers
-number_in_part on e s n m t d i a b x h = rw (part-seen (admitted on e s n m t a b).0) (number_left s m d i x h)
+number_in_part on e s n m t d i a b x h = rw (part_seen (admitted on e s n m t a b).0) (number_left s m d i x h)
 
 -- a closed one leaves its entry free
 pub closed_list : (t : Scans) (ps : List ScanEntry) (v : View) (d : Tested) (k j : ℕ) (p : ScanEntry) → t ≡ table_of ps → open_count ps ≤ most_scans → d ≡ Tested.Passed j
@@ -88,5 +88,5 @@ pub closed_list : (t : Scans) (ps : List ScanEntry) (v : View) (d : Tested) (k j
 unfolding entries_after
 closed_list t ps v d k j p q few x f e =
     let g = (found d (ScanAt t k) j x f).found in
-    let i : get_or t.indices j 0 ≡ firstIndex (is_scan k) ps = ap (λ (x : Scans). get_or x.indices j 0) q ∙ sym (scan-at k ps few j (in_table t ps q k (At j) g)) in
+    let i : get_or t.indices j 0 ≡ firstIndex (is_scan k) ps = ap (λ (x : Scans). get_or x.indices j 0) q ∙ sym (scan_at_lem k ps few j (in_table t ps q k (At j) g)) in
     rw (i, e)

@@ -29,7 +29,7 @@ use Rattle.admission.specs.declared.Tested.{Tested}
 use Rattle.admission.specs.Admitted.{Fitted, Admits}
 use Rattle.admission.specs.Tested.{Says, Finds}
 use Rattle.upkeep.specs.Lists.{reach_tests}
-use Rattle.admission.proofs.Served.{admitted, part-seen, found}
+use Rattle.admission.proofs.Served.{admitted, part_seen, found}
 
 -- ---- the first free page
 found_here : (n i j : ℕ) → found_at n i ≡ Found.At j → (i < n) × (j ≡ i)
@@ -50,42 +50,42 @@ module _ (s : Sizes) (v : View) (f : Found) (p : Proper s) (q : f ≡ found_at s
   pages : s.pages ≡ pages_of (shape_in s)
   pages = omega (arith, p.pages_are, p.chunks_are)
 
-  pub no-page : f ≡ Found.Nothing → leb (pages_of (shape_in s)) (free_in (shape_in s) v) ≡ true
-  no-page e =
+  pub no_page_lem : f ≡ Found.Nothing → leb (pages_of (shape_in s)) (free_in (shape_in s) v) ≡ true
+  no_page_lem e =
       le-leb (pages_of (shape_in s)) (free_in (shape_in s) v) (omega (arith, pages, found_none s.pages (free_in (shape_in s) v) (sym q ∙ e)))
 
   module _ (j : ℕ) (e : f ≡ Found.At j) where
     here : (free_in (shape_in s) v < s.pages) × (j ≡ free_in (shape_in s) v)
     here = found_here s.pages (free_in (shape_in s) v) j (sym q ∙ e)
 
-    pub page-left : leb (pages_of (shape_in s)) (free_in (shape_in s) v) ≡ false
-    page-left = lt-leb (pages_of (shape_in s)) (free_in (shape_in s) v) (omega (arith, pages, here.0))
+    pub page_left : leb (pages_of (shape_in s)) (free_in (shape_in s) v) ≡ false
+    page_left = lt-leb (pages_of (shape_in s)) (free_in (shape_in s) v) (omega (arith, pages, here.0))
 
 -- ---- whether a record is in reach
 pub too_low : (v : View) (g low n : ℕ) → n ≤ low → (leb n low || ltb (used_in v g) n) ≡ true
 too_low v g low n h = rw (le-leb n low h)
 
 module _ (v : View) (g low n used : ℕ) (l : low < n) (e : used ≡ used_in v g) where
-  pub too-high : used < n → (leb n low || ltb (used_in v g) n) ≡ true
-  too-high h = rw (← e, lt-leb n low l, lt-ltb used n h)
+  pub too_high : used < n → (leb n low || ltb (used_in v g) n) ≡ true
+  too_high h = rw (← e, lt-leb n low l, lt-ltb used n h)
 
   pub in_reach : n ≤ used → (leb n low || ltb (used_in v g) n) ≡ false
   in_reach h = rw (← e, lt-leb n low l, le-ltb used n h)
 
 -- ---- what passed tests of a merge tell
 module _ (s : Sizes) (m : List ℕ) (g n used : ℕ) (w : Fitted s m) (h : g < s.ranges) (e : used ≡ used_in (view_of s m) g) (k : n ≤ used) where
-  pub through-few : n ≤ s.capacity
-  through-few = omega (arith, w.linked.used_few g h)
+  pub through_few : n ≤ s.capacity
+  through_few = omega (arith, w.linked.used_few g h)
 
-  pub merge-ready : (c low p : ℕ) (f : Found) → c < s.columns → low ≡ (page_in (view_of s m) (current_in (shape_in s) (view_of s m) g c)).lineage → low < n
+  pub merge_ready : (c low p : ℕ) (f : Found) → c < s.columns → low ≡ (page_in (view_of s m) (current_in (shape_in s) (view_of s m) g c)).lineage → low < n
       → f ≡ found_at s.pages (free_in (shape_in s) (view_of s m)) → f ≡ Found.At p → MergeReady s (view_of s m) g c n p
-  merge-ready c low p f x y l q z =
+  merge_ready c low p f x y l q z =
       let free = here s (view_of s m) f w.proper q p z in
       record {
         range_below = h;
         column_below = x;
         from = omega arith;
-        to = through-few;
+        to = through_few;
         free = free.1;
         page_below = omega (arith, free);
         chunks_are_current = w.chunks_are_current;
@@ -104,4 +104,4 @@ table_few t ps e = rw e (min-le_left most_scans (open_count ps))
 -- ---- what a merge asks for, by what its tests found
 pub mergeable : (on : Form → Bool) (e : Admission) (s : Sizes) (n : ℕ) (m : List ℕ) (t : Scans) (d : Tested) (g c k p : ℕ) → e ≡ Admission.Fit s n → Admits on e m t → d ≡ Tested.Passed p
     → Finds d (MergeReady s (view_of s m) g c k) → MergeReady s (view_of s (take n m)) g c k p
-mergeable on e s n m t d g c k p a b x y = rw (part-seen (admitted on e s n m t a b).0) (found d _ p x y)
+mergeable on e s n m t d g c k p a b x y = rw (part_seen (admitted on e s n m t a b).0) (found d _ p x y)

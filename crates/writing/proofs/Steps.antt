@@ -31,7 +31,7 @@ use Rattle.model.specs.Writing.{noted, put_cells, next_slot, appended, filled_in
 use Rattle.layout.specs.Sizes.{Proper}
 use Rattle.model.specs.Preconditions.{shape_in, OpenAt}
 use Rattle.transactions.specs.Steps.{noted_at}
-use Rattle.layout.proofs.Renewed.{renew_none, turn_put, change-none, change-next}
+use Rattle.layout.proofs.Renewed.{renew_none, turn_put, change_none, change_next}
 use Rattle.layout.proofs.Indices.{range_in}
 use Rattle.writing.specs.Steps.{open_put, row_put, cells_put, record_put, cell_words, newest_filled, original_put, records_put, Room, Newest}
 
@@ -46,24 +46,24 @@ module _ (S : Shape) (g i : ℕ) (vs : List ℤ) (v : View) where
   unfoldable pub cellsTo : ℕ → View
   cellsTo c = renew Region.Cells (put_cells S (v Region.Current) g i vs c (v Region.Cells)) v
 
-  pub cells-none : v ≡ cellsTo 0
+  pub cells_none : v ≡ cellsTo 0
   unfolding cellsTo
-  cells-none = renew_none Region.Cells v
+  cells_none = renew_none Region.Cells v
 
-  pub cells-current : (x : View) (c : ℕ) → x ≡ cellsTo c → x Region.Current ≡ v Region.Current
+  pub cells_current : (x : View) (c : ℕ) → x ≡ cellsTo c → x Region.Current ≡ v Region.Current
   unfolding cellsTo renew
-  cells-current x c e = ap (λ (y : View). y Region.Current) e
+  cells_current x c e = ap (λ (y : View). y Region.Current) e
 
-  pub cells-next : (x x' : View) (c w : ℕ) → x ≡ cellsTo c → w ≡ of_z w32 (get_or vs c (pos 0))
+  pub cells_next : (x x' : View) (c w : ℕ) → x ≡ cellsTo c → w ≡ of_z w32 (get_or vs c (pos 0))
       → x' ≡ put Region.Cells (get_or (x Region.Current) (g * S.columns + c) 0 * range_rows + i) w x → x' ≡ cellsTo (c + 1)
   unfolding cellsTo
-  cells-next x x' c w e q p =
+  cells_next x x' c w e q p =
       turn_put Region.Cells (put_cells S (v Region.Current) g i vs c (v Region.Cells)) v x x' _ w e p
-      ∙ rw (cells-current x c e, q, add-one)
+      ∙ rw (cells_current x c e, q, add-one)
 
-  pub cells-all : (x : View) (c : ℕ) → x ≡ cellsTo c → c ≤ S.columns → S.columns ≤ c → x ≡ cells_put S g i vs v
+  pub cells_all : (x : View) (c : ℕ) → x ≡ cellsTo c → c ≤ S.columns → S.columns ≤ c → x ≡ cells_put S g i vs v
   unfolding cellsTo cells_put
-  cells-all x c e h m = let q : c ≡ S.columns = omega arith in e ∙ rw q
+  cells_all x c e h m = let q : c ≡ S.columns = omega arith in e ∙ rw q
 
 -- ---- an appended record is the newest of its range
 appended_used : (S : Shape) (t keeper r kind mask : ℕ) (v : View) → r / range_rows < length (v Region.Used)
@@ -92,15 +92,15 @@ module _ (s : Sizes) (m : List ℕ) (t keeper r kind mask : ℕ) (x : View) (e :
   one_more : used_in (appended (shape_in s) t keeper r kind mask (view_of s m)) (r / range_rows) ≡ used_in (view_of s m) (r / range_rows) + 1
   one_more = appended_used (shape_in s) t keeper r kind mask (view_of s m) (range_counted s m r h p o.row_below).1
 
-  pub appended-newest : Newest s x (r / range_rows)
-  appended-newest =
+  pub appended_newest : Newest s x (r / range_rows)
+  appended_newest =
       rw e record { range_below = (range_counted s m r h p o.row_below).0; some = omega (arith, one_more); most = omega (arith, one_more, o.left) }
 
   -- so that filling the newest record fills the appended one
-  pub appended-filled : (f : ℕ → ℕ) (y : View) → y ≡ newest_filled (shape_in s) (r / range_rows) f x
+  pub appended_filled : (f : ℕ → ℕ) (y : View) → y ≡ newest_filled (shape_in s) (r / range_rows) f x
       → y ≡ filled_in (shape_in s) (next_slot (shape_in s) (view_of s m) (r / range_rows)) f (appended (shape_in s) t keeper r kind mask (view_of s m))
   unfolding newest_filled next_slot
-  appended-filled f y q =
+  appended_filled f y q =
       q
       ∙ rw e
       (ap (λ (k : ℕ). filled_in (shape_in s) (slot (shape_in s) (r / range_rows) k) f (appended (shape_in s) t keeper r kind mask (view_of s m))) one_more)
@@ -111,7 +111,7 @@ pub original_is : (s : Sizes) (m : List ℕ) (t keeper r fresh : ℕ) (x y : Vie
     → y ≡ original_put (shape_in s) t r fresh (view_of s m)
 unfolding original_put cell_words cell_in current_in row_keeper appended put renew range_of
 original_is s m t keeper r fresh x y k e q h p o =
-    appended-filled s m t keeper r as_original fresh x e h p o (cell_words (shape_in s) x (r / range_rows) (r % range_rows)) y q ∙ rw (e, k)
+    appended_filled s m t keeper r as_original fresh x e h p o (cell_words (shape_in s) x (r / range_rows) (r % range_rows)) y q ∙ rw (e, k)
 
 -- the records of an update leave the open transactions as they were
 records_opens : (S : Shape) (t keeper r mask : ℕ) (vs : List ℤ) (v : View) → records_put S t keeper r mask vs v Region.Opens ≡ v Region.Opens
@@ -129,34 +129,34 @@ module _ (S : Shape) (f : ℕ → ℕ) (at : ℕ) (v : View) where
   unfoldable pub fillsTo : ℕ → View
   fillsTo c = renew Region.TailValues (changed (λ k w. f k) at c (v Region.TailValues)) v
 
-  pub fills-none : v ≡ fillsTo 0
+  pub fills_none : v ≡ fillsTo 0
   unfolding fillsTo
-  fills-none = change-none Region.TailValues (λ k w. f k) at v
+  fills_none = change_none Region.TailValues (λ k w. f k) at v
 
-  pub fills-next : (x x' : View) (c w : ℕ) → x ≡ fillsTo c → w ≡ f c → x' ≡ put Region.TailValues (at + c) w x → x' ≡ fillsTo (c + 1)
+  pub fills_next : (x x' : View) (c w : ℕ) → x ≡ fillsTo c → w ≡ f c → x' ≡ put Region.TailValues (at + c) w x → x' ≡ fillsTo (c + 1)
   unfolding fillsTo
-  fills-next x x' c w e q p = change-next Region.TailValues (λ k w. f k) at v x x' c w e q p
+  fills_next x x' c w e q p = change_next Region.TailValues (λ k w. f k) at v x x' c w e q p
 
-  pub fills-all : (g : ℕ) (x : View) (c : ℕ) → at ≡ slot S g (used_in v g) * S.columns → x ≡ fillsTo c → c ≤ S.columns → S.columns ≤ c
+  pub fills_all : (g : ℕ) (x : View) (c : ℕ) → at ≡ slot S g (used_in v g) * S.columns → x ≡ fillsTo c → c ≤ S.columns → S.columns ≤ c
       → x ≡ newest_filled S g f v
   unfolding fillsTo newest_filled filled_in
-  fills-all g x c q e h m = let z : c ≡ S.columns = omega arith in e ∙ rw (z, q)
+  fills_all g x c q e h m = let z : c ≡ S.columns = omega arith in e ∙ rw (z, q)
 
   -- what the turns read is as it was
-  pub fills-current : (x : View) (c : ℕ) → x ≡ fillsTo c → x Region.Current ≡ v Region.Current
+  pub fills_current : (x : View) (c : ℕ) → x ≡ fillsTo c → x Region.Current ≡ v Region.Current
   unfolding fillsTo renew
-  fills-current x c e = ap (λ (y : View). y Region.Current) e
+  fills_current x c e = ap (λ (y : View). y Region.Current) e
 
-  pub fills-cells : (x : View) (c : ℕ) → x ≡ fillsTo c → x Region.Cells ≡ v Region.Cells
+  pub fills_cells : (x : View) (c : ℕ) → x ≡ fillsTo c → x Region.Cells ≡ v Region.Cells
   unfolding fillsTo renew
-  fills-cells x c e = ap (λ (y : View). y Region.Cells) e
+  fills_cells x c e = ap (λ (y : View). y Region.Cells) e
 
 -- the word that a turn reads in a current page
 pub fills_cell : (S : Shape) (g i at : ℕ) (v x : View) (c w : ℕ) → x ≡ fillsTo S (cell_words S v g i) at v c
     → w ≡ get_or (x Region.Cells) (get_or (x Region.Current) (g * S.columns + c) 0 * range_rows + i) 0 → w ≡ cell_words S v g i c
 unfolding cell_words cell_in current_in
 fills_cell S g i at v x c w e q =
-    q ∙ rw (fills-current S (cell_words S v g i) at v x c e, fills-cells S (cell_words S v g i) at v x c e)
+    q ∙ rw (fills_current S (cell_words S v g i) at v x c e, fills_cells S (cell_words S v g i) at v x c e)
 
 -- ---- the records of an update: fresh are the columns that it sets for the first time
 -- there is room for one record at least
@@ -169,23 +169,23 @@ room_one s v r mask o = go (eqb (new_bits_in v r mask) 0) o.left
     go false h = record { row_below = o.row_below; left = omega arith }
 
 module _ (v : View) (r mask old fresh : ℕ) (e : old ≡ get_or (v Region.RowMask) r 0) (q : fresh ≡ new_bits mask old) where
-  fresh-is : fresh ≡ new_bits_in v r mask
+  fresh_is : fresh ≡ new_bits_in v r mask
   unfolding new_bits_in row_in
-  fresh-is = q ∙ ap (new_bits mask) e
+  fresh_is = q ∙ ap (new_bits mask) e
 
-  pub records-one : (S : Shape) (t keeper : ℕ) (vs : List ℤ) (y : View) → y ≡ setting_appended S t keeper r mask vs v → fresh ≡ 0 → y ≡ records_put S t keeper r mask vs v
+  pub records_one : (S : Shape) (t keeper : ℕ) (vs : List ℤ) (y : View) → y ≡ setting_appended S t keeper r mask vs v → fresh ≡ 0 → y ≡ records_put S t keeper r mask vs v
   unfolding records_put
-  records-one S t keeper vs y a z = a ∙ rw (← fresh-is, eq-eqb fresh 0 z)
+  records_one S t keeper vs y a z = a ∙ rw (← fresh_is, eq-eqb fresh 0 z)
 
   module _ (n : fresh ≡ 0 → ⊥) where
-    pub records-two : (S : Shape) (t keeper : ℕ) (vs : List ℤ) (x y : View) → x ≡ original_put S t r fresh v → y ≡ setting_appended S t keeper r mask vs x
+    pub records_two : (S : Shape) (t keeper : ℕ) (vs : List ℤ) (x y : View) → x ≡ original_put S t r fresh v → y ≡ setting_appended S t keeper r mask vs x
         → y ≡ records_put S t keeper r mask vs v
     unfolding records_put original_appended original_put cell_words
-    records-two S t keeper vs x y a b = b ∙ rw (a, ← fresh-is, ne_eqb fresh 0 n)
+    records_two S t keeper vs x y a b = b ∙ rw (a, ← fresh_is, ne_eqb fresh 0 n)
 
-    wanted-two : records_wanted v r mask ≡ 2
+    wanted_two : records_wanted v r mask ≡ 2
     unfolding records_wanted
-    wanted-two = rw (← fresh-is, ne_eqb fresh 0 n)
+    wanted_two = rw (← fresh_is, ne_eqb fresh 0 n)
 
 -- after the record of the original values there is room for the other
 pub original_room : (s : Sizes) (m : List ℕ) (t r mask old fresh : ℕ) (x : View) → x ≡ original_put (shape_in s) t r fresh (view_of s m)
@@ -194,28 +194,28 @@ pub original_room : (s : Sizes) (m : List ℕ) (t r mask old fresh : ℕ) (x : V
 unfolding original_put filled_in range_of renew
 original_room s m t r mask old fresh x e a b n h p o =
     let used = appended_used (shape_in s) t (row_keeper (view_of s m) r) r as_original fresh (view_of s m) (range_counted s m r h p o.row_below).1 in
-    rw e record { row_below = o.row_below; left = omega (arith, used, wanted-two (view_of s m) r mask old fresh a b n, o.left) }
+    rw e record { row_below = o.row_below; left = omega (arith, used, wanted_two (view_of s m) r mask old fresh a b n, o.left) }
 
 -- ---- the steps of each call, one after the other: the last is the note
 module _ (S : Shape) (t j : ℕ) (v : View) (o : OpenAt v t j) where
   -- the keeper read at the entry
-  keeper-read : (keeper : ℕ) → keeper ≡ get_or (v Region.OpenKeeper) j 0 → keeper ≡ open_keeper v t
+  keeper_read_lem : (keeper : ℕ) → keeper ≡ get_or (v Region.OpenKeeper) j 0 → keeper ≡ open_keeper v t
   unfolding open_keeper
-  keeper-read keeper k = rw (← o.found) k
+  keeper_read_lem keeper k = rw (← o.found) k
 
-  pub updated-is : (r mask old keeper : ℕ) (vs : List ℤ) (x y z : View) → keeper ≡ get_or (v Region.OpenKeeper) j 0 → old ≡ get_or (v Region.RowMask) r 0 → x ≡ records_put S t keeper r mask vs v
+  pub updated_is : (r mask old keeper : ℕ) (vs : List ℤ) (x y z : View) → keeper ≡ get_or (v Region.OpenKeeper) j 0 → old ≡ get_or (v Region.RowMask) r 0 → x ≡ records_put S t keeper r mask vs v
       → y ≡ put Region.RowMask r (bit_or mask old) x → z ≡ noted_at j y → z ≡ updated_in S t r mask vs v
   unfolding updated_in records_put row_in put renew
-  updated-is r mask old keeper vs x y z k e a b c = rw (c, b, a, e, ← (keeper-read keeper k)) (noted_at_lem v _ t j o (records_opens S t keeper r mask vs v))
+  updated_is r mask old keeper vs x y z k e a b c = rw (c, b, a, e, ← (keeper_read_lem keeper k)) (noted_at_lem v _ t j o (records_opens S t keeper r mask vs v))
 
-  pub inserted-is : (n keeper : ℕ) (vs : List ℤ) (w x y z : View) → keeper ≡ get_or (v Region.OpenKeeper) j 0 → n ≡ rows_given v → w ≡ row_put t keeper n v → x ≡ cells_put S (n / range_rows) (n % range_rows) vs w
+  pub inserted_is : (n keeper : ℕ) (vs : List ℤ) (w x y z : View) → keeper ≡ get_or (v Region.OpenKeeper) j 0 → n ≡ rows_given v → w ≡ row_put t keeper n v → x ≡ cells_put S (n / range_rows) (n % range_rows) vs w
       → y ≡ put Region.Header rows_at (n + 1) x → z ≡ noted_at j y → z ≡ inserted_in S t vs v
   unfolding inserted_in inserted_at cells_put open_put row_put range_of put renew
-  inserted-is n keeper vs w x y z k e a b c d = rw (d, c, b, a, e, ← (keeper-read keeper k)) (noted_at_lem v _ t j o refl)
+  inserted_is n keeper vs w x y z k e a b c d = rw (d, c, b, a, e, ← (keeper_read_lem keeper k)) (noted_at_lem v _ t j o refl)
 
-  pub deleted-is : (r keeper : ℕ) (x z : View) → keeper ≡ get_or (v Region.OpenKeeper) j 0 → x ≡ appended S t keeper r as_delete 0 v → z ≡ noted_at j x → z ≡ deleted_in S t r v
+  pub deleted_is : (r keeper : ℕ) (x z : View) → keeper ≡ get_or (v Region.OpenKeeper) j 0 → x ≡ appended S t keeper r as_delete 0 v → z ≡ noted_at j x → z ≡ deleted_in S t r v
   unfolding deleted_in appended put renew
-  deleted-is r keeper x z k a b = rw (b, a, ← (keeper-read keeper k)) (noted_at_lem v _ t j o refl)
+  deleted_is r keeper x z k a b = rw (b, a, ← (keeper_read_lem keeper k)) (noted_at_lem v _ t j o refl)
 
 -- the word of a signed number that was read from an array
 pub word_of : (z : ℤ) (r : ℕ) → r ≡ of_z w32 (to_z w32 (of_z w32 z)) → mag z < 2 ^ hbits w32 → r ≡ of_z w32 z

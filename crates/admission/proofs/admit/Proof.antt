@@ -5,17 +5,17 @@ use native.Mathlib.Omega.{arith}
 use borrow.Author.Rules.{rules}
 use Rattle.layout.specs.Regions.{need}
 use Rattle.layout.specs.Sizes.{too_many_words}
-use Rattle.admission.proofs.Fitted.{not-usable, list-known, fit-tells, need-few}
+use Rattle.admission.proofs.Fitted.{not_usable, list_known, fit_tells, need_few}
 use Rattle.admission.specs.Admitted.{Admits}
 use Rattle.admission.proofs.admit.Statement.{statement}
 use Rattle.admission.proofs.admit.Tie as tie
 
 returns : tie.Need-returns
 unfolding Admits
-returns c = let check : tie.After-check = search in search (not-usable, check.check.ensures.0)
+returns c = let check : tie.After-check = search in search (not_usable, check.check.ensures.0)
 
 few : (c : tie.After-known-told) → need c.before.s.given.0.0 < too_many_words
-few c = search need-few
+few c = search need_few
 
 returns-2 : tie.Need-returns-2
 unfolding Admits
@@ -23,8 +23,8 @@ returns-2 c =
     let check : tie.After-check = search in (
       record {
         bytes = omega (arith, c.words-needed.ensures);
-        fitted = search fit-tells;
-        listed = search (list-known, check.check.ensures.0);
+        fitted = search fit_tells;
+        listed = search (list_known, check.check.ensures.0);
       },
       refl,
     )

@@ -9,7 +9,7 @@ use Rattle.terms.specs.declared.Form.{Form}
 use Rattle.making.specs.Made.{made}
 use Rattle.terms.specs.Refusals.{is_accepted}
 use Rattle.scans.specs.Entries.{freed_if}
-use Rattle.lent.proofs.ListFunctions.{len-known, made-known}
+use Rattle.lent.proofs.ListFunctions.{len_known, made_known}
 use Rattle.lent.proofs.Further.{value}
 use Rattle.lent.proofs.Slices.{writes}
 use Rattle.lent.proofs.Written.{world}
@@ -33,5 +33,5 @@ make_spec 𝓤 𝓛 𝓜 𝓡 =
     law.meets 0 len_of_lem.name core.name free_made.name type.usize type.answer type.answer (λ l n. n ≡ length l) (λ l x z l'. (z ≡ x) × (l' ≡ freed_if (is_accepted x) l))
     writes (value type.u32 ∷ value type.u32 ∷ value type.u32 ∷ value type.u32 ∷ []) (λ m n (a, (b, (c, (d, _)))) x m'. (x, m') ≡ made Form.Newest (shape_of a b c d) n m)
     (λ m l (a, (b, (c, (d, _)))). Makes m l (shape_of a b c d)) (λ m l (a, (b, (c, (d, _)))) n x z m' l'. made_so (shape_of a b c d) m n x z m' l l')
-    w code.env key.name (code.unfolded 𝓤 𝓛.H 𝓜 𝓡) (len-known w code.env code.calls-lent::len-of)
-    (core_reads.known w code.env core.name core.routine code.calls-making::make (core_thm.met 𝓤 𝓛 𝓜 𝓡)) (made-known w code.env code.calls-lent::free-made)
+    w code.env key.name (code.unfolded 𝓤 𝓛.H 𝓜 𝓡) (len_known w code.env code.calls-lent::len-of)
+    (core_reads.known w code.env core.name core.routine code.calls-making::make (core_thm.met 𝓤 𝓛 𝓜 𝓡)) (made_known w code.env code.calls-lent::free-made)

@@ -2,7 +2,7 @@
 use borrow.Author.Rules.{rules}
 use Rattle.admission.specs.Tested.{Finds, IfPassed}
 use Rattle.admission.proofs.Decided.{deciding}
-use Rattle.changes.proofs.Tests.{lacks-is, room-left, range_inside}
+use Rattle.changes.proofs.Tests.{lacks_is, room_left, range_inside}
 use Rattle.changes.proofs.append_tests.Statement.{statement}
 use Rattle.changes.proofs.append_tests.Tie as tie
 
@@ -16,5 +16,5 @@ append_tests_spec =
     (λ c κs. search rules)
     (λ c. (search deciding, (tt, tt)))
     (λ c κs. (search, search range_inside))
-    (λ c. (search (deciding, lacks-is), (tt, tt)))
-    (λ c. (search (deciding, lacks-is), (search, search room-left))))
+    (λ c. (search (deciding, lacks_is), (tt, tt)))
+    (λ c. (search (deciding, lacks_is), (search, search room_left))))

@@ -3,7 +3,7 @@ use borrow.Author.Rules.{rules}
 use Rattle.model.specs.Calls.{begin_tests_in}
 use Rattle.admission.specs.Tested.{Finds, IfPassed}
 use Rattle.admission.proofs.Decided.{deciding}
-use Rattle.changes.proofs.Tests.{none_free, one_free, free-at}
+use Rattle.changes.proofs.Tests.{none_free, one_free, free_at}
 use Rattle.changes.proofs.begin_tests.Statement.{statement}
 use Rattle.changes.proofs.begin_tests.Tie as tie
 
@@ -18,4 +18,4 @@ begin_tests_spec =
     (λ c. search rules)
     (λ c. search rules)
     (λ c. (search (deciding, none_free), (tt, tt)))
-    (λ c. (search (deciding, one_free), (search free-at, search deciding))))
+    (λ c. (search (deciding, one_free), (search free_at, search deciding))))

@@ -4,7 +4,7 @@ use Rattle.history.specs.History.{bad_mask}
 use Rattle.model.specs.Calls.{tests_in}
 use Rattle.admission.specs.Tested.{Tests, Finds, IfPassed}
 use Rattle.admission.proofs.Decided.{deciding}
-use Rattle.changes.proofs.Tests.{row_inside, wanted-says, wanted-left}
+use Rattle.changes.proofs.Tests.{row_inside, wanted_says, wanted_left}
 use Rattle.changes.proofs.update_tests.Statement.{statement}
 use Rattle.changes.proofs.update_tests.Tie as tie
 
@@ -25,4 +25,4 @@ update_tests_spec =
     (λ c. (search deciding, (tt, tt)))
     (λ c κs. (search, search (row_inside, deciding)))
     (λ c κs. (search, (search deciding, search deciding, search deciding)))
-    (λ c. (search (deciding, wanted-says), (search, search wanted-left))))
+    (λ c. (search (deciding, wanted_says), (search, search wanted_left))))

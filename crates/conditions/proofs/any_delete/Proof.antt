@@ -6,7 +6,7 @@ use borrow.Author.Rules.{rules}
 use Rattle.layout.specs.View.{view_of}
 use Rattle.model.specs.Stored.{any_below}
 use Rattle.conditions.specs.Records.{deletes_at}
-use Rattle.conditions.proofs.Records.{no-turn, one-turn, turned}
+use Rattle.conditions.proofs.Records.{no_turn, one_turn, turned}
 use Rattle.conditions.proofs.any_delete.Statement.{statement}
 use Rattle.conditions.proofs.any_delete.Tie as tie
 
@@ -22,7 +22,7 @@ loop-again c =
     let head : tie.At-loop invariant-loop decreases-loop = search in
     let row : tie.After-read invariant-loop decreases-loop = search in
     let kind : tie.After-read2 invariant-loop decreases-loop = search in
-    (omega arith, one-turn _ _ _ _ _ head.loop.inv.1 (c.before.is-delete.ensures ∙ rw (row.read.ensures, kind.read2.ensures)) c.either.ensures)
+    (omega arith, one_turn _ _ _ _ _ head.loop.inv.1 (c.before.is-delete.ensures ∙ rw (row.read.ensures, kind.read2.ensures)) c.either.ensures)
 
 pub any_delete_spec : {M : Type 1} → statement M
 any_delete_spec =
@@ -30,7 +30,7 @@ any_delete_spec =
     (tie.spec
     invariant-loop
     decreases-loop
-    (λ c. (omega arith, no-turn _))
+    (λ c. (omega arith, no_turn _))
     (λ c. omega arith)
     (λ c κs. (omega arith, omega arith))
     (λ c. omega arith)

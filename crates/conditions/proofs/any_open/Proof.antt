@@ -9,9 +9,9 @@ use Rattle.layout.specs.declared.Region.TheVariants.{TailTransaction}
 use Rattle.layout.specs.View.{view_of}
 use Rattle.model.specs.Stored.{any_below}
 use Rattle.model.specs.Calls.{open_in}
-use Rattle.layout.proofs.Indices.{slots-few}
+use Rattle.layout.proofs.Indices.{slots_few}
 use Rattle.rows.proofs.Indices.{stretch_in}
-use Rattle.conditions.proofs.Records.{no-turn, one-turn, turned, among_is}
+use Rattle.conditions.proofs.Records.{no_turn, one_turn, turned, among_is}
 use Rattle.conditions.proofs.any_open.Statement.{statement}
 use Rattle.conditions.proofs.any_open.Tie as tie
 
@@ -26,13 +26,13 @@ inside : (c : tie.Start invariant-loop decreases-loop) → let a = c.args in
     (a.g * a.s.capacity + a.through.0 ≤ a.s.slots) × (a.s.slots ≤ most_slots)
 inside c =
     let proper = c.requires.1.0 in
-    (stretch_in _ proper _ _ c.requires.1.1.0 c.requires.1.1.1, slots-few _ proper)
+    (stretch_in _ proper _ _ c.requires.1.1.0 c.requires.1.1.1, slots_few _ proper)
 
 loop-again : tie.Need-loop-preserved invariant-loop decreases-loop
 loop-again c =
     let head : tie.At-loop invariant-loop decreases-loop = search in
     let maker : tie.After-read invariant-loop decreases-loop = search in
-    (omega arith, one-turn _ _ _ _ _ head.loop.inv.1 (c.before.is_open.ensures ∙ rw maker.read.ensures) c.either.ensures)
+    (omega arith, one_turn _ _ _ _ _ head.loop.inv.1 (c.before.is_open.ensures ∙ rw maker.read.ensures) c.either.ensures)
 
 pub any_open_spec : {M : Type 1} → statement M
 any_open_spec =
@@ -42,7 +42,7 @@ any_open_spec =
     decreases-loop
     (λ c. search rules)
     (λ c. omega (arith, inside search))
-    (λ c. (omega arith, no-turn _))
+    (λ c. (omega arith, no_turn _))
     (λ c. omega (arith, inside search))
     (λ c κs. (omega arith, omega (arith, inside search)))
     (λ c κs. search rules)

@@ -7,7 +7,7 @@ use borrow.Author.Rules.{rules}
 use Rattle.layout.specs.View.{view_of}
 use Rattle.model.specs.Stored.{any_below}
 use Rattle.conditions.specs.Records.{ends_at}
-use Rattle.conditions.proofs.Records.{no-turn, one-turn, turned, found, none_ends}
+use Rattle.conditions.proofs.Records.{no_turn, one_turn, turned, found, none_ends}
 use Rattle.conditions.proofs.ended.Statement.{statement}
 use Rattle.conditions.proofs.ended.Tie as tie
 
@@ -18,7 +18,7 @@ abbrev decreases-loop : tie.decreases-loop
 decreases-loop mem s t row at n i₀ i = n - i
 
 loop-again : tie.Need-loop-preserved invariant-loop decreases-loop
-loop-again c = let head : tie.At-loop invariant-loop decreases-loop = search in (omega arith, one-turn _ _ _ _ _ head.loop.inv.1 c.before.ends.ensures (sym c.if3.false))
+loop-again c = let head : tie.At-loop invariant-loop decreases-loop = search in (omega arith, one_turn _ _ _ _ _ head.loop.inv.1 c.before.ends.ensures (sym c.if3.false))
 
 pub ended_spec : {M : Type 1} → statement M
 ended_spec =
@@ -28,7 +28,7 @@ ended_spec =
     decreases-loop
     (λ c κs. search rules)
     (λ c. none_ends _ _ _ _ _ _ c.before.any-delete.ensures c.if2.true)
-    (λ c. (omega arith, no-turn _))
+    (λ c. (omega arith, no_turn _))
     (λ c. omega arith)
     (λ c κs. (omega arith, omega arith))
     (λ c. let head : tie.At-loop invariant-loop decreases-loop = search in found _ _ head.loop.i _ (omega arith) c.before.ends.ensures c.if3.true)

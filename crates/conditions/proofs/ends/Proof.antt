@@ -1,6 +1,6 @@
 -- `conditions::ends` meets its contract.
 use borrow.Author.Rules.{rules}
-use Rattle.conditions.proofs.Records.{ends_by, ends-not}
+use Rattle.conditions.proofs.Records.{ends_by, ends_not}
 use Rattle.conditions.proofs.ends.Statement.{statement}
 use Rattle.conditions.proofs.ends.Tie as tie
 
@@ -15,4 +15,4 @@ ends_spec =
     (λ c κs. search rules)
     (λ c κs. search rules)
     (λ c. search ends_by)
-    (λ c. search ends-not))
+    (λ c. search ends_not))

@@ -12,7 +12,7 @@ use Rattle.layout.specs.declared.Region.TheVariants.{Opens}
 use Rattle.layout.specs.View.{view_of}
 use Rattle.layout.proofs.View.{view_long}
 use Rattle.model.specs.Stored.{any_below}
-use Rattle.conditions.proofs.Records.{no-turn, one-turn, turned, open_is, open_zero}
+use Rattle.conditions.proofs.Records.{no_turn, one_turn, turned, open_is, open_zero}
 use Rattle.conditions.proofs.is_open.Statement.{statement}
 use Rattle.conditions.proofs.is_open.Tie as tie
 
@@ -25,7 +25,7 @@ decreases-loop mem s number flag₀ j₀ flag j = most_transactions - j
 loop-again : tie.Need-loop-preserved invariant-loop decreases-loop
 loop-again c =
     let head : tie.At-loop invariant-loop decreases-loop = search in
-    (omega arith, one-turn _ _ _ _ _ head.loop.inv.1 (rw c.before.read.ensures) c.either.ensures)
+    (omega arith, one_turn _ _ _ _ _ head.loop.inv.1 (rw c.before.read.ensures) c.either.ensures)
 
 returns : tie.Need-returns invariant-loop decreases-loop
 returns c =
@@ -47,7 +47,7 @@ is_open_spec =
     (tie.spec
     invariant-loop
     decreases-loop
-    (λ c. (omega arith, no-turn _))
+    (λ c. (omega arith, no_turn _))
     (λ c κs. (omega arith, omega arith))
     (λ c κs. search rules)
     (λ c. omega arith)

@@ -1,5 +1,5 @@
 -- `conditions::open_index` meets its contract.
-use Rattle.conditions.proofs.Opens.{open_none, open-found}
+use Rattle.conditions.proofs.Opens.{open_none, open_found}
 use borrow.Author.Rules.{rules}
 use Rattle.conditions.proofs.open_index.Statement.{statement}
 use Rattle.conditions.proofs.open_index.Tie as tie
@@ -7,7 +7,7 @@ use Rattle.conditions.proofs.open_index.Tie as tie
 returns-2 : tie.Need-returns-2
 returns-2 c =
     let start : tie.Start = search in
-    let found = open-found _ c.before.if1.false _ _ _ start.pre c.find-in.ensures in
+    let found = open_found _ c.before.if1.false _ _ _ start.pre c.find-in.ensures in
     (found.0, found.1)
 
 pub open_index_spec : {M : Type 1} → statement M

@@ -1,6 +1,6 @@
 -- `conditions::open_other` meets its contract.
 use borrow.Author.Rules.{rules}
-use Rattle.conditions.proofs.Records.{other-self, other-closed, other-open}
+use Rattle.conditions.proofs.Records.{other_self, other_closed, other_open}
 use Rattle.conditions.proofs.open_other.Statement.{statement}
 use Rattle.conditions.proofs.open_other.Tie as tie
 
@@ -8,9 +8,9 @@ pub open_other_spec : {M : Type 1} → statement M
 open_other_spec =
     tie.close
     (tie.spec
-    (λ c. search other-self)
+    (λ c. search other_self)
     (λ c κs. search rules)
     (λ c. search rules)
     (λ c. search rules)
-    (λ c. search other-closed)
-    (λ c. search other-open))
+    (λ c. search other_closed)
+    (λ c. search other_open))

@@ -10,7 +10,7 @@ use Rattle.layout.specs.declared.Region.TheVariants.{Opens}
 use Rattle.layout.specs.View.{view_of}
 use Rattle.model.specs.Stored.{any_below}
 use Rattle.conditions.specs.Records.{is_other}
-use Rattle.conditions.proofs.Records.{no-turn, one-turn, turned, found}
+use Rattle.conditions.proofs.Records.{no_turn, one_turn, turned, found}
 use Rattle.conditions.proofs.others_open.Statement.{statement}
 use Rattle.conditions.proofs.others_open.Tie as tie
 
@@ -30,7 +30,7 @@ loop-again : tie.Need-loop-preserved invariant-loop decreases-loop
 loop-again c =
     let head : tie.At-loop invariant-loop decreases-loop = search in
     let one : tie.After-read invariant-loop decreases-loop = search in
-    (omega arith, one-turn _ _ _ _ _ head.loop.inv.1 (c.before.is-other.ensures ∙ rw one.read.ensures) (sym c.if1.false))
+    (omega arith, one_turn _ _ _ _ _ head.loop.inv.1 (c.before.is-other.ensures ∙ rw one.read.ensures) (sym c.if1.false))
 
 pub others_open_spec : {M : Type 1} → statement M
 others_open_spec =
@@ -38,7 +38,7 @@ others_open_spec =
     (tie.spec
     invariant-loop
     decreases-loop
-    (λ c. (omega arith, no-turn _))
+    (λ c. (omega arith, no_turn _))
     (λ c κs. (omega arith, omega arith))
     (λ c κs. search rules)
     returns

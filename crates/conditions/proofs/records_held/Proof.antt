@@ -11,7 +11,7 @@ use Rattle.layout.specs.View.{view_of}
 use Rattle.layout.proofs.View.{view_long}
 use Rattle.model.specs.Stored.{any_below}
 use Rattle.conditions.specs.Records.{holds_at}
-use Rattle.conditions.proofs.Records.{no-turn, one-turn, turned, found, none_held}
+use Rattle.conditions.proofs.Records.{no_turn, one_turn, turned, found, none_held}
 use Rattle.conditions.proofs.records_held.Statement.{statement}
 use Rattle.conditions.proofs.records_held.Tie as tie
 
@@ -28,7 +28,7 @@ returns c =
     c.before.others-open.ensures c.if1.true
 
 loop-again : tie.Need-loop-preserved invariant-loop decreases-loop
-loop-again c = let head : tie.At-loop invariant-loop decreases-loop = search in (omega arith, one-turn _ _ _ _ _ head.loop.inv.1 c.before.holds.ensures (sym c.if2.false))
+loop-again c = let head : tie.At-loop invariant-loop decreases-loop = search in (omega arith, one_turn _ _ _ _ _ head.loop.inv.1 c.before.holds.ensures (sym c.if2.false))
 
 pub records_held_spec : {M : Type 1} → statement M
 records_held_spec =
@@ -38,7 +38,7 @@ records_held_spec =
     decreases-loop
     (λ c κs. search rules)
     returns
-    (λ c. (omega arith, no-turn _))
+    (λ c. (omega arith, no_turn _))
     (λ c. omega arith)
     (λ c κs. (omega arith, omega arith))
     (λ c. let head : tie.At-loop invariant-loop decreases-loop = search in found _ _ head.loop.i _ (omega arith) c.before.holds.ensures c.if2.true)

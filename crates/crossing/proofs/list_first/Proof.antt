@@ -6,13 +6,13 @@ use lib.ListN.{length}
 use borrow.Author.Rules.{rules}
 use Rattle.layout.specs.View.{view_of, used_in}
 use Rattle.layout.specs.Regions.{need}
-use Rattle.layout.proofs.Indices.{tail-in, sizes_need}
-use Rattle.rows.proofs.Indices.{row-in}
+use Rattle.layout.proofs.Indices.{tail_in, sizes_need}
+use Rattle.rows.proofs.Indices.{row_in_lem}
 use Rattle.history.specs.History.{range_of}
 use Rattle.model.specs.Preconditions.{shape_in}
 use Rattle.model.specs.Versions.{values_in}
 use Rattle.crossing.specs.Steps.{Stands, noted as mentioned}
-use Rattle.crossing.proofs.Standing.{stands_first, values-first, stands_on, stands-next, stands_length, placed_length, stands-listed, noted_few}
+use Rattle.crossing.proofs.Standing.{stands_first, values_first, stands_on, stands_next, stands_length, placed_length, stands_listed, noted_few}
 use Rattle.crossing.proofs.list_first.Statement.{statement}
 use Rattle.crossing.proofs.list_first.Tie as tie
 
@@ -33,9 +33,9 @@ inside c g e =
     let a = c.args in
     let proper = c.requires.1.0 in
     let linked = c.requires.1.1.0 in
-    let r = row-in a.s proper _ linked _ c.requires.1.1.1.0.1 in
+    let r = row_in_lem a.s proper _ linked _ c.requires.1.1.1.0.1 in
     let b : g < a.s.ranges = rw e r.1 in
-    (b, r.0, linked.used_few g b, tail-in a.s proper g b, omega (arith, sizes_need a.s))
+    (b, r.0, linked.used_few g b, tail_in a.s proper g b, omega (arith, sizes_need a.s))
 
 read-requires : tie.Need-read-requires invariant-loop decreases-loop
 read-requires c κs =
@@ -63,7 +63,7 @@ loop-holds c =
     let read : tie.After-read invariant-loop decreases-loop = search in
     let fresh : tie.After-no-pass invariant-loop decreases-loop = search in
     let a = start.args in
-    let first : Stands a.q a.limit (values_in (shape_in a.s) (view_of a.s a.mem.now) a.who a.q.row.0 a.q.column 0) a.stamps.now fresh.no-pass.result a.stamps.now = rw (fresh.no-pass.ensures, ← values-first (shape_in a.s) (view_of a.s a.mem.now) a.who a.q) (stands_first a.q _ _) in
+    let first : Stands a.q a.limit (values_in (shape_in a.s) (view_of a.s a.mem.now) a.who a.q.row.0 a.q.column 0) a.stamps.now fresh.no-pass.result a.stamps.now = rw (fresh.no-pass.ensures, ← values_first (shape_in a.s) (view_of a.s a.mem.now) a.who a.q) (stands_first a.q _ _) in
     ((range.range-of.ensures, read.read.ensures, refl), c.next-of-row.ensures.1, rw fresh.no-pass.ensures (omega arith), refl, stands_on _ _ _ _ _ _ _ _ _ _ c.next-of-row.ensures.2 first)
 
 add_turn : tie.Need-overflow-add-turn invariant-loop decreases-loop
@@ -97,7 +97,7 @@ loop-again c =
     let a = start.args in
     let inv = head.loop.inv in
     let next = c.next-of-row2.ensures in
-    let stands = stands-next (shape_in a.s) (view_of a.s a.mem.now) a.who a.q _ _ _ _ _ _ _ _ inv.0.0 inv.4 (rw inv.0.2 at turned.turn.ensures.1) in
+    let stands = stands_next (shape_in a.s) (view_of a.s a.mem.now) a.who a.q _ _ _ _ _ _ _ _ inv.0.0 inv.4 (rw inv.0.2 at turned.turn.ensures.1) in
     (inv.0, next.1, omega (arith, inv.2, turned.turn.ensures.0, next.0), stands_length stands, stands_on _ _ _ _ _ _ _ _ _ _ next.2 stands)
 
 note-requires : tie.Need-note-requires invariant-loop decreases-loop
@@ -124,7 +124,7 @@ returns c =
     let x = inside start _ inv.0.0 in
     let n = noted.note.ensures in (
       omega (arith, x, inv.0, inv.1, inv.2, n.0, noted_few a.q.from.0 head.loop.p),
-      stands-listed (shape_in a.s) (view_of a.s a.mem.now) a.who a.q _ _ _ head.loop.i _ head.loop.p _ _ inv.4
+      stands_listed (shape_in a.s) (view_of a.s a.mem.now) a.who a.q _ _ _ head.loop.i _ head.loop.p _ _ inv.4
           (inv.0.1 ∙ ap (used_in (view_of a.s a.mem.now)) inv.0.0) (omega arith) (omega arith) n.0 n.1,
     )
 

@@ -1,6 +1,6 @@
 -- `crossing::note` meets its contract.
 use borrow.Author.Rules.{rules}
-use Rattle.crossing.proofs.Standing.{not_noted, noted-below, noted-past}
+use Rattle.crossing.proofs.Standing.{not_noted, noted_below, noted_past}
 use Rattle.crossing.proofs.note.Statement.{statement}
 use Rattle.crossing.proofs.note.Tie as tie
 
@@ -17,7 +17,7 @@ returns-2 c =
     let told : tie.After-counts = search in
     let a = start.args in
     let counts : tie.Else1 = search in
-    noted-below a.p a.from.0 _ _ _ told.counts.ensures counts.if1.left c.if2.true
+    noted_below a.p a.from.0 _ _ _ told.counts.ensures counts.if1.left c.if2.true
 
 returns-3 : tie.Need-returns-3
 returns-3 c =
@@ -25,7 +25,7 @@ returns-3 c =
     let told : tie.After-counts = search in
     let a = start.args in
     let counts : tie.Else1 = search in
-    noted-past a.p a.from.0 _ _ _ told.counts.ensures counts.if1.left c.if2.false
+    noted_past a.p a.from.0 _ _ _ told.counts.ensures counts.if1.left c.if2.false
 
 pub note_spec : {M : Type 1} → statement M
 note_spec =

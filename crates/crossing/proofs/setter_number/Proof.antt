@@ -1,6 +1,6 @@
 -- `crossing::setter_number` meets its contract.
 use Rattle.reading.proofs.Setting.{record_inside}
-use Rattle.crossing.proofs.Records.{insert-number, update-number}
+use Rattle.crossing.proofs.Records.{insert_number, update_number}
 use borrow.Author.Rules.{rules}
 use Rattle.crossing.proofs.setter_number.Statement.{statement}
 use Rattle.crossing.proofs.setter_number.Tie as tie
@@ -14,5 +14,5 @@ setter_number_spec =
     (λ c κs. search rules)
     (λ c. search rules)
     (λ c κs. (search, search record_inside))
-    (λ c. search insert-number)
-    (λ c. search update-number))
+    (λ c. search insert_number)
+    (λ c. search update_number))

@@ -1,6 +1,6 @@
 -- `crossing::tells` meets its contract.
 use borrow.Author.Rules.{rules}
-use Rattle.crossing.proofs.Records.{other_row, not-answering, tells-setting, tells-original}
+use Rattle.crossing.proofs.Records.{other_row, not_answering, tells_setting, tells_original}
 use Rattle.crossing.proofs.tells.Statement.{statement}
 use Rattle.crossing.proofs.tells.Tie as tie
 
@@ -11,8 +11,8 @@ tells_spec =
     (λ c κs. search rules)
     (λ c. search other_row)
     (λ c κs. search rules)
-    (λ c. search not-answering)
+    (λ c. search not_answering)
     (λ c κs. search rules)
-    (λ c. search tells-setting)
+    (λ c. search tells_setting)
     (λ c κs. search rules)
-    (λ c. search tells-original))
+    (λ c. search tells_original))

@@ -4,7 +4,7 @@ use mathlib.Core.Path.{◌∙◌, sym}
 use borrow.Author.Rules.{rules}
 use Rattle.crossing.specs.Steps.{told_at, Continues}
 use Rattle.crossing.proofs.Records.{so, not_so}
-use Rattle.crossing.proofs.Standing.{noted_few, stands-still, stands-replaced, stands-followed}
+use Rattle.crossing.proofs.Standing.{noted_few, stands_still, stands_replaced, stands_followed}
 use Rattle.crossing.proofs.turn.Statement.{statement}
 use Rattle.crossing.proofs.turn.Tie as tie
 
@@ -12,7 +12,7 @@ returns : tie.Need-returns
 unfolding Continues told_at
 returns c =
     let tells : tie.After-tells = search in
-    (omega arith, λ l out s. rw (sym tells.tells.ensures ∙ not_so _ c.if1.true) (stands-still _ _ _ _ _ _ s))
+    (omega arith, λ l out s. rw (sym tells.tells.ensures ∙ not_so _ c.if1.true) (stands_still _ _ _ _ _ _ s))
 
 returns-2 : tie.Need-returns-2
 unfolding Continues told_at
@@ -28,7 +28,7 @@ returns-2 c =
     let made = c.replace.ensures in (
       rw made (omega arith),
       λ l out s. rw (sym tells.tells.ensures ∙ so _ yes.if1.left, made)
-          (stands-replaced q _ l out p _ s _ _ value.tell.ensures (sym same.same-setter.ensures ∙ replaces.if2.taken)),
+          (stands_replaced q _ l out p _ s _ _ value.tell.ensures (sym same.same-setter.ensures ∙ replaces.if2.taken)),
     )
 
 returns-3 : tie.Need-returns-3
@@ -46,7 +46,7 @@ returns-3 c =
     let made = c.follow.ensures in (
       rw made (omega (arith, noted.note.ensures.0, noted_few q.from.0 p)),
       λ l out s. rw (sym tells.tells.ensures ∙ so _ yes.if1.left, made)
-          (stands-followed q _ l out p _ s _ _ value.tell.ensures (sym same.same-setter.ensures ∙ follows.if2.left) _ _ noted.note.ensures.0 noted.note.ensures.1),
+          (stands_followed q _ l out p _ s _ _ value.tell.ensures (sym same.same-setter.ensures ∙ follows.if2.left) _ _ noted.note.ensures.0 noted.note.ensures.1),
     )
 
 pub turn_spec : {M : Type 1} → statement M

@@ -2,7 +2,7 @@
 use borrow.Author.Rules.{rules}
 use Rattle.facts.specs.Facts.{commits_within}
 use Rattle.facts.specs.Tests.{scan_counts_hold}
-use Rattle.facts.proofs.Parts.{merges-between, commits-between}
+use Rattle.facts.proofs.Parts.{merges_between, commits_between}
 use Rattle.facts.proofs.scan_counts_hold.Statement.{statement}
 use Rattle.facts.proofs.scan_counts_hold.Tie as tie
 
@@ -17,7 +17,7 @@ returns c =
     let start : tie.Start = search in
     let t = start.args.t in
     λ ps e few.
-    rw (joined.both.ensures, commits.at-most2.ensures, commits-between t ps e _ few, committed.read2.ensures, merges.at_most.ensures, merges-between t ps e _ few, merged.read.ensures)
+    rw (joined.both.ensures, commits.at-most2.ensures, commits_between t ps e _ few, committed.read2.ensures, merges.at_most.ensures, merges_between t ps e _ few, merged.read.ensures)
 
 pub scan_counts_hold_spec : {M : Type 1} → statement M
 scan_counts_hold_spec =

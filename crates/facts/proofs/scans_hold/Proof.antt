@@ -1,7 +1,7 @@
 -- `facts::scans_hold` meets its contract.
 use borrow.Author.Rules.{rules}
 use Rattle.facts.specs.Tests.{scans_hold}
-use Rattle.facts.proofs.Parts.{count-few, numbers-between, stamps-between, numbers-differ}
+use Rattle.facts.proofs.Parts.{count_few, numbers_between, stamps_between, numbers_differ}
 use Rattle.facts.proofs.scans_hold.Statement.{statement}
 use Rattle.facts.proofs.scans_hold.Tie as tie
 
@@ -21,8 +21,8 @@ returns c =
     let start : tie.Start = search in
     let t = start.args.t in
     λ ps e few.
-    rw (three.both3.ensures, two.both2.ensures, one.both.ensures, differ.all-differ.ensures, entries.entries-used.ensures.1 (count-few t ps e), numbers-differ t ps e few)
-    (rw (counts.scan-counts-hold.ensures ps e few, stamps.at-most2.ensures, stamps-between t ps e _ few, numbers.at_most.ensures, numbers-between t ps e _ few, last.read2.ensures, given.read.ensures))
+    rw (three.both3.ensures, two.both2.ensures, one.both.ensures, differ.all-differ.ensures, entries.entries-used.ensures.1 (count_few t ps e), numbers_differ t ps e few)
+    (rw (counts.scan-counts-hold.ensures ps e few, stamps.at-most2.ensures, stamps_between t ps e _ few, numbers.at_most.ensures, numbers_between t ps e _ few, last.read2.ensures, given.read.ensures))
 
 pub scans_hold_spec : {M : Type 1} → statement M
 scans_hold_spec =

@@ -12,7 +12,7 @@ use Rattle.layout.proofs.bytes_needed.Statement.{statement}
 use Rattle.layout.proofs.bytes_needed.Tie as tie
 
 within : (c : tie.Then1) → within_limits (shape_of c.before.before.args.columns c.before.before.args.ranges c.before.before.args.capacity c.before.before.args.spares) ≡ true
-within c = sym c.before.within-limits.ensures ∙ c.if1.true
+within c = sym c.before.within_limits_lem.ensures ∙ c.if1.true
 
 small : (c : tie.After-sizes-of) → need c.sizes-of.result < too_many_words
 small c = rw c.sizes-of.ensures (need_small _ _ (within c.before))
@@ -27,4 +27,4 @@ bytes_needed_spec =
     (λ c. omega (arith, small c.before))
     (λ c. omega (arith, small c.before))
     (λ c. bytes_answered _ (unfold bytes_answer bytes_needed in (rw (within c.before.before, c.words-needed.ensures, c.before.sizes-of.ensures))))
-    (λ c. bytes_answered _ (unfold bytes_answer in (rw (← c.before.within-limits.ensures, c.if1.false)))))
+    (λ c. bytes_answered _ (unfold bytes_answer in (rw (← c.before.within_limits_lem.ensures, c.if1.false)))))

@@ -15,7 +15,7 @@ returns : tie.Need-returns
 returns c =
     let table : tie.After-lies-before = search in
     let older : tie.After-older-words = search in
-    rw older.older-words.ensures (table.lies-before.ensures table.before.args.s)
+    rw older.older_words.ensures (table.lies-before.ensures table.before.args.s)
 
 pub start_spec : {M : Type 1} → statement M
 start_spec =

@@ -16,7 +16,7 @@ use Rattle.lent.proofs.Types.{p, d, answer}
 use Rattle.lent.proofs.Chain.{Rest, step, quiet, returns, then, tests, lastly, skips, lend, also, back, share, unshare, apart, called, lent, ended}
 use Rattle.lent.proofs.Written as written
 use Rattle.lent.proofs.Callees.{Callee, KnownAs, calls, drops, vacant, scalar, read-scalar, computes, shares, relends, copies, numbers}
-use Rattle.lent.proofs.Entries.{len_callee, put_callee, len-known, put-known}
+use Rattle.lent.proofs.Entries.{len_callee, put_callee, len_known, put_known}
 use Rattle.lent.proofs.index_of.Symbol as index_of
 use Rattle.lent.proofs.index_of.Met as index_of_thm
 use Rattle.lent.proofs.index_of.Kinds as index_of_kinds
@@ -120,4 +120,4 @@ apply_change_spec 𝓤 𝓛 𝓜 𝓡 =
     (index_of_reads.known w code.env index_of.name index_of.routine code.calls-lent::index-of (index_of_thm.met 𝓤 𝓛 𝓜 𝓡))
     (entry_of_reads.known w code.env entry_of.name entry_of.routine code.calls-lent::entry-of (entry_of_thm.met 𝓤 𝓛 𝓜 𝓡))
     (answer_of_reads.known w code.env answer_of_lem.name answer_of_lem.routine code.calls-lent::answer-of (answer_of_thm.met 𝓤 𝓛 𝓜 𝓡))
-    (len-known w code.env code.calls-lent::len-of) (put-known w code.env code.calls-lent::put-entry))
+    (len_known w code.env code.calls-lent::len-of) (put_known w code.env code.calls-lent::put-entry))

@@ -13,7 +13,7 @@ use Rattle.lent.proofs.Plain.{type, gone, room}
 use Rattle.lent.proofs.Chain.{step, quiet, returns, then, tests, skips, leaves, falls, loops, lend, back, share, unshare, apart, called, lent, ended}
 use Rattle.lent.proofs.Written as written
 use Rattle.lent.proofs.Callees.{Callee, KnownAs, calls, drops, vacant, scalar, read-scalar, sets, computes, shares, relends, copies, numbers}
-use Rattle.lent.proofs.Entries.{len_callee, put_callee, len-known, put-known}
+use Rattle.lent.proofs.Entries.{len_callee, put_callee, len_known, put_known}
 use Rattle.lent.proofs.Steps.{Freed, none_freed, one_freed, all_freed_lem}
 use Rattle.lent.proofs.Types.{p as P}
 use Rattle.model.proofs.free_entry.Symbol as free_entry_lem
@@ -118,6 +118,6 @@ free_all_spec 𝓤 𝓛 𝓜 𝓡 =
     let w : World = written.world 𝓛 𝓜 𝓡 in
     written.closes 1 ps r_unit Q xs 2 (code.function).body w code.env key.name (code.unfolded 𝓤 𝓛.H 𝓜 𝓡)
     (λ κs qs. derived κs qs (written.assumed w) (written.routines w code.env)
-    (len-known w code.env code.calls-lent::len-of)
+    (len_known w code.env code.calls-lent::len-of)
     (free_entry_reads.known w code.env free_entry_lem.name free_entry_lem.routine code.calls-model::free-entry (free_entry_thm.met 𝓤 𝓛 𝓜 𝓡))
-    (put-known w code.env code.calls-lent::put-entry))
+    (put_known w code.env code.calls-lent::put-entry))

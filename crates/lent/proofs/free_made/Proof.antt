@@ -79,4 +79,4 @@ free_made_spec 𝓤 𝓛 𝓜 𝓡 =
     written.closes 1 ps (res answer) Q xs 1 (code.function).body w code.env key.name (code.unfolded 𝓤 𝓛.H 𝓜 𝓡)
     (λ κs qs. derived κs qs (written.assumed w) (written.routines w code.env)
     (accepted_reads.known w code.env accepted.name accepted.routine code.calls-terms::accepted (accepted_thm.met 𝓤 𝓛 𝓜 𝓡))
-    (written.known-free 1 frees.params r_unit frees.tells w code.env free_all.name free_all.routine code.calls-lent::free-all (free_all_thm.met 𝓤 𝓛 𝓜 𝓡)))
+    (written.known_free 1 frees.params r_unit frees.tells w code.env free_all.name free_all.routine code.calls-lent::free-all (free_all_thm.met 𝓤 𝓛 𝓜 𝓡)))

@@ -15,10 +15,10 @@ use Rattle.lent.proofs.Rules.{refl, List, [], ◌∷◌, ℕ, Ura, some, Ty, Bod
 use Rattle.lent.proofs.Plain.{Plain, type, arg, res, room}
 use Rattle.lent.proofs.Types.{p}
 use Rattle.lent.proofs.Further.{Further}
-use Rattle.lent.proofs.Hands.{heres, handeds, ats, Vals, see-all, sees_all, nth, Nth, t-hands, sees-shown, shown-see, fixes, fresh_all}
+use Rattle.lent.proofs.Hands.{heres, handeds, ats, Vals, see-all, sees_all, nth, Nth, t_hands, sees_shown, shown_see, fixes, fresh_all}
 use Rattle.lent.proofs.Tokens.{up, ups, lent_on}
 use Rattle.lent.proofs.Chain.{Rest, step, quiet, returns, lend, back, share, unshare, apart, called, lent, ended}
-use Rattle.lent.proofs.Slices.{Access, reads, writes, slice, slices, loans, again, lends, local, ensures, core_ensures, E, spot, further-spots, enters, leaves}
+use Rattle.lent.proofs.Slices.{Access, reads, writes, slice, slices, loans, again, lends, local, ensures, core_ensures, E, spot, further_spots, enters, leaves}
 use Rattle.lent.proofs.Callees.{Callee, KnownAs, KnownIn, freely, calls, drops, vacant, shares, relends, copies}
 use Rattle.lent.proofs.Written.{Code, Meets, Derived, assumed, routines, closes}
 
@@ -71,8 +71,8 @@ module _ (l : ℕ) (load core store : Name) (t d r : Plain) where
       abbrev env : (m : Access) → Args m → Env 𝓤 H
       env m fs = E m writes r fs (xs m) 𝓛 bs
 
-      type-of : (m : Access) (fs : Args m) (k : ℕ) → Nth k (xs m) → (spot_of 𝓤 H (env m fs) (local fs k)).0 ≡ nth k (xs m)
-      type-of m fs = spot m writes r fs (xs m) 𝓛 bs
+      type_of : (m : Access) (fs : Args m) (k : ℕ) → Nth k (xs m) → (spot_of 𝓤 H (env m fs) (local fs k)).0 ≡ nth k (xs m)
+      type_of m fs = spot m writes r fs (xs m) 𝓛 bs
 
       abbrev Chain : (m : Access) → Args m → Type 2
       Chain m fs = (cpost : CorePost m fs) → KnownAs 𝓛 𝓣 (decides m fs cpost) → Rest 𝓛 𝓣 (env m fs) (Δret (up 2 l) (slices m writes (heres fs)) (res r) (xs m) 0 κs qs) (Γin (up 2 l) (slices m writes (heres fs)) (res r) (xs m) 0 κs qs)
@@ -85,15 +85,15 @@ module _ (l : ℕ) (load core store : Name) (t d r : Plain) where
       abbrev reading-chain : (fs : Args reads) → Chain reads fs
       reading-chain fs cpost k-core =
           quiet (enters reads writes r fs (xs reads) 𝓛 bs κs qs)
-          (share entry (named 1) 1 2 life-l 2 5 6 2 (local fs 2) (local fs 3) (apart 9 (fresh_all 2 tt 3 fs)) (λ x. x) refl (type-of reads fs 2 tt) (type-of reads fs 3 tt)
-          (step (calls 𝓛 loads k-load (record { pos = 6; ty = list_read; ref = λ x. x }, tt) 3 (2 ∷ []) (shares 𝓛 entry list_read 2 (type-of reads fs 3 tt) tt) (vacant 𝓛) (tt, tt) (type-of reads fs 0 tt))
+          (share entry (named 1) 1 2 life-l 2 5 6 2 (local fs 2) (local fs 3) (apart 9 (fresh_all 2 tt 3 fs)) (λ x. x) refl (type_of reads fs 2 tt) (type_of reads fs 3 tt)
+          (step (calls 𝓛 loads k-load (record { pos = 6; ty = list_read; ref = λ x. x }, tt) 3 (2 ∷ []) (shares 𝓛 entry list_read 2 (type_of reads fs 3 tt) tt) (vacant 𝓛) (tt, tt) (type_of reads fs 0 tt))
           (quiet (unshare 𝓛 entry (named 1) 1 2 life-l 6 2 (λ x. x))
-          (step (t-hands fs 3 9 (p_shr_s byte 0 tt ∷ arg t ∷ []) (res d) (decides reads fs cpost).tells _ (record { pos = 1; ty = bytes (named 0) imm; ref = λ x. x }, (record { pos = 3; st = []; d = 0; at = λ x. x }, tt)) (λ u. u) 4 (0 ∷ ups 4 l) 𝓛 𝓣 core (env reads fs) k-core (λ u. u) (further-spots reads writes r fs (xs reads) 𝓛 bs) refl
-          (λ further. (shares 𝓛 byte (bytes (named 0) imm) 0 refl (copies 𝓛 t (ap (λ (τ : Ty). some (τ, zero)) (type-of reads fs 0 tt)) further)))
-          (tt, lent_on (_ ∷ _ ∷ _ ∷ _ ∷ []) l κs.1.1 qs.1.1) (vacant 𝓛) (type-of reads fs 1 tt))
+          (step (t_hands fs 3 9 (p_shr_s byte 0 tt ∷ arg t ∷ []) (res d) (decides reads fs cpost).tells _ (record { pos = 1; ty = bytes (named 0) imm; ref = λ x. x }, (record { pos = 3; st = []; d = 0; at = λ x. x }, tt)) (λ u. u) 4 (0 ∷ ups 4 l) 𝓛 𝓣 core (env reads fs) k-core (λ u. u) (further_spots reads writes r fs (xs reads) 𝓛 bs) refl
+          (λ further. (shares 𝓛 byte (bytes (named 0) imm) 0 refl (copies 𝓛 t (ap (λ (τ : Ty). some (τ, zero)) (type_of reads fs 0 tt)) further)))
+          (tt, lent_on (_ ∷ _ ∷ _ ∷ _ ∷ []) l κs.1.1 qs.1.1) (vacant 𝓛) (type_of reads fs 1 tt))
           (quiet (drops 𝓛 3 (type t) (room t 𝓛))
-          (lend entry (named 1) 1 3 life-l 2 7 8 2 (local fs 4) (local fs 5) (apart 9 (fresh_all 3 tt 3 fs)) (λ x. x) refl (type-of reads fs 4 tt) (type-of reads fs 5 tt)
-          (step (calls 𝓛 stores k-store (record { pos = 8; ty = list_again; ref = λ x. x }, (record { pos = 4; st = []; d = 0; at = λ x. x }, tt)) 0 (3 ∷ []) (relends 𝓛 entry list_again 3 (type-of reads fs 5 tt) (copies 𝓛 d (ap (λ (τ : Ty). some (τ, zero)) (type-of reads fs 1 tt)) tt)) (vacant 𝓛) (tt, tt) refl)
+          (lend entry (named 1) 1 3 life-l 2 7 8 2 (local fs 4) (local fs 5) (apart 9 (fresh_all 3 tt 3 fs)) (λ x. x) refl (type_of reads fs 4 tt) (type_of reads fs 5 tt)
+          (step (calls 𝓛 stores k-store (record { pos = 8; ty = list_again; ref = λ x. x }, (record { pos = 4; st = []; d = 0; at = λ x. x }, tt)) 0 (3 ∷ []) (relends 𝓛 entry list_again 3 (type_of reads fs 5 tt) (copies 𝓛 d (ap (λ (τ : Ty). some (τ, zero)) (type_of reads fs 1 tt)) tt)) (vacant 𝓛) (tt, tt) refl)
           (quiet (back 𝓛 entry (named 1) 1 3 life-l 8 2 (λ x. x))
           (quiet (drops 𝓛 4 (type d) (room d 𝓛))
           (quiet (leaves reads writes r fs (xs reads) 𝓛 bs κs qs)
@@ -106,24 +106,24 @@ module _ (l : ℕ) (load core store : Name) (t d r : Plain) where
             same = refl;
             shows = λ a good. lent (λ _. called (λ load. called (λ core. lent (λ _. called (λ store. ended (λ _. (
               (refl, (fix_len a.1.0.ref_ptr a.1.0.ghost_name store.2.0 a.1.0.now store.4.0, fixes κs 3 fs (xs reads) a.1.1 _)),
-              ends _ _ _ _ _ _ _ _ load.5 (subst (λ (x : Vals fs). cpost (now a.0) load.1 x core.1 (now a.0)) (sees-shown core.0 3 fs _ _ _ ∙ shown-see κs core.0 3 fs (xs reads) a.1.1) core.5) store.5,
+              ends _ _ _ _ _ _ _ _ load.5 (subst (λ (x : Vals fs). cpost (now a.0) load.1 x core.1 (now a.0)) (sees_shown core.0 3 fs _ _ _ ∙ shown_see κs core.0 3 fs (xs reads) a.1.1) core.5) store.5,
             )))))));
           }
 
       abbrev writing-chain : (fs : Args writes) → Chain writes fs
       writing-chain fs cpost k-core =
           quiet (enters writes writes r fs (xs writes) 𝓛 bs κs qs)
-          (share entry (named 1) 1 2 life-l 2 5 6 2 (local fs 2) (local fs 3) (apart 11 (fresh_all 2 tt 3 fs)) (λ x. x) refl (type-of writes fs 2 tt) (type-of writes fs 3 tt)
-          (step (calls 𝓛 loads k-load (record { pos = 6; ty = list_read; ref = λ x. x }, tt) 3 (2 ∷ []) (shares 𝓛 entry list_read 2 (type-of writes fs 3 tt) tt) (vacant 𝓛) (tt, tt) (type-of writes fs 0 tt))
+          (share entry (named 1) 1 2 life-l 2 5 6 2 (local fs 2) (local fs 3) (apart 11 (fresh_all 2 tt 3 fs)) (λ x. x) refl (type_of writes fs 2 tt) (type_of writes fs 3 tt)
+          (step (calls 𝓛 loads k-load (record { pos = 6; ty = list_read; ref = λ x. x }, tt) 3 (2 ∷ []) (shares 𝓛 entry list_read 2 (type_of writes fs 3 tt) tt) (vacant 𝓛) (tt, tt) (type_of writes fs 0 tt))
           (quiet (unshare 𝓛 entry (named 1) 1 2 life-l 6 2 (λ x. x))
-          (lend byte (named 0) 0 3 life-m 1 7 8 1 (local fs 4) (local fs 5) (apart 11 (fresh_all 3 tt 3 fs)) (λ x. x) refl (type-of writes fs 4 tt) (type-of writes fs 5 tt)
-          (step (t-hands fs 3 11 (p_mut_s byte 0 tt ∷ arg t ∷ []) (res d) (decides writes fs cpost).tells _ (record { pos = 8; ty = memory_again; ref = λ x. x }, (record { pos = 3; st = []; d = 0; at = λ x. x }, tt)) (λ u. u) 4 (3 ∷ ups 5 l) 𝓛 𝓣 core (env writes fs) k-core (λ u. u) (further-spots writes writes r fs (xs writes) 𝓛 bs) refl
-          (λ further. (relends 𝓛 byte memory_again 3 (type-of writes fs 5 tt) (copies 𝓛 t (ap (λ (τ : Ty). some (τ, zero)) (type-of writes fs 0 tt)) further)))
-          (tt, lent_on (_ ∷ _ ∷ _ ∷ _ ∷ _ ∷ []) l κs.1.1 qs.1.1) (vacant 𝓛) (type-of writes fs 1 tt))
+          (lend byte (named 0) 0 3 life-m 1 7 8 1 (local fs 4) (local fs 5) (apart 11 (fresh_all 3 tt 3 fs)) (λ x. x) refl (type_of writes fs 4 tt) (type_of writes fs 5 tt)
+          (step (t_hands fs 3 11 (p_mut_s byte 0 tt ∷ arg t ∷ []) (res d) (decides writes fs cpost).tells _ (record { pos = 8; ty = memory_again; ref = λ x. x }, (record { pos = 3; st = []; d = 0; at = λ x. x }, tt)) (λ u. u) 4 (3 ∷ ups 5 l) 𝓛 𝓣 core (env writes fs) k-core (λ u. u) (further_spots writes writes r fs (xs writes) 𝓛 bs) refl
+          (λ further. (relends 𝓛 byte memory_again 3 (type_of writes fs 5 tt) (copies 𝓛 t (ap (λ (τ : Ty). some (τ, zero)) (type_of writes fs 0 tt)) further)))
+          (tt, lent_on (_ ∷ _ ∷ _ ∷ _ ∷ _ ∷ []) l κs.1.1 qs.1.1) (vacant 𝓛) (type_of writes fs 1 tt))
           (quiet (drops 𝓛 3 (type t) (room t 𝓛))
           (quiet (back 𝓛 byte (named 0) 0 3 life-m 8 1 (λ x. x))
-          (lend entry (named 1) 1 4 life-l 2 9 10 2 (local fs 6) (local fs 7) (apart 11 (fresh_all 4 tt 3 fs)) (λ x. x) refl (type-of writes fs 6 tt) (type-of writes fs 7 tt)
-          (step (calls 𝓛 stores k-store (record { pos = 10; ty = list_again; ref = λ x. x }, (record { pos = 4; st = []; d = 0; at = λ x. x }, tt)) 0 (4 ∷ []) (relends 𝓛 entry list_again 4 (type-of writes fs 7 tt) (copies 𝓛 d (ap (λ (τ : Ty). some (τ, zero)) (type-of writes fs 1 tt)) tt)) (vacant 𝓛) (tt, tt) refl)
+          (lend entry (named 1) 1 4 life-l 2 9 10 2 (local fs 6) (local fs 7) (apart 11 (fresh_all 4 tt 3 fs)) (λ x. x) refl (type_of writes fs 6 tt) (type_of writes fs 7 tt)
+          (step (calls 𝓛 stores k-store (record { pos = 10; ty = list_again; ref = λ x. x }, (record { pos = 4; st = []; d = 0; at = λ x. x }, tt)) 0 (4 ∷ []) (relends 𝓛 entry list_again 4 (type_of writes fs 7 tt) (copies 𝓛 d (ap (λ (τ : Ty). some (τ, zero)) (type_of writes fs 1 tt)) tt)) (vacant 𝓛) (tt, tt) refl)
           (quiet (back 𝓛 entry (named 1) 1 4 life-l 10 2 (λ x. x))
           (quiet (drops 𝓛 4 (type d) (room d 𝓛))
           (quiet (leaves writes writes r fs (xs writes) 𝓛 bs κs qs)
@@ -136,7 +136,7 @@ module _ (l : ℕ) (load core store : Name) (t d r : Plain) where
             same = refl;
             shows = λ a good. lent (λ _. called (λ load. lent (λ _. called (λ core. ended (λ _. lent (λ _. called (λ store. ended (λ _. (
               (fix_len a.0.ref_ptr a.0.ghost_name core.2.0 a.0.now core.4.0, (fix_len a.1.0.ref_ptr a.1.0.ghost_name store.2.0 a.1.0.now store.4.0, fixes κs 3 fs (xs writes) a.1.1 _)),
-              ends _ _ _ _ _ _ _ _ load.5 (subst (λ (x : Vals fs). cpost (now a.0) load.1 x core.1 core.2.0) (sees-shown core.0 3 fs _ _ _ ∙ shown-see κs core.0 3 fs (xs writes) a.1.1) core.5) store.5,
+              ends _ _ _ _ _ _ _ _ load.5 (subst (λ (x : Vals fs). cpost (now a.0) load.1 x core.1 core.2.0) (sees_shown core.0 3 fs _ _ _ ∙ shown_see κs core.0 3 fs (xs writes) a.1.1) core.5) store.5,
             )))))))));
           }
 

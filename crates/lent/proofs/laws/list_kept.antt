@@ -17,12 +17,12 @@ use Rattle.lent.proofs.Rules.{◌≡◌, refl, List, [], ◌∷◌, ℕ, Ura, so
 use Rattle.lent.proofs.Plain.{Plain, type, arg, res, room}
 use Rattle.lent.proofs.Types.{t}
 use Rattle.lent.proofs.Further.{Further}
-use Rattle.lent.proofs.Hands.{heres, handeds, ats, Vals, see-all, sees_all, nth, Nth, t-hands, sees-shown, shown-see, fixes, fresh_all}
+use Rattle.lent.proofs.Hands.{heres, handeds, ats, Vals, see-all, sees_all, nth, Nth, t_hands, sees_shown, shown_see, fixes, fresh_all}
 use Rattle.lent.proofs.Tokens.{up, ups, lent_on}
 use Rattle.lent.proofs.Chain.{step, quiet, returns, lend, back, apart, called, lent, ended}
-use Rattle.lent.proofs.Slices.{Access, reads, writes, slice, slices, loans, again, lends, local, ensures, core_ensures, E, spot, further-spots, enters, leaves}
+use Rattle.lent.proofs.Slices.{Access, reads, writes, slice, slices, loans, again, lends, local, ensures, core_ensures, E, spot, further_spots, enters, leaves}
 use Rattle.lent.proofs.Callees.{Callee, KnownAs, KnownIn, freely, calls, drops, vacant, shares, relends, copies}
-use Rattle.lent.proofs.ListFunctions.{loads, table-known}
+use Rattle.lent.proofs.ListFunctions.{loads, table_known}
 use Rattle.lent.proofs.Written.{Code, Meets, Derived, assumed, routines, closes}
 
 module _ (l : ℕ) (core : Name) (r : Plain) where
@@ -59,8 +59,8 @@ module _ (l : ℕ) (core : Name) (r : Plain) where
     env m fs = E m reads r fs (xs m) 𝓛 bs
 
     -- of the k-th local after the arguments
-    type-of : (m : Access) (fs : Args m) (k : ℕ) → Nth k (xs m) → (spot_of 𝓤 H (env m fs) (local fs k)).0 ≡ nth k (xs m)
-    type-of m fs = spot m reads r fs (xs m) 𝓛 bs
+    type_of : (m : Access) (fs : Args m) (k : ℕ) → Nth k (xs m) → (spot_of 𝓤 H (env m fs) (local fs k)).0 ≡ nth k (xs m)
+    type_of m fs = spot m reads r fs (xs m) 𝓛 bs
 
     abbrev Derives : (m : Access) → Args m → Type 2
     Derives m fs =
@@ -72,9 +72,9 @@ module _ (l : ℕ) (core : Name) (r : Plain) where
         record {
           rest =
               quiet (enters reads reads r fs (xs reads) 𝓛 bs κs qs)
-              (step (calls 𝓛 loads k-table (record { pos = 2; ty = entries (named 1) imm; ref = λ x. x }, tt) 3 (1 ∷ []) (shares 𝓛 entry (entries (named 1) imm) 1 refl tt) (vacant 𝓛) (tt, tt) (type-of reads fs 0 tt))
-              (step (t-hands fs 3 4 (p_shr_s byte 0 tt ∷ arg t ∷ []) (res r) (decides reads fs cpost).tells _ (record { pos = 1; ty = bytes (named 0) imm; ref = λ x. x }, (record { pos = 3; st = []; d = 0; at = λ x. x }, tt)) (λ u. u) 0 (0 ∷ ups 2 l) 𝓛 𝓣 core (env reads fs) k-core (λ u. u) (further-spots reads reads r fs (xs reads) 𝓛 bs) refl
-              (λ further. (shares 𝓛 byte (bytes (named 0) imm) 0 refl (copies 𝓛 t (ap (λ (τ : Ty). some (τ, zero)) (type-of reads fs 0 tt)) further)))
+              (step (calls 𝓛 loads k-table (record { pos = 2; ty = entries (named 1) imm; ref = λ x. x }, tt) 3 (1 ∷ []) (shares 𝓛 entry (entries (named 1) imm) 1 refl tt) (vacant 𝓛) (tt, tt) (type_of reads fs 0 tt))
+              (step (t_hands fs 3 4 (p_shr_s byte 0 tt ∷ arg t ∷ []) (res r) (decides reads fs cpost).tells _ (record { pos = 1; ty = bytes (named 0) imm; ref = λ x. x }, (record { pos = 3; st = []; d = 0; at = λ x. x }, tt)) (λ u. u) 0 (0 ∷ ups 2 l) 𝓛 𝓣 core (env reads fs) k-core (λ u. u) (further_spots reads reads r fs (xs reads) 𝓛 bs) refl
+              (λ further. (shares 𝓛 byte (bytes (named 0) imm) 0 refl (copies 𝓛 t (ap (λ (τ : Ty). some (τ, zero)) (type_of reads fs 0 tt)) further)))
               (tt, lent_on (_ ∷ _ ∷ []) l κs.1.1 qs.1.1) (vacant 𝓛) refl)
               (quiet (drops 𝓛 3 (type t) (room t 𝓛))
               (quiet (leaves reads reads r fs (xs reads) 𝓛 bs κs qs)
@@ -82,7 +82,7 @@ module _ (l : ℕ) (core : Name) (r : Plain) where
           same = refl;
           shows = λ a good. called (λ table. called (λ core. (
             (refl, (refl, fixes κs 3 fs (xs reads) a.1.1 _)),
-            ends _ _ _ _ _ _ table.5 (subst (λ (x : Vals fs). cpost (now a.0) table.1 x core.1 (now a.0)) (sees-shown core.0 3 fs _ _ _ ∙ shown-see κs core.0 3 fs (xs reads) a.1.1) core.5),
+            ends _ _ _ _ _ _ table.5 (subst (λ (x : Vals fs). cpost (now a.0) table.1 x core.1 (now a.0)) (sees_shown core.0 3 fs _ _ _ ∙ shown_see κs core.0 3 fs (xs reads) a.1.1) core.5),
           )));
         }
 
@@ -91,10 +91,10 @@ module _ (l : ℕ) (core : Name) (r : Plain) where
         record {
           rest =
               quiet (enters writes reads r fs (xs writes) 𝓛 bs κs qs)
-              (step (calls 𝓛 loads k-table (record { pos = 2; ty = entries (named 1) imm; ref = λ x. x }, tt) 3 (1 ∷ []) (shares 𝓛 entry (entries (named 1) imm) 1 refl tt) (vacant 𝓛) (tt, tt) (type-of writes fs 0 tt))
-              (lend byte (named 0) 0 2 (lease κs.0 qs.0) 1 4 5 1 (local fs 1) (local fs 2) (apart 6 (fresh_all 2 tt 3 fs)) (λ x. x) refl (type-of writes fs 1 tt) (type-of writes fs 2 tt)
-              (step (t-hands fs 3 6 (p_mut_s byte 0 tt ∷ arg t ∷ []) (res r) (decides writes fs cpost).tells _ (record { pos = 5; ty = memory_again; ref = λ x. x }, (record { pos = 3; st = []; d = 0; at = λ x. x }, tt)) (λ u. u) 0 (2 ∷ ups 3 l) 𝓛 𝓣 core (env writes fs) k-core (λ u. u) (further-spots writes reads r fs (xs writes) 𝓛 bs) refl
-              (λ further. (relends 𝓛 byte memory_again 2 (type-of writes fs 2 tt) (copies 𝓛 t (ap (λ (τ : Ty). some (τ, zero)) (type-of writes fs 0 tt)) further)))
+              (step (calls 𝓛 loads k-table (record { pos = 2; ty = entries (named 1) imm; ref = λ x. x }, tt) 3 (1 ∷ []) (shares 𝓛 entry (entries (named 1) imm) 1 refl tt) (vacant 𝓛) (tt, tt) (type_of writes fs 0 tt))
+              (lend byte (named 0) 0 2 (lease κs.0 qs.0) 1 4 5 1 (local fs 1) (local fs 2) (apart 6 (fresh_all 2 tt 3 fs)) (λ x. x) refl (type_of writes fs 1 tt) (type_of writes fs 2 tt)
+              (step (t_hands fs 3 6 (p_mut_s byte 0 tt ∷ arg t ∷ []) (res r) (decides writes fs cpost).tells _ (record { pos = 5; ty = memory_again; ref = λ x. x }, (record { pos = 3; st = []; d = 0; at = λ x. x }, tt)) (λ u. u) 0 (2 ∷ ups 3 l) 𝓛 𝓣 core (env writes fs) k-core (λ u. u) (further_spots writes reads r fs (xs writes) 𝓛 bs) refl
+              (λ further. (relends 𝓛 byte memory_again 2 (type_of writes fs 2 tt) (copies 𝓛 t (ap (λ (τ : Ty). some (τ, zero)) (type_of writes fs 0 tt)) further)))
               (tt, lent_on (_ ∷ _ ∷ _ ∷ []) l κs.1.1 qs.1.1) (vacant 𝓛) refl)
               (quiet (drops 𝓛 3 (type t) (room t 𝓛))
               (quiet (back 𝓛 byte (named 0) 0 2 (lease κs.0 qs.0) 5 1 (λ x. x))
@@ -103,7 +103,7 @@ module _ (l : ℕ) (core : Name) (r : Plain) where
           same = refl;
           shows = λ a good. called (λ table. lent (λ _. called (λ core. ended (λ _. (
             (fix_len a.0.ref_ptr a.0.ghost_name core.2.0 a.0.now core.4.0, (refl, fixes κs 3 fs (xs writes) a.1.1 _)),
-            ends _ _ _ _ _ _ table.5 (subst (λ (x : Vals fs). cpost (now a.0) table.1 x core.1 core.2.0) (sees-shown core.0 3 fs _ _ _ ∙ shown-see κs core.0 3 fs (xs writes) a.1.1) core.5),
+            ends _ _ _ _ _ _ table.5 (subst (λ (x : Vals fs). cpost (now a.0) table.1 x core.1 core.2.0) (sees_shown core.0 3 fs _ _ _ ∙ shown_see κs core.0 3 fs (xs writes) a.1.1) core.5),
           )))));
         }
 
@@ -118,4 +118,4 @@ module _ (l : ℕ) (core : Name) (r : Plain) where
       → Meets (up 2 l) (slices m reads (heres fs)) (res r) (Q-call m fs post) w (γ k)
   meets m fs cpost post ends w γ k code e-table k-core =
       closes (up 2 l) (slices m reads (heres fs)) (res r) (Q-call m fs post) (xs m) 0 (body m fs) w γ k code
-      (λ κs qs bs. derived (assumed w) (routines w γ) (table-known w γ e-table) κs qs bs m fs cpost post ends k-core)
+      (λ κs qs bs. derived (assumed w) (routines w γ) (table_known w γ e-table) κs qs bs m fs cpost post ends k-core)

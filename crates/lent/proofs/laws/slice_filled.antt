@@ -17,12 +17,12 @@ use Rattle.lent.proofs.Rules.{◌≡◌, refl, List, [], ◌∷◌, ℕ, Ura, so
 use Rattle.lent.proofs.Plain.{Plain, type, arg, res, room}
 use Rattle.lent.proofs.Types.{t}
 use Rattle.lent.proofs.Further.{Further}
-use Rattle.lent.proofs.Hands.{heres, handeds, ats, Vals, see-all, sees_all, nth, Nth, t-hands, sees-shown, shown-see, fixes, fresh_all}
+use Rattle.lent.proofs.Hands.{heres, handeds, ats, Vals, see-all, sees_all, nth, Nth, t_hands, sees_shown, shown_see, fixes, fresh_all}
 use Rattle.lent.proofs.Tokens.{up, ups, lent_on}
 use Rattle.lent.proofs.Chain.{step, quiet, returns, lend, back, apart, called, lent, ended}
-use Rattle.lent.proofs.Filling.{word, slice_again, slices, local, again, fills, ensures, E, spot, further-spots, enters, leaves}
+use Rattle.lent.proofs.Filling.{word, slice_again, slices, local, again, fills, ensures, E, spot, further_spots, enters, leaves}
 use Rattle.lent.proofs.Callees.{Callee, KnownAs, KnownIn, freely, calls, drops, vacant, shares, relends, copies}
-use Rattle.lent.proofs.ListFunctions.{loads, table-known}
+use Rattle.lent.proofs.ListFunctions.{loads, table_known}
 use Rattle.lent.proofs.Written.{Code, Meets, Derived, assumed, routines, closes}
 
 module _ (e : Width) (l : ℕ) (core : Name) (r : Plain) where
@@ -61,8 +61,8 @@ module _ (e : Width) (l : ℕ) (core : Name) (r : Plain) where
     life = lease κs.1.1.0 qs.1.1.0
 
     -- of the k-th local after the arguments
-    type-of : (fs : Args) (k : ℕ) → Nth k xs → (spot_of 𝓤 H (env fs) (local fs k)).0 ≡ nth k xs
-    type-of fs = spot e r fs xs 𝓛 bs
+    type_of : (fs : Args) (k : ℕ) → Nth k xs → (spot_of 𝓤 H (env fs) (local fs k)).0 ≡ nth k xs
+    type_of fs = spot e r fs xs 𝓛 bs
 
     derived : (fs : Args) (cpost : CorePost fs) (post : Post fs) → Ends fs cpost post → KnownAs 𝓛 𝓣 (decides fs cpost)
         → Derived (up 3 l) (slices e (heres fs)) (res r) (Q-call fs post) xs 0 (body fs) 𝓛 𝓣 κs qs bs
@@ -70,10 +70,10 @@ module _ (e : Width) (l : ℕ) (core : Name) (r : Plain) where
         record {
           rest =
               quiet (enters e r fs xs 𝓛 bs κs qs)
-              (step (calls 𝓛 loads k-table (record { pos = 2; ty = entries (named 1) imm; ref = λ x. x }, tt) 4 (1 ∷ []) (shares 𝓛 entry (entries (named 1) imm) 1 refl tt) (vacant 𝓛) (tt, tt) (type-of fs 0 tt))
-              (lend (word e) (named 2) 2 3 life 3 5 6 3 (local fs 1) (local fs 2) (apart 7 (fresh_all 3 tt 4 fs)) (λ x. x) refl (type-of fs 1 tt) (type-of fs 2 tt)
-              (step (t-hands fs 4 7 (p_shr_s byte 0 tt ∷ arg t ∷ p_mut_s (word e) 1 tt ∷ []) (res r) (decides fs cpost).tells _ (record { pos = 1; ty = bytes (named 0) imm; ref = λ x. x }, (record { pos = 4; st = []; d = 0; at = λ x. x }, (record { pos = 6; ty = slice_again e; ref = λ x. x }, tt))) (λ u. u) 0 (0 ∷ 3 ∷ ups 4 l) 𝓛 𝓣 core (env fs) k-core (λ u. u) (further-spots e r fs xs 𝓛 bs) refl
-              (λ further. (shares 𝓛 byte (bytes (named 0) imm) 0 refl (copies 𝓛 t (ap (λ (τ : Ty). some (τ, zero)) (type-of fs 0 tt)) (relends 𝓛 (word e) (slice_again e) 3 (type-of fs 2 tt) further))))
+              (step (calls 𝓛 loads k-table (record { pos = 2; ty = entries (named 1) imm; ref = λ x. x }, tt) 4 (1 ∷ []) (shares 𝓛 entry (entries (named 1) imm) 1 refl tt) (vacant 𝓛) (tt, tt) (type_of fs 0 tt))
+              (lend (word e) (named 2) 2 3 life 3 5 6 3 (local fs 1) (local fs 2) (apart 7 (fresh_all 3 tt 4 fs)) (λ x. x) refl (type_of fs 1 tt) (type_of fs 2 tt)
+              (step (t_hands fs 4 7 (p_shr_s byte 0 tt ∷ arg t ∷ p_mut_s (word e) 1 tt ∷ []) (res r) (decides fs cpost).tells _ (record { pos = 1; ty = bytes (named 0) imm; ref = λ x. x }, (record { pos = 4; st = []; d = 0; at = λ x. x }, (record { pos = 6; ty = slice_again e; ref = λ x. x }, tt))) (λ u. u) 0 (0 ∷ 3 ∷ ups 4 l) 𝓛 𝓣 core (env fs) k-core (λ u. u) (further_spots e r fs xs 𝓛 bs) refl
+              (λ further. (shares 𝓛 byte (bytes (named 0) imm) 0 refl (copies 𝓛 t (ap (λ (τ : Ty). some (τ, zero)) (type_of fs 0 tt)) (relends 𝓛 (word e) (slice_again e) 3 (type_of fs 2 tt) further))))
               (tt, (tt, lent_on (_ ∷ _ ∷ _ ∷ _ ∷ []) l κs.1.1.1 qs.1.1.1)) (vacant 𝓛) refl)
               (quiet (drops 𝓛 4 (type t) (room t 𝓛))
               (quiet (back 𝓛 (word e) (named 2) 2 3 life 6 3 (λ x. x))
@@ -82,7 +82,7 @@ module _ (e : Width) (l : ℕ) (core : Name) (r : Plain) where
           same = refl;
           shows = λ a good. called (λ table. lent (λ _. called (λ core. ended (λ _. (
             (refl, (refl, (fix_len a.1.1.0.ref_ptr a.1.1.0.ghost_name core.2.1.1.0 a.1.1.0.now core.4.1.1.0, fixes κs 4 fs xs a.1.1.1 _))),
-            ends _ _ _ _ _ _ _ table.5 (subst (λ (x : Vals fs). cpost (now a.0) table.1 (now a.1.1.0) x core.1 core.2.1.1.0) (sees-shown core.0 4 fs _ _ _ ∙ shown-see κs core.0 4 fs xs a.1.1.1) core.5),
+            ends _ _ _ _ _ _ _ table.5 (subst (λ (x : Vals fs). cpost (now a.0) table.1 (now a.1.1.0) x core.1 core.2.1.1.0) (sees_shown core.0 4 fs _ _ _ ∙ shown_see κs core.0 4 fs xs a.1.1.1) core.5),
           )))));
         }
 
@@ -93,4 +93,4 @@ module _ (e : Width) (l : ℕ) (core : Name) (r : Plain) where
       → Meets (up 3 l) (slices e (heres fs)) (res r) (Q-call fs post) w (γ k)
   meets fs cpost post ends w γ k code e-table k-core =
       closes (up 3 l) (slices e (heres fs)) (res r) (Q-call fs post) xs 0 (body fs) w γ k code
-      (λ κs qs bs. derived (assumed w) (routines w γ) (table-known w γ e-table) κs qs bs fs cpost post ends k-core)
+      (λ κs qs bs. derived (assumed w) (routines w γ) (table_known w γ e-table) κs qs bs fs cpost post ends k-core)

@@ -32,7 +32,7 @@ use denote.Exit.{yes}
 use Rattle.terms.specs.declared.ScanEntry.{ScanEntry}
 use Rattle.terms.specs.contracts.ScanEntry as T
 use Rattle.lent.proofs.Written.{world, assumed}
-use Rattle.lent.proofs.Walked.{runs, walk-closes}
+use Rattle.lent.proofs.Walked.{runs, walk_closes}
 use Rattle.lent.specs.contracts.len_of.Key.{name as #lent·len-of}
 use Rattle.lent.specs.contracts.len_of as f
 use Rattle.lent.proofs.len_of.Statement as stated
@@ -71,6 +71,6 @@ pub len_of_spec : {M : Type 1} → stated.statement M
 unfolding code.routine
 len_of_spec 𝓤 𝓛 𝓜 𝓡 =
     let w : World = world 𝓛 𝓜 𝓡 in
-    walk-closes f.ended stayed w code.env #lent·len-of code.function (f.clauses 𝓛 𝓜.mem 𝓡.run) (code.unfolded 𝓤 𝓛.H 𝓜 𝓡) (Goes-none_slice 𝓛 (assumed w) 1 (0 ∷ []) tt (plain (λ _. T.the_row)) yes, tt)
+    walk_closes f.ended stayed w code.env #lent·len-of code.function (f.clauses 𝓛 𝓜.mem 𝓡.run) (code.unfolded 𝓤 𝓛.H 𝓜 𝓡) (Goes-none_slice 𝓛 (assumed w) 1 (0 ∷ []) tt (plain (λ _. T.the_row)) yes, tt)
     (walked 𝓛 f.ended stayed (f.clauses 𝓛 𝓜.mem 𝓡.run) (runs w code.env code.function) (λ κs. (shr_slice_vals, tt)) (λ κs. (shr_slice_Tells (named 0) κs.0 T.the_row, tt))
     (λ κs qs bounds a g are. via 𝓤 _ (fst∗ 𝓤 _ (emp 𝓤)) (walk (assumed w) 𝓜.mem 𝓡.run κs.0 qs.0 a.0 _ _ are.0.0.1)))

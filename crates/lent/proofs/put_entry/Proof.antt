@@ -41,7 +41,7 @@ use Rattle.terms.specs.Entries.{free_entry}
 use Rattle.terms.specs.contracts.ScanEntry as T
 use Rattle.terms.proofs.ScanEntry.TheLaws as T'
 use Rattle.lent.proofs.Written.{world, assumed}
-use Rattle.lent.proofs.Walked.{runs, walk-closes}
+use Rattle.lent.proofs.Walked.{runs, walk_closes}
 use Rattle.lent.proofs.Types.{entry_bytes}
 use Rattle.lent.specs.contracts.put_entry.Key.{name as #lent·put-entry}
 use Rattle.lent.specs.contracts.put_entry as f
@@ -110,7 +110,7 @@ pub put_entry_spec : {M : Type 1} → stated.statement M
 unfolding code.routine
 put_entry_spec 𝓤 𝓛 𝓜 𝓡 =
     let w : World = world 𝓛 𝓜 𝓡 in
-    walk-closes f.ended stayed w code.env #lent·put-entry code.function (f.clauses 𝓛 𝓜.mem 𝓡.run) (code.unfolded 𝓤 𝓛.H 𝓜 𝓡) (Goes-slice 𝓛 (assumed w) 1 0 tt (plain (λ _. T.the_row)), (Goes-none 𝓛 (assumed w) 1 (λ _. usize) yes (λ κs x f. refl), (Goes-none 𝓛 (assumed w) 1 (λ _. T.the_row) yes (λ κs x f. refl), tt)))
+    walk_closes f.ended stayed w code.env #lent·put-entry code.function (f.clauses 𝓛 𝓜.mem 𝓡.run) (code.unfolded 𝓤 𝓛.H 𝓜 𝓡) (Goes-slice 𝓛 (assumed w) 1 0 tt (plain (λ _. T.the_row)), (Goes-none 𝓛 (assumed w) 1 (λ _. usize) yes (λ κs x f. refl), (Goes-none 𝓛 (assumed w) 1 (λ _. T.the_row) yes (λ κs x f. refl), tt)))
     (walked 𝓛 f.ended stayed (f.clauses 𝓛 𝓜.mem 𝓡.run) (runs w code.env code.function) (λ κs. (mut_slice_vals, (uint_vals w64, (LL.vals T.the_type T'.the_laws, tt)))) (λ κs. (mut_slice_Tells (named 0) κs.0 T.the_row, (uint_Tells w64, (LL.tells T.the_type T'.the_laws, tt))))
     (λ κs qs bounds a g are. needs 𝓤 (a.1.0 < length a.0.now) _
     (walk (assumed w) 𝓜.mem 𝓡.run κs.0 qs.0 a.0.ref_ptr.0 a.0.ref_ptr.1 a.0.ghost_name a.0.now a.1.0 a.1.1.0 _ _ are.0.0.1 are.1.0.1 are.1.1.0)))

@@ -14,7 +14,7 @@ use Rattle.lent.proofs.Plain.{type, full, gone, res, room}
 use Rattle.lent.proofs.Chain.{step, quiet, returns, then, tests, lastly, skips, leaves, falls, loops, called}
 use Rattle.lent.proofs.Written as written
 use Rattle.lent.proofs.Callees.{Callee, KnownAs, calls, drops, vacant, scalar, read-scalar, sets, computes, shares, copies, numbers}
-use Rattle.lent.proofs.Entries.{len_callee, at_callee, len-known, at-known}
+use Rattle.lent.proofs.Entries.{len_callee, at_callee, len_known, at_known}
 use Rattle.scans.proofs.Table.{Entered, none_entered, open_entered, free_entered, all_entered}
 use Rattle.lent.proofs.Types.{p as P, t as T}
 use Rattle.scans.proofs.blank.Symbol as blank
@@ -141,9 +141,9 @@ table_spec 𝓤 𝓛 𝓜 𝓡 =
     let w : World = written.world 𝓛 𝓜 𝓡 in
     written.closes 1 ps (res T) Q xs 0 (code.function).body w code.env key.name (code.unfolded 𝓤 𝓛.H 𝓜 𝓡)
     (λ κs qs. derived κs qs (written.assumed w) (written.routines w code.env)
-    (len-known w code.env code.calls-lent::len-of)
+    (len_known w code.env code.calls-lent::len-of)
     (blank_reads.known w code.env blank.name blank.routine code.calls-scans::blank (blank_thm.met 𝓤 𝓛 𝓜 𝓡))
-    (at-known w code.env code.calls-lent::entry-at)
+    (at_known w code.env code.calls-lent::entry-at)
     (is_open_reads.known w code.env is_open.name is_open.routine code.calls-scans::is-open (is_open_thm.met 𝓤 𝓛 𝓜 𝓡))
     (add_open_reads.known w code.env add_open.name add_open.routine code.calls-scans::add-open (add_open_thm.met 𝓤 𝓛 𝓜 𝓡))
     (set_length_reads.known w code.env set_length.name set_length.routine code.calls-scans::set-length (set_length_thm.met 𝓤 𝓛 𝓜 𝓡)))

@@ -3,7 +3,7 @@ use borrow.Author.Rules.{rules}
 use mir.Syntax.{w32}
 use mir.ValLaws.{to_z-of_z}
 use Rattle.admission.proofs.Served.{serving}
-use Rattle.lookups.proofs.Listing.{unfit_listing, fit-listing}
+use Rattle.lookups.proofs.Listing.{unfit_listing, fit_listing}
 use Rattle.lookups.proofs.crossings.Statement.{statement}
 use Rattle.lookups.proofs.crossings.Tie as tie
 
@@ -17,4 +17,4 @@ crossings_spec =
     (λ c. search unfit_listing)
     (λ c κs. search serving)
     (λ c. search rules)
-    (λ c. let start : tie.Start = search in search (fit-listing, to_z-of_z w32 _ start.fits.mark)))
+    (λ c. let start : tie.Start = search in search (fit_listing, to_z-of_z w32 _ start.fits.mark)))

@@ -2,7 +2,7 @@
 use borrow.Author.Rules.{rules}
 use Rattle.model.specs.Calls.{reply_in, act_in, entries_after}
 use Rattle.admission.proofs.Served.{serving, index_below, passed_below}
-use Rattle.lookups.proofs.Answers.{lineage-answer}
+use Rattle.lookups.proofs.Answers.{lineage_answer}
 use Rattle.lookups.proofs.lineage.Statement.{statement}
 use Rattle.lookups.proofs.lineage.Tie as tie
 
@@ -11,7 +11,7 @@ returns-2 c = let tests : tie.After-lineage-tests = search in search (serving, t
 
 returns-3 : tie.Need-returns-3
 unfolding reply_in act_in entries_after
-returns-3 c = let tests : tie.After-lineage-tests = search in search (serving, lineage-answer, tests.lineage-tests.ensures.0)
+returns-3 c = let tests : tie.After-lineage-tests = search in search (serving, lineage_answer, tests.lineage-tests.ensures.0)
 
 pub lineage_spec : {M : Type 1} → statement M
 lineage_spec =

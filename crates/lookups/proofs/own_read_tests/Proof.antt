@@ -3,7 +3,7 @@ use borrow.Author.Rules.{rules}
 use Rattle.model.specs.Calls.{tests_in}
 use Rattle.admission.specs.Tested.{Tests, Finds, IfPassed}
 use Rattle.admission.proofs.Decided.{deciding}
-use Rattle.lookups.proofs.Answers.{cell-handed-on}
+use Rattle.lookups.proofs.Answers.{cell_handed_on}
 use Rattle.lookups.proofs.own_read_tests.Statement.{statement}
 use Rattle.lookups.proofs.own_read_tests.Tie as tie
 
@@ -20,4 +20,4 @@ own_read_tests_spec =
     (λ c. search rules)
     (λ c. search rules)
     (λ c. (search deciding, (tt, tt)))
-    (λ c. (search deciding, (search deciding, search cell-handed-on))))
+    (λ c. (search deciding, (search deciding, search cell_handed_on))))

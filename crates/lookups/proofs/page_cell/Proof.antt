@@ -2,13 +2,13 @@
 use borrow.Author.Rules.{rules}
 use Rattle.model.specs.Calls.{reply_in, act_in, entries_after}
 use Rattle.admission.proofs.Served.{serving, index_is}
-use Rattle.lookups.proofs.Answers.{cell-inside, cell-answer}
+use Rattle.lookups.proofs.Answers.{cell-inside, cell_answer}
 use Rattle.lookups.proofs.page_cell.Statement.{statement}
 use Rattle.lookups.proofs.page_cell.Tie as tie
 
 returns-3 : tie.Need-returns-3
 unfolding reply_in act_in entries_after
-returns-3 c = search (serving, cell-answer)
+returns-3 c = search (serving, cell_answer)
 
 pub page_cell_spec : {M : Type 1} → statement M
 page_cell_spec =

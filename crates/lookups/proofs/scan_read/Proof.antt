@@ -2,13 +2,13 @@
 use borrow.Author.Rules.{rules}
 use Rattle.model.specs.Calls.{reply_in, act_in, entries_after}
 use Rattle.admission.proofs.Served.{serving, scan_below}
-use Rattle.lookups.proofs.Answers.{cell-inside, cell-scanned}
+use Rattle.lookups.proofs.Answers.{cell-inside, cell_scanned}
 use Rattle.lookups.proofs.scan_read.Statement.{statement}
 use Rattle.lookups.proofs.scan_read.Tie as tie
 
 returns-3 : tie.Need-returns-3
 unfolding reply_in act_in entries_after
-returns-3 c = search (serving, cell-scanned)
+returns-3 c = search (serving, cell_scanned)
 
 pub scan_read_spec : {M : Type 1} → statement M
 scan_read_spec =

@@ -2,8 +2,8 @@
 use borrow.Author.Rules.{rules}
 use Rattle.model.specs.Calls.{tests_in}
 use Rattle.admission.specs.Tested.{TestsBy, Finds, IfPassed}
-use Rattle.admission.proofs.Decided.{deciding, scan-entry}
-use Rattle.lookups.proofs.Answers.{cell-handed-on}
+use Rattle.admission.proofs.Decided.{deciding, scan_entry_lem}
+use Rattle.lookups.proofs.Answers.{cell_handed_on}
 use Rattle.lookups.proofs.scan_read_tests.Statement.{statement}
 use Rattle.lookups.proofs.scan_read_tests.Tie as tie
 
@@ -20,4 +20,4 @@ scan_read_tests_spec =
     (λ c. search rules)
     (λ c. search rules)
     (λ c. (search deciding, (tt, tt)))
-    (λ c. (search deciding, (search (scan-entry, rules), search cell-handed-on))))
+    (λ c. (search deciding, (search (scan_entry_lem, rules), search cell_handed_on))))

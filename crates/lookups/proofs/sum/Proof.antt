@@ -2,7 +2,7 @@
 use borrow.Author.Rules.{rules}
 use Rattle.model.specs.Calls.{reply_in, act_in, entries_after}
 use Rattle.admission.proofs.Served.{serving, scan_below, passed_below}
-use Rattle.lookups.proofs.Answers.{sum-scanned}
+use Rattle.lookups.proofs.Answers.{sum_scanned}
 use Rattle.lookups.proofs.sum.Statement.{statement}
 use Rattle.lookups.proofs.sum.Tie as tie
 
@@ -11,7 +11,7 @@ returns-2 c = let tests : tie.After-sum-tests = search in search (serving, tests
 
 returns-3 : tie.Need-returns-3
 unfolding reply_in act_in entries_after
-returns-3 c = let tests : tie.After-sum-tests = search in search (serving, sum-scanned, tests.sum-tests.ensures.0)
+returns-3 c = let tests : tie.After-sum-tests = search in search (serving, sum_scanned, tests.sum-tests.ensures.0)
 
 pub sum_spec : {M : Type 1} → statement M
 sum_spec =

@@ -2,7 +2,7 @@
 use borrow.Author.Rules.{rules}
 use Rattle.model.specs.Calls.{tests_in}
 use Rattle.admission.specs.Tested.{TestsBy, Finds, IfPassed}
-use Rattle.admission.proofs.Decided.{deciding, scan-entry}
+use Rattle.admission.proofs.Decided.{deciding, scan_entry_lem}
 use Rattle.lookups.proofs.sum_tests.Statement.{statement}
 use Rattle.lookups.proofs.sum_tests.Tie as tie
 
@@ -17,4 +17,4 @@ sum_tests_spec =
     (λ c. (search deciding, (tt, tt)))
     (λ c κs. search rules)
     (λ c. (search deciding, (tt, tt)))
-    (λ c. (search deciding, (search (scan-entry, rules), search deciding))))
+    (λ c. (search deciding, (search (scan_entry_lem, rules), search deciding))))

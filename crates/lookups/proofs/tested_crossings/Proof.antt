@@ -2,8 +2,8 @@
 use borrow.Author.Rules.{rules}
 use mir.Syntax.{w32}
 use mir.ValLaws.{to_z-of_z}
-use Rattle.lookups.proofs.Answers.{cell-handed-on}
-use Rattle.lookups.proofs.Listing.{span-fails, listing}
+use Rattle.lookups.proofs.Answers.{cell_handed_on}
+use Rattle.lookups.proofs.Listing.{span_fails, listing}
 use Rattle.lookups.proofs.tested_crossings.Statement.{statement}
 use Rattle.lookups.proofs.tested_crossings.Tie as tie
 
@@ -14,7 +14,7 @@ tested_crossings_spec =
     (λ c κs. search)
     (λ c. search rules)
     (λ c. search rules)
-    (λ c κs. (search, search cell-handed-on))
-    (λ c. search span-fails)
+    (λ c κs. (search, search cell_handed_on))
+    (λ c. search span_fails)
     (λ c. search rules)
     (λ c. let start : tie.Start = search in search (listing, to_z-of_z w32 _ start.fits.mark)))

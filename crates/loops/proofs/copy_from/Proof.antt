@@ -2,7 +2,7 @@
 use Rattle.std.proofs.Common.{◌≡◌, ◌+◌, ◌-◌, ◌≤◌, length, get_or, ◌∙◌, zero-add, arith}
 use Rattle.words.specs.Words.{words}
 use Rattle.loops.specs.Change.{copied}
-use Rattle.loops.proofs.Change.{changed-none, changed-next, changed-all}
+use Rattle.loops.proofs.Change.{changed_none, changed_next, changed_all}
 use Rattle.loops.proofs.copy_from.Statement.{statement}
 use Rattle.loops.proofs.copy_from.Tie as tie
 
@@ -20,7 +20,7 @@ loop-again c =
     let start : tie.Start invariant-loop decreases-loop = search in (
       omega arith,
       omega arith,
-      changed-next (λ j x. get_or (words start.args.from.now) (0 + j) 0) 0 (words start.args.to.now) _ _ _ _ head.loop.inv.2 (get.get.ensures ∙ rw zero-add) (put.put.ensures ∙ rw zero-add),
+      changed_next (λ j x. get_or (words start.args.from.now) (0 + j) 0) 0 (words start.args.to.now) _ _ _ _ head.loop.inv.2 (get.get.ensures ∙ rw zero-add) (put.put.ensures ∙ rw zero-add),
     )
 
 pub copy_from_spec : {M : Type 1} → statement M
@@ -29,11 +29,11 @@ copy_from_spec =
     (tie.spec
     invariant-loop
     decreases-loop
-    (λ c. (omega arith, omega arith, changed-none _ _ _))
+    (λ c. (omega arith, omega arith, changed_none _ _ _))
     (λ c κs. omega arith)
     (λ c κs. omega arith)
     (λ c. omega arith)
     (λ c. omega arith)
     loop-again
     (λ c. omega arith)
-    (λ c. search changed-all))
+    (λ c. search changed_all))

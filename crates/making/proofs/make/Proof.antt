@@ -8,7 +8,7 @@ use Rattle.layout.specs.Regions.{need}
 use Rattle.layout.specs.Sizes.{shape_of, Proper, too_many_words}
 use Rattle.layout.specs.View.{Suffices}
 use Rattle.layout.proofs.Lay.{lent}
-use Rattle.making.proofs.Answers.{out-of-limits, within, small, proper-sizes, no_room, few-entries, part_long, part_room, laid}
+use Rattle.making.proofs.Answers.{out_of_limits, within, small, proper_sizes, no_room, few_entries, part_long, part_room, laid}
 use Rattle.making.proofs.make.Statement.{statement}
 use Rattle.making.proofs.make.Tie as tie
 
@@ -18,7 +18,7 @@ few c = search small
 lay-out-requires : tie.Need-lay-out-requires
 lay-out-requires c κs =
     let z : tie.After-sizes-of = search in
-    let k : Proper z.sizes-of.result = search proper-sizes in
+    let k : Proper z.sizes-of.result = search proper_sizes in
     ((search part_room, few z), (z.sizes-of.ensures, omega (arith, k.pages_are), omega (arith, k.pages_to), rw z.sizes-of.ensures at k.columns_to))
 
 returns-4 : tie.Need-returns-4
@@ -38,12 +38,12 @@ make_spec =
     tie.close
     (tie.spec
     (λ c κs. search rules)
-    (λ c. search out-of-limits)
+    (λ c. search out_of_limits)
     (λ c κs. search within)
     (λ c κs. omega (arith, few c))
     (λ c. let z : tie.After-sizes-of = search in omega (arith, few z, c.words-needed.ensures))
     (λ c. search no_room)
-    (λ c. search few-entries)
+    (λ c. search few_entries)
     (λ c. search rules)
     (λ c. search part_long)
     lay-out-requires

@@ -7,9 +7,9 @@ use Rattle.layout.specs.Regions.{need}
 use Rattle.layout.specs.View.{view_of}
 use Rattle.model.specs.Writing.{newest_of}
 use Rattle.model.specs.Preconditions.{shape_in}
-use Rattle.layout.proofs.Indices.{tail-in, sizes_need}
+use Rattle.layout.proofs.Indices.{tail_in, sizes_need}
 use Rattle.merging.specs.Steps.{applied_all}
-use Rattle.merging.proofs.Pass.{applied-none, applied-next, newest_none, newest-next, pass_end}
+use Rattle.merging.proofs.Pass.{applied_none, applied_next, newest_none, newest_next, pass_end}
 use Rattle.merging.proofs.apply.Statement.{statement}
 use Rattle.merging.proofs.apply.Tie as tie
 
@@ -23,7 +23,7 @@ decreases-loop mem₀ s g c page n low first newest i₀ mem latest i = n - i
 
 -- the records of the range lie among the slots
 inside : (c : tie.Start invariant-loop decreases-loop) → let a = c.args in (a.g * a.s.capacity + a.s.capacity ≤ a.s.slots) × (a.s.slots ≤ need a.s)
-inside c = let a = c.args in (tail-in a.s c.requires.1.0 a.g c.requires.1.1.0, omega (arith, sizes_need a.s))
+inside c = let a = c.args in (tail_in a.s c.requires.1.0 a.g c.requires.1.1.0, omega (arith, sizes_need a.s))
 
 apply-one-requires : tie.Need-apply-one-requires invariant-loop decreases-loop
 apply-one-requires c κs =
@@ -36,7 +36,7 @@ loop-again c =
     let head : tie.At-loop invariant-loop decreases-loop = search in
     let done = applied.apply-one.ensures in
     let inv = head.loop.inv in
-    (omega arith, omega arith, newest-next _ _ _ _ _ _ _ _ _ _ _ inv.3 inv.2 done.0, applied-next _ _ _ _ _ _ _ _ _ inv.3 done.1)
+    (omega arith, omega arith, newest_next _ _ _ _ _ _ _ _ _ _ _ inv.3 inv.2 done.0, applied_next _ _ _ _ _ _ _ _ _ inv.3 done.1)
 
 pub apply_spec : {M : Type 1} → statement M
 apply_spec =
@@ -47,7 +47,7 @@ apply_spec =
     (λ c. omega arith)
     (λ c. omega (arith, inside search))
     (λ c. omega (arith, inside search))
-    (λ c. (omega arith, omega arith, newest_none _ _ _ _ _ _, applied-none _ _ _ _ _ _))
+    (λ c. (omega arith, omega arith, newest_none _ _ _ _ _ _, applied_none _ _ _ _ _ _))
     (λ c. omega (arith, inside search))
     apply-one-requires
     (λ c. omega arith)

@@ -5,8 +5,8 @@ use Prim.Native.Nat.{ℕ, ◌+◌, ◌*◌, ◌%◌, ◌<◌}
 use mir.Syntax.{w32, w64}
 use mir.Val.{Fits}
 use Rattle.terms.specs.Measures.{range_rows}
-use Rattle.rows.proofs.Indices.{pages-few, values-few, value_in}
-use Rattle.merging.proofs.Pass.{one-applied, one-skipped}
+use Rattle.rows.proofs.Indices.{pages_few, values_few, value_in}
+use Rattle.merging.proofs.Pass.{one_applied, one_skipped}
 use Rattle.merging.proofs.apply_one.Statement.{statement}
 use Rattle.merging.proofs.apply_one.Tie as tie
 
@@ -19,8 +19,8 @@ inside : (c : tie.Start)
 inside c =
     let p = c.requires.1.0 in
     let i = value_in _ p _ _ c.requires.1.1.0 c.requires.1.1.1 in
-    let values = values-few _ p in
-    let pages = pages-few _ p in
+    let values = values_few _ p in
+    let pages = pages_few _ p in
     (omega (arith, p.columns_to), omega arith, omega arith, i, omega arith, λ r. (omega arith, omega arith))
 
 returns : tie.Need-returns
@@ -30,7 +30,7 @@ returns c =
     let row : tie.After-read2 = search in
     let stamp : tie.After-read = search in
     let taken : tie.Then1 = search in
-    one-applied _ _ _ _ _ _ _ taken.before.is-applied.ensures _ _ _ _ _ taken.if1.taken stamp.read.ensures row.read2.ensures value.read3.ensures c.later-stamp.ensures wrote.write.ensures
+    one_applied _ _ _ _ _ _ _ taken.before.is-applied.ensures _ _ _ _ _ taken.if1.taken stamp.read.ensures row.read2.ensures value.read3.ensures c.later-stamp.ensures wrote.write.ensures
 
 pub apply_one_spec : {M : Type 1} → statement M
 apply_one_spec =
@@ -51,4 +51,4 @@ apply_one_spec =
     (λ c. search rules)
     returns
     (λ c. search rules)
-    (λ c. one-skipped _ _ _ _ _ _ _ c.before.is-applied.ensures c.if1.false))
+    (λ c. one_skipped _ _ _ _ _ _ _ c.before.is-applied.ensures c.if1.false))

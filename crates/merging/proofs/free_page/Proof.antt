@@ -1,6 +1,6 @@
 -- `merging::free_page` meets its contract.
 use borrow.Author.Rules.{rules}
-use Rattle.merging.proofs.Pass.{free-here, free-stray}
+use Rattle.merging.proofs.Pass.{free_here, free_stray}
 use Rattle.merging.proofs.free_page.Statement.{statement}
 use Rattle.merging.proofs.free_page.Tie as tie
 
@@ -12,5 +12,5 @@ free_page_spec =
     (λ c. search rules)
     (λ c. search rules)
     (λ c κs. search rules)
-    (λ c. search free-stray)
-    (λ c. search free-here))
+    (λ c. search free_stray)
+    (λ c. search free_here))

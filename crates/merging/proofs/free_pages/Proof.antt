@@ -6,8 +6,8 @@ use lib.ListN.{length}
 use Rattle.layout.specs.View.{view_of}
 use Rattle.model.specs.Stored.{count_below}
 use Rattle.merging.specs.Steps.{freeable, freeables_freed}
-use Rattle.rows.proofs.Indices.{pages-few}
-use Rattle.merging.proofs.Freeing.{freed-none, freed-next, freed-end, count_next, count_most}
+use Rattle.rows.proofs.Indices.{pages_few}
+use Rattle.merging.proofs.Freeing.{freed_none, freed_next, freed_end, count_next, count_most}
 use Rattle.merging.proofs.free_pages.Statement.{statement}
 use Rattle.merging.proofs.free_pages.Tie as tie
 
@@ -25,7 +25,7 @@ free-one-requires c κs =
     let start : tie.Start invariant-loop decreases-loop = search in
     let a = start.args in
     let few = count_most a.least (view_of a.s a.mem.now) head.loop.p in
-    (omega arith, (omega arith, omega (arith, head.loop.inv.2, few, pages-few _ start.pre.1)))
+    (omega arith, (omega arith, omega (arith, head.loop.inv.2, few, pages_few _ start.pre.1)))
 
 loop-again : tie.Need-loop-preserved invariant-loop decreases-loop
 loop-again c =
@@ -33,7 +33,7 @@ loop-again c =
     let head : tie.At-loop invariant-loop decreases-loop = search in
     let done = freed.free_one.ensures in
     let inv = head.loop.inv in
-    (omega arith, omega arith, count_next _ _ _ _ _ _ inv.3 inv.2 done.0, freed-next _ _ _ _ _ inv.3 done.1)
+    (omega arith, omega arith, count_next _ _ _ _ _ _ inv.3 inv.2 done.0, freed_next _ _ _ _ _ inv.3 done.1)
 
 pub free_pages_spec : {M : Type 1} → statement M
 free_pages_spec =
@@ -41,10 +41,10 @@ free_pages_spec =
     (tie.spec
     invariant-loop
     decreases-loop
-    (λ c. (omega arith, omega arith, refl, freed-none _ _))
+    (λ c. (omega arith, omega arith, refl, freed_none _ _))
     free-one-requires
     (λ c. omega arith)
     (λ c. omega arith)
     loop-again
     (λ c. omega arith)
-    (λ c. freed-end _ _ c.before.before.before.args.s.pages _ _ _ c.before.loop.invariant.3 c.before.loop.invariant.2 (omega arith) (omega arith)))
+    (λ c. freed_end _ _ c.before.before.before.args.s.pages _ _ _ c.before.loop.invariant.3 c.before.loop.invariant.2 (omega arith) (omega arith)))

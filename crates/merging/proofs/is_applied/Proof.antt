@@ -1,6 +1,6 @@
 -- `merging::is_applied` meets its contract.
 use borrow.Author.Rules.{rules}
-use Rattle.merging.proofs.Pass.{applies-not, applies-other, applies-committed}
+use Rattle.merging.proofs.Pass.{applies_not, applies_other, applies_committed}
 use Rattle.merging.proofs.is_applied.Statement.{statement}
 use Rattle.merging.proofs.is_applied.Tie as tie
 
@@ -12,6 +12,6 @@ is_applied_spec =
     (λ c κs. search rules)
     (λ c κs. search rules)
     (λ c κs. search rules)
-    (λ c. search applies-committed)
-    (λ c. search applies-other)
-    (λ c. search applies-not))
+    (λ c. search applies_committed)
+    (λ c. search applies_other)
+    (λ c. search applies_not))

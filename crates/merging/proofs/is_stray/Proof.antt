@@ -1,6 +1,6 @@
 -- `merging::is_stray` meets its contract.
 use borrow.Author.Rules.{rules}
-use Rattle.merging.proofs.Pass.{stray-not, stray-high, stray-other}
+use Rattle.merging.proofs.Pass.{stray_not, stray_high, stray_other}
 use Rattle.merging.proofs.is_stray.Statement.{statement}
 use Rattle.merging.proofs.is_stray.Tie as tie
 
@@ -9,10 +9,10 @@ is_stray_spec =
     tie.close
     (tie.spec
     (λ c κs. search rules)
-    (λ c. search stray-not)
+    (λ c. search stray_not)
     (λ c κs. search rules)
     (λ c. search rules)
-    (λ c. search stray-high)
+    (λ c. search stray_high)
     (λ c κs. search rules)
     (λ c. search rules)
     (λ c.
@@ -21,4 +21,4 @@ is_stray_spec =
     let current : tie.Else1 = search in
     let state : tie.After-read = search in
     let start : tie.Start = search in
-    stray-other _ _ start.pre.1.0 _ _ state.read.ensures current.if1.left _ chunk.read2.ensures _ inside.if2.left c.read3.ensures))
+    stray_other _ _ start.pre.1.0 _ _ state.read.ensures current.if1.left _ chunk.read2.ensures _ inside.if2.left c.read3.ensures))

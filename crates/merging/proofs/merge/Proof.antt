@@ -7,8 +7,8 @@ use mir.Val.{Fits}
 use mathlib.Core.Path.{◌≡◌, ap, ◌∙◌}
 use Rattle.terms.specs.Measures.{range_rows}
 use Rattle.model.specs.Stored.{next_word}
-use Rattle.layout.proofs.Indices.{chunks-few}
-use Rattle.rows.proofs.Indices.{pages-few, chunk_in}
+use Rattle.layout.proofs.Indices.{chunks_few}
+use Rattle.rows.proofs.Indices.{pages_few, chunk_in}
 use Rattle.merging.proofs.Pass.{merged_is, not_free, reaches, apart}
 use Rattle.merging.proofs.merge.Statement.{statement}
 use Rattle.merging.proofs.merge.Tie as tie
@@ -22,8 +22,8 @@ inside c =
     let p = c.requires.1.0.0 in
     let m = c.requires.1.1 in
     let i = chunk_in _ p _ _ m.range_below m.column_below in
-    let chunks = chunks-few _ p in
-    let pages = pages-few _ p in
+    let chunks = chunks_few _ p in
+    let pages = pages_few _ p in
     let page = m.page_below in
     (i, omega arith, omega arith, omega arith, omega arith, omega arith)
 

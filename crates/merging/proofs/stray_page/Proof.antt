@@ -8,7 +8,7 @@ use Rattle.layout.specs.View.{view_of}
 use Rattle.model.specs.Preconditions.{shape_in}
 use Rattle.model.specs.Stored.{first_from}
 use Rattle.model.specs.Writing.{stray_in}
-use Rattle.merging.proofs.Pass.{stray-here, stray-later, stray_none}
+use Rattle.merging.proofs.Pass.{stray_here, stray_later, stray_none}
 use Rattle.merging.proofs.stray_page.Statement.{statement}
 use Rattle.merging.proofs.stray_page.Tie as tie
 
@@ -27,8 +27,8 @@ stray_page_spec =
     decreases-loop
     (λ c. (omega arith, simp sub-zero))
     (λ c κs. search rules)
-    (λ c. search stray-here)
+    (λ c. search stray_here)
     (λ c. omega arith)
     (λ c. omega arith)
-    (λ c. (omega arith, search stray-later))
+    (λ c. (omega arith, search stray_later))
     (λ c. search stray_none))

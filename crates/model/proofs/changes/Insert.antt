@@ -20,7 +20,7 @@ use Rattle.terms.specs.Measures.{Shape, range_rows}
 use Rattle.terms.specs.declared.Form.{Form}
 use Rattle.history.specs.History.{insert, History, Row, Record, State, active, state_of, keeper_of, row_at, bit, sets, range_of, records_of, merged_through, scan_at, seen_at, with_rows, commit_of}
 use Rattle.history.specs.Lists.{All, nil, cons}
-use Rattle.history.proofs.Lists.{at-append, by_cases, all_append, all_map, all-at, any_none}
+use Rattle.history.proofs.Lists.{at_append, by_cases, all_append, all_map, all_at, any_none}
 use Rattle.history.specs.Steps.{Step}
 use Rattle.history.specs.Records.{was_set, no_record, last_of}
 use Rattle.history.proofs.States.{active_unseen}
@@ -39,11 +39,11 @@ use Rattle.model.specs.Reading.{scan_page, was_current}
 use Rattle.model.specs.Writing.{noted, put_cells, inserted_at, inserted_in}
 use Rattle.model.proofs.Lists.{same_part}
 use Rattle.model.specs.Represents.{state_word, RowIs, RowsAre, Holds, every_row, CurrentIs, CurrentOf, CurrentsAre, ScanPageOf, ScanPagesAre, NotesAre, KeepersFor, HeaderFor, Represents, WellFormed, Whole}
-use Rattle.model.proofs.Holding.{same_row, with_row, row_new, rows_more, not_given_lem, other_row, holds-step, holds_cells, holds_insert}
-use Rattle.model.proofs.Steady.{scan_cells, scan_page_step, waits-stay}
-use Rattle.model.proofs.Views.{renew_whole, put_whole, noted_whole, header-put, header-same}
-use Rattle.model.proofs.changes.Keepers.{keepers-row, later_put, own_keeper}
-use Rattle.model.proofs.changes.Notes.{notes-more, few_changes}
+use Rattle.model.proofs.Holding.{same_row, with_row, row_new, rows_more, not_given_lem, other_row, holds_step, holds_cells, holds_insert}
+use Rattle.model.proofs.Steady.{scan_cells, scan_page_step, waits_stay}
+use Rattle.model.proofs.Views.{renew_whole, put_whole, noted_whole, header_put, header_same}
+use Rattle.model.proofs.changes.Keepers.{keepers_row, later_put, own_keeper}
+use Rattle.model.proofs.changes.Notes.{notes_more, few_changes}
 use Rattle.model.proofs.Opens.{active_given}
 
 -- ---- a new row has no record and no bit
@@ -54,7 +54,7 @@ bit_none c = ne_eqb (0 / 2 ^ c % 2) 1 (λ e. omega (arith, shr_le 0 c))
 pub no_link : (l : List Record) (r n : ℕ) → n ≤ length l → All (λ (x : Record). x.row ≢ r) l → last_of l r n ≡ 0
 unfolding last_of
 no_link l r zero b a = refl
-no_link l r (suc n) b a = rw (ne_eqb (get_or l n no_record).row r (all-at a n no_record b)) (no_link l r n (omega arith) a)
+no_link l r (suc n) b a = rw (ne_eqb (get_or l n no_record).row r (all_at a n no_record b)) (no_link l r n (omega arith) a)
 
 pub never_set : (l : List Record) (r c : ℕ) → All (λ (x : Record). x.row ≢ r) l → was_set l r c ≡ false
 unfolding was_set
@@ -65,20 +65,20 @@ module _ (S : Shape) (current : List ℕ) (g i : ℕ) (vs : List ℤ) (cells : L
   abbrev page : ℕ → ℕ
   page c = get_or current (chunk_of S g c) 0
 
-  pub cells-length : (n : ℕ) → length (put_cells S current g i vs n cells) ≡ length cells
-  cells-length zero = refl
-  cells-length (suc n) = length-set (put_cells S current g i vs n cells) _ _ ∙ cells-length n
+  pub cells_length : (n : ℕ) → length (put_cells S current g i vs n cells) ≡ length cells
+  cells_length zero = refl
+  cells_length (suc n) = length-set (put_cells S current g i vs n cells) _ _ ∙ cells_length n
 
-  pub cells-other : (n j : ℕ) → ((c : ℕ) → c < n → j ≢ page c * range_rows + i) → get_or (put_cells S current g i vs n cells) j 0 ≡ get_or cells j 0
-  cells-other zero j f = refl
-  cells-other (suc n) j f =
-      get_or-set_other (put_cells S current g i vs n cells) _ j _ 0 (f n (le_refl _)) ∙ cells-other n j (λ c b. f c (omega arith))
+  pub cells_other : (n j : ℕ) → ((c : ℕ) → c < n → j ≢ page c * range_rows + i) → get_or (put_cells S current g i vs n cells) j 0 ≡ get_or cells j 0
+  cells_other zero j f = refl
+  cells_other (suc n) j f =
+      get_or-set_other (put_cells S current g i vs n cells) _ j _ 0 (f n (le_refl _)) ∙ cells_other n j (λ c b. f c (omega arith))
 
   pub cells_same : (n c : ℕ) → c < n → ((a b : ℕ) → a < n → b < n → page a ≡ page b → a ≡ b) → page c * range_rows + i < length cells
       → get_or (put_cells S current g i vs n cells) (page c * range_rows + i) 0 ≡ of_z w32 (get_or vs c (pos 0))
   cells_same zero c b d e = absurd (not-suc-le-zero b)
   cells_same (suc n) c b d e = by_cases (ℕ_discrete c n)
-      (λ q. rw q (get_or-set_same (put_cells S current g i vs n cells) (page n * range_rows + i) _ 0 (omega (arith, cells-length n, ap page q))))
+      (λ q. rw q (get_or-set_same (put_cells S current g i vs n cells) (page n * range_rows + i) _ 0 (omega (arith, cells_length n, ap page q))))
       (λ q. get_or-set_other (put_cells S current g i vs n cells) (page n * range_rows + i) (page c * range_rows + i) _ 0 (λ z. q (d c n b (le_refl _) (omega arith)))
       ∙ cells_same n c (omega arith) (λ x y p q. d x y (omega arith) (omega arith)) e)
 
@@ -119,9 +119,9 @@ module _ {F : Form} {S : Shape} {v : View} {ps : List ScanEntry} {h : History} (
   unfolding range_of
   inside = omega arith
 
-  insert-rows : RowsAre h' v'
+  insert_rows : RowsAre h' v'
   unfolding inserted_at noted open_index put renew row_in row_at state_of records_of with_rows
-  insert-rows = at-append (λ i w. RowIs (state_of h) w (records_of h (range_of i)) i (row_in v' i)) h.rows row _
+  insert_rows = at_append (λ i w. RowIs (state_of h) w (records_of h (range_of i)) i (row_in v' i)) h.rows row _
       (λ i u. let f : i ≢ r = λ e. omega arith in simp get_or-set_other (o.rows i u))
       record {
         transaction = get_or-set_same (v RowTransaction) r t 0 (omega (arith, o.whole.long RowTransaction));
@@ -136,30 +136,30 @@ module _ {F : Form} {S : Shape} {v : View} {ps : List ScanEntry} {h : History} (
       fresh = rw take-length at (not_given_lem h (range_of r) (length (records_of h (range_of r))) r k.invariants.order (le_refl _))
 
   -- what the cells of a page are now: for a page that is of no column of the row's range, and for cells other than the row's
-  pub cell-kept : (p i : ℕ) → i < range_rows → ((c : ℕ) → c < S.columns → p ≡ current_in S v (range_of r) c → i ≢ within r) → get_or cells' (p * range_rows + i) 0 ≡ cell_in v p i
+  pub cell_kept : (p i : ℕ) → i < range_rows → ((c : ℕ) → c < S.columns → p ≡ current_in S v (range_of r) c → i ≢ within r) → get_or cells' (p * range_rows + i) 0 ≡ cell_in v p i
   unfolding current_in cell_in
-  cell-kept p i b f =
-      cells-other S (v Current) (range_of r) (within r) vs (v Cells) S.columns (p * range_rows + i)
+  cell_kept p i b f =
+      cells_other S (v Current) (range_of r) (within r) vs (v Cells) S.columns (p * range_rows + i)
       (λ c d e. f c d (omega arith) (omega arith))
 
   -- the new cell
-  cell-written : (c : ℕ) → c < S.columns → to_z w32 (get_or cells' (current_in S v (range_of r) c * range_rows + within r) 0) ≡ get_or vs c (pos 0)
+  cell_written : (c : ℕ) → c < S.columns → to_z w32 (get_or cells' (current_in S v (range_of r) c * range_rows + within r) 0) ≡ get_or vs c (pos 0)
   unfolding current_in
-  cell-written c b =
+  cell_written c b =
       ap (to_z w32)
       (cells_same S (v Current) (range_of r) (within r) vs (v Cells) S.columns c b
       (λ x y p q e. (current_apart S v h o.currents (range_of r) x (range_of r) y inside p inside q e).1)
       (omega (arith, (o.currents (range_of r) c inside b).inside, o.whole.long Cells)))
       ∙ to_z-of_z w32 (get_or vs c (pos 0)) (value_fits vs typed c)
 
-  insert-currents : Step S h (insert t vs) h' → CurrentsAre S h' v'
+  insert_currents : Step S h (insert t vs) h' → CurrentsAre S h' v'
   unfolding inserted_at noted open_index put renew page_in cell_in current_in merged_through
-  insert-currents step g c b d = by_cases (ℕ_discrete (range_of r) g)
+  insert_currents step g c b d = by_cases (ℕ_discrete (range_of r) g)
       (λ e. packed (holds_insert row g c (page_in v p) k.invariants.order step e
-      (subst (λ (z : ℕ). to_z w32 (get_or cells' (current_in S v z c * range_rows + within r) 0) ≡ get_or vs c (pos 0)) e (cell-written c d)) (λ i u f. cell-kept p i u (λ c' w z. f)) x.holds))
+      (subst (λ (z : ℕ). to_z w32 (get_or cells' (current_in S v z c * range_rows + within r) 0) ≡ get_or vs c (pos 0)) e (cell_written c d)) (λ i u f. cell_kept p i u (λ c' w z. f)) x.holds))
       (λ f. packed
-      (holds_cells (λ i e q. cell-kept p (within i) (omega arith) (λ c' w z. absurd (f (sym (current_apart S v h o.currents g c (range_of r) c' b d inside w z).0))))
-      (holds-step k.invariants.order step g c (page_in v p) (λ i e q. (tt, other_row h row i (λ z. f (ap range_of (sym z) ∙ e)))) x.holds)))
+      (holds_cells (λ i e q. cell_kept p (within i) (omega arith) (λ c' w z. absurd (f (sym (current_apart S v h o.currents g c (range_of r) c' b d inside w z).0))))
+      (holds_step k.invariants.order step g c (page_in v p) (λ i e q. (tt, other_row h row i (λ z. f (ap range_of (sym z) ∙ e)))) x.holds)))
     where
       p : ℕ
       p = current_in S v g c
@@ -175,55 +175,55 @@ module _ {F : Form} {S : Shape} {v : View} {ps : List ScanEntry} {h : History} (
           record { inside = x.inside; state = x.state; chunk = x.chunk; made = unfold with_rows in x.made; lineage = unfold with_rows in x.lineage; holds = q }
 
   -- a page of this chunk that is a current page of the new row's range has another cell in it for each row given before
-  pub scan-apart : (g c p : ℕ) → c < S.columns → (page_in v p).chunk ≡ chunk_of S g c → (j : ℕ) → range_of j ≡ g → j ≢ r → (c' : ℕ) → c' < S.columns → p ≡ current_in S v (range_of r) c'
+  pub scan_apart : (g c p : ℕ) → c < S.columns → (page_in v p).chunk ≡ chunk_of S g c → (j : ℕ) → range_of j ≡ g → j ≢ r → (c' : ℕ) → c' < S.columns → p ≡ current_in S v (range_of r) c'
       → within j ≢ within r
-  scan-apart g c p d pl j e f c' w z u =
+  scan_apart g c p d pl j e f c' w z u =
       f (same_row j r (e ∙ (same_part S.columns g (range_of r) c c' d w (sym pl ∙ ap (λ (p : ℕ). (page_in v p).chunk) z ∙ (o.currents (range_of r) c' inside w).chunk)).0) u)
 
-  insert-scans : Step S h (insert t vs) h' → ScanPagesAre S h' v'
+  insert_scans : Step S h (insert t vs) h' → ScanPagesAre S h' v'
   unfolding inserted_at noted open_index put renew page_in cell_in current_in scan_page was_current scan_at Timely with_rows
-  insert-scans step i run g c b d =
+  insert_scans step i run g c b d =
       let p : ℕ = scan_page S v (scan_at h i).merges g c in
       let x : ScanPageOf S h v (scan_at h i) g c = o.scan_pages i (unfold with_rows in run) g c b d in
-      scan_cells (λ j e q. cell-kept p (within j) (omega arith) (scan-apart g c p d x.chunk j e (seen j q))) (scan_page_step k.invariants.order step (k.invariants.timely i).commits x)
+      scan_cells (λ j e q. cell_kept p (within j) (omega arith) (scan_apart g c p d x.chunk j e (seen j q))) (scan_page_step k.invariants.order step (k.invariants.timely i).commits x)
     where
       -- a row that the scan sees is not the new one, which is open
       seen : (j : ℕ) → T (seen_at h' (scan_at h i).snapshot (row_at h' j).inserter) → j ≢ r
       seen j q e = rw (e, row_new h row, active_unseen h' (scan_at h i).snapshot t (unfold state_of with_rows in a)) at q
 
-  insert-notes : NotesAre (h.rows ++ row ∷ []) h.tail (v Opens) (set (v Changes) (firstIndex (bears t) (v Opens)) (next_word (get_or (v Changes) (firstIndex (bears t) (v Opens)) 0)))
+  insert_notes : NotesAre (h.rows ++ row ∷ []) h.tail (v Opens) (set (v Changes) (firstIndex (bears t) (v Opens)) (next_word (get_or (v Changes) (firstIndex (bears t) (v Opens)) 0)))
   unfolding state_of
-  insert-notes =
-      notes-more h.rows (h.rows ++ row ∷ []) h.tail h.tail h.transactions (v Opens) (v Changes) t (o.whole.long Opens) (o.whole.long Changes) (few_changes k)
+  insert_notes =
+      notes_more h.rows (h.rows ++ row ∷ []) h.tail h.tail h.transactions (v Opens) (v Changes) t (o.whole.long Opens) (o.whole.long Changes) (few_changes k)
       (simp length-append (omega arith)) (λ u f n. record { no_row = all_append n.no_row (cons (λ e. f (sym e)) nil); no_record = n.no_record }) o.opens a o.notes
 
   -- the keeper that the row bears
   own : (open_keeper v t ≡ keeper_of h t) × (open_keeper v t < 2 ^ 32) × (F ≡ Form.First → open_keeper v t ≡ 0)
   own = own_keeper o k t a
 
-  insert-keepers : KeepersFor S h' v'
+  insert_keepers : KeepersFor S h' v'
   unfolding inserted_at noted put renew keeper_of records_of with_rows
-  insert-keepers =
-      rw (rows_more h row) (keepers-row k.invariants o.opens o.keepers t row (open_keeper v t) refl own.0 (later_put F (λ f. len (sizes_of f S) RowKeeper) refl (v RowKeeper) r (open_keeper v t) (o.whole.long RowKeeper) room own.2) (row_at h') (row_new h row)
+  insert_keepers =
+      rw (rows_more h row) (keepers_row k.invariants o.opens o.keepers t row (open_keeper v t) refl own.0 (later_put F (λ f. len (sizes_of f S) RowKeeper) refl (v RowKeeper) r (open_keeper v t) (o.whole.long RowKeeper) room own.2) (row_at h') (row_new h row)
       (λ i b. unfold row_at with_rows in (get_or-append h.rows (row ∷ []) record { inserter = 0; values = [] } i b)))
 
-  insert-whole : Whole F S v'
+  insert_whole : Whole F S v'
   unfolding inserted_at state_of
-  insert-whole =
+  insert_whole =
       let number : t < 2 ^ 32 = omega (arith, (active_given h.transactions t a).1, k.invariants.limits.transactions) in
       noted_whole t
       (put_whole Header rows_at (r + 1) (omega (arith, k.small.ranges))
-      (renew_whole Cells cells' (cells-length S (v Current) (range_of r) (within r) vs (v Cells) S.columns ∙ o.whole.long Cells)
+      (renew_whole Cells cells' (cells_length S (v Current) (range_of r) (within r) vs (v Cells) S.columns ∙ o.whole.long Cells)
       (cells_fit S (v Current) (range_of r) (within r) vs (v Cells) (λ c. (of_z_fits w32 (get_or vs c (pos 0)) (value_fits vs typed c)).fits) (o.whole.fits Cells) S.columns)
       (put_whole RowMask r 0 (omega arith) (put_whole RowLink r 0 (omega arith) (put_whole RowKeeper r _ own.1 (put_whole RowOrdinal r 0 (omega arith) (put_whole RowStamp r 0 (omega arith) (put_whole RowState r 0 (omega arith) (put_whole RowTransaction r t number o.whole)))))))))
 
-  insert-at : Step S h (insert t vs) h' → Represents F S v' ps h'
+  insert_at : Step S h (insert t vs) h' → Represents F S v' ps h'
   unfolding inserted_at noted open_index put renew with_rows record_in value_in page_in state_of records_of current_in
-  insert-at step =
+  insert_at step =
       let header : HeaderFor F S h' v' =
-      header-same (sym (simp length-append (omega arith))) refl refl refl (header-put (v Header) 4 (r + 1) (omega (arith, o.whole.long Header)) (omega arith) o.header) in
-      search (header, insert-notes, insert-keepers, insert-rows, insert-currents step, waits-stay o k step refl, insert-scans step, insert-whole)
+      header_same (sym (simp length-append (omega arith))) refl refl refl (header_put (v Header) 4 (r + 1) (omega (arith, o.whole.long Header)) (omega arith) o.header) in
+      search (header, insert_notes, insert_keepers, insert_rows, insert_currents step, waits_stay o k step refl, insert_scans step, insert_whole)
 
-  pub insert-kept : Step S h (insert t vs) h' → Represents F S (inserted_in S t vs v) ps h'
+  pub insert_kept : Step S h (insert t vs) h' → Represents F S (inserted_in S t vs v) ps h'
   unfolding inserted_in
-  insert-kept step = rw o.header.rows_given (insert-at step)
+  insert_kept step = rw o.header.rows_given (insert_at step)

@@ -16,7 +16,7 @@ use Rattle.terms.specs.declared.Form.{Form}
 use Rattle.history.specs.History.{History, Row, Record, Content, original, setting, ending, State, active, nth, is_active, unknown_keeper, state_of, keeper_of, borne_by, bearer, row_at, records_of}
 use Rattle.history.specs.Records.{no_record}
 use Rattle.history.specs.Invariants.{is_given, Invariants}
-use Rattle.history.proofs.Lists.{at-append, by_cases, eqb_same, nth_last, nth-append}
+use Rattle.history.proofs.Lists.{at_append, by_cases, eqb_same, nth_last, nth_append}
 use Rattle.history.proofs.States.{keeper_began}
 use Rattle.history.proofs.Order.{sound_at}
 use Rattle.terms.specs.Entries.{bears, firstIndex}
@@ -29,7 +29,7 @@ use Rattle.model.specs.Stored.{open_index, open_keeper}
 use Rattle.layout.specs.Codes.{keeper_limit}
 use Rattle.model.specs.Represents.{OpensAre, KeepersAre, Represents, WellFormed}
 use Rattle.model.proofs.Lists.{same_part}
-use Rattle.model.proofs.Book.{number-live}
+use Rattle.model.proofs.Book.{number_live}
 use Rattle.model.proofs.Opens.{open_kind, open_there, active_given}
 
 abbrev is_first : Form → ℕ
@@ -56,7 +56,7 @@ active_known active t = tt
 
 open_given : (h : History) (l : List ℕ) → OpensAre h.transactions l → (j : ℕ) → get_or l j 0 ≢ 0 → T (is_given (state_of h (get_or l j 0)))
 unfolding state_of
-open_given h l o j n = active_known _ (number-live open_kind h.transactions l o j n)
+open_given h l o j n = active_known _ (number_live open_kind h.transactions l o j n)
 
 borne_given : (P : ℕ → Type 0) (c : Content) (inserter own : ℕ) → P inserter → P own → P (borne_by c inserter own)
 borne_given P (original cs vs) inserter own p q = p
@@ -72,25 +72,25 @@ bearer_given h i g k u =
 module _ {S : Shape} {h : History} {rowWords tailWords opens openWords : List ℕ} (i : Invariants S h) (entries : OpensAre h.transactions opens)
     (o : KeepersAre S (keeper_of h) (row_at h) (length h.rows) (records_of h) rowWords tailWords opens openWords) where
   -- ---- begin: entry j, which was free, takes the next number and its keeper
-  pub keepers-begun : (x j : ℕ) → x < keeper_limit → j < length opens → get_or (set openWords j x) j 0 ≡ x
+  pub keepers_begun : (x j : ℕ) → x < keeper_limit → j < length opens → get_or (set openWords j x) j 0 ≡ x
       → KeepersAre S (λ t. nth (h.keepers ++ x ∷ []) t unknown_keeper) (row_at h) (length h.rows) (records_of h) rowWords tailWords (set opens j (suc (length h.transactions))) (set openWords j x)
   unfolding keeper_of
-  keepers-begun x j fits a b =
+  keepers_begun x j fits a b =
       record {
         of_rows = λ r u. o.of_rows r u ∙ sym (stays _ (i.order.inserters r u));
         of_records = λ g k u w. o.of_records g k u w ∙ sym (stays _ (bearer_given h i g k w));
         of_opens = λ k. by_cases (ℕ_discrete k j)
             (λ e. rw (e, get_or-set_same opens j (suc (length h.transactions)) 0 a, b) (λ _. rw (← i.limits.keepers) (sym (nth_last unknown_keeper h.keepers x))))
             (λ f. rw (get_or-set_other opens j k (suc (length h.transactions)) 0 f, get_or-set_other openWords j k x 0 f) (λ n. o.of_opens k n ∙ sym (stays _ (open_given h opens entries k n))));
-        small = nth-append unknown_keeper (λ (k : ℕ). k < keeper_limit) h.keepers x fits o.small;
+        small = nth_append unknown_keeper (λ (k : ℕ). k < keeper_limit) h.keepers x fits o.small;
       }
     where
       stays : (t : ℕ) → T (is_given (state_of h t)) → nth (h.keepers ++ x ∷ []) t unknown_keeper ≡ keeper_of h t
       stays t u = keeper_began h x i.limits.keepers t u
 
   -- ---- commit and abort: entry j is free again
-  pub keepers-freed : (j : ℕ) → j < length opens → KeepersAre S (keeper_of h) (row_at h) (length h.rows) (records_of h) rowWords tailWords (set opens j 0) (set openWords j 0)
-  keepers-freed j a =
+  pub keepers_freed : (j : ℕ) → j < length opens → KeepersAre S (keeper_of h) (row_at h) (length h.rows) (records_of h) rowWords tailWords (set opens j 0) (set openWords j 0)
+  keepers_freed j a =
       record {
         of_rows = o.of_rows;
         of_records = o.of_records;
@@ -101,17 +101,17 @@ module _ {S : Shape} {h : History} {rowWords tailWords opens openWords : List �
       }
 
   -- ---- what an open transaction's entry says
-  pub keeper-own : (t : ℕ) → state_of h t ≡ active → get_or openWords (firstIndex (bears t) opens) 0 ≡ keeper_of h t
+  pub keeper_own : (t : ℕ) → state_of h t ≡ active → get_or openWords (firstIndex (bears t) opens) 0 ≡ keeper_of h t
   unfolding state_of
-  keeper-own t a =
+  keeper_own t a =
       let e : get_or opens (firstIndex (bears t) opens) 0 ≡ t = (open_there h.transactions opens entries t a).1 in
       o.of_opens (firstIndex (bears t) opens) (λ z. omega (arith, e, z, (active_given h.transactions t a).0)) ∙ ap (keeper_of h) e
 
   -- ---- insert: a row more, by t
-  pub keepers-row : (t : ℕ) (w : Row) (keeper : ℕ) → w.inserter ≡ t → keeper ≡ keeper_of h t → get_or (set rowWords (length h.rows) keeper) (length h.rows) 0 ≡ keeper → (row : ℕ → Row) → row (length h.rows) ≡ w
+  pub keepers_row : (t : ℕ) (w : Row) (keeper : ℕ) → w.inserter ≡ t → keeper ≡ keeper_of h t → get_or (set rowWords (length h.rows) keeper) (length h.rows) 0 ≡ keeper → (row : ℕ → Row) → row (length h.rows) ≡ w
       → ((r : ℕ) → r < length h.rows → row r ≡ row_at h r)
       → KeepersAre S (keeper_of h) row (suc (length h.rows)) (records_of h) (set rowWords (length h.rows) keeper) tailWords opens openWords
-  keepers-row t w keeper e k b row new old =
+  keepers_row t w keeper e k b row new old =
       record {
         of_rows = λ r u. by_cases (ℕ_discrete r (length h.rows))
             (λ z. rw (z, b, new, e) k)
@@ -137,7 +137,7 @@ module _ (S : Shape) (keeper : ℕ → ℕ) (row : ℕ → Row) (list list' : �
   pub words_more : WordsBear S keeper row list words → WordsBear S keeper row list' (set words (g * S.capacity + length (list g)) x)
   words_more o a k b = by_cases (ℕ_discrete g a)
       (λ e. rw (← e, grows g, eqb_same g)
-      (at-append (λ k z. get_or (set words end x) (g * S.capacity + k) 0 ≡ keeper (bearer row z)) (list g) y no_record
+      (at_append (λ k z. get_or (set words end x) (g * S.capacity + k) 0 ≡ keeper (bearer row z)) (list g) y no_record
       (λ k u. rw (get_or-set_other words end (g * S.capacity + k) x 0 (λ z. omega arith)) (o g k (rw e b) u)) (rw taken own) k))
       (λ n. rw (grows a, ne_eqb g a n)
       (λ u. rw (get_or-set_other words end (a * S.capacity + k) x 0 (λ z. n (sym (same_part S.capacity a g k (length (list g)) (le_trans u (few a)) room z).0))) (o a k b u)))
@@ -147,5 +147,5 @@ pub own_keeper : {F : Form} {S : Shape} {v : View} {ps : List ScanEntry} {h : Hi
     → (open_keeper v t ≡ keeper_of h t) × (open_keeper v t < 2 ^ 32) × (F ≡ Form.First → open_keeper v t ≡ 0)
 unfolding open_keeper open_index
 own_keeper {F} {S} {v = v} {h = h} o k t a =
-    let e = keeper-own k.invariants o.opens o.keepers t a in
+    let e = keeper_own k.invariants o.opens o.keepers t a in
     (e, omega (arith, e, o.keepers.small t), λ f. later_none F (λ x. len (sizes_of x S) OpenKeeper) refl (v OpenKeeper) (o.whole.long OpenKeeper) f _)

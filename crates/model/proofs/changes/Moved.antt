@@ -20,7 +20,7 @@ use Rattle.history.specs.History.{History, Record, any, filterb, up_to, is_activ
 use Rattle.history.specs.Records.{no_record}
 use Rattle.history.specs.Forms.{is_form, other_form}
 use Rattle.history.proofs.Accepted.{Passed}
-use Rattle.history.proofs.Lists.{by_cases, by_test, neither, both, parts, eqb_equal, all-at, any_append, any_at}
+use Rattle.history.proofs.Lists.{by_cases, by_test, neither, both, parts, eqb_equal, all_at, any_append, any_at}
 use Rattle.history.proofs.Steps.{active_is}
 use Rattle.loops.proofs.Change.{zeros}
 use Rattle.layout.specs.declared.Region.TheVariants.{Header, Opens, RowKeeper, TailKeeper, OpenKeeper}
@@ -28,13 +28,13 @@ use Rattle.layout.specs.Regions.{len, ranges_at, capacity_at, spares_at, rows_at
 use Rattle.layout.specs.Sizes.{sizes_of}
 use Rattle.layout.specs.View.{View, put, renew, rows_given, used_in}
 use Rattle.layout.specs.Moved.{later_zero, moved}
-use Rattle.layout.proofs.Moved.{columns_fit, moved_columns, moved_header, moved-long, moved_fits}
+use Rattle.layout.proofs.Moved.{columns_fit, moved_columns, moved_header, moved_long, moved_fits}
 use Rattle.model.specs.Stored.{any_below, row_in, record_in, value_in, page_in, cell_in, current_in, row_keeper, record_keeper}
 use Rattle.model.specs.Reading.{scan_page, was_current}
 use Rattle.model.specs.Calls.{bears_keeper, keeper_borne_in}
 use Rattle.model.specs.Represents.{HeaderFor, Represents, WellFormed, Whole}
-use Rattle.model.proofs.Lists.{same_truth, any_below, below_found, below_at, below_same, first_below, first_passes}
-use Rattle.model.proofs.Book.{number-live, number-given}
+use Rattle.model.proofs.Lists.{same_truth, any_below_lem, below_found, below_at, below_same, first_below, first_passes}
+use Rattle.model.proofs.Book.{number_live, number_given}
 use Rattle.model.proofs.Opens.{open_kind, open_there}
 use Rattle.model.proofs.lookups.Heads.{in_range}
 use Rattle.model.proofs.changes.Keepers.{later_none}
@@ -43,11 +43,11 @@ use Rattle.model.proofs.changes.Keepers.{later_none}
 below_up_to_lem : (f : ℕ → Bool) (n : ℕ) → any f (up_to n) ≡ any_below f n
 unfolding any_below
 below_up_to_lem f zero = refl
-below_up_to_lem f (suc n) = any_append f (up_to n) (n ∷ []) ∙ ap₂ ◌||◌ (below_up_to_lem f n) (or-none (f n))
+below_up_to_lem f (suc n) = any_append f (up_to n) (n ∷ []) ∙ ap₂ ◌||◌ (below_up_to_lem f n) (or_none (f n))
   where
-    or-none : (b : Bool) → (b || false) ≡ b
-    or-none true = refl
-    or-none false = refl
+    or_none : (b : Bool) → (b || false) ≡ b
+    or_none true = refl
+    or_none false = refl
 
 -- ---- and of the elements that a test picks
 any_picked : {A : Type 0} (p f : A → Bool) (l : List A) → any f (filterb p l) ≡ any (λ x. p x && f x) l
@@ -73,31 +73,31 @@ moved_from_first Form.First t = refl
 
 module _ {F : Form} {S : Shape} {v : View} {ps : List ScanEntry} {h : History} (o : Represents F S v ps h) (k : WellFormed S h) where
   -- ---- the test of the way back
-  bears-is : (word t : ℕ) → word ≡ keeper_of h t → bears_keeper word ≡ has_keeper h t
+  bears_is : (word t : ℕ) → word ≡ keeper_of h t → bears_keeper word ≡ has_keeper h t
   unfolding has_keeper
-  bears-is word t e = ap (λ (w : ℕ). not (eqb w 0)) (mod-eq_of_lt (omega (arith, e, o.keepers.small t)) ∙ e)
+  bears_is word t e = ap (λ (w : ℕ). not (eqb w 0)) (mod-eq_of_lt (omega (arith, e, o.keepers.small t)) ∙ e)
 
-  rows-borne : any_below (λ r. bears_keeper (row_keeper v r)) (rows_given v) ≡ any (λ w. has_keeper h w.inserter) h.rows
+  rows_borne : any_below (λ r. bears_keeper (row_keeper v r)) (rows_given v) ≡ any (λ w. has_keeper h w.inserter) h.rows
   unfolding row_keeper row_at
-  rows-borne =
+  rows_borne =
       ap (any_below (λ r. bears_keeper (row_keeper v r))) o.header.rows_given
-      ∙ any_below h.rows _ (λ r. bears_keeper (row_keeper v r)) (λ w. has_keeper h w.inserter) (length h.rows) (le_refl _) (λ r b. bears-is _ _ (o.keepers.of_rows r b))
+      ∙ any_below_lem h.rows _ (λ r. bears_keeper (row_keeper v r)) (λ w. has_keeper h w.inserter) (length h.rows) (le_refl _) (λ r b. bears_is _ _ (o.keepers.of_rows r b))
       ∙ ap (any (λ w. has_keeper h w.inserter)) (take_all (length h.rows) h.rows (le_refl _))
 
   abbrev borne : Record → Bool
   borne y = has_keeper h (bearer (row_at h) y)
 
-  range-borne : (g : ℕ) → g < S.ranges → any_below (λ i. bears_keeper (record_keeper v (g * S.capacity + i))) (used_in v g) ≡ any borne (records_of h g)
+  range_borne : (g : ℕ) → g < S.ranges → any_below (λ i. bears_keeper (record_keeper v (g * S.capacity + i))) (used_in v g) ≡ any borne (records_of h g)
   unfolding record_keeper
-  range-borne g b =
+  range_borne g b =
       ap (any_below (λ i. bears_keeper (record_keeper v (g * S.capacity + i)))) (o.tails g b).used_all
-      ∙ any_below (records_of h g) no_record _ borne (length (records_of h g)) (le_refl _) (λ i u. bears-is _ _ (o.keepers.of_records g i b u))
+      ∙ any_below_lem (records_of h g) no_record _ borne (length (records_of h g)) (le_refl _) (λ i u. bears_is _ _ (o.keepers.of_records g i b u))
       ∙ ap (any borne) (take_all (length (records_of h g)) (records_of h g) (le_refl _))
 
   -- a record is one of a range
-  ranges-borne : any_below (λ g. any borne (records_of h g)) S.ranges ≡ any borne h.tail
+  ranges_borne : any_below (λ g. any borne (records_of h g)) S.ranges ≡ any borne h.tail
   unfolding records_of
-  ranges-borne = same_truth _ _ there back
+  ranges_borne = same_truth _ _ there back
     where
       there : T (any_below (λ g. any borne (records_of h g)) S.ranges) → T (any borne h.tail)
       there t =
@@ -112,14 +112,14 @@ module _ {F : Form} {S : Shape} {v : View} {ps : List ScanEntry} {h : History} (
           let i = firstIndex borne h.tail in
           let y : Record = get_or h.tail i no_record in
           let b : i < length h.tail = first_below borne h.tail t in
-          below_at _ S.ranges (range_of y.row) (in_range k y.row (all-at k.invariants.order.records i no_record b).inside)
+          below_at _ S.ranges (range_of y.row) (in_range k y.row (all_at k.invariants.order.records i no_record b).inside)
           (rw (any_picked (λ z. eqb (range_of z.row) (range_of y.row)) borne h.tail)
           (any_at (λ z. eqb (range_of z.row) (range_of y.row) && borne z) h.tail no_record i b (both (eqb (range_of y.row) (range_of y.row)) (borne y) (eqb_equal (range_of y.row) (range_of y.row) refl) (first_passes borne h.tail no_record t))))
 
-  opens-borne : any_below (λ j. not (eqb (get_or (v Opens) j 0) 0) && bears_keeper (get_or (v OpenKeeper) j 0)) most_transactions
+  opens_borne : any_below (λ j. not (eqb (get_or (v Opens) j 0) 0) && bears_keeper (get_or (v OpenKeeper) j 0)) most_transactions
       ≡ any (λ i. is_active (state_of h (suc i)) && has_keeper h (suc i)) (up_to (length h.transactions))
   unfolding state_of
-  opens-borne = same_truth _ _ there back ∙ sym (below_up_to_lem _ (length h.transactions))
+  opens_borne = same_truth _ _ there back ∙ sym (below_up_to_lem _ (length h.transactions))
     where
       there : T (any_below (λ j. not (eqb (get_or (v Opens) j 0) 0) && bears_keeper (get_or (v OpenKeeper) j 0)) most_transactions) → T (any_below (λ i. is_active (state_of h (suc i)) && has_keeper h (suc i)) (length h.transactions))
       there t = go (get_or (v Opens) x.0 0) refl (parts (not (eqb (get_or (v Opens) x.0 0) 0)) (bears_keeper (get_or (v OpenKeeper) x.0 0)) x.2)
@@ -131,8 +131,8 @@ module _ {F : Form} {S : Shape} {v : View} {ps : List ScanEntry} {h : History} (
           go zero e p = absurd (rw e at p.0)
           go (suc n) e p =
               let f : get_or (v Opens) x.0 0 ≢ 0 = λ z. omega (arith, e, z) in
-              below_at (λ i. is_active (state_of h (suc i)) && has_keeper h (suc i)) (length h.transactions) n (omega (arith, e, number-given open_kind h.transactions (v Opens) o.opens x.0))
-              (both (is_active (state_of h (suc n))) (has_keeper h (suc n)) (rw e at (number-live open_kind h.transactions (v Opens) o.opens x.0 f)) (rw e at (rw (bears-is (get_or (v OpenKeeper) x.0 0) (get_or (v Opens) x.0 0) (o.keepers.of_opens x.0 f)) at p.1)))
+              below_at (λ i. is_active (state_of h (suc i)) && has_keeper h (suc i)) (length h.transactions) n (omega (arith, e, number_given open_kind h.transactions (v Opens) o.opens x.0))
+              (both (is_active (state_of h (suc n))) (has_keeper h (suc n)) (rw e at (number_live open_kind h.transactions (v Opens) o.opens x.0 f)) (rw e at (rw (bears_is (get_or (v OpenKeeper) x.0 0) (get_or (v Opens) x.0 0) (o.keepers.of_opens x.0 f)) at p.1)))
 
       back : T (any_below (λ i. is_active (state_of h (suc i)) && has_keeper h (suc i)) (length h.transactions)) → T (any_below (λ j. not (eqb (get_or (v Opens) j 0) 0) && bears_keeper (get_or (v OpenKeeper) j 0)) most_transactions)
       back t =
@@ -142,11 +142,11 @@ module _ {F : Form} {S : Shape} {v : View} {ps : List ScanEntry} {h : History} (
           let j = firstIndex (bears (suc x.0)) (v Opens) in
           let f : get_or (v Opens) j 0 ≢ 0 = λ z. omega (arith, there.1, z) in
           below_at (λ j. not (eqb (get_or (v Opens) j 0) 0) && bears_keeper (get_or (v OpenKeeper) j 0)) most_transactions j (omega (arith, there.0, o.whole.long Opens))
-          (both (not (eqb (get_or (v Opens) j 0) 0)) (bears_keeper (get_or (v OpenKeeper) j 0)) (rw (ne_eqb (get_or (v Opens) j 0) 0 f) tt) (rw (bears-is (get_or (v OpenKeeper) j 0) (get_or (v Opens) j 0) (o.keepers.of_opens j f), there.1) p.1))
+          (both (not (eqb (get_or (v Opens) j 0) 0)) (bears_keeper (get_or (v OpenKeeper) j 0)) (rw (ne_eqb (get_or (v Opens) j 0) 0 f) tt) (rw (bears_is (get_or (v OpenKeeper) j 0) (get_or (v Opens) j 0) (o.keepers.of_opens j f), there.1) p.1))
 
   pub borne_is : keeper_borne_in S v ≡ keeper_borne h
   unfolding keeper_borne_in keeper_borne
-  borne_is = ap₂ ◌||◌ rows-borne (ap₂ ◌||◌ (below_same _ _ S.ranges range-borne ∙ ranges-borne) opens-borne)
+  borne_is = ap₂ ◌||◌ rows_borne (ap₂ ◌||◌ (below_same _ _ S.ranges range_borne ∙ ranges_borne) opens_borne)
 
   abbrev inRows : Bool
   inRows = any (λ w. has_keeper h w.inserter) h.rows
@@ -162,18 +162,18 @@ module _ {F : Form} {S : Shape} {v : View} {ps : List ScanEntry} {h : History} (
   entry_in j n = by_cases (dec_lt j most_transactions) (λ b. b) (λ b. absurd (n (get_or-eq_default (v Opens) 0 {n = j} (omega (arith, o.whole.long Opens)))))
 
   -- ---- an accepted move meets no keeper: on the way back by its test, and else since the first form has none
-  pub borne-none : (to : Form) → T (is_form (other_form to) F) → Passed (move_tests to h) → NoneBorne S v h
+  pub borne_none : (to : Form) → T (is_form (other_form to) F) → Passed (move_tests to h) → NoneBorne S v h
   unfolding move_tests keeper_borne row_at records_of
-  borne-none Form.First w p =
+  borne_none Form.First w p =
       let a = neither inRows (inTail || inOpens) p.0 in
       let b = neither inTail inOpens a.1 in
       record {
         by_rows = λ r u. no_keeper h _ (λ t. both_ways inRows a.0 (any_at (λ w. has_keeper h w.inserter) h.rows _ r u t));
-        by_records = λ g i u z. no_keeper h _ (λ t. both_ways inTail b.0 (rw ranges-borne at (below_at (λ a. any borne (records_of h a)) S.ranges g u (any_at borne (records_of h g) no_record i z t))));
-        by_opens = λ j n. no_keeper h _ (λ t. both_ways inOpens b.1 (rw opens-borne at (below_at (λ j. not (eqb (get_or (v Opens) j 0) 0) && bears_keeper (get_or (v OpenKeeper) j 0)) most_transactions j (entry_in j n)
-            (both (not (eqb (get_or (v Opens) j 0) 0)) (bears_keeper (get_or (v OpenKeeper) j 0)) (rw (ne_eqb (get_or (v Opens) j 0) 0 n) tt) (rw (bears-is (get_or (v OpenKeeper) j 0) (get_or (v Opens) j 0) (o.keepers.of_opens j n)) t)))));
+        by_records = λ g i u z. no_keeper h _ (λ t. both_ways inTail b.0 (rw ranges_borne at (below_at (λ a. any borne (records_of h a)) S.ranges g u (any_at borne (records_of h g) no_record i z t))));
+        by_opens = λ j n. no_keeper h _ (λ t. both_ways inOpens b.1 (rw opens_borne at (below_at (λ j. not (eqb (get_or (v Opens) j 0) 0) && bears_keeper (get_or (v OpenKeeper) j 0)) most_transactions j (entry_in j n)
+            (both (not (eqb (get_or (v Opens) j 0) 0)) (bears_keeper (get_or (v OpenKeeper) j 0)) (rw (ne_eqb (get_or (v Opens) j 0) 0 n) tt) (rw (bears_is (get_or (v OpenKeeper) j 0) (get_or (v Opens) j 0) (o.keepers.of_opens j n)) t)))));
       }
-  borne-none Form.Newest w p =
+  borne_none Form.Newest w p =
       let f = moved_from_first F w in
       record {
         by_rows = λ r u. sym (o.keepers.of_rows r u) ∙ later_none F (λ x. len (sizes_of x S) RowKeeper) refl (v RowKeeper) (o.whole.long RowKeeper) f r;
@@ -181,9 +181,9 @@ module _ {F : Form} {S : Shape} {v : View} {ps : List ScanEntry} {h : History} (
         by_opens = λ j n. sym (o.keepers.of_opens j n) ∙ later_none F (λ x. len (sizes_of x S) OpenKeeper) refl (v OpenKeeper) (o.whole.long OpenKeeper) f j;
       }
 
-  pub moved-represents : (to : Form) → NoneBorne S v h → Represents to S (moved to S v) ps h
+  pub moved_represents : (to : Form) → NoneBorne S v h → Represents to S (moved to S v) ps h
   unfolding moved later_zero put renew row_in record_in value_in page_in cell_in current_in scan_page was_current
-  moved-represents to none =
+  moved_represents to none =
       record {
         header = header;
         opens = o.opens;
@@ -205,7 +205,7 @@ module _ {F : Form} {S : Shape} {v : View} {ps : List ScanEntry} {h : History} (
       }
     where
       whole : Whole to S (moved to S v)
-      whole = record { long = moved-long F to S v o.whole.long; fits = moved_fits to S v (columns_fit to S.columns k.small.columns) o.whole.fits }
+      whole = record { long = moved_long F to S v o.whole.long; fits = moved_fits to S v (columns_fit to S.columns k.small.columns) o.whole.fits }
 
       header : HeaderFor to S h (moved to S v)
       header =

@@ -20,7 +20,7 @@ use Rattle.terms.specs.Entries.{bears, firstIndex}
 use Rattle.model.specs.Stored.{next_word}
 use Rattle.model.specs.Represents.{OpensAre, Unchanged, NotedIs, NotesAre, WellFormed}
 use Rattle.model.proofs.Opens.{open_kind, open_there}
-use Rattle.model.proofs.Book.{only-entry}
+use Rattle.model.proofs.Book.{only_entry}
 
 -- ---- all tail records together
 abbrev of_range : ℕ → List Record → List Record
@@ -57,12 +57,12 @@ module _ (rows rows' : List Row) (tail tail' : List Record) (ts : List State) (l
   abbrev own : ℕ
   own = firstIndex (bears t) l
 
-  pub notes-more : NotesAre rows tail l notes → NotesAre rows' tail' l (set notes own (next_word (get_or notes own 0)))
-  notes-more n j b u =
+  pub notes_more : NotesAre rows tail l notes → NotesAre rows' tail' l (set notes own (next_word (get_or notes own 0)))
+  notes_more n j b u =
       let old : NotedIs rows tail (get_or l j 0) (get_or notes j 0) = n j b u in
       by_cases (ℕ_discrete j own)
       (λ e. let w : get_or notes own 0 ≤ length rows + length tail = rw e at old.bound in
       rw (e, get_or-set_same notes own (next_word (get_or notes own 0)) 0 (omega (arith, (open_there ts l o t a).0)))
       record { bound = omega arith; none = λ z. absurd (omega arith) })
       (λ f. rw (get_or-set_other notes own j (next_word (get_or notes own 0)) 0 f)
-      record { bound = omega (arith, old.bound); none = λ z. others (get_or l j 0) (λ e. f (sym (rw e at (only-entry open_kind ts l o j u)))) (old.none z) })
+      record { bound = omega (arith, old.bound); none = λ z. others (get_or l j 0) (λ e. f (sym (rw e at (only_entry open_kind ts l o j u)))) (old.none z) })

@@ -14,7 +14,7 @@ use borrow.Author.Tests.{ne_eqb, eq-eqb}
 use Rattle.terms.specs.Measures.{Shape, range_rows, most_numbers}
 use Rattle.terms.specs.declared.Form.{Form}
 use Rattle.history.specs.History.{Call, commit, abort, History, Row, Record, Commit, next_commit, State, unknown, active, aborted, committed, any, nth, change, state_of, row_at, range_of, records_of, scan_at, keeper_of, with_begun, with_transactions, commit_of}
-use Rattle.history.proofs.Lists.{by_cases, all-each, nth_beyond, clash, all_map, nth-changed, nth-other, length-change}
+use Rattle.history.proofs.Lists.{by_cases, all_each, nth_beyond, clash, all_map, nth_changed, nth_other, length_change}
 use Rattle.history.specs.Steps.{Step, Closing, by_commit, by_abort}
 use Rattle.history.proofs.States.{given_known, state_began}
 use Rattle.history.proofs.Limits.{closing_inactive, commits_few}
@@ -23,7 +23,7 @@ use Rattle.history.specs.Invariants.{InOrder, Limits}
 use Rattle.history.specs.Records.{no_record}
 use Rattle.loops.specs.Change.{marked}
 use Rattle.words.specs.Words.{Fit}
-use Rattle.loops.proofs.Change.{changed-length, changed-outside, changed-at, changed_fit}
+use Rattle.loops.proofs.Change.{changed_length, changed_outside, changed_at_lem, changed_fit}
 use Rattle.layout.specs.View.{View, renew, put, rows_given, transactions_given, commits_made, used_in}
 use Rattle.layout.specs.declared.Region.TheVariants.{Header, Opens, RowTransaction, RowState, RowStamp, TailTransaction, TailState, TailStamp, Used, Changes, RowOrdinal, TailOrdinal, OpenKeeper}
 use Rattle.layout.specs.declared.Region.{Region}
@@ -38,9 +38,9 @@ use Rattle.model.specs.Reading.{scan_page, was_current}
 use Rattle.model.specs.Writing.{begun, mark_tails, mark_all, settled, freed, committed_in, aborted_in}
 use Rattle.model.proofs.Lists.{first_below, part_in}
 use Rattle.model.specs.Represents.{state_word, RowIs, RecordIs, TailOf, RowsAre, TailsAre, OpensAre, Unchanged, NotesAre, KeepersFor, HeaderFor, Represents, WellFormed, Whole}
-use Rattle.model.proofs.Views.{renew_whole, put_whole, changed_start, header-put, header-same}
-use Rattle.model.proofs.changes.Keepers.{keepers-begun, keepers-freed, later_put}
-use Rattle.model.proofs.Steady.{pages-stay}
+use Rattle.model.proofs.Views.{renew_whole, put_whole, changed_start, header_put, header_same}
+use Rattle.model.proofs.changes.Keepers.{keepers_begun, keepers_freed, later_put}
+use Rattle.model.proofs.Steady.{pages_stay}
 
 -- ---- rows and records under new states
 abbrev stamp_of : State → ℕ
@@ -61,7 +61,7 @@ not_begun : (h : History) → InOrder h → Unchanged h.rows h.tail (suc (length
 unfolding state_of row_at
 not_begun h i =
     record {
-      no_row = all-each h.rows record { inserter = 0; values = [] } (λ r b e. given_known _ (i.inserters r b) (ap (state_of h) e ∙ nth_beyond unknown h.transactions));
+      no_row = all_each h.rows record { inserter = 0; values = [] } (λ r b e. given_known _ (i.inserters r b) (ap (state_of h) e ∙ nth_beyond unknown h.transactions));
       no_record = all_map (λ y p e. given_known _ p.giver (ap (state_of h) e ∙ nth_beyond unknown h.transactions)) i.records;
     }
 
@@ -76,13 +76,13 @@ module _ {F : Form} {S : Shape} {v : View} {ps : List ScanEntry} {h : History} (
   abbrev begunHistory : History
   begunHistory = with_begun h x
 
-  begun-rows : RowsAre begunHistory v
+  begun_rows : RowsAre begunHistory v
   unfolding row_at records_of with_begun with_transactions
-  begun-rows r b = row_states {st = state_of h} {st' = state_of begunHistory} (state_began h (h.keepers ++ x ∷ []) _ (k.invariants.order.inserters r b)) (o.rows r b)
+  begun_rows r b = row_states {st = state_of h} {st' = state_of begunHistory} (state_began h (h.keepers ++ x ∷ []) _ (k.invariants.order.inserters r b)) (o.rows r b)
 
-  begun-tails : TailsAre S begunHistory v
+  begun_tails : TailsAre S begunHistory v
   unfolding records_of with_begun with_transactions
-  begun-tails g b =
+  begun_tails g b =
       let t : TailOf S (state_of h) (records_of h g) v g = o.tails g b in
       record {
         used_all = t.used_all;
@@ -90,15 +90,15 @@ module _ {F : Form} {S : Shape} {v : View} {ps : List ScanEntry} {h : History} (
         links = t.links;
       }
 
-  begun-whole : length h.transactions < most_numbers → x < keeper_limit → Whole F S (begun x v)
+  begun_whole : length h.transactions < most_numbers → x < keeper_limit → Whole F S (begun x v)
   unfolding begun
-  begun-whole few fits =
+  begun_whole few fits =
       let b : transactions_given v + 1 < 2 ^ 32 = omega (arith, o.header.transactions_given) in
       put_whole Header transactions_at _ b (put_whole OpenKeeper _ x (omega arith) (put_whole Changes _ 0 (omega arith) (put_whole Opens _ _ b o.whole)))
 
-  pub begin-kept : {c : Call} → T (any (λ i. eqb i 0) (v Opens)) → Step S h c begunHistory → length h.transactions < most_numbers → x < keeper_limit → (F ≡ Form.First → x ≡ 0) → Represents F S (begun x v) ps begunHistory
+  pub begin_kept : {c : Call} → T (any (λ i. eqb i 0) (v Opens)) → Step S h c begunHistory → length h.transactions < most_numbers → x < keeper_limit → (F ≡ Form.First → x ≡ 0) → Represents F S (begun x v) ps begunHistory
   unfolding begun put renew with_begun with_transactions row_in record_in value_in page_in cell_in current_in scan_page was_current scan_at
-  begin-kept free step few fits none = search (header, opens, notes, keepers, begun-rows, begun-tails, pages-stay o k step refl refl (λ i. refl), begun-whole few fits)
+  begin_kept free step few fits none = search (header, opens, notes, keepers, begun_rows, begun_tails, pages_stay o k step refl refl (λ i. refl), begun_whole few fits)
     where
       n : ℕ
       n = transactions_given v + 1
@@ -114,7 +114,7 @@ module _ {F : Form} {S : Shape} {v : View} {ps : List ScanEntry} {h : History} (
 
       header : HeaderFor F S begunHistory (begun x v)
       header = unfold begun put renew with_begun with_transactions in
-          (header-same refl (e ∙ sym (simp length-append (omega arith))) refl refl (header-put (v Header) 5 n (omega (arith, o.whole.long Header)) (omega arith) o.header))
+          (header_same refl (e ∙ sym (simp length-append (omega arith))) refl refl (header_put (v Header) 5 n (omega (arith, o.whole.long Header)) (omega arith) o.header))
 
       opens : OpensAre (h.transactions ++ active ∷ []) (set (v Opens) j n)
       opens = rw e (opens_begin h.transactions (v Opens) o.opens free)
@@ -126,7 +126,7 @@ module _ {F : Form} {S : Shape} {v : View} {ps : List ScanEntry} {h : History} (
 
       keepers : KeepersFor S begunHistory (begun x v)
       keepers = unfold begun put renew with_begun with_transactions keeper_of row_at records_of in
-          (rw e (keepers-begun k.invariants o.opens o.keepers x j fits inside
+          (rw e (keepers_begun k.invariants o.opens o.keepers x j fits inside
           (later_put F (λ f. len (sizes_of f S) OpenKeeper) refl (v OpenKeeper) j x (o.whole.long OpenKeeper) (omega (arith, inside, o.whole.long Opens)) none)))
 
 -- ---- the marks
@@ -136,28 +136,28 @@ marked_at ks n t w l r a b =
 
 pub marks_length : (S : Shape) (used ks : List ℕ) (t w n : ℕ) (l : List ℕ) → length (mark_tails S used ks t w n l) ≡ length l
 marks_length S used ks t w zero l = refl
-marks_length S used ks t w (suc n) l = changed-length _ (n * S.capacity) (mark_tails S used ks t w n l) (get_or used n 0) ∙ marks_length S used ks t w n l
+marks_length S used ks t w (suc n) l = changed_length _ (n * S.capacity) (mark_tails S used ks t w n l) (get_or used n 0) ∙ marks_length S used ks t w n l
 
 module _ (S : Shape) (used ks : List ℕ) (t w : ℕ) (l : List ℕ) (few : (g : ℕ) → g < S.ranges → get_or used g 0 ≤ S.capacity) (room : S.ranges * S.capacity ≤ length l) where
   -- the ranges from n on are as they were
-  marks-above : (n j : ℕ) → n ≤ S.ranges → n * S.capacity ≤ j → get_or (mark_tails S used ks t w n l) j 0 ≡ get_or l j 0
-  marks-above zero j a b = refl
-  marks-above (suc n) j a b =
-      changed-outside _ (n * S.capacity) (mark_tails S used ks t w n l) (get_or used n 0) j (inr (omega (arith, few n a, suc-mul n S.capacity)))
-      ∙ marks-above n j (omega arith) (omega (arith, suc-mul n S.capacity))
+  marks_above : (n j : ℕ) → n ≤ S.ranges → n * S.capacity ≤ j → get_or (mark_tails S used ks t w n l) j 0 ≡ get_or l j 0
+  marks_above zero j a b = refl
+  marks_above (suc n) j a b =
+      changed_outside _ (n * S.capacity) (mark_tails S used ks t w n l) (get_or used n 0) j (inr (omega (arith, few n a, suc-mul n S.capacity)))
+      ∙ marks_above n j (omega arith) (omega (arith, suc-mul n S.capacity))
 
-  pub marks-at : (n g i : ℕ) → n ≤ S.ranges → g < n → i < get_or used g 0
+  pub marks_at : (n g i : ℕ) → n ≤ S.ranges → g < n → i < get_or used g 0
       → get_or (mark_tails S used ks t w n l) (g * S.capacity + i) 0 ≡ cond (eqb (get_or ks (g * S.capacity + i) 0) t) w (get_or l (g * S.capacity + i) 0)
-  marks-at zero g i a b c = absurd (not-suc-le-zero b)
-  marks-at (suc n) g i a b c = by_cases (ℕ_discrete g n)
+  marks_at zero g i a b c = absurd (not-suc-le-zero b)
+  marks_at (suc n) g i a b c = by_cases (ℕ_discrete g n)
       (λ e. rw e
-      (changed-at (λ i x. cond (eqb (get_or ks (n * S.capacity + i) 0) t) w x) (n * S.capacity) (mark_tails S used ks t w n l) (get_or used n 0) i
+      (changed_at_lem (λ i x. cond (eqb (get_or ks (n * S.capacity + i) 0) t) w x) (n * S.capacity) (mark_tails S used ks t w n l) (get_or used n 0) i
       (omega (arith, marks_length S used ks t w n l, few n a, suc-mul n S.capacity, mul-le-mul_right S.capacity a)) (rw e at c)
-      ∙ ap (λ (x : ℕ). cond (eqb (get_or ks (n * S.capacity + i) 0) t) w x) (marks-above n (n * S.capacity + i) (omega arith) (omega arith))))
+      ∙ ap (λ (x : ℕ). cond (eqb (get_or ks (n * S.capacity + i) 0) t) w x) (marks_above n (n * S.capacity + i) (omega arith) (omega arith))))
       (λ f. let u : g < n = omega arith in
-      changed-outside _ (n * S.capacity) (mark_tails S used ks t w n l) (get_or used n 0) (g * S.capacity + i)
+      changed_outside _ (n * S.capacity) (mark_tails S used ks t w n l) (get_or used n 0) (g * S.capacity + i)
       (inl (omega (arith, part_in n S.capacity g i u (le_trans c (few g (omega arith))))))
-      ∙ marks-at n g i (omega arith) u c)
+      ∙ marks_at n g i (omega arith) u c)
 
 marked_fit : (ks : List ℕ) (at n t w : ℕ) (l : List ℕ) → w < 2 ^ 32 → Fit l → Fit (marked ks at n t at w l)
 marked_fit ks at n t w l b f = changed_fit _ at n l (λ i x c d. elim (eqb (get_or ks (at + i) 0) t) as (λ z. cond z w x < 2 ^ 32) [ true ↦ b | false ↦ d ]) f
@@ -170,7 +170,7 @@ mark_all_whole : {F : Form} {S : Shape} {v : View} (t : ℕ) (rows tails : Regio
 unfolding mark_all
 mark_all_whole {F} {S} {v} t rows tails w b o =
     renew_whole tails _ (marks_length S (v Used) (v TailTransaction) t w S.ranges (v tails) ∙ o.long tails) (marks_fit S (v Used) (v TailTransaction) t w S.ranges (v tails) b (o.fits tails))
-    (renew_whole rows _ (changed-length _ 0 (v rows) (rows_given v) ∙ o.long rows) (marked_fit (v RowTransaction) 0 (rows_given v) t w (v rows) b (o.fits rows)) o)
+    (renew_whole rows _ (changed_length _ 0 (v rows) (rows_given v) ∙ o.long rows) (marked_fit (v RowTransaction) 0 (rows_given v) t w (v rows) b (o.fits rows)) o)
 
 pub settled_whole : {F : Form} {S : Shape} {v : View} (t state : ℕ) (s : Commit) → state < 2 ^ 32 → s.stamp < 2 ^ 32 → s.ordinal < 2 ^ 32 → Whole F S v → Whole F S (settled S t state s v)
 unfolding settled
@@ -181,8 +181,8 @@ settled_whole t state s a b c o =
 closed_is : {A : Type 0} (f : State → A) (ts : List State) (t : ℕ) (x : State) (k : ℕ) → nth ts t unknown ≡ active
     → f (nth (change ts t x) k unknown) ≡ cond (eqb k t) (f x) (f (nth ts k unknown))
 closed_is f ts t x k a = by_cases (ℕ_discrete k t)
-    (λ e. rw (eq-eqb k t e, e, nth-changed unknown ts t x (λ u. clash (cc))))
-    (λ n. rw (ne_eqb k t n, nth-other unknown ts t x k n))
+    (λ e. rw (eq-eqb k t e, e, nth_changed unknown ts t x (λ u. clash (cc))))
+    (λ n. rw (ne_eqb k t n, nth_other unknown ts t x k n))
 
 module _ {F : Form} {S : Shape} {v : View} {ps : List ScanEntry} {h : History} (o : Represents F S v ps h) (k : WellFormed S h) (t : ℕ) {x : State} {s : Commit} (a : state_of h t ≡ active) (c : Closing h x s) where
   abbrev closedHistory : History
@@ -199,9 +199,9 @@ module _ {F : Form} {S : Shape} {v : View} {ps : List ScanEntry} {h : History} (
       marked_at (v RowTransaction) (rows_given v) t (f x) (v i) r (omega (arith, o.header.rows_given, o.whole.long i, e, k.invariants.limits.rows)) (omega (arith, o.header.rows_given))
       ∙ rw ((o.rows r b).transaction, q) (sym (closed_is f h.transactions t x (row_at h r).inserter a))
 
-  closed-rows : RowsAre closedHistory marks
+  closed_rows : RowsAre closedHistory marks
   unfolding row_at records_of with_transactions mark_all settled renew row_in
-  closed-rows r b =
+  closed_rows r b =
       let y : RowIs (state_of h) (row_at h r) (records_of h (range_of r)) r (row_in v r) = o.rows r b in
       record {
         transaction = y.transaction;
@@ -215,18 +215,18 @@ module _ {F : Form} {S : Shape} {v : View} {ps : List ScanEntry} {h : History} (
   used_few : (g : ℕ) → g < S.ranges → used_in v g ≤ S.capacity
   used_few g b = omega (arith, (o.tails g b).used_all, k.invariants.limits.records g)
 
-  record-word : (f : State → ℕ) (i : Region) (g n : ℕ) → len (sizes_of F S) i ≡ S.ranges * S.capacity → g < S.ranges → n < length (records_of h g)
+  record_word : (f : State → ℕ) (i : Region) (g n : ℕ) → len (sizes_of F S) i ≡ S.ranges * S.capacity → g < S.ranges → n < length (records_of h g)
       → get_or (v i) (g * S.capacity + n) 0 ≡ f (state_of h (get_or (records_of h g) n no_record).transaction)
       → get_or (mark_tails S (v Used) (v TailTransaction) t (f x) S.ranges (v i)) (g * S.capacity + n) 0 ≡ f (state_of closedHistory (get_or (records_of h g) n no_record).transaction)
   unfolding state_of record_in with_transactions
-  record-word f i g n e b u q =
+  record_word f i g n e b u q =
       let y : TailOf S (state_of h) (records_of h g) v g = o.tails g b in
-      marks-at S (v Used) (v TailTransaction) t (f x) (v i) used_few (omega (arith, o.whole.long i, e)) S.ranges g n (le_refl _) b (omega (arith, y.used_all))
+      marks_at S (v Used) (v TailTransaction) t (f x) (v i) used_few (omega (arith, o.whole.long i, e)) S.ranges g n (le_refl _) b (omega (arith, y.used_all))
       ∙ rw ((y.each n u).transaction, q) (sym (closed_is f h.transactions t x (get_or (records_of h g) n no_record).transaction a))
 
-  closed-tails : TailsAre S closedHistory marks
+  closed_tails : TailsAre S closedHistory marks
   unfolding records_of with_transactions mark_all settled renew record_in value_in
-  closed-tails g b =
+  closed_tails g b =
       let y : TailOf S (state_of h) (records_of h g) v g = o.tails g b in
       record {
         used_all = y.used_all;
@@ -235,9 +235,9 @@ module _ {F : Form} {S : Shape} {v : View} {ps : List ScanEntry} {h : History} (
             record {
               transaction = z.transaction;
               row = z.row;
-              state = record-word state_word TailState g i refl b u z.state;
-              stamp = record-word stamp_of TailStamp g i refl b u z.stamp;
-              ordinal = record-word ordinal_of TailOrdinal g i refl b u z.ordinal;
+              state = record_word state_word TailState g i refl b u z.state;
+              stamp = record_word stamp_of TailStamp g i refl b u z.stamp;
+              ordinal = record_word ordinal_of TailOrdinal g i refl b u z.ordinal;
               content = z.content;
             };
         links = y.links;
@@ -251,14 +251,14 @@ module _ {F : Form} {S : Shape} {v : View} {ps : List ScanEntry} {h : History} (
       let inside = (open_there h.transactions (v Opens) o.opens t a).0 in (
         opens_close h.transactions (v Opens) t x o.opens a (closing_inactive c),
         notes_set h.rows h.tail (v Opens) (v Changes) _ 0 inside (omega (arith, o.whole.long Opens, o.whole.long Changes)) (λ f. absurd (f refl)) o.notes,
-        closed-rows,
-        closed-tails,
-        keepers-freed k.invariants o.opens o.keepers _ inside,
+        closed_rows,
+        closed_tails,
+        keepers_freed k.invariants o.opens o.keepers _ inside,
       )
 
-  closed-whole : state_word x < 2 ^ 32 → stamp_of x < 2 ^ 32 → ordinal_of x < 2 ^ 32 → Whole F S (freed t marks)
+  closed_whole : state_word x < 2 ^ 32 → stamp_of x < 2 ^ 32 → ordinal_of x < 2 ^ 32 → Whole F S (freed t marks)
   unfolding freed
-  closed-whole b d e =
+  closed_whole b d e =
       put_whole OpenKeeper _ 0 (omega arith) (put_whole Changes _ 0 (omega arith) (put_whole Opens _ 0 (omega arith) (settled_whole t (state_word x) (commit_of x) b d e o.whole)))
 
 pub abort_kept : {F : Form} {S : Shape} {v : View} {ps : List ScanEntry} {h : History} → Represents F S v ps h → WellFormed S h → (t : ℕ) → state_of h t ≡ active
@@ -267,10 +267,10 @@ pub abort_kept : {F : Form} {S : Shape} {v : View} {ps : List ScanEntry} {h : Hi
 unfolding aborted_in freed open_index mark_all settled put renew with_transactions row_in record_in value_in page_in cell_in current_in scan_page was_current scan_at
 abort_kept {F} {S} {v} {ps} {h} o k t a step =
     search (
-      header-same {t' = length (change h.transactions t aborted)} refl (sym (length-change h.transactions t aborted)) refl refl o.header,
+      header_same {t' = length (change h.transactions t aborted)} refl (sym (length_change h.transactions t aborted)) refl refl o.header,
       closed_parts o k t a by_abort,
-      closed-whole o k t a by_abort (omega arith) (omega arith) (omega arith),
-      pages-stay o k step refl refl (λ i. refl),
+      closed_whole o k t a by_abort (omega arith) (omega arith) (omega arith),
+      pages_stay o k step refl refl (λ i. refl),
     )
 
 -- the count of commits has not gone round
@@ -287,9 +287,9 @@ commit_kept {F} {S} {v} {ps} {h} o k t s a later fit step =
     let e = next_ordinal v o.header k.invariants.limits in
     rw e.0
     (search (
-      header-same {t' = length (change h.transactions t (committed (next_commit h s)))} refl (sym (length-change h.transactions t (committed (next_commit h s)))) refl refl
-          (header-put (set (v Header) stamp_at s) 9 (suc h.last.ordinal) (rw length-set (omega (arith, o.whole.long Header))) (omega arith) (header-put (v Header) 7 s (omega (arith, o.whole.long Header)) (omega arith) o.header)),
+      header_same {t' = length (change h.transactions t (committed (next_commit h s)))} refl (sym (length_change h.transactions t (committed (next_commit h s)))) refl refl
+          (header_put (set (v Header) stamp_at s) 9 (suc h.last.ordinal) (rw length-set (omega (arith, o.whole.long Header))) (omega arith) (header_put (v Header) 7 s (omega (arith, o.whole.long Header)) (omega arith) o.header)),
       closed_parts o k t a (by_commit later),
-      put_whole Header commits_at (suc h.last.ordinal) e.1 (put_whole Header stamp_at s fit (closed-whole o k t a (by_commit later) (omega arith) fit e.1)),
-      pages-stay o k step refl refl (λ i. refl),
+      put_whole Header commits_at (suc h.last.ordinal) e.1 (put_whole Header stamp_at s fit (closed_whole o k t a (by_commit later) (omega arith) fit e.1)),
+      pages_stay o k step refl refl (λ i. refl),
     ))

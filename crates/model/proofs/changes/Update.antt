@@ -22,7 +22,7 @@ use Rattle.history.specs.Records.{among, was_set}
 use Rattle.history.proofs.Steps.{New, new_columns_lem}
 use Rattle.history.specs.Steps.{Step}
 use Rattle.history.proofs.Masks.{bit_low}
-use Rattle.history.proofs.Ranges.{last-unset}
+use Rattle.history.proofs.Ranges.{last_unset}
 use Rattle.history.proofs.Endings.{set_range}
 use Rattle.layout.specs.Regions.{len}
 use Rattle.layout.specs.Sizes.{sizes_of}
@@ -39,61 +39,61 @@ use Rattle.model.proofs.changes.Insert.{bit_none, value_fits}
 use Rattle.model.proofs.lookups.Heads.{in_range}
 use Rattle.model.proofs.lookups.Read.{unset_take}
 use Rattle.model.proofs.changes.Masks.{bit_or_lem, bit_new, no_bits}
-use Rattle.model.proofs.Steady.{pages-stay}
+use Rattle.model.proofs.Steady.{pages_stay}
 use Rattle.model.proofs.changes.Keepers.{later_none, own_keeper}
-use Rattle.model.proofs.changes.Records.{made-rows, made-parts, made-keepers, Extended, none_made, extend}
+use Rattle.model.proofs.changes.Records.{made_rows, made_parts, made_keepers, Extended, none_made, extend}
 
 -- ---- the columns that are set for the first time
 module _ {F : Form} {S : Shape} {v : View} {ps : List ScanEntry} {h : History} (o : Represents F S v ps h) (k : WellFormed S h) (r m : ℕ) (b : r < length h.rows) (good : T (not (bad_mask S m))) where
   abbrev isNew : ℕ → Bool
   isNew c = bit m c && not (was_set h.tail r c)
 
-  new-bit : (c : ℕ) → bit (new_bits_in v r m) c ≡ isNew c
+  new_bit : (c : ℕ) → bit (new_bits_in v r m) c ≡ isNew c
   unfolding new_bits_in
-  new-bit c = bit_new m (row_in v r).mask c ∙ rw ((o.rows r b).mask c, set_range h r c)
+  new_bit c = bit_new m (row_in v r).mask c ∙ rw ((o.rows r b).mask c, set_range h r c)
 
-  bit-column : (c : ℕ) → T (bit m c) → c < most_columns
-  bit-column c t = omega (arith, bit_low S m c good t, k.small.columns)
+  bit_column : (c : ℕ) → T (bit m c) → c < most_columns
+  bit_column c t = omega (arith, bit_low S m c good t, k.small.columns)
 
   -- a bit of a good mask is a column's
-  new-among : (c : ℕ) → isNew c ≡ among c (new_columns h r m)
-  new-among c = sym (new_columns_lem h r m c ∙ go (bit m c) refl (not (was_set h.tail r c)))
+  new_among : (c : ℕ) → isNew c ≡ among c (new_columns h r m)
+  new_among c = sym (new_columns_lem h r m c ∙ go (bit m c) refl (not (was_set h.tail r c)))
     where
       go : (q : Bool) → bit m c ≡ q → (n : Bool) → (q && n && among c (up_to most_columns)) ≡ (q && n)
-      go true e true = is_true (among c (up_to most_columns)) (among_up_to_lem most_columns c (bit-column c (rw e tt)))
+      go true e true = is_true (among c (up_to most_columns)) (among_up_to_lem most_columns c (bit_column c (rw e tt)))
       go true e false = refl
       go false e n = refl
 
-  pub original-bits : (c : ℕ) → bit (new_bits_in v r m) c ≡ among c (new_columns h r m)
-  original-bits c = new-bit c ∙ new-among c
+  pub original_bits : (c : ℕ) → bit (new_bits_in v r m) c ≡ among c (new_columns h r m)
+  original_bits c = new_bit c ∙ new_among c
 
-  pub none-new : new_columns h r m ≡ [] → eqb (new_bits_in v r m) 0 ≡ true
-  none-new e = eq-eqb (new_bits_in v r m) 0 (no_bits (new_bits_in v r m) (λ c. original-bits c ∙ ap (among c) e))
+  pub none_new : new_columns h r m ≡ [] → eqb (new_bits_in v r m) 0 ≡ true
+  none_new e = eq-eqb (new_bits_in v r m) 0 (no_bits (new_bits_in v r m) (λ c. original_bits c ∙ ap (among c) e))
 
-  pub some-new : (d : ℕ) (cs : List ℕ) → new_columns h r m ≡ d ∷ cs → eqb (new_bits_in v r m) 0 ≡ false
-  some-new d cs e =
+  pub some_new : (d : ℕ) (cs : List ℕ) → new_columns h r m ≡ d ∷ cs → eqb (new_bits_in v r m) 0 ≡ false
+  some_new d cs e =
       refuted (eqb (new_bits_in v r m) 0)
       (λ t. true≢false
-      (sym (original-bits d ∙ ap (among d) e ∙ rw (eqb_same d)) ∙ ap (λ (n : ℕ). bit n d) (eqb→eq (new_bits_in v r m) 0 t) ∙ bit_none d))
+      (sym (original_bits d ∙ ap (among d) e ∙ rw (eqb_same d)) ∙ ap (λ (n : ℕ). bit n d) (eqb→eq (new_bits_in v r m) 0 t) ∙ bit_none d))
 
   -- how many records are wanted
-  pub wanted-is : (t : ℕ) (vs : List ℤ) → records_wanted v r m ≡ length (update_records h t r m vs)
+  pub wanted_is : (t : ℕ) (vs : List ℤ) → records_wanted v r m ≡ length (update_records h t r m vs)
   unfolding records_wanted update_records original_records
-  wanted-is t vs = go (new_columns h r m) refl
+  wanted_is t vs = go (new_columns h r m) refl
     where
       go : (cs : List ℕ) → new_columns h r m ≡ cs
           → cond (eqb (new_bits_in v r m) 0) 1 2 ≡ length (original_records t r cs (row_at h r).values ++ record { transaction = t; row = r; content = setting m vs } ∷ [])
-      go [] e = rw (none-new e)
-      go (d ∷ cs) e = rw (some-new d cs e)
+      go [] e = rw (none_new e)
+      go (d ∷ cs) e = rw (some_new d cs e)
 
   -- the cell of a column that was never set is the inserted value
-  pub original-cell : (c : ℕ) → c < S.columns → T (bit (new_bits_in v r m) c) → to_z w32 (original_word S v r c) ≡ get_or (row_at h r).values c (pos 0)
+  pub original_cell : (c : ℕ) → c < S.columns → T (bit (new_bits_in v r m) c) → to_z w32 (original_word S v r c) ≡ get_or (row_at h r).values c (pos 0)
   unfolding cell_through
-  original-cell c d t =
+  original_cell c d t =
       let n : ℕ = (page_in v (current_in S v (range_of r) c)).lineage in
-      let e : was_set h.tail r c ≡ false = is_false (was_set h.tail r c) (parts (bit m c) _ (rw (new-bit c) at t)).1 in
+      let e : was_set h.tail r c ≡ false = is_false (was_set h.tail r c) (parts (bit m c) _ (rw (new_bit c) at t)).1 in
       (o.currents (range_of r) c (in_range k r b) d).holds.cells r refl tt
-      ∙ ap (λ (y : Version). y.value) (last-unset (λ k. is_committed (state_of h k)) r c (inserted h r c) (take n (records_of h (range_of r))) (unset_take (records_of h (range_of r)) r c n (set_range h r c ∙ e)))
+      ∙ ap (λ (y : Version). y.value) (last_unset (λ k. is_committed (state_of h k)) r c (inserted h r c) (take n (records_of h (range_of r))) (unset_take (records_of h (range_of r)) r c n (set_range h r c ∙ e)))
       ∙ (unfold inserted inserted_value in refl)
 
 -- ---- the words that are written fit
@@ -111,14 +111,14 @@ module _ {F : Form} {S : Shape} {v : View} {ps : List ScanEntry} {h : History} (
   abbrev y : Record
   y = record { transaction = t; row = r; content = setting m vs }
 
-  row-in : r < S.ranges * range_rows
-  row-in = omega (arith, k.invariants.limits.rows)
+  row_in_lem : r < S.ranges * range_rows
+  row_in_lem = omega (arith, k.invariants.limits.rows)
 
   abbrev f₂ : ℕ → ℕ
   f₂ c = of_z w32 (get_or vs c (pos 0))
 
-  setting-is : ContentIs S.columns (setting m vs) as_setting m f₂
-  setting-is = (refl, refl, λ c d u. to_z-of_z w32 (get_or vs c (pos 0)) (value_fits vs typed c))
+  setting_is : ContentIs S.columns (setting m vs) as_setting m f₂
+  setting_is = (refl, refl, λ c d u. to_z-of_z w32 (get_or vs c (pos 0)) (value_fits vs typed c))
 
   values_fit : (c : ℕ) → f₂ c < 2 ^ 32
   values_fit c = (of_z_fits w32 (get_or vs c (pos 0)) (value_fits vs typed c)).fits
@@ -126,64 +126,64 @@ module _ {F : Form} {S : Shape} {v : View} {ps : List ScanEntry} {h : History} (
   union : (c : ℕ) → bit (bit_or m (row_in v r).mask) c ≡ (bit (row_in v r).mask c || (eqb r r && bit m c || false))
   union c = bit_or_lem m (row_in v r).mask c ∙ rw (eqb_same r, or-false (bit m c)) (or_comm (bit m c) (bit (row_in v r).mask c))
 
-  add-setting : {ms : List Record} {u : View} → Extended F S h v r ms u → length (records_of h (range_of r)) + length ms < S.capacity → Extended F S h v r (ms ++ y ∷ []) (setting_appended S t (open_keeper v t) r m vs u)
+  add_setting : {ms : List Record} {u : View} → Extended F S h v r ms u → length (records_of h (range_of r)) + length ms < S.capacity → Extended F S h v r (ms ++ y ∷ []) (setting_appended S t (open_keeper v t) r m vs u)
   unfolding setting_appended
-  add-setting E room = extend E k t a b (setting m vs) (open_keeper v t) (own_keeper o k t a).0 (own_keeper o k t a).1 (own_keeper o k t a).2 as_setting m room (omega arith) (omega arith) f₂ setting-is values_fit
+  add_setting E room = extend E k t a b (setting m vs) (open_keeper v t) (own_keeper o k t a).0 (own_keeper o k t a).1 (own_keeper o k t a).2 as_setting m room (omega arith) (omega arith) f₂ setting_is values_fit
 
   -- the row's new mask, in a memory that has the records
   abbrev masked : View → View
   masked u = noted t (put RowMask r (bit_or m (row_in v r).mask) u)
 
-  masked-rows : {ms : List Record} {u : View} → Extended F S h v r ms u → All (New h t r) ms → ((c : ℕ) → (eqb r r && bit m c || false) ≡ was_set ms r c) → RowsAre (with_tail h (h.tail ++ ms)) (masked u)
-  masked-rows {ms} {u} E new f = made-rows o k a b new E (masked u) (bit_or m (row_in v r).mask)
+  masked_rows : {ms : List Record} {u : View} → Extended F S h v r ms u → All (New h t r) ms → ((c : ℕ) → (eqb r r && bit m c || false) ≡ was_set ms r c) → RowsAre (with_tail h (h.tail ++ ms)) (masked u)
+  masked_rows {ms} {u} E new f = made_rows o k a b new E (masked u) (bit_or m (row_in v r).mask)
       (λ i n. unfold row_in noted put renew in (rw (get_or-set_other (u RowMask) r i (bit_or m (get_or (v RowMask) r 0)) 0 n)))
-      (unfold row_in noted put renew in (rw (get_or-set_same (u RowMask) r (bit_or m (get_or (v RowMask) r 0)) 0 (omega (arith, row-in, E.whole.long RowMask)))))
+      (unfold row_in noted put renew in (rw (get_or-set_same (u RowMask) r (bit_or m (get_or (v RowMask) r 0)) 0 (omega (arith, row_in_lem, E.whole.long RowMask)))))
       (λ c. union c ∙ ap (λ (q : Bool). bit (row_in v r).mask c || q) (f c))
 
-  masked-whole : {ms : List Record} {u : View} → Extended F S h v r ms u → Whole F S (masked u)
-  masked-whole E = noted_whole t (put_whole RowMask r _ (masks_fit S v r m o.whole mask).1 E.whole)
+  masked_whole : {ms : List Record} {u : View} → Extended F S h v r ms u → Whole F S (masked u)
+  masked_whole E = noted_whole t (put_whole RowMask r _ (masks_fit S v r m o.whole mask).1 E.whole)
 
   -- ---- every column was set before
-  update-one : length (records_of h (range_of r)) + 1 ≤ S.capacity → Step S h (update t r m vs) (with_tail h (h.tail ++ y ∷ [])) → All (New h t r) (y ∷ [])
+  update_one : length (records_of h (range_of r)) + 1 ≤ S.capacity → Step S h (update t r m vs) (with_tail h (h.tail ++ y ∷ [])) → All (New h t r) (y ∷ [])
       → Represents F S (noted t (put RowMask r (bit_or m (row_in v r).mask) (setting_appended S t (open_keeper v t) r m vs v))) ps (with_tail h (h.tail ++ y ∷ []))
   unfolding setting_appended filled_in noted open_index put renew with_tail record_in value_in page_in cell_in current_in scan_page was_current appended state_of keeper_of row_at scan_at
-  update-one room step new =
-      let made = add-setting (none_made o r b) (omega arith) in
-      search (made-parts o k a b new made (omega arith), made-keepers o k a b new made, masked-rows made new (λ c. unfold was_set sets in refl), masked-whole made, pages-stay o k step refl refl (λ i. refl))
+  update_one room step new =
+      let made = add_setting (none_made o r b) (omega arith) in
+      search (made_parts o k a b new made (omega arith), made_keepers o k a b new made, masked_rows made new (λ c. unfold was_set sets in refl), masked_whole made, pages_stay o k step refl refl (λ i. refl))
 
   -- ---- a column is new: its original value goes first
-  update-two : (d : ℕ) (cs : List ℕ) → new_columns h r m ≡ d ∷ cs → length (records_of h (range_of r)) + 2 ≤ S.capacity
+  update_two : (d : ℕ) (cs : List ℕ) → new_columns h r m ≡ d ∷ cs → length (records_of h (range_of r)) + 2 ≤ S.capacity
       → Step S h (update t r m vs) (with_tail h (h.tail ++ record { transaction = t; row = r; content = original (d ∷ cs) (row_at h r).values } ∷ y ∷ []))
       → All (New h t r) (record { transaction = t; row = r; content = original (d ∷ cs) (row_at h r).values } ∷ y ∷ [])
       → Represents F S (noted t (put RowMask r (bit_or m (row_in v r).mask) (setting_appended S t (open_keeper v t) r m vs (original_appended S t r m v)))) ps
       (with_tail h (h.tail ++ record { transaction = t; row = r; content = original (d ∷ cs) (row_at h r).values } ∷ y ∷ []))
   unfolding setting_appended original_appended filled_in noted open_index put renew with_tail record_in value_in page_in cell_in current_in scan_page was_current appended state_of keeper_of row_at scan_at
-  update-two d cs e room step new =
-      search (made-parts o k a b new two (omega arith), made-keepers o k a b new two, masked-rows two new (λ c. unfold was_set sets in (rw (eqb_same r))), masked-whole two, pages-stay o k step refl refl (λ i. refl))
+  update_two d cs e room step new =
+      search (made_parts o k a b new two (omega arith), made_keepers o k a b new two, masked_rows two new (λ c. unfold was_set sets in (rw (eqb_same r))), masked_whole two, pages_stay o k step refl refl (λ i. refl))
     where
       w : Record
       w = record { transaction = t; row = r; content = original (d ∷ cs) (row_at h r).values }
 
       original_is : ContentIs S.columns (original (d ∷ cs) (row_at h r).values) as_original (new_bits_in v r m) (original_word S v r)
-      original_is = (refl, (λ c. original-bits o k r m b good c ∙ ap (among c) e), (λ c q u. original-cell o k r m b good c q u))
+      original_is = (refl, (λ c. original_bits o k r m b good c ∙ ap (among c) e), (λ c q u. original_cell o k r m b good c q u))
 
-      row-keeper : (row_keeper v r ≡ keeper_of h (row_at h r).inserter) × (row_keeper v r < 2 ^ 32) × (F ≡ Form.First → row_keeper v r ≡ 0)
-      row-keeper = unfold row_keeper in (let q = o.keepers.of_rows r b in (q, omega (arith, q, o.keepers.small (row_at h r).inserter), λ f. later_none F (λ x. len (sizes_of x S) RowKeeper) refl (v RowKeeper) (o.whole.long RowKeeper) f r))
+      row_keeper_lem : (row_keeper v r ≡ keeper_of h (row_at h r).inserter) × (row_keeper v r < 2 ^ 32) × (F ≡ Form.First → row_keeper v r ≡ 0)
+      row_keeper_lem = unfold row_keeper in (let q = o.keepers.of_rows r b in (q, omega (arith, q, o.keepers.small (row_at h r).inserter), λ f. later_none F (λ x. len (sizes_of x S) RowKeeper) refl (v RowKeeper) (o.whole.long RowKeeper) f r))
 
       one : Extended F S h v r (w ∷ []) (original_appended S t r m v)
-      one = extend (none_made o r b) k t a b (original (d ∷ cs) (row_at h r).values) (row_keeper v r) row-keeper.0 row-keeper.1 row-keeper.2 as_original (new_bits_in v r m) (omega arith) (omega arith) (masks_fit S v r m o.whole mask).0
+      one = extend (none_made o r b) k t a b (original (d ∷ cs) (row_at h r).values) (row_keeper v r) row_keeper_lem.0 row_keeper_lem.1 row_keeper_lem.2 as_original (new_bits_in v r m) (omega arith) (omega arith) (masks_fit S v r m o.whole mask).0
           (original_word S v r) original_is (λ c. o.whole.fits Cells _)
 
       two : Extended F S h v r (w ∷ y ∷ []) (setting_appended S t (open_keeper v t) r m vs (original_appended S t r m v))
-      two = add-setting one (omega arith)
+      two = add_setting one (omega arith)
 
-  pub update-kept : length (records_of h (range_of r)) + length (update_records h t r m vs) ≤ S.capacity → Step S h (update t r m vs) (with_tail h (h.tail ++ update_records h t r m vs))
+  pub update_kept : length (records_of h (range_of r)) + length (update_records h t r m vs) ≤ S.capacity → Step S h (update t r m vs) (with_tail h (h.tail ++ update_records h t r m vs))
       → All (New h t r) (update_records h t r m vs) → Represents F S (updated_in S t r m vs v) ps (with_tail h (h.tail ++ update_records h t r m vs))
   unfolding updated_in update_records original_records
-  update-kept = go (new_columns h r m) refl
+  update_kept = go (new_columns h r m) refl
     where
       go : (cs : List ℕ) → new_columns h r m ≡ cs → length (records_of h (range_of r)) + length (original_records t r cs (row_at h r).values ++ y ∷ []) ≤ S.capacity
           → Step S h (update t r m vs) (with_tail h (h.tail ++ (original_records t r cs (row_at h r).values ++ y ∷ []))) → All (New h t r) (original_records t r cs (row_at h r).values ++ y ∷ [])
           → Represents F S (updated_in S t r m vs v) ps (with_tail h (h.tail ++ (original_records t r cs (row_at h r).values ++ y ∷ [])))
-      go [] e room step new = rw (none-new o k r m b good e) (update-one room step new)
-      go (d ∷ cs) e room step new = rw (some-new o k r m b good d cs e) (update-two d cs e room step new)
+      go [] e room step new = rw (none_new o k r m b good e) (update_one room step new)
+      go (d ∷ cs) e room step new = rw (some_new o k r m b good d cs e) (update_two d cs e room step new)

@@ -27,7 +27,7 @@ use Rattle.model.specs.Stored.{RecordWords, row_in, record_in, committed_state, 
 use Rattle.model.specs.Reading.{reader, sees, sees_record, head_in, has_record, visible_in}
 use Rattle.layout.specs.Regions.{slot}
 use Rattle.model.specs.Calls.{open_other, stands_for, any_record, held_in, gone_in}
-use Rattle.model.proofs.Lists.{any_below}
+use Rattle.model.proofs.Lists.{any_below_lem}
 use Rattle.model.proofs.Opens.{opens_is}
 use Rattle.model.specs.Represents.{state_word, RowIs, ContentIs, TailOf, Represents, WellFormed}
 
@@ -65,14 +65,14 @@ unfolding SeesAs sees seen_by seen_at committed_by state_of
 sees_own h zero a k = clash (cc)
 sees_own h (suc me) a k = go (state_of h k) refl
   where
-    not-me : (s : State) → state_of h k ≡ s → s ≢ active → eqb k (suc me) ≡ false
-    not-me s e f = ne_eqb k (suc me) (λ q. f (sym e ∙ ap (state_of h) q ∙ a))
+    not_me : (s : State) → state_of h k ≡ s → s ≢ active → eqb k (suc me) ≡ false
+    not_me s e f = ne_eqb k (suc me) (λ q. f (sym e ∙ ap (state_of h) q ∙ a))
 
     go : (s : State) → state_of h k ≡ s → sees (reader (latest_snapshot h) (suc me)) (state_word s) (commit_of s).stamp (commit_of s).ordinal k ≡ (eqb k (suc me) || committed_by (latest_snapshot h) s)
-    go unknown e = rw (not-me unknown e (λ z. clash (cc)))
+    go unknown e = rw (not_me unknown e (λ z. clash (cc)))
     go active e = rw (eqb-suc-zero me) (sym (or-false (eqb k (suc me))))
-    go aborted e = rw (not-me aborted e (λ z. clash (cc)))
-    go (committed s) e = rw (not-me (committed s) e (λ z. clash (cc))) (or-false (leb s.stamp h.last.stamp && leb s.ordinal h.last.ordinal))
+    go aborted e = rw (not_me aborted e (λ z. clash (cc)))
+    go (committed s) e = rw (not_me (committed s) e (λ z. clash (cc))) (or-false (leb s.stamp h.last.stamp && leb s.ordinal h.last.ordinal))
 
 -- a reader with all commits made sees no more with more
 pub sees_all : (h : History) (s me n : ℕ) (f : ℕ → Bool) → Stamped h → h.last.ordinal ≤ n → SeesAs h (reader (snapshot_at h s) me) f → SeesAs h (reader record { stamp = s; commits = n } me) f
@@ -110,13 +110,13 @@ module _ {F : Form} {S : Shape} {v : View} {ps : List ScanEntry} {h : History} (
   row : RowIs (state_of h) (row_at h r) (records_of h (range_of r)) r (row_in v r)
   row = o.rows r b
 
-  delete-is : (i : ℕ) → i < length recs → delete_kind (words i).kind ≡ ends (rec i).content
-  delete-is i u = delete_word S.columns (rec i).content _ _ _ (tail.each i u).content
+  delete_is : (i : ℕ) → i < length recs → delete_kind (words i).kind ≡ ends (rec i).content
+  delete_is i u = delete_word S.columns (rec i).content _ _ _ (tail.each i u).content
 
   -- a test of the newest record
-  head-is : (F : RecordWords → Bool) (f : Record → Bool) → Alike F f → (has_record v r && F (head_in S v r)) ≡ newest_is f h r
+  head_is : (F : RecordWords → Bool) (f : Record → Bool) → Alike F f → (has_record v r && F (head_in S v r)) ≡ newest_is f h r
   unfolding head_in newest_is
-  head-is F f same =
+  head_is F f same =
       ap (λ (l : ℕ). not (eqb l 0) && F (record_in v (slot S (range_of r) l))) row.link ∙ go (last_of recs r (length recs)) refl
     where
       go : (l : ℕ) → last_of recs r (length recs) ≡ l → (not (eqb l 0) && F (record_in v (slot S (range_of r) l))) ≡ record_is f recs l
@@ -124,53 +124,53 @@ module _ {F : Form} {S : Shape} {v : View} {ps : List ScanEntry} {h : History} (
       go (suc i) e = rw (eqb-suc-zero i, slot_is S (range_of r) i) (same i (last_of_row recs r (length recs) i e).0)
 
   -- a test of all used records of the row
-  records-are : (F : RecordWords → Bool) (f : Record → Bool) → Alike F f → any_record S v r F ≡ any_of_row r f h.tail
-  records-are F f same =
+  records_are : (F : RecordWords → Bool) (f : Record → Bool) → Alike F f → any_record S v r F ≡ any_of_row r f h.tail
+  records_are F f same =
       ap (any_below (λ i. eqb (words i).row r && F (words i))) tail.used_all
-      ∙ any_below recs no_record _ (λ x. eqb x.row r && f x) (length recs) (le_refl _) (λ i u. ap₂ (λ (n : ℕ) (b : Bool). eqb n r && b) (tail.each i u).row (same i u))
+      ∙ any_below_lem recs no_record _ (λ x. eqb x.row r && f x) (length recs) (le_refl _) (λ i u. ap₂ (λ (n : ℕ) (b : Bool). eqb n r && b) (tail.each i u).row (same i u))
       ∙ ap (any_of_row r f) (take-length recs)
       ∙ any_range h r f
 
-  other-is : (t n : ℕ) → open_other v t n ≡ active_other h t n
+  other_is : (t n : ℕ) → open_other v t n ≡ active_other h t n
   unfolding open_other active_other state_of
-  other-is t n = ap (λ (b : Bool). b && not (eqb n t)) (opens_is h.transactions (v Opens) o.opens n)
+  other_is t n = ap (λ (b : Bool). b && not (eqb n t)) (opens_is h.transactions (v Opens) o.opens n)
 
-  pub held-is : (t : ℕ) → held_in S v t r ≡ held h t r
+  pub held_is : (t : ℕ) → held_in S v t r ≡ held h t r
   unfolding held_in held
-  held-is t = rw (row.transaction, other-is t (row_at h r).inserter, records-are (λ y. open_other v t y.transaction) (λ x. active_other h t x.transaction) same)
+  held_is t = rw (row.transaction, other_is t (row_at h r).inserter, records_are (λ y. open_other v t y.transaction) (λ x. active_other h t x.transaction) same)
     where
       same : Alike (λ y. open_other v t y.transaction) (λ x. active_other h t x.transaction)
-      same i u = rw (tail.each i u).transaction (other-is t _)
+      same i u = rw (tail.each i u).transaction (other_is t _)
 
   -- who stands for the caller: itself and what is committed
-  stands-is : (t n : ℕ) → stands_for t n (state_word (state_of h n)) ≡ seen_by h t n
+  stands_is : (t n : ℕ) → stands_for t n (state_word (state_of h n)) ≡ seen_by h t n
   unfolding seen_by seen_at committed_by Stamped
-  stands-is t n = ap (λ (b : Bool). eqb n t || b)
+  stands_is t n = ap (λ (b : Bool). eqb n t || b)
       (elim (state_of h n) as (λ x. state_of h n ≡ x → committed_state (state_word x) ≡ committed_by (latest_snapshot h) x)
       [ unknown ↦ λ e. refl | active ↦ λ e. refl | aborted ↦ λ e. refl | committed s ↦ λ e. made s (k.invariants.order.stamps n s e) ] refl)
     where
       made : (s : Commit) → UpTo s h.last → true ≡ (leb s.stamp h.last.stamp && leb s.ordinal h.last.ordinal)
       made s u = rw (le-leb s.stamp h.last.stamp u.stamps, le-leb s.ordinal h.last.ordinal u.ordinals)
 
-  pub gone-is : (t : ℕ) → gone_in S v t r ≡ gone h t r
+  pub gone_is : (t : ℕ) → gone_in S v t r ≡ gone h t r
   unfolding gone_in gone visible ended
-  gone-is t =
+  gone_is t =
       rw (
         row.state,
         row.transaction,
-        stands-is t (row_at h r).inserter,
-        records-are (λ y. delete_kind y.kind && stands_for t y.transaction y.state) (λ x. ends x.content && seen_by h t x.transaction) same,
+        stands_is t (row_at h r).inserter,
+        records_are (λ y. delete_kind y.kind && stands_for t y.transaction y.state) (λ x. ends x.content && seen_by h t x.transaction) same,
       )
       (sym (not_and_not (seen_by h t (row_at h r).inserter) _))
     where
       same : Alike (λ y. delete_kind y.kind && stands_for t y.transaction y.state) (λ x. ends x.content && seen_by h t x.transaction)
-      same i u = let x = tail.each i u in rw (delete-is i u, x.state, x.transaction, stands-is t (rec i).transaction)
+      same i u = let x = tail.each i u in rw (delete_is i u, x.state, x.transaction, stands_is t (rec i).transaction)
 
-  pub visible-is : (who : Reader) (f : ℕ → Bool) → SeesAs h who f → visible_in S v who r ≡ visible f h r
+  pub visible_is : (who : Reader) (f : ℕ → Bool) → SeesAs h who f → visible_in S v who r ≡ visible f h r
   unfolding visible_in visible SeesAs
-  visible-is who f w =
-      rw (row.state, row.stamp, row.ordinal, row.transaction, w (row_at h r).inserter, head-is (λ y. delete_kind y.kind && sees_record who y) (λ x. ends x.content && f x.transaction) same)
+  visible_is who f w =
+      rw (row.state, row.stamp, row.ordinal, row.transaction, w (row_at h r).inserter, head_is (λ y. delete_kind y.kind && sees_record who y) (λ x. ends x.content && f x.transaction) same)
       (rw (ended_newest h f r k.invariants.order (sees_not_aborted h who f w)))
     where
       same : Alike (λ y. delete_kind y.kind && sees_record who y) (λ x. ends x.content && f x.transaction)
-      same i u = let x = tail.each i u in rw (delete-is i u, x.state, x.stamp, x.ordinal, x.transaction, w (rec i).transaction)
+      same i u = let x = tail.each i u in rw (delete_is i u, x.state, x.stamp, x.ordinal, x.transaction, w (rec i).transaction)

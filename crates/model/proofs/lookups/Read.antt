@@ -18,14 +18,14 @@ use Rattle.terms.specs.Measures.{Shape}
 use Rattle.terms.specs.declared.Form.{Form}
 use Rattle.terms.specs.declared.Answer.{Answer}
 use Rattle.history.specs.History.{History, Record, Version, State, unknown, active, aborted, committed, Content, original, setting, ending, any, is_committed, Commit, state_of, bit, sets, new_value, inserted_value, inserted, version_in, last_setting, range_of, row_at, records_of, visible, version_of, shown, read, keeper_of, borne_by, keeper_read, cell_through, commit_of}
-use Rattle.history.proofs.Lists.{by_test, parts, all-map₂, all_both, any_none, all_take, not-any}
+use Rattle.history.proofs.Lists.{by_test, parts, all-map₂, all_both, any_none, all_take, not_any}
 use Rattle.history.specs.Lists.{All}
 use Rattle.history.specs.Records.{among, is_original, was_set, has_original, no_record, last_of}
 use Rattle.history.specs.Invariants.{is_closed, InOrder}
 use Rattle.history.proofs.Order.{sound_at}
-use Rattle.history.proofs.Ranges.{version_range, last-next, last-agree, last-unset}
+use Rattle.history.proofs.Ranges.{version_range, last_next, last_agree, last_unset}
 use Rattle.history.proofs.Links.{last_of_row}
-use Rattle.history.proofs.Endings.{original-reads, originals_of}
+use Rattle.history.proofs.Endings.{original_reads, originals_of}
 use Rattle.loops.specs.declared.Found.{Found}
 use Rattle.layout.specs.View.{View}
 use Rattle.terms.specs.declared.ScanEntry.{ScanEntry}
@@ -35,7 +35,7 @@ use Rattle.model.specs.Stored.{PageWords, row_in, record_in, value_in, page_in, 
 use Rattle.model.specs.Reading.{sees, answers_for, walk, found_in, or_else, floor, down_to, word_in, setter_at, setter_in, commit_stamp, setter_stamp, lookup_in, shown_in, read_in, keeper_word, keeper_in}
 use Rattle.model.proofs.Lists.{take_next}
 use Rattle.model.specs.Represents.{state_word, ContentIs, RecordIs, TailOf, Holds, TakenBefore, Represents, WellFormed}
-use Rattle.model.proofs.lookups.Heads.{slot_is, in_range, SeesAs, visible-is}
+use Rattle.model.proofs.lookups.Heads.{slot_is, in_range, SeesAs, visible_is}
 
 -- ---- one record
 -- `found` is what is read of it: of a seen setting `new`, of a record of original values `ins`
@@ -82,19 +82,19 @@ module _ (S : Shape) (v : View) (h : History) (i : InOrder h) (g r c : ℕ) (who
   abbrev OfRow : (Record → Bool) → ℕ → Type 0
   OfRow q k = (k < length recs) × ((get_or recs k no_record).row ≡ r) × T (q (get_or recs k no_record))
 
-  walk-stop : (low n k : ℕ) → k ≤ low → step low n k ≡ Found.Nothing
+  walk_stop : (low n k : ℕ) → k ≤ low → step low n k ≡ Found.Nothing
   unfolding walk
-  walk-stop low zero k b = refl
-  walk-stop low (suc n) k b = rw (le-leb k low b)
+  walk_stop low zero k b = refl
+  walk_stop low (suc n) k b = rw (le-leb k low b)
 
   module _ (setting-at : (k : ℕ) → OfRow (λ x. sets c x.content && f x.transaction) k → at (g * S.capacity + k) ≡ of (version_in c (get_or recs k no_record)))
       (original-at : (k : ℕ) → OfRow (λ x. is_original c x.content) k → at (g * S.capacity + k) ≡ of (inserted h r c)) where
-    walk-go : (low n k : ℕ) (rest : A) → low ≤ k → k < length recs → (get_or recs k no_record).row ≡ r
+    walk_go : (low n k : ℕ) (rest : A) → low ≤ k → k < length recs → (get_or recs k no_record).row ≡ r
         → or_else (step low (suc n) (suc k)) at rest
         ≡ cond (sets c (get_or recs k no_record).content && f (get_or recs k no_record).transaction) (of (version_in c (get_or recs k no_record)))
         (cond (is_original c (get_or recs k no_record).content) (of (inserted h r c)) (or_else (step low n (last_of recs r k)) at rest))
     unfolding walk answers_for SeesAs
-    walk-go low n k rest b u e =
+    walk_go low n k rest b u e =
         let x : RecordIs S.columns (state_of h) (get_or recs k no_record) (record_in v (g * S.capacity + k)) (value_in S v (g * S.capacity + k)) = o.each k u in
         rw (lt-leb (suc k) low (omega arith), slot_is S g k, x.state, x.stamp, x.ordinal, x.transaction, w (get_or recs k no_record).transaction, o.links k u, e, found_or)
         (record_answers S.columns c (get_or recs k no_record).content _ _ _ (f (get_or recs k no_record).transaction) _ _ _ _ x.content
@@ -107,15 +107,15 @@ module _ (S : Shape) (v : View) (h : History) (i : InOrder h) (g r c : ℕ) (who
     unfolding last_of has_original
     walk_is low rest zero fuel a b d z =
         let e : low ≡ 0 = omega arith in
-        rw (walk-stop low fuel 0 zero-le) (rw e at (z (rw e refl)))
+        rw (walk_stop low fuel 0 zero-le) (rw e at (z (rw e refl)))
     walk_is low rest (suc n) fuel a b d z =
         go (ℕ_discrete low (suc n)) fuel d (λ (fuel : ℕ) u q z. walk_is low rest n fuel u (omega arith) q z)
       where
         x : Record
         x = get_or recs n no_record
 
-        original-here : Record → Bool
-        original-here y = eqb y.row r && is_original c y.content
+        original_here : Record → Bool
+        original_here y = eqb y.row r && is_original c y.content
 
         AtLow : ℕ → Type 0
         AtLow n = has_original (take n recs) r c ≡ has_original (take low recs) r c → rest ≡ of (seenTo low)
@@ -123,8 +123,8 @@ module _ (S : Shape) (v : View) (h : History) (i : InOrder h) (g r c : ℕ) (who
         Before : Type 0
         Before = (fuel : ℕ) → low ≤ n → last_of recs r n ≤ fuel → AtLow n → or_else (step low fuel (last_of recs r n)) at rest ≡ of (seenTo n)
 
-        down : original-here x ≡ false → AtLow n
-        down q e = z (take_next recs n no_record b original-here ∙ rw q (or-false (any original-here (take n recs))) ∙ e)
+        down : original_here x ≡ false → AtLow n
+        down q e = z (take_next recs n no_record b original_here ∙ rw q (or-false (any original_here (take n recs))) ∙ e)
 
         pick : (s q : Bool) (next : A) (y i old : Version) → (T q → of i ≡ of old) → (q ≡ false → next ≡ of old) → cond s (of y) (cond q (of i) next) ≡ of (cond s y old)
         pick true q next y i old f g = refl
@@ -132,21 +132,21 @@ module _ (S : Shape) (v : View) (h : History) (i : InOrder h) (g r c : ℕ) (who
         pick false false next y i old f g = g refl
 
         -- the row of record n
-        at-record : (fuel : ℕ) → low ≤ n → Before → (p : Bool) → eqb x.row r ≡ p → cond p (suc n) (last_of recs r n) ≤ fuel
+        at_record : (fuel : ℕ) → low ≤ n → Before → (p : Bool) → eqb x.row r ≡ p → cond p (suc n) (last_of recs r n) ≤ fuel
             → or_else (step low fuel (cond p (suc n) (last_of recs r n))) at rest ≡ of (cond (p && (sets c x.content && f x.transaction)) (version_in c x) (seenTo n))
-        at-record zero u before true e d = absurd (not-suc-le-zero d)
-        at-record (suc fuel) u before true e d =
+        at_record zero u before true e d = absurd (not-suc-le-zero d)
+        at_record (suc fuel) u before true e d =
             let e' : x.row ≡ r = eqb→eq x.row r (rw e tt) in
-            walk-go low fuel n rest u b e'
+            walk_go low fuel n rest u b e'
             ∙ pick (sets c x.content && f x.transaction) (is_original c x.content) _ (version_in c x) (inserted h r c) (seenTo n)
-            (λ q. sym (ap of (original-reads h g i f r c n (inserted h r c) b e' q)))
+            (λ q. sym (ap of (original_reads h g i f r c n (inserted h r c) b e' q)))
             (λ q. before fuel u (omega (arith, last_le recs r n)) (down (rw e q)))
-        at-record fuel u before false e d = before fuel u d (down (rw e refl))
+        at_record fuel u before false e d = before fuel u d (down (rw e refl))
 
         go : Dec (low ≡ suc n) → (fuel : ℕ) → last_of recs r (suc n) ≤ fuel → Before → or_else (step low fuel (last_of recs r (suc n))) at rest ≡ of (seenTo (suc n))
-        go (yes e) fuel d before = rw (walk-stop low fuel (last_of recs r (suc n)) (rw e (last_le recs r (suc n)))) (rw e at (z (rw e refl)))
+        go (yes e) fuel d before = rw (walk_stop low fuel (last_of recs r (suc n)) (rw e (last_le recs r (suc n)))) (rw e at (z (rw e refl)))
         go (no q) fuel d before =
-            at-record fuel (omega (arith, q)) before (eqb x.row r) refl d ∙ ap of (sym (last-next f r c (inserted h r c) recs n no_record b))
+            at_record fuel (omega (arith, q)) before (eqb x.row r) refl d ∙ ap of (sym (last_next f r c (inserted h r c) recs n no_record b))
 
 -- ---- the value of a record
 pub setting_value : (C c : ℕ) → c < C → (y : Content) (kind mask : ℕ) (value : ℕ → ℕ) → ContentIs C y kind mask value → T (sets c y) → to_z w32 (value c) ≡ new_value c y
@@ -173,7 +173,7 @@ page_seen h who n f w b k p u = go (state_of h k) p u ∙ w k
 pub unset_take : (l : List Record) (r c n : ℕ) → was_set l r c ≡ false → was_set (take n l) r c ≡ false
 unfolding was_set
 unset_take l r c n e =
-    any_none (λ (x : Record). eqb x.row r && sets c x.content) (all_take n (not-any (λ (x : Record). eqb x.row r && sets c x.content) l (rw e tt)))
+    any_none (λ (x : Record). eqb x.row r && sets c x.content) (all_take n (not_any (λ (x : Record). eqb x.row r && sets c x.content) l (rw e tt)))
 
 module _ {F : Form} {S : Shape} {v : View} {ps : List ScanEntry} {h : History} (o : Represents F S v ps h) (k : WellFormed S h) (who : Reader) (f : ℕ → Bool) (w : SeesAs h who f) (r : ℕ)
     (b : r < length h.rows) (c : ℕ) (inside : c < S.columns) where
@@ -186,10 +186,10 @@ module _ {F : Form} {S : Shape} {v : View} {ps : List ScanEntry} {h : History} (
   pub lok : TailOf S (state_of h) (records_of h (range_of r)) v (range_of r)
   lok = o.tails (range_of r) (in_range k r b)
 
-  pub original-there : (i : ℕ) → i < length list → (get_or list i no_record).row ≡ r → (cs : List ℕ) (vs : List ℤ) → (get_or list i no_record).content ≡ original cs vs
+  pub original_there : (i : ℕ) → i < length list → (get_or list i no_record).row ≡ r → (cs : List ℕ) (vs : List ℤ) → (get_or list i no_record).content ≡ original cs vs
       → get_or vs c (pos 0) ≡ inserted_value h r c
   unfolding inserted_value
-  original-there i u e cs vs q = rw ((sound_at h g k.invariants.order i no_record u).values cs vs q, e)
+  original_there i u e cs vs q = rw ((sound_at h g k.invariants.order i no_record u).values cs vs q, e)
 
   -- the walk from the row's link
   walked : {A : Type 0} (at : ℕ → A) (of : Version → A) (low : ℕ) (rest : A)
@@ -205,36 +205,36 @@ module _ {F : Form} {S : Shape} {v : View} {ps : List ScanEntry} {h : History} (
       low rest (length list) (last_of list r (length list)) a (le_refl _) (le_refl _) (rw take-length z)))
 
   -- ---- who set it, by the stamp that is shown
-  commit-stamp : (s : State) → commit_stamp (state_word s) (commit_of s).stamp ≡ (commit_of s).stamp
+  commit_stamp_lem : (s : State) → commit_stamp (state_word s) (commit_of s).stamp ≡ (commit_of s).stamp
   unfolding commit_stamp
-  commit-stamp unknown = refl
-  commit-stamp active = refl
-  commit-stamp aborted = refl
-  commit-stamp (committed s) = refl
+  commit_stamp_lem unknown = refl
+  commit_stamp_lem active = refl
+  commit_stamp_lem aborted = refl
+  commit_stamp_lem (committed s) = refl
 
-  insert-stamp : setter_stamp v r Setter.Insert ≡ (commit_of (state_of h (inserted h r c).setter)).stamp
+  insert_stamp : setter_stamp v r Setter.Insert ≡ (commit_of (state_of h (inserted h r c).setter)).stamp
   unfolding setter_stamp inserted
-  insert-stamp = rw ((o.rows r b).state, (o.rows r b).stamp) (commit-stamp (state_of h (row_at h r).inserter))
+  insert_stamp = rw ((o.rows r b).state, (o.rows r b).stamp) (commit_stamp_lem (state_of h (row_at h r).inserter))
 
-  pub kind-setting : (y : Content) (kind mask : ℕ) (value : ℕ → ℕ) → ContentIs S.columns y kind mask value → T (sets c y) → original_kind kind ≡ false
+  pub kind_setting : (y : Content) (kind mask : ℕ) (value : ℕ → ℕ) → ContentIs S.columns y kind mask value → T (sets c y) → original_kind kind ≡ false
   unfolding sets
-  kind-setting (setting m vs) kind mask value e t = rw e.0
+  kind_setting (setting m vs) kind mask value e t = rw e.0
 
-  pub kind-original : (y : Content) (kind mask : ℕ) (value : ℕ → ℕ) → ContentIs S.columns y kind mask value → T (is_original c y) → original_kind kind ≡ true
+  pub kind_original : (y : Content) (kind mask : ℕ) (value : ℕ → ℕ) → ContentIs S.columns y kind mask value → T (is_original c y) → original_kind kind ≡ true
   unfolding is_original
-  kind-original (original cs vs) kind mask value e t = rw e.0
+  kind_original (original cs vs) kind mask value e t = rw e.0
 
-  pub setting-stamp : (i : ℕ) → i < length list → T (sets c (get_or list i no_record).content)
+  pub setting_stamp : (i : ℕ) → i < length list → T (sets c (get_or list i no_record).content)
       → setter_stamp v r (setter_at v (g * S.capacity + i)) ≡ (commit_of (state_of h (version_in c (get_or list i no_record)).setter)).stamp
   unfolding setter_at setter_stamp version_in
-  setting-stamp i u t =
+  setting_stamp i u t =
       let x = lok.each i u in
-      rw (kind-setting _ _ _ _ x.content t, x.state, x.stamp) (commit-stamp (state_of h (get_or list i no_record).transaction))
+      rw (kind_setting _ _ _ _ x.content t, x.state, x.stamp) (commit_stamp_lem (state_of h (get_or list i no_record).transaction))
 
-  pub original-stamp : (i : ℕ) → i < length list → T (is_original c (get_or list i no_record).content)
+  pub original_stamp : (i : ℕ) → i < length list → T (is_original c (get_or list i no_record).content)
       → setter_stamp v r (setter_at v (g * S.capacity + i)) ≡ (commit_of (state_of h (inserted h r c).setter)).stamp
   unfolding setter_at
-  original-stamp i u t = rw (kind-original _ _ _ _ (lok.each i u).content t) insert-stamp
+  original_stamp i u t = rw (kind_original _ _ _ _ (lok.each i u).content t) insert_stamp
 
   -- something of the record found from the floor on, else of the row
   found_is : {A : Type 0} (at : ℕ → A) (of : Version → A) (rest : A)
@@ -247,44 +247,44 @@ module _ {F : Form} {S : Shape} {v : View} {ps : List ScanEntry} {h : History} (
       go : (a : Bool) → a ≡ was_set list r c
           → or_else (cond a (walk S v who g c floor (row_in v r).link (row_in v r).link) Found.Nothing) at rest ≡ of (last_setting f r c (inserted h r c) list)
       go true e = walked at of floor rest x y zero-le (λ _. z)
-      go false e = z ∙ ap of (sym (last-unset f r c (inserted h r c) list (sym e)))
+      go false e = z ∙ ap of (sym (last_unset f r c (inserted h r c) list (sym e)))
 
   stamp_is : setter_stamp v r (setter_in S v who r c) ≡ (commit_of (state_of h (version_of f h r c).setter)).stamp
   unfolding setter_in
   stamp_is =
       or_map (setter_stamp v r) (found_in S v who floor r c) (setter_at v) Setter.Insert
       ∙ found_is (λ i. setter_stamp v r (setter_at v i)) (λ y. (commit_of (state_of h y.setter)).stamp) (setter_stamp v r Setter.Insert)
-      setting-stamp (λ i u _ t. original-stamp i u t) insert-stamp
+      setting_stamp (λ i u _ t. original_stamp i u t) insert_stamp
 
   -- ---- its keeper
-  insert-keeper : row_keeper v r ≡ keeper_of h (inserted h r c).setter
+  insert_keeper : row_keeper v r ≡ keeper_of h (inserted h r c).setter
   unfolding row_keeper inserted
-  insert-keeper = o.keepers.of_rows r b
+  insert_keeper = o.keepers.of_rows r b
 
-  setting-keeper : (i : ℕ) → i < length list → T (sets c (get_or list i no_record).content) → record_keeper v (g * S.capacity + i) ≡ keeper_of h (version_in c (get_or list i no_record)).setter
+  setting_keeper : (i : ℕ) → i < length list → T (sets c (get_or list i no_record).content) → record_keeper v (g * S.capacity + i) ≡ keeper_of h (version_in c (get_or list i no_record)).setter
   unfolding record_keeper version_in
-  setting-keeper i u t = o.keepers.of_records g i (in_range k r b) u ∙ ap (keeper_of h) (bears-own (get_or list i no_record).content _ _ t)
+  setting_keeper i u t = o.keepers.of_records g i (in_range k r b) u ∙ ap (keeper_of h) (bears_own (get_or list i no_record).content _ _ t)
     where
-      bears-own : (y : Content) (inserter own : ℕ) → T (sets c y) → borne_by y inserter own ≡ own
-      bears-own (setting m vs) inserter own q = refl
-      bears-own (original cs vs) inserter own q = absurd (unfold sets in q)
-      bears-own ending inserter own q = absurd (unfold sets in q)
+      bears_own : (y : Content) (inserter own : ℕ) → T (sets c y) → borne_by y inserter own ≡ own
+      bears_own (setting m vs) inserter own q = refl
+      bears_own (original cs vs) inserter own q = absurd (unfold sets in q)
+      bears_own ending inserter own q = absurd (unfold sets in q)
 
-  original-keeper : (i : ℕ) → i < length list → (get_or list i no_record).row ≡ r → T (is_original c (get_or list i no_record).content)
+  original_keeper : (i : ℕ) → i < length list → (get_or list i no_record).row ≡ r → T (is_original c (get_or list i no_record).content)
       → record_keeper v (g * S.capacity + i) ≡ keeper_of h (inserted h r c).setter
   unfolding record_keeper inserted
-  original-keeper i u e t =
-      o.keepers.of_records g i (in_range k r b) u ∙ ap (keeper_of h) (bears-row (get_or list i no_record).content _ _ t ∙ ap (λ (j : ℕ). (row_at h j).inserter) e)
+  original_keeper i u e t =
+      o.keepers.of_records g i (in_range k r b) u ∙ ap (keeper_of h) (bears_row (get_or list i no_record).content _ _ t ∙ ap (λ (j : ℕ). (row_at h j).inserter) e)
     where
-      bears-row : (y : Content) (inserter own : ℕ) → T (is_original c y) → borne_by y inserter own ≡ inserter
-      bears-row (original cs vs) inserter own q = refl
-      bears-row (setting m vs) inserter own q = absurd (unfold is_original in q)
-      bears-row ending inserter own q = absurd (unfold is_original in q)
+      bears_row : (y : Content) (inserter own : ℕ) → T (is_original c y) → borne_by y inserter own ≡ inserter
+      bears_row (original cs vs) inserter own q = refl
+      bears_row (setting m vs) inserter own q = absurd (unfold is_original in q)
+      bears_row ending inserter own q = absurd (unfold is_original in q)
 
-  pub keeper-is : keeper_in S v who r c ≡ keeper_read f h r c
+  pub keeper_is : keeper_in S v who r c ≡ keeper_read f h r c
   unfolding keeper_in keeper_read keeper_word
-  keeper-is =
-      rw (visible-is o k r b who f w, found_is (record_keeper v) (λ y. keeper_of h y.setter) (row_keeper v r) setting-keeper original-keeper insert-keeper, mod-eq_of_lt (o.keepers.small (version_of f h r c).setter))
+  keeper_is =
+      rw (visible_is o k r b who f w, found_is (record_keeper v) (λ y. keeper_of h y.setter) (row_keeper v r) setting_keeper original_keeper insert_keeper, mod-eq_of_lt (o.keepers.small (version_of f h r c).setter))
 
   -- ---- and what it is, on page p
   module _ (p : ℕ) (Q : ℕ → Type 0) (held : Holds h (range_of r) c Q (page_in v p) (cell_in v p))
@@ -296,14 +296,14 @@ module _ {F : Form} {S : Shape} {v : View} {ps : List ScanEntry} {h : History} (
     cell = cell_in v p (within r)
 
     -- read for the value
-    walk-value : (low : ℕ) → low ≤ length list
+    walk_value : (low : ℕ) → low ≤ length list
         → (has_original list r c ≡ has_original (take low list) r c → to_z w32 cell ≡ (last_setting f r c (inserted h r c) (take low list)).value)
         → to_z w32 (or_else (walk S v who g c low (row_in v r).link (row_in v r).link) (λ i. value_in S v i c) cell) ≡ (last_setting f r c (inserted h r c) list).value
-    walk-value low a z =
+    walk_value low a z =
         or_map (to_z w32) (walk S v who g c low (row_in v r).link (row_in v r).link) (λ i. value_in S v i c) cell
         ∙ walked (λ i. to_z w32 (value_in S v i c)) (λ y. y.value) low (to_z w32 cell)
         (λ i u t. setting_value S.columns c inside _ _ _ _ (lok.each i u).content t ∙ (unfold version_in in refl))
-        (λ i u e t. original_value S.columns c inside (inserted_value h r c) _ _ _ _ (lok.each i u).content (original-there i u e) t ∙ (unfold inserted in refl))
+        (λ i u e t. original_value S.columns c inside (inserted_value h r c) _ _ _ _ (lok.each i u).content (original_there i u e) t ∙ (unfold inserted in refl))
         a z
 
     cell_is : Q r → to_z w32 cell ≡ (last_setting (λ k. is_committed (state_of h k)) r c (inserted h r c) (take page.lineage list)).value
@@ -311,44 +311,44 @@ module _ {F : Form} {S : Shape} {v : View} {ps : List ScanEntry} {h : History} (
     cell_is q = held.cells r refl q
 
     -- a page that is not newer than the stamp
-    cell-seen : Q r → page.newest ≤ who.stamp.0 → to_z w32 cell ≡ (last_setting f r c (inserted h r c) (take page.lineage list)).value
-    cell-seen q n =
+    cell_seen : Q r → page.newest ≤ who.stamp.0 → to_z w32 cell ≡ (last_setting f r c (inserted h r c) (take page.lineage list)).value
+    cell_seen q n =
         cell_is q
         ∙ ap (λ (y : Version). y.value)
-        (last-agree (λ k. is_committed (state_of h k)) r c f (inserted h r c)
+        (last_agree (λ k. is_committed (state_of h k)) r c f (inserted h r c)
         (all-map₂ (λ (y : Record) a d s. page_seen h who page.newest f w n y.transaction a.0 (λ z e. (d s z e, a.1 z e))) (all_both held.through.closed_all taken) held.newest))
 
-    has-original : was_set list r c ≡ true → has_original list r c ≡ true
-    has-original e = sym (originals_of h r c k.invariants.order (omega (arith, k.small.columns)) refl) ∙ e
+    has_original_lem : was_set list r c ≡ true → has_original list r c ≡ true
+    has_original_lem e = sym (originals_of h r c k.invariants.order (omega (arith, k.small.columns)) refl) ∙ e
 
-    down-within : down_to who page ≤ length list
+    down_within : down_to who page ≤ length list
     unfolding down_to
-    down-within = by_test (λ a. cond a page.lineage 0 ≤ length list) (leb page.newest who.stamp.0) (λ _. held.through.within) (λ _. zero-le)
+    down_within = by_test (λ a. cond a page.lineage 0 ≤ length list) (leb page.newest who.stamp.0) (λ _. held.through.within) (λ _. zero-le)
 
     -- where no record answers, the page is not newer than the stamp: further down the column's original had answered
-    cell-answers : Q r → was_set list r c ≡ true → has_original list r c ≡ has_original (take (down_to who page) list) r c
+    cell_answers : Q r → was_set list r c ≡ true → has_original list r c ≡ has_original (take (down_to who page) list) r c
         → to_z w32 cell ≡ (last_setting f r c (inserted h r c) (take (down_to who page) list)).value
     unfolding down_to
-    cell-answers q s =
+    cell_answers q s =
         by_test (λ a. has_original list r c ≡ has_original (take (cond a page.lineage 0) list) r c
         → to_z w32 cell ≡ (last_setting f r c (inserted h r c) (take (cond a page.lineage 0) list)).value) (leb page.newest who.stamp.0)
-        (λ n _. cell-seen q (leb→le page.newest who.stamp.0 n))
-        (λ _ e. absurd (true≢false (sym (has-original s) ∙ e ∙ (unfold has_original in refl))))
+        (λ n _. cell_seen q (leb→le page.newest who.stamp.0 n))
+        (λ _ e. absurd (true≢false (sym (has_original_lem s) ∙ e ∙ (unfold has_original in refl))))
 
-    pub word-is : Q r → to_z w32 (word_in S v who p r c) ≡ (version_of f h r c).value
+    pub word_is : Q r → to_z w32 (word_in S v who p r c) ≡ (version_of f h r c).value
     unfolding word_in found_in
-    word-is q = go (bit (row_in v r).mask c) ((o.rows r b).mask c) ∙ ap (λ (y : Version). y.value) (version_range h f r c)
+    word_is q = go (bit (row_in v r).mask c) ((o.rows r b).mask c) ∙ ap (λ (y : Version). y.value) (version_range h f r c)
       where
         go : (a : Bool) → a ≡ was_set list r c
             → to_z w32 (or_else (cond a (walk S v who g c (down_to who page) (row_in v r).link (row_in v r).link) Found.Nothing) (λ i. value_in S v i c) cell)
             ≡ (last_setting f r c (inserted h r c) list).value
-        go true e = walk-value (down_to who page) down-within (cell-answers q (sym e))
+        go true e = walk_value (down_to who page) down_within (cell_answers q (sym e))
         go false e =
             cell_is q
-            ∙ ap (λ (y : Version). y.value) (last-unset _ r c (inserted h r c) (take page.lineage list) (unset_take list r c page.lineage (sym e)) ∙ sym (last-unset f r c (inserted h r c) list (sym e)))
+            ∙ ap (λ (y : Version). y.value) (last_unset _ r c (inserted h r c) (take page.lineage list) (unset_take list r c page.lineage (sym e)) ∙ sym (last_unset f r c (inserted h r c) list (sym e)))
 
     pub read_is : (T (visible f h r) → Q r) → read_in S v who p r c ≡ read f h r c
     unfolding read_in lookup_in shown_in read shown
-    read_is q = rw (visible-is o k r b who f w)
+    read_is q = rw (visible_is o k r b who f w)
         (by_test (λ a. cond a (Answer.Version (to_z w32 (word_in S v who p r c)) (setter_stamp v r (setter_in S v who r c))) Answer.None ≡ cond a (shown h (version_of f h r c)) Answer.None) (visible f h r)
-        (λ z. ap₂ Answer.Version (word-is (q z)) stamp_is) (λ _. refl))
+        (λ z. ap₂ Answer.Version (word_is (q z)) stamp_is) (λ _. refl))

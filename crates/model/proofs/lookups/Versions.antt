@@ -14,7 +14,7 @@ use Rattle.terms.specs.declared.Form.{Form}
 use Rattle.history.specs.History.{History, Record, Dated, dated, state_of, row_at, range_of, records_of, sets, inserted, inserted_value, version_in}
 use Rattle.history.specs.Records.{is_original, no_record}
 use Rattle.history.proofs.Lists.{by_test, parts}
-use Rattle.history.proofs.Versions.{told, allTold, told-append}
+use Rattle.history.proofs.Versions.{told, allTold, told_append}
 use Rattle.layout.specs.View.{View, used_in}
 use Rattle.terms.specs.declared.ScanEntry.{ScanEntry}
 use Rattle.model.specs.declared.Reader.{Reader}
@@ -23,7 +23,7 @@ use Rattle.model.specs.Reading.{sees_row, answers_for, setter_at}
 use Rattle.model.specs.Versions.{tells, setter_number, dated_in, values_in}
 use Rattle.model.specs.Represents.{RecordIs, Represents, WellFormed}
 use Rattle.model.proofs.lookups.Heads.{slot_is, SeesAs}
-use Rattle.model.proofs.lookups.Read.{record_answers, setting_value, original_value, lok, original-there, kind-setting, kind-original, setting-stamp, original-stamp}
+use Rattle.model.proofs.lookups.Read.{record_answers, setting_value, original_value, lok, original_there, kind_setting, kind_original, setting_stamp, original_stamp}
 
 same_dated : {a b : ℕ} {s t : ℕ} {x y : ℤ} → a ≡ b → s ≡ t → x ≡ y → ◌≡◌ {A = Dated} record { setter = a; stamp = s; value = x } record { setter = b; stamp = t; value = y }
 same_dated e q u = rw (e, q, u)
@@ -56,19 +56,19 @@ module _ {F : Form} {S : Shape} {v : View} {ps : List ScanEntry} {h : History} (
   tellsHere x = told f (state_of h) (inserted h r c) r c x
 
   -- the value that a setting tells, and an original
-  setting-dated : (i : ℕ) → i < length list → T (sets c (rec i).content) → dated_in S v r c (at i) ≡ dated (state_of h) (version_in c (rec i))
+  setting_dated : (i : ℕ) → i < length list → T (sets c (rec i).content) → dated_in S v r c (at i) ≡ dated (state_of h) (version_in c (rec i))
   unfolding dated_in dated setter_number version_in setter_at
-  setting-dated i u t =
+  setting_dated i u t =
       let x = (lok o k who f w r b c inside).each i u in
-      same_dated (rw (kind-setting o k who f w r b c inside _ _ _ _ x.content t) x.transaction) (setting-stamp o k who f w r b c inside i u t)
+      same_dated (rw (kind_setting o k who f w r b c inside _ _ _ _ x.content t) x.transaction) (setting_stamp o k who f w r b c inside i u t)
       (setting_value S.columns c inside _ _ _ _ x.content t)
 
-  original-dated : (i : ℕ) → i < length list → (rec i).row ≡ r → T (is_original c (rec i).content) → dated_in S v r c (at i) ≡ dated (state_of h) (inserted h r c)
+  original_dated : (i : ℕ) → i < length list → (rec i).row ≡ r → T (is_original c (rec i).content) → dated_in S v r c (at i) ≡ dated (state_of h) (inserted h r c)
   unfolding dated_in dated setter_number inserted setter_at
-  original-dated i u e t =
+  original_dated i u e t =
       let x = (lok o k who f w r b c inside).each i u in
-      same_dated (rw (kind-original o k who f w r b c inside _ _ _ _ x.content t) (o.rows r b).transaction) (original-stamp o k who f w r b c inside i u t)
-      (original_value S.columns c inside (inserted_value h r c) _ _ _ _ x.content (original-there o k who f w r b c inside i u e) t)
+      same_dated (rw (kind_original o k who f w r b c inside _ _ _ _ x.content t) (o.rows r b).transaction) (original_stamp o k who f w r b c inside i u t)
+      (original_value S.columns c inside (inserted_value h r c) _ _ _ _ x.content (original_there o k who f w r b c inside i u e) t)
 
   row_seen : sees_row who (row_in v r) ≡ f (row_at h r).inserter
   unfolding SeesAs
@@ -86,18 +86,18 @@ module _ {F : Form} {S : Shape} {v : View} {ps : List ScanEntry} {h : History} (
       (eqb (rec i).row r)
       (λ q. rw (x.state, x.stamp, x.ordinal, x.transaction, w (rec i).transaction)
       (record_answers S.columns c (rec i).content _ _ _ (f (rec i).transaction) _ _ _ _ x.content
-      (λ t. let s = (parts (sets c (rec i).content) _ t).0 in rw (kind-setting o k who f w r b c inside _ _ _ _ x.content s, setting-dated i u s))
-      (λ t. rw (kind-original o k who f w r b c inside _ _ _ _ x.content t, row_seen, original-dated i u (eqb→eq (rec i).row r q) t))))
+      (λ t. let s = (parts (sets c (rec i).content) _ t).0 in rw (kind_setting o k who f w r b c inside _ _ _ _ x.content s, setting_dated i u s))
+      (λ t. rw (kind_original o k who f w r b c inside _ _ _ _ x.content t, row_seen, original_dated i u (eqb→eq (rec i).row r q) t))))
       (λ _. refl))
 
   -- the first n
-  values-told : (n : ℕ) → n ≤ length list → values_in S v who r c n ≡ allTold f (state_of h) (inserted h r c) r c (take n list)
+  values_told : (n : ℕ) → n ≤ length list → values_in S v who r c n ≡ allTold f (state_of h) (inserted h r c) r c (take n list)
   unfolding values_in
-  values-told zero u = refl
-  values-told (suc n) u =
-      rw (slot_is S g n, values-told n (omega arith), take-suc list n no_record u, told-append f (state_of h) (inserted h r c) r c (take n list) (rec n ∷ []), append-nil (tellsHere (rec n)))
+  values_told zero u = refl
+  values_told (suc n) u =
+      rw (slot_is S g n, values_told n (omega arith), take-suc list n no_record u, told_append f (state_of h) (inserted h r c) r c (take n list) (rec n ∷ []), append-nil (tellsHere (rec n)))
       (behind (tells v who r c (record_in v (at n))) (allTold f (state_of h) (inserted h r c) r c (take n list)) (dated_in S v r c (at n))
       ∙ ap (λ (l : List Dated). allTold f (state_of h) (inserted h r c) r c (take n list) ++ l) (told_here n u))
 
-  pub values-is : values_in S v who r c (used_in v (range_of r)) ≡ allTold f (state_of h) (inserted h r c) r c list
-  values-is = rw ((lok o k who f w r b c inside).used_all, values-told (length list) (le_refl _), take-length)
+  pub values_is : values_in S v who r c (used_in v (range_of r)) ≡ allTold f (state_of h) (inserted h r c) r c list
+  values_is = rw ((lok o k who f w r b c inside).used_all, values_told (length list) (le_refl _), take-length)

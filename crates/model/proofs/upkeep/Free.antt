@@ -15,7 +15,7 @@ use Rattle.layout.specs.declared.Region.TheVariants.{Current}
 use Rattle.model.specs.Stored.{page_in, chunks_of, pages_of, free_page, current_page, waiting_page, count_below, first_from}
 use Rattle.model.specs.Preconditions.{ChunksCurrent}
 use Rattle.model.specs.Writing.{named_in, stray_in, free_in}
-use Rattle.model.proofs.Lists.{one, below_none, below_pos, below_change, below_three, below_sum, first-is, first_none, same_truth}
+use Rattle.model.proofs.Lists.{one, below_none, below_pos, below_change, below_three, below_sum, first_is, first_none, same_truth}
 
 -- a page is free, current or waiting by its state
 states_three : (w : ℕ) → one (free_page w) + one (current_page w) + one (waiting_page w) ≡ 1
@@ -36,10 +36,10 @@ module _ (S : Shape) (v : View) (o : ChunksCurrent S v) where
   among k p = ltb (at p) k && eqb (cur (at p)) p
 
   -- the chunks name as many pages as there are chunks
-  named-first : (k : ℕ) → k ≤ chunks_of S → count_below (among k) (pages_of S) ≡ k
-  named-first zero b = below_none (among 0) (pages_of S) (λ p q. refuted (among 0 p) (λ t. let z = simp (both_test, le_test) at t in omega arith))
-  named-first (suc k) b =
-      omega (arith, named-first k (omega arith), below_change (among k) (among (suc k)) (pages_of S) (cur k) (o.inside k b) same, ap one old, ap one new)
+  named_first : (k : ℕ) → k ≤ chunks_of S → count_below (among k) (pages_of S) ≡ k
+  named_first zero b = below_none (among 0) (pages_of S) (λ p q. refuted (among 0 p) (λ t. let z = simp (both_test, le_test) at t in omega arith))
+  named_first (suc k) b =
+      omega (arith, named_first k (omega arith), below_change (among k) (among (suc k)) (pages_of S) (cur k) (o.inside k b) same, ap one old, ap one new)
     where
       same : (p : ℕ) → p < pages_of S → p ≢ cur k → among k p ≡ among (suc k) p
       same p q n = same_truth (among k p) (among (suc k) p)
@@ -55,11 +55,11 @@ module _ (S : Shape) (v : View) (o : ChunksCurrent S v) where
 
   pub named_count : count_below (named_in S v) (pages_of S) ≡ chunks_of S
   unfolding named_in
-  named_count = named-first (chunks_of S) (omega arith)
+  named_count = named_first (chunks_of S) (omega arith)
 
-  pub named-state : (p : ℕ) → T (named_in S v p) → (page_in v p).state ≡ 1
+  pub named_state : (p : ℕ) → T (named_in S v p) → (page_in v p).state ≡ 1
   unfolding named_in
-  named-state p t =
+  named_state p t =
       let z = parts (ltb (at p) (chunks_of S)) _ t in
       ap (λ (q : ℕ). (page_in v q).state) (sym (eqb→eq (cur (at p)) p z.1)) ∙ o.state (at p) (ltb→lt (at p) (chunks_of S) z.0)
 
@@ -73,19 +73,19 @@ module _ (S : Shape) (v : View) (o : ChunksCurrent S v) where
   waiting p = waiting_page (page_in v p).state
 
   -- a current page is stray or named by its chunk
-  current-count : count_below current (pages_of S) ≡ count_below (stray_in S v) (pages_of S) + chunks_of S
+  current_count : count_below current (pages_of S) ≡ count_below (stray_in S v) (pages_of S) + chunks_of S
   unfolding stray_in
-  current-count = below_sum current (stray_in S v) (named_in S v) (pages_of S) each ∙ ap (λ (n : ℕ). count_below (stray_in S v) (pages_of S) + n) named_count
+  current_count = below_sum current (stray_in S v) (named_in S v) (pages_of S) each ∙ ap (λ (n : ℕ). count_below (stray_in S v) (pages_of S) + n) named_count
     where
       each : (p : ℕ) → one (current p) ≡ one (current p && not (named_in S v p)) + one (named_in S v p)
-      each p = by_test (λ b. one (current p) ≡ one (current p && not b) + one b) (named_in S v p) (λ t. rw (named-state p t)) (λ _. rw (and_true (current p)) (omega arith))
+      each p = by_test (λ b. one (current p) ≡ one (current p && not b) + one b) (named_in S v p) (λ t. rw (named_state p t)) (λ _. rw (and_true (current p)) (omega arith))
 
-  page-count : count_below free (pages_of S) + count_below (stray_in S v) (pages_of S) + count_below waiting (pages_of S) ≡ S.spares
-  page-count = omega (arith, below_three free current waiting (pages_of S) (λ p. states_three (page_in v p).state), current-count)
+  page_count : count_below free (pages_of S) + count_below (stray_in S v) (pages_of S) + count_below waiting (pages_of S) ≡ S.spares
+  page_count = omega (arith, below_three free current waiting (pages_of S) (λ p. states_three (page_in v p).state), current_count)
 
   -- no page is stray where as many are current as there are chunks
   pub no_stray : count_below current (pages_of S) ≡ chunks_of S → count_below (stray_in S v) (pages_of S) ≡ 0
-  no_stray e = omega (arith, current-count)
+  no_stray e = omega (arith, current_count)
 
   -- what the search answers, by its two parts
   abbrev first : ℕ
@@ -94,33 +94,33 @@ module _ (S : Shape) (v : View) (o : ChunksCurrent S v) where
   abbrev second : ℕ
   second = first_from (stray_in S v) (pages_of S) 0
 
-  pub free-cases : (P : ℕ → Type 0) → (first < pages_of S → P first) → (pages_of S ≤ first → P second) → P (free_in S v)
+  pub free_cases : (P : ℕ → Type 0) → (first < pages_of S → P first) → (pages_of S ≤ first → P second) → P (free_in S v)
   unfolding free_in
-  free-cases P f g = by_test (λ z. P (cond z first second)) (ltb first (pages_of S)) (λ t. f (ltb→lt first (pages_of S) t)) (λ t. g (nltb→le first (pages_of S) t))
+  free_cases P f g = by_test (λ z. P (cond z first second)) (ltb first (pages_of S)) (λ t. f (ltb→lt first (pages_of S) t)) (λ t. g (nltb→le first (pages_of S) t))
 
-  pub free-none : leb (pages_of S) (free_in S v) ≡ leb S.spares (count_below waiting (pages_of S))
-  free-none =
+  pub free_none : leb (pages_of S) (free_in S v) ≡ leb S.spares (count_below waiting (pages_of S))
+  free_none =
       let waits = count_below waiting (pages_of S) in
       let stray = count_below (stray_in S v) (pages_of S) in
-      free-cases (λ q. leb (pages_of S) q ≡ leb S.spares waits)
-      (λ b. lt-leb (pages_of S) first b ∙ sym (lt-leb S.spares waits (omega (arith, page-count, below_pos free (pages_of S) first b (first-is free (pages_of S) 0 (omega arith))))))
+      free_cases (λ q. leb (pages_of S) q ≡ leb S.spares waits)
+      (λ b. lt-leb (pages_of S) first b ∙ sym (lt-leb S.spares waits (omega (arith, page_count, below_pos free (pages_of S) first b (first_is free (pages_of S) 0 (omega arith))))))
       (λ b.
       let none : count_below free (pages_of S) ≡ 0 = eqb→eq _ 0 (rw (first_none free (pages_of S)) at (le→leb (pages_of S) first b)) in
       first_none (stray_in S v) (pages_of S)
-      ∙ same_truth (eqb stray 0) (leb S.spares waits) (λ t. le→leb S.spares waits (omega (arith, page-count, eqb→eq stray 0 t)))
-      (λ t. eqb_equal stray 0 (omega (arith, page-count, leb→le S.spares waits t))))
+      ∙ same_truth (eqb stray 0) (leb S.spares waits) (λ t. le→leb S.spares waits (omega (arith, page_count, eqb→eq stray 0 t)))
+      (λ t. eqb_equal stray 0 (omega (arith, page_count, leb→le S.spares waits t))))
 
   -- a page that is found is named by no chunk
-  pub free-unnamed : free_in S v < pages_of S → T (not (named_in S v (free_in S v)))
+  pub free_unnamed : free_in S v < pages_of S → T (not (named_in S v (free_in S v)))
   unfolding stray_in
-  free-unnamed =
-      free-cases (λ q. q < pages_of S → T (not (named_in S v q)))
-      (λ b _. not_T (named_in S v first) (λ t. omega (arith, eqb→eq (page_in v first).state 0 (first-is free (pages_of S) 0 (omega arith)), named-state first t)))
-      (λ _ b. (parts (current_page (page_in v second).state) _ (first-is (stray_in S v) (pages_of S) 0 (omega arith))).1)
+  free_unnamed =
+      free_cases (λ q. q < pages_of S → T (not (named_in S v q)))
+      (λ b _. not_T (named_in S v first) (λ t. omega (arith, eqb→eq (page_in v first).state 0 (first_is free (pages_of S) 0 (omega arith)), named_state first t)))
+      (λ _ b. (parts (current_page (page_in v second).state) _ (first_is (stray_in S v) (pages_of S) 0 (omega arith))).1)
 
   -- and without stray pages its state is free
-  pub found-free : count_below (stray_in S v) (pages_of S) ≡ 0 → free_in S v < pages_of S → (page_in v (free_in S v)).state ≡ 0
-  found-free e =
-      free-cases (λ q. q < pages_of S → (page_in v q).state ≡ 0)
-      (λ b _. eqb→eq _ 0 (first-is free (pages_of S) 0 (omega arith)))
-      (λ _ b. absurd (omega (arith, e, below_pos (stray_in S v) (pages_of S) second b (first-is (stray_in S v) (pages_of S) 0 (omega arith)))))
+  pub found_free : count_below (stray_in S v) (pages_of S) ≡ 0 → free_in S v < pages_of S → (page_in v (free_in S v)).state ≡ 0
+  found_free e =
+      free_cases (λ q. q < pages_of S → (page_in v q).state ≡ 0)
+      (λ b _. eqb→eq _ 0 (first_is free (pages_of S) 0 (omega arith)))
+      (λ _ b. absurd (omega (arith, e, below_pos (stray_in S v) (pages_of S) second b (first_is (stray_in S v) (pages_of S) 0 (omega arith)))))

@@ -12,7 +12,7 @@ use Rattle.layout.specs.View.{View}
 use Rattle.layout.specs.Codes.{as_current}
 use Rattle.model.specs.Stored.{PageWords, page_in, current_in, chunk_of, chunks_of, pages_of, first_from}
 use Rattle.model.specs.Reading.{was_current, scan_page}
-use Rattle.model.proofs.Lists.{first-is}
+use Rattle.model.proofs.Lists.{first_is}
 use Rattle.model.specs.Represents.{made_in}
 
 -- what the search asks of a page
@@ -46,7 +46,7 @@ abbrev pub searched : Shape → View → ℕ → ℕ → ℕ → ℕ
 searched S v m g c = first_from (was_current S v m (chunk_of S g c)) (pages_of S) 0
 
 pub search_is : (S : Shape) (v : View) (m g c : ℕ) → searched S v m g c < pages_of S → WasCurrent S m (chunk_of S g c) (page_in v (searched S v m g c))
-search_is S v m g c b = was_current_lem S v m (chunk_of S g c) (searched S v m g c) (first-is (was_current S v m (chunk_of S g c)) (pages_of S) 0 (omega arith))
+search_is S v m g c b = was_current_lem S v m (chunk_of S g c) (searched S v m g c) (first_is (was_current S v m (chunk_of S g c)) (pages_of S) 0 (omega arith))
 
 pub found_page : (S : Shape) (v : View) (m g c : ℕ) → m < made_in S v g c → searched S v m g c < pages_of S → scan_page S v m g c ≡ searched S v m g c
 unfolding scan_page

@@ -7,7 +7,7 @@ use lib.ListN.{get_or}
 use Rattle.layout.specs.View.{view_of}
 use Rattle.model.specs.Stored.{any_below}
 use Rattle.model.specs.Calls.{bears_keeper}
-use Rattle.conditions.proofs.Records.{no-turn, one-turn, turned}
+use Rattle.conditions.proofs.Records.{no_turn, one_turn, turned}
 use Rattle.moving.proofs.any_borne.Statement.{statement}
 use Rattle.moving.proofs.any_borne.Tie as tie
 
@@ -21,7 +21,7 @@ loop-again : tie.Need-loop-preserved invariant-loop decreases-loop
 loop-again c =
     let head : tie.At-loop invariant-loop decreases-loop = search in
     let word : tie.After-read-later invariant-loop decreases-loop = search in
-    (omega arith, one-turn _ _ _ _ _ head.loop.inv.1 (c.before.bears.ensures ∙ rw word.read-later.ensures) c.either.ensures)
+    (omega arith, one_turn _ _ _ _ _ head.loop.inv.1 (c.before.bears.ensures ∙ rw word.read-later.ensures) c.either.ensures)
 
 pub any_borne_spec : {M : Type 1} → statement M
 any_borne_spec =
@@ -29,7 +29,7 @@ any_borne_spec =
     (tie.spec
     invariant-loop
     decreases-loop
-    (λ c. (omega arith, no-turn _))
+    (λ c. (omega arith, no_turn _))
     (λ c. omega arith)
     (λ c κs. search rules)
     (λ c κs. search rules)

@@ -15,7 +15,7 @@ returns c =
     let rest : tie.After-either = search in
     let all : tie.After-either2 = search in
     let s = start.args.s in
-    borne_is s (view_of s start.args.mem.now) _ _ _ _ _ _ given.read.ensures rows.any-borne.ensures tails.tails-borne.ensures opens.opens-borne.ensures rest.either.ensures all.either2.ensures
+    borne_is s (view_of s start.args.mem.now) _ _ _ _ _ _ given.read.ensures rows.any-borne.ensures tails.tails-borne.ensures opens.opens_borne.ensures rest.either.ensures all.either2.ensures
 
 pub keeper_borne_spec : {M : Type 1} → statement M
 keeper_borne_spec =

@@ -7,12 +7,12 @@ use Rattle.words.proofs.Words.{length_words}
 use Rattle.layout.specs.Regions.{base, need}
 use Rattle.layout.specs.declared.Region.TheVariants.{RowKeeper}
 use Rattle.model.specs.Preconditions.{shape_in}
-use Rattle.moving.proofs.Laid.{words-in, calls_moved}
+use Rattle.moving.proofs.Laid.{words_in, calls_moved}
 use Rattle.moving.proofs.lay_moved.Statement.{statement}
 use Rattle.moving.proofs.lay_moved.Tie as tie
 
 inside : (c : tie.Start) → let a = c.args in (base a.to RowKeeper ≤ need a.s) × (base a.to RowKeeper ≤ need a.to)
-inside c = words-in _ _ (shape_in c.args.s) c.args.s c.args.to c.requires.1.1.0 c.requires.1.1.1
+inside c = words_in _ _ (shape_in c.args.s) c.args.s c.args.to c.requires.1.1.0 c.requires.1.1.1
 
 copy-from-requires : tie.Need-copy-from-requires
 copy-from-requires c κs =

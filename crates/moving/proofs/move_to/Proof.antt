@@ -7,7 +7,7 @@ use Rattle.layout.specs.Regions.{need, columns_word}
 use Rattle.layout.specs.Sizes.{sizes_of, too_many_words}
 use Rattle.model.specs.Preconditions.{shape_in}
 use Rattle.admission.specs.Admitted.{Fitted}
-use Rattle.moving.proofs.Ends.{unfit, fitted, small, sizes-moved, word_moved, short, part_long, part_room, lost, done}
+use Rattle.moving.proofs.Ends.{unfit, fitted, small, sizes_moved, word_moved, short, part_long, part_room, lost, done}
 use Rattle.moving.proofs.move_to.Statement.{statement}
 use Rattle.moving.proofs.move_to.Tie as tie
 
@@ -22,7 +22,7 @@ known c = search fitted
 -- what `lay_moved` asks of the sizes moved to
 moved_to : (c : tie.After-in-form) → let s : tie.After-s = c.before.before in let start : tie.Start = s.before.before.before.before.before.before in let r = c.in-form.result in let z = s.s.given.0.0 in
     (r ≡ sizes_of r.form (shape_in z)) × ((word : ℕ) → word ≡ columns_word start.args.to z.columns → word ≡ columns_word r.form z.columns)
-moved_to c = (search sizes-moved, search word_moved)
+moved_to c = (search sizes_moved, search word_moved)
 
 lay-moved-requires : tie.Need-lay-moved-requires
 lay-moved-requires c κs =

@@ -6,7 +6,7 @@ use borrow.Author.Rules.{rules}
 use Rattle.terms.specs.Measures.{most_transactions}
 use Rattle.layout.specs.View.{view_of}
 use Rattle.model.specs.Stored.{any_below}
-use Rattle.conditions.proofs.Records.{no-turn, one-turn, turned}
+use Rattle.conditions.proofs.Records.{no_turn, one_turn, turned}
 use Rattle.moving.specs.Borne.{open_borne}
 use Rattle.moving.proofs.opens_borne.Statement.{statement}
 use Rattle.moving.proofs.opens_borne.Tie as tie
@@ -24,7 +24,7 @@ loop-again c =
     let word : tie.After-read-later invariant-loop decreases-loop = search in
     let bears : tie.After-bears invariant-loop decreases-loop = search in
     let both : tie.After-both invariant-loop decreases-loop = search in
-    (omega arith, one-turn _ _ _ _ _ head.loop.inv.1 (both.both.ensures ∙ rw (bears.bears.ensures, number.read.ensures, word.read-later.ensures)) c.either.ensures)
+    (omega arith, one_turn _ _ _ _ _ head.loop.inv.1 (both.both.ensures ∙ rw (bears.bears.ensures, number.read.ensures, word.read-later.ensures)) c.either.ensures)
 
 pub opens_borne_spec : {M : Type 1} → statement M
 opens_borne_spec =
@@ -32,7 +32,7 @@ opens_borne_spec =
     (tie.spec
     invariant-loop
     decreases-loop
-    (λ c. (omega arith, no-turn _))
+    (λ c. (omega arith, no_turn _))
     (λ c κs. (omega arith, omega arith))
     (λ c κs. search rules)
     (λ c κs. search rules)

@@ -5,7 +5,7 @@ use native.Mathlib.Omega.{arith}
 use borrow.Author.Rules.{rules}
 use Rattle.layout.specs.View.{view_of}
 use Rattle.model.specs.Stored.{any_below}
-use Rattle.conditions.proofs.Records.{no-turn, one-turn, turned}
+use Rattle.conditions.proofs.Records.{no_turn, one_turn, turned}
 use Rattle.moving.specs.Borne.{tail_borne}
 use Rattle.moving.proofs.Borne.{records_in, tail_is}
 use Rattle.moving.proofs.tails_borne.Statement.{statement}
@@ -35,7 +35,7 @@ loop-again c =
     let used : tie.After-read invariant-loop decreases-loop = search in
     let start : tie.Start invariant-loop decreases-loop = search in
     let s = start.args.s in
-    (omega arith, one-turn _ _ _ _ _ head.loop.inv.1 (tail_is s (view_of s start.args.mem.now) _ _ _ c.before.any-borne.ensures used.read.ensures) c.either.ensures)
+    (omega arith, one_turn _ _ _ _ _ head.loop.inv.1 (tail_is s (view_of s start.args.mem.now) _ _ _ c.before.any-borne.ensures used.read.ensures) c.either.ensures)
 
 pub tails_borne_spec : {M : Type 1} → statement M
 tails_borne_spec =
@@ -43,7 +43,7 @@ tails_borne_spec =
     (tie.spec
     invariant-loop
     decreases-loop
-    (λ c. (omega arith, no-turn _))
+    (λ c. (omega arith, no_turn _))
     (λ c κs. let start : tie.Start invariant-loop decreases-loop = search in (start.pre.room, omega arith))
     (λ c. search rules)
     mul-any-borne

@@ -3,7 +3,7 @@ use borrow.Author.Rules.{rules}
 use Prim.Native.Nat.{◌-◌}
 use Rattle.layout.specs.View.{view_of}
 use Rattle.facts.specs.Facts.{waiting_at_most}
-use Rattle.facts.proofs.Each.{Flagged, flag-raised, flag-next, flag-all}
+use Rattle.facts.proofs.Each.{Flagged, flag_raised, flag_next, flag_all}
 use Rattle.pages.proofs.all_waiting_at_most.Statement.{statement}
 use Rattle.pages.proofs.all_waiting_at_most.Tie as tie
 
@@ -19,12 +19,12 @@ all_waiting_at_most_spec =
     (tie.spec
     invariant-loop
     decreases-loop
-    (λ c. flag-raised _ _)
+    (λ c. flag_raised _ _)
     (λ c κs. let start = c.before.before.before in (start.requires.0, (c.loop-test.true, start.requires.1)))
     (λ c κs. search rules)
     (λ c. search rules)
     (λ c. search rules)
     (λ c.
     let b = c.before.before.before.loop in
-    flag-next _ _ _ b.p b.invariant _ _ c.before.before.loop-test.true c.before.waiting-at-most.ensures c.both.ensures)
-    (λ c. flag-all _ _ _ c.before.loop.p c.before.loop.invariant c.loop-test.false))
+    flag_next _ _ _ b.p b.invariant _ _ c.before.before.loop-test.true c.before.waiting-at-most.ensures c.both.ensures)
+    (λ c. flag_all _ _ _ c.before.loop.p c.before.loop.invariant c.loop-test.false))

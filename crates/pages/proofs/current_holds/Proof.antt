@@ -4,24 +4,24 @@ use Prim.Native.Nat.{◌/◌, ◌<◌}
 use mathlib.Core.Path.{◌≡◌}
 use borrow.Author.Rules.{rules}
 use Rattle.terms.specs.Measures.{most_chunks}
-use Rattle.layout.proofs.Indices.{chunk-range, chunks-few}
-use Rattle.pages.proofs.Waiting.{out-of-pool, current-is}
+use Rattle.layout.proofs.Indices.{chunk_range, chunks_few}
+use Rattle.pages.proofs.Waiting.{out_of_pool, current_is}
 use Rattle.pages.proofs.current_holds.Statement.{statement}
 use Rattle.pages.proofs.current_holds.Tie as tie
 
 -- the chunk is small enough for the inverse
 few : (c : tie.Start) → c.args.i < most_chunks
-few c = omega (arith, chunks-few c.args.s c.requires.0.proper, c.requires.1.0)
+few c = omega (arith, chunks_few c.args.s c.requires.0.proper, c.requires.1.0)
 
-range-is : (c : tie.After-range-of-chunk) → let s : tie.Start = search in c.range-of-chunk.result ≡ s.args.i / s.args.s.columns
-range-is c =
+range_is : (c : tie.After-range-of-chunk) → let s : tie.Start = search in c.range-of-chunk.result ≡ s.args.i / s.args.s.columns
+range_is c =
     let s : tie.Start = search in
     c.range-of-chunk.ensures s.args.s.columns s.pre.0.proper.columns_from s.pre.0.proper.columns_to s.pre.1.1
 
 read-requires-6 : tie.Need-read-requires-6
 read-requires-6 c κs =
     let s : tie.Start = search in
-    (s.pre.0.room, rw (range-is c) (chunk-range s.args.s s.pre.0.proper _ s.pre.1.0))
+    (s.pre.0.room, rw (range_is c) (chunk_range s.args.s s.pre.0.proper _ s.pre.1.0))
 
 pub current_holds_spec : {M : Type 1} → statement M
 current_holds_spec =
@@ -29,7 +29,7 @@ current_holds_spec =
     (tie.spec
     (λ c κs. search rules)
     (λ c. search rules)
-    (λ c. search out-of-pool)
+    (λ c. search out_of_pool)
     (λ c κs. search rules)
     (λ c κs. search rules)
     (λ c κs. search rules)
@@ -41,4 +41,4 @@ current_holds_spec =
     (λ c κs. search rules)
     (λ c κs. search rules)
     (λ c κs. search rules)
-    (λ c. search (current-is, range-is)))
+    (λ c. search (current_is, range_is)))

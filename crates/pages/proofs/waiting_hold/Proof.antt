@@ -1,7 +1,7 @@
 -- `pages::waiting_hold` meets its contract.
 use borrow.Author.Rules.{rules}
 use Rattle.facts.specs.Tests.{waiting_hold}
-use Rattle.pages.proofs.Waiting.{none-waiting}
+use Rattle.pages.proofs.Waiting.{none_waiting}
 use Rattle.pages.proofs.waiting_hold.Statement.{statement}
 use Rattle.pages.proofs.waiting_hold.Tie as tie
 
@@ -20,7 +20,7 @@ waiting_hold_spec =
     tie.close
     (tie.spec
     (λ c κs. search rules)
-    (λ c. search none-waiting)
+    (λ c. search none_waiting)
     (λ c κs. search rules)
     (λ c κs. search rules)
     (λ c κs. search rules)

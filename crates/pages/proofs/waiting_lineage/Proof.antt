@@ -5,20 +5,20 @@ use Prim.Native.Nat.{ℕ, ◌/◌, ◌%◌}
 use mathlib.Core.Path.{◌≡◌, ap, ◌∙◌}
 use Rattle.layout.specs.View.{view_of}
 use Rattle.facts.specs.Facts.{page_range}
-use Rattle.layout.proofs.Indices.{chunk-range, chunks-few, chunks-some}
+use Rattle.layout.proofs.Indices.{chunk_range, chunks_few, chunks_some}
 use native.Mathlib.Nat.{mod-lt}
-use Rattle.pages.proofs.Waiting.{not-waiting, lineage-is}
+use Rattle.pages.proofs.Waiting.{not_waiting, lineage_is}
 use Rattle.pages.proofs.waiting_lineage.Statement.{statement}
 use Rattle.pages.proofs.waiting_lineage.Tie as tie
 
 range-of-chunk-requires : tie.Need-range-of-chunk-requires
 range-of-chunk-requires c κs =
     let s : tie.Start = search in
-    (omega (arith, chunks-few s.args.s s.pre.0.proper, c.modulo-chunks.ensures.1), s.pre.1.2)
+    (omega (arith, chunks_few s.args.s s.pre.0.proper, c.modulo-chunks.ensures.1), s.pre.1.2)
 
 -- the range of the page's chunk
-range-is : (c : tie.After-range-of-chunk) → let s : tie.Start = search in c.range-of-chunk.result ≡ page_range s.args.s (view_of s.args.s s.args.mem.now) s.args.p
-range-is c =
+range_is : (c : tie.After-range-of-chunk) → let s : tie.Start = search in c.range-of-chunk.result ≡ page_range s.args.s (view_of s.args.s s.args.mem.now) s.args.p
+range_is c =
     let read : tie.After-read2 = search in
     let s : tie.Start = search in
     let z = s.args.s in
@@ -29,18 +29,18 @@ read-requires-3 : tie.Need-read-requires-3
 read-requires-3 c κs =
     let s : tie.Start = search in
     let proper = s.pre.0.proper in
-    (s.pre.0.room, rw (range-is c) (chunk-range s.args.s proper _ (mod-lt _ (chunks-some s.args.s proper))))
+    (s.pre.0.room, rw (range_is c) (chunk_range s.args.s proper _ (mod-lt _ (chunks_some s.args.s proper))))
 
 pub waiting_lineage_spec : {M : Type 1} → statement M
 waiting_lineage_spec =
     tie.close
     (tie.spec
     (λ c κs. search rules)
-    (λ c. search not-waiting)
+    (λ c. search not_waiting)
     (λ c κs. search rules)
     (λ c. search rules)
-    (λ c κs. let s : tie.Start = search in omega (arith, chunks-some s.args.s s.pre.0.proper))
+    (λ c κs. let s : tie.Start = search in omega (arith, chunks_some s.args.s s.pre.0.proper))
     range-of-chunk-requires
     read-requires-3
     (λ c κs. search rules)
-    (λ c. search (lineage-is, range-is)))
+    (λ c. search (lineage_is, range_is)))

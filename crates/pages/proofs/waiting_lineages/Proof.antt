@@ -3,7 +3,7 @@ use borrow.Author.Rules.{rules}
 use Prim.Native.Nat.{◌-◌}
 use Rattle.layout.specs.View.{view_of}
 use Rattle.facts.specs.Facts.{waiting_lineage}
-use Rattle.facts.proofs.Each.{Flagged, flag-raised, flag-next, flag-all}
+use Rattle.facts.proofs.Each.{Flagged, flag_raised, flag_next, flag_all}
 use Rattle.pages.proofs.waiting_lineages.Statement.{statement}
 use Rattle.pages.proofs.waiting_lineages.Tie as tie
 
@@ -26,12 +26,12 @@ waiting_lineages_spec =
     invariant-loop
     decreases-loop
     (λ c κs. (c.before.requires.proper.columns_from, c.before.requires.proper.columns_to))
-    (λ c. flag-raised _ _)
+    (λ c. flag_raised _ _)
     waiting-lineage-requires
     (λ c κs. search rules)
     (λ c. search rules)
     (λ c. search rules)
     (λ c.
     let b = c.before.before.before.loop in
-    flag-next _ _ _ b.p b.invariant _ _ c.before.before.loop-test.true c.before.waiting-lineage.ensures c.both.ensures)
-    (λ c. flag-all _ _ _ c.before.loop.p c.before.loop.invariant c.loop-test.false))
+    flag_next _ _ _ b.p b.invariant _ _ c.before.before.loop-test.true c.before.waiting-lineage.ensures c.both.ensures)
+    (λ c. flag_all _ _ _ c.before.loop.p c.before.loop.invariant c.loop-test.false))

@@ -1,5 +1,5 @@
 -- `reading::answers_for` meets its contract.
-use Rattle.reading.proofs.Answering.{answers-not, answers-original, answers-setting, answers-delete}
+use Rattle.reading.proofs.Answering.{answers_not, answers_original, answers_setting, answers_delete}
 use borrow.Author.Rules.{rules}
 use Rattle.reading.proofs.answers_for.Statement.{statement}
 use Rattle.reading.proofs.answers_for.Tie as tie
@@ -11,8 +11,8 @@ answers_for_spec =
     (λ c κs. search rules)
     (λ c κs. search rules)
     (λ c κs. search rules)
-    (λ c. search answers-original)
+    (λ c. search answers_original)
     (λ c κs. search rules)
-    (λ c. search answers-setting)
-    (λ c. search answers-delete)
-    (λ c. search answers-not))
+    (λ c. search answers_setting)
+    (λ c. search answers_delete)
+    (λ c. search answers_not))

@@ -1,6 +1,6 @@
 -- `reading::find` meets its contract.
-use Rattle.rows.proofs.Indices.{row-range, row-link}
-use Rattle.reading.proofs.Walking.{found-unset, found-set}
+use Rattle.rows.proofs.Indices.{row_range, row_link}
+use Rattle.reading.proofs.Walking.{found_unset, found_set}
 use borrow.Author.Rules.{rules}
 use Rattle.reading.proofs.find.Statement.{statement}
 use Rattle.reading.proofs.find.Tie as tie
@@ -14,6 +14,6 @@ find_spec =
     (λ c κs. search rules)
     (λ c κs. search rules)
     (λ c κs. search rules)
-    (λ c κs. (search, (search, (search, (search row-range, search, search row-link)))))
-    (λ c. (search found-set, search))
-    (λ c. (search found-unset, tt)))
+    (λ c κs. (search, (search, (search, (search row_range, search, search row_link)))))
+    (λ c. (search found_set, search))
+    (λ c. (search found_unset, tt)))

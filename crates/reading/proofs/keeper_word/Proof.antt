@@ -1,7 +1,7 @@
 -- `reading::keeper_word` meets its contract: the walk finds a record or none, and the keeper is read there.
 use borrow.Author.Rules.{rules}
 use Rattle.rows.proofs.Cases.{found_inside}
-use Rattle.reading.proofs.Keepers.{keeper-none, keeper-found}
+use Rattle.reading.proofs.Keepers.{keeper_none, keeper_found}
 use Rattle.reading.proofs.keeper_word.Statement.{statement}
 use Rattle.reading.proofs.keeper_word.Tie as tie
 
@@ -14,6 +14,6 @@ keeper_word_spec =
     (λ c. search rules)
     (λ c. search rules)
     (λ c κs. search rules)
-    (λ c. search keeper-none)
+    (λ c. search keeper_none)
     (λ c κs. (search, search found_inside))
-    (λ c. search keeper-found))
+    (λ c. search keeper_found))

@@ -1,6 +1,6 @@
 -- `reading::read_current` meets its contract.
 use Rattle.model.specs.Reading.{read_current}
-use Rattle.rows.proofs.Indices.{row-range}
+use Rattle.rows.proofs.Indices.{row_range}
 use borrow.Author.Rules.{rules}
 use Rattle.reading.proofs.read_current.Statement.{statement}
 use Rattle.reading.proofs.read_current.Tie as tie
@@ -13,4 +13,4 @@ returns c =
 
 pub read_current_spec : {M : Type 1} → statement M
 read_current_spec =
-    tie.close (tie.spec (λ c κs. search rules) (λ c κs. (search, (search, (search, (search row-range, search))))) (λ c κs. search rules) returns)
+    tie.close (tie.spec (λ c κs. search rules) (λ c κs. (search, (search, (search, (search row_range, search))))) (λ c κs. search rules) returns)

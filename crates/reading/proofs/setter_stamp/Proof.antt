@@ -1,5 +1,5 @@
 -- `reading::setter_stamp` meets its contract.
-use Rattle.reading.proofs.Setting.{record_inside, insert-stamp, update-stamp}
+use Rattle.reading.proofs.Setting.{record_inside, insert_stamp, update_stamp}
 use borrow.Author.Rules.{rules}
 use Rattle.reading.proofs.setter_stamp.Statement.{statement}
 use Rattle.reading.proofs.setter_stamp.Tie as tie
@@ -17,5 +17,5 @@ setter_stamp_spec =
     (λ c κs. (search, search record_inside))
     (λ c κs. (search, search record_inside))
     (λ c κs. search rules)
-    (λ c. search insert-stamp)
-    (λ c. search update-stamp))
+    (λ c. search insert_stamp)
+    (λ c. search update_stamp))

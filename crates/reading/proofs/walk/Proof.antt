@@ -5,7 +5,7 @@ use native.Mathlib.Omega.{arith}
 use Rattle.layout.specs.View.{view_of}
 use Rattle.model.specs.Reading as R
 use Rattle.model.specs.Preconditions.{shape_in}
-use Rattle.reading.proofs.Walking.{walk-stop, walk-hit, link-lower, walk-on}
+use Rattle.reading.proofs.Walking.{walk_stop, walk_hit, link_lower, walk_on}
 use Rattle.reading.proofs.walk.Statement.{statement}
 use Rattle.reading.proofs.walk.Tie as tie
 
@@ -27,8 +27,8 @@ slot-of-requires c κs =
 loop-again : tie.Need-loop-preserved invariant-loop decreases-loop
 loop-again c =
     let head : tie.At-loop invariant-loop decreases-loop = search in
-    let lower : c.read.result < head.loop.k = search link-lower in
-    (omega arith, search walk-on)
+    let lower : c.read.result < head.loop.k = search link_lower in
+    (omega arith, search walk_on)
 
 pub walk_spec : {M : Type 1} → statement M
 walk_spec =
@@ -39,8 +39,8 @@ walk_spec =
     (λ c. (omega arith, refl))
     slot-of-requires
     (λ c κs. (omega arith, (omega arith, omega arith)))
-    (λ c. search walk-hit)
+    (λ c. search walk_hit)
     (λ c κs. (omega arith, omega arith))
-    (λ c. search link-lower)
+    (λ c. search link_lower)
     loop-again
-    (λ c. search walk-stop))
+    (λ c. search walk_stop))

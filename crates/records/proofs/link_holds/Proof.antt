@@ -3,7 +3,7 @@ use native.Mathlib.Omega.{arith}
 use borrow.Author.Rules.{rules}
 use borrow.Author.Tests.{eq-eqb, ne_eqb, le-leb, lt-leb}
 use Rattle.facts.specs.Facts.{link_holds}
-use Rattle.layout.proofs.Indices.{slots-few}
+use Rattle.layout.proofs.Indices.{slots_few}
 use Rattle.records.proofs.link_holds.Statement.{statement}
 use Rattle.records.proofs.link_holds.Tie as tie
 
@@ -11,7 +11,7 @@ add_read : tie.Need-overflow-add-read
 add_read c =
     let bounded = c.before in
     let s = bounded.before.before.before.before in
-    omega (arith, slots-few s.args.s s.requires.0.proper)
+    omega (arith, slots_few s.args.s s.requires.0.proper)
 
 returns-3 : tie.Need-returns-3
 unfolding link_holds

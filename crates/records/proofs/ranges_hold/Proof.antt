@@ -3,7 +3,7 @@ use borrow.Author.Rules.{rules}
 use Prim.Native.Nat.{◌-◌}
 use Rattle.layout.specs.View.{view_of}
 use Rattle.facts.specs.Tests.{range_holds}
-use Rattle.facts.proofs.Each.{Flagged, flag-raised, flag-next, flag-all}
+use Rattle.facts.proofs.Each.{Flagged, flag_raised, flag_next, flag_all}
 use Rattle.records.proofs.ranges_hold.Statement.{statement}
 use Rattle.records.proofs.ranges_hold.Tie as tie
 
@@ -19,12 +19,12 @@ ranges_hold_spec =
     (tie.spec
     invariant-loop
     decreases-loop
-    (λ c. flag-raised _ _)
+    (λ c. flag_raised _ _)
     (λ c κs. (c.before.before.before.requires, c.loop-test.true))
     (λ c κs. search rules)
     (λ c. search rules)
     (λ c. search rules)
     (λ c.
     let b = c.before.before.before.loop in
-    flag-next _ _ _ b.g b.invariant _ _ c.before.before.loop-test.true c.before.range-holds.ensures c.both.ensures)
-    (λ c. flag-all _ _ _ c.before.loop.g c.before.loop.invariant c.loop-test.false))
+    flag_next _ _ _ b.g b.invariant _ _ c.before.before.loop-test.true c.before.range-holds.ensures c.both.ensures)
+    (λ c. flag_all _ _ _ c.before.loop.g c.before.loop.invariant c.loop-test.false))

@@ -4,7 +4,7 @@ use native.Mathlib.Omega.{arith}
 use borrow.Author.Rules.{rules}
 use Rattle.terms.specs.Measures.{most_slots}
 use Rattle.facts.specs.Facts.{record_linked}
-use Rattle.layout.proofs.Indices.{slots-few}
+use Rattle.layout.proofs.Indices.{slots_few}
 use Rattle.records.proofs.record_linked.Statement.{statement}
 use Rattle.records.proofs.record_linked.Tie as tie
 
@@ -12,7 +12,7 @@ use Rattle.records.proofs.record_linked.Tie as tie
 inside : (c : tie.Start) → (c.args.i < c.args.s.capacity) × (c.args.s.slots ≤ most_slots)
 inside c =
     let a = c.args in
-    (omega (arith, c.requires.0.records_in a.g), slots-few a.s c.requires.0.proper)
+    (omega (arith, c.requires.0.records_in a.g), slots_few a.s c.requires.0.proper)
 
 link-holds-requires : tie.Need-link-holds-requires
 link-holds-requires c κs =

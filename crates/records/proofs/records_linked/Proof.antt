@@ -3,7 +3,7 @@ use borrow.Author.Rules.{rules}
 use Prim.Native.Nat.{◌-◌}
 use Rattle.layout.specs.View.{view_of}
 use Rattle.facts.specs.Facts.{record_linked, range_linked}
-use Rattle.facts.proofs.Each.{Flagged, flag-raised, flag-next, flag-all}
+use Rattle.facts.proofs.Each.{Flagged, flag_raised, flag_next, flag_all}
 use Rattle.records.proofs.records_linked.Statement.{statement}
 use Rattle.records.proofs.records_linked.Tie as tie
 
@@ -28,12 +28,12 @@ records_linked_spec =
     decreases-loop
     (λ c κs. search rules)
     (λ c. search rules)
-    (λ c. flag-raised _ _)
+    (λ c. flag_raised _ _)
     record-linked-requires
     (λ c κs. search rules)
     (λ c. search rules)
     (λ c. search rules)
     (λ c.
     let b = c.before.before.before.loop in
-    flag-next _ _ _ b.i b.invariant _ _ c.before.before.loop-test.true c.before.record-linked.ensures c.both.ensures)
-    (λ c. rw (← c.before.before.read.ensures) (flag-all _ _ _ c.before.loop.i c.before.loop.invariant c.loop-test.false)))
+    flag_next _ _ _ b.i b.invariant _ _ c.before.before.loop-test.true c.before.record-linked.ensures c.both.ensures)
+    (λ c. rw (← c.before.before.read.ensures) (flag_all _ _ _ c.before.loop.i c.before.loop.invariant c.loop-test.false)))

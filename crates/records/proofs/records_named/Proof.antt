@@ -11,8 +11,8 @@ use Rattle.layout.specs.View.{used_in, view_of}
 use Rattle.layout.specs.declared.Region.TheVariants.{TailRow}
 use Rattle.layout.proofs.View.{view_long}
 use Rattle.facts.specs.Facts.{range_between}
-use Rattle.records.proofs.Names.{names-between, names-none}
-use Rattle.layout.proofs.Indices.{tail-in}
+use Rattle.records.proofs.Names.{names_between, names_none}
+use Rattle.layout.proofs.Indices.{tail_in}
 use Rattle.records.proofs.records_named.Statement.{statement}
 use Rattle.records.proofs.records_named.Tie as tie
 
@@ -20,7 +20,7 @@ returns : tie.Need-returns
 returns c =
     let t = c.before in
     let s = t.before.before.before in
-    rw c.read2.ensures (sym (names-none s.args.s (view_of s.args.s s.args.mem.now) s.args.g (rw t.before.read.ensures at t.if1.true)))
+    rw c.read2.ensures (sym (names_none s.args.s (view_of s.args.s s.args.mem.now) s.args.g (rw t.before.read.ensures at t.if1.true)))
 
 returns-2 : tie.Need-returns-2
 unfolding range_between
@@ -33,9 +33,9 @@ returns-2 c =
     let z = s.args.s in
     let g = s.args.g in
     let v = view_of z m in
-    let k : first_slot z.capacity g + used_in v g ≤ length (v TailRow) = omega (arith, view_long z (words m) (omega (arith, length_words m)) TailRow, s.requires.0.records_in g, tail-in z s.requires.0.proper g s.requires.1) in
-    c.records-between.ensures
-    ∙ sym (names-between z v g _ (rw r.read.ensures at t.if1.false) (rw r.read.ensures at l.last_row.ensures) k)
+    let k : first_slot z.capacity g + used_in v g ≤ length (v TailRow) = omega (arith, view_long z (words m) (omega (arith, length_words m)) TailRow, s.requires.0.records_in g, tail_in z s.requires.0.proper g s.requires.1) in
+    c.records_between.ensures
+    ∙ sym (names_between z v g _ (rw r.read.ensures at t.if1.false) (rw r.read.ensures at l.last_row.ensures) k)
 
 pub records_named_spec : {M : Type 1} → statement M
 records_named_spec =

@@ -3,7 +3,7 @@ use borrow.Author.Rules.{rules}
 use Prim.Native.Nat.{◌-◌}
 use Rattle.layout.specs.View.{view_of}
 use Rattle.facts.specs.Facts.{row_linked}
-use Rattle.facts.proofs.Each.{Flagged, flag-raised, flag-next, flag-all}
+use Rattle.facts.proofs.Each.{Flagged, flag_raised, flag_next, flag_all}
 use Rattle.records.proofs.rows_linked.Statement.{statement}
 use Rattle.records.proofs.rows_linked.Tie as tie
 
@@ -27,12 +27,12 @@ rows_linked_spec =
     decreases-loop
     (λ c κs. search rules)
     (λ c. search rules)
-    (λ c. flag-raised _ _)
+    (λ c. flag_raised _ _)
     row-linked-requires
     (λ c κs. search rules)
     (λ c. search rules)
     (λ c. search rules)
     (λ c.
     let b = c.before.before.before.loop in
-    flag-next _ _ _ b.r b.invariant _ _ c.before.before.loop-test.true c.before.row-linked.ensures c.both.ensures)
-    (λ c. rw (← c.before.before.read.ensures) (flag-all _ _ _ c.before.loop.r c.before.loop.invariant c.loop-test.false)))
+    flag_next _ _ _ b.r b.invariant _ _ c.before.before.loop-test.true c.before.row-linked.ensures c.both.ensures)
+    (λ c. rw (← c.before.before.read.ensures) (flag_all _ _ _ c.before.loop.r c.before.loop.invariant c.loop-test.false)))

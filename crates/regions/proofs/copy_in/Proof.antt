@@ -3,7 +3,7 @@ use native.Mathlib.Omega.{arith}
 use Prim.Native.Nat.{◌+◌, ◌≤◌}
 use borrow.Author.Rules.{rules}
 use Rattle.layout.specs.Regions.{base, need}
-use Rattle.layout.proofs.View.{stretch_in, stretches_shifted, view-copy}
+use Rattle.layout.proofs.View.{stretch_in, stretches_shifted, view_copy}
 use Rattle.regions.proofs.copy_in.Statement.{statement}
 use Rattle.regions.proofs.copy_in.Tie as tie
 
@@ -23,7 +23,7 @@ returns : tie.Need-returns
 returns c =
     let call = c.before.before in
     let start = call.before.before.before.before in
-    rw (call.copy.ensures, call.before.before.base.ensures) (view-copy _ _ _ _ _ start.requires.1.0.1 _ start.requires.1.0.0)
+    rw (call.copy.ensures, call.before.before.base.ensures) (view_copy _ _ _ _ _ start.requires.1.0.1 _ start.requires.1.0.0)
 
 pub copy_in_spec : {M : Type 1} → statement M
 copy_in_spec =

@@ -3,7 +3,7 @@ use native.Mathlib.Omega.{arith}
 use Prim.Native.Nat.{◌+◌, ◌≤◌}
 use borrow.Author.Rules.{rules}
 use Rattle.layout.specs.Regions.{base, need}
-use Rattle.layout.proofs.View.{stretch_in, view-number}
+use Rattle.layout.proofs.View.{stretch_in, view_number}
 use Rattle.regions.proofs.count_in.Statement.{statement}
 use Rattle.regions.proofs.count_in.Tie as tie
 
@@ -14,7 +14,7 @@ returns : tie.Need-returns
 returns c =
     let call = c.before.before in
     let start = call.before.before.before.before in
-    rw (call.count-up.ensures, call.before.base.ensures) (view-number _ _ _ _ _ start.requires.1.0)
+    rw (call.count-up.ensures, call.before.base.ensures) (view_number _ _ _ _ _ start.requires.1.0)
 
 pub count_in_spec : {M : Type 1} → statement M
 count_in_spec =

@@ -3,7 +3,7 @@ use native.Mathlib.Omega.{arith}
 use Prim.Native.Nat.{◌+◌, ◌≤◌}
 use borrow.Author.Rules.{rules}
 use Rattle.layout.specs.Regions.{base, need}
-use Rattle.layout.proofs.View.{stretch_in, view-fill}
+use Rattle.layout.proofs.View.{stretch_in, view_fill}
 use Rattle.regions.proofs.fill_in.Statement.{statement}
 use Rattle.regions.proofs.fill_in.Tie as tie
 
@@ -14,7 +14,7 @@ returns : tie.Need-returns
 returns c =
     let call = c.before.before in
     let start = call.before.before.before.before in
-    rw (call.fill.ensures, call.before.base.ensures) (view-fill _ _ _ _ _ start.requires.1 _)
+    rw (call.fill.ensures, call.before.base.ensures) (view_fill _ _ _ _ _ start.requires.1 _)
 
 pub fill_in_spec : {M : Type 1} → statement M
 fill_in_spec =

@@ -3,7 +3,7 @@ use native.Mathlib.Omega.{arith}
 use Prim.Native.Nat.{◌+◌, ◌≤◌}
 use borrow.Author.Rules.{rules}
 use Rattle.layout.specs.Regions.{base, need}
-use Rattle.layout.proofs.View.{stretch_in, stretches_apart, view-mark}
+use Rattle.layout.proofs.View.{stretch_in, stretches_apart, view_mark}
 use Rattle.regions.proofs.mark_in.Statement.{statement}
 use Rattle.regions.proofs.mark_in.Tie as tie
 
@@ -27,7 +27,7 @@ returns c =
     let second = call.before in
     let first = second.before in
     let h = first.before.before.before.requires.1 in
-    rw (call.mark.ensures, second.base2.ensures, first.base.ensures) (view-mark _ _ _ _ _ h.1 _ _ _ h.0)
+    rw (call.mark.ensures, second.base2.ensures, first.base.ensures) (view_mark _ _ _ _ _ h.1 _ _ _ h.0)
 
 pub mark_in_spec : {M : Type 1} → statement M
 mark_in_spec =

@@ -2,7 +2,7 @@
 use mathlib.Core.Path.{refl}
 use native.Mathlib.Omega.{arith}
 use borrow.Author.Tests.{not-true, not-false}
-use Rattle.rounds.proofs.Going.{took_nothing, took-none, took}
+use Rattle.rounds.proofs.Going.{took_nothing, took_none, took}
 use borrow.Author.Rules.{rules}
 use Rattle.rounds.proofs.answer.Statement.{statement}
 use Rattle.rounds.proofs.answer.Tie as tie
@@ -14,7 +14,7 @@ returns-2 : tie.Need-returns-2
 returns-2 c =
     let room : tie.Else1 = search in
     let shape : tie.After-answer-first = search in
-    took-none shape.answer-first.ensures (omega (arith, room.if1.left)) (not-true _ c.if2.true)
+    took_none shape.answer-first.ensures (omega (arith, room.if1.left)) (not-true _ c.if2.true)
 
 answer-commands-requires : tie.Need-answer-commands-requires
 answer-commands-requires c κs =

@@ -4,7 +4,7 @@ use mathlib.Core.Path.{◌≡◌, refl}
 use native.Mathlib.Omega.{arith}
 use lib.ListN.{length}
 use Rattle.turns.specs.Turns.{store_in}
-use Rattle.rounds.proofs.Going.{Going, going_none, going_next, going-fits, walked-off, walked_stop}
+use Rattle.rounds.proofs.Going.{Going, going_none, going_next, going_fits, walked_off, walked_stop}
 use Rattle.rounds.proofs.answer_commands.Statement.{statement}
 use Rattle.rounds.proofs.answer_commands.Tie as tie
 
@@ -25,14 +25,14 @@ answer-command-requires : tie.Need-answer-command-requires invariant-loop decrea
 answer-command-requires c κs =
     let head : tie.At-loop invariant-loop decreases-loop = search in
     let found : tie.Else1 invariant-loop decreases-loop = search in
-    going-fits head.loop.inv.3 _ found.before.command-end.ensures found.if1.left
+    going_fits head.loop.inv.3 _ found.before.command-end.ensures found.if1.left
 
 loop-less : tie.Need-loop-smaller invariant-loop decreases-loop
 loop-less c =
     let head : tie.At-loop invariant-loop decreases-loop = search in
     let found : tie.Else1 invariant-loop decreases-loop = search in
     let answered : tie.After-answer-command invariant-loop decreases-loop = search in
-    let f = going-fits head.loop.inv.3 _ found.before.command-end.ensures found.if1.left in
+    let f = going_fits head.loop.inv.3 _ found.before.command-end.ensures found.if1.left in
     omega (arith, f.0, f.1, answered.answer-command.ensures.taken)
 
 loop-again : tie.Need-loop-preserved invariant-loop decreases-loop
@@ -67,4 +67,4 @@ answer_commands_spec =
     (λ c. omega arith)
     (λ c. omega arith)
     (λ c. omega arith)
-    (λ c. walked-off c.before.loop.invariant.3 c.loop-test.false))
+    (λ c. walked_off c.before.loop.invariant.3 c.loop-test.false))

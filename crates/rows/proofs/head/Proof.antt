@@ -1,7 +1,7 @@
 -- `rows::head` meets its contract.
 use native.Mathlib.Omega.{arith}
-use Rattle.rows.proofs.Cases.{head-empty, head-found}
-use Rattle.rows.proofs.Indices.{row-in}
+use Rattle.rows.proofs.Cases.{head_empty, head_found}
+use Rattle.rows.proofs.Indices.{row_in_lem}
 use borrow.Author.Rules.{rules}
 use Rattle.rows.proofs.head.Statement.{statement}
 use Rattle.rows.proofs.head.Tie as tie
@@ -10,7 +10,7 @@ slot-of-requires : tie.Need-slot-of-requires
 slot-of-requires c κs =
     let start : tie.Start = search in
     let proper = start.pre.1.0 in
-    let inside = row-in _ proper _ start.pre.1.1.0 _ start.pre.1.1.1 in
+    let inside = row_in_lem _ proper _ start.pre.1.1.0 _ start.pre.1.1.1 in
     (proper, (omega (arith, inside), omega arith, omega (arith, inside)))
 
 pub head_spec : {M : Type 1} → statement M
@@ -19,7 +19,7 @@ head_spec =
     (tie.spec
     (λ c. search rules)
     (λ c κs. omega arith)
-    (λ c. (search head-empty, tt))
+    (λ c. (search head_empty, tt))
     (λ c κs. search rules)
     slot-of-requires
-    (λ c. search head-found))
+    (λ c. search head_found))

@@ -1,5 +1,5 @@
 -- `rows::sees_record` meets its contract.
-use Rattle.rows.proofs.Cases.{record-sees}
+use Rattle.rows.proofs.Cases.{record_sees}
 use borrow.Author.Rules.{rules}
 use Rattle.rows.proofs.sees_record.Statement.{statement}
 use Rattle.rows.proofs.sees_record.Tie as tie
@@ -13,4 +13,4 @@ sees_record_spec =
     (λ c κs. search rules)
     (λ c κs. search rules)
     (λ c κs. search rules)
-    (λ c. search record-sees))
+    (λ c. search record_sees))

@@ -1,5 +1,5 @@
 -- `rows::sees_row` meets its contract.
-use Rattle.rows.proofs.Cases.{row-sees}
+use Rattle.rows.proofs.Cases.{row_sees}
 use borrow.Author.Rules.{rules}
 use Rattle.rows.proofs.sees_row.Statement.{statement}
 use Rattle.rows.proofs.sees_row.Tie as tie
@@ -14,4 +14,4 @@ sees_row_spec =
     (λ c κs. search rules)
     (λ c κs. search rules)
     (λ c κs. search rules)
-    (λ c. search row-sees))
+    (λ c. search row_sees))

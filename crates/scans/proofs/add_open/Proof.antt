@@ -21,8 +21,8 @@ abbrev decreases-loop : tie.decreases-loop
 decreases-loop i p n u₀ k₀ u k = most_scans - k
 
 module _ (n i : ℕ) (p : ScanEntry) (u₀ u : Scans) (k : ℕ) (so_far : u ≡ cond (ltb n k) (placed n i p u₀) u₀) where
-  at-index : (u' : Scans) → k ≡ n → u' ≡ placed k i p u → u' ≡ cond (ltb n (k + 1)) (placed n i p u₀) u₀
-  at-index u' e q = let same : u ≡ u₀ = so_far ∙ rw (le-ltb n k (omega arith)) in rw (lt-ltb n (k + 1) (omega arith)) (q ∙ rw (e, same))
+  at_index : (u' : Scans) → k ≡ n → u' ≡ placed k i p u → u' ≡ cond (ltb n (k + 1)) (placed n i p u₀) u₀
+  at_index u' e q = let same : u ≡ u₀ = so_far ∙ rw (le-ltb n k (omega arith)) in rw (lt-ltb n (k + 1) (omega arith)) (q ∙ rw (e, same))
 
   elsewhere : (u' : Scans) → (k ≡ n → ⊥) → u' ≡ u → u' ≡ cond (ltb n (k + 1)) (placed n i p u₀) u₀
   elsewhere u' e q =
@@ -39,7 +39,7 @@ loop-holds : tie.Need-loop-init invariant-loop decreases-loop
 loop-holds c = let start : tie.Start invariant-loop decreases-loop = search in (omega arith, rw (le-ltb start.args.t.count 0 (omega arith)))
 
 loop-again : tie.Need-loop-preserved invariant-loop decreases-loop
-loop-again c = (omega arith, ⊎_elim (λ w. search at-index) (λ w. search elsewhere) c.if2.branch)
+loop-again c = (omega arith, ⊎_elim (λ w. search at_index) (λ w. search elsewhere) c.if2.branch)
 
 returns-2 : tie.Need-returns-2 invariant-loop decreases-loop
 unfolding with_entry

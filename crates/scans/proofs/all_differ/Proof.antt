@@ -5,7 +5,7 @@ use native.Mathlib.Omega.{arith}
 use lib.ListN.{take, drop}
 use borrow.Author.Rules.{rules}
 use Rattle.scans.specs.Entries.{differ}
-use Rattle.scans.proofs.Entries.{differ-stop, differ-go, differ-end}
+use Rattle.scans.proofs.Entries.{differ_stop, differ_go, differ_end}
 use Rattle.scans.proofs.all_differ.Statement.{statement}
 use Rattle.scans.proofs.all_differ.Tie as tie
 
@@ -23,8 +23,8 @@ all_differ_spec =
     decreases-loop
     (λ c. (omega arith, refl))
     (λ c κs. search rules)
-    (λ c. search differ-stop)
+    (λ c. search differ_stop)
     (λ c. search rules)
     (λ c. search rules)
-    (λ c. (omega arith, search differ-go))
-    (λ c. search differ-end))
+    (λ c. (omega arith, search differ_go))
+    (λ c. search differ_end))

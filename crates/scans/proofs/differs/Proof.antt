@@ -5,7 +5,7 @@ use native.Mathlib.Omega.{arith}
 use lib.ListN.{drop, take}
 use borrow.Author.Rules.{rules}
 use Rattle.scans.specs.Entries.{among}
-use Rattle.scans.proofs.Entries.{apart-free, apart-not, apart-go, apart-end}
+use Rattle.scans.proofs.Entries.{apart_free, apart_not, apart_go, apart_end}
 use Rattle.scans.proofs.differs.Statement.{statement}
 use Rattle.scans.proofs.differs.Tie as tie
 
@@ -23,13 +23,13 @@ differs_spec =
     decreases-loop
     (λ c. search rules)
     (λ c. search rules)
-    (λ c. search apart-free)
+    (λ c. search apart_free)
     (λ c. search rules)
     (λ c. (omega arith, omega arith, refl))
     (λ c. search rules)
     (λ c. search rules)
-    (λ c. search apart-not)
+    (λ c. search apart_not)
     (λ c. search rules)
     (λ c. search rules)
-    (λ c. (omega arith, omega arith, search apart-go))
-    (λ c. search apart-end))
+    (λ c. (omega arith, omega arith, search apart_go))
+    (λ c. search apart_end))

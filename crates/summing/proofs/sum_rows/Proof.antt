@@ -4,7 +4,7 @@ use native.Mathlib.Omega.{arith}
 use Rattle.layout.specs.View.{view_of}
 use Rattle.model.specs.Preconditions.{shape_in}
 use Rattle.summing.specs.Sums.{Tallied}
-use Rattle.summing.proofs.Sums.{page_of, given-few, given-range, none-tallied, sum_is}
+use Rattle.summing.proofs.Sums.{page_of, given_few, given_range, none_tallied, sum_is}
 use borrow.Author.Rules.{rules}
 use Rattle.summing.proofs.sum_rows.Statement.{statement}
 use Rattle.summing.proofs.sum_rows.Tie as tie
@@ -22,11 +22,11 @@ sum_rows_spec =
     invariant-loop
     decreases-loop
     (λ c κs. search rules)
-    (λ c. (omega arith, none-tallied _ _ _ _))
+    (λ c. (omega arith, none_tallied _ _ _ _))
     (λ c κs. search rules)
-    (λ c κs. (search, (search, (search, (search given-range, search)))))
-    (λ c κs. (search, search given-few))
+    (λ c κs. (search, (search, (search, (search given_range, search)))))
+    (λ c κs. (search, search given_few))
     (λ c κs. (search, (search, (search, ((search, search, omega arith), ((omega arith, search), (search page_of, search)))))))
     (λ c. omega (arith, c.before.range-end.ensures))
     (λ c. (c.before.range-end.ensures.1, c.add-rows.ensures))
-    (λ c. search (sum_is, given-few)))
+    (λ c. search (sum_is, given_few)))

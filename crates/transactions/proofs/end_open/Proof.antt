@@ -12,12 +12,12 @@ returns : tie.Need-returns
 unfolding freed mark_all settled open_index renew pending_put
 returns c =
     let keeping : tie.After-put-pending = search in
-    let record-at : tie.After-free-record = search in
+    let record_at_lem : tie.After-free-record = search in
     let settling : tie.After-settle = search in
     let handing : tie.After-hand-back = search in
     let asked : tie.After-pending-at = search in
     let start : tie.Start = search in
-    λ t o. rw (keeping.put-pending.ensures, record-at.free-record.ensures, settling.settle.ensures, handing.hand-back.ensures, asked.pending-at.ensures, number_there _ _ t _ start.pre.0 o, o.found)
+    λ t o. rw (keeping.put-pending.ensures, record_at_lem.free-record.ensures, settling.settle.ensures, handing.hand-back.ensures, asked.pending-at.ensures, number_there _ _ t _ start.pre.0 o, o.found)
 
 pub end_open_spec : {M : Type 1} → statement M
 end_open_spec =

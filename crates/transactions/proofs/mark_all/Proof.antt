@@ -2,7 +2,7 @@
 use native.Mathlib.Omega.{arith}
 use borrow.Author.Rules.{rules}
 use mathlib.Core.Path.{sym}
-use Rattle.transactions.proofs.Tails.{apart, rows-counted, marked_all}
+use Rattle.transactions.proofs.Tails.{apart, rows_counted, marked_all}
 use Rattle.transactions.proofs.mark_all.Statement.{statement}
 use Rattle.transactions.proofs.mark_all.Tie as tie
 
@@ -19,7 +19,7 @@ mark-tails-requires c κs =
     let marked : tie.After-mark-in = search in
     let pre = start.pre.1 in
     let asked = pre.1.1 in
-    (omega arith, (pre.0, (rows-counted _ _ _ start.args.rows asked.2 _ _ marked.mark-in.ensures _ pre.1.0, (asked.1, λ e. (apart start.args.tails asked.3).records (sym e), (apart start.args.tails asked.3).used))))
+    (omega arith, (pre.0, (rows_counted _ _ _ start.args.rows asked.2 _ _ marked.mark-in.ensures _ pre.1.0, (asked.1, λ e. (apart start.args.tails asked.3).records (sym e), (apart start.args.tails asked.3).used))))
 
 returns : tie.Need-returns
 returns c =

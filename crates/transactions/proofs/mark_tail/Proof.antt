@@ -4,14 +4,14 @@ use borrow.Author.Rules.{rules}
 use Prim.Native.Nat.{◌+◌, ◌*◌, ◌≤◌}
 use Rattle.layout.specs.Regions.{need}
 use Rattle.transactions.specs.Steps.{tail_marked}
-use Rattle.layout.proofs.Indices.{tail-in, sizes_need}
+use Rattle.layout.proofs.Indices.{tail_in, sizes_need}
 use Rattle.layout.proofs.Renewed.{mark_none}
 use Rattle.transactions.proofs.mark_tail.Statement.{statement}
 use Rattle.transactions.proofs.mark_tail.Tie as tie
 
 -- the records of the range lie among the slots
 inside : (c : tie.Start) → let a = c.args in (a.g * a.s.capacity + a.s.capacity ≤ a.s.slots) × (a.s.slots ≤ need a.s)
-inside c = let a = c.args in (tail-in a.s c.requires.1.0 a.g c.requires.1.1.0.0, omega (arith, sizes_need a.s))
+inside c = let a = c.args in (tail_in a.s c.requires.1.0 a.g c.requires.1.1.0.0, omega (arith, sizes_need a.s))
 
 mark-in-requires : tie.Need-mark-in-requires
 mark-in-requires c κs =

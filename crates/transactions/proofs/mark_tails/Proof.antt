@@ -5,7 +5,7 @@ use mathlib.Core.Path.{◌≡◌, sym}
 use lib.ListN.{length}
 use Rattle.layout.specs.View.{view_of}
 use Rattle.model.specs.Preconditions.{shape_in}
-use Rattle.transactions.proofs.Tails.{marksTo, marks-none, marks-used, marks-next, marks-all}
+use Rattle.transactions.proofs.Tails.{marksTo, marks_none, marks_used, marks_next, marks_all}
 use Rattle.transactions.proofs.mark_tails.Statement.{statement}
 use Rattle.transactions.proofs.mark_tails.Tie as tie
 
@@ -22,7 +22,7 @@ mark-tail-requires c κs =
     let start : tie.Start invariant-loop decreases-loop = search in
     let a = start.args in
     let g = head.loop.g in
-    let e = marks-used (shape_in a.s) a.t.0 a.k a.w _ _ g g start.pre.1.1.1.2 head.loop.inv.2 in
+    let e = marks_used (shape_in a.s) a.t.0 a.k a.w _ _ g g start.pre.1.1.1.2 head.loop.inv.2 in
     (omega arith, (start.pre.1.0, ((omega arith, omega (arith, e, start.pre.1.1.0.records_used g (omega arith))), (start.pre.1.1.1.0, start.pre.1.1.1.1))))
 
 loop-again : tie.Need-loop-preserved invariant-loop decreases-loop
@@ -31,7 +31,7 @@ loop-again c =
     let head : tie.At-loop invariant-loop decreases-loop = search in
     let start : tie.Start invariant-loop decreases-loop = search in
     let asked = start.pre.1.1.1 in
-    (omega arith, omega arith, marks-next _ _ _ _ _ _ _ _ (λ e. asked.1 (sym e)) asked.2 head.loop.inv.2 marked.mark-tail.ensures)
+    (omega arith, omega arith, marks_next _ _ _ _ _ _ _ _ (λ e. asked.1 (sym e)) asked.2 head.loop.inv.2 marked.mark-tail.ensures)
 
 pub mark_tails_spec : {M : Type 1} → statement M
 mark_tails_spec =
@@ -39,10 +39,10 @@ mark_tails_spec =
     (tie.spec
     invariant-loop
     decreases-loop
-    (λ c. (omega arith, omega arith, marks-none _ _ _ _ _))
+    (λ c. (omega arith, omega arith, marks_none _ _ _ _ _))
     mark-tail-requires
     (λ c. omega arith)
     (λ c. omega arith)
     loop-again
     (λ c. omega arith)
-    (λ c. search marks-all))
+    (λ c. search marks_all))

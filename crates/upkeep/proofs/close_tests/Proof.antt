@@ -2,7 +2,7 @@
 use borrow.Author.Rules.{rules}
 use Rattle.model.specs.Calls.{tests_in}
 use Rattle.admission.specs.Tested.{TestsBy, Finds}
-use Rattle.admission.proofs.Decided.{deciding, scan-entry}
+use Rattle.admission.proofs.Decided.{deciding, scan_entry_lem}
 use Rattle.upkeep.proofs.close_tests.Statement.{statement}
 use Rattle.upkeep.proofs.close_tests.Tie as tie
 
@@ -15,4 +15,4 @@ close_tests_spec =
     (λ c. search rules)
     (λ c. search rules)
     (λ c. (search deciding, tt))
-    (λ c. (search deciding, search (scan-entry, rules))))
+    (λ c. (search deciding, search (scan_entry_lem, rules))))

@@ -4,7 +4,7 @@ use borrow.Author.Rules.{rules}
 use Prim.Native.Nat.{◌+◌, ◌*◌, ◌≤◌, ◌<◌}
 use Rattle.terms.specs.Measures.{most_chunks}
 use Rattle.model.specs.Stored.{page_in, current_in}
-use Rattle.layout.proofs.Indices.{chunks-few}
+use Rattle.layout.proofs.Indices.{chunks_few}
 use Rattle.rows.proofs.Indices.{chunk_in}
 use Rattle.upkeep.proofs.current_lineage.Statement.{statement}
 use Rattle.upkeep.proofs.current_lineage.Tie as tie
@@ -12,7 +12,7 @@ use Rattle.upkeep.proofs.current_lineage.Tie as tie
 -- the chunk of the range and column is there
 inside : (c : tie.Start) → let a = c.args in (a.g * a.s.columns + a.c < a.s.chunks) × (a.s.chunks ≤ most_chunks)
 inside c =
-    let p = c.requires.0.proper in (chunk_in _ p _ _ c.requires.1.0 c.requires.1.1, chunks-few _ p)
+    let p = c.requires.0.proper in (chunk_in _ p _ _ c.requires.1.0 c.requires.1.1, chunks_few _ p)
 
 read-requires-2 : tie.Need-read-requires-2
 read-requires-2 c κs =

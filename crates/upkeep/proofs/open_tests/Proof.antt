@@ -4,7 +4,7 @@ use mathlib.Core.Path.{refl}
 use Rattle.model.specs.Calls.{tests_in}
 use Rattle.admission.specs.Tested.{TestsBy, Finds, IfPassed}
 use Rattle.admission.proofs.Decided.{deciding}
-use Rattle.upkeep.proofs.Listing.{all-open, some-free}
+use Rattle.upkeep.proofs.Listing.{all_open, some_free}
 use Rattle.upkeep.proofs.open_tests.Statement.{statement}
 use Rattle.upkeep.proofs.open_tests.Tie as tie
 
@@ -17,5 +17,5 @@ open_tests_spec =
     (λ c. (search deciding, (tt, tt)))
     (λ c κs. search rules)
     (λ c. (search deciding, (tt, tt)))
-    (λ c. (search (deciding, all-open), (tt, tt)))
-    (λ c. (search (deciding, some-free), (refl, search deciding))))
+    (λ c. (search (deciding, all_open), (tt, tt)))
+    (λ c. (search (deciding, some_free), (refl, search deciding))))

@@ -6,7 +6,7 @@ use Rattle.terms.specs.declared.Answer.{Answer}
 use Rattle.history.specs.History.{verdict}
 use Rattle.model.specs.Calls.{tests_in, reply_in, act_in, entries_after}
 use Rattle.promise.specs.Promise.{ServesBy}
-use Rattle.admission.proofs.Served.{serving, write-serves}
+use Rattle.admission.proofs.Served.{serving, write_serves}
 use Rattle.upkeep.proofs.Tests.{table_few}
 use Rattle.upkeep.proofs.release.Statement.{statement}
 use Rattle.upkeep.proofs.release.Tie as tie
@@ -22,7 +22,7 @@ returns-3 c =
     let admit : tie.After-admit = search in
     let known : tie.After-s = search in
     let act : tie.After-release = search in
-    write-serves _ _ _ _ _ known.s.given.1 _ admit.admit.ensures refl (λ ps q few. refl) _ _ _ act.release.kept.0 c.slice-known2.given
+    write_serves _ _ _ _ _ known.s.given.1 _ admit.admit.ensures refl (λ ps q few. refl) _ _ _ act.release.kept.0 c.slice-known2.given
     (λ ps q few. let z = act.release.ensures ps q few in (ap Answer.Number z.0, z.1, refl))
 
 pub release_spec : {M : Type 1} → statement M

@@ -5,7 +5,7 @@ use Prim.Native.Nat.{◌+◌, ◌*◌, ◌/◌, ◌≤◌, ◌<◌}
 use mir.Syntax.{w32, w64}
 use mir.Val.{Fits}
 use Rattle.terms.specs.Measures.{range_rows}
-use Rattle.layout.proofs.Indices.{tail-in, range_in, sizes_need}
+use Rattle.layout.proofs.Indices.{tail_in, range_in, sizes_need}
 use Rattle.writing.proofs.Steps.{appended_is}
 use Rattle.writing.proofs.append.Statement.{statement}
 use Rattle.writing.proofs.append.Tie as tie
@@ -21,7 +21,7 @@ inside c =
     let g = range_in _ p _ s.pre.1.1.row-Below in
     let used : c.read.result + 1 ≤ s.args.s.capacity = omega (arith, c.read.ensures, s.pre.1.1.left) in
     let room = sizes_need s.args.s in
-    (g, omega (arith, tail-in _ p _ g), omega (arith, tail-in _ p _ g), omega (arith, tail-in _ p _ g), omega (arith, p.capacity_to))
+    (g, omega (arith, tail_in _ p _ g), omega (arith, tail_in _ p _ g), omega (arith, tail_in _ p _ g), omega (arith, p.capacity_to))
 
 returns : tie.Need-returns
 returns c =

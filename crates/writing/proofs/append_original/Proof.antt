@@ -3,7 +3,7 @@ use native.Mathlib.Omega.{arith}
 use borrow.Author.Rules.{rules}
 use Rattle.layout.specs.View.{put, renew}
 use Rattle.model.specs.Writing.{appended}
-use Rattle.writing.proofs.Steps.{appended-newest, original_is}
+use Rattle.writing.proofs.Steps.{appended_newest, original_is}
 use Rattle.writing.proofs.append_original.Statement.{statement}
 use Rattle.writing.proofs.append_original.Tie as tie
 
@@ -16,7 +16,7 @@ fill-cells-requires c κs =
       omega arith,
       (
         (search, rw record-put.append.ensures start.pre.1.0.1),
-        (appended-newest _ _ _ _ _ _ _ _ record-put.append.ensures start.pre.0 start.pre.1.0.0 start.pre.1.1, omega arith),
+        (appended_newest _ _ _ _ _ _ _ _ record-put.append.ensures start.pre.0 start.pre.1.0.0 start.pre.1.1, omega arith),
       ),
     )
 

@@ -1,7 +1,7 @@
 -- `writing::append_records` meets its contract.
 use native.Mathlib.Omega.{arith}
 use borrow.Author.Rules.{rules}
-use Rattle.writing.proofs.Steps.{room_one, original_room, records-one, records-two}
+use Rattle.writing.proofs.Steps.{room_one, original_room, records_one, records_two}
 use Rattle.writing.proofs.append_records.Statement.{statement}
 use Rattle.writing.proofs.append_records.Tie as tie
 
@@ -24,7 +24,7 @@ append_records_spec =
     (λ c κs. (omega arith, (search, search room_one)))
     append-setting-requires
     (λ c. search rules)
-    (λ c. search records-two)
+    (λ c. search records_two)
     (λ c κs. (omega arith, (search, search room_one)))
     (λ c. search rules)
-    (λ c. search records-one))
+    (λ c. search records_one))

@@ -3,7 +3,7 @@ use native.Mathlib.Omega.{arith}
 use borrow.Author.Rules.{rules}
 use Rattle.history.specs.History.{range_of}
 use Rattle.model.specs.Writing.{setting_appended}
-use Rattle.writing.proofs.Steps.{appended-newest, appended-filled}
+use Rattle.writing.proofs.Steps.{appended_newest, appended_filled}
 use Rattle.writing.proofs.append_setting.Statement.{statement}
 use Rattle.writing.proofs.append_setting.Tie as tie
 
@@ -14,6 +14,6 @@ append_setting_spec =
     (tie.spec
     (λ c κs. search rules)
     (λ c. search rules)
-    (λ c κs. (omega arith, (search, search appended-newest)))
+    (λ c κs. (omega arith, (search, search appended_newest)))
     (λ c. search rules)
-    (λ c. search appended-filled))
+    (λ c. search appended_filled))

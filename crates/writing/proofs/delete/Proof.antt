@@ -3,7 +3,7 @@ use mathlib.Core.Path.{ap}
 use native.Mathlib.Omega.{arith}
 use borrow.Author.Rules.{rules}
 use Rattle.history.specs.History.{range_of}
-use Rattle.writing.proofs.Steps.{deleted-is}
+use Rattle.writing.proofs.Steps.{deleted_is}
 use Rattle.layout.proofs.Indices.{range_in}
 use Rattle.writing.proofs.delete.Statement.{statement}
 use Rattle.writing.proofs.delete.Tie as tie
@@ -16,7 +16,7 @@ returns c =
     let noted : tie.After-note = search in
     let made : tie.After-append = search in
     let start : tie.Start = search in
-    (rw used.read.ensures, deleted-is _ _ _ _ start.pre.1.1.0 _ _ _ _ (ap (λ p. p.keeper) at.pending-at.ensures) made.append.ensures noted.note.ensures)
+    (rw used.read.ensures, deleted_is _ _ _ _ start.pre.1.1.0 _ _ _ _ (ap (λ p. p.keeper) at.pending-at.ensures) made.append.ensures noted.note.ensures)
 
 pub delete_spec : {M : Type 1} → statement M
 unfolding range_of

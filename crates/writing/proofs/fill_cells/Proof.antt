@@ -7,9 +7,9 @@ use lib.ListN.{length}
 use Rattle.layout.specs.Regions.{need}
 use Rattle.layout.specs.View.{view_of}
 use Rattle.model.specs.Preconditions.{shape_in}
-use Rattle.layout.proofs.Indices.{chunks-in, sizes_need}
+use Rattle.layout.proofs.Indices.{chunks_in, sizes_need}
 use Rattle.writing.specs.Steps.{cell_words}
-use Rattle.writing.proofs.Steps.{fillsTo, fills-none, fills-next, fills-all, fills-current, fills_cell}
+use Rattle.writing.proofs.Steps.{fillsTo, fills_none, fills_next, fills_all, fills_current, fills_cell}
 use Rattle.writing.proofs.fill_cells.Statement.{statement}
 use Rattle.writing.proofs.fill_cells.Tie as tie
 
@@ -22,13 +22,13 @@ decreases-loop mem₀ s g i columns to first c₀ mem c = columns - c
 
 -- the range's chunks lie among the chunks
 inside : (c : tie.Start invariant-loop decreases-loop) → let a = c.args in (a.g * a.s.columns + a.s.columns ≤ a.s.chunks) × (a.s.chunks + a.s.values ≤ need a.s)
-inside c = let a = c.args in (chunks-in a.s c.requires.1.0.0 a.g c.requires.1.1.0.range_below, omega (arith, sizes_need a.s))
+inside c = let a = c.args in (chunks_in a.s c.requires.1.0.0 a.g c.requires.1.1.0.range_below, omega (arith, sizes_need a.s))
 
 cell-word-requires : tie.Need-cell-word-requires invariant-loop decreases-loop
 cell-word-requires c κs =
     let head : tie.At-loop invariant-loop decreases-loop = search in
     let s : tie.Start invariant-loop decreases-loop = search in
-    let e = fills-current _ _ _ _ _ _ head.loop.inv.2 in
+    let e = fills_current _ _ _ _ _ _ head.loop.inv.2 in
     (omega arith, (omega (arith, inside s), s.pre.1.1.1, rw e (s.pre.1.0.1 _ (omega (arith, inside s)))))
 
 loop-again : tie.Need-loop-preserved invariant-loop decreases-loop
@@ -37,7 +37,7 @@ loop-again c =
     let word : tie.After-cell-word invariant-loop decreases-loop = search in
     let head : tie.At-loop invariant-loop decreases-loop = search in
     let e = head.loop.inv.2 in
-    (omega arith, omega arith, fills-next _ _ _ _ _ _ _ _ e (fills_cell _ _ _ _ _ _ _ _ e word.cell-word.ensures) wrote.write.ensures)
+    (omega arith, omega arith, fills_next _ _ _ _ _ _ _ _ e (fills_cell _ _ _ _ _ _ _ _ e word.cell-word.ensures) wrote.write.ensures)
 
 pub fill_cells_spec : {M : Type 1} → statement M
 fill_cells_spec =
@@ -47,7 +47,7 @@ fill_cells_spec =
     decreases-loop
     (λ c κs. search rules)
     (λ c. omega (arith, inside search))
-    (λ c. (omega arith, omega arith, fills-none _ _ _ _))
+    (λ c. (omega arith, omega arith, fills_none _ _ _ _))
     (λ c. omega (arith, inside search))
     cell-word-requires
     (λ c. omega (arith, inside search))
@@ -56,4 +56,4 @@ fill_cells_spec =
     (λ c. omega arith)
     loop-again
     (λ c. omega arith)
-    (λ c. search fills-all))
+    (λ c. search fills_all))

@@ -11,7 +11,7 @@ use Rattle.layout.specs.View.{view_of}
 use Rattle.model.specs.Preconditions.{shape_in}
 use Rattle.layout.proofs.Indices.{sizes_need}
 use Rattle.writing.specs.Steps.{value_words}
-use Rattle.writing.proofs.Steps.{fillsTo, fills-none, fills-next, fills-all, word_of}
+use Rattle.writing.proofs.Steps.{fillsTo, fills_none, fills_next, fills_all, word_of}
 use Rattle.writing.proofs.fill_values.Statement.{statement}
 use Rattle.writing.proofs.fill_values.Tie as tie
 
@@ -33,7 +33,7 @@ loop-again c =
     let head : tie.At-loop invariant-loop decreases-loop = search in
     let start : tie.Start invariant-loop decreases-loop = search in
     let turn = head.loop in
-    (omega arith, omega arith, fills-next _ _ _ _ _ _ _ _ turn.inv.2 (word_of (get_or start.args.t4 turn.c (pos 0)) _ word.to_word.ensures word.before.to-word-arg.given) wrote.write.ensures)
+    (omega arith, omega arith, fills_next _ _ _ _ _ _ _ _ turn.inv.2 (word_of (get_or start.args.t4 turn.c (pos 0)) _ word.to_word.ensures word.before.to-word-arg.given) wrote.write.ensures)
 
 pub fill_values_spec : {M : Type 1} → statement M
 fill_values_spec =
@@ -42,7 +42,7 @@ fill_values_spec =
     invariant-loop
     decreases-loop
     (λ c κs. search rules)
-    (λ c. (omega arith, omega arith, fills-none _ _ _ _))
+    (λ c. (omega arith, omega arith, fills_none _ _ _ _))
     (λ c. omega (arith, inside search))
     (λ c. omega (arith, inside search))
     (λ c. omega (arith, inside search))
@@ -52,4 +52,4 @@ fill_values_spec =
     (λ c. omega arith)
     loop-again
     (λ c. omega arith)
-    (λ c. search fills-all))
+    (λ c. search fills_all))

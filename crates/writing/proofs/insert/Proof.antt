@@ -5,7 +5,7 @@ use borrow.Author.Rules.{rules}
 use Rattle.layout.specs.View.{put, renew}
 use Rattle.layout.proofs.Indices.{range_in}
 use Rattle.writing.specs.Steps.{open_put, row_put}
-use Rattle.writing.proofs.Steps.{inserted-is}
+use Rattle.writing.proofs.Steps.{inserted_is}
 use Rattle.writing.proofs.insert.Statement.{statement}
 use Rattle.writing.proofs.insert.Tie as tie
 
@@ -28,7 +28,7 @@ returns c =
     let given : tie.After-read = search in
     let start : tie.Start = search in
     let at : tie.After-pending-at = search in
-    (given.read.ensures, inserted-is _ _ _ _ start.pre.1.1.0 _ _ _ _ _ _ _ (ap (λ p. p.keeper) at.pending-at.ensures) given.read.ensures row.put-row.ensures cells.put-cells.ensures counted.write.ensures noted.note.ensures)
+    (given.read.ensures, inserted_is _ _ _ _ start.pre.1.1.0 _ _ _ _ _ _ _ (ap (λ p. p.keeper) at.pending-at.ensures) given.read.ensures row.put-row.ensures cells.put-cells.ensures counted.write.ensures noted.note.ensures)
 
 pub insert_spec : {M : Type 1} → statement M
 insert_spec =

@@ -3,7 +3,7 @@ use native.Mathlib.Omega.{arith}
 use borrow.Author.Rules.{rules}
 use Prim.Native.Nat.{◌+◌, ◌*◌, ◌-◌, ◌≤◌}
 use Rattle.layout.specs.Regions.{need, slot}
-use Rattle.layout.proofs.Indices.{tail-in, values-in, sizes_need}
+use Rattle.layout.proofs.Indices.{tail_in, values_in_lem, sizes_need}
 use Rattle.writing.proofs.newest_values.Statement.{statement}
 use Rattle.writing.proofs.newest_values.Tie as tie
 
@@ -15,8 +15,8 @@ inside c =
     let start : tie.Start = search in
     let a = start.args in
     let p = start.pre.1.0 in
-    let h = tail-in a.s p a.g start.pre.1.1.range_below in
-    (h, values-in a.s p _ (omega (arith, h, c.read.ensures, start.pre.1.1.some, start.pre.1.1.most)), omega (arith, sizes_need a.s))
+    let h = tail_in a.s p a.g start.pre.1.1.range_below in
+    (h, values_in_lem a.s p _ (omega (arith, h, c.read.ensures, start.pre.1.1.some, start.pre.1.1.most)), omega (arith, sizes_need a.s))
 
 pub newest_values_spec : {M : Type 1} → statement M
 unfolding slot

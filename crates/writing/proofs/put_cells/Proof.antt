@@ -9,8 +9,8 @@ use Rattle.terms.specs.Measures.{most_columns}
 use Rattle.layout.specs.Regions.{need}
 use Rattle.layout.specs.View.{view_of}
 use Rattle.model.specs.Preconditions.{shape_in}
-use Rattle.layout.proofs.Indices.{chunks-in, sizes_need}
-use Rattle.writing.proofs.Steps.{cellsTo, cells-none, cells-current, cells-next, cells-all, word_of}
+use Rattle.layout.proofs.Indices.{chunks_in, sizes_need}
+use Rattle.writing.proofs.Steps.{cellsTo, cells_none, cells_current, cells_next, cells_all, word_of}
 use Rattle.writing.proofs.put_cells.Statement.{statement}
 use Rattle.writing.proofs.put_cells.Tie as tie
 
@@ -23,13 +23,13 @@ decreases-loop mem₀ s g i vs columns first c₀ mem c = columns - c
 
 -- the range's chunks lie among the chunks
 inside : (c : tie.Start invariant-loop decreases-loop) → let a = c.args in (a.g * a.s.columns + a.s.columns ≤ a.s.chunks) × (a.s.chunks ≤ need a.s) × (a.s.columns ≤ most_columns)
-inside c = let a = c.args in (chunks-in a.s c.requires.1.0.0 a.g c.requires.1.1.0, omega (arith, sizes_need a.s), c.requires.1.0.0.columns_to)
+inside c = let a = c.args in (chunks_in a.s c.requires.1.0.0 a.g c.requires.1.1.0, omega (arith, sizes_need a.s), c.requires.1.0.0.columns_to)
 
 put-cell-requires : tie.Need-put-cell-requires invariant-loop decreases-loop
 put-cell-requires c κs =
     let head : tie.At-loop invariant-loop decreases-loop = search in
     let start : tie.Start invariant-loop decreases-loop = search in
-    let e = cells-current _ _ _ _ _ _ _ head.loop.inv.2 in
+    let e = cells_current _ _ _ _ _ _ _ head.loop.inv.2 in
     (omega arith, (omega (arith, inside start), start.pre.1.1.1, rw e (start.pre.1.0.1 _ (omega (arith, inside start)))))
 
 loop-again : tie.Need-loop-preserved invariant-loop decreases-loop
@@ -39,7 +39,7 @@ loop-again c =
     let head : tie.At-loop invariant-loop decreases-loop = search in
     let start : tie.Start invariant-loop decreases-loop = search in
     let turn = head.loop in
-    (omega arith, omega arith, cells-next _ _ _ _ _ _ _ _ _ turn.inv.2 (word_of (get_or start.args.t5 turn.c (pos 0)) _ word.to_word.ensures word.before.to-word-arg.given) put.put-cell.ensures)
+    (omega arith, omega arith, cells_next _ _ _ _ _ _ _ _ _ turn.inv.2 (word_of (get_or start.args.t5 turn.c (pos 0)) _ word.to_word.ensures word.before.to-word-arg.given) put.put-cell.ensures)
 
 pub put_cells_spec : {M : Type 1} → statement M
 put_cells_spec =
@@ -48,7 +48,7 @@ put_cells_spec =
     invariant-loop
     decreases-loop
     (λ c. omega (arith, inside search))
-    (λ c. (omega arith, omega arith, cells-none _ _ _ _ _))
+    (λ c. (omega arith, omega arith, cells_none _ _ _ _ _))
     (λ c. omega (arith, inside search))
     (λ c. omega (arith, inside search))
     (λ c. omega (arith, inside search))
@@ -58,4 +58,4 @@ put_cells_spec =
     (λ c. omega arith)
     loop-again
     (λ c. omega arith)
-    (λ c. search cells-all))
+    (λ c. search cells_all))

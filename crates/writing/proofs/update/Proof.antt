@@ -5,7 +5,7 @@ use native.Mathlib.Omega.{arith}
 use borrow.Author.Rules.{rules}
 use Rattle.history.specs.History.{range_of}
 use Rattle.layout.proofs.Indices.{range_in}
-use Rattle.writing.proofs.Steps.{updated-is}
+use Rattle.writing.proofs.Steps.{updated_is}
 use Rattle.writing.proofs.update.Statement.{statement}
 use Rattle.writing.proofs.update.Tie as tie
 
@@ -23,7 +23,7 @@ returns c =
     let first : tie.After-read = search in
     let start : tie.Start = search in
     let at : tie.After-pending-at = search in
-    (rw (wanted.records-wanted.ensures, first.read.ensures), updated-is _ _ _ _ start.pre.1.1.0 _ _ _ _ _ _ _ _ (ap (λ p. p.keeper) at.pending-at.ensures) old.read2.ensures appended.append-records.ensures masked.write.ensures noted.note.ensures)
+    (rw (wanted.records-wanted.ensures, first.read.ensures), updated_is _ _ _ _ start.pre.1.1.0 _ _ _ _ _ _ _ _ (ap (λ p. p.keeper) at.pending-at.ensures) old.read2.ensures appended.append-records.ensures masked.write.ensures noted.note.ensures)
 
 pub update_spec : {M : Type 1} → statement M
 update_spec =

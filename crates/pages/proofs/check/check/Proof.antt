@@ -9,7 +9,7 @@ use Rattle.scans.proofs.Table.{table_length}
 use Rattle.facts.specs.Usable.{stored_shape, stored_form, stored_sizes}
 use Rattle.pages.specs.declared.check.Checked.TheVariants.{Fit}
 use Rattle.pages.specs.Checked.{measured}
-use Rattle.pages.proofs.Answers.{Measured, measured_tells, unmeasured, few-entries, by-facts}
+use Rattle.pages.proofs.Answers.{Measured, measured_tells, unmeasured, few_entries, by_facts}
 use Rattle.pages.proofs.check.check.Statement.{statement}
 use Rattle.pages.proofs.check.check.Tie as tie
 
@@ -37,15 +37,15 @@ returns-3 : tie.Need-returns-3
 returns-3 c =
     let facts = c.before in
     let at = facts.before.before in (
-      λ ps e. sym (by-facts _ ps _ (found at) (rw (table_length _ ps e) at facts.before.if1.false) ∙ rw (← facts.facts-hold.ensures.0 ps e, c.if2.true)),
-      record { sizes_are = (known at).sizes_are; within = (known at).within; room = (known at).room; facts = facts.facts-hold.ensures.1 c.if2.true },
+      λ ps e. sym (by_facts _ ps _ (found at) (rw (table_length _ ps e) at facts.before.if1.false) ∙ rw (← facts.facts_hold_lem.ensures.0 ps e, c.if2.true)),
+      record { sizes_are = (known at).sizes_are; within = (known at).within; room = (known at).room; facts = facts.facts_hold_lem.ensures.1 c.if2.true },
     )
 
 returns-4 : tie.Need-returns-4
 returns-4 c =
     let facts = c.before in
     let at = facts.before.before in
-    (λ ps e. sym (by-facts _ ps _ (found at) (rw (table_length _ ps e) at facts.before.if1.false) ∙ rw (← facts.facts-hold.ensures.0 ps e, c.if2.false)), tt)
+    (λ ps e. sym (by_facts _ ps _ (found at) (rw (table_length _ ps e) at facts.before.if1.false) ∙ rw (← facts.facts_hold_lem.ensures.0 ps e, c.if2.false)), tt)
 
 pub check_spec : {M : Type 1} → statement M
 check_spec =
@@ -55,7 +55,7 @@ check_spec =
     (λ c. search rules)
     (λ c. search rules)
     returns
-    (λ c. (λ ps e. few-entries _ ps _ (found c.before) (rw (table_length _ ps e) at c.if1.true), tt))
+    (λ c. (λ ps e. few_entries _ ps _ (found c.before) (rw (table_length _ ps e) at c.if1.true), tt))
     (λ c κs. ((known c.before).room, whole c.before))
     returns-3
     returns-4)

@@ -9,7 +9,7 @@ use Rattle.loops.proofs.Search.{and_true}
 use Rattle.facts.specs.Facts.{facts_hold}
 use Rattle.facts.specs.Tests.{Ready}
 use Rattle.facts.proofs.Order.{facts_are, memory_facts}
-use Rattle.facts.proofs.Ready.{ready, few, counts-are}
+use Rattle.facts.proofs.Ready.{ready, few, counts_are}
 use Rattle.pages.proofs.check.facts_hold.Statement.{statement}
 use Rattle.pages.proofs.check.facts_hold.Tie as tie
 
@@ -39,7 +39,7 @@ returns c =
     let flag = counts.before.counts-within.ensures in (
       λ ps e.
           let k = few z s.args.mem.now s.args.t _ flag ps e counts.if1.true in
-          rw (facts_are z v ps, counts-are z s.args.mem.now s.args.t _ flag ps e, counts.if1.true, c.both4.ensures, b3.both3.ensures, b2.both2.ensures, b1.both.ensures, scans.scans-hold.ensures ps e k, opens.opens-hold.ensures, pages.pages-hold.ensures, rows.rows-hold.ensures, records.ranges-hold.ensures),
+          rw (facts_are z v ps, counts_are z s.args.mem.now s.args.t _ flag ps e, counts.if1.true, c.both4.ensures, b3.both3.ensures, b2.both2.ensures, b1.both.ensures, scans.scans-hold.ensures ps e k, opens.opens-hold.ensures, pages.pages-hold.ensures, rows.rows-hold.ensures, records.ranges-hold.ensures),
       λ up.
           let a1 = and_true records.ranges-hold.result b3.both3.result (sym c.both4.ensures ∙ up) in
           let a2 = and_true rows.rows-hold.result b2.both2.result (sym b3.both3.ensures ∙ a1.1) in
@@ -56,7 +56,7 @@ unfolding facts_hold
 returns-2 c =
     let s = c.before.before.before in (
       λ ps e.
-          rw (counts-are s.args.s s.args.mem.now s.args.t _ c.before.counts-within.ensures ps e, c.if1.false),
+          rw (counts_are s.args.s s.args.mem.now s.args.t _ c.before.counts-within.ensures ps e, c.if1.false),
       λ up. absurd (unlike up),
     )
 

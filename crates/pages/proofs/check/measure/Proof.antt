@@ -1,6 +1,6 @@
 -- `pages::check::measure` meets its contract: the words read are the stored shape, and each answer follows from the tests that led to it.
 use borrow.Author.Rules.{rules}
-use Rattle.pages.proofs.Answers.{too_short, other_form_lem, out-of-limits, limits_passed, words-few, bytes-few, no_room, fit}
+use Rattle.pages.proofs.Answers.{too_short, other_form_lem, out_of_limits, limits_passed, words_few, bytes_few, no_room, fit}
 use Rattle.pages.proofs.check.measure.Statement.{statement}
 use Rattle.pages.proofs.check.measure.Tie as tie
 
@@ -17,9 +17,9 @@ measure_spec =
     (λ c κs. search rules)
     (λ c κs. search rules)
     (λ c κs. search rules)
-    (λ c. search out-of-limits)
-    (λ c κs. limits_passed _ _ c.before.within-limits.ensures c.if3.false)
-    (λ c κs. search words-few)
-    (λ c. search bytes-few)
+    (λ c. search out_of_limits)
+    (λ c κs. limits_passed _ _ c.before.within_limits_lem.ensures c.if3.false)
+    (λ c κs. search words_few)
+    (λ c. search bytes_few)
     (λ c. search no_room)
     (λ c. search fit))

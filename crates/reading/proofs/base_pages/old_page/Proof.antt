@@ -8,7 +8,7 @@ use Rattle.model.specs.Stored.{first_from}
 use Rattle.model.specs.Reading.{was_current}
 use Rattle.model.specs.Preconditions.{shape_in}
 use borrow.Author.Rules.{rules}
-use Rattle.reading.proofs.ScanPages.{old-found, old-on, old-none}
+use Rattle.reading.proofs.ScanPages.{old_found, old_on, old_none}
 use Rattle.reading.proofs.base_pages.old_page.Statement.{statement}
 use Rattle.reading.proofs.base_pages.old_page.Tie as tie
 
@@ -28,8 +28,8 @@ old_page_spec =
     decreases-loop
     (λ c. (omega arith, simp sub-zero))
     (λ c κs. search rules)
-    (λ c. search old-found)
+    (λ c. search old_found)
     (λ c. omega arith)
     (λ c. omega arith)
-    (λ c. (omega arith, search old-on))
-    (λ c. (search old-none, tt)))
+    (λ c. (omega arith, search old_on))
+    (λ c. (search old_none, tt)))

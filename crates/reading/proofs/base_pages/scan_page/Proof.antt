@@ -2,9 +2,9 @@
 use Prim.Native.Nat.{◌+◌, ◌*◌, ◌≤◌, ◌<◌}
 use native.Mathlib.Omega.{arith}
 use Rattle.rows.proofs.Cases.{found_inside}
-use Rattle.layout.proofs.Indices.{chunks-few}
+use Rattle.layout.proofs.Indices.{chunks_few}
 use Rattle.rows.proofs.Indices.{chunk_in}
-use Rattle.reading.proofs.ScanPages.{scan_current, scan-old, scan-none}
+use Rattle.reading.proofs.ScanPages.{scan_current, scan_old, scan_none}
 use borrow.Author.Rules.{rules}
 use Rattle.reading.proofs.base_pages.scan_page.Statement.{statement}
 use Rattle.reading.proofs.base_pages.scan_page.Tie as tie
@@ -12,7 +12,7 @@ use Rattle.reading.proofs.base_pages.scan_page.Tie as tie
 inside : (c : tie.Start) → let a = c.args in (a.g * a.s.columns + a.c < a.s.chunks) × (a.s.chunks ≤ 256)
 inside c =
     let proper = c.requires.1.0 in
-    (chunk_in _ proper _ _ c.requires.1.1.1.0 c.requires.1.1.1.1, chunks-few _ proper)
+    (chunk_in _ proper _ _ c.requires.1.1.1.0 c.requires.1.1.1.1, chunks_few _ proper)
 
 pub scan_page_spec : {M : Type 1} → statement M
 scan_page_spec =
@@ -26,5 +26,5 @@ scan_page_spec =
     (λ c κs. search rules)
     (λ c. search rules)
     (λ c. search rules)
-    (λ c. (search scan-none, search))
-    (λ c. (search scan-old, search found_inside)))
+    (λ c. (search scan_none, search))
+    (λ c. (search scan_old, search found_inside)))

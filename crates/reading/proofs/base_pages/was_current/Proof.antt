@@ -1,6 +1,6 @@
 -- `reading::base_pages::was_current` meets its contract.
 use native.Mathlib.Omega.{arith}
-use Rattle.reading.proofs.ScanPages.{chunks-some, not-waiting, elsewhere, made-later, made_before}
+use Rattle.reading.proofs.ScanPages.{chunks_some, not_waiting, elsewhere, made_later, made_before}
 use borrow.Author.Rules.{rules}
 use Rattle.reading.proofs.base_pages.was_current.Statement.{statement}
 use Rattle.reading.proofs.base_pages.was_current.Tie as tie
@@ -10,12 +10,12 @@ was_current_spec =
     tie.close
     (tie.spec
     (λ c κs. search rules)
-    (λ c. search not-waiting)
+    (λ c. search not_waiting)
     (λ c κs. search rules)
     (λ c. search rules)
-    (λ c. let start : tie.Start = search in omega (arith, chunks-some _ start.pre.1.0))
+    (λ c. let start : tie.Start = search in omega (arith, chunks_some _ start.pre.1.0))
     (λ c. search elsewhere)
     (λ c κs. search rules)
-    (λ c. search made-later)
+    (λ c. search made_later)
     (λ c κs. search rules)
     (λ c. search made_before))

@@ -6,21 +6,21 @@ use Rattle.loops.proofs.Change.{changed_none, changed_next, changed_all}
 use Rattle.loops.proofs.copy_from.Statement.{statement}
 use Rattle.loops.proofs.copy_from.Tie as tie
 
-abbrev invariant-loop : tie.invariant-loop
+abbrev invariant-loop : tie.invariant-loop-i
 invariant-loop from n to₀ i₀ to i = (i ≤ n) × (length to ≡ length to₀) × (words to ≡ copied (words from) 0 i 0 (words to₀))
 
-abbrev decreases-loop : tie.decreases-loop
+abbrev decreases-loop : tie.decreases-loop-i
 decreases-loop from n to₀ i₀ to i = n - i
 
-loop-again : tie.Need-loop-preserved invariant-loop decreases-loop
+loop-again : tie.Need-loop-i-preserved invariant-loop decreases-loop
 loop-again c =
     let put : tie.After-put invariant-loop decreases-loop = search in
-    let get : tie.After-get invariant-loop decreases-loop = search in
-    let head : tie.At-loop invariant-loop decreases-loop = search in
+    let get : tie.After-get-v invariant-loop decreases-loop = search in
+    let head : tie.At-loop-i invariant-loop decreases-loop = search in
     let start : tie.Start invariant-loop decreases-loop = search in (
       omega arith,
       omega arith,
-      changed_next (λ j x. get_or (words start.args.from.now) (0 + j) 0) 0 (words start.args.to.now) _ _ _ _ head.loop.inv.2 (get.get.ensures ∙ rw zero-add) (put.put.ensures ∙ rw zero-add),
+      changed_next (λ j x. get_or (words start.args.from.now) (0 + j) 0) 0 (words start.args.to.now) _ _ _ _ head.loop-i.invariant.2 (get.get-v.ensures ∙ rw zero-add) (put.put.ensures ∙ rw zero-add),
     )
 
 pub copy_from_spec : {M : Type 1} → statement M

@@ -21,14 +21,14 @@ use terms::{Form, Refusal, Row, Stamp, Transaction};
 use words::HIGHEST_WORD;
 
 // What the test of the lent memory and scan list finds: the store's sizes and the number of bytes that they need, or that the memory is not usable.
-#[derive(Drop)]
+#[derive(Clone, Copy)]
 pub enum Admission {
     Fit(Sizes, usize),
     Unfit,
 }
 
 // What the tests of a call find: the index that it goes by (of a transaction, a scan in the table, a free entry, a free page, a range), or why the call is refused.
-#[derive(Drop)]
+#[derive(Clone, Copy)]
 pub enum Tested {
     Passed(usize),
     Failed(Refusal),

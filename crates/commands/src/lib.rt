@@ -9,7 +9,7 @@ use terms::limits::MOST_COLUMNS;
 use words::{get, of_word};
 
 // The calls that only read.
-#[derive(Drop)]
+#[derive(Clone, Copy)]
 pub enum Read {
     Latest,
     ReadAt,
@@ -22,7 +22,7 @@ pub enum Read {
 }
 
 // Those that change the memory and leave the scan list.
-#[derive(Drop)]
+#[derive(Clone, Copy)]
 pub enum Write {
     Begin,
     Insert,
@@ -36,7 +36,7 @@ pub enum Write {
 }
 
 // All calls: these, the two that change the list, and the one that writes into a slice.
-#[derive(Drop)]
+#[derive(Clone, Copy)]
 pub enum Kind {
     Read(Read),
     Write(Write),
@@ -54,7 +54,7 @@ pub const SHAPE_BYTES: usize = 6;
 
 // A command's call and the widths of its operands in bytes, 0 for one that the call has not, and whether every column's value follows. The widths are no array, since
 // `Chosen` holds a format.
-#[derive(Drop)]
+#[derive(Clone, Copy)]
 pub struct Format {
     pub kind: Kind,
     pub first: usize,
@@ -66,7 +66,7 @@ pub struct Format {
 }
 
 // What a command byte stands for.
-#[derive(Drop)]
+#[derive(Clone, Copy)]
 pub enum Chosen {
     Known(Format),
     Refused(Refusal),
@@ -205,7 +205,7 @@ fn values(bytes: &[u8], n: usize) -> [i32; MOST_COLUMNS]
 }
 
 // A call as the bytes give it: its operands in the order of the command, 0 for one that it has not, and the first `count` of `values`.
-#[derive(Drop)]
+#[derive(Clone, Copy)]
 pub struct Request {
     pub kind: Kind,
     pub operands: [u32; MOST_OPERANDS],
@@ -232,7 +232,7 @@ pub fn decode(format: Format, columns: usize, bytes: &[u8]) -> Request
 }
 
 // The measures of a store, as they are read.
-#[derive(Drop)]
+#[derive(Clone, Copy)]
 pub struct Measures {
     pub columns: u32,
     pub ranges: u32,

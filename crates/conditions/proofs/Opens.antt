@@ -1,7 +1,7 @@
 -- The search among the open entries: the first index of a number other than 0 is that of the transaction.
 use Prim.Native.Nat.{ℕ, suc, ◌+◌}
 use mathlib.Core.Path.{◌≡◌, refl, sym, ◌∙◌, ap}
-use mathlib.Core.Bool.{Bool, true, false, not, cond, ◌&&◌, ◌||◌, not-and_self, and_false}
+use mathlib.Core.Bool.{Bool, true, false, not, cond, ◌&&◌, ◌||◌, not-and_self, and-false}
 use mathlib.Core.List.{List, [], ◌∷◌}
 use native.Mathlib.Omega.{arith}
 use native.Mathlib.Nat.{add-zero, zero-add}
@@ -41,7 +41,7 @@ module _ (t : ℕ) (h : t ≡ 0 → ⊥) where
     where
       go : (b : Bool) → eqb x t ≡ b → (not (eqb x 0) && b) ≡ b
       go true q = let e = eqb-true x t q in rw (ne_eqb x 0 (λ z. h (sym e ∙ z)))
-      go false q = and_false (not (eqb x 0))
+      go false q = and-false (not (eqb x 0))
 
   first_bears : (i : ℕ) (l : List ℕ) → first_at t i l ≡ cond (not (any (bears t) l)) Found.Nothing (Found.At (i + firstIndex (bears t) l))
   first_bears i [] = refl

@@ -1,7 +1,7 @@
 -- The loops over open numbers and tail records find what the model's conditions say.
 use Prim.Native.Nat.{ℕ, zero, suc, ◌+◌, ◌*◌, ◌≤◌, ◌<◌}
 use mathlib.Core.Path.{◌≡◌, refl, sym, ◌∙◌, ap, fun_ext}
-use mathlib.Core.Bool.{Bool, true, false, not, ◌&&◌, ◌||◌, and_false, true≢false}
+use mathlib.Core.Bool.{Bool, true, false, not, ◌&&◌, ◌||◌, and-false, true≢false}
 use mathlib.Core.List.{List}
 use native.Mathlib.Omega.{arith}
 use native.Mathlib.Nat.{le_refl}
@@ -89,7 +89,7 @@ open_zero v k e = rw (e, none_bears (v Opens))
 module _ (v : View) (t k : ℕ) where
   pub other_self : k ≡ t → false ≡ open_other v t k
   unfolding open_other
-  other_self e = rw (eq-eqb k t e) (sym (and_false (open_in v k)))
+  other_self e = rw (eq-eqb k t e) (sym (and-false (open_in v k)))
 
   pub other_closed : (f : Found) → f ≡ open_at v k → f ≡ Found.Nothing → false ≡ open_other v t k
   unfolding not_open_in open_other

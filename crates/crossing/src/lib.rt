@@ -24,7 +24,7 @@ use terms::{Answer, Refusal, Row, Stamp};
 use words::of_word;
 
 // What is asked: the row and column, the mark, and the stamp from which on crossings are listed.
-#[derive(Drop)]
+#[derive(Clone, Copy)]
 pub struct Query {
     pub row: Row,
     pub column: u32,
@@ -33,7 +33,7 @@ pub struct Query {
 }
 
 // A value that a record tells, by what a crossing goes by: who set it, its stamp, and whether it is at or above the mark.
-#[derive(Drop)]
+#[derive(Clone, Copy)]
 pub struct Told {
     pub setter: u32,
     pub stamp: u32,
@@ -42,7 +42,7 @@ pub struct Told {
 
 // Where the pass stands. `met`: a value was met, and `setter`, `stamp` and `above` are of the last. `follows`: a value by another transaction was met before it, and
 // `before` is that one's side. `found`: the crossings so far, without the last value's.
-#[derive(Drop)]
+#[derive(Clone, Copy)]
 pub struct Pass {
     pub met: bool,
     pub setter: u32,

@@ -33,7 +33,7 @@ pub fn put(out: &mut [u8; LINE_BYTES], at: usize, s: &[u8]) -> usize
 }
 
 // A number in decimal: the characters of `digits` from `from` on. They are found from the last to the first, so that they stand at the end of the array.
-#[derive(Drop)]
+#[derive(Clone, Copy)]
 struct Decimal {
     digits: [u8; MOST_DIGITS],
     from: usize,

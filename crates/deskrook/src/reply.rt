@@ -15,7 +15,7 @@ use words::to_word;
 // number merged through, or the two's complement word of a value; `second` the records used; `stamp` the stamp of the commit that set the value; `sum` a sum. What an
 // answer does not have is 0.
 #[repr(C)]
-#[derive(Drop)]
+#[derive(Clone, Copy)]
 pub struct Reply {
     pub result: u32,
     pub first: u32,

@@ -28,7 +28,7 @@ pub fn read_behind(buffer: &mut [u8], to: usize) -> usize
 }
 
 // What was handed to the system to write, and whether all of it was written.
-#[derive(Drop)]
+#[derive(Clone, Copy)]
 pub struct Written {
     pub bytes: usize,
     pub done: bool,

@@ -13,7 +13,7 @@ const MOST_BYTES: usize = 9223372036854775808;
 
 // How the program stands; how many bytes are held at the front of the input buffer, and whether they are the last; how many bytes at the front of the lines wait
 // to be written, and whether lines could not be written; and how many bytes were read and written in all.
-#[derive(Drop)]
+#[derive(Clone, Copy)]
 pub struct Course {
     on: bool,
     started: bool,

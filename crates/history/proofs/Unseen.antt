@@ -1,7 +1,7 @@
 -- What a reader does not see changes nothing for it: a row that a snapshot does not see it never will, records of transactions that it does not see leave every read
 -- as it was, and neither change a sum. Stability wants it, and so does the store's proof, where an open scan's pages hold the rows that the scan may see.
 use mathlib.Core.Path.{◌≡◌, refl, ◌∙◌, ap, fun_ext}
-use mathlib.Core.Bool.{Bool, false, not, ◌&&◌, and_false, or-false}
+use mathlib.Core.Bool.{Bool, false, not, ◌&&◌, and-false, or-false}
 use mathlib.Core.List.{List, [], ◌∷◌, ◌++◌, append-nil}
 use Prim.Native.Nat.{ℕ, zero, suc, ◌≤◌, ◌<◌}
 use native.Mathlib.Omega.{arith}
@@ -27,10 +27,10 @@ module _ (sees : ℕ → Bool) (r : ℕ) (l : List Record) {m : List Record} (un
   unfolding ended
   ended_same =
       any_append _ l m
-      ∙ rw (any_none (λ x. eqb x.row r && (ends x.content && sees x.transaction)) (all_map (λ x (e : sees x.transaction ≡ false). simp (e, and_false) tt) unseen)) (or-false _)
+      ∙ rw (any_none (λ x. eqb x.row r && (ends x.content && sees x.transaction)) (all_map (λ x (e : sees x.transaction ≡ false). simp (e, and-false) tt) unseen)) (or-false _)
 
   pub last_same : (c : ℕ) (v : Version) → last_setting sees r c v (l ++ m) ≡ last_setting sees r c v l
-  last_same c v = last_append sees r c v l m ∙ last_unfound sees r c _ (all_map (λ x (e : sees x.transaction ≡ false). simp (e, and_false)) unseen)
+  last_same c v = last_append sees r c v l m ∙ last_unfound sees r c _ (all_map (λ x (e : sees x.transaction ≡ false). simp (e, and-false)) unseen)
 
 -- ---- a sum for snapshot t, which has no more commits than were made
 pub record SumStays (t : Snapshot) (c : ℕ) (a : Answer) (h : History) : Type 0 where

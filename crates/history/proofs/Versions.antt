@@ -1,7 +1,7 @@
 -- A row and column's values in their order (`versions`): the last is what a reader reads, and they stay as long as what the reader sees does. The crossings up to a minute
 -- are told by them.
 use mathlib.Core.Path.{◌≡◌, refl, sym, subst, ◌∙◌, ap}
-use mathlib.Core.Bool.{Bool, true, false, cond, ◌&&◌, ◌||◌, and_false}
+use mathlib.Core.Bool.{Bool, true, false, cond, ◌&&◌, ◌||◌, and-false}
 use mathlib.Core.List.{List, [], ◌∷◌, ◌++◌, append_assoc}
 use Prim.Native.Nat.{ℕ, ◌≤◌, ◌<◌}
 use native.Mathlib.Omega.{arith}
@@ -68,7 +68,7 @@ settings_same : (f : ℕ → Bool) (st : ℕ → State) (r c : ℕ) (l : List Re
     → settings_seen f st r c (l ++ m) ≡ settings_seen f st r c l
 unfolding settings_seen
 settings_same f st r c [] nil = refl
-settings_same f st r c [] (cons e es) = simp (e, and_false) (settings_same f st r c [] es)
+settings_same f st r c [] (cons e es) = simp (e, and-false) (settings_same f st r c [] es)
 settings_same f st r c (x ∷ l) u = rw (settings_same f st r c l u)
 
 -- what stays: the values of row r and column c for snapshot t, which has no more commits than were made

@@ -18,7 +18,7 @@ use terms::limits::{
 use terms::{Answer, Form, Refusal};
 
 // The regions in the order in which they lie. A new one comes last, so that the others stay where they are.
-#[derive(Drop)]
+#[derive(Clone, Copy)]
 pub enum Region {
     // the measures, and the counts that the calls keep; HEADER_.. name the words
     Header,
@@ -107,7 +107,7 @@ const ORDINALS_FROM: usize = ROWS_FROM + MOST_TRANSACTIONS;
 const PAGE_WORDS: usize = 6 + RANGE_ROWS;
 
 // A shape and a form, and the lengths that its regions are made of. The products are fields, so that each region starts at a linear sum of them.
-#[derive(Drop)]
+#[derive(Clone, Copy)]
 pub struct Sizes {
     pub form: Form,
     pub columns: usize,
@@ -123,7 +123,7 @@ pub struct Sizes {
 }
 
 // The lengths of the regions that the first form does not have, all 0 in that form.
-#[derive(Drop)]
+#[derive(Clone, Copy)]
 pub struct Later {
     pub rows: usize,
     pub slots: usize,
@@ -243,7 +243,7 @@ pub fn columns_word(form: Form, columns: u32) -> u32
 }
 
 // What lies before a region: so many words, and so many times each length that regions are made of.
-#[derive(Drop)]
+#[derive(Clone, Copy)]
 pub struct Before {
     pub words: usize,
     pub rows: usize,

@@ -163,7 +163,7 @@ pub fn all_between(mem: &[u8], at: usize, n: usize, low: u32, high: u32) -> bool
 }
 
 // Where a search ended.
-#[derive(Drop)]
+#[derive(Clone, Copy)]
 pub enum Found {
     At(usize),
     Nothing,

@@ -2,7 +2,7 @@
 -- every test q, so that membership, the limits, that numbers differ, and what stands in the entry found are read off by a choice of q.
 use mathlib.Core.Path.{◌≡◌, refl, sym, ◌∙◌, ap}
 use mathlib.Core.Logic.{◌≢◌}
-use mathlib.Core.Bool.{Bool, true, false, not, cond, ◌&&◌, and_false, and_true, and_assoc}
+use mathlib.Core.Bool.{Bool, true, false, not, cond, ◌&&◌, and-false, and-true, and_assoc}
 use mathlib.Core.List.{List, [], ◌∷◌, ◌++◌}
 use Prim.Native.Nat.{ℕ, zero, suc, ◌+◌, ◌≤◌, ◌<◌}
 use native.Mathlib.Omega.{arith}
@@ -68,14 +68,14 @@ module _ {P A : Type 0} (K : Kind P A) (ts : List A) (l : List P) (o : Book K ts
   book_at : (t : ℕ) (f : P → Bool) → count (λ p. not (eqb (K.number p) 0) && (f p && eqb (K.number p) t)) l ≡ one (K.live (entry t) && f (K.as' t (entry t)))
   book_at zero f =
       o (λ p. f p && eqb (K.number p) 0)
-      ∙ from_none _ 1 ts (λ n x a b. rw (K.as_number n x, ne_eqb n 0 (λ e. omega arith), and_false (f (K.as' n x)), and_false (K.live x)))
+      ∙ from_none _ 1 ts (λ n x a b. rw (K.as_number n x, ne_eqb n 0 (λ e. omega arith), and-false (f (K.as' n x)), and-false (K.live x)))
       ∙ rw K.none_live
   book_at (suc t) f =
       let e : 1 + t ≡ suc t = omega arith in
       o (λ p. f p && eqb (K.number p) (suc t)) ∙ simp (K.as_number, ← and_assoc) (rw e at (from_at (λ n x. K.live x && f (K.as' n x)) 1 ts t K.none (λ n. rw K.none_live)))
 
   pub book_is : (t : ℕ) → any (bearing t) l ≡ K.live (entry t)
-  book_is t = any_count _ l ∙ ap (ltb 0) (book_at t (λ p. true)) ∙ one_pos _ ∙ and_true _
+  book_is t = any_count _ l ∙ ap (ltb 0) (book_at t (λ p. true)) ∙ one_pos _ ∙ and-true _
 
   pub book_count : count (λ p. not (eqb (K.number p) 0) && true) l ≡ count K.live ts
   book_count = o (λ p. true) ∙ sym (count_from_lem K.live 1 ts)
@@ -116,7 +116,7 @@ module _ {P A : Type 0} (K : Kind P A) (ts : List A) (l : List P) (o : Book K ts
       other : (f : P → ℕ) → f p ≢ f x → ⊥
       other f n =
           let g : P → Bool = λ p. not (eqb (K.number p) 0) && (not (eqb (f p) (f x)) && eqb (K.number p) t) in
-          let e : count g l ≡ 0 = book_at t (λ p. not (eqb (f p) (f x))) ∙ rw (eqb_same (f x), and_false (K.live (entry t))) in
+          let e : count g l ≡ 0 = book_at t (λ p. not (eqb (f p) (f x))) ∙ rw (eqb_same (f x), and-false (K.live (entry t))) in
           omega (arith, count_pos g l (firstIndex (bearing t) l) K.free (first_below (bearing t) l found) (rw (ne_eqb (f p) (f x) n) (first_passes (bearing t) l K.free found)))
 
   pub book_drop : (t : ℕ) → T (K.live (entry t)) → (s : A) → K.live s ≡ false → Book K (change ts t s) (set l (firstIndex (bearing t) l) K.free)

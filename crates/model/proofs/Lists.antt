@@ -2,7 +2,7 @@
 -- the index of a part in a region of equal parts. Nothing here speaks of the store.
 use mathlib.Core.Path.{◌≡◌, refl, sym, ◌∙◌, ap, ap₂}
 use mathlib.Core.Logic.{◌≢◌}
-use mathlib.Core.Bool.{Bool, true, false, not, cond, ◌&&◌, ◌||◌, and_false, and_true, or-false}
+use mathlib.Core.Bool.{Bool, true, false, not, cond, ◌&&◌, ◌||◌, and-false, and-true, or-false}
 use mathlib.Core.List.{List, [], ◌∷◌, ◌++◌}
 use Prim.Native.Nat.{ℕ, zero, suc, ◌+◌, ◌*◌, ◌≤◌, ◌<◌, zero-le}
 use native.Mathlib.Omega.{arith}
@@ -48,7 +48,7 @@ module _ {A : Type 0} where
   from_count f i (x ∷ l) = rw (from_count f (suc i) l)
 
   pub count_from_lem : (f : A → Bool) (i : ℕ) (l : List A) → count f l ≡ count_from (λ k x. f x && true) i l
-  count_from_lem f i l = simp and_true (sym (from_count f i l))
+  count_from_lem f i l = simp and-true (sym (from_count f i l))
 
   pub from_snoc : (p : ℕ → A → Bool) (i : ℕ) (l : List A) (x : A)
       → count_from p i (l ++ x ∷ []) ≡ count_from p i l + one (p (i + length l) x)
@@ -84,11 +84,11 @@ module _ {A : Type 0} where
       rw (
         add-zero,
         eqb_same i,
-        and_true (g i x),
-        from_none (λ n x. g n x && eqb n i) (suc i) l (λ n y a b. rw (ne_eqb n i (λ e. omega arith), and_false (g n y))),
+        and-true (g i x),
+        from_none (λ n x. g n x && eqb n i) (suc i) l (λ n y a b. rw (ne_eqb n i (λ e. omega arith), and-false (g n y))),
       )
   from_at g i (x ∷ l) (suc k) d z =
-      rw (add-suc, ne_eqb i (suc (i + k)) (λ e. omega arith), and_false (g i x), ← suc-add) (from_at g (suc i) l k d z)
+      rw (add-suc, ne_eqb i (suc (i + k)) (λ e. omega arith), and-false (g i x), ← suc-add) (from_at g (suc i) l k d z)
 
   pub count_pos : (f : A → Bool) (l : List A) (i : ℕ) (d : A) → i < length l → T (f (get_or l i d)) → 0 < count f l
   count_pos f [] i d b t = absurd (not-suc-le-zero b)

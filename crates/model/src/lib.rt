@@ -7,7 +7,7 @@ use terms::{ScanEntry, Stamp, Transaction};
 
 // A reader: it sees what was committed at or before its stamp by one of the first so many commits, and what transaction `me` has changed so far (number 0: no such
 // changes).
-#[derive(Drop)]
+#[derive(Clone, Copy)]
 pub struct Reader {
     pub stamp: Stamp,
     pub commits: u32,
@@ -15,14 +15,14 @@ pub struct Reader {
 }
 
 // Who set a column of a row: its insert, or the update whose tail record is at a slot.
-#[derive(Drop)]
+#[derive(Clone, Copy)]
 pub enum Setter {
     Insert,
     Update(usize),
 }
 
 // What a lookup finds for a row and column: the word, and who set it. The stamp that a read shows is read from the row or record that the setter names.
-#[derive(Drop)]
+#[derive(Clone, Copy)]
 pub struct Version {
     pub word: u32,
     pub setter: Setter,

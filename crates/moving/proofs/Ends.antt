@@ -1,7 +1,7 @@
 -- The ways in which a move ends, each as one law from what its points know to what it promises.
 use Prim.Native.Nat.{ℕ, ◌*◌, ◌≤◌, ◌<◌}
 use mathlib.Core.Path.{◌≡◌, refl, ap, sym, ◌∙◌, subst}
-use mathlib.Core.Bool.{Bool, true, false, ◌&&◌, and_false, true≢false}
+use mathlib.Core.Bool.{Bool, true, false, ◌&&◌, and-false, true≢false}
 use mathlib.Core.List.{List, ◌++◌}
 use native.Mathlib.Omega.{arith}
 use lib.Dec.{leb}
@@ -92,7 +92,7 @@ module _ (to other : Form) (o : other ≡ other_form to) (e : Admission) (m : Li
         short b = λ ps l.
             let p = known.listed ps l in
             let few : leb (bytes_needed to (stored_shape (words m))) (length second) ≡ false = ap (λ (x : Sizes). leb (bytes_needed to (shape_in x)) (length second)) (sym p.sizes_are) ∙ lt-leb (bytes_needed to (shape_in s)) (length second) (rw bytes_are at b) in
-            (rw (few, and_false (is_form (other_form to) (stored_form (words m)))), rw (few, and_false (is_form (other_form to) (stored_form (words m)))))
+            (rw (few, and-false (is_form (other_form to) (stored_form (words m)))), rw (few, and-false (is_form (other_form to) (stored_form (words m)))))
 
         -- ---- it is long enough
         module _ (room : w * 4 ≤ length second) where

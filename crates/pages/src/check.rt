@@ -22,7 +22,7 @@ use terms::limits::MOST_SCANS;
 use words::get;
 
 // What the test finds: the sizes of the store, or that the memory is not usable.
-#[derive(Drop)]
+#[derive(Clone, Copy)]
 pub enum Checked {
     Fit(Sizes),
     Unfit,

@@ -2,7 +2,7 @@
 use Prim.Native.Nat.{ℕ, zero, suc, ◌+◌, ◌*◌, ◌≤◌, ◌<◌}
 use mathlib.Core.Path.{◌≡◌, refl, ap, sym, ◌∙◌, subst, fun_ext}
 use mathlib.Core.Logic.{◌≢◌}
-use mathlib.Core.Bool.{Bool, true, false, not, cond, ◌&&◌, and_false, true≢false}
+use mathlib.Core.Bool.{Bool, true, false, not, cond, ◌&&◌, and-false, true≢false}
 use mathlib.Core.List.{List, map}
 use native.Mathlib.Omega.{arith}
 use native.Mathlib.Nat.{zero-add}
@@ -170,7 +170,7 @@ no_keeper S v =
       none_below (λ g. any_below (λ i. bears_keeper (get_or (replicate (S.ranges * S.capacity) 0) (g * S.capacity + i) 0)) (used_in v g)) S.ranges
           (λ g. none_below _ (used_in v g) (λ i. rw (zeros (S.ranges * S.capacity) (g * S.capacity + i)))),
     )
-    (none_below _ most_transactions (λ j. rw (zeros most_transactions j) (and_false (not (eqb (get_or (v Opens) j 0) 0)))))
+    (none_below _ most_transactions (λ j. rw (zeros most_transactions j) (and-false (not (eqb (get_or (v Opens) j 0) 0)))))
 
 -- ---- the memory that a move leaves: of the same shape, in the form moved to, and usable with the same list
 -- the header's words are the first ones

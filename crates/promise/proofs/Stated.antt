@@ -3,7 +3,7 @@
 use mathlib.Core.Path.{◌≡◌, refl, ap, sym, ◌∙◌, subst}
 use mathlib.Core.Logic.Iff
 use mathlib.Core.Logic.{◌≢◌, ◌⊎◌, inl, inr, ⊎_elim, ◌↔◌}
-use mathlib.Core.Bool.{Bool, true, false, not, cond, ◌&&◌, ◌||◌, and_true, true≢false}
+use mathlib.Core.Bool.{Bool, true, false, not, cond, ◌&&◌, ◌||◌, and-true, true≢false}
 use mathlib.Core.List.{List, [], ◌∷◌}
 use Prim.Native.Nat.{ℕ, zero, suc, ◌+◌, ◌*◌, ◌-◌, ◌/◌, ◌^◌, ◌≤◌, ◌<◌}
 use native.Mathlib.Omega.{arith}
@@ -230,7 +230,7 @@ module _ (S : Shape) (v : View) (ps : List ScanEntry) (long : length (v Opens) �
   busy_test : T (not (any (λ k. eqb k 0) (v Opens))) ↔ (most_transactions ≤ transactions_open v)
   busy_test =
       let none = count (λ k. eqb k 0) (v Opens) in
-      let all : none + transactions_open v ≡ length (v Opens) = simp and_true at (count_rest (λ k. eqb k 0) (v Opens)) in
+      let all : none + transactions_open v ≡ length (v Opens) = simp and-true at (count_rest (λ k. eqb k 0) (v Opens)) in
       rw (any_count (λ k. eqb k 0) (v Opens)) (λ t. omega (arith, nltb→le 0 none t), λ b. not_T (ltb 0 none) (λ t. omega (arith, ltb→lt 0 none t)))
 
   among_test : (g n : ℕ) → T (open_among_in S v g n) ↔ OpenUpTo S v g n

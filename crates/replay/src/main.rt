@@ -30,7 +30,7 @@ const HASH: u32 = 0x811c9dc5;
 const PRIME: u64 = 0x01000193;
 
 // How far a stream is: whether it goes on, the columns of its shape, and the number and the hash of the lines that are folded.
-#[derive(Drop)]
+#[derive(Clone, Copy)]
 struct Course {
     on: bool,
     columns: usize,
@@ -39,7 +39,7 @@ struct Course {
 }
 
 // Where the next command stands, and how far the stream is before it.
-#[derive(Drop)]
+#[derive(Clone, Copy)]
 struct Step {
     at: usize,
     course: Course,
@@ -190,7 +190,7 @@ fn run_once(mem: &mut [u8], scans: &mut [u8], bytes: &[u8], folded: bool, c: Cou
 }
 
 // A record's head: its kind, the bytes that it holds, how often its commands are run, and the indices of the two numbers that rise each time.
-#[derive(Drop)]
+#[derive(Clone, Copy)]
 struct Head {
     kind: u8,
     size: usize,

@@ -125,7 +125,7 @@ fn change(
 }
 
 // An answer, the slice that the call was lent, and how many of its places were lent: none but to crossings.
-#[derive(Drop)]
+#[derive(Clone, Copy)]
 pub struct Called {
     pub answer: Answer,
     pub stamps: [u32; LENT_STAMPS],

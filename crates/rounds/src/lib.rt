@@ -11,7 +11,7 @@ use turns::{Outcome, columns_of, operand_width, start, turn};
 
 // How the program stands: whether it goes on, whether the shape is answered, and its columns; and of the bytes and the lines at hand, how many are taken and
 // how many are written.
-#[derive(Drop)]
+#[derive(Clone, Copy)]
 pub struct Progress {
     pub on: bool,
     pub started: bool,

@@ -1,7 +1,7 @@
 -- The answers of a few tests, one lemma for each way through the code.
 use Prim.Native.Nat.{ℕ, ◌≤◌, ◌<◌}
 use mathlib.Core.Path.{◌≡◌, refl, sym, ◌∙◌, ap}
-use mathlib.Core.Bool.{Bool, true, false, not, cond, ◌&&◌, or-false, and_false, and_true}
+use mathlib.Core.Bool.{Bool, true, false, not, cond, ◌&&◌, or-false, and-false, and-true}
 use native.Mathlib.Omega.{arith}
 use lib.Dec.{leb, ltb, eqb}
 use lib.ListN.{get_or}
@@ -28,11 +28,11 @@ module _ (who : Reader) (state stamp ordinal transaction : ℕ) where
 
   pub sees_other : state ≡ 0 → (transaction ≡ who.me.0 → ⊥) → false ≡ sees who state stamp ordinal transaction
   unfolding sees
-  sees_other e h = rw (e, ne_eqb transaction who.me.0 h, and_false (not (eqb who.me.0 0)))
+  sees_other e h = rw (e, ne_eqb transaction who.me.0 h, and-false (not (eqb who.me.0 0)))
 
   pub sees_own : state ≡ 0 → transaction ≡ who.me.0 → not (eqb transaction 0) ≡ sees who state stamp ordinal transaction
   unfolding sees
-  sees_own e h = rw (e, h, eq-eqb who.me.0 who.me.0 refl, and_true (not (eqb who.me.0 0)))
+  sees_own e h = rw (e, h, eq-eqb who.me.0 who.me.0 refl, and-true (not (eqb who.me.0 0)))
 
 -- the row or record i, word by word
 module _ (v : View) (who : Reader) (i state stamp ordinal transaction : ℕ) (x : Bool) (e : x ≡ sees who state stamp ordinal transaction) where

@@ -12,7 +12,7 @@ use terms::ScanEntry;
 use terms::limits::MOST_SCANS;
 
 // What a call wants to know of the list. Entries at and past `count` are 0.
-#[derive(Drop)]
+#[derive(Clone, Copy)]
 pub struct Scans {
     // how many entries were lent
     pub length: usize,

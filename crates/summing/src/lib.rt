@@ -18,7 +18,7 @@ use terms::{Answer, Row, ScanEntry};
 use words::of_word;
 
 // The rows seen so far, and the sum of their values.
-#[derive(Drop)]
+#[derive(Clone, Copy)]
 pub struct Tally {
     pub count: u32,
     pub total: i64,

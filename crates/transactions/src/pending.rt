@@ -12,7 +12,7 @@ use regions::{read, read_later, write, write_later};
 use terms::Transaction;
 use words::HIGHEST_WORD;
 
-#[derive(Drop)]
+#[derive(Clone, Copy)]
 pub struct Pending {
     pub number: Transaction,
     pub changes: u32,

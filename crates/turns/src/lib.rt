@@ -40,7 +40,7 @@ pub fn lent_list() -> [u8; LIST_BYTES]
 }
 
 // A line and what comes after it: the line's length, and whether the program goes on.
-#[derive(Drop)]
+#[derive(Clone, Copy)]
 pub struct Outcome {
     pub length: usize,
     pub on: bool,

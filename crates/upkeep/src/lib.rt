@@ -32,7 +32,7 @@ use terms::limits::{MOST_NUMBERS, MOST_SCANS};
 use terms::{Answer, Refusal, ScanEntry, Stamp, Tail};
 
 // What a call on the scan list leaves: its answer, and the index in the list of what becomes `entry`. An index past the list's end changes nothing.
-#[derive(Drop)]
+#[derive(Clone, Copy)]
 pub struct ListChange {
     pub answer: Answer,
     pub index: usize,

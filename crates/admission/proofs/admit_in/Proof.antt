@@ -1,7 +1,7 @@
 -- `admission::admit_in` meets its contract: the test that every call makes, and the form.
 use Prim.Native.Nat.{ℕ}
 use mathlib.Core.Path.{◌≡◌, ap, sym, ◌∙◌}
-use mathlib.Core.Bool.{Bool, true, false, and_false}
+use mathlib.Core.Bool.{Bool, true, false, and-false}
 use mathlib.Core.List.{List}
 use borrow.Author.Rules.{rules}
 use Rattle.terms.specs.declared.Form.{Form}
@@ -31,7 +31,7 @@ one_form on e s n m t b f h q z = let x : Admitted s n m t × (true ≡ true) = 
 
 no_form : (on : Form → Bool) (e : Admission) (m : List ℕ) (t : Scans) → e ≡ Admission.Unfit → Admits every_form e m t → Admits on Admission.Unfit m t
 unfolding Admits
-no_form on e m t f h ps l = let u : usable m ps ≡ false = (rw f at h) ps l in rw (u, and_false (on (stored_form (words m))))
+no_form on e m t f h ps l = let u : usable m ps ≡ false = (rw f at h) ps l in rw (u, and-false (on (stored_form (words m))))
 
 pub admit_in_spec : {M : Type 1} → statement M
 admit_in_spec = tie.close (tie.spec (λ c κs. search rules) (λ c. search rules) (λ c. search rules) (λ c. search no_form) (λ c κs. search rules) (λ c. search one_form) (λ c. search other_form_lem))

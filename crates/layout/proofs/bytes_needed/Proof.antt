@@ -11,11 +11,11 @@ use Rattle.layout.proofs.Limits.{need_small, bytes_answered}
 use Rattle.layout.proofs.bytes_needed.Statement.{statement}
 use Rattle.layout.proofs.bytes_needed.Tie as tie
 
-within : (c : tie.Then1) → within_limits (shape_of c.before.before.args.columns c.before.before.args.ranges c.before.before.args.capacity c.before.before.args.spares) ≡ true
-within c = sym c.before.within_limits_lem.ensures ∙ c.if1.true
+within : (c : tie.Then-within_limits) → within_limits (shape_of c.args.columns c.args.ranges c.args.capacity c.args.spares) ≡ true
+within c = sym c.before.within_limits_lem.ensures ∙ c.if-within_limits.true
 
-small : (c : tie.After-sizes-of) → need c.sizes-of.result < too_many_words
-small c = rw c.sizes-of.ensures (need_small _ _ (within c.before))
+small : (c : tie.After-sizes_of-s) → need c.sizes_of-s.result < too_many_words
+small c = rw c.sizes_of-s.ensures (need_small _ _ (within c.before))
 
 pub bytes_needed_spec : {M : Type 1} → statement M
 bytes_needed_spec =
@@ -26,5 +26,5 @@ bytes_needed_spec =
     (λ c κs. omega (arith, small c))
     (λ c. omega (arith, small c.before))
     (λ c. omega (arith, small c.before))
-    (λ c. bytes_answered _ (unfold bytes_answer bytes_needed in (rw (within c.before.before, c.words-needed.ensures, c.before.sizes-of.ensures))))
-    (λ c. bytes_answered _ (unfold bytes_answer in (rw (← c.before.within_limits_lem.ensures, c.if1.false)))))
+    (λ c. bytes_answered _ (unfold bytes_answer bytes_needed in (rw (within c.before.before, c.words_needed-n.ensures, c.sizes_of-s.ensures))))
+    (λ c. bytes_answered _ (unfold bytes_answer in (rw (← c.before.within_limits_lem.ensures, c.if-within_limits.false)))))

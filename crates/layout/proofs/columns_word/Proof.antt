@@ -5,4 +5,4 @@ use Rattle.layout.proofs.columns_word.Statement.{statement}
 use Rattle.layout.proofs.columns_word.Tie as tie
 
 pub columns_word_spec : {M : Type 1} → statement M
-columns_word_spec = tie.close (tie.spec (λ c. search rules) (λ c. search rules) (λ c. omega arith) (λ c. omega arith) (λ c. omega arith) (λ c. rw c.enum_told.given.1 (omega arith)) (λ c. rw c.enum-told2.given.1 (omega arith)))
+columns_word_spec = tie.close (tie.spec (λ c. search rules) (λ c. search rules) (λ c. omega arith) (λ c. omega arith) (λ c. omega arith) (λ c. rw c.in-First.is (omega arith)) (λ c. rw c.in-Newest.is (omega arith)))

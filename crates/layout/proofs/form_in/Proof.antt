@@ -5,4 +5,4 @@ use Rattle.layout.proofs.form_in.Statement.{statement}
 use Rattle.layout.proofs.form_in.Tie as tie
 
 pub form_in_spec : {M : Type 1} → statement M
-form_in_spec = tie.close (tie.spec (λ c. omega arith) (λ c. rw (eq-eqb _ _ c.if1.true)) (λ c. rw (ne_eqb _ _ c.if1.false)))
+form_in_spec = tie.close (tie.spec (λ c. omega arith) (λ c. rw (eq-eqb _ _ c.if-word-eq-FIRST_FORM.true)) (λ c. rw (ne_eqb _ _ c.if-word-eq-FIRST_FORM.false)))

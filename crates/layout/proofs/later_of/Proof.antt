@@ -4,4 +4,4 @@ use Rattle.layout.proofs.later_of.Statement.{statement}
 use Rattle.layout.proofs.later_of.Tie as tie
 
 pub later_of_spec : {M : Type 1} → statement M
-later_of_spec = tie.close (tie.spec (λ c. search rules) (λ c. search rules) (λ c. rw c.enum_told.given.1) (λ c. rw c.enum-told2.given.1))
+later_of_spec = tie.close (tie.spec (λ c. search rules) (λ c. search rules) (λ c. rw c.in-First.is) (λ c. rw c.in-Newest.is))

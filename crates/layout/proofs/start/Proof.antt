@@ -8,14 +8,14 @@ use Rattle.layout.proofs.start.Statement.{statement}
 use Rattle.layout.proofs.start.Tie as tie
 
 -- the sum, of which each part is a summand
-bounded : (c : tie.After-lies-before) → words_before c.lies-before.result c.before.args.s < 2 ^ 62
-bounded c = omega (arith, below c.before.args.s c.before.args.k _ (c.lies-before.ensures c.before.args.s), c.before.requires)
+bounded : (c : tie.After-lies_before-b) → words_before c.lies_before-b.result c.args.s < 2 ^ 62
+bounded c = omega (arith, below c.args.s c.args.k _ (c.lies_before-b.ensures c.args.s), c.requires)
 
 returns : tie.Need-returns
 returns c =
-    let table : tie.After-lies-before = search in
-    let older : tie.After-older-words = search in
-    rw older.older_words.ensures (table.lies-before.ensures table.before.args.s)
+    let table : tie.After-lies_before-b = search in
+    let older : tie.After-older_words-older = search in
+    rw older.older_words-older.ensures (table.lies_before-b.ensures table.args.s)
 
 pub start_spec : {M : Type 1} → statement M
 start_spec =

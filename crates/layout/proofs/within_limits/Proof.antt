@@ -7,7 +7,7 @@ use Rattle.layout.proofs.within_limits.Tie as tie
 
 returns : tie.Need-returns
 unfolding within_limits
-returns c = rw (c.and-between4.ensures, c.before.and-between3.ensures, c.before.before.and-between2.ensures, c.before.before.before.and-between.ensures) (simp and_assoc)
+returns c = rw (c.and_between.ensures, c.and_between-t.ensures, c.and_between-r.ensures, c.and_between-c.ensures) (simp and_assoc)
 
 pub within_limits_spec : {M : Type 1} → statement M
 within_limits_spec = tie.close (tie.spec (λ c. search rules) (λ c κs. search rules) (λ c κs. search rules) (λ c κs. search rules) (λ c κs. search rules) returns)

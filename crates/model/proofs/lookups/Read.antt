@@ -1,7 +1,7 @@
 -- The read: the page's cell, the records above its lineage, and those below where it must be, give the value that the history reads; and the row or record that set it bears
 -- the setter's stamp.
 use mathlib.Core.Path.{◌≡◌, refl, sym, ◌∙◌, ap, ap₂}
-use mathlib.Core.Bool.{Bool, true, false, cond, ◌&&◌, ◌||◌, and_false, and_true, or-false, true≢false}
+use mathlib.Core.Bool.{Bool, true, false, cond, ◌&&◌, ◌||◌, and-false, and-true, or-false, true≢false}
 use mathlib.Core.List.{List}
 use Prim.Native.Nat.{ℕ, zero, suc, ◌+◌, ◌*◌, ◌≤◌, ◌<◌, zero-le}
 use native.Mathlib.Omega.{arith}
@@ -44,10 +44,10 @@ pub record_answers : {A : Type 0} (C c : ℕ) (y : Content) (kind mask : ℕ) (v
     → cond (bit mask c && (original_kind kind || (setting_kind kind && b))) found further ≡ cond (sets c y && b) new (cond (is_original c y) ins further)
 unfolding sets is_original
 record_answers C c (original cs vs) kind mask value b found new ins further o e f =
-    rw (o.0, and_true (bit mask c), o.1 c) (by_test (λ a. cond a found further ≡ cond a ins further) (among c cs) f (λ _. refl))
+    rw (o.0, and-true (bit mask c), o.1 c) (by_test (λ a. cond a found further ≡ cond a ins further) (among c cs) f (λ _. refl))
 record_answers C c (setting m vs) kind mask value b found new ins further o e f =
     rw (o.0, o.1) (by_test (λ a. cond a found further ≡ cond a new further) (bit m c && b) e (λ _. refl))
-record_answers C c ending kind mask value b found new ins further o e f = rw (o, and_false (bit mask c))
+record_answers C c ending kind mask value b found new ins further o e f = rw (o, and-false (bit mask c))
 
 found_or : {A : Type 0} (b : Bool) (i : ℕ) (w : Found) (at : ℕ → A) (rest : A) → or_else (cond b (Found.At i) w) at rest ≡ cond b (at i) (or_else w at rest)
 found_or true i w at rest = refl

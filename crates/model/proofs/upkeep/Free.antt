@@ -1,7 +1,7 @@
 -- The free pages are the spares less those that wait, on every memory whose chunks name pages as the stored facts say.
 use mathlib.Core.Path.{◌≡◌, refl, sym, ◌∙◌, ap}
 use mathlib.Core.Logic.{◌≢◌}
-use mathlib.Core.Bool.{Bool, true, false, not, cond, ◌&&◌, and_true}
+use mathlib.Core.Bool.{Bool, true, false, not, cond, ◌&&◌, and-true}
 use Prim.Native.Nat.{ℕ, zero, suc, ◌+◌, ◌≤◌, ◌<◌}
 use native.Mathlib.Omega.{arith}
 use native.Mathlib.Decide.{ℕ_discrete}
@@ -78,7 +78,7 @@ module _ (S : Shape) (v : View) (o : ChunksCurrent S v) where
   current_count = below_sum current (stray_in S v) (named_in S v) (pages_of S) each ∙ ap (λ (n : ℕ). count_below (stray_in S v) (pages_of S) + n) named_count
     where
       each : (p : ℕ) → one (current p) ≡ one (current p && not (named_in S v p)) + one (named_in S v p)
-      each p = by_test (λ b. one (current p) ≡ one (current p && not b) + one b) (named_in S v p) (λ t. rw (named_state p t)) (λ _. rw (and_true (current p)) (omega arith))
+      each p = by_test (λ b. one (current p) ≡ one (current p && not b) + one b) (named_in S v p) (λ t. rw (named_state p t)) (λ _. rw (and-true (current p)) (omega arith))
 
   page_count : count_below free (pages_of S) + count_below (stray_in S v) (pages_of S) + count_below waiting (pages_of S) ≡ S.spares
   page_count = omega (arith, below_three free current waiting (pages_of S) (λ p. states_three (page_in v p).state), current_count)

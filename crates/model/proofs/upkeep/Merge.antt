@@ -2,7 +2,7 @@
 -- they found before.
 use mathlib.Core.Path.{◌≡◌, refl, sym, ◌∙◌, ap}
 use mathlib.Core.Logic.{◌≢◌, ◌⊎◌, inl, inr}
-use mathlib.Core.Bool.{Bool, true, false, cond, ◌&&◌, and_false}
+use mathlib.Core.Bool.{Bool, true, false, cond, ◌&&◌, and-false}
 use mathlib.Core.List.{List}
 use Prim.Native.Nat.{ℕ, zero, suc, ◌+◌, ◌*◌, ◌-◌, ◌^◌, ◌≤◌, ◌<◌}
 use native.Mathlib.Omega.{arith}
@@ -40,9 +40,9 @@ committed_word s = elim s as (λ x. committed_state (state_word x) ≡ is_commit
 
 setting_word : (C c : ℕ) (y : Content) (kind mask : ℕ) (value : ℕ → ℕ) (b : Bool) → ContentIs C y kind mask value → (bit mask c && (setting_kind kind && b)) ≡ (sets c y && b)
 unfolding sets
-setting_word C c (original cs vs) kind mask value b o = rw o.0 (and_false (bit mask c))
+setting_word C c (original cs vs) kind mask value b o = rw o.0 (and-false (bit mask c))
 setting_word C c (setting m vs) kind mask value b o = rw (o.0, o.1)
-setting_word C c ending kind mask value b o = rw o (and_false (bit mask c))
+setting_word C c ending kind mask value b o = rw o (and-false (bit mask c))
 
 -- ---- what the forward pass writes, in any memory
 module _ (S : Shape) (v : View) (g c p low : ℕ) where
@@ -132,8 +132,8 @@ module _ (S : Shape) (v : View) (h : History) (g c p low : ℕ) (inside : c < S.
       go u true f true ih = ap (to_z w32) (put_at u (value_in S v s c))
           ∙ elim (eqb (rec k).row r) as (λ z. to_z w32 (cond z (value_in S v s c) (get_or before (p * range_rows + within r) 0))
           ≡ (cond (z && true) (version_in c (rec k)) (last_setting done r c (inserted h r c) (take (low + k) recs))).value) [ true ↦ unfold version_in in (f tt) | false ↦ ih ]
-      go u true f false ih = rw (and_false (eqb (rec k).row r)) ih
-      go u false f d ih = rw (and_false (eqb (rec k).row r)) ih
+      go u true f false ih = rw (and-false (eqb (rec k).row r)) ih
+      go u false f d ih = rw (and-false (eqb (rec k).row r)) ih
 
   -- ---- the latest stamp
   pub newest_is_lem : (s : ℕ) → All (NotAfter (state_of h) c s) (take low recs) → (k : ℕ) → low + k ≤ length recs

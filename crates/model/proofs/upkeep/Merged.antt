@@ -1,7 +1,7 @@
 -- Merge, the whole: the page taken, the page replaced, and what every other part sees of it.
 use mathlib.Core.Path.{◌≡◌, refl, sym, ◌∙◌, ap}
 use mathlib.Core.Logic.{◌≢◌, ◌⊎◌, inl, inr}
-use mathlib.Core.Bool.{Bool, true, false, ◌&&◌, and_true}
+use mathlib.Core.Bool.{Bool, true, false, ◌&&◌, and-true}
 use mathlib.Core.List.{List, [], ◌∷◌, ◌++◌}
 use Prim.Native.Nat.{ℕ, suc, ◌+◌, ◌*◌, ◌-◌, ◌/◌, ◌%◌, ◌^◌, ◌≤◌, ◌<◌}
 use native.Mathlib.Omega.{arith}
@@ -75,7 +75,7 @@ module _ {F : Form} {S : Shape} {v : View} {ps : List ScanEntry} {h : History} (
 
   waiting_is : count_below (λ p. waiting_page (page_in v p).state) (pages_of S) ≡ waiting_pages h.merges
   unfolding waiting_pages
-  waiting_is = below_ext _ _ (pages_of S) (λ p b. sym (and_true (waiting_page (page_in v p).state))) ∙ o.pool.waiting (λ i. true) ∙ sym (count_from_lem (λ m. m.waiting) 1 h.merges)
+  waiting_is = below_ext _ _ (pages_of S) (λ p b. sym (and-true (waiting_page (page_in v p).state))) ∙ o.pool.waiting (λ i. true) ∙ sym (count_from_lem (λ m. m.waiting) 1 h.merges)
 
   -- test 18
   pub free_is : leb (pages_of S) (free_in S v) ≡ leb S.spares (waiting_pages h.merges)

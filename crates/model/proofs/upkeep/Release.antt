@@ -1,7 +1,7 @@
 -- Release keeps the relation: a waiting page is freed unless an open scan was opened before the merge that replaced it, so no open scan's page is freed.
 use mathlib.Core.Path.{◌≡◌, refl, sym, ◌∙◌, ap}
 use mathlib.Core.Logic.{inl, inr}
-use mathlib.Core.Bool.{Bool, true, false, not, cond, ◌&&◌, and_false, and_true, and_assoc, and_comm, true≢false}
+use mathlib.Core.Bool.{Bool, true, false, not, cond, ◌&&◌, and-false, and-true, and_assoc, and_comm, true≢false}
 use mathlib.Core.List.{List, [], ◌∷◌}
 use Prim.Native.Nat.{ℕ, zero, suc, ◌^◌, ◌≤◌, ◌<◌}
 use native.Mathlib.Omega.{arith}
@@ -182,8 +182,8 @@ module _ {F : Form} {S : Shape} {v : View} {ps : List ScanEntry} {h : History} (
       waiting_same f q = unfold releasable page_in released_in renew in (go (waiting_page (page_in v q).state) refl (needed_in ps (page_in v q).replaced) (f (page_in v q).replaced))
         where
           go : (a : Bool) → waiting_page (page_in v q).state ≡ a → (n c : Bool) → (waiting_page (cond (a && not n) as_free (page_in v q).state) && c) ≡ (a && (c && n))
-          go true e true c = rw (e, and_true c)
-          go true e false c = sym (and_false c)
+          go true e true c = rw (e, and-true c)
+          go true e false c = sym (and-false c)
           go false e n c = rw e
 
   release_scans : Step S h release h' → ScanPagesAre S h' v'

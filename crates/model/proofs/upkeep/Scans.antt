@@ -1,7 +1,7 @@
 -- Open scan and close keep the relation: a scan takes an entry of the list with the merges and the commits made before it, so that its pages are the current ones; a closed scan
 -- leaves a free entry.
 use mathlib.Core.Path.{◌≡◌, refl, sym, ◌∙◌}
-use mathlib.Core.Bool.{true, false, not, and_true}
+use mathlib.Core.Bool.{true, false, not, and-true}
 use mathlib.Core.List.{List, [], ◌∷◌, ◌++◌}
 use Prim.Native.Nat.{ℕ, suc, ◌+◌, ◌≤◌, ◌<◌}
 use native.Mathlib.Omega.{arith}
@@ -43,7 +43,7 @@ pub scan_is : (ss : List Scan) (l : List ScanEntry) → ScansAre ss l → (k : �
 scan_is ss l o k = book_is scan_kind ss l o.same k
 
 pub scan_count : (ss : List Scan) (l : List ScanEntry) → ScansAre ss l → count (λ p. not (eqb p.number 0)) l ≡ count (λ s. s.running) ss
-scan_count ss l o = simp and_true at (book_count scan_kind ss l o.same)
+scan_count ss l o = simp and-true at (book_count scan_kind ss l o.same)
 
 pub scan_found : (ss : List Scan) (l : List ScanEntry) → ScansAre ss l → (k : ℕ) → T (nth ss k no_scan).running → scan_entry l k ≡ scan_as k (nth ss k no_scan)
 unfolding scan_entry

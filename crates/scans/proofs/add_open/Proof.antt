@@ -14,10 +14,10 @@ use Rattle.scans.specs.Table.{placed, with_entry}
 use Rattle.scans.proofs.add_open.Statement.{statement}
 use Rattle.scans.proofs.add_open.Tie as tie
 
-abbrev invariant-loop : tie.invariant-loop
+abbrev invariant-loop : tie.invariant-loop-k
 invariant-loop i p n u₀ k₀ u k = (k ≤ most_scans) × (u ≡ cond (ltb n k) (placed n i p u₀) u₀)
 
-abbrev decreases-loop : tie.decreases-loop
+abbrev decreases-loop : tie.decreases-loop-k
 decreases-loop i p n u₀ k₀ u k = most_scans - k
 
 module _ (n i : ℕ) (p : ScanEntry) (u₀ u : Scans) (k : ℕ) (so_far : u ≡ cond (ltb n k) (placed n i p u₀) u₀) where
@@ -31,25 +31,25 @@ module _ (n i : ℕ) (p : ScanEntry) (u₀ u : Scans) (k : ℕ) (so_far : u ≡ 
         | false ↦ λ b. rw (le-ltb n (k + 1) (omega (arith, ltb-false n k b, e))) (q ∙ so_far ∙ rw b)
       ] refl
 
-returns : tie.Need-returns invariant-loop decreases-loop
+returns : tie.Need-returns-then-n-ge-MOST_SCANS invariant-loop decreases-loop
 unfolding with_entry
-returns c = sym (rw (not-true (eqb c.before.before.args.p.number 0) c.before.before.requires.1, le-ltb _ _ c.if1.true, c.before.free-after.ensures))
+returns c = sym (rw (not-true (eqb c.args.p.number 0) c.requires.1, le-ltb _ _ c.if-n-ge-MOST_SCANS.true, c.free_after.ensures))
 
-loop-holds : tie.Need-loop-init invariant-loop decreases-loop
+loop-holds : tie.Need-loop-k-init invariant-loop decreases-loop
 loop-holds c = let start : tie.Start invariant-loop decreases-loop = search in (omega arith, rw (le-ltb start.args.t.count 0 (omega arith)))
 
-loop-again : tie.Need-loop-preserved invariant-loop decreases-loop
-loop-again c = (omega arith, ⊎_elim (λ w. search at_index) (λ w. search elsewhere) c.if2.branch)
+loop-again : tie.Need-loop-k-preserved invariant-loop decreases-loop
+loop-again c = (omega arith, ⊎_elim (λ w. search at_index) (λ w. search elsewhere) c.if-k-n.branch)
 
-returns-2 : tie.Need-returns-2 invariant-loop decreases-loop
+returns-2 : tie.Need-returns invariant-loop decreases-loop
 unfolding with_entry
 returns-2 c =
     let start : tie.Start invariant-loop decreases-loop = search in
-    let few : tie.Else1 invariant-loop decreases-loop = search in
-    let freed : tie.After-free-after invariant-loop decreases-loop = search in
-    c.before.loop.invariant.1
-    ∙ rw (lt-ltb start.args.t.count c.before.loop.k (omega arith))
-    (sym (rw (not-true (eqb start.args.p.number 0) start.pre.1, lt-ltb _ _ few.if1.left, freed.free-after.ensures)))
+    let few : tie.Else-n-ge-MOST_SCANS invariant-loop decreases-loop = search in
+    let freed : tie.After-free_after invariant-loop decreases-loop = search in
+    c.loop-k.invariant.1
+    ∙ rw (lt-ltb start.args.t.count c.loop-k.k (omega arith))
+    (sym (rw (not-true (eqb start.args.p.number 0) start.requires.1, lt-ltb _ _ few.if-n-ge-MOST_SCANS.left, freed.free_after.ensures)))
 
 pub add_open_spec : {M : Type 1} → statement M
 add_open_spec =

@@ -9,10 +9,10 @@ use Rattle.scans.proofs.Entries.{differ_stop, differ_go, differ_end}
 use Rattle.scans.proofs.all_differ.Statement.{statement}
 use Rattle.scans.proofs.all_differ.Tie as tie
 
-abbrev invariant-loop : tie.invariant-loop
+abbrev invariant-loop : tie.invariant-loop-i
 invariant-loop numbers n i₀ i = (i ≤ n) × (differ (take n numbers) ≡ differ (drop i (take n numbers)))
 
-abbrev decreases-loop : tie.decreases-loop
+abbrev decreases-loop : tie.decreases-loop-i
 decreases-loop numbers n i₀ i = n - i
 
 pub all_differ_spec : {M : Type 1} → statement M

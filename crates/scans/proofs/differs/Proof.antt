@@ -9,10 +9,10 @@ use Rattle.scans.proofs.Entries.{apart_free, apart_not, apart_go, apart_end}
 use Rattle.scans.proofs.differs.Statement.{statement}
 use Rattle.scans.proofs.differs.Tie as tie
 
-abbrev invariant-loop : tie.invariant-loop
+abbrev invariant-loop : tie.invariant-loop-j
 invariant-loop numbers n i x j₀ j = (i + 1 ≤ j) × (j ≤ n) × (among x (drop (i + 1) (take n numbers)) ≡ among x (drop j (take n numbers)))
 
-abbrev decreases-loop : tie.decreases-loop
+abbrev decreases-loop : tie.decreases-loop-j
 decreases-loop numbers n i x j₀ j = n - j
 
 pub differs_spec : {M : Type 1} → statement M

@@ -12,35 +12,35 @@ use Rattle.scans.proofs.Entries.{left_next, left_none}
 use Rattle.scans.proofs.find_scan.Statement.{statement}
 use Rattle.scans.proofs.find_scan.Tie as tie
 
-abbrev invariant-loop : tie.invariant-loop
+abbrev invariant-loop : tie.invariant-loop-i
 invariant-loop number numbers i₀ i = (i ≤ most_scans) × (first_at number 0 numbers ≡ first_at number i (drop i numbers))
 
-abbrev decreases-loop : tie.decreases-loop
+abbrev decreases-loop : tie.decreases-loop-i
 decreases-loop number numbers i₀ i = most_scans - i
 
-returns-2 : tie.Need-returns-2 invariant-loop decreases-loop
+returns-2 : tie.Need-returns-then-numbers-i invariant-loop decreases-loop
 unfolding find_in
 returns-2 c =
     let b = c.before.before in
     let s = b.before.before.before in
     let l = s.args.t.numbers in
     let n : length l ≡ most_scans = search rules in
-    sym (rw (ne_eqb _ _ b.before.before.if1.false) (b.loop.invariant.1 ∙ rw (left_next l b.loop.i (omega arith), eq-eqb _ _ c.if2.true)))
+    sym (rw (ne_eqb _ _ b.if-number-eq0.false) (b.loop-i.invariant.1 ∙ rw (left_next l b.loop-i.i (omega arith), eq-eqb _ _ c.if-numbers-i.true)))
 
-loop-again : tie.Need-loop-preserved invariant-loop decreases-loop
+loop-again : tie.Need-loop-i-preserved invariant-loop decreases-loop
 loop-again c =
     let b = c.before.before in
-    let l = b.before.before.before.args.t.numbers in
+    let l = b.args.t.numbers in
     let n : length l ≡ most_scans = search rules in
-    (omega arith, b.loop.invariant.1 ∙ rw (left_next l b.loop.i (omega arith), ne_eqb _ _ c.if2.false))
+    (omega arith, b.loop-i.invariant.1 ∙ rw (left_next l b.loop-i.i (omega arith), ne_eqb _ _ c.if-numbers-i.false))
 
-returns-3 : tie.Need-returns-3 invariant-loop decreases-loop
+returns-3 : tie.Need-returns invariant-loop decreases-loop
 unfolding find_in
 returns-3 c =
     let b = c.before in
-    let l = b.before.before.before.args.t.numbers in
+    let l = b.args.t.numbers in
     let n : length l ≡ most_scans = search rules in
-    sym (rw (ne_eqb _ _ b.before.before.if1.false) (b.loop.invariant.1 ∙ rw (left_none l b.loop.i (omega arith))))
+    sym (rw (ne_eqb _ _ b.if-number-eq0.false) (b.loop-i.invariant.1 ∙ rw (left_none l b.loop-i.i (omega arith))))
 
 pub find_scan_spec : {M : Type 1} → statement M
 unfolding find_in
@@ -49,7 +49,7 @@ find_scan_spec =
     (tie.spec
     invariant-loop
     decreases-loop
-    (λ c. rw (eq-eqb _ _ c.if1.true))
+    (λ c. rw (eq-eqb _ _ c.if-number-eq0.true))
     (λ c. (omega arith, refl))
     (λ c. search rules)
     (λ c. search rules)

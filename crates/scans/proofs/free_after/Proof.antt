@@ -5,4 +5,4 @@ use Rattle.scans.proofs.free_after.Statement.{statement}
 use Rattle.scans.proofs.free_after.Tie as tie
 
 pub free_after_spec : {M : Type 1} → statement M
-free_after_spec = tie.close (tie.spec (λ c. search rules) (λ c. rw (eq-eqb _ _ c.if1.true)) (λ c. rw (ne_eqb _ _ c.if1.false)))
+free_after_spec = tie.close (tie.spec (λ c. search rules) (λ c. rw (eq-eqb _ _ c.if-free-length.true)) (λ c. rw (ne_eqb _ _ c.if-free-length.false)))

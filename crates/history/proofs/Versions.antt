@@ -10,7 +10,7 @@ use lib.Dec.{T, eqb, eqb→eq}
 use lib.ListN.{length, length-append, get_or-append}
 use lib.IntN.{ℤ}
 use Rattle.terms.specs.Measures.{Shape, most_columns}
-use Rattle.history.specs.History.{Call, History, Row, Record, Content, original, any, filterb, range_of, records_of, crossings_from, Snapshot, State, Commit, Version, Dated, dated, inserted, inserted_value, row_at, version_in, sets, last_setting, version_of, visible, shown, read, settings_seen, values_seen, last_of_each, versions, seen_at, state_of, with_rows, with_tail, with_transactions, with_scans, with_merges}
+use Rattle.history.specs.History.{Call, History, Row, Record, Content, original, any, filterb, range_of, records_of, crossings_from, Snapshot, State, Commit, Version, Dated, dated, inserted, inserted_value, row_at, version_in, sets, last_setting, version_of, visible, shown, read, settings_seen, values_seen, last_of_each, versions, seen_at, state_of, with_rows, with_tail, with_transactions, with_scans, with_merges, setting, ending}
 use Rattle.history.specs.Claims.{last_shown, VersionsRead}
 use Rattle.history.specs.Lists.{All, nil, cons, Pairs, empty, ahead}
 use Rattle.history.specs.Records.{is_original, was_set, has_original}
@@ -120,6 +120,8 @@ values_step s (new_merges _) = search
 sets_original : (c : ℕ) (y : Content) → T (is_original c y) → sets c y ≡ false
 unfolding sets is_original
 sets_original c (original cs vs) t = refl
+sets_original c (setting mask values) t = elim t [ ]
+sets_original c ending t = elim t [ ]
 
 none_true : (a b : Bool) → (a || b) ≡ false → (a ≡ false) × (b ≡ false)
 none_true true b e = clash (cc)

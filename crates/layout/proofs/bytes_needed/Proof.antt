@@ -12,7 +12,7 @@ use Rattle.layout.proofs.bytes_needed.Statement.{statement}
 use Rattle.layout.proofs.bytes_needed.Tie as tie
 
 within : (c : tie.Then-within_limits) → within_limits (shape_of c.args.columns c.args.ranges c.args.capacity c.args.spares) ≡ true
-within c = sym c.before.within_limits_lem.ensures ∙ c.if-within_limits.true
+within c = sym c.before.within_limits.ensures ∙ c.if-within_limits.true
 
 small : (c : tie.After-sizes_of-s) → need c.sizes_of-s.result < too_many_words
 small c = rw c.sizes_of-s.ensures (need_small _ _ (within c.before))
@@ -27,4 +27,4 @@ bytes_needed_spec =
     (λ c. omega (arith, small c.before))
     (λ c. omega (arith, small c.before))
     (λ c. bytes_answered _ (unfold bytes_answer bytes_needed in (rw (within c.before.before, c.words_needed-n.ensures, c.sizes_of-s.ensures))))
-    (λ c. bytes_answered _ (unfold bytes_answer in (rw (← c.before.within_limits_lem.ensures, c.if-within_limits.false)))))
+    (λ c. bytes_answered _ (unfold bytes_answer in (rw (← c.before.within_limits.ensures, c.if-within_limits.false)))))

@@ -39,7 +39,7 @@ loop-holds : tie.Need-loop-k-init invariant-loop decreases-loop
 loop-holds c = let start : tie.Start invariant-loop decreases-loop = search in (omega arith, rw (le-ltb start.args.t.count 0 (omega arith)))
 
 loop-again : tie.Need-loop-k-preserved invariant-loop decreases-loop
-loop-again c = (omega arith, ⊎_elim (λ w. search at_index) (λ w. search elsewhere) c.if-k-n.branch)
+loop-again c = (omega arith, ⊎_elim (λ w. search at_index) (λ w. search elsewhere) c.if-k-n.branch-raw)
 
 returns-2 : tie.Need-returns invariant-loop decreases-loop
 unfolding with_entry
@@ -49,7 +49,7 @@ returns-2 c =
     let freed : tie.After-free_after invariant-loop decreases-loop = search in
     c.loop-k.invariant.1
     ∙ rw (lt-ltb start.args.t.count c.loop-k.k (omega arith))
-    (sym (rw (not-true (eqb start.args.p.number 0) start.requires.1, lt-ltb _ _ few.if-n-ge-MOST_SCANS.left, freed.free_after.ensures)))
+    (sym (rw (not-true (eqb start.args.p.number 0) start.requires.1, lt-ltb _ _ few.if-n-ge-MOST_SCANS.false, freed.free_after.ensures)))
 
 pub add_open_spec : {M : Type 1} → statement M
 add_open_spec =

@@ -21,14 +21,14 @@ decreases-loop bound numbers ok₀ i₀ ok i = most_scans - i
 loop-again : tie.Need-loop-i-preserved invariant-loop decreases-loop
 loop-again c =
     let b = c.before.before in
-    let l = b.args.t1 in
+    let l = b.args.numbers in
     let n : length l ≡ most_scans = search rules in
     (omega arith, b.loop-i.invariant.1 ∙ rw (left_next l b.loop-i.i (omega arith), c.and_between-ok.ensures) (sym (and_assoc b.loop-i.ok _ _)))
 
 returns : tie.Need-returns invariant-loop decreases-loop
 returns c =
     let b = c.before in
-    let l = b.args.t1 in
+    let l = b.args.numbers in
     let n : length l ≡ most_scans = search rules in
     sym (b.loop-i.invariant.1 ∙ rw (left_none l b.loop-i.i (omega arith)) (and_end b.loop-i.ok))
 

@@ -8,7 +8,7 @@ use mathlib.Core.List.{List}
 use native.Mathlib.Omega.{arith}
 use lib.Dec.{leb}
 use lib.ListN.{length, get_or}
-use borrow.Author.Tests.{leb-true, le-leb, lt-leb, not-true, not-false}
+use borrow.Author.Tests.{leb-true, le-leb, lt-leb}
 use Rattle.terms.specs.Measures.{Shape, within_limits, most_scans}
 use Rattle.terms.specs.declared.ScanEntry.{ScanEntry}
 use Rattle.terms.specs.declared.Form.{Form}
@@ -30,15 +30,15 @@ unfolding measured roomy
 too_short m h = rw (lt-leb measures_bytes (length m) h)
 
 -- w was read as the word of the columns, and its form tested; the other measures were read, and all tested
-pub other_form_lem : (m : List ℕ) (w : ℕ) (known : Bool) → w ≡ get_or (words m) columns_at 0 → known ≡ form_known w → measures_bytes ≤ length m → not known ≡ true → Unfit ≡ measured m
+pub other_form_lem : (m : List ℕ) (w : ℕ) (known : Bool) → w ≡ get_or (words m) columns_at 0 → known ≡ form_known w → measures_bytes ≤ length m → known ≡ false → Unfit ≡ measured m
 unfolding measured roomy measures_hold
-other_form_lem m w known e k h f = rw (le-leb measures_bytes (length m) h, ← e, ← k, not-true known f)
+other_form_lem m w known e k h f = rw (le-leb measures_bytes (length m) h, ← e, ← k, f)
 
-pub limits_passed : (S : Shape) (ok : Bool) → ok ≡ within_limits S → not ok ≡ false → within_limits S ≡ true
-limits_passed S ok within t = sym within ∙ not-false ok t
+pub limits_passed : (S : Shape) (ok : Bool) → ok ≡ within_limits S → ok ≡ true → within_limits S ≡ true
+limits_passed S ok within t = sym within ∙ t
 
 module _ (m : List ℕ) (w b c d : ℕ) (ew : w ≡ get_or (words m) columns_at 0) (eb : b ≡ get_or (words m) ranges_at 0) (ec : c ≡ get_or (words m) capacity_at 0) (ed : d ≡ get_or (words m) spares_at 0)
-    (known : Bool) (said : known ≡ form_known w) (form : not known ≡ false) (ok : Bool) (within : ok ≡ within_limits (shape_of (columns_in w) b c d)) where
+    (known : Bool) (said : known ≡ form_known w) (form : known ≡ true) (ok : Bool) (within : ok ≡ within_limits (shape_of (columns_in w) b c d)) where
   shape_read : shape_of (columns_in w) b c d ≡ stored_shape (words m)
   unfolding stored_shape
   shape_read = rw (← ew, ← eb, ← ec, ← ed)
@@ -46,13 +46,13 @@ module _ (m : List ℕ) (w b c d : ℕ) (ew : w ≡ get_or (words m) columns_at 
   -- the test of form and measures is that of the measures
   limits_read : measures_hold (words m) ≡ ok
   unfolding measures_hold
-  limits_read = rw (← ew, ← said, not-false known form, ← shape_read, ← within)
+  limits_read = rw (← ew, ← said, form, ← shape_read, ← within)
 
-  pub out_of_limits : measures_bytes ≤ length m → not ok ≡ true → Unfit ≡ measured m
+  pub out_of_limits : measures_bytes ≤ length m → ok ≡ false → Unfit ≡ measured m
   unfolding measured roomy
-  out_of_limits h t = rw (le-leb measures_bytes (length m) h, limits_read, not-true ok t)
+  out_of_limits h t = rw (le-leb measures_bytes (length m) h, limits_read, t)
 
-  module _ (t : not ok ≡ false) where
+  module _ (t : ok ≡ true) where
     within_limits_lem : within_limits (shape_of (columns_in w) b c d) ≡ true
     within_limits_lem = limits_passed (shape_of (columns_in w) b c d) ok within t
 
@@ -71,11 +71,11 @@ module _ (m : List ℕ) (w b c d : ℕ) (ew : w ≡ get_or (words m) columns_at 
 
         pub no_room : measures_bytes ≤ length m → length m < n * 4 → Unfit ≡ measured m
         unfolding measured roomy
-        no_room h k = rw (le-leb measures_bytes (length m) h, limits_read, not-false ok t, ← sizes_read, ← e, lt-leb (n * 4) (length m) k)
+        no_room h k = rw (le-leb measures_bytes (length m) h, limits_read, t, ← sizes_read, ← e, lt-leb (n * 4) (length m) k)
 
         pub fit : measures_bytes ≤ length m → n * 4 ≤ length m → Fit s ≡ measured m
         unfolding measured roomy
-        fit h k = rw (le-leb measures_bytes (length m) h, limits_read, not-false ok t, ← sizes_read, ← e, le-leb (n * 4) (length m) k)
+        fit h k = rw (le-leb measures_bytes (length m) h, limits_read, t, ← sizes_read, ← e, le-leb (n * 4) (length m) k)
 
 -- ---- the scan list and the facts
 -- what is known of a memory whose measures passed

@@ -18,7 +18,7 @@ returns c =
     let used = transactions.before in
     let rows = used.before.before.before in
     let s = rows.before.before in
-    rw (c.both4.ensures, three.both3.ensures, two.both2.ensures, one.both.ensures, scans.read3.ensures, transactions.read2.ensures, used.Between-in.ensures, rows.read.ensures, whole s.args.s s.args.mem.now Used s.args.s.ranges s.requires.0 refl)
+    rw (c.both-4.ensures, three.both-3.ensures, two.both-2.ensures, one.both.ensures, scans.read-scans.ensures, transactions.read-transactions.ensures, used.between_in-used.ensures, rows.read.ensures, whole s.args.s s.args.mem.now Used s.args.s.ranges s.requires.0 refl)
 
 pub counts_within_spec : {M : Type 1} → statement M
 counts_within_spec =

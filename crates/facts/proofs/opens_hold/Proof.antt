@@ -22,7 +22,7 @@ returns c =
     let s = start.args.s in
     let m = start.args.mem.now in
     let long = opens_length s m start.requires in
-    rw (c.both.ensures, differ.all-differ.ensures, opens.Opens-of.ensures, take_all most_transactions (view_of s m Opens) (omega arith), numbers.Between-in.ensures, given.read.ensures, whole s m Opens most_transactions start.requires refl)
+    rw (c.both.ensures, differ.all_differ.ensures, opens.opens_of-opens.ensures, take_all most_transactions (view_of s m Opens) (omega arith), numbers.between_in-numbers.ensures, given.read-given.ensures, whole s m Opens most_transactions start.requires refl)
 
 pub opens_hold_spec : {M : Type 1} → statement M
 opens_hold_spec =

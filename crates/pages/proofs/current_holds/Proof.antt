@@ -13,15 +13,15 @@ use Rattle.pages.proofs.current_holds.Tie as tie
 few : (c : tie.Start) → c.args.i < most_chunks
 few c = omega (arith, chunks_few c.args.s c.requires.0.proper, c.requires.1.0)
 
-range_is : (c : tie.After-range-of-chunk) → let s : tie.Start = search in c.range-of-chunk.result ≡ s.args.i / s.args.s.columns
+range_is : (c : tie.After-range_of_chunk) → let s : tie.Start = search in c.range_of_chunk.result ≡ s.args.i / s.args.s.columns
 range_is c =
     let s : tie.Start = search in
-    c.range-of-chunk.ensures s.args.s.columns s.pre.0.proper.columns_from s.pre.0.proper.columns_to s.pre.1.1
+    c.range_of_chunk.ensures s.args.s.columns s.requires.0.proper.columns_from s.requires.0.proper.columns_to s.requires.1.1
 
-read-requires-6 : tie.Need-read-requires-6
+read-requires-6 : tie.Need-read-most-requires
 read-requires-6 c κs =
     let s : tie.Start = search in
-    (s.pre.0.room, rw (range_is c) (chunk_range s.args.s s.pre.0.proper _ s.pre.1.0))
+    (s.requires.0.room, rw (range_is c) (chunk_range s.args.s s.requires.0.proper _ s.requires.1.0))
 
 pub current_holds_spec : {M : Type 1} → statement M
 current_holds_spec =

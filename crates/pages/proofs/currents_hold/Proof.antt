@@ -7,18 +7,18 @@ use Rattle.facts.proofs.Each.{Flagged, flag_raised, flag_next, flag_all}
 use Rattle.pages.proofs.currents_hold.Statement.{statement}
 use Rattle.pages.proofs.currents_hold.Tie as tie
 
-abbrev invariant-loop : tie.invariant-loop
+abbrev invariant-loop : tie.invariant-loop-i
 invariant-loop mem s inverse last n ok₀ i₀ ok i = Flagged n (current_holds s (view_of s mem)) ok i
 
-abbrev decreases-loop : tie.decreases-loop
+abbrev decreases-loop : tie.decreases-loop-i
 decreases-loop mem s inverse last n ok₀ i₀ ok i = n - i
 
-current-holds-requires : tie.Need-current-holds-requires invariant-loop decreases-loop
+current-holds-requires : tie.Need-current_holds-requires invariant-loop decreases-loop
 current-holds-requires c κs =
     let stamp = c.before.before in
     let inverse = stamp.before in
     let start = inverse.before.before in
-    (start.requires, (c.loop-test.true, inverse.inverse-of.ensures.0, inverse.inverse-of.ensures.1, stamp.read.ensures))
+    (start.requires, (c.loop-i-test.true, inverse.inverse_of-inverse.ensures.0, inverse.inverse_of-inverse.ensures.1, stamp.read-last.ensures))
 
 pub currents_hold_spec : {M : Type 1} → statement M
 currents_hold_spec =
@@ -26,7 +26,7 @@ currents_hold_spec =
     (tie.spec
     invariant-loop
     decreases-loop
-    (λ c κs. (c.before.requires.proper.columns_from, c.before.requires.proper.columns_to))
+    (λ c κs. (c.requires.proper.columns_from, c.requires.proper.columns_to))
     (λ c κs. search rules)
     (λ c. flag_raised _ _)
     current-holds-requires
@@ -34,6 +34,6 @@ currents_hold_spec =
     (λ c. search rules)
     (λ c. search rules)
     (λ c.
-    let b = c.before.before.before.loop in
-    flag_next _ _ _ b.i b.invariant _ _ c.before.before.loop-test.true c.before.current-holds.ensures c.both.ensures)
-    (λ c. flag_all _ _ _ c.before.loop.i c.before.loop.invariant c.loop-test.false))
+    let b = c.loop-i in
+    flag_next _ _ _ b.i b.invariant _ _ c.loop-i-test.true c.current_holds.ensures c.both-ok.ensures)
+    (λ c. flag_all _ _ _ c.loop-i.i c.loop-i.invariant c.loop-i-test.false))

@@ -10,5 +10,5 @@ modulo_chunks_spec =
     tie.close
     (tie.spec
     (λ c. search rules)
-    (λ c. (sym (mod-eq_of_lt c.if1.true), c.if1.true))
-    (λ c. (refl, mod-lt _ c.before.requires)))
+    (λ c. (sym (mod-eq_of_lt c.if-word-chunks.true), c.if-word-chunks.true))
+    (λ c. (refl, mod-lt _ c.requires)))

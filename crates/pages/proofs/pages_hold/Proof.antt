@@ -12,4 +12,4 @@ pages_hold_spec =
     (λ c κs. search rules)
     (λ c κs. search rules)
     (λ c κs. search rules)
-    (λ c. rw (c.both.ensures, c.before.waiting-hold.ensures, c.before.before.currents-hold.ensures)))
+    (λ c. rw (c.both.ensures, c.waiting_hold-waiting.ensures, c.currents_hold-currents.ensures)))

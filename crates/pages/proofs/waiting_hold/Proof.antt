@@ -5,7 +5,7 @@ use Rattle.pages.proofs.Waiting.{none_waiting}
 use Rattle.pages.proofs.waiting_hold.Statement.{statement}
 use Rattle.pages.proofs.waiting_hold.Tie as tie
 
-returns-2 : tie.Need-returns-2
+returns-2 : tie.Need-returns
 unfolding waiting_hold
 returns-2 c =
     let one = c.before in
@@ -13,7 +13,7 @@ returns-2 c =
     let merges = lineages.before in
     let stamps = merges.before in
     let made = stamps.before in
-    rw (c.both2.ensures, one.both.ensures, lineages.waiting_lineages.ensures, merges.all-waiting-at-most2.ensures, stamps.all-waiting-at-most.ensures, made.read2.ensures, made.before.read.ensures)
+    rw (c.both-2.ensures, one.both.ensures, lineages.waiting_lineages-lineages.ensures, merges.all_waiting_at_most-merges.ensures, stamps.all_waiting_at_most-stamps.ensures, made.read-made.ensures, made.read-last.ensures)
 
 pub waiting_hold_spec : {M : Type 1} → statement M
 waiting_hold_spec =

@@ -5,7 +5,7 @@ use Rattle.layout.proofs.Indices.{slots_few, tail_in}
 use Rattle.records.proofs.first_slot.Statement.{statement}
 use Rattle.records.proofs.first_slot.Tie as tie
 
-mul-result : tie.Need-overflow-mul-result
+mul-result : tie.Need-overflow_mul-result
 mul-result c =
     let s = c.before in
     record { fits = omega (arith, tail_in s.args.s s.requires.0 s.args.g s.requires.1, slots_few s.args.s s.requires.0) }

@@ -14,7 +14,7 @@ returns c =
     let numbers = links.before in
     let named = numbers.before in
     let last = named.before in
-    rw (c.both3.ensures, two.both2.ensures, one.both.ensures, stamps.records-between2.ensures, links.records-linked.ensures, numbers.records_between.ensures, named.records-named.ensures, last.read2.ensures, last.before.read.ensures)
+    rw (c.both-3.ensures, two.both-2.ensures, one.both.ensures, stamps.records_between-stamps.ensures, links.records_linked-links.ensures, numbers.records_between-numbers.ensures, named.records_named-named.ensures, last.read-last.ensures, last.read-given.ensures)
 
 pub range_holds_spec : {M : Type 1} → statement M
 range_holds_spec =

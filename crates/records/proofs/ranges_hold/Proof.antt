@@ -7,10 +7,10 @@ use Rattle.facts.proofs.Each.{Flagged, flag_raised, flag_next, flag_all}
 use Rattle.records.proofs.ranges_hold.Statement.{statement}
 use Rattle.records.proofs.ranges_hold.Tie as tie
 
-abbrev invariant-loop : tie.invariant-loop
+abbrev invariant-loop : tie.invariant-loop-g
 invariant-loop mem s n ok₀ g₀ ok g = Flagged n (range_holds s (view_of s mem)) ok g
 
-abbrev decreases-loop : tie.decreases-loop
+abbrev decreases-loop : tie.decreases-loop-g
 decreases-loop mem s n ok₀ g₀ ok g = n - g
 
 pub ranges_hold_spec : {M : Type 1} → statement M
@@ -20,11 +20,11 @@ ranges_hold_spec =
     invariant-loop
     decreases-loop
     (λ c. flag_raised _ _)
-    (λ c κs. (c.before.before.before.requires, c.loop-test.true))
+    (λ c κs. (c.requires, c.loop-g-test.true))
     (λ c κs. search rules)
     (λ c. search rules)
     (λ c. search rules)
     (λ c.
-    let b = c.before.before.before.loop in
-    flag_next _ _ _ b.g b.invariant _ _ c.before.before.loop-test.true c.before.range-holds.ensures c.both.ensures)
-    (λ c. flag_all _ _ _ c.before.loop.g c.before.loop.invariant c.loop-test.false))
+    let b = c.loop-g in
+    flag_next _ _ _ b.g b.invariant _ _ c.loop-g-test.true c.range_holds.ensures c.both-ok.ensures)
+    (λ c. flag_all _ _ _ c.loop-g.g c.loop-g.invariant c.loop-g-test.false))

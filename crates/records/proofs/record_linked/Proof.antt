@@ -14,7 +14,7 @@ inside c =
     let a = c.args in
     (omega (arith, c.requires.0.records_in a.g), slots_few a.s c.requires.0.proper)
 
-link-holds-requires : tie.Need-link-holds-requires
+link-holds-requires : tie.Need-link_holds-requires
 link-holds-requires c κs =
     let s = c.before.before.before.before in
     (s.requires.0, (s.requires.1.0, omega (arith, inside s)))
@@ -22,7 +22,7 @@ link-holds-requires c κs =
 returns : tie.Need-returns
 unfolding record_linked
 returns c =
-    rw (c.link_holds_lem.ensures, c.before.read2.ensures, c.before.before.read.ensures, c.before.before.before.first_slot.ensures.0)
+    rw (c.link_holds.ensures, c.read-2.ensures, c.read.ensures, c.first_slot.ensures.0)
 
 pub record_linked_spec : {M : Type 1} → statement M
 record_linked_spec =
@@ -32,6 +32,6 @@ record_linked_spec =
     (λ c. omega (arith, inside search))
     (λ c κs. omega (arith, inside search))
     (λ c κs. omega (arith, inside search))
-    (λ c. omega (arith, inside search, c.before.before.before.before.requires.0.proper.capacity_to))
+    (λ c. omega (arith, inside search, c.requires.0.proper.capacity_to))
     link-holds-requires
     returns)

@@ -7,17 +7,17 @@ use Rattle.facts.proofs.Each.{Flagged, flag_raised, flag_next, flag_all}
 use Rattle.records.proofs.records_linked.Statement.{statement}
 use Rattle.records.proofs.records_linked.Tie as tie
 
-abbrev invariant-loop : tie.invariant-loop
+abbrev invariant-loop : tie.invariant-loop-i
 invariant-loop mem s g n ok₀ i₀ ok i = Flagged n (record_linked s (view_of s mem) g) ok i
 
-abbrev decreases-loop : tie.decreases-loop
+abbrev decreases-loop : tie.decreases-loop-i
 decreases-loop mem s g n ok₀ i₀ ok i = n - i
 
-record-linked-requires : tie.Need-record-linked-requires invariant-loop decreases-loop
+record-linked-requires : tie.Need-record_linked-requires invariant-loop decreases-loop
 record-linked-requires c κs =
     let r = c.before.before in
     let s = r.before.before in
-    (s.requires.0, (s.requires.1, rw r.read.ensures at c.loop-test.true))
+    (s.requires.0, (s.requires.1, rw r.read-n.ensures at c.loop-i-test.true))
 
 pub records_linked_spec : {M : Type 1} → statement M
 unfolding range_linked
@@ -34,6 +34,6 @@ records_linked_spec =
     (λ c. search rules)
     (λ c. search rules)
     (λ c.
-    let b = c.before.before.before.loop in
-    flag_next _ _ _ b.i b.invariant _ _ c.before.before.loop-test.true c.before.record-linked.ensures c.both.ensures)
-    (λ c. rw (← c.before.before.read.ensures) (flag_all _ _ _ c.before.loop.i c.before.loop.invariant c.loop-test.false)))
+    let b = c.loop-i in
+    flag_next _ _ _ b.i b.invariant _ _ c.loop-i-test.true c.record_linked.ensures c.both-ok.ensures)
+    (λ c. rw (← c.read-n.ensures) (flag_all _ _ _ c.loop-i.i c.loop-i.invariant c.loop-i-test.false)))

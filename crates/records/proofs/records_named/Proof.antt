@@ -16,13 +16,13 @@ use Rattle.layout.proofs.Indices.{tail_in}
 use Rattle.records.proofs.records_named.Statement.{statement}
 use Rattle.records.proofs.records_named.Tie as tie
 
-returns : tie.Need-returns
+returns : tie.Need-returns-then-given-first
 returns c =
     let t = c.before in
     let s = t.before.before.before in
-    rw c.read2.ensures (sym (names_none s.args.s (view_of s.args.s s.args.mem.now) s.args.g (rw t.before.read.ensures at t.if1.true)))
+    rw c.read.ensures (sym (names_none s.args.s (view_of s.args.s s.args.mem.now) s.args.g (rw t.read-given.ensures at t.if-given-first.true)))
 
-returns-2 : tie.Need-returns-2
+returns-2 : tie.Need-returns
 unfolding range_between
 returns-2 c =
     let l = c.before in
@@ -35,7 +35,7 @@ returns-2 c =
     let v = view_of z m in
     let k : first_slot z.capacity g + used_in v g ≤ length (v TailRow) = omega (arith, view_long z (words m) (omega (arith, length_words m)) TailRow, s.requires.0.records_in g, tail_in z s.requires.0.proper g s.requires.1) in
     c.records_between.ensures
-    ∙ sym (names_between z v g _ (rw r.read.ensures at t.if1.false) (rw r.read.ensures at l.last_row.ensures) k)
+    ∙ sym (names_between z v g _ (rw r.read-given.ensures at t.if-given-first.false) (rw r.read-given.ensures at l.last_row.ensures) k)
 
 pub records_named_spec : {M : Type 1} → statement M
 records_named_spec =

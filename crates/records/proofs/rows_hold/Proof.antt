@@ -13,7 +13,7 @@ returns c =
     let numbers = links.before in
     let last = numbers.before in
     let given = last.before in
-    rw (c.both2.ensures, one.both.ensures, stamps.rows-between2.ensures, links.rows_linked.ensures, numbers.rows_between_lem.ensures, last.read2.ensures, given.read.ensures)
+    rw (c.both-2.ensures, one.both.ensures, stamps.rows_between-stamps.ensures, links.rows_linked-links.ensures, numbers.rows_between-numbers.ensures, last.read-last.ensures, given.read-given.ensures)
 
 pub rows_hold_spec : {M : Type 1} → statement M
 rows_hold_spec =

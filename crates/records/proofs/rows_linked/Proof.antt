@@ -7,17 +7,17 @@ use Rattle.facts.proofs.Each.{Flagged, flag_raised, flag_next, flag_all}
 use Rattle.records.proofs.rows_linked.Statement.{statement}
 use Rattle.records.proofs.rows_linked.Tie as tie
 
-abbrev invariant-loop : tie.invariant-loop
+abbrev invariant-loop : tie.invariant-loop-r
 invariant-loop mem s n ok₀ r₀ ok r = Flagged n (row_linked s (view_of s mem)) ok r
 
-abbrev decreases-loop : tie.decreases-loop
+abbrev decreases-loop : tie.decreases-loop-r
 decreases-loop mem s n ok₀ r₀ ok r = n - r
 
-row-linked-requires : tie.Need-row-linked-requires invariant-loop decreases-loop
+row-linked-requires : tie.Need-row_linked-requires invariant-loop decreases-loop
 row-linked-requires c κs =
     let r = c.before.before in
     let s = r.before.before in
-    (s.requires, rw r.read.ensures at c.loop-test.true)
+    (s.requires, rw r.read-n.ensures at c.loop-r-test.true)
 
 pub rows_linked_spec : {M : Type 1} → statement M
 rows_linked_spec =
@@ -33,6 +33,6 @@ rows_linked_spec =
     (λ c. search rules)
     (λ c. search rules)
     (λ c.
-    let b = c.before.before.before.loop in
-    flag_next _ _ _ b.r b.invariant _ _ c.before.before.loop-test.true c.before.row-linked.ensures c.both.ensures)
-    (λ c. rw (← c.before.before.read.ensures) (flag_all _ _ _ c.before.loop.r c.before.loop.invariant c.loop-test.false)))
+    let b = c.loop-r in
+    flag_next _ _ _ b.r b.invariant _ _ c.loop-r-test.true c.row_linked.ensures c.both-ok.ensures)
+    (λ c. rw (← c.read-n.ensures) (flag_all _ _ _ c.loop-r.r c.loop-r.invariant c.loop-r-test.false)))

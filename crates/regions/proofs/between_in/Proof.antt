@@ -15,7 +15,7 @@ inside c = stretch_in c.args.s c.args.k c.args.at c.args.n c.requires.1
 returns : tie.Need-returns
 returns c =
     let start = c.before.before.before in
-    rw (c.all_between_lem.ensures, c.before.base.ensures) (ap (all_between _ _) (sym (view_region _ _ _ _ _ start.requires.1)))
+    rw (c.all_between.ensures, c.base.ensures) (ap (all_between _ _) (sym (view_region _ _ _ _ _ start.requires.1)))
 
 pub between_in_spec : {M : Type 1} → statement M
 between_in_spec =

@@ -17,13 +17,13 @@ copy-requires : tie.Need-copy-requires
 copy-requires c κs =
     let base = c.before in
     let start = base.before.before in
-    ((omega (arith, inside start), omega (arith, inside start)), stretches_shifted base.base.result _ _ _ start.requires.1.1)
+    ((omega (arith, inside start), omega (arith, inside start)), stretches_shifted base.base-b.result _ _ _ start.requires.1.1)
 
 returns : tie.Need-returns
 returns c =
     let call = c.before.before in
     let start = call.before.before.before.before in
-    rw (call.copy.ensures, call.before.before.base.ensures) (view_copy _ _ _ _ _ start.requires.1.0.1 _ start.requires.1.0.0)
+    rw (call.copy.ensures, call.base-b.ensures) (view_copy _ _ _ _ _ start.requires.1.0.1 _ start.requires.1.0.0)
 
 pub copy_in_spec : {M : Type 1} → statement M
 copy_in_spec =

@@ -14,7 +14,7 @@ returns : tie.Need-returns
 returns c =
     let call = c.before.before in
     let start = call.before.before.before.before in
-    rw (call.count-up.ensures, call.before.base.ensures) (view_number _ _ _ _ _ start.requires.1.0)
+    rw (call.count_up.ensures, call.base.ensures) (view_number _ _ _ _ _ start.requires.1.0)
 
 pub count_in_spec : {M : Type 1} → statement M
 count_in_spec =

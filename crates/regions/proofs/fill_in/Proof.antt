@@ -14,7 +14,7 @@ returns : tie.Need-returns
 returns c =
     let call = c.before.before in
     let start = call.before.before.before.before in
-    rw (call.fill.ensures, call.before.base.ensures) (view_fill _ _ _ _ _ start.requires.1 _)
+    rw (call.fill.ensures, call.base.ensures) (view_fill _ _ _ _ _ start.requires.1 _)
 
 pub fill_in_spec : {M : Type 1} → statement M
 fill_in_spec =

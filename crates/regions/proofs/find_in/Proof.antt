@@ -15,7 +15,7 @@ inside c = stretch_in c.args.s c.args.k c.args.at c.args.n c.requires.1
 returns : tie.Need-returns
 returns c =
     let start = c.before.before.before in
-    rw (c.find.ensures, c.before.base.ensures) (ap (first_at _ 0) (sym (view_region _ _ _ _ _ start.requires.1)))
+    rw (c.find.ensures, c.base.ensures) (ap (first_at _ 0) (sym (view_region _ _ _ _ _ start.requires.1)))
 
 pub find_in_spec : {M : Type 1} → statement M
 find_in_spec =

@@ -18,7 +18,7 @@ mark-requires c κs =
     let start = c.before.before.before.before in
     let h = start.requires.1 in (
       (omega (arith, inside start), omega (arith, inside start)),
-      rw (c.base2.ensures, c.before.base.ensures) (stretches_apart _ _ _ _ _ h.0 h.1 h.2),
+      rw (c.base-2.ensures, c.base.ensures) (stretches_apart _ _ _ _ _ h.0 h.1 h.2),
     )
 
 returns : tie.Need-returns
@@ -26,8 +26,8 @@ returns c =
     let call = c.before.before in
     let second = call.before in
     let first = second.before in
-    let h = first.before.before.before.requires.1 in
-    rw (call.mark.ensures, second.base2.ensures, first.base.ensures) (view_mark _ _ _ _ _ h.1 _ _ _ h.0)
+    let h = first.requires.1 in
+    rw (call.mark.ensures, second.base-2.ensures, first.base.ensures) (view_mark _ _ _ _ _ h.1 _ _ _ h.0)
 
 pub mark_in_spec : {M : Type 1} → statement M
 mark_in_spec =

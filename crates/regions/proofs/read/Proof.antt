@@ -11,4 +11,4 @@ inside : (c : tie.Start) → base c.args.s c.args.k + c.args.i < need c.args.s
 inside c = in_need c.args.s c.args.k c.args.i c.requires.1
 
 pub read_spec : {M : Type 1} → statement M
-read_spec = tie.close (tie.spec (λ c κs. omega arith) (λ c. omega (arith, inside search)) (λ c κs. omega (arith, inside search)) (λ c. rw (c.get.ensures, c.before.base.ensures) (sym (view_at _ _ _ _ c.before.before.before.requires.1))))
+read_spec = tie.close (tie.spec (λ c κs. omega arith) (λ c. omega (arith, inside search)) (λ c κs. omega (arith, inside search)) (λ c. rw (c.get.ensures, c.base.ensures) (sym (view_at _ _ _ _ c.requires.1))))

@@ -10,7 +10,7 @@ use Rattle.layout.proofs.View.{view_long}
 use Rattle.regions.proofs.read_later.Statement.{statement}
 use Rattle.regions.proofs.read_later.Tie as tie
 
-returns-2 : tie.Need-returns-2
+returns-2 : tie.Need-returns-else-i-n
 returns-2 c =
     let start : tie.Start = search in
     let s = start.args.s in

@@ -13,7 +13,7 @@ inside c = in_need c.args.s c.args.k c.args.i c.requires.1
 returns : tie.Need-returns
 returns c =
     let put = c.before.before in
-    rw (put.put.ensures, put.before.base.ensures) (view_put _ _ _ _ _ put.before.before.before.before.requires.1)
+    rw (put.put.ensures, put.base.ensures) (view_put _ _ _ _ _ put.requires.1)
 
 pub write_spec : {M : Type 1} → statement M
 write_spec = tie.close (tie.spec (λ c κs. omega arith) (λ c. omega (arith, inside search)) (λ c κs. omega (arith, inside search)) (λ c. search rules) returns)

@@ -23,7 +23,7 @@ put_past : (k : Region) (i v : ℕ) (m : View) → length (m k) ≤ i → m ≡ 
 unfolding put
 put_past k i v m h = renew_none k m ∙ ap (λ (l : List ℕ). renew k l m) (sym (set_past (m k) i v h))
 
-past : tie.Need-returns-2
+past : tie.Need-returns-else-i-n
 past c =
     let start : tie.Start = search in
     let s = start.args.s in

@@ -14,38 +14,38 @@ use Rattle.pages.proofs.check.check.Statement.{statement}
 use Rattle.pages.proofs.check.check.Tie as tie
 
 -- where the function begins, as the points after the measures have it
-abbrev begun : tie.After-struct-known → tie.Start
-begun c = let call = c.before.before.before.before in call.before.before
+abbrev begun : tie.After-struct_known-1 → tie.Start
+begun c = search
 
-abbrev sizes : tie.After-struct-known → Sizes
-sizes c = c.before.before.s.given.0.0
+abbrev sizes : tie.After-struct_known-1 → Sizes
+sizes c = c.in-Fit.s
 
-found : (c : tie.After-struct-known) → measured (begun c).args.mem.now ≡ Fit (sizes c)
-found c = let name = c.before.before in sym name.before.before.measure.ensures ∙ name.s.given.1
+found : (c : tie.After-struct_known-1) → measured (begun c).args.mem.now ≡ Fit (sizes c)
+found c = sym c.measure.ensures ∙ c.in-Fit.is
 
-known : (c : tie.After-struct-known) → Measured (begun c).args.mem.now (sizes c)
+known : (c : tie.After-struct_known-1) → Measured (begun c).args.mem.now (sizes c)
 known c = measured_tells _ _ (found c)
 
-whole : (c : tie.After-struct-known) → Proper (sizes c)
+whole : (c : tie.After-struct_known-1) → Proper (sizes c)
 unfolding stored_sizes
 whole c = rw (known c).sizes_are (proper (stored_form (words (begun c).args.mem.now)) (stored_shape (words (begun c).args.mem.now)) (known c).within)
 
-returns : tie.Need-returns
-returns c = let call = c.before.before in (λ ps e. unmeasured call.before.before.args.mem.now ps (sym call.measure.ensures ∙ c.enum_told.given.1), tt)
+returns : tie.Need-returns-in_default
+returns c = (λ ps e. unmeasured c.args.mem.now ps (sym c.measure.ensures ∙ c.in_default.is), tt)
 
-returns-3 : tie.Need-returns-3
+returns-3 : tie.Need-returns-then-facts_hold
 returns-3 c =
     let facts = c.before in
-    let at = facts.before.before in (
-      λ ps e. sym (by_facts _ ps _ (found at) (rw (table_length _ ps e) at facts.before.if1.false) ∙ rw (← facts.facts_hold_lem.ensures.0 ps e, c.if2.true)),
-      record { sizes_are = (known at).sizes_are; within = (known at).within; room = (known at).room; facts = facts.facts_hold_lem.ensures.1 c.if2.true },
+    let at : tie.After-struct_known-1 = search in (
+      λ ps e. sym (by_facts _ ps _ (found at) (rw (table_length _ ps e) at facts.if-t-lt-MOST_SCANS.false) ∙ rw (← facts.facts_hold.ensures.0 ps e, c.if-facts_hold.true)),
+      record { sizes_are = (known at).sizes_are; within = (known at).within; room = (known at).room; facts = facts.facts_hold.ensures.1 c.if-facts_hold.true },
     )
 
-returns-4 : tie.Need-returns-4
+returns-4 : tie.Need-returns-else-facts_hold
 returns-4 c =
     let facts = c.before in
-    let at = facts.before.before in
-    (λ ps e. sym (by_facts _ ps _ (found at) (rw (table_length _ ps e) at facts.before.if1.false) ∙ rw (← facts.facts_hold_lem.ensures.0 ps e, c.if2.false)), tt)
+    let at : tie.After-struct_known-1 = search in
+    (λ ps e. sym (by_facts _ ps _ (found at) (rw (table_length _ ps e) at facts.if-t-lt-MOST_SCANS.false) ∙ rw (← facts.facts_hold.ensures.0 ps e, c.if-facts_hold.false)), tt)
 
 pub check_spec : {M : Type 1} → statement M
 check_spec =
@@ -55,7 +55,7 @@ check_spec =
     (λ c. search rules)
     (λ c. search rules)
     returns
-    (λ c. (λ ps e. few_entries _ ps _ (found c.before) (rw (table_length _ ps e) at c.if1.true), tt))
+    (λ c. (λ ps e. few_entries _ ps _ (found c.before) (rw (table_length _ ps e) at c.if-t-lt-MOST_SCANS.true), tt))
     (λ c κs. ((known c.before).room, whole c.before))
     returns-3
     returns-4)

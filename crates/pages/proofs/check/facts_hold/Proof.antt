@@ -14,15 +14,15 @@ use Rattle.pages.proofs.check.facts_hold.Statement.{statement}
 use Rattle.pages.proofs.check.facts_hold.Tie as tie
 
 -- the counts, once their test has passed
-passed : (c : tie.Then1) → Ready c.before.before.before.args.s c.before.before.before.args.mem.now
+passed : (c : tie.Then-counts_within) → Ready c.args.s c.args.mem.now
 passed c =
     let s = c.before.before.before in
-    ready s.args.s s.args.mem.now s.args.t _ c.before.counts-within.ensures s.requires.0 s.requires.1 c.if1.true
+    ready s.args.s s.args.mem.now s.args.t _ c.counts_within.ensures s.requires.0 s.requires.1 c.if-counts_within.true
 
 unlike : false ≡ true → ⊥
 unlike e = let z : ◌≡◌ {A = ℕ} 0 1 = cc in omega arith
 
-returns : tie.Need-returns
+returns : tie.Need-returns-then-counts_within
 returns c =
     let b3 = c.before in
     let b2 = b3.before in
@@ -36,27 +36,27 @@ returns c =
     let s = counts.before.before.before in
     let z = s.args.s in
     let v = view_of z s.args.mem.now in
-    let flag = counts.before.counts-within.ensures in (
+    let flag = counts.counts_within.ensures in (
       λ ps e.
-          let k = few z s.args.mem.now s.args.t _ flag ps e counts.if1.true in
-          rw (facts_are z v ps, counts_are z s.args.mem.now s.args.t _ flag ps e, counts.if1.true, c.both4.ensures, b3.both3.ensures, b2.both2.ensures, b1.both.ensures, scans.scans-hold.ensures ps e k, opens.opens-hold.ensures, pages.pages-hold.ensures, rows.rows-hold.ensures, records.ranges-hold.ensures),
+          let k = few z s.args.mem.now s.args.t _ flag ps e counts.if-counts_within.true in
+          rw (facts_are z v ps, counts_are z s.args.mem.now s.args.t _ flag ps e, counts.if-counts_within.true, c.both-then-counts_within-3.ensures, b3.both-then-counts_within-2.ensures, b2.both-then-counts_within.ensures, b1.both.ensures, scans.scans_hold-scans.ensures ps e k, opens.opens_hold-opens.ensures, pages.pages_hold-pages.ensures, rows.rows_hold-rows.ensures, records.ranges_hold-records.ensures),
       λ up.
-          let a1 = and_true records.ranges-hold.result b3.both3.result (sym c.both4.ensures ∙ up) in
-          let a2 = and_true rows.rows-hold.result b2.both2.result (sym b3.both3.ensures ∙ a1.1) in
-          let a3 = and_true pages.pages-hold.result b1.both.result (sym b2.both2.ensures ∙ a2.1) in
+          let a1 = and_true records.ranges_hold-records.result b3.both-then-counts_within-2.result (sym c.both-then-counts_within-3.ensures ∙ up) in
+          let a2 = and_true rows.rows_hold-rows.result b2.both-then-counts_within.result (sym b3.both-then-counts_within-2.ensures ∙ a1.1) in
+          let a3 = and_true pages.pages_hold-pages.result b1.both.result (sym b2.both-then-counts_within.ensures ∙ a2.1) in
           memory_facts z v
-          (and_true _ _ (sym flag ∙ counts.if1.true)).0
-          (sym records.ranges-hold.ensures ∙ a1.0)
-          (sym rows.rows-hold.ensures ∙ a2.0)
-          (sym pages.pages-hold.ensures ∙ a3.0),
+          (and_true _ _ (sym flag ∙ counts.if-counts_within.true)).0
+          (sym records.ranges_hold-records.ensures ∙ a1.0)
+          (sym rows.rows_hold-rows.ensures ∙ a2.0)
+          (sym pages.pages_hold-pages.ensures ∙ a3.0),
     )
 
-returns-2 : tie.Need-returns-2
+returns-2 : tie.Need-returns-else-counts_within
 unfolding facts_hold
 returns-2 c =
     let s = c.before.before.before in (
       λ ps e.
-          rw (counts_are s.args.s s.args.mem.now s.args.t _ c.before.counts-within.ensures ps e, c.if1.false),
+          rw (counts_are s.args.s s.args.mem.now s.args.t _ c.counts_within.ensures ps e, c.if-counts_within.false),
       λ up. absurd (unlike up),
     )
 

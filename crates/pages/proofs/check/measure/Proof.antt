@@ -18,7 +18,7 @@ measure_spec =
     (λ c κs. search rules)
     (λ c κs. search rules)
     (λ c. search out_of_limits)
-    (λ c κs. limits_passed _ _ c.before.within_limits_lem.ensures c.if3.false)
+    (λ c κs. limits_passed _ _ c.within_limits.ensures c.if-not-within_limits.false)
     (λ c κs. search words_few)
     (λ c. search bytes_few)
     (λ c. search no_room)

@@ -203,14 +203,14 @@ module _ {F : Form} {S : Shape} {v : View} {ps : List ScanEntry} {h : History} (
   all_read : (s m r c : ℕ) (f : ℕ → Bool) → SeesAs h (reader (snapshot_at h s) m) f → r < length h.rows → c < S.columns → read_current S v (reader (all_up_to s) m) r c ≡ read f h r c
   all_read s m r c f w b d = current_read (reader (all_up_to s) m) r c f (sees_all h s m (word_limit - 1) f k.invariants.order.stamps made_few w) made_few b d
 
-  read_at : (s r c : ℕ) → r < length h.rows → c < S.columns → read_current S v (reader (all_up_to s) 0) r c ≡ read (seen_at h (snapshot_at h s)) h r c
-  read_at s r c b d = all_read s 0 r c (seen_at h (snapshot_at h s)) (sees_at h (snapshot_at h s)) b d
+  read_at_lem : (s r c : ℕ) → r < length h.rows → c < S.columns → read_current S v (reader (all_up_to s) 0) r c ≡ read (seen_at h (snapshot_at h s)) h r c
+  read_at_lem s r c b d = all_read s 0 r c (seen_at h (snapshot_at h s)) (sees_at h (snapshot_at h s)) b d
 
-  own_read : (t r c : ℕ) → state_of h t ≡ active → r < length h.rows → c < S.columns → read_current S v (reader (all_up_to (last_stamp v)) (own_changes v t)) r c ≡ read (seen_by h t) h r c
+  own_read_lem : (t r c : ℕ) → state_of h t ≡ active → r < length h.rows → c < S.columns → read_current S v (reader (all_up_to (last_stamp v)) (own_changes v t)) r c ≡ read (seen_by h t) h r c
   unfolding own_changes open_index
-  own_read t r c a b d = ap (λ (s : ℕ). read_current S v (reader (all_up_to s) (cond (eqb noted 0) 0 t)) r c) o.header.last_stamp ∙
+  own_read_lem t r c a b d = ap (λ (s : ℕ). read_current S v (reader (all_up_to s) (cond (eqb noted 0) 0 t)) r c) o.header.last_stamp ∙
       by_test (λ z. read_current S v (reader (all_up_to h.last.stamp) (cond z 0 t)) r c ≡ read (seen_by h t) h r c) (eqb noted 0)
-      (λ z. read_at h.last.stamp r c b d ∙ own_latest h t r c b (unchanged (eqb→eq noted 0 z)))
+      (λ z. read_at_lem h.last.stamp r c b d ∙ own_latest h t r c b (unchanged (eqb→eq noted 0 z)))
       (λ _. all_read h.last.stamp t r c (seen_by h t) (sees_own h t a) b d)
     where
       j : ℕ
@@ -296,9 +296,9 @@ module _ {F : Form} {S : Shape} {v : View} {ps : List ScanEntry} {h : History} (
   reply_same (commit t s) p = refl
   reply_same (abort t) p = refl
   reply_same (latest r c) p =
-      ap (λ (s : ℕ). read_current S v (reader (all_up_to s) 0) r c) o.header.last_stamp ∙ read_at h.last.stamp r c (search nleb→lt) (search nleb→lt)
-  reply_same (read_at s r c) p = read_at s r c (search nleb→lt) (search nleb→lt)
-  reply_same (own_read t r c) p = own_read t r c (search is_active_lem) (search nleb→lt) (search nleb→lt)
+      ap (λ (s : ℕ). read_current S v (reader (all_up_to s) 0) r c) o.header.last_stamp ∙ read_at_lem h.last.stamp r c (search nleb→lt) (search nleb→lt)
+  reply_same (read_at s r c) p = read_at_lem s r c (search nleb→lt) (search nleb→lt)
+  reply_same (own_read t r c) p = own_read_lem t r c (search is_active_lem) (search nleb→lt) (search nleb→lt)
   reply_same (open_scan s) p = ap Answer.Number (omega (arith, o.header.scans_given))
   reply_same (scan_read i r c) p =
       ap (λ (s : ScanEntry). read_in S v (reader (snapshot_of s) 0) (scan_page S v s.merges (range_of r) c) r c) (found i (not_not (scan_at h i).running (search)))

@@ -1,6 +1,6 @@
 -- Lists and numbers in general, beyond what the history's proofs have: counts of a list by index, counts and searches over the numbers below a bound, and
 -- the index of a part in a region of equal parts. Nothing here speaks of the store.
-use mathlib.Core.Path.{◌≡◌, refl, sym, ◌∙◌, ap, ap₂}
+use mathlib.Core.Path.{subst, ◌≡◌, refl, sym, ◌∙◌, ap, ap₂}
 use mathlib.Core.Logic.{◌≢◌}
 use mathlib.Core.Bool.{Bool, true, false, not, cond, ◌&&◌, ◌||◌, and-false, and-true, or-false}
 use mathlib.Core.List.{List, [], ◌∷◌, ◌++◌}
@@ -85,10 +85,12 @@ module _ {A : Type 0} where
         add-zero,
         eqb_same i,
         and-true (g i x),
-        from_none (λ n x. g n x && eqb n i) (suc i) l (λ n y a b. rw (ne_eqb n i (λ e. omega arith), and-false (g n y))),
+        from_none (λ n x. g n x && eqb n (i + 0)) (suc i) l (λ n y a b. rw (add-zero, ne_eqb n i (λ e. omega arith), and-false (g n y))),
       )
   from_at g i (x ∷ l) (suc k) d z =
-      rw (add-suc, ne_eqb i (suc (i + k)) (λ e. omega arith), and-false (g i x), ← suc-add) (from_at g (suc i) l k d z)
+      let e : suc i + k ≡ i + suc k = omega arith in
+      rw (ne_eqb i (i + suc k) (λ e. omega arith), and-false (g i x))
+      (subst (λ j. count_from (λ n x. g n x && eqb n j) (suc i) l ≡ one (g j (get_or l k d))) e (from_at g (suc i) l k d z))
 
   pub count_pos : (f : A → Bool) (l : List A) (i : ℕ) (d : A) → i < length l → T (f (get_or l i d)) → 0 < count f l
   count_pos f [] i d b t = absurd (not-suc-le-zero b)
@@ -213,6 +215,7 @@ same_part n a b i j u w e = by_cases (dec_lt a b) (λ p. absurd (omega (arith, p
 pub below_found : (f : ℕ → Bool) (n : ℕ) → T (any_below f n) → (i : ℕ) × (i < n) × T (f i)
 unfolding any_below
 below_found f (suc n) t = or_cases (any_below f n) (f n) t (λ u. let x = below_found f n u in (x.0, omega (arith, x.1), x.2)) (λ u. (n, omega arith, u))
+below_found f zero t = elim t [ ]
 
 pub below_at : (f : ℕ → Bool) (n i : ℕ) → i < n → T (f i) → T (any_below f n)
 unfolding any_below

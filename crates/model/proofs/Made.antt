@@ -13,7 +13,7 @@ use mir.Syntax.{w32}
 use mir.Val.{to_z}
 use Rattle.terms.specs.Measures.{Shape, range_rows, most_scans, within_limits, most_transactions, most_chunks}
 use Rattle.terms.specs.declared.Form.{Form}
-use Rattle.history.specs.History.{start, count, row_at, inserted_value, inserted, last_setting, records_of, keeper_of, last_through, merged_through, scan_at, cell_through}
+use Rattle.history.specs.History.{state_of, start, count, row_at, inserted_value, inserted, last_setting, records_of, keeper_of, last_through, merged_through, scan_at, cell_through}
 use Rattle.history.specs.Lists.{nil}
 use Rattle.history.proofs.Lists.{by_cases, both_test, le_test}
 use Rattle.loops.specs.Change.{numbered}
@@ -30,7 +30,7 @@ use Rattle.model.specs.Stored.{page_in, cell_in, current_in, chunk_of, chunks_of
 use Rattle.model.specs.Writing.{made_view}
 use Rattle.layout.specs.Codes.{as_current, keeper_limit}
 use Rattle.model.proofs.Lists.{below_none}
-use Rattle.model.specs.Represents.{Holds, every_row, CurrentsAre, PoolIs, Represents, Small, Whole}
+use Rattle.model.specs.Represents.{Holds, TailOf, every_row, CurrentsAre, PoolIs, Represents, Small, Whole}
 use Rattle.model.proofs.Views.{renew_whole, put_whole, changed_start}
 use Rattle.model.proofs.upkeep.Merged.{chunk_in}
 
@@ -145,7 +145,7 @@ module _ (F : Form) (S : Shape) (small : Small S) where
           small = no_keeper;
         };
         rows = λ r b. absurd (no_rows r b);
-        tails = λ g b. unfold made_view blank put renew start records_of in record { used_all = zeros S.ranges g; each = λ k u. absurd (not-suc-le-zero u); links = λ k u. absurd (not-suc-le-zero u) };
+        tails = λ g b. no_tail g;
         currents = currents_made;
         waits = λ p b t. absurd (rw (state_not_waiting p) at t);
         pool = unfold start in pool_made;
@@ -162,6 +162,9 @@ module _ (F : Form) (S : Shape) (small : Small S) where
 
       no_records : (g j : ℕ) → j < length (records_of start g) → ⊥
       no_records g j b = unfold start records_of in (not-suc-le-zero b)
+
+      no_tail : (g : ℕ) → TailOf S (state_of start) (records_of start g) (made_view F S) g
+      no_tail g = unfold made_view blank put renew start records_of in record { used_all = zeros S.ranges g; each = λ k u. absurd (not-suc-le-zero u); links = λ k u. absurd (not-suc-le-zero u) }
 
       no_keeper : (t : ℕ) → keeper_of start t < keeper_limit
       no_keeper zero = unfold keeper_of start in (omega arith)

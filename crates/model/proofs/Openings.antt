@@ -14,7 +14,7 @@ use Rattle.terms.specs.declared.Form.{Form}
 use Rattle.history.specs.History as H
 use Rattle.history.specs.History.{Call, begin, insert, update, delete, commit, abort, latest, read_at, own_read, open_scan, scan_read, sum, close, merge, release, page_cell, lineage, crossings, begin_as, keeper_at, move, History, Verdict, accept, refuse, verdict, tests, next, run, range_of, scan_at, with_scans}
 use Rattle.history.specs.Lists.{All, nil, cons}
-use Rattle.history.specs.Forms.{Suited}
+use Rattle.history.specs.Forms.{form_next, Suited}
 use Rattle.history.proofs.Lists.{nth_before}
 use Rattle.history.proofs.Accepted.{Passed, passed}
 use Rattle.history.proofs.Steps.{mergeable, is_active_lem, next_step}
@@ -145,7 +145,7 @@ same_after {F} {S} {v} {ps} {h} o k i b (cons {x = x} {l = cs} y ys) suited t g 
     let e : scan_at (next S h x) i ≡ scan_at h i = scan_before s i b later in
     let first : SamePage S v (store_next S v ps x) (scan_at h i).merges (length h.rows) g c = next_same o k i (rw e at later) g c bg bc x y in
     let rest : SamePage S (store_next S v ps x) (view_after S (store_next S v ps x) (entries_next S v ps x) cs) (scan_at h i).merges (length (next S h x).rows) g c =
-    rw e at (same_after one.shown one.well_formed i (le_trans b (grown s).scans) ys suited.1 t g c bg bc) in
+    rw e at (same_after {F = form_next S h x F} one.shown one.well_formed i (le_trans b (grown s).scans) ys suited.1 t g c bg bc) in
     record {
       page = rest.page ∙ first.page;
       cells = λ r u f. (rw first.page at (rest.cells r (le_trans u (grown s).rows) f)) ∙ first.cells r u f;

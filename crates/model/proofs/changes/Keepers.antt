@@ -13,7 +13,7 @@ use lib.Seq.{get_or-set_same, get_or-set_other}
 use borrow.Author.Tests.{ne_eqb}
 use Rattle.terms.specs.Measures.{Shape}
 use Rattle.terms.specs.declared.Form.{Form}
-use Rattle.history.specs.History.{History, Row, Record, Content, original, setting, ending, State, active, nth, is_active, unknown_keeper, state_of, keeper_of, borne_by, bearer, row_at, records_of}
+use Rattle.history.specs.History.{History, Row, Record, Content, original, setting, ending, State, active, nth, is_active, unknown_keeper, state_of, keeper_of, borne_by, bearer, row_at, records_of, unknown, aborted, committed}
 use Rattle.history.specs.Records.{no_record}
 use Rattle.history.specs.Invariants.{is_given, Invariants}
 use Rattle.history.proofs.Lists.{at_append, by_cases, eqb_same, nth_last, nth_append}
@@ -53,6 +53,9 @@ later_put Form.Newest n none l j x e b zero = get_or-set_same l j x 0 (omega (ar
 active_known : (x : State) → T (is_active x) → T (is_given x)
 unfolding is_active
 active_known active t = tt
+active_known unknown t = elim t [ ]
+active_known aborted t = elim t [ ]
+active_known (committed _) t = elim t [ ]
 
 open_given : (h : History) (l : List ℕ) → OpensAre h.transactions l → (j : ℕ) → get_or l j 0 ≢ 0 → T (is_given (state_of h (get_or l j 0)))
 unfolding state_of

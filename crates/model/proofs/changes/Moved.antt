@@ -67,9 +67,11 @@ no_keeper h t f = by_test (λ b. (T (not b) → ⊥) → (T b → keeper_of h t 
 
 both_ways : (b : Bool) → T (not b) → T b → ⊥
 both_ways false n t = t
+both_ways true n t = elim n [ ]
 
 pub moved_from_first : (F : Form) → T (is_form Form.First F) → F ≡ Form.First
 moved_from_first Form.First t = refl
+moved_from_first Form.Newest t = elim t [ ]
 
 module _ {F : Form} {S : Shape} {v : View} {ps : List ScanEntry} {h : History} (o : Represents F S v ps h) (k : WellFormed S h) where
   -- ---- the test of the way back

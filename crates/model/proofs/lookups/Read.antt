@@ -152,11 +152,15 @@ module _ (S : Shape) (v : View) (h : History) (i : InOrder h) (g r c : ℕ) (who
 pub setting_value : (C c : ℕ) → c < C → (y : Content) (kind mask : ℕ) (value : ℕ → ℕ) → ContentIs C y kind mask value → T (sets c y) → to_z w32 (value c) ≡ new_value c y
 unfolding sets new_value
 setting_value C c d (setting m vs) kind mask value o t = o.2 c d t
+setting_value C c d (original columns values) kind mask value o t = elim t [ ]
+setting_value C c d ending kind mask value o t = elim t [ ]
 
 pub original_value : (C c : ℕ) → c < C → (ins : ℤ) (y : Content) (kind mask : ℕ) (value : ℕ → ℕ) → ContentIs C y kind mask value
     → ((cs : List ℕ) (vs : List ℤ) → y ≡ original cs vs → get_or vs c (pos 0) ≡ ins) → T (is_original c y) → to_z w32 (value c) ≡ ins
 unfolding is_original
 original_value C c d ins (original cs vs) kind mask value o e t = o.2 c d (rw (o.1 c) t) ∙ e cs vs refl
+original_value C c d ins (setting _ values) kind mask value o e t = elim t [ ]
+original_value C c d ins ending kind mask value o e t = elim t [ ]
 
 -- ---- a row and column on a page
 -- what a page that is not newer than the stamp holds is seen, if the reader's snapshot has the commits that it has taken in
@@ -169,6 +173,8 @@ page_seen h who n f w b k p u = go (state_of h k) p u ∙ w k
         → is_committed s ≡ sees who (state_word s) (commit_of s).stamp (commit_of s).ordinal k
     go aborted p u = refl
     go (committed s) p u = rw (le-leb s.stamp who.stamp.0 (le_trans (u s refl).0 b), le-leb s.ordinal who.commits (u s refl).1)
+    go unknown p u = elim p [ ]
+    go active p u = elim p [ ]
 
 pub unset_take : (l : List Record) (r c n : ℕ) → was_set l r c ≡ false → was_set (take n l) r c ≡ false
 unfolding was_set
@@ -219,10 +225,14 @@ module _ {F : Form} {S : Shape} {v : View} {ps : List ScanEntry} {h : History} (
   pub kind_setting : (y : Content) (kind mask : ℕ) (value : ℕ → ℕ) → ContentIs S.columns y kind mask value → T (sets c y) → original_kind kind ≡ false
   unfolding sets
   kind_setting (setting m vs) kind mask value e t = rw e.0
+  kind_setting (original columns values) kind mask value e t = elim t [ ]
+  kind_setting ending kind mask value e t = elim t [ ]
 
   pub kind_original : (y : Content) (kind mask : ℕ) (value : ℕ → ℕ) → ContentIs S.columns y kind mask value → T (is_original c y) → original_kind kind ≡ true
   unfolding is_original
   kind_original (original cs vs) kind mask value e t = rw e.0
+  kind_original (setting _ values) kind mask value e t = elim t [ ]
+  kind_original ending kind mask value e t = elim t [ ]
 
   pub setting_stamp : (i : ℕ) → i < length list → T (sets c (get_or list i no_record).content)
       → setter_stamp v r (setter_at v (g * S.capacity + i)) ≡ (commit_of (state_of h (version_in c (get_or list i no_record)).setter)).stamp

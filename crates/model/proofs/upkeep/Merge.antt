@@ -159,6 +159,7 @@ module _ (S : Shape) (v : View) (h : History) (g c p low : ℕ) (inside : c < S.
 
       covers : (x : State) (q : Bool) → T q → (a : Commit) → x ≡ committed a → a.stamp ≤ cond (q && is_committed x && ltb old (commit_of x).stamp) (commit_of x).stamp old
       covers x true t a e = rw e (unfold is_committed in (by_test (λ d. a.stamp ≤ cond d a.stamp old) (ltb old a.stamp) (λ _. le_refl _) (nltb→le old a.stamp)))
+      covers x false t a e = elim t [ ]
 
   -- what the first stamp and those of the records have in common
   newest_keeps : (P : ℕ → Type 0) (s : ℕ) → P s → (k : ℕ) → ((j : ℕ) → j < k → P (record_in v (slot S g (suc (low + j)))).stamp) → P (newest_of S v g c low k s)

@@ -9,11 +9,8 @@ use Rattle.making.proofs.clear.Tie as tie
 
 returns : tie.Need-returns
 returns c =
-    let f = c.before.before in
-    let n = f.before.before in
-    let s = n.before.before in
-    let m = s.args.mem.now in
-    rw (f.fill.ensures, n.words-needed.ensures) (blank_filled s.args.s (words m) (omega (arith, length_words m)))
+    let m = c.args.mem.now in
+    rw (c.fill.ensures, c.words_needed-n.ensures) (blank_filled c.args.s (words m) (omega (arith, length_words m)))
 
 pub clear_spec : {M : Type 1} → statement M
 clear_spec =

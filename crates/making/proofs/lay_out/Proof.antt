@@ -9,11 +9,11 @@ use Rattle.making.proofs.lay_out.Tie as tie
 returns : tie.Need-returns
 unfolding made_view named_view put fill number renew
 returns c =
-    let measured : tie.After-put-measures = search in
-    let named : tie.After-name-pages = search in
+    let measured : tie.After-put_measures = search in
+    let named : tie.After-name_pages = search in
     let start : tie.Start = search in
-    let word : tie.After-columns-word = search in
-    rw (measured.put-measures.ensures, named.name-pages.ensures, word.columns-word.ensures, start.pre.1.0)
+    let word : tie.After-columns_word-word = search in
+    rw (measured.put_measures.ensures, named.name_pages.ensures, word.columns_word-word.ensures, start.requires.1.0)
 
 pub lay_out_spec : {M : Type 1} → statement M
 lay_out_spec =
@@ -21,7 +21,7 @@ lay_out_spec =
     (tie.spec
     (λ c κs. search rules)
     (λ c κs. search rules)
-    (λ c κs. let start : tie.Start = search in start.pre.1.3)
+    (λ c κs. let start : tie.Start = search in start.requires.1.3)
     (λ c κs. search rules)
     (λ c. search rules)
     returns)

@@ -12,25 +12,25 @@ use Rattle.making.proofs.Answers.{out_of_limits, within, small, proper_sizes, no
 use Rattle.making.proofs.make.Statement.{statement}
 use Rattle.making.proofs.make.Tie as tie
 
-few : (c : tie.After-sizes-of) → need c.sizes-of.result < too_many_words
+few : (c : tie.After-sizes_of-s) → need c.sizes_of-s.result < too_many_words
 few c = search small
 
-lay-out-requires : tie.Need-lay-out-requires
+lay-out-requires : tie.Need-lay_out-requires
 lay-out-requires c κs =
-    let z : tie.After-sizes-of = search in
-    let k : Proper z.sizes-of.result = search proper_sizes in
-    ((search part_room, few z), (z.sizes-of.ensures, omega (arith, k.pages_are), omega (arith, k.pages_to), rw z.sizes-of.ensures at k.columns_to))
+    let z : tie.After-sizes_of-s = search in
+    let k : Proper z.sizes_of-s.result = search proper_sizes in
+    ((search part_room, few z), (z.sizes_of-s.ensures, omega (arith, k.pages_are), omega (arith, k.pages_to), rw z.sizes_of-s.ensures at k.columns_to))
 
-returns-4 : tie.Need-returns-4
+returns-4 : tie.Need-returns
 returns-4 c =
     let start : tie.Start = search in
-    let call : tie.After-lay-out = search in
-    let test : tie.Else2 = search in
-    let n : tie.After-words-needed = search in
-    let z : tie.After-sizes-of = search in
-    let room : Suffices z.sizes-of.result start.args.mem.now = rw n.words-needed.ensures at test.if2.left in
-    let whole = lent z.sizes-of.result (n.words-needed.result * 4) start.args.mem.now call.lay-out.last.0 (λ u. made_view Form.Newest (shape_of start.args.columns start.args.ranges start.args.capacity start.args.spares)) call.lay-out.ensures call.lay-out.kept.0
-    (λ k. omega (arith, c.slice-known2.given k)) (omega (arith, n.words-needed.ensures)) room in
+    let call : tie.After-lay_out = search in
+    let test : tie.Else-mem-n = search in
+    let n : tie.After-words_needed-n = search in
+    let z : tie.After-sizes_of-s = search in
+    let room : Suffices z.sizes_of-s.result start.args.mem.now = rw n.words_needed-n.ensures at test.if-mem-n.false in
+    let whole = lent z.sizes_of-s.result (n.words_needed-n.result * 4) start.args.mem.now call.lay_out.last.0 (λ u. made_view Form.Newest (shape_of start.args.columns start.args.ranges start.args.capacity start.args.spares)) call.lay_out.ensures call.lay_out.kept.0
+    (λ k. omega (arith, c.slice_known-2-1.given k)) (omega (arith, n.words_needed-n.ensures)) room in
     search (laid, whole)
 
 pub make_spec : {M : Type 1} → statement M
@@ -41,7 +41,7 @@ make_spec =
     (λ c. search out_of_limits)
     (λ c κs. search within)
     (λ c κs. omega (arith, few c))
-    (λ c. let z : tie.After-sizes-of = search in omega (arith, few z, c.words-needed.ensures))
+    (λ c. let z : tie.After-sizes_of-s = search in omega (arith, few z, c.words_needed-n.ensures))
     (λ c. search no_room)
     (λ c. search few_entries)
     (λ c. search rules)

@@ -6,11 +6,11 @@ use borrow.Author.Rules.{rules}
 use Rattle.rows.proofs.head.Statement.{statement}
 use Rattle.rows.proofs.head.Tie as tie
 
-slot-of-requires : tie.Need-slot-of-requires
+slot-of-requires : tie.Need-slot_of-requires
 slot-of-requires c κs =
     let start : tie.Start = search in
-    let proper = start.pre.1.0 in
-    let inside = row_in_lem _ proper _ start.pre.1.1.0 _ start.pre.1.1.1 in
+    let proper = start.requires.1.0 in
+    let inside = row_in_lem _ proper _ start.requires.1.1.0 _ start.requires.1.1.1 in
     (proper, (omega (arith, inside), omega arith, omega (arith, inside)))
 
 pub head_spec : {M : Type 1} → statement M

@@ -11,4 +11,4 @@ abort_spec =
     (tie.spec
     (λ c κs. search rules)
     (λ c. search rules)
-    (λ c. let ended : tie.After-end-open = search in ended.end-open.ensures))
+    (λ c. let ended : tie.After-end_open = search in ended.end_open.ensures))

@@ -9,11 +9,7 @@ use Rattle.transactions.proofs.begin.Tie as tie
 returns : tie.Need-returns
 unfolding begun pending_put
 returns c =
-    let counted = c.before.before in
-    let kept_in = counted.before.before.before.before in
-    let given = kept_in.before.before.before in
-    let start = given.before.before.before in
-    rw (counted.write.ensures, kept_in.put-pending.ensures, kept_in.before.begin.ensures, given.read.ensures, ← start.requires.1.0.first) (refl, refl)
+    rw (c.write.ensures, c.put_pending.ensures, c.begin.ensures, c.read.ensures, ← c.requires.1.0.first) (refl, refl)
 
 pub begin_spec : {M : Type 1} → statement M
 begin_spec =

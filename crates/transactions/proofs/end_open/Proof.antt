@@ -11,13 +11,13 @@ use Rattle.transactions.proofs.end_open.Tie as tie
 returns : tie.Need-returns
 unfolding freed mark_all settled open_index renew pending_put
 returns c =
-    let keeping : tie.After-put-pending = search in
-    let record_at_lem : tie.After-free-record = search in
+    let keeping : tie.After-put_pending = search in
+    let record_at_lem : tie.After-free_record = search in
     let settling : tie.After-settle = search in
-    let handing : tie.After-hand-back = search in
-    let asked : tie.After-pending-at = search in
+    let handing : tie.After-hand_back-t = search in
+    let asked : tie.After-pending_at = search in
     let start : tie.Start = search in
-    λ t o. rw (keeping.put-pending.ensures, record_at_lem.free-record.ensures, settling.settle.ensures, handing.hand-back.ensures, asked.pending-at.ensures, number_there _ _ t _ start.pre.0 o, o.found)
+    λ t o. rw (keeping.put_pending.ensures, record_at_lem.free_record.ensures, settling.settle.ensures, handing.hand_back-t.ensures, asked.pending_at.ensures, number_there _ _ t _ start.requires.0 o, o.found) ?
 
 pub end_open_spec : {M : Type 1} → statement M
 end_open_spec =

@@ -16,10 +16,9 @@ use Rattle.transactions.proofs.free_index.Tie as tie
 
 returns : tie.Need-returns
 returns c =
-    let start = c.before.before in
-    let m = start.args.mem.now in
-    let h : need start.args.s ≤ length (words m) = omega (arith, length_words m) in
-    rw c.find-in.ensures (find_index 0 (view_of start.args.s m Region.Opens) most_transactions (view_long start.args.s (words m) h Region.Opens))
+    let m = c.args.mem.now in
+    let h : need c.args.s ≤ length (words m) = omega (arith, length_words m) in
+    rw c.find_in.ensures (find_index 0 (view_of c.args.s m Region.Opens) most_transactions (view_long c.args.s (words m) h Region.Opens))
 
 pub free_index_spec : {M : Type 1} → statement M
 free_index_spec =

@@ -6,29 +6,29 @@ use Rattle.transactions.proofs.Tails.{apart, rows_counted, marked_all}
 use Rattle.transactions.proofs.mark_all.Statement.{statement}
 use Rattle.transactions.proofs.mark_all.Tie as tie
 
-mark-in-requires : tie.Need-mark-in-requires
+mark-in-requires : tie.Need-mark_in-requires
 mark-in-requires c κs =
     let start : tie.Start = search in
-    let asked = start.pre.1.1.1 in
-    let given = start.pre.1.1.0.rows_given in
+    let asked = start.requires.1.1.1 in
+    let given = start.requires.1.1.0.rows_given in
     (omega arith, (omega arith, omega (arith, asked.0), λ e. (apart start.args.rows asked.2).rows (sym e)))
 
-mark-tails-requires : tie.Need-mark-tails-requires
+mark-tails-requires : tie.Need-mark_tails-requires
 mark-tails-requires c κs =
     let start : tie.Start = search in
-    let marked : tie.After-mark-in = search in
-    let pre = start.pre.1 in
+    let marked : tie.After-mark_in = search in
+    let pre = start.requires.1 in
     let asked = pre.1.1 in
-    (omega arith, (pre.0, (rows_counted _ _ _ start.args.rows asked.2 _ _ marked.mark-in.ensures _ pre.1.0, (asked.1, λ e. (apart start.args.tails asked.3).records (sym e), (apart start.args.tails asked.3).used))))
+    (omega arith, (pre.0, (rows_counted _ _ _ start.args.rows asked.2 _ _ marked.mark_in.ensures _ pre.1.0, (asked.1, λ e. (apart start.args.tails asked.3).records (sym e), (apart start.args.tails asked.3).used))))
 
 returns : tie.Need-returns
 returns c =
     let start : tie.Start = search in
-    let given : tie.After-read = search in
-    let marked : tie.After-mark-in = search in
-    let done : tie.After-mark-tails = search in
-    let asked = start.pre.1.1.1 in
-    marked_all _ _ _ start.args.rows asked.2 _ _ marked.mark-in.ensures _ _ _ asked.4 done.mark-tails.ensures given.read.ensures
+    let given : tie.After-read-given = search in
+    let marked : tie.After-mark_in = search in
+    let done : tie.After-mark_tails = search in
+    let asked = start.requires.1.1.1 in
+    marked_all _ _ _ start.args.rows asked.2 _ _ marked.mark_in.ensures _ _ _ asked.4 done.mark_tails.ensures given.read-given.ensures
 
 pub mark_all_spec : {M : Type 1} → statement M
 mark_all_spec =

@@ -13,10 +13,10 @@ use Rattle.transactions.proofs.mark_tail.Tie as tie
 inside : (c : tie.Start) → let a = c.args in (a.g * a.s.capacity + a.s.capacity ≤ a.s.slots) × (a.s.slots ≤ need a.s)
 inside c = let a = c.args in (tail_in a.s c.requires.1.0 a.g c.requires.1.1.0.0, omega (arith, sizes_need a.s))
 
-mark-in-requires : tie.Need-mark-in-requires
+mark-in-requires : tie.Need-mark_in-requires
 mark-in-requires c κs =
     let s : tie.Start = search in
-    (search rules, (omega (arith, inside s), omega (arith, inside s), s.pre.1.1.1.1))
+    (search rules, (omega (arith, inside s), omega (arith, inside s), s.requires.1.1.1.1))
 
 pub mark_tail_spec : {M : Type 1} → statement M
 unfolding tail_marked
@@ -26,7 +26,7 @@ mark_tail_spec =
     (λ c κs. search rules)
     (λ c. search rules)
     (λ c. search rules)
-    (λ c. rw (← c.before.read.ensures, c.if1.true) (mark_none _ _ _ _ _ _))
+    (λ c. rw (← c.read-used.ensures, c.if-used-eq0.true) (mark_none _ _ _ _ _ _))
     (λ c. omega (arith, inside search))
     mark-in-requires
     (λ c. search rules)

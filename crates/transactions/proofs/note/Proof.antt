@@ -7,9 +7,7 @@ use Rattle.transactions.proofs.note.Tie as tie
 returns : tie.Need-returns
 unfolding noted_at
 returns c =
-    let wrote = c.before.before in
-    let noted = wrote.before.before in
-    rw (wrote.write.ensures, noted.note.ensures, noted.before.pending-at.ensures)
+    rw (c.write.ensures, c.note-p.ensures, c.pending_at.ensures)
 
 pub note_spec : {M : Type 1} → statement M
 note_spec =

@@ -8,37 +8,37 @@ use Rattle.transactions.proofs.Tails.{counted_marked}
 use Rattle.transactions.proofs.settle.Statement.{statement}
 use Rattle.transactions.proofs.settle.Tie as tie
 
-stamps-require : tie.Need-mark-all-requires-2
+stamps-require : tie.Need-mark_all-requires-2
 stamps-require c κs =
     let start : tie.Start = search in
-    let first : tie.After-mark-all = search in
-    let pre = start.pre.1 in
-    let counted = counted_marked _ _ _ Region.RowState Region.TailState tt tt _ _ first.mark-all.ensures _ pre.1 in
+    let first : tie.After-mark_all = search in
+    let pre = start.requires.1 in
+    let counted = counted_marked _ _ _ Region.RowState Region.TailState tt tt _ _ first.mark_all.ensures _ pre.1 in
     (omega arith, (pre.0, (counted, (refl, refl, tt, tt, λ e. omega arith))))
 
-ordinals-require : tie.Need-mark-all-requires-3
+ordinals-require : tie.Need-mark_all-requires-3
 ordinals-require c κs =
     let start : tie.Start = search in
-    let first : tie.After-mark-all = search in
-    let second : tie.After-mark-all2 = search in
-    let pre = start.pre.1 in
-    let counted = counted_marked _ _ _ Region.RowState Region.TailState tt tt _ _ first.mark-all.ensures _ pre.1 in
-    let counted' = counted_marked _ _ _ Region.RowStamp Region.TailStamp tt tt _ _ second.mark-all2.ensures _ counted in
+    let first : tie.After-mark_all = search in
+    let second : tie.After-mark_all-2 = search in
+    let pre = start.requires.1 in
+    let counted = counted_marked _ _ _ Region.RowState Region.TailState tt tt _ _ first.mark_all.ensures _ pre.1 in
+    let counted' = counted_marked _ _ _ Region.RowStamp Region.TailStamp tt tt _ _ second.mark_all-2.ensures _ counted in
     (omega arith, (pre.0, (counted', (refl, refl, tt, tt, λ e. omega arith))))
 
 returns : tie.Need-returns
 unfolding settled
 returns c =
-    let first : tie.After-mark-all = search in
-    let second : tie.After-mark-all2 = search in
-    let third : tie.After-mark-all3 = search in
-    rw (third.mark-all3.ensures, second.mark-all2.ensures, first.mark-all.ensures)
+    let first : tie.After-mark_all = search in
+    let second : tie.After-mark_all-2 = search in
+    let third : tie.After-mark_all-3 = search in
+    rw (third.mark_all-3.ensures, second.mark_all-2.ensures, first.mark_all.ensures)
 
 pub settle_spec : {M : Type 1} → statement M
 settle_spec =
     tie.close
     (tie.spec
-    (λ c κs. let start : tie.Start = search in let pre = start.pre.1 in (omega arith, (pre.0, (pre.1, (refl, refl, tt, tt, λ e. omega arith)))))
+    (λ c κs. let start : tie.Start = search in let pre = start.requires.1 in (omega arith, (pre.0, (pre.1, (refl, refl, tt, tt, λ e. omega arith)))))
     stamps-require
     ordinals-require
     (λ c. search rules)

@@ -4,4 +4,4 @@ use Rattle.transactions.proofs.pending.Pending.owner.Statement.{statement}
 use Rattle.transactions.proofs.pending.Pending.owner.Tie as tie
 
 pub owner_spec : {M : Type 1} → statement M
-owner_spec = tie.close (tie.spec (λ c. rw (eq-eqb _ _ c.if1.true)) (λ c. rw (ne_eqb _ _ c.if1.false)))
+owner_spec = tie.close (tie.spec (λ c. rw (eq-eqb _ _ c.if-self-eq0.true)) (λ c. rw (ne_eqb _ _ c.if-self-eq0.false)))

@@ -27,13 +27,13 @@ made_done f p entries m e h k = rw (e, le-leb (need (sizes_of f p) * 4) (length 
 
 -- The premises are what the points of the code know: the flag b of the limits, the sizes s, the words w that they need, and which way the tests went.
 module _ (p : Shape) (entries : ℕ) (m : List ℕ) (b : Bool) (e : b ≡ within_limits p) where
-  pub out_of_limits : not b ≡ true → (Answer.Refused Refusal.Shape, m) ≡ made Form.Newest p entries m
+  pub out_of_limits : b ≡ false → (Answer.Refused Refusal.Shape, m) ≡ made Form.Newest p entries m
   unfolding made
-  out_of_limits h = rw (← e, not-true b h)
+  out_of_limits h = rw (← e, h)
 
-  module _ (h : not b ≡ false) where
+  module _ (h : b ≡ true) where
     pub within : within_limits p ≡ true
-    within = sym e ∙ not-false b h
+    within = sym e ∙ h
 
     module _ (s : Sizes) (q : s ≡ sizes_of Form.Newest p) where
       pub small : need s < too_many_words

@@ -27,8 +27,8 @@ module _ (s : Sizes) (proper : Proper s) where
   pub values_few : s.values ≤ most_slots * most_columns
   values_few = omega (arith, proper.values_are, mul-le-mul (slots_few s proper) proper.columns_to)
 
-  pub value_in : (at c : ℕ) → at < s.slots → c < s.columns → at * s.columns + c < s.values
-  value_in at c h l = omega (arith, values_in_lem s proper at h)
+  pub value_in_lem : (at c : ℕ) → at < s.slots → c < s.columns → at * s.columns + c < s.values
+  value_in_lem at c h l = omega (arith, values_in_lem s proper at h)
 
   pub chunk_in : (g c : ℕ) → g < s.ranges → c < s.columns → g * s.columns + c < s.chunks
   chunk_in g c h l = omega (arith, chunks_in s proper g h)

@@ -24,12 +24,11 @@ lay-out-requires c κs =
 returns-4 : tie.Need-returns
 returns-4 c =
     let start : tie.Start = search in
-    let call : tie.After-lay_out = search in
     let test : tie.Else-mem-n = search in
     let n : tie.After-words_needed-n = search in
     let z : tie.After-sizes_of-s = search in
     let room : Suffices z.sizes_of-s.result start.args.mem.now = rw n.words_needed-n.ensures at test.if-mem-n.false in
-    let whole = lent z.sizes_of-s.result (n.words_needed-n.result * 4) start.args.mem.now call.lay_out.last.0 (λ u. made_view Form.Newest (shape_of start.args.columns start.args.ranges start.args.capacity start.args.spares)) call.lay_out.ensures call.lay_out.kept.0
+    let whole = lent z.sizes_of-s.result (n.words_needed-n.result * 4) start.args.mem.now c.lay_out.new.mem (λ u. made_view Form.Newest (shape_of start.args.columns start.args.ranges start.args.capacity start.args.spares)) c.lay_out.ensures c.lay_out.auto.mem
     (λ k. omega (arith, c.slice_known-2-1.given k)) (omega (arith, n.words_needed-n.ensures)) room in
     search (laid, whole)
 

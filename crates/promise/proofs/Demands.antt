@@ -14,9 +14,9 @@ use Rattle.terms.specs.declared.ScanEntry.{ScanEntry}
 use Rattle.terms.specs.declared.Refusal.{Refusal}
 use Rattle.layout.specs.Sizes.{sizes_of, bytes_needed}
 use Rattle.layout.specs.View.{lay, view_of}
-use Rattle.history.specs.History.{Call, open_scan, History, Snapshot, start, answer, run, tests, verdict, accept}
+use Rattle.history.specs.History.{next, Call, open_scan, History, Snapshot, start, answer, run, tests, verdict, accept}
 use Rattle.history.specs.Claims.{strike, outcome_at, Accepts, Striking, MinutesStable, ScansStable, latest_reads, at_reads, scan_reads, Shows, by_read, by_keeper}
-use Rattle.history.specs.Forms.{form_use, works_on, Suited, form_run, StrikingSuited}
+use Rattle.history.specs.Forms.{form_next, form_use, works_on, Suited, form_run, StrikingSuited}
 use Rattle.history.specs.Latest.{ValueAt}
 use Rattle.history.specs.Lists.{All, nil, cons}
 use Rattle.history.proofs.Lists.{by_test, both_test, le_test, all_filterb, is_true, clash}
@@ -31,7 +31,7 @@ use Rattle.model.specs.Calls.{Typed, view_after}
 use Rattle.model.specs.Claims.{history_after, PageKept}
 use Rattle.model.proofs.Claims.{page_holds, pages_kept}
 use Rattle.promise.specs.Represents.{MemoryRepresents}
-use Rattle.promise.specs.Promise.{store_view, second_of, room_for, admits, answer_of, lend, left}
+use Rattle.promise.specs.Promise.{left_by, store_view, second_of, room_for, admits, answer_of, lend, left}
 use Rattle.promise.specs.Demands.{Accepted, memory_made, Lends, store_outcomes, store_left, MakingAccepted, ReadsCommitted, PagesCommitted, ScansKept, Demand3, StrikingStore, store_outcome_at, AcceptsIn, MinutesStableStore, ScansStableStore}
 use Rattle.promise.proofs.Represents.{made_starts, represents_usable, form_is, view_is, list_is, store_seen, represents_call, represents_outcomes}
 
@@ -113,8 +113,8 @@ record Left (m : List ℕ) (ps : List ScanEntry) (F : Form) (S : Shape) (h : His
 calls_left : {m : List ℕ} {ps : List ScanEntry} {F : Form} {S : Shape} {h : History} → MemoryRepresents m ps F S h → {cs : List Call} → All Typed cs → Suited S F h cs → All (λ c. T (room_for (form_use c) S (second_of c))) cs → Left m ps F S h cs
 unfolding left run form_run view_after Suited
 calls_left o nil s r = record { same = o; shown = refl }
-calls_left o (cons {x = c} y ys) s (cons r rs) =
-    let l = calls_left (represents_call o c s.0 r y).1 ys s.1 rs in
+calls_left {m = m} {ps = ps} {F = F} {S = S} {h = h} o (cons {x = c} {l = cs} y ys) s (cons r rs) =
+    let l = calls_left {m = (left_by (lend m ps) c).memory} {ps = (left_by (lend m ps) c).list} {F = form_next S h c F} {h = next S h c} (represents_call o c s.0 r y).1 ys s.1 rs in
     record { same = l.same; shown = l.shown ∙ rw (store_seen o c s.0 r y, list_is o c s.0 r) }
 
 module _ (F : Form) (S : Shape) (m : List ℕ) (ps : List ScanEntry) (a : Accepted F S m ps) {cs : List Call} (l : Lends F S start cs) where

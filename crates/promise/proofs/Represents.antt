@@ -196,4 +196,6 @@ pub represents_outcomes : {m : List ℕ} {ps : List ScanEntry} {F : Form} {S : S
     → outcomes_of (lend m ps) cs ≡ outcomes S h cs
 unfolding outcomes_of outcomes Suited
 represents_outcomes o nil s r = refl
-represents_outcomes o (cons {x = c} y ys) s (cons r rs) = let one = represents_call o c s.0 r y in rw (represents_outcomes one.1 ys s.1 rs, one.0, one.2)
+represents_outcomes {m = m} {ps = ps} {F = F} {S = S} {h = h} o (cons {x = c} {l = l} y ys) s (cons r rs) =
+    let one = represents_call o c s.0 r y in
+    rw (represents_outcomes {m = (left_by (lend m ps) c).memory} {ps = (left_by (lend m ps) c).list} {F = form_next S h c F} {h = next S h c} one.1 ys s.1 rs, one.0, one.2)

@@ -30,15 +30,6 @@ module _ (v : View) (r n : ℕ) (s : Setter) where
   unfolding setter_number record_in
   update_number at e q = q ∙ rw e
 
--- a flag, from its opposite
-pub not_so : (a : Bool) → not a ≡ true → a ≡ false
-not_so true e = sym e
-not_so false e = refl
-
-pub so : (a : Bool) → not a ≡ false → a ≡ true
-so true e = refl
-so false e = sym e
-
 -- whether the record at slot k tells a value
 module _ (v : View) (who : Reader) (r c k row : ℕ) (e : row ≡ get_or (v Region.TailRow) k 0) where
   pub other_row : (row ≡ r → ⊥) → false ≡ tells v who r c (record_in v k)
@@ -46,18 +37,18 @@ module _ (v : View) (who : Reader) (r c k row : ℕ) (e : row ≡ get_or (v Regi
   other_row n = rw (← e, ne_eqb row r n)
 
   module _ (q : row ≡ r) (a : Bool) (f : a ≡ answers_for who c (record_in v k)) where
-    pub not_answering : not a ≡ true → false ≡ tells v who r c (record_in v k)
+    pub not_answering : a ≡ false → false ≡ tells v who r c (record_in v k)
     unfolding tells record_in answers_for
-    not_answering g = rw (← e, eq-eqb row r q, ← f, not_so a g)
+    not_answering g = rw (← e, eq-eqb row r q, ← f, g)
 
-    module _ (t : not a ≡ false) (kind : ℕ) (w : kind ≡ get_or (v Region.TailKind) k 0) where
+    module _ (t : a ≡ true) (kind : ℕ) (w : kind ≡ get_or (v Region.TailKind) k 0) where
       pub tells_setting : (kind ≡ 0 → ⊥) → true ≡ tells v who r c (record_in v k)
       unfolding tells record_in answers_for
-      tells_setting n = rw (← e, eq-eqb row r q, ← f, so a t, ← w, ne_eqb kind 0 n)
+      tells_setting n = rw (← e, eq-eqb row r q, ← f, t, ← w, ne_eqb kind 0 n)
 
       pub tells_original : kind ≡ 0 → (b : Bool) → b ≡ sees_row who (row_in v r) → b ≡ tells v who r c (record_in v k)
       unfolding tells record_in answers_for
-      tells_original o b s = rw (← e, eq-eqb row r q, ← f, so a t, ← w, eq-eqb kind 0 o) s
+      tells_original o b s = rw (← e, eq-eqb row r q, ← f, t, ← w, eq-eqb kind 0 o) s
 
 -- what it tells
 pub told_is : (S : Shape) (v : View) (r c k : ℕ) (mark : ℤ) (x : Setter) (word setter stamp : ℕ) (value : ℤ) (b : Bool) → x ≡ setter_at v k → word ≡ value_in S v k c

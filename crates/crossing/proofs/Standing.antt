@@ -24,7 +24,7 @@ use Rattle.model.specs.Stored.{record_in}
 use Rattle.model.specs.Versions.{tells, values_in}
 use Rattle.model.proofs.lookups.Heads.{slot_is}
 use Rattle.model.proofs.lookups.Versions.{behind as behind_told}
-use Rattle.crossing.proofs.Records.{so, not_so, other_row}
+use Rattle.crossing.proofs.Records.{other_row}
 use Rattle.crossing.specs.declared.Query.{Query}
 use Rattle.crossing.specs.declared.Told.{Told}
 use Rattle.crossing.specs.declared.Pass.{Pass}
@@ -149,14 +149,14 @@ module _ (q : Query) (limit : ℕ) (l : List Dated) (out : List ℕ) (p : Pass) 
 -- ---- the last value is noted, by what the code finds
 module _ (p : Pass) (from limit : ℕ) (old : List ℕ) (b : Bool) (e : b ≡ counted from p) where
   -- what is written from place n on, which no stamp is
-  pub not_noted : not b ≡ true → (p.found ≡ p.found + length (noted from p)) × (old ≡ placed limit p.found (noted from p) old)
+  pub not_noted : b ≡ false → (p.found ≡ p.found + length (noted from p)) × (old ≡ placed limit p.found (noted from p) old)
   not_noted n =
-      rw (sym e ∙ not_so b n)
+      rw (sym e ∙ n)
       (omega arith, by_test (λ w. old ≡ cond w old old) (ltb p.found limit) (λ _. refl) (λ _. refl))
 
-  module _ (t : not b ≡ false) where
+  module _ (t : b ≡ true) where
     counts : counted from p ≡ true
-    counts = sym e ∙ so b t
+    counts = sym e ∙ t
 
     pub noted_below : p.found < limit → (p.found + 1 ≡ p.found + length (noted from p)) × (set old p.found p.stamp ≡ placed limit p.found (noted from p) old)
     noted_below l = rw (counts, lt-ltb p.found limit l) (refl, refl)

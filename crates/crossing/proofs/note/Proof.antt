@@ -4,28 +4,28 @@ use Rattle.crossing.proofs.Standing.{not_noted, noted_below, noted_past}
 use Rattle.crossing.proofs.note.Statement.{statement}
 use Rattle.crossing.proofs.note.Tie as tie
 
-returns : tie.Need-returns
+returns : tie.Need-returns-then-not-counts
 returns c =
     let start : tie.Start = search in
     let told : tie.After-counts = search in
     let a = start.args in
-    not_noted a.p a.from.0 _ _ _ told.counts.ensures c.if1.true
+    not_noted a.p a.from.0 _ _ _ told.counts.ensures c.if-not-counts.true
 
-returns-2 : tie.Need-returns-2
+returns-2 : tie.Need-returns-then-n-limit
 returns-2 c =
     let start : tie.Start = search in
     let told : tie.After-counts = search in
     let a = start.args in
-    let counts : tie.Else1 = search in
-    noted_below a.p a.from.0 _ _ _ told.counts.ensures counts.if1.left c.if2.true
+    let counts : tie.Else-not-counts = search in
+    noted_below a.p a.from.0 _ _ _ told.counts.ensures counts.if-not-counts.false c.if-n-limit.true
 
-returns-3 : tie.Need-returns-3
+returns-3 : tie.Need-returns
 returns-3 c =
     let start : tie.Start = search in
     let told : tie.After-counts = search in
     let a = start.args in
-    let counts : tie.Else1 = search in
-    noted_past a.p a.from.0 _ _ _ told.counts.ensures counts.if1.left c.if2.false
+    let counts : tie.Else-not-counts = search in
+    noted_past a.p a.from.0 _ _ _ told.counts.ensures counts.if-not-counts.false c.if-n-limit.false
 
 pub note_spec : {M : Type 1} → statement M
 note_spec =

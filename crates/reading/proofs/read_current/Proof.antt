@@ -8,8 +8,8 @@ use Rattle.reading.proofs.read_current.Tie as tie
 returns : tie.Need-returns
 unfolding read_current
 returns c =
-    let range : tie.After-range-of = search in
-    rw (c.read_cell.ensures, c.before.current-page.ensures.0, range.range-of.ensures)
+    let range : tie.After-range_of = search in
+    rw (c.read_cell.ensures, c.current_page-page.ensures.0, range.range_of.ensures)
 
 pub read_current_spec : {M : Type 1} → statement M
 read_current_spec =

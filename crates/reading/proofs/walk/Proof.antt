@@ -9,25 +9,25 @@ use Rattle.reading.proofs.Walking.{walk_stop, walk_hit, link_lower, walk_on}
 use Rattle.reading.proofs.walk.Statement.{statement}
 use Rattle.reading.proofs.walk.Tie as tie
 
-abbrev invariant-loop : tie.invariant-loop
+abbrev invariant-loop : tie.invariant-loop-k
 invariant-loop mem s who g c last k₀ k =
     let m = view_of s mem in
     (k ≤ k₀) × (R.walk (shape_in s) m who g c last k₀ k₀ ≡ R.walk (shape_in s) m who g c last k k)
 
-abbrev decreases-loop : tie.decreases-loop
+abbrev decreases-loop : tie.decreases-loop-k
 decreases-loop mem s who g c last k₀ k = k
 
-slot-of-requires : tie.Need-slot-of-requires invariant-loop decreases-loop
+slot-of-requires : tie.Need-slot_of-at-requires invariant-loop decreases-loop
 slot-of-requires c κs =
     let start : tie.Start invariant-loop decreases-loop = search in
-    let pre = start.pre.1.1 in
-    (start.pre.1.0, (pre.1.0, omega arith, omega (arith, pre.0.used_few _ pre.1.0)))
+    let pre = start.requires.1.1 in
+    (start.requires.1.0, (pre.1.0, omega arith, omega (arith, pre.0.used_few _ pre.1.0)))
 
 -- the link that was read is lower, and the walk goes on from it
-loop-again : tie.Need-loop-preserved invariant-loop decreases-loop
+loop-again : tie.Need-loop-k-preserved invariant-loop decreases-loop
 loop-again c =
-    let head : tie.At-loop invariant-loop decreases-loop = search in
-    let lower : c.read.result < head.loop.k = search link_lower in
+    let head : tie.At-loop-k invariant-loop decreases-loop = search in
+    let lower : c.read-k.result < head.loop-k.k = search link_lower in
     (omega arith, search walk_on)
 
 pub walk_spec : {M : Type 1} → statement M

@@ -9,28 +9,26 @@ use Rattle.summing.proofs.Sums.{one_range}
 use Rattle.summing.proofs.add_rows.Statement.{statement}
 use Rattle.summing.proofs.add_rows.Tie as tie
 
-abbrev invariant-loop : tie.invariant-loop
+abbrev invariant-loop : tie.invariant-loop-row
 invariant-loop mem s scan page c from to sum₀ row₀ sum row =
     (from ≤ row) × (row ≤ to) × Tallied (shape_in s) (view_of s mem) scan c row sum
 
-abbrev decreases-loop : tie.decreases-loop
+abbrev decreases-loop : tie.decreases-loop-row
 decreases-loop mem s scan page c from to sum₀ row₀ sum row = to - row
 
-add-row-requires : tie.Need-add-row-requires invariant-loop decreases-loop
+add-row-requires : tie.Need-add_row-sum-requires invariant-loop decreases-loop
 add-row-requires c κs =
     let start : tie.Start invariant-loop decreases-loop = search in
-    let head = c.before in
-    let pre = start.pre.1 in
+    let pre = start.requires.1 in
     let more = pre.1.1.1 in
-    let same = one_range start.args.from start.args.to head.loop.row head.loop.invariant.0 c.loop-test.true more.0.1 in
-    (start.pre.0, (pre.0, (pre.1.0, ((omega arith, omega arith, omega arith), (rw same more.1.0, head.loop.invariant.2)))))
+    let same = one_range start.args.from start.args.to c.loop-row.row c.loop-row.invariant.0 c.loop-row-test.true more.0.1 in
+    (start.requires.0, (pre.0, (pre.1.0, ((omega arith, omega arith, omega arith), (rw same more.1.0, c.loop-row.invariant.2)))))
 
 returns : tie.Need-returns invariant-loop decreases-loop
 returns c =
     let start : tie.Start invariant-loop decreases-loop = search in
-    let head = c.before in
-    let end : head.loop.row ≡ start.args.to = omega arith in
-    rw end at head.loop.invariant.2
+    let end : c.loop-row.row ≡ start.args.to = omega arith in
+    rw end at c.loop-row.invariant.2
 
 pub add_rows_spec : {M : Type 1} → statement M
 add_rows_spec =
@@ -38,9 +36,9 @@ add_rows_spec =
     (tie.spec
     invariant-loop
     decreases-loop
-    (λ c. (omega arith, omega arith, c.before.requires.1.1.1.1.1.1))
+    (λ c. (omega arith, omega arith, c.requires.1.1.1.1.1.1))
     add-row-requires
     (λ c. omega arith)
     (λ c. omega arith)
-    (λ c. (omega arith, omega arith, c.add_row.ensures))
+    (λ c. (omega arith, omega arith, c.add_row-sum.ensures))
     returns)

@@ -9,10 +9,10 @@ use borrow.Author.Rules.{rules}
 use Rattle.summing.proofs.sum_rows.Statement.{statement}
 use Rattle.summing.proofs.sum_rows.Tie as tie
 
-abbrev invariant-loop : tie.invariant-loop
+abbrev invariant-loop : tie.invariant-loop-from
 invariant-loop mem s scan c given merges sum₀ from₀ sum from = (from ≤ given) × Tallied (shape_in s) (view_of s mem) scan c from sum
 
-abbrev decreases-loop : tie.decreases-loop
+abbrev decreases-loop : tie.decreases-loop-from
 decreases-loop mem s scan c given merges sum₀ from₀ sum from = given - from
 
 pub sum_rows_spec : {M : Type 1} → statement M
@@ -27,6 +27,6 @@ sum_rows_spec =
     (λ c κs. (search, (search, (search, (search given_range, search)))))
     (λ c κs. (search, search given_few))
     (λ c κs. (search, (search, (search, ((search, search, omega arith), ((omega arith, search), (search page_of, search)))))))
-    (λ c. omega (arith, c.before.range-end.ensures))
-    (λ c. (c.before.range-end.ensures.1, c.add-rows.ensures))
+    (λ c. omega (arith, c.range_end-to.ensures))
+    (λ c. (c.range_end-to.ensures.1, c.add_rows-sum.ensures))
     (λ c. search (sum_is, given_few)))

@@ -11,8 +11,8 @@ unfolding cell_in
 cell_spec =
     tie.close
     (tie.spec
-    (λ c. omega (arith, pages_few _ c.before.requires.1.0))
+    (λ c. omega (arith, pages_few _ c.requires.1.0))
     (λ c. search rules)
-    (λ c. omega (arith, pages_few _ c.before.before.requires.1.0))
+    (λ c. omega (arith, pages_few _ c.requires.1.0))
     (λ c κs. search rules)
     (λ c. c.read.ensures))

@@ -18,7 +18,7 @@ returns : tie.Need-returns
 unfolding current_in
 returns c =
     let start : tie.Start = search in
-    (c.read.ensures, rw c.read.ensures (start.pre.1.1.0 _ (inside start).0))
+    (c.read.ensures, rw c.read.ensures (start.requires.1.1.0 _ (inside start).0))
 
 pub current_page_spec : {M : Type 1} → statement M
 current_page_spec =

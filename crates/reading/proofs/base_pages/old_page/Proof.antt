@@ -12,12 +12,12 @@ use Rattle.reading.proofs.ScanPages.{old_found, old_on, old_none}
 use Rattle.reading.proofs.base_pages.old_page.Statement.{statement}
 use Rattle.reading.proofs.base_pages.old_page.Tie as tie
 
-abbrev invariant-loop : tie.invariant-loop
+abbrev invariant-loop : tie.invariant-loop-p
 invariant-loop mem s merges chunk n p₀ p =
     let f = was_current (shape_in s) (view_of s mem) merges chunk in
     (p ≤ n) × (first_from f n 0 ≡ first_from f (n - p) p)
 
-abbrev decreases-loop : tie.decreases-loop
+abbrev decreases-loop : tie.decreases-loop-p
 decreases-loop mem s merges chunk n p₀ p = n - p
 
 pub old_page_spec : {M : Type 1} → statement M

@@ -13,7 +13,7 @@ was_current_spec =
     (λ c. search not_waiting)
     (λ c κs. search rules)
     (λ c. search rules)
-    (λ c. let start : tie.Start = search in omega (arith, chunks_some _ start.pre.1.0))
+    (λ c. let start : tie.Start = search in omega (arith, chunks_some _ start.requires.1.0))
     (λ c. search elsewhere)
     (λ c κs. search rules)
     (λ c. search made_later)

@@ -60,8 +60,9 @@ module _ (f : ℕ → Bool) where
   none_below zero h t = t
   none_below (suc n) h t = or_cases (any_below f n) (f n) t (none_below n h) (h n)
 
-off : (b : Bool) → not b ≡ true → T b → ⊥
-off true e t = true≢false (sym e)
+off : (b : Bool) → b ≡ false → T b → ⊥
+off true e t = true≢false e
+off false e t = elim t [ ]
 
 -- what passes one test passes another
 implied : (f g : ℕ → Bool) (n : ℕ) → ((i : ℕ) → T (f i) → T (g i)) → T (any_below f n) → T (any_below g n)
@@ -110,7 +111,7 @@ module _ (v : View) (t k : ℕ) where
 -- ---- 9
 -- with no other open, no record holds the row
 pub none_held : (v : View) (t r at n : ℕ) (flag : Bool) → length (v Opens) ≡ most_transactions
-    → flag ≡ any_below (λ j. is_other t (get_or (v Opens) j 0)) most_transactions → not flag ≡ true → false ≡ any_below (λ i. holds_at v t r (at + i)) n
+    → flag ≡ any_below (λ j. is_other t (get_or (v Opens) j 0)) most_transactions → flag ≡ false → false ≡ any_below (λ i. holds_at v t r (at + i)) n
 unfolding holds_at open_other is_other
 none_held v t r at n flag l e f =
     sym (refuted _ (none_below (λ i. holds_at v t r (at + i)) n (λ i u. none (get_or (v TailTransaction) (at + i) 0) (parts (eqb (get_or (v TailRow) (at + i) 0) r) _ u).1)))
@@ -160,7 +161,7 @@ module _ (v : View) (t r slot named kind : ℕ) (is : Bool) (a : named ≡ get_o
       go false b q = refl
 
 -- with no delete of the row, no record ends it
-pub none_ends : (v : View) (t r at n : ℕ) (flag : Bool) → flag ≡ any_below (λ i. deletes_at v r (at + i)) n → not flag ≡ true
+pub none_ends : (v : View) (t r at n : ℕ) (flag : Bool) → flag ≡ any_below (λ i. deletes_at v r (at + i)) n → flag ≡ false
     → false ≡ any_below (λ i. ends_at v t r (at + i)) n
 unfolding ends_at deletes_at
 none_ends v t r at n flag e f =
@@ -174,11 +175,11 @@ none_ends v t r at n flag e f =
         both named kind w.0 (parts kind _ w.1).0
 
 module _ (S : Shape) (v : View) (t r inserter state : ℕ) (flag : Bool) (q : inserter ≡ get_or (v RowTransaction) r 0) (w : state ≡ get_or (v RowState) r 0) (f : flag ≡ stands_for t inserter state) where
-  pub gone_insert : not flag ≡ true → true ≡ gone_in S v t r
+  pub gone_insert : flag ≡ false → true ≡ gone_in S v t r
   unfolding gone_in row_in
   gone_insert e = rw (← q, ← w, ← f, e)
 
-  pub gone_records : (g n : ℕ) (end : Bool) → not flag ≡ false → g ≡ range_of r → n ≡ used_in v g
+  pub gone_records : (g n : ℕ) (end : Bool) → flag ≡ true → g ≡ range_of r → n ≡ used_in v g
       → end ≡ any_below (λ i. ends_at v t r (g * S.capacity + i)) n → end ≡ gone_in S v t r
   unfolding gone_in row_in record_in ends_at deletes_at
   gone_records g n end e a b h = h ∙ rw (b, a, ← q, ← w, ← f, e)

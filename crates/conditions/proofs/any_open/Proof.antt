@@ -15,11 +15,11 @@ use Rattle.conditions.proofs.Records.{no_turn, one_turn, turned, among_is}
 use Rattle.conditions.proofs.any_open.Statement.{statement}
 use Rattle.conditions.proofs.any_open.Tie as tie
 
-abbrev invariant-loop : tie.invariant-loop
+abbrev invariant-loop : tie.invariant-loop-k
 invariant-loop mem s g n at flag₀ k₀ flag k =
     (k ≤ n) × (flag ≡ any_below (λ i. open_in (view_of s mem) (get_or (view_of s mem TailTransaction) (at + i) 0)) k)
 
-abbrev decreases-loop : tie.decreases-loop
+abbrev decreases-loop : tie.decreases-loop-k
 decreases-loop mem s g n at flag₀ k₀ flag k = n - k
 
 inside : (c : tie.Start invariant-loop decreases-loop) → let a = c.args in
@@ -28,11 +28,11 @@ inside c =
     let proper = c.requires.1.0 in
     (stretch_in _ proper _ _ c.requires.1.1.0 c.requires.1.1.1, slots_few _ proper)
 
-loop-again : tie.Need-loop-preserved invariant-loop decreases-loop
+loop-again : tie.Need-loop-k-preserved invariant-loop decreases-loop
 loop-again c =
-    let head : tie.At-loop invariant-loop decreases-loop = search in
+    let head : tie.At-loop-k invariant-loop decreases-loop = search in
     let maker : tie.After-read invariant-loop decreases-loop = search in
-    (omega arith, one_turn _ _ _ _ _ head.loop.inv.1 (c.before.is_open.ensures ∙ rw maker.read.ensures) c.either.ensures)
+    (omega arith, one_turn _ _ _ _ _ head.loop-k.invariant.1 (c.is_open.ensures ∙ rw maker.read.ensures) c.either-flag.ensures)
 
 pub any_open_spec : {M : Type 1} → statement M
 any_open_spec =
@@ -50,4 +50,4 @@ any_open_spec =
     (λ c. omega arith)
     (λ c. omega arith)
     loop-again
-    (λ c. among_is _ _ _ _ _ (turned _ _ _ _ c.before.loop.invariant.1 (omega arith) (omega arith))))
+    (λ c. among_is _ _ _ _ _ (turned _ _ _ _ c.loop-k.invariant.1 (omega arith) (omega arith))))

@@ -9,7 +9,7 @@ pub bad_mask_spec : {M : Type 1} → statement M
 bad_mask_spec =
     tie.close
     (tie.spec
-    (λ c. rw (eq-eqb _ _ c.if1.true))
+    (λ c. rw (eq-eqb _ _ c.if-mask-eq0.true))
     (λ c. search rules)
     (λ c. search rules)
-    (λ c. high_bits _ _ c.if1.false))
+    (λ c. high_bits _ _ c.if-mask-eq0.false))

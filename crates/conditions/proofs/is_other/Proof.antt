@@ -6,4 +6,4 @@ use Rattle.conditions.proofs.is_other.Tie as tie
 
 pub is_other_spec : {M : Type 1} → statement M
 unfolding is_other
-is_other_spec = tie.close (tie.spec (λ c. rw (eq-eqb _ _ c.if1.true)) (λ c. rw (ne_eqb _ _ c.if1.false)))
+is_other_spec = tie.close (tie.spec (λ c. rw (eq-eqb _ _ c.if-number-eq0.true)) (λ c. rw (ne_eqb _ _ c.if-number-eq0.false)))

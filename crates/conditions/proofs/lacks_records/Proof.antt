@@ -10,4 +10,4 @@ lacks_records_spec =
     (λ c κs. search rules)
     (λ c. search rules)
     (λ c. search rules)
-    (λ c. rw c.before.read.ensures))
+    (λ c. rw c.read-used.ensures))

@@ -4,11 +4,11 @@ use borrow.Author.Rules.{rules}
 use Rattle.conditions.proofs.open_index.Statement.{statement}
 use Rattle.conditions.proofs.open_index.Tie as tie
 
-returns-2 : tie.Need-returns-2
+returns-2 : tie.Need-returns
 returns-2 c =
     let start : tie.Start = search in
-    let found = open_found _ c.before.if1.false _ _ _ start.pre c.find-in.ensures in
+    let found = open_found _ c.if-number-eq0.false _ _ _ start.requires c.find_in.ensures in
     (found.0, found.1)
 
 pub open_index_spec : {M : Type 1} → statement M
-open_index_spec = tie.close (tie.spec (λ c. (open_none _ _ _ c.if1.true, tt)) (λ c κs. search rules) returns-2)
+open_index_spec = tie.close (tie.spec (λ c. (open_none _ _ _ c.if-number-eq0.true, tt)) (λ c κs. search rules) returns-2)

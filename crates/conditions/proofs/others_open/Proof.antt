@@ -14,23 +14,23 @@ use Rattle.conditions.proofs.Records.{no_turn, one_turn, turned, found}
 use Rattle.conditions.proofs.others_open.Statement.{statement}
 use Rattle.conditions.proofs.others_open.Tie as tie
 
-abbrev invariant-loop : tie.invariant-loop
+abbrev invariant-loop : tie.invariant-loop-j
 invariant-loop mem s t j₀ j = (j ≤ most_transactions) × (false ≡ any_below (λ i. is_other t.0 (get_or (view_of s mem Opens) i 0)) j)
 
-abbrev decreases-loop : tie.decreases-loop
+abbrev decreases-loop : tie.decreases-loop-j
 decreases-loop mem s t j₀ j = most_transactions - j
 
-returns : tie.Need-returns invariant-loop decreases-loop
+returns : tie.Need-returns-then-is_other invariant-loop decreases-loop
 returns c =
-    let head : tie.At-loop invariant-loop decreases-loop = search in
+    let head : tie.At-loop-j invariant-loop decreases-loop = search in
     let one : tie.After-read invariant-loop decreases-loop = search in
-    found _ _ head.loop.j _ (omega arith) (c.before.is-other.ensures ∙ rw one.read.ensures) c.if1.true
+    found _ _ head.loop-j.j _ (omega arith) (c.is_other.ensures ∙ rw one.read.ensures) c.if-is_other.true
 
-loop-again : tie.Need-loop-preserved invariant-loop decreases-loop
+loop-again : tie.Need-loop-j-preserved invariant-loop decreases-loop
 loop-again c =
-    let head : tie.At-loop invariant-loop decreases-loop = search in
+    let head : tie.At-loop-j invariant-loop decreases-loop = search in
     let one : tie.After-read invariant-loop decreases-loop = search in
-    (omega arith, one_turn _ _ _ _ _ head.loop.inv.1 (c.before.is-other.ensures ∙ rw one.read.ensures) (sym c.if1.false))
+    (omega arith, one_turn _ _ _ _ _ head.loop-j.invariant.1 (c.is_other.ensures ∙ rw one.read.ensures) (sym c.if-is_other.false))
 
 pub others_open_spec : {M : Type 1} → statement M
 others_open_spec =
@@ -45,4 +45,4 @@ others_open_spec =
     (λ c. omega arith)
     (λ c. omega arith)
     loop-again
-    (λ c. turned _ _ _ _ c.before.loop.invariant.1 (omega arith) (omega arith)))
+    (λ c. turned _ _ _ _ c.loop-j.invariant.1 (omega arith) (omega arith)))

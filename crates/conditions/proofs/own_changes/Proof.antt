@@ -8,9 +8,8 @@ use Rattle.conditions.proofs.own_changes.Tie as tie
 returns : tie.Need-returns
 unfolding own_changes
 returns c =
-    let asked = c.before in
     let start : tie.Start = search in
-    λ t e. rw (c.owner.ensures, asked.pending-at.ensures, number_there _ _ t _ start.pre.0 (record { low = start.pre.1; found = e }), e)
+    λ t e. rw (c.owner.ensures, c.pending_at.ensures, number_there _ _ t _ start.requires.0 (record { low = start.requires.1; found = e }), e)
 
 pub own_changes_spec : {M : Type 1} → statement M
 own_changes_spec = tie.close (tie.spec (λ c κs. search rules) (λ c κs. search rules) returns)

@@ -25,7 +25,7 @@ loop-holds c = (omega arith, record { bytes = refl; ends = omega arith }, omega 
 loop-again : tie.Need-loop-preserved invariant-loop decreases-loop
 loop-again c =
     let head : tie.At-loop invariant-loop decreases-loop = search in
-    let stamps = head.before.args.t3 in (
+    let stamps = head.before.args.stamps in (
       omega arith,
       rw (fields_next stamps head.loop.i (omega arith)) at (joined head.loop.inv.1 c.put-natural.ensures.0),
       omega arith,

@@ -5,7 +5,7 @@ use Prim.Native.Nat.{ℕ, ◌+◌, ◌*◌, ◌%◌, ◌<◌}
 use mir.Syntax.{w32, w64}
 use mir.Val.{Fits}
 use Rattle.terms.specs.Measures.{range_rows}
-use Rattle.rows.proofs.Indices.{pages_few, values_few, value_in}
+use Rattle.rows.proofs.Indices.{pages_few, values_few, value_in_lem}
 use Rattle.merging.proofs.Pass.{one_applied, one_skipped}
 use Rattle.merging.proofs.apply_one.Statement.{statement}
 use Rattle.merging.proofs.apply_one.Tie as tie
@@ -18,26 +18,26 @@ inside : (c : tie.Start)
     × ((r : ℕ) → Fits w64 (a.page * range_rows + r % range_rows) × (a.page * range_rows + r % range_rows < a.s.pages * range_rows))
 inside c =
     let p = c.requires.1.0 in
-    let i = value_in _ p _ _ c.requires.1.1.0 c.requires.1.1.1 in
+    let i = value_in_lem _ p _ _ c.requires.1.1.0 c.requires.1.1.1 in
     let values = values_few _ p in
     let pages = pages_few _ p in
     (omega (arith, p.columns_to), omega arith, omega arith, i, omega arith, λ r. (omega arith, omega arith))
 
-returns : tie.Need-returns
+returns : tie.Need-returns-then-is_applied
 returns c =
     let wrote : tie.After-write = search in
-    let value : tie.After-read3 = search in
-    let row : tie.After-read2 = search in
+    let value : tie.After-read-w = search in
+    let row : tie.After-read-then-is_applied = search in
     let stamp : tie.After-read = search in
-    let taken : tie.Then1 = search in
-    one_applied _ _ _ _ _ _ _ taken.before.is-applied.ensures _ _ _ _ _ taken.if1.taken stamp.read.ensures row.read2.ensures value.read3.ensures c.later-stamp.ensures wrote.write.ensures
+    let taken : tie.Then-is_applied = search in
+    one_applied _ _ _ _ _ _ _ taken.is_applied.ensures _ _ _ _ _ taken.if-is_applied.true stamp.read.ensures row.read-then-is_applied.ensures value.read-w.ensures c.later_stamp.ensures wrote.write.ensures
 
 pub apply_one_spec : {M : Type 1} → statement M
 apply_one_spec =
     tie.close
     (tie.spec
     (λ c. (inside (search)).0)
-    (λ c κs. let start : tie.Start = search in (search, (search, omega (arith, start.pre.1.0.columns_to))))
+    (λ c κs. let start : tie.Start = search in (search, (search, omega (arith, start.requires.1.0.columns_to))))
     (λ c κs. search rules)
     (λ c κs. search rules)
     (λ c. (inside (search)).1)
@@ -51,4 +51,4 @@ apply_one_spec =
     (λ c. search rules)
     returns
     (λ c. search rules)
-    (λ c. one_skipped _ _ _ _ _ _ _ c.before.is-applied.ensures c.if1.false))
+    (λ c. one_skipped _ _ _ _ _ _ _ c.is_applied.ensures c.if-is_applied.false))

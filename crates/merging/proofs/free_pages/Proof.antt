@@ -11,28 +11,28 @@ use Rattle.merging.proofs.Freeing.{freed_none, freed_next, freed_end, count_next
 use Rattle.merging.proofs.free_pages.Statement.{statement}
 use Rattle.merging.proofs.free_pages.Tie as tie
 
-abbrev invariant-loop : tie.invariant-loop
+abbrev invariant-loop : tie.invariant-loop-p
 invariant-loop mem₀ s least pages n₀ p₀ mem n p =
     (p ≤ pages) × (length mem ≡ length mem₀) × (n ≡ count_below (freeable least (view_of s mem₀)) p)
     × (view_of s mem ≡ freeables_freed least p (view_of s mem₀))
 
-abbrev decreases-loop : tie.decreases-loop
+abbrev decreases-loop : tie.decreases-loop-p
 decreases-loop mem₀ s least pages n₀ p₀ mem n p = pages - p
 
-free-one-requires : tie.Need-free-one-requires invariant-loop decreases-loop
+free-one-requires : tie.Need-free_one-n-requires invariant-loop decreases-loop
 free-one-requires c κs =
-    let head : tie.At-loop invariant-loop decreases-loop = search in
+    let head : tie.At-loop-p invariant-loop decreases-loop = search in
     let start : tie.Start invariant-loop decreases-loop = search in
     let a = start.args in
-    let few = count_most a.least (view_of a.s a.mem.now) head.loop.p in
-    (omega arith, (omega arith, omega (arith, head.loop.inv.2, few, pages_few _ start.pre.1)))
+    let few = count_most a.least (view_of a.s a.mem-1.now) head.loop-p.p in
+    (omega arith, (omega arith, omega (arith, head.loop-p.invariant.2, few, pages_few _ start.requires.1)))
 
-loop-again : tie.Need-loop-preserved invariant-loop decreases-loop
+loop-again : tie.Need-loop-p-preserved invariant-loop decreases-loop
 loop-again c =
-    let freed : tie.After-free-one invariant-loop decreases-loop = search in
-    let head : tie.At-loop invariant-loop decreases-loop = search in
-    let done = freed.free_one.ensures in
-    let inv = head.loop.inv in
+    let freed : tie.After-free_one-n invariant-loop decreases-loop = search in
+    let head : tie.At-loop-p invariant-loop decreases-loop = search in
+    let done = freed.free_one-n.ensures in
+    let inv = head.loop-p.invariant in
     (omega arith, omega arith, count_next _ _ _ _ _ _ inv.3 inv.2 done.0, freed_next _ _ _ _ _ inv.3 done.1)
 
 pub free_pages_spec : {M : Type 1} → statement M
@@ -47,4 +47,4 @@ free_pages_spec =
     (λ c. omega arith)
     loop-again
     (λ c. omega arith)
-    (λ c. freed_end _ _ c.before.before.before.args.s.pages _ _ _ c.before.loop.invariant.3 c.before.loop.invariant.2 (omega arith) (omega arith)))
+    (λ c. freed_end _ _ c.args.s.pages _ _ _ c.loop-p.invariant.3 c.loop-p.invariant.2 (omega arith) (omega arith)))

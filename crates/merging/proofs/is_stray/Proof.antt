@@ -16,9 +16,9 @@ is_stray_spec =
     (λ c κs. search rules)
     (λ c. search rules)
     (λ c.
-    let inside : tie.Else2 = search in
-    let chunk : tie.After-read2 = search in
-    let current : tie.Else1 = search in
+    let inside : tie.Else-chunk-s = search in
+    let chunk : tie.After-read-chunk = search in
+    let current : tie.Else-read-ne-PAGE_CURRENT = search in
     let state : tie.After-read = search in
     let start : tie.Start = search in
-    stray_other _ _ start.pre.1.0 _ _ state.read.ensures current.if1.left _ chunk.read2.ensures _ inside.if2.left c.read3.ensures))
+    stray_other _ _ start.requires.1.0 _ _ state.read.ensures current.if-read-ne-PAGE_CURRENT.false _ chunk.read-chunk.ensures _ inside.if-chunk-s.false c.read-2.ensures))

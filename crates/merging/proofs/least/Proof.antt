@@ -8,10 +8,10 @@ use Rattle.merging.proofs.Freeing.{least_none, least_next, least_end}
 use Rattle.merging.proofs.least.Statement.{statement}
 use Rattle.merging.proofs.least.Tie as tie
 
-abbrev invariant-loop : tie.invariant-loop
+abbrev invariant-loop : tie.invariant-loop-i
 invariant-loop n counts r₀ i₀ r i = (i ≤ n) × (r ≡ least_of counts i)
 
-abbrev decreases-loop : tie.decreases-loop
+abbrev decreases-loop : tie.decreases-loop-i
 decreases-loop n counts r₀ i₀ r i = n - i
 
 pub least_spec : {M : Type 1} → statement M
@@ -26,5 +26,5 @@ least_spec =
     (λ c κs. search rules)
     (λ c. omega arith)
     (λ c. omega arith)
-    (λ c. (omega arith, least_next _ _ _ _ c.before.before.loop.invariant.1 c.select.ensures))
-    (λ c. least_end _ _ _ _ c.before.loop.invariant.1 (omega arith) (omega arith)))
+    (λ c. (omega arith, least_next _ _ _ _ c.loop-i.invariant.1 c.select-r.ensures))
+    (λ c. least_end _ _ _ _ c.loop-i.invariant.1 (omega arith) (omega arith)))

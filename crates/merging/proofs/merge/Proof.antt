@@ -28,54 +28,54 @@ inside c =
     (i, omega arith, omega arith, omega arith, omega arith, omega arith)
 
 -- where the function begins; and the read of the current page, from the point before the new page's words are put and from that before it is replaced
-abbrev start : tie.After-read → tie.Start
+abbrev start : tie.After-read-old → tie.Start
 start c = search
 
-abbrev old : tie.After-put-page-arg → tie.After-read
-old c = let pass : tie.After-apply = search in let number : tie.After-next-word = search in search
+abbrev old : tie.After-put_page-arg-1 → tie.After-read-old
+old c = let pass : tie.After-apply-latest = search in let number : tie.After-next_word-m = search in search
 
-abbrev replaced : tie.After-replace-page-arg → tie.After-read
-replaced c = let page : tie.After-put-page = search in old page.before
+abbrev replaced : tie.After-replace_page-arg-1 → tie.After-read-old
+replaced c = let page : tie.After-put_page = search in old page.before
 
 -- the current page is one of the pool, and not the free one
-pool : (c : tie.After-read) → c.read.result < (start c).args.s.pages
+pool : (c : tie.After-read-old) → c.read-old.result < (start c).args.s.pages
 pool c =
     let s = start c in
-    omega (arith, c.read.ensures, s.pre.1.0.1 (s.args.g * s.args.s.columns + s.args.c) (inside s).0)
+    omega (arith, c.read-old.ensures, s.requires.1.0.1 (s.args.g * s.args.s.columns + s.args.c) (inside s).0)
 
-other : (c : tie.After-read) → c.read.result ≡ (start c).args.page → ⊥
-other c = let s = start c in not_free _ _ _ _ _ _ _ s.pre.1.0.0 s.pre.1.1 c.read.ensures
+other : (c : tie.After-read-old) → c.read-old.result ≡ (start c).args.page → ⊥
+other c = let s = start c in not_free _ _ _ _ _ _ _ s.requires.1.0.0 s.requires.1.1 c.read-old.ensures
 
 -- its lineage is at most the record merged through
-reach : (c : tie.After-read2) → c.read2.result ≤ (start c.before).args.n.0
-reach c = reaches _ _ _ _ _ _ _ _ (start c.before).requires.1.1 c.before.read.ensures c.read2.ensures
+reach : (c : tie.After-read) → c.read.result ≤ (start c.before).args.n.0
+reach c = reaches _ _ _ _ _ _ _ _ (start c.before).requires.1.1 c.read-old.ensures c.read.ensures
 
-copy-in-requires : tie.Need-copy-in-requires
+copy-in-requires : tie.Need-copy_in-requires
 copy-in-requires c κs =
-    let page : tie.After-read = search in
+    let page : tie.After-read-old = search in
     let s : tie.Start = search in
-    (s.pre.0, ((omega (arith, pool page), omega (arith, s.pre.1.1.page_below)), apart _ _ (other page)))
+    (s.requires.0, ((omega (arith, pool page), omega (arith, s.requires.1.1.page_below)), apart _ _ (other page)))
 
-apply-requires : tie.Need-apply-requires
+apply-requires : tie.Need-apply-latest-requires
 apply-requires c κs =
-    let low : tie.After-read2 = search in
+    let low : tie.After-read = search in
     let s : tie.Start = search in
-    let m = s.pre.1.1 in
-    (omega arith, (s.pre.1.0.0, (m.range_below, m.column_below, m.page_below, omega (arith, reach low, m.to))))
+    let m = s.requires.1.1 in
+    (omega arith, (s.requires.1.0.0, (m.range_below, m.column_below, m.page_below, omega (arith, reach low, m.to))))
 
 returns : tie.Need-returns
 returns c =
-    let done : tie.After-replace-page = search in
-    let page : tie.After-put-page = search in
-    let pass : tie.After-apply = search in
-    let copy : tie.After-copy-in = search in
-    let number : tie.After-next-word = search in
-    let merges : tie.After-read4 = search in
-    let newest : tie.After-read3 = search in
-    let low : tie.After-read2 = search in
-    let current : tie.After-read = search in
-    merged_is _ _ _ _ _ _ _ _ _ _ _ _ _ _ _ (start current).pre.1.1.free current.read.ensures low.read2.ensures newest.read3.ensures (number.next_word.ensures ∙ ap next_word merges.read4.ensures)
-    copy.copy-in.ensures pass.apply.ensures.0 pass.apply.ensures.1 page.put-page.ensures done.replace-page.ensures
+    let done : tie.After-replace_page = search in
+    let page : tie.After-put_page = search in
+    let pass : tie.After-apply-latest = search in
+    let copy : tie.After-copy_in = search in
+    let number : tie.After-next_word-m = search in
+    let merges : tie.After-read-3 = search in
+    let newest : tie.After-read-2 = search in
+    let low : tie.After-read = search in
+    let current : tie.After-read-old = search in
+    merged_is _ _ _ _ _ _ _ _ _ _ _ _ _ _ _ (start current).requires.1.1.free current.read-old.ensures low.read.ensures newest.read-2.ensures (number.next_word-m.ensures ∙ ap next_word merges.read-3.ensures)
+    copy.copy_in.ensures pass.apply-latest.ensures.0 pass.apply-latest.ensures.1 page.put_page.ensures done.replace_page.ensures
 
 pub merge_spec : {M : Type 1} → statement M
 merge_spec =

@@ -7,12 +7,7 @@ use Rattle.merging.proofs.put_page.Tie as tie
 returns : tie.Need-returns
 unfolding page_put
 returns c =
-    let write5 = c.before.before in
-    let write4 = write5.before.before.before.before in
-    let write3 = write4.before.before.before.before in
-    let write2 = write3.before.before.before.before in
-    let write = write2.before.before.before.before in
-    rw (write5.write5.ensures, write4.write4.ensures, write3.write3.ensures, write2.write2.ensures, write.write.ensures)
+    rw (c.write-5.ensures, c.write-4.ensures, c.write-3.ensures, c.write-2.ensures, c.write.ensures)
 
 pub put_page_spec : {M : Type 1} → statement M
 put_page_spec =

@@ -12,11 +12,11 @@ use Rattle.merging.proofs.Pass.{stray_here, stray_later, stray_none}
 use Rattle.merging.proofs.stray_page.Statement.{statement}
 use Rattle.merging.proofs.stray_page.Tie as tie
 
-abbrev invariant-loop : tie.invariant-loop
+abbrev invariant-loop : tie.invariant-loop-p
 invariant-loop mem s pages p₀ p =
     (p ≤ pages) × (first_from (stray_in (shape_in s) (view_of s mem)) pages 0 ≡ first_from (stray_in (shape_in s) (view_of s mem)) (pages - p) p)
 
-abbrev decreases-loop : tie.decreases-loop
+abbrev decreases-loop : tie.decreases-loop-p
 decreases-loop mem s pages p₀ p = pages - p
 
 pub stray_page_spec : {M : Type 1} → statement M

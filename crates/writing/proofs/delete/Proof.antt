@@ -11,12 +11,12 @@ use Rattle.writing.proofs.delete.Tie as tie
 returns : tie.Need-returns
 unfolding range_of
 returns c =
-    let used : tie.After-read = search in
-    let at : tie.After-pending-at = search in
+    let used : tie.After-read-used = search in
+    let at : tie.After-pending_at = search in
     let noted : tie.After-note = search in
     let made : tie.After-append = search in
     let start : tie.Start = search in
-    (rw used.read.ensures, deleted_is _ _ _ _ start.pre.1.1.0 _ _ _ _ (ap (λ p. p.keeper) at.pending-at.ensures) made.append.ensures noted.note.ensures)
+    (rw used.read-used.ensures, deleted_is _ _ _ _ start.requires.1.1.0 _ _ _ _ (ap (λ p. p.keeper) at.pending_at.ensures) made.append.ensures noted.note.ensures)
 
 pub delete_spec : {M : Type 1} → statement M
 unfolding range_of
@@ -24,7 +24,7 @@ delete_spec =
     tie.close
     (tie.spec
     (λ c. search rules)
-    (λ c κs. (omega arith, range_in _ c.before.before.before.requires.1.0 _ c.before.before.before.requires.1.1.1.row-Below))
+    (λ c κs. (omega arith, range_in _ c.requires.1.0 _ c.requires.1.1.1.row-Below))
     (λ c κs. search rules)
     (λ c κs. search rules)
     (λ c κs. search rules)

@@ -13,31 +13,31 @@ use Rattle.writing.proofs.Steps.{fillsTo, fills_none, fills_next, fills_all, fil
 use Rattle.writing.proofs.fill_cells.Statement.{statement}
 use Rattle.writing.proofs.fill_cells.Tie as tie
 
-abbrev invariant-loop : tie.invariant-loop
+abbrev invariant-loop : tie.invariant-loop-c
 invariant-loop mem₀ s g i columns to first c₀ mem c =
     (c ≤ columns) × (length mem ≡ length mem₀) × (view_of s mem ≡ fillsTo (shape_in s) (cell_words (shape_in s) (view_of s mem₀) g i) to (view_of s mem₀) c)
 
-abbrev decreases-loop : tie.decreases-loop
+abbrev decreases-loop : tie.decreases-loop-c
 decreases-loop mem₀ s g i columns to first c₀ mem c = columns - c
 
 -- the range's chunks lie among the chunks
 inside : (c : tie.Start invariant-loop decreases-loop) → let a = c.args in (a.g * a.s.columns + a.s.columns ≤ a.s.chunks) × (a.s.chunks + a.s.values ≤ need a.s)
 inside c = let a = c.args in (chunks_in a.s c.requires.1.0.0 a.g c.requires.1.1.0.range_below, omega (arith, sizes_need a.s))
 
-cell-word-requires : tie.Need-cell-word-requires invariant-loop decreases-loop
+cell-word-requires : tie.Need-cell_word-w-requires invariant-loop decreases-loop
 cell-word-requires c κs =
-    let head : tie.At-loop invariant-loop decreases-loop = search in
+    let head : tie.At-loop-c invariant-loop decreases-loop = search in
     let s : tie.Start invariant-loop decreases-loop = search in
-    let e = fills_current _ _ _ _ _ _ head.loop.inv.2 in
-    (omega arith, (omega (arith, inside s), s.pre.1.1.1, rw e (s.pre.1.0.1 _ (omega (arith, inside s)))))
+    let e = fills_current _ _ _ _ _ _ head.loop-c.invariant.2 in
+    (omega arith, (omega (arith, inside s), s.requires.1.1.1, rw e (s.requires.1.0.1 _ (omega (arith, inside s)))))
 
-loop-again : tie.Need-loop-preserved invariant-loop decreases-loop
+loop-again : tie.Need-loop-c-preserved invariant-loop decreases-loop
 loop-again c =
     let wrote : tie.After-write invariant-loop decreases-loop = search in
-    let word : tie.After-cell-word invariant-loop decreases-loop = search in
-    let head : tie.At-loop invariant-loop decreases-loop = search in
-    let e = head.loop.inv.2 in
-    (omega arith, omega arith, fills_next _ _ _ _ _ _ _ _ e (fills_cell _ _ _ _ _ _ _ _ e word.cell-word.ensures) wrote.write.ensures)
+    let word : tie.After-cell_word-w invariant-loop decreases-loop = search in
+    let head : tie.At-loop-c invariant-loop decreases-loop = search in
+    let e = head.loop-c.invariant.2 in
+    (omega arith, omega arith, fills_next _ _ _ _ _ _ _ _ e (fills_cell _ _ _ _ _ _ _ _ e word.cell_word-w.ensures) wrote.write.ensures)
 
 pub fill_cells_spec : {M : Type 1} → statement M
 fill_cells_spec =

@@ -15,25 +15,25 @@ use Rattle.writing.proofs.Steps.{fillsTo, fills_none, fills_next, fills_all, wor
 use Rattle.writing.proofs.fill_values.Statement.{statement}
 use Rattle.writing.proofs.fill_values.Tie as tie
 
-abbrev invariant-loop : tie.invariant-loop
+abbrev invariant-loop : tie.invariant-loop-c
 invariant-loop mem₀ s g vs columns to c₀ mem c =
     (c ≤ columns) × (length mem ≡ length mem₀) × (view_of s mem ≡ fillsTo (shape_in s) (value_words vs) to (view_of s mem₀) c)
 
-abbrev decreases-loop : tie.decreases-loop
+abbrev decreases-loop : tie.decreases-loop-c
 decreases-loop mem₀ s g vs columns to c₀ mem c = columns - c
 
 -- the columns are few, and the values are among the words needed
 inside : (c : tie.Start invariant-loop decreases-loop) → (c.args.s.columns ≤ most_columns) × (c.args.s.values ≤ need c.args.s)
 inside c = (c.requires.1.0.columns_to, omega (arith, sizes_need c.args.s))
 
-loop-again : tie.Need-loop-preserved invariant-loop decreases-loop
+loop-again : tie.Need-loop-c-preserved invariant-loop decreases-loop
 loop-again c =
     let wrote : tie.After-write invariant-loop decreases-loop = search in
-    let word : tie.After-to-word invariant-loop decreases-loop = search in
-    let head : tie.At-loop invariant-loop decreases-loop = search in
+    let word : tie.After-to_word invariant-loop decreases-loop = search in
+    let head : tie.At-loop-c invariant-loop decreases-loop = search in
     let start : tie.Start invariant-loop decreases-loop = search in
-    let turn = head.loop in
-    (omega arith, omega arith, fills_next _ _ _ _ _ _ _ _ turn.inv.2 (word_of (get_or start.args.t4 turn.c (pos 0)) _ word.to_word.ensures word.before.to-word-arg.given) wrote.write.ensures)
+    let turn = head.loop-c in
+    (omega arith, omega arith, fills_next _ _ _ _ _ _ _ _ turn.inv.2 (word_of (get_or start.args.vs turn.c (pos 0)) _ word.to_word.ensures word.to_word-arg-1.given) wrote.write.ensures)
 
 pub fill_values_spec : {M : Type 1} → statement M
 fill_values_spec =

@@ -8,15 +8,15 @@ use Rattle.writing.proofs.newest_values.Statement.{statement}
 use Rattle.writing.proofs.newest_values.Tie as tie
 
 -- the newest record lies among the slots, and its values among the values
-inside : (c : tie.After-read) → let a = c.before.before.args in
-    let k = a.g * a.s.capacity + (c.read.result - 1) in
+inside : (c : tie.After-read-used) → let a = c.args in
+    let k = a.g * a.s.capacity + (c.read-used.result - 1) in
     (a.g * a.s.capacity + a.s.capacity ≤ a.s.slots) × (k * a.s.columns + a.s.columns ≤ a.s.values) × (a.s.slots + a.s.values ≤ need a.s)
 inside c =
     let start : tie.Start = search in
     let a = start.args in
-    let p = start.pre.1.0 in
-    let h = tail_in a.s p a.g start.pre.1.1.range_below in
-    (h, values_in_lem a.s p _ (omega (arith, h, c.read.ensures, start.pre.1.1.some, start.pre.1.1.most)), omega (arith, sizes_need a.s))
+    let p = start.requires.1.0 in
+    let h = tail_in a.s p a.g start.requires.1.1.range_below in
+    (h, values_in_lem a.s p _ (omega (arith, h, c.read-used.ensures, start.requires.1.1.some, start.requires.1.1.most)), omega (arith, sizes_need a.s))
 
 pub newest_values_spec : {M : Type 1} → statement M
 unfolding slot
@@ -29,4 +29,4 @@ newest_values_spec =
     (λ c. search rules)
     (λ c. omega (arith, inside search))
     (λ c. omega (arith, inside search))
-    (λ c. let read : tie.After-read = search in (rw read.read.ensures, (inside read).1)))
+    (λ c. let read : tie.After-read-used = search in (rw read.read-used.ensures, (inside read).1)))

@@ -14,32 +14,32 @@ use Rattle.writing.proofs.Steps.{cellsTo, cells_none, cells_current, cells_next,
 use Rattle.writing.proofs.put_cells.Statement.{statement}
 use Rattle.writing.proofs.put_cells.Tie as tie
 
-abbrev invariant-loop : tie.invariant-loop
+abbrev invariant-loop : tie.invariant-loop-c
 invariant-loop mem₀ s g i vs columns first c₀ mem c =
     (c ≤ columns) × (length mem ≡ length mem₀) × (view_of s mem ≡ cellsTo (shape_in s) g i vs (view_of s mem₀) c)
 
-abbrev decreases-loop : tie.decreases-loop
+abbrev decreases-loop : tie.decreases-loop-c
 decreases-loop mem₀ s g i vs columns first c₀ mem c = columns - c
 
 -- the range's chunks lie among the chunks
 inside : (c : tie.Start invariant-loop decreases-loop) → let a = c.args in (a.g * a.s.columns + a.s.columns ≤ a.s.chunks) × (a.s.chunks ≤ need a.s) × (a.s.columns ≤ most_columns)
 inside c = let a = c.args in (chunks_in a.s c.requires.1.0.0 a.g c.requires.1.1.0, omega (arith, sizes_need a.s), c.requires.1.0.0.columns_to)
 
-put-cell-requires : tie.Need-put-cell-requires invariant-loop decreases-loop
+put-cell-requires : tie.Need-put_cell-requires invariant-loop decreases-loop
 put-cell-requires c κs =
-    let head : tie.At-loop invariant-loop decreases-loop = search in
+    let head : tie.At-loop-c invariant-loop decreases-loop = search in
     let start : tie.Start invariant-loop decreases-loop = search in
-    let e = cells_current _ _ _ _ _ _ _ head.loop.inv.2 in
-    (omega arith, (omega (arith, inside start), start.pre.1.1.1, rw e (start.pre.1.0.1 _ (omega (arith, inside start)))))
+    let e = cells_current _ _ _ _ _ _ _ head.loop-c.invariant.2 in
+    (omega arith, (omega (arith, inside start), start.requires.1.1.1, rw e (start.requires.1.0.1 _ (omega (arith, inside start)))))
 
-loop-again : tie.Need-loop-preserved invariant-loop decreases-loop
+loop-again : tie.Need-loop-c-preserved invariant-loop decreases-loop
 loop-again c =
-    let put : tie.After-put-cell invariant-loop decreases-loop = search in
-    let word : tie.After-to-word invariant-loop decreases-loop = search in
-    let head : tie.At-loop invariant-loop decreases-loop = search in
+    let put : tie.After-put_cell invariant-loop decreases-loop = search in
+    let word : tie.After-to_word invariant-loop decreases-loop = search in
+    let head : tie.At-loop-c invariant-loop decreases-loop = search in
     let start : tie.Start invariant-loop decreases-loop = search in
-    let turn = head.loop in
-    (omega arith, omega arith, cells_next _ _ _ _ _ _ _ _ _ turn.inv.2 (word_of (get_or start.args.t5 turn.c (pos 0)) _ word.to_word.ensures word.before.to-word-arg.given) put.put-cell.ensures)
+    let turn = head.loop-c in
+    (omega arith, omega arith, cells_next _ _ _ _ _ _ _ _ _ turn.inv.2 (word_of (get_or start.args.vs turn.c (pos 0)) _ word.to_word.ensures word.to_word-arg-1.given) put.put_cell.ensures)
 
 pub put_cells_spec : {M : Type 1} → statement M
 put_cells_spec =

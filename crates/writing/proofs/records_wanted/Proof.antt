@@ -14,5 +14,5 @@ records_wanted_spec =
     (λ c. search rules)
     (λ c κs. search rules)
     (λ c κs. search rules)
-    (λ c. rw (← c.before.before.read.ensures, ← c.before.new-bits.ensures, eq-eqb _ _ c.if1.true))
-    (λ c. rw (← c.before.before.read.ensures, ← c.before.new-bits.ensures, ne_eqb _ _ c.if1.false)))
+    (λ c. rw (← c.read-old.ensures, ← c.new_bits.ensures, eq-eqb _ _ c.if-new_bits-eq0.true))
+    (λ c. rw (← c.read-old.ensures, ← c.new_bits.ensures, ne_eqb _ _ c.if-new_bits-eq0.false)))

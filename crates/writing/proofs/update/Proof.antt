@@ -17,30 +17,30 @@ unfolding range_of
 returns c =
     let noted : tie.After-note = search in
     let masked : tie.After-write = search in
-    let appended : tie.After-append-records = search in
-    let old : tie.After-read2 = search in
-    let wanted : tie.After-records-wanted = search in
-    let first : tie.After-read = search in
+    let appended : tie.After-append_records = search in
+    let old : tie.After-read-old = search in
+    let wanted : tie.After-records_wanted = search in
+    let first : tie.After-read-used = search in
     let start : tie.Start = search in
-    let at : tie.After-pending-at = search in
-    (rw (wanted.records-wanted.ensures, first.read.ensures), updated_is _ _ _ _ start.pre.1.1.0 _ _ _ _ _ _ _ _ (ap (λ p. p.keeper) at.pending-at.ensures) old.read2.ensures appended.append-records.ensures masked.write.ensures noted.note.ensures)
+    let at : tie.After-pending_at = search in
+    (rw (wanted.records_wanted.ensures, first.read-used.ensures), updated_is _ _ _ _ start.requires.1.1.0 _ _ _ _ _ _ _ _ (ap (λ p. p.keeper) at.pending_at.ensures) old.read-old.ensures appended.append_records.ensures masked.write.ensures noted.note.ensures)
 
 pub update_spec : {M : Type 1} → statement M
 update_spec =
     tie.close
     (tie.spec
     (λ c. search rules)
-    (λ c κs. let start : tie.Start = search in (omega arith, range_in _ start.pre.1.0.0 _ (row_below start)))
+    (λ c κs. let start : tie.Start = search in (omega arith, range_in _ start.requires.1.0.0 _ (row_below start)))
     (λ c κs. (omega arith, row_below search))
     (λ c.
     let start : tie.Start = search in
-    let first : tie.After-read = search in
-    let wanted : tie.After-records-wanted = search in
-    omega (arith, first.read.ensures, wanted.records-wanted.ensures, start.pre.1.1.1.left, start.pre.1.0.0.capacity_to))
+    let first : tie.After-read-used = search in
+    let wanted : tie.After-records_wanted = search in
+    omega (arith, first.read-used.ensures, wanted.records_wanted.ensures, start.requires.1.1.1.left, start.requires.1.0.0.capacity_to))
     (λ c κs. (omega arith, row_below search))
     (λ c κs. search rules)
     (λ c κs. (omega arith, (search, search)))
     (λ c κs. (omega arith, row_below search))
-    (λ c κs. let start : tie.Start = search in (omega arith, start.pre.1.1.0.low))
+    (λ c κs. let start : tie.Start = search in (omega arith, start.requires.1.1.0.low))
     (λ c. search rules)
     returns)

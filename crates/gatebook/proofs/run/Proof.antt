@@ -92,7 +92,7 @@ round-requires c κs =
     let head : tie.At-loop invariant-loop decreases-loop = search in
     let start : tie.Start invariant-loop decreases-loop = search in
     let r = received.receive in
-    (r.ensures.written ∙ head.loop.inv.4, r.ensures.inside, omega (arith, r.kept, head.loop.inv.2, head.loop.inv.3, start.pre.1))
+    (r.ensures.written ∙ head.loop.invariant.4, r.ensures.inside, omega (arith, r.kept, head.loop.invariant.2, head.loop.invariant.3, start.pre.1))
 
 send-requires : tie.Need-send-requires invariant-loop decreases-loop
 send-requires c κs =
@@ -101,7 +101,7 @@ send-requires c κs =
     let test : tie.Then1 invariant-loop decreases-loop = search in
     let start : tie.Start invariant-loop decreases-loop = search in
     let a = rounded.round in
-    (a.ensures.fits, omega (arith, (on test).1, received.receive.ensures.sent, a.ensures.sent), omega (arith, a.kept, test.before.before.loop.inv.3, start.pre.2))
+    (a.ensures.fits, omega (arith, (on test).1, received.receive.ensures.sent, a.ensures.sent), omega (arith, a.kept, test.before.before.loop.invariant.3, start.pre.2))
 
 loop-less : tie.Need-loop-smaller invariant-loop decreases-loop
 loop-less c =
@@ -119,13 +119,13 @@ loop-again c =
     let r = received.receive in
     let a = rounded.round in
     let s = c.send.ensures in (
-      omega (arith, a.kept, l.inv.0),
-      omega (arith, a.kept, l.inv.1),
-      omega (arith, a.kept, r.kept, l.inv.2),
-      omega (arith, a.kept, l.inv.3),
+      omega (arith, a.kept, l.invariant.0),
+      omega (arith, a.kept, l.invariant.1),
+      omega (arith, a.kept, r.kept, l.invariant.2),
+      omega (arith, a.kept, l.invariant.3),
       s.written,
       λ e. goes_with r.ensures a.ensures s e,
-      ran_next _ _ _ l.c r.result a.result c.send.result _ _ _ _ l.inv.6 (l.inv.5 (on test).2).1 r.ensures a.ensures s,
+      ran_next _ _ _ l.c r.result a.result c.send.result _ _ _ _ l.invariant.6 (l.invariant.5 (on test).2).1 r.ensures a.ensures s,
     )
 
 returns : tie.Need-returns invariant-loop decreases-loop

@@ -27,7 +27,7 @@ loop-again c =
     let head : tie.At-loop invariant-loop decreases-loop = search in
     let stamps = head.before.args.stamps in (
       omega arith,
-      rw (fields_next stamps head.loop.i (omega arith)) at (joined head.loop.inv.1 c.put-natural.ensures.0),
+      rw (fields_next stamps head.loop.i (omega arith)) at (joined head.loop.invariant.1 c.put-natural.ensures.0),
       omega arith,
     )
 

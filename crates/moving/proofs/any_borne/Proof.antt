@@ -21,7 +21,7 @@ loop-again : tie.Need-loop-preserved invariant-loop decreases-loop
 loop-again c =
     let head : tie.At-loop invariant-loop decreases-loop = search in
     let word : tie.After-read-later invariant-loop decreases-loop = search in
-    (omega arith, one_turn _ _ _ _ _ head.loop.inv.1 (c.before.bears.ensures ∙ rw word.read-later.ensures) c.either.ensures)
+    (omega arith, one_turn _ _ _ _ _ head.loop.invariant.1 (c.before.bears.ensures ∙ rw word.read-later.ensures) c.either.ensures)
 
 pub any_borne_spec : {M : Type 1} → statement M
 any_borne_spec =

@@ -24,7 +24,7 @@ loop-again c =
     let word : tie.After-read-later invariant-loop decreases-loop = search in
     let bears : tie.After-bears invariant-loop decreases-loop = search in
     let both : tie.After-both invariant-loop decreases-loop = search in
-    (omega arith, one_turn _ _ _ _ _ head.loop.inv.1 (both.both.ensures ∙ rw (bears.bears.ensures, number.read.ensures, word.read-later.ensures)) c.either.ensures)
+    (omega arith, one_turn _ _ _ _ _ head.loop.invariant.1 (both.both.ensures ∙ rw (bears.bears.ensures, number.read.ensures, word.read-later.ensures)) c.either.ensures)
 
 pub opens_borne_spec : {M : Type 1} → statement M
 opens_borne_spec =

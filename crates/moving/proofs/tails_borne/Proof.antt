@@ -35,7 +35,7 @@ loop-again c =
     let used : tie.After-read invariant-loop decreases-loop = search in
     let start : tie.Start invariant-loop decreases-loop = search in
     let s = start.args.s in
-    (omega arith, one_turn _ _ _ _ _ head.loop.inv.1 (tail_is s (view_of s start.args.mem.now) _ _ _ c.before.any-borne.ensures used.read.ensures) c.either.ensures)
+    (omega arith, one_turn _ _ _ _ _ head.loop.invariant.1 (tail_is s (view_of s start.args.mem.now) _ _ _ c.before.any-borne.ensures used.read.ensures) c.either.ensures)
 
 pub tails_borne_spec : {M : Type 1} → statement M
 tails_borne_spec =
@@ -52,4 +52,4 @@ tails_borne_spec =
     (λ c. omega arith)
     (λ c. omega arith)
     loop-again
-    (λ c. let head : tie.At-loop invariant-loop decreases-loop = search in turned _ _ _ _ head.loop.inv.1 (omega arith) (omega arith)))
+    (λ c. let head : tie.At-loop invariant-loop decreases-loop = search in turned _ _ _ _ head.loop.invariant.1 (omega arith) (omega arith)))

@@ -19,20 +19,20 @@ returns : tie.Need-returns invariant-loop decreases-loop
 returns c =
     let head : tie.At-loop invariant-loop decreases-loop = search in
     let e = c.before in
-    walked_stop head.loop.inv.3 e.before.loop-test.true (e.command-end.ensures.nothing c.if1.true)
+    walked_stop head.loop.invariant.3 e.before.loop-test.true (e.command-end.ensures.nothing c.if1.true)
 
 answer-command-requires : tie.Need-answer-command-requires invariant-loop decreases-loop
 answer-command-requires c κs =
     let head : tie.At-loop invariant-loop decreases-loop = search in
     let found : tie.Else1 invariant-loop decreases-loop = search in
-    going_fits head.loop.inv.3 _ found.before.command-end.ensures found.if1.left
+    going_fits head.loop.invariant.3 _ found.before.command-end.ensures found.if1.left
 
 loop-less : tie.Need-loop-smaller invariant-loop decreases-loop
 loop-less c =
     let head : tie.At-loop invariant-loop decreases-loop = search in
     let found : tie.Else1 invariant-loop decreases-loop = search in
     let answered : tie.After-answer-command invariant-loop decreases-loop = search in
-    let f = going_fits head.loop.inv.3 _ found.before.command-end.ensures found.if1.left in
+    let f = going_fits head.loop.invariant.3 _ found.before.command-end.ensures found.if1.left in
     omega (arith, f.0, f.1, answered.answer-command.ensures.taken)
 
 loop-again : tie.Need-loop-preserved invariant-loop decreases-loop
@@ -43,10 +43,10 @@ loop-again c =
     let l = head.loop in
     let a = answered.answer-command in
     let k = a.kept in (
-      omega (arith, l.inv.0),
-      omega (arith, l.inv.1),
-      omega (arith, l.inv.2),
-      going_next l.inv.3 a.result _ _ _ found.before.before.loop-test.taken found.before.command-end.ensures found.if1.left a.ensures (omega arith),
+      omega (arith, l.invariant.0),
+      omega (arith, l.invariant.1),
+      omega (arith, l.invariant.2),
+      going_next l.invariant.3 a.result _ _ _ found.before.before.loop-test.taken found.before.command-end.ensures found.if1.left a.ensures (omega arith),
     )
 
 pub answer_commands_spec : {M : Type 1} → statement M

@@ -18,7 +18,7 @@ inside : (c : tie.After-read-used)
 inside c =
     let s : tie.Start = search in
     let p = s.requires.1.0 in
-    let g = range_in _ p _ s.requires.1.1.row-Below in
+    let g = range_in _ p _ s.requires.1.1.row_below in
     let used : c.read-used.result + 1 ≤ s.args.s.capacity = omega (arith, c.read-used.ensures, s.requires.1.1.left) in
     let room = sizes_need s.args.s in
     (g, omega (arith, tail_in _ p _ g), omega (arith, tail_in _ p _ g), omega (arith, tail_in _ p _ g), omega (arith, p.capacity_to))
@@ -37,7 +37,7 @@ append_spec =
     tie.close
     (tie.spec
     (λ c. search rules)
-    (λ c κs. let start : tie.Start = search in (start.requires.0, range_in _ start.requires.1.0 _ start.requires.1.1.row-Below))
+    (λ c κs. let start : tie.Start = search in (start.requires.0, range_in _ start.requires.1.0 _ start.requires.1.1.row_below))
     (λ c κs. search rules)
     (λ c. (inside (search)).1)
     (λ c. search rules)

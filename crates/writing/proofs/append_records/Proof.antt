@@ -19,7 +19,7 @@ append_records_spec =
     tie.close
     (tie.spec
     (λ c. search rules)
-    (λ c κs. let start : tie.Start = search in (omega arith, start.requires.1.1.row-Below))
+    (λ c κs. let start : tie.Start = search in (omega arith, start.requires.1.1.row_below))
     (λ c κs. search rules)
     (λ c κs. (omega arith, (search, search room_one)))
     append-setting-requires

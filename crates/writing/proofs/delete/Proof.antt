@@ -24,7 +24,7 @@ delete_spec =
     tie.close
     (tie.spec
     (λ c. search rules)
-    (λ c κs. (omega arith, range_in _ c.requires.1.0 _ c.requires.1.1.1.row-Below))
+    (λ c κs. (omega arith, range_in _ c.requires.1.0 _ c.requires.1.1.1.row_below))
     (λ c κs. search rules)
     (λ c κs. search rules)
     (λ c κs. search rules)

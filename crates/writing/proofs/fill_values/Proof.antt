@@ -33,7 +33,7 @@ loop-again c =
     let head : tie.At-loop-c invariant-loop decreases-loop = search in
     let start : tie.Start invariant-loop decreases-loop = search in
     let turn = head.loop-c in
-    (omega arith, omega arith, fills_next _ _ _ _ _ _ _ _ turn.inv.2 (word_of (get_or start.args.vs turn.c (pos 0)) _ word.to_word.ensures word.to_word-arg-1.given) wrote.write.ensures)
+    (omega arith, omega arith, fills_next _ _ _ _ _ _ _ _ turn.invariant.2 (word_of (get_or start.args.vs turn.c (pos 0)) _ word.to_word.ensures word.to_word-arg-1.given) wrote.write.ensures)
 
 pub fill_values_spec : {M : Type 1} → statement M
 fill_values_spec =

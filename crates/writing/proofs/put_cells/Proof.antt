@@ -39,7 +39,7 @@ loop-again c =
     let head : tie.At-loop-c invariant-loop decreases-loop = search in
     let start : tie.Start invariant-loop decreases-loop = search in
     let turn = head.loop-c in
-    (omega arith, omega arith, cells_next _ _ _ _ _ _ _ _ _ turn.inv.2 (word_of (get_or start.args.vs turn.c (pos 0)) _ word.to_word.ensures word.to_word-arg-1.given) put.put_cell.ensures)
+    (omega arith, omega arith, cells_next _ _ _ _ _ _ _ _ _ turn.invariant.2 (word_of (get_or start.args.vs turn.c (pos 0)) _ word.to_word.ensures word.to_word-arg-1.given) put.put_cell.ensures)
 
 pub put_cells_spec : {M : Type 1} → statement M
 put_cells_spec =

@@ -32,8 +32,8 @@ loop-again c =
     let l = head.loop in
     let e = c.before.before.entry_at in
     ⊎_elim
-    (λ w. open_entered _ _ l.t _ l.i e.result l.inv (omega arith) e.ensures (w.2 ∙ w.1.ensures))
-    (λ w. rw w.1 (free_entered _ _ l.t l.i e.result l.inv (omega arith) e.ensures (sym c.before.is_open.ensures ∙ w.0.left)))
+    (λ w. open_entered _ _ l.t _ l.i e.result l.invariant (omega arith) e.ensures (w.2 ∙ w.1.ensures))
+    (λ w. rw w.1 (free_entered _ _ l.t l.i e.result l.invariant (omega arith) e.ensures (sym c.before.is_open.ensures ∙ w.0.left)))
     c.if1.branch
 
 returns : tie.Need-returns invariant-loop decreases-loop

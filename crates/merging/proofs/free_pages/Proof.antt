@@ -24,7 +24,7 @@ free-one-requires c κs =
     let head : tie.At-loop-p invariant-loop decreases-loop = search in
     let start : tie.Start invariant-loop decreases-loop = search in
     let a = start.args in
-    let few = count_most a.least (view_of a.s a.mem-1.now) head.loop-p.p in
+    let few = count_most a.least (view_of a.s a.mem.now) head.loop-p.p in
     (omega arith, (omega arith, omega (arith, head.loop-p.invariant.2, few, pages_few _ start.requires.1)))
 
 loop-again : tie.Need-loop-p-preserved invariant-loop decreases-loop

@@ -16,8 +16,8 @@ returns c =
     λ ps e h.
     let a = c.args in
     let few = c.least-fewest.result in
-    let v = view_of a.s a.mem-1.now in
-    let fits : (p : ℕ) → get_or (v Region.PageReplaced) p 0 < 2 ^ 32 = view_fits a.s a.mem-1.now (λ k. omega (arith, c.slice_known-1.given k)) Region.PageReplaced in
+    let v = view_of a.s a.mem.now in
+    let fits : (p : ℕ) → get_or (v Region.PageReplaced) p 0 < 2 ^ 32 = view_fits a.s a.mem.now (λ k. omega (arith, c.slice_known-1.given k)) Region.PageReplaced in
     let q = freeable_is ps few v (λ m k. rw c.least-fewest.ensures (needed_least ps a.scans e h m k)) fits in
     (c.free_pages.ensures.0 ∙ counted_is a.s ps few v c.requires.1.0 q, c.free_pages.ensures.1 ∙ freed_is a.s ps few v c.requires.1.0 q)
 

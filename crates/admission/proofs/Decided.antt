@@ -21,7 +21,7 @@ use Rattle.model.specs.Calls.{not_open_in, not_given_in, no_scan_in}
 use Rattle.model.specs.Preconditions.{shape_in, OpenAt}
 use Rattle.rows.specs.Finders.{Inside}
 use Rattle.rows.proofs.Cases.{found_at, found_nothing}
-use Rattle.conditions.specs.Opens.{openAt}
+use Rattle.conditions.specs.Opens.{open_at}
 use Rattle.conditions.proofs.Opens.{open_there, not_open}
 use Rattle.admission.specs.declared.Tested.{Tested}
 use Rattle.admission.specs.Given.{range_given, ScanAt}
@@ -100,7 +100,7 @@ unfolding no_range
 range_below s g b e f = leb-false s.ranges g (sym e ∙ f)
 
 -- ---- the open transaction
-module _ (v : View) (t : ℕ) (f : Found) (e : f ≡ openAt v t) where
+module _ (v : View) (t : ℕ) (f : Found) (e : f ≡ open_at v t) where
   pub open_lacks : f ≡ Found.Nothing → not_open_in v t ≡ true
   open_lacks q = not_open v t (sym e ∙ q)
 

@@ -10,19 +10,19 @@ use Rattle.admission.specs.Admitted.{Admits}
 use Rattle.admission.proofs.admit.Statement.{statement}
 use Rattle.admission.proofs.admit.Tie as tie
 
-returns : tie.Need-returns
+returns : tie.Need-returns-in_default
 unfolding Admits
 returns c = let check : tie.After-check = search in search (not_usable, check.check.ensures.0)
 
-few : (c : tie.After-known-told) → need c.before.s.given.0.0 < too_many_words
+few : (c : tie.In-Fit) → need c.in-Fit.s < too_many_words
 few c = search need_few
 
-returns-2 : tie.Need-returns-2
+returns-2 : tie.Need-returns
 unfolding Admits
 returns-2 c =
     let check : tie.After-check = search in (
       record {
-        bytes = omega (arith, c.words-needed.ensures);
+        bytes = omega (arith, c.words_needed.ensures);
         fitted = search fit_tells;
         listed = search (list_known, check.check.ensures.0);
       },
@@ -38,5 +38,5 @@ admit_spec =
     (λ c. search rules)
     returns
     (λ c κs. omega (arith, few c))
-    (λ c. omega (arith, few c.before, c.words-needed.ensures))
+    (λ c. omega (arith, few c.before, c.words_needed.ensures))
     returns-2)

@@ -8,15 +8,15 @@ use Rattle.admission.specs.Given.{range_given}
 use Rattle.admission.proofs.given_range.Statement.{statement}
 use Rattle.admission.proofs.given_range.Tie as tie
 
-returns : tie.Need-returns
+returns : tie.Need-returns-then-read-row
 unfolding range_given not_given_in
-returns c = rw (← c.before.before.read.ensures, le-leb _ _ c.if1.true)
+returns c = rw (← c.read.ensures, le-leb _ _ c.if-read-row.true)
 
-returns-2 : tie.Need-returns-2
+returns-2 : tie.Need-returns
 unfolding range_given not_given_in
 returns-2 c =
     let read : tie.After-read = search in
-    rw (← read.read.ensures, lt-leb _ _ c.before.if1.false) (ap Found.At c.range-of.ensures)
+    rw (← read.read.ensures, lt-leb _ _ c.if-read-row.false) (ap Found.At c.range_of.ensures)
 
 pub given_range_spec : {M : Type 1} → statement M
 given_range_spec =

@@ -6,7 +6,7 @@ use Rattle.admission.proofs.no_span.Tie as tie
 
 returns : tie.Need-returns
 unfolding no_span_in
-returns c = let ahead : tie.After-later = search in rw (c.either.ensures, ahead.later.ensures)
+returns c = let ahead : tie.After-later-ahead = search in rw (c.either.ensures, ahead.later-ahead.ensures)
 
 pub no_span_spec : {M : Type 1} → statement M
 no_span_spec = tie.close (tie.spec (λ c κs. search rules) (λ c κs. search rules) returns)

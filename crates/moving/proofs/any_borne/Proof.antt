@@ -11,17 +11,17 @@ use Rattle.conditions.proofs.Records.{no_turn, one_turn, turned}
 use Rattle.moving.proofs.any_borne.Statement.{statement}
 use Rattle.moving.proofs.any_borne.Tie as tie
 
-abbrev invariant-loop : tie.invariant-loop
+abbrev invariant-loop : tie.invariant-loop-i
 invariant-loop mem s k length at n flag₀ i₀ flag i = (i ≤ n) × (flag ≡ any_below (λ j. bears_keeper (get_or (view_of s mem k) (at + j) 0)) i)
 
-abbrev decreases-loop : tie.decreases-loop
+abbrev decreases-loop : tie.decreases-loop-i
 decreases-loop mem s k length at n flag₀ i₀ flag i = n - i
 
-loop-again : tie.Need-loop-preserved invariant-loop decreases-loop
+loop-again : tie.Need-loop-i-preserved invariant-loop decreases-loop
 loop-again c =
-    let head : tie.At-loop invariant-loop decreases-loop = search in
-    let word : tie.After-read-later invariant-loop decreases-loop = search in
-    (omega arith, one_turn _ _ _ _ _ head.loop.invariant.1 (c.before.bears.ensures ∙ rw word.read-later.ensures) c.either.ensures)
+    let head : tie.At-loop-i invariant-loop decreases-loop = search in
+    let word : tie.After-read_later-word invariant-loop decreases-loop = search in
+    (omega arith, one_turn _ _ _ _ _ head.loop-i.invariant.1 (c.bears.ensures ∙ rw word.read_later-word.ensures) c.either-flag.ensures)
 
 pub any_borne_spec : {M : Type 1} → statement M
 any_borne_spec =
@@ -37,4 +37,4 @@ any_borne_spec =
     (λ c. omega arith)
     (λ c. omega arith)
     loop-again
-    (λ c. turned _ _ _ _ c.before.loop.invariant.1 (omega arith) (omega arith)))
+    (λ c. turned _ _ _ _ c.loop-i.invariant.1 (omega arith) (omega arith)))

@@ -5,4 +5,4 @@ use Rattle.moving.proofs.keeper_lost.Tie as tie
 
 pub keeper_lost_spec : {M : Type 1} → statement M
 keeper_lost_spec =
-    tie.close (tie.spec (λ c. search rules) (λ c κs. search rules) (λ c. search rules) (λ c. rw c.before.enum_told.given.1 c.keeper-borne.ensures) (λ c. rw c.enum-told2.given.1))
+    tie.close (tie.spec (λ c. search rules) (λ c κs. search rules) (λ c. search rules) (λ c. rw c.in-First.is c.keeper_borne.ensures) (λ c. rw c.in-Newest.is))

@@ -11,20 +11,20 @@ use Rattle.moving.specs.Borne.{open_borne}
 use Rattle.moving.proofs.opens_borne.Statement.{statement}
 use Rattle.moving.proofs.opens_borne.Tie as tie
 
-abbrev invariant-loop : tie.invariant-loop
+abbrev invariant-loop : tie.invariant-loop-j
 invariant-loop mem s flag₀ j₀ flag j = (j ≤ most_transactions) × (flag ≡ any_below (open_borne (view_of s mem)) j)
 
-abbrev decreases-loop : tie.decreases-loop
+abbrev decreases-loop : tie.decreases-loop-j
 decreases-loop mem s flag₀ j₀ flag j = most_transactions - j
 
-loop-again : tie.Need-loop-preserved invariant-loop decreases-loop
+loop-again : tie.Need-loop-j-preserved invariant-loop decreases-loop
 loop-again c =
-    let head : tie.At-loop invariant-loop decreases-loop = search in
-    let number : tie.After-read invariant-loop decreases-loop = search in
-    let word : tie.After-read-later invariant-loop decreases-loop = search in
+    let head : tie.At-loop-j invariant-loop decreases-loop = search in
+    let number : tie.After-read-number invariant-loop decreases-loop = search in
+    let word : tie.After-read_later-word invariant-loop decreases-loop = search in
     let bears : tie.After-bears invariant-loop decreases-loop = search in
     let both : tie.After-both invariant-loop decreases-loop = search in
-    (omega arith, one_turn _ _ _ _ _ head.loop.invariant.1 (both.both.ensures ∙ rw (bears.bears.ensures, number.read.ensures, word.read-later.ensures)) c.either.ensures)
+    (omega arith, one_turn _ _ _ _ _ head.loop-j.invariant.1 (both.both.ensures ∙ rw (bears.bears.ensures, number.read-number.ensures, word.read_later-word.ensures)) c.either-flag.ensures)
 
 pub opens_borne_spec : {M : Type 1} → statement M
 opens_borne_spec =
@@ -41,4 +41,4 @@ opens_borne_spec =
     (λ c. omega arith)
     (λ c. omega arith)
     loop-again
-    (λ c. turned _ _ _ _ c.before.loop.invariant.1 (omega arith) (omega arith)))
+    (λ c. turned _ _ _ _ c.loop-j.invariant.1 (omega arith) (omega arith)))

@@ -9,18 +9,18 @@ use Rattle.upkeep.proofs.Listing.{unlisted_serves, closed_list}
 use Rattle.upkeep.proofs.close_scan.Statement.{statement}
 use Rattle.upkeep.proofs.close_scan.Tie as tie
 
-returns-2 : tie.Need-returns-2
+returns-2 : tie.Need-returns-in-Failed
 returns-2 c =
     let start : tie.Start = search in
-    let tests : tie.After-close-tests = search in
-    unlisted_serves start.args.scans _ _ _ _ c.unlisted2.ensures (search (serving, tests.close-tests.ensures.0))
+    let tests : tie.After-close_tests = search in
+    unlisted_serves start.args.scans _ _ _ _ c.unlisted-in-Failed.ensures (search (serving, tests.close_tests.ensures.0))
 
-returns-3 : tie.Need-returns-3
+returns-3 : tie.Need-returns-in-Passed
 unfolding reply_in act_in
-returns-3 c = let tests : tie.After-close-tests = search in search (serving, closed_list, tests.close-tests.ensures.0)
+returns-3 c = let tests : tie.After-close_tests = search in search (serving, closed_list, tests.close_tests.ensures.0)
 
 -- the entry that was found is one of the table
-inside : (c : tie.After-indices) → let passed = c.before.before in passed.i.given.0.0 < most_scans
+inside : (c : tie.After-indices-1) → c.in-Passed.i < most_scans
 inside c = search scan_below
 
 pub close_scan_spec : {M : Type 1} → statement M

@@ -14,13 +14,13 @@ inside : (c : tie.Start) → let a = c.args in (a.g * a.s.columns + a.c < a.s.ch
 inside c =
     let p = c.requires.0.proper in (chunk_in _ p _ _ c.requires.1.0 c.requires.1.1, chunks_few _ p)
 
-read-requires-2 : tie.Need-read-requires-2
+read-requires-2 : tie.Need-read-requires
 read-requires-2 c κs =
-    let start : tie.Start = search in (start.pre.0.room, rw c.read.ensures (start.pre.0.pooled _ (inside start).0))
+    let start : tie.Start = search in (start.requires.0.room, rw c.read-page.ensures (start.requires.0.pooled _ (inside start).0))
 
 returns : tie.Need-returns
 unfolding page_in current_in
-returns c = rw (c.read2.ensures, c.before.read.ensures)
+returns c = rw (c.read.ensures, c.read-page.ensures)
 
 pub current_lineage_spec : {M : Type 1} → statement M
 current_lineage_spec =
@@ -28,7 +28,7 @@ current_lineage_spec =
     (tie.spec
     (λ c. let start : tie.Start = search in omega (arith, inside start))
     (λ c. let start : tie.Start = search in omega (arith, inside start))
-    (λ c κs. let start : tie.Start = search in (c.before.before.requires.0.room, (inside start).0))
+    (λ c κs. let start : tie.Start = search in (c.requires.0.room, (inside start).0))
     (λ c. search rules)
     read-requires-2
     returns)

@@ -6,9 +6,9 @@ use Rattle.upkeep.proofs.give_scan.Tie as tie
 
 returns : tie.Need-returns
 returns c =
-    let read : tie.After-read = search in
+    let read : tie.After-read-n = search in
     let write : tie.After-write = search in
-    rw (write.write.ensures, read.read.ensures) (refl, refl)
+    rw (write.write.ensures, read.read-n.ensures) (refl, refl)
 
 pub give_scan_spec : {M : Type 1} → statement M
 give_scan_spec =

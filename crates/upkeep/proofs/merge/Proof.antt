@@ -6,7 +6,7 @@ use Rattle.upkeep.proofs.Tests.{mergeable}
 use Rattle.upkeep.proofs.merge.Statement.{statement}
 use Rattle.upkeep.proofs.merge.Tie as tie
 
-returns-3 : tie.Need-returns-3
+returns-3 : tie.Need-returns-in-Passed
 unfolding reply_in act_in entries_after
 returns-3 c = search serving
 

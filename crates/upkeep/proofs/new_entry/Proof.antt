@@ -7,9 +7,9 @@ use Rattle.upkeep.proofs.new_entry.Tie as tie
 returns : tie.Need-returns
 returns c =
     let given : tie.After-read = search in
-    let merged : tie.After-read2 = search in
-    let committed : tie.After-read3 = search in
-    rw (given.read.ensures, merged.read2.ensures, committed.read3.ensures)
+    let merged : tie.After-read-2 = search in
+    let committed : tie.After-read-3 = search in
+    rw (given.read.ensures, merged.read-2.ensures, committed.read-3.ensures)
 
 pub new_entry_spec : {M : Type 1} → statement M
 new_entry_spec =

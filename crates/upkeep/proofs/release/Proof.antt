@@ -12,17 +12,17 @@ use Rattle.upkeep.proofs.release.Statement.{statement}
 use Rattle.upkeep.proofs.release.Tie as tie
 
 -- no list has such a table
-returns : tie.Need-returns
+returns : tie.Need-returns-then-scans-gt-MOST_SCANS
 unfolding ServesBy
-returns c = λ ps q. absurd (omega (arith, table_few _ ps q, c.if1.true))
+returns c = λ ps q. absurd (omega (arith, table_few _ ps q, c.if-scans-gt-MOST_SCANS.true))
 
-returns-3 : tie.Need-returns-3
+returns-3 : tie.Need-returns
 unfolding tests_in verdict reply_in act_in entries_after
 returns-3 c =
     let admit : tie.After-admit = search in
-    let known : tie.After-s = search in
+    let known : tie.In-Fit = search in
     let act : tie.After-release = search in
-    write_serves _ _ _ _ _ known.s.given.1 _ admit.admit.ensures refl (λ ps q few. refl) _ _ _ act.release.kept.0 c.slice-known2.given
+    write_serves _ _ _ _ _ known.in-Fit.is _ admit.admit.ensures refl (λ ps q few. refl) _ _ _ act.release.auto.mem c.slice_known-2-1.given
     (λ ps q few. let z = act.release.ensures ps q few in (ap Answer.Number z.0, z.1, refl))
 
 pub release_spec : {M : Type 1} → statement M

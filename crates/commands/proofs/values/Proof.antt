@@ -27,7 +27,7 @@ loop-again : tie.Need-loop-i-preserved invariant-loop decreases-loop
 loop-again c =
     (
       omega arith,
-      rw (to_z-of_z w32 c.of_word.result (record { sfits = c.of_word.type-inv }))
+      rw (to_z-of_z w32 c.of_word.result (record { sfits = c.of_word.type_inv }))
           (value_next _ _ _ _ _ c.loop-i.invariant.1 c.get.ensures c.of_word.ensures (omega arith) (omega arith)),
       simp length-set c.loop-i.invariant.2,
       zeros_next c.loop-i.out c.loop-i.i _ c.loop-i.invariant.3,

@@ -8,11 +8,11 @@ use Rattle.commands.proofs.decode.Tie as tie
 returns : tie.Need-returns
 unfolding call_from
 returns c =
-    let counted : tie.After-value-count = search in
-    let summed : tie.After-total = search in
-    let read : tie.After-operands = search in
-    let values = rw (part_to_end, summed.total.ensures.0) at c.values.ensures.0 in
-    (rw (read.operands.ensures, values, counted.value-count.ensures.0), c.values.ensures.1)
+    let counted : tie.After-value_count-count = search in
+    let summed : tie.After-total-values_at = search in
+    let read : tie.After-operands-operands = search in
+    let values = rw (part_to_end, summed.total-values_at.ensures.0) at c.values-values.ensures.0 in
+    (rw (read.operands-operands.ensures, values, counted.value_count-count.ensures.0), c.values-values.ensures.1)
 
 pub decode_spec : {M : Type 1} → statement M
 decode_spec =

@@ -6,7 +6,7 @@ use Rattle.commands.proofs.decode_shape.Tie as tie
 
 returns : tie.Need-returns
 unfolding shape_from
-returns c = rw (c.before.before.before.number.ensures, c.before.before.number2.ensures, c.before.number3.ensures, c.number4.ensures)
+returns c = rw (c.number-columns.ensures, c.number-ranges.ensures, c.number-capacity.ensures, c.number-spares.ensures)
 
 pub decode_shape_spec : {M : Type 1} → statement M
 decode_shape_spec =

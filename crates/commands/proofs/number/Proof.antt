@@ -10,43 +10,40 @@ use Rattle.commands.proofs.Bytes.{none_yet, turn, room}
 use Rattle.commands.proofs.number.Statement.{statement}
 use Rattle.commands.proofs.number.Tie as tie
 
-abbrev invariant-loop : tie.invariant-loop
+abbrev invariant-loop : tie.invariant-loop-i
 invariant-loop bytes at n total₀ i₀ total i = (i ≤ n) × (total ≡ little_endian (slice (at + i) (at + n) bytes)) × (total < 256 ^ (n - i))
 
-abbrev decreases-loop : tie.decreases-loop
+abbrev decreases-loop : tie.decreases-loop-i
 decreases-loop bytes at n total₀ i₀ total i = i
 
-loop-holds : tie.Need-loop-init invariant-loop decreases-loop
+loop-holds : tie.Need-loop-i-init invariant-loop decreases-loop
 loop-holds c =
-    let start = c.before.args in
+    let start = c.args in
     let nothing : start.n - start.n ≡ 0 = omega arith in
     (omega arith, none_yet start.bytes.now start.at start.n, rw nothing (omega arith))
 
-mul-total : tie.Need-overflow-mul-total invariant-loop decreases-loop
+mul-total : tie.Need-overflow_mul-total invariant-loop decreases-loop
 mul-total c =
-    let small = room _ _ c.before.loop.invariant.2 (omega arith) in
+    let small = room _ _ c.loop-i.invariant.2 (omega arith) in
     record { fits = omega arith }
 
-add_total : tie.Need-overflow-add-total invariant-loop decreases-loop
+add_total : tie.Need-overflow_add-total invariant-loop decreases-loop
 add_total c =
-    let small = room _ _ c.before.before.before.loop.invariant.2 (omega arith) in
+    let small = room _ _ c.loop-i.invariant.2 (omega arith) in
     record { fits = omega (arith, c.wide.ensures.1) }
 
-loop-again : tie.Need-loop-preserved invariant-loop decreases-loop
+loop-again : tie.Need-loop-i-preserved invariant-loop decreases-loop
 loop-again c =
-    let head = c.before.before.before in
-    let start = head.before.before in
-    let i = head.loop.i in
-    let t = turn start.args.bytes.now start.args.at start.args.n i head.loop.total c.wide.result
-    head.loop.invariant.1 c.wide.ensures.0 head.loop.invariant.2 c.wide.ensures.1 (omega arith) (omega arith) (omega arith) in
+    let i = c.loop-i.i in
+    let t = turn c.args.bytes.now c.args.at c.args.n i c.loop-i.total c.wide.result
+    c.loop-i.invariant.1 c.wide.ensures.0 c.loop-i.invariant.2 c.wide.ensures.1 (omega arith) (omega arith) (omega arith) in
     (omega arith, t.0, t.1)
 
 returns : tie.Need-returns invariant-loop decreases-loop
 unfolding operand
 returns c =
-    let head = c.before in
-    let none : head.loop.i ≡ 0 = omega arith in
-    rw (none, add-zero) at head.loop.invariant.1
+    let none : c.loop-i.i ≡ 0 = omega arith in
+    rw (none, add-zero) at c.loop-i.invariant.1
 
 pub number_spec : {M : Type 1} → statement M
 number_spec =

@@ -11,11 +11,11 @@ returns : tie.Need-returns
 unfolding operands
 returns c =
     let one : tie.After-number = search in
-    let two : tie.After-number2 = search in
-    let three : tie.After-number3 = search in
+    let two : tie.After-number-2 = search in
+    let three : tie.After-number-3 = search in
     let start : tie.Start = search in
     let first : 0 + start.args.format.first ≡ start.args.format.first = omega arith in
-    rw (first, one.number.ensures, two.number2.ensures, three.number3.ensures, c.before.number4.ensures, c.number5.ensures)
+    rw (first, one.number.ensures, two.number-2.ensures, three.number-3.ensures, c.number-4.ensures, c.number-5.ensures)
 
 pub operands_spec : {M : Type 1} → statement M
 operands_spec =

@@ -7,4 +7,4 @@ use Rattle.decimal.proofs.digit.Tie as tie
 pub digit_spec : {M : Type 1} → statement M
 digit_spec =
     tie.close
-    (tie.spec (λ c. search rules) (λ c. search rules) (λ c. search rules) (λ c. search rules) (λ c. rw (lt-ltb _ _ c.if1.true)) (λ c. rw (le-ltb _ _ c.if1.false)))
+    (tie.spec (λ c. search rules) (λ c. search rules) (λ c. search rules) (λ c. search rules) (λ c. rw (lt-ltb _ _ c.if-d-lt10.true)) (λ c. rw (le-ltb _ _ c.if-d-lt10.false)))

@@ -8,26 +8,25 @@ use Rattle.decimal.proofs.Pieces.{sets_next}
 use Rattle.decimal.proofs.put.Statement.{statement}
 use Rattle.decimal.proofs.put.Tie as tie
 
-abbrev invariant-loop : tie.invariant-loop
+abbrev invariant-loop : tie.invariant-loop-i
 invariant-loop out₀ at s i₀ out i = (i ≤ length s) × (out ≡ sets out₀ at (take i s))
 
-abbrev decreases-loop : tie.decreases-loop
+abbrev decreases-loop : tie.decreases-loop-i
 decreases-loop out₀ at s i₀ out i = length s - i
 
-loop-again : tie.Need-loop-preserved invariant-loop decreases-loop
+loop-again : tie.Need-loop-i-preserved invariant-loop decreases-loop
 loop-again c =
-    let head = c.before.before in (
+    (
       omega arith,
-      ap (λ l. set l (head.before.args.at + head.loop.i) (get_or head.before.args.s.now head.loop.i 0)) head.loop.invariant.1
-          ∙ sets_next head.before.args.out.now head.before.args.s.now head.before.args.at head.loop.i (omega arith),
+      ap (λ l. set l (c.args.at + c.loop-i.i) (get_or c.args.s.now c.loop-i.i 0)) c.loop-i.invariant.1
+          ∙ sets_next c.args.out.now c.args.s.now c.args.at c.loop-i.i (omega arith),
     )
 
 returns : tie.Need-returns invariant-loop decreases-loop
 returns c =
-    let head = c.before in
-    let all : head.loop.i ≡ length head.before.args.s.now = omega arith in
+    let all : c.loop-i.i ≡ length c.args.s.now = omega arith in
     record {
-      bytes = rw (all, take-length) at head.loop.invariant.1;
+      bytes = rw (all, take-length) at c.loop-i.invariant.1;
       ends = omega arith;
     }
 

@@ -9,15 +9,14 @@ use Rattle.decimal.proofs.put_integer.Tie as tie
 
 returns : tie.Need-returns
 returns c =
-    let space : tie.After-put = search in
+    let space : tie.After-put-next = search in
     let start : tie.Start = search in
-    (joined space.put.ensures (rw (to_z-of_z w64 _ start.fits.z) at c.put-signed.ensures.0), omega (arith, space.put.ensures.ends))
+    (joined space.put-next.ensures (rw (to_z-of_z w64 _ start.ranges.z) at c.put_signed.ensures.0), omega (arith, space.put-next.ensures.ends))
 
 pub put_integer_spec : {M : Type 1} → statement M
 put_integer_spec =
     tie.close
     (tie.spec
-    (λ c. search rules)
     (λ c κs. search rules)
     (λ c κs. search rules)
     returns)

@@ -13,23 +13,22 @@ use Rattle.decimal.proofs.put_natural.Tie as tie
 short : (c : tie.Start) → length (decimal c.args.n) ≤ natural_digits
 short c = decimal_short natural_digits c.args.n (omega arith) (omega arith)
 
-room : tie.Need-put-decimal-requires
+room : tie.Need-put_decimal-requires
 room c κs =
     let start : tie.Start = search in
-    let space : tie.After-put = search in
-    omega (arith, short start, space.put.ensures.ends)
+    let space : tie.After-put-next = search in
+    omega (arith, short start, space.put-next.ensures.ends)
 
 returns : tie.Need-returns
 returns c =
     let start : tie.Start = search in
-    let space : tie.After-put = search in
-    (joined space.put.ensures c.put-decimal.ensures, omega (arith, short start, space.put.ensures.ends, c.put-decimal.ensures.ends))
+    let space : tie.After-put-next = search in
+    (joined space.put-next.ensures c.put_decimal.ensures, omega (arith, short start, space.put-next.ensures.ends, c.put_decimal.ensures.ends))
 
 pub put_natural_spec : {M : Type 1} → statement M
 put_natural_spec =
     tie.close
     (tie.spec
-    (λ c. search rules)
     (λ c κs. search rules)
     room
     returns)

@@ -16,45 +16,44 @@ use Rattle.decimal.proofs.put_signed.Tie as tie
 short : (n : ℕ) → Fits w64 n → length (decimal n) ≤ most_digits
 short n f = decimal_short most_digits n (omega arith) (omega (arith, f.fits))
 
-room : tie.Need-put-decimal-requires
+room : tie.Need-put_decimal-requires
 room c κs =
-    let test : tie.Then1 = search in
-    omega (arith, short _ (itself _ test.before.fits.z test.if1.taken).1)
+    let test : tie.Then-z-ge0 = search in
+    omega (arith, short _ (itself _ test.ranges.z test.if-z-ge0.true).1)
 
-room-2 : tie.Need-put-decimal-requires-2
+room-2 : tie.Need-put_decimal-requires-else-z-ge0
 room-2 c κs =
-    let sign : tie.After-put = search in
-    let test : tie.Else1 = search in
-    omega (arith, short _ (below _ test.before.fits.z test.if1.left).1, sign.put.ensures.ends)
+    let sign : tie.After-put-next = search in
+    let test : tie.Else-z-ge0 = search in
+    omega (arith, short _ (below _ test.ranges.z test.if-z-ge0.false).1, sign.put-next.ensures.ends)
 
-returns : tie.Need-returns
+returns : tie.Need-returns-then-z-ge0
 returns c =
-    let test : tie.Then1 = search in
-    let digits = c.put-decimal.ensures in (
-      rw (signed_itself _ test.before.fits.z test.if1.taken) at digits,
-      omega (arith, digits.ends, short _ (itself _ test.before.fits.z test.if1.taken).1),
+    let test : tie.Then-z-ge0 = search in
+    let digits = c.put_decimal.ensures in (
+      rw (signed_itself _ test.ranges.z test.if-z-ge0.true) at digits,
+      omega (arith, digits.ends, short _ (itself _ test.ranges.z test.if-z-ge0.true).1),
     )
 
-returns-2 : tie.Need-returns-2
+returns-2 : tie.Need-returns-else-z-ge0
 returns-2 c =
-    let sign : tie.After-put = search in
-    let test : tie.Else1 = search in
-    let digits = c.put-decimal2.ensures in (
-      rw (signed_below _ test.before.fits.z test.if1.left) at (joined sign.put.ensures digits),
-      omega (arith, sign.put.ensures.ends, digits.ends, short _ (below _ test.before.fits.z test.if1.left).1),
+    let sign : tie.After-put-next = search in
+    let test : tie.Else-z-ge0 = search in
+    let digits = c.put_decimal-else-z-ge0.ensures in (
+      rw (signed_below _ test.ranges.z test.if-z-ge0.false) at (joined sign.put-next.ensures digits),
+      omega (arith, sign.put-next.ensures.ends, digits.ends, short _ (below _ test.ranges.z test.if-z-ge0.false).1),
     )
 
 pub put_signed_spec : {M : Type 1} → statement M
 put_signed_spec =
     tie.close
     (tie.spec
-    (λ c. let test : tie.Then1 = search in itself _ test.before.fits.z test.if1.taken)
+    (λ c. let test : tie.Then-z-ge0 = search in itself _ test.ranges.z test.if-z-ge0.true)
     room
-    (λ c. search rules)
     (λ c κs. search rules)
-    (λ c. let start : tie.Start = search in minus_fits _ start.fits.z)
-    (λ c. let test : tie.Else1 = search in (below _ test.before.fits.z test.if1.left).0)
-    (λ c. let test : tie.Else1 = search in (below _ test.before.fits.z test.if1.left).1)
+    (λ c. let start : tie.Start = search in minus_fits _ start.ranges.z)
+    (λ c. let test : tie.Else-z-ge0 = search in (below _ test.ranges.z test.if-z-ge0.false).0)
+    (λ c. let test : tie.Else-z-ge0 = search in (below _ test.ranges.z test.if-z-ge0.false).1)
     room-2
     returns
     returns-2)

@@ -11,118 +11,109 @@ use Rattle.lines.proofs.Pieces.{take_least}
 use Rattle.lines.proofs.put_outcome.Statement.{statement}
 use Rattle.lines.proofs.put_outcome.Tie as tie
 
-fits : (c : tie.After-known-told3) → SFits w32 c.before.answer3.given.0.0
-fits c = record { sfits = c.known-told3.given.0.1 }
+fits : (c : tie.In-Value) → SFits w32 c.in-Value.v
+fits c = record { sfits = c.in-Value.known_told-in-Value-1-own.given.0.1 }
 
-version-fits : (c : tie.After-known-told6) → SFits w32 c.before.answer6.given.0.0
-version-fits c = record { sfits = c.known-told6.given.0.1 }
+version-fits : (c : tie.In-Version) → SFits w32 c.in-Version.v
+version-fits c = record { sfits = c.in-Version.known_told-in-Version-1-own.given.0.1 }
 
-refused : tie.Need-returns
+refused : tie.Need-returns-in-Refused
 unfolding outcome
 refused c =
-    let case : tie.After-answer = search in
-    let word : tie.After-put = search in
-    rw (case.answer.given.1, ← c.before.number.ensures) (joined word.put.ensures c.put-natural.ensures.0, omega (arith, word.put.ensures.ends))
+    let case : tie.In-Refused = search in
+    let word : tie.After-put-next = search in
+    rw (case.in-Refused.is, ← c.number.ensures) (joined word.put-next.ensures c.put_natural.ensures.0, omega (arith, word.put-next.ensures.ends))
 
-done : tie.Need-returns-2
+done : tie.Need-returns-in-Done
 unfolding outcome
-done c = let case : tie.After-enum-told = search in rw case.enum_told.given.1 (c.put2.ensures, omega (arith, c.put2.ensures.ends))
+done c = let case : tie.In-Done = search in rw case.in-Done.is (c.put.ensures, omega (arith, c.put.ensures.ends))
 
-number : tie.Need-returns-3
+number : tie.Need-returns-in-Number
 unfolding outcome
 number c =
-    let case : tie.After-answer2 = search in
-    let word = c.before.before.put3.ensures in
-    rw case.answer2.given.1 (joined word c.put-natural2.ensures.0, omega (arith, word.ends))
+    let case : tie.In-Number = search in
+    let word = c.put-next-in-Number.ensures in
+    rw case.in-Number.is (joined word c.put_natural-in-Number.ensures.0, omega (arith, word.ends))
 
-value : tie.Need-returns-4
+value : tie.Need-returns-in-Value
 unfolding outcome
 value c =
-    let case : tie.After-known-told3 = search in
-    let word = c.before.before.put4.ensures in
-    let shown = rw (to_z-of_z w32 _ (fits case), to_z-of_z w64 _ (wide _ (fits case))) at c.put-integer.ensures.0 in
-    rw case.before.answer3.given.1 (joined word shown, omega (arith, word.ends))
+    let case : tie.In-Value = search in
+    let word = c.put-next-in-Value.ensures in
+    let shown = rw (to_z-of_z w32 _ (fits case), to_z-of_z w64 _ (wide _ (fits case))) at c.put_integer.ensures.0 in
+    rw case.in-Value.is (joined word shown, omega (arith, word.ends))
 
-none : tie.Need-returns-5
+none : tie.Need-returns-in-None
 unfolding outcome
-none c = let case : tie.After-enum-told2 = search in rw case.enum-told2.given.1 (c.put5.ensures, omega (arith, c.put5.ensures.ends))
+none c = let case : tie.In-None = search in rw case.in-None.is (c.put-in-None.ensures, omega (arith, c.put-in-None.ensures.ends))
 
-sum : tie.Need-returns-6
+sum : tie.Need-returns-in-Sum
 unfolding outcome
 sum c =
-    let case : tie.After-known-told4 = search in
-    let word : tie.After-put6 = search in
-    let count = c.before.before.put-natural3.ensures in
-    let shown = rw (to_z-of_z w64 _ (record { sfits = case.known-told4.given.1.0.1 })) at c.put-integer2.ensures.0 in
-    rw case.before.answer4.given.1 (joined word.put6.ensures (joined count.0 shown), omega (arith, word.put6.ensures.ends))
+    let case : tie.In-Sum = search in
+    let word : tie.After-put-next-in-Sum = search in
+    let count = c.put_natural-last.ensures in
+    let shown = rw (to_z-of_z w64 _ (record { sfits = case.in-Sum.known_told-in-Sum-1-own.given.1.0.1 })) at c.put_integer-in-Sum.ensures.0 in
+    rw case.in-Sum.is (joined word.put-next-in-Sum.ensures (joined count.0 shown), omega (arith, word.put-next-in-Sum.ensures.ends))
 
-lineage : tie.Need-returns-7
+lineage : tie.Need-returns-in-Lineage
 unfolding outcome
 lineage c =
-    let case : tie.After-answer5 = search in
-    let word : tie.After-put7 = search in
-    let merged = c.before.before.put-natural4.ensures in
-    rw case.answer5.given.1 (joined word.put7.ensures (joined merged.0 c.put-natural5.ensures.0), omega (arith, word.put7.ensures.ends))
+    let case : tie.In-Lineage = search in
+    let word : tie.After-put-next-in-Lineage = search in
+    let merged = c.put_natural-last-in-Lineage.ensures in
+    rw case.in-Lineage.is (joined word.put-next-in-Lineage.ensures (joined merged.0 c.put_natural-in-Lineage.ensures.0), omega (arith, word.put-next-in-Lineage.ensures.ends))
 
-version : tie.Need-returns-8
+version : tie.Need-returns-in-Version
 unfolding outcome
 version c =
-    let case : tie.After-known-told6 = search in
-    let word : tie.After-put8 = search in
-    let value : tie.After-put-integer3 = search in
-    let shown = rw (to_z-of_z w32 _ (version-fits case), to_z-of_z w64 _ (wide _ (version-fits case))) at value.put-integer3.ensures.0 in
-    rw case.before.answer6.given.1 (joined word.put8.ensures (joined shown c.put-natural6.ensures.0), omega (arith, word.put8.ensures.ends))
+    let case : tie.In-Version = search in
+    let word : tie.After-put-next-in-Version = search in
+    let value : tie.After-put_integer-last = search in
+    let shown = rw (to_z-of_z w32 _ (version-fits case), to_z-of_z w64 _ (wide _ (version-fits case))) at value.put_integer-last.ensures.0 in
+    rw case.in-Version.is (joined word.put-next-in-Version.ensures (joined shown c.put_natural-in-Version.ensures.0), omega (arith, word.put-next-in-Version.ensures.ends))
 
-listed : tie.Need-returns-9
+listed : tie.Need-returns-in-Listed
 unfolding outcome
 listed c =
-    let case : tie.After-answer7 = search in
-    let word : tie.After-put9 = search in
-    let count : tie.After-put-natural7 = search in
-    let stamps = rw (c.before.least.ensures, take_least) at c.put-stamps.ensures.0 in
-    rw case.answer7.given.1 (joined word.put9.ensures (joined count.put-natural7.ensures.0 stamps), omega (arith, word.put9.ensures.ends))
+    let case : tie.In-Listed = search in
+    let word : tie.After-put-next-in-Listed = search in
+    let count : tie.After-put_natural-last-in-Listed = search in
+    let stamps = rw (c.least.ensures, take_least) at c.put_stamps.ensures.0 in
+    rw case.in-Listed.is (joined word.put-next-in-Listed.ensures (joined count.put_natural-last-in-Listed.ensures.0 stamps), omega (arith, word.put-next-in-Listed.ensures.ends))
 
 pub put_outcome_spec : {M : Type 1} → statement M
 put_outcome_spec =
     tie.close
     (tie.spec
     (λ c. search rules)
+    (λ c κs. search rules)
+    (λ c κs. search rules)
+    (λ c κs. search rules)
+    (λ c. search rules)
+    (λ c κs. search rules)
+    (λ c. search rules)
+    (λ c κs. search rules)
+    (λ c κs. search rules)
+    (λ c. search rules)
+    (λ c κs. search rules)
+    (λ c. let case : tie.In-Value = search in wider _ (fits case))
+    (λ c κs. search rules)
+    (λ c. search rules)
+    (λ c κs. search rules)
+    (λ c. search rules)
+    (λ c κs. search rules)
+    (λ c κs. search rules)
+    (λ c κs. search rules)
     (λ c. search rules)
     (λ c κs. search rules)
     (λ c κs. search rules)
     (λ c κs. search rules)
     (λ c. search rules)
-    (λ c. search rules)
     (λ c κs. search rules)
-    (λ c. search rules)
-    (λ c. search rules)
+    (λ c. let case : tie.In-Version = search in wider _ (version-fits case))
     (λ c κs. search rules)
     (λ c κs. search rules)
-    (λ c. search rules)
-    (λ c. search rules)
-    (λ c κs. search rules)
-    (λ c. let case : tie.After-known-told3 = search in wider _ (fits case))
-    (λ c κs. search rules)
-    (λ c. search rules)
-    (λ c. search rules)
-    (λ c κs. search rules)
-    (λ c. search rules)
-    (λ c. search rules)
-    (λ c κs. search rules)
-    (λ c κs. search rules)
-    (λ c κs. search rules)
-    (λ c. search rules)
-    (λ c. search rules)
-    (λ c κs. search rules)
-    (λ c κs. search rules)
-    (λ c κs. search rules)
-    (λ c. search rules)
-    (λ c. search rules)
-    (λ c κs. search rules)
-    (λ c. let case : tie.After-known-told6 = search in wider _ (version-fits case))
-    (λ c κs. search rules)
-    (λ c κs. search rules)
-    (λ c. search rules)
     (λ c. search rules)
     (λ c κs. search rules)
     (λ c κs. search rules)

@@ -11,30 +11,30 @@ use Rattle.lines.proofs.Pieces.{fields_next}
 use Rattle.lines.proofs.put_stamps.Statement.{statement}
 use Rattle.lines.proofs.put_stamps.Tie as tie
 
-abbrev invariant-loop : tie.invariant-loop
+abbrev invariant-loop : tie.invariant-loop-i
 invariant-loop out₀ at n stamps next₀ i₀ out next i =
     (i ≤ n) × Written out₀ out at (fields (take i stamps)) next × (next ≤ at + i * natural_field)
 
-abbrev decreases-loop : tie.decreases-loop
+abbrev decreases-loop : tie.decreases-loop-i
 decreases-loop out₀ at n stamps next₀ i₀ out next i = n - i
 
-loop-holds : tie.Need-loop-init invariant-loop decreases-loop
+loop-holds : tie.Need-loop-i-init invariant-loop decreases-loop
 unfolding fields
 loop-holds c = (omega arith, record { bytes = refl; ends = omega arith }, omega arith)
 
-loop-again : tie.Need-loop-preserved invariant-loop decreases-loop
+loop-again : tie.Need-loop-i-preserved invariant-loop decreases-loop
 loop-again c =
-    let head : tie.At-loop invariant-loop decreases-loop = search in
-    let stamps = head.before.args.stamps in (
+    let head : tie.At-loop-i invariant-loop decreases-loop = search in
+    let stamps = head.args.stamps in (
       omega arith,
-      rw (fields_next stamps head.loop.i (omega arith)) at (joined head.loop.invariant.1 c.put-natural.ensures.0),
+      rw (fields_next stamps head.loop-i.i (omega arith)) at (joined head.loop-i.invariant.1 c.put_natural-next.ensures.0),
       omega arith,
     )
 
 returns : tie.Need-returns invariant-loop decreases-loop
 returns c =
-    let all : c.before.loop.i ≡ c.before.before.args.n = omega arith in
-    (rw all at c.before.loop.invariant.1, omega arith)
+    let all : c.loop-i.i ≡ c.args.n = omega arith in
+    (rw all at c.loop-i.invariant.1, omega arith)
 
 pub put_stamps_spec : {M : Type 1} → statement M
 put_stamps_spec =

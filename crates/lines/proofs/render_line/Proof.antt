@@ -18,13 +18,13 @@ whole c = take_all lent_stamps c.args.stamps (omega arith)
 returns : tie.Need-returns
 unfolding line capitals
 returns c =
-    let digits : tie.After-digit2 = search in
-    let byte : tie.After-put = search in
+    let digits : tie.After-digit-second = search in
+    let byte : tie.After-put-start = search in
     let lent : tie.After-least = search in
-    let said : tie.After-put-outcome = search in
-    let start = rw (digits.before.digit.ensures, digits.digit2.ensures) at byte.put.ensures in
-    let outcome = rw (lent.least.ensures, take_least, whole digits.before.before) at said.put-outcome.ensures.0 in
-    rendered (joined start (joined outcome c.put2.ensures)) (omega (arith, start.ends, c.put2.ensures.ends))
+    let said : tie.After-put_outcome-end = search in
+    let start = rw (digits.digit-first.ensures, digits.digit-second.ensures) at byte.put-start.ensures in
+    let outcome = rw (lent.least.ensures, take_least, whole digits.before.before) at said.put_outcome-end.ensures.0 in
+    rendered (joined start (joined outcome c.put.ensures)) (omega (arith, start.ends, c.put.ensures.ends))
 
 pub render_line_spec : {M : Type 1} → statement M
 render_line_spec =
@@ -36,6 +36,5 @@ render_line_spec =
     (λ c κs. search rules)
     (λ c κs. search rules)
     (λ c κs. search rules)
-    (λ c. search rules)
     (λ c κs. search rules)
     returns)

@@ -10,18 +10,16 @@ use Rattle.lines.proofs.render_shape.Tie as tie
 returns : tie.Need-returns
 unfolding shape_line
 returns c =
-    let word : tie.After-put = search in
-    let said : tie.After-put-outcome = search in
-    rendered (joined word.put.ensures (joined said.put-outcome.ensures.0 c.put2.ensures))
-    (omega (arith, word.put.ensures.ends, c.put2.ensures.ends))
+    let word : tie.After-put-start = search in
+    let said : tie.After-put_outcome-end = search in
+    rendered (joined word.put-start.ensures (joined said.put_outcome-end.ensures.0 c.put.ensures))
+    (omega (arith, word.put-start.ensures.ends, c.put.ensures.ends))
 
 pub render_shape_spec : {M : Type 1} → statement M
 render_shape_spec =
     tie.close
     (tie.spec
-    (λ c. search rules)
     (λ c κs. search rules)
     (λ c κs. search rules)
-    (λ c. search rules)
     (λ c κs. search rules)
     returns)

@@ -17,15 +17,15 @@ use Rattle.probe.proofs.deskrook_all_between.Tie as tie
 all : (m : List ℕ) → region (words m) 0 (length m / 4) ≡ words m
 all m = rw (zero-add (length m / 4)) (take_all (length m / 4) (words m) (omega (arith, length_words m)))
 
-returns : tie.Need-returns
+returns : tie.Need-returns-then-all_between
 returns c =
-    let m = c.before.before.before.args.mem.now in
-    sym (rw (← all m, ← c.before.all_between_lem.ensures, c.if1.true))
+    let m = c.args.mem.now in
+    sym (rw (← all m, ← c.all_between.ensures, c.if-all_between.true))
 
-returns-2 : tie.Need-returns-2
+returns-2 : tie.Need-returns-else-all_between
 returns-2 c =
-    let m = c.before.before.before.args.mem.now in
-    sym (rw (← all m, ← c.before.all_between_lem.ensures, c.if1.false))
+    let m = c.args.mem.now in
+    sym (rw (← all m, ← c.all_between.ensures, c.if-all_between.false))
 
 pub deskrook_all_between_spec : {M : Type 1} → statement M
 deskrook_all_between_spec =

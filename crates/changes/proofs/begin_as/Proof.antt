@@ -6,7 +6,7 @@ use Rattle.changes.proofs.Tests.{in-part, begin_as_tests}
 use Rattle.changes.proofs.begin_as.Statement.{statement}
 use Rattle.changes.proofs.begin_as.Tie as tie
 
-returns-3 : tie.Need-returns-3
+returns-3 : tie.Need-returns-in-Passed
 unfolding reply_in act_in entries_after
 returns-3 c = search (serving, begin_as_tests)
 

@@ -6,7 +6,7 @@ use Rattle.changes.proofs.Tests.{in-part}
 use Rattle.changes.proofs.commit.Statement.{statement}
 use Rattle.changes.proofs.commit.Tie as tie
 
-returns-3 : tie.Need-returns-3
+returns-3 : tie.Need-returns-in-Passed
 unfolding reply_in act_in entries_after
 returns-3 c = let act : tie.After-commit = search in search (serving, in-part, act.commit.ensures)
 

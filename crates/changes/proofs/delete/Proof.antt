@@ -6,7 +6,7 @@ use Rattle.changes.proofs.Tests.{in-part}
 use Rattle.changes.proofs.delete.Statement.{statement}
 use Rattle.changes.proofs.delete.Tie as tie
 
-returns-3 : tie.Need-returns-3
+returns-3 : tie.Need-returns-in-Passed
 unfolding reply_in act_in entries_after
 returns-3 c = search serving
 

@@ -6,12 +6,12 @@ use Rattle.changes.proofs.Tests.{in-part}
 use Rattle.changes.proofs.insert.Statement.{statement}
 use Rattle.changes.proofs.insert.Tie as tie
 
-returns-2 : tie.Need-returns-2
-returns-2 c = let tests : tie.After-insert-tests = search in search (serving, tests.insert-tests.ensures.0)
+returns-2 : tie.Need-returns-in-Failed
+returns-2 c = let tests : tie.After-insert_tests = search in search (serving, tests.insert_tests.ensures.0)
 
-returns-3 : tie.Need-returns-3
+returns-3 : tie.Need-returns-in-Passed
 unfolding reply_in act_in entries_after
-returns-3 c = let tests : tie.After-insert-tests = search in search (serving, tests.insert-tests.ensures.0)
+returns-3 c = let tests : tie.After-insert_tests = search in search (serving, tests.insert_tests.ensures.0)
 
 pub insert_spec : {M : Type 1} → statement M
 insert_spec =

@@ -17,4 +17,4 @@ crossings_spec =
     (λ c. search unfit_listing)
     (λ c κs. search serving)
     (λ c. search rules)
-    (λ c. let start : tie.Start = search in search (fit_listing, to_z-of_z w32 _ start.fits.mark)))
+    (λ c. let start : tie.Start = search in search (fit_listing, to_z-of_z w32 _ start.ranges.mark)))

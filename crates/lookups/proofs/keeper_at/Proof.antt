@@ -6,7 +6,7 @@ use Rattle.lookups.proofs.Answers.{cell-inside, keeper_at_tests, keeper_answer}
 use Rattle.lookups.proofs.keeper_at.Statement.{statement}
 use Rattle.lookups.proofs.keeper_at.Tie as tie
 
-returns-3 : tie.Need-returns-3
+returns-3 : tie.Need-returns-in-Passed
 unfolding reply_in act_in entries_after
 returns-3 c = search (serving, keeper_at_tests, keeper_answer)
 

@@ -6,7 +6,7 @@ use Rattle.lookups.proofs.Answers.{cell-inside, latest_tests, reader_answer}
 use Rattle.lookups.proofs.latest.Statement.{statement}
 use Rattle.lookups.proofs.latest.Tie as tie
 
-returns-3 : tie.Need-returns-3
+returns-3 : tie.Need-returns-in-Passed
 unfolding reply_in act_in entries_after
 returns-3 c = search (serving, latest_tests, reader_answer)
 

@@ -6,12 +6,12 @@ use Rattle.lookups.proofs.Answers.{lineage_answer}
 use Rattle.lookups.proofs.lineage.Statement.{statement}
 use Rattle.lookups.proofs.lineage.Tie as tie
 
-returns-2 : tie.Need-returns-2
-returns-2 c = let tests : tie.After-lineage-tests = search in search (serving, tests.lineage-tests.ensures.0)
+returns-2 : tie.Need-returns-in-Failed
+returns-2 c = let tests : tie.After-lineage_tests = search in search (serving, tests.lineage_tests.ensures.0)
 
-returns-3 : tie.Need-returns-3
+returns-3 : tie.Need-returns-in-Passed
 unfolding reply_in act_in entries_after
-returns-3 c = let tests : tie.After-lineage-tests = search in search (serving, lineage_answer, tests.lineage-tests.ensures.0)
+returns-3 c = let tests : tie.After-lineage_tests = search in search (serving, lineage_answer, tests.lineage_tests.ensures.0)
 
 pub lineage_spec : {M : Type 1} → statement M
 lineage_spec =

@@ -6,11 +6,11 @@ use Rattle.lookups.proofs.Answers.{cell-inside, index_open}
 use Rattle.lookups.proofs.own_read.Statement.{statement}
 use Rattle.lookups.proofs.own_read.Tie as tie
 
-returns-3 : tie.Need-returns-3
+returns-3 : tie.Need-returns-in-Passed
 unfolding reply_in act_in entries_after
 returns-3 c =
-    let mine = let start : tie.Start = search in c.before.before.own-changes.ensures start.args.transaction.0 (search index_open) in
-    let read = rw (c.before.latest-reader.ensures, mine) at c.read-current.ensures in
+    let mine = let start : tie.Start = search in c.own_changes.ensures start.args.transaction.0 (search index_open) in
+    let read = rw (c.latest_reader-who.ensures, mine) at c.read_current.ensures in
     search serving
 
 pub own_read_spec : {M : Type 1} → statement M

@@ -6,7 +6,7 @@ use Rattle.lookups.proofs.Answers.{cell-inside, read_at_tests_lem, reader_answer
 use Rattle.lookups.proofs.read_at.Statement.{statement}
 use Rattle.lookups.proofs.read_at.Tie as tie
 
-returns-3 : tie.Need-returns-3
+returns-3 : tie.Need-returns-in-Passed
 unfolding reply_in act_in entries_after
 returns-3 c = search (serving, read_at_tests_lem, reader_answer)
 

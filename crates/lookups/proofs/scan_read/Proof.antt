@@ -6,7 +6,7 @@ use Rattle.lookups.proofs.Answers.{cell-inside, cell_scanned}
 use Rattle.lookups.proofs.scan_read.Statement.{statement}
 use Rattle.lookups.proofs.scan_read.Tie as tie
 
-returns-3 : tie.Need-returns-3
+returns-3 : tie.Need-returns-in-Passed
 unfolding reply_in act_in entries_after
 returns-3 c = search (serving, cell_scanned)
 

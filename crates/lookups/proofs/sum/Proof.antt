@@ -6,12 +6,12 @@ use Rattle.lookups.proofs.Answers.{sum_scanned}
 use Rattle.lookups.proofs.sum.Statement.{statement}
 use Rattle.lookups.proofs.sum.Tie as tie
 
-returns-2 : tie.Need-returns-2
-returns-2 c = let tests : tie.After-sum-tests = search in search (serving, tests.sum-tests.ensures.0)
+returns-2 : tie.Need-returns-in-Failed
+returns-2 c = let tests : tie.After-sum_tests = search in search (serving, tests.sum_tests.ensures.0)
 
-returns-3 : tie.Need-returns-3
+returns-3 : tie.Need-returns-in-Passed
 unfolding reply_in act_in entries_after
-returns-3 c = let tests : tie.After-sum-tests = search in search (serving, sum_scanned, tests.sum-tests.ensures.0)
+returns-3 c = let tests : tie.After-sum_tests = search in search (serving, sum_scanned, tests.sum_tests.ensures.0)
 
 pub sum_spec : {M : Type 1} → statement M
 sum_spec =

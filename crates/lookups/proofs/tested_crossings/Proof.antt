@@ -17,4 +17,4 @@ tested_crossings_spec =
     (λ c κs. (search, search cell_handed_on))
     (λ c. search span_fails)
     (λ c. search rules)
-    (λ c. let start : tie.Start = search in search (listing, to_z-of_z w32 _ start.fits.mark)))
+    (λ c. let start : tie.Start = search in search (listing, to_z-of_z w32 _ start.ranges.mark)))

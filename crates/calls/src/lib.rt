@@ -1,6 +1,8 @@
 // The public interface for programs in Rattle: every call by name, over the lent memory and the lent list of open scans, and the making of a
 // store. Nothing is asked of the caller: any memory, any list and any numbers get an answer. A call that does not change the memory, or the list, takes it as
 // `&`. The crate deskrook has the same for C and Rust.
+#![tactic(auto, unfolding(promise::specs::Promise::ServesBy, promise::specs::Promise::GivesBy, promise::specs::Promise::MovesBy))]
+
 ghost use Rattle.std.specs.Prelude.{◌<◌, ◌≡◌, pos, get_or};
 ghost use Rattle.terms.specs.Measures.{most_columns};
 ghost use Rattle.layout.specs.Sizes.{shape_of, BytesAnswered};

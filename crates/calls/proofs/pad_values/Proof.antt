@@ -13,29 +13,29 @@ use Rattle.terms.specs.Measures.{most_columns}
 use Rattle.calls.proofs.pad_values.Statement.{statement}
 use Rattle.calls.proofs.pad_values.Tie as tie
 
-abbrev invariant-loop : tie.invariant-loop
+abbrev invariant-loop : tie.invariant-loop-i
 invariant-loop values taken₀ i₀ taken i =
     (i ≤ most_columns) × (length taken ≡ most_columns) × (take i taken ≡ take i (padded values))
 
-abbrev decreases-loop : tie.decreases-loop
+abbrev decreases-loop : tie.decreases-loop-i
 decreases-loop values taken₀ i₀ taken i = most_columns - i
 
-loop-again : tie.Need-loop-preserved invariant-loop decreases-loop
+loop-again : tie.Need-loop-i-preserved invariant-loop decreases-loop
 loop-again c =
     let start : tie.Start invariant-loop decreases-loop = search in
-    let loop = c.before.before.loop in
+    let loop = c.loop-i in
     let m = start.args.values.now in
-    let e = to_z-of_z w32 c.value-at.result record { sfits = c.value-at.type-inv } in (
+    let e = to_z-of_z w32 c.value_at.result record { sfits = c.value_at.type_inv } in (
       omega arith,
       length-set loop.taken loop.i _ ∙ loop.invariant.1,
-      take_next (pos 0) loop.taken (padded m) loop.i _ (e ∙ c.value-at.ensures) loop.invariant.2 (omega arith) (omega (arith, padded_length m)),
+      take_next (pos 0) loop.taken (padded m) loop.i _ (e ∙ c.value_at.ensures) loop.invariant.2 (omega arith) (omega (arith, padded_length m)),
     )
 
 returns : tie.Need-returns invariant-loop decreases-loop
 returns c =
-    let m = c.before.before.args.values.now in
-    let n : c.before.loop.i ≡ most_columns = omega arith in
-    take_whole c.before.loop.taken (padded m) most_columns c.before.loop.invariant.1 (padded_length m) (rw n at c.before.loop.invariant.2)
+    let m = c.args.values.now in
+    let n : c.loop-i.i ≡ most_columns = omega arith in
+    take_whole c.loop-i.taken (padded m) most_columns c.loop-i.invariant.1 (padded_length m) (rw n at c.loop-i.invariant.2)
 
 pub pad_values_spec : {M : Type 1} → statement M
 pad_values_spec =

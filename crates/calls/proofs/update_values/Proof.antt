@@ -5,9 +5,9 @@ use Rattle.calls.proofs.update_values.Tie as tie
 
 returns : tie.Need-returns
 returns c =
-    let taken : tie.After-pad-values = search in
+    let taken : tie.After-pad_values-taken = search in
     let updated : tie.After-update = search in
-    rw (← taken.pad-values.ensures) updated.update.ensures
+    rw (← taken.pad_values-taken.ensures) updated.update.ensures
 
 pub update_values_spec : {M : Type 1} → statement M
 update_values_spec = tie.close (tie.spec (λ c κs. search rules) (λ c κs. search rules) (λ c. search rules) returns)

@@ -7,15 +7,15 @@ use Rattle.deskrook.proofs.Tested.{tested}
 use Rattle.deskrook.proofs.reply.check_reply.Statement.{statement}
 use Rattle.deskrook.proofs.reply.check_reply.Tie as tie
 
-returns : tie.Need-returns
+returns : tie.Need-returns-in-Fit
 returns c ps e =
-    let number : tie.After-form-number = search in
+    let number : tie.After-form_number = search in
     let check : tie.After-check = search in
-    let found : tie.After-s = search in
-    c.encode.ensures ∙ ap reply_of (ap Answer.Number number.form-number.ensures ∙ tested _ ps _ (sym found.s.given.1 ∙ check.check.ensures.0 ps e))
+    let found : tie.In-Fit = search in
+    c.encode.ensures ∙ ap reply_of (ap Answer.Number number.form_number.ensures ∙ tested _ ps _ (sym found.in-Fit.is ∙ check.check.ensures.0 ps e))
 
-returns-2 : tie.Need-returns-2
-returns-2 c ps e = c.encode2.ensures ∙ ap reply_of (tested _ ps _ (sym c.before.enum_told.given.1 ∙ c.before.before.before.check.ensures.0 ps e))
+returns-2 : tie.Need-returns-in-Unfit
+returns-2 c ps e = c.encode-in-Unfit.ensures ∙ ap reply_of (tested _ ps _ (sym c.in-Unfit.is ∙ c.check.ensures.0 ps e))
 
 pub check_reply_spec : {M : Type 1} → statement M
 check_reply_spec = tie.close (tie.spec (λ c κs. search rules) (λ c. search rules) (λ c κs. search rules) (λ c κs. search rules) (λ c. search rules) (λ c κs. search rules) returns returns-2)

@@ -6,7 +6,7 @@ use Rattle.output.proofs.lends.Tie as tie
 
 returns : tie.Need-returns
 unfolding lent
-returns c = rw (c.and-between4.ensures, c.before.and-between3.ensures, c.before.before.and-between2.ensures, c.before.before.before.and-between.ensures)
+returns c = rw (c.and_between.ensures, c.and_between-capacity.ensures, c.and_between-ranges.ensures, c.and_between-columns.ensures)
 
 pub lends_spec : {M : Type 1} → statement M
 lends_spec =

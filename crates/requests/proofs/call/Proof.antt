@@ -5,29 +5,29 @@ use Rattle.requests.proofs.Arms.{asks, read_unlent, write_unlent, unlent, tabled
 use Rattle.requests.proofs.call.Statement.{statement}
 use Rattle.requests.proofs.call.Tie as tie
 
-returns : tie.Need-returns
+returns : tie.Need-returns-in-Read
 unfolding call_of
 returns c = search (asks, unlent, read_unlent, tabled)
 
-returns-2 : tie.Need-returns-2
+returns-2 : tie.Need-returns-in-Write
 unfolding call_of
 returns-2 c = search (asks, unlent, write_unlent, tabled)
 
-returns-3 : tie.Need-returns-3
+returns-3 : tie.Need-returns-in-OpenScan
 unfolding call_of
 returns-3 c =
-    let loaded : tie.After-table = search in
-    let call : tie.After-open-listed = search in
-    search (asks, unlent, call.open-listed.ensures loaded.table.ensures)
+    let loaded : tie.After-table-t = search in
+    let call : tie.After-open_listed = search in
+    search (asks, unlent, call.open_listed.ensures loaded.table-t.ensures)
 
-returns-4 : tie.Need-returns-4
+returns-4 : tie.Need-returns-in-Close
 unfolding call_of
 returns-4 c =
-    let loaded : tie.After-table = search in
-    let call : tie.After-close-listed = search in
-    search (asks, unlent, call.close-listed.ensures loaded.table.ensures)
+    let loaded : tie.After-table-t = search in
+    let call : tie.After-close_listed = search in
+    search (asks, unlent, call.close_listed.ensures loaded.table-t.ensures)
 
-returns-5 : tie.Need-returns-5
+returns-5 : tie.Need-returns-in-Crossings
 unfolding call_of
 returns-5 c = search (asks, tabled_given)
 

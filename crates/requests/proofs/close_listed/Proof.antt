@@ -6,9 +6,9 @@ use Rattle.requests.proofs.close_listed.Tie as tie
 
 returns : tie.Need-returns
 returns c =
-    let call : tie.After-close-scan = search in
-    let stored : tie.After-put-entry = search in
-    λ z. listed _ _ _ call.close-scan.result _ _ _ call.close-scan.ensures stored.put_entry.ensures z
+    let call : tie.After-close_scan-listed = search in
+    let stored : tie.After-put_entry = search in
+    λ z. listed _ _ _ call.close_scan-listed.result _ _ _ call.close_scan-listed.ensures stored.put_entry.ensures z
 
 pub close_listed_spec : {M : Type 1} → statement M
 close_listed_spec = tie.close (tie.spec (λ c κs. search rules) (λ c κs. search rules) (λ c. search rules) returns)

@@ -9,8 +9,8 @@ use Rattle.requests.proofs.lent_crossings.Tie as tie
 
 returns : tie.Need-returns
 returns c =
-    let read : tie.After-of-word = search in
-    let mark = to_z-of_z w32 read.of_word.result (record { sfits = read.of_word.ok }) ∙ read.of_word.ensures in
+    let read : tie.After-of_word-mark = search in
+    let mark = to_z-of_z w32 read.of_word-mark.result (record { sfits = read.of_word-mark.type_inv }) ∙ read.of_word-mark.ensures in
     search (all_lent, mark)
 
 pub lent_crossings_spec : {M : Type 1} → statement M

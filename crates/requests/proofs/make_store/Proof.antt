@@ -8,23 +8,23 @@ use Rattle.promise.proofs.Makes.{made_makes}
 use Rattle.requests.proofs.make_store.Statement.{statement}
 use Rattle.requests.proofs.make_store.Tie as tie
 
-returns : tie.Need-returns
+returns : tie.Need-returns-then-accepted
 unfolding table_of
 returns c =
-    let tabled : tie.After-table = search in
-    let made : tie.After-make = search in
-    let test : tie.Then1 = search in
-    let freed : tie.After-free-all = search in
-    made_makes _ _ _ tabled.table.result.length _ _ true _ made.make.ensures (ap (λ (t : Scans). t.length) tabled.table.ensures)
-    (sym test.if1.taken ∙ test.before.accepted.ensures) freed.free_all.ensures
+    let tabled : tie.After-table-t = search in
+    let made : tie.After-make-answer = search in
+    let test : tie.Then-accepted = search in
+    let freed : tie.After-free_all = search in
+    made_makes _ _ _ tabled.table-t.result.length _ _ true _ made.make-answer.ensures (ap (λ (t : Scans). t.length) tabled.table-t.ensures)
+    (sym test.if-accepted.true ∙ test.accepted.ensures) freed.free_all.ensures
 
-returns-2 : tie.Need-returns-2
+returns-2 : tie.Need-returns-else-accepted
 unfolding table_of
 returns-2 c =
-    let tabled : tie.After-table = search in
-    let made : tie.After-make = search in
-    made_makes _ _ _ tabled.table.result.length _ _ false _ made.make.ensures (ap (λ (t : Scans). t.length) tabled.table.ensures)
-    (sym c.if1.false ∙ c.before.accepted.ensures) refl
+    let tabled : tie.After-table-t = search in
+    let made : tie.After-make-answer = search in
+    made_makes _ _ _ tabled.table-t.result.length _ _ false _ made.make-answer.ensures (ap (λ (t : Scans). t.length) tabled.table-t.ensures)
+    (sym c.if-accepted.false ∙ c.accepted.ensures) refl
 
 pub make_store_spec : {M : Type 1} → statement M
 make_store_spec =

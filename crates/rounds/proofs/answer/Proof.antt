@@ -7,27 +7,27 @@ use borrow.Author.Rules.{rules}
 use Rattle.rounds.proofs.answer.Statement.{statement}
 use Rattle.rounds.proofs.answer.Tie as tie
 
-returns : tie.Need-returns
+returns : tie.Need-returns-then-lines-bytes
 returns c = took_nothing _ _ _ _ _ _ (omega arith) (refl, refl, refl)
 
-returns-2 : tie.Need-returns-2
+returns-2 : tie.Need-returns-then-not-q
 returns-2 c =
-    let room : tie.Else1 = search in
-    let shape : tie.After-answer-first = search in
-    took_none shape.answer-first.ensures (omega (arith, room.if1.left)) (not-true _ c.if2.true)
+    let room : tie.Else-lines-bytes = search in
+    let shape : tie.After-answer_first-q = search in
+    took_none shape.answer_first-q.ensures (omega (arith, room.if-lines-bytes.false)) (not-true _ c.if-not-q.true)
 
-answer-commands-requires : tie.Need-answer-commands-requires
+answer-commands-requires : tie.Need-answer_commands-requires
 answer-commands-requires c κs =
-    let shape : tie.After-answer-first = search in
-    let started : tie.Else2 = search in
-    (not-false _ started.if2.left, shape.answer-first.ensures.inside, shape.answer-first.ensures.room)
+    let shape : tie.After-answer_first-q = search in
+    let started : tie.Else-not-q = search in
+    (not-false _ started.if-not-q.false, shape.answer_first-q.ensures.inside, shape.answer_first-q.ensures.room)
 
-returns-3 : tie.Need-returns-3
+returns-3 : tie.Need-returns
 returns-3 c =
-    let room : tie.Else1 = search in
-    let shape : tie.After-answer-first = search in
-    let commands : tie.After-answer-commands = search in
-    took shape.answer-first.ensures (omega (arith, room.if1.left)) _ _ _ (omega (arith, commands.answer-commands.kept)) commands.answer-commands.ensures
+    let room : tie.Else-lines-bytes = search in
+    let shape : tie.After-answer_first-q = search in
+    let commands : tie.After-answer_commands = search in
+    took shape.answer_first-q.ensures (omega (arith, room.if-lines-bytes.false)) _ _ _ (let k = commands.answer_commands.auto in omega arith) commands.answer_commands.ensures
 
 pub answer_spec : {M : Type 1} → statement M
 answer_spec =

@@ -6,17 +6,17 @@ use Rattle.rounds.proofs.Answered.{long, answered}
 use Rattle.rounds.proofs.answer_command.Statement.{statement}
 use Rattle.rounds.proofs.answer_command.Tie as tie
 
-append-line-requires : tie.Need-append-line-requires
+append-line-requires : tie.Need-append_line-requires
 append-line-requires c κs =
-    let turned : tie.After-turn = search in
-    (search rules, turned.turn.ensures.rendered.fits, long turned.turn.ensures refl)
+    let turned : tie.After-turn-t = search in
+    (search rules, turned.turn-t.ensures.rendered.fits, long turned.turn-t.ensures refl)
 
 returns : tie.Need-returns
 unfolding step_at
 returns c =
-    let turned : tie.After-turn = search in
-    let kept : tie.After-append-line = search in
-    rw kept.append-line.ensures.1 (answered turned.turn.ensures refl _ _ _ _ _ _ refl kept.append-line.ensures.0)
+    let turned : tie.After-turn-t = search in
+    let kept : tie.After-append_line = search in
+    rw kept.append_line.ensures.1 (answered turned.turn-t.ensures refl _ _ _ _ _ _ refl kept.append_line.ensures.0)
 
 pub answer_command_spec : {M : Type 1} → statement M
 answer_command_spec =

@@ -7,25 +7,25 @@ use Rattle.turns.specs.Turns.{Does}
 use Rattle.turns.proofs.answer_to_command.Statement.{statement}
 use Rattle.turns.proofs.answer_to_command.Tie as tie
 
-answer-to-known-requires : tie.Need-answer-to-known-requires
+answer-to-known-requires : tie.Need-answer_to_known-requires
 answer-to-known-requires c κs =
-    let choice : tie.After-choose = search in
-    let format : tie.After-chosen = search in
-    (chosen_narrow _ _ (sym choice.choose.ensures ∙ format.chosen.given.1), c.capped.ensures.1)
+    let choice : tie.After-choose-chosen = search in
+    let format : tie.In-Known = search in
+    (chosen_narrow _ _ (sym choice.choose-chosen.ensures ∙ format.in-Known.is), c.capped.ensures.1)
 
-returns : tie.Need-returns
+returns : tie.Need-returns-in-Known
 returns c =
-    let choice : tie.After-choose = search in
-    let format : tie.After-chosen = search in
-    let answered : tie.After-answer-to-known = search in
-    rw (sym choice.choose.ensures ∙ format.chosen.given.1, ← answered.before.capped.ensures.0) answered.answer-to-known.ensures
+    let choice : tie.After-choose-chosen = search in
+    let format : tie.In-Known = search in
+    let answered : tie.After-answer_to_known = search in
+    rw (sym choice.choose-chosen.ensures ∙ format.in-Known.is, ← answered.capped.ensures.0) answered.answer_to_known.ensures
 
-returns-2 : tie.Need-returns-2
+returns-2 : tie.Need-returns-in-Refused
 unfolding Does outcome_to state_after
 returns-2 c =
-    let choice : tie.After-choose = search in
-    let refused : tie.After-chosen2 = search in
-    let e = sym choice.choose.ensures ∙ refused.chosen2.given.1 in (rw (e, ← c.alone.ensures), rw e)
+    let choice : tie.After-choose-chosen = search in
+    let refused : tie.In-Refused = search in
+    let e = sym choice.choose-chosen.ensures ∙ refused.in-Refused.is in (rw (e, ← c.alone.ensures), rw e)
 
 pub answer_to_command_spec : {M : Type 1} → statement M
 answer_to_command_spec =

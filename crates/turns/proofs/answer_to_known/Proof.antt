@@ -7,18 +7,18 @@ use Rattle.turns.proofs.Answers.{format_called}
 use Rattle.turns.proofs.answer_to_known.Statement.{statement}
 use Rattle.turns.proofs.answer_to_known.Tie as tie
 
-returns : tie.Need-returns
+returns : tie.Need-returns-then-operands-width
 unfolding Does outcome_to state_after
 returns c =
-    let short : tie.Then1 = search in
-    let cut = lt-leb _ _ (rw short.before.width.ensures at short.if1.taken) in (rw (cut, ← c.alone.ensures), rw cut)
+    let short : tie.Then-operands-width = search in
+    let cut = lt-leb _ _ (rw short.width.ensures at short.if-operands-width.true) in (rw (cut, ← c.alone.ensures), rw cut)
 
-returns-2 : tie.Need-returns-2
+returns-2 : tie.Need-returns
 returns-2 c =
-    let test : tie.Else1 = search in
+    let test : tie.Else-operands-width = search in
     let decoded : tie.After-decode = search in
     let called : tie.After-call = search in
-    format_called _ _ _ _ decoded.decode.result _ _ _ (rw test.before.width.ensures at test.if1.left) decoded.decode.ensures called.call.ensures
+    format_called _ _ _ _ decoded.decode.result _ _ _ (rw test.width.ensures at test.if-operands-width.false) decoded.decode.ensures called.call.ensures
 
 pub answer_to_known_spec : {M : Type 1} → statement M
 answer_to_known_spec =

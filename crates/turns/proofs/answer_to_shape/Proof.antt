@@ -6,16 +6,16 @@ use Rattle.turns.specs.Turns.{first_answer, first_store}
 use Rattle.turns.proofs.answer_to_shape.Statement.{statement}
 use Rattle.turns.proofs.answer_to_shape.Tie as tie
 
-returns : tie.Need-returns
+returns : tie.Need-returns-then-bytes-lt-SHAPE_BYTES
 unfolding first_answer first_store
-returns c = let cut = lt-leb shape_bytes _ c.if1.true in (rw cut, rw cut)
+returns c = let cut = lt-leb shape_bytes _ c.if-bytes-lt-SHAPE_BYTES.true in (rw cut, rw cut)
 
-returns-2 : tie.Need-returns-2
+returns-2 : tie.Need-returns
 unfolding first_answer first_store
 returns-2 c =
-    let test : tie.Else1 = search in
-    let made : tie.After-make-lent = search in
-    rw (le-leb shape_bytes _ test.if1.left, ← made.before.decode-shape.ensures) made.make-lent.ensures
+    let test : tie.Else-bytes-lt-SHAPE_BYTES = search in
+    let made : tie.After-make_lent = search in
+    rw (le-leb shape_bytes _ test.if-bytes-lt-SHAPE_BYTES.false, ← made.decode_shape.ensures) made.make_lent.ensures
 
 pub answer_to_shape_spec : {M : Type 1} → statement M
 answer_to_shape_spec =

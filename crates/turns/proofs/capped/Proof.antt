@@ -6,15 +6,15 @@ use Rattle.turns.specs.Turns.{capped}
 use Rattle.turns.proofs.capped.Statement.{statement}
 use Rattle.turns.proofs.capped.Tie as tie
 
-returns : tie.Need-returns
+returns : tie.Need-returns-then-columns-lt-MOST_COLUMNS
 unfolding capped
 returns c =
-    (rw (lt-ltb c.before.args.columns most_columns c.if1.true), omega arith)
+    (rw (lt-ltb c.args.columns most_columns c.if-columns-lt-MOST_COLUMNS.true), omega arith)
 
-returns-2 : tie.Need-returns-2
+returns-2 : tie.Need-returns-else-columns-lt-MOST_COLUMNS
 unfolding capped
 returns-2 c =
-    (rw (le-ltb c.before.args.columns most_columns c.if1.false), omega arith)
+    (rw (le-ltb c.args.columns most_columns c.if-columns-lt-MOST_COLUMNS.false), omega arith)
 
 pub capped_spec : {M : Type 1} → statement M
 capped_spec = tie.close (tie.spec returns returns-2)

@@ -10,22 +10,21 @@ use Rattle.turns.proofs.Answers.{width_most}
 use Rattle.turns.proofs.operand_width.Statement.{statement}
 use Rattle.turns.proofs.operand_width.Tie as tie
 
-known : (c : tie.After-chosen) → chosen c.before.before.before.args.byte ≡ Chosen.Known c.chosen.given.0.0
-known c = sym c.before.before.choose.ensures ∙ c.chosen.given.1
+known : (c : tie.After-capped) → chosen c.args.byte ≡ Chosen.Known c.in-Known.format
+known c = sym c.choose-chosen.ensures ∙ c.in-Known.is
 
-small : (c : tie.After-capped) → Small c.capped.result c.before.before.chosen.given.0.0
-small c = (chosen_narrow _ _ (known c.before.before), c.capped.ensures.1)
+small : (c : tie.After-capped) → Small c.capped.result c.in-Known.format
+small c = (chosen_narrow _ _ (known c), c.capped.ensures.1)
 
-returns : tie.Need-returns
+returns : tie.Need-returns-in-Known
 unfolding operand_width
 returns c =
-    let capped = c.before in
-    let format = capped.before.before in
-    (rw (known format, ← capped.capped.ensures.0) c.width.ensures, rw c.width.ensures (width_most _ format.chosen.given.0.0 (small capped)))
+    let capped : tie.After-capped = search in
+    (rw (known capped, ← c.capped.ensures.0) c.width.ensures, rw c.width.ensures (width_most _ c.in-Known.format (small capped)))
 
-returns-2 : tie.Need-returns-2
+returns-2 : tie.Need-returns-in-Refused
 unfolding operand_width
-returns-2 c = (rw (sym c.before.before.choose.ensures ∙ c.enum_told.given.1), omega arith)
+returns-2 c = (rw (sym c.choose-chosen.ensures ∙ c.in-Refused.is), omega arith)
 
 pub operand_width_spec : {M : Type 1} → statement M
 operand_width_spec =

@@ -8,9 +8,9 @@ use Rattle.turns.proofs.start.Tie as tie
 
 returns : tie.Need-returns
 returns c =
-    let answered : tie.After-answer-to-shape = search in
-    let a = answered.answer-to-shape in
-    turned _ shape_line (λ a. a) _ _ _ _ _ a.result _ refl refl a.ensures.0 c.before.render-shape.ensures c.goes_on.ensures a.ensures.1
+    let answered : tie.After-answer_to_shape-answer = search in
+    let a = answered.answer_to_shape-answer in
+    turned _ shape_line (λ a. a) _ _ _ _ _ a.result _ refl refl a.ensures.0 c.render_shape-length.ensures c.goes_on.ensures a.ensures.1
 
 pub start_spec : {M : Type 1} → statement M
 start_spec =

@@ -12,9 +12,9 @@ returns : tie.Need-returns
 unfolding Does
 returns c =
     let start : tie.Start = search in
-    let answered : tie.After-answer-to-command = search in
-    let a = answered.answer-to-command in
-    turned _ (line_of start.args.byte) (λ o. o.answer) _ _ _ _ _ (given_by a.result) _ refl refl a.ensures.0 c.before.render-line.ensures c.goes_on.ensures a.ensures.1
+    let answered : tie.After-answer_to_command-called = search in
+    let a = answered.answer_to_command-called in
+    turned _ (line_of start.args.byte) (λ o. o.answer) _ _ _ _ _ (given_by a.result) _ refl refl a.ensures.0 c.render_line-length.ensures c.goes_on.ensures a.ensures.1
 
 pub turn_spec : {M : Type 1} → statement M
 turn_spec =

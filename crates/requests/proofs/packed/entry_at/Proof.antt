@@ -13,11 +13,11 @@ returns c =
     let start : tie.Start = search in
     let list = start.args.list.now in
     let one : tie.After-get = search in
-    let two : tie.After-get2 = search in
-    let three : tie.After-get3 = search in
-    let four : tie.After-get4 = search in
-    rw (four.get4.ensures, three.get3.ensures, two.get2.ensures, one.get.ensures)
-    (sym (entries_at (words list) start.args.i (omega (arith, length_words list, start.pre))))
+    let two : tie.After-get-2 = search in
+    let three : tie.After-get-3 = search in
+    let four : tie.After-get-4 = search in
+    rw (four.get-4.ensures, three.get-3.ensures, two.get-2.ensures, one.get.ensures)
+    (sym (entries_at (words list) start.args.i (omega (arith, length_words list, start.requires))))
 
 pub entry_at_spec : {M : Type 1} → statement M
 entry_at_spec =

@@ -11,7 +11,7 @@ returns : tie.Need-returns
 returns c =
     let start : tie.Start = search in
     let list = start.args.list.now in
-    rw c.before.before.fill.ensures (entries_freed (words list) _ (omega (arith, length_words list)))
+    rw c.fill.ensures (entries_freed (words list) _ (omega (arith, length_words list)))
 
 pub free_all_spec : {M : Type 1} → statement M
 free_all_spec =

@@ -10,19 +10,19 @@ use Rattle.requests.proofs.Entries.{entries_put, length_entries}
 use Rattle.requests.proofs.packed.put_entry.Statement.{statement}
 use Rattle.requests.proofs.packed.put_entry.Tie as tie
 
-returns : tie.Need-returns
+returns : tie.Need-returns-then-i-list
 returns c =
     let one : tie.After-put = search in
-    let two : tie.After-put2 = search in
-    let three : tie.After-put3 = search in
-    let four : tie.After-put4 = search in
+    let two : tie.After-put-then-i-list = search in
+    let three : tie.After-put-then-i-list-2 = search in
+    let four : tie.After-put-then-i-list-3 = search in
     let start : tie.Start = search in
     let list = start.args.list.now in
-    rw (four.put4.ensures, three.put3.ensures, two.put2.ensures, one.put.ensures) (entries_put (words list) start.args.i _ _ _ _ (omega (arith, length_words list)))
+    rw (four.put-then-i-list-3.ensures, three.put-then-i-list-2.ensures, two.put-then-i-list.ensures, one.put.ensures) (entries_put (words list) start.args.i _ _ _ _ (omega (arith, length_words list)))
 
-returns-2 : tie.Need-returns-2
+returns-2 : tie.Need-returns-else-i-list
 returns-2 c =
-    let a = c.before.before.args in
+    let a = c.args in
     let ws = words a.list.now in
     sym (set_out (entries_of ws) a.i a.p (omega (arith, length_words a.list.now, length_entries ws)))
 

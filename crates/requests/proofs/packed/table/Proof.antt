@@ -12,32 +12,32 @@ use Rattle.requests.proofs.Entries.{length_entries}
 use Rattle.requests.proofs.packed.table.Statement.{statement}
 use Rattle.requests.proofs.packed.table.Tie as tie
 
-abbrev invariant-loop : tie.invariant-loop
+abbrev invariant-loop : tie.invariant-loop-i
 invariant-loop list n t₀ i₀ t i = Entered (entries_of (words list)) n t i
 
-abbrev decreases-loop : tie.decreases-loop
+abbrev decreases-loop : tie.decreases-loop-i
 decreases-loop list n t₀ i₀ t i = n - i
 
-loop-holds : tie.Need-loop-init invariant-loop decreases-loop
+loop-holds : tie.Need-loop-i-init invariant-loop decreases-loop
 loop-holds c =
-    let l = c.before.before.args.list.now in
-    none_entered (entries_of (words l)) _ _ (omega (arith, length_words l, length_entries (words l))) c.blank.ensures
+    let l = c.args.list.now in
+    none_entered (entries_of (words l)) _ _ (omega (arith, length_words l, length_entries (words l))) c.blank-t.ensures
 
-add-open-requires : tie.Need-add-open-requires invariant-loop decreases-loop
-add-open-requires c κs = (omega arith, sym c.before.is_open.ensures ∙ c.if1.true)
+add-open-requires : tie.Need-add_open-t-requires invariant-loop decreases-loop
+add-open-requires c κs = (omega arith, sym c.is_open.ensures ∙ c.if-is_open.true)
 
-loop-again : tie.Need-loop-preserved invariant-loop decreases-loop
+loop-again : tie.Need-loop-i-preserved invariant-loop decreases-loop
 loop-again c =
-    let head : tie.At-loop invariant-loop decreases-loop = search in
-    let l = head.loop in
-    let e = c.before.before.entry_at in
+    let head : tie.At-loop-i invariant-loop decreases-loop = search in
+    let l = head.loop-i in
+    let e = c.entry_at-p in
     ⊎_elim
-    (λ w. open_entered _ _ l.t _ l.i e.result l.invariant (omega arith) e.ensures (w.2 ∙ w.1.ensures))
-    (λ w. rw w.1 (free_entered _ _ l.t l.i e.result l.invariant (omega arith) e.ensures (sym c.before.is_open.ensures ∙ w.0.left)))
-    c.if1.branch
+    (λ w. open_entered _ _ l.t _ l.i e.result l.invariant (omega arith) e.ensures (w.t-is ∙ w.add_open-t.ensures))
+    (λ w. rw w.t-is (free_entered _ _ l.t l.i e.result l.invariant (omega arith) e.ensures (sym c.is_open.ensures ∙ w.if-is_open.false)))
+    c.if-is_open.branch-raw
 
 returns : tie.Need-returns invariant-loop decreases-loop
-returns c = c.set_length.ensures ∙ all_entered _ _ _ _ c.before.before.loop.invariant (omega arith)
+returns c = c.set_length.ensures ∙ all_entered _ _ _ _ c.loop-i.invariant (omega arith)
 
 pub table_spec : {M : Type 1} → statement M
 table_spec =

@@ -1,7 +1,6 @@
 // Runs packed streams of commands through gatebook's library and writes their lines. Each stream's store is made anew in the memory that the stream before it
 // left. The pack is read from standard input; reference/src/pack.rs describes it, and the second program writes it and the lines that are expected.
-ghost use Rattle.std.specs.Prelude.{◌≡◌, ◌+◌, ◌<◌, ◌≤◌, length};
-ghost use Rattle.io.specs.Counts.{IsPrefixLen};
+ghost use Rattle.std.specs.Prelude.{◌≡◌, ◌+◌, ◌<◌, ◌≤◌, length, take};
 ghost use Rattle.turns.specs.Gatebook.{memory_bytes, list_bytes};
 ghost use Rattle.replay.specs.Pack.{pack_bytes, head_bytes};
 
@@ -53,7 +52,7 @@ fn least(a: usize, b: usize) -> usize
 
 // A number of bytes of a line, at most all.
 fn within(n: usize, line: &[u8]) -> usize
-    ensures { IsPrefixLen result line.now }
+    ensures { (result ≤ length line.now) × (result ≡ length (take result line.now)) }
 {
     least(n, line.len())
 }
@@ -402,7 +401,7 @@ fn read_behind<R: Read>(reader: &mut R, buffer: &mut [u8], done: usize) -> usize
 
 // Reads until the buffer is full, the input ends or a read fails. It answers how many bytes came.
 fn read_full<R: Read>(reader: &mut R, buffer: &mut [u8]) -> usize
-    ensures { IsPrefixLen result buffer.new }
+    ensures { (result ≤ length buffer.new) × (result ≡ length (take result buffer.new)) }
 {
     let mut done = 0;
     while done < buffer.len() {

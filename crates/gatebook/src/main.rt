@@ -1,5 +1,7 @@
 // The program `gatebook`: it reads the shape and commands from standard input and writes a line for each to standard output. It reads what there is, has it
 // answered, and writes the lines before it reads again, so that neither the input nor the output has to fit a buffer.
+#![tactic(auto)]
+
 mod buffers;
 mod course;
 

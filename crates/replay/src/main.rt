@@ -1,5 +1,7 @@
 // Runs packed streams of commands through gatebook's library and writes their lines. Each stream's store is made anew in the memory that the stream before it
 // left. The pack is read from standard input; reference/src/pack.rs describes it, and the second program writes it and the lines that are expected.
+#![tactic(auto)]
+
 ghost use Rattle.std.specs.Prelude.{◌≡◌, ◌+◌, ◌<◌, ◌≤◌, length, take};
 ghost use Rattle.turns.specs.Gatebook.{memory_bytes, list_bytes};
 ghost use Rattle.replay.specs.Pack.{pack_bytes, head_bytes};

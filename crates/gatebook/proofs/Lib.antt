@@ -1,3 +1,2 @@
--- Bytes that move in a buffer, and the program's rounds one after another.
-pub mod Moving
+-- The program's rounds one after another.
 pub mod Ran

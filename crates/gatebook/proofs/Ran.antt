@@ -1,37 +1,20 @@
 -- The program's rounds: what a round leaves moves to the front, and the rounds one after another move from the opening on. Once the program has ended, what it has
 -- sent is what must be written.
-use Prim.Native.Nat.{ℕ, ◌+◌, ◌-◌, ◌≤◌}
+use Prim.Native.Nat.{ℕ}
 use mathlib.Core.Path.{◌≡◌, ap, sym, ◌∙◌}
 use mathlib.Core.Bool.{true, false}
 use mathlib.Core.List.{List, [], ◌++◌, append-nil, append_assoc}
 use native.Mathlib.Omega.{arith}
-use lib.ListN.{length, take, drop, take-append-drop, length-append, length-drop}
+use lib.ListN.{length, take, take-append-drop, length-append, length-drop}
 use lib.Seq.{slice, take-take, length-take-le}
 use Rattle.promise.specs.Promise.{Lent}
 use Rattle.turns.specs.Gatebook.{GatebookWrites}
 use Rattle.turns.proofs.Gatebook.{gatebook_writes}
-use Rattle.rounds.specs.declared.Progress.{Progress}
-use Rattle.rounds.specs.Due.{flow, due, room_for, Round, Took}
+use Rattle.rounds.specs.Due.{due}
 use Rattle.rounds.specs.Rounds.{opening}
 use Rattle.rounds.proofs.Due.{never, due_off, moved_none}
 use Rattle.gatebook.specs.declared.course.Course.{Course}
 use Rattle.gatebook.specs.Course.{flow_of, Opened, Received, Rounded, Sent, Ran, RanWrites}
-
--- ---- one round: what is left moves to the front
-pub rounded : (c d : Course) (q : Progress) (x y : Lent) (old new lines : List ℕ) → c.held ≤ length old → room_for (length old) ≤ length lines → flow q ≡ flow_of d
-    → Took c.last (flow_of c) q x y (take c.held old) lines
-    → take (c.held - q.taken) new ≡ slice q.taken (q.taken + (c.held - q.taken)) old → length new ≡ length old
-    → (d.held ≡ c.held - q.taken) × (d.written ≡ q.written) × (d.last ≡ c.last) × (d.read ≡ c.read) × (d.sent ≡ c.sent)
-    → Rounded c d x y old new lines
-rounded c d q x y old new lines h room f t m same g =
-    let size : length (take c.held old) ≡ c.held = length-take-le c.held old h in
-    let taken = t.inside in
-    let end : q.taken + (c.held - q.taken) ≡ c.held = omega arith in
-    let left : take d.held new ≡ drop q.taken (take c.held old) = rw g.0 m ∙ ap (λ (n : ℕ). slice q.taken n old) end in
-    let r : Round c.last (flow_of c) x (take c.held old) (flow_of d) y (take d.held new) (take d.written lines)
-    = rw (left, g.1, ← f) (t.round (omega arith)) in
-    let there : length (take d.held new) ≡ d.held = length-take-le d.held new (omega (arith, g.0)) in
-    record { round = r; last = g.2; inside = omega (arith, g.0); room = λ o. omega (arith, r.few o); fits = omega (arith, g.1, t.fits); read = g.3; sent = g.4 }
 
 -- ---- all rounds
 pub ran_none : (x : Lent) (c : Course) (input : List ℕ) → Opened c → Ran x c x input

@@ -1,9 +1,8 @@
-// The bytes that a program moves between its buffers, and the one read and the one write that it makes. Reading and writing go through the C library, whose
-// calls are assumed to do as its declarations say.
+// The bytes that a program moves between its buffers, and the one read and the one write that it makes, of any reader and any writer.
 ghost use Rattle.std.specs.Prelude.{◌≡◌, ◌+◌, ◌≤◌, length, take};
 ghost use Rattle.std.proofs.Math.Seq.{slice};
 
-use libc::{STDIN_FILENO, STDOUT_FILENO};
+use std::io::{Read, Write};
 
 // The n bytes from `from` on move to the front.
 pub fn move_down(buffer: &mut [u8], from: usize, n: usize)
@@ -18,27 +17,28 @@ pub fn move_down(buffer: &mut [u8], from: usize, n: usize)
 }
 
 // One read behind the first `to` bytes of the buffer. It answers how many bytes came, 0 at the end of the input and where the read fails.
-pub fn read_behind(buffer: &mut [u8], to: usize) -> usize
+pub fn read_behind<R: Read>(reader: &mut R, buffer: &mut [u8], to: usize) -> usize
     requires { to ≤ length buffer.old }
     ensures { (to + result ≤ length buffer.old) × (take to buffer.new ≡ take to buffer.old) }
 {
-    let part = &mut buffer[to..];
-    let got = libc::read(STDIN_FILENO, part);
-    io::count(got, part)
+    match reader.read(&mut buffer[to..]) {
+        Ok(n) => n,
+        Err(_) => 0,
+    }
 }
 
-// What was handed to the system to write, and whether all of it was written.
+// What was handed to the writer, and whether all of it was written.
 #[derive(Clone, Copy)]
 pub struct Written {
     pub bytes: usize,
     pub done: bool,
 }
 
-// One write, of the first n bytes of the lines. Where there is nothing to write, it makes no call of the system.
-pub fn write_lines(lines: &[u8], n: usize) -> Written
+// The first n bytes of the lines are written. Where there is nothing to write, the writer is not called.
+pub fn write_lines<W: Write>(writer: &mut W, lines: &[u8], n: usize) -> Written
     requires { n ≤ length lines.now }
     ensures { result.bytes ≡ n }
 {
-    let done = io::write_all(STDOUT_FILENO, &lines[..n]);
+    let done = writer.write_all(&lines[..n]).is_ok();
     Written { bytes: n, done }
 }

@@ -7,6 +7,7 @@ ghost use Rattle.gatebook.specs.Course.{most_bytes, goes, Opened, Received, Roun
 
 use crate::buffers::{move_down, read_behind, write_lines};
 use rounds::{Progress, answer};
+use std::io::{Read, Write};
 
 // No run comes to so many bytes, 2^63. The bytes are counted, since every loop must be proved to end and nothing says that the input does.
 const MOST_BYTES: usize = 9223372036854775808;
@@ -59,12 +60,12 @@ pub fn goes_on(c: Course) -> bool
 }
 
 // One read behind the bytes that are held. There is room for one, so that nothing comes only where the input ends.
-pub fn receive(input: &mut [u8], c: Course) -> Course
+pub fn receive<R: Read>(reader: &mut R, input: &mut [u8], c: Course) -> Course
     requires { (c.held < length input.old) × (c.read < most_bytes) × (length input.old ≤ most_bytes) }
     ensures { Received c result input.old input.new }
 {
     let held = c.held;
-    let end = held + read_behind(input, held);
+    let end = held + read_behind(reader, input, held);
     Course {
         on: c.on,
         started: c.started,
@@ -116,12 +117,12 @@ pub fn round(
 }
 
 // What waits is written.
-pub fn send(lines: &[u8], c: Course) -> Course
+pub fn send<W: Write>(writer: &mut W, lines: &[u8], c: Course) -> Course
     requires { (c.written ≤ length lines.now) × (c.sent < most_bytes) × (length lines.now ≤ most_bytes) }
     ensures { Sent c result }
 {
     let written = c.written;
-    let w = write_lines(lines, written);
+    let w = write_lines(writer, lines, written);
     Course {
         on: c.on,
         started: c.started,

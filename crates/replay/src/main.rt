@@ -1,12 +1,13 @@
 // Runs packed streams of commands through gatebook's library and writes their lines. Each stream's store is made anew in the memory that the stream before it
 // left. The pack is read from standard input; reference/src/pack.rs describes it, and the second program writes it and the lines that are expected.
-ghost use Rattle.std.specs.Prelude.{◌≡◌, ◌+◌, ◌<◌, ◌≤◌, length};
-ghost use Rattle.io.specs.Counts.{IsPrefixLen};
+#![tactic(auto)]
+
+ghost use Rattle.std.specs.Prelude.{◌≡◌, ◌+◌, ◌<◌, ◌≤◌, length, take};
 ghost use Rattle.turns.specs.Gatebook.{memory_bytes, list_bytes};
 ghost use Rattle.replay.specs.Pack.{pack_bytes, head_bytes};
 
 use decimal::LINE_BYTES;
-use libc::{STDIN_FILENO, STDOUT_FILENO};
+use std::io::{Read, Write};
 use turns::{LIST_BYTES, MEMORY_BYTES, columns_of, operand_width, start, turn};
 
 // What the lent bytes begin with, other than zeros.
@@ -53,7 +54,7 @@ fn least(a: usize, b: usize) -> usize
 
 // A number of bytes of a line, at most all.
 fn within(n: usize, line: &[u8]) -> usize
-    ensures { IsPrefixLen result line.now }
+    ensures { (result ≤ length line.now) × (result ≡ length (take result line.now)) }
 {
     least(n, line.len())
 }
@@ -106,20 +107,28 @@ fn hashed(line: &[u8], n: usize, hash: u32) -> u32 {
     h
 }
 
-fn write(line: &[u8], n: usize) {
+// Whether a write fails is asked nowhere: the lines that come are compared with those that are expected.
+fn write<W: Write>(writer: &mut W, line: &[u8], n: usize) {
     let end = within(n, line);
-    io::write_all(STDOUT_FILENO, &line[..end]);
+    let _ = writer.write_all(&line[..end]);
 }
 
 // Callers have an array that a callee filled, and by this type need not show its length.
-fn write_line(line: &[u8; LINE_BYTES], n: usize) {
-    write(line, n);
+fn write_line<W: Write>(writer: &mut W, line: &[u8; LINE_BYTES], n: usize) {
+    write(writer, line, n);
 }
 
 // A line is written, or folded into the number and the hash. `on` is whether the stream goes on after it.
-fn put_line(line: &[u8; LINE_BYTES], n: usize, on: bool, folded: bool, c: Course) -> Course {
+fn put_line<W: Write>(
+    writer: &mut W,
+    line: &[u8; LINE_BYTES],
+    n: usize,
+    on: bool,
+    folded: bool,
+    c: Course,
+) -> Course {
     if !folded {
-        write(line, n);
+        write(writer, line, n);
         return Course {
             on,
             columns: c.columns,
@@ -138,7 +147,8 @@ fn put_line(line: &[u8; LINE_BYTES], n: usize, on: bool, folded: bool, c: Course
 }
 
 // A command byte with its operands, and its line. Nothing is asked here of what the line says: the lines are compared.
-fn answer(
+fn answer<W: Write>(
+    writer: &mut W,
     mem: &mut [u8],
     scans: &mut [u8],
     byte: u8,
@@ -148,7 +158,7 @@ fn answer(
 ) -> Course {
     let mut line = [0u8; LINE_BYTES];
     let t = turn(mem, scans, c.columns, byte, operands, &mut line);
-    put_line(&line, t.length, t.on, folded, c)
+    put_line(writer, &line, t.length, t.on, folded, c)
 }
 
 // How many bytes of operands a command byte has, of those that are left.
@@ -159,7 +169,8 @@ fn operands(byte: u8, columns: usize, left: usize) -> usize
 }
 
 // One command: the byte at `at`, and its operands, as many as there are.
-fn run_command(
+fn run_command<W: Write>(
+    writer: &mut W,
     mem: &mut [u8],
     scans: &mut [u8],
     bytes: &[u8],
@@ -173,16 +184,23 @@ fn run_command(
     let byte = bytes[at];
     let from = at + 1;
     let end = from + operands(byte, c.columns, bytes.len() - from);
-    let course = answer(mem, scans, byte, &bytes[from..end], folded, c);
+    let course = answer(writer, mem, scans, byte, &bytes[from..end], folded, c);
     Step { at: end, course }
 }
 
 // The commands of a record, once.
-fn run_once(mem: &mut [u8], scans: &mut [u8], bytes: &[u8], folded: bool, c: Course) -> Course {
+fn run_once<W: Write>(
+    writer: &mut W,
+    mem: &mut [u8],
+    scans: &mut [u8],
+    bytes: &[u8],
+    folded: bool,
+    c: Course,
+) -> Course {
     let mut course = c;
     let mut at = 0;
     while course.on && at < bytes.len() {
-        let s = run_command(mem, scans, bytes, at, folded, course);
+        let s = run_command(writer, mem, scans, bytes, at, folded, course);
         at = s.at;
         course = s.course;
     }
@@ -212,7 +230,8 @@ fn head_at(pack: &[u8], at: usize) -> Head
 }
 
 // The commands of a record, once, and the two numbers rise.
-fn run_and_raise(
+fn run_and_raise<W: Write>(
+    writer: &mut W,
     mem: &mut [u8],
     scans: &mut [u8],
     bytes: &mut [u8],
@@ -220,14 +239,15 @@ fn run_and_raise(
     folded: bool,
     c: Course,
 ) -> Course {
-    let course = run_once(mem, scans, bytes, folded, c);
+    let course = run_once(writer, mem, scans, bytes, folded, c);
     raise(bytes, head.first);
     raise(bytes, head.second);
     course
 }
 
 // The commands of a record as often as it says. Once the stream has ended none of them is run.
-fn run_times(
+fn run_times<W: Write>(
+    writer: &mut W,
     mem: &mut [u8],
     scans: &mut [u8],
     bytes: &mut [u8],
@@ -239,15 +259,15 @@ fn run_times(
     let mut left = head.times;
     while left > 0 {
         left -= 1;
-        course = run_and_raise(mem, scans, bytes, head, folded, course);
+        course = run_and_raise(writer, mem, scans, bytes, head, folded, course);
     }
     course
 }
 
 // A stream begins with its title.
-fn put_title(title: &[u8]) -> Course {
-    io::write_all(STDOUT_FILENO, title);
-    io::write_all(STDOUT_FILENO, b"\n");
+fn put_title<W: Write>(writer: &mut W, title: &[u8]) -> Course {
+    let _ = writer.write_all(title);
+    let _ = writer.write_all(b"\n");
     Course {
         on: false,
         columns: 0,
@@ -257,10 +277,10 @@ fn put_title(title: &[u8]) -> Course {
 }
 
 // The shape's line, and the store.
-fn begin(mem: &mut [u8], scans: &mut [u8], shape: &[u8]) -> Course {
+fn begin<W: Write>(writer: &mut W, mem: &mut [u8], scans: &mut [u8], shape: &[u8]) -> Course {
     let mut line = [0u8; LINE_BYTES];
     let t = start(mem, scans, shape, &mut line);
-    write_line(&line, t.length);
+    write_line(writer, &line, t.length);
     Course {
         on: t.on,
         columns: columns_of(shape),
@@ -270,14 +290,20 @@ fn begin(mem: &mut [u8], scans: &mut [u8], shape: &[u8]) -> Course {
 }
 
 // The line for those that are folded.
-fn put_digest(c: Course) {
-    io::print_decimal(STDOUT_FILENO, c.lines as u64);
-    io::write_all(STDOUT_FILENO, b" lines ");
-    io::print_hex(STDOUT_FILENO, c.hash as u64, 8);
-    io::write_all(STDOUT_FILENO, b"\n");
+fn put_digest<W: Write>(writer: &mut W, c: Course) {
+    let lines = c.lines;
+    let hash = c.hash;
+    let _ = writeln!(writer, "{lines} lines {hash:08x}");
 }
 
-fn run_folded(mem: &mut [u8], scans: &mut [u8], bytes: &mut [u8], head: Head, c: Course) -> Course {
+fn run_folded<W: Write>(
+    writer: &mut W,
+    mem: &mut [u8],
+    scans: &mut [u8],
+    bytes: &mut [u8],
+    head: Head,
+    c: Course,
+) -> Course {
     if !c.on {
         return c;
     }
@@ -287,36 +313,50 @@ fn run_folded(mem: &mut [u8], scans: &mut [u8], bytes: &mut [u8], head: Head, c:
         lines: 0,
         hash: HASH,
     };
-    let after = run_times(mem, scans, bytes, head, true, before);
-    put_digest(after);
+    let after = run_times(writer, mem, scans, bytes, head, true, before);
+    put_digest(writer, after);
     after
 }
 
 // One record.
-fn run_record(mem: &mut [u8], scans: &mut [u8], bytes: &mut [u8], head: Head, c: Course) -> Course {
+fn run_record<W: Write>(
+    writer: &mut W,
+    mem: &mut [u8],
+    scans: &mut [u8],
+    bytes: &mut [u8],
+    head: Head,
+    c: Course,
+) -> Course {
     let kind = head.kind;
     match kind {
-        TITLE => put_title(bytes),
-        SHAPE => begin(mem, scans, bytes),
-        COMMANDS => run_times(mem, scans, bytes, head, false, c),
-        _ => run_folded(mem, scans, bytes, head, c),
+        TITLE => put_title(writer, bytes),
+        SHAPE => begin(writer, mem, scans, bytes),
+        COMMANDS => run_times(writer, mem, scans, bytes, head, false, c),
+        _ => run_folded(writer, mem, scans, bytes, head, c),
     }
 }
 
 // The record at an index of the pack.
-fn take_record(mem: &mut [u8], scans: &mut [u8], pack: &mut [u8], at: usize, c: Course) -> Step
+fn take_record<W: Write>(
+    writer: &mut W,
+    mem: &mut [u8],
+    scans: &mut [u8],
+    pack: &mut [u8],
+    at: usize,
+    c: Course,
+) -> Step
     requires { at + head_bytes ≤ length pack.old }
     ensures { (at < result.at) × (result.at ≤ length pack.old) }
 {
     let head = head_at(pack, at);
     let from = at + HEAD;
     let end = from + least(head.size, pack.len() - from);
-    let course = run_record(mem, scans, &mut pack[from..end], head, c);
+    let course = run_record(writer, mem, scans, &mut pack[from..end], head, c);
     Step { at: end, course }
 }
 
 // All records, as long as there is a whole head.
-fn run_all(mem: &mut [u8], scans: &mut [u8], pack: &mut [u8]) {
+fn run_all<W: Write>(writer: &mut W, mem: &mut [u8], scans: &mut [u8], pack: &mut [u8]) {
     let mut course = Course {
         on: false,
         columns: 0,
@@ -325,7 +365,7 @@ fn run_all(mem: &mut [u8], scans: &mut [u8], pack: &mut [u8]) {
     };
     let mut at = 0;
     while pack.len() - at >= HEAD {
-        let s = take_record(mem, scans, pack, at, course);
+        let s = take_record(writer, mem, scans, pack, at, course);
         at = s.at;
         course = s.course;
     }
@@ -350,10 +390,38 @@ fn pack_buffer() -> [u8; PACK]
     [0; PACK]
 }
 
-fn main() {
+// One read behind the first `done` bytes of the buffer. It answers how many bytes came, 0 at the end of the input and where the read fails.
+fn read_behind<R: Read>(reader: &mut R, buffer: &mut [u8], done: usize) -> usize
+    requires { done ≤ length buffer.old }
+    ensures { done + result ≤ length buffer.new }
+{
+    match reader.read(&mut buffer[done..]) {
+        Ok(n) => n,
+        Err(_) => 0,
+    }
+}
+
+// Reads until the buffer is full, the input ends or a read fails. It answers how many bytes came.
+fn read_full<R: Read>(reader: &mut R, buffer: &mut [u8]) -> usize
+    ensures { (result ≤ length buffer.new) × (result ≡ length (take result buffer.new)) }
+{
+    let mut done = 0;
+    while done < buffer.len() {
+        let n = read_behind(reader, buffer, done);
+        if n == 0 {
+            break;
+        }
+        done += n;
+    }
+    done
+}
+
+fn main(rt: HostRuntime) {
+    let mut reader = rt.stdin();
+    let mut writer = rt.stdout();
     let mut mem = lent_memory();
     let mut scans = lent_list();
     let mut pack = pack_buffer();
-    let n = io::read_full(STDIN_FILENO, &mut pack);
-    run_all(&mut mem, &mut scans, &mut pack[..n]);
+    let n = read_full(&mut reader, &mut pack);
+    run_all(&mut writer, &mut mem, &mut scans, &mut pack[..n]);
 }

@@ -1,5 +1,7 @@
 // What every call begins with: the test of the lent memory and of the scan list, and what the call's own tests find. The conditions here are
 // rules 3.5, 3.6, 3.7 and 3.13 of docs/SPECIFICATION.md, which several calls share. What follows for a whole call is in specs/ and proofs/.
+#![tactic(auto)]
+
 ghost use Rattle.std.specs.Prelude.{◌≡◌, ◌*◌};
 ghost use Rattle.layout.specs.View.{last_stamp, view_of, Suffices};
 ghost use Rattle.history.specs.History.{no_column, no_range};

@@ -1,5 +1,7 @@
 // The calls that change transactions and rows, over a lent memory and the table of the scan list: begin, begin as, insert, update, delete, commit, abort. Each call is the
 // test of memory and list, the call's own tests in the order of section 4 of docs/SPECIFICATION.md, and then the function that writes, over the needed bytes.
+#![tactic(auto)]
+
 ghost use Rattle.std.specs.Prelude.{◌≡◌, List, ℤ, ◌<◌};
 ghost use Rattle.terms.specs.Measures.{most_numbers};
 ghost use Rattle.layout.specs.View.{rows_given, transactions_given, view_of};

@@ -1,5 +1,7 @@
 // The conditions of section 3 of docs/SPECIFICATION.md of the mask, and those that look into open transactions, rows and tail records (3, 8, 9, 10, 12, 17); and whose own changes a read
 // adds. Each answers by the model's definition of the same meaning.
+#![tactic(auto)]
+
 ghost use Rattle.std.specs.Prelude.{◌≡◌, ◌&&◌, ◌||◌, ℕ, ◌+◌, ◌*◌, ◌^◌, ◌≤◌, ◌<◌, eqb, leb, ltb, get_or};
 ghost use Rattle.terms.specs.Measures.{most_columns, most_slots, most_transactions};
 ghost use Rattle.layout.specs.declared.Region.{Region};

@@ -1,7 +1,7 @@
 -- What a record tells, by the words that the code reads.
 use Prim.Native.Nat.{ℕ}
-use mathlib.Core.Path.{◌≡◌, refl, sym, ◌∙◌}
-use mathlib.Core.Bool.{Bool, true, false, not}
+use mathlib.Core.Path.{◌≡◌, ◌∙◌}
+use mathlib.Core.Bool.{Bool, true, false}
 use lib.ListN.{get_or}
 use lib.IntN.{ℤ}
 use lib.Signed.{le_z}

@@ -1,5 +1,5 @@
 -- The steps of the pass that lists crossings, and how it stands after the values of some records.
-use Rattle.std.specs.Prelude.{ℕ, ◌^◌, ◌+◌, ◌≡◌, Bool, true, false, cond, ◌&&◌, List, [], ◌∷◌, ◌++◌, map, leb, ltb, eqb, length, take, ℤ}
+use Rattle.std.specs.Prelude.{ℕ, ◌^◌, ◌≡◌, Bool, true, false, cond, ◌&&◌, List, [], ◌∷◌, ◌++◌, map, leb, ltb, eqb, length, take, ℤ}
 use Rattle.std.proofs.lemmas.List.Edits.{sets}
 use Rattle.terms.specs.Measures.{Shape}
 use Rattle.layout.specs.View.{View, used_in}

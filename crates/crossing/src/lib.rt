@@ -1,5 +1,7 @@
 // The crossings of a mark in a row and column: one forward pass over the tail records of the row's range. It keeps no table: of the values met it holds the last, and the side
 // of the one before that. A value counts when one by another transaction follows, or at the end: until then a later setting of the same transaction replaces it.
+#![tactic(auto)]
+
 ghost use Rattle.std.specs.Prelude.{◌≡◌, ◌+◌, ◌*◌, ◌≤◌, ◌<◌, length};
 ghost use Rattle.std.specs.Int.Signed.{le_z};
 ghost use Rattle.std.specs.Int.{w32};

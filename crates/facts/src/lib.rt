@@ -1,5 +1,7 @@
 // The code that tests the stored facts, part by part: here the counts, and the open transactions and scans; the rows and tail records in crate records, the
 // pages in crate pages. The facts themselves are specs/Facts.antt. The tests over words carry their flags to the end, so that they vectorise.
+#![tactic(auto)]
+
 ghost use Rattle.std.specs.Prelude.{◌≡◌, ◌&&◌, not, List, ◌≤◌, length};
 ghost use Rattle.terms.specs.declared.ScanEntry.{ScanEntry};
 ghost use Rattle.terms.specs.Measures.{most_scans};

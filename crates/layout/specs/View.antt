@@ -1,6 +1,6 @@
 -- The view of a memory: one list of words for each region. What a call writes is a function from view to view, made of those here,
 -- and `lay` writes a view over the bytes that a shape needs.
-use Rattle.std.specs.Prelude.{ℕ, ◌+◌, ◌*◌, ◌≤◌, ◌≡◌, cond, List, map, ◌++◌, eqb, length, get_or, set, drop, replicate}
+use Rattle.std.specs.Prelude.{ℕ, ◌*◌, ◌≤◌, ◌≡◌, cond, List, map, ◌++◌, eqb, length, get_or, set, drop, replicate}
 use Rattle.words.specs.Words.{Fit, words, bytes}
 use Rattle.loops.specs.Search.{region}
 use Rattle.loops.specs.Change.{filled, numbered, copied, marked}

@@ -1,5 +1,7 @@
 // The store's memory: where each field of a shape lies among the words, and how many bytes a shape needs.
 // Each field is a region of words, one after the other; what a call writes is said of the view, one list of words for each region.
+#![tactic(auto)]
+
 pub mod codes;
 
 ghost use Rattle.std.specs.Prelude.{◌≡◌, true, ◌+◌, ◌*◌, ◌^◌, ◌≤◌, ◌<◌};

@@ -1,5 +1,7 @@
 // The calls that only read, over the lent memory and the table of the lent scan list: latest, read at, keeper at, own read, scan read, sum, page cell, lineage and crossings. Each call is
 // the test of memory and list, the call's own tests in the order of section 4 of docs/SPECIFICATION.md, and then the function that reads.
+#![tactic(auto)]
+
 ghost use Rattle.std.specs.Prelude.{◌≡◌, List, ℕ, ◌<◌};
 ghost use Rattle.terms.specs.Measures.{most_scans};
 ghost use Rattle.layout.specs.View.{view_of};

@@ -1,5 +1,7 @@
 // The loops over words that the store is made of. What each writes is one change of a stretch, word by word; what each reads is a
 // function of the list of the words that it looks at.
+#![tactic(auto)]
+
 ghost use Rattle.std.specs.Prelude.{◌≡◌, ◌+◌, ◌*◌, ◌<◌, ◌≤◌, ◌&&◌, ◌||◌, ◌⊎◌, length, if◌then◌else◌, nat_le, nat_lt};
 ghost use Rattle.terms.specs.Measures.{between};
 ghost use Rattle.words.specs.Words.{words};

@@ -1,5 +1,7 @@
 // Making a store in a lent memory: the lengths are tested, and then every word that the shape needs is written, so that nothing of what the memory held before
 // is left in it.
+#![tactic(auto)]
+
 ghost use Rattle.std.specs.Prelude.{◌≡◌, ◌*◌, ◌≤◌, ◌<◌, length};
 ghost use Rattle.terms.specs.Measures.{most_columns, most_pages};
 ghost use Rattle.terms.specs.declared.Form.{Form};

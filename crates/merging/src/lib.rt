@@ -1,5 +1,7 @@
 // What merge and release write, over the lent bytes. Nothing here tests whether a call may be carried out: a call has done that before, and hands on what
 // its tests have shown. Each contract cites the model's definition of the memory that is left.
+#![tactic(auto)]
+
 ghost use Rattle.std.specs.Prelude.{◌≡◌, cond, List, ◌+◌, ◌*◌, ◌≤◌, ◌<◌, ltb, get_or};
 ghost use Rattle.layout.specs.Codes.{as_free};
 ghost use Rattle.terms.specs.Measures.{most_scans};

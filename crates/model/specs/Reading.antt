@@ -1,7 +1,7 @@
 -- What a reader finds in the store. Latest read, read at, own read, scan read and sum are one definition: who sees a row or record is told by a snapshot
 -- and by the transaction whose own changes count, and the value is found in a page, in the tail records above the page's lineage, and further down only
 -- where the page is newer than the stamp. Whoever set it is found in the records alone: a page has no room for the stamps of its cells.
-use Rattle.std.specs.Prelude.{Bool, not, cond, ◌&&◌, ◌||◌, ℕ, zero, suc, ◌+◌, ◌-◌, ◌%◌, leb, ltb, eqb, get_or, ℤ, pos, ◌+ℤ◌}
+use Rattle.std.specs.Prelude.{Bool, not, cond, ◌&&◌, ◌||◌, ℕ, zero, suc, ◌-◌, ◌%◌, leb, ltb, eqb, get_or, ℤ, pos, ◌+ℤ◌}
 use Rattle.std.specs.Int.{w32}
 use Rattle.std.proofs.Common.{to_z}
 use Rattle.terms.specs.Measures.{Shape}

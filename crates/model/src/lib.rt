@@ -1,5 +1,7 @@
 // The store as definitions over a view of its memory (specs/), and the proof that it answers as the plain history does (proofs/).
 // The code has its types from here, so that its contracts can cite the definitions as they stand.
+#![tactic(auto)]
+
 ghost use Rattle.std.specs.Prelude.{◌≡◌};
 ghost use Rattle.terms.specs.Entries.{free_entry};
 

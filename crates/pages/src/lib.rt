@@ -1,4 +1,6 @@
 // The test of the stored facts of the current and the waiting pages, and with it that of all stored facts (check.rt).
+#![tactic(auto)]
+
 pub mod check;
 
 ghost use Rattle.std.specs.Prelude.{◌≡◌, ℕ, ◌+◌, ◌/◌, ◌%◌, ◌≤◌, ◌<◌};

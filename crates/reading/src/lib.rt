@@ -1,5 +1,7 @@
 // The word of a row and column for a reader: in a page, in the tail records above the page's lineage, and further down only where the page is newer
 // than the reader's stamp; and who set it. Each function answers by the model's definition of the same meaning.
+#![tactic(auto)]
+
 pub mod base_pages;
 
 ghost use Rattle.std.specs.Prelude.{◌≡◌, ◌+◌, ◌≤◌, ◌<◌, leb};

@@ -1,5 +1,7 @@
 // The test of the stored facts of the given rows and the used tail records: what a record names, the numbers, the stamps, the links. It carries its
 // flags to the end, so that the loops over words vectorise.
+#![tactic(auto)]
+
 ghost use Rattle.std.specs.Prelude.{◌≡◌, ◌+◌, ◌≤◌, ◌<◌, min};
 ghost use Rattle.terms.specs.Measures.{most_rows, range_rows};
 ghost use Rattle.layout.specs.Regions.{len, first_slot};

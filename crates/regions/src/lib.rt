@@ -1,5 +1,7 @@
 // Access to the memory by region: a word, or a stretch, n words from an index on. Each function is proved once, for every region.
 // A stretch and not the whole region, since the rows given and the records used bound what a call has to look at.
+#![tactic(auto)]
+
 ghost use Rattle.std.specs.Prelude.{◌≡◌, ◌⊎◌, ◌+◌, ◌≤◌, ◌<◌, get_or};
 ghost use Rattle.loops.specs.Search.{region, all_between, first_at};
 ghost use Rattle.layout.specs.Regions.{index, len};

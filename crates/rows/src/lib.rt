@@ -1,5 +1,7 @@
 // A row and its newest tail record in the lent memory: who sees them, where they lie, and whether the row is there for a reader.
 // Each function answers by the model's definition of the same meaning.
+#![tactic(auto)]
+
 ghost use Rattle.std.specs.Prelude.{◌≡◌, ◌*◌, ◌≤◌, ◌<◌};
 ghost use Rattle.layout.specs.Regions.{slot};
 ghost use Rattle.layout.specs.View.{rows_given, view_of, Suffices};

@@ -1,4 +1,6 @@
 // A scan's sum. It finds the page of each range once and goes over the range's rows on it; the definition goes row by row.
+#![tactic(auto)]
+
 ghost use Rattle.std.specs.Prelude.{◌≡◌, ◌+◌, ◌*◌, ◌/◌, ◌^◌, ◌≤◌, ◌<◌, nat_abs, ◌+ℤ◌};
 ghost use Rattle.terms.specs.Measures.{most_rows, range_rows};
 ghost use Rattle.layout.specs.View.{rows_given, view_of, Suffices};

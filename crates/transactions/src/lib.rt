@@ -1,6 +1,8 @@
 // Open transactions: what begin, commit and abort write over the lent bytes, and the note of a change; pending.rt has the record of an open transaction.
 // Nothing here tests whether a call may be carried out: a call has done that before, and hands on what its tests have shown. Each contract cites the
 // model's definition of the memory that is left.
+#![tactic(auto)]
+
 pub mod pending;
 
 ghost use Rattle.std.specs.Prelude.{◌≡◌, ℕ, ◌+◌, ◌*◌, ◌≤◌, ◌<◌, T, eqb};

@@ -1,5 +1,7 @@
 // What insert, update and delete write, over the lent bytes. Nothing here tests whether a call may be carried out: a call has done that before, and hands on
 // what its tests have shown. Each contract cites the model's definition of the memory that is left.
+#![tactic(auto)]
+
 ghost use Rattle.std.specs.Prelude.{◌≡◌, ◌+◌, ◌*◌, ◌≤◌, ◌<◌, get_or};
 ghost use Rattle.terms.specs.Measures.{range_rows};
 ghost use Rattle.history.specs.History.{range_of};

@@ -1,4 +1,6 @@
 // What the bytes that `gatebook` reads mean: the shape, the widths of a command's operands, and the call with its numbers.
+#![tactic(auto)]
+
 ghost use Rattle.std.specs.Prelude.{◌≡◌, true, false, cond, ◌+◌, ◌*◌, ◌≤◌, ◌<◌, length, take};
 ghost use Rattle.terms.specs.Measures.{most_columns};
 ghost use Rattle.commands.specs.Commands.{most_operands, operand_bytes, value_bytes, Narrow, Small, format_of, widths_of, chosen, total as total_of, width as width_of, operand, operands as operands_of, values as values_of, call_from, shape_bytes, shape_from};

@@ -1,4 +1,6 @@
 // Bytes and numbers in decimal, written into the buffer of a line that is lent.
+#![tactic(auto)]
+
 ghost use Rattle.std.specs.Prelude.{◌≡◌, ◌+◌, ◌≤◌, ◌<◌, length, drop};
 ghost use Rattle.decimal.specs.Decimal.{decimal, signed, field, digit as digitOf};
 ghost use Rattle.decimal.specs.Written.{line_bytes, most_digits, signed_bytes, natural_field, integer_field, Written};

@@ -1,6 +1,8 @@
 // The exports for C and Rust: every call by name, over the lent memory and the lent list of open scans, the making of a store, the bytes that it
 // needs, and a test of memory and list. Numbers are plain, and the answer is a `Reply`. A slice passes as a pointer and a length (of the list: in entries), a
 // number as itself, and the reply by value. Nothing is asked of the numbers, the bytes or the list.
+#![tactic(auto)]
+
 mod reply;
 
 ghost use Rattle.std.specs.Prelude.{◌≡◌};

@@ -1,5 +1,7 @@
 // The lent list of open scans, a slice of small records. Three functions reach into it, and each is proved by a walk of its MIR, by hand: `len_of`,
 // `entry_at`, `put_entry`. The others hand the list on to those: `table` finds the open scans, `apply_change` adds or drops one, `free_all` and `free_made` drop all.
+#![tactic(auto)]
+
 ghost use Rattle.std.specs.Prelude.{◌≡◌, ◌<◌, length, get_or, set};
 ghost use Rattle.terms.specs.Entries.{free_entry};
 ghost use Rattle.scans.specs.Entries.{all_freed, freed_if};

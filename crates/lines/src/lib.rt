@@ -1,4 +1,6 @@
 // The lines that `gatebook` prints, as bytes in a buffer that is lent: a command's byte and its answer, or the answer to the shape.
+#![tactic(auto)]
+
 ghost use Rattle.std.specs.Prelude.{◌≡◌, ◌+◌, ◌*◌, ◌≤◌, min, take};
 ghost use Rattle.terms.specs.Measures.{lent_stamps};
 ghost use Rattle.decimal.specs.Written.{line_bytes, natural_field, Written};

@@ -1,5 +1,7 @@
 // The moves of a store into a second memory, in the newest form or back in the first: the words of the regions that both forms have are copied, the others cleared, and the columns' word
 // says the form. One path serves both ways. What a call rests on is in crate admission.
+#![tactic(auto)]
+
 ghost use Rattle.std.specs.Prelude.{◌≡◌, ◌&&◌, ◌+◌, ◌*◌, ◌^◌, ◌<◌, get_or};
 ghost use Rattle.terms.specs.declared.Form.{Form};
 ghost use Rattle.terms.specs.Measures.{most_transactions};

@@ -1,4 +1,6 @@
 // The two decisions of `gatebook` that no call of the store makes: which shapes it lends memory for, and after which answers it goes on.
+#![tactic(auto)]
+
 ghost use Rattle.std.specs.Prelude.{◌≡◌};
 ghost use Rattle.commands.specs.Decoded.{measured};
 ghost use Rattle.output.specs.Output.{goes_on, lent};

@@ -1,4 +1,6 @@
 // One call on a store, asked for by a request, a decoded command: the eighteen calls behind one function, with the scan list as bytes.
+#![tactic(auto)]
+
 pub mod packed;
 
 ghost use Rattle.std.specs.Prelude.{◌≡◌, cond, [], ltb};

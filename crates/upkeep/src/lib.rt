@@ -1,6 +1,8 @@
 // The calls that keep the store in order, over a lent memory and the table of the scan list: merge, release, open scan, close scan. Each call is the test of memory
 // and list, the call's own tests in the order of section 4 of docs/SPECIFICATION.md, and then what it writes. The scan list itself is not lent here: open and close answer the one entry of
 // it that changes, and what stands there then.
+#![tactic(auto)]
+
 ghost use Rattle.std.specs.Prelude.{◌≡◌, List, ℕ, ◌<◌, ◌*◌, ◌+◌, length};
 ghost use Rattle.terms.specs.Measures.{most_numbers};
 ghost use Rattle.terms.specs.declared.Answer.{Answer};

@@ -24,14 +24,13 @@ unfolding values
 loop-holds c = (omega arith, refl, refl, λ k h. zeros_at most_columns k)
 
 loop-again : tie.Need-loop-i-preserved invariant-loop decreases-loop
-loop-again c =
-    (
-      omega arith,
-      rw (to_z-of_z w32 c.of_word.result (record { sfits = c.of_word.type_inv }))
-          (value_next _ _ _ _ _ c.loop-i.invariant.1 c.get.ensures c.of_word.ensures (omega arith) (omega arith)),
-      simp length-set c.loop-i.invariant.2,
-      zeros_next c.loop-i.out c.loop-i.i _ c.loop-i.invariant.3,
-    )
+loop-again c = (
+  omega arith,
+  rw (to_z-of_z w32 c.of_word.result (record { sfits = c.of_word.type_inv }))
+      (value_next _ _ _ _ _ c.loop-i.invariant.1 c.get.ensures c.of_word.ensures (omega arith) (omega arith)),
+  simp length-set c.loop-i.invariant.2,
+  zeros_next c.loop-i.out c.loop-i.i _ c.loop-i.invariant.3,
+)
 
 returns : tie.Need-returns invariant-loop decreases-loop
 returns c =

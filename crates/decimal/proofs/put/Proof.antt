@@ -15,12 +15,11 @@ abbrev decreases-loop : tie.decreases-loop-i
 decreases-loop out₀ at s i₀ out i = length s - i
 
 loop-again : tie.Need-loop-i-preserved invariant-loop decreases-loop
-loop-again c =
-    (
-      omega arith,
-      ap (λ l. set l (c.args.at + c.loop-i.i) (get_or c.args.s.now c.loop-i.i 0)) c.loop-i.invariant.1
-          ∙ sets_next c.args.out.now c.args.s.now c.args.at c.loop-i.i (omega arith),
-    )
+loop-again c = (
+  omega arith,
+  ap (λ l. set l (c.args.at + c.loop-i.i) (get_or c.args.s.now c.loop-i.i 0)) c.loop-i.invariant.1
+      ∙ sets_next c.args.out.now c.args.s.now c.args.at c.loop-i.i (omega arith),
+)
 
 returns : tie.Need-returns invariant-loop decreases-loop
 returns c =

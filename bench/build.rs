@@ -1,4 +1,4 @@
-//! With the feature `library` the library of the bound test is linked, which `rt staticlib probe` at the
+//! With the feature `library` the library of the bound test is linked, which `embed/library probe` at the
 //! repository's root makes (DESKROOK_FOLDER names another folder); with `sqlite` the system's SQLite.
 
 use std::env;

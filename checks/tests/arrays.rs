@@ -1,6 +1,6 @@
 //! A merge keeps no table of rows in an array of its own (Item 5 of document 02). No contract can say so,
 //! since a contract speaks of what a function leaves; the text of the code can: none of the functions
-//! that a merge runs, once its tests are passed, has an array. A table of rows in lent memory would be
+//! that a merge runs, once its tests are passed, has an array, a `Vec` or a `Box`. A table of rows in lent memory would be
 //! written there, and that the contracts forbid.
 
 use std::collections::{BTreeMap, BTreeSet};
@@ -39,15 +39,23 @@ fn code() -> Code {
 impl Code {
     fn read(&mut self, of: &str, text: &str) {
         let (mut current, mut inside) = (None, None);
+        // An import, up to its end, and how many brackets of a clause are open.
+        let (mut import, mut clause) = (String::new(), 0);
         for line in text.lines() {
             let line = line.split("//").next().unwrap_or("");
             let words = line.trim_start();
-            if let Some(path) = line.strip_prefix("use ") {
-                let (from, name) = path.trim_end_matches(';').rsplit_once("::").expect("a path");
-                let from = from.split("::").next().expect("a crate");
-                self.imports.insert((of.to_string(), name.to_string()), from.to_string());
+            let is_clause = ["requires", "ensures"].iter().any(|word| words.starts_with(word));
+            if clause > 0 || is_clause {
+                clause += line.matches('{').count();
+                clause -= line.matches('}').count();
+            } else if !import.is_empty() || line.trim_start_matches("pub ").starts_with("use ") {
+                import += words;
+                if line.ends_with(';') {
+                    self.take(of, import.trim_start_matches("pub ").trim_end_matches(';'));
+                    import.clear();
+                }
             } else if let Some((_, head)) = line.split_once("fn ").filter(|_| words == line) {
-                let name = head.split('(').next().expect("a name");
+                let name = head.split(['(', '<']).next().expect("a name");
                 current = Some((of.to_string(), name.to_string()));
                 self.functions.insert((of.to_string(), name.to_string()), head.to_string());
             } else if let Some(name) =
@@ -58,11 +66,20 @@ impl Code {
                 (current, inside) = (None, None);
             } else if inside.is_some() {
                 self.structs.extend(inside.clone().filter(|_| has_array(line)));
-            } else if !words.starts_with("requires") && !words.starts_with("ensures") {
-                if let Some(text) = current.as_ref().and_then(|name| self.functions.get_mut(name)) {
-                    *text += line;
-                }
+            } else if let Some(text) =
+                current.as_ref().and_then(|name| self.functions.get_mut(name))
+            {
+                *text += line;
             }
+        }
+    }
+
+    /// The names of an import: `use a::b`, `use a::{b, c::d}`.
+    fn take(&mut self, of: &str, import: &str) {
+        let path = import.strip_prefix("use ").expect("an import");
+        let (from, names) = path.split_once("::").expect("a path");
+        for name in names.split(['{', '}', ',']).map(last_word).filter(|name| !name.is_empty()) {
+            self.imports.insert((of.to_string(), name.to_string()), from.to_string());
         }
     }
 
@@ -97,10 +114,12 @@ impl Code {
     }
 }
 
-/// Whether a text has the type of an array, `[u32; 64]`, or the value of one, `[0; 64]` or `[0, 1]`.
+/// Whether a text has the type of an array, `[u32; 64]`, the value of one, `[0; 64]` or `[0, 1]`, or memory
+/// of its own in another way, a `Vec` or a `Box`.
 fn has_array(text: &str) -> bool {
     let mut inside = text.split('[').skip(1).filter_map(|text| text.split(']').next());
-    inside.any(|text| text.contains([';', ',']))
+    let mut words = text.split(|letter: char| !is_part(letter));
+    inside.any(|text| text.contains([';', ','])) || words.any(|word| ["Vec", "Box"].contains(&word))
 }
 
 fn is_part(letter: char) -> bool {

@@ -147,7 +147,7 @@ fn exported(texts: &Texts) -> Result<Interface, String> {
     let mut interface = Interface::default();
     interface.most_scans = between(&texts.limits, "pub const MOST_SCANS: usize = ", ";")?;
     let text = plain(&texts.exports);
-    for export in text.split("#[no_mangle] pub extern \"C\" fn ").skip(1) {
+    for export in text.split("#[unsafe(no_mangle)] pub extern \"C\" fn ").skip(1) {
         let (name, rest) = cut(export, "(")?;
         let (parameters, rest) = cut(rest, ") -> ")?;
         let (result, _) = cut(rest, " ")?;
@@ -165,10 +165,16 @@ fn number<'t>(terms: &str, kind: &'t str) -> Result<&'t str, String> {
     if !NUMBERS.contains(&kind) {
         return Ok(kind);
     }
-    match plain(terms).contains(&format!("#[repr(C)] pub struct {kind}(pub u32);")) {
-        true => Ok("u32"),
-        false => Err(format!("{kind}, one u32, is not laid as C lays it")),
+    let text = plain(terms);
+    match cut(&text, &format!("pub struct {kind}(pub u32);")) {
+        Ok((before, _)) if is_laid(before) => Ok("u32"),
+        _ => Err(format!("{kind}, one u32, is not laid as C lays it")),
     }
+}
+
+/// Whether the attributes that a text ends with have a struct laid as C lays it.
+fn is_laid(before: &str) -> bool {
+    before.rsplit([';', '}']).next().unwrap_or("").contains("#[repr(C)]")
 }
 
 /// A slice passes as a pointer and a length.
@@ -203,8 +209,9 @@ fn add(
 fn fields(text: &str, name: &str, language: usize) -> Result<Vec<Named>, String> {
     let text = plain(text);
     let (before, rest) = cut(&text, &format!("pub struct {name} {{"))?;
-    let attributes = before.rsplit([';', '}']).next().unwrap_or("");
-    cut(attributes, "#[repr(C)]").map_err(|_| format!("{name} is not laid as C lays it"))?;
+    if !is_laid(before) {
+        return Err(format!("{name} is not laid as C lays it"));
+    }
     let (fields, _) = cut(rest, "}")?;
     list(fields, |field| {
         let (name, kind) = cut(field, ": ")?;
@@ -358,7 +365,7 @@ fn another_result_is_told_apart() {
 
 #[test]
 fn a_missing_function_is_told_apart() {
-    let exported = "#[no_mangle]\npub extern \"C\" fn deskrook_release";
+    let exported = "#[unsafe(no_mangle)]\npub extern \"C\" fn deskrook_release";
     told_apart(|t| &mut t.exports, exported, "pub extern \"C\" fn deskrook_release");
     let prototype = "deskrook_reply deskrook_abort(uint8_t *mem, size_t mem_length, \
                      const deskrook_scan_entry *scans, size_t scans_length, uint32_t transaction);";
@@ -430,9 +437,13 @@ fn another_limit_is_told_apart() {
 
 #[test]
 fn a_struct_that_may_lie_otherwise_is_told_apart() {
-    let entry = found(|t| &mut t.terms, "#[repr(C)]\npub struct ScanEntry", "pub struct ScanEntry");
+    let laid = "#[repr(C)]\n#[derive(Clone, Copy)]\npub struct ";
+    let free = "#[derive(Clone, Copy)]\npub struct ";
+    let one =
+        |name: &str| found(|t| &mut t.terms, &format!("{laid}{name}"), &format!("{free}{name}"));
+    let entry = one("ScanEntry");
     let reply = found(|t| &mut t.declared, "#[repr(C)]\n", "");
-    let row = found(|t| &mut t.terms, "#[repr(C)]\npub struct Row", "pub struct Row");
+    let row = one("Row");
     let tail = found(|t| &mut t.terms, "pub struct Tail(pub u32)", "pub struct Tail(pub u16)");
     let all = [entry, reply, row, tail];
     assert!(all.iter().all(|found| found.contains("is not laid as C lays it")));

@@ -1,6 +1,6 @@
 /* Deskrook for programs in C: a settings store for tide-mill gates, in memory that the caller lends.
  *
- * `rt staticlib deskrook` at the repository's root makes target/staticlib/libdeskrook.a. The library keeps nothing between calls, allocates nothing and calls nothing but
+ * `embed/library` at the repository's root makes target/staticlib/libdeskrook.a. The library keeps nothing between calls, allocates nothing and calls nothing but
  * memcpy and memset: a store is the memory and the scan list that its calls are lent. Two stores never meet, and calls on different stores may run at the same time.
  *
  * LENDING. Every call on a store takes

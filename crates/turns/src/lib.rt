@@ -1,4 +1,6 @@
 // What `gatebook` does between reading and writing: the answer to the shape, and the answer to one command, as lines in a buffer that is lent.
+#![tactic(auto)]
+
 ghost use Rattle.std.specs.Prelude.{◌≡◌, ◌≤◌, length};
 ghost use Rattle.terms.specs.Measures.{most_columns, most_scans};
 ghost use Rattle.terms.specs.declared.Form.{Form};

@@ -10,7 +10,6 @@ use lib.ListN.{length, get_or, take, drop, length-append, length-drop, drop_of_l
 use lib.Seq.{take_all, take-append-le, drop-append-le, drop-cons, drop-drop, drop-length}
 use Rattle.terms.specs.declared.Answer.{Answer}
 use Rattle.history.proofs.Lists.{by_cases, is_false}
-use Rattle.lines.specs.Lines.{line}
 use Rattle.commands.specs.declared.Chosen.{Chosen}
 use Rattle.commands.specs.Commands.{commands, chosen, width, behind, shape_bytes}
 use Rattle.commands.proofs.Items.{behind_shorter}

@@ -1,4 +1,6 @@
 // What `gatebook` does between a read and a write, over plain bytes.
+#![tactic(auto)]
+
 ghost use Rattle.std.specs.Prelude.{◌≡◌, true, ◌++◌, ◌+◌, ◌*◌, ◌≤◌, ◌<◌, min, length, take};
 ghost use Rattle.decimal.specs.Written.{line_bytes};
 ghost use Rattle.commands.specs.Commands.{shape_bytes};

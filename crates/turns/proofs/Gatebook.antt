@@ -16,7 +16,7 @@ use Rattle.words.specs.Words.{Bytes}
 use Rattle.loops.proofs.Search.{between_tells}
 use Rattle.layout.specs.Regions.{need}
 use Rattle.layout.specs.Sizes.{bytes_needed}
-use Rattle.making.specs.Made.{made, made_list}
+use Rattle.making.specs.Made.{made_list}
 use Rattle.history.specs.History.{start}
 use Rattle.commands.specs.Commands.{shape_bytes, shape_from}
 use Rattle.commands.proofs.Parts.{whole, shape_part}

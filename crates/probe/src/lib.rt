@@ -1,4 +1,6 @@
 // The bound test alone, for the benchmark, which times it beside a plain read of the same words.
+#![tactic(auto)]
+
 ghost use Rattle.std.specs.Prelude.{◌≡◌, cond};
 ghost use Rattle.words.specs.Words.{words};
 ghost use Rattle.loops.specs.Search.{all_between};

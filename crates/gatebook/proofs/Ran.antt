@@ -12,15 +12,11 @@ use Rattle.turns.specs.Gatebook.{GatebookWrites}
 use Rattle.turns.proofs.Gatebook.{gatebook_writes}
 use Rattle.rounds.specs.Due.{due}
 use Rattle.rounds.specs.Rounds.{opening}
-use Rattle.rounds.proofs.Due.{never, due_off, moved_none}
+use Rattle.rounds.proofs.Due.{never, due_off}
 use Rattle.gatebook.specs.declared.course.Course.{Course}
-use Rattle.gatebook.specs.Course.{flow_of, Opened, Received, Rounded, Sent, Ran, RanWrites}
+use Rattle.gatebook.specs.Course.{flow_of, Received, Rounded, Sent, Ran, RanWrites}
 
 -- ---- all rounds
-pub ran_none : (x : Lent) (c : Course) (input : List ℕ) → Opened c → Ran x c x input
-ran_none x c input o =
-    record { received = []; lines = []; moved = rw (o.flow, o.held) (moved_none c.last opening x [] []); read = sym o.read; sent = sym o.sent }
-
 behind_held : (c d : Course) (old new : List ℕ) → Received c d old new → take d.held new ≡ take c.held old ++ slice c.held d.held new
 behind_held c d old new r =
     sym (take-append-drop c.held (take d.held new))

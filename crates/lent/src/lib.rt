@@ -1,5 +1,5 @@
-// The lent list of open scans, a slice of small records. Three functions reach into it, and each is proved by a walk of its MIR, by hand: `len_of`,
-// `entry_at`, `put_entry`. The others hand the list on to those: `table` finds the open scans, `apply_change` adds or drops one, `free_all` and `free_made` drop all.
+// The lent list of open scans, a slice of small records. Three functions reach into it: `len_of`, `entry_at`, `put_entry`. The others hand the list on to those: `table` finds
+// the open scans, `apply_change` adds or drops one, `free_all` and `free_made` drop all.
 #![tactic(auto)]
 
 ghost use Rattle.std.specs.Prelude.{◌≡◌, ◌<◌, length, get_or, set};
@@ -50,7 +50,7 @@ pub fn table(list: &[ScanEntry]) -> Scans
     set_length(t, n)
 }
 
-// The parts of a change, each by a function: the walk by hand of `apply_change` then has no struct to take apart.
+// The parts of a change, each by a function of its own.
 fn index_of(change: ListChange) -> usize
     ensures { result ≡ change.index }
 {

@@ -15,10 +15,5 @@ is_stray_spec =
     (λ c. search stray_high)
     (λ c κs. search rules)
     (λ c. search rules)
-    (λ c.
-    let inside : tie.Else-chunk-s = search in
-    let chunk : tie.After-read-chunk = search in
-    let current : tie.Else-read-ne-PAGE_CURRENT = search in
-    let state : tie.After-read = search in
-    let start : tie.Start = search in
-    stray_other _ _ start.requires.1.0 _ _ state.read.ensures current.if-read-ne-PAGE_CURRENT.false _ chunk.read-chunk.ensures _ inside.if-chunk-s.false c.read-2.ensures))
+    -- the two tests are found by what they say, so that another test is refused for that
+    (λ c. stray_other _ _ c.requires.1.0 _ _ c.read.ensures (search rules) _ c.read-chunk.ensures _ (search rules) c.read-2.ensures))

@@ -18,7 +18,7 @@ use Rattle.scans.specs.declared.Scans.{Scans}
 use Rattle.scans.specs.Entries.{open_count}
 use Rattle.scans.specs.Table.{table_of, find_in}
 use Rattle.scans.proofs.Answers.{table_finds, table_lacks}
-use Rattle.terms.specs.Entries.{free_entry, firstIndex, bears, is_scan}
+use Rattle.terms.specs.Entries.{free_entry, first_index, bears, is_scan}
 use Rattle.model.specs.Stored.{scan_entry}
 use Rattle.model.specs.Calls.{no_scan_in}
 use Rattle.admission.specs.Given.{ScanAt}
@@ -26,20 +26,20 @@ use Rattle.admission.specs.Given.{ScanAt}
 -- ---- the first that passes
 
 module _ (f : ScanEntry → Bool) where
-  none_passes : (ps : List ScanEntry) → firstIndex f ps ≡ length ps → any f ps ≡ false
+  none_passes : (ps : List ScanEntry) → first_index f ps ≡ length ps → any f ps ≡ false
   none_passes [] e = refl
   none_passes (p ∷ ps) e = go (f p) (none_passes ps) e
     where
-      go : (b : Bool) → (firstIndex f ps ≡ length ps → any f ps ≡ false) → cond b 0 (suc (firstIndex f ps)) ≡ suc (length ps) → (b || any f ps) ≡ false
+      go : (b : Bool) → (first_index f ps ≡ length ps → any f ps ≡ false) → cond b 0 (suc (first_index f ps)) ≡ suc (length ps) → (b || any f ps) ≡ false
       go true ih q = absurd (omega (arith, q))
       go false ih q = ih (omega (arith, q))
 
-  one_passes : (ps : List ScanEntry) → f free_entry ≡ false → f (get_or ps (firstIndex f ps) free_entry) ≡ true → any f ps ≡ true
+  one_passes : (ps : List ScanEntry) → f free_entry ≡ false → f (get_or ps (first_index f ps) free_entry) ≡ true → any f ps ≡ true
   one_passes [] e q = sym e ∙ q
   one_passes (p ∷ ps) e q = go (f p) refl (one_passes ps e) q
     where
-      go : (b : Bool) → f p ≡ b → (f (get_or ps (firstIndex f ps) free_entry) ≡ true → any f ps ≡ true)
-          → f (get_or (p ∷ ps) (cond b 0 (suc (firstIndex f ps))) free_entry) ≡ true → (b || any f ps) ≡ true
+      go : (b : Bool) → f p ≡ b → (f (get_or ps (first_index f ps) free_entry) ≡ true → any f ps ≡ true)
+          → f (get_or (p ∷ ps) (cond b 0 (suc (first_index f ps))) free_entry) ≡ true → (b || any f ps) ≡ true
       go true h ih r = refl
       go false h ih r = ih r
 
@@ -67,10 +67,10 @@ module _ (k : ℕ) where
     unfolding no_scan_in
     scan_open j e =
         let t = table_finds ps few k j e in
-        let b : is_scan k (get_or ps (firstIndex (is_scan k) ps) free_entry) ≡ true = ap (bears k) t.number_is ∙ rw (numbered ps j e, eq-eqb k k refl) in
+        let b : is_scan k (get_or ps (first_index (is_scan k) ps) free_entry) ≡ true = ap (bears k) t.number_is ∙ rw (numbered ps j e, eq-eqb k k refl) in
         rw (one_passes (is_scan k) ps refl b)
 
-    pub scan_at_lem : (j : ℕ) → find_in (table_of ps) k ≡ At j → firstIndex (is_scan k) ps ≡ get_or (table_of ps).indices j 0
+    pub scan_at_lem : (j : ℕ) → find_in (table_of ps) k ≡ At j → first_index (is_scan k) ps ≡ get_or (table_of ps).indices j 0
     scan_at_lem j e = sym (table_finds ps few k j e).index_is
 
     -- the scan's stamp, merges and commits, as the table has them

@@ -36,7 +36,7 @@ use Rattle.promise.proofs.Alone.{none_left, left_in_place}
 use Rattle.promise.proofs.Stated.{refuses}
 use Rattle.making.specs.Made.{made}
 use Rattle.scans.specs.Entries.{all_freed, freed_if}
-use Rattle.calls.specs.Runs.{Run, ends, goes, moves_on, stays, Begun, by_making, of_first, Interface, returned_for, AcceptsAmong, returnedAt, RefusedSo, RefusedKept, UnmadeKept, ChangedSo, MergedSo, MadeSo, UnmovedKept, MovedSo, UnmovedSo, ReadsSo, PagesSo, OutcomesSo, StruckSame, MinutesSo, ScansSo, calls, LentRefused, LentKept, MakingKept, LentChanged, LentMerged, MakingChanged, MoveKept, MoveChanged, MoveRefused, LentReads, LentPages, LentOutcomes, LentStriking, LentMinutes, LentScans, MakingFrees, ShortRefused}
+use Rattle.calls.specs.Runs.{Run, ends, goes, moves_on, stays, Begun, by_making, of_first, Interface, returned_for, AcceptsAmong, returned_at, RefusedSo, RefusedKept, UnmadeKept, ChangedSo, MergedSo, MadeSo, UnmovedKept, MovedSo, UnmovedSo, ReadsSo, PagesSo, OutcomesSo, StruckSame, MinutesSo, ScansSo, calls, LentRefused, LentKept, MakingKept, LentChanged, LentMerged, MakingChanged, MoveKept, MoveChanged, MoveRefused, LentReads, LentPages, LentOutcomes, LentStriking, LentMinutes, LentScans, MakingFrees, ShortRefused}
 
 -- ---- what a run answers and leaves
 -- a move leaves the list
@@ -287,17 +287,17 @@ module _ (F : Interface) (ok : Faithful F) where
 
   -- a run's returned values by index, and its accepted calls, are the store's
   module _ {X : Form} {S : Shape} {m m' : List ℕ} {ps ps' : List ScanEntry} {cs : List Call} {os : List (Outcome F.Returned)} (f : From X S m ps) (q : Run F m ps cs os m' ps') where
-    at : (k : ℕ) → returnedAt F os k ≡ returned_for F (store_outcome_at X S f.m₀ f.ps₀ cs k)
+    at : (k : ℕ) → returned_at F os k ≡ returned_for F (store_outcome_at X S f.m₀ f.ps₀ cs k)
     unfolding store_outcome_at
-    at k = ap (λ (u : List (Outcome F.Returned)). returnedAt F u k) (stored f q).0 ∙ get_or-map (returned_for F) (store_outcomes X S f.m₀ f.ps₀ cs) k (alone Answer.Done)
+    at k = ap (λ (u : List (Outcome F.Returned)). returned_at F u k) (stored f q).0 ∙ get_or-map (returned_for F) (store_outcomes X S f.m₀ f.ps₀ cs) k (alone Answer.Done)
 
     accepts_in : (k : ℕ) (x : Call) → AcceptsAmong F cs os k x → AcceptsIn X S f.m₀ f.ps₀ cs k x
     accepts_in k x u =
         let e = ap (λ (o : Outcome F.Returned). o.answer) (at k) in
-        let n : is_refused (store_outcome_at X S f.m₀ f.ps₀ cs k).answer ≡ false = not_refused (returnedAt F os k).answer (store_outcome_at X S f.m₀ f.ps₀ cs k).answer e u.2 in
+        let n : is_refused (store_outcome_at X S f.m₀ f.ps₀ cs k).answer ≡ false = not_refused (returned_at F os k).answer (store_outcome_at X S f.m₀ f.ps₀ cs k).answer e u.2 in
         record { inside = u.0; is = u.1; accepted = rw n tt }
 
-    same_at : (i j : ℕ) → store_outcome_at X S f.m₀ f.ps₀ cs i ≡ store_outcome_at X S f.m₀ f.ps₀ cs j → returnedAt F os i ≡ returnedAt F os j
+    same_at : (i j : ℕ) → store_outcome_at X S f.m₀ f.ps₀ cs i ≡ store_outcome_at X S f.m₀ f.ps₀ cs j → returned_at F os i ≡ returned_at F os j
     same_at i j e = at i ∙ ap (returned_for F) e ∙ sym (at j)
 
   pub minutes_so : MinutesSo F

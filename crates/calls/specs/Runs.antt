@@ -125,22 +125,22 @@ module _ (F : Interface) where
       (os' : List (Outcome F.Returned)) (m'' : List ℕ) (ps'' : List ScanEntry) → Run F m ps (strike cs) os' m'' ps'' → plain_outcomes cs os ≡ plain_outcomes (strike cs) os')
 
   -- the outcome of call i of a run; and that it is x, and is not refused
-  abbrev pub returnedAt : List (Outcome F.Returned) → ℕ → Outcome F.Returned
-  returnedAt os i = get_or os i (alone (F.returns Answer.Done))
+  abbrev pub returned_at : List (Outcome F.Returned) → ℕ → Outcome F.Returned
+  returned_at os i = get_or os i (alone (F.returns Answer.Done))
 
   abbrev pub AcceptsAmong : List Call → List (Outcome F.Returned) → ℕ → Call → Type 0
-  AcceptsAmong cs os i x = (i < length cs) × (call_at cs i ≡ x) × F.Accepts (returnedAt os i).answer
+  AcceptsAmong cs os i x = (i < length cs) × (call_at cs i ≡ x) × F.Accepts (returned_at os i).answer
 
   -- whatever is asked of minutes before the last commit's has the outcome that it has later
   unfoldable pub MinutesSo : Type 0
   MinutesSo =
       EveryRun
       (λ X S m ps cs os m' ps'.
-      (i j t : ℕ) (x : Call) → AsksMinutes x t → i ≤ j → t < (history_before S cs i).last.stamp → AcceptsAmong cs os i x → AcceptsAmong cs os j x → returnedAt os i ≡ returnedAt os j)
+      (i j t : ℕ) (x : Call) → AsksMinutes x t → i ≤ j → t < (history_before S cs i).last.stamp → AcceptsAmong cs os i x → AcceptsAmong cs os j x → returned_at os i ≡ returned_at os j)
 
   -- whatever is asked of a scan twice has one outcome
   unfoldable pub ScansSo : Type 0
-  ScansSo = EveryRun (λ X S m ps cs os m' ps'. (i j : ℕ) (x : Call) → AsksScan x → AcceptsAmong cs os i x → AcceptsAmong cs os j x → returnedAt os i ≡ returnedAt os j)
+  ScansSo = EveryRun (λ X S m ps cs os m' ps'. (i j : ℕ) (x : Call) → AsksScan x → AcceptsAmong cs os i x → AcceptsAmong cs os j x → returned_at os i ≡ returned_at os j)
 
 -- ---- of the calls
 abbrev pub calls : Interface

@@ -17,7 +17,7 @@ use Rattle.layout.specs.declared.Region.{Region}
 use Rattle.layout.specs.View.{View, rows_given, transactions_given, used_in, view_of, Suffices}
 use Rattle.layout.proofs.View.{view_long}
 use Rattle.history.specs.History.{Call, verdict, any, range_of}
-use Rattle.terms.specs.Entries.{firstIndex}
+use Rattle.terms.specs.Entries.{first_index}
 use Rattle.scans.specs.declared.Scans.{Scans}
 use Rattle.model.specs.Writing.{records_wanted}
 use Rattle.model.specs.Calls.{begin_tests_in, tests_in, lacks_in}
@@ -78,13 +78,13 @@ counted s v l = record { rows_given = l.rows_few; records_used = l.used_few }
 opens_long : (s : Sizes) (m : List ℕ) → Suffices s m → length (view_of s m Region.Opens) ≡ most_transactions
 opens_long s m h = view_long s (words m) (omega (arith, length_words m)) Region.Opens
 
-any_first : (f : ℕ → Bool) (l : List ℕ) → any f l ≡ ltb (firstIndex f l) (length l)
+any_first : (f : ℕ → Bool) (l : List ℕ) → any f l ≡ ltb (first_index f l) (length l)
 any_first f [] = refl
 any_first f (x ∷ l) = go (f x) (any_first f l)
   where
-    go : (b : Bool) → any f l ≡ ltb (firstIndex f l) (length l) → (b || any f l) ≡ ltb (cond b 0 (suc (firstIndex f l))) (suc (length l))
+    go : (b : Bool) → any f l ≡ ltb (first_index f l) (length l) → (b || any f l) ≡ ltb (cond b 0 (suc (first_index f l))) (suc (length l))
     go true ih = sym (lt-ltb 0 (suc (length l)) (omega arith))
-    go false ih = ih ∙ sym (leb-suc-suc (suc (firstIndex f l)) (length l))
+    go false ih = ih ∙ sym (leb-suc-suc (suc (first_index f l)) (length l))
 
 module _ (s : Sizes) (m : List ℕ) (h : Suffices s m) where
   abbrev opens : List ℕ
@@ -93,27 +93,27 @@ module _ (s : Sizes) (m : List ℕ) (h : Suffices s m) where
   abbrev free : ℕ → Bool
   free k = eqb k 0
 
-  any_free : any free opens ≡ ltb (firstIndex free opens) most_transactions
-  any_free = any_first free opens ∙ ap (ltb (firstIndex free opens)) (opens_long s m h)
+  any_free : any free opens ≡ ltb (first_index free opens) most_transactions
+  any_free = any_first free opens ∙ ap (ltb (first_index free opens)) (opens_long s m h)
 
-  no_free : found_at most_transactions (firstIndex free opens) ≡ Found.Nothing → not (any free opens) ≡ true
-  no_free e = rw any_free (go (ltb (firstIndex free opens) most_transactions) e)
+  no_free : found_at most_transactions (first_index free opens) ≡ Found.Nothing → not (any free opens) ≡ true
+  no_free e = rw any_free (go (ltb (first_index free opens) most_transactions) e)
     where
-      go : (b : Bool) → cond b (Found.At (firstIndex free opens)) Found.Nothing ≡ Found.Nothing → not b ≡ true
+      go : (b : Bool) → cond b (Found.At (first_index free opens)) Found.Nothing ≡ Found.Nothing → not b ≡ true
       go true q = let z : ◌≡◌ {A = ℕ} 0 1 = cc in absurd (omega arith)
       go false q = refl
 
-  first_free_lem : (j : ℕ) → found_at most_transactions (firstIndex free opens) ≡ Found.At j → (not (any free opens) ≡ false) × FreeAt (view_of s m) j
-  first_free_lem j e = rw any_free (go (ltb (firstIndex free opens) most_transactions) refl e)
+  first_free_lem : (j : ℕ) → found_at most_transactions (first_index free opens) ≡ Found.At j → (not (any free opens) ≡ false) × FreeAt (view_of s m) j
+  first_free_lem j e = rw any_free (go (ltb (first_index free opens) most_transactions) refl e)
     where
-      go : (b : Bool) → ltb (firstIndex free opens) most_transactions ≡ b
-          → cond b (Found.At (firstIndex free opens)) Found.Nothing ≡ Found.At j → (not b ≡ false) × FreeAt (view_of s m) j
+      go : (b : Bool) → ltb (first_index free opens) most_transactions ≡ b
+          → cond b (Found.At (first_index free opens)) Found.Nothing ≡ Found.At j → (not b ≡ false) × FreeAt (view_of s m) j
       go true q f =
-          let w : firstIndex free opens ≡ j = cc in
-          (refl, record { low = omega (arith, ltb-true (firstIndex free opens) most_transactions q); first = sym w })
+          let w : first_index free opens ≡ j = cc in
+          (refl, record { low = omega (arith, ltb-true (first_index free opens) most_transactions q); first = sym w })
       go false q f = let z : ◌≡◌ {A = ℕ} 0 1 = cc in absurd (omega arith)
 
-  module _ (f : Found) (q : f ≡ found_at most_transactions (firstIndex free opens)) where
+  module _ (f : Found) (q : f ≡ found_at most_transactions (first_index free opens)) where
     pub none_free : f ≡ Found.Nothing → not (any free opens) ≡ true
     none_free e = no_free (sym q ∙ e)
 
@@ -156,4 +156,4 @@ pub begin_as_tests : (s : Sizes) (m : List ℕ) (x : ℕ) (d : Tested) → Says 
 unfolding Tests tests_in
 begin_as_tests s m x d h = λ ps. h
 
-pub ruleset in-part = (free_in_part, open_in_part, number_in_part, row_in_part, room_in_part, wanted_in_part, counted)
+pub ruleset in_part = (free_in_part, open_in_part, number_in_part, row_in_part, room_in_part, wanted_in_part, counted)

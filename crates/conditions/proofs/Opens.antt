@@ -20,7 +20,7 @@ use Rattle.layout.specs.declared.Region.TheVariants.{Opens}
 use Rattle.layout.specs.View.{View, view, view_of, Suffices}
 use Rattle.layout.proofs.View.{view_long}
 use Rattle.history.specs.History.{any}
-use Rattle.terms.specs.Entries.{bears, firstIndex}
+use Rattle.terms.specs.Entries.{bears, first_index}
 use Rattle.model.specs.Stored.{open_index}
 use Rattle.model.specs.Calls.{not_open_in}
 use Rattle.rows.specs.Finders.{Inside}
@@ -43,15 +43,15 @@ module _ (t : ℕ) (h : t ≡ 0 → ⊥) where
       go true q = let e = eqb-true x t q in rw (ne_eqb x 0 (λ z. h (sym e ∙ z)))
       go false q = and-false (not (eqb x 0))
 
-  first_bears : (i : ℕ) (l : List ℕ) → first_at t i l ≡ cond (not (any (bears t) l)) Found.Nothing (Found.At (i + firstIndex (bears t) l))
+  first_bears : (i : ℕ) (l : List ℕ) → first_at t i l ≡ cond (not (any (bears t) l)) Found.Nothing (Found.At (i + first_index (bears t) l))
   first_bears i [] = refl
   first_bears i (x ∷ l) = rw (bears_is x) (go (eqb x t) (first_bears (i + 1) l))
     where
-      go : (b : Bool) → first_at t (i + 1) l ≡ cond (not (any (bears t) l)) Found.Nothing (Found.At (i + 1 + firstIndex (bears t) l))
+      go : (b : Bool) → first_at t (i + 1) l ≡ cond (not (any (bears t) l)) Found.Nothing (Found.At (i + 1 + first_index (bears t) l))
           → cond b (Found.At i) (first_at t (i + 1) l)
-          ≡ cond (not (b || any (bears t) l)) Found.Nothing (Found.At (i + cond b 0 (suc (firstIndex (bears t) l))))
+          ≡ cond (not (b || any (bears t) l)) Found.Nothing (Found.At (i + cond b 0 (suc (first_index (bears t) l))))
       go true ih = ap Found.At (sym (add-zero i))
-      go false ih = let e : i + suc (firstIndex (bears t) l) ≡ i + 1 + firstIndex (bears t) l = omega arith in rw e ih
+      go false ih = let e : i + suc (first_index (bears t) l) ≡ i + 1 + first_index (bears t) l = omega arith in rw e ih
 
   pub open_found : (s : Sizes) (m : List ℕ) (r : Found) → Suffices s m
       → r ≡ first_at t 0 (region (view_of s m Opens) 0 most_transactions)
@@ -62,7 +62,7 @@ module _ (t : ℕ) (h : t ≡ 0 → ⊥) where
       let long : length opens ≡ most_transactions = view_long s (words m) (omega (arith, length_words m)) Opens in
       let whole : region opens 0 most_transactions ≡ opens = take_all most_transactions opens (omega arith) in
       let e' : r ≡ first_at t 0 opens = rw whole at e in
-      (e' ∙ first_bears 0 opens ∙ rw (zero-add (firstIndex (bears t) opens)), inside r e')
+      (e' ∙ first_bears 0 opens ∙ rw (zero-add (first_index (bears t) opens)), inside r e')
     where
       inside : (f : Found) → f ≡ first_at t 0 (view_of s m Opens) → Inside f most_transactions
       inside (Found.At j) q =

@@ -14,7 +14,7 @@ use borrow.Author.Tests.{eq-eqb, ne_eqb}
 use mir.Syntax.{w64}
 use mir.Val.{Fits}
 use Rattle.terms.specs.Measures.{Shape, most_transactions}
-use Rattle.terms.specs.Entries.{bears, firstIndex}
+use Rattle.terms.specs.Entries.{bears, first_index}
 use Rattle.loops.specs.declared.Found.{Found}
 use Rattle.layout.specs.declared.Region.TheVariants.{Opens, RowTransaction, RowState, TailRow, TailTransaction, TailKind, TailState}
 use Rattle.layout.specs.declared.Sizes.{Sizes}
@@ -124,7 +124,7 @@ none_held v t r at n flag l e f =
     none : (k : ℕ) → T (open_other v t k) → ⊥
     none k u =
         let w = parts (open_in v k) (not (eqb k t)) u in
-        let p = firstIndex (bears k) (v Opens) in
+        let p = first_index (bears k) (v Opens) in
         off flag f (rw (e ∙ any_entries (is_other t) (v Opens) most_transactions l)
         (any_at (is_other t) (v Opens) 0 p (first_below (bears k) (v Opens) w.0) (other k (get_or (v Opens) p 0) w.1 (first_passes (bears k) (v Opens) 0 w.0))))
 

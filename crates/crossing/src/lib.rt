@@ -10,10 +10,10 @@ ghost use Rattle.layout.specs.View.{rows_given, view_of, Suffices};
 ghost use Rattle.layout.specs.Sizes.{Proper};
 ghost use Rattle.history.specs.History.{differ, range_of};
 ghost use Rattle.model.specs.Stored.{record_in};
-ghost use Rattle.model.specs.Versions.{tells as tellsOf, setter_number, dated_in};
+ghost use Rattle.model.specs.Versions.{tells as tells_of, setter_number, dated_in};
 ghost use Rattle.model.specs.Preconditions.{shape_in, Linked};
 ghost use Rattle.reading.specs.Setters.{RecordInside};
-ghost use Rattle.crossing.specs.Steps.{most_found, no_pass, told as toldOf, same_setter, counted, noted, placed, replaced, followed, told_at, Continues, NoneTold, listed_in, Lists, ListsAll};
+ghost use Rattle.crossing.specs.Steps.{most_found, no_pass, told as told_of, same_setter, counted, noted, placed, replaced, followed, told_at, Continues, NoneTold, listed_in, Lists, ListsAll};
 
 use layout::codes::ORIGINAL;
 use layout::{Region, Sizes};
@@ -73,7 +73,7 @@ fn no_pass() -> Pass
 fn tells(mem: &[u8], s: Sizes, who: Reader, row: Row, c: u32, at: usize) -> bool
     requires suffices { Suffices s mem.now }
     requires at_lt_slots { (at < s.slots) × (c < 32) × (row.0 < s.rows) }
-    ensures { result ≡ tellsOf (view_of s mem.now) who row.0 c (record_in (view_of s mem.now) at) }
+    ensures { result ≡ tells_of (view_of s mem.now) who row.0 c (record_in (view_of s mem.now) at) }
 {
     if read(mem, s, Region::TailRow, at) != row.0 {
         return false;
@@ -111,7 +111,7 @@ fn tell(mem: &[u8], s: Sizes, q: Query, at: usize) -> Told
     requires suffices { Suffices s mem.now }
     requires proper { Proper s }
     requires at_lt_slots { (at < s.slots) × (q.column < s.columns) × (q.row.0 < s.rows) × SFits w32 q.mark }
-    ensures { result ≡ toldOf q.mark (dated_in (shape_in s) (view_of s mem.now) q.row.0 q.column at) }
+    ensures { result ≡ told_of q.mark (dated_in (shape_in s) (view_of s mem.now) q.row.0 q.column at) }
 {
     let row = q.row;
     let setter = setter_at(mem, s, at);

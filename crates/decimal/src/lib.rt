@@ -2,7 +2,7 @@
 #![tactic(auto)]
 
 ghost use Rattle.std.specs.Prelude.{◌≡◌, ◌+◌, ◌≤◌, ◌<◌, length, drop};
-ghost use Rattle.decimal.specs.Decimal.{decimal, signed, field, digit as digitOf};
+ghost use Rattle.decimal.specs.Decimal.{decimal, signed, field, digit as digit_of};
 ghost use Rattle.decimal.specs.Written.{line_bytes, most_digits, signed_bytes, natural_field, integer_field, Written};
 
 // The buffer of a line.
@@ -16,7 +16,7 @@ const LAST_DIGIT: usize = MOST_DIGITS - 1;
 // The character of a digit below 16.
 pub fn digit(d: u64) -> u8
     requires { d < 16 }
-    ensures { result ≡ digitOf d }
+    ensures { result ≡ digit_of d }
 {
     if d < 10 { 48 + d as u8 } else { 55 + d as u8 }
 }

@@ -1,4 +1,5 @@
--- The law of the exports, and what follows from their promises.
+-- How an export replies, and what follows from the exports' promises.
+pub mod Exported
 pub mod Tested
 pub mod Results
 pub mod Runs

@@ -1,5 +1,4 @@
--- The program's rounds: what a round leaves moves to the front, and the rounds one after another move from the opening on. Once the program has ended, what it has
--- sent is what must be written.
+-- The program's rounds one after another move from the opening on. Once the program has ended, what it has sent is what must be written.
 use Prim.Native.Nat.{ℕ}
 use mathlib.Core.Path.{◌≡◌, ap, sym, ◌∙◌}
 use mathlib.Core.Bool.{true, false}

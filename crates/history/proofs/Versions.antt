@@ -141,25 +141,25 @@ module _ (f : ℕ → Bool) (st : ℕ → State) (insert : Version) (r c : ℕ) 
   abbrev pub told : Record → List Dated
   told x = cond (eqb x.row r) (cond (sets c x.content && f x.transaction) (dated st (version_in c x) ∷ []) (cond (is_original c x.content) inserts [])) []
 
-  abbrev pub allTold : List Record → List Dated
-  allTold [] = []
-  allTold (x ∷ l) = told x ++ allTold l
+  abbrev pub all_told : List Record → List Dated
+  all_told [] = []
+  all_told (x ∷ l) = told x ++ all_told l
 
-  pub told_append : (l m : List Record) → allTold (l ++ m) ≡ allTold l ++ allTold m
+  pub told_append : (l m : List Record) → all_told (l ++ m) ≡ all_told l ++ all_told m
   told_append [] m = refl
-  told_append (x ∷ l) m = rw (told_append l m) (sym (append_assoc (told x) (allTold l) (allTold m)))
+  told_append (x ∷ l) m = rw (told_append l m) (sym (append_assoc (told x) (all_told l) (all_told m)))
 
   abbrev settings : List Record → List Dated
   settings l = settings_seen f st r c l
 
-  abbrev originalHere : Record → Bool
-  originalHere x = eqb x.row r && is_original c x.content
+  abbrev original_here : Record → Bool
+  original_here x = eqb x.row r && is_original c x.content
 
-  abbrev settingHere : Record → Bool
-  settingHere x = eqb x.row r && sets c x.content
+  abbrev setting_here : Record → Bool
+  setting_here x = eqb x.row r && sets c x.content
 
   -- a record that holds no original tells what it sets
-  told_setting : (x : Record) → originalHere x ≡ false → (l : List Record) → told x ++ settings l ≡ settings (x ∷ l)
+  told_setting : (x : Record) → original_here x ≡ false → (l : List Record) → told x ++ settings l ≡ settings (x ∷ l)
   unfolding settings_seen
   told_setting x e l = go (eqb x.row r) (sets c x.content && f x.transaction) (is_original c x.content) e
     where
@@ -170,19 +170,19 @@ module _ (f : ℕ → Bool) (st : ℕ → State) (insert : Version) (r c : ℕ) 
       go false s o e = refl
 
   -- and one that holds the original tells that, and sets nothing
-  told_original : (x : Record) → T (originalHere x) → (l : List Record) → (told x ≡ inserts) × (settings (x ∷ l) ≡ settings l)
+  told_original : (x : Record) → T (original_here x) → (l : List Record) → (told x ≡ inserts) × (settings (x ∷ l) ≡ settings l)
   unfolding settings_seen
   told_original x t l =
       let p = parts (eqb x.row r) _ t in
       rw (is_true (eqb x.row r) p.0, sets_original c x.content p.1, is_true (is_original c x.content) p.1) (refl, refl)
 
-  no_original : {l : List Record} → All (λ x. originalHere x ≡ false) l → allTold l ≡ settings l
+  no_original : {l : List Record} → All (λ x. original_here x ≡ false) l → all_told l ≡ settings l
   unfolding settings_seen
   no_original nil = refl
   no_original (cons {x = x} {l = l} e es) = rw (no_original es) (told_setting x e l)
 
   -- a record that sets nothing of it tells nothing behind the original
-  silent : (x : Record) → originalHere x ≡ false → settingHere x ≡ false → (l : List Record) → (told x ≡ []) × (settings (x ∷ l) ≡ settings l)
+  silent : (x : Record) → original_here x ≡ false → setting_here x ≡ false → (l : List Record) → (told x ≡ []) × (settings (x ∷ l) ≡ settings l)
   unfolding settings_seen
   silent x e q l = go (eqb x.row r) (sets c x.content) (is_original c x.content) e q
     where
@@ -193,60 +193,60 @@ module _ (f : ℕ → Bool) (st : ℕ → State) (insert : Version) (r c : ℕ) 
       go false s o e q = (refl, refl)
 
   -- the original comes before every setting of the column
-  pub original_told : {l : List Record} → Pairs (RowFollows st) l → has_original l r c ≡ true → allTold l ≡ inserts ++ settings l
+  pub original_told : {l : List Record} → Pairs (RowFollows st) l → has_original l r c ≡ true → all_told l ≡ inserts ++ settings l
   unfolding has_original
   original_told empty e = clash (cc)
   original_told (ahead {x = x} {l = l} p ps) e =
-      by_cases_on (originalHere x) (λ t. first t) (λ q. later (rw q at e) (original_told ps (rw q at e)) q)
+      by_cases_on (original_here x) (λ t. first t) (λ q. later (rw q at e) (original_told ps (rw q at e)) q)
     where
-      by_cases_on : (b : Bool) → (T b → allTold (x ∷ l) ≡ inserts ++ settings (x ∷ l)) → (b ≡ false → allTold (x ∷ l) ≡ inserts ++ settings (x ∷ l)) → allTold (x ∷ l) ≡ inserts ++ settings (x ∷ l)
+      by_cases_on : (b : Bool) → (T b → all_told (x ∷ l) ≡ inserts ++ settings (x ∷ l)) → (b ≡ false → all_told (x ∷ l) ≡ inserts ++ settings (x ∷ l)) → all_told (x ∷ l) ≡ inserts ++ settings (x ∷ l)
       by_cases_on true g k = g tt
       by_cases_on false g k = k refl
 
       -- both records of row r
-      one_row_lem : (y : Record) → T (eqb x.row r) → T (originalHere y) → x.row ≡ y.row
+      one_row_lem : (y : Record) → T (eqb x.row r) → T (original_here y) → x.row ≡ y.row
       one_row_lem y t u = eqb→eq x.row r t ∙ sym (eqb→eq y.row r (parts (eqb y.row r) _ u).0)
 
-      first : T (originalHere x) → allTold (x ∷ l) ≡ inserts ++ settings (x ∷ l)
+      first : T (original_here x) → all_told (x ∷ l) ≡ inserts ++ settings (x ∷ l)
       first t =
           let o = told_original x t l in
-          let none : All (λ y. originalHere y ≡ false) l = all_map (λ y (g : RowFollows st x y). refuted (originalHere y)
+          let none : All (λ y. original_here y ≡ false) l = all_map (λ y (g : RowFollows st x y). refuted (original_here y)
           (λ u. subst T ((g (one_row_lem y (parts (eqb x.row r) _ t).0 u)).original_first c (parts (eqb y.row r) _ u).1).1 (parts (eqb x.row r) _ t).1)) p in
           rw (o.0, o.1, no_original none)
 
-      later : any originalHere l ≡ true → allTold l ≡ inserts ++ settings l → originalHere x ≡ false → allTold (x ∷ l) ≡ inserts ++ settings (x ∷ l)
+      later : any original_here l ≡ true → all_told l ≡ inserts ++ settings l → original_here x ≡ false → all_told (x ∷ l) ≡ inserts ++ settings (x ∷ l)
       later u rest q =
-          let unset : settingHere x ≡ false = from_any originalHere (settingHere x ≡ false) p u
-          (λ y (g : RowFollows st x y) w. refuted (settingHere x) (λ t. subst T ((g (one_row_lem y (parts (eqb x.row r) _ t).0 w)).original_first c (parts (eqb y.row r) _ w).1).0 (parts (eqb x.row r) _ t).1)) in
+          let unset : setting_here x ≡ false = from_any original_here (setting_here x ≡ false) p u
+          (λ y (g : RowFollows st x y) w. refuted (setting_here x) (λ t. subst T ((g (one_row_lem y (parts (eqb x.row r) _ t).0 w)).original_first c (parts (eqb y.row r) _ w).1).0 (parts (eqb x.row r) _ t).1)) in
           let o = silent x q unset l in
           rw (o.0, o.1) rest
 
   -- a column that was never set has no original, and no setting
-  pub unset_told : (l : List Record) → has_original l r c ≡ false → was_set l r c ≡ false → (allTold l ≡ []) × (settings l ≡ [])
+  pub unset_told : (l : List Record) → has_original l r c ≡ false → was_set l r c ≡ false → (all_told l ≡ []) × (settings l ≡ [])
   unfolding has_original was_set settings_seen
   unset_told [] e q = (refl, refl)
   unset_told (x ∷ l) e q =
-      let a = none_true (originalHere x) _ e in
-      let b = none_true (settingHere x) _ q in
+      let a = none_true (original_here x) _ e in
+      let b = none_true (setting_here x) _ q in
       let o = silent x a.0 b.0 l in
       let rest = unset_told l a.1 b.1 in
       rw (o.0, o.1) rest
 
   -- the records of the row's range tell all
-  near_told : (l : List Record) → allTold (filterb (λ x. eqb (range_of x.row) (range_of r)) l) ≡ allTold l
+  near_told : (l : List Record) → all_told (filterb (λ x. eqb (range_of x.row) (range_of r)) l) ≡ all_told l
   near_told [] = refl
-  near_told (x ∷ l) = by_test (λ b. allTold (cond b (x ∷ filterb (λ x. eqb (range_of x.row) (range_of r)) l) (filterb (λ x. eqb (range_of x.row) (range_of r)) l)) ≡ told x ++ allTold l)
+  near_told (x ∷ l) = by_test (λ b. all_told (cond b (x ∷ filterb (λ x. eqb (range_of x.row) (range_of r)) l) (filterb (λ x. eqb (range_of x.row) (range_of r)) l)) ≡ told x ++ all_told l)
       (eqb (range_of x.row) (range_of r)) (λ _. rw (near_told l)) (λ n. rw (elsewhere r x n, near_told l))
 
 -- the crossings of what the records of row r's range tell
 pub crossings_told : (h : History) → InOrder h → (f : ℕ → Bool) (r c : ℕ) → c < most_columns → (mark : ℤ) (from : ℕ)
-    → crossings_from mark from (last_of_each (allTold f (state_of h) (inserted h r c) r c (records_of h (range_of r)))) ≡ crossings_from mark from (versions f h r c)
+    → crossings_from mark from (last_of_each (all_told f (state_of h) (inserted h r c) r c (records_of h (range_of r)))) ≡ crossings_from mark from (versions f h r c)
 unfolding versions values_seen records_of inserted
 crossings_told h i f r c b mark from =
     rw (near_told f (state_of h) (inserted h r c) r c h.tail) (go (has_original h.tail r c) refl)
   where
     go : (o : Bool) → has_original h.tail r c ≡ o
-        → crossings_from mark from (last_of_each (allTold f (state_of h) (inserted h r c) r c h.tail)) ≡ crossings_from mark from (last_of_each (values_seen f h r c))
+        → crossings_from mark from (last_of_each (all_told f (state_of h) (inserted h r c) r c h.tail)) ≡ crossings_from mark from (last_of_each (values_seen f h r c))
     go true e = ap (λ (l : List Dated). crossings_from mark from (last_of_each l)) (original_told f (state_of h) (inserted h r c) r c i.follow e)
     go false e =
         let none = unset_told f (state_of h) (inserted h r c) r c h.tail e (i.originals r c b ∙ e) in

@@ -55,7 +55,7 @@ module _ (d : Tested) (j : ℕ) (s : Sizes) (v : View) (r c : ℕ) (p : d ≡ Te
   pub range_inside : (g : ℕ) → g ≡ range_of r → g < s.ranges
   range_inside g e = rw e cell_handed_on.range_below
 
-pub ruleset cell-inside = (column_inside, row_inside, range_inside)
+pub ruleset cell_inside = (column_inside, row_inside, range_inside)
 
 -- the tests of latest are those of a row and a column
 pub latest_tests : (s : Sizes) (m : List ℕ) (r c : ℕ) (d : Tested) → Says d (verdict (row_tests (shape_in s) (view_of s m) r c)) → Tests s m (Call.latest r c) d

@@ -3,27 +3,27 @@ use Rattle.std.proofs.Common.{◌≡◌, ℕ, suc, ◌+◌, Bool, true, false, c
 use lib.Dec.{leb-suc-suc}
 use Rattle.loops.specs.declared.Found.TheVariants.{At, Nothing}
 use Rattle.loops.specs.Search.{region, first_at, found_at}
-use Rattle.terms.specs.Entries.{firstIndex}
+use Rattle.terms.specs.Entries.{first_index}
 
 -- counted from k
-first_index : (key k : ℕ) (l : List ℕ) → first_at key k l ≡ cond (ltb (firstIndex (λ x. eqb x key) l) (length l)) (At (k + firstIndex (λ x. eqb x key) l)) Nothing
-first_index key k [] = refl
-first_index key k (x ∷ l) = go (eqb x key) (first_index key (k + 1) l)
+first_index_lem : (key k : ℕ) (l : List ℕ) → first_at key k l ≡ cond (ltb (first_index (λ x. eqb x key) l) (length l)) (At (k + first_index (λ x. eqb x key) l)) Nothing
+first_index_lem key k [] = refl
+first_index_lem key k (x ∷ l) = go (eqb x key) (first_index_lem key (k + 1) l)
   where
-    go : (b : Bool) → first_at key (k + 1) l ≡ cond (ltb (firstIndex (λ y. eqb y key) l) (length l)) (At (k + 1 + firstIndex (λ y. eqb y key) l)) Nothing
+    go : (b : Bool) → first_at key (k + 1) l ≡ cond (ltb (first_index (λ y. eqb y key) l) (length l)) (At (k + 1 + first_index (λ y. eqb y key) l)) Nothing
         → cond b (At k) (first_at key (k + 1) l)
-        ≡ cond (ltb (cond b 0 (suc (firstIndex (λ y. eqb y key) l))) (suc (length l))) (At (k + cond b 0 (suc (firstIndex (λ y. eqb y key) l)))) Nothing
+        ≡ cond (ltb (cond b 0 (suc (first_index (λ y. eqb y key) l))) (suc (length l))) (At (k + cond b 0 (suc (first_index (λ y. eqb y key) l)))) Nothing
     go true ih =
         let z : k + 0 ≡ k = omega arith in
         rw (lt-ltb 0 (suc (length l)) (omega arith), z)
     go false ih =
-        let q = firstIndex (λ y. eqb y key) l in
+        let q = first_index (λ y. eqb y key) l in
         let z : k + suc q ≡ k + 1 + q = omega arith in
         rw (z, leb-suc-suc (suc q) (length l)) ih
 
 -- the whole of a list
-pub find_index : (key : ℕ) (l : List ℕ) (n : ℕ) → length l ≡ n → first_at key 0 (region l 0 n) ≡ found_at n (firstIndex (λ x. eqb x key) l)
+pub find_index : (key : ℕ) (l : List ℕ) (n : ℕ) → length l ≡ n → first_at key 0 (region l 0 n) ≡ found_at n (first_index (λ x. eqb x key) l)
 find_index key l n e =
     let a : region l 0 n ≡ l = take_all (0 + n) l (omega arith) in
-    let z : 0 + firstIndex (λ x. eqb x key) l ≡ firstIndex (λ x. eqb x key) l = omega arith in
-    rw a (first_index key 0 l ∙ rw (z, e))
+    let z : 0 + first_index (λ x. eqb x key) l ≡ first_index (λ x. eqb x key) l = omega arith in
+    rw a (first_index_lem key 0 l ∙ rw (z, e))

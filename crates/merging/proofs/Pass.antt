@@ -19,7 +19,7 @@ use Rattle.words.specs.Words.{words}
 use Rattle.words.proofs.Words.{length_words}
 use Rattle.layout.specs.View.{View, renew, put, copy, view_of, Suffices}
 use Rattle.layout.proofs.View.{view_long}
-use Rattle.terms.specs.Entries.{firstIndex}
+use Rattle.terms.specs.Entries.{first_index}
 use Rattle.model.specs.Stored.{record_in, value_in, page_in, current_in, chunks_of, pages_of, within, free_page, first_from, next_word}
 use Rattle.layout.specs.Regions.{merges_at, slot}
 use Rattle.model.specs.Writing.{applies, applied, newest_of, named_in, stray_in, free_in, merged_in}
@@ -148,7 +148,7 @@ apart a b d = go (ltb a b) refl
 
 -- ---- the free page
 -- the search over numbers is the search over a list
-pub first_list : (key : ℕ) (l : List ℕ) (n : ℕ) → length l ≡ n → first_from (λ p. eqb (get_or l p 0) key) n 0 ≡ firstIndex (λ x. eqb x key) l
+pub first_list : (key : ℕ) (l : List ℕ) (n : ℕ) → length l ≡ n → first_from (λ p. eqb (get_or l p 0) key) n 0 ≡ first_index (λ x. eqb x key) l
 first_list key l n e = ap (λ (k : ℕ). first_from (λ p. eqb (get_or l p 0) key) k 0) (sym e) ∙ count l
   where
     -- from i on, with i words before
@@ -160,7 +160,7 @@ first_list key l n e = ap (λ (k : ℕ). first_from (λ p. eqb (get_or l p 0) ke
         split true = refl
         split false = refl
 
-    count : (l : List ℕ) → first_from (λ p. eqb (get_or l p 0) key) (length l) 0 ≡ firstIndex (λ x. eqb x key) l
+    count : (l : List ℕ) → first_from (λ p. eqb (get_or l p 0) key) (length l) 0 ≡ first_index (λ x. eqb x key) l
     count [] = refl
     count (x ∷ l) =
         rw (shifted (λ p. eqb (get_or (x ∷ l) p 0) key) (λ p. eqb (get_or l p 0) key) (λ p. refl) (length l) 0, count l)

@@ -12,7 +12,7 @@ use lib.ListN.{length, get_or, set}
 use borrow.Author.Tests.{ne_eqb}
 use Rattle.history.specs.History.{any, count, nth, change}
 use Rattle.history.proofs.Lists.{by_cases, by_test, eqb_same, eqb_equal, is_true, any_at, one_few}
-use Rattle.terms.specs.Entries.{firstIndex, bears}
+use Rattle.terms.specs.Entries.{first_index, bears}
 use Rattle.model.proofs.Lists.{one, count_set, any_count, count_rest, count_from_lem, from_snoc, from_set, from_none, from_at, first_below, first_passes, count_pos}
 use Rattle.model.specs.Represents.{count_from}
 
@@ -31,11 +31,11 @@ live_given live l zero d e t = absurd (rw e at t)
 live_given live l (suc k) d e t = (omega arith, live_inside live l k d e t)
 
 -- an index that passes is the first that does, where no more than one does
-only_index : {A : Type 0} (f : A → Bool) (l : List A) (j : ℕ) (d : A) → j < length l → T (f (get_or l j d)) → count f l ≤ 1 → firstIndex f l ≡ j
+only_index : {A : Type 0} (f : A → Bool) (l : List A) (j : ℕ) (d : A) → j < length l → T (f (get_or l j d)) → count f l ≤ 1 → first_index f l ≡ j
 only_index f [] j d b t = λ c. absurd (omega arith)
 only_index f (x ∷ l) zero d b t = λ c. rw (is_true (f x) t)
 only_index f (x ∷ l) (suc j) d b t =
-    by_test (λ q. cond q (suc (count f l)) (count f l) ≤ 1 → cond q 0 (suc (firstIndex f l)) ≡ suc j) (f x)
+    by_test (λ q. cond q (suc (count f l)) (count f l) ≤ 1 → cond q 0 (suc (first_index f l)) ≡ suc j) (f x)
     (λ _ c. absurd (omega (arith, count_pos f l j d (omega arith) t))) (λ _ c. ap suc (only_index f l j d (omega arith) t c))
 
 -- How entries of type P stand for what is live among elements of type A: `as' i s` is the entry of number i of what is in state s.
@@ -84,9 +84,9 @@ module _ {P A : Type 0} (K : Kind P A) (ts : List A) (l : List P) (o : Book K ts
   pub book_room : count (λ p. eqb (K.number p) 0) l + count K.live ts ≡ length l
   book_room = rw (← book_count) (count_rest (λ p. eqb (K.number p) 0) l)
 
-  pub book_add : (s : A) → T (K.live s) → T (any (λ p. eqb (K.number p) 0) l) → Book K (ts ++ s ∷ []) (set l (firstIndex (λ p. eqb (K.number p) 0) l) (K.as' (suc (length ts)) s))
+  pub book_add : (s : A) → T (K.live s) → T (any (λ p. eqb (K.number p) 0) l) → Book K (ts ++ s ∷ []) (set l (first_index (λ p. eqb (K.number p) 0) l) (K.as' (suc (length ts)) s))
   book_add s v a q =
-      let i : ℕ = firstIndex (λ p. eqb (K.number p) 0) l in
+      let i : ℕ = first_index (λ p. eqb (K.number p) 0) l in
       let x : P = K.as' (suc (length ts)) s in
       let e1 : one (not (eqb (K.number (get_or l i K.free)) 0) && q (get_or l i K.free)) ≡ 0 =
       rw (is_true (eqb (K.number (get_or l i K.free)) 0) (first_passes (λ p. eqb (K.number p) 0) l K.free a)) in
@@ -101,11 +101,11 @@ module _ {P A : Type 0} (K : Kind P A) (ts : List A) (l : List P) (o : Book K ts
       )
 
   -- what was found under a number
-  pub book_found : (t : ℕ) → T (K.live (entry t)) → get_or l (firstIndex (bearing t) l) K.free ≡ K.as' t (entry t)
+  pub book_found : (t : ℕ) → T (K.live (entry t)) → get_or l (first_index (bearing t) l) K.free ≡ K.as' t (entry t)
   book_found t v = K.tells _ _ (λ f. by_cases (ℕ_discrete (f p) (f x)) (λ q. q) (λ n. absurd (other f n)))
     where
       p : P
-      p = get_or l (firstIndex (bearing t) l) K.free
+      p = get_or l (first_index (bearing t) l) K.free
 
       x : P
       x = K.as' t (entry t)
@@ -117,12 +117,12 @@ module _ {P A : Type 0} (K : Kind P A) (ts : List A) (l : List P) (o : Book K ts
       other f n =
           let g : P → Bool = λ p. not (eqb (K.number p) 0) && (not (eqb (f p) (f x)) && eqb (K.number p) t) in
           let e : count g l ≡ 0 = book_at t (λ p. not (eqb (f p) (f x))) ∙ rw (eqb_same (f x), and-false (K.live (entry t))) in
-          omega (arith, count_pos g l (firstIndex (bearing t) l) K.free (first_below (bearing t) l found) (rw (ne_eqb (f p) (f x) n) (first_passes (bearing t) l K.free found)))
+          omega (arith, count_pos g l (first_index (bearing t) l) K.free (first_below (bearing t) l found) (rw (ne_eqb (f p) (f x) n) (first_passes (bearing t) l K.free found)))
 
-  pub book_drop : (t : ℕ) → T (K.live (entry t)) → (s : A) → K.live s ≡ false → Book K (change ts t s) (set l (firstIndex (bearing t) l) K.free)
+  pub book_drop : (t : ℕ) → T (K.live (entry t)) → (s : A) → K.live s ≡ false → Book K (change ts t s) (set l (first_index (bearing t) l) K.free)
   book_drop zero v s n q = absurd (rw K.none_live at v)
   book_drop (suc t) v s n q =
-      let i : ℕ = firstIndex (bearing (suc t)) l in
+      let i : ℕ = first_index (bearing (suc t)) l in
       let y : A = get_or ts t K.none in
       let x : P = K.as' (suc t) y in
       let e1 : one (not (eqb (K.number (get_or l i K.free)) 0) && q (get_or l i K.free)) ≡ one (q x) = rw (book_found (suc t) v, K.as_number (suc t) y, eqb-suc-zero t) in
@@ -152,7 +152,7 @@ module _ {P A : Type 0} (K : Kind P A) (ts : List A) (l : List P) (o : Book K ts
   number_given j = by_cases (ℕ_discrete (number_at j) 0) (λ z. omega arith) (λ n. (live_given K.live ts (number_at j) K.none K.none_live (number_live j n)).1)
 
   -- no other entry bears it
-  pub only_entry : (j : ℕ) → number_at j ≢ 0 → firstIndex (bearing (number_at j)) l ≡ j
+  pub only_entry : (j : ℕ) → number_at j ≢ 0 → first_index (bearing (number_at j)) l ≡ j
   only_entry j n =
       only_index (bearing (number_at j)) l j K.free (inside j n) (bears_own j n) (omega (arith, book_at (number_at j) (λ p. true), one_few (K.live (entry (number_at j)) && true)))
 

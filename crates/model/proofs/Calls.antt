@@ -33,7 +33,7 @@ use Rattle.history.proofs.Limits.{commits_few}
 use Rattle.layout.specs.View.{View, last_stamp, used_in}
 use Rattle.layout.specs.declared.Region.TheVariants.{Opens, Changes}
 use Rattle.terms.specs.declared.ScanEntry.{ScanEntry}
-use Rattle.terms.specs.Entries.{bears, firstIndex}
+use Rattle.terms.specs.Entries.{bears, first_index}
 use Rattle.model.specs.Stored.{cell_in, current_in, within, open_index, scan_entry, word_limit}
 use Rattle.model.specs.declared.Reader.{Reader}
 use Rattle.model.specs.Reading.{reader, all_up_to, snapshot_of, read_in, read_current, own_changes, word_in, scan_page, Tally, tally, sum_in}
@@ -214,7 +214,7 @@ module _ {F : Form} {S : Shape} {v : View} {ps : List ScanEntry} {h : History} (
       (λ _. all_read h.last.stamp t r c (seen_by h t) (sees_own h t a) b d)
     where
       j : ℕ
-      j = firstIndex (bears t) (v Opens)
+      j = first_index (bears t) (v Opens)
 
       noted : ℕ
       noted = get_or (v Changes) j 0

@@ -16,7 +16,7 @@ use mir.Val.{to_z}
 use Rattle.terms.specs.Measures.{Shape, range_rows}
 use Rattle.history.specs.History.{Call, History, Row, Record, Version, is_committed, state_of, row_at, inserted_value, inserted, last_setting, range_of, records_of, with_rows, with_tail, with_transactions, with_scans, with_merges, cell_through}
 use Rattle.history.specs.Lists.{All}
-use Rattle.history.proofs.Lists.{by_cases, all_map, all-map₂, all_filterb, all_take, filterb_append, length_change}
+use Rattle.history.proofs.Lists.{by_cases, all_map, all_map₂, all_filterb, all_take, filterb_append, length_change}
 use Rattle.history.specs.Steps.{scan_opened, scan_closed, merged, released, Step, nothing, new_states, row_given, records_made, new_scans, new_merges}
 use Rattle.history.proofs.States.{up_refl, states_last}
 use Rattle.history.proofs.Ranges.{last_unfound}
@@ -75,7 +75,7 @@ pub taken_step : {S : Shape} {y : Call} {h h' : History} → InOrder h → Step 
     → All (TakenBefore (state_of h') n) (take k (records_of h' g))
 taken_step i step g n t a =
     let q = settled_step i t step in
-    rw q.records (all-map₂ (λ y e f s u. f s (sym e ∙ u)) q.states a)
+    rw q.records (all_map₂ (λ y e f s u. f s (sym e ∙ u)) q.states a)
 
 -- ---- a step that gives none of the rows in question
 module _ {S : Shape} {y : Call} {h h' : History} (i : InOrder h) (step : Step S h y h') (g c : ℕ) (x : PageWords) where
@@ -83,7 +83,7 @@ module _ {S : Shape} {y : Call} {h h' : History} (i : InOrder h) (step : Step S 
       → All (NotAfter (state_of h') c x.newest) (take x.lineage (records_of h' g))
   newest_step t a =
       let q : Settled h h' g x.lineage = settled_step i t step in
-      rw q.records (all-map₂ (λ y e f s n u. f s n (sym e ∙ u)) q.states a)
+      rw q.records (all_map₂ (λ y e f s n u. f s n (sym e ∙ u)) q.states a)
 
   cell_step : (r : ℕ) → range_of r ≡ g → Through h g x.lineage → (r < length h.rows) ⊎ (length h'.rows ≤ r)
       → cell_through h' c r x.lineage ≡ cell_through h c r x.lineage

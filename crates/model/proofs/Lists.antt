@@ -15,7 +15,7 @@ use lib.Seq.{take-suc}
 use Rattle.history.specs.History.{any, count}
 pub use Rattle.history.proofs.Lists.{one}
 use Rattle.history.proofs.Lists.{by_cases, by_test, cond_suc, any_append, is_true, refuted, or_left, or_right, or_cases, eqb_equal, eqb_same}
-use Rattle.terms.specs.Entries.{firstIndex}
+use Rattle.terms.specs.Entries.{first_index}
 use Rattle.model.specs.Stored.{first_from, any_below, count_below}
 use Rattle.model.specs.Represents.{count_from}
 
@@ -108,13 +108,13 @@ module _ {A : Type 0} where
       rw (take_next l n d b f, or-false (f (get_or l n d)), any_below_lem l d F f n (omega arith) (λ i u. e i (omega arith)), e n (omega arith))
 
   -- ---- the index that is found
-  pub first_below : (f : A → Bool) (l : List A) → T (any f l) → firstIndex f l < length l
+  pub first_below : (f : A → Bool) (l : List A) → T (any f l) → first_index f l < length l
   first_below f [] = λ t. absurd t
-  first_below f (x ∷ l) = by_test (λ b. T (b || any f l) → cond b 0 (suc (firstIndex f l)) < suc (length l)) (f x) (λ _ u. omega arith) (λ _ u. omega (arith, first_below f l u))
+  first_below f (x ∷ l) = by_test (λ b. T (b || any f l) → cond b 0 (suc (first_index f l)) < suc (length l)) (f x) (λ _ u. omega arith) (λ _ u. omega (arith, first_below f l u))
 
-  pub first_passes : (f : A → Bool) (l : List A) (d : A) → T (any f l) → T (f (get_or l (firstIndex f l) d))
+  pub first_passes : (f : A → Bool) (l : List A) (d : A) → T (any f l) → T (f (get_or l (first_index f l) d))
   first_passes f [] d = λ t. absurd t
-  first_passes f (x ∷ l) d = by_test (λ b. T (b || any f l) → T (f (get_or (x ∷ l) (cond b 0 (suc (firstIndex f l))) d))) (f x) (λ t _. t) (λ _ u. first_passes f l d u)
+  first_passes f (x ∷ l) d = by_test (λ b. T (b || any f l) → T (f (get_or (x ∷ l) (cond b 0 (suc (first_index f l))) d))) (f x) (λ t _. t) (λ _ u. first_passes f l d u)
 
 -- ---- the first number that passes
 module _ (f : ℕ → Bool) where

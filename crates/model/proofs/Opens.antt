@@ -9,7 +9,7 @@ use lib.ListN.{length, get_or, set}
 use Rattle.terms.specs.Measures.{most_transactions}
 use Rattle.history.specs.History.{State, unknown, active, any, count, nth, change, is_active}
 use Rattle.history.proofs.Lists.{both_test, eq_test}
-use Rattle.terms.specs.Entries.{bears, firstIndex}
+use Rattle.terms.specs.Entries.{bears, first_index}
 use Rattle.model.proofs.Lists.{same_truth, any_count, first_below, first_passes}
 use Rattle.model.proofs.Book.{Kind, live_given, book_is, book_room, book_add, book_drop}
 use Rattle.model.specs.Represents.{OpensAre}
@@ -26,7 +26,7 @@ pub opens_is : (ts : List State) (l : List ℕ) → OpensAre ts l → (t : ℕ) 
 opens_is ts l o = book_is open_kind ts l o
 
 -- what stands in the entry of an active transaction
-pub open_there : (ts : List State) (l : List ℕ) → OpensAre ts l → (t : ℕ) → nth ts t unknown ≡ active → (firstIndex (bears t) l < length l) × (get_or l (firstIndex (bears t) l) 0 ≡ t)
+pub open_there : (ts : List State) (l : List ℕ) → OpensAre ts l → (t : ℕ) → nth ts t unknown ≡ active → (first_index (bears t) l < length l) × (get_or l (first_index (bears t) l) 0 ≡ t)
 unfolding is_active
 open_there ts l o t a =
     let b : T (any (bears t) l) = rw (opens_is ts l o t, a) tt in
@@ -45,11 +45,11 @@ opens_full ts l n o =
     ∙ same_truth _ _ (λ t. le→leb most_transactions (count is_active ts) (omega (arith, nltb→le 0 (count (λ k. eqb k 0) l) t)))
     (λ t. not_T (ltb 0 (count (λ k. eqb k 0) l)) (λ u. omega (arith, ltb→lt 0 (count (λ k. eqb k 0) l) u, leb→le most_transactions (count is_active ts) t)))
 
-pub opens_begin : (ts : List State) (l : List ℕ) → OpensAre ts l → T (any (λ k. eqb k 0) l) → OpensAre (ts ++ active ∷ []) (set l (firstIndex (λ k. eqb k 0) l) (suc (length ts)))
+pub opens_begin : (ts : List State) (l : List ℕ) → OpensAre ts l → T (any (λ k. eqb k 0) l) → OpensAre (ts ++ active ∷ []) (set l (first_index (λ k. eqb k 0) l) (suc (length ts)))
 unfolding is_active
 opens_begin ts l o a = book_add open_kind ts l o active tt a
 
 pub opens_close : (ts : List State) (l : List ℕ) (t : ℕ) (x : State) → OpensAre ts l → nth ts t unknown ≡ active → is_active x ≡ false
-    → OpensAre (change ts t x) (set l (firstIndex (bears t) l) 0)
+    → OpensAre (change ts t x) (set l (first_index (bears t) l) 0)
 unfolding is_active
 opens_close ts l t x o p n = book_drop open_kind ts l o t (rw p tt) x n

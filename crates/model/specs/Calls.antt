@@ -16,7 +16,7 @@ use Rattle.layout.specs.View.{View, put, rows_given, transactions_given, scans_g
 use Rattle.layout.specs.Moved.{moved}
 use Rattle.layout.specs.declared.Region.TheVariants.{Header, Opens, OpenKeeper}
 use Rattle.terms.specs.declared.ScanEntry.{ScanEntry}
-use Rattle.terms.specs.Entries.{free_entry, firstIndex, bears, is_scan}
+use Rattle.terms.specs.Entries.{free_entry, first_index, bears, is_scan}
 use Rattle.layout.specs.Regions.{scans_at}
 use Rattle.model.specs.Stored.{RecordWords, row_in, record_in, page_in, current_in, cell_in, within, committed_state, delete_kind, row_keeper, record_keeper, scan_entry, pages_of, any_below, count_below, word_limit}
 use Rattle.layout.specs.Codes.{keeper_limit}
@@ -241,10 +241,10 @@ entries_after v ps (latest r c) = ps
 entries_after v ps (read_at s r c) = ps
 entries_after v ps (own_read t r c) = ps
 entries_after v ps (open_scan s) =
-    set ps (firstIndex (λ p. eqb p.number 0) ps) (new_entry v s)
+    set ps (first_index (λ p. eqb p.number 0) ps) (new_entry v s)
 entries_after v ps (scan_read k r c) = ps
 entries_after v ps (sum k c) = ps
-entries_after v ps (close k) = set ps (firstIndex (is_scan k) ps) free_entry
+entries_after v ps (close k) = set ps (first_index (is_scan k) ps) free_entry
 entries_after v ps (merge g c n) = ps
 entries_after v ps release = ps
 entries_after v ps (page_cell c r) = ps

@@ -8,7 +8,7 @@ use Rattle.layout.specs.declared.Region.{Region}
 use Rattle.layout.specs.declared.Region.TheVariants.{Header, Opens, RowTransaction, RowState, RowStamp, RowLink, RowMask, TailTransaction, TailRow, TailKind, TailMask, TailLink, TailState, TailStamp, TailValues, Used, Current, PageState, PageChunk, PageMade, PageReplaced, PageLineage, PageNewest, Cells, Changes, RowOrdinal, TailOrdinal, RowKeeper, TailKeeper, OpenKeeper}
 use Rattle.layout.specs.Parts.{Part, stretch, word, words_where}
 use Rattle.terms.specs.declared.ScanEntry.{ScanEntry}
-use Rattle.terms.specs.Entries.{free_entry, firstIndex, is_scan}
+use Rattle.terms.specs.Entries.{free_entry, first_index, is_scan}
 use Rattle.model.specs.Stored.{current_in, chunk_of, pages_of, within, open_index}
 use Rattle.model.specs.Writing.{next_slot, records_wanted, free_in, releasable}
 
@@ -91,7 +91,7 @@ open_written j = word Opens j ∷ word Changes j ∷ word OpenKeeper j ∷ []
 
 -- what a begin writes: the numbers given, and the first free entry
 abbrev pub begin_written : View → List Part
-begin_written v = word Header transactions_at ∷ open_written (firstIndex (λ k. eqb k 0) (v Opens))
+begin_written v = word Header transactions_at ∷ open_written (first_index (λ k. eqb k 0) (v Opens))
 
 unfoldable pub footprint : Shape → View → List ScanEntry → Call → List Part
 footprint S v ps begin = begin_written v
@@ -121,8 +121,8 @@ footprint S v ps (move to second) = []
 
 -- ---- and of the scan list: the indices of the entries that a call may change
 unfoldable pub entries_written : List ScanEntry → Call → List ℕ
-entries_written ps (open_scan s) = firstIndex (λ p. eqb p.number 0) ps ∷ []
-entries_written ps (close k) = firstIndex (is_scan k) ps ∷ []
+entries_written ps (open_scan s) = first_index (λ p. eqb p.number 0) ps ∷ []
+entries_written ps (close k) = first_index (is_scan k) ps ∷ []
 entries_written ps begin = []
 entries_written ps (insert t vs) = []
 entries_written ps (update t r m vs) = []

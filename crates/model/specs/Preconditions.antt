@@ -5,7 +5,7 @@ use Rattle.layout.specs.declared.Sizes.{Sizes}
 use Rattle.layout.specs.declared.Region.{Region}
 use Rattle.layout.specs.View.{View, rows_given, used_in}
 use Rattle.history.specs.History.{range_of}
-use Rattle.terms.specs.Entries.{firstIndex}
+use Rattle.terms.specs.Entries.{first_index}
 use Rattle.model.specs.Stored.{open_index, page_in, chunks_of, pages_of}
 use Rattle.layout.specs.Codes.{as_current}
 use Rattle.layout.specs.Regions.{slot}
@@ -40,7 +40,7 @@ pub record ChunksCurrent (S : Shape) (v : View) : Type 0 where
 -- j is the index of the first free open entry
 pub record FreeAt (v : View) (j : ℕ) : Type 0 where
   pub low : j < most_transactions
-  pub first : j ≡ firstIndex (λ k. eqb k 0) (v Region.Opens)
+  pub first : j ≡ first_index (λ k. eqb k 0) (v Region.Opens)
 
 -- j is the index of open transaction t
 pub record OpenAt (v : View) (t j : ℕ) : Type 0 where

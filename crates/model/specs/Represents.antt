@@ -158,10 +158,10 @@ NotesAre rows tail opens notes = (j : ℕ) → j < most_transactions → get_or 
 
 -- ---- keepers
 -- the keepers of the rows, of the records of every range and of the open transactions; `keeper` has that of each transaction
-pub record KeepersAre (S : Shape) (keeper : ℕ → ℕ) (row : ℕ → Row) (given : ℕ) (list : ℕ → List Record) (rowWords tailWords opens openWords : List ℕ) : Type 0 where
-  pub of_rows : (r : ℕ) → r < given → get_or rowWords r 0 ≡ keeper (row r).inserter
-  pub of_records : (g k : ℕ) → g < S.ranges → k < length (list g) → get_or tailWords (g * S.capacity + k) 0 ≡ keeper (bearer row (get_or (list g) k no_record))
-  pub of_opens : (j : ℕ) → get_or opens j 0 ≢ 0 → get_or openWords j 0 ≡ keeper (get_or opens j 0)
+pub record KeepersAre (S : Shape) (keeper : ℕ → ℕ) (row : ℕ → Row) (given : ℕ) (list : ℕ → List Record) (row_words tail_words opens open_words : List ℕ) : Type 0 where
+  pub of_rows : (r : ℕ) → r < given → get_or row_words r 0 ≡ keeper (row r).inserter
+  pub of_records : (g k : ℕ) → g < S.ranges → k < length (list g) → get_or tail_words (g * S.capacity + k) 0 ≡ keeper (bearer row (get_or (list g) k no_record))
+  pub of_opens : (j : ℕ) → get_or opens j 0 ≢ 0 → get_or open_words j 0 ≡ keeper (get_or opens j 0)
   pub small : (t : ℕ) → keeper t < keeper_limit
 
 abbrev pub KeepersFor : Shape → History → View → Type 0

@@ -6,7 +6,7 @@ use Rattle.layout.specs.Codes.{as_open, as_committed, as_original, as_setting, a
 use Rattle.layout.specs.View.{View}
 use Rattle.layout.specs.declared.Region.TheVariants.{Header, Opens, RowTransaction, RowState, RowStamp, RowLink, RowMask, TailTransaction, TailRow, TailKind, TailMask, TailLink, TailState, TailStamp, TailValues, Current, PageState, PageChunk, PageMade, PageReplaced, PageLineage, PageNewest, Cells, RowOrdinal, TailOrdinal, RowKeeper, TailKeeper, OpenKeeper}
 use Rattle.terms.specs.declared.ScanEntry.{ScanEntry}
-use Rattle.terms.specs.Entries.{free_entry, firstIndex, bears, is_scan}
+use Rattle.terms.specs.Entries.{free_entry, first_index, bears, is_scan}
 
 -- ---- sizes that a shape makes
 abbrev pub chunks_of : Shape → ℕ
@@ -151,7 +151,7 @@ count_below f (suc n) = cond (f n) (suc (count_below f n)) (count_below f n)
 
 -- the index of open transaction t
 unfoldable pub open_index : View → ℕ → ℕ
-open_index v t = firstIndex (bears t) (v Opens)
+open_index v t = first_index (bears t) (v Opens)
 
 -- the keeper of row r's inserter, of the record at slot s, and of open transaction t: the words as they stand
 unfoldable pub row_keeper : View → ℕ → ℕ
@@ -165,4 +165,4 @@ open_keeper v t = get_or (v OpenKeeper) (open_index v t) 0
 
 -- the entry of open scan k
 unfoldable pub scan_entry : List ScanEntry → ℕ → ScanEntry
-scan_entry ps k = get_or ps (firstIndex (is_scan k) ps) free_entry
+scan_entry ps k = get_or ps (first_index (is_scan k) ps) free_entry

@@ -13,7 +13,7 @@ use Rattle.layout.specs.declared.Region.{Region}
 use Rattle.layout.specs.declared.Region.TheVariants.{Header, Opens, RowTransaction, RowState, RowStamp, RowLink, RowMask, TailTransaction, TailRow, TailKind, TailMask, TailLink, TailState, TailStamp, TailValues, Used, Current, PageState, PageChunk, PageMade, PageReplaced, PageLineage, PageNewest, Cells, Changes, RowOrdinal, TailOrdinal, RowKeeper, TailKeeper, OpenKeeper}
 use Rattle.terms.specs.declared.ScanEntry.{ScanEntry}
 use Rattle.layout.specs.Sizes.{sizes_of}
-use Rattle.terms.specs.Entries.{firstIndex}
+use Rattle.terms.specs.Entries.{first_index}
 use Rattle.model.specs.Stored.{RecordWords, row_in, record_in, page_in, value_in, current_in, chunk_of, chunks_of, pages_of, cell_in, within, next_word, committed_state, setting_kind, free_page, current_page, waiting_page, first_from, open_index, row_keeper, open_keeper}
 use Rattle.layout.specs.Codes.{as_open, as_committed, as_aborted, as_original, as_setting, as_delete, as_free, as_current, as_waiting}
 
@@ -22,7 +22,7 @@ use Rattle.layout.specs.Codes.{as_open, as_committed, as_aborted, as_original, a
 unfoldable pub begun : ℕ → View → View
 begun keeper v =
     let n = transactions_given v + 1 in
-    let j = firstIndex (λ k. eqb k 0) (v Opens) in
+    let j = first_index (λ k. eqb k 0) (v Opens) in
     put Header transactions_at n (put OpenKeeper j keeper (put Changes j 0 (put Opens j n v)))
 
 -- A row or record made by open transaction t is noted. One note for a call is enough: what is asked of the count is whether it is 0.

@@ -13,7 +13,7 @@ use lib.Dec.{T, T_not, not_T, leb, ltb, eqb, eqb→eq, leb→le, ltb→lt, nleb�
 use lib.ListN.{length, get_or}
 use lib.Pow.{pow_pos, shr-shr}
 use Rattle.terms.specs.Measures.{Shape, most_transactions}
-use Rattle.terms.specs.Entries.{free_entry, bears, firstIndex}
+use Rattle.terms.specs.Entries.{free_entry, bears, first_index}
 use Rattle.terms.specs.Refusals.{is_refused}
 use Rattle.terms.specs.declared.Answer.{Answer}
 use Rattle.terms.specs.declared.ScanEntry.{ScanEntry}
@@ -96,7 +96,7 @@ module _ {A : Type 0} (number : A → ℕ) (l : List A) (d : A) where
   list_test : (t : ℕ) → T (any (λ p. bears t (number p)) l) ↔ ((t ≢ 0) × ((j : ℕ) × (j < length l) × (number (get_or l j d) ≡ t)))
   list_test t =
       let f : A → Bool = λ p. bears t (number p) in (
-        λ b. let q = simp (both_test, not_test, eq_test) at (first_passes f l d b) in (λ z. q.0 (q.1 ∙ z), (firstIndex f l, first_below f l b, q.1)),
+        λ b. let q = simp (both_test, not_test, eq_test) at (first_passes f l d b) in (λ z. q.0 (q.1 ∙ z), (first_index f l, first_below f l b, q.1)),
         λ q. any_at f l d q.1.0 q.1.1 (simp (both_test, not_test, eq_test) (λ z. q.0 (sym q.1.2 ∙ z), q.1.2)),
       )
 

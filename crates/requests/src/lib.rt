@@ -8,7 +8,7 @@ ghost use Rattle.words.specs.Words.{words};
 ghost use Rattle.requests.specs.Packed.{entries_of};
 ghost use Rattle.scans.specs.Table.{table_of};
 ghost use Rattle.layout.specs.Sizes.{shape_of};
-ghost use Rattle.history.specs.History.{Call, alone as aloneOf};
+ghost use Rattle.history.specs.History.{Call, alone as alone_of};
 ghost use Rattle.commands.specs.Commands.{read_of, write_of, call_of};
 ghost use Rattle.promise.specs.Promise.{Serves, ServesBy, Gives, GivesBy, Makes, kept};
 ghost use Rattle.requests.specs.Requested.{most_mask, requested, given_by};
@@ -136,7 +136,7 @@ pub struct Called {
 
 // The answer of a call that is lent no slice.
 pub fn alone(answer: Answer) -> Called
-    ensures { given_by result ≡ aloneOf answer }
+    ensures { given_by result ≡ alone_of answer }
 {
     Called {
         answer,

@@ -48,13 +48,13 @@ module _ {State : Type 0} (m : Machine State) (columns : ℕ) where
       (all_steps a b s.state (behind columns (chosen byte) bs) (omega arith) (omega arith))
 
   -- a command's line, with the operands os, and what is due for the bytes behind
-  abbrev lineThen : State → ℕ → Chosen → List ℕ → ℕ → List ℕ → List ℕ
-  lineThen x byte k os most left =
+  abbrev line_then : State → ℕ → Chosen → List ℕ → ℕ → List ℕ → List ℕ
+  line_then x byte k os most left =
       line_of byte (outcome_to m columns x k os) ++ cond (goes_on (outcome_to m columns x k os).answer) (steps most m columns (state_after m columns x k os) left) []
 
   whole_step : (x : State) (byte : ℕ) (k : Chosen) (tail rest : List ℕ) → T (ends k) → operand_width columns k ≤ length tail
-      → lineThen x byte k (operands_of columns k (tail ++ rest)) (length (tail ++ rest)) (behind columns k (tail ++ rest))
-      ≡ lineThen x byte k (take (operand_width columns k) tail) (length (drop (operand_width columns k) tail ++ rest)) (drop (operand_width columns k) tail ++ rest)
+      → line_then x byte k (operands_of columns k (tail ++ rest)) (length (tail ++ rest)) (behind columns k (tail ++ rest))
+      ≡ line_then x byte k (take (operand_width columns k) tail) (length (drop (operand_width columns k) tail ++ rest)) (drop (operand_width columns k) tail ++ rest)
   unfolding operands_of behind operand_width outcome_to
   whole_step x byte (Chosen.Known f) tail rest e h =
       let w : ℕ = width columns f in
@@ -67,7 +67,7 @@ module _ {State : Type 0} (m : Machine State) (columns : ℕ) where
   whole_step x byte (Chosen.Refused r) tail rest e h = rw (is_false (goes_on (Answer.Refused r)) e)
 
   cut_step : (x : State) (byte : ℕ) (k : Chosen) (tail : List ℕ) → length tail < operand_width columns k
-      → lineThen x byte k (operands_of columns k tail) (length tail) (behind columns k tail) ≡ lineThen x byte k tail 0 []
+      → line_then x byte k (operands_of columns k tail) (length tail) (behind columns k tail) ≡ line_then x byte k tail 0 []
   unfolding operands_of behind operand_width
   cut_step x byte (Chosen.Known f) tail h =
       let w : ℕ = width columns f in

@@ -14,7 +14,7 @@ use Rattle.loops.specs.declared.Found.{Found}
 use Rattle.loops.specs.declared.Found.TheVariants.{At, Nothing}
 use Rattle.loops.specs.Search.{all_between, first_at}
 use Rattle.loops.proofs.Search.{first_in, first_at_lem}
-use Rattle.terms.specs.Entries.{free_entry, is_scan, firstIndex}
+use Rattle.terms.specs.Entries.{free_entry, is_scan, first_index}
 use Rattle.scans.specs.Entries.{opened, opened_at, open_count, every_open, some_open, among, differ}
 use Rattle.scans.specs.Table.{column, table_of, find_in, some_less}
 use Rattle.scans.proofs.Table.{at_length}
@@ -77,7 +77,7 @@ module _ (k n : ℕ) (nonzero : eqb k 0 ≡ false) where
 
   -- the index of k in a list that starts at index d, and its entry j
   abbrev Entry : ℕ → List ScanEntry → ℕ → Type 0
-  Entry d ps j = (firstIndex (is_scan k) ps + d ≡ get_or (opened_at d ps) j 0) × (get_or ps (firstIndex (is_scan k) ps) free_entry ≡ get_or (opened ps) j free_entry) × (j < open_count ps)
+  Entry d ps j = (first_index (is_scan k) ps + d ≡ get_or (opened_at d ps) j 0) × (get_or ps (first_index (is_scan k) ps) free_entry ≡ get_or (opened ps) j free_entry) × (j < open_count ps)
 
   found_index : (ps : List ScanEntry) (c d j : ℕ) → searched c ps ≡ At (c + j) → Entry d ps j
   found_index [] c d j e = let z : ◌≡◌ {A = ℕ} 0 1 = cc (zeros_none k c n nonzero) in absurd (omega arith)
@@ -96,32 +96,32 @@ module _ (k n : ℕ) (nonzero : eqb k 0 ≡ false) where
           rw (o, q) (let t = later (c + 1) (suc d) i ((rw (o, q) at f) ∙ ap At (omega arith)) in (omega (arith, t.0), t.1, omega (arith, t.2)))
 
   -- and where none is found no entry of the list bears k
-  found_none : (ps : List ScanEntry) (c : ℕ) → searched c ps ≡ Nothing → firstIndex (is_scan k) ps ≡ length ps
+  found_none : (ps : List ScanEntry) (c : ℕ) → searched c ps ≡ Nothing → first_index (is_scan k) ps ≡ length ps
   found_none [] c e = refl
   found_none (p ∷ ps) c e = go (eqb p.number 0) refl (eqb p.number k) refl (found_none ps)
     where
-      go : (o : Bool) → eqb p.number 0 ≡ o → (b : Bool) → eqb p.number k ≡ b → ((c : ℕ) → searched c ps ≡ Nothing → firstIndex (is_scan k) ps ≡ length ps)
-          → firstIndex (is_scan k) (p ∷ ps) ≡ suc (length ps)
+      go : (o : Bool) → eqb p.number 0 ≡ o → (b : Bool) → eqb p.number k ≡ b → ((c : ℕ) → searched c ps ≡ Nothing → first_index (is_scan k) ps ≡ length ps)
+          → first_index (is_scan k) (p ∷ ps) ≡ suc (length ps)
       go true o b q later = rw o (ap suc (later c (rw o at e)))
       go false o true q later = let f = rw (o, q) at e in let z : ◌≡◌ {A = ℕ} 0 1 = cc in absurd (omega arith)
       go false o false q later = rw (o, q) (ap suc (later (c + 1) (rw (o, q) at e)))
 
 -- no entry bears 0
-none_zero : (ps : List ScanEntry) → firstIndex (is_scan 0) ps ≡ length ps
+none_zero : (ps : List ScanEntry) → first_index (is_scan 0) ps ≡ length ps
 none_zero [] = refl
 none_zero (p ∷ ps) =
-    elim (eqb p.number 0) as (λ b. cond (not b && b) 0 (suc (firstIndex (is_scan 0) ps)) ≡ suc (length ps)) [ true ↦ ap suc (none_zero ps) | false ↦ ap suc (none_zero ps) ]
+    elim (eqb p.number 0) as (λ b. cond (not b && b) 0 (suc (first_index (is_scan 0) ps)) ≡ suc (length ps)) [ true ↦ ap suc (none_zero ps) | false ↦ ap suc (none_zero ps) ]
 
 -- ---- the answers of a table
 
 -- scan k stands at entry j of the table
 pub record Located (ps : List ScanEntry) (k j : ℕ) : Type 0 where
   pub entry : j < open_count ps
-  pub number_is : (get_or ps (firstIndex (is_scan k) ps) free_entry).number ≡ k
-  pub index_is : get_or (table_of ps).indices j 0 ≡ firstIndex (is_scan k) ps
-  pub stamp_is : get_or (table_of ps).stamps j 0 ≡ (get_or ps (firstIndex (is_scan k) ps) free_entry).stamp
-  pub merges_is : get_or (table_of ps).merges j 0 ≡ (get_or ps (firstIndex (is_scan k) ps) free_entry).merges
-  pub commits_is : get_or (table_of ps).commits j 0 ≡ (get_or ps (firstIndex (is_scan k) ps) free_entry).commits
+  pub number_is : (get_or ps (first_index (is_scan k) ps) free_entry).number ≡ k
+  pub index_is : get_or (table_of ps).indices j 0 ≡ first_index (is_scan k) ps
+  pub stamp_is : get_or (table_of ps).stamps j 0 ≡ (get_or ps (first_index (is_scan k) ps) free_entry).stamp
+  pub merges_is : get_or (table_of ps).merges j 0 ≡ (get_or ps (first_index (is_scan k) ps) free_entry).merges
+  pub commits_is : get_or (table_of ps).commits j 0 ≡ (get_or ps (first_index (is_scan k) ps) free_entry).commits
 
 module _ (ps : List ScanEntry) (few : open_count ps ≤ most_scans) where
   field_column : (f : ScanEntry → ℕ) → column (map f (opened ps)) ≡ map f (opened ps) ++ replicate (most_scans - open_count ps) 0
@@ -172,10 +172,10 @@ module _ (ps : List ScanEntry) (few : open_count ps ≤ most_scans) where
             }
       ] refl e
 
-  pub table_lacks : (k : ℕ) → find_in (table_of ps) k ≡ Nothing → firstIndex (is_scan k) ps ≡ length ps
+  pub table_lacks : (k : ℕ) → find_in (table_of ps) k ≡ Nothing → first_index (is_scan k) ps ≡ length ps
   unfolding find_in table_of
   table_lacks k e =
-      elim (eqb k 0) as (λ b. eqb k 0 ≡ b → cond b Nothing (first_at k 0 (table_of ps).numbers) ≡ Nothing → firstIndex (is_scan k) ps ≡ length ps) [
+      elim (eqb k 0) as (λ b. eqb k 0 ≡ b → cond b Nothing (first_at k 0 (table_of ps).numbers) ≡ Nothing → first_index (is_scan k) ps ≡ length ps) [
         | true ↦ λ q f. let z : k ≡ 0 = eqb-true k 0 q in rw z (none_zero ps)
         | false ↦ λ q f. found_none k (most_scans - open_count ps) q ps 0 (rw (field_column (λ p. p.number)) at f)
       ] refl e

@@ -1,13 +1,13 @@
 -- What is asked of the lent list of open scans, which may be of any length.
 use Rattle.std.specs.Prelude.{ℕ, suc, Bool, true, false, not, cond, ◌&&◌, ◌||◌, List, [], ◌∷◌, eqb, length, replicate}
 use Rattle.terms.specs.declared.ScanEntry.{ScanEntry}
-use Rattle.terms.specs.Entries.{free_entry, firstIndex}
+use Rattle.terms.specs.Entries.{free_entry, first_index}
 
 abbrev pub is_open : ScanEntry → Bool
 is_open p = not (eqb p.number 0)
 
 abbrev pub first_free : List ScanEntry → ℕ
-first_free ps = firstIndex (λ p. eqb p.number 0) ps
+first_free ps = first_index (λ p. eqb p.number 0) ps
 
 -- the open scans, in the order of the list, and their indices, that of the list's first being k
 abbrev pub opened : List ScanEntry → List ScanEntry

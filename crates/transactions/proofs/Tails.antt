@@ -20,28 +20,28 @@ use Rattle.layout.proofs.Renewed.{renew_none, renew_again}
 
 module _ (S : Shape) (t : ℕ) (k : Region) (w : ℕ) (v : View) where
   -- the view after g ranges
-  unfoldable pub marksTo : ℕ → View
-  marksTo g = renew k (mark_tails S (v Region.Used) (v Region.TailTransaction) t w g (v k)) v
+  unfoldable pub marks_to : ℕ → View
+  marks_to g = renew k (mark_tails S (v Region.Used) (v Region.TailTransaction) t w g (v k)) v
 
-  pub marks_none : v ≡ marksTo 0
-  unfolding marksTo
+  pub marks_none : v ≡ marks_to 0
+  unfolding marks_to
   marks_none = renew_none k v
 
   -- what a turn reads is as it was
-  pub marks_used : (x : View) (g i : ℕ) → index k ≢ index Region.Used → x ≡ marksTo g → used_in x i ≡ used_in v i
-  unfolding marksTo
+  pub marks_used : (x : View) (g i : ℕ) → index k ≢ index Region.Used → x ≡ marks_to g → used_in x i ≡ used_in v i
+  unfolding marks_to
   marks_used x g i d e =
       ap (λ (y : View). get_or (y Region.Used) i 0) e ∙ ap (λ (l : List ℕ). get_or l i 0) (renew_there k Region.Used _ v d)
 
   pub marks_next : (x x' : View) (g : ℕ) → index k ≢ index Region.TailTransaction → index k ≢ index Region.Used
-      → x ≡ marksTo g → x' ≡ tail_marked S t k w g x → x' ≡ marksTo (g + 1)
-  unfolding marksTo tail_marked mark
+      → x ≡ marks_to g → x' ≡ tail_marked S t k w g x → x' ≡ marks_to (g + 1)
+  unfolding marks_to tail_marked mark
   marks_next x x' g d u e p =
       let l : List ℕ = mark_tails S (v Region.Used) (v Region.TailTransaction) t w g (v k) in
       p ∙ rw (e, renew_there k Region.TailTransaction l v d, renew_there k Region.Used l v u, renew_here k l v, renew_again, add-one)
 
-  pub marks_all : (x : View) (g : ℕ) → x ≡ marksTo g → g ≤ S.ranges → S.ranges ≤ g → x ≡ tails_marked S t k w v
-  unfolding marksTo tails_marked
+  pub marks_all : (x : View) (g : ℕ) → x ≡ marks_to g → g ≤ S.ranges → S.ranges ≤ g → x ≡ tails_marked S t k w v
+  unfolding marks_to tails_marked
   marks_all x g e h m = let q : g ≡ S.ranges = omega arith in e ∙ rw q
 
 -- the counts of a view with the same header and the same numbers of records

@@ -11,7 +11,7 @@ ghost use Rattle.loops.specs.Search.{found_at};
 ghost use Rattle.layout.specs.declared.Region.{Region};
 ghost use Rattle.layout.specs.Regions.{index, len};
 ghost use Rattle.layout.specs.View.{transactions_given, used_in, view_of, Suffices};
-ghost use Rattle.terms.specs.Entries.{firstIndex};
+ghost use Rattle.terms.specs.Entries.{first_index};
 ghost use Rattle.model.specs.Writing.{begun, mark_all, settled, committed_in, aborted_in, freed};
 ghost use Rattle.layout.specs.Sizes.{Proper};
 ghost use Rattle.model.specs.Preconditions.{shape_in, Counted, FreeAt, OpenAt};
@@ -28,7 +28,7 @@ use terms::{Stamp, Transaction};
 // The first free entry for an open transaction.
 pub fn free_index(mem: &[u8], s: Sizes) -> Found
     requires { Suffices s mem.now }
-    ensures { result ≡ found_at most_transactions (firstIndex (λ k. eqb k 0) (view_of s mem.now Region.Opens)) }
+    ensures { result ≡ found_at most_transactions (first_index (λ k. eqb k 0) (view_of s mem.now Region.Opens)) }
 {
     find_in(mem, s, Region::Opens, 0, MOST_TRANSACTIONS, 0)
 }

@@ -13,7 +13,7 @@ ghost use Rattle.commands.specs.Decoded.{measured};
 ghost use Rattle.output.specs.Steps.{step};
 ghost use Rattle.turns.specs.Gatebook.{largest};
 ghost use Rattle.promise.specs.Promise.{lent_machine};
-ghost use Rattle.turns.specs.Turns.{store_in, making_answer, made_store, first_answer, first_store, first_step, columns_from, capped as cappedAt, operand_width, Does, Turned};
+ghost use Rattle.turns.specs.Turns.{store_in, making_answer, made_store, first_answer, first_store, first_step, columns_from, capped as capped_at, operand_width, Does, Turned};
 
 use commands::{Chosen, Format, Measures, SHAPE_BYTES, choose, decode, decode_shape, width};
 use decimal::LINE_BYTES;
@@ -92,7 +92,7 @@ pub fn columns_of(bytes: &[u8]) -> usize
 
 // A number of columns above the most counts as the most.
 fn capped(columns: usize) -> usize
-    ensures { (result ≡ cappedAt columns) × (result ≤ most_columns) }
+    ensures { (result ≡ capped_at columns) × (result ≤ most_columns) }
 {
     if columns < MOST_COLUMNS {
         columns
@@ -103,7 +103,7 @@ fn capped(columns: usize) -> usize
 
 // How many bytes of operands are to be read behind a command byte.
 pub fn operand_width(byte: u8, columns: usize) -> usize
-    ensures { (result ≡ operand_width (cappedAt columns) (chosen byte)) × (result ≤ operands_bytes) }
+    ensures { (result ≡ operand_width (capped_at columns) (chosen byte)) × (result ≤ operands_bytes) }
 {
     let chosen = choose(byte);
     match chosen {
@@ -137,7 +137,7 @@ fn answer_to_command(
     byte: u8,
     operands: &[u8],
 ) -> Called
-    ensures { Does (store_in mem.old scans.old) (cappedAt columns) (chosen byte) operands.now (given_by result) (store_in mem.new scans.new) }
+    ensures { Does (store_in mem.old scans.old) (capped_at columns) (chosen byte) operands.now (given_by result) (store_in mem.new scans.new) }
 {
     let chosen = choose(byte);
     match chosen {
@@ -155,7 +155,7 @@ pub fn turn(
     operands: &[u8],
     out: &mut [u8; LINE_BYTES],
 ) -> Outcome
-    ensures { Turned (step lent_machine (cappedAt columns) (store_in mem.old scans.old) byte operands.now) out.old out.new result (store_in mem.new scans.new) }
+    ensures { Turned (step lent_machine (capped_at columns) (store_in mem.old scans.old) byte operands.now) out.old out.new result (store_in mem.new scans.new) }
 {
     let called = answer_to_command(mem, scans, columns, byte, operands);
     let answer = called.answer;

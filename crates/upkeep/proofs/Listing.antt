@@ -12,7 +12,7 @@ use Rattle.terms.specs.declared.Form.{Form}
 use Rattle.terms.specs.Measures.{most_numbers, most_scans}
 use Rattle.terms.specs.declared.ScanEntry.{ScanEntry}
 use Rattle.terms.specs.declared.Answer.{Answer}
-use Rattle.terms.specs.Entries.{firstIndex, free_entry, is_scan}
+use Rattle.terms.specs.Entries.{first_index, free_entry, is_scan}
 use Rattle.loops.specs.declared.Found.TheVariants.{At}
 use Rattle.layout.specs.declared.Sizes.{Sizes}
 use Rattle.layout.specs.View.{View, scans_given, view_of}
@@ -55,7 +55,7 @@ module _ (t : Scans) (ps : List ScanEntry) (q : t ≡ table_of ps) where
   pub some_free : open_count ps ≤ most_scans → t.count < most_scans → leb most_scans (count (λ p. not (eqb p.number 0)) ps) ≡ false
   some_free few h = rw (← counted few) (lt-leb most_scans t.count h)
 
-  pub free_is : t.free ≡ firstIndex (λ p. eqb p.number 0) ps
+  pub free_is : t.free ≡ first_index (λ p. eqb p.number 0) ps
   unfolding table_of
   free_is = ap (λ (x : Scans). x.free) q
 
@@ -88,5 +88,5 @@ pub closed_list : (t : Scans) (ps : List ScanEntry) (v : View) (d : Tested) (k j
 unfolding entries_after
 closed_list t ps v d k j p q few x f e =
     let g = (found d (ScanAt t k) j x f).found in
-    let i : get_or t.indices j 0 ≡ firstIndex (is_scan k) ps = ap (λ (x : Scans). get_or x.indices j 0) q ∙ sym (scan_at_lem k ps few j (in_table t ps q k (At j) g)) in
+    let i : get_or t.indices j 0 ≡ first_index (is_scan k) ps = ap (λ (x : Scans). get_or x.indices j 0) q ∙ sym (scan_at_lem k ps few j (in_table t ps q k (At j) g)) in
     rw (i, e)

@@ -43,26 +43,26 @@ noted_at_lem v w t j o e = rw (e, ← o.found)
 -- ---- the loop that puts a row's values into the current pages
 module _ (S : Shape) (g i : ℕ) (vs : List ℤ) (v : View) where
   -- the view after c columns
-  unfoldable pub cellsTo : ℕ → View
-  cellsTo c = renew Region.Cells (put_cells S (v Region.Current) g i vs c (v Region.Cells)) v
+  unfoldable pub cells_to : ℕ → View
+  cells_to c = renew Region.Cells (put_cells S (v Region.Current) g i vs c (v Region.Cells)) v
 
-  pub cells_none : v ≡ cellsTo 0
-  unfolding cellsTo
+  pub cells_none : v ≡ cells_to 0
+  unfolding cells_to
   cells_none = renew_none Region.Cells v
 
-  pub cells_current : (x : View) (c : ℕ) → x ≡ cellsTo c → x Region.Current ≡ v Region.Current
-  unfolding cellsTo renew
+  pub cells_current : (x : View) (c : ℕ) → x ≡ cells_to c → x Region.Current ≡ v Region.Current
+  unfolding cells_to renew
   cells_current x c e = ap (λ (y : View). y Region.Current) e
 
-  pub cells_next : (x x' : View) (c w : ℕ) → x ≡ cellsTo c → w ≡ of_z w32 (get_or vs c (pos 0))
-      → x' ≡ put Region.Cells (get_or (x Region.Current) (g * S.columns + c) 0 * range_rows + i) w x → x' ≡ cellsTo (c + 1)
-  unfolding cellsTo
+  pub cells_next : (x x' : View) (c w : ℕ) → x ≡ cells_to c → w ≡ of_z w32 (get_or vs c (pos 0))
+      → x' ≡ put Region.Cells (get_or (x Region.Current) (g * S.columns + c) 0 * range_rows + i) w x → x' ≡ cells_to (c + 1)
+  unfolding cells_to
   cells_next x x' c w e q p =
       turn_put Region.Cells (put_cells S (v Region.Current) g i vs c (v Region.Cells)) v x x' _ w e p
       ∙ rw (cells_current x c e, q, add-one)
 
-  pub cells_all : (x : View) (c : ℕ) → x ≡ cellsTo c → c ≤ S.columns → S.columns ≤ c → x ≡ cells_put S g i vs v
-  unfolding cellsTo cells_put
+  pub cells_all : (x : View) (c : ℕ) → x ≡ cells_to c → c ≤ S.columns → S.columns ≤ c → x ≡ cells_put S g i vs v
+  unfolding cells_to cells_put
   cells_all x c e h m = let q : c ≡ S.columns = omega arith in e ∙ rw q
 
 -- ---- an appended record is the newest of its range
@@ -126,33 +126,33 @@ records_opens S t keeper r mask vs v = go (eqb (new_bits_in v r mask) 0)
 -- ---- the loops that fill the newest record of a range
 module _ (S : Shape) (f : ℕ → ℕ) (at : ℕ) (v : View) where
   -- the view after c columns
-  unfoldable pub fillsTo : ℕ → View
-  fillsTo c = renew Region.TailValues (changed (λ k w. f k) at c (v Region.TailValues)) v
+  unfoldable pub fills_to : ℕ → View
+  fills_to c = renew Region.TailValues (changed (λ k w. f k) at c (v Region.TailValues)) v
 
-  pub fills_none : v ≡ fillsTo 0
-  unfolding fillsTo
+  pub fills_none : v ≡ fills_to 0
+  unfolding fills_to
   fills_none = change_none Region.TailValues (λ k w. f k) at v
 
-  pub fills_next : (x x' : View) (c w : ℕ) → x ≡ fillsTo c → w ≡ f c → x' ≡ put Region.TailValues (at + c) w x → x' ≡ fillsTo (c + 1)
-  unfolding fillsTo
+  pub fills_next : (x x' : View) (c w : ℕ) → x ≡ fills_to c → w ≡ f c → x' ≡ put Region.TailValues (at + c) w x → x' ≡ fills_to (c + 1)
+  unfolding fills_to
   fills_next x x' c w e q p = change_next Region.TailValues (λ k w. f k) at v x x' c w e q p
 
-  pub fills_all : (g : ℕ) (x : View) (c : ℕ) → at ≡ slot S g (used_in v g) * S.columns → x ≡ fillsTo c → c ≤ S.columns → S.columns ≤ c
+  pub fills_all : (g : ℕ) (x : View) (c : ℕ) → at ≡ slot S g (used_in v g) * S.columns → x ≡ fills_to c → c ≤ S.columns → S.columns ≤ c
       → x ≡ newest_filled S g f v
-  unfolding fillsTo newest_filled filled_in
+  unfolding fills_to newest_filled filled_in
   fills_all g x c q e h m = let z : c ≡ S.columns = omega arith in e ∙ rw (z, q)
 
   -- what the turns read is as it was
-  pub fills_current : (x : View) (c : ℕ) → x ≡ fillsTo c → x Region.Current ≡ v Region.Current
-  unfolding fillsTo renew
+  pub fills_current : (x : View) (c : ℕ) → x ≡ fills_to c → x Region.Current ≡ v Region.Current
+  unfolding fills_to renew
   fills_current x c e = ap (λ (y : View). y Region.Current) e
 
-  pub fills_cells : (x : View) (c : ℕ) → x ≡ fillsTo c → x Region.Cells ≡ v Region.Cells
-  unfolding fillsTo renew
+  pub fills_cells : (x : View) (c : ℕ) → x ≡ fills_to c → x Region.Cells ≡ v Region.Cells
+  unfolding fills_to renew
   fills_cells x c e = ap (λ (y : View). y Region.Cells) e
 
 -- the word that a turn reads in a current page
-pub fills_cell : (S : Shape) (g i at : ℕ) (v x : View) (c w : ℕ) → x ≡ fillsTo S (cell_words S v g i) at v c
+pub fills_cell : (S : Shape) (g i at : ℕ) (v x : View) (c w : ℕ) → x ≡ fills_to S (cell_words S v g i) at v c
     → w ≡ get_or (x Region.Cells) (get_or (x Region.Current) (g * S.columns + c) 0 * range_rows + i) 0 → w ≡ cell_words S v g i c
 unfolding cell_words cell_in current_in
 fills_cell S g i at v x c w e q =

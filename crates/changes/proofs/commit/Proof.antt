@@ -2,13 +2,13 @@
 use borrow.Author.Rules.{rules}
 use Rattle.model.specs.Calls.{reply_in, act_in, entries_after}
 use Rattle.admission.proofs.Served.{serving, open_below}
-use Rattle.changes.proofs.Tests.{in-part}
+use Rattle.changes.proofs.Tests.{in_part}
 use Rattle.changes.proofs.commit.Statement.{statement}
 use Rattle.changes.proofs.commit.Tie as tie
 
 returns-3 : tie.Need-returns-in-Passed
 unfolding reply_in act_in entries_after
-returns-3 c = let act : tie.After-commit = search in search (serving, in-part, act.commit.ensures)
+returns-3 c = let act : tie.After-commit = search in search (serving, in_part, act.commit.ensures)
 
 pub commit_spec : {M : Type 1} → statement M
 commit_spec =
@@ -24,7 +24,7 @@ commit_spec =
     (λ c. search rules)
     (λ c. search serving)
     (λ c. search serving)
-    (λ c κs. (search serving, (search serving, (search (serving, in-part), search open_below))))
+    (λ c κs. (search serving, (search serving, (search (serving, in_part), search open_below))))
     (λ c. search rules)
     (λ c. search serving)
     (λ c. search rules)

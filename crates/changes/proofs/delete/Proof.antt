@@ -2,7 +2,7 @@
 use borrow.Author.Rules.{rules}
 use Rattle.model.specs.Calls.{reply_in, act_in, entries_after}
 use Rattle.admission.proofs.Served.{serving}
-use Rattle.changes.proofs.Tests.{in-part}
+use Rattle.changes.proofs.Tests.{in_part}
 use Rattle.changes.proofs.delete.Statement.{statement}
 use Rattle.changes.proofs.delete.Tie as tie
 
@@ -24,7 +24,7 @@ delete_spec =
     (λ c. search rules)
     (λ c. search serving)
     (λ c. search serving)
-    (λ c κs. (search serving, (search serving, (search in-part, search in-part))))
+    (λ c κs. (search serving, (search serving, (search in_part, search in_part))))
     (λ c. search rules)
     (λ c. search serving)
     (λ c. search rules)

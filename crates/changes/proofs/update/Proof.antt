@@ -2,7 +2,7 @@
 use borrow.Author.Rules.{rules}
 use Rattle.model.specs.Calls.{reply_in, act_in, entries_after}
 use Rattle.admission.proofs.Served.{serving}
-use Rattle.changes.proofs.Tests.{in-part}
+use Rattle.changes.proofs.Tests.{in_part}
 use Rattle.changes.proofs.update.Statement.{statement}
 use Rattle.changes.proofs.update.Tie as tie
 
@@ -27,7 +27,7 @@ update_spec =
     (λ c. search rules)
     (λ c. search serving)
     (λ c. search serving)
-    (λ c κs. (search serving, ((search serving, search serving), (search in-part, search in-part))))
+    (λ c κs. (search serving, ((search serving, search serving), (search in_part, search in_part))))
     (λ c. search rules)
     returns-2
     (λ c. search rules)

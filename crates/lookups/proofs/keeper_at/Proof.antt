@@ -2,7 +2,7 @@
 use borrow.Author.Rules.{rules}
 use Rattle.model.specs.Calls.{reply_in, act_in, entries_after}
 use Rattle.admission.proofs.Served.{serving}
-use Rattle.lookups.proofs.Answers.{cell-inside, keeper_at_tests, keeper_answer}
+use Rattle.lookups.proofs.Answers.{cell_inside, keeper_at_tests, keeper_answer}
 use Rattle.lookups.proofs.keeper_at.Statement.{statement}
 use Rattle.lookups.proofs.keeper_at.Tie as tie
 
@@ -22,6 +22,6 @@ keeper_at_spec =
     (λ c. search rules)
     (λ c. search rules)
     (λ c κs. search rules)
-    (λ c κs. (search serving, (search serving, (search serving, (search cell-inside, search cell-inside)))))
+    (λ c κs. (search serving, (search serving, (search serving, (search cell_inside, search cell_inside)))))
     (λ c. search (serving, keeper_at_tests))
     returns-3)

@@ -2,7 +2,7 @@
 use borrow.Author.Rules.{rules}
 use Rattle.model.specs.Calls.{reply_in, act_in, entries_after}
 use Rattle.admission.proofs.Served.{serving, open_below}
-use Rattle.lookups.proofs.Answers.{cell-inside, index_open}
+use Rattle.lookups.proofs.Answers.{cell_inside, index_open}
 use Rattle.lookups.proofs.own_read.Statement.{statement}
 use Rattle.lookups.proofs.own_read.Tie as tie
 
@@ -26,6 +26,6 @@ own_read_spec =
     (λ c. search rules)
     (λ c κs. (search serving, search open_below))
     (λ c κs. search serving)
-    (λ c κs. (search serving, (search serving, ((search serving, search serving), (search cell-inside, search cell-inside)))))
+    (λ c κs. (search serving, (search serving, ((search serving, search serving), (search cell_inside, search cell_inside)))))
     (λ c. search serving)
     returns-3)

@@ -2,7 +2,7 @@
 use borrow.Author.Rules.{rules}
 use Rattle.model.specs.Calls.{reply_in, act_in, entries_after}
 use Rattle.admission.proofs.Served.{serving, index_is}
-use Rattle.lookups.proofs.Answers.{cell-inside, cell_answer}
+use Rattle.lookups.proofs.Answers.{cell_inside, cell_answer}
 use Rattle.lookups.proofs.page_cell.Statement.{statement}
 use Rattle.lookups.proofs.page_cell.Tie as tie
 
@@ -21,7 +21,7 @@ page_cell_spec =
     (λ c κs. search serving)
     (λ c. search rules)
     (λ c. search rules)
-    (λ c κs. (search serving, (search serving, (search serving, (search (cell-inside, index_is), search cell-inside)))))
+    (λ c κs. (search serving, (search serving, (search serving, (search (cell_inside, index_is), search cell_inside)))))
     (λ c κs. (search serving, (search serving, search rules)))
     (λ c κs. search rules)
     (λ c. search serving)

@@ -2,7 +2,7 @@
 use borrow.Author.Rules.{rules}
 use Rattle.model.specs.Calls.{reply_in, act_in, entries_after}
 use Rattle.admission.proofs.Served.{serving}
-use Rattle.lookups.proofs.Answers.{cell-inside, read_at_tests_lem, reader_answer}
+use Rattle.lookups.proofs.Answers.{cell_inside, read_at_tests_lem, reader_answer}
 use Rattle.lookups.proofs.read_at.Statement.{statement}
 use Rattle.lookups.proofs.read_at.Tie as tie
 
@@ -22,6 +22,6 @@ read_at_spec =
     (λ c. search rules)
     (λ c. search rules)
     (λ c κs. search rules)
-    (λ c κs. (search serving, (search serving, ((search serving, search serving), (search cell-inside, search cell-inside)))))
+    (λ c κs. (search serving, (search serving, ((search serving, search serving), (search cell_inside, search cell_inside)))))
     (λ c. search (serving, read_at_tests_lem))
     returns-3)

@@ -2,7 +2,7 @@
 use borrow.Author.Rules.{rules}
 use Rattle.model.specs.Calls.{reply_in, act_in, entries_after}
 use Rattle.admission.proofs.Served.{serving, scan_below}
-use Rattle.lookups.proofs.Answers.{cell-inside, cell_scanned}
+use Rattle.lookups.proofs.Answers.{cell_inside, cell_scanned}
 use Rattle.lookups.proofs.scan_read.Statement.{statement}
 use Rattle.lookups.proofs.scan_read.Tie as tie
 
@@ -23,8 +23,8 @@ scan_read_spec =
     (λ c. search rules)
     (λ c κs. search scan_below)
     (λ c κs. search rules)
-    (λ c κs. (search serving, (search serving, (search serving, (search cell-inside, search cell-inside)))))
+    (λ c κs. (search serving, (search serving, (search serving, (search cell_inside, search cell_inside)))))
     (λ c κs. search rules)
-    (λ c κs. (search serving, (search serving, (search serving, (search rules, search cell-inside, search cell-inside)))))
+    (λ c κs. (search serving, (search serving, (search serving, (search rules, search cell_inside, search cell_inside)))))
     (λ c. search serving)
     returns-3)

@@ -30,7 +30,7 @@ use Rattle.loops.proofs.Change.{set_fit}
 use Rattle.layout.specs.View.{View, renew, put}
 use Rattle.layout.specs.declared.Region.TheVariants.{Header, Opens, RowTransaction, RowState, RowStamp, RowLink, RowMask, Current, Cells, Changes, RowOrdinal, RowKeeper}
 use Rattle.terms.specs.declared.ScanEntry.{ScanEntry}
-use Rattle.terms.specs.Entries.{bears, firstIndex}
+use Rattle.terms.specs.Entries.{bears, first_index}
 use Rattle.layout.specs.Regions.{rows_at, len}
 use Rattle.layout.specs.Sizes.{sizes_of}
 use Rattle.model.specs.Stored.{row_in, record_in, value_in, page_in, cell_in, current_in, chunk_of, within, open_index, open_keeper, next_word}
@@ -191,7 +191,7 @@ module _ {F : Form} {S : Shape} {v : View} {ps : List ScanEntry} {h : History} (
       seen : (j : ℕ) → T (seen_at h' (scan_at h i).snapshot (row_at h' j).inserter) → j ≢ r
       seen j q e = rw (e, row_new h row, active_unseen h' (scan_at h i).snapshot t (unfold state_of with_rows in a)) at q
 
-  insert_notes : NotesAre (h.rows ++ row ∷ []) h.tail (v Opens) (set (v Changes) (firstIndex (bears t) (v Opens)) (next_word (get_or (v Changes) (firstIndex (bears t) (v Opens)) 0)))
+  insert_notes : NotesAre (h.rows ++ row ∷ []) h.tail (v Opens) (set (v Changes) (first_index (bears t) (v Opens)) (next_word (get_or (v Changes) (first_index (bears t) (v Opens)) 0)))
   unfolding state_of
   insert_notes =
       notes_more h.rows (h.rows ++ row ∷ []) h.tail h.tail h.transactions (v Opens) (v Changes) t (o.whole.long Opens) (o.whole.long Changes) (few_changes k)

@@ -19,7 +19,7 @@ use Rattle.history.specs.Invariants.{is_given, Invariants}
 use Rattle.history.proofs.Lists.{at_append, by_cases, eqb_same, nth_last, nth_append}
 use Rattle.history.proofs.States.{keeper_began}
 use Rattle.history.proofs.Order.{sound_at}
-use Rattle.terms.specs.Entries.{bears, firstIndex}
+use Rattle.terms.specs.Entries.{bears, first_index}
 use Rattle.terms.specs.declared.ScanEntry.{ScanEntry}
 use Rattle.layout.specs.Regions.{len}
 use Rattle.layout.specs.Sizes.{sizes_of}
@@ -72,11 +72,11 @@ bearer_given h i g k u =
     let s = sound_at h g i.order k no_record u in
     borne_given (λ t. T (is_given (state_of h t))) y.content _ _ (i.order.inserters y.row s.inside) s.giver
 
-module _ {S : Shape} {h : History} {rowWords tailWords opens openWords : List ℕ} (i : Invariants S h) (entries : OpensAre h.transactions opens)
-    (o : KeepersAre S (keeper_of h) (row_at h) (length h.rows) (records_of h) rowWords tailWords opens openWords) where
+module _ {S : Shape} {h : History} {row_words tail_words opens open_words : List ℕ} (i : Invariants S h) (entries : OpensAre h.transactions opens)
+    (o : KeepersAre S (keeper_of h) (row_at h) (length h.rows) (records_of h) row_words tail_words opens open_words) where
   -- ---- begin: entry j, which was free, takes the next number and its keeper
-  pub keepers_begun : (x j : ℕ) → x < keeper_limit → j < length opens → get_or (set openWords j x) j 0 ≡ x
-      → KeepersAre S (λ t. nth (h.keepers ++ x ∷ []) t unknown_keeper) (row_at h) (length h.rows) (records_of h) rowWords tailWords (set opens j (suc (length h.transactions))) (set openWords j x)
+  pub keepers_begun : (x j : ℕ) → x < keeper_limit → j < length opens → get_or (set open_words j x) j 0 ≡ x
+      → KeepersAre S (λ t. nth (h.keepers ++ x ∷ []) t unknown_keeper) (row_at h) (length h.rows) (records_of h) row_words tail_words (set opens j (suc (length h.transactions))) (set open_words j x)
   unfolding keeper_of
   keepers_begun x j fits a b =
       record {
@@ -84,7 +84,7 @@ module _ {S : Shape} {h : History} {rowWords tailWords opens openWords : List �
         of_records = λ g k u w. o.of_records g k u w ∙ sym (stays _ (bearer_given h i g k w));
         of_opens = λ k. by_cases (ℕ_discrete k j)
             (λ e. rw (e, get_or-set_same opens j (suc (length h.transactions)) 0 a, b) (λ _. rw (← i.limits.keepers) (sym (nth_last unknown_keeper h.keepers x))))
-            (λ f. rw (get_or-set_other opens j k (suc (length h.transactions)) 0 f, get_or-set_other openWords j k x 0 f) (λ n. o.of_opens k n ∙ sym (stays _ (open_given h opens entries k n))));
+            (λ f. rw (get_or-set_other opens j k (suc (length h.transactions)) 0 f, get_or-set_other open_words j k x 0 f) (λ n. o.of_opens k n ∙ sym (stays _ (open_given h opens entries k n))));
         small = nth_append unknown_keeper (λ (k : ℕ). k < keeper_limit) h.keepers x fits o.small;
       }
     where
@@ -92,33 +92,33 @@ module _ {S : Shape} {h : History} {rowWords tailWords opens openWords : List �
       stays t u = keeper_began h x i.limits.keepers t u
 
   -- ---- commit and abort: entry j is free again
-  pub keepers_freed : (j : ℕ) → j < length opens → KeepersAre S (keeper_of h) (row_at h) (length h.rows) (records_of h) rowWords tailWords (set opens j 0) (set openWords j 0)
+  pub keepers_freed : (j : ℕ) → j < length opens → KeepersAre S (keeper_of h) (row_at h) (length h.rows) (records_of h) row_words tail_words (set opens j 0) (set open_words j 0)
   keepers_freed j a =
       record {
         of_rows = o.of_rows;
         of_records = o.of_records;
         of_opens = λ k. by_cases (ℕ_discrete k j)
             (λ e n. absurd (n (rw (e, get_or-set_same opens j 0 0 a))))
-            (λ f. rw (get_or-set_other opens j k 0 0 f, get_or-set_other openWords j k 0 0 f) (o.of_opens k));
+            (λ f. rw (get_or-set_other opens j k 0 0 f, get_or-set_other open_words j k 0 0 f) (o.of_opens k));
         small = o.small;
       }
 
   -- ---- what an open transaction's entry says
-  pub keeper_own : (t : ℕ) → state_of h t ≡ active → get_or openWords (firstIndex (bears t) opens) 0 ≡ keeper_of h t
+  pub keeper_own : (t : ℕ) → state_of h t ≡ active → get_or open_words (first_index (bears t) opens) 0 ≡ keeper_of h t
   unfolding state_of
   keeper_own t a =
-      let e : get_or opens (firstIndex (bears t) opens) 0 ≡ t = (open_there h.transactions opens entries t a).1 in
-      o.of_opens (firstIndex (bears t) opens) (λ z. omega (arith, e, z, (active_given h.transactions t a).0)) ∙ ap (keeper_of h) e
+      let e : get_or opens (first_index (bears t) opens) 0 ≡ t = (open_there h.transactions opens entries t a).1 in
+      o.of_opens (first_index (bears t) opens) (λ z. omega (arith, e, z, (active_given h.transactions t a).0)) ∙ ap (keeper_of h) e
 
   -- ---- insert: a row more, by t
-  pub keepers_row : (t : ℕ) (w : Row) (keeper : ℕ) → w.inserter ≡ t → keeper ≡ keeper_of h t → get_or (set rowWords (length h.rows) keeper) (length h.rows) 0 ≡ keeper → (row : ℕ → Row) → row (length h.rows) ≡ w
+  pub keepers_row : (t : ℕ) (w : Row) (keeper : ℕ) → w.inserter ≡ t → keeper ≡ keeper_of h t → get_or (set row_words (length h.rows) keeper) (length h.rows) 0 ≡ keeper → (row : ℕ → Row) → row (length h.rows) ≡ w
       → ((r : ℕ) → r < length h.rows → row r ≡ row_at h r)
-      → KeepersAre S (keeper_of h) row (suc (length h.rows)) (records_of h) (set rowWords (length h.rows) keeper) tailWords opens openWords
+      → KeepersAre S (keeper_of h) row (suc (length h.rows)) (records_of h) (set row_words (length h.rows) keeper) tail_words opens open_words
   keepers_row t w keeper e k b row new old =
       record {
         of_rows = λ r u. by_cases (ℕ_discrete r (length h.rows))
             (λ z. rw (z, b, new, e) k)
-            (λ f. let d : r < length h.rows = omega arith in rw (get_or-set_other rowWords (length h.rows) r keeper 0 f, old r d) (o.of_rows r d));
+            (λ f. let d : r < length h.rows = omega arith in rw (get_or-set_other row_words (length h.rows) r keeper 0 f, old r d) (o.of_rows r d));
         of_records = λ g n u z.
             let y : Record = get_or (records_of h g) n no_record in
             o.of_records g n u z ∙ ap (λ (x : Row). keeper_of h (borne_by y.content x.inserter y.transaction)) (sym (old y.row (sound_at h g i.order n no_record z).inside));

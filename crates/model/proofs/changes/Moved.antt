@@ -15,7 +15,7 @@ use borrow.Author.Tests.{ne_eqb}
 use Rattle.terms.specs.Measures.{Shape, most_transactions}
 use Rattle.terms.specs.declared.Form.{Form}
 use Rattle.terms.specs.declared.ScanEntry.{ScanEntry}
-use Rattle.terms.specs.Entries.{bears, firstIndex}
+use Rattle.terms.specs.Entries.{bears, first_index}
 use Rattle.history.specs.History.{History, Record, any, filterb, up_to, is_active, state_of, keeper_of, has_keeper, keeper_borne, move_tests, bearer, row_at, range_of, records_of}
 use Rattle.history.specs.Records.{no_record}
 use Rattle.history.specs.Forms.{is_form, other_form}
@@ -105,13 +105,13 @@ module _ {F : Form} {S : Shape} {v : View} {ps : List ScanEntry} {h : History} (
       there t =
           let x = below_found _ S.ranges t in
           let u : T (any (λ y. eqb (range_of y.row) x.0 && borne y) h.tail) = rw (any_picked (λ y. eqb (range_of y.row) x.0) borne h.tail) at x.2 in
-          let i = firstIndex (λ y. eqb (range_of y.row) x.0 && borne y) h.tail in
+          let i = first_index (λ y. eqb (range_of y.row) x.0 && borne y) h.tail in
           any_at borne h.tail no_record i (first_below (λ y. eqb (range_of y.row) x.0 && borne y) h.tail u)
           (parts (eqb (range_of (get_or h.tail i no_record).row) x.0) (borne (get_or h.tail i no_record)) (first_passes (λ y. eqb (range_of y.row) x.0 && borne y) h.tail no_record u)).1
 
       back : T (any borne h.tail) → T (any_below (λ g. any borne (records_of h g)) S.ranges)
       back t =
-          let i = firstIndex borne h.tail in
+          let i = first_index borne h.tail in
           let y : Record = get_or h.tail i no_record in
           let b : i < length h.tail = first_below borne h.tail t in
           below_at _ S.ranges (range_of y.row) (in_range k y.row (all_at k.invariants.order.records i no_record b).inside)
@@ -141,7 +141,7 @@ module _ {F : Form} {S : Shape} {v : View} {ps : List ScanEntry} {h : History} (
           let x = below_found (λ i. is_active (state_of h (suc i)) && has_keeper h (suc i)) (length h.transactions) t in
           let p = parts (is_active (state_of h (suc x.0))) (has_keeper h (suc x.0)) x.2 in
           let there = open_there h.transactions (v Opens) o.opens (suc x.0) (active_is _ p.0) in
-          let j = firstIndex (bears (suc x.0)) (v Opens) in
+          let j = first_index (bears (suc x.0)) (v Opens) in
           let f : get_or (v Opens) j 0 ≢ 0 = λ z. omega (arith, there.1, z) in
           below_at (λ j. not (eqb (get_or (v Opens) j 0) 0) && bears_keeper (get_or (v OpenKeeper) j 0)) most_transactions j (omega (arith, there.0, o.whole.long Opens))
           (both (not (eqb (get_or (v Opens) j 0) 0)) (bears_keeper (get_or (v OpenKeeper) j 0)) (rw (ne_eqb (get_or (v Opens) j 0) 0 f) tt) (rw (bears_is (get_or (v OpenKeeper) j 0) (get_or (v Opens) j 0) (o.keepers.of_opens j f), there.1) p.1))
@@ -150,14 +150,14 @@ module _ {F : Form} {S : Shape} {v : View} {ps : List ScanEntry} {h : History} (
   unfolding keeper_borne_in keeper_borne
   borne_is = ap₂ ◌||◌ rows_borne (ap₂ ◌||◌ (below_same _ _ S.ranges range_borne ∙ ranges_borne) opens_borne)
 
-  abbrev inRows : Bool
-  inRows = any (λ w. has_keeper h w.inserter) h.rows
+  abbrev in_rows : Bool
+  in_rows = any (λ w. has_keeper h w.inserter) h.rows
 
-  abbrev inTail : Bool
-  inTail = any (λ y. has_keeper h (bearer (row_at h) y)) h.tail
+  abbrev in_tail : Bool
+  in_tail = any (λ y. has_keeper h (bearer (row_at h) y)) h.tail
 
-  abbrev inOpens : Bool
-  inOpens = any (λ i. is_active (state_of h (suc i)) && has_keeper h (suc i)) (up_to (length h.transactions))
+  abbrev in_opens : Bool
+  in_opens = any (λ i. is_active (state_of h (suc i)) && has_keeper h (suc i)) (up_to (length h.transactions))
 
   -- an entry that names a transaction is one of the list
   entry_in : (j : ℕ) → get_or (v Opens) j 0 ≢ 0 → j < most_transactions
@@ -167,12 +167,12 @@ module _ {F : Form} {S : Shape} {v : View} {ps : List ScanEntry} {h : History} (
   pub borne_none : (to : Form) → T (is_form (other_form to) F) → Passed (move_tests to h) → NoneBorne S v h
   unfolding move_tests keeper_borne row_at records_of
   borne_none Form.First w p =
-      let a = neither inRows (inTail || inOpens) p.0 in
-      let b = neither inTail inOpens a.1 in
+      let a = neither in_rows (in_tail || in_opens) p.0 in
+      let b = neither in_tail in_opens a.1 in
       record {
-        by_rows = λ r u. no_keeper h _ (λ t. both_ways inRows a.0 (any_at (λ w. has_keeper h w.inserter) h.rows _ r u t));
-        by_records = λ g i u z. no_keeper h _ (λ t. both_ways inTail b.0 (rw ranges_borne at (below_at (λ a. any borne (records_of h a)) S.ranges g u (any_at borne (records_of h g) no_record i z t))));
-        by_opens = λ j n. no_keeper h _ (λ t. both_ways inOpens b.1 (rw opens_borne at (below_at (λ j. not (eqb (get_or (v Opens) j 0) 0) && bears_keeper (get_or (v OpenKeeper) j 0)) most_transactions j (entry_in j n)
+        by_rows = λ r u. no_keeper h _ (λ t. both_ways in_rows a.0 (any_at (λ w. has_keeper h w.inserter) h.rows _ r u t));
+        by_records = λ g i u z. no_keeper h _ (λ t. both_ways in_tail b.0 (rw ranges_borne at (below_at (λ a. any borne (records_of h a)) S.ranges g u (any_at borne (records_of h g) no_record i z t))));
+        by_opens = λ j n. no_keeper h _ (λ t. both_ways in_opens b.1 (rw opens_borne at (below_at (λ j. not (eqb (get_or (v Opens) j 0) 0) && bears_keeper (get_or (v OpenKeeper) j 0)) most_transactions j (entry_in j n)
             (both (not (eqb (get_or (v Opens) j 0) 0)) (bears_keeper (get_or (v OpenKeeper) j 0)) (rw (ne_eqb (get_or (v Opens) j 0) 0 n) tt) (rw (bears_is (get_or (v OpenKeeper) j 0) (get_or (v Opens) j 0) (o.keepers.of_opens j n)) t)))));
       }
   borne_none Form.Newest w p =

@@ -16,7 +16,7 @@ use Rattle.history.specs.Lists.{All, nil, cons}
 use Rattle.history.proofs.Lists.{by_cases, all_map, eqb_same}
 use Rattle.history.proofs.Merges.{sum_more, sum_most}
 use Rattle.history.specs.Invariants.{sum_below}
-use Rattle.terms.specs.Entries.{bears, firstIndex}
+use Rattle.terms.specs.Entries.{bears, first_index}
 use Rattle.model.specs.Stored.{next_word}
 use Rattle.model.specs.Represents.{OpensAre, Unchanged, NotedIs, NotesAre, WellFormed}
 use Rattle.model.proofs.Opens.{open_kind, open_there}
@@ -55,7 +55,7 @@ module _ (rows rows' : List Row) (tail tail' : List Record) (ts : List State) (l
     (size' : length notes ≡ most_transactions) (few : length rows + length tail < 2 ^ 31) (more : length rows + length tail < length rows' + length tail')
     (others : (u : ℕ) → u ≢ t → Unchanged rows tail u → Unchanged rows' tail' u) (o : OpensAre ts l) (a : nth ts t unknown ≡ active) where
   abbrev own : ℕ
-  own = firstIndex (bears t) l
+  own = first_index (bears t) l
 
   pub notes_more : NotesAre rows tail l notes → NotesAre rows' tail' l (set notes own (next_word (get_or notes own 0)))
   notes_more n j b u =

@@ -27,7 +27,7 @@ use Rattle.layout.specs.Regions.{len}
 use Rattle.layout.specs.Sizes.{sizes_of}
 use Rattle.layout.specs.declared.Region.TheVariants.{Opens, Changes, RowLink, RowKeeper, TailKeeper, OpenKeeper}
 use Rattle.terms.specs.declared.ScanEntry.{ScanEntry}
-use Rattle.terms.specs.Entries.{bears, firstIndex}
+use Rattle.terms.specs.Entries.{bears, first_index}
 use Rattle.model.specs.Stored.{RowWords, RecordWords, row_in, record_in, value_in, page_in, cell_in, current_in, open_index, open_keeper, next_word}
 use Rattle.layout.specs.Codes.{as_open, as_delete}
 use Rattle.model.specs.Reading.{scan_page, was_current}
@@ -122,7 +122,7 @@ module _ {F : Form} {S : Shape} {v : View} {ps : List ScanEntry} {h : History} (
 
   -- the call is noted, and the tails hold its records
   pub made_parts : {u : View} → Extended F S h v r ms u → 0 < length ms
-      → NotesAre h.rows (h.tail ++ ms) (v Opens) (set (v Changes) (firstIndex (bears t) (v Opens)) (next_word (get_or (v Changes) (firstIndex (bears t) (v Opens)) 0))) × TailsAre S h' u
+      → NotesAre h.rows (h.tail ++ ms) (v Opens) (set (v Changes) (first_index (bears t) (v Opens)) (next_word (get_or (v Changes) (first_index (bears t) (v Opens)) 0))) × TailsAre S h' u
   unfolding state_of with_tail
   made_parts E some = (
     notes_more h.rows h.rows h.tail (h.tail ++ ms) h.transactions (v Opens) (v Changes) t (o.whole.long Opens) (o.whole.long Changes) (few_changes k)

@@ -29,7 +29,7 @@ use Rattle.layout.specs.declared.Region.TheVariants.{Header, Opens, RowTransacti
 use Rattle.layout.specs.declared.Region.{Region}
 use Rattle.layout.specs.Sizes.{sizes_of}
 use Rattle.terms.specs.declared.ScanEntry.{ScanEntry}
-use Rattle.terms.specs.Entries.{firstIndex}
+use Rattle.terms.specs.Entries.{first_index}
 use Rattle.layout.specs.Regions.{len, transactions_at, stamp_at, commits_at}
 use Rattle.model.proofs.Opens.{opens_begin, opens_close, open_there}
 use Rattle.model.specs.Stored.{RowWords, RecordWords, row_in, record_in, value_in, page_in, cell_in, current_in, open_index, next_word}
@@ -73,20 +73,20 @@ notes_set rows tail l notes j t b c u o k d = by_cases (ℕ_discrete k j)
     (λ f. rw (get_or-set_other l j k t 0 f, get_or-set_other notes j k 0 0 f) (o k d))
 
 module _ {F : Form} {S : Shape} {v : View} {ps : List ScanEntry} {h : History} (o : Represents F S v ps h) (k : WellFormed S h) (x : ℕ) where
-  abbrev begunHistory : History
-  begunHistory = with_begun h x
+  abbrev begun_history : History
+  begun_history = with_begun h x
 
-  begun_rows : RowsAre begunHistory v
+  begun_rows : RowsAre begun_history v
   unfolding row_at records_of with_begun with_transactions
-  begun_rows r b = row_states {st = state_of h} {st' = state_of begunHistory} (state_began h (h.keepers ++ x ∷ []) _ (k.invariants.order.inserters r b)) (o.rows r b)
+  begun_rows r b = row_states {st = state_of h} {st' = state_of begun_history} (state_began h (h.keepers ++ x ∷ []) _ (k.invariants.order.inserters r b)) (o.rows r b)
 
-  begun_tails : TailsAre S begunHistory v
+  begun_tails : TailsAre S begun_history v
   unfolding records_of with_begun with_transactions
   begun_tails g b =
       let t : TailOf S (state_of h) (records_of h g) v g = o.tails g b in
       record {
         used_all = t.used_all;
-        each = λ i u. record_states {st = state_of h} {st' = state_of begunHistory} (state_began h (h.keepers ++ x ∷ []) _ (sound_at h g k.invariants.order i no_record u).giver) (t.each i u);
+        each = λ i u. record_states {st = state_of h} {st' = state_of begun_history} (state_began h (h.keepers ++ x ∷ []) _ (sound_at h g k.invariants.order i no_record u).giver) (t.each i u);
         links = t.links;
       }
 
@@ -96,7 +96,7 @@ module _ {F : Form} {S : Shape} {v : View} {ps : List ScanEntry} {h : History} (
       let b : transactions_given v + 1 < 2 ^ 32 = omega (arith, o.header.transactions_given) in
       put_whole Header transactions_at _ b (put_whole OpenKeeper _ x (omega arith) (put_whole Changes _ 0 (omega arith) (put_whole Opens _ _ b o.whole)))
 
-  pub begin_kept : {c : Call} → T (any (λ i. eqb i 0) (v Opens)) → Step S h c begunHistory → length h.transactions < most_numbers → x < keeper_limit → (F ≡ Form.First → x ≡ 0) → Represents F S (begun x v) ps begunHistory
+  pub begin_kept : {c : Call} → T (any (λ i. eqb i 0) (v Opens)) → Step S h c begun_history → length h.transactions < most_numbers → x < keeper_limit → (F ≡ Form.First → x ≡ 0) → Represents F S (begun x v) ps begun_history
   unfolding begun put renew with_begun with_transactions row_in record_in value_in page_in cell_in current_in scan_page was_current scan_at
   begin_kept free step few fits none = search (header, opens, notes, keepers, begun_rows, begun_tails, pages_stay o k step refl refl (λ i. refl), begun_whole few fits)
     where
@@ -104,7 +104,7 @@ module _ {F : Form} {S : Shape} {v : View} {ps : List ScanEntry} {h : History} (
       n = transactions_given v + 1
 
       j : ℕ
-      j = firstIndex (λ i. eqb i 0) (v Opens)
+      j = first_index (λ i. eqb i 0) (v Opens)
 
       e : n ≡ suc (length h.transactions)
       e = omega (arith, o.header.transactions_given)
@@ -112,7 +112,7 @@ module _ {F : Form} {S : Shape} {v : View} {ps : List ScanEntry} {h : History} (
       inside : j < length (v Opens)
       inside = first_below (λ i. eqb i 0) (v Opens) free
 
-      header : HeaderFor F S begunHistory (begun x v)
+      header : HeaderFor F S begun_history (begun x v)
       header = unfold begun put renew with_begun with_transactions in
           (header_same refl (e ∙ sym (simp length-append (omega arith))) refl refl (header_put (v Header) 5 n (omega (arith, o.whole.long Header)) (omega arith) o.header))
 
@@ -124,7 +124,7 @@ module _ {F : Form} {S : Shape} {v : View} {ps : List ScanEntry} {h : History} (
           notes_set h.rows h.tail (v Opens) (v Changes) j n inside (omega (arith, inside, o.whole.long Opens, o.whole.long Changes))
           (λ _. rw e (not_begun h k.invariants.order)) o.notes
 
-      keepers : KeepersFor S begunHistory (begun x v)
+      keepers : KeepersFor S begun_history (begun x v)
       keepers = unfold begun put renew with_begun with_transactions keeper_of row_at records_of in
           (rw e (keepers_begun k.invariants o.opens o.keepers x j fits inside
           (later_put F (λ f. len (sizes_of f S) OpenKeeper) refl (v OpenKeeper) j x (o.whole.long OpenKeeper) (omega (arith, inside, o.whole.long Opens)) none)))
@@ -185,21 +185,21 @@ closed_is f ts t x k a = by_cases (ℕ_discrete k t)
     (λ n. rw (ne_eqb k t n, nth_other unknown ts t x k n))
 
 module _ {F : Form} {S : Shape} {v : View} {ps : List ScanEntry} {h : History} (o : Represents F S v ps h) (k : WellFormed S h) (t : ℕ) {x : State} {s : Commit} (a : state_of h t ≡ active) (c : Closing h x s) where
-  abbrev closedHistory : History
-  closedHistory = with_transactions h (change h.transactions t x) h.keepers s
+  abbrev closed_history : History
+  closed_history = with_transactions h (change h.transactions t x) h.keepers s
 
   abbrev marks : View
   marks = settled S t (state_word x) (commit_of x) v
 
   -- what a word of region i says of row r's inserter, after the marks; and of the transaction of record n of range g
   row_word : (f : State → ℕ) (i : Region) (r : ℕ) → len (sizes_of F S) i ≡ S.ranges * range_rows → r < length h.rows → get_or (v i) r 0 ≡ f (state_of h (row_at h r).inserter)
-      → get_or (marked (v RowTransaction) 0 (rows_given v) t 0 (f x) (v i)) r 0 ≡ f (state_of closedHistory (row_at h r).inserter)
+      → get_or (marked (v RowTransaction) 0 (rows_given v) t 0 (f x) (v i)) r 0 ≡ f (state_of closed_history (row_at h r).inserter)
   unfolding state_of row_in with_transactions
   row_word f i r e b q =
       marked_at (v RowTransaction) (rows_given v) t (f x) (v i) r (omega (arith, o.header.rows_given, o.whole.long i, e, k.invariants.limits.rows)) (omega (arith, o.header.rows_given))
       ∙ rw ((o.rows r b).transaction, q) (sym (closed_is f h.transactions t x (row_at h r).inserter a))
 
-  closed_rows : RowsAre closedHistory marks
+  closed_rows : RowsAre closed_history marks
   unfolding row_at records_of with_transactions mark_all settled renew row_in
   closed_rows r b =
       let y : RowIs (state_of h) (row_at h r) (records_of h (range_of r)) r (row_in v r) = o.rows r b in
@@ -217,14 +217,14 @@ module _ {F : Form} {S : Shape} {v : View} {ps : List ScanEntry} {h : History} (
 
   record_word : (f : State → ℕ) (i : Region) (g n : ℕ) → len (sizes_of F S) i ≡ S.ranges * S.capacity → g < S.ranges → n < length (records_of h g)
       → get_or (v i) (g * S.capacity + n) 0 ≡ f (state_of h (get_or (records_of h g) n no_record).transaction)
-      → get_or (mark_tails S (v Used) (v TailTransaction) t (f x) S.ranges (v i)) (g * S.capacity + n) 0 ≡ f (state_of closedHistory (get_or (records_of h g) n no_record).transaction)
+      → get_or (mark_tails S (v Used) (v TailTransaction) t (f x) S.ranges (v i)) (g * S.capacity + n) 0 ≡ f (state_of closed_history (get_or (records_of h g) n no_record).transaction)
   unfolding state_of record_in with_transactions
   record_word f i g n e b u q =
       let y : TailOf S (state_of h) (records_of h g) v g = o.tails g b in
       marks_at S (v Used) (v TailTransaction) t (f x) (v i) used_few (omega (arith, o.whole.long i, e)) S.ranges g n (le_refl _) b (omega (arith, y.used_all))
       ∙ rw ((y.each n u).transaction, q) (sym (closed_is f h.transactions t x (get_or (records_of h g) n no_record).transaction a))
 
-  closed_tails : TailsAre S closedHistory marks
+  closed_tails : TailsAre S closed_history marks
   unfolding records_of with_transactions mark_all settled renew record_in value_in
   closed_tails g b =
       let y : TailOf S (state_of h) (records_of h g) v g = o.tails g b in
@@ -244,8 +244,8 @@ module _ {F : Form} {S : Shape} {v : View} {ps : List ScanEntry} {h : History} (
       }
 
   -- the open entry is free again, and every row and record is marked
-  closed_parts : OpensAre (change h.transactions t x) (freed t marks Opens) × NotesAre h.rows h.tail (freed t marks Opens) (freed t marks Changes) × RowsAre closedHistory (freed t marks)
-      × TailsAre S closedHistory (freed t marks) × KeepersFor S closedHistory (freed t marks)
+  closed_parts : OpensAre (change h.transactions t x) (freed t marks Opens) × NotesAre h.rows h.tail (freed t marks Opens) (freed t marks Changes) × RowsAre closed_history (freed t marks)
+      × TailsAre S closed_history (freed t marks) × KeepersFor S closed_history (freed t marks)
   unfolding state_of keeper_of row_at records_of with_transactions freed open_index put renew mark_all settled row_in record_in value_in
   closed_parts =
       let inside = (open_there h.transactions (v Opens) o.opens t a).0 in (

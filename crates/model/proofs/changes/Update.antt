@@ -45,10 +45,10 @@ use Rattle.model.proofs.changes.Records.{made_rows, made_parts, made_keepers, Ex
 
 -- ---- the columns that are set for the first time
 module _ {F : Form} {S : Shape} {v : View} {ps : List ScanEntry} {h : History} (o : Represents F S v ps h) (k : WellFormed S h) (r m : ℕ) (b : r < length h.rows) (good : T (not (bad_mask S m))) where
-  abbrev isNew : ℕ → Bool
-  isNew c = bit m c && not (was_set h.tail r c)
+  abbrev is_new : ℕ → Bool
+  is_new c = bit m c && not (was_set h.tail r c)
 
-  new_bit : (c : ℕ) → bit (new_bits_in v r m) c ≡ isNew c
+  new_bit : (c : ℕ) → bit (new_bits_in v r m) c ≡ is_new c
   unfolding new_bits_in
   new_bit c = bit_new m (row_in v r).mask c ∙ rw ((o.rows r b).mask c, set_range h r c)
 
@@ -56,7 +56,7 @@ module _ {F : Form} {S : Shape} {v : View} {ps : List ScanEntry} {h : History} (
   bit_column c t = omega (arith, bit_low S m c good t, k.small.columns)
 
   -- a bit of a good mask is a column's
-  new_among : (c : ℕ) → isNew c ≡ among c (new_columns h r m)
+  new_among : (c : ℕ) → is_new c ≡ among c (new_columns h r m)
   new_among c = sym (new_columns_lem h r m c ∙ go (bit m c) refl (not (was_set h.tail r c)))
     where
       go : (q : Bool) → bit m c ≡ q → (n : Bool) → (q && n && among c (up_to most_columns)) ≡ (q && n)

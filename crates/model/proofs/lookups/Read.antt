@@ -18,7 +18,7 @@ use Rattle.terms.specs.Measures.{Shape}
 use Rattle.terms.specs.declared.Form.{Form}
 use Rattle.terms.specs.declared.Answer.{Answer}
 use Rattle.history.specs.History.{History, Record, Version, State, unknown, active, aborted, committed, Content, original, setting, ending, any, is_committed, Commit, state_of, bit, sets, new_value, inserted_value, inserted, version_in, last_setting, range_of, row_at, records_of, visible, version_of, shown, read, keeper_of, borne_by, keeper_read, cell_through, commit_of}
-use Rattle.history.proofs.Lists.{by_test, parts, all-map₂, all_both, any_none, all_take, not_any}
+use Rattle.history.proofs.Lists.{by_test, parts, all_map₂, all_both, any_none, all_take, not_any}
 use Rattle.history.specs.Lists.{All}
 use Rattle.history.specs.Records.{among, is_original, was_set, has_original, no_record, last_of}
 use Rattle.history.specs.Invariants.{is_closed, InOrder}
@@ -72,8 +72,8 @@ module _ (S : Shape) (v : View) (h : History) (i : InOrder h) (g r c : ℕ) (who
   recs = records_of h g
 
   -- what the history reads among the first n records
-  abbrev seenTo : ℕ → Version
-  seenTo n = last_setting f r c (inserted h r c) (take n (records_of h g))
+  abbrev seen_to : ℕ → Version
+  seen_to n = last_setting f r c (inserted h r c) (take n (records_of h g))
 
   abbrev step : ℕ → ℕ → ℕ → Found
   step low n k = walk S v who g c low n k
@@ -102,8 +102,8 @@ module _ (S : Shape) (v : View) (h : History) (i : InOrder h) (g r c : ℕ) (who
 
     -- from the row's last record among the first n, down to `low`
     pub walk_is : (low : ℕ) (rest : A) (n fuel : ℕ) → low ≤ n → n ≤ length recs → last_of recs r n ≤ fuel
-        → (has_original (take n recs) r c ≡ has_original (take low recs) r c → rest ≡ of (seenTo low))
-        → or_else (step low fuel (last_of recs r n)) at rest ≡ of (seenTo n)
+        → (has_original (take n recs) r c ≡ has_original (take low recs) r c → rest ≡ of (seen_to low))
+        → or_else (step low fuel (last_of recs r n)) at rest ≡ of (seen_to n)
     unfolding last_of has_original
     walk_is low rest zero fuel a b d z =
         let e : low ≡ 0 = omega arith in
@@ -118,10 +118,10 @@ module _ (S : Shape) (v : View) (h : History) (i : InOrder h) (g r c : ℕ) (who
         original_here y = eqb y.row r && is_original c y.content
 
         AtLow : ℕ → Type 0
-        AtLow n = has_original (take n recs) r c ≡ has_original (take low recs) r c → rest ≡ of (seenTo low)
+        AtLow n = has_original (take n recs) r c ≡ has_original (take low recs) r c → rest ≡ of (seen_to low)
 
         Before : Type 0
-        Before = (fuel : ℕ) → low ≤ n → last_of recs r n ≤ fuel → AtLow n → or_else (step low fuel (last_of recs r n)) at rest ≡ of (seenTo n)
+        Before = (fuel : ℕ) → low ≤ n → last_of recs r n ≤ fuel → AtLow n → or_else (step low fuel (last_of recs r n)) at rest ≡ of (seen_to n)
 
         down : original_here x ≡ false → AtLow n
         down q e = z (take_next recs n no_record b original_here ∙ rw q (or-false (any original_here (take n recs))) ∙ e)
@@ -133,17 +133,17 @@ module _ (S : Shape) (v : View) (h : History) (i : InOrder h) (g r c : ℕ) (who
 
         -- the row of record n
         at_record : (fuel : ℕ) → low ≤ n → Before → (p : Bool) → eqb x.row r ≡ p → cond p (suc n) (last_of recs r n) ≤ fuel
-            → or_else (step low fuel (cond p (suc n) (last_of recs r n))) at rest ≡ of (cond (p && (sets c x.content && f x.transaction)) (version_in c x) (seenTo n))
+            → or_else (step low fuel (cond p (suc n) (last_of recs r n))) at rest ≡ of (cond (p && (sets c x.content && f x.transaction)) (version_in c x) (seen_to n))
         at_record zero u before true e d = absurd (not-suc-le-zero d)
         at_record (suc fuel) u before true e d =
             let e' : x.row ≡ r = eqb→eq x.row r (rw e tt) in
             walk_go low fuel n rest u b e'
-            ∙ pick (sets c x.content && f x.transaction) (is_original c x.content) _ (version_in c x) (inserted h r c) (seenTo n)
+            ∙ pick (sets c x.content && f x.transaction) (is_original c x.content) _ (version_in c x) (inserted h r c) (seen_to n)
             (λ q. sym (ap of (original_reads h g i f r c n (inserted h r c) b e' q)))
             (λ q. before fuel u (omega (arith, last_le recs r n)) (down (rw e q)))
         at_record fuel u before false e d = before fuel u d (down (rw e refl))
 
-        go : Dec (low ≡ suc n) → (fuel : ℕ) → last_of recs r (suc n) ≤ fuel → Before → or_else (step low fuel (last_of recs r (suc n))) at rest ≡ of (seenTo (suc n))
+        go : Dec (low ≡ suc n) → (fuel : ℕ) → last_of recs r (suc n) ≤ fuel → Before → or_else (step low fuel (last_of recs r (suc n))) at rest ≡ of (seen_to (suc n))
         go (yes e) fuel d before = rw (walk_stop low fuel (last_of recs r (suc n)) (rw e (last_le recs r (suc n)))) (rw e at (z (rw e refl)))
         go (no q) fuel d before =
             at_record fuel (omega (arith, q)) before (eqb x.row r) refl d ∙ ap of (sym (last_next f r c (inserted h r c) recs n no_record b))
@@ -326,7 +326,7 @@ module _ {F : Form} {S : Shape} {v : View} {ps : List ScanEntry} {h : History} (
         cell_is q
         ∙ ap (λ (y : Version). y.value)
         (last_agree (λ k. is_committed (state_of h k)) r c f (inserted h r c)
-        (all-map₂ (λ (y : Record) a d s. page_seen h who page.newest f w n y.transaction a.0 (λ z e. (d s z e, a.1 z e))) (all_both held.through.closed_all taken) held.newest))
+        (all_map₂ (λ (y : Record) a d s. page_seen h who page.newest f w n y.transaction a.0 (λ z e. (d s z e, a.1 z e))) (all_both held.through.closed_all taken) held.newest))
 
     has_original_lem : was_set list r c ≡ true → has_original list r c ≡ true
     has_original_lem e = sym (originals_of h r c k.invariants.order (omega (arith, k.small.columns)) refl) ∙ e

@@ -14,7 +14,7 @@ use Rattle.terms.specs.declared.Form.{Form}
 use Rattle.history.specs.History.{History, Record, Dated, dated, state_of, row_at, range_of, records_of, sets, inserted, inserted_value, version_in}
 use Rattle.history.specs.Records.{is_original, no_record}
 use Rattle.history.proofs.Lists.{by_test, parts}
-use Rattle.history.proofs.Versions.{told, allTold, told_append}
+use Rattle.history.proofs.Versions.{told, all_told, told_append}
 use Rattle.layout.specs.View.{View, used_in}
 use Rattle.terms.specs.declared.ScanEntry.{ScanEntry}
 use Rattle.model.specs.declared.Reader.{Reader}
@@ -52,8 +52,8 @@ module _ {F : Form} {S : Shape} {v : View} {ps : List ScanEntry} {h : History} (
   abbrev at : ℕ → ℕ
   at i = g * S.capacity + i
 
-  abbrev tellsHere : Record → List Dated
-  tellsHere x = told f (state_of h) (inserted h r c) r c x
+  abbrev tells_here : Record → List Dated
+  tells_here x = told f (state_of h) (inserted h r c) r c x
 
   -- the value that a setting tells, and an original
   setting_dated : (i : ℕ) → i < length list → T (sets c (rec i).content) → dated_in S v r c (at i) ≡ dated (state_of h) (version_in c (rec i))
@@ -75,7 +75,7 @@ module _ {F : Form} {S : Shape} {v : View} {ps : List ScanEntry} {h : History} (
   row_seen = rw ((o.rows r b).state, (o.rows r b).stamp, (o.rows r b).ordinal, (o.rows r b).transaction) (w (row_at h r).inserter)
 
   -- one record
-  told_here : (i : ℕ) → i < length list → cond (tells v who r c (record_in v (at i))) (dated_in S v r c (at i) ∷ []) [] ≡ tellsHere (rec i)
+  told_here : (i : ℕ) → i < length list → cond (tells v who r c (record_in v (at i))) (dated_in S v r c (at i) ∷ []) [] ≡ tells_here (rec i)
   unfolding tells answers_for SeesAs inserted
   told_here i u =
       let x : RecordIs S.columns (state_of h) (rec i) (record_in v (at i)) (value_in S v (at i)) = (lok o k who f w r b c inside).each i u in
@@ -91,13 +91,13 @@ module _ {F : Form} {S : Shape} {v : View} {ps : List ScanEntry} {h : History} (
       (λ _. refl))
 
   -- the first n
-  values_told : (n : ℕ) → n ≤ length list → values_in S v who r c n ≡ allTold f (state_of h) (inserted h r c) r c (take n list)
+  values_told : (n : ℕ) → n ≤ length list → values_in S v who r c n ≡ all_told f (state_of h) (inserted h r c) r c (take n list)
   unfolding values_in
   values_told zero u = refl
   values_told (suc n) u =
-      rw (slot_is S g n, values_told n (omega arith), take-suc list n no_record u, told_append f (state_of h) (inserted h r c) r c (take n list) (rec n ∷ []), append-nil (tellsHere (rec n)))
-      (behind (tells v who r c (record_in v (at n))) (allTold f (state_of h) (inserted h r c) r c (take n list)) (dated_in S v r c (at n))
-      ∙ ap (λ (l : List Dated). allTold f (state_of h) (inserted h r c) r c (take n list) ++ l) (told_here n u))
+      rw (slot_is S g n, values_told n (omega arith), take-suc list n no_record u, told_append f (state_of h) (inserted h r c) r c (take n list) (rec n ∷ []), append-nil (tells_here (rec n)))
+      (behind (tells v who r c (record_in v (at n))) (all_told f (state_of h) (inserted h r c) r c (take n list)) (dated_in S v r c (at n))
+      ∙ ap (λ (l : List Dated). all_told f (state_of h) (inserted h r c) r c (take n list) ++ l) (told_here n u))
 
-  pub values_is : values_in S v who r c (used_in v (range_of r)) ≡ allTold f (state_of h) (inserted h r c) r c list
+  pub values_is : values_in S v who r c (used_in v (range_of r)) ≡ all_told f (state_of h) (inserted h r c) r c list
   values_is = rw ((lok o k who f w r b c inside).used_all, values_told (length list) (le_refl _), take-length)

@@ -19,7 +19,7 @@ use Rattle.history.specs.Invariants.{Stamped}
 use Rattle.layout.specs.View.{View, renew, put, scans_given}
 use Rattle.layout.specs.declared.Region.TheVariants.{Header}
 use Rattle.terms.specs.declared.ScanEntry.{ScanEntry}
-use Rattle.terms.specs.Entries.{firstIndex, free_entry, is_scan}
+use Rattle.terms.specs.Entries.{first_index, free_entry, is_scan}
 use Rattle.layout.specs.Regions.{scans_at}
 use Rattle.model.specs.Stored.{row_in, record_in, value_in, page_in, cell_in, current_in, scan_entry}
 use Rattle.model.specs.Reading.{scan_page, was_current}
@@ -51,7 +51,7 @@ scan_found ss l o k t =
     book_found scan_kind ss l o.same k t
 
 scans_add : (ss : List Scan) (l : List ScanEntry) (s : Scan) → ScansAre ss l → T s.running → count (λ s. s.running) ss < most_scans
-    → ScansAre (ss ++ s ∷ []) (set l (firstIndex (λ p. eqb p.number 0) l) (scan_as (suc (length ss)) s))
+    → ScansAre (ss ++ s ∷ []) (set l (first_index (λ p. eqb p.number 0) l) (scan_as (suc (length ss)) s))
 scans_add ss l s o t b =
     record {
       room = rw length-set o.room;
@@ -62,7 +62,7 @@ scans_add ss l s o t b =
     }
 
 scans_drop : (ss : List Scan) (l : List ScanEntry) (k : ℕ) (s : Scan) → ScansAre ss l → T (nth ss k no_scan).running → s.running ≡ false
-    → ScansAre (change ss k s) (set l (firstIndex (is_scan k) l) free_entry)
+    → ScansAre (change ss k s) (set l (first_index (is_scan k) l) free_entry)
 scans_drop ss l k s o t n =
     record {
       room = rw length-set o.room;
@@ -105,7 +105,7 @@ module _ {F : Form} {S : Shape} {v : View} {ps : List ScanEntry} {h : History} (
 
   pub open_kept : Step S h (open_scan s) after
       → Represents F S (put Header scans_at (scans_given v + 1) v)
-      (set ps (firstIndex (λ p. eqb p.number 0) ps) (new_entry v s)) after
+      (set ps (first_index (λ p. eqb p.number 0) ps) (new_entry v s)) after
   unfolding put renew with_scans row_in record_in value_in page_in cell_in current_in scan_page was_current state_of keeper_of row_at records_of
   open_kept step =
       search (header, currents_stay o k step refl refl, waits_stay o k step refl, scans, open_pages step, put_whole Header 6 n (omega (arith, e)) o.whole)
@@ -120,7 +120,7 @@ module _ {F : Form} {S : Shape} {v : View} {ps : List ScanEntry} {h : History} (
       header = unfold put renew with_scans in
           (header_same refl refl (e ∙ sym (simp length-append (omega arith))) refl (header_put (v Header) 6 n (omega (arith, o.whole.long Header)) (omega arith) o.header))
 
-      scans : ScansAre (h.scans ++ new ∷ []) (set ps (firstIndex (λ p. eqb p.number 0) ps) (new_entry v s))
+      scans : ScansAre (h.scans ++ new ∷ []) (set ps (first_index (λ p. eqb p.number 0) ps) (new_entry v s))
       scans = rw (e, o.header.merges_made, o.header.commits_made) (scans_add h.scans ps new o.scans tt room)
 
 -- ---- close
@@ -132,9 +132,9 @@ module _ {F : Form} {S : Shape} {v : View} {ps : List ScanEntry} {h : History} (
   unfolding scan_at with_scans
   close_pages step j t = scan_stays o k step refl j (still_running h.scans i j run t) t
 
-  pub close_kept : Step S h (close i) (with_scans h ended) → Represents F S v (set ps (firstIndex (is_scan i) ps) free_entry) (with_scans h ended)
+  pub close_kept : Step S h (close i) (with_scans h ended) → Represents F S v (set ps (first_index (is_scan i) ps) free_entry) (with_scans h ended)
   unfolding with_scans row_in record_in value_in state_of keeper_of row_at records_of
   close_kept step =
       let header : HeaderFor F S (with_scans h ended) v = header_same refl refl (sym (length_change h.scans i (stopped (scan_at h i)))) refl o.header in
-      let scans : ScansAre ended (set ps (firstIndex (is_scan i) ps) free_entry) = scans_drop h.scans ps i (stopped (scan_at h i)) o.scans (unfold scan_at in run) (unfold stopped in refl) in
+      let scans : ScansAre ended (set ps (first_index (is_scan i) ps) free_entry) = scans_drop h.scans ps i (stopped (scan_at h i)) o.scans (unfold scan_at in run) (unfold stopped in refl) in
       search (header, scans, currents_stay o k step refl refl, waits_stay o k step refl, close_pages step)

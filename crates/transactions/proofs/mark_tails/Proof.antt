@@ -5,13 +5,13 @@ use mathlib.Core.Path.{◌≡◌, sym}
 use lib.ListN.{length}
 use Rattle.layout.specs.View.{view_of}
 use Rattle.model.specs.Preconditions.{shape_in}
-use Rattle.transactions.proofs.Tails.{marksTo, marks_none, marks_used, marks_next, marks_all}
+use Rattle.transactions.proofs.Tails.{marks_to, marks_none, marks_used, marks_next, marks_all}
 use Rattle.transactions.proofs.mark_tails.Statement.{statement}
 use Rattle.transactions.proofs.mark_tails.Tie as tie
 
 abbrev invariant-loop : tie.invariant-loop-g
 invariant-loop mem₀ s t k w ranges g₀ mem g =
-    (g ≤ ranges) × (length mem ≡ length mem₀) × (view_of s mem ≡ marksTo (shape_in s) t.0 k w (view_of s mem₀) g)
+    (g ≤ ranges) × (length mem ≡ length mem₀) × (view_of s mem ≡ marks_to (shape_in s) t.0 k w (view_of s mem₀) g)
 
 abbrev decreases-loop : tie.decreases-loop-g
 decreases-loop mem₀ s t k w ranges g₀ mem g = ranges - g

@@ -9,13 +9,13 @@ use Rattle.layout.specs.View.{view_of}
 use Rattle.model.specs.Preconditions.{shape_in}
 use Rattle.layout.proofs.Indices.{chunks_in, sizes_need}
 use Rattle.writing.specs.Steps.{cell_words}
-use Rattle.writing.proofs.Steps.{fillsTo, fills_none, fills_next, fills_all, fills_current, fills_cell}
+use Rattle.writing.proofs.Steps.{fills_to, fills_none, fills_next, fills_all, fills_current, fills_cell}
 use Rattle.writing.proofs.fill_cells.Statement.{statement}
 use Rattle.writing.proofs.fill_cells.Tie as tie
 
 abbrev invariant-loop : tie.invariant-loop-c
 invariant-loop mem₀ s g i columns to first c₀ mem c =
-    (c ≤ columns) × (length mem ≡ length mem₀) × (view_of s mem ≡ fillsTo (shape_in s) (cell_words (shape_in s) (view_of s mem₀) g i) to (view_of s mem₀) c)
+    (c ≤ columns) × (length mem ≡ length mem₀) × (view_of s mem ≡ fills_to (shape_in s) (cell_words (shape_in s) (view_of s mem₀) g i) to (view_of s mem₀) c)
 
 abbrev decreases-loop : tie.decreases-loop-c
 decreases-loop mem₀ s g i columns to first c₀ mem c = columns - c

@@ -11,13 +11,13 @@ use Rattle.layout.specs.View.{view_of}
 use Rattle.model.specs.Preconditions.{shape_in}
 use Rattle.layout.proofs.Indices.{sizes_need}
 use Rattle.writing.specs.Steps.{value_words}
-use Rattle.writing.proofs.Steps.{fillsTo, fills_none, fills_next, fills_all, word_of}
+use Rattle.writing.proofs.Steps.{fills_to, fills_none, fills_next, fills_all, word_of}
 use Rattle.writing.proofs.fill_values.Statement.{statement}
 use Rattle.writing.proofs.fill_values.Tie as tie
 
 abbrev invariant-loop : tie.invariant-loop-c
 invariant-loop mem₀ s g vs columns to c₀ mem c =
-    (c ≤ columns) × (length mem ≡ length mem₀) × (view_of s mem ≡ fillsTo (shape_in s) (value_words vs) to (view_of s mem₀) c)
+    (c ≤ columns) × (length mem ≡ length mem₀) × (view_of s mem ≡ fills_to (shape_in s) (value_words vs) to (view_of s mem₀) c)
 
 abbrev decreases-loop : tie.decreases-loop-c
 decreases-loop mem₀ s g vs columns to c₀ mem c = columns - c

@@ -10,13 +10,13 @@ use Rattle.layout.specs.Regions.{need}
 use Rattle.layout.specs.View.{view_of}
 use Rattle.model.specs.Preconditions.{shape_in}
 use Rattle.layout.proofs.Indices.{chunks_in, sizes_need}
-use Rattle.writing.proofs.Steps.{cellsTo, cells_none, cells_current, cells_next, cells_all, word_of}
+use Rattle.writing.proofs.Steps.{cells_to, cells_none, cells_current, cells_next, cells_all, word_of}
 use Rattle.writing.proofs.put_cells.Statement.{statement}
 use Rattle.writing.proofs.put_cells.Tie as tie
 
 abbrev invariant-loop : tie.invariant-loop-c
 invariant-loop mem₀ s g i vs columns first c₀ mem c =
-    (c ≤ columns) × (length mem ≡ length mem₀) × (view_of s mem ≡ cellsTo (shape_in s) g i vs (view_of s mem₀) c)
+    (c ≤ columns) × (length mem ≡ length mem₀) × (view_of s mem ≡ cells_to (shape_in s) g i vs (view_of s mem₀) c)
 
 abbrev decreases-loop : tie.decreases-loop-c
 decreases-loop mem₀ s g i vs columns first c₀ mem c = columns - c

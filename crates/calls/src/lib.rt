@@ -1,7 +1,9 @@
 // The public interface for programs in Rattle: every call by name, over the lent memory and the lent list of open scans, and the making of a
 // store. Nothing is asked of the caller: any memory, any list and any numbers get an answer. A call that does not change the memory, or the list, takes it as
-// `&`. The crate deskrook has the same for C and Rust.
+// `&`. Each call that a store is needed for reads the list into a table and hands memory and table to its core (laws.rs). The crate deskrook has the same for C and Rust.
 #![tactic(auto, unfolding(promise::specs::Promise::ServesBy, promise::specs::Promise::GivesBy, promise::specs::Promise::MovesBy))]
+
+mod laws;
 
 ghost use Rattle.std.specs.Prelude.{◌<◌, ◌≡◌, pos, get_or};
 ghost use Rattle.terms.specs.Measures.{most_columns};
@@ -11,7 +13,8 @@ ghost use Rattle.history.specs.History.{Call, given};
 ghost use Rattle.promise.specs.Promise.{Serves, ServesBy, kept, Gives, Moves, Makes};
 ghost use Rattle.calls.specs.Values.{padded};
 
-use lent::{apply_change, free_made, len_of, table};
+use laws::{changed, changed_reading, listed, moved, served, served_reading};
+use lent::{free_made, len_of};
 use scans::Scans;
 use terms::limits::MOST_COLUMNS;
 use terms::{Answer, Row, ScanEntry, Stamp, Tail, Transaction};
@@ -99,16 +102,14 @@ pub fn make(
 pub fn begin(mem: &mut [u8], scans: &[ScanEntry]) -> Answer
     ensures { Serves mem.old scans.now Call.begin result mem.new scans.now }
 {
-    let t = table(scans);
-    changes::begin(mem, t)
+    served(mem, scans, |m, t| changes::begin(m, t))
 }
 
 // A transaction of a keeper is opened; the answer is its number.
 pub fn begin_as(mem: &mut [u8], scans: &[ScanEntry], keeper: u16) -> Answer
     ensures { Serves mem.old scans.now (Call.begin_as keeper) result mem.new scans.now }
 {
-    let t = table(scans);
-    begin_with_keeper(mem, t, keeper)
+    served(mem, scans, |m, t| begin_with_keeper(m, t, keeper))
 }
 
 // A row with a value for each column; the answer is its number. Values past the column count are not looked at; where fewer are lent, the others are 0.
@@ -120,8 +121,7 @@ pub fn insert(
 ) -> Answer
     ensures { Serves mem.old scans.now (Call.insert transaction.0 (padded values.now)) result mem.new scans.now }
 {
-    let t = table(scans);
-    insert_values(mem, t, transaction, values)
+    served(mem, scans, |m, t| insert_values(m, t, transaction, values))
 }
 
 // The columns of a mask are set in a row, bit k for column k; the answer is the last tail record's number.
@@ -135,72 +135,79 @@ pub fn update(
 ) -> Answer
     ensures { Serves mem.old scans.now (Call.update transaction.0 row.0 mask (padded values.now)) result mem.new scans.now }
 {
-    let t = table(scans);
-    update_values(mem, t, transaction, row, mask, values)
+    served(
+        mem,
+        scans,
+        |m, t| update_values(m, t, transaction, row, mask, values),
+    )
 }
 
 // A row is deleted; the answer is the tail record's number.
 pub fn delete(mem: &mut [u8], scans: &[ScanEntry], transaction: Transaction, row: Row) -> Answer
     ensures { Serves mem.old scans.now (Call.delete transaction.0 row.0) result mem.new scans.now }
 {
-    let t = table(scans);
-    changes::delete(mem, t, transaction, row)
+    served(mem, scans, |m, t| changes::delete(m, t, transaction, row))
 }
 
 // What a transaction has changed holds from a stamp on.
 pub fn commit(mem: &mut [u8], scans: &[ScanEntry], transaction: Transaction, stamp: Stamp) -> Answer
     ensures { Serves mem.old scans.now (Call.commit transaction.0 stamp.0) result mem.new scans.now }
 {
-    let t = table(scans);
-    changes::commit(mem, t, transaction, stamp)
+    served(mem, scans, |m, t| changes::commit(m, t, transaction, stamp))
 }
 
 // What a transaction has changed is as if it had not been.
 pub fn abort(mem: &mut [u8], scans: &[ScanEntry], transaction: Transaction) -> Answer
     ensures { Serves mem.old scans.now (Call.abort transaction.0) result mem.new scans.now }
 {
-    let t = table(scans);
-    changes::abort(mem, t, transaction)
+    served(mem, scans, |m, t| changes::abort(m, t, transaction))
 }
 
 // The tail records of a range up to a number go into a new page of a column.
 pub fn merge(mem: &mut [u8], scans: &[ScanEntry], range: u32, column: u32, through: Tail) -> Answer
     ensures { Serves mem.old scans.now (Call.merge range column through.0) result mem.new scans.now }
 {
-    let t = table(scans);
-    upkeep::merge(mem, t, range, column, through)
+    served(
+        mem,
+        scans,
+        |m, t| upkeep::merge(m, t, range, column, through),
+    )
 }
 
 // Every waiting page that no open scan needs is free again; the answer is how many.
 pub fn release(mem: &mut [u8], scans: &[ScanEntry]) -> Answer
     ensures { Serves mem.old scans.now Call.release result mem.new scans.now }
 {
-    let t = table(scans);
-    upkeep::release(mem, t)
+    served(mem, scans, |m, t| upkeep::release(m, t))
 }
 
 // The version of a row and column by the last commit.
 pub fn latest(mem: &[u8], scans: &[ScanEntry], row: Row, column: u32) -> Answer
     ensures { Serves mem.now scans.now (Call.latest row.0 column) result mem.now scans.now }
 {
-    let t = table(scans);
-    lookups::latest(mem, t, row, column)
+    served_reading(mem, scans, |m, t| lookups::latest(m, t, row, column))
 }
 
 // The version of a row and column at a stamp.
 pub fn read_at(mem: &[u8], scans: &[ScanEntry], stamp: Stamp, row: Row, column: u32) -> Answer
     ensures { Serves mem.now scans.now (Call.read_at stamp.0 row.0 column) result mem.now scans.now }
 {
-    let t = table(scans);
-    lookups::read_at(mem, t, stamp, row, column)
+    served_reading(
+        mem,
+        scans,
+        |m, t| lookups::read_at(m, t, stamp, row, column),
+    )
 }
 
 // The keeper of the version of a row and column at a stamp.
 pub fn keeper_at(mem: &[u8], scans: &[ScanEntry], stamp: Stamp, row: Row, column: u32) -> Answer
     ensures { Serves mem.now scans.now (Call.keeper_at stamp.0 row.0 column) result mem.now scans.now }
 {
-    let t = table(scans);
-    lookups::keeper_at(mem, t, stamp, row, column)
+    served_reading(
+        mem,
+        scans,
+        |m, t| lookups::keeper_at(m, t, stamp, row, column),
+    )
 }
 
 // The version of a row and column for an open transaction, its own changes among what it sees.
@@ -213,58 +220,57 @@ pub fn own_read(
 ) -> Answer
     ensures { Serves mem.now scans.now (Call.own_read transaction.0 row.0 column) result mem.now scans.now }
 {
-    let t = table(scans);
-    lookups::own_read(mem, t, transaction, row, column)
+    served_reading(
+        mem,
+        scans,
+        |m, t| lookups::own_read(m, t, transaction, row, column),
+    )
 }
 
 // The version of a row and column for an open scan.
 pub fn scan_read(mem: &[u8], scans: &[ScanEntry], scan: u32, row: Row, column: u32) -> Answer
     ensures { Serves mem.now scans.now (Call.scan_read scan row.0 column) result mem.now scans.now }
 {
-    let t = table(scans);
-    lookups::scan_read(mem, t, scan, row, column)
+    served_reading(
+        mem,
+        scans,
+        |m, t| lookups::scan_read(m, t, scan, row, column),
+    )
 }
 
 // The count of the rows that an open scan sees, and the sum of their values of a column.
 pub fn sum(mem: &[u8], scans: &[ScanEntry], scan: u32, column: u32) -> Answer
     ensures { Serves mem.now scans.now (Call.sum scan column) result mem.now scans.now }
 {
-    let t = table(scans);
-    lookups::sum(mem, t, scan, column)
+    served_reading(mem, scans, |m, t| lookups::sum(m, t, scan, column))
 }
 
 // What the current page of a column holds for a row.
 pub fn page_cell(mem: &[u8], scans: &[ScanEntry], column: u32, row: Row) -> Answer
     ensures { Serves mem.now scans.now (Call.page_cell column row.0) result mem.now scans.now }
 {
-    let t = table(scans);
-    lookups::page_cell(mem, t, column, row)
+    served_reading(mem, scans, |m, t| lookups::page_cell(m, t, column, row))
 }
 
 // The record through which the current page of a range and column is merged, and the records used of the range.
 pub fn lineage(mem: &[u8], scans: &[ScanEntry], range: u32, column: u32) -> Answer
     ensures { Serves mem.now scans.now (Call.lineage range column) result mem.now scans.now }
 {
-    let t = table(scans);
-    lookups::lineage(mem, t, range, column)
+    served_reading(mem, scans, |m, t| lookups::lineage(m, t, range, column))
 }
 
 // A scan is opened at a stamp; the answer is its number.
 pub fn open_scan(mem: &mut [u8], scans: &mut [ScanEntry], stamp: Stamp) -> Answer
     ensures { Serves mem.old scans.old (Call.open_scan stamp.0) result mem.new scans.new }
 {
-    let t = table(scans);
-    let change = upkeep::open_scan(mem, t, stamp);
-    apply_change(scans, change)
+    changed(mem, scans, |m, t| upkeep::open_scan(m, t, stamp))
 }
 
 // A scan is closed: its entry is free again.
 pub fn close_scan(mem: &[u8], scans: &mut [ScanEntry], scan: u32) -> Answer
     ensures { Serves mem.now scans.old (Call.close scan) result mem.now scans.new }
 {
-    let t = table(scans);
-    let change = upkeep::close_scan(mem, t, scan);
-    apply_change(scans, change)
+    changed_reading(mem, scans, |m, t| upkeep::close_scan(m, t, scan))
 }
 
 // The stamps at which a row and column crossed a mark, between two stamps, into the lent slice; the answer is their number.
@@ -280,8 +286,12 @@ pub fn crossings(
 ) -> Answer
     ensures { Gives mem.now scans.now (Call.crossings row.0 column mark from.0 to.0 stamps.old) (given result stamps.new) mem.now scans.now }
 {
-    let t = table(scans);
-    lookups::crossings(mem, t, stamps, row, column, mark, from, to)
+    listed(
+        mem,
+        scans,
+        stamps,
+        |m, t, l| lookups::crossings(m, t, l, row, column, mark, from, to),
+    )
 }
 
 // ---- moves
@@ -290,14 +300,12 @@ pub fn crossings(
 pub fn upgrade(mem: &[u8], scans: &[ScanEntry], second: &mut [u8]) -> Answer
     ensures { Moves mem.now scans.now (Call.move Form.Newest second.old) result second.new }
 {
-    let t = table(scans);
-    moving::upgrade(mem, t, second)
+    moved(mem, scans, second, |m, t, s| moving::upgrade(m, t, s))
 }
 
 // And back, in the first form.
 pub fn downgrade(mem: &[u8], scans: &[ScanEntry], second: &mut [u8]) -> Answer
     ensures { Moves mem.now scans.now (Call.move Form.First second.old) result second.new }
 {
-    let t = table(scans);
-    moving::downgrade(mem, t, second)
+    moved(mem, scans, second, |m, t, s| moving::downgrade(m, t, s))
 }

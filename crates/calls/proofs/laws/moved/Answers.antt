@@ -1,0 +1,7 @@
+-- `calls::laws::moved` meets its contract: what the core promises at the table, it promises at the list whose table that is.
+use Rattle.promise.specs.Promise.{MovesBy}
+use Rattle.calls.proofs.laws.moved.Goals as goal
+
+pub returns : goal.returns
+unfolding MovesBy
+returns g c = λ x h. h _ _ _ _ _ c.core.ensures c.args.scans.now c.table-t.ensures

@@ -1,0 +1,94 @@
+// The calls over a lent list, each as a law of every core: a function over the table of a list, whatever it takes besides. A core that promises at the table what its call
+// is to promise at the list makes a function that promises it. `served` is of a call that leaves the list, `listed` of one that writes into a slice besides, `moved` of one that
+// writes into a second memory, `changed` of one that has an entry of the list changed as its core says; the first and the last are there once more for a memory that is read alone.
+ghost use Rattle.std.specs.Prelude.{◌≡◌, ℕ, List};
+ghost use Rattle.std.proofs.Common.{Bor, MutBor};
+ghost use Rattle.history.specs.History.{Call, given};
+ghost use Rattle.promise.specs.Promise.{Serves, ServesBy, kept, Gives, GivesBy, Moves, MovesBy};
+ghost use Rattle.scans.specs.declared.Scans.{Scans};
+ghost use Rattle.terms.specs.declared.Answer.{Answer};
+ghost use Rattle.upkeep.specs.Lists.{changed_at};
+ghost use Rattle.upkeep.specs.declared.ListChange.{ListChange};
+
+use lent::{apply_change, table};
+use scans::Scans;
+use terms::{Answer, ScanEntry};
+use upkeep::ListChange;
+
+pub fn served<F: FnOnce(&mut [u8], Scans) -> Answer>(
+    mem: &mut [u8],
+    scans: &[ScanEntry],
+    core: F,
+) -> Answer
+    requires { F.IsAlwaysCallable core }
+    ensures { (c : Call) → ((m m' : MutBor (List ℕ)) (t : Scans) (a : Answer) → F.post core m t a m' → ServesBy t m.now c a m'.now kept) → Serves mem.old scans.now c result mem.new scans.now }
+{
+    let t = table(scans);
+    core(mem, t)
+}
+
+pub fn served_reading<F: FnOnce(&[u8], Scans) -> Answer>(
+    mem: &[u8],
+    scans: &[ScanEntry],
+    core: F,
+) -> Answer
+    requires { F.IsAlwaysCallable core }
+    ensures { (c : Call) → ((m : Bor (List ℕ)) (t : Scans) (a : Answer) → F.post core m t a → ServesBy t m.now c a m.now kept) → Serves mem.now scans.now c result mem.now scans.now }
+{
+    let t = table(scans);
+    core(mem, t)
+}
+
+// The call may be named by what the slice holds.
+pub fn listed<F: FnOnce(&[u8], Scans, &mut [u32]) -> Answer>(
+    mem: &[u8],
+    scans: &[ScanEntry],
+    stamps: &mut [u32],
+    core: F,
+) -> Answer
+    requires { F.IsAlwaysCallable core }
+    ensures { (c : List ℕ → Call) → ((m : Bor (List ℕ)) (t : Scans) (s s' : MutBor (List ℕ)) (a : Answer) → F.post core m t s a s' → GivesBy t m.now (c s.now) (given a s'.now) m.now kept) → Gives mem.now scans.now (c stamps.old) (given result stamps.new) mem.now scans.now }
+{
+    let t = table(scans);
+    core(mem, t, stamps)
+}
+
+// The call may be named by what the second memory holds.
+pub fn moved<F: FnOnce(&[u8], Scans, &mut [u8]) -> Answer>(
+    mem: &[u8],
+    scans: &[ScanEntry],
+    second: &mut [u8],
+    core: F,
+) -> Answer
+    requires { F.IsAlwaysCallable core }
+    ensures { (c : List ℕ → Call) → ((m : Bor (List ℕ)) (t : Scans) (s s' : MutBor (List ℕ)) (a : Answer) → F.post core m t s a s' → MovesBy t m.now (c s.now) a s'.now) → Moves mem.now scans.now (c second.old) result second.new }
+{
+    let t = table(scans);
+    core(mem, t, second)
+}
+
+pub fn changed<F: FnOnce(&mut [u8], Scans) -> ListChange>(
+    mem: &mut [u8],
+    scans: &mut [ScanEntry],
+    core: F,
+) -> Answer
+    requires { F.IsAlwaysCallable core }
+    ensures { (c : Call) → ((m m' : MutBor (List ℕ)) (t : Scans) (d : ListChange) → F.post core m t d m' → ServesBy t m.now c d.answer m'.now (changed_at d)) → Serves mem.old scans.old c result mem.new scans.new }
+{
+    let t = table(scans);
+    let change = core(mem, t);
+    apply_change(scans, change)
+}
+
+pub fn changed_reading<F: FnOnce(&[u8], Scans) -> ListChange>(
+    mem: &[u8],
+    scans: &mut [ScanEntry],
+    core: F,
+) -> Answer
+    requires { F.IsAlwaysCallable core }
+    ensures { (c : Call) → ((m : Bor (List ℕ)) (t : Scans) (d : ListChange) → F.post core m t d → ServesBy t m.now c d.answer m.now (changed_at d)) → Serves mem.now scans.old c result mem.now scans.new }
+{
+    let t = table(scans);
+    let change = core(mem, t);
+    apply_change(scans, change)
+}

@@ -5,6 +5,7 @@ ghost use Rattle.std.specs.Prelude.{◌≡◌, ℕ, List};
 ghost use Rattle.std.proofs.Common.{Bor, MutBor};
 ghost use Rattle.history.specs.History.{Call, given};
 ghost use Rattle.promise.specs.Promise.{Serves, ServesBy, kept, Gives, GivesBy, Moves, MovesBy};
+ghost use Rattle.scans.specs.Table.{table_of};
 ghost use Rattle.scans.specs.declared.Scans.{Scans};
 ghost use Rattle.terms.specs.declared.Answer.{Answer};
 ghost use Rattle.upkeep.specs.Lists.{changed_at};
@@ -21,7 +22,8 @@ pub fn served<F: FnOnce(&mut [u8], Scans) -> Answer>(
     core: F,
 ) -> Answer
     requires { F.IsAlwaysCallable core }
-    ensures { (c : Call) → ((m m' : MutBor (List ℕ)) (t : Scans) (a : Answer) → F.post core m t a m' → ServesBy t m.now c a m'.now kept) → Serves mem.old scans.now c result mem.new scans.now }
+    ensures runs { (m : MutBor (List ℕ)) × (m' : MutBor (List ℕ)) × (t : Scans) × (m.now ≡ mem.old) × (m'.now ≡ mem.new) × (t ≡ table_of scans.now) × F.post core m t result m' }
+    ensures promised { (c : Call) → ((m m' : MutBor (List ℕ)) (t : Scans) (a : Answer) → F.post core m t a m' → ServesBy t m.now c a m'.now kept) → Serves mem.old scans.now c result mem.new scans.now }
 {
     let t = table(scans);
     core(mem, t)
@@ -33,7 +35,8 @@ pub fn served_reading<F: FnOnce(&[u8], Scans) -> Answer>(
     core: F,
 ) -> Answer
     requires { F.IsAlwaysCallable core }
-    ensures { (c : Call) → ((m : Bor (List ℕ)) (t : Scans) (a : Answer) → F.post core m t a → ServesBy t m.now c a m.now kept) → Serves mem.now scans.now c result mem.now scans.now }
+    ensures runs { (m : Bor (List ℕ)) × (t : Scans) × (m.now ≡ mem.now) × (t ≡ table_of scans.now) × F.post core m t result }
+    ensures promised { (c : Call) → ((m : Bor (List ℕ)) (t : Scans) (a : Answer) → F.post core m t a → ServesBy t m.now c a m.now kept) → Serves mem.now scans.now c result mem.now scans.now }
 {
     let t = table(scans);
     core(mem, t)
@@ -47,7 +50,8 @@ pub fn listed<F: FnOnce(&[u8], Scans, &mut [u32]) -> Answer>(
     core: F,
 ) -> Answer
     requires { F.IsAlwaysCallable core }
-    ensures { (c : List ℕ → Call) → ((m : Bor (List ℕ)) (t : Scans) (s s' : MutBor (List ℕ)) (a : Answer) → F.post core m t s a s' → GivesBy t m.now (c s.now) (given a s'.now) m.now kept) → Gives mem.now scans.now (c stamps.old) (given result stamps.new) mem.now scans.now }
+    ensures runs { (m : Bor (List ℕ)) × (t : Scans) × (s : MutBor (List ℕ)) × (s' : MutBor (List ℕ)) × (m.now ≡ mem.now) × (s.now ≡ stamps.old) × (s'.now ≡ stamps.new) × (t ≡ table_of scans.now) × F.post core m t s result s' }
+    ensures promised { (c : List ℕ → Call) → ((m : Bor (List ℕ)) (t : Scans) (s s' : MutBor (List ℕ)) (a : Answer) → F.post core m t s a s' → GivesBy t m.now (c s.now) (given a s'.now) m.now kept) → Gives mem.now scans.now (c stamps.old) (given result stamps.new) mem.now scans.now }
 {
     let t = table(scans);
     core(mem, t, stamps)
@@ -61,7 +65,8 @@ pub fn moved<F: FnOnce(&[u8], Scans, &mut [u8]) -> Answer>(
     core: F,
 ) -> Answer
     requires { F.IsAlwaysCallable core }
-    ensures { (c : List ℕ → Call) → ((m : Bor (List ℕ)) (t : Scans) (s s' : MutBor (List ℕ)) (a : Answer) → F.post core m t s a s' → MovesBy t m.now (c s.now) a s'.now) → Moves mem.now scans.now (c second.old) result second.new }
+    ensures runs { (m : Bor (List ℕ)) × (t : Scans) × (s : MutBor (List ℕ)) × (s' : MutBor (List ℕ)) × (m.now ≡ mem.now) × (s.now ≡ second.old) × (s'.now ≡ second.new) × (t ≡ table_of scans.now) × F.post core m t s result s' }
+    ensures promised { (c : List ℕ → Call) → ((m : Bor (List ℕ)) (t : Scans) (s s' : MutBor (List ℕ)) (a : Answer) → F.post core m t s a s' → MovesBy t m.now (c s.now) a s'.now) → Moves mem.now scans.now (c second.old) result second.new }
 {
     let t = table(scans);
     core(mem, t, second)
@@ -73,7 +78,8 @@ pub fn changed<F: FnOnce(&mut [u8], Scans) -> ListChange>(
     core: F,
 ) -> Answer
     requires { F.IsAlwaysCallable core }
-    ensures { (c : Call) → ((m m' : MutBor (List ℕ)) (t : Scans) (d : ListChange) → F.post core m t d m' → ServesBy t m.now c d.answer m'.now (changed_at d)) → Serves mem.old scans.old c result mem.new scans.new }
+    ensures runs { (m : MutBor (List ℕ)) × (m' : MutBor (List ℕ)) × (t : Scans) × (d : ListChange) × (m.now ≡ mem.old) × (m'.now ≡ mem.new) × (t ≡ table_of scans.old) × (result ≡ d.answer) × (scans.new ≡ changed_at d scans.old) × F.post core m t d m' }
+    ensures promised { (c : Call) → ((m m' : MutBor (List ℕ)) (t : Scans) (d : ListChange) → F.post core m t d m' → ServesBy t m.now c d.answer m'.now (changed_at d)) → Serves mem.old scans.old c result mem.new scans.new }
 {
     let t = table(scans);
     let change = core(mem, t);
@@ -86,7 +92,8 @@ pub fn changed_reading<F: FnOnce(&[u8], Scans) -> ListChange>(
     core: F,
 ) -> Answer
     requires { F.IsAlwaysCallable core }
-    ensures { (c : Call) → ((m : Bor (List ℕ)) (t : Scans) (d : ListChange) → F.post core m t d → ServesBy t m.now c d.answer m.now (changed_at d)) → Serves mem.now scans.old c result mem.now scans.new }
+    ensures runs { (m : Bor (List ℕ)) × (t : Scans) × (d : ListChange) × (m.now ≡ mem.now) × (t ≡ table_of scans.old) × (result ≡ d.answer) × (scans.new ≡ changed_at d scans.old) × F.post core m t d }
+    ensures promised { (c : Call) → ((m : Bor (List ℕ)) (t : Scans) (d : ListChange) → F.post core m t d → ServesBy t m.now c d.answer m.now (changed_at d)) → Serves mem.now scans.old c result mem.now scans.new }
 {
     let t = table(scans);
     let change = core(mem, t);

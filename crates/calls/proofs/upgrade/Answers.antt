@@ -5,4 +5,4 @@ use Rattle.history.specs.History.{Call}
 use Rattle.calls.proofs.upgrade.Goals as goal
 
 pub returns : goal.returns
-returns c = c.moved.ensures (λ l. Call.move Form.Newest l) (λ m t s s' a p. search rules)
+returns c = c.moved.ensures.promised (λ l. Call.move Form.Newest l) (λ m t s s' a p. search rules)

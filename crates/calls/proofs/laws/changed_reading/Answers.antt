@@ -1,7 +1,11 @@
 -- `calls::laws::changed_reading` meets its contract: the list is left with the entry that the core names, and the answer is the core's.
+use mathlib.Core.Path.{refl}
 use Rattle.promise.specs.Promise.{ServesBy}
 use Rattle.calls.proofs.laws.changed_reading.Goals as goal
 
 pub returns : goal.returns
 unfolding ServesBy
-returns g c = λ x h. rw (c.apply_change.ensures.1, c.apply_change.ensures.0) (h _ _ _ c.core-change.ensures c.args.scans.now c.table-t.ensures)
+returns g c = record {
+  runs = (_, _, _, refl, c.table-t.ensures, c.apply_change.ensures.0, c.apply_change.ensures.1, c.core-change.ensures);
+  promised = λ x h. rw (c.apply_change.ensures.1, c.apply_change.ensures.0) (h _ _ _ c.core-change.ensures c.args.scans.now c.table-t.ensures);
+}

@@ -1,7 +1,11 @@
 -- `calls::laws::listed` meets its contract: what the core promises at the table, it promises at the list whose table that is.
+use mathlib.Core.Path.{refl}
 use Rattle.promise.specs.Promise.{GivesBy}
 use Rattle.calls.proofs.laws.listed.Goals as goal
 
 pub returns : goal.returns
 unfolding GivesBy
-returns g c = λ x h. h _ _ _ _ _ c.core.ensures c.args.scans.now c.table-t.ensures
+returns g c = record {
+  runs = (_, _, _, _, refl, refl, refl, c.table-t.ensures, c.core.ensures);
+  promised = λ x h. h _ _ _ _ _ c.core.ensures c.args.scans.now c.table-t.ensures;
+}

@@ -42,7 +42,7 @@ pub fn pad_values(values: &[i32]) -> [i32; MOST_COLUMNS]
     taken
 }
 
-// An insert and an update over the table, with the lent values as an array. Functions of their own, so that the calls below are the same three steps as all others.
+// An insert and an update over the table, with the lent values as an array. Functions of their own, so that each call below hands its numbers on to one core.
 fn insert_values(mem: &mut [u8], t: Scans, transaction: Transaction, values: &[i32]) -> Answer
     ensures { ServesBy t mem.old (Call.insert transaction.0 (padded values.now)) result mem.new kept }
 {
